@@ -1,0 +1,11 @@
+-- The words of a command line as the code takes them apart.
+use Rattle.std.specs.Prelude.{◌≡◌, Option, Some, None}
+use Rattle.platform.specs.Commands.{Command}
+use Rattle.platform.specs.Commands.Command.{csvq}
+use Rattle.platform.specs.declared.command.Words.{Words}
+use Rattle.platform.specs.declared.command.Words.TheVariants.{Csvq, Other}
+
+-- they are this command, or none
+abbrev pub AreWords : Words → Option Command → Type 0
+AreWords (Csvq query) command = command ≡ Some (csvq query.now)
+AreWords Other command = command ≡ None

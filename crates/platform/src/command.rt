@@ -1,0 +1,22 @@
+ghost use Rattle.std.specs.Prelude.{map, string_bytes};
+ghost use Rattle.platform.specs.Commands.{command_of};
+
+/// The words of a command line, taken apart.
+pub(crate) enum Words<'a> {
+    /// `csvq QUERY`
+    Csvq(&'a str),
+    /// No command.
+    Other,
+}
+
+ghost use Rattle.platform.specs.Words.{AreWords};
+
+pub(crate) fn read_words(words: &[String]) -> Words<'_>
+    ensures { AreWords result (command_of (map string_bytes words.now)) }
+{
+    if words.len() == 2 && words[0].as_bytes() == b"csvq".as_slice() {
+        Words::Csvq(words[1].as_str())
+    } else {
+        Words::Other
+    }
+}

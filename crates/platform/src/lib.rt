@@ -1,0 +1,15 @@
+//! The program as one call: `run` does what the words of a command line say, over what is handed in.
+//!
+//! It stands on all other crates. Its contract: the status and the bytes written are those of the definition `printed`,
+//! and every other status has its cause.
+#![tactic(auto)]
+
+mod command;
+mod kept;
+mod page;
+mod rows;
+mod stop;
+mod text;
+mod top;
+
+pub use crate::top::run;

@@ -1,0 +1,108 @@
+ghost use Rattle.std.specs.Prelude.{◌≡◌, ◌≢◌, ◌≤◌, ◌⊎◌, length, IfOk, IsErrOf, false, List, ℕ};
+ghost use Rattle.std.specs.Io.KnownBytes.{IsAtEnd};
+ghost use Rattle.ut_value.specs.Causes.{Cause};
+ghost use Rattle.platform.specs.Commands.{IsInput, needs_input, printed};
+ghost use Rattle.platform.specs.Commands.Command.{csvq};
+ghost use Rattle.platform.specs.Csvq.{answer, refusal, rows_in};
+ghost use Rattle.platform.specs.declared.stop.Stop.TheVariants.{SinkFailed, SourceFailed};
+
+use crate::kept::kept_rows;
+use crate::rows::is_table;
+use crate::stop::Stop;
+use crate::text::text_of;
+use std::alloc::{AllocError, Global};
+use std::marker::Model;
+use ut_io::{ReadFail, Source, read_all};
+use ut_soql::asks_for_rows;
+use ut_table::{TableFail, read_table};
+use ut_value::id_laws;
+
+// The most bytes of an input, and the most records of it, the heading included.
+const INPUT_LIMIT: usize = 67_108_864;
+
+const RECORD_LIMIT: usize = 20_001;
+
+/// What a command prints, made before anything of it is written.
+#[derive(Drop)]
+pub(crate) struct Page {
+    text: Vec<u8>,
+    status: u8,
+}
+
+impl Model for Page {
+    ghost use Rattle.platform.specs.Csvq.{Printed};
+    ghost use Rattle.std.specs.Prelude.{◌≡◌, ◌⊎◌};
+
+    ghost Value = { Printed };
+
+    ghost view = { λ p. record { text = p.text.items; status = p.status } };
+
+    ghost invariant = { λ p. (p.status ≡ 0) ⊎ (p.status ≡ 65) };
+}
+
+impl Page {
+    pub(crate) fn text(&self) -> &[u8]
+        ensures { result.now ≡ self.now.text }
+    {
+        self.text.as_slice()
+    }
+
+    pub(crate) fn status(&self) -> u8
+        ensures same { result ≡ self.now.status }
+        ensures known { (result ≡ 0) ⊎ (result ≡ 65) }
+    {
+        self.status
+    }
+}
+
+fn refusal(alloc: Global, what: &str) -> Result<Page, AllocError>
+    ensures { IfOk result (λ p. p ≡ refusal what.now) }
+{
+    let text = format!(in alloc; "refused: NOT_BUILT: {what}\n")?;
+    Ok(Page {
+        text: text.into_bytes(),
+        status: 65,
+    })
+}
+
+// The page of an input that is short enough.
+fn input_page(alloc: Global, bytes: &[u8]) -> Result<Page, AllocError>
+    requires { length bytes.now ≤ 67108864 }
+    ensures { IfOk result (λ p. p ≡ answer (rows_in bytes.now)) }
+{
+    id_laws();
+    match read_table(alloc, bytes, RECORD_LIMIT) {
+        Ok(records) => {
+            if !is_table(&records) {
+                return refusal(alloc, "input");
+            }
+            let rows = kept_rows(alloc, &records[1..])?;
+            Ok(Page {
+                text: text_of(alloc, &rows)?,
+                status: 0,
+            })
+        }
+        Err(TableFail::Refused) => refusal(alloc, "input"),
+        Err(TableFail::Memory) => Err(AllocError),
+    }
+}
+
+/// The page of `csvq` with this query over the source's bytes. A query that isn't served reads nothing.
+pub(crate) fn page_of<S: Source>(alloc: Global, query: &str, source: &mut S) -> Result<Page, Stop>
+    ensures page { IfOk result (λ p. (bytes : List ℕ) → IsInput (csvq query.now) (S.left source.old) bytes → p ≡ printed (csvq query.now) bytes) }
+    ensures unread { needs_input (csvq query.now) ≡ false → source.new ≡ source.old }
+    ensures whole { IfOk result (λ p. p.status ≡ 0 → IsAtEnd (S.left source.new)) }
+    ensures stays { S.stays source.old source.new }
+    ensures cause { Cause (S.faults source.old) (S.faults source.new) (IsErrOf result SourceFailed) }
+    ensures reads { IsErrOf result SinkFailed → ⊥ }
+{
+    if !asks_for_rows(alloc, query)? {
+        return Ok(refusal(alloc, "query")?);
+    }
+    match read_all(alloc, source, INPUT_LIMIT) {
+        Ok(bytes) => Ok(input_page(alloc, bytes.as_slice())?),
+        Err(ReadFail::TooLong) => Ok(refusal(alloc, "input")?),
+        Err(ReadFail::Failed) => Err(Stop::SourceFailed),
+        Err(ReadFail::Memory) => Err(Stop::NoMemory),
+    }
+}

@@ -1,0 +1,16 @@
+pub mod Places
+pub mod Laid
+pub mod Moves
+pub mod Listing
+pub mod Walk
+pub mod Merged
+pub mod Spread
+pub mod Pages
+pub mod Turning
+pub mod Ranges
+pub mod Scans
+pub mod Counts
+pub mod Counted
+pub mod Paging
+pub mod Calls
+pub mod Prefixes

@@ -1,0 +1,17 @@
+use Rattle.ut_keeper.proofs.Calls as calls
+use Rattle.ut_keeper.proofs.Counted.{removals_most}
+use Rattle.ut_keeper.proofs.laws.draft_laws.Goals as goal
+
+pub returns : goal.returns
+returns g c = record {
+  tables = calls.reads_tables g.K.Keeper.state;
+  told_first = calls.told_first g.K.Keeper.state;
+  told_then = calls.told_then g.K.Keeper.state;
+  removals = λ table a. removals_most table a.changes.entries;
+  same = calls.draft_same g.K.Keeper.state;
+  reads = calls.draft_reads g.K.Keeper.state;
+  works = calls.draft_works g.K.Keeper.state;
+  reads_work = calls.reads_work g.K.Keeper.state;
+  reads_most = calls.reads_most g.K.Keeper.state;
+  works_most = calls.works_most g.K.Keeper.state;
+}

@@ -1,0 +1,143 @@
+ghost use Rattle.std.specs.Prelude.{◌≡◌, ◌⊎◌, ◌+◌, ◌≤◌, length, take, IfOk, OnOk, OnErr, IsTrue, IsErrOf, is_ok, if◌then◌else◌};
+ghost use Rattle.ut_keeper.specs.declared.keeper.KeepFail.TheVariants.{Failed, Memory};
+ghost use Rattle.ut_value.specs.Causes.{up_to_last};
+ghost use Rattle.ut_keeper.specs.Tables.{Tables, row_at, rows_between, after};
+ghost use Rattle.ut_keeper.specs.State.{KeeperState, Steps, LeavesNoMore, Tells, Shows, Reads, KeeperCause, more_shown, shown_by_get, shown_by_scan};
+
+use std::alloc::{AllocError, Global};
+use ut_value::Bytes;
+
+/// Why a keeper refused a call.
+#[derive(Clone, Copy, Debug, PartialEq, Eq)]
+pub enum KeepFail {
+    /// The keeper failed, and counted it.
+    Failed,
+    /// Memory ran out.
+    Memory,
+}
+
+impl From<AllocError> for KeepFail {
+    ghost from_gives = { λ _ e. e ≡ Memory };
+
+    fn from(_: AllocError) -> Self {
+        KeepFail::Memory
+    }
+}
+
+/// A row of a table, with its key.
+#[derive(Debug, Drop)]
+pub struct KeptRow {
+    /// The key, unique in its table.
+    pub key: Bytes,
+    /// The row.
+    pub row: Bytes,
+}
+
+/// What is to become of one place, which is a table's number and a key.
+#[derive(Debug, Drop)]
+pub enum Change {
+    /// The row is to stand there, in the stead of one that does.
+    Put {
+        /// The table's number.
+        table: u8,
+        /// The key.
+        key: Bytes,
+        /// The row.
+        row: Bytes,
+    },
+    /// No row is to stand there.
+    Remove {
+        /// The table's number.
+        table: u8,
+        /// The key.
+        key: Bytes,
+    },
+}
+
+/// Changes that are made in their order, all or none.
+#[derive(Debug, Drop)]
+pub struct Batch {
+    /// The first change first.
+    pub changes: Vec<Change>,
+}
+
+/// What keeps the tables: a finite map from a table's number and a key to a row.
+///
+/// Keys are ordered as bytes. Whether a keeper tells its tables is for it to say; where it doesn't, its answers promise
+/// nothing. After an error the tables are what they were, so the call may be made again. `Failed` comes only where
+/// the count of faults rose in that call. Each count is a `u64`, and stays at its last value once it is there.
+pub trait Keeper {
+    ghost state: { Self → KeeperState };
+
+    /// Makes the keeper ready for the other calls. A second call changes nothing.
+    ///
+    /// # Errors
+    ///
+    /// `Failed` where the keeper failed, `Memory` where memory ran out.
+    fn open(&mut self, alloc: Global) -> Result<(), KeepFail>
+        ensures same { Tells (state self.old) (state self.new) → Shows (state self.new) (state self.old).tables }
+        ensures crash { (state self.old).tells → LeavesNoMore (state self.old) (state self.new) }
+        ensures steps { Steps (state self.old) (state self.new) }
+        ensures shown { (state self.new).shown ≡ (state self.old).shown }
+        ensures written { (state self.new).written ≡ (state self.old).written }
+        ensures cause { KeeperCause (state self.old) (state self.new) (IsErrOf result Failed) };
+
+    /// The row of a key, or `None` where there is none.
+    ///
+    /// # Errors
+    ///
+    /// `Failed` where the keeper failed, `Memory` where memory ran out.
+    fn get(&mut self, alloc: Global, table: u8, key: &[u8]) -> Result<Option<Bytes>, KeepFail>
+        ensures row { Tells (state self.old) (state self.new)
+            → IfOk result (λ row. row ≡ row_at (state self.old).tables table key.now) }
+        ensures reads { Reads (state self.old) (state self.new) }
+        ensures shown { (state self.new).shown ≡ more_shown table (shown_by_get result) (state self.old).shown }
+        ensures cause { KeeperCause (state self.old) (state self.new) (IsErrOf result Failed) };
+
+    /// The first `limit` rows with `from <= key < below`, in the order of their keys.
+    ///
+    /// # Errors
+    ///
+    /// `Failed` where the keeper failed, `Memory` where memory ran out.
+    fn scan(
+        &mut self,
+        alloc: Global,
+        table: u8,
+        from: &[u8],
+        below: &[u8],
+        limit: usize,
+    ) -> Result<Vec<KeptRow>, KeepFail>
+        ensures rows { Tells (state self.old) (state self.new)
+            → IfOk result (λ rows.
+            rows.items ≡ take limit (rows_between (state self.old).tables table from.now below.now)) }
+        ensures short { IfOk result (λ rows. length rows.items ≤ limit) }
+        ensures reads { Reads (state self.old) (state self.new) }
+        ensures shown { (state self.new).shown ≡ more_shown table (shown_by_scan result) (state self.old).shown }
+        ensures cause { KeeperCause (state self.old) (state self.new) (IsErrOf result Failed) };
+
+    /// Makes all changes in their order, or none.
+    ///
+    /// # Errors
+    ///
+    /// `Failed` where the keeper failed, `Memory` where memory ran out. A crash may then still leave the tables as
+    /// they would be after the whole batch.
+    fn apply(&mut self, alloc: Global, batch: &Batch) -> Result<(), KeepFail>
+        ensures applied { Tells (state self.old) (state self.new)
+            → OnOk result (Shows (state self.new) (after batch.now.changes.items (state self.old).tables)) }
+        ensures refused { Tells (state self.old) (state self.new)
+            → OnErr result (Shows (state self.new) (state self.old).tables) }
+
+        // What a crash may leave: after `Ok` the tables alone, else the batch done whole or what it might have left.
+        ensures durable { Tells (state self.old) (state self.new)
+            → OnOk result ((m : Tables) → (state self.new).may_leave m → m ≡ (state self.new).tables) }
+        ensures crash { (state self.old).tells → IsTrue (state self.new).is_clean
+            → (m : Tables) → (state self.new).may_leave m
+            → (state self.old).may_leave m ⊎ (m ≡ after batch.now.changes.items (state self.old).tables) }
+
+        ensures steps { Steps (state self.old) (state self.new) }
+        ensures shown { (state self.new).shown ≡ (state self.old).shown }
+        ensures written { (state self.new).written
+            ≡ (if is_ok result then up_to_last ((state self.old).written + length batch.now.changes.items)
+            else (state self.old).written) }
+        ensures cause { KeeperCause (state self.old) (state self.new) (IsErrOf result Failed) };
+}

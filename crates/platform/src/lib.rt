@@ -6,10 +6,15 @@
 
 mod command;
 mod kept;
+mod laws;
 mod page;
 mod rows;
 mod stop;
 mod text;
 mod top;
 
+pub use crate::laws::printed_rows;
 pub use crate::top::run;
+
+#[cfg(test)]
+mod tests;

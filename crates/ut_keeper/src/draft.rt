@@ -7,7 +7,7 @@ ghost use Rattle.ut_keeper.specs.Laid.{laid, change_of};
 
 use crate::keeper::{Batch, KeepFail, Keeper, KeptRow};
 use crate::merge::{count_gaps, merge};
-use crate::place::{At, Place};
+use crate::place::Place;
 use crate::rows::{Rows, held_in};
 use std::alloc::{AllocError, Global};
 use std::collections::{BTreeMap, VecDeque};
@@ -78,7 +78,8 @@ impl<'a, K: Keeper> Draft<'a, K> {
         ensures reads { DraftReads K.state (data_rows table 1) self.old self.new }
         ensures cause { KeeperCause (state_of K.state self.old) (state_of K.state self.new) (IsErrOf result Failed) }
     {
-        match self.changes.get(At { table, key }) {
+        let place = Place::copied(alloc, table, key)?;
+        match self.changes.get(&place) {
             Some(Some(row)) => match Bytes::from_slice(alloc, row.as_slice()) {
                 Ok(row) => Ok(Some(row)),
                 Err(_) => Err(KeepFail::Memory),

@@ -7,6 +7,7 @@ ghost use Rattle.ut_keeper.specs.Memory.{memory_state, is_listed, FailsByNumber}
 
 use crate::keeper::{Batch, KeepFail, Keeper, KeptRow};
 use crate::merge::merge;
+use crate::place::Place;
 use crate::rows::{Rows, change_all, held_in, row_of};
 use std::alloc::{AllocError, Global};
 use std::collections::{BTreeMap, VecDeque};
@@ -118,7 +119,8 @@ impl Keeper for MemoryKeeper {
         if self.fails() {
             return Err(KeepFail::Failed);
         }
-        let Some(held) = row_of(&self.rows, table, key) else {
+        let place = Place::copied(alloc, table, key)?;
+        let Some(held) = row_of(&self.rows, &place) else {
             return Ok(None);
         };
         let row = Bytes::from_slice(alloc, held.as_slice())?;

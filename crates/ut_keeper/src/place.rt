@@ -1,5 +1,4 @@
 ghost use Rattle.std.specs.Prelude.{◌≡◌, Some, IfOk, refl};
-ghost use Rattle.std.specs.BTreeMap.Comparable.{le_lt_trans};
 ghost use Rattle.std.specs.Cmp.{equiv, partial_equiv_from_equiv, eq_by_cmp_equiv, partial_order_from_agreeing_total};
 ghost use Rattle.std.specs.Ordering.{eq_by_cmp};
 ghost use Rattle.ut_keeper.specs.Order.{places_total};
@@ -9,7 +8,6 @@ ghost use Rattle.ut_keeper.specs.Laid.{change_at};
 use crate::keeper::Change;
 use std::alloc::{AllocError, Global};
 use std::cmp::Ordering;
-use std::collections::btree_map::Comparable;
 use std::marker::Model;
 use ut_value::Bytes;
 
@@ -98,26 +96,5 @@ impl Place {
             table,
             key: Bytes::from_slice(alloc, key)?,
         })
-    }
-}
-
-/// A place that is looked up, by a borrowed key.
-#[derive(Clone, Copy)]
-pub struct At<'k> {
-    pub(crate) table: u8,
-    pub(crate) key: &'k [u8],
-}
-
-impl<'k> Comparable<Place> for At<'k> {
-    ghost compare = { λ q k. place_cmp (q.table, q.key.now) k };
-
-    ghost respects_cmp = { λ q x y. places_total.congr (q.table, q.key.now) x y };
-
-    ghost below_greater = { λ q x y. le_lt_trans places_total (q.table, q.key.now) x y };
-
-    fn compare(&self, place: &Place) -> Ordering {
-        self.table
-            .cmp(&place.table)
-            .then(self.key.cmp(place.key.as_slice()))
     }
 }

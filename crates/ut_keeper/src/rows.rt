@@ -6,13 +6,13 @@ ghost use Rattle.ut_keeper.specs.Laid.{entry_for, row_laid, front, within, gap};
 ghost use Rattle.ut_keeper.specs.Memory.{tables_in, HasPlaces};
 
 use crate::keeper::Change;
-use crate::place::{At, Place};
+use crate::place::Place;
 use std::alloc::{AllocError, Global};
 use std::collections::BTreeMap;
 use std::marker::Model;
 use ut_value::Bytes;
 
-// A place without a row shows nothing.
+/// What stands at places. A place without a row shows nothing.
 pub type Rows = BTreeMap<Place, Option<Bytes>>;
 
 /// A place and what a map holds there.
@@ -32,31 +32,25 @@ impl<'m> Model for Found<'m> {
 
 /// The copy of a change's row, on its way to the change's place.
 #[derive(Drop)]
-pub(crate) struct Moved<'b> {
-    at: At<'b>,
+pub(crate) struct Moved {
+    place: Place,
     row: Option<Bytes>,
 }
 
-impl<'b> Model for Moved<'b> {
+impl Model for Moved {
     ghost use Rattle.ut_keeper.specs.Laid.{Entry};
 
     ghost Value = { Entry };
 
-    ghost view = { λ m. ((m.at.table, m.at.key.now), m.row) };
+    ghost view = { λ m. (m.place, m.row) };
 }
 
-pub(crate) fn place_of(change: &Change) -> At<'_>
-    ensures { (result.table, result.key.now) ≡ (entry_for change.now).0 }
+fn place_of(alloc: Global, change: &Change) -> Result<Place, AllocError>
+    ensures { IfOk result (λ place. place ≡ (entry_for change.now).0) }
 {
     match change {
-        Change::Put { table, key, row: _ } => At {
-            table: *table,
-            key: key.as_slice(),
-        },
-        Change::Remove { table, key } => At {
-            table: *table,
-            key: key.as_slice(),
-        },
+        Change::Put { table, key, row: _ } => Place::copied(alloc, *table, key.as_slice()),
+        Change::Remove { table, key } => Place::copied(alloc, *table, key.as_slice()),
     }
 }
 
@@ -74,64 +68,72 @@ fn row_copied(alloc: Global, change: &Change) -> Result<Option<Bytes>, AllocErro
 }
 
 // Sees that the map has the place. If it is new it has no row, so that the map shows what it did.
-fn enter(alloc: Global, rows: &mut Rows, at: At<'_>) -> Result<(), AllocError>
+fn enter(rows: &mut Rows, place: Place) -> Result<(), AllocError>
     ensures same { tables_in rows.new.entries ≡ tables_in rows.old.entries }
-    ensures has { OnOk result (IsSome (get place_cmp rows.new (at.entry.table, at.entry.key.now))) }
+    ensures has { OnOk result (IsSome (get place_cmp rows.new place)) }
     ensures keeps { (q : Seen) → IsSome (get place_cmp rows.old q) → IsSome (get place_cmp rows.new q) }
 {
-    if rows.contains_key(at) {
+    if rows.contains_key(&place) {
         return Ok(());
     }
-    let place = Place::copied(alloc, at.table, at.key)?;
     rows.insert(place, None)?;
     Ok(())
 }
 
-// Takes all the memory that the changes need, and changes nothing that the map shows.
-fn prepare<'b>(
-    alloc: Global,
-    rows: &mut Rows,
-    changes: &'b [Change],
-) -> Result<Vec<Moved<'b>>, AllocError>
+// Takes the memory that the changes need, and changes nothing that the map shows.
+fn prepare(alloc: Global, rows: &mut Rows, changes: &[Change]) -> Result<Vec<Moved>, AllocError>
     ensures same { tables_in rows.new.entries ≡ tables_in rows.old.entries }
     ensures copies { IfOk result (λ moved. moved.items ≡ map entry_for changes.now) }
     ensures has { OnOk result (HasPlaces rows.new (map entry_for changes.now)) }
 {
     let mut moved = Vec::new(alloc);
     for change in changes {
-        let at = place_of(change);
+        let place = place_of(alloc, change)?;
         let row = row_copied(alloc, change)?;
-        enter(alloc, rows, at)?;
-        moved.push(Moved { at, row })?;
+        let entered = place_of(alloc, change)?;
+        enter(rows, entered)?;
+        moved.push(Moved { place, row })?;
     }
     Ok(moved)
 }
 
 // Takes no memory.
-fn move_in(rows: &mut Rows, moved: Moved<'_>)
+fn move_in(rows: &mut Rows, moved: Moved)
     requires { IsSome (get place_cmp rows.old moved.0) }
-    ensures shown { tables_in rows.new.entries ≡ row_laid moved.entry.0 moved.entry.1 (tables_in rows.old.entries) }
+    ensures shown { tables_in rows.new.entries ≡ row_laid moved.0 moved.1 (tables_in rows.old.entries) }
     ensures keeps { (q : Seen) → IsSome (get place_cmp rows.old q) → IsSome (get place_cmp rows.new q) }
 {
-    let Moved { at, row } = moved;
-    if let Some(held) = rows.get_mut(at) {
+    let Moved { place, row } = moved;
+    if let Some(held) = rows.get_mut(&place) {
         *held = row;
     }
 }
 
-fn drop_gap(rows: &mut Rows, at: At<'_>)
+// The places whose row the changes take away.
+fn gone_of(alloc: Global, changes: &[Change]) -> Result<Vec<Place>, AllocError> {
+    let mut gone = Vec::new(alloc);
+    for change in changes {
+        if let Change::Remove { table, key } = change {
+            gone.push(Place::copied(alloc, *table, key.as_slice())?)?;
+        }
+    }
+    Ok(gone)
+}
+
+// Drops the place if it has no row.
+fn drop_gap(rows: &mut Rows, place: &Place)
     ensures { tables_in rows.new.entries ≡ tables_in rows.old.entries }
 {
-    if let Some(None) = rows.get(at) {
-        rows.remove(at);
+    if let Some(None) = rows.get(place) {
+        rows.remove(place);
     }
 }
 
-fn drop_gaps(rows: &mut Rows, changes: &[Change])
+fn drop_gaps(rows: &mut Rows, places: &[Place])
     ensures { tables_in rows.new.entries ≡ tables_in rows.old.entries }
 {
-    for change in changes {
-        drop_gap(rows, place_of(change));
+    for place in places {
+        drop_gap(rows, place);
     }
 }
 
@@ -144,19 +146,20 @@ pub(crate) fn change_all(
     ensures done { OnOk result (tables_in rows.new.entries ≡ after changes.now (tables_in rows.old.entries)) }
     ensures refused { OnErr result (tables_in rows.new.entries ≡ tables_in rows.old.entries) }
 {
+    let gone = gone_of(alloc, changes)?;
     let all = prepare(alloc, rows, changes)?;
     for moved in all {
         move_in(rows, moved);
     }
-    drop_gaps(rows, changes);
+    drop_gaps(rows, gone.as_slice());
     Ok(())
 }
 
-/// The row of a key.
-pub(crate) fn row_of<'m>(rows: &'m Rows, table: u8, key: &[u8]) -> Option<&'m Bytes>
-    ensures { option_copied result ≡ row_at (tables_in rows.now.entries) table key.now }
+/// The row of a place.
+pub(crate) fn row_of<'m>(rows: &'m Rows, place: &Place) -> Option<&'m Bytes>
+    ensures { option_copied result ≡ row_at (tables_in rows.now.entries) place.now.0 place.now.1 }
 {
-    match rows.get(At { table, key }) {
+    match rows.get(place) {
         Some(held) => held.as_ref(),
         None => None,
     }

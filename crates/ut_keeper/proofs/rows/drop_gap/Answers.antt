@@ -4,4 +4,4 @@ use Rattle.ut_keeper.proofs.rows.drop_gap.Goals as goal
 
 pub returns-in-Some-None : goal.returns-in-Some-None
 returns-in-Some-None c =
-    gap_dropped c.args.rows.now c.remove.new.self (c.args.at.table, c.args.at.key.now) (sym c.get.ensures.value ∙ ap option_copied c.in-Some-None.is ∙ ap Some c.in-Some-None.field-0-is) c.remove.ensures.updates
+    gap_dropped c.args.rows.now c.remove.new.self c.args.place.now (sym c.get.ensures.value ∙ ap option_copied c.in-Some-None.is ∙ ap Some c.in-Some-None.field-0-is) c.remove.ensures.updates

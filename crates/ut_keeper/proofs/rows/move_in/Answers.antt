@@ -12,9 +12,9 @@ returns-in-Some-clause-shown c =
     let h = c.get_mut.follows.holds c.moved.inside.row in
     let is = subst (λ (e : Entry). IsSome (get place_cmp c.args.rows.now e.0)) (sym c.moved.view_is) c.requires in
     subst (λ (e : Entry). tables_in (c.get_mut.follows.lender c.moved.inside.row).entries ≡ row_laid e.0 e.1 (tables_in c.args.rows.now.entries)) c.moved.view_is
-    (tables-updates c.args.rows.now (c.get_mut.follows.lender c.moved.inside.row) (c.moved.inside.at.table, c.moved.inside.at.key.now) c.moved.inside.row (h.3 is))
+    (tables-updates c.args.rows.now (c.get_mut.follows.lender c.moved.inside.row) c.moved.inside.place c.moved.inside.row (h.3 is))
 
-pub returns-in_default-clause-shown : goal.returns-in_default-clause-shown
-returns-in_default-clause-shown c =
+pub returns-clause-shown : goal.returns-clause-shown
+returns-clause-shown c =
     let is = subst (λ (e : Entry). IsSome (get place_cmp c.args.rows.now e.0)) (sym c.moved.view_is) c.requires in
     absurd (true≢false (sym (subst IsSome (sym c.get_mut.ensures.value ∙ ap option_copied_mut c.in_default.is) is)))

@@ -11,9 +11,9 @@ loop-change-preserved c =
     let item = c.change-item.result in
     let before = map entry_for (take c.loop-change.change-index c.args.changes.now) in
     let t = taken_push entry_for c.args.changes.now c.loop-change.change-index item (omega arith) c.change-item.is in
-    let pushed : Entry = ((c.place_of-at.result.table, c.place_of-at.result.key.now), c.in_ok-row.row) in
-    let e : ◌≡◌ {A = Entry} pushed (entry_for item) = λ i. (c.place_of-at.ensures i, c.in_ok-row.ensures i) in
-    let has = subst (λ (p : Place). IsSome (get place_cmp c.enter.new.rows p)) c.place_of-at.ensures c.in_ok-enter.ensures.has in (
+    let pushed : Entry = (c.in_ok-place.place, c.in_ok-row.row) in
+    let e : ◌≡◌ {A = Entry} pushed (entry_for item) = λ i. (c.in_ok-place.ensures i, c.in_ok-row.ensures i) in
+    let has = subst (λ (p : Place). IsSome (get place_cmp c.enter.new.rows p)) c.in_ok-entered.ensures c.in_ok-enter.ensures.has in (
       c.enter.ensures.same ∙ c.loop-change.invariant.0,
       c.in_ok-push.ensures.items ∙ ap (λ l. l ++ pushed ∷ []) c.loop-change.invariant.1 ∙ ap (λ x. before ++ x ∷ []) e ∙ sym t,
       subst (HasPlaces c.enter.new.rows) (sym t) (places_push c.enter.new.rows before (entry_for item) (places_kept c.loop-change.rows c.enter.new.rows before c.enter.ensures.keeps c.loop-change.invariant.2) has),

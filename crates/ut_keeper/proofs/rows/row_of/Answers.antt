@@ -4,7 +4,7 @@ use Rattle.ut_keeper.proofs.rows.row_of.Goals as goal
 
 pub returns-in-Some : goal.returns-in-Some
 returns-in-Some c =
-    c.as_ref.ensures.value ∙ row_found c.args.rows.now.entries (c.args.table, c.args.key.now) c.in-Some.held.now (sym c.get.ensures.value ∙ ap option_copied c.in-Some.is)
+    c.as_ref.ensures.value ∙ row_found c.args.rows.now.entries c.args.place.now c.in-Some.held.now (sym c.get.ensures.value ∙ ap option_copied c.in-Some.is)
 
 pub returns-in-None : goal.returns-in-None
-returns-in-None c = row_missing c.args.rows.now.entries (c.args.table, c.args.key.now) (sym c.get.ensures.value ∙ ap option_copied c.in-None.is)
+returns-in-None c = row_missing c.args.rows.now.entries c.args.place.now (sym c.get.ensures.value ∙ ap option_copied c.in-None.is)

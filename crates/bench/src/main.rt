@@ -1,0 +1,83 @@
+//! Times of the parts whose cost matters, for `docs/PERFORMANCE.md`: `bench keeper ROWS`.
+//!
+//! What was done goes to standard output, the times in microseconds to standard error.
+#![tactic(auto)]
+
+use std::alloc::{AllocError, Global};
+use std::process::ExitCode;
+use std::time::Instant;
+use std::{env, io};
+use ut_keeper::{Draft, KeepFail, Keeper, MemoryKeeper, all_rows};
+use ut_value::Bytes;
+
+const TABLE: u8 = 7;
+
+const PAGE: usize = 100;
+
+// An odd factor, by which the keys 0, 1, 2 and so on are scattered.
+const SCATTERED: u32 = 2_654_435_761;
+
+fn key_of(alloc: Global, number: u32) -> Result<Bytes, AllocError> {
+    Bytes::from_slice(alloc, number.to_be_bytes().as_slice())
+}
+
+fn put_all<K: Keeper>(
+    alloc: Global,
+    draft: &mut Draft<'_, K>,
+    rows: u32,
+    factor: u32,
+) -> Result<(), AllocError> {
+    for number in 0..rows {
+        let key = key_of(alloc, number.wrapping_mul(factor))?;
+        draft.put(alloc, TABLE, key, key_of(alloc, number)?)?;
+    }
+    Ok(())
+}
+
+fn walk<K: Keeper>(alloc: Global, draft: &mut Draft<'_, K>) -> Result<usize, KeepFail> {
+    Ok(all_rows(alloc, draft, TABLE, &[], &[255; 5], PAGE)?.len())
+}
+
+fn tell_time(rt: &HostRuntime, what: &str, start: Instant) -> io::Result<()> {
+    let took = start.elapsed(rt)?.as_micros();
+    eprintln!(rt; "{what}: {took} us")
+}
+
+fn measure_keeper(rt: &HostRuntime, rows: u32, factor: u32) -> io::Result<()> {
+    let alloc = rt.alloc();
+    let Ok(mut keeper) = MemoryKeeper::new(alloc, &[]) else {
+        return println!(rt; "out of memory");
+    };
+    let mut draft = Draft::new(alloc, &mut keeper);
+    let start = Instant::now(rt)?;
+    let put = put_all(alloc, &mut draft, rows, factor).is_ok();
+    tell_time(rt, "puts", start)?;
+    let start = Instant::now(rt)?;
+    let committed = draft.commit(alloc).is_ok();
+    tell_time(rt, "commit", start)?;
+    let mut draft = Draft::new(alloc, &mut keeper);
+    let start = Instant::now(rt)?;
+    let seen = walk(alloc, &mut draft).unwrap_or(0);
+    tell_time(rt, "walk", start)?;
+    println!(rt; "put: {put}, committed: {committed}, rows walked: {seen}")
+}
+
+fn measure(rt: &HostRuntime) -> io::Result<u8> {
+    let words: Vec<String> = match env::args(rt)?.skip(1).collect(rt.alloc()) {
+        Ok(words) => words,
+        Err(_) => return Ok(71),
+    };
+    if words.len() == 2 && words[0].as_str() == "keeper" {
+        if let Ok(rows) = words[1].parse::<u32>() {
+            measure_keeper(rt, rows, 1)?;
+            measure_keeper(rt, rows, SCATTERED)?;
+            return Ok(0);
+        }
+    }
+    eprintln!(rt; "usage: bench keeper ROWS")?;
+    Ok(64)
+}
+
+fn main(rt: HostRuntime) -> ExitCode {
+    ExitCode::from(measure(&rt).unwrap_or(74))
+}

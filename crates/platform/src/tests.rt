@@ -1,0 +1,144 @@
+use crate::run;
+use std::alloc::{AllocError, Global};
+use ut_io::{MemoryClock, MemoryDoor, MemorySink, MemorySource};
+use ut_keeper::MemoryKeeper;
+
+const QUERY: &str = "SELECT Id, Name FROM Row__c";
+
+// What is handed to a run: an input, the reads that fail, the room of the sink, and the writes that fail.
+#[derive(Drop)]
+struct Given<'a> {
+    input: &'a [u8],
+    reads_failing: &'a [u64],
+    room: usize,
+    writes_failing: &'a [u64],
+}
+
+fn ran(alloc: Global, words: &[&str], given: &Given<'_>) -> Result<(u8, MemorySink), AllocError> {
+    let mut keeper = MemoryKeeper::new(alloc, &[])?;
+    let mut door = MemoryDoor::new(alloc, &[], 0, &[])?;
+    let mut source = MemorySource::new(alloc, given.input, given.reads_failing)?;
+    let mut sink = MemorySink::new(alloc, given.room, given.writes_failing)?;
+    let mut clock = MemoryClock::new(alloc, &[])?;
+    let mut owned = Vec::new(alloc);
+    for word in words {
+        owned.push(String::from_str(alloc, word)?)?;
+    }
+    let status = run(
+        alloc,
+        &owned,
+        &mut keeper,
+        &mut door,
+        &mut source,
+        &mut sink,
+        &mut clock,
+    );
+    Ok((status, sink))
+}
+
+#[test]
+fn answers_or_refuses(rt: HostRuntime) -> Result<(), AllocError> {
+    for (query, input, status, written) in [
+        (
+            QUERY,
+            b"Name\nAda\nBob\n".as_slice(),
+            0,
+            b"Id,Name\na00000000000001AAA,Ada\na00000000000002AAA,Bob\n".as_slice(),
+        ),
+        (QUERY, b"Name\n".as_slice(), 0, b"Id,Name\n".as_slice()),
+        (
+            "select id,name\nfrom row__c",
+            b"\xEF\xBB\xBFName\r\n\"a,b\"\r\nx".as_slice(),
+            0,
+            b"Id,Name\na00000000000001AAA,\"a,b\"\na00000000000002AAA,x\n".as_slice(),
+        ),
+        (
+            QUERY,
+            b"".as_slice(),
+            65,
+            b"refused: NOT_BUILT: input\n".as_slice(),
+        ),
+        (
+            QUERY,
+            b"Name,Name\na,b\n".as_slice(),
+            65,
+            b"refused: NOT_BUILT: input\n".as_slice(),
+        ),
+        (
+            QUERY,
+            b"Name\n\xFF\n".as_slice(),
+            65,
+            b"refused: NOT_BUILT: input\n".as_slice(),
+        ),
+        (
+            "SELECT Id FROM ",
+            b"Name\n".as_slice(),
+            65,
+            b"refused: NOT_BUILT: query\n".as_slice(),
+        ),
+    ] {
+        let given = Given {
+            input,
+            reads_failing: &[],
+            room: 1000,
+            writes_failing: &[],
+        };
+        let (found, sink) = ran(rt.alloc(), &["csvq", query], &given)?;
+        assert!(rt; found == status, "at {query}");
+        assert!(rt; sink.written() == written, "at {query}");
+    }
+    Ok(())
+}
+
+#[test]
+fn knows_no_other_words(rt: HostRuntime) -> Result<(), AllocError> {
+    let given = Given {
+        input: b"Name\n",
+        reads_failing: &[1],
+        room: 1000,
+        writes_failing: &[1],
+    };
+    for words in [
+        [].as_slice(),
+        ["csvq"].as_slice(),
+        ["CSVQ", QUERY].as_slice(),
+        ["csvq", QUERY, ""].as_slice(),
+        ["answer"].as_slice(),
+    ] {
+        let (found, sink) = ran(rt.alloc(), words, &given)?;
+        assert!(rt; found == 64);
+        assert!(rt; sink.written().is_empty());
+    }
+    Ok(())
+}
+
+#[test]
+fn tells_which_side_failed(rt: HostRuntime) -> Result<(), AllocError> {
+    let text = b"Id,Name\na00000000000001AAA,Ada\n".as_slice();
+    for (reads_failing, room, writes_failing, status, written) in [
+        (1, 1000, 0, 74, 0),
+        (2, 1000, 0, 74, 0),
+        (3, 1000, 0, 0, 31),
+        (0, 1000, 1, 73, 0),
+        (0, 1000, 2, 0, 31),
+        (0, 5, 0, 73, 5),
+        (0, 0, 0, 73, 0),
+    ] {
+        let given = Given {
+            input: b"Name\nAda\n",
+            reads_failing: &[reads_failing],
+            room,
+            writes_failing: &[writes_failing],
+        };
+        let (found, sink) = ran(rt.alloc(), &["csvq", QUERY], &given)?;
+        assert!(rt;
+            found == status,
+            "reads {reads_failing}, room {room}, writes {writes_failing}"
+        );
+        assert!(rt;
+            Some(sink.written()) == text.get(..written),
+            "reads {reads_failing}, room {room}, writes {writes_failing}"
+        );
+    }
+    Ok(())
+}

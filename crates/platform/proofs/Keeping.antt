@@ -1,19 +1,18 @@
 -- Rows that are kept under their ids.
-use Rattle.std.proofs.Common.{◌≡◌, ◌<◌, ◌≤◌, ℕ, zero, suc, ◌+◌, ◌^◌, ◌==◌, ◌&&◌, Bool, true, false, cond, T, List, [], ◌∷◌, ◌++◌, length, refl, sym, ap, ap₂, subst, ◌∙◌, append_assoc, get_or, take, map as plain_map, IsTrue, arith, codes, length-append}
+use Rattle.std.proofs.Common.{◌≡◌, ◌<◌, ℕ, suc, ◌+◌, ◌^◌, ◌&&◌, Bool, true, false, T, List, [], ◌∷◌, ◌++◌, length, refl, sym, ap, ap₂, subst, ◌∙◌, append_assoc, get_or, take, map as plain_map, arith, codes}
 use Rattle.std.proofs.lemmas.List.{append-nil, length-map, length-take, map-append, take_more}
 use Rattle.std.proofs.lemmas.Bool.Decides.{nat_tests}
 use Rattle.std.specs.Cmp.{IsTotalOrder}
 use Rattle.std.specs.Cmp.Lexicographic.{slice_cmp}
 use Rattle.std.specs.declared.cmp.Ordering.{Ordering}
 use Rattle.std.specs.declared.cmp.Ordering.TheVariants.{Less, Equal, Greater}
-use Rattle.std.specs.Ordering.{is_ge, is_lt, nat_cmp, ordering_reverse, ordering_then}
+use Rattle.std.specs.Ordering.{is_lt, nat_cmp, ordering_reverse}
 use Rattle.std.specs.FinMap as map
-use Rattle.std.specs.FinMap.{FinMap}
 use Rattle.std.specs.FinMap.Entries.{below_all, is_sorted, put}
 use Rattle.csv.specs.Records.{Row, fields_of}
 use Rattle.ut_keeper.specs.declared.keeper.KeptRow.{KeptRow}
-use Rattle.ut_keeper.specs.Tables.{Place, Tables, bytes_cmp, entry_of, is_between, is_in, no_rows, place_cmp, rows_among, rows_between}
-use Rattle.ut_value.specs.Id.{digit62, digits, is_id, made}
+use Rattle.ut_keeper.specs.Tables.{Place, Tables, entry_of, is_between, no_rows, place_cmp, rows_among, rows_between}
+use Rattle.ut_value.specs.Id.{digit62, digits, made}
 use Rattle.platform.specs.Csvq.{name_in, record_id}
 use Rattle.platform.specs.Kept.{data_table, kept, with_rows}
 

@@ -1,12 +1,12 @@
 -- The page of an input, and how a run ends.
-use Rattle.std.proofs.Common.{◌≡◌, ◌≤◌, ℕ, ◌+◌, ◌^◌, ◌<◌, List, [], ◌∷◌, ◌++◌, length, drop, map, Option, Some, None, nat_le, true, false, refl, sym, ap, subst, ◌∙◌, arith, rules, IsTrue, ◌⊎◌, inl, inr, IfSome, Err, codes}
-use Rattle.std.specs.List.{All, AllByRecursion, list_all}
+use Rattle.std.proofs.Common.{◌≡◌, ◌≤◌, ℕ, ◌+◌, List, [], ◌∷◌, ◌++◌, length, drop, map, Option, Some, nat_le, true, refl, sym, ap, ◌∙◌, rules, IsTrue, Err, codes}
+use Rattle.std.specs.List.{AllByRecursion, list_all}
 use Rattle.std.proofs.lemmas.List.Elements.{All-from_recursion}
 use Rattle.csv.specs.Records.{Row, fields_of}
 use Rattle.ut_keeper.specs.declared.keeper.KeptRow.{KeptRow}
 use Rattle.ut_table.specs.Table.{table_of}
 use Rattle.ut_value.specs.Id.{is_digit62, is_id, made}
-use Rattle.platform.specs.Csvq.{Printed, answer, heading_line, is_table, lines, record_id, rows_in}
+use Rattle.platform.specs.Csvq.{Printed, answer, heading_line, is_table, lines, rows_in}
 use Rattle.platform.specs.Kept.{AreIds, kept, kept_lines}
 use Rattle.platform.specs.Endings.{Ends, Stops, stop_status}
 use Rattle.platform.specs.Endings.Ends.{no_memory, sink_failed, source_failed}

@@ -1,5 +1,5 @@
 -- Rows that went through a keeper.
-use Rattle.std.proofs.Common.{◌≡◌, ℕ, ◌+◌, List, [], Result, Ok, Err, Vec, IfOk, OnOk, IsTrue, sym, ap, subst, ◌∙◌, codes, Global}
+use Rattle.std.proofs.Common.{◌≡◌, ℕ, List, Result, Ok, Err, Vec, IfOk, IsTrue, sym, ap, subst, ◌∙◌, codes, Global}
 use Rattle.ut_keeper.specs.declared.keeper.KeepFail.{KeepFail}
 use Rattle.ut_keeper.specs.declared.keeper.KeptRow.{KeptRow}
 use Rattle.ut_keeper.specs.Draft.{ChangesNothing, DraftReads, DraftTells, Held, keeper_of, state_of, tables_of}

@@ -1,7 +1,7 @@
 -- What `csvq` prints: the records of a CSV text with their ids, or the one line of a refusal. It is a function of the
 -- query and of the input's bytes, and knows nothing of how they are read, kept or written.
 -- Sources: RFC 4180 as the crate `csv` reads and writes it; ids as `ut_value` has them. Limits are this product's own.
-use Rattle.std.specs.Prelude.{ℕ, ◌+◌, Bool, true, false, ◌&&◌, nat_le, if◌then◌else◌, List, [], ◌∷◌, ◌++◌, length, drop, Option, Some, None, unwrap_or, codes}
+use Rattle.std.specs.Prelude.{ℕ, ◌+◌, Bool, false, ◌&&◌, nat_le, if◌then◌else◌, List, [], ◌∷◌, ◌++◌, length, drop, Option, Some, None, unwrap_or, codes}
 use Rattle.std.specs.List.{list_all}
 use Rattle.std.specs.Str.{bytes_eq, chars}
 use Rattle.csv.specs.Records.{field_at}

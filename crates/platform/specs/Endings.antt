@@ -1,5 +1,5 @@
 -- How a run ends, whose text and status a definition gives.
-use Rattle.std.specs.Prelude.{ℕ, ◌≡◌, ◌++◌, List, Option, Result, Ok, Err}
+use Rattle.std.specs.Prelude.{ℕ, ◌≡◌, List, Option, Result, Ok, Err}
 use Rattle.std.specs.Io.KnownBytes.{Appends, Keeps}
 use Rattle.ut_io.specs.Streams.{AppendsFront}
 use Rattle.platform.specs.Csvq.{Printed}

@@ -1,5 +1,4 @@
-use Rattle.std.proofs.Common.{◌≡◌, ◌<◌, ◌≤◌, ◌+◌, ◌∙◌, ℕ, length, arith, refl, rules}
-use Rattle.ut_keeper.specs.Draft.{DraftWorks}
+use Rattle.std.proofs.Common.{◌<◌, ◌∙◌, length, refl}
 use Rattle.platform.proofs.Keeping.{none_put, one_put}
 use Rattle.platform.proofs.kept.put_rows.Goals as goal
 

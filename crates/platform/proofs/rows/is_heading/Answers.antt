@@ -1,4 +1,4 @@
-use Rattle.std.proofs.Common.{rules, ◌≡◌, ℕ, length}
+use Rattle.std.proofs.Common.{rules, ◌≡◌, length}
 use Rattle.csv.specs.Records.{fields_of}
 use Rattle.platform.proofs.Cells.{single, there}
 use Rattle.platform.proofs.rows.is_heading.Goals as goal

@@ -1,4 +1,4 @@
-use Rattle.std.proofs.Common.{rules, ◌≡◌, ℕ, length}
+use Rattle.std.proofs.Common.{rules, ◌≡◌, length}
 use Rattle.csv.specs.Records.{fields_of}
 use Rattle.std.proofs.lemmas.Str.{chars_from_encodes}
 use Rattle.platform.proofs.Cells.{single, there}

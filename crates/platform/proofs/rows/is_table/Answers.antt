@@ -1,4 +1,4 @@
-use Rattle.std.proofs.Common.{rules, ◌≡◌, ◌<◌, ℕ, length}
+use Rattle.std.proofs.Common.{rules, ◌<◌, length}
 use Rattle.std.proofs.lemmas.List.{take_rest}
 use Rattle.platform.proofs.Cells.{table-step}
 use Rattle.platform.proofs.rows.is_table.Goals as goal

@@ -1,4 +1,3 @@
-use Rattle.std.proofs.Common.{◌≡◌}
 use Rattle.platform.proofs.Pages.{stop_ends}
 use Rattle.platform.proofs.top.run.Goals as goal
 

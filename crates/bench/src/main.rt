@@ -1,4 +1,4 @@
-//! Times of the parts whose cost matters, for `docs/PERFORMANCE.md`: `bench keeper ROWS`.
+//! Times of the parts whose cost matters, for `docs/PERFORMANCE.md`: `bench keeper ROWS` and `bench json BYTES`.
 //!
 //! What was done goes to standard output, the times in microseconds to standard error.
 #![tactic(auto)]
@@ -7,6 +7,7 @@ use std::alloc::{AllocError, Global};
 use std::process::ExitCode;
 use std::time::Instant;
 use std::{env, io};
+use ut_json::{Json, Mark, Writer, read};
 use ut_keeper::{Draft, KeepFail, Keeper, MemoryKeeper, all_rows};
 use ut_value::Bytes;
 
@@ -62,19 +63,63 @@ fn measure_keeper(rt: &HostRuntime, rows: u32, factor: u32) -> io::Result<()> {
     println!(rt; "put: {put}, committed: {committed}, rows walked: {seen}")
 }
 
+// A list of objects, of about so many bytes.
+fn written(alloc: Global, bytes: u32) -> Result<Bytes, AllocError> {
+    let mut writer = Writer::new(alloc);
+    writer.mark(alloc, Mark::OpenList)?;
+    for number in 0..bytes / 32 {
+        if number != 0 {
+            writer.mark(alloc, Mark::Comma)?;
+        }
+        writer.mark(alloc, Mark::OpenObject)?;
+        writer.text(alloc, "Amount__c")?;
+        writer.mark(alloc, Mark::Colon)?;
+        writer.number(alloc, i128::from(number) * 12_345_678)?;
+        writer.mark(alloc, Mark::CloseObject)?;
+    }
+    writer.mark(alloc, Mark::CloseList)?;
+    Ok(writer.finish())
+}
+
+fn measure_json(rt: &HostRuntime, bytes: u32) -> io::Result<()> {
+    let alloc = rt.alloc();
+    let start = Instant::now(rt)?;
+    let Ok(text) = written(alloc, bytes) else {
+        return println!(rt; "out of memory");
+    };
+    tell_time(rt, "write", start)?;
+    let start = Instant::now(rt)?;
+    let value = read(alloc, text.as_slice());
+    tell_time(rt, "read", start)?;
+    let size = text.as_slice().len();
+    match value {
+        Ok(Json::List(items)) => {
+            let items = items.len();
+            println!(rt; "bytes: {size}, items read: {items}")
+        }
+        _ => println!(rt; "not read"),
+    }
+}
+
 fn measure(rt: &HostRuntime) -> io::Result<u8> {
     let words: Vec<String> = match env::args(rt)?.skip(1).collect(rt.alloc()) {
         Ok(words) => words,
         Err(_) => return Ok(71),
     };
-    if words.len() == 2 && words[0].as_str() == "keeper" {
-        if let Ok(rows) = words[1].parse::<u32>() {
-            measure_keeper(rt, rows, 1)?;
-            measure_keeper(rt, rows, SCATTERED)?;
-            return Ok(0);
+    if words.len() == 2 {
+        if let Ok(size) = words[1].parse::<u32>() {
+            if words[0].as_str() == "keeper" {
+                measure_keeper(rt, size, 1)?;
+                measure_keeper(rt, size, SCATTERED)?;
+                return Ok(0);
+            }
+            if words[0].as_str() == "json" {
+                measure_json(rt, size)?;
+                return Ok(0);
+            }
         }
     }
-    eprintln!(rt; "usage: bench keeper ROWS")?;
+    eprintln!(rt; "usage: bench keeper ROWS, or bench json BYTES")?;
     Ok(64)
 }
 

@@ -1,0 +1,9 @@
+pub mod Windows
+pub mod Sizes
+pub mod Values
+pub mod Numbers
+pub mod Heads
+pub mod Items
+pub mod Unique
+pub mod Callers
+pub mod Connections

@@ -1,0 +1,12 @@
+ghost use Rattle.std.specs.Prelude.{◌≡◌, ◌⊎◌, List, ℕ, drop};
+ghost use Rattle.ut_http.specs.Item.{AreItems, IsItem, IsOpenTarget, Item};
+
+/// The bytes of a connection have one first item, unless those at hand end inside a target that nothing completes.
+pub fn one_item()
+    ensures { (bytes : List ℕ) (a b : Item) (rest other : List ℕ) → IsItem bytes a rest → IsItem bytes b other → ((a ≡ b) × (rest ≡ other)) ⊎ IsOpenTarget bytes }
+{}
+
+/// A connection has one list of items, unless its bytes from some place on end so.
+pub fn one_list()
+    ensures { (bytes : List ℕ) (xs ys : List Item) → AreItems bytes xs → AreItems bytes ys → (xs ≡ ys) ⊎ ((k : ℕ) × IsOpenTarget (drop k bytes)) }
+{}

@@ -1,0 +1,24 @@
+//! Messages of HTTP/1.1 out of bytes, and replies as bytes.
+//!
+//! It stands on `ut_value` and `ut_io`, and on the grammar of request heads that `httparse` states. Its contract:
+//! `next_message` answers the item at the front of what the buffer and the source hold together, however reads cut the
+//! bytes, and leaves what stands behind it.
+#![tactic(auto)]
+
+mod close;
+mod fail;
+mod framing;
+mod head;
+mod input;
+mod laws;
+mod lines;
+mod message;
+mod next;
+mod parts;
+mod reply;
+
+pub use crate::fail::HttpFail;
+pub use crate::laws::{one_item, one_list};
+pub use crate::message::{HttpMessage, Next};
+pub use crate::next::{Buffer, next_message};
+pub use crate::reply::{out_of_memory, reply_bytes, unavailable};

@@ -1,0 +1,126 @@
+ghost use Rattle.std.specs.Prelude.{◌≡◌, [], length, IfOk, IsErrOf};
+ghost use Rattle.std.specs.Io.KnownBytes.{Keeps, prepend_known};
+ghost use Rattle.ut_value.specs.Causes.{Cause};
+ghost use Rattle.ut_http.specs.Answer.{Answered, Between};
+ghost use Rattle.ut_http.specs.Steps.{NextHead};
+ghost use Rattle.ut_http.specs.declared.fail.HttpFail.TheVariants.{Failed};
+
+use crate::fail::HttpFail;
+use crate::head::{HEAD_LIMIT, read_head};
+use crate::input::fill;
+use crate::message::{HttpMessage, Next};
+use crate::parts::{Head, parts};
+use httparse::spans::{EMPTY_HEADER_SPAN, HeaderSpan};
+use std::alloc::{AllocError, Global};
+use std::marker::Model;
+use ut_io::Source;
+use ut_value::Bytes;
+
+// Reads until a whole head is at hand, and takes its parts.
+fn next_head<S: Source>(
+    alloc: Global,
+    source: &mut S,
+    bytes: &mut Vec<u8>,
+    lines: &mut [HeaderSpan],
+) -> Result<Option<Head>, HttpFail>
+    requires { length lines.old ≡ HEAD_LIMIT }
+    ensures kept { Keeps (prepend_known bytes.old.items (S.left source.old)) (prepend_known bytes.new.items (S.left source.new)) }
+    ensures answer { NextHead bytes.new.items (S.left source.new) result }
+    ensures stays { S.stays source.old source.new }
+    ensures cause { Cause (S.faults source.old) (S.faults source.new) (IsErrOf result Failed) }
+{
+    let Some(spans) = read_head(source, bytes, lines)? else {
+        return Ok(None);
+    };
+    let hand = bytes.len().min(HEAD_LIMIT);
+    Ok(Some(parts(alloc, &bytes[..hand], lines, &spans)?))
+}
+
+// Takes the next message from the front of the input.
+fn take<S: Source>(
+    alloc: Global,
+    source: &mut S,
+    bytes: &mut Vec<u8>,
+    lines: &mut [HeaderSpan],
+) -> Result<Next, HttpFail>
+    requires { length lines.old ≡ HEAD_LIMIT }
+    ensures answer { Between (prepend_known bytes.old.items (S.left source.old)) (prepend_known bytes.new.items (S.left source.new)) (λ input rest. Answered input result rest) }
+    ensures stays { S.stays source.old source.new }
+    ensures cause { Cause (S.faults source.old) (S.faults source.new) (IsErrOf result Failed) }
+{
+    let Some(head) = next_head(alloc, source, bytes, lines)? else {
+        return Ok(if bytes.is_empty() {
+            Next::End
+        } else {
+            Next::Cut
+        });
+    };
+    let end = head.len + head.size;
+    if !fill(source, bytes, end)? {
+        return Ok(Next::Cut);
+    }
+    let body = Bytes::from_slice(alloc, &bytes[head.len..end])?;
+    let rest = Vec::from_slice(alloc, &bytes[end..])?;
+    *bytes = rest;
+    Ok(Next::Message(HttpMessage {
+        method: head.method,
+        target: head.target,
+        bearer: head.bearer,
+        body,
+        close: head.close,
+    }))
+}
+
+/// What has been read of a connection and not yet taken, which contracts see as its bytes.
+#[derive(Drop)]
+pub struct Buffer {
+    bytes: Vec<u8>,
+    lines: Vec<HeaderSpan>,
+}
+
+impl Model for Buffer {
+    ghost use Rattle.std.specs.Prelude.{ℕ, List, ◌≡◌, length};
+
+    ghost Value = { List ℕ };
+
+    ghost view = { λ b. b.bytes.items };
+
+    ghost invariant = { λ b. length b.lines.items ≡ 16384 };
+}
+
+impl Buffer {
+    /// An empty buffer.
+    ///
+    /// # Errors
+    ///
+    /// Where memory runs out.
+    pub fn new(alloc: Global) -> Result<Self, AllocError>
+        ensures { IfOk result (λ buffer. buffer ≡ []) }
+    {
+        let mut lines = Vec::new(alloc);
+        lines.resize(HEAD_LIMIT, EMPTY_HEADER_SPAN)?;
+        Ok(Buffer {
+            bytes: Vec::new(alloc),
+            lines,
+        })
+    }
+}
+
+/// The next message of a connection, whose bytes are those of the buffer and those left in the source.
+///
+/// # Errors
+///
+/// The first refusal of what came, `Failed` where the source fails, `Memory` where memory runs out. Nothing of the input
+/// is lost then.
+pub fn next_message<S: Source>(
+    alloc: Global,
+    source: &mut S,
+    buffer: &mut Buffer,
+) -> Result<Next, HttpFail>
+    // The item at the front of the input, and what is left behind it, however reads cut the bytes.
+    ensures answer { Between (prepend_known buffer.old (S.left source.old)) (prepend_known buffer.new (S.left source.new)) (λ input rest. Answered input result rest) }
+    ensures stays { S.stays source.old source.new }
+    ensures cause { Cause (S.faults source.old) (S.faults source.new) (IsErrOf result Failed) }
+{
+    take(alloc, source, &mut buffer.bytes, &mut buffer.lines)
+}

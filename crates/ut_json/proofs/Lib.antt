@@ -1,0 +1,15 @@
+pub mod Sizes
+pub mod Repeats
+pub mod Shrinks
+pub mod Fails
+pub mod Shorter
+pub mod Levels
+pub mod Exact
+pub mod Numbers
+pub mod Quotes
+pub mod Values
+pub mod Texts
+pub mod Printed
+pub mod Written
+pub mod Wholes
+pub mod Scalars

@@ -1,0 +1,33 @@
+-- Reading of bytes.
+use Rattle.std.proofs.Common.{◌≡◌, ℕ, List, Option, Some, None, Result, Ok, Err, ◌⊎◌, refl, sym, ◌∙◌, ap, inl, inr}
+use Rattle.std.specs.Prelude.{IfOk}
+use Rattle.std.specs.Str.{chars, IsUtf8}
+use Rattle.std.proofs.lemmas.Str.{encodes-chars, scalars-chars, chars_from_encodes}
+use Rattle.ut_json.specs.Grammar.{Spells}
+use Rattle.ut_json.specs.Reading.{text}
+use Rattle.ut_json.specs.Outcomes.{Gives}
+use Rattle.ut_json.specs.declared.JsonFail.{JsonFail}
+use Rattle.ut_json.specs.declared.JsonFail.TheVariants.{NotJson, Memory}
+use Rattle.ut_json.specs.declared.tree.Json.{Json}
+use Rattle.ut_json.proofs.Values.{text_told, text_whole}
+
+pub spelled_by : (bytes : List ℕ) (v : Json) → IsUtf8 bytes → text (chars bytes) ≡ Some v → Spells bytes v
+spelled_by bytes v u h = (chars bytes, sym (encodes-chars bytes u), scalars-chars bytes u, text_told (chars bytes) v h)
+
+pub read_by : (bytes : List ℕ) (v : Json) → Spells bytes v → IsUtf8 bytes × (text (chars bytes) ≡ Some v)
+read_by bytes v h =
+    let u : IsUtf8 bytes = (h.0, (h.2, sym h.1)) in
+    (u, ap text (sym (chars_from_encodes h.0 bytes u (sym h.1))) ∙ text_whole h.0 v h.3)
+
+pub spelled_of : (r : Result Json JsonFail) (bytes : List ℕ) → IsUtf8 bytes → Gives (λ x. x) r (text (chars bytes)) → IfOk r (λ v. Spells bytes v)
+spelled_of (Ok v) bytes u g = spelled_by bytes v u g
+spelled_of (Err e) bytes u g = tt
+
+-- a result that gives what is read is that value, or memory ran out
+pub only_by : (r : Result Json JsonFail) (o : Option Json) (v : Json) → Gives (λ x. x) r o → o ≡ Some v → (r ≡ Ok v) ⊎ (r ≡ Err Memory)
+only_by (Ok x) o v g e = let same : x ≡ v = some_is x v (sym g ∙ e) in inl (ap Ok same)
+  where
+    some_is : (a b : Json) → Some a ≡ Some b → a ≡ b
+    some_is a b h = cc
+only_by (Err NotJson) o v g e = let none : None ≡ Some v = sym g ∙ e in absurd (cc)
+only_by (Err Memory) o v g e = inr refl

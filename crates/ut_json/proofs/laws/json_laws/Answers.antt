@@ -1,0 +1,12 @@
+use Rattle.ut_json.proofs.Written.{number_printed, text_printed}
+use Rattle.ut_json.proofs.Wholes.{whole_printed}
+use Rattle.ut_json.proofs.laws.json_laws.Goals as goal
+
+pub returns-clause-numbers : goal.returns-clause-numbers
+returns-clause-numbers c = number_printed
+
+pub returns-clause-texts : goal.returns-clause-texts
+returns-clause-texts c = text_printed
+
+pub returns-clause-values : goal.returns-clause-values
+returns-clause-values c = whole_printed

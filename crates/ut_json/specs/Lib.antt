@@ -1,0 +1,10 @@
+pub mod Characters
+pub mod Grammar
+pub mod Numerals
+pub mod Outcomes
+pub mod Reading
+pub mod Literals
+pub mod Mantissas
+pub mod Turns
+pub mod Printing
+pub mod Whole

@@ -14,22 +14,6 @@ use Rattle.ut_value.specs.Id.{made}
 use Rattle.platform.specs.Csvq.{lines}
 use Rattle.platform.proofs.laws.printed_rows.Goals as goal
 
-pub returns-clause-none : goal.returns-clause-none
+pub returns : goal.returns
 unfolding csv_on_literals digits chars is_utf8 encode field_at escaped fields_text is_blank lines made ids.digits is_digit tokens.is_blank is_letter in_word in_run begins_run class_of single double mark_len token_len mark_token token_of front_len token_at tokens_of is_word is_comma are_asking asks_for_rows
-returns-clause-none c = refl
-
-pub returns-clause-rows : goal.returns-clause-rows
-unfolding csv_on_literals digits chars is_utf8 encode field_at escaped fields_text is_blank lines made ids.digits is_digit tokens.is_blank is_letter in_word in_run begins_run class_of single double mark_len token_len mark_token token_of front_len token_at tokens_of is_word is_comma are_asking asks_for_rows
-returns-clause-rows c = refl
-
-pub returns-clause-quoted : goal.returns-clause-quoted
-unfolding csv_on_literals digits chars is_utf8 encode field_at escaped fields_text is_blank lines made ids.digits is_digit tokens.is_blank is_letter in_word in_run begins_run class_of single double mark_len token_len mark_token token_of front_len token_at tokens_of is_word is_comma are_asking asks_for_rows
-returns-clause-quoted c = refl
-
-pub returns-clause-heading : goal.returns-clause-heading
-unfolding csv_on_literals digits chars is_utf8 encode field_at escaped fields_text is_blank lines made ids.digits is_digit tokens.is_blank is_letter in_word in_run begins_run class_of single double mark_len token_len mark_token token_of front_len token_at tokens_of is_word is_comma are_asking asks_for_rows
-returns-clause-heading c = refl
-
-pub returns-clause-query : goal.returns-clause-query
-unfolding csv_on_literals digits chars is_utf8 encode field_at escaped fields_text is_blank lines made ids.digits is_digit tokens.is_blank is_letter in_word in_run begins_run class_of single double mark_len token_len mark_token token_of front_len token_at tokens_of is_word is_comma are_asking asks_for_rows
-returns-clause-query c = refl
+returns c = record { rows = refl; quoted = refl; none = refl; heading = refl; query = refl }

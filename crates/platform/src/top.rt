@@ -24,6 +24,7 @@ fn serve_csvq<S: Source, W: Sink>(
     ensures stops { (bytes : List ℕ) → IsInput (csvq query.now) (S.left source.old) bytes
         → Stops (printed (csvq query.now) bytes) (W.written sink.old) (W.written sink.new) result }
     ensures unread { needs_input (csvq query.now) ≡ false → source.new ≡ source.old }
+    ensures unwritten { IsErrOf result SourceFailed → sink.new ≡ sink.old }
     ensures whole { IfOk result (λ status. status ≡ 0 → IsAtEnd (S.left source.new)) }
     ensures status { IfOk result (λ status. (status ≡ 0) ⊎ (status ≡ 65)) }
     ensures source_cause { Cause (S.faults source.old) (S.faults source.new) (IsErrOf result SourceFailed) }
@@ -67,10 +68,11 @@ pub fn run<K: Keeper, D: Door, S: Source, W: Sink, C: Clock>(
         → Ends (printed command bytes) (W.written sink.old) (W.written sink.new) result) }
     ensures statuses { (result ≡ 0) ⊎ (result ≡ 64) ⊎ (result ≡ 65) ⊎ (result ≡ 71) ⊎ (result ≡ 73) ⊎ (result ≡ 74) }
 
-    // What is read, and asked for.
+    // What is read, written and asked for, whatever is told.
     ensures unread { IfSome (command_of (map string_bytes words.now)) (λ command.
         needs_input command ≡ false → source.new ≡ source.old) }
     ensures whole { result ≡ 0 → IsAtEnd (S.left source.new) }
+    ensures unwritten { result ≡ 74 → sink.new ≡ sink.old }
     ensures asked { IfSome (command_of (map string_bytes words.now)) (λ command.
         AskedOnce (C.coming clock.old) (C.coming clock.new)) }
 

@@ -1,0 +1,5 @@
+pub mod Fields
+pub mod Gives
+pub mod Fails
+pub mod Rows
+pub mod Keys

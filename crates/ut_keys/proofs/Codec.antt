@@ -8,7 +8,7 @@ use Rattle.std.proofs.lemmas.Bool.{cases_lt, ltb-false, le-ltb, eqb-true}
 use Rattle.std.proofs.lemmas.List.{take_at, drop_at, take-append-drop, length-append, length-take, get_or-drop, get_or-take, get_or_past, nil_from_length, append-nil}
 use Rattle.std.proofs.lemmas.Nat.{be_bytes_2, be_bytes_4, be_bytes_8, from_be_bytes-to_be_bytes_2, from_be_bytes-to_be_bytes_4, from_be_bytes-to_be_bytes_8}
 use Rattle.ut_value.specs.Id.{is_id}
-use Rattle.ut_keys.specs.Fields.{number8, number8_at, nothing, nothing_at, number16, number32, number64, as_characters, ◌>>=◌, number_at, bytes_at, any, fixed_at, passing, text, text_at, FitsText, id_at, truth, truth_at, optional, optional_at, mark_at, pair_at, whole, read_both}
+use Rattle.ut_keys.specs.Fields.{nothing, nothing_at, number16, number32, number64, as_characters, ◌>>=◌, number_at, bytes_at, any, fixed_at, passing, text, text_at, FitsText, id_at, truth, truth_at, optional, optional_at, mark_at, pair_at, whole, read_both}
 
 abbrev pub IsBytes : List ℕ → Type 0
 IsBytes bytes = (i : ℕ) → get_or bytes i 0 < 256
@@ -162,16 +162,6 @@ text_field = record {
       let utf8 : is_utf8 (encode_utf8_all a) ≡ true = is_utf8-from_IsUtf8 (encode_utf8_all a) (a, (ok.1, refl)) in
       rw (number_again w32 (2 ^ 32) wide32 (length (encode_utf8_all a)) (encode_utf8_all a ++ rest) ok.0, tested_again (length (encode_utf8_all a)) is_utf8 (encode_utf8_all a) rest refl utf8, chars-encodes a ok.1) refl;
 }
-
-pub number8_field : IsField number8 (λ n. n < 2 ^ 8) number8_at
-unfolding number8_at
-number8_field = record { takes = takes; again = λ n rest lt. refl }
-  where
-    takes : (bytes : List ℕ) (n : ℕ) (rest : List ℕ) → IsBytes bytes → number8_at bytes ≡ Some (n, rest) → Takes bytes (number8 n) rest × (n < 2 ^ 8)
-    takes [] n rest fits e = absurd cc
-    takes (b ∷ bytes) n rest fits e =
-        let low : b < 2 ^ 8 = fits 0 in
-        subst (λ (x : ℕ × List ℕ). Takes (b ∷ bytes) (number8 x.0) x.1 × (x.0 < 2 ^ 8)) (some_is (b, bytes) (n, rest) e) (record { parts = refl; rest_fits = IsBytes-rest b bytes fits }, low)
 
 pub number16_field : IsField number16 (λ n. n < 2 ^ 16) (number_at w16)
 unfolding number16

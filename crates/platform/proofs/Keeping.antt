@@ -12,7 +12,8 @@ use Rattle.std.specs.FinMap.Entries.{below_all, is_sorted, put}
 use Rattle.csv.specs.Records.{Row, fields_of}
 use Rattle.ut_keeper.specs.declared.keeper.KeptRow.{KeptRow}
 use Rattle.ut_keeper.specs.Tables.{Place, Tables, entry_of, is_between, no_rows, place_cmp, rows_among, rows_between}
-use Rattle.ut_value.specs.Id.{digit62, digits, made}
+use Rattle.ut_value.specs.Digits.{digits}
+use Rattle.ut_value.specs.Id.{digit62, made}
 use Rattle.platform.specs.Csvq.{name_in, record_id}
 use Rattle.platform.specs.Kept.{data_table, kept, with_rows}
 

@@ -1,4 +1,4 @@
-ghost use Rattle.std.specs.Prelude.{◌≡◌, ◌≤◌, [], ◌∷◌, IfOk, List, ℕ, Option, Some, None};
+ghost use Rattle.std.specs.Prelude.{◌≡◌, ◌≤◌, [], ◌∷◌, IfOk, List, ℕ, Option, Some, None, min};
 ghost use Rattle.std.specs.List.{All};
 ghost use Rattle.ut_io.specs.Moments.{AskedOnce, IsFirstMoment, last_moment, or_first};
 
@@ -94,7 +94,13 @@ impl<R: time::Clock> SystemClock<R> {
 impl<R: time::Clock> Clock for SystemClock<R> {
     ghost coming = { λ _. None };
 
-    fn now(&mut self) -> u64 {
+    // Beside the trait's clauses: the answer is the moment that the system's clock told last.
+    fn now(&mut self) -> u64
+        ensures bound { result ≤ last_moment }
+        ensures first { IsFirstMoment None result }
+        ensures asked { AskedOnce None None }
+        ensures told { result ≡ min (last_answer self.new) last_moment }
+    {
         if let Ok(time) = SystemTime::now(&self.rt) {
             if let Ok(since) = time.duration_since(SystemTime::UNIX_EPOCH) {
                 self.last = since.as_secs();

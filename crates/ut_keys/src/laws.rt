@@ -9,6 +9,7 @@ ghost use Rattle.ut_keys.specs.Rows.{org_key, user_key, people_prefix};
 ghost use Rattle.ut_keys.specs.Keys.{Key, spell, FitsKey, key_eq, Holds, with_row, Lists, is_user_of, kept_user, ListsUsers};
 
 use ut_keeper::{key_laws, walk_laws};
+use ut_value::digit_laws;
 
 /// The laws by which tables are spoken of by typed keys. The call does nothing.
 pub fn table_laws()
@@ -37,6 +38,7 @@ pub fn table_laws()
 {
     walk_laws();
     key_laws();
+    digit_laws();
 }
 
 /// The order of keys: that of their parts in turn. The call does nothing.
@@ -48,4 +50,6 @@ pub fn key_order_laws()
     // Between these ends stand an organisation's users, and nothing else.
     ensures users { (org : ℕ) (k : Key) → org < 2 ^ 32 → FitsKey k
         → is_in 5 (people_prefix org 0) (people_prefix org 1) (spell k) ≡ is_user_of org k }
-{}
+{
+    digit_laws();
+}

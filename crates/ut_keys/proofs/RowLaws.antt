@@ -1,5 +1,5 @@
 -- The laws of each table's rows, by composition of their parts.
-use Rattle.std.proofs.Common.{◌≡◌, ℕ, ◌^◌, ◌<◌, Bool, List, [], ◌∷◌, ◌++◌, length, Option, Some, Result, Ok, Err, refl}
+use Rattle.std.proofs.Common.{◌≡◌, ℕ, ◌^◌, ◌<◌, Bool, List, [], ◌∷◌, ◌++◌, length, Option, Some, Result, Ok, Err, refl, sym, ap, ap₂, ◌∙◌}
 use Rattle.std.specs.Prelude.{IfOk, IfSome, IsTrue}
 use Rattle.std.specs.Int.{w32}
 use Rattle.ut_value.specs.Id.{is_id}
@@ -10,11 +10,17 @@ use Rattle.ut_keys.specs.declared.user.UserRow.{UserRow}
 use Rattle.ut_keys.specs.Fields.{same_bytes, number16, number32, number64, number_at, text, text_at, FitsText, id_at, truth, truth_at, optional, optional_at, mark_at, fixed_at, pair_at}
 use Rattle.ut_keys.specs.Gives.{Gives}
 use Rattle.ut_keys.specs.Rows.{version_key, version_row, make_version, read_version, FitsVersion, org_key, org_row, OrgParts, make_org, org_parts_at, read_org, FitsOrg, user_key, user_row, make_user, read_user, FitsUser}
-use Rattle.ut_keys.proofs.Codec.{IsBytes, IsField, number16_field, number32_field, number64_field, id_field, text_field, truth_field, optional_field, mark_field, fixed_field, nothing_field, pair_field, both_is, both_again}
+use Rattle.ut_keys.proofs.Codec.{IsBytes, IsField, some_is, number16_field, number32_field, number64_field, id_field, text_field, truth_field, optional_field, mark_field, fixed_field, nothing_field, pair_field, both_is, both_again}
 
 pub if_ok : {X : Type 0} (P : X → Type 0) (result : Result X CodecFail) (read : Option X) → Gives result read → ((x : X) → read ≡ Some x → P x) → IfOk result P
 if_ok P (Ok x) read g f = f x g
 if_ok P (Err e) read g f = tt
+
+-- two spellings of one form with whatever follows: they are one, and so is what follows
+begins : {A : Type 0} {spell : A → List ℕ} {Fits : A → Type 0} {read : List ℕ → Option (A × List ℕ)} → IsField spell Fits read → (a b : A) (x y : List ℕ) → Fits a → Fits b → spell a ++ x ≡ spell b ++ y → (a ≡ b) × (x ≡ y)
+begins {read = read} field a b x y fa fb e =
+    let same = some_is (a, x) (b, y) (sym (field.again a x fa) ∙ ap read e ∙ field.again b y fb) in
+    (ap (λ p. p.0) same, ap (λ p. p.1) same)
 
 -- ---- table 0, the version
 
@@ -37,6 +43,14 @@ pub version_again : (r : VersionRow) → FitsVersion r → read_version version_
 unfolding read_version
 version_again r fits =
     both_again nothing_field version_field make_version (λ (u : VersionRow). tt) parts_of_version (λ x y. refl) (λ x y. refl) (λ u. refl) r tt (fits.version, fits.organisations)
+
+abbrev FitsVersionParts : VersionParts → Type 0
+FitsVersionParts p = (p.0 < 2 ^ 32) × (p.1 < 2 ^ 32)
+
+pub version_begins : (a b : VersionRow) (x y : List ℕ) → FitsVersion a → FitsVersion b → version_row a ++ x ≡ version_row b ++ y → (a ≡ b) × (x ≡ y)
+version_begins a b x y fa fb e =
+    let same = begins version_field (parts_of_version a) (parts_of_version b) x y (fa.version, fa.organisations) (fb.version, fb.organisations) e in
+    (ap (make_version tt) same.0, same.1)
 
 -- ---- table 1, organisations
 
@@ -63,6 +77,14 @@ pub org_again : (u : OrgRow) → FitsOrg u → read_org (org_key u.org) (org_row
 unfolding read_org
 org_again u fits =
     both_again number32_field org_field make_org (λ (u : OrgRow). u.org) parts_of_org (λ x y. refl) (λ x y. refl) (λ u. refl) u fits.org (fits.name, (fits.counter, (fits.objects, (fits.records, (fits.users, (fits.roles, (fits.groups, (fits.sharing_rules, fits.rule_numbers))))))))
+
+pub org_begins : (a b : OrgRow) (x y : List ℕ) → FitsOrg a → FitsOrg b → org_row a ++ x ≡ org_row b ++ y → (org_row a ≡ org_row b) × (x ≡ y) × (a.org ≡ b.org → a ≡ b)
+org_begins a b x y fa fb e =
+    let same = begins org_field (parts_of_org a) (parts_of_org b) x y (fits_parts a fa) (fits_parts b fb) e in
+    (ap org_text same.0, same.1, λ key. ap₂ make_org key same.0)
+  where
+    fits_parts : (u : OrgRow) → FitsOrg u → FitsOrgParts (parts_of_org u)
+    fits_parts u fits = (fits.name, (fits.counter, (fits.objects, (fits.records, (fits.users, (fits.roles, (fits.groups, (fits.sharing_rules, fits.rule_numbers))))))))
 
 -- ---- table 5, users
 
@@ -106,3 +128,11 @@ pub user_again : (u : UserRow) → FitsUser u → read_user (user_key u.org u.id
 unfolding read_user
 user_again u fits =
     both_again user_key_field user_field make_user key_of_user parts_of_user (λ x y. refl) (λ x y. refl) (λ u. refl) u (fits.org, (tt, fits.id)) (fits.name, (fits.digest, (fits.role, tt)))
+
+pub user_begins : (a b : UserRow) (x y : List ℕ) → FitsUser a → FitsUser b → user_row a ++ x ≡ user_row b ++ y → (user_row a ≡ user_row b) × (x ≡ y) × (a.org ≡ b.org → a.id ≡ b.id → a ≡ b)
+user_begins a b x y fa fb e =
+    let same = begins user_field (parts_of_user a) (parts_of_user b) x y (fits_parts a fa) (fits_parts b fb) e in
+    (ap user_text same.0, same.1, λ org id. ap₂ make_user (ap₂ (λ (n : ℕ) (i : List ℕ). (n, (tt, i))) org id) same.0)
+  where
+    fits_parts : (u : UserRow) → FitsUser u → FitsUserParts (parts_of_user u)
+    fits_parts u fits = (fits.name, (fits.digest, (fits.role, tt)))

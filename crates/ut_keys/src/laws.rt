@@ -1,11 +1,13 @@
-ghost use Rattle.std.specs.Prelude.{◌≡◌, ◌<◌, ◌^◌, ◌↔◌, ℕ, List, Option, Some, None, IsTrue, map as plain_map};
+ghost use Rattle.std.specs.Prelude.{◌≡◌, ◌++◌, ◌<◌, ◌^◌, ◌↔◌, ℕ, List, Option, Some, None, IsTrue, map as plain_map};
 ghost use Rattle.std.specs.FinMap as map;
 ghost use Rattle.std.specs.Ordering.{nat_cmp, ordering_then};
 ghost use Rattle.ut_keeper.specs.declared.keeper.KeptRow.{KeptRow};
 ghost use Rattle.ut_keeper.specs.Tables.{Tables, no_rows, bytes_cmp, is_in, rows_between};
 ghost use Rattle.ut_value.specs.Id.{is_id};
 ghost use Rattle.ut_keys.specs.declared.user.UserRow.{UserRow};
-ghost use Rattle.ut_keys.specs.Rows.{org_key, user_key, people_prefix};
+ghost use Rattle.ut_keys.specs.declared.version.VersionRow.{VersionRow};
+ghost use Rattle.ut_keys.specs.declared.org.OrgRow.{OrgRow};
+ghost use Rattle.ut_keys.specs.Rows.{version_row, FitsVersion, org_key, org_row, FitsOrg, user_key, user_row, FitsUser, people_prefix};
 ghost use Rattle.ut_keys.specs.Keys.{Key, spell, FitsKey, key_eq, Holds, with_row, Lists, is_user_of, kept_user, ListsUsers};
 
 use ut_keeper::{key_laws, walk_laws};
@@ -53,3 +55,14 @@ pub fn key_order_laws()
 {
     digit_laws();
 }
+
+/// No spelling of a row begins another of its form, and one key and one spelling are of one row. The call does nothing.
+pub fn row_laws()
+    ensures version { (a b : VersionRow) (x y : List ℕ) → FitsVersion a → FitsVersion b
+        → version_row a ++ x ≡ version_row b ++ y → (a ≡ b) × (x ≡ y) }
+    ensures org { (a b : OrgRow) (x y : List ℕ) → FitsOrg a → FitsOrg b
+        → org_row a ++ x ≡ org_row b ++ y → (org_row a ≡ org_row b) × (x ≡ y) × (a.org ≡ b.org → a ≡ b) }
+    ensures user { (a b : UserRow) (x y : List ℕ) → FitsUser a → FitsUser b
+        → user_row a ++ x ≡ user_row b ++ y
+        → (user_row a ≡ user_row b) × (x ≡ y) × (a.org ≡ b.org → a.id ≡ b.id → a ≡ b) }
+{}

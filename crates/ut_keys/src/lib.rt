@@ -6,6 +6,7 @@
 
 mod fail;
 mod intervals;
+mod keys;
 mod laws;
 mod org;
 mod reading;
@@ -15,7 +16,8 @@ mod writing;
 
 pub use crate::fail::{CodecFail, StoreFail};
 pub use crate::intervals::users_of;
-pub use crate::laws::{key_order_laws, table_laws};
+pub use crate::keys::{key_of_org, key_of_user};
+pub use crate::laws::{key_order_laws, row_laws, table_laws};
 pub use crate::org::OrgRow;
 pub use crate::user::UserRow;
 pub use crate::version::VersionRow;

@@ -1,0 +1,44 @@
+-- Who calls: the user whom a key `ORG!USER!SECRET` names and whose secret it has.
+use Rattle.std.specs.Prelude.{ℕ, Bool, ◌&&◌, ◌||◌, ◌==◌, nat_lt, if◌then◌else◌, List, [], length, take, drop, Option, Some, None}
+use Rattle.std.specs.List.{position_or_len, before_first, after_first}
+use Rattle.std.specs.Option.{option_and_then}
+use Rattle.std.specs.Str.{bytes_eq}
+use Rattle.sha2.specs.Sha256.{sha256}
+use Rattle.ut_value.specs.Id.{is_id, number_in, suffix}
+use Rattle.ut_model.specs.declared.caller.Caller.{Caller}
+use Rattle.ut_model.specs.Tenant.{User}
+use Rattle.ut_model.specs.World.{World, org_prefix, user_in}
+
+-- `!`
+abbrev pub is_bang : ℕ → Bool
+is_bang c = c == 33
+
+-- what stands before and behind the first `!`, if there is one
+unfoldable pub cut : List ℕ → Option (List ℕ × List ℕ)
+cut text = if nat_lt (position_or_len is_bang text) (length text) then Some (before_first is_bang text, after_first is_bang text) else None
+
+-- the id that a text spells in 15 characters or in 18
+unfoldable pub id_in : List ℕ → Option (List ℕ)
+id_in text = if is_id (take 15 text) && (bytes_eq (drop 15 text) [] || bytes_eq (drop 15 text) (suffix (take 15 text))) then Some (take 15 text) else None
+
+-- what a key names: the organisation's number, the user's id, and the secret
+pub record Named : Type 0 where
+  pub org : ℕ
+  pub user : List ℕ
+  pub secret : List ℕ
+
+abbrev pub named_by : List ℕ → List ℕ → List ℕ → Option Named
+named_by org user secret =
+    option_and_then (λ o. option_and_then (λ u. option_and_then (λ n. Some (record { org = n; user = u; secret = secret })) (number_in org_prefix o)) (id_in user)) (id_in org)
+
+-- a key is cut at its first two `!`
+abbrev pub named : List ℕ → Option Named
+named key = option_and_then (λ a. option_and_then (λ b. named_by a.0 b.0 b.1) (cut a.1)) (cut key)
+
+-- the user, if the secret is the user's
+abbrev pub admitted : Named → User → Option Caller
+admitted n u = if bytes_eq u.digest (sha256 n.secret) then Some (record { org = n.org; user = u.id; admin = u.admin }) else None
+
+-- the caller whom a key names, if its secret is right
+abbrev pub caller_in : World → List ℕ → Option Caller
+caller_in w key = option_and_then (λ n. option_and_then (admitted n) (user_in w n.org n.user)) (named key)

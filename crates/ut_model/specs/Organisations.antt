@@ -1,0 +1,53 @@
+-- New organisations.
+use Rattle.std.specs.Prelude.{ℕ, Bool, true, ◌&&◌, nat_le, nat_lt, if◌then◌else◌, List, [], ◌∷◌, ◌++◌, length, Option, Some, None}
+use Rattle.std.specs.List.{list_all}
+use Rattle.ut_value.specs.Id.{is_digit62, made}
+use Rattle.ut_model.specs.declared.limit.Limit.TheVariants as limit
+use Rattle.ut_model.specs.declared.refusal.Refusal.{Refusal}
+use Rattle.ut_model.specs.declared.refusal.Refusal.TheVariants.{LimitExceeded, NameRefused, SecretRefused}
+use Rattle.ut_model.specs.Limits.{limit_number}
+use Rattle.ut_model.specs.Sound.{is_name}
+use Rattle.ut_model.specs.Tenant.{Tenant, User}
+use Rattle.ut_model.specs.World.{World, user_prefix}
+
+-- a secret: 16 to 64 ASCII letters and digits
+unfoldable pub is_secret : List ℕ → Bool
+is_secret secret = list_all is_digit62 secret && (nat_le 16 (length secret) && nat_le (length secret) 64)
+
+-- the id of an organisation's first user, which is made of number 0
+abbrev pub first_user : List ℕ
+first_user = made user_prefix 0
+
+-- the administrator of a new organisation has its name, and no role
+abbrev pub administrator : List ℕ → List ℕ → User
+administrator name digest = record { id = first_user; name = name; digest = digest; role = None; admin = true }
+
+-- a new organisation has its administrator and nothing else
+abbrev pub fresh : List ℕ → List ℕ → Tenant
+fresh name digest =
+    record {
+      name = name;
+      counter = 1;
+      rule_numbers = 0;
+      objects = [];
+      users = administrator name digest ∷ [];
+      roles = [];
+      groups = [];
+      rules = [];
+      records = [];
+      shares = [];
+      job = None;
+    }
+
+-- the world with a new organisation at its end
+abbrev pub with_org : World → List ℕ → List ℕ → World
+with_org w name digest = w ++ fresh name digest ∷ []
+
+-- whether one more organisation would be too many
+abbrev pub is_full : World → Bool
+is_full w = nat_le (limit_number limit.Organisations) (length w)
+
+-- why a new organisation is refused, if it is: for its name, its secret, or the number of organisations, in this order
+abbrev pub org_refusal : World → List ℕ → List ℕ → Option Refusal
+org_refusal w name secret =
+    if is_name name then (if is_secret secret then (if is_full w then Some (LimitExceeded limit.Organisations) else None) else Some SecretRefused) else Some NameRefused

@@ -1,0 +1,24 @@
+//! The model: what an organisation is, who calls it, and how a request is refused or answered, as plain types and
+//! definitions.
+//!
+//! It stands on `ut_value`. Its contract: a refusal's code, status and message are those of the definitions.
+#![tactic(auto)]
+
+mod caller;
+mod laws;
+mod limit;
+mod record;
+mod refusal;
+mod reply;
+mod route;
+
+pub use crate::caller::Caller;
+pub use crate::laws::model_rows;
+pub use crate::limit::Limit;
+pub use crate::record::Record;
+pub use crate::refusal::Refusal;
+pub use crate::reply::Reply;
+pub use crate::route::Route;
+
+#[cfg(test)]
+mod tests;

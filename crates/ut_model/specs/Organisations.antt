@@ -1,5 +1,5 @@
 -- New organisations.
-use Rattle.std.specs.Prelude.{ℕ, Bool, true, ◌&&◌, nat_le, nat_lt, if◌then◌else◌, List, [], ◌∷◌, ◌++◌, length, Option, Some, None}
+use Rattle.std.specs.Prelude.{ℕ, Bool, true, ◌&&◌, nat_le, if◌then◌else◌, List, [], ◌∷◌, ◌++◌, length, Option, Some, None}
 use Rattle.std.specs.List.{list_all}
 use Rattle.ut_value.specs.Id.{is_digit62, made}
 use Rattle.ut_model.specs.declared.limit.Limit.TheVariants as limit

@@ -1,6 +1,6 @@
 -- Sound tenants and worlds: what holds of every organisation at every moment, as far as names, people, counters and numbers
 -- go. The limits are this product's own.
-use Rattle.std.specs.Prelude.{◌≡◌, ℕ, ◌<◌, ◌≤◌, Bool, true, false, ◌&&◌, not, nat_le, List, [], ◌∷◌, ◌++◌, length, map, drop, T, IsTrue, IfSome, IsSome}
+use Rattle.std.specs.Prelude.{◌≡◌, ℕ, ◌<◌, ◌≤◌, Bool, true, ◌&&◌, not, nat_le, List, [], ◌∷◌, ◌++◌, length, map, drop, T, IsTrue, IfSome, IsSome}
 use Rattle.std.specs.List.{AllByRecursion, list_any}
 use Rattle.std.specs.FinMap.{is_sorted}
 use Rattle.std.specs.Str.{all_scalars, bytes_eq}

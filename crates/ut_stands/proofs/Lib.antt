@@ -1,0 +1,5 @@
+pub mod Names
+pub mod Opened
+pub mod Versions
+pub mod Users
+pub mod Added

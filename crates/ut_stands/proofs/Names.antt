@@ -1,0 +1,53 @@
+-- Names and ids of sound tenants have spellings.
+use Rattle.std.proofs.Common.{◌≡◌, ℕ, ◌*◌, ◌≤◌, Bool, true, false, ◌&&◌, cond, IsTrue, List, [], ◌∷◌, length, Option, Some, None, refl, sym, subst, arith, length-append}
+use Rattle.std.specs.Prelude.{nat_le, encode_utf8_all, IfSome}
+use Rattle.std.specs.Char.{encode_utf8}
+use Rattle.std.specs.List.{AllByRecursion, list_all}
+use Rattle.std.specs.Option.{IsSome}
+use Rattle.std.specs.Str.{all_scalars, bytes_eq}
+use Rattle.std.proofs.lemmas.Bool.Decides.{nat_tests}
+use Rattle.std.proofs.lemmas.Slice.Eq.{bytes_eq-Decides}
+use Rattle.std.proofs.lemmas.Str.{length-encode, len_utf8_bounds}
+use Rattle.ut_value.specs.Id.{is_digit62, is_id, made}
+use Rattle.ut_keys.specs.Fields.{FitsText}
+use Rattle.ut_model.specs.Sound.{is_name, IsDrawn, IsRole, IsSoundRole, role_id}
+use Rattle.ut_model.specs.Tenant.{Tenant, Role}
+use Rattle.ut_model.specs.World.{role_prefix, with_id}
+
+pub both : (a b : Bool) → (a && b) ≡ true → (a ≡ true) × (b ≡ true)
+both true b h = (refl, h)
+both false b h = absurd cc
+
+-- at most four bytes a character
+four_each : (cs : List ℕ) → length (encode_utf8_all cs) ≤ 4 * length cs
+four_each [] = omega arith
+four_each (c ∷ cs) = omega (arith, four_each cs, length-append (encode_utf8 c) (encode_utf8_all cs), length-encode c, (len_utf8_bounds c).1)
+
+small : (n : ℕ) → nat_le n 80 ≡ true → n ≤ 80
+small n h = grind (arith, nat_tests)
+
+pub name_fits : (name : List ℕ) → IsTrue (is_name name) → FitsText name
+unfolding is_name
+name_fits name h =
+    let p = both (all_scalars name) _ h in
+    let q = both (nat_le 1 (length name)) (nat_le (length name) 80) p.1 in
+    (omega (arith, four_each name, small (length name) q.1), p.0)
+
+-- what makes ids, as `ut_value` says
+abbrev pub MakesIds : Type 0
+MakesIds = (prefix : List ℕ) (n : ℕ) → length prefix ≡ 3 → IsTrue (list_all is_digit62 prefix) → IsTrue (is_id (made prefix n))
+
+pub drawn_is_id : MakesIds → (prefix : List ℕ) (counter : ℕ) (id : List ℕ) → length prefix ≡ 3 → IsTrue (list_all is_digit62 prefix) → IsDrawn prefix counter id → IsTrue (is_id id)
+drawn_is_id makes prefix counter id size digits d = subst (λ (i : List ℕ). IsTrue (is_id i)) (sym d.2) (makes prefix d.0 size digits)
+
+role_among : MakesIds → (t : Tenant) (rs : List Role) (id : List ℕ) → AllByRecursion (IsSoundRole t) rs → IsSome (with_id role_id rs id) → IsTrue (is_id id)
+role_among makes t [] id all h = absurd cc
+role_among makes t (r ∷ rs) id all h = by (λ f. role_among makes t rs id all.1 f) (bytes_eq id r.id) refl
+  where
+    by : (IsSome (with_id role_id rs id) → IsTrue (is_id id)) → (b : Bool) → bytes_eq id r.id ≡ b → IsTrue (is_id id)
+    by rest true e = subst (λ (i : List ℕ). IsTrue (is_id i)) (sym ((bytes_eq-Decides id r.id).0 e)) (drawn_is_id makes role_prefix t.counter r.id refl refl all.0.id)
+    by rest false e = rest (subst (λ (b : Bool). IsSome (cond b (Some r) (with_id role_id rs id))) e h)
+
+pub role_is_id : MakesIds → (t : Tenant) → AllByRecursion (IsSoundRole t) t.roles → (role : Option (List ℕ)) → IfSome role (IsRole t) → IfSome role (λ i. IsTrue (is_id i))
+role_is_id makes t all None h = tt
+role_is_id makes t all (Some id) h = role_among makes t t.roles id all h

@@ -1,0 +1,95 @@
+-- What tables have at each key where they stand for a world.
+-- Source of the tables: C. D. Weissman and S. Bobrowski, "The Design of the Force.com Multitenant Internet Application
+-- Development Platform" (SIGMOD 2009): all organisations' rows stand in the same few tables, each under its organisation.
+use Rattle.std.specs.Prelude.{◌≡◌, ◌≢◌, ℕ, Bool, false, if◌then◌else◌, List, [], length, Option, Some, None}
+use Rattle.std.specs.List.{AllByRecursion}
+use Rattle.std.specs.Option.{option_map, option_and_then}
+use Rattle.ut_keeper.specs.Tables as tables
+use Rattle.ut_keeper.specs.Tables.{Tables}
+use Rattle.ut_keys.specs.declared.version.VersionRow.{VersionRow}
+use Rattle.ut_keys.specs.declared.org.OrgRow.{OrgRow}
+use Rattle.ut_keys.specs.declared.user.UserRow.{UserRow}
+use Rattle.ut_keys.specs.Keys.{Key, Version, Org, User, Holds}
+use Rattle.ut_keys.specs.Rows.{version_key, version_row, FitsVersion, org_row, user_row}
+use Rattle.ut_model.specs.Sound.{IsWorld}
+use Rattle.ut_model.specs.Tenant as model
+use Rattle.ut_model.specs.Tenant.{Tenant}
+use Rattle.ut_model.specs.World.{World, tenant_at, user_at}
+
+-- the version of the forms that are written here
+abbrev pub known_version : ℕ
+known_version = 1
+
+-- what the world leaves open: whether the version's row is there, which it needn't be where no organisation is
+pub record Plan : Type 0 where
+  pub opened : Bool
+
+-- ---- rows, from the parts of the world
+
+abbrev pub version_of : World → VersionRow
+version_of w = record { version = known_version; organisations = length w }
+
+-- the row of an organisation with this number
+abbrev pub org_of : ℕ → Tenant → OrgRow
+org_of n t =
+    record {
+      org = n;
+      name = t.name;
+      counter = t.counter;
+      objects = length t.objects;
+      records = length t.records;
+      users = length t.users;
+      roles = length t.roles;
+      groups = length t.groups;
+      sharing_rules = length t.rules;
+      rule_numbers = t.rule_numbers;
+    }
+
+-- the row of a user of the organisation with this number
+abbrev pub user_of : ℕ → model.User → UserRow
+user_of n u = record { org = n; id = u.id; name = u.name; digest = u.digest; role = u.role; admin = u.admin }
+
+abbrev pub version_at : Plan → World → Option (List ℕ)
+version_at p w = if p.opened then Some (version_row (version_of w)) else None
+
+abbrev pub org_at : ℕ → Option Tenant → Option (List ℕ)
+org_at n t = option_map (λ x. org_row (org_of n x)) t
+
+abbrev pub user_row_at : ℕ → List ℕ → Option Tenant → Option (List ℕ)
+user_row_at n i t = option_and_then (λ x. option_map (λ u. user_row (user_of n u)) (user_at x.users i)) t
+
+-- the row at a key, if there is one
+unfoldable pub row_at : Plan → World → Key → Option (List ℕ)
+row_at p w Version = version_at p w
+row_at p w (Org n) = org_at n (tenant_at w n)
+row_at p w (User n i) = user_row_at n i (tenant_at w n)
+
+-- ---- the whole
+
+-- as yet there are rows of users alone, and so no other parts
+pub record HasUsersAlone (t : Tenant) : Type 0 where
+  pub objects : t.objects ≡ []
+  pub roles : t.roles ≡ []
+  pub groups : t.groups ≡ []
+  pub rules : t.rules ≡ []
+  pub records : t.records ≡ []
+  pub shares : t.shares ≡ []
+  pub job : t.job ≡ None
+
+pub record StandsBy (p : Plan) (m : Tables) (w : World) : Type 0 where
+  pub world : IsWorld w
+  pub parts : AllByRecursion HasUsersAlone w
+  pub opened : p.opened ≡ false → w ≡ []
+  -- these rows, and no other
+  pub rows : Holds m (row_at p w)
+
+-- the tables stand for the world
+abbrev pub Stands : Tables → World → Type 0
+Stands m w = (p : Plan) × StandsBy p m w
+
+-- the version's row has a number that isn't known here
+pub record HasUnknownVersion (m : Tables) : Type 0 where
+  pub row : VersionRow
+  pub fits : FitsVersion row
+  pub kept : tables.row_at m 0 version_key ≡ Some (version_row row)
+  pub unknown : row.version ≢ known_version

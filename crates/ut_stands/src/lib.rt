@@ -1,0 +1,17 @@
+//! What it means that tables stand for a world, and the reads and writes of typed rows that all operations share.
+//!
+//! It stands on `ut_model` and `ut_keys`. Its contract: what is read of tables that stand for a world is what the world
+//! has there, and the rows of a new part make tables that stand for the world with it.
+#![tactic(auto)]
+
+mod fail;
+mod laws;
+mod opening;
+mod reads;
+mod rows;
+
+pub use crate::fail::{EditFail, OpenFail};
+pub use crate::laws::stands_laws;
+pub use crate::opening::open_tables;
+pub use crate::reads::{organisations, user};
+pub use crate::rows::{put_org, put_user, put_version, user_row, version_row};

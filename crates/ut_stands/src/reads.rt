@@ -1,0 +1,56 @@
+//! Reads of tables that stand for a world.
+
+ghost use Rattle.std.specs.Prelude.{IsErrOf, length};
+ghost use Rattle.std.specs.Option.{option_map};
+ghost use Rattle.ut_keeper.specs.Draft.{DraftReads, DraftTells, state_of, tables_of};
+ghost use Rattle.ut_keeper.specs.State.{KeeperCause};
+ghost use Rattle.ut_keys.specs.declared.fail.StoreFail.TheVariants.{Keeper};
+ghost use Rattle.ut_model.specs.World.{user_in};
+ghost use Rattle.ut_stands.specs.Reads.{FindsAs};
+ghost use Rattle.ut_stands.specs.Stands.{user_of};
+
+use crate::rows::{user_row, version_row};
+use std::alloc::Global;
+use ut_keeper::{Draft, Keeper};
+use ut_keys::{StoreFail, UserRow, row_laws};
+use ut_value::{Id, id_laws};
+
+/// How many organisations there are.
+///
+/// # Errors
+///
+/// `Keeper` where the keeper failed, `Memory` where memory ran out, `Damaged` never where the tables stand for a world.
+pub fn organisations<K: Keeper>(alloc: Global, draft: &mut Draft<'_, K>) -> Result<u32, StoreFail>
+    ensures finds { DraftTells K.state draft.old draft.new → FindsAs (λ w. length w) (tables_of K.state draft.old) result }
+    ensures reads { DraftReads K.state 0 draft.old draft.new }
+    ensures cause { KeeperCause (state_of K.state draft.old) (state_of K.state draft.new) (IsErrOf result Keeper) }
+{
+    row_laws();
+    match version_row(alloc, draft) {
+        Ok(None) => Ok(0),
+        Ok(Some(row)) => Ok(row.organisations),
+        Err(fail) => Err(fail),
+    }
+}
+
+/// The user of an organisation who has this id, as a row.
+///
+/// # Errors
+///
+/// `Keeper` where the keeper failed, `Memory` where memory ran out, `Damaged` never where the tables stand for a world.
+pub fn user<K: Keeper>(
+    alloc: Global,
+    draft: &mut Draft<'_, K>,
+    org: u32,
+    id: &Id,
+) -> Result<Option<UserRow>, StoreFail>
+    ensures finds { DraftTells K.state draft.old draft.new
+        → FindsAs (λ w. option_map (user_of org) (user_in w org id.now)) (tables_of K.state draft.old) result }
+    ensures reads { DraftReads K.state 0 draft.old draft.new }
+    ensures cause { KeeperCause (state_of K.state draft.old) (state_of K.state draft.new) (IsErrOf result Keeper) }
+{
+    row_laws();
+    id_laws();
+    let _ = id.as_bytes();
+    user_row(alloc, draft, org, id)
+}

@@ -13,7 +13,7 @@ mod reply;
 mod route;
 
 pub use crate::caller::Caller;
-pub use crate::laws::model_rows;
+pub use crate::laws::{model_rows, name_laws};
 pub use crate::limit::Limit;
 pub use crate::record::Record;
 pub use crate::refusal::Refusal;

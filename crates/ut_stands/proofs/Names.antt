@@ -14,24 +14,15 @@ use Rattle.ut_model.specs.Sound.{is_name, IsDrawn, IsRole, IsSoundRole, role_id}
 use Rattle.ut_model.specs.Tenant.{Tenant, Role}
 use Rattle.ut_model.specs.World.{role_prefix, with_id}
 
-pub both : (a b : Bool) → (a && b) ≡ true → (a ≡ true) × (b ≡ true)
-both true b h = (refl, h)
-both false b h = absurd cc
+-- what holds of names, as `ut_model` says
+abbrev pub NamesAreTexts : Type 0
+NamesAreTexts = (name : List ℕ) → IsTrue (is_name name) → all_scalars name ≡ true
 
--- at most four bytes a character
-four_each : (cs : List ℕ) → length (encode_utf8_all cs) ≤ 4 * length cs
-four_each [] = omega arith
-four_each (c ∷ cs) = omega (arith, four_each cs, length-append (encode_utf8 c) (encode_utf8_all cs), length-encode c, (len_utf8_bounds c).1)
+abbrev pub NamesAreShort : Type 0
+NamesAreShort = (name : List ℕ) → IsTrue (is_name name) → length (encode_utf8_all name) ≤ 320
 
-small : (n : ℕ) → nat_le n 80 ≡ true → n ≤ 80
-small n h = grind (arith, nat_tests)
-
-pub name_fits : (name : List ℕ) → IsTrue (is_name name) → FitsText name
-unfolding is_name
-name_fits name h =
-    let p = both (all_scalars name) _ h in
-    let q = both (nat_le 1 (length name)) (nat_le (length name) 80) p.1 in
-    (omega (arith, four_each name, small (length name) q.1), p.0)
+pub name_fits : NamesAreTexts → NamesAreShort → (name : List ℕ) → IsTrue (is_name name) → FitsText name
+name_fits texts short name h = (omega (arith, short name h), texts name h)
 
 -- what makes ids, as `ut_value` says
 abbrev pub MakesIds : Type 0

@@ -19,7 +19,7 @@ use Rattle.ut_model.specs.Tenant.{Tenant}
 use Rattle.ut_model.specs.World.{World, tenant_at, user_at, user_in, users_in, user_prefix}
 use Rattle.ut_stands.specs.Reads.{FindsAs, ReadsAs, UserAt}
 use Rattle.ut_stands.specs.Stands.{Stands, row_at, user_of, user_row_at}
-use Rattle.ut_stands.proofs.Names.{MakesIds, drawn_is_id, name_fits, role_is_id}
+use Rattle.ut_stands.proofs.Names.{MakesIds, NamesAreShort, NamesAreTexts, drawn_is_id, name_fits, role_is_id}
 
 -- one spelling under one key is of one row, as `ut_keys` says
 abbrev pub UserBegins : Type 0
@@ -61,13 +61,13 @@ found_tenant [] n t h e = absurd cc
 found_tenant (x ∷ w) zero t h e = subst IsSound (some_is x t e) h.0
 found_tenant (x ∷ w) (suc n) t h e = found_tenant w n t h.1 e
 
-module _ (makes : MakesIds) where
+module _ (makes : MakesIds) (texts : NamesAreTexts) (short : NamesAreShort) where
   sound_row : (org : ℕ) (i : List ℕ) (t : Tenant) (u : model.User) → org < 2 ^ 32 → IsSound t → (u.id ≡ i) × IsSoundUser t u → UserAt org i (user_of org u)
   sound_row org i t u lo st su = record {
     fits = record {
       org = lo;
       id = drawn_is_id makes user_prefix t.counter u.id refl refl su.1.id;
-      name = name_fits u.name su.1.name;
+      name = name_fits texts short u.name su.1.name;
       digest = su.1.digest;
       role = role_is_id makes t st.roles u.role su.1.role;
     };
@@ -98,12 +98,12 @@ same_row begins org i (Some a) (Some b) ha hb e =
 abbrev pub user_value : ℕ → List ℕ → World → Option UserRow
 user_value org i w = option_map (user_of org) (user_in w org i)
 
-pub user_finds : UserBegins → MakesIds → (m : Tables) (org : ℕ) (i : List ℕ) → org < 2 ^ 32 → IsTrue (is_id i) → (r : Result (Option UserRow) StoreFail) → ReadsAs user_row (UserAt org i) (map.get m (spell (User org i))) r → FindsAs (user_value org i) m r
-user_finds begins makes m org i lo id (Ok r) h = λ w s.
-    same_row begins org i r (user_value org i w) h.1 (fits_at makes m w org i s lo) (sym h.0 ∙ kept m w org i s lo id)
-user_finds begins makes m org i lo id (Err Damaged) d = λ w s. d (user_value org i w) (fits_at makes m w org i s lo) (kept m w org i s lo id)
-user_finds begins makes m org i lo id (Err Keeper) d = tt
-user_finds begins makes m org i lo id (Err Memory) d = tt
+pub user_finds : UserBegins → MakesIds → NamesAreTexts → NamesAreShort → (m : Tables) (org : ℕ) (i : List ℕ) → org < 2 ^ 32 → IsTrue (is_id i) → (r : Result (Option UserRow) StoreFail) → ReadsAs user_row (UserAt org i) (map.get m (spell (User org i))) r → FindsAs (user_value org i) m r
+user_finds begins makes texts short m org i lo id (Ok r) h = λ w s.
+    same_row begins org i r (user_value org i w) h.1 (fits_at makes texts short m w org i s lo) (sym h.0 ∙ kept m w org i s lo id)
+user_finds begins makes texts short m org i lo id (Err Damaged) d = λ w s. d (user_value org i w) (fits_at makes texts short m w org i s lo) (kept m w org i s lo id)
+user_finds begins makes texts short m org i lo id (Err Keeper) d = tt
+user_finds begins makes texts short m org i lo id (Err Memory) d = tt
 
 -- different keys stand at different places, as `ut_keys` says
 abbrev pub Apart : Type 0

@@ -5,13 +5,10 @@ ghost use Rattle.ut_keys.specs.declared.fail.StoreFail.TheVariants.{Keeper};
 ghost use Rattle.ut_stands.specs.Reads.{IsKeepers, KnowsAs, OpensAs};
 
 use crate::fail::OpenFail;
-use crate::rows::version_row;
+use crate::rows::{KNOWN_VERSION, version_row};
 use std::alloc::Global;
 use ut_keeper::{Draft, Keeper};
 use ut_keys::{StoreFail, row_laws};
-
-// The version of the forms that are written here.
-const KNOWN_VERSION: u32 = 1;
 
 // Whether the version is known.
 fn is_known<K: Keeper>(alloc: Global, draft: &mut Draft<'_, K>) -> Result<bool, StoreFail>

@@ -13,6 +13,7 @@ use crate::rows::{user_row, version_row};
 use std::alloc::Global;
 use ut_keeper::{Draft, Keeper};
 use ut_keys::{StoreFail, UserRow, row_laws};
+use ut_model::name_laws;
 use ut_value::{Id, id_laws};
 
 /// How many organisations there are.
@@ -51,6 +52,7 @@ pub fn user<K: Keeper>(
 {
     row_laws();
     id_laws();
+    name_laws();
     let _ = id.as_bytes();
     user_row(alloc, draft, org, id)
 }

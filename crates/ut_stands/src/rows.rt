@@ -8,6 +8,7 @@ ghost use Rattle.ut_keys.specs.declared.fail.StoreFail.TheVariants.{Keeper, Memo
 ghost use Rattle.ut_keys.specs.Keys.{Org, User, Version, spell};
 ghost use Rattle.ut_keys.specs.Rows.{version_row, FitsVersion, org_row, user_row};
 ghost use Rattle.ut_stands.specs.Reads.{ReadsAs, UserAt};
+ghost use Rattle.ut_stands.specs.Stands.{known_version};
 
 use std::alloc::Global;
 use ut_keeper::{Draft, Keeper};
@@ -20,6 +21,9 @@ const VERSIONS: u8 = 0;
 const ORGS: u8 = 1;
 
 const PEOPLE: u8 = 5;
+
+// The version of the forms that are written here.
+pub(crate) const KNOWN_VERSION: u32 = 1;
 
 /// The row of the version, if there is one.
 ///
@@ -68,7 +72,7 @@ pub fn user_row<K: Keeper>(
     }
 }
 
-/// From now on this is the row of the version.
+/// From now on the tables are of the known version, and there are so many organisations.
 ///
 /// # Errors
 ///
@@ -76,12 +80,17 @@ pub fn user_row<K: Keeper>(
 pub fn put_version<K: Keeper>(
     alloc: Global,
     draft: &mut Draft<'_, K>,
-    row: &VersionRow,
+    organisations: u32,
 ) -> Result<(), StoreFail>
-    ensures ok { OnOk result (tables_of K.state draft.new ≡ map.insert (tables_of K.state draft.old) (spell Version) (version_row row.now)) }
+    ensures ok { OnOk result (tables_of K.state draft.new ≡ map.insert (tables_of K.state draft.old) (spell Version)
+        (version_row (record { version = known_version; organisations = organisations }))) }
     ensures err { IfErr result (λ e. e ≡ Memory) }
     ensures works { DraftWorks K.state 1 0 0 draft.old draft.new }
 {
+    let row = VersionRow {
+        version: KNOWN_VERSION,
+        organisations,
+    };
     let key = row.key(alloc)?;
     let bytes = row.write(alloc)?;
     draft.put(alloc, VERSIONS, key, bytes)?;

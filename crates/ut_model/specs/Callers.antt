@@ -1,7 +1,7 @@
 -- Who calls: the user whom a key `ORG!USER!SECRET` names and whose secret it has.
 use Rattle.std.specs.Prelude.{ℕ, Bool, ◌&&◌, ◌||◌, ◌==◌, nat_lt, if◌then◌else◌, List, [], length, take, drop, Option, Some, None}
 use Rattle.std.specs.List.{position_or_len, before_first, after_first}
-use Rattle.std.specs.Option.{option_and_then}
+use Rattle.std.specs.Option.{option_and_then, option_map}
 use Rattle.std.specs.Str.{bytes_eq}
 use Rattle.sha2.specs.Sha256.{sha256}
 use Rattle.ut_value.specs.Id.{is_id, number_in, suffix}
@@ -27,9 +27,12 @@ pub record Named : Type 0 where
   pub user : List ℕ
   pub secret : List ℕ
 
+-- the number of the organisation and the id of the user that two texts name
+abbrev pub named_ids : List ℕ → List ℕ → Option (ℕ × List ℕ)
+named_ids org user = option_and_then (λ o. option_and_then (λ u. option_map (λ n. (n, u)) (number_in org_prefix o)) (id_in user)) (id_in org)
+
 abbrev pub named_by : List ℕ → List ℕ → List ℕ → Option Named
-named_by org user secret =
-    option_and_then (λ o. option_and_then (λ u. option_and_then (λ n. Some (record { org = n; user = u; secret = secret })) (number_in org_prefix o)) (id_in user)) (id_in org)
+named_by org user secret = option_map (λ ids. record { org = ids.0; user = ids.1; secret = secret }) (named_ids org user)
 
 -- a key is cut at its first two `!`
 abbrev pub named : List ℕ → Option Named

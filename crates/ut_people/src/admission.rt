@@ -1,0 +1,133 @@
+ghost use Rattle.std.specs.Prelude.{◌≡◌, IsErrOf, MatchOption, None, Some, length};
+ghost use Rattle.sha2.specs.Sha256.{sha256};
+ghost use Rattle.ut_keeper.specs.Draft.{DraftReads, DraftTells, state_of, tables_of};
+ghost use Rattle.ut_keeper.specs.State.{KeeperCause};
+ghost use Rattle.ut_keys.specs.declared.fail.StoreFail.TheVariants.{Keeper};
+ghost use Rattle.ut_model.specs.Callers.{caller_in, cut, id_in, named_ids};
+ghost use Rattle.ut_people.specs.People.{admitted_row, caller_of};
+ghost use Rattle.ut_stands.specs.Reads.{FindsAs};
+
+use sha2::{Digest, Sha256};
+use std::alloc::Global;
+use ut_keeper::{Draft, Keeper, draft_laws};
+use ut_keys::{StoreFail, UserRow};
+use ut_model::Caller;
+use ut_stands::user;
+use ut_value::Id;
+
+// The prefix of organisations' ids.
+const ORG_PREFIX: [u8; 3] = *b"00D";
+
+/// The SHA-256 digest of a secret's bytes.
+pub(crate) fn digest_of(secret: &str) -> [u8; 32]
+    ensures value { result ≡ sha256 secret.now }
+    ensures size { length result ≡ 32 }
+{
+    Sha256::digest(secret.as_bytes())
+}
+
+// What stands before and behind the first `!`, if there is one.
+#[tactic(auto, unfolding(ut_model::specs::Callers::cut))]
+fn cut(text: &str) -> Option<(&str, &str)>
+    ensures { MatchOption result (cut text.now ≡ None) (λ x. cut text.now ≡ Some (x.0.now, x.1.now)) }
+{
+    text.split_once('!')
+}
+
+// The id that a text spells.
+fn id_in(text: &str) -> Option<Id>
+    ensures { result ≡ id_in text.now }
+{
+    match Id::read(text) {
+        Ok(id) => {
+            let _ = id.as_bytes();
+            Some(id)
+        }
+        Err(_) => None,
+    }
+}
+
+// The number of the organisation and the id of the user that these texts name.
+fn named_by(org: &str, user: &str) -> Option<(u64, Id)>
+    ensures { MatchOption result (named_ids org.now user.now ≡ None) (λ x. named_ids org.now user.now ≡ Some (x.0, x.1)) }
+{
+    match id_in(org) {
+        None => None,
+        Some(org) => match id_in(user) {
+            None => None,
+            Some(user) => match org.number(ORG_PREFIX) {
+                None => None,
+                Some(number) => Some((number, user)),
+            },
+        },
+    }
+}
+
+// The caller whom a user's row gives, if the secret is the user's.
+fn admitted(secret: &str, row: &UserRow) -> Option<Caller>
+    ensures { result ≡ admitted_row (sha256 secret.now) row.now }
+{
+    if row.digest == digest_of(secret) {
+        Some(Caller {
+            org: row.org,
+            user: row.id,
+            admin: row.admin,
+        })
+    } else {
+        None
+    }
+}
+
+// The caller with this secret, who has this id in the organisation with this number.
+fn caller_with<K: Keeper>(
+    alloc: Global,
+    draft: &mut Draft<'_, K>,
+    org: u64,
+    id: &Id,
+    secret: &str,
+) -> Result<Option<Caller>, StoreFail>
+    ensures finds { DraftTells K.state draft.old draft.new
+        → FindsAs (caller_of (record { org = org; user = id.now; secret = secret.now })) (tables_of K.state draft.old) result }
+    ensures reads { DraftReads K.state 0 draft.old draft.new }
+    ensures cause { KeeperCause (state_of K.state draft.old) (state_of K.state draft.new) (IsErrOf result Keeper) }
+{
+    draft_laws::<K>();
+    let Ok(org) = u32::try_from(org) else {
+        // There are fewer organisations.
+        return Ok(None);
+    };
+    match user(alloc, draft, org, id) {
+        Ok(Some(row)) => Ok(admitted(secret, &row)),
+        Ok(None) => Ok(None),
+        Err(fail) => Err(fail),
+    }
+}
+
+/// The caller whom a key `ORG!USER!SECRET` names and whose secret it has. The key is cut at its first two `!`; ids have 15
+/// or 18 characters.
+///
+/// # Errors
+///
+/// `Keeper` where the keeper failed, `Memory` where memory ran out, `Damaged` never where the tables stand for a world.
+pub fn caller<K: Keeper>(
+    alloc: Global,
+    draft: &mut Draft<'_, K>,
+    key: &str,
+) -> Result<Option<Caller>, StoreFail>
+    ensures finds { DraftTells K.state draft.old draft.new
+        → FindsAs (λ w. caller_in w key.now) (tables_of K.state draft.old) result }
+    ensures reads { DraftReads K.state 0 draft.old draft.new }
+    ensures cause { KeeperCause (state_of K.state draft.old) (state_of K.state draft.new) (IsErrOf result Keeper) }
+{
+    draft_laws::<K>();
+    let Some((org, rest)) = cut(key) else {
+        return Ok(None);
+    };
+    let Some((id, secret)) = cut(rest) else {
+        return Ok(None);
+    };
+    match named_by(org, id) {
+        None => Ok(None),
+        Some((org, id)) => caller_with(alloc, draft, org, &id, secret),
+    }
+}

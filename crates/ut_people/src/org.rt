@@ -1,0 +1,120 @@
+ghost use Rattle.std.specs.Prelude.{◌≡◌, [], IsTrue, IfErr, IfOk, OnOk};
+ghost use Rattle.std.specs.Str.{chars};
+ghost use Rattle.sha2.specs.Sha256.{sha256};
+ghost use Rattle.ut_keeper.specs.Draft.{DraftReads, DraftTells, DraftWorks, state_of, tables_of};
+ghost use Rattle.ut_keeper.specs.State.{KeeperCause};
+ghost use Rattle.ut_keys.specs.declared.fail.StoreFail.TheVariants.{Memory};
+ghost use Rattle.ut_model.specs.Organisations.{administrator, fresh, is_secret};
+ghost use Rattle.ut_model.specs.Sound.{is_name};
+ghost use Rattle.ut_model.specs.World.{World};
+ghost use Rattle.ut_people.specs.People.{AddsAs, IsKeepers, IsRefusal, with_rows};
+ghost use Rattle.ut_stands.specs.Stands.{Stands, org_of, user_of};
+
+use crate::admission::digest_of;
+use std::alloc::{AllocError, Global};
+use ut_keeper::{Draft, Keeper, draft_laws};
+use ut_keys::{OrgRow, StoreFail, UserRow};
+use ut_model::{Limit, Refusal, name_laws};
+use ut_stands::{EditFail, organisations, put_org, put_user, put_version, stands_laws};
+use ut_value::{Id, Text};
+
+// The prefix of users' ids.
+const USER_PREFIX: [u8; 3] = *b"005";
+
+// The row of a new organisation, which has one user.
+fn org_row_of(alloc: Global, org: u32, name: &str) -> Result<OrgRow, AllocError>
+    ensures { IfOk result (λ row. row ≡ org_of org (fresh (chars name.now) [])) }
+{
+    Ok(OrgRow {
+        org,
+        name: Text::from_str(alloc, name)?,
+        counter: 1,
+        objects: 0,
+        records: 0,
+        users: 1,
+        roles: 0,
+        groups: 0,
+        sharing_rules: 0,
+        rule_numbers: 0,
+    })
+}
+
+// The row of its administrator.
+fn administrator_of(
+    alloc: Global,
+    org: u32,
+    name: &str,
+    digest: [u8; 32],
+) -> Result<UserRow, AllocError>
+    ensures { IfOk result (λ row. row ≡ user_of org (administrator (chars name.now) digest)) }
+{
+    Ok(UserRow {
+        org,
+        id: Id::new(USER_PREFIX, 0),
+        name: Text::from_str(alloc, name)?,
+        digest,
+        role: None,
+        admin: true,
+    })
+}
+
+// Puts the rows of a new organisation with this number.
+fn put_rows<K: Keeper>(
+    alloc: Global,
+    draft: &mut Draft<'_, K>,
+    org: u32,
+    name: &str,
+    digest: [u8; 32],
+) -> Result<(), StoreFail>
+    requires { IsTrue (is_name (chars name.now)) }
+    ensures works { DraftWorks K.state 3 0 0 draft.old draft.new }
+    ensures ok { OnOk result (tables_of K.state draft.new ≡ with_rows org (chars name.now) digest (tables_of K.state draft.old)) }
+    ensures err { IfErr result (λ e. e ≡ Memory) }
+{
+    draft_laws::<K>();
+    name_laws();
+    put_version(alloc, draft, org)?;
+    put_org(alloc, draft, &org_row_of(alloc, org, name)?)?;
+    put_user(alloc, draft, &administrator_of(alloc, org, name, digest)?)?;
+    Ok(())
+}
+
+/// Adds an organisation with this name, whose administrator has its name and this secret, and answers its number.
+///
+/// # Errors
+///
+/// `Refused` with `LimitExceeded` exactly where there are 10,000 organisations; nothing is then changed. `Store` with
+/// `Keeper` where the keeper failed, with `Memory` where memory ran out, with `Damaged` never where the tables stand for
+/// a world.
+pub fn add_org<K: Keeper>(
+    alloc: Global,
+    draft: &mut Draft<'_, K>,
+    name: &str,
+    secret: &str,
+) -> Result<u32, EditFail>
+    requires name { IsTrue (is_name (chars name.now)) }
+    requires secret { IsTrue (is_secret secret.now) }
+    ensures adds { DraftTells K.state draft.old draft.new
+        → (w : World) → Stands (tables_of K.state draft.old) w
+        → AddsAs w (chars name.now) (sha256 secret.now) (tables_of K.state draft.new) result }
+    ensures refused { IfErr result (λ e. IsRefusal e → DraftReads K.state 0 draft.old draft.new) }
+    ensures works { DraftWorks K.state 3 0 0 draft.old draft.new }
+    ensures cause { KeeperCause (state_of K.state draft.old) (state_of K.state draft.new) (IsKeepers result) }
+{
+    draft_laws::<K>();
+    stands_laws();
+    let count = match organisations(alloc, draft) {
+        Ok(count) => count,
+        Err(fail) => return Err(EditFail::Store(fail)),
+    };
+    if u64::from(count) >= Limit::Organisations.number() {
+        return Err(EditFail::Refused(Refusal::LimitExceeded {
+            limit: Limit::Organisations,
+        }));
+    }
+    let org = count + 1;
+    match put_rows(alloc, draft, org, name, digest_of(secret)) {
+        Ok(()) => Ok(org),
+        Err(fail) => Err(EditFail::Store(fail)),
+    }
+}

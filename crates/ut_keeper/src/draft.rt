@@ -140,6 +140,7 @@ impl<'a, K: Keeper> Draft<'a, K> {
         ensures works { DraftWorks K.state 1 0 0 self.old self.new }
         ensures ok { OnOk result (tables_of K.state self.new
             ≡ after_change (Put table key row) (tables_of K.state self.old)) }
+        ensures some { OnOk result (0 < count_of self.new) }
         ensures err { OnErr result (DraftReads K.state 0 self.old self.new) }
     {
         self.changes.insert(Place::new(table, key), Some(row))?;
@@ -156,6 +157,7 @@ impl<'a, K: Keeper> Draft<'a, K> {
         ensures works { DraftWorks K.state 1 (data_rows table 1) 0 self.old self.new }
         ensures ok { OnOk result (tables_of K.state self.new
             ≡ after_change (Remove table key) (tables_of K.state self.old)) }
+        ensures some { OnOk result (0 < count_of self.new) }
         ensures err { OnErr result (DraftReads K.state 0 self.old self.new) }
     {
         self.changes.insert(Place::new(table, key), None)?;

@@ -1,7 +1,7 @@
-ghost use Rattle.std.specs.Prelude.{◌≡◌, [], IsTrue, IfErr, IfOk, OnOk};
+ghost use Rattle.std.specs.Prelude.{◌≡◌, ◌<◌, [], IsTrue, IfErr, IfOk, OnOk};
 ghost use Rattle.std.specs.Str.{chars};
 ghost use Rattle.sha2.specs.Sha256.{sha256};
-ghost use Rattle.ut_keeper.specs.Draft.{DraftReads, DraftTells, DraftWorks, state_of, tables_of};
+ghost use Rattle.ut_keeper.specs.Draft.{DraftReads, DraftTells, DraftWorks, count_of, state_of, tables_of};
 ghost use Rattle.ut_keeper.specs.State.{KeeperCause};
 ghost use Rattle.ut_keys.specs.declared.fail.StoreFail.TheVariants.{Memory};
 ghost use Rattle.ut_model.specs.Organisations.{administrator, fresh, is_secret};
@@ -69,6 +69,7 @@ fn put_rows<K: Keeper>(
     requires { IsTrue (is_name (chars name.now)) }
     ensures works { DraftWorks K.state 3 0 0 draft.old draft.new }
     ensures ok { OnOk result (tables_of K.state draft.new ≡ with_rows org (chars name.now) digest (tables_of K.state draft.old)) }
+    ensures some { OnOk result (0 < count_of draft.new) }
     ensures err { IfErr result (λ e. e ≡ Memory) }
 {
     draft_laws::<K>();
@@ -97,6 +98,7 @@ pub fn add_org<K: Keeper>(
     ensures adds { DraftTells K.state draft.old draft.new
         → (w : World) → Stands (tables_of K.state draft.old) w
         → AddsAs w (chars name.now) (sha256 secret.now) (tables_of K.state draft.new) result }
+    ensures some { OnOk result (0 < count_of draft.new) }
     ensures refused { IfErr result (λ e. IsRefusal e → DraftReads K.state 0 draft.old draft.new) }
     ensures works { DraftWorks K.state 3 0 0 draft.old draft.new }
     ensures cause { KeeperCause (state_of K.state draft.old) (state_of K.state draft.new) (IsKeepers result) }

@@ -2,7 +2,7 @@
 
 ghost use Rattle.std.specs.Prelude.{◌≡◌, ◌<◌, ◌^◌, length, IfErr, OnOk, IsErrOf, encode_utf8_all};
 ghost use Rattle.std.specs.FinMap as map;
-ghost use Rattle.ut_keeper.specs.Draft.{DraftReads, DraftTells, DraftWorks, state_of, tables_of};
+ghost use Rattle.ut_keeper.specs.Draft.{DraftReads, DraftTells, DraftWorks, count_of, state_of, tables_of};
 ghost use Rattle.ut_keeper.specs.State.{KeeperCause};
 ghost use Rattle.ut_keys.specs.declared.fail.StoreFail.TheVariants.{Keeper, Memory};
 ghost use Rattle.ut_keys.specs.Keys.{Org, User, Version, spell};
@@ -85,6 +85,7 @@ pub fn put_version<K: Keeper>(
     ensures ok { OnOk result (tables_of K.state draft.new ≡ map.insert (tables_of K.state draft.old) (spell Version)
         (version_row (record { version = known_version; organisations = organisations }))) }
     ensures err { IfErr result (λ e. e ≡ Memory) }
+    ensures some { OnOk result (0 < count_of draft.new) }
     ensures works { DraftWorks K.state 1 0 0 draft.old draft.new }
 {
     let row = VersionRow {
@@ -110,6 +111,7 @@ pub fn put_org<K: Keeper>(
     requires { length (encode_utf8_all row.now.name) < 2 ^ 32 }
     ensures ok { OnOk result (tables_of K.state draft.new ≡ map.insert (tables_of K.state draft.old) (spell (Org row.now.org)) (org_row row.now)) }
     ensures err { IfErr result (λ e. e ≡ Memory) }
+    ensures some { OnOk result (0 < count_of draft.new) }
     ensures works { DraftWorks K.state 1 0 0 draft.old draft.new }
 {
     let key = row.key(alloc)?;
@@ -131,6 +133,7 @@ pub fn put_user<K: Keeper>(
     requires { length (encode_utf8_all row.now.name) < 2 ^ 32 }
     ensures ok { OnOk result (tables_of K.state draft.new ≡ map.insert (tables_of K.state draft.old) (spell (User row.now.org row.now.id)) (user_row row.now)) }
     ensures err { IfErr result (λ e. e ≡ Memory) }
+    ensures some { OnOk result (0 < count_of draft.new) }
     ensures works { DraftWorks K.state 1 0 0 draft.old draft.new }
 {
     let key = row.key(alloc)?;

@@ -10,7 +10,8 @@ use Rattle.ut_keys.specs.declared.user.UserRow.{UserRow}
 use Rattle.ut_keys.specs.Fields.{same_bytes, number16, number32, number64, number_at, text, text_at, FitsText, id_at, truth, truth_at, optional, optional_at, mark_at, fixed_at, pair_at}
 use Rattle.ut_keys.specs.Gives.{Gives}
 use Rattle.ut_keys.specs.Rows.{version_key, version_row, make_version, read_version, FitsVersion, org_key, org_row, OrgParts, make_org, org_parts_at, read_org, FitsOrg, user_key, user_row, make_user, read_user, FitsUser}
-use Rattle.ut_keys.proofs.Codec.{IsBytes, IsField, some_is, number16_field, number32_field, number64_field, id_field, text_field, truth_field, optional_field, mark_field, fixed_field, nothing_field, pair_field, both_is, both_again}
+use Rattle.ut_keys.specs.PartLaws.{IsBytes, IsField}
+use Rattle.ut_keys.proofs.Codec.{some_is, number16_field, number32_field, number64_field, id_field, text_field, truth_field, optional_field, mark_field, fixed_field, nothing_field, pair_field, both_is, both_again}
 
 pub if_ok : {X : Type 0} (P : X → Type 0) (result : Result X CodecFail) (read : Option X) → Gives result read → ((x : X) → read ≡ Some x → P x) → IfOk result P
 if_ok P (Ok x) read g f = f x g

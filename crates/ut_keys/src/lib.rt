@@ -10,17 +10,29 @@ mod keys;
 mod laws;
 mod org;
 mod reading;
+mod reading_parts;
 mod user;
 mod version;
 mod writing;
+mod writing_parts;
 
 pub use crate::fail::{CodecFail, StoreFail};
 pub use crate::intervals::users_of;
 pub use crate::keys::{key_of_org, key_of_user};
-pub use crate::laws::{key_order_laws, row_laws, table_laws};
+pub use crate::laws::{key_order_laws, part_laws, part_order_laws, row_laws, table_laws};
 pub use crate::org::OrgRow;
 pub use crate::user::UserRow;
 pub use crate::version::VersionRow;
 
+// Parts that later tables use.
+pub use crate::reading_parts::{
+    i64_at, optional_text_of, ordered_of, principal_of, principals_of, texts_of, u8_at,
+};
+pub use crate::writing_parts::{
+    put_i64, put_optional_text, put_ordered, put_principal, put_principals, put_texts,
+};
+
+#[cfg(test)]
+mod part_tests;
 #[cfg(test)]
 mod tests;

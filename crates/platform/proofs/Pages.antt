@@ -1,17 +1,14 @@
 -- The page of an input, and how a run ends.
-use Rattle.std.proofs.Common.{◌≡◌, ◌≤◌, ℕ, ◌+◌, List, [], ◌∷◌, ◌++◌, length, drop, map, Option, Some, nat_le, true, refl, sym, ap, ◌∙◌, rules, IsTrue, Err, codes}
+use Rattle.std.proofs.Common.{◌≡◌, ◌≤◌, ℕ, ◌+◌, List, [], ◌∷◌, ◌++◌, length, drop, map, Some, nat_le, true, refl, sym, ap, ◌∙◌, rules, IsTrue, codes}
 use Rattle.std.specs.List.{AllByRecursion, list_all}
 use Rattle.std.proofs.lemmas.List.Elements.{All-from_recursion}
 use Rattle.csv.specs.Records.{Row, fields_of}
 use Rattle.ut_keeper.specs.declared.keeper.KeptRow.{KeptRow}
 use Rattle.ut_table.specs.Table.{table_of}
 use Rattle.ut_value.specs.Id.{is_digit62, is_id, made}
-use Rattle.platform.specs.Csvq.{Printed, answer, heading_line, is_table, lines, rows_in}
+use Rattle.platform.specs.Printed.{Printed}
+use Rattle.platform.specs.Csvq.{answer, heading_line, is_table, lines, rows_in}
 use Rattle.platform.specs.Kept.{AreIds, kept, kept_lines}
-use Rattle.platform.specs.Endings.{Ends, Stops, stop_status}
-use Rattle.platform.specs.Endings.Ends.{no_memory, sink_failed, source_failed}
-use Rattle.platform.specs.declared.stop.Stop.{Stop}
-use Rattle.platform.specs.declared.stop.Stop.TheVariants.{NoMemory, SinkFailed, SourceFailed}
 use Rattle.platform.proofs.Lines.{kept_lines-kept}
 
 drop-map : (rows : List Row) → drop 1 (map fields_of rows) ≡ map fields_of (drop 1 rows)
@@ -39,9 +36,3 @@ each_id law number (cells ∷ rest) = (law (codes "a00") number refl refl, each_
 
 pub ids_kept : Made → (number : ℕ) (rows : List (List (List ℕ))) → AreIds (kept number rows)
 ids_kept law number rows = All-from_recursion (λ (r : KeptRow). IsTrue (is_id r.key)) (kept number rows) (each_id law number rows)
-
--- what stopped a command ends the run
-pub stop_ends : (p : Printed) (old new : Option (List ℕ)) (stop : Stop) → Stops p old new (Err stop) → Ends p old new (stop_status stop)
-stop_ends p old new NoMemory h = no_memory refl h
-stop_ends p old new SinkFailed h = sink_failed refl h
-stop_ends p old new SourceFailed h = source_failed refl h

@@ -6,14 +6,10 @@ use Rattle.std.specs.List.{list_all}
 use Rattle.std.specs.Str.{bytes_eq, chars}
 use Rattle.csv.specs.Records.{field_at}
 use Rattle.csv.specs.Writing.{default_writer, row_text}
+use Rattle.platform.specs.Printed.{Printed}
 use Rattle.ut_soql.specs.Reading.{asks_for_rows}
 use Rattle.ut_table.specs.Table.{table_of}
 use Rattle.ut_value.specs.Id.{made, print18}
-
--- a text, and a status that tells of it: 0 where the command was done, 65 where it was refused
-pub record Printed : Type 0 where
-  pub text : List ℕ
-  pub status : ℕ
 
 -- what isn't built yet, in one word
 abbrev pub refusal : List ℕ → Printed

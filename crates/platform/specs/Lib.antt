@@ -1,5 +1,8 @@
-pub mod Commands
+pub mod Printed
 pub mod Csvq
+pub mod OrgAdd
+pub mod Commands
 pub mod Endings
 pub mod Kept
 pub mod Words
+pub mod Judged

@@ -5,6 +5,8 @@ ghost use Rattle.platform.specs.Commands.{command_of};
 pub(crate) enum Words<'a> {
     /// `csvq QUERY`
     Csvq(&'a str),
+    /// `org-add NAME SECRET`
+    OrgAdd(&'a str, &'a str),
     /// No command.
     Other,
 }
@@ -16,6 +18,8 @@ pub(crate) fn read_words(words: &[String]) -> Words<'_>
 {
     if words.len() == 2 && words[0].as_bytes() == b"csvq".as_slice() {
         Words::Csvq(words[1].as_str())
+    } else if words.len() == 3 && words[0].as_bytes() == b"org-add".as_slice() {
+        Words::OrgAdd(words[1].as_str(), words[2].as_str())
     } else {
         Words::Other
     }

@@ -1,26 +1,10 @@
-ghost use Rattle.std.specs.Prelude.{◌≡◌, ◌≢◌, ◌≤◌, ◌⊎◌, length, IfOk, IsErrOf, false, List, ℕ};
-ghost use Rattle.std.specs.Io.KnownBytes.{IsAtEnd};
-ghost use Rattle.ut_value.specs.Causes.{Cause};
-ghost use Rattle.platform.specs.Commands.{IsInput, needs_input, printed};
-ghost use Rattle.platform.specs.Commands.Command.{csvq};
-ghost use Rattle.platform.specs.Csvq.{answer, refusal, rows_in};
-ghost use Rattle.platform.specs.declared.stop.Stop.TheVariants.{SinkFailed, SourceFailed};
+ghost use Rattle.std.specs.Prelude.{◌≡◌, ◌⊎◌, IfOk};
+ghost use Rattle.std.specs.String.{string_bytes};
+ghost use Rattle.platform.specs.Printed.{refused, refused_line};
 
-use crate::kept::kept_rows;
-use crate::rows::is_table;
-use crate::stop::Stop;
-use crate::text::text_of;
 use std::alloc::{AllocError, Global};
 use std::marker::Model;
-use ut_io::{ReadFail, Source, read_all};
-use ut_soql::asks_for_rows;
-use ut_table::{TableFail, read_table};
-use ut_value::id_laws;
-
-// The most bytes of an input, and the most records of it, the heading included.
-const INPUT_LIMIT: usize = 67_108_864;
-
-const RECORD_LIMIT: usize = 20_001;
+use ut_model::Refusal;
 
 /// What a command prints, made before anything of it is written.
 #[derive(Drop)]
@@ -30,7 +14,7 @@ pub(crate) struct Page {
 }
 
 impl Model for Page {
-    ghost use Rattle.platform.specs.Csvq.{Printed};
+    ghost use Rattle.platform.specs.Printed.{Printed};
     ghost use Rattle.std.specs.Prelude.{◌≡◌, ◌⊎◌};
 
     ghost Value = { Printed };
@@ -41,6 +25,20 @@ impl Model for Page {
 }
 
 impl Page {
+    /// The page of a command that was done.
+    pub(crate) fn done(text: Vec<u8>) -> Page
+        ensures { result ≡ record { text = text.items; status = 0 } }
+    {
+        Page { text, status: 0 }
+    }
+
+    /// The page of a command that was refused.
+    pub(crate) fn refused(text: Vec<u8>) -> Page
+        ensures { result ≡ record { text = text.items; status = 65 } }
+    {
+        Page { text, status: 65 }
+    }
+
     pub(crate) fn text(&self) -> &[u8]
         ensures { result.now ≡ self.now.text }
     {
@@ -55,54 +53,23 @@ impl Page {
     }
 }
 
-fn refusal(alloc: Global, what: &str) -> Result<Page, AllocError>
-    ensures { IfOk result (λ p. p ≡ refusal what.now) }
+/// The page that says why a command is refused.
+pub(crate) fn refusal_page(alloc: Global, refusal: Refusal) -> Result<Page, AllocError>
+    ensures { IfOk result (λ p. p ≡ refused refusal) }
 {
-    let text = format!(in alloc; "refused: NOT_BUILT: {what}\n")?;
-    Ok(Page {
-        text: text.into_bytes(),
-        status: 65,
-    })
+    page_of_refusal(alloc, &refusal)
 }
 
-// The page of an input that is short enough.
-fn input_page(alloc: Global, bytes: &[u8]) -> Result<Page, AllocError>
-    requires { length bytes.now ≤ 67108864 }
-    ensures { IfOk result (λ p. p ≡ answer (rows_in bytes.now)) }
+fn page_of_refusal(alloc: Global, refusal: &Refusal) -> Result<Page, AllocError>
+    ensures { IfOk result (λ p. p ≡ refused refusal.now) }
 {
-    id_laws();
-    match read_table(alloc, bytes, RECORD_LIMIT) {
-        Ok(records) => {
-            if !is_table(&records) {
-                return refusal(alloc, "input");
-            }
-            let rows = kept_rows(alloc, &records[1..])?;
-            Ok(Page {
-                text: text_of(alloc, &rows)?,
-                status: 0,
-            })
-        }
-        Err(TableFail::Refused) => refusal(alloc, "input"),
-        Err(TableFail::Memory) => Err(AllocError),
-    }
+    let message = refusal.message(alloc)?;
+    let text = refusal_line(alloc, refusal.code(), message.as_str())?;
+    Ok(Page::refused(text.into_bytes()))
 }
 
-/// The page of `csvq` with this query over the source's bytes. A query that isn't served reads nothing.
-pub(crate) fn page_of<S: Source>(alloc: Global, query: &str, source: &mut S) -> Result<Page, Stop>
-    ensures page { IfOk result (λ p. (bytes : List ℕ) → IsInput (csvq query.now) (S.left source.old) bytes → p ≡ printed (csvq query.now) bytes) }
-    ensures unread { needs_input (csvq query.now) ≡ false → source.new ≡ source.old }
-    ensures whole { IfOk result (λ p. p.status ≡ 0 → IsAtEnd (S.left source.new)) }
-    ensures stays { S.stays source.old source.new }
-    ensures cause { Cause (S.faults source.old) (S.faults source.new) (IsErrOf result SourceFailed) }
-    ensures reads { IsErrOf result SinkFailed → ⊥ }
+fn refusal_line(alloc: Global, code: &str, message: &str) -> Result<String, AllocError>
+    ensures { IfOk result (λ text. string_bytes text ≡ refused_line code.now message.now) }
 {
-    if !asks_for_rows(alloc, query)? {
-        return Ok(refusal(alloc, "query")?);
-    }
-    match read_all(alloc, source, INPUT_LIMIT) {
-        Ok(bytes) => Ok(input_page(alloc, bytes.as_slice())?),
-        Err(ReadFail::TooLong) => Ok(refusal(alloc, "input")?),
-        Err(ReadFail::Failed) => Err(Stop::SourceFailed),
-        Err(ReadFail::Memory) => Err(Stop::NoMemory),
-    }
+    format!(in alloc; "refused: {code}: {message}\n")
 }

@@ -1,18 +1,27 @@
 ghost use Rattle.std.specs.Prelude.{◌≡◌};
 ghost use Rattle.platform.specs.Endings.{stop_status};
+ghost use Rattle.platform.specs.Judged.{of_opening, of_store};
 ghost use Rattle.platform.specs.declared.stop.Stop.TheVariants.{NoMemory};
 
 use std::alloc::AllocError;
+use ut_keys::StoreFail;
+use ut_stands::OpenFail;
 
 /// What cuts a command short.
 #[derive(Clone, Copy, Debug, PartialEq, Eq)]
 pub enum Stop {
     /// Memory ran out.
     NoMemory,
+    /// The keeper failed.
+    KeeperFailed,
     /// The sink failed.
     SinkFailed,
     /// The source failed.
     SourceFailed,
+    /// The tables are damaged.
+    Damaged,
+    /// The tables are of a version that isn't known here.
+    UnknownVersion,
 }
 
 impl Stop {
@@ -22,8 +31,11 @@ impl Stop {
     {
         match self {
             Stop::NoMemory => 71,
+            Stop::KeeperFailed => 72,
             Stop::SinkFailed => 73,
             Stop::SourceFailed => 74,
+            Stop::Damaged => 76,
+            Stop::UnknownVersion => 77,
         }
     }
 }
@@ -33,5 +45,28 @@ impl From<AllocError> for Stop {
 
     fn from(_error: AllocError) -> Stop {
         Stop::NoMemory
+    }
+}
+
+impl From<StoreFail> for Stop {
+    ghost from_gives = { λ fail e. e ≡ of_store fail };
+
+    fn from(fail: StoreFail) -> Stop {
+        match fail {
+            StoreFail::Keeper => Stop::KeeperFailed,
+            StoreFail::Memory => Stop::NoMemory,
+            StoreFail::Damaged => Stop::Damaged,
+        }
+    }
+}
+
+impl From<OpenFail> for Stop {
+    ghost from_gives = { λ fail e. e ≡ of_opening fail };
+
+    fn from(fail: OpenFail) -> Stop {
+        match fail {
+            OpenFail::Store(fail) => Stop::from(fail),
+            OpenFail::UnknownVersion => Stop::UnknownVersion,
+        }
     }
 }

@@ -1,40 +1,7 @@
-use crate::run;
+use crate::given::{Given, ran};
 use std::alloc::{AllocError, Global};
-use ut_io::{MemoryClock, MemoryDoor, MemorySink, MemorySource};
-use ut_keeper::MemoryKeeper;
 
 const QUERY: &str = "SELECT Id, Name FROM Row__c";
-
-// What is handed to a run: an input, the reads that fail, the room of the sink, and the writes that fail.
-#[derive(Drop)]
-struct Given<'a> {
-    input: &'a [u8],
-    reads_failing: &'a [u64],
-    room: usize,
-    writes_failing: &'a [u64],
-}
-
-fn ran(alloc: Global, words: &[&str], given: &Given<'_>) -> Result<(u8, MemorySink), AllocError> {
-    let mut keeper = MemoryKeeper::new(alloc, &[])?;
-    let mut door = MemoryDoor::new(alloc, &[], 0, &[])?;
-    let mut source = MemorySource::new(alloc, given.input, given.reads_failing)?;
-    let mut sink = MemorySink::new(alloc, given.room, given.writes_failing)?;
-    let mut clock = MemoryClock::new(alloc, &[])?;
-    let mut owned = Vec::new(alloc);
-    for word in words {
-        owned.push(String::from_str(alloc, word)?)?;
-    }
-    let status = run(
-        alloc,
-        &owned,
-        &mut keeper,
-        &mut door,
-        &mut source,
-        &mut sink,
-        &mut clock,
-    );
-    Ok((status, sink))
-}
 
 #[test]
 fn answers_or_refuses(rt: HostRuntime) -> Result<(), AllocError> {
@@ -109,7 +76,7 @@ fn knows_no_other_words(rt: HostRuntime) -> Result<(), AllocError> {
     assert!(rt; is_no_command(alloc, &["csvq"])?);
     assert!(rt; is_no_command(alloc, &["CSVQ", QUERY])?);
     assert!(rt; is_no_command(alloc, &["csvq", QUERY, ""])?);
-    assert!(rt; is_no_command(alloc, &["answer"])?);
+    assert!(rt; is_no_command(alloc, &["org-add", "Acme"])?);
     Ok(())
 }
 

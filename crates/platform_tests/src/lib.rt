@@ -1,0 +1,9 @@
+//! Tests of `platform`: what each command writes and leaves.
+#![tactic(auto)]
+
+#[cfg(test)]
+mod csvq;
+#[cfg(test)]
+mod given;
+#[cfg(test)]
+mod org_add;

@@ -72,10 +72,15 @@ fn run_command(rt: HostRuntime, words: &[String]) -> Result<u8, AllocError> {
 // The line on standard error that tells of a status.
 fn explanation(status: u8) -> &'static str {
     match status {
-        NO_COMMAND => "usage: carmuguur - PORT csvq QUERY, with a PORT from 0 to 65535",
+        NO_COMMAND => {
+            "usage: carmuguur - PORT csvq QUERY, or carmuguur - PORT org-add NAME SECRET, with a PORT from 0 to 65535"
+        }
         OUT_OF_MEMORY => "out of memory",
+        72 => "the store failed",
         73 => "standard output failed",
         74 => "standard input failed",
+        76 => "the store is damaged",
+        77 => "the store has an unknown version",
         _ => "failed",
     }
 }

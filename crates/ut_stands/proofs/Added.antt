@@ -16,7 +16,7 @@ use Rattle.ut_model.specs.Sound.{IsSound, is_name}
 use Rattle.ut_model.specs.Tenant as model
 use Rattle.ut_model.specs.Tenant.{Tenant}
 use Rattle.ut_model.specs.World.{World, tenant_at, user_prefix}
-use Rattle.ut_stands.specs.Stands.{HasUsersAlone, Plan, Stands, org_of, org_at, row_at, user_of, user_row_at, version_of}
+use Rattle.ut_stands.specs.Stands.{closed, opened, HasUsersAlone, Plan, Stands, org_of, org_at, row_at, user_of, user_row_at, version_of}
 use Rattle.ut_stands.proofs.Names.{MakesIds}
 
 -- what `ut_keys` says of one row put, and of rows that agree
@@ -27,9 +27,6 @@ abbrev pub SameRows : Type 0
 SameRows = (m : Tables) (rows others : Key → Option (List ℕ)) → ((k : Key) → FitsKey k → rows k ≡ others k) → Holds m rows → Holds m others
 
 -- ---- tables without rows
-
-abbrev closed : Plan
-closed = record { opened = false }
 
 none_at : (k : Key) → ◌≡◌ {A = Option (List ℕ)} None (row_at closed [] k)
 unfolding row_at
@@ -78,9 +75,6 @@ pick true P f g = f refl
 pick false P f g = g refl
 
 -- ---- the rows
-
-abbrev opened : Plan
-opened = record { opened = true }
 
 -- the rows once those of the new organisation are put
 abbrev added : ℕ → World → Tenant → model.User → (Key → Option (List ℕ)) → Key → Option (List ℕ)

@@ -1,13 +1,10 @@
 -- Names and ids of sound tenants have spellings.
-use Rattle.std.proofs.Common.{◌≡◌, ℕ, ◌*◌, ◌≤◌, Bool, true, false, ◌&&◌, cond, IsTrue, List, [], ◌∷◌, length, Option, Some, None, refl, sym, subst, arith, length-append}
-use Rattle.std.specs.Prelude.{nat_le, encode_utf8_all, IfSome}
-use Rattle.std.specs.Char.{encode_utf8}
+use Rattle.std.proofs.Common.{◌≡◌, ℕ, ◌≤◌, Bool, true, false, cond, IsTrue, List, [], ◌∷◌, length, Option, Some, None, refl, sym, subst, arith}
+use Rattle.std.specs.Prelude.{encode_utf8_all, IfSome}
 use Rattle.std.specs.List.{AllByRecursion, list_all}
 use Rattle.std.specs.Option.{IsSome}
 use Rattle.std.specs.Str.{all_scalars, bytes_eq}
-use Rattle.std.proofs.lemmas.Bool.Decides.{nat_tests}
 use Rattle.std.proofs.lemmas.Slice.Eq.{bytes_eq-Decides}
-use Rattle.std.proofs.lemmas.Str.{length-encode, len_utf8_bounds}
 use Rattle.ut_value.specs.Id.{is_digit62, is_id, made}
 use Rattle.ut_keys.specs.Fields.{FitsText}
 use Rattle.ut_model.specs.Sound.{is_name, IsDrawn, IsRole, IsSoundRole, role_id}

@@ -1,7 +1,7 @@
 -- What tables have at each key where they stand for a world.
 -- Source of the tables: C. D. Weissman and S. Bobrowski, "The Design of the Force.com Multitenant Internet Application
 -- Development Platform" (SIGMOD 2009): all organisations' rows stand in the same few tables, each under its organisation.
-use Rattle.std.specs.Prelude.{◌≡◌, ◌≢◌, ℕ, Bool, false, if◌then◌else◌, List, [], length, Option, Some, None}
+use Rattle.std.specs.Prelude.{true, ◌≡◌, ◌≢◌, ℕ, Bool, false, if◌then◌else◌, List, [], length, Option, Some, None}
 use Rattle.std.specs.List.{AllByRecursion}
 use Rattle.std.specs.Option.{option_map, option_and_then}
 use Rattle.ut_keeper.specs.Tables as tables
@@ -23,6 +23,13 @@ known_version = 1
 -- what the world leaves open: whether the version's row is there, which it needn't be where no organisation is
 pub record Plan : Type 0 where
   pub opened : Bool
+
+-- without the version's row, and with it
+abbrev pub closed : Plan
+closed = record { opened = false }
+
+abbrev pub opened : Plan
+opened = record { opened = true }
 
 -- ---- rows, from the parts of the world
 

@@ -1,4 +1,4 @@
-ghost use Rattle.std.specs.Prelude.{◌≡◌, ◌+◌, ◌<◌, ℕ, List, [], IsTrue, length};
+ghost use Rattle.std.specs.Prelude.{◌≡◌, ◌+◌, ◌<◌, ℕ, List, [], ◌∷◌, ◌++◌, Some, None, IsTrue, codes, length};
 ghost use Rattle.std.specs.FinMap as map;
 ghost use Rattle.ut_keeper.specs.Tables.{Tables, no_rows};
 ghost use Rattle.ut_keys.specs.Keys.{Org, User, Version, spell};
@@ -6,7 +6,7 @@ ghost use Rattle.ut_keys.specs.Rows.{org_row, user_row, version_row};
 ghost use Rattle.ut_model.specs.Organisations.{administrator, first_user, fresh, with_org};
 ghost use Rattle.ut_model.specs.Sound.{is_name};
 ghost use Rattle.ut_model.specs.World.{World};
-ghost use Rattle.ut_stands.specs.Stands.{HasUnknownVersion, Stands, org_of, user_of, version_of};
+ghost use Rattle.ut_stands.specs.Stands.{HasUnknownVersion, Stands, closed, opened, org_of, row_at, user_of, version_of};
 
 use ut_keys::{row_laws, table_laws};
 use ut_value::id_laws;
@@ -32,3 +32,17 @@ pub fn stands_laws()
     row_laws();
     id_laws();
 }
+
+/// The rows of the first organisation, worked by hand. The call does nothing.
+pub fn stands_rows()
+    ensures version { (digest : List ℕ) → row_at opened (with_org [] (codes "Acme") digest) Version
+        ≡ Some (0 ∷ 0 ∷ 0 ∷ 1 ∷ 0 ∷ 0 ∷ 0 ∷ 1 ∷ []) }
+    ensures org { (digest : List ℕ) → row_at opened (with_org [] (codes "Acme") digest) (Org 1)
+        ≡ Some (0 ∷ 0 ∷ 0 ∷ 4 ∷ 65 ∷ 99 ∷ 109 ∷ 101
+        ∷ 0 ∷ 0 ∷ 0 ∷ 0 ∷ 0 ∷ 0 ∷ 0 ∷ 1
+        ∷ 0 ∷ 0 ∷ 0 ∷ 0 ∷ 0 ∷ 0 ∷ 0 ∷ 1 ∷ 0 ∷ 0 ∷ 0 ∷ 0 ∷ 0 ∷ 0 ∷ 0 ∷ 0 ∷ 0 ∷ 0 ∷ []) }
+    ensures user { (digest : List ℕ) → row_at opened (with_org [] (codes "Acme") digest) (User 1 (codes "005000000000000"))
+        ≡ Some (0 ∷ 0 ∷ 0 ∷ 4 ∷ 65 ∷ 99 ∷ 109 ∷ 101 ∷ (digest ++ 0 ∷ 1 ∷ [])) }
+    ensures other { (digest : List ℕ) → row_at opened (with_org [] (codes "Acme") digest) (Org 2) ≡ None }
+    ensures closed { row_at closed [] Version ≡ None }
+{}

@@ -11,7 +11,7 @@ mod reads;
 mod rows;
 
 pub use crate::fail::{EditFail, OpenFail};
-pub use crate::laws::stands_laws;
+pub use crate::laws::{stands_laws, stands_rows};
 pub use crate::opening::open_tables;
 pub use crate::reads::{organisations, user};
 pub use crate::rows::{put_org, put_user, put_version, user_row, version_row};

@@ -1,32 +1,23 @@
 //! The command `org-add`.
 
-ghost use Rattle.std.specs.Prelude.{◌≡◌, ◌⊎◌, ◌<◌, ◌++◌, codes, IfErr, IfOk, IsErrOf, OnErr};
-ghost use Rattle.std.specs.String.{string_bytes};
+ghost use Rattle.std.specs.Prelude.{◌≡◌, ◌<◌, IfErr, IfOk, IsErrOf, OnErr};
 ghost use Rattle.ut_keeper.specs.Draft.{DraftTells, DraftWorks, count_of, state_of, tables_of};
 ghost use Rattle.ut_keeper.specs.State.{KeeperCause, Shows, Steps, Tells};
 ghost use Rattle.ut_keys.specs.declared.fail.StoreFail.TheVariants.{Keeper};
-ghost use Rattle.ut_model.specs.Organisations.{first_user};
-ghost use Rattle.ut_model.specs.World.{World, org_id};
+ghost use Rattle.ut_model.specs.World.{World};
 ghost use Rattle.ut_stands.specs.Stands.{Stands};
-ghost use Rattle.ut_value.specs.Id.{print18};
-ghost use Rattle.platform.specs.Endings.{Leaves, Stops, VersionAs, done_in};
-ghost use Rattle.platform.specs.OrgAdd.{added_page, org_printed, org_world};
-ghost use Rattle.platform.specs.declared.stop.Stop.TheVariants.{KeeperFailed, SinkFailed};
+ghost use Rattle.platform.specs.Endings.{VersionAs};
+ghost use Rattle.platform.specs.OrgAdd.{added_page};
+ghost use Rattle.platform.specs.declared.stop.Stop.TheVariants.{KeeperFailed};
 
 use crate::page::{Page, refusal_page};
 use crate::stop::Stop;
 use std::alloc::{AllocError, Global};
 use ut_keeper::{Draft, Keeper, draft_laws};
 use ut_keys::StoreFail;
-use ut_model::Refusal;
+use ut_model::{Refusal, first_user_id, org_id};
 use ut_people::{add_org, is_name, is_secret};
 use ut_stands::{EditFail, open_tables, stands_laws};
-use ut_value::Id;
-
-// The prefixes of the ids of organisations and users.
-const ORG_PREFIX: [u8; 3] = *b"00D";
-
-const USER_PREFIX: [u8; 3] = *b"005";
 
 /// A page, and whether the draft holds changes that go with it.
 #[derive(Drop)]
@@ -43,8 +34,8 @@ ghost use Rattle.platform.specs.Judged.{IsChange, IsStreams, JudgedAs, PageAs, W
 fn org_page(alloc: Global, org: u32) -> Result<Page, AllocError>
     ensures { IfOk result (λ p. p ≡ added_page org) }
 {
-    let org = Id::new(ORG_PREFIX, u64::from(org)).print18();
-    let user = Id::new(USER_PREFIX, 0).print18();
+    let org = org_id(org).print18();
+    let user = first_user_id().print18();
     let mut text = Vec::new(alloc);
     text.extend_from_slice(&org)?;
     text.push(b' ')?;

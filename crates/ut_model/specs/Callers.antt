@@ -1,4 +1,5 @@
 -- Who calls: the user whom a key `ORG!USER!SECRET` names and whose secret it has.
+-- Source of the digest: FIPS 180-4, SHA-256. The form of a key is this product's own.
 use Rattle.std.specs.Prelude.{ℕ, Bool, ◌&&◌, ◌||◌, ◌==◌, nat_lt, if◌then◌else◌, List, [], length, take, drop, Option, Some, None}
 use Rattle.std.specs.List.{position_or_len, before_first, after_first}
 use Rattle.std.specs.Option.{option_and_then, option_map}

@@ -1,4 +1,4 @@
--- New organisations.
+-- New organisations. What a new one has, and the form of a secret, are this product's own.
 use Rattle.std.specs.Prelude.{ℕ, Bool, true, ◌&&◌, nat_le, if◌then◌else◌, List, [], ◌∷◌, ◌++◌, length, Option, Some, None}
 use Rattle.std.specs.List.{list_all}
 use Rattle.ut_value.specs.Id.{is_digit62, made}

@@ -1,10 +1,12 @@
 //! The model: what an organisation is, who calls it, and how a request is refused or answered, as plain types and
 //! definitions.
 //!
-//! It stands on `ut_value`. Its contract: a refusal's code, status and message are those of the definitions.
+//! It stands on `ut_value`, and on `sha2` for the digest of a secret. Its contract: a refusal's code, status and message
+//! are those of the definitions, and so are the ids of organisations and of their first users.
 #![tactic(auto)]
 
 mod caller;
+mod ids;
 mod laws;
 mod limit;
 mod record;
@@ -13,6 +15,7 @@ mod reply;
 mod route;
 
 pub use crate::caller::Caller;
+pub use crate::ids::{first_user_id, org_id, org_number};
 pub use crate::laws::{model_rows, name_laws};
 pub use crate::limit::Limit;
 pub use crate::record::Record;

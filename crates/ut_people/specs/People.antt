@@ -42,14 +42,3 @@ AddsAs w name digest after (Err (Refused r)) = (is_full w ≡ true) × (r ≡ Li
 AddsAs w name digest after (Err (Store Damaged)) = ⊥
 AddsAs w name digest after (Err (Store Keeper)) = Unit {0}
 AddsAs w name digest after (Err (Store Memory)) = Unit {0}
-
--- it is refused
-abbrev pub IsRefusal : EditFail → Type 0
-IsRefusal (Refused r) = Unit {0}
-IsRefusal (Store e) = ⊥
-
--- the failure is the keeper's
-abbrev pub IsKeepers : {X : Type 0} → Result X EditFail → Type 0
-IsKeepers (Ok x) = ⊥
-IsKeepers (Err (Refused r)) = ⊥
-IsKeepers (Err (Store e)) = e ≡ Keeper

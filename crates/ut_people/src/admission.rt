@@ -11,12 +11,9 @@ use sha2::{Digest, Sha256};
 use std::alloc::Global;
 use ut_keeper::{Draft, Keeper, draft_laws};
 use ut_keys::{StoreFail, UserRow};
-use ut_model::Caller;
+use ut_model::{Caller, org_number};
 use ut_stands::user;
 use ut_value::Id;
-
-// The prefix of organisations' ids.
-const ORG_PREFIX: [u8; 3] = *b"00D";
 
 /// The SHA-256 digest of a secret's bytes.
 pub(crate) fn digest_of(secret: &str) -> [u8; 32]
@@ -48,14 +45,14 @@ fn id_in(text: &str) -> Option<Id>
 }
 
 // The number of the organisation and the id of the user that these texts name.
-fn named_by(org: &str, user: &str) -> Option<(u64, Id)>
+fn named_ids(org: &str, user: &str) -> Option<(u64, Id)>
     ensures { MatchOption result (named_ids org.now user.now ≡ None) (λ x. named_ids org.now user.now ≡ Some (x.0, x.1)) }
 {
     match id_in(org) {
         None => None,
         Some(org) => match id_in(user) {
             None => None,
-            Some(user) => match org.number(ORG_PREFIX) {
+            Some(user) => match org_number(&org) {
                 None => None,
                 Some(number) => Some((number, user)),
             },
@@ -126,7 +123,7 @@ pub fn caller<K: Keeper>(
     let Some((id, secret)) = cut(rest) else {
         return Ok(None);
     };
-    match named_by(org, id) {
+    match named_ids(org, id) {
         None => Ok(None),
         Some((org, id)) => caller_with(alloc, draft, org, &id, secret),
     }

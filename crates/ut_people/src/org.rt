@@ -7,19 +7,17 @@ ghost use Rattle.ut_keys.specs.declared.fail.StoreFail.TheVariants.{Memory};
 ghost use Rattle.ut_model.specs.Organisations.{administrator, fresh, is_secret};
 ghost use Rattle.ut_model.specs.Sound.{is_name};
 ghost use Rattle.ut_model.specs.World.{World};
-ghost use Rattle.ut_people.specs.People.{AddsAs, IsKeepers, IsRefusal, with_rows};
+ghost use Rattle.ut_people.specs.People.{AddsAs, with_rows};
+ghost use Rattle.ut_stands.specs.Fails.{IsRefusal, KeeperFailsEdit};
 ghost use Rattle.ut_stands.specs.Stands.{Stands, org_of, user_of};
 
 use crate::admission::digest_of;
 use std::alloc::{AllocError, Global};
 use ut_keeper::{Draft, Keeper, draft_laws};
 use ut_keys::{OrgRow, StoreFail, UserRow};
-use ut_model::{Limit, Refusal, name_laws};
+use ut_model::{Limit, Refusal, first_user_id, name_laws};
 use ut_stands::{EditFail, organisations, put_org, put_user, put_version, stands_laws};
-use ut_value::{Id, Text};
-
-// The prefix of users' ids.
-const USER_PREFIX: [u8; 3] = *b"005";
+use ut_value::Text;
 
 // The row of a new organisation, which has one user.
 fn org_row_of(alloc: Global, org: u32, name: &str) -> Result<OrgRow, AllocError>
@@ -50,7 +48,7 @@ fn administrator_of(
 {
     Ok(UserRow {
         org,
-        id: Id::new(USER_PREFIX, 0),
+        id: first_user_id(),
         name: Text::from_str(alloc, name)?,
         digest,
         role: None,
@@ -101,7 +99,7 @@ pub fn add_org<K: Keeper>(
     ensures some { OnOk result (0 < count_of draft.new) }
     ensures refused { IfErr result (λ e. IsRefusal e → DraftReads K.state 0 draft.old draft.new) }
     ensures works { DraftWorks K.state 3 0 0 draft.old draft.new }
-    ensures cause { KeeperCause (state_of K.state draft.old) (state_of K.state draft.new) (IsKeepers result) }
+    ensures cause { KeeperCause (state_of K.state draft.old) (state_of K.state draft.new) (KeeperFailsEdit result) }
 {
     draft_laws::<K>();
     stands_laws();

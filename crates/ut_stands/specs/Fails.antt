@@ -1,7 +1,9 @@
 -- What the failures of the layers below are to an edit and to an opening.
+use Rattle.std.specs.Prelude.{◌≡◌, Result, Ok, Err}
 use Rattle.ut_keys.specs.Fails as keys
 use Rattle.ut_keeper.specs.declared.keeper.KeepFail.{KeepFail}
 use Rattle.ut_keys.specs.declared.fail.StoreFail.{StoreFail}
+use Rattle.ut_keys.specs.declared.fail.StoreFail.TheVariants.{Keeper}
 use Rattle.ut_stands.specs.declared.fail.EditFail.{EditFail}
 use Rattle.ut_stands.specs.declared.fail.EditFail.TheVariants as edit
 use Rattle.ut_stands.specs.declared.fail.OpenFail.{OpenFail}
@@ -15,3 +17,20 @@ of_store fail = edit.Store fail
 
 abbrev pub of_store_opening : StoreFail → OpenFail
 of_store_opening fail = opening.Store fail
+
+-- an edit is refused
+abbrev pub IsRefusal : EditFail → Type 0
+IsRefusal (edit.Refused r) = Unit {0}
+IsRefusal (edit.Store e) = ⊥
+
+-- an edit failed by the keeper
+abbrev pub KeeperFailsEdit : {X : Type 0} → Result X EditFail → Type 0
+KeeperFailsEdit (Ok x) = ⊥
+KeeperFailsEdit (Err (edit.Refused r)) = ⊥
+KeeperFailsEdit (Err (edit.Store e)) = e ≡ Keeper
+
+-- an opening failed by the keeper
+abbrev pub KeeperFailsOpening : {X : Type 0} → Result X OpenFail → Type 0
+KeeperFailsOpening (Ok x) = ⊥
+KeeperFailsOpening (Err opening.UnknownVersion) = ⊥
+KeeperFailsOpening (Err (opening.Store e)) = e ≡ Keeper

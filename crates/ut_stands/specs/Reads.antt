@@ -54,9 +54,3 @@ OpensAs m (Err opening.UnknownVersion) = HasUnknownVersion m
 OpensAs m (Err (opening.Store Damaged)) = (HasUnknownVersion m → ⊥) × ((w : World) → Stands m w → ⊥)
 OpensAs m (Err (opening.Store Keeper)) = Unit {0}
 OpensAs m (Err (opening.Store Memory)) = Unit {0}
-
--- the failure is the keeper's
-abbrev pub IsKeepers : {X : Type 0} → Result X OpenFail → Type 0
-IsKeepers (Ok u) = ⊥
-IsKeepers (Err opening.UnknownVersion) = ⊥
-IsKeepers (Err (opening.Store e)) = e ≡ Keeper

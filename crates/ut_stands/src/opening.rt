@@ -2,7 +2,8 @@ ghost use Rattle.std.specs.Prelude.{◌≡◌, IsErrOf};
 ghost use Rattle.ut_keeper.specs.Draft.{DraftReads, DraftTells, state_of, tables_of};
 ghost use Rattle.ut_keeper.specs.State.{KeeperCause, LeavesNoMore, Shows, Steps, Tells};
 ghost use Rattle.ut_keys.specs.declared.fail.StoreFail.TheVariants.{Keeper};
-ghost use Rattle.ut_stands.specs.Reads.{IsKeepers, KnowsAs, OpensAs};
+ghost use Rattle.ut_stands.specs.Fails.{KeeperFailsOpening};
+ghost use Rattle.ut_stands.specs.Reads.{KnowsAs, OpensAs};
 
 use crate::fail::OpenFail;
 use crate::rows::{KNOWN_VERSION, version_row};
@@ -38,7 +39,7 @@ pub fn open_tables<K: Keeper>(alloc: Global, keeper: &mut K) -> Result<(), OpenF
     ensures crash { Tells (K.state keeper.old) (K.state keeper.new) → LeavesNoMore (K.state keeper.old) (K.state keeper.new) }
     ensures steps { Steps (K.state keeper.old) (K.state keeper.new) }
     ensures written { (K.state keeper.new).written ≡ (K.state keeper.old).written }
-    ensures cause { KeeperCause (K.state keeper.old) (K.state keeper.new) (IsKeepers result) }
+    ensures cause { KeeperCause (K.state keeper.old) (K.state keeper.new) (KeeperFailsOpening result) }
 {
     keeper.open(alloc)?;
     let mut draft = Draft::new(alloc, keeper);

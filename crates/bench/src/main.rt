@@ -1,7 +1,11 @@
-//! Times of the parts whose cost matters, for `docs/PERFORMANCE.md`: `bench keeper ROWS` and `bench json BYTES`.
+//! Times of the parts whose cost matters, for `docs/PERFORMANCE.md`: `bench keeper ROWS`, `bench json BYTES` and
+//! `bench values CALLS`.
 //!
 //! What was done goes to standard output, the times in microseconds to standard error.
 #![tactic(auto)]
+
+ghost use Rattle.std.specs.Prelude.{IsTrue};
+ghost use Rattle.ut_value.specs.Types.{is_type};
 
 use std::alloc::{AllocError, Global};
 use std::process::ExitCode;
@@ -9,7 +13,7 @@ use std::time::Instant;
 use std::{env, io};
 use ut_json::{Json, Mark, Writer, read};
 use ut_keeper::{Draft, KeepFail, Keeper, MemoryKeeper, all_rows};
-use ut_value::Bytes;
+use ut_value::{Bytes, FieldType, Text, Value, order_key, read_value};
 
 const TABLE: u8 = 7;
 
@@ -101,6 +105,71 @@ fn measure_json(rt: &HostRuntime, bytes: u32) -> io::Result<()> {
     }
 }
 
+// How many of so many readings of a text give a value.
+fn count_read(alloc: Global, calls: u32, kind: &FieldType, text: &str) -> u32
+    requires { IsTrue (is_type kind.now) }
+{
+    let mut count = 0u32;
+    for _ in 0..calls {
+        if read_value(alloc, kind, text).is_ok() {
+            count = count.saturating_add(1);
+        }
+    }
+    count
+}
+
+// How many of so many order keys of a value were made.
+fn count_keys(alloc: Global, calls: u32, value: &Value) -> u32 {
+    let mut count = 0u32;
+    for _ in 0..calls {
+        if order_key(alloc, value).is_ok() {
+            count = count.saturating_add(1);
+        }
+    }
+    count
+}
+
+const NUMBER: FieldType = FieldType::Number {
+    digits: 18,
+    decimals: 8,
+};
+
+fn measure_reading(rt: &HostRuntime, calls: u32) -> io::Result<()> {
+    let alloc = rt.alloc();
+    let start = Instant::now(rt)?;
+    let texts = count_read(alloc, calls, &FieldType::Text(80), "Straße nach Süden 17");
+    tell_time(rt, "texts read", start)?;
+    let start = Instant::now(rt)?;
+    let numbers = count_read(alloc, calls, &NUMBER, "1234567890.12345678");
+    tell_time(rt, "numbers read", start)?;
+    let start = Instant::now(rt)?;
+    let days = count_read(alloc, calls, &FieldType::Day, "2011-04-26");
+    tell_time(rt, "days read", start)?;
+    let start = Instant::now(rt)?;
+    let moments = count_read(
+        alloc,
+        calls,
+        &FieldType::Moment,
+        "2011-04-26T13:30:00.5+01:30",
+    );
+    tell_time(rt, "moments read", start)?;
+    println!(rt; "read: {texts} {numbers} {days} {moments}")
+}
+
+fn measure_keys(rt: &HostRuntime, calls: u32) -> io::Result<()> {
+    let alloc = rt.alloc();
+    let Ok(text) = Text::from_str(alloc, "Straße nach Süden 17") else {
+        return println!(rt; "out of memory");
+    };
+    let start = Instant::now(rt)?;
+    let texts = count_keys(alloc, calls, &Value::Text(text));
+    tell_time(rt, "keys of texts", start)?;
+    let start = Instant::now(rt)?;
+    let numbers = count_keys(alloc, calls, &Value::Num(123_456_789_012_345_678));
+    tell_time(rt, "keys of numbers", start)?;
+    println!(rt; "keys: {texts} {numbers}")
+}
+
 fn measure(rt: &HostRuntime) -> io::Result<u8> {
     let words: Vec<String> = match env::args(rt)?.skip(1).collect(rt.alloc()) {
         Ok(words) => words,
@@ -117,9 +186,14 @@ fn measure(rt: &HostRuntime) -> io::Result<u8> {
                 measure_json(rt, size)?;
                 return Ok(0);
             }
+            if words[0].as_str() == "values" {
+                measure_reading(rt, size)?;
+                measure_keys(rt, size)?;
+                return Ok(0);
+            }
         }
     }
-    eprintln!(rt; "usage: bench keeper ROWS, or bench json BYTES")?;
+    eprintln!(rt; "usage: bench keeper ROWS, bench json BYTES, or bench values CALLS")?;
     Ok(64)
 }
 

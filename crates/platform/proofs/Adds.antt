@@ -18,7 +18,7 @@ use Rattle.platform.specs.Printed.{Printed}
 abbrev pub Known : Type 0
 Known = (m : Tables) (w : World) → Stands m w → HasUnknownVersion m → ⊥
 
-module _ (k0 k1 : KeeperState) (same : Tells k0 k1 → Shows k1 k0.tables) (crash : Tells k0 k1 → LeavesNoMore k0 k1) (w next : World) where
+module _ (k0 k1 : KeeperState) (same : Tells k0 k1 → Shows k1 k0.tables) (crash : k0.tells → LeavesNoMore k0 k1) (w next : World) where
   -- only the opening
   only_opened : Stands k0.tables w → Tells k0 k1 → Leaves w next false k0 k1
   only_opened s t =
@@ -27,7 +27,7 @@ module _ (k0 k1 : KeeperState) (same : Tells k0 k1 → Shows k1 k0.tables) (cras
         tells = it.0;
         stands = subst (λ (m : Tables). Stands m w) (sym it.1) s;
         unchanged = λ _. it.1;
-        crash = λ clean m h. inl (crash t clean m h, λ wrong. absurd cc);
+        crash = λ clean m h. inl (crash t.0 clean m h, λ wrong. absurd cc);
       }
 
   -- what was left of opened tables was left of the tables before
@@ -40,12 +40,12 @@ module _ (k0 k1 : KeeperState) (same : Tells k0 k1 → Shows k1 k0.tables) (cras
         stands = l.stands;
         unchanged = λ e. l.unchanged e ∙ it.1;
         crash = λ clean m h. elim (l.crash clean m h) [
-          | inl old ↦ inl (crash first (steps.was_clean clean) m old.0, λ wrong. absurd cc)
+          | inl old ↦ inl (crash t.0 (steps.was_clean clean) m old.0, λ wrong. absurd cc)
           | inr whole ↦ inr whole
         ];
       }
 
-pub failed_page : (k0 k1 k2 : KeeperState) → (Tells k0 k1 → Shows k1 k0.tables) → (Tells k0 k1 → LeavesNoMore k0 k1) → Steps k1 k2 → (name secret : List ℕ) (fail : StoreFail)
+pub failed_page : (k0 k1 k2 : KeeperState) → (Tells k0 k1 → Shows k1 k0.tables) → (k0.tells → LeavesNoMore k0 k1) → Steps k1 k2 → (name secret : List ℕ) (fail : StoreFail)
     → (Tells k1 k2 → (w : World) → Stands k1.tables w → WithinAs w name secret k1 k2 (Err fail))
     → Tells k0 k2 → (w : World) → Stands k0.tables w → PageAs w name secret k0 k2 (Err (of_store fail))
 failed_page k0 k1 k2 same crash steps name secret fail within t w s =
@@ -69,7 +69,7 @@ failed_version k0 k1 k2 same steps name secret store.Damaged known within t =
 failed_version k0 k1 k2 same steps name secret store.Keeper known within t = tt
 failed_version k0 k1 k2 same steps name secret store.Memory known within t = tt
 
-pub unopened_page : Known → (k0 k1 : KeeperState) → (Tells k0 k1 → Shows k1 k0.tables) → (Tells k0 k1 → LeavesNoMore k0 k1) → (name secret : List ℕ) (fail : OpenFail)
+pub unopened_page : Known → (k0 k1 : KeeperState) → (Tells k0 k1 → Shows k1 k0.tables) → (k0.tells → LeavesNoMore k0 k1) → (name secret : List ℕ) (fail : OpenFail)
     → (Tells k0 k1 → OpensAs k0.tables (Err fail))
     → Tells k0 k1 → (w : World) → Stands k0.tables w → PageAs w name secret k0 k1 (Err (of_opening fail))
 unopened_page known k0 k1 same crash name secret opening.UnknownVersion opens t w s = known k0.tables w s (opens t)

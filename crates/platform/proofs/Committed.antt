@@ -1,8 +1,8 @@
 -- What is left of the tables once a draft is dropped or committed.
-use Rattle.std.proofs.Common.{◌≡◌, ◌⊎◌, inl, inr, ◌<◌, Bool, true, false, cond, IsTrue, List, refl, sym, ap, subst, ◌∙◌}
-use Rattle.ut_keeper.specs.Draft.{ChangesNothing, DraftTells, DraftWorks, Held, count_of, keeper_of, state_of, tables_of}
+use Rattle.std.proofs.Common.{◌≡◌, ◌⊎◌, inl, inr, Bool, true, false, cond, IsTrue, List, refl, sym, ap, subst, ◌∙◌}
+use Rattle.ut_keeper.specs.Draft.{ChangesNothing, DraftTells, DraftWorks, Held, keeper_of, state_of, tables_of}
 use Rattle.ut_keeper.specs.Laid.{Entry, laid}
-use Rattle.ut_keeper.specs.State.{KeeperState, Shows, Steps, Tells}
+use Rattle.ut_keeper.specs.State.{IsSettled, KeeperState, Shows, Steps, Tells}
 use Rattle.ut_keeper.specs.Tables.{Tables}
 use Rattle.ut_model.specs.World.{World}
 use Rattle.ut_stands.specs.Stands.{Stands}
@@ -26,7 +26,7 @@ module _ {K : Type 0} (state : K → KeeperState) (k : K) (d e : Held K) (l : K)
       (it.0, it.1 ∙ ap (λ x. (state x).tables) is)
 
   left_before : IsTrue (state (keeper_of e)).stands → (state k).tells → IsTrue (state (keeper_of e)).is_clean → (m : Tables) → (state (keeper_of e)).may_leave m → (state k).may_leave m
-  left_before stands tells clean m h = subst (λ x. (state x).may_leave m) is (works.reads.crash (told stands tells) clean m h)
+  left_before stands tells clean m h = subst (λ x. (state x).may_leave m) is (works.reads.crash clean m h)
 
   kept_world : (w next : World) (done : Bool) (m : Tables) → (done ≡ true → next ≡ w) → Stands m w → Stands m (cond done next w)
   kept_world w next true m same s = subst (λ (v : World). Stands m v) (sym (same refl)) s
@@ -62,17 +62,17 @@ module _ {K : Type 0} (state : K → KeeperState) (k : K) (d e : Held K) (l : K)
     tells_on : Tells (state k) (state l) → Tells (state_of state e) (state l)
     tells_on t = ((shown (stood t) t.0).0, t.1)
 
-    pub committed : (w next : World) → 0 < count_of e
+    pub committed : (w next : World)
         → (Tells (state_of state e) (state l) → Shows (state l) (tables_of state e))
-        → (0 < count_of e → Tells (state_of state e) (state l) → (m : Tables) → (state l).may_leave m → m ≡ (state l).tables)
+        → (Tells (state_of state e) (state l) → IsSettled (state l))
         → Stands (tables_of state e) next → Tells (state k) (state l) → Leaves w next true (state k) (state l)
-    committed w next some applied durable s t =
+    committed w next applied settled s t =
         let it = applied (tells_on t) in
         record {
           tells = it.0;
           stands = subst (λ (m : Tables). Stands m next) (sym it.1) s;
           unchanged = λ wrong. absurd cc;
-          crash = λ clean m h. inr (subst (λ (m : Tables). Stands m next) (sym (durable some (tells_on t) m h ∙ it.1)) s);
+          crash = λ clean m h. inr (subst (λ (m : Tables). Stands m next) (sym ((settled (tells_on t)).only m h ∙ it.1)) s);
         }
 
     pub refused : (w next : World)

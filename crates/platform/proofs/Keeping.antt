@@ -1,6 +1,6 @@
 -- Rows that are kept under their ids.
-use Rattle.std.proofs.Common.{◌≡◌, ◌<◌, ℕ, suc, ◌+◌, ◌^◌, ◌&&◌, Bool, true, false, T, List, [], ◌∷◌, ◌++◌, length, refl, sym, ap, ap₂, subst, ◌∙◌, append_assoc, get_or, take, map as plain_map, arith, codes}
-use Rattle.std.proofs.lemmas.List.{append-nil, length-map, length-take, map-append, take_more}
+use Rattle.std.proofs.Common.{◌≡◌, ◌<◌, ℕ, suc, ◌+◌, ◌^◌, ◌&&◌, Bool, true, false, T, List, [], ◌∷◌, ◌++◌, length, refl, sym, ap, ap₂, subst, ◌∙◌, get_or, drop, map as plain_map, arith, codes, drop-cons}
+use Rattle.std.proofs.lemmas.List.{drop_all}
 use Rattle.std.proofs.lemmas.Bool.Decides.{nat_tests}
 use Rattle.std.specs.Cmp.{IsTotalOrder}
 use Rattle.std.specs.Cmp.Lexicographic.{slice_cmp}
@@ -17,41 +17,24 @@ use Rattle.ut_value.specs.Id.{digit62, made}
 use Rattle.platform.specs.Csvq.{name_in, record_id}
 use Rattle.platform.specs.Kept.{data_table, kept, with_rows}
 
-pub kept-append : (number : ℕ) (rows : List (List (List ℕ))) (cells : List (List ℕ))
-    → kept number (rows ++ cells ∷ []) ≡ kept number rows ++ record { key = record_id (number + length rows); row = name_in cells } ∷ []
-unfolding kept
-kept-append number [] cells = ap (λ (n : ℕ). record { key = record_id n; row = name_in cells } ∷ []) (omega arith)
-kept-append number (x ∷ rest) cells =
-    let same : number + 1 + length rest ≡ number + suc (length rest) = omega arith in
-    ap (λ (rs : List KeptRow). record { key = record_id number; row = name_in x } ∷ rs)
-    (kept-append (number + 1) rest cells ∙ ap (λ (n : ℕ). kept (number + 1) rest ++ record { key = record_id n; row = name_in cells } ∷ []) same)
-
-pub with_rows-append : (rows : List KeptRow) (r : KeptRow) (m : Tables) → with_rows (rows ++ r ∷ []) m ≡ map.insert (with_rows rows m) (data_table, r.key) r.row
-unfolding with_rows
-with_rows-append [] r m = refl
-with_rows-append (x ∷ rest) r m = with_rows-append rest r (map.insert m (data_table, x.key) x.row)
-
-pub none_put : (rows : List Row) (m : Tables) → m ≡ with_rows (kept 1 (plain_map fields_of (take 0 rows))) m
+pub none_put : (rows : List Row) (m : Tables) → m ≡ with_rows (kept (length rows + 1) (plain_map fields_of (drop (length rows) rows))) m
 unfolding kept with_rows
-none_put rows m = refl
+none_put rows m = rw (drop_all (length rows) rows (omega arith)) refl
 
 -- one row more is put in
-pub one_put : (rows : List Row) (place : ℕ) (d : Row) (first old new : Tables) (key row : List ℕ) → place < length rows → d ≡ get_or rows place d
-    → old ≡ with_rows (kept 1 (plain_map fields_of (take place rows))) first → key ≡ record_id (place + 1) → row ≡ name_in (fields_of d)
+pub one_put : (rows : List Row) (place number : ℕ) (d : Row) (first old new : Tables) (key row : List ℕ) → number ≡ place + 1 → place < length rows → d ≡ get_or rows place d
+    → old ≡ with_rows (kept (number + 1) (plain_map fields_of (drop number rows))) first → key ≡ record_id number → row ≡ name_in (fields_of d)
     → new ≡ map.insert old (data_table, key) row
-    → new ≡ with_rows (kept 1 (plain_map fields_of (take (place + 1) rows))) first
-one_put rows place d first old new key row h at before is_key is_row e =
-    let done = plain_map fields_of (take place rows) in
-    let last : plain_map fields_of (take (place + 1) rows) ≡ done ++ fields_of d ∷ [] =
-    ap (plain_map fields_of) (take_more rows place d h) ∙ map-append fields_of (take place rows) (get_or rows place d ∷ []) ∙ ap (λ (r : Row). done ++ fields_of r ∷ []) (sym at) in
-    let number : 1 + length done ≡ place + 1 = omega (arith, length-map (take place rows) fields_of, length-take place rows, h) in
-    let one : KeptRow = record { key = key; row = row } in
-    let next : kept 1 (plain_map fields_of (take (place + 1) rows)) ≡ kept 1 done ++ one ∷ [] =
-    ap (kept 1) last ∙ kept-append 1 done (fields_of d)
-    ∙ ap₂ (λ (k r : List ℕ). kept 1 done ++ record { key = k; row = r } ∷ []) (ap record_id number ∙ sym is_key) (sym is_row) in
+    → new ≡ with_rows (kept (place + 1) (plain_map fields_of (drop place rows))) first
+unfolding kept with_rows
+one_put rows place number d first old new key row n h at before is_key is_row e =
+    let rest = plain_map fields_of (drop number rows) in
+    let after : suc place ≡ number = omega (arith, n) in
+    let parts : drop place rows ≡ d ∷ drop number rows = drop-cons rows place d h ∙ ap₂ (λ (x : Row) (k : ℕ). x ∷ drop k rows) (sym at) after in
     e ∙ ap (λ (m : Tables). map.insert m (data_table, key) row) before
-    ∙ sym (with_rows-append (kept 1 done) one first)
-    ∙ ap (λ (rs : List KeptRow). with_rows rs first) (sym next)
+    ∙ ap₂ (λ (k r : List ℕ). map.insert (with_rows (kept (number + 1) rest) first) (data_table, k) r) is_key is_row
+    ∙ ap (λ (k : ℕ). map.insert (with_rows (kept (k + 1) rest) first) (data_table, record_id k) (name_in (fields_of d))) n
+    ∙ ap (λ (rs : List Row). with_rows (kept (place + 1) (plain_map fields_of rs)) first) (sym parts)
 
 -- ---- what stands in the table
 
@@ -91,24 +74,19 @@ nothing : (es : Entries) → length es ≡ 0 → es ≡ []
 nothing [] h = refl
 nothing (e ∷ es) h = absurd (omega arith)
 
--- a key above all others is put at the end
-put_last : IsTotalOrder place_cmp → (p : Place) (v : List ℕ) (es rest : Entries) → T (is_sorted place_cmp (es ++ (p, v) ∷ rest)) → put place_cmp p v es ≡ es ++ (p, v) ∷ []
-put_last order p v [] rest h = refl
-put_last order p v (e ∷ es) rest h =
-    let above : place_cmp p e.0 ≡ Greater = order.antisymm p e.0 ∙ ap ordering_reverse (last_below e.0 p v es rest (first _ _ h)) in
-    rw above (ap (λ (xs : Entries). e ∷ xs) (put_last order p v es rest (second _ _ h)))
+-- a key below all others is put at the beginning
+put_first : (p : Place) (v : List ℕ) (es : Entries) → T (below_all place_cmp p es) → put place_cmp p v es ≡ (p, v) ∷ es
+put_first p v [] h = refl
+put_first p v (e ∷ es) h = rw (less (place_cmp p e.0) (first _ _ h)) refl
 
-entries-with_rows : IsTotalOrder place_cmp → (rows : List KeptRow) (m : Tables) → T (is_sorted place_cmp (map.entries m ++ plain_map (entry_of data_table) rows))
-    → map.entries (with_rows rows m) ≡ map.entries m ++ plain_map (entry_of data_table) rows
+entries-with_rows : IsTotalOrder place_cmp → map.entries no_rows ≡ [] → (rows : List KeptRow) → T (is_sorted place_cmp (plain_map (entry_of data_table) rows))
+    → map.entries (with_rows rows no_rows) ≡ plain_map (entry_of data_table) rows
 unfolding with_rows
-entries-with_rows order [] m h = sym (append-nil (map.entries m))
-entries-with_rows order (r ∷ rest) m h =
-    let more = plain_map (entry_of data_table) rest in
-    let one : map.entries (map.insert m (data_table, r.key) r.row) ≡ map.entries m ++ entry_of data_table r ∷ [] =
-    map.entries-insert order m (data_table, r.key) r.row ∙ put_last order (data_table, r.key) r.row (map.entries m) more h in
-    let joined : map.entries (map.insert m (data_table, r.key) r.row) ++ more ≡ map.entries m ++ entry_of data_table r ∷ more =
-    ap (λ (es : Entries). es ++ more) one ∙ append_assoc (map.entries m) (entry_of data_table r ∷ []) more in
-    entries-with_rows order rest (map.insert m (data_table, r.key) r.row) (subst (λ (es : Entries). T (is_sorted place_cmp es)) (sym joined) h) ∙ joined
+entries-with_rows order none [] h = none
+entries-with_rows order none (r ∷ rest) h =
+    map.entries-insert order (with_rows rest no_rows) (data_table, r.key) r.row
+    ∙ ap (put place_cmp (data_table, r.key) r.row) (entries-with_rows order none rest (second _ _ h))
+    ∙ put_first (data_table, r.key) r.row (plain_map (entry_of data_table) rest) (first _ _ h)
 
 -- ---- ids of one prefix rise with their numbers, and stand in one interval
 
@@ -150,5 +128,4 @@ unfolding rows_between
 found_kept order ordered number rows few =
     let none : map.entries no_rows ≡ [] = nothing (map.entries no_rows) (sym (map.len-entries no_rows) ∙ map.len-empty place_cmp (List ℕ)) in
     let sorted = sorted_kept ordered number rows few in
-    let all = entries-with_rows order (kept number rows) no_rows (subst (λ (es : Entries). T (is_sorted place_cmp (es ++ plain_map (entry_of data_table) (kept number rows)))) (sym none) sorted) in
-    ap (rows_among data_table (codes "a00") (codes "a01")) (all ∙ ap (λ (es : Entries). es ++ plain_map (entry_of data_table) (kept number rows)) none) ∙ among number rows
+    ap (rows_among data_table (codes "a00") (codes "a01")) (entries-with_rows order none (kept number rows) sorted) ∙ among number rows

@@ -1,9 +1,9 @@
 -- How a new organisation is judged over a draft, and what is left once the draft is dropped or committed.
-use Rattle.std.proofs.Common.{◌≡◌, ◌≢◌, ◌⊎◌, ℕ, ◌<◌, true, false, IsTrue, List, Result, Ok, Err, subst, sym}
+use Rattle.std.proofs.Common.{◌≡◌, ◌≢◌, ◌⊎◌, ℕ, true, false, IsTrue, List, Result, Ok, Err, subst, sym}
 use Rattle.ut_keeper.specs.declared.keeper.KeepFail.{KeepFail}
 use Rattle.ut_keeper.specs.declared.keeper.KeepFail.TheVariants as keep
-use Rattle.ut_keeper.specs.Draft.{ChangesNothing, DraftTells, DraftWorks, Held, count_of, keeper_of, state_of, tables_of}
-use Rattle.ut_keeper.specs.State.{KeeperState, Shows, Steps, Tells}
+use Rattle.ut_keeper.specs.Draft.{ChangesNothing, DraftTells, DraftWorks, Held, keeper_of, state_of, tables_of}
+use Rattle.ut_keeper.specs.State.{IsSettled, KeeperState, Shows, Steps, Tells}
 use Rattle.ut_keeper.specs.Tables.{Tables}
 use Rattle.ut_keys.specs.Fails.{of_keeper}
 use Rattle.ut_keys.specs.declared.fail.StoreFail.{StoreFail}
@@ -44,13 +44,12 @@ module _ {K : Type 0} (state : K → KeeperState) (k : K) (d e : Held K) (l : K)
         (it, dropped state k d e l is none works end w (org_world w name secret) false (λ wrong. absurd cc) s t)
 
   module _ (steps : Steps (state_of state e) (state l)) (p : Printed) (judges : Judges (Ok (Changed p))) where
-    pub changed_within : 0 < count_of e
-        → (Tells (state_of state e) (state l) → Shows (state l) (tables_of state e))
-        → (0 < count_of e → Tells (state_of state e) (state l) → (m : Tables) → (state l).may_leave m → m ≡ (state l).tables)
+    pub changed_within : (Tells (state_of state e) (state l) → Shows (state l) (tables_of state e))
+        → (Tells (state_of state e) (state l) → IsSettled (state l))
         → Tells (state k) (state l) → (w : World) → Stands (state k).tables w → WithinAs w name secret (state k) (state l) (Ok p)
-    changed_within some applied durable t w s =
+    changed_within applied settled t w s =
         let it = judges (told_committed state k d e l is none works steps t) w (before state k d e l is none works w s) in
-        (it.0, committed state k d e l is none works steps w (org_world w name secret) some applied durable it.1 t)
+        (it.0, committed state k d e l is none works steps w (org_world w name secret) applied settled it.1 t)
 
     pub commit_failed_within : (fail : KeepFail)
         → (Tells (state_of state e) (state l) → Shows (state l) (state_of state e).tables)

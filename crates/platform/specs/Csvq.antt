@@ -8,8 +8,15 @@ use Rattle.csv.specs.Records.{field_at}
 use Rattle.csv.specs.Writing.{default_writer, row_text}
 use Rattle.platform.specs.Printed.{Printed}
 use Rattle.ut_soql.specs.Reading.{asks_for_rows}
-use Rattle.ut_table.specs.Table.{table_of}
+use Rattle.ut_table.specs.Table.{first_refused, table_of}
 use Rattle.ut_value.specs.Id.{made, print18}
+
+-- the most bytes of an input, and the most rows under its heading
+abbrev pub input_limit : ℕ
+input_limit = 67108864
+
+abbrev pub row_limit : ℕ
+row_limit = 20000
 
 -- what isn't built yet, in one word
 abbrev pub refusal : List ℕ → Printed
@@ -26,18 +33,22 @@ is_row [] = false
 is_row (cell ∷ []) = nat_le (length (chars cell)) 80
 is_row (cell ∷ next ∷ rest) = false
 
+abbrev pub are_few_rows : List (List (List ℕ)) → Bool
+are_few_rows rows = nat_le (length rows) row_limit && list_all is_row rows
+
 -- a heading, and rows under it
 abbrev pub is_table : List (List (List ℕ)) → Bool
 is_table [] = false
-is_table (heading ∷ rows) = is_heading heading && list_all is_row rows
+is_table (heading ∷ rows) = is_heading heading && are_few_rows rows
 
-abbrev pub rows_under : Option (List (List (List ℕ))) → Option (List (List (List ℕ)))
-rows_under None = None
-rows_under (Some records) = if is_table records then Some (drop 1 records) else None
+-- the rows of an input with these records, whose first refused record has this number if there is one
+abbrev pub rows_under : Option ℕ → List (List (List ℕ)) → Option (List (List (List ℕ)))
+rows_under (Some number) records = None
+rows_under None records = if is_table records then Some (drop 1 records) else None
 
--- the rows of an input, where it is accepted: at most 67,108,864 bytes, and at most 20,000 rows under the heading
+-- the rows of an input, where it is accepted
 abbrev pub rows_in : List ℕ → Option (List (List (List ℕ)))
-rows_in bytes = if nat_le (length bytes) 67108864 then rows_under (table_of 20001 bytes) else None
+rows_in bytes = if nat_le (length bytes) input_limit then rows_under (first_refused bytes) (table_of bytes) else None
 
 -- the id of the record with this number
 abbrev pub record_id : ℕ → List ℕ

@@ -16,10 +16,10 @@ unfoldable pub kept : ℕ → List (List (List ℕ)) → List KeptRow
 kept number [] = []
 kept number (cells ∷ rest) = record { key = record_id number; row = name_in cells } ∷ kept (number + 1) rest
 
--- tables with these data rows put in
+-- tables with these data rows put in, the last one first
 unfoldable pub with_rows : List KeptRow → Tables → Tables
 with_rows [] m = m
-with_rows (r ∷ rest) m = with_rows rest (map.insert m (data_table, r.key) r.row)
+with_rows (r ∷ rest) m = map.insert (with_rows rest m) (data_table, r.key) r.row
 
 -- each row stands under an id
 abbrev pub AreIds : List KeptRow → Type 0

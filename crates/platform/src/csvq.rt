@@ -5,13 +5,13 @@ ghost use Rattle.std.specs.Io.KnownBytes.{IsAtEnd};
 ghost use Rattle.ut_value.specs.Causes.{Cause};
 ghost use Rattle.platform.specs.Commands.{IsInput, needs_input};
 ghost use Rattle.platform.specs.Commands.Command.{csvq};
-ghost use Rattle.platform.specs.Csvq.{answer, refusal, rows_in, rows_printed};
+ghost use Rattle.platform.specs.Csvq.{answer, input_limit, refusal, rows_in, rows_printed};
 ghost use Rattle.platform.specs.Judged.{IsTables};
 ghost use Rattle.platform.specs.declared.stop.Stop.TheVariants.{SinkFailed, SourceFailed};
 
 use crate::kept::kept_rows;
 use crate::page::Page;
-use crate::rows::is_table;
+use crate::rows::{RECORDS, is_table};
 use crate::stop::Stop;
 use crate::text::text_of;
 use std::alloc::{AllocError, Global};
@@ -20,10 +20,8 @@ use ut_soql::asks_for_rows;
 use ut_table::{TableFail, read_table};
 use ut_value::id_laws;
 
-// The most bytes of an input, and the most records of it, the heading included.
+// The most bytes of an input.
 const INPUT_LIMIT: usize = 67_108_864;
-
-const RECORD_LIMIT: usize = 20_001;
 
 fn refusal(alloc: Global, what: &str) -> Result<Page, AllocError>
     ensures { IfOk result (λ p. p ≡ refusal what.now) }
@@ -34,11 +32,11 @@ fn refusal(alloc: Global, what: &str) -> Result<Page, AllocError>
 
 // The page of an input that is short enough.
 fn input_page(alloc: Global, bytes: &[u8]) -> Result<Page, AllocError>
-    requires { length bytes.now ≤ 67108864 }
+    requires { length bytes.now ≤ input_limit }
     ensures { IfOk result (λ p. p ≡ answer (rows_in bytes.now)) }
 {
     id_laws();
-    match read_table(alloc, bytes, RECORD_LIMIT) {
+    match read_table(alloc, bytes, RECORDS) {
         Ok(records) => {
             if !is_table(&records) {
                 return refusal(alloc, "input");
@@ -46,7 +44,7 @@ fn input_page(alloc: Global, bytes: &[u8]) -> Result<Page, AllocError>
             let rows = kept_rows(alloc, &records[1..])?;
             Ok(Page::done(text_of(alloc, &rows)?))
         }
-        Err(TableFail::Refused) => refusal(alloc, "input"),
+        Err(TableFail::Refused { .. }) => refusal(alloc, "input"),
         Err(TableFail::Memory) => Err(AllocError),
     }
 }

@@ -20,7 +20,8 @@ const PREFIX: [u8; 3] = *b"a00";
 // How many rows are read at once.
 const PAGE: usize = 1000;
 
-// Puts rows into a draft, each under its id.
+// Puts rows into a draft, each under its id. The last row comes first: an ordered map finds the place before all others
+// with the fewest comparisons.
 fn put_rows<K: Keeper>(
     alloc: Global,
     draft: &mut Draft<'_, K>,
@@ -32,8 +33,10 @@ fn put_rows<K: Keeper>(
     ensures ok { OnOk result (tables_of K.state draft.new ≡ with_rows (kept 1 (map fields_of rows.now)) (tables_of K.state draft.old)) }
 {
     draft_laws::<K>();
-    for place in 0..rows.len() {
-        let id = Id::new(PREFIX, place as u64 + 1);
+    let mut place = rows.len();
+    'rows: while place > 0 {
+        let id = Id::new(PREFIX, place as u64);
+        place -= 1;
         let key = Bytes::from_slice(alloc, id.as_bytes())?;
         let row = Bytes::from_slice(alloc, name_in(&rows[place]).as_bytes())?;
         draft.put(alloc, DATA_TABLE, key, row)?;

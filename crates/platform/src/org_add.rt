@@ -1,8 +1,8 @@
 //! The command `org-add`.
 
-ghost use Rattle.std.specs.Prelude.{◌≡◌, ◌<◌, IfErr, IfOk, IsErrOf, OnErr};
+ghost use Rattle.std.specs.Prelude.{◌≡◌, ◌<◌, IfErr, IfOk, IsErrOf, OnErr, is_ok};
 ghost use Rattle.ut_keeper.specs.Draft.{DraftTells, DraftWorks, count_of, state_of, tables_of};
-ghost use Rattle.ut_keeper.specs.State.{KeeperCause, Shows, Steps, Tells};
+ghost use Rattle.ut_keeper.specs.State.{KeeperCause, Shows, StandsAfter, StaysAfter, Steps, Tells};
 ghost use Rattle.ut_keys.specs.declared.fail.StoreFail.TheVariants.{Keeper};
 ghost use Rattle.ut_model.specs.World.{World};
 ghost use Rattle.ut_stands.specs.Stands.{Stands};
@@ -44,7 +44,8 @@ fn org_page(alloc: Global, org: u32) -> Result<Page, AllocError>
     Ok(Page::done(text))
 }
 
-// Judges a new organisation, and puts it into the draft where it isn't refused.
+// Judges a new organisation, and puts it into the draft if it isn't refused. A refusal is a page too: it is made only
+// once every call of the keeper has returned `Ok`.
 fn judge<K: Keeper>(
     alloc: Global,
     draft: &mut Draft<'_, K>,
@@ -56,6 +57,7 @@ fn judge<K: Keeper>(
         → JudgedAs w name.now secret.now (tables_of K.state draft.new) result }
     ensures some { IfOk result (λ j. IsChange j → 0 < count_of draft.new) }
     ensures works { DraftWorks K.state 3 0 0 draft.old draft.new }
+    ensures stays { StaysAfter (is_ok result) (state_of K.state draft.old) (state_of K.state draft.new) }
     ensures cause { KeeperCause (state_of K.state draft.old) (state_of K.state draft.new) (IsErrOf result Keeper) }
 {
     draft_laws::<K>();
@@ -83,6 +85,7 @@ fn judge_and_commit<K: Keeper>(
         → WithinAs w name.now secret.now (K.state keeper.old) (K.state keeper.new) result }
     ensures kept { Tells (K.state keeper.old) (K.state keeper.new) → OnErr result (Shows (K.state keeper.new) (K.state keeper.old).tables) }
     ensures steps { Steps (K.state keeper.old) (K.state keeper.new) }
+    ensures stays { StaysAfter (is_ok result) (K.state keeper.old) (K.state keeper.new) }
     ensures cause { KeeperCause (K.state keeper.old) (K.state keeper.new) (IsErrOf result Keeper) }
 {
     let mut draft = Draft::new(alloc, keeper);
@@ -96,7 +99,7 @@ fn judge_and_commit<K: Keeper>(
     }
 }
 
-/// Opens the tables, adds an organisation where it isn't refused, and gives the page that is to be written.
+/// Opens the tables, adds an organisation if it isn't refused, and returns the page that is to be written.
 pub(crate) fn added<K: Keeper>(
     alloc: Global,
     keeper: &mut K,
@@ -109,6 +112,7 @@ pub(crate) fn added<K: Keeper>(
     ensures kept { Tells (K.state keeper.old) (K.state keeper.new) → OnErr result (Shows (K.state keeper.new) (K.state keeper.old).tables) }
     ensures own { IfErr result (λ e. IsStreams e → ⊥) }
     ensures steps { Steps (K.state keeper.old) (K.state keeper.new) }
+    ensures stands { StandsAfter (is_ok result) (K.state keeper.new) }
     ensures cause { KeeperCause (K.state keeper.old) (K.state keeper.new) (IsErrOf result KeeperFailed) }
 {
     stands_laws();

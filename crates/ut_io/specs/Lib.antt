@@ -1,6 +1,7 @@
-pub mod Moments
 pub mod Doors
 pub mod Memory
+pub mod Moments
 pub mod Standard
 pub mod Streams
+pub mod inner
 pub use Rattle.ut_value.specs.Causes

@@ -1,6 +1,5 @@
--- What the adapters of the standard streams and of the system's clock hold.
+-- What the adapters of the standard streams hold.
 use Rattle.std.specs.Prelude.{ℕ}
-use Rattle.ut_io.specs.declared.clock.SystemClock.{SystemClock}
 use Rattle.ut_io.specs.declared.standard.StdSink.{StdSink}
 use Rattle.ut_io.specs.declared.standard.StdSource.{StdSource}
 
@@ -15,7 +14,3 @@ writer_of s = s.writer
 
 abbrev pub write_faults : {W : Type 0} → StdSink W → ℕ
 write_faults s = s.faults
-
--- the moment that the system's clock told last
-abbrev pub last_answer : {R : Type 0} → SystemClock R → ℕ
-last_answer c = c.last

@@ -5,16 +5,20 @@ ghost use Rattle.ut_io.specs.declared.all.ReadFail.TheVariants.{Memory, Failed, 
 
 use crate::traits::{IoFail, Source};
 use std::alloc::{AllocError, Global};
+use thiserror::Error;
 use ut_value::Bytes;
 
 /// Why a source was not read to its end.
-#[derive(Clone, Copy, Debug, PartialEq, Eq)]
+#[derive(Clone, Copy, Debug, PartialEq, Eq, Error)]
 pub enum ReadFail {
     /// The source failed.
+    #[error("the source failed")]
     Failed,
-    /// It has more bytes than were asked for.
+    /// It has more bytes than the limit.
+    #[error("the source is longer than the limit")]
     TooLong,
-    /// Memory ran out.
+    /// Out of memory.
+    #[error("out of memory")]
     Memory,
 }
 
@@ -37,10 +41,11 @@ impl From<IoFail> for ReadFail {
 // How many bytes are asked for at once.
 const CHUNK: usize = 4096;
 
-// Reads once, and puts what came behind the bytes. Nothing comes only at the end. The memory is asked for first, so
+// Reads once, and appends what came to the bytes. Nothing comes only at the end. The memory is asked for first, so
 // that no byte is lost.
 fn read_more<S: Source>(source: &mut S, bytes: &mut Vec<u8>) -> Result<usize, ReadFail>
-    ensures kept { Keeps (prepend_known bytes.old.items (S.left source.old)) (prepend_known bytes.new.items (S.left source.new)) }
+    ensures kept { Keeps (prepend_known bytes.old.items (S.left source.old))
+        (prepend_known bytes.new.items (S.left source.new)) }
     ensures grown { IfOk result (λ n. vec_len bytes.new ≡ vec_len bytes.old + n) }
     ensures end { IfOk result (λ n. n ≡ 0 → IsAtEnd (S.left source.new)) }
     ensures stays { S.stays source.old source.new }
@@ -58,7 +63,7 @@ fn read_more<S: Source>(source: &mut S, bytes: &mut Vec<u8>) -> Result<usize, Re
 ///
 /// # Errors
 ///
-/// `TooLong` exactly where more bytes were there, `Failed` where the source fails, `Memory` where memory runs out.
+/// `TooLong` exactly where the source has more bytes, `Failed` where it fails, `Memory` where it is out of memory.
 pub fn read_all<S: Source>(alloc: Global, source: &mut S, limit: usize) -> Result<Bytes, ReadFail>
     ensures whole { IfOk result (λ bytes. IfSome (S.left source.old) (λ all. bytes ≡ all)) }
     ensures within { IfOk result (λ bytes. length bytes ≤ limit) }

@@ -1,4 +1,4 @@
-ghost use Rattle.std.specs.Prelude.{◌≡◌, ◌≤◌, [], ◌∷◌, IfOk, List, ℕ, Option, Some, None, min};
+ghost use Rattle.std.specs.Prelude.{◌≡◌, ◌≤◌, IfOk, List, ℕ, Option, Some, None};
 ghost use Rattle.std.specs.List.{All};
 ghost use Rattle.ut_io.specs.Moments.{AskedOnce, IsFirstMoment, last_moment, or_first};
 
@@ -7,7 +7,7 @@ use std::marker::Model;
 use std::time;
 use std::time::SystemTime;
 
-// 9999-12-31T23:59:59Z.
+// 9999-12-31T23:59:59Z: `last_moment` of the contracts.
 const LAST_MOMENT: u64 = 253_402_300_799;
 
 /// A clock of whole seconds from 1970-01-01T00:00:00Z.
@@ -15,15 +15,15 @@ pub trait Clock {
     /// The moments to come, where the clock tells them. There always is one.
     ghost coming: { Self → Option (List ℕ) };
 
-    /// The present moment, in seconds from 1970-01-01T00:00:00Z, at most the last second of the year 9999.
+    /// The present moment, in seconds from 1970-01-01T00:00:00Z, at most `last_moment`, the last second of the year 9999.
     fn now(&mut self) -> u64
         ensures bound { result ≤ last_moment }
         ensures first { IsFirstMoment (coming self.old) result }
         ensures asked { AskedOnce (coming self.old) (coming self.new) };
 }
 
-/// A clock in memory: it answers the moments of a list in turn, and the last one for ever.
-#[derive(Drop)]
+/// A clock in memory: it returns the moments of a list in turn, and the last one for ever.
+#[derive(Debug, Drop)]
 pub struct MemoryClock {
     moments: Vec<u64>,
     at: usize,
@@ -42,11 +42,12 @@ impl Model for MemoryClock {
 }
 
 impl MemoryClock {
-    /// A clock of these moments, in seconds from 1970-01-01T00:00:00Z. Given none it has the one moment 0.
+    /// A clock of these moments, in seconds from 1970-01-01T00:00:00Z, at most `last_moment`. Given none it has the one
+    /// moment 0.
     ///
     /// # Errors
     ///
-    /// Where memory runs out.
+    /// Where it is out of memory.
     pub fn new(alloc: Global, moments: &[u64]) -> Result<MemoryClock, AllocError>
         requires { All (λ m. m ≤ last_moment) moments.now }
         ensures { IfOk result (λ c. c ≡ or_first moments.now) }
@@ -73,20 +74,17 @@ impl Clock for MemoryClock {
 
 /// The system's clock. It tells nothing of the moments to come.
 ///
-/// Where the system's time can't be read it answers the moment that it answered last, at first 0.
-#[derive(Drop)]
+/// Where the system's time can't be read, it returns the moment that it read last, at first 0. A time after
+/// `last_moment` is returned as `last_moment`.
+#[derive(Debug, Drop)]
 pub struct SystemClock<R> {
     rt: R,
     last: u64,
 }
 
-ghost use Rattle.ut_io.specs.Standard.{last_answer};
-
 impl<R: time::Clock> SystemClock<R> {
     /// The clock of a runtime.
-    pub fn new(rt: R) -> SystemClock<R>
-        ensures { last_answer result ≡ 0 }
-    {
+    pub fn new(rt: R) -> SystemClock<R> {
         SystemClock { rt, last: 0 }
     }
 }
@@ -94,13 +92,7 @@ impl<R: time::Clock> SystemClock<R> {
 impl<R: time::Clock> Clock for SystemClock<R> {
     ghost coming = { λ _. None };
 
-    // Beside the trait's clauses: the answer is the moment that the system's clock told last.
-    fn now(&mut self) -> u64
-        ensures bound { result ≤ last_moment }
-        ensures first { IsFirstMoment None result }
-        ensures asked { AskedOnce None None }
-        ensures told { result ≡ min (last_answer self.new) last_moment }
-    {
+    fn now(&mut self) -> u64 {
         if let Ok(time) = SystemTime::now(&self.rt) {
             if let Ok(since) = time.duration_since(SystemTime::UNIX_EPOCH) {
                 self.last = since.as_secs();

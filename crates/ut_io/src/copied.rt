@@ -1,7 +1,7 @@
 ghost use Rattle.std.specs.Prelude.{◌≡◌, ◌<◌, ◌≤◌, ◌+◌, ◌-◌, ◌++◌, [], drop, length, min, take};
 
-// Copies as many bytes from a place on as a piece has room for, to its front.
-pub(crate) fn copy_front(bytes: &[u8], at: usize, into: &mut [u8]) -> usize
+// Copies as many bytes from a place on as a piece has room for, to the start of the piece.
+pub(crate) fn copy_from(bytes: &[u8], at: usize, into: &mut [u8]) -> usize
     requires { at ≤ length bytes.now }
     ensures count { result ≡ min (length into.old) (length (drop at bytes.now)) }
     ensures within { at + result ≤ length bytes.now }

@@ -1,7 +1,17 @@
 //! The outside as traits: sources and sinks of bytes, doors of connections, clocks.
 //!
-//! It stands on `ut_value`. Its contract: what an object holds is said where it tells that, and a call answers a failure
-//! only where the object's count of faults rose in that call.
+//! It depends on `ut_value`. Its contract: what an object holds is said where the object tells it, and a call returns a
+//! failure only where the object's count of faults rose in that call.
+//!
+//! # Example
+//!
+//! ```
+//! let mut source = MemorySource::new(alloc, b"abc", &[])?;
+//! let mut sink = MemorySink::new(alloc, 3, &[])?;
+//! let bytes = read_all(alloc, &mut source, 3)?;
+//! write_all(&mut sink, bytes.as_slice())?;
+//! // The source has nothing left, and `sink.written()` is `b"abc"`.
+//! ```
 #![tactic(auto)]
 
 mod all;

@@ -1,30 +1,29 @@
-ghost use Rattle.std.specs.Prelude.{◌≡◌, ◌<◌, ◌≤◌, [], false, true, length, IfOk, IsErr, Some};
+ghost use Rattle.std.specs.Prelude.{◌≡◌, ◌<◌, ◌≤◌, [], length, map, take, IfOk, IsErr, None, Ok, Some};
 ghost use Rattle.std.specs.Io.{ReadsAtMost, WritesAtMost};
 ghost use Rattle.std.specs.Io.KnownBytes.{ReadConsumes, WriteAppends};
+ghost use Rattle.std.specs.Vec.{vec_items};
 ghost use Rattle.ut_value.specs.Causes.{Cause};
-ghost use Rattle.ut_io.specs.Doors.{Nexts, ReadKeeps, WriteKeeps};
-ghost use Rattle.ut_io.specs.Memory.{after_line_read, after_line_write, after_next_call, after_open, ended, line_read_answer, line_takes, line_write_answer, next_answer, open_answer, with_output};
+ghost use Rattle.ut_io.specs.Doors as doors;
+ghost use Rattle.ut_io.specs.Doors.{Nexts, ReadKeeps, WriteKeeps, after_next, has_next, input_left, output_so_far};
+ghost use Rattle.ut_io.specs.Memory.{after_line_read, after_line_write, after_next_call, after_open, line_read_answer, line_takes, line_write_answer, next_answer, open_answer, with_written};
 
-use crate::copied::copy_front;
+use crate::copied::copy_from;
 use crate::door::Door;
 use crate::schedule::{Schedule, one_more};
 use crate::traits::IoFail;
 use std::alloc::{AllocError, Global};
-use std::collections::VecDeque;
 use std::marker::Model;
 use ut_value::Bytes;
 
 /// A door in memory: a list of connections, some of whose calls fail.
-#[derive(Drop)]
+#[derive(Debug, Drop)]
 pub struct MemoryDoor {
-    coming: VecDeque<Bytes>,
-    present: bool,
-    input: Bytes,
-    at: usize,
-    // all outputs one behind the other, where the present one begins, and how long the ended ones are
-    written: Vec<u8>,
-    begun: usize,
-    lengths: Vec<usize>,
+    // Of all connections in the order in which they come: the inputs, and the outputs, each with its room reserved.
+    inputs: Vec<Bytes>,
+    outputs: Vec<Vec<u8>>,
+    // How many connections have ended, and how far the input of the next one is read, where this is present.
+    ended: usize,
+    at: Option<usize>,
     room: usize,
     schedule: Schedule,
     faults: u64,
@@ -32,15 +31,17 @@ pub struct MemoryDoor {
 }
 
 impl Model for MemoryDoor {
-    ghost use Rattle.std.specs.Prelude.{◌≡◌, ◌≤◌, ◌+◌, ◌-◌, false, true, if◌then◌else◌, drop, length, vec_len};
-    ghost use Rattle.std.specs.Vec.{vec_capacity};
-    ghost use Rattle.ut_io.specs.Memory.{Entrance, pieces, total};
+    ghost use Rattle.std.specs.Prelude.{◌≡◌, ◌≤◌, ℕ, [], length, map, slice_index_or};
+    ghost use Rattle.std.specs.List.{All};
+    ghost use Rattle.std.specs.Vec.{vec_capacity, vec_items, vec_len};
+    ghost use Rattle.ut_io.specs.Memory.{Entrance};
+    ghost use Rattle.ut_io.specs.inner.Places.{IsReadTo, came, state_at};
 
     ghost Value = { Entrance };
 
     ghost view = { λ d. record {
-      held = record { coming = d.coming.items; present = d.present; input = drop d.at d.input; done = pieces d.lengths.items d.written.items; output = drop d.begun d.written.items };
-      room = d.room - vec_len d.written;
+      held = state_at d.inputs.items (map vec_items d.outputs.items) d.ended d.at;
+      room = d.room;
       calls = d.schedule.made;
       failing = d.schedule.failing;
       faults = d.faults;
@@ -48,23 +49,22 @@ impl Model for MemoryDoor {
     } };
 
     ghost invariant = { λ d. record {
-      within : d.at ≤ length d.input;
-      begun : d.begun ≡ total d.lengths.items;
-      written : d.begun ≤ vec_len d.written;
-      room : vec_len d.written ≤ d.room;
-      reserved : d.room ≤ vec_capacity d.written;
-      places : vec_len d.lengths + (if d.present then 1 else 0) + length d.coming.items ≤ vec_capacity d.lengths;
-      ended : d.present ≡ false → (d.at ≡ length d.input) × (d.begun ≡ vec_len d.written);
+      within : came d.ended d.at ≤ vec_len d.inputs;
+      outputs : vec_len d.outputs ≡ vec_len d.inputs;
+      read : IsReadTo d.inputs.items d.ended d.at;
+      room : All (λ v. (vec_len v ≤ d.room) × (d.room ≤ vec_capacity v)) d.outputs.items;
+      unused : (k : ℕ) → came d.ended d.at ≤ k → slice_index_or (map vec_items d.outputs.items) k [] ≡ [];
     } };
 }
 
 impl MemoryDoor {
-    /// A door through which these connections come, with room for so many bytes of output in all, which it takes now:
-    /// no later call asks for memory. The calls with the numbers in `failing`, from 1 and over all methods, fail.
+    /// A door through which these connections come, each with room for `room` bytes of output, which it takes now: no
+    /// later call asks for memory. The calls with the numbers in `failing`, from 1 and over all methods, fail, but for
+    /// reads without a connection.
     ///
     /// # Errors
     ///
-    /// Where memory runs out.
+    /// Where it is out of memory.
     pub fn new(
         alloc: Global,
         connections: &[Bytes],
@@ -72,7 +72,7 @@ impl MemoryDoor {
         failing: &[u64],
     ) -> Result<MemoryDoor, AllocError>
         ensures { IfOk result (λ d. d ≡ record {
-          held = record { coming = connections.now; present = false; input = []; done = []; output = [] };
+          held = record { coming = connections.now; present = None; done = [] };
           room = room;
           calls = 0;
           failing = failing.now;
@@ -80,18 +80,17 @@ impl MemoryDoor {
           line_faults = 0;
         }) }
     {
-        let mut coming = VecDeque::new(alloc);
+        let mut inputs = Vec::new(alloc);
+        let mut outputs = Vec::new(alloc);
         for connection in connections {
-            coming.push_back(Bytes::from_slice(alloc, connection.as_slice())?)?;
+            inputs.push(Bytes::from_slice(alloc, connection.as_slice())?)?;
+            outputs.push(Vec::with_capacity(alloc, room)?)?;
         }
         Ok(MemoryDoor {
-            coming,
-            present: false,
-            input: Bytes::from_vec(Vec::new(alloc)),
-            at: 0,
-            written: Vec::with_capacity(alloc, room)?,
-            begun: 0,
-            lengths: Vec::with_capacity(alloc, connections.len())?,
+            inputs,
+            outputs,
+            ended: 0,
+            at: None,
             room,
             schedule: Schedule::new(alloc, failing)?,
             faults: 0,
@@ -99,37 +98,64 @@ impl MemoryDoor {
         })
     }
 
-    // How many bytes of a piece the present connection takes.
-    fn takes(&self, piece: &[u8]) -> usize
-        ensures { result ≡ line_takes self.now piece.now }
+    /// The outputs of all connections so far, in the order in which they came: of those that ended, and then of the
+    /// present one.
+    pub fn outputs(&self) -> &[Vec<u8>]
+        ensures { map vec_items result.now ≡ doors.outputs self.now.held }
     {
-        if self.present {
-            piece.len().min(self.room - self.written.len())
+        &self.outputs[..self.came()]
+    }
+
+    /// How many calls of `open` and `next` have failed.
+    pub fn faults(&self) -> u64
+        ensures { result ≡ self.now.faults }
+    {
+        self.faults
+    }
+
+    /// How many calls of `read` and `write` have failed.
+    pub fn line_faults(&self) -> u64
+        ensures { result ≡ self.now.line_faults }
+    {
+        self.line_faults
+    }
+
+    // How many connections have come.
+    fn came(&self) -> usize
+        ensures { result ≡ length (doors.outputs self.now.held) }
+    {
+        if self.at.is_some() {
+            self.ended + 1
         } else {
-            0
+            self.ended
         }
     }
 
-    // Writes a piece for which there is room.
-    fn put(&mut self, piece: &[u8])
-        requires present { 0 < length piece.now → self.old.held.present ≡ true }
-        requires room { length piece.now ≤ self.old.room }
-        ensures { self.new ≡ with_output self.old piece.now }
+    // Ends the present connection, if there is one, and brings the next one, or returns false where none is to come.
+    fn bring(&mut self) -> bool
+        ensures found { result ≡ has_next self.old.held.coming }
+        ensures after { self.new ≡ record self.old { held = after_next self.old.held } }
     {
-        let _ = self.written.extend_from_slice(piece);
+        self.ended = self.came();
+        let found = self.ended < self.inputs.len();
+        self.at = if found { Some(0) } else { None };
+        found
     }
 
-    // Ends the present connection, if there is one.
-    #[tactic(auto, using(crate::proofs::Cuts::total_push))]
-    fn end(&mut self)
-        ensures { self.new ≡ ended self.old }
+    // Writes as many bytes of a piece as the present connection takes, none without one.
+    fn put(&mut self, piece: &[u8]) -> usize
+        ensures count { result ≡ line_takes self.old.held.present self.old.room piece.now }
+        ensures after { self.new
+            ≡ record self.old { held = with_written self.old.held (take result piece.now) } }
     {
-        if self.present {
-            self.lengths.push_reserved(self.written.len() - self.begun);
-            self.begun = self.written.len();
-            self.at = self.input.as_slice().len();
-            self.present = false;
+        if self.at.is_none() {
+            return 0;
         }
+        let output = &mut self.outputs[self.ended];
+        let count = piece.len().min(self.room - output.len());
+        // It can't fail: the room is reserved.
+        let _ = output.extend_from_slice(&piece[..count]);
+        count
     }
 }
 
@@ -165,41 +191,44 @@ impl Door for MemoryDoor {
             self.faults = one_more(self.faults);
             return Err(IoFail);
         }
-        self.end();
-        match self.coming.pop_front() {
-            Some(input) => {
-                self.input = input;
-                self.at = 0;
-                self.present = true;
-                Ok(true)
-            }
-            None => Ok(false),
-        }
+        Ok(self.bring())
     }
 
     fn read(&mut self, into: &mut [u8]) -> Result<usize, IoFail>
         ensures bound { ReadsAtMost result into.new }
-        ensures bytes { ReadConsumes (Some self.old.held.input) (Some self.new.held.input) result into.new }
+        ensures bytes { ReadConsumes (Some (input_left self.old.held.present))
+            (Some (input_left self.new.held.present)) result into.new }
         ensures keeps { ReadKeeps (Some self.old.held) (Some self.new.held) }
+        ensures unconnected { self.old.held.present ≡ None → result ≡ Ok 0 }
+        ensures failed { IsErr result → self.new.held ≡ self.old.held }
         ensures faults { self.new.faults ≡ self.old.faults }
         ensures cause { Cause self.old.line_faults self.new.line_faults (IsErr result) }
         ensures answer { result ≡ line_read_answer self.old (length into.old) }
         ensures after { self.new ≡ after_line_read self.old (length into.old) }
     {
-        if self.schedule.next_fails() {
-            self.line_faults = one_more(self.line_faults);
-            return Err(IoFail);
+        let fails = self.schedule.next_fails();
+        match self.at {
+            None => Ok(0),
+            Some(at) => {
+                if fails {
+                    self.line_faults = one_more(self.line_faults);
+                    return Err(IoFail);
+                }
+                let count = copy_from(self.inputs[self.ended].as_slice(), at, into);
+                self.at = Some(at + count);
+                Ok(count)
+            }
         }
-        let count = copy_front(self.input.as_slice(), self.at, into);
-        self.at += count;
-        Ok(count)
     }
 
     fn write(&mut self, piece: &[u8]) -> Result<usize, IoFail>
         ensures bound { WritesAtMost result piece.now }
         ensures progress { IfOk result (λ n. 0 < length piece.now → 0 < n) }
-        ensures bytes { WriteAppends (Some self.old.held.output) (Some self.new.held.output) result piece.now }
+        ensures bytes { WriteAppends (Some (output_so_far self.old.held.present))
+            (Some (output_so_far self.new.held.present)) result piece.now }
         ensures keeps { WriteKeeps (Some self.old.held) (Some self.new.held) }
+        ensures unconnected { self.old.held.present ≡ None → 0 < length piece.now → IsErr result }
+        ensures failed { IsErr result → self.new.held ≡ self.old.held }
         ensures faults { self.new.faults ≡ self.old.faults }
         ensures cause { Cause self.old.line_faults self.new.line_faults (IsErr result) }
         ensures answer { result ≡ line_write_answer self.old piece.now }
@@ -209,12 +238,11 @@ impl Door for MemoryDoor {
             self.line_faults = one_more(self.line_faults);
             return Err(IoFail);
         }
-        let count = self.takes(piece);
+        let count = self.put(piece);
         if count == 0 && !piece.is_empty() {
             self.line_faults = one_more(self.line_faults);
             return Err(IoFail);
         }
-        self.put(&piece[..count]);
         Ok(count)
     }
 }

@@ -10,8 +10,8 @@ use crate::traits::{IoFail, Sink};
 use std::alloc::{AllocError, Global};
 use std::marker::Model;
 
-/// A sink of bytes in memory, with room for so many, some of whose writes fail.
-#[derive(Drop)]
+/// A sink of bytes in memory with limited room, some of whose writes fail.
+#[derive(Debug, Drop)]
 pub struct MemorySink {
     bytes: Vec<u8>,
     room: usize,
@@ -26,20 +26,27 @@ impl Model for MemorySink {
 
     ghost Value = { Output };
 
-    ghost view = { λ s. record { written = s.bytes.items; room = s.room; calls = s.schedule.made; failing = s.schedule.failing; faults = s.faults } };
+    ghost view = { λ s. record {
+      written = s.bytes.items;
+      room = s.room;
+      calls = s.schedule.made;
+      failing = s.schedule.failing;
+      faults = s.faults;
+    } };
 
     ghost invariant = { λ s. (vec_len s.bytes ≤ s.room) × (s.room ≤ vec_capacity s.bytes) };
 }
 
 impl MemorySink {
-    /// A sink with room for so many bytes in all, which it takes now: no write asks for memory. The calls with the
+    /// A sink with room for `room` bytes in all, which it takes now: no write asks for memory. The calls with the
     /// numbers in `failing`, from 1, fail.
     ///
     /// # Errors
     ///
-    /// Where memory runs out.
+    /// Where it is out of memory.
     pub fn new(alloc: Global, room: usize, failing: &[u64]) -> Result<MemorySink, AllocError>
-        ensures { IfOk result (λ s. s ≡ record { written = []; room = room; calls = 0; failing = failing.now; faults = 0 }) }
+        ensures { IfOk result (λ s. s
+            ≡ record { written = []; room = room; calls = 0; failing = failing.now; faults = 0 }) }
     {
         Ok(MemorySink {
             bytes: Vec::with_capacity(alloc, room)?,
@@ -54,6 +61,13 @@ impl MemorySink {
         ensures { result.now ≡ self.now.written }
     {
         self.bytes.as_slice()
+    }
+
+    /// How many writes have failed.
+    pub fn faults(&self) -> u64
+        ensures { result ≡ self.now.faults }
+    {
+        self.faults
     }
 }
 

@@ -1,18 +1,18 @@
-ghost use Rattle.std.specs.Prelude.{refl, ◌≡◌, ◌≤◌, length, IfOk, IsErr, Some};
+ghost use Rattle.std.specs.Prelude.{refl, ◌≡◌, length, IfOk, IsErr, Some};
 ghost use Rattle.std.proofs.Common.{◌∙◌};
 ghost use Rattle.std.specs.Io.{ReadsAtMost};
 ghost use Rattle.std.specs.Io.KnownBytes.{ReadConsumes};
 ghost use Rattle.ut_value.specs.Causes.{Cause};
 ghost use Rattle.ut_io.specs.Memory.{after_read, read_answer};
 
-use crate::copied::copy_front;
+use crate::copied::copy_from;
 use crate::schedule::{Schedule, one_more};
 use crate::traits::{IoFail, Source};
 use std::alloc::{AllocError, Global};
 use std::marker::Model;
 
 /// A source of bytes in memory, some of whose reads fail.
-#[derive(Drop)]
+#[derive(Debug, Drop)]
 pub struct MemorySource {
     bytes: Vec<u8>,
     at: usize,
@@ -26,7 +26,12 @@ impl Model for MemorySource {
 
     ghost Value = { Input };
 
-    ghost view = { λ s. record { left = drop s.at s.bytes.items; calls = s.schedule.made; failing = s.schedule.failing; faults = s.faults } };
+    ghost view = { λ s. record {
+      left = drop s.at s.bytes.items;
+      calls = s.schedule.made;
+      failing = s.schedule.failing;
+      faults = s.faults;
+    } };
 
     ghost invariant = { λ s. s.at ≤ vec_len s.bytes };
 }
@@ -36,9 +41,10 @@ impl MemorySource {
     ///
     /// # Errors
     ///
-    /// Where memory runs out.
+    /// Where it is out of memory.
     pub fn new(alloc: Global, bytes: &[u8], failing: &[u64]) -> Result<MemorySource, AllocError>
-        ensures { IfOk result (λ s. s ≡ record { left = bytes.now; calls = 0; failing = failing.now; faults = 0 }) }
+        ensures { IfOk result (λ s. s
+            ≡ record { left = bytes.now; calls = 0; failing = failing.now; faults = 0 }) }
     {
         Ok(MemorySource {
             bytes: Vec::from_slice(alloc, bytes)?,
@@ -46,6 +52,20 @@ impl MemorySource {
             schedule: Schedule::new(alloc, failing)?,
             faults: 0,
         })
+    }
+
+    /// The bytes left.
+    pub fn left(&self) -> &[u8]
+        ensures { result.now ≡ self.now.left }
+    {
+        &self.bytes[self.at..]
+    }
+
+    /// How many reads have failed.
+    pub fn faults(&self) -> u64
+        ensures { result ≡ self.now.faults }
+    {
+        self.faults
     }
 }
 
@@ -72,7 +92,7 @@ impl Source for MemorySource {
             self.faults = one_more(self.faults);
             return Err(IoFail);
         }
-        let count = copy_front(self.bytes.as_slice(), self.at, into);
+        let count = copy_from(self.bytes.as_slice(), self.at, into);
         self.at += count;
         Ok(count)
     }

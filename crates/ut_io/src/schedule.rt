@@ -6,14 +6,14 @@ use std::alloc::{AllocError, Global};
 use std::marker::Model;
 
 /// Which calls of an object in memory fail, by their numbers from 1.
-#[derive(Drop)]
+#[derive(Debug, Drop)]
 pub(crate) struct Schedule {
     made: u64,
     failing: Vec<u64>,
 }
 
 impl Model for Schedule {
-    ghost use Rattle.ut_io.specs.Memory as spec;
+    ghost use Rattle.ut_io.specs.inner.Schedule as spec;
 
     ghost Value = { spec.Schedule };
 
@@ -33,14 +33,15 @@ impl Schedule {
     // Counts a call, and says whether it is one that fails.
     pub(crate) fn next_fails(&mut self) -> bool
         ensures fails { result ≡ fails_next self.old.made self.old.failing }
-        ensures counted { self.new ≡ record { made = up_to_last (self.old.made + 1); failing = self.old.failing } }
+        ensures counted { self.new
+            ≡ record { made = up_to_last (self.old.made + 1); failing = self.old.failing } }
     {
         self.made = self.made.saturating_add(1);
         self.failing.contains(&self.made)
     }
 }
 
-// A count after one more, which stands still at its last value.
+// A count after one more: it saturates.
 pub(crate) fn one_more(count: u64) -> u64
     ensures { result ≡ up_to_last (count + 1) }
 {

@@ -6,7 +6,7 @@ use std::io::{Read, Write};
 
 /// Standard input, or another reader of std, as a source. It tells what the reader tells of its bytes, which for a
 /// real stream is nothing.
-#[derive(Drop)]
+#[derive(Debug, Drop)]
 pub struct StdSource<R> {
     reader: R,
     faults: u64,
@@ -48,7 +48,7 @@ impl<R: Read> Source for StdSource<R> {
 
 /// Standard output, or another writer of std, as a sink. It tells what the writer tells of its bytes, which for a real
 /// stream is nothing.
-#[derive(Drop)]
+#[derive(Debug, Drop)]
 pub struct StdSink<W> {
     writer: W,
     faults: u64,

@@ -3,8 +3,11 @@ ghost use Rattle.std.specs.Io.{ReadsAtMost, WritesAtMost};
 ghost use Rattle.std.specs.Io.KnownBytes.{ReadConsumes, WriteAppends};
 ghost use Rattle.ut_value.specs.Causes.{Cause};
 
+use thiserror::Error;
+
 /// The outside failed.
-#[derive(Clone, Copy, Debug, PartialEq, Eq)]
+#[derive(Clone, Copy, Debug, PartialEq, Eq, Error)]
+#[error("input or output failed")]
 pub struct IoFail;
 
 /// A source of bytes.
@@ -18,7 +21,7 @@ pub trait Source {
     /// What reads leave as it is: the object itself, and all that it holds but the bytes left.
     ghost stays: { Self → Self → Type 0 };
 
-    /// Reads bytes into the front of a piece, and answers how many. None, for a piece that isn't empty, is the end.
+    /// Reads bytes into the start of a piece, and returns how many. None, for a piece that isn't empty, is the end.
     ///
     /// # Errors
     ///
@@ -45,7 +48,7 @@ pub trait Sink {
     /// What writes leave as it is: the object itself, and all that it holds but the bytes written.
     ghost stays: { Self → Self → Type 0 };
 
-    /// Writes a front of a piece, which isn't empty where the piece isn't, and answers how many bytes it has.
+    /// Writes a prefix of a piece, which isn't empty where the piece isn't, and returns how many bytes it has.
     ///
     /// # Errors
     ///

@@ -9,7 +9,7 @@ use crate::traits::{IoFail, Sink};
 ///
 /// # Errors
 ///
-/// Where the sink fails; it has then written a front of the piece.
+/// Where the sink fails; it has then written a prefix of the piece.
 pub fn write_all<W: Sink>(sink: &mut W, piece: &[u8]) -> Result<(), IoFail>
     ensures ok { OnOk result (Appends (W.written sink.old) (W.written sink.new) piece.now) }
     ensures err { OnErr result (AppendsFront (W.written sink.old) (W.written sink.new) piece.now) }

@@ -1,7 +1,6 @@
 -- Reading is exact for a part of the grammar: what it reads is spelled so, and what is spelled so is read.
-use Rattle.std.proofs.Common.{◌≡◌, ◌≢◌, ℕ, Bool, true, false, ◌==◌, cond, List, [], ◌∷◌, Some, None, refl, ◌∙◌, ap, subst, ◌≤◌, arith, eq-eqb}
-use Rattle.std.proofs.lemmas.Bool.Decides.{nat_tests}
-use Rattle.ut_json.specs.Characters.{Part, is_digit}
+use Rattle.std.proofs.Common.{◌≡◌, ℕ, Bool, true, false, ◌==◌, cond, List, [], ◌∷◌, Some, None, refl, ◌∙◌, ap, subst, eq-eqb}
+use Rattle.ut_json.specs.Characters.{Part}
 use Rattle.ut_json.specs.Numerals.{stands}
 use Rattle.ut_json.specs.Reading.{Found, Reader, behind}
 
@@ -45,9 +44,3 @@ pub moved : {A : Type 0} (part : Part A) (x a : A) (cs u rest : List ℕ) → �
 moved {A} part x a cs u rest h p =
     let f = found_is x a u rest h in
     subst (λ (r : List ℕ). part cs a r) f.1 (subst (λ (y : A). part cs y u) f.0 p)
-
-pub digit_range : (c : ℕ) → is_digit c ≡ true → (48 ≤ c) × (c ≤ 57)
-digit_range c h = grind (arith, nat_tests)
-
-pub not_same : (c k : ℕ) → c ≢ k → (c == k) ≡ false
-not_same c k h = grind (arith, nat_tests)

@@ -1,4 +1,3 @@
-pub mod Sizes
 pub mod Repeats
 pub mod Shrinks
 pub mod Fails

@@ -1,14 +1,17 @@
 -- Reading of numbers is exact.
 use Rattle.std.proofs.Common.{◌≡◌, ℕ, Bool, true, false, ◌==◌, cond, List, [], ◌∷◌, ◌++◌, length, Option, Some, None, refl, sym, ◌∙◌, ap, inl, inr, eqb-true, arith}
-use Rattle.ut_json.specs.Characters.{is_digit, digits_at, after_digits}
-use Rattle.ut_json.specs.Numerals.{Parts, stands, Minus, Digits, has_leading_zero, Whole, Fraction, is_exponent_mark, Power_sign, Exponent, Literal, of_digits, up_of, down_of, IsAmount, Numeral}
-use Rattle.ut_json.specs.Reading.{behind, some_digits, digits, signed_by, minus, whole, fraction_by, fraction, power_sign, power, exponent, literal, exactly, num_of, amount, numeral}
+use Rattle.ut_value.specs.Numerals.{exactly, is_digit, of_digits}
+use Rattle.ut_value.proofs.Places.{not_same}
+use Rattle.ut_value.proofs.Printed.{digit_range}
+use Rattle.ut_value.proofs.Sizes.{exactly_is, exactly_some, exactly_none}
+use Rattle.ut_json.specs.Characters.{digits_at, after_digits}
+use Rattle.ut_json.specs.Numerals.{Parts, stands, Minus, Digits, has_leading_zero, Whole, Fraction, is_exponent_mark, Power_sign, Exponent, Literal, IsExactly, up_of, down_of, IsAmount, Numeral}
+use Rattle.ut_json.specs.Reading.{behind, some_digits, digits, signed_by, minus, whole, fraction_by, fraction, power_sign, power, exponent, literal, num_of, amount, numeral}
 use Rattle.ut_json.specs.declared.tree.Num.{Num}
 use Rattle.ut_json.specs.declared.tree.Num.TheVariants.{Exact, Beyond}
 use Rattle.ut_json.proofs.Shrinks.{bind_some, chosen, behind_is}
 use Rattle.ut_json.proofs.Exact as e
-use Rattle.ut_json.proofs.Exact.{found_is, moved, digit_range, not_same, behind_whole, behind_stands, behind_none}
-use Rattle.ut_json.proofs.Sizes.{exactly_is, exactly_some, exactly_none}
+use Rattle.ut_json.proofs.Exact.{found_is, moved, behind_whole, behind_stands, behind_none}
 
 digits_told : (cs ds rest : List ℕ) → digits cs ≡ Some (ds, rest) → Digits cs ds rest
 unfolding digits
@@ -136,18 +139,21 @@ literal_whole cs p rest h =
 
 -- ---- the value
 
+size_found : (m k up down n : ℕ) → IsExactly m k up down n → exactly m k up down ≡ Some n
+size_found m k up down n h = exactly_some m k up down n (record { same = h.same; small = h.small })
+
 pub amount_is : (p : Parts) → IsAmount p (amount p)
 unfolding amount
 amount_is p = by_size (exactly (of_digits (p.whole ++ p.fraction)) (length p.fraction) (up_of p) (down_of p)) refl
   where
     by_size : (o : Option ℕ) → exactly (of_digits (p.whole ++ p.fraction)) (length p.fraction) (up_of p) (down_of p) ≡ o → IsAmount p (num_of p.minus o)
-    by_size None e = λ n h. let s = exactly_some _ _ _ _ n h in absurd (cc)
-    by_size (Some n) e = (n, exactly_is _ _ _ _ n e, refl)
+    by_size None e = λ n h. let s = size_found _ _ _ _ n h in absurd (cc)
+    by_size (Some n) e = let s = exactly_is _ _ _ _ n e in (n, record { same = s.same; small = s.small }, refl)
 
 pub amount_one : (p : Parts) (v : Num) → IsAmount p v → v ≡ amount p
 unfolding amount
-amount_one p (Exact z) h = rw (exactly_some _ _ _ _ h.0 h.1, h.2) refl
-amount_one p Beyond h = rw (exactly_none _ _ _ _ h) refl
+amount_one p (Exact z) h = rw (size_found _ _ _ _ h.0 h.1, h.2) refl
+amount_one p Beyond h = rw (exactly_none _ _ _ _ (λ n s. h n (record { same = s.same; small = s.small }))) refl
 
 numeral_told : (cs : List ℕ) (v : Num) (rest : List ℕ) → numeral cs ≡ Some (v, rest) → Numeral cs v rest
 unfolding numeral

@@ -7,7 +7,8 @@ use Rattle.ut_json.specs.Reading.{Turn, go_on, behind, unit_of, second_unit, low
 use Rattle.ut_json.proofs.Shrinks.{bind_some, chosen, given, behind_is, character_takes}
 use Rattle.ut_json.proofs.Repeats.{repeated-ends, repeated-goes}
 use Rattle.ut_json.proofs.Exact as e
-use Rattle.ut_json.proofs.Exact.{found_is, moved, not_same, behind_at, behind_whole}
+use Rattle.ut_json.proofs.Exact.{found_is, moved, behind_at, behind_whole}
+use Rattle.ut_value.proofs.Places.{not_same}
 
 -- four digits
 abbrev Units : Part ℕ

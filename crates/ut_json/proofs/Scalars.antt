@@ -1,21 +1,20 @@
 -- What is printed is made of Unicode scalars.
-use Rattle.std.proofs.Common.{◌≡◌, ℕ, zero, suc, ℤ, pos, negsuc, ◌/◌, ◌%◌, ◌<◌, ◌≤◌, ◌&&◌, ◌==◌, nat_lt, Bool, true, false, cond, List, [], ◌∷◌, ◌++◌, map, Option, Some, None, refl, lit<, arith}
+use Rattle.std.proofs.Common.{◌≡◌, ℕ, zero, suc, ◌/◌, ◌%◌, ◌<◌, ◌≤◌, ◌&&◌, nat_lt, Bool, true, false, cond, List, [], ◌∷◌, ◌++◌, map, Option, Some, None, refl, arith}
 use Rattle.std.specs.List.{AllByRecursion, flat_map}
-use Rattle.std.specs.Fmt.{decimal}
-use Rattle.std.specs.Str.{all_scalars}
+use Rattle.std.specs.Str.{IsAscii, all_scalars}
 use Rattle.std.proofs.Math.Utf8.{scalar}
-use Rattle.std.proofs.lemmas.Nat.{mod_below}
 use Rattle.std.proofs.lemmas.Bool.Decides.{nat_tests}
 use Rattle.ut_json.specs.Characters.{short_escape}
-use Rattle.ut_json.specs.Numerals.{exact_bound}
-use Rattle.ut_json.specs.Printing.{printed_places, printed_fraction, scale, printed_size, printed_number, letter_for, hex_digit, escaped_by, escaped, printed_text, size}
+use Rattle.ut_value.specs.Printing.{print_number}
+use Rattle.ut_value.proofs.NumberLaws.{number_ascii}
+use Rattle.ut_value.proofs.Places.{not_same}
+use Rattle.ut_json.specs.Printing.{letter_for, hex_digit, escaped_by, escaped, printed_text}
 use Rattle.ut_json.specs.Whole.{joined, printed_layer, printed_member, printed, Fits_layer, Fits_member, Fits}
 use Rattle.ut_json.specs.declared.tree.Num.TheVariants.{Exact, Beyond}
 use Rattle.ut_json.specs.declared.tree.Json.{Json, out-Json}
 use Rattle.ut_json.specs.declared.tree.Json.TheOpen.{Json-F}
 use Rattle.ut_json.specs.declared.tree.Member.{Member, out-Member}
-use Rattle.ut_json.proofs.Exact.{digit_range, not_same}
-use Rattle.ut_json.proofs.Written.{AreDigits, decimal_is, places_are, whole_small, letter_is}
+use Rattle.ut_json.proofs.Written.{letter_is}
 
 scalars_append : (xs ys : List ℕ) → all_scalars xs ≡ true → all_scalars ys ≡ true → all_scalars (xs ++ ys) ≡ true
 scalars_append [] ys p q = q
@@ -31,25 +30,9 @@ small_scalar c h = grind (arith, nat_tests)
 small_then : (c : ℕ) (cs : List ℕ) → c < 128 → all_scalars cs ≡ true → all_scalars (c ∷ cs) ≡ true
 small_then c cs h p = rw (small_scalar c h) p
 
-digits_scalars : (ds : List ℕ) → AreDigits ds → all_scalars ds ≡ true
-digits_scalars [] h = refl
-digits_scalars (d ∷ ds) h = let r = digit_range d h.0 in small_then d ds (omega (arith, r.1)) (digits_scalars ds h.1)
-
-size_scalars : (n : ℕ) → n < exact_bound → all_scalars (printed_size n) ≡ true
-unfolding printed_size
-size_scalars n h =
-    let d = decimal_is (n / scale) (whole_small n h) in
-    scalars_append (decimal (n / scale)) (printed_fraction (n % scale)) (digits_scalars (decimal (n / scale)) d.are) (by_test (n % scale == 0))
-  where
-    by_test : (b : Bool) → all_scalars (cond b [] (46 ∷ printed_places 8 (n % scale))) ≡ true
-    by_test true = refl
-    by_test false =
-        let p = places_are 8 (n % scale) (mod_below n scale (lit< tt)) in
-        small_then 46 (printed_places 8 (n % scale)) (lit< tt) (digits_scalars (printed_places 8 (n % scale)) p.are)
-
-number_scalars : (z : ℤ) → size z < exact_bound → all_scalars (printed_number z) ≡ true
-number_scalars (pos n) h = size_scalars n h
-number_scalars (negsuc n) h = small_then 45 (printed_size (suc n)) (lit< tt) (size_scalars (suc n) h)
+ascii_scalars : (cs : List ℕ) → IsAscii cs → all_scalars cs ≡ true
+ascii_scalars [] h = refl
+ascii_scalars (c ∷ cs) h = small_then c cs (h 0) (ascii_scalars cs (λ i. h (suc i)))
 
 hex_small : (d : ℕ) → d < 16 → hex_digit d < 128
 hex_small d h = grind (arith, nat_tests)
@@ -104,7 +87,7 @@ layer_scalars : (lists : List Json → List ℕ) (objects : List Member → List
 layer_scalars lists objects Lists Objects p q Json-F.Null h = refl
 layer_scalars lists objects Lists Objects p q (Json-F.Bool true) h = refl
 layer_scalars lists objects Lists Objects p q (Json-F.Bool false) h = refl
-layer_scalars lists objects Lists Objects p q (Json-F.Number (Exact z)) h = number_scalars z h
+layer_scalars lists objects Lists Objects p q (Json-F.Number (Exact z)) h = ascii_scalars (print_number z) (number_ascii z)
 layer_scalars lists objects Lists Objects p q (Json-F.Number Beyond) h = absurd h
 layer_scalars lists objects Lists Objects p q (Json-F.Text t) h = text_scalars t h
 layer_scalars lists objects Lists Objects p q (Json-F.List xs) h = scalars_append (lists xs) (93 ∷ []) (p xs h) refl

@@ -1,6 +1,7 @@
 -- What is read of numbers, words, lists and values takes characters.
 use Rattle.std.proofs.Common.{◌≡◌, ℕ, zero, suc, ◌<◌, ◌≤◌, ◌||◌, Bool, true, false, cond, ◌==◌, List, [], ◌∷◌, length, Option, Some, None, refl, ap, inl, inr, arith}
-use Rattle.ut_json.specs.Characters.{is_digit, is_space, digits_at, after_digits, after_spaces}
+use Rattle.ut_value.specs.Numerals.{is_digit}
+use Rattle.ut_json.specs.Characters.{is_space, digits_at, after_digits, after_spaces}
 use Rattle.ut_json.specs.Numerals.{has_leading_zero, is_exponent_mark}
 use Rattle.ut_json.specs.Reading.{Found, Reader, Turn, ◌>>=◌, behind, some_digits, digits, signed_by, minus, whole, fraction_by, fraction, power_sign, exponent, literal, numeral, collect, repeated, character_turn, content, quoted, separator, item_turn, listed_by, listed, element, pair, after_word, named, read_never, value_of, value}
 use Rattle.ut_json.specs.declared.tree.Json.{Json}

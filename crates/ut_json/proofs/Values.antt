@@ -1,6 +1,7 @@
 -- Reading of lists, objects and values is exact.
 use Rattle.std.proofs.Common.{◌≡◌, ℕ, zero, suc, ◌||◌, Bool, true, false, ◌==◌, if◌then◌else◌, List, [], ◌∷◌, ◌++◌, length, Option, Some, None, refl, sym, ◌∙◌, ap, subst, inl, inr, eqb-true, eq-eqb}
-use Rattle.ut_json.specs.Characters.{Part, is_digit, after_spaces}
+use Rattle.ut_value.specs.Numerals.{is_digit}
+use Rattle.ut_json.specs.Characters.{Part, after_spaces}
 use Rattle.ut_json.specs.Numerals.{Minus, Numeral}
 use Rattle.ut_json.specs.Grammar.{Items, Listed, Element, Pair, Sort, null, truth, falsehood, number, string, array, object, ValueAs, ValueOf, never, Value, depth, IsText}
 use Rattle.ut_json.specs.Reading.{Found, Reader, Turn, ◌>>=◌, go_on, behind, numeral, content, quoted, collect, repeated, separator, item_turn, listed_by, listed, element, pair, after_word, named, read_never, value_of, value, at_end, text}
@@ -12,7 +13,7 @@ use Rattle.ut_json.proofs.Shrinks.{Shrinks, bind_some, chosen, behind_is}
 use Rattle.ut_json.proofs.Shorter.{item_takes, element_shrinks, pair_shrinks, value_shrinks}
 use Rattle.ut_json.proofs.Repeats.{Takes, repeated-ends, repeated-goes}
 use Rattle.ut_json.proofs.Exact as e
-use Rattle.ut_json.proofs.Exact.{found_is, moved, digit_range, not_same, behind_at, behind_whole}
+use Rattle.ut_json.proofs.Exact.{found_is, moved, behind_at, behind_whole}
 use Rattle.ut_json.proofs.Numbers.{digits_first, numeral_exact}
 use Rattle.ut_json.proofs.Quotes.{content_exact, quoted_exact}
 
@@ -257,11 +258,11 @@ module _ (lists : Part (List Json)) (objects : Part (List Member)) (read_lists :
       ]
 
   number_whole : (c : ℕ) (cs : List ℕ) → ((c == 45) || is_digit c) ≡ true → value_of read_lists read_objects (c ∷ cs) ≡ (numeral (c ∷ cs) >>= λ n. Some (j.Number n.0, n.1))
-  unfolding value_of
+  unfolding value_of is_digit
   number_whole c cs h = rw (not_number c 34 h refl refl, not_number c 91 h refl refl, not_number c 123 h refl refl, h) refl
 
   value_as_whole : (sort : Sort) (cs : List ℕ) (v : Json) (rest : List ℕ) → ValueAs lists objects sort cs v rest → value_of read_lists read_objects cs ≡ Some (v, rest)
-  unfolding value_of named
+  unfolding value_of named is_digit
   value_as_whole null cs v rest h = rw (h.0, word_whole (117 ∷ 108 ∷ 108 ∷ []) rest, h.1) refl
   value_as_whole truth cs v rest h = rw (h.0, word_whole (114 ∷ 117 ∷ 101 ∷ []) rest, h.1) refl
   value_as_whole falsehood cs v rest h = rw (h.0, word_whole (97 ∷ 108 ∷ 115 ∷ 101 ∷ []) rest, h.1) refl
@@ -280,7 +281,7 @@ never_exact : {A : Type 0} → e.Exact {A = A} never read_never
 never_exact = record { told = λ cs a rest h. absurd (cc); whole = λ cs a rest h. absurd h }
 
 value_closes : (levels : ℕ) (rest : List ℕ) → value levels (93 ∷ rest) ≡ None
-unfolding value value_of named
+unfolding value value_of named is_digit
 value_closes zero rest = refl
 value_closes (suc levels) rest = refl
 

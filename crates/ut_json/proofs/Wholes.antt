@@ -3,7 +3,8 @@ use Rattle.std.proofs.Common.{◌≡◌, ℕ, zero, suc, ◌||◌, ◌==◌, tru
 use Rattle.std.specs.List.{AllByRecursion}
 use Rattle.std.specs.Str.{encode_utf8_all}
 use Rattle.std.proofs.lemmas.Bool.Decides.{nat_tests}
-use Rattle.ut_json.specs.Characters.{Part, is_space, is_digit, after_spaces}
+use Rattle.ut_value.specs.Numerals.{is_digit}
+use Rattle.ut_json.specs.Characters.{Part, is_space, after_spaces}
 use Rattle.ut_json.specs.Grammar.{Quoted, Items, Listed, Element, Pair, Sort, null, truth, falsehood, number, string, array, object, ValueAs, ValueOf, never, Value, depth, IsText, Spells}
 use Rattle.ut_json.specs.Printing.{printed_text, Ends}
 use Rattle.ut_json.specs.Whole.{joined, printed_layer, printed_member, printed, Fits_layer, Fits_member, Fits}
@@ -19,6 +20,7 @@ use Rattle.ut_json.proofs.Written.{number_printed, text_printed}
 -- ---- no value begins with white space
 
 space_not : (c : ℕ) → ((c == 45) || is_digit c) ≡ true → is_space c ≡ false
+unfolding is_digit
 space_not c h = grind (arith, nat_tests)
 
 value_first : (lists : Part (List Json)) (objects : Part (List Member)) (sort : Sort) (cs : List ℕ) (v : Json) (rest : List ℕ)
@@ -103,7 +105,7 @@ module _ (lists : Part (List Json)) (objects : Part (List Member)) (print_lists 
       (object, (ms, print_objects ms ++ 125 ∷ rest, ap (λ cs. 123 ∷ cs) (append_assoc (print_objects ms) (125 ∷ []) rest), objects_are ms rest h, e ∙ j.rolls-Object ms))
 
 pub value_printed : (levels : ℕ) → IsPrinted levels
-unfolding printed Fits Value
+unfolding printed Fits Value is_digit
 value_printed zero v rest h ends =
     layer_printed never never (λ xs. []) (λ ms. []) (λ xs. ⊥) (λ ms. ⊥) (λ xs rest h. absurd h) (λ ms rest h. absurd h) (out-Json v) v rest (is_layer v (out-Json v) refl) h ends
 value_printed (suc levels) v rest h ends =

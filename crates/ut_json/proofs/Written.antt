@@ -1,27 +1,23 @@
 -- What is printed of a number or a text spells it.
-use Rattle.std.proofs.Common.{◌≡◌, ◌≢◌, ℕ, zero, suc, ℤ, pos, negsuc, ◌+◌, ◌*◌, ◌/◌, ◌%◌, ◌^◌, ◌<◌, ◌≤◌, ◌||◌, ◌==◌, nat_lt, Bool, true, false, cond, if◌then◌else◌, List, [], ◌∷◌, ◌++◌, length, Option, Some, None, refl, sym, ◌∙◌, ap, subst, inl, inr, append_assoc, eqb-true, lit<, arith}
+use Rattle.std.proofs.Common.{◌≡◌, ◌≢◌, ℕ, suc, ℤ, pos, negsuc, ◌+◌, ◌*◌, ◌/◌, ◌%◌, ◌<◌, ◌≤◌, ◌||◌, ◌==◌, nat_lt, Bool, true, false, cond, List, [], ◌∷◌, ◌++◌, Option, Some, None, refl, sym, ◌∙◌, ap, subst, inl, inr, append_assoc, eqb-true, lit<, arith}
 use Rattle.std.specs.List.{flat_map}
 use Rattle.std.specs.Fmt.{decimal}
 use Rattle.std.specs.Char.{digit_value}
-use Rattle.std.proofs.Math.Nat.{pow-suc}
-use Rattle.std.proofs.lemmas.Fmt.{decimal_by_steps}
 use Rattle.std.proofs.lemmas.Str.{digit_value-digit_char}
-use Rattle.std.proofs.lemmas.Nat.{pow-add, div_below, mod_below, div-add-mod'}
+use Rattle.std.proofs.lemmas.Nat.{mod_below, div-add-mod'}
 use Rattle.std.proofs.lemmas.Bool.Decides.{nat_tests}
-use Rattle.ut_json.specs.Characters.{is_digit, digits_at, after_digits, short_escape, code_unit, is_high, is_low}
-use Rattle.ut_json.specs.Numerals.{Parts, stands, Digits, has_leading_zero, Whole, Fraction, is_exponent_mark, digit_of, of_digits, of_digits_behind, exact_bound, IsSize, Numeral}
+use Rattle.ut_value.specs.Numerals.{exact_bound, is_digit, of_digits}
+use Rattle.ut_value.specs.Printing.{print_fraction, print_number, print_places, print_size, scale}
+use Rattle.ut_value.proofs.Places.{not_same}
+use Rattle.ut_value.proofs.Printed.{AreDigits, IsDecimal, decimal_is, digit_range, fraction_of, places_are, size_is, whole_small}
+use Rattle.ut_json.specs.Characters.{digits_at, after_digits, short_escape, code_unit, is_high, is_low}
+use Rattle.ut_json.specs.Numerals.{Parts, stands, Digits, has_leading_zero, Whole, Fraction, is_exponent_mark, IsSize, Numeral}
 use Rattle.ut_json.specs.Grammar.{unescaped, short, unit, Character, Content, Quoted}
-use Rattle.ut_json.specs.Printing.{printed_places, printed_fraction, scale, printed_size, printed_number, letter_for, hex_digit, escaped_by, escaped, printed_text, size, Ends}
+use Rattle.ut_json.specs.Printing.{letter_for, hex_digit, escaped_by, escaped, printed_text, size, Ends}
 use Rattle.ut_json.specs.declared.tree.Num.TheVariants.{Exact}
-use Rattle.ut_json.proofs.Sizes.{of_digits_behind-append, ten_pos}
 use Rattle.ut_json.proofs.Shrinks.{chosen}
-use Rattle.ut_json.proofs.Exact.{not_same, digit_range}
 
 -- ---- runs of digits
-
-abbrev pub AreDigits : List ℕ → Type 0
-AreDigits [] = Unit {0}
-AreDigits (d ∷ ds) = (is_digit d ≡ true) × AreDigits ds
 
 run_at : (ds rest : List ℕ) → AreDigits ds → stands is_digit rest ≡ false → (digits_at (ds ++ rest) ≡ ds) × (after_digits (ds ++ rest) ≡ rest)
 run_at [] [] h e = (refl, refl)
@@ -31,51 +27,7 @@ run_at (d ∷ ds) rest h e = let r = run_at ds rest h.1 e in rw h.0 (ap (λ xs. 
 digits_run : (ds rest : List ℕ) → ds ≢ [] → AreDigits ds → stands is_digit rest ≡ false → Digits (ds ++ rest) ds rest
 digits_run ds rest some h e = let r = run_at ds rest h e in (some, sym r.0, sym r.1)
 
-are_more : (ds : List ℕ) (d : ℕ) → AreDigits ds → is_digit d ≡ true → AreDigits (ds ++ d ∷ [])
-are_more [] d h e = (e, tt)
-are_more (x ∷ xs) d h e = (h.0, are_more xs d h.1 e)
-
-digit_is : (k : ℕ) → k < 10 → is_digit (48 + k) ≡ true
-digit_is k h = grind (arith, nat_tests)
-
-digit_value_is : (k : ℕ) → k < 10 → digit_of (48 + k) ≡ k
-digit_value_is k h = rw (digit_is k h) (omega arith)
-
 -- ---- the whole part
-
--- the digits of n: they spell it, and a leading zero is the only digit
-pub record IsDecimal (n : ℕ) (ds : List ℕ) : Type 0 where
-  pub are : AreDigits ds
-  pub value : of_digits_behind 0 ds ≡ n
-  pub first : ℕ
-  pub more : List ℕ
-  pub is : ds ≡ first ∷ more
-  pub lead : first ≡ 48 → (n ≡ 0) × (more ≡ [])
-
-one_digit : (n : ℕ) → n < 10 → IsDecimal n ((48 + n) ∷ [])
-one_digit n h = record {
-  are = (digit_is n h, tt);
-  value = omega (arith, digit_value_is n h);
-  first = 48 + n;
-  more = [];
-  is = refl;
-  lead = λ e. (omega (arith, e), refl);
-}
-
-next_digit : (n : ℕ) (ds : List ℕ) → 10 ≤ n → IsDecimal (n / 10) ds → IsDecimal n (ds ++ (48 + n % 10) ∷ [])
-next_digit n ds h d =
-    let small : n % 10 < 10 = omega arith in
-    record {
-      are = are_more ds (48 + n % 10) d.are (digit_is (n % 10) small);
-      value = of_digits_behind-append 0 ds ((48 + n % 10) ∷ []) ∙ rw (d.value, digit_value_is (n % 10) small) (div-add-mod' n 10);
-      first = d.first;
-      more = d.more ++ (48 + n % 10) ∷ [];
-      is = ap (λ xs. xs ++ (48 + n % 10) ∷ []) d.is;
-      lead = λ e. let l = d.lead e in absurd (omega (arith, l.0));
-    }
-
-pub decimal_is : (n : ℕ) → n < 2 ^ 64 → IsDecimal n (decimal n)
-decimal_is = decimal_by_steps IsDecimal one_digit next_digit
 
 no_leading_zero : (n : ℕ) (ds : List ℕ) → IsDecimal n ds → has_leading_zero ds ≡ false
 no_leading_zero n [] d = refl
@@ -89,58 +41,7 @@ no_leading_zero n (x ∷ y ∷ ys) d = by_test (x == 48) refl
         let none = (d.lead first).1 in
         let is = d.is in absurd (cc)
 
--- ---- the fraction
-
-shifted : (m : ℕ) (ds : List ℕ) → of_digits_behind m ds ≡ m * 10 ^ length ds + of_digits_behind 0 ds
-shifted m [] = omega arith
-shifted m (d ∷ ds) =
-    let p : 10 ^ suc (length ds) ≡ 10 ^ length ds * 10 = pow-suc 10 (length ds) in
-    omega (arith, shifted (m * 10 + digit_of d) ds, shifted (0 * 10 + digit_of d) ds, ap (λ x. m * x) p)
-
-pub record IsPlaces (k f : ℕ) (ds : List ℕ) : Type 0 where
-  pub are : AreDigits ds
-  pub zeros : ℕ
-  pub count : length ds + zeros ≡ k
-  pub value : of_digits_behind 0 ds * 10 ^ zeros ≡ f
-  pub some : f ≢ 0 → ds ≢ []
-
-place_more : (k f : ℕ) → f < 10 ^ suc k → (f == 0) ≡ false → IsPlaces k (f % 10 ^ k) (printed_places k (f % 10 ^ k))
-    → IsPlaces (suc k) f ((48 + f / 10 ^ k) ∷ printed_places k (f % 10 ^ k))
-place_more k f h e rest =
-    let ds = printed_places k (f % 10 ^ k) in
-    let q = f / 10 ^ k in
-    let size : 10 ^ suc k ≡ 10 * 10 ^ k = pow-suc 10 k ∙ omega arith in
-    let small : f / 10 ^ k < 10 = div_below f (10 ^ k) 10 (ten_pos k) (omega arith) in
-    record {
-      are = (digit_is (f / 10 ^ k) small, rest.are);
-      zeros = rest.zeros;
-      count = omega (arith, rest.count);
-      value =
-          let whole : f / 10 ^ k * 10 ^ k + f % 10 ^ k ≡ f = div-add-mod' f (10 ^ k) in
-          let powers : 10 ^ length (printed_places k (f % 10 ^ k)) * 10 ^ rest.zeros ≡ 10 ^ k = sym (pow-add 10 (length (printed_places k (f % 10 ^ k))) rest.zeros) ∙ ap (λ n. 10 ^ n) rest.count in
-          let digit = digit_value_is (f / 10 ^ k) small in
-          let more = shifted (0 * 10 + digit_of (48 + f / 10 ^ k)) (printed_places k (f % 10 ^ k)) in
-          rw more (place_value (f / 10 ^ k) (0 * 10 + digit_of (48 + f / 10 ^ k)) (10 ^ length (printed_places k (f % 10 ^ k))) (10 ^ rest.zeros) (10 ^ k) _ (f % 10 ^ k) f (omega (arith, digit)) powers rest.value whole);
-      some = λ n none. absurd (cc);
-    }
-  where
-    place_value : (q d l z p o r n : ℕ) → d ≡ q → l * z ≡ p → o * z ≡ r → q * p + r ≡ n → (d * l + o) * z ≡ n
-    place_value q d l z p o r n e powers below whole = rw e (omega (arith, ap (λ x. q * x) powers))
-
-pub places_are : (k f : ℕ) → f < 10 ^ k → IsPlaces k f (printed_places k f)
-unfolding printed_places
-places_are zero f h = record { are = tt; zeros = 0; count = refl; value = omega arith; some = λ e. absurd (e (omega arith)) }
-places_are (suc k) f h = by_test (f == 0) refl (places_are k (f % 10 ^ k) (mod_below f (10 ^ k) (ten_pos k)))
-  where
-    by_test : (b : Bool) → (f == 0) ≡ b → IsPlaces k (f % 10 ^ k) (printed_places k (f % 10 ^ k)) → IsPlaces (suc k) f (cond b [] ((48 + f / 10 ^ k) ∷ printed_places k (f % 10 ^ k)))
-    by_test true e rest = let z = eqb-true f 0 e in record { are = tt; zeros = suc k; count = omega arith; value = omega (arith, z); some = λ n. absurd (n z) }
-    by_test false e rest = place_more k f h e rest
-
 -- ---- a number without its sign
-
--- the digits of a fraction
-abbrev fraction_of : ℕ → List ℕ
-fraction_of f = if f == 0 then [] else printed_places 8 f
 
 -- at the end of a number no digit, point or exponent follows
 ends_digit : (rest : List ℕ) → Ends rest → (stands is_digit rest ≡ false) × (stands (λ c. c == 46) rest ≡ false) × (stands is_exponent_mark rest ≡ false)
@@ -152,48 +53,24 @@ ends_digit (c ∷ cs) h = apart (is_digit c) (c == 46) (is_exponent_mark c) h
     apart false true d h = absurd (cc)
     apart false false d h = (refl, refl, h)
 
-fraction_is : (f : ℕ) (rest : List ℕ) → f < scale → Ends rest → Fraction (printed_fraction f ++ rest) (fraction_of f) rest × (stands is_digit (printed_fraction f ++ rest) ≡ false)
+fraction_is : (f : ℕ) (rest : List ℕ) → f < scale → Ends rest → Fraction (print_fraction f ++ rest) (fraction_of f) rest × (stands is_digit (print_fraction f ++ rest) ≡ false)
+unfolding is_digit
 fraction_is f rest h ends = by_test (f == 0) refl
   where
-    by_test : (b : Bool) → (f == 0) ≡ b → Fraction (cond b [] (46 ∷ printed_places 8 f) ++ rest) (cond b [] (printed_places 8 f)) rest × (stands is_digit (cond b [] (46 ∷ printed_places 8 f) ++ rest) ≡ false)
+    by_test : (b : Bool) → (f == 0) ≡ b → Fraction (cond b [] (46 ∷ print_places 8 f) ++ rest) (cond b [] (print_places 8 f)) rest × (stands is_digit (cond b [] (46 ∷ print_places 8 f) ++ rest) ≡ false)
     by_test true e = let s = ends_digit rest ends in (inl (refl, refl, s.1), s.0)
     by_test false e =
         let p = places_are 8 f h in
         let s = ends_digit rest ends in
         let some : f ≢ 0 = grind (arith, nat_tests, e) in
-        (inr (printed_places 8 f ++ rest, refl, digits_run (printed_places 8 f) rest (p.some some) p.are s.0), refl)
-
-fraction_value : (f : ℕ) → f < scale → (zeros : ℕ) × (length (fraction_of f) + zeros ≡ 8) × (of_digits_behind 0 (fraction_of f) * 10 ^ zeros ≡ f)
-fraction_value f h = by_test (f == 0) refl
-  where
-    by_test : (b : Bool) → (f == 0) ≡ b → (zeros : ℕ) × (length (cond b [] (printed_places 8 f)) + zeros ≡ 8) × (of_digits_behind 0 (cond b [] (printed_places 8 f)) * 10 ^ zeros ≡ f)
-    by_test true e = (8, refl, sym (eqb-true f 0 e))
-    by_test false e = let p = places_are 8 f h in (p.zeros, p.count, p.value)
+        (inr (print_places 8 f ++ rest, refl, digits_run (print_places 8 f) rest (p.some some) p.are s.0), refl)
 
 abbrev parts_of : Bool → ℕ → Parts
 parts_of minus n = record { minus = minus; whole = decimal (n / scale); fraction = fraction_of (n % scale); down = false; power = [] }
 
-pub whole_small : (n : ℕ) → n < exact_bound → n / scale < 2 ^ 64
-whole_small n h = let b : n / 10 ^ 8 < 10 ^ 18 = div_below n (10 ^ 8) (10 ^ 18) (lit< tt) h in omega arith
-
-number_value : (n w f part p z s : ℕ) → w * s + f ≡ n → p * z ≡ s → part * z ≡ f → n * p ≡ (w * p + part) * s
-number_value n w f part p z s whole powers value = omega (arith, ap (λ x. x * p) whole, ap (λ x. part * x) powers, ap (λ x. x * p) value)
-
-size_is : (minus : Bool) (n : ℕ) → n < exact_bound → IsSize (parts_of minus n) n
+parts_size : (minus : Bool) (n : ℕ) → n < exact_bound → IsSize (parts_of minus n) n
 unfolding of_digits
-size_is minus n h = record {
-  same =
-      let d = decimal_is (n / scale) (whole_small n h) in
-      let v = fraction_value (n % scale) (mod_below n scale (lit< tt)) in
-      let digits = of_digits_behind-append 0 (decimal (n / scale)) (fraction_of (n % scale)) ∙ ap (λ m. of_digits_behind m (fraction_of (n % scale))) d.value ∙ shifted (n / scale) (fraction_of (n % scale)) in
-      let powers : 10 ^ length (fraction_of (n % scale)) * 10 ^ v.0 ≡ 10 ^ 8 = sym (pow-add 10 (length (fraction_of (n % scale))) v.0) ∙ ap (λ k. 10 ^ k) v.1 in
-      let whole : n / 10 ^ 8 * 10 ^ 8 + n % 10 ^ 8 ≡ n = div-add-mod' n (10 ^ 8) in
-      let count : length (fraction_of (n % scale)) + 0 ≡ length (fraction_of (n % scale)) = omega arith in
-      ap (λ k. n * 10 ^ k) count
-      ∙ number_value n (n / scale) (n % scale) (of_digits_behind 0 (fraction_of (n % scale))) (10 ^ length (fraction_of (n % scale))) (10 ^ v.0) (10 ^ 8) whole powers v.2
-      ∙ sym (ap (λ m. m * 10 ^ 8) digits);
-  small = h;
-}
+parts_size minus n h = let s = size_is n h in record { same = s.same; small = s.small }
 
 -- what a number without its sign spells, in front of b and then rest
 abbrev Unsigned : ℕ → List ℕ → List ℕ → List ℕ → Type 0
@@ -208,22 +85,22 @@ whole_is n ds b d e =
       ap (λ xs. stands (λ c. c == 45) (xs ++ b)) d.is ∙ not_same d.first 45 (omega (arith, r.0)),
     )
 
-unsigned : (n : ℕ) (rest : List ℕ) → n < exact_bound → Ends rest → (b : List ℕ) × Unsigned n b rest (printed_size n ++ rest)
-unfolding printed_size
+unsigned : (n : ℕ) (rest : List ℕ) → n < exact_bound → Ends rest → (b : List ℕ) × Unsigned n b rest (print_size n ++ rest)
+unfolding print_size
 unsigned n rest h ends =
     let f = fraction_is (n % scale) rest (mod_below n scale (lit< tt)) ends in
-    let w = whole_is (n / scale) (decimal (n / scale)) (printed_fraction (n % scale) ++ rest) (decimal_is (n / scale) (whole_small n h)) f.1 in (
-      printed_fraction (n % scale) ++ rest,
-      subst (Unsigned n (printed_fraction (n % scale) ++ rest) rest) (sym (append_assoc (decimal (n / scale)) (printed_fraction (n % scale)) rest)) (w.0, f.0, w.1),
+    let w = whole_is (n / scale) (decimal (n / scale)) (print_fraction (n % scale) ++ rest) (decimal_is (n / scale) (whole_small n h)) f.1 in (
+      print_fraction (n % scale) ++ rest,
+      subst (Unsigned n (print_fraction (n % scale) ++ rest) rest) (sym (append_assoc (decimal (n / scale)) (print_fraction (n % scale)) rest)) (w.0, f.0, w.1),
     )
 
-pub number_printed : (z : ℤ) (rest : List ℕ) → size z < exact_bound → Ends rest → Numeral (printed_number z ++ rest) (Exact z) rest
+pub number_printed : (z : ℤ) (rest : List ℕ) → size z < exact_bound → Ends rest → Numeral (print_number z ++ rest) (Exact z) rest
 number_printed (pos n) rest h ends =
     let u = unsigned n rest h ends in
-    (parts_of false n, (printed_size n ++ rest, u.0, rest, (refl, u.1.2), u.1.0, u.1.1, inl (refl, refl, refl, (ends_digit rest ends).2)), (n, size_is false n h, refl))
+    (parts_of false n, (print_size n ++ rest, u.0, rest, (refl, u.1.2), u.1.0, u.1.1, inl (refl, refl, refl, (ends_digit rest ends).2)), (n, parts_size false n h, refl))
 number_printed (negsuc n) rest h ends =
     let u = unsigned (suc n) rest h ends in
-    (parts_of true (suc n), (printed_size (suc n) ++ rest, u.0, rest, refl, u.1.0, u.1.1, inl (refl, refl, refl, (ends_digit rest ends).2)), (suc n, size_is true (suc n) h, refl))
+    (parts_of true (suc n), (print_size (suc n) ++ rest, u.0, rest, refl, u.1.0, u.1.1, inl (refl, refl, refl, (ends_digit rest ends).2)), (suc n, parts_size true (suc n) h, refl))
 
 -- ---- strings
 

@@ -1,6 +1,7 @@
 -- Classes of characters, and what stands behind a run of them. RFC 8259.
 use Rattle.std.specs.Prelude.{ℕ, ◌+◌, ◌-◌, ◌*◌, Bool, ◌&&◌, ◌||◌, ◌==◌, nat_le, nat_lt, if◌then◌else◌, List, [], ◌∷◌, Option, Some, None}
 use Rattle.std.specs.Char.{digit_value}
+use Rattle.ut_value.specs.Numerals.{is_digit}
 
 -- a part of the grammar: a text, the value that its front spells, and the text behind
 abbrev pub Part : Type 0 → Type 1
@@ -14,10 +15,6 @@ is_space c = (c == 32) || (c == 9) || (c == 10) || (c == 13)
 abbrev pub after_spaces : List ℕ → List ℕ
 after_spaces [] = []
 after_spaces (c ∷ cs) = if is_space c then after_spaces cs else c ∷ cs
-
--- section 6: `0` to `9`
-abbrev pub is_digit : ℕ → Bool
-is_digit c = nat_le 48 c && nat_le c 57
 
 -- section 6: the digits at the front
 abbrev pub digits_at : List ℕ → List ℕ

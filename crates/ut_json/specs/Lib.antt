@@ -4,7 +4,6 @@ pub mod Numerals
 pub mod Outcomes
 pub mod Reading
 pub mod Literals
-pub mod Mantissas
 pub mod Turns
 pub mod Printing
 pub mod Whole

@@ -1,6 +1,7 @@
 -- Number literals and their exact values. RFC 8259, section 6.
-use Rattle.std.specs.Prelude.{◌≡◌, ◌≢◌, ℕ, zero, suc, ℤ, pos, negsuc, ◌+◌, ◌-◌, ◌*◌, ◌^◌, ◌<◌, ◌⊎◌, Bool, true, false, ◌||◌, ◌==◌, if◌then◌else◌, List, [], ◌∷◌, ◌++◌, length}
-use Rattle.ut_json.specs.Characters.{Part, is_digit, digits_at, after_digits}
+use Rattle.std.specs.Prelude.{◌≡◌, ◌≢◌, ℕ, ◌+◌, ◌*◌, ◌^◌, ◌<◌, ◌⊎◌, Bool, true, false, ◌||◌, ◌==◌, if◌then◌else◌, List, [], ◌∷◌, ◌++◌, length}
+use Rattle.ut_value.specs.Numerals.{exact_bound, of_digits, signed}
+use Rattle.ut_json.specs.Characters.{Part, digits_at, after_digits}
 use Rattle.ut_json.specs.declared.tree.Num.{Num}
 use Rattle.ut_json.specs.declared.tree.Num.TheVariants.{Exact, Beyond}
 
@@ -62,32 +63,10 @@ Literal cs p rest =
     (a : List ℕ) × (b : List ℕ) × (c : List ℕ)
     × Minus cs p.minus a × Whole a p.whole b × Fraction b p.fraction c × Exponent c p.down p.power rest
 
--- the number of a digit
-abbrev pub digit_of : ℕ → ℕ
-digit_of c = if is_digit c then c - 48 else 0
-
--- the number that digits spell, behind others that spell n
-abbrev pub of_digits_behind : ℕ → List ℕ → ℕ
-of_digits_behind n [] = n
-of_digits_behind n (d ∷ ds) = of_digits_behind (n * 10 + digit_of d) ds
-
-unfoldable pub of_digits : List ℕ → ℕ
-of_digits ds = of_digits_behind 0 ds
-
--- the size of an exact number, as a count of 10^-8, is smaller than this
-abbrev pub exact_bound : ℕ
-exact_bound = 10 ^ 26
-
 -- n * 10^-8 is m * 10^(up - k - down), and smaller than 10^18
 pub record IsExactly (m k up down n : ℕ) : Type 0 where
   pub same : n * 10 ^ (k + down) ≡ m * 10 ^ (8 + up)
   pub small : n < exact_bound
-
--- zero has no sign
-abbrev pub signed : Bool → ℕ → ℤ
-signed true zero = pos 0
-signed true (suc n) = negsuc n
-signed false n = pos n
 
 abbrev pub up_of : Parts → ℕ
 up_of p = if p.down then 0 else of_digits p.power

@@ -1,32 +1,10 @@
 -- What the writer writes: numbers, strings and marks. RFC 8259.
-use Rattle.std.specs.Prelude.{◌≡◌, ℕ, zero, suc, ℤ, pos, negsuc, ◌+◌, ◌/◌, ◌%◌, ◌^◌, Bool, true, false, ◌==◌, ◌||◌, nat_lt, if◌then◌else◌, List, [], ◌∷◌, ◌++◌, Option, Some, None}
+use Rattle.std.specs.Prelude.{◌≡◌, ℕ, suc, ℤ, pos, negsuc, ◌+◌, ◌/◌, ◌%◌, Bool, true, false, ◌==◌, ◌||◌, nat_lt, if◌then◌else◌, List, [], ◌∷◌, ◌++◌, Option, Some, None}
 use Rattle.std.specs.List.{flat_map}
-use Rattle.std.specs.Fmt.{decimal}
-use Rattle.ut_json.specs.Characters.{is_digit}
+use Rattle.ut_value.specs.Numerals.{is_digit}
 use Rattle.ut_json.specs.Numerals.{stands, is_exponent_mark}
 use Rattle.ut_json.specs.declared.writer.Mark.{Mark}
 use Rattle.ut_json.specs.declared.writer.Mark.TheVariants.{OpenList, CloseList, OpenObject, CloseObject, Comma, Colon}
-
--- section 6: the digits of f in so many places, without the zeros at their end
-unfoldable pub printed_places : ℕ → ℕ → List ℕ
-printed_places zero f = []
-printed_places (suc k) f = if f == 0 then [] else (48 + f / 10 ^ k) ∷ printed_places k (f % 10 ^ k)
-
--- section 6: a point and these digits, or nothing
-abbrev pub printed_fraction : ℕ → List ℕ
-printed_fraction f = if f == 0 then [] else 46 ∷ printed_places 8 f
-
--- the scale: a number is a count of 10^-8
-abbrev pub scale : ℕ
-scale = 10 ^ 8
-
-unfoldable pub printed_size : ℕ → List ℕ
-printed_size n = decimal (n / scale) ++ printed_fraction (n % scale)
-
--- section 6: a number with this count of 10^-8
-abbrev pub printed_number : ℤ → List ℕ
-printed_number (pos n) = printed_size n
-printed_number (negsuc n) = 45 ∷ printed_size (suc n)
 
 -- section 7: the letter that stands for a character behind a backslash
 abbrev pub letter_for : ℕ → Option ℕ

@@ -1,7 +1,8 @@
 -- Reading by functions: the value at the front of a text, and what stands behind it.
-use Rattle.std.specs.Prelude.{ℕ, zero, suc, ◌+◌, ◌*◌, ◌/◌, ◌%◌, ◌^◌, Bool, true, false, ◌&&◌, ◌||◌, ◌==◌, nat_lt, if◌then◌else◌, List, [], ◌∷◌, ◌++◌, length, Option, Some, None}
-use Rattle.ut_json.specs.Characters.{after_spaces, is_digit, digits_at, after_digits, short_escape, code_unit, is_high, is_low, paired}
-use Rattle.ut_json.specs.Numerals.{Parts, has_leading_zero, is_exponent_mark, of_digits, exact_bound, signed, up_of, down_of}
+use Rattle.std.specs.Prelude.{ℕ, zero, suc, Bool, true, false, ◌||◌, ◌==◌, nat_lt, if◌then◌else◌, List, [], ◌∷◌, ◌++◌, length, Option, Some, None}
+use Rattle.ut_value.specs.Numerals.{exactly, is_digit, of_digits, signed}
+use Rattle.ut_json.specs.Characters.{after_spaces, digits_at, after_digits, short_escape, code_unit, is_high, is_low, paired}
+use Rattle.ut_json.specs.Numerals.{Parts, has_leading_zero, is_exponent_mark, up_of, down_of}
 use Rattle.ut_json.specs.Grammar.{depth}
 use Rattle.ut_json.specs.declared.tree.Num.{Num}
 use Rattle.ut_json.specs.declared.tree.Num.TheVariants.{Exact, Beyond}
@@ -66,13 +67,6 @@ unfoldable pub literal : Reader Parts
 literal cs =
     whole (minus cs).1 >>= λ w. fraction w.1 >>= λ f. exponent f.1 >>= λ e.
     Some (record { minus = (minus cs).0; whole = w.0; fraction = f.0; down = e.0.0; power = e.0.1 }, e.1)
-
--- n where n * b is a and n is small
-abbrev pub quotient : ℕ → ℕ → Option ℕ
-quotient a b = if (a % b == 0) && nat_lt (a / b) exact_bound then Some (a / b) else None
-
-unfoldable pub exactly : ℕ → ℕ → ℕ → ℕ → Option ℕ
-exactly m k up down = quotient (m * 10 ^ (8 + up)) (10 ^ (k + down))
 
 abbrev pub num_of : Bool → Option ℕ → Num
 num_of sign None = Beyond

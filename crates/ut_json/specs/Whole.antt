@@ -2,8 +2,9 @@
 use Rattle.std.specs.Prelude.{◌≡◌, ℕ, zero, suc, ◌<◌, true, List, [], ◌∷◌, ◌++◌, map}
 use Rattle.std.specs.List.{AllByRecursion}
 use Rattle.std.specs.Str.{all_scalars}
-use Rattle.ut_json.specs.Numerals.{exact_bound}
-use Rattle.ut_json.specs.Printing.{printed_number, printed_text, printed_truth, printed_null, size}
+use Rattle.ut_value.specs.Numerals.{exact_bound}
+use Rattle.ut_value.specs.Printing.{print_number}
+use Rattle.ut_json.specs.Printing.{printed_text, printed_truth, printed_null, size}
 use Rattle.ut_json.specs.declared.tree.Num.{Num}
 use Rattle.ut_json.specs.declared.tree.Num.TheVariants.{Exact, Beyond}
 use Rattle.ut_json.specs.declared.tree.Json.{Json, out-Json}
@@ -17,7 +18,7 @@ joined (x ∷ []) = x
 joined (x ∷ y ∷ ys) = x ++ 44 ∷ joined (y ∷ ys)
 
 abbrev pub printed_num : Num → List ℕ
-printed_num (Exact z) = printed_number z
+printed_num (Exact z) = print_number z
 printed_num Beyond = []
 
 -- a value, by what is between the brackets of a list and of an object

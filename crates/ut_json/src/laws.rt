@@ -2,8 +2,10 @@
 
 ghost use Rattle.std.specs.Prelude.{◌≡◌, ℤ, ℕ, List, ◌++◌, ◌<◌, encode_utf8_all};
 ghost use Rattle.ut_json.specs.Grammar.{Quoted, Spells, depth};
-ghost use Rattle.ut_json.specs.Numerals.{Numeral, exact_bound};
-ghost use Rattle.ut_json.specs.Printing.{printed_number, printed_text, size, Ends};
+ghost use Rattle.ut_value.specs.Numerals.{exact_bound};
+ghost use Rattle.ut_value.specs.Printing.{print_number};
+ghost use Rattle.ut_json.specs.Numerals.{Numeral};
+ghost use Rattle.ut_json.specs.Printing.{printed_text, size, Ends};
 ghost use Rattle.ut_json.specs.Whole.{printed, Fits};
 ghost use Rattle.ut_json.specs.declared.tree.Json.{Json};
 ghost use Rattle.ut_json.specs.declared.tree.Num.TheVariants.{Exact};
@@ -11,7 +13,7 @@ ghost use Rattle.ut_json.specs.declared.tree.Num.TheVariants.{Exact};
 /// What is printed is read, also in front of more text: a number that is small enough, each text, and each whole
 /// value of such numbers in which no more than 32 brackets are open.
 pub fn json_laws()
-    ensures numbers { (z : ℤ) (rest : List ℕ) → size z < exact_bound → Ends rest → Numeral (printed_number z ++ rest) (Exact z) rest }
+    ensures numbers { (z : ℤ) (rest : List ℕ) → size z < exact_bound → Ends rest → Numeral (print_number z ++ rest) (Exact z) rest }
     ensures texts { (cs rest : List ℕ) → Quoted (printed_text cs ++ rest) cs rest }
     ensures values { (v : Json) → Fits depth v → Spells (encode_utf8_all (printed depth v)) v }
 {}

@@ -1,69 +1,11 @@
-//! The texts of numbers and strings.
+//! The texts of strings.
 
-ghost use Rattle.std.specs.Prelude.{◌≡◌, ◌+◌, ◌<◌, ◌^◌, ◌++◌, IfOk, OnOk, encode_utf8_all, Some, None};
+ghost use Rattle.std.specs.Prelude.{◌≡◌, ◌<◌, ◌++◌, IfOk, OnOk, encode_utf8_all, Some, None};
 ghost use Rattle.std.specs.Str.{chars};
 ghost use Rattle.std.specs.String.{string_bytes};
-ghost use Rattle.ut_json.specs.Printing.{printed_places, printed_fraction, printed_size, printed_number, letter_for, escaped, hex_digit, printed_text, scale};
+ghost use Rattle.ut_json.specs.Printing.{letter_for, escaped, hex_digit, printed_text};
 
 use std::alloc::{AllocError, Global};
-
-/// The count of 10^-8 in one.
-const SCALE: u128 = 100_000_000;
-
-fn digit(value: u32) -> char
-    requires { value < 10 }
-    ensures { result ≡ 48 + value }
-{
-    (b'0' + value as u8) as char
-}
-
-/// Adds the digits of a fraction in eight places, without the zeros at their end.
-fn push_places(text: &mut String, fraction: u128) -> Result<(), AllocError>
-    requires { fraction < scale }
-    ensures { OnOk result (string_bytes text.new ≡ string_bytes text.old ++ printed_places 8 fraction) }
-{
-    let mut rest = fraction;
-    let mut places = 8;
-    'places: while rest != 0 {
-        places -= 1;
-        let unit = 10u128.pow(places);
-        text.push(digit((rest / unit) as u32))?;
-        rest %= unit;
-    }
-    Ok(())
-}
-
-fn push_fraction(text: &mut String, fraction: u128) -> Result<(), AllocError>
-    requires { fraction < scale }
-    ensures { OnOk result (string_bytes text.new ≡ string_bytes text.old ++ printed_fraction fraction) }
-{
-    if fraction == 0 {
-        return Ok(());
-    }
-    text.push('.')?;
-    push_places(text, fraction)
-}
-
-#[tactic(auto, unfolding(crate::specs::Printing::printed_size))]
-fn push_size(alloc: Global, text: &mut String, size: u128) -> Result<(), AllocError>
-    ensures { OnOk result (string_bytes text.new ≡ string_bytes text.old ++ printed_size size) }
-{
-    let whole = (size / SCALE).to_string(alloc)?;
-    text.push_str(whole.as_str())?;
-    push_fraction(text, size % SCALE)
-}
-
-/// The text of a count of 10^-8.
-pub fn number_text(alloc: Global, value: i128) -> Result<String, AllocError>
-    ensures { IfOk result (λ text. string_bytes text ≡ printed_number value) }
-{
-    let mut text = String::new(alloc);
-    if value < 0 {
-        text.push('-')?;
-    }
-    push_size(alloc, &mut text, value.unsigned_abs())?;
-    Ok(text)
-}
 
 fn letter_for(c: char) -> Option<char>
     ensures { result ≡ letter_for c }

@@ -12,10 +12,10 @@ use crate::JsonFail;
 use crate::amount::amount;
 use crate::numeral::literal_at;
 use crate::quoted::{content, quoted};
-use crate::scan::{after_spaces, behind, first, is_digit, skip};
+use crate::scan::{after_spaces, behind, first, skip};
 use crate::tree::{Json, Member, Num};
 use std::alloc::{AllocError, Global};
-use ut_value::Items;
+use ut_value::{Items, is_digit};
 
 /// So many lists and objects may be open at once.
 const DEPTH: u8 = 32;

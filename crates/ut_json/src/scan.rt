@@ -1,11 +1,12 @@
 //! Single characters, white space and digits.
 
 ghost use Rattle.std.specs.Prelude.{◌≡◌, ◌<◌, ◌≤◌, ◌+◌, length, IfOk, IfSome, MatchOption, take, drop, ◌∷◌, [], Some, None};
-ghost use Rattle.ut_json.specs.Characters.{is_space, is_digit, after_spaces, digits_at, after_digits};
+ghost use Rattle.ut_json.specs.Characters.{is_space, after_spaces, digits_at, after_digits};
 ghost use Rattle.ut_json.specs.Reading as spec;
 ghost use Rattle.ut_json.specs.Outcomes.{Gives, Finds};
 
 use crate::JsonFail;
+use ut_value::is_digit;
 
 /// The first character, and those behind it.
 pub fn first(chars: &[char]) -> Option<(char, &[char])>
@@ -58,12 +59,6 @@ pub fn after_spaces(chars: &[char]) -> &[char]
         rest = tail;
     }
     rest
-}
-
-pub fn is_digit(c: char) -> bool
-    ensures { result ≡ is_digit c }
-{
-    '0' <= c && c <= '9'
 }
 
 fn count_digits(chars: &[char]) -> usize

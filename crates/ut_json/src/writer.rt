@@ -2,12 +2,13 @@
 
 ghost use Rattle.std.specs.Prelude.{◌≡◌, [], ◌∷◌, ◌++◌, OnOk, OnErr, encode_utf8_all};
 ghost use Rattle.std.specs.Str.{chars};
-ghost use Rattle.ut_json.specs.Printing.{printed_number, printed_text, printed_truth, printed_null, mark_of};
+ghost use Rattle.ut_value.specs.Printing.{print_number};
+ghost use Rattle.ut_json.specs.Printing.{printed_text, printed_truth, printed_null, mark_of};
 
-use crate::printing::{number_text, quoted_text};
+use crate::printing::quoted_text;
 use std::alloc::{AllocError, Global};
 use std::marker::Model;
-use ut_value::Bytes;
+use ut_value::{Bytes, number_text};
 
 /// The characters that hold values together.
 #[derive(Clone, Copy, Debug, PartialEq, Eq)]
@@ -94,7 +95,7 @@ impl Writer {
 
     /// A number, given as a count of 10^-8.
     pub fn number(&mut self, alloc: Global, value: i128) -> Result<(), AllocError>
-        ensures ok { OnOk result (self.new ≡ self.old ++ printed_number value) }
+        ensures ok { OnOk result (self.new ≡ self.old ++ print_number value) }
         ensures err { OnErr result (self.new ≡ self.old) }
     {
         let text = number_text(alloc, value)?;

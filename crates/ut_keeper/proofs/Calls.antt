@@ -1,11 +1,15 @@
 -- One call after another.
-use Rattle.std.proofs.Common.{◌≡◌, inl, inr, ℕ, ◌+◌, ◌≤◌, length, refl, ap, ◌∙◌, arith}
+use Rattle.std.proofs.Common.{◌≡◌, inl, inr, ℕ, ◌+◌, ◌≤◌, length, Bool, true, false, IsTrue, true≢false, refl, sym, ap, ◌∙◌, arith}
 use Rattle.ut_keeper.specs.State.{KeeperState, Steps, Reads, data_table}
 use Rattle.ut_keeper.specs.Laid.{laid, removals}
 use Rattle.ut_keeper.specs.Draft.{Held, tables_of, DraftReads, DraftWorks, DraftTells, rise}
 
 pub steps_same : (s : KeeperState) → Steps s s
-steps_same s = record { counts = omega arith; stood = λ h. h; was_clean = λ h. h; closes = λ h _. inl h; sure = λ h. (h, refl, λ still. still) }
+steps_same s = record { counts = omega arith; stood = λ h. h; was_clean = λ h. h; closes = λ h _. inl h; sure = λ h. (h, refl, λ still. still); shut = λ _ _ m h. h }
+
+fallen : (was is : Bool) → (IsTrue is → IsTrue was) → was ≡ false → is ≡ false
+fallen was true stood fell = absurd (true≢false (sym (stood refl) ∙ fell))
+fallen was false stood fell = refl
 
 pub steps_on : (a b c : KeeperState) → Steps a b → Steps b c → Steps a c
 steps_on a b c s r = record {
@@ -17,16 +21,17 @@ steps_on a b c s r = record {
     | inr fault ↦ inr (omega (arith, fault, r.counts))
   ];
   sure = λ h. let p = s.sure h in let q = r.sure p.0 in (q.0, q.1 ∙ p.1, λ still. q.2 (p.2 still));
+  shut = λ fell clean m h. s.shut fell (r.was_clean clean) m (r.shut (fallen a.stands b.stands s.stood fell) clean m h);
 }
 
 pub reads_same : (s : KeeperState) → Reads s s
-reads_same s = record { steps = steps_same s; same = λ told. (told.0, refl); crash = λ _ _ m h. h; written = refl }
+reads_same s = record { steps = steps_same s; same = λ told. (told.0, refl); crash = λ _ m h. h; written = refl }
 
 pub reads_on : (s t u : KeeperState) → Reads s t → Reads t u → Reads s u
 reads_on s t u a b = record {
   steps = steps_on s t u a.steps b.steps;
   same = λ told. let p = a.same (told.0, b.steps.stood told.1) in let q = b.same (p.0, told.1) in (q.0, q.1 ∙ p.1);
-  crash = λ told clean m h. let p = a.same (told.0, b.steps.stood told.1) in a.crash (told.0, b.steps.stood told.1) (b.steps.was_clean clean) m (b.crash (p.0, told.1) clean m h);
+  crash = λ clean m h. a.crash (b.steps.was_clean clean) m (b.crash clean m h);
   written = b.written ∙ a.written;
 }
 

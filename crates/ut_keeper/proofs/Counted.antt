@@ -7,7 +7,8 @@ use Rattle.std.specs.BTreeMap.{insert_entry}
 use Rattle.ut_keeper.specs.Tables.{Place, place_cmp, is_between}
 use Rattle.ut_value.specs.Causes.{up_to_last}
 use Rattle.ut_keeper.specs.State.{KeeperState, more_shown, data_rows, data_table, ShowsMost, ShownMost}
-use Rattle.ut_keeper.specs.Laid.{Entry, removals, gaps, gap, within}
+use Rattle.ut_keeper.specs.Laid.{Entry, removals, gap}
+use Rattle.ut_keeper.specs.inner.Merging.{gaps, within}
 use Rattle.ut_keeper.proofs.Places.{places_exact}
 
 -- a count that stays at its last value rises by no more

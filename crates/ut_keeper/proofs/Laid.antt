@@ -1,5 +1,5 @@
 -- What entries laid over rows have at a place.
-use Rattle.std.proofs.Common.{◌≡◌, ℕ, List, [], ◌∷◌, Bool, true, false, cond, Option, Some, None, is_some, true≢false, is_eq, refl, sym, ap, ◌∙◌}
+use Rattle.std.proofs.Common.{◌≡◌, ℕ, List, [], ◌∷◌, Bool, true, false, cond, Option, Some, None, is_eq, refl, sym, ap, ◌∙◌}
 use Rattle.std.specs.Ordering.{eq_by_cmp}
 use Rattle.std.specs.Cmp.{eq_by_cmp_equiv, Equal-is}
 use Rattle.std.specs.FinMap.{get, get-insert, get-remove, get-empty, same_map}
@@ -52,14 +52,15 @@ pub tables-updates : (m n : BTreeMap Place (Option (List ℕ))) (p : Place) (r :
 unfolding tables_in
 tables-updates m n p r u = laid-updates m n p r u no_rows
 
--- an entry with no row shows what none does
-pub gap_entered : (m n : BTreeMap Place (Option (List ℕ))) (p : Place) → tree.get place_cmp m p ≡ None → Updates place_cmp m n p (Some None) → tables_in n.entries ≡ tables_in m.entries
-gap_entered m n p none u = same_tables _ _ (λ q. get-tables_in n.entries q ∙ ap (λ o. over o None) (u.0 q) ∙ by q (is_at (place_cmp p) q) refl ∙ sym (get-tables_in m.entries q))
+-- the row that a place had undoes what was laid over it
+pub row_back : (p : Place) (r : Option (List ℕ)) (m : Tables) → row_laid p (get m p) (row_laid p r m) ≡ m
+row_back p r m = same_tables _ _ (λ q. get-row_laid p (get m p) (row_laid p r m) q ∙ ap (cond (eq_by_cmp place_cmp q p) (get m p)) (get-row_laid p r m q) ∙ by q (eq_by_cmp place_cmp q p) refl)
   where
-    by : (q : Place) (b : Bool) → is_at (place_cmp p) q ≡ b → over (cond b (Some None) (tree.get place_cmp m q)) None ≡ over (tree.get place_cmp m q) None
-    by q true same = sym (ap (λ o. over o None) (ap (tree.get place_cmp m) (sym (exact p q same)) ∙ none))
+    by : (q : Place) (b : Bool) → eq_by_cmp place_cmp q p ≡ b → cond b (get m p) (cond b r (get m q)) ≡ get m q
+    by q true same = ap (get m) (sym (exact q p same))
     by q false other = refl
 
+-- an entry with no row shows what none does
 pub gap_dropped : (m n : BTreeMap Place (Option (List ℕ))) (p : Place) → tree.get place_cmp m p ≡ Some None → Updates place_cmp m n p None → tables_in n.entries ≡ tables_in m.entries
 gap_dropped m n p gap u = same_tables _ _ (λ q. get-tables_in n.entries q ∙ ap (λ o. over o None) (u.0 q) ∙ by q (is_at (place_cmp p) q) refl ∙ sym (get-tables_in m.entries q))
   where
@@ -73,10 +74,6 @@ row_found es q held is = sym (get-tables_in es q ∙ ap (λ o. over o None) is)
 
 pub row_missing : (es : List Entry) (q : Place) → lookup (is_at (place_cmp q)) es ≡ None → None ≡ get (tables_in es) q
 row_missing es q is = sym (get-tables_in es q ∙ ap (λ o. over o None) is)
-
-pub none_if_not_some : {X : Type 0} (o : Option X) → is_some o ≡ false → o ≡ None
-none_if_not_some None h = refl
-none_if_not_some (Some x) h = absurd (true≢false h)
 
 pub laid_found : (es : List Entry) (m : Tables) (q : Place) (held : Option (List ℕ)) → lookup (is_at (place_cmp q)) es ≡ Some held → held ≡ get (laid es m) q
 laid_found es m q held is = sym (get-laid es m q ∙ ap (λ o. over o (get m q)) is)

@@ -12,5 +12,7 @@ pub mod Scans
 pub mod Counts
 pub mod Counted
 pub mod Paging
+pub mod Splits
 pub mod Calls
 pub mod Prefixes
+pub mod Words

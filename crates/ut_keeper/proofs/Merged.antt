@@ -6,7 +6,8 @@ use Rattle.std.specs.Cmp.Lexicographic.{nat_list_cmp_total}
 use Rattle.std.specs.Ordering.{ordering_reverse, match_ordering}
 use Rattle.ut_keeper.specs.declared.keeper.KeptRow.{KeptRow}
 use Rattle.ut_keeper.specs.Tables.{bytes_cmp, Has}
-use Rattle.ut_keeper.specs.Laid.{Entry, shown_at, shown_first, shown_rows, beside, merged}
+use Rattle.ut_keeper.specs.Laid.{Entry}
+use Rattle.ut_keeper.specs.inner.Merging.{shown_at, shown_first, shown_rows, beside, merged}
 use Rattle.ut_keeper.proofs.Places.{bytes_exact}
 use Rattle.ut_keeper.proofs.Laid.{over, over_cond}
 

@@ -3,7 +3,8 @@ use Rattle.std.proofs.Common.{◌≡◌, ℕ, zero, suc, ◌+◌, ◌≤◌, Lis
 use Rattle.std.specs.Ordering.{match_ordering}
 use Rattle.ut_keeper.specs.declared.keeper.KeptRow.{KeptRow}
 use Rattle.ut_keeper.specs.Tables.{bytes_cmp}
-use Rattle.ut_keeper.specs.Laid.{Entry, shown_at, shown_first, shown_rows, beside, merged, front, left, gap, gaps}
+use Rattle.ut_keeper.specs.Laid.{Entry, gap}
+use Rattle.ut_keeper.specs.inner.Merging.{shown_at, shown_first, shown_rows, beside, merged, front, left, gaps}
 
 abbrev SameFront : ℕ → List KeptRow → List KeptRow → Type 0
 SameFront n xs ys = take n xs ≡ take n ys

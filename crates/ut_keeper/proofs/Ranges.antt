@@ -8,7 +8,8 @@ use Rattle.std.specs.FinMap.{nat_cmp-IsAntisymmetric}
 use Rattle.std.specs.BTreeMap.Range.{entries_between, range_contains}
 use Rattle.std.specs.declared.ops.Bound.TheVariants.{Included, Excluded}
 use Rattle.ut_keeper.specs.Tables.{Place, place_cmp, bytes_cmp, is_between, is_in}
-use Rattle.ut_keeper.specs.Laid.{Entry, within, front, left, gap}
+use Rattle.ut_keeper.specs.Laid.{Entry, gap}
+use Rattle.ut_keeper.specs.inner.Merging.{within, front, left}
 use Rattle.ut_keeper.proofs.Walk.{one_table}
 use Rattle.std.proofs.lemmas.Bool.{and_parts}
 

@@ -12,7 +12,9 @@ use Rattle.std.proofs.lemmas.Map.Keys.{sorted_head, sorted_tail}
 use Rattle.ut_keeper.specs.declared.keeper.KeptRow.{KeptRow}
 use Rattle.ut_keeper.specs.Tables.{Place, Tables, place_cmp, no_rows, rows_between, after, after_change}
 use Rattle.ut_keeper.specs.Order.{places_total}
-use Rattle.ut_keeper.specs.Laid.{Entry, laid, row_laid, merged, within, front, gaps, left, removals, change_of, change_at}
+use Rattle.ut_keeper.specs.Laid.{Entry, laid, row_laid, removals}
+use Rattle.ut_keeper.specs.inner.Merging.{merged, within, front, gaps, left}
+use Rattle.ut_keeper.specs.inner.Changes.{change_of, change_at}
 use Rattle.ut_keeper.specs.Memory.{tables_in}
 use Rattle.ut_keeper.proofs.Places.{places_exact}
 use Rattle.ut_keeper.proofs.Listing.{listed}

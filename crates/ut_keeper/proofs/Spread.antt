@@ -10,7 +10,8 @@ use Rattle.std.specs.BTreeMap.{is_at}
 use Rattle.std.specs.FinMap.Entries.{is_sorted, below_all}
 use Rattle.ut_keeper.specs.declared.keeper.KeptRow.{KeptRow}
 use Rattle.ut_keeper.specs.Tables.{Place, Tables, place_cmp, bytes_cmp, row_at, is_between, is_in, rows_between, entry_of, IsListing}
-use Rattle.ut_keeper.specs.Laid.{Entry, laid, merged, within}
+use Rattle.ut_keeper.specs.Laid.{Entry, laid}
+use Rattle.ut_keeper.specs.inner.Merging.{merged, within}
 use Rattle.ut_keeper.proofs.Places.{places_exact, bytes_exact}
 use Rattle.ut_keeper.proofs.Listing.{listed}
 use Rattle.ut_keeper.proofs.Walk.{is_listing, one_table, less_is, split_and}

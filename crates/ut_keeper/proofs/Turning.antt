@@ -8,8 +8,9 @@ use Rattle.ut_keeper.specs.declared.keeper.KeptRow.{KeptRow}
 use Rattle.ut_keeper.specs.declared.merge.Turn.{Turn}
 use Rattle.ut_keeper.specs.declared.merge.Turn.TheVariants as turns
 use Rattle.ut_keeper.specs.Tables.{bytes_cmp}
-use Rattle.ut_keeper.specs.Laid.{Entry, merged, shown_first, beside}
-use Rattle.ut_keeper.specs.Turns.{next_turn}
+use Rattle.ut_keeper.specs.Laid.{Entry}
+use Rattle.ut_keeper.specs.inner.Merging.{merged, shown_first, beside}
+use Rattle.ut_keeper.specs.inner.Turns.{next_turn}
 
 abbrev pub head : {X : Type 0} → List X → Option X
 head [] = None

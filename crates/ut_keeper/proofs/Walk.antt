@@ -99,11 +99,16 @@ is_listing m t from below = record {
   complete = λ key row inside is. has_among t from below (entries m) (record { key = key; row = row }) (has_found (entries m) (t, key) row (sym (get-entries m (t, key)) ∙ is)) inside;
 }
 
-has_right : {X : Type 0} (xs ys : List X) (x : X) → Has ys x → Has (xs ++ ys) x
+pub has_left : {X : Type 0} (xs ys : List X) (x : X) → Has xs x → Has (xs ++ ys) x
+has_left [] ys x h = absurd h
+has_left (y ∷ xs) ys x (inl same) = inl same
+has_left (y ∷ xs) ys x (inr later) = inr (has_left xs ys x later)
+
+pub has_right : {X : Type 0} (xs ys : List X) (x : X) → Has ys x → Has (xs ++ ys) x
 has_right [] ys x h = h
 has_right (y ∷ xs) ys x h = inr (has_right xs ys x h)
 
-has_either : {X : Type 0} (xs ys : List X) (x : X) → Has (xs ++ ys) x → Has xs x ⊎ Has ys x
+pub has_either : {X : Type 0} (xs ys : List X) (x : X) → Has (xs ++ ys) x → Has xs x ⊎ Has ys x
 has_either [] ys x h = inr h
 has_either (y ∷ xs) ys x (inl same) = inl (inl same)
 has_either (y ∷ xs) ys x (inr later) = elim (has_either xs ys x later) [ inl left ↦ inl (inr left) | inr right ↦ inr right ]
@@ -124,7 +129,7 @@ before t (y ∷ front) r back h x (inr later) = before t front r back (split_and
 pub one_table : (t : ℕ) (a b : List ℕ) → place_cmp (t, a) (t, b) ≡ bytes_cmp a b
 one_table t a b = ap (λ o. ordering_then o (bytes_cmp a b)) (tied_itself nat_cmp_total t)
 
-less_or_not : (o : Ordering) → is_lt o ≡ true → o ≡ Less
+pub less_or_not : (o : Ordering) → is_lt o ≡ true → o ≡ Less
 less_or_not Less h = refl
 less_or_not Equal h = absurd (true≢false (sym h))
 less_or_not Greater h = absurd (true≢false (sym h))

@@ -31,22 +31,22 @@ module _ {K : Type 0} (state : K → KeeperState) where
   abbrev pub tables_of : Held K → Tables
   tables_of d = laid d.changes.entries (state d.keeper.now).tables
 
-  -- the rows of a table that the draft takes away
+  -- how many rows of a table the draft removes
   abbrev pub removals_of : ℕ → Held K → ℕ
   removals_of t d = removals t d.changes.entries
 
-  -- the keeper told its tables before the call, and stands behind it
+  -- the keeper told its tables before the call, and is still trusted after it
   abbrev pub DraftTells : Held K → Held K → Type 0
   DraftTells old new = Tells (state old.keeper.now) (state new.keeper.now)
 
-  -- a call that only reads, and is shown at most so many data rows
+  -- a call that only reads, to which at most this number of data rows was shown
   pub record DraftReads (shown : ℕ) (old new : Held K) : Type 0 where
     pub same_reference : new.keeper.ghost_name ≡ old.keeper.ghost_name
     pub changes : new.changes.entries ≡ old.changes.entries
     pub reads : Reads (state old.keeper.now) (state new.keeper.now)
     pub shows : DraftTells old new → ShowsMost shown (state old.keeper.now) (state new.keeper.now)
 
-  -- a call that makes at most so many changes, of which so many take a data row away, and is shown at most so many data rows
+  -- a call that changes at most `most` more places, removes at most `gone` more data rows, and to which at most `shown` data rows were shown
   pub record DraftWorks (most gone shown : ℕ) (old new : Held K) : Type 0 where
     pub same_reference : new.keeper.ghost_name ≡ old.keeper.ghost_name
     pub changes : length new.changes.entries ≤ length old.changes.entries + most

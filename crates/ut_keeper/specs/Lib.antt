@@ -2,7 +2,8 @@ pub mod Tables
 pub mod State
 pub mod Order
 pub mod Laid
-pub mod Turns
 pub mod Memory
 pub mod Walks
+pub mod Prefixes
 pub mod Draft
+pub mod inner

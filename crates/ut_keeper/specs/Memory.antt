@@ -1,22 +1,16 @@
 -- What a keeper in memory shows.
-use Rattle.std.specs.Prelude.{◌≡◌, ℕ, ◌+◌, ◌==◌, List, [], ◌∷◌, Option, Bool, true, false, slice_index, IsSome, IsTrue, refl}
+use Rattle.std.specs.Prelude.{◌≡◌, ℕ, ◌+◌, ◌==◌, List, [], ◌∷◌, Bool, true, false, slice_index, IsTrue, refl}
 use Rattle.std.specs.Coded.{Coded, code_by, coded×, coded_ℕ, coded_list}
 use Rattle.std.specs.FinMap as map
-use Rattle.std.specs.BTreeMap.{BTreeMap, get}
 use Rattle.std.specs.List.{list_any}
 use Rattle.ut_value.specs.Causes.{up_to_last}
-use Rattle.ut_keeper.specs.Tables.{Place, Tables, place_cmp, no_rows}
+use Rattle.ut_keeper.specs.Tables.{Tables, no_rows}
 use Rattle.ut_keeper.specs.State.{KeeperState}
 use Rattle.ut_keeper.specs.Laid.{Entry, laid}
 
 -- the rows that entries show
 unfoldable pub tables_in : List Entry → Tables
 tables_in es = laid es no_rows
-
--- the map has each of the entries' places
-abbrev pub HasPlaces : BTreeMap Place (Option (List ℕ)) → List Entry → Type 0
-HasPlaces m [] = Unit {0}
-HasPlaces m (e ∷ es) = IsSome (get place_cmp m e.0) × HasPlaces m es
 
 -- a keeper in memory
 pub record InMemory : Type 0 where
@@ -39,11 +33,11 @@ memory_code = code_by (Tables × (ℕ × (List ℕ × (ℕ × (List ℕ × ℕ))
     (λ k. (k.tables, (k.calls, (k.failing, (k.faults, (k.shown, k.written))))))
     (λ p. record { tables = p.0; calls = p.1.0; failing = p.1.1.0; faults = p.1.1.1.0; shown = p.1.1.1.1.0; written = p.1.1.1.1.1 }) (λ _. refl)
 
--- the call with this number is to fail
+-- the call with this number fails
 abbrev pub is_listed : ℕ → List ℕ → Bool
 is_listed n ns = list_any (λ m. m == n) ns
 
--- no call is to fail
+-- no call fails
 abbrev pub none_listed : List ℕ → Bool
 none_listed [] = true
 none_listed (n ∷ ns) = false

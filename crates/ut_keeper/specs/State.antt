@@ -1,5 +1,5 @@
 -- What a keeper shows, and what its calls do to it.
-use Rattle.std.specs.Prelude.{◌≡◌, ◌⊎◌, ℕ, zero, suc, ◌+◌, ◌≤◌, Bool, if◌then◌else◌, ◌==◌, length, Result, Ok, Err, IsTrue, Vec, Option, Some, None}
+use Rattle.std.specs.Prelude.{◌≡◌, ◌⊎◌, ℕ, zero, suc, ◌+◌, ◌≤◌, Bool, false, if◌then◌else◌, ◌==◌, length, Result, Ok, Err, IsTrue, Vec, Option, Some, None}
 use Rattle.ut_value.specs.Causes.{up_to_last, Rose}
 use Rattle.ut_keeper.specs.declared.keeper.KeepFail.{KeepFail}
 use Rattle.ut_keeper.specs.Tables.{Tables}
@@ -9,9 +9,9 @@ pub record KeeperState : Type 1 where
   -- it tells its tables; else they say nothing
   pub tells : Type 0
   pub tables : Tables
-  -- what a crash at this moment may leave, where it tells its tables
+  -- the tables that a crash at this moment may leave, if the keeper tells its own
   pub may_leave : Tables → Type 0
-  -- false from a fault on after which it tells no more
+  -- the keeper is still trusted: false from a fault on after which it tells nothing more
   pub stands : Bool
   -- false once what it told may have been wrong
   pub is_clean : Bool
@@ -23,32 +23,46 @@ pub record KeeperState : Type 1 where
   pub shown : ℕ → ℕ
   pub written : ℕ
 
--- what every call keeps: the count of faults never falls, what stands or is clean after it was so before, and only a
--- fault that is counted makes a clean keeper fall
+-- a crash now leaves nothing that it might not have left before
+abbrev pub LeavesNoMore : KeeperState → KeeperState → Type 0
+LeavesNoMore old new = IsTrue new.is_clean → (m : Tables) → new.may_leave m → old.may_leave m
+
+-- what every call keeps: the count of faults never falls, a keeper that stands or is clean after the call was so before,
+-- a clean keeper ceases to stand only in a call that counts a fault, and once it has ceased no call lets a crash leave more
 pub record Steps (old new : KeeperState) : Type 0 where
   pub counts : old.faults ≤ new.faults
   pub stood : IsTrue new.stands → IsTrue old.stands
   pub was_clean : IsTrue new.is_clean → IsTrue old.is_clean
   pub closes : IsTrue old.stands → IsTrue new.is_clean → IsTrue new.stands ⊎ Rose old.faults new.faults
   pub sure : IsTrue old.never_fails → IsTrue new.never_fails × (new.faults ≡ old.faults) × (IsTrue old.stands → IsTrue new.stands)
+  pub shut : old.stands ≡ false → LeavesNoMore old new
 
--- a crash now leaves nothing that it might not have left before
-abbrev pub LeavesNoMore : KeeperState → KeeperState → Type 0
-LeavesNoMore old new = IsTrue new.is_clean → (m : Tables) → new.may_leave m → old.may_leave m
-
--- it told its tables, and it stands
+-- it told its tables, and it still stands
 abbrev pub Tells : KeeperState → KeeperState → Type 0
 Tells old new = old.tells × IsTrue new.stands
 
--- it goes on to tell, and its tables are these
+-- it still tells, and its tables are these
 abbrev pub Shows : KeeperState → Tables → Type 0
 Shows new m = new.tells × (new.tables ≡ m)
 
--- a call that reads: the tables, what a crash may leave and the count of rows written stay
+-- if the call was done, the keeper stands after it, as long as it is clean
+abbrev pub StandsAfter : Bool → KeeperState → Type 0
+StandsAfter done new = IsTrue done → IsTrue new.is_clean → IsTrue new.stands
+
+-- the same of a keeper that stood before: a draft may take what it returns from its own changes
+abbrev pub StaysAfter : Bool → KeeperState → KeeperState → Type 0
+StaysAfter done old new = IsTrue old.stands → StandsAfter done new
+
+-- a crash leaves the tables, and nothing else
+pub record IsSettled (s : KeeperState) : Type 0 where
+  pub leaves : s.may_leave s.tables
+  pub only : (m : Tables) → s.may_leave m → m ≡ s.tables
+
+-- a call that reads: the tables and the count of rows written stay the same, and a crash leaves no more
 pub record Reads (old new : KeeperState) : Type 0 where
   pub steps : Steps old new
   pub same : Tells old new → Shows new old.tables
-  pub crash : Tells old new → LeavesNoMore old new
+  pub crash : LeavesNoMore old new
   pub written : new.written ≡ old.written
 
 -- what `failed` says is so only where the count of faults rose, and never of a keeper that never fails
@@ -93,7 +107,7 @@ ShowsMost most old new = new.shown data_table ≤ old.shown data_table + most
 abbrev pub ShownMost : ℕ → ℕ → KeeperState → KeeperState → Type 0
 ShownMost table most old new = (t : ℕ) → new.shown t ≤ old.shown t + (if t == table then most else 0)
 
--- the rows that a scan answered, or its limit where it failed
+-- the rows that a scan returned, or its limit if it failed
 abbrev pub seen : {X A E : Type 0} → ℕ → Result (Vec X A) E → ℕ
 seen limit (Ok rows) = length rows.items
 seen limit (Err e) = limit

@@ -45,7 +45,7 @@ is_in table from below place = (place.0 == table) && is_between from below place
 abbrev pub shown_row : Place × List ℕ → KeptRow
 shown_row e = record { key = e.0.1; row = e.1 }
 
--- those of the entries that stand in the interval
+-- the rows of those entries that are in the interval
 abbrev pub rows_among : ℕ → List ℕ → List ℕ → List (Place × List ℕ) → List KeptRow
 rows_among table from below [] = []
 rows_among table from below (e ∷ es) = if is_in table from below e.0 then shown_row e ∷ rows_among table from below es else rows_among table from below es
@@ -64,7 +64,7 @@ abbrev pub after : List Change → Tables → Tables
 after [] m = m
 after (c ∷ cs) m = after cs (after_change c m)
 
--- x stands in the list
+-- x is in the list
 abbrev pub Has : {X : Type 0} → List X → X → Type 0
 Has [] x = ⊥
 Has (y ∷ ys) x = (x ≡ y) ⊎ Has ys x

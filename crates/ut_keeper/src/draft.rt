@@ -2,28 +2,30 @@ ghost use Rattle.std.specs.Prelude.{◌≡◌, ◌⊎◌, ◌<◌, ◌≤◌, �
 ghost use Rattle.ut_keeper.specs.declared.keeper.KeepFail.TheVariants.{Failed};
 ghost use Rattle.ut_keeper.specs.declared.keeper.Change.TheVariants.{Put, Remove};
 ghost use Rattle.ut_keeper.specs.Tables.{Tables, row_at, rows_between, after, after_change};
-ghost use Rattle.ut_keeper.specs.State.{Steps, Tells, Shows, KeeperCause, ShownMost, data_rows, seen, more_written};
-ghost use Rattle.ut_keeper.specs.Laid.{laid, change_of};
+ghost use Rattle.ut_keeper.specs.State.{Steps, Tells, Shows, StandsAfter, StaysAfter, IsSettled, KeeperCause, ShownMost, data_rows, seen, more_written};
+ghost use Rattle.ut_keeper.specs.Laid.{laid};
+ghost use Rattle.ut_keeper.specs.inner.Changes.{change_of};
 
 use crate::keeper::{Batch, KeepFail, Keeper, KeptRow};
-use crate::merge::{count_gaps, merge};
+use crate::merge::{count_gaps, lay_over};
 use crate::place::Place;
 use crate::rows::{Rows, held_in};
 use std::alloc::{AllocError, Global};
-use std::collections::{BTreeMap, VecDeque};
+use std::collections::BTreeMap;
 use ut_value::Bytes;
 
 /// Changes that are not made yet, over a keeper that is read as it will be once they are.
 ///
-/// A later change of a place replaces an earlier one. A draft that is let go changes nothing. A look-up takes time by
+/// A later change of a place replaces an earlier one. A draft that is dropped changes nothing. A look-up takes time by
 /// the logarithm of the number of changes, besides the keeper's.
+#[derive(Debug)]
 pub struct Draft<'a, K, C = Rows> {
     keeper: &'a mut K,
     changes: C,
 }
 
 impl<K, C: Drop> Drop for Draft<'_, K, C> {
-    // Written by hand, since the derived one tells a caller nothing of the keeper.
+    // Written by hand, since the derived one has no contract about the keeper.
     fn drop(self)
         ensures { self.exit.0.now ≡ self.entry.keeper.now }
     {
@@ -39,7 +41,7 @@ fn batch_of(alloc: Global, entries: Rows) -> Result<Batch, AllocError>
     ensures each { IfOk result (λ batch. batch.changes.items ≡ map change_of entries.entries) }
     ensures same { IfOk result (λ batch. (m : Tables) → after batch.changes.items m ≡ laid entries.entries m) }
 {
-    let mut changes = Vec::new(alloc);
+    let mut changes = Vec::with_capacity(alloc, entries.len())?;
     for (place, row) in entries {
         changes.push(place.change_to(row))?;
     }
@@ -70,12 +72,13 @@ impl<'a, K: Keeper> Draft<'a, K> {
     ///
     /// # Errors
     ///
-    /// `Failed` where the keeper failed, `Memory` where memory ran out.
+    /// `Failed` if the keeper failed, `Memory` if out of memory.
     pub fn get(&mut self, alloc: Global, table: u8, key: &[u8]) -> Result<Option<Bytes>, KeepFail>
         ensures row { DraftTells K.state self.old self.new
             → IfOk result (λ row. row ≡ row_at (tables_of K.state self.old) table key.now) }
         ensures shown { ShownMost table 1 (state_of K.state self.old) (state_of K.state self.new) }
         ensures reads { DraftReads K.state (data_rows table 1) self.old self.new }
+        ensures stays { StaysAfter (is_ok result) (state_of K.state self.old) (state_of K.state self.new) }
         ensures cause { KeeperCause (state_of K.state self.old) (state_of K.state self.new) (IsErrOf result Failed) }
     {
         let place = Place::copied(alloc, table, key)?;
@@ -91,11 +94,11 @@ impl<'a, K: Keeper> Draft<'a, K> {
 
     /// The first `limit` rows with `from <= key < below` as they will be, in the order of their keys.
     ///
-    /// At most the rows answered, or `limit` where it failed, and the draft's removals in the table are shown for it.
+    /// At most the rows returned, or `limit` if it failed, and the draft's removals in the table are shown for it.
     ///
     /// # Errors
     ///
-    /// `Failed` where the keeper failed, `Memory` where memory ran out.
+    /// `Failed` if the keeper failed, `Memory` if out of memory.
     pub fn scan(
         &mut self,
         alloc: Global,
@@ -112,23 +115,24 @@ impl<'a, K: Keeper> Draft<'a, K> {
             (state_of K.state self.old) (state_of K.state self.new) }
         ensures reads { DraftReads K.state (data_rows table (seen limit result + removals_of K.state table self.old))
             self.old self.new }
+        ensures stands { StandsAfter (is_ok result) (state_of K.state self.new) }
         ensures cause { KeeperCause (state_of K.state self.old) (state_of K.state self.new) (IsErrOf result Failed) }
     {
         let held = held_in(alloc, &self.changes, table, from, below, limit)?;
         // A row that the draft takes away may use up the limit.
         let most = limit.saturating_add(count_gaps(held.as_slice()));
         let rows = self.keeper.scan(alloc, table, from, below, most)?;
-        match merge(alloc, VecDeque::from(rows), held.as_slice(), limit) {
+        match lay_over(alloc, rows, held.as_slice(), limit) {
             Ok(rows) => Ok(rows),
             Err(_) => Err(KeepFail::Memory),
         }
     }
 
-    /// From now on the row is to stand at the key.
+    /// Sets the row of the key.
     ///
     /// # Errors
     ///
-    /// Where memory runs out. The draft is then as it was.
+    /// If out of memory. The draft is then as it was.
     pub fn put(
         &mut self,
         _alloc: Global,
@@ -147,11 +151,11 @@ impl<'a, K: Keeper> Draft<'a, K> {
         Ok(())
     }
 
-    /// From now on no row is to stand at the key.
+    /// Removes the row of the key, if there is one.
     ///
     /// # Errors
     ///
-    /// Where memory runs out. The draft is then as it was.
+    /// If out of memory. The draft is then as it was.
     pub fn remove(&mut self, _alloc: Global, table: u8, key: Bytes) -> Result<(), AllocError>
         ensures keeper { keeper_of self.new ≡ keeper_of self.old }
         ensures works { DraftWorks K.state 1 (data_rows table 1) 0 self.old self.new }
@@ -164,12 +168,12 @@ impl<'a, K: Keeper> Draft<'a, K> {
         Ok(())
     }
 
-    /// Makes the changes, in one batch. Where there are none the keeper isn't asked.
+    /// Makes the changes, in one batch. If there are none the keeper isn't called.
     ///
     /// # Errors
     ///
-    /// `Failed` where the keeper failed, `Memory` where memory ran out. No change is then made, though a crash may
-    /// still leave all of them made.
+    /// `Failed` if the keeper failed, `Memory` if out of memory. No change is then made; if the keeper ceased to stand
+    /// in this call, a crash may still leave all of them made.
     pub fn commit(self, alloc: Global) -> Result<(), KeepFail>
         ensures applied { Tells (state_of K.state self.entry) (K.state self.exit.0.now)
             → OnOk result (Shows (K.state self.exit.0.now) (tables_of K.state self.entry)) }
@@ -177,10 +181,7 @@ impl<'a, K: Keeper> Draft<'a, K> {
             → OnErr result (Shows (K.state self.exit.0.now) (state_of K.state self.entry).tables) }
         ensures unasked { ChangesNothing self.entry → IsTrue (is_ok result) × (self.exit.0.now ≡ keeper_of self.entry) }
 
-        // What a crash may leave, as of a keeper's `apply`.
-        ensures durable { 0 < count_of self.entry → Tells (state_of K.state self.entry) (K.state self.exit.0.now)
-            → OnOk result ((m : Tables) → (K.state self.exit.0.now).may_leave m
-            → m ≡ (K.state self.exit.0.now).tables) }
+        // A crash may leave the changes made, or what it might have left before.
         ensures crash { (state_of K.state self.entry).tells → IsTrue (K.state self.exit.0.now).is_clean
             → (m : Tables) → (K.state self.exit.0.now).may_leave m
             → (state_of K.state self.entry).may_leave m ⊎ (m ≡ tables_of K.state self.entry) }
@@ -190,6 +191,10 @@ impl<'a, K: Keeper> Draft<'a, K> {
         ensures written { (K.state self.exit.0.now).written
             ≡ (if is_ok result then more_written (count_of self.entry) (state_of K.state self.entry).written
             else (state_of K.state self.entry).written) }
+        ensures stays { StaysAfter (is_ok result) (state_of K.state self.entry) (K.state self.exit.0.now) }
+        ensures stands { 0 < count_of self.entry → StandsAfter (is_ok result) (K.state self.exit.0.now) }
+        ensures settled { Tells (state_of K.state self.entry) (K.state self.exit.0.now)
+            → IsSettled (K.state self.exit.0.now) }
         ensures cause { KeeperCause (state_of K.state self.entry) (K.state self.exit.0.now) (IsErrOf result Failed) }
     {
         let Draft { keeper, changes } = self;

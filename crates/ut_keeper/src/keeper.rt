@@ -2,9 +2,11 @@ ghost use Rattle.std.specs.Prelude.{◌≡◌, ◌⊎◌, ◌+◌, ◌≤◌, le
 ghost use Rattle.ut_keeper.specs.declared.keeper.KeepFail.TheVariants.{Failed, Memory};
 ghost use Rattle.ut_value.specs.Causes.{up_to_last};
 ghost use Rattle.ut_keeper.specs.Tables.{Tables, row_at, rows_between, after};
-ghost use Rattle.ut_keeper.specs.State.{KeeperState, Steps, LeavesNoMore, Tells, Shows, Reads, KeeperCause, more_shown, shown_by_get, shown_by_scan};
+ghost use Rattle.ut_keeper.specs.State.{KeeperState, Steps, LeavesNoMore, Tells, Shows, Reads, StandsAfter, IsSettled, KeeperCause, more_shown, shown_by_get, shown_by_scan};
 
 use std::alloc::{AllocError, Global};
+use std::error::Error;
+use std::fmt;
 use ut_value::Bytes;
 
 /// Why a keeper refused a call.
@@ -12,9 +14,20 @@ use ut_value::Bytes;
 pub enum KeepFail {
     /// The keeper failed, and counted it.
     Failed,
-    /// Memory ran out.
+    /// Out of memory.
     Memory,
 }
+
+impl fmt::Display for KeepFail {
+    fn fmt<W: fmt::Write>(&self, f: &mut fmt::Formatter<W>) -> fmt::Result {
+        match self {
+            KeepFail::Failed => f.write_str("the keeper failed"),
+            KeepFail::Memory => f.write_str("out of memory"),
+        }
+    }
+}
+
+impl Error for KeepFail {}
 
 impl From<AllocError> for KeepFail {
     ghost from_gives = { λ _ e. e ≡ Memory };
@@ -33,10 +46,10 @@ pub struct KeptRow {
     pub row: Bytes,
 }
 
-/// What is to become of one place, which is a table's number and a key.
+/// A change of one place, which is a table's number and a key.
 #[derive(Debug, Drop)]
 pub enum Change {
-    /// The row is to stand there, in the stead of one that does.
+    /// Sets the row of the place, replacing one that is there.
     Put {
         /// The table's number.
         table: u8,
@@ -45,7 +58,7 @@ pub enum Change {
         /// The row.
         row: Bytes,
     },
-    /// No row is to stand there.
+    /// Removes the row of the place, if there is one.
     Remove {
         /// The table's number.
         table: u8,
@@ -63,9 +76,12 @@ pub struct Batch {
 
 /// What keeps the tables: a finite map from a table's number and a key to a row.
 ///
-/// Keys are ordered as bytes. Whether a keeper tells its tables is for it to say; where it doesn't, its answers promise
-/// nothing. After an error the tables are what they were, so the call may be made again. `Failed` comes only where
-/// the count of faults rose in that call. Each count is a `u64`, and stays at its last value once it is there.
+/// Keys are ordered as bytes. A keeper says whether it tells its tables; if it doesn't, what it returns promises nothing
+/// of them. After an error the tables are what they were, so the call may be made again. `Failed` comes only if the
+/// count of faults rose in that call. Each count is a `u64` and saturates.
+///
+/// `stands` says that the keeper is still trusted. It only falls: once a keeper has ceased to stand it tells nothing
+/// more, and its calls return errors, as long as it is clean.
 pub trait Keeper {
     ghost state: { Self → KeeperState };
 
@@ -73,32 +89,34 @@ pub trait Keeper {
     ///
     /// # Errors
     ///
-    /// `Failed` where the keeper failed, `Memory` where memory ran out.
+    /// `Failed` if the keeper failed, `Memory` if out of memory.
     fn open(&mut self, alloc: Global) -> Result<(), KeepFail>
         ensures same { Tells (state self.old) (state self.new) → Shows (state self.new) (state self.old).tables }
         ensures crash { (state self.old).tells → LeavesNoMore (state self.old) (state self.new) }
         ensures steps { Steps (state self.old) (state self.new) }
         ensures shown { (state self.new).shown ≡ (state self.old).shown }
         ensures written { (state self.new).written ≡ (state self.old).written }
+        ensures stands { StandsAfter (is_ok result) (state self.new) }
         ensures cause { KeeperCause (state self.old) (state self.new) (IsErrOf result Failed) };
 
     /// The row of a key, or `None` where there is none.
     ///
     /// # Errors
     ///
-    /// `Failed` where the keeper failed, `Memory` where memory ran out.
+    /// `Failed` if the keeper failed, `Memory` if out of memory.
     fn get(&mut self, alloc: Global, table: u8, key: &[u8]) -> Result<Option<Bytes>, KeepFail>
         ensures row { Tells (state self.old) (state self.new)
             → IfOk result (λ row. row ≡ row_at (state self.old).tables table key.now) }
         ensures reads { Reads (state self.old) (state self.new) }
         ensures shown { (state self.new).shown ≡ more_shown table (shown_by_get result) (state self.old).shown }
+        ensures stands { StandsAfter (is_ok result) (state self.new) }
         ensures cause { KeeperCause (state self.old) (state self.new) (IsErrOf result Failed) };
 
     /// The first `limit` rows with `from <= key < below`, in the order of their keys.
     ///
     /// # Errors
     ///
-    /// `Failed` where the keeper failed, `Memory` where memory ran out.
+    /// `Failed` if the keeper failed, `Memory` if out of memory.
     fn scan(
         &mut self,
         alloc: Global,
@@ -113,23 +131,22 @@ pub trait Keeper {
         ensures short { IfOk result (λ rows. length rows.items ≤ limit) }
         ensures reads { Reads (state self.old) (state self.new) }
         ensures shown { (state self.new).shown ≡ more_shown table (shown_by_scan result) (state self.old).shown }
+        ensures stands { StandsAfter (is_ok result) (state self.new) }
         ensures cause { KeeperCause (state self.old) (state self.new) (IsErrOf result Failed) };
 
     /// Makes all changes in their order, or none.
     ///
     /// # Errors
     ///
-    /// `Failed` where the keeper failed, `Memory` where memory ran out. A crash may then still leave the tables as
-    /// they would be after the whole batch.
+    /// `Failed` if the keeper failed, `Memory` if out of memory. If the keeper ceased to stand in this call, a crash
+    /// may still leave the tables as they would be after the whole batch.
     fn apply(&mut self, alloc: Global, batch: &Batch) -> Result<(), KeepFail>
         ensures applied { Tells (state self.old) (state self.new)
             → OnOk result (Shows (state self.new) (after batch.now.changes.items (state self.old).tables)) }
         ensures refused { Tells (state self.old) (state self.new)
             → OnErr result (Shows (state self.new) (state self.old).tables) }
 
-        // What a crash may leave: after `Ok` the tables alone, else the batch done whole or what it might have left.
-        ensures durable { Tells (state self.old) (state self.new)
-            → OnOk result ((m : Tables) → (state self.new).may_leave m → m ≡ (state self.new).tables) }
+        // A crash may leave the whole batch made, or what it might have left before.
         ensures crash { (state self.old).tells → IsTrue (state self.new).is_clean
             → (m : Tables) → (state self.new).may_leave m
             → (state self.old).may_leave m ⊎ (m ≡ after batch.now.changes.items (state self.old).tables) }
@@ -139,5 +156,9 @@ pub trait Keeper {
         ensures written { (state self.new).written
             ≡ (if is_ok result then up_to_last ((state self.old).written + length batch.now.changes.items)
             else (state self.old).written) }
+        ensures stands { StandsAfter (is_ok result) (state self.new) }
         ensures cause { KeeperCause (state self.old) (state self.new) (IsErrOf result Failed) };
+
+    // While a keeper tells and stands, a crash leaves its tables and nothing else.
+    ghost settled: { (k : Self) → (state k).tells → IsTrue (state k).stands → IsSettled (state k) };
 }

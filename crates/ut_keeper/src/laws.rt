@@ -1,10 +1,11 @@
 ghost use Rattle.std.specs.Prelude.{◌≡◌, ◌<◌, ◌≤◌, ◌+◌, ◌-◌, ◌↔◌, ℕ, List, [], ◌∷◌, ◌++◌, Some, None, IsTrue, length, take, slice_get};
 ghost use Rattle.std.specs.Cmp.{IsTotalOrder};
 ghost use Rattle.std.specs.FinMap.{IsAntisymmetric};
-ghost use Rattle.std.specs.Ordering.{is_ge, is_lt};
+ghost use Rattle.std.specs.Ordering.{is_ge, is_le, is_lt};
 ghost use Rattle.ut_keeper.specs.declared.keeper.KeptRow.{KeptRow};
 ghost use Rattle.ut_keeper.specs.Tables.{Tables, place_cmp, bytes_cmp, is_between, rows_between, IsListing};
-ghost use Rattle.ut_keeper.specs.Walks.{next_above, StartsWith};
+ghost use Rattle.ut_keeper.specs.Walks.{next_above};
+ghost use Rattle.ut_keeper.specs.Prefixes.{StartsWith, AreBytes, raised};
 ghost use Rattle.ut_keeper.specs.Draft.{Held, count_of, tables_of, removals_of, DraftTells, DraftReads, DraftWorks};
 
 use crate::keeper::Keeper;
@@ -32,6 +33,11 @@ pub fn walk_laws()
         → 0 < page
         → rows ≡ take page (rows_between m table next below) → slice_get rows (length rows - 1) ≡ None
         → rows_between m table next below ≡ [] }
+
+    // A walk may begin at a key that has no row.
+    ensures split { (m : Tables) (table : ℕ) (from mid below : List ℕ)
+        → IsTrue (is_le (bytes_cmp from mid)) → IsTrue (is_le (bytes_cmp mid below))
+        → rows_between m table from below ≡ rows_between m table from mid ++ rows_between m table mid below }
 {}
 
 /// The laws of places and of keys. The call does nothing.
@@ -41,10 +47,11 @@ pub fn key_laws()
     ensures exact { IsAntisymmetric place_cmp }
     ensures bytes_exact { IsAntisymmetric bytes_cmp }
 
-    // The keys with one prefix are one interval.
-    ensures prefix { (front : List ℕ) (byte : ℕ) (key : List ℕ)
-        → IsTrue (is_between (front ++ byte ∷ []) (front ++ (byte + 1) ∷ []) key)
-        ↔ StartsWith (front ++ byte ∷ []) key }
+    // The keys with one prefix are one interval, which has no end where the prefix can't be raised.
+    ensures interval { (prefix above key : List ℕ) → raised prefix ≡ Some above → AreBytes key
+        → (IsTrue (is_between prefix above key) ↔ StartsWith prefix key) }
+    ensures unbounded { (prefix key : List ℕ) → raised prefix ≡ None → AreBytes key
+        → (IsTrue (is_ge (bytes_cmp key prefix)) ↔ StartsWith prefix key) }
 {}
 
 /// The laws by which the bounds of calls over one draft add up. The call does nothing.
@@ -53,13 +60,13 @@ pub fn draft_laws<K: Keeper>()
     ensures tables { (shown : ℕ) (a b : Held K) → DraftReads K.state shown a b → DraftTells K.state a b
         → tables_of K.state b ≡ tables_of K.state a }
 
-    // What told over two calls told over each.
+    // A keeper that told its tables over two calls told them over each.
     ensures told_first { (most gone shown : ℕ) (a b c : Held K) → DraftWorks K.state most gone shown b c
         → DraftTells K.state a c → DraftTells K.state a b }
     ensures told_then { (most gone shown : ℕ) (a b c : Held K) → DraftWorks K.state most gone shown a b
         → DraftTells K.state a b → DraftTells K.state a c → DraftTells K.state b c }
 
-    // A draft takes away at most as many rows as it changes places.
+    // A draft removes at most as many rows as it changes places.
     ensures removals { (table : ℕ) (a : Held K) → removals_of K.state table a ≤ count_of a }
 
     // One call after another.
@@ -71,7 +78,7 @@ pub fn draft_laws<K: Keeper>()
         → DraftWorks K.state more taken later b c
         → DraftWorks K.state (most + more) (gone + taken) (shown + later) a c }
 
-    // A call that reads is one that works, and a bound may be larger, or be known only where the keeper tells.
+    // A call that reads is one that works; its bound may be larger, or be known only if the keeper tells.
     ensures reads_work { (shown : ℕ) (a b : Held K)
         → DraftReads K.state shown a b → DraftWorks K.state 0 0 shown a b }
     ensures reads_most { (shown most : ℕ) (a b : Held K) → (DraftTells K.state a b → shown ≤ most)

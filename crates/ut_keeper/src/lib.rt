@@ -1,20 +1,23 @@
 //! The tables: what keeps them, how they are changed, and how they are walked.
 //!
-//! All tables stand in a keeper, a finite map from a table's number and a key to a row. A keeper may fail, counts what
-//! it shows and writes, and says what a crash may leave. Here stand the trait, a keeper in memory, drafts of changes,
-//! and the words in which the layers above speak of a walk. It stands on `ut_value`.
+//! A keeper keeps all tables: a finite map from a table's number and a key to a row. It may fail, counts what it shows
+//! and writes, and says what a crash may leave. This crate has the trait, a keeper in memory, drafts of changes, and the
+//! words in which the layers above speak of a walk. It depends on `ut_value`.
 //!
-//! Its contract: a draft reads as the keeper will be once the draft's changes are made, and they are made all together
-//! or not at all.
+//! Its contract: a draft reads as the keeper will once the draft's changes are made, and they are made all together or
+//! not at all.
 #![tactic(auto)]
 
+mod changes;
 mod draft;
 mod keeper;
 mod laws;
 mod memory;
 mod merge;
+mod order;
 mod paged;
 mod place;
+mod prefix;
 mod rows;
 
 pub use crate::draft::Draft;
@@ -22,6 +25,7 @@ pub use crate::keeper::{Batch, Change, KeepFail, Keeper, KeptRow};
 pub use crate::laws::{draft_laws, key_laws, walk_laws};
 pub use crate::memory::MemoryKeeper;
 pub use crate::paged::{all_rows, next_key};
+pub use crate::prefix::prefix_ends;
 
 #[cfg(test)]
 mod tests;

@@ -1,24 +1,25 @@
-ghost use Rattle.std.specs.Prelude.{◌≡◌, ◌⊎◌, ◌≤◌, ◌+◌, ℕ, if◌then◌else◌, IfOk, OnOk, OnErr, IsTrue, IsErrOf, is_ok, length, take, slice_index};
+ghost use Rattle.std.specs.Prelude.{◌≡◌, ◌⊎◌, ◌≤◌, ◌+◌, ℕ, if◌then◌else◌, IfOk, OnOk, OnErr, IsTrue, IsErrOf, is_ok, length, take, slice_index, refl};
 ghost use Rattle.ut_value.specs.Causes.{up_to_last};
 ghost use Rattle.ut_keeper.specs.declared.keeper.KeepFail.TheVariants.{Failed};
 ghost use Rattle.ut_keeper.specs.Tables.{Tables, no_rows, row_at, rows_between, after};
-ghost use Rattle.ut_keeper.specs.State.{Steps, LeavesNoMore, Tells, Shows, Reads, KeeperCause, more_shown, shown_by_get, shown_by_scan};
+ghost use Rattle.ut_keeper.specs.State.{Steps, LeavesNoMore, Tells, Shows, Reads, StandsAfter, KeeperCause, more_shown, shown_by_get, shown_by_scan};
 ghost use Rattle.ut_keeper.specs.Memory.{memory_state, is_listed, FailsByNumber};
 
+use crate::changes::change_all;
 use crate::keeper::{Batch, KeepFail, Keeper, KeptRow};
 use crate::merge::merge;
 use crate::place::Place;
-use crate::rows::{Rows, change_all, held_in, row_of};
+use crate::rows::{Rows, held_in, row_of};
 use std::alloc::{AllocError, Global};
 use std::collections::{BTreeMap, VecDeque};
 use std::marker::Model;
 use ut_value::Bytes;
 
-/// The tables in memory, with a list of the calls that are to fail.
+/// The tables in memory, with a list of the calls that fail.
 ///
 /// It always tells its tables, and a crash leaves just these. `get` takes time by the logarithm of the number of rows,
-/// `scan` besides it by the rows that it answers.
-#[derive(Drop)]
+/// `scan` also by the rows that it returns.
+#[derive(Debug, Drop)]
 pub struct MemoryKeeper {
     rows: Rows,
     calls: u64,
@@ -46,11 +47,11 @@ impl Model for MemoryKeeper {
 }
 
 impl MemoryKeeper {
-    /// Tables without a row. The calls whose numbers are in `failing` are to fail, counted from 1 over all methods.
+    /// Tables without a row. The calls whose numbers are in `failing` fail, counted from 1 over all methods.
     ///
     /// # Errors
     ///
-    /// Where memory runs out.
+    /// If out of memory.
     pub fn new(alloc: Global, failing: &[u64]) -> Result<MemoryKeeper, AllocError>
         ensures no_rows { IfOk result (λ k. k.tables ≡ no_rows) }
         ensures failing { IfOk result (λ k. k.failing ≡ failing.now) }
@@ -67,7 +68,28 @@ impl MemoryKeeper {
         })
     }
 
-    // Counts the call, and says whether it is to fail.
+    /// How many rows of a table it showed. The count saturates.
+    pub fn shown(&self, table: u8) -> u64
+        ensures { result ≡ slice_index self.now.shown table }
+    {
+        self.shown[table as usize]
+    }
+
+    /// How many changes it made. The count saturates.
+    pub fn written(&self) -> u64
+        ensures { result ≡ self.now.written }
+    {
+        self.written
+    }
+
+    /// How many calls failed, as listed. The count saturates.
+    pub fn faults(&self) -> u64
+        ensures { result ≡ self.now.faults }
+    {
+        self.faults
+    }
+
+    // Counts the call, and returns whether it fails.
     fn fails(&mut self) -> bool
         ensures tables { self.new.tables ≡ self.old.tables }
         ensures failing { self.new.failing ≡ self.old.failing }
@@ -98,6 +120,7 @@ impl Keeper for MemoryKeeper {
         ensures steps { Steps (memory_state self.old) (memory_state self.new) }
         ensures shown { (memory_state self.new).shown ≡ (memory_state self.old).shown }
         ensures written { (memory_state self.new).written ≡ (memory_state self.old).written }
+        ensures stands { StandsAfter (is_ok result) (memory_state self.new) }
         ensures cause { KeeperCause (memory_state self.old) (memory_state self.new) (IsErrOf result Failed) }
         ensures numbered { FailsByNumber self.old self.new (IsErrOf result Failed) }
     {
@@ -113,6 +136,7 @@ impl Keeper for MemoryKeeper {
         ensures reads { Reads (memory_state self.old) (memory_state self.new) }
         ensures shown { (memory_state self.new).shown
             ≡ more_shown table (shown_by_get result) (memory_state self.old).shown }
+        ensures stands { StandsAfter (is_ok result) (memory_state self.new) }
         ensures cause { KeeperCause (memory_state self.old) (memory_state self.new) (IsErrOf result Failed) }
         ensures numbered { FailsByNumber self.old self.new (IsErrOf result Failed) }
     {
@@ -143,6 +167,7 @@ impl Keeper for MemoryKeeper {
         ensures reads { Reads (memory_state self.old) (memory_state self.new) }
         ensures shown { (memory_state self.new).shown
             ≡ more_shown table (shown_by_scan result) (memory_state self.old).shown }
+        ensures stands { StandsAfter (is_ok result) (memory_state self.new) }
         ensures cause { KeeperCause (memory_state self.old) (memory_state self.new) (IsErrOf result Failed) }
         ensures numbered { FailsByNumber self.old self.new (IsErrOf result Failed) }
     {
@@ -161,8 +186,6 @@ impl Keeper for MemoryKeeper {
             → OnOk result (Shows (memory_state self.new) (after batch.now.changes.items self.old.tables)) }
         ensures refused { Tells (memory_state self.old) (memory_state self.new)
             → OnErr result (Shows (memory_state self.new) self.old.tables) }
-        ensures durable { Tells (memory_state self.old) (memory_state self.new)
-            → OnOk result ((m : Tables) → (memory_state self.new).may_leave m → m ≡ self.new.tables) }
         ensures crash { (memory_state self.old).tells → IsTrue (memory_state self.new).is_clean
             → (m : Tables) → (memory_state self.new).may_leave m
             → (memory_state self.old).may_leave m ⊎ (m ≡ after batch.now.changes.items self.old.tables) }
@@ -171,6 +194,7 @@ impl Keeper for MemoryKeeper {
         ensures written { (memory_state self.new).written
             ≡ (if is_ok result then up_to_last ((memory_state self.old).written + length batch.now.changes.items)
             else (memory_state self.old).written) }
+        ensures stands { StandsAfter (is_ok result) (memory_state self.new) }
         ensures cause { KeeperCause (memory_state self.old) (memory_state self.new) (IsErrOf result Failed) }
         ensures numbered { FailsByNumber self.old self.new (IsErrOf result Failed) }
     {
@@ -181,4 +205,6 @@ impl Keeper for MemoryKeeper {
         self.written = self.written.saturating_add(batch.changes.len() as u64);
         Ok(())
     }
+
+    ghost settled = { λ k _ _. record { leaves = refl; only = λ m same. same } };
 }

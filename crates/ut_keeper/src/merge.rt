@@ -1,6 +1,6 @@
 ghost use Rattle.std.specs.Prelude.{◌≡◌, ◌≤◌, ◌+◌, ◌++◌, List, take, length, IfOk, OnOk, Some, None, slice_get, option_copied, if◌then◌else◌};
-ghost use Rattle.ut_keeper.specs.Laid.{merged, gaps, shown_at};
-ghost use Rattle.ut_keeper.specs.Turns.{next_turn};
+ghost use Rattle.ut_keeper.specs.inner.Merging.{merged, gaps, shown_at};
+ghost use Rattle.ut_keeper.specs.inner.Turns.{next_turn};
 ghost use Rattle.ut_keeper.specs.declared.keeper.KeptRow.{KeptRow as Seen};
 
 use crate::keeper::KeptRow;
@@ -21,7 +21,7 @@ pub(crate) fn count_gaps(held: &[Found<'_>]) -> usize
     count
 }
 
-// Which of the two lists goes on.
+// Which of the two lists has the next key.
 #[derive(Clone, Copy, Drop)]
 enum Turn {
     Over,
@@ -59,7 +59,7 @@ fn show(alloc: Global, out: &mut Vec<KeptRow>, entry: &Found<'_>) -> Result<(), 
     Ok(())
 }
 
-/// The first of the rows, once the entries are laid over them.
+/// The first `limit` rows, once the entries are laid over them.
 pub(crate) fn merge(
     alloc: Global,
     rows: VecDeque<KeptRow>,
@@ -91,4 +91,21 @@ pub(crate) fn merge(
         }
     }
     Ok(out)
+}
+
+/// The same of rows in a vector, which without entries are moved as they are.
+pub(crate) fn lay_over(
+    alloc: Global,
+    rows: Vec<KeptRow>,
+    held: &[Found<'_>],
+    limit: usize,
+) -> Result<Vec<KeptRow>, AllocError>
+    ensures { IfOk result (λ out. out.items ≡ take limit (merged rows.items held.now)) }
+{
+    if held.is_empty() {
+        let mut rows = rows;
+        rows.truncate(limit);
+        return Ok(rows);
+    }
+    merge(alloc, VecDeque::from(rows), held, limit)
 }

@@ -1,7 +1,7 @@
-ghost use Rattle.std.specs.Prelude.{◌≡◌, ◌<◌, ◌++◌, IfOk, OnOk, IsErrOf};
+ghost use Rattle.std.specs.Prelude.{◌≡◌, ◌<◌, ◌++◌, IfOk, OnOk, IsErrOf, is_ok};
 ghost use Rattle.ut_keeper.specs.declared.keeper.KeepFail.TheVariants.{Failed};
 ghost use Rattle.ut_keeper.specs.Tables.{rows_between};
-ghost use Rattle.ut_keeper.specs.State.{KeeperCause};
+ghost use Rattle.ut_keeper.specs.State.{KeeperCause, StaysAfter};
 ghost use Rattle.ut_keeper.specs.Walks.{next_above};
 ghost use Rattle.ut_keeper.specs.Draft.{state_of, tables_of, DraftTells, DraftReads, rise};
 
@@ -14,7 +14,7 @@ use ut_value::Bytes;
 ///
 /// # Errors
 ///
-/// Where memory runs out.
+/// If out of memory.
 pub fn next_key(alloc: Global, key: &[u8]) -> Result<Bytes, AllocError>
     ensures { IfOk result (λ next. next ≡ next_above key.now) }
 {
@@ -26,17 +26,15 @@ pub fn next_key(alloc: Global, key: &[u8]) -> Result<Bytes, AllocError>
 fn add_all(all: &mut Vec<KeptRow>, rows: Vec<KeptRow>) -> Result<(), AllocError>
     ensures { OnOk result (all.new.items ≡ all.old.items ++ rows.items) }
 {
-    for row in rows {
-        all.push(row)?;
-    }
-    Ok(())
+    let mut rows = rows;
+    all.append(&mut rows)
 }
 
 /// All rows with `from <= key < below` as they will be, in the order of their keys, read `page` rows at a time.
 ///
 /// # Errors
 ///
-/// `Failed` where the keeper failed, `Memory` where memory ran out.
+/// `Failed` if the keeper failed, `Memory` if out of memory.
 pub fn all_rows<K: Keeper>(
     alloc: Global,
     draft: &mut Draft<'_, K>,
@@ -49,6 +47,7 @@ pub fn all_rows<K: Keeper>(
     ensures rows { DraftTells K.state draft.old draft.new
         → IfOk result (λ rows. rows.items ≡ rows_between (tables_of K.state draft.old) table from.now below.now) }
     ensures reads { DraftReads K.state (rise K.state draft.old draft.new) draft.old draft.new }
+    ensures stays { StaysAfter (is_ok result) (state_of K.state draft.old) (state_of K.state draft.new) }
     ensures cause { KeeperCause (state_of K.state draft.old) (state_of K.state draft.new) (IsErrOf result Failed) }
 {
     let mut all = Vec::new(alloc);
@@ -61,6 +60,6 @@ pub fn all_rows<K: Keeper>(
         next = next_key(alloc, last.key.as_slice())?;
         add_all(&mut all, rows)?;
     }
-    // Not reached before memory ends, but a keeper that tells nothing may answer rows for ever.
+    // Not reached before memory is full, but a keeper that tells nothing may return rows for ever.
     Err(KeepFail::Memory)
 }

@@ -3,9 +3,10 @@ ghost use Rattle.std.specs.Cmp.{equiv, partial_equiv_from_equiv, eq_by_cmp_equiv
 ghost use Rattle.std.specs.Ordering.{eq_by_cmp};
 ghost use Rattle.ut_keeper.specs.Order.{places_total};
 ghost use Rattle.ut_keeper.specs.Tables.{place_cmp};
-ghost use Rattle.ut_keeper.specs.Laid.{change_at};
+ghost use Rattle.ut_keeper.specs.inner.Changes.{change_at};
 
 use crate::keeper::Change;
+use crate::order::compare_keys;
 use std::alloc::{AllocError, Global};
 use std::cmp::Ordering;
 use std::marker::Model;
@@ -60,9 +61,10 @@ impl Ord for Place {
     ghost matches_eq = { λ x y. refl };
 
     fn cmp(&self, other: &Place) -> Ordering {
-        self.table
-            .cmp(&other.table)
-            .then(self.key.as_slice().cmp(other.key.as_slice()))
+        if self.table != other.table {
+            return self.table.cmp(&other.table);
+        }
+        compare_keys(self.key(), other.key())
     }
 }
 

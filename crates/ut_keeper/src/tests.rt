@@ -1,4 +1,4 @@
-use crate::{Draft, KeepFail, Keeper, KeptRow, MemoryKeeper, all_rows, next_key};
+use crate::{Draft, KeepFail, Keeper, KeptRow, MemoryKeeper, all_rows, next_key, prefix_ends};
 use std::alloc::{AllocError, Global};
 use std::test::Fail;
 use ut_value::Bytes;
@@ -121,7 +121,7 @@ fn a_commit_makes_the_changes(rt: HostRuntime) -> Result<(), Fail> {
     change(rt.alloc(), &mut draft)?;
     draft.commit(rt.alloc())?;
     let mut draft = Draft::new(rt.alloc(), &mut keeper);
-    // A draft that is let go changes nothing.
+    // A draft that is dropped changes nothing.
     remove(rt.alloc(), &mut draft, 7, b"a".as_slice())?;
     put(rt.alloc(), &mut draft, 7, b"a".as_slice(), b"9".as_slice())?;
     let text = shown(rt.alloc(), &mut draft, b"a".as_slice(), b"z".as_slice(), 9)?;
@@ -198,5 +198,37 @@ fn a_walk_reads_each_row_once(rt: HostRuntime) -> Result<(), Fail> {
     }
     let next = next_key(rt.alloc(), b"ab".as_slice())?;
     assert_eq!(rt; next.as_slice(), [97, 98, 0].as_slice());
+    Ok(())
+}
+
+#[test]
+fn a_prefix_has_two_ends_or_none(rt: HostRuntime) -> Result<(), Fail> {
+    let cases = [
+        ([0, 5].as_slice(), Some([0, 6].as_slice())),
+        ([5, 255].as_slice(), Some([6].as_slice())),
+        ([255, 0, 255, 255].as_slice(), Some([255, 1].as_slice())),
+        ([255, 255].as_slice(), None),
+        ([].as_slice(), None),
+    ];
+    for (prefix, want) in cases {
+        let ends = prefix_ends(rt.alloc(), prefix)?;
+        let above = ends.as_ref().map(|ends| ends.1.as_slice());
+        assert_eq!(rt; above, want, "of {prefix:?}");
+        let from = ends.as_ref().map_or(prefix, |ends| ends.0.as_slice());
+        assert_eq!(rt; from, prefix);
+    }
+    Ok(())
+}
+
+#[test]
+fn a_keeper_counts(rt: HostRuntime) -> Result<(), Fail> {
+    let mut keeper = filled(rt.alloc())?;
+    let mut draft = Draft::new(rt.alloc(), &mut keeper);
+    shown(rt.alloc(), &mut draft, b"a".as_slice(), b"e".as_slice(), 9)?;
+    drop(draft);
+    assert_eq!(rt; (keeper.shown(7), keeper.shown(8)), (2, 0));
+    assert_eq!(rt; (keeper.written(), keeper.faults()), (4, 0));
+    let text = format!(in rt.alloc(); "{}, {}", KeepFail::Failed, KeepFail::Memory)?;
+    assert_eq!(rt; text.as_str(), "the keeper failed, out of memory");
     Ok(())
 }

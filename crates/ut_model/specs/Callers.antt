@@ -1,11 +1,11 @@
 -- Who calls: the user whom a key `ORG!USER!SECRET` names and whose secret it has.
 -- Source of the digest: FIPS 180-4, SHA-256. The form of a key is this product's own.
-use Rattle.std.specs.Prelude.{ℕ, Bool, ◌&&◌, ◌||◌, ◌==◌, nat_lt, if◌then◌else◌, List, [], length, take, drop, Option, Some, None}
+use Rattle.std.specs.Prelude.{ℕ, Bool, ◌==◌, nat_lt, if◌then◌else◌, List, length, Option, Some, None}
 use Rattle.std.specs.List.{position_or_len, before_first, after_first}
 use Rattle.std.specs.Option.{option_and_then, option_map}
 use Rattle.std.specs.Str.{bytes_eq}
 use Rattle.sha2.specs.Sha256.{sha256}
-use Rattle.ut_value.specs.Id.{is_id, number_in, suffix}
+use Rattle.ut_value.specs.Id.{id_in, number_in}
 use Rattle.ut_model.specs.declared.caller.Caller.{Caller}
 use Rattle.ut_model.specs.Tenant.{User}
 use Rattle.ut_model.specs.World.{World, org_prefix, user_in}
@@ -17,10 +17,6 @@ is_bang c = c == 33
 -- what stands before and behind the first `!`, if there is one
 unfoldable pub cut : List ℕ → Option (List ℕ × List ℕ)
 cut text = if nat_lt (position_or_len is_bang text) (length text) then Some (before_first is_bang text, after_first is_bang text) else None
-
--- the id that a text spells in 15 characters or in 18
-unfoldable pub id_in : List ℕ → Option (List ℕ)
-id_in text = if is_id (take 15 text) && (bytes_eq (drop 15 text) [] || bytes_eq (drop 15 text) (suffix (take 15 text))) then Some (take 15 text) else None
 
 -- what a key names: the organisation's number, the user's id, and the secret
 pub record Named : Type 0 where

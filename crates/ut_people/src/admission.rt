@@ -1,9 +1,9 @@
-ghost use Rattle.std.specs.Prelude.{◌≡◌, IsErrOf, MatchOption, None, Some, length};
+ghost use Rattle.std.specs.Prelude.{◌≡◌, IsErrOf, MatchOption, None, Some, length, is_ok};
 ghost use Rattle.sha2.specs.Sha256.{sha256};
 ghost use Rattle.ut_keeper.specs.Draft.{DraftReads, DraftTells, state_of, tables_of};
-ghost use Rattle.ut_keeper.specs.State.{KeeperCause};
+ghost use Rattle.ut_keeper.specs.State.{KeeperCause, StaysAfter};
 ghost use Rattle.ut_keys.specs.declared.fail.StoreFail.TheVariants.{Keeper};
-ghost use Rattle.ut_model.specs.Callers.{caller_in, cut, id_in, named_ids};
+ghost use Rattle.ut_model.specs.Callers.{caller_in, cut, named_ids};
 ghost use Rattle.ut_people.specs.People.{admitted_row, caller_of};
 ghost use Rattle.ut_stands.specs.Reads.{FindsAs};
 
@@ -13,7 +13,7 @@ use ut_keeper::{Draft, Keeper, draft_laws};
 use ut_keys::{StoreFail, UserRow};
 use ut_model::{Caller, org_number};
 use ut_stands::user;
-use ut_value::Id;
+use ut_value::{Id, id_in};
 
 /// The SHA-256 digest of a secret's bytes.
 pub(crate) fn digest_of(secret: &str) -> [u8; 32]
@@ -29,19 +29,6 @@ fn cut(text: &str) -> Option<(&str, &str)>
     ensures { MatchOption result (cut text.now ≡ None) (λ x. cut text.now ≡ Some (x.0.now, x.1.now)) }
 {
     text.split_once('!')
-}
-
-// The id that a text spells.
-fn id_in(text: &str) -> Option<Id>
-    ensures { result ≡ id_in text.now }
-{
-    match Id::read(text) {
-        Ok(id) => {
-            let _ = id.as_bytes();
-            Some(id)
-        }
-        Err(_) => None,
-    }
 }
 
 // The number of the organisation and the id of the user that these texts name.
@@ -86,6 +73,7 @@ fn caller_with<K: Keeper>(
     ensures finds { DraftTells K.state draft.old draft.new
         → FindsAs (caller_of (record { org = org; user = id.now; secret = secret.now })) (tables_of K.state draft.old) result }
     ensures reads { DraftReads K.state 0 draft.old draft.new }
+    ensures stays { StaysAfter (is_ok result) (state_of K.state draft.old) (state_of K.state draft.new) }
     ensures cause { KeeperCause (state_of K.state draft.old) (state_of K.state draft.new) (IsErrOf result Keeper) }
 {
     draft_laws::<K>();
@@ -114,6 +102,7 @@ pub fn caller<K: Keeper>(
     ensures finds { DraftTells K.state draft.old draft.new
         → FindsAs (λ w. caller_in w key.now) (tables_of K.state draft.old) result }
     ensures reads { DraftReads K.state 0 draft.old draft.new }
+    ensures stays { StaysAfter (is_ok result) (state_of K.state draft.old) (state_of K.state draft.new) }
     ensures cause { KeeperCause (state_of K.state draft.old) (state_of K.state draft.new) (IsErrOf result Keeper) }
 {
     draft_laws::<K>();

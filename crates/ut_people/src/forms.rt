@@ -5,16 +5,12 @@ ghost use Rattle.ut_model.specs.Organisations.{is_secret};
 ghost use Rattle.ut_model.specs.Sound.{is_name};
 ghost use Rattle.ut_value.specs.Id.{is_digit62};
 
+use ut_value::character_count;
+
 fn is_within(low: usize, high: usize, count: usize) -> bool
     ensures { result ≡ (nat_le low count && nat_le count high) }
 {
     low <= count && count <= high
-}
-
-fn character_count(text: &str) -> usize
-    ensures { result ≡ length (chars text.now) }
-{
-    text.chars().count()
 }
 
 fn are_letters_or_digits(bytes: &[u8]) -> bool

@@ -1,14 +1,14 @@
-ghost use Rattle.std.specs.Prelude.{◌≡◌, ◌<◌, [], IsTrue, IfErr, IfOk, OnOk};
+ghost use Rattle.std.specs.Prelude.{◌≡◌, ◌<◌, [], IsTrue, IfErr, IfOk, OnOk, is_ok};
 ghost use Rattle.std.specs.Str.{chars};
 ghost use Rattle.sha2.specs.Sha256.{sha256};
 ghost use Rattle.ut_keeper.specs.Draft.{DraftReads, DraftTells, DraftWorks, count_of, state_of, tables_of};
-ghost use Rattle.ut_keeper.specs.State.{KeeperCause};
+ghost use Rattle.ut_keeper.specs.State.{KeeperCause, StaysAfter};
 ghost use Rattle.ut_keys.specs.declared.fail.StoreFail.TheVariants.{Memory};
 ghost use Rattle.ut_model.specs.Organisations.{administrator, fresh, is_secret};
 ghost use Rattle.ut_model.specs.Sound.{is_name};
 ghost use Rattle.ut_model.specs.World.{World};
 ghost use Rattle.ut_people.specs.People.{AddsAs, with_rows};
-ghost use Rattle.ut_stands.specs.Fails.{IsRefusal, KeeperFailsEdit};
+ghost use Rattle.ut_stands.specs.Fails.{IsRefusal, KeeperFailsEdit, is_judged};
 ghost use Rattle.ut_stands.specs.Stands.{Stands, org_of, user_of};
 
 use crate::admission::digest_of;
@@ -66,6 +66,7 @@ fn put_rows<K: Keeper>(
 ) -> Result<(), StoreFail>
     requires { IsTrue (is_name (chars name.now)) }
     ensures works { DraftWorks K.state 3 0 0 draft.old draft.new }
+    ensures stays { StaysAfter (is_ok result) (state_of K.state draft.old) (state_of K.state draft.new) }
     ensures ok { OnOk result (tables_of K.state draft.new ≡ with_rows org (chars name.now) digest (tables_of K.state draft.old)) }
     ensures some { OnOk result (0 < count_of draft.new) }
     ensures err { IfErr result (λ e. e ≡ Memory) }
@@ -99,6 +100,7 @@ pub fn add_org<K: Keeper>(
     ensures some { OnOk result (0 < count_of draft.new) }
     ensures refused { IfErr result (λ e. IsRefusal e → DraftReads K.state 0 draft.old draft.new) }
     ensures works { DraftWorks K.state 3 0 0 draft.old draft.new }
+    ensures stays { StaysAfter (is_judged result) (state_of K.state draft.old) (state_of K.state draft.new) }
     ensures cause { KeeperCause (state_of K.state draft.old) (state_of K.state draft.new) (KeeperFailsEdit result) }
 {
     draft_laws::<K>();

@@ -11,7 +11,6 @@ mod lexer;
 mod marks;
 mod quoted;
 mod token;
-mod written;
 
 pub use crate::asking::asks_for_rows;
 pub use crate::laws::{asking_rows, token_laws};

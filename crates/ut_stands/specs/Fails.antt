@@ -1,5 +1,5 @@
 -- What the failures of the layers below are to an edit and to an opening.
-use Rattle.std.specs.Prelude.{◌≡◌, Result, Ok, Err}
+use Rattle.std.specs.Prelude.{◌≡◌, Bool, true, false, Result, Ok, Err}
 use Rattle.ut_keys.specs.Fails as keys
 use Rattle.ut_keeper.specs.declared.keeper.KeepFail.{KeepFail}
 use Rattle.ut_keys.specs.declared.fail.StoreFail.{StoreFail}
@@ -28,6 +28,18 @@ abbrev pub KeeperFailsEdit : {X : Type 0} → Result X EditFail → Type 0
 KeeperFailsEdit (Ok x) = ⊥
 KeeperFailsEdit (Err (edit.Refused r)) = ⊥
 KeeperFailsEdit (Err (edit.Store e)) = e ≡ Keeper
+
+-- an edit was judged: it was done or refused, so every call of the keeper returned `Ok`
+abbrev pub is_judged : {X : Type 0} → Result X EditFail → Bool
+is_judged (Ok x) = true
+is_judged (Err (edit.Refused r)) = true
+is_judged (Err (edit.Store e)) = false
+
+-- an opening saw the version, known or not, so every call of the keeper returned `Ok`
+abbrev pub sees_version : {X : Type 0} → Result X OpenFail → Bool
+sees_version (Ok x) = true
+sees_version (Err opening.UnknownVersion) = true
+sees_version (Err (opening.Store e)) = false
 
 -- an opening failed by the keeper
 abbrev pub KeeperFailsOpening : {X : Type 0} → Result X OpenFail → Type 0

@@ -1,8 +1,8 @@
-ghost use Rattle.std.specs.Prelude.{◌≡◌, IsErrOf};
+ghost use Rattle.std.specs.Prelude.{◌≡◌, IsErrOf, is_ok};
 ghost use Rattle.ut_keeper.specs.Draft.{DraftReads, DraftTells, state_of, tables_of};
-ghost use Rattle.ut_keeper.specs.State.{KeeperCause, LeavesNoMore, Shows, Steps, Tells};
+ghost use Rattle.ut_keeper.specs.State.{KeeperCause, LeavesNoMore, Shows, StandsAfter, StaysAfter, Steps, Tells};
 ghost use Rattle.ut_keys.specs.declared.fail.StoreFail.TheVariants.{Keeper};
-ghost use Rattle.ut_stands.specs.Fails.{KeeperFailsOpening};
+ghost use Rattle.ut_stands.specs.Fails.{KeeperFailsOpening, sees_version};
 ghost use Rattle.ut_stands.specs.Reads.{KnowsAs, OpensAs};
 
 use crate::fail::OpenFail;
@@ -15,6 +15,7 @@ use ut_keys::{StoreFail, row_laws};
 fn is_known<K: Keeper>(alloc: Global, draft: &mut Draft<'_, K>) -> Result<bool, StoreFail>
     ensures knows { DraftTells K.state draft.old draft.new → KnowsAs (tables_of K.state draft.old) result }
     ensures reads { DraftReads K.state 0 draft.old draft.new }
+    ensures stays { StaysAfter (is_ok result) (state_of K.state draft.old) (state_of K.state draft.new) }
     ensures cause { KeeperCause (state_of K.state draft.old) (state_of K.state draft.new) (IsErrOf result Keeper) }
 {
     row_laws();
@@ -29,16 +30,17 @@ fn is_known<K: Keeper>(alloc: Global, draft: &mut Draft<'_, K>) -> Result<bool, 
 ///
 /// # Errors
 ///
-/// `UnknownVersion` exactly where the row of the version has another number than 1, if neither opening nor reading fails;
-/// `Store` with `Keeper` where the keeper failed, with `Memory` where memory ran out, with `Damaged` never where the
-/// tables stand for a world.
+/// `UnknownVersion` exactly if the row of the version has another number than 1, where neither opening nor reading fails;
+/// `Store` with `Keeper` if the keeper failed, with `Memory` if out of memory, with `Damaged` never if the tables stand
+/// for a world.
 #[tactic(auto, using(crate::proofs::Versions::opens_failed))]
 pub fn open_tables<K: Keeper>(alloc: Global, keeper: &mut K) -> Result<(), OpenFail>
     ensures opens { Tells (K.state keeper.old) (K.state keeper.new) → OpensAs (K.state keeper.old).tables result }
     ensures same { Tells (K.state keeper.old) (K.state keeper.new) → Shows (K.state keeper.new) (K.state keeper.old).tables }
-    ensures crash { Tells (K.state keeper.old) (K.state keeper.new) → LeavesNoMore (K.state keeper.old) (K.state keeper.new) }
+    ensures crash { (K.state keeper.old).tells → LeavesNoMore (K.state keeper.old) (K.state keeper.new) }
     ensures steps { Steps (K.state keeper.old) (K.state keeper.new) }
     ensures written { (K.state keeper.new).written ≡ (K.state keeper.old).written }
+    ensures stands { StandsAfter (sees_version result) (K.state keeper.new) }
     ensures cause { KeeperCause (K.state keeper.old) (K.state keeper.new) (KeeperFailsOpening result) }
 {
     keeper.open(alloc)?;

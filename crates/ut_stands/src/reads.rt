@@ -1,9 +1,9 @@
 //! Reads of tables that stand for a world.
 
-ghost use Rattle.std.specs.Prelude.{IsErrOf, length};
+ghost use Rattle.std.specs.Prelude.{IsErrOf, length, is_ok};
 ghost use Rattle.std.specs.Option.{option_map};
 ghost use Rattle.ut_keeper.specs.Draft.{DraftReads, DraftTells, state_of, tables_of};
-ghost use Rattle.ut_keeper.specs.State.{KeeperCause};
+ghost use Rattle.ut_keeper.specs.State.{KeeperCause, StaysAfter};
 ghost use Rattle.ut_keys.specs.declared.fail.StoreFail.TheVariants.{Keeper};
 ghost use Rattle.ut_model.specs.World.{user_in};
 ghost use Rattle.ut_stands.specs.Reads.{FindsAs};
@@ -20,10 +20,11 @@ use ut_value::{Id, id_laws};
 ///
 /// # Errors
 ///
-/// `Keeper` where the keeper failed, `Memory` where memory ran out, `Damaged` never where the tables stand for a world.
+/// `Keeper` if the keeper failed, `Memory` if out of memory, `Damaged` never if the tables stand for a world.
 pub fn organisations<K: Keeper>(alloc: Global, draft: &mut Draft<'_, K>) -> Result<u32, StoreFail>
     ensures finds { DraftTells K.state draft.old draft.new → FindsAs (λ w. length w) (tables_of K.state draft.old) result }
     ensures reads { DraftReads K.state 0 draft.old draft.new }
+    ensures stays { StaysAfter (is_ok result) (state_of K.state draft.old) (state_of K.state draft.new) }
     ensures cause { KeeperCause (state_of K.state draft.old) (state_of K.state draft.new) (IsErrOf result Keeper) }
 {
     row_laws();
@@ -38,7 +39,7 @@ pub fn organisations<K: Keeper>(alloc: Global, draft: &mut Draft<'_, K>) -> Resu
 ///
 /// # Errors
 ///
-/// `Keeper` where the keeper failed, `Memory` where memory ran out, `Damaged` never where the tables stand for a world.
+/// `Keeper` if the keeper failed, `Memory` if out of memory, `Damaged` never if the tables stand for a world.
 pub fn user<K: Keeper>(
     alloc: Global,
     draft: &mut Draft<'_, K>,
@@ -48,6 +49,7 @@ pub fn user<K: Keeper>(
     ensures finds { DraftTells K.state draft.old draft.new
         → FindsAs (λ w. option_map (user_of org) (user_in w org id.now)) (tables_of K.state draft.old) result }
     ensures reads { DraftReads K.state 0 draft.old draft.new }
+    ensures stays { StaysAfter (is_ok result) (state_of K.state draft.old) (state_of K.state draft.new) }
     ensures cause { KeeperCause (state_of K.state draft.old) (state_of K.state draft.new) (IsErrOf result Keeper) }
 {
     row_laws();

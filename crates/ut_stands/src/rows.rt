@@ -1,9 +1,9 @@
 //! Typed rows, read and put at their keys. Nothing here knows a world.
 
-ghost use Rattle.std.specs.Prelude.{◌≡◌, ◌<◌, ◌^◌, length, IfErr, OnOk, IsErrOf, encode_utf8_all};
+ghost use Rattle.std.specs.Prelude.{◌≡◌, ◌<◌, ◌^◌, length, IfErr, OnOk, IsErrOf, encode_utf8_all, is_ok};
 ghost use Rattle.std.specs.FinMap as map;
 ghost use Rattle.ut_keeper.specs.Draft.{DraftReads, DraftTells, DraftWorks, count_of, state_of, tables_of};
-ghost use Rattle.ut_keeper.specs.State.{KeeperCause};
+ghost use Rattle.ut_keeper.specs.State.{KeeperCause, StaysAfter};
 ghost use Rattle.ut_keys.specs.declared.fail.StoreFail.TheVariants.{Keeper, Memory};
 ghost use Rattle.ut_keys.specs.Keys.{Org, User, Version, spell};
 ghost use Rattle.ut_keys.specs.Rows.{version_row, FitsVersion, org_row, user_row};
@@ -29,8 +29,8 @@ pub(crate) const KNOWN_VERSION: u32 = 1;
 ///
 /// # Errors
 ///
-/// `Damaged` exactly where a row stands there that is none of the version's; `Keeper` where the keeper failed, `Memory`
-/// where memory ran out.
+/// `Damaged` exactly if the row there isn't one of the version's; `Keeper` if the keeper failed, `Memory` if out of
+/// memory.
 pub fn version_row<K: Keeper>(
     alloc: Global,
     draft: &mut Draft<'_, K>,
@@ -38,6 +38,7 @@ pub fn version_row<K: Keeper>(
     ensures row { DraftTells K.state draft.old draft.new
         → ReadsAs version_row FitsVersion (map.get (tables_of K.state draft.old) (spell Version)) result }
     ensures reads { DraftReads K.state 0 draft.old draft.new }
+    ensures stays { StaysAfter (is_ok result) (state_of K.state draft.old) (state_of K.state draft.new) }
     ensures cause { KeeperCause (state_of K.state draft.old) (state_of K.state draft.new) (IsErrOf result Keeper) }
 {
     match draft.get(alloc, VERSIONS, &[])? {
@@ -50,8 +51,8 @@ pub fn version_row<K: Keeper>(
 ///
 /// # Errors
 ///
-/// `Damaged` exactly where a row stands there that is none of this user's; `Keeper` where the keeper failed, `Memory`
-/// where memory ran out.
+/// `Damaged` exactly if the row there isn't one of this user's; `Keeper` if the keeper failed, `Memory` if out of
+/// memory.
 pub fn user_row<K: Keeper>(
     alloc: Global,
     draft: &mut Draft<'_, K>,
@@ -61,6 +62,7 @@ pub fn user_row<K: Keeper>(
     ensures row { DraftTells K.state draft.old draft.new
         → ReadsAs user_row (UserAt org id.now) (map.get (tables_of K.state draft.old) (spell (User org id.now))) result }
     ensures reads { DraftReads K.state 0 draft.old draft.new }
+    ensures stays { StaysAfter (is_ok result) (state_of K.state draft.old) (state_of K.state draft.new) }
     ensures cause { KeeperCause (state_of K.state draft.old) (state_of K.state draft.new) (IsErrOf result Keeper) }
 {
     table_laws();
@@ -72,11 +74,11 @@ pub fn user_row<K: Keeper>(
     }
 }
 
-/// From now on the tables are of the known version, and there are so many organisations.
+/// Sets the row of the version: the known version, and the number of organisations.
 ///
 /// # Errors
 ///
-/// Where memory runs out.
+/// If out of memory.
 pub fn put_version<K: Keeper>(
     alloc: Global,
     draft: &mut Draft<'_, K>,
@@ -87,6 +89,7 @@ pub fn put_version<K: Keeper>(
     ensures err { IfErr result (λ e. e ≡ Memory) }
     ensures some { OnOk result (0 < count_of draft.new) }
     ensures works { DraftWorks K.state 1 0 0 draft.old draft.new }
+    ensures stays { StaysAfter (is_ok result) (state_of K.state draft.old) (state_of K.state draft.new) }
 {
     let row = VersionRow {
         version: KNOWN_VERSION,
@@ -98,11 +101,11 @@ pub fn put_version<K: Keeper>(
     Ok(())
 }
 
-/// From now on this is the row of its organisation.
+/// Sets the row of an organisation.
 ///
 /// # Errors
 ///
-/// Where memory runs out.
+/// If out of memory.
 pub fn put_org<K: Keeper>(
     alloc: Global,
     draft: &mut Draft<'_, K>,
@@ -113,6 +116,7 @@ pub fn put_org<K: Keeper>(
     ensures err { IfErr result (λ e. e ≡ Memory) }
     ensures some { OnOk result (0 < count_of draft.new) }
     ensures works { DraftWorks K.state 1 0 0 draft.old draft.new }
+    ensures stays { StaysAfter (is_ok result) (state_of K.state draft.old) (state_of K.state draft.new) }
 {
     let key = row.key(alloc)?;
     let bytes = row.write(alloc)?;
@@ -120,11 +124,11 @@ pub fn put_org<K: Keeper>(
     Ok(())
 }
 
-/// From now on this is the row of its user.
+/// Sets the row of a user.
 ///
 /// # Errors
 ///
-/// Where memory runs out.
+/// If out of memory.
 pub fn put_user<K: Keeper>(
     alloc: Global,
     draft: &mut Draft<'_, K>,
@@ -135,6 +139,7 @@ pub fn put_user<K: Keeper>(
     ensures err { IfErr result (λ e. e ≡ Memory) }
     ensures some { OnOk result (0 < count_of draft.new) }
     ensures works { DraftWorks K.state 1 0 0 draft.old draft.new }
+    ensures stays { StaysAfter (is_ok result) (state_of K.state draft.old) (state_of K.state draft.new) }
 {
     let key = row.key(alloc)?;
     let bytes = row.write(alloc)?;

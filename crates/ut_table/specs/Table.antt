@@ -1,40 +1,35 @@
--- The records of a CSV text.
--- Source: RFC 4180, as the crate `csv` reads it with its default settings.
-use Rattle.std.specs.Prelude.{ℕ, Bool, ◌&&◌, nat_le, nat_eq, if◌then◌else◌, List, [], ◌∷◌, length, Option, Some, None}
-use Rattle.std.specs.List.{list_all, starts_with}
+-- The records of a CSV source, and the first of them that is refused.
+-- Sources: RFC 4180, as the crate `csv` reads it with its default settings: cells are parted by commas and may be in
+-- quotes, a record ends with CR, LF or both, an empty line is passed over, and each record has as many cells as the
+-- first. UTF-8: RFC 3629. The byte order mark is U+FEFF in UTF-8.
+use Rattle.std.specs.Prelude.{ℕ, Bool, ◌&&◌, not, nat_eq, if◌then◌else◌, List, [], ◌∷◌, length, Option, Some}
+use Rattle.std.specs.List.{list_all, position, starts_with}
 use Rattle.std.specs.Str.{is_utf8}
-use Rattle.csv.specs.declared.error.ErrorKind.{ErrorKind}
-use Rattle.csv.specs.declared.error.ErrorKind.TheVariants as kind
 use Rattle.csv.specs.Reading.{default_config, records, strip_bom}
 
--- two byte order marks
 abbrev pub two_marks : List ℕ
 two_marks = 0xEF ∷ 0xBB ∷ 0xBF ∷ 0xEF ∷ 0xBB ∷ 0xBF ∷ []
 
-abbrev pub has_two_marks : List ℕ → Bool
-has_two_marks bytes = starts_with nat_eq bytes two_marks
+abbrev pub begins_with_two_marks : List ℕ → Bool
+begins_with_two_marks source = starts_with nat_eq source two_marks
 
--- whether each cell is text
+-- the records of a source, as lists of cells; one byte order mark at the beginning is passed over
+abbrev pub table_of : List ℕ → List (List (List ℕ))
+table_of source = records default_config (strip_bom source)
+
+-- whether each cell is UTF-8
 abbrev pub is_text : List (List ℕ) → Bool
 is_text cells = list_all is_utf8 cells
 
--- the records behind one byte order mark
-abbrev pub records_in : List ℕ → List (List (List ℕ))
-records_in bytes = records default_config (strip_bom bytes)
+-- whether a record is text and has as many cells as the heading
+abbrev pub fits : List (List ℕ) → List (List ℕ) → Bool
+fits heading cells = is_text cells && nat_eq (length cells) (length heading)
 
--- the records, where they are text and at most so many
-abbrev pub judged : ℕ → List (List (List ℕ)) → Option (List (List (List ℕ)))
-judged limit rows = if nat_le (length rows) limit && list_all is_text rows then Some rows else None
+-- the number of the first record that doesn't fit the heading, which itself has the number 0; 0 where there is no record
+abbrev pub first_unfit : List (List (List ℕ)) → Option ℕ
+first_unfit [] = Some 0
+first_unfit (heading ∷ rows) = position (λ cells. not (fits heading cells)) (heading ∷ rows)
 
--- the table of a text, if it has one of at most so many records
-abbrev pub table_of : ℕ → List ℕ → Option (List (List (List ℕ)))
-table_of limit bytes = if has_two_marks bytes then None else judged limit (records_in bytes)
-
--- P at an error that tells of a record, and Q at any other
-abbrev pub MatchesKind : ErrorKind → Type 0 → Type 0 → Type 0
-MatchesKind (kind.Utf8 pos err) P Q = P
-MatchesKind (kind.UnequalLengths pos expected len) P Q = P
-MatchesKind (kind.Io e) P Q = Q
-MatchesKind kind.OutOfMemory P Q = Q
-MatchesKind (kind.Serialize why) P Q = Q
-MatchesKind (kind.Deserialize pos err) P Q = Q
+-- the number of the first record that is refused, if one is; 0 where the source begins with two byte order marks
+abbrev pub first_refused : List ℕ → Option ℕ
+first_refused source = if begins_with_two_marks source then Some 0 else first_unfit (table_of source)

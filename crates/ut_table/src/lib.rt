@@ -1,11 +1,21 @@
-//! A CSV text as a table of records.
+//! A CSV source as a table of records.
 //!
-//! It stands on the kit's `csv`. Its contract: a table is answered exactly where the text has one, and then that one.
+//! It depends on the toolchain's `csv` alone. Its contract: a table is read exactly where no record of the source is
+//! refused, and then with exactly its records; else the number of the first refused record is returned.
+//!
+//! # Example
+//!
+//! `Name`, `Ada`, `Bob`, a line each, are three records of one cell. With `Ada,Bob` in place of `Ada` the record 1 is
+//! refused.
 #![tactic(auto)]
 
+mod fail;
+mod laws;
 mod read;
 
-pub use crate::read::{TableFail, read_table};
+pub use crate::fail::TableFail;
+pub use crate::laws::table_rows;
+pub use crate::read::read_table;
 
 #[cfg(test)]
 mod tests;

@@ -1,22 +1,34 @@
 use crate::{TableFail, read_table};
 
 #[test]
-fn reads_a_table_or_refuses_it(rt: HostRuntime) {
-    for (text, limit, wanted) in [
-        (b"Name\nAda\n".as_slice(), 9, Ok(2)),
-        (b"Name\nAda".as_slice(), 2, Ok(2)),
-        (b"Name\nAda\n".as_slice(), 1, Err(TableFail::Refused)),
-        (b"".as_slice(), 9, Ok(0)),
-        (b"\xEF\xBB\xBFName\r\n\"a\nb\"\r\n".as_slice(), 9, Ok(2)),
-        (
-            b"\xEF\xBB\xBF\xEF\xBB\xBFName\n".as_slice(),
-            9,
-            Err(TableFail::Refused),
-        ),
-        (b"Name\n\xFF\n".as_slice(), 9, Err(TableFail::Refused)),
-        (b"Name\na,b\n".as_slice(), 9, Ok(2)),
+fn reads_a_table_or_tells_the_first_refused_record(rt: HostRuntime) {
+    let refused = |row| Err(TableFail::Refused { row });
+    for (source, wanted) in [
+        (b"Name\nAda\n".as_slice(), Ok(2)),
+        (b"Name\nAda".as_slice(), Ok(2)),
+        (b"\xEF\xBB\xBFName\r\n\"a\nb\"\r\n".as_slice(), Ok(2)),
+        (b"".as_slice(), refused(0)),
+        (b"\xEF\xBB\xBF".as_slice(), refused(0)),
+        (b"\n\r\n".as_slice(), refused(0)),
+        (b"\xEF\xBB\xBF\xEF\xBB\xBFName\n".as_slice(), refused(0)),
+        (b"N\xFFme\nAda\n".as_slice(), refused(0)),
+        (b"Name\n\nAda\nBob,b\n\xFF\n".as_slice(), refused(2)),
+        (b"Name\nAda\nBob\n\xFF\na,b\n".as_slice(), refused(3)),
+        (b"Name,Id\nAda\n".as_slice(), refused(1)),
     ] {
-        let found = read_table(rt.alloc(), text, limit).map(|rows| rows.len());
+        let found = read_table(rt.alloc(), source, 9).map(|rows| rows.len());
         assert!(rt; found == wanted);
+        let few = read_table(rt.alloc(), source, 1).map(|rows| rows.len());
+        assert!(rt; few == wanted.map(|_| 1));
+    }
+}
+
+#[test]
+fn shows_why(rt: HostRuntime) {
+    for (fail, wanted) in [
+        (TableFail::Refused { row: 3 }, "record 3 is refused"),
+        (TableFail::Memory, "out of memory"),
+    ] {
+        assert!(rt; format!(in rt.alloc(); "{fail}").is_ok_and(|text| text.as_str() == wanted));
     }
 }

@@ -1,3 +1,13 @@
 pub mod Causes
 pub mod Digits
 pub mod Id
+pub mod Texts
+pub mod Numerals
+pub mod Dates
+pub mod Types
+pub mod Values
+pub mod Reading
+pub mod Printing
+pub mod Conversion
+pub mod OrderKeys
+pub mod inner

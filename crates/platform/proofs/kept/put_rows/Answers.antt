@@ -1,22 +1,31 @@
-use Rattle.std.proofs.Common.{◌<◌, ◌∙◌, length, refl}
+use Rattle.std.proofs.Common.{◌≡◌, ◌+◌, ◌-◌, ◌<◌, ◌∙◌, ℕ, length, refl, sym, subst, arith}
+use Rattle.ut_keeper.specs.Draft.{DraftWorks}
 use Rattle.platform.proofs.Keeping.{none_put, one_put}
 use Rattle.platform.proofs.kept.put_rows.Goals as goal
 
-pub loop-place-init : goal.loop-place-init
-loop-place-init g c = record {
-  works = c.draft_laws.ensures.reads_work 0 _ _ (c.draft_laws.ensures.same _);
-  keeper = refl;
-  tables = none_put c.args.rows.now _;
-}
-
-pub loop-place-preserved : goal.loop-place-preserved
-loop-place-preserved g c =
-    let inv = c.loop-place.invariant in
-    let put = c.in_ok-put.ensures in
-    let within : c.loop-place.place < length c.args.rows.now = c.loop-place-test.true in
+pub rows-init : goal.rows-init
+rows-init g c =
+    let none : 0 ≡ length c.args.rows.now - length c.args.rows.now = omega arith in
     record {
-      works = c.draft_laws.ensures.works c.loop-place.place 0 0 1 0 0 _ _ _ inv.works put.works;
+      within = omega arith;
+      works = subst (λ (n : ℕ). DraftWorks g.K.Keeper.state n 0 0 c.args.draft.now c.args.draft.now) none (c.draft_laws.ensures.reads_work 0 _ _ (c.draft_laws.ensures.same _));
+      keeper = refl;
+      tables = none_put c.args.rows.now _;
+    }
+
+pub rows-preserved : goal.rows-preserved
+rows-preserved g c =
+    let inv = c.rows.invariant in
+    let put = c.in_ok-put.ensures in
+    let number = c.rows.place in
+    let some : 0 < number = c.rows-test.true in
+    let next : number ≡ (number - 1) + 1 = omega arith in
+    let within : number - 1 < length c.args.rows.now = omega (arith, inv.within) in
+    let more : (length c.args.rows.now - number) + 1 ≡ length c.args.rows.now - (number - 1) = omega (arith, inv.within) in
+    record {
+      within = omega (arith, inv.within);
+      works = subst (λ (n : ℕ). DraftWorks g.K.Keeper.state n 0 0 c.args.draft.now c.put.new.self) more (c.draft_laws.ensures.works (length c.args.rows.now - number) 0 0 1 0 0 _ _ _ inv.works put.works);
       keeper = put.keeper ∙ inv.keeper;
-      tables = one_put c.args.rows.now c.loop-place.place c.index-rows-place.result _ _ _ c.in_ok-key.key c.in_ok-row.row within c.index-rows-place.is inv.tables
-          (c.in_ok-key.ensures ∙ c.as_bytes.ensures.characters ∙ c.new-id.ensures) (c.in_ok-row.ensures ∙ c.as_bytes-in-loop-place.ensures.value ∙ c.name_in.ensures) put.ok;
+      tables = one_put c.args.rows.now (number - 1) number c.index-rows-place.result _ _ _ c.in_ok-key.key c.in_ok-row.row next within c.index-rows-place.is inv.tables
+          (c.in_ok-key.ensures ∙ c.as_bytes.ensures.characters ∙ c.new-id.ensures) (c.in_ok-row.ensures ∙ c.as_bytes-in-rows.ensures.value ∙ c.name_in.ensures) put.ok;
     }

@@ -5,7 +5,7 @@ use Rattle.std.specs.Str.{chars, is_utf8}
 use Rattle.csv.specs.Records.{field_at}
 use Rattle.csv.specs.Writing.{escaped, fields_text, is_blank}
 use Rattle.csv.proofs.OnLiterals.{csv_on_literals}
-use Rattle.ut_soql.specs.Written.{is_digit}
+use Rattle.ut_value.specs.Numerals.{is_digit}
 use Rattle.ut_soql.specs.Tokens as tokens
 use Rattle.ut_soql.specs.Tokens.{is_letter, in_word, in_run, begins_run, class_of, single, double}
 use Rattle.ut_soql.specs.Reading.{mark_len, token_len, mark_token, token_of, front_len, token_at, tokens_of, is_word, is_comma, are_asking, asks_for_rows}

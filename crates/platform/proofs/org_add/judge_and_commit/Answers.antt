@@ -26,7 +26,7 @@ returns-in-Ok-clause-within g c =
     let judges : Judges state c.args.keeper.now d e c.commit.new.self.0 c.new-draft.ensures.same c.new-draft.ensures.empty c.judge.ensures.works name secret (Ok (Changed c.in-Ok-Changed.page)) =
     λ told w s. subst (JudgedAs w name secret (tables_of state e)) (c.in-Ok-Changed.is ∙ ap Ok c.in-Ok-Changed.field-0-is) (c.judge.ensures.judged told w s) in
     moved state c.args.keeper.now c.commit.new.self.0 _ name secret (Ok c.in-Ok-Changed.page) (search rules)
-    (changed_within state c.args.keeper.now d e c.commit.new.self.0 c.new-draft.ensures.same c.new-draft.ensures.empty c.judge.ensures.works name secret c.commit.ensures.steps c.in-Ok-Changed.page judges (search rules) c.in-Ok.ensures.applied c.in-Ok.ensures.durable)
+    (changed_within state c.args.keeper.now d e c.commit.new.self.0 c.new-draft.ensures.same c.new-draft.ensures.empty c.judge.ensures.works name secret c.commit.ensures.steps c.in-Ok-Changed.page judges c.in-Ok.ensures.applied c.in-Ok.ensures.settled)
 
 pub returns-in-Err-commit-clause-within : goal.returns-in-Err-commit-clause-within
 returns-in-Err-commit-clause-within g c =

@@ -1,6 +1,7 @@
 use Rattle.std.proofs.Common.{◌++◌, ◌∷◌, map, List, sym, ap, ◌∙◌}
 use Rattle.ut_keeper.specs.Tables.{after}
-use Rattle.ut_keeper.specs.Laid.{Entry, change_of}
+use Rattle.ut_keeper.specs.Laid.{Entry}
+use Rattle.ut_keeper.specs.inner.Changes.{change_of}
 use Rattle.ut_keeper.proofs.Ranges.{append_none, append_one}
 use Rattle.ut_keeper.proofs.Scans.{batch_laid}
 use Rattle.ut_keeper.proofs.draft.batch_of.Goals as goal

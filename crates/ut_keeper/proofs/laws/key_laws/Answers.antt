@@ -1,6 +1,6 @@
 use Rattle.ut_keeper.specs.Order.{places_total}
 use Rattle.ut_keeper.proofs.Places as places
-use Rattle.ut_keeper.proofs.Prefixes.{prefix_between}
+use Rattle.ut_keeper.proofs.Prefixes as prefixes
 use Rattle.ut_keeper.proofs.laws.key_laws.Goals as goal
 
 pub returns : goal.returns
@@ -8,5 +8,6 @@ returns c = record {
   total = places_total;
   exact = places.places_exact;
   bytes_exact = places.bytes_exact;
-  prefix = prefix_between;
+  interval = prefixes.interval;
+  unbounded = prefixes.unbounded;
 }

@@ -1,6 +1,7 @@
 use Rattle.ut_keeper.proofs.Listing as listing
 use Rattle.ut_keeper.proofs.Walk as walk
 use Rattle.ut_keeper.proofs.Paging as paging
+use Rattle.ut_keeper.proofs.Splits.{split}
 use Rattle.ut_keeper.proofs.laws.walk_laws.Goals as goal
 
 pub returns : goal.returns
@@ -11,4 +12,5 @@ returns c = record {
   page_rest = walk.page_rest;
   page_step = paging.page_step;
   page_end = paging.page_end;
+  split = split;
 }

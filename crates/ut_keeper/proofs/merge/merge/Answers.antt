@@ -1,6 +1,6 @@
 use Rattle.std.proofs.Common.{◌+◌, ◌++◌, drop, sym, ap, ◌∙◌, arith}
-use Rattle.ut_keeper.specs.Laid.{merged, shown_first}
-use Rattle.ut_keeper.specs.Turns.{next_turn}
+use Rattle.ut_keeper.specs.inner.Merging.{merged, shown_first}
+use Rattle.ut_keeper.specs.inner.Turns.{next_turn}
 use Rattle.ut_keeper.proofs.Turning.{head, lent_head, entry_at, both_at, entry_some, both_some, low_of}
 use Rattle.ut_keeper.proofs.merge.merge.Goals as goal
 

@@ -1,7 +1,8 @@
 use Rattle.std.proofs.Common.{◌≡◌, ◌<◌, ◌-◌, ◌+◌, ◌++◌, ◌∷◌, sym, ap, ◌∙◌, arith}
 use Rattle.std.specs.Ordering.{is_gt}
 use Rattle.ut_keeper.specs.Tables.{place_cmp}
-use Rattle.ut_keeper.specs.Laid.{Entry, front, gap}
+use Rattle.ut_keeper.specs.Laid.{Entry, gap}
+use Rattle.ut_keeper.specs.inner.Merging.{front}
 use Rattle.ut_keeper.proofs.Ranges.{within_of, front_none, front_step, within_none, forward, append_none, append_one}
 use Rattle.ut_keeper.proofs.rows.held_in.Goals as goal
 

@@ -2,7 +2,7 @@ use Rattle.std.proofs.Common.{◌≡◌, ap, ◌∙◌, arith, [], take, length,
 use Rattle.ut_value.specs.Causes.{up_to_last}
 use Rattle.ut_keeper.specs.Tables.{Tables, rows_between}
 use Rattle.ut_keeper.specs.State.{more_shown}
-use Rattle.ut_keeper.specs.Laid.{merged}
+use Rattle.ut_keeper.specs.inner.Merging.{merged}
 use Rattle.ut_keeper.specs.Memory.{InMemory}
 use Rattle.ut_keeper.proofs.Scans.{memory_rows}
 use Rattle.ut_keeper.proofs.Counts.{counted_by}

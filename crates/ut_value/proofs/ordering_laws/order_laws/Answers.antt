@@ -1,0 +1,5 @@
+use Rattle.ut_value.proofs.ValueOrder.{key_order, same_keys, values_total}
+use Rattle.ut_value.proofs.ordering_laws.order_laws.Goals as goal
+
+pub returns : goal.returns
+returns c = record { ordered = key_order; same = same_keys; total = values_total }

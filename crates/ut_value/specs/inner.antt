@@ -1,0 +1,3 @@
+-- Words of private functions' contracts alone.
+pub mod Mantissas
+pub mod Splits

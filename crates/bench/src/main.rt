@@ -1,10 +1,12 @@
-//! Times of the parts whose cost matters, for `docs/PERFORMANCE.md`: `bench keeper ROWS`, `bench json BYTES` and
-//! `bench values CALLS`.
+//! Times of the parts whose cost matters, for `docs/PERFORMANCE.md`: `bench keeper ROWS`, `bench json BYTES`,
+//! `bench values CALLS` and `bench rows CALLS`.
 //!
 //! What was done goes to standard output, the times in microseconds to standard error.
 #![tactic(auto)]
 
 ghost use Rattle.std.specs.Prelude.{IsTrue};
+ghost use Rattle.ut_keys.specs.Rows.{data_form};
+ghost use Rattle.ut_parts.specs.Shapes.{FitsIn};
 ghost use Rattle.ut_value.specs.Types.{is_type};
 
 use std::alloc::{AllocError, Global};
@@ -13,6 +15,7 @@ use std::time::Instant;
 use std::{env, io};
 use ut_json::{Json, Mark, Writer, read};
 use ut_keeper::{Draft, KeepFail, Keeper, MemoryKeeper, all_rows};
+use ut_keys::{DataRow, RowForm};
 use ut_value::{Bytes, FieldType, Text, Value, order_key, read_value};
 
 const TABLE: u8 = 7;
@@ -170,6 +173,64 @@ fn measure_keys(rt: &HostRuntime, calls: u32) -> io::Result<()> {
     println!(rt; "keys: {texts} {numbers}")
 }
 
+// The bytes of a data row of 48 slots, of which ten hold a text.
+fn data_bytes(alloc: Global) -> Result<Vec<u8>, AllocError> {
+    let mut bytes = Vec::from_slice(alloc, b"\x01\x00\x00\x00\x07Deal 17")?;
+    bytes.extend_from_slice(b"\x01005000000000017")?;
+    bytes.extend_from_slice(&1_300_000_000i64.to_be_bytes())?;
+    bytes.extend_from_slice(&1_300_000_001i64.to_be_bytes())?;
+    for _ in 0..10 {
+        bytes.extend_from_slice(b"\x01\x00\x00\x00\x0812345.67")?;
+    }
+    for _ in 10..48 {
+        bytes.push(0)?;
+    }
+    Ok(bytes)
+}
+
+const DATA_KEY: &[u8] = b"\x00\x00\x00\x07\x00\x03a01000000000017";
+
+// How many of so many readings of a row's bytes give a row.
+fn count_rows(alloc: Global, calls: u32, bytes: &[u8]) -> u32 {
+    let mut count = 0u32;
+    for _ in 0..calls {
+        if DataRow::read(alloc, DATA_KEY, bytes).is_ok() {
+            count = count.saturating_add(1);
+        }
+    }
+    count
+}
+
+// How many of so many writings of a row gave bytes.
+fn count_written(alloc: Global, calls: u32, row: &DataRow) -> u32
+    requires { FitsIn data_form.rest (data_form.rested row.now) }
+{
+    let mut count = 0u32;
+    for _ in 0..calls {
+        if row.write(alloc).is_ok() {
+            count = count.saturating_add(1);
+        }
+    }
+    count
+}
+
+fn measure_rows(rt: &HostRuntime, calls: u32) -> io::Result<()> {
+    let alloc = rt.alloc();
+    let Ok(bytes) = data_bytes(alloc) else {
+        return println!(rt; "out of memory");
+    };
+    let start = Instant::now(rt)?;
+    let rows = count_rows(alloc, calls, bytes.as_slice());
+    tell_time(rt, "data rows read", start)?;
+    let Ok(row) = DataRow::read(alloc, DATA_KEY, bytes.as_slice()) else {
+        return println!(rt; "not read");
+    };
+    let start = Instant::now(rt)?;
+    let written = count_written(alloc, calls, &row);
+    tell_time(rt, "data rows written", start)?;
+    println!(rt; "rows: {rows} {written}")
+}
+
 fn measure(rt: &HostRuntime) -> io::Result<u8> {
     let words: Vec<String> = match env::args(rt)?.skip(1).collect(rt.alloc()) {
         Ok(words) => words,
@@ -186,6 +247,10 @@ fn measure(rt: &HostRuntime) -> io::Result<u8> {
                 measure_json(rt, size)?;
                 return Ok(0);
             }
+            if words[0].as_str() == "rows" {
+                measure_rows(rt, size)?;
+                return Ok(0);
+            }
             if words[0].as_str() == "values" {
                 measure_reading(rt, size)?;
                 measure_keys(rt, size)?;
@@ -193,7 +258,9 @@ fn measure(rt: &HostRuntime) -> io::Result<u8> {
             }
         }
     }
-    eprintln!(rt; "usage: bench keeper ROWS, bench json BYTES, or bench values CALLS")?;
+    eprintln!(rt;
+        "usage: bench keeper ROWS, bench json BYTES, bench values CALLS, or bench rows CALLS"
+    )?;
     Ok(64)
 }
 

@@ -2,7 +2,7 @@ use crate::given::{Given, ran_over};
 use std::alloc::{AllocError, Global};
 use std::test::Fail;
 use ut_keeper::{Draft, KeepFail, MemoryKeeper};
-use ut_keys::{StoreFail, VersionRow, key_of_user};
+use ut_keys::{Mark, RowForm, StoreFail, VersionRow, spelling_of};
 use ut_people::caller;
 use ut_value::{Bytes, Id};
 
@@ -188,7 +188,8 @@ fn tells_of_a_damaged_user(rt: HostRuntime) -> Result<(), Fail> {
     let alloc = rt.alloc();
     let mut keeper = MemoryKeeper::new(alloc, &[])?;
     assert!(rt; adds(alloc, &mut keeper, "Acme", SECRET, 0, FIRST)?);
-    let key = key_of_user(alloc, 1, &Id::new(*b"005", 0))?;
+    let id = Id::new(*b"005", 0);
+    let key = spelling_of(alloc, &(1u32, (Mark::<0>, id)))?;
     let kept = Draft::new(alloc, &mut keeper).get(alloc, 5, key.as_slice())?;
     let row = match &kept {
         Some(row) => row.as_slice(),

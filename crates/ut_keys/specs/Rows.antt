@@ -1,102 +1,312 @@
--- Keys and rows of the tables: how they are spelled, how they are read, and which rows have a spelling.
-use Rattle.std.specs.Prelude.{◌≡◌, ℕ, ◌<◌, ◌^◌, Bool, IsTrue, List, [], ◌∷◌, ◌++◌, length, Option, IfSome}
-use Rattle.std.specs.Int.{w16, w32, w64}
-use Rattle.ut_value.specs.Id.{is_id}
+-- The forms of rows, by tables.
+use Rattle.std.specs.Prelude.{refl}
+use Rattle.ut_parts.specs.Choices.{Accesses, Levels, Phases, Outcomes, States}
+use Rattle.ut_parts.specs.Shapes.{Nothing, Number8, Number16, Number32, Number64, Signed64, Characters, Identity, Truth, Fixed, Named, Ordered, OneOf, Flags, Typed, Sourced, Maybe, Many, Times, Both}
+use Rattle.ut_keys.specs.Forms.{Form}
+use Rattle.ut_keys.specs.Keys.{Version, Org, Object, Field, Job, User, Role, Group, Validation, Sharing, Data, Index, Unique, Relation, Owner, Share, Grant, marked, record_key, slot_key}
 use Rattle.ut_keys.specs.declared.version.VersionRow.{VersionRow}
 use Rattle.ut_keys.specs.declared.org.OrgRow.{OrgRow}
+use Rattle.ut_keys.specs.declared.object.ObjectRow.{ObjectRow}
+use Rattle.ut_keys.specs.declared.field.FieldRow.{FieldRow}
+use Rattle.ut_keys.specs.declared.job.JobRow.{JobRow}
 use Rattle.ut_keys.specs.declared.user.UserRow.{UserRow}
-use Rattle.ut_keys.specs.Fields.{number16, number32, number64, number_at, text, text_at, FitsText, id_at, truth, truth_at, optional, optional_at, mark_at, fixed_at, same_bytes, nothing_at, pair_at, read_both}
+use Rattle.ut_keys.specs.declared.role.RoleRow.{RoleRow}
+use Rattle.ut_keys.specs.declared.group.GroupRow.{GroupRow}
+use Rattle.ut_keys.specs.declared.validation.ValidationRow.{ValidationRow}
+use Rattle.ut_keys.specs.declared.sharing.SharingRow.{SharingRow}
+use Rattle.ut_keys.specs.declared.data.DataRow.{DataRow}
+use Rattle.ut_keys.specs.declared.index.IndexRow.{IndexRow}
+use Rattle.ut_keys.specs.declared.unique.UniqueRow.{UniqueRow}
+use Rattle.ut_keys.specs.declared.relation.RelationRow.{RelationRow}
+use Rattle.ut_keys.specs.declared.owner.OwnerRow.{OwnerRow}
+use Rattle.ut_keys.specs.declared.share.ShareRow.{ShareRow}
+use Rattle.ut_keys.specs.declared.grant.GrantRow.{GrantRow}
 
--- ---- table 0, the version
+abbrev pub version_form : Form VersionRow
+version_form = record {
+  table = 0;
+  key = Nothing;
+  rest = Both Number32 Number32;
+  keyed = λ u. tt;
+  rested = λ u. (u.version, u.organisations);
+  make = λ k (version, organisations). record { version = version; organisations = organisations };
+  named = λ k. Version;
+  keyed_made = λ k r. refl;
+  rested_made = λ k r. refl;
+  made_again = λ u. refl;
+  is_key = refl;
+  placed = λ k. refl;
+  fits = λ k f. f;
+}
 
-abbrev pub version_key : List ℕ
-version_key = []
+abbrev pub org_form : Form OrgRow
+org_form = record {
+  table = 1;
+  key = Number32;
+  rest = Both Characters (Both Number64 (Both Number16 (Both Number32 (Both Number16 (Both Number16 (Both Number16 (Both Number16 Number32)))))));
+  keyed = λ u. u.org;
+  rested = λ u. (u.name, (u.counter, (u.objects, (u.records, (u.users, (u.roles, (u.groups, (u.sharing_rules, u.rule_numbers))))))));
+  make = λ org (name, (counter, (objects, (records, (users, (roles, (groups, (sharing_rules, rule_numbers)))))))). record { org = org; name = name; counter = counter; objects = objects; records = records; users = users; roles = roles; groups = groups; sharing_rules = sharing_rules; rule_numbers = rule_numbers };
+  named = λ org. Org org;
+  keyed_made = λ k r. refl;
+  rested_made = λ k r. refl;
+  made_again = λ u. refl;
+  is_key = refl;
+  placed = λ k. refl;
+  fits = λ k f. f;
+}
 
-abbrev pub version_row : VersionRow → List ℕ
-version_row r = number32 r.version ++ number32 r.organisations
+abbrev pub object_form : Form ObjectRow
+object_form = record {
+  table = 2;
+  key = Both Number32 Number16;
+  rest = Both Characters (Both (OneOf Accesses) (Both Number32 (Both Number8 Number8)));
+  keyed = λ u. (u.org, u.object);
+  rested = λ u. (u.name, (u.access, (u.records, (u.fields, u.validation_rules))));
+  make = λ (org, object) (name, (access, (records, (fields, validation_rules)))). record { org = org; object = object; name = name; access = access; records = records; fields = fields; validation_rules = validation_rules };
+  named = λ (org, object). Object org object;
+  keyed_made = λ k r. refl;
+  rested_made = λ k r. refl;
+  made_again = λ u. refl;
+  is_key = refl;
+  placed = λ k. refl;
+  fits = λ k f. f;
+}
 
-abbrev pub make_version : Unit {0} → ℕ × ℕ → VersionRow
-make_version k r = record { version = r.0; organisations = r.1 }
+abbrev pub field_form : Form FieldRow
+field_form = record {
+  table = 3;
+  key = Both Number32 (Both Number16 Number8);
+  rest = Both Characters (Both Typed (Both Flags (Both Number8 (Maybe Characters))));
+  keyed = λ u. (u.org, (u.object, u.field));
+  rested = λ u. (u.name, (u.kind, (u.flags, (u.slot, u.child))));
+  make = λ (org, (object, field)) (name, (kind, (flags, (slot, child)))). record { org = org; object = object; field = field; name = name; kind = kind; flags = flags; slot = slot; child = child };
+  named = λ (org, (object, field)). Field org object field;
+  keyed_made = λ k r. refl;
+  rested_made = λ k r. refl;
+  made_again = λ u. refl;
+  is_key = refl;
+  placed = λ k. refl;
+  fits = λ k f. f;
+}
 
--- the row of a key and bytes, if they spell one
-unfoldable pub read_version : List ℕ → List ℕ → Option VersionRow
-read_version key row = read_both nothing_at (pair_at (number_at w32) (number_at w32)) make_version key row
+abbrev pub job_form : Form JobRow
+job_form = record {
+  table = 4;
+  key = Number32;
+  rest = Both Number16 (Both Number8 (Both Typed (Both Number8 (Both (OneOf Phases) (Both (OneOf Outcomes) (Both (Maybe Identity) (Maybe Identity)))))));
+  keyed = λ u. u.org;
+  rested = λ u. (u.object, (u.field, (u.kind, (u.twin, (u.phase, (u.outcome, (u.cursor, u.failed)))))));
+  make = λ org (object, (field, (kind, (twin, (phase, (outcome, (cursor, failed))))))). record { org = org; object = object; field = field; kind = kind; twin = twin; phase = phase; outcome = outcome; cursor = cursor; failed = failed };
+  named = λ org. Job org;
+  keyed_made = λ k r. refl;
+  rested_made = λ k r. refl;
+  made_again = λ u. refl;
+  is_key = refl;
+  placed = λ k. refl;
+  fits = λ k f. f;
+}
 
--- what a row must be to have a spelling
-pub record FitsVersion (r : VersionRow) : Type 0 where
-  pub version : r.version < 2 ^ 32
-  pub organisations : r.organisations < 2 ^ 32
+abbrev pub user_form : Form UserRow
+user_form = record {
+  table = 5;
+  key = marked 0 Identity;
+  rest = Both Characters (Both (Fixed 32) (Both (Maybe Identity) Truth));
+  keyed = λ u. (u.org, (tt, u.id));
+  rested = λ u. (u.name, (u.digest, (u.role, u.admin)));
+  make = λ (org, (mark, id)) (name, (digest, (role, admin))). record { org = org; id = id; name = name; digest = digest; role = role; admin = admin };
+  named = λ (org, (mark, id)). User org id;
+  keyed_made = λ k r. refl;
+  rested_made = λ k r. refl;
+  made_again = λ u. refl;
+  is_key = refl;
+  placed = λ k. refl;
+  fits = λ k f. f;
+}
 
--- ---- table 1, organisations
+abbrev pub role_form : Form RoleRow
+role_form = record {
+  table = 5;
+  key = marked 1 Identity;
+  rest = Both Characters (Maybe Identity);
+  keyed = λ u. (u.org, (tt, u.id));
+  rested = λ u. (u.name, u.parent);
+  make = λ (org, (mark, id)) (name, parent). record { org = org; id = id; name = name; parent = parent };
+  named = λ (org, (mark, id)). Role org id;
+  keyed_made = λ k r. refl;
+  rested_made = λ k r. refl;
+  made_again = λ u. refl;
+  is_key = refl;
+  placed = λ k. refl;
+  fits = λ k f. f;
+}
 
-abbrev pub org_key : ℕ → List ℕ
-org_key org = number32 org
+abbrev pub group_form : Form GroupRow
+group_form = record {
+  table = 5;
+  key = marked 2 Identity;
+  rest = Both Characters (Many Named);
+  keyed = λ u. (u.org, (tt, u.id));
+  rested = λ u. (u.name, u.members);
+  make = λ (org, (mark, id)) (name, members). record { org = org; id = id; name = name; members = members };
+  named = λ (org, (mark, id)). Group org id;
+  keyed_made = λ k r. refl;
+  rested_made = λ k r. refl;
+  made_again = λ u. refl;
+  is_key = refl;
+  placed = λ k. refl;
+  fits = λ k f. f;
+}
 
-abbrev pub org_row : OrgRow → List ℕ
-org_row r = text r.name ++ (number64 r.counter ++ (number16 r.objects ++ (number32 r.records ++ (number16 r.users ++ (number16 r.roles ++ (number16 r.groups ++ (number16 r.sharing_rules ++ number32 r.rule_numbers)))))))
+abbrev pub validation_form : Form ValidationRow
+validation_form = record {
+  table = 6;
+  key = marked 0 (Both Number16 Ordered);
+  rest = Both Characters (Both Characters Characters);
+  keyed = λ u. (u.org, (tt, (u.object, u.lower_name)));
+  rested = λ u. (u.name, (u.formula, u.message));
+  make = λ (org, (mark, (object, lower_name))) (name, (formula, message)). record { org = org; object = object; lower_name = lower_name; name = name; formula = formula; message = message };
+  named = λ (org, (mark, (object, lower_name))). Validation org object lower_name;
+  keyed_made = λ k r. refl;
+  rested_made = λ k r. refl;
+  made_again = λ u. refl;
+  is_key = refl;
+  placed = λ k. refl;
+  fits = λ k f. f;
+}
 
--- the parts of the row in turn
-abbrev pub OrgParts : Type 0
-OrgParts = List ℕ × (ℕ × (ℕ × (ℕ × (ℕ × (ℕ × (ℕ × (ℕ × ℕ)))))))
+abbrev pub sharing_form : Form SharingRow
+sharing_form = record {
+  table = 6;
+  key = marked 1 Ordered;
+  rest = Both Characters (Both Number16 (Both Number32 (Both Sourced (Both Named (Both (OneOf Levels) (Both (OneOf States) (Maybe Identity)))))));
+  keyed = λ u. (u.org, (tt, u.lower_name));
+  rested = λ u. (u.name, (u.object, (u.number, (u.source, (u.to, (u.level, (u.state, u.cursor)))))));
+  make = λ (org, (mark, lower_name)) (name, (object, (number, (source, (to, (level, (state, cursor))))))). record { org = org; lower_name = lower_name; name = name; object = object; number = number; source = source; to = to; level = level; state = state; cursor = cursor };
+  named = λ (org, (mark, lower_name)). Sharing org lower_name;
+  keyed_made = λ k r. refl;
+  rested_made = λ k r. refl;
+  made_again = λ u. refl;
+  is_key = refl;
+  placed = λ k. refl;
+  fits = λ k f. f;
+}
 
-abbrev pub make_org : ℕ → OrgParts → OrgRow
-make_org k r =
-    record {
-      org = k;
-      name = r.0;
-      counter = r.1.0;
-      objects = r.1.1.0;
-      records = r.1.1.1.0;
-      users = r.1.1.1.1.0;
-      roles = r.1.1.1.1.1.0;
-      groups = r.1.1.1.1.1.1.0;
-      sharing_rules = r.1.1.1.1.1.1.1.0;
-      rule_numbers = r.1.1.1.1.1.1.1.1;
-    }
+abbrev pub data_form : Form DataRow
+data_form = record {
+  table = 7;
+  key = record_key;
+  rest = Both (Maybe Characters) (Both (Maybe Identity) (Both Signed64 (Both Signed64 (Times 48 (Maybe Characters)))));
+  keyed = λ u. (u.org, (u.object, u.id));
+  rested = λ u. (u.name, (u.owner, (u.created, (u.modified, u.slots))));
+  make = λ (org, (object, id)) (name, (owner, (created, (modified, slots)))). record { org = org; object = object; id = id; name = name; owner = owner; created = created; modified = modified; slots = slots };
+  named = λ (org, (object, id)). Data org object id;
+  keyed_made = λ k r. refl;
+  rested_made = λ k r. refl;
+  made_again = λ u. refl;
+  is_key = refl;
+  placed = λ k. refl;
+  fits = λ k f. f;
+}
 
-unfoldable pub org_parts_at : List ℕ → Option (OrgParts × List ℕ)
-org_parts_at bytes = pair_at text_at (pair_at (number_at w64) (pair_at (number_at w16) (pair_at (number_at w32) (pair_at (number_at w16) (pair_at (number_at w16) (pair_at (number_at w16) (pair_at (number_at w16) (number_at w32)))))))) bytes
+abbrev pub index_form : Form IndexRow
+index_form = record {
+  table = 8;
+  key = slot_key (Both Ordered Identity);
+  rest = Nothing;
+  keyed = λ u. (u.org, (u.object, (u.slot, (u.value, u.id))));
+  rested = λ u. tt;
+  make = λ (org, (object, (slot, (value, id)))) r. record { org = org; object = object; slot = slot; value = value; id = id };
+  named = λ (org, (object, (slot, (value, id)))). Index org object slot value id;
+  keyed_made = λ k r. refl;
+  rested_made = λ k r. refl;
+  made_again = λ u. refl;
+  is_key = refl;
+  placed = λ k. refl;
+  fits = λ k f. f;
+}
 
--- the row of a key and bytes, if they spell one
-unfoldable pub read_org : List ℕ → List ℕ → Option OrgRow
-read_org key row = read_both (number_at w32) org_parts_at make_org key row
+abbrev pub unique_form : Form UniqueRow
+unique_form = record {
+  table = 9;
+  key = slot_key Ordered;
+  rest = Identity;
+  keyed = λ u. (u.org, (u.object, (u.slot, u.value)));
+  rested = λ u. u.id;
+  make = λ (org, (object, (slot, value))) id. record { org = org; object = object; slot = slot; value = value; id = id };
+  named = λ (org, (object, (slot, value))). Unique org object slot value;
+  keyed_made = λ k r. refl;
+  rested_made = λ k r. refl;
+  made_again = λ u. refl;
+  is_key = refl;
+  placed = λ k. refl;
+  fits = λ k f. f;
+}
 
--- what a row must be to have a spelling
-pub record FitsOrg (r : OrgRow) : Type 0 where
-  pub org : r.org < 2 ^ 32
-  pub name : FitsText r.name
-  pub counter : r.counter < 2 ^ 64
-  pub objects : r.objects < 2 ^ 16
-  pub records : r.records < 2 ^ 32
-  pub users : r.users < 2 ^ 16
-  pub roles : r.roles < 2 ^ 16
-  pub groups : r.groups < 2 ^ 16
-  pub sharing_rules : r.sharing_rules < 2 ^ 16
-  pub rule_numbers : r.rule_numbers < 2 ^ 32
+abbrev pub relation_form : Form RelationRow
+relation_form = record {
+  table = 10;
+  key = slot_key (Both Identity Identity);
+  rest = Nothing;
+  keyed = λ u. (u.org, (u.object, (u.slot, (u.target, u.id))));
+  rested = λ u. tt;
+  make = λ (org, (object, (slot, (target, id)))) r. record { org = org; object = object; slot = slot; target = target; id = id };
+  named = λ (org, (object, (slot, (target, id)))). Relation org object slot target id;
+  keyed_made = λ k r. refl;
+  rested_made = λ k r. refl;
+  made_again = λ u. refl;
+  is_key = refl;
+  placed = λ k. refl;
+  fits = λ k f. f;
+}
 
--- ---- table 5, people: users are marked 0
+abbrev pub owner_form : Form OwnerRow
+owner_form = record {
+  table = 11;
+  key = Both Number32 (Both Number16 (Both Identity Identity));
+  rest = Nothing;
+  keyed = λ u. (u.org, (u.object, (u.owner, u.id)));
+  rested = λ u. tt;
+  make = λ (org, (object, (owner, id))) r. record { org = org; object = object; owner = owner; id = id };
+  named = λ (org, (object, (owner, id))). Owner org object owner id;
+  keyed_made = λ k r. refl;
+  rested_made = λ k r. refl;
+  made_again = λ u. refl;
+  is_key = refl;
+  placed = λ k. refl;
+  fits = λ k f. f;
+}
 
--- what the keys of one organisation's people of one kind begin with
-abbrev pub people_prefix : ℕ → ℕ → List ℕ
-people_prefix org kind = number32 org ++ kind ∷ []
+abbrev pub share_form : Form ShareRow
+share_form = record {
+  table = 12;
+  key = marked 0 (Both Identity Named);
+  rest = OneOf Levels;
+  keyed = λ u. (u.org, (tt, (u.id, u.to)));
+  rested = λ u. u.level;
+  make = λ (org, (mark, (id, to))) level. record { org = org; id = id; to = to; level = level };
+  named = λ (org, (mark, (id, to))). Share org id to;
+  keyed_made = λ k r. refl;
+  rested_made = λ k r. refl;
+  made_again = λ u. refl;
+  is_key = refl;
+  placed = λ k. refl;
+  fits = λ k f. f;
+}
 
-abbrev pub user_key : ℕ → List ℕ → List ℕ
-user_key org id = number32 org ++ 0 ∷ id
-
-abbrev pub user_row : UserRow → List ℕ
-user_row r = text r.name ++ (r.digest ++ (optional same_bytes r.role ++ truth r.admin))
-
-abbrev pub make_user : ℕ × (Unit {0} × List ℕ) → List ℕ × (List ℕ × (Option (List ℕ) × Bool)) → UserRow
-make_user k r = record { org = k.0; id = k.1.1; name = r.0; digest = r.1.0; role = r.1.1.0; admin = r.1.1.1 }
-
--- the row of a key and bytes, if they spell one
-unfoldable pub read_user : List ℕ → List ℕ → Option UserRow
-read_user key row = read_both (pair_at (number_at w32) (pair_at (mark_at 0) id_at)) (pair_at text_at (pair_at (fixed_at 32) (pair_at (optional_at id_at) truth_at))) make_user key row
-
--- what a row must be to have a spelling
-pub record FitsUser (r : UserRow) : Type 0 where
-  pub org : r.org < 2 ^ 32
-  pub id : IsTrue (is_id r.id)
-  pub name : FitsText r.name
-  pub digest : length r.digest ≡ 32
-  pub role : IfSome r.role (λ i. IsTrue (is_id i))
+abbrev pub grant_form : Form GrantRow
+grant_form = record {
+  table = 12;
+  key = marked 1 (Both Named (Both Number16 (Both Identity Number32)));
+  rest = OneOf Levels;
+  keyed = λ u. (u.org, (tt, (u.to, (u.object, (u.id, u.cause)))));
+  rested = λ u. u.level;
+  make = λ (org, (mark, (to, (object, (id, cause))))) level. record { org = org; to = to; object = object; id = id; cause = cause; level = level };
+  named = λ (org, (mark, (to, (object, (id, cause))))). Grant org to object id cause;
+  keyed_made = λ k r. refl;
+  rested_made = λ k r. refl;
+  made_again = λ u. refl;
+  is_key = refl;
+  placed = λ k. refl;
+  fits = λ k f. f;
+}

@@ -1,38 +1,54 @@
-//! The codecs of keys and rows: how each form of the tables is spelled in bytes and read back.
+//! The keys and rows of the tables, and how they are read and written.
 //!
-//! It stands on `ut_value` and `ut_keeper`. Its contract: what a row's `read` answers is spelled by just this key and
-//! row, and what is spelled so is read; the keys of one form are ordered as their parts in turn.
+//! A form of rows is a struct with an impl of `RowForm`; what is done with rows is written once, for all forms. This crate
+//! depends on `ut_value`, `ut_keeper` and `ut_parts`. Its contract: `read` returns a row exactly if key and bytes spell
+//! one, and then that one; what is read at a key is the row that the tables have there; and of tables that have certain
+//! rows the laws say which rows they have after a change, and which an interval has.
 #![tactic(auto)]
 
+mod data;
 mod fail;
-mod intervals;
-mod keys;
+mod field;
+mod form;
+mod grant;
+mod group;
+mod index;
+mod job;
 mod laws;
+mod object;
+mod ops;
 mod org;
-mod reading;
-mod reading_parts;
+mod owner;
+mod relation;
+mod role;
+mod scans;
+mod share;
+mod sharing;
+mod unique;
 mod user;
+mod validation;
 mod version;
-mod writing;
-mod writing_parts;
 
-pub use crate::fail::{CodecFail, StoreFail};
-pub use crate::intervals::users_of;
-pub use crate::keys::{key_of_org, key_of_user};
-pub use crate::laws::{key_order_laws, part_laws, part_order_laws, row_laws, table_laws};
+pub use crate::data::DataRow;
+pub use crate::fail::StoreFail;
+pub use crate::field::FieldRow;
+pub use crate::form::RowForm;
+pub use crate::grant::GrantRow;
+pub use crate::group::GroupRow;
+pub use crate::index::IndexRow;
+pub use crate::job::JobRow;
+pub use crate::laws::{listing_laws, row_laws, table_laws};
+pub use crate::object::ObjectRow;
+pub use crate::ops::{put, remove, row_at};
 pub use crate::org::OrgRow;
+pub use crate::owner::OwnerRow;
+pub use crate::relation::RelationRow;
+pub use crate::role::RoleRow;
+pub use crate::scans::{page_under, read_rows, rows_under};
+pub use crate::share::ShareRow;
+pub use crate::sharing::SharingRow;
+pub use crate::unique::UniqueRow;
 pub use crate::user::UserRow;
+pub use crate::validation::ValidationRow;
 pub use crate::version::VersionRow;
-
-// Parts that later tables use.
-pub use crate::reading_parts::{
-    i64_at, optional_text_of, ordered_of, principal_of, principals_of, texts_of, u8_at,
-};
-pub use crate::writing_parts::{
-    put_i64, put_optional_text, put_ordered, put_principal, put_principals, put_texts,
-};
-
-#[cfg(test)]
-mod part_tests;
-#[cfg(test)]
-mod tests;
+pub use ut_parts::{CodecFail, FieldFlags, Mark, Part, Slots, spelling_of};

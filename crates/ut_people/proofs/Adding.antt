@@ -6,8 +6,9 @@ use Rattle.std.specs.FinMap as map
 use Rattle.ut_keeper.specs.Tables.{Tables}
 use Rattle.ut_keys.specs.declared.fail.StoreFail.{StoreFail}
 use Rattle.ut_keys.specs.declared.fail.StoreFail.TheVariants.{Keeper, Memory, Damaged}
+use Rattle.ut_keys.specs.Forms.{row_bytes}
 use Rattle.ut_keys.specs.Keys.{Org, User, Version, spell}
-use Rattle.ut_keys.specs.Rows.{org_row, user_row, version_row}
+use Rattle.ut_keys.specs.Rows.{org_form, user_form, version_form}
 use Rattle.ut_model.specs.Organisations.{administrator, first_user, fresh, with_org}
 use Rattle.ut_model.specs.Sound.{is_name}
 use Rattle.ut_model.specs.World.{World}
@@ -19,7 +20,7 @@ use Rattle.ut_stands.specs.declared.fail.EditFail.TheVariants.{Store}
 -- what `ut_stands` says of the rows of a new organisation
 abbrev pub RowsStand : Type 0
 RowsStand = (m : Tables) (w : World) (name digest : List ℕ) (n : ℕ) → Stands m w → n ≡ length w + 1 → length w < 10000 → IsTrue (is_name name) → length digest ≡ 32
-    → Stands (map.insert (map.insert (map.insert m (spell Version) (version_row (version_of (with_org w name digest)))) (spell (Org n)) (org_row (org_of n (fresh name digest)))) (spell (User n first_user)) (user_row (user_of n (administrator name digest)))) (with_org w name digest)
+    → Stands (map.insert (map.insert (map.insert m (spell Version) (row_bytes version_form (version_of (with_org w name digest)))) (spell (Org n)) (row_bytes org_form (org_of n (fresh name digest)))) (spell (User n first_user)) (row_bytes user_form (user_of n (administrator name digest)))) (with_org w name digest)
 
 pub add_failed : (m after : Tables) (w : World) (name digest : List ℕ) (e : StoreFail) → Stands m w → FindsAs {X = ℕ} (λ w. length w) m (Err e) → AddsAs w name digest after (Err (Store e))
 add_failed m after w name digest Damaged s h = h w s
@@ -35,5 +36,5 @@ added rows m after w name digest count s is few good size e =
     let total : length (with_org w name digest) ≡ count + 1 = omega (arith, is, length-append w (fresh name digest ∷ [])) in
     let stands = rows m w name digest (count + 1) s place (omega (arith, is, few)) good size in
     let counted : Stands (with_rows (count + 1) name digest m) (with_org w name digest) =
-    subst (λ (n : ℕ). Stands (map.insert (map.insert (map.insert m (spell Version) (version_row (record { version = known_version; organisations = n }))) (spell (Org (count + 1))) (org_row (org_of (count + 1) (fresh name digest)))) (spell (User (count + 1) first_user)) (user_row (user_of (count + 1) (administrator name digest)))) (with_org w name digest)) total stands in
+    subst (λ (n : ℕ). Stands (map.insert (map.insert (map.insert m (spell Version) (row_bytes version_form (record { version = known_version; organisations = n }))) (spell (Org (count + 1))) (row_bytes org_form (org_of (count + 1) (fresh name digest)))) (spell (User (count + 1) first_user)) (row_bytes user_form (user_of (count + 1) (administrator name digest)))) (with_org w name digest)) total stands in
     (not_full (length w) (omega (arith, is, few)), place, subst (λ (t : Tables). Stands t (with_org w name digest)) (sym e) counted)

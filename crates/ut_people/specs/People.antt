@@ -4,8 +4,9 @@ use Rattle.std.specs.Option.{option_and_then}
 use Rattle.std.specs.Str.{bytes_eq}
 use Rattle.std.specs.FinMap as map
 use Rattle.ut_keeper.specs.Tables.{Tables}
+use Rattle.ut_keys.specs.Forms.{row_bytes}
 use Rattle.ut_keys.specs.Keys.{Org, User, Version, spell}
-use Rattle.ut_keys.specs.Rows.{org_row, user_row, version_row}
+use Rattle.ut_keys.specs.Rows.{org_form, user_form, version_form}
 use Rattle.ut_keys.specs.declared.fail.StoreFail.TheVariants.{Keeper, Memory, Damaged}
 use Rattle.ut_keys.specs.declared.user.UserRow.{UserRow}
 use Rattle.ut_model.specs.Callers.{Named, admitted}
@@ -30,9 +31,9 @@ caller_of n w = option_and_then (admitted n) (user_in w n.org n.user)
 abbrev pub with_rows : ℕ → List ℕ → List ℕ → Tables → Tables
 with_rows n name digest m =
     map.insert (map.insert (map.insert m
-    (spell Version) (version_row (record { version = known_version; organisations = n })))
-    (spell (Org n)) (org_row (org_of n (fresh name digest))))
-    (spell (User n first_user)) (user_row (user_of n (administrator name digest)))
+    (spell Version) (row_bytes version_form (record { version = known_version; organisations = n })))
+    (spell (Org n)) (row_bytes org_form (org_of n (fresh name digest))))
+    (spell (User n first_user)) (row_bytes user_form (user_of n (administrator name digest)))
 
 -- a new organisation of a world: its number, and tables that stand for the world with it; or the one refusal, where there
 -- are too many already

@@ -3,7 +3,6 @@ ghost use Rattle.std.specs.Str.{chars};
 ghost use Rattle.sha2.specs.Sha256.{sha256};
 ghost use Rattle.ut_keeper.specs.Draft.{DraftReads, DraftTells, DraftWorks, count_of, state_of, tables_of};
 ghost use Rattle.ut_keeper.specs.State.{KeeperCause, StaysAfter};
-ghost use Rattle.ut_keys.specs.declared.fail.StoreFail.TheVariants.{Memory};
 ghost use Rattle.ut_model.specs.Organisations.{administrator, fresh, is_secret};
 ghost use Rattle.ut_model.specs.Sound.{is_name};
 ghost use Rattle.ut_model.specs.World.{World};
@@ -14,10 +13,10 @@ ghost use Rattle.ut_stands.specs.Stands.{Stands, org_of, user_of};
 use crate::admission::digest_of;
 use std::alloc::{AllocError, Global};
 use ut_keeper::{Draft, Keeper, draft_laws};
-use ut_keys::{OrgRow, StoreFail, UserRow};
+use ut_keys::{OrgRow, StoreFail, UserRow, VersionRow, put};
 use ut_model::{Limit, Refusal, first_user_id, name_laws};
-use ut_stands::{EditFail, organisations, put_org, put_user, put_version, stands_laws};
-use ut_value::Text;
+use ut_stands::{EditFail, KNOWN_VERSION, organisations, stands_laws};
+use ut_value::{Text, id_laws};
 
 // The row of a new organisation, which has one user.
 fn org_row_of(alloc: Global, org: u32, name: &str) -> Result<OrgRow, AllocError>
@@ -63,20 +62,23 @@ fn put_rows<K: Keeper>(
     org: u32,
     name: &str,
     digest: [u8; 32],
-) -> Result<(), StoreFail>
+) -> Result<(), AllocError>
     requires { IsTrue (is_name (chars name.now)) }
     ensures works { DraftWorks K.state 3 0 0 draft.old draft.new }
     ensures stays { StaysAfter (is_ok result) (state_of K.state draft.old) (state_of K.state draft.new) }
     ensures ok { OnOk result (tables_of K.state draft.new ≡ with_rows org (chars name.now) digest (tables_of K.state draft.old)) }
     ensures some { OnOk result (0 < count_of draft.new) }
-    ensures err { IfErr result (λ e. e ≡ Memory) }
 {
     draft_laws::<K>();
     name_laws();
-    put_version(alloc, draft, org)?;
-    put_org(alloc, draft, &org_row_of(alloc, org, name)?)?;
-    put_user(alloc, draft, &administrator_of(alloc, org, name, digest)?)?;
-    Ok(())
+    id_laws();
+    let version = VersionRow {
+        version: KNOWN_VERSION,
+        organisations: org,
+    };
+    put(alloc, draft, &version)?;
+    put(alloc, draft, &org_row_of(alloc, org, name)?)?;
+    put(alloc, draft, &administrator_of(alloc, org, name, digest)?)
 }
 
 /// Adds an organisation with this name, whose administrator has its name and this secret, and answers its number.
@@ -117,6 +119,6 @@ pub fn add_org<K: Keeper>(
     let org = count + 1;
     match put_rows(alloc, draft, org, name, digest_of(secret)) {
         Ok(()) => Ok(org),
-        Err(fail) => Err(EditFail::Store(fail)),
+        Err(_) => Err(EditFail::Store(StoreFail::Memory)),
     }
 }

@@ -6,7 +6,7 @@ use Rattle.std.specs.Option.{IsSome}
 use Rattle.std.specs.Str.{all_scalars, bytes_eq}
 use Rattle.std.proofs.lemmas.Slice.Eq.{bytes_eq-Decides}
 use Rattle.ut_value.specs.Id.{is_digit62, is_id, made}
-use Rattle.ut_keys.specs.Fields.{FitsText}
+use Rattle.ut_parts.specs.Plain.{FitsText}
 use Rattle.ut_model.specs.Sound.{is_name, IsDrawn, IsRole, IsSoundRole, role_id}
 use Rattle.ut_model.specs.Tenant.{Tenant, Role}
 use Rattle.ut_model.specs.World.{role_prefix, with_id}

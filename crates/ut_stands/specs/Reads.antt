@@ -1,33 +1,12 @@
 -- What reads answer.
-use Rattle.std.specs.Prelude.{◌≡◌, ℕ, Bool, true, false, List, Option, IfSome, Result, Ok, Err}
-use Rattle.std.specs.Option.{option_map}
+use Rattle.std.specs.Prelude.{◌≡◌, Bool, true, false, Result, Ok, Err}
 use Rattle.ut_keeper.specs.Tables.{Tables}
 use Rattle.ut_keys.specs.declared.fail.StoreFail.{StoreFail}
 use Rattle.ut_keys.specs.declared.fail.StoreFail.TheVariants.{Keeper, Memory, Damaged}
-use Rattle.ut_keys.specs.declared.user.UserRow.{UserRow}
-use Rattle.ut_keys.specs.Rows.{FitsUser}
 use Rattle.ut_model.specs.World.{World}
 use Rattle.ut_stands.specs.declared.fail.OpenFail.{OpenFail}
 use Rattle.ut_stands.specs.declared.fail.OpenFail.TheVariants as opening
 use Rattle.ut_stands.specs.Stands.{Stands, HasUnknownVersion}
-
--- ---- typed rows: what is read at a key is what the row there spells
-
--- `Damaged`: the row there spells nothing
-abbrev pub FailsAs : {X : Type 0} → (X → List ℕ) → (X → Type 0) → Option (List ℕ) → StoreFail → Type 0
-FailsAs {X} spelling Fits kept Damaged = (r : Option X) → IfSome r Fits → kept ≡ option_map spelling r → ⊥
-FailsAs spelling Fits kept Keeper = Unit {0}
-FailsAs spelling Fits kept Memory = Unit {0}
-
-abbrev pub ReadsAs : {X : Type 0} → (X → List ℕ) → (X → Type 0) → Option (List ℕ) → Result (Option X) StoreFail → Type 0
-ReadsAs spelling Fits kept (Ok r) = (kept ≡ option_map spelling r) × IfSome r Fits
-ReadsAs spelling Fits kept (Err e) = FailsAs spelling Fits kept e
-
--- a user's row that may stand under this organisation and id
-pub record UserAt (org : ℕ) (id : List ℕ) (r : UserRow) : Type 0 where
-  pub fits : FitsUser r
-  pub org_is : r.org ≡ org
-  pub id_is : r.id ≡ id
 
 -- ---- reads of a world: what is read is what every world has there for which the tables stand, and such are never damaged
 

@@ -4,13 +4,15 @@
 use Rattle.std.specs.Prelude.{true, ◌≡◌, ◌≢◌, ℕ, Bool, false, if◌then◌else◌, List, [], length, Option, Some, None}
 use Rattle.std.specs.List.{AllByRecursion}
 use Rattle.std.specs.Option.{option_map, option_and_then}
-use Rattle.ut_keeper.specs.Tables as tables
+use Rattle.std.specs.FinMap as map
 use Rattle.ut_keeper.specs.Tables.{Tables}
 use Rattle.ut_keys.specs.declared.version.VersionRow.{VersionRow}
 use Rattle.ut_keys.specs.declared.org.OrgRow.{OrgRow}
 use Rattle.ut_keys.specs.declared.user.UserRow.{UserRow}
-use Rattle.ut_keys.specs.Keys.{Key, Version, Org, User, Holds}
-use Rattle.ut_keys.specs.Rows.{version_key, version_row, FitsVersion, org_row, user_row}
+use Rattle.ut_keys.specs.Forms.{row_bytes, FitsForm}
+use Rattle.ut_keys.specs.Holds.{Holds}
+use Rattle.ut_keys.specs.Keys.{Key, Version, Org, User, spell}
+use Rattle.ut_keys.specs.Rows.{version_form, org_form, user_form}
 use Rattle.ut_model.specs.Sound.{IsWorld}
 use Rattle.ut_model.specs.Tenant as model
 use Rattle.ut_model.specs.Tenant.{Tenant}
@@ -57,21 +59,26 @@ abbrev pub user_of : ℕ → model.User → UserRow
 user_of n u = record { org = n; id = u.id; name = u.name; digest = u.digest; role = u.role; admin = u.admin }
 
 abbrev pub version_at : Plan → World → Option (List ℕ)
-version_at p w = if p.opened then Some (version_row (version_of w)) else None
+version_at p w = if p.opened then Some (row_bytes version_form (version_of w)) else None
 
 abbrev pub org_at : ℕ → Option Tenant → Option (List ℕ)
-org_at n t = option_map (λ x. org_row (org_of n x)) t
+org_at n t = option_map (λ x. row_bytes org_form (org_of n x)) t
 
 abbrev pub user_row_at : ℕ → List ℕ → Option Tenant → Option (List ℕ)
-user_row_at n i t = option_and_then (λ x. option_map (λ u. user_row (user_of n u)) (user_at x.users i)) t
+user_row_at n i t = option_and_then (λ x. option_map (λ u. row_bytes user_form (user_of n u)) (user_at x.users i)) t
 
--- the row at a key, if there is one
+-- the row at a key, if there is one. What isn't written yet has none
 unfoldable pub row_at : Plan → World → Key → Option (List ℕ)
 row_at p w Version = version_at p w
 row_at p w (Org n) = org_at n (tenant_at w n)
 row_at p w (User n i) = user_row_at n i (tenant_at w n)
+row_at p w _ = None
 
 -- ---- the whole
+
+-- every table is reached
+abbrev pub all_tables : ℕ → Bool
+all_tables t = true
 
 -- as yet there are rows of users alone, and so no other parts
 pub record HasUsersAlone (t : Tenant) : Type 0 where
@@ -88,7 +95,7 @@ pub record StandsBy (p : Plan) (m : Tables) (w : World) : Type 0 where
   pub parts : AllByRecursion HasUsersAlone w
   pub opened : p.opened ≡ false → w ≡ []
   -- these rows, and no other
-  pub rows : Holds m (row_at p w)
+  pub rows : Holds all_tables m (row_at p w)
 
 -- the tables stand for the world
 abbrev pub Stands : Tables → World → Type 0
@@ -97,6 +104,6 @@ Stands m w = (p : Plan) × StandsBy p m w
 -- the version's row has a number that isn't known here
 pub record HasUnknownVersion (m : Tables) : Type 0 where
   pub row : VersionRow
-  pub fits : FitsVersion row
-  pub kept : tables.row_at m 0 version_key ≡ Some (version_row row)
+  pub fits : FitsForm version_form row
+  pub kept : map.get m (spell Version) ≡ Some (row_bytes version_form row)
   pub unknown : row.version ≢ known_version

@@ -2,13 +2,14 @@ ghost use Rattle.std.specs.Prelude.{◌≡◌, ◌+◌, ◌<◌, ℕ, List, [], 
 ghost use Rattle.std.specs.FinMap as map;
 ghost use Rattle.ut_keeper.specs.Tables.{Tables, no_rows};
 ghost use Rattle.ut_keys.specs.Keys.{Org, User, Version, spell};
-ghost use Rattle.ut_keys.specs.Rows.{org_row, user_row, version_row};
+ghost use Rattle.ut_keys.specs.Forms.{row_bytes};
+ghost use Rattle.ut_keys.specs.Rows.{org_form, user_form, version_form};
 ghost use Rattle.ut_model.specs.Organisations.{administrator, first_user, fresh, with_org};
 ghost use Rattle.ut_model.specs.Sound.{is_name};
 ghost use Rattle.ut_model.specs.World.{World};
 ghost use Rattle.ut_stands.specs.Stands.{HasUnknownVersion, Stands, closed, opened, org_of, row_at, user_of, version_of};
 
-use ut_keys::{row_laws, table_laws};
+use ut_keys::{VersionRow, row_laws, table_laws};
 use ut_value::id_laws;
 
 /// The laws of tables that stand for a world. The call does nothing.
@@ -23,13 +24,13 @@ pub fn stands_laws()
     ensures added { (m : Tables) (w : World) (name digest : List ℕ) (n : ℕ)
         → Stands m w → n ≡ length w + 1 → length w < 10000 → IsTrue (is_name name) → length digest ≡ 32
         → Stands (map.insert (map.insert (map.insert m
-        (spell Version) (version_row (version_of (with_org w name digest))))
-        (spell (Org n)) (org_row (org_of n (fresh name digest))))
-        (spell (User n first_user)) (user_row (user_of n (administrator name digest))))
+        (spell Version) (row_bytes version_form (version_of (with_org w name digest))))
+        (spell (Org n)) (row_bytes org_form (org_of n (fresh name digest))))
+        (spell (User n first_user)) (row_bytes user_form (user_of n (administrator name digest))))
         (with_org w name digest) }
 {
     table_laws();
-    row_laws();
+    row_laws::<VersionRow>();
     id_laws();
 }
 

@@ -8,10 +8,8 @@ mod fail;
 mod laws;
 mod opening;
 mod reads;
-mod rows;
 
 pub use crate::fail::{EditFail, OpenFail};
 pub use crate::laws::{stands_laws, stands_rows};
-pub use crate::opening::open_tables;
+pub use crate::opening::{KNOWN_VERSION, open_tables};
 pub use crate::reads::{organisations, user};
-pub use crate::rows::{put_org, put_user, put_version, user_row, version_row};

@@ -6,10 +6,12 @@ ghost use Rattle.ut_stands.specs.Fails.{KeeperFailsOpening, sees_version};
 ghost use Rattle.ut_stands.specs.Reads.{KnowsAs, OpensAs};
 
 use crate::fail::OpenFail;
-use crate::rows::{KNOWN_VERSION, version_row};
 use std::alloc::Global;
 use ut_keeper::{Draft, Keeper};
-use ut_keys::{StoreFail, row_laws};
+use ut_keys::{StoreFail, VersionRow, row_at, row_laws};
+
+/// The version of the forms that are written here.
+pub const KNOWN_VERSION: u32 = 1;
 
 // Whether the version is known.
 fn is_known<K: Keeper>(alloc: Global, draft: &mut Draft<'_, K>) -> Result<bool, StoreFail>
@@ -18,8 +20,8 @@ fn is_known<K: Keeper>(alloc: Global, draft: &mut Draft<'_, K>) -> Result<bool, 
     ensures stays { StaysAfter (is_ok result) (state_of K.state draft.old) (state_of K.state draft.new) }
     ensures cause { KeeperCause (state_of K.state draft.old) (state_of K.state draft.new) (IsErrOf result Keeper) }
 {
-    row_laws();
-    match version_row(alloc, draft) {
+    row_laws::<VersionRow>();
+    match row_at::<VersionRow, K>(alloc, draft, &()) {
         Ok(None) => Ok(true),
         Ok(Some(row)) => Ok(row.version == KNOWN_VERSION),
         Err(fail) => Err(fail),

@@ -9,10 +9,9 @@ ghost use Rattle.ut_model.specs.World.{user_in};
 ghost use Rattle.ut_stands.specs.Reads.{FindsAs};
 ghost use Rattle.ut_stands.specs.Stands.{user_of};
 
-use crate::rows::{user_row, version_row};
 use std::alloc::Global;
 use ut_keeper::{Draft, Keeper};
-use ut_keys::{StoreFail, UserRow, row_laws};
+use ut_keys::{Mark, StoreFail, UserRow, VersionRow, row_at, row_laws};
 use ut_model::name_laws;
 use ut_value::{Id, id_laws};
 
@@ -27,8 +26,8 @@ pub fn organisations<K: Keeper>(alloc: Global, draft: &mut Draft<'_, K>) -> Resu
     ensures stays { StaysAfter (is_ok result) (state_of K.state draft.old) (state_of K.state draft.new) }
     ensures cause { KeeperCause (state_of K.state draft.old) (state_of K.state draft.new) (IsErrOf result Keeper) }
 {
-    row_laws();
-    match version_row(alloc, draft) {
+    row_laws::<VersionRow>();
+    match row_at::<VersionRow, K>(alloc, draft, &()) {
         Ok(None) => Ok(0),
         Ok(Some(row)) => Ok(row.organisations),
         Err(fail) => Err(fail),
@@ -52,9 +51,9 @@ pub fn user<K: Keeper>(
     ensures stays { StaysAfter (is_ok result) (state_of K.state draft.old) (state_of K.state draft.new) }
     ensures cause { KeeperCause (state_of K.state draft.old) (state_of K.state draft.new) (IsErrOf result Keeper) }
 {
-    row_laws();
+    row_laws::<UserRow>();
     id_laws();
     name_laws();
     let _ = id.as_bytes();
-    user_row(alloc, draft, org, id)
+    row_at(alloc, draft, &(org, (Mark::<0>, *id)))
 }

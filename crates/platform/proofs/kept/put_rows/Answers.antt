@@ -1,4 +1,4 @@
-use Rattle.std.proofs.Common.{◌≡◌, ◌+◌, ◌-◌, ◌<◌, ◌∙◌, ℕ, length, refl, sym, subst, arith}
+use Rattle.std.proofs.Common.{◌≡◌, ◌+◌, ◌-◌, ◌<◌, ◌∙◌, ℕ, length, refl, subst, arith}
 use Rattle.ut_keeper.specs.Draft.{DraftWorks}
 use Rattle.platform.proofs.Keeping.{none_put, one_put}
 use Rattle.platform.proofs.kept.put_rows.Goals as goal

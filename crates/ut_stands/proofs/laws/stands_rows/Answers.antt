@@ -1,6 +1,6 @@
 use Rattle.std.proofs.Common.{refl}
 use lib.Utf8.{encode}
-use Rattle.ut_keys.specs.Fields.{number16, number32, number64}
+use Rattle.ut_parts.specs.Plain.{number16, number32, number64}
 use Rattle.ut_stands.specs.Stands.{row_at}
 use Rattle.ut_value.specs.Digits.{digits}
 use Rattle.ut_value.specs.Id.{made}

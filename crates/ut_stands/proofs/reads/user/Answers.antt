@@ -6,4 +6,4 @@ use Rattle.ut_stands.proofs.reads.user.Goals as goal
 pub returns-clause-finds : goal.returns-clause-finds
 returns-clause-finds g c told =
     let m = tables_of g.K.Keeper.state c.args.draft.now in
-    user_finds c.row_laws.ensures.user c.id_laws.ensures.made c.name_laws.ensures.text c.name_laws.ensures.short m c.args.org c.args.id.now (omega arith) c.as_bytes.ensures.id c.user_row.result (c.user_row.ensures.row told)
+    user_finds c.row_laws.ensures.found c.id_laws.ensures.made c.name_laws.ensures.text c.name_laws.ensures.short m c.args.org c.args.id.now (omega arith) c.as_bytes.ensures.id c.row_at.result (c.row_at.ensures.row told)

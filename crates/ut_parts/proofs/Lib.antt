@@ -1,0 +1,9 @@
+pub mod PlainLaws
+pub mod ChoiceLaws
+pub mod ComposedLaws
+pub mod ShapeLaws
+pub mod PlainOrder
+pub mod ComposedOrder
+pub mod ShapeOrder
+pub mod ShapePrefix
+pub mod PartLoops

@@ -1,5 +1,6 @@
 -- A new organisation is judged as the definition has it.
-use Rattle.std.proofs.Common.{◌≡◌, ◌+◌, ℕ, true, length, List, Some, Ok, Err, refl, sym, ap, ◌∙◌}
+use Rattle.std.proofs.Common.{◌≡◌, ◌+◌, ℕ, Bool, true, false, length, List, Some, None, Result, Ok, Err, refl, sym, ap, subst, ◌∙◌}
+use Rattle.std.specs.Prelude.{if◌then◌else◌}
 use Rattle.std.specs.Str.{chars}
 use Rattle.sha2.specs.Sha256.{sha256}
 use Rattle.ut_keeper.specs.Tables.{Tables}
@@ -8,26 +9,43 @@ use Rattle.ut_keys.specs.declared.fail.StoreFail.TheVariants as store
 use Rattle.ut_model.specs.declared.limit.Limit.TheVariants as limit
 use Rattle.ut_model.specs.declared.refusal.Refusal.{Refusal}
 use Rattle.ut_model.specs.declared.refusal.Refusal.TheVariants.{LimitExceeded}
-use Rattle.ut_model.specs.Organisations.{is_full, is_secret, org_refusal, with_org}
+use Rattle.ut_model.specs.Organisations.{is_full, is_secret, org_refusal, org_verdict, with_org}
 use Rattle.ut_model.specs.Sound.{is_name}
 use Rattle.ut_model.specs.World.{World}
-use Rattle.ut_people.specs.People.{AddsAs}
-use Rattle.ut_stands.specs.declared.fail.EditFail.TheVariants.{Refused, Store}
-use Rattle.platform.specs.Judged.{JudgedAs}
-use Rattle.platform.specs.OrgAdd.{page_by, world_by}
-use Rattle.platform.specs.Printed.{Printed, refused}
-use Rattle.platform.specs.declared.org_add.Judged.TheVariants.{Same}
+use Rattle.ut_stands.specs.declared.fail.EditFail.TheVariants.{Store}
+use Rattle.ut_stands.specs.declared.judged.Judged.TheVariants.{Changed, Same}
+use Rattle.ut_stands.specs.Operations.{Edits, Judges}
+use Rattle.ut_stands.specs.Stands.{Stands}
+use Rattle.platform.specs.OrgAdd.{added_page, org_does, page_by, world_by}
+use Rattle.platform.specs.Printed.{PageText, refused}
 
-full : (w : World) (name secret : List ℕ) → is_name (chars name) ≡ true → is_secret secret ≡ true → is_full w ≡ true → org_refusal w (chars name) secret ≡ Some (LimitExceeded limit.Organisations)
-full w name secret a b c = rw (a, b, c) refl
+-- what a new organisation is refused for, once its name and secret are good
+refusal_is : (w : World) (name secret : List ℕ) (b : Bool) → is_name (chars name) ≡ true → is_secret secret ≡ true → is_full w ≡ b → org_refusal w (chars name) secret ≡ (if b then Some (LimitExceeded limit.Organisations) else None)
+refusal_is w name secret b good secrets full = rw (good, secrets, full) refl
 
-pub judged_full : (w : World) (name secret digest : List ℕ) (after left : Tables) (r : Refusal) (p : Printed) → is_name (chars name) ≡ true → is_secret secret ≡ true
-    → AddsAs w (chars name) digest left (Err (Refused r)) → p ≡ refused r → JudgedAs w name secret after (Ok (Same p))
-judged_full w name secret digest after left r p a b h e =
-    let why : org_refusal w (chars name) secret ≡ Some r = full w name secret a b h.0 ∙ ap Some (sym h.1) in
-    (e ∙ sym (ap (λ o. page_by o (length w + 1)) why), ap (λ o. world_by o w (with_org w (chars name) (sha256 secret))) why)
+module _ (w : World) (name secret : List ℕ) (good : is_name (chars name) ≡ true) (secrets : is_secret secret ≡ true) where
+  pub judged_full : (after : Tables) (r : Refusal) (p : PageText) → org_verdict (chars name) (sha256 secret) w ≡ Err r → p ≡ refused r → Judges (org_does name secret) w after (Ok (Same p))
+  judged_full after r p v e = by (is_full w) refl v
+    where
+      by : (b : Bool) → is_full w ≡ b → if◌then◌else◌ {A = Result (ℕ × World) Refusal} b (Err (LimitExceeded limit.Organisations)) (Ok (length w + 1, with_org w (chars name) (sha256 secret))) ≡ Err r → Judges (org_does name secret) w after (Ok (Same p))
+      by true full v =
+          let why : org_refusal w (chars name) secret ≡ Some r = refusal_is w name secret true good secrets full ∙ cc in
+          (e ∙ sym (ap (λ o. page_by o (length w + 1)) why), ap (λ o. world_by o w (with_org w (chars name) (sha256 secret))) why)
+      by false full v = absurd cc
 
-pub judged_failed : (w : World) (name secret digest : List ℕ) (after left : Tables) (e : StoreFail) → AddsAs w (chars name) digest left (Err (Store e)) → JudgedAs w name secret after (Err e)
-judged_failed w name secret digest after left store.Damaged h is = h
-judged_failed w name secret digest after left store.Keeper h is = absurd cc
-judged_failed w name secret digest after left store.Memory h is = absurd cc
+  pub judged_done : (after : Tables) (n : ℕ) (next : World) (p : PageText) → org_verdict (chars name) (sha256 secret) w ≡ Ok (n, next) → p ≡ added_page n → Stands after next → Judges (org_does name secret) w after (Ok (Changed p))
+  judged_done after n next p v e s = by (is_full w) refl v
+    where
+      by : (b : Bool) → is_full w ≡ b → if◌then◌else◌ {A = Result (ℕ × World) Refusal} b (Err (LimitExceeded limit.Organisations)) (Ok (length w + 1, with_org w (chars name) (sha256 secret))) ≡ Ok (n, next) → Judges (org_does name secret) w after (Ok (Changed p))
+      by true full v = absurd cc
+      by false full v =
+          let none : org_refusal w (chars name) secret ≡ None = refusal_is w name secret false good secrets full in
+          let same : ◌≡◌ {A = ℕ × World} (length w + 1, with_org w (chars name) (sha256 secret)) (n, next) = cc in (
+            e ∙ sym (ap (λ (x : ℕ × World). added_page x.0) same) ∙ sym (ap (λ o. page_by o (length w + 1)) none),
+            subst (λ (v : World). Stands after v) (sym (ap (λ (x : ℕ × World). x.1) same) ∙ sym (ap (λ o. world_by o w (with_org w (chars name) (sha256 secret))) none)) s,
+          )
+
+pub judged_failed : (verdict : World → Result (ℕ × World) Refusal) (does : World → PageText × World) (w : World) (after left : Tables) (e : StoreFail) → Edits verdict w left (Err (Store e)) → Judges does w after (Err e)
+judged_failed verdict does w after left store.Damaged h is = h
+judged_failed verdict does w after left store.Keeper h is = absurd cc
+judged_failed verdict does w after left store.Memory h is = absurd cc

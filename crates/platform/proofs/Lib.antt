@@ -1,10 +1,8 @@
-pub mod Adds
 pub mod Cells
-pub mod Committed
-pub mod Ended
+pub mod Ends
 pub mod Judging
 pub mod Keeping
 pub mod Lines
 pub mod Pages
 pub mod ReadBack
-pub mod Within
+pub mod Runs

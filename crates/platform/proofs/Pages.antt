@@ -10,7 +10,7 @@ use Rattle.csv.specs.Records.{Row, fields_of}
 use Rattle.ut_keeper.specs.declared.keeper.KeptRow.{KeptRow}
 use Rattle.ut_table.specs.Table.{first_refused, table_of}
 use Rattle.ut_value.specs.Id.{is_digit62, is_id, made}
-use Rattle.platform.specs.Printed.{Printed}
+use Rattle.platform.specs.Printed.{PageText}
 use Rattle.platform.specs.Csvq.{answer, heading_line, refusal, input_limit, is_heading, is_table, lines, row_limit, rows_in, rows_under}
 use Rattle.platform.specs.Kept.{AreIds, kept, kept_lines}
 use Rattle.platform.proofs.Lines.{kept_lines-kept}
@@ -64,7 +64,7 @@ turned_down bytes small bad =
 pub accepted : (bytes text : List ℕ) (records under : List Row) (rows : List KeptRow) → length bytes ≤ input_limit → first_refused bytes ≡ None
     → map fields_of records ≡ table_of bytes → is_table (map fields_of records) ≡ true → under ≡ drop 1 records → rows ≡ kept 1 (map fields_of under)
     → text ≡ heading_line ++ kept_lines rows
-    → let page : Printed = record { text = text; status = 0 } in page ≡ answer (rows_in bytes)
+    → let page : PageText = record { text = text; status = 0 } in page ≡ answer (rows_in bytes)
 accepted bytes text records under rows small clean table good behind is_kept is_text =
     let few : nat_le (length bytes) input_limit ≡ true = search rules in
     let same : map fields_of under ≡ drop 1 (map fields_of records) = ap (map fields_of) behind ∙ sym (drop-map records) in

@@ -1,68 +1,71 @@
--- The commands, what each prints, and what it leaves.
-use Rattle.std.specs.Prelude.{ℕ, ◌≡◌, ◌⊎◌, Bool, true, false, if◌then◌else◌, List, [], ◌∷◌, Option, Some, None, codes}
+-- The commands, what each uses, and what each prints.
+use Rattle.std.specs.Prelude.{ℕ, Bool, true, false, if◌then◌else◌, List, [], ◌∷◌, Option, Some, None, codes}
 use Rattle.std.specs.Str.{bytes_eq}
-use Rattle.ut_keeper.specs.State.{KeeperState, Tells}
 use Rattle.ut_model.specs.World.{World}
 use Rattle.ut_soql.specs.Reading.{asks_for_rows}
-use Rattle.ut_stands.specs.Stands.{Stands}
 use Rattle.platform.specs.Csvq.{rows_printed}
+use Rattle.platform.specs.Deeds.{Printed, one_deed}
 use Rattle.platform.specs.OrgAdd.{org_printed, org_world}
-use Rattle.platform.specs.Printed.{Printed}
+
+-- commands that print a text
+pub data Printing : Type 0 where
+  -- a query over a CSV text
+  csvq : (query : List ℕ) → Printing
+  -- a new organisation with this name and its administrator's secret
+  org_add : (name secret : List ℕ) → Printing
 
 pub data Command : Type 0 where
-  -- a query over a CSV text
-  csvq : List ℕ → Command
-  -- a new organisation with this name and its administrator's secret
-  org_add : List ℕ → List ℕ → Command
+  prints : Printing → Command
 
-abbrev pub with_one : List ℕ → List ℕ → Option Command
-with_one word query = if bytes_eq word (codes "csvq") then Some (csvq query) else None
+-- ---- words
 
-abbrev pub with_two : List ℕ → List ℕ → List ℕ → Option Command
-with_two word name secret = if bytes_eq word (codes "org-add") then Some (org_add name secret) else None
+abbrev pub csvq_of : List (List ℕ) → Option Command
+csvq_of (query ∷ []) = Some (prints (csvq query))
+csvq_of _ = None
+
+abbrev pub org_add_of : List (List ℕ) → Option Command
+org_add_of (name ∷ secret ∷ []) = Some (prints (org_add name secret))
+org_add_of _ = None
+
+-- the first word of each command, and the command that the words behind it make
+abbrev pub table : List (List ℕ × (List (List ℕ) → Option Command))
+table = (codes "csvq", csvq_of) ∷ (codes "org-add", org_add_of) ∷ []
+
+abbrev pub found_in : List (List ℕ × (List (List ℕ) → Option Command)) → List ℕ → List (List ℕ) → Option Command
+found_in [] word arguments = None
+found_in (line ∷ lines) word arguments = if bytes_eq word line.0 then line.1 arguments else found_in lines word arguments
 
 -- the command that the words are, if they are one
 abbrev pub command_of : List (List ℕ) → Option Command
 command_of [] = None
-command_of (word ∷ []) = None
-command_of (word ∷ query ∷ []) = with_one word query
-command_of (word ∷ name ∷ secret ∷ []) = with_two word name secret
-command_of (word ∷ one ∷ two ∷ three ∷ rest) = None
+command_of (word ∷ arguments) = found_in table word arguments
 
--- what a command prints, given the world of the tables and the bytes of its input
-abbrev pub printed : Command → World → List ℕ → Printed
-printed (csvq query) w bytes = rows_printed query bytes
-printed (org_add name secret) w bytes = org_printed w name secret
+-- ---- what each uses
 
--- the world that it leaves where it is done
-abbrev pub world_after : Command → World → World
-world_after (csvq query) w = w
-world_after (org_add name secret) w = org_world w name secret
+pub record Uses : Type 0 where
+  -- whether it opens the keeper
+  pub keeper : Bool
+  -- whether it looks at its input
+  pub source : Bool
+  -- whether it asks the clock, which it then does once
+  pub clock : Bool
+  -- whether what it prints depends on the moment
+  pub dated : Bool
 
--- whether a command looks at its input
-abbrev pub needs_input : Command → Bool
-needs_input (csvq query) = asks_for_rows query
-needs_input (org_add name secret) = false
+abbrev pub uses : Printing → Uses
+uses (csvq query) = record { keeper = false; source = asks_for_rows query; clock = true; dated = false }
+uses (org_add name secret) = record { keeper = true; source = false; clock = false; dated = false }
 
--- whether it opens the keeper
-abbrev pub opens : Command → Bool
-opens (csvq query) = false
-opens (org_add name secret) = true
+abbrev pub uses_of : Command → Uses
+uses_of (prints p) = uses p
 
--- whether it asks the clock, which it then does once
-abbrev pub asks : Command → Bool
-asks (csvq query) = true
-asks (org_add name secret) = false
-
--- the same of what may be no command
+-- whether these words open the keeper
 abbrev pub opens_in : Option Command → Bool
 opens_in None = false
-opens_in (Some command) = opens command
+opens_in (Some command) = (uses_of command).keeper
 
--- these may be taken for the input: what the source tells to be left, or anything where the command doesn't look
-abbrev pub IsInput : Command → Option (List ℕ) → List ℕ → Type 0
-IsInput command left bytes = (needs_input command ≡ false) ⊎ (left ≡ Some bytes)
+-- ---- what each prints, given the world of the tables, the bytes of its input, and the moments that the clock will tell
 
--- this may be taken for the world: what the tables that the keeper tells stand for, or any where the command doesn't open it
-abbrev pub IsWorldOf : Command → KeeperState → KeeperState → World → Type 0
-IsWorldOf command old new w = (opens command ≡ false) ⊎ (Tells old new × Stands old.tables w)
+abbrev pub printed : Printing → World → List ℕ → List ℕ → Printed
+printed (csvq query) w bytes moments = one_deed (rows_printed query bytes) w
+printed (org_add name secret) w bytes moments = one_deed (org_printed w name secret) (org_world w name secret)

@@ -6,7 +6,9 @@ use Rattle.std.specs.List.{list_all}
 use Rattle.std.specs.Str.{bytes_eq, chars}
 use Rattle.csv.specs.Records.{field_at}
 use Rattle.csv.specs.Writing.{default_writer, row_text}
-use Rattle.platform.specs.Printed.{Printed}
+use Rattle.ut_model.specs.Refusals.{code_of}
+use Rattle.ut_model.specs.declared.refusal.Refusal.TheVariants.{NotBuilt}
+use Rattle.platform.specs.Printed.{PageText, refused_line}
 use Rattle.ut_soql.specs.Reading.{asks_for_rows}
 use Rattle.ut_table.specs.Table.{first_refused, table_of}
 use Rattle.ut_value.specs.Id.{made, print18}
@@ -19,8 +21,8 @@ abbrev pub row_limit : ℕ
 row_limit = 20000
 
 -- what isn't built yet, in one word
-abbrev pub refusal : List ℕ → Printed
-refusal what = record { text = codes "refused: NOT_BUILT: " ++ what ++ codes "\n"; status = 65 }
+abbrev pub refusal : List ℕ → PageText
+refusal what = record { text = refused_line (code_of (NotBuilt what)) what; status = 65 }
 
 abbrev pub is_heading : List (List ℕ) → Bool
 is_heading [] = false
@@ -69,10 +71,10 @@ lines number (cells ∷ rest) = line (record_id number) (name_in cells) ++ lines
 abbrev pub heading_line : List ℕ
 heading_line = row_text default_writer (codes "Id" ∷ codes "Name" ∷ [])
 
-abbrev pub answer : Option (List (List (List ℕ))) → Printed
+abbrev pub answer : Option (List (List (List ℕ))) → PageText
 answer None = refusal (codes "input")
 answer (Some rows) = record { text = heading_line ++ lines 1 rows; status = 0 }
 
 -- a query that asks for the ids and names of all rows is served, and no other yet
-abbrev pub rows_printed : List ℕ → List ℕ → Printed
+abbrev pub rows_printed : List ℕ → List ℕ → PageText
 rows_printed query bytes = if asks_for_rows query then answer (rows_in bytes) else refusal (codes "query")

@@ -1,8 +1,9 @@
 pub mod Printed
 pub mod Csvq
 pub mod OrgAdd
+pub mod Deeds
 pub mod Commands
-pub mod Endings
+pub mod Run
 pub mod Kept
 pub mod Words
-pub mod Judged
+pub mod Stops

@@ -1,10 +1,11 @@
--- What commands print: a text, and the status that tells of it.
+-- Pages: a text, and the status that tells of it.
 use Rattle.std.specs.Prelude.{ℕ, List, ◌++◌, codes}
 use Rattle.ut_model.specs.declared.refusal.Refusal.{Refusal}
-use Rattle.ut_model.specs.Refusals.{code_of, message_of}
+use Rattle.ut_model.specs.Messages.{message_of}
+use Rattle.ut_model.specs.Refusals.{code_of}
 
 -- status 0 where the command was done, 65 where it was refused
-pub record Printed : Type 0 where
+pub record PageText : Type 0 where
   pub text : List ℕ
   pub status : ℕ
 
@@ -13,5 +14,5 @@ abbrev pub refused_line : List ℕ → List ℕ → List ℕ
 refused_line code message = codes "refused: " ++ (code ++ (codes ": " ++ (message ++ codes "\n")))
 
 -- what is printed where a command is refused
-abbrev pub refused : Refusal → Printed
+abbrev pub refused : Refusal → PageText
 refused r = record { text = refused_line (code_of r) (message_of r); status = 65 }

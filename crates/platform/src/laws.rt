@@ -1,22 +1,30 @@
 ghost use Rattle.std.specs.Prelude.{◌≡◌, [], codes};
-ghost use Rattle.platform.specs.Commands.{printed};
-ghost use Rattle.platform.specs.Commands.Command.{csvq, org_add};
+ghost use Rattle.sha2.specs.Sha256.{sha256};
+ghost use Rattle.ut_model.specs.Organisations.{with_org};
+ghost use Rattle.platform.specs.Commands.{csvq, org_add, printed};
+ghost use Rattle.platform.specs.Deeds.{one_deed};
 
-/// What commands print, worked by hand. Of `csvq`: rows, a name in quotes, no row, a heading and a query that are
-/// refused. Of `org-add`: the first organisation, a name and a secret that are refused.
+/// What commands print, worked by hand. Of `csvq`: rows, a name in quotes, no row, a heading and a query that are refused.
+/// Of `org-add`: the first organisation, the second, a name and a
+/// secret that are refused, which leave the world as it is.
 pub fn printed_rows()
-    ensures rows { printed (csvq (codes "SELECT Id, Name FROM Row__c")) [] (codes "Name\nAda\nBob\n")
-        ≡ record { text = codes "Id,Name\na00000000000001AAA,Ada\na00000000000002AAA,Bob\n"; status = 0 } }
-    ensures quoted { printed (csvq (codes "select id,name from row__c")) [] (codes "Name\n\"a,b\"\n")
-        ≡ record { text = codes "Id,Name\na00000000000001AAA,\"a,b\"\n"; status = 0 } }
-    ensures none { printed (csvq (codes "SELECT Id, Name FROM Row__c")) [] (codes "Name\n") ≡ record { text = codes "Id,Name\n"; status = 0 } }
-    ensures heading { printed (csvq (codes "SELECT Id, Name FROM Row__c")) [] (codes "Nome\n")
-        ≡ record { text = codes "refused: NOT_BUILT: input\n"; status = 65 } }
-    ensures query { printed (csvq (codes "SELECT Id FROM Row__c")) [] (codes "Name\n") ≡ record { text = codes "refused: NOT_BUILT: query\n"; status = 65 } }
-    ensures first { printed (org_add (codes "Acme") (codes "abcdefghijklmnop")) [] []
-        ≡ record { text = codes "00D000000000001EAA 005000000000000AAA\n"; status = 0 } }
-    ensures name { printed (org_add [] (codes "abcdefghijklmnop")) [] []
-        ≡ record { text = codes "refused: NAME_REFUSED: 1 to 80 characters\n"; status = 65 } }
-    ensures secret { printed (org_add (codes "Acme") (codes "short")) [] []
-        ≡ record { text = codes "refused: SECRET_REFUSED: 16 to 64 letters or digits\n"; status = 65 } }
+    ensures rows { printed (csvq (codes "SELECT Id, Name FROM Row__c")) [] (codes "Name\nAda\nBob\n") []
+        ≡ one_deed (record { text = codes "Id,Name\na00000000000001AAA,Ada\na00000000000002AAA,Bob\n"; status = 0 }) [] }
+    ensures quoted { printed (csvq (codes "select id,name from row__c")) [] (codes "Name\n\"a,b\"\n") []
+        ≡ one_deed (record { text = codes "Id,Name\na00000000000001AAA,\"a,b\"\n"; status = 0 }) [] }
+    ensures none { printed (csvq (codes "SELECT Id, Name FROM Row__c")) [] (codes "Name\n") []
+        ≡ one_deed (record { text = codes "Id,Name\n"; status = 0 }) [] }
+    ensures heading { printed (csvq (codes "SELECT Id, Name FROM Row__c")) [] (codes "Nome\n") []
+        ≡ one_deed (record { text = codes "refused: NOT_BUILT: input\n"; status = 65 }) [] }
+    ensures query { printed (csvq (codes "SELECT Id FROM Row__c")) [] (codes "Name\n") []
+        ≡ one_deed (record { text = codes "refused: NOT_BUILT: query\n"; status = 65 }) [] }
+    ensures first { printed (org_add (codes "Acme") (codes "abcdefghijklmnop")) [] [] []
+        ≡ one_deed (record { text = codes "00D000000000001EAA 005000000000000AAA\n"; status = 0 }) (with_org [] (codes "Acme") (sha256 (codes "abcdefghijklmnop"))) }
+    ensures second { printed (org_add (codes "Bolt") (codes "abcdefghijklmnop")) (with_org [] (codes "Acme") []) [] []
+        ≡ one_deed (record { text = codes "00D000000000002EAA 005000000000000AAA\n"; status = 0 })
+        (with_org (with_org [] (codes "Acme") []) (codes "Bolt") (sha256 (codes "abcdefghijklmnop"))) }
+    ensures name { printed (org_add [] (codes "abcdefghijklmnop")) [] [] []
+        ≡ one_deed (record { text = codes "refused: NAME_REFUSED: 1 to 80 characters\n"; status = 65 }) [] }
+    ensures secret { printed (org_add (codes "Acme") (codes "short")) [] [] []
+        ≡ one_deed (record { text = codes "refused: SECRET_REFUSED: 16 to 64 letters or digits\n"; status = 65 }) [] }
 {}

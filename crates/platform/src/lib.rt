@@ -7,14 +7,11 @@
 
 mod command;
 mod csvq;
-mod kept;
 mod laws;
 mod org_add;
 mod page;
-mod rows;
+mod running;
 mod stop;
-mod text;
-mod top;
 
 pub use crate::laws::printed_rows;
-pub use crate::top::run;
+pub use crate::running::run;

@@ -1,34 +1,25 @@
 //! The command `org-add`.
 
-ghost use Rattle.std.specs.Prelude.{◌≡◌, ◌<◌, IfErr, IfOk, IsErrOf, OnErr, is_ok};
-ghost use Rattle.ut_keeper.specs.Draft.{DraftTells, DraftWorks, count_of, state_of, tables_of};
+ghost use Rattle.std.specs.Prelude.{◌≡◌, ◌<◌, ◌⊎◌, IfErr, IfOk, IsErrOf, IsTrue, OnErr, is_ok};
+ghost use Rattle.ut_keeper.specs.Draft.{DraftReads, DraftTells, DraftWorks, count_of, state_of, tables_of};
 ghost use Rattle.ut_keeper.specs.State.{KeeperCause, Shows, StandsAfter, StaysAfter, Steps, Tells};
+ghost use Rattle.ut_keeper.specs.Tables.{Tables};
 ghost use Rattle.ut_keys.specs.declared.fail.StoreFail.TheVariants.{Keeper};
 ghost use Rattle.ut_model.specs.World.{World};
+ghost use Rattle.ut_stands.specs.Fails.{KeeperFailsOpening};
+ghost use Rattle.ut_stands.specs.Operations.{Does, IsChange, Judges};
+ghost use Rattle.ut_stands.specs.Reads.{OpensAs};
 ghost use Rattle.ut_stands.specs.Stands.{Stands};
-ghost use Rattle.platform.specs.Endings.{VersionAs};
-ghost use Rattle.platform.specs.OrgAdd.{added_page};
-ghost use Rattle.platform.specs.declared.stop.Stop.TheVariants.{KeeperFailed};
+ghost use Rattle.platform.specs.OrgAdd.{added_page, org_does};
+ghost use Rattle.platform.specs.Stops.{DoesOpened, Refuses, VersionAs};
 
-use crate::page::{Page, refusal_page};
-use crate::stop::Stop;
+use crate::page::{Page, page_of_refusal};
 use std::alloc::{AllocError, Global};
 use ut_keeper::{Draft, Keeper, draft_laws};
 use ut_keys::StoreFail;
 use ut_model::{Refusal, first_user_id, org_id};
 use ut_people::{add_org, is_name, is_secret};
-use ut_stands::{EditFail, open_tables, stands_laws};
-
-/// A page, and whether the draft holds changes that go with it.
-#[derive(Drop)]
-pub(crate) enum Judged {
-    /// Nothing is to be changed.
-    Same(Page),
-    /// The draft is to be committed.
-    Changed(Page),
-}
-
-ghost use Rattle.platform.specs.Judged.{IsChange, IsStreams, JudgedAs, PageAs, WithinAs};
+use ut_stands::{EditFail, Judged, OpenFail, finish, open_tables, stands_laws};
 
 // The page of a new organisation with this number.
 fn org_page(alloc: Global, org: u32) -> Result<Page, AllocError>
@@ -51,76 +42,80 @@ fn judge<K: Keeper>(
     draft: &mut Draft<'_, K>,
     name: &str,
     secret: &str,
-) -> Result<Judged, StoreFail>
+) -> Result<Judged<Page>, StoreFail>
     ensures judged { DraftTells K.state draft.old draft.new
         → (w : World) → Stands (tables_of K.state draft.old) w
-        → JudgedAs w name.now secret.now (tables_of K.state draft.new) result }
-    ensures some { IfOk result (λ j. IsChange j → 0 < count_of draft.new) }
+        → Judges (org_does name.now secret.now) w (tables_of K.state draft.new) result }
+    ensures change { IsChange result → 0 < count_of draft.new }
+    ensures done { IfOk result (λ j. Refuses j → IsChange result → ⊥) }
     ensures works { DraftWorks K.state 3 0 0 draft.old draft.new }
     ensures stays { StaysAfter (is_ok result) (state_of K.state draft.old) (state_of K.state draft.new) }
     ensures cause { KeeperCause (state_of K.state draft.old) (state_of K.state draft.new) (IsErrOf result Keeper) }
 {
     draft_laws::<K>();
     if !is_name(name) {
-        return Ok(Judged::Same(refusal_page(alloc, Refusal::NameRefused)?));
+        return Ok(Judged::Same(page_of_refusal(alloc, &Refusal::NameRefused)?));
     }
     if !is_secret(secret) {
-        return Ok(Judged::Same(refusal_page(alloc, Refusal::SecretRefused)?));
+        return Ok(Judged::Same(page_of_refusal(alloc, &Refusal::SecretRefused)?));
     }
     match add_org(alloc, draft, name, secret) {
         Ok(org) => Ok(Judged::Changed(org_page(alloc, org)?)),
-        Err(EditFail::Refused(refusal)) => Ok(Judged::Same(refusal_page(alloc, refusal)?)),
+        Err(EditFail::Refused(refusal)) => Ok(Judged::Same(page_of_refusal(alloc, &refusal)?)),
         Err(EditFail::Store(fail)) => Err(fail),
     }
 }
 
 // Judges a new organisation of opened tables, and makes it in one batch. The page is made before the batch is applied.
-fn judge_and_commit<K: Keeper>(
+fn add<K: Keeper>(
     alloc: Global,
     keeper: &mut K,
     name: &str,
     secret: &str,
 ) -> Result<Page, StoreFail>
-    ensures within { Tells (K.state keeper.old) (K.state keeper.new) → (w : World) → Stands (K.state keeper.old).tables w
-        → WithinAs w name.now secret.now (K.state keeper.old) (K.state keeper.new) result }
+    ensures does { Tells (K.state keeper.old) (K.state keeper.new) → (w : World) → Stands (K.state keeper.old).tables w
+        → Does (org_does name.now secret.now) w (K.state keeper.old) (K.state keeper.new) result }
     ensures kept { Tells (K.state keeper.old) (K.state keeper.new) → OnErr result (Shows (K.state keeper.new) (K.state keeper.old).tables) }
+    ensures refused { Tells (K.state keeper.old) (K.state keeper.new)
+        → IfOk result (λ p. p.status ≡ 65 → Shows (K.state keeper.new) (K.state keeper.old).tables) }
+    ensures crash { (K.state keeper.old).tells → IsTrue (K.state keeper.old).stands → IsTrue (K.state keeper.new).is_clean
+        → (w : World) → Stands (K.state keeper.old).tables w → (m : Tables) → (K.state keeper.new).may_leave m
+        → (K.state keeper.old).may_leave m ⊎ Stands m (org_does name.now secret.now w).1 }
     ensures steps { Steps (K.state keeper.old) (K.state keeper.new) }
     ensures stays { StaysAfter (is_ok result) (K.state keeper.old) (K.state keeper.new) }
     ensures cause { KeeperCause (K.state keeper.old) (K.state keeper.new) (IsErrOf result Keeper) }
 {
     let mut draft = Draft::new(alloc, keeper);
-    match judge(alloc, &mut draft, name, secret) {
-        Ok(Judged::Same(page)) => Ok(page),
-        Ok(Judged::Changed(page)) => match draft.commit(alloc) {
-            Ok(()) => Ok(page),
-            Err(fail) => Err(StoreFail::from(fail)),
-        },
-        Err(fail) => Err(fail),
-    }
+    let judged = judge(alloc, &mut draft, name, secret);
+    finish(alloc, draft, judged)
 }
 
 /// Opens the tables, adds an organisation if it isn't refused, and returns the page that is to be written.
-pub(crate) fn added<K: Keeper>(
+pub(crate) fn org_add_page<K: Keeper>(
     alloc: Global,
     keeper: &mut K,
     name: &str,
     secret: &str,
-) -> Result<Page, Stop>
-    ensures page { Tells (K.state keeper.old) (K.state keeper.new) → (w : World) → Stands (K.state keeper.old).tables w
-        → PageAs w name.now secret.now (K.state keeper.old) (K.state keeper.new) result }
+) -> Result<Page, OpenFail>
+    ensures does { Tells (K.state keeper.old) (K.state keeper.new) → (w : World) → Stands (K.state keeper.old).tables w
+        → DoesOpened (org_does name.now secret.now) w (K.state keeper.old) (K.state keeper.new) result }
     ensures version { Tells (K.state keeper.old) (K.state keeper.new) → VersionAs (K.state keeper.old).tables result }
     ensures kept { Tells (K.state keeper.old) (K.state keeper.new) → OnErr result (Shows (K.state keeper.new) (K.state keeper.old).tables) }
-    ensures own { IfErr result (λ e. IsStreams e → ⊥) }
+    ensures refused { Tells (K.state keeper.old) (K.state keeper.new)
+        → IfOk result (λ p. p.status ≡ 65 → Shows (K.state keeper.new) (K.state keeper.old).tables) }
+    ensures crash { (K.state keeper.old).tells → IsTrue (K.state keeper.old).stands → IsTrue (K.state keeper.new).is_clean
+        → (w : World) → Stands (K.state keeper.old).tables w → (m : Tables) → (K.state keeper.new).may_leave m
+        → (K.state keeper.old).may_leave m ⊎ Stands m (org_does name.now secret.now w).1 }
     ensures steps { Steps (K.state keeper.old) (K.state keeper.new) }
     ensures stands { StandsAfter (is_ok result) (K.state keeper.new) }
-    ensures cause { KeeperCause (K.state keeper.old) (K.state keeper.new) (IsErrOf result KeeperFailed) }
+    ensures cause { KeeperCause (K.state keeper.old) (K.state keeper.new) (KeeperFailsOpening result) }
 {
     stands_laws();
     match open_tables(alloc, keeper) {
-        Ok(()) => match judge_and_commit(alloc, keeper, name, secret) {
+        Ok(()) => match add(alloc, keeper, name, secret) {
             Ok(page) => Ok(page),
-            Err(fail) => Err(Stop::from(fail)),
+            Err(fail) => Err(OpenFail::Store(fail)),
         },
-        Err(fail) => Err(Stop::from(fail)),
+        Err(fail) => Err(fail),
     }
 }

@@ -14,10 +14,10 @@ pub(crate) struct Page {
 }
 
 impl Model for Page {
-    ghost use Rattle.platform.specs.Printed.{Printed};
+    ghost use Rattle.platform.specs.Printed.{PageText};
     ghost use Rattle.std.specs.Prelude.{◌≡◌, ◌⊎◌};
 
-    ghost Value = { Printed };
+    ghost Value = { PageText };
 
     ghost view = { λ p. record { text = p.text.items; status = p.status } };
 
@@ -54,13 +54,7 @@ impl Page {
 }
 
 /// The page that says why a command is refused.
-pub(crate) fn refusal_page(alloc: Global, refusal: Refusal) -> Result<Page, AllocError>
-    ensures { IfOk result (λ p. p ≡ refused refusal) }
-{
-    page_of_refusal(alloc, &refusal)
-}
-
-fn page_of_refusal(alloc: Global, refusal: &Refusal) -> Result<Page, AllocError>
+pub(crate) fn page_of_refusal(alloc: Global, refusal: &Refusal) -> Result<Page, AllocError>
     ensures { IfOk result (λ p. p ≡ refused refusal.now) }
 {
     let message = refusal.message(alloc)?;

@@ -1,9 +1,8 @@
 ghost use Rattle.std.specs.Prelude.{◌≡◌};
-ghost use Rattle.platform.specs.Endings.{stop_status};
-ghost use Rattle.platform.specs.Judged.{of_opening, of_store};
-ghost use Rattle.platform.specs.declared.stop.Stop.TheVariants.{NoMemory};
+ghost use Rattle.platform.specs.Run.{stop_status};
+ghost use Rattle.platform.specs.Stops.{of_input, of_opening, of_store};
 
-use std::alloc::AllocError;
+use crate::csvq::InputFail;
 use ut_keys::StoreFail;
 use ut_stands::OpenFail;
 
@@ -40,11 +39,14 @@ impl Stop {
     }
 }
 
-impl From<AllocError> for Stop {
-    ghost from_gives = { λ _ e. e ≡ NoMemory };
+impl From<InputFail> for Stop {
+    ghost from_gives = { λ fail e. e ≡ of_input fail };
 
-    fn from(_error: AllocError) -> Stop {
-        Stop::NoMemory
+    fn from(fail: InputFail) -> Stop {
+        match fail {
+            InputFail::Failed => Stop::SourceFailed,
+            InputFail::Memory => Stop::NoMemory,
+        }
     }
 }
 

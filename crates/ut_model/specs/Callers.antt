@@ -7,8 +7,8 @@ use Rattle.std.specs.Str.{bytes_eq}
 use Rattle.sha2.specs.Sha256.{sha256}
 use Rattle.ut_value.specs.Id.{id_in, number_in}
 use Rattle.ut_model.specs.declared.caller.Caller.{Caller}
-use Rattle.ut_model.specs.Tenant.{User}
-use Rattle.ut_model.specs.World.{World, org_prefix, user_in}
+use Rattle.ut_model.specs.Tenant.{Tenant, User}
+use Rattle.ut_model.specs.World.{World, org_prefix, tenant_at, user_at}
 
 -- `!`
 abbrev pub is_bang : ℕ → Bool
@@ -39,6 +39,10 @@ named key = option_and_then (λ a. option_and_then (λ b. named_by a.0 b.0 b.1) 
 abbrev pub admitted : Named → User → Option Caller
 admitted n u = if bytes_eq u.digest (sha256 n.secret) then Some (record { org = n.org; user = u.id; admin = u.admin }) else None
 
--- the caller whom a key names, if its secret is right
+-- the caller of whom these are named, in the organisation that is named
+abbrev pub caller_of : Named → Tenant → Option Caller
+caller_of n t = option_and_then (admitted n) (user_at t.users n.user)
+
+-- the caller whom a key names, if its secret is right: the organisation is found first
 abbrev pub caller_in : World → List ℕ → Option Caller
-caller_in w key = option_and_then (λ n. option_and_then (admitted n) (user_in w n.org n.user)) (named key)
+caller_in w key = option_and_then (λ n. option_and_then (caller_of n) (tenant_at w n.org)) (named key)

@@ -1,5 +1,7 @@
 pub mod Limits
 pub mod Refusals
+pub mod Messages
+pub mod Bodies
 pub mod Tenant
 pub mod World
 pub mod Sound

@@ -1,5 +1,5 @@
 -- New organisations. What a new one has, and the form of a secret, are this product's own.
-use Rattle.std.specs.Prelude.{ℕ, Bool, true, ◌&&◌, nat_le, if◌then◌else◌, List, [], ◌∷◌, ◌++◌, length, Option, Some, None}
+use Rattle.std.specs.Prelude.{ℕ, ◌+◌, Bool, true, ◌&&◌, nat_le, if◌then◌else◌, List, [], ◌∷◌, ◌++◌, length, Option, Some, None, Result, Ok, Err}
 use Rattle.std.specs.List.{list_all}
 use Rattle.ut_value.specs.Id.{is_digit62, made}
 use Rattle.ut_model.specs.declared.limit.Limit.TheVariants as limit
@@ -46,6 +46,11 @@ with_org w name digest = w ++ fresh name digest ∷ []
 -- whether one more organisation would be too many
 abbrev pub is_full : World → Bool
 is_full w = nat_le (limit_number limit.Organisations) (length w)
+
+-- a new organisation with this name, whose administrator's secret has this digest: its number and the world with it, unless
+-- there are too many already
+abbrev pub org_verdict : List ℕ → List ℕ → World → Result (ℕ × World) Refusal
+org_verdict name digest w = if is_full w then Err (LimitExceeded limit.Organisations) else Ok (length w + 1, with_org w name digest)
 
 -- why a new organisation is refused, if it is: for its name, its secret, or the number of organisations, in this order
 abbrev pub org_refusal : World → List ℕ → List ℕ → Option Refusal

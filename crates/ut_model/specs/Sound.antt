@@ -1,6 +1,6 @@
 -- Sound tenants and worlds: what holds of every organisation at every moment, as far as names, people, counters and numbers
 -- go. The limits are this product's own.
-use Rattle.std.specs.Prelude.{◌≡◌, ℕ, ◌<◌, ◌≤◌, Bool, true, ◌&&◌, not, nat_le, List, [], ◌∷◌, ◌++◌, length, map, drop, T, IsTrue, IfSome, IsSome}
+use Rattle.std.specs.Prelude.{◌≡◌, ℕ, ◌<◌, ◌≤◌, Bool, ◌&&◌, nat_le, List, ◌++◌, length, map, drop, T, IsTrue, IfSome, IsSome}
 use Rattle.std.specs.List.{AllByRecursion, list_any}
 use Rattle.std.specs.FinMap.{is_sorted}
 use Rattle.std.specs.Str.{all_scalars, bytes_eq}
@@ -25,10 +25,13 @@ IsDrawn prefix counter id = (n : ℕ) × (n < counter) × (id ≡ made prefix n)
 abbrev pub number_part : List ℕ → List ℕ
 number_part id = drop 3 id
 
--- no two are equal
-abbrev pub all_differ : List (List ℕ) → Bool
-all_differ [] = true
-all_differ (x ∷ xs) = not (list_any (bytes_eq x) xs) && all_differ xs
+-- it is one of these
+abbrev pub is_among : List (List ℕ) → List ℕ → Bool
+is_among ids id = list_any (bytes_eq id) ids
+
+-- two of these that have one number are one: kinds of ids share the counter
+abbrev pub NumbersDiffer : List (List ℕ) → Type 0
+NumbersDiffer ids = (i j : List ℕ) → IsTrue (is_among ids i) → IsTrue (is_among ids j) → number_part i ≡ number_part j → i ≡ j
 
 -- ids strictly rise
 abbrev pub ids_rise : {X : Type 0} → (X → List ℕ) → List X → Bool
@@ -43,23 +46,25 @@ group_id g = g.id
 abbrev pub record_id : Record → List ℕ
 record_id r = r.id
 
--- a role of the tenant
-abbrev pub IsRole : Tenant → List ℕ → Type 0
-IsRole t id = IsSome (with_id role_id t.roles id)
+-- each part is sound by what it looks at alone: the counter, and the roles
 
-pub record IsSoundUser (t : Tenant) (u : User) : Type 0 where
-  pub id : IsDrawn user_prefix t.counter u.id
+-- one of the roles
+abbrev pub IsRole : List Role → List ℕ → Type 0
+IsRole roles id = IsSome (with_id role_id roles id)
+
+pub record IsSoundUser (counter : ℕ) (roles : List Role) (u : User) : Type 0 where
+  pub id : IsDrawn user_prefix counter u.id
   pub name : IsTrue (is_name u.name)
   pub digest : length u.digest ≡ 32
-  pub role : IfSome u.role (IsRole t)
+  pub role : IfSome u.role (IsRole roles)
 
-pub record IsSoundRole (t : Tenant) (r : Role) : Type 0 where
-  pub id : IsDrawn role_prefix t.counter r.id
+pub record IsSoundRole (counter : ℕ) (roles : List Role) (r : Role) : Type 0 where
+  pub id : IsDrawn role_prefix counter r.id
   pub name : IsTrue (is_name r.name)
-  pub parent : IfSome r.parent (IsRole t)
+  pub parent : IfSome r.parent (IsRole roles)
 
-pub record IsSoundGroup (t : Tenant) (g : Group) : Type 0 where
-  pub id : IsDrawn group_prefix t.counter g.id
+pub record IsSoundGroup (counter : ℕ) (g : Group) : Type 0 where
+  pub id : IsDrawn group_prefix counter g.id
   pub name : IsTrue (is_name g.name)
   pub members : length g.members ≤ limit_number limit.MembersPerGroup
 
@@ -72,13 +77,13 @@ pub record IsSound (t : Tenant) : Type 0 where
   pub counter : t.counter ≤ limit_number limit.Ids
   pub rule_numbers : t.rule_numbers ≤ limit_number limit.RuleNumbers
   -- people
-  pub users : AllByRecursion (IsSoundUser t) t.users
-  pub roles : AllByRecursion (IsSoundRole t) t.roles
-  pub groups : AllByRecursion (IsSoundGroup t) t.groups
+  pub users : AllByRecursion (IsSoundUser t.counter t.roles) t.users
+  pub roles : AllByRecursion (IsSoundRole t.counter t.roles) t.roles
+  pub groups : AllByRecursion (IsSoundGroup t.counter) t.groups
   pub users_rise : T (ids_rise user_id t.users)
   pub roles_rise : T (ids_rise role_id t.roles)
   pub groups_rise : T (ids_rise group_id t.groups)
-  pub numbers : IsTrue (all_differ (map number_part (drawn_ids t)))
+  pub numbers : NumbersDiffer (drawn_ids t)
   -- counts
   pub few_users : length t.users ≤ limit_number limit.Users
   pub few_roles : length t.roles ≤ limit_number limit.Roles

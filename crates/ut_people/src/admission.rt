@@ -4,7 +4,7 @@ ghost use Rattle.ut_keeper.specs.Draft.{DraftReads, DraftTells, state_of, tables
 ghost use Rattle.ut_keeper.specs.State.{KeeperCause, StaysAfter};
 ghost use Rattle.ut_keys.specs.declared.fail.StoreFail.TheVariants.{Keeper};
 ghost use Rattle.ut_model.specs.Callers.{caller_in, cut, named_ids};
-ghost use Rattle.ut_people.specs.People.{admitted_row, caller_of};
+ghost use Rattle.ut_people.specs.People.{admitted_row, caller_among};
 ghost use Rattle.ut_stands.specs.Reads.{FindsAs};
 
 use sha2::{Digest, Sha256};
@@ -71,7 +71,7 @@ fn caller_with<K: Keeper>(
     secret: &str,
 ) -> Result<Option<Caller>, StoreFail>
     ensures finds { DraftTells K.state draft.old draft.new
-        → FindsAs (caller_of (record { org = org; user = id.now; secret = secret.now })) (tables_of K.state draft.old) result }
+        → FindsAs (caller_among (record { org = org; user = id.now; secret = secret.now })) (tables_of K.state draft.old) result }
     ensures reads { DraftReads K.state 0 draft.old draft.new }
     ensures stays { StaysAfter (is_ok result) (state_of K.state draft.old) (state_of K.state draft.new) }
     ensures cause { KeeperCause (state_of K.state draft.old) (state_of K.state draft.new) (IsErrOf result Keeper) }

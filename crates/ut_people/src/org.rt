@@ -3,11 +3,12 @@ ghost use Rattle.std.specs.Str.{chars};
 ghost use Rattle.sha2.specs.Sha256.{sha256};
 ghost use Rattle.ut_keeper.specs.Draft.{DraftReads, DraftTells, DraftWorks, count_of, state_of, tables_of};
 ghost use Rattle.ut_keeper.specs.State.{KeeperCause, StaysAfter};
-ghost use Rattle.ut_model.specs.Organisations.{administrator, fresh, is_secret};
+ghost use Rattle.ut_model.specs.Organisations.{administrator, fresh, is_secret, org_verdict};
 ghost use Rattle.ut_model.specs.Sound.{is_name};
 ghost use Rattle.ut_model.specs.World.{World};
-ghost use Rattle.ut_people.specs.People.{AddsAs, with_rows};
+ghost use Rattle.ut_people.specs.People.{with_rows};
 ghost use Rattle.ut_stands.specs.Fails.{IsRefusal, KeeperFailsEdit, is_judged};
+ghost use Rattle.ut_stands.specs.Operations.{Edits};
 ghost use Rattle.ut_stands.specs.Stands.{Stands, org_of, user_of};
 
 use crate::admission::digest_of;
@@ -98,7 +99,7 @@ pub fn add_org<K: Keeper>(
     requires secret { IsTrue (is_secret secret.now) }
     ensures adds { DraftTells K.state draft.old draft.new
         → (w : World) → Stands (tables_of K.state draft.old) w
-        → AddsAs w (chars name.now) (sha256 secret.now) (tables_of K.state draft.new) result }
+        → Edits (org_verdict (chars name.now) (sha256 secret.now)) w (tables_of K.state draft.new) result }
     ensures some { OnOk result (0 < count_of draft.new) }
     ensures refused { IfErr result (λ e. IsRefusal e → DraftReads K.state 0 draft.old draft.new) }
     ensures works { DraftWorks K.state 3 0 0 draft.old draft.new }

@@ -1,11 +1,12 @@
 -- The three rows of a new organisation.
-use Rattle.std.proofs.Common.{◌≡◌, ℕ, zero, suc, ◌+◌, ◌^◌, ◌<◌, Bool, true, false, ◌&&◌, cond, eqb, IsTrue, List, [], ◌∷◌, ◌++◌, length, Option, Some, None, refl, sym, ap, subst, arith, length-append}
+use Rattle.std.proofs.Common.{◌≡◌, ℕ, zero, suc, ◌+◌, ◌^◌, ◌<◌, Bool, true, false, ◌&&◌, ◌||◌, cond, eqb, IsTrue, List, [], ◌∷◌, ◌++◌, length, Option, Some, None, refl, sym, ap, ◌∙◌, subst, arith, length-append}
 use Rattle.std.specs.Prelude.{slice_get}
 use Rattle.std.specs.List.{AllByRecursion}
 use Rattle.std.specs.Option.{option_map}
 use Rattle.std.specs.FinMap as map
 use Rattle.std.specs.Str.{bytes_eq}
 use Rattle.std.proofs.lemmas.Bool.{eqb-true}
+use Rattle.std.proofs.lemmas.Slice.Eq.{bytes_eq-Decides}
 use Rattle.std.proofs.Math.Dec.{eqb-suc-zero, eqb-zero-suc, eqb-suc-suc}
 use Rattle.ut_value.specs.Id.{is_id}
 use Rattle.ut_keeper.specs.Tables.{Tables, no_rows}
@@ -14,7 +15,7 @@ use Rattle.ut_keys.specs.Holds.{Holds, with_row}
 use Rattle.ut_keys.specs.Keys.{Key, Version, Org, User, spell, FitsKey}
 use Rattle.ut_keys.specs.Rows.{version_form, org_form, user_form}
 use Rattle.ut_model.specs.Organisations.{administrator, first_user, fresh, with_org}
-use Rattle.ut_model.specs.Sound.{IsSound, is_name}
+use Rattle.ut_model.specs.Sound.{IsSound, is_among, is_name}
 use Rattle.ut_model.specs.Tenant as model
 use Rattle.ut_model.specs.Tenant.{Tenant}
 use Rattle.ut_model.specs.World.{World, tenant_at, user_prefix}
@@ -114,7 +115,7 @@ fresh_sound name digest good size = record {
   users_rise = tt;
   roles_rise = tt;
   groups_rise = tt;
-  numbers = refl;
+  numbers = λ i j hi hj e. one i hi ∙ sym (one j hj);
   few_users = omega arith;
   few_roles = omega arith;
   few_groups = omega arith;
@@ -122,6 +123,14 @@ fresh_sound name digest good size = record {
   few_rules = omega arith;
   few_records = omega arith;
 }
+  where
+    -- there is one id
+    one : (i : List ℕ) → IsTrue (is_among (first_user ∷ []) i) → i ≡ first_user
+    one i h = (bytes_eq-Decides i first_user).0 (only (bytes_eq i first_user) h)
+      where
+        only : (b : Bool) → (b || false) ≡ true → b ≡ true
+        only true e = refl
+        only false e = e
 
 fresh_alone : (name digest : List ℕ) → HasUsersAlone (fresh name digest)
 fresh_alone name digest = record { objects = refl; roles = refl; groups = refl; rules = refl; records = refl; shares = refl; job = refl }

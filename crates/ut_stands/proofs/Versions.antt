@@ -1,5 +1,5 @@
 -- The row of the version in tables that stand for a world.
-use Rattle.std.proofs.Common.{◌≡◌, ℕ, Bool, true, false, eqb, eq-eqb, eqb-true, List, [], length, Option, Some, None, refl, sym, ap, ◌∙◌, arith}
+use Rattle.std.proofs.Common.{◌≡◌, ℕ, Bool, true, false, eqb, eq-eqb, eqb-true, List, [], length, Option, Some, None, refl, sym, ap, ◌∙◌, arith, inl, inr}
 use mathlib.Core.Bool.{true≢false}
 use Rattle.std.specs.Prelude.{Result, Ok, Err, if◌then◌else◌}
 use Rattle.std.specs.Option.{option_map}
@@ -16,7 +16,7 @@ use Rattle.ut_model.specs.Sound.{IsWorld}
 use Rattle.ut_model.specs.World.{World}
 use Rattle.ut_stands.specs.Fails.{of_store_opening}
 use Rattle.ut_stands.specs.Reads.{FindsAs, KnowsAs, OpensAs}
-use Rattle.ut_stands.specs.Stands.{HasUnknownVersion, Plan, Stands, StandsBy, known_version, row_at, version_of}
+use Rattle.ut_stands.specs.Stands.{HasKnownVersion, HasUnknownVersion, IsVersion, Plan, Stands, StandsBy, row_at, version_of}
 
 -- one spelling is of one row, and what is read is what stands there, as `ut_keys` says
 abbrev pub OneVersion : Type 0
@@ -73,40 +73,47 @@ count_failed finds m Damaged d = λ w s. found finds s.0 m w (Err Damaged) s.1 d
 count_failed finds m Keeper d = tt
 count_failed finds m Memory d = tt
 
-known_when : OneVersion → (b : Bool) (w : World) (r : VersionRow) → IsWorld w → FitsForm version_form r → option_map (row_bytes version_form) (if b then Some (version_of w) else None) ≡ Some (row_bytes version_form r) → r.version ≡ known_version
-known_when one true w r h f e = ap (λ (x : VersionRow). x.version) (sym (version_same one (version_of w) r (version_fits w h) f e))
-known_when one false w r h f e = absurd cc
+known_when : (b : Bool) (m : Tables) (w : World) → IsWorld w → map.get m (spell Version) ≡ option_map (row_bytes version_form) (if b then Some (version_of w) else None) → HasKnownVersion m
+known_when true m w h e = inr (version_of w, record { fits = version_fits w h; kept = e }, refl)
+known_when false m w h e = inl e
 
-pub known : OneVersion → (m : Tables) (w : World) → Stands m w → HasUnknownVersion m → ⊥
-known one m w (p, s) u = u.unknown (known_when one p.opened w u.row s.world u.fits (sym (kept p m w s) ∙ u.kept))
+-- tables that stand for a world are of the known version
+pub known : (m : Tables) (w : World) → Stands m w → HasKnownVersion m
+known m w (p, s) = known_when p.opened m w s.world (kept p m w s)
+
+-- no version is known and unknown
+pub not_both : OneVersion → (m : Tables) → HasKnownVersion m → HasUnknownVersion m → ⊥
+not_both one m (inl e) (u, v, differs) = absurd (none (sym e ∙ v.kept))
+  where
+    none : {x : List ℕ} → ◌≡◌ {A = Option (List ℕ)} None (Some x) → ⊥
+    none e = cc
+not_both one m (inr (r, k, is)) (u, v, differs) = differs (ap (λ (x : VersionRow). x.version) (version_same one u r v.fits k.fits (sym v.kept ∙ k.kept)) ∙ is)
 
 -- ---- an opening
 
--- no row is of an unknown version
-pub none_unknown : (m : Tables) → map.get m (spell Version) ≡ None → HasUnknownVersion m → ⊥
-none_unknown m e u = absurd (no (sym e ∙ u.kept))
-  where
-    no : {A : Type 0} {x : A} → ◌≡◌ {A = Option A} None (Some x) → ⊥
-    no e = cc
+-- no row spells a version there
+damaged : (m : Tables) → ReadsVersion m (Err Damaged) → (r : VersionRow) → IsVersion m r → ⊥
+damaged m d r v = d.1 r (record { is_kept = v.kept; has_key = refl; fits = v.fits })
 
--- a row of the known version is of no other
-one_known : OneVersion → (m : Tables) (r : VersionRow) → map.get m (spell Version) ≡ Some (row_bytes version_form r) → FitsForm version_form r → r.version ≡ known_version → HasUnknownVersion m → ⊥
-one_known one m r e f is u =
-    let same = version_same one u.row r u.fits f (sym u.kept ∙ e) in
-    u.unknown (ap (λ (x : VersionRow). x.version) same ∙ is)
+unknown_none : (m : Tables) → ReadsVersion m (Err Damaged) → HasKnownVersion m → ⊥
+unknown_none m d (inl e) = d.0 e
+unknown_none m d (inr (r, v, is)) = damaged m d r v
 
--- a row that spells no version is of no version
-damaged_unknown : (m : Tables) → ReadsVersion m (Err Damaged) → HasUnknownVersion m → ⊥
-damaged_unknown m d u = d.1 u.row (record { is_kept = u.kept; has_key = refl; fits = u.fits })
+pub known_one : (m : Tables) (r : VersionRow) → ReadsVersion m (Ok (Some r)) → (b : Bool) → eqb r.version 1 ≡ b → KnowsAs m (Ok b)
+known_one m r e true is = inr (r, record { fits = e.fits; kept = e.is_kept }, eqb-true r.version 1 is)
+known_one m r e false is = (r, record { fits = e.fits; kept = e.is_kept }, λ same. absurd (true≢false (sym (eq-eqb r.version 1 same) ∙ is)))
 
-pub known_one : OneVersion → (m : Tables) (r : VersionRow) → ReadsVersion m (Ok (Some r)) → (b : Bool) → eqb r.version 1 ≡ b → KnowsAs m (Ok b)
-known_one one m r e true is = one_known one m r e.is_kept e.fits (eqb-true r.version 1 is)
-known_one one m r e false is = record { row = r; fits = e.fits; kept = e.is_kept; unknown = λ same. absurd (true≢false (sym (eq-eqb r.version 1 same) ∙ is)) }
+pub known_none : (m : Tables) → ReadsVersion m (Ok None) → KnowsAs m (Ok true)
+known_none m e = inl e
 
-pub known_failed : FindsVersion → (m : Tables) (e : StoreFail) → ReadsVersion m (Err e) → KnowsAs m (Err e)
-known_failed finds m Damaged d = (damaged_unknown m d, λ w s. found finds s.0 m w (Err Damaged) s.1 d)
-known_failed finds m Keeper d = tt
-known_failed finds m Memory d = tt
+pub known_failed : (m : Tables) (e : StoreFail) → ReadsVersion m (Err e) → KnowsAs m (Err e)
+known_failed m Damaged d = record {
+  no_known = unknown_none m d;
+  no_unknown = λ u. damaged m d u.0 u.1;
+  no_world = λ w s. unknown_none m d (known m w s);
+}
+known_failed m Keeper d = tt
+known_failed m Memory d = tt
 
 pub opens_failed : (m : Tables) (e : StoreFail) → KnowsAs m (Err e) → OpensAs m (Err (of_store_opening e))
 opens_failed m Damaged d = d

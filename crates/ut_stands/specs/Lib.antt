@@ -1,3 +1,4 @@
 pub mod Fails
 pub mod Stands
+pub mod Operations
 pub mod Reads

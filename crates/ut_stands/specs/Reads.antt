@@ -6,7 +6,7 @@ use Rattle.ut_keys.specs.declared.fail.StoreFail.TheVariants.{Keeper, Memory, Da
 use Rattle.ut_model.specs.World.{World}
 use Rattle.ut_stands.specs.declared.fail.OpenFail.{OpenFail}
 use Rattle.ut_stands.specs.declared.fail.OpenFail.TheVariants as opening
-use Rattle.ut_stands.specs.Stands.{Stands, HasUnknownVersion}
+use Rattle.ut_stands.specs.Stands.{Stands, HasKnownVersion, HasUnknownVersion}
 
 -- ---- reads of a world: what is read is what every world has there for which the tables stand, and such are never damaged
 
@@ -18,18 +18,24 @@ FindsAs value m (Err Memory) = Unit {0}
 
 -- ---- opening
 
--- whether the version is known; tables without its row are of a known one
+-- tables whose version can't be told stand for no world
+pub record IsDamaged (m : Tables) : Type 0 where
+  pub no_known : HasKnownVersion m → ⊥
+  pub no_unknown : HasUnknownVersion m → ⊥
+  pub no_world : (w : World) → Stands m w → ⊥
+
+-- whether the version is known
 abbrev pub KnowsAs : Tables → Result Bool StoreFail → Type 0
-KnowsAs m (Ok true) = HasUnknownVersion m → ⊥
+KnowsAs m (Ok true) = HasKnownVersion m
 KnowsAs m (Ok false) = HasUnknownVersion m
-KnowsAs m (Err Damaged) = (HasUnknownVersion m → ⊥) × ((w : World) → Stands m w → ⊥)
+KnowsAs m (Err Damaged) = IsDamaged m
 KnowsAs m (Err Keeper) = Unit {0}
 KnowsAs m (Err Memory) = Unit {0}
 
--- an unknown version is told exactly where there is one, and damage never where the tables stand for a world
+-- the version is known, or an unknown one is told, or the tables are damaged
 abbrev pub OpensAs : Tables → Result (Unit {0}) OpenFail → Type 0
-OpensAs m (Ok u) = HasUnknownVersion m → ⊥
+OpensAs m (Ok u) = HasKnownVersion m
 OpensAs m (Err opening.UnknownVersion) = HasUnknownVersion m
-OpensAs m (Err (opening.Store Damaged)) = (HasUnknownVersion m → ⊥) × ((w : World) → Stands m w → ⊥)
+OpensAs m (Err (opening.Store Damaged)) = IsDamaged m
 OpensAs m (Err (opening.Store Keeper)) = Unit {0}
 OpensAs m (Err (opening.Store Memory)) = Unit {0}

@@ -1,7 +1,7 @@
 -- What tables have at each key where they stand for a world.
 -- Source of the tables: C. D. Weissman and S. Bobrowski, "The Design of the Force.com Multitenant Internet Application
 -- Development Platform" (SIGMOD 2009): all organisations' rows stand in the same few tables, each under its organisation.
-use Rattle.std.specs.Prelude.{true, ◌≡◌, ◌≢◌, ℕ, Bool, false, if◌then◌else◌, List, [], length, Option, Some, None}
+use Rattle.std.specs.Prelude.{true, ◌≡◌, ◌≢◌, ◌⊎◌, ℕ, Bool, false, if◌then◌else◌, List, [], length, Option, Some, None}
 use Rattle.std.specs.List.{AllByRecursion}
 use Rattle.std.specs.Option.{option_map, option_and_then}
 use Rattle.std.specs.FinMap as map
@@ -101,9 +101,17 @@ pub record StandsBy (p : Plan) (m : Tables) (w : World) : Type 0 where
 abbrev pub Stands : Tables → World → Type 0
 Stands m w = (p : Plan) × StandsBy p m w
 
--- the version's row has a number that isn't known here
-pub record HasUnknownVersion (m : Tables) : Type 0 where
-  pub row : VersionRow
+-- ---- the version
+
+-- the version's row is this one
+pub record IsVersion (m : Tables) (row : VersionRow) : Type 0 where
   pub fits : FitsForm version_form row
   pub kept : map.get m (spell Version) ≡ Some (row_bytes version_form row)
-  pub unknown : row.version ≢ known_version
+
+-- the version is the one that is known here. Tables without its row are of it
+abbrev pub HasKnownVersion : Tables → Type 0
+HasKnownVersion m = (map.get m (spell Version) ≡ None) ⊎ ((row : VersionRow) × IsVersion m row × (row.version ≡ known_version))
+
+-- the version is another
+abbrev pub HasUnknownVersion : Tables → Type 0
+HasUnknownVersion m = (row : VersionRow) × IsVersion m row × (row.version ≢ known_version)

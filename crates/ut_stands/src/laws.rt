@@ -7,7 +7,7 @@ ghost use Rattle.ut_keys.specs.Rows.{org_form, user_form, version_form};
 ghost use Rattle.ut_model.specs.Organisations.{administrator, first_user, fresh, with_org};
 ghost use Rattle.ut_model.specs.Sound.{is_name};
 ghost use Rattle.ut_model.specs.World.{World};
-ghost use Rattle.ut_stands.specs.Stands.{HasUnknownVersion, Stands, closed, opened, org_of, row_at, user_of, version_of};
+ghost use Rattle.ut_stands.specs.Stands.{HasKnownVersion, HasUnknownVersion, Stands, closed, opened, org_of, row_at, user_of, version_of};
 
 use ut_keys::{VersionRow, row_laws, table_laws};
 use ut_value::id_laws;
@@ -17,8 +17,9 @@ pub fn stands_laws()
     // Tables without rows stand for the world without organisations.
     ensures empty { Stands no_rows [] }
 
-    // Tables that stand for a world are of a known version.
-    ensures known { (m : Tables) (w : World) → Stands m w → HasUnknownVersion m → ⊥ }
+    // Tables that stand for a world are of the known version, and no tables are of it and of another.
+    ensures known { (m : Tables) (w : World) → Stands m w → HasKnownVersion m }
+    ensures one_version { (m : Tables) → HasKnownVersion m → HasUnknownVersion m → ⊥ }
 
     // The three rows of a new organisation, put into tables that stand for a world.
     ensures added { (m : Tables) (w : World) (name digest : List ℕ) (n : ℕ)

@@ -4,12 +4,16 @@
 //! has there, and the rows of a new part make tables that stand for the world with it.
 #![tactic(auto)]
 
+mod ending;
 mod fail;
+mod judged;
 mod laws;
 mod opening;
 mod reads;
 
+pub use crate::ending::finish;
 pub use crate::fail::{EditFail, OpenFail};
+pub use crate::judged::Judged;
 pub use crate::laws::{stands_laws, stands_rows};
 pub use crate::opening::{KNOWN_VERSION, open_tables};
 pub use crate::reads::{organisations, user};

@@ -32,9 +32,9 @@ fn is_known<K: Keeper>(alloc: Global, draft: &mut Draft<'_, K>) -> Result<bool, 
 ///
 /// # Errors
 ///
-/// `UnknownVersion` exactly if the row of the version has another number than 1, where neither opening nor reading fails;
-/// `Store` with `Keeper` if the keeper failed, with `Memory` if out of memory, with `Damaged` never if the tables stand
-/// for a world.
+/// `UnknownVersion` exactly if the row of the version has another number than 1, and `Store` with `Damaged` exactly if there
+/// is a row at its key that is none of a version, unless opening or reading fails; `Store` with `Keeper` if the keeper
+/// failed, with `Memory` if out of memory.
 #[tactic(auto, using(crate::proofs::Versions::opens_failed))]
 pub fn open_tables<K: Keeper>(alloc: Global, keeper: &mut K) -> Result<(), OpenFail>
     ensures opens { Tells (K.state keeper.old) (K.state keeper.new) → OpensAs (K.state keeper.old).tables result }

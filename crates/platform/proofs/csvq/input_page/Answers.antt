@@ -5,7 +5,7 @@ use Rattle.ut_keeper.specs.declared.keeper.KeptRow.{KeptRow}
 use Rattle.ut_table.specs.Table.{table_of}
 use Rattle.platform.specs.Csvq.{is_table, row_limit}
 use Rattle.std.specs.Result.{IfOk}
-use Rattle.platform.specs.Printed.{Printed}
+use Rattle.platform.specs.Printed.{PageText}
 use Rattle.platform.specs.Kept.{AreIds}
 use Rattle.platform.proofs.Pages.{accepted, as_whole, ids_kept, turned_down, whole}
 use Rattle.platform.proofs.csvq.input_page.Goals as goal
@@ -31,4 +31,4 @@ returns-then-not-is_table c =
     ap (λ (rs : List Row). is_table (map fields_of rs)) (sym c.deref.ensures.value) ∙ sym c.is_table.ensures ∙ c.if-not-is_table.true in
     let all = table_of c.args.bytes.now in
     let no : is_table all ≡ false = sym (as_whole (row_limit + 2) all (omega arith)) ∙ ap is_table (sym c.in-Ok.ensures.records) ∙ bad in
-    subst (λ (page : Printed). IfOk c.refusal.result (λ (p : Printed). p ≡ page)) (turned_down c.args.bytes.now c.requires no) c.refusal.ensures
+    subst (λ (page : PageText). IfOk c.refusal.result (λ (p : PageText). p ≡ page)) (turned_down c.args.bytes.now c.requires no) c.refusal.ensures

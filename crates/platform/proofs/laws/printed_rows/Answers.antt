@@ -18,4 +18,4 @@ use Rattle.platform.proofs.laws.printed_rows.Goals as goal
 
 pub returns : goal.returns
 unfolding csv_on_literals digits chars is_utf8 encode field_at escaped fields_text is_blank lines made numbers.digits is_digit tokens.is_blank is_letter in_word in_run begins_run class_of single double mark_len token_len mark_token token_of front_len token_at tokens_of is_word is_comma are_asking asks_for_rows is_name is_secret
-returns c = record { rows = refl; quoted = refl; none = refl; heading = refl; query = refl; first = refl; name = refl; secret = refl }
+returns c = record { rows = refl; quoted = refl; none = refl; heading = refl; query = refl; first = refl; second = refl; name = refl; secret = refl }

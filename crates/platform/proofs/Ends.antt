@@ -1,0 +1,142 @@
+-- How a command of one deed ends, and what it leaves, from what was done on its way.
+use Rattle.std.proofs.Common.{◌≡◌, ◌⊎◌, inl, inr, ℕ, Bool, true, false, IsTrue, List, [], Option, Some, None, Result, Ok, Err, refl, sym, ap, subst, ◌∙◌, append-nil}
+use Rattle.std.specs.Prelude.{IfOk, if◌then◌else◌}
+use Rattle.std.specs.Io.KnownBytes.{Appends}
+use Rattle.ut_io.specs.Streams.{AppendsFront}
+use Rattle.ut_keeper.specs.State.{KeeperState, LeavesNoMore, Shows, Steps, Tells}
+use Rattle.ut_keeper.specs.Tables.{Tables}
+use Rattle.ut_keys.specs.declared.fail.StoreFail.{StoreFail}
+use Rattle.ut_keys.specs.declared.fail.StoreFail.TheVariants as store
+use Rattle.ut_model.specs.World.{World}
+use Rattle.ut_stands.specs.declared.fail.OpenFail.{OpenFail}
+use Rattle.ut_stands.specs.declared.fail.OpenFail.TheVariants as opening
+use Rattle.ut_stands.specs.declared.judged.Judged.{Judged}
+use Rattle.ut_stands.specs.declared.judged.Judged.TheVariants.{Changed, Same}
+use Rattle.ut_stands.specs.Operations.{Does, IsChange, Leaves, Returns}
+use Rattle.ut_stands.specs.Reads.{OpensAs}
+use Rattle.ut_stands.specs.Stands.{HasKnownVersion, HasUnknownVersion, Stands}
+use Rattle.platform.specs.Deeds.{Prints, StopsBefore, StopsWithin, one_deed}
+use Rattle.platform.specs.Printed.{PageText}
+use Rattle.platform.specs.Stops.{DoesOpened, Refuses, behind, is_done, of_input, of_opening}
+use Rattle.platform.specs.declared.csvq.InputFail.{InputFail}
+use Rattle.platform.specs.declared.csvq.InputFail.TheVariants as input
+use Rattle.platform.specs.declared.stop.Stop.{Stop}
+
+-- ---- what was written
+
+pub stops_within : (p : PageText) (next : World) (old new : Option (List ℕ)) → AppendsFront old new p.text → StopsWithin (one_deed p next) old new next
+stops_within p next old new h = record {
+  past = [];
+  next = record { text = p.text; world = next };
+  rest = [];
+  all = refl;
+  taken = h.0;
+  front = h.1;
+  text = h.2;
+  world = refl;
+}
+
+nothing : (old : Option (List ℕ)) → Appends old old []
+nothing None = tt
+nothing (Some xs) = sym (append-nil xs)
+
+pub stops_before : (w next : World) (p : PageText) (old : Option (List ℕ)) → StopsBefore w (one_deed p next) old old w
+stops_before w next p old = record {
+  past = [];
+  next = record { text = p.text; world = next };
+  rest = [];
+  all = refl;
+  text = nothing old;
+  world = refl;
+}
+
+-- a command that leaves the world as it is
+pub behind_same : (w : World) (r : Result ℕ Stop) → behind w w r ≡ w
+behind_same w r = same (is_done r)
+  where
+    same : (b : Bool) → if◌then◌else◌ {A = World} b w w ≡ w
+    same true = refl
+    same false = refl
+
+pub input_stops : (w : World) (p : PageText) (old : Option (List ℕ)) (fail : InputFail) → Prints w (one_deed p w) old old (Err (of_input fail)) w
+input_stops w p old input.Failed = stops_before w w p old
+input_stops w p old input.Memory = stops_before w w p old
+
+pub opening_stops : (does : World → PageText × World) (w : World) (k l : KeeperState) (old : Option (List ℕ)) (fail : OpenFail) → DoesOpened does w k l (Err fail)
+    → Prints w (one_deed (does w).0 (does w).1) old old (Err (of_opening fail)) (behind {X = ℕ} w (does w).1 (Err (of_opening fail)))
+opening_stops does w k l old (opening.Store store.Keeper) h = stops_before w (does w).1 (does w).0 old
+opening_stops does w k l old (opening.Store store.Memory) h = stops_before w (does w).1 (does w).0 old
+opening_stops does w k l old (opening.Store store.Damaged) h = h.0 refl
+opening_stops does w k l old opening.UnknownVersion h = absurd h
+
+pub opening_leaves : (does : World → PageText × World) (w : World) (k l : KeeperState) (fail : OpenFail) → DoesOpened does w k l (Err fail) → Leaves w (behind {X = ℕ} w (does w).1 (Err (of_opening fail))) (does w).1 k l
+opening_leaves does w k l (opening.Store store.Keeper) h = h.1
+opening_leaves does w k l (opening.Store store.Memory) h = h.1
+opening_leaves does w k l (opening.Store store.Damaged) h = absurd (h.0 refl)
+opening_leaves does w k l opening.UnknownVersion h = absurd h
+
+-- ---- a refusal changes nothing
+
+pub refused_kept : (S : Type 0) (judged : Result (Judged PageText) StoreFail) (result : Result PageText StoreFail) → IfOk result (Returns judged) → IfOk judged (λ j. Refuses j → IsChange judged → ⊥) → ((IsChange judged → ⊥) → S) → IfOk result (λ p. p.status ≡ 65 → S)
+refused_kept S judged (Err e) r d f = tt
+refused_kept S (Err e) (Ok p) r d f = absurd r
+refused_kept S (Ok (Same q)) (Ok p) r d f = λ _. f (λ c. c)
+refused_kept S (Ok (Changed q)) (Ok p) r d f = λ is. f (d (sym (ap (λ (x : PageText). x.status) r) ∙ is))
+
+-- ---- with the opening
+
+module _ (k0 k1 : KeeperState) (same : Tells k0 k1 → Shows k1 k0.tables) (no_more : k0.tells → LeavesNoMore k0 k1) where
+  shown : Tells k0 k1 → (w : World) → Stands k0.tables w → Stands k1.tables w
+  shown t w s = subst (λ (m : Tables). Stands m w) (sym (same t).1) s
+
+  module _ (k2 : KeeperState) (steps : Steps k1 k2) where
+    first : Tells k0 k2 → Tells k0 k1
+    first t = (t.0, steps.stood t.1)
+
+    later : Tells k0 k2 → Tells k1 k2
+    later t = ((same (first t)).0, t.1)
+
+    leaves : (w end next : World) → k0.tells → Leaves w end next k1 k2 → Leaves w end next k0 k2
+    leaves w end next tells l = record { tables = l.tables; crash = λ clean m h. by clean m (l.crash clean m h) }
+      where
+        by : IsTrue k2.is_clean → (m : Tables) → (k1.may_leave m × (end ≡ w)) ⊎ Stands m next → (k0.may_leave m × (end ≡ w)) ⊎ Stands m next
+        by clean m (inl h) = inl (no_more tells (steps.was_clean clean) m h.0, h.1)
+        by clean m (inr s) = inr s
+
+    pub opened : (does : World → PageText × World) (w : World) (r : Result PageText StoreFail) → Tells k0 k2 → Stands k0.tables w
+        → (Tells k1 k2 → (w : World) → Stands k1.tables w → Does does w k1 k2 r) → (x : PageText) → r ≡ Ok x → DoesOpened does w k0 k2 (Ok x)
+    opened does w r t s h x e =
+        let it = subst (Does does w k1 k2) e (h (later t) w (shown (first t) w s)) in
+        (it.0, leaves w (does w).1 (does w).1 t.0 it.1)
+
+    pub opened_failed : (does : World → PageText × World) (w : World) (r : Result PageText StoreFail) → Tells k0 k2 → Stands k0.tables w
+        → (Tells k1 k2 → (w : World) → Stands k1.tables w → Does does w k1 k2 r) → (e : StoreFail) → r ≡ Err e → DoesOpened does w k0 k2 (Err (opening.Store e))
+    opened_failed does w r t s h e is =
+        let it = subst (Does does w k1 k2) is (h (later t) w (shown (first t) w s)) in
+        (it.0, leaves w w (does w).1 t.0 it.1)
+
+    pub crash_through : (next : World → World) → (IsTrue k1.is_clean → IsTrue k1.stands)
+        → (k1.tells → IsTrue k1.stands → IsTrue k2.is_clean → (w : World) → Stands k1.tables w → (m : Tables) → k2.may_leave m → k1.may_leave m ⊎ Stands m (next w))
+        → k0.tells → IsTrue k2.is_clean → (w : World) → Stands k0.tables w → (m : Tables) → k2.may_leave m → k0.may_leave m ⊎ Stands m (next w)
+    crash_through next stands h tells clean w s m left =
+        let one : IsTrue k1.is_clean = steps.was_clean clean in
+        let told : Tells k0 k1 = (tells, stands one) in
+        by one (h (same told).0 (stands one) clean w (shown told w s) m left)
+      where
+        by : IsTrue k1.is_clean → k1.may_leave m ⊎ Stands m (next w) → k0.may_leave m ⊎ Stands m (next w)
+        by one (inl h) = inl (no_more tells one m h)
+        by one (inr s) = inr s
+
+  -- the opening failed
+  pub unopened : (known : (m : Tables) (w : World) → Stands m w → HasKnownVersion m) → (one : (m : Tables) → HasKnownVersion m → HasUnknownVersion m → ⊥)
+      → (does : World → PageText × World) (w : World) (fail : OpenFail) → Tells k0 k1 → Stands k0.tables w → OpensAs k0.tables (Err fail) → DoesOpened does w k0 k1 (Err fail)
+  unopened known one does w fail t s = by fail
+    where
+      stays : (next : World) → Leaves w w next k0 k1
+      stays next = record { tables = λ _. ((same t).0, shown t w s); crash = λ clean m h. inl (no_more t.0 clean m h, refl) }
+
+      by : (fail : OpenFail) → OpensAs k0.tables (Err fail) → DoesOpened does w k0 k1 (Err fail)
+      by (opening.Store store.Damaged) o = absurd (o.no_world w s)
+      by (opening.Store store.Keeper) o = (λ e. absurd cc, stays (does w).1)
+      by (opening.Store store.Memory) o = (λ e. absurd cc, stays (does w).1)
+      by opening.UnknownVersion o = one k0.tables (known k0.tables w s) o

@@ -1,0 +1,82 @@
+-- What failures on the way of a command are to it.
+use Rattle.std.specs.Prelude.{◌≡◌, ◌≢◌, ◌⊎◌, ℕ, Bool, true, false, if◌then◌else◌, IfOk, Result, Ok, Err}
+use Rattle.ut_keeper.specs.State.{KeeperState}
+use Rattle.ut_keys.specs.declared.fail.StoreFail.{StoreFail}
+use Rattle.ut_keys.specs.declared.fail.StoreFail.TheVariants as store
+use Rattle.ut_model.specs.World.{World}
+use Rattle.ut_stands.specs.declared.fail.OpenFail.{OpenFail}
+use Rattle.ut_stands.specs.declared.fail.OpenFail.TheVariants as opening
+use Rattle.ut_stands.specs.Operations.{Leaves}
+use Rattle.ut_keeper.specs.Tables.{Tables}
+use Rattle.ut_stands.specs.Stands.{HasKnownVersion, HasUnknownVersion, Stands}
+use Rattle.ut_stands.specs.declared.judged.Judged.{Judged}
+use Rattle.ut_stands.specs.declared.judged.Judged.TheVariants.{Changed, Same}
+use Rattle.platform.specs.Printed.{PageText}
+use Rattle.platform.specs.declared.csvq.InputFail.{InputFail}
+use Rattle.platform.specs.declared.csvq.InputFail.TheVariants as input
+use Rattle.platform.specs.declared.stop.Stop.{Stop}
+use Rattle.platform.specs.declared.stop.Stop.TheVariants as stop
+
+abbrev pub of_store : StoreFail → Stop
+of_store store.Keeper = stop.KeeperFailed
+of_store store.Memory = stop.NoMemory
+of_store store.Damaged = stop.Damaged
+
+abbrev pub of_opening : OpenFail → Stop
+of_opening (opening.Store fail) = of_store fail
+of_opening opening.UnknownVersion = stop.UnknownVersion
+
+abbrev pub of_input : InputFail → Stop
+of_input input.Failed = stop.SourceFailed
+of_input input.Memory = stop.NoMemory
+
+-- an operation by its definition, the opening included
+abbrev pub DoesOpened : {X : Type 0} → (World → X × World) → World → KeeperState → KeeperState → Result X OpenFail → Type 0
+DoesOpened does w old new (Ok x) = (x ≡ (does w).0) × Leaves w (does w).1 (does w).1 old new
+DoesOpened does w old new (Err (opening.Store e)) = (e ≢ store.Damaged) × Leaves w w (does w).1 old new
+DoesOpened does w old new (Err opening.UnknownVersion) = ⊥
+
+-- the page of a refusal
+abbrev pub Refuses : Judged PageText → Type 0
+Refuses (Same p) = p.status ≡ 65
+Refuses (Changed p) = p.status ≡ 65
+
+-- by the version of the tables: with a page it is known
+abbrev pub VersionAs : {X : Type 0} → Tables → Result X OpenFail → Type 0
+VersionAs m (Ok x) = HasKnownVersion m
+VersionAs m (Err opening.UnknownVersion) = HasUnknownVersion m
+VersionAs m (Err (opening.Store store.Damaged)) = (HasUnknownVersion m → ⊥) × ((w : World) → Stands m w → ⊥)
+VersionAs m (Err (opening.Store store.Keeper)) = Unit {0}
+VersionAs m (Err (opening.Store store.Memory)) = Unit {0}
+
+-- ---- before the status is a number
+
+-- the page was made: all of it, or a prefix, was written
+abbrev pub is_done : {X : Type 0} → Result X Stop → Bool
+is_done (Ok x) = true
+is_done (Err stop.SinkFailed) = true
+is_done (Err _) = false
+
+-- the world behind a command that leaves `next` if its page was made
+abbrev pub behind : {X : Type 0} → World → World → Result X Stop → World
+behind w next r = if is_done r then next else w
+
+-- it failed by the keeper or by the tables
+abbrev pub FailsByTables : Stop → Type 0
+FailsByTables stop.KeeperFailed = Unit {0}
+FailsByTables stop.Damaged = Unit {0}
+FailsByTables stop.UnknownVersion = Unit {0}
+FailsByTables _ = ⊥
+
+abbrev pub VersionStops : Tables → Result ℕ Stop → Type 0
+VersionStops m (Ok x) = HasKnownVersion m
+VersionStops m (Err stop.SinkFailed) = HasKnownVersion m
+VersionStops m (Err stop.UnknownVersion) = HasUnknownVersion m
+VersionStops m (Err stop.Damaged) = (HasUnknownVersion m → ⊥) × ((w : World) → Stands m w → ⊥)
+VersionStops m (Err stop.KeeperFailed) = Unit {0}
+VersionStops m (Err stop.NoMemory) = Unit {0}
+VersionStops m (Err stop.SourceFailed) = ⊥
+
+-- done, or only refused
+abbrev pub IsKnownStatus : Result ℕ Stop → Type 0
+IsKnownStatus r = IfOk r (λ status. (status ≡ 0) ⊎ (status ≡ 65))

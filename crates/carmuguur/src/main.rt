@@ -1,6 +1,15 @@
-//! The program: it hands the words behind its name, the standard streams and the system's clock to `platform::run`.
+//! The program: it hands the words after its name, the standard streams and the system's clock to `platform::run`.
 #![tactic(auto)]
 
+mod mistake;
+#[cfg(test)]
+mod tests;
+
+ghost use Rattle.std.specs.Prelude.{◌≡◌, ◌⊎◌, ◌↔◌, IfOk, IsNone, None, map, string_bytes};
+ghost use Rattle.platform.specs.Commands.{command_of};
+ghost use Rattle.carmuguur.specs.Lines.{IsCommandLine};
+
+use crate::mistake::{Mistake, mistake_of};
 use platform::run;
 use std::alloc::AllocError;
 use std::env;
@@ -9,20 +18,20 @@ use std::process::ExitCode;
 use ut_io::{MemoryDoor, StdSink, StdSource, SystemClock};
 use ut_keeper::MemoryKeeper;
 
-// The statuses that are answered before a command runs, as `run` has them.
+// The statuses that may come before a command runs, as `run` has them.
 const NO_COMMAND: u8 = 64;
 
 const OUT_OF_MEMORY: u8 = 71;
 
 // Why there are no words to run.
 enum NoWords {
-    // They are no command line: a word isn't UTF-8, there are too few, or PATH or PORT is no such.
-    NoCommand,
-    // Memory ran out.
+    // A word isn't UTF-8.
+    NotText,
+    // Out of memory.
     Memory,
 }
 
-// The words behind the program's name.
+// The words after the program's name.
 fn all_words(rt: &HostRuntime) -> Result<Vec<String>, NoWords> {
     match env::args(rt) {
         Ok(args) => match args.skip(1).collect(rt.alloc()) {
@@ -31,7 +40,7 @@ fn all_words(rt: &HostRuntime) -> Result<Vec<String>, NoWords> {
         },
         Err(error) => {
             if error.kind() == ErrorKind::InvalidData {
-                Err(NoWords::NoCommand)
+                Err(NoWords::NotText)
             } else {
                 Err(NoWords::Memory)
             }
@@ -39,19 +48,10 @@ fn all_words(rt: &HostRuntime) -> Result<Vec<String>, NoWords> {
     }
 }
 
-// Whether a word is a number from 0 to 65535 in digits, without a leading zero.
-fn is_port(word: &str) -> bool {
-    let digits = word.as_bytes();
-    digits.iter().all(|digit| digit.is_ascii_digit())
-        && (digits.len() == 1 || !word.starts_with('0'))
-        && word.parse::<u16>().is_ok()
-}
-
-// Runs the command behind PATH and PORT. All tables are in memory as yet, so PATH is `-`.
-fn run_command(rt: HostRuntime, words: &[String]) -> Result<u8, AllocError> {
-    if words.len() < 3 || words[0].as_str() != "-" || !is_port(words[1].as_str()) {
-        return Ok(NO_COMMAND);
-    }
+// Runs the command after PATH and PORT. All tables are in memory as yet.
+fn run_command(rt: HostRuntime, command: &[String]) -> Result<u8, AllocError>
+    ensures { IfOk result (λ status. (status ≡ 64) ↔ (command_of (map string_bytes command.now) ≡ None)) }
+{
     let alloc = rt.alloc();
     let mut keeper = MemoryKeeper::new(alloc, &[])?;
     let mut door = MemoryDoor::new(alloc, &[], 0, &[])?;
@@ -60,7 +60,7 @@ fn run_command(rt: HostRuntime, words: &[String]) -> Result<u8, AllocError> {
     let mut clock = SystemClock::new(rt);
     Ok(run(
         alloc,
-        &words[2..],
+        command,
         &mut keeper,
         &mut door,
         &mut source,
@@ -69,31 +69,53 @@ fn run_command(rt: HostRuntime, words: &[String]) -> Result<u8, AllocError> {
     ))
 }
 
-// The line on standard error that tells of a status.
-fn explanation(status: u8) -> &'static str {
+// What standard error says of a status of `run`: nothing if standard output has the answer or the refusal.
+fn explanation(status: u8) -> Option<&'static str>
+    ensures { IsNone result ↔ ((status ≡ 0) ⊎ (status ≡ 65)) }
+{
     match status {
-        NO_COMMAND => {
-            "usage: carmuguur - PORT csvq QUERY, or carmuguur - PORT org-add NAME SECRET, with a PORT from 0 to 65535"
-        }
-        OUT_OF_MEMORY => "out of memory",
-        72 => "the store failed",
-        73 => "standard output failed",
-        74 => "standard input failed",
-        76 => "the store is damaged",
-        77 => "the store has an unknown version",
-        _ => "failed",
+        0 | 65 => None,
+        NO_COMMAND => Some("no command"),
+        OUT_OF_MEMORY => Some("out of memory"),
+        72 => Some("the store failed"),
+        73 => Some("standard output failed"),
+        74 => Some("standard input failed"),
+        76 => Some("the store is damaged"),
+        77 => Some("the store has an unknown version"),
+        _ => Some("failed"),
     }
+}
+
+// Refuses the words, and says why.
+fn refuse(rt: &HostRuntime, mistake: &Mistake<'_>) -> u8
+    ensures { result ≡ 64 }
+{
+    let _ = eprintln!(rt; "carmuguur: {mistake}");
+    NO_COMMAND
+}
+
+// Does what the words say, or says why it can't. The status is 64 exactly if they are no command line.
+fn do_words(rt: HostRuntime, words: &[String]) -> u8
+    ensures { (result ≡ 64) ↔ (IsCommandLine (map string_bytes words.now) → ⊥) }
+{
+    if let Some(mistake) = mistake_of(words) {
+        return refuse(&rt, &mistake);
+    }
+    let status = run_command(rt, &words[2..]).unwrap_or(OUT_OF_MEMORY);
+    if let Some(line) = explanation(status) {
+        let _ = eprintln!(rt; "carmuguur: {line}");
+    }
+    status
 }
 
 fn main(rt: HostRuntime) -> ExitCode {
     let status = match all_words(&rt) {
-        Ok(words) => run_command(rt, &words).unwrap_or(OUT_OF_MEMORY),
-        Err(NoWords::NoCommand) => NO_COMMAND,
-        Err(NoWords::Memory) => OUT_OF_MEMORY,
+        Ok(words) => do_words(rt, &words),
+        Err(NoWords::NotText) => refuse(&rt, &Mistake::NotText),
+        Err(NoWords::Memory) => {
+            let _ = eprintln!(rt; "carmuguur: out of memory");
+            OUT_OF_MEMORY
+        }
     };
-    if status != 0 && status != 65 {
-        let line = explanation(status);
-        let _ = eprintln!(rt; "carmuguur: {line}");
-    }
     ExitCode::from(status)
 }

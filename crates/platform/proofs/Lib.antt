@@ -6,3 +6,4 @@ pub mod Lines
 pub mod Pages
 pub mod ReadBack
 pub mod Runs
+mod Answering

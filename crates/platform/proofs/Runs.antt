@@ -1,19 +1,23 @@
 -- What a run does, from what its command did before the status was a number.
 use Rattle.std.proofs.Common.{◌≡◌, ◌⊎◌, inl, inr, ℕ, true, false, IsTrue, List, [], Option, Some, Result, Ok, Err, refl, sym, ap, subst, ◌∙◌, arith}
-use Rattle.std.specs.Prelude.{IfOk, IfSome, IsErrOf, is_ok}
-use Rattle.ut_keeper.specs.State.{KeeperState, Tells}
+use Rattle.std.specs.Prelude.{IfOk, IfSome, IsErrOf, is_ok, ◌==◌}
+use Rattle.std.specs.List.{list_any}
+use Rattle.ut_keeper.specs.State.{KeeperState, Steps, Tells}
 use Rattle.ut_keeper.specs.Tables.{Tables}
 use Rattle.ut_model.specs.World.{World}
 use Rattle.ut_soql.specs.Reading.{asks_for_rows}
+use Rattle.ut_serving.specs.Leads.{LeadsFrom, StandsReached}
 use Rattle.ut_stands.specs.Operations.{Leaves}
 use Rattle.ut_stands.specs.Stands.{HasKnownVersion, HasUnknownVersion, Stands}
-use Rattle.platform.specs.Commands.{Command, prints, csvq, org_add, printed}
+use Rattle.platform.specs.Commands.{Command, Printing, answers, prints, csvq, is_serving, org_add, printed}
 use Rattle.platform.specs.Deeds.{IsNext, Prints}
 use Rattle.platform.specs.OrgAdd.{org_does, org_printed, org_world}
-use Rattle.platform.specs.Run.{CrashLeaves, IsRefused, IsTold, IsWorldOf, Keeps, Runs, Seen, VersionEnds, is_done_status, is_written, status_in}
+use Rattle.platform.specs.Run.{CrashLeaves, IsRefused, IsTold, IsWorldOf, Keeps, Runs, VersionEnds, may_change, may_write, status_in, statuses_of}
+use Rattle.platform.specs.Seen.{Seen}
+use Rattle.platform.specs.Serving.{RunsAnswer}
 use Rattle.platform.specs.Stops.{IsKnownStatus, VersionStops, behind, is_done}
 use Rattle.platform.specs.declared.stop.Stop.{Stop}
-use Rattle.platform.specs.declared.stop.Stop.TheVariants.{Damaged, KeeperFailed, NoMemory, SinkFailed, SourceFailed, UnknownVersion}
+use Rattle.platform.specs.declared.stop.Stop.TheVariants.{Damaged, DoorFailed, KeeperFailed, NoMemory, SinkFailed, SourceFailed, UnknownVersion}
 
 pub csvq_runs : (a b : Seen) (command : Option Command) (query : List ℕ) (r : Result ℕ Stop) (status : ℕ) → command ≡ Some (prints (csvq query)) → status ≡ status_in r
     → ((w : World) (bytes moments : List ℕ) → IsTold (asks_for_rows query) a.left bytes → Prints w (printed (csvq query) w bytes moments) a.written b.written r w)
@@ -53,6 +57,7 @@ module _ (name secret : List ℕ) where
     keeps old new (Err NoMemory) source p h = not_keeps (Err NoMemory) (its_next w bytes moments) h
     keeps old new (Err KeeperFailed) source p h = not_keeps (Err KeeperFailed) (its_next w bytes moments) h
     keeps old new (Err SourceFailed) source p h = absurd (source refl)
+    keeps old new (Err DoorFailed) source p h = absurd p
     keeps old new (Err Damaged) source p h = absurd p
     keeps old new (Err UnknownVersion) source p h = absurd p
 
@@ -78,33 +83,67 @@ module _ (name secret : List ℕ) where
       by w bytes moments m (inl old) = inl old
       by w bytes moments m (inr s) = inr (w, org_world w name secret, its_next w bytes moments, s)
 
+-- ---- one connection
+
+pub answer_runs : (a b : Seen) (command : Option Command) (r : Result ℕ Stop) (status : ℕ) → command ≡ Some answers → status ≡ status_in r
+    → (Tells a.keeper b.keeper → (w : World) → Stands a.keeper.tables w → RunsAnswer w a b r)
+    → IfSome command (λ c. (w : World) → IsWorldOf c a.keeper b.keeper w → (r : Result ℕ Stop) × (status ≡ status_in r) × Runs c w a b r)
+answer_runs a b command r status is same h = rw is (λ w world. (r, same, by w world))
+  where
+    by : (w : World) → IsWorldOf answers a.keeper b.keeper w → RunsAnswer w a b r
+    by w (inl wrong) = absurd cc
+    by w (inr (t, s)) = h t w s
+
+-- what a run that serves leads to
+pub answer_leads : (k l : KeeperState) (command : Option Command) → command ≡ Some answers
+    → LeadsFrom k l → Steps k l
+    → IfSome command (λ c. is_serving c ≡ true → Tells k l → (w : World) → Stands k.tables w → StandsReached w l.tables)
+answer_leads k l command is h steps = rw is (λ _ told w s. ((h told.0 (steps.stood told.1) w s).tables told.1).1)
+
+pub answer_crash : (k l : KeeperState) (command : Option Command) → command ≡ Some answers
+    → LeadsFrom k l
+    → IfSome command (λ c. k.tells → IsTrue k.stands → IsTrue l.is_clean → (w : World) → Stands k.tables w → CrashLeaves c w k l)
+answer_crash k l command is h = rw is (λ tells stands clean w s m left. (h tells stands w s).crash clean m left)
+
 -- ---- statuses
 
-pub written_is : (r : Result ℕ Stop) → IsKnownStatus r → is_written (status_in r) ≡ is_done r
-written_is (Ok status) (inl e) = ap is_written e
-written_is (Ok status) (inr e) = ap is_written e
-written_is (Err NoMemory) h = refl
-written_is (Err KeeperFailed) h = refl
-written_is (Err SinkFailed) h = refl
-written_is (Err SourceFailed) h = refl
-written_is (Err Damaged) h = refl
-written_is (Err UnknownVersion) h = refl
+module _ (p : Printing) where
+  pub written_is : (r : Result ℕ Stop) → IsKnownStatus r → may_write (prints p) (status_in r) ≡ is_done r
+  written_is (Ok status) (inl e) = ap (may_write (prints p)) e
+  written_is (Ok status) (inr e) = ap (may_write (prints p)) e
+  written_is (Err NoMemory) h = refl
+  written_is (Err KeeperFailed) h = refl
+  written_is (Err SinkFailed) h = refl
+  written_is (Err SourceFailed) h = refl
+  written_is (Err DoorFailed) h = refl
+  written_is (Err Damaged) h = refl
+  written_is (Err UnknownVersion) h = refl
 
-pub kept_by : (S : Type 0) (r : Result ℕ Stop) (status : ℕ) → IsKnownStatus r → status ≡ status_in r → (is_done r ≡ false → S) → IfOk r (λ s. s ≡ 65 → S) → is_done_status status ≡ false → S
-kept_by S (Ok s) status (inl e) same kept refused wrong = absurd (true_not (sym (ap is_done_status (same ∙ e)) ∙ wrong))
-  where
-    true_not : true ≡ false → ⊥
-    true_not e = absurd cc
-kept_by S (Ok s) status (inr e) same kept refused wrong = refused e
-kept_by S (Err NoMemory) status k same kept refused wrong = kept refl
-kept_by S (Err KeeperFailed) status k same kept refused wrong = kept refl
-kept_by S (Err SinkFailed) status k same kept refused wrong = absurd (true_not (sym (ap is_done_status same) ∙ wrong))
-  where
-    true_not : true ≡ false → ⊥
-    true_not e = absurd cc
-kept_by S (Err SourceFailed) status k same kept refused wrong = kept refl
-kept_by S (Err Damaged) status k same kept refused wrong = kept refl
-kept_by S (Err UnknownVersion) status k same kept refused wrong = kept refl
+  true_not : true ≡ false → ⊥
+  true_not e = absurd cc
+
+  pub kept_by : (S : Type 0) (r : Result ℕ Stop) (status : ℕ) → IsKnownStatus r → status ≡ status_in r → (is_done r ≡ false → S) → IfOk r (λ s. s ≡ 65 → S) → may_change (prints p) status ≡ false → S
+  kept_by S (Ok s) status (inl e) same kept refused wrong = absurd (true_not (sym (ap (may_change (prints p)) (same ∙ e)) ∙ wrong))
+  kept_by S (Ok s) status (inr e) same kept refused wrong = refused e
+  kept_by S (Err NoMemory) status k same kept refused wrong = kept refl
+  kept_by S (Err KeeperFailed) status k same kept refused wrong = kept refl
+  kept_by S (Err SinkFailed) status k same kept refused wrong = absurd (true_not (sym (ap (may_change (prints p)) same) ∙ wrong))
+  kept_by S (Err SourceFailed) status k same kept refused wrong = kept refl
+  kept_by S (Err DoorFailed) status k same kept refused wrong = kept refl
+  kept_by S (Err Damaged) status k same kept refused wrong = kept refl
+  kept_by S (Err UnknownVersion) status k same kept refused wrong = kept refl
+
+  -- the status of a command that prints
+  pub is_listed : (r : Result ℕ Stop) (status : ℕ) → IsKnownStatus r → (IsErrOf r DoorFailed → ⊥) → status ≡ status_in r → IsTrue (list_any (λ s. s == status) (statuses_of (prints p)))
+  is_listed (Ok s) status (inl e) door same = rw (same, e) refl
+  is_listed (Ok s) status (inr e) door same = rw (same, e) refl
+  is_listed (Err NoMemory) status k door same = rw same refl
+  is_listed (Err KeeperFailed) status k door same = rw same refl
+  is_listed (Err SinkFailed) status k door same = rw same refl
+  is_listed (Err SourceFailed) status k door same = rw same refl
+  is_listed (Err DoorFailed) status k door same = absurd (door refl)
+  is_listed (Err Damaged) status k door same = rw same refl
+  is_listed (Err UnknownVersion) status k door same = rw same refl
 
 pub ok_is : (r : Result ℕ Stop) (status : ℕ) → status ≡ status_in r → (status ≡ 0) ⊎ (status ≡ 65) → is_ok r ≡ true
 ok_is (Ok s) status same h = refl
@@ -112,20 +151,63 @@ ok_is (Err NoMemory) status same h = absurd (omega (arith, same, h))
 ok_is (Err KeeperFailed) status same h = absurd (omega (arith, same, h))
 ok_is (Err SinkFailed) status same h = absurd (omega (arith, same, h))
 ok_is (Err SourceFailed) status same h = absurd (omega (arith, same, h))
+ok_is (Err DoorFailed) status same h = absurd (omega (arith, same, h))
 ok_is (Err Damaged) status same h = absurd (omega (arith, same, h))
 ok_is (Err UnknownVersion) status same h = absurd (omega (arith, same, h))
+
+-- what a failure's status tells
+
+pub is_72 : (r : Result ℕ Stop) (status : ℕ) → IsKnownStatus r → status ≡ status_in r → status ≡ 72 → r ≡ Err KeeperFailed
+is_72 (Ok s) status h same e = absurd (omega (arith, same, e, h))
+is_72 (Err NoMemory) status h same e = absurd (omega (arith, same, e))
+is_72 (Err KeeperFailed) status h same e = refl
+is_72 (Err SinkFailed) status h same e = absurd (omega (arith, same, e))
+is_72 (Err SourceFailed) status h same e = absurd (omega (arith, same, e))
+is_72 (Err DoorFailed) status h same e = absurd (omega (arith, same, e))
+is_72 (Err Damaged) status h same e = absurd (omega (arith, same, e))
+is_72 (Err UnknownVersion) status h same e = absurd (omega (arith, same, e))
+
+pub is_73 : (r : Result ℕ Stop) (status : ℕ) → IsKnownStatus r → status ≡ status_in r → status ≡ 73 → r ≡ Err SinkFailed
+is_73 (Ok s) status h same e = absurd (omega (arith, same, e, h))
+is_73 (Err NoMemory) status h same e = absurd (omega (arith, same, e))
+is_73 (Err KeeperFailed) status h same e = absurd (omega (arith, same, e))
+is_73 (Err SinkFailed) status h same e = refl
+is_73 (Err SourceFailed) status h same e = absurd (omega (arith, same, e))
+is_73 (Err DoorFailed) status h same e = absurd (omega (arith, same, e))
+is_73 (Err Damaged) status h same e = absurd (omega (arith, same, e))
+is_73 (Err UnknownVersion) status h same e = absurd (omega (arith, same, e))
+
+pub is_74 : (r : Result ℕ Stop) (status : ℕ) → IsKnownStatus r → status ≡ status_in r → status ≡ 74 → r ≡ Err SourceFailed
+is_74 (Ok s) status h same e = absurd (omega (arith, same, e, h))
+is_74 (Err NoMemory) status h same e = absurd (omega (arith, same, e))
+is_74 (Err KeeperFailed) status h same e = absurd (omega (arith, same, e))
+is_74 (Err SinkFailed) status h same e = absurd (omega (arith, same, e))
+is_74 (Err SourceFailed) status h same e = refl
+is_74 (Err DoorFailed) status h same e = absurd (omega (arith, same, e))
+is_74 (Err Damaged) status h same e = absurd (omega (arith, same, e))
+is_74 (Err UnknownVersion) status h same e = absurd (omega (arith, same, e))
 
 -- ---- the version
 
 abbrev OneVersion : Type 0
 OneVersion = (m : Tables) → HasKnownVersion m → HasUnknownVersion m → ⊥
 
-pub version_ends : OneVersion → (m : Tables) (r : Result ℕ Stop) (status : ℕ) → IsKnownStatus r → status ≡ status_in r → VersionStops m r → VersionEnds m status
-version_ends one m (Ok s) status (inl e) same h = record { known = λ _. h; unknown = λ wrong. absurd (omega (arith, e, same, wrong)); told = λ u. absurd (one m h u); damaged = λ wrong. absurd (omega (arith, e, same, wrong)) }
-version_ends one m (Ok s) status (inr e) same h = record { known = λ _. h; unknown = λ wrong. absurd (omega (arith, e, same, wrong)); told = λ u. absurd (one m h u); damaged = λ wrong. absurd (omega (arith, e, same, wrong)) }
-version_ends one m (Err NoMemory) status k same h = record { known = λ wrong. absurd (omega (arith, same, wrong)); unknown = λ wrong. absurd (omega (arith, same, wrong)); told = λ u. inr (inl same); damaged = λ wrong. absurd (omega (arith, same, wrong)) }
-version_ends one m (Err KeeperFailed) status k same h = record { known = λ wrong. absurd (omega (arith, same, wrong)); unknown = λ wrong. absurd (omega (arith, same, wrong)); told = λ u. inr (inr same); damaged = λ wrong. absurd (omega (arith, same, wrong)) }
-version_ends one m (Err SinkFailed) status k same h = record { known = λ _. h; unknown = λ wrong. absurd (omega (arith, same, wrong)); told = λ u. absurd (one m h u); damaged = λ wrong. absurd (omega (arith, same, wrong)) }
-version_ends one m (Err SourceFailed) status k same h = absurd h
-version_ends one m (Err Damaged) status k same h = record { known = λ wrong. absurd (omega (arith, same, wrong)); unknown = λ wrong. absurd (omega (arith, same, wrong)); told = λ u. absurd (h.0 u); damaged = λ is. h.1 }
-version_ends one m (Err UnknownVersion) status k same h = record { known = λ wrong. absurd (omega (arith, same, wrong)); unknown = λ is. h; told = λ u. inl same; damaged = λ wrong. absurd (omega (arith, same, wrong)) }
+module _ (one : OneVersion) (m : Tables) where
+  -- behind the opening
+  behind_opening : (status : ℕ) → ((status ≡ 0) ⊎ (status ≡ 65)) ⊎ ((status ≡ 73) ⊎ ((status ≡ 74) ⊎ (status ≡ 75))) → HasKnownVersion m → VersionEnds m status
+  behind_opening status is h = record { known = λ _. h; unknown = λ wrong. absurd (omega (arith, is, wrong)); told = λ u. absurd (one m h u); damaged = λ wrong. absurd (omega (arith, is, wrong)) }
+
+  -- out of memory, or the keeper failed: the version may be any
+  unknown_yet : (status : ℕ) → (status ≡ 71) ⊎ (status ≡ 72) → VersionEnds m status
+  unknown_yet status is = record { known = λ wrong. absurd (omega (arith, is, wrong)); unknown = λ wrong. absurd (omega (arith, is, wrong)); told = λ u. inr is; damaged = λ wrong. absurd (omega (arith, is, wrong)) }
+
+  pub version_ends : (r : Result ℕ Stop) (status : ℕ) → IsKnownStatus r → status ≡ status_in r → VersionStops m r → VersionEnds m status
+  version_ends (Ok s) status (inl e) same h = behind_opening status (inl (inl (same ∙ e))) h
+  version_ends (Ok s) status (inr e) same h = behind_opening status (inl (inr (same ∙ e))) h
+  version_ends (Err NoMemory) status k same h = unknown_yet status (inl same)
+  version_ends (Err KeeperFailed) status k same h = unknown_yet status (inr same)
+  version_ends (Err SinkFailed) status k same h = behind_opening status (inr (inl same)) h
+  version_ends (Err SourceFailed) status k same h = behind_opening status (inr (inr (inl same))) h
+  version_ends (Err DoorFailed) status k same h = behind_opening status (inr (inr (inr same))) h
+  version_ends (Err Damaged) status k same h = record { known = λ wrong. absurd (omega (arith, same, wrong)); unknown = λ wrong. absurd (omega (arith, same, wrong)); told = λ u. absurd (h.0 u); damaged = λ is. h.1 }
+  version_ends (Err UnknownVersion) status k same h = record { known = λ wrong. absurd (omega (arith, same, wrong)); unknown = λ is. h; told = λ u. inl same; damaged = λ wrong. absurd (omega (arith, same, wrong)) }

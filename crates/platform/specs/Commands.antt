@@ -16,6 +16,10 @@ pub data Printing : Type 0 where
 
 pub data Command : Type 0 where
   prints : Printing → Command
+  -- the messages of one connection, from the source, answered to the sink
+  answers : Command
+  -- connections of the door, so many or all that come; no words ask for it yet
+  serves : (count : ℕ) → Command
 
 -- ---- words
 
@@ -27,9 +31,13 @@ abbrev pub org_add_of : List (List ℕ) → Option Command
 org_add_of (name ∷ secret ∷ []) = Some (prints (org_add name secret))
 org_add_of _ = None
 
+abbrev pub answer_of : List (List ℕ) → Option Command
+answer_of [] = Some answers
+answer_of _ = None
+
 -- the first word of each command, and the command that the words behind it make
 abbrev pub table : List (List ℕ × (List (List ℕ) → Option Command))
-table = (codes "csvq", csvq_of) ∷ (codes "org-add", org_add_of) ∷ []
+table = (codes "csvq", csvq_of) ∷ (codes "org-add", org_add_of) ∷ (codes "answer", answer_of) ∷ []
 
 abbrev pub found_in : List (List ℕ × (List (List ℕ) → Option Command)) → List ℕ → List (List ℕ) → Option Command
 found_in [] word arguments = None
@@ -47,7 +55,7 @@ pub record Uses : Type 0 where
   pub keeper : Bool
   -- whether it looks at its input
   pub source : Bool
-  -- whether it asks the clock, which it then does once
+  -- whether it asks the clock: a command that prints asks once, a connection once for each message
   pub clock : Bool
   -- whether what it prints depends on the moment
   pub dated : Bool
@@ -58,6 +66,14 @@ uses (org_add name secret) = record { keeper = true; source = false; clock = fal
 
 abbrev pub uses_of : Command → Uses
 uses_of (prints p) = uses p
+uses_of answers = record { keeper = true; source = true; clock = true; dated = true }
+uses_of (serves count) = record { keeper = true; source = false; clock = true; dated = true }
+
+-- whether it serves connections
+abbrev pub is_serving : Command → Bool
+is_serving (prints p) = false
+is_serving answers = true
+is_serving (serves count) = true
 
 -- whether these words open the keeper
 abbrev pub opens_in : Option Command → Bool

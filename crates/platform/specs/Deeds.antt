@@ -5,7 +5,7 @@ use Rattle.std.specs.Io.KnownBytes.{Appends}
 use Rattle.ut_model.specs.World.{World}
 use Rattle.platform.specs.Printed.{PageText}
 use Rattle.platform.specs.declared.stop.Stop.{Stop}
-use Rattle.platform.specs.declared.stop.Stop.TheVariants.{Damaged, KeeperFailed, NoMemory, SinkFailed, SourceFailed, UnknownVersion}
+use Rattle.platform.specs.declared.stop.Stop.TheVariants.{Damaged, DoorFailed, KeeperFailed, NoMemory, SinkFailed, SourceFailed, UnknownVersion}
 
 -- one thing that a command does: what it writes, and the world that it leaves
 pub record Deed : Type 0 where
@@ -58,6 +58,7 @@ Prints w p old new (Err SinkFailed) end = StopsWithin p old new end
 Prints w p old new (Err NoMemory) end = StopsBefore w p old new end
 Prints w p old new (Err KeeperFailed) end = StopsBefore w p old new end
 Prints w p old new (Err SourceFailed) end = StopsBefore w p old new end
+Prints w p old new (Err DoorFailed) end = ⊥
 Prints w p old new (Err Damaged) end = ⊥
 Prints w p old new (Err UnknownVersion) end = ⊥
 

@@ -3,6 +3,8 @@ pub mod Csvq
 pub mod OrgAdd
 pub mod Deeds
 pub mod Commands
+pub mod Seen
+pub mod Serving
 pub mod Run
 pub mod Kept
 pub mod Words

@@ -3,11 +3,14 @@ use Rattle.std.specs.Prelude.{◌≡◌, ◌⊎◌, ◌==◌, ◌||◌, ℕ, Boo
 use Rattle.ut_keeper.specs.State.{KeeperState, Tells}
 use Rattle.ut_keeper.specs.Tables.{Tables}
 use Rattle.ut_model.specs.World.{World}
+use Rattle.ut_serving.specs.Leads.{StandsReached}
 use Rattle.ut_stands.specs.Stands.{HasKnownVersion, HasUnknownVersion, Stands}
-use Rattle.platform.specs.Commands.{Command, prints, printed, uses, uses_of}
+use Rattle.platform.specs.Commands.{Command, answers, prints, printed, serves, uses, uses_of}
 use Rattle.platform.specs.Deeds.{IsNext, Printed, Prints}
+use Rattle.platform.specs.Seen.{Seen}
+use Rattle.platform.specs.Serving.{RunsAnswer, RunsServe}
 use Rattle.platform.specs.declared.stop.Stop.{Stop}
-use Rattle.platform.specs.declared.stop.Stop.TheVariants.{Damaged, KeeperFailed, NoMemory, SinkFailed, SourceFailed, UnknownVersion}
+use Rattle.platform.specs.declared.stop.Stop.TheVariants.{Damaged, DoorFailed, KeeperFailed, NoMemory, SinkFailed, SourceFailed, UnknownVersion}
 
 -- ---- statuses
 
@@ -16,6 +19,7 @@ stop_status NoMemory = 71
 stop_status KeeperFailed = 72
 stop_status SinkFailed = 73
 stop_status SourceFailed = 74
+stop_status DoorFailed = 75
 stop_status Damaged = 76
 stop_status UnknownVersion = 77
 
@@ -23,26 +27,29 @@ abbrev pub status_in : Result ℕ Stop → ℕ
 status_in (Ok status) = status
 status_in (Err stop) = stop_status stop
 
-abbrev pub statuses : List ℕ
-statuses = 0 ∷ 64 ∷ 65 ∷ 71 ∷ 72 ∷ 73 ∷ 74 ∷ 76 ∷ 77 ∷ []
+-- those of each command; 64 is that of no command
+abbrev pub statuses_of : Command → List ℕ
+statuses_of (prints p) = 0 ∷ 65 ∷ 71 ∷ 72 ∷ 73 ∷ 74 ∷ 76 ∷ 77 ∷ []
+statuses_of answers = 0 ∷ 71 ∷ 72 ∷ 73 ∷ 74 ∷ 76 ∷ 77 ∷ []
+statuses_of (serves count) = 0 ∷ 71 ∷ 72 ∷ 75 ∷ 76 ∷ 77 ∷ []
 
--- the command was done, whatever became of the writing
-abbrev pub is_done_status : ℕ → Bool
-is_done_status status = (status == 0) || (status == 73)
+-- after these the tables may be others than before: something was done, whatever became of the writing
+abbrev pub may_change : Command → ℕ → Bool
+may_change (prints p) status = (status == 0) || (status == 73)
+may_change answers status = (status == 0) || ((status == 73) || (status == 74))
+may_change (serves count) status = (status == 0) || (status == 75)
 
--- its page was made: all of it, or a prefix, was written
-abbrev pub is_written : ℕ → Bool
-is_written status = (status == 0) || ((status == 65) || (status == 73))
+-- after these something may have been written to the sink
+abbrev pub may_write : Command → ℕ → Bool
+may_write (prints p) status = (status == 0) || ((status == 65) || (status == 73))
+may_write answers status = (status == 0) || ((status == 73) || (status == 74))
+may_write (serves count) status = false
+
+-- after these nothing but the opening of the tables was tried
+abbrev pub is_opening : ℕ → Bool
+is_opening status = (status == 71) || ((status == 72) || ((status == 76) || (status == 77)))
 
 -- ---- what is handed in
-
--- what is seen of it, at one moment
-pub record Seen : Type 1 where
-  pub keeper : KeeperState
-  -- what the source has left, what the sink got, and the moments that the clock will tell, if they tell it
-  pub left : Option (List ℕ)
-  pub written : Option (List ℕ)
-  pub coming : Option (List ℕ)
 
 -- this may be taken for what is told; if it isn't used, anything
 abbrev pub IsTold : Bool → Option (List ℕ) → List ℕ → Type 0
@@ -77,6 +84,8 @@ Runs (prints p) w a b r =
     (bytes moments : List ℕ) → IsTold (uses p).source a.left bytes → IsTold (uses p).dated a.coming moments
     → (end : World) × Prints w (printed p w bytes moments) a.written b.written r end
     × KeepsIf (uses p).keeper w end (IsRefused w (printed p w bytes moments) end r) a.keeper b.keeper
+Runs answers w a b r = RunsAnswer w a b r
+Runs (serves count) w a b r = RunsServe count w a b r
 
 -- a crash at the end of a run, also if the keeper is trusted no more: what it might have left before, or what stands for
 -- a world that the command leaves
@@ -84,12 +93,14 @@ abbrev pub CrashLeaves : Command → World → KeeperState → KeeperState → T
 CrashLeaves (prints p) w old new =
     (bytes moments : List ℕ) (m : Tables) → new.may_leave m
     → old.may_leave m ⊎ ((end next : World) × IsNext w (printed p w bytes moments) end next × Stands m next)
+CrashLeaves answers w old new = (m : Tables) → new.may_leave m → old.may_leave m ⊎ StandsReached w m
+CrashLeaves (serves count) w old new = (m : Tables) → new.may_leave m → old.may_leave m ⊎ StandsReached w m
 
 -- ---- the version, by the status
 
 pub record VersionEnds (m : Tables) (status : ℕ) : Type 0 where
-  -- 0, 65 and 73 tell of the known version
-  pub known : (status ≡ 0) ⊎ (status ≡ 65) ⊎ (status ≡ 73) → HasKnownVersion m
+  -- of statuses behind the opening the version is known
+  pub known : (status ≡ 0) ⊎ ((status ≡ 65) ⊎ ((status ≡ 73) ⊎ ((status ≡ 74) ⊎ (status ≡ 75)))) → HasKnownVersion m
   -- 77 tells of an unknown one
   pub unknown : status ≡ 77 → HasUnknownVersion m
   -- such is told, unless the keeper fails or memory runs out before

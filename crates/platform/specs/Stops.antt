@@ -75,7 +75,8 @@ VersionStops m (Err stop.UnknownVersion) = HasUnknownVersion m
 VersionStops m (Err stop.Damaged) = (HasUnknownVersion m → ⊥) × ((w : World) → Stands m w → ⊥)
 VersionStops m (Err stop.KeeperFailed) = Unit {0}
 VersionStops m (Err stop.NoMemory) = Unit {0}
-VersionStops m (Err stop.SourceFailed) = ⊥
+VersionStops m (Err stop.SourceFailed) = HasKnownVersion m
+VersionStops m (Err stop.DoorFailed) = HasKnownVersion m
 
 -- done, or only refused
 abbrev pub IsKnownStatus : Result ℕ Stop → Type 0

@@ -7,6 +7,8 @@ pub(crate) enum Words<'a> {
     Csvq(&'a str),
     /// `org-add NAME SECRET`
     OrgAdd(&'a str, &'a str),
+    /// `answer`
+    Answer,
     /// No command.
     Other,
 }
@@ -20,6 +22,8 @@ pub(crate) fn read_words(words: &[String]) -> Words<'_>
         Words::Csvq(words[1].as_str())
     } else if words.len() == 3 && words[0].as_bytes() == b"org-add".as_slice() {
         Words::OrgAdd(words[1].as_str(), words[2].as_str())
+    } else if words.len() == 1 && words[0].as_bytes() == b"answer".as_slice() {
+        Words::Answer
     } else {
         Words::Other
     }

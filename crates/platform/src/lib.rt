@@ -1,8 +1,8 @@
 //! The program as one call: `run` does what the words of a command line say, over what is handed in.
 //!
-//! It stands on the outside, the keeper, the tables that stand for a world, the people, the tokens of queries and the
-//! tables of CSV. Its contract: the status, the bytes written and the world afterwards are those of the definition
-//! `printed`, and every other status has its cause.
+//! It depends on the outside (`ut_io`), the keeper, the tables that stand for a world, the people, served connections, the
+//! tokens of queries and the tables of CSV. Its contract: the status, the bytes written, the connections served and the world
+//! afterwards are those of the definitions `printed` and `step`, and every other status has its cause.
 #![tactic(auto)]
 
 mod command;
@@ -11,6 +11,7 @@ mod laws;
 mod org_add;
 mod page;
 mod running;
+mod serving;
 mod stop;
 
 pub use crate::laws::printed_rows;

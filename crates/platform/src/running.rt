@@ -7,20 +7,22 @@ ghost use Rattle.ut_keeper.specs.State.{KeeperCause, Shows, StandsAfter, Steps, 
 ghost use Rattle.ut_keeper.specs.Tables.{Tables};
 ghost use Rattle.ut_model.specs.World.{World};
 ghost use Rattle.ut_soql.specs.Reading.{asks_for_rows};
+ghost use Rattle.ut_serving.specs.Leads.{StandsReached};
 ghost use Rattle.ut_stands.specs.Operations.{Leaves};
 ghost use Rattle.ut_stands.specs.Stands.{Stands};
-ghost use Rattle.platform.specs.Commands.{command_of, csvq, opens_in, org_add, printed, uses_of};
+ghost use Rattle.platform.specs.Commands.{command_of, csvq, is_serving, opens_in, org_add, printed, uses_of};
 ghost use Rattle.platform.specs.Deeds.{Prints, one_deed};
 ghost use Rattle.platform.specs.OrgAdd.{org_does};
-ghost use Rattle.platform.specs.Run.{CrashLeaves, IsTold, is_done_status, is_written, IsWorldOf, Runs, VersionEnds, status_in, statuses};
+ghost use Rattle.platform.specs.Run.{CrashLeaves, IsTold, is_opening, IsWorldOf, Runs, VersionEnds, may_change, may_write, status_in, statuses_of};
 ghost use Rattle.platform.specs.Stops.{FailsByTables, IsKnownStatus, VersionStops, behind, is_done};
 ghost use Rattle.platform.specs.declared.stop.Stop.{Stop};
-ghost use Rattle.platform.specs.declared.stop.Stop.TheVariants.{KeeperFailed, SinkFailed, SourceFailed};
+ghost use Rattle.platform.specs.declared.stop.Stop.TheVariants.{DoorFailed, KeeperFailed, SinkFailed, SourceFailed};
 
 use crate::command::{Words, read_words};
 use crate::csvq::page_of;
 use crate::org_add::org_add_page;
 use crate::page::Page;
+use crate::serving::serve_answer;
 use crate::stop::Stop;
 use std::alloc::Global;
 use ut_io::{Clock, Door, Sink, Source, write_all};
@@ -57,6 +59,7 @@ fn print_csvq<S: Source, W: Sink>(
     ensures whole { IfOk result (λ status. status ≡ 0 → IsAtEnd (S.left source.new)) }
     ensures status { IsKnownStatus result }
     ensures tables { IfErr result (λ e. FailsByTables e → ⊥) }
+    ensures door { IsErrOf result DoorFailed → ⊥ }
     ensures source_cause { Cause (S.faults source.old) (S.faults source.new) (IsErrOf result SourceFailed) }
     ensures sink_cause { Cause (W.faults sink.old) (W.faults sink.new) (IsErrOf result SinkFailed) }
     ensures source_stays { S.stays source.old source.new }
@@ -94,6 +97,7 @@ fn print_org_add<K: Keeper, W: Sink>(
     ensures unwritten { is_done result ≡ false → sink.new ≡ sink.old }
     ensures status { IsKnownStatus result }
     ensures source { IsErrOf result SourceFailed → ⊥ }
+    ensures door { IsErrOf result DoorFailed → ⊥ }
     ensures steps { Steps (K.state keeper.old) (K.state keeper.new) }
     ensures keeper_cause { KeeperCause (K.state keeper.old) (K.state keeper.new) (IsErrOf result KeeperFailed) }
     ensures sink_cause { Cause (W.faults sink.old) (W.faults sink.new) (IsErrOf result SinkFailed) }
@@ -121,19 +125,21 @@ fn status_of(ended: Result<u8, Stop>) -> u8
 /// |---|---|
 /// | `csvq QUERY` | reads a CSV text from the source, and writes its rows with their ids |
 /// | `org-add NAME SECRET` | makes an organisation, and writes its id and its administrator's |
+/// | `answer` | answers the HTTP messages of one connection, which come from the source, to the sink |
 ///
 /// | Status | When |
 /// |---|---|
-/// | 0 | the command was done; its input was read to its end |
+/// | 0 | the command was done; `csvq` has read its input to its end |
 /// | 64 | the words are no command; nothing is read or written |
 /// | 65 | the query, the input or an argument is refused; one line says so |
-/// | 71 | out of memory |
-/// | 72 | the keeper failed |
+/// | 71 | out of memory; of `answer` only before a message is read |
+/// | 72 | the keeper failed; of `answer` only before a message is read |
 /// | 73, 74 | the sink failed; the source failed |
 /// | 76 | the tables are damaged |
 /// | 77 | the tables are of a version that isn't known here |
 ///
-/// After 0, 65 and 73 the tables are what the command is to leave, and after every other status what they were.
+/// After 0, 65 and 73, and of `answer` also after 74, the tables are what the command is to leave; after every other status
+/// they are what they were.
 pub fn run<K: Keeper, D: Door, S: Source, W: Sink, C: Clock>(
     alloc: Global,
     words: &[String],
@@ -143,25 +149,31 @@ pub fn run<K: Keeper, D: Door, S: Source, W: Sink, C: Clock>(
     sink: &mut W,
     clock: &mut C,
 ) -> u8
-    // What is printed and kept.
+    // What is printed, served and kept.
     ensures no_command { (result ≡ 64) ↔ (command_of (map string_bytes words.now) ≡ None) }
-    ensures statuses { IsTrue (list_any (λ s. s == result) statuses) }
+    ensures statuses { IfSome (command_of (map string_bytes words.now)) (λ command.
+        IsTrue (list_any (λ s. s == result) (statuses_of command))) }
     ensures runs { IfSome (command_of (map string_bytes words.now)) (λ command.
         (w : World) → IsWorldOf command (K.state keeper.old) (K.state keeper.new) w
         → (r : Result ℕ Stop) × (result ≡ status_in r) × Runs command w
-        (record { keeper = K.state keeper.old; left = S.left source.old; written = W.written sink.old; coming = C.coming clock.old })
-        (record { keeper = K.state keeper.new; left = S.left source.new; written = W.written sink.new; coming = C.coming clock.new })
+        (record { keeper = K.state keeper.old; door = D.held door.old; line_faults = D.line_faults door.old; left = S.left source.old; written = W.written sink.old; coming = C.coming clock.old })
+        (record { keeper = K.state keeper.new; door = D.held door.new; line_faults = D.line_faults door.new; left = S.left source.new; written = W.written sink.new; coming = C.coming clock.new })
         r) }
 
-    // What the keeper's tables are, whatever they stand for.
-    ensures kept { Tells (K.state keeper.old) (K.state keeper.new) → is_done_status result ≡ false
-        → Shows (K.state keeper.new) (K.state keeper.old).tables }
+    // What the keeper's tables are, whatever they stand for, and whatever is told of the connections.
+    ensures kept { IfSome (command_of (map string_bytes words.now)) (λ command.
+        Tells (K.state keeper.old) (K.state keeper.new) → may_change command result ≡ false
+        → Shows (K.state keeper.new) (K.state keeper.old).tables) }
+    ensures leads { IfSome (command_of (map string_bytes words.now)) (λ command. is_serving command ≡ true
+        → Tells (K.state keeper.old) (K.state keeper.new) → (w : World) → Stands (K.state keeper.old).tables w
+        → StandsReached w (K.state keeper.new).tables) }
     ensures version { opens_in (command_of (map string_bytes words.now)) ≡ true
         → Tells (K.state keeper.old) (K.state keeper.new) → VersionEnds (K.state keeper.old).tables result }
 
     // A keeper that is trusted no more.
-    ensures acknowledged { opens_in (command_of (map string_bytes words.now)) ≡ true → (result ≡ 0) ⊎ (result ≡ 65)
-        → IsTrue (K.state keeper.new).is_clean → IsTrue (K.state keeper.new).stands }
+    ensures acknowledged { IfSome (command_of (map string_bytes words.now)) (λ command. is_serving command ≡ false
+        → (uses_of command).keeper ≡ true → (result ≡ 0) ⊎ (result ≡ 65)
+        → IsTrue (K.state keeper.new).is_clean → IsTrue (K.state keeper.new).stands) }
     ensures crash { IfSome (command_of (map string_bytes words.now)) (λ command.
         (K.state keeper.old).tells → IsTrue (K.state keeper.old).stands → IsTrue (K.state keeper.new).is_clean
         → (w : World) → Stands (K.state keeper.old).tables w → CrashLeaves command w (K.state keeper.old) (K.state keeper.new)) }
@@ -169,13 +181,16 @@ pub fn run<K: Keeper, D: Door, S: Source, W: Sink, C: Clock>(
     // What is read, written and asked for, whatever is told.
     ensures unread { IfSome (command_of (map string_bytes words.now)) (λ command.
         (uses_of command).source ≡ false → source.new ≡ source.old) }
-    ensures whole { IfSome (command_of (map string_bytes words.now)) (λ command.
-        (uses_of command).source ≡ true → result ≡ 0 → IsAtEnd (S.left source.new)) }
-    ensures unwritten { is_written result ≡ false → sink.new ≡ sink.old }
-    ensures asked { IfSome (command_of (map string_bytes words.now)) (λ command.
-        (uses_of command).clock ≡ true → AskedOnce (C.coming clock.old) (C.coming clock.new)) }
+    ensures whole { IfSome (command_of (map string_bytes words.now)) (λ command. is_serving command ≡ false
+        → (uses_of command).source ≡ true → result ≡ 0 → IsAtEnd (S.left source.new)) }
+    ensures unwritten { IfSome (command_of (map string_bytes words.now)) (λ command.
+        may_write command result ≡ false → sink.new ≡ sink.old) }
+    ensures asked { IfSome (command_of (map string_bytes words.now)) (λ command. is_serving command ≡ false
+        → (uses_of command).clock ≡ true → AskedOnce (C.coming clock.old) (C.coming clock.new)) }
     ensures unasked { IfSome (command_of (map string_bytes words.now)) (λ command.
         (uses_of command).clock ≡ false → clock.new ≡ clock.old) }
+    ensures unserved { IfSome (command_of (map string_bytes words.now)) (λ command. is_serving command ≡ true
+        → is_opening result ≡ true → (source.new ≡ source.old) × (sink.new ≡ sink.old) × (clock.new ≡ clock.old)) }
 
     // What stays as it was.
     ensures untouched { result ≡ 64 → (source.new ≡ source.old) × (sink.new ≡ sink.old) × (clock.new ≡ clock.old) }
@@ -200,6 +215,7 @@ pub fn run<K: Keeper, D: Door, S: Source, W: Sink, C: Clock>(
         Words::OrgAdd(name, secret) => {
             status_of(print_org_add(alloc, name, secret, keeper, sink))
         }
+        Words::Answer => status_of(serve_answer(alloc, keeper, source, sink, clock)),
         Words::Other => 64,
     }
 }

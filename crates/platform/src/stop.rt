@@ -9,7 +9,7 @@ use ut_stands::OpenFail;
 /// What cuts a command short.
 #[derive(Clone, Copy, Debug, PartialEq, Eq)]
 pub enum Stop {
-    /// Memory ran out.
+    /// Out of memory.
     NoMemory,
     /// The keeper failed.
     KeeperFailed,
@@ -17,6 +17,8 @@ pub enum Stop {
     SinkFailed,
     /// The source failed.
     SourceFailed,
+    /// The door failed.
+    DoorFailed,
     /// The tables are damaged.
     Damaged,
     /// The tables are of a version that isn't known here.
@@ -33,6 +35,7 @@ impl Stop {
             Stop::KeeperFailed => 72,
             Stop::SinkFailed => 73,
             Stop::SourceFailed => 74,
+            Stop::DoorFailed => 75,
             Stop::Damaged => 76,
             Stop::UnknownVersion => 77,
         }

@@ -1,13 +1,11 @@
 -- A connection has one list of items, unless its bytes end inside a target that nothing completes.
-use Rattle.std.proofs.Common.{◌≡◌, ◌⊎◌, ℕ, ◌+◌, List, [], ◌∷◌, length, drop, sym, ap, ◌∙◌, subst, inl, inr}
-use Rattle.std.proofs.lemmas.List.{drop-drop}
-use Rattle.httparse.specs.Grammar.{print_request}
+use Rattle.std.proofs.Common.{◌≡◌, ◌⊎◌, ℕ, List, [], ◌∷◌, refl, sym, subst, inl, inr}
 use Rattle.ut_http.specs.declared.message.HttpMessage.{HttpMessage}
-use Rattle.ut_http.specs.Item.{Item, whole, refused, ended, broken, IsItem, AreItems, IsOpenTarget}
+use Rattle.ut_http.specs.Item.{Item, whole, refused, ended, broken, IsItem, AreItems, IsOpenBehind, BeginWith}
 use Rattle.ut_http.proofs.Unique.{only_one}
 
 abbrev Same : List ℕ → List Item → List Item → Type 0
-Same bytes xs ys = (xs ≡ ys) ⊎ ((k : ℕ) × IsOpenTarget (drop k bytes))
+Same bytes xs ys = (xs ≡ ys) ⊎ ((ms : List HttpMessage) × IsOpenBehind bytes ms × BeginWith ms xs × BeginWith ms ys)
 
 abbrev Ends : List ℕ → Item → List Item → Type 0
 Ends bytes item items = IsItem bytes item bytes × (items ≡ [])
@@ -15,24 +13,17 @@ Ends bytes item items = IsItem bytes item bytes × (items ≡ [])
 two_ends : (bytes : List ℕ) (a b : Item) (xs ys : List Item) → Ends bytes a xs → Ends bytes b ys → Same bytes (a ∷ xs) (b ∷ ys)
 two_ends bytes a b xs ys (is, none) (are, nothing) = elim (only_one bytes a b bytes bytes is are) [
   | inl (same, here) ↦ inl cc
-  | inr target ↦ inr (0, target)
+  | inr target ↦ inr ([], target, tt, tt)
 ]
 
 -- a message is no end
 two_kinds : (bytes : List ℕ) (a b : Item) (r q : List ℕ) (xs ys : List Item) → (a ≡ b → ⊥) → IsItem bytes a r → IsItem bytes b q → Same bytes xs ys
 two_kinds bytes a b r q xs ys differ is are = elim (only_one bytes a b r q is are) [
   | inl (same, here) ↦ absurd (differ same)
-  | inr target ↦ inr (0, target)
+  | inr target ↦ inr ([], target, tt, tt)
 ]
 
--- an open target behind a message is one of the whole bytes
-open_behind : (bytes : List ℕ) (m : HttpMessage) (rest : List ℕ) (k : ℕ) → IsItem bytes (whole m) rest → IsOpenTarget (drop k rest)
-    → (j : ℕ) × IsOpenTarget (drop j bytes)
-open_behind bytes m rest k (h, has, size, is, fits, same, behind) target =
-    let n = length (print_request h) in
-    (n + size + k, subst IsOpenTarget (ap (drop k) (behind ∙ drop-drop size n bytes) ∙ drop-drop k (n + size) bytes) target)
-
-pub only_list : (bytes : List ℕ) (xs ys : List Item) → AreItems bytes xs → AreItems bytes ys → (xs ≡ ys) ⊎ ((k : ℕ) × IsOpenTarget (drop k bytes))
+pub only_list : (bytes : List ℕ) (xs ys : List Item) → AreItems bytes xs → AreItems bytes ys → Same bytes xs ys
 only_list bytes [] ys x y = absurd x
 only_list bytes (whole m ∷ xs) [] x y = absurd y
 only_list bytes (refused e ∷ xs) [] x y = absurd y
@@ -41,9 +32,9 @@ only_list bytes (broken ∷ xs) [] x y = absurd y
 only_list bytes (whole m ∷ xs) (whole n ∷ ys) (r, is, more) (q, are, others) = elim (only_one bytes (whole m) (whole n) r q is are) [
   | inl (same, here) ↦ elim (only_list r xs ys more (let P : List ℕ → Type 0 = λ b. AreItems b ys in subst P (sym here) others)) [
     | inl rest ↦ inl cc
-    | inr (k, target) ↦ inr (open_behind bytes m r k is target)
+    | inr (ms, target, front, other) ↦ inr (m ∷ ms, (r, is, target), (refl, front), (sym same, other))
   ]
-  | inr target ↦ inr (0, target)
+  | inr target ↦ inr ([], target, tt, tt)
 ]
 only_list bytes (whole m ∷ xs) (refused e ∷ ys) (r, is, more) y = two_kinds bytes (whole m) (refused e) r bytes _ _ (λ s. cc) is y.0
 only_list bytes (whole m ∷ xs) (ended ∷ ys) (r, is, more) y = two_kinds bytes (whole m) ended r bytes _ _ (λ s. cc) is y.0

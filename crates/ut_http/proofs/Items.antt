@@ -1,8 +1,10 @@
 -- From what the buffer holds to the item of the whole input.
-use Rattle.std.proofs.Common.{◌≡◌, ◌⊎◌, ℕ, ◌+◌, ◌-◌, ◌<◌, ◌≤◌, Bool, true, false, cond, nat_lt, List, ◌++◌, length, take, drop, Option, Some, None, IfSome, Result, Ok, Err, codes, refl, sym, ap, ◌∙◌, arith, subst, inl, inr, append-nil}
+use Rattle.std.proofs.Common.{◌≡◌, ◌⊎◌, ℕ, ◌+◌, ◌-◌, ◌<◌, ◌≤◌, Bool, true, false, cond, nat_lt, List, [], ◌++◌, length, take, drop, Option, Some, None, IfSome, Result, Ok, Err, codes, refl, sym, ap, ◌∙◌, arith, subst, inl, inr, append-nil}
 use Rattle.std.specs.Io.{StartsWith}
 use Rattle.std.specs.Io.KnownBytes.{Keeps, IsAtEnd, prepend_known}
 use Rattle.std.proofs.KnownBytes.{starts_with_rest}
+use Rattle.std.proofs.Transfers.{starts_with_of_append}
+use Rattle.std.proofs.lemmas.Bool.{cases_lt}
 use Rattle.std.proofs.lemmas.Bool.Decides.{nat_tests}
 use Rattle.std.proofs.lemmas.List.{nil_from_length}
 use Rattle.std.proofs.lemmas.List.{take_rest, drop-append-le, take-append-le, drop-drop, length-drop, length-append, length-take}
@@ -14,8 +16,9 @@ use Rattle.ut_http.specs.declared.message.Next.TheVariants.{Message, End, Cut}
 use Rattle.ut_http.specs.declared.parts.Head.{Head}
 use Rattle.ut_http.specs.Answer.{Between}
 use Rattle.ut_http.specs.Framing.{content_length, checked_size, needs_length, values_named, ◌>>=◌}
-use Rattle.ut_http.specs.Item.{IsUnread, HasHead, behind, size_of, lines_of}
+use Rattle.ut_http.specs.Item.{IsUnread, HasHead, behind, size_of, lines_of, window, broken, IsItem}
 use Rattle.ut_http.specs.Answer.{Answered}
+use Rattle.ut_http.specs.Reads.{IsUnfinished}
 use Rattle.ut_http.specs.Steps.{NextHead, IsRefusal}
 use Rattle.ut_http.proofs.Windows.{HasHead-append, Never-append, window_full, window_all}
 
@@ -77,6 +80,13 @@ broken_between old left bytes kept a some =
     between old left bytes bytes (λ input rest. Answered input (Ok Cut) rest) kept
     (at_end left bytes (λ input. Answered input (Ok Cut) input) a.0 (refl, inl (some, a.1, subst HasNoRequest same a.2, subst MayBecomeRequest same a.3)))
 
+-- what has come before a head may become one
+pub unfinished_head : (bytes : List ℕ) → length bytes < 16384 → HasNoRequest (window bytes) → MayBecomeRequest (window bytes) → IsUnfinished bytes
+unfinished_head bytes short none may = elim (cases_lt 0 (length bytes)) [
+  | inl some ↦ (let same = window_all bytes short in inr (refl, inl (some, short, subst HasNoRequest same none, subst MayBecomeRequest same may)))
+  | inr empty ↦ inl (refl, nil_from_length bytes (omega arith))
+]
+
 -- ---- a whole head, and its body
 
 later_head : (old new : List ℕ) (h : RequestHead) → StartsWith new old → HasHead old h → HasHead new h
@@ -87,16 +97,26 @@ later_head old new h front has =
 no_shorter : (old new : List ℕ) → StartsWith new old → length old ≤ length new
 no_shorter old new front = let size = ap length front in let least = length-take (length old) new in omega (arith, size, least)
 
-pub cut_between : (old left : Option (List ℕ)) (before bytes : List ℕ) (parts : Head) → Keeps old (prepend_known bytes left) → StartsWith bytes before
-    → NextHead before left (Ok (Some parts)) → length bytes < parts.len + parts.size → IsAtEnd left
-    → Between old (prepend_known bytes left) (λ input rest. Answered input (Ok Cut) rest)
-cut_between old left before bytes parts kept front (h, has, is, fits, small) short end =
+-- the bytes end within the body
+cut_item : (left : Option (List ℕ)) (before bytes : List ℕ) (parts : Head) → StartsWith bytes before → NextHead before left (Ok (Some parts))
+    → length bytes < parts.len + parts.size → IsItem bytes broken bytes
+cut_item left before bytes parts front (h, has, is, fits, small) short =
     let longer = no_shorter before bytes front in
     let size = length-drop (length (print_request h)) bytes in
     let len = is.len in
+    (refl, inr (h, later_head before bytes h front has, parts.size, is.size, omega (arith, longer, size, len, fits, short)))
+
+pub unfinished_body : (left : Option (List ℕ)) (before : List ℕ) (parts : Head) → NextHead before left (Ok (Some parts))
+    → (more : List ℕ) → length (before ++ more) < parts.len + parts.size → IsUnfinished (before ++ more)
+unfinished_body left before parts a more short =
+    inr (cut_item left before (before ++ more) parts (starts_with_of_append (before ++ more) before more refl) a short)
+
+pub cut_between : (old left : Option (List ℕ)) (before bytes : List ℕ) (parts : Head) → Keeps old (prepend_known bytes left) → StartsWith bytes before
+    → NextHead before left (Ok (Some parts)) → length bytes < parts.len + parts.size → IsAtEnd left
+    → Between old (prepend_known bytes left) (λ input rest. Answered input (Ok Cut) rest)
+cut_between old left before bytes parts kept front a short end =
     between old left bytes bytes (λ input rest. Answered input (Ok Cut) rest) kept
-    (at_end left bytes (λ input. Answered input (Ok Cut) input) end
-    (refl, inr (h, later_head before bytes h front has, parts.size, is.size, omega (arith, longer, size, len, fits, short))))
+    (at_end left bytes (λ input. Answered input (Ok Cut) input) end (cut_item left before bytes parts front a short))
 
 pub whole_between : (old left : Option (List ℕ)) (before bytes : List ℕ) (parts : Head) (m : HttpMessage) (rest : List ℕ) → Keeps old (prepend_known bytes left) → StartsWith bytes before
     → NextHead before left (Ok (Some parts)) → parts.len + parts.size ≤ length bytes
@@ -127,6 +147,26 @@ whole_between old left before bytes parts m rest kept front (h, has, is, fits, s
       rw (e1 ∙ is.method, e2 ∙ is.target, e3 ∙ is.bearer, e4 ∙ is.close, ← body) refl,
       sym after,
     )))
+
+-- ---- what a call answers by the bytes that have come, with no more in the source
+
+pub by_come : (bytes rest : List ℕ) (P : List ℕ → List ℕ → Type 0)
+    → ((old left : Option (List ℕ)) → IsAtEnd left → Keeps old (prepend_known bytes left) → Between old (prepend_known rest left) P) → P bytes rest
+by_come bytes rest P h = subst (P bytes) (append-nil rest) (h (Some bytes) (Some []) refl (append-nil bytes))
+
+pub failed_reads : (bytes : List ℕ) (e : HttpFail) → (e ≡ Memory) ⊎ (e ≡ Failed) → Answered bytes (Err e) bytes
+failed_reads bytes BadHead (inl h) = cc
+failed_reads bytes BadHead (inr h) = cc
+failed_reads bytes HeadTooLarge (inl h) = cc
+failed_reads bytes HeadTooLarge (inr h) = cc
+failed_reads bytes TransferEncoding (inl h) = cc
+failed_reads bytes TransferEncoding (inr h) = cc
+failed_reads bytes LengthRequired (inl h) = cc
+failed_reads bytes LengthRequired (inr h) = cc
+failed_reads bytes BodyTooLarge (inl h) = cc
+failed_reads bytes BodyTooLarge (inr h) = cc
+failed_reads bytes Failed h = refl
+failed_reads bytes Memory h = refl
 
 -- ---- the body's bound
 

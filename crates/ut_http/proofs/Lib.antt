@@ -5,5 +5,6 @@ pub mod Numbers
 pub mod Heads
 pub mod Items
 pub mod Unique
+pub mod Reading
 pub mod Callers
 pub mod Connections

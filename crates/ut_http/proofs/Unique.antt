@@ -91,7 +91,7 @@ whole_refused bytes m e r q (h, has, i, si, fi, mi, ri) (here, inl unread) = unr
 whole_refused bytes m e r q (h, has, i, si, fi, mi, ri) (here, inr (k, had, sk)) =
     let same : is_ok_number i ≡ is_fail e = sym si ∙ ap size_of (one_head bytes h k has had) ∙ sk in cc
 
-whole_broken : (bytes : List ℕ) (m : HttpMessage) (r q : List ℕ) → IsItem bytes (whole m) r → IsItem bytes broken q → ⊥
+pub whole_broken : (bytes : List ℕ) (m : HttpMessage) (r q : List ℕ) → IsItem bytes (whole m) r → IsItem bytes broken q → ⊥
 whole_broken bytes m r q (h, has, i, si, fi, mi, ri) (here, inl (some, short, none, may)) =
     let P : List ℕ → Type 0 = λ w. ReadsRequest w h has.0 in
     none h has.0 (subst P (window_all bytes short) has.1)
@@ -111,7 +111,7 @@ refused_refused bytes d e r q (x, inr (h, has, sh)) (y, inl unread) = absurd (un
 refused_refused bytes d e r q (x, inr (h, has, sh)) (y, inr (k, had, sk)) =
     inl (ap refused (same_fail d e (sym sh ∙ ap size_of (one_head bytes h k has had) ∙ sk)), x ∙ sym y)
 
-refused_broken : (bytes : List ℕ) (e : HttpFail) (r q : List ℕ) → IsItem bytes (refused e) r → IsItem bytes broken q → IsOpenTarget bytes
+pub refused_broken : (bytes : List ℕ) (e : HttpFail) (r q : List ℕ) → IsItem bytes (refused e) r → IsItem bytes broken q → IsOpenTarget bytes
 refused_broken bytes e r q (x, inl (inl (bad, never))) (y, inl (some, short, none, may)) =
     open_target bytes never (subst MayBecomeRequest (sym (window_all bytes short)) may)
 refused_broken bytes e r q (x, inl (inr (large, long, none, may))) (y, inl (some, short, none2, may2)) = absurd (omega (arith, long, short))
@@ -122,10 +122,13 @@ refused_broken bytes e r q (x, inl unread) (y, inr (k, had, j, sj, less)) = absu
 refused_broken bytes e r q (x, inr (h, has, sh)) (y, inr (k, had, j, sj, less)) =
     let same : is_fail e ≡ is_ok_number j = sym sh ∙ ap size_of (one_head bytes h k has had) ∙ sj in cc
 
-ended_refused : (bytes : List ℕ) (e : HttpFail) (q : List ℕ) → bytes ≡ [] → IsItem bytes (refused e) q → ⊥
+pub ended_refused : (bytes : List ℕ) (e : HttpFail) (q : List ℕ) → bytes ≡ [] → IsItem bytes (refused e) q → ⊥
 ended_refused bytes e q none (y, inl (inl (bad, never))) = begins (subst NeverHasRequest (ap window none) never)
 ended_refused bytes e q none (y, inl (inr (large, long, nothing, may))) = let size = ap length none in absurd (omega (arith, size, long))
 ended_refused bytes e q none (y, inr (k, had, sk)) = no_head bytes k none had
+
+pub ended_whole : (bytes : List ℕ) (m : HttpMessage) (q : List ℕ) → bytes ≡ [] → IsItem bytes (whole m) q → ⊥
+ended_whole bytes m q none (h, has, n, s, f, same, more) = no_head bytes h none has
 
 ended_broken : (bytes q : List ℕ) → bytes ≡ [] → IsItem bytes broken q → ⊥
 ended_broken bytes q none (y, inl (some, short, nothing, may)) = let size = ap length none in absurd (omega (arith, size, some))

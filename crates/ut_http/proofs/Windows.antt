@@ -1,10 +1,10 @@
 -- The bytes at hand, as the buffer grows.
-use Rattle.std.proofs.Common.{◌≡◌, ℕ, ◌+◌, ◌-◌, ◌<◌, ◌≤◌, List, ◌++◌, length, take, sym, ap, ◌∙◌, arith, min, subst}
-use Rattle.std.proofs.lemmas.List.{take_min, take_all, length-take, take-append-le}
+use Rattle.std.proofs.Common.{◌≡◌, ℕ, ◌+◌, ◌-◌, ◌<◌, ◌≤◌, List, ◌++◌, length, take, drop, sym, ap, ◌∙◌, arith, min, subst}
+use Rattle.std.proofs.lemmas.List.{take_min, take_all, length-take, length-append, take-append-le, take-append-drop}
 use Rattle.std.proofs.Common.{append_assoc, append-nil, inl, inr}
 use Rattle.std.proofs.lemmas.Bool.{cases_lt}
-use Rattle.std.proofs.Math.Seq.{take-append-add}
-use Rattle.httparse.specs.Grammar.{RequestHead, ReadsRequest, NeverHasRequest}
+use Rattle.std.proofs.Math.Seq.{take-append-add, take-append_seam}
+use Rattle.httparse.specs.Grammar.{RequestHead, ReadsRequest, NeverHasRequest, print_request}
 use Rattle.httparse.proofs.GrammarLemmas.{ReadsRequest-append}
 use Rattle.ut_http.specs.Item.{HasHead}
 use Rattle.ut_http.specs.Item.{window}
@@ -39,6 +39,21 @@ HasHead-append xs ys h (rest, reads) =
     let more = take (16384 - length xs) ys in
     let P : List ℕ → Type 0 = λ w. ReadsRequest w h (rest ++ more) in
     (rest ++ more, subst P (sym (window_append xs ys)) (ReadsRequest-append (window xs) h rest more reads))
+
+-- a head within the bytes that come before others
+pub HasHead-shorter : (xs ys : List ℕ) (h : RequestHead) → HasHead (xs ++ ys) h → length (print_request h) ≤ length xs → HasHead xs h
+HasHead-shorter xs ys h (rest, reads) enough =
+    let n = length (print_request h) in
+    let text : window (xs ++ ys) ≡ print_request h ++ rest = reads.1 in
+    let whole = ap length text in
+    let parts = length-append (print_request h) rest in
+    let most = window_size (xs ++ ys) in
+    let size = length-take 16384 xs in
+    let within : n ≤ length (window xs) = omega (arith, whole, parts, most, size, enough) in
+    let front : take n (window xs) ≡ print_request h
+    = sym (take-append-le n (window xs) (take (16384 - length xs) ys) within)
+    ∙ ap (take n) (sym (window_append xs ys) ∙ text) ∙ take-append_seam (print_request h) rest in
+    (drop n (window xs), (reads.0, sym (take-append-drop n (window xs)) ∙ ap (λ k. k ++ drop n (window xs)) front))
 
 pub Never-append : (xs ys : List ℕ) → NeverHasRequest (window xs) → NeverHasRequest (window (xs ++ ys))
 Never-append xs ys never more h rest reads =

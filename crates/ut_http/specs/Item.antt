@@ -76,3 +76,14 @@ AreItems bytes (whole message ∷ items) = (rest : List ℕ) × IsItem bytes (wh
 AreItems bytes (refused e ∷ items) = IsItem bytes (refused e) bytes × (items ≡ [])
 AreItems bytes (ended ∷ items) = IsItem bytes ended bytes × (items ≡ [])
 AreItems bytes (broken ∷ items) = IsItem bytes broken bytes × (items ≡ [])
+
+-- these whole messages stand at the front of the bytes, and behind them the exception
+abbrev pub IsOpenBehind : List ℕ → List HttpMessage → Type 0
+IsOpenBehind bytes [] = IsOpenTarget bytes
+IsOpenBehind bytes (message ∷ messages) = (rest : List ℕ) × IsItem bytes (whole message) rest × IsOpenBehind rest messages
+
+-- the items begin with these messages
+abbrev pub BeginWith : List HttpMessage → List Item → Type 0
+BeginWith [] items = Unit {0}
+BeginWith (message ∷ messages) [] = ⊥
+BeginWith (message ∷ messages) (item ∷ items) = (item ≡ whole message) × BeginWith messages items

@@ -2,6 +2,7 @@
 pub mod Framing
 pub mod Item
 pub mod Answer
+pub mod Reads
 pub mod Reply
 -- what inner functions answer
 pub mod Found

@@ -1,6 +1,6 @@
 -- What the inner functions of a call answer of the bytes in the buffer and those left in the source.
-use Rattle.std.specs.Prelude.{◌≡◌, ◌⊎◌, ℕ, ◌<◌, ◌≤◌, Bool, true, false, List, Option, Some, None, length, Result, Ok, Err, ⊤}
-use Rattle.std.specs.Io.KnownBytes.{IsAtEnd}
+use Rattle.std.specs.Prelude.{◌≡◌, ◌⊎◌, ℕ, ◌<◌, ◌≤◌, ◌++◌, Bool, true, false, List, Option, Some, None, length, Result, Ok, Err, ⊤}
+use Rattle.std.specs.Io.KnownBytes.{Consumes, IsAtEnd}
 use Rattle.httparse.specs.Grammar.{RequestHead, HasNoRequest, NeverHasRequest, MayBecomeRequest}
 use Rattle.httparse.specs.Spans.{IsRequestWithin, IsRequestOf}
 use Rattle.httparse.specs.declared.spans.RequestSpans.{RequestSpans}
@@ -10,6 +10,14 @@ use Rattle.ut_http.specs.declared.fail.HttpFail.TheVariants.{BadHead, HeadTooLar
 use Rattle.ut_http.specs.declared.parts.Head.{Head}
 use Rattle.ut_http.specs.Item.{window, HasHead, IsUnread, size_of}
 use Rattle.ut_http.specs.Parts.{IsHeadOf}
+use Rattle.ut_http.specs.Reads.{read_limit}
+
+-- one read put a piece behind the bytes
+pub record HasPiece (old new : List ℕ) (before now : Option (List ℕ)) : Type 0 where
+  pub piece : List ℕ
+  pub size : length piece ≤ read_limit
+  pub taken : Consumes before now piece
+  pub more : new ≡ old ++ piece
 
 -- whether so many bytes have come, or the source is at its end before
 abbrev pub IsFilled : Bool → ℕ → List ℕ → Option (List ℕ) → Type 0

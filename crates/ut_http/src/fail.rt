@@ -19,7 +19,7 @@ pub enum HttpFail {
     BodyTooLarge,
     /// The source failed.
     Failed,
-    /// Memory ran out.
+    /// Out of memory.
     Memory,
 }
 

@@ -1,6 +1,7 @@
 ghost use Rattle.std.specs.Prelude.{◌≡◌, length, IsErrOf};
 ghost use Rattle.std.specs.Io.KnownBytes.{Keeps, prepend_known};
 ghost use Rattle.ut_value.specs.Causes.{Cause};
+ghost use Rattle.ut_http.specs.Reads.{IsUnfinished, Reads};
 ghost use Rattle.ut_http.specs.Steps.{HeadAnswer};
 ghost use Rattle.ut_http.specs.declared.fail.HttpFail.TheVariants.{Failed};
 
@@ -22,6 +23,7 @@ pub(crate) fn read_head<S: Source>(
     requires { length lines.old ≡ HEAD_LIMIT }
     ensures kept { Keeps (prepend_known bytes.old.items (S.left source.old)) (prepend_known bytes.new.items (S.left source.new)) }
     ensures answer { HeadAnswer bytes.new.items (S.left source.new) lines.new result }
+    ensures reads { Reads S.left IsUnfinished bytes.old.items source.old bytes.new.items source.new }
     ensures stays { S.stays source.old source.new }
     ensures cause { Cause (S.faults source.old) (S.faults source.new) (IsErrOf result Failed) }
 {

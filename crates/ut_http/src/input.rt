@@ -1,8 +1,9 @@
-ghost use Rattle.std.specs.Prelude.{◌≡◌, ◌+◌, ◌⊎◌, vec_len, IfOk, IfErr, IsErrOf};
+ghost use Rattle.std.specs.Prelude.{◌≡◌, ◌<◌, ◌+◌, ◌⊎◌, length, vec_len, IfOk, IfErr, IsErrOf};
 ghost use Rattle.std.specs.Io.{StartsWith};
 ghost use Rattle.std.specs.Io.KnownBytes.{Keeps, IsAtEnd, prepend_known};
 ghost use Rattle.ut_value.specs.Causes.{Cause};
-ghost use Rattle.ut_http.specs.Steps.{IsFilled};
+ghost use Rattle.ut_http.specs.Reads.{Reads};
+ghost use Rattle.ut_http.specs.Steps.{HasPiece, IsFilled};
 ghost use Rattle.ut_http.specs.declared.fail.HttpFail.TheVariants.{Failed, Memory};
 
 use crate::fail::HttpFail;
@@ -16,6 +17,7 @@ const CHUNK: usize = 4096;
 pub(crate) fn read_more<S: Source>(source: &mut S, bytes: &mut Vec<u8>) -> Result<usize, HttpFail>
     ensures kept { Keeps (prepend_known bytes.old.items (S.left source.old)) (prepend_known bytes.new.items (S.left source.new)) }
     ensures front { StartsWith bytes.new.items bytes.old.items }
+    ensures step { HasPiece bytes.old.items bytes.new.items (S.left source.old) (S.left source.new) }
     ensures grown { IfOk result (λ n. vec_len bytes.new ≡ vec_len bytes.old + n) }
     ensures end { IfOk result (λ n. n ≡ 0 → IsAtEnd (S.left source.new) × (bytes.new.items ≡ bytes.old.items)) }
     ensures stays { S.stays source.old source.new }
@@ -37,6 +39,7 @@ pub(crate) fn fill<S: Source>(
 ) -> Result<bool, HttpFail>
     ensures kept { Keeps (prepend_known bytes.old.items (S.left source.old)) (prepend_known bytes.new.items (S.left source.new)) }
     ensures front { StartsWith bytes.new.items bytes.old.items }
+    ensures reads { Reads S.left (λ seen. length seen < end) bytes.old.items source.old bytes.new.items source.new }
     ensures filled { IfOk result (λ full. IsFilled full end bytes.new.items (S.left source.new)) }
     ensures stays { S.stays source.old source.new }
     ensures cause { Cause (S.faults source.old) (S.faults source.new) (IsErrOf result Failed) }

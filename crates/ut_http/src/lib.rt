@@ -1,8 +1,8 @@
 //! Messages of HTTP/1.1 out of bytes, and replies as bytes.
 //!
-//! It stands on `ut_value` and `ut_io`, and on the grammar of request heads that `httparse` states. Its contract:
+//! It depends on `ut_value` and `ut_io`, and on the grammar of request heads that `httparse` states. Its contract:
 //! `next_message` answers the item at the front of what the buffer and the source hold together, however reads cut the
-//! bytes, and leaves what stands behind it.
+//! bytes, leaves what stands behind it, and reads only where what has come ends between messages or within one.
 #![tactic(auto)]
 
 mod close;

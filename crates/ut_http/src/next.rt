@@ -1,8 +1,13 @@
-ghost use Rattle.std.specs.Prelude.{◌≡◌, [], length, IfOk, IsErrOf};
+ghost use Rattle.std.specs.Prelude.{◌≡◌, ◌<◌, ◌⊎◌, [], List, ℕ, length, IfOk, IsErrOf};
 ghost use Rattle.std.specs.Io.KnownBytes.{Keeps, prepend_known};
 ghost use Rattle.ut_value.specs.Causes.{Cause};
 ghost use Rattle.ut_http.specs.Answer.{Answered, Between};
+ghost use Rattle.ut_http.specs.Item.{IsItem, IsOpenTarget, refused, whole};
+ghost use Rattle.ut_http.specs.Reads.{AnswersAtHand, IsUnfinished, Reads, ReadsToAnswer, read_limit};
 ghost use Rattle.ut_http.specs.Steps.{NextHead};
+ghost use Rattle.ut_http.specs.declared.fail.HttpFail.{HttpFail};
+ghost use Rattle.ut_http.specs.declared.message.HttpMessage.{HttpMessage};
+ghost use Rattle.ut_http.specs.declared.message.Next.TheVariants.{Message};
 ghost use Rattle.ut_http.specs.declared.fail.HttpFail.TheVariants.{Failed};
 
 use crate::fail::HttpFail;
@@ -26,6 +31,7 @@ fn next_head<S: Source>(
     requires { length lines.old ≡ HEAD_LIMIT }
     ensures kept { Keeps (prepend_known bytes.old.items (S.left source.old)) (prepend_known bytes.new.items (S.left source.new)) }
     ensures answer { NextHead bytes.new.items (S.left source.new) result }
+    ensures reads { Reads S.left IsUnfinished bytes.old.items source.old bytes.new.items source.new }
     ensures stays { S.stays source.old source.new }
     ensures cause { Cause (S.faults source.old) (S.faults source.new) (IsErrOf result Failed) }
 {
@@ -45,6 +51,7 @@ fn take<S: Source>(
 ) -> Result<Next, HttpFail>
     requires { length lines.old ≡ HEAD_LIMIT }
     ensures answer { Between (prepend_known bytes.old.items (S.left source.old)) (prepend_known bytes.new.items (S.left source.new)) (λ input rest. Answered input result rest) }
+    ensures reads { ReadsToAnswer S.left bytes.old.items source.old source.new result bytes.new.items }
     ensures stays { S.stays source.old source.new }
     ensures cause { Cause (S.faults source.old) (S.faults source.new) (IsErrOf result Failed) }
 {
@@ -93,7 +100,7 @@ impl Buffer {
     ///
     /// # Errors
     ///
-    /// Where memory runs out.
+    /// When out of memory.
     pub fn new(alloc: Global) -> Result<Self, AllocError>
         ensures { IfOk result (λ buffer. buffer ≡ []) }
     {
@@ -110,7 +117,7 @@ impl Buffer {
 ///
 /// # Errors
 ///
-/// The first refusal of what came, `Failed` where the source fails, `Memory` where memory runs out. Nothing of the input
+/// The first refusal of what came, `Failed` where the source fails, `Memory` when out of memory. Nothing of the input
 /// is lost then.
 pub fn next_message<S: Source>(
     alloc: Global,
@@ -119,6 +126,18 @@ pub fn next_message<S: Source>(
 ) -> Result<Next, HttpFail>
     // The item at the front of the input, and what is left behind it, however reads cut the bytes.
     ensures answer { Between (prepend_known buffer.old (S.left source.old)) (prepend_known buffer.new (S.left source.new)) (λ input rest. Answered input result rest) }
+    // A whole message in the buffer is the answer without a read.
+    ensures at_hand { (m : HttpMessage) (rest : List ℕ) → IsItem buffer.old (whole m) rest
+        → AnswersAtHand buffer.old source.old source.new result buffer.new }
+    // So is a refusal, but for the exception.
+    ensures refused_at_hand { (e : HttpFail) → IsItem buffer.old (refused e) buffer.old
+        → IsOpenTarget buffer.old ⊎ AnswersAtHand buffer.old source.old source.new result buffer.new }
+    // Each read is made where what has come ends between messages or within one, and all that has come gives the
+    // answer. A source doesn't count its reads: several pass for one if they give no more bytes than one may.
+    ensures reads { ReadsToAnswer S.left buffer.old source.old source.new result buffer.new }
+    // Behind a message for which it read, less stays in the buffer than one read may give.
+    ensures read_ahead { (m : HttpMessage) → result ≡ Ok (Message m)
+        → (source.new ≡ source.old) ⊎ (length buffer.new < read_limit) }
     ensures stays { S.stays source.old source.new }
     ensures cause { Cause (S.faults source.old) (S.faults source.new) (IsErrOf result Failed) }
 {

@@ -48,7 +48,7 @@ fn close_line(close: bool) -> &'static str
 ///
 /// # Errors
 ///
-/// Where memory runs out.
+/// When out of memory.
 pub fn reply_bytes(
     alloc: Global,
     status: u16,
@@ -79,7 +79,7 @@ pub fn unavailable(close: bool) -> &'static [u8]
     }
 }
 
-/// The whole reply where memory ran out. It takes no memory.
+/// The whole reply when out of memory. It takes no memory.
 pub fn out_of_memory(close: bool) -> &'static [u8]
     ensures { result.now ≡ reply 507 no_memory close }
 {

@@ -35,6 +35,3 @@ pub use crate::memory_source::MemorySource;
 pub use crate::standard::{StdSink, StdSource};
 pub use crate::traits::{IoFail, Sink, Source};
 pub use crate::whole::write_all;
-
-#[cfg(test)]
-mod tests;

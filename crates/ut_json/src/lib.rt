@@ -1,7 +1,7 @@
 //! JSON read and written exactly: a decimal never passes through a float.
 //!
-//! It stands on `ut_value` alone. Its contract: `read` answers a value exactly where `Spells` of `specs/Grammar.antt`
-//! says that the bytes spell it, and that one, unless memory runs out; and what a `Writer` writes for a value spells it.
+//! It depends on `ut_value` alone. Its contract: `read` answers a value exactly where `Spells` of `specs/Grammar.antt`
+//! says that the bytes spell it, and that one, unless out of memory; and what a `Writer` writes for a value spells it.
 #![tactic(auto)]
 
 mod amount;
@@ -24,7 +24,7 @@ pub use crate::writer::{Mark, Writer};
 pub enum JsonFail {
     /// The bytes aren't a JSON text of at most 32 brackets open at once.
     NotJson,
-    /// Memory ran out.
+    /// Out of memory.
     Memory,
 }
 
@@ -38,6 +38,3 @@ impl From<std::alloc::AllocError> for JsonFail {
         JsonFail::Memory
     }
 }
-
-#[cfg(test)]
-mod tests;

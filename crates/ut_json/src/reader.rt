@@ -260,11 +260,11 @@ fn characters(alloc: Global, text: &str) -> Result<Vec<char>, AllocError>
 ///
 /// # Errors
 ///
-/// `NotJson` where they spell no value, and `Memory` where memory runs out.
+/// `NotJson` where they spell no value, and `Memory` when out of memory.
 pub fn read(alloc: Global, bytes: &[u8]) -> Result<Json, JsonFail>
     // What is read is spelled so.
     ensures spelled { IfOk result (λ value. Spells bytes.now value) }
-    // What is spelled so is read, unless memory runs out.
+    // What is spelled so is read, unless out of memory.
     ensures only { (value : Json) → Spells bytes.now value → (result ≡ Ok value) ⊎ (result ≡ Err Memory) }
 {
     match str::from_utf8(bytes) {

@@ -36,7 +36,7 @@ fn mark_of(mark: Mark) -> char
 
 /// A JSON text as it grows, seen as the bytes so far.
 ///
-/// Each call adds exactly its bytes, or fails where memory runs out and leaves the writer as it was. The
+/// Each call adds exactly its bytes, or fails when out of memory and leaves the writer as it was. The
 /// writer doesn't look at what it has written: the caller sets the marks.
 #[derive(Debug, Drop)]
 pub struct Writer {
@@ -73,7 +73,7 @@ impl Writer {
     ///
     /// # Errors
     ///
-    /// Where memory runs out, as in each of these calls.
+    /// When out of memory, as in each of these calls.
     pub fn null(&mut self, _alloc: Global) -> Result<(), AllocError>
         ensures ok { OnOk result (self.new ≡ self.old ++ printed_null) }
         ensures err { OnErr result (self.new ≡ self.old) }

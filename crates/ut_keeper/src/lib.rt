@@ -26,6 +26,3 @@ pub use crate::laws::{draft_laws, key_laws, walk_laws};
 pub use crate::memory::MemoryKeeper;
 pub use crate::paged::{all_rows, next_key};
 pub use crate::prefix::prefix_ends;
-
-#[cfg(test)]
-mod tests;

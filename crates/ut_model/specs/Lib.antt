@@ -7,3 +7,5 @@ pub mod World
 pub mod Sound
 pub mod Organisations
 pub mod Callers
+pub mod Routing
+pub mod Step

@@ -1,9 +1,12 @@
 //! The bodies of replies that refuse.
 
-ghost use Rattle.std.specs.Prelude.{◌≡◌, ◌++◌, IfOk, OnOk, codes};
+ghost use Rattle.std.specs.Prelude.{◌≡◌, ◌++◌, IfOk, IsTrue, OnOk, codes};
 ghost use Rattle.ut_model.specs.Bodies.{body_of, damaged_body, quoted, refusal_body};
+ghost use Rattle.ut_model.specs.Refusals.{is_refusal_status};
+ghost use Rattle.ut_model.specs.Step.{refusal_reply};
 
 use crate::refusal::Refusal;
+use crate::reply::Reply;
 use std::alloc::{AllocError, Global};
 use ut_json::{Mark, Writer};
 use ut_value::Bytes;
@@ -40,7 +43,7 @@ fn body_of(alloc: Global, message: &str, code: &str) -> Result<Bytes, AllocError
 ///
 /// # Errors
 ///
-/// Where memory runs out.
+/// When out of memory.
 pub fn damaged_body(alloc: Global) -> Result<Bytes, AllocError>
     ensures { IfOk result (λ b. b ≡ damaged_body) }
 {
@@ -52,11 +55,26 @@ impl Refusal {
     ///
     /// # Errors
     ///
-    /// Where memory runs out.
+    /// When out of memory.
     pub fn body(&self, alloc: Global) -> Result<Bytes, AllocError>
         ensures { IfOk result (λ b. b ≡ refusal_body self.now) }
     {
         let message = self.message(alloc)?;
         body_of(alloc, message.as_str(), self.code())
+    }
+
+    /// The reply that refuses so.
+    ///
+    /// # Errors
+    ///
+    /// When out of memory.
+    pub fn reply(&self, alloc: Global) -> Result<Reply, AllocError>
+        ensures value { IfOk result (λ r. r ≡ refusal_reply self.now) }
+        ensures known { IfOk result (λ r. IsTrue (is_refusal_status r.status)) }
+    {
+        Ok(Reply {
+            status: self.status(),
+            body: self.body(alloc)?,
+        })
     }
 }

@@ -1,9 +1,10 @@
-//! The model: what an organisation is, who calls it, and how a request is refused or answered, as plain types and
+//! The model: what an organisation is, who calls it, what a request asks for and what it is answered, as plain types and
 //! definitions.
 //!
-//! It stands on `ut_value`, on `ut_json` for the bodies of refusals, and on `sha2` for the digest of a secret. Its
-//! contract: a refusal's code, status, message and body are those of the definitions, and so are the ids of organisations
-//! and of their first users.
+//! It depends on `ut_value`, on `ut_json` for the bodies of refusals, on `sha2` for the digest of a secret, and, for the text
+//! of a query in a target, on `form_urlencoded` and `ut_soql`. Its contract: a refusal's code, status, message and body are
+//! those of the definitions, and so are the ids of organisations and of their first users; the step of the world is a
+//! function of the organisation that the message's key names.
 #![tactic(auto)]
 
 mod body;
@@ -16,6 +17,8 @@ mod record;
 mod refusal;
 mod reply;
 mod route;
+mod routed;
+mod steps;
 
 pub use crate::body::damaged_body;
 pub use crate::caller::Caller;
@@ -26,6 +29,5 @@ pub use crate::record::Record;
 pub use crate::refusal::Refusal;
 pub use crate::reply::Reply;
 pub use crate::route::Route;
-
-#[cfg(test)]
-mod tests;
+pub use crate::routed::Routed;
+pub use crate::steps::{step_laws, step_rows};

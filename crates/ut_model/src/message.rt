@@ -72,7 +72,7 @@ impl Refusal {
     ///
     /// # Errors
     ///
-    /// Where memory runs out.
+    /// When out of memory.
     pub fn message(&self, alloc: Global) -> Result<String, AllocError>
         ensures { IfOk result (λ text. string_bytes text ≡ message_of self.now) }
     {

@@ -8,7 +8,7 @@ use std::alloc::{AllocError, AllocFailed};
 pub enum CodecFail {
     /// The key or the row isn't in its table's grammar.
     Damaged,
-    /// Memory ran out.
+    /// Out of memory.
     Memory,
 }
 

@@ -93,7 +93,7 @@ fn caller_with<K: Keeper>(
 ///
 /// # Errors
 ///
-/// `Keeper` where the keeper failed, `Memory` where memory ran out, `Damaged` never where the tables stand for a world.
+/// `Keeper` where the keeper failed, `Memory` when out of memory, `Damaged` never where the tables stand for a world.
 pub fn caller<K: Keeper>(
     alloc: Global,
     draft: &mut Draft<'_, K>,

@@ -1,6 +1,6 @@
 //! People: new organisations with their administrators, and who calls.
 //!
-//! It stands on `ut_stands`. Its contract: tables that stand for a world stand, once an organisation is added, for the
+//! It depends on `ut_stands`. Its contract: tables that stand for a world stand, once an organisation is added, for the
 //! world with it at its end; and the caller of a key is the definition's.
 #![tactic(auto)]
 

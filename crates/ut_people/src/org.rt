@@ -14,7 +14,7 @@ ghost use Rattle.ut_stands.specs.Stands.{Stands, org_of, user_of};
 use crate::admission::digest_of;
 use std::alloc::{AllocError, Global};
 use ut_keeper::{Draft, Keeper, draft_laws};
-use ut_keys::{OrgRow, StoreFail, UserRow, VersionRow, put};
+use ut_keys::{OrgRow, StoreFail, UserRow, VersionRow, put, table_laws};
 use ut_model::{Limit, Refusal, first_user_id, name_laws};
 use ut_stands::{EditFail, KNOWN_VERSION, organisations, stands_laws};
 use ut_value::{Text, id_laws};
@@ -87,7 +87,7 @@ fn put_rows<K: Keeper>(
 /// # Errors
 ///
 /// `Refused` with `LimitExceeded` exactly where there are 10,000 organisations; nothing is then changed. `Store` with
-/// `Keeper` where the keeper failed, with `Memory` where memory ran out, with `Damaged` never where the tables stand for
+/// `Keeper` where the keeper failed, with `Memory` when out of memory, with `Damaged` never where the tables stand for
 /// a world.
 pub fn add_org<K: Keeper>(
     alloc: Global,
@@ -107,7 +107,9 @@ pub fn add_org<K: Keeper>(
     ensures cause { KeeperCause (state_of K.state draft.old) (state_of K.state draft.new) (KeeperFailsEdit result) }
 {
     draft_laws::<K>();
+    table_laws();
     stands_laws();
+    id_laws();
     let count = match organisations(alloc, draft) {
         Ok(count) => count,
         Err(fail) => return Err(EditFail::Store(fail)),

@@ -1,7 +1,8 @@
 //! Query texts: their tokens.
 //!
-//! It stands on the texts and lists of `ut_value`. Its contract: a text's tokens are those that the relation `AreTokens`
-//! gives it, with the byte at which each begins; every text has tokens, and only one list of them.
+//! It depends on the texts and lists of `ut_value`. Its contract: a text's tokens are those that the relation `AreTokens`
+//! gives it, with the byte at which each begins; every text has tokens, and only one list of them. Of the grammar it knows
+//! the one form `SELECT Id, Name FROM OBJECT`, whose object `asked_object` returns.
 #![tactic(auto)]
 
 mod asking;
@@ -12,10 +13,7 @@ mod marks;
 mod quoted;
 mod token;
 
-pub use crate::asking::asks_for_rows;
+pub use crate::asking::{asked_object, asks_for_rows};
 pub use crate::laws::{asking_rows, token_laws};
 pub use crate::lexer::tokens;
 pub use crate::token::{Mark, Piece, Placed, Token};
-
-#[cfg(test)]
-mod tests;

@@ -2,4 +2,4 @@ pub mod Names
 pub mod Opened
 pub mod Versions
 pub mod Users
-pub mod Added
+pub mod Parts

@@ -2,7 +2,7 @@
 use Rattle.std.proofs.Common.{◌≡◌, ℕ, zero, suc, ◌^◌, ◌<◌, Bool, true, false, cond, IsTrue, List, [], ◌∷◌, Option, Some, None, refl, sym, ap, subst, ◌∙◌}
 use Rattle.std.specs.Prelude.{Result, Ok, Err, slice_get}
 use Rattle.std.specs.List.{AllByRecursion}
-use Rattle.std.specs.Option.{option_map}
+use Rattle.std.specs.Option.{option_and_then, option_map}
 use Rattle.std.specs.FinMap as map
 use Rattle.std.specs.Str.{bytes_eq}
 use Rattle.std.proofs.lemmas.Slice.Eq.{bytes_eq-Decides}
@@ -20,7 +20,7 @@ use Rattle.ut_model.specs.Tenant as model
 use Rattle.ut_model.specs.Tenant.{Tenant}
 use Rattle.ut_model.specs.World.{World, tenant_at, user_at, user_in, users_in, user_prefix}
 use Rattle.ut_stands.specs.Reads.{FindsAs}
-use Rattle.ut_stands.specs.Stands.{Stands, row_at, user_of, user_row_at}
+use Rattle.ut_stands.specs.Stands.{Stands, row_at, row_in, user_of}
 use Rattle.ut_stands.proofs.Names.{MakesIds, NamesAreShort, NamesAreTexts, drawn_is_id, name_fits, role_is_id}
 
 -- what is read is what stands there, as `ut_keys` says
@@ -45,7 +45,8 @@ found_sound counter roles (v ∷ us) i u h e = by (λ f. found_sound counter rol
     by rest false same = rest (sym (ap (λ b. cond b (Some v) (user_at us i)) same) ∙ e)
 
 -- the row of a user's key, in the world
-row_is : (org : ℕ) (i : List ℕ) (t : Option Tenant) → user_row_at org i t ≡ option_map (row_bytes user_form) (option_map (user_of org) (user_at (users_in t) i))
+row_is : (org : ℕ) (i : List ℕ) (t : Option Tenant) → option_and_then (λ x. row_in x (User org i)) t ≡ option_map (row_bytes user_form) (option_map (user_of org) (user_at (users_in t) i))
+unfolding row_in
 row_is org i None = refl
 row_is org i (Some t) = twice (user_at t.users i)
   where

@@ -1,9 +1,9 @@
 -- What tables have at each key where they stand for a world.
 -- Source of the tables: C. D. Weissman and S. Bobrowski, "The Design of the Force.com Multitenant Internet Application
 -- Development Platform" (SIGMOD 2009): all organisations' rows stand in the same few tables, each under its organisation.
-use Rattle.std.specs.Prelude.{true, ◌≡◌, ◌≢◌, ◌⊎◌, ℕ, Bool, false, if◌then◌else◌, List, [], length, Option, Some, None}
+use Rattle.std.specs.Prelude.{true, ◌≡◌, ◌≢◌, ◌⊎◌, ℕ, nat_eq, Bool, false, if◌then◌else◌, List, [], length, Option, Some, None}
 use Rattle.std.specs.List.{AllByRecursion}
-use Rattle.std.specs.Option.{option_map, option_and_then}
+use Rattle.std.specs.Option.{option_map, option_and_then, option_eq}
 use Rattle.std.specs.FinMap as map
 use Rattle.ut_keeper.specs.Tables.{Tables}
 use Rattle.ut_keys.specs.declared.version.VersionRow.{VersionRow}
@@ -11,7 +11,7 @@ use Rattle.ut_keys.specs.declared.org.OrgRow.{OrgRow}
 use Rattle.ut_keys.specs.declared.user.UserRow.{UserRow}
 use Rattle.ut_keys.specs.Forms.{row_bytes, FitsForm}
 use Rattle.ut_keys.specs.Holds.{Holds}
-use Rattle.ut_keys.specs.Keys.{Key, Version, Org, User, spell}
+use Rattle.ut_keys.specs.Keys.{Key, Version, Org, Object, Field, Job, User, Role, Group, Validation, Sharing, Data, Index, Unique, Relation, Owner, Share, Grant, spell}
 use Rattle.ut_keys.specs.Rows.{version_form, org_form, user_form}
 use Rattle.ut_model.specs.Sound.{IsWorld}
 use Rattle.ut_model.specs.Tenant as model
@@ -61,18 +61,40 @@ user_of n u = record { org = n; id = u.id; name = u.name; digest = u.digest; rol
 abbrev pub version_at : Plan → World → Option (List ℕ)
 version_at p w = if p.opened then Some (row_bytes version_form (version_of w)) else None
 
-abbrev pub org_at : ℕ → Option Tenant → Option (List ℕ)
-org_at n t = option_map (λ x. row_bytes org_form (org_of n x)) t
+-- the number of the organisation whose key it is. The key of the version is of no organisation
+abbrev pub owner_of : Key → Option ℕ
+owner_of Version = None
+owner_of (Org org) = Some org
+owner_of (Object org object) = Some org
+owner_of (Field org object field) = Some org
+owner_of (Job org) = Some org
+owner_of (User org id) = Some org
+owner_of (Role org id) = Some org
+owner_of (Group org id) = Some org
+owner_of (Validation org object name) = Some org
+owner_of (Sharing org name) = Some org
+owner_of (Data org object id) = Some org
+owner_of (Index org object slot value id) = Some org
+owner_of (Unique org object slot value) = Some org
+owner_of (Relation org object slot target id) = Some org
+owner_of (Owner org object owner id) = Some org
+owner_of (Share org id to) = Some org
+owner_of (Grant org to object id cause) = Some org
 
-abbrev pub user_row_at : ℕ → List ℕ → Option Tenant → Option (List ℕ)
-user_row_at n i t = option_and_then (λ x. option_map (λ u. row_bytes user_form (user_of n u)) (user_at x.users i)) t
+-- the row at a key of an organisation that is this tenant, if there is one. What isn't written yet has none
+unfoldable pub row_in : Tenant → Key → Option (List ℕ)
+row_in t (Org n) = Some (row_bytes org_form (org_of n t))
+row_in t (User n i) = option_map (λ u. row_bytes user_form (user_of n u)) (user_at t.users i)
+row_in t _ = None
 
--- the row at a key, if there is one. What isn't written yet has none
+-- the row at a key, if there is one: the version's, or that of the organisation whose key it is
 unfoldable pub row_at : Plan → World → Key → Option (List ℕ)
 row_at p w Version = version_at p w
-row_at p w (Org n) = org_at n (tenant_at w n)
-row_at p w (User n i) = user_row_at n i (tenant_at w n)
-row_at p w _ = None
+row_at p w k = option_and_then (λ t. row_in t k) (option_and_then (tenant_at w) (owner_of k))
+
+-- the rows once the organisation with this number is this tenant: at its keys those of the tenant, elsewhere these
+abbrev pub rows_with : ℕ → Tenant → (Key → Option (List ℕ)) → Key → Option (List ℕ)
+rows_with n t rows k = if option_eq nat_eq (owner_of k) (Some n) then row_in t k else rows k
 
 -- ---- the whole
 

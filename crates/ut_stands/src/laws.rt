@@ -1,16 +1,16 @@
-ghost use Rattle.std.specs.Prelude.{◌≡◌, ◌+◌, ◌<◌, ℕ, List, [], ◌∷◌, ◌++◌, Some, None, IsTrue, codes, length};
-ghost use Rattle.std.specs.FinMap as map;
+ghost use Rattle.std.specs.Prelude.{◌≡◌, ◌+◌, ◌<◌, ℕ, List, [], ◌∷◌, ◌++◌, Some, None, codes, length};
 ghost use Rattle.ut_keeper.specs.Tables.{Tables, no_rows};
-ghost use Rattle.ut_keys.specs.Keys.{Org, User, Version, spell};
-ghost use Rattle.ut_keys.specs.Forms.{row_bytes};
-ghost use Rattle.ut_keys.specs.Rows.{org_form, user_form, version_form};
-ghost use Rattle.ut_model.specs.Organisations.{administrator, first_user, fresh, with_org};
-ghost use Rattle.ut_model.specs.Sound.{is_name};
-ghost use Rattle.ut_model.specs.World.{World};
-ghost use Rattle.ut_stands.specs.Stands.{HasKnownVersion, HasUnknownVersion, Stands, closed, opened, org_of, row_at, user_of, version_of};
+ghost use Rattle.ut_keys.specs.Holds.{Holds, with_row};
+ghost use Rattle.ut_keys.specs.Keys.{Key, Org, User, Version};
+ghost use Rattle.ut_model.specs.declared.limit.Limit.TheVariants as limit;
+ghost use Rattle.ut_model.specs.Limits.{limit_number};
+ghost use Rattle.ut_model.specs.Organisations.{with_org};
+ghost use Rattle.ut_model.specs.Sound.{IsSound};
+ghost use Rattle.ut_model.specs.Tenant.{Tenant};
+ghost use Rattle.ut_model.specs.World.{World, tenant_at, with_tenant};
+ghost use Rattle.ut_stands.specs.Stands.{HasKnownVersion, HasUnknownVersion, HasUsersAlone, Plan, Stands, StandsBy, all_tables, closed, opened, owner_of, row_at, row_in, rows_with, version_at};
 
 use ut_keys::{VersionRow, row_laws, table_laws};
-use ut_value::id_laws;
 
 /// The laws of tables that stand for a world. The call does nothing.
 pub fn stands_laws()
@@ -21,18 +21,26 @@ pub fn stands_laws()
     ensures known { (m : Tables) (w : World) → Stands m w → HasKnownVersion m }
     ensures one_version { (m : Tables) → HasKnownVersion m → HasUnknownVersion m → ⊥ }
 
-    // The three rows of a new organisation, put into tables that stand for a world.
-    ensures added { (m : Tables) (w : World) (name digest : List ℕ) (n : ℕ)
-        → Stands m w → n ≡ length w + 1 → length w < 10000 → IsTrue (is_name name) → length digest ≡ 32
-        → Stands (map.insert (map.insert (map.insert m
-        (spell Version) (row_bytes version_form (version_of (with_org w name digest))))
-        (spell (Org n)) (row_bytes org_form (org_of n (fresh name digest))))
-        (spell (User n first_user)) (row_bytes user_form (user_of n (administrator name digest))))
-        (with_org w name digest) }
+    // At the keys of an organisation are the rows of its tenant, and past the last organisation there are none.
+    ensures own { (p : Plan) (w : World) (n : ℕ) (t : Tenant) (k : Key)
+        → tenant_at w n ≡ Some t → owner_of k ≡ Some n → row_at p w k ≡ row_in t k }
+    ensures past { (p : Plan) (w : World) (k : Key) → owner_of k ≡ Some (length w + 1) → row_at p w k ≡ None }
+
+    // Tables that also have the rows of one more organisation, and the version's row.
+    ensures appended { (m after : Tables) (w : World) (t : Tenant)
+        → Stands m w → length w < limit_number limit.Organisations → IsSound t → HasUsersAlone t
+        → ((p : Plan) → StandsBy p m w → Holds all_tables after
+        (with_row Version (version_at opened (w ++ t ∷ [])) (rows_with (length w + 1) t (row_at p w))))
+        → Stands after (w ++ t ∷ []) }
+
+    // Tables that have the rows of another tenant in place of those of an organisation.
+    ensures changed { (m after : Tables) (w : World) (n : ℕ) (t u : Tenant)
+        → Stands m w → tenant_at w n ≡ Some t → IsSound u → HasUsersAlone u
+        → ((p : Plan) → StandsBy p m w → Holds all_tables after (rows_with n u (row_at p w)))
+        → Stands after (with_tenant w n u) }
 {
     table_laws();
     row_laws::<VersionRow>();
-    id_laws();
 }
 
 /// The rows of the first organisation, worked by hand. The call does nothing.

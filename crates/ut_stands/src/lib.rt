@@ -1,7 +1,7 @@
 //! What it means that tables stand for a world, and the reads and writes of typed rows that all operations share.
 //!
-//! It stands on `ut_model` and `ut_keys`. Its contract: what is read of tables that stand for a world is what the world
-//! has there, and the rows of a new part make tables that stand for the world with it.
+//! It depends on `ut_model` and `ut_keys`. Its contract: what is read of tables that stand for a world is what the world
+//! has there, and tables with the rows of a new or changed organisation stand for the world with it.
 #![tactic(auto)]
 
 mod ending;

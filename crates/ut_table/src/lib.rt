@@ -16,6 +16,3 @@ mod read;
 pub use crate::fail::TableFail;
 pub use crate::laws::table_rows;
 pub use crate::read::read_table;
-
-#[cfg(test)]
-mod tests;

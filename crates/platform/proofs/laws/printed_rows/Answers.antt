@@ -8,7 +8,7 @@ use Rattle.csv.proofs.OnLiterals.{csv_on_literals}
 use Rattle.ut_value.specs.Numerals.{is_digit}
 use Rattle.ut_soql.specs.Tokens as tokens
 use Rattle.ut_soql.specs.Tokens.{is_letter, in_word, in_run, begins_run, class_of, single, double}
-use Rattle.ut_soql.specs.Reading.{mark_len, token_len, mark_token, token_of, front_len, token_at, tokens_of, is_word, is_comma, are_asking, asks_for_rows}
+use Rattle.ut_soql.specs.Reading.{mark_len, token_len, mark_token, token_of, front_len, token_at, tokens_of, is_word, is_comma, word_in, asked_in, asked_object, is_named, asks_for_rows}
 use Rattle.ut_model.specs.Organisations.{is_secret}
 use Rattle.ut_model.specs.Sound.{is_name}
 use Rattle.ut_value.specs.Digits as numbers
@@ -17,5 +17,5 @@ use Rattle.platform.specs.Csvq.{lines}
 use Rattle.platform.proofs.laws.printed_rows.Goals as goal
 
 pub returns : goal.returns
-unfolding csv_on_literals digits chars is_utf8 encode field_at escaped fields_text is_blank lines made numbers.digits is_digit tokens.is_blank is_letter in_word in_run begins_run class_of single double mark_len token_len mark_token token_of front_len token_at tokens_of is_word is_comma are_asking asks_for_rows is_name is_secret
+unfolding csv_on_literals digits chars is_utf8 encode field_at escaped fields_text is_blank lines made numbers.digits is_digit tokens.is_blank is_letter in_word in_run begins_run class_of single double mark_len token_len mark_token token_of front_len token_at tokens_of is_word is_comma word_in asked_in asked_object is_named asks_for_rows is_name is_secret
 returns c = record { rows = refl; quoted = refl; none = refl; heading = refl; query = refl; first = refl; second = refl; name = refl; secret = refl }

@@ -4,6 +4,9 @@ use Rattle.httparse.specs.Grammar.{HasNoRequest, NeverHasRequest, MayBecomeReque
 use Rattle.ut_http.specs.Item.{window}
 use Rattle.ut_http.proofs.Sizes.{never_too_many}
 use Rattle.ut_http.proofs.Windows.{window_at_hand, window_size}
+use Rattle.std.proofs.KnownBytes.{Keeps-trans}
+use Rattle.ut_http.proofs.Items.{unfinished_head}
+use Rattle.ut_http.proofs.Reading.{and_piece}
 use Rattle.ut_http.proofs.head.read_head.Goals as goal
 
 pub returns-in-Ok-Complete-clause-answer : goal.returns-in-Ok-Complete-clause-answer
@@ -34,3 +37,34 @@ returns-in-Err-clause-answer g c =
     let w = window_at_hand c.loop-spans.bytes.items c.deref.result.now c.min-hand.result c.deref.ensures.value (search rules) in
     let v = c.in-Err.ensures.invalid in
     subst NeverHasRequest w (v (λ e. never_too_many _ _ (rw w (window_size _)) (let room = c.loop-spans.invariant.room in omega arith) (c.in-Err.ensures.too_many (ap Err e))))
+
+pub returns-in_err-read_more-in-Ok-Partial-clause-reads :
+    goal.returns-in_err-read_more-in-Ok-Partial-clause-reads
+returns-in_err-read_more-in-Ok-Partial-clause-reads g c =
+    let w = window_at_hand c.loop-spans.bytes.items c.deref.result.now c.min-hand.result c.deref.ensures.value (search rules) in
+    let none = subst HasNoRequest w (rw c.in-Ok-Partial.field-0-is at c.in-Ok-Partial.ensures.partial) in
+    let may = subst MayBecomeRequest w (rw c.in-Ok-Partial.field-0-is at c.in-Ok-Partial.ensures.unfinished) in
+    let known = c.loop-spans.bytes.ok.0 in
+    and_piece _ _ _ c.loop-spans.bytes.items _ _ c.loop-spans.source _ c.loop-spans.invariant.reads (unfinished_head c.loop-spans.bytes.items (omega (arith, known)) none may) c.read_more.ensures.step
+
+pub returns-then-branch-eq0-clause-reads : goal.returns-then-branch-eq0-clause-reads
+returns-then-branch-eq0-clause-reads g c =
+    let w = window_at_hand c.loop-spans.bytes.items c.deref.result.now c.min-hand.result c.deref.ensures.value (search rules) in
+    let none = subst HasNoRequest w (rw c.in-Ok-Partial.field-0-is at c.in-Ok-Partial.ensures.partial) in
+    let may = subst MayBecomeRequest w (rw c.in-Ok-Partial.field-0-is at c.in-Ok-Partial.ensures.unfinished) in
+    let known = c.loop-spans.bytes.ok.0 in
+    and_piece _ _ _ c.loop-spans.bytes.items _ _ c.loop-spans.source _ c.loop-spans.invariant.reads (unfinished_head c.loop-spans.bytes.items (omega (arith, known)) none may) c.read_more.ensures.step
+
+pub loop-spans-preserved : goal.loop-spans-preserved
+loop-spans-preserved g c =
+    let w = window_at_hand c.loop-spans.bytes.items c.deref.result.now c.min-hand.result c.deref.ensures.value (search rules) in
+    let none = subst HasNoRequest w (rw c.in-Ok-Partial.field-0-is at c.in-Ok-Partial.ensures.partial) in
+    let may = subst MayBecomeRequest w (rw c.in-Ok-Partial.field-0-is at c.in-Ok-Partial.ensures.unfinished) in
+    let known = c.loop-spans.bytes.ok.0 in
+    record {
+      kept = Keeps-trans _ _ _ c.loop-spans.invariant.kept c.read_more.ensures.kept;
+      room = search rules;
+      stays = g.met.S.Source.stays_trans _ _ _ c.loop-spans.invariant.stays c.read_more.ensures.stays;
+      reads = and_piece _ _ _ c.loop-spans.bytes.items _ _ c.loop-spans.source _ c.loop-spans.invariant.reads (unfinished_head c.loop-spans.bytes.items (omega (arith, known)) none may) c.read_more.ensures.step;
+      later = (let a = c.loop-spans.invariant.later in let b = c.read_more.ensures.cause.later in omega (arith, a, b));
+    }

@@ -1,6 +1,7 @@
-use Rattle.std.proofs.Common.{◌≤◌, ◌-◌, vec_len}
+use Rattle.std.proofs.Common.{◌≤◌, ◌<◌, ◌-◌, length, vec_len}
 use Rattle.std.specs.Io.{StartsWith}
 use Rattle.std.specs.Io.KnownBytes.{Keeps, prepend_known}
+use Rattle.ut_http.specs.Reads.{Reads}
 use Rattle.ut_http.proofs.input.fill.Given as goal
 
 abbrev pub invariant-loop-source : goal.invariant-loop-source
@@ -11,6 +12,7 @@ invariant-loop-source g l =
       kept : Keeps (prepend_known l.fn.bytes.items (left l.fn.source)) (prepend_known l.bytes.items (left l.source));
       front : StartsWith l.bytes.items l.fn.bytes.items;
       stays : g.S.Source.stays l.fn.source l.source;
+      reads : Reads left (λ seen. length seen < l.end) l.fn.bytes.items l.fn.source l.bytes.items l.source;
       later : faults l.fn.source ≤ faults l.source;
     }
 

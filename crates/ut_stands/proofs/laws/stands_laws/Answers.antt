@@ -1,10 +1,10 @@
-use Rattle.ut_stands.proofs.Added.{empty_stands, org_added}
+use Rattle.ut_stands.proofs.Parts as parts
 use Rattle.ut_stands.proofs.Versions.{known, not_both}
 use Rattle.ut_stands.specs.Stands.{all_tables}
 use Rattle.ut_stands.proofs.laws.stands_laws.Goals as goal
 
 pub returns-clause-empty : goal.returns-clause-empty
-returns-clause-empty c = empty_stands c.table_laws.ensures.same (c.table_laws.ensures.empty all_tables)
+returns-clause-empty c = parts.empty_stands c.table_laws.ensures.same (c.table_laws.ensures.empty all_tables)
 
 pub returns-clause-known : goal.returns-clause-known
 returns-clause-known c m w s = known m w s
@@ -12,6 +12,14 @@ returns-clause-known c m w s = known m w s
 pub returns-clause-one_version : goal.returns-clause-one_version
 returns-clause-one_version c m k u = not_both c.row_laws.ensures.one m k u
 
-pub returns-clause-added : goal.returns-clause-added
-returns-clause-added c m w name digest n s is few good size =
-    org_added c.table_laws.ensures.put c.table_laws.ensures.same c.id_laws.ensures.made m w name digest n s is few good size
+pub returns-clause-own : goal.returns-clause-own
+returns-clause-own c p w n t k at e = parts.own p w n t k at e
+
+pub returns-clause-past : goal.returns-clause-past
+returns-clause-past c p w k e = parts.past p w k e
+
+pub returns-clause-appended : goal.returns-clause-appended
+returns-clause-appended c m after w t s few sound alone holds = parts.appended c.table_laws.ensures.same m after w t s few sound alone holds
+
+pub returns-clause-changed : goal.returns-clause-changed
+returns-clause-changed c m after w n t u s at sound alone holds = parts.changed c.table_laws.ensures.same m after w n t u s at sound alone holds

@@ -1,0 +1,70 @@
+ghost use Rattle.std.specs.Prelude.{◌≡◌, ◌==◌, ℕ, IsErrOf, IsTrue, Option, false, true};
+ghost use Rattle.std.specs.List.{list_any};
+ghost use Rattle.ut_io.specs.Doors.{DoorState};
+ghost use Rattle.ut_keeper.specs.State.{KeeperCause, Shows, Steps, Tells};
+ghost use Rattle.ut_model.specs.World.{World};
+ghost use Rattle.ut_serving.specs.Leads.{LeadsFrom};
+ghost use Rattle.ut_stands.specs.Stands.{Stands};
+ghost use Rattle.ut_value.specs.Causes.{Cause};
+ghost use Rattle.platform.specs.Commands.{answers};
+ghost use Rattle.platform.specs.Run.{is_opening, may_change, status_in, statuses_of};
+ghost use Rattle.platform.specs.Serving.{RunsAnswer, answer_end};
+ghost use Rattle.platform.specs.Stops.{IsKnownStatus, VersionStops};
+ghost use Rattle.platform.specs.declared.stop.Stop.TheVariants.{KeeperFailed, SinkFailed, SourceFailed};
+
+use crate::stop::Stop;
+use std::alloc::Global;
+use ut_io::{Clock, Sink, Source};
+use ut_keeper::Keeper;
+use ut_serving::{LineFail, Pair, connection, serving_laws};
+use ut_stands::{open_tables, stands_laws};
+
+// How a run ends by the end of its one connection.
+fn answer_end(ended: Result<(), LineFail>) -> Result<u8, Stop>
+    ensures { result ≡ answer_end ended }
+{
+    match ended {
+        Ok(()) => Ok(0),
+        Err(LineFail::Read) => Err(Stop::SourceFailed),
+        Err(LineFail::Write) => Err(Stop::SinkFailed),
+    }
+}
+
+/// Answers the messages of one connection, which come from the source, to the sink.
+pub(crate) fn serve_answer<K: Keeper, S: Source, W: Sink, C: Clock>(
+    alloc: Global,
+    keeper: &mut K,
+    source: &mut S,
+    sink: &mut W,
+    clock: &mut C,
+) -> Result<u8, Stop>
+    ensures runs { Tells (K.state keeper.old) (K.state keeper.new) → (w : World) → Stands (K.state keeper.old).tables w
+        → (door : Option DoorState) (faults : ℕ) → RunsAnswer w
+        (record { keeper = K.state keeper.old; door = door; line_faults = faults; left = S.left source.old; written = W.written sink.old; coming = C.coming clock.old })
+        (record { keeper = K.state keeper.new; door = door; line_faults = faults; left = S.left source.new; written = W.written sink.new; coming = C.coming clock.new })
+        result }
+    ensures leads { LeadsFrom (K.state keeper.old) (K.state keeper.new) }
+    ensures kept { Tells (K.state keeper.old) (K.state keeper.new) → may_change answers (status_in result) ≡ false
+        → Shows (K.state keeper.new) (K.state keeper.old).tables }
+    ensures version { Tells (K.state keeper.old) (K.state keeper.new) → VersionStops (K.state keeper.old).tables result }
+    ensures statuses { IsTrue (list_any (λ s. s == status_in result) (statuses_of answers)) }
+    ensures status { IsKnownStatus result }
+    ensures unserved { is_opening (status_in result) ≡ true
+        → (source.new ≡ source.old) × (sink.new ≡ sink.old) × (clock.new ≡ clock.old) }
+    ensures steps { Steps (K.state keeper.old) (K.state keeper.new) }
+    ensures keeper_cause { KeeperCause (K.state keeper.old) (K.state keeper.new) (IsErrOf result KeeperFailed) }
+    ensures source_cause { Cause (S.faults source.old) (S.faults source.new) (IsErrOf result SourceFailed) }
+    ensures sink_cause { Cause (W.faults sink.old) (W.faults sink.new) (IsErrOf result SinkFailed) }
+    ensures source_stays { S.stays source.old source.new }
+    ensures sink_stays { W.stays sink.old sink.new }
+{
+    stands_laws();
+    serving_laws::<K>();
+    match open_tables(alloc, keeper) {
+        Ok(()) => {
+            let mut wire = Pair::new(source, sink);
+            answer_end(connection(alloc, keeper, &mut wire, clock))
+        }
+        Err(fail) => Err(Stop::from(fail)),
+    }
+}

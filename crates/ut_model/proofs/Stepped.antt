@@ -1,0 +1,176 @@
+-- The step of the world: who is found, and what changes.
+use Rattle.std.proofs.Common.{◌≡◌, ℕ, zero, suc, Bool, true, false, cond, List, [], ◌∷◌, Option, Some, None, refl, sym, ap, subst, ◌∙◌}
+use Rattle.std.specs.Option.{option_and_then, option_map}
+use Rattle.std.specs.Prelude.{encode_utf8_all}
+use Rattle.std.specs.Str.{bytes_eq}
+use Rattle.sha2.specs.Sha256.{sha256}
+use Rattle.ut_model.specs.declared.caller.Caller.{Caller}
+use Rattle.ut_model.specs.declared.refusal.Refusal.TheVariants as refusal
+use Rattle.ut_model.specs.declared.reply.Reply.{Reply}
+use Rattle.ut_model.specs.Callers.{Named, admitted, caller_in, caller_of, named}
+use Rattle.ut_model.specs.Step.{Message, answered, caller_by, if_called, in_named, in_org, in_tenant, named_in, org_named, own, refusal_reply, step}
+use Rattle.ut_model.specs.Tenant.{Tenant, User}
+use Rattle.ut_model.specs.World.{World, tenant_at, user_at, with_tenant}
+
+abbrev no_session : Reply
+no_session = refusal_reply refusal.InvalidSession
+
+-- ---- one organisation in place of another
+
+-- the same in its place changes nothing
+same_put : (w : World) (n : ℕ) (t : Tenant) → tenant_at w n ≡ Some t → with_tenant w n t ≡ w
+same_put w zero t e = absurd cc
+same_put [] (suc n) t e = absurd cc
+same_put (u ∷ w) (suc zero) t e = ap (λ x. x ∷ w) (sym (some_eq u t e))
+  where
+    some_eq : (a b : Tenant) → ◌≡◌ {A = Option Tenant} (Some a) (Some b) → a ≡ b
+    some_eq a b e = ap (λ (o : Option Tenant). from a o) e
+      where
+        from : Tenant → Option Tenant → Tenant
+        from d None = d
+        from d (Some x) = x
+same_put (u ∷ w) (suc (suc n)) t e = ap (λ x. u ∷ x) (same_put w (suc n) t e)
+
+-- it is found at its place
+put_found : (w : World) (n : ℕ) (t u : Tenant) → tenant_at w n ≡ Some u → tenant_at (with_tenant w n t) n ≡ Some t
+put_found w zero t u e = absurd cc
+put_found [] (suc n) t u e = absurd cc
+put_found (x ∷ w) (suc zero) t u e = refl
+put_found (x ∷ w) (suc (suc n)) t u e = put_found w (suc n) t u e
+
+-- and the others at theirs
+put_other : (w : World) (n m : ℕ) (t : Tenant) → (n ≡ m → ⊥) → tenant_at (with_tenant w n t) m ≡ tenant_at w m
+put_other w zero m t apart = refl
+put_other [] (suc n) m t apart = refl
+put_other (x ∷ w) (suc zero) zero t apart = refl
+put_other (x ∷ w) (suc zero) (suc zero) t apart = absurd (apart refl)
+put_other (x ∷ w) (suc zero) (suc (suc m)) t apart = refl
+put_other (x ∷ w) (suc (suc n)) zero t apart = refl
+put_other (x ∷ w) (suc (suc n)) (suc zero) t apart = refl
+put_other (x ∷ w) (suc (suc n)) (suc (suc m)) t apart = put_other w (suc n) (suc m) t (λ e. apart (ap suc e))
+
+-- ---- who is found
+
+-- a caller is of the organisation that is named
+org_of_caller : (n : Named) (t : Tenant) (c : Caller) → caller_of n t ≡ Some c → c.org ≡ n.org
+org_of_caller n t c e = by (user_at t.users n.user) e
+  where
+    named_org : ℕ → Option Caller → ℕ
+    named_org d None = d
+    named_org d (Some x) = x.org
+
+    admits : (u : User) (b : Bool) → cond b (Some (record { org = n.org; user = u.id; admin = u.admin })) None ≡ Some c → c.org ≡ n.org
+    admits u true e = sym (ap (λ (o : Option Caller). named_org n.org o) e)
+    admits u false e = absurd cc
+
+    by : (o : Option User) → option_and_then (admitted n) o ≡ Some c → c.org ≡ n.org
+    by None e = absurd cc
+    by (Some u) e = admits u (bytes_eq u.digest (sha256 n.secret)) e
+
+-- the caller by what a key names
+abbrev found_by : World → Option Named → Option Caller
+found_by w o = option_and_then (λ n. option_and_then (caller_of n) (tenant_at w n.org)) o
+
+-- the same two, by the bearer
+by_bearer : (w : World) (b : Option (List ℕ)) → option_and_then (λ key. caller_in w (encode_utf8_all key)) b ≡ found_by w (option_and_then (λ key. named (encode_utf8_all key)) b)
+by_bearer w None = refl
+by_bearer w (Some key) = refl
+
+module _ (w : World) (m : Message) (now : ℕ) where
+  called_in : (n : Named) (c : Caller) (o : Option Tenant) → option_and_then (caller_of n) o ≡ Some c
+      → in_tenant w n.org (own n m now) o ≡ in_tenant w n.org (answered c m now) o
+  called_in n c None e = absurd cc
+  called_in n c (Some t) e = ap (λ (x : Option Caller). ((if_called m now x t).0, with_tenant w n.org (if_called m now x t).1)) e
+
+  caller_org : (n : Named) (c : Caller) (o : Option Tenant) → option_and_then (caller_of n) o ≡ Some c → c.org ≡ n.org
+  caller_org n c None e = absurd cc
+  caller_org n c (Some t) e = org_of_caller n t c e
+
+  called_by : (o : Option Named) (c : Caller) → found_by w o ≡ Some c → in_named w m now o ≡ in_org w c.org (answered c m now)
+  called_by None c e = absurd cc
+  called_by (Some n) c e =
+      called_in n c (tenant_at w n.org) e
+      ∙ ap (λ k. in_org w k (answered c m now)) (sym (caller_org n c (tenant_at w n.org) e))
+
+  pub called : (c : Caller) → caller_by w m ≡ Some c → step w m now ≡ in_org w c.org (answered c m now)
+  unfolding step
+  called c e = called_by (named_in m) c (sym (by_bearer w m.bearer) ∙ e)
+
+  uncalled_in : (n : Named) (o : Option Tenant) → tenant_at w n.org ≡ o → option_and_then (caller_of n) o ≡ None → in_tenant w n.org (own n m now) o ≡ (no_session, w)
+  uncalled_in n None at e = refl
+  uncalled_in n (Some t) at e =
+      ap (λ (x : Option Caller). ((if_called m now x t).0, with_tenant w n.org (if_called m now x t).1)) e
+      ∙ ap (λ (v : World). (no_session, v)) (same_put w n.org t at)
+
+  uncalled_by : (o : Option Named) → found_by w o ≡ None → in_named w m now o ≡ (no_session, w)
+  uncalled_by None e = refl
+  uncalled_by (Some n) e = uncalled_in n (tenant_at w n.org) refl e
+
+  pub uncalled : caller_by w m ≡ None → step w m now ≡ (refusal_reply refusal.InvalidSession, w)
+  unfolding step
+  uncalled e = uncalled_by (named_in m) (sym (by_bearer w m.bearer) ∙ e)
+
+-- ---- what leaves an organisation as it is
+
+-- the organisation of a caller is there
+module _ (w : World) (m : Message) where
+  there_by : (o : Option Named) (c : Caller) → found_by w o ≡ Some c → (t : Tenant) × (tenant_at w c.org ≡ Some t)
+  there_by None c e = absurd cc
+  there_by (Some n) c e = by (tenant_at w n.org) refl e
+    where
+      by : (o : Option Tenant) → tenant_at w n.org ≡ o → option_and_then (caller_of n) o ≡ Some c → (t : Tenant) × (tenant_at w c.org ≡ Some t)
+      by None at e = absurd cc
+      by (Some t) at e = (t, ap (λ k. tenant_at w k) (org_of_caller n t c e) ∙ at)
+
+  pub unchanged : (c : Caller) (does : Tenant → Reply × Tenant) (r : Reply) → caller_by w m ≡ Some c → ((t : Tenant) → does t ≡ (r, t)) → in_org w c.org does ≡ (r, w)
+  unchanged c does r e same =
+      let h = there_by (named_in m) c (sym (by_bearer w m.bearer) ∙ e) in
+      let t = h.0 in
+      ap (λ (o : Option Tenant). in_tenant w c.org does o) h.1
+      ∙ ap (λ (p : Reply × Tenant). (p.0, with_tenant w c.org p.1)) (same t)
+      ∙ ap (λ (v : World). (r, v)) (same_put w c.org t h.1)
+
+-- ---- one organisation and the others
+
+module _ (m : Message) (now org : ℕ) where
+  own_in : (w v : World) (does : Tenant → Reply × Tenant) (o : Option Tenant) → tenant_at w org ≡ o → tenant_at v org ≡ o
+      → ((in_tenant w org does o).0 ≡ (in_tenant v org does o).0) × (tenant_at (in_tenant w org does o).1 org ≡ tenant_at (in_tenant v org does o).1 org)
+  own_in w v does None e f = (refl, e ∙ sym f)
+  own_in w v does (Some t) e f = (refl, put_found w org (does t).1 t e ∙ sym (put_found v org (does t).1 t f))
+
+  same_org : (w v : World) (does : Tenant → Reply × Tenant) → tenant_at w org ≡ tenant_at v org
+      → ((in_org w org does).0 ≡ (in_org v org does).0) × (tenant_at (in_org w org does).1 org ≡ tenant_at (in_org v org does).1 org)
+  same_org w v does e =
+      subst (λ (o : Option Tenant). ((in_org w org does).0 ≡ (in_tenant v org does o).0) × (tenant_at (in_org w org does).1 org ≡ tenant_at (in_tenant v org does o).1 org)) e
+      (own_in w v does (tenant_at w org) refl (sym e))
+
+  own_named : (w v : World) (o : Option Named) → option_map (λ n. n.org) o ≡ Some org → tenant_at w org ≡ tenant_at v org
+      → ((in_named w m now o).0 ≡ (in_named v m now o).0) × (tenant_at (in_named w m now o).1 org ≡ tenant_at (in_named v m now o).1 org)
+  own_named w v None e same = absurd cc
+  own_named w v (Some n) e same =
+      subst (λ k. ((in_org w k (own n m now)).0 ≡ (in_org v k (own n m now)).0) × (tenant_at (in_org w k (own n m now)).1 org ≡ tenant_at (in_org v k (own n m now)).1 org))
+      (sym (some_eq n.org org e)) (same_org w v (own n m now) same)
+    where
+      some_eq : (a b : ℕ) → ◌≡◌ {A = Option ℕ} (Some a) (Some b) → a ≡ b
+      some_eq a b e = ap (λ (o : Option ℕ). from a o) e
+        where
+          from : ℕ → Option ℕ → ℕ
+          from d None = d
+          from d (Some x) = x
+
+  pub own_alone : (w v : World) → org_named m ≡ Some org → tenant_at w org ≡ tenant_at v org
+      → ((step w m now).0 ≡ (step v m now).0) × (tenant_at (step w m now).1 org ≡ tenant_at (step v m now).1 org)
+  unfolding step
+  own_alone w v e same = own_named w v (named_in m) e same
+
+  other_in : (w : World) (k : ℕ) (does : Tenant → Reply × Tenant) (o : Option Tenant) → (k ≡ org → ⊥) → tenant_at (in_tenant w k does o).1 org ≡ tenant_at w org
+  other_in w k does None apart = refl
+  other_in w k does (Some t) apart = put_other w k org (does t).1 apart
+
+  other_named : (w : World) (o : Option Named) → (option_map (λ n. n.org) o ≡ Some org → ⊥) → tenant_at (in_named w m now o).1 org ≡ tenant_at w org
+  other_named w None apart = refl
+  other_named w (Some n) apart = other_in w n.org (own n m now) (tenant_at w n.org) (λ e. apart (ap Some e))
+
+  pub other_stays : (w : World) → (org_named m ≡ Some org → ⊥) → tenant_at (step w m now).1 org ≡ tenant_at w org
+  unfolding step
+  other_stays w apart = other_named w (named_in m) apart

@@ -1,0 +1,115 @@
+-- One step of the world: what a message is answered, and the world after it. The organisation that the message's key names is
+-- found first, and all else is a function of that tenant alone: so no request of another organisation changes a reply.
+use Rattle.std.specs.Prelude.{ℕ, not, Bool, ◌&&◌, if◌then◌else◌, List, [], bytes_eq, codes, encode_utf8_all, Option, Some, None}
+use Rattle.std.specs.List.{find}
+use Rattle.std.specs.Option.{option_and_then, option_map}
+use Rattle.std.specs.Str.Lossy.{utf8_lossy}
+use Rattle.form_urlencoded.specs.Form.{parse as pairs_in}
+use Rattle.ut_soql.specs.Reading.{asked_object}
+use Rattle.ut_model.specs.declared.caller.Caller.{Caller}
+use Rattle.ut_model.specs.declared.refusal.Refusal.{Refusal}
+use Rattle.ut_model.specs.declared.refusal.Refusal.TheVariants as refusal
+use Rattle.ut_model.specs.declared.reply.Reply.{Reply}
+use Rattle.ut_model.specs.declared.route.Route.{Route}
+use Rattle.ut_model.specs.declared.route.Route.TheVariants as route
+use Rattle.ut_model.specs.declared.routed.Routed.{Routed}
+use Rattle.ut_model.specs.declared.routed.Routed.TheVariants.{To, NotFound, NotAllowed}
+use Rattle.ut_model.specs.Bodies.{refusal_body}
+use Rattle.ut_model.specs.Callers.{Named, caller_in, caller_of, named}
+use Rattle.ut_model.specs.Refusals.{status_of}
+use Rattle.ut_model.specs.Routing.{is_administration, routed}
+use Rattle.ut_model.specs.Tenant.{Tenant}
+use Rattle.ut_model.specs.World.{World, tenant_at, with_tenant}
+
+-- a message: its method, target and bearer as characters, and its body in bytes
+pub record Message : Type 0 where
+  pub method : List ℕ
+  pub target : List ℕ
+  pub bearer : Option (List ℕ)
+  pub body : List ℕ
+
+-- the reply that refuses so
+abbrev pub refusal_reply : Refusal → Reply
+refusal_reply r = record { status = status_of r; body = refusal_body r }
+
+-- a refusal leaves the organisation as it is
+abbrev pub refused : Refusal → Tenant → Reply × Tenant
+refused r t = (refusal_reply r, t)
+
+-- ---- a request of a caller
+
+-- whether a pair of a query string is named `q`
+abbrev pub is_q : List ℕ × List ℕ → Bool
+is_q pair = bytes_eq (utf8_lossy pair.0) (codes "q")
+
+-- the text of a pair's value, in UTF-8; without a pair it is empty
+abbrev pub value_text : Option (List ℕ × List ℕ) → List ℕ
+value_text None = []
+value_text (Some pair) = utf8_lossy pair.1
+
+-- the text of a query, in UTF-8: the value of the first pair `q` of the query string
+unfoldable pub query_text : List ℕ → List ℕ
+query_text pairs = value_text (find is_q (pairs_in (encode_utf8_all pairs)))
+
+-- why a query is refused: of queries only those for ids and names are built, and no organisation has an object as yet
+abbrev pub query_refusal : Option (List ℕ) → Refusal
+query_refusal None = refusal.NotBuilt (codes "query")
+query_refusal (Some object) = refusal.InvalidType object
+
+-- what a request of a caller comes to at this moment: of the routes that of queries alone is built
+abbrev pub verdict : Caller → ℕ → Route → (body : List ℕ) → Tenant → Reply × Tenant
+verdict c now (route.Query pairs) body t = refused (query_refusal (asked_object (query_text pairs))) t
+verdict c now _ body t = refused (refusal.NotBuilt (codes "route")) t
+
+-- no such path, another method, no administrator; then the request itself
+abbrev pub verdict_of : Caller → ℕ → Routed → (body : List ℕ) → Tenant → Reply × Tenant
+verdict_of c now NotFound body t = refused refusal.NotFound t
+verdict_of c now NotAllowed body t = refused refusal.MethodNotAllowed t
+verdict_of c now (To r) body t = if is_administration r && not c.admin then refused refusal.AdminRequired t else verdict c now r body t
+
+-- what a caller's message is answered at this moment, and what becomes of the organisation
+abbrev pub answered : Caller → Message → ℕ → Tenant → Reply × Tenant
+answered c m now t = verdict_of c now (routed m.method m.target) m.body t
+
+-- ---- who asks
+
+-- what the key of a message names, before any organisation is looked at
+abbrev pub named_in : Message → Option Named
+named_in m = option_and_then (λ key. named (encode_utf8_all key)) m.bearer
+
+-- the number of the organisation that the key of a message names
+abbrev pub org_named : Message → Option ℕ
+org_named m = option_map (λ n. n.org) (named_in m)
+
+-- the caller whom the key of a message names, if its secret is right
+abbrev pub caller_by : World → Message → Option Caller
+caller_by w m = option_and_then (λ key. caller_in w (encode_utf8_all key)) m.bearer
+
+-- a message of no caller is refused
+abbrev pub if_called : Message → ℕ → Option Caller → Tenant → Reply × Tenant
+if_called m now None t = refused refusal.InvalidSession t
+if_called m now (Some c) t = answered c m now t
+
+-- what a message with this key is answered in an organisation
+abbrev pub own : Named → Message → ℕ → Tenant → Reply × Tenant
+own n m now t = if_called m now (caller_of n t) t
+
+-- ---- the world
+
+-- a message is answered in an organisation, if there is one, which alone may change
+abbrev pub in_tenant : World → ℕ → (Tenant → Reply × Tenant) → Option Tenant → Reply × World
+in_tenant w org does None = (refusal_reply refusal.InvalidSession, w)
+in_tenant w org does (Some t) = ((does t).0, with_tenant w org (does t).1)
+
+-- the same in the organisation with this number
+abbrev pub in_org : World → ℕ → (Tenant → Reply × Tenant) → Reply × World
+in_org w org does = in_tenant w org does (tenant_at w org)
+
+-- the same in the organisation that is named, if one is
+abbrev pub in_named : World → Message → ℕ → Option Named → Reply × World
+in_named w m now None = (refusal_reply refusal.InvalidSession, w)
+in_named w m now (Some n) = in_org w n.org (own n m now)
+
+-- what a message is answered at this moment, and the world after it
+unfoldable pub step : World → Message → ℕ → Reply × World
+step w m now = in_named w m now (named_in m)

@@ -1,0 +1,54 @@
+//! What holds of the step of the world, for the layers above.
+
+ghost use Rattle.std.specs.Prelude.{◌≡◌, ◌≢◌, ℕ, List, ◌∷◌, [], IsSome, Option, Some, None, codes};
+ghost use Rattle.sha2.specs.Sha256.{sha256};
+ghost use Rattle.ut_model.specs.declared.caller.Caller.{Caller};
+ghost use Rattle.ut_model.specs.declared.refusal.Refusal.TheVariants as refusal;
+ghost use Rattle.ut_model.specs.declared.reply.Reply.{Reply};
+ghost use Rattle.ut_model.specs.declared.route.Route.TheVariants as route;
+ghost use Rattle.ut_model.specs.declared.routed.Routed.TheVariants.{To, NotFound, NotAllowed};
+ghost use Rattle.ut_model.specs.Organisations.{with_org};
+ghost use Rattle.ut_model.specs.Routing.{routed};
+ghost use Rattle.ut_model.specs.Step.{Message, answered, caller_by, in_org, org_named, query_text, refusal_reply, step};
+ghost use Rattle.ut_model.specs.Tenant.{Tenant};
+ghost use Rattle.ut_model.specs.World.{World, tenant_at};
+
+/// The laws of the step of the world. The call does nothing.
+pub fn step_laws()
+    // A caller's message is answered in the caller's organisation, and a message of no caller is refused.
+    ensures called { (w : World) (m : Message) (now : ℕ) (c : Caller) → caller_by w m ≡ Some c
+        → step w m now ≡ in_org w c.org (answered c m now) }
+    ensures uncalled { (w : World) (m : Message) (now : ℕ) → caller_by w m ≡ None
+        → step w m now ≡ (refusal_reply refusal.InvalidSession, w) }
+
+    // What leaves an organisation as it is leaves the world.
+    ensures unchanged { (w : World) (m : Message) (c : Caller) (does : Tenant → Reply × Tenant) (r : Reply) → caller_by w m ≡ Some c
+        → ((t : Tenant) → does t ≡ (r, t)) → in_org w c.org does ≡ (r, w) }
+
+    // A reply is made from the organisation alone that the message names, and no other organisation changes.
+    ensures own { (w v : World) (m : Message) (now org : ℕ) → org_named m ≡ Some org → tenant_at w org ≡ tenant_at v org
+        → ((step w m now).0 ≡ (step v m now).0) × (tenant_at (step w m now).1 org ≡ tenant_at (step v m now).1 org) }
+    ensures other { (w : World) (m : Message) (now org : ℕ) → (org_named m ≡ Some org → ⊥)
+        → tenant_at (step w m now).1 org ≡ tenant_at w org }
+{}
+
+/// Routes and steps of the world, worked by hand. The call does nothing.
+pub fn step_rows()
+    ensures query { routed (codes "GET") (codes "/services/data/v59.0/query?q=SELECT+Id") ≡ To (route.Query (codes "q=SELECT+Id")) }
+    ensures update { routed (codes "PATCH") (codes "/services/data/v59.0/sobjects/Deal__c/a00") ≡ To (route.Update (codes "Deal__c") (codes "a00")) }
+    ensures no_part { routed (codes "POST") (codes "/services/data/v59.0/sobjects/") ≡ NotFound }
+    ensures no_method { routed (codes "PUT") (codes "/admin/retype") ≡ NotAllowed }
+    ensures no_path { routed (codes "GET") (codes "/x") ≡ NotFound }
+    ensures first_q { query_text (codes "a=1&q=SELECT+Id%2C+Name&q=2") ≡ codes "SELECT Id, Name" }
+    ensures no_q { query_text (codes "Q=1") ≡ [] }
+    ensures no_key { step [] (record { method = codes "GET"; target = codes "/x"; bearer = None; body = [] }) 0
+        ≡ (refusal_reply refusal.InvalidSession, []) }
+    ensures no_object { (let w : World = with_org [] (codes "Acme") (sha256 (codes "abc!d")) in
+        step w (record {
+          method = codes "GET";
+          target = codes "/services/data/v59.0/query?q=SELECT+Id,Name+FROM+Deal__c";
+          bearer = Some (codes "00D000000000001!005000000000000AAA!abc!d");
+          body = [];
+        }) 0
+        ≡ (refusal_reply (refusal.InvalidType (codes "Deal__c")), w)) }
+{}

@@ -1,0 +1,11 @@
+//! Tests of `ut_soql`, `ut_table`, `ut_model` and `ut_rest`.
+#![tactic(auto)]
+
+#[cfg(test)]
+mod model;
+#[cfg(test)]
+mod rest;
+#[cfg(test)]
+mod soql;
+#[cfg(test)]
+mod table;

@@ -1,0 +1,27 @@
+ghost use Rattle.std.specs.Prelude.{◌≡◌, IfOk, map};
+ghost use Rattle.std.specs.Str.{chars};
+ghost use Rattle.ut_model.specs.Routing.{path_of, query_of, segments};
+
+use std::alloc::{AllocError, Global};
+
+/// The path of a target, and its query string: what is before the first `?`, and what is behind it.
+pub fn path_and_query(target: &str) -> (&str, &str)
+    ensures path { chars result.0.now ≡ path_of (chars target.now) }
+    ensures query { chars result.1.now ≡ query_of (chars target.now) }
+{
+    match target.split_once('?') {
+        Some(parts) => parts,
+        None => (target, ""),
+    }
+}
+
+/// What is between the `/` of a path.
+///
+/// # Errors
+///
+/// When out of memory.
+pub fn segments_of(alloc: Global, path: &str) -> Result<Vec<&str>, AllocError>
+    ensures { IfOk result (λ parts. map (λ s. chars s.now) parts.items ≡ segments (chars path.now)) }
+{
+    path.split('/').collect(alloc)
+}

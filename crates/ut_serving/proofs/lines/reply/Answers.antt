@@ -1,0 +1,9 @@
+use Rattle.ut_serving.specs.Answers.{bytes_in}
+use Rattle.ut_serving.proofs.Turned.{replied}
+use Rattle.ut_serving.proofs.lines.reply.Goals as goal
+
+pub returns-clause-replies : goal.returns-clause-replies
+returns-clause-replies g c told w moments s e =
+    replied w c.args.message.now moments (g.K.Keeper.state c.args.keeper.now) (g.K.Keeper.state c.answer_message-answer.new.keeper) (g.C.Clock.coming c.args.clock.now) (g.C.Clock.coming c.now-now.new.self)
+    (g.W.Wire.output c.args.wire.now) (g.W.Wire.output c.write_answer.new.wire) c.now-now.result (bytes_in c.answer_message-answer.result) c.write_answer.result
+    e c.now-now.ensures.first c.now-now.ensures.asked (c.answer_message-answer.ensures.answers told w s) c.write_answer.ensures.wrote

@@ -1,0 +1,71 @@
+use Rattle.std.proofs.Common.{arith, Ok, Err}
+use Rattle.std.specs.Io.KnownBytes.{prepend_known}
+use Rattle.std.proofs.lemmas.Result.{err_from_is_err_and}
+use Rattle.ut_keeper.proofs.Calls.{steps_same, steps_on}
+use Rattle.ut_serving.proofs.Goes.{start, go_on, ends}
+use Rattle.ut_serving.proofs.Leading.{led_same, led_then}
+use Rattle.ut_serving.proofs.lines.turns.Goals as goal
+
+pub loop-count-init : goal.loop-count-init
+loop-count-init g c = record {
+  steps = steps_same (g.K.Keeper.state c.args.keeper.now);
+  leads = led_same (g.K.Keeper.state c.args.keeper.now);
+  stays = g.met.W.Wire.stays_refl c.args.wire.now;
+  reads = omega arith;
+  writes = omega arith;
+  goes = λ told w moments input s e i. start w moments input (g.K.Keeper.state c.args.keeper.now) (g.W.Wire.output c.args.wire.now) (g.C.Clock.coming c.args.clock.now) (prepend_known c.args.buffer.now (g.W.Wire.input c.args.wire.now)) told.0 s e i;
+}
+
+pub loop-count-preserved : goal.loop-count-preserved
+loop-count-preserved g c =
+    let state = g.K.Keeper.state in
+    let coming = g.C.Clock.coming in
+    let reads = c.turn.ensures.reads.later in
+    let writes = c.turn.ensures.writes.later in
+    record {
+      steps = steps_on (state c.args.keeper.now) (state c.loop-count.keeper) (state c.turn.new.keeper) c.loop-count.invariant.steps c.turn.ensures.steps;
+      leads = led_then (state c.args.keeper.now) (state c.loop-count.keeper) (state c.turn.new.keeper) c.loop-count.invariant.leads c.turn.ensures.steps c.turn.ensures.leads;
+      stays = g.met.W.Wire.stays_trans c.args.wire.now c.loop-count.wire c.turn.new.wire c.loop-count.invariant.stays c.turn.ensures.stays;
+      reads = omega (arith, c.loop-count.invariant.reads, reads);
+      writes = omega (arith, c.loop-count.invariant.writes, writes);
+      goes = λ told w moments input s e i.
+          go_on w moments input (state c.args.keeper.now) (g.W.Wire.output c.args.wire.now) (state c.loop-count.keeper) (state c.turn.new.keeper)
+          (coming c.loop-count.clock) (prepend_known c.loop-count.buffer (g.W.Wire.input c.loop-count.wire)) (g.W.Wire.output c.loop-count.wire)
+          (coming c.turn.new.clock) (prepend_known c.turn.new.buffer (g.W.Wire.input c.turn.new.wire)) (g.W.Wire.output c.turn.new.wire) c.loop-count.count told.1 c.turn.ensures.steps
+          (c.loop-count.invariant.goes (told.0, c.turn.ensures.steps.stood told.1) w moments input s e i) (rw c.if-branch.false at c.in_ok-turn.ensures.turns);
+    }
+
+pub returns-in_err-turn-clause-leads : goal.returns-in_err-turn-clause-leads
+returns-in_err-turn-clause-leads g c =
+    let state = g.K.Keeper.state in
+    led_then (state c.args.keeper.now) (state c.loop-count.keeper) (state c.turn.new.keeper) c.loop-count.invariant.leads c.turn.ensures.steps c.turn.ensures.leads
+
+pub returns-then-branch-clause-leads : goal.returns-then-branch-clause-leads
+returns-then-branch-clause-leads g c =
+    let state = g.K.Keeper.state in
+    led_then (state c.args.keeper.now) (state c.loop-count.keeper) (state c.turn.new.keeper) c.loop-count.invariant.leads c.turn.ensures.steps c.turn.ensures.leads
+
+pub returns-in_err-turn-clause-serves : goal.returns-in_err-turn-clause-serves
+returns-in_err-turn-clause-serves g c told w moments input s e i =
+    let state = g.K.Keeper.state in
+    let coming = g.C.Clock.coming in
+    let p = err_from_is_err_and c.from_residual.result c.from_residual.ensures.1 in
+    rw (p.1, p.2) (ends w moments input (state c.args.keeper.now) (g.W.Wire.output c.args.wire.now) (state c.loop-count.keeper) (state c.turn.new.keeper)
+    (coming c.loop-count.clock) (prepend_known c.loop-count.buffer (g.W.Wire.input c.loop-count.wire)) (g.W.Wire.output c.loop-count.wire)
+    (coming c.turn.new.clock) (prepend_known c.turn.new.buffer (g.W.Wire.input c.turn.new.wire)) (g.W.Wire.output c.turn.new.wire) c.loop-count.count (Err _) told.1 c.turn.ensures.steps
+    (c.loop-count.invariant.goes (told.0, c.turn.ensures.steps.stood told.1) w moments input s e i) c.in_err-turn.ensures.turns)
+
+pub returns-then-branch-clause-serves : goal.returns-then-branch-clause-serves
+returns-then-branch-clause-serves g c told w moments input s e i =
+    let state = g.K.Keeper.state in
+    let coming = g.C.Clock.coming in
+    ends w moments input (state c.args.keeper.now) (g.W.Wire.output c.args.wire.now) (state c.loop-count.keeper) (state c.turn.new.keeper)
+    (coming c.loop-count.clock) (prepend_known c.loop-count.buffer (g.W.Wire.input c.loop-count.wire)) (g.W.Wire.output c.loop-count.wire)
+    (coming c.turn.new.clock) (prepend_known c.turn.new.buffer (g.W.Wire.input c.turn.new.wire)) (g.W.Wire.output c.turn.new.wire) c.loop-count.count (Ok tt) told.1 c.turn.ensures.steps
+    (c.loop-count.invariant.goes (told.0, c.turn.ensures.steps.stood told.1) w moments input s e i) (rw c.if-branch.true at c.in_ok-turn.ensures.turns)
+
+pub returns-clause-serves : goal.returns-clause-serves
+returns-clause-serves g c told w moments input s e i =
+    let few = (c.loop-count.invariant.goes told w moments input s e i).7 in
+    let no : ⊥ = omega (arith, few, c.loop-count-test.false) in
+    absurd no

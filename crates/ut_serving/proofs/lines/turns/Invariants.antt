@@ -1,0 +1,24 @@
+use Rattle.std.proofs.Common.{◌≡◌, ◌≤◌, ℕ, List, Some}
+use Rattle.std.specs.Io.KnownBytes.{prepend_known}
+use Rattle.ut_keeper.specs.State.{Steps, Tells}
+use Rattle.ut_model.specs.World.{World}
+use Rattle.ut_stands.specs.Stands.{Stands}
+use Rattle.ut_serving.specs.Leads.{LeadsFrom}
+use Rattle.ut_serving.proofs.Goes.{Goes}
+use Rattle.ut_serving.proofs.lines.turns.Given as goal
+
+abbrev pub invariant-loop-count : goal.invariant-loop-count
+invariant-loop-count g l =
+    let state = g.K.Keeper.state in
+    let coming = g.C.Clock.coming in
+    let input_of = g.W.Wire.input in
+    let output_of = g.W.Wire.output in
+    record {
+      steps : Steps (state l.fn.keeper) (state l.keeper);
+      leads : LeadsFrom (state l.fn.keeper) (state l.keeper);
+      stays : g.W.Wire.stays l.fn.wire l.wire;
+      reads : g.W.Wire.read_faults l.fn.wire ≤ g.W.Wire.read_faults l.wire;
+      writes : g.W.Wire.write_faults l.fn.wire ≤ g.W.Wire.write_faults l.wire;
+      goes : Tells (state l.fn.keeper) (state l.keeper) → (w : World) (moments input : List ℕ) → Stands (state l.fn.keeper).tables w → coming l.fn.clock ≡ Some moments → prepend_known l.fn.buffer (input_of l.fn.wire) ≡ Some input
+          → Goes w moments input (state l.fn.keeper) (output_of l.fn.wire) (state l.keeper) (coming l.clock) (prepend_known l.buffer (input_of l.wire)) (output_of l.wire) l.count;
+    }

@@ -1,0 +1,52 @@
+-- Answers: the bytes that an answer to one request holds, and what one request does.
+use Rattle.std.specs.Prelude.{◌≡◌, ℕ, Bool, List, [], ◌∷◌}
+use Rattle.ut_http.specs.declared.message.HttpMessage.{HttpMessage}
+use Rattle.ut_http.specs.Reply.{reply, store_failed, no_memory}
+use Rattle.ut_keeper.specs.State.{KeeperState}
+use Rattle.ut_model.specs.Bodies.{damaged_body}
+use Rattle.ut_model.specs.World.{World}
+use Rattle.ut_serving.specs.declared.request.Answer.{Answer}
+use Rattle.ut_serving.specs.declared.request.Answer.TheVariants.{Made, Damaged, Unavailable, OutOfMemory}
+use Rattle.ut_serving.specs.Exchanges.{Exchange, LeavesBehind, Outcome, reply_in, world_after}
+use Rattle.ut_serving.specs.Requests.{message_in}
+
+-- the bytes that an answer holds
+abbrev pub bytes_in : Answer → List ℕ
+bytes_in (Made bytes) = bytes
+bytes_in (Damaged bytes) = bytes
+bytes_in (Unavailable close) = reply 503 store_failed close
+bytes_in (OutOfMemory close) = reply 507 no_memory close
+
+-- an answer that the definition of a step doesn't make is a fixed reply, with this `close`
+abbrev pub IsFixed : Bool → Answer → Type 0
+IsFixed close (Made bytes) = Unit {0}
+IsFixed close (Damaged bytes) = bytes ≡ reply 500 damaged_body close
+IsFixed close (Unavailable closes) = closes ≡ close
+IsFixed close (OutOfMemory closes) = closes ≡ close
+
+abbrev pub IsMade : Answer → Type 0
+IsMade (Made bytes) = Unit {0}
+IsMade (Damaged bytes) = ⊥
+IsMade (Unavailable close) = ⊥
+IsMade (OutOfMemory close) = ⊥
+
+abbrev pub IsDamaged : Answer → Type 0
+IsDamaged (Made bytes) = ⊥
+IsDamaged (Damaged bytes) = Unit {0}
+IsDamaged (Unavailable close) = ⊥
+IsDamaged (OutOfMemory close) = ⊥
+
+abbrev pub IsUnavailable : Answer → Type 0
+IsUnavailable (Made bytes) = ⊥
+IsUnavailable (Damaged bytes) = ⊥
+IsUnavailable (Unavailable close) = Unit {0}
+IsUnavailable (OutOfMemory close) = ⊥
+
+-- a message as a request in this world
+abbrev pub exchange : World → HttpMessage → (now : ℕ) → Outcome → Exchange
+exchange w m now o = record { world = w; message = message_in m; now = now; close = m.close; outcome = o }
+
+-- one request: what is written for it, and what it leaves behind
+abbrev pub Answers : World → HttpMessage → (now : ℕ) → KeeperState → KeeperState → List ℕ → Type 0
+Answers w m now old new out =
+    (o : Outcome) × (out ≡ reply_in (exchange w m now o)) × LeavesBehind w (world_after (exchange w m now o)) (exchange w m now o ∷ []) old new

@@ -1,0 +1,81 @@
+-- Exchanges: requests with what was answered, the world after each, and what they leave behind in a keeper.
+use Rattle.std.specs.Prelude.{◌≡◌, ◌≢◌, ◌⊎◌, ℕ, ◌+◌, ◌≤◌, Bool, IsTrue, List, [], ◌∷◌}
+use Rattle.std.specs.List.{AllByRecursion}
+use Rattle.ut_value.specs.Causes.{up_to_last}
+use Rattle.ut_http.specs.Reply.{reply, store_failed, no_memory}
+use Rattle.ut_keeper.specs.State.{KeeperState}
+use Rattle.ut_keeper.specs.Tables.{Tables}
+use Rattle.ut_model.specs.Step.{Message, step}
+use Rattle.ut_model.specs.World.{World}
+use Rattle.ut_stands.specs.Stands.{Stands}
+
+-- how a request comes out
+pub data Outcome : Type 0 where
+  -- it was done, or refused, as the step of the world says
+  done : Outcome
+  -- the store failed: 503, and nothing is changed
+  store : Outcome
+  -- out of memory: 507, and nothing is changed
+  memory : Outcome
+
+-- a request that was answered
+pub record Exchange : Type 0 where
+  -- the world that it met
+  pub world : World
+  -- what was asked, and when
+  pub message : Message
+  pub now : ℕ
+  -- whether the reply closes the connection
+  pub close : Bool
+  pub outcome : Outcome
+
+abbrev pub reply_by : Outcome → Exchange → List ℕ
+reply_by done x = reply (step x.world x.message x.now).0.status (step x.world x.message x.now).0.body x.close
+reply_by store x = reply 503 store_failed x.close
+reply_by memory x = reply 507 no_memory x.close
+
+-- what was written for it
+abbrev pub reply_in : Exchange → List ℕ
+reply_in x = reply_by x.outcome x
+
+-- the world of the request done whole
+abbrev pub done_whole : Exchange → World
+done_whole x = (step x.world x.message x.now).1
+
+abbrev pub world_by : Outcome → Exchange → World
+world_by done x = done_whole x
+world_by store x = x.world
+world_by memory x = x.world
+
+-- the world after it
+abbrev pub world_after : Exchange → World
+world_after x = world_by x.outcome x
+
+abbrev pub fault_of : Outcome → ℕ
+fault_of done = 0
+fault_of store = 1
+fault_of memory = 0
+
+-- how many were answered 503
+abbrev pub stores : List Exchange → ℕ
+stores [] = 0
+stores (x ∷ xs) = fault_of x.outcome + stores xs
+
+-- all of them met this world
+abbrev pub AllMet : World → List Exchange → Type 0
+AllMet w xs = AllByRecursion (λ x. x.world ≡ w) xs
+
+-- `late` is the world of one of them done whole, though it was answered 503 or 507; from it on none changed the world `end`
+abbrev pub IsLate : List Exchange → World → World → Type 0
+IsLate [] end late = ⊥
+IsLate (x ∷ xs) end late = ((x.outcome ≢ done) × (late ≡ done_whole x) × AllMet end (x ∷ xs)) ⊎ IsLate xs end late
+
+-- the keeper after these requests, which led from the world w to `end`
+pub record LeavesBehind (w end : World) (xs : List Exchange) (old new : KeeperState) : Type 0 where
+  -- its tables stand for the world after them
+  pub tables : IsTrue new.stands → new.tells × Stands new.tables end
+  -- at most as many were answered 503 as its faults rose
+  pub faults : up_to_last (old.faults + stores xs) ≤ new.faults
+  -- a crash leaves the world after them; or what it might have left before, where none changed the world; or one done late
+  pub crash : IsTrue new.is_clean → (m : Tables) → new.may_leave m
+      → (old.may_leave m × (w ≡ end) × AllMet end xs) ⊎ (Stands m end ⊎ ((late : World) × IsLate xs end late × Stands m late))

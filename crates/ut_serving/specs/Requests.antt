@@ -1,0 +1,57 @@
+-- Requests: what the step of the world is asked, a request as an operation that has a reply's bytes, and the reply to bytes
+-- that are no message.
+use Rattle.std.specs.Prelude.{◌≡◌, ℕ, Bool, true, List, [], IsSome}
+use Rattle.ut_http.specs.declared.fail.HttpFail.{HttpFail}
+use Rattle.ut_http.specs.declared.fail.HttpFail.TheVariants as fail
+use Rattle.ut_http.specs.declared.message.HttpMessage.{HttpMessage}
+use Rattle.ut_http.specs.Reply.{phrase, reply}
+use Rattle.ut_model.specs.declared.refusal.Refusal.{Refusal}
+use Rattle.ut_model.specs.declared.refusal.Refusal.TheVariants as refusal
+use Rattle.ut_model.specs.declared.reply.Reply.{Reply}
+use Rattle.ut_model.specs.Bodies.{refusal_body}
+use Rattle.ut_model.specs.Refusals.{status_of}
+use Rattle.ut_model.specs.Step.{Message, step}
+use Rattle.ut_model.specs.World.{World}
+use Rattle.ut_stands.specs.declared.judged.Judged.{Judged}
+use Rattle.ut_stands.specs.declared.judged.Judged.TheVariants.{Changed, Same}
+
+-- what is asked: a message without what it says of its connection
+abbrev pub message_in : HttpMessage → Message
+message_in m = record { method = m.method; target = m.target; bearer = m.bearer; body = m.body }
+
+-- a request as an operation: the bytes of its reply, and the world after it
+abbrev pub does : Message → (close : Bool) → (now : ℕ) → World → List ℕ × World
+does m close now w = (reply (step w m now).0.status (step w m now).0.body close, (step w m now).1)
+
+-- a reply of HTTP: its status has a phrase, and a 204 has no body (RFC 9110, 15.3.5)
+abbrev pub HasForm : Reply → Type 0
+HasForm r = IsSome (phrase r.status) × (r.status ≡ 204 → r.body ≡ [])
+
+abbrev pub JudgedForm : Judged Reply → Type 0
+JudgedForm (Same r) = HasForm r
+JudgedForm (Changed r) = HasForm r
+
+-- the bytes of a judged reply
+abbrev pub in_bytes : Bool → Judged Reply → Judged (List ℕ)
+in_bytes close (Same r) = Same (reply r.status r.body close)
+in_bytes close (Changed r) = Changed (reply r.status r.body close)
+
+-- ---- bytes that are no message
+
+-- why bytes are no message, as a refusal; the last two are none
+abbrev pub refusal_of : HttpFail → Refusal
+refusal_of fail.BadHead = refusal.BadHead
+refusal_of fail.HeadTooLarge = refusal.HeadTooLarge
+refusal_of fail.TransferEncoding = refusal.TransferEncoding
+refusal_of fail.LengthRequired = refusal.LengthRequired
+refusal_of fail.BodyTooLarge = refusal.BodyTooLarge
+refusal_of fail.Failed = refusal.BadHead
+refusal_of fail.Memory = refusal.BadHead
+
+-- the bytes of the reply that refuses so
+abbrev pub refusal_bytes : Refusal → (close : Bool) → List ℕ
+refusal_bytes r close = reply (status_of r) (refusal_body r) close
+
+-- the reply to bytes that are no message: the last of its connection
+abbrev pub last_reply : HttpFail → List ℕ
+last_reply e = refusal_bytes (refusal_of e) true

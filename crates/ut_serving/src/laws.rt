@@ -1,0 +1,47 @@
+//! Laws for the layers above.
+
+ghost use Rattle.std.specs.Prelude.{◌≡◌, IsTrue, ℕ, List, []};
+ghost use Rattle.ut_keeper.specs.State.{LeavesNoMore, Shows, Steps};
+ghost use Rattle.ut_model.specs.World.{World, tenant_at};
+ghost use Rattle.ut_stands.specs.Stands.{Stands};
+ghost use Rattle.ut_serving.specs.Connections.{AreServed, Connection, exchanges_of};
+ghost use Rattle.ut_serving.specs.Exchanges.{Exchange, LeavesBehind};
+ghost use Rattle.ut_serving.specs.Isolation.{asked_of, replies_of, replies_to};
+ghost use Rattle.ut_serving.specs.Leads.{Leads, LeadsFrom};
+
+use ut_keeper::Keeper;
+use ut_model::step_laws;
+
+/// Isolation. The call does nothing.
+pub fn isolation_laws()
+    // The replies to one organisation's requests are those to these requests alone, from any world that has the same
+    // organisation.
+    ensures { (org : ℕ) (cs : List Connection) (w v end : World) (moments later : List ℕ)
+        → AreServed cs w moments end later → tenant_at w org ≡ tenant_at v org
+        → replies_of org (exchanges_of cs) ≡ replies_to v (asked_of org (exchanges_of cs)) }
+{
+    // For the proof alone.
+    step_laws();
+}
+
+/// The laws by which what is done before the first request, as opening the tables, joins what is served. The call does
+/// nothing.
+pub fn serving_laws<K: Keeper>()
+    // Tables that stand for a world were only read.
+    ensures left_by_reading { (w : World) (a b : K) → Steps (K.state a) (K.state b)
+        → (IsTrue (K.state b).stands → Shows (K.state b) (K.state a).tables)
+        → LeavesNoMore (K.state a) (K.state b) → Stands (K.state a).tables w
+        → LeavesBehind w w [] (K.state a) (K.state b) }
+    ensures led_by_reading { (w : World) (a b : K)
+        → (IsTrue (K.state b).stands → Shows (K.state b) (K.state a).tables)
+        → LeavesNoMore (K.state a) (K.state b) → Stands (K.state a).tables w
+        → Leads w (K.state a) (K.state b) }
+
+    // Requests after it.
+    ensures left_from_open { (w end : World) (xs : List Exchange) (a b c : K)
+        → LeavesBehind w w [] (K.state a) (K.state b) → Steps (K.state b) (K.state c)
+        → LeavesBehind w end xs (K.state b) (K.state c) → LeavesBehind w end xs (K.state a) (K.state c) }
+    ensures led_from_open { (w : World) (a b c : K)
+        → Leads w (K.state a) (K.state b) → Steps (K.state b) (K.state c)
+        → LeadsFrom (K.state b) (K.state c) → Leads w (K.state a) (K.state c) }
+{}

@@ -1,0 +1,188 @@
+//! One connection, served to its end.
+
+ghost use Rattle.std.specs.Prelude.{◌≡◌, ◌≤◌, ◌==◌, false, IfOk, IsErrOf, ℕ, List, Some};
+ghost use Rattle.std.specs.Io.KnownBytes.{Keeps, prepend_known};
+ghost use Rattle.ut_value.specs.Causes.{Cause};
+ghost use Rattle.ut_keeper.specs.State.{Steps, Tells};
+ghost use Rattle.ut_model.specs.World.{World};
+ghost use Rattle.ut_stands.specs.Stands.{Stands};
+ghost use Rattle.ut_serving.specs.Answers.{bytes_in};
+ghost use Rattle.ut_serving.specs.Connections.{Place};
+ghost use Rattle.ut_serving.specs.Leads.{LeadsFrom};
+ghost use Rattle.ut_serving.specs.Turning.{IsHere, RefusesWith, RepliesTo, Serves, Turns, Wrote, over_if_written};
+ghost use Rattle.ut_serving.specs.declared.wire.LineFail.TheVariants.{Read, Write};
+
+use crate::replies::last_reply;
+use crate::request::{Answer, answer_message};
+use crate::wire::{LineFail, Wire};
+use std::alloc::Global;
+use ut_http::{Buffer, HttpFail, HttpMessage, Next, out_of_memory, unavailable};
+use ut_io::Clock;
+use ut_keeper::Keeper;
+
+// Writes one text.
+fn write_text<W: Wire>(wire: &mut W, text: &[u8]) -> Result<(), LineFail>
+    ensures wrote { Wrote (W.output wire.old) (W.output wire.new) text.now result }
+    ensures unread { Keeps (W.input wire.old) (W.input wire.new) }
+    ensures stays { W.stays wire.old wire.new }
+    ensures reads { Cause (W.read_faults wire.old) (W.read_faults wire.new) (IsErrOf result Read) }
+    ensures writes { Cause (W.write_faults wire.old) (W.write_faults wire.new) (IsErrOf result Write) }
+{
+    match wire.write(text) {
+        Ok(()) => Ok(()),
+        Err(_) => Err(LineFail::Write),
+    }
+}
+
+fn write_answer<W: Wire>(wire: &mut W, answer: &Answer) -> Result<(), LineFail>
+    ensures wrote { Wrote (W.output wire.old) (W.output wire.new) (bytes_in answer.now) result }
+    ensures unread { Keeps (W.input wire.old) (W.input wire.new) }
+    ensures stays { W.stays wire.old wire.new }
+    ensures reads { Cause (W.read_faults wire.old) (W.read_faults wire.new) (IsErrOf result Read) }
+    ensures writes { Cause (W.write_faults wire.old) (W.write_faults wire.new) (IsErrOf result Write) }
+{
+    match answer {
+        Answer::Made(bytes) => write_text(wire, bytes.as_slice()),
+        Answer::Damaged(bytes) => write_text(wire, bytes.as_slice()),
+        Answer::Unavailable { close } => write_text(wire, unavailable(*close)),
+        Answer::OutOfMemory { close } => write_text(wire, out_of_memory(*close)),
+    }
+}
+
+// Ends a connection at bytes that are no message.
+fn refuse<W: Wire>(alloc: Global, wire: &mut W, fail: HttpFail) -> Result<(), LineFail>
+    ensures refuses { RefusesWith fail (W.output wire.old) (W.output wire.new) result }
+    ensures stays { W.stays wire.old wire.new }
+    ensures reads { Cause (W.read_faults wire.old) (W.read_faults wire.new) (IsErrOf result Read) }
+    ensures writes { Cause (W.write_faults wire.old) (W.write_faults wire.new) (IsErrOf result Write) }
+{
+    match last_reply(alloc, fail) {
+        Ok(bytes) => write_text(wire, bytes.as_slice()),
+        Err(_) => write_text(wire, out_of_memory(true)),
+    }
+}
+
+// Answers a message, and writes the reply.
+fn reply<K: Keeper, W: Wire, C: Clock>(
+    alloc: Global,
+    keeper: &mut K,
+    wire: &mut W,
+    clock: &mut C,
+    message: &HttpMessage,
+) -> Result<(), LineFail>
+    ensures replies { Tells (K.state keeper.old) (K.state keeper.new)
+        → (w : World) (moments : List ℕ) → Stands (K.state keeper.old).tables w → C.coming clock.old ≡ Some moments
+        → RepliesTo w message.now moments (K.state keeper.old) (K.state keeper.new) (C.coming clock.new)
+        (W.output wire.old) (W.output wire.new) result }
+    ensures leads { LeadsFrom (K.state keeper.old) (K.state keeper.new) }
+    ensures steps { Steps (K.state keeper.old) (K.state keeper.new) }
+    ensures unread { Keeps (W.input wire.old) (W.input wire.new) }
+    ensures stays { W.stays wire.old wire.new }
+    ensures reads { Cause (W.read_faults wire.old) (W.read_faults wire.new) (IsErrOf result Read) }
+    ensures writes { Cause (W.write_faults wire.old) (W.write_faults wire.new) (IsErrOf result Write) }
+{
+    let now = clock.now();
+    let answer = answer_message(alloc, keeper, message, now);
+    write_answer(wire, &answer)
+}
+
+// Whether the connection is over, if no write failed.
+fn over_if_written(written: Result<(), LineFail>, over: bool) -> Result<bool, LineFail>
+    ensures { result ≡ over_if_written over written }
+{
+    match written {
+        Ok(()) => Ok(over),
+        Err(fail) => Err(fail),
+    }
+}
+
+// Answers the next item of a connection, and returns whether the connection is over.
+fn turn<K: Keeper, W: Wire, C: Clock>(
+    alloc: Global,
+    keeper: &mut K,
+    wire: &mut W,
+    clock: &mut C,
+    buffer: &mut Buffer,
+    last: bool,
+) -> Result<bool, LineFail>
+    ensures turns { Tells (K.state keeper.old) (K.state keeper.new)
+        → (p : Place) → Stands (K.state keeper.old).tables p.world
+        → IsHere p (C.coming clock.old) (prepend_known buffer.old (W.input wire.old))
+        → p.closed ≡ false → (p.count == 999) ≡ last
+        → Turns p (K.state keeper.old) (K.state keeper.new) (C.coming clock.new)
+        (prepend_known buffer.new (W.input wire.new)) (W.output wire.old) (W.output wire.new) result }
+    ensures leads { LeadsFrom (K.state keeper.old) (K.state keeper.new) }
+    ensures steps { Steps (K.state keeper.old) (K.state keeper.new) }
+    ensures stays { W.stays wire.old wire.new }
+    ensures reads { Cause (W.read_faults wire.old) (W.read_faults wire.new) (IsErrOf result Read) }
+    ensures writes { Cause (W.write_faults wire.old) (W.write_faults wire.new) (IsErrOf result Write) }
+{
+    match wire.next(alloc, buffer) {
+        Ok(Next::Message(message)) => {
+            let close = message.close || last;
+            let message = HttpMessage { close, ..message };
+            over_if_written(reply(alloc, keeper, wire, clock, &message), close)
+        }
+        Ok(Next::End) => Ok(true),
+        Ok(Next::Cut) => Ok(true),
+        Err(HttpFail::Failed) => Err(LineFail::Read),
+        Err(HttpFail::Memory) => over_if_written(write_text(wire, out_of_memory(true)), true),
+        Err(fail) => over_if_written(refuse(alloc, wire, fail), true),
+    }
+}
+
+// Takes turns to the end of a connection: the thousandth reply closes it.
+fn turns<K: Keeper, W: Wire, C: Clock>(
+    alloc: Global,
+    keeper: &mut K,
+    wire: &mut W,
+    clock: &mut C,
+    buffer: &mut Buffer,
+) -> Result<(), LineFail>
+    ensures serves { Tells (K.state keeper.old) (K.state keeper.new)
+        → (w : World) (moments input : List ℕ) → Stands (K.state keeper.old).tables w
+        → C.coming clock.old ≡ Some moments → prepend_known buffer.old (W.input wire.old) ≡ Some input
+        → Serves w moments input (K.state keeper.old) (K.state keeper.new) (C.coming clock.new)
+        (W.output wire.old) (W.output wire.new) result }
+    ensures leads { LeadsFrom (K.state keeper.old) (K.state keeper.new) }
+    ensures steps { Steps (K.state keeper.old) (K.state keeper.new) }
+    ensures stays { W.stays wire.old wire.new }
+    ensures reads { Cause (W.read_faults wire.old) (W.read_faults wire.new) (IsErrOf result Read) }
+    ensures writes { Cause (W.write_faults wire.old) (W.write_faults wire.new) (IsErrOf result Write) }
+{
+    for count in 0..1000u32 {
+        if turn(alloc, keeper, wire, clock, buffer, count == 999)? {
+            return Ok(());
+        }
+    }
+    Ok(())
+}
+
+/// Serves one connection to its end, with at most 1,000 replies to messages. The thousandth closes it, and so do a message
+/// that asks for it, bytes that are no message, and being out of memory for the next message.
+///
+/// # Errors
+///
+/// `Read` if a read failed, `Write` if a write did: what was answered before stays done.
+pub fn connection<K: Keeper, W: Wire, C: Clock>(
+    alloc: Global,
+    keeper: &mut K,
+    wire: &mut W,
+    clock: &mut C,
+) -> Result<(), LineFail>
+    ensures serves { Tells (K.state keeper.old) (K.state keeper.new)
+        → (w : World) (moments input : List ℕ) → Stands (K.state keeper.old).tables w
+        → C.coming clock.old ≡ Some moments → W.input wire.old ≡ Some input
+        → Serves w moments input (K.state keeper.old) (K.state keeper.new) (C.coming clock.new)
+        (W.output wire.old) (W.output wire.new) result }
+    ensures leads { LeadsFrom (K.state keeper.old) (K.state keeper.new) }
+    ensures steps { Steps (K.state keeper.old) (K.state keeper.new) }
+    ensures stays { W.stays wire.old wire.new }
+    ensures reads { Cause (W.read_faults wire.old) (W.read_faults wire.new) (IsErrOf result Read) }
+    ensures writes { Cause (W.write_faults wire.old) (W.write_faults wire.new) (IsErrOf result Write) }
+{
+    match Buffer::new(alloc) {
+        Ok(mut buffer) => turns(alloc, keeper, wire, clock, &mut buffer),
+        Err(_) => write_text(wire, out_of_memory(true)),
+    }
+}

@@ -1,0 +1,3 @@
+mod Lists
+mod Unread
+mod Utf8

@@ -1,6 +1,6 @@
 #!/bin/sh
-# A tour: makes an organisation, asks a CSV text, is refused, keeps a file only where there is an answer, and answers a request.
-# Each step shows its command first. Before `carmuguur build` each takes about half a minute.
+# A tour: makes organisations, asks a CSV text, is refused, keeps a file only where there is an answer, and answers a request.
+# Each step shows its command first. Before `carmuguur build` each takes one to two minutes.
 here=$(CDPATH='' cd -- "$(dirname -- "$0")" && pwd) || exit 1
 work=${TMPDIR:-/tmp}/carmuguur-tour-$$
 mkdir -m 700 "$work" || exit 1
@@ -28,8 +28,11 @@ São Tomé
 "Washington, D.C."
 END
 
-echo 'An organisation: its id and its administrator. It ends with the run, since all tables are in memory as yet.'
-try "carmuguur - 0 org-add 'Atlas & Co' abcdefghijklmnop"
+echo 'An organisation in a file, acme.db: its id and its administrator.'
+try "carmuguur acme.db 0 org-add 'Atlas & Co' abcdefghijklmnop"
+
+printf '\nThe next one has the next id. With - in place of the file all tables are in memory, and end with the run.\n'
+try 'carmuguur acme.db 0 org-add Bolt abcdefghijklmnop'
 
 printf '\nThe rows of a CSV text, with an id each.\n'
 try "carmuguur - 0 csvq 'SELECT Id, Name FROM Row__c' < capitals.csv"
@@ -45,8 +48,8 @@ try "carmuguur - 0 csvq 'SELECT Id, Name FROM Row__c' < capitals.csv > answer.cs
 try 'ls'
 try 'tail -n 1 answer.csv'
 
-printf '\nA request of HTTP is answered. There is no organisation in an empty store, and so no caller.\n'
-try "printf 'GET /x HTTP/1.1\\r\\n\\r\\n' | carmuguur - 0 answer; echo"
+printf '\nA request of HTTP is answered. Without a key there is no caller.\n'
+try "printf 'GET /x HTTP/1.1\\r\\n\\r\\n' | carmuguur acme.db 0 answer; echo"
 
 printf '\nA wrong command line has a line on standard error, and status 64.\n'
 try "carmuguur - 0 csvq"

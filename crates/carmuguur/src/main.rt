@@ -9,14 +9,15 @@ ghost use Rattle.std.specs.Prelude.{◌≡◌, ◌⊎◌, ◌↔◌, IfOk, IsNon
 ghost use Rattle.platform.specs.Commands.{command_of};
 ghost use Rattle.carmuguur.specs.Lines.{IsCommandLine};
 
-use crate::mistake::{Mistake, mistake_of};
+use crate::mistake::{CommandLine, Mistake, read_line};
 use platform::run;
 use std::alloc::AllocError;
 use std::env;
 use std::io::ErrorKind;
 use std::process::ExitCode;
-use ut_io::{MemoryDoor, StdSink, StdSource, SystemClock};
-use ut_keeper::MemoryKeeper;
+use ut_io::{StdSink, StdSource, SystemClock, TcpDoor};
+use ut_keeper::{Keeper, MemoryKeeper};
+use ut_sqlkeeper::{OnPath, SqlKeeper};
 
 // The statuses that may come before a command runs, as `run` has them.
 const NO_COMMAND: u8 = 64;
@@ -48,25 +49,47 @@ fn all_words(rt: &HostRuntime) -> Result<Vec<String>, NoWords> {
     }
 }
 
-// Runs the command after PATH and PORT. All tables are in memory as yet.
-fn run_command(rt: HostRuntime, command: &[String]) -> Result<u8, AllocError>
-    ensures { IfOk result (λ status. (status ≡ 64) ↔ (command_of (map string_bytes command.now) ≡ None)) }
+// Runs the command after PATH and PORT over this keeper.
+fn run_over<K: Keeper>(rt: HostRuntime, keeper: &mut K, port: u16, command: &[String]) -> u8
+    ensures { (result ≡ 64) ↔ (command_of (map string_bytes command.now) ≡ None) }
 {
     let alloc = rt.alloc();
-    let mut keeper = MemoryKeeper::new(alloc, &[])?;
-    let mut door = MemoryDoor::new(alloc, &[], 0, &[])?;
+    let mut door = TcpDoor::new(rt, port);
     let mut source = StdSource::new(rt.stdin());
     let mut sink = StdSink::new(rt.stdout());
     let mut clock = SystemClock::new(rt);
-    Ok(run(
+    run(
         alloc,
         command,
-        &mut keeper,
+        keeper,
         &mut door,
         &mut source,
         &mut sink,
         &mut clock,
-    ))
+    )
+}
+
+// Runs the command over the tables in a file. Why the file failed is said in a line of its own.
+fn run_on_path(rt: HostRuntime, path: &str, port: u16, command: &[String]) -> Result<u8, AllocError>
+    ensures { IfOk result (λ status. (status ≡ 64) ↔ (command_of (map string_bytes command.now) ≡ None)) }
+{
+    let mut keeper = SqlKeeper::new(OnPath::new(rt, String::from_str(rt.alloc(), path)?));
+    let status = run_over(rt, &mut keeper, port, command);
+    if let Some(fault) = keeper.last_fault() {
+        let _ = eprintln!(rt; "carmuguur: {path:?}: {fault}");
+    }
+    Ok(status)
+}
+
+// Runs a command line: `-` as PATH is for tables in memory, any other PATH for a file.
+fn run_line(rt: HostRuntime, line: &CommandLine<'_>) -> Result<u8, AllocError>
+    ensures { IfOk result (λ status. (status ≡ 64) ↔ (command_of (map string_bytes line.now.command.now) ≡ None)) }
+{
+    if line.path == "-" {
+        let mut keeper = MemoryKeeper::new(rt.alloc(), &[])?;
+        return Ok(run_over(rt, &mut keeper, line.port, line.command));
+    }
+    run_on_path(rt, line.path, line.port, line.command)
 }
 
 // What standard error says of a status of `run`: nothing if standard output has the answer or the refusal.
@@ -80,6 +103,7 @@ fn explanation(status: u8) -> Option<&'static str>
         72 => Some("the store failed"),
         73 => Some("standard output failed"),
         74 => Some("standard input failed"),
+        75 => Some("the port failed"),
         76 => Some("the store is damaged"),
         77 => Some("the store has an unknown version"),
         _ => Some("failed"),
@@ -98,10 +122,11 @@ fn refuse(rt: &HostRuntime, mistake: &Mistake<'_>) -> u8
 fn do_words(rt: HostRuntime, words: &[String]) -> u8
     ensures { (result ≡ 64) ↔ (IsCommandLine (map string_bytes words.now) → ⊥) }
 {
-    if let Some(mistake) = mistake_of(words) {
-        return refuse(&rt, &mistake);
-    }
-    let status = run_command(rt, &words[2..]).unwrap_or(OUT_OF_MEMORY);
+    let line = match read_line(words) {
+        Ok(line) => line,
+        Err(mistake) => return refuse(&rt, &mistake),
+    };
+    let status = run_line(rt, &line).unwrap_or(OUT_OF_MEMORY);
     if let Some(line) = explanation(status) {
         let _ = eprintln!(rt; "carmuguur: {line}");
     }

@@ -1,35 +1,49 @@
 //! What is wrong with a command line, by its cause, and the table of the commands.
 
-ghost use Rattle.std.specs.Prelude.{◌≡◌, ◌≢◌, ◌↔◌, IfNone, IfSome, IsNone, IsSome, IsTrue, None, map, string_bytes};
+ghost use Rattle.std.specs.Prelude.{◌≡◌, ◌≢◌, ◌↔◌, IfNone, IfOk, IfSome, IsErr, IsNone, IsSome, IsTrue, None, drop, map, string_bytes};
+ghost use Rattle.std.specs.Str.Parse.{digits_value};
 ghost use Rattle.platform.specs.Commands.{command_of};
-ghost use Rattle.carmuguur.specs.Lines.{IsCommandLine, IsPort, IsUnknown, Takes};
+ghost use Rattle.carmuguur.specs.Lines.{IsCommandLine, IsOneCount, IsPort, IsUnknown, Takes};
 
+use platform::is_count;
 use std::fmt;
+
+/// What follows the name of a command.
+pub(crate) enum Operands {
+    /// So many words.
+    Words(usize),
+    /// One word, which is a count of connections.
+    Count,
+}
 
 /// A command as it is written.
 pub(crate) struct Form {
     name: &'static str,
     form: &'static str,
-    // The number of words after the name.
-    words: usize,
+    operands: Operands,
 }
 
 /// The commands of `platform::run`. One more is a line here, and its name in `proofs/Forms.antt`.
-const COMMANDS: [Form; 3] = [
+const COMMANDS: [Form; 4] = [
     Form {
         name: "csvq",
         form: "csvq QUERY",
-        words: 1,
+        operands: Operands::Words(1),
     },
     Form {
         name: "org-add",
         form: "org-add NAME SECRET",
-        words: 2,
+        operands: Operands::Words(2),
     },
     Form {
         name: "answer",
         form: "answer",
-        words: 0,
+        operands: Operands::Words(0),
+    },
+    Form {
+        name: "serve",
+        form: "serve COUNT",
+        operands: Operands::Count,
     },
 ];
 
@@ -44,8 +58,6 @@ pub(crate) enum Mistake<'a> {
     NoPort,
     /// There is no word after PORT.
     NoCommand,
-    /// This PATH isn't `-`.
-    Path(&'a str),
     /// This PORT isn't a number from 0 to 65535 without leading zeros.
     Port(&'a str),
     /// No command has this name.
@@ -54,6 +66,8 @@ pub(crate) enum Mistake<'a> {
     TooFew(&'static Form),
     /// There are more words than the command's form has.
     TooMany(&'static Form),
+    /// This COUNT isn't a number from 1 to 1,000,000 without leading zeros.
+    Count(&'a str),
 }
 
 impl fmt::Display for Mistake<'_> {
@@ -66,7 +80,6 @@ impl fmt::Display for Mistake<'_> {
                 f.write_str("a command is missing")?;
                 write_commands(f)
             }
-            Mistake::Path(word) => write!(f, "PATH must be - as yet, and is {word:?}"),
             Mistake::Port(word) => write!(
                 f,
                 "PORT must be a number from 0 to 65535 without leading zeros, and is {word:?}"
@@ -83,6 +96,10 @@ impl fmt::Display for Mistake<'_> {
                 let form = form.form;
                 write!(f, "too many words: the form is {form}")
             }
+            Mistake::Count(word) => write!(
+                f,
+                "COUNT must be a number from 1 to 1000000 without leading zeros, and is {word:?}"
+            ),
         }
     }
 }
@@ -98,19 +115,20 @@ fn write_commands<W: fmt::Write>(f: &mut fmt::Formatter<W>) -> fmt::Result {
     Ok(())
 }
 
-// Whether a word is a number from 0 to 65535 in digits, without a leading zero. `parse` takes a plus too.
-fn is_port(word: &str) -> bool
-    ensures { IsTrue result ↔ IsPort word.now }
+// The number from 0 to 65535 that a word writes in digits, without a leading zero. `parse` takes a plus too.
+fn port_of(word: &str) -> Option<u16>
+    ensures port { IsSome result ↔ IsPort word.now }
+    ensures number { IfSome result (λ port. port ≡ digits_value 10 word.now) }
 {
     match word.as_bytes() {
-        [b'+', ..] | [b'0', _, ..] => false,
-        _ => word.parse::<u16>().is_ok(),
+        [b'+', ..] | [b'0', _, ..] => None,
+        _ => word.parse::<u16>().ok(),
     }
 }
 
 // The form of the command of this name, with as many words as `run` takes after it.
 fn form_of(name: &str) -> Option<&'static Form>
-    ensures found { IfSome result (λ form. Takes name.now form.now.words) }
+    ensures found { IfSome result (λ form. Takes name.now form.now.operands) }
     ensures none { IfNone result (IsUnknown name.now) }
 {
     for form in &COMMANDS {
@@ -121,6 +139,18 @@ fn form_of(name: &str) -> Option<&'static Form>
     None
 }
 
+// The mistake in the words after a command that takes a count of connections.
+fn mistake_of_count<'a>(form: &'static Form, others: &'a [String]) -> Option<Mistake<'a>>
+    ensures { IsNone result ↔ IsOneCount (map string_bytes others.now) }
+{
+    match others {
+        [] => Some(Mistake::TooFew(form)),
+        [word] if is_count(word.as_str()) => None,
+        [word] => Some(Mistake::Count(word.as_str())),
+        _ => Some(Mistake::TooMany(form)),
+    }
+}
+
 // The mistake in the words after PATH and PORT: there is one exactly if they are no command of `run`.
 fn mistake_of_command(words: &[String]) -> Option<Mistake<'_>>
     ensures { IsSome result ↔ (command_of (map string_bytes words.now) ≡ None) }
@@ -128,23 +158,53 @@ fn mistake_of_command(words: &[String]) -> Option<Mistake<'_>>
     let [name, others @ ..] = words else {
         return Some(Mistake::NoCommand);
     };
-    match form_of(name.as_str()) {
-        None => Some(Mistake::Unknown(name.as_str())),
-        Some(form) if others.len() < form.words => Some(Mistake::TooFew(form)),
-        Some(form) if others.len() > form.words => Some(Mistake::TooMany(form)),
-        Some(_) => None,
+    let Some(form) = form_of(name.as_str()) else {
+        return Some(Mistake::Unknown(name.as_str()));
+    };
+    match form.operands {
+        Operands::Words(count) if others.len() < count => Some(Mistake::TooFew(form)),
+        Operands::Words(count) if others.len() > count => Some(Mistake::TooMany(form)),
+        Operands::Words(_) => None,
+        Operands::Count => mistake_of_count(form, others),
     }
 }
 
-/// The mistake in the words after the program's name: there is none exactly if they are a command line.
-pub(crate) fn mistake_of(words: &[String]) -> Option<Mistake<'_>>
-    ensures { IsNone result ↔ IsCommandLine (map string_bytes words.now) }
+/// A command line, taken apart.
+#[derive(Clone, Copy)]
+pub(crate) struct CommandLine<'a> {
+    /// Where the tables are: `-` for memory, or a file.
+    pub(crate) path: &'a str,
+    /// Where the door is.
+    pub(crate) port: u16,
+    /// The command and its words.
+    pub(crate) command: &'a [String],
+}
+
+/// Takes the words after the program's name apart.
+///
+/// # Errors
+///
+/// The first mistake in them, exactly if they aren't a command line.
+pub(crate) fn read_line(words: &[String]) -> Result<CommandLine<'_>, Mistake<'_>>
+    ensures refused { IsErr result ↔ (IsCommandLine (map string_bytes words.now) → ⊥) }
+    ensures command { IfOk result (λ line. line.command.now ≡ drop 2 words.now) }
+    ensures command_is { IfOk result (λ line. command_of (map string_bytes line.command.now) ≢ None) }
 {
     match words {
-        [] => Some(Mistake::NoPath),
-        [path, ..] if path.as_bytes() != b"-".as_slice() => Some(Mistake::Path(path.as_str())),
-        [_] => Some(Mistake::NoPort),
-        [_, port, ..] if !is_port(port.as_str()) => Some(Mistake::Port(port.as_str())),
-        [_, _, command @ ..] => mistake_of_command(command),
+        [] => Err(Mistake::NoPath),
+        [_] => Err(Mistake::NoPort),
+        [path, port, command @ ..] => {
+            let Some(number) = port_of(port.as_str()) else {
+                return Err(Mistake::Port(port.as_str()));
+            };
+            match mistake_of_command(command) {
+                Some(mistake) => Err(mistake),
+                None => Ok(CommandLine {
+                    path: path.as_str(),
+                    port: number,
+                    command,
+                }),
+            }
+        }
     }
 }

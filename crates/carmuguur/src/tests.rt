@@ -1,4 +1,4 @@
-use crate::mistake::mistake_of;
+use crate::mistake::read_line;
 use std::alloc::{AllocError, Global};
 use std::test::Fail;
 
@@ -8,9 +8,9 @@ fn line_of(alloc: Global, words: &[&str]) -> Result<String, AllocError> {
     for word in words {
         owned.push(String::from_str(alloc, word)?)?;
     }
-    match mistake_of(&owned) {
-        Some(mistake) => format!(in alloc; "{mistake}"),
-        None => String::from_str(alloc, ""),
+    match read_line(&owned) {
+        Ok(_) => String::from_str(alloc, ""),
+        Err(mistake) => format!(in alloc; "{mistake}"),
     }
 }
 
@@ -19,10 +19,6 @@ fn names_what_is_wrong(rt: HostRuntime) -> Result<(), Fail> {
     for (words, line) in [
         ([].as_slice(), "PATH, PORT and a command are missing"),
         (["-"].as_slice(), "PORT and a command are missing"),
-        (
-            ["store.db", "0", "csvq", "x"].as_slice(),
-            "PATH must be - as yet, and is \"store.db\"",
-        ),
         (
             ["-", "65536", "csvq", "x"].as_slice(),
             "PORT must be a number from 0 to 65535 without leading zeros, and is \"65536\"",
@@ -41,15 +37,15 @@ fn names_what_is_wrong(rt: HostRuntime) -> Result<(), Fail> {
         ),
         (
             ["-", "0"].as_slice(),
-            "a command is missing: the commands are csvq QUERY, org-add NAME SECRET, answer",
+            "a command is missing: the commands are csvq QUERY, org-add NAME SECRET, answer, serve COUNT",
         ),
         (
             ["-", "0", "Csvq", "x"].as_slice(),
-            "unknown command \"Csvq\": the commands are csvq QUERY, org-add NAME SECRET, answer",
+            "unknown command \"Csvq\": the commands are csvq QUERY, org-add NAME SECRET, answer, serve COUNT",
         ),
         (
             ["-", "0", "a\nb"].as_slice(),
-            "unknown command \"a\\nb\": the commands are csvq QUERY, org-add NAME SECRET, answer",
+            "unknown command \"a\\nb\": the commands are csvq QUERY, org-add NAME SECRET, answer, serve COUNT",
         ),
         (
             ["-", "0", "csvq"].as_slice(),
@@ -67,6 +63,32 @@ fn names_what_is_wrong(rt: HostRuntime) -> Result<(), Fail> {
             ["-", "0", "answer", "x"].as_slice(),
             "too many words: the form is answer",
         ),
+        (
+            ["-", "0", "serve"].as_slice(),
+            "too few words: the form is serve COUNT",
+        ),
+        (
+            ["-", "0", "serve", "1", "2"].as_slice(),
+            "too many words: the form is serve COUNT",
+        ),
+        (
+            ["-", "0", "serve", "0"].as_slice(),
+            "COUNT must be a number from 1 to 1000000 without leading zeros, and is \"0\"",
+        ),
+        (
+            ["-", "0", "serve", "1000001"].as_slice(),
+            "COUNT must be a number from 1 to 1000000 without leading zeros, and is \"1000001\"",
+        ),
+        (
+            ["-", "0", "serve", "01"].as_slice(),
+            "COUNT must be a number from 1 to 1000000 without leading zeros, and is \"01\"",
+        ),
+        (
+            ["-", "0", "serve", "+1"].as_slice(),
+            "COUNT must be a number from 1 to 1000000 without leading zeros, and is \"+1\"",
+        ),
+        (["-", "0", "serve", "1000000"].as_slice(), ""),
+        (["store.db", "0", "csvq", "x"].as_slice(), ""),
         (["-", "0", "answer"].as_slice(), ""),
         (["-", "0", "csvq", "x"].as_slice(), ""),
         (["-", "65535", "org-add", "Acme", "short"].as_slice(), ""),

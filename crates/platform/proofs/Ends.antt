@@ -1,5 +1,5 @@
 -- How a command of one deed ends, and what it leaves, from what was done on its way.
-use Rattle.std.proofs.Common.{◌≡◌, ◌⊎◌, inl, inr, ℕ, Bool, true, false, IsTrue, List, [], Option, Some, None, Result, Ok, Err, refl, sym, ap, subst, ◌∙◌, append-nil}
+use Rattle.std.proofs.Common.{◌≡◌, ◌⊎◌, inl, inr, ℕ, Bool, true, false, IsTrue, List, [], length, Option, Some, None, Result, Ok, Err, refl, sym, ap, subst, ◌∙◌, append-nil}
 use Rattle.std.specs.Prelude.{IfOk, if◌then◌else◌}
 use Rattle.std.specs.Io.KnownBytes.{Appends}
 use Rattle.ut_io.specs.Streams.{AppendsFront}
@@ -89,12 +89,16 @@ module _ (k0 k1 : KeeperState) (same : Tells k0 k1 → Shows k1 k0.tables) (no_m
   shown : Tells k0 k1 → (w : World) → Stands k0.tables w → Stands k1.tables w
   shown t w s = subst (λ (m : Tables). Stands m w) (sym (same t).1) s
 
-  module _ (k2 : KeeperState) (steps : Steps k1 k2) where
+  -- with what follows it, for worlds with as many organisations as the opening counted
+  module _ (n : ℕ) (counts : Tells k0 k1 → (w : World) → Stands k0.tables w → n ≡ length w) (k2 : KeeperState) (steps : Steps k1 k2) where
     first : Tells k0 k2 → Tells k0 k1
     first t = (t.0, steps.stood t.1)
 
     later : Tells k0 k2 → Tells k1 k2
     later t = ((same (first t)).0, t.1)
+
+    counted : Tells k0 k1 → (w : World) → Stands k0.tables w → length w ≡ n
+    counted t w s = sym (counts t w s)
 
     leaves : (w end next : World) → k0.tells → Leaves w end next k1 k2 → Leaves w end next k0 k2
     leaves w end next tells l = record { tables = l.tables; crash = λ clean m h. by clean m (l.crash clean m h) }
@@ -104,24 +108,24 @@ module _ (k0 k1 : KeeperState) (same : Tells k0 k1 → Shows k1 k0.tables) (no_m
         by clean m (inr s) = inr s
 
     pub opened : (does : World → PageText × World) (w : World) (r : Result PageText StoreFail) → Tells k0 k2 → Stands k0.tables w
-        → (Tells k1 k2 → (w : World) → Stands k1.tables w → Does does w k1 k2 r) → (x : PageText) → r ≡ Ok x → DoesOpened does w k0 k2 (Ok x)
+        → (Tells k1 k2 → (w : World) → Stands k1.tables w → length w ≡ n → Does does w k1 k2 r) → (x : PageText) → r ≡ Ok x → DoesOpened does w k0 k2 (Ok x)
     opened does w r t s h x e =
-        let it = subst (Does does w k1 k2) e (h (later t) w (shown (first t) w s)) in
+        let it = subst (Does does w k1 k2) e (h (later t) w (shown (first t) w s) (counted (first t) w s)) in
         (it.0, leaves w (does w).1 (does w).1 t.0 it.1)
 
     pub opened_failed : (does : World → PageText × World) (w : World) (r : Result PageText StoreFail) → Tells k0 k2 → Stands k0.tables w
-        → (Tells k1 k2 → (w : World) → Stands k1.tables w → Does does w k1 k2 r) → (e : StoreFail) → r ≡ Err e → DoesOpened does w k0 k2 (Err (opening.Store e))
+        → (Tells k1 k2 → (w : World) → Stands k1.tables w → length w ≡ n → Does does w k1 k2 r) → (e : StoreFail) → r ≡ Err e → DoesOpened does w k0 k2 (Err (opening.Store e))
     opened_failed does w r t s h e is =
-        let it = subst (Does does w k1 k2) is (h (later t) w (shown (first t) w s)) in
+        let it = subst (Does does w k1 k2) is (h (later t) w (shown (first t) w s) (counted (first t) w s)) in
         (it.0, leaves w w (does w).1 t.0 it.1)
 
     pub crash_through : (next : World → World) → (IsTrue k1.is_clean → IsTrue k1.stands)
-        → (k1.tells → IsTrue k1.stands → IsTrue k2.is_clean → (w : World) → Stands k1.tables w → (m : Tables) → k2.may_leave m → k1.may_leave m ⊎ Stands m (next w))
+        → (k1.tells → IsTrue k1.stands → IsTrue k2.is_clean → (w : World) → Stands k1.tables w → length w ≡ n → (m : Tables) → k2.may_leave m → k1.may_leave m ⊎ Stands m (next w))
         → k0.tells → IsTrue k2.is_clean → (w : World) → Stands k0.tables w → (m : Tables) → k2.may_leave m → k0.may_leave m ⊎ Stands m (next w)
     crash_through next stands h tells clean w s m left =
         let one : IsTrue k1.is_clean = steps.was_clean clean in
         let told : Tells k0 k1 = (tells, stands one) in
-        by one (h (same told).0 (stands one) clean w (shown told w s) m left)
+        by one (h (same told).0 (stands one) clean w (shown told w s) (counted told w s) m left)
       where
         by : IsTrue k1.is_clean → k1.may_leave m ⊎ Stands m (next w) → k0.may_leave m ⊎ Stands m (next w)
         by one (inl h) = inl (no_more tells one m h)

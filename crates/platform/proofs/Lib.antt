@@ -1,4 +1,5 @@
 pub mod Cells
+pub mod Counts
 pub mod Ends
 pub mod Judging
 pub mod Keeping

@@ -2,6 +2,7 @@
 use Rattle.std.proofs.Common.{◌≡◌, ◌⊎◌, inl, inr, ℕ, true, false, IsTrue, List, [], Option, Some, Result, Ok, Err, refl, sym, ap, subst, ◌∙◌, arith}
 use Rattle.std.specs.Prelude.{IfOk, IfSome, IsErrOf, is_ok, ◌==◌}
 use Rattle.std.specs.List.{list_any}
+use Rattle.ut_value.specs.Causes.{Cause, Rose}
 use Rattle.ut_keeper.specs.State.{KeeperState, Steps, Tells}
 use Rattle.ut_keeper.specs.Tables.{Tables}
 use Rattle.ut_model.specs.World.{World}
@@ -9,15 +10,17 @@ use Rattle.ut_soql.specs.Reading.{asks_for_rows}
 use Rattle.ut_serving.specs.Leads.{LeadsFrom, StandsReached}
 use Rattle.ut_stands.specs.Operations.{Leaves}
 use Rattle.ut_stands.specs.Stands.{HasKnownVersion, HasUnknownVersion, Stands}
-use Rattle.platform.specs.Commands.{Command, Printing, answers, prints, csvq, is_serving, org_add, printed}
+use Rattle.platform.specs.Commands.{Command, Printing, answers, prints, serves, csvq, is_serving, org_add, printed}
 use Rattle.platform.specs.Deeds.{IsNext, Prints}
 use Rattle.platform.specs.OrgAdd.{org_does, org_printed, org_world}
-use Rattle.platform.specs.Run.{CrashLeaves, IsRefused, IsTold, IsWorldOf, Keeps, Runs, VersionEnds, may_change, may_write, status_in, statuses_of}
+use Rattle.platform.specs.Run.{CrashLeaves, IsRefused, IsTold, IsWorldOf, Keeps, NoneRose, Runs, VersionEnds, may_change, may_write, status_in, statuses_of, stop_status}
 use Rattle.platform.specs.Seen.{Seen}
-use Rattle.platform.specs.Serving.{RunsAnswer}
-use Rattle.platform.specs.Stops.{IsKnownStatus, VersionStops, behind, is_done}
+use Rattle.platform.specs.Stops.{IsFault, IsKnownStatus, VersionStops, behind, is_done}
 use Rattle.platform.specs.declared.stop.Stop.{Stop}
 use Rattle.platform.specs.declared.stop.Stop.TheVariants.{Damaged, DoorFailed, KeeperFailed, NoMemory, SinkFailed, SourceFailed, UnknownVersion}
+
+true_isnt_false : true ≡ false → ⊥
+true_isnt_false e = absurd cc
 
 pub csvq_runs : (a b : Seen) (command : Option Command) (query : List ℕ) (r : Result ℕ Stop) (status : ℕ) → command ≡ Some (prints (csvq query)) → status ≡ status_in r
     → ((w : World) (bytes moments : List ℕ) → IsTold (asks_for_rows query) a.left bytes → Prints w (printed (csvq query) w bytes moments) a.written b.written r w)
@@ -83,27 +86,73 @@ module _ (name secret : List ℕ) where
       by w bytes moments m (inl old) = inl old
       by w bytes moments m (inr s) = inr (w, org_world w name secret, its_next w bytes moments, s)
 
--- ---- one connection
+-- ---- connections
 
-pub answer_runs : (a b : Seen) (command : Option Command) (r : Result ℕ Stop) (status : ℕ) → command ≡ Some answers → status ≡ status_in r
-    → (Tells a.keeper b.keeper → (w : World) → Stands a.keeper.tables w → RunsAnswer w a b r)
-    → IfSome command (λ c. (w : World) → IsWorldOf c a.keeper b.keeper w → (r : Result ℕ Stop) × (status ≡ status_in r) × Runs c w a b r)
-answer_runs a b command r status is same h = rw is (λ w world. (r, same, by w world))
-  where
-    by : (w : World) → IsWorldOf answers a.keeper b.keeper w → RunsAnswer w a b r
-    by w (inl wrong) = absurd cc
-    by w (inr (t, s)) = h t w s
+-- the world of a command that serves is told
+told_world : (c : Command) (k l : KeeperState) (w : World) → is_serving c ≡ true → IsWorldOf c k l w → Tells k l × Stands k.tables w
+told_world (prints p) k l w serving h = absurd cc
+told_world answers k l w serving (inl wrong) = absurd cc
+told_world answers k l w serving (inr h) = h
+told_world (serves count) k l w serving (inl wrong) = absurd cc
+told_world (serves count) k l w serving (inr h) = h
 
--- what a run that serves leads to
-pub answer_leads : (k l : KeeperState) (command : Option Command) → command ≡ Some answers
-    → LeadsFrom k l → Steps k l
-    → IfSome command (λ c. is_serving c ≡ true → Tells k l → (w : World) → Stands k.tables w → StandsReached w l.tables)
-answer_leads k l command is h steps = rw is (λ _ told w s. ((h told.0 (steps.stood told.1) w s).tables told.1).1)
+module _ (command : Option Command) (c : Command) (serving : is_serving c ≡ true) (is : command ≡ Some c) where
+  pub serving_runs : (a b : Seen) (r : Result ℕ Stop) (status : ℕ) → status ≡ status_in r
+      → (Tells a.keeper b.keeper → (w : World) → Stands a.keeper.tables w → Runs c w a b r)
+      → IfSome command (λ c. (w : World) → IsWorldOf c a.keeper b.keeper w → (r : Result ℕ Stop) × (status ≡ status_in r) × Runs c w a b r)
+  serving_runs a b r status same h = rw is (λ w world. let told = told_world c a.keeper b.keeper w serving world in (r, same, h told.0 w told.1))
 
-pub answer_crash : (k l : KeeperState) (command : Option Command) → command ≡ Some answers
-    → LeadsFrom k l
-    → IfSome command (λ c. k.tells → IsTrue k.stands → IsTrue l.is_clean → (w : World) → Stands k.tables w → CrashLeaves c w k l)
-answer_crash k l command is h = rw is (λ tells stands clean w s m left. (h tells stands w s).crash clean m left)
+  -- what a run that serves leads to
+  pub serving_leads : (k l : KeeperState) → LeadsFrom k l → Steps k l
+      → IfSome command (λ c. is_serving c ≡ true → Tells k l → (w : World) → Stands k.tables w → StandsReached w l.tables)
+  serving_leads k l h steps = rw is (λ _ told w s. ((h told.0 (steps.stood told.1) w s).tables told.1).1)
+
+  reached : (c : Command) (w : World) (k l : KeeperState) → is_serving c ≡ true → ((m : Tables) → l.may_leave m → k.may_leave m ⊎ StandsReached w m) → CrashLeaves c w k l
+  reached (prints p) w k l serving h = absurd cc
+  reached answers w k l serving h = h
+  reached (serves count) w k l serving h = h
+
+  pub serving_crash : (k l : KeeperState) → LeadsFrom k l
+      → IfSome command (λ c. k.tells → IsTrue k.stands → IsTrue l.is_clean → (w : World) → Stands k.tables w → CrashLeaves c w k l)
+  serving_crash k l h = rw is (λ tells stands clean w s. reached c w k l serving (λ m left. (h tells stands w s).crash clean m left))
+
+  -- nothing failed: it is done, or memory ran out
+  pub serving_completes : ((m : Tables) → HasKnownVersion m → HasUnknownVersion m → ⊥) → ((m : Tables) (w : World) → Stands m w → HasKnownVersion m)
+      → (k l : KeeperState) (r : Result ℕ Stop) (status : ℕ) → IfOk r (λ s. s ≡ 0) → status ≡ status_in r → (Tells k l → VersionStops k.tables r)
+      → (counts : List (ℕ × ℕ)) → (NoneRose counts → (f : Stop) → IsFault f → r ≡ Err f → ⊥)
+      → IfSome command (λ c. is_serving c ≡ true → Tells k l → (w : World) → Stands k.tables w → NoneRose counts → (status ≡ 0) ⊎ (status ≡ 71))
+  serving_completes one known k l r status zero same version counts never = rw is (λ _ told w s none. by r zero same (version told) (never none) w s)
+    where
+      by : (r : Result ℕ Stop) → IfOk r (λ s. s ≡ 0) → status ≡ status_in r → VersionStops k.tables r → ((f : Stop) → IsFault f → r ≡ Err f → ⊥) → (w : World) → Stands k.tables w → (status ≡ 0) ⊎ (status ≡ 71)
+      by (Ok x) zero same version never w s = inl (same ∙ zero)
+      by (Err NoMemory) zero same version never w s = inr same
+      by (Err KeeperFailed) zero same version never w s = absurd (never KeeperFailed tt refl)
+      by (Err SinkFailed) zero same version never w s = absurd (never SinkFailed tt refl)
+      by (Err SourceFailed) zero same version never w s = absurd (never SourceFailed tt refl)
+      by (Err DoorFailed) zero same version never w s = absurd (never DoorFailed tt refl)
+      by (Err Damaged) zero same version never w s = absurd (version.1 w s)
+      by (Err UnknownVersion) zero same version never w s = absurd (one k.tables (known k.tables w s) version)
+
+pub known_zero : (r : Result ℕ Stop) → IfOk r (λ s. s ≡ 0) → IsKnownStatus r
+known_zero (Ok x) zero = inl zero
+known_zero (Err f) zero = tt
+
+-- a status that a command doesn't have
+pub not_listed : (c : Command) (r : Result ℕ Stop) (f : Stop) → IsTrue (list_any (λ s. s == status_in r) (statuses_of c)) → list_any (λ s. s == stop_status f) (statuses_of c) ≡ false → r ≡ Err f → ⊥
+not_listed c r f listed never e = true_isnt_false (sym (subst (λ (x : Result ℕ Stop). IsTrue (list_any (λ s. s == status_in x) (statuses_of c))) e listed) ∙ never)
+
+pub faulted : (r : Result ℕ Stop) (f : Stop)
+    → (r ≡ Err KeeperFailed → ⊥) → (r ≡ Err SinkFailed → ⊥) → (r ≡ Err SourceFailed → ⊥) → (r ≡ Err DoorFailed → ⊥) → IsFault f → r ≡ Err f → ⊥
+faulted r KeeperFailed keeper sink source door is e = keeper e
+faulted r SinkFailed keeper sink source door is e = sink e
+faulted r SourceFailed keeper sink source door is e = source e
+faulted r DoorFailed keeper sink source door is e = door e
+faulted r NoMemory keeper sink source door is e = is
+faulted r Damaged keeper sink source door is e = is
+faulted r UnknownVersion keeper sink source door is e = is
+
+pub quiet : (n : ℕ) (F : Type 0) → (F → ⊥) → Cause n n F
+quiet n F never = record { later = omega arith; rose = λ f. absurd (never f) }
 
 -- ---- statuses
 
@@ -186,6 +235,16 @@ is_74 (Err SourceFailed) status h same e = refl
 is_74 (Err DoorFailed) status h same e = absurd (omega (arith, same, e))
 is_74 (Err Damaged) status h same e = absurd (omega (arith, same, e))
 is_74 (Err UnknownVersion) status h same e = absurd (omega (arith, same, e))
+
+pub is_75 : (r : Result ℕ Stop) (status : ℕ) → IsKnownStatus r → status ≡ status_in r → status ≡ 75 → r ≡ Err DoorFailed
+is_75 (Ok s) status h same e = absurd (omega (arith, same, e, h))
+is_75 (Err NoMemory) status h same e = absurd (omega (arith, same, e))
+is_75 (Err KeeperFailed) status h same e = absurd (omega (arith, same, e))
+is_75 (Err SinkFailed) status h same e = absurd (omega (arith, same, e))
+is_75 (Err SourceFailed) status h same e = absurd (omega (arith, same, e))
+is_75 (Err DoorFailed) status h same e = refl
+is_75 (Err Damaged) status h same e = absurd (omega (arith, same, e))
+is_75 (Err UnknownVersion) status h same e = absurd (omega (arith, same, e))
 
 -- ---- the version
 

@@ -1,6 +1,9 @@
 -- The commands, what each uses, and what each prints.
-use Rattle.std.specs.Prelude.{ℕ, Bool, true, false, if◌then◌else◌, List, [], ◌∷◌, Option, Some, None, codes}
-use Rattle.std.specs.Str.{bytes_eq}
+use Rattle.std.specs.Prelude.{ℕ, Bool, true, false, not, ◌&&◌, ◌==◌, nat_le, if◌then◌else◌, List, [], ◌∷◌, Option, Some, None, codes}
+use Rattle.std.specs.Char.{digit_value}
+use Rattle.std.specs.Option.{option_map}
+use Rattle.std.specs.Str.{byte, bytes_eq}
+use Rattle.std.specs.Str.Parse.{digits_value}
 use Rattle.ut_model.specs.World.{World}
 use Rattle.ut_soql.specs.Reading.{asks_for_rows}
 use Rattle.platform.specs.Csvq.{rows_printed}
@@ -18,10 +21,30 @@ pub data Command : Type 0 where
   prints : Printing → Command
   -- the messages of one connection, from the source, answered to the sink
   answers : Command
-  -- connections of the door, so many or all that come; no words ask for it yet
+  -- connections of the door, so many or all that come
   serves : (count : ℕ) → Command
 
 -- ---- words
+
+-- decimal digits, one or more, without a leading zero
+abbrev pub all_digits : List ℕ → Bool
+all_digits [] = true
+all_digits (c ∷ cs) = nat_le (digit_value c) 9 && all_digits cs
+
+abbrev pub is_counting : List ℕ → Bool
+is_counting [] = false
+is_counting (c ∷ cs) = not (c == byte "0") && all_digits (c ∷ cs)
+
+abbrev pub is_within : (least most : ℕ) → ℕ → Bool
+is_within least most n = nat_le least n && nat_le n most
+
+-- the most connections that one run serves
+abbrev pub most_connections : ℕ
+most_connections = 1000000
+
+-- the count of connections that a word writes: from 1 to the most
+abbrev pub count_in : List ℕ → Option ℕ
+count_in word = if is_counting word && is_within 1 most_connections (digits_value 10 word) then Some (digits_value 10 word) else None
 
 abbrev pub csvq_of : List (List ℕ) → Option Command
 csvq_of (query ∷ []) = Some (prints (csvq query))
@@ -35,9 +58,13 @@ abbrev pub answer_of : List (List ℕ) → Option Command
 answer_of [] = Some answers
 answer_of _ = None
 
+abbrev pub serve_of : List (List ℕ) → Option Command
+serve_of (count ∷ []) = option_map serves (count_in count)
+serve_of _ = None
+
 -- the first word of each command, and the command that the words behind it make
 abbrev pub table : List (List ℕ × (List (List ℕ) → Option Command))
-table = (codes "csvq", csvq_of) ∷ (codes "org-add", org_add_of) ∷ (codes "answer", answer_of) ∷ []
+table = (codes "csvq", csvq_of) ∷ (codes "org-add", org_add_of) ∷ (codes "answer", answer_of) ∷ (codes "serve", serve_of) ∷ []
 
 abbrev pub found_in : List (List ℕ × (List (List ℕ) → Option Command)) → List ℕ → List (List ℕ) → Option Command
 found_in [] word arguments = None
@@ -55,19 +82,21 @@ pub record Uses : Type 0 where
   pub keeper : Bool
   -- whether it looks at its input
   pub source : Bool
+  -- whether it opens the door
+  pub door : Bool
   -- whether it asks the clock: a command that prints asks once, a connection once for each message
   pub clock : Bool
   -- whether what it prints depends on the moment
   pub dated : Bool
 
 abbrev pub uses : Printing → Uses
-uses (csvq query) = record { keeper = false; source = asks_for_rows query; clock = true; dated = false }
-uses (org_add name secret) = record { keeper = true; source = false; clock = false; dated = false }
+uses (csvq query) = record { keeper = false; source = asks_for_rows query; door = false; clock = true; dated = false }
+uses (org_add name secret) = record { keeper = true; source = false; door = false; clock = false; dated = false }
 
 abbrev pub uses_of : Command → Uses
 uses_of (prints p) = uses p
-uses_of answers = record { keeper = true; source = true; clock = true; dated = true }
-uses_of (serves count) = record { keeper = true; source = false; clock = true; dated = true }
+uses_of answers = record { keeper = true; source = true; door = false; clock = true; dated = true }
+uses_of (serves count) = record { keeper = true; source = false; door = true; clock = true; dated = true }
 
 -- whether it serves connections
 abbrev pub is_serving : Command → Bool
@@ -79,6 +108,11 @@ is_serving (serves count) = true
 abbrev pub opens_in : Option Command → Bool
 opens_in None = false
 opens_in (Some command) = (uses_of command).keeper
+
+-- whether these words open the door
+abbrev pub opens_door_in : Option Command → Bool
+opens_door_in None = false
+opens_door_in (Some command) = (uses_of command).door
 
 -- ---- what each prints, given the world of the tables, the bytes of its input, and the moments that the clock will tell
 

@@ -1,5 +1,6 @@
 -- What `run` promises.
 use Rattle.std.specs.Prelude.{◌≡◌, ◌⊎◌, ◌==◌, ◌||◌, ℕ, Bool, true, false, IsTrue, List, [], ◌∷◌, Option, Some, Result, Ok, Err}
+use Rattle.ut_value.specs.Causes.{Rose}
 use Rattle.ut_keeper.specs.State.{KeeperState, Tells}
 use Rattle.ut_keeper.specs.Tables.{Tables}
 use Rattle.ut_model.specs.World.{World}
@@ -50,6 +51,11 @@ abbrev pub is_opening : ℕ → Bool
 is_opening status = (status == 71) || ((status == 72) || ((status == 76) || (status == 77)))
 
 -- ---- what is handed in
+
+-- of none of these counts of faults, before and after, did the later one rise
+abbrev pub NoneRose : List (ℕ × ℕ) → Type 0
+NoneRose [] = Unit {0}
+NoneRose (count ∷ counts) = (Rose count.0 count.1 → ⊥) × NoneRose counts
 
 -- this may be taken for what is told; if it isn't used, anything
 abbrev pub IsTold : Bool → Option (List ℕ) → List ℕ → Type 0

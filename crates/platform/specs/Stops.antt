@@ -68,6 +68,14 @@ FailsByTables stop.Damaged = Unit {0}
 FailsByTables stop.UnknownVersion = Unit {0}
 FailsByTables _ = ⊥
 
+-- it failed by something that is handed in, which counts its faults
+abbrev pub IsFault : Stop → Type 0
+IsFault stop.KeeperFailed = Unit {0}
+IsFault stop.SinkFailed = Unit {0}
+IsFault stop.SourceFailed = Unit {0}
+IsFault stop.DoorFailed = Unit {0}
+IsFault _ = ⊥
+
 abbrev pub VersionStops : Tables → Result ℕ Stop → Type 0
 VersionStops m (Ok x) = HasKnownVersion m
 VersionStops m (Err stop.SinkFailed) = HasKnownVersion m

@@ -1,12 +1,22 @@
 -- The words of a command line as the code takes them apart.
-use Rattle.std.specs.Prelude.{◌≡◌, Option, Some, None}
-use Rattle.platform.specs.Commands.{Command, answers, prints, csvq, org_add}
+use Rattle.std.specs.Prelude.{◌≡◌, ◌≢◌, ◌<◌, ◌≤◌, ℕ, List, slice_index, Option, Some, None}
+use Rattle.std.specs.Str.{byte}
+use Rattle.std.specs.Str.Parse.{IsNumeral, digits_value}
+use Rattle.platform.specs.Commands.{Command, most_connections, answers, prints, serves, csvq, org_add}
 use Rattle.platform.specs.declared.command.Words.{Words}
-use Rattle.platform.specs.declared.command.Words.TheVariants.{Answer, Csvq, OrgAdd, Other}
+use Rattle.platform.specs.declared.command.Words.TheVariants.{Answer, Csvq, OrgAdd, Other, Serve}
+
+-- digits that write a count of connections, without a leading zero
+pub record IsCount (word : List ℕ) : Type 0 where
+  pub numeral : IsNumeral 10 word
+  pub first : slice_index word 0 ≢ byte "0"
+  pub some : 1 ≤ digits_value 10 word
+  pub few : digits_value 10 word ≤ most_connections
 
 -- they are this command, or none
 abbrev pub AreWords : Words → Option Command → Type 0
 AreWords (Csvq query) command = command ≡ Some (prints (csvq query.now))
 AreWords (OrgAdd name secret) command = command ≡ Some (prints (org_add name.now secret.now))
 AreWords Answer command = command ≡ Some answers
+AreWords (Serve count) command = (0 < count) × (command ≡ Some (serves count))
 AreWords Other command = command ≡ None

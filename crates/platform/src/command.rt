@@ -1,5 +1,6 @@
-ghost use Rattle.std.specs.Prelude.{map, string_bytes};
-ghost use Rattle.platform.specs.Commands.{command_of};
+ghost use Rattle.std.specs.Prelude.{◌≡◌, ◌↔◌, IfSome, IsSome, is_some, map, string_bytes};
+ghost use Rattle.std.specs.Str.Parse.{digits_value};
+ghost use Rattle.platform.specs.Commands.{command_of, count_in};
 
 /// The words of a command line, taken apart.
 pub(crate) enum Words<'a> {
@@ -9,11 +10,44 @@ pub(crate) enum Words<'a> {
     OrgAdd(&'a str, &'a str),
     /// `answer`
     Answer,
+    /// `serve COUNT`
+    Serve(u32),
     /// No command.
     Other,
 }
 
-ghost use Rattle.platform.specs.Words.{AreWords};
+ghost use Rattle.platform.specs.Words.{AreWords, IsCount};
+
+// The most connections that one run serves.
+const MOST_CONNECTIONS: u32 = 1_000_000;
+
+// The count of connections that a word writes. `parse` takes a plus and leading zeros too.
+fn read_count(word: &str) -> Option<u32>
+    ensures count { IsSome result ↔ IsCount word.now }
+    ensures number { IfSome result (λ count. count ≡ digits_value 10 word.now) }
+{
+    match word.as_bytes() {
+        [b'+', ..] | [b'0', ..] => None,
+        _ => match word.parse::<u32>() {
+            Ok(count) if count >= 1 && count <= MOST_CONNECTIONS => Some(count),
+            _ => None,
+        },
+    }
+}
+
+// The same, by the definition of the commands.
+fn count_of(word: &str) -> Option<u32>
+    ensures { result ≡ count_in word.now }
+{
+    read_count(word)
+}
+
+/// Whether a word is a count of connections as `serve` takes it: from 1 to 1,000,000 in digits, without a leading zero.
+pub fn is_count(word: &str) -> bool
+    ensures { result ≡ is_some (count_in word.now) }
+{
+    count_of(word).is_some()
+}
 
 pub(crate) fn read_words(words: &[String]) -> Words<'_>
     ensures { AreWords result (command_of (map string_bytes words.now)) }
@@ -24,6 +58,11 @@ pub(crate) fn read_words(words: &[String]) -> Words<'_>
         Words::OrgAdd(words[1].as_str(), words[2].as_str())
     } else if words.len() == 1 && words[0].as_bytes() == b"answer".as_slice() {
         Words::Answer
+    } else if words.len() == 2 && words[0].as_bytes() == b"serve".as_slice() {
+        match count_of(words[1].as_str()) {
+            Some(count) => Words::Serve(count),
+            None => Words::Other,
+        }
     } else {
         Words::Other
     }

@@ -1,7 +1,7 @@
-ghost use Rattle.std.specs.Prelude.{◌≡◌, [], codes};
+ghost use Rattle.std.specs.Prelude.{◌≡◌, [], ◌∷◌, None, Some, codes};
 ghost use Rattle.sha2.specs.Sha256.{sha256};
 ghost use Rattle.ut_model.specs.Organisations.{with_org};
-ghost use Rattle.platform.specs.Commands.{csvq, org_add, printed};
+ghost use Rattle.platform.specs.Commands.{command_of, csvq, org_add, printed, serves};
 ghost use Rattle.platform.specs.Deeds.{one_deed};
 
 /// What commands print, worked by hand. Of `csvq`: rows, a name in quotes, no row, a heading and a query that are refused.
@@ -27,4 +27,16 @@ pub fn printed_rows()
         ≡ one_deed (record { text = codes "refused: NAME_REFUSED: 1 to 80 characters\n"; status = 65 }) [] }
     ensures secret { printed (org_add (codes "Acme") (codes "short")) [] [] []
         ≡ one_deed (record { text = codes "refused: SECRET_REFUSED: 16 to 64 letters or digits\n"; status = 65 }) [] }
+{}
+
+/// What `serve` takes, worked by hand: counts from 1 to 1,000,000 in digits alone. The call does nothing.
+pub fn serving_rows()
+    ensures one { command_of (codes "serve" ∷ codes "1" ∷ []) ≡ Some (serves 1) }
+    ensures most { command_of (codes "serve" ∷ codes "1000000" ∷ []) ≡ Some (serves 1000000) }
+    ensures none { command_of (codes "serve" ∷ codes "0" ∷ []) ≡ None }
+    ensures many { command_of (codes "serve" ∷ codes "1000001" ∷ []) ≡ None }
+    ensures signed { command_of (codes "serve" ∷ codes "+1" ∷ []) ≡ None }
+    ensures leading { command_of (codes "serve" ∷ codes "01" ∷ []) ≡ None }
+    ensures empty { command_of (codes "serve" ∷ [] ∷ []) ≡ None }
+    ensures letters { command_of (codes "serve" ∷ codes "1k" ∷ []) ≡ None }
 {}

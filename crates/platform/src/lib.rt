@@ -14,5 +14,6 @@ mod running;
 mod serving;
 mod stop;
 
-pub use crate::laws::printed_rows;
+pub use crate::command::is_count;
+pub use crate::laws::{printed_rows, serving_rows};
 pub use crate::running::run;

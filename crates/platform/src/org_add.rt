@@ -1,6 +1,6 @@
 //! The command `org-add`.
 
-ghost use Rattle.std.specs.Prelude.{◌≡◌, ◌<◌, ◌⊎◌, IfErr, IfOk, IsErrOf, IsTrue, OnErr, is_ok};
+ghost use Rattle.std.specs.Prelude.{◌≡◌, ◌<◌, ◌⊎◌, IfErr, IfOk, IsErrOf, IsTrue, OnErr, is_ok, length};
 ghost use Rattle.ut_keeper.specs.Draft.{DraftReads, DraftTells, DraftWorks, count_of, state_of, tables_of};
 ghost use Rattle.ut_keeper.specs.State.{KeeperCause, Shows, StandsAfter, StaysAfter, Steps, Tells};
 ghost use Rattle.ut_keeper.specs.Tables.{Tables};
@@ -36,15 +36,16 @@ fn org_page(alloc: Global, org: u32) -> Result<Page, AllocError>
 }
 
 // Judges a new organisation, and puts it into the draft if it isn't refused. A refusal is a page too: it is made only
-// once every call of the keeper has returned `Ok`.
+// once every call of the keeper has returned `Ok`. `organisations` is how many there are.
 fn judge<K: Keeper>(
     alloc: Global,
     draft: &mut Draft<'_, K>,
+    organisations: u32,
     name: &str,
     secret: &str,
 ) -> Result<Judged<Page>, StoreFail>
     ensures judged { DraftTells K.state draft.old draft.new
-        → (w : World) → Stands (tables_of K.state draft.old) w
+        → (w : World) → Stands (tables_of K.state draft.old) w → length w ≡ organisations
         → Judges (org_does name.now secret.now) w (tables_of K.state draft.new) result }
     ensures change { IsChange result → 0 < count_of draft.new }
     ensures done { IfOk result (λ j. Refuses j → IsChange result → ⊥) }
@@ -59,7 +60,7 @@ fn judge<K: Keeper>(
     if !is_secret(secret) {
         return Ok(Judged::Same(page_of_refusal(alloc, &Refusal::SecretRefused)?));
     }
-    match add_org(alloc, draft, name, secret) {
+    match add_org(alloc, draft, organisations, name, secret) {
         Ok(org) => Ok(Judged::Changed(org_page(alloc, org)?)),
         Err(EditFail::Refused(refusal)) => Ok(Judged::Same(page_of_refusal(alloc, &refusal)?)),
         Err(EditFail::Store(fail)) => Err(fail),
@@ -67,26 +68,30 @@ fn judge<K: Keeper>(
 }
 
 // Judges a new organisation of opened tables, and makes it in one batch. The page is made before the batch is applied.
+// `organisations` is how many there are.
 fn add<K: Keeper>(
     alloc: Global,
     keeper: &mut K,
+    organisations: u32,
     name: &str,
     secret: &str,
 ) -> Result<Page, StoreFail>
-    ensures does { Tells (K.state keeper.old) (K.state keeper.new) → (w : World) → Stands (K.state keeper.old).tables w
+    ensures does { Tells (K.state keeper.old) (K.state keeper.new)
+        → (w : World) → Stands (K.state keeper.old).tables w → length w ≡ organisations
         → Does (org_does name.now secret.now) w (K.state keeper.old) (K.state keeper.new) result }
     ensures kept { Tells (K.state keeper.old) (K.state keeper.new) → OnErr result (Shows (K.state keeper.new) (K.state keeper.old).tables) }
     ensures refused { Tells (K.state keeper.old) (K.state keeper.new)
         → IfOk result (λ p. p.status ≡ 65 → Shows (K.state keeper.new) (K.state keeper.old).tables) }
     ensures crash { (K.state keeper.old).tells → IsTrue (K.state keeper.old).stands → IsTrue (K.state keeper.new).is_clean
-        → (w : World) → Stands (K.state keeper.old).tables w → (m : Tables) → (K.state keeper.new).may_leave m
+        → (w : World) → Stands (K.state keeper.old).tables w → length w ≡ organisations
+        → (m : Tables) → (K.state keeper.new).may_leave m
         → (K.state keeper.old).may_leave m ⊎ Stands m (org_does name.now secret.now w).1 }
     ensures steps { Steps (K.state keeper.old) (K.state keeper.new) }
     ensures stays { StaysAfter (is_ok result) (K.state keeper.old) (K.state keeper.new) }
     ensures cause { KeeperCause (K.state keeper.old) (K.state keeper.new) (IsErrOf result Keeper) }
 {
     let mut draft = Draft::new(alloc, keeper);
-    let judged = judge(alloc, &mut draft, name, secret);
+    let judged = judge(alloc, &mut draft, organisations, name, secret);
     finish(alloc, draft, judged)
 }
 
@@ -112,7 +117,7 @@ pub(crate) fn org_add_page<K: Keeper>(
 {
     stands_laws();
     match open_tables(alloc, keeper) {
-        Ok(()) => match add(alloc, keeper, name, secret) {
+        Ok(organisations) => match add(alloc, keeper, organisations, name, secret) {
             Ok(page) => Ok(page),
             Err(fail) => Err(OpenFail::Store(fail)),
         },

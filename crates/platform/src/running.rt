@@ -1,4 +1,4 @@
-ghost use Rattle.std.specs.Prelude.{◌≡◌, ◌↔◌, ◌⊎◌, ◌==◌, List, ℕ, IsTrue, IfErr, IfOk, None, true, false, IfSome, IsErrOf, is_ok, map, string_bytes, Result};
+ghost use Rattle.std.specs.Prelude.{◌≡◌, ◌↔◌, ◌⊎◌, ◌≤◌, ◌==◌, [], ◌∷◌, List, ℕ, IsTrue, IfErr, IfOk, None, true, false, IfSome, IsErrOf, is_ok, map, string_bytes, Result};
 ghost use Rattle.std.specs.List.{list_any};
 ghost use Rattle.std.specs.Io.KnownBytes.{IsAtEnd};
 ghost use Rattle.ut_value.specs.Causes.{Cause};
@@ -10,10 +10,10 @@ ghost use Rattle.ut_soql.specs.Reading.{asks_for_rows};
 ghost use Rattle.ut_serving.specs.Leads.{StandsReached};
 ghost use Rattle.ut_stands.specs.Operations.{Leaves};
 ghost use Rattle.ut_stands.specs.Stands.{Stands};
-ghost use Rattle.platform.specs.Commands.{command_of, csvq, is_serving, opens_in, org_add, printed, uses_of};
+ghost use Rattle.platform.specs.Commands.{command_of, csvq, is_serving, opens_door_in, opens_in, org_add, printed, uses_of};
 ghost use Rattle.platform.specs.Deeds.{Prints, one_deed};
 ghost use Rattle.platform.specs.OrgAdd.{org_does};
-ghost use Rattle.platform.specs.Run.{CrashLeaves, IsTold, is_opening, IsWorldOf, Runs, VersionEnds, may_change, may_write, status_in, statuses_of};
+ghost use Rattle.platform.specs.Run.{CrashLeaves, IsTold, is_opening, IsWorldOf, NoneRose, Runs, VersionEnds, may_change, may_write, status_in, statuses_of};
 ghost use Rattle.platform.specs.Stops.{FailsByTables, IsKnownStatus, VersionStops, behind, is_done};
 ghost use Rattle.platform.specs.declared.stop.Stop.{Stop};
 ghost use Rattle.platform.specs.declared.stop.Stop.TheVariants.{DoorFailed, KeeperFailed, SinkFailed, SourceFailed};
@@ -22,7 +22,7 @@ use crate::command::{Words, read_words};
 use crate::csvq::page_of;
 use crate::org_add::org_add_page;
 use crate::page::Page;
-use crate::serving::serve_answer;
+use crate::serving::{serve_answer, serve_door};
 use crate::stop::Stop;
 use std::alloc::Global;
 use ut_io::{Clock, Door, Sink, Source, write_all};
@@ -126,19 +126,21 @@ fn status_of(ended: Result<u8, Stop>) -> u8
 /// | `csvq QUERY` | reads a CSV text from the source, and writes its rows with their ids |
 /// | `org-add NAME SECRET` | makes an organisation, and writes its id and its administrator's |
 /// | `answer` | answers the HTTP messages of one connection, which come from the source, to the sink |
+/// | `serve COUNT` | answers the HTTP messages of the first COUNT connections of the door, or of all that come |
 ///
 /// | Status | When |
 /// |---|---|
 /// | 0 | the command was done; `csvq` has read its input to its end |
 /// | 64 | the words are no command; nothing is read or written |
 /// | 65 | the query, the input or an argument is refused; one line says so |
-/// | 71 | out of memory; of `answer` only before a message is read |
-/// | 72 | the keeper failed; of `answer` only before a message is read |
+/// | 71 | out of memory; of `answer` and `serve` only before a message is read |
+/// | 72 | the keeper failed; of `answer` and `serve` only before a message is read |
 /// | 73, 74 | the sink failed; the source failed |
+/// | 75 | the door failed: it couldn't be opened, or brought no further connection |
 /// | 76 | the tables are damaged |
 /// | 77 | the tables are of a version that isn't known here |
 ///
-/// After 0, 65 and 73, and of `answer` also after 74, the tables are what the command is to leave; after every other status
+/// After 0, 65 and 73, of `answer` also after 74, and of `serve` after 75, the tables are what the command is to leave; after every other status
 /// they are what they were.
 pub fn run<K: Keeper, D: Door, S: Source, W: Sink, C: Clock>(
     alloc: Global,
@@ -190,12 +192,12 @@ pub fn run<K: Keeper, D: Door, S: Source, W: Sink, C: Clock>(
     ensures unasked { IfSome (command_of (map string_bytes words.now)) (λ command.
         (uses_of command).clock ≡ false → clock.new ≡ clock.old) }
     ensures unserved { IfSome (command_of (map string_bytes words.now)) (λ command. is_serving command ≡ true
-        → is_opening result ≡ true → (source.new ≡ source.old) × (sink.new ≡ sink.old) × (clock.new ≡ clock.old)) }
+        → is_opening result ≡ true → (source.new ≡ source.old) × (sink.new ≡ sink.old) × (clock.new ≡ clock.old) × (door.new ≡ door.old)) }
 
     // What stays as it was.
     ensures untouched { result ≡ 64 → (source.new ≡ source.old) × (sink.new ≡ sink.old) × (clock.new ≡ clock.old) }
     ensures unopened { opens_in (command_of (map string_bytes words.now)) ≡ false → keeper.new ≡ keeper.old }
-    ensures door { door.new ≡ door.old }
+    ensures shut { opens_door_in (command_of (map string_bytes words.now)) ≡ false → door.new ≡ door.old }
     ensures source_stays { S.stays source.old source.new }
     ensures sink_stays { W.stays sink.old sink.new }
 
@@ -205,6 +207,14 @@ pub fn run<K: Keeper, D: Door, S: Source, W: Sink, C: Clock>(
     ensures keeper_cause { KeeperCause (K.state keeper.old) (K.state keeper.new) (result ≡ 72) }
     ensures sink_cause { Cause (W.faults sink.old) (W.faults sink.new) (result ≡ 73) }
     ensures source_cause { Cause (S.faults source.old) (S.faults source.new) (result ≡ 74) }
+    ensures door_cause { Cause (D.faults door.old) (D.faults door.new) (result ≡ 75) }
+    ensures line_faults { D.line_faults door.old ≤ D.line_faults door.new }
+    // Connections are served if nothing fails.
+    ensures complete { IfSome (command_of (map string_bytes words.now)) (λ command. is_serving command ≡ true
+        → Tells (K.state keeper.old) (K.state keeper.new) → (w : World) → Stands (K.state keeper.old).tables w
+        → NoneRose (((K.state keeper.old).faults, (K.state keeper.new).faults) ∷ (S.faults source.old, S.faults source.new)
+        ∷ (W.faults sink.old, W.faults sink.new) ∷ (D.faults door.old, D.faults door.new) ∷ [])
+        → (result ≡ 0) ⊎ (result ≡ 71)) }
 {
     stands_laws();
     match read_words(words) {
@@ -216,6 +226,7 @@ pub fn run<K: Keeper, D: Door, S: Source, W: Sink, C: Clock>(
             status_of(print_org_add(alloc, name, secret, keeper, sink))
         }
         Words::Answer => status_of(serve_answer(alloc, keeper, source, sink, clock)),
+        Words::Serve(count) => status_of(serve_door(alloc, keeper, door, clock, count)),
         Words::Other => 64,
     }
 }

@@ -1,4 +1,4 @@
-ghost use Rattle.std.specs.Prelude.{◌≡◌, ◌==◌, ℕ, IsErrOf, IsTrue, Option, false, true};
+ghost use Rattle.std.specs.Prelude.{◌≡◌, ◌<◌, ◌≤◌, ◌==◌, List, ℕ, IfOk, IsErrOf, IsTrue, Option, false, true};
 ghost use Rattle.std.specs.List.{list_any};
 ghost use Rattle.ut_io.specs.Doors.{DoorState};
 ghost use Rattle.ut_keeper.specs.State.{KeeperCause, Shows, Steps, Tells};
@@ -6,17 +6,17 @@ ghost use Rattle.ut_model.specs.World.{World};
 ghost use Rattle.ut_serving.specs.Leads.{LeadsFrom};
 ghost use Rattle.ut_stands.specs.Stands.{Stands};
 ghost use Rattle.ut_value.specs.Causes.{Cause};
-ghost use Rattle.platform.specs.Commands.{answers};
+ghost use Rattle.platform.specs.Commands.{answers, serves};
 ghost use Rattle.platform.specs.Run.{is_opening, may_change, status_in, statuses_of};
-ghost use Rattle.platform.specs.Serving.{RunsAnswer, answer_end};
-ghost use Rattle.platform.specs.Stops.{IsKnownStatus, VersionStops};
-ghost use Rattle.platform.specs.declared.stop.Stop.TheVariants.{KeeperFailed, SinkFailed, SourceFailed};
+ghost use Rattle.platform.specs.Serving.{RunsAnswer, RunsServe, answer_end, serve_end};
+ghost use Rattle.platform.specs.Stops.{VersionStops};
+ghost use Rattle.platform.specs.declared.stop.Stop.TheVariants.{DoorFailed, KeeperFailed, SinkFailed, SourceFailed};
 
 use crate::stop::Stop;
 use std::alloc::Global;
-use ut_io::{Clock, Sink, Source};
+use ut_io::{Clock, Door, IoFail, Sink, Source};
 use ut_keeper::Keeper;
-use ut_serving::{LineFail, Pair, connection, serving_laws};
+use ut_serving::{LineFail, Pair, connection, isolation_laws, open_and_serve, serving_laws};
 use ut_stands::{open_tables, stands_laws};
 
 // How a run ends by the end of its one connection.
@@ -48,7 +48,7 @@ pub(crate) fn serve_answer<K: Keeper, S: Source, W: Sink, C: Clock>(
         → Shows (K.state keeper.new) (K.state keeper.old).tables }
     ensures version { Tells (K.state keeper.old) (K.state keeper.new) → VersionStops (K.state keeper.old).tables result }
     ensures statuses { IsTrue (list_any (λ s. s == status_in result) (statuses_of answers)) }
-    ensures status { IsKnownStatus result }
+    ensures status { IfOk result (λ s. s ≡ 0) }
     ensures unserved { is_opening (status_in result) ≡ true
         → (source.new ≡ source.old) × (sink.new ≡ sink.old) × (clock.new ≡ clock.old) }
     ensures steps { Steps (K.state keeper.old) (K.state keeper.new) }
@@ -60,11 +60,57 @@ pub(crate) fn serve_answer<K: Keeper, S: Source, W: Sink, C: Clock>(
 {
     stands_laws();
     serving_laws::<K>();
+    isolation_laws();
     match open_tables(alloc, keeper) {
-        Ok(()) => {
+        Ok(_) => {
             let mut wire = Pair::new(source, sink);
             answer_end(connection(alloc, keeper, &mut wire, clock))
         }
+        Err(fail) => Err(Stop::from(fail)),
+    }
+}
+
+// How a run ends by the end of its connections.
+fn serve_end(ended: Result<(), IoFail>) -> Result<u8, Stop>
+    ensures { result ≡ serve_end ended }
+{
+    match ended {
+        Ok(()) => Ok(0),
+        Err(_) => Err(Stop::DoorFailed),
+    }
+}
+
+/// Answers the messages of the first connections of the door, `count` of them or all that come.
+pub(crate) fn serve_door<K: Keeper, D: Door, C: Clock>(
+    alloc: Global,
+    keeper: &mut K,
+    door: &mut D,
+    clock: &mut C,
+    count: u32,
+) -> Result<u8, Stop>
+    requires { 0 < count }
+    ensures runs { Tells (K.state keeper.old) (K.state keeper.new) → (w : World) → Stands (K.state keeper.old).tables w
+        → (left written : Option (List ℕ)) → RunsServe count w
+        (record { keeper = K.state keeper.old; door = D.held door.old; line_faults = D.line_faults door.old; left = left; written = written; coming = C.coming clock.old })
+        (record { keeper = K.state keeper.new; door = D.held door.new; line_faults = D.line_faults door.new; left = left; written = written; coming = C.coming clock.new })
+        result }
+    ensures leads { LeadsFrom (K.state keeper.old) (K.state keeper.new) }
+    ensures kept { Tells (K.state keeper.old) (K.state keeper.new) → may_change (serves count) (status_in result) ≡ false
+        → Shows (K.state keeper.new) (K.state keeper.old).tables }
+    ensures version { Tells (K.state keeper.old) (K.state keeper.new) → VersionStops (K.state keeper.old).tables result }
+    ensures statuses { IsTrue (list_any (λ s. s == status_in result) (statuses_of (serves count))) }
+    ensures status { IfOk result (λ s. s ≡ 0) }
+    ensures unserved { is_opening (status_in result) ≡ true → (door.new ≡ door.old) × (clock.new ≡ clock.old) }
+    ensures steps { Steps (K.state keeper.old) (K.state keeper.new) }
+    ensures keeper_cause { KeeperCause (K.state keeper.old) (K.state keeper.new) (IsErrOf result KeeperFailed) }
+    ensures door_cause { Cause (D.faults door.old) (D.faults door.new) (IsErrOf result DoorFailed) }
+    ensures line_faults { D.line_faults door.old ≤ D.line_faults door.new }
+{
+    stands_laws();
+    serving_laws::<K>();
+    isolation_laws();
+    match open_tables(alloc, keeper) {
+        Ok(_) => serve_end(open_and_serve(alloc, keeper, door, clock, count)),
         Err(fail) => Err(Stop::from(fail)),
     }
 }

@@ -12,24 +12,30 @@ pub(crate) struct Given<'a> {
     pub(crate) writes_failing: &'a [u64],
 }
 
-/// Runs words over a keeper that is already there, and gives the status and what was written.
+// The words of a line, with `|` between them.
+fn words_of(alloc: Global, line: &str) -> Result<Vec<String>, AllocError> {
+    let mut words = Vec::new(alloc);
+    for word in line.split('|') {
+        words.push(String::from_str(alloc, word)?)?;
+    }
+    Ok(words)
+}
+
+/// Runs words over a keeper that is already there, and gives the status and what was written. `|` is between words.
 pub(crate) fn ran_over(
     alloc: Global,
     keeper: &mut MemoryKeeper,
-    words: &[&str],
+    words: &str,
     given: &Given<'_>,
 ) -> Result<(u8, MemorySink), AllocError> {
+    let words = words_of(alloc, words)?;
     let mut door = MemoryDoor::new(alloc, &[], 0, &[])?;
     let mut source = MemorySource::new(alloc, given.input, given.reads_failing)?;
     let mut sink = MemorySink::new(alloc, given.room, given.writes_failing)?;
     let mut clock = MemoryClock::new(alloc, &[])?;
-    let mut owned = Vec::new(alloc);
-    for word in words {
-        owned.push(String::from_str(alloc, word)?)?;
-    }
     let status = run(
         alloc,
-        &owned,
+        &words,
         keeper,
         &mut door,
         &mut source,
@@ -37,14 +43,4 @@ pub(crate) fn ran_over(
         &mut clock,
     );
     Ok((status, sink))
-}
-
-/// Runs words over an empty keeper.
-pub(crate) fn ran(
-    alloc: Global,
-    words: &[&str],
-    given: &Given<'_>,
-) -> Result<(u8, MemorySink), AllocError> {
-    let mut keeper = MemoryKeeper::new(alloc, &[])?;
-    ran_over(alloc, &mut keeper, words, given)
 }

@@ -1,11 +1,8 @@
-//! Tests of `platform`: what each command writes and leaves.
+//! Tests of `platform` over a keeper, a source and a sink that fail, and of the last reply of a connection. What needs no
+//! failure is a line of the script of `replay`.
 #![tactic(auto)]
 
 #[cfg(test)]
-mod answer;
-#[cfg(test)]
-mod csvq;
-#[cfg(test)]
 mod given;
 #[cfg(test)]
-mod org_add;
+mod tests;

@@ -1,8 +1,11 @@
 use std::alloc::AllocError;
+use std::io;
+use std::io::Write;
+use std::net::{Shutdown, TcpStream};
 use std::test::Fail;
 use ut_io::{
     Clock, Door, IoFail, Line, MemoryClock, MemoryDoor, MemorySink, MemorySource, ReadFail, Sink,
-    Source, StdSink, StdSource, SystemClock, read_all, write_all,
+    Source, StdSink, StdSource, SystemClock, TcpDoor, read_all, write_all,
 };
 use ut_value::Bytes;
 
@@ -92,6 +95,31 @@ fn brings_connections_in_turn(rt: HostRuntime) -> Result<(), Fail> {
     assert!(rt; outputs[0].as_slice() == b"wxy".as_slice());
     assert!(rt; outputs[1].as_slice() == b"wx".as_slice());
     assert!(rt; door.faults() == 1 && door.line_faults() == 3);
+    Ok(())
+}
+
+#[test]
+fn serves_clients_over_tcp(rt: HostRuntime) -> Result<(), Fail> {
+    let mut door = TcpDoor::new(rt, 0);
+    let mut into = [0; 9];
+    assert!(rt; door.next() == Err(IoFail), "it isn't open");
+    assert!(rt; door.open() == Ok(()));
+    let address = door.address().ok_or(IoFail)?;
+    assert!(rt; door.open() == Ok(()) && door.address() == Some(address));
+    assert!(rt; door.read(&mut into) == Ok(0), "no connection");
+    assert!(rt; door.write(b"w") == Err(IoFail) && door.write(b"") == Ok(0));
+    let mut client = TcpStream::connect(&rt, address)?;
+    client.write_all(b"hello")?;
+    assert!(rt; door.next() == Ok(true));
+    assert!(rt; door.read(&mut into) == Ok(5));
+    assert!(rt; into == *b"hello\0\0\0\0");
+    assert!(rt; write_all(&mut Line::new(&mut door), b"reply") == Ok(()));
+    client.shutdown(Shutdown::Write)?;
+    // `next` ends the first connection, whose client then sees the end.
+    let _second = TcpStream::connect(&rt, address)?;
+    assert!(rt; door.next() == Ok(true));
+    let reply = io::read_to_string(rt.alloc(), client)?;
+    assert!(rt; reply.as_str() == "reply");
     Ok(())
 }
 

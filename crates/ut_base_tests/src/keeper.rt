@@ -74,62 +74,95 @@ fn change<K: Keeper>(alloc: Global, draft: &mut Draft<'_, K>) -> Result<(), Allo
     remove(alloc, draft, 7, b"d".as_slice())
 }
 
+// The first byte of a row.
+fn first_of(row: &Bytes) -> u8 {
+    match row.as_slice().first() {
+        Some(byte) => *byte,
+        None => b' ',
+    }
+}
+
+// The first byte of the row at a key of table 7, or `-` where there is none.
+fn get_first<K: Keeper>(
+    alloc: Global,
+    draft: &mut Draft<'_, K>,
+    key: &[u8],
+) -> Result<u8, KeepFail> {
+    let row = draft.get(alloc, 7, key)?;
+    Ok(match &row {
+        Some(row) => first_of(row),
+        None => b'-',
+    })
+}
+
+// Where a scan begins and ends, its limit in one digit, and its rows. `|` is between cells, and `^` between rows.
+const SCANS: &[u8] = b"\
+    a|z|9|a=1 b=2 e=6 \
+    ^a|e|9|a=1 b=2 \
+    ^|f|2|a=1 b=2 \
+    ^aa|ea|9|b=2 e=6 \
+    ^b|z|1|b=2 \
+    ^c|z|1|e=6 \
+    ^a|z|0|\
+    ^b|b|9|\
+    ^z|a|9|";
+
+// Whether a draft's scan has the rows of a line of the table.
+fn is_scanned<K: Keeper>(
+    alloc: Global,
+    draft: &mut Draft<'_, K>,
+    line: &[u8],
+) -> Result<bool, KeepFail> {
+    let mut cells = line.split(|byte| *byte == b'|');
+    let from = cells.next().unwrap_or(b"");
+    let below = cells.next().unwrap_or(b"");
+    let limit = cells.next().unwrap_or(b"").first().unwrap_or(&b'0');
+    let limit = limit.saturating_sub(b'0') as usize;
+    let found = shown(alloc, draft, from, below, limit)?;
+    Ok(Some(found.as_slice()) == cells.next())
+}
+
 #[test]
-fn a_draft_reads_as_the_keeper_will(rt: HostRuntime) -> Result<(), Fail> {
+fn a_draft_reads_as_the_keeper_will(rt: HostRuntime) -> Result<(), KeepFail> {
     let mut keeper = filled(rt.alloc())?;
     let mut draft = Draft::new(rt.alloc(), &mut keeper);
     change(rt.alloc(), &mut draft)?;
-    assert_eq!(rt; draft.len(), 4);
-    for (key, want) in [("a", "1"), ("b", "2"), ("c", ""), ("d", ""), ("e", "6")] {
-        let row = draft.get(rt.alloc(), 7, key.as_bytes())?;
-        assert_eq!(rt; row.is_some(), want != "", "at {key}");
-        let row = row.unwrap_or(Bytes::from_vec(Vec::new(rt.alloc())));
-        assert_eq!(rt; row.as_slice(), want.as_bytes(), "at {key}");
+    assert!(rt; draft.len() == 4);
+    for pair in b"a1|b2|c-|d-|e6".split(|byte| *byte == b'|') {
+        let (key, want) = pair.split_at(1.min(pair.len()));
+        let found = get_first(rt.alloc(), &mut draft, key)?;
+        assert!(rt; want == [found].as_slice(), "{pair:?}");
     }
-    let scans = [
-        ("a", "z", 9, "a=1 b=2 e=6 "),
-        ("a", "e", 9, "a=1 b=2 "),
-        ("", "f", 2, "a=1 b=2 "),
-        ("aa", "ea", 9, "b=2 e=6 "),
-        ("b", "z", 1, "b=2 "),
-        ("c", "z", 1, "e=6 "),
-        ("a", "z", 0, ""),
-        ("b", "b", 9, ""),
-        ("z", "a", 9, ""),
-    ];
-    for (from, below, limit, want) in scans {
-        let text = shown(
-            rt.alloc(),
-            &mut draft,
-            from.as_bytes(),
-            below.as_bytes(),
-            limit,
-        )?;
-        assert_eq!(rt;
-            text.as_slice(),
-            want.as_bytes(),
-            "from {from} below {below}, {limit}"
-        );
+    for line in SCANS.split(|byte| *byte == b'^') {
+        assert!(rt; is_scanned(rt.alloc(), &mut draft, line)?, "{line:?}");
     }
     Ok(())
 }
 
+// The rows of table 7 from a to z, read through a new draft.
+fn all_of(alloc: Global, keeper: &mut MemoryKeeper) -> Result<Vec<u8>, KeepFail> {
+    let mut draft = Draft::new(alloc, keeper);
+    shown(alloc, &mut draft, b"a", b"z", 9)
+}
+
+// Changes of a draft that is dropped, and what it read before.
+fn drop_changes(alloc: Global, keeper: &mut MemoryKeeper) -> Result<Vec<u8>, KeepFail> {
+    let mut draft = Draft::new(alloc, keeper);
+    remove(alloc, &mut draft, 7, b"a")?;
+    put(alloc, &mut draft, 7, b"a", b"9")?;
+    shown(alloc, &mut draft, b"a", b"z", 9)
+}
+
 #[test]
-fn a_commit_makes_the_changes(rt: HostRuntime) -> Result<(), Fail> {
+fn a_commit_makes_the_changes(rt: HostRuntime) -> Result<(), KeepFail> {
     let mut keeper = filled(rt.alloc())?;
     let mut draft = Draft::new(rt.alloc(), &mut keeper);
     change(rt.alloc(), &mut draft)?;
     draft.commit(rt.alloc())?;
-    let mut draft = Draft::new(rt.alloc(), &mut keeper);
-    // A draft that is dropped changes nothing.
-    remove(rt.alloc(), &mut draft, 7, b"a".as_slice())?;
-    put(rt.alloc(), &mut draft, 7, b"a".as_slice(), b"9".as_slice())?;
-    let text = shown(rt.alloc(), &mut draft, b"a".as_slice(), b"z".as_slice(), 9)?;
-    assert_eq!(rt; text.as_slice(), b"a=9 b=2 e=6 ".as_slice());
-    drop(draft);
-    let mut other = Draft::new(rt.alloc(), &mut keeper);
-    let text = shown(rt.alloc(), &mut other, b"a".as_slice(), b"z".as_slice(), 9)?;
-    assert_eq!(rt; text.as_slice(), b"a=1 b=2 e=6 ".as_slice());
+    let dropped = drop_changes(rt.alloc(), &mut keeper)?;
+    assert!(rt; dropped.as_slice() == b"a=9 b=2 e=6 ".as_slice());
+    let left = all_of(rt.alloc(), &mut keeper)?;
+    assert!(rt; left.as_slice() == b"a=1 b=2 e=6 ".as_slice());
     Ok(())
 }
 
@@ -141,81 +174,91 @@ fn call(alloc: Global, keeper: &mut MemoryKeeper, place: u64) -> Result<(), Keep
     let mut draft = Draft::new(alloc, keeper);
     match place {
         2 => {
-            put(alloc, &mut draft, 7, b"a".as_slice(), b"1".as_slice())?;
+            put(alloc, &mut draft, 7, b"a", b"1")?;
             draft.commit(alloc)
         }
-        3 => draft.get(alloc, 7, b"a".as_slice()).map(|_| ()),
-        4 => shown(alloc, &mut draft, b"a".as_slice(), b"z".as_slice(), 9).map(|_| ()),
+        3 => {
+            let _ = draft.get(alloc, 7, b"a")?;
+            Ok(())
+        }
+        4 => {
+            let _ = shown(alloc, &mut draft, b"a", b"z", 9)?;
+            Ok(())
+        }
         _ => {
-            put(alloc, &mut draft, 7, b"b".as_slice(), b"2".as_slice())?;
-            remove(alloc, &mut draft, 7, b"a".as_slice())?;
+            put(alloc, &mut draft, 7, b"b", b"2")?;
+            remove(alloc, &mut draft, 7, b"a")?;
             draft.commit(alloc)
         }
     }
 }
 
+// Whether the call of a place fails, leaves what was there, and is done when it is made again.
+fn is_failed_once(alloc: Global, keeper: &mut MemoryKeeper, place: u64) -> Result<bool, KeepFail> {
+    let first = call(alloc, keeper, place);
+    let left = all_of(alloc, keeper)?;
+    call(alloc, keeper, place)?;
+    let wanted = if place < 3 { b"".as_slice() } else { b"a=1 " };
+    Ok(first == Err(KeepFail::Failed) && left.as_slice() == wanted)
+}
+
 #[test]
-fn a_failed_call_changes_nothing(rt: HostRuntime) -> Result<(), Fail> {
-    let left = [(1, ""), (2, ""), (3, "a=1 "), (4, "a=1 "), (5, "a=1 ")];
-    for (failing, want) in left {
-        let mut keeper = MemoryKeeper::new(rt.alloc(), [failing].as_slice())?;
-        for place in 1..6 {
-            let first = call(rt.alloc(), &mut keeper, place);
+fn a_failed_call_changes_nothing(rt: HostRuntime) -> Result<(), KeepFail> {
+    for failing in 1..6u64 {
+        let mut keeper = MemoryKeeper::new(rt.alloc(), &[failing])?;
+        for place in 1..6u64 {
             if place == failing {
-                assert_eq!(rt; first, Err(KeepFail::Failed), "call {place}");
-                let mut draft = Draft::new(rt.alloc(), &mut keeper);
-                let text = shown(rt.alloc(), &mut draft, b"a".as_slice(), b"z".as_slice(), 9)?;
-                assert_eq!(rt; text.as_slice(), want.as_bytes(), "call {place}");
-                drop(draft);
-                call(rt.alloc(), &mut keeper, place)?;
+                assert!(rt; is_failed_once(rt.alloc(), &mut keeper, place)?);
             } else {
-                assert_eq!(rt; first, Ok(()), "call {place}");
+                call(rt.alloc(), &mut keeper, place)?;
             }
         }
-        let mut draft = Draft::new(rt.alloc(), &mut keeper);
-        let text = shown(rt.alloc(), &mut draft, b"a".as_slice(), b"z".as_slice(), 9)?;
-        assert_eq!(rt; text.as_slice(), b"b=2 ".as_slice(), "at {failing}");
+        let left = all_of(rt.alloc(), &mut keeper)?;
+        assert!(rt; left.as_slice() == b"b=2 ".as_slice(), "at {failing}");
     }
     Ok(())
 }
 
 #[test]
-fn a_walk_reads_each_row_once(rt: HostRuntime) -> Result<(), Fail> {
+fn a_walk_reads_each_row_once(rt: HostRuntime) -> Result<(), KeepFail> {
     let mut keeper = filled(rt.alloc())?;
     let mut draft = Draft::new(rt.alloc(), &mut keeper);
     change(rt.alloc(), &mut draft)?;
-    for page in 1..5 {
-        let rows = all_rows(
-            rt.alloc(),
-            &mut draft,
-            7,
-            b"a".as_slice(),
-            b"z".as_slice(),
-            page,
-        )?;
+    for page in 1..5usize {
+        let rows = all_rows(rt.alloc(), &mut draft, 7, b"a", b"z", page)?;
         let text = text_of(rt.alloc(), rows.as_slice())?;
-        assert_eq!(rt; text.as_slice(), b"a=1 b=2 e=6 ".as_slice(), "by {page}");
+        assert!(rt; text.as_slice() == b"a=1 b=2 e=6 ".as_slice(), "by {page}");
     }
-    let next = next_key(rt.alloc(), b"ab".as_slice())?;
-    assert_eq!(rt; next.as_slice(), [97, 98, 0].as_slice());
+    let next = next_key(rt.alloc(), b"ab")?;
+    assert!(rt; next.as_slice() == b"ab\0".as_slice());
     Ok(())
 }
 
+// A prefix and the first key above all that begin with it, or `none`. `|` is between cells, and `^` between rows.
+const PREFIXES: &[u8] = b"\
+    \x00\x05|\x00\x06\
+    ^\x05\xFF|\x06\
+    ^\xFF\x00\xFF\xFF|\xFF\x01\
+    ^\xFF\xFF|none\
+    ^|none";
+
+// Whether the interval of a prefix is from it to such a key.
+fn ends_so(alloc: Global, prefix: &[u8], above: &[u8]) -> Result<bool, AllocError> {
+    Ok(match prefix_ends(alloc, prefix)? {
+        Some((from, below)) => from.as_slice() == prefix && below.as_slice() == above,
+        None => above == b"none".as_slice(),
+    })
+}
+
 #[test]
-fn a_prefix_has_two_ends_or_none(rt: HostRuntime) -> Result<(), Fail> {
-    let cases = [
-        ([0, 5].as_slice(), Some([0, 6].as_slice())),
-        ([5, 255].as_slice(), Some([6].as_slice())),
-        ([255, 0, 255, 255].as_slice(), Some([255, 1].as_slice())),
-        ([255, 255].as_slice(), None),
-        ([].as_slice(), None),
-    ];
-    for (prefix, want) in cases {
-        let ends = prefix_ends(rt.alloc(), prefix)?;
-        let above = ends.as_ref().map(|ends| ends.1.as_slice());
-        assert_eq!(rt; above, want, "of {prefix:?}");
-        let from = ends.as_ref().map_or(prefix, |ends| ends.0.as_slice());
-        assert_eq!(rt; from, prefix);
+fn a_prefix_has_two_ends_or_none(rt: HostRuntime) -> Result<(), AllocError> {
+    for line in PREFIXES.split(|byte| *byte == b'^') {
+        let mut cells = line.split(|byte| *byte == b'|');
+        let prefix = cells.next().unwrap_or(b"");
+        assert!(rt;
+            ends_so(rt.alloc(), prefix, cells.next().unwrap_or(b""))?,
+            "{prefix:?}"
+        );
     }
     Ok(())
 }
@@ -224,11 +267,11 @@ fn a_prefix_has_two_ends_or_none(rt: HostRuntime) -> Result<(), Fail> {
 fn a_keeper_counts(rt: HostRuntime) -> Result<(), Fail> {
     let mut keeper = filled(rt.alloc())?;
     let mut draft = Draft::new(rt.alloc(), &mut keeper);
-    shown(rt.alloc(), &mut draft, b"a".as_slice(), b"e".as_slice(), 9)?;
+    let _ = shown(rt.alloc(), &mut draft, b"a", b"e", 9)?;
     drop(draft);
-    assert_eq!(rt; (keeper.shown(7), keeper.shown(8)), (2, 0));
-    assert_eq!(rt; (keeper.written(), keeper.faults()), (4, 0));
+    assert!(rt; keeper.shown(7) == 2 && keeper.shown(8) == 0);
+    assert!(rt; keeper.written() == 4 && keeper.faults() == 0);
     let text = format!(in rt.alloc(); "{}, {}", KeepFail::Failed, KeepFail::Memory)?;
-    assert_eq!(rt; text.as_str(), "the keeper failed, out of memory");
+    assert!(rt; text.as_str() == "the keeper failed, out of memory");
     Ok(())
 }

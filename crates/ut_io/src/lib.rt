@@ -23,6 +23,8 @@ mod memory_sink;
 mod memory_source;
 mod schedule;
 mod standard;
+mod tcp_connection;
+mod tcp_door;
 mod traits;
 mod whole;
 
@@ -33,5 +35,6 @@ pub use crate::memory_door::MemoryDoor;
 pub use crate::memory_sink::MemorySink;
 pub use crate::memory_source::MemorySource;
 pub use crate::standard::{StdSink, StdSource};
+pub use crate::tcp_door::TcpDoor;
 pub use crate::traits::{IoFail, Sink, Source};
 pub use crate::whole::write_all;

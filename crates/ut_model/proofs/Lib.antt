@@ -2,3 +2,9 @@ pub mod Names
 pub mod Bodies
 pub mod Called
 mod Stepped
+mod Least
+mod Agree
+mod Sorted
+mod Before
+mod Computing
+mod Within

@@ -9,3 +9,15 @@ pub mod Organisations
 pub mod Callers
 pub mod Routing
 pub mod Step
+pub mod Cases
+pub mod Fields
+pub mod Objects
+pub mod Relationships
+pub mod Membership
+pub mod Levels
+pub mod Paths
+pub mod Conditions
+pub mod Ordered
+pub mod Rows
+pub mod WorkedAccess
+pub mod WorkedQueries

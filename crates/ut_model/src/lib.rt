@@ -1,18 +1,22 @@
-//! The model: what an organisation is, who calls it, what a request asks for and what it is answered, as plain types and
-//! definitions.
+//! The model: what an organisation is, who calls it, who may do what with a record, what a query finds, what a request asks
+//! for and what it is answered, as plain types and definitions.
 //!
-//! It depends on `ut_value`, on `ut_json` for the bodies of refusals, on `sha2` for the digest of a secret, and, for the text
-//! of a query in a target, on `form_urlencoded` and `ut_soql`. Its contract: a refusal's code, status, message and body are
-//! those of the definitions, and so are the ids of organisations and of their first users; the step of the world is a
-//! function of the organisation that the message's key names.
+//! It depends on `ut_value`, on `ut_json` for the bodies of refusals, on `sha2` for the digest of a secret, on `ut_soql` for
+//! queries, on `form_urlencoded` for their text in a target, and on `ut_formula` for the formulas of criteria. Its contract:
+//! a refusal's code, status, message and body are those of the definitions, and so are the ids of organisations and of their
+//! first users; the step of the world is a function of the organisation that the message's key names; members and their like
+//! are least relations, and rows have one order.
 #![tactic(auto)]
 
+mod access;
 mod body;
 mod caller;
 mod ids;
 mod laws;
+mod level_rows;
 mod limit;
 mod message;
+mod query_rows;
 mod record;
 mod refusal;
 mod reply;
@@ -20,11 +24,14 @@ mod route;
 mod routed;
 mod steps;
 
+pub use crate::access::{access_laws, condition_laws, sorting_laws};
 pub use crate::body::damaged_body;
 pub use crate::caller::Caller;
 pub use crate::ids::{first_user_id, org_id, org_number};
 pub use crate::laws::{model_rows, name_laws};
+pub use crate::level_rows::{hierarchy_rows, rule_rows, share_rows};
 pub use crate::limit::Limit;
+pub use crate::query_rows::{condition_rows, path_rows, sorted_rows};
 pub use crate::record::Record;
 pub use crate::refusal::Refusal;
 pub use crate::reply::Reply;

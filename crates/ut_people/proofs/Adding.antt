@@ -3,8 +3,6 @@ use Rattle.std.proofs.Common.{◌≡◌, ℕ, ◌+◌, ◌<◌, ◌≤◌, true,
 use Rattle.std.specs.Prelude.{nat_le}
 use Rattle.std.proofs.lemmas.Bool.Decides.{nat_tests}
 use Rattle.ut_keeper.specs.Tables.{Tables}
-use Rattle.ut_keys.specs.declared.fail.StoreFail.{StoreFail}
-use Rattle.ut_keys.specs.declared.fail.StoreFail.TheVariants.{Keeper, Memory, Damaged}
 use Rattle.ut_model.specs.Limits.{limit_number}
 use Rattle.ut_model.specs.Organisations.{org_verdict, with_org}
 use Rattle.ut_model.specs.World.{World}
@@ -12,14 +10,7 @@ use Rattle.ut_people.specs.People.{with_rows}
 use Rattle.ut_model.specs.declared.limit.Limit.TheVariants as limit
 use Rattle.ut_model.specs.declared.refusal.Refusal.TheVariants.{LimitExceeded}
 use Rattle.ut_stands.specs.Operations.{Edits}
-use Rattle.ut_stands.specs.Reads.{FindsAs}
 use Rattle.ut_stands.specs.Stands.{Stands}
-use Rattle.ut_stands.specs.declared.fail.EditFail.TheVariants.{Store}
-
-pub add_failed : (m after : Tables) (w : World) (name digest : List ℕ) (e : StoreFail) → Stands m w → FindsAs {X = ℕ} (λ w. length w) m (Err e) → Edits {X = ℕ} (org_verdict name digest) w after (Err (Store e))
-add_failed m after w name digest Damaged s h = h w s
-add_failed m after w name digest Keeper s h = tt
-add_failed m after w name digest Memory s h = tt
 
 not_full : (n : ℕ) → n < limit_number limit.Organisations → nat_le (limit_number limit.Organisations) n ≡ false
 not_full n h = grind (arith, nat_tests)

@@ -1,4 +1,4 @@
-ghost use Rattle.std.specs.Prelude.{◌≡◌, ◌<◌, [], IsTrue, IfErr, IfOk, OnOk, is_ok};
+ghost use Rattle.std.specs.Prelude.{◌≡◌, ◌<◌, [], IsTrue, IfErr, IfOk, OnOk, is_ok, length};
 ghost use Rattle.std.specs.Str.{chars};
 ghost use Rattle.sha2.specs.Sha256.{sha256};
 ghost use Rattle.ut_keeper.specs.Draft.{DraftReads, DraftTells, DraftWorks, count_of, state_of, tables_of};
@@ -16,7 +16,7 @@ use std::alloc::{AllocError, Global};
 use ut_keeper::{Draft, Keeper, draft_laws};
 use ut_keys::{OrgRow, StoreFail, UserRow, VersionRow, put, table_laws};
 use ut_model::{Limit, Refusal, first_user_id, name_laws};
-use ut_stands::{EditFail, KNOWN_VERSION, organisations, stands_laws};
+use ut_stands::{EditFail, KNOWN_VERSION, stands_laws};
 use ut_value::{Text, id_laws};
 
 // The row of a new organisation, which has one user.
@@ -82,23 +82,25 @@ fn put_rows<K: Keeper>(
     put(alloc, draft, &administrator_of(alloc, org, name, digest)?)
 }
 
-/// Adds an organisation with this name, whose administrator has its name and this secret, and answers its number.
+/// Adds an organisation with this name, whose administrator has its name and this secret, and returns its number.
+///
+/// `organisations` is how many there are, as `open_tables` returned it.
 ///
 /// # Errors
 ///
-/// `Refused` with `LimitExceeded` exactly where there are 10,000 organisations; nothing is then changed. `Store` with
-/// `Keeper` where the keeper failed, with `Memory` when out of memory, with `Damaged` never where the tables stand for
-/// a world.
+/// `Refused` with `LimitExceeded` exactly if there are 10,000 organisations; nothing is then changed. `Store` with
+/// `Memory` if out of memory.
 pub fn add_org<K: Keeper>(
     alloc: Global,
     draft: &mut Draft<'_, K>,
+    organisations: u32,
     name: &str,
     secret: &str,
 ) -> Result<u32, EditFail>
     requires name { IsTrue (is_name (chars name.now)) }
     requires secret { IsTrue (is_secret secret.now) }
     ensures adds { DraftTells K.state draft.old draft.new
-        → (w : World) → Stands (tables_of K.state draft.old) w
+        → (w : World) → Stands (tables_of K.state draft.old) w → length w ≡ organisations
         → Edits (org_verdict (chars name.now) (sha256 secret.now)) w (tables_of K.state draft.new) result }
     ensures some { OnOk result (0 < count_of draft.new) }
     ensures refused { IfErr result (λ e. IsRefusal e → DraftReads K.state 0 draft.old draft.new) }
@@ -110,16 +112,12 @@ pub fn add_org<K: Keeper>(
     table_laws();
     stands_laws();
     id_laws();
-    let count = match organisations(alloc, draft) {
-        Ok(count) => count,
-        Err(fail) => return Err(EditFail::Store(fail)),
-    };
-    if u64::from(count) >= Limit::Organisations.number() {
+    if u64::from(organisations) >= Limit::Organisations.number() {
         return Err(EditFail::Refused(Refusal::LimitExceeded {
             limit: Limit::Organisations,
         }));
     }
-    let org = count + 1;
+    let org = organisations + 1;
     match put_rows(alloc, draft, org, name, digest_of(secret)) {
         Ok(()) => Ok(org),
         Err(_) => Err(EditFail::Store(StoreFail::Memory)),

@@ -39,72 +39,71 @@ fn summary(alloc: Global, text: &str) -> Result<String, AllocError> {
     Ok(all)
 }
 
-#[test]
-fn kinds_and_places(rt: HostRuntime) -> Result<(), Fail> {
-    let rows = [
-        ("", ""),
-        (" \t\r\n", ""),
-        ("SELECT Id, Name", "word@0 word@7 ,@9 word@11 "),
-        ("(a.b)", "(@0 word@1 .@2 word@3 )@4 "),
-        ("x_1", "word@0 "),
-        ("_x", "bad@0 word@1 "),
-        ("a-b", "word@0 bad@1 "),
-        // Two bytes for a character that is no ASCII, and a blank that is none of the four.
-        ("ä x", "bad@0 word@3 "),
-        ("'ä' = 5", "text@0 =@5 run@7 "),
-        ("\u{a0}x", "bad@0 word@2 "),
-        ("!", "bad@0 "),
-        ("!=<=>=", "!=@0 <=@2 >=@4 "),
-        ("< =", "<@0 =@2 "),
-        ("<==>", "<=@0 =@2 >@3 "),
-        ("'it\\'s' x", "text@0 word@8 "),
-        ("'a' 'b c", "text@0 bad@4 "),
-        ("'a\\q' x", "bad@0 word@6 "),
-        ("'a\\' x", "bad@0 "),
-    ];
-    for (text, want) in rows {
-        assert_eq!(rt; summary(rt.alloc(), text)?.as_str(), want, "at {text}");
-    }
-    Ok(())
-}
+// Texts with the kinds of their tokens and the bytes at which they begin: `|` is between the two, and `^` between rows. The
+// characters beyond ASCII have two bytes, and the blank U+00A0 is none of the four.
+const PLACES: &str = "\
+    |\
+    ^ \t\r\n|\
+    ^SELECT Id, Name|word@0 word@7 ,@9 word@11 \
+    ^(a.b)|(@0 word@1 .@2 word@3 )@4 \
+    ^x_1|word@0 \
+    ^_x|bad@0 word@1 \
+    ^a-b|word@0 bad@1 \
+    ^ä x|bad@0 word@3 \
+    ^'ä' = 5|text@0 =@5 run@7 \
+    ^\u{a0}x|bad@0 word@2 \
+    ^!|bad@0 \
+    ^!=<=>=|!=@0 <=@2 >=@4 \
+    ^< =|<@0 =@2 \
+    ^<==>|<=@0 =@2 >@3 \
+    ^'it\\'s' x|text@0 word@8 \
+    ^'a' 'b c|text@0 bad@4 \
+    ^'a\\q' x|bad@0 word@6 \
+    ^'a\\' x|bad@0 ";
+
+// Runs that are good, and runs that aren't.
+const RUNS: &str = "\
+    +5|run@0 \
+    ^-5.0|run@0 \
+    ^5.|bad@0 \
+    ^5a|bad@0 \
+    ^-|bad@0 \
+    ^123456789012345678.12345678|run@0 \
+    ^1234567890123456789|bad@0 \
+    ^1.123456789|bad@0 \
+    ^2024-02-29|run@0 \
+    ^2024-02-30|bad@0 \
+    ^2000-02-29|run@0 \
+    ^1900-02-29|bad@0 \
+    ^2024-00-01|bad@0 \
+    ^2024-13-01|bad@0 \
+    ^0000-01-01|bad@0 \
+    ^2011-04-26T12:00:00.000+0000|run@0 \
+    ^2011-04-26T23:59:59.123456789-23:59|run@0 \
+    ^2011-04-26T12:00:00.1234567890Z|bad@0 \
+    ^2011-04-26T12:00:00.Z|bad@0 \
+    ^2011-04-26T12:00:60Z|bad@0 \
+    ^2011-04-26T24:00:00Z|bad@0 \
+    ^2011-04-26T12:00:00+24:00|bad@0 \
+    ^2011-04-26T12:00:00|bad@0 \
+    ^0001-01-01T00:00:00Z|run@0 \
+    ^0000-12-31T23:30:00-01:00|run@0 \
+    ^0000-06-01T00:00:00Z|bad@0 \
+    ^0001-01-01T00:00:59+00:01|bad@0 \
+    ^9999-12-31T23:59:59Z|run@0 \
+    ^9999-12-31T23:59:00-00:01|bad@0 ";
 
 #[test]
-fn good_and_bad_runs(rt: HostRuntime) -> Result<(), Fail> {
-    let rows = [
-        ("+5", true),
-        ("-5.0", true),
-        ("5.", false),
-        ("5a", false),
-        ("-", false),
-        ("123456789012345678.12345678", true),
-        ("1234567890123456789", false),
-        ("1.123456789", false),
-        ("2024-02-29", true),
-        ("2024-02-30", false),
-        ("2000-02-29", true),
-        ("1900-02-29", false),
-        ("2024-00-01", false),
-        ("2024-13-01", false),
-        ("0000-01-01", false),
-        ("2011-04-26T12:00:00.000+0000", true),
-        ("2011-04-26T23:59:59.123456789-23:59", true),
-        ("2011-04-26T12:00:00.1234567890Z", false),
-        ("2011-04-26T12:00:00.Z", false),
-        ("2011-04-26T12:00:60Z", false),
-        ("2011-04-26T24:00:00Z", false),
-        ("2011-04-26T12:00:00+24:00", false),
-        ("2011-04-26T12:00:00", false),
-        ("0001-01-01T00:00:00Z", true),
-        ("0000-12-31T23:30:00-01:00", true),
-        ("0000-06-01T00:00:00Z", false),
-        ("0001-01-01T00:00:59+00:01", false),
-        ("9999-12-31T23:59:59Z", true),
-        ("9999-12-31T23:59:00-00:01", false),
-    ];
-    for (text, good) in rows {
-        let want = if good { "run@0 " } else { "bad@0 " };
-        assert_eq!(rt; summary(rt.alloc(), text)?.as_str(), want, "at {text}");
+fn kinds_and_places(rt: HostRuntime) -> Result<(), Fail> {
+    let mut rows = 0u64;
+    for table in [PLACES, RUNS] {
+        for row in table.split('^') {
+            let (text, want) = row.split_once('|').ok_or("a row without a bar")?;
+            assert!(rt; summary(rt.alloc(), text)?.as_str() == want, "at {row}");
+            rows = rows.saturating_add(1);
+        }
     }
+    assert!(rt; rows == 47);
     Ok(())
 }
 
@@ -125,25 +124,30 @@ fn pieces_of_a_text(rt: HostRuntime) -> Result<(), Fail> {
                 ..
             },
         ) => {
-            assert_eq!(rt; pieces.as_slice(), want.as_slice());
+            assert!(rt; pieces.as_slice() == want.as_slice());
         }
         _ => assert!(rt; false, "no text"),
     }
     Ok(())
 }
 
+// Texts that ask for all rows or don't.
+const ASKING: &str = "\
+    sElEcT iD,nAmE\r\nfRoM rOw__C|true\
+    ^SELECT Id Name FROM Row__c|false\
+    ^SELECT Id, Name FROM Row_c|false\
+    ^SELECT Id, Name FROM Row__c '|false";
+
 #[test]
 fn asking_for_rows(rt: HostRuntime) -> Result<(), Fail> {
     token_laws();
     asking_rows();
-    let rows = [
-        ("sElEcT iD,nAmE\r\nfRoM rOw__C", true),
-        ("SELECT Id Name FROM Row__c", false),
-        ("SELECT Id, Name FROM Row_c", false),
-        ("SELECT Id, Name FROM Row__c '", false),
-    ];
-    for (text, want) in rows {
-        assert_eq!(rt; asks_for_rows(rt.alloc(), text)?, want, "at {text}");
+    for row in ASKING.split('^') {
+        let (text, want) = row.split_once('|').ok_or("a row without a bar")?;
+        assert!(rt;
+            asks_for_rows(rt.alloc(), text)? == (want == "true"),
+            "at {row}"
+        );
     }
     Ok(())
 }

@@ -3,5 +3,7 @@ pub mod Exchanges
 pub mod Answers
 pub mod Leads
 pub mod Connections
+pub mod Present
 pub mod Turning
+pub mod Doors
 pub mod Isolation

@@ -1,13 +1,16 @@
 //! Laws for the layers above.
 
-ghost use Rattle.std.specs.Prelude.{◌≡◌, IsTrue, ℕ, List, []};
+ghost use Rattle.std.specs.Prelude.{◌≡◌, ◌<◌, IsTrue, ℕ, List, []};
+ghost use Rattle.std.specs.List.{AllByRecursion};
 ghost use Rattle.ut_keeper.specs.State.{LeavesNoMore, Shows, Steps};
 ghost use Rattle.ut_model.specs.World.{World, tenant_at};
 ghost use Rattle.ut_stands.specs.Stands.{Stands};
-ghost use Rattle.ut_serving.specs.Connections.{AreServed, Connection, exchanges_of};
+ghost use Rattle.ut_serving.specs.Connections.{AreServed, Connection, exchanges_of, faulted};
+ghost use Rattle.ut_serving.specs.Doors.{IsUnfaulted};
 ghost use Rattle.ut_serving.specs.Exchanges.{Exchange, LeavesBehind};
 ghost use Rattle.ut_serving.specs.Isolation.{asked_of, replies_of, replies_to};
 ghost use Rattle.ut_serving.specs.Leads.{Leads, LeadsFrom};
+ghost use Rattle.ut_value.specs.Causes.{RoseBy, last_count};
 
 use ut_keeper::Keeper;
 use ut_model::step_laws;
@@ -23,6 +26,13 @@ pub fn isolation_laws()
     // For the proof alone.
     step_laws();
 }
+
+/// Connections of a door whose count of faults stayed below its last value. The call does nothing.
+pub fn connection_laws()
+    // If no fault of lines was counted, no read and no write ended a connection.
+    ensures { (cs : List Connection) (count : ℕ) → RoseBy (faulted cs) count count → count < last_count
+        → AllByRecursion IsUnfaulted cs }
+{}
 
 /// The laws by which what is done before the first request, as opening the tables, joins what is served. The call does
 /// nothing.

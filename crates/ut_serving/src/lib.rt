@@ -1,8 +1,9 @@
-//! Serving a connection: each message is answered in turn, as the step of the world says.
+//! Serving connections, one after the other: each message is answered in turn, as the step of the world says.
 //!
 //! It depends on `ut_people`, `ut_stands` and `ut_http`, and on the traits of `ut_io` and `ut_keeper`. Its contract: a
 //! connection over tables that stand for a world is one that its definition allows, with the replies of the step of the
-//! world in turn, and the tables then stand for the world after the last request.
+//! world in turn, and the tables then stand for the world after the last request. The connections of a door are served so
+//! in their order, each in the world that the one before it left.
 //!
 //! # Example
 //!
@@ -12,13 +13,15 @@
 //! ```
 #![tactic(auto)]
 
+mod doors;
 mod laws;
 mod lines;
 mod replies;
 mod request;
 mod wire;
 
-pub use crate::laws::{isolation_laws, serving_laws};
+pub use crate::doors::open_and_serve;
+pub use crate::laws::{connection_laws, isolation_laws, serving_laws};
 pub use crate::lines::connection;
 pub use crate::request::{Answer, answer_message};
 pub use crate::wire::{LineFail, Pair, Wire};

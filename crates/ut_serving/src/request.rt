@@ -1,10 +1,11 @@
 //! One request: who calls, what is answered, and the keeper after it.
 
-ghost use Rattle.std.specs.Prelude.{◌≡◌, IfOk, IsErrOf, OnErr, Some, is_ok, true};
+ghost use Rattle.std.specs.Prelude.{◌≡◌, ◌⊎◌, IfOk, IsErrOf, IsTrue, OnErr, Some, is_ok, true};
 ghost use Rattle.ut_keeper.specs.Draft.{DraftReads, DraftTells, state_of, tables_of};
 ghost use Rattle.ut_keeper.specs.State.{KeeperCause, Shows, StaysAfter, Steps, Tells};
+ghost use Rattle.ut_keeper.specs.Tables.{Tables};
 ghost use Rattle.ut_keys.specs.declared.fail.StoreFail.TheVariants.{Keeper};
-ghost use Rattle.ut_model.specs.Step.{answered, caller_by, in_org};
+ghost use Rattle.ut_model.specs.Step.{answered, caller_by, in_org, step};
 ghost use Rattle.ut_model.specs.World.{World};
 ghost use Rattle.ut_stands.specs.Operations.{Does, IsChange, Judges};
 ghost use Rattle.ut_stands.specs.Reads.{FindsAs};
@@ -159,6 +160,9 @@ fn answer_within<K: Keeper>(
     ensures kept { Tells (K.state keeper.old) (K.state keeper.new)
         → OnErr result (Shows (K.state keeper.new) (K.state keeper.old).tables) }
     ensures leads { LeadsFrom (K.state keeper.old) (K.state keeper.new) }
+    ensures crash { (K.state keeper.old).tells → IsTrue (K.state keeper.old).stands → IsTrue (K.state keeper.new).is_clean
+        → (w : World) → Stands (K.state keeper.old).tables w → (m : Tables) → (K.state keeper.new).may_leave m
+        → (K.state keeper.old).may_leave m ⊎ Stands m (step w (message_in message.now) now).1 }
     ensures stays { StaysAfter (is_ok result) (K.state keeper.old) (K.state keeper.new) }
     ensures steps { Steps (K.state keeper.old) (K.state keeper.new) }
     ensures cause { KeeperCause (K.state keeper.old) (K.state keeper.new) (IsErrOf result Keeper) }
@@ -190,6 +194,11 @@ pub fn answer_message<K: Keeper>(
     ensures kept { Tells (K.state keeper.old) (K.state keeper.new) → (IsMade result → ⊥)
         → Shows (K.state keeper.new) (K.state keeper.old).tables }
     ensures leads { LeadsFrom (K.state keeper.old) (K.state keeper.new) }
+
+    // Also if the keeper is trusted no more: a crash leaves what it might have left before, or this request done whole.
+    ensures crash { (K.state keeper.old).tells → IsTrue (K.state keeper.old).stands → IsTrue (K.state keeper.new).is_clean
+        → (w : World) → Stands (K.state keeper.old).tables w → (m : Tables) → (K.state keeper.new).may_leave m
+        → (K.state keeper.old).may_leave m ⊎ Stands m (step w (message_in message.now) now).1 }
 
     // A reply that the definition of a step makes is given by a keeper that is still trusted.
     ensures acknowledged { IsMade result → StaysAfter true (K.state keeper.old) (K.state keeper.new) }

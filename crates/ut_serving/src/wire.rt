@@ -4,13 +4,15 @@ ghost use Rattle.std.specs.Prelude.{◌≡◌, ◌≤◌, ℕ, List, Option, IsE
 ghost use Rattle.std.proofs.Common.{◌∙◌};
 ghost use Rattle.std.specs.Io.KnownBytes.{Appends, Keeps, prepend_known};
 ghost use Rattle.ut_value.specs.Causes.{Cause};
+ghost use Rattle.ut_io.specs.Doors.{input_of, output_of};
 ghost use Rattle.ut_io.specs.Streams.{AppendsFront};
 ghost use Rattle.ut_http.specs.Answer.{Answered, Between};
 ghost use Rattle.ut_http.specs.declared.fail.HttpFail.TheVariants.{Failed};
+ghost use Rattle.ut_serving.specs.Present.{PresentKeeps, PresentKeeps-refl, PresentKeeps-trans};
 
 use std::alloc::Global;
 use ut_http::{Buffer, HttpFail, Next, next_message};
-use ut_io::{IoFail, Sink, Source, write_all};
+use ut_io::{Door, IoFail, Line, Sink, Source, write_all};
 
 /// What ended a connection before its end.
 #[derive(Clone, Copy, Debug, PartialEq, Eq)]
@@ -120,5 +122,56 @@ impl<'a, S: Source, W: Sink> Wire for Pair<'a, S, W> {
 
     fn write(&mut self, text: &[u8]) -> Result<(), IoFail> {
         write_all(self.sink, text)
+    }
+}
+
+/// The present connection of a door.
+#[derive(Drop)]
+pub(crate) struct Present<'a, D> {
+    door: &'a mut D,
+}
+
+impl<'a, D: Door> Present<'a, D> {
+    /// The wire of a door's present connection.
+    pub(crate) fn new(door: &'a mut D) -> Present<'a, D>
+        ensures same { result.door.ghost_name ≡ door.entry.ghost_name }
+        ensures held { result.door.now ≡ door.old }
+    {
+        Present { door }
+    }
+}
+
+impl<'a, D: Door> Wire for Present<'a, D> {
+    ghost input = { λ p. input_of (D.held p.door.now) };
+
+    ghost output = { λ p. output_of (D.held p.door.now) };
+
+    ghost read_faults = { λ p. D.line_faults p.door.now };
+
+    ghost write_faults = { λ p. D.line_faults p.door.now };
+
+    ghost stays = { λ a b. (b.door.ghost_name ≡ a.door.ghost_name)
+        × PresentKeeps (D.held a.door.now) (D.held b.door.now) × (D.faults b.door.now ≡ D.faults a.door.now) };
+
+    ghost stays_refl = { λ a. (
+      λ i. a.door.ghost_name,
+      PresentKeeps-refl (D.held a.door.now),
+      λ i. D.faults a.door.now,
+    ) };
+
+    ghost stays_trans = { λ a b c h k. (
+      k.0 ∙ h.0,
+      PresentKeeps-trans (D.held a.door.now) (D.held b.door.now) (D.held c.door.now) h.1 k.1,
+      k.2 ∙ h.2,
+    ) };
+
+    fn next(&mut self, alloc: Global, buffer: &mut Buffer) -> Result<Next, HttpFail> {
+        let mut line = Line::new(self.door);
+        next_message(alloc, &mut line, buffer)
+    }
+
+    fn write(&mut self, text: &[u8]) -> Result<(), IoFail> {
+        let mut line = Line::new(self.door);
+        write_all(&mut line, text)
     }
 }

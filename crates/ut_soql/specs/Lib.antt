@@ -1,2 +1,4 @@
+pub mod Like
 pub mod Reading
 pub mod Tokens
+pub mod Worked

@@ -1,8 +1,9 @@
-//! Query texts: their tokens.
+//! Query texts: their tokens, and queries as they are held.
 //!
 //! It depends on the texts and lists of `ut_value`. Its contract: a text's tokens are those that the relation `AreTokens`
 //! gives it, with the byte at which each begins; every text has tokens, and only one list of them. Of the grammar it knows
-//! the one form `SELECT Id, Name FROM OBJECT`, whose object `asked_object` returns.
+//! the one form `SELECT Id, Name FROM OBJECT`, whose object `asked_object` returns. Which texts are like a pattern is the
+//! definition `like`, with worked rows.
 #![tactic(auto)]
 
 mod asking;
@@ -10,10 +11,16 @@ mod characters;
 mod laws;
 mod lexer;
 mod marks;
+mod query;
 mod quoted;
 mod token;
+mod worked;
 
 pub use crate::asking::{asked_object, asks_for_rows};
 pub use crate::laws::{asking_rows, token_laws};
 pub use crate::lexer::tokens;
+pub use crate::query::{
+    Cond, Item, LikePart, LikePattern, Literal, Op, OrderKey, Path, Query, Tail,
+};
 pub use crate::token::{Mark, Piece, Placed, Token};
+pub use crate::worked::like_rows;

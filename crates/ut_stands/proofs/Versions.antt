@@ -1,6 +1,5 @@
 -- The row of the version in tables that stand for a world.
-use Rattle.std.proofs.Common.{◌≡◌, ℕ, Bool, true, false, eqb, eq-eqb, eqb-true, List, [], length, Option, Some, None, refl, sym, ap, ◌∙◌, arith, inl, inr}
-use mathlib.Core.Bool.{true≢false}
+use Rattle.std.proofs.Common.{◌≡◌, ◌≢◌, ℕ, Bool, true, false, List, [], length, Option, Some, None, refl, sym, ap, ◌∙◌, arith, inl, inr}
 use Rattle.std.specs.Prelude.{Result, Ok, Err, if◌then◌else◌}
 use Rattle.std.specs.Option.{option_map}
 use Rattle.std.specs.FinMap as map
@@ -15,7 +14,8 @@ use Rattle.ut_keys.specs.Rows.{version_form}
 use Rattle.ut_model.specs.Sound.{IsWorld}
 use Rattle.ut_model.specs.World.{World}
 use Rattle.ut_stands.specs.Fails.{of_store_opening}
-use Rattle.ut_stands.specs.Reads.{FindsAs, KnowsAs, OpensAs}
+use Rattle.ut_stands.specs.Reads.{OpensAs}
+use Rattle.ut_stands.specs.declared.fail.OpenFail.TheVariants.{UnknownVersion}
 use Rattle.ut_stands.specs.Stands.{HasKnownVersion, HasUnknownVersion, IsVersion, Plan, Stands, StandsBy, row_at, version_of}
 
 -- one spelling is of one row, and what is read is what stands there, as `ut_keys` says
@@ -65,13 +65,9 @@ count_when : (b : Bool) (w : World) → (b ≡ false → w ≡ []) → count_in 
 count_when true w o = refl
 count_when false w o = sym (ap length (o refl))
 
-pub count_found : FindsVersion → (m : Tables) (r : Option VersionRow) → ReadsVersion m (Ok r) → FindsAs (λ w. length w) m (Ok (count_in r))
+-- what is read there says how many organisations there are
+pub count_found : FindsVersion → (m : Tables) (r : Option VersionRow) → ReadsVersion m (Ok r) → (w : World) → Stands m w → count_in r ≡ length w
 count_found finds m r e w (p, s) = ap count_in (found finds p m w (Ok r) s e) ∙ count_when p.opened w s.opened
-
-pub count_failed : FindsVersion → (m : Tables) (e : StoreFail) → ReadsVersion m (Err e) → FindsAs (λ w. length w) m (Err e)
-count_failed finds m Damaged d = λ w s. found finds s.0 m w (Err Damaged) s.1 d
-count_failed finds m Keeper d = tt
-count_failed finds m Memory d = tt
 
 known_when : (b : Bool) (m : Tables) (w : World) → IsWorld w → map.get m (spell Version) ≡ option_map (row_bytes version_form) (if b then Some (version_of w) else None) → HasKnownVersion m
 known_when true m w h e = inr (version_of w, record { fits = version_fits w h; kept = e }, refl)
@@ -99,23 +95,20 @@ unknown_none : (m : Tables) → ReadsVersion m (Err Damaged) → HasKnownVersion
 unknown_none m d (inl e) = d.0 e
 unknown_none m d (inr (r, v, is)) = damaged m d r v
 
-pub known_one : (m : Tables) (r : VersionRow) → ReadsVersion m (Ok (Some r)) → (b : Bool) → eqb r.version 1 ≡ b → KnowsAs m (Ok b)
-known_one m r e true is = inr (r, record { fits = e.fits; kept = e.is_kept }, eqb-true r.version 1 is)
-known_one m r e false is = (r, record { fits = e.fits; kept = e.is_kept }, λ same. absurd (true≢false (sym (eq-eqb r.version 1 same) ∙ is)))
+pub opens_none : (m : Tables) → ReadsVersion m (Ok None) → OpensAs m (Ok 0)
+opens_none m e = inl e
 
-pub known_none : (m : Tables) → ReadsVersion m (Ok None) → KnowsAs m (Ok true)
-known_none m e = inl e
+pub opens_known : (m : Tables) (r : VersionRow) → ReadsVersion m (Ok (Some r)) → r.version ≡ 1 → OpensAs m (Ok r.organisations)
+opens_known m r e is = inr (r, record { fits = e.fits; kept = e.is_kept }, is)
 
-pub known_failed : (m : Tables) (e : StoreFail) → ReadsVersion m (Err e) → KnowsAs m (Err e)
-known_failed m Damaged d = record {
+pub opens_unknown : (m : Tables) (r : VersionRow) → ReadsVersion m (Ok (Some r)) → r.version ≢ 1 → OpensAs m (Err UnknownVersion)
+opens_unknown m r e differs = (r, record { fits = e.fits; kept = e.is_kept }, differs)
+
+pub opens_failed : (m : Tables) (e : StoreFail) → ReadsVersion m (Err e) → OpensAs m (Err (of_store_opening e))
+opens_failed m Damaged d = record {
   no_known = unknown_none m d;
   no_unknown = λ u. damaged m d u.0 u.1;
   no_world = λ w s. unknown_none m d (known m w s);
 }
-known_failed m Keeper d = tt
-known_failed m Memory d = tt
-
-pub opens_failed : (m : Tables) (e : StoreFail) → KnowsAs m (Err e) → OpensAs m (Err (of_store_opening e))
-opens_failed m Damaged d = d
 opens_failed m Keeper d = tt
 opens_failed m Memory d = tt

@@ -1,5 +1,5 @@
 -- What reads answer.
-use Rattle.std.specs.Prelude.{◌≡◌, Bool, true, false, Result, Ok, Err}
+use Rattle.std.specs.Prelude.{◌≡◌, ℕ, Result, Ok, Err}
 use Rattle.ut_keeper.specs.Tables.{Tables}
 use Rattle.ut_keys.specs.declared.fail.StoreFail.{StoreFail}
 use Rattle.ut_keys.specs.declared.fail.StoreFail.TheVariants.{Keeper, Memory, Damaged}
@@ -24,17 +24,9 @@ pub record IsDamaged (m : Tables) : Type 0 where
   pub no_unknown : HasUnknownVersion m → ⊥
   pub no_world : (w : World) → Stands m w → ⊥
 
--- whether the version is known
-abbrev pub KnowsAs : Tables → Result Bool StoreFail → Type 0
-KnowsAs m (Ok true) = HasKnownVersion m
-KnowsAs m (Ok false) = HasUnknownVersion m
-KnowsAs m (Err Damaged) = IsDamaged m
-KnowsAs m (Err Keeper) = Unit {0}
-KnowsAs m (Err Memory) = Unit {0}
-
 -- the version is known, or an unknown one is told, or the tables are damaged
-abbrev pub OpensAs : Tables → Result (Unit {0}) OpenFail → Type 0
-OpensAs m (Ok u) = HasKnownVersion m
+abbrev pub OpensAs : Tables → Result ℕ OpenFail → Type 0
+OpensAs m (Ok count) = HasKnownVersion m
 OpensAs m (Err opening.UnknownVersion) = HasUnknownVersion m
 OpensAs m (Err (opening.Store Damaged)) = IsDamaged m
 OpensAs m (Err (opening.Store Keeper)) = Unit {0}

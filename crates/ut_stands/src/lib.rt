@@ -16,4 +16,4 @@ pub use crate::fail::{EditFail, OpenFail};
 pub use crate::judged::Judged;
 pub use crate::laws::{stands_laws, stands_rows};
 pub use crate::opening::{KNOWN_VERSION, open_tables};
-pub use crate::reads::{organisations, user};
+pub use crate::reads::user;

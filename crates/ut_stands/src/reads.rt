@@ -1,6 +1,6 @@
 //! Reads of tables that stand for a world.
 
-ghost use Rattle.std.specs.Prelude.{IsErrOf, length, is_ok};
+ghost use Rattle.std.specs.Prelude.{IsErrOf, is_ok};
 ghost use Rattle.std.specs.Option.{option_map};
 ghost use Rattle.ut_keeper.specs.Draft.{DraftReads, DraftTells, state_of, tables_of};
 ghost use Rattle.ut_keeper.specs.State.{KeeperCause, StaysAfter};
@@ -11,28 +11,9 @@ ghost use Rattle.ut_stands.specs.Stands.{user_of};
 
 use std::alloc::Global;
 use ut_keeper::{Draft, Keeper};
-use ut_keys::{Mark, StoreFail, UserRow, VersionRow, row_at, row_laws};
+use ut_keys::{Mark, StoreFail, UserRow, row_at, row_laws};
 use ut_model::name_laws;
 use ut_value::{Id, id_laws};
-
-/// How many organisations there are.
-///
-/// # Errors
-///
-/// `Keeper` if the keeper failed, `Memory` if out of memory, `Damaged` never if the tables stand for a world.
-pub fn organisations<K: Keeper>(alloc: Global, draft: &mut Draft<'_, K>) -> Result<u32, StoreFail>
-    ensures finds { DraftTells K.state draft.old draft.new → FindsAs (λ w. length w) (tables_of K.state draft.old) result }
-    ensures reads { DraftReads K.state 0 draft.old draft.new }
-    ensures stays { StaysAfter (is_ok result) (state_of K.state draft.old) (state_of K.state draft.new) }
-    ensures cause { KeeperCause (state_of K.state draft.old) (state_of K.state draft.new) (IsErrOf result Keeper) }
-{
-    row_laws::<VersionRow>();
-    match row_at::<VersionRow, K>(alloc, draft, &()) {
-        Ok(None) => Ok(0),
-        Ok(Some(row)) => Ok(row.organisations),
-        Err(fail) => Err(fail),
-    }
-}
 
 /// The user of an organisation who has this id, as a row.
 ///

@@ -1,29 +1,50 @@
-use std::alloc::AllocError;
-use ut_value::{Bytes, Id, NotAnId, Text};
+use std::alloc::{AllocError, Global};
+use std::str::from_utf8;
+use ut_value::Id;
 
-#[test]
-fn reads_both_forms_of_an_id(rt: HostRuntime) {
-    for text in ["a0000000000000A", "a0000000000000AAAQ"] {
-        let printed = Id::read(text).map(|id| id.print18());
-        assert!(rt; printed == Ok(*b"a0000000000000AAAQ"), "at {text}");
+// A text, `|`, and the id that it spells in 18 characters with its number as one of an organisation, or that it's no id.
+const IDS: &str = "\
+a0000000000000A|a0000000000000AAAQ None
+a0000000000000AAAQ|a0000000000000AAAQ None
+00D000000000001EAA|00D000000000001EAA Some(1)
+00D0000000000zz|00D0000000000zzEAA Some(3843)
+0050000000000A0|0050000000000A0AAI None
+00D0004ZxYle1gV|00D0004ZxYle1gVEUQ Some(999999999999999)
+00D0004ZxYle1gW|00D0004ZxYle1gWEUQ None
+00Dzzzzzzzzzzzz|00DzzzzzzzzzzzzEAA None
+|NotAnId
+a0000000000000|NotAnId
+a0000000000000AAAA|NotAnId
+a0000000000000aAAQ|NotAnId
+a0000000000000AAA|NotAnId
+a0000000000000AAAQQ|NotAnId
+a000000000000-1|NotAnId
+a000000000000é1|NotAnId
+";
+
+// What a text spells, in the form of the table.
+fn shown(alloc: Global, text: &str) -> Result<String, AllocError> {
+    match Id::read(text) {
+        Ok(id) => {
+            let printed = id.print18();
+            let printed = from_utf8(&printed).unwrap_or("?");
+            format!(in alloc; "{printed} {:?}", id.number(*b"00D"))
+        }
+        Err(why) => format!(in alloc; "{why:?}"),
     }
 }
 
 #[test]
-fn refuses_what_is_no_id(rt: HostRuntime) {
-    for text in [
-        "",
-        "a0000000000000",
-        "a0000000000000AAAA",
-        "a0000000000000aAAQ",
-        "a0000000000000AAA",
-        "a0000000000000AAAQQ",
-        "a000000000000-1",
-        "a000000000000é1",
-    ] {
-        let printed = Id::read(text).map(|id| id.print18());
-        assert!(rt; printed == Err(NotAnId), "at {text}");
+fn reads_ids(rt: HostRuntime) -> Result<(), AllocError> {
+    let mut rows = 0u64;
+    for line in IDS.lines() {
+        let (text, wanted) = line.split_once('|').unwrap_or(("", ""));
+        let found = shown(rt.alloc(), text)?;
+        assert!(rt; found.as_str() == wanted, "at {line}");
+        rows = rows.saturating_add(1);
     }
+    assert!(rt; rows == 16);
+    Ok(())
 }
 
 #[test]
@@ -40,30 +61,4 @@ fn numbers_ids(rt: HostRuntime) {
             "at {number}"
         );
     }
-}
-
-#[test]
-fn reads_numbers_of_ids(rt: HostRuntime) {
-    for (id, wanted) in [
-        ("00D000000000001EAA", Some(1)),
-        ("00D0000000000zz", Some(3843)),
-        ("0050000000000A0", None),
-        ("00D0004ZxYle1gV", Some(999_999_999_999_999)),
-        ("00D0004ZxYle1gW", None),
-        ("00Dzzzzzzzzzzzz", None),
-    ] {
-        let number = Id::read(id).map(|id| id.number(*b"00D"));
-        assert!(rt; number.unwrap_or(None) == wanted, "at {id}");
-    }
-}
-
-#[test]
-fn copies_with_memory(rt: HostRuntime) -> Result<(), AllocError> {
-    let text = Text::from_str(rt.alloc(), "Straße")?;
-    assert!(rt; text.as_str() == "Straße");
-    assert!(rt; text.into_string().as_str() == "Straße");
-    let bytes = Bytes::from_slice(rt.alloc(), b"ab")?;
-    assert!(rt; bytes.as_slice() == b"ab".as_slice());
-    assert!(rt; Bytes::from_vec(bytes.into_vec()).as_slice() == b"ab".as_slice());
-    Ok(())
 }

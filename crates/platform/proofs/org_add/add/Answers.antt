@@ -1,4 +1,4 @@
-use Rattle.std.proofs.Common.{rules, ◌≡◌, ◌⊎◌, IsTrue, subst, sym}
+use Rattle.std.proofs.Common.{rules, ◌≡◌, ◌⊎◌, IsTrue, length, subst, sym}
 use Rattle.std.specs.Prelude.{IfOk, OnErr}
 use Rattle.ut_keeper.specs.State.{Shows, Tells}
 use Rattle.ut_keeper.specs.Tables.{Tables}
@@ -18,10 +18,10 @@ returns-clause-does g c =
     let state = g.K.Keeper.state in
     let d = c.new-draft.result in
     let op = org_does c.args.name.now c.args.secret.now in
-    moved (λ x y. Tells (state x) (state y) → (w : World) → Stands (state x).tables w → Does op w (state x) (state y) c.finish.result)
+    moved (λ x y. Tells (state x) (state y) → (w : World) → Stands (state x).tables w → length w ≡ c.args.organisations → Does op w (state x) (state y) c.finish.result)
     d.keeper.now c.finish.new.draft.0 c.args.keeper.now _ c.new-draft.ensures.same (search rules)
-    (λ told w s. c.finish.ensures.does d 3 0 0 op w c.new-draft.ensures.empty c.judge-judged.ensures.works c.judge-judged.ensures.change told s
-    (λ drafted. c.judge-judged.ensures.judged drafted w (search rules)))
+    (λ told w s counted. c.finish.ensures.does d 3 0 0 op w c.new-draft.ensures.empty c.judge-judged.ensures.works c.judge-judged.ensures.change told s
+    (λ drafted. c.judge-judged.ensures.judged drafted w (search rules) counted))
 
 pub returns-clause-kept : goal.returns-clause-kept
 returns-clause-kept g c =
@@ -45,7 +45,7 @@ returns-clause-crash g c =
     let state = g.K.Keeper.state in
     let d = c.new-draft.result in
     let op = org_does c.args.name.now c.args.secret.now in
-    moved (λ x y. (state x).tells → IsTrue (state x).stands → IsTrue (state y).is_clean → (w : World) → Stands (state x).tables w → (m : Tables) → (state y).may_leave m → (state x).may_leave m ⊎ Stands m (op w).1)
+    moved (λ x y. (state x).tells → IsTrue (state x).stands → IsTrue (state y).is_clean → (w : World) → Stands (state x).tables w → length w ≡ c.args.organisations → (m : Tables) → (state y).may_leave m → (state x).may_leave m ⊎ Stands m (op w).1)
     d.keeper.now c.finish.new.draft.0 c.args.keeper.now _ c.new-draft.ensures.same (search rules)
-    (λ tells stands clean w s m h. c.finish.ensures.crash d 3 0 0 op w c.new-draft.ensures.empty c.judge-judged.ensures.works c.judge-judged.ensures.stays tells stands clean s
-    (λ drafted. c.judge-judged.ensures.judged drafted w (search rules)) m h)
+    (λ tells stands clean w s counted m h. c.finish.ensures.crash d 3 0 0 op w c.new-draft.ensures.empty c.judge-judged.ensures.works c.judge-judged.ensures.stays tells stands clean s
+    (λ drafted. c.judge-judged.ensures.judged drafted w (search rules) counted) m h)

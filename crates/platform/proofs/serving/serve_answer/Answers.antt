@@ -1,4 +1,4 @@
-use Rattle.std.proofs.Common.{rules, ◌≡◌, ◌∙◌, refl, ap, sym, subst, [], Err}
+use Rattle.std.proofs.Common.{rules, inl, ◌≡◌, ◌∙◌, refl, ap, sym, subst, [], Err}
 use Rattle.ut_serving.specs.Exchanges.{LeavesBehind}
 use Rattle.ut_serving.specs.Turning.{Serves}
 use Rattle.platform.specs.Seen.{Seen}
@@ -30,7 +30,7 @@ returns-in-Ok-clause-runs g c told w s door faults =
     let b : Seen = record { keeper = state last; door = door; line_faults = faults; left = left over.source.now; written = written over.sink.now; coming = coming c.connection.new.clock } in
     let runs : RunsAnswer w a b c.answer_end.result =
     answered w a b (state mid) c.connection.result c.answer_end.result c.answer_end.ensures
-    (λ end xs h. c.serving_laws.ensures.left_from_open w end xs first mid last opened steps h)
+    (λ end xs h. c.serving_laws.ensures.left_from_open w end xs first mid last opened steps h) c.isolation_laws.ensures
     (λ moments input asked here. subst (λ x. Serves w moments input (state mid) (state last) (coming c.connection.new.clock) (written x) (written over.sink.now) c.connection.result) c.new-wire.ensures.sink_held
     (c.connection.ensures.serves (at.0, told.1) w moments input at.1 asked (ap left c.new-wire.ensures.source_held ∙ here))) in
     moved (λ x y. RunsAnswer w a (record { keeper = state last; door = door; line_faults = faults; left = left x; written = written y; coming = coming c.connection.new.clock }) c.answer_end.result) over.source.now _ over.sink.now _ (search rules) (search rules) runs
@@ -52,8 +52,8 @@ returns-in-Err-clause-runs g c told w s door faults =
     let opening = c.open_tables.ensures in
     let a : Seen = record { keeper = state first; door = door; line_faults = faults; left = g.S.Source.left c.args.source.now; written = g.W.Sink.written c.args.sink.now; coming = g.C.Clock.coming c.args.clock.now } in
     let b : Seen = record { keeper = state mid; door = door; line_faults = faults; left = g.S.Source.left c.args.source.now; written = g.W.Sink.written c.args.sink.now; coming = g.C.Clock.coming c.args.clock.now } in
-    opened_only w a b c.from.result
+    λ input moments _ _. inl (opened_only w a b c.from.result
     (subst (λ (x : Stop). IsOpening (Err x)) (sym c.from.ensures)
     (failed_opening c.stands_laws.ensures.one_version c.stands_laws.ensures.known (state first).tables w c.in-Err.fail (subst (OpensAs (state first).tables) c.in-Err.is (opening.opens told)) s))
     (c.serving_laws.ensures.left_by_reading w first mid opening.steps (λ trusted. opening.same (told.0, trusted)) (opening.crash told.0) s)
-    refl refl refl refl
+    refl refl refl refl)

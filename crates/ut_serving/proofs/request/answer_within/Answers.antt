@@ -1,6 +1,8 @@
-use Rattle.std.proofs.Common.{rules, ◌≡◌, sym, subst}
+use Rattle.std.proofs.Common.{rules, ◌≡◌, ◌⊎◌, IsTrue, sym, subst}
 use Rattle.std.specs.Prelude.{OnErr}
 use Rattle.ut_keeper.specs.State.{Shows, Tells}
+use Rattle.ut_keeper.specs.Tables.{Tables}
+use Rattle.ut_model.specs.Step.{step}
 use Rattle.ut_model.specs.World.{World}
 use Rattle.ut_stands.specs.Operations.{Does}
 use Rattle.ut_stands.specs.Stands.{Stands}
@@ -44,3 +46,14 @@ returns-clause-leads g c =
     (λ drafted. c.judge-judged.ensures.judged drafted w (search rules)))
     (λ tells stands clean w s m h. c.finish.ensures.crash d 0 0 0 op w c.new-draft.ensures.empty works c.judge-judged.ensures.stays tells stands clean s
     (λ drafted. c.judge-judged.ensures.judged drafted w (search rules)) m h))
+
+pub returns-clause-crash : goal.returns-clause-crash
+returns-clause-crash g c =
+    let state = g.K.Keeper.state in
+    let d = c.new-draft.result in
+    let op = does (message_in c.args.message.now) c.args.message.now.close c.args.now in
+    let works = c.draft_laws.ensures.reads_work 0 d c.judge-judged.new.draft c.judge-judged.ensures.reads in
+    moved (λ x y. (state x).tells → IsTrue (state x).stands → IsTrue (state y).is_clean → (w : World) → Stands (state x).tables w → (m : Tables) → (state y).may_leave m → (state x).may_leave m ⊎ Stands m (step w (message_in c.args.message.now) c.args.now).1)
+    d.keeper.now c.finish.new.draft.0 c.args.keeper.now _ c.new-draft.ensures.same (search rules)
+    (λ tells stands clean w s m h. c.finish.ensures.crash d 0 0 0 op w c.new-draft.ensures.empty works c.judge-judged.ensures.stays tells stands clean s
+    (λ drafted. c.judge-judged.ensures.judged drafted w (search rules)) m h)

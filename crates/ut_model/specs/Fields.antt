@@ -1,0 +1,102 @@
+-- The fields of an object, as queries and edits see them, and the values that records have in them.
+-- Sources: Salesforce, "Object Reference", "System Fields" and "Required Fields", of the fields that every object has;
+-- "SOQL and SOSL Reference", of names, in which case is ignored. That a detail has no `OwnerId` is Salesforce's too.
+use Rattle.std.specs.Prelude.{ℕ, Bool, true, false, if◌then◌else◌, List, [], ◌∷◌, ◌++◌, map, bytes_eq, codes, Option, Some, None}
+use Rattle.std.specs.List.{enumerate_from, find, list_any}
+use Rattle.ut_value.specs.Texts.{lower}
+use Rattle.ut_value.specs.declared.value.FieldType.{FieldType}
+use Rattle.ut_value.specs.declared.value.FieldType.TheVariants as type
+use Rattle.ut_value.specs.declared.value.Value.{Value}
+use Rattle.ut_value.specs.declared.value.Value.TheVariants as value
+use Rattle.ut_formula.specs.Meaning.{value_at}
+use Rattle.ut_model.specs.declared.record.Record.{Record}
+use Rattle.ut_model.specs.Tenant.{Field, Object}
+
+-- one name, whatever the case of its ASCII letters
+abbrev pub same_name : List ℕ → List ℕ → Bool
+same_name a b = bytes_eq (lower a) (lower b)
+
+-- ---- details
+
+-- the reference of a detail to its master
+abbrev pub is_master : FieldType → Bool
+is_master (type.Master object) = true
+is_master _ = false
+
+-- an object with a Master field
+abbrev pub is_detail : Object → Bool
+is_detail o = list_any (λ f. is_master f.kind) o.fields
+
+-- ---- values
+
+-- no value
+abbrev pub is_null : Value → Bool
+is_null value.Null = true
+is_null _ = false
+
+-- a reference, or null
+abbrev pub as_ref : Option (List ℕ) → Value
+as_ref None = value.Null
+as_ref (Some id) = value.Ref id
+
+-- the id that a reference names
+abbrev pub ref_of : Value → Option (List ℕ)
+ref_of (value.Ref id) = Some id
+ref_of _ = None
+
+-- where a record has a value: among its values the name's is at position 0, and those of the custom fields follow
+pub data Where : Type 0 where
+  its_id : Where
+  its_owner : Where
+  its_created : Where
+  its_modified : Where
+  its_value : ℕ → Where
+
+-- the value of a record there
+abbrev pub value_in : Where → Record → Value
+value_in its_id r = value.Ref r.id
+value_in its_owner r = as_ref r.owner
+value_in its_created r = value.Moment r.created
+value_in its_modified r = value.Moment r.modified
+value_in (its_value position) r = value_at r.values position
+
+-- ---- columns
+
+-- what a field holds: values of a type or, as `Id` and `OwnerId`, ids
+pub data Kind : Type 0 where
+  typed : FieldType → Kind
+  ids : Kind
+
+-- a field: its name as declared, what it holds, and where a record has it
+pub record Column : Type 0 where
+  pub name : List ℕ
+  pub kind : Kind
+  pub at : Where
+
+-- a column, from its parts
+abbrev pub column : List ℕ → Kind → Where → Column
+column name kind at = record { name = name; kind = kind; at = at }
+
+-- `OwnerId`, which a detail doesn't have
+abbrev pub owner_columns : Object → List Column
+owner_columns o = if is_detail o then [] else column (codes "OwnerId") ids its_owner ∷ []
+
+-- the custom fields, in their order
+abbrev pub custom_columns : Object → List Column
+custom_columns o = map (λ (f : ℕ × Field). column f.1.name (typed f.1.kind) (its_value f.0)) (enumerate_from 1 o.fields)
+
+-- the fields that an edit may give: a name is a text of at most 80 characters
+abbrev pub writable_columns : Object → List Column
+writable_columns o = column (codes "Name") (typed (type.Text 80)) (its_value 0) ∷ owner_columns o ++ custom_columns o
+
+-- all fields
+abbrev pub columns : Object → List Column
+columns o =
+    column (codes "Id") ids its_id
+    ∷ column (codes "CreatedDate") (typed type.Moment) its_created
+    ∷ column (codes "LastModifiedDate") (typed type.Moment) its_modified
+    ∷ writable_columns o
+
+-- the field with this name
+unfoldable pub column_named : Object → List ℕ → Option Column
+column_named o name = find (λ c. same_name c.name name) (columns o)

@@ -1,0 +1,130 @@
+-- What a user may do with a record.
+-- Source: Salesforce, "Record-Level Security" and "A Guide to Sharing Architecture": defaults of the organisation, the role
+-- hierarchy, sharing rules, manual shares, and a detail's access by its master.
+use Rattle.std.specs.Prelude.{ℕ, zero, suc, Bool, true, false, ◌&&◌, ◌||◌, ◌==◌, nat_le, if◌then◌else◌, List, [], ◌∷◌, ◌++◌, map, filter, bytes_eq, Option, None}
+use Rattle.ut_value.specs.declared.job.RuleState.{RuleState}
+use Rattle.ut_value.specs.declared.job.RuleState.TheVariants as state
+use Rattle.ut_value.specs.declared.sharing.Access.{Access}
+use Rattle.ut_value.specs.declared.sharing.Access.TheVariants as access
+use Rattle.ut_value.specs.declared.sharing.Level.{Level}
+use Rattle.ut_value.specs.declared.sharing.Level.TheVariants.{Nothing, Read, Edit, Full}
+use Rattle.ut_value.specs.declared.sharing.Principal.{Principal}
+use Rattle.ut_formula.specs.declared.formula.Formula.{Formula}
+use Rattle.ut_formula.specs.Meaning.{holds}
+use Rattle.ut_model.specs.declared.limit.Limit.TheVariants as limit
+use Rattle.ut_model.specs.declared.record.Record.{Record}
+use Rattle.ut_model.specs.Cases.{in_case}
+use Rattle.ut_model.specs.Limits.{limit_number}
+use Rattle.ut_model.specs.Membership.{is_above, is_member, reaches}
+use Rattle.ut_model.specs.Objects.{object_number, object_of, owner_of, record_at, records_of}
+use Rattle.ut_model.specs.Relationships.{master_reference, named_record}
+use Rattle.ut_model.specs.Tenant.{Object, SharingRule, Source, owned, meets, Tenant, User}
+
+-- ---- levels in their order
+
+-- levels as numbers
+abbrev pub rank : Level → ℕ
+rank Nothing = 0
+rank Read = 1
+rank Edit = 2
+rank Full = 3
+
+-- the second level includes the first
+abbrev pub at_least : Level → Level → Bool
+at_least least level = nat_le (rank least) (rank level)
+
+-- the greatest of some levels
+abbrev pub greatest : List Level → Level
+greatest [] = Nothing
+greatest (l ∷ ls) = if at_least l (greatest ls) then greatest ls else l
+
+-- ---- grants
+
+-- how a criteria rule's text is read: the formula that it spells over the fields of an object, if it spells one
+abbrev pub Reads : Type 0
+Reads = Object → List ℕ → Option Formula
+
+-- a text's formula holds on a record of the object
+abbrev pub meets_text : Reads → List ℕ → Record → Object → Bool
+meets_text reads text r o = in_case (reads o text) false (λ f. holds f r.values None)
+
+-- a source covers a record: its owner is a member, or the formula holds on it
+abbrev pub covered_by : Reads → Tenant → Record → Source → Bool
+covered_by reads t r (owned p) = in_case (owner_of t r) false (λ u. is_member t u p)
+covered_by reads t r (meets text) = in_case (object_of t r) false (meets_text reads text r)
+
+-- a rule acts unless it is leaving
+abbrev pub acts : RuleState → Bool
+acts state.Leaving = false
+acts _ = true
+
+-- a rule that acts, of the record's object, whose source covers the record
+abbrev pub covers : Reads → Tenant → Record → SharingRule → Bool
+covers reads t r rule = acts rule.state && ((rule.object == object_number r.id) && covered_by reads t r rule.source)
+
+-- a level for whom a principal reaches
+pub record Grant : Type 0 where
+  pub to : Principal
+  pub level : Level
+
+-- those of the rules that cover a record, and of its manual shares
+unfoldable pub grants : Reads → Tenant → Record → List Grant
+grants reads t r =
+    map (λ rule. record { to = rule.to; level = rule.level }) (filter (covers reads t r) t.rules)
+    ++ map (λ share. record { to = share.to; level = share.level }) (filter (λ share. bytes_eq share.item r.id) t.shares)
+
+-- ---- the level of a user on a record
+
+-- the user owns the record, or is above who owns it
+abbrev pub owns : Tenant → User → Record → Bool
+owns t u r = in_case (owner_of t r) false (λ x. bytes_eq x.id u.id || is_above t u x)
+
+-- what administrators, owners and users above them have
+abbrev pub by_owner : Tenant → User → Record → Level
+by_owner t u r = if u.admin || owns t u r then Full else Nothing
+
+-- what every user has
+abbrev pub by_access : Access → Level
+by_access access.Private = Nothing
+by_access access.Read = Read
+by_access access.ReadWrite = Edit
+by_access access.ControlledByParent = Nothing
+
+-- what a grant gives a user
+abbrev pub by_grant : Tenant → User → Grant → Level
+by_grant t u g = if reaches t g.to u then g.level else Nothing
+
+-- the level on a record that isn't a detail
+unfoldable pub own_level : Reads → Tenant → User → Record → Level
+own_level reads t u r =
+    greatest (by_owner t u r ∷ in_case (object_of t r) Nothing (λ o. by_access o.access) ∷ map (by_grant t u) (grants reads t r))
+
+-- who may edit a master has its details in full
+abbrev pub full_for_edit : Level → Level
+full_for_edit Edit = Full
+full_for_edit level = level
+
+-- the level on a record, through at most so many records: a detail's is its master's
+abbrev pub level_within : ℕ → Reads → Tenant → User → Record → Level
+level_within zero reads t u r = Nothing
+level_within (suc n) reads t u r =
+    in_case (master_reference t (object_number r.id)) (own_level reads t u r) (λ f.
+    in_case (named_record t f r) Nothing (λ m. full_for_edit (level_within n reads t u m)))
+
+-- the level of a user on a record
+unfoldable pub level : Reads → Tenant → User → Record → Level
+level reads t u r = level_within (suc (limit_number limit.DetailLevels)) reads t u r
+
+-- the same on the record with this id: nothing where there is none
+abbrev pub level_at : Reads → Tenant → User → List ℕ → Level
+level_at reads t u id = in_case (record_at t id) Nothing (level reads t u)
+
+-- ---- what a user may read
+
+-- the user may read the record
+abbrev pub can_read : Reads → Tenant → User → Record → Bool
+can_read reads t u r = at_least Read (level reads t u r)
+
+-- the records of an object that a user may read, in the order of their ids
+unfoldable pub readable : Reads → Tenant → User → ℕ → List Record
+readable reads t u n = filter (can_read reads t u) (records_of t n)

@@ -1,0 +1,77 @@
+use Rattle.std.proofs.Common.{subst, true, false, sym, refl, arith, [], Ok, Err}
+use Rattle.std.proofs.lemmas.Result.{err_from_is_err_and}
+use Rattle.ut_keeper.proofs.Calls.{steps_same, steps_on}
+use Rattle.ut_serving.specs.Doors.{BringsTo, ManyEnds}
+use Rattle.ut_serving.proofs.Brought.{brings_none, gone_on, failed_many, ended_many, full_many}
+use Rattle.ut_serving.proofs.Leading.{led_same, led_then}
+use Rattle.ut_serving.proofs.doors.serve.Goals as goal
+
+pub loop-served-init : goal.loop-served-init
+loop-served-init g c =
+    let k = g.K.Keeper.state c.args.keeper.now in
+    let lines = g.D.Door.line_faults c.args.door.now in
+    record {
+      steps = steps_same k;
+      leads = led_same k;
+      faults = omega arith;
+      lines = omega arith;
+      goes = λ told w d moments s e asked. ([], d, moments, e, asked, brings_none w moments d lines lines k told.0 s (omega arith), refl);
+    }
+
+pub loop-served-preserved : goal.loop-served-preserved
+loop-served-preserved g c =
+    let state = g.K.Keeper.state in
+    let coming = g.C.Clock.coming in
+    let held = g.D.Door.held in
+    let lines_of = g.D.Door.line_faults in
+    let more = c.serve_next.ensures.cause.later in
+    let lines = c.serve_next.ensures.lines in
+    record {
+      steps = steps_on (state c.args.keeper.now) (state c.loop-served.keeper) (state c.serve_next.new.keeper) c.loop-served.invariant.steps c.serve_next.ensures.steps;
+      leads = led_then (state c.args.keeper.now) (state c.loop-served.keeper) (state c.serve_next.new.keeper) c.loop-served.invariant.leads c.serve_next.ensures.steps c.serve_next.ensures.leads;
+      faults = omega (arith, c.loop-served.invariant.faults, more);
+      lines = omega (arith, c.loop-served.invariant.lines, lines);
+      goes = λ told w d moments s e asked.
+          gone_on (Ok true) w moments d c.loop-served._served (state c.args.keeper.now) (state c.loop-served.keeper) (state c.serve_next.new.keeper) (coming c.loop-served.clock) (coming c.serve_next.new.clock) (held c.loop-served.door) (held c.serve_next.new.door)
+          (lines_of c.args.door.now) (lines_of c.loop-served.door) (lines_of c.serve_next.new.door) told.1 c.serve_next.ensures.steps (c.loop-served.invariant.goes (told.0, c.serve_next.ensures.steps.stood told.1) w d moments s e asked)
+          (rw c.if-not-branch.false at c.in_ok-serve_next.ensures.serves);
+    }
+
+pub returns-in_err-serve_next-clause-leads : goal.returns-in_err-serve_next-clause-leads
+returns-in_err-serve_next-clause-leads g c =
+    let state = g.K.Keeper.state in
+    led_then (state c.args.keeper.now) (state c.loop-served.keeper) (state c.serve_next.new.keeper) c.loop-served.invariant.leads c.serve_next.ensures.steps c.serve_next.ensures.leads
+
+pub returns-then-not-branch-clause-leads : goal.returns-then-not-branch-clause-leads
+returns-then-not-branch-clause-leads g c =
+    let state = g.K.Keeper.state in
+    led_then (state c.args.keeper.now) (state c.loop-served.keeper) (state c.serve_next.new.keeper) c.loop-served.invariant.leads c.serve_next.ensures.steps c.serve_next.ensures.leads
+
+pub returns-in_err-serve_next-clause-serves : goal.returns-in_err-serve_next-clause-serves
+returns-in_err-serve_next-clause-serves g c told w d moments s e asked =
+    let state = g.K.Keeper.state in
+    let coming = g.C.Clock.coming in
+    let held = g.D.Door.held in
+    let lines_of = g.D.Door.line_faults in
+    let p = err_from_is_err_and c.from_residual.result c.from_residual.ensures.1 in
+    subst (λ r. BringsTo w moments d (ManyEnds c.args.count r) (coming c.serve_next.new.clock) (held c.serve_next.new.door) (lines_of c.args.door.now) (lines_of c.serve_next.new.door) (state c.args.keeper.now) (state c.serve_next.new.keeper)) (sym p.1)
+    (failed_many w moments d c.loop-served._served c.args.count (coming c.serve_next.new.clock) (held c.serve_next.new.door) (lines_of c.args.door.now) (lines_of c.serve_next.new.door) (state c.args.keeper.now) (state c.serve_next.new.keeper) p.0 (omega (arith, c.loop-served-test.true))
+    (gone_on (Err c.in_err-serve_next.field-0.0) w moments d c.loop-served._served (state c.args.keeper.now) (state c.loop-served.keeper) (state c.serve_next.new.keeper) (coming c.loop-served.clock) (coming c.serve_next.new.clock) (held c.loop-served.door) (held c.serve_next.new.door)
+    (lines_of c.args.door.now) (lines_of c.loop-served.door) (lines_of c.serve_next.new.door) told.1 c.serve_next.ensures.steps (c.loop-served.invariant.goes (told.0, c.serve_next.ensures.steps.stood told.1) w d moments s e asked)
+    c.in_err-serve_next.ensures.serves))
+
+pub returns-then-not-branch-clause-serves : goal.returns-then-not-branch-clause-serves
+returns-then-not-branch-clause-serves g c told w d moments s e asked =
+    let state = g.K.Keeper.state in
+    let coming = g.C.Clock.coming in
+    let held = g.D.Door.held in
+    let lines_of = g.D.Door.line_faults in
+    ended_many w moments d c.loop-served._served c.args.count (coming c.serve_next.new.clock) (held c.serve_next.new.door) (lines_of c.args.door.now) (lines_of c.serve_next.new.door) (state c.args.keeper.now) (state c.serve_next.new.keeper) (omega (arith, c.loop-served-test.true))
+    (gone_on (Ok false) w moments d c.loop-served._served (state c.args.keeper.now) (state c.loop-served.keeper) (state c.serve_next.new.keeper) (coming c.loop-served.clock) (coming c.serve_next.new.clock) (held c.loop-served.door) (held c.serve_next.new.door)
+    (lines_of c.args.door.now) (lines_of c.loop-served.door) (lines_of c.serve_next.new.door) told.1 c.serve_next.ensures.steps (c.loop-served.invariant.goes (told.0, c.serve_next.ensures.steps.stood told.1) w d moments s e asked)
+    (rw c.if-not-branch.true at c.in_ok-serve_next.ensures.serves))
+
+pub returns-clause-serves : goal.returns-clause-serves
+returns-clause-serves g c told w d moments s e asked =
+    full_many w moments d c.loop-served._served c.args.count (g.C.Clock.coming c.loop-served.clock) (g.D.Door.held c.loop-served.door) (g.D.Door.line_faults c.args.door.now) (g.D.Door.line_faults c.loop-served.door) (g.K.Keeper.state c.args.keeper.now) (g.K.Keeper.state c.loop-served.keeper)
+    c.loop-served.auto._served-end c.loop-served-test.false (c.loop-served.invariant.goes told w d moments s e asked)

@@ -1,0 +1,23 @@
+use Rattle.std.proofs.Common.{◌≡◌, ◌≤◌, ℕ, List, Some}
+use Rattle.ut_io.specs.Doors.{DoorState}
+use Rattle.ut_keeper.specs.State.{Steps, Tells}
+use Rattle.ut_model.specs.World.{World}
+use Rattle.ut_stands.specs.Stands.{Stands}
+use Rattle.ut_serving.specs.Leads.{LeadsFrom}
+use Rattle.ut_serving.proofs.Brought.{Gone}
+use Rattle.ut_serving.proofs.doors.serve.Given as goal
+
+abbrev pub invariant-loop-served : goal.invariant-loop-served
+invariant-loop-served g l =
+    let state = g.K.Keeper.state in
+    let coming = g.C.Clock.coming in
+    let held = g.D.Door.held in
+    let lines_of = g.D.Door.line_faults in
+    record {
+      steps : Steps (state l.fn.keeper) (state l.keeper);
+      leads : LeadsFrom (state l.fn.keeper) (state l.keeper);
+      faults : g.D.Door.faults l.fn.door ≤ g.D.Door.faults l.door;
+      lines : lines_of l.fn.door ≤ lines_of l.door;
+      goes : Tells (state l.fn.keeper) (state l.keeper) → (w : World) (d : DoorState) (moments : List ℕ) → Stands (state l.fn.keeper).tables w → held l.fn.door ≡ Some d → coming l.fn.clock ≡ Some moments
+          → Gone w moments d l._served (coming l.clock) (held l.door) (lines_of l.fn.door) (lines_of l.door) (state l.fn.keeper) (state l.keeper);
+    }

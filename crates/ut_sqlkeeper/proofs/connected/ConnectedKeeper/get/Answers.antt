@@ -1,0 +1,43 @@
+use Rattle.std.proofs.Common.{arith, ap, sym, refl, ◌∙◌, Some, option_copied, slice_get}
+use Rattle.sqlite_trees.proofs.Doubt.{no_doubt}
+use Rattle.ut_sqlkeeper.proofs.Shown.{clean_if_open, reads, no_blob, one_blob, counted}
+use Rattle.ut_sqlkeeper.proofs.connected.ConnectedKeeper.get.Goals as goal
+
+pub returns-in-Err-clause-reads : goal.returns-in-Err-clause-reads
+returns-in-Err-clause-reads g c =
+    reads g.S.Store g.met.S.Store.shut_if_dirty c.args.self.now.conn c.rows_at.new.conn c.args.self.now.refusals.count c.refuse.new.self.count c.args.self.now.shown c.args.self.now.shown c.args.self.now.written c.args.self.now.written
+    c.rows_at.ensures.keeps c.rows_at.ensures.was_open c.refuse.ensures.counts c.rows_at.ensures.stays c.rows_at.ensures.survives refl
+
+pub returns-in_default-clause-reads : goal.returns-in_default-clause-reads
+returns-in_default-clause-reads g c =
+    reads g.S.Store g.met.S.Store.shut_if_dirty c.args.self.now.conn c.rows_at.new.conn c.args.self.now.refusals.count c.args.self.now.refusals.count c.args.self.now.shown c.args.self.now.shown c.args.self.now.written c.args.self.now.written
+    c.rows_at.ensures.keeps c.rows_at.ensures.was_open (omega arith) c.rows_at.ensures.stays c.rows_at.ensures.survives refl
+
+pub returns-in_default-clause-row : goal.returns-in_default-clause-row
+returns-in_default-clause-row g c told =
+    let row = c.in-Ok.ensures.row told.0.1 (clean_if_open g.S.Store g.met.S.Store.shut_if_dirty c.rows_at.new.conn told.1) in
+    no_blob _ (sym (ap option_copied c.in_default.is) ∙ c.first.ensures.value ∙ ap (λ l. slice_get l 0) c.deref.ensures.value ∙ row)
+
+pub returns-in-Ok-get-clause-row : goal.returns-in-Ok-get-clause-row
+returns-in-Ok-get-clause-row g c told =
+    let row = c.in-Ok.ensures.row told.0.1 (clean_if_open g.S.Store g.met.S.Store.shut_if_dirty c.rows_at.new.conn told.1) in
+    ap Some c.from_vec.ensures ∙ one_blob _ c.in-Some.row.now c.in-Ok-get.bytes.items (sym (ap option_copied c.in-Some.is) ∙ c.first.ensures.value ∙ ap (λ l. slice_get l 0) c.deref.ensures.value ∙ row) c.in-Ok-get.ensures.ok.1
+
+pub returns-in-Ok-get-clause-shown : goal.returns-in-Ok-get-clause-shown
+returns-in-Ok-get-clause-shown g c = counted c.args.self.now.shown c.args.table c.saturating_add.result (omega arith) c.saturating_add.ensures
+
+pub returns-in-Ok-get-clause-reads : goal.returns-in-Ok-get-clause-reads
+returns-in-Ok-get-clause-reads g c =
+    reads g.S.Store g.met.S.Store.shut_if_dirty c.args.self.now.conn c.rows_at.new.conn c.args.self.now.refusals.count c.args.self.now.refusals.count c.args.self.now.shown _ c.args.self.now.written c.args.self.now.written
+    c.rows_at.ensures.keeps c.rows_at.ensures.was_open (omega arith) c.rows_at.ensures.stays c.rows_at.ensures.survives refl
+
+pub returns-clause-reads : goal.returns-clause-reads
+returns-clause-reads g c =
+    reads g.S.Store g.met.S.Store.shut_if_dirty c.args.self.now.conn c.rows_at.new.conn c.args.self.now.refusals.count c.refuse-in-Err-get.new.self.count c.args.self.now.shown c.args.self.now.shown c.args.self.now.written c.args.self.now.written
+    c.rows_at.ensures.keeps c.rows_at.ensures.was_open c.refuse-in-Err-get.ensures.counts c.rows_at.ensures.stays c.rows_at.ensures.survives refl
+
+pub returns-in_default-clause-stands : goal.returns-in_default-clause-stands
+returns-in_default-clause-stands g c _ clean = c.in-Ok.ensures.stands (no_doubt _ clean)
+
+pub returns-in-Ok-get-clause-stands : goal.returns-in-Ok-get-clause-stands
+returns-in-Ok-get-clause-stands g c _ clean = c.in-Ok.ensures.stands (no_doubt _ clean)

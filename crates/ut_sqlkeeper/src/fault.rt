@@ -1,0 +1,114 @@
+//! Why a database refused, and how often it did.
+
+ghost use Rattle.std.specs.Prelude.{◌≡◌, ◌≤◌, ◌+◌, Some, None};
+ghost use Rattle.ut_value.specs.Causes.{up_to_last, Rose};
+
+use sqlite::{Error, ErrorCode};
+use std::fmt;
+use ut_keeper::KeepFail;
+
+/// Why a database refused a call, for a user to read.
+#[derive(Clone, Copy, Debug, PartialEq, Eq)]
+pub enum DatabaseFault {
+    /// The path can't be opened for reading and writing: its folder is missing or may not be written, the file may not be
+    /// read or written, it has a second name, it's a folder or a device, a rollback journal is beside it, or the path is
+    /// empty, `:memory:` or a URI. It is `ErrorCode::CannotOpen`.
+    CannotOpen,
+    /// Another program, or another keeper of this one, has the file open: `ErrorCode::DatabaseBusy`.
+    Busy,
+    /// The file isn't a database, or it's damaged, or it has what can't be read: `ErrorCode::DatabaseCorrupt` and
+    /// `ErrorCode::NotADatabase`.
+    NotADatabase,
+    /// The disk is full, or the database can't grow any more: `ErrorCode::DiskFull`.
+    Full,
+    /// A file couldn't be read or written: `ErrorCode::SystemIoFailure`.
+    Disk,
+    /// An earlier fault has shut the database: `ErrorCode::Closed`.
+    Closed,
+    /// The keeper isn't opened.
+    NotOpened,
+    /// Anything else, such as a database with a table `kept` of another form.
+    Other,
+}
+
+impl fmt::Display for DatabaseFault {
+    fn fmt<W: fmt::Write>(&self, f: &mut fmt::Formatter<W>) -> fmt::Result {
+        f.write_str(match self {
+            DatabaseFault::CannotOpen => "the file can't be opened for reading and writing",
+            DatabaseFault::Busy => "another program has the file open",
+            DatabaseFault::NotADatabase => "the file isn't a database, or it's damaged",
+            DatabaseFault::Full => "the disk is full",
+            DatabaseFault::Disk => "the file couldn't be read or written",
+            DatabaseFault::Closed => "an earlier fault has closed the database",
+            DatabaseFault::NotOpened => "the database isn't opened",
+            DatabaseFault::Other => "the database has other tables than this program's",
+        })
+    }
+}
+
+impl std::error::Error for DatabaseFault {}
+
+// What an error is for a user.
+fn fault_of(error: Error) -> DatabaseFault {
+    match error {
+        Error::SqliteFailure(ErrorCode::CannotOpen) => DatabaseFault::CannotOpen,
+        Error::SqliteFailure(ErrorCode::DatabaseBusy) => DatabaseFault::Busy,
+        Error::SqliteFailure(ErrorCode::NotADatabase | ErrorCode::DatabaseCorrupt) => {
+            DatabaseFault::NotADatabase
+        }
+        Error::SqliteFailure(ErrorCode::DiskFull) => DatabaseFault::Full,
+        Error::SqliteFailure(ErrorCode::SystemIoFailure) => DatabaseFault::Disk,
+        Error::SqliteFailure(ErrorCode::Closed) => DatabaseFault::Closed,
+        _ => DatabaseFault::Other,
+    }
+}
+
+/// The calls that a keeper counted as failed: how many, and why the last one was. The count saturates.
+#[derive(Clone, Copy, Debug)]
+pub(crate) struct Refusals {
+    count: u64,
+    last: Option<DatabaseFault>,
+}
+
+impl Refusals {
+    /// No call failed.
+    pub(crate) fn none() -> Refusals
+        ensures count { result.count ≡ 0 }
+        ensures last { result.last ≡ None }
+    {
+        Refusals {
+            count: 0,
+            last: None,
+        }
+    }
+
+    /// Counts a call.
+    pub(crate) fn add(&mut self, fault: DatabaseFault)
+        ensures count { self.new.count ≡ up_to_last (self.old.count + 1) }
+        ensures counts { self.old.count ≤ self.new.count }
+        ensures last { self.new.last ≡ Some fault }
+    {
+        self.count = self.count.saturating_add(1);
+        self.last = Some(fault);
+    }
+
+    /// Counts a call that an error ended, unless memory ran out.
+    pub(crate) fn refuse(&mut self, error: Error) -> KeepFail
+        ensures counts { self.old.count ≤ self.new.count }
+        ensures cause { result ≡ KeepFail.Failed → Rose self.old.count self.new.count }
+    {
+        if let Error::SqliteFailure(ErrorCode::OutOfMemory) = error {
+            KeepFail::Memory
+        } else {
+            self.add(fault_of(error));
+            KeepFail::Failed
+        }
+    }
+
+    /// Why the last call that was counted failed.
+    pub(crate) fn last(&self) -> Option<DatabaseFault>
+        ensures { result ≡ self.now.last }
+    {
+        self.last
+    }
+}

@@ -171,7 +171,7 @@ fn holds_at(alloc: Global, log: u64, db: u64) -> Result<bool, AllocError> {
 
 #[test]
 fn a_stop_of_the_log_loses_no_acknowledged_row(rt: HostRuntime) -> Result<(), Fail> {
-    for step in 0..4u64 {
+    for step in 0..6u64 {
         let calls = step * 9;
         assert!(rt; holds_at(rt.alloc(), calls, NEVER)?, "after {calls} calls");
     }
@@ -180,7 +180,8 @@ fn a_stop_of_the_log_loses_no_acknowledged_row(rt: HostRuntime) -> Result<(), Fa
 
 #[test]
 fn a_stop_of_the_database_file_loses_no_acknowledged_row(rt: HostRuntime) -> Result<(), Fail> {
-    for calls in 0..4u64 {
+    for step in 0..5u64 {
+        let calls = step * 5;
         assert!(rt; holds_at(rt.alloc(), NEVER, calls)?, "after {calls} calls");
     }
     Ok(())

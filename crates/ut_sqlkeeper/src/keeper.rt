@@ -1,6 +1,7 @@
 //! A keeper that gets its connection when it is opened.
 
-ghost use Rattle.std.specs.Prelude.{IfSome};
+ghost use Rattle.std.specs.Prelude.{◌≡◌, IfSome};
+ghost use Rattle.std.specs.Option.{option_map};
 ghost use Rattle.ut_sqlkeeper.specs.Opened.{opened_state, IsUnopened, IsOver};
 
 use crate::connected::Connected;
@@ -44,9 +45,10 @@ impl<O: Opener> SqlKeeper<O> {
 }
 
 impl<O: Opener + Drop> SqlKeeper<O> {
-    /// Hands the connection back, if the keeper was opened.
+    /// Hands the connection back: `None` exactly if the keeper has none, as before it is opened.
     pub fn release(self) -> Option<Connection<O::Base>>
-        ensures { IfSome result (λ c. IsOver O.Base.Store c (⟦<SqlKeeper<O> as Keeper>⟧.state self)) }
+        ensures connection { result ≡ option_map (λ c. c.conn) self.connected }
+        ensures over { IfSome result (λ c. IsOver O.Base.Store c (⟦<SqlKeeper<O> as Keeper>⟧.state self)) }
     {
         let SqlKeeper {
             opener: _,

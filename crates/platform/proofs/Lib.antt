@@ -8,3 +8,4 @@ pub mod Pages
 pub mod ReadBack
 pub mod Runs
 mod Answering
+mod Falling

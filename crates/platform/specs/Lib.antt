@@ -6,6 +6,7 @@ pub mod Commands
 pub mod Seen
 pub mod Serving
 pub mod Run
+pub mod Falling
 pub mod Kept
 pub mod Words
 pub mod Stops

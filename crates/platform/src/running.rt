@@ -7,11 +7,13 @@ ghost use Rattle.ut_keeper.specs.State.{KeeperCause, Shows, StandsAfter, Steps, 
 ghost use Rattle.ut_keeper.specs.Tables.{Tables};
 ghost use Rattle.ut_model.specs.World.{World};
 ghost use Rattle.ut_soql.specs.Reading.{asks_for_rows};
+ghost use Rattle.ut_serving.specs.Falls.{Fell};
 ghost use Rattle.ut_serving.specs.Leads.{StandsReached};
 ghost use Rattle.ut_stands.specs.Operations.{Leaves};
 ghost use Rattle.ut_stands.specs.Stands.{Stands};
 ghost use Rattle.platform.specs.Commands.{command_of, csvq, is_serving, opens_door_in, opens_in, org_add, printed, uses_of};
 ghost use Rattle.platform.specs.Deeds.{Prints, one_deed};
+ghost use Rattle.platform.specs.Falling.{RunFalls};
 ghost use Rattle.platform.specs.OrgAdd.{org_does};
 ghost use Rattle.platform.specs.Run.{CrashLeaves, IsTold, is_opening, IsWorldOf, NoneRose, Runs, VersionEnds, may_change, may_write, status_in, statuses_of};
 ghost use Rattle.platform.specs.Stops.{FailsByTables, IsKnownStatus, VersionStops, behind, is_done};
@@ -179,6 +181,11 @@ pub fn run<K: Keeper, D: Door, S: Source, W: Sink, C: Clock>(
     ensures crash { IfSome (command_of (map string_bytes words.now)) (λ command.
         (K.state keeper.old).tells → IsTrue (K.state keeper.old).stands → IsTrue (K.state keeper.new).is_clean
         → (w : World) → Stands (K.state keeper.old).tables w → CrashLeaves command w (K.state keeper.old) (K.state keeper.new)) }
+    ensures falls { IfSome (command_of (map string_bytes words.now)) (λ command.
+        Fell (K.state keeper.old) (K.state keeper.new) → (w : World) → Stands (K.state keeper.old).tables w → RunFalls command w
+        (record { keeper = K.state keeper.old; door = D.held door.old; line_faults = D.line_faults door.old; left = S.left source.old; written = W.written sink.old; coming = C.coming clock.old })
+        (record { keeper = K.state keeper.new; door = D.held door.new; line_faults = D.line_faults door.new; left = S.left source.new; written = W.written sink.new; coming = C.coming clock.new })
+        result) }
 
     // What is read, written and asked for, whatever is told.
     ensures unread { IfSome (command_of (map string_bytes words.now)) (λ command.

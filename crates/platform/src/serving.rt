@@ -1,12 +1,14 @@
-ghost use Rattle.std.specs.Prelude.{◌≡◌, ◌<◌, ◌≤◌, ◌==◌, List, ℕ, IfOk, IsErrOf, IsTrue, Option, false, true};
+ghost use Rattle.std.specs.Prelude.{◌≡◌, ◌⊎◌, ◌<◌, ◌≤◌, ◌==◌, List, ℕ, IfOk, IsErrOf, IsTrue, Option, Some, false, true};
 ghost use Rattle.std.specs.List.{list_any};
 ghost use Rattle.ut_io.specs.Doors.{DoorState};
 ghost use Rattle.ut_keeper.specs.State.{KeeperCause, Shows, Steps, Tells};
 ghost use Rattle.ut_model.specs.World.{World};
+ghost use Rattle.ut_serving.specs.Falls.{Falls, FallsBringing, Fell};
 ghost use Rattle.ut_serving.specs.Leads.{LeadsFrom};
 ghost use Rattle.ut_stands.specs.Stands.{Stands};
 ghost use Rattle.ut_value.specs.Causes.{Cause};
 ghost use Rattle.platform.specs.Commands.{answers, serves};
+ghost use Rattle.platform.specs.Falling.{FallsOpening};
 ghost use Rattle.platform.specs.Run.{is_opening, may_change, status_in, statuses_of};
 ghost use Rattle.platform.specs.Serving.{RunsAnswer, RunsServe, answer_end, serve_end};
 ghost use Rattle.platform.specs.Stops.{VersionStops};
@@ -44,6 +46,10 @@ pub(crate) fn serve_answer<K: Keeper, S: Source, W: Sink, C: Clock>(
         (record { keeper = K.state keeper.new; door = door; line_faults = faults; left = S.left source.new; written = W.written sink.new; coming = C.coming clock.new })
         result }
     ensures leads { LeadsFrom (K.state keeper.old) (K.state keeper.new) }
+    ensures falls { Fell (K.state keeper.old) (K.state keeper.new) → (w : World) → Stands (K.state keeper.old).tables w
+        → (input moments : List ℕ) → S.left source.old ≡ Some input → C.coming clock.old ≡ Some moments
+        → FallsOpening w (K.state keeper.new) (status_in result)
+        ⊎ Falls w moments input (W.written sink.old) (W.written sink.new) (K.state keeper.new) }
     ensures kept { Tells (K.state keeper.old) (K.state keeper.new) → may_change answers (status_in result) ≡ false
         → Shows (K.state keeper.new) (K.state keeper.old).tables }
     ensures version { Tells (K.state keeper.old) (K.state keeper.new) → VersionStops (K.state keeper.old).tables result }
@@ -95,6 +101,10 @@ pub(crate) fn serve_door<K: Keeper, D: Door, C: Clock>(
         (record { keeper = K.state keeper.new; door = D.held door.new; line_faults = D.line_faults door.new; left = left; written = written; coming = C.coming clock.new })
         result }
     ensures leads { LeadsFrom (K.state keeper.old) (K.state keeper.new) }
+    ensures falls { Fell (K.state keeper.old) (K.state keeper.new) → (w : World) → Stands (K.state keeper.old).tables w
+        → (d : DoorState) (moments : List ℕ) → D.held door.old ≡ Some d → C.coming clock.old ≡ Some moments
+        → FallsOpening w (K.state keeper.new) (status_in result)
+        ⊎ FallsBringing w moments d (D.held door.new) (K.state keeper.new) }
     ensures kept { Tells (K.state keeper.old) (K.state keeper.new) → may_change (serves count) (status_in result) ≡ false
         → Shows (K.state keeper.new) (K.state keeper.old).tables }
     ensures version { Tells (K.state keeper.old) (K.state keeper.new) → VersionStops (K.state keeper.old).tables result }

@@ -18,11 +18,11 @@ use Rattle.ut_serving.specs.declared.wire.LineFail.{LineFail}
 use Rattle.ut_serving.specs.declared.wire.LineFail.TheVariants.{Read, Write}
 use Rattle.ut_serving.proofs.Kept.{kept_on, kept_same}
 
-inputs_more : (cs ds : List Connection) → inputs_of (cs ++ ds) ≡ inputs_of cs ++ inputs_of ds
+pub inputs_more : (cs ds : List Connection) → inputs_of (cs ++ ds) ≡ inputs_of cs ++ inputs_of ds
 inputs_more [] ds = refl
 inputs_more (c ∷ cs) ds = ap (λ (xs : List (List ℕ)). c.input ∷ xs) (inputs_more cs ds)
 
-outputs_more : (cs ds : List Connection) → outputs_of (cs ++ ds) ≡ outputs_of cs ++ outputs_of ds
+pub outputs_more : (cs ds : List Connection) → outputs_of (cs ++ ds) ≡ outputs_of cs ++ outputs_of ds
 outputs_more [] ds = refl
 outputs_more (c ∷ cs) ds = ap (λ (xs : List (List ℕ)). c.output ∷ xs) (outputs_more cs ds)
 
@@ -34,7 +34,7 @@ faulted_more : (cs ds : List Connection) → faulted (cs ++ ds) ≡ faulted cs +
 faulted_more [] ds = omega arith
 faulted_more (c ∷ cs) ds = let e = faulted_more cs ds in omega (arith, e)
 
-served_more : (cs ds : List Connection) (w v u : World) (a b c : List ℕ) → AreServed cs w a v b → AreServed ds v b u c → AreServed (cs ++ ds) w a u c
+pub served_more : (cs ds : List Connection) (w v u : World) (a b c : List ℕ) → AreServed cs w a v b → AreServed ds v b u c → AreServed (cs ++ ds) w a u c
 served_more [] ds w v u a b c (same, here) h = subst (λ (x : World). AreServed ds x a u c) same (subst (λ (ms : List ℕ). AreServed ds v ms u c) here h)
 served_more (x ∷ cs) ds w v u a b c (next, between, one, more) h = (next, between, one, served_more cs ds next v u between b c more h)
 
@@ -54,7 +54,7 @@ brings_on w moments d e f cs ds between later before mid now a b c h steps k = r
 
 -- ---- the next one
 
-on_next : (d : DoorState) (held : Option DoorState) (found : Bool) → Nexts {E = IoFail} (Some d) held (Ok found) → (found ≡ has_next d.coming) × (held ≡ Some (brought d.coming (outputs d)))
+pub on_next : (d : DoorState) (held : Option DoorState) (found : Bool) → Nexts {E = IoFail} (Some d) held (Ok found) → (found ≡ has_next d.coming) × (held ≡ Some (brought d.coming (outputs d)))
 on_next d None found h = absurd h
 on_next d (Some b) found h = (h.0, ap Some h.1)
 
@@ -62,7 +62,7 @@ fault_count : (s : Result (Unit {0}) LineFail) (before now : ℕ) → before ≤
 fault_count (Ok done) before now later rose = omega (arith, later)
 fault_count (Err f) before now later rose = let r = rose f refl in omega (arith, r)
 
-last_output : (done : List (List ℕ)) (p : Option doors.Connection) → is_some p ≡ true → with_last done p ≡ done ++ output_so_far p ∷ []
+pub last_output : (done : List (List ℕ)) (p : Option doors.Connection) → is_some p ≡ true → with_last done p ≡ done ++ output_so_far p ∷ []
 last_output done None e = absurd cc
 last_output done (Some c) e = refl
 
@@ -109,7 +109,7 @@ module _ (w : World) (moments : List ℕ) (d : DoorState) (told held : Option Do
   pub next_false : Nexts {E = IoFail} told held (Ok false) → BringsTo w moments d (NextEnds (Ok false)) coming held before now k k
   next_false n = let m = on_next d held false (subst (λ (o : Option DoorState). Nexts {E = IoFail} o held (Ok false)) e n) in none d.coming refl m.0 m.1
 
-  stayed : (f : IoFail) → Nexts (Some d) held (Err f) → held ≡ Some d
+  pub stayed : (f : IoFail) → Nexts (Some d) held (Err f) → held ≡ Some d
   stayed f n = by held n refl
     where
       by : (o : Option DoorState) → Nexts (Some d) o (Err f) → held ≡ o → held ≡ Some d

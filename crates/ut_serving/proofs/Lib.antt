@@ -4,5 +4,7 @@ pub mod Leading
 pub mod Turned
 pub mod Goes
 pub mod Brought
+pub mod Fallen
+pub mod Bringing
 pub mod Isolated
 mod Forms

@@ -23,7 +23,7 @@ use Rattle.ut_serving.proofs.Kept.{kept_same}
 
 -- ---- what is told before a call is told behind it
 
-item_at : (left left2 : Option (List ℕ)) (i : List ℕ) (P : List ℕ → List ℕ → Type 0) → left ≡ Some i → Between left left2 P → (rest : List ℕ) × (left2 ≡ Some rest) × P i rest
+pub item_at : (left left2 : Option (List ℕ)) (i : List ℕ) (P : List ℕ → List ℕ → Type 0) → left ≡ Some i → Between left left2 P → (rest : List ℕ) × (left2 ≡ Some rest) × P i rest
 item_at None left2 i P e h = absurd cc
 item_at (Some a) None i P e h = absurd h
 item_at (Some a) (Some b) i P e h = let is : a ≡ i = cc in (b, refl, subst (λ (x : List ℕ). P x b) is h)
@@ -38,7 +38,7 @@ nothing None after h = tt
 nothing (Some a) None h = absurd h
 nothing (Some a) (Some b) h = h ∙ sym (append-nil a)
 
-appends_then : (before mid after : Option (List ℕ)) (t : List ℕ) → known.Keeps before mid → Appends mid after t → Appends before after t
+pub appends_then : (before mid after : Option (List ℕ)) (t : List ℕ) → known.Keeps before mid → Appends mid after t → Appends before after t
 appends_then None mid after t h k = tt
 appends_then (Some a) None after t h k = absurd h
 appends_then (Some a) (Some b) None t h k = absurd k

@@ -5,5 +5,6 @@ pub mod Leads
 pub mod Connections
 pub mod Present
 pub mod Turning
+pub mod Falls
 pub mod Doors
 pub mod Isolation

@@ -7,6 +7,7 @@ ghost use Rattle.ut_keeper.specs.State.{Steps, Tells};
 ghost use Rattle.ut_model.specs.World.{World};
 ghost use Rattle.ut_stands.specs.Stands.{Stands};
 ghost use Rattle.ut_serving.specs.Doors.{BringsTo, ManyEnds, NextEnds};
+ghost use Rattle.ut_serving.specs.Falls.{FallsBringing, Fell, OutputsGrow};
 ghost use Rattle.ut_serving.specs.Leads.{LeadsFrom};
 
 use crate::lines::connection;
@@ -28,6 +29,11 @@ fn serve_next<K: Keeper, D: Door, C: Clock>(
         → D.held door.old ≡ Some d → C.coming clock.old ≡ Some moments
         → BringsTo w moments d (NextEnds result) (C.coming clock.new) (D.held door.new)
         (D.line_faults door.old) (D.line_faults door.new) (K.state keeper.old) (K.state keeper.new) }
+    ensures falls { Fell (K.state keeper.old) (K.state keeper.new)
+        → (w : World) (d : DoorState) (moments : List ℕ) → Stands (K.state keeper.old).tables w
+        → D.held door.old ≡ Some d → C.coming clock.old ≡ Some moments
+        → FallsBringing w moments d (D.held door.new) (K.state keeper.new) }
+    ensures grows { OutputsGrow (D.held door.old) (D.held door.new) }
     ensures leads { LeadsFrom (K.state keeper.old) (K.state keeper.new) }
     ensures steps { Steps (K.state keeper.old) (K.state keeper.new) }
     ensures cause { Cause (D.faults door.old) (D.faults door.new) (IsErr result) }
@@ -54,6 +60,10 @@ fn serve<K: Keeper, D: Door, C: Clock>(
         → D.held door.old ≡ Some d → C.coming clock.old ≡ Some moments
         → BringsTo w moments d (ManyEnds count result) (C.coming clock.new) (D.held door.new)
         (D.line_faults door.old) (D.line_faults door.new) (K.state keeper.old) (K.state keeper.new) }
+    ensures falls { Fell (K.state keeper.old) (K.state keeper.new)
+        → (w : World) (d : DoorState) (moments : List ℕ) → Stands (K.state keeper.old).tables w
+        → D.held door.old ≡ Some d → C.coming clock.old ≡ Some moments
+        → FallsBringing w moments d (D.held door.new) (K.state keeper.new) }
     ensures leads { LeadsFrom (K.state keeper.old) (K.state keeper.new) }
     ensures steps { Steps (K.state keeper.old) (K.state keeper.new) }
     ensures cause { Cause (D.faults door.old) (D.faults door.new) (IsErr result) }
@@ -87,6 +97,10 @@ pub fn open_and_serve<K: Keeper, D: Door, C: Clock>(
         → D.held door.old ≡ Some d → C.coming clock.old ≡ Some moments
         → BringsTo w moments d (ManyEnds count result) (C.coming clock.new) (D.held door.new)
         (D.line_faults door.old) (D.line_faults door.new) (K.state keeper.old) (K.state keeper.new) }
+    ensures falls { Fell (K.state keeper.old) (K.state keeper.new)
+        → (w : World) (d : DoorState) (moments : List ℕ) → Stands (K.state keeper.old).tables w
+        → D.held door.old ≡ Some d → C.coming clock.old ≡ Some moments
+        → FallsBringing w moments d (D.held door.new) (K.state keeper.new) }
     ensures leads { LeadsFrom (K.state keeper.old) (K.state keeper.new) }
     ensures steps { Steps (K.state keeper.old) (K.state keeper.new) }
     ensures cause { Cause (D.faults door.old) (D.faults door.new) (IsErr result) }

@@ -8,6 +8,7 @@ ghost use Rattle.ut_model.specs.World.{World};
 ghost use Rattle.ut_stands.specs.Stands.{Stands};
 ghost use Rattle.ut_serving.specs.Answers.{bytes_in};
 ghost use Rattle.ut_serving.specs.Connections.{Place};
+ghost use Rattle.ut_serving.specs.Falls.{Falls, FallsIn, FallsOn, Fell, Grows};
 ghost use Rattle.ut_serving.specs.Leads.{LeadsFrom};
 ghost use Rattle.ut_serving.specs.Turning.{IsHere, RefusesWith, RepliesTo, Serves, Turns, Wrote, over_if_written};
 ghost use Rattle.ut_serving.specs.declared.wire.LineFail.TheVariants.{Read, Write};
@@ -74,6 +75,10 @@ fn reply<K: Keeper, W: Wire, C: Clock>(
         → (w : World) (moments : List ℕ) → Stands (K.state keeper.old).tables w → C.coming clock.old ≡ Some moments
         → RepliesTo w message.now moments (K.state keeper.old) (K.state keeper.new) (C.coming clock.new)
         (W.output wire.old) (W.output wire.new) result }
+    ensures falls { Fell (K.state keeper.old) (K.state keeper.new)
+        → (w : World) (moments : List ℕ) → Stands (K.state keeper.old).tables w → C.coming clock.old ≡ Some moments
+        → FallsOn w message.now moments (K.state keeper.new) (W.output wire.old) (W.output wire.new) result }
+    ensures grows { Grows (W.output wire.old) (W.output wire.new) }
     ensures leads { LeadsFrom (K.state keeper.old) (K.state keeper.new) }
     ensures steps { Steps (K.state keeper.old) (K.state keeper.new) }
     ensures unread { Keeps (W.input wire.old) (W.input wire.new) }
@@ -111,6 +116,12 @@ fn turn<K: Keeper, W: Wire, C: Clock>(
         → p.closed ≡ false → (p.count == 999) ≡ last
         → Turns p (K.state keeper.old) (K.state keeper.new) (C.coming clock.new)
         (prepend_known buffer.new (W.input wire.new)) (W.output wire.old) (W.output wire.new) result }
+    ensures falls { Fell (K.state keeper.old) (K.state keeper.new)
+        → (p : Place) → Stands (K.state keeper.old).tables p.world
+        → IsHere p (C.coming clock.old) (prepend_known buffer.old (W.input wire.old))
+        → p.closed ≡ false → (p.count == 999) ≡ last
+        → FallsIn p (K.state keeper.new) (W.output wire.old) (W.output wire.new) result }
+    ensures grows { Grows (W.output wire.old) (W.output wire.new) }
     ensures leads { LeadsFrom (K.state keeper.old) (K.state keeper.new) }
     ensures steps { Steps (K.state keeper.old) (K.state keeper.new) }
     ensures stays { W.stays wire.old wire.new }
@@ -144,6 +155,10 @@ fn turns<K: Keeper, W: Wire, C: Clock>(
         → C.coming clock.old ≡ Some moments → prepend_known buffer.old (W.input wire.old) ≡ Some input
         → Serves w moments input (K.state keeper.old) (K.state keeper.new) (C.coming clock.new)
         (W.output wire.old) (W.output wire.new) result }
+    ensures falls { Fell (K.state keeper.old) (K.state keeper.new)
+        → (w : World) (moments input : List ℕ) → Stands (K.state keeper.old).tables w
+        → C.coming clock.old ≡ Some moments → prepend_known buffer.old (W.input wire.old) ≡ Some input
+        → Falls w moments input (W.output wire.old) (W.output wire.new) (K.state keeper.new) }
     ensures leads { LeadsFrom (K.state keeper.old) (K.state keeper.new) }
     ensures steps { Steps (K.state keeper.old) (K.state keeper.new) }
     ensures stays { W.stays wire.old wire.new }
@@ -175,6 +190,10 @@ pub fn connection<K: Keeper, W: Wire, C: Clock>(
         → C.coming clock.old ≡ Some moments → W.input wire.old ≡ Some input
         → Serves w moments input (K.state keeper.old) (K.state keeper.new) (C.coming clock.new)
         (W.output wire.old) (W.output wire.new) result }
+    ensures falls { Fell (K.state keeper.old) (K.state keeper.new)
+        → (w : World) (moments input : List ℕ) → Stands (K.state keeper.old).tables w
+        → C.coming clock.old ≡ Some moments → W.input wire.old ≡ Some input
+        → Falls w moments input (W.output wire.old) (W.output wire.new) (K.state keeper.new) }
     ensures leads { LeadsFrom (K.state keeper.old) (K.state keeper.new) }
     ensures steps { Steps (K.state keeper.old) (K.state keeper.new) }
     ensures stays { W.stays wire.old wire.new }

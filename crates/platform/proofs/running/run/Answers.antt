@@ -1,9 +1,10 @@
 use Rattle.platform.specs.Seen.{Seen}
 use Rattle.std.proofs.Common.{Err, refl, ℕ, List, [], ◌∷◌}
 use Rattle.ut_keeper.specs.State.{KeeperState}
-use Rattle.platform.specs.Commands.{answers, serves}
+use Rattle.platform.specs.Commands.{answers, csvq, org_add, serves}
 use Rattle.platform.specs.declared.stop.Stop.TheVariants.{DoorFailed, KeeperFailed, SinkFailed, SourceFailed}
 use Rattle.platform.proofs.Runs.{csvq_runs, is_72, is_73, is_74, is_75, known_zero, not_listed, faulted, org_crash, org_runs, quiet, serving_completes, serving_crash, serving_leads, serving_runs, version_ends}
+use Rattle.platform.proofs.Falling.{answer_falls, print_falls, serve_falls}
 use Rattle.platform.proofs.running.run.Goals as goal
 
 pub returns-in-Csvq-clause-runs : goal.returns-in-Csvq-clause-runs
@@ -159,3 +160,27 @@ returns-in-Serve-clause-door_cause g c =
     let r = c.serve_door.result in
     let failed = is_75 r c.status_of-in-Serve.result (known_zero r c.serve_door.ensures.status) c.status_of-in-Serve.ensures in
     record { later = c.serve_door.ensures.door_cause.later; rose = λ e. c.serve_door.ensures.door_cause.rose (failed e) }
+
+pub returns-in-Csvq-clause-falls : goal.returns-in-Csvq-clause-falls
+returns-in-Csvq-clause-falls g c =
+    let a : Seen = record { keeper = g.K.Keeper.state c.args.keeper.now; door = g.D.Door.held c.args.door.now; line_faults = g.D.Door.line_faults c.args.door.now; left = g.S.Source.left c.args.source.now; written = g.W.Sink.written c.args.sink.now; coming = g.C.Clock.coming c.args.clock.now } in
+    let b : Seen = record { keeper = g.K.Keeper.state c.args.keeper.now; door = g.D.Door.held c.args.door.now; line_faults = g.D.Door.line_faults c.args.door.now; left = g.S.Source.left c.print_csvq.new.source; written = g.W.Sink.written c.print_csvq.new.sink; coming = g.C.Clock.coming c.now-now.new.self } in
+    print_falls _ a b c.status_of.result (csvq c.in-Csvq.query.now) c.in-Csvq.ensures
+
+pub returns-in-OrgAdd-clause-falls : goal.returns-in-OrgAdd-clause-falls
+returns-in-OrgAdd-clause-falls g c =
+    let a : Seen = record { keeper = g.K.Keeper.state c.args.keeper.now; door = g.D.Door.held c.args.door.now; line_faults = g.D.Door.line_faults c.args.door.now; left = g.S.Source.left c.args.source.now; written = g.W.Sink.written c.args.sink.now; coming = g.C.Clock.coming c.args.clock.now } in
+    let b : Seen = record { keeper = g.K.Keeper.state c.print_org_add.new.keeper; door = g.D.Door.held c.args.door.now; line_faults = g.D.Door.line_faults c.args.door.now; left = g.S.Source.left c.args.source.now; written = g.W.Sink.written c.print_org_add.new.sink; coming = g.C.Clock.coming c.args.clock.now } in
+    print_falls _ a b c.status_of-in-OrgAdd.result (org_add c.in-OrgAdd.name.now c.in-OrgAdd.secret.now) c.in-OrgAdd.ensures
+
+pub returns-in-Answer-clause-falls : goal.returns-in-Answer-clause-falls
+returns-in-Answer-clause-falls g c =
+    let a : Seen = record { keeper = g.K.Keeper.state c.args.keeper.now; door = g.D.Door.held c.args.door.now; line_faults = g.D.Door.line_faults c.args.door.now; left = g.S.Source.left c.args.source.now; written = g.W.Sink.written c.args.sink.now; coming = g.C.Clock.coming c.args.clock.now } in
+    let b : Seen = record { keeper = g.K.Keeper.state c.serve_answer.new.keeper; door = g.D.Door.held c.args.door.now; line_faults = g.D.Door.line_faults c.args.door.now; left = g.S.Source.left c.serve_answer.new.source; written = g.W.Sink.written c.serve_answer.new.sink; coming = g.C.Clock.coming c.serve_answer.new.clock } in
+    answer_falls _ a b c.status_of-in-Answer.result c.serve_answer.result c.in-Answer.ensures c.status_of-in-Answer.ensures c.serve_answer.ensures.falls
+
+pub returns-in-Serve-clause-falls : goal.returns-in-Serve-clause-falls
+returns-in-Serve-clause-falls g c =
+    let a : Seen = record { keeper = g.K.Keeper.state c.args.keeper.now; door = g.D.Door.held c.args.door.now; line_faults = g.D.Door.line_faults c.args.door.now; left = g.S.Source.left c.args.source.now; written = g.W.Sink.written c.args.sink.now; coming = g.C.Clock.coming c.args.clock.now } in
+    let b : Seen = record { keeper = g.K.Keeper.state c.serve_door.new.keeper; door = g.D.Door.held c.serve_door.new.door; line_faults = g.D.Door.line_faults c.serve_door.new.door; left = g.S.Source.left c.args.source.now; written = g.W.Sink.written c.args.sink.now; coming = g.C.Clock.coming c.serve_door.new.clock } in
+    serve_falls _ a b c.status_of-in-Serve.result c.in-Serve.count c.serve_door.result c.in-Serve.ensures.1 c.status_of-in-Serve.ensures c.serve_door.ensures.falls

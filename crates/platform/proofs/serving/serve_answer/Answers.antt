@@ -1,11 +1,16 @@
-use Rattle.std.proofs.Common.{rules, inl, ◌≡◌, ◌∙◌, refl, ap, sym, subst, [], Err}
+use Rattle.std.proofs.Common.{rules, inl, inr, ◌≡◌, ◌∙◌, refl, ap, sym, subst, [], Err}
 use Rattle.ut_serving.specs.Exchanges.{LeavesBehind}
+use Rattle.ut_keeper.specs.State.{StandsAfter}
+use Rattle.ut_serving.specs.Falls.{Falls}
 use Rattle.ut_serving.specs.Turning.{Serves}
+use Rattle.ut_stands.specs.Fails.{sees_version}
+use Rattle.ut_stands.specs.Stands.{Stands}
 use Rattle.platform.specs.Seen.{Seen}
 use Rattle.platform.specs.Serving.{IsOpening, RunsAnswer}
 use Rattle.platform.specs.declared.stop.Stop.{Stop}
 use Rattle.ut_stands.specs.Reads.{OpensAs}
 use Rattle.platform.proofs.Answering.{answered, failed_opening, opened_only}
+use Rattle.platform.proofs.Falling.{fell_opening}
 use Rattle.platform.proofs.serving.serve_answer.Goals as goal
 
 -- with the source and the sink by other names
@@ -57,3 +62,24 @@ returns-in-Err-clause-runs g c told w s door faults =
     (failed_opening c.stands_laws.ensures.one_version c.stands_laws.ensures.known (state first).tables w c.in-Err.fail (subst (OpensAs (state first).tables) c.in-Err.is (opening.opens told)) s))
     (c.serving_laws.ensures.left_by_reading w first mid opening.steps (λ trusted. opening.same (told.0, trusted)) (opening.crash told.0) s)
     refl refl refl refl)
+
+pub returns-in-Ok-clause-falls : goal.returns-in-Ok-clause-falls
+returns-in-Ok-clause-falls g c fell w s input moments here asked =
+    let state = g.K.Keeper.state in
+    let left = g.S.Source.left in
+    let written = g.W.Sink.written in
+    let mid = c.open_tables.new.keeper in
+    let opening = c.open_tables.ensures in
+    let stands = subst (λ r. StandsAfter (sees_version r) (state mid)) c.in-Ok.is opening.stands refl (c.connection.ensures.steps.was_clean fell.3) in
+    let at = opening.same (fell.0, stands) in
+    let over = c.connection.new.wire in
+    let falls = c.connection.ensures.falls (at.0, stands, fell.2, fell.3) w moments input (subst (λ m. Stands m w) (sym at.1) s) asked (ap left c.new-wire.ensures.source_held ∙ here) in
+    let from_sink : Falls w moments input (written c.args.sink.now) (written over.sink.now) (state c.connection.new.keeper) =
+    subst (λ x. Falls w moments input (written x) (written over.sink.now) (state c.connection.new.keeper)) c.new-wire.ensures.sink_held falls in
+    inr (subst (λ x. Falls w moments input (written c.args.sink.now) (written x) (state c.connection.new.keeper)) (search rules) from_sink)
+
+pub returns-in-Err-clause-falls : goal.returns-in-Err-clause-falls
+returns-in-Err-clause-falls g c fell w s input moments here asked =
+    let state = g.K.Keeper.state in
+    let first = c.args.keeper.now in
+    inl (fell_opening w (state first) (state c.open_tables.new.keeper) c.in-Err.fail c.from.result c.from.ensures (g.met.K.Keeper.settled first fell.0 fell.1) s (c.open_tables.ensures.crash fell.0 fell.3))

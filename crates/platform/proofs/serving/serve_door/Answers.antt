@@ -1,10 +1,14 @@
-use Rattle.std.proofs.Common.{Err, [], inl, refl, subst, sym}
+use Rattle.std.proofs.Common.{Err, [], inl, inr, refl, subst, sym}
+use Rattle.ut_keeper.specs.State.{StandsAfter}
 use Rattle.ut_serving.specs.Exchanges.{LeavesBehind}
+use Rattle.ut_stands.specs.Fails.{sees_version}
 use Rattle.ut_stands.specs.Reads.{OpensAs}
+use Rattle.ut_stands.specs.Stands.{Stands}
 use Rattle.platform.specs.Seen.{Seen}
 use Rattle.platform.specs.Serving.{IsOpening}
 use Rattle.platform.specs.declared.stop.Stop.{Stop}
 use Rattle.platform.proofs.Answering.{failed_opening, opened_only, served}
+use Rattle.platform.proofs.Falling.{fell_opening}
 use Rattle.platform.proofs.serving.serve_door.Goals as goal
 
 pub returns-in-Ok-clause-runs : goal.returns-in-Ok-clause-runs
@@ -48,3 +52,18 @@ returns-in-Err-clause-runs g c told w s left written =
     (failed_opening c.stands_laws.ensures.one_version c.stands_laws.ensures.known (state first).tables w c.in-Err.fail (subst (OpensAs (state first).tables) c.in-Err.is (opening.opens told)) s))
     (c.serving_laws.ensures.left_by_reading w first mid opening.steps (λ trusted. opening.same (told.0, trusted)) (opening.crash told.0) s)
     refl refl refl refl)
+
+pub returns-in-Ok-clause-falls : goal.returns-in-Ok-clause-falls
+returns-in-Ok-clause-falls g c fell w s d moments here asked =
+    let state = g.K.Keeper.state in
+    let mid = c.open_tables.new.keeper in
+    let opening = c.open_tables.ensures in
+    let stands = subst (λ r. StandsAfter (sees_version r) (state mid)) c.in-Ok.is opening.stands refl (c.open_and_serve.ensures.steps.was_clean fell.3) in
+    let at = opening.same (fell.0, stands) in
+    inr (c.open_and_serve.ensures.falls (at.0, stands, fell.2, fell.3) w d moments (subst (λ m. Stands m w) (sym at.1) s) here asked)
+
+pub returns-in-Err-clause-falls : goal.returns-in-Err-clause-falls
+returns-in-Err-clause-falls g c fell w s d moments here asked =
+    let state = g.K.Keeper.state in
+    let first = c.args.keeper.now in
+    inl (fell_opening w (state first) (state c.open_tables.new.keeper) c.in-Err.fail c.from.result c.from.ensures (g.met.K.Keeper.settled first fell.0 fell.1) s (c.open_tables.ensures.crash fell.0 fell.3))

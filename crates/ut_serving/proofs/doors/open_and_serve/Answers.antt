@@ -2,6 +2,7 @@ use Rattle.std.proofs.Common.{subst, sym, refl, arith, []}
 use Rattle.ut_keeper.proofs.Calls.{steps_same}
 use Rattle.ut_serving.specs.Doors.{BringsTo, ManyEnds}
 use Rattle.ut_serving.proofs.Brought.{brings_none, kept_door}
+use Rattle.ut_serving.proofs.Fallen.{not_fell}
 use Rattle.ut_serving.proofs.Leading.{led_same}
 use Rattle.ut_serving.proofs.doors.open_and_serve.Goals as goal
 
@@ -25,3 +26,9 @@ returns-in-Err-clause-serves g c told w d moments s e asked =
 
 pub returns-in-Err-clause-leads : goal.returns-in-Err-clause-leads
 returns-in-Err-clause-leads g c = led_same (g.K.Keeper.state c.args.keeper.now)
+
+pub returns-in-Ok-clause-falls : goal.returns-in-Ok-clause-falls
+returns-in-Ok-clause-falls g c fell w d moments s e asked = c.serve.ensures.falls fell w d moments s (kept_door _ _ d e c.open.ensures.keeps) asked
+
+pub returns-in-Err-clause-falls : goal.returns-in-Err-clause-falls
+returns-in-Err-clause-falls g c fell w d moments s e asked = absurd (not_fell (g.K.Keeper.state c.args.keeper.now) fell)

@@ -2,6 +2,8 @@ use Rattle.std.proofs.Common.{subst, true, false, sym, refl, arith, [], Ok, Err}
 use Rattle.std.proofs.lemmas.Result.{err_from_is_err_and}
 use Rattle.ut_keeper.proofs.Calls.{steps_same, steps_on}
 use Rattle.ut_serving.specs.Doors.{BringsTo, ManyEnds}
+use Rattle.ut_serving.proofs.Bringing as bringing
+use Rattle.ut_serving.proofs.Fallen.{not_fell}
 use Rattle.ut_serving.proofs.Brought.{brings_none, gone_on, failed_many, ended_many, full_many}
 use Rattle.ut_serving.proofs.Leading.{led_same, led_then}
 use Rattle.ut_serving.proofs.doors.serve.Goals as goal
@@ -16,6 +18,7 @@ loop-served-init g c =
       faults = omega arith;
       lines = omega arith;
       goes = λ told w d moments s e asked. ([], d, moments, e, asked, brings_none w moments d lines lines k told.0 s (omega arith), refl);
+      fallen = λ fell w d moments s e asked. absurd (not_fell k fell);
     }
 
 pub loop-served-preserved : goal.loop-served-preserved
@@ -35,6 +38,11 @@ loop-served-preserved g c =
           gone_on (Ok true) w moments d c.loop-served._served (state c.args.keeper.now) (state c.loop-served.keeper) (state c.serve_next.new.keeper) (coming c.loop-served.clock) (coming c.serve_next.new.clock) (held c.loop-served.door) (held c.serve_next.new.door)
           (lines_of c.args.door.now) (lines_of c.loop-served.door) (lines_of c.serve_next.new.door) told.1 c.serve_next.ensures.steps (c.loop-served.invariant.goes (told.0, c.serve_next.ensures.steps.stood told.1) w d moments s e asked)
           (rw c.if-not-branch.false at c.in_ok-serve_next.ensures.serves);
+      fallen = λ fell w d moments s e asked.
+          bringing.fell_on w moments d (state c.args.keeper.now) (state c.loop-served.keeper) (state c.serve_next.new.keeper) (coming c.loop-served.clock) (held c.loop-served.door) (held c.serve_next.new.door)
+          c.loop-served._served (lines_of c.args.door.now) (lines_of c.loop-served.door) c.serve_next.ensures.steps fell
+          (λ stands. c.loop-served.invariant.goes (fell.0, stands) w d moments s e asked) (λ shut. c.loop-served.invariant.fallen (fell.0, fell.1, shut, c.serve_next.ensures.steps.was_clean fell.3) w d moments s e asked)
+          c.serve_next.ensures.falls c.serve_next.ensures.grows;
     }
 
 pub returns-in_err-serve_next-clause-leads : goal.returns-in_err-serve_next-clause-leads
@@ -75,3 +83,28 @@ pub returns-clause-serves : goal.returns-clause-serves
 returns-clause-serves g c told w d moments s e asked =
     full_many w moments d c.loop-served._served c.args.count (g.C.Clock.coming c.loop-served.clock) (g.D.Door.held c.loop-served.door) (g.D.Door.line_faults c.args.door.now) (g.D.Door.line_faults c.loop-served.door) (g.K.Keeper.state c.args.keeper.now) (g.K.Keeper.state c.loop-served.keeper)
     c.loop-served.auto._served-end c.loop-served-test.false (c.loop-served.invariant.goes told w d moments s e asked)
+
+pub returns-in_err-serve_next-clause-falls : goal.returns-in_err-serve_next-clause-falls
+returns-in_err-serve_next-clause-falls g c fell w d moments s e asked =
+    let state = g.K.Keeper.state in
+    let coming = g.C.Clock.coming in
+    let held = g.D.Door.held in
+    let lines_of = g.D.Door.line_faults in
+    bringing.fell_on w moments d (state c.args.keeper.now) (state c.loop-served.keeper) (state c.serve_next.new.keeper) (coming c.loop-served.clock) (held c.loop-served.door) (held c.serve_next.new.door)
+    c.loop-served._served (lines_of c.args.door.now) (lines_of c.loop-served.door) c.serve_next.ensures.steps fell
+    (λ stands. c.loop-served.invariant.goes (fell.0, stands) w d moments s e asked) (λ shut. c.loop-served.invariant.fallen (fell.0, fell.1, shut, c.serve_next.ensures.steps.was_clean fell.3) w d moments s e asked)
+    c.serve_next.ensures.falls c.serve_next.ensures.grows
+
+pub returns-then-not-branch-clause-falls : goal.returns-then-not-branch-clause-falls
+returns-then-not-branch-clause-falls g c fell w d moments s e asked =
+    let state = g.K.Keeper.state in
+    let coming = g.C.Clock.coming in
+    let held = g.D.Door.held in
+    let lines_of = g.D.Door.line_faults in
+    bringing.fell_on w moments d (state c.args.keeper.now) (state c.loop-served.keeper) (state c.serve_next.new.keeper) (coming c.loop-served.clock) (held c.loop-served.door) (held c.serve_next.new.door)
+    c.loop-served._served (lines_of c.args.door.now) (lines_of c.loop-served.door) c.serve_next.ensures.steps fell
+    (λ stands. c.loop-served.invariant.goes (fell.0, stands) w d moments s e asked) (λ shut. c.loop-served.invariant.fallen (fell.0, fell.1, shut, c.serve_next.ensures.steps.was_clean fell.3) w d moments s e asked)
+    c.serve_next.ensures.falls c.serve_next.ensures.grows
+
+pub returns-clause-falls : goal.returns-clause-falls
+returns-clause-falls g c fell w d moments s e asked = c.loop-served.invariant.fallen fell w d moments s e asked

@@ -3,6 +3,7 @@ use Rattle.ut_io.specs.Doors.{DoorState}
 use Rattle.ut_keeper.specs.State.{Steps, Tells}
 use Rattle.ut_model.specs.World.{World}
 use Rattle.ut_stands.specs.Stands.{Stands}
+use Rattle.ut_serving.specs.Falls.{FallsBringing, Fell}
 use Rattle.ut_serving.specs.Leads.{LeadsFrom}
 use Rattle.ut_serving.proofs.Brought.{Gone}
 use Rattle.ut_serving.proofs.doors.serve.Given as goal
@@ -20,4 +21,6 @@ invariant-loop-served g l =
       lines : lines_of l.fn.door ≤ lines_of l.door;
       goes : Tells (state l.fn.keeper) (state l.keeper) → (w : World) (d : DoorState) (moments : List ℕ) → Stands (state l.fn.keeper).tables w → held l.fn.door ≡ Some d → coming l.fn.clock ≡ Some moments
           → Gone w moments d l._served (coming l.clock) (held l.door) (lines_of l.fn.door) (lines_of l.door) (state l.fn.keeper) (state l.keeper);
+      fallen : Fell (state l.fn.keeper) (state l.keeper) → (w : World) (d : DoorState) (moments : List ℕ) → Stands (state l.fn.keeper).tables w → held l.fn.door ≡ Some d → coming l.fn.clock ≡ Some moments
+          → FallsBringing w moments d (held l.door) (state l.keeper);
     }

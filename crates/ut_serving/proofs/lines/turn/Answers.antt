@@ -1,5 +1,6 @@
 use Rattle.std.proofs.Common.{◌≡◌, ◌||◌, rules, Bool, true, false}
 use Rattle.std.specs.Io.KnownBytes.{prepend_known}
+use Rattle.ut_serving.proofs.Fallen.{fell_turn, grows_none, grows_then, not_fell, refusal_grows, wrote_grows}
 use Rattle.ut_serving.proofs.Turned.{message_turn, end_turn, cut_turn, read_turn, memory_turn, refused_turn, refused_between}
 use Rattle.ut_serving.proofs.lines.turn.Goals.{then-message, else-message}
 use Rattle.ut_serving.proofs.lines.turn.Goals as goal
@@ -22,6 +23,20 @@ returns-after-message-clause-turns g c told p s here going full =
     rw c.over_if_written.ensures (message_turn p (g.C.Clock.coming c.args.clock.now) left here going c.in-Ok-Message.message c.if-message.close c.args.last (g.K.Keeper.state c.args.keeper.now) (g.K.Keeper.state c.reply.new.keeper)
     c.next.new.buffer (g.W.Wire.input c.next.new.self) (g.W.Wire.input c.reply.new.wire) (g.C.Clock.coming c.reply.new.clock) (g.W.Wire.output c.args.wire.now) (g.W.Wire.output c.next.new.self) (g.W.Wire.output c.reply.new.wire) c.reply.result
     e full (rw c.in-Ok-Message.field-0-is at c.in-Ok-Message.ensures.answer) c.next.ensures.unwritten c.reply.ensures.unread (c.reply.ensures.replies told p.world p.moments s here.0))
+
+pub returns-after-message-clause-falls : goal.returns-after-message-clause-falls
+returns-after-message-clause-falls g c fell p s here going full =
+    let left = prepend_known c.args.buffer.now (g.W.Wire.input c.args.wire.now) in
+    let e : c.if-message.close ≡ (c.in-Ok-Message.message.close || c.args.last) = elim c.if-message.branch [
+      | then-message v ↦ closed _ _ _ v.if-message.true v.close-is
+      | else-message v ↦ open_still _ _ _ v.if-message.false v.close-is
+    ] in
+    rw c.over_if_written.ensures (fell_turn p (g.C.Clock.coming c.args.clock.now) left here going c.in-Ok-Message.message c.if-message.close c.args.last (g.K.Keeper.state c.reply.new.keeper)
+    c.next.new.buffer (g.W.Wire.input c.next.new.self) (g.W.Wire.output c.args.wire.now) (g.W.Wire.output c.next.new.self) (g.W.Wire.output c.reply.new.wire) c.reply.result
+    e full (rw c.in-Ok-Message.field-0-is at c.in-Ok-Message.ensures.answer) c.next.ensures.unwritten (c.reply.ensures.falls fell p.world p.moments s here.0))
+
+pub returns-after-message-clause-grows : goal.returns-after-message-clause-grows
+returns-after-message-clause-grows g c = grows_then (g.W.Wire.output c.args.wire.now) (g.W.Wire.output c.next.new.self) (g.W.Wire.output c.reply.new.wire) c.next.ensures.unwritten c.reply.ensures.grows
 
 pub returns-in-Ok-End-clause-turns : goal.returns-in-Ok-End-clause-turns
 returns-in-Ok-End-clause-turns g c told p s here going full =
@@ -52,3 +67,37 @@ returns-in-Err-clause-turns g c told p s here going full =
     left2 (g.W.Wire.output c.args.wire.now) (g.W.Wire.output c.next.new.self) c.next.ensures.unwritten
     (g.W.Wire.output c.refuse.new.wire) (prepend_known c.next.new.buffer (g.W.Wire.input c.refuse.new.wire)) c.in-Err.fail c.refuse.result
     (refused_between left left2 c.in-Err.fail (search rules) (search rules) c.in-Err.ensures.answer) c.refuse.ensures.refuses)
+
+pub returns-in-Ok-End-clause-falls : goal.returns-in-Ok-End-clause-falls
+returns-in-Ok-End-clause-falls g c fell p s here going full = absurd (not_fell (g.K.Keeper.state c.args.keeper.now) fell)
+
+pub returns-in-Ok-End-clause-grows : goal.returns-in-Ok-End-clause-grows
+returns-in-Ok-End-clause-grows g c = grows_none (g.W.Wire.output c.args.wire.now) (g.W.Wire.output c.next.new.self) c.next.ensures.unwritten
+
+pub returns-in-Ok-Cut-clause-falls : goal.returns-in-Ok-Cut-clause-falls
+returns-in-Ok-Cut-clause-falls g c fell p s here going full = absurd (not_fell (g.K.Keeper.state c.args.keeper.now) fell)
+
+pub returns-in-Ok-Cut-clause-grows : goal.returns-in-Ok-Cut-clause-grows
+returns-in-Ok-Cut-clause-grows g c = grows_none (g.W.Wire.output c.args.wire.now) (g.W.Wire.output c.next.new.self) c.next.ensures.unwritten
+
+pub returns-in-Err-Failed-clause-falls : goal.returns-in-Err-Failed-clause-falls
+returns-in-Err-Failed-clause-falls g c fell p s here going full = absurd (not_fell (g.K.Keeper.state c.args.keeper.now) fell)
+
+pub returns-in-Err-Failed-clause-grows : goal.returns-in-Err-Failed-clause-grows
+returns-in-Err-Failed-clause-grows g c = grows_none (g.W.Wire.output c.args.wire.now) (g.W.Wire.output c.next.new.self) c.next.ensures.unwritten
+
+pub returns-in-Err-Memory-clause-falls : goal.returns-in-Err-Memory-clause-falls
+returns-in-Err-Memory-clause-falls g c fell p s here going full = absurd (not_fell (g.K.Keeper.state c.args.keeper.now) fell)
+
+pub returns-in-Err-clause-falls : goal.returns-in-Err-clause-falls
+returns-in-Err-clause-falls g c fell p s here going full = absurd (not_fell (g.K.Keeper.state c.args.keeper.now) fell)
+
+pub returns-in-Err-Memory-clause-grows : goal.returns-in-Err-Memory-clause-grows
+returns-in-Err-Memory-clause-grows g c =
+    let output = g.W.Wire.output in
+    grows_then (output c.args.wire.now) (output c.next.new.self) (output c.write_text.new.wire) c.next.ensures.unwritten (wrote_grows (output c.next.new.self) (output c.write_text.new.wire) _ c.write_text.result c.write_text.ensures.wrote)
+
+pub returns-in-Err-clause-grows : goal.returns-in-Err-clause-grows
+returns-in-Err-clause-grows g c =
+    let output = g.W.Wire.output in
+    grows_then (output c.args.wire.now) (output c.next.new.self) (output c.refuse.new.wire) c.next.ensures.unwritten (refusal_grows c.in-Err.fail (output c.next.new.self) (output c.refuse.new.wire) c.refuse.result c.refuse.ensures.refuses)

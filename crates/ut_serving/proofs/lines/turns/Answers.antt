@@ -1,7 +1,8 @@
-use Rattle.std.proofs.Common.{arith, Ok, Err}
+use Rattle.std.proofs.Common.{arith, true, false, Ok, Err}
 use Rattle.std.specs.Io.KnownBytes.{prepend_known}
 use Rattle.std.proofs.lemmas.Result.{err_from_is_err_and}
 use Rattle.ut_keeper.proofs.Calls.{steps_same, steps_on}
+use Rattle.ut_serving.proofs.Fallen.{fallen_on, not_fell}
 use Rattle.ut_serving.proofs.Goes.{start, go_on, ends}
 use Rattle.ut_serving.proofs.Leading.{led_same, led_then}
 use Rattle.ut_serving.proofs.lines.turns.Goals as goal
@@ -14,6 +15,7 @@ loop-count-init g c = record {
   reads = omega arith;
   writes = omega arith;
   goes = λ told w moments input s e i. start w moments input (g.K.Keeper.state c.args.keeper.now) (g.W.Wire.output c.args.wire.now) (g.C.Clock.coming c.args.clock.now) (prepend_known c.args.buffer.now (g.W.Wire.input c.args.wire.now)) told.0 s e i;
+  fallen = λ fell w moments input s e i. absurd (not_fell (g.K.Keeper.state c.args.keeper.now) fell);
 }
 
 pub loop-count-preserved : goal.loop-count-preserved
@@ -33,6 +35,11 @@ loop-count-preserved g c =
           (coming c.loop-count.clock) (prepend_known c.loop-count.buffer (g.W.Wire.input c.loop-count.wire)) (g.W.Wire.output c.loop-count.wire)
           (coming c.turn.new.clock) (prepend_known c.turn.new.buffer (g.W.Wire.input c.turn.new.wire)) (g.W.Wire.output c.turn.new.wire) c.loop-count.count told.1 c.turn.ensures.steps
           (c.loop-count.invariant.goes (told.0, c.turn.ensures.steps.stood told.1) w moments input s e i) (rw c.if-branch.false at c.in_ok-turn.ensures.turns);
+      fallen = λ fell w moments input s e i.
+          fallen_on w moments input (state c.args.keeper.now) (g.W.Wire.output c.args.wire.now) (state c.loop-count.keeper) (state c.turn.new.keeper)
+          (coming c.loop-count.clock) (prepend_known c.loop-count.buffer (g.W.Wire.input c.loop-count.wire)) (g.W.Wire.output c.loop-count.wire) (g.W.Wire.output c.turn.new.wire) c.loop-count.count (Ok false) c.turn.ensures.steps fell
+          (λ stands. c.loop-count.invariant.goes (fell.0, stands) w moments input s e i) (λ shut. c.loop-count.invariant.fallen (fell.0, fell.1, shut, c.turn.ensures.steps.was_clean fell.3) w moments input s e i)
+          c.in_ok-turn.ensures.falls c.turn.ensures.grows;
     }
 
 pub returns-in_err-turn-clause-leads : goal.returns-in_err-turn-clause-leads
@@ -69,3 +76,25 @@ returns-clause-serves g c told w moments input s e i =
     let few = (c.loop-count.invariant.goes told w moments input s e i).7 in
     let no : ⊥ = omega (arith, few, c.loop-count-test.false) in
     absurd no
+
+pub returns-in_err-turn-clause-falls : goal.returns-in_err-turn-clause-falls
+returns-in_err-turn-clause-falls g c fell w moments input s e i =
+    let state = g.K.Keeper.state in
+    let coming = g.C.Clock.coming in
+    fallen_on w moments input (state c.args.keeper.now) (g.W.Wire.output c.args.wire.now) (state c.loop-count.keeper) (state c.turn.new.keeper)
+    (coming c.loop-count.clock) (prepend_known c.loop-count.buffer (g.W.Wire.input c.loop-count.wire)) (g.W.Wire.output c.loop-count.wire) (g.W.Wire.output c.turn.new.wire) c.loop-count.count (Err _) c.turn.ensures.steps fell
+    (λ stands. c.loop-count.invariant.goes (fell.0, stands) w moments input s e i) (λ shut. c.loop-count.invariant.fallen (fell.0, fell.1, shut, c.turn.ensures.steps.was_clean fell.3) w moments input s e i)
+    c.in_err-turn.ensures.falls c.turn.ensures.grows
+
+pub returns-then-branch-clause-falls : goal.returns-then-branch-clause-falls
+returns-then-branch-clause-falls g c fell w moments input s e i =
+    let state = g.K.Keeper.state in
+    let coming = g.C.Clock.coming in
+    let f = fallen_on w moments input (state c.args.keeper.now) (g.W.Wire.output c.args.wire.now) (state c.loop-count.keeper) (state c.turn.new.keeper)
+    (coming c.loop-count.clock) (prepend_known c.loop-count.buffer (g.W.Wire.input c.loop-count.wire)) (g.W.Wire.output c.loop-count.wire) (g.W.Wire.output c.turn.new.wire) c.loop-count.count (Ok true) c.turn.ensures.steps fell
+    (λ stands. c.loop-count.invariant.goes (fell.0, stands) w moments input s e i) (λ shut. c.loop-count.invariant.fallen (fell.0, fell.1, shut, c.turn.ensures.steps.was_clean fell.3) w moments input s e i)
+    c.in_ok-turn.ensures.falls c.turn.ensures.grows in
+    f.0
+
+pub returns-clause-falls : goal.returns-clause-falls
+returns-clause-falls g c fell w moments input s e i = (c.loop-count.invariant.fallen fell w moments input s e i).0

@@ -1,6 +1,7 @@
 -- How a command of one deed ends, and what it leaves, from what was done on its way.
-use Rattle.std.proofs.Common.{◌≡◌, ◌⊎◌, inl, inr, ℕ, Bool, true, false, IsTrue, List, [], length, Option, Some, None, Result, Ok, Err, refl, sym, ap, subst, ◌∙◌, append-nil}
-use Rattle.std.specs.Prelude.{IfOk, if◌then◌else◌}
+use Rattle.std.proofs.Common.{◌≡◌, ◌⊎◌, inl, inr, ℕ, IsTrue, List, [], length, Option, Some, None, Result, Ok, Err, refl, sym, ap, subst, ◌∙◌, append-nil}
+use Rattle.std.specs.Prelude.{IfOk, IsErr, IsErrOf}
+use Rattle.std.specs.Result.{IsErrAnd}
 use Rattle.std.specs.Io.KnownBytes.{Appends}
 use Rattle.ut_io.specs.Streams.{AppendsFront}
 use Rattle.ut_keeper.specs.State.{KeeperState, LeavesNoMore, Shows, Steps, Tells}
@@ -17,10 +18,14 @@ use Rattle.ut_stands.specs.Reads.{OpensAs}
 use Rattle.ut_stands.specs.Stands.{HasKnownVersion, HasUnknownVersion, Stands}
 use Rattle.platform.specs.Deeds.{Prints, StopsBefore, StopsWithin, one_deed}
 use Rattle.platform.specs.Printed.{PageText}
-use Rattle.platform.specs.Stops.{DoesOpened, Refuses, behind, is_done, of_input, of_opening}
+use Rattle.platform.specs.Stops.{DoesOpened, IsKnownStatus, Refuses, behind, csvq_end, csvq_stop_of, store_end, store_stop_of}
 use Rattle.platform.specs.declared.csvq.InputFail.{InputFail}
 use Rattle.platform.specs.declared.csvq.InputFail.TheVariants as input
-use Rattle.platform.specs.declared.stop.Stop.{Stop}
+use Rattle.platform.specs.declared.printing.CsvqStop.{CsvqStop}
+use Rattle.platform.specs.declared.printing.CsvqStop.TheVariants as csvq
+use Rattle.platform.specs.declared.printing.StoreStop.{StoreStop}
+use Rattle.platform.specs.declared.printing.StoreStop.TheVariants as storing
+use Rattle.platform.specs.declared.stop.Stop.TheVariants.{DoorFailed, SourceFailed}
 
 -- ---- what was written
 
@@ -50,30 +55,59 @@ stops_before w next p old = record {
   world = refl;
 }
 
--- a command that leaves the world as it is
-pub behind_same : (w : World) (r : Result ℕ Stop) → behind w w r ≡ w
-behind_same w r = same (is_done r)
-  where
-    same : (b : Bool) → if◌then◌else◌ {A = World} b w w ≡ w
-    same true = refl
-    same false = refl
-
-pub input_stops : (w : World) (p : PageText) (old : Option (List ℕ)) (fail : InputFail) → Prints w (one_deed p w) old old (Err (of_input fail)) w
+pub input_stops : (w : World) (p : PageText) (old : Option (List ℕ)) (fail : InputFail) → Prints w (one_deed p w) old old (csvq_end (Err (csvq_stop_of fail))) w
 input_stops w p old input.Failed = stops_before w w p old
 input_stops w p old input.Memory = stops_before w w p old
 
 pub opening_stops : (does : World → PageText × World) (w : World) (k l : KeeperState) (old : Option (List ℕ)) (fail : OpenFail) → DoesOpened does w k l (Err fail)
-    → Prints w (one_deed (does w).0 (does w).1) old old (Err (of_opening fail)) (behind {X = ℕ} w (does w).1 (Err (of_opening fail)))
+    → Prints w (one_deed (does w).0 (does w).1) old old (store_end (Err (store_stop_of fail))) (behind w (does w).1 (store_end (Err (store_stop_of fail))))
 opening_stops does w k l old (opening.Store store.Keeper) h = stops_before w (does w).1 (does w).0 old
 opening_stops does w k l old (opening.Store store.Memory) h = stops_before w (does w).1 (does w).0 old
 opening_stops does w k l old (opening.Store store.Damaged) h = h.0 refl
 opening_stops does w k l old opening.UnknownVersion h = absurd h
 
-pub opening_leaves : (does : World → PageText × World) (w : World) (k l : KeeperState) (fail : OpenFail) → DoesOpened does w k l (Err fail) → Leaves w (behind {X = ℕ} w (does w).1 (Err (of_opening fail))) (does w).1 k l
+pub opening_leaves : (does : World → PageText × World) (w : World) (k l : KeeperState) (fail : OpenFail) → DoesOpened does w k l (Err fail) → Leaves w (behind w (does w).1 (store_end (Err (store_stop_of fail)))) (does w).1 k l
 opening_leaves does w k l (opening.Store store.Keeper) h = h.1
 opening_leaves does w k l (opening.Store store.Memory) h = h.1
 opening_leaves does w k l (opening.Store store.Damaged) h = absurd (h.0 refl)
 opening_leaves does w k l opening.UnknownVersion h = absurd h
+
+-- what is returned for a failure that was handed on
+pub handed_on : {X E : Type 0} (r : Result X E) (e : E) → IsErr r × IsErrAnd r (λ x. x ≡ e) → r ≡ Err e
+handed_on (Ok x) e h = absurd h.1
+handed_on (Err y) e h = ap Err h.1
+
+-- ---- a command that prints has the stops of its own alone
+
+pub csvq_known : (r : Result ℕ CsvqStop) → IsKnownStatus r → IsKnownStatus (csvq_end r)
+csvq_known (Ok status) h = h
+csvq_known (Err e) h = tt
+
+pub store_known : (r : Result ℕ StoreStop) → IsKnownStatus r → IsKnownStatus (store_end r)
+store_known (Ok status) h = h
+store_known (Err e) h = tt
+
+pub csvq_door : (r : Result ℕ CsvqStop) → IsErrOf (csvq_end r) DoorFailed → ⊥
+csvq_door (Ok status) e = absurd cc
+csvq_door (Err csvq.NoMemory) e = absurd cc
+csvq_door (Err csvq.SourceFailed) e = absurd cc
+csvq_door (Err csvq.SinkFailed) e = absurd cc
+
+pub store_door : (r : Result ℕ StoreStop) → IsErrOf (store_end r) DoorFailed → ⊥
+store_door (Ok status) e = absurd cc
+store_door (Err storing.NoMemory) e = absurd cc
+store_door (Err storing.KeeperFailed) e = absurd cc
+store_door (Err storing.SinkFailed) e = absurd cc
+store_door (Err storing.Damaged) e = absurd cc
+store_door (Err storing.UnknownVersion) e = absurd cc
+
+pub store_source : (r : Result ℕ StoreStop) → IsErrOf (store_end r) SourceFailed → ⊥
+store_source (Ok status) e = absurd cc
+store_source (Err storing.NoMemory) e = absurd cc
+store_source (Err storing.KeeperFailed) e = absurd cc
+store_source (Err storing.SinkFailed) e = absurd cc
+store_source (Err storing.Damaged) e = absurd cc
+store_source (Err storing.UnknownVersion) e = absurd cc
 
 -- ---- a refusal changes nothing
 

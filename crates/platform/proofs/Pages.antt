@@ -1,18 +1,15 @@
 -- The page of an input, and how a run ends.
-use Rattle.std.proofs.Common.{◌≡◌, ◌≤◌, ◌<◌, ◌⊎◌, inl, inr, ℕ, ◌+◌, List, [], ◌∷◌, ◌++◌, length, drop, take, map, Option, Some, None, nat_le, true, true≢false, false, refl, sym, ap, ◌∙◌, rules, arith, IsTrue, codes}
+use Rattle.std.proofs.Common.{◌≡◌, ◌≤◌, ◌<◌, ◌⊎◌, inl, inr, ℕ, ◌+◌, List, [], ◌∷◌, ◌++◌, length, drop, take, map, Option, Some, None, nat_le, true, true≢false, false, refl, sym, ap, ◌∙◌, rules, arith, suc, codes}
 use Rattle.std.proofs.Math.Bool.{and-false}
 use Rattle.std.proofs.Math.Dec.{leb}
 use Rattle.std.proofs.lemmas.Bool.Decides.{leb_tells}
-use Rattle.std.proofs.lemmas.List.{length-take, take_all}
-use Rattle.std.specs.List.{AllByRecursion, list_all}
-use Rattle.std.proofs.lemmas.List.Elements.{All-from_recursion}
+use Rattle.std.proofs.lemmas.List.{length-drop, length-take, take_all}
 use Rattle.csv.specs.Records.{Row, fields_of}
 use Rattle.ut_keeper.specs.declared.keeper.KeptRow.{KeptRow}
 use Rattle.ut_table.specs.Table.{first_refused, table_of}
-use Rattle.ut_value.specs.Id.{is_digit62, is_id, made}
 use Rattle.platform.specs.Printed.{PageText}
 use Rattle.platform.specs.Csvq.{answer, heading_line, refusal, input_limit, is_heading, is_table, lines, row_limit, rows_in, rows_under}
-use Rattle.platform.specs.Kept.{AreIds, kept, kept_lines}
+use Rattle.platform.specs.Kept.{AreNumbered, kept, kept_lines}
 use Rattle.platform.proofs.Lines.{kept_lines-kept}
 
 drop-map : (rows : List Row) → drop 1 (map fields_of rows) ≡ map fields_of (drop 1 rows)
@@ -74,13 +71,28 @@ accepted bytes text records under rows small clean table good behind is_kept is_
     ap (λ (o : Option ℕ). rows_under o (table_of bytes)) clean ∙ ap (λ (t : List (List (List ℕ))). rows_under None t) (sym table) ∙ rw good refl in
     rw (few, found) (ap (λ (t : List ℕ). record { text = t; status = 0 }) lines_are)
 
-abbrev Made : Type 0
-Made = (prefix : List ℕ) (n : ℕ) → length prefix ≡ 3 → IsTrue (list_all is_digit62 prefix) → IsTrue (is_id (made prefix n))
+-- ---- rows that are kept
 
-each_id : Made → (number : ℕ) (rows : List (List (List ℕ))) → AllByRecursion (λ (r : KeptRow). IsTrue (is_id r.key)) (kept number rows)
+few_under : (t : List (List (List ℕ))) → is_table t ≡ true → length (drop 1 t) ≤ row_limit
+few_under t good = by (told_by (row_limit + 1) t)
+  where
+    by : short_or_long (row_limit + 1) t → length (drop 1 t) ≤ row_limit
+    by (inl short) = omega (arith, short, length-drop 1 t)
+    by (inr long) = absurd (true≢false (sym good ∙ too-long t long))
+
+length_kept : (number : ℕ) (rows : List (List (List ℕ))) → length (kept number rows) ≡ length rows
 unfolding kept
-each_id law number [] = tt
-each_id law number (cells ∷ rest) = (law (codes "a00") number refl refl, each_id law (number + 1) rest)
+length_kept number [] = refl
+length_kept number (cells ∷ rest) = ap suc (length_kept (number + 1) rest)
 
-pub ids_kept : Made → (number : ℕ) (rows : List (List (List ℕ))) → AreIds (kept number rows)
-ids_kept law number rows = All-from_recursion (λ (r : KeptRow). IsTrue (is_id r.key)) (kept number rows) (each_id law number rows)
+pub few_kept : (records under : List Row) → is_table (map fields_of records) ≡ true → under ≡ drop 1 records → length (kept 1 (map fields_of under)) ≤ row_limit
+few_kept records under good behind =
+    let same : map fields_of under ≡ drop 1 (map fields_of records) = ap (map fields_of) behind ∙ sym (drop-map records) in
+    let few = few_under (map fields_of records) good in
+    let long = length_kept 1 (map fields_of under) ∙ ap length same in
+    omega (arith, few, long)
+
+pub numbered_kept : (number : ℕ) (rows : List (List (List ℕ))) → AreNumbered number (kept number rows)
+unfolding kept
+numbered_kept number [] = tt
+numbered_kept number (cells ∷ rest) = (refl, numbered_kept (number + 1) rest)

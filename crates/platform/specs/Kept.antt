@@ -1,10 +1,8 @@
 -- The records of a CSV text as rows that are kept under their ids.
-use Rattle.std.specs.Prelude.{ℕ, ◌+◌, List, [], ◌∷◌, ◌++◌, IsTrue}
-use Rattle.std.specs.List.{All}
+use Rattle.std.specs.Prelude.{◌≡◌, ℕ, ◌+◌, List, [], ◌∷◌, ◌++◌}
 use Rattle.std.specs.FinMap as map
 use Rattle.ut_keeper.specs.declared.keeper.KeptRow.{KeptRow}
 use Rattle.ut_keeper.specs.Tables.{Tables}
-use Rattle.ut_value.specs.Id.{is_id}
 use Rattle.platform.specs.Csvq.{line, name_in, record_id}
 
 -- the table of data rows
@@ -21,9 +19,10 @@ unfoldable pub with_rows : List KeptRow → Tables → Tables
 with_rows [] m = m
 with_rows (r ∷ rest) m = map.insert (with_rows rest m) (data_table, r.key) r.row
 
--- each row stands under an id
-abbrev pub AreIds : List KeptRow → Type 0
-AreIds rows = All (λ r. IsTrue (is_id r.key)) rows
+-- each row is under the id of its number, from this number on
+abbrev pub AreNumbered : ℕ → List KeptRow → Type 0
+AreNumbered number [] = Unit {0}
+AreNumbered number (r ∷ rest) = (r.key ≡ record_id number) × AreNumbered (number + 1) rest
 
 -- the lines of rows that are kept
 unfoldable pub kept_lines : List KeptRow → List ℕ

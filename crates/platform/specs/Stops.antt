@@ -11,9 +11,14 @@ use Rattle.ut_keeper.specs.Tables.{Tables}
 use Rattle.ut_stands.specs.Stands.{HasKnownVersion, HasUnknownVersion, Stands}
 use Rattle.ut_stands.specs.declared.judged.Judged.{Judged}
 use Rattle.ut_stands.specs.declared.judged.Judged.TheVariants.{Changed, Same}
+use Rattle.ut_io.specs.declared.traits.IoFail.{IoFail}
 use Rattle.platform.specs.Printed.{PageText}
 use Rattle.platform.specs.declared.csvq.InputFail.{InputFail}
 use Rattle.platform.specs.declared.csvq.InputFail.TheVariants as input
+use Rattle.platform.specs.declared.printing.CsvqStop.{CsvqStop}
+use Rattle.platform.specs.declared.printing.CsvqStop.TheVariants as csvq
+use Rattle.platform.specs.declared.printing.StoreStop.{StoreStop}
+use Rattle.platform.specs.declared.printing.StoreStop.TheVariants as storing
 use Rattle.platform.specs.declared.stop.Stop.{Stop}
 use Rattle.platform.specs.declared.stop.Stop.TheVariants as stop
 
@@ -26,9 +31,42 @@ abbrev pub of_opening : OpenFail → Stop
 of_opening (opening.Store fail) = of_store fail
 of_opening opening.UnknownVersion = stop.UnknownVersion
 
-abbrev pub of_input : InputFail → Stop
-of_input input.Failed = stop.SourceFailed
-of_input input.Memory = stop.NoMemory
+abbrev pub csvq_stop_of : InputFail → CsvqStop
+csvq_stop_of input.Failed = csvq.SourceFailed
+csvq_stop_of input.Memory = csvq.NoMemory
+
+abbrev pub store_stop_of : OpenFail → StoreStop
+store_stop_of (opening.Store store.Keeper) = storing.KeeperFailed
+store_stop_of (opening.Store store.Memory) = storing.NoMemory
+store_stop_of (opening.Store store.Damaged) = storing.Damaged
+store_stop_of opening.UnknownVersion = storing.UnknownVersion
+
+-- ---- the stops of each command that prints, among those of all commands
+
+abbrev pub stop_of_csvq : CsvqStop → Stop
+stop_of_csvq csvq.NoMemory = stop.NoMemory
+stop_of_csvq csvq.SourceFailed = stop.SourceFailed
+stop_of_csvq csvq.SinkFailed = stop.SinkFailed
+
+abbrev pub stop_of_store : StoreStop → Stop
+stop_of_store storing.NoMemory = stop.NoMemory
+stop_of_store storing.KeeperFailed = stop.KeeperFailed
+stop_of_store storing.SinkFailed = stop.SinkFailed
+stop_of_store storing.Damaged = stop.Damaged
+stop_of_store storing.UnknownVersion = stop.UnknownVersion
+
+-- how a run ends by the end of `csvq`, of a command that prints of the tables, and of the writing of a page
+abbrev pub csvq_end : Result ℕ CsvqStop → Result ℕ Stop
+csvq_end (Ok status) = Ok status
+csvq_end (Err e) = Err (stop_of_csvq e)
+
+abbrev pub store_end : Result ℕ StoreStop → Result ℕ Stop
+store_end (Ok status) = Ok status
+store_end (Err e) = Err (stop_of_store e)
+
+abbrev pub page_end : Result ℕ IoFail → Result ℕ Stop
+page_end (Ok status) = Ok status
+page_end (Err e) = Err stop.SinkFailed
 
 -- an operation by its definition, the opening included
 abbrev pub DoesOpened : {X : Type 0} → (World → X × World) → World → KeeperState → KeeperState → Result X OpenFail → Type 0
@@ -61,13 +99,6 @@ is_done (Err _) = false
 abbrev pub behind : {X : Type 0} → World → World → Result X Stop → World
 behind w next r = if is_done r then next else w
 
--- it failed by the keeper or by the tables
-abbrev pub FailsByTables : Stop → Type 0
-FailsByTables stop.KeeperFailed = Unit {0}
-FailsByTables stop.Damaged = Unit {0}
-FailsByTables stop.UnknownVersion = Unit {0}
-FailsByTables _ = ⊥
-
 -- it failed by something that is handed in, which counts its faults
 abbrev pub IsFault : Stop → Type 0
 IsFault stop.KeeperFailed = Unit {0}
@@ -87,5 +118,5 @@ VersionStops m (Err stop.SourceFailed) = HasKnownVersion m
 VersionStops m (Err stop.DoorFailed) = HasKnownVersion m
 
 -- done, or only refused
-abbrev pub IsKnownStatus : Result ℕ Stop → Type 0
+abbrev pub IsKnownStatus : {E : Type 0} → Result ℕ E → Type 0
 IsKnownStatus r = IfOk r (λ status. (status ≡ 0) ⊎ (status ≡ 65))

@@ -21,7 +21,7 @@ use ut_io::{ReadFail, Source, read_all};
 use ut_model::Refusal;
 use ut_soql::asks_for_rows;
 use ut_table::{TableFail, read_table};
-use ut_value::{Text, id_laws};
+use ut_value::Text;
 
 // The most bytes of an input.
 const INPUT_LIMIT: usize = 67_108_864;
@@ -39,7 +39,6 @@ fn input_page(alloc: Global, bytes: &[u8]) -> Result<Page, AllocError>
     requires { length bytes.now ≤ input_limit }
     ensures { IfOk result (λ p. p ≡ answer (rows_in bytes.now)) }
 {
-    id_laws();
     match read_table(alloc, bytes, RECORDS) {
         Ok(records) => {
             if !is_table(&records) {

@@ -10,6 +10,7 @@ mod csvq;
 mod laws;
 mod org_add;
 mod page;
+mod printing;
 mod running;
 mod serving;
 mod stop;

@@ -1,117 +1,28 @@
-ghost use Rattle.std.specs.Prelude.{◌≡◌, ◌↔◌, ◌⊎◌, ◌≤◌, ◌==◌, [], ◌∷◌, List, ℕ, IsTrue, IfErr, IfOk, None, true, false, IfSome, IsErrOf, is_ok, map, string_bytes, Result};
+ghost use Rattle.std.specs.Prelude.{◌≡◌, ◌↔◌, ◌⊎◌, ◌≤◌, ◌==◌, [], ◌∷◌, List, ℕ, IsTrue, None, true, false, IfSome, map, string_bytes, Result};
 ghost use Rattle.std.specs.List.{list_any};
 ghost use Rattle.std.specs.Io.KnownBytes.{IsAtEnd};
 ghost use Rattle.ut_value.specs.Causes.{Cause};
 ghost use Rattle.ut_io.specs.Moments.{AskedOnce};
-ghost use Rattle.ut_keeper.specs.State.{KeeperCause, Shows, StandsAfter, Steps, Tells};
-ghost use Rattle.ut_keeper.specs.Tables.{Tables};
+ghost use Rattle.ut_keeper.specs.State.{KeeperCause, Shows, Steps, Tells};
 ghost use Rattle.ut_model.specs.World.{World};
-ghost use Rattle.ut_soql.specs.Reading.{asks_for_rows};
 ghost use Rattle.ut_serving.specs.Falls.{Fell};
 ghost use Rattle.ut_serving.specs.Leads.{StandsReached};
-ghost use Rattle.ut_stands.specs.Operations.{Leaves};
 ghost use Rattle.ut_stands.specs.Stands.{Stands};
-ghost use Rattle.platform.specs.Commands.{command_of, csvq, is_serving, opens_door_in, opens_in, org_add, printed, uses_of};
-ghost use Rattle.platform.specs.Deeds.{Prints, one_deed};
+ghost use Rattle.platform.specs.Commands.{command_of, is_serving, opens_door_in, opens_in, uses_of};
 ghost use Rattle.platform.specs.Falling.{RunFalls};
-ghost use Rattle.platform.specs.OrgAdd.{org_does};
-ghost use Rattle.platform.specs.Run.{CrashLeaves, IsTold, is_opening, IsWorldOf, NoneRose, Runs, VersionEnds, may_change, may_write, status_in, statuses_of};
-ghost use Rattle.platform.specs.Stops.{FailsByTables, IsKnownStatus, VersionStops, behind, is_done};
+ghost use Rattle.platform.specs.Run.{CrashLeaves, is_opening, IsWorldOf, NoneRose, Runs, VersionEnds, may_change, may_write, status_in, statuses_of};
 ghost use Rattle.platform.specs.declared.stop.Stop.{Stop};
-ghost use Rattle.platform.specs.declared.stop.Stop.TheVariants.{DoorFailed, KeeperFailed, SinkFailed, SourceFailed};
 
 use crate::command::{Words, read_words};
-use crate::csvq::page_of;
-use crate::org_add::org_add_page;
-use crate::page::Page;
+use crate::printing::{csvq_status, print_csvq, print_org_add, store_status};
 use crate::serving::{serve_answer, serve_door};
 use crate::stop::Stop;
 use std::alloc::Global;
-use ut_io::{Clock, Door, Sink, Source, write_all};
+use ut_io::{Clock, Door, Sink, Source};
 use ut_keeper::Keeper;
 use ut_stands::stands_laws;
 
-// Writes a page, and returns its status.
-fn write_page<W: Sink>(sink: &mut W, page: &Page) -> Result<u8, Stop>
-    ensures prints { (w next : World)
-        → Prints w (one_deed page.now next) (W.written sink.old) (W.written sink.new) result (behind w next result) }
-    ensures status { IsKnownStatus result }
-    ensures same { IfOk result (λ status. status ≡ page.now.status) }
-    ensures failed { IfErr result (λ e. e ≡ SinkFailed) }
-    ensures cause { Cause (W.faults sink.old) (W.faults sink.new) (IsErrOf result SinkFailed) }
-    ensures stays { W.stays sink.old sink.new }
-{
-    match write_all(sink, page.text()) {
-        Ok(()) => Ok(page.status()),
-        Err(_) => Err(Stop::SinkFailed),
-    }
-}
-
-// Answers a query over the CSV text of the source.
-fn print_csvq<S: Source, W: Sink>(
-    alloc: Global,
-    query: &str,
-    source: &mut S,
-    sink: &mut W,
-) -> Result<u8, Stop>
-    ensures prints { (w : World) (bytes moments : List ℕ) → IsTold (asks_for_rows query.now) (S.left source.old) bytes
-        → Prints w (printed (csvq query.now) w bytes moments) (W.written sink.old) (W.written sink.new) result w }
-    ensures unread { asks_for_rows query.now ≡ false → source.new ≡ source.old }
-    ensures unwritten { is_done result ≡ false → sink.new ≡ sink.old }
-    ensures whole { IfOk result (λ status. status ≡ 0 → IsAtEnd (S.left source.new)) }
-    ensures status { IsKnownStatus result }
-    ensures tables { IfErr result (λ e. FailsByTables e → ⊥) }
-    ensures door { IsErrOf result DoorFailed → ⊥ }
-    ensures source_cause { Cause (S.faults source.old) (S.faults source.new) (IsErrOf result SourceFailed) }
-    ensures sink_cause { Cause (W.faults sink.old) (W.faults sink.new) (IsErrOf result SinkFailed) }
-    ensures source_stays { S.stays source.old source.new }
-    ensures sink_stays { W.stays sink.old sink.new }
-{
-    match page_of(alloc, query, source) {
-        Ok(page) => write_page(sink, &page),
-        Err(fail) => Err(Stop::from(fail)),
-    }
-}
-
-// Adds an organisation to the tables of the keeper, and writes its line.
-fn print_org_add<K: Keeper, W: Sink>(
-    alloc: Global,
-    name: &str,
-    secret: &str,
-    keeper: &mut K,
-    sink: &mut W,
-) -> Result<u8, Stop>
-    ensures prints { Tells (K.state keeper.old) (K.state keeper.new) → (w : World) → Stands (K.state keeper.old).tables w
-        → (bytes moments : List ℕ) → Prints w (printed (org_add name.now secret.now) w bytes moments)
-        (W.written sink.old) (W.written sink.new) result (behind w (org_does name.now secret.now w).1 result) }
-    ensures leaves { Tells (K.state keeper.old) (K.state keeper.new) → (w : World) → Stands (K.state keeper.old).tables w
-        → Leaves w (behind w (org_does name.now secret.now w).1 result) (org_does name.now secret.now w).1
-        (K.state keeper.old) (K.state keeper.new) }
-    ensures version { Tells (K.state keeper.old) (K.state keeper.new) → VersionStops (K.state keeper.old).tables result }
-    ensures kept { Tells (K.state keeper.old) (K.state keeper.new) → is_done result ≡ false
-        → Shows (K.state keeper.new) (K.state keeper.old).tables }
-    ensures refused { Tells (K.state keeper.old) (K.state keeper.new)
-        → IfOk result (λ status. status ≡ 65 → Shows (K.state keeper.new) (K.state keeper.old).tables) }
-    ensures crash { (K.state keeper.old).tells → IsTrue (K.state keeper.old).stands → IsTrue (K.state keeper.new).is_clean
-        → (w : World) → Stands (K.state keeper.old).tables w → (m : Tables) → (K.state keeper.new).may_leave m
-        → (K.state keeper.old).may_leave m ⊎ Stands m (org_does name.now secret.now w).1 }
-    ensures acknowledged { StandsAfter (is_ok result) (K.state keeper.new) }
-    ensures unwritten { is_done result ≡ false → sink.new ≡ sink.old }
-    ensures status { IsKnownStatus result }
-    ensures source { IsErrOf result SourceFailed → ⊥ }
-    ensures door { IsErrOf result DoorFailed → ⊥ }
-    ensures steps { Steps (K.state keeper.old) (K.state keeper.new) }
-    ensures keeper_cause { KeeperCause (K.state keeper.old) (K.state keeper.new) (IsErrOf result KeeperFailed) }
-    ensures sink_cause { Cause (W.faults sink.old) (W.faults sink.new) (IsErrOf result SinkFailed) }
-    ensures sink_stays { W.stays sink.old sink.new }
-{
-    match org_add_page(alloc, keeper, name, secret) {
-        Ok(page) => write_page(sink, &page),
-        Err(fail) => Err(Stop::from(fail)),
-    }
-}
-
-// The status of the process.
+// The status of a process that served.
 fn status_of(ended: Result<u8, Stop>) -> u8
     ensures { result ≡ status_in ended }
 {
@@ -227,10 +138,10 @@ pub fn run<K: Keeper, D: Door, S: Source, W: Sink, C: Clock>(
     match read_words(words) {
         Words::Csvq(query) => {
             let _now = clock.now();
-            status_of(print_csvq(alloc, query, source, sink))
+            csvq_status(print_csvq(alloc, query, source, sink))
         }
         Words::OrgAdd(name, secret) => {
-            status_of(print_org_add(alloc, name, secret, keeper, sink))
+            store_status(print_org_add(alloc, name, secret, keeper, sink))
         }
         Words::Answer => status_of(serve_answer(alloc, keeper, source, sink, clock)),
         Words::Serve(count) => status_of(serve_door(alloc, keeper, door, clock, count)),

@@ -1,8 +1,7 @@
 ghost use Rattle.std.specs.Prelude.{◌≡◌};
 ghost use Rattle.platform.specs.Run.{stop_status};
-ghost use Rattle.platform.specs.Stops.{of_input, of_opening, of_store};
+ghost use Rattle.platform.specs.Stops.{of_opening, of_store};
 
-use crate::csvq::InputFail;
 use ut_keys::StoreFail;
 use ut_stands::OpenFail;
 
@@ -38,17 +37,6 @@ impl Stop {
             Stop::DoorFailed => 75,
             Stop::Damaged => 76,
             Stop::UnknownVersion => 77,
-        }
-    }
-}
-
-impl From<InputFail> for Stop {
-    ghost from_gives = { λ fail e. e ≡ of_input fail };
-
-    fn from(fail: InputFail) -> Stop {
-        match fail {
-            InputFail::Failed => Stop::SourceFailed,
-            InputFail::Memory => Stop::NoMemory,
         }
     }
 }

@@ -1,9 +1,10 @@
-ghost use Rattle.std.specs.Prelude.{◌≡◌, ◌≤◌, length, map, IfOk, OnOk, IsErrOf};
+ghost use Rattle.std.specs.Prelude.{◌≡◌, ◌<◌, ◌≤◌, ◌^◌, length, map, IfOk, OnOk, IsErrOf};
 ghost use Rattle.csv.specs.Records.{fields_of};
 ghost use Rattle.ut_keeper.specs.State.{KeeperCause, Tells};
 ghost use Rattle.ut_keeper.specs.Tables.{no_rows};
 ghost use Rattle.ut_keeper.specs.Draft.{DraftWorks, keeper_of, tables_of};
 ghost use Rattle.ut_keeper.specs.declared.keeper.KeepFail.TheVariants.{Failed};
+ghost use Rattle.platform.specs.Csvq.{record_id};
 ghost use Rattle.platform.specs.Kept.{kept, with_rows};
 
 use crate::csvq::rows::name_in;
@@ -12,13 +13,22 @@ use std::alloc::{AllocError, Global};
 use ut_keeper::{Draft, KeepFail, Keeper, KeptRow, MemoryKeeper, all_rows, draft_laws, key_laws};
 use ut_value::{Bytes, Id, id_laws};
 
-// The table of data rows, and the prefix of the ids of object 0.
+// The table of data rows.
 const DATA_TABLE: u8 = 7;
 
+// The prefix of the ids of object 0.
 const PREFIX: [u8; 3] = *b"a00";
 
 // How many rows are read at once.
 const PAGE: usize = 1000;
+
+/// The id of the record with this number.
+pub(crate) fn record_id(number: u64) -> Id
+    requires { number < 10 ^ 15 }
+    ensures { result ≡ record_id number }
+{
+    Id::new(PREFIX, number)
+}
 
 // Puts rows into a draft, each under its id. The last row comes first: an ordered map finds the place before all others
 // with the fewest comparisons.
@@ -35,7 +45,7 @@ fn put_rows<K: Keeper>(
     draft_laws::<K>();
     let mut place = rows.len();
     'rows: while place > 0 {
-        let id = Id::new(PREFIX, place as u64);
+        let id = record_id(place as u64);
         place -= 1;
         let key = Bytes::from_slice(alloc, id.as_bytes())?;
         let row = Bytes::from_slice(alloc, name_in(&rows[place]).as_bytes())?;

@@ -1,16 +1,16 @@
-ghost use Rattle.std.specs.Prelude.{◌≡◌, ◌++◌, IfOk, IsTrue};
-ghost use Rattle.platform.specs.Csvq.{heading_line};
-ghost use Rattle.ut_value.specs.Id.{is_id, print18};
-ghost use Rattle.platform.specs.Kept.{AreIds, kept_lines};
+ghost use Rattle.std.specs.Prelude.{◌≡◌, ◌≤◌, ◌++◌, IfOk, length};
+ghost use Rattle.platform.specs.Csvq.{heading_line, row_limit};
+ghost use Rattle.platform.specs.Kept.{AreNumbered, kept_lines};
 
+use crate::csvq::kept::record_id;
 use csv::WriterBuilder;
 use std::alloc::{AllocError, Global};
 use ut_keeper::KeptRow;
-use ut_value::Id;
 
-/// The heading's line, and a line for each record that is kept under its id.
+/// The heading's line, and a line for each record. They are kept under the ids of their numbers, from 1 on.
 pub(crate) fn text_of(alloc: Global, rows: &[KeptRow]) -> Result<Vec<u8>, AllocError>
-    requires { AreIds rows.now }
+    requires few { length rows.now ≤ row_limit }
+    requires numbered { AreNumbered 1 rows.now }
     ensures { IfOk result (λ text. text.items ≡ heading_line ++ kept_lines rows.now) }
 {
     let mut writer = WriterBuilder::new().from_writer(Vec::new(alloc));
@@ -22,7 +22,7 @@ pub(crate) fn text_of(alloc: Global, rows: &[KeptRow]) -> Result<Vec<u8>, AllocE
     }
     for place in 0..rows.len() {
         let row = &rows[place];
-        let id = id_text(row);
+        let id = record_id(place as u64 + 1).print18();
         if writer
             .write_fields(&[id.as_slice(), row.row.as_slice()])
             .is_err()
@@ -33,16 +33,5 @@ pub(crate) fn text_of(alloc: Global, rows: &[KeptRow]) -> Result<Vec<u8>, AllocE
     match writer.into_inner() {
         Ok(text) => Ok(text),
         Err(_) => Err(AllocError),
-    }
-}
-
-// The 18 characters of the id under which a row is kept.
-fn id_text(row: &KeptRow) -> [u8; 18]
-    requires { IsTrue (is_id row.now.key) }
-    ensures { result ≡ print18 row.now.key }
-{
-    match Id::from_bytes(row.key.as_slice()) {
-        Some(id) => id.print18(),
-        None => unreachable!(),
     }
 }

@@ -1,4 +1,4 @@
-use Rattle.std.proofs.Common.{◌≡◌, arith, ◌∙◌, List, drop, map, ap, sym, subst, true, false, ◌+◌}
+use Rattle.std.proofs.Common.{◌≡◌, ◌≤◌, arith, ◌∙◌, List, length, drop, map, ap, sym, subst, true, false, ◌+◌}
 use Rattle.std.proofs.lemmas.List.{take_rest}
 use Rattle.csv.specs.Records.{Row, fields_of}
 use Rattle.ut_keeper.specs.declared.keeper.KeptRow.{KeptRow}
@@ -6,8 +6,8 @@ use Rattle.ut_table.specs.Table.{table_of}
 use Rattle.platform.specs.Csvq.{is_table, row_limit}
 use Rattle.std.specs.Result.{IfOk}
 use Rattle.platform.specs.Printed.{PageText}
-use Rattle.platform.specs.Kept.{AreIds}
-use Rattle.platform.proofs.Pages.{accepted, as_whole, ids_kept, turned_down, whole}
+use Rattle.platform.specs.Kept.{AreNumbered}
+use Rattle.platform.proofs.Pages.{accepted, as_whole, few_kept, numbered_kept, turned_down, whole}
 use Rattle.platform.proofs.csvq.input_page.Goals as goal
 
 pub returns-in_ok-text_of-in-Ok : goal.returns-in_ok-text_of-in-Ok
@@ -21,9 +21,16 @@ returns-in_ok-text_of-in-Ok c =
     c.done.ensures ∙ accepted c.args.bytes.now c.in_ok-text_of-in-Ok.field-0.items c.in-Ok.records.items _ c.deref-in-Ok-2.result.now c.requires c.in-Ok.ensures.accepted (most ∙ same) good
     (take_rest c.deref-in-Ok.result.now 1 ∙ ap (drop 1) rows_are) (c.deref-in-Ok-2.ensures.value ∙ c.in_ok-rows-in-Ok.ensures) c.in_ok-text_of-in-Ok.ensures
 
-pub text_of-requires : goal.text_of-requires
-text_of-requires c =
-    subst (λ (rs : List KeptRow). AreIds rs) (sym (c.deref-in-Ok-2.ensures.value ∙ c.in_ok-rows-in-Ok.ensures)) (ids_kept c.id_laws.ensures.made 1 _)
+pub text_of-requires-clause-numbered : goal.text_of-requires-clause-numbered
+text_of-requires-clause-numbered c =
+    subst (λ (rs : List KeptRow). AreNumbered 1 rs) (sym (c.deref-in-Ok-2.ensures.value ∙ c.in_ok-rows-in-Ok.ensures)) (numbered_kept 1 _)
+
+pub text_of-requires-clause-few : goal.text_of-requires-clause-few
+text_of-requires-clause-few c =
+    let good : is_table (map fields_of c.in-Ok.records.items) ≡ true =
+    ap (λ (rs : List Row). is_table (map fields_of rs)) (sym c.deref.ensures.value) ∙ sym c.is_table.ensures ∙ c.if-not-is_table.false in
+    let under = take_rest c.deref-in-Ok.result.now 1 ∙ ap (drop 1) c.deref-in-Ok.ensures.value in
+    subst (λ (rs : List KeptRow). length rs ≤ row_limit) (sym (c.deref-in-Ok-2.ensures.value ∙ c.in_ok-rows-in-Ok.ensures)) (few_kept c.in-Ok.records.items _ good under)
 
 pub returns-then-not-is_table : goal.returns-then-not-is_table
 returns-then-not-is_table c =

@@ -3,6 +3,8 @@ use Rattle.std.proofs.Common.{Err, refl, ℕ, List, [], ◌∷◌}
 use Rattle.ut_keeper.specs.State.{KeeperState}
 use Rattle.platform.specs.Commands.{answers, csvq, org_add, serves}
 use Rattle.platform.specs.declared.stop.Stop.TheVariants.{DoorFailed, KeeperFailed, SinkFailed, SourceFailed}
+use Rattle.platform.specs.Stops.{csvq_end, store_end}
+use Rattle.platform.proofs.Ends.{csvq_door, csvq_known, store_door, store_known, store_source}
 use Rattle.platform.proofs.Runs.{csvq_runs, is_72, is_73, is_74, is_75, known_zero, not_listed, faulted, org_crash, org_runs, quiet, serving_completes, serving_crash, serving_leads, serving_runs, version_ends}
 use Rattle.platform.proofs.Falling.{answer_falls, print_falls, serve_falls}
 use Rattle.platform.proofs.running.run.Goals as goal
@@ -14,7 +16,7 @@ returns-in-Csvq-clause-runs g c =
     let faults = g.D.Door.line_faults c.args.door.now in
     let a : Seen = record { keeper = k; door = held; line_faults = faults; left = g.S.Source.left c.args.source.now; written = g.W.Sink.written c.args.sink.now; coming = g.C.Clock.coming c.args.clock.now } in
     let b : Seen = record { keeper = k; door = held; line_faults = faults; left = g.S.Source.left c.print_csvq.new.source; written = g.W.Sink.written c.print_csvq.new.sink; coming = g.C.Clock.coming c.now-now.new.self } in
-    csvq_runs a b _ c.in-Csvq.query.now c.print_csvq.result c.status_of.result c.in-Csvq.ensures c.status_of.ensures c.print_csvq.ensures.prints
+    csvq_runs a b _ c.in-Csvq.query.now (csvq_end c.print_csvq.result) c.csvq_status.result c.in-Csvq.ensures c.csvq_status.ensures c.print_csvq.ensures.prints
 
 pub returns-in-OrgAdd-clause-runs : goal.returns-in-OrgAdd-clause-runs
 returns-in-OrgAdd-clause-runs g c =
@@ -24,7 +26,7 @@ returns-in-OrgAdd-clause-runs g c =
     let faults = g.D.Door.line_faults c.args.door.now in
     let a : Seen = record { keeper = k; door = held; line_faults = faults; left = g.S.Source.left c.args.source.now; written = g.W.Sink.written c.args.sink.now; coming = g.C.Clock.coming c.args.clock.now } in
     let b : Seen = record { keeper = l; door = held; line_faults = faults; left = g.S.Source.left c.args.source.now; written = g.W.Sink.written c.print_org_add.new.sink; coming = g.C.Clock.coming c.args.clock.now } in
-    org_runs c.in-OrgAdd.name.now c.in-OrgAdd.secret.now a b _ c.print_org_add.result c.status_of-in-OrgAdd.result c.in-OrgAdd.ensures c.status_of-in-OrgAdd.ensures c.print_org_add.ensures.source c.print_org_add.ensures.prints c.print_org_add.ensures.leaves
+    org_runs c.in-OrgAdd.name.now c.in-OrgAdd.secret.now a b _ (store_end c.print_org_add.result) c.store_status.result c.in-OrgAdd.ensures c.store_status.ensures (store_source c.print_org_add.result) c.print_org_add.ensures.prints c.print_org_add.ensures.leaves
 
 pub returns-in-OrgAdd-clause-crash : goal.returns-in-OrgAdd-clause-crash
 returns-in-OrgAdd-clause-crash g c =
@@ -34,7 +36,7 @@ returns-in-OrgAdd-clause-crash g c =
 
 pub returns-in-OrgAdd-clause-version : goal.returns-in-OrgAdd-clause-version
 returns-in-OrgAdd-clause-version g c opens told =
-    version_ends c.stands_laws.ensures.one_version (g.K.Keeper.state c.args.keeper.now).tables c.print_org_add.result c.status_of-in-OrgAdd.result c.print_org_add.ensures.status c.status_of-in-OrgAdd.ensures (c.print_org_add.ensures.version told)
+    version_ends c.stands_laws.ensures.one_version (g.K.Keeper.state c.args.keeper.now).tables (store_end c.print_org_add.result) c.store_status.result (store_known c.print_org_add.result c.print_org_add.ensures.status) c.store_status.ensures (c.print_org_add.ensures.version told)
 
 pub returns-in-Answer-clause-runs : goal.returns-in-Answer-clause-runs
 returns-in-Answer-clause-runs g c =
@@ -44,7 +46,7 @@ returns-in-Answer-clause-runs g c =
     let faults = g.D.Door.line_faults c.args.door.now in
     let a : Seen = record { keeper = k; door = held; line_faults = faults; left = g.S.Source.left c.args.source.now; written = g.W.Sink.written c.args.sink.now; coming = g.C.Clock.coming c.args.clock.now } in
     let b : Seen = record { keeper = l; door = g.D.Door.held c.args.door.now; line_faults = g.D.Door.line_faults c.args.door.now; left = g.S.Source.left c.serve_answer.new.source; written = g.W.Sink.written c.serve_answer.new.sink; coming = g.C.Clock.coming c.serve_answer.new.clock } in
-    serving_runs _ answers refl c.in-Answer.ensures a b c.serve_answer.result c.status_of-in-Answer.result c.status_of-in-Answer.ensures
+    serving_runs _ answers refl c.in-Answer.ensures a b c.serve_answer.result c.status_of.result c.status_of.ensures
     (λ told w s. c.serve_answer.ensures.runs told w s held faults)
 
 pub returns-in-Answer-clause-leads : goal.returns-in-Answer-clause-leads
@@ -57,11 +59,11 @@ returns-in-Answer-clause-crash g c =
 
 pub returns-in-Answer-clause-version : goal.returns-in-Answer-clause-version
 returns-in-Answer-clause-version g c opens told =
-    version_ends c.stands_laws.ensures.one_version (g.K.Keeper.state c.args.keeper.now).tables c.serve_answer.result c.status_of-in-Answer.result (known_zero c.serve_answer.result c.serve_answer.ensures.status) c.status_of-in-Answer.ensures (c.serve_answer.ensures.version told)
+    version_ends c.stands_laws.ensures.one_version (g.K.Keeper.state c.args.keeper.now).tables c.serve_answer.result c.status_of.result (known_zero c.serve_answer.result c.serve_answer.ensures.status) c.status_of.ensures (c.serve_answer.ensures.version told)
 
 pub returns-in-Answer-clause-keeper_cause : goal.returns-in-Answer-clause-keeper_cause
 returns-in-Answer-clause-keeper_cause g c =
-    let failed = is_72 c.serve_answer.result c.status_of-in-Answer.result (known_zero c.serve_answer.result c.serve_answer.ensures.status) c.status_of-in-Answer.ensures in
+    let failed = is_72 c.serve_answer.result c.status_of.result (known_zero c.serve_answer.result c.serve_answer.ensures.status) c.status_of.ensures in
     record { rose = λ e. c.serve_answer.ensures.keeper_cause.rose (failed e); never = λ sure e. c.serve_answer.ensures.keeper_cause.never sure (failed e) }
 
 pub returns-in-Serve-clause-runs : goal.returns-in-Serve-clause-runs
@@ -94,29 +96,29 @@ returns-in-Serve-clause-keeper_cause g c =
 
 pub returns-in-Answer-clause-sink_cause : goal.returns-in-Answer-clause-sink_cause
 returns-in-Answer-clause-sink_cause g c =
-    let failed = is_73 c.serve_answer.result c.status_of-in-Answer.result (known_zero c.serve_answer.result c.serve_answer.ensures.status) c.status_of-in-Answer.ensures in
+    let failed = is_73 c.serve_answer.result c.status_of.result (known_zero c.serve_answer.result c.serve_answer.ensures.status) c.status_of.ensures in
     record { later = c.serve_answer.ensures.sink_cause.later; rose = λ e. c.serve_answer.ensures.sink_cause.rose (failed e) }
 
 pub returns-in-Answer-clause-source_cause : goal.returns-in-Answer-clause-source_cause
 returns-in-Answer-clause-source_cause g c =
-    let failed = is_74 c.serve_answer.result c.status_of-in-Answer.result (known_zero c.serve_answer.result c.serve_answer.ensures.status) c.status_of-in-Answer.ensures in
+    let failed = is_74 c.serve_answer.result c.status_of.result (known_zero c.serve_answer.result c.serve_answer.ensures.status) c.status_of.ensures in
     record { later = c.serve_answer.ensures.source_cause.later; rose = λ e. c.serve_answer.ensures.source_cause.rose (failed e) }
 
 pub returns-in-Answer-clause-door_cause : goal.returns-in-Answer-clause-door_cause
 returns-in-Answer-clause-door_cause g c =
     quiet (g.D.Door.faults c.args.door.now) _
     (λ e. not_listed answers c.serve_answer.result DoorFailed c.serve_answer.ensures.statuses refl
-    (is_75 c.serve_answer.result c.status_of-in-Answer.result (known_zero c.serve_answer.result c.serve_answer.ensures.status) c.status_of-in-Answer.ensures e))
+    (is_75 c.serve_answer.result c.status_of.result (known_zero c.serve_answer.result c.serve_answer.ensures.status) c.status_of.ensures e))
 
 pub returns-in-Csvq-clause-door_cause : goal.returns-in-Csvq-clause-door_cause
 returns-in-Csvq-clause-door_cause g c =
     quiet (g.D.Door.faults c.args.door.now) _
-    (λ e. c.print_csvq.ensures.door (is_75 c.print_csvq.result c.status_of.result c.print_csvq.ensures.status c.status_of.ensures e))
+    (λ e. csvq_door c.print_csvq.result (is_75 (csvq_end c.print_csvq.result) c.csvq_status.result (csvq_known c.print_csvq.result c.print_csvq.ensures.status) c.csvq_status.ensures e))
 
 pub returns-in-OrgAdd-clause-door_cause : goal.returns-in-OrgAdd-clause-door_cause
 returns-in-OrgAdd-clause-door_cause g c =
     quiet (g.D.Door.faults c.args.door.now) _
-    (λ e. c.print_org_add.ensures.door (is_75 c.print_org_add.result c.status_of-in-OrgAdd.result c.print_org_add.ensures.status c.status_of-in-OrgAdd.ensures e))
+    (λ e. store_door c.print_org_add.result (is_75 (store_end c.print_org_add.result) c.store_status.result (store_known c.print_org_add.result c.print_org_add.ensures.status) c.store_status.ensures e))
 
 pub returns-in-Answer-clause-complete : goal.returns-in-Answer-clause-complete
 returns-in-Answer-clause-complete g c =
@@ -126,7 +128,7 @@ returns-in-Answer-clause-complete g c =
     let counts : List (ℕ × ℕ) = ((k c.args.keeper.now).faults, (k c.serve_answer.new.keeper).faults) ∷ (g.S.Source.faults c.args.source.now, g.S.Source.faults c.serve_answer.new.source)
     ∷ (g.W.Sink.faults c.args.sink.now, g.W.Sink.faults c.serve_answer.new.sink) ∷ (g.D.Door.faults c.args.door.now, g.D.Door.faults c.args.door.now) ∷ [] in
     serving_completes _ answers refl c.in-Answer.ensures c.stands_laws.ensures.one_version c.stands_laws.ensures.known
-    (g.K.Keeper.state c.args.keeper.now) (g.K.Keeper.state c.serve_answer.new.keeper) r c.status_of-in-Answer.result it.status c.status_of-in-Answer.ensures it.version counts
+    (g.K.Keeper.state c.args.keeper.now) (g.K.Keeper.state c.serve_answer.new.keeper) r c.status_of.result it.status c.status_of.ensures it.version counts
     (λ none f. faulted r f (λ e. none.0 (it.keeper_cause.rose e)) (λ e. none.1.1.0 (it.sink_cause.rose e)) (λ e. none.1.0 (it.source_cause.rose e)) (not_listed answers r DoorFailed it.statuses refl))
 
 pub returns-in-Serve-clause-complete : goal.returns-in-Serve-clause-complete
@@ -165,19 +167,19 @@ pub returns-in-Csvq-clause-falls : goal.returns-in-Csvq-clause-falls
 returns-in-Csvq-clause-falls g c =
     let a : Seen = record { keeper = g.K.Keeper.state c.args.keeper.now; door = g.D.Door.held c.args.door.now; line_faults = g.D.Door.line_faults c.args.door.now; left = g.S.Source.left c.args.source.now; written = g.W.Sink.written c.args.sink.now; coming = g.C.Clock.coming c.args.clock.now } in
     let b : Seen = record { keeper = g.K.Keeper.state c.args.keeper.now; door = g.D.Door.held c.args.door.now; line_faults = g.D.Door.line_faults c.args.door.now; left = g.S.Source.left c.print_csvq.new.source; written = g.W.Sink.written c.print_csvq.new.sink; coming = g.C.Clock.coming c.now-now.new.self } in
-    print_falls _ a b c.status_of.result (csvq c.in-Csvq.query.now) c.in-Csvq.ensures
+    print_falls _ a b c.csvq_status.result (csvq c.in-Csvq.query.now) c.in-Csvq.ensures
 
 pub returns-in-OrgAdd-clause-falls : goal.returns-in-OrgAdd-clause-falls
 returns-in-OrgAdd-clause-falls g c =
     let a : Seen = record { keeper = g.K.Keeper.state c.args.keeper.now; door = g.D.Door.held c.args.door.now; line_faults = g.D.Door.line_faults c.args.door.now; left = g.S.Source.left c.args.source.now; written = g.W.Sink.written c.args.sink.now; coming = g.C.Clock.coming c.args.clock.now } in
     let b : Seen = record { keeper = g.K.Keeper.state c.print_org_add.new.keeper; door = g.D.Door.held c.args.door.now; line_faults = g.D.Door.line_faults c.args.door.now; left = g.S.Source.left c.args.source.now; written = g.W.Sink.written c.print_org_add.new.sink; coming = g.C.Clock.coming c.args.clock.now } in
-    print_falls _ a b c.status_of-in-OrgAdd.result (org_add c.in-OrgAdd.name.now c.in-OrgAdd.secret.now) c.in-OrgAdd.ensures
+    print_falls _ a b c.store_status.result (org_add c.in-OrgAdd.name.now c.in-OrgAdd.secret.now) c.in-OrgAdd.ensures
 
 pub returns-in-Answer-clause-falls : goal.returns-in-Answer-clause-falls
 returns-in-Answer-clause-falls g c =
     let a : Seen = record { keeper = g.K.Keeper.state c.args.keeper.now; door = g.D.Door.held c.args.door.now; line_faults = g.D.Door.line_faults c.args.door.now; left = g.S.Source.left c.args.source.now; written = g.W.Sink.written c.args.sink.now; coming = g.C.Clock.coming c.args.clock.now } in
     let b : Seen = record { keeper = g.K.Keeper.state c.serve_answer.new.keeper; door = g.D.Door.held c.args.door.now; line_faults = g.D.Door.line_faults c.args.door.now; left = g.S.Source.left c.serve_answer.new.source; written = g.W.Sink.written c.serve_answer.new.sink; coming = g.C.Clock.coming c.serve_answer.new.clock } in
-    answer_falls _ a b c.status_of-in-Answer.result c.serve_answer.result c.in-Answer.ensures c.status_of-in-Answer.ensures c.serve_answer.ensures.falls
+    answer_falls _ a b c.status_of.result c.serve_answer.result c.in-Answer.ensures c.status_of.ensures c.serve_answer.ensures.falls
 
 pub returns-in-Serve-clause-falls : goal.returns-in-Serve-clause-falls
 returns-in-Serve-clause-falls g c =

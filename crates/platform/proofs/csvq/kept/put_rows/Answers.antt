@@ -27,5 +27,5 @@ rows-preserved g c =
       works = subst (λ (n : ℕ). DraftWorks g.K.Keeper.state n 0 0 c.args.draft.now c.put.new.self) more (c.draft_laws.ensures.works (length c.args.rows.now - number) 0 0 1 0 0 _ _ _ inv.works put.works);
       keeper = put.keeper ∙ inv.keeper;
       tables = one_put c.args.rows.now (number - 1) number c.index-rows-place.result _ _ _ c.in_ok-key.key c.in_ok-row.row next within c.index-rows-place.is inv.tables
-          (c.in_ok-key.ensures ∙ c.as_bytes.ensures.characters ∙ c.new-id.ensures) (c.in_ok-row.ensures ∙ c.as_bytes-in-rows.ensures.value ∙ c.name_in.ensures) put.ok;
+          (c.in_ok-key.ensures ∙ c.as_bytes.ensures.characters ∙ c.record_id-id.ensures) (c.in_ok-row.ensures ∙ c.as_bytes-in-rows.ensures.value ∙ c.name_in.ensures) put.ok;
     }

@@ -1,8 +1,9 @@
-use Rattle.std.proofs.Common.{rules, ◌≡◌, ◌≢◌, ◌<◌, ◌∙◌, false, length}
+use Rattle.std.proofs.Common.{rules, ◌≡◌, ◌≢◌, ◌<◌, ◌∙◌, ap, sym, false, length}
 use Rattle.std.specs.Result.{is_err}
 use Rattle.csv.specs.declared.writer.QuoteStyle.TheVariants as style
 use Rattle.csv.proofs.ReadFacts.{on-ok}
-use Rattle.platform.proofs.Lines.{text_more, text_start}
+use Rattle.ut_value.specs.Id.{print18}
+use Rattle.platform.proofs.Lines.{numbered_at, text_more, text_start}
 use Rattle.platform.proofs.csvq.text.text_of.Goals as goal
 
 pub loop-place-init : goal.loop-place-init
@@ -28,10 +29,11 @@ loop-place-preserved c =
     let plain : c.loop-place.writer.cfg.style ≢ style.NonNumeric = rw (inv.setup) (λ e. cc e) in
     let bytes = on-ok c.write_fields-in-loop-place.result good wrote.bytes inv.fields inv.wrote plain in
     let within : c.loop-place.place < length c.args.rows.now = search rules in
+    let numbered = numbered_at c.args.rows.now c.loop-place.place c.index-rows-place.result c.requires.numbered within c.index-rows-place.is in
     record {
       setup = on-ok c.write_fields-in-loop-place.result good wrote.setup ∙ inv.setup;
       fields = on-ok c.write_fields-in-loop-place.result good wrote.ended;
       wrote = on-ok c.write_fields-in-loop-place.result good wrote.clean;
       text = text_more c.args.rows.now c.loop-place.place c.index-rows-place.result _ _ c.as_slice-in-loop-place.result.now c.as_slice-in-loop-place-2.result.now within c.index-rows-place.is inv.text
-          (c.as_slice-in-loop-place.ensures ∙ c.id_text-id.ensures) c.as_slice-in-loop-place-2.ensures (rw (inv.setup) at bytes);
+          (c.as_slice-in-loop-place.ensures ∙ c.print18-id.ensures ∙ ap print18 (c.record_id.ensures ∙ sym numbered)) c.as_slice-in-loop-place-2.ensures (rw (inv.setup) at bytes);
     }

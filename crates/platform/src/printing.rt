@@ -1,0 +1,211 @@
+//! The commands that print: each makes its page first, and writes it then.
+
+ghost use Rattle.std.specs.Prelude.{◌≡◌, ◌⊎◌, List, ℕ, IsErr, IsTrue, IfOk, IsErrOf, false, is_ok};
+ghost use Rattle.std.specs.Io.KnownBytes.{IsAtEnd};
+ghost use Rattle.ut_value.specs.Causes.{Cause};
+ghost use Rattle.ut_keeper.specs.State.{KeeperCause, Shows, StandsAfter, Steps, Tells};
+ghost use Rattle.ut_keeper.specs.Tables.{Tables};
+ghost use Rattle.ut_model.specs.World.{World};
+ghost use Rattle.ut_soql.specs.Reading.{asks_for_rows};
+ghost use Rattle.ut_stands.specs.Operations.{Leaves};
+ghost use Rattle.ut_stands.specs.Stands.{Stands};
+ghost use Rattle.platform.specs.Commands.{csvq, org_add, printed};
+ghost use Rattle.platform.specs.Deeds.{Prints, one_deed};
+ghost use Rattle.platform.specs.OrgAdd.{org_does};
+ghost use Rattle.platform.specs.Run.{IsTold, status_in};
+ghost use Rattle.platform.specs.Stops.{IsKnownStatus, VersionStops, behind, csvq_end, csvq_stop_of, is_done, page_end, stop_of_csvq, stop_of_store, store_end, store_stop_of};
+ghost use Rattle.platform.specs.declared.printing.CsvqStop.TheVariants as csvq_stop;
+ghost use Rattle.platform.specs.declared.printing.StoreStop.TheVariants as store_stop;
+
+use crate::csvq::{InputFail, page_of};
+use crate::org_add::org_add_page;
+use crate::page::Page;
+use crate::stop::Stop;
+use std::alloc::Global;
+use ut_io::{IoFail, Sink, Source, write_all};
+use ut_keeper::Keeper;
+use ut_keys::StoreFail;
+use ut_stands::OpenFail;
+
+/// What cuts `csvq` short.
+#[derive(Clone, Copy, Debug, PartialEq, Eq)]
+pub enum CsvqStop {
+    /// Out of memory.
+    NoMemory,
+    /// The source failed.
+    SourceFailed,
+    /// The sink failed.
+    SinkFailed,
+}
+
+impl From<InputFail> for CsvqStop {
+    ghost from_gives = { λ fail e. e ≡ csvq_stop_of fail };
+
+    fn from(fail: InputFail) -> CsvqStop {
+        match fail {
+            InputFail::Failed => CsvqStop::SourceFailed,
+            InputFail::Memory => CsvqStop::NoMemory,
+        }
+    }
+}
+
+impl From<IoFail> for CsvqStop {
+    ghost from_gives = { λ _ e. e ≡ csvq_stop.SinkFailed };
+
+    fn from(_: IoFail) -> CsvqStop {
+        CsvqStop::SinkFailed
+    }
+}
+
+impl From<CsvqStop> for Stop {
+    ghost from_gives = { λ stop e. e ≡ stop_of_csvq stop };
+
+    fn from(stop: CsvqStop) -> Stop {
+        match stop {
+            CsvqStop::NoMemory => Stop::NoMemory,
+            CsvqStop::SourceFailed => Stop::SourceFailed,
+            CsvqStop::SinkFailed => Stop::SinkFailed,
+        }
+    }
+}
+
+/// What cuts a command short that prints of the tables.
+#[derive(Clone, Copy, Debug, PartialEq, Eq)]
+pub enum StoreStop {
+    /// Out of memory.
+    NoMemory,
+    /// The keeper failed.
+    KeeperFailed,
+    /// The sink failed.
+    SinkFailed,
+    /// The tables are damaged.
+    Damaged,
+    /// The tables are of a version that isn't known here.
+    UnknownVersion,
+}
+
+impl From<OpenFail> for StoreStop {
+    ghost from_gives = { λ fail e. e ≡ store_stop_of fail };
+
+    fn from(fail: OpenFail) -> StoreStop {
+        match fail {
+            OpenFail::Store(StoreFail::Keeper) => StoreStop::KeeperFailed,
+            OpenFail::Store(StoreFail::Memory) => StoreStop::NoMemory,
+            OpenFail::Store(StoreFail::Damaged) => StoreStop::Damaged,
+            OpenFail::UnknownVersion => StoreStop::UnknownVersion,
+        }
+    }
+}
+
+impl From<IoFail> for StoreStop {
+    ghost from_gives = { λ _ e. e ≡ store_stop.SinkFailed };
+
+    fn from(_: IoFail) -> StoreStop {
+        StoreStop::SinkFailed
+    }
+}
+
+impl From<StoreStop> for Stop {
+    ghost from_gives = { λ stop e. e ≡ stop_of_store stop };
+
+    fn from(stop: StoreStop) -> Stop {
+        match stop {
+            StoreStop::NoMemory => Stop::NoMemory,
+            StoreStop::KeeperFailed => Stop::KeeperFailed,
+            StoreStop::SinkFailed => Stop::SinkFailed,
+            StoreStop::Damaged => Stop::Damaged,
+            StoreStop::UnknownVersion => Stop::UnknownVersion,
+        }
+    }
+}
+
+/// The status of a process that ran `csvq`.
+pub(crate) fn csvq_status(ended: Result<u8, CsvqStop>) -> u8
+    ensures { result ≡ status_in (csvq_end ended) }
+{
+    match ended {
+        Ok(status) => status,
+        Err(stop) => Stop::from(stop).status(),
+    }
+}
+
+/// The status of a process that ran a command that prints of the tables.
+pub(crate) fn store_status(ended: Result<u8, StoreStop>) -> u8
+    ensures { result ≡ status_in (store_end ended) }
+{
+    match ended {
+        Ok(status) => status,
+        Err(stop) => Stop::from(stop).status(),
+    }
+}
+
+// Writes a page, and returns its status.
+fn write_page<W: Sink>(sink: &mut W, page: &Page) -> Result<u8, IoFail>
+    ensures prints { (w next : World)
+        → Prints w (one_deed page.now next) (W.written sink.old) (W.written sink.new) (page_end result) next }
+    ensures status { IsKnownStatus result }
+    ensures same { IfOk result (λ status. status ≡ page.now.status) }
+    ensures cause { Cause (W.faults sink.old) (W.faults sink.new) (IsErr result) }
+    ensures stays { W.stays sink.old sink.new }
+{
+    write_all(sink, page.text())?;
+    Ok(page.status())
+}
+
+/// Answers a query over the CSV text of the source.
+pub(crate) fn print_csvq<S: Source, W: Sink>(
+    alloc: Global,
+    query: &str,
+    source: &mut S,
+    sink: &mut W,
+) -> Result<u8, CsvqStop>
+    ensures prints { (w : World) (bytes moments : List ℕ) → IsTold (asks_for_rows query.now) (S.left source.old) bytes
+        → Prints w (printed (csvq query.now) w bytes moments) (W.written sink.old) (W.written sink.new) (csvq_end result) w }
+    ensures unread { asks_for_rows query.now ≡ false → source.new ≡ source.old }
+    ensures unwritten { is_done (csvq_end result) ≡ false → sink.new ≡ sink.old }
+    ensures whole { IfOk result (λ status. status ≡ 0 → IsAtEnd (S.left source.new)) }
+    ensures status { IsKnownStatus result }
+    ensures source_cause { Cause (S.faults source.old) (S.faults source.new) (IsErrOf result csvq_stop.SourceFailed) }
+    ensures sink_cause { Cause (W.faults sink.old) (W.faults sink.new) (IsErrOf result csvq_stop.SinkFailed) }
+    ensures source_stays { S.stays source.old source.new }
+    ensures sink_stays { W.stays sink.old sink.new }
+{
+    let page = page_of(alloc, query, source)?;
+    Ok(write_page(sink, &page)?)
+}
+
+/// Adds an organisation to the tables of the keeper, and writes its line.
+pub(crate) fn print_org_add<K: Keeper, W: Sink>(
+    alloc: Global,
+    name: &str,
+    secret: &str,
+    keeper: &mut K,
+    sink: &mut W,
+) -> Result<u8, StoreStop>
+    ensures prints { Tells (K.state keeper.old) (K.state keeper.new) → (w : World) → Stands (K.state keeper.old).tables w
+        → (bytes moments : List ℕ) → Prints w (printed (org_add name.now secret.now) w bytes moments)
+        (W.written sink.old) (W.written sink.new) (store_end result)
+        (behind w (org_does name.now secret.now w).1 (store_end result)) }
+    ensures leaves { Tells (K.state keeper.old) (K.state keeper.new) → (w : World) → Stands (K.state keeper.old).tables w
+        → Leaves w (behind w (org_does name.now secret.now w).1 (store_end result)) (org_does name.now secret.now w).1
+        (K.state keeper.old) (K.state keeper.new) }
+    ensures version { Tells (K.state keeper.old) (K.state keeper.new)
+        → VersionStops (K.state keeper.old).tables (store_end result) }
+    ensures kept { Tells (K.state keeper.old) (K.state keeper.new) → is_done (store_end result) ≡ false
+        → Shows (K.state keeper.new) (K.state keeper.old).tables }
+    ensures refused { Tells (K.state keeper.old) (K.state keeper.new)
+        → IfOk result (λ status. status ≡ 65 → Shows (K.state keeper.new) (K.state keeper.old).tables) }
+    ensures crash { (K.state keeper.old).tells → IsTrue (K.state keeper.old).stands → IsTrue (K.state keeper.new).is_clean
+        → (w : World) → Stands (K.state keeper.old).tables w → (m : Tables) → (K.state keeper.new).may_leave m
+        → (K.state keeper.old).may_leave m ⊎ Stands m (org_does name.now secret.now w).1 }
+    ensures acknowledged { StandsAfter (is_ok result) (K.state keeper.new) }
+    ensures unwritten { is_done (store_end result) ≡ false → sink.new ≡ sink.old }
+    ensures status { IsKnownStatus result }
+    ensures steps { Steps (K.state keeper.old) (K.state keeper.new) }
+    ensures keeper_cause { KeeperCause (K.state keeper.old) (K.state keeper.new) (IsErrOf result store_stop.KeeperFailed) }
+    ensures sink_cause { Cause (W.faults sink.old) (W.faults sink.new) (IsErrOf result store_stop.SinkFailed) }
+    ensures sink_stays { W.stays sink.old sink.new }
+{
+    let page = org_add_page(alloc, keeper, name, secret)?;
+    Ok(write_page(sink, &page)?)
+}

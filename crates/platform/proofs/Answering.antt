@@ -1,5 +1,5 @@
 -- A run that serves connections, from the opening and what was served after it.
-use Rattle.std.proofs.Common.{◌≡◌, inl, inr, ℕ, true, false, IsTrue, List, [], Some, Result, Ok, Err, refl, sym, ap, subst, ◌∙◌, append-nil, ◌<◌, ◌≤◌, ◌∷◌, length, Option, arith}
+use Rattle.std.proofs.Common.{◌≡◌, inr, ℕ, true, false, IsTrue, List, [], Some, Result, Ok, Err, refl, sym, ap, subst, ◌∙◌, append-nil, ◌≤◌, ◌∷◌, length, arith}
 use Rattle.std.specs.Prelude.{◌==◌, IfOk}
 use Rattle.std.specs.List.{list_any}
 use Rattle.ut_keeper.specs.State.{KeeperState}
@@ -24,7 +24,7 @@ use Rattle.platform.specs.Commands.{answers, serves}
 use Rattle.platform.specs.Run.{is_opening, may_change, status_in, statuses_of}
 use Rattle.platform.specs.Seen.{Seen}
 use Rattle.platform.specs.Serving.{IsOpening, OpensOnly, RunsAnswer, RunsServe, ServeEnds, answer_end, serve_end}
-use Rattle.platform.specs.Stops.{IsKnownStatus, VersionStops, of_opening}
+use Rattle.platform.specs.Stops.{VersionStops, of_opening}
 use Rattle.platform.specs.declared.stop.Stop.{Stop}
 use Rattle.platform.specs.declared.stop.Stop.TheVariants as stop
 

@@ -1,8 +1,8 @@
 -- A run in which the keeper fell, from what its command did.
-use Rattle.std.proofs.Common.{◌≡◌, ◌⊎◌, inl, inr, ℕ, true, List, Option, Some, Result, Ok, Err, refl, sym, subst}
+use Rattle.std.proofs.Common.{◌≡◌, ◌⊎◌, ℕ, true, List, Option, Some, Result, Err, refl, sym, subst}
 use Rattle.std.specs.Prelude.{IfSome}
 use Rattle.ut_io.specs.Doors.{DoorState}
-use Rattle.ut_keeper.specs.State.{IsSettled, KeeperState, LeavesNoMore}
+use Rattle.ut_keeper.specs.State.{IsSettled, KeeperState}
 use Rattle.ut_keeper.specs.Tables.{Tables}
 use Rattle.ut_keys.specs.declared.fail.StoreFail.TheVariants as store
 use Rattle.ut_model.specs.World.{World}

@@ -2,7 +2,7 @@
 use Rattle.std.proofs.Common.{◌≡◌, ◌⊎◌, inl, inr, ℕ, true, false, IsTrue, List, [], Option, Some, Result, Ok, Err, refl, sym, ap, subst, ◌∙◌, arith}
 use Rattle.std.specs.Prelude.{IfOk, IfSome, IsErrOf, is_ok, ◌==◌}
 use Rattle.std.specs.List.{list_any}
-use Rattle.ut_value.specs.Causes.{Cause, Rose}
+use Rattle.ut_value.specs.Causes.{Cause}
 use Rattle.ut_keeper.specs.State.{KeeperState, Steps, Tells}
 use Rattle.ut_keeper.specs.Tables.{Tables}
 use Rattle.ut_model.specs.World.{World}

@@ -1,15 +1,15 @@
 -- A keeper that falls while the connections of a door are served.
-use Rattle.std.proofs.Common.{◌≡◌, ◌⊎◌, inl, inr, ℕ, true, false, IsTrue, List, [], ◌∷◌, ◌++◌, Option, Some, None, Result, Ok, Err, refl, sym, ap, subst, ◌∙◌, append_assoc, append-nil}
+use Rattle.std.proofs.Common.{◌≡◌, ◌⊎◌, inl, inr, ℕ, true, false, IsTrue, List, [], ◌∷◌, ◌++◌, Option, Some, None, Ok, Err, refl, sym, ap, subst, ◌∙◌, append_assoc, append-nil}
 use Rattle.ut_io.specs.Doors.{DoorState, Nexts, brought, has_next, input_of, output_of, output_so_far, outputs}
 use Rattle.ut_io.specs.declared.traits.IoFail.{IoFail}
 use Rattle.ut_keeper.specs.State.{KeeperState, Steps}
 use Rattle.ut_keeper.specs.Tables.{Tables}
 use Rattle.ut_model.specs.World.{World}
 use Rattle.ut_stands.specs.Stands.{Stands}
-use Rattle.ut_serving.specs.Connections.{Connection, inputs_of, outputs_of}
-use Rattle.ut_serving.specs.Falls.{Falls, FallsBringing, FallsServing, Fell, OutputsGrow}
+use Rattle.ut_serving.specs.Connections.{inputs_of, outputs_of}
+use Rattle.ut_serving.specs.Falls.{Falls, FallsBringing, Fell, OutputsGrow}
 use Rattle.ut_serving.specs.Present.{PresentKeeps}
-use Rattle.ut_serving.proofs.Brought.{Gone, inputs_more, outputs_more, served_more, on_next, last_output, stayed}
+use Rattle.ut_serving.proofs.Brought.{Gone, inputs_more, outputs_more, served_more, on_next, last_output}
 use Rattle.ut_serving.proofs.Fallen.{either, falls_less}
 
 -- ---- the next one

@@ -1,5 +1,5 @@
 -- A keeper that falls while a connection is served: the request in which it did, and the turns after that.
-use Rattle.std.proofs.Common.{◌≡◌, ◌⊎◌, inl, inr, ℕ, Bool, true, false, ◌||◌, eqb, IsTrue, List, [], ◌∷◌, ◌++◌, map, length, take, Option, Some, None, Result, Ok, Err, refl, sym, ap, subst, ◌∙◌, append_assoc, append-nil}
+use Rattle.std.proofs.Common.{◌≡◌, ◌⊎◌, inl, inr, ℕ, Bool, true, false, ◌||◌, eqb, IsTrue, List, [], ◌++◌, map, take, Option, Some, Result, Ok, Err, refl, sym, ap, subst, ◌∙◌, append_assoc, append-nil}
 use Rattle.std.specs.Io.KnownBytes.{Appends, prepend_known}
 use Rattle.std.specs.Io.KnownBytes as known
 use Rattle.std.proofs.KnownBytes.{Appends-trans}
@@ -21,7 +21,7 @@ use Rattle.ut_serving.specs.declared.wire.LineFail.TheVariants.{Read, Write}
 use Rattle.ut_serving.specs.Answers.{IsFixed, IsMade, bytes_in}
 use Rattle.ut_serving.specs.Connections.{Place, Follows, begins, joined}
 use Rattle.ut_serving.specs.Exchanges.{Exchange, reply_in}
-use Rattle.ut_serving.specs.Falls.{BeginsWith, Falls, FallsAt, FallsIn, FallsOn, Fell, Grows, IsUndone, MayLeave, WroteIn}
+use Rattle.ut_serving.specs.Falls.{Falls, FallsAt, FallsIn, FallsOn, Fell, Grows, IsUndone, MayLeave, WroteIn}
 use Rattle.ut_serving.specs.Requests.{message_in}
 use Rattle.ut_serving.specs.Turning.{IsHere, RefusesWith, Wrote, over_if_written}
 use Rattle.ut_serving.proofs.Goes.{Goes}

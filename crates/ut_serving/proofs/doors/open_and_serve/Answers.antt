@@ -1,5 +1,4 @@
-use Rattle.std.proofs.Common.{subst, sym, refl, arith, []}
-use Rattle.ut_keeper.proofs.Calls.{steps_same}
+use Rattle.std.proofs.Common.{subst, arith, []}
 use Rattle.ut_serving.specs.Doors.{BringsTo, ManyEnds}
 use Rattle.ut_serving.proofs.Brought.{brings_none, kept_door}
 use Rattle.ut_serving.proofs.Fallen.{not_fell}

@@ -3,7 +3,7 @@ use Rattle.std.proofs.lemmas.Result.{err_from_is_err_and}
 use Rattle.ut_io.specs.Doors.{Nexts}
 use Rattle.ut_io.specs.declared.traits.IoFail.{IoFail}
 use Rattle.ut_serving.specs.Doors.{BringsTo, NextEnds}
-use Rattle.ut_serving.specs.Falls.{Falls, FallsBringing, OutputsGrow}
+use Rattle.ut_serving.specs.Falls.{FallsBringing, OutputsGrow}
 use Rattle.ut_serving.proofs.Bringing.{grown_by_failure, grown_by_none, grown_by_one, next_fell}
 use Rattle.ut_serving.proofs.Fallen.{not_fell}
 use Rattle.ut_serving.proofs.Brought.{next_true, next_false, next_failed, rose_by, later_by}

@@ -21,3 +21,13 @@ pub mod Ordered
 pub mod Rows
 pub mod WorkedAccess
 pub mod WorkedQueries
+pub mod Rules
+pub mod Names
+pub mod Verdict
+pub mod Principals
+pub mod People
+pub mod RuleFormulas
+pub mod ValidationRules
+pub mod SharingRules
+pub mod Rights
+pub mod Shares

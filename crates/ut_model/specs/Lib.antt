@@ -31,3 +31,10 @@ pub mod ValidationRules
 pub mod SharingRules
 pub mod Rights
 pub mod Shares
+pub mod Given
+pub mod Edits
+pub mod Keys
+pub mod Creates
+pub mod Updates
+pub mod Upserts
+pub mod Deletes

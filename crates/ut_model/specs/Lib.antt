@@ -38,3 +38,10 @@ pub mod Creates
 pub mod Updates
 pub mod Upserts
 pub mod Deletes
+pub mod Metadata
+pub mod NewFields
+pub mod Retyping
+pub mod Jobs
+pub mod Tests
+pub mod Asking
+pub mod RowsJson

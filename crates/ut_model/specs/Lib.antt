@@ -45,3 +45,5 @@ pub mod Jobs
 pub mod Tests
 pub mod Asking
 pub mod RowsJson
+pub mod Replies
+pub mod Requests

@@ -47,3 +47,8 @@ pub mod Asking
 pub mod RowsJson
 pub mod Replies
 pub mod Requests
+pub mod Members
+pub mod TypeForms
+pub mod Forms
+pub mod PeopleForms
+pub mod RequestOf

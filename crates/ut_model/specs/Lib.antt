@@ -52,3 +52,9 @@ pub mod TypeForms
 pub mod Forms
 pub mod PeopleForms
 pub mod RequestOf
+pub mod WorkedRequests
+pub mod WorkedSharing
+pub mod WorkedRecords
+pub mod WorkedRetypes
+pub mod WorkedLimits
+pub mod WorkedForms

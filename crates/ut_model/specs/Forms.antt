@@ -23,8 +23,8 @@ use Rattle.ut_model.specs.Sound.{is_name}
 use Rattle.ut_model.specs.TypeForms.{type_in, where_so}
 
 -- ---- shares
-abbrev pub share_form : Body → Option Request
-share_form body =
+abbrev pub share_request : Body → Option Request
+share_request body =
     formed (codes "record" ∷ codes "to" ∷ codes "level" ∷ []) [] body >>= λ b.
     text_in b (codes "record") >>= λ item.
     text_in b (codes "to") >>= principal_in >>= λ p.
@@ -62,16 +62,16 @@ all_names b =
     flat_map (λ name. if bytes_eq name (codes "master") then in_case (entry b name >>= object_in) [] member_names else name ∷ []) (member_names b)
 
 -- `master` is there exactly where the access is ControlledByParent
-abbrev pub object_form : Body → Option Request
-object_form body =
+abbrev pub object_request : Body → Option Request
+object_request body =
     formed (codes "name" ∷ codes "access" ∷ []) (codes "master" ∷ []) body >>= λ b.
     text_in b (codes "name") >>= λ name.
     text_in b (codes "access") >>= entry accesses >>= λ a.
     master_of b >>= λ master.
     where_so (beq (by_parent a) (is_some master)) (adds_object (record { members = all_names b; name = name; access = a; master = master }))
 
-abbrev pub access_form : (object : List ℕ) → Body → Option Request
-access_form object body =
+abbrev pub access_request : (object : List ℕ) → Body → Option Request
+access_request object body =
     formed (codes "access" ∷ []) [] body >>= λ b.
     text_in b (codes "access") >>= entry accesses >>= λ a.
     where_so (not (by_parent a)) (sets_object object a)
@@ -87,8 +87,8 @@ abbrev pub flags_suit : SpelledType → (required unique indexed : Bool) → Boo
 flags_suit (plain kind) required unique indexed = (not unique || suits_unique kind) && (not indexed || suits_indexed kind)
 flags_suit (lookup_to object o child) required unique indexed = not (unique || (indexed || (required && is_clear o)))
 
-abbrev pub field_form : Body → Option Request
-field_form body =
+abbrev pub field_request : Body → Option Request
+field_request body =
     formed (codes "object" ∷ codes "name" ∷ codes "type" ∷ []) (codes "required" ∷ codes "unique" ∷ codes "indexed" ∷ []) body >>= λ b.
     text_in b (codes "object") >>= λ object.
     text_in b (codes "name") >>= λ name.
@@ -111,8 +111,8 @@ field_form body =
 -- ---- rules
 
 -- a message has 1 to 80 characters
-abbrev pub validation_form : Body → Option Request
-validation_form body =
+abbrev pub validation_request : Body → Option Request
+validation_request body =
     formed (codes "object" ∷ codes "name" ∷ codes "formula" ∷ codes "message" ∷ []) [] body >>= λ b.
     text_in b (codes "object") >>= λ object.
     text_in b (codes "name") >>= λ name.
@@ -127,8 +127,8 @@ source_in b =
     in_case (entry b (codes "from")) (option_map by_formula (text_in b (codes "formula"))) (λ v.
     if is_none (entry b (codes "formula")) then option_map from (as_text v >>= principal_in) else None)
 
-abbrev pub sharing_form : Body → Option Request
-sharing_form body =
+abbrev pub sharing_rule_request : Body → Option Request
+sharing_rule_request body =
     formed (codes "object" ∷ codes "name" ∷ codes "to" ∷ codes "level" ∷ []) (codes "from" ∷ codes "formula" ∷ []) body >>= λ b.
     text_in b (codes "object") >>= λ object.
     text_in b (codes "name") >>= λ name.

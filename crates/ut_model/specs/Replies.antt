@@ -61,20 +61,20 @@ job_json t j =
 -- ---- replies
 
 -- a reply with this status and this body, in UTF-8
-abbrev pub reply : (status : ℕ) → (characters : List ℕ) → Reply
-reply status characters = record { status = status; body = encode_utf8_all characters }
+abbrev pub json_reply : (status : ℕ) → (characters : List ℕ) → Reply
+json_reply status characters = record { status = status; body = encode_utf8_all characters }
 
 -- REPLY_TOO_LARGE, of rows alone
 abbrev pub unless_too_large : Reply → Reply
 unless_too_large r = if nat_lt 16777216 (length r.body) then refusal_reply ReplyTooLarge else r
 
 abbrev pub done_reply : Asked → Done → Reply
-done_reply a done = reply 204 []
-done_reply a (rows_of q) = unless_too_large (reply 200 (found_json a q))
-done_reply a (made_new id) = reply 201 (object_json (made_members id))
+done_reply a done = json_reply 204 []
+done_reply a (rows_of q) = unless_too_large (json_reply 200 (found_json a q))
+done_reply a (made_new id) = json_reply 201 (object_json (made_members id))
 done_reply a (upserted id created) =
-    reply (if created then 201 else 200) (object_json (made_members id ++ member_json (codes "created") (printed_truth created) ∷ []))
-done_reply a (state_of j) = reply 200 (job_json a.tenant j)
+    json_reply (if created then 201 else 200) (object_json (made_members id ++ member_json (codes "created") (printed_truth created) ∷ []))
+done_reply a (state_of j) = json_reply 200 (job_json a.tenant j)
 
 -- the reply to what a request came to
 abbrev pub reply_of : Asked → Result Done Refusal → Reply

@@ -14,11 +14,11 @@ use Rattle.ut_model.specs.declared.route.Route.{Route}
 use Rattle.ut_model.specs.declared.route.Route.TheVariants as route
 use Rattle.ut_model.specs.declared.routed.Routed.{Routed}
 use Rattle.ut_model.specs.declared.routed.Routed.TheVariants.{To, NotFound, NotAllowed}
-use Rattle.ut_model.specs.Forms.{access_form, field_form, object_form, share_form, sharing_form, validation_form}
+use Rattle.ut_model.specs.Forms.{access_request, field_request, object_request, share_request, sharing_rule_request, validation_request}
 use Rattle.ut_model.specs.Jobs.{job_step}
 use Rattle.ut_model.specs.Members.{Body, assignments, body_in, principal_in}
 use Rattle.ut_model.specs.Paths.{Asked}
-use Rattle.ut_model.specs.PeopleForms.{group_form, members_form, retype_form, role_form, role_parent_form, user_form, user_role_form}
+use Rattle.ut_model.specs.PeopleForms.{group_request, members_request, retype_request, role_request, role_parent_request, user_request, user_role_request}
 use Rattle.ut_model.specs.Replies.{reply_of}
 use Rattle.ut_model.specs.Requests.{Request, asks, creates, updates, deletes, upserts, unshares, removes_sharing_rule, gets_retype, cancels_retype, verdict_on}
 use Rattle.ut_model.specs.Routing.{is_administration, routed}
@@ -55,21 +55,21 @@ request_of query_in (route.Update object key) body = by_body body (λ b. option_
 request_of query_in (route.Delete object key) body = Ok (deletes object key)
 request_of query_in (route.Upsert object key value) body =
     by_body body (λ b. option_map (upserts object key (value_part value)) (assignments b))
-request_of query_in route.Share body = by_body body share_form
+request_of query_in route.Share body = by_body body share_request
 request_of query_in (route.Unshare item part) body = Ok (unshares item part (principal_in part))
-request_of query_in route.AddObject body = by_body body object_form
-request_of query_in (route.SetObject object) body = by_body body (access_form object)
-request_of query_in route.AddField body = by_body body field_form
-request_of query_in route.AddValidationRule body = by_body body validation_form
-request_of query_in route.AddSharingRule body = by_body body sharing_form
+request_of query_in route.AddObject body = by_body body object_request
+request_of query_in (route.SetObject object) body = by_body body (access_request object)
+request_of query_in route.AddField body = by_body body field_request
+request_of query_in route.AddValidationRule body = by_body body validation_request
+request_of query_in route.AddSharingRule body = by_body body sharing_rule_request
 request_of query_in (route.RemoveSharingRule name) body = Ok (removes_sharing_rule name)
-request_of query_in route.AddUser body = by_body body user_form
-request_of query_in (route.SetUser id) body = by_body body (user_role_form id)
-request_of query_in route.AddRole body = by_body body role_form
-request_of query_in (route.SetRole id) body = by_body body (role_parent_form id)
-request_of query_in route.AddGroup body = by_body body group_form
-request_of query_in (route.SetGroup id) body = by_body body (members_form id)
-request_of query_in route.BeginRetype body = by_body body retype_form
+request_of query_in route.AddUser body = by_body body user_request
+request_of query_in (route.SetUser id) body = by_body body (user_role_request id)
+request_of query_in route.AddRole body = by_body body role_request
+request_of query_in (route.SetRole id) body = by_body body (role_parent_request id)
+request_of query_in route.AddGroup body = by_body body group_request
+request_of query_in (route.SetGroup id) body = by_body body (members_request id)
+request_of query_in route.BeginRetype body = by_body body retype_request
 request_of query_in route.GetRetype body = Ok gets_retype
 request_of query_in route.CancelRetype body = Ok cancels_retype
 
@@ -87,8 +87,8 @@ verdict_at query_in a body (To r) =
     if is_administration r && not a.user.admin then refuse a.tenant refusal.AdminRequired else verdict_or a (request_of query_in r body)
 
 -- the reply to a user's message, and the organisation after it: the job's step is made first, whatever the message comes to
-abbrev pub told : ReadsQuery → Asked → Message → Reply × Tenant
-told query_in a m =
+abbrev pub answer_to : ReadsQuery → Asked → Message → Reply × Tenant
+answer_to query_in a m =
     let b = record a { tenant = job_step a.tenant } in
     let v = verdict_at query_in b m.body (routed m.method m.target) in
     (reply_of b v.answer, v.tenant)

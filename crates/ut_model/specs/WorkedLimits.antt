@@ -8,20 +8,20 @@ use Rattle.ut_model.specs.Requests.{Request, adds_group, sets_group}
 use Rattle.ut_model.specs.Tenant.{Tenant}
 use Rattle.ut_model.specs.World.{group_prefix}
 use Rattle.ut_model.specs.WorkedRecords.{detail_of}
-use Rattle.ut_model.specs.WorkedRequests.{Call, add_deals, after, by_admin, deal_made, deal_object, start}
-use Rattle.ut_model.specs.WorkedSharing.{spelled}
+use Rattle.ut_model.specs.WorkedRequests.{Call, add_deals, after_calls, by_admin, deal_made, deal_object, start}
+use Rattle.ut_model.specs.WorkedSharing.{principal_text}
 
 -- a group (1), and so many members, which are all one user
 abbrev pub group_made : List Call
 group_made = by_admin (adds_group (codes "G")) ∷ []
 
 abbrev pub members_to : ℕ → Call
-members_to n = by_admin (sets_group (codes "00G000000000001") (map (λ k. spelled to.User (codes "005000000000000")) (range_with_len 1 n)))
+members_to n = by_admin (sets_group (codes "00G000000000001") (map (λ k. principal_text to.User (codes "005000000000000")) (range_with_len 1 n)))
 
 -- deal 8, which is shared with so many groups
 abbrev pub shared_with : ℕ → Tenant
 shared_with n =
-    record (after start deal_made) {
+    record (after_calls start deal_made) {
       shares = map (λ k. record { item = codes "a00000000000008"; to = to.Group (made group_prefix k); level = Read }) (range_with_len 100 n);
     }
 

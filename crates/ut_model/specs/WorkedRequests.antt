@@ -47,8 +47,8 @@ pub record Call : Type 0 where
   pub request : Request
 
 -- the user with this number, who asks once the organisation has made its step
-abbrev pub asked_of : Tenant → ℕ → Option Asked
-asked_of t n =
+abbrev pub user_asks : Tenant → ℕ → Option Asked
+user_asks t n =
     option_map (λ u. record { tenant = job_step t; user = u; now = moment; reads = reads_formula }) (user_at t.users (made user_prefix n))
 
 -- the reply, and the organisation afterwards
@@ -56,15 +56,15 @@ abbrev pub replied : Asked → Request → Reply × Tenant
 replied a request = let v = verdict_on a request in (reply_of a v.answer, v.tenant)
 
 abbrev pub called : Tenant → Call → Reply × Tenant
-called t c = in_case (asked_of t c.user) (refusal_reply InvalidSession, t) (λ a. replied a c.request)
+called t c = in_case (user_asks t c.user) (refusal_reply InvalidSession, t) (λ a. replied a c.request)
 
-abbrev pub after : Tenant → List Call → Tenant
-after t [] = t
-after t (c ∷ cs) = after (called t c).1 cs
+abbrev pub after_calls : Tenant → List Call → Tenant
+after_calls t [] = t
+after_calls t (c ∷ cs) = after_calls (called t c).1 cs
 
 -- the status and the body of the reply to the last call, after the others
 abbrev pub said : Tenant → List Call → Call → ℕ × List ℕ
-said t cs c = let r = (called (after t cs) c).0 in (r.status, r.body)
+said t cs c = let r = (called (after_calls t cs) c).0 in (r.status, r.body)
 
 -- ---- short words
 

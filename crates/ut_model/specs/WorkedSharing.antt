@@ -21,15 +21,15 @@ use Rattle.ut_model.specs.WorkedRequests.{Call, add_deals, by, by_admin, deal_ma
 
 -- ---- Ron shares deal 8 with Otto for editing, and then gives it to Cea
 
-abbrev pub spelled : (List ℕ → Principal) → List ℕ → Spelled
-spelled kind text = record { kind = kind; text = text }
+abbrev pub principal_text : (List ℕ → Principal) → List ℕ → Spelled
+principal_text kind text = record { kind = kind; text = text }
 
 abbrev pub share_with_otto : Request
 share_with_otto =
     shares (record {
       members = codes "record" ∷ codes "to" ∷ codes "level" ∷ [];
       item = codes "a00000000000008";
-      to = spelled to.User (codes "005000000000007AAA");
+      to = principal_text to.User (codes "005000000000007AAA");
       level = Edit;
     })
 
@@ -54,7 +54,7 @@ share_open_deals =
       object = deal_object;
       name = codes "Open_deals";
       source = by_formula is_open;
-      to = spelled to.Group (codes "00G000000000009");
+      to = principal_text to.Group (codes "00G000000000009");
       level = Read;
     })
 
@@ -67,8 +67,8 @@ open_made =
     ∷ by_admin (field_with deal_object stage (plain (type.Picklist (codes "Open" ∷ codes "Shut" ∷ []))) false)
     ∷ by_admin (adds_group (codes "G1"))
     ∷ by_admin (adds_group (codes "G2"))
-    ∷ by_admin (sets_group (codes "00G000000000008") (spelled to.User (codes "005000000000007") ∷ spelled to.Group (codes "00G000000000009") ∷ []))
-    ∷ by_admin (sets_group (codes "00G000000000009") (spelled to.Group (codes "00G000000000008") ∷ []))
+    ∷ by_admin (sets_group (codes "00G000000000008") (principal_text to.User (codes "005000000000007") ∷ principal_text to.Group (codes "00G000000000009") ∷ []))
+    ∷ by_admin (sets_group (codes "00G000000000009") (principal_text to.Group (codes "00G000000000008") ∷ []))
     ∷ by_admin share_open_deals
     ∷ by 5 (creates deal_object (text_to stage (codes "Open") ∷ []))
     ∷ []

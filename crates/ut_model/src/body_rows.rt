@@ -7,11 +7,11 @@ ghost use Rattle.ut_value.specs.declared.sharing.Access.TheVariants as access;
 ghost use Rattle.ut_value.specs.declared.sharing.Level.TheVariants.{Read};
 ghost use Rattle.ut_value.specs.declared.sharing.Principal.TheVariants as to;
 ghost use Rattle.ut_value.specs.declared.value.FieldType.TheVariants as type;
-ghost use Rattle.ut_model.specs.Forms.{object_form, share_form, sharing_form, validation_form};
+ghost use Rattle.ut_model.specs.Forms.{object_request, share_request, sharing_rule_request, validation_request};
 ghost use Rattle.ut_model.specs.Given.{in_json};
 ghost use Rattle.ut_model.specs.Members.{assignments, body_in, principal_in};
 ghost use Rattle.ut_model.specs.NewFields.{plain};
-ghost use Rattle.ut_model.specs.PeopleForms.{group_form, role_form, user_form};
+ghost use Rattle.ut_model.specs.PeopleForms.{group_request, role_request, user_request};
 ghost use Rattle.ut_model.specs.RequestOf.{value_part};
 ghost use Rattle.ut_model.specs.Requests.{adds_group, adds_object, adds_role, adds_sharing_rule, adds_user, shares};
 ghost use Rattle.ut_model.specs.SharingRules.{by_formula};
@@ -20,21 +20,21 @@ ghost use Rattle.ut_model.specs.WorkedForms.{rule_body, share_body, share_read, 
 
 /// Bodies with listed members. The call does nothing.
 pub fn form_rows()
-    ensures share { share_form (share_body (codes "Edit") []) ≡ Some (shares share_read) }
-    ensures level { share_form (share_body (codes "Full") []) ≡ None }
-    ensures twice { share_form (share_body (codes "Edit") (text_member (codes "to") (codes "user:x") ∷ [])) ≡ None }
-    ensures unknown { share_form (share_body (codes "Edit") (text_member (codes "More") (codes "x") ∷ [])) ≡ None }
-    ensures lacking { share_form (text_member (codes "to") (codes "user:x") ∷ text_member (codes "level") (codes "Edit") ∷ []) ≡ None }
-    ensures object { object_form (text_member (codes "access") (codes "Private") ∷ text_member (codes "name") (codes "A__c") ∷ [])
+    ensures share { share_request (share_body (codes "Edit") []) ≡ Some (shares share_read) }
+    ensures level { share_request (share_body (codes "Full") []) ≡ None }
+    ensures twice { share_request (share_body (codes "Edit") (text_member (codes "to") (codes "user:x") ∷ [])) ≡ None }
+    ensures unknown { share_request (share_body (codes "Edit") (text_member (codes "More") (codes "x") ∷ [])) ≡ None }
+    ensures lacking { share_request (text_member (codes "to") (codes "user:x") ∷ text_member (codes "level") (codes "Edit") ∷ []) ≡ None }
+    ensures object { object_request (text_member (codes "access") (codes "Private") ∷ text_member (codes "name") (codes "A__c") ∷ [])
         ≡ Some (adds_object (record { members = codes "access" ∷ codes "name" ∷ []; name = codes "A__c"; access = access.Private; master = None })) }
-    ensures no_master { object_form (text_member (codes "access") (codes "ControlledByParent") ∷ text_member (codes "name") (codes "A__c") ∷ []) ≡ None }
-    ensures user { user_form (user_body (codes "abcdefghijklmnop"))
+    ensures no_master { object_request (text_member (codes "access") (codes "ControlledByParent") ∷ text_member (codes "name") (codes "A__c") ∷ []) ≡ None }
+    ensures user { user_request (user_body (codes "abcdefghijklmnop"))
         ≡ Some (adds_user (record { name = codes "Ron"; secret = codes "abcdefghijklmnop"; role = None; admin = false })) }
-    ensures short_secret { user_form (user_body (codes "abc")) ≡ None }
-    ensures role { role_form (text_member (codes "name") (codes "R") ∷ text_member (codes "parent") (codes "x") ∷ []) ≡ Some (adds_role (codes "R") (Some (codes "x"))) }
-    ensures group { group_form (text_member (codes "name") [] ∷ []) ≡ Some (adds_group []) }
-    ensures no_message { validation_form (validation_body []) ≡ None }
-    ensures formula { sharing_form (rule_body (text_member (codes "formula") (codes "TRUE") ∷ []))
+    ensures short_secret { user_request (user_body (codes "abc")) ≡ None }
+    ensures role { role_request (text_member (codes "name") (codes "R") ∷ text_member (codes "parent") (codes "x") ∷ []) ≡ Some (adds_role (codes "R") (Some (codes "x"))) }
+    ensures group { group_request (text_member (codes "name") [] ∷ []) ≡ Some (adds_group []) }
+    ensures no_message { validation_request (validation_body []) ≡ None }
+    ensures formula { sharing_rule_request (rule_body (text_member (codes "formula") (codes "TRUE") ∷ []))
         ≡ Some (adds_sharing_rule (record {
           members = codes "object" ∷ codes "name" ∷ codes "to" ∷ codes "level" ∷ codes "formula" ∷ [];
           object = codes "A__c";
@@ -43,8 +43,8 @@ pub fn form_rows()
           to = record { kind = to.Role; text = codes "r" };
           level = Read;
         })) }
-    ensures two_sources { sharing_form (rule_body (text_member (codes "formula") (codes "TRUE") ∷ text_member (codes "from") (codes "role:r") ∷ [])) ≡ None }
-    ensures no_source { sharing_form (rule_body []) ≡ None }
+    ensures two_sources { sharing_rule_request (rule_body (text_member (codes "formula") (codes "TRUE") ∷ text_member (codes "from") (codes "role:r") ∷ [])) ≡ None }
+    ensures no_source { sharing_rule_request (rule_body []) ≡ None }
 {}
 
 /// Principals, types, values of fields, and the key in a path. The call does nothing.

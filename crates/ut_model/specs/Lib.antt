@@ -58,3 +58,4 @@ pub mod WorkedRecords
 pub mod WorkedRetypes
 pub mod WorkedLimits
 pub mod WorkedForms
+pub mod WorkedRefusals

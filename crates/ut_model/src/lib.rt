@@ -22,6 +22,7 @@ mod query_rows;
 mod record;
 mod record_rows;
 mod refusal;
+mod refusal_rows;
 mod reply;
 mod request_rows;
 mod route;
@@ -41,6 +42,10 @@ pub use crate::query_rows::{condition_rows, path_rows, sorted_rows};
 pub use crate::record::Record;
 pub use crate::record_rows::{delete_rows, number_rows, upsert_rows, validation_rows};
 pub use crate::refusal::Refusal;
+pub use crate::refusal_rows::{
+    detail_refusal_rows, edit_refusal_rows, people_refusal_rows, query_refusal_rows,
+    retype_refusal_rows,
+};
 pub use crate::reply::Reply;
 pub use crate::request_rows::{
     criteria_request_rows, object_request_rows, path_request_rows, people_request_rows,

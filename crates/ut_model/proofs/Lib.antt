@@ -9,3 +9,4 @@ mod Before
 mod Computing
 mod Within
 mod Requesting
+mod Alone

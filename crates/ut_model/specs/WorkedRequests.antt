@@ -1,5 +1,5 @@
 -- A fresh organisation that is asked one request after another, for rows worked by hand. A reader of the rules may pass it over.
-use Rattle.std.specs.Prelude.{ℕ, Bool, true, false, List, [], ◌∷◌, ◌++◌, codes, Option, Some, None, Ok, Err, pos}
+use Rattle.std.specs.Prelude.{ℕ, Bool, false, List, [], ◌∷◌, ◌++◌, codes, Option, Some, None, Ok, Err, pos}
 use Rattle.std.specs.Fmt.{decimal}
 use Rattle.std.specs.Option.{option_map}
 use Rattle.ut_json.specs.declared.tree.Json.TheVariants as json

@@ -8,3 +8,5 @@ mod Sorted
 mod Before
 mod Computing
 mod Within
+mod Requesting
+mod Alone

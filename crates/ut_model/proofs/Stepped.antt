@@ -8,7 +8,7 @@ use Rattle.ut_model.specs.declared.caller.Caller.{Caller}
 use Rattle.ut_model.specs.declared.refusal.Refusal.TheVariants as refusal
 use Rattle.ut_model.specs.declared.reply.Reply.{Reply}
 use Rattle.ut_model.specs.Callers.{Named, admitted, caller_in, caller_of, named}
-use Rattle.ut_model.specs.Step.{Message, answered, caller_by, if_called, in_named, in_org, in_tenant, named_in, org_named, own, refusal_reply, step}
+use Rattle.ut_model.specs.Step.{Answering, Message, caller_by, if_called, in_named, in_org, in_tenant, named_in, org_named, own, refusal_reply, step_by}
 use Rattle.ut_model.specs.Tenant.{Tenant, User}
 use Rattle.ut_model.specs.World.{World, tenant_at, user_at, with_tenant}
 
@@ -76,38 +76,36 @@ by_bearer : (w : World) (b : Option (List ℕ)) → option_and_then (λ key. cal
 by_bearer w None = refl
 by_bearer w (Some key) = refl
 
-module _ (w : World) (m : Message) (now : ℕ) where
+module _ (answers : Answering) (w : World) (m : Message) (now : ℕ) where
   called_in : (n : Named) (c : Caller) (o : Option Tenant) → option_and_then (caller_of n) o ≡ Some c
-      → in_tenant w n.org (own n m now) o ≡ in_tenant w n.org (answered c m now) o
+      → in_tenant w n.org (own answers n m now) o ≡ in_tenant w n.org (answers c m now) o
   called_in n c None e = absurd cc
-  called_in n c (Some t) e = ap (λ (x : Option Caller). ((if_called m now x t).0, with_tenant w n.org (if_called m now x t).1)) e
+  called_in n c (Some t) e = ap (λ (x : Option Caller). ((if_called answers m now x t).0, with_tenant w n.org (if_called answers m now x t).1)) e
 
   caller_org : (n : Named) (c : Caller) (o : Option Tenant) → option_and_then (caller_of n) o ≡ Some c → c.org ≡ n.org
   caller_org n c None e = absurd cc
   caller_org n c (Some t) e = org_of_caller n t c e
 
-  called_by : (o : Option Named) (c : Caller) → found_by w o ≡ Some c → in_named w m now o ≡ in_org w c.org (answered c m now)
+  called_by : (o : Option Named) (c : Caller) → found_by w o ≡ Some c → in_named answers w m now o ≡ in_org w c.org (answers c m now)
   called_by None c e = absurd cc
   called_by (Some n) c e =
       called_in n c (tenant_at w n.org) e
-      ∙ ap (λ k. in_org w k (answered c m now)) (sym (caller_org n c (tenant_at w n.org) e))
+      ∙ ap (λ k. in_org w k (answers c m now)) (sym (caller_org n c (tenant_at w n.org) e))
 
-  pub called : (c : Caller) → caller_by w m ≡ Some c → step w m now ≡ in_org w c.org (answered c m now)
-  unfolding step
+  pub called : (c : Caller) → caller_by w m ≡ Some c → step_by answers w m now ≡ in_org w c.org (answers c m now)
   called c e = called_by (named_in m) c (sym (by_bearer w m.bearer) ∙ e)
 
-  uncalled_in : (n : Named) (o : Option Tenant) → tenant_at w n.org ≡ o → option_and_then (caller_of n) o ≡ None → in_tenant w n.org (own n m now) o ≡ (no_session, w)
+  uncalled_in : (n : Named) (o : Option Tenant) → tenant_at w n.org ≡ o → option_and_then (caller_of n) o ≡ None → in_tenant w n.org (own answers n m now) o ≡ (no_session, w)
   uncalled_in n None at e = refl
   uncalled_in n (Some t) at e =
-      ap (λ (x : Option Caller). ((if_called m now x t).0, with_tenant w n.org (if_called m now x t).1)) e
+      ap (λ (x : Option Caller). ((if_called answers m now x t).0, with_tenant w n.org (if_called answers m now x t).1)) e
       ∙ ap (λ (v : World). (no_session, v)) (same_put w n.org t at)
 
-  uncalled_by : (o : Option Named) → found_by w o ≡ None → in_named w m now o ≡ (no_session, w)
+  uncalled_by : (o : Option Named) → found_by w o ≡ None → in_named answers w m now o ≡ (no_session, w)
   uncalled_by None e = refl
   uncalled_by (Some n) e = uncalled_in n (tenant_at w n.org) refl e
 
-  pub uncalled : caller_by w m ≡ None → step w m now ≡ (refusal_reply refusal.InvalidSession, w)
-  unfolding step
+  pub uncalled : caller_by w m ≡ None → step_by answers w m now ≡ (refusal_reply refusal.InvalidSession, w)
   uncalled e = uncalled_by (named_in m) (sym (by_bearer w m.bearer) ∙ e)
 
 -- ---- what leaves an organisation as it is
@@ -132,7 +130,7 @@ module _ (w : World) (m : Message) where
 
 -- ---- one organisation and the others
 
-module _ (m : Message) (now org : ℕ) where
+module _ (answers : Answering) (m : Message) (now org : ℕ) where
   own_in : (w v : World) (does : Tenant → Reply × Tenant) (o : Option Tenant) → tenant_at w org ≡ o → tenant_at v org ≡ o
       → ((in_tenant w org does o).0 ≡ (in_tenant v org does o).0) × (tenant_at (in_tenant w org does o).1 org ≡ tenant_at (in_tenant v org does o).1 org)
   own_in w v does None e f = (refl, e ∙ sym f)
@@ -145,11 +143,11 @@ module _ (m : Message) (now org : ℕ) where
       (own_in w v does (tenant_at w org) refl (sym e))
 
   own_named : (w v : World) (o : Option Named) → option_map (λ n. n.org) o ≡ Some org → tenant_at w org ≡ tenant_at v org
-      → ((in_named w m now o).0 ≡ (in_named v m now o).0) × (tenant_at (in_named w m now o).1 org ≡ tenant_at (in_named v m now o).1 org)
+      → ((in_named answers w m now o).0 ≡ (in_named answers v m now o).0) × (tenant_at (in_named answers w m now o).1 org ≡ tenant_at (in_named answers v m now o).1 org)
   own_named w v None e same = absurd cc
   own_named w v (Some n) e same =
-      subst (λ k. ((in_org w k (own n m now)).0 ≡ (in_org v k (own n m now)).0) × (tenant_at (in_org w k (own n m now)).1 org ≡ tenant_at (in_org v k (own n m now)).1 org))
-      (sym (some_eq n.org org e)) (same_org w v (own n m now) same)
+      subst (λ k. ((in_org w k (own answers n m now)).0 ≡ (in_org v k (own answers n m now)).0) × (tenant_at (in_org w k (own answers n m now)).1 org ≡ tenant_at (in_org v k (own answers n m now)).1 org))
+      (sym (some_eq n.org org e)) (same_org w v (own answers n m now) same)
     where
       some_eq : (a b : ℕ) → ◌≡◌ {A = Option ℕ} (Some a) (Some b) → a ≡ b
       some_eq a b e = ap (λ (o : Option ℕ). from a o) e
@@ -159,18 +157,16 @@ module _ (m : Message) (now org : ℕ) where
           from d (Some x) = x
 
   pub own_alone : (w v : World) → org_named m ≡ Some org → tenant_at w org ≡ tenant_at v org
-      → ((step w m now).0 ≡ (step v m now).0) × (tenant_at (step w m now).1 org ≡ tenant_at (step v m now).1 org)
-  unfolding step
+      → ((step_by answers w m now).0 ≡ (step_by answers v m now).0) × (tenant_at (step_by answers w m now).1 org ≡ tenant_at (step_by answers v m now).1 org)
   own_alone w v e same = own_named w v (named_in m) e same
 
   other_in : (w : World) (k : ℕ) (does : Tenant → Reply × Tenant) (o : Option Tenant) → (k ≡ org → ⊥) → tenant_at (in_tenant w k does o).1 org ≡ tenant_at w org
   other_in w k does None apart = refl
   other_in w k does (Some t) apart = put_other w k org (does t).1 apart
 
-  other_named : (w : World) (o : Option Named) → (option_map (λ n. n.org) o ≡ Some org → ⊥) → tenant_at (in_named w m now o).1 org ≡ tenant_at w org
+  other_named : (w : World) (o : Option Named) → (option_map (λ n. n.org) o ≡ Some org → ⊥) → tenant_at (in_named answers w m now o).1 org ≡ tenant_at w org
   other_named w None apart = refl
-  other_named w (Some n) apart = other_in w n.org (own n m now) (tenant_at w n.org) (λ e. apart (ap Some e))
+  other_named w (Some n) apart = other_in w n.org (own answers n m now) (tenant_at w n.org) (λ e. apart (ap Some e))
 
-  pub other_stays : (w : World) → (org_named m ≡ Some org → ⊥) → tenant_at (step w m now).1 org ≡ tenant_at w org
-  unfolding step
+  pub other_stays : (w : World) → (org_named m ≡ Some org → ⊥) → tenant_at (step_by answers w m now).1 org ≡ tenant_at w org
   other_stays w apart = other_named w (named_in m) apart

@@ -77,17 +77,24 @@ pub record Column : Type 0 where
 abbrev pub column : List ℕ → Kind → Where → Column
 column name kind at = record { name = name; kind = kind; at = at }
 
+-- `Name`: a text of at most 80 characters
+abbrev pub name_column : Column
+name_column = column (codes "Name") (typed (type.Text 80)) (its_value 0)
+
 -- `OwnerId`, which a detail doesn't have
+abbrev pub owner_column : Column
+owner_column = column (codes "OwnerId") ids its_owner
+
 abbrev pub owner_columns : Object → List Column
-owner_columns o = if is_detail o then [] else column (codes "OwnerId") ids its_owner ∷ []
+owner_columns o = if is_detail o then [] else owner_column ∷ []
 
 -- the custom fields, in their order
 abbrev pub custom_columns : Object → List Column
 custom_columns o = map (λ (f : ℕ × Field). column f.1.name (typed f.1.kind) (its_value f.0)) (enumerate_from 1 o.fields)
 
--- the fields that an edit may give: a name is a text of at most 80 characters
+-- the fields that an edit may give
 abbrev pub writable_columns : Object → List Column
-writable_columns o = column (codes "Name") (typed (type.Text 80)) (its_value 0) ∷ owner_columns o ++ custom_columns o
+writable_columns o = name_column ∷ owner_columns o ++ custom_columns o
 
 -- all fields
 abbrev pub columns : Object → List Column

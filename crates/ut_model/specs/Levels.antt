@@ -1,7 +1,7 @@
 -- What a user may do with a record.
 -- Source: Salesforce, "Record-Level Security" and "A Guide to Sharing Architecture": defaults of the organisation, the role
 -- hierarchy, sharing rules, manual shares, and a detail's access by its master.
-use Rattle.std.specs.Prelude.{ℕ, zero, suc, Bool, true, false, ◌&&◌, ◌||◌, ◌==◌, nat_le, if◌then◌else◌, List, [], ◌∷◌, ◌++◌, map, filter, bytes_eq, Option, None}
+use Rattle.std.specs.Prelude.{ℕ, zero, suc, Bool, true, false, ◌&&◌, ◌||◌, ◌==◌, nat_le, if◌then◌else◌, List, [], ◌∷◌, ◌++◌, map, filter, bytes_eq, Option, None, Result, Ok, Err}
 use Rattle.ut_value.specs.declared.job.RuleState.{RuleState}
 use Rattle.ut_value.specs.declared.job.RuleState.TheVariants as state
 use Rattle.ut_value.specs.declared.sharing.Access.{Access}
@@ -9,6 +9,7 @@ use Rattle.ut_value.specs.declared.sharing.Access.TheVariants as access
 use Rattle.ut_value.specs.declared.sharing.Level.{Level}
 use Rattle.ut_value.specs.declared.sharing.Level.TheVariants.{Nothing, Read, Edit, Full}
 use Rattle.ut_value.specs.declared.sharing.Principal.{Principal}
+use Rattle.ut_value.specs.declared.value.Value.{Value}
 use Rattle.ut_formula.specs.declared.formula.Formula.{Formula}
 use Rattle.ut_formula.specs.Meaning.{holds}
 use Rattle.ut_model.specs.declared.limit.Limit.TheVariants as limit
@@ -40,13 +41,19 @@ greatest (l ∷ ls) = if at_least l (greatest ls) then greatest ls else l
 
 -- ---- grants
 
--- how a criteria rule's text is read: the formula that it spells over the fields of an object, if it spells one
+-- how the text of a criteria rule or of a validation rule is read: the formula that it spells over the fields of an object, or
+-- the byte at which the token begins that can't be there
 abbrev pub Reads : Type 0
-Reads = Object → List ℕ → Option Formula
+Reads = Object → (criteria : Bool) → List ℕ → Result Formula ℕ
 
--- a text's formula holds on a record of the object
+-- the formula that was read holds on these values of a record, which had the old ones before; what spells none doesn't hold
+abbrev pub read_holds : Result Formula ℕ → List Value → Option (List Value) → Bool
+read_holds (Ok formula) new old = holds formula new old
+read_holds (Err place) new old = false
+
+-- a criteria rule's text holds on a record of the object
 abbrev pub meets_text : Reads → List ℕ → Record → Object → Bool
-meets_text reads text r o = in_case (reads o text) false (λ f. holds f r.values None)
+meets_text reads text r o = read_holds (reads o true text) r.values None
 
 -- a source covers a record: its owner is a member, or the formula holds on it
 abbrev pub covered_by : Reads → Tenant → Record → Source → Bool

@@ -1,7 +1,7 @@
 -- The objects and records of a tenant, and how they are found.
 -- Sources: Salesforce, "SOQL and SOSL Reference", of names, in which case is ignored; "ID Field Type", that an id's first
 -- three characters tell its object. How they tell it is this product's own.
-use Rattle.std.specs.Prelude.{ℕ, Bool, ◌==◌, List, ◌++◌, map, take, drop, filter, codes, Option, slice_get}
+use Rattle.std.specs.Prelude.{ℕ, zero, suc, Bool, ◌==◌, List, [], ◌∷◌, ◌++◌, map, take, drop, filter, codes, Option, slice_get}
 use Rattle.std.specs.List.{enumerate_from, find}
 use Rattle.std.specs.Option.{option_and_then}
 use Rattle.ut_value.specs.Digits.{digits}
@@ -29,6 +29,16 @@ object_at t n = slice_get t.objects n
 -- the object with this name
 unfoldable pub object_named : Tenant → List ℕ → Option Numbered
 object_named t name = find (λ o. same_name o.object.name name) (numbered t.objects)
+
+-- the one with this number, changed
+abbrev pub change_at : {X : Type 0} → ℕ → (X → X) → List X → List X
+change_at n change [] = []
+change_at zero change (x ∷ xs) = change x ∷ xs
+change_at (suc n) change (x ∷ xs) = x ∷ change_at n change xs
+
+-- the tenant with one object changed
+abbrev pub with_object_changed : ℕ → (Object → Object) → Tenant → Tenant
+with_object_changed n change t = record t { objects = change_at n change t.objects }
 
 -- ---- records
 

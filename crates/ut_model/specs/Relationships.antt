@@ -2,7 +2,7 @@
 -- to its children.
 -- Source: Salesforce, "Object Relationships Overview", and "SOQL and SOSL Reference", "Understanding Relationship Names":
 -- a field `X__c` gives the parent relationship `X__r`, and names the child relationship.
-use Rattle.std.specs.Prelude.{ℕ, ◌-◌, Bool, false, ◌&&◌, ◌==◌, List, [], ◌∷◌, ◌++◌, length, take, bytes_eq, codes, Option, Some, None}
+use Rattle.std.specs.Prelude.{ℕ, ◌-◌, Bool, false, ◌&&◌, ◌==◌, List, [], ◌∷◌, ◌++◌, length, map, filter, filter_map, take, bytes_eq, codes, Option, Some, None}
 use Rattle.std.specs.List.{enumerate_from, find, flat_map}
 use Rattle.std.specs.Option.{option_and_then}
 use Rattle.ut_value.specs.declared.value.FieldType.{FieldType}
@@ -59,8 +59,17 @@ unfoldable pub child_named : Tenant → ℕ → List ℕ → Option Reference
 child_named t n name = find (λ f. (f.target == n) && in_case f.field.child false (same_name name)) (references t.objects)
 
 -- the reference of an object's records to their masters
+abbrev pub master_in : List Object → ℕ → Option Reference
+master_in os n = find (λ f. (f.object == n) && is_master f.field.kind) (references os)
+
 abbrev pub master_reference : Tenant → ℕ → Option Reference
-master_reference t n = find (λ f. (f.object == n) && is_master f.field.kind) (references t.objects)
+master_reference t n = master_in t.objects n
+
+-- the names of all relationships of an object: to parents, and to children
+abbrev pub relationship_names : List Object → ℕ → List (List ℕ)
+relationship_names os n =
+    map (λ f. parent_name f.field.name) (filter (λ f. f.object == n) (references os))
+    ++ filter_map (λ f. f.field.child) (filter (λ f. f.target == n) (references os))
 
 -- ---- records that are named
 

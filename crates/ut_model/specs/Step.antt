@@ -85,14 +85,18 @@ org_named m = option_map (λ n. n.org) (named_in m)
 abbrev pub caller_by : World → Message → Option Caller
 caller_by w m = option_and_then (λ key. caller_in w (encode_utf8_all key)) m.bearer
 
+-- what answers a caller's message at this moment, with what becomes of the organisation
+abbrev pub Answering : Type 0
+Answering = Caller → Message → (now : ℕ) → Tenant → Reply × Tenant
+
 -- a message of no caller is refused
-abbrev pub if_called : Message → ℕ → Option Caller → Tenant → Reply × Tenant
-if_called m now None t = refused refusal.InvalidSession t
-if_called m now (Some c) t = answered c m now t
+abbrev pub if_called : Answering → Message → ℕ → Option Caller → Tenant → Reply × Tenant
+if_called answers m now None t = refused refusal.InvalidSession t
+if_called answers m now (Some c) t = answers c m now t
 
 -- what a message with this key is answered in an organisation
-abbrev pub own : Named → Message → ℕ → Tenant → Reply × Tenant
-own n m now t = if_called m now (caller_of n t) t
+abbrev pub own : Answering → Named → Message → ℕ → Tenant → Reply × Tenant
+own answers n m now t = if_called answers m now (caller_of n t) t
 
 -- ---- the world
 
@@ -106,10 +110,14 @@ abbrev pub in_org : World → ℕ → (Tenant → Reply × Tenant) → Reply × 
 in_org w org does = in_tenant w org does (tenant_at w org)
 
 -- the same in the organisation that is named, if one is
-abbrev pub in_named : World → Message → ℕ → Option Named → Reply × World
-in_named w m now None = (refusal_reply refusal.InvalidSession, w)
-in_named w m now (Some n) = in_org w n.org (own n m now)
+abbrev pub in_named : Answering → World → Message → ℕ → Option Named → Reply × World
+in_named answers w m now None = (refusal_reply refusal.InvalidSession, w)
+in_named answers w m now (Some n) = in_org w n.org (own answers n m now)
+
+-- a step of the world by what answers a caller's message
+abbrev pub step_by : Answering → World → Message → ℕ → Reply × World
+step_by answers w m now = in_named answers w m now (named_in m)
 
 -- what a message is answered at this moment, and the world after it
 unfoldable pub step : World → Message → ℕ → Reply × World
-step w m now = in_named w m now (named_in m)
+step = step_by answered

@@ -1,5 +1,5 @@
 -- A small organisation for rows worked by hand: who may do what with its deals. A reader of the rules may pass it over.
-use Rattle.std.specs.Prelude.{ℕ, Bool, true, false, if◌then◌else◌, List, [], ◌∷◌, codes, bytes_eq, Option, Some, None, pos}
+use Rattle.std.specs.Prelude.{ℕ, Bool, true, false, if◌then◌else◌, List, [], ◌∷◌, codes, bytes_eq, Option, Some, None, Ok, Err, pos}
 use Rattle.ut_value.specs.Id.{made}
 use Rattle.ut_value.specs.declared.job.RuleState.{RuleState}
 use Rattle.ut_value.specs.declared.sharing.Access.{Access}
@@ -107,7 +107,6 @@ line = item (id_of 1 11) None (value.Null ∷ value.Ref d1.id ∷ [])
 abbrev pub part : Record
 part = item (id_of 2 12) None (value.Null ∷ value.Ref line.id ∷ [])
 
--- ---- the organisation
 abbrev pub tenant : List Object → List SharingRule → List Record → List Share → Tenant
 tenant objects rules records shares =
     record {
@@ -145,13 +144,14 @@ abbrev pub is_open : List ℕ
 is_open = codes "Stage__c = \"Open\""
 
 abbrev pub reads : Reads
-reads o text = if bytes_eq text is_open then Some (formula.Compare (term.Field 1) relation.Equal (term.Text (codes "Open"))) else None
+reads o criteria text =
+    if bytes_eq text is_open then Ok (formula.Compare (term.Field 1) relation.Equal (term.Text (codes "Open"))) else Err 0
 
 -- open deals are shared with the second group, where Ron has a deal in this stage
 abbrev pub staged : List ℕ → RuleState → List ℕ → Tenant
 staged text state stage = ruled (meets text) (to.Group g2) state (deal 10 ron stage ∷ [])
 
--- Ron's deal is Cea's now, or still Ron's, with these shares
+-- Cea's deal now, or still Ron's, with these shares
 abbrev pub shared : User → List Share → Tenant
 shared owner shares = tenant (deals access.Private) [] (deal 8 owner (codes "Shut") ∷ line ∷ part ∷ []) shares
 

@@ -9,8 +9,9 @@ ghost use Rattle.ut_model.specs.declared.route.Route.TheVariants as route;
 ghost use Rattle.ut_model.specs.declared.routed.Routed.TheVariants.{To, NotFound, NotAllowed};
 ghost use Rattle.ut_model.specs.Organisations.{with_org};
 ghost use Rattle.ut_model.specs.Routing.{routed};
-ghost use Rattle.ut_model.specs.Step.{Message, answered, caller_by, in_org, org_named, query_text, refusal_reply, step};
+ghost use Rattle.ut_model.specs.Step.{Answering, Message, answered, caller_by, in_org, org_named, query_text, refusal_reply, step, step_by};
 ghost use Rattle.ut_model.specs.Tenant.{Tenant};
+ghost use Rattle.ut_model.specs.Whole.{Sent, own_replies, replies_by, replies_for};
 ghost use Rattle.ut_model.specs.World.{World, tenant_at};
 
 /// The laws of the step of the world. The call does nothing.
@@ -30,6 +31,21 @@ pub fn step_laws()
         → ((step w m now).0 ≡ (step v m now).0) × (tenant_at (step w m now).1 org ≡ tenant_at (step v m now).1 org) }
     ensures other { (w : World) (m : Message) (now org : ℕ) → (org_named m ≡ Some org → ⊥)
         → tenant_at (step w m now).1 org ≡ tenant_at w org }
+{}
+
+/// The laws of a step of the world by whatever answers a caller's message: by all routes too. The call does nothing.
+pub fn answering_laws()
+    ensures called { (answers : Answering) (w : World) (m : Message) (now : ℕ) (c : Caller) → caller_by w m ≡ Some c
+        → step_by answers w m now ≡ in_org w c.org (answers c m now) }
+    ensures uncalled { (answers : Answering) (w : World) (m : Message) (now : ℕ) → caller_by w m ≡ None
+        → step_by answers w m now ≡ (refusal_reply refusal.InvalidSession, w) }
+
+    // Isolation: the replies to one organisation's messages are those to these messages alone, from any world that has the
+    // same organisation.
+    ensures isolated { (answers : Answering) (org : ℕ) (qs : List Sent) (w v : World) → tenant_at w org ≡ tenant_at v org
+        → replies_for org (replies_by answers w qs) ≡ own_replies answers org v qs }
+    ensures other { (answers : Answering) (w : World) (m : Message) (now org : ℕ) → (org_named m ≡ Some org → ⊥)
+        → tenant_at (step_by answers w m now).1 org ≡ tenant_at w org }
 {}
 
 /// Routes and steps of the world, worked by hand. The call does nothing.

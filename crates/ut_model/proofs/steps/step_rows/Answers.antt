@@ -15,7 +15,7 @@ use Rattle.ut_model.specs.declared.caller.Caller.{Caller}
 use Rattle.ut_model.specs.Callers.{cut}
 use Rattle.ut_model.specs.Organisations.{administrator, fresh, with_org}
 use Rattle.ut_model.specs.Routing.{lines, routed}
-use Rattle.ut_model.specs.Step.{Message, query_text, step}
+use Rattle.ut_model.specs.Step.{Message, answered, query_text, step}
 use Rattle.ut_model.specs.World.{World}
 use Rattle.ut_model.proofs.Called.{found, itself}
 use Rattle.ut_model.proofs.Stepped.{called}
@@ -54,11 +54,11 @@ unfolding step
 returns-clause-no_key c = refl
 
 pub returns-clause-no_object : goal.returns-clause-no_object
-unfolding cut id_in number_in number62 made digits routed lines split query_text raw_pairs chars encode_utf8 utf8_lossy percent_decode utf8_valid_len is_utf8 asked_in asked_object front_len is_comma is_word mark_len mark_token token_at token_len token_of tokens_of word_in begins_run class_of double in_run in_word is_blank is_letter single is_digit
+unfolding step cut id_in number_in number62 made digits routed lines split query_text raw_pairs chars encode_utf8 utf8_lossy percent_decode utf8_valid_len is_utf8 asked_in asked_object front_len is_comma is_word mark_len mark_token token_at token_len token_of tokens_of word_in begins_run class_of double in_run in_word is_blank is_letter single is_digit
 returns-clause-no_object c =
     let w : World = with_org [] (codes "Acme") (sha256 (codes "abc!d")) in
     let key : List ℕ = codes "00D000000000001!005000000000000AAA!abc!d" in
     let m : Message = record { method = codes "GET"; target = codes "/services/data/v59.0/query?q=SELECT+Id,Name+FROM+Deal__c"; bearer = Some key; body = [] } in
     let who : Caller = record { org = 1; user = codes "005000000000000"; admin = true } in
-    called w m 0 who (found w key (record { org = 1; user = codes "005000000000000"; secret = codes "abc!d" }) (fresh (codes "Acme") (sha256 (codes "abc!d"))) (administrator (codes "Acme") (sha256 (codes "abc!d"))) refl refl refl (itself (sha256 (codes "abc!d"))))
+    called answered w m 0 who (found w key (record { org = 1; user = codes "005000000000000"; secret = codes "abc!d" }) (fresh (codes "Acme") (sha256 (codes "abc!d"))) (administrator (codes "Acme") (sha256 (codes "abc!d"))) refl refl refl (itself (sha256 (codes "abc!d"))))
     ∙ refl

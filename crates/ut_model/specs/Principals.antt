@@ -1,0 +1,76 @@
+-- Ids and principals as requests spell them, and what they name.
+-- Source of the kinds: Salesforce, "Record-Level Security". How a request spells a principal is this product's own.
+use Rattle.std.specs.Prelude.{ℕ, Bool, not, List, [], Option, None, is_none, is_some, unwrap_or}
+use Rattle.std.specs.declared.cmp.Ordering.{Ordering}
+use Rattle.std.specs.Ordering.{nat_cmp, ordering_then}
+use Rattle.std.specs.Cmp.Lexicographic.{slice_cmp}
+use Rattle.ut_value.specs.Id.{id_in}
+use Rattle.ut_value.specs.declared.sharing.Principal.{Principal}
+use Rattle.ut_value.specs.declared.sharing.Principal.TheVariants as to
+use Rattle.ut_model.specs.declared.refusal.Refusal.TheVariants.{MalformedId, InvalidReference}
+use Rattle.ut_model.specs.Cases.{in_case}
+use Rattle.ut_model.specs.Rules.{Rule, refuse_if}
+use Rattle.ut_model.specs.Tenant.{Group, Role, Tenant}
+use Rattle.ut_model.specs.World.{user_at, with_id}
+
+-- ---- ids
+
+-- MALFORMED_ID: the text isn't an id
+abbrev pub bad_id : List ℕ → Rule
+bad_id text = refuse_if (is_none (id_in text)) (MalformedId text)
+
+-- the same of an id that may be missing
+abbrev pub bad_id_if_any : Option (List ℕ) → Rule
+bad_id_if_any text = in_case text None bad_id
+
+-- the id that a text spells; a text that spells none, which is refused, has no characters of one
+abbrev pub spelled_id : List ℕ → List ℕ
+spelled_id text = unwrap_or (id_in text) []
+
+-- ---- principals
+
+-- a principal's kind, and the text of its id
+pub record Spelled : Type 0 where
+  pub kind : List ℕ → Principal
+  pub text : List ℕ
+
+-- the principal that is spelled
+abbrev pub principal_of : Spelled → Principal
+principal_of p = p.kind (spelled_id p.text)
+
+-- the role with this id
+abbrev pub role_at : Tenant → List ℕ → Option Role
+role_at t i = with_id (λ r. r.id) t.roles i
+
+-- the group with this id
+abbrev pub group_at : Tenant → List ℕ → Option Group
+group_at t i = with_id (λ g. g.id) t.groups i
+
+-- the principal names a thing of its kind
+abbrev pub is_there : Tenant → Principal → Bool
+is_there t (to.User i) = is_some (user_at t.users i)
+is_there t (to.Role i) = is_some (role_at t i)
+is_there t (to.Subordinates i) = is_some (role_at t i)
+is_there t (to.Group i) = is_some (group_at t i)
+
+-- INVALID_CROSS_REFERENCE_KEY, under the name of the member that spells it
+abbrev pub not_there : Tenant → (member : List ℕ) → Principal → Rule
+not_there t member p = refuse_if (not (is_there t p)) (InvalidReference member)
+
+-- ---- the order of principals: users, roles, subordinates of roles, groups, and each by id
+
+abbrev pub kind_number : Principal → ℕ
+kind_number (to.User i) = 0
+kind_number (to.Role i) = 1
+kind_number (to.Subordinates i) = 2
+kind_number (to.Group i) = 3
+
+-- the id in a principal
+abbrev pub principal_id : Principal → List ℕ
+principal_id (to.User i) = i
+principal_id (to.Role i) = i
+principal_id (to.Subordinates i) = i
+principal_id (to.Group i) = i
+
+abbrev pub principal_cmp : Principal → Principal → Ordering
+principal_cmp p q = ordering_then (nat_cmp (kind_number p) (kind_number q)) (slice_cmp nat_cmp (principal_id p) (principal_id q))

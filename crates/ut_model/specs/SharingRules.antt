@@ -1,0 +1,96 @@
+-- Sharing rules: new ones, and their end.
+-- Source: Salesforce, "Record-Level Security", "Sharing Rules": by owner or by criteria. The order in which one is judged is this
+-- product's own.
+use Rattle.std.specs.Prelude.{ℕ, ◌+◌, true, not, List, [], ◌∷◌, map, filter, length, codes, Option, Some, None, Result}
+use Rattle.std.specs.List.{list_any}
+use Rattle.ut_value.specs.declared.job.RuleState.TheVariants as state
+use Rattle.ut_value.specs.declared.sharing.Level.{Level}
+use Rattle.ut_formula.specs.declared.formula.Formula.{Formula}
+use Rattle.ut_model.specs.declared.limit.Limit.TheVariants as limit
+use Rattle.ut_model.specs.declared.refusal.Refusal.TheVariants.{InvalidType, NotFound}
+use Rattle.ut_model.specs.Cases.{in_case}
+use Rattle.ut_model.specs.Fields.{is_detail, same_name}
+use Rattle.ut_model.specs.Levels.{Reads}
+use Rattle.ut_model.specs.Names.{bad_name, is_stem, taken}
+use Rattle.ut_model.specs.Objects.{Numbered}
+use Rattle.ut_model.specs.Ordered.{put_in}
+use Rattle.ut_model.specs.Principals.{Spelled, bad_id, not_there, principal_of}
+use Rattle.ut_model.specs.RuleFormulas.{busy, formula_of, malformed, name_cmp}
+use Rattle.ut_model.specs.Rules.{Rule, refuse_if, in_body_order, over_limit}
+use Rattle.ut_model.specs.Tenant.{Object, SharingRule, Source, owned, meets, Tenant}
+use Rattle.ut_model.specs.Verdict.{Verdict, accept, done, judged, with_object}
+
+-- the records that a new rule covers, as a body says: by owner, or by a formula
+pub data SpelledSource : Type 0 where
+  from : Spelled → SpelledSource
+  by_formula : List ℕ → SpelledSource
+
+-- what a body says of a new sharing rule, and the names of its members in their order
+pub record NewSharingRule : Type 0 where
+  pub members : List (List ℕ)
+  pub object : List ℕ
+  pub name : List ℕ
+  pub source : SpelledSource
+  pub to : Spelled
+  pub level : Level
+
+-- the source that is spelled
+abbrev pub source_of : SpelledSource → Source
+source_of (from p) = owned (principal_of p)
+source_of (by_formula text) = meets text
+
+-- whose records an owner rule shares
+abbrev pub source_owner : SpelledSource → Option Spelled
+source_owner (from p) = Some p
+source_owner (by_formula text) = None
+
+-- what the text of a criteria rule reads as
+abbrev pub source_formula : Reads → Object → SpelledSource → Option (Result Formula ℕ)
+source_formula reads o (from p) = None
+source_formula reads o (by_formula text) = Some (formula_of reads o true text)
+
+abbrev pub sharing_rules : Reads → Tenant → Numbered → NewSharingRule → List Rule
+sharing_rules reads t o b =
+    let owner = source_owner b.source in
+    let formula = source_formula reads o.object b.source in
+    refuse_if (is_detail o.object) (InvalidType o.object.name)
+    ∷ bad_name is_stem b.name
+    ∷ taken (map (λ r. r.name) t.rules) b.name
+    ∷ in_body_order b.members ((codes "to", bad_id b.to.text) ∷ (codes "from", in_case owner None (λ p. bad_id p.text)) ∷ [])
+    ∷ in_body_order b.members
+    ((codes "to", not_there t (codes "to") (principal_of b.to))
+    ∷ (codes "from", in_case owner None (λ p. not_there t (codes "from") (principal_of p)))
+    ∷ [])
+    ∷ in_case formula None malformed
+    ∷ in_case formula None (busy t o.number)
+    ∷ over_limit ((limit.SharingRules, length t.rules + 1) ∷ (limit.RuleNumbers, t.rule_numbers + 1) ∷ [])
+    ∷ []
+
+-- a new rule has the next number, and acts from now on
+abbrev pub new_rule : Tenant → ℕ → NewSharingRule → SharingRule
+new_rule t n b =
+    record {
+      name = b.name;
+      number = t.rule_numbers + 1;
+      object = n;
+      source = source_of b.source;
+      to = principal_of b.to;
+      level = b.level;
+      state = state.Whole;
+      cursor = None;
+    }
+
+-- one more sharing rule
+abbrev pub with_rule : SharingRule → Tenant → Tenant
+with_rule r t = record t { rules = put_in (λ a b. name_cmp a.name b.name) r t.rules; rule_numbers = t.rule_numbers + 1 }
+
+-- a new sharing rule
+abbrev pub add_sharing_rule : Reads → Tenant → NewSharingRule → Verdict
+add_sharing_rule reads t b =
+    with_object t b.object (λ o. judged t (sharing_rules reads t o b) (accept done (with_rule (new_rule t o.number b) t)))
+
+-- a rule that is removed is gone; NOT_FOUND where there is none with this name
+abbrev pub remove_sharing_rule : Tenant → (name : List ℕ) → Verdict
+remove_sharing_rule t name =
+    judged t (refuse_if (not (list_any (λ r. same_name r.name name) t.rules)) NotFound ∷ [])
+    (accept done (record t { rules = filter (λ r. not (same_name r.name name)) t.rules }))

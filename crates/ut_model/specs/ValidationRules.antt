@@ -1,0 +1,37 @@
+-- New validation rules.
+-- Source: Salesforce, "Validation Rules". The order in which one is judged is this product's own.
+use Rattle.std.specs.Prelude.{ℕ, ◌+◌, false, List, [], ◌∷◌, map, length}
+use Rattle.ut_model.specs.declared.limit.Limit.TheVariants as limit
+use Rattle.ut_model.specs.Levels.{Reads}
+use Rattle.ut_model.specs.Names.{bad_name, is_stem, taken}
+use Rattle.ut_model.specs.Objects.{Numbered, with_object_changed}
+use Rattle.ut_model.specs.Ordered.{put_in}
+use Rattle.ut_model.specs.RuleFormulas.{busy, formula_of, malformed, name_cmp}
+use Rattle.ut_model.specs.Rules.{Rule, over_limit}
+use Rattle.ut_model.specs.Tenant.{Object, Tenant, ValidationRule}
+use Rattle.ut_model.specs.Verdict.{Verdict, accept, done, judged, with_object}
+
+-- what a body says of a new validation rule: of which object, and the rule
+pub record NewValidationRule : Type 0 where
+  pub object : List ℕ
+  pub rule : ValidationRule
+
+abbrev pub validation_rules : Reads → Tenant → Numbered → ValidationRule → List Rule
+validation_rules reads t o r =
+    let formula = formula_of reads o.object false r.formula in
+    bad_name is_stem r.name
+    ∷ taken (map (λ x. x.name) o.object.rules) r.name
+    ∷ malformed formula
+    ∷ busy t o.number formula
+    ∷ over_limit ((limit.ValidationRulesPerObject, length o.object.rules + 1) ∷ [])
+    ∷ []
+
+-- the object with one rule more
+abbrev pub with_validation_rule : ValidationRule → Object → Object
+with_validation_rule r o = record o { rules = put_in (λ a b. name_cmp a.name b.name) r o.rules }
+
+-- a new validation rule
+abbrev pub add_validation_rule : Reads → Tenant → NewValidationRule → Verdict
+add_validation_rule reads t b =
+    with_object t b.object (λ o.
+    judged t (validation_rules reads t o b.rule) (accept done (with_object_changed o.number (with_validation_rule b.rule) t)))

@@ -1,0 +1,7 @@
+mod Parts
+mod Orders
+mod Growing
+mod Roles
+mod Digests
+mod PeopleSound
+mod SharingSound

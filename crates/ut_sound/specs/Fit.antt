@@ -1,0 +1,26 @@
+-- What the form of a body gives, beyond what the rules of its request ask. Every request that is read has it; a request as data may
+-- lack it, and then what its verdict leaves need not be sound. It is this product's own.
+use Rattle.std.specs.Prelude.{ℕ, Bool, true, ◌&&◌, List, bytes_eq, codes}
+use Rattle.std.specs.List.{list_any}
+use Rattle.ut_model.specs.Shares.{NewShare}
+use Rattle.ut_model.specs.SharingRules.{NewSharingRule, SpelledSource, by_formula, from}
+use Rattle.ut_model.specs.SoundSharing.{is_grant}
+
+-- ---- sharing
+
+-- the body has this member
+abbrev pub has_member : (members : List (List ℕ)) → (name : List ℕ) → Bool
+has_member members name = list_any (bytes_eq name) members
+
+-- the source of an owner rule is the member `from`
+abbrev pub has_source : (members : List (List ℕ)) → SpelledSource → Bool
+has_source members (from p) = has_member members (codes "from")
+has_source members (by_formula text) = true
+
+-- the level is Read or Edit, and the principals are members of the body
+abbrev pub is_fit_rule : NewSharingRule → Bool
+is_fit_rule b = is_grant b.level && (has_member b.members (codes "to") && has_source b.members b.source)
+
+-- the level is Read or Edit
+abbrev pub is_fit_share : NewShare → Bool
+is_fit_share b = is_grant b.level

@@ -1,0 +1,11 @@
+//! That an organisation stays sound: what each verdict leaves of a sound one is sound again.
+//!
+//! It depends on `ut_model`, whose definitions these laws are about, and on `ut_value` for the laws of ids and values. Its
+//! contract: for each request, from a sound organisation its verdict makes a sound one, whatever it answers.
+#![tactic(auto)]
+
+mod people;
+mod sharing;
+
+pub use crate::people::people_sound;
+pub use crate::sharing::sharing_sound;

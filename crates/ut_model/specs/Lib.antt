@@ -39,3 +39,17 @@ pub mod ValidationRules
 pub mod SharingRules
 pub mod Rights
 pub mod Shares
+pub mod Given
+pub mod Edits
+pub mod Keys
+pub mod Creates
+pub mod Updates
+pub mod Upserts
+pub mod Deletes
+pub mod Metadata
+pub mod NewFields
+pub mod Retyping
+pub mod Jobs
+pub mod Tests
+pub mod Asking
+pub mod RowsJson

@@ -1,0 +1,137 @@
+-- What an edit gives to fields, and the values that it is read as.
+-- Source: Salesforce, REST API, "Create a Record" and "Insert or Update (Upsert) a Record Using an External ID", of values in JSON
+-- and of parents that are found by a unique field. What suits which type is this product's own.
+use Rattle.std.specs.Prelude.{ℕ, suc, Bool, not, ◌&&◌, if◌then◌else◌, List, [], ◌∷◌, slice_get, Option, Some, None, Result, Ok, Err}
+use Rattle.std.specs.List.{find}
+use Rattle.std.specs.Option.{option_and_then}
+use Rattle.ut_json.specs.declared.tree.Json.{Json}
+use Rattle.ut_json.specs.declared.tree.Json.TheVariants as json
+use Rattle.ut_json.specs.declared.tree.Num.{Num}
+use Rattle.ut_json.specs.declared.tree.Num.TheVariants as num
+use Rattle.ut_value.specs.Id.{id_in}
+use Rattle.ut_value.specs.Reading.{Read, as_id, as_value, in_bounds, read_value}
+use Rattle.ut_value.specs.Values.{equal}
+use Rattle.ut_value.specs.declared.fail.ValueFail.{ValueFail}
+use Rattle.ut_value.specs.declared.fail.ValueFail.TheVariants as fail
+use Rattle.ut_value.specs.declared.value.FieldType.TheVariants as type
+use Rattle.ut_value.specs.declared.value.Value.{Value}
+use Rattle.ut_value.specs.declared.value.Value.TheVariants as value
+use Rattle.ut_formula.specs.Meaning.{value_at}
+use Rattle.ut_model.specs.declared.record.Record.{Record}
+use Rattle.ut_model.specs.declared.refusal.Refusal.{Refusal}
+use Rattle.ut_model.specs.declared.refusal.Refusal.TheVariants as refusal
+use Rattle.ut_model.specs.Cases.{in_case}
+use Rattle.ut_model.specs.Fields.{Column, Kind, ids, typed, is_null}
+use Rattle.ut_model.specs.Objects.{object_at, records_of}
+use Rattle.ut_model.specs.Relationships.{target_of}
+use Rattle.ut_model.specs.Tenant.{Field, Tenant}
+
+-- what is given to a field
+pub data Given : Type 0 where
+  a_value : Value → Given
+  in_json : Json → Given
+  -- to a reference: the record of its target whose unique field, at this place among the custom fields, has the value of the text
+  found_by : (field : ℕ) → (text : List ℕ) → Given
+
+-- a field, by its name, and what is given to it
+pub record Assignment : Type 0 where
+  pub field : List ℕ
+  pub given : Given
+
+-- ---- texts and JSON
+
+-- what a text reads as in a field
+abbrev pub read_text : Kind → List ℕ → Read
+read_text (typed kind) text = read_value kind text
+read_text ids [] = Ok value.Null
+read_text ids (c ∷ cs) = as_value (λ id. value.Ref id) (as_id (id_in (c ∷ cs)))
+
+-- a number suits Number alone
+abbrev pub read_json_number : Kind → Num → Read
+read_json_number (typed (type.Number digits decimals)) (num.Exact count) = as_value (λ n. value.Num n) (in_bounds digits decimals count)
+read_json_number (typed (type.Number digits decimals)) num.Beyond = Err fail.OutOfRange
+read_json_number _ _ = Err fail.WrongType
+
+-- a truth value suits Checkbox alone
+abbrev pub read_json_truth : Kind → Bool → Read
+read_json_truth (typed type.Checkbox) truth = Ok (value.Bool truth)
+read_json_truth _ truth = Err fail.WrongType
+
+-- a text reads as in every cell, and null as the empty text does
+abbrev pub read_json : Kind → Json → Read
+read_json kind (json.Text text) = read_text kind text
+read_json kind json.Null = read_text kind []
+read_json kind (json.Number n) = read_json_number kind n
+read_json kind (json.Bool truth) = read_json_truth kind truth
+read_json kind _ = Err fail.WrongType
+
+-- ---- why a value is refused
+
+-- the most characters of a text
+abbrev pub most_of : Kind → ℕ
+most_of (typed (type.Text most)) = most
+most_of _ = 0
+
+-- the refusal of what was read in this kind of field, under this name
+abbrev pub refusal_of : (name : List ℕ) → Kind → (text : List ℕ) → ValueFail → Refusal
+refusal_of name kind text fail.WrongType = refusal.WrongType name
+refusal_of name kind text fail.TooLong = refusal.TooLong name (most_of kind)
+refusal_of name kind text fail.OutOfRange = refusal.OutOfRange name
+refusal_of name kind text fail.NotListed = refusal.NotListed name
+refusal_of name kind text fail.NotAnId = refusal.MalformedId text
+refusal_of name kind text fail.Memory = refusal.WrongType name
+
+-- a value, or its refusal
+abbrev pub ReadOr : Type 0
+ReadOr = Result Value Refusal
+
+-- what was read of a text
+abbrev pub or_refusal : (name : List ℕ) → Kind → (text : List ℕ) → Read → ReadOr
+or_refusal name kind text (Ok v) = Ok v
+or_refusal name kind text (Err why) = Err (refusal_of name kind text why)
+
+-- the text in JSON, if it is one
+abbrev pub text_of : Json → List ℕ
+text_of (json.Text text) = text
+text_of _ = []
+
+-- ---- records by a unique field
+
+-- the record has this value at the position; null is no record's
+abbrev pub has_value : (position : ℕ) → Value → Record → Bool
+has_value position v r = not (is_null v) && equal (value_at r.values position) v
+
+-- the record of an object that has this value in a unique field
+unfoldable pub record_with : Tenant → (object position : ℕ) → Value → Option Record
+record_with t object position v = find (has_value position v) (records_of t object)
+
+-- the reference to the record that was found; where none was, to no record, which no id names
+abbrev pub reference_to : Option Record → Value
+reference_to found = value.Ref (in_case found [] (λ r. r.id))
+
+-- the reference to the record that has what was read; null finds null
+abbrev pub found_with : Tenant → (object field : ℕ) → ReadOr → ReadOr
+found_with t object field (Ok v) = Ok (if is_null v then value.Null else reference_to (record_with t object (suc field) v))
+found_with t object field (Err refusal) = Err refusal
+
+-- the custom field of an object at this place
+abbrev pub field_at : Tenant → (object field : ℕ) → Option Field
+field_at t object field = option_and_then (λ o. slice_get o.fields field) (object_at t object)
+
+-- the object to which a field refers
+abbrev pub target_of_kind : Kind → Option ℕ
+target_of_kind ids = None
+target_of_kind (typed kind) = target_of kind
+
+-- what a text finds for a reference: it is read by the unique field, and refused under the reference's name
+abbrev pub read_found : Tenant → Column → (field : ℕ) → (text : List ℕ) → ReadOr
+read_found t c field text =
+    in_case (target_of_kind c.kind) (Err (refusal.WrongType c.name)) (λ object.
+    in_case (field_at t object field) (Err (refusal.WrongType c.name)) (λ f.
+    found_with t object field (or_refusal c.name (typed f.kind) text (read_value f.kind text))))
+
+-- ---- the value that is given to a field, or its refusal
+abbrev pub read_given : Tenant → Column → Given → ReadOr
+read_given t c (a_value v) = Ok v
+read_given t c (in_json j) = or_refusal c.name c.kind (text_of j) (read_json c.kind j)
+read_given t c (found_by field text) = read_found t c field text

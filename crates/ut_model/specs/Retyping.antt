@@ -1,0 +1,112 @@
+-- The change of a field's type: how it begins, how far it is, and how it is called off. It is this product's own.
+use Rattle.std.specs.Prelude.{ℕ, suc, Bool, true, false, not, ◌&&◌, ◌==◌, if◌then◌else◌, List, [], ◌∷◌, Option, Some, None, slice_get}
+use Rattle.std.specs.Option.{option_and_then}
+use Rattle.ut_value.specs.Conversion.{convertible}
+use Rattle.ut_value.specs.declared.job.Outcome.{Outcome}
+use Rattle.ut_value.specs.declared.job.Outcome.TheVariants as outcome
+use Rattle.ut_value.specs.declared.job.Phase.{Phase}
+use Rattle.ut_value.specs.declared.job.Phase.TheVariants as phase
+use Rattle.ut_value.specs.declared.value.FieldType.{FieldType}
+use Rattle.ut_value.specs.declared.value.FieldType.TheVariants as type
+use Rattle.ut_model.specs.declared.refusal.Refusal.TheVariants as refusal
+use Rattle.ut_model.specs.Cases.{in_case}
+use Rattle.ut_model.specs.Fields.{Where, its_value, column_named}
+use Rattle.ut_model.specs.Levels.{Reads}
+use Rattle.ut_model.specs.NewFields.{SpelledType, plain, lookup_to}
+use Rattle.ut_model.specs.Objects.{Numbered}
+use Rattle.ut_model.specs.RuleFormulas.{formula_of, is_copy, names_field}
+use Rattle.ut_model.specs.Rules.{Rule, refuse_if, first_of, first_refusal}
+use Rattle.ut_model.specs.Tenant.{Field, Job, Object, SharingRule, Source, owned, meets, Tenant, ValidationRule}
+use Rattle.ut_model.specs.Verdict.{Verdict, accept, done, judged, refuse, state_of, with_object}
+
+-- ---- the rules
+
+abbrev pub is_done : Phase → Bool
+is_done phase.Done = true
+is_done _ = false
+
+-- JOB_BUSY: there is a job that isn't done
+abbrev pub under_way : Tenant → Rule
+under_way t = in_case t.job None (λ j. refuse_if (not (is_done j.phase)) refusal.JobBusy)
+
+-- a truth value can't be indexed
+abbrev pub is_checkbox : FieldType → Bool
+is_checkbox type.Checkbox = true
+is_checkbox _ = false
+
+-- a custom field can have this type instead of its own: it isn't unique, and the types convert
+abbrev pub can_become : FieldType → Field → Bool
+can_become to f = not f.unique && (convertible f.kind to && not (f.indexed && is_checkbox to))
+
+-- the place of a custom field among its object's, from where records have it
+abbrev pub custom_place : Where → Option ℕ
+custom_place (its_value (suc place)) = Some place
+custom_place _ = None
+
+-- FIELD_IN_USE: a formula of the object, as a validation rule's or a criteria rule's, names the field at this place
+abbrev pub uses : Reads → Object → (criteria : Bool) → (place : ℕ) → List ℕ → Bool
+uses reads o criteria place text = names_field (suc place) (formula_of reads o criteria text)
+
+-- the same of a sharing rule
+abbrev pub source_uses : Reads → Object → (place : ℕ) → Source → Bool
+source_uses reads o place (owned p) = false
+source_uses reads o place (meets text) = uses reads o true place text
+
+-- the first validation rule that names the field, and else the first criteria rule, by lower-case name
+abbrev pub in_use : Reads → Tenant → Numbered → (place : ℕ) → (field : List ℕ) → Rule
+in_use reads t o place field =
+    first_refusal
+    (first_of (λ r. refuse_if (uses reads o.object false place r.formula) (refusal.FieldInUse field r.name)) o.object.rules
+    ∷ first_of
+    (λ r. refuse_if ((r.object == o.number) && source_uses reads o.object place r.source) (refusal.FieldInUse field r.name))
+    t.rules
+    ∷ [])
+
+-- ---- beginning
+
+-- the new type; a lookup is none of those that convert, whatever its object
+abbrev pub new_type : SpelledType → FieldType
+new_type (plain kind) = kind
+new_type (lookup_to object on_delete child) = type.Lookup 0 on_delete
+
+-- a job that begins
+abbrev pub new_job : (object field : ℕ) → FieldType → Job
+new_job object field to =
+    record { object = object; field = field; to = to; phase = phase.Copy; outcome = outcome.Open; cursor = None; failed = None }
+
+-- the tenant with this job
+abbrev pub with_job : Job → Tenant → Tenant
+with_job j t = record t { job = Some j }
+
+-- a custom field that can have the type: its place
+abbrev pub place_to_change : Object → FieldType → Where → Option ℕ
+place_to_change o to at =
+    option_and_then (λ place. option_and_then (λ f. if can_become to f then Some place else None) (slice_get o.fields place)) (custom_place at)
+
+-- RETYPE_UNSUPPORTED names the field, and FIELD_IN_USE comes after it
+abbrev pub begin_on : Reads → Tenant → Numbered → FieldType → (field : List ℕ) → Where → Verdict
+begin_on reads t o to field at =
+    judged t (under_way t ∷ []) (in_case (place_to_change o.object to at) (refuse t (refusal.RetypeUnsupported field)) (λ place.
+    judged t (in_use reads t o place field ∷ []) (accept done (with_job (new_job o.number place to) t))))
+
+-- the change of a field's type begins
+abbrev pub begin_retype : Reads → Tenant → (object field : List ℕ) → SpelledType → Verdict
+begin_retype reads t object field to =
+    with_object t object (λ o.
+    in_case (column_named o.object field) (refuse t (refusal.InvalidField field)) (λ c. begin_on reads t o (new_type to) c.name c.at))
+
+-- ---- looking, and calling off
+
+-- how far it is; NOT_FOUND where there never was a job
+abbrev pub get_retype : Tenant → Verdict
+get_retype t = in_case t.job (refuse t refusal.NotFound) (λ j. accept (state_of j) t)
+
+-- the copy ends with this outcome, and what it left is cleared from the first record on
+abbrev pub to_clear : Outcome → Job → Job
+to_clear o j = record j { phase = phase.Clear; outcome = o; cursor = None }
+
+-- a job that copies is called off; NOT_FOUND where none does
+abbrev pub cancel_retype : Tenant → Verdict
+cancel_retype t =
+    in_case t.job (refuse t refusal.NotFound) (λ j.
+    judged t (refuse_if (not (is_copy j.phase)) refusal.NotFound ∷ []) (accept done (with_job (to_clear outcome.Cancelled j) t)))

@@ -2,11 +2,12 @@
 -- argument until the grammar of formulas comes; then this is one more part of a sound tenant.
 -- Source: Salesforce, "Validation Rules" and "Criteria-Based Sharing Rules". That a field whose type is being changed is named
 -- by no rule is this product's own.
-use Rattle.std.specs.Prelude.{suc, ℕ, Bool, true, false, not, ◌&&◌, ◌||◌, ◌==◌, List, Option, is_ok, slice_get, IsTrue, IfSome}
+use Rattle.std.specs.Prelude.{Bool, true, false, not, ◌&&◌, ◌||◌, ◌==◌, List, Option, is_ok, slice_get, IsTrue, IfSome}
 use Rattle.std.specs.List.{list_all}
 use Rattle.ut_model.specs.Cases.{in_case}
 use Rattle.ut_model.specs.Levels.{Reads}
-use Rattle.ut_model.specs.RuleFormulas.{formula_of, is_copy, names_field}
+use Rattle.ut_model.specs.Retyping.{source_uses, uses}
+use Rattle.ut_model.specs.RuleFormulas.{formula_of, is_copy}
 use Rattle.ut_model.specs.Tenant.{Job, Object, SharingRule, Source, owned, meets}
 
 -- ---- every text spells a formula
@@ -26,16 +27,11 @@ criteria_read reads os r = in_case (slice_get os r.object) false (source_reads r
 
 -- ---- what rules name
 
--- the source of a sharing rule on the object names the field at this position of a record's values
-abbrev pub source_names : Reads → Object → ℕ → Source → Bool
-source_names reads o position (owned p) = false
-source_names reads o position (meets text) = names_field position (formula_of reads o true text)
-
--- no validation rule of the object names it, and no sharing rule
+-- no validation rule of the object names the job's field, and no sharing rule
 abbrev pub is_unnamed : Reads → List SharingRule → Job → Object → Bool
 is_unnamed reads rules j o =
-    list_all (λ r. not (names_field (suc j.field) (formula_of reads o false r.formula))) o.rules
-    && list_all (λ r. not (r.object == j.object) || not (source_names reads o (suc j.field) r.source)) rules
+    list_all (λ r. not (uses reads o false j.field r.formula)) o.rules
+    && list_all (λ r. not ((r.object == j.object) && source_uses reads o j.field r.source)) rules
 
 -- all rules of an organisation; the field of a job is named by none while its values are copied
 pub record HasSoundFormulas (reads : Reads) (os : List Object) (rules : List SharingRule) (job : Option Job) : Type 0 where

@@ -3,22 +3,18 @@
 use Rattle.std.specs.Prelude.{◌≡◌, ℕ, suc, Bool, true, false, not, ◌&&◌, ◌||◌, List, Option, Some, is_some, slice_get, IsTrue, IfSome}
 use Rattle.std.specs.List.{list_all}
 use Rattle.std.specs.Option.{option_and_then}
-use Rattle.std.specs.Ordering.{nat_cmp, is_le}
-use Rattle.std.specs.Cmp.Lexicographic.{slice_cmp}
 use Rattle.ut_value.specs.Conversion.{convert, convertible}
 use Rattle.ut_value.specs.Types.{is_reference, is_type}
 use Rattle.ut_value.specs.declared.job.Outcome.{Outcome}
 use Rattle.ut_value.specs.declared.job.Outcome.TheVariants as outcome
-use Rattle.ut_value.specs.declared.job.Phase.{Phase}
-use Rattle.ut_value.specs.declared.job.Phase.TheVariants as phase
-use Rattle.ut_value.specs.declared.value.FieldType.{FieldType}
-use Rattle.ut_value.specs.declared.value.FieldType.TheVariants as type
 use Rattle.ut_formula.specs.Meaning.{value_at}
 use Rattle.ut_model.specs.declared.record.Record.{Record}
+use Rattle.ut_model.specs.Retyping.{is_checkbox}
 use Rattle.ut_model.specs.RuleFormulas.{is_copy}
 use Rattle.ut_model.specs.SoundRecords.{those_of}
 use Rattle.ut_model.specs.SoundSharing.{IsCursor}
 use Rattle.ut_model.specs.Tenant.{Field, Job, Object}
+use Rattle.ut_model.specs.Updates.{is_copied}
 
 -- the job's field
 abbrev pub job_field : List Object → Job → Option Field
@@ -38,16 +34,6 @@ is_failed _ = false
 abbrev pub is_switched : Outcome → Bool
 is_switched outcome.Switched = true
 is_switched _ = false
-
--- truth values
-abbrev pub is_checkbox : FieldType → Bool
-is_checkbox type.Checkbox = true
-is_checkbox _ = false
-
--- at or below the cursor while values are copied
-abbrev pub is_copied : Phase → Option (List ℕ) → List ℕ → Bool
-is_copied phase.Copy (Some cursor) id = is_le (slice_cmp nat_cmp id cursor)
-is_copied _ _ id = false
 
 -- a record that was copied converts
 abbrev pub copies : Job → Record → Bool

@@ -1,7 +1,7 @@
 -- Sound metadata: what holds of every organisation's objects and fields at every moment.
 -- Source: Salesforce, "Custom Field" and "Object Relationships Overview", of flags, relationships and masters. The limits are
 -- this product's own. That the texts of rules spell formulas is SoundFormulas'.
-use Rattle.std.specs.Prelude.{◌≡◌, ℕ, zero, suc, ◌≤◌, Bool, true, false, not, ◌&&◌, ◌||◌, nat_lt, if◌then◌else◌, List, length, map, filter, is_some, T, IsTrue}
+use Rattle.std.specs.Prelude.{◌≡◌, ℕ, ◌≤◌, Bool, true, false, not, ◌&&◌, ◌||◌, nat_lt, if◌then◌else◌, List, length, map, filter, is_some, T, IsTrue}
 use Rattle.std.specs.List.{AllByRecursion}
 use Rattle.std.specs.FinMap.{is_sorted}
 use Rattle.ut_value.specs.Texts.{lower, texts_differ}
@@ -15,9 +15,10 @@ use Rattle.ut_model.specs.declared.limit.Limit.TheVariants as limit
 use Rattle.ut_model.specs.Cases.{in_case}
 use Rattle.ut_model.specs.Fields.{is_master}
 use Rattle.ut_model.specs.Limits.{limit_number}
+use Rattle.ut_model.specs.Metadata.{detail_level}
 use Rattle.ut_model.specs.Names.{is_custom_name, is_child_name, is_stem}
 use Rattle.ut_model.specs.Objects.{Numbered, numbered}
-use Rattle.ut_model.specs.Relationships.{master_in, relationship_names, target_of}
+use Rattle.ut_model.specs.Relationships.{relationship_names, target_of}
 use Rattle.ut_model.specs.RuleFormulas.{name_cmp}
 use Rattle.ut_model.specs.SoundPeople.{is_name}
 use Rattle.ut_model.specs.Tenant.{Field, Object, ValidationRule}
@@ -59,15 +60,6 @@ by_parent _ = false
 -- how many Master fields an object has
 abbrev pub masters : Object → ℕ
 masters o = length (filter (λ f. is_master f.kind) o.fields)
-
--- how many masters are above an object's records, counted to at most so many
-abbrev pub masters_above : ℕ → List Object → ℕ → ℕ
-masters_above zero os n = 0
-masters_above (suc k) os n = in_case (master_in os n) 0 (λ f. suc (masters_above k os f.target))
-
--- the detail level of an object: 0 without a master. One more than the limit is enough to see that it is passed
-abbrev pub detail_level : List Object → ℕ → ℕ
-detail_level os n = masters_above (suc (limit_number limit.DetailLevels)) os n
 
 -- an object with its fields, relationships and validation rules
 pub record IsSoundObject (os : List Object) (o : Numbered) : Type 0 where

@@ -5,3 +5,10 @@ mod Roles
 mod Digests
 mod PeopleSound
 mod SharingSound
+mod ContentSound
+mod RecordsSound
+mod CreatesSound
+mod UpdatesSound
+mod UpsertsSound
+mod JobsSound
+mod BeginsSound

@@ -1,10 +1,18 @@
 -- What the form of a body gives, beyond what the rules of its request ask. Every request that is read has it; a request as data may
 -- lack it, and then what its verdict leaves need not be sound. It is this product's own.
-use Rattle.std.specs.Prelude.{ℕ, Bool, true, ◌&&◌, List, bytes_eq, codes}
+use Rattle.std.specs.Prelude.{◌≡◌, ℕ, Bool, true, ◌&&◌, List, None, bytes_eq, codes, is_some, IsTrue}
 use Rattle.std.specs.List.{list_any}
+use Rattle.ut_value.specs.Dates.{is_moment}
+use Rattle.ut_model.specs.declared.record.Record.{Record}
+use Rattle.ut_model.specs.Edits.{bad_value, with_given}
+use Rattle.ut_model.specs.Given.{Assignment}
+use Rattle.ut_model.specs.Paths.{Asked}
 use Rattle.ut_model.specs.Shares.{NewShare}
 use Rattle.ut_model.specs.SharingRules.{NewSharingRule, SpelledSource, by_formula, from}
+use Rattle.ut_model.specs.SoundRecords.{all_valid, kinds_of}
 use Rattle.ut_model.specs.SoundSharing.{is_grant}
+use Rattle.ut_model.specs.Tenant.{Object}
+use Rattle.ut_model.specs.World.{user_at}
 
 -- ---- sharing
 
@@ -24,3 +32,15 @@ is_fit_rule b = is_grant b.level && (has_member b.members (codes "to") && has_so
 -- the level is Read or Edit
 abbrev pub is_fit_share : NewShare → Bool
 is_fit_share b = is_grant b.level
+
+-- ---- records
+
+-- who asks is a user of the organisation, and asks at a moment of the calendar
+abbrev pub IsCaller : Asked → Type 0
+IsCaller a = IsTrue (is_some (user_at a.tenant.users a.user.id)) × IsTrue (is_moment a.now)
+
+-- what is read in a body is of its field's type: with what is given valid values stay valid, unless one is refused
+abbrev pub ReadsWell : Asked → Object → List Assignment → Type 0
+ReadsWell a o given =
+    bad_value a.tenant o given ≡ None
+    → (old : Record) → IsTrue (all_valid (kinds_of o) old.values) → IsTrue (all_valid (kinds_of o) (with_given a o given old).values)

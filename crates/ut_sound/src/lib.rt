@@ -4,8 +4,12 @@
 //! contract: for each request, from a sound organisation its verdict makes a sound one, whatever it answers.
 #![tactic(auto)]
 
+mod jobs;
 mod people;
+mod records;
 mod sharing;
 
+pub use crate::jobs::jobs_sound;
 pub use crate::people::people_sound;
+pub use crate::records::records_sound;
 pub use crate::sharing::sharing_sound;

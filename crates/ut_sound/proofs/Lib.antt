@@ -12,3 +12,4 @@ mod UpdatesSound
 mod UpsertsSound
 mod JobsSound
 mod BeginsSound
+mod DeletesSound

@@ -200,6 +200,16 @@ module _ {A : Type 0} where
         let e : bytes_eq i (id (f x)) ≡ bytes_eq i (id x) = ap (bytes_eq i) (same x) in
         rw e (pick (bytes_eq i (id x)) (λ b. is_some (cond b (Some (f x)) (with_id id (map f xs) i)) ≡ is_some (cond b (Some x) (with_id id xs i))) (λ _. refl) (λ _. has_same f same xs i))
 
+-- ---- one of a list
+pub any_among : {A : Type 0} (f : A → Bool) (x : A) (xs : List A) → Has xs x → f x ≡ true → list_any f xs ≡ true
+any_among f x [] a h = absurd a
+any_among f x (y ∷ xs) (inl e) h = or_left (f y) (list_any f xs) (ap f (sym e) ∙ h)
+any_among f x (y ∷ xs) (inr a) h = or_right (f y) (list_any f xs) (any_among f x xs a h)
+
+pub among_any : {A : Type 0} (f : A → Bool) (xs : List A) → list_any f xs ≡ true → (x : A) × Has xs x × (f x ≡ true)
+among_any f [] e = absurd cc
+among_any f (x ∷ xs) e = elim (or_cases (f x) (list_any f xs) e) [ inl h ↦ (x, inl refl, h) | inr h ↦ let r = among_any f xs h in (r.0, inr r.1, r.2) ]
+
 -- ---- tests of all
 module _ {A : Type 0} where
   pub list_all_put : (f : A → Bool) (order : A → A → Ordering) (x : A) (xs : List A) → list_all f xs ≡ true → f x ≡ true → list_all f (put_in order x xs) ≡ true

@@ -48,7 +48,7 @@ use Rattle.ut_sound.proofs.PeopleSound.{when_judged}
 some_is : {A : Type 0} (x y : A) → Some x ≡ Some y → x ≡ y
 some_is x y e = ap (λ o. unwrap_or o x) e
 
-abbrev numbered_from : ℕ → List Object → List Numbered
+abbrev pub numbered_from : ℕ → List Object → List Numbered
 numbered_from n os = map (λ (o : ℕ × Object). record { number = o.0; object = o.1 }) (enumerate_from n os)
 
 found_object : (name : List ℕ) (os : List Object) (n : ℕ) (o : Numbered) → find (λ o. same_name o.object.name name) (numbered_from n os) ≡ Some o → (k : ℕ) × (o.number ≡ n + k) × (slice_get os k ≡ Some o.object)

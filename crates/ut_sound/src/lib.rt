@@ -4,11 +4,13 @@
 //! contract: for each request, from a sound organisation its verdict makes a sound one, whatever it answers.
 #![tactic(auto)]
 
+mod deletes;
 mod jobs;
 mod people;
 mod records;
 mod sharing;
 
+pub use crate::deletes::deletes_sound;
 pub use crate::jobs::jobs_sound;
 pub use crate::people::people_sound;
 pub use crate::records::records_sound;

@@ -13,3 +13,4 @@ mod UpsertsSound
 mod JobsSound
 mod BeginsSound
 mod DeletesSound
+mod ObjectsSound

@@ -6,12 +6,14 @@
 
 mod deletes;
 mod jobs;
+mod objects;
 mod people;
 mod records;
 mod sharing;
 
 pub use crate::deletes::deletes_sound;
 pub use crate::jobs::jobs_sound;
+pub use crate::objects::objects_sound;
 pub use crate::people::people_sound;
 pub use crate::records::records_sound;
 pub use crate::sharing::sharing_sound;

@@ -1,0 +1,8 @@
+use Rattle.ut_sound.proofs.ObjectsSound.{add_validation_sound, set_access_sound}
+use Rattle.ut_sound.proofs.objects.objects_sound.Goals as goal
+
+pub returns-clause-set_access : goal.returns-clause-set_access
+returns-clause-set_access c = set_access_sound
+
+pub returns-clause-add_validation_rule : goal.returns-clause-add_validation_rule
+returns-clause-add_validation_rule c = add_validation_sound

@@ -8,7 +8,7 @@ use Rattle.ut_model.specs.Cases.{in_case}
 use Rattle.ut_model.specs.Levels.{Reads}
 use Rattle.ut_model.specs.Retyping.{source_uses, uses}
 use Rattle.ut_model.specs.RuleFormulas.{formula_of, is_copy}
-use Rattle.ut_model.specs.Tenant.{Job, Object, SharingRule, Source, owned, meets}
+use Rattle.ut_model.specs.Tenant.{Job, Object, SharingRule, Source, owned, meets, Tenant}
 
 -- ---- every text spells a formula
 
@@ -38,3 +38,7 @@ pub record HasSoundFormulas (reads : Reads) (os : List Object) (rules : List Sha
   pub validations : IsTrue (list_all (validations_read reads) os)
   pub criteria : IsTrue (list_all (criteria_read reads os) rules)
   pub unnamed : IfSome job (λ j. IsTrue (not (is_copy j.phase) || in_case (slice_get os j.object) true (is_unnamed reads rules j)))
+
+-- those of a tenant
+abbrev pub AreFormulasSound : Reads → Tenant → Type 0
+AreFormulasSound reads t = HasSoundFormulas reads t.objects t.rules t.job

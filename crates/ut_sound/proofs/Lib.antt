@@ -14,3 +14,4 @@ mod JobsSound
 mod BeginsSound
 mod DeletesSound
 mod ObjectsSound
+mod FormulasSound

@@ -39,14 +39,14 @@ some_is : {A : Type 0} (a b : A) → Some a ≡ Some b → a ≡ b
 some_is a b e = ap (λ w. unwrap_or w a) e
 
 module _ (A : Object → Access) (R : Object → List ValidationRule) where
-  abbrev change : Object → Object
+  abbrev pub change : Object → Object
   change o = record o { access = A o; rules = R o }
 
   -- the object, changed or not
-  abbrev or_not : Bool → Object → Object
+  abbrev pub or_not : Bool → Object → Object
   or_not b o = record o { access = cond b (A o) o.access; rules = cond b (R o) o.rules }
 
-  changed_at : (n : ℕ) (os : List Object) (m : ℕ) (o : Object) → slice_get os m ≡ Some o → (b : Bool) × (slice_get (change_at n change os) m ≡ Some (or_not b o)) × (b ≡ true → m ≡ n)
+  pub changed_at : (n : ℕ) (os : List Object) (m : ℕ) (o : Object) → slice_get os m ≡ Some o → (b : Bool) × (slice_get (change_at n change os) m ≡ Some (or_not b o)) × (b ≡ true → m ≡ n)
   changed_at n [] m o e = absurd cc
   changed_at zero (x ∷ os) zero o e = (true, ap (λ (z : Object). Some (change z)) (some_is x o e), λ _. refl)
   changed_at zero (x ∷ os) (suc m) o e = (false, e, λ h. absurd cc)
@@ -218,7 +218,7 @@ set_access_sound t object access plain s =
     })))
 
 -- ---- a new validation rule
-abbrev with_one : ValidationRule → Object → List ValidationRule
+abbrev pub with_one : ValidationRule → Object → List ValidationRule
 with_one r o = put_in (λ a b. name_cmp a.name b.name) r o.rules
 
 -- no rule of the object has the new name

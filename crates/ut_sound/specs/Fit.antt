@@ -6,6 +6,7 @@ use Rattle.ut_value.specs.Dates.{is_moment}
 use Rattle.ut_model.specs.declared.record.Record.{Record}
 use Rattle.ut_model.specs.Edits.{bad_value, with_given}
 use Rattle.ut_model.specs.Given.{Assignment}
+use Rattle.ut_model.specs.Levels.{Reads}
 use Rattle.ut_model.specs.Paths.{Asked}
 use Rattle.ut_model.specs.Shares.{NewShare}
 use Rattle.ut_model.specs.SharingRules.{NewSharingRule, SpelledSource, by_formula, from}
@@ -44,3 +45,9 @@ abbrev pub ReadsWell : Asked → Object → List Assignment → Type 0
 ReadsWell a o given =
     bad_value a.tenant o given ≡ None
     → (old : Record) → IsTrue (all_valid (kinds_of o) old.values) → IsTrue (all_valid (kinds_of o) (with_given a o given old).values)
+
+-- ---- formulas
+
+-- how a text is read looks at the fields of the object alone: nothing else is named in a formula
+abbrev pub ReadsByFields : Reads → Type 0
+ReadsByFields reads = (o p : Object) → o.fields ≡ p.fields → (criteria : Bool) (text : List ℕ) → reads o criteria text ≡ reads p criteria text

@@ -5,6 +5,7 @@
 #![tactic(auto)]
 
 mod deletes;
+mod formulas;
 mod jobs;
 mod objects;
 mod people;
@@ -12,6 +13,7 @@ mod records;
 mod sharing;
 
 pub use crate::deletes::deletes_sound;
+pub use crate::formulas::formulas_sound;
 pub use crate::jobs::jobs_sound;
 pub use crate::objects::objects_sound;
 pub use crate::people::people_sound;

@@ -15,3 +15,4 @@ mod BeginsSound
 mod DeletesSound
 mod ObjectsSound
 mod FormulasSound
+mod JobFormulas

@@ -16,3 +16,4 @@ mod DeletesSound
 mod ObjectsSound
 mod FormulasSound
 mod JobFormulas
+mod OtherFormulas

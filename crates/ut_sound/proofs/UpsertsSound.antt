@@ -37,7 +37,7 @@ found_record p (z ∷ xs) x e = by (p z) e (found_record p xs x)
     by true w more = inl (sym (ap (λ o. unwrap_or o z) w))
     by false w more = inr (more w)
 
-when_read : (P : Tenant → Type 0) (t : Tenant) (r : ReadOr) (verdict : Value → Verdict) → P t → ((v : Value) → P (verdict v).tenant) → P (with_read t r verdict).tenant
+pub when_read : (P : Tenant → Type 0) (t : Tenant) (r : ReadOr) (verdict : Value → Verdict) → P t → ((v : Value) → P (verdict v).tenant) → P (with_read t r verdict).tenant
 when_read P t (Ok v) verdict h f = f v
 when_read P t (Err why) verdict h f = h
 

@@ -7,6 +7,7 @@
 mod deletes;
 mod formulas;
 mod jobs;
+mod kept;
 mod objects;
 mod people;
 mod records;
@@ -15,6 +16,7 @@ mod sharing;
 pub use crate::deletes::deletes_sound;
 pub use crate::formulas::formulas_sound;
 pub use crate::jobs::jobs_sound;
+pub use crate::kept::formulas_kept;
 pub use crate::objects::objects_sound;
 pub use crate::people::people_sound;
 pub use crate::records::records_sound;

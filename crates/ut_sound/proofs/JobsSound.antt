@@ -115,7 +115,7 @@ module _ (t : Tenant) (s : IsSound t) (j : Job) (h : IsSoundJob t.counter t.obje
       subst (λ (c : Option (List ℕ)). IsCursor t.counter j.object c) (sym x.2) (cursor_of t s j.object x.0 w.0 w.1)
 
   -- either a record was copied before, or it is left
-  before_or_left : (y : Record) → is_copied phase.Copy j.cursor y.id ≡ false → is_past j.cursor y.id ≡ true
+  pub before_or_left : (y : Record) → is_copied phase.Copy j.cursor y.id ≡ false → is_past j.cursor y.id ≡ true
   before_or_left y e = by j.cursor e
     where
       less : (a b : List ℕ) (o : Ordering) → slice_cmp nat_cmp a b ≡ o → is_le o ≡ false → is_lt (slice_cmp nat_cmp b a) ≡ true

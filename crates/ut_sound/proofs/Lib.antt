@@ -17,3 +17,5 @@ mod ObjectsSound
 mod FormulasSound
 mod JobFormulas
 mod OtherFormulas
+mod Changes
+mod SwitchSound

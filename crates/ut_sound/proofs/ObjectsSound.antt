@@ -13,11 +13,11 @@ use Rattle.ut_model.specs.Cases.{in_case}
 use Rattle.ut_model.specs.Fields.{is_detail, is_master, same_name}
 use Rattle.ut_model.specs.Known.{known}
 use Rattle.ut_model.specs.Levels.{Reads}
-use Rattle.ut_model.specs.Metadata.{masters_above, set_access}
+use Rattle.ut_model.specs.Metadata.{set_access}
 use Rattle.ut_model.specs.Names.{is_stem}
 use Rattle.ut_model.specs.Objects.{Numbered, change_at, is_of, object_number, with_object_changed}
 use Rattle.ut_model.specs.Ordered.{put_in}
-use Rattle.ut_model.specs.Relationships.{Reference, master_in, parent_name, references_of, relationship_names}
+use Rattle.ut_model.specs.Relationships.{Reference, references_of}
 use Rattle.ut_model.specs.RuleFormulas.{name_cmp}
 use Rattle.ut_model.specs.Rules.{refuse_if}
 use Rattle.ut_model.specs.Sound.{IsSound}
@@ -32,6 +32,7 @@ use Rattle.ut_model.specs.Verdict.{accept, done, judged}
 use Rattle.ut_sound.proofs.Parts.{all_at, all_more, all_put, among_kept, clash, holds_not, length_put, none_refuses, none_so, unrefused}
 use Rattle.ut_sound.proofs.Orders.{rise_put}
 use Rattle.ut_sound.proofs.Growing.{within_limit}
+use Rattle.ut_sound.proofs.Changes.{length_changed, level_by_references, map_changed, names_by_references}
 use Rattle.ut_sound.proofs.PeopleSound.{when_judged}
 use Rattle.ut_sound.proofs.SharingSound.{numbered_from, tied_names, when_object}
 
@@ -58,16 +59,6 @@ module _ (A : Object → Access) (R : Object → List ValidationRule) where
   refs_same k zero (x ∷ os) = refl
   refs_same k (suc n) (x ∷ os) = ap (λ (rs : List Reference). references_of (record { number = k; object = x }) ++ rs) (refs_same (k + 1) n os)
 
-  length_same : (n : ℕ) (os : List Object) → length (change_at n change os) ≡ length os
-  length_same n [] = refl
-  length_same zero (x ∷ os) = refl
-  length_same (suc n) (x ∷ os) = ap suc (length_same n os)
-
-  names_same : (n : ℕ) (os : List Object) → map (λ (o : Object). o.name) (change_at n change os) ≡ map (λ (o : Object). o.name) os
-  names_same n [] = refl
-  names_same zero (x ∷ os) = refl
-  names_same (suc n) (x ∷ os) = ap (λ (zs : List (List ℕ)). x.name ∷ zs) (names_same n os)
-
   module _ (t : Tenant) (s : IsSound t) (n : ℕ) where
     abbrev os : List Object
     os = t.objects
@@ -75,30 +66,15 @@ module _ (A : Object → Access) (R : Object → List ValidationRule) where
     abbrev now : List Object
     now = change_at n change os
 
-    relations_same : (m : ℕ) → relationship_names now m ≡ relationship_names os m
-    relations_same m =
-        ap (λ (rs : List Reference). map (λ (f : Reference). parent_name f.field.name) (filter (λ f. f.object == m) rs) ++ filter_map (λ (f : Reference). f.field.child) (filter (λ f. f.target == m) rs)) (refs_same 0 n os)
-
-    master_same : (m : ℕ) → master_in now m ≡ master_in os m
-    master_same m = ap (λ (rs : List Reference). find (λ (f : Reference). (f.object == m) && is_master f.field.kind) rs) (refs_same 0 n os)
-
-    level_same : (k m : ℕ) → masters_above k now m ≡ masters_above k os m
-    level_same zero m = refl
-    level_same (suc k) m = ap (λ z. in_case z 0 (λ (f : Reference). suc (masters_above k now f.target))) (master_same m) ∙ by (master_in os m) (level_same k)
-      where
-        by : (z : Option Reference) → ((m : ℕ) → masters_above k now m ≡ masters_above k os m) → in_case z 0 (λ (f : Reference). suc (masters_above k now f.target)) ≡ in_case z 0 (λ (f : Reference). suc (masters_above k os f.target))
-        by None h = refl
-        by (Some f) h = ap suc (h f.target)
-
     lift : (o : Numbered) → IsSoundObject os o → IsSoundObject now o
     lift o x =
         record {
           name = x.name;
-          fields = subst (λ (k : ℕ). AllByRecursion (IsSoundField k) o.object.fields) (sym (length_same n os)) x.fields;
+          fields = subst (λ (k : ℕ). AllByRecursion (IsSoundField k) o.object.fields) (sym (length_changed change n os)) x.fields;
           field_names = x.field_names;
-          relations = ap names_differ (relations_same o.number) ∙ x.relations;
+          relations = ap names_differ (names_by_references os now (refs_same 0 n os) o.number) ∙ x.relations;
           master = x.master;
-          level = subst (λ (k : ℕ). k ≤ 3) (sym (level_same 4 o.number)) x.level;
+          level = subst (λ (k : ℕ). k ≤ 3) (sym (level_by_references os now (refs_same 0 n os) 4 o.number)) x.level;
           rules = x.rules;
           rules_rise = x.rules_rise;
           few_fields = x.few_fields;
@@ -163,8 +139,8 @@ module _ (A : Object → Access) (R : Object → List ValidationRule) where
             metadata =
                 record {
                   objects = objects_sound 0 n os good s.metadata.objects;
-                  names = ap names_differ (names_same n os) ∙ s.metadata.names;
-                  few = subst (λ (k : ℕ). k ≤ 100) (sym (length_same n os)) s.metadata.few;
+                  names = ap names_differ (map_changed change (λ (o : Object). o.name) n os (λ x e. refl)) ∙ s.metadata.names;
+                  few = subst (λ (k : ℕ). k ≤ 100) (sym (length_changed change n os)) s.metadata.few;
                 };
             records = record { each = all_more (IsSoundRecord (known t) os) (IsSoundRecord (known t) now) record_over t.records s.records.each; rise = s.records.rise; unique = unique_over; few = s.records.few; few_of = s.records.few_of };
             rules =

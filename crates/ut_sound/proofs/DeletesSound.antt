@@ -50,17 +50,17 @@ use Rattle.ut_sound.proofs.RecordsSound.{not_null}
 use Rattle.ut_sound.proofs.UpdatesSound.{records_edited, when_named}
 
 -- ---- the references of an object are among all, at their object
-among_either : {A : Type 0} (xs ys : List A) (z : A) → Has (xs ++ ys) z → Has xs z ⊎ Has ys z
+pub among_either : {A : Type 0} (xs ys : List A) (z : A) → Has (xs ++ ys) z → Has xs z ⊎ Has ys z
 among_either [] ys z m = inr m
 among_either (w ∷ xs) ys z (inl e) = inl (inl e)
 among_either (w ∷ xs) ys z (inr m) = elim (among_either xs ys z m) [ inl a ↦ inl (inr a) | inr b ↦ inr b ]
 
-among_left : {A : Type 0} (xs ys : List A) (z : A) → Has xs z → Has (xs ++ ys) z
+pub among_left : {A : Type 0} (xs ys : List A) (z : A) → Has xs z → Has (xs ++ ys) z
 among_left [] ys z m = absurd m
 among_left (x ∷ xs) ys z (inl e) = inl e
 among_left (x ∷ xs) ys z (inr m) = inr (among_left xs ys z m)
 
-among_right : {A : Type 0} (xs ys : List A) (z : A) → Has ys z → Has (xs ++ ys) z
+pub among_right : {A : Type 0} (xs ys : List A) (z : A) → Has ys z → Has (xs ++ ys) z
 among_right [] ys z m = m
 among_right (x ∷ xs) ys z m = inr (among_right xs ys z m)
 

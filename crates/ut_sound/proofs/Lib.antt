@@ -19,3 +19,4 @@ mod JobFormulas
 mod OtherFormulas
 mod Changes
 mod SwitchSound
+mod NewObjects

@@ -1,15 +1,18 @@
 -- What the form of a body gives, beyond what the rules of its request ask. Every request that is read has it; a request as data may
 -- lack it, and then what its verdict leaves need not be sound. It is this product's own.
-use Rattle.std.specs.Prelude.{◌≡◌, ℕ, Bool, true, ◌&&◌, List, None, bytes_eq, codes, is_some, IsTrue}
+use Rattle.std.specs.Prelude.{◌≡◌, ℕ, Bool, true, not, ◌&&◌, List, None, bytes_eq, codes, is_some, IsTrue}
 use Rattle.std.specs.List.{list_any}
 use Rattle.ut_value.specs.Dates.{is_moment}
 use Rattle.ut_model.specs.declared.record.Record.{Record}
+use Rattle.ut_model.specs.Cases.{in_case}
 use Rattle.ut_model.specs.Edits.{bad_value, with_given}
 use Rattle.ut_model.specs.Given.{Assignment}
 use Rattle.ut_model.specs.Levels.{Reads}
+use Rattle.ut_model.specs.Metadata.{NewObject}
 use Rattle.ut_model.specs.Paths.{Asked}
 use Rattle.ut_model.specs.Shares.{NewShare}
 use Rattle.ut_model.specs.SharingRules.{NewSharingRule, SpelledSource, by_formula, from}
+use Rattle.ut_model.specs.SoundMetadata.{by_parent}
 use Rattle.ut_model.specs.SoundRecords.{all_valid, kinds_of}
 use Rattle.ut_model.specs.SoundSharing.{is_grant}
 use Rattle.ut_model.specs.Tenant.{Object}
@@ -33,6 +36,15 @@ is_fit_rule b = is_grant b.level && (has_member b.members (codes "to") && has_so
 -- the level is Read or Edit
 abbrev pub is_fit_share : NewShare → Bool
 is_fit_share b = is_grant b.level
+
+-- ---- objects
+
+-- `name` is a member, and of a detail those of its master are; the access is by the parent exactly in a detail
+abbrev pub is_fit_object : NewObject → Bool
+is_fit_object b =
+    has_member b.members (codes "name")
+    && in_case b.master (not (by_parent b.access)) (λ m.
+    by_parent b.access && (has_member b.members (codes "field") && has_member b.members (codes "child")))
 
 -- ---- records
 

@@ -1,3 +1,4 @@
+use Rattle.ut_sound.proofs.NewObjects.{add_object_sound}
 use Rattle.ut_sound.proofs.ObjectsSound.{add_validation_sound, set_access_sound}
 use Rattle.ut_sound.proofs.objects.objects_sound.Goals as goal
 
@@ -6,3 +7,6 @@ returns-clause-set_access c = set_access_sound
 
 pub returns-clause-add_validation_rule : goal.returns-clause-add_validation_rule
 returns-clause-add_validation_rule c = add_validation_sound
+
+pub returns-clause-add_object : goal.returns-clause-add_object
+returns-clause-add_object c = add_object_sound

@@ -1,7 +1,8 @@
 -- One thing of a list changed at its place.
-use Rattle.std.proofs.Common.{◌≡◌, ℕ, zero, suc, ◌+◌, ◌==◌, Bool, true, false, ◌&&◌, ◌||◌, cond, List, [], ◌∷◌, ◌++◌, map, filter, filter_map, length, Option, Some, None, refl, ap, sym, ◌∙◌, arith, inl, inr, slice_get}
+use Rattle.std.proofs.Common.{◌≡◌, ℕ, zero, suc, ◌+◌, ◌==◌, Bool, true, false, ◌&&◌, ◌||◌, cond, List, [], ◌∷◌, ◌++◌, map, filter, filter_map, length, Option, Some, None, refl, ap, sym, subst, ◌∙◌, eq-eqb, arith, ◌⊎◌, inl, inr, slice_get}
 use Rattle.std.specs.List.{AllByRecursion, enumerate_from, find, list_any}
 use Rattle.std.specs.Option.{unwrap_or}
+use Rattle.std.proofs.lemmas.Bool.{eqb-true}
 use Rattle.ut_model.specs.Cases.{in_case}
 use Rattle.ut_model.specs.Fields.{is_master}
 use Rattle.ut_model.specs.Membership.{Has}
@@ -9,8 +10,11 @@ use Rattle.ut_model.specs.Metadata.{masters_above}
 use Rattle.ut_model.specs.Objects.{Numbered, change_at}
 use Rattle.ut_model.specs.Relationships.{Reference, master_in, parent_name, references, relationship_names}
 use Rattle.ut_model.specs.Tenant.{Object}
-use Rattle.ut_sound.proofs.Parts.{pick}
+use Rattle.ut_sound.proofs.Parts.{all_from, clash, pick}
 use Rattle.ut_sound.proofs.SharingSound.{numbered_from}
+
+some_is : {A : Type 0} (x y : A) → Some x ≡ Some y → x ≡ y
+some_is x y e = ap (λ o. unwrap_or o x) e
 
 module _ {A : Type 0} (g : A → A) where
   -- at the place it is the changed one
@@ -62,6 +66,15 @@ at_has n [] x e = absurd cc
 at_has zero (y ∷ xs) x e = inl (sym (ap (λ w. unwrap_or w y) e))
 at_has (suc n) (y ∷ xs) x e = inr (at_has n xs x e)
 
+-- levels depend on the references to masters alone
+pub level_by_masters : (os now : List Object) → ((m : ℕ) → master_in now m ≡ master_in os m) → (k m : ℕ) → masters_above k now m ≡ masters_above k os m
+level_by_masters os now same zero m = refl
+level_by_masters os now same (suc k) m = ap (λ z. in_case z 0 (λ (f : Reference). suc (masters_above k now f.target))) (same m) ∙ by (master_in os m) (level_by_masters os now same k)
+  where
+    by : (z : Option Reference) → ((m : ℕ) → masters_above k now m ≡ masters_above k os m) → in_case z 0 (λ (f : Reference). suc (masters_above k now f.target)) ≡ in_case z 0 (λ (f : Reference). suc (masters_above k os f.target))
+    by None h = refl
+    by (Some f) h = ap suc (h f.target)
+
 -- what depends on references alone
 module _ (os now : List Object) (same : references now ≡ references os) where
   pub names_by_references : (m : ℕ) → relationship_names now m ≡ relationship_names os m
@@ -71,15 +84,35 @@ module _ (os now : List Object) (same : references now ≡ references os) where
   master_by_references m = ap (λ (rs : List Reference). find (λ (f : Reference). (f.object == m) && is_master f.field.kind) rs) same
 
   pub level_by_references : (k m : ℕ) → masters_above k now m ≡ masters_above k os m
-  level_by_references zero m = refl
-  level_by_references (suc k) m = ap (λ z. in_case z 0 (λ (f : Reference). suc (masters_above k now f.target))) (master_by_references m) ∙ by (master_in os m) (level_by_references k)
-    where
-      by : (z : Option Reference) → ((m : ℕ) → masters_above k now m ≡ masters_above k os m) → in_case z 0 (λ (f : Reference). suc (masters_above k now f.target)) ≡ in_case z 0 (λ (f : Reference). suc (masters_above k os f.target))
-      by None h = refl
-      by (Some f) h = ap suc (h f.target)
+  level_by_references = level_by_masters os now master_by_references
 
 -- a numbered object is at its number
 pub numbered_at : (n : ℕ) (os : List Object) (o : Numbered) → Has (numbered_from n os) o → (k : ℕ) × (o.number ≡ n + k) × (slice_get os k ≡ Some o.object)
 numbered_at n [] o m = absurd m
 numbered_at n (x ∷ os) o (inl e) = (0, ap (λ (z : Numbered). z.number) e ∙ omega arith, ap (λ (z : Numbered). Some z.object) (sym e))
 numbered_at n (x ∷ os) o (inr m) = let r = numbered_at (n + 1) os o m in (suc r.0, r.1 ∙ omega arith, r.2)
+
+module _ {A : Type 0} (g : A → A) where
+  -- at the place it is the changed one, and elsewhere what was there
+  pub changed_or_not : (n : ℕ) (xs : List A) (x : A) → slice_get xs n ≡ Some x → (m : ℕ)
+      → ((m ≡ n) × (slice_get (change_at n g xs) m ≡ Some (g x))) ⊎ ((m ≡ n → ⊥) × (slice_get (change_at n g xs) m ≡ slice_get xs m))
+  changed_or_not n xs x e m = by (m == n) refl
+    where
+      by : (b : Bool) → (m == n) ≡ b → ((m ≡ n) × (slice_get (change_at n g xs) m ≡ Some (g x))) ⊎ ((m ≡ n → ⊥) × (slice_get (change_at n g xs) m ≡ slice_get xs m))
+      by true h = let k = eqb-true m n h in inl (k, ap (slice_get (change_at n g xs)) k ∙ same_at g n xs x e)
+      by false h = let other : m ≡ n → ⊥ = λ k. clash (sym (eq-eqb m n k) ∙ h) in inr (other, other_at g n m xs other)
+
+-- of numbered objects, where one is changed
+pub objects_changed : (g : Object → Object) (n : ℕ) (os : List Object) (p : Object) → slice_get os n ≡ Some p → (P : Numbered → Type 0)
+    → ((m : ℕ) (o : Object) → slice_get os m ≡ Some o → P (record { number = m; object = o })) → (P (record { number = n; object = g p })) → AllByRecursion P (numbered_from 0 (change_at n g os))
+objects_changed g n os p at P old new =
+    all_from P (numbered_from 0 (change_at n g os)) (λ o m.
+    let r = numbered_at 0 (change_at n g os) o m in
+    let k : o.number ≡ r.0 = r.1 ∙ omega arith in
+    let found : slice_get (change_at n g os) o.number ≡ Some o.object = ap (slice_get (change_at n g os)) k ∙ r.2 in
+    elim (changed_or_not g n os p at o.number) [
+      | inl c ↦
+          let is : g p ≡ o.object = some_is (g p) o.object (sym c.1 ∙ found) in
+          subst (λ (z : Numbered). P z) (λ i. record { number = sym c.0 i; object = is i }) new
+      | inr c ↦ old o.number o.object (sym c.1 ∙ found)
+    ])

@@ -20,3 +20,5 @@ mod OtherFormulas
 mod Changes
 mod SwitchSound
 mod NewObjects
+mod NewFieldsSound
+mod AddsField

@@ -41,15 +41,15 @@ some_is x y e = ap (λ o. unwrap_or o x) e
 
 -- ---- lists with one more at the end
 module _ {A : Type 0} where
-  nil_right : (xs : List A) → xs ++ [] ≡ xs
+  pub nil_right : (xs : List A) → xs ++ [] ≡ xs
   nil_right [] = refl
   nil_right (x ∷ xs) = ap (λ ys. x ∷ ys) (nil_right xs)
 
-  in_turn : (xs ys zs : List A) → xs ++ (ys ++ zs) ≡ (xs ++ ys) ++ zs
+  pub in_turn : (xs ys zs : List A) → xs ++ (ys ++ zs) ≡ (xs ++ ys) ++ zs
   in_turn [] ys zs = refl
   in_turn (x ∷ xs) ys zs = ap (λ ws. x ∷ ws) (in_turn xs ys zs)
 
-  get_before : (xs : List A) (x : A) (m : ℕ) (y : A) → slice_get xs m ≡ Some y → slice_get (xs ++ x ∷ []) m ≡ Some y
+  pub get_before : (xs : List A) (x : A) (m : ℕ) (y : A) → slice_get xs m ≡ Some y → slice_get (xs ++ x ∷ []) m ≡ Some y
   get_before [] x m y e = absurd cc
   get_before (z ∷ xs) x zero y e = e
   get_before (z ∷ xs) x (suc m) y e = get_before xs x m y e
@@ -59,7 +59,7 @@ module _ {A : Type 0} where
   get_within (x ∷ xs) zero e = (x, refl)
   get_within (x ∷ xs) (suc m) e = get_within xs m (omega (arith, e))
 
-  filter_last : (q : A → Bool) (xs : List A) (x : A) → filter q (xs ++ x ∷ []) ≡ cond (q x) (filter q xs ++ x ∷ []) (filter q xs)
+  pub filter_last : (q : A → Bool) (xs : List A) (x : A) → filter q (xs ++ x ∷ []) ≡ cond (q x) (filter q xs ++ x ∷ []) (filter q xs)
   filter_last q [] x = pick (q x) (λ b. cond b (x ∷ []) [] ≡ cond b (x ∷ []) []) (λ _. refl) (λ _. refl)
   filter_last q (y ∷ xs) x =
       let more = filter_last q xs x in
@@ -92,14 +92,14 @@ module _ {A : Type 0} where
   map_last f (y ∷ xs) x = ap (λ ys. f y ∷ ys) (map_last f xs x)
 
 -- ---- one more name
-not_turned : (a b : List ℕ) → bytes_eq a b ≡ false → bytes_eq b a ≡ false
+pub not_turned : (a b : List ℕ) → bytes_eq a b ≡ false → bytes_eq b a ≡ false
 not_turned a b e = by (bytes_eq b a) refl
   where
     by : (c : Bool) → bytes_eq b a ≡ c → c ≡ false
     by true h = absurd (clash (sym (same_itself a) ∙ ap (bytes_eq a) (sym (same_exact b a h)) ∙ e))
     by false h = refl
 
-none_last : (x : List ℕ) (xs : List (List ℕ)) (c : List ℕ) → list_any (bytes_eq x) xs ≡ false → bytes_eq x c ≡ false → list_any (bytes_eq x) (xs ++ c ∷ []) ≡ false
+pub none_last : (x : List ℕ) (xs : List (List ℕ)) (c : List ℕ) → list_any (bytes_eq x) xs ≡ false → bytes_eq x c ≡ false → list_any (bytes_eq x) (xs ++ c ∷ []) ≡ false
 none_last x [] c h e = ap (λ b. b || false) e
 none_last x (y ∷ xs) c h e = by (bytes_eq x y) h (λ h. none_last x xs c h e)
   where
@@ -107,7 +107,7 @@ none_last x (y ∷ xs) c h e = by (bytes_eq x y) h (λ h. none_last x xs c h e)
     by true h more = absurd cc
     by false h more = more h
 
-names_last : (names : List (List ℕ)) (c : List ℕ) → names_differ names ≡ true → list_any (same_name c) names ≡ false → names_differ (names ++ c ∷ []) ≡ true
+pub names_last : (names : List (List ℕ)) (c : List ℕ) → names_differ names ≡ true → list_any (same_name c) names ≡ false → names_differ (names ++ c ∷ []) ≡ true
 names_last [] c h e = refl
 names_last (x ∷ names) c h e =
     let parts = no_one (bytes_eq (lower c) (lower x)) (list_any (same_name c) names) e in
@@ -303,7 +303,7 @@ find_none : {A : Type 0} (q : A → Bool) (xs : List A) → ((x : A) → Has xs 
 find_none q [] h = refl
 find_none q (x ∷ xs) h = ap (λ b. cond b (Some x) (find q xs)) (h x (inl refl)) ∙ find_none q xs (λ y m. h y (inr m))
 
-and_false : (a b : Bool) → a ≡ false → (a && b) ≡ false
+pub and_false : (a b : Bool) → a ≡ false → (a && b) ≡ false
 and_false true b e = absurd cc
 and_false false b e = refl
 

@@ -44,7 +44,7 @@ use Rattle.ut_sound.proofs.ContentSound.{kind_at, reference_place, valid_at}
 use Rattle.ut_sound.proofs.RecordsSound.{not_null}
 use Rattle.ut_sound.proofs.DeletesSound.{sound_object}
 use Rattle.ut_sound.proofs.JobsSound.{before_or_left, step_sound}
-use Rattle.ut_sound.proofs.Changes.{all_changed, any_changed, at_has, count_changed, length_changed, level_by_references, map_changed, names_by_references, numbered_at, other_at, same_at}
+use Rattle.ut_sound.proofs.Changes.{all_changed, any_changed, at_has, count_changed, length_changed, level_by_references, map_changed, names_by_references, objects_changed, other_at, same_at}
 
 -- what `ut_value` says of a value that converts
 abbrev pub ConvertLaw : Type 0
@@ -58,12 +58,12 @@ not_so true e = absurd cc
 not_so false e = refl
 
 -- ---- types that are no references
-plain_target : (k : FieldType) → is_reference k ≡ false → target_of k ≡ None
+pub plain_target : (k : FieldType) → is_reference k ≡ false → target_of k ≡ None
 plain_target (type.Lookup o d) e = absurd cc
 plain_target (type.Master o) e = absurd cc
 plain_target k e = refl
 
-plain_master : (k : FieldType) → is_reference k ≡ false → is_master k ≡ false
+pub plain_master : (k : FieldType) → is_reference k ≡ false → is_master k ≡ false
 plain_master (type.Master o) e = absurd cc
 plain_master k e = refl
 
@@ -223,22 +223,8 @@ module _ (law : ConvertLaw) (t : Tenant) (s : IsSound t) (j : Job) (h : IsSoundJ
 
   objects_sound : AllByRecursion (IsSoundObject now) (numbered now)
   objects_sound =
-      all_from (IsSoundObject now) (numbered now) (λ o m.
-      let r = numbered_at 0 now o m in
-      let k : o.number ≡ r.0 = r.1 ∙ omega arith in
-      by o (ap (slice_get now) k ∙ r.2) (o.number == j.object) refl)
-    where
-      by : (o : Numbered) → slice_get now o.number ≡ Some o.object → (b : Bool) → (o.number == j.object) ≡ b → IsSoundObject now o
-      by o at true e =
-          let n : o.number ≡ j.object = eqb-true o.number j.object e in
-          let is : change holder.0 ≡ o.object = some_is (change holder.0) o.object (sym (same_at change j.object os holder.0 holder.1) ∙ ap (slice_get now) (sym n) ∙ at) in
-          subst (λ (z : Object). IsSoundObject now (record { number = o.number; object = z })) is
-          (lift_changed o.number holder.0 holder.1 (sound_object t s o.number holder.0 (ap (slice_get os) n ∙ holder.1)))
-      by o at false e =
-          lift o (sound_object t s o.number o.object (sym (other_at change j.object o.number os (λ n. clash (sym (same_number o.number j.object n) ∙ e))) ∙ at))
-        where
-          same_number : (a b : ℕ) → a ≡ b → (a == b) ≡ true
-          same_number a b n = eq-eqb a b n
+      objects_changed change j.object os holder.0 holder.1 (IsSoundObject now) (λ n o at. lift (record { number = n; object = o }) (sound_object t s n o at))
+      (lift_changed j.object holder.0 holder.1 (sound_object t s j.object holder.0 holder.1))
 
   -- ---- records
   converts : (r : Record) → Has t.records r → is_of j.object r ≡ true → (v : Value) × (new_value j r ≡ Some v)

@@ -3,16 +3,19 @@
 use Rattle.std.specs.Prelude.{◌≡◌, ℕ, Bool, true, not, ◌&&◌, List, None, bytes_eq, codes, is_some, IsTrue}
 use Rattle.std.specs.List.{list_any}
 use Rattle.ut_value.specs.Dates.{is_moment}
+use Rattle.ut_value.specs.Types.{is_reference, is_type, suits_indexed, suits_unique}
+use Rattle.ut_value.specs.declared.value.FieldType.{FieldType}
 use Rattle.ut_model.specs.declared.record.Record.{Record}
 use Rattle.ut_model.specs.Cases.{in_case}
 use Rattle.ut_model.specs.Edits.{bad_value, with_given}
 use Rattle.ut_model.specs.Given.{Assignment}
 use Rattle.ut_model.specs.Levels.{Reads}
 use Rattle.ut_model.specs.Metadata.{NewObject}
+use Rattle.ut_model.specs.NewFields.{NewField, SpelledType, plain, lookup_to, type_with}
 use Rattle.ut_model.specs.Paths.{Asked}
 use Rattle.ut_model.specs.Shares.{NewShare}
 use Rattle.ut_model.specs.SharingRules.{NewSharingRule, SpelledSource, by_formula, from}
-use Rattle.ut_model.specs.SoundMetadata.{by_parent}
+use Rattle.ut_model.specs.SoundMetadata.{by_parent, implies, may_be_required}
 use Rattle.ut_model.specs.SoundRecords.{all_valid, kinds_of}
 use Rattle.ut_model.specs.SoundSharing.{is_grant}
 use Rattle.ut_model.specs.Tenant.{Object}
@@ -45,6 +48,22 @@ is_fit_object b =
     has_member b.members (codes "name")
     && in_case b.master (not (by_parent b.access)) (λ m.
     by_parent b.access && (has_member b.members (codes "field") && has_member b.members (codes "child")))
+
+-- a lookup is the member `type`, and no other type is a reference
+abbrev pub has_type : (members : List (List ℕ)) → SpelledType → Bool
+has_type members (plain kind) = not (is_reference kind)
+has_type members (lookup_to object on_delete child) = has_member members (codes "type")
+
+-- flags that suit a type: required, unique, indexed
+abbrev pub flags_suit : NewField → FieldType → Bool
+flags_suit b kind =
+    implies b.required (may_be_required kind) && (implies b.unique (suits_unique kind) && implies b.indexed (suits_indexed kind))
+
+-- `name` is a member, the type is within its bounds, and the flags suit it, whatever object a lookup names
+abbrev pub is_fit_field : NewField → Bool
+is_fit_field b =
+    has_member b.members (codes "name") && (has_type b.members b.kind
+    && (is_type (type_with None b.kind) && flags_suit b (type_with None b.kind)))
 
 -- ---- records
 

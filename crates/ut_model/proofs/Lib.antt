@@ -8,3 +8,4 @@ mod Sorted
 mod Before
 mod Computing
 mod Within
+mod Requesting

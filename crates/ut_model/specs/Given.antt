@@ -73,13 +73,13 @@ most_of (typed (type.Text most)) = most
 most_of _ = 0
 
 -- the refusal of what was read in this kind of field, under this name
-abbrev pub refusal_of : (name : List ℕ) → Kind → (text : List ℕ) → ValueFail → Refusal
-refusal_of name kind text fail.WrongType = refusal.WrongType name
-refusal_of name kind text fail.TooLong = refusal.TooLong name (most_of kind)
-refusal_of name kind text fail.OutOfRange = refusal.OutOfRange name
-refusal_of name kind text fail.NotListed = refusal.NotListed name
-refusal_of name kind text fail.NotAnId = refusal.MalformedId text
-refusal_of name kind text fail.Memory = refusal.WrongType name
+abbrev pub value_refusal : (name : List ℕ) → Kind → (text : List ℕ) → ValueFail → Refusal
+value_refusal name kind text fail.WrongType = refusal.WrongType name
+value_refusal name kind text fail.TooLong = refusal.TooLong name (most_of kind)
+value_refusal name kind text fail.OutOfRange = refusal.OutOfRange name
+value_refusal name kind text fail.NotListed = refusal.NotListed name
+value_refusal name kind text fail.NotAnId = refusal.MalformedId text
+value_refusal name kind text fail.Memory = refusal.WrongType name
 
 -- a value, or its refusal
 abbrev pub ReadOr : Type 0
@@ -88,12 +88,12 @@ ReadOr = Result Value Refusal
 -- what was read of a text
 abbrev pub or_refusal : (name : List ℕ) → Kind → (text : List ℕ) → Read → ReadOr
 or_refusal name kind text (Ok v) = Ok v
-or_refusal name kind text (Err why) = Err (refusal_of name kind text why)
+or_refusal name kind text (Err why) = Err (value_refusal name kind text why)
 
 -- the text in JSON, if it is one
-abbrev pub text_of : Json → List ℕ
-text_of (json.Text text) = text
-text_of _ = []
+abbrev pub json_text : Json → List ℕ
+json_text (json.Text text) = text
+json_text _ = []
 
 -- ---- records by a unique field
 
@@ -133,5 +133,5 @@ read_found t c field text =
 -- ---- the value that is given to a field, or its refusal
 abbrev pub read_given : Tenant → Column → Given → ReadOr
 read_given t c (a_value v) = Ok v
-read_given t c (in_json j) = or_refusal c.name c.kind (text_of j) (read_json c.kind j)
+read_given t c (in_json j) = or_refusal c.name c.kind (json_text j) (read_json c.kind j)
 read_given t c (found_by field text) = read_found t c field text

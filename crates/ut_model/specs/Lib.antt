@@ -53,3 +53,17 @@ pub mod Jobs
 pub mod Tests
 pub mod Asking
 pub mod RowsJson
+pub mod Replies
+pub mod Requests
+pub mod Members
+pub mod TypeForms
+pub mod Forms
+pub mod PeopleForms
+pub mod RequestOf
+pub mod WorkedRequests
+pub mod WorkedSharing
+pub mod WorkedRecords
+pub mod WorkedRetypes
+pub mod WorkedLimits
+pub mod WorkedForms
+pub mod WorkedRefusals

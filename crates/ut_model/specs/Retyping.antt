@@ -21,13 +21,13 @@ use Rattle.ut_model.specs.Verdict.{Verdict, accept, done, judged, refuse, state_
 
 -- ---- the rules
 
-abbrev pub is_done : Phase → Bool
-is_done phase.Done = true
-is_done _ = false
+abbrev pub job_is_done : Phase → Bool
+job_is_done phase.Done = true
+job_is_done _ = false
 
 -- JOB_BUSY: there is a job that isn't done
 abbrev pub under_way : Tenant → Rule
-under_way t = in_case t.job None (λ j. refuse_if (not (is_done j.phase)) refusal.JobBusy)
+under_way t = in_case t.job None (λ j. refuse_if (not (job_is_done j.phase)) refusal.JobBusy)
 
 -- a truth value can't be indexed
 abbrev pub is_checkbox : FieldType → Bool

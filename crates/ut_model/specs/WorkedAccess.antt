@@ -107,7 +107,6 @@ line = item (id_of 1 11) None (value.Null ∷ value.Ref d1.id ∷ [])
 abbrev pub part : Record
 part = item (id_of 2 12) None (value.Null ∷ value.Ref line.id ∷ [])
 
--- ---- the organisation
 abbrev pub tenant : List Object → List SharingRule → List Record → List Share → Tenant
 tenant objects rules records shares =
     record {
@@ -152,7 +151,7 @@ reads o criteria text =
 abbrev pub staged : List ℕ → RuleState → List ℕ → Tenant
 staged text state stage = ruled (meets text) (to.Group g2) state (deal 10 ron stage ∷ [])
 
--- Ron's deal is Cea's now, or still Ron's, with these shares
+-- Cea's deal now, or still Ron's, with these shares
 abbrev pub shared : User → List Share → Tenant
 shared owner shares = tenant (deals access.Private) [] (deal 8 owner (codes "Shut") ∷ line ∷ part ∷ []) shares
 

@@ -1,0 +1,52 @@
+-- Bodies for rows worked by hand. A reader of the rules may pass them over.
+use Rattle.std.specs.Prelude.{ℕ, false, List, [], ◌∷◌, ◌++◌, codes}
+use Rattle.ut_json.specs.declared.tree.Json.{Json}
+use Rattle.ut_json.specs.declared.tree.Json.TheVariants as json
+use Rattle.ut_value.specs.declared.sharing.Level.TheVariants.{Edit}
+use Rattle.ut_value.specs.declared.sharing.Principal.TheVariants as to
+use Rattle.ut_model.specs.Members.{Body}
+use Rattle.ut_model.specs.Shares.{NewShare}
+
+-- a member that is a text
+abbrev pub text_member : (name text : List ℕ) → List ℕ × Json
+text_member name text = (name, json.Text text)
+
+-- a share of `r` with the user `x` at this level, and more
+abbrev pub share_body : (level : List ℕ) → Body → Body
+share_body level more =
+    text_member (codes "to") (codes "user:x") ∷ text_member (codes "level") level ∷ text_member (codes "record") (codes "r") ∷ more
+
+abbrev pub share_read : NewShare
+share_read =
+    record {
+      members = codes "to" ∷ codes "level" ∷ codes "record" ∷ [];
+      item = codes "r";
+      to = record { kind = to.User; text = codes "x" };
+      level = Edit;
+    }
+
+abbrev pub user_body : (secret : List ℕ) → Body
+user_body secret =
+    text_member (codes "name") (codes "Ron")
+    ∷ text_member (codes "secret") secret
+    ∷ (codes "role", json.Null)
+    ∷ (codes "admin", json.Bool false)
+    ∷ []
+
+-- a sharing rule for a role, and more
+abbrev pub rule_body : Body → Body
+rule_body more =
+    text_member (codes "object") (codes "A__c")
+    ∷ text_member (codes "name") (codes "v")
+    ∷ text_member (codes "to") (codes "role:r")
+    ∷ text_member (codes "level") (codes "Read")
+    ∷ more
+
+-- a validation rule with this message
+abbrev pub validation_body : (message : List ℕ) → Body
+validation_body message =
+    text_member (codes "object") (codes "A__c")
+    ∷ text_member (codes "name") (codes "v")
+    ∷ text_member (codes "formula") (codes "TRUE")
+    ∷ text_member (codes "message") message
+    ∷ []

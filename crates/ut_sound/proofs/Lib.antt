@@ -22,3 +22,4 @@ mod SwitchSound
 mod NewObjects
 mod NewFieldsSound
 mod AddsField
+mod VerdictsSound

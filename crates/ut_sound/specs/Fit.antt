@@ -1,6 +1,6 @@
 -- What the form of a body gives, beyond what the rules of its request ask. Every request that is read has it; a request as data may
 -- lack it, and then what its verdict leaves need not be sound. It is this product's own.
-use Rattle.std.specs.Prelude.{◌≡◌, ℕ, Bool, true, not, ◌&&◌, List, None, bytes_eq, codes, is_some, IsTrue}
+use Rattle.std.specs.Prelude.{◌≡◌, ℕ, Bool, true, not, ◌&&◌, List, None, Option, Some, bytes_eq, codes, is_some, IsTrue}
 use Rattle.std.specs.List.{list_any}
 use Rattle.ut_value.specs.Dates.{is_moment}
 use Rattle.ut_value.specs.Types.{is_reference, is_type, suits_indexed, suits_unique}
@@ -9,13 +9,17 @@ use Rattle.ut_model.specs.declared.record.Record.{Record}
 use Rattle.ut_model.specs.Cases.{in_case}
 use Rattle.ut_model.specs.Edits.{bad_value, with_given}
 use Rattle.ut_model.specs.Given.{Assignment}
+use Rattle.ut_model.specs.Keys.{Key, with_key}
 use Rattle.ut_model.specs.Levels.{Reads}
 use Rattle.ut_model.specs.Metadata.{NewObject}
 use Rattle.ut_model.specs.NewFields.{NewField, SpelledType, plain, lookup_to, type_with}
 use Rattle.ut_model.specs.Paths.{Asked}
+use Rattle.ut_model.specs.Requests.{Request, creates, updates, upserts, shares, adds_object, sets_object, adds_field, adds_validation_rule, adds_sharing_rule, begins_retype}
+use Rattle.ut_model.specs.Retyping.{new_type}
 use Rattle.ut_model.specs.Shares.{NewShare}
 use Rattle.ut_model.specs.SharingRules.{NewSharingRule, SpelledSource, by_formula, from}
 use Rattle.ut_model.specs.SoundMetadata.{by_parent, implies, may_be_required}
+use Rattle.ut_model.specs.SoundPeople.{is_name}
 use Rattle.ut_model.specs.SoundRecords.{all_valid, kinds_of}
 use Rattle.ut_model.specs.SoundSharing.{is_grant}
 use Rattle.ut_model.specs.Tenant.{Object}
@@ -82,3 +86,19 @@ ReadsWell a o given =
 -- how a text is read looks at the fields of the object alone: nothing else is named in a formula
 abbrev pub ReadsByFields : Reads → Type 0
 ReadsByFields reads = (o p : Object) → o.fields ≡ p.fields → (criteria : Bool) (text : List ℕ) → reads o criteria text ≡ reads p criteria text
+
+-- ---- any request
+
+-- what the form of its body gives, for the user who asks
+abbrev pub IsFit : Asked → Request → Type 0
+IsFit a (creates object given) = (o : Object) → ReadsWell a o given
+IsFit a (updates object key given) = (o : Object) → ReadsWell a o given
+IsFit a (upserts object key text given) = (o : Object) (k : Key) → ReadsWell a o (with_key (Some k) given)
+IsFit a (shares b) = IsTrue (is_fit_share b)
+IsFit a (adds_object b) = IsTrue (is_fit_object b)
+IsFit a (sets_object object access) = IsTrue (not (by_parent access))
+IsFit a (adds_field b) = IsTrue (is_fit_field b)
+IsFit a (adds_validation_rule b) = IsTrue (is_name b.rule.message)
+IsFit a (adds_sharing_rule b) = IsTrue (is_fit_rule b)
+IsFit a (begins_retype object field to) = IsTrue (is_type (new_type to))
+IsFit a r = Unit {0}

@@ -12,6 +12,7 @@ mod objects;
 mod people;
 mod records;
 mod sharing;
+mod verdicts;
 
 pub use crate::deletes::deletes_sound;
 pub use crate::formulas::formulas_sound;
@@ -21,3 +22,4 @@ pub use crate::objects::objects_sound;
 pub use crate::people::people_sound;
 pub use crate::records::records_sound;
 pub use crate::sharing::sharing_sound;
+pub use crate::verdicts::verdicts_sound;

@@ -23,3 +23,4 @@ mod NewObjects
 mod NewFieldsSound
 mod AddsField
 mod VerdictsSound
+mod NumbersMean

@@ -8,7 +8,7 @@ use Rattle.std.proofs.lemmas.Slice.Eq.{bytes_eq-Decides}
 use Rattle.std.proofs.lemmas.List.{length-map}
 use Rattle.ut_value.specs.declared.sharing.Principal.{Principal}
 use Rattle.ut_value.specs.declared.sharing.Principal.TheVariants as to
-use Rattle.ut_model.specs.Sound.{role_id, group_id}
+use Rattle.ut_model.specs.Known.{role_id, group_id}
 use Rattle.ut_model.specs.Tenant.{Tenant, User, Role, Group}
 use Rattle.ut_model.specs.World.{with_id}
 use Rattle.ut_model.specs.Cases.{in_case}

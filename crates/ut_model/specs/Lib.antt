@@ -4,7 +4,15 @@ pub mod Messages
 pub mod Bodies
 pub mod Tenant
 pub mod World
+pub mod Known
+pub mod SoundPeople
+pub mod SoundMetadata
+pub mod SoundRecords
+pub mod SoundSharing
+pub mod SoundJob
+pub mod SoundFormulas
 pub mod Sound
+pub mod Same
 pub mod Organisations
 pub mod Callers
 pub mod Routing

@@ -1,5 +1,6 @@
 -- The rows of a new organisation, and that tables with them stand for the world with it.
 use Rattle.std.proofs.Common.{◌≡◌, ℕ, ◌+◌, ◌^◌, ◌<◌, Bool, true, false, ◌&&◌, ◌||◌, cond, eqb, IsTrue, List, [], ◌∷◌, ◌++◌, length, Option, Some, None, refl, sym, ap, ◌∙◌, arith, length-append}
+use Rattle.std.specs.Prelude.{is_some}
 use Rattle.std.specs.Option.{option_map}
 use Rattle.std.specs.FinMap as map
 use Rattle.std.specs.Str.{bytes_eq}
@@ -14,7 +15,10 @@ use Rattle.ut_keys.specs.Rows.{version_form, org_form, user_form}
 use Rattle.ut_model.specs.declared.limit.Limit.TheVariants as limit
 use Rattle.ut_model.specs.Limits.{limit_number}
 use Rattle.ut_model.specs.Organisations.{administrator, first_user, fresh, with_org}
-use Rattle.ut_model.specs.Sound.{IsSound, is_among, is_name}
+use Rattle.ut_model.specs.Known.{known, names_any}
+use Rattle.ut_model.specs.Membership.{Below, one_step, more_steps}
+use Rattle.ut_model.specs.Sound.{IsSound, is_name}
+use Rattle.ut_model.specs.SoundPeople.{parent_in}
 use Rattle.ut_model.specs.Tenant.{Tenant}
 use Rattle.ut_model.specs.World.{World}
 use Rattle.ut_people.specs.People.{with_rows}
@@ -86,29 +90,29 @@ fresh_sound : (name digest : List ℕ) → IsTrue (is_name name) → length dige
 fresh_sound name digest good size = record {
   name = good;
   counter = omega arith;
-  rule_numbers = omega arith;
-  users = (record { id = (0, omega arith, refl); name = good; digest = size; role = tt }, tt);
-  roles = tt;
-  groups = tt;
-  users_rise = tt;
-  roles_rise = tt;
-  groups_rise = tt;
   numbers = λ i j hi hj e. one i hi ∙ sym (one j hj);
-  few_users = omega arith;
-  few_roles = omega arith;
-  few_groups = omega arith;
-  few_objects = omega arith;
-  few_rules = omega arith;
-  few_records = omega arith;
+  users = record { each = (record { id = (0, omega arith, refl); name = good; digest = size; role = tt }, tt); rise = tt; few = omega arith };
+  roles = record { each = tt; rise = tt; few = omega arith; no_cycle = λ a h. no_step a a h };
+  groups = record { each = tt; rise = tt; few = omega arith };
+  metadata = record { objects = tt; names = refl; few = omega arith };
+  records = record { each = tt; rise = tt; unique = λ n place o f there at unique r s hr. absurd hr; few = omega arith; few_of = λ n. omega arith };
+  rules = record { each = tt; rise = tt; numbers = λ r s hr. absurd hr; few = omega arith; few_drawn = omega arith };
+  shares = record { each = tt; rise = tt; few = λ id. omega arith };
+  job = tt;
 }
   where
     -- there is one id
-    one : (i : List ℕ) → IsTrue (is_among (first_user ∷ []) i) → i ≡ first_user
+    one : (i : List ℕ) → IsTrue (names_any (known (fresh name digest)) i) → i ≡ first_user
     one i h = (bytes_eq-Decides i first_user).0 (only (bytes_eq i first_user) h)
       where
-        only : (b : Bool) → (b || false) ≡ true → b ≡ true
+        only : (b : Bool) → (is_some (cond b (Some (administrator name digest)) None) || false) ≡ true → b ≡ true
         only true e = refl
         only false e = e
+
+    -- no role has a parent
+    no_step : (a b : List ℕ) → Below (parent_in []) a b → ⊥
+    no_step a b (one_step e) = absurd cc
+    no_step a b (more_steps e h) = absurd cc
 
 fresh_alone : (name digest : List ℕ) → HasUsersAlone (fresh name digest)
 fresh_alone name digest = record { objects = refl; roles = refl; groups = refl; rules = refl; records = refl; shares = refl; job = refl }

@@ -15,7 +15,9 @@ use Rattle.ut_keys.specs.Forms.{row_bytes}
 use Rattle.ut_keys.specs.Keys.{User, spell}
 use Rattle.ut_keys.specs.Reads.{FoundAs, MayStandAt, ReadsAs}
 use Rattle.ut_keys.specs.Rows.{user_form}
-use Rattle.ut_model.specs.Sound.{IsSound, IsSoundUser}
+use Rattle.ut_model.specs.Known.{Known, known}
+use Rattle.ut_model.specs.Sound.{IsSound}
+use Rattle.ut_model.specs.SoundPeople.{IsSoundUser}
 use Rattle.ut_model.specs.Tenant as model
 use Rattle.ut_model.specs.Tenant.{Tenant}
 use Rattle.ut_model.specs.World.{World, tenant_at, user_at, user_in, users_in, user_prefix}
@@ -34,14 +36,14 @@ some_is : {A : Type 0} (x y : A) → there x ≡ there y → x ≡ y
 some_is x y e = cc
 
 -- what holds of each holds of the one found
-found_sound : (counter : ℕ) (roles : List model.Role) (us : List model.User) (i : List ℕ) (u : model.User) → AllByRecursion (IsSoundUser counter roles) us → user_at us i ≡ Some u → (u.id ≡ i) × IsSoundUser counter roles u
-found_sound counter roles [] i u h e = absurd cc
-found_sound counter roles (v ∷ us) i u h e = by (λ f. found_sound counter roles us i u h.1 f) (bytes_eq i v.id) refl
+found_sound : (k : Known) (us : List model.User) (i : List ℕ) (u : model.User) → AllByRecursion (IsSoundUser k) us → user_at us i ≡ Some u → (u.id ≡ i) × IsSoundUser k u
+found_sound k [] i u h e = absurd cc
+found_sound k (v ∷ us) i u h e = by (λ f. found_sound k us i u h.1 f) (bytes_eq i v.id) refl
   where
-    by : (user_at us i ≡ Some u → (u.id ≡ i) × IsSoundUser counter roles u) → (b : Bool) → bytes_eq i v.id ≡ b → (u.id ≡ i) × IsSoundUser counter roles u
+    by : (user_at us i ≡ Some u → (u.id ≡ i) × IsSoundUser k u) → (b : Bool) → bytes_eq i v.id ≡ b → (u.id ≡ i) × IsSoundUser k u
     by rest true same =
         let is : v ≡ u = some_is v u (sym (ap (λ b. cond b (Some v) (user_at us i)) same) ∙ e) in
-        subst (λ (x : model.User). (x.id ≡ i) × IsSoundUser counter roles x) is (sym ((bytes_eq-Decides i v.id).0 same), h.0)
+        subst (λ (x : model.User). (x.id ≡ i) × IsSoundUser k x) is (sym ((bytes_eq-Decides i v.id).0 same), h.0)
     by rest false same = rest (sym (ap (λ b. cond b (Some v) (user_at us i)) same) ∙ e)
 
 -- the row of a user's key, in the world
@@ -65,18 +67,18 @@ found_tenant (x ∷ w) zero t h e = subst IsSound (some_is x t e) h.0
 found_tenant (x ∷ w) (suc n) t h e = found_tenant w n t h.1 e
 
 module _ (makes : MakesIds) (texts : NamesAreTexts) (short : NamesAreShort) where
-  sound_row : (org : ℕ) (i : List ℕ) (t : Tenant) (u : model.User) → org < 2 ^ 32 → IsSound t → (u.id ≡ i) × IsSoundUser t.counter t.roles u → MayStandAt user_form (org, (tt, i)) (Some (user_of org u))
+  sound_row : (org : ℕ) (i : List ℕ) (t : Tenant) (u : model.User) → org < 2 ^ 32 → IsSound t → (u.id ≡ i) × IsSoundUser (known t) u → MayStandAt user_form (org, (tt, i)) (Some (user_of org u))
   sound_row org i t u lo st su = (
     ap (λ (j : List ℕ). (org, (tt, j))) su.0,
     (
       (lo, (tt, drawn_is_id makes user_prefix t.counter u.id refl refl su.1.id)),
-      (name_fits texts short u.name su.1.name, (su.1.digest, (role_is_id makes t.counter t.roles st.roles u.role su.1.role, tt))),
+      (name_fits texts short u.name su.1.name, (su.1.digest, (role_is_id makes (known t) t.roles st.roles.each u.role su.1.role, tt))),
     ),
   )
 
   found_at : (org : ℕ) (i : List ℕ) (t : Tenant) → org < 2 ^ 32 → IsSound t → (o : Option model.User) → user_at t.users i ≡ o → MayStandAt user_form (org, (tt, i)) (option_map (user_of org) o)
   found_at org i t lo st None e = tt
-  found_at org i t lo st (Some u) e = sound_row org i t u lo st (found_sound t.counter t.roles t.users i u st.users e)
+  found_at org i t lo st (Some u) e = sound_row org i t u lo st (found_sound (known t) t.users i u st.users.each e)
 
   in_tenant : (w : World) (org : ℕ) (i : List ℕ) → org < 2 ^ 32 → AllByRecursion IsSound w → (o : Option Tenant) → tenant_at w org ≡ o → MayStandAt user_form (org, (tt, i)) (option_map (user_of org) (user_at (users_in o) i))
   in_tenant w org i lo all None e = tt

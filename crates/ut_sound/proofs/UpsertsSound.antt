@@ -1,0 +1,65 @@
+-- What an upsert leaves is sound.
+use Rattle.std.proofs.Common.{◌≡◌, ℕ, Bool, true, false, not, cond, List, [], ◌∷◌, Option, Some, None, slice_get, refl, ap, sym, inl, inr}
+use Rattle.std.specs.Prelude.{Ok, Err}
+use Rattle.std.specs.List.{enumerate_from, find}
+use Rattle.std.specs.Option.{unwrap_or}
+use Rattle.ut_value.specs.declared.sharing.Level.TheVariants.{Edit}
+use Rattle.ut_value.specs.declared.value.Value.{Value}
+use Rattle.ut_model.specs.declared.record.Record.{Record}
+use Rattle.ut_model.specs.declared.refusal.Refusal.TheVariants as refusal
+use Rattle.ut_model.specs.Cases.{in_case}
+use Rattle.ut_model.specs.Creates.{create_on}
+use Rattle.ut_model.specs.Fields.{column, its_value, typed}
+use Rattle.ut_model.specs.Given.{Assignment, ReadOr, has_value, record_with}
+use Rattle.ut_model.specs.Keys.{Key, with_key}
+use Rattle.ut_model.specs.Membership.{Has}
+use Rattle.ut_model.specs.Objects.{Numbered, is_of, records_of}
+use Rattle.ut_model.specs.Paths.{Asked}
+use Rattle.ut_model.specs.Rights.{denied}
+use Rattle.ut_model.specs.Sound.{IsSound}
+use Rattle.ut_model.specs.Tenant.{Field, Object, Tenant}
+use Rattle.ut_model.specs.Updates.{update_on}
+use Rattle.ut_model.specs.Upserts.{declared_name, key_value, unique_named, upsert, upsert_by, with_read}
+use Rattle.ut_model.specs.Verdict.{Verdict, judged, refuse}
+use Rattle.ut_sound.specs.Fit.{IsCaller, ReadsWell}
+use Rattle.ut_sound.proofs.Parts.{among_kept}
+use Rattle.ut_sound.proofs.Growing.{IdLaws}
+use Rattle.ut_sound.proofs.PeopleSound.{when_judged}
+use Rattle.ut_sound.proofs.SharingSound.{when_object}
+use Rattle.ut_sound.proofs.CreatesSound.{create_on_sound}
+use Rattle.ut_sound.proofs.UpdatesSound.{update_on_sound}
+
+pub found_record : {A : Type 0} (p : A → Bool) (xs : List A) (x : A) → find p xs ≡ Some x → Has xs x
+found_record p [] x e = absurd cc
+found_record p (z ∷ xs) x e = by (p z) e (found_record p xs x)
+  where
+    by : (b : Bool) → cond b (Some z) (find p xs) ≡ Some x → (find p xs ≡ Some x → Has xs x) → Has (z ∷ xs) x
+    by true w more = inl (sym (ap (λ o. unwrap_or o z) w))
+    by false w more = inr (more w)
+
+pub when_read : (P : Tenant → Type 0) (t : Tenant) (r : ReadOr) (verdict : Value → Verdict) → P t → ((v : Value) → P (verdict v).tenant) → P (with_read t r verdict).tenant
+when_read P t (Ok v) verdict h f = f v
+when_read P t (Err why) verdict h f = h
+
+pub upsert_sound : IdLaws → (a : Asked) (object key : List ℕ) (text : Option (List ℕ)) (given : List Assignment) → IsCaller a
+    → ((o : Object) (k : Key) → ReadsWell a o (with_key (Some k) given)) → IsSound a.tenant → IsSound (upsert a object key text given).tenant
+unfolding record_with
+upsert_sound ids a object key text given caller reads s =
+    when_object IsSound a.tenant object
+    (λ o. in_case (unique_named o.object key) (refuse a.tenant (refusal.InvalidField (declared_name o.object key))) (λ f. with_read a.tenant (key_value f.1 text) (upsert_by a o given f))) s
+    (λ o at. by_field o at (unique_named o.object key))
+  where
+    by_record : (o : Numbered) → slice_get a.tenant.objects o.number ≡ Some o.object → (k : Key) (p : Record → Bool) (r : Option Record) → find p (records_of a.tenant o.number) ≡ r
+        → IsSound (in_case r (create_on a o (Some k) given) (λ r. judged a.tenant (denied a Edit r ∷ []) (update_on a o (Some k) given r))).tenant
+    by_record o at k p None e = create_on_sound ids a o (Some k) given at caller (reads o.object k) s
+    by_record o at k p (Some r) e =
+        let m = among_kept (is_of o.number) a.tenant.records r (found_record p (records_of a.tenant o.number) r e) in
+        when_judged IsSound a.tenant (denied a Edit r ∷ []) (update_on a o (Some k) given r) s (λ _.
+        update_on_sound a o (Some k) given r at m.0 m.1 caller (reads o.object k) s)
+
+    by_field : (o : Numbered) → slice_get a.tenant.objects o.number ≡ Some o.object → (f : Option (ℕ × Field))
+        → IsSound (in_case f (refuse a.tenant (refusal.InvalidField (declared_name o.object key))) (λ f. with_read a.tenant (key_value f.1 text) (upsert_by a o given f))).tenant
+    by_field o at None = s
+    by_field o at (Some f) =
+        when_read IsSound a.tenant (key_value f.1 text) (upsert_by a o given f) s (λ v.
+        by_record o at (record { column = column f.1.name (typed f.1.kind) (its_value f.0); value = v }) (has_value f.0 v) (record_with a.tenant o.number f.0 v) refl)

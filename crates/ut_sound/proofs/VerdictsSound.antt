@@ -1,0 +1,69 @@
+-- What the verdict of any request leaves is sound.
+use Rattle.std.proofs.Common.{◌≡◌, ℕ, Bool, true, false, not, List, length, Option, Some, None, refl}
+use Rattle.sha2.specs.Sha256.{sha256}
+use Rattle.ut_soql.specs.declared.query.Query.{Query}
+use Rattle.ut_model.specs.declared.refusal.Refusal.TheVariants as refusal
+use Rattle.ut_model.specs.Asking.{ask, query_rules}
+use Rattle.ut_model.specs.Cases.{in_case}
+use Rattle.ut_model.specs.Paths.{Asked}
+use Rattle.ut_model.specs.Requests.{Request, verdict_on, asks, creates, updates, deletes, upserts, shares, unshares, adds_object, sets_object, adds_field, adds_validation_rule, adds_sharing_rule, removes_sharing_rule, adds_user, sets_user, adds_role, sets_role, adds_group, sets_group, begins_retype, gets_retype, cancels_retype}
+use Rattle.ut_model.specs.Retyping.{get_retype}
+use Rattle.ut_model.specs.Sound.{IsSound}
+use Rattle.ut_model.specs.SoundMetadata.{by_parent}
+use Rattle.ut_model.specs.Tenant.{Job, Tenant}
+use Rattle.ut_model.specs.Verdict.{accept, judged, refuse, rows_of, state_of}
+use Rattle.ut_sound.specs.Fit.{IsCaller, IsFit}
+use Rattle.ut_sound.proofs.Digests.{digest_size}
+use Rattle.ut_sound.proofs.Growing.{IdLaws}
+use Rattle.ut_sound.proofs.PeopleSound.{BelowLaw, add_group_sound, add_role_sound, add_user_sound, set_group_sound, set_role_sound, set_user_sound, when_judged}
+use Rattle.ut_sound.proofs.SharingSound.{add_rule_sound, remove_rule_sound, share_sound, unshare_sound, when_object}
+use Rattle.ut_sound.proofs.CreatesSound.{create_sound}
+use Rattle.ut_sound.proofs.UpdatesSound.{update_sound}
+use Rattle.ut_sound.proofs.UpsertsSound.{upsert_sound}
+use Rattle.ut_sound.proofs.DeletesSound.{delete_sound}
+use Rattle.ut_sound.proofs.JobsSound.{cancel_sound}
+use Rattle.ut_sound.proofs.BeginsSound.{begin_sound}
+use Rattle.ut_sound.proofs.ObjectsSound.{add_validation_sound, set_access_sound}
+use Rattle.ut_sound.proofs.NewObjects.{add_object_sound}
+use Rattle.ut_sound.proofs.AddsField.{add_field_sound}
+
+-- those that only look leave all as it is
+pub asked_kept : (P : Tenant → Type 0) (a : Asked) (q : Query) → P a.tenant → P (ask a q).tenant
+asked_kept P a q h =
+    when_object P a.tenant q.tail.from (λ o. judged a.tenant (query_rules a.tenant o.number q) (accept (rows_of q) a.tenant)) h (λ o at.
+    when_judged P a.tenant (query_rules a.tenant o.number q) (accept (rows_of q) a.tenant) h (λ _. h))
+
+pub looked_kept : (P : Tenant → Type 0) (t : Tenant) → P t → P (get_retype t).tenant
+looked_kept P t h = by t.job
+  where
+    by : (job : Option Job) → P (in_case job (refuse t refusal.NotFound) (λ j. accept (state_of j) t)).tenant
+    by None = h
+    by (Some j) = h
+
+not_so : (b : Bool) → not b ≡ true → b ≡ false
+not_so true e = absurd cc
+not_so false e = refl
+
+pub verdict_sound : IdLaws → BelowLaw → (a : Asked) (r : Request) → IsCaller a → IsFit a r → IsSound a.tenant → IsSound (verdict_on a r).tenant
+verdict_sound ids below a (asks q) caller fit s = asked_kept IsSound a q s
+verdict_sound ids below a (creates object given) caller fit s = create_sound ids a object given caller fit s
+verdict_sound ids below a (updates object key given) caller fit s = update_sound a object key given caller fit s
+verdict_sound ids below a (deletes object key) caller fit s = delete_sound a object key caller.1 s
+verdict_sound ids below a (upserts object key text given) caller fit s = upsert_sound ids a object key text given caller fit s
+verdict_sound ids below a (shares b) caller fit s = share_sound a b fit s
+verdict_sound ids below a (unshares item part to) caller fit s = unshare_sound a item part to s
+verdict_sound ids below a (adds_object b) caller fit s = add_object_sound a.tenant b fit s
+verdict_sound ids below a (sets_object object access) caller fit s = set_access_sound a.tenant object access (not_so (by_parent access) fit) s
+verdict_sound ids below a (adds_field b) caller fit s = add_field_sound a.tenant b fit s
+verdict_sound ids below a (adds_validation_rule b) caller fit s = add_validation_sound a.reads a.tenant b fit s
+verdict_sound ids below a (adds_sharing_rule b) caller fit s = add_rule_sound a.reads a.tenant b fit s
+verdict_sound ids below a (removes_sharing_rule name) caller fit s = remove_rule_sound a.tenant name s
+verdict_sound ids below a (adds_user b) caller fit s = add_user_sound ids digest_size a.tenant b s
+verdict_sound ids below a (sets_user id role) caller fit s = set_user_sound a.tenant id role s
+verdict_sound ids below a (adds_role name parent) caller fit s = add_role_sound ids a.tenant name parent s
+verdict_sound ids below a (sets_role id parent) caller fit s = set_role_sound below a.tenant id parent s
+verdict_sound ids below a (adds_group name) caller fit s = add_group_sound ids a.tenant name s
+verdict_sound ids below a (sets_group id members) caller fit s = set_group_sound a.tenant id members s
+verdict_sound ids below a (begins_retype object field to) caller fit s = begin_sound a.reads a.tenant object field to fit s
+verdict_sound ids below a gets_retype caller fit s = looked_kept IsSound a.tenant s
+verdict_sound ids below a cancels_retype caller fit s = cancel_sound a.tenant s

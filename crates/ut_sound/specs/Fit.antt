@@ -1,0 +1,104 @@
+-- What the form of a body gives, beyond what the rules of its request ask. Every request that is read has it; a request as data may
+-- lack it, and then what its verdict leaves need not be sound. It is this product's own.
+use Rattle.std.specs.Prelude.{◌≡◌, ℕ, Bool, true, not, ◌&&◌, List, None, Option, Some, bytes_eq, codes, is_some, IsTrue}
+use Rattle.std.specs.List.{list_any}
+use Rattle.ut_value.specs.Dates.{is_moment}
+use Rattle.ut_value.specs.Types.{is_reference, is_type, suits_indexed, suits_unique}
+use Rattle.ut_value.specs.declared.value.FieldType.{FieldType}
+use Rattle.ut_model.specs.declared.record.Record.{Record}
+use Rattle.ut_model.specs.Cases.{in_case}
+use Rattle.ut_model.specs.Edits.{bad_value, with_given}
+use Rattle.ut_model.specs.Given.{Assignment}
+use Rattle.ut_model.specs.Keys.{Key, with_key}
+use Rattle.ut_model.specs.Levels.{Reads}
+use Rattle.ut_model.specs.Metadata.{NewObject}
+use Rattle.ut_model.specs.NewFields.{NewField, SpelledType, plain, lookup_to, type_with}
+use Rattle.ut_model.specs.Paths.{Asked}
+use Rattle.ut_model.specs.Requests.{Request, creates, updates, upserts, shares, adds_object, sets_object, adds_field, adds_validation_rule, adds_sharing_rule, begins_retype}
+use Rattle.ut_model.specs.Retyping.{new_type}
+use Rattle.ut_model.specs.Shares.{NewShare}
+use Rattle.ut_model.specs.SharingRules.{NewSharingRule, SpelledSource, by_formula, from}
+use Rattle.ut_model.specs.SoundMetadata.{by_parent, implies, may_be_required}
+use Rattle.ut_model.specs.SoundPeople.{is_name}
+use Rattle.ut_model.specs.SoundRecords.{all_valid, kinds_of}
+use Rattle.ut_model.specs.SoundSharing.{is_grant}
+use Rattle.ut_model.specs.Tenant.{Object}
+use Rattle.ut_model.specs.World.{user_at}
+
+-- ---- sharing
+
+-- the body has this member
+abbrev pub has_member : (members : List (List ℕ)) → (name : List ℕ) → Bool
+has_member members name = list_any (bytes_eq name) members
+
+-- the source of an owner rule is the member `from`
+abbrev pub has_source : (members : List (List ℕ)) → SpelledSource → Bool
+has_source members (from p) = has_member members (codes "from")
+has_source members (by_formula text) = true
+
+-- the level is Read or Edit, and the principals are members of the body
+abbrev pub is_fit_rule : NewSharingRule → Bool
+is_fit_rule b = is_grant b.level && (has_member b.members (codes "to") && has_source b.members b.source)
+
+-- the level is Read or Edit
+abbrev pub is_fit_share : NewShare → Bool
+is_fit_share b = is_grant b.level
+
+-- ---- objects
+
+-- `name` is a member, and of a detail those of its master are; the access is by the parent exactly in a detail
+abbrev pub is_fit_object : NewObject → Bool
+is_fit_object b =
+    has_member b.members (codes "name")
+    && in_case b.master (not (by_parent b.access)) (λ m.
+    by_parent b.access && (has_member b.members (codes "field") && has_member b.members (codes "child")))
+
+-- a lookup is the member `type`, and no other type is a reference
+abbrev pub has_type : (members : List (List ℕ)) → SpelledType → Bool
+has_type members (plain kind) = not (is_reference kind)
+has_type members (lookup_to object on_delete child) = has_member members (codes "type")
+
+-- flags that suit a type: required, unique, indexed
+abbrev pub flags_suit : NewField → FieldType → Bool
+flags_suit b kind =
+    implies b.required (may_be_required kind) && (implies b.unique (suits_unique kind) && implies b.indexed (suits_indexed kind))
+
+-- `name` is a member, the type is within its bounds, and the flags suit it, whatever object a lookup names
+abbrev pub is_fit_field : NewField → Bool
+is_fit_field b =
+    has_member b.members (codes "name") && (has_type b.members b.kind
+    && (is_type (type_with None b.kind) && flags_suit b (type_with None b.kind)))
+
+-- ---- records
+
+-- who asks is a user of the organisation, and asks at a moment of the calendar
+abbrev pub IsCaller : Asked → Type 0
+IsCaller a = IsTrue (is_some (user_at a.tenant.users a.user.id)) × IsTrue (is_moment a.now)
+
+-- what is read in a body is of its field's type: with what is given valid values stay valid, unless one is refused
+abbrev pub ReadsWell : Asked → Object → List Assignment → Type 0
+ReadsWell a o given =
+    bad_value a.tenant o given ≡ None
+    → (old : Record) → IsTrue (all_valid (kinds_of o) old.values) → IsTrue (all_valid (kinds_of o) (with_given a o given old).values)
+
+-- ---- formulas
+
+-- how a text is read looks at the fields of the object alone: nothing else is named in a formula
+abbrev pub ReadsByFields : Reads → Type 0
+ReadsByFields reads = (o p : Object) → o.fields ≡ p.fields → (criteria : Bool) (text : List ℕ) → reads o criteria text ≡ reads p criteria text
+
+-- ---- any request
+
+-- what the form of its body gives, for the user who asks
+abbrev pub IsFit : Asked → Request → Type 0
+IsFit a (creates object given) = (o : Object) → ReadsWell a o given
+IsFit a (updates object key given) = (o : Object) → ReadsWell a o given
+IsFit a (upserts object key text given) = (o : Object) (k : Key) → ReadsWell a o (with_key (Some k) given)
+IsFit a (shares b) = IsTrue (is_fit_share b)
+IsFit a (adds_object b) = IsTrue (is_fit_object b)
+IsFit a (sets_object object access) = IsTrue (not (by_parent access))
+IsFit a (adds_field b) = IsTrue (is_fit_field b)
+IsFit a (adds_validation_rule b) = IsTrue (is_name b.rule.message)
+IsFit a (adds_sharing_rule b) = IsTrue (is_fit_rule b)
+IsFit a (begins_retype object field to) = IsTrue (is_type (new_type to))
+IsFit a r = Unit {0}

@@ -1,0 +1,34 @@
+//! The texts of validation and criteria rules.
+
+ghost use Rattle.std.specs.Prelude.{List, Some, [], ℕ, ◌≡◌};
+ghost use Rattle.ut_value.specs.declared.job.Phase.TheVariants.{Copy};
+ghost use Rattle.ut_value.specs.declared.sharing.Access.{Access};
+ghost use Rattle.ut_model.specs.Jobs.{job_step, next_hundred, switched};
+ghost use Rattle.ut_model.specs.Levels.{Reads};
+ghost use Rattle.ut_model.specs.Metadata.{set_access};
+ghost use Rattle.ut_model.specs.NewFields.{SpelledType};
+ghost use Rattle.ut_model.specs.Retyping.{begin_retype, cancel_retype};
+ghost use Rattle.ut_model.specs.SharingRules.{NewSharingRule, add_sharing_rule, remove_sharing_rule};
+ghost use Rattle.ut_model.specs.SoundFormulas.{AreFormulasSound};
+ghost use Rattle.ut_model.specs.Tenant.{Job, Tenant};
+ghost use Rattle.ut_model.specs.ValidationRules.{NewValidationRule, add_validation_rule};
+ghost use Rattle.ut_sound.specs.Fit.{ReadsByFields};
+
+/// What a request about rules, access or the change of a type leaves has sound formulas, however texts are read by an object's
+/// fields; a step does if the switch does. The call does nothing.
+pub fn formulas_sound()
+    ensures add_rule { (reads : Reads) (t : Tenant) (b : NewSharingRule)
+        → AreFormulasSound reads t → AreFormulasSound reads (add_sharing_rule reads t b).tenant }
+    ensures remove_rule { (reads : Reads) (t : Tenant) (name : List ℕ)
+        → AreFormulasSound reads t → AreFormulasSound reads (remove_sharing_rule t name).tenant }
+    ensures add_validation_rule { (reads : Reads) → ReadsByFields reads → (t : Tenant) (b : NewValidationRule)
+        → AreFormulasSound reads t → AreFormulasSound reads (add_validation_rule reads t b).tenant }
+    ensures set_access { (reads : Reads) → ReadsByFields reads → (t : Tenant) (object : List ℕ) (access : Access)
+        → AreFormulasSound reads t → AreFormulasSound reads (set_access t object access).tenant }
+    ensures begin { (reads : Reads) (t : Tenant) → AreFormulasSound reads t → (object field : List ℕ) (to : SpelledType)
+        → AreFormulasSound reads (begin_retype reads t object field to).tenant }
+    ensures cancel { (reads : Reads) (t : Tenant) → AreFormulasSound reads t → AreFormulasSound reads (cancel_retype t).tenant }
+    ensures step { (reads : Reads) (t : Tenant) → AreFormulasSound reads t
+        → ((j : Job) → t.job ≡ Some j → j.phase ≡ Copy → next_hundred t j ≡ [] → AreFormulasSound reads (switched j t))
+        → AreFormulasSound reads (job_step t) }
+{}

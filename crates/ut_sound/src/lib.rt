@@ -1,0 +1,27 @@
+//! That an organisation stays sound: what each verdict leaves of a sound one is sound again.
+//!
+//! It depends on `ut_model`, whose definitions these laws are about, and on `ut_value` for the laws of ids and values. Its
+//! contract: for each request, from a sound organisation its verdict makes a sound one, whatever it answers.
+#![tactic(auto)]
+
+mod deletes;
+mod formulas;
+mod jobs;
+mod kept;
+mod numbers;
+mod objects;
+mod people;
+mod records;
+mod sharing;
+mod verdicts;
+
+pub use crate::deletes::deletes_sound;
+pub use crate::formulas::formulas_sound;
+pub use crate::jobs::jobs_sound;
+pub use crate::kept::formulas_kept;
+pub use crate::numbers::number_laws;
+pub use crate::objects::objects_sound;
+pub use crate::people::people_sound;
+pub use crate::records::records_sound;
+pub use crate::sharing::sharing_sound;
+pub use crate::verdicts::verdicts_sound;

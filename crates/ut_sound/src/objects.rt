@@ -1,0 +1,23 @@
+//! Objects: new ones, another default access, new fields, and validation rules.
+
+ghost use Rattle.std.specs.Prelude.{IsTrue, List, false, ℕ, ◌≡◌};
+ghost use Rattle.ut_value.specs.declared.sharing.Access.{Access};
+ghost use Rattle.ut_model.specs.Levels.{Reads};
+ghost use Rattle.ut_model.specs.Metadata.{NewObject, add_object, set_access};
+ghost use Rattle.ut_model.specs.NewFields.{NewField, add_field};
+ghost use Rattle.ut_model.specs.Sound.{IsSound, is_name};
+ghost use Rattle.ut_model.specs.SoundMetadata.{by_parent};
+ghost use Rattle.ut_model.specs.Tenant.{Tenant};
+ghost use Rattle.ut_model.specs.ValidationRules.{NewValidationRule, add_validation_rule};
+ghost use Rattle.ut_sound.specs.Fit.{is_fit_field, is_fit_object};
+
+/// What a new object, another access of one, a new field or a new validation rule leaves is sound, if the body has the form that every
+/// body has that is read: a new access is never the master's, and a message is a name. The call does nothing.
+pub fn objects_sound()
+    ensures set_access { (t : Tenant) (object : List ℕ) (access : Access) → by_parent access ≡ false
+        → IsSound t → IsSound (set_access t object access).tenant }
+    ensures add_object { (t : Tenant) (b : NewObject) → IsTrue (is_fit_object b) → IsSound t → IsSound (add_object t b).tenant }
+    ensures add_field { (t : Tenant) (b : NewField) → IsTrue (is_fit_field b) → IsSound t → IsSound (add_field t b).tenant }
+    ensures add_validation_rule { (reads : Reads) (t : Tenant) (b : NewValidationRule) → IsTrue (is_name b.rule.message)
+        → IsSound t → IsSound (add_validation_rule reads t b).tenant }
+{}

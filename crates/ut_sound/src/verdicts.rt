@@ -1,0 +1,22 @@
+//! Any request, and the step that each makes first.
+
+ghost use Rattle.ut_model.specs.Jobs.{job_step};
+ghost use Rattle.ut_model.specs.Paths.{Asked};
+ghost use Rattle.ut_model.specs.Requests.{Request, verdict_on};
+ghost use Rattle.ut_model.specs.Sound.{IsSound};
+ghost use Rattle.ut_model.specs.Tenant.{Tenant};
+ghost use Rattle.ut_sound.specs.Fit.{IsCaller, IsFit};
+
+use ut_model::access_laws;
+use ut_value::{id_laws, value_laws};
+
+/// What the verdict of any request leaves of a sound organisation is sound, if one of its users asks at a moment of the
+/// calendar and the body has its form; and so is what a step of a change of a field's type leaves. The call does nothing.
+pub fn verdicts_sound()
+    ensures verdict { (a : Asked) (r : Request) → IsCaller a → IsFit a r → IsSound a.tenant → IsSound (verdict_on a r).tenant }
+    ensures step { (t : Tenant) → IsSound t → IsSound (job_step t) }
+{
+    id_laws();
+    access_laws();
+    value_laws();
+}

@@ -1,8 +1,8 @@
 -- The longest token at a place, by the class of its first character.
 use Rattle.std.proofs.Common.{◌≡◌, ℕ, Bool, true, false, List, [], ◌∷◌, ◌++◌, length, take, drop, refl, sym, ◌∙◌, ap, append_assoc, length-append, length-take-le, take-append-drop, arith, subst, if◌then◌else◌}
 use Rattle.std.specs.List.{prefix_len}
-use Rattle.ut_grammar.specs.declared.characters.Class.{Class}
-use Rattle.ut_grammar.specs.declared.characters.Class.TheVariants.{Blank, Letters, Digits, Quote, Other}
+use Rattle.ut_grammar.specs.declared.classes.Class.{Class}
+use Rattle.ut_grammar.specs.declared.classes.Class.TheVariants.{Blank, Letters, Digits, Quote, Other}
 use Rattle.ut_grammar.specs.declared.token.Token.{Token}
 use Rattle.ut_grammar.specs.declared.token.Token.TheVariants as t
 use Rattle.ut_grammar.specs.Tokens.{Passes, is_blank, is_letter, begins_run, class_of, in_word, in_run, run_token, Lexis, text_len, text_token, single_token, IsMark, IsLongest}

@@ -1,7 +1,7 @@
 -- A text has one list of tokens.
 use Rattle.std.proofs.Common.{◌≡◌, ℕ, ◌+◌, true, ◌⊎◌, inl, inr, List, [], ◌∷◌, ◌++◌, refl, sym, ◌∙◌, ap, ap₂, subst, append-nil}
-use Rattle.ut_grammar.specs.declared.characters.Class.{Class}
-use Rattle.ut_grammar.specs.declared.characters.Class.TheVariants.{Blank, Letters, Digits, Quote, Other}
+use Rattle.ut_grammar.specs.declared.classes.Class.{Class}
+use Rattle.ut_grammar.specs.declared.classes.Class.TheVariants.{Blank, Letters, Digits, Quote, Other}
 use Rattle.ut_grammar.specs.declared.token.Token.{Token}
 use Rattle.ut_grammar.specs.declared.token.Placed.{Placed}
 use Rattle.ut_grammar.specs.Tokens.{Lexis, Passes, is_blank, class_of, IsOfClass, IsToken, IsLongest, AreTokens, byte_len}

@@ -5,8 +5,8 @@ use Rattle.ut_grammar.specs.declared.token.Piece.{Piece}
 use Rattle.ut_grammar.specs.declared.token.Token.{Token}
 use Rattle.ut_grammar.specs.declared.token.Token.TheVariants as t
 use Rattle.ut_grammar.specs.declared.token.Placed.{Placed}
-use Rattle.ut_grammar.specs.declared.characters.Class.{Class}
-use Rattle.ut_grammar.specs.declared.characters.Class.TheVariants.{Blank, Letters, Digits, Quote, Other}
+use Rattle.ut_grammar.specs.declared.classes.Class.{Class}
+use Rattle.ut_grammar.specs.declared.classes.Class.TheVariants.{Blank, Letters, Digits, Quote, Other}
 use Rattle.ut_grammar.specs.Tokens.{Lexis, is_blank, in_word, in_run, class_of, run_token, text_len, text_token, pieces_of, with_piece, single_token, byte_len}
 
 module _ (lexis : Lexis) where

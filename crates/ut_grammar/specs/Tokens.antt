@@ -8,8 +8,8 @@ use Rattle.ut_grammar.specs.declared.token.Piece.TheVariants as p
 use Rattle.ut_grammar.specs.declared.token.Token.{Token}
 use Rattle.ut_grammar.specs.declared.token.Token.TheVariants as t
 use Rattle.ut_grammar.specs.declared.token.Placed.{Placed}
-use Rattle.ut_grammar.specs.declared.characters.Class.{Class}
-use Rattle.ut_grammar.specs.declared.characters.Class.TheVariants.{Blank, Letters, Digits, Quote, Other}
+use Rattle.ut_grammar.specs.declared.classes.Class.{Class}
+use Rattle.ut_grammar.specs.declared.classes.Class.TheVariants.{Blank, Letters, Digits, Quote, Other}
 use Rattle.ut_value.specs.Numerals.{is_within, is_digit, is_written_number}
 use Rattle.ut_value.specs.Dates.{is_written_day, is_written_moment}
 

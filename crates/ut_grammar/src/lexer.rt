@@ -5,11 +5,11 @@ ghost use Rattle.std.specs.List.{prefix_len};
 ghost use Rattle.ut_grammar.specs.Lexing as read;
 ghost use Rattle.ut_grammar.specs.Tokens as spec;
 
-use crate::characters::{Class, class_of, in_run, in_word, is_blank};
+use crate::classes::{Class, class_of, in_run, in_word, is_blank};
 use crate::lexis::Lexis;
 use crate::marks::{mark_len, mark_token};
 use crate::quoted::{text_len, text_token};
-use crate::text::text_from;
+use crate::text::{characters, text_from};
 use crate::token::{Placed, Token};
 use std::alloc::{AllocError, Global};
 use ut_value::{Items, is_written_day, is_written_moment, is_written_number};
@@ -138,14 +138,6 @@ fn all_tokens<L: Lexis>(alloc: Global, chars: &[char]) -> Result<Items<Placed>, 
         rest = tail;
     }
     Ok(found)
-}
-
-/// The characters of a text.
-fn characters(alloc: Global, text: &str) -> Result<Vec<char>, AllocError>
-    ensures value { IfOk result (λ all. all.items ≡ chars text.now) }
-    ensures bytes { IfOk result (λ all. encode_utf8_all all.items ≡ text.now) }
-{
-    text.chars().collect(alloc)
 }
 
 /// The tokens of a text, as they are computed.

@@ -6,7 +6,7 @@
 //! what the tokens spell, and is stuck at the first token that can't follow.
 #![tactic(auto)]
 
-mod characters;
+mod classes;
 mod cursor;
 mod fail;
 mod laws;
@@ -25,4 +25,5 @@ pub use crate::lexer::tokens;
 pub use crate::lexis::Lexis;
 pub use crate::number::number_count;
 pub use crate::quoted::plain_text;
+pub use crate::text::characters;
 pub use crate::token::{Piece, Placed, Token};

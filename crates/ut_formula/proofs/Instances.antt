@@ -103,10 +103,10 @@ in_parentheses_exact : {A : Type 0} (p : Part Sign A) (read : Reader Sign A) (fi
 in_parentheses_exact p read first goes e apart =
     after_exact kind 14 (part.before kind p 15) (reader.before kind read 15) first [] (before_exact kind 15 p read first goes e apart)
 
-call_exact : {A : Type 0} (word : ℕ) (p : Part Sign A) (read : Reader Sign A) (first goes : List ℕ) → Exact kind p read first goes false
-    → disjoint goes (15 ∷ []) ≡ true → Exact kind (g.call word p) (spec.call word read) (word ∷ []) [] false
+call_exact : {A : Type 0} (word : Sign) (p : Part Sign A) (read : Reader Sign A) (first goes : List ℕ) → Exact kind p read first goes false
+    → disjoint goes (15 ∷ []) ≡ true → Exact kind (g.call word p) (spec.call (kind word) read) (kind word ∷ []) [] false
 call_exact word p read first goes e apart =
-    after_exact kind word (g.in_parentheses p) (spec.in_parentheses read) (14 ∷ []) [] (in_parentheses_exact p read first goes e apart)
+    after_exact kind (kind word) (g.in_parentheses p) (spec.in_parentheses read) (14 ∷ []) [] (in_parentheses_exact p read first goes e apart)
 
 -- ---- terms and comparisons
 length_term_exact : (wanted : Option Kind) → Exact kind (g.length_term wanted) (spec.length_term wanted) (8 ∷ []) [] false
@@ -116,9 +116,9 @@ length_term_exact wanted =
     (λ _. g.in_parentheses (one measured_in)) (λ _. spec.in_parentheses spec.measured) (14 ∷ []) [] (len_word_exact wanted)
     (λ _. in_parentheses_exact (one measured_in) spec.measured (10 ∷ []) [] measured_exact refl) refl
 
-prior_term_exact : (wanted : Option Kind) → Exact kind (g.call 9 (one (prior_in wanted))) (spec.prior_term wanted) (9 ∷ []) [] false
+prior_term_exact : (wanted : Option Kind) → Exact kind (g.call sign.Prior (one (prior_in wanted))) (spec.prior_term wanted) (9 ∷ []) [] false
 unfolding spec.prior_term
-prior_term_exact wanted = call_exact 9 (one (prior_in wanted)) (spec.prior_field wanted) (10 ∷ []) [] (prior_field_exact wanted) refl
+prior_term_exact wanted = call_exact sign.Prior (one (prior_in wanted)) (spec.prior_field wanted) (10 ∷ []) [] (prior_field_exact wanted) refl
 
 term_exact : (wanted : Option Kind) → Exact kind (g.term_of wanted) (spec.term_of wanted) (10 ∷ 11 ∷ 12 ∷ 8 ∷ 9 ∷ []) [] false
 unfolding spec.term_of
@@ -146,15 +146,15 @@ is_new_exact =
     (after_exact kind 1 (part.after kind 14 (part.sign kind 15)) (reader.after kind 14 (reader.sign kind 15)) (14 ∷ []) []
     (after_exact kind 14 (part.sign kind 15) (reader.sign kind 15) (15 ∷ []) [] (sign_exact kind 15)))
 
-is_blank_exact : Exact kind (as_value formula.IsBlank (g.call 5 (one field_in))) spec.is_blank (5 ∷ []) [] false
+is_blank_exact : Exact kind (as_value formula.IsBlank (g.call sign.IsBlank (one field_in))) spec.is_blank (5 ∷ []) [] false
 unfolding spec.is_blank
 is_blank_exact =
-    as_exact kind formula.IsBlank (g.call 5 (one field_in)) (spec.call 5 spec.field) (5 ∷ []) [] false (call_exact 5 (one field_in) spec.field (10 ∷ []) [] field_exact refl)
+    as_exact kind formula.IsBlank (g.call sign.IsBlank (one field_in)) (spec.call 5 spec.field) (5 ∷ []) [] false (call_exact sign.IsBlank (one field_in) spec.field (10 ∷ []) [] field_exact refl)
 
-is_changed_exact : Exact kind (as_value formula.IsChanged (g.call 6 (one field_in))) spec.is_changed (6 ∷ []) [] false
+is_changed_exact : Exact kind (as_value formula.IsChanged (g.call sign.IsChanged (one field_in))) spec.is_changed (6 ∷ []) [] false
 unfolding spec.is_changed
 is_changed_exact =
-    as_exact kind formula.IsChanged (g.call 6 (one field_in)) (spec.call 6 spec.field) (6 ∷ []) [] false (call_exact 6 (one field_in) spec.field (10 ∷ []) [] field_exact refl)
+    as_exact kind formula.IsChanged (g.call sign.IsChanged (one field_in)) (spec.call 6 spec.field) (6 ∷ []) [] false (call_exact sign.IsChanged (one field_in) spec.field (10 ∷ []) [] field_exact refl)
 
 choice_exact : Exact kind (both (one picklist_in) (λ _. part.after kind 16 (one text_in))) spec.choice (10 ∷ []) [] false
 unfolding spec.choice
@@ -162,11 +162,11 @@ choice_exact =
     both_exact kind (one picklist_in) spec.picklist (10 ∷ []) [] false (λ _. part.after kind 16 (one text_in)) (λ _. reader.after kind 16 spec.text) (16 ∷ []) [] false
     picklist_exact (λ _. after_exact kind 16 (one text_in) spec.text (12 ∷ []) [] text_exact) refl
 
-is_pickval_exact : Exact kind (as_value (λ v. formula.IsPickval v.0 v.1) (g.call 7 (both (one picklist_in) (λ _. part.after kind 16 (one text_in))))) spec.is_pickval (7 ∷ []) [] false
+is_pickval_exact : Exact kind (as_value (λ v. formula.IsPickval v.0 v.1) (g.call sign.IsPickval (both (one picklist_in) (λ _. part.after kind 16 (one text_in))))) spec.is_pickval (7 ∷ []) [] false
 unfolding spec.is_pickval
 is_pickval_exact =
-    as_exact kind (λ v. formula.IsPickval v.0 v.1) (g.call 7 (both (one picklist_in) (λ _. part.after kind 16 (one text_in)))) (spec.call 7 spec.choice) (7 ∷ []) [] false
-    (call_exact 7 (both (one picklist_in) (λ _. part.after kind 16 (one text_in))) spec.choice (10 ∷ []) [] choice_exact refl)
+    as_exact kind (λ v. formula.IsPickval v.0 v.1) (g.call sign.IsPickval (both (one picklist_in) (λ _. part.after kind 16 (one text_in)))) (spec.call 7 spec.choice) (7 ∷ []) [] false
+    (call_exact sign.IsPickval (both (one picklist_in) (λ _. part.after kind 16 (one text_in))) spec.choice (10 ∷ []) [] choice_exact refl)
 
 plain_exact : Exact kind g.plain spec.plain (0 ∷ 1 ∷ 5 ∷ 6 ∷ 7 ∷ 10 ∷ 11 ∷ 12 ∷ 8 ∷ 9 ∷ []) [] false
 unfolding spec.plain spec.test
@@ -190,21 +190,21 @@ module _ (p : Part Sign Formula) (within : Reader Sign Formula) (first : List �
       pair_exact_0 kind (λ x xs. x ∷ xs) p within first [] (λ _. part.any_number (part.after kind 16 p)) (λ _. spec.more_formulas within) (16 ∷ []) (16 ∷ []) e
       (λ _. more_formulas_exact) refl
 
-  negation_exact : Exact kind (as_value formula.Not (g.call 2 p)) (spec.negation within) (2 ∷ []) [] false
+  negation_exact : Exact kind (as_value formula.Not (g.call sign.Not p)) (spec.negation within) (2 ∷ []) [] false
   unfolding spec.negation
-  negation_exact = as_exact kind formula.Not (g.call 2 p) (spec.call 2 within) (2 ∷ []) [] false (call_exact 2 p within first [] e refl)
+  negation_exact = as_exact kind formula.Not (g.call sign.Not p) (spec.call 2 within) (2 ∷ []) [] false (call_exact sign.Not p within first [] e refl)
 
-  conjunction_exact : Exact kind (as_value formula.And (g.call 3 (g.formulas p))) (spec.conjunction within) (3 ∷ []) [] false
+  conjunction_exact : Exact kind (as_value formula.And (g.call sign.And (g.formulas p))) (spec.conjunction within) (3 ∷ []) [] false
   unfolding spec.conjunction
   conjunction_exact =
-      as_exact kind formula.And (g.call 3 (g.formulas p)) (spec.call 3 (spec.formulas within)) (3 ∷ []) [] false
-      (call_exact 3 (g.formulas p) (spec.formulas within) first (16 ∷ []) formulas_exact refl)
+      as_exact kind formula.And (g.call sign.And (g.formulas p)) (spec.call 3 (spec.formulas within)) (3 ∷ []) [] false
+      (call_exact sign.And (g.formulas p) (spec.formulas within) first (16 ∷ []) formulas_exact refl)
 
-  disjunction_exact : Exact kind (as_value formula.Or (g.call 4 (g.formulas p))) (spec.disjunction within) (4 ∷ []) [] false
+  disjunction_exact : Exact kind (as_value formula.Or (g.call sign.Or (g.formulas p))) (spec.disjunction within) (4 ∷ []) [] false
   unfolding spec.disjunction
   disjunction_exact =
-      as_exact kind formula.Or (g.call 4 (g.formulas p)) (spec.call 4 (spec.formulas within)) (4 ∷ []) [] false
-      (call_exact 4 (g.formulas p) (spec.formulas within) first (16 ∷ []) formulas_exact refl)
+      as_exact kind formula.Or (g.call sign.Or (g.formulas p)) (spec.call 4 (spec.formulas within)) (4 ∷ []) [] false
+      (call_exact sign.Or (g.formulas p) (spec.formulas within) first (16 ∷ []) formulas_exact refl)
 
   formula_over_exact : Exact kind (g.formula_over p) (spec.formula_over within) (2 ∷ 3 ∷ 4 ∷ 0 ∷ 1 ∷ 5 ∷ 6 ∷ 7 ∷ 10 ∷ 11 ∷ 12 ∷ 8 ∷ 9 ∷ []) [] false
   unfolding spec.formula_over

@@ -1,5 +1,5 @@
 -- The laws of a whole formula, and of a text.
-use Rattle.std.proofs.Common.{◌≡◌, ◌-◌, ◌≤◌, ◌≢◌, ℕ, Bool, List, [], ◌∷◌, length, map, slice_index_or, Result, Ok, Err, false, IfOk, sym, ◌∙◌, ap, subst, refl}
+use Rattle.std.proofs.Common.{◌≡◌, ◌-◌, ◌≤◌, ◌≢◌, ℕ, Bool, List, [], length, slice_index_or, Result, Ok, Err, false, IfOk, sym, subst}
 use Rattle.ut_grammar.specs.Place.{IsOrMemory, IsPlace, OnMalformed}
 use Rattle.ut_grammar.specs.Tokens.{AreTokens}
 use Rattle.ut_grammar.specs.declared.token.Placed.{Placed}

@@ -1,7 +1,7 @@
 -- The grammar of formulas, over what it sees of tokens. The kinds of tokens are numbered by `kind`.
 -- Source: Salesforce, "Formula Operators and Functions". That only terms of one kind are compared, and how deep formulas nest, is
 -- this product's own.
-use Rattle.std.specs.Prelude.{ℕ, zero, suc, Bool, true, false, if◌then◌else◌, List, [], ◌∷◌, Option, Some, None}
+use Rattle.std.specs.Prelude.{ℕ, zero, suc, Bool, true, false, if◌then◌else◌, List, ◌∷◌, Option, Some, None}
 use Rattle.ut_grammar.specs.Part.{Part, one, both, either, as_value}
 use Rattle.ut_grammar.specs.Part as part
 use Rattle.ut_formula.specs.Signs.{kind}
@@ -98,13 +98,24 @@ prior_in wanted (sign.Field position sort) = of_field term.Prior position wanted
 prior_in wanted _ = None
 
 -- ---- terms and comparisons
--- behind a token, in parentheses
-abbrev pub call : {A : Type 0} → ℕ → Signs A → Signs A
-call word p = part.after kind word (part.after kind 14 (part.before kind p 15))
+-- a token without a value
+abbrev pub just : Sign → Signs (Unit {0})
+just token = part.sign kind (kind token)
+
+-- a part behind such a token, and one before it
+abbrev pub after : {A : Type 0} → Sign → Signs A → Signs A
+after token p = part.after kind (kind token) p
+
+abbrev pub before : {A : Type 0} → Signs A → Sign → Signs A
+before p token = part.before kind p (kind token)
 
 -- in parentheses
 abbrev pub in_parentheses : {A : Type 0} → Signs A → Signs A
-in_parentheses p = part.after kind 14 (part.before kind p 15)
+in_parentheses p = after sign.Open (before p sign.Close)
+
+-- in parentheses behind a word
+abbrev pub call : {A : Type 0} → Sign → Signs A → Signs A
+call word p = after word (in_parentheses p)
 
 -- LEN "(" name ")"
 abbrev pub length_term : Option Kind → Signs (Term × Kind)
@@ -112,7 +123,7 @@ length_term wanted = as_value (λ v. (term.Len v.1, of.Number)) (both (one (len_
 
 -- term = name | number | text | LEN "(" name ")" | PRIORVALUE "(" name ")", of a kind that is wanted, or of any
 abbrev pub term_of : Option Kind → Signs (Term × Kind)
-term_of wanted = either (one (simple_in wanted)) (either (length_term wanted) (call 9 (one (prior_in wanted))))
+term_of wanted = either (one (simple_in wanted)) (either (length_term wanted) (call sign.Prior (one (prior_in wanted))))
 
 -- the relation behind a term, and another term of its kind
 abbrev pub ending : Term × Kind → Signs (Relation × Term)
@@ -127,22 +138,22 @@ comparison = as_value (λ v. formula.Compare v.0.0 v.1.0 v.1.1) (both (term_of N
 abbrev pub plain : Signs Formula
 plain =
     either (as_value formula.Const (one truth_in))
-    (either (as_value (λ _. formula.IsNew) (part.after kind 1 (part.after kind 14 (part.sign kind 15))))
-    (either (as_value formula.IsBlank (call 5 (one field_in)))
-    (either (as_value formula.IsChanged (call 6 (one field_in)))
-    (either (as_value (λ v. formula.IsPickval v.0 v.1) (call 7 (both (one picklist_in) (λ _. part.after kind 16 (one text_in)))))
+    (either (as_value (λ _. formula.IsNew) (after sign.IsNew (after sign.Open (just sign.Close))))
+    (either (as_value formula.IsBlank (call sign.IsBlank (one field_in)))
+    (either (as_value formula.IsChanged (call sign.IsChanged (one field_in)))
+    (either (as_value (λ v. formula.IsPickval v.0 v.1) (call sign.IsPickval (both (one picklist_in) (λ _. after sign.Comma (one text_in)))))
     comparison))))
 
 -- formula {"," formula}
 abbrev pub formulas : Signs Formula → Signs (List Formula)
-formulas within = as_value (λ v. v.0 ∷ v.1) (both within (λ _. part.any_number (part.after kind 16 within)))
+formulas within = as_value (λ v. v.0 ∷ v.1) (both within (λ _. part.any_number (after sign.Comma within)))
 
 -- NOT "(" formula ")" | AND "(" formula {"," formula} ")" | OR "(" formula {"," formula} ")" | plain, with these formulas within
 abbrev pub formula_over : Signs Formula → Signs Formula
 formula_over within =
-    either (as_value formula.Not (call 2 within))
-    (either (as_value formula.And (call 3 (formulas within)))
-    (either (as_value formula.Or (call 4 (formulas within)))
+    either (as_value formula.Not (call sign.Not within))
+    (either (as_value formula.And (call sign.And (formulas within)))
+    (either (as_value formula.Or (call sign.Or (formulas within)))
     plain))
 
 -- a formula in which NOT, AND and OR nest at most so many levels

@@ -6,3 +6,4 @@ pub mod Grammar
 pub mod Reading
 pub mod Spelling
 pub mod Operands
+pub mod Texts

@@ -1,5 +1,5 @@
 -- Reading of formulas, by a function on what the grammar sees of tokens, one for each part of the grammar.
-use Rattle.std.specs.Prelude.{ℕ, zero, suc, Bool, List, [], ◌∷◌, Option, Some, None, Ok}
+use Rattle.std.specs.Prelude.{ℕ, zero, suc, List, [], ◌∷◌, Option, Some, None, Ok}
 use Rattle.ut_grammar.specs.Reader.{Reader, ◌>>=◌, read_one, read_either, with_front}
 use Rattle.ut_grammar.specs.Reader as reader
 use Rattle.ut_formula.specs.Grammar.{truth_in, field_in, picklist_in, text_in, relation_in, measured_in, simple_in, len_in, prior_in}

@@ -12,6 +12,9 @@ use crate::formula::{Formula, Record, Relation, Term};
 use std::cmp::Ordering;
 use ut_value::{Id, Text, Value, character_count};
 
+/// Numbers are counted in units of 10^-8.
+const SCALE: i128 = 100_000_000;
+
 /// A value that is compared, where it is kept.
 #[derive(Clone, Copy)]
 pub enum Operand<'a> {
@@ -76,7 +79,7 @@ fn value_of<'a>(term: &'a Term, new: &'a Record, old: Option<&'a Record>) -> Ope
         Term::Field(position) => value_at(new, *position),
         Term::Num(count) => Operand::Num(*count),
         Term::Text(text) => text_value(text),
-        Term::Len(position) => { Operand::Num(len(value_at(new, *position)) as i128 * 100_000_000) }
+        Term::Len(position) => Operand::Num(len(value_at(new, *position)) as i128 * SCALE),
         Term::Prior(position) => value_at(old.unwrap_or(new), *position),
     }
 }

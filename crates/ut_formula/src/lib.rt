@@ -12,14 +12,16 @@ mod naming;
 mod parsing;
 mod reader;
 mod sign;
+mod texts;
 mod values;
 mod words;
 mod worked;
 
 pub use crate::formula::{Fields, Formula, NamedField, Record, Relation, Term};
 pub use crate::judging::holds;
-pub use crate::laws::formula_laws;
+pub use crate::laws::{formula_laws, spelling_laws};
 pub use crate::naming::names;
 pub use crate::parsing::parse;
+pub use crate::texts::spelled_rows;
 pub use crate::worked::{comparison_rows, logic_rows, naming_rows, term_rows, test_rows};
 pub use ut_grammar::ParseFail;

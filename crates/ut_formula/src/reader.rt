@@ -17,6 +17,7 @@ use std::alloc::Global;
 use ut_grammar::{Fail, begins_with, next, skip};
 use ut_value::{Boxed, Items, Text};
 
+// The kinds of tokens, as `Sign::kind` numbers them.
 const TRUTH: u8 = 0;
 
 const IS_NEW: u8 = 1;
@@ -33,7 +34,15 @@ const IS_CHANGED: u8 = 6;
 
 const IS_PICKVAL: u8 = 7;
 
+const LEN: u8 = 8;
+
 const PRIOR: u8 = 9;
+
+const FIELD: u8 = 10;
+
+const NUMBER: u8 = 11;
+
+const TEXT: u8 = 12;
 
 const OPEN: u8 = 14;
 
@@ -199,9 +208,9 @@ fn term_of(
     ensures value { Gives (λ x. (x.0, x.1.now)) result (spec.term_of wanted signs.now) }
     ensures shorter { IfOk result (λ x. length x.1.now < length signs.now) }
 {
-    if begins_with(signs, &[10, 11, 12]) {
+    if begins_with(signs, &[FIELD, NUMBER, TEXT]) {
         simple(alloc, wanted, signs)
-    } else if begins_with(signs, &[8]) {
+    } else if begins_with(signs, &[LEN]) {
         length_term(wanted, signs)
     } else {
         prior_term(wanted, signs)

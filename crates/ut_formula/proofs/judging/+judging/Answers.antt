@@ -1,4 +1,4 @@
-use Rattle.std.proofs.Common.{◌≡◌, Bool, not, ◌∙◌, ap, sym, Option, List, option_map}
+use Rattle.std.proofs.Common.{Bool, not, ◌∙◌, ap, sym, Option, List, option_map}
 use Rattle.ut_value.specs.declared.value.Value.{Value}
 use Rattle.ut_formula.specs.Meaning.{holds}
 use Rattle.ut_formula.specs.declared.formula.Formula.{Formula}

@@ -1,5 +1,4 @@
-use Rattle.std.proofs.Common.{rules, arith, ◌≡◌, ◌-◌, ◌≢◌, slice_index_or, ◌<◌, ◌≤◌, length, sym, ◌∙◌, ap, ℕ, List, eqb-true}
-use Rattle.std.proofs.lemmas.Grind.{common_steps}
+use Rattle.std.proofs.Common.{rules, arith, sym, eqb-true}
 use Rattle.ut_formula.proofs.Top.{found, same, none_rest, none_stuck, place_rest, place_stuck, rest_fewer, stuck_fewer}
 use Rattle.ut_formula.proofs.parsing.read_signs.Goals as goal
 

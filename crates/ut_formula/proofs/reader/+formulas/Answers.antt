@@ -1,6 +1,6 @@
-use Rattle.std.proofs.Common.{rules, arith, ◌≡◌, ◌<◌, ◌≤◌, ◌-◌, ◌≢◌, length, ◌∷◌, [], ◌++◌, sym, ◌∙◌, ap, Ok, Err, ℕ}
+use Rattle.std.proofs.Common.{rules, arith, ◌≢◌, ◌∷◌, [], sym, ◌∙◌}
 use Rattle.std.proofs.lemmas.Result.{err_from_is_err_and}
-use Rattle.ut_grammar.specs.Reader.{begins_with, with_front, after}
+use Rattle.ut_grammar.specs.Reader.{with_front, after}
 use Rattle.ut_grammar.proofs.Lists.{any-ends, any-turn, any_fails, fails_by}
 use Rattle.ut_formula.specs.Reading.{more_formulas, nested}
 use Rattle.ut_formula.specs.Signs.{kind}

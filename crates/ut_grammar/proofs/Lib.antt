@@ -1,0 +1,12 @@
+pub mod Sets
+pub mod Exact
+pub mod Pairs
+pub mod Turns
+pub mod Lists
+pub mod Verdict
+pub mod Fronts
+pub mod Texts
+pub mod Longest
+pub mod Tokenizing
+pub mod Meets
+pub mod Unique

@@ -1,0 +1,29 @@
+//! Texts and their characters.
+
+ghost use Rattle.std.specs.Prelude.{◌≡◌, IfOk, chars, encode_utf8_all};
+
+use std::alloc::{AllocError, Global};
+use ut_value::Text;
+
+/// The text of some characters.
+pub fn text_from(alloc: Global, chars: &[char]) -> Result<Text, AllocError>
+    ensures { IfOk result (λ text. text ≡ chars.now) }
+{
+    let mut string = String::new(alloc);
+    for c in chars {
+        string.push(*c)?;
+    }
+    Ok(Text::from_string(string))
+}
+
+/// The characters of a text.
+///
+/// # Errors
+///
+/// When out of memory.
+pub fn characters(alloc: Global, text: &str) -> Result<Vec<char>, AllocError>
+    ensures value { IfOk result (λ all. all.items ≡ chars text.now) }
+    ensures bytes { IfOk result (λ all. encode_utf8_all all.items ≡ text.now) }
+{
+    text.chars().collect(alloc)
+}

@@ -24,3 +24,4 @@ mod NewFieldsSound
 mod AddsField
 mod VerdictsSound
 mod NumbersMean
+mod AddsFormulas

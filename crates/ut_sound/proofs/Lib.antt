@@ -25,3 +25,4 @@ mod AddsField
 mod VerdictsSound
 mod NumbersMean
 mod AddsFormulas
+mod SwitchFormulas

@@ -1,6 +1,6 @@
 -- What the form of a body gives, beyond what the rules of its request ask. Every request that is read has it; a request as data may
 -- lack it, and then what its verdict leaves need not be sound. It is this product's own.
-use Rattle.std.specs.Prelude.{◌≡◌, ℕ, Bool, true, not, ◌&&◌, List, [], ◌∷◌, ◌++◌, None, Option, Some, bytes_eq, codes, is_ok, is_some, IsTrue}
+use Rattle.std.specs.Prelude.{◌≡◌, ℕ, suc, Bool, true, not, ◌&&◌, List, [], ◌∷◌, ◌++◌, None, Option, Some, bytes_eq, codes, is_ok, is_some, IsTrue}
 use Rattle.std.specs.List.{list_any}
 use Rattle.ut_value.specs.Dates.{is_moment}
 use Rattle.ut_value.specs.Types.{is_reference, is_type, suits_indexed, suits_unique}
@@ -13,9 +13,11 @@ use Rattle.ut_model.specs.Keys.{Key, with_key}
 use Rattle.ut_model.specs.Levels.{Reads}
 use Rattle.ut_model.specs.Metadata.{NewObject}
 use Rattle.ut_model.specs.NewFields.{NewField, SpelledType, plain, lookup_to, type_with}
+use Rattle.ut_model.specs.Objects.{change_at}
 use Rattle.ut_model.specs.Paths.{Asked}
 use Rattle.ut_model.specs.Requests.{Request, creates, updates, upserts, shares, adds_object, sets_object, adds_field, adds_validation_rule, adds_sharing_rule, begins_retype}
 use Rattle.ut_model.specs.Retyping.{new_type}
+use Rattle.ut_model.specs.RuleFormulas.{names_field}
 use Rattle.ut_model.specs.Shares.{NewShare}
 use Rattle.ut_model.specs.SharingRules.{NewSharingRule, SpelledSource, by_formula, from}
 use Rattle.ut_model.specs.SoundMetadata.{by_parent, implies, may_be_required}
@@ -92,6 +94,13 @@ abbrev pub ReadsOverMore : Reads → Type 0
 ReadsOverMore reads =
     (o : Object) (f : Field) (criteria : Bool) (text : List ℕ) → IsTrue (is_ok (reads o criteria text))
     → reads (record o { fields = o.fields ++ f ∷ [] }) criteria text ≡ reads o criteria text
+
+-- a text whose formula doesn't name a field reads the same whatever type the field has
+abbrev pub ReadsOtherTypes : Reads → Type 0
+ReadsOtherTypes reads =
+    (o : Object) (place : ℕ) (to : FieldType) (criteria : Bool) (text : List ℕ)
+    → IsTrue (is_ok (reads o criteria text)) → IsTrue (not (names_field (suc place) (reads o criteria text)))
+    → reads (record o { fields = change_at place (λ f. record f { kind = to }) o.fields }) criteria text ≡ reads o criteria text
 
 -- ---- any request
 

@@ -24,3 +24,5 @@ mod NewFieldsSound
 mod AddsField
 mod VerdictsSound
 mod NumbersMean
+mod AddsFormulas
+mod SwitchFormulas

@@ -1,6 +1,6 @@
 -- What the form of a body gives, beyond what the rules of its request ask. Every request that is read has it; a request as data may
 -- lack it, and then what its verdict leaves need not be sound. It is this product's own.
-use Rattle.std.specs.Prelude.{◌≡◌, ℕ, Bool, true, not, ◌&&◌, List, None, Option, Some, bytes_eq, codes, is_some, IsTrue}
+use Rattle.std.specs.Prelude.{◌≡◌, ℕ, suc, Bool, true, not, ◌&&◌, List, [], ◌∷◌, ◌++◌, None, Option, Some, bytes_eq, codes, is_ok, is_some, IsTrue}
 use Rattle.std.specs.List.{list_any}
 use Rattle.ut_value.specs.Dates.{is_moment}
 use Rattle.ut_value.specs.Types.{is_reference, is_type, suits_indexed, suits_unique}
@@ -13,16 +13,18 @@ use Rattle.ut_model.specs.Keys.{Key, with_key}
 use Rattle.ut_model.specs.Levels.{Reads}
 use Rattle.ut_model.specs.Metadata.{NewObject}
 use Rattle.ut_model.specs.NewFields.{NewField, SpelledType, plain, lookup_to, type_with}
+use Rattle.ut_model.specs.Objects.{change_at}
 use Rattle.ut_model.specs.Paths.{Asked}
 use Rattle.ut_model.specs.Requests.{Request, creates, updates, upserts, shares, adds_object, sets_object, adds_field, adds_validation_rule, adds_sharing_rule, begins_retype}
 use Rattle.ut_model.specs.Retyping.{new_type}
+use Rattle.ut_model.specs.RuleFormulas.{names_field}
 use Rattle.ut_model.specs.Shares.{NewShare}
 use Rattle.ut_model.specs.SharingRules.{NewSharingRule, SpelledSource, by_formula, from}
 use Rattle.ut_model.specs.SoundMetadata.{by_parent, implies, may_be_required}
 use Rattle.ut_model.specs.SoundPeople.{is_name}
 use Rattle.ut_model.specs.SoundRecords.{all_valid, kinds_of}
 use Rattle.ut_model.specs.SoundSharing.{is_grant}
-use Rattle.ut_model.specs.Tenant.{Object}
+use Rattle.ut_model.specs.Tenant.{Field, Object}
 use Rattle.ut_model.specs.World.{user_at}
 
 -- ---- sharing
@@ -86,6 +88,19 @@ ReadsWell a o given =
 -- how a text is read looks at the fields of the object alone: nothing else is named in a formula
 abbrev pub ReadsByFields : Reads → Type 0
 ReadsByFields reads = (o p : Object) → o.fields ≡ p.fields → (criteria : Bool) (text : List ℕ) → reads o criteria text ≡ reads p criteria text
+
+-- a text that spells a formula reads the same where the object has one field more
+abbrev pub ReadsOverMore : Reads → Type 0
+ReadsOverMore reads =
+    (o : Object) (f : Field) (criteria : Bool) (text : List ℕ) → IsTrue (is_ok (reads o criteria text))
+    → reads (record o { fields = o.fields ++ f ∷ [] }) criteria text ≡ reads o criteria text
+
+-- a text whose formula doesn't name a field reads the same whatever type the field has
+abbrev pub ReadsOtherTypes : Reads → Type 0
+ReadsOtherTypes reads =
+    (o : Object) (place : ℕ) (to : FieldType) (criteria : Bool) (text : List ℕ)
+    → IsTrue (is_ok (reads o criteria text)) → IsTrue (not (names_field (suc place) (reads o criteria text)))
+    → reads (record o { fields = change_at place (λ f. record f { kind = to }) o.fields }) criteria text ≡ reads o criteria text
 
 -- ---- any request
 

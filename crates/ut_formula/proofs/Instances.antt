@@ -9,7 +9,7 @@ use Rattle.ut_grammar.proofs.Sets.{disjoint, or_right}
 use Rattle.ut_grammar.proofs.Exact.{one_exact, as_exact, both_exact, either_exact}
 use Rattle.ut_grammar.proofs.Pairs.{after_exact, before_exact, sign_exact, pair_exact, pair_exact_0, any_exact, wider_first}
 use Rattle.ut_formula.specs.Grammar as g
-use Rattle.ut_formula.specs.Grammar.{truth_in, field_in, picklist_in, text_in, relation_in, measured_in, simple_in, len_in, prior_in}
+use Rattle.ut_formula.specs.Terms.{truth_in, field_in, picklist_in, text_in, relation_in, measured_in, simple_in, len_in, prior_in}
 use Rattle.ut_formula.specs.Reading as spec
 use Rattle.ut_formula.specs.Signs.{kind}
 use Rattle.ut_formula.specs.declared.formula.Formula.{Formula}

@@ -2,6 +2,7 @@ pub mod Meaning
 pub mod Naming
 pub mod Worked
 pub mod Signs
+pub mod Terms
 pub mod Grammar
 pub mod Reading
 pub mod Spelling

@@ -2,7 +2,7 @@
 use Rattle.std.specs.Prelude.{ℕ, zero, suc, List, [], ◌∷◌, Option, Some, None, Ok}
 use Rattle.ut_grammar.specs.Reader.{Reader, ◌>>=◌, read_one, read_either, with_front}
 use Rattle.ut_grammar.specs.Reader as reader
-use Rattle.ut_formula.specs.Grammar.{truth_in, field_in, picklist_in, text_in, relation_in, measured_in, simple_in, len_in, prior_in}
+use Rattle.ut_formula.specs.Terms.{truth_in, field_in, picklist_in, text_in, relation_in, measured_in, simple_in, len_in, prior_in}
 use Rattle.ut_formula.specs.Signs.{kind}
 use Rattle.ut_formula.specs.declared.formula.Formula.{Formula}
 use Rattle.ut_formula.specs.declared.formula.Formula.TheVariants as formula

@@ -1,7 +1,7 @@
 //! What a single token stands for in a formula.
 
 ghost use Rattle.std.specs.Prelude.{◌≡◌, IfOk, if◌then◌else◌, Some, None};
-ghost use Rattle.ut_formula.specs.Grammar as grammar;
+ghost use Rattle.ut_formula.specs.Terms as spec;
 ghost use Rattle.ut_formula.specs.declared.formula.Term.TheVariants as term;
 
 use crate::formula::{Relation, Term};
@@ -10,7 +10,7 @@ use std::alloc::{AllocError, Global};
 use ut_value::Text;
 
 fn kind_of(sort: Sort) -> Option<Kind>
-    ensures { result ≡ grammar.kind_of sort }
+    ensures { result ≡ spec.kind_of sort }
 {
     match sort {
         Sort::Text | Sort::Picklist => Some(Kind::Text),
@@ -23,7 +23,7 @@ fn kind_of(sort: Sort) -> Option<Kind>
 }
 
 fn is_same(a: Kind, b: Kind) -> bool
-    ensures { result ≡ grammar.is_same a b }
+    ensures { result ≡ spec.is_same a b }
 {
     match (a, b) {
         (Kind::Text, Kind::Text) => true,
@@ -37,7 +37,7 @@ fn is_same(a: Kind, b: Kind) -> bool
 
 /// Whether a term of this kind suits where another was wanted.
 fn suits(wanted: Option<Kind>, found: Kind) -> bool
-    ensures { result ≡ grammar.suits wanted found }
+    ensures { result ≡ spec.suits wanted found }
 {
     match wanted {
         Some(kind) => is_same(kind, found),
@@ -46,7 +46,7 @@ fn suits(wanted: Option<Kind>, found: Kind) -> bool
 }
 
 fn if_suits(wanted: Option<Kind>, found: Kind, term: Term) -> Option<(Term, Kind)>
-    ensures { result ≡ grammar.if_suits wanted found term }
+    ensures { result ≡ spec.if_suits wanted found term }
 {
     if suits(wanted, found) {
         Some((term, found))
@@ -56,7 +56,7 @@ fn if_suits(wanted: Option<Kind>, found: Kind, term: Term) -> Option<(Term, Kind
 }
 
 pub fn truth_in(sign: &Sign) -> Option<bool>
-    ensures { result ≡ grammar.truth_in sign.now }
+    ensures { result ≡ spec.truth_in sign.now }
 {
     match sign {
         Sign::Truth(truth) => Some(*truth),
@@ -66,7 +66,7 @@ pub fn truth_in(sign: &Sign) -> Option<bool>
 
 /// A field of any type.
 pub fn field_in(sign: &Sign) -> Option<u8>
-    ensures { result ≡ grammar.field_in sign.now }
+    ensures { result ≡ spec.field_in sign.now }
 {
     match sign {
         Sign::Field(position, _) => Some(*position),
@@ -75,7 +75,7 @@ pub fn field_in(sign: &Sign) -> Option<u8>
 }
 
 pub fn picklist_in(sign: &Sign) -> Option<u8>
-    ensures { result ≡ grammar.picklist_in sign.now }
+    ensures { result ≡ spec.picklist_in sign.now }
 {
     match sign {
         Sign::Field(position, Sort::Picklist) => Some(*position),
@@ -85,7 +85,7 @@ pub fn picklist_in(sign: &Sign) -> Option<u8>
 
 /// A field that has a length.
 pub fn measured_in(sign: &Sign) -> Option<u8>
-    ensures { result ≡ grammar.measured_in sign.now }
+    ensures { result ≡ spec.measured_in sign.now }
 {
     match sign {
         Sign::Field(position, Sort::Text | Sort::Picklist) => Some(*position),
@@ -94,7 +94,7 @@ pub fn measured_in(sign: &Sign) -> Option<u8>
 }
 
 pub fn text_in(alloc: Global, sign: &Sign) -> Result<Option<Text>, AllocError>
-    ensures { IfOk result (λ text. text ≡ grammar.text_in sign.now) }
+    ensures { IfOk result (λ text. text ≡ spec.text_in sign.now) }
 {
     match sign {
         Sign::Text(text) => Ok(Some(Text::from_str(alloc, text.as_str())?)),
@@ -103,7 +103,7 @@ pub fn text_in(alloc: Global, sign: &Sign) -> Result<Option<Text>, AllocError>
 }
 
 pub fn relation_in(sign: &Sign) -> Option<Relation>
-    ensures { result ≡ grammar.relation_in sign.now }
+    ensures { result ≡ spec.relation_in sign.now }
 {
     match sign {
         Sign::Relation(relation) => Some(*relation),
@@ -113,7 +113,7 @@ pub fn relation_in(sign: &Sign) -> Option<Relation>
 
 // A field as a term of its kind.
 fn field_term(wanted: Option<Kind>, position: u8, sort: Sort) -> Option<(Term, Kind)>
-    ensures { result ≡ grammar.of_field term.Field position wanted (grammar.kind_of sort) }
+    ensures { result ≡ spec.of_field term.Field position wanted (spec.kind_of sort) }
 {
     match kind_of(sort) {
         Some(kind) => if_suits(wanted, kind, Term::Field(position)),
@@ -127,7 +127,7 @@ pub fn simple_in(
     wanted: Option<Kind>,
     sign: &Sign,
 ) -> Result<Option<(Term, Kind)>, AllocError>
-    ensures { IfOk result (λ term. term ≡ grammar.simple_in wanted sign.now) }
+    ensures { IfOk result (λ term. term ≡ spec.simple_in wanted sign.now) }
 {
     match sign {
         Sign::Field(position, sort) => Ok(field_term(wanted, *position, *sort)),
@@ -142,7 +142,7 @@ pub fn simple_in(
 
 /// Whether the token is LEN, and a number suits.
 pub fn is_len(wanted: Option<Kind>, sign: &Sign) -> bool
-    ensures { grammar.len_in wanted sign.now ≡ (if result then Some tt else None) }
+    ensures { spec.len_in wanted sign.now ≡ (if result then Some tt else None) }
 {
     match sign {
         Sign::Len => suits(wanted, Kind::Number),
@@ -152,7 +152,7 @@ pub fn is_len(wanted: Option<Kind>, sign: &Sign) -> bool
 
 // What a field was before, as a term of its kind.
 fn prior_term(wanted: Option<Kind>, position: u8, sort: Sort) -> Option<(Term, Kind)>
-    ensures { result ≡ grammar.of_field term.Prior position wanted (grammar.kind_of sort) }
+    ensures { result ≡ spec.of_field term.Prior position wanted (spec.kind_of sort) }
 {
     match kind_of(sort) {
         Some(kind) => if_suits(wanted, kind, Term::Prior(position)),
@@ -162,7 +162,7 @@ fn prior_term(wanted: Option<Kind>, position: u8, sort: Sort) -> Option<(Term, K
 
 /// A field within PRIORVALUE.
 pub fn prior_in(wanted: Option<Kind>, sign: &Sign) -> Option<(Term, Kind)>
-    ensures { result ≡ grammar.prior_in wanted sign.now }
+    ensures { result ≡ spec.prior_in wanted sign.now }
 {
     match sign {
         Sign::Field(position, sort) => prior_term(wanted, *position, *sort),

@@ -1,8 +1,7 @@
 use Rattle.platform.specs.Seen.{Seen}
-use Rattle.std.proofs.Common.{Err, refl, ℕ, List, [], ◌∷◌}
-use Rattle.ut_keeper.specs.State.{KeeperState}
+use Rattle.std.proofs.Common.{refl, ℕ, List, [], ◌∷◌}
 use Rattle.platform.specs.Commands.{answers, serves}
-use Rattle.platform.specs.declared.stop.Stop.TheVariants.{DoorFailed, KeeperFailed, SinkFailed, SourceFailed}
+use Rattle.platform.specs.declared.stop.Stop.TheVariants.{DoorFailed, SinkFailed, SourceFailed}
 use Rattle.platform.specs.Stops.{csvq_end, store_end}
 use Rattle.platform.proofs.Ends.{csvq_door, csvq_known, store_door, store_known, store_source}
 use Rattle.platform.proofs.Runs.{csvq_runs, is_72, is_73, is_74, is_75, known_zero, not_listed, faulted, org_crash, org_runs, quiet, serving_completes, serving_crash, serving_leads, serving_runs, version_ends}

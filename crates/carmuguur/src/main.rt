@@ -1,15 +1,10 @@
 //! The program: it hands the words after its name, the standard streams and the system's clock to `platform::run`.
 #![tactic(auto)]
 
-mod mistake;
-#[cfg(test)]
-mod tests;
-
 ghost use Rattle.std.specs.Prelude.{◌≡◌, ◌⊎◌, ◌↔◌, IfOk, IsNone, None, map, string_bytes};
 ghost use Rattle.platform.specs.Commands.{command_of};
-ghost use Rattle.carmuguur.specs.Lines.{IsCommandLine};
+ghost use Rattle.ut_usage.specs.Lines.{IsCommandLine};
 
-use crate::mistake::{CommandLine, Mistake, read_line};
 use platform::run;
 use std::alloc::AllocError;
 use std::env;
@@ -18,6 +13,7 @@ use std::process::ExitCode;
 use ut_io::{StdSink, StdSource, SystemClock, TcpDoor};
 use ut_keeper::{Keeper, MemoryKeeper};
 use ut_sqlkeeper::{OnPath, SqlKeeper};
+use ut_usage::{CommandLine, Mistake, read_line};
 
 // The statuses that may come before a command runs, as `run` has them.
 const NO_COMMAND: u8 = 64;

@@ -1,22 +1,12 @@
-//! Runs whole scripts over one keeper in memory: each line of standard input is a JSON object that says what to run, and
-//! over what, and each run is answered by a JSON object on a line of standard output.
+//! The program: it does what each line of standard input says, and writes what that gives to standard output.
 #![tactic(auto)]
 
-mod line;
-mod parts;
-mod reading;
-mod replaying;
-mod report;
-#[cfg(test)]
-mod tests;
-
-use crate::line::Fault;
-use crate::replaying::{End, Replay};
 use std::alloc::{AllocError, Global};
 use std::io;
 use std::io::ErrorKind;
 use std::process::ExitCode;
 use ut_io::{IoFail, Sink, StdSink, write_all};
+use ut_replay::{End, Fault, Replay};
 
 // Why the program ends before the end of its input.
 #[derive(Debug, Drop)]
@@ -86,15 +76,15 @@ fn replay_all(rt: &HostRuntime) -> Result<(), Stop> {
 // The status, and a line on standard error.
 fn tell(rt: &HostRuntime, stop: &Stop) -> u8 {
     match stop {
-        Stop::Line(number, End::Fault(fault)) => {
-            let _ = eprintln!(rt; "replay: line {number}: {fault}");
-            65
+        Stop::Line(number, end) => {
+            let _ = eprintln!(rt; "replay: line {number}: {end}");
+            match end {
+                End::Fault(_) => 65,
+                End::Memory => 71,
+                End::Keeper => 72,
+            }
         }
-        Stop::Line(number, End::Keeper) => {
-            let _ = eprintln!(rt; "replay: line {number}: the keeper failed");
-            72
-        }
-        Stop::Line(_, End::Memory) | Stop::Memory => {
+        Stop::Memory => {
             let _ = eprintln!(rt; "replay: out of memory");
             71
         }

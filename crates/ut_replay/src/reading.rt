@@ -1,0 +1,146 @@
+//! What a line says.
+
+ghost use Rattle.std.specs.Prelude.{◌≡◌, IfOk};
+ghost use Rattle.ut_replay.specs.Lines as spec;
+ghost use Rattle.ut_replay.specs.Lines.{Gives, HasMoments, MayRun, line_of};
+
+use crate::line::{Failing, Fault, Line, LineFail, Name, RawRow, Run, Spelling};
+use crate::parts::{
+    byte_list_at, bytes, bytes_at, check_names, found, members_of, needed, number, numbers_at,
+    text_at, texts_at,
+};
+use std::alloc::Global;
+use ut_json::{Json, Member};
+use ut_value::Items;
+
+// 9999-12-31T23:59:59Z, in seconds from 1970-01-01T00:00:00Z.
+const LAST_MOMENT: u64 = 253_402_300_799;
+
+const RUN: [Name; 7] = [
+    Name::Words,
+    Name::Stdin,
+    Name::StdinHex,
+    Name::Connections,
+    Name::ConnectionsHex,
+    Name::Moments,
+    Name::Failing,
+];
+
+fn failing(alloc: Global, members: &[Member]) -> Result<Failing, LineFail>
+    ensures { Gives result (spec.failing_at members.now) }
+{
+    let Some(json) = found(members, Name::Failing.text()) else {
+        return Ok(Failing {
+            source: Items::new(alloc),
+            sink: Items::new(alloc),
+            door: Items::new(alloc),
+        });
+    };
+    let members = members_of(
+        alloc,
+        json,
+        Name::Failing,
+        &[Name::Source, Name::Sink, Name::Door],
+    )?;
+    let source = numbers_at(alloc, members, Name::Source, u64::MAX)?;
+    let sink = numbers_at(alloc, members, Name::Sink, u64::MAX)?;
+    let door = numbers_at(alloc, members, Name::Door, u64::MAX)?;
+    Ok(Failing { source, sink, door })
+}
+
+fn run(alloc: Global, members: &[Member]) -> Result<Run, LineFail>
+    ensures value { Gives result (spec.run_of members.now) }
+    ensures moments { IfOk result HasMoments }
+{
+    check_names(alloc, members, &RUN)?;
+    let words = texts_at(alloc, members, Name::Words)?;
+    let stdin = bytes_at(alloc, members, Name::Stdin, Name::StdinHex)?;
+    let connections = byte_list_at(alloc, members, Name::Connections, Name::ConnectionsHex)?;
+    let moments = numbers_at(alloc, members, Name::Moments, LAST_MOMENT)?;
+    let failing = failing(alloc, members)?;
+    Ok(Run {
+        words,
+        stdin,
+        connections,
+        moments,
+        failing,
+    })
+}
+
+fn row(alloc: Global, json: &Json) -> Result<RawRow, LineFail>
+    ensures { Gives result (spec.row_of json.now) }
+{
+    let members = members_of(
+        alloc,
+        json,
+        Name::Rows,
+        &[Name::Table, Name::Key, Name::Row],
+    )?;
+    let table = number(needed(members, Name::Table)?, Name::Table, 255)? as u8;
+    let key = bytes(alloc, needed(members, Name::Key)?, Name::Key, Spelling::Hex)?;
+    let row = match needed(members, Name::Row)? {
+        Json::Null => None,
+        json => Some(bytes(alloc, json, Name::Row, Spelling::Hex)?),
+    };
+    Ok(RawRow { table, key, row })
+}
+
+fn rows(alloc: Global, members: &[Member]) -> Result<Items<RawRow>, LineFail>
+    ensures { Gives result (spec.rows_of members.now) }
+{
+    check_names(alloc, members, &[Name::Rows])?;
+    let Json::List(items) = needed(members, Name::Rows)? else {
+        return Err(LineFail::Fault(Fault::Wrong(Name::Rows)));
+    };
+    let mut rest = items.as_slice();
+    let mut rows = Items::new(alloc);
+    'items: while let Some((item, more)) = rest.split_first() {
+        let next = row(alloc, item)?;
+        rows.push(next)?;
+        rest = more;
+    }
+    Ok(rows)
+}
+
+fn keeper(alloc: Global, members: &[Member]) -> Result<Items<u64>, LineFail>
+    ensures { Gives result (spec.keeper_of members.now) }
+{
+    check_names(alloc, members, &[Name::Failing])?;
+    let json = needed(members, Name::Failing)?;
+    let members = members_of(alloc, json, Name::Failing, &[Name::Keeper])?;
+    numbers_at(alloc, members, Name::Keeper, u64::MAX)
+}
+
+fn note(alloc: Global, members: &[Member]) -> Result<(), LineFail>
+    ensures { Gives result (spec.note_of members.now) }
+{
+    check_names(alloc, members, &[Name::Note])?;
+    let _text = text_at(alloc, members, Name::Note)?;
+    Ok(())
+}
+
+/// What a line says, by the member that is there: `words` something to run, `rows` rows, `failing` the keeper's failing
+/// calls, and `note` a comment.
+///
+/// # Errors
+///
+/// The line's first fault, or out of memory.
+pub(crate) fn read_line(alloc: Global, json: &Json) -> Result<Line, LineFail>
+    ensures value { Gives result (line_of json.now) }
+    ensures moments { IfOk result MayRun }
+{
+    let Json::Object(members) = json else {
+        return Err(LineFail::Fault(Fault::NotObject));
+    };
+    let members = members.as_slice();
+    if found(members, Name::Words.text()).is_some() {
+        Ok(Line::Run(run(alloc, members)?))
+    } else if found(members, Name::Rows.text()).is_some() {
+        Ok(Line::Rows(rows(alloc, members)?))
+    } else if found(members, Name::Failing.text()).is_some() {
+        Ok(Line::Keeper(keeper(alloc, members)?))
+    } else {
+        note(alloc, members)?;
+        Ok(Line::Note)
+    }
+}

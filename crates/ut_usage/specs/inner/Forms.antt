@@ -1,0 +1,28 @@
+-- How the table of forms agrees with the commands of `run`.
+use Rattle.std.specs.Prelude.{◌≡◌, ◌≢◌, ◌↔◌, ℕ, IsTrue, List, [], ◌∷◌, None, length}
+use Rattle.std.specs.Option.{is_some}
+use Rattle.platform.specs.Commands.{command_of, count_in}
+use Rattle.ut_usage.specs.declared.form.Operands.{Operands}
+use Rattle.ut_usage.specs.declared.form.Operands.TheVariants.{Words, Count}
+
+-- words of this name are a command exactly if `count` others follow it
+abbrev pub TakesWords : List ℕ → ℕ → Type 0
+TakesWords name count = (others : List (List ℕ)) → (command_of (name ∷ others) ≡ None) ↔ (length others ≢ count)
+
+-- one word, which is a count of connections
+abbrev pub IsOneCount : List (List ℕ) → Type 0
+IsOneCount (word ∷ []) = IsTrue (is_some (count_in word))
+IsOneCount _ = ⊥
+
+-- words of this name are a command exactly if one other follows it, and this is a count of connections
+abbrev pub TakesCount : List ℕ → Type 0
+TakesCount name = (others : List (List ℕ)) → (command_of (name ∷ others) ≢ None) ↔ IsOneCount others
+
+-- what follows the name of a command
+abbrev pub Takes : List ℕ → Operands → Type 0
+Takes name (Words count) = TakesWords name count
+Takes name Count = TakesCount name
+
+-- no command has this name
+abbrev pub IsUnknown : List ℕ → Type 0
+IsUnknown name = (others : List (List ℕ)) → command_of (name ∷ others) ≡ None

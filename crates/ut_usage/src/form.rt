@@ -1,0 +1,56 @@
+//! The table of the commands.
+
+ghost use Rattle.std.specs.Prelude.{◌≡◌, ◌≢◌, IfNone, IfSome};
+ghost use Rattle.ut_usage.specs.inner.Forms.{IsUnknown, Takes};
+
+/// What follows the name of a command.
+pub(crate) enum Operands {
+    /// So many words.
+    Words(usize),
+    /// One word, which is a count of connections.
+    Count,
+}
+
+/// A command as it is written.
+pub(crate) struct Form {
+    pub(crate) name: &'static str,
+    pub(crate) form: &'static str,
+    pub(crate) operands: Operands,
+}
+
+/// The commands of `platform::run`. One more is a line here, and its name in `proofs/Forms.antt`.
+pub(crate) const COMMANDS: [Form; 4] = [
+    Form {
+        name: "csvq",
+        form: "csvq QUERY",
+        operands: Operands::Words(1),
+    },
+    Form {
+        name: "org-add",
+        form: "org-add NAME SECRET",
+        operands: Operands::Words(2),
+    },
+    Form {
+        name: "answer",
+        form: "answer",
+        operands: Operands::Words(0),
+    },
+    Form {
+        name: "serve",
+        form: "serve COUNT",
+        operands: Operands::Count,
+    },
+];
+
+/// The form of the command of this name, with as many words as `run` takes after it.
+pub(crate) fn form_of(name: &str) -> Option<&'static Form>
+    ensures found { IfSome result (λ form. Takes name.now form.now.operands) }
+    ensures none { IfNone result (IsUnknown name.now) }
+{
+    for form in &COMMANDS {
+        if form.name == name {
+            return Some(form);
+        }
+    }
+    None
+}

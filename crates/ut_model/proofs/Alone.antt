@@ -5,7 +5,7 @@ use Rattle.std.proofs.lemmas.Bool.{eqb-true}
 use Rattle.std.proofs.lemmas.Bool.Decides.{Decides-eqb}
 use Rattle.ut_model.specs.declared.reply.Reply.{Reply}
 use Rattle.ut_model.specs.Step.{Answering, org_named, step_by}
-use Rattle.ut_model.specs.Whole.{Sent, is_of, is_org, own_replies, replies_by, replies_for}
+use Rattle.ut_model.specs.Whole.{Sent, is_from, is_org, own_replies, replies_by, replies_for}
 use Rattle.ut_model.specs.World.{World, tenant_at}
 use Rattle.ut_model.proofs.Stepped.{other_stays, own_alone}
 
@@ -27,16 +27,16 @@ another_org org (Some k) h e = absurd (cc (h, (Decides-eqb k org).1 (some_eq k o
 module _ (answers : Answering) (org : ℕ) where
   pub alone : (qs : List Sent) (w v : World) → tenant_at w org ≡ tenant_at v org → replies_for org (replies_by answers w qs) ≡ own_replies answers org v qs
   alone [] w v same = refl
-  alone (q ∷ qs) w v same = by (is_of org q) refl (λ x y e. alone qs x y e)
+  alone (q ∷ qs) w v same = by (is_from org q) refl (λ x y e. alone qs x y e)
     where
-      by : (b : Bool) → is_of org q ≡ b → ((x y : World) → tenant_at x org ≡ tenant_at y org → replies_for org (replies_by answers x qs) ≡ own_replies answers org y qs) → replies_for org (replies_by answers w (q ∷ qs)) ≡ own_replies answers org v (q ∷ qs)
+      by : (b : Bool) → is_from org q ≡ b → ((x y : World) → tenant_at x org ≡ tenant_at y org → replies_for org (replies_by answers x qs) ≡ own_replies answers org y qs) → replies_for org (replies_by answers w (q ∷ qs)) ≡ own_replies answers org v (q ∷ qs)
       by true is rest =
           let own = own_alone answers q.0 q.1 org w v (named_org org (org_named q.0) is) same in
-          ap (λ (b : Bool). map (λ (r : Sent × Reply). r.1) (cond b ((q, (step_by answers w q.0 q.1).0) ∷ filter (λ r. is_of org r.0) (replies_by answers (step_by answers w q.0 q.1).1 qs)) (filter (λ r. is_of org r.0) (replies_by answers (step_by answers w q.0 q.1).1 qs)))) is
+          ap (λ (b : Bool). map (λ (r : Sent × Reply). r.1) (cond b ((q, (step_by answers w q.0 q.1).0) ∷ filter (λ r. is_from org r.0) (replies_by answers (step_by answers w q.0 q.1).1 qs)) (filter (λ r. is_from org r.0) (replies_by answers (step_by answers w q.0 q.1).1 qs)))) is
           ∙ ap (λ (r : Reply). r ∷ replies_for org (replies_by answers (step_by answers w q.0 q.1).1 qs)) own.0
           ∙ ap (λ (rs : List Reply). (step_by answers v q.0 q.1).0 ∷ rs) (rest (step_by answers w q.0 q.1).1 (step_by answers v q.0 q.1).1 own.1)
-          ∙ sym (ap (λ (b : Bool). map (λ (r : Sent × Reply). r.1) (replies_by answers v (cond b (q ∷ filter (is_of org) qs) (filter (is_of org) qs)))) is)
+          ∙ sym (ap (λ (b : Bool). map (λ (r : Sent × Reply). r.1) (replies_by answers v (cond b (q ∷ filter (is_from org) qs) (filter (is_from org) qs)))) is)
       by false is rest =
-          ap (λ (b : Bool). map (λ (r : Sent × Reply). r.1) (cond b ((q, (step_by answers w q.0 q.1).0) ∷ filter (λ r. is_of org r.0) (replies_by answers (step_by answers w q.0 q.1).1 qs)) (filter (λ r. is_of org r.0) (replies_by answers (step_by answers w q.0 q.1).1 qs)))) is
+          ap (λ (b : Bool). map (λ (r : Sent × Reply). r.1) (cond b ((q, (step_by answers w q.0 q.1).0) ∷ filter (λ r. is_from org r.0) (replies_by answers (step_by answers w q.0 q.1).1 qs)) (filter (λ r. is_from org r.0) (replies_by answers (step_by answers w q.0 q.1).1 qs)))) is
           ∙ rest (step_by answers w q.0 q.1).1 v (other_stays answers q.0 q.1 org w (another_org org (org_named q.0) is) ∙ same)
-          ∙ sym (ap (λ (b : Bool). map (λ (r : Sent × Reply). r.1) (replies_by answers v (cond b (q ∷ filter (is_of org) qs) (filter (is_of org) qs)))) is)
+          ∙ sym (ap (λ (b : Bool). map (λ (r : Sent × Reply). r.1) (replies_by answers v (cond b (q ∷ filter (is_from org) qs) (filter (is_from org) qs)))) is)

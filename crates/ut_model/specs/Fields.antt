@@ -4,6 +4,8 @@
 use Rattle.std.specs.Prelude.{ℕ, Bool, true, false, if◌then◌else◌, List, [], ◌∷◌, ◌++◌, map, bytes_eq, codes, Option, Some, None}
 use Rattle.std.specs.List.{enumerate_from, find, list_any}
 use Rattle.ut_value.specs.Texts.{lower}
+use Rattle.ut_value.specs.declared.sharing.Access.{Access}
+use Rattle.ut_value.specs.declared.sharing.Access.TheVariants as access
 use Rattle.ut_value.specs.declared.value.FieldType.{FieldType}
 use Rattle.ut_value.specs.declared.value.FieldType.TheVariants as type
 use Rattle.ut_value.specs.declared.value.Value.{Value}
@@ -26,6 +28,11 @@ is_master _ = false
 -- an object with a Master field
 abbrev pub is_detail : Object → Bool
 is_detail o = list_any (λ f. is_master f.kind) o.fields
+
+-- access by the master, which details alone have
+abbrev pub by_parent : Access → Bool
+by_parent access.ControlledByParent = true
+by_parent _ = false
 
 -- ---- values
 

@@ -10,6 +10,7 @@ use Rattle.ut_value.specs.declared.sharing.Access.TheVariants as access
 use Rattle.ut_value.specs.declared.value.OnDelete.{OnDelete}
 use Rattle.ut_value.specs.declared.value.OnDelete.TheVariants as on_delete
 use Rattle.ut_model.specs.Cases.{in_case}
+use Rattle.ut_model.specs.Fields.{by_parent}
 use Rattle.ut_model.specs.Members.{Body, as_text, entry, flag_in, formed, levels, member_names, object_in, principal_in, text_in}
 use Rattle.ut_model.specs.Metadata.{NewMaster}
 use Rattle.ut_model.specs.NewFields.{SpelledType, plain, lookup_to}
@@ -35,10 +36,6 @@ accesses =
     ∷ (codes "ReadWrite", access.ReadWrite)
     ∷ (codes "ControlledByParent", access.ControlledByParent)
     ∷ []
-
-abbrev pub by_parent : Access → Bool
-by_parent access.ControlledByParent = true
-by_parent _ = false
 
 abbrev pub master_form : Body → Option NewMaster
 master_form body =

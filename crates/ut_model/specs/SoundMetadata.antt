@@ -6,14 +6,12 @@ use Rattle.std.specs.List.{AllByRecursion}
 use Rattle.std.specs.FinMap.{is_sorted}
 use Rattle.ut_value.specs.Texts.{lower, texts_differ}
 use Rattle.ut_value.specs.Types.{is_type, is_reference, suits_unique, suits_indexed}
-use Rattle.ut_value.specs.declared.sharing.Access.{Access}
-use Rattle.ut_value.specs.declared.sharing.Access.TheVariants as access
 use Rattle.ut_value.specs.declared.value.FieldType.{FieldType}
 use Rattle.ut_value.specs.declared.value.FieldType.TheVariants as type
 use Rattle.ut_value.specs.declared.value.OnDelete.TheVariants as on_delete
 use Rattle.ut_model.specs.declared.limit.Limit.TheVariants as limit
 use Rattle.ut_model.specs.Cases.{in_case}
-use Rattle.ut_model.specs.Fields.{is_master}
+use Rattle.ut_model.specs.Fields.{by_parent, is_master}
 use Rattle.ut_model.specs.Limits.{limit_number}
 use Rattle.ut_model.specs.Metadata.{detail_level}
 use Rattle.ut_model.specs.Names.{is_custom_name, is_child_name, is_stem}
@@ -51,11 +49,6 @@ pub record IsSoundField (objects : ℕ) (f : Field) : Type 0 where
 pub record IsSoundValidation (r : ValidationRule) : Type 0 where
   pub name : IsTrue (is_stem r.name)
   pub message : IsTrue (is_name r.message)
-
--- access by the master
-abbrev pub by_parent : Access → Bool
-by_parent access.ControlledByParent = true
-by_parent _ = false
 
 -- how many Master fields an object has
 abbrev pub masters : Object → ℕ

@@ -35,13 +35,13 @@ is_org org None = false
 is_org org (Some k) = k == org
 
 -- its key names this organisation
-abbrev pub is_of : ℕ → Sent → Bool
-is_of org q = is_org org (org_named q.0)
+abbrev pub is_from : ℕ → Sent → Bool
+is_from org q = is_org org (org_named q.0)
 
 -- the replies to the messages of this organisation, among those of all
 abbrev pub replies_for : ℕ → List (Sent × Reply) → List Reply
-replies_for org rs = map (λ r. r.1) (filter (λ r. is_of org r.0) rs)
+replies_for org rs = map (λ r. r.1) (filter (λ r. is_from org r.0) rs)
 
 -- the replies to its messages alone
 abbrev pub own_replies : Answering → ℕ → World → List Sent → List Reply
-own_replies answers org w qs = map (λ r. r.1) (replies_by answers w (filter (is_of org) qs))
+own_replies answers org w qs = map (λ r. r.1) (replies_by answers w (filter (is_from org) qs))

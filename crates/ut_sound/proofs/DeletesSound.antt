@@ -22,7 +22,7 @@ use Rattle.ut_model.specs.declared.record.Record.{Record}
 use Rattle.ut_model.specs.declared.refusal.Refusal.TheVariants as refusal
 use Rattle.ut_model.specs.Cases.{in_case}
 use Rattle.ut_model.specs.Deletes.{cleared, delete, delete_record, details_of, going, has_id, held, is_cleared, loses, lost, name_at, names_one_of, null_at, refers, restricts, too_many, without}
-use Rattle.ut_model.specs.Fields.{is_master, is_null, ref_of}
+use Rattle.ut_model.specs.Fields.{by_parent, is_master, is_null, ref_of}
 use Rattle.ut_model.specs.Known.{group_id, item_of, known, knows, role_id}
 use Rattle.ut_model.specs.Membership.{Has}
 use Rattle.ut_model.specs.Objects.{Numbered, is_of, numbered, object_number, record_at}
@@ -34,7 +34,7 @@ use Rattle.ut_model.specs.Sound.{IsSound}
 use Rattle.ut_model.specs.SoundJob.{HasSoundJob, copies}
 use Rattle.ut_model.specs.Updates.{is_copied}
 use Rattle.ut_model.specs.Metadata.{masters_above}
-use Rattle.ut_model.specs.SoundMetadata.{IsSoundObject, by_parent, masters}
+use Rattle.ut_model.specs.SoundMetadata.{IsSoundObject, masters}
 use Rattle.ut_model.specs.SoundRecords.{IsSoundRecord, UniqueHold, all_valid, is_sound_reference, kinds_of, record_id, those_of}
 use Rattle.ut_model.specs.SoundSharing.{IsSoundShare}
 use Rattle.ut_model.specs.Tenant.{Field, Group, Job, Object, Role, Tenant, User}

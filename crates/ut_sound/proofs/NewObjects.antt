@@ -11,7 +11,7 @@ use Rattle.ut_model.specs.declared.limit.Limit.TheVariants as limit
 use Rattle.ut_model.specs.declared.record.Record.{Record}
 use Rattle.ut_model.specs.declared.refusal.Refusal.TheVariants as refusal
 use Rattle.ut_model.specs.Cases.{in_case}
-use Rattle.ut_model.specs.Fields.{is_detail, is_master, same_name}
+use Rattle.ut_model.specs.Fields.{by_parent, is_detail, is_master, same_name}
 use Rattle.ut_model.specs.Known.{known}
 use Rattle.ut_model.specs.Membership.{Has}
 use Rattle.ut_model.specs.Metadata.{NewMaster, NewObject, add_object, child_name_taken, detail_level, master_field, master_names, masters_above, new_fields, new_object, no_parent, object_rules, too_deep}
@@ -21,7 +21,7 @@ use Rattle.ut_model.specs.Relationships.{Reference, master_in, parent_name, refe
 use Rattle.ut_model.specs.Rules.{MemberRules, Rule, in_body_order, over_limit, refuse_if}
 use Rattle.ut_model.specs.Sound.{IsSound}
 use Rattle.ut_model.specs.SoundJob.{HasSoundJob, job_field}
-use Rattle.ut_model.specs.SoundMetadata.{HasSoundMetadata, IsSoundField, IsSoundObject, by_parent, names_differ}
+use Rattle.ut_model.specs.SoundMetadata.{HasSoundMetadata, IsSoundField, IsSoundObject, names_differ}
 use Rattle.ut_model.specs.SoundRecords.{IsSoundRecord, UniqueHold}
 use Rattle.ut_model.specs.SoundSharing.{IsSoundRule, IsSoundShare, shareable}
 use Rattle.ut_model.specs.Tenant.{Field, Job, Object, Tenant}

@@ -10,7 +10,7 @@ use Rattle.ut_model.specs.declared.limit.Limit.TheVariants as limit
 use Rattle.ut_model.specs.declared.record.Record.{Record}
 use Rattle.ut_model.specs.declared.refusal.Refusal.TheVariants as refusal
 use Rattle.ut_model.specs.Cases.{in_case}
-use Rattle.ut_model.specs.Fields.{is_detail, is_master, same_name}
+use Rattle.ut_model.specs.Fields.{by_parent, is_detail, is_master, same_name}
 use Rattle.ut_model.specs.Known.{known}
 use Rattle.ut_model.specs.Levels.{Reads}
 use Rattle.ut_model.specs.Metadata.{set_access}
@@ -22,7 +22,7 @@ use Rattle.ut_model.specs.RuleFormulas.{name_cmp}
 use Rattle.ut_model.specs.Rules.{refuse_if}
 use Rattle.ut_model.specs.Sound.{IsSound}
 use Rattle.ut_model.specs.SoundJob.{HasSoundJob, job_field}
-use Rattle.ut_model.specs.SoundMetadata.{IsSoundField, IsSoundObject, IsSoundValidation, by_parent, names_differ}
+use Rattle.ut_model.specs.SoundMetadata.{IsSoundField, IsSoundObject, IsSoundValidation, names_differ}
 use Rattle.ut_model.specs.SoundPeople.{is_name}
 use Rattle.ut_model.specs.SoundRecords.{IsSoundRecord, UniqueHold}
 use Rattle.ut_model.specs.SoundSharing.{IsSoundRule, IsSoundShare, shareable}

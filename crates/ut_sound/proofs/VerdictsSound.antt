@@ -2,6 +2,7 @@
 use Rattle.std.proofs.Common.{◌≡◌, ℕ, Bool, true, false, not, List, length, Option, Some, None, refl}
 use Rattle.sha2.specs.Sha256.{sha256}
 use Rattle.ut_soql.specs.declared.query.Query.{Query}
+use Rattle.ut_model.specs.Fields.{by_parent}
 use Rattle.ut_model.specs.declared.refusal.Refusal.TheVariants as refusal
 use Rattle.ut_model.specs.Asking.{ask, query_rules}
 use Rattle.ut_model.specs.Cases.{in_case}
@@ -9,7 +10,6 @@ use Rattle.ut_model.specs.Paths.{Asked}
 use Rattle.ut_model.specs.Requests.{Request, verdict_on, asks, creates, updates, deletes, upserts, shares, unshares, adds_object, sets_object, adds_field, adds_validation_rule, adds_sharing_rule, removes_sharing_rule, adds_user, sets_user, adds_role, sets_role, adds_group, sets_group, begins_retype, gets_retype, cancels_retype}
 use Rattle.ut_model.specs.Retyping.{get_retype}
 use Rattle.ut_model.specs.Sound.{IsSound}
-use Rattle.ut_model.specs.SoundMetadata.{by_parent}
 use Rattle.ut_model.specs.Tenant.{Job, Tenant}
 use Rattle.ut_model.specs.Verdict.{accept, judged, refuse, rows_of, state_of}
 use Rattle.ut_sound.specs.Fit.{IsCaller, IsFit}

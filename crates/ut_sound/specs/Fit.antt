@@ -20,7 +20,8 @@ use Rattle.ut_model.specs.Retyping.{new_type}
 use Rattle.ut_model.specs.RuleFormulas.{names_field}
 use Rattle.ut_model.specs.Shares.{NewShare}
 use Rattle.ut_model.specs.SharingRules.{NewSharingRule, SpelledSource, by_formula, from}
-use Rattle.ut_model.specs.SoundMetadata.{by_parent, implies, may_be_required}
+use Rattle.ut_model.specs.Fields.{by_parent}
+use Rattle.ut_model.specs.SoundMetadata.{implies, may_be_required}
 use Rattle.ut_model.specs.SoundPeople.{is_name}
 use Rattle.ut_model.specs.SoundRecords.{all_valid, kinds_of}
 use Rattle.ut_model.specs.SoundSharing.{is_grant}

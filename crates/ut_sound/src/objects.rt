@@ -2,11 +2,11 @@
 
 ghost use Rattle.std.specs.Prelude.{IsTrue, List, false, ℕ, ◌≡◌};
 ghost use Rattle.ut_value.specs.declared.sharing.Access.{Access};
+ghost use Rattle.ut_model.specs.Fields.{by_parent};
 ghost use Rattle.ut_model.specs.Levels.{Reads};
 ghost use Rattle.ut_model.specs.Metadata.{NewObject, add_object, set_access};
 ghost use Rattle.ut_model.specs.NewFields.{NewField, add_field};
 ghost use Rattle.ut_model.specs.Sound.{IsSound, is_name};
-ghost use Rattle.ut_model.specs.SoundMetadata.{by_parent};
 ghost use Rattle.ut_model.specs.Tenant.{Tenant};
 ghost use Rattle.ut_model.specs.ValidationRules.{NewValidationRule, add_validation_rule};
 ghost use Rattle.ut_sound.specs.Fit.{is_fit_field, is_fit_object};

@@ -106,3 +106,8 @@ delete_account = by_admin (deletes (codes "Account__c") (codes "a00000000000008"
 abbrev pub bare_contact : List ℕ
 bare_contact =
     codes "{\"attributes\":{\"type\":\"Contact__c\",\"url\":\"/services/data/v59.0/sobjects/Contact__c/a01000000000009AAA\"},\"Account__c\":null}"
+
+abbrev pub found_contact : List ℕ
+found_contact =
+    codes "{\"attributes\":{\"type\":\"Contact__c\",\"url\":\"/services/data/v59.0/sobjects/Contact__c/a01000000000002AAA\"},"
+    ++ codes "\"Account__c\":\"a00000000000001AAA\"}"

@@ -8,8 +8,9 @@ ghost use Rattle.ut_value.specs.declared.value.FieldType.TheVariants as type;
 ghost use Rattle.ut_value.specs.declared.value.Value.TheVariants as value;
 ghost use Rattle.ut_model.specs.Fields.{typed};
 ghost use Rattle.ut_model.specs.Given.{read_json};
-ghost use Rattle.ut_model.specs.WorkedRecords.{accounts_made, deal_of, delete_order, note_on, order_made, rules_made, upsert_account, upsert_with, upserted_so};
-ghost use Rattle.ut_model.specs.WorkedRequests.{all_of, by, by_admin, done_so, refused_so, rows_so, said, start, text_to};
+ghost use Rattle.ut_model.specs.WorkedRecords.{account_with_code, accounts_made, contact_of, deal_of, delete_order, note_on, order_made, rules_made, upsert_account, upsert_with, upserted_so};
+ghost use Rattle.ut_model.specs.WorkedRefusals.{contacts_by, found_contact, no_target};
+ghost use Rattle.ut_model.specs.WorkedRequests.{all_of, by, by_admin, done_so, made_so, refused_so, rows_so, said, start, text_to};
 
 /// Validation rules in the order of their names, and then a duplicate. The call does nothing.
 pub fn validation_rows()
@@ -34,6 +35,17 @@ pub fn upsert_rows()
         ≡ refused_so 400 (codes "INVALID_TYPE_ON_FIELD_IN_RECORD") (codes "Code__c: wrong type") }
     ensures other_key { said start accounts_made (upsert_with (codes "Code__c") (Some (codes "A")) (text_to (codes "code__c") (codes "a") ∷ []))
         ≡ refused_so 400 (codes "INVALID_FIELD") (codes "no field Code__c here") }
+{}
+
+/// A parent that is found by a unique field. The call does nothing.
+pub fn found_rows()
+    ensures found { said start account_with_code (contact_of (codes "a/1")) ≡ made_so (codes "a01000000000002AAA") }
+    ensures referred { said start (account_with_code ++ contact_of (codes "a/1") ∷ []) (contacts_by ((codes "Account__c" ∷ []) ∷ []) None [])
+        ≡ rows_so 1 found_contact }
+    ensures none { said start account_with_code (contact_of (codes "a")) ≡ no_target (codes "Account__c") }
+    ensures is_null { said start account_with_code (contact_of []) ≡ made_so (codes "a01000000000002AAA") }
+    ensures too_long { said start account_with_code (contact_of (codes "abcdefghijklmnopqrstu"))
+        ≡ refused_so 400 (codes "STRING_TOO_LONG") (codes "Account__c: over 20 characters") }
 {}
 
 /// A deletion with what goes with it, and what holds it. The call does nothing.

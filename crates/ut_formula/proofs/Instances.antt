@@ -169,10 +169,10 @@ is_pickval_exact =
     (call_exact sign.IsPickval (both (one picklist_in) (λ _. part.after kind 16 (one text_in))) spec.choice (10 ∷ []) [] choice_exact refl)
 
 plain_exact : Exact kind g.plain spec.plain (0 ∷ 1 ∷ 5 ∷ 6 ∷ 7 ∷ 10 ∷ 11 ∷ 12 ∷ 8 ∷ 9 ∷ []) [] false
-unfolding spec.plain spec.test
+unfolding spec.plain spec.of_fields
 plain_exact =
-    either_exact kind _ _ spec.truth (read_either kind (1 ∷ []) spec.is_new spec.test) (0 ∷ []) [] (1 ∷ 5 ∷ 6 ∷ 7 ∷ 10 ∷ 11 ∷ 12 ∷ 8 ∷ 9 ∷ []) [] false truth_exact
-    (either_exact kind _ _ spec.is_new spec.test (1 ∷ []) [] (5 ∷ 6 ∷ 7 ∷ 10 ∷ 11 ∷ 12 ∷ 8 ∷ 9 ∷ []) [] false is_new_exact
+    either_exact kind _ _ spec.truth (read_either kind (1 ∷ []) spec.is_new spec.of_fields) (0 ∷ []) [] (1 ∷ 5 ∷ 6 ∷ 7 ∷ 10 ∷ 11 ∷ 12 ∷ 8 ∷ 9 ∷ []) [] false truth_exact
+    (either_exact kind _ _ spec.is_new spec.of_fields (1 ∷ []) [] (5 ∷ 6 ∷ 7 ∷ 10 ∷ 11 ∷ 12 ∷ 8 ∷ 9 ∷ []) [] false is_new_exact
     (either_exact kind _ _ spec.is_blank (read_either kind (6 ∷ []) spec.is_changed (read_either kind (7 ∷ []) spec.is_pickval spec.comparison))
     (5 ∷ []) [] (6 ∷ 7 ∷ 10 ∷ 11 ∷ 12 ∷ 8 ∷ 9 ∷ []) [] false is_blank_exact
     (either_exact kind _ _ spec.is_changed (read_either kind (7 ∷ []) spec.is_pickval spec.comparison) (6 ∷ []) [] (7 ∷ 10 ∷ 11 ∷ 12 ∷ 8 ∷ 9 ∷ []) [] false is_changed_exact

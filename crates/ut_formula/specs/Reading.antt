@@ -82,11 +82,11 @@ choice ts = picklist ts >>= λ p. reader.after kind 16 text p.1 >>= λ cs. Ok ((
 unfoldable pub is_pickval : Reads Formula
 is_pickval ts = call 7 choice ts >>= λ got. Ok (formula.IsPickval got.0.0 got.0.1, got.1)
 
-unfoldable pub test : Reads Formula
-test = read_either kind (5 ∷ []) is_blank (read_either kind (6 ∷ []) is_changed (read_either kind (7 ∷ []) is_pickval comparison))
+unfoldable pub of_fields : Reads Formula
+of_fields = read_either kind (5 ∷ []) is_blank (read_either kind (6 ∷ []) is_changed (read_either kind (7 ∷ []) is_pickval comparison))
 
 unfoldable pub plain : Reads Formula
-plain = read_either kind (0 ∷ []) truth (read_either kind (1 ∷ []) is_new test)
+plain = read_either kind (0 ∷ []) truth (read_either kind (1 ∷ []) is_new of_fields)
 
 module _ (within : Reads Formula) where
   -- the formulas behind the first

@@ -318,9 +318,9 @@ fn is_pickval(alloc: Global, signs: &[Sign]) -> Result<(Formula, &[Sign]), Fail>
     Ok((Formula::IsPickval { field, value }, rest))
 }
 
-#[tactic(auto, unfolding(crate::specs::Reading::test))]
-fn test(alloc: Global, signs: &[Sign]) -> Result<(Formula, &[Sign]), Fail>
-    ensures value { Gives (λ x. (x.0, x.1.now)) result (spec.test signs.now) }
+#[tactic(auto, unfolding(crate::specs::Reading::of_fields))]
+fn of_fields(alloc: Global, signs: &[Sign]) -> Result<(Formula, &[Sign]), Fail>
+    ensures value { Gives (λ x. (x.0, x.1.now)) result (spec.of_fields signs.now) }
     ensures shorter { IfOk result (λ x. length x.1.now < length signs.now) }
 {
     if begins_with(signs, &[IS_BLANK]) {
@@ -344,7 +344,7 @@ fn plain(alloc: Global, signs: &[Sign]) -> Result<(Formula, &[Sign]), Fail>
     } else if begins_with(signs, &[IS_NEW]) {
         is_new(signs)
     } else {
-        test(alloc, signs)
+        of_fields(alloc, signs)
     }
 }
 

@@ -102,6 +102,12 @@ ReadsOtherTypes reads =
     → IsTrue (is_ok (reads o criteria text)) → IsTrue (not (names_field (suc place) (reads o criteria text)))
     → reads (record o { fields = change_at place (λ f. record f { kind = to }) o.fields }) criteria text ≡ reads o criteria text
 
+-- all of these, as the grammar of formulas has them
+pub record ReadsFormulas (reads : Reads) : Type 0 where
+  pub by_fields : ReadsByFields reads
+  pub over_more : ReadsOverMore reads
+  pub other_types : ReadsOtherTypes reads
+
 -- ---- any request
 
 -- what the form of its body gives, for the user who asks

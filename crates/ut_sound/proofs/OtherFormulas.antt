@@ -119,7 +119,7 @@ module _ (reads : Reads) where
             → AreFormulasSound reads (in_case f (refuse a.tenant (refusal.InvalidField (declared_name o.object key))) (λ f. with_read a.tenant (key_value f.1 text) (upsert_by a o given f))).tenant
         by o None = s
         by o (Some f) =
-            when_read P a.tenant (key_value f.1 text) (upsert_by a o given f) s (λ v.
+            when_read P a.tenant (key_value f.1 text) (upsert_by a o given f) s (λ v w.
             by_record o (record { column = column f.1.name (typed f.1.kind) (its_value f.0); value = v }) (record_with a.tenant o.number f.0 v))
 
     pub delete_formulas : (object key : List ℕ) → AreFormulasSound reads (delete a object key).tenant

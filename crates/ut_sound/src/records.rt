@@ -1,15 +1,14 @@
 //! Records: new ones, other values, and upserts.
 
-ghost use Rattle.std.specs.Prelude.{List, Option, Some, ℕ};
+ghost use Rattle.std.specs.Prelude.{List, Option, ℕ};
 ghost use Rattle.ut_model.specs.Creates.{create};
 ghost use Rattle.ut_model.specs.Given.{Assignment};
-ghost use Rattle.ut_model.specs.Keys.{Key, with_key};
 ghost use Rattle.ut_model.specs.Paths.{Asked};
 ghost use Rattle.ut_model.specs.Sound.{IsSound};
 ghost use Rattle.ut_model.specs.Tenant.{Object};
 ghost use Rattle.ut_model.specs.Updates.{update};
 ghost use Rattle.ut_model.specs.Upserts.{upsert};
-ghost use Rattle.ut_sound.specs.Fit.{IsCaller, ReadsWell};
+ghost use Rattle.ut_sound.specs.Fit.{IsCaller, ReadsWell, ReadsWellByKey};
 
 use ut_value::id_laws;
 
@@ -21,7 +20,7 @@ pub fn records_sound()
     ensures update { (a : Asked) (object key : List ℕ) (given : List Assignment) → IsCaller a → ((o : Object) → ReadsWell a o given)
         → IsSound a.tenant → IsSound (update a object key given).tenant }
     ensures upsert { (a : Asked) (object key : List ℕ) (text : Option (List ℕ)) (given : List Assignment) → IsCaller a
-        → ((o : Object) (k : Key) → ReadsWell a o (with_key (Some k) given)) → IsSound a.tenant → IsSound (upsert a object key text given).tenant }
+        → ((o : Object) → ReadsWellByKey a key text o given) → IsSound a.tenant → IsSound (upsert a object key text given).tenant }
 {
     id_laws();
 }

@@ -21,7 +21,7 @@ use Rattle.ut_model.specs.Tenant.{Field, Object, Tenant}
 use Rattle.ut_model.specs.Updates.{update_on}
 use Rattle.ut_model.specs.Upserts.{declared_name, key_value, unique_named, upsert, upsert_by, with_read}
 use Rattle.ut_model.specs.Verdict.{Verdict, judged, refuse}
-use Rattle.ut_sound.specs.Fit.{IsCaller, ReadsWell, ReadsWellByKey, key_of}
+use Rattle.ut_sound.specs.Fit.{IsCaller, OfObjects, ReadsWell, ReadsWellByKey, key_of}
 use Rattle.ut_sound.proofs.Parts.{among_kept}
 use Rattle.ut_sound.proofs.Growing.{IdLaws}
 use Rattle.ut_sound.proofs.PeopleSound.{when_judged}
@@ -42,7 +42,7 @@ when_read P t (Ok v) verdict h f = f v refl
 when_read P t (Err why) verdict h f = h
 
 pub upsert_sound : IdLaws → (a : Asked) (object key : List ℕ) (text : Option (List ℕ)) (given : List Assignment) → IsCaller a
-    → ((o : Object) → ReadsWellByKey a key text o given) → IsSound a.tenant → IsSound (upsert a object key text given).tenant
+    → OfObjects a (λ o. ReadsWellByKey a key text o given) → IsSound a.tenant → IsSound (upsert a object key text given).tenant
 unfolding record_with
 upsert_sound ids a object key text given caller reads s =
     when_object IsSound a.tenant object
@@ -62,4 +62,4 @@ upsert_sound ids a object key text given caller reads s =
     by_field o at None e = s
     by_field o at (Some f) e =
         when_read IsSound a.tenant (key_value f.1 text) (upsert_by a o given f) s (λ v w.
-        by_record o at (key_of f v) (reads o.object f v e w) (has_value f.0 v) (record_with a.tenant o.number f.0 v) refl)
+        by_record o at (key_of f v) (reads o.number o.object at f v e w) (has_value f.0 v) (record_with a.tenant o.number f.0 v) refl)

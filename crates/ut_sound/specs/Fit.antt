@@ -1,7 +1,8 @@
 -- What the form of a body gives, beyond what the rules of its request ask. Every request that is read has it; a request as data may
 -- lack it, and then what its verdict leaves need not be sound. It is this product's own.
-use Rattle.std.specs.Prelude.{◌≡◌, ℕ, suc, Bool, true, not, ◌&&◌, List, [], ◌∷◌, ◌++◌, None, Option, Some, Ok, bytes_eq, codes, is_ok, is_some, IsTrue}
+use Rattle.std.specs.Prelude.{◌≡◌, ℕ, suc, Bool, true, false, not, ◌&&◌, List, [], ◌∷◌, ◌++◌, None, Option, Some, Ok, bytes_eq, codes, slice_get, is_ok, is_some, IsTrue}
 use Rattle.std.specs.List.{list_any}
+use Rattle.std.specs.Str.{all_scalars}
 use Rattle.ut_value.specs.Dates.{is_moment}
 use Rattle.ut_value.specs.Types.{is_reference, is_type, suits_indexed, suits_unique}
 use Rattle.ut_value.specs.declared.value.FieldType.{FieldType}
@@ -10,7 +11,7 @@ use Rattle.ut_model.specs.declared.record.Record.{Record}
 use Rattle.ut_model.specs.Cases.{in_case}
 use Rattle.ut_model.specs.Edits.{bad_value, with_given}
 use Rattle.ut_model.specs.Fields.{column, its_value, typed}
-use Rattle.ut_model.specs.Given.{Assignment}
+use Rattle.ut_model.specs.Given.{Assignment, Given, in_json, json_text}
 use Rattle.ut_model.specs.Keys.{Key, with_key}
 use Rattle.ut_model.specs.Levels.{Reads}
 use Rattle.ut_model.specs.Metadata.{NewObject}
@@ -80,11 +81,20 @@ is_fit_field b =
 abbrev pub IsCaller : Asked → Type 0
 IsCaller a = IsTrue (is_some (user_at a.tenant.users a.user.id)) × IsTrue (is_moment a.now)
 
+-- of each object of the organisation
+abbrev pub OfObjects : Asked → (Object → Type 0) → Type 0
+OfObjects a P = (n : ℕ) (o : Object) → slice_get a.tenant.objects n ≡ Some o → P o
+
 -- what is read in a body is of its field's type: with what is given valid values stay valid, unless one is refused
 abbrev pub ReadsWell : Asked → Object → List Assignment → Type 0
 ReadsWell a o given =
     bad_value a.tenant o given ≡ None
     → (old : Record) → IsTrue (all_valid (kinds_of o) old.values) → IsTrue (all_valid (kinds_of o) (with_given a o given old).values)
+
+-- what a body in JSON gives: its texts are characters
+abbrev pub is_spelled : Given → Bool
+is_spelled (in_json j) = all_scalars (json_text j)
+is_spelled _ = false
 
 -- the key of an upsert by this field
 abbrev pub key_of : ℕ × Field → Value → Key
@@ -124,9 +134,9 @@ pub record ReadsFormulas (reads : Reads) : Type 0 where
 
 -- what the form of its body gives, for the user who asks
 abbrev pub IsFit : Asked → Request → Type 0
-IsFit a (creates object given) = (o : Object) → ReadsWell a o given
-IsFit a (updates object key given) = (o : Object) → ReadsWell a o given
-IsFit a (upserts object key text given) = (o : Object) → ReadsWellByKey a key text o given
+IsFit a (creates object given) = OfObjects a (λ o. ReadsWell a o given)
+IsFit a (updates object key given) = OfObjects a (λ o. ReadsWell a o given)
+IsFit a (upserts object key text given) = OfObjects a (λ o. ReadsWellByKey a key text o given)
 IsFit a (shares b) = IsTrue (is_fit_share b)
 IsFit a (adds_object b) = IsTrue (is_fit_object b)
 IsFit a (sets_object object access) = IsTrue (not (by_parent access))

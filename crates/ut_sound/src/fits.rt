@@ -1,0 +1,17 @@
+//! That what is read of a body has the form that the laws take as given.
+
+ghost use Rattle.std.specs.List.{list_all};
+ghost use Rattle.std.specs.Prelude.{IsTrue, List};
+ghost use Rattle.ut_model.specs.Given.{Assignment};
+ghost use Rattle.ut_model.specs.Paths.{Asked};
+ghost use Rattle.ut_model.specs.Tenant.{Object};
+ghost use Rattle.ut_sound.specs.Fit.{ReadsWell, is_spelled};
+
+use ut_value::value_laws;
+
+/// What is given in JSON, in texts of characters, is read as values of its fields' types. The call does nothing.
+pub fn fit_laws()
+    ensures given { (a : Asked) (o : Object) (given : List Assignment) → IsTrue (list_all (λ x. is_spelled x.given) given) → ReadsWell a o given }
+{
+    value_laws();
+}

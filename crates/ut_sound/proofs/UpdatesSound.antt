@@ -1,5 +1,5 @@
 -- What an update leaves is sound.
-use Rattle.std.proofs.Common.{◌≡◌, ℕ, suc, ◌+◌, Bool, true, false, not, ◌&&◌, ◌||◌, ◌==◌, cond, List, [], ◌∷◌, map, filter, Option, Some, None, is_some, is_none, refl, ap, sym, subst, ◌∙◌, eq-eqb, arith, ◌⊎◌, inl, inr, bytes_eq, nat_cmp, slice_get}
+use Rattle.std.proofs.Common.{◌≡◌, ℕ, suc, Bool, true, false, not, ◌&&◌, ◌||◌, ◌==◌, cond, List, [], ◌∷◌, map, filter, Option, Some, None, is_some, is_none, refl, ap, sym, subst, ◌∙◌, eq-eqb, arith, ◌⊎◌, inl, inr, bytes_eq, nat_cmp, slice_get}
 use Rattle.std.specs.List.{list_all}
 use Rattle.std.specs.Option.{option_and_then, unwrap_or}
 use Rattle.std.specs.Cmp.Lexicographic.{slice_cmp}
@@ -32,10 +32,10 @@ use Rattle.ut_model.specs.SoundJob.{HasSoundJob, IsSoundJob, copies}
 use Rattle.ut_model.specs.SoundRecords.{HasSoundRecords, IsSoundRecord, UniqueHold, all_valid, is_sound_owner, is_sound_reference, kinds_of, record_id, those_of}
 use Rattle.ut_model.specs.SoundSharing.{HasSoundShares}
 use Rattle.ut_model.specs.Tenant.{Field, Job, Object, Share, Tenant}
-use Rattle.ut_model.specs.Updates.{conflicts, is_copied, retype_conflict, update, update_on, update_rules, with_changed}
+use Rattle.ut_model.specs.Updates.{conflicts, is_copied, update, update_on, update_rules, with_changed}
 use Rattle.ut_model.specs.Verdict.{Verdict, accept, done, judged, refuse, upserted}
 use Rattle.ut_sound.specs.Fit.{IsCaller, OfObjects, ReadsWell}
-use Rattle.ut_sound.proofs.Parts.{all_at, all_map, among_kept, among_map, clash, count_same, has_same, kept_among, list_all_at, list_all_from, none_refuses, pick, same_exact, same_itself, unrefused}
+use Rattle.ut_sound.proofs.Parts.{all_at, all_map, among_kept, among_map, clash, count_same, has_same, kept_among, list_all_at, list_all_from, none_refuses, pick, same_exact, unrefused}
 use Rattle.ut_sound.proofs.Orders.{rise_map}
 use Rattle.ut_sound.proofs.Growing.{groups_more, numbers_less, record_more, roles_more, rules_more, shares_more, users_more}
 use Rattle.ut_sound.proofs.PeopleSound.{when_judged}

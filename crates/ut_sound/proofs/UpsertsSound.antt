@@ -1,7 +1,7 @@
 -- What an upsert leaves is sound.
-use Rattle.std.proofs.Common.{◌≡◌, ℕ, Bool, true, false, not, cond, List, [], ◌∷◌, Option, Some, None, slice_get, refl, ap, sym, inl, inr}
+use Rattle.std.proofs.Common.{◌≡◌, ℕ, Bool, true, false, cond, List, [], ◌∷◌, Option, Some, None, slice_get, refl, ap, sym, inl, inr}
 use Rattle.std.specs.Prelude.{Ok, Err}
-use Rattle.std.specs.List.{enumerate_from, find}
+use Rattle.std.specs.List.{find}
 use Rattle.std.specs.Option.{unwrap_or}
 use Rattle.ut_value.specs.declared.sharing.Level.TheVariants.{Edit}
 use Rattle.ut_value.specs.declared.value.Value.{Value}
@@ -9,7 +9,6 @@ use Rattle.ut_model.specs.declared.record.Record.{Record}
 use Rattle.ut_model.specs.declared.refusal.Refusal.TheVariants as refusal
 use Rattle.ut_model.specs.Cases.{in_case}
 use Rattle.ut_model.specs.Creates.{create_on}
-use Rattle.ut_model.specs.Fields.{column, its_value, typed}
 use Rattle.ut_model.specs.Given.{Assignment, ReadOr, has_value, record_with}
 use Rattle.ut_model.specs.Keys.{Key, with_key}
 use Rattle.ut_model.specs.Membership.{Has}
@@ -17,7 +16,7 @@ use Rattle.ut_model.specs.Objects.{Numbered, is_of, records_of}
 use Rattle.ut_model.specs.Paths.{Asked}
 use Rattle.ut_model.specs.Rights.{denied}
 use Rattle.ut_model.specs.Sound.{IsSound}
-use Rattle.ut_model.specs.Tenant.{Field, Object, Tenant}
+use Rattle.ut_model.specs.Tenant.{Field, Tenant}
 use Rattle.ut_model.specs.Updates.{update_on}
 use Rattle.ut_model.specs.Upserts.{declared_name, key_value, unique_named, upsert, upsert_by, with_read}
 use Rattle.ut_model.specs.Verdict.{Verdict, judged, refuse}

@@ -6,7 +6,7 @@ use Rattle.ut_json.specs.declared.tree.Num.TheVariants.{Exact}
 use Rattle.ut_value.specs.declared.sharing.Access.TheVariants as access
 use Rattle.ut_value.specs.declared.value.FieldType.TheVariants as type
 use Rattle.ut_value.specs.declared.value.OnDelete.TheVariants as on_delete
-use Rattle.ut_model.specs.Given.{Assignment, in_json}
+use Rattle.ut_model.specs.Given.{Assignment, found_by, in_json}
 use Rattle.ut_model.specs.NewFields.{plain, lookup_to}
 use Rattle.ut_model.specs.Requests.{Request, adds_object, adds_validation_rule, creates, deletes, updates, upserts}
 use Rattle.ut_model.specs.WorkedRequests.{Call, add_deals, by_admin, deal_object, field_with, object_with, people, text_to}
@@ -45,6 +45,19 @@ upsert_account = by_admin (upserts (codes "Account__c") (codes "Code__c") (Some 
 
 abbrev pub upserted_so : ℕ → (id created : List ℕ) → ℕ × List ℕ
 upserted_so status id created = (status, codes "{\"id\":\"" ++ id ++ codes "\",\"success\":true,\"errors\":[],\"created\":" ++ created ++ codes "}")
+
+-- contacts refer to accounts, and one account (1) has the code `A/1`
+abbrev pub account_with_code : List Call
+account_with_code =
+    accounts_made
+    ++ by_admin (object_with (codes "Contact__c") access.Private)
+    ∷ by_admin (field_with (codes "Contact__c") (codes "Account__c") (lookup_to (codes "Account__c") on_delete.Clear (codes "Contacts__r")) false)
+    ∷ upsert_account
+    ∷ []
+
+-- a contact of the account that has this code
+abbrev pub contact_of : (code : List ℕ) → Call
+contact_of code = by_admin (creates (codes "Contact__c") (record { field = codes "Account__c"; given = found_by 0 code } ∷ []))
 
 -- ---- an order (1) with three lines (2, 3, 4), of which one is referred to by a note (5)
 

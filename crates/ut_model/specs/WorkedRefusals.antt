@@ -1,6 +1,7 @@
 -- Requests that are refused, for rows worked by hand. A reader of the rules may pass them over.
 use Rattle.std.specs.Prelude.{ℕ, false, List, [], ◌∷◌, ◌++◌, map, codes, Option, Some, None}
 use Rattle.ut_value.specs.declared.sharing.Access.TheVariants as access
+use Rattle.ut_value.specs.declared.sharing.Principal.TheVariants as to
 use Rattle.ut_value.specs.declared.value.FieldType.TheVariants as type
 use Rattle.ut_soql.specs.declared.query.Cond.{Cond}
 use Rattle.ut_soql.specs.declared.query.Cond.TheVariants.{Test}
@@ -8,12 +9,13 @@ use Rattle.ut_soql.specs.declared.query.Item.TheVariants as item
 use Rattle.ut_soql.specs.declared.query.Literal.{Literal}
 use Rattle.ut_soql.specs.declared.query.Op.{Op}
 use Rattle.ut_soql.specs.declared.query.OrderKey.{OrderKey}
+use Rattle.ut_model.specs.Given.{Assignment}
 use Rattle.ut_model.specs.NewFields.{plain}
-use Rattle.ut_model.specs.Requests.{Request, asks, begins_retype, creates, sets_role, updates}
+use Rattle.ut_model.specs.Requests.{Request, asks, begins_retype, creates, deletes, sets_role, unshares, updates}
 use Rattle.ut_model.specs.WorkedQueries.{path, query, tail}
 use Rattle.ut_model.specs.WorkedRecords.{detail_of}
 use Rattle.ut_model.specs.WorkedRequests.{Call, add_deals, by, by_admin, deal_object, field_with, object_with, people, refused_so, text_to}
-use Rattle.ut_model.specs.WorkedSharing.{stage}
+use Rattle.ut_model.specs.WorkedSharing.{principal_text, stage}
 
 -- refused with this code and this message
 abbrev pub no : (code message : List ℕ) → ℕ × List ℕ
@@ -25,6 +27,31 @@ no_target name = no (codes "INVALID_CROSS_REFERENCE_KEY") (name ++ codes ": no s
 
 abbrev pub no_field : (name : List ℕ) → ℕ × List ℕ
 no_field name = no (codes "INVALID_FIELD") (codes "no field " ++ name ++ codes " here")
+
+-- ---- edits: Ron makes a deal of this, or gives deal 8 to this user, or Otto does
+
+abbrev pub new_deal : List Assignment → Call
+new_deal given = by 5 (creates deal_object given)
+
+abbrev pub zed : Assignment
+zed = text_to (codes "Zed__c") []
+
+abbrev pub amount_x : Assignment
+amount_x = text_to (codes "Amount__c") (codes "x")
+
+abbrev pub long_code : Assignment
+long_code = text_to (codes "Code__c") (codes "abcdefghijklmnopqrstu")
+
+abbrev pub owner_to : (user : ℕ) → (owner : List ℕ) → Call
+owner_to user owner = by user (updates deal_object (codes "a00000000000008") (text_to (codes "OwnerId") owner ∷ []))
+
+-- Ron ends Otto's share of deal 8, or that of a principal of no form
+abbrev pub end_share : Call
+end_share =
+    by 5 (unshares (codes "a00000000000008") (codes "user:005000000000007") (Some (principal_text to.User (codes "005000000000007"))))
+
+abbrev pub end_no_share : Call
+end_no_share = by 5 (unshares (codes "a00000000000008") (codes "Otto") None)
 
 -- another parent for the CEO's role (1)
 abbrev pub ceo_below : (role : List ℕ) → Call
@@ -64,12 +91,23 @@ stage_changing =
     ∷ to_text stage
     ∷ []
 
--- ---- queries on contacts: what they select, test and order by
+-- ---- queries on contacts: what they select, the test of the account, and what they are ordered by
 
 abbrev pub contacts_by : (selected : List (List (List ℕ))) → Option Cond → List OrderKey → Call
 contacts_by selected condition order =
     by_admin (asks (query (map (λ names. item.Path (path names)) selected) (tail (codes "Contact__c") condition order None) None))
 
--- a test of one field
-abbrev pub tests_field : (field : List ℕ) → Op → Literal → Option Cond
-tests_field field o l = Some (Test (path (field ∷ [])) o l)
+abbrev pub contacts_where_account : Op → Literal → List OrderKey → Call
+contacts_where_account o l order = contacts_by ((codes "Id" ∷ []) ∷ []) (Some (Test (path (codes "Account__c" ∷ [])) o l)) order
+
+abbrev pub delete_account : Call
+delete_account = by_admin (deletes (codes "Account__c") (codes "a00000000000008"))
+
+abbrev pub bare_contact : List ℕ
+bare_contact =
+    codes "{\"attributes\":{\"type\":\"Contact__c\",\"url\":\"/services/data/v59.0/sobjects/Contact__c/a01000000000009AAA\"},\"Account__c\":null}"
+
+abbrev pub found_contact : List ℕ
+found_contact =
+    codes "{\"attributes\":{\"type\":\"Contact__c\",\"url\":\"/services/data/v59.0/sobjects/Contact__c/a01000000000002AAA\"},"
+    ++ codes "\"Account__c\":\"a00000000000001AAA\"}"

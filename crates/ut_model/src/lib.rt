@@ -40,7 +40,7 @@ pub use crate::level_rows::{hierarchy_rows, rule_rows, share_rows};
 pub use crate::limit::Limit;
 pub use crate::query_rows::{condition_rows, path_rows, sorted_rows};
 pub use crate::record::Record;
-pub use crate::record_rows::{delete_rows, number_rows, upsert_rows, validation_rows};
+pub use crate::record_rows::{delete_rows, found_rows, number_rows, upsert_rows, validation_rows};
 pub use crate::refusal::Refusal;
 pub use crate::refusal_rows::{
     detail_refusal_rows, edit_refusal_rows, people_refusal_rows, query_refusal_rows,

@@ -1,5 +1,5 @@
 -- What a request for a new field leaves is sound.
-use Rattle.std.proofs.Common.{◌≡◌, ℕ, ◌+◌, ◌<◌, ◌≤◌, Bool, true, false, not, ◌&&◌, ◌||◌, ◌==◌, cond, List, [], ◌∷◌, ◌++◌, map, length, Option, Some, None, refl, ap, sym, subst, ◌∙◌, eq-eqb, arith, bytes_eq, codes, slice_get, nat_lt}
+use Rattle.std.proofs.Common.{◌≡◌, ℕ, ◌+◌, ◌<◌, Bool, true, false, not, ◌&&◌, ◌||◌, ◌==◌, cond, List, [], ◌∷◌, ◌++◌, map, length, Option, Some, None, refl, ap, sym, ◌∙◌, eq-eqb, arith, bytes_eq, codes, slice_get, nat_lt}
 use Rattle.std.specs.List.{list_any}
 use Rattle.std.proofs.lemmas.Bool.Decides.{nat_tests}
 use Rattle.std.proofs.lemmas.Option.{slice_get_within}
@@ -13,21 +13,21 @@ use Rattle.ut_model.specs.declared.refusal.Refusal.TheVariants as refusal
 use Rattle.ut_model.specs.Cases.{in_case}
 use Rattle.ut_model.specs.Fields.{is_master, same_name}
 use Rattle.ut_model.specs.Names.{bad_name, is_child_name, is_custom_name, taken}
-use Rattle.ut_model.specs.NewFields.{NewField, SpelledType, add_field, child_of, child_taken, field_rules, is_before, lookup_to, name_taken, new_field, own_child, own_parent, parent_taken, plain, with_field, with_target}
+use Rattle.ut_model.specs.NewFields.{NewField, SpelledType, add_field, child_taken, field_rules, is_before, lookup_to, name_taken, new_field, own_child, own_parent, parent_taken, plain, with_field, with_target}
 use Rattle.ut_model.specs.Objects.{Numbered}
 use Rattle.ut_model.specs.Relationships.{parent_name, relationship_names, target_of}
-use Rattle.ut_model.specs.Rules.{MemberRules, Rule, first_refusal, refuse_if}
+use Rattle.ut_model.specs.Rules.{MemberRules, refuse_if}
 use Rattle.ut_model.specs.Sound.{IsSound}
 use Rattle.ut_model.specs.SoundMetadata.{IsSoundField, implies, may_be_required}
-use Rattle.ut_model.specs.Tenant.{Field, Object, Tenant}
+use Rattle.ut_model.specs.Tenant.{Field, Tenant}
 use Rattle.ut_model.specs.Verdict.{Verdict, accept, done, judged, with_object}
-use Rattle.ut_sound.specs.Fit.{flags_suit, has_member, has_type, is_fit_field}
-use Rattle.ut_sound.proofs.Parts.{both, both_left, both_right, clash, holds_not, member_rule, none_refuses, pick, unrefused}
+use Rattle.ut_sound.specs.Fit.{flags_suit, has_member, is_fit_field}
+use Rattle.ut_sound.proofs.Parts.{both, both_left, both_right, holds_not, member_rule, none_refuses, unrefused}
 use Rattle.ut_sound.proofs.Growing.{within_limit}
 use Rattle.ut_sound.proofs.PeopleSound.{when_judged}
 use Rattle.ut_sound.proofs.SharingSound.{when_object}
 use Rattle.ut_sound.proofs.NewObjects.{not_turned}
-use Rattle.ut_sound.proofs.NewFieldsSound.{FreeNames, any_parts, field_added, name_turned}
+use Rattle.ut_sound.proofs.NewFieldsSound.{any_parts, field_added, name_turned}
 use Rattle.ut_sound.proofs.SwitchSound.{plain_master, plain_target}
 
 custom : (is_good : List ℕ → Bool) (name : List ℕ) → bad_name is_good name ≡ None → is_good name ≡ true

@@ -1,6 +1,6 @@
 -- New objects and fields keep formulas sound.
 use Rattle.std.proofs.Common.{◌≡◌, ℕ, zero, suc, Bool, true, false, not, ◌&&◌, ◌||◌, ◌==◌, cond, List, [], ◌∷◌, ◌++◌, length, Option, Some, None, refl, ap, sym, ◌∙◌, inl, inr, slice_get, nat_lt}
-use Rattle.std.specs.Prelude.{Result, Ok, Err, is_ok}
+use Rattle.std.specs.Prelude.{Result, Err, is_ok}
 use Rattle.std.specs.List.{list_all}
 use Rattle.std.specs.Option.{option_and_then}
 use Rattle.std.proofs.lemmas.Bool.{eqb-true}
@@ -8,15 +8,14 @@ use Rattle.ut_formula.specs.declared.formula.Formula.{Formula}
 use Rattle.ut_model.specs.declared.record.Record.{Record}
 use Rattle.ut_model.specs.Cases.{in_case}
 use Rattle.ut_model.specs.Levels.{Reads}
-use Rattle.ut_model.specs.Membership.{Has}
 use Rattle.ut_model.specs.Metadata.{NewObject, add_object, new_object, object_rules}
 use Rattle.ut_model.specs.NewFields.{NewField, SpelledType, add_field, field_rules, lookup_to, new_field, plain, with_field, with_target}
 use Rattle.ut_model.specs.Objects.{Numbered, change_at}
-use Rattle.ut_model.specs.Retyping.{source_uses, uses}
+use Rattle.ut_model.specs.Retyping.{source_uses}
 use Rattle.ut_model.specs.RuleFormulas.{formula_of, is_copy, names_field}
 use Rattle.ut_model.specs.Sound.{IsSound}
 use Rattle.ut_model.specs.SoundFormulas.{AreFormulasSound, criteria_read, is_unnamed, source_reads, validations_read}
-use Rattle.ut_model.specs.SoundJob.{HasSoundJob, job_field}
+use Rattle.ut_model.specs.SoundJob.{HasSoundJob}
 use Rattle.ut_model.specs.Tenant.{Field, Job, Object, SharingRule, Source, owned, meets, Tenant, ValidationRule}
 use Rattle.ut_model.specs.Verdict.{accept, done, judged, with_object}
 use Rattle.ut_sound.specs.Fit.{ReadsOverMore}

@@ -1,5 +1,5 @@
 -- A change of a type that begins leaves a sound tenant.
-use Rattle.std.proofs.Common.{◌≡◌, ℕ, suc, Bool, true, false, not, ◌&&◌, ◌||◌, cond, List, [], ◌∷◌, Option, Some, None, refl, ap, sym, subst, ◌∙◌, slice_get}
+use Rattle.std.proofs.Common.{◌≡◌, ℕ, Bool, true, false, not, ◌&&◌, ◌||◌, cond, List, [], ◌∷◌, Option, Some, None, refl, ap, subst, ◌∙◌, slice_get}
 use Rattle.std.specs.Option.{option_and_then, unwrap_or}
 use Rattle.ut_value.specs.Conversion.{convertible}
 use Rattle.ut_value.specs.Types.{is_reference, is_type}

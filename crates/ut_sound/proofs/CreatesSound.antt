@@ -1,9 +1,8 @@
 -- What a create leaves is sound.
-use Rattle.std.proofs.Common.{◌≡◌, ℕ, suc, ◌+◌, Bool, true, false, not, ◌&&◌, cond, List, [], ◌∷◌, length, Option, Some, None, refl, ap, sym, subst, ◌∙◌, arith, nat_lt, slice_get}
+use Rattle.std.proofs.Common.{◌≡◌, ℕ, ◌+◌, Bool, true, false, not, ◌&&◌, cond, List, [], ◌∷◌, length, Option, Some, None, refl, ap, sym, subst, ◌∙◌, arith, nat_lt, slice_get}
 use Rattle.std.specs.List.{list_all}
 use Rattle.ut_value.specs.Id.{made}
 use Rattle.ut_model.specs.declared.limit.Limit.TheVariants as limit
-use Rattle.ut_model.specs.declared.record.Record.{Record}
 use Rattle.ut_model.specs.declared.refusal.Refusal.TheVariants as refusal
 use Rattle.ut_model.specs.Cases.{in_case}
 use Rattle.ut_model.specs.Creates.{create, create_on, create_rules, empty_record, with_record}
@@ -18,10 +17,9 @@ use Rattle.ut_model.specs.Relationships.{references_of}
 use Rattle.ut_model.specs.Rules.{first_of, refuse_if}
 use Rattle.ut_model.specs.Sound.{IsSound}
 use Rattle.ut_model.specs.SoundRecords.{IsSoundRecord, is_sound_owner, is_sound_reference}
-use Rattle.ut_model.specs.Tenant.{Object}
 use Rattle.ut_model.specs.Verdict.{accept, made_new, upserted}
-use Rattle.ut_sound.specs.Fit.{IsCaller, ReadsWell}
-use Rattle.ut_sound.proofs.Parts.{among_kept, list_all_more, none_refuses}
+use Rattle.ut_sound.specs.Fit.{IsCaller, OfObjects, ReadsWell}
+use Rattle.ut_sound.proofs.Parts.{list_all_more, none_refuses}
 use Rattle.ut_sound.proofs.Growing.{IdLaws, owner_more, reference_more, within_limit}
 use Rattle.ut_sound.proofs.PeopleSound.{when_judged}
 use Rattle.ut_sound.proofs.SharingSound.{when_object}
@@ -74,5 +72,5 @@ create_on_sound ids a o key given at caller reads s =
     (within_limit 20000 (length (records_of t o.number) + 1) (refusal.LimitExceeded limit.RecordsPerObject) limits.0)
     (within_limit 999999999999999 (t.counter + 1) (refusal.LimitExceeded limit.Ids) limits.1.1.0))
 
-pub create_sound : IdLaws → (a : Asked) (object : List ℕ) (given : List Assignment) → IsCaller a → ((o : Object) → ReadsWell a o given) → IsSound a.tenant → IsSound (create a object given).tenant
-create_sound ids a object given caller reads s = when_object IsSound a.tenant object (λ o. create_on a o None given) s (λ o at. create_on_sound ids a o None given at caller (reads o.object) s)
+pub create_sound : IdLaws → (a : Asked) (object : List ℕ) (given : List Assignment) → IsCaller a → OfObjects a (λ o. ReadsWell a o given) → IsSound a.tenant → IsSound (create a object given).tenant
+create_sound ids a object given caller reads s = when_object IsSound a.tenant object (λ o. create_on a o None given) s (λ o at. create_on_sound ids a o None given at caller (reads o.number o.object at) s)

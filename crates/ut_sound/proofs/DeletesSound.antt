@@ -25,7 +25,7 @@ use Rattle.ut_model.specs.Deletes.{cleared, delete, delete_record, details_of, g
 use Rattle.ut_model.specs.Fields.{by_parent, is_master, is_null, ref_of}
 use Rattle.ut_model.specs.Known.{group_id, item_of, known, knows, role_id}
 use Rattle.ut_model.specs.Membership.{Has}
-use Rattle.ut_model.specs.Objects.{Numbered, is_of, numbered, object_number, record_at}
+use Rattle.ut_model.specs.Objects.{Numbered, is_of, numbered, object_number}
 use Rattle.ut_model.specs.Paths.{Asked}
 use Rattle.ut_model.specs.Relationships.{Reference, master_reference, named_id, references, references_of, target_of}
 use Rattle.ut_model.specs.Rights.{with_named}
@@ -42,10 +42,9 @@ use Rattle.ut_model.specs.Verdict.{accept, done}
 use Rattle.ut_model.specs.World.{user_id, with_id}
 use Rattle.ut_sound.proofs.Parts.{all_at, all_from, among_any, among_has, among_kept, among_map, any_among, both, both_left, both_right, clash, count_same, has_among, has_kept, has_same, kept_among, length_kept, length_kept_twice, list_all_at, list_all_from, or_left, or_right, pick, same_exact, same_itself, unrefused}
 use Rattle.ut_sound.proofs.Orders.{rise_kept, rise_map}
-use Rattle.ut_sound.proofs.Roles.{found_at}
 use Rattle.ut_sound.proofs.PeopleSound.{when_judged}
 use Rattle.ut_sound.proofs.SharingSound.{numbered_from, shares_kept, when_object}
-use Rattle.ut_sound.proofs.ContentSound.{has_numbered, kind_at, none_for_each, reference_place}
+use Rattle.ut_sound.proofs.ContentSound.{kind_at, none_for_each, reference_place}
 use Rattle.ut_sound.proofs.RecordsSound.{not_null}
 use Rattle.ut_sound.proofs.UpdatesSound.{records_edited, when_named}
 

@@ -1,11 +1,9 @@
 -- The texts of rules spell formulas, and none names a field whose values are being copied: what keeps this so.
-use Rattle.std.proofs.Common.{◌≡◌, ℕ, zero, suc, Bool, true, false, not, ◌&&◌, ◌||◌, ◌==◌, cond, List, [], ◌∷◌, map, length, filter, Option, Some, None, refl, ap, sym, subst, ◌∙◌, eq-eqb, slice_get, Ordering, nat_lt}
+use Rattle.std.proofs.Common.{◌≡◌, ℕ, zero, suc, Bool, true, false, not, ◌&&◌, ◌||◌, ◌==◌, cond, List, [], ◌∷◌, length, filter, Option, Some, None, refl, ap, sym, subst, ◌∙◌, eq-eqb, slice_get, Ordering, nat_lt}
 use Rattle.std.specs.Prelude.{Result, Ok, Err, is_ok, IsTrue, IfSome}
 use Rattle.std.specs.List.{list_all, list_any}
 use Rattle.std.specs.Option.{unwrap_or}
 use Rattle.std.proofs.lemmas.Bool.{eqb-true}
-use Rattle.ut_value.specs.declared.job.Phase.{Phase}
-use Rattle.ut_value.specs.declared.job.Phase.TheVariants as phase
 use Rattle.ut_value.specs.declared.sharing.Access.{Access}
 use Rattle.ut_formula.specs.declared.formula.Formula.{Formula}
 use Rattle.ut_model.specs.declared.refusal.Refusal.TheVariants as refusal
@@ -17,7 +15,7 @@ use Rattle.ut_model.specs.Objects.{Numbered, change_at, with_object_changed}
 use Rattle.ut_model.specs.Ordered.{put_in}
 use Rattle.ut_model.specs.Retyping.{source_uses, uses}
 use Rattle.ut_model.specs.RuleFormulas.{busy, formula_of, is_copy, malformed, name_cmp, names_field}
-use Rattle.ut_model.specs.Rules.{Rule, refuse_if}
+use Rattle.ut_model.specs.Rules.{refuse_if}
 use Rattle.ut_model.specs.SharingRules.{NewSharingRule, SpelledSource, add_sharing_rule, by_formula, from, new_rule, remove_sharing_rule, sharing_rules, source_formula, source_of, with_rule}
 use Rattle.ut_model.specs.SoundFormulas.{AreFormulasSound, HasSoundFormulas, criteria_read, is_unnamed, source_reads, validations_read}
 use Rattle.ut_model.specs.Tenant.{Job, Object, SharingRule, Source, owned, meets, Tenant, ValidationRule}

@@ -1,5 +1,5 @@
 -- A change of a field's type keeps that no rule names the field while its values are copied.
-use Rattle.std.proofs.Common.{◌≡◌, ℕ, suc, Bool, true, false, not, ◌&&◌, ◌||◌, ◌==◌, List, [], ◌∷◌, Option, Some, None, refl, ap, sym, subst, ◌∙◌, slice_get}
+use Rattle.std.proofs.Common.{◌≡◌, ℕ, true, false, not, ◌&&◌, ◌==◌, List, [], ◌∷◌, Option, Some, None, refl, ap, ◌∙◌, slice_get}
 use Rattle.std.specs.Prelude.{is_none}
 use Rattle.std.specs.List.{find, list_all}
 use Rattle.ut_value.specs.declared.job.Outcome.TheVariants as outcome
@@ -19,7 +19,7 @@ use Rattle.ut_model.specs.RuleFormulas.{is_copy}
 use Rattle.ut_model.specs.Rules.{first_of, refuse_if}
 use Rattle.ut_model.specs.SoundFormulas.{AreFormulasSound, is_unnamed}
 use Rattle.ut_model.specs.Tenant.{Job, SharingRule, Tenant, ValidationRule}
-use Rattle.ut_model.specs.Verdict.{Verdict, accept, done, judged, refuse}
+use Rattle.ut_model.specs.Verdict.{accept, done, judged, refuse}
 use Rattle.ut_sound.proofs.Parts.{both, list_all_from, none_refuses, unrefused}
 use Rattle.ut_sound.proofs.ContentSound.{none_for_each}
 use Rattle.ut_sound.proofs.FormulasSound.{IsUnnamed, free, free_rule}

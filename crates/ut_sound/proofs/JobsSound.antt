@@ -1,5 +1,5 @@
 -- What a step of a change of a type leaves is sound.
-use Rattle.std.proofs.Common.{◌≡◌, ℕ, zero, suc, Bool, true, false, not, ◌||◌, cond, T, inl, inr, List, [], ◌∷◌, map, filter, take, Option, Some, None, is_some, refl, ap, sym, subst, ◌∙◌, nat_cmp, Less, Equal, Greater, Ordering, is_lt, is_le}
+use Rattle.std.proofs.Common.{◌≡◌, ℕ, zero, suc, Bool, true, false, not, ◌||◌, T, inl, inr, List, [], ◌∷◌, map, filter, take, Option, Some, None, is_some, refl, ap, sym, subst, ◌∙◌, nat_cmp, Less, Equal, Greater, Ordering, is_lt, is_le}
 use Rattle.std.specs.Prelude.{is_none}
 use Rattle.std.specs.List.{find}
 use Rattle.std.specs.Option.{unwrap_or}

@@ -26,3 +26,4 @@ mod VerdictsSound
 mod NumbersMean
 mod AddsFormulas
 mod SwitchFormulas
+mod GivenFits

@@ -1,11 +1,9 @@
 -- A new field leaves a sound tenant: each record of its object has one value more, which is null or false.
-use Rattle.std.proofs.Common.{◌≡◌, ℕ, zero, suc, ◌+◌, ◌<◌, ◌≤◌, Bool, true, false, not, ◌&&◌, ◌||◌, ◌==◌, cond, List, [], ◌∷◌, ◌++◌, map, filter, filter_map, length, Option, Some, None, is_some, refl, ap, sym, subst, ◌∙◌, eq-eqb, arith, ◌⊎◌, inl, inr, bytes_eq, codes, slice_get, nat_cmp, nat_lt}
-use Rattle.std.specs.Prelude.{IsTrue}
+use Rattle.std.proofs.Common.{◌≡◌, ℕ, zero, suc, ◌+◌, ◌<◌, ◌≤◌, Bool, true, false, not, ◌&&◌, ◌||◌, ◌==◌, cond, List, [], ◌∷◌, ◌++◌, map, filter, filter_map, length, Option, Some, None, is_some, refl, ap, sym, subst, ◌∙◌, eq-eqb, arith, ◌⊎◌, inl, inr, bytes_eq, slice_get, nat_cmp}
 use Rattle.std.specs.List.{AllByRecursion, cons_option, enumerate_from, find, flat_map, list_all, list_any}
 use Rattle.std.specs.Option.{option_and_then, unwrap_or}
 use Rattle.std.specs.Cmp.Lexicographic.{slice_cmp}
 use Rattle.std.proofs.lemmas.Bool.{eqb-true}
-use Rattle.std.proofs.lemmas.Bool.Decides.{nat_tests}
 use Rattle.std.proofs.lemmas.List.{length-map}
 use Rattle.std.proofs.lemmas.Option.{slice_get_within}
 use Rattle.ut_value.specs.Conversion.{convert}
@@ -25,7 +23,7 @@ use Rattle.ut_model.specs.Known.{Grows, item_of, known}
 use Rattle.ut_model.specs.Membership.{Has}
 use Rattle.ut_model.specs.Metadata.{masters_above}
 use Rattle.ut_model.specs.NewFields.{with_field}
-use Rattle.ut_model.specs.Objects.{Numbered, change_at, is_of, numbered, object_number}
+use Rattle.ut_model.specs.Objects.{change_at, is_of, object_number}
 use Rattle.ut_model.specs.Relationships.{Reference, master_in, parent_name, reference_at, references, references_of, relationship_names, target_of}
 use Rattle.ut_model.specs.Sound.{IsSound}
 use Rattle.ut_model.specs.SoundJob.{HasSoundJob, copies, job_field}
@@ -34,11 +32,10 @@ use Rattle.ut_model.specs.SoundRecords.{IsSoundRecord, UniqueHold, all_valid, is
 use Rattle.ut_model.specs.SoundSharing.{IsSoundRule, IsSoundShare, shareable}
 use Rattle.ut_model.specs.Tenant.{Field, Job, Object, Tenant}
 use Rattle.ut_model.specs.Updates.{is_copied}
-use Rattle.ut_sound.proofs.Parts.{all_at, all_from, all_last, all_more, among_kept, among_map, both, both_left, both_right, clash, count_same, has_same, kept_among, length_last, list_all_at, list_all_from, pick, same_exact}
+use Rattle.ut_sound.proofs.Parts.{all_at, all_from, all_last, all_more, among_kept, among_map, both, both_left, both_right, clash, count_same, has_same, kept_among, length_last, list_all_at, list_all_from, pick}
 use Rattle.ut_sound.proofs.Orders.{rise_map}
 use Rattle.ut_sound.proofs.Growing.{groups_more, numbers_less, record_more, roles_more, rules_more, shares_more, users_more}
 use Rattle.ut_sound.proofs.SharingSound.{numbered_from}
-use Rattle.ut_sound.proofs.RecordsSound.{not_null}
 use Rattle.ut_sound.proofs.DeletesSound.{among_either, sound_object}
 use Rattle.ut_sound.proofs.Changes.{changed_or_not, length_changed, level_by_masters, map_changed, names_by_references, objects_changed, same_at}
 use Rattle.ut_sound.proofs.NewObjects.{filter_last, get_before, in_turn, names_last, nil_right, not_turned}

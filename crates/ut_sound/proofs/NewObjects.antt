@@ -1,14 +1,12 @@
 -- A new object, perhaps a detail, leaves a sound tenant.
-use Rattle.std.proofs.Common.{◌≡◌, ℕ, zero, suc, ◌+◌, ◌<◌, ◌≤◌, Bool, true, false, not, ◌&&◌, ◌||◌, ◌==◌, cond, List, [], ◌∷◌, ◌++◌, map, filter, filter_map, length, Option, Some, None, refl, ap, sym, subst, ◌∙◌, eq-eqb, arith, ◌⊎◌, inl, inr, bytes_eq, codes, slice_get, nat_lt}
-use Rattle.std.specs.List.{AllByRecursion, cons_option, enumerate_from, find, flat_map, list_any}
+use Rattle.std.proofs.Common.{◌≡◌, ℕ, zero, suc, ◌+◌, ◌<◌, ◌≤◌, Bool, true, false, not, ◌&&◌, ◌||◌, ◌==◌, cond, List, [], ◌∷◌, ◌++◌, map, filter, filter_map, length, Option, Some, None, refl, ap, sym, subst, ◌∙◌, eq-eqb, arith, inl, inr, bytes_eq, codes, slice_get, nat_lt}
+use Rattle.std.specs.List.{AllByRecursion, cons_option, find, flat_map, list_any}
 use Rattle.std.specs.Option.{option_and_then, unwrap_or}
 use Rattle.std.proofs.lemmas.Bool.{eqb-true}
 use Rattle.std.proofs.lemmas.Bool.Decides.{nat_tests}
 use Rattle.std.proofs.lemmas.Option.{slice_get_within}
 use Rattle.ut_value.specs.Texts.{lower, texts_differ}
-use Rattle.ut_value.specs.declared.value.FieldType.TheVariants as type
 use Rattle.ut_model.specs.declared.limit.Limit.TheVariants as limit
-use Rattle.ut_model.specs.declared.record.Record.{Record}
 use Rattle.ut_model.specs.declared.refusal.Refusal.TheVariants as refusal
 use Rattle.ut_model.specs.Cases.{in_case}
 use Rattle.ut_model.specs.Fields.{by_parent, is_detail, is_master, same_name}
@@ -16,23 +14,23 @@ use Rattle.ut_model.specs.Known.{known}
 use Rattle.ut_model.specs.Membership.{Has}
 use Rattle.ut_model.specs.Metadata.{NewMaster, NewObject, add_object, child_name_taken, detail_level, master_field, master_names, masters_above, new_fields, new_object, no_parent, object_rules, too_deep}
 use Rattle.ut_model.specs.Names.{bad_name, is_child_name, is_custom_name, taken}
-use Rattle.ut_model.specs.Objects.{Numbered, is_of, numbered, object_named, object_number}
+use Rattle.ut_model.specs.Objects.{Numbered, is_of, object_named, object_number}
 use Rattle.ut_model.specs.Relationships.{Reference, master_in, parent_name, references, references_of, relationship_names, target_of}
-use Rattle.ut_model.specs.Rules.{MemberRules, Rule, in_body_order, over_limit, refuse_if}
+use Rattle.ut_model.specs.Rules.{MemberRules, in_body_order, over_limit, refuse_if}
 use Rattle.ut_model.specs.Sound.{IsSound}
 use Rattle.ut_model.specs.SoundJob.{HasSoundJob, job_field}
 use Rattle.ut_model.specs.SoundMetadata.{HasSoundMetadata, IsSoundField, IsSoundObject, names_differ}
 use Rattle.ut_model.specs.SoundRecords.{IsSoundRecord, UniqueHold}
 use Rattle.ut_model.specs.SoundSharing.{IsSoundRule, IsSoundShare, shareable}
 use Rattle.ut_model.specs.Tenant.{Field, Job, Object, Tenant}
-use Rattle.ut_model.specs.Verdict.{accept, done, judged}
+use Rattle.ut_model.specs.Verdict.{accept, done}
 use Rattle.ut_sound.specs.Fit.{has_member, is_fit_object}
-use Rattle.ut_sound.proofs.Parts.{all_at, all_last, all_more, among_kept, both, both_left, both_right, clash, holds_not, length_last, member_rule, none_refuses, pick, same_exact, same_itself, unrefused}
+use Rattle.ut_sound.proofs.Parts.{all_at, all_more, among_kept, both, both_left, both_right, clash, holds_not, length_last, member_rule, none_refuses, pick, same_exact, same_itself, unrefused}
 use Rattle.ut_sound.proofs.Growing.{within_limit}
 use Rattle.ut_sound.proofs.PeopleSound.{when_judged}
 use Rattle.ut_sound.proofs.SharingSound.{named_at, numbered_from}
 use Rattle.ut_sound.proofs.ContentSound.{reference_place}
-use Rattle.ut_sound.proofs.DeletesSound.{among_either, own_reference, sound_object}
+use Rattle.ut_sound.proofs.DeletesSound.{among_either, sound_object}
 use Rattle.ut_sound.proofs.Changes.{at_has, level_by_references, names_by_references}
 use Rattle.ut_sound.proofs.UpsertsSound.{found_record}
 

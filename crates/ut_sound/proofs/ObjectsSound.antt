@@ -1,6 +1,6 @@
 -- Another access of an object, or other validation rules: its fields stay, and so all that speaks of them.
-use Rattle.std.proofs.Common.{◌≡◌, ℕ, zero, suc, ◌+◌, ◌≤◌, Bool, true, false, not, ◌&&◌, ◌||◌, ◌==◌, cond, List, [], ◌∷◌, ◌++◌, map, length, filter, filter_map, Option, Some, None, refl, ap, sym, subst, ◌∙◌, arith, slice_get, nat_lt, Equal}
-use Rattle.std.specs.List.{AllByRecursion, enumerate_from, find, flat_map, list_any}
+use Rattle.std.proofs.Common.{◌≡◌, ℕ, zero, suc, ◌+◌, ◌≤◌, Bool, true, false, not, ◌||◌, cond, List, [], ◌∷◌, ◌++◌, map, length, filter, Option, Some, None, refl, ap, sym, subst, ◌∙◌, arith, slice_get, nat_lt, Equal}
+use Rattle.std.specs.List.{AllByRecursion, flat_map, list_any}
 use Rattle.std.specs.Option.{option_and_then, unwrap_or}
 use Rattle.std.specs.Cmp.Lexicographic.{on_texts}
 use Rattle.std.proofs.lemmas.Bool.{eqb-true}

@@ -1,8 +1,7 @@
 -- Requests on people, shares and records leave objects, rules and the job as they are, and so the formulas sound.
-use Rattle.std.proofs.Common.{◌≡◌, ℕ, true, false, List, [], ◌∷◌, map, Option, Some, None, codes}
+use Rattle.std.proofs.Common.{ℕ, true, false, List, [], ◌∷◌, map, Option, Some, None, codes}
 use Rattle.std.specs.Option.{option_map}
 use Rattle.ut_value.specs.declared.sharing.Level.TheVariants as level
-use Rattle.ut_value.specs.declared.value.Value.{Value}
 use Rattle.ut_model.specs.declared.record.Record.{Record}
 use Rattle.ut_model.specs.declared.refusal.Refusal.TheVariants as refusal
 use Rattle.ut_model.specs.Cases.{in_case}
@@ -22,7 +21,7 @@ use Rattle.ut_model.specs.Rights.{denied, with_named, with_readable}
 use Rattle.ut_model.specs.Rules.{in_body_order}
 use Rattle.ut_model.specs.Shares.{NewShare, share, share_of, share_rules, unshare, unshare_rules, unshare_with, with_share, without_share}
 use Rattle.ut_model.specs.SoundFormulas.{AreFormulasSound}
-use Rattle.ut_model.specs.Tenant.{Field, Group, Role, Share, Tenant, User}
+use Rattle.ut_model.specs.Tenant.{Field, Group, Role, Share, Tenant}
 use Rattle.ut_model.specs.Updates.{update, update_on, update_rules, with_changed}
 use Rattle.ut_model.specs.Upserts.{declared_name, key_value, unique_named, upsert, upsert_by, with_read}
 use Rattle.ut_model.specs.Verdict.{accept, done, judged, made_new, refuse, upserted}
@@ -119,7 +118,7 @@ module _ (reads : Reads) where
             → AreFormulasSound reads (in_case f (refuse a.tenant (refusal.InvalidField (declared_name o.object key))) (λ f. with_read a.tenant (key_value f.1 text) (upsert_by a o given f))).tenant
         by o None = s
         by o (Some f) =
-            when_read P a.tenant (key_value f.1 text) (upsert_by a o given f) s (λ v.
+            when_read P a.tenant (key_value f.1 text) (upsert_by a o given f) s (λ v w.
             by_record o (record { column = column f.1.name (typed f.1.kind) (its_value f.0); value = v }) (record_with a.tenant o.number f.0 v))
 
     pub delete_formulas : (object key : List ℕ) → AreFormulasSound reads (delete a object key).tenant

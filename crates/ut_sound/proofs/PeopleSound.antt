@@ -15,7 +15,7 @@ use Rattle.ut_model.specs.Known.{Grows, Known, group_id, known, knows, names_any
 use Rattle.ut_model.specs.declared.limit.Limit.{Limit}
 use Rattle.ut_model.specs.declared.limit.Limit.TheVariants as limit
 use Rattle.ut_model.specs.Limits.{limit_number}
-use Rattle.ut_model.specs.People.{NewUser, add_group, add_role, add_user, changed, new_group_rules, new_role_rules, new_user_rules, group_rules, role_rules, user_rules, next_id, no_role, no_room, bad_parent, new_user, set_group, set_role, set_user, with_group, with_role, with_user}
+use Rattle.ut_model.specs.People.{NewUser, add_group, add_role, add_user, changed, new_group_rules, new_role_rules, new_user_rules, group_rules, role_rules, user_rules, next_id, no_role, no_room, bad_parent, set_group, set_role, set_user, with_group, with_role, with_user}
 use Rattle.ut_model.specs.Membership.{Below, is_below, structure_of}
 use Rattle.ut_model.specs.Principals.{Spelled, spelled_id, is_there, principal_of, not_there, role_at}
 use Rattle.ut_model.specs.Rules.{Rule, first_of, first_refusal, refuse_if}

@@ -14,7 +14,7 @@ use Rattle.ut_value.specs.Digits.{digits}
 use Rattle.ut_value.specs.Id.{digit62, made, number62, value62}
 use Rattle.caseless.specs.Caseless.{default_case_fold}
 use Rattle.ut_value.specs.Texts.{text_cmp}
-use Rattle.ut_value.specs.Values.{cmp, equal}
+use Rattle.ut_value.specs.Values.{equal}
 use Rattle.ut_value.specs.declared.job.Phase.{Phase}
 use Rattle.ut_value.specs.declared.job.Phase.TheVariants as phase
 use Rattle.ut_value.specs.declared.value.Value.{Value}
@@ -33,7 +33,7 @@ use Rattle.ut_model.specs.SoundRecords.{IsSoundRecord, UniqueHold, record_id, th
 use Rattle.ut_model.specs.SoundSharing.{IsCursor}
 use Rattle.ut_model.specs.Tenant.{Field, Job, Object, Tenant}
 use Rattle.ut_model.specs.Updates.{is_copied}
-use Rattle.ut_sound.proofs.Parts.{all_from, all_put, among_has, among_kept, among_put, clash, count_put, count_put_out, has_put, kept_among, length_put, list_all_at, list_all_from, put_has, or_left, or_right, same_exact, same_itself}
+use Rattle.ut_sound.proofs.Parts.{all_from, all_put, among_has, among_kept, among_put, clash, count_put, count_put_out, has_put, kept_among, length_put, list_all_at, list_all_from, put_has, or_left, or_right, same_exact}
 use Rattle.ut_sound.proofs.Orders.{rise_put}
 use Rattle.ut_sound.proofs.Growing.{IdLaws, cursor_more, each_record_more, groups_more, numbers_more, roles_more, rules_more, shares_more, unnamed_yet, users_more, record_prefix_size}
 

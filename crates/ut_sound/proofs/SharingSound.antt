@@ -1,12 +1,11 @@
 -- What a request about sharing leaves is sound.
-use Rattle.std.proofs.Common.{◌≡◌, ℕ, suc, ◌+◌, ◌≤◌, Bool, true, false, not, ◌&&◌, ◌||◌, ◌==◌, cond, List, [], ◌∷◌, map, length, filter, Option, Some, None, Result, Ok, Err, is_some, is_ok, refl, ap, sym, subst, ◌∙◌, arith, inl, inr, bytes_eq, codes, nat_le, nat_lt, slice_get, Equal, Ordering, is_eq, find}
+use Rattle.std.proofs.Common.{◌≡◌, ℕ, suc, ◌+◌, ◌≤◌, Bool, true, false, not, ◌&&◌, ◌||◌, cond, List, [], ◌∷◌, map, length, filter, Option, Some, None, is_some, refl, ap, sym, subst, ◌∙◌, arith, inl, inr, bytes_eq, codes, nat_le, nat_lt, slice_get, Equal, Ordering, is_eq, find}
 use Rattle.std.specs.List.{AllByRecursion, enumerate_from, list_any}
 use Rattle.std.specs.Ordering.{ordering_reverse}
 use Rattle.std.specs.Option.{unwrap_or}
 use Rattle.std.specs.Cmp.{IsTotalOrder}
 use Rattle.std.specs.Cmp.Lexicographic.{on_texts}
 use Rattle.std.proofs.lemmas.Cmp.{nat_cmp_total, nat_list_cmp_total, on_total, then_total}
-use Rattle.std.proofs.lemmas.Bool.{eqb-true}
 use Rattle.std.proofs.lemmas.Bool.Decides.{nat_tests}
 use Rattle.std.proofs.lemmas.Map.Text.{is_eq-slice_cmp}
 use Rattle.ut_value.specs.Texts.{lower}
@@ -23,9 +22,9 @@ use Rattle.ut_model.specs.Known.{known, knows}
 use Rattle.ut_model.specs.Levels.{Reads, can_read}
 use Rattle.ut_model.specs.Membership.{Has}
 use Rattle.ut_model.specs.Names.{is_stem, taken}
-use Rattle.ut_model.specs.Objects.{Numbered, numbered, object_named, object_number, object_of, record_at}
+use Rattle.ut_model.specs.Objects.{Numbered, object_named, object_number, record_at}
 use Rattle.ut_model.specs.Ordered.{put_in}
-use Rattle.ut_model.specs.Paths.{Asked, sees}
+use Rattle.ut_model.specs.Paths.{Asked}
 use Rattle.ut_model.specs.Principals.{Spelled, bad_id, spelled_id, is_there, kind_number, not_there, principal_cmp, principal_id, principal_of}
 use Rattle.ut_model.specs.Rights.{with_readable}
 use Rattle.ut_model.specs.RuleFormulas.{name_cmp}

@@ -1,16 +1,15 @@
 -- The switch keeps formulas sound: no rule names the field while its values are copied.
 use Rattle.std.proofs.Common.{◌≡◌, ℕ, zero, suc, Bool, true, false, not, ◌&&◌, ◌||◌, ◌==◌, cond, List, [], ◌∷◌, Option, Some, None, refl, ap, sym, subst, ◌∙◌, eq-eqb, inl, inr, length, slice_get, nat_lt}
-use Rattle.std.specs.Prelude.{Result, Ok, Err, is_ok}
+use Rattle.std.specs.Prelude.{Result, Err, is_ok}
 use Rattle.std.specs.List.{list_all}
 use Rattle.std.specs.Option.{option_and_then}
-use Rattle.std.proofs.lemmas.Bool.{eqb-true}
 use Rattle.ut_value.specs.declared.job.Phase.TheVariants as phase
 use Rattle.ut_formula.specs.declared.formula.Formula.{Formula}
 use Rattle.ut_model.specs.Cases.{in_case}
-use Rattle.ut_model.specs.Jobs.{job_step, next_hundred, switched}
+use Rattle.ut_model.specs.Jobs.{job_step, switched}
 use Rattle.ut_model.specs.Levels.{Reads}
 use Rattle.ut_model.specs.Objects.{change_at}
-use Rattle.ut_model.specs.Retyping.{source_uses, uses}
+use Rattle.ut_model.specs.Retyping.{source_uses}
 use Rattle.ut_model.specs.RuleFormulas.{formula_of, is_copy, names_field}
 use Rattle.ut_model.specs.Sound.{IsSound}
 use Rattle.ut_model.specs.SoundFormulas.{AreFormulasSound, criteria_read, is_unnamed, source_reads, validations_read}
@@ -18,7 +17,7 @@ use Rattle.ut_model.specs.SoundJob.{HasSoundJob, IsSoundJob}
 use Rattle.ut_model.specs.Tenant.{Field, Job, Object, SharingRule, Source, owned, meets, Tenant, ValidationRule}
 use Rattle.ut_sound.specs.Fit.{ReadsOtherTypes}
 use Rattle.ut_sound.proofs.Parts.{both, both_left, both_right, list_all_at, list_all_from, pick}
-use Rattle.ut_sound.proofs.Changes.{at_has, changed_or_not}
+use Rattle.ut_sound.proofs.Changes.{changed_or_not}
 use Rattle.ut_sound.proofs.FormulasSound.{IsUnnamed, free, free_rule}
 use Rattle.ut_sound.proofs.JobFormulas.{step_formulas}
 

@@ -1,6 +1,6 @@
 -- The switch at the end of a change of a field's type leaves a sound tenant: every record converts, and nothing else speaks of
 -- the field's type.
-use Rattle.std.proofs.Common.{◌≡◌, ℕ, zero, suc, ◌+◌, ◌≤◌, Bool, true, false, not, ◌&&◌, ◌||◌, ◌==◌, cond, List, [], ◌∷◌, ◌++◌, map, filter, length, take, Option, Some, None, is_some, is_none, refl, ap, sym, subst, ◌∙◌, eq-eqb, arith, ◌⊎◌, inl, inr, slice_get, nat_cmp, nat_lt}
+use Rattle.std.proofs.Common.{◌≡◌, ℕ, zero, suc, ◌+◌, ◌≤◌, Bool, true, false, not, ◌&&◌, ◌||◌, ◌==◌, cond, List, [], ◌∷◌, ◌++◌, map, filter, length, take, Option, Some, None, is_some, refl, ap, sym, subst, ◌∙◌, eq-eqb, arith, slice_get, nat_cmp, nat_lt}
 use Rattle.std.specs.Prelude.{slice_set, IsTrue}
 use Rattle.std.specs.List.{AllByRecursion, enumerate_from, flat_map, list_all}
 use Rattle.std.specs.Option.{option_and_then, unwrap_or}
@@ -17,7 +17,6 @@ use Rattle.ut_value.specs.declared.job.Phase.TheVariants as phase
 use Rattle.ut_value.specs.declared.value.FieldType.{FieldType}
 use Rattle.ut_value.specs.declared.value.FieldType.TheVariants as type
 use Rattle.ut_value.specs.declared.value.Value.{Value}
-use Rattle.ut_value.specs.declared.value.Value.TheVariants as value
 use Rattle.ut_formula.specs.Meaning.{value_at}
 use Rattle.ut_model.specs.declared.record.Record.{Record}
 use Rattle.ut_model.specs.Cases.{in_case}
@@ -32,7 +31,7 @@ use Rattle.ut_model.specs.RuleFormulas.{is_copy}
 use Rattle.ut_model.specs.Sound.{IsSound}
 use Rattle.ut_model.specs.SoundJob.{HasSoundJob, IsSoundJob, copies, is_failed, is_open}
 use Rattle.ut_model.specs.SoundMetadata.{IsSoundField, IsSoundObject, implies, may_be_required, names_differ}
-use Rattle.ut_model.specs.SoundRecords.{IsSoundRecord, UniqueHold, all_valid, is_sound_owner, is_sound_reference, kinds_of, record_id, those_of}
+use Rattle.ut_model.specs.SoundRecords.{IsSoundRecord, UniqueHold, all_valid, is_sound_reference, kinds_of, record_id, those_of}
 use Rattle.ut_model.specs.SoundSharing.{IsSoundRule, IsSoundShare, shareable}
 use Rattle.ut_model.specs.Tenant.{Field, Job, Object, Tenant}
 use Rattle.ut_model.specs.Updates.{is_copied}
@@ -41,7 +40,6 @@ use Rattle.ut_sound.proofs.Orders.{rise_map}
 use Rattle.ut_sound.proofs.Growing.{groups_more, numbers_less, record_more, roles_more, rules_more, shares_more, users_more}
 use Rattle.ut_sound.proofs.SharingSound.{numbered_from}
 use Rattle.ut_sound.proofs.ContentSound.{kind_at, reference_place, valid_at}
-use Rattle.ut_sound.proofs.RecordsSound.{not_null}
 use Rattle.ut_sound.proofs.DeletesSound.{sound_object}
 use Rattle.ut_sound.proofs.JobsSound.{before_or_left, step_sound}
 use Rattle.ut_sound.proofs.Changes.{all_changed, any_changed, at_has, count_changed, length_changed, level_by_references, map_changed, names_by_references, objects_changed, other_at, same_at}

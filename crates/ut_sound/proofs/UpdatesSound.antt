@@ -1,5 +1,5 @@
 -- What an update leaves is sound.
-use Rattle.std.proofs.Common.{◌≡◌, ℕ, suc, ◌+◌, Bool, true, false, not, ◌&&◌, ◌||◌, ◌==◌, cond, List, [], ◌∷◌, map, filter, Option, Some, None, is_some, is_none, refl, ap, sym, subst, ◌∙◌, eq-eqb, arith, ◌⊎◌, inl, inr, bytes_eq, nat_cmp, slice_get}
+use Rattle.std.proofs.Common.{◌≡◌, ℕ, suc, Bool, true, false, not, ◌&&◌, ◌||◌, ◌==◌, cond, List, [], ◌∷◌, map, filter, Option, Some, None, is_some, is_none, refl, ap, sym, subst, ◌∙◌, eq-eqb, arith, ◌⊎◌, inl, inr, bytes_eq, nat_cmp, slice_get}
 use Rattle.std.specs.List.{list_all}
 use Rattle.std.specs.Option.{option_and_then, unwrap_or}
 use Rattle.std.specs.Cmp.Lexicographic.{slice_cmp}
@@ -32,10 +32,10 @@ use Rattle.ut_model.specs.SoundJob.{HasSoundJob, IsSoundJob, copies}
 use Rattle.ut_model.specs.SoundRecords.{HasSoundRecords, IsSoundRecord, UniqueHold, all_valid, is_sound_owner, is_sound_reference, kinds_of, record_id, those_of}
 use Rattle.ut_model.specs.SoundSharing.{HasSoundShares}
 use Rattle.ut_model.specs.Tenant.{Field, Job, Object, Share, Tenant}
-use Rattle.ut_model.specs.Updates.{conflicts, is_copied, retype_conflict, update, update_on, update_rules, with_changed}
+use Rattle.ut_model.specs.Updates.{conflicts, is_copied, update, update_on, update_rules, with_changed}
 use Rattle.ut_model.specs.Verdict.{Verdict, accept, done, judged, refuse, upserted}
-use Rattle.ut_sound.specs.Fit.{IsCaller, ReadsWell}
-use Rattle.ut_sound.proofs.Parts.{all_at, all_map, among_kept, among_map, clash, count_same, has_same, kept_among, list_all_at, list_all_from, none_refuses, pick, same_exact, same_itself, unrefused}
+use Rattle.ut_sound.specs.Fit.{IsCaller, OfObjects, ReadsWell}
+use Rattle.ut_sound.proofs.Parts.{all_at, all_map, among_kept, among_map, clash, count_same, has_same, kept_among, list_all_at, list_all_from, none_refuses, pick, same_exact, unrefused}
 use Rattle.ut_sound.proofs.Orders.{rise_map}
 use Rattle.ut_sound.proofs.Growing.{groups_more, numbers_less, record_more, roles_more, rules_more, shares_more, users_more}
 use Rattle.ut_sound.proofs.PeopleSound.{when_judged}
@@ -237,7 +237,7 @@ update_on_sound a o key given old at among of caller reads s =
         let no = unrefused (conflicts o new j) (refusal.RetypeConflict h.field.name) asked in
         parts (j.object == o.number) (is_copied j.phase j.cursor old.id) (convert j.to (value_at new.values (suc j.field))) (eq-eqb j.object o.number it) no
 
-pub update_sound : (a : Asked) (object key : List ℕ) (given : List Assignment) → IsCaller a → ((o : Object) → ReadsWell a o given) → IsSound a.tenant → IsSound (update a object key given).tenant
+pub update_sound : (a : Asked) (object key : List ℕ) (given : List Assignment) → IsCaller a → OfObjects a (λ o. ReadsWell a o given) → IsSound a.tenant → IsSound (update a object key given).tenant
 update_sound a object key given caller reads s =
     when_object IsSound a.tenant object (λ o. with_named a o key Edit (update_on a o None given)) s (λ o at.
-    when_named IsSound a o key Edit (update_on a o None given) s (λ r among of. update_on_sound a o None given r at among of caller (reads o.object) s))
+    when_named IsSound a o key Edit (update_on a o None given) s (λ r among of. update_on_sound a o None given r at among of caller (reads o.number o.object at) s))

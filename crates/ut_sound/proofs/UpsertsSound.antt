@@ -1,7 +1,7 @@
 -- What an upsert leaves is sound.
-use Rattle.std.proofs.Common.{◌≡◌, ℕ, Bool, true, false, not, cond, List, [], ◌∷◌, Option, Some, None, slice_get, refl, ap, sym, inl, inr}
+use Rattle.std.proofs.Common.{◌≡◌, ℕ, Bool, true, false, cond, List, [], ◌∷◌, Option, Some, None, slice_get, refl, ap, sym, inl, inr}
 use Rattle.std.specs.Prelude.{Ok, Err}
-use Rattle.std.specs.List.{enumerate_from, find}
+use Rattle.std.specs.List.{find}
 use Rattle.std.specs.Option.{unwrap_or}
 use Rattle.ut_value.specs.declared.sharing.Level.TheVariants.{Edit}
 use Rattle.ut_value.specs.declared.value.Value.{Value}
@@ -9,7 +9,6 @@ use Rattle.ut_model.specs.declared.record.Record.{Record}
 use Rattle.ut_model.specs.declared.refusal.Refusal.TheVariants as refusal
 use Rattle.ut_model.specs.Cases.{in_case}
 use Rattle.ut_model.specs.Creates.{create_on}
-use Rattle.ut_model.specs.Fields.{column, its_value, typed}
 use Rattle.ut_model.specs.Given.{Assignment, ReadOr, has_value, record_with}
 use Rattle.ut_model.specs.Keys.{Key, with_key}
 use Rattle.ut_model.specs.Membership.{Has}
@@ -17,11 +16,11 @@ use Rattle.ut_model.specs.Objects.{Numbered, is_of, records_of}
 use Rattle.ut_model.specs.Paths.{Asked}
 use Rattle.ut_model.specs.Rights.{denied}
 use Rattle.ut_model.specs.Sound.{IsSound}
-use Rattle.ut_model.specs.Tenant.{Field, Object, Tenant}
+use Rattle.ut_model.specs.Tenant.{Field, Tenant}
 use Rattle.ut_model.specs.Updates.{update_on}
 use Rattle.ut_model.specs.Upserts.{declared_name, key_value, unique_named, upsert, upsert_by, with_read}
 use Rattle.ut_model.specs.Verdict.{Verdict, judged, refuse}
-use Rattle.ut_sound.specs.Fit.{IsCaller, ReadsWell}
+use Rattle.ut_sound.specs.Fit.{IsCaller, OfObjects, ReadsWell, ReadsWellByKey, key_of}
 use Rattle.ut_sound.proofs.Parts.{among_kept}
 use Rattle.ut_sound.proofs.Growing.{IdLaws}
 use Rattle.ut_sound.proofs.PeopleSound.{when_judged}
@@ -37,29 +36,29 @@ found_record p (z ∷ xs) x e = by (p z) e (found_record p xs x)
     by true w more = inl (sym (ap (λ o. unwrap_or o z) w))
     by false w more = inr (more w)
 
-pub when_read : (P : Tenant → Type 0) (t : Tenant) (r : ReadOr) (verdict : Value → Verdict) → P t → ((v : Value) → P (verdict v).tenant) → P (with_read t r verdict).tenant
-when_read P t (Ok v) verdict h f = f v
+pub when_read : (P : Tenant → Type 0) (t : Tenant) (r : ReadOr) (verdict : Value → Verdict) → P t → ((v : Value) → r ≡ Ok v → P (verdict v).tenant) → P (with_read t r verdict).tenant
+when_read P t (Ok v) verdict h f = f v refl
 when_read P t (Err why) verdict h f = h
 
 pub upsert_sound : IdLaws → (a : Asked) (object key : List ℕ) (text : Option (List ℕ)) (given : List Assignment) → IsCaller a
-    → ((o : Object) (k : Key) → ReadsWell a o (with_key (Some k) given)) → IsSound a.tenant → IsSound (upsert a object key text given).tenant
+    → OfObjects a (λ o. ReadsWellByKey a key text o given) → IsSound a.tenant → IsSound (upsert a object key text given).tenant
 unfolding record_with
 upsert_sound ids a object key text given caller reads s =
     when_object IsSound a.tenant object
     (λ o. in_case (unique_named o.object key) (refuse a.tenant (refusal.InvalidField (declared_name o.object key))) (λ f. with_read a.tenant (key_value f.1 text) (upsert_by a o given f))) s
-    (λ o at. by_field o at (unique_named o.object key))
+    (λ o at. by_field o at (unique_named o.object key) refl)
   where
-    by_record : (o : Numbered) → slice_get a.tenant.objects o.number ≡ Some o.object → (k : Key) (p : Record → Bool) (r : Option Record) → find p (records_of a.tenant o.number) ≡ r
+    by_record : (o : Numbered) → slice_get a.tenant.objects o.number ≡ Some o.object → (k : Key) → ReadsWell a o.object (with_key (Some k) given) → (p : Record → Bool) (r : Option Record) → find p (records_of a.tenant o.number) ≡ r
         → IsSound (in_case r (create_on a o (Some k) given) (λ r. judged a.tenant (denied a Edit r ∷ []) (update_on a o (Some k) given r))).tenant
-    by_record o at k p None e = create_on_sound ids a o (Some k) given at caller (reads o.object k) s
-    by_record o at k p (Some r) e =
+    by_record o at k well p None e = create_on_sound ids a o (Some k) given at caller well s
+    by_record o at k well p (Some r) e =
         let m = among_kept (is_of o.number) a.tenant.records r (found_record p (records_of a.tenant o.number) r e) in
         when_judged IsSound a.tenant (denied a Edit r ∷ []) (update_on a o (Some k) given r) s (λ _.
-        update_on_sound a o (Some k) given r at m.0 m.1 caller (reads o.object k) s)
+        update_on_sound a o (Some k) given r at m.0 m.1 caller well s)
 
-    by_field : (o : Numbered) → slice_get a.tenant.objects o.number ≡ Some o.object → (f : Option (ℕ × Field))
+    by_field : (o : Numbered) → slice_get a.tenant.objects o.number ≡ Some o.object → (f : Option (ℕ × Field)) → unique_named o.object key ≡ f
         → IsSound (in_case f (refuse a.tenant (refusal.InvalidField (declared_name o.object key))) (λ f. with_read a.tenant (key_value f.1 text) (upsert_by a o given f))).tenant
-    by_field o at None = s
-    by_field o at (Some f) =
-        when_read IsSound a.tenant (key_value f.1 text) (upsert_by a o given f) s (λ v.
-        by_record o at (record { column = column f.1.name (typed f.1.kind) (its_value f.0); value = v }) (has_value f.0 v) (record_with a.tenant o.number f.0 v) refl)
+    by_field o at None e = s
+    by_field o at (Some f) e =
+        when_read IsSound a.tenant (key_value f.1 text) (upsert_by a o given f) s (λ v w.
+        by_record o at (key_of f v) (reads o.number o.object at f v e w) (has_value f.0 v) (record_with a.tenant o.number f.0 v) refl)

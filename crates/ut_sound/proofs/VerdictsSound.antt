@@ -1,6 +1,5 @@
 -- What the verdict of any request leaves is sound.
-use Rattle.std.proofs.Common.{◌≡◌, ℕ, Bool, true, false, not, List, length, Option, Some, None, refl}
-use Rattle.sha2.specs.Sha256.{sha256}
+use Rattle.std.proofs.Common.{◌≡◌, Bool, true, false, not, Option, Some, None, refl}
 use Rattle.ut_soql.specs.declared.query.Query.{Query}
 use Rattle.ut_model.specs.Fields.{by_parent}
 use Rattle.ut_model.specs.declared.refusal.Refusal.TheVariants as refusal
@@ -10,9 +9,10 @@ use Rattle.ut_model.specs.Paths.{Asked}
 use Rattle.ut_model.specs.Requests.{Request, verdict_on, asks, creates, updates, deletes, upserts, shares, unshares, adds_object, sets_object, adds_field, adds_validation_rule, adds_sharing_rule, removes_sharing_rule, adds_user, sets_user, adds_role, sets_role, adds_group, sets_group, begins_retype, gets_retype, cancels_retype}
 use Rattle.ut_model.specs.Retyping.{get_retype}
 use Rattle.ut_model.specs.Sound.{IsSound}
+use Rattle.ut_model.specs.SoundFormulas.{AreFormulasSound}
 use Rattle.ut_model.specs.Tenant.{Job, Tenant}
 use Rattle.ut_model.specs.Verdict.{accept, judged, refuse, rows_of, state_of}
-use Rattle.ut_sound.specs.Fit.{IsCaller, IsFit}
+use Rattle.ut_sound.specs.Fit.{IsCaller, IsFit, ReadsFormulas}
 use Rattle.ut_sound.proofs.Digests.{digest_size}
 use Rattle.ut_sound.proofs.Growing.{IdLaws}
 use Rattle.ut_sound.proofs.PeopleSound.{BelowLaw, add_group_sound, add_role_sound, add_user_sound, set_group_sound, set_role_sound, set_user_sound, when_judged}
@@ -26,6 +26,10 @@ use Rattle.ut_sound.proofs.BeginsSound.{begin_sound}
 use Rattle.ut_sound.proofs.ObjectsSound.{add_validation_sound, set_access_sound}
 use Rattle.ut_sound.proofs.NewObjects.{add_object_sound}
 use Rattle.ut_sound.proofs.AddsField.{add_field_sound}
+use Rattle.ut_sound.proofs.AddsFormulas.{add_field_formulas, add_object_formulas}
+use Rattle.ut_sound.proofs.FormulasSound.{add_rule_formulas, add_validation_formulas, remove_rule_formulas, set_access_formulas}
+use Rattle.ut_sound.proofs.JobFormulas.{begin_formulas, cancel_formulas}
+use Rattle.ut_sound.proofs.OtherFormulas.{add_group_formulas, add_role_formulas, add_user_formulas, create_formulas, delete_formulas, set_group_formulas, set_role_formulas, set_user_formulas, share_formulas, unshare_formulas, update_formulas, upsert_formulas}
 
 -- those that only look leave all as it is
 pub asked_kept : (P : Tenant → Type 0) (a : Asked) (q : Query) → P a.tenant → P (ask a q).tenant
@@ -67,3 +71,28 @@ verdict_sound ids below a (sets_group id members) caller fit s = set_group_sound
 verdict_sound ids below a (begins_retype object field to) caller fit s = begin_sound a.reads a.tenant object field to fit s
 verdict_sound ids below a gets_retype caller fit s = looked_kept IsSound a.tenant s
 verdict_sound ids below a cancels_retype caller fit s = cancel_sound a.tenant s
+
+-- and so of formulas
+pub verdict_formulas : (a : Asked) (r : Request) → ReadsFormulas a.reads → IsSound a.tenant → AreFormulasSound a.reads a.tenant → AreFormulasSound a.reads (verdict_on a r).tenant
+verdict_formulas a (asks q) law sound s = asked_kept (AreFormulasSound a.reads) a q s
+verdict_formulas a (creates object given) law sound s = create_formulas a.reads a s object given
+verdict_formulas a (updates object key given) law sound s = update_formulas a.reads a s object key given
+verdict_formulas a (deletes object key) law sound s = delete_formulas a.reads a s object key
+verdict_formulas a (upserts object key text given) law sound s = upsert_formulas a.reads a s object key text given
+verdict_formulas a (shares b) law sound s = share_formulas a.reads a s b
+verdict_formulas a (unshares item part to) law sound s = unshare_formulas a.reads a s item part to
+verdict_formulas a (adds_object b) law sound s = add_object_formulas a.reads a.tenant b sound s
+verdict_formulas a (sets_object object access) law sound s = set_access_formulas a.reads law.by_fields a.tenant object access s
+verdict_formulas a (adds_field b) law sound s = add_field_formulas a.reads law.over_more a.tenant b sound s
+verdict_formulas a (adds_validation_rule b) law sound s = add_validation_formulas a.reads law.by_fields a.tenant b s
+verdict_formulas a (adds_sharing_rule b) law sound s = add_rule_formulas a.reads a.tenant b s
+verdict_formulas a (removes_sharing_rule name) law sound s = remove_rule_formulas a.reads a.tenant name s
+verdict_formulas a (adds_user b) law sound s = add_user_formulas a.reads a.tenant s b
+verdict_formulas a (sets_user id role) law sound s = set_user_formulas a.reads a.tenant s id role
+verdict_formulas a (adds_role name parent) law sound s = add_role_formulas a.reads a.tenant s name parent
+verdict_formulas a (sets_role id parent) law sound s = set_role_formulas a.reads a.tenant s id parent
+verdict_formulas a (adds_group name) law sound s = add_group_formulas a.reads a.tenant s name
+verdict_formulas a (sets_group id members) law sound s = set_group_formulas a.reads a.tenant s id members
+verdict_formulas a (begins_retype object field to) law sound s = begin_formulas a.reads a.tenant s object field to
+verdict_formulas a gets_retype law sound s = looked_kept (AreFormulasSound a.reads) a.tenant s
+verdict_formulas a cancels_retype law sound s = cancel_formulas a.reads a.tenant s

@@ -1,14 +1,17 @@
 -- What the form of a body gives, beyond what the rules of its request ask. Every request that is read has it; a request as data may
 -- lack it, and then what its verdict leaves need not be sound. It is this product's own.
-use Rattle.std.specs.Prelude.{◌≡◌, ℕ, suc, Bool, true, not, ◌&&◌, List, [], ◌∷◌, ◌++◌, None, Option, Some, bytes_eq, codes, is_ok, is_some, IsTrue}
+use Rattle.std.specs.Prelude.{◌≡◌, ℕ, suc, Bool, true, false, not, ◌&&◌, List, [], ◌∷◌, ◌++◌, None, Option, Some, Ok, bytes_eq, codes, slice_get, is_ok, is_some, IsTrue}
 use Rattle.std.specs.List.{list_any}
+use Rattle.std.specs.Str.{all_scalars}
 use Rattle.ut_value.specs.Dates.{is_moment}
 use Rattle.ut_value.specs.Types.{is_reference, is_type, suits_indexed, suits_unique}
 use Rattle.ut_value.specs.declared.value.FieldType.{FieldType}
+use Rattle.ut_value.specs.declared.value.Value.{Value}
 use Rattle.ut_model.specs.declared.record.Record.{Record}
 use Rattle.ut_model.specs.Cases.{in_case}
 use Rattle.ut_model.specs.Edits.{bad_value, with_given}
-use Rattle.ut_model.specs.Given.{Assignment}
+use Rattle.ut_model.specs.Fields.{column, its_value, typed}
+use Rattle.ut_model.specs.Given.{Assignment, Given, in_json, json_text}
 use Rattle.ut_model.specs.Keys.{Key, with_key}
 use Rattle.ut_model.specs.Levels.{Reads}
 use Rattle.ut_model.specs.Metadata.{NewObject}
@@ -26,6 +29,7 @@ use Rattle.ut_model.specs.SoundPeople.{is_name}
 use Rattle.ut_model.specs.SoundRecords.{all_valid, kinds_of}
 use Rattle.ut_model.specs.SoundSharing.{is_grant}
 use Rattle.ut_model.specs.Tenant.{Field, Object}
+use Rattle.ut_model.specs.Upserts.{key_value, unique_named}
 use Rattle.ut_model.specs.World.{user_at}
 
 -- ---- sharing
@@ -78,11 +82,29 @@ is_fit_field b =
 abbrev pub IsCaller : Asked → Type 0
 IsCaller a = IsTrue (is_some (user_at a.tenant.users a.user.id)) × IsTrue (is_moment a.now)
 
+-- of each object of the organisation
+abbrev pub OfObjects : Asked → (Object → Type 0) → Type 0
+OfObjects a P = (n : ℕ) (o : Object) → slice_get a.tenant.objects n ≡ Some o → P o
+
 -- what is read in a body is of its field's type: with what is given valid values stay valid, unless one is refused
 abbrev pub ReadsWell : Asked → Object → List Assignment → Type 0
 ReadsWell a o given =
     bad_value a.tenant o given ≡ None
     → (old : Record) → IsTrue (all_valid (kinds_of o) old.values) → IsTrue (all_valid (kinds_of o) (with_given a o given old).values)
+
+-- what a body in JSON gives: its texts are characters
+abbrev pub is_spelled : Given → Bool
+is_spelled (in_json j) = all_scalars (json_text j)
+is_spelled _ = false
+
+-- the key of an upsert by this field
+abbrev pub key_of : ℕ × Field → Value → Key
+key_of f v = record { column = column f.1.name (typed f.1.kind) (its_value f.0); value = v }
+
+-- the same with the key of an upsert, where the text of the path reads to a value of the unique field
+abbrev pub ReadsWellByKey : Asked → (key : List ℕ) → (text : Option (List ℕ)) → Object → List Assignment → Type 0
+ReadsWellByKey a key text o given =
+    (f : ℕ × Field) (v : Value) → unique_named o key ≡ Some f → key_value f.1 text ≡ Ok v → ReadsWell a o (with_key (Some (key_of f v)) given)
 
 -- ---- formulas
 
@@ -103,13 +125,19 @@ ReadsOtherTypes reads =
     → IsTrue (is_ok (reads o criteria text)) → IsTrue (not (names_field (suc place) (reads o criteria text)))
     → reads (record o { fields = change_at place (λ f. record f { kind = to }) o.fields }) criteria text ≡ reads o criteria text
 
+-- all of these, as the grammar of formulas has them
+pub record ReadsFormulas (reads : Reads) : Type 0 where
+  pub by_fields : ReadsByFields reads
+  pub over_more : ReadsOverMore reads
+  pub other_types : ReadsOtherTypes reads
+
 -- ---- any request
 
 -- what the form of its body gives, for the user who asks
 abbrev pub IsFit : Asked → Request → Type 0
-IsFit a (creates object given) = (o : Object) → ReadsWell a o given
-IsFit a (updates object key given) = (o : Object) → ReadsWell a o given
-IsFit a (upserts object key text given) = (o : Object) (k : Key) → ReadsWell a o (with_key (Some k) given)
+IsFit a (creates object given) = OfObjects a (λ o. ReadsWell a o given)
+IsFit a (updates object key given) = OfObjects a (λ o. ReadsWell a o given)
+IsFit a (upserts object key text given) = OfObjects a (λ o. ReadsWellByKey a key text o given)
 IsFit a (shares b) = IsTrue (is_fit_share b)
 IsFit a (adds_object b) = IsTrue (is_fit_object b)
 IsFit a (sets_object object access) = IsTrue (not (by_parent access))

@@ -5,6 +5,7 @@
 #![tactic(auto)]
 
 mod deletes;
+mod fits;
 mod formulas;
 mod jobs;
 mod kept;
@@ -16,6 +17,7 @@ mod sharing;
 mod verdicts;
 
 pub use crate::deletes::deletes_sound;
+pub use crate::fits::fit_laws;
 pub use crate::formulas::formulas_sound;
 pub use crate::jobs::jobs_sound;
 pub use crate::kept::formulas_kept;

@@ -1,27 +1,25 @@
 //! Records: new ones, other values, and upserts.
 
-ghost use Rattle.std.specs.Prelude.{List, Option, Some, ℕ};
+ghost use Rattle.std.specs.Prelude.{List, Option, ℕ};
 ghost use Rattle.ut_model.specs.Creates.{create};
 ghost use Rattle.ut_model.specs.Given.{Assignment};
-ghost use Rattle.ut_model.specs.Keys.{Key, with_key};
 ghost use Rattle.ut_model.specs.Paths.{Asked};
 ghost use Rattle.ut_model.specs.Sound.{IsSound};
-ghost use Rattle.ut_model.specs.Tenant.{Object};
 ghost use Rattle.ut_model.specs.Updates.{update};
 ghost use Rattle.ut_model.specs.Upserts.{upsert};
-ghost use Rattle.ut_sound.specs.Fit.{IsCaller, ReadsWell};
+ghost use Rattle.ut_sound.specs.Fit.{IsCaller, OfObjects, ReadsWell, ReadsWellByKey};
 
 use ut_value::id_laws;
 
 /// What an edit of a record leaves is sound, if a user of the organisation asks and what is read in the body is of its
 /// field's type. The call does nothing.
 pub fn records_sound()
-    ensures create { (a : Asked) (object : List ℕ) (given : List Assignment) → IsCaller a → ((o : Object) → ReadsWell a o given)
+    ensures create { (a : Asked) (object : List ℕ) (given : List Assignment) → IsCaller a → OfObjects a (λ o. ReadsWell a o given)
         → IsSound a.tenant → IsSound (create a object given).tenant }
-    ensures update { (a : Asked) (object key : List ℕ) (given : List Assignment) → IsCaller a → ((o : Object) → ReadsWell a o given)
+    ensures update { (a : Asked) (object key : List ℕ) (given : List Assignment) → IsCaller a → OfObjects a (λ o. ReadsWell a o given)
         → IsSound a.tenant → IsSound (update a object key given).tenant }
     ensures upsert { (a : Asked) (object key : List ℕ) (text : Option (List ℕ)) (given : List Assignment) → IsCaller a
-        → ((o : Object) (k : Key) → ReadsWell a o (with_key (Some k) given)) → IsSound a.tenant → IsSound (upsert a object key text given).tenant }
+        → OfObjects a (λ o. ReadsWellByKey a key text o given) → IsSound a.tenant → IsSound (upsert a object key text given).tenant }
 {
     id_laws();
 }

@@ -1,0 +1,8 @@
+use Rattle.ut_sound.proofs.GivenFits.{key_fits, spelled_fits}
+use Rattle.ut_sound.proofs.fits.fit_laws.Goals as goal
+
+pub returns-clause-given : goal.returns-clause-given
+returns-clause-given c = spelled_fits c.value_laws.ensures.read
+
+pub returns-clause-key : goal.returns-clause-key
+returns-clause-key c = key_fits c.value_laws.ensures.read

@@ -1,23 +1,19 @@
 -- The forms of the bodies, each with the request that it makes. They are this product's own.
-use Rattle.std.specs.Prelude.{ℕ, Bool, true, false, not, ◌&&◌, ◌||◌, List, [], ◌∷◌, map, bytes_eq, codes, if◌then◌else◌, Option, Some, None, is_some, is_none, unwrap_or}
+use Rattle.std.specs.Prelude.{ℕ, Bool, true, false, not, ◌&&◌, ◌||◌, List, [], ◌∷◌, bytes_eq, codes, if◌then◌else◌, Option, Some, None, is_some, is_none}
 use Rattle.std.specs.Bool.{beq}
 use Rattle.std.specs.List.{flat_map}
 use Rattle.std.specs.Option.{option_map}
 use Rattle.ut_json.specs.Reading.{◌>>=◌}
-use Rattle.ut_value.specs.Id.{id_in}
-use Rattle.ut_value.specs.Texts.{texts_differ}
 use Rattle.ut_value.specs.Types.{suits_unique, suits_indexed}
 use Rattle.ut_value.specs.declared.sharing.Access.{Access}
 use Rattle.ut_value.specs.declared.sharing.Access.TheVariants as access
 use Rattle.ut_value.specs.declared.value.OnDelete.{OnDelete}
 use Rattle.ut_value.specs.declared.value.OnDelete.TheVariants as on_delete
 use Rattle.ut_model.specs.Cases.{in_case}
-use Rattle.ut_model.specs.Members.{Body, all_there, as_text, entry, flag_in, formed, levels, list_in, member_names, object_in, principal_in, text_in, text_or_null_in, truth_in}
+use Rattle.ut_model.specs.Members.{Body, as_text, entry, flag_in, formed, levels, member_names, object_in, principal_in, text_in}
 use Rattle.ut_model.specs.Metadata.{NewMaster}
 use Rattle.ut_model.specs.NewFields.{SpelledType, plain, lookup_to}
-use Rattle.ut_model.specs.Organisations.{is_secret}
-use Rattle.ut_model.specs.Principals.{Spelled, kind_number, principal_of}
-use Rattle.ut_model.specs.Requests.{Request, adds_field, adds_group, adds_object, adds_role, adds_sharing_rule, adds_user, adds_validation_rule, begins_retype, sets_group, sets_object, sets_role, sets_user, shares}
+use Rattle.ut_model.specs.Requests.{Request, adds_field, adds_object, adds_sharing_rule, adds_validation_rule, sets_object, shares}
 use Rattle.ut_model.specs.SharingRules.{SpelledSource, from, by_formula}
 use Rattle.ut_model.specs.Sound.{is_name}
 use Rattle.ut_model.specs.TypeForms.{type_in, where_so}

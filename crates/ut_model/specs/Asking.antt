@@ -4,7 +4,6 @@
 use Rattle.std.specs.Prelude.{ℕ, not, if◌then◌else◌, List, [], ◌∷◌, ◌++◌, map, codes, Option, Some, None, is_none}
 use Rattle.std.specs.List.{flat_map, list_any}
 use Rattle.std.specs.Option.{option_and_then}
-use Rattle.ut_soql.specs.declared.query.Cond.{Cond}
 use Rattle.ut_soql.specs.declared.query.Item.{Item}
 use Rattle.ut_soql.specs.declared.query.Item.TheVariants as item
 use Rattle.ut_soql.specs.declared.query.Literal.{Literal}

@@ -13,7 +13,7 @@ use Rattle.ut_model.specs.declared.refusal.Refusal.{Refusal}
 use Rattle.ut_model.specs.declared.refusal.Refusal.TheVariants as refusal
 use Rattle.ut_model.specs.Cases.{in_case}
 use Rattle.ut_model.specs.Fields.{Column, Where, its_id, its_created, its_modified, column_named, custom_columns, is_detail, is_master, is_null, name_column, owner_column, ref_of, same_name, value_in, writable_columns}
-use Rattle.ut_model.specs.Given.{Assignment, Given, ReadOr, has_value, read_given}
+use Rattle.ut_model.specs.Given.{Assignment, ReadOr, has_value, read_given}
 use Rattle.ut_model.specs.Levels.{can_read, read_holds}
 use Rattle.ut_model.specs.Objects.{Numbered, records_of}
 use Rattle.ut_model.specs.Paths.{Asked}

@@ -1,7 +1,7 @@
 -- What an edit gives to fields, and the values that it is read as.
 -- Source: Salesforce, REST API, "Create a Record" and "Insert or Update (Upsert) a Record Using an External ID", of values in JSON
 -- and of parents that are found by a unique field. What suits which type is this product's own.
-use Rattle.std.specs.Prelude.{ℕ, suc, Bool, not, ◌&&◌, if◌then◌else◌, List, [], ◌∷◌, slice_get, Option, Some, None, Result, Ok, Err}
+use Rattle.std.specs.Prelude.{ℕ, suc, Bool, not, ◌&&◌, if◌then◌else◌, List, [], ◌∷◌, slice_get, Option, None, Result, Ok, Err}
 use Rattle.std.specs.List.{find}
 use Rattle.std.specs.Option.{option_and_then}
 use Rattle.ut_json.specs.declared.tree.Json.{Json}

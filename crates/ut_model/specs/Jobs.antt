@@ -1,6 +1,6 @@
 -- One step of a change of a field's type. Each request of a recognised caller first makes one, over at most a hundred records.
 -- It is this product's own.
-use Rattle.std.specs.Prelude.{ℕ, suc, Bool, true, false, if◌then◌else◌, List, [], ◌∷◌, map, filter, take, slice_set, Option, Some, None, is_none}
+use Rattle.std.specs.Prelude.{ℕ, suc, Bool, true, if◌then◌else◌, List, [], ◌∷◌, map, filter, take, slice_set, Option, Some, None, is_none}
 use Rattle.std.specs.List.{find}
 use Rattle.std.specs.Ordering.{nat_cmp, is_lt}
 use Rattle.std.specs.Cmp.Lexicographic.{slice_cmp}

@@ -9,7 +9,6 @@ use Rattle.ut_json.specs.declared.tree.Json.{Json, out-Json}
 use Rattle.ut_json.specs.declared.tree.Json.TheOpen.{Json-F}
 use Rattle.ut_json.specs.declared.tree.Json.TheVariants as json
 use Rattle.ut_json.specs.declared.tree.Member.{Member, out-Member}
-use Rattle.ut_json.specs.declared.tree.Num.{Num}
 use Rattle.ut_json.specs.declared.tree.Num.TheVariants as num
 use Rattle.ut_value.specs.Printing.{scale}
 use Rattle.ut_value.specs.Texts.{lower, texts_differ}

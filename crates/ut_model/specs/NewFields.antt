@@ -6,7 +6,6 @@ use Rattle.ut_value.specs.declared.value.FieldType.{FieldType}
 use Rattle.ut_value.specs.declared.value.FieldType.TheVariants as type
 use Rattle.ut_value.specs.declared.value.OnDelete.{OnDelete}
 use Rattle.ut_model.specs.declared.limit.Limit.TheVariants as limit
-use Rattle.ut_model.specs.declared.record.Record.{Record}
 use Rattle.ut_model.specs.Cases.{in_case}
 use Rattle.ut_model.specs.Names.{bad_name, is_child_name, is_custom_name, taken}
 use Rattle.ut_model.specs.Objects.{Numbered, change_at, is_of}

@@ -1,6 +1,6 @@
 -- The forms of the bodies about users, roles, groups and the change of a field's type, each with the request that it makes. They
 -- are this product's own.
-use Rattle.std.specs.Prelude.{ℕ, List, [], ◌∷◌, map, codes, Option, Some, None, unwrap_or}
+use Rattle.std.specs.Prelude.{ℕ, List, [], ◌∷◌, map, codes, Option, Some, unwrap_or}
 use Rattle.ut_json.specs.Reading.{◌>>=◌}
 use Rattle.ut_value.specs.Id.{id_in}
 use Rattle.ut_value.specs.Texts.{texts_differ}

@@ -1,6 +1,6 @@
 -- Ids and principals as requests spell them, and what they name.
 -- Source of the kinds: Salesforce, "Record-Level Security". How a request spells a principal is this product's own.
-use Rattle.std.specs.Prelude.{ℕ, Bool, not, List, [], Option, Some, None, is_none, is_some, unwrap_or}
+use Rattle.std.specs.Prelude.{ℕ, Bool, not, List, [], Option, None, is_none, is_some, unwrap_or}
 use Rattle.std.specs.declared.cmp.Ordering.{Ordering}
 use Rattle.std.specs.Ordering.{nat_cmp, ordering_then}
 use Rattle.std.specs.Cmp.Lexicographic.{slice_cmp}

@@ -1,7 +1,7 @@
 -- Replies: the status and the body of what is answered, and of what refuses.
 -- Source of the forms: Salesforce, REST API, "sObject Rows by External ID", "Query" and "Status Codes and Error Responses". How far
 -- the change of a field's type is, and that a reply has at most 16,777,216 bytes, is this product's own.
-use Rattle.std.specs.Prelude.{ℕ, Bool, true, nat_lt, if◌then◌else◌, List, [], ◌∷◌, ◌++◌, length, codes, encode_utf8_all, slice_get, Result, Ok, Err}
+use Rattle.std.specs.Prelude.{ℕ, true, nat_lt, if◌then◌else◌, List, [], ◌∷◌, ◌++◌, length, codes, encode_utf8_all, slice_get, Result, Ok, Err}
 use Rattle.std.specs.Option.{option_and_then}
 use Rattle.ut_json.specs.Printing.{printed_text, printed_truth, printed_null}
 use Rattle.ut_value.specs.Id.{print18}

@@ -16,7 +16,7 @@ use Rattle.ut_model.specs.NewFields.{SpelledType, plain, lookup_to}
 use Rattle.ut_model.specs.Objects.{Numbered}
 use Rattle.ut_model.specs.RuleFormulas.{formula_of, is_copy, names_field}
 use Rattle.ut_model.specs.Rules.{Rule, refuse_if, first_of, first_refusal}
-use Rattle.ut_model.specs.Tenant.{Field, Job, Object, SharingRule, Source, owned, meets, Tenant, ValidationRule}
+use Rattle.ut_model.specs.Tenant.{Field, Job, Object, Source, owned, meets, Tenant}
 use Rattle.ut_model.specs.Verdict.{Verdict, accept, done, judged, refuse, state_of, with_object}
 
 -- ---- the rules

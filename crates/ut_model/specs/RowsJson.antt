@@ -1,6 +1,6 @@
 -- The rows of a query in JSON, as characters.
 -- Source of the form: Salesforce, REST API, "Query".
-use Rattle.std.specs.Prelude.{ℕ, zero, suc, Bool, true, if◌then◌else◌, List, [], ◌∷◌, ◌++◌, map, length, filter_map, codes, Option, Some, None, is_some, unwrap_or}
+use Rattle.std.specs.Prelude.{ℕ, zero, suc, true, if◌then◌else◌, List, [], ◌∷◌, ◌++◌, map, length, filter_map, codes, Option, Some, None, is_some, unwrap_or}
 use Rattle.std.specs.Fmt.{decimal}
 use Rattle.std.specs.List.{flat_map, list_any}
 use Rattle.std.specs.Option.{option_and_then}

@@ -9,9 +9,8 @@ use Rattle.ut_value.specs.declared.value.Value.{Value}
 use Rattle.ut_model.specs.declared.refusal.Refusal.TheVariants as refusal
 use Rattle.ut_model.specs.Cases.{in_case}
 use Rattle.ut_model.specs.Creates.{create_on}
-use Rattle.ut_model.specs.Fields.{Column, its_value, column, column_named, typed, same_name}
+use Rattle.ut_model.specs.Fields.{its_value, column, column_named, typed, same_name}
 use Rattle.ut_model.specs.Given.{Assignment, ReadOr, or_refusal, record_with}
-use Rattle.ut_model.specs.Keys.{Key}
 use Rattle.ut_model.specs.Objects.{Numbered}
 use Rattle.ut_model.specs.Paths.{Asked}
 use Rattle.ut_model.specs.Rights.{denied}

@@ -147,7 +147,7 @@ abbrev pub reads : Reads
 reads o criteria text =
     if bytes_eq text is_open then Ok (formula.Compare (term.Field 1) relation.Equal (term.Text (codes "Open"))) else Err 0
 
--- open deals are shared with the second group, where Ron has a deal in this stage
+-- open deals are shared with the second group; Ron has a deal in this stage
 abbrev pub staged : List ℕ → RuleState → List ℕ → Tenant
 staged text state stage = ruled (meets text) (to.Group g2) state (deal 10 ron stage ∷ [])
 

@@ -1,15 +1,22 @@
 -- Bodies for rows worked by hand. A reader of the rules may pass them over.
-use Rattle.std.specs.Prelude.{ℕ, false, List, [], ◌∷◌, ◌++◌, codes}
+use Rattle.std.specs.Prelude.{ℕ, false, List, [], ◌∷◌, codes, None, pos}
 use Rattle.ut_json.specs.declared.tree.Json.{Json}
 use Rattle.ut_json.specs.declared.tree.Json.TheVariants as json
+use Rattle.ut_json.specs.declared.tree.Num.TheVariants.{Exact}
+use Rattle.ut_value.specs.declared.sharing.Access.TheVariants as access
 use Rattle.ut_value.specs.declared.sharing.Level.TheVariants.{Edit}
 use Rattle.ut_value.specs.declared.sharing.Principal.TheVariants as to
 use Rattle.ut_model.specs.Members.{Body}
+use Rattle.ut_model.specs.Metadata.{NewObject}
 use Rattle.ut_model.specs.Shares.{NewShare}
 
 -- a member that is a text
 abbrev pub text_member : (name text : List ℕ) → List ℕ × Json
 text_member name text = (name, json.Text text)
+
+-- a member that is a number, as a count of 10^-8
+abbrev pub number_member : (name : List ℕ) → (count : ℕ) → List ℕ × Json
+number_member name count = (name, json.Number (Exact (pos count)))
 
 -- a share of `r` with the user `x` at this level, and more
 abbrev pub share_body : (level : List ℕ) → Body → Body
@@ -32,6 +39,24 @@ user_body secret =
     ∷ (codes "role", json.Null)
     ∷ (codes "admin", json.Bool false)
     ∷ []
+
+-- a private object, or one of another access
+abbrev pub object_body : (access : List ℕ) → Body
+object_body access = text_member (codes "access") access ∷ text_member (codes "name") (codes "A__c") ∷ []
+
+abbrev pub private_object : NewObject
+private_object = record { members = codes "access" ∷ codes "name" ∷ []; name = codes "A__c"; access = access.Private; master = None }
+
+-- a type of this kind, and more
+abbrev pub type_body : (kind : List ℕ) → Body → Body
+type_body kind more = text_member (codes "kind") kind ∷ more
+
+-- the two sources of a sharing rule
+abbrev pub by_text : List ℕ × Json
+by_text = text_member (codes "formula") (codes "TRUE")
+
+abbrev pub from_role : List ℕ × Json
+from_role = text_member (codes "from") (codes "role:r")
 
 -- a sharing rule for a role, and more
 abbrev pub rule_body : Body → Body

@@ -4,7 +4,7 @@ use Rattle.std.specs.List.{range_with_len}
 use Rattle.ut_value.specs.Id.{made}
 use Rattle.ut_value.specs.declared.sharing.Level.TheVariants.{Read}
 use Rattle.ut_value.specs.declared.sharing.Principal.TheVariants as to
-use Rattle.ut_model.specs.Requests.{Request, adds_group, sets_group}
+use Rattle.ut_model.specs.Requests.{adds_group, sets_group}
 use Rattle.ut_model.specs.Tenant.{Tenant}
 use Rattle.ut_model.specs.World.{group_prefix}
 use Rattle.ut_model.specs.WorkedRecords.{detail_of}

@@ -1,6 +1,6 @@
 -- Small requests on records for rows worked by hand: validation rules, upserts and deletions. A reader of the rules may pass them
 -- over.
-use Rattle.std.specs.Prelude.{ℕ, true, false, List, [], ◌∷◌, ◌++◌, codes, Some, ℤ}
+use Rattle.std.specs.Prelude.{ℕ, true, false, List, [], ◌∷◌, ◌++◌, codes, Option, Some, ℤ}
 use Rattle.ut_json.specs.declared.tree.Json.TheVariants as json
 use Rattle.ut_json.specs.declared.tree.Num.TheVariants.{Exact}
 use Rattle.ut_value.specs.declared.sharing.Access.TheVariants as access
@@ -40,8 +40,11 @@ accounts_made =
     ∷ by_admin (field_with (codes "Account__c") (codes "Code__c") (plain (type.Text 20)) true)
     ∷ []
 
+abbrev pub upsert_with : (key : List ℕ) → (text : Option (List ℕ)) → List Assignment → Call
+upsert_with key text given = by_admin (upserts (codes "Account__c") key text given)
+
 abbrev pub upsert_account : Call
-upsert_account = by_admin (upserts (codes "Account__c") (codes "Code__c") (Some (codes "A/1")) (text_to (codes "Name") (codes "n") ∷ []))
+upsert_account = upsert_with (codes "Code__c") (Some (codes "A/1")) (text_to (codes "Name") (codes "n") ∷ [])
 
 abbrev pub upserted_so : ℕ → (id created : List ℕ) → ℕ × List ℕ
 upserted_so status id created = (status, codes "{\"id\":\"" ++ id ++ codes "\",\"success\":true,\"errors\":[],\"created\":" ++ created ++ codes "}")

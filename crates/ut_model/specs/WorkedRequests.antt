@@ -1,5 +1,5 @@
 -- A fresh organisation that is asked one request after another, for rows worked by hand. A reader of the rules may pass it over.
-use Rattle.std.specs.Prelude.{ℕ, Bool, true, false, List, [], ◌∷◌, ◌++◌, codes, Option, Some, None, Ok, Err, pos}
+use Rattle.std.specs.Prelude.{ℕ, Bool, false, List, [], ◌∷◌, ◌++◌, codes, Option, Some, None, Ok, Err, pos}
 use Rattle.std.specs.Fmt.{decimal}
 use Rattle.std.specs.Option.{option_map}
 use Rattle.ut_json.specs.declared.tree.Json.TheVariants as json
@@ -52,11 +52,10 @@ user_asks t n =
     option_map (λ u. record { tenant = job_step t; user = u; now = moment; reads = reads_formula }) (user_at t.users (made user_prefix n))
 
 -- the reply, and the organisation afterwards
-abbrev pub replied : Asked → Request → Reply × Tenant
-replied a request = let v = verdict_on a request in (reply_of a v.answer, v.tenant)
-
 abbrev pub called : Tenant → Call → Reply × Tenant
-called t c = in_case (user_asks t c.user) (refusal_reply InvalidSession, t) (λ a. replied a c.request)
+called t c =
+    in_case (user_asks t c.user) (refusal_reply InvalidSession, t) (λ a.
+    let v = verdict_on a c.request in (reply_of a v.answer, v.tenant))
 
 abbrev pub after_calls : Tenant → List Call → Tenant
 after_calls t [] = t

@@ -8,7 +8,7 @@ use Rattle.ut_value.specs.declared.value.Value.TheVariants as value
 use Rattle.ut_soql.specs.declared.query.Item.TheVariants as item
 use Rattle.ut_model.specs.declared.record.Record.{Record}
 use Rattle.ut_model.specs.NewFields.{plain}
-use Rattle.ut_model.specs.Requests.{Request, asks, begins_retype, gets_retype, updates}
+use Rattle.ut_model.specs.Requests.{asks, begins_retype, gets_retype, updates}
 use Rattle.ut_model.specs.Tenant.{Tenant}
 use Rattle.ut_model.specs.WorkedAccess.{admin, field, id_of, item as record_of, object}
 use Rattle.ut_model.specs.WorkedQueries.{path, query, tail}

@@ -1,9 +1,7 @@
 //! What bodies are read as, and messages by their methods and targets, worked by hand.
 
-ghost use Rattle.std.specs.Prelude.{◌≡◌, ◌∷◌, [], codes, false, None, pos, Some};
+ghost use Rattle.std.specs.Prelude.{◌≡◌, ◌∷◌, [], codes, false, None, Some};
 ghost use Rattle.ut_json.specs.declared.tree.Json.TheVariants as json;
-ghost use Rattle.ut_json.specs.declared.tree.Num.TheVariants.{Exact};
-ghost use Rattle.ut_value.specs.declared.sharing.Access.TheVariants as access;
 ghost use Rattle.ut_value.specs.declared.sharing.Level.TheVariants.{Read};
 ghost use Rattle.ut_value.specs.declared.sharing.Principal.TheVariants as to;
 ghost use Rattle.ut_value.specs.declared.value.FieldType.TheVariants as type;
@@ -16,7 +14,7 @@ ghost use Rattle.ut_model.specs.RequestOf.{value_part};
 ghost use Rattle.ut_model.specs.Requests.{adds_group, adds_object, adds_role, adds_sharing_rule, adds_user, shares};
 ghost use Rattle.ut_model.specs.SharingRules.{by_formula};
 ghost use Rattle.ut_model.specs.TypeForms.{type_of};
-ghost use Rattle.ut_model.specs.WorkedForms.{rule_body, share_body, share_read, text_member, user_body, validation_body};
+ghost use Rattle.ut_model.specs.WorkedForms.{by_text, from_role, number_member, object_body, private_object, rule_body, share_body, share_read, text_member, type_body, user_body, validation_body};
 
 /// Bodies with listed members. The call does nothing.
 pub fn form_rows()
@@ -24,17 +22,18 @@ pub fn form_rows()
     ensures level { share_request (share_body (codes "Full") []) ≡ None }
     ensures twice { share_request (share_body (codes "Edit") (text_member (codes "to") (codes "user:x") ∷ [])) ≡ None }
     ensures unknown { share_request (share_body (codes "Edit") (text_member (codes "More") (codes "x") ∷ [])) ≡ None }
-    ensures lacking { share_request (text_member (codes "to") (codes "user:x") ∷ text_member (codes "level") (codes "Edit") ∷ []) ≡ None }
-    ensures object { object_request (text_member (codes "access") (codes "Private") ∷ text_member (codes "name") (codes "A__c") ∷ [])
-        ≡ Some (adds_object (record { members = codes "access" ∷ codes "name" ∷ []; name = codes "A__c"; access = access.Private; master = None })) }
-    ensures no_master { object_request (text_member (codes "access") (codes "ControlledByParent") ∷ text_member (codes "name") (codes "A__c") ∷ []) ≡ None }
+    ensures lacking { share_request (text_member (codes "to") (codes "user:x") ∷ text_member (codes "level") (codes "Edit") ∷ [])
+        ≡ None }
+    ensures object { object_request (object_body (codes "Private")) ≡ Some (adds_object private_object) }
+    ensures no_master { object_request (object_body (codes "ControlledByParent")) ≡ None }
     ensures user { user_request (user_body (codes "abcdefghijklmnop"))
         ≡ Some (adds_user (record { name = codes "Ron"; secret = codes "abcdefghijklmnop"; role = None; admin = false })) }
     ensures short_secret { user_request (user_body (codes "abc")) ≡ None }
-    ensures role { role_request (text_member (codes "name") (codes "R") ∷ text_member (codes "parent") (codes "x") ∷ []) ≡ Some (adds_role (codes "R") (Some (codes "x"))) }
+    ensures role { role_request (text_member (codes "name") (codes "R") ∷ text_member (codes "parent") (codes "x") ∷ [])
+        ≡ Some (adds_role (codes "R") (Some (codes "x"))) }
     ensures group { group_request (text_member (codes "name") [] ∷ []) ≡ Some (adds_group []) }
     ensures no_message { validation_request (validation_body []) ≡ None }
-    ensures formula { sharing_rule_request (rule_body (text_member (codes "formula") (codes "TRUE") ∷ []))
+    ensures formula { sharing_rule_request (rule_body (by_text ∷ []))
         ≡ Some (adds_sharing_rule (record {
           members = codes "object" ∷ codes "name" ∷ codes "to" ∷ codes "level" ∷ codes "formula" ∷ [];
           object = codes "A__c";
@@ -43,7 +42,7 @@ pub fn form_rows()
           to = record { kind = to.Role; text = codes "r" };
           level = Read;
         })) }
-    ensures two_sources { sharing_rule_request (rule_body (text_member (codes "formula") (codes "TRUE") ∷ text_member (codes "from") (codes "role:r") ∷ [])) ≡ None }
+    ensures two_sources { sharing_rule_request (rule_body (by_text ∷ from_role ∷ [])) ≡ None }
     ensures no_source { sharing_rule_request (rule_body []) ≡ None }
 {}
 
@@ -52,13 +51,14 @@ pub fn spelling_rows()
     ensures no_colon { principal_in (codes "user") ≡ None }
     ensures other_kind { principal_in (codes "User:x") ≡ None }
     ensures no_id { principal_in (codes "group:") ≡ Some (record { kind = to.Group; text = [] }) }
-    ensures number { type_of (text_member (codes "kind") (codes "Number") ∷ (codes "digits", json.Number (Exact (pos 600000000))) ∷ (codes "decimals", json.Number (Exact (pos 0))) ∷ [])
+    ensures number { type_of (type_body (codes "Number") (number_member (codes "digits") 600000000 ∷ number_member (codes "decimals") 0 ∷ []))
         ≡ Some (plain (type.Number 6 0)) }
-    ensures half { type_of (text_member (codes "kind") (codes "Text") ∷ (codes "length", json.Number (Exact (pos 2050000000))) ∷ []) ≡ None }
-    ensures too_long { type_of (text_member (codes "kind") (codes "Text") ∷ (codes "length", json.Number (Exact (pos 25600000000))) ∷ []) ≡ None }
+    ensures half { type_of (type_body (codes "Text") (number_member (codes "length") 2050000000 ∷ [])) ≡ None }
+    ensures too_long { type_of (type_body (codes "Text") (number_member (codes "length") 25600000000 ∷ [])) ≡ None }
     ensures ignored { assignments (text_member (codes "attributes") (codes "x") ∷ text_member (codes "Name") (codes "n") ∷ [])
         ≡ Some (record { field = codes "Name"; given = in_json (json.Text (codes "n")) } ∷ []) }
-    ensures same_name { assignments (text_member (codes "name") (codes "x") ∷ text_member (codes "Name") (codes "n") ∷ []) ≡ None }
+    ensures same_name { assignments (text_member (codes "name") (codes "x") ∷ text_member (codes "Name") (codes "n") ∷ [])
+        ≡ None }
     ensures key { value_part (codes "A%2F1+2") ≡ Some (codes "A/1+2") }
     ensures no_key { value_part (codes "%FF") ≡ None }
     ensures no_utf8 { body_in (255 ∷ []) ≡ None }

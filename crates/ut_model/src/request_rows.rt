@@ -11,13 +11,15 @@ ghost use Rattle.ut_model.specs.WorkedSharing.{account_is, ask_contacts, contact
 pub fn object_request_rows()
     ensures added { said start [] add_deals ≡ done_so }
     ensures no_rows { said start (add_deals ∷ []) (by_admin (all_of deal_object)) ≡ rows_so 0 [] }
-    ensures again { said start (add_deals ∷ []) add_deals ≡ refused_so 400 (codes "DUPLICATE_DEVELOPER_NAME") (codes "Deal__c is taken") }
+    ensures again { said start (add_deals ∷ []) add_deals
+        ≡ refused_so 400 (codes "DUPLICATE_DEVELOPER_NAME") (codes "Deal__c is taken") }
 {}
 
 /// What people do with one another's records. The call does nothing.
 pub fn people_request_rows()
     ensures made { said start (people ++ add_deals ∷ []) make_deal ≡ made_so (codes "a00000000000008AAA") }
-    ensures seen_above { said start deal_made (by 6 (all_of deal_object)) ≡ rows_so 1 (deal_row (codes "a00000000000008AAA")) }
+    ensures seen_above { said start deal_made (by 6 (all_of deal_object))
+        ≡ rows_so 1 (deal_row (codes "a00000000000008AAA")) }
     ensures unseen_beside { said start deal_made (by 7 (all_of deal_object)) ≡ rows_so 0 [] }
     ensures hidden { said start deal_made (by 7 (rename (codes "a00000000000008AAA"))) ≡ not_found }
     ensures renamed { said start deal_made (by 6 (rename (codes "a00000000000008AAA"))) ≡ done_so }
@@ -39,12 +41,15 @@ pub fn criteria_request_rows()
     ensures shown { said start open_made (by 7 (all_of deal_object)) ≡ rows_so 1 (deal_row (codes "a0000000000000AAAQ")) }
     ensures not_edited { said start open_made (by 7 (stage_to (codes "Shut"))) ≡ denied_so }
     ensures shut { said start open_made (by 5 (stage_to (codes "Shut"))) ≡ done_so }
-    ensures hidden { said start (open_made ++ by 5 (stage_to (codes "Shut")) ∷ []) (by 7 (all_of deal_object)) ≡ rows_so 0 [] }
+    ensures hidden { said start (open_made ++ by 5 (stage_to (codes "Shut")) ∷ []) (by 7 (all_of deal_object))
+        ≡ rows_so 0 [] }
 {}
 
 /// Paths through a record that the caller can't read, in JSON. The call does nothing.
 pub fn path_request_rows()
     ensures row { said start contact_made (by 7 (ask_contacts None)) ≡ rows_so 1 contact_row }
-    ensures is_null { said start contact_made (by 7 (ask_contacts (account_is op.Equal literal.Null))) ≡ rows_so 1 contact_row }
-    ensures is_not_x { said start contact_made (by 7 (ask_contacts (account_is op.NotEqual (literal.Text (codes "x"))))) ≡ rows_so 1 contact_row }
+    ensures is_null { said start contact_made (by 7 (ask_contacts (account_is op.Equal literal.Null)))
+        ≡ rows_so 1 contact_row }
+    ensures is_not_x { said start contact_made (by 7 (ask_contacts (account_is op.NotEqual (literal.Text (codes "x")))))
+        ≡ rows_so 1 contact_row }
 {}

@@ -148,8 +148,10 @@ fn write_page<W: Sink>(sink: &mut W, page: &Page) -> Result<u8, IoFail>
     ensures cause { Cause (W.faults sink.old) (W.faults sink.new) (IsErr result) }
     ensures stays { W.stays sink.old sink.new }
 {
-    write_all(sink, page.text())?;
-    Ok(page.status())
+    match write_all(sink, page.text()) {
+        Ok(()) => Ok(page.status()),
+        Err(fail) => Err(fail),
+    }
 }
 
 /// Answers a query over the CSV text of the source.

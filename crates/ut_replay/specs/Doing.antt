@@ -4,7 +4,6 @@ use Rattle.ut_keeper.specs.declared.keeper.KeepFail.{KeepFail}
 use Rattle.ut_keeper.specs.declared.keeper.KeepFail.TheVariants as keeping
 use Rattle.ut_replay.specs.Lines.{HasFault, Says}
 use Rattle.ut_replay.specs.Reports.{report_of}
-use Rattle.ut_replay.specs.declared.line.Fault.{Fault}
 use Rattle.ut_replay.specs.declared.line.Fault.TheVariants.{NotFirst}
 use Rattle.ut_replay.specs.declared.line.Line.{Line}
 use Rattle.ut_replay.specs.declared.line.Line.TheVariants.{Keeper, Note, Rows, Run}

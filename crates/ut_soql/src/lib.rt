@@ -13,7 +13,10 @@ mod lexer;
 mod marks;
 mod query;
 mod quoted;
+mod sign;
 mod token;
+mod values;
+mod words;
 mod worked;
 
 pub use crate::asking::{asked_object, asks_for_rows};

@@ -8,9 +8,14 @@
 
 mod asking;
 mod characters;
+mod clauses;
+mod conditions;
+mod items;
 mod laws;
 mod lexer;
 mod marks;
+mod parsing;
+mod paths;
 mod query;
 mod quoted;
 mod sign;
@@ -22,8 +27,10 @@ mod worked;
 pub use crate::asking::{asked_object, asks_for_rows};
 pub use crate::laws::{asking_rows, token_laws};
 pub use crate::lexer::tokens;
+pub use crate::parsing::{parse, spelling_laws};
 pub use crate::query::{
     Cond, Item, LikePart, LikePattern, Literal, Op, OrderKey, Path, Query, Tail,
 };
 pub use crate::token::{Mark, Piece, Placed, Token};
 pub use crate::worked::like_rows;
+pub use ut_grammar::ParseFail;

@@ -121,3 +121,13 @@ pub fn count_in(most: u32, sign: &Sign) -> Option<u32>
         _ => None,
     }
 }
+
+/// A number of digits alone, if it is at most 2,000.
+pub fn small_count(sign: &Sign) -> Option<u16>
+    ensures { result ≡ grammar.count_in 2000 sign.now }
+{
+    match sign {
+        Sign::Number(_, Some(n)) => { if *n <= 2000 { Some(*n as u16) } else { None } }
+        _ => None,
+    }
+}

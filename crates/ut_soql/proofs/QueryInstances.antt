@@ -59,7 +59,7 @@ directed_exact =
     both_exact kind g.path spec.path (0 ∷ 1 ∷ 2 ∷ 3 ∷ []) (29 ∷ []) false (λ _. g.optional (one descending_in) false) (λ _. spec.direction) (16 ∷ []) (16 ∷ []) true
     path_exact (λ _. direction_exact) refl
 
-key_exact : Exact kind g.key spec.key (0 ∷ 1 ∷ 2 ∷ 3 ∷ []) (17 ∷ 16 ∷ 29 ∷ []) false
+pub key_exact : Exact kind g.key spec.key (0 ∷ 1 ∷ 2 ∷ 3 ∷ []) (17 ∷ 16 ∷ 29 ∷ []) false
 unfolding spec.key
 key_exact =
     pair_exact_0 kind (λ d n. record { path = d.0; descending = d.1; nulls_last = n }) g.directed spec.directed (0 ∷ 1 ∷ 2 ∷ 3 ∷ []) (16 ∷ 29 ∷ [])

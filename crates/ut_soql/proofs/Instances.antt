@@ -1,5 +1,5 @@
 -- Each function that reads paths, literals and conditions is exact for its part of the grammar.
-use Rattle.std.proofs.Common.{◌≡◌, ℕ, zero, suc, Bool, true, false, if◌then◌else◌, ◌==◌, List, [], ◌∷◌, ◌++◌, Option, Some, None, Ok, Err, refl}
+use Rattle.std.proofs.Common.{◌≡◌, ℕ, zero, suc, Bool, true, false, if◌then◌else◌, ◌==◌, List, [], ◌∷◌, ◌++◌, Some, Ok, Err, refl}
 use Rattle.ut_grammar.specs.Part.{Part, one, empty, both, either, as_value}
 use Rattle.ut_grammar.specs.Part as part
 use Rattle.ut_grammar.specs.Reader.{Outcome, Reader, ◌>>=◌, read_one, read_as, read_empty, read_either, elem, begins_with, with_front}

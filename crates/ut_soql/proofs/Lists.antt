@@ -1,5 +1,5 @@
 -- The turns of the loops that read lists.
-use Rattle.std.proofs.Common.{◌≡◌, ℕ, suc, zero, ◌-◌, ◌<◌, ◌≢◌, true, false, List, [], ◌∷◌, ◌++◌, length, Ok, Err, refl, append-nil, arith}
+use Rattle.std.proofs.Common.{◌≡◌, ℕ, suc, zero, ◌-◌, ◌≢◌, true, false, List, [], ◌∷◌, ◌++◌, Ok, Err, refl, append-nil, arith}
 use Rattle.ut_grammar.specs.Part as part
 use Rattle.ut_grammar.specs.Reader as reader
 use Rattle.ut_grammar.specs.Reader.{begins_with, with_front}

@@ -1,5 +1,5 @@
 -- Each function that reads clauses and whole queries is exact for its part of the grammar.
-use Rattle.std.proofs.Common.{◌≡◌, ℕ, zero, suc, Bool, true, false, List, [], ◌∷◌, ◌++◌, Option, Some, None, refl, ◌∙◌}
+use Rattle.std.proofs.Common.{◌≡◌, ℕ, zero, suc, Bool, true, false, List, [], ◌∷◌, Some, None, refl, ◌∙◌}
 use Rattle.ut_grammar.specs.Part.{Part, one, empty, both, either, many, as_value}
 use Rattle.ut_grammar.specs.Part as part
 use Rattle.ut_grammar.specs.Reader.{Reader, read_empty, read_either, elem}

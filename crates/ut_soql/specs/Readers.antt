@@ -1,5 +1,5 @@
 -- Reading of queries, by a function on what the grammar sees of tokens, one for each part of the grammar.
-use Rattle.std.specs.Prelude.{ℕ, zero, suc, ◌==◌, Bool, true, false, if◌then◌else◌, List, [], ◌∷◌, Option, Some, None, Ok}
+use Rattle.std.specs.Prelude.{ℕ, zero, suc, Bool, true, false, List, [], ◌∷◌, Option, Some, None, Ok}
 use Rattle.ut_grammar.specs.Reader.{Reader, ◌>>=◌, read_one, read_empty, read_either, repeat, with_front}
 use Rattle.ut_grammar.specs.Reader as reader
 use Rattle.ut_soql.specs.Grammar.{name_in, operator_in, literal_in, pattern_in, descending_in, last_in, count_in, left_behind}

@@ -1,6 +1,6 @@
 -- What the grammar of queries sees of a token: keywords, names, numbers, days, moments, texts, operators and marks.
 -- Source of the words and marks: Salesforce, "SOQL and SOSL Reference". Which of them queries have is this product's own.
-use Rattle.std.specs.Prelude.{ℕ, ◌/◌, ◌*◌, ◌^◌, Bool, true, false, ◌&&◌, ◌||◌, ◌==◌, nat_le, if◌then◌else◌, List, [], ◌∷◌, map, Option, Some, None, Result, Ok, Err, codes, bytes_eq, encode_utf8_all, ℤ, pos, negsuc}
+use Rattle.std.specs.Prelude.{ℕ, ◌/◌, Bool, true, false, ◌&&◌, ◌||◌, ◌==◌, nat_le, if◌then◌else◌, List, map, Option, Some, None, Result, Ok, codes, bytes_eq, encode_utf8_all, ℤ, pos, negsuc}
 use Rattle.std.specs.Char.{to_ascii_lowercase}
 use Rattle.std.specs.List.{list_all}
 use Rattle.ut_grammar.specs.Counts.{number_count}

@@ -241,7 +241,10 @@ fn sourced(alloc: Global, signs: &[Sign]) -> Result<((Text, Option<Cond>), &[Sig
 }
 
 #[tactic(auto, unfolding(crate::specs::Readers::ordered))]
-fn ordered(alloc: Global, signs: &[Sign]) -> Result<(((Text, Option<Cond>), Items<OrderKey>), &[Sign]), Fail>
+fn ordered(
+    alloc: Global,
+    signs: &[Sign],
+) -> Result<(((Text, Option<Cond>), Items<OrderKey>), &[Sign]), Fail>
     ensures value { Gives (λ x. (x.0, x.1.now)) result (spec.ordered signs.now) }
     ensures shorter { IfOk result (λ x. length x.1.now < length signs.now) }
 {

@@ -107,7 +107,13 @@ fn more_units(
 // The units that AND or OR joins.
 #[cycle(conditions)]
 #[tactic(auto, unfolding(crate::specs::Readers::joined))]
-fn joined(alloc: Global, levels: usize, code: u8, first: Cond, signs: &[Sign]) -> Result<(Items<Cond>, &[Sign]), Fail>
+fn joined(
+    alloc: Global,
+    levels: usize,
+    code: u8,
+    first: Cond,
+    signs: &[Sign],
+) -> Result<(Items<Cond>, &[Sign]), Fail>
     ensures value { Gives (λ x. (x.0, x.1.now)) result (spec.joined (spec.unit levels) code first signs.now) }
     ensures shorter { IfOk result (λ x. length x.1.now ≤ length signs.now) }
 {
@@ -120,7 +126,12 @@ fn joined(alloc: Global, levels: usize, code: u8, first: Cond, signs: &[Sign]) -
 
 #[cycle(conditions)]
 #[tactic(auto, unfolding(crate::specs::Readers::conjunction))]
-fn conjunction(alloc: Global, levels: usize, first: Cond, signs: &[Sign]) -> Result<(Cond, &[Sign]), Fail>
+fn conjunction(
+    alloc: Global,
+    levels: usize,
+    first: Cond,
+    signs: &[Sign],
+) -> Result<(Cond, &[Sign]), Fail>
     ensures value { Gives (λ x. (x.0, x.1.now)) result (spec.conjunction (spec.unit levels) first signs.now) }
     ensures shorter { IfOk result (λ x. length x.1.now ≤ length signs.now) }
 {
@@ -130,7 +141,12 @@ fn conjunction(alloc: Global, levels: usize, first: Cond, signs: &[Sign]) -> Res
 
 #[cycle(conditions)]
 #[tactic(auto, unfolding(crate::specs::Readers::disjunction))]
-fn disjunction(alloc: Global, levels: usize, first: Cond, signs: &[Sign]) -> Result<(Cond, &[Sign]), Fail>
+fn disjunction(
+    alloc: Global,
+    levels: usize,
+    first: Cond,
+    signs: &[Sign],
+) -> Result<(Cond, &[Sign]), Fail>
     ensures value { Gives (λ x. (x.0, x.1.now)) result (spec.disjunction (spec.unit levels) first signs.now) }
     ensures shorter { IfOk result (λ x. length x.1.now ≤ length signs.now) }
 {

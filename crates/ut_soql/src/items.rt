@@ -5,7 +5,6 @@ ghost use Rattle.ut_grammar.specs.Reader as reader;
 ghost use Rattle.ut_grammar.specs.Reader.{Gives, with_front};
 ghost use Rattle.ut_soql.specs.Readers as spec;
 ghost use Rattle.ut_soql.specs.Signs.{kind};
-
 ghost use Rattle.ut_soql.specs.Grammar.{left_behind};
 
 use crate::clauses::tail;

@@ -1,9 +1,10 @@
-//! Query texts: their tokens, and queries as they are held.
+//! Query texts: their tokens, the query that a text spells, and queries as they are held.
 //!
-//! It depends on the texts and lists of `ut_value`. Its contract: a text's tokens are those that the relation `AreTokens`
-//! gives it, with the byte at which each begins; every text has tokens, and only one list of them. Of the grammar it knows
-//! the one form `SELECT Id, Name FROM OBJECT`, whose object `asked_object` returns. Which texts are like a pattern is the
-//! definition `like`, with worked rows.
+//! It depends on `ut_value` and `ut_grammar`. Its contract: `parse` returns a query exactly where the text spells one, and then
+//! that one, and refuses all else at exactly the place that the grammar defines. A text's tokens are those that the relation
+//! `AreTokens` gives it, with the byte at which each begins; every text has tokens, and only one list of them. `asked_object`
+//! returns the object of the one form `SELECT Id, Name FROM OBJECT`. Which texts are like a pattern is the definition `like`,
+//! with worked rows.
 #![tactic(auto)]
 
 mod asking;

@@ -70,7 +70,7 @@ SELECT Id FROM T WHERE Name = ^Other
 SELECT Id FROM T WHERE Name = ^= 'a'
 SELECT Id FROM T WHERE Name != 'a'
 SELECT Id FROM T WHERE Name ^! = 'a'
-SELECT Id FROM T WHERE Name ^<> 'a'
+SELECT Id FROM T WHERE Name <^> 'a'
 SELECT Id FROM T WHERE Age__c < 1
 SELECT Id FROM T WHERE Age__c <= 1.50
 SELECT Id FROM T WHERE Age__c > -1

@@ -29,11 +29,16 @@ fn marked(alloc: Global, row: &str) -> Result<String, Fail> {
 fn refuses_each_text_at_its_place(rt: HostRuntime) -> Result<(), Fail> {
     let alloc = rt.alloc();
     let mut rows = 0u64;
+    let mut wrong = String::new(alloc);
     for row in QUERIES.lines() {
         let found = marked(alloc, row)?;
-        assert!(rt; found.as_str() == row, "at {row}");
+        if found.as_str() != row {
+            wrong.push_str(found.as_str())?;
+            wrong.push('\n')?;
+        }
         rows = rows.saturating_add(1);
     }
+    assert_eq!(rt; wrong.as_str(), "");
     assert_eq!(rt; rows, 187);
     Ok(())
 }

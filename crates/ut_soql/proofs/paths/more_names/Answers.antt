@@ -1,4 +1,4 @@
-use Rattle.std.proofs.Common.{rules, arith, ◌≡◌, ◌<◌, ◌∷◌, [], sym, ◌∙◌}
+use Rattle.std.proofs.Common.{rules, arith, ◌<◌, ◌∷◌, [], sym, ◌∙◌}
 use Rattle.std.proofs.lemmas.Result.{err_from_is_err_and}
 use Rattle.ut_grammar.specs.Reader.{with_front, after}
 use Rattle.ut_grammar.proofs.Lists.{list-ends, list-full, list-turn, list_fails, fails_by}

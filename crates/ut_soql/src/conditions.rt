@@ -1,0 +1,191 @@
+//! Reading of conditions from what the grammar sees of tokens.
+
+ghost use Rattle.std.specs.Prelude.{◌≡◌, ◌<◌, ◌≤◌, length, ◌∷◌, [], IfOk};
+ghost use Rattle.ut_grammar.specs.Reader as reader;
+ghost use Rattle.ut_grammar.specs.Reader.{Gives, with_front};
+ghost use Rattle.ut_soql.specs.Readers as spec;
+ghost use Rattle.ut_soql.specs.Signs.{kind};
+
+use crate::paths::test;
+use crate::query::Cond;
+use crate::sign::Sign;
+use std::alloc::Global;
+use ut_grammar::{Fail, begins_with, skip};
+use ut_value::{Boxed, Items};
+
+const AND: u8 = 4;
+
+const OR: u8 = 5;
+
+const NOT: u8 = 6;
+
+const OPEN: u8 = 26;
+
+const CLOSE: u8 = 27;
+
+// A unit, in which NOT and parentheses nest at most so many levels.
+#[cycle(conditions)]
+fn unit(alloc: Global, levels: usize, signs: &[Sign]) -> Result<(Cond, &[Sign]), Fail>
+    ensures value { Gives (λ x. (x.0, x.1.now)) result (spec.unit levels signs.now) }
+    ensures shorter { IfOk result (λ x. length x.1.now < length signs.now) }
+{
+    if levels == 0 {
+        return test(alloc, signs);
+    }
+    inner(alloc, levels - 1, signs)
+}
+
+#[cycle(conditions)]
+#[tactic(auto, unfolding(crate::specs::Readers::inner))]
+fn inner(alloc: Global, levels: usize, signs: &[Sign]) -> Result<(Cond, &[Sign]), Fail>
+    ensures value { Gives (λ x. (x.0, x.1.now)) result (spec.inner (spec.unit levels) signs.now) }
+    ensures shorter { IfOk result (λ x. length x.1.now < length signs.now) }
+{
+    if begins_with(signs, &[NOT]) {
+        negation(alloc, levels, signs)
+    } else if begins_with(signs, &[OPEN]) {
+        group(alloc, levels, signs)
+    } else {
+        test(alloc, signs)
+    }
+}
+
+#[cycle(conditions)]
+#[tactic(auto, unfolding(crate::specs::Readers::negation))]
+fn negation(alloc: Global, levels: usize, signs: &[Sign]) -> Result<(Cond, &[Sign]), Fail>
+    ensures value { Gives (λ x. (x.0, x.1.now)) result (spec.negation (spec.unit levels) signs.now) }
+    ensures shorter { IfOk result (λ x. length x.1.now < length signs.now) }
+{
+    let (within, rest) = another(alloc, levels, NOT, signs)?;
+    Ok((Cond::Not(Boxed::new(alloc, within)?), rest))
+}
+
+// A condition in parentheses.
+#[cycle(conditions)]
+#[tactic(auto, unfolding(crate::specs::Readers::group))]
+fn group(alloc: Global, levels: usize, signs: &[Sign]) -> Result<(Cond, &[Sign]), Fail>
+    ensures value { Gives (λ x. (x.0, x.1.now)) result (spec.group (spec.unit levels) signs.now) }
+    ensures shorter { IfOk result (λ x. length x.1.now < length signs.now) }
+{
+    let rest = skip(signs, OPEN)?;
+    let (within, rest) = cond_of(alloc, levels, rest)?;
+    let rest = skip(rest, CLOSE)?;
+    Ok((within, rest))
+}
+
+// A unit behind a word of this kind.
+#[cycle(conditions)]
+fn another(alloc: Global, levels: usize, code: u8, signs: &[Sign]) -> Result<(Cond, &[Sign]), Fail>
+    ensures value { Gives (λ x. (x.0, x.1.now)) result (reader.after kind code (spec.unit levels) signs.now) }
+    ensures shorter { IfOk result (λ x. length x.1.now < length signs.now) }
+{
+    let rest = skip(signs, code)?;
+    unit(alloc, levels, rest)
+}
+
+// The units behind the first two, which AND or OR joins.
+#[cycle(conditions)]
+fn more_units(
+    alloc: Global,
+    levels: usize,
+    code: u8,
+    mut all: Items<Cond>,
+    signs: &[Sign],
+) -> Result<(Items<Cond>, &[Sign]), Fail>
+    ensures value { Gives (λ x. (x.0, x.1.now)) result (with_front all (spec.more_units (spec.unit levels) code signs.now)) }
+    ensures shorter { IfOk result (λ x. length x.1.now ≤ length signs.now) }
+{
+    let mut rest = signs;
+    'units: while begins_with(rest, &[code]) {
+        let (found, more) = another(alloc, levels, code, rest)?;
+        all.push(found)?;
+        rest = more;
+    }
+    Ok((all, rest))
+}
+
+// The units that AND or OR joins.
+#[cycle(conditions)]
+#[tactic(auto, unfolding(crate::specs::Readers::joined))]
+fn joined(
+    alloc: Global,
+    levels: usize,
+    code: u8,
+    first: Cond,
+    signs: &[Sign],
+) -> Result<(Items<Cond>, &[Sign]), Fail>
+    ensures value { Gives (λ x. (x.0, x.1.now)) result (spec.joined (spec.unit levels) code first signs.now) }
+    ensures shorter { IfOk result (λ x. length x.1.now ≤ length signs.now) }
+{
+    let mut all = Items::new(alloc);
+    all.push(first)?;
+    let (second, rest) = another(alloc, levels, code, signs)?;
+    all.push(second)?;
+    more_units(alloc, levels, code, all, rest)
+}
+
+#[cycle(conditions)]
+#[tactic(auto, unfolding(crate::specs::Readers::conjunction))]
+fn conjunction(
+    alloc: Global,
+    levels: usize,
+    first: Cond,
+    signs: &[Sign],
+) -> Result<(Cond, &[Sign]), Fail>
+    ensures value { Gives (λ x. (x.0, x.1.now)) result (spec.conjunction (spec.unit levels) first signs.now) }
+    ensures shorter { IfOk result (λ x. length x.1.now ≤ length signs.now) }
+{
+    let (all, rest) = joined(alloc, levels, AND, first, signs)?;
+    Ok((Cond::And(all), rest))
+}
+
+#[cycle(conditions)]
+#[tactic(auto, unfolding(crate::specs::Readers::disjunction))]
+fn disjunction(
+    alloc: Global,
+    levels: usize,
+    first: Cond,
+    signs: &[Sign],
+) -> Result<(Cond, &[Sign]), Fail>
+    ensures value { Gives (λ x. (x.0, x.1.now)) result (spec.disjunction (spec.unit levels) first signs.now) }
+    ensures shorter { IfOk result (λ x. length x.1.now ≤ length signs.now) }
+{
+    let (all, rest) = joined(alloc, levels, OR, first, signs)?;
+    Ok((Cond::Or(all), rest))
+}
+
+// The condition that a first unit and what is behind it make.
+#[cycle(conditions)]
+#[tactic(auto, unfolding(crate::specs::Readers::chain))]
+fn chain(alloc: Global, levels: usize, first: Cond, signs: &[Sign]) -> Result<(Cond, &[Sign]), Fail>
+    ensures value { Gives (λ x. (x.0, x.1.now)) result (spec.chain (spec.unit levels) first signs.now) }
+    ensures shorter { IfOk result (λ x. length x.1.now ≤ length signs.now) }
+{
+    if begins_with(signs, &[AND]) {
+        conjunction(alloc, levels, first, signs)
+    } else if begins_with(signs, &[OR]) {
+        disjunction(alloc, levels, first, signs)
+    } else {
+        Ok((first, signs))
+    }
+}
+
+// A condition whose units nest at most so many levels.
+#[cycle(conditions)]
+#[tactic(auto, unfolding(crate::specs::Readers::cond_of))]
+fn cond_of(alloc: Global, levels: usize, signs: &[Sign]) -> Result<(Cond, &[Sign]), Fail>
+    ensures value { Gives (λ x. (x.0, x.1.now)) result (spec.cond_of (spec.unit levels) signs.now) }
+    ensures shorter { IfOk result (λ x. length x.1.now < length signs.now) }
+{
+    let (first, rest) = unit(alloc, levels, signs)?;
+    chain(alloc, levels, first, rest)
+}
+
+/// A whole condition.
+#[tactic(auto, unfolding(crate::specs::Readers::condition))]
+pub fn condition(alloc: Global, signs: &[Sign]) -> Result<(Cond, &[Sign]), Fail>
+    ensures value { Gives (λ x. (x.0, x.1.now)) result (spec.condition signs.now) }
+    ensures shorter { IfOk result (λ x. length x.1.now < length signs.now) }
+{
+    cond_of(alloc, 32, signs)
+}

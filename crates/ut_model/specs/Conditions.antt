@@ -58,8 +58,8 @@ as_day (value.Moment second) = value.Day (day_of_moment second)
 as_day v = v
 
 -- a value beside a literal: beside a day by the clock a moment counts as its day
-abbrev pub taken : Literal → Value → Value
-taken l v = if is_by_clock l then as_day v else v
+abbrev pub compared_as : Literal → Value → Value
+compared_as l v = if is_by_clock l then as_day v else v
 
 -- ---- tests
 
@@ -78,7 +78,7 @@ compares op.GreaterEqual a b = both_there is_ge a b
 
 -- a value compared with a literal, at a moment
 abbrev pub passes : ℤ → Op → Value → Literal → Bool
-passes now o v l = compares o (taken l v) (meant now v l)
+passes now o v l = compares o (compared_as l v) (meant now v l)
 
 -- a text like a pattern; null is like none
 abbrev pub is_like : List LikePart → Value → Bool

@@ -43,8 +43,8 @@ abbrev pub group_request : Body → Option Request
 group_request body = formed (codes "name" ∷ []) [] body >>= λ b. text_in b (codes "name") >>= λ name. Some (adds_group name)
 
 -- what tells principals apart: the kind, and the id or, where the text is none, the text
-abbrev pub sign_of : Spelled → List ℕ
-sign_of p = kind_number (principal_of p) ∷ unwrap_or (id_in p.text) p.text
+abbrev pub identity_of : Spelled → List ℕ
+identity_of p = kind_number (principal_of p) ∷ unwrap_or (id_in p.text) p.text
 
 -- other members of the group whose id is in the path, all different
 abbrev pub members_request : (id : List ℕ) → Body → Option Request
@@ -52,7 +52,7 @@ members_request id body =
     formed (codes "members" ∷ []) [] body >>= λ b.
     list_in b (codes "members") >>= λ items.
     all_there (map (λ v. as_text v >>= principal_in) items) >>= λ members.
-    where_so (texts_differ (map sign_of members)) (sets_group id members)
+    where_so (texts_differ (map identity_of members)) (sets_group id members)
 
 -- ---- the change of a field's type
 abbrev pub retype_request : Body → Option Request

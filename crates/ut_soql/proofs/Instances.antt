@@ -131,8 +131,8 @@ ending_exact p =
     (either_exact kind _ _ (spec.likeness p) (read_either kind (7 ∷ []) (spec.membership p) (spec.exclusion p)) (8 ∷ []) [] (7 ∷ 6 ∷ []) [] false (likeness_exact p)
     (either_exact kind _ _ (spec.membership p) (spec.exclusion p) (7 ∷ []) [] (6 ∷ []) [] false (membership_exact p) (exclusion_exact p) refl) refl) refl
 
-test_exact : Exact kind g.test spec.test (0 ∷ 1 ∷ 2 ∷ 3 ∷ []) [] false
-unfolding spec.test
+test_exact : Exact kind g.test spec.of_path (0 ∷ 1 ∷ 2 ∷ 3 ∷ []) [] false
+unfolding spec.of_path
 test_exact = then_exact kind g.path spec.path (0 ∷ 1 ∷ 2 ∷ 3 ∷ []) (29 ∷ []) g.ending spec.ending (25 ∷ 8 ∷ 7 ∷ 6 ∷ []) [] path_exact ending_exact refl
 
 -- ---- conditions, over what reads a unit
@@ -202,9 +202,9 @@ pub unit_exact : (levels : ℕ) → Exact kind (g.unit levels) (spec.unit levels
 unfolding g.unit spec.unit spec.inner spec.negation spec.group
 unit_exact zero = wider_first kind unit_firsts (λ k h. or_right (k == 6) _ (or_right (k == 26) _ h)) test_exact
 unit_exact (suc n) =
-    either_exact kind _ _ (spec.negation (spec.unit n)) (read_either kind (26 ∷ []) (spec.group (spec.unit n)) spec.test) (6 ∷ []) [] (26 ∷ 0 ∷ 1 ∷ 2 ∷ 3 ∷ []) [] false
+    either_exact kind _ _ (spec.negation (spec.unit n)) (read_either kind (26 ∷ []) (spec.group (spec.unit n)) spec.of_path) (6 ∷ []) [] (26 ∷ 0 ∷ 1 ∷ 2 ∷ 3 ∷ []) [] false
     (as_exact kind c.Not (part.after kind 6 (g.unit n)) (reader.after kind 6 (spec.unit n)) (6 ∷ []) [] false (after_exact kind 6 (g.unit n) (spec.unit n) unit_firsts [] (unit_exact n)))
-    (either_exact kind _ _ (spec.group (spec.unit n)) spec.test (26 ∷ []) [] (0 ∷ 1 ∷ 2 ∷ 3 ∷ []) [] false
+    (either_exact kind _ _ (spec.group (spec.unit n)) spec.of_path (26 ∷ []) [] (0 ∷ 1 ∷ 2 ∷ 3 ∷ []) [] false
     (in_parentheses_exact (g.cond_of (g.unit n)) (spec.cond_of (spec.unit n)) unit_firsts (4 ∷ 5 ∷ 5 ∷ 4 ∷ []) (cond_of_exact (g.unit n) (spec.unit n) unit_firsts (unit_exact n) refl) refl)
     test_exact refl) refl
 

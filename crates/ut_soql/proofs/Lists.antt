@@ -45,7 +45,7 @@ unfolding spec.unit
 unit-suc zero ts h = absurd (h refl)
 unit-suc (suc n) ts h = let e : suc n - 1 ≡ n = omega arith in rw e refl
 
-pub unit-zero : (levels : ℕ) (ts : List Sign) → levels ≡ 0 → spec.test ts ≡ spec.unit levels ts
+pub unit-zero : (levels : ℕ) (ts : List Sign) → levels ≡ 0 → spec.of_path ts ≡ spec.unit levels ts
 unfolding spec.unit
 unit-zero levels ts h = rw h refl
 

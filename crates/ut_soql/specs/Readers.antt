@@ -89,8 +89,8 @@ unfoldable pub ending : Path → Reads Cond
 ending p =
     read_either kind (25 ∷ []) (comparison p) (read_either kind (8 ∷ []) (likeness p) (read_either kind (7 ∷ []) (membership p) (exclusion p)))
 
-unfoldable pub test : Reads Cond
-test ts = path ts >>= λ p. ending p.0 p.1
+unfoldable pub of_path : Reads Cond
+of_path ts = path ts >>= λ p. ending p.0 p.1
 
 module _ (unit : Reads Cond) where
   -- the units behind AND, by 4, or OR, by 5
@@ -120,10 +120,10 @@ module _ (unit : Reads Cond) where
   group = in_parentheses cond_of
 
   unfoldable pub inner : Reads Cond
-  inner = read_either kind (6 ∷ []) negation (read_either kind (26 ∷ []) group test)
+  inner = read_either kind (6 ∷ []) negation (read_either kind (26 ∷ []) group of_path)
 
 unfoldable pub unit : ℕ → Reads Cond
-unit zero = test
+unit zero = of_path
 unit (suc levels) = inner (unit levels)
 
 unfoldable pub condition : Reads Cond

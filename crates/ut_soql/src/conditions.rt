@@ -6,7 +6,7 @@ ghost use Rattle.ut_grammar.specs.Reader.{Gives, with_front};
 ghost use Rattle.ut_soql.specs.Readers as spec;
 ghost use Rattle.ut_soql.specs.Signs.{kind};
 
-use crate::paths::test;
+use crate::paths::of_path;
 use crate::query::Cond;
 use crate::sign::Sign;
 use std::alloc::Global;
@@ -30,7 +30,7 @@ fn unit(alloc: Global, levels: usize, signs: &[Sign]) -> Result<(Cond, &[Sign]),
     ensures shorter { IfOk result (λ x. length x.1.now < length signs.now) }
 {
     if levels == 0 {
-        return test(alloc, signs);
+        return of_path(alloc, signs);
     }
     inner(alloc, levels - 1, signs)
 }
@@ -46,7 +46,7 @@ fn inner(alloc: Global, levels: usize, signs: &[Sign]) -> Result<(Cond, &[Sign])
     } else if begins_with(signs, &[OPEN]) {
         group(alloc, levels, signs)
     } else {
-        test(alloc, signs)
+        of_path(alloc, signs)
     }
 }
 

@@ -269,9 +269,9 @@ fn ending(alloc: Global, path: Path, signs: &[Sign]) -> Result<(Cond, &[Sign]), 
     }
 }
 
-#[tactic(auto, unfolding(crate::specs::Readers::test))]
-pub fn test(alloc: Global, signs: &[Sign]) -> Result<(Cond, &[Sign]), Fail>
-    ensures value { Gives (λ x. (x.0, x.1.now)) result (spec.test signs.now) }
+#[tactic(auto, unfolding(crate::specs::Readers::of_path))]
+pub fn of_path(alloc: Global, signs: &[Sign]) -> Result<(Cond, &[Sign]), Fail>
+    ensures value { Gives (λ x. (x.0, x.1.now)) result (spec.of_path signs.now) }
     ensures shorter { IfOk result (λ x. length x.1.now < length signs.now) }
 {
     let (path, rest) = path(alloc, signs)?;

@@ -28,7 +28,7 @@ more_units-returns-clause-value t c =
 
 pub unit-returns-then-levels-eq0-clause-value : goal.unit-returns-then-levels-eq0-clause-value
 unit-returns-then-levels-eq0-clause-value t c =
-    rw (← unit-zero c.args.levels c.args.signs.now c.if-levels-eq0.true) c.test.ensures.value
+    rw (← unit-zero c.args.levels c.args.signs.now c.if-levels-eq0.true) c.of_path.ensures.value
 
 pub unit-returns-clause-value : goal.unit-returns-clause-value
 unit-returns-clause-value t c =

@@ -1,0 +1,23 @@
+//! Any message of a caller: its request is read, judged and answered.
+
+ghost use Rattle.ut_model.specs.Paths.{Asked};
+ghost use Rattle.ut_model.specs.RequestOf.{ReadsQuery, answer_to};
+ghost use Rattle.ut_model.specs.Sound.{IsSound};
+ghost use Rattle.ut_model.specs.SoundFormulas.{AreFormulasSound};
+ghost use Rattle.ut_model.specs.Step.{Message};
+ghost use Rattle.ut_sound.specs.Fit.{IsCaller, ReadsFormulas, SpellsCharacters};
+
+use crate::fits::requests_fit;
+use crate::verdicts::verdicts_sound;
+
+/// What the answer to any message of a caller leaves of a sound organisation is sound, if the texts of its body are characters;
+/// and so are the formulas of rules, if texts are read as a grammar of formulas reads them. The call does nothing.
+pub fn answers_sound()
+    ensures answer { (query_in : ReadsQuery) (a : Asked) (m : Message) → IsCaller a → SpellsCharacters m.body
+        → IsSound a.tenant → IsSound (answer_to query_in a m).1 }
+    ensures formulas { (query_in : ReadsQuery) (a : Asked) (m : Message) → ReadsFormulas a.reads → IsSound a.tenant
+        → AreFormulasSound a.reads a.tenant → AreFormulasSound a.reads (answer_to query_in a m).1 }
+{
+    requests_fit();
+    verdicts_sound();
+}

@@ -1,6 +1,6 @@
 -- What the answer to a caller's message leaves is sound.
-use Rattle.std.proofs.Common.{◌≡◌, ℕ, Bool, true, false, not, ◌&&◌, cond, List, [], ◌∷◌, Option, Some, None, Result, Ok, Err, refl, ap, sym, subst}
-use Rattle.std.specs.Prelude.{is_some, IsTrue}
+use Rattle.std.proofs.Common.{◌≡◌, ℕ, Bool, true, false, not, ◌&&◌, cond, List, [], ◌∷◌, Option, Some, None, Result, Ok, Err, refl, sym, subst}
+use Rattle.std.specs.Prelude.{is_some}
 use Rattle.ut_value.specs.declared.job.Phase.{Phase}
 use Rattle.ut_value.specs.declared.job.Phase.TheVariants as phase
 use Rattle.ut_model.specs.declared.record.Record.{Record}

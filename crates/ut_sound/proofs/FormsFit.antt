@@ -1,5 +1,5 @@
 -- What the form of each body gives.
-use Rattle.std.proofs.Common.{◌≡◌, ℕ, zero, suc, Bool, true, false, not, ◌&&◌, ◌||◌, cond, List, [], ◌∷◌, ◌++◌, map, Option, Some, None, refl, ap, sym, subst, ◌∙◌, ◌⊎◌, inl, inr, bytes_eq, codes}
+use Rattle.std.proofs.Common.{◌≡◌, ℕ, Bool, true, false, not, ◌&&◌, ◌||◌, cond, List, [], ◌∷◌, ◌++◌, map, Option, Some, None, refl, ap, sym, subst, ◌∙◌, bytes_eq, codes}
 use Rattle.std.specs.Prelude.{is_some, is_none}
 use Rattle.std.specs.Bool.{beq}
 use Rattle.std.specs.List.{AllByRecursion, find, flat_map, list_all, list_any}
@@ -20,18 +20,17 @@ use Rattle.ut_model.specs.Forms.{access_request, accesses, all_names, field_requ
 use Rattle.ut_model.specs.Forms.{flags_suit as body_flags}
 use Rattle.ut_model.specs.Members.{Body, all_there, as_text, entry, flag_in, formed, is_one_of, levels, list_in, member_names, object_in, principal_in, text_in, whole_in}
 use Rattle.ut_model.specs.Metadata.{NewMaster}
-use Rattle.ut_model.specs.NewFields.{NewField, SpelledType, lookup_to, plain, type_with}
+use Rattle.ut_model.specs.NewFields.{SpelledType, lookup_to, plain}
 use Rattle.ut_model.specs.Paths.{Asked}
 use Rattle.ut_model.specs.PeopleForms.{retype_request}
-use Rattle.ut_model.specs.Principals.{Spelled}
-use Rattle.ut_model.specs.Requests.{Request, adds_field, adds_object, adds_sharing_rule, adds_validation_rule, begins_retype, sets_object, shares}
+use Rattle.ut_model.specs.Requests.{Request, adds_field}
 use Rattle.ut_model.specs.Retyping.{new_type}
 use Rattle.ut_model.specs.SharingRules.{SpelledSource, by_formula, from}
 use Rattle.ut_model.specs.Sound.{is_name}
 use Rattle.ut_model.specs.SoundMetadata.{implies, may_be_required}
 use Rattle.ut_model.specs.SoundSharing.{is_grant}
 use Rattle.ut_model.specs.TypeForms.{deletions, in_bounds_type, lookup_type, number_type, picklist_type, simple_type, text_type, type_forms, type_in, type_of, where_so}
-use Rattle.ut_sound.specs.Fit.{IsFit, flags_suit, has_member, has_source}
+use Rattle.ut_sound.specs.Fit.{IsFit, has_member, has_source}
 use Rattle.ut_sound.proofs.Parts.{both, both_left, both_right, or_left, or_right, same_exact, same_itself}
 
 -- ---- what is there

@@ -1,5 +1,5 @@
 -- Every request that is read has its form, and so the answer to any message leaves a sound organisation.
-use Rattle.std.proofs.Common.{◌≡◌, ℕ, Bool, true, false, not, ◌&&◌, cond, List, [], ◌∷◌, map, filter, Option, Some, None, Result, Ok, Err, refl, ap, sym, subst, ◌∙◌, bytes_eq, codes}
+use Rattle.std.proofs.Common.{◌≡◌, ℕ, Bool, true, false, not, ◌&&◌, cond, List, [], ◌∷◌, map, filter, Option, Some, None, Result, Ok, Err, refl, ap, subst, ◌∙◌, bytes_eq, codes}
 use Rattle.std.specs.List.{list_all}
 use Rattle.std.specs.Option.{option_map}
 use Rattle.std.specs.Str.{all_scalars, chars, is_utf8}
@@ -8,31 +8,21 @@ use Rattle.ut_json.specs.Reading.{◌>>=◌}
 use Rattle.ut_json.specs.declared.tree.Json.{Json}
 use Rattle.ut_soql.specs.declared.query.Query.{Query}
 use Rattle.ut_value.specs.Texts.{lower, texts_differ}
-use Rattle.ut_value.specs.declared.job.Phase.{Phase}
-use Rattle.ut_value.specs.declared.job.Phase.TheVariants as phase
 use Rattle.ut_model.specs.declared.refusal.Refusal.{Refusal}
-use Rattle.ut_model.specs.declared.record.Record.{Record}
 use Rattle.ut_model.specs.declared.route.Route.{Route}
 use Rattle.ut_model.specs.declared.route.Route.TheVariants as route
-use Rattle.ut_model.specs.declared.routed.Routed.{Routed}
-use Rattle.ut_model.specs.declared.routed.Routed.TheVariants.{NotAllowed, NotFound, To}
 use Rattle.ut_model.specs.Cases.{in_case}
 use Rattle.ut_model.specs.Forms.{access_request, field_request, object_request, share_request, sharing_rule_request, validation_request}
 use Rattle.ut_model.specs.Given.{Assignment, in_json, json_text}
-use Rattle.ut_model.specs.Jobs.{clear_step, copy_step, job_step, next_hundred, step_in}
-use Rattle.ut_model.specs.TypeForms.{where_so}
 use Rattle.ut_model.specs.Members.{Body, all_there, as_text, assignments, body_in, formed, list_in, member_names, principal_in, text_in, text_or_null_in, truth_in}
 use Rattle.ut_model.specs.Organisations.{is_secret}
 use Rattle.ut_model.specs.Paths.{Asked}
 use Rattle.ut_model.specs.PeopleForms.{group_request, members_request, retype_request, role_parent_request, role_request, sign_of, user_request, user_role_request}
-use Rattle.ut_model.specs.RequestOf.{ReadsQuery, answer_to, by_body, query_or, request_of, request_or, value_part, verdict_at, verdict_or}
-use Rattle.ut_model.specs.Requests.{Request, adds_group, adds_role, adds_user, asks, cancels_retype, creates, deletes, gets_retype, removes_sharing_rule, sets_group, sets_role, sets_user, unshares, updates, upserts, verdict_on}
-use Rattle.ut_model.specs.Routing.{is_administration, routed}
+use Rattle.ut_model.specs.RequestOf.{ReadsQuery, by_body, query_or, request_of, request_or, value_part}
+use Rattle.ut_model.specs.Requests.{Request, adds_group, adds_role, asks, cancels_retype, creates, deletes, gets_retype, removes_sharing_rule, sets_role, sets_user, unshares, updates, upserts}
 use Rattle.ut_model.specs.Sound.{IsSound}
-use Rattle.ut_model.specs.Step.{Message, query_text}
-use Rattle.ut_model.specs.Tenant.{Job, Tenant, User}
-use Rattle.ut_model.specs.World.{user_at}
-use Rattle.ut_sound.specs.Fit.{IsCaller, IsFit, SpellsCharacters, is_spelled}
+use Rattle.ut_model.specs.Step.{query_text}
+use Rattle.ut_sound.specs.Fit.{IsFit, SpellsCharacters, is_spelled}
 use Rattle.ut_sound.proofs.FormsFit.{access_fits, bound, field_fits, mapped, object_fits, retype_fits, rule_fits, share_fits, some_is, validation_fits, where_is}
 use Rattle.ut_sound.proofs.GivenFits.{ReadLaw, key_fits, spelled_fits}
 

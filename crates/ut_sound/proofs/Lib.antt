@@ -30,3 +30,4 @@ mod GivenFits
 mod FormsFit
 mod RequestsFit
 mod AnswersSound
+mod WorldSound

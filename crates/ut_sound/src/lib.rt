@@ -17,7 +17,7 @@ mod records;
 mod sharing;
 mod verdicts;
 
-pub use crate::answers::answers_sound;
+pub use crate::answers::{answers_sound, world_sound};
 pub use crate::deletes::deletes_sound;
 pub use crate::fits::{fit_laws, requests_fit};
 pub use crate::formulas::formulas_sound;

@@ -11,7 +11,7 @@ use Rattle.ut_model.specs.Levels.{Reads}
 use Rattle.ut_model.specs.Limits.{limit_number}
 use Rattle.ut_model.specs.RequestOf.{ReadsQuery, answer_to}
 use Rattle.ut_model.specs.Sound.{IsSound, IsWorld}
-use Rattle.ut_model.specs.Step.{Answering, Message, if_called, in_named, in_tenant, named_in, own, refused}
+use Rattle.ut_model.specs.Step.{Message, if_called, in_named, in_tenant, named_in, own, refused}
 use Rattle.ut_model.specs.Tenant.{Tenant, User}
 use Rattle.ut_model.specs.Whole.{answered_whole, whole_step}
 use Rattle.ut_model.specs.World.{World, tenant_at, user_at, user_id, with_id, with_tenant}

@@ -1,5 +1,5 @@
 -- What is read of a body in JSON is of its field's type.
-use Rattle.std.proofs.Common.{◌≡◌, ℕ, zero, suc, ◌+◌, ◌-◌, Bool, true, false, not, ◌&&◌, ◌||◌, cond, List, [], ◌∷◌, ◌++◌, map, take, drop, length, Option, Some, None, refl, ap, sym, subst, ◌∙◌, arith, ◌⊎◌, inl, inr, bytes_eq, slice_get, codes}
+use Rattle.std.proofs.Common.{◌≡◌, ℕ, zero, suc, ◌+◌, ◌-◌, Bool, true, false, not, ◌&&◌, cond, List, [], ◌∷◌, map, take, drop, length, Option, Some, None, refl, ap, sym, subst, ◌∙◌, arith, ◌⊎◌, inl, inr, bytes_eq, slice_get, codes}
 use Rattle.std.specs.Prelude.{Ok, Err, IsTrue, slice_index_or}
 use Rattle.std.specs.Char.{to_ascii_lowercase}
 use Rattle.std.specs.List.{enumerate_from, find, list_all, list_any}
@@ -31,7 +31,7 @@ use Rattle.ut_model.specs.Sound.{IsSound}
 use Rattle.ut_model.specs.SoundMetadata.{IsSoundField, names_differ}
 use Rattle.ut_model.specs.SoundRecords.{all_valid, kinds_of}
 use Rattle.ut_model.specs.Tenant.{Field, Object, Tenant}
-use Rattle.ut_model.specs.Upserts.{key_value, unique_named}
+use Rattle.ut_model.specs.Upserts.{key_value}
 use Rattle.ut_sound.specs.Fit.{OfObjects, ReadsWell, ReadsWellByKey, is_spelled, key_of}
 use Rattle.ut_sound.proofs.Parts.{all_at, among_last, both, both_left, both_right, clash, list_all_at, or_left, or_right, same_exact, same_itself}
 use Rattle.ut_sound.proofs.Changes.{at_has}

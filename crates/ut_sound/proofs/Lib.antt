@@ -27,3 +27,7 @@ mod NumbersMean
 mod AddsFormulas
 mod SwitchFormulas
 mod GivenFits
+mod FormsFit
+mod RequestsFit
+mod AnswersSound
+mod WorldSound

@@ -1,7 +1,7 @@
 -- What the form of a body gives, beyond what the rules of its request ask. Every request that is read has it; a request as data may
 -- lack it, and then what its verdict leaves need not be sound. It is this product's own.
 use Rattle.std.specs.Prelude.{◌≡◌, ℕ, suc, Bool, true, false, not, ◌&&◌, List, [], ◌∷◌, ◌++◌, None, Option, Some, Ok, bytes_eq, codes, slice_get, is_ok, is_some, IsTrue}
-use Rattle.std.specs.List.{list_any}
+use Rattle.std.specs.List.{list_all, list_any}
 use Rattle.std.specs.Str.{all_scalars}
 use Rattle.ut_value.specs.Dates.{is_moment}
 use Rattle.ut_value.specs.Types.{is_reference, is_type, suits_indexed, suits_unique}
@@ -14,6 +14,7 @@ use Rattle.ut_model.specs.Fields.{column, its_value, typed}
 use Rattle.ut_model.specs.Given.{Assignment, Given, in_json, json_text}
 use Rattle.ut_model.specs.Keys.{Key, with_key}
 use Rattle.ut_model.specs.Levels.{Reads}
+use Rattle.ut_model.specs.Members.{Body, body_in}
 use Rattle.ut_model.specs.Metadata.{NewObject}
 use Rattle.ut_model.specs.NewFields.{NewField, SpelledType, plain, lookup_to, type_with}
 use Rattle.ut_model.specs.Objects.{change_at}
@@ -96,6 +97,10 @@ ReadsWell a o given =
 abbrev pub is_spelled : Given → Bool
 is_spelled (in_json j) = all_scalars (json_text j)
 is_spelled _ = false
+
+-- the texts that this body's members are, are characters
+abbrev pub SpellsCharacters : (body : List ℕ) → Type 0
+SpellsCharacters body = (b : Body) → body_in body ≡ Some b → IsTrue (list_all (λ m. all_scalars (json_text m.1)) b)
 
 -- the key of an upsert by this field
 abbrev pub key_of : ℕ × Field → Value → Key

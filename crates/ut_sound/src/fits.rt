@@ -1,14 +1,17 @@
 //! That what is read of a body has the form that the laws take as given.
 
 ghost use Rattle.std.specs.List.{list_all};
-ghost use Rattle.std.specs.Prelude.{IsTrue, List, Option, true, ℕ};
+ghost use Rattle.std.specs.Prelude.{IsTrue, List, Ok, Option, true, ℕ, ◌≡◌};
 ghost use Rattle.std.specs.Str.{all_scalars};
+ghost use Rattle.ut_model.specs.declared.route.Route.{Route};
 ghost use Rattle.ut_model.specs.Cases.{in_case};
 ghost use Rattle.ut_model.specs.Given.{Assignment};
 ghost use Rattle.ut_model.specs.Paths.{Asked};
+ghost use Rattle.ut_model.specs.RequestOf.{ReadsQuery, request_of};
+ghost use Rattle.ut_model.specs.Requests.{Request};
 ghost use Rattle.ut_model.specs.Sound.{IsSound};
 ghost use Rattle.ut_model.specs.Tenant.{Object};
-ghost use Rattle.ut_sound.specs.Fit.{OfObjects, ReadsWell, ReadsWellByKey, is_spelled};
+ghost use Rattle.ut_sound.specs.Fit.{IsFit, OfObjects, ReadsWell, ReadsWellByKey, SpellsCharacters, is_spelled};
 
 use ut_value::value_laws;
 
@@ -19,6 +22,14 @@ pub fn fit_laws()
     ensures key { (a : Asked) (key : List ℕ) (text : Option (List ℕ)) (given : List Assignment) → IsSound a.tenant
         → IsTrue (list_all (λ x. is_spelled x.given) given) → IsTrue (in_case text true all_scalars)
         → OfObjects a (λ o. ReadsWellByKey a key text o given) }
+{
+    value_laws();
+}
+
+/// Every request that is read has its form, if the texts of its body are characters. The call does nothing.
+pub fn requests_fit()
+    ensures request { (a : Asked) (query_in : ReadsQuery) (r : Route) (body : List ℕ) (x : Request) → IsSound a.tenant
+        → SpellsCharacters body → request_of query_in r body ≡ Ok x → IsFit a x }
 {
     value_laws();
 }

@@ -4,6 +4,7 @@
 //! contract: for each request, from a sound organisation its verdict makes a sound one, whatever it answers.
 #![tactic(auto)]
 
+mod answers;
 mod deletes;
 mod fits;
 mod formulas;
@@ -16,8 +17,9 @@ mod records;
 mod sharing;
 mod verdicts;
 
+pub use crate::answers::{answers_sound, world_sound};
 pub use crate::deletes::deletes_sound;
-pub use crate::fits::fit_laws;
+pub use crate::fits::{fit_laws, requests_fit};
 pub use crate::formulas::formulas_sound;
 pub use crate::jobs::jobs_sound;
 pub use crate::kept::formulas_kept;

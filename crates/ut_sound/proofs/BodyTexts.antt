@@ -1,5 +1,6 @@
--- The texts that are read in a body are characters.
-use Rattle.std.proofs.Common.{◌≡◌, ℕ, zero, suc, ◌+◌, ◌-◌, ◌*◌, ◌<◌, ◌⊎◌, inl, inr, Bool, true, false, ◌&&◌, ◌==◌, nat_le, nat_lt, cond, List, [], ◌∷◌, map, Option, Some, None, refl, sym, ◌∙◌, ap, subst, arith}
+-- A body whose bytes are UTF-8 has characters alone in the texts that are its members: what is read of a text of characters is of
+-- characters, and leaves some.
+use Rattle.std.proofs.Common.{◌≡◌, ℕ, zero, suc, ◌+◌, ◌*◌, ◌<◌, inl, inr, Bool, true, false, ◌&&◌, ◌==◌, nat_le, nat_lt, cond, List, [], ◌∷◌, map, Option, Some, None, refl, sym, ◌∙◌, ap, subst, arith}
 use Rattle.std.specs.List.{AllByRecursion, list_all}
 use Rattle.std.specs.Char.{digit_value}
 use Rattle.std.specs.Str.{all_scalars, chars, is_utf8}
@@ -8,7 +9,7 @@ use Rattle.std.proofs.lemmas.Bool.Decides.{nat_tests}
 use Rattle.std.proofs.lemmas.Str.{IsUtf8-from_is_utf8, scalars-chars}
 use Rattle.ut_value.specs.Numerals.{is_digit}
 use Rattle.ut_json.specs.Characters.{Part, after_digits, after_spaces, code_unit, is_high, is_low, is_space, paired, short_escape}
-use Rattle.ut_json.specs.Grammar.{Character, CharacterAs, Content, Element, Escape, IsText, Items, Listed, Pair, Quoted, Sort, Unit_escape, Value, ValueAs, array, depth, falsehood, never, null, number, object, pair, short, string, truth, unescaped, unit}
+use Rattle.ut_json.specs.Grammar.{CharacterAs, Content, Element, Escape, IsText, Items, Listed, Pair, Quoted, Sort, Unit_escape, Value, ValueAs, array, depth, falsehood, never, null, number, object, pair, short, string, truth, unescaped, unit}
 use Rattle.ut_json.specs.Numerals.{Digits, Exponent, Fraction, Minus, Numeral, Power_sign}
 use Rattle.ut_json.specs.Reading.{◌>>=◌, text as json_in}
 use Rattle.ut_json.specs.declared.tree.Json.{Json, out-Json, out-roll-Json, roll-Json}
@@ -178,7 +179,7 @@ module _ {A : Type 0} (item : Part A) (P : A → Type 0) (keeps : Keeps item P) 
 abbrev texts : Body → Bool
 texts b = list_all (λ (m : List ℕ × Json). all_scalars (json_text m.1)) b
 
--- a value that is a text of characters, or whose members are
+-- if the value is a text, it is of characters; if it is an object, so are its members that are texts
 abbrev Good : Json → Type 0
 Good v = Told (json_text v) × (in_case (object_in v) true texts ≡ true)
 

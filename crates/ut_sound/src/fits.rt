@@ -15,8 +15,8 @@ ghost use Rattle.ut_sound.specs.Fit.{IsFit, OfObjects, ReadsWell, ReadsWellByKey
 
 use ut_value::value_laws;
 
-/// What is given in JSON, in texts of characters, is read as values of its fields' types, and so is the key of an upsert. Of every
-/// body that is read the texts are characters. The call does nothing.
+/// What is given in JSON, in texts of characters, is read as values of its fields' types, and so is the key of an upsert. In
+/// every body that is read, the members that are texts are of characters. The call does nothing.
 pub fn fit_laws()
     ensures given { (a : Asked) (o : Object) (given : List Assignment) → IsTrue (list_all (λ x. is_spelled x.given) given) → ReadsWell a o given }
     ensures key { (a : Asked) (key : List ℕ) (text : Option (List ℕ)) (given : List Assignment) → IsSound a.tenant

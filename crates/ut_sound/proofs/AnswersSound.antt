@@ -20,7 +20,7 @@ use Rattle.ut_model.specs.Step.{Message}
 use Rattle.ut_model.specs.Tenant.{Job, Tenant, User}
 use Rattle.ut_model.specs.Verdict.{refuse}
 use Rattle.ut_model.specs.World.{user_at}
-use Rattle.ut_sound.specs.Fit.{IsCaller, IsFit, SpellsCharacters}
+use Rattle.ut_sound.specs.Fit.{IsCaller, IsFit}
 
 -- a step of a job leaves the users
 users_kept : (t : Tenant) → (job_step t).users ≡ t.users
@@ -70,9 +70,9 @@ caller_stepped a caller = (subst (λ (users : List User). is_some (user_at users
 
 pub answer_sound : ((t : Tenant) → IsSound t → IsSound (job_step t))
     → ((a : Asked) (x : Request) → IsCaller a → IsFit a x → IsSound a.tenant → IsSound (verdict_on a x).tenant)
-    → ((a : Asked) (query_in : ReadsQuery) (r : Route) (body : List ℕ) (x : Request) → IsSound a.tenant → SpellsCharacters body → request_of query_in r body ≡ Ok x → IsFit a x)
-    → (query_in : ReadsQuery) (a : Asked) (m : Message) → IsCaller a → SpellsCharacters m.body → IsSound a.tenant → IsSound (answer_to query_in a m).1
-answer_sound step verdict fits query_in a m caller spells sound =
+    → ((a : Asked) (query_in : ReadsQuery) (r : Route) (body : List ℕ) (x : Request) → IsSound a.tenant → request_of query_in r body ≡ Ok x → IsFit a x)
+    → (query_in : ReadsQuery) (a : Asked) (m : Message) → IsCaller a → IsSound a.tenant → IsSound (answer_to query_in a m).1
+answer_sound step verdict fits query_in a m caller sound =
     let s = step a.tenant sound in
     verdict_kept IsSound (stepped a) query_in m.body s
-    (λ r x e. verdict (stepped a) x (caller_stepped a caller) (fits (stepped a) query_in r m.body x s spells e) s) (routed m.method m.target)
+    (λ r x e. verdict (stepped a) x (caller_stepped a caller) (fits (stepped a) query_in r m.body x s e) s) (routed m.method m.target)

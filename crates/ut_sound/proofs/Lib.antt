@@ -28,6 +28,7 @@ mod AddsFormulas
 mod SwitchFormulas
 mod GivenFits
 mod FormsFit
+mod BodyTexts
 mod RequestsFit
 mod AnswersSound
 mod WorldSound

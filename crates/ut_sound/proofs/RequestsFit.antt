@@ -22,7 +22,8 @@ use Rattle.ut_model.specs.RequestOf.{ReadsQuery, by_body, query_or, request_of, 
 use Rattle.ut_model.specs.Requests.{Request, adds_group, adds_role, asks, cancels_retype, creates, deletes, gets_retype, removes_sharing_rule, sets_role, sets_user, unshares, updates, upserts}
 use Rattle.ut_model.specs.Sound.{IsSound}
 use Rattle.ut_model.specs.Step.{query_text}
-use Rattle.ut_sound.specs.Fit.{IsFit, SpellsCharacters, is_spelled}
+use Rattle.ut_sound.specs.Fit.{IsFit, is_spelled}
+use Rattle.ut_sound.proofs.BodyTexts.{body_spells}
 use Rattle.ut_sound.proofs.FormsFit.{access_fits, bound, field_fits, mapped, object_fits, retype_fits, rule_fits, share_fits, some_is, validation_fits, where_is}
 use Rattle.ut_sound.proofs.GivenFits.{ReadLaw, key_fits, spelled_fits}
 
@@ -53,13 +54,13 @@ given_spelled (m ∷ b) h = by (all_scalars (json_text m.1)) (not (bytes_eq m.0 
     by true false w h more = more h
     by false keep w h more = absurd cc
 
-assigned : (bytes : List ℕ) → SpellsCharacters bytes → (b : Body) (given : List Assignment) → body_in bytes ≡ Some b → assignments b ≡ Some given → list_all (λ (x : Assignment). is_spelled x.given) given ≡ true
+assigned : (bytes : List ℕ) (b : Body) (given : List Assignment) → body_in bytes ≡ Some b → assignments b ≡ Some given → list_all (λ (x : Assignment). is_spelled x.given) given ≡ true
 unfolding assignments
-assigned bytes spells b given w e = by (texts_differ (map lower (member_names b))) e
+assigned bytes b given w e = by (texts_differ (map lower (member_names b))) e
   where
     by : (c : Bool) → cond c (Some (map (λ (m : List ℕ × Json). record { field = m.0; given = in_json m.1 }) (filter (λ (m : List ℕ × Json). not (bytes_eq m.0 (codes "attributes"))) b))) None ≡ Some given
         → list_all (λ (x : Assignment). is_spelled x.given) given ≡ true
-    by true e = subst (λ (z : List Assignment). list_all (λ (x : Assignment). is_spelled x.given) z ≡ true) (some_is _ given e) (given_spelled b (spells b w))
+    by true e = subst (λ (z : List Assignment). list_all (λ (x : Assignment). is_spelled x.given) z ≡ true) (some_is _ given e) (given_spelled b (body_spells bytes b w))
     by false e = absurd cc
 
 -- the value in the path of an upsert is of characters
@@ -124,14 +125,14 @@ query_fits a (Err place) x e = absurd cc
 by_form : (a : Asked) (bytes : List ℕ) (form : Body → Option Request) (x : Request) → ((b : Body) (y : Request) → form b ≡ Some y → IsFit a y) → by_body bytes form ≡ Ok x → IsFit a x
 by_form a bytes form x fits e = let b = of_body bytes form x e in fits b.0 x b.2
 
-module _ (law : ReadLaw) (a : Asked) (query_in : ReadsQuery) (body : List ℕ) (x : Request) (sound : IsSound a.tenant) (spells : SpellsCharacters body) where
+module _ (law : ReadLaw) (a : Asked) (query_in : ReadsQuery) (body : List ℕ) (x : Request) (sound : IsSound a.tenant) where
   -- a form of what is given
   by_given : (make : List Assignment → Request) → ((given : List Assignment) → list_all (λ (x : Assignment). is_spelled x.given) given ≡ true → IsFit a (make given))
       → by_body body (λ b. option_map make (assignments b)) ≡ Ok x → IsFit a x
   by_given make fits e =
       let b = of_body body (λ b. option_map make (assignments b)) x e in
       let given = mapped (assignments b.0) make x b.2 in
-      subst (IsFit a) given.2 (fits given.0 (assigned body spells b.0 given.0 b.1 given.1))
+      subst (IsFit a) given.2 (fits given.0 (assigned body b.0 given.0 b.1 given.1))
 
   pub request_fits : (r : Route) → request_of query_in r body ≡ Ok x → IsFit a x
   unfolding request_of

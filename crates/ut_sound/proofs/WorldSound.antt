@@ -16,7 +16,7 @@ use Rattle.ut_model.specs.Tenant.{Tenant, User}
 use Rattle.ut_model.specs.Whole.{answered_whole, whole_step}
 use Rattle.ut_model.specs.World.{World, tenant_at, user_at, user_id, with_id, with_tenant}
 use Rattle.ut_value.specs.Dates.{is_moment}
-use Rattle.ut_sound.specs.Fit.{IsCaller, SpellsCharacters}
+use Rattle.ut_sound.specs.Fit.{IsCaller}
 use Rattle.ut_sound.proofs.Changes.{at_has}
 use Rattle.ut_sound.proofs.FormsFit.{some_is}
 use Rattle.ut_sound.proofs.Parts.{all_at, same_itself}
@@ -51,14 +51,14 @@ tenant_sound : (w : World) (n : ℕ) (t : Tenant) → AllByRecursion IsSound w �
 tenant_sound w zero t all e = absurd cc
 tenant_sound w (suc n) t all e = all_at IsSound t w all (at_has n w t e)
 
-pub world_sound : ((query_in : ReadsQuery) (a : _) (m : Message) → IsCaller a → SpellsCharacters m.body → IsSound a.tenant → IsSound (answer_to query_in a m).1)
-    → (reads : Reads) (query_in : ReadsQuery) (w : World) (m : Message) (now : ℕ) → is_moment (pos now) ≡ true → SpellsCharacters m.body → IsWorld w → IsWorld (whole_step reads query_in w m now).1
-world_sound law reads query_in w m now moment spells s = by (named_in m)
+pub world_sound : ((query_in : ReadsQuery) (a : _) (m : Message) → IsCaller a → IsSound a.tenant → IsSound (answer_to query_in a m).1)
+    → (reads : Reads) (query_in : ReadsQuery) (w : World) (m : Message) (now : ℕ) → is_moment (pos now) ≡ true → IsWorld w → IsWorld (whole_step reads query_in w m now).1
+world_sound law reads query_in w m now moment s = by (named_in m)
   where
     user : (t : Tenant) → IsSound t → (c : Caller) (o : Option User) → user_at t.users c.user ≡ o
         → IsSound (in_case o (refused InvalidSession t) (λ u. answer_to query_in (record { tenant = t; user = u; now = pos now; reads = reads }) m)).1
     user t h c None e = h
-    user t h c (Some u) e = law query_in (record { tenant = t; user = u; now = pos now; reads = reads }) m (found_self t.users c.user u e, moment) spells h
+    user t h c (Some u) e = law query_in (record { tenant = t; user = u; now = pos now; reads = reads }) m (found_self t.users c.user u e, moment) h
 
     called : (t : Tenant) → IsSound t → (c : Option Caller) → IsSound (if_called (answered_whole reads query_in) m now c t).1
     called t h None = h

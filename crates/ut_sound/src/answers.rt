@@ -10,15 +10,15 @@ ghost use Rattle.ut_model.specs.SoundFormulas.{AreFormulasSound};
 ghost use Rattle.ut_model.specs.Step.{Message};
 ghost use Rattle.ut_model.specs.Whole.{whole_step};
 ghost use Rattle.ut_model.specs.World.{World};
-ghost use Rattle.ut_sound.specs.Fit.{IsCaller, ReadsFormulas, SpellsCharacters};
+ghost use Rattle.ut_sound.specs.Fit.{IsCaller, ReadsFormulas};
 
 use crate::fits::requests_fit;
 use crate::verdicts::verdicts_sound;
 
-/// What the answer to any message of a caller leaves of a sound organisation is sound, if the texts of its body are characters;
-/// and so are the formulas of rules, if texts are read as a grammar of formulas reads them. The call does nothing.
+/// What the answer to any message of a caller leaves of a sound organisation is sound; and so are the formulas of rules, if texts
+/// are read as a grammar of formulas reads them. The call does nothing.
 pub fn answers_sound()
-    ensures answer { (query_in : ReadsQuery) (a : Asked) (m : Message) → IsCaller a → SpellsCharacters m.body
+    ensures answer { (query_in : ReadsQuery) (a : Asked) (m : Message) → IsCaller a
         → IsSound a.tenant → IsSound (answer_to query_in a m).1 }
     ensures formulas { (query_in : ReadsQuery) (a : Asked) (m : Message) → ReadsFormulas a.reads → IsSound a.tenant
         → AreFormulasSound a.reads a.tenant → AreFormulasSound a.reads (answer_to query_in a m).1 }
@@ -27,11 +27,10 @@ pub fn answers_sound()
     verdicts_sound();
 }
 
-/// What a step of the world leaves of sound organisations is sound, at a moment of the calendar, if the texts of the message's
-/// body are characters. The call does nothing.
+/// What a step of the world leaves of sound organisations is sound, at a moment of the calendar. The call does nothing.
 pub fn world_sound()
     ensures step { (reads : Reads) (query_in : ReadsQuery) (w : World) (m : Message) (now : ℕ) → IsTrue (is_moment (pos now))
-        → SpellsCharacters m.body → IsWorld w → IsWorld (whole_step reads query_in w m now).1 }
+        → IsWorld w → IsWorld (whole_step reads query_in w m now).1 }
 {
     answers_sound();
 }

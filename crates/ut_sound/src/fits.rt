@@ -15,21 +15,22 @@ ghost use Rattle.ut_sound.specs.Fit.{IsFit, OfObjects, ReadsWell, ReadsWellByKey
 
 use ut_value::value_laws;
 
-/// What is given in JSON, in texts of characters, is read as values of its fields' types, and so is the key of an upsert. The
-/// call does nothing.
+/// What is given in JSON, in texts of characters, is read as values of its fields' types, and so is the key of an upsert. In
+/// every body that is read, the members that are texts are of characters. The call does nothing.
 pub fn fit_laws()
     ensures given { (a : Asked) (o : Object) (given : List Assignment) → IsTrue (list_all (λ x. is_spelled x.given) given) → ReadsWell a o given }
     ensures key { (a : Asked) (key : List ℕ) (text : Option (List ℕ)) (given : List Assignment) → IsSound a.tenant
         → IsTrue (list_all (λ x. is_spelled x.given) given) → IsTrue (in_case text true all_scalars)
         → OfObjects a (λ o. ReadsWellByKey a key text o given) }
+    ensures spelled { (body : List ℕ) → SpellsCharacters body }
 {
     value_laws();
 }
 
-/// Every request that is read has its form, if the texts of its body are characters. The call does nothing.
+/// Every request that is read has its form. The call does nothing.
 pub fn requests_fit()
     ensures request { (a : Asked) (query_in : ReadsQuery) (r : Route) (body : List ℕ) (x : Request) → IsSound a.tenant
-        → SpellsCharacters body → request_of query_in r body ≡ Ok x → IsFit a x }
+        → request_of query_in r body ≡ Ok x → IsFit a x }
 {
     value_laws();
 }

@@ -1,3 +1,4 @@
+use Rattle.ut_sound.proofs.BodyTexts.{body_spells}
 use Rattle.ut_sound.proofs.GivenFits.{key_fits, spelled_fits}
 use Rattle.ut_sound.proofs.fits.fit_laws.Goals as goal
 
@@ -6,3 +7,6 @@ returns-clause-given c = spelled_fits c.value_laws.ensures.read
 
 pub returns-clause-key : goal.returns-clause-key
 returns-clause-key c = key_fits c.value_laws.ensures.read
+
+pub returns-clause-spelled : goal.returns-clause-spelled
+returns-clause-spelled c = body_spells

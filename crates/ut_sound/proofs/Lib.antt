@@ -31,3 +31,5 @@ mod FormsFit
 mod RequestsFit
 mod AnswersSound
 mod WorldSound
+mod KnownSigns
+mod FormulaTexts

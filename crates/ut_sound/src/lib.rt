@@ -29,5 +29,5 @@ pub use crate::objects::objects_sound;
 pub use crate::people::people_sound;
 pub use crate::records::records_sound;
 pub use crate::sharing::sharing_sound;
-pub use crate::texts::text_laws;
+pub use crate::texts::{text_laws, text_rows};
 pub use crate::verdicts::verdicts_sound;

@@ -20,7 +20,7 @@ use Rattle.ut_formula.specs.declared.formula.Formula.TheVariants as formula
 use Rattle.ut_formula.specs.declared.formula.NamedField.{NamedField}
 use Rattle.ut_formula.specs.declared.sign.Sign.{Sign}
 use Rattle.ut_formula.specs.declared.sign.Sign.TheVariants as sign
-use Rattle.ut_formula.proofs.Top.{found, place_rest, place_stuck}
+use Rattle.ut_formula.proofs.Top.{place_rest, place_stuck}
 use Rattle.ut_model.specs.Objects.{change_at}
 use Rattle.ut_model.specs.RuleFormulas.{names_field}
 use Rattle.ut_model.specs.Tenant.{Field, Object}
@@ -88,18 +88,10 @@ module _ (o : Object) (criteria : Bool) (text : List ℕ) where
           let same : slice_index_or (starts all) (length (starts all) - left) (byte_len text) ≡ place = cc in
           (all, are, rw same at (place_stuck its_signs left (starts all) (byte_len text) w sizes))
 
-  -- of what was read, all tokens are known
-  read_whole_is : (f : Formula) → reads_text o criteria text ≡ Ok f → g.whole.spells its_signs f
-  unfolding reads_text
-  read_whole_is f e = by (spec.whole its_signs) refl (read_some (starts all) (byte_len text) f (spec.whole its_signs) e)
-    where
-      at_rest : (h : Formula) (rest : List Sign) → spec.whole its_signs ≡ Ok (h, rest) → at_end h rest ≡ Some f → g.whole.spells its_signs f
-      at_rest h [] w e = let same : h ≡ f = cc in subst (λ (x : Formula). g.whole.spells its_signs x) same (found its_signs [] h w refl)
-      at_rest h (sign ∷ more) w e = absurd cc
-
-      by : (x : Outcome Sign Formula) → spec.whole its_signs ≡ x → whole_of x ≡ Some f → g.whole.spells its_signs f
-      by (Ok got) w e = at_rest got.0 got.1 w e
-      by (Err left) w e = absurd cc
+  -- what was read is spelled by the tokens of the text
+  signs_spell : ((criteria : Bool) (fields : List NamedField) (text : List ℕ) (f : Formula) → formula_in criteria fields text ≡ Some f → Spells criteria fields text f)
+      → ((ts : List Placed) → AreTokens lexis 0 text ts → ts ≡ all) → (f : Formula) → reads_text o criteria text ≡ Ok f → g.whole.spells its_signs f
+  signs_spell law one f e = let s = spelled_by law f e in subst (λ (ts : List Placed). g.whole.spells (signs criteria its ts) f) (one s.0 s.1) s.2
 
 -- ---- tokens that are the same over other fields
 module _ (q : ℕ → Bool) (criteria : Bool) (fs gs : List NamedField) (same : (cs : List ℕ) → known q (field_sign 0 fs cs) ≡ true → field_sign 0 gs cs ≡ field_sign 0 fs cs) where
@@ -182,7 +174,9 @@ none_all n (p ∷ ps) h = by (p == n) h (none_all n ps)
     by true h more = absurd cc
     by false h more = more h
 
-module _ (within_not : (f : Formula) → names (formula.Not f) ≡ names f) (within_and : (fs : List Formula) → names (formula.And fs) ≡ flat_map names fs)
+module _ (law : (criteria : Bool) (fields : List NamedField) (text : List ℕ) (f : Formula) → formula_in criteria fields text ≡ Some f → Spells criteria fields text f)
+    (one : (text : List ℕ) (ts : List Placed) → AreTokens lexis 0 text ts → ts ≡ tokens_of lexis 0 text)
+    (within_not : (f : Formula) → names (formula.Not f) ≡ names f) (within_and : (fs : List Formula) → names (formula.And fs) ≡ flat_map names fs)
     (within_or : (fs : List Formula) → names (formula.Or fs) ≡ flat_map names fs) where
   -- over fields that are the same as far as the formula names them
   reads_same : (o p : Object) (criteria : Bool) (text : List ℕ) (f : Formula) → reads_text o criteria text ≡ Ok f → (q : ℕ → Bool) → OfFormula q f
@@ -192,7 +186,7 @@ module _ (within_not : (f : Formula) → names (formula.Not f) ≡ names f) (wit
   reads_same o p criteria text f e q named same =
       let all = tokens_of lexis 0 text in
       let fs = formula_fields o.fields in
-      let knows = whole_knows q within_not within_and within_or (signs criteria fs all) f (read_whole_is o criteria text f e) named in
+      let knows = whole_knows q within_not within_and within_or (signs criteria fs all) f (signs_spell o criteria text law (one text) f e) named in
       ap (λ (ts : List Sign). at_place (starts all) (byte_len text) (read_whole (spec.whole ts))) (signs_same q criteria fs (formula_fields p.fields) same all knows)
 
   pub reads_formulas : ReadsFormulas reads_text

@@ -1,3 +1,4 @@
+use Rattle.ut_grammar.specs.Lexing.{tokens_of}
 use Rattle.ut_formula.specs.Signs.{lexis}
 use Rattle.ut_sound.proofs.FormulaTexts.{read_by, reads_formulas, refused_at, spelled_by}
 use Rattle.ut_sound.proofs.texts.text_laws.Goals as goal
@@ -12,4 +13,7 @@ pub returns-clause-refused : goal.returns-clause-refused
 returns-clause-refused c = λ o criteria text. refused_at o criteria text (c.token_laws.ensures.meets lexis text)
 
 pub returns-clause-formulas : goal.returns-clause-formulas
-returns-clause-formulas c = reads_formulas c.formula_laws.ensures.within_not c.formula_laws.ensures.within_and c.formula_laws.ensures.within_or
+returns-clause-formulas c =
+    reads_formulas c.spelling_laws.ensures.spelled
+    (λ text ts are. c.token_laws.ensures.one_list lexis text ts (tokens_of lexis 0 text) are (c.token_laws.ensures.meets lexis text))
+    c.formula_laws.ensures.within_not c.formula_laws.ensures.within_and c.formula_laws.ensures.within_or

@@ -32,3 +32,5 @@ mod BodyTexts
 mod RequestsFit
 mod AnswersSound
 mod WorldSound
+mod KnownSigns
+mod FormulaTexts

@@ -17,7 +17,7 @@ use Rattle.ut_model.specs.Given.{Assignment, in_json, json_text}
 use Rattle.ut_model.specs.Members.{Body, all_there, as_text, assignments, body_in, formed, list_in, member_names, principal_in, text_in, text_or_null_in, truth_in}
 use Rattle.ut_model.specs.Organisations.{is_secret}
 use Rattle.ut_model.specs.Paths.{Asked}
-use Rattle.ut_model.specs.PeopleForms.{group_request, members_request, retype_request, role_parent_request, role_request, sign_of, user_request, user_role_request}
+use Rattle.ut_model.specs.PeopleForms.{group_request, members_request, retype_request, role_parent_request, role_request, identity_of, user_request, user_role_request}
 use Rattle.ut_model.specs.RequestOf.{ReadsQuery, by_body, query_or, request_of, request_or, value_part}
 use Rattle.ut_model.specs.Requests.{Request, adds_group, adds_role, asks, cancels_retype, creates, deletes, gets_retype, removes_sharing_rule, sets_role, sets_user, unshares, updates, upserts}
 use Rattle.ut_model.specs.Sound.{IsSound}
@@ -114,7 +114,7 @@ members_fits a id body x e =
     let b = bound (formed (codes "members" ∷ []) [] body) _ x e in
     let items = bound (list_in b.0 (codes "members")) _ x b.2 in
     let members = bound (all_there (map (λ v. as_text v >>= principal_in) items.0)) _ x items.2 in
-    subst (IsFit a) (where_is (texts_differ (map sign_of members.0)) _ x members.2).1 tt
+    subst (IsFit a) (where_is (texts_differ (map identity_of members.0)) _ x members.2).1 tt
 
 query_fits : (a : Asked) (q : Result Query ℕ) (x : Request) → query_or q ≡ Ok x → IsFit a x
 query_fits a (Ok q) x e = subst (IsFit a) (request_is (asks q) x e) tt

@@ -123,7 +123,7 @@ fresh_fits name digest = record {
   below = λ n f there. absurd cc;
   differ = λ n f g there other same. absurd cc;
   other = omega arith;
-  apart = λ j at open f there same. absurd cc;
+  apart = λ j is busy f there same. absurd cc;
   was = refl;
   left = λ j i v at left. absurd cc;
 }

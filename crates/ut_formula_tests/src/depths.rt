@@ -2,7 +2,7 @@ use crate::account::fields;
 use std::alloc::Global;
 use std::rt::HostRuntime;
 use std::test::Fail;
-use ut_formula::{ParseFail, parse};
+use ut_formula_text::{ParseFail, parse};
 
 // This word before so many parentheses, with TRUE within.
 fn nested(alloc: Global, word: &str, levels: usize) -> Result<String, Fail> {

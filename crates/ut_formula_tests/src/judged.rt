@@ -5,7 +5,8 @@ use crate::judged_table::JUDGED;
 use std::alloc::Global;
 use std::rt::HostRuntime;
 use std::test::Fail;
-use ut_formula::{Fields, Record, holds, names, parse};
+use ut_formula::{Fields, Record, holds, names};
+use ut_formula_text::parse;
 use ut_value::{FieldType, Items, Value, is_type, read_value};
 
 // The value of a cell.

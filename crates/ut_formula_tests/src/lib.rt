@@ -1,7 +1,7 @@
-//! Tests of `ut_formula`: texts with the place at which they are refused, by hand from the grammar, and formulas that are
-//! judged on records.
+//! Tests of `ut_formula_text` and `ut_formula`: texts with the place at which they are refused, by hand from the grammar, and
+//! formulas that are judged on records.
 //!
-//! What is proved in `ut_formula` isn't tested again: these tables show that its definitions are those of the language.
+//! What is proved in them isn't tested again: these tables show that their definitions are those of the language.
 #![tactic(auto)]
 
 #[cfg(test)]

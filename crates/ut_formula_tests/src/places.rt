@@ -3,7 +3,7 @@ use crate::place_table::{CRITERIA, VALIDATION};
 use std::alloc::Global;
 use std::rt::HostRuntime;
 use std::test::Fail;
-use ut_formula::{ParseFail, parse};
+use ut_formula_text::{ParseFail, parse};
 
 // The text with `^` before the token at which it is refused.
 fn marked(alloc: Global, row: &str, criteria: bool) -> Result<String, Fail> {

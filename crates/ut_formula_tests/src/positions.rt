@@ -3,7 +3,7 @@ use crate::position_table::{POSITIONS, TOKENS};
 use std::alloc::Global;
 use std::rt::HostRuntime;
 use std::test::Fail;
-use ut_formula::{ParseFail, parse};
+use ut_formula_text::{ParseFail, parse};
 
 // Whether a token can follow a beginning.
 fn can_follow(alloc: Global, beginning: &str, token: &str) -> Result<bool, Fail> {

@@ -6,11 +6,11 @@ ghost use Rattle.ut_formula_text.specs.Grammar as grammar;
 ghost use Rattle.ut_formula_text.specs.Spelling.{IsRefusedAt, Spells};
 ghost use Rattle.ut_grammar.specs.Place.{IsOrMemory, IsPlace, OnMalformed};
 
-use ut_formula::{Fields, Formula};
 use crate::reader::whole;
 use crate::sign::Sign;
 use crate::words::{FormulaLexis, signs, starts};
 use std::alloc::Global;
+use ut_formula::{Fields, Formula};
 use ut_grammar::{Fail, ParseFail, place, tokens};
 
 // The formula that the tokens spell. They begin at these bytes of a text which ends at `end`.

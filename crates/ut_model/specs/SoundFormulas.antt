@@ -1,5 +1,5 @@
 -- Sound formulas: what holds at every moment of the texts of validation rules and of criteria rules. How a text is read is an
--- argument until the grammar of formulas comes; then this is one more part of a sound tenant.
+-- argument; `ut_sound` has it by the grammar of formulas (`reads_text`).
 -- Source: Salesforce, "Validation Rules" and "Criteria-Based Sharing Rules". That a field whose type is being changed is named
 -- by no rule is this product's own.
 use Rattle.std.specs.Prelude.{Bool, true, false, not, ◌&&◌, ◌||◌, ◌==◌, List, Option, is_ok, slice_get, IsTrue, IfSome}

@@ -2,50 +2,41 @@
 use Rattle.std.proofs.Common.{◌≡◌, ℕ, zero, suc, ◌+◌, ◌-◌, Bool, true, false, not, ◌&&◌, ◌||◌, ◌==◌, cond, List, [], ◌∷◌, ◌++◌, map, length, flat_map, slice_index_or, Option, Some, None, Ok, Err, refl, ap, sym, subst, ◌∙◌, arith, eq-eqb}
 use Rattle.std.specs.Prelude.{Result, is_ok, codes}
 use Rattle.std.specs.List.{list_all, list_any}
-use Rattle.std.proofs.lemmas.List.{map-append, length-map}
+use Rattle.std.specs.Option.{ok_or}
+use Rattle.std.proofs.lemmas.List.{map-append}
+use Rattle.ut_grammar.specs.Exact.{left}
 use Rattle.ut_grammar.specs.Lexing.{tokens_of}
-use Rattle.ut_grammar.specs.Reader.{Outcome}
 use Rattle.ut_grammar.specs.Tokens.{AreTokens, byte_len}
 use Rattle.ut_grammar.specs.declared.token.Placed.{Placed}
 use Rattle.ut_grammar.specs.declared.token.Token.{Token}
 use Rattle.ut_grammar.specs.declared.token.Token.TheVariants as token
 use Rattle.ut_value.specs.declared.value.FieldType.{FieldType}
-use Rattle.ut_formula.specs.Grammar as g
 use Rattle.ut_formula.specs.Naming.{names}
-use Rattle.ut_formula.specs.Reading as spec
-use Rattle.ut_formula.specs.Signs.{field_sign, function_word, is_name, lexis, sign_of, signs, sort_of, starts, word_or_field}
-use Rattle.ut_formula.specs.Spelling.{IsRefusedAt, Spells, at_end, formula_in, whole_of}
 use Rattle.ut_formula.specs.declared.formula.Formula.{Formula}
 use Rattle.ut_formula.specs.declared.formula.Formula.TheVariants as formula
 use Rattle.ut_formula.specs.declared.formula.NamedField.{NamedField}
-use Rattle.ut_formula.specs.declared.sign.Sign.{Sign}
-use Rattle.ut_formula.specs.declared.sign.Sign.TheVariants as sign
-use Rattle.ut_formula.proofs.Top.{place_rest, place_stuck}
+use Rattle.ut_formula_text.specs.Grammar as g
+use Rattle.ut_formula_text.specs.Reading as spec
+use Rattle.ut_formula_text.specs.Signs.{field_sign, function_word, is_name, lexis, sign_of, signs, sort_of, starts, word_or_field}
+use Rattle.ut_formula_text.specs.Spelling.{IsRefusedAt, Spells, formula_in, place_in, whole_of}
+use Rattle.ut_formula_text.specs.declared.sign.Sign.{Sign}
+use Rattle.ut_formula_text.specs.declared.sign.Sign.TheVariants as sign
 use Rattle.ut_model.specs.Objects.{change_at}
 use Rattle.ut_model.specs.RuleFormulas.{names_field}
 use Rattle.ut_model.specs.Tenant.{Field, Object}
 use Rattle.ut_sound.specs.Fit.{ReadsFormulas}
-use Rattle.ut_sound.specs.FormulaTexts.{all_read, as_named, at_place, formula_fields, name_field, read_whole, reads_text}
+use Rattle.ut_sound.specs.FormulaTexts.{as_named, formula_fields, name_field, reads_text}
 use Rattle.ut_sound.proofs.KnownSigns.{OfFormula, known, whole_knows}
 use Rattle.ut_sound.proofs.Parts.{both_left, both_right, clash}
 
 -- ---- what is read is what is spelled
-module _ (ss : List ℕ) (end : ℕ) (f : Formula) where
-  rest_some : (h : Formula) (rest : List Sign) → at_place ss end (all_read h rest) ≡ Ok f → at_end h rest ≡ Some f
-  rest_some h [] e = let same : h ≡ f = cc in ap (λ x. Some x) same
-  rest_some h (sign ∷ more) e = absurd cc
+is_read : (r : Option Formula) (at : ℕ) (f : Formula) → ok_or r at ≡ Ok f → r ≡ Some f
+is_read (Some h) at f e = let same : h ≡ f = cc in ap (λ x. Some x) same
+is_read None at f e = absurd cc
 
-  read_some : (o : Outcome Sign Formula) → at_place ss end (read_whole o) ≡ Ok f → whole_of o ≡ Some f
-  read_some (Ok got) e = rest_some got.0 got.1 e
-  read_some (Err left) e = absurd cc
-
-  some_rest : (h : Formula) (rest : List Sign) → at_end h rest ≡ Some f → at_place ss end (all_read h rest) ≡ Ok f
-  some_rest h [] e = let same : h ≡ f = cc in ap (λ x. Ok x) same
-  some_rest h (sign ∷ more) e = absurd cc
-
-  some_read : (o : Outcome Sign Formula) → whole_of o ≡ Some f → at_place ss end (read_whole o) ≡ Ok f
-  some_read (Ok got) e = some_rest got.0 got.1 e
-  some_read (Err left) e = absurd cc
+is_refused : (r : Option Formula) (at place : ℕ) → ok_or r at ≡ Err place → (r ≡ None) × (at ≡ place)
+is_refused (Some h) at place e = absurd cc
+is_refused None at place e = (refl, cc)
 
 module _ (o : Object) (criteria : Bool) (text : List ℕ) where
   abbrev its : List NamedField
@@ -59,34 +50,21 @@ module _ (o : Object) (criteria : Bool) (text : List ℕ) where
 
   pub spelled_by : ((criteria : Bool) (fields : List NamedField) (text : List ℕ) (f : Formula) → formula_in criteria fields text ≡ Some f → Spells criteria fields text f)
       → (f : Formula) → reads_text o criteria text ≡ Ok f → Spells criteria its text f
-  unfolding reads_text formula_in
-  spelled_by law f e = law criteria its text f (read_some (starts all) (byte_len text) f (spec.whole its_signs) e)
+  unfolding reads_text
+  spelled_by law f e = law criteria its text f (is_read (formula_in criteria its text) (place_in criteria its text (byte_len text)) f e)
 
   pub read_by : ((criteria : Bool) (fields : List NamedField) (text : List ℕ) (f : Formula) → Spells criteria fields text f → formula_in criteria fields text ≡ Some f)
       → (f : Formula) → Spells criteria its text f → reads_text o criteria text ≡ Ok f
-  unfolding reads_text formula_in
-  read_by law f s = some_read (starts all) (byte_len text) f (spec.whole its_signs) (law criteria its text f s)
+  unfolding reads_text
+  read_by law f s = ap (λ (r : Option Formula). ok_or r (place_in criteria its text (byte_len text))) (law criteria its text f s)
 
   -- the place is the defined one
-  pub refused_at : AreTokens lexis 0 text all → (place : ℕ) → reads_text o criteria text ≡ Err place → IsRefusedAt criteria its text (byte_len text) place
+  pub refused_by : ((criteria : Bool) (fields : List NamedField) (text : List ℕ) (end : ℕ) → formula_in criteria fields text ≡ None → IsRefusedAt criteria fields text end (place_in criteria fields text end))
+      → (place : ℕ) → reads_text o criteria text ≡ Err place → IsRefusedAt criteria its text (byte_len text) place
   unfolding reads_text
-  refused_at are place e = by (spec.whole its_signs) refl e
-    where
-      sizes : length (starts all) ≡ length its_signs
-      sizes = length-map all (λ (placed : Placed). placed.start) ∙ sym (length-map all (λ (placed : Placed). sign_of criteria its placed.token))
-
-      at_rest : (h : Formula) (rest : List Sign) → spec.whole its_signs ≡ Ok (h, rest) → at_place (starts all) (byte_len text) (all_read h rest) ≡ Err place
-          → IsRefusedAt criteria its text (byte_len text) place
-      at_rest h [] w e = absurd cc
-      at_rest h (sign ∷ more) w e =
-          let same : slice_index_or (starts all) (length (starts all) - suc (length more)) (byte_len text) ≡ place = cc in
-          (all, are, rw same at (place_rest its_signs (sign ∷ more) h (starts all) (byte_len text) w sizes))
-
-      by : (x : Outcome Sign Formula) → spec.whole its_signs ≡ x → at_place (starts all) (byte_len text) (read_whole x) ≡ Err place → IsRefusedAt criteria its text (byte_len text) place
-      by (Ok got) w e = at_rest got.0 got.1 w e
-      by (Err left) w e =
-          let same : slice_index_or (starts all) (length (starts all) - left) (byte_len text) ≡ place = cc in
-          (all, are, rw same at (place_stuck its_signs left (starts all) (byte_len text) w sizes))
+  refused_by law place e =
+      let h = is_refused (formula_in criteria its text) (place_in criteria its text (byte_len text)) place e in
+      subst (λ (at : ℕ). IsRefusedAt criteria its text (byte_len text) at) h.1 (law criteria its text (byte_len text) h.0)
 
   -- what was read is spelled by the tokens of the text
   signs_spell : ((criteria : Bool) (fields : List NamedField) (text : List ℕ) (f : Formula) → formula_in criteria fields text ≡ Some f → Spells criteria fields text f)
@@ -182,12 +160,12 @@ module _ (law : (criteria : Bool) (fields : List NamedField) (text : List ℕ) (
   reads_same : (o p : Object) (criteria : Bool) (text : List ℕ) (f : Formula) → reads_text o criteria text ≡ Ok f → (q : ℕ → Bool) → OfFormula q f
       → ((cs : List ℕ) → known q (field_sign 0 (formula_fields o.fields) cs) ≡ true → field_sign 0 (formula_fields p.fields) cs ≡ field_sign 0 (formula_fields o.fields) cs)
       → reads_text p criteria text ≡ reads_text o criteria text
-  unfolding reads_text
+  unfolding reads_text formula_in place_in
   reads_same o p criteria text f e q named same =
       let all = tokens_of lexis 0 text in
       let fs = formula_fields o.fields in
       let knows = whole_knows q within_not within_and within_or (signs criteria fs all) f (signs_spell o criteria text law (one text) f e) named in
-      ap (λ (ts : List Sign). at_place (starts all) (byte_len text) (read_whole (spec.whole ts))) (signs_same q criteria fs (formula_fields p.fields) same all knows)
+      ap (λ (ts : List Sign). ok_or (whole_of (spec.whole ts)) (slice_index_or (starts all) (length ts - left (spec.whole ts)) (byte_len text))) (signs_same q criteria fs (formula_fields p.fields) same all knows)
 
   pub reads_formulas : ReadsFormulas reads_text
   unfolding reads_text

@@ -4,21 +4,21 @@ use Rattle.std.specs.List.{AllByRecursion, list_all}
 use Rattle.std.proofs.lemmas.List.Folds.{list_all-append}
 use Rattle.ut_grammar.specs.Part.{Part, one, both, either, as_value, of_kind}
 use Rattle.ut_grammar.specs.Part as part
-use Rattle.ut_formula.specs.Grammar.{Signs}
-use Rattle.ut_formula.specs.Grammar as g
 use Rattle.ut_formula.specs.Naming.{names, term_names}
-use Rattle.ut_formula.specs.Signs.{kind}
-use Rattle.ut_formula.specs.Terms.{field_in, if_suits, kind_of, len_in, measured_in, of_field, picklist_in, prior_in, relation_in, simple_in, suits, text_in, truth_in}
 use Rattle.ut_formula.specs.declared.formula.Formula.{Formula}
 use Rattle.ut_formula.specs.declared.formula.Formula.TheVariants as formula
 use Rattle.ut_formula.specs.declared.formula.Relation.{Relation}
 use Rattle.ut_formula.specs.declared.formula.Term.{Term}
 use Rattle.ut_formula.specs.declared.formula.Term.TheVariants as term
-use Rattle.ut_formula.specs.declared.sign.Sign.{Sign}
-use Rattle.ut_formula.specs.declared.sign.Sign.TheVariants as sign
-use Rattle.ut_formula.specs.declared.sign.Sort.TheVariants as sort
-use Rattle.ut_formula.specs.declared.sign.Kind.{Kind}
-use Rattle.ut_formula.specs.declared.sign.Kind.TheVariants as of
+use Rattle.ut_formula_text.specs.Grammar.{Signs}
+use Rattle.ut_formula_text.specs.Grammar as g
+use Rattle.ut_formula_text.specs.Signs.{kind}
+use Rattle.ut_formula_text.specs.Terms.{field_in, if_suits, kind_of, len_in, measured_in, of_field, picklist_in, prior_in, relation_in, simple_in, suits, text_in, truth_in}
+use Rattle.ut_formula_text.specs.declared.sign.Sign.{Sign}
+use Rattle.ut_formula_text.specs.declared.sign.Sign.TheVariants as sign
+use Rattle.ut_formula_text.specs.declared.sign.Sort.TheVariants as sort
+use Rattle.ut_formula_text.specs.declared.sign.Kind.{Kind}
+use Rattle.ut_formula_text.specs.declared.sign.Kind.TheVariants as of
 use Rattle.ut_sound.proofs.Parts as parts
 
 -- a token that can stand in a formula, and is no field but one for which the test holds

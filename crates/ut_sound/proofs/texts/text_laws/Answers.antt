@@ -1,6 +1,6 @@
 use Rattle.ut_grammar.specs.Lexing.{tokens_of}
-use Rattle.ut_formula.specs.Signs.{lexis}
-use Rattle.ut_sound.proofs.FormulaTexts.{read_by, reads_formulas, refused_at, spelled_by}
+use Rattle.ut_formula_text.specs.Signs.{lexis}
+use Rattle.ut_sound.proofs.FormulaTexts.{read_by, reads_formulas, refused_by, spelled_by}
 use Rattle.ut_sound.proofs.texts.text_laws.Goals as goal
 
 pub returns-clause-spelled : goal.returns-clause-spelled
@@ -10,7 +10,7 @@ pub returns-clause-read : goal.returns-clause-read
 returns-clause-read c = λ o criteria text. read_by o criteria text c.spelling_laws.ensures.computed
 
 pub returns-clause-refused : goal.returns-clause-refused
-returns-clause-refused c = λ o criteria text. refused_at o criteria text (c.token_laws.ensures.meets lexis text)
+returns-clause-refused c = λ o criteria text. refused_by o criteria text c.spelling_laws.ensures.refused
 
 pub returns-clause-formulas : goal.returns-clause-formulas
 returns-clause-formulas c =

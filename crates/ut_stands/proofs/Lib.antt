@@ -4,3 +4,5 @@ pub mod Versions
 pub mod Users
 pub mod Parts
 pub mod Kept
+pub mod Free
+pub mod Placed

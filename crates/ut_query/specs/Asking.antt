@@ -1,6 +1,6 @@
 -- The one query that asks for its tokens alone.
 -- Source: none. It is this product's own, until queries are answered by their grammar.
-use Rattle.std.specs.Prelude.{ℕ, Bool, true, false, ◌&&◌, if◌then◌else◌, ◌==◌, List, [], ◌∷◌, map, Option, Some, None, chars, codes, encode_utf8_all, bytes_eq}
+use Rattle.std.specs.Prelude.{ℕ, Bool, false, ◌&&◌, if◌then◌else◌, ◌==◌, List, [], ◌∷◌, map, Option, Some, None, chars, codes, encode_utf8_all, bytes_eq}
 use Rattle.std.specs.Char.{to_ascii_lowercase}
 use Rattle.ut_grammar.specs.Lexing.{tokens_of}
 use Rattle.ut_grammar.specs.declared.token.Token.{Token}

@@ -2,3 +2,4 @@ pub mod Like
 pub mod Worked
 pub mod Lexis
 pub mod Asking
+pub mod inner

@@ -4,6 +4,8 @@
 #![tactic(auto)]
 
 #[cfg(test)]
+mod like;
+#[cfg(test)]
 mod place_table;
 #[cfg(test)]
 mod places;

@@ -32,5 +32,3 @@ mod BodyTexts
 mod RequestsFit
 mod AnswersSound
 mod WorldSound
-mod KnownSigns
-mod FormulaTexts

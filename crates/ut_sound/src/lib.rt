@@ -15,7 +15,6 @@ mod objects;
 mod people;
 mod records;
 mod sharing;
-mod texts;
 mod verdicts;
 
 pub use crate::answers::{answers_sound, world_sound};
@@ -29,5 +28,4 @@ pub use crate::objects::objects_sound;
 pub use crate::people::people_sound;
 pub use crate::records::records_sound;
 pub use crate::sharing::sharing_sound;
-pub use crate::texts::{text_laws, text_rows};
 pub use crate::verdicts::verdicts_sound;

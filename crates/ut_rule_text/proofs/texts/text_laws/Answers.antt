@@ -1,7 +1,7 @@
 use Rattle.ut_grammar.specs.Lexing.{tokens_of}
 use Rattle.ut_formula_text.specs.Signs.{lexis}
-use Rattle.ut_sound.proofs.FormulaTexts.{read_by, reads_formulas, refused_by, spelled_by}
-use Rattle.ut_sound.proofs.texts.text_laws.Goals as goal
+use Rattle.ut_rule_text.proofs.FormulaTexts.{read_by, reads_formulas, refused_by, spelled_by}
+use Rattle.ut_rule_text.proofs.texts.text_laws.Goals as goal
 
 pub returns-clause-spelled : goal.returns-clause-spelled
 returns-clause-spelled c = λ o criteria text. spelled_by o criteria text c.spelling_laws.ensures.spelled

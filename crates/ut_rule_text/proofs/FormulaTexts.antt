@@ -25,9 +25,9 @@ use Rattle.ut_model.specs.Objects.{change_at}
 use Rattle.ut_model.specs.RuleFormulas.{names_field}
 use Rattle.ut_model.specs.Tenant.{Field, Object}
 use Rattle.ut_sound.specs.Fit.{ReadsFormulas}
-use Rattle.ut_sound.specs.FormulaTexts.{as_named, formula_fields, name_field, reads_text}
-use Rattle.ut_sound.proofs.KnownSigns.{OfFormula, known, whole_knows}
-use Rattle.ut_sound.proofs.Parts.{both_left, both_right, clash}
+use Rattle.ut_rule_text.specs.FormulaTexts.{as_named, formula_fields, name_field, reads_text}
+use Rattle.ut_rule_text.proofs.KnownSigns.{OfFormula, known, whole_knows}
+use Rattle.ut_rule_text.proofs.Truths.{both_left, both_right, clash}
 
 -- ---- what is read is what is spelled
 is_read : (r : Option Formula) (at : ℕ) (f : Formula) → ok_or r at ≡ Ok f → r ≡ Some f

@@ -8,8 +8,8 @@ ghost use Rattle.ut_formula_text.specs.Texts.{quoted};
 ghost use Rattle.ut_grammar.specs.Tokens.{byte_len};
 ghost use Rattle.ut_model.specs.Tenant.{Object};
 ghost use Rattle.ut_sound.specs.Fit.{ReadsFormulas};
-ghost use Rattle.ut_sound.specs.FormulaTexts.{formula_fields, reads_text};
-ghost use Rattle.ut_sound.specs.WorkedTexts.{amount, custom_field, over_five, read_over};
+ghost use Rattle.ut_rule_text.specs.FormulaTexts.{formula_fields, reads_text};
+ghost use Rattle.ut_rule_text.specs.WorkedTexts.{amount, custom_field, over_five, read_over};
 ghost use Rattle.ut_value.specs.declared.value.FieldType.TheVariants as type;
 
 use ut_formula::formula_laws;

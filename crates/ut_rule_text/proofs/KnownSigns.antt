@@ -19,7 +19,7 @@ use Rattle.ut_formula_text.specs.declared.sign.Sign.TheVariants as sign
 use Rattle.ut_formula_text.specs.declared.sign.Sort.TheVariants as sort
 use Rattle.ut_formula_text.specs.declared.sign.Kind.{Kind}
 use Rattle.ut_formula_text.specs.declared.sign.Kind.TheVariants as of
-use Rattle.ut_sound.proofs.Parts as parts
+use Rattle.ut_rule_text.proofs.Truths as parts
 
 -- a token that can stand in a formula, and is no field but one for which the test holds
 abbrev pub known : (ℕ → Bool) → Sign → Bool

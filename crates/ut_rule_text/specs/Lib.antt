@@ -1,0 +1,2 @@
+pub mod FormulaTexts
+pub mod WorkedTexts

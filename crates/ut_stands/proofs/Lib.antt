@@ -6,3 +6,4 @@ pub mod Parts
 pub mod Kept
 pub mod Free
 pub mod Placed
+pub mod Widened

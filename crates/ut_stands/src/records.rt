@@ -6,12 +6,13 @@ ghost use Rattle.ut_model.specs.declared.limit.Limit.TheVariants as limit;
 ghost use Rattle.ut_model.specs.declared.record.Record.{Record};
 ghost use Rattle.ut_model.specs.Limits.{limit_number};
 ghost use Rattle.ut_model.specs.Membership.{Has};
+ghost use Rattle.ut_model.specs.NewFields.{with_field};
 ghost use Rattle.ut_model.specs.Objects.{is_of, object_at, with_object_changed};
 ghost use Rattle.ut_model.specs.Sound.{IsSound};
-ghost use Rattle.ut_model.specs.Tenant.{Job, Object, Tenant};
+ghost use Rattle.ut_model.specs.Tenant.{Field, Job, Object, Tenant};
 ghost use Rattle.ut_stands.specs.Entries.{entry};
 ghost use Rattle.ut_stands.specs.Plan.{OrgPlan, slot_count};
-ghost use Rattle.ut_stands.specs.Records.{KeptAlike, is_free, object_of_records, with_slot};
+ghost use Rattle.ut_stands.specs.Records.{KeptAlike, is_free, object_of_records, suits_flags, with_slot};
 ghost use Rattle.ut_stands.specs.Stands.{kept_in, row_in};
 
 /// The laws of the rows of records, while plan and tenant change. The call does nothing.
@@ -31,11 +32,15 @@ pub fn record_laws()
     ensures nothing { (p : OrgPlan) (job : Option Job) (n : ℕ) (o : Object) (r : Record) (s : ℕ)
         → IsTrue (is_free p job n o s) → entry p job n o r s ≡ None }
 
-    // All records keep their rows where an object comes, and where one is changed but for its fields.
+    // All records keep their rows where an object comes, where one is changed but for its fields, and where a field comes
+    // that has a free slot.
     ensures object { (p : OrgPlan) (t : Tenant) (o : Object) (f s m : ℕ) (k : Key)
         → IsSound t → object_of_records k ≡ Some m
         → row_in (with_slot (length t.objects) f s p) (record t { objects = t.objects ++ o ∷ [] }) k ≡ row_in p t k }
     ensures described { (p : OrgPlan) (t : Tenant) (n : ℕ) (change : Object → Object) (m : ℕ) (k : Key)
         → IsSound t → ((o : Object) → (change o).fields ≡ o.fields) → object_of_records k ≡ Some m
         → row_in p (with_object_changed n change t) k ≡ row_in p t k }
+    ensures field { (p : OrgPlan) (t : Tenant) (n : ℕ) (o : Object) (f : Field) (s m : ℕ) (k : Key)
+        → IsSound t → object_at t n ≡ Some o → IsTrue (is_free p t.job n o s) → IsTrue (suits_flags f)
+        → object_of_records k ≡ Some m → row_in (with_slot n (length o.fields) s p) (with_field n f t) k ≡ row_in p t k }
 {}

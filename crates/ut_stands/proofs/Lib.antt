@@ -7,3 +7,4 @@ pub mod Kept
 pub mod Free
 pub mod Placed
 pub mod Widened
+pub mod Fits

@@ -37,10 +37,10 @@ use Rattle.ut_model.specs.SoundMetadata.{implies}
 
 -- ---- lists
 
-eqb_same : (n : ℕ) → eqb n n ≡ true
+pub eqb_same : (n : ℕ) → eqb n n ≡ true
 eqb_same n = pick (eqb n n) (λ b. b ≡ true) (λ _. refl) (λ e. absurd (eqb-false n n e refl))
 
-eqb_less : (a b : ℕ) → a < b → eqb a b ≡ false
+pub eqb_less : (a b : ℕ) → a < b → eqb a b ≡ false
 eqb_less a b h = pick (eqb a b) (λ c. c ≡ false) (λ e. absurd (differ (eqb-true a b e))) (λ _. refl)
   where
     differ : a ≡ b → ⊥
@@ -93,7 +93,7 @@ empty_by type.Checkbox true false h = absurd cc
 empty_by type.Checkbox true true h = absurd cc
 empty_by k i u h = record { text = refl; indexed = λ key. no_index i; unique = λ key. no_index u; reference = λ target. refl }
 
-get_below : {X : Type 0} (xs : List X) (i : ℕ) (x : X) → slice_get xs i ≡ Some x → i < length xs
+pub get_below : {X : Type 0} (xs : List X) (i : ℕ) (x : X) → slice_get xs i ≡ Some x → i < length xs
 get_below [] i x e = absurd cc
 get_below (y ∷ xs) zero x e = omega arith
 get_below (y ∷ xs) (suc i) x e = omega (arith, get_below xs i x e)

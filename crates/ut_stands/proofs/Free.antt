@@ -102,11 +102,11 @@ free_slot p job n o few =
 
 -- ---- nothing is in it
 
-and_left : (a b : Bool) → (a && b) ≡ true → a ≡ true
+pub and_left : (a b : Bool) → (a && b) ≡ true → a ≡ true
 and_left true b e = refl
 and_left false b e = absurd cc
 
-and_right : (a b : Bool) → (a && b) ≡ true → b ≡ true
+pub and_right : (a b : Bool) → (a && b) ≡ true → b ≡ true
 and_right true b e = e
 and_right false b e = absurd cc
 
@@ -118,7 +118,7 @@ is_missing (Some x) e = absurd cc
 pub free_field : (p : OrgPlan) (job : Option Job) (n : ℕ) (o : Object) (s : ℕ) → IsTrue (is_free p job n o s) → field_in p n o.fields s ≡ None
 free_field p job n o s e = is_missing (field_in p n o.fields s) (and_left (is_none (field_in p n o.fields s)) (not (is_other p job n s)) e)
 
-not_true : (b : Bool) → not b ≡ true → b ≡ false
+pub not_true : (b : Bool) → not b ≡ true → b ≡ false
 not_true false e = refl
 not_true true e = absurd cc
 

@@ -6,3 +6,5 @@ pub mod Parts
 pub mod Kept
 pub mod Free
 pub mod Placed
+pub mod Widened
+pub mod Fits

@@ -33,7 +33,7 @@ find_same f g h (x ∷ xs) = rw (h x, find_same f g h xs) refl
 abbrev pub placed : (ℕ → ℕ → ℕ) → OrgPlan → OrgPlan
 placed slots p = record p { slot = slots }
 
-there_same : (slots : ℕ → ℕ → ℕ) (p : OrgPlan) (j : Job) (f : Phase) (o : Outcome) → type_in (placed slots p) j f o ≡ type_in p j f o
+pub there_same : (slots : ℕ → ℕ → ℕ) (p : OrgPlan) (j : Job) (f : Phase) (o : Outcome) → type_in (placed slots p) j f o ≡ type_in p j f o
 there_same slots p j phase.Copy o = refl
 there_same slots p j phase.Clear outcome.Open = refl
 there_same slots p j phase.Clear outcome.Switched = refl
@@ -141,7 +141,7 @@ changed_rows p t n change m sound same k e = rows_stay p p t (with_object_change
       λ r s. entry_fields p t.job m o (cond (eqb m n) (change o) o) r s (pick (eqb m n) (λ b. (cond b (change o) o).fields ≡ o.fields) (λ _. same o) (λ _. refl)),
     )
 
-not_last : (t : Tenant) (m : ℕ) (o : Object) → object_at t m ≡ Some o → eqb m (length t.objects) ≡ false
+pub not_last : (t : Tenant) (m : ℕ) (o : Object) → object_at t m ≡ Some o → eqb m (length t.objects) ≡ false
 not_last t m o here = pick (eqb m (length t.objects)) (λ b. b ≡ false) (λ e. absurd (cleft (sym (get_past t.objects) ∙ subst (λ (x : ℕ). slice_get t.objects x ≡ Some o) (eqb-true m (length t.objects) e) here))) (λ _. refl)
   where
     cleft : ◌≡◌ {A = Option Object} None (Some o) → ⊥

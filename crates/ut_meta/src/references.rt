@@ -6,7 +6,7 @@ ghost use Rattle.ut_model.specs.Fields.{is_master};
 ghost use Rattle.ut_model.specs.Relationships.{parent_name, target_of};
 
 use std::alloc::{AllocError, Global};
-use ut_grammar::{characters, text_from};
+use ut_grammar::characters;
 use ut_value::{FieldType, Text};
 
 /// The number of the object to which a type refers.
@@ -37,7 +37,10 @@ pub fn parent_name(alloc: Global, field: &str) -> Result<Text, AllocError>
 {
     let all = characters(alloc, field)?;
     let kept = all.len().saturating_sub(3);
-    let mut name = text_from(alloc, &all[..kept])?.into_string();
+    let mut name = String::new(alloc);
+    for c in &all[..kept] {
+        name.push(*c)?;
+    }
     name.push_str("__r")?;
     Ok(Text::from_string(name))
 }

@@ -1,6 +1,6 @@
 //! Slots that a new field may take.
 
-ghost use Rattle.std.specs.Prelude.{◌≡◌, ◌<◌, ◌≤◌, ◌==◌, length};
+ghost use Rattle.std.specs.Prelude.{◌≡◌, ◌<◌, ◌≤◌, ◌==◌, ℕ, IsTrue, length};
 ghost use Rattle.std.specs.List.{list_any};
 ghost use Rattle.ut_meta.specs.Judging.{IsLeastFree, is_changing, is_free};
 ghost use Rattle.ut_model.specs.Retyping.{job_is_done};
@@ -45,7 +45,8 @@ const LAST_SLOT: u8 = 47;
 ///
 /// An object with at most 40 fields has one.
 pub fn free_slot(layout: &Layout) -> u8
-    ensures least { length layout.now.fields ≤ 40 → IsLeastFree layout.now result }
+    ensures least { (s : ℕ) → s < 48 → IsTrue (is_free layout.now s) → IsLeastFree layout.now result }
+    ensures few { length layout.now.fields ≤ 40 → IsLeastFree layout.now result }
     ensures within { result < 48 }
 {
     let mut slot = 0;

@@ -4,3 +4,6 @@ pub mod Versions
 pub mod Users
 pub mod Parts
 pub mod Kept
+pub mod Free
+pub mod Placed
+pub mod Widened

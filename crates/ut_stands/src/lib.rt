@@ -11,6 +11,7 @@ mod laws;
 mod layout;
 mod opening;
 mod reads;
+mod records;
 
 pub use crate::ending::finish;
 pub use crate::fail::{EditFail, OpenFail};
@@ -19,3 +20,4 @@ pub use crate::laws::{stands_laws, stands_rows};
 pub use crate::layout::{FieldPlace, JobPlace, Layout};
 pub use crate::opening::{KNOWN_VERSION, open_tables};
 pub use crate::reads::user;
+pub use crate::records::record_laws;

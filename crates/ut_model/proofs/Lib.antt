@@ -1,4 +1,5 @@
 pub mod Names
+pub mod NameForms
 pub mod Bodies
 pub mod Called
 mod Stepped

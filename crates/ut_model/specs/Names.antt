@@ -16,11 +16,15 @@ use Rattle.ut_model.specs.Rules.{Rule, refuse_if}
 abbrev pub is_underscore : ℕ → Bool
 is_underscore c = c == 95
 
+-- a letter or a digit, or `_` with one behind it
+abbrev pub goes_on : ℕ → (next : ℕ) → Bool
+goes_on c next = is_digit62 c || (is_underscore c && is_digit62 next)
+
 -- letters and digits, and `_` with a letter or a digit behind it
 abbrev pub in_stem : List ℕ → Bool
 in_stem [] = true
 in_stem (c ∷ []) = is_digit62 c
-in_stem (c ∷ d ∷ cs) = (is_digit62 c || (is_underscore c && is_digit62 d)) && in_stem (d ∷ cs)
+in_stem (c ∷ d ∷ cs) = goes_on c d && in_stem (d ∷ cs)
 
 -- a letter is first
 abbrev pub begins_with_letter : List ℕ → Bool

@@ -1,0 +1,56 @@
+-- What an edit of metadata is judged by: the layouts of an organisation's objects.
+-- Source: Salesforce, "Custom Object" and "Custom Field", as in the definitions of new objects and fields. That a free slot is
+-- the least is this product's own.
+use Rattle.std.specs.Prelude.{◌≡◌, ℕ, ◌<◌, Bool, true, false, not, ◌&&◌, ◌==◌, List, map, Option, Some, None, Result, Ok, Err, IsTrue}
+use Rattle.std.specs.List.{list_any}
+use Rattle.std.specs.Option.{option_map}
+use Rattle.ut_model.specs.Cases.{in_case}
+use Rattle.ut_model.specs.Objects.{numbered, object_named}
+use Rattle.ut_model.specs.Retyping.{job_is_done}
+use Rattle.ut_model.specs.Rules.{Rule}
+use Rattle.ut_model.specs.Tenant.{Tenant}
+use Rattle.ut_model.specs.Verdict.{Done, Verdict}
+use Rattle.ut_model.specs.declared.refusal.Refusal.{Refusal}
+use Rattle.ut_stands.specs.Layouts.{layout_of}
+use Rattle.ut_stands.specs.Plan.{OrgPlan}
+use Rattle.ut_stands.specs.declared.layout.JobPlace.{JobPlace}
+use Rattle.ut_stands.specs.declared.layout.Layout.{Layout}
+
+-- ---- layouts
+
+-- the layouts of a tenant's objects, in their order
+abbrev pub layouts_in : (org : ℕ) → OrgPlan → Tenant → List Layout
+layouts_in org p t = map (layout_of org p t) (numbered t.objects)
+
+-- these are they, for some plan
+abbrev pub AreLayouts : Tenant → List Layout → Type 0
+AreLayouts t layouts = (org : ℕ) × (p : OrgPlan) × (layouts ≡ layouts_in org p t)
+
+-- the layout is that of the object with this name, if there is one
+abbrev pub IsNamedLayout : Tenant → (name : List ℕ) → Option Layout → Type 0
+IsNamedLayout t name layout = (org : ℕ) × (p : OrgPlan) × (layout ≡ option_map (layout_of org p t) (object_named t name))
+
+-- ---- refusals
+
+abbrev pub refused : Result Done Refusal → Rule
+refused (Ok done) = None
+refused (Err refusal) = Some refusal
+
+-- why a request is refused, if it is
+abbrev pub refusal_of : Verdict → Rule
+refusal_of v = refused v.answer
+
+-- ---- slots
+
+-- the slot is that of a change that isn't done
+abbrev pub is_changing : Option JobPlace → (slot : ℕ) → Bool
+is_changing job slot = in_case job false (λ j. not (job_is_done j.phase) && (j.twin == slot))
+
+-- the slot is no field's, and not that of a change that isn't done
+abbrev pub is_free : Layout → (slot : ℕ) → Bool
+is_free l slot = not (list_any (λ f. f.slot == slot) l.fields) && not (is_changing l.job slot)
+
+-- it is free, and no slot below it is
+pub record IsLeastFree (l : Layout) (slot : ℕ) : Type 0 where
+  pub free : IsTrue (is_free l slot)
+  pub least : (s : ℕ) → s < slot → is_free l s ≡ false

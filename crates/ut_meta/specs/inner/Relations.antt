@@ -1,0 +1,75 @@
+-- Relationships and masters as layouts have them.
+use Rattle.std.specs.Prelude.{ℕ, Bool, true, false, ◌&&◌, ◌||◌, ◌==◌, List, [], ◌++◌, map, filter, filter_map, Option, Some, None, Result, Ok, Err}
+use Rattle.std.specs.List.{find, flat_map, list_any}
+use Rattle.std.specs.Option.{option_map}
+use Rattle.ut_model.specs.Cases.{in_case}
+use Rattle.ut_model.specs.Fields.{is_master, same_name}
+use Rattle.ut_model.specs.Objects.{Numbered}
+use Rattle.ut_model.specs.Relationships.{Reference, parent_name, references_of, target_of}
+use Rattle.ut_model.specs.Tenant.{Field}
+use Rattle.ut_model.specs.declared.metadata_bodies.SpelledType.{SpelledType}
+use Rattle.ut_model.specs.declared.metadata_bodies.SpelledType.TheVariants.{Plain, LookupTo}
+use Rattle.ut_stands.specs.declared.layout.FieldPlace.{FieldPlace}
+use Rattle.ut_stands.specs.declared.layout.Layout.{Layout}
+
+-- ---- objects
+
+abbrev pub field_in : FieldPlace → Field
+field_in f =
+    record { name = f.name; kind = f.kind; required = f.required; unique = f.unique; indexed = f.indexed; child = f.child }
+
+-- an object without its validation rules
+abbrev pub numbered_in : Layout → Numbered
+numbered_in l =
+    record {
+      number = l.object;
+      object = record { name = l.name; access = l.access; fields = map field_in l.fields; rules = [] };
+    }
+
+abbrev pub references_in : List Layout → List Reference
+references_in layouts = flat_map (λ l. references_of (numbered_in l)) layouts
+
+-- the layout of the object with this name
+abbrev pub named_in : List Layout → List ℕ → Option Layout
+named_in layouts name = find (λ (l : Layout). same_name l.name name) layouts
+
+-- ---- relationships
+
+-- what these references call the relationships of an object
+abbrev pub names_among : List Reference → ℕ → List (List ℕ)
+names_among fs n =
+    map (λ f. parent_name f.field.name) (filter (λ f. f.object == n) fs)
+    ++ filter_map (λ f. f.field.child) (filter (λ f. f.target == n) fs)
+
+-- the child relationship has this name
+abbrev pub has_child : (name : List ℕ) → Option (List ℕ) → Bool
+has_child name child = in_case child false (same_name name)
+
+-- the field of this object gives the object with this number a relationship with this name
+abbrev pub gives : (number : ℕ) → (name : List ℕ) → (object : ℕ) → Field → Bool
+gives n name object f =
+    in_case (target_of f.kind) false (λ target.
+    ((object == n) && same_name name (parent_name f.name)) || ((target == n) && has_child name f.child))
+
+abbrev pub layout_gives : (number : ℕ) → (name : List ℕ) → Layout → Bool
+layout_gives n name l = list_any (λ f. gives n name l.object (field_in f)) l.fields
+
+-- ---- masters
+
+abbrev pub is_master_of : (object : ℕ) → Reference → Bool
+is_master_of n f = (f.object == n) && is_master f.field.kind
+
+-- the object of the masters of an object's records
+abbrev pub master_of : List Layout → (object : ℕ) → Option ℕ
+master_of layouts n = option_map (λ (f : Reference). f.target) (find (is_master_of n) (references_in layouts))
+
+-- the same among the fields of one
+abbrev pub master_among : List FieldPlace → Option ℕ
+master_among fields = in_case (find (λ (f : FieldPlace). is_master f.kind) fields) None (λ f. target_of f.kind)
+
+-- ---- lookups
+
+-- the number of a lookup's object, or its name where there is none
+abbrev pub target_in : List Layout → SpelledType → Result (Option ℕ) (List ℕ)
+target_in layouts (Plain kind) = Ok None
+target_in layouts (LookupTo object on_delete child) = in_case (named_in layouts object) (Err object) (λ l. Ok (Some l.object))

@@ -1,0 +1,71 @@
+//! The rules that names and counts are judged by.
+
+ghost use Rattle.std.specs.Prelude.{◌≡◌, ◌∷◌, [], IfOk, not};
+ghost use Rattle.ut_model.specs.Rules.{over_limit, refuse_if};
+ghost use Rattle.ut_model.specs.declared.refusal.Refusal.TheVariants.{InvalidName, InvalidType, NameTaken};
+
+use std::alloc::{AllocError, Global};
+use ut_model::{Limit, Refusal};
+use ut_value::Text;
+
+fn copy_of(alloc: Global, text: &Text) -> Result<Text, AllocError>
+    ensures { IfOk result (λ copy. copy ≡ text.now) }
+{
+    Text::from_str(alloc, text.as_str())
+}
+
+/// That the name isn't of its form, if it isn't good.
+///
+/// # Errors
+///
+/// When out of memory.
+pub fn bad_name(alloc: Global, is_good: bool, name: &Text) -> Result<Option<Refusal>, AllocError>
+    ensures { IfOk result (λ rule. rule ≡ refuse_if (not is_good) (InvalidName name.now)) }
+{
+    if is_good {
+        return Ok(None);
+    }
+    Ok(Some(Refusal::InvalidName {
+        name: copy_of(alloc, name)?,
+    }))
+}
+
+/// That the name is another's, if it is taken.
+///
+/// # Errors
+///
+/// When out of memory.
+pub fn name_taken(alloc: Global, is_taken: bool, name: &Text) -> Result<Option<Refusal>, AllocError>
+    ensures { IfOk result (λ rule. rule ≡ refuse_if is_taken (NameTaken name.now)) }
+{
+    if !is_taken {
+        return Ok(None);
+    }
+    Ok(Some(Refusal::NameTaken {
+        name: copy_of(alloc, name)?,
+    }))
+}
+
+/// That there is no object with this name, or that it doesn't suit.
+///
+/// # Errors
+///
+/// When out of memory.
+pub fn invalid_type(alloc: Global, name: &Text) -> Result<Refusal, AllocError>
+    ensures { IfOk result (λ refusal. refusal ≡ InvalidType name.now) }
+{
+    Ok(Refusal::InvalidType {
+        name: copy_of(alloc, name)?,
+    })
+}
+
+/// That a count passes its limit.
+pub fn over_limit(limit: Limit, count: u64) -> Option<Refusal>
+    ensures { result ≡ over_limit ((limit, count) ∷ []) }
+{
+    if limit.number() < count {
+        Some(Refusal::LimitExceeded { limit })
+    } else {
+        None
+    }
+}

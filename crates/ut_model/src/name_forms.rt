@@ -33,7 +33,7 @@ fn continues_stem(byte: u8, next: u8) -> bool
 }
 
 // Whether a letter is first.
-#[tactic(auto, unfolding(ut_soql::specs::Tokens::is_letter))]
+#[tactic(auto, unfolding(ut_grammar::specs::Tokens::is_letter))]
 fn begins_with_letter(bytes: &[u8]) -> bool
     ensures { result ≡ form.begins_with_letter bytes.now }
 {

@@ -1,7 +1,7 @@
 //! The model: what an organisation is, who calls it, who may do what with a record, what a query finds, what a request asks
 //! for and what it is answered, as plain types and definitions.
 //!
-//! It depends on `ut_value`, on `ut_json` for the bodies of refusals, on `sha2` for the digest of a secret, on `ut_soql` for
+//! It depends on `ut_value`, on `ut_json` for the bodies of refusals, on `sha2` for the digest of a secret, on `ut_query` for
 //! queries, on `form_urlencoded` for their text in a target, and on `ut_formula` for the formulas of criteria. Its contract:
 //! a refusal's code, status, message and body are those of the definitions, and so are the ids of organisations and of their
 //! first users; the step of the world is a function of the organisation that the message's key names; members and their like
@@ -18,6 +18,7 @@ mod laws;
 mod level_rows;
 mod limit;
 mod message;
+mod metadata_bodies;
 mod query_rows;
 mod record;
 mod record_rows;
@@ -38,6 +39,7 @@ pub use crate::job_rows::{limit_rows, retype_rows, stuck_retype_rows};
 pub use crate::laws::{model_rows, name_laws};
 pub use crate::level_rows::{hierarchy_rows, rule_rows, share_rows};
 pub use crate::limit::Limit;
+pub use crate::metadata_bodies::{NewField, NewMaster, NewObject, SpelledType};
 pub use crate::query_rows::{condition_rows, path_rows, sorted_rows};
 pub use crate::record::Record;
 pub use crate::record_rows::{delete_rows, found_rows, number_rows, upsert_rows, validation_rows};

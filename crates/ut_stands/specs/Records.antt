@@ -1,12 +1,12 @@
 -- The rows of an object's records, and when records are kept in the same rows though plan and tenant change.
 -- Source: as in Entries: indexes, unique values and relationships are rows beside those of the records.
-use Rattle.std.specs.Prelude.{◌≡◌, ℕ, Bool, false, not, ◌&&◌, ◌||◌, ◌==◌, if◌then◌else◌, List, length, Option, Some, None, is_none, IsTrue}
+use Rattle.std.specs.Prelude.{◌≡◌, ℕ, Bool, false, not, ◌&&◌, ◌==◌, if◌then◌else◌, List, Option, Some, None, is_none}
 use Rattle.ut_formula.specs.Meaning.{value_at}
 use Rattle.ut_keys.specs.Keys.{Key, Data, Index, Unique, Relation}
 use Rattle.ut_model.specs.Cases.{in_case}
 use Rattle.ut_model.specs.Retyping.{job_is_done}
 use Rattle.ut_model.specs.SoundMetadata.{implies}
-use Rattle.ut_model.specs.Tenant.{Field, Job, Object, Tenant}
+use Rattle.ut_model.specs.Tenant.{Field, Job, Object}
 use Rattle.ut_stands.specs.Entries.{Entry, entry_text, field_in, is_indexed, is_reference_to, is_unique, name_text}
 use Rattle.ut_stands.specs.Plan.{OrgPlan}
 use Rattle.ut_stands.specs.Stands.{Kept}

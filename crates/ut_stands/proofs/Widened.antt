@@ -76,7 +76,7 @@ valid_length [] (v ∷ vs) h = absurd cc
 valid_length (k ∷ ks) [] h = absurd cc
 valid_length (k ∷ ks) (v ∷ vs) h = ap suc (valid_length ks vs (and_right _ _ h))
 
-mapped_length : {X Y : Type 0} (f : X → Y) (xs : List X) → length (map f xs) ≡ length xs
+pub mapped_length : {X Y : Type 0} (f : X → Y) (xs : List X) → length (map f xs) ≡ length xs
 mapped_length f [] = refl
 mapped_length f (x ∷ xs) = ap suc (mapped_length f xs)
 

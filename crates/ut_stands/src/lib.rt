@@ -20,4 +20,4 @@ pub use crate::laws::{stands_laws, stands_rows};
 pub use crate::layout::{FieldPlace, JobPlace, Layout};
 pub use crate::opening::{KNOWN_VERSION, open_tables};
 pub use crate::reads::user;
-pub use crate::records::{record_laws, slot_laws};
+pub use crate::records::{metadata_laws, record_laws, slot_laws};

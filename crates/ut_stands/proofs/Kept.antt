@@ -1,6 +1,6 @@
 -- Records that are kept alike have the same rows.
-use Rattle.std.proofs.Common.{◌≡◌, ℕ, Bool, true, false, cond, IsTrue, List, [], ◌∷◌, map, Option, Some, None, refl, sym, ap, ◌∙◌, subst, inl, inr}
-use Rattle.std.specs.Prelude.{filter, if◌then◌else◌, slice_get}
+use Rattle.std.proofs.Common.{◌≡◌, ℕ, Bool, true, false, cond, List, [], ◌∷◌, map, Option, Some, None, refl, sym, ap, subst, inl, inr}
+use Rattle.std.specs.Prelude.{filter, if◌then◌else◌}
 use Rattle.std.specs.List.{find, range_with_len}
 use Rattle.std.specs.Option.{option_and_then, option_map}
 use Rattle.std.specs.Str.{bytes_eq}
@@ -9,7 +9,7 @@ use Rattle.ut_keys.specs.Keys.{Key, Data, Index, Unique, Relation}
 use Rattle.ut_keys.specs.Rows.{data_form, unique_form}
 use Rattle.ut_model.specs.declared.record.Record.{Record}
 use Rattle.ut_model.specs.Membership.{Has}
-use Rattle.ut_model.specs.Objects.{is_of, object_at, record_at, records_of}
+use Rattle.ut_model.specs.Objects.{is_of, object_at}
 use Rattle.ut_model.specs.Tenant.{Object, Tenant}
 use Rattle.ut_model.specs.World.{with_id}
 use Rattle.ut_stands.specs.Entries.{Entry, data_of, entry, entry_text, is_indexed, is_reference_to, is_unique, slots_of}

@@ -8,3 +8,4 @@ pub mod Free
 pub mod Placed
 pub mod Widened
 pub mod Fits
+pub mod Rest

@@ -1,9 +1,9 @@
 -- Entries where fields have other slots, and objects of which another is known.
-use Rattle.std.proofs.Common.{◌≡◌, ℕ, zero, suc, ◌+◌, ◌<◌, ◌≤◌, Bool, true, false, ◌&&◌, cond, eqb, IsTrue, List, [], ◌∷◌, ◌++◌, map, length, Option, Some, None, refl, sym, ap, ◌∙◌, subst, arith, map-id, inl, inr}
-use Rattle.std.specs.Prelude.{filter, if◌then◌else◌, slice_get}
+use Rattle.std.proofs.Common.{◌≡◌, ℕ, zero, suc, Bool, true, false, ◌&&◌, cond, eqb, List, [], ◌∷◌, ◌++◌, length, Option, Some, None, refl, sym, ap, ◌∙◌, subst, map-id, inl, inr}
+use Rattle.std.specs.Prelude.{slice_get}
 use Rattle.std.specs.List.{AllByRecursion, enumerate_from, find}
 use Rattle.std.specs.Option.{option_and_then, option_map}
-use Rattle.std.proofs.lemmas.Bool.{eqb-false, eqb-true}
+use Rattle.std.proofs.lemmas.Bool.{eqb-true}
 use Rattle.std.proofs.Math.Dec.{eqb-suc-zero, eqb-zero-suc, eqb-suc-suc}
 use Rattle.ut_keys.specs.Keys.{Key}
 use Rattle.ut_model.specs.declared.record.Record.{Record}
@@ -13,11 +13,11 @@ use Rattle.ut_model.specs.Objects.{change_at, is_of, object_at, object_number, w
 use Rattle.ut_model.specs.Sound.{IsSound}
 use Rattle.ut_model.specs.SoundRecords.{IsSoundRecord}
 use Rattle.ut_model.specs.Tenant.{Field, Job, Object, Tenant}
-use Rattle.ut_stands.specs.Entries.{Entry, entry, field_in, job_entry, job_value, other_entry}
-use Rattle.ut_stands.specs.Plan.{OrgPlan, type_in, type_there}
+use Rattle.ut_stands.specs.Entries.{Entry, entry, job_entry, job_value, other_entry}
+use Rattle.ut_stands.specs.Plan.{OrgPlan, type_in}
 use Rattle.ut_stands.specs.Records.{Alike, KeptAlike, object_of_records, with_slot}
-use Rattle.ut_stands.specs.Stands.{Kept, kept_in, row_in}
-use Rattle.ut_stands.proofs.Kept.{kept, none, pick, some_is}
+use Rattle.ut_stands.specs.Stands.{row_in}
+use Rattle.ut_stands.proofs.Kept.{kept, none, pick}
 use Rattle.ut_value.specs.declared.job.Outcome.{Outcome}
 use Rattle.ut_value.specs.declared.job.Outcome.TheVariants as outcome
 use Rattle.ut_value.specs.declared.job.Phase.{Phase}

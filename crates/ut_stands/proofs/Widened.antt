@@ -1,7 +1,7 @@
 -- One more field, in a free slot: all records keep their rows.
-use Rattle.std.proofs.Common.{◌≡◌, ℕ, zero, suc, ◌+◌, ◌<◌, ◌≤◌, Bool, true, false, not, ◌&&◌, cond, eqb, IsTrue, List, [], ◌∷◌, ◌++◌, map, length, Option, Some, None, refl, sym, ap, ◌∙◌, subst, arith, inl, inr}
-use Rattle.std.specs.Prelude.{if◌then◌else◌, is_none, is_some, slice_get}
-use Rattle.std.specs.List.{AllByRecursion, enumerate_from, find, list_all}
+use Rattle.std.proofs.Common.{◌≡◌, ℕ, zero, suc, ◌+◌, ◌<◌, Bool, true, false, not, ◌&&◌, cond, eqb, IsTrue, List, [], ◌∷◌, ◌++◌, map, length, Option, Some, None, refl, sym, ap, ◌∙◌, subst, arith, inl, inr}
+use Rattle.std.specs.Prelude.{if◌then◌else◌, is_none, slice_get}
+use Rattle.std.specs.List.{AllByRecursion, enumerate_from, find}
 use Rattle.std.specs.Option.{option_and_then, option_map}
 use Rattle.std.proofs.lemmas.Bool.{eqb-false, eqb-true}
 use Rattle.std.proofs.lemmas.List.{get_or_push}
@@ -10,21 +10,21 @@ use Rattle.ut_formula.specs.Meaning.{value_at}
 use Rattle.ut_keys.specs.Keys.{Key}
 use Rattle.ut_model.specs.declared.record.Record.{Record}
 use Rattle.ut_model.specs.Cases.{in_case}
-use Rattle.ut_model.specs.Known.{Known, known}
+use Rattle.ut_model.specs.Known.{known}
 use Rattle.ut_model.specs.Membership.{Has}
 use Rattle.ut_model.specs.NewFields.{with_field}
-use Rattle.ut_model.specs.Objects.{change_at, is_of, object_at, object_number}
+use Rattle.ut_model.specs.Objects.{is_of, object_at, object_number}
 use Rattle.ut_model.specs.Sound.{IsSound}
-use Rattle.ut_model.specs.SoundJob.{HasSoundJob, IsSoundJob, job_field}
+use Rattle.ut_model.specs.SoundJob.{HasSoundJob}
 use Rattle.ut_model.specs.SoundRecords.{IsSoundRecord, all_valid, kinds_of}
 use Rattle.ut_model.specs.Tenant.{Field, Job, Object, Tenant}
 use Rattle.ut_stands.specs.Entries.{Entry, entry, field_entry, field_in, job_entry, job_value, name_text, other_entry}
 use Rattle.ut_stands.specs.Plan.{OrgPlan}
 use Rattle.ut_stands.specs.Records.{Alike, KeptAlike, is_free, is_other, object_of_records, suits_flags, with_slot}
-use Rattle.ut_stands.specs.Stands.{Kept, kept_in, row_in}
-use Rattle.ut_stands.proofs.Free.{and_left, and_right, free_field, free_other, not_true}
+use Rattle.ut_stands.specs.Stands.{kept_in, row_in}
+use Rattle.ut_stands.proofs.Free.{and_left, and_right, free_other, not_true}
 use Rattle.ut_stands.proofs.Kept.{kept, none, pick, some_is}
-use Rattle.ut_stands.proofs.Placed.{alike_same, entry_same, get_changed, get_past, get_push, kept_alike, no_records, other_same}
+use Rattle.ut_stands.proofs.Placed.{alike_same, entry_same, get_changed, get_push, kept_alike, no_records, other_same}
 use Rattle.ut_value.specs.Reading.{empty_value}
 use Rattle.ut_value.specs.declared.job.Phase.{Phase}
 use Rattle.ut_value.specs.declared.job.Phase.TheVariants as phase
@@ -76,7 +76,7 @@ valid_length [] (v ∷ vs) h = absurd cc
 valid_length (k ∷ ks) [] h = absurd cc
 valid_length (k ∷ ks) (v ∷ vs) h = ap suc (valid_length ks vs (and_right _ _ h))
 
-mapped_length : {X Y : Type 0} (f : X → Y) (xs : List X) → length (map f xs) ≡ length xs
+pub mapped_length : {X Y : Type 0} (f : X → Y) (xs : List X) → length (map f xs) ≡ length xs
 mapped_length f [] = refl
 mapped_length f (x ∷ xs) = ap suc (mapped_length f xs)
 

@@ -7,13 +7,14 @@ ghost use Rattle.ut_model.specs.declared.record.Record.{Record};
 ghost use Rattle.ut_model.specs.Limits.{limit_number};
 ghost use Rattle.ut_model.specs.Membership.{Has};
 ghost use Rattle.ut_model.specs.NewFields.{with_field};
-ghost use Rattle.ut_model.specs.Objects.{is_of, object_at, with_object_changed};
+ghost use Rattle.ut_model.specs.Objects.{is_of, object_at, records_of, with_object_changed};
 ghost use Rattle.ut_model.specs.Sound.{IsSound};
 ghost use Rattle.ut_model.specs.Tenant.{Field, Job, Object, Tenant};
 ghost use Rattle.ut_stands.specs.Entries.{entry};
 ghost use Rattle.ut_stands.specs.Plan.{FitsPlan, OrgPlan, slot_count};
-ghost use Rattle.ut_stands.specs.Records.{KeptAlike, is_free, object_of_records, suits_flags, with_slot};
+ghost use Rattle.ut_stands.specs.Records.{KeptAlike, is_field_key, is_free, is_object_key, is_org_key, object_of_records, suits_flags, with_slot};
 ghost use Rattle.ut_stands.specs.Stands.{kept_in, row_in};
+ghost use Rattle.ut_value.specs.declared.sharing.Access.{Access};
 
 /// The laws of the rows of records, while plan and tenant change. The call does nothing.
 pub fn record_laws()
@@ -26,17 +27,34 @@ pub fn record_laws()
     ensures none { (p : OrgPlan) (t : Tenant) (n : ℕ) (k : Key)
         → ((r : Record) → Has t.records r → is_of n r ≡ false) → object_of_records k ≡ Some n → row_in p t k ≡ None }
 
-    // All records keep their rows where an object comes, where one is changed but for its fields, and where a field comes
-    // that has a free slot.
-    ensures object { (p : OrgPlan) (t : Tenant) (o : Object) (f s m : ℕ) (k : Key)
-        → IsSound t → object_of_records k ≡ Some m
-        → row_in (with_slot (length t.objects) f s p) (record t { objects = t.objects ++ o ∷ [] }) k ≡ row_in p t k }
+    // All records keep their rows where an object is changed but for its fields.
     ensures described { (p : OrgPlan) (t : Tenant) (n : ℕ) (change : Object → Object) (m : ℕ) (k : Key)
         → IsSound t → ((o : Object) → (change o).fields ≡ o.fields) → object_of_records k ≡ Some m
         → row_in p (with_object_changed n change t) k ≡ row_in p t k }
-    ensures field { (p : OrgPlan) (t : Tenant) (n : ℕ) (o : Object) (f : Field) (s m : ℕ) (k : Key)
+{}
+
+/// The laws of the rows of metadata: which stay where an object, another access, or a field in a free slot comes. The call
+/// does nothing.
+pub fn metadata_laws()
+    // All but the organisation's row, and those of the object and of its first field.
+    ensures object { (p : OrgPlan) (t : Tenant) (o : Object) (s : ℕ) (k : Key)
+        → IsSound t → length o.fields ≤ 1 → o.rules ≡ []
+        → is_org_key k ≡ false → is_object_key (length t.objects) k ≡ false → is_field_key (length t.objects) 0 k ≡ false
+        → row_in (with_slot (length t.objects) 0 s p) (record t { objects = t.objects ++ o ∷ [] }) k ≡ row_in p t k }
+
+    // All but the row of the object.
+    ensures access { (p : OrgPlan) (t : Tenant) (n : ℕ) (access : Access) (k : Key)
+        → IsSound t → is_object_key n k ≡ false
+        → row_in p (with_object_changed n (λ o. record o { access = access }) t) k ≡ row_in p t k }
+
+    // All but the rows of the object and of the field.
+    ensures field { (p : OrgPlan) (t : Tenant) (n : ℕ) (o : Object) (f : Field) (s : ℕ) (k : Key)
         → IsSound t → object_at t n ≡ Some o → IsTrue (is_free p t.job n o s) → IsTrue (suits_flags f)
-        → object_of_records k ≡ Some m → row_in (with_slot n (length o.fields) s p) (with_field n f t) k ≡ row_in p t k }
+        → is_object_key n k ≡ false → is_field_key n (length o.fields) k ≡ false
+        → row_in (with_slot n (length o.fields) s p) (with_field n f t) k ≡ row_in p t k }
+
+    // A field that comes leaves the number of each object's records.
+    ensures counted { (t : Tenant) (n m : ℕ) (f : Field) → length (records_of (with_field n f t) m) ≡ length (records_of t m) }
 {}
 
 /// The laws of slots. The call does nothing.

@@ -1,5 +1,5 @@
 //! Times of the parts whose cost matters, for `docs/PERFORMANCE.md`: `bench keeper ROWS`, `bench json BYTES`,
-//! `bench values CALLS` and `bench rows CALLS`.
+//! `bench values CALLS`, `bench rows CALLS` and `bench like CALLS`.
 //!
 //! What was done goes to standard output, the times in microseconds to standard error.
 #![tactic(auto)]
@@ -16,7 +16,8 @@ use std::{env, io};
 use ut_json::{Json, Mark, Writer, read};
 use ut_keeper::{Draft, KeepFail, Keeper, MemoryKeeper, all_rows};
 use ut_keys::{DataRow, RowForm};
-use ut_value::{Bytes, FieldType, Text, Value, order_key, read_value};
+use ut_query::{LikePart, LikePattern, like};
+use ut_value::{Bytes, FieldType, Items, Text, Value, order_key, read_value};
 
 const TABLE: u8 = 7;
 
@@ -231,6 +232,47 @@ fn measure_rows(rt: &HostRuntime, calls: u32) -> io::Result<()> {
     println!(rt; "rows: {rows} {written}")
 }
 
+// A pattern of 100 runs and then `a`.
+fn many_runs(alloc: Global) -> Result<LikePattern, AllocError> {
+    let mut parts = vec![in alloc; LikePart::Many; 100]?;
+    parts.push(LikePart::Exact('a'))?;
+    Ok(LikePattern {
+        parts: Items::from_vec(parts),
+    })
+}
+
+// 255 times `a`, and then `b`.
+fn long_text(alloc: Global) -> Result<String, AllocError> {
+    let mut text = String::new(alloc);
+    for _ in 0..255 {
+        text.push('a')?;
+    }
+    text.push('b')?;
+    Ok(text)
+}
+
+// How many of so many calls said that a text isn't like a pattern.
+fn count_unlike(alloc: Global, calls: u32, pattern: &LikePattern, text: &str) -> u32 {
+    let mut count = 0u32;
+    for _ in 0..calls {
+        if let Ok(false) = like(alloc, pattern, text) {
+            count = count.saturating_add(1);
+        }
+    }
+    count
+}
+
+fn measure_like(rt: &HostRuntime, calls: u32) -> io::Result<()> {
+    let alloc = rt.alloc();
+    let (Ok(pattern), Ok(text)) = (many_runs(alloc), long_text(alloc)) else {
+        return println!(rt; "out of memory");
+    };
+    let start = Instant::now(rt)?;
+    let unlike = count_unlike(alloc, calls, &pattern, text.as_str());
+    tell_time(rt, "like", start)?;
+    println!(rt; "not like the pattern: {unlike}")
+}
+
 fn measure(rt: &HostRuntime) -> io::Result<u8> {
     let words: Vec<String> = match env::args(rt)?.skip(1).collect(rt.alloc()) {
         Ok(words) => words,
@@ -251,6 +293,10 @@ fn measure(rt: &HostRuntime) -> io::Result<u8> {
                 measure_rows(rt, size)?;
                 return Ok(0);
             }
+            if words[0].as_str() == "like" {
+                measure_like(rt, size)?;
+                return Ok(0);
+            }
             if words[0].as_str() == "values" {
                 measure_reading(rt, size)?;
                 measure_keys(rt, size)?;
@@ -259,7 +305,7 @@ fn measure(rt: &HostRuntime) -> io::Result<u8> {
         }
     }
     eprintln!(rt;
-        "usage: bench keeper ROWS, bench json BYTES, bench values CALLS, or bench rows CALLS"
+        "usage: bench keeper ROWS, bench json BYTES, bench values CALLS, bench rows CALLS, or bench like CALLS"
     )?;
     Ok(64)
 }

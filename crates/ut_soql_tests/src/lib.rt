@@ -1,6 +1,7 @@
-//! Tests of `ut_soql`: texts with the place at which they are refused, by hand from the grammar.
+//! Tests of `ut_soql`: texts with the place at which they are refused, by hand from the grammar, and patterns with texts.
 //!
-//! What is proved in `ut_soql` isn't tested again: these tables show that its definitions are those of the language.
+//! What is proved in `ut_soql` and `ut_query` isn't tested again: these tables show that their definitions are those
+//! of the language.
 #![tactic(auto)]
 
 #[cfg(test)]

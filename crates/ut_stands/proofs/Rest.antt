@@ -16,9 +16,9 @@ use Rattle.ut_stands.specs.Metadata.{field_of, job_of, named_so, object_of, org_
 use Rattle.ut_stands.specs.Plan.{OrgPlan}
 use Rattle.ut_stands.specs.Records.{is_field_key, is_free, is_object_key, is_org_key, suits_flags, with_slot}
 use Rattle.ut_stands.specs.Stands.{row_in}
-use Rattle.ut_stands.proofs.Kept.{pick, some_is}
-use Rattle.ut_stands.proofs.Placed.{changed_rows, get_changed, get_past, get_push, not_last, object_rows, placed, there_same}
-use Rattle.ut_stands.proofs.Widened.{field_rows, mapped_length}
+use Rattle.ut_stands.proofs.Lookups.{get_past, get_push, mapped_length, pick, some_is}
+use Rattle.ut_stands.proofs.Placed.{changed_rows, get_changed, object_rows, placed, there_same}
+use Rattle.ut_stands.proofs.Widened.{field_rows}
 use Rattle.ut_value.specs.Reading.{empty_value}
 use Rattle.ut_value.specs.declared.sharing.Access.{Access}
 

@@ -10,7 +10,7 @@ use Rattle.ut_model.specs.Tenant.{Field, Job, Object}
 use Rattle.ut_stands.specs.Entries.{entry, field_in, job_entry, job_value, other_entry}
 use Rattle.ut_stands.specs.Plan.{OrgPlan, slot_count}
 use Rattle.ut_stands.specs.Records.{is_free, is_other}
-use Rattle.ut_stands.proofs.Kept.{pick}
+use Rattle.ut_stands.proofs.Lookups.{mapped_length, pick}
 use Rattle.ut_value.specs.declared.job.Phase.{Phase}
 use Rattle.ut_value.specs.declared.job.Phase.TheVariants as phase
 
@@ -75,10 +75,6 @@ length-enumerate : {X : Type 0} (xs : List X) (n : ℕ) → length (enumerate_fr
 length-enumerate [] n = refl
 length-enumerate (x ∷ xs) n = ap suc (length-enumerate xs (n + 1))
 
-length-mapped : {X : Type 0} (f : X → ℕ) (xs : List X) → length (map f xs) ≡ length xs
-length-mapped f [] = refl
-length-mapped f (x ∷ xs) = ap suc (length-mapped f xs)
-
 none_named : {X : Type 0} (g : X → ℕ) (s : ℕ) (xs : List X) → has_number s (map g xs) ≡ false → find (λ x. eqb (g x) s) xs ≡ None
 none_named g s [] e = refl
 none_named g s (x ∷ xs) e = rw (or_left (eqb (g x) s) (has_number s (map g xs)) e) (none_named g s xs (or_right (eqb (g x) s) (has_number s (map g xs)) e))
@@ -96,7 +92,7 @@ not_other p (Some j) n s e = rw e (ands (not (job_is_done j.phase)) (eqb j.objec
 pub free_slot : (p : OrgPlan) (job : Option Job) (n : ℕ) (o : Object) → length o.fields ≤ 40 → (s : ℕ) × (s < slot_count) × IsTrue (is_free p job n o s)
 free_slot p job n o few =
     let slots : List ℕ = map (λ (f : ℕ × Field). p.slot n f.0) (enumerate_from 0 o.fields) in
-    let size : length slots ≡ length o.fields = length-mapped (λ (f : ℕ × Field). p.slot n f.0) (enumerate_from 0 o.fields) ∙ length-enumerate o.fields 0 in
+    let size : length slots ≡ length o.fields = mapped_length (λ (f : ℕ × Field). p.slot n f.0) (enumerate_from 0 o.fields) ∙ length-enumerate o.fields 0 in
     let (s, below, none) = missing slot_count (p.other ∷ slots) (omega (arith, size, few)) in
     (s, below, rw (none_named (λ (f : ℕ × Field). p.slot n f.0) s (enumerate_from 0 o.fields) (or_right (eqb p.other s) (has_number s slots) none), not_other p job n s (or_left (eqb p.other s) (has_number s slots) none)) refl)
 

@@ -1,5 +1,5 @@
 -- A worked organisation: two records of one object, whose field's type is being changed from numbers to texts.
-use Rattle.std.specs.Prelude.{ℕ, true, false, List, [], ◌∷◌, codes, Some, None, pos}
+use Rattle.std.specs.Prelude.{true, false, [], ◌∷◌, codes, Some, None, pos}
 use Rattle.ut_model.specs.declared.record.Record.{Record}
 use Rattle.ut_model.specs.Tenant.{Field, Object, Tenant}
 use Rattle.ut_stands.specs.Plan.{OrgPlan}

@@ -1,0 +1,9 @@
+pub mod Lexed
+pub mod Written
+pub mod Prints
+pub mod Keywords
+pub mod Names
+pub mod Quoted
+pub mod Units
+pub mod Grown
+pub mod Runs

@@ -7,3 +7,7 @@ pub mod Quoted
 pub mod Units
 pub mod Grown
 pub mod Runs
+pub mod Limits
+pub mod Days
+pub mod Bounds
+pub mod Leaves

@@ -69,7 +69,7 @@ word_is (c ∷ cs) ws h = word_of_class (class_of lexis c) c cs ws refl h
 
 -- ---- what keywords are not
 -- a function that has this value at a sign, if there is one
-abbrev At : {B : Type 0} → (Sign → B) → B → Option Sign → Type 0
+abbrev pub At : {B : Type 0} → (Sign → B) → B → Option Sign → Type 0
 At f b None = Unit {0}
 At f b (Some s) = f s ≡ b
 
@@ -77,17 +77,17 @@ at_if : {B : Type 0} (f : Sign → B) (b : B) (test : Bool) (s : Sign) (others :
 at_if f b true s others h o = h
 at_if f b false s others h o = o
 
-either_if : {B : Type 0} (f : Sign → B) (b : B) (test : Bool) (s t : Sign) → f s ≡ b → f t ≡ b → f (cond test s t) ≡ b
+pub either_if : {B : Type 0} (f : Sign → B) (b : B) (test : Bool) (s t : Sign) → f s ≡ b → f t ≡ b → f (cond test s t) ≡ b
 either_if f b true s t h k = h
 either_if f b false s t h k = k
 
-at_or : {B : Type 0} (f : Sign → B) (b : B) (word : Option Sign) (other : Sign) → At f b word → f other ≡ b → f (word_or word other) ≡ b
+pub at_or : {B : Type 0} (f : Sign → B) (b : B) (word : Option Sign) (other : Sign) → At f b word → f other ≡ b → f (word_or word other) ≡ b
 at_or f b None other h k = k
 at_or f b (Some s) other h k = h
 
 module _ {B : Type 0} (f : Sign → B) (b : B) (and : f sign.And ≡ b) (or : f sign.Or ≡ b) (not : f sign.Not ≡ b) (in_ : f sign.In ≡ b) (like : f sign.Like ≡ b) (null : f sign.Null ≡ b)
     (truth : (t : Bool) → f (sign.Truth t) ≡ b) (cs : List ℕ) where
-  at_condition_word : At f b (condition_word cs)
+  pub at_condition_word : At f b (condition_word cs)
   unfolding condition_word
   at_condition_word =
       at_if f b (is_written (codes "AND") cs) sign.And _ and
@@ -101,7 +101,7 @@ module _ {B : Type 0} (f : Sign → B) (b : B) (and : f sign.And ≡ b) (or : f 
 
   module _ (select : f sign.Select ≡ b) (from : f sign.From ≡ b) (where_ : f sign.Where ≡ b) (order : f sign.Order ≡ b) (by : f sign.By ≡ b)
       (descending : (t : Bool) → f (sign.Descending t) ≡ b) (nulls : f sign.Nulls ≡ b) (last : (t : Bool) → f (sign.Last t) ≡ b) (limit : f sign.Limit ≡ b) (offset : f sign.Offset ≡ b) where
-    at_clause_word : At f b (clause_word cs)
+    pub at_clause_word : At f b (clause_word cs)
     unfolding clause_word
     at_clause_word =
         at_if f b (is_written (codes "SELECT") cs) sign.Select _ select

@@ -20,18 +20,18 @@ use Rattle.ut_soql_print.proofs.Lexed.{Reads, reads_wider, run_reads}
 use Rattle.ut_soql_print.proofs.Keywords.{goes_on, wider_by}
 
 -- ---- runs of characters
-record IsRun (cs : List ℕ) : Type 0 where
+pub record IsRun (cs : List ℕ) : Type 0 where
   pub first : ℕ
   pub more : List ℕ
   pub is : cs ≡ first ∷ more
   pub begins : class_of lexis first ≡ Digits
   pub passes : Passes in_run (first ∷ more)
 
-passes_both : (p : ℕ → Bool) (xs ys : List ℕ) → Passes p xs → Passes p ys → Passes p (xs ++ ys)
+pub passes_both : (p : ℕ → Bool) (xs ys : List ℕ) → Passes p xs → Passes p ys → Passes p (xs ++ ys)
 passes_both p [] ys h k = k
 passes_both p (x ∷ xs) ys h k = (h.0, passes_both p xs ys h.1 k)
 
-is_run_reads : (cs : List ℕ) → IsRun cs → Reads goes_on cs (sign_of (run_token cs) ∷ [])
+pub is_run_reads : (cs : List ℕ) → IsRun cs → Reads goes_on cs (sign_of (run_token cs) ∷ [])
 unfolding in_run is_letter is_digit
 is_run_reads cs run =
     let reads = run_reads run.first run.more run.begins run.passes.1 in
@@ -50,11 +50,11 @@ digit_begins : (c : ℕ) → is_digit c ≡ true → begins_run c ≡ true
 unfolding begins_run
 digit_begins c h = rw h refl
 
-digit_class : (c : ℕ) → is_digit c ≡ true → class_of lexis c ≡ Digits
+pub digit_class : (c : ℕ) → is_digit c ≡ true → class_of lexis c ≡ Digits
 unfolding class_of
 digit_class c h = rw (digit_dark c h, digit_no_letter c h, digit_begins c h) refl
 
-digit_runs : (c : ℕ) → is_digit c ≡ true → in_run c ≡ true
+pub digit_runs : (c : ℕ) → is_digit c ≡ true → in_run c ≡ true
 unfolding in_run
 digit_runs c h = go (is_letter c)
   where

@@ -7,3 +7,7 @@
 mod place_table;
 #[cfg(test)]
 mod places;
+#[cfg(test)]
+mod print_table;
+#[cfg(test)]
+mod printing;

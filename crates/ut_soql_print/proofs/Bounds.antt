@@ -1,7 +1,6 @@
 -- Numbers, days and moments of a text are those that have a text.
-use Rattle.std.proofs.Common.{◌≡◌, ◌==◌, ◌||◌, ◌<◌, ℕ, zero, suc, Bool, true, false, cond, if◌then◌else◌, List, [], ◌∷◌, Option, Some, None, Result, Ok, Err, ℤ, pos, negsuc, refl, sym, ◌∙◌, ap, subst, arith}
+use Rattle.std.proofs.Common.{◌≡◌, ◌==◌, ◌<◌, ℕ, zero, suc, Bool, true, false, if◌then◌else◌, List, [], ◌∷◌, Option, Some, None, Result, Ok, Err, ℤ, refl, sym, ◌∙◌, ap, subst, arith}
 use Rattle.std.specs.Prelude.{unsigned_abs}
-use Rattle.ut_grammar.specs.declared.token.Piece.{Piece}
 use Rattle.ut_grammar.specs.declared.token.Token.{Token}
 use Rattle.ut_grammar.specs.declared.token.Token.TheVariants as token
 use Rattle.ut_grammar.specs.Counts.{number_count, plain_text}
@@ -16,13 +15,12 @@ use Rattle.ut_value.proofs.DateLaws.{day_valid, moment_valid}
 use Rattle.ut_value.proofs.Sizes.{exactly_is}
 use Rattle.std.specs.Prelude.{option_map}
 use Rattle.ut_soql.specs.Grammar.{literal_in, text_literal}
-use Rattle.ut_soql.specs.Signs.{lexis, sign_of, word_sign, condition_word, clause_word, name_sign, is_written, mark_sign, pair_sign, run_sign, number_sign, day_or, moment_in}
-use Rattle.ut_soql.specs.declared.query.Literal.{Literal}
+use Rattle.ut_soql.specs.Signs.{sign_of, word_sign, condition_word, clause_word, name_sign, is_written, mark_sign, pair_sign, run_sign, number_sign, day_or, moment_in}
 use Rattle.ut_soql.specs.declared.query.Literal.TheVariants as l
 use Rattle.ut_soql.specs.declared.sign.Sign.{Sign}
 use Rattle.ut_soql.specs.declared.sign.Sign.TheVariants as sign
 use Rattle.std.proofs.Common.{codes}
-use Rattle.ut_soql_print.proofs.Names.{At, at_clause_word, at_condition_word, at_or, either_if}
+use Rattle.ut_soql_print.proofs.Names.{at_clause_word, at_condition_word, at_or, either_if}
 use Rattle.ut_soql_print.proofs.Written.{IsWritten}
 
 -- ---- which signs are values

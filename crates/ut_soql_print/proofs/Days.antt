@@ -1,30 +1,26 @@
 -- The texts of days and moments are single tokens, which read as they were.
-use Rattle.std.proofs.Common.{◌≡◌, ◌==◌, ◌≢◌, ℕ, zero, suc, ◌+◌, ◌-◌, ◌/◌, ◌%◌, ◌^◌, ◌<◌, ◌≤◌, nat_le, nat_lt, Bool, true, false, ◌||◌, ◌&&◌, cond, if◌then◌else◌, List, [], ◌∷◌, ◌++◌, length, Option, Some, None, Result, Ok, Err, ℤ, pos, refl, sym, ◌∙◌, ap, subst, length-append, arith}
+use Rattle.std.proofs.Common.{◌≡◌, ◌==◌, ℕ, zero, suc, ◌+◌, ◌/◌, ◌%◌, ◌^◌, ◌<◌, Bool, true, false, ◌||◌, ◌&&◌, cond, if◌then◌else◌, List, [], ◌∷◌, ◌++◌, length, None, Result, Ok, Err, ℤ, pos, refl, sym, ◌∙◌, ap, subst, length-append, arith}
 use Rattle.std.specs.Int.{int_rem_euclid}
 use Rattle.std.specs.Prelude.{unsigned_abs, codes}
-use Rattle.std.specs.List.{list_all, prefix_len, zip}
 use Rattle.std.proofs.lemmas.Bool.Decides.{nat_tests}
-use Rattle.ut_grammar.specs.declared.classes.Class.TheVariants.{Digits}
 use Rattle.ut_grammar.specs.declared.token.Token.TheVariants as token
 use Rattle.ut_grammar.specs.Counts.{number_count}
 use Rattle.ut_grammar.specs.Tokens.{Passes, in_run, is_letter, run_token}
-use Rattle.ut_value.specs.Dates.{fits, has_form, is_calendar_date, is_date, is_day, is_moment, is_moment_form, is_written_day, is_written_moment, day_number, moment_seconds, year_of}
+use Rattle.ut_value.specs.Dates.{has_form, is_date, is_day, is_moment, is_moment_form, is_written_day, is_written_moment, day_number, moment_seconds}
 use Rattle.ut_value.specs.Digits.{digits}
-use Rattle.ut_value.specs.Numerals.{is_digit, is_numeral, is_unsigned_numeral, is_written_number, without_sign}
+use Rattle.ut_value.specs.Numerals.{is_digit, is_numeral, is_unsigned_numeral, is_written_number}
 use Rattle.ut_value.specs.Printing.{day_of_moment, padded, print_clock, print_date, print_day, print_moment}
 use Rattle.ut_value.specs.Reading.{read_day, read_moment, read_value}
 use Rattle.ut_value.specs.declared.fail.ValueFail.{ValueFail}
 use Rattle.ut_value.specs.declared.fail.ValueFail.TheVariants.{WrongType, OutOfRange}
 use Rattle.ut_value.specs.declared.value.FieldType.TheVariants as type
-use Rattle.ut_value.specs.declared.value.Value.{Value}
 use Rattle.ut_value.specs.declared.value.Value.TheVariants as value
 use Rattle.ut_value.proofs.DateTextLaws.{day_back, moment_back}
 use Rattle.ut_value.proofs.DateTexts.{length_day}
-use Rattle.ut_value.proofs.MomentTexts.{length_clock}
 use Rattle.ut_value.proofs.Printed.{no_sign}
 use Rattle.ut_value.proofs.Splits.{written-none}
 use Rattle.ut_value.proofs.ValueLaws.{printed_reads}
-use Rattle.ut_soql.specs.Signs.{lexis, sign_of, run_sign, date_sign, day_or, moment_in}
+use Rattle.ut_soql.specs.Signs.{sign_of, run_sign, day_or, moment_in}
 use Rattle.ut_soql.specs.declared.sign.Sign.{Sign}
 use Rattle.ut_soql.specs.declared.sign.Sign.TheVariants as sign
 use Rattle.ut_soql_print.proofs.Lexed.{Reads}
@@ -106,9 +102,16 @@ date_passes y m d =
 date_year : (y m d : ℕ) → HasYear (print_date y m d)
 unfolding print_date padded digits
 date_year y m d = record {
-  a = _; b = _; c = _; d = _; more = _;
+  a = _;
+  b = _;
+  c = _;
+  d = _;
+  more = _;
   is = refl;
-  a_is = place_digit (y / 10 ^ 3); b_is = place_digit (y / 10 ^ 2); c_is = place_digit (y / 10 ^ 1); d_is = place_digit (y / 10 ^ 0);
+  a_is = place_digit (y / 10 ^ 3);
+  b_is = place_digit (y / 10 ^ 2);
+  c_is = place_digit (y / 10 ^ 1);
+  d_is = place_digit (y / 10 ^ 0);
   passes = date_passes y m d;
 }
 
@@ -142,9 +145,16 @@ moment_year second =
     let clock = print_clock (unsigned_abs (int_rem_euclid second (pos 86400))) in
     let y = day_year (day_of_moment second) in
     record {
-      a = y.a; b = y.b; c = y.c; d = y.d; more = y.more ++ codes "T" ++ clock ++ codes ".000+0000";
+      a = y.a;
+      b = y.b;
+      c = y.c;
+      d = y.d;
+      more = y.more ++ codes "T" ++ clock ++ codes ".000+0000";
       is = ap (λ z. z ++ codes "T" ++ clock ++ codes ".000+0000") y.is;
-      a_is = y.a_is; b_is = y.b_is; c_is = y.c_is; d_is = y.d_is;
+      a_is = y.a_is;
+      b_is = y.b_is;
+      c_is = y.c_is;
+      d_is = y.d_is;
       passes =
           passes_both in_run (day ++ codes "T" ++ clock) (codes ".000+0000")
           (passes_both in_run (day ++ codes "T") clock (passes_both in_run day (codes "T") y.passes letter_passes) (clock_passes (unsigned_abs (int_rem_euclid second (pos 86400)))))
@@ -221,6 +231,6 @@ moment_reads second valid =
     let read = printed_reads type.Moment (value.Moment second) refl valid in
     let no = long_no_day cs (moment_long second) in
     let same : sign_of (run_token cs) ≡ sign.Moment second =
-            ap sign_of run ∙ ap (run_sign cs) (no_count cs y) ∙ no_day_at cs (moment_in (read_value type.Moment cs)) y no ∙ ap moment_in read in
+    ap sign_of run ∙ ap (run_sign cs) (no_count cs y) ∙ no_day_at cs (moment_in (read_value type.Moment cs)) y no ∙ ap moment_in read in
     let P : Sign → Type 0 = λ s. Reads goes_on cs (s ∷ []) in
     subst P same (is_run_reads cs (year_run cs y))

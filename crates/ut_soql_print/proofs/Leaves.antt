@@ -1,8 +1,8 @@
 -- Paths, literals, patterns and numbers of rows spell themselves again.
-use Rattle.std.proofs.Common.{◌≡◌, ℕ, ◌≤◌, ◌*◌, ◌<◌, Bool, true, false, if◌then◌else◌, List, [], ◌∷◌, ◌++◌, map, Some, pos, refl, sym, ◌∙◌, ap, subst, codes, arith}
+use Rattle.std.proofs.Common.{◌≡◌, ℕ, ◌≤◌, ◌*◌, true, false, List, [], ◌∷◌, map, Some, pos, refl, sym, ap, codes, arith}
 use Rattle.std.specs.Fmt.{decimal}
 use Rattle.std.specs.List.{AllByRecursion, flat_map, join_by}
-use Rattle.ut_grammar.specs.Part.{Part, one, as_value}
+use Rattle.ut_grammar.specs.Part.{one}
 use Rattle.ut_grammar.specs.Tokens.{in_word, is_letter}
 use Rattle.ut_grammar.specs.declared.token.Piece.TheVariants.{Plain}
 use Rattle.ut_value.specs.Numerals.{is_digit}

@@ -11,3 +11,5 @@ pub mod Limits
 pub mod Days
 pub mod Bounds
 pub mod Leaves
+pub mod Nested
+pub mod Whole

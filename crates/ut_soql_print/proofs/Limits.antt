@@ -1,5 +1,5 @@
 -- The numbers behind LIMIT and OFFSET.
-use Rattle.std.proofs.Common.{◌≡◌, ℕ, suc, ◌*◌, ◌/◌, ◌%◌, ◌<◌, ◌≤◌, nat_le, Bool, true, false, ◌&&◌, cond, if◌then◌else◌, List, [], ◌∷◌, ◌++◌, Option, Some, None, pos, refl, sym, ◌∙◌, ap, ap₂, append-nil, subst, lit<, arith}
+use Rattle.std.proofs.Common.{◌≡◌, ℕ, ◌*◌, ◌/◌, ◌%◌, ◌<◌, ◌≤◌, nat_le, Bool, true, false, if◌then◌else◌, List, [], ◌∷◌, Some, None, pos, refl, append-nil, subst, arith}
 use Rattle.std.specs.Fmt.{decimal}
 use Rattle.std.specs.List.{list_all}
 use Rattle.std.proofs.lemmas.Bool.Decides.{nat_tests}
@@ -7,7 +7,7 @@ use Rattle.ut_value.specs.Numerals.{exact_bound, is_digit}
 use Rattle.ut_value.specs.Printing.{print_size, scale}
 use Rattle.ut_value.proofs.Printed.{AreDigits, decimal_is}
 use Rattle.ut_soql.specs.Grammar.{count_in}
-use Rattle.ut_soql.specs.Signs.{number_sign, whole_in}
+use Rattle.ut_soql.specs.Signs.{number_sign}
 use Rattle.ut_soql.specs.declared.sign.Sign.{Sign}
 use Rattle.ut_soql.specs.declared.sign.Sign.TheVariants as sign
 use Rattle.ut_soql_print.proofs.Lexed.{Reads}

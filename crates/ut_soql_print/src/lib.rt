@@ -5,9 +5,11 @@
 #![tactic(auto)]
 
 mod conditions;
+mod laws;
 mod printed;
 mod queries;
 mod values;
 mod writer;
 
+pub use crate::laws::printing_laws;
 pub use crate::queries::print;

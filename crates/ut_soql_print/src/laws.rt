@@ -1,0 +1,14 @@
+//! What holds of the texts of queries, for the layers above.
+
+ghost use Rattle.std.specs.Prelude.{ℕ, ◌≤◌, List};
+ghost use Rattle.ut_soql.specs.Spelling.{Spells};
+ghost use Rattle.ut_soql.specs.declared.query.Query.{Query};
+ghost use Rattle.ut_soql_print.specs.Printing.{nesting, printed};
+
+/// What is printed of a query is parsed to it again. The call does nothing.
+///
+/// The query is one that some text spells. Its printed text may have more parentheses than that one, so at most 32 levels of
+/// parentheses and NOT in a condition are a condition of their own.
+pub fn printing_laws()
+    ensures parsed { (text : List ℕ) (query : Query) → Spells text query → nesting query ≤ 32 → Spells (printed query) query }
+{}

@@ -6,7 +6,7 @@ use Rattle.ut_value.specs.Causes.{Cause}
 use Rattle.ut_keeper.specs.State.{KeeperState, Steps, Tells}
 use Rattle.ut_keeper.specs.Tables.{Tables}
 use Rattle.ut_model.specs.World.{World}
-use Rattle.ut_soql.specs.Reading.{asks_for_rows}
+use Rattle.ut_query.specs.Asking.{asks_for_rows}
 use Rattle.ut_serving.specs.Leads.{LeadsFrom, StandsReached}
 use Rattle.ut_stands.specs.Operations.{Leaves}
 use Rattle.ut_stands.specs.Stands.{HasKnownVersion, HasUnknownVersion, Stands}

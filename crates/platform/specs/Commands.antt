@@ -5,7 +5,7 @@ use Rattle.std.specs.Option.{option_map}
 use Rattle.std.specs.Str.{byte, bytes_eq}
 use Rattle.std.specs.Str.Parse.{digits_value}
 use Rattle.ut_model.specs.World.{World}
-use Rattle.ut_soql.specs.Reading.{asks_for_rows}
+use Rattle.ut_query.specs.Asking.{asks_for_rows}
 use Rattle.platform.specs.Csvq.{rows_printed}
 use Rattle.platform.specs.Deeds.{Printed, one_deed}
 use Rattle.platform.specs.OrgAdd.{org_printed, org_world}

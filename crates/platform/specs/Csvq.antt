@@ -9,7 +9,7 @@ use Rattle.csv.specs.Writing.{default_writer, row_text}
 use Rattle.ut_model.specs.Refusals.{code_of}
 use Rattle.ut_model.specs.declared.refusal.Refusal.TheVariants.{NotBuilt}
 use Rattle.platform.specs.Printed.{PageText, refused_line}
-use Rattle.ut_soql.specs.Reading.{asks_for_rows}
+use Rattle.ut_query.specs.Asking.{asks_for_rows}
 use Rattle.ut_table.specs.Table.{first_refused, table_of}
 use Rattle.ut_value.specs.Id.{made, print18}
 

@@ -6,7 +6,7 @@ ghost use Rattle.ut_value.specs.Causes.{Cause};
 ghost use Rattle.platform.specs.Csvq.{answer, input_limit, refusal, rows_in, rows_printed};
 ghost use Rattle.platform.specs.Run.{IsTold};
 ghost use Rattle.platform.specs.declared.csvq.InputFail.TheVariants.{Failed, Memory};
-ghost use Rattle.ut_soql.specs.Reading.{asks_for_rows};
+ghost use Rattle.ut_query.specs.Asking.{asks_for_rows};
 
 mod kept;
 mod rows;
@@ -19,7 +19,7 @@ use crate::page::{Page, page_of_refusal};
 use std::alloc::{AllocError, Global};
 use ut_io::{ReadFail, Source, read_all};
 use ut_model::Refusal;
-use ut_soql::asks_for_rows;
+use ut_query::asks_for_rows;
 use ut_table::{TableFail, read_table};
 use ut_value::Text;
 

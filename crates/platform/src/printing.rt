@@ -6,7 +6,7 @@ ghost use Rattle.ut_value.specs.Causes.{Cause};
 ghost use Rattle.ut_keeper.specs.State.{KeeperCause, Shows, StandsAfter, Steps, Tells};
 ghost use Rattle.ut_keeper.specs.Tables.{Tables};
 ghost use Rattle.ut_model.specs.World.{World};
-ghost use Rattle.ut_soql.specs.Reading.{asks_for_rows};
+ghost use Rattle.ut_query.specs.Asking.{asks_for_rows};
 ghost use Rattle.ut_stands.specs.Operations.{Leaves};
 ghost use Rattle.ut_stands.specs.Stands.{Stands};
 ghost use Rattle.platform.specs.Commands.{csvq, org_add, printed};

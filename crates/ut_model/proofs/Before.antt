@@ -14,7 +14,7 @@ use Rattle.std.specs.Cmp.{bool_cmp_total}
 use Rattle.std.proofs.lemmas.List.Sorted.{IsPermutation-cons, IsPermutation-middle, IsPermutation-refl, IsPermutation-trans}
 use Rattle.std.proofs.lemmas.Slice.Eq.{bytes_eq-Decides}
 use Rattle.ut_value.specs.Values.{cmp}
-use Rattle.ut_soql.specs.declared.query.OrderKey.{OrderKey}
+use Rattle.ut_query.specs.declared.query.OrderKey.{OrderKey}
 use Rattle.ut_model.specs.declared.record.Record.{Record}
 use Rattle.ut_model.specs.Fields.{is_null}
 use Rattle.ut_model.specs.Ordered.{IdsDiffer, before, in_order, key_cmp, put_in, turned}

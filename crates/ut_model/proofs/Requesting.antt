@@ -3,7 +3,7 @@ use Rattle.std.specs.Fmt.{digits as fmt_digits}
 use Rattle.std.specs.Str.{is_utf8}
 use Rattle.percent_encoding.specs.Percent.{percent_decode}
 use Rattle.ut_json.specs.Printing.{escaped}
-use Rattle.ut_soql.specs.Tokens.{is_letter}
+use Rattle.ut_grammar.specs.Tokens.{is_letter}
 use Rattle.ut_value.specs.Id.{number_in}
 use Rattle.ut_value.specs.Numerals.{exactly, is_digit, is_negative, is_numeral, is_unsigned_numeral, of_digits, size_of, without_sign}
 use Rattle.ut_value.specs.Printing.{print_places, print_size}

@@ -4,13 +4,13 @@
 use Rattle.std.specs.Prelude.{ℕ, not, if◌then◌else◌, List, [], ◌∷◌, ◌++◌, map, codes, Option, Some, None, is_none}
 use Rattle.std.specs.List.{flat_map, list_any}
 use Rattle.std.specs.Option.{option_and_then}
-use Rattle.ut_soql.specs.declared.query.Item.{Item}
-use Rattle.ut_soql.specs.declared.query.Item.TheVariants as item
-use Rattle.ut_soql.specs.declared.query.Literal.{Literal}
-use Rattle.ut_soql.specs.declared.query.Literal.TheVariants as literal
-use Rattle.ut_soql.specs.declared.query.Path.{Path}
-use Rattle.ut_soql.specs.declared.query.Query.{Query}
-use Rattle.ut_soql.specs.declared.query.Tail.{Tail}
+use Rattle.ut_query.specs.declared.query.Item.{Item}
+use Rattle.ut_query.specs.declared.query.Item.TheVariants as item
+use Rattle.ut_query.specs.declared.query.Literal.{Literal}
+use Rattle.ut_query.specs.declared.query.Literal.TheVariants as literal
+use Rattle.ut_query.specs.declared.query.Path.{Path}
+use Rattle.ut_query.specs.declared.query.Query.{Query}
+use Rattle.ut_query.specs.declared.query.Tail.{Tail}
 use Rattle.ut_model.specs.declared.refusal.Refusal.TheVariants.{InvalidField, InvalidFilter}
 use Rattle.ut_model.specs.Cases.{in_case, with_before}
 use Rattle.ut_model.specs.Fields.{Column, column_named, same_name}

@@ -11,13 +11,13 @@ use Rattle.ut_value.specs.Values.{cmp, equal}
 use Rattle.ut_value.specs.declared.value.Value.{Value}
 use Rattle.ut_value.specs.declared.value.Value.TheVariants as value
 use Rattle.ut_formula.specs.Meaning.{text_value}
-use Rattle.ut_soql.specs.Like.{like}
-use Rattle.ut_soql.specs.declared.query.Cond.{Cond, Test, Like, In, Not', And', Or', Row_of-Cond, end_of-Cond, more_of-Cond}
-use Rattle.ut_soql.specs.declared.query.LikePart.{LikePart}
-use Rattle.ut_soql.specs.declared.query.Literal.{Literal}
-use Rattle.ut_soql.specs.declared.query.Literal.TheVariants as literal
-use Rattle.ut_soql.specs.declared.query.Op.{Op}
-use Rattle.ut_soql.specs.declared.query.Op.TheVariants as op
+use Rattle.ut_query.specs.Like.{like}
+use Rattle.ut_query.specs.declared.query.Cond.{Cond, Test, Like, In, Not', And', Or', Row_of-Cond, end_of-Cond, more_of-Cond}
+use Rattle.ut_query.specs.declared.query.LikePart.{LikePart}
+use Rattle.ut_query.specs.declared.query.Literal.{Literal}
+use Rattle.ut_query.specs.declared.query.Literal.TheVariants as literal
+use Rattle.ut_query.specs.declared.query.Op.{Op}
+use Rattle.ut_query.specs.declared.query.Op.TheVariants as op
 use Rattle.ut_model.specs.declared.record.Record.{Record}
 use Rattle.ut_model.specs.Fields.{as_ref, is_null}
 use Rattle.ut_model.specs.Paths.{Asked, path_value}

@@ -5,7 +5,7 @@ use Rattle.std.specs.Prelude.{ℕ, ◌-◌, Bool, true, false, not, ◌&&◌, �
 use Rattle.std.specs.List.{list_any}
 use Rattle.ut_value.specs.Id.{is_digit62}
 use Rattle.ut_value.specs.Numerals.{is_within}
-use Rattle.ut_soql.specs.Tokens.{is_letter}
+use Rattle.ut_grammar.specs.Tokens.{is_letter}
 use Rattle.ut_model.specs.declared.refusal.Refusal.TheVariants.{InvalidName, NameTaken}
 use Rattle.ut_model.specs.Fields.{same_name}
 use Rattle.ut_model.specs.Rules.{Rule, refuse_if}

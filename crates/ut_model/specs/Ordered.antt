@@ -8,7 +8,7 @@ use Rattle.std.specs.Ordering.{bool_cmp, nat_cmp, is_lt, ordering_reverse, order
 use Rattle.std.specs.Cmp.Lexicographic.{slice_cmp}
 use Rattle.ut_value.specs.Values.{cmp}
 use Rattle.ut_value.specs.declared.value.Value.{Value}
-use Rattle.ut_soql.specs.declared.query.OrderKey.{OrderKey}
+use Rattle.ut_query.specs.declared.query.OrderKey.{OrderKey}
 use Rattle.ut_model.specs.declared.record.Record.{Record}
 use Rattle.ut_model.specs.Fields.{is_null}
 use Rattle.ut_model.specs.Paths.{Asked, path_value}

@@ -2,7 +2,7 @@
 -- Source of the requests on records: Salesforce, REST API. Those of administrators are this product's own.
 use Rattle.std.specs.Prelude.{ℕ, List, Option}
 use Rattle.ut_value.specs.declared.sharing.Access.{Access}
-use Rattle.ut_soql.specs.declared.query.Query.{Query}
+use Rattle.ut_query.specs.declared.query.Query.{Query}
 use Rattle.ut_model.specs.Asking.{ask}
 use Rattle.ut_model.specs.Creates.{create}
 use Rattle.ut_model.specs.Deletes.{delete}

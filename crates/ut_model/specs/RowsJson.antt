@@ -10,9 +10,9 @@ use Rattle.ut_value.specs.Id.{print18}
 use Rattle.ut_value.specs.Printing.{print_number, print_value}
 use Rattle.ut_value.specs.declared.value.Value.{Value}
 use Rattle.ut_value.specs.declared.value.Value.TheVariants as value
-use Rattle.ut_soql.specs.declared.query.Item.{Item}
-use Rattle.ut_soql.specs.declared.query.Item.TheVariants as item
-use Rattle.ut_soql.specs.declared.query.Query.{Query}
+use Rattle.ut_query.specs.declared.query.Item.{Item}
+use Rattle.ut_query.specs.declared.query.Item.TheVariants as item
+use Rattle.ut_query.specs.declared.query.Query.{Query}
 use Rattle.ut_model.specs.declared.record.Record.{Record}
 use Rattle.ut_model.specs.Cases.{in_case, with_before}
 use Rattle.ut_model.specs.Fields.{column_named, same_name}

@@ -5,17 +5,17 @@ use Rattle.ut_value.specs.declared.value.OnDelete.TheVariants as on_delete
 use Rattle.ut_value.specs.declared.value.FieldType.TheVariants as type
 use Rattle.ut_value.specs.declared.value.Value.{Value}
 use Rattle.ut_value.specs.declared.value.Value.TheVariants as value
-use Rattle.ut_soql.specs.declared.query.Cond.{Cond, And', Not', Or', end_of-Cond, more_of-Cond}
-use Rattle.ut_soql.specs.declared.query.Cond.TheVariants as cond
-use Rattle.ut_soql.specs.declared.query.Item.{Item}
-use Rattle.ut_soql.specs.declared.query.Item.TheVariants as item
-use Rattle.ut_soql.specs.declared.query.Literal.{Literal}
-use Rattle.ut_soql.specs.declared.query.Literal.TheVariants as literal
-use Rattle.ut_soql.specs.declared.query.Op.TheVariants as op
-use Rattle.ut_soql.specs.declared.query.OrderKey.{OrderKey}
-use Rattle.ut_soql.specs.declared.query.Path.{Path}
-use Rattle.ut_soql.specs.declared.query.Query.{Query}
-use Rattle.ut_soql.specs.declared.query.Tail.{Tail}
+use Rattle.ut_query.specs.declared.query.Cond.{Cond, And', Not', Or', end_of-Cond, more_of-Cond}
+use Rattle.ut_query.specs.declared.query.Cond.TheVariants as cond
+use Rattle.ut_query.specs.declared.query.Item.{Item}
+use Rattle.ut_query.specs.declared.query.Item.TheVariants as item
+use Rattle.ut_query.specs.declared.query.Literal.{Literal}
+use Rattle.ut_query.specs.declared.query.Literal.TheVariants as literal
+use Rattle.ut_query.specs.declared.query.Op.TheVariants as op
+use Rattle.ut_query.specs.declared.query.OrderKey.{OrderKey}
+use Rattle.ut_query.specs.declared.query.Path.{Path}
+use Rattle.ut_query.specs.declared.query.Query.{Query}
+use Rattle.ut_query.specs.declared.query.Tail.{Tail}
 use Rattle.ut_model.specs.declared.record.Record.{Record}
 use Rattle.ut_model.specs.Paths.{Asked}
 use Rattle.ut_model.specs.Rows.{found}

@@ -3,12 +3,12 @@ use Rattle.std.specs.Prelude.{ℕ, false, List, [], ◌∷◌, ◌++◌, map, co
 use Rattle.ut_value.specs.declared.sharing.Access.TheVariants as access
 use Rattle.ut_value.specs.declared.sharing.Principal.TheVariants as to
 use Rattle.ut_value.specs.declared.value.FieldType.TheVariants as type
-use Rattle.ut_soql.specs.declared.query.Cond.{Cond}
-use Rattle.ut_soql.specs.declared.query.Cond.TheVariants.{Test}
-use Rattle.ut_soql.specs.declared.query.Item.TheVariants as item
-use Rattle.ut_soql.specs.declared.query.Literal.{Literal}
-use Rattle.ut_soql.specs.declared.query.Op.{Op}
-use Rattle.ut_soql.specs.declared.query.OrderKey.{OrderKey}
+use Rattle.ut_query.specs.declared.query.Cond.{Cond}
+use Rattle.ut_query.specs.declared.query.Cond.TheVariants.{Test}
+use Rattle.ut_query.specs.declared.query.Item.TheVariants as item
+use Rattle.ut_query.specs.declared.query.Literal.{Literal}
+use Rattle.ut_query.specs.declared.query.Op.{Op}
+use Rattle.ut_query.specs.declared.query.OrderKey.{OrderKey}
 use Rattle.ut_model.specs.Given.{Assignment}
 use Rattle.ut_model.specs.NewFields.{plain}
 use Rattle.ut_model.specs.Requests.{Request, asks, begins_retype, creates, deletes, sets_role, unshares, updates}

@@ -5,7 +5,7 @@ use Rattle.std.specs.List.{range_with_len}
 use Rattle.ut_value.specs.declared.sharing.Access.TheVariants as access
 use Rattle.ut_value.specs.declared.value.FieldType.TheVariants as type
 use Rattle.ut_value.specs.declared.value.Value.TheVariants as value
-use Rattle.ut_soql.specs.declared.query.Item.TheVariants as item
+use Rattle.ut_query.specs.declared.query.Item.TheVariants as item
 use Rattle.ut_model.specs.declared.record.Record.{Record}
 use Rattle.ut_model.specs.NewFields.{plain}
 use Rattle.ut_model.specs.Requests.{asks, begins_retype, gets_retype, updates}

@@ -7,10 +7,10 @@ use Rattle.ut_value.specs.declared.sharing.Principal.{Principal}
 use Rattle.ut_value.specs.declared.sharing.Principal.TheVariants as to
 use Rattle.ut_value.specs.declared.value.FieldType.TheVariants as type
 use Rattle.ut_value.specs.declared.value.OnDelete.TheVariants as on_delete
-use Rattle.ut_soql.specs.declared.query.Cond.{Cond}
-use Rattle.ut_soql.specs.declared.query.Cond.TheVariants.{Test}
-use Rattle.ut_soql.specs.declared.query.Literal.{Literal}
-use Rattle.ut_soql.specs.declared.query.Op.{Op}
+use Rattle.ut_query.specs.declared.query.Cond.{Cond}
+use Rattle.ut_query.specs.declared.query.Cond.TheVariants.{Test}
+use Rattle.ut_query.specs.declared.query.Literal.{Literal}
+use Rattle.ut_query.specs.declared.query.Op.{Op}
 use Rattle.ut_model.specs.NewFields.{plain, lookup_to}
 use Rattle.ut_model.specs.Principals.{Spelled}
 use Rattle.ut_model.specs.Requests.{Request, adds_group, adds_sharing_rule, asks, creates, sets_group, shares, updates}

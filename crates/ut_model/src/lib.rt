@@ -1,7 +1,7 @@
 //! The model: what an organisation is, who calls it, who may do what with a record, what a query finds, what a request asks
 //! for and what it is answered, as plain types and definitions.
 //!
-//! It depends on `ut_value`, on `ut_json` for the bodies of refusals, on `sha2` for the digest of a secret, on `ut_soql` for
+//! It depends on `ut_value`, on `ut_json` for the bodies of refusals, on `sha2` for the digest of a secret, on `ut_query` for
 //! queries, on `form_urlencoded` for their text in a target, and on `ut_formula` for the formulas of criteria. Its contract:
 //! a refusal's code, status, message and body are those of the definitions, and so are the ids of organisations and of their
 //! first users; the step of the world is a function of the organisation that the message's key names; members and their like

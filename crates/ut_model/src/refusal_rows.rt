@@ -1,8 +1,8 @@
 //! Which rule refuses first, worked by hand.
 
 ghost use Rattle.std.specs.Prelude.{◌≡◌, ◌∷◌, ◌++◌, [], codes, false, None, Some};
-ghost use Rattle.ut_soql.specs.declared.query.Literal.TheVariants as literal;
-ghost use Rattle.ut_soql.specs.declared.query.Op.TheVariants as op;
+ghost use Rattle.ut_query.specs.declared.query.Literal.TheVariants as literal;
+ghost use Rattle.ut_query.specs.declared.query.Op.TheVariants as op;
 ghost use Rattle.ut_model.specs.Requests.{creates, sets_group, sets_user, updates};
 ghost use Rattle.ut_model.specs.WorkedAccess.{is_open};
 ghost use Rattle.ut_model.specs.WorkedQueries.{order_by};

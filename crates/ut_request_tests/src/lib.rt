@@ -1,4 +1,4 @@
-//! Tests of `ut_soql`, `ut_table`, `ut_model` and `ut_rest`.
+//! Tests of `ut_query`, `ut_table`, `ut_model` and `ut_rest`.
 #![tactic(auto)]
 
 #[cfg(test)]

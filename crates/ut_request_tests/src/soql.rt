@@ -2,38 +2,26 @@
 
 use std::alloc::{AllocError, Global};
 use std::test::Fail;
-use ut_soql::{Mark, Piece, Placed, Token, asking_rows, asks_for_rows, token_laws, tokens};
+use ut_grammar::{Piece, Placed, Token, token_laws, tokens};
+use ut_query::{QueryLexis, asking_rows, asks_for_rows};
 
-fn mark_name(mark: Mark) -> &'static str {
-    match mark {
-        Mark::Open => "(",
-        Mark::Close => ")",
-        Mark::Comma => ",",
-        Mark::Dot => ".",
-        Mark::Equal => "=",
-        Mark::NotEqual => "!=",
-        Mark::Less => "<",
-        Mark::AtMost => "<=",
-        Mark::Greater => ">",
-        Mark::AtLeast => ">=",
-    }
-}
-
-fn kind(token: &Token) -> &'static str {
+// What kind of token it is, or the mark.
+fn kind(alloc: Global, token: &Token) -> Result<String, AllocError> {
     match token {
-        Token::Word(_) => "word",
-        Token::Run(_) => "run",
-        Token::Text(_) => "text",
-        Token::Mark(mark) => mark_name(*mark),
-        Token::Bad => "bad",
+        Token::Word(_) => format!(in alloc; "word"),
+        Token::Run(_) => format!(in alloc; "run"),
+        Token::Text(_) => format!(in alloc; "text"),
+        Token::Mark(c) => format!(in alloc; "{c}"),
+        Token::Pair(c, d) => format!(in alloc; "{c}{d}"),
+        Token::Bad => format!(in alloc; "bad"),
     }
 }
 
 /// The kinds of the tokens and the bytes at which they begin.
 fn summary(alloc: Global, text: &str) -> Result<String, AllocError> {
     let mut all = String::new(alloc);
-    for placed in tokens(alloc, text)?.as_slice() {
-        let kind = kind(&placed.token);
+    for placed in tokens::<QueryLexis>(alloc, text)?.as_slice() {
+        let kind = kind(alloc, &placed.token)?;
         all.push_str(format!(in alloc; "{kind}@{} ", placed.start)?.as_str())?;
     }
     Ok(all)
@@ -109,12 +97,12 @@ fn kinds_and_places(rt: HostRuntime) -> Result<(), Fail> {
 
 #[test]
 fn pieces_of_a_text(rt: HostRuntime) -> Result<(), Fail> {
-    let all = tokens(rt.alloc(), "'a%\\%\\_\\n'")?;
+    let all = tokens::<QueryLexis>(rt.alloc(), "'a%\\%\\_\\n'")?;
     let want = [
         Piece::Plain('a'),
         Piece::Plain('%'),
-        Piece::Percent,
-        Piece::Underscore,
+        Piece::Escaped('%'),
+        Piece::Escaped('_'),
         Piece::Plain('\n'),
     ];
     match all.get(0) {

@@ -12,7 +12,7 @@ use crate::query::query_text;
 use crate::routing::route;
 use std::alloc::{AllocError, Global};
 use ut_model::{Caller, Refusal, Reply, Route, Routed};
-use ut_soql::asked_object;
+use ut_query::asked_object;
 use ut_value::Text;
 
 // Why a query is refused, by the object whose ids and names it asks for.

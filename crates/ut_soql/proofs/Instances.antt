@@ -12,12 +12,12 @@ use Rattle.ut_soql.specs.Grammar as g
 use Rattle.ut_soql.specs.Grammar.{name_in, operator_in, literal_in, pattern_in}
 use Rattle.ut_soql.specs.Readers as spec
 use Rattle.ut_soql.specs.Signs.{kind}
-use Rattle.ut_soql.specs.declared.query.Cond.{Cond}
-use Rattle.ut_soql.specs.declared.query.Cond.TheVariants as c
-use Rattle.ut_soql.specs.declared.query.LikePattern.{LikePattern}
-use Rattle.ut_soql.specs.declared.query.Literal.{Literal}
-use Rattle.ut_soql.specs.declared.query.Op.{Op}
-use Rattle.ut_soql.specs.declared.query.Path.{Path}
+use Rattle.ut_query.specs.declared.query.Cond.{Cond}
+use Rattle.ut_query.specs.declared.query.Cond.TheVariants as c
+use Rattle.ut_query.specs.declared.query.LikePattern.{LikePattern}
+use Rattle.ut_query.specs.declared.query.Literal.{Literal}
+use Rattle.ut_query.specs.declared.query.Op.{Op}
+use Rattle.ut_query.specs.declared.query.Path.{Path}
 use Rattle.ut_soql.specs.declared.sign.Sign.{Sign}
 use Rattle.ut_soql.specs.declared.sign.Sign.TheVariants as sign
 

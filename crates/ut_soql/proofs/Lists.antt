@@ -12,7 +12,7 @@ use Rattle.ut_soql.specs.Grammar as g
 use Rattle.ut_soql.specs.Grammar.{left_behind}
 use Rattle.ut_soql.specs.Readers as spec
 use Rattle.ut_soql.specs.Signs.{kind}
-use Rattle.ut_soql.specs.declared.query.Item.{Item}
+use Rattle.ut_query.specs.declared.query.Item.{Item}
 use Rattle.ut_soql.specs.declared.sign.Sign.{Sign}
 use Rattle.ut_soql.proofs.Instances.{name_exact, literal_exact, literal_firsts, path_exact, unit_exact, unit_firsts}
 use Rattle.ut_soql.proofs.QueryInstances.{key_exact, comma_item_exact}

@@ -12,7 +12,7 @@ use Rattle.ut_soql.specs.Grammar as g
 use Rattle.ut_soql.specs.Grammar.{descending_in, last_in, count_in, left_behind}
 use Rattle.ut_soql.specs.Readers as spec
 use Rattle.ut_soql.specs.Signs.{kind}
-use Rattle.ut_soql.specs.declared.query.Item.TheVariants as item
+use Rattle.ut_query.specs.declared.query.Item.TheVariants as item
 use Rattle.ut_soql.specs.declared.sign.Sign.{Sign}
 use Rattle.ut_soql.specs.declared.sign.Sign.TheVariants as sign
 use Rattle.ut_soql.proofs.Instances.{name_exact, path_exact, condition_exact, separated_exact, in_parentheses_exact, unit_firsts}

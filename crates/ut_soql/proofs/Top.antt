@@ -9,9 +9,10 @@ use Rattle.ut_grammar.proofs.Unique.{one_list}
 use Rattle.ut_grammar.proofs.Verdict as v
 use Rattle.ut_soql.specs.Grammar as g
 use Rattle.ut_soql.specs.Readers as spec
-use Rattle.ut_soql.specs.Signs.{kind, lexis, signs, starts}
+use Rattle.ut_soql.specs.Signs.{kind, signs, starts}
 use Rattle.ut_soql.specs.Spelling.{IsRefusedAt, Spells}
-use Rattle.ut_soql.specs.declared.query.Query.{Query}
+use Rattle.ut_query.specs.Lexis.{lexis}
+use Rattle.ut_query.specs.declared.query.Query.{Query}
 use Rattle.ut_soql.specs.declared.sign.Sign.{Sign}
 use Rattle.ut_soql.proofs.QueryInstances.{whole_exact, whole_goes}
 

@@ -8,20 +8,20 @@ use Rattle.ut_grammar.specs.Part as part
 use Rattle.ut_grammar.specs.declared.token.Piece.{Piece}
 use Rattle.ut_grammar.specs.declared.token.Piece.TheVariants.{Plain, Escaped}
 use Rattle.ut_soql.specs.Signs.{kind}
-use Rattle.ut_soql.specs.declared.query.Cond.{Cond}
-use Rattle.ut_soql.specs.declared.query.Cond.TheVariants as c
-use Rattle.ut_soql.specs.declared.query.Item.{Item}
-use Rattle.ut_soql.specs.declared.query.Item.TheVariants as item
-use Rattle.ut_soql.specs.declared.query.LikePart.{LikePart}
-use Rattle.ut_soql.specs.declared.query.LikePart.TheVariants as like
-use Rattle.ut_soql.specs.declared.query.LikePattern.{LikePattern}
-use Rattle.ut_soql.specs.declared.query.Literal.{Literal}
-use Rattle.ut_soql.specs.declared.query.Literal.TheVariants as l
-use Rattle.ut_soql.specs.declared.query.Op.{Op}
-use Rattle.ut_soql.specs.declared.query.OrderKey.{OrderKey}
-use Rattle.ut_soql.specs.declared.query.Path.{Path}
-use Rattle.ut_soql.specs.declared.query.Query.{Query}
-use Rattle.ut_soql.specs.declared.query.Tail.{Tail}
+use Rattle.ut_query.specs.declared.query.Cond.{Cond}
+use Rattle.ut_query.specs.declared.query.Cond.TheVariants as c
+use Rattle.ut_query.specs.declared.query.Item.{Item}
+use Rattle.ut_query.specs.declared.query.Item.TheVariants as item
+use Rattle.ut_query.specs.declared.query.LikePart.{LikePart}
+use Rattle.ut_query.specs.declared.query.LikePart.TheVariants as like
+use Rattle.ut_query.specs.declared.query.LikePattern.{LikePattern}
+use Rattle.ut_query.specs.declared.query.Literal.{Literal}
+use Rattle.ut_query.specs.declared.query.Literal.TheVariants as l
+use Rattle.ut_query.specs.declared.query.Op.{Op}
+use Rattle.ut_query.specs.declared.query.OrderKey.{OrderKey}
+use Rattle.ut_query.specs.declared.query.Path.{Path}
+use Rattle.ut_query.specs.declared.query.Query.{Query}
+use Rattle.ut_query.specs.declared.query.Tail.{Tail}
 use Rattle.ut_soql.specs.declared.sign.Sign.{Sign}
 use Rattle.ut_soql.specs.declared.sign.Sign.TheVariants as sign
 

@@ -4,17 +4,17 @@ use Rattle.ut_grammar.specs.Reader.{Reader, ◌>>=◌, read_one, read_empty, rea
 use Rattle.ut_grammar.specs.Reader as reader
 use Rattle.ut_soql.specs.Grammar.{name_in, operator_in, literal_in, pattern_in, descending_in, last_in, count_in, left_behind}
 use Rattle.ut_soql.specs.Signs.{kind}
-use Rattle.ut_soql.specs.declared.query.Cond.{Cond}
-use Rattle.ut_soql.specs.declared.query.Cond.TheVariants as c
-use Rattle.ut_soql.specs.declared.query.Item.{Item}
-use Rattle.ut_soql.specs.declared.query.Item.TheVariants as item
-use Rattle.ut_soql.specs.declared.query.LikePattern.{LikePattern}
-use Rattle.ut_soql.specs.declared.query.Literal.{Literal}
-use Rattle.ut_soql.specs.declared.query.Op.{Op}
-use Rattle.ut_soql.specs.declared.query.OrderKey.{OrderKey}
-use Rattle.ut_soql.specs.declared.query.Path.{Path}
-use Rattle.ut_soql.specs.declared.query.Query.{Query}
-use Rattle.ut_soql.specs.declared.query.Tail.{Tail}
+use Rattle.ut_query.specs.declared.query.Cond.{Cond}
+use Rattle.ut_query.specs.declared.query.Cond.TheVariants as c
+use Rattle.ut_query.specs.declared.query.Item.{Item}
+use Rattle.ut_query.specs.declared.query.Item.TheVariants as item
+use Rattle.ut_query.specs.declared.query.LikePattern.{LikePattern}
+use Rattle.ut_query.specs.declared.query.Literal.{Literal}
+use Rattle.ut_query.specs.declared.query.Op.{Op}
+use Rattle.ut_query.specs.declared.query.OrderKey.{OrderKey}
+use Rattle.ut_query.specs.declared.query.Path.{Path}
+use Rattle.ut_query.specs.declared.query.Query.{Query}
+use Rattle.ut_query.specs.declared.query.Tail.{Tail}
 use Rattle.ut_soql.specs.declared.sign.Sign.{Sign}
 
 abbrev pub Reads : Type 0 → Type 0

@@ -1,12 +1,9 @@
 -- What the grammar of queries sees of a token: keywords, names, numbers, days, moments, texts, operators and marks.
 -- Source of the words and marks: Salesforce, "SOQL and SOSL Reference". Which of them queries have is this product's own.
-use Rattle.std.specs.Prelude.{ℕ, ◌/◌, Bool, true, false, ◌&&◌, ◌||◌, ◌==◌, nat_le, if◌then◌else◌, List, map, Option, Some, None, Result, Ok, codes, bytes_eq, encode_utf8_all, ℤ, pos, negsuc}
+use Rattle.std.specs.Prelude.{ℕ, ◌/◌, Bool, true, false, ◌==◌, nat_le, if◌then◌else◌, List, map, Option, Some, None, Result, Ok, codes, bytes_eq, encode_utf8_all, ℤ, pos, negsuc}
 use Rattle.std.specs.Char.{to_ascii_lowercase}
 use Rattle.std.specs.List.{list_all}
 use Rattle.ut_grammar.specs.Counts.{number_count}
-use Rattle.ut_grammar.specs.Tokens.{Lexis}
-use Rattle.ut_grammar.specs.declared.token.Piece.{Piece}
-use Rattle.ut_grammar.specs.declared.token.Piece.TheVariants.{Plain, Escaped}
 use Rattle.ut_grammar.specs.declared.token.Token.{Token}
 use Rattle.ut_grammar.specs.declared.token.Token.TheVariants as token
 use Rattle.ut_grammar.specs.declared.token.Placed.{Placed}
@@ -16,35 +13,9 @@ use Rattle.ut_value.specs.declared.fail.ValueFail.{ValueFail}
 use Rattle.ut_value.specs.declared.value.FieldType.TheVariants as type
 use Rattle.ut_value.specs.declared.value.Value.{Value}
 use Rattle.ut_value.specs.declared.value.Value.TheVariants as value
-use Rattle.ut_soql.specs.declared.query.Op.TheVariants as op
+use Rattle.ut_query.specs.declared.query.Op.TheVariants as op
 use Rattle.ut_soql.specs.declared.sign.Sign.{Sign}
 use Rattle.ut_soql.specs.declared.sign.Sign.TheVariants as sign
-
--- ---- characters
--- `'`
-abbrev pub quote : ℕ
-quote = 39
-
--- what a character is behind a backslash: line feed, carriage return, tab, backspace, form feed, the two quotes, the backslash,
--- and `%` and `_`, which stay apart from those that are written without one
-unfoldable pub escaped : ℕ → Option Piece
-escaped c =
-    if c == 110 then Some (Plain 10) else (if c == 114 then Some (Plain 13) else (if c == 116 then Some (Plain 9) else
-    (if c == 98 then Some (Plain 8) else (if c == 102 then Some (Plain 12) else
-    (if (c == 34) || ((c == 39) || (c == 92)) then Some (Plain c) else
-    (if (c == 37) || (c == 95) then Some (Escaped c) else None))))))
-
--- `(` `)` `,` `.` `=` `<` `>`
-unfoldable pub is_mark : ℕ → Bool
-is_mark c = (c == 40) || ((c == 41) || ((c == 44) || ((c == 46) || ((c == 61) || ((c == 60) || (c == 62))))))
-
--- `!=` `<=` `>=`
-unfoldable pub is_pair : ℕ → ℕ → Bool
-is_pair c d = (d == 61) && ((c == 33) || ((c == 60) || (c == 62)))
-
--- how queries write texts and marks
-abbrev pub lexis : Lexis
-lexis = record { is_quote = λ c. c == quote; escape = escaped; is_mark = is_mark; is_pair = is_pair }
 
 -- ---- kinds of tokens, by numbers
 abbrev pub kind : Sign → ℕ

@@ -8,8 +8,9 @@ use Rattle.ut_grammar.specs.Tokens.{AreTokens}
 use Rattle.ut_grammar.specs.declared.token.Placed.{Placed}
 use Rattle.ut_soql.specs.Grammar.{whole}
 use Rattle.ut_soql.specs.Readers as read
-use Rattle.ut_soql.specs.Signs.{lexis, signs, starts}
-use Rattle.ut_soql.specs.declared.query.Query.{Query}
+use Rattle.ut_soql.specs.Signs.{signs, starts}
+use Rattle.ut_query.specs.Lexis.{lexis}
+use Rattle.ut_query.specs.declared.query.Query.{Query}
 use Rattle.ut_soql.specs.declared.sign.Sign.{Sign}
 
 -- the tokens of the text spell this query

@@ -8,11 +8,11 @@ ghost use Rattle.ut_soql.specs.Signs.{kind};
 
 use crate::conditions::condition;
 use crate::paths::{name, path};
-use crate::query::{Cond, OrderKey, Path, Tail};
 use crate::sign::Sign;
 use crate::values::{count_in, descending_in, last_in};
 use std::alloc::Global;
 use ut_grammar::{Fail, begins_with, next, skip};
+use ut_query::{Cond, OrderKey, Path, Tail};
 use ut_value::{Items, Text};
 
 const FROM: u8 = 12;

@@ -7,10 +7,10 @@ ghost use Rattle.ut_soql.specs.Readers as spec;
 ghost use Rattle.ut_soql.specs.Signs.{kind};
 
 use crate::paths::of_path;
-use crate::query::Cond;
 use crate::sign::Sign;
 use std::alloc::Global;
 use ut_grammar::{Fail, begins_with, skip};
+use ut_query::Cond;
 use ut_value::{Boxed, Items};
 
 const AND: u8 = 4;

@@ -9,11 +9,11 @@ ghost use Rattle.ut_soql.specs.Grammar.{left_behind};
 
 use crate::clauses::tail;
 use crate::paths::path;
-use crate::query::{Item, Path, Query, Tail};
 use crate::sign::Sign;
 use crate::values::small_count;
 use std::alloc::Global;
 use ut_grammar::{Fail, begins_with, next, skip};
+use ut_query::{Item, Path, Query, Tail};
 use ut_value::Items;
 
 const SELECT: u8 = 11;

@@ -4,14 +4,14 @@ ghost use Rattle.std.specs.Prelude.{◌≡◌, ℕ, List, Option, Some, length, 
 ghost use Rattle.ut_grammar.specs.Place.{IsOrMemory, IsPlace, OnMalformed};
 ghost use Rattle.ut_soql.specs.Grammar as grammar;
 ghost use Rattle.ut_soql.specs.Spelling.{IsRefusedAt, Spells, query_in};
-ghost use Rattle.ut_soql.specs.declared.query.Query.{Query};
+ghost use Rattle.ut_query.specs.declared.query.Query.{Query};
 
 use crate::items::whole;
-use crate::query::Query;
 use crate::sign::Sign;
-use crate::words::{QueryLexis, signs, starts};
+use crate::words::{signs, starts};
 use std::alloc::Global;
 use ut_grammar::{Fail, ParseFail, place, tokens};
+use ut_query::{Query, QueryLexis};
 
 // The query that the tokens spell. They begin at these bytes of a text which ends at `end`.
 fn read_signs(

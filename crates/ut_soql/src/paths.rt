@@ -8,11 +8,11 @@ ghost use Rattle.ut_grammar.specs.Reader.{Gives, with_front};
 ghost use Rattle.ut_soql.specs.Readers as spec;
 ghost use Rattle.ut_soql.specs.Signs.{kind};
 
-use crate::query::{Cond, LikePattern, Literal, Op, Path};
 use crate::sign::Sign;
 use crate::values::{literal_in, name_in, operator_in, pattern_in};
 use std::alloc::Global;
 use ut_grammar::{Fail, begins_with, next, skip};
+use ut_query::{Cond, LikePattern, Literal, Op, Path};
 use ut_value::{Items, Text};
 
 // The kinds of tokens, as `Sign::kind` numbers them.

@@ -1,7 +1,7 @@
 //! What the grammar of queries sees of a token.
 
-use crate::query::Op;
 use ut_grammar::{Kinded, Piece};
+use ut_query::Op;
 use ut_value::{Items, Text};
 
 /// A token, as the grammar of queries sees it.

@@ -4,10 +4,10 @@ ghost use Rattle.std.specs.Prelude.{◌≡◌, ◌++◌, IfOk, map};
 ghost use Rattle.ut_grammar.specs.Counts.{plain_text};
 ghost use Rattle.ut_soql.specs.Grammar as grammar;
 
-use crate::query::{LikePart, LikePattern, Literal, Op};
 use crate::sign::Sign;
 use std::alloc::{AllocError, Global};
 use ut_grammar::{Piece, plain_text};
+use ut_query::{LikePart, LikePattern, Literal, Op};
 use ut_value::{Items, Text};
 
 pub fn name_in(alloc: Global, sign: &Sign) -> Result<Option<Text>, AllocError>

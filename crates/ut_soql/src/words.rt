@@ -8,48 +8,11 @@ ghost use Rattle.ut_value.specs.Numerals.{is_digit};
 ghost use Rattle.ut_value.specs.Reading.{read_value};
 ghost use Rattle.ut_value.specs.declared.value.FieldType.TheVariants as type;
 
-use crate::query::Op;
 use crate::sign::Sign;
 use std::alloc::{AllocError, Global};
-use ut_grammar::{Lexis, Piece, Placed, Token, characters, number_count};
+use ut_grammar::{Placed, Token, characters, number_count};
+use ut_query::Op;
 use ut_value::{FieldType, Items, Text, Value, ValueFail, is_digit, read_value};
-
-/// How queries write texts and marks.
-pub struct QueryLexis;
-
-impl Lexis for QueryLexis {
-    ghost use Rattle.ut_soql.specs.Signs as spec;
-
-    ghost lexis = { spec.lexis };
-
-    fn is_quote(c: char) -> bool {
-        c == '\''
-    }
-
-    #[tactic(auto, unfolding(crate::specs::Signs::escaped))]
-    fn escape(c: char) -> Option<Piece> {
-        match c {
-            'n' => Some(Piece::Plain('\n')),
-            'r' => Some(Piece::Plain('\r')),
-            't' => Some(Piece::Plain('\t')),
-            'b' => Some(Piece::Plain('\u{8}')),
-            'f' => Some(Piece::Plain('\u{c}')),
-            '"' | '\'' | '\\' => Some(Piece::Plain(c)),
-            '%' | '_' => Some(Piece::Escaped(c)),
-            _ => None,
-        }
-    }
-
-    #[tactic(auto, unfolding(crate::specs::Signs::is_mark))]
-    fn is_mark(c: char) -> bool {
-        c == '(' || c == ')' || c == ',' || c == '.' || c == '=' || c == '<' || c == '>'
-    }
-
-    #[tactic(auto, unfolding(crate::specs::Signs::is_pair))]
-    fn is_pair(c: char, d: char) -> bool {
-        d == '=' && (c == '!' || c == '<' || c == '>')
-    }
-}
 
 // ---- words
 

@@ -16,7 +16,7 @@ use Rattle.ut_value.proofs.Sizes.{exactly_is}
 use Rattle.std.specs.Prelude.{option_map}
 use Rattle.ut_soql.specs.Grammar.{literal_in, text_literal}
 use Rattle.ut_soql.specs.Signs.{sign_of, word_sign, condition_word, clause_word, name_sign, is_written, mark_sign, pair_sign, run_sign, number_sign, day_or, moment_in}
-use Rattle.ut_soql.specs.declared.query.Literal.TheVariants as l
+use Rattle.ut_query.specs.declared.query.Literal.TheVariants as l
 use Rattle.ut_soql.specs.declared.sign.Sign.{Sign}
 use Rattle.ut_soql.specs.declared.sign.Sign.TheVariants as sign
 use Rattle.std.proofs.Common.{codes}

@@ -4,7 +4,7 @@ use Rattle.std.specs.Result.{is_ok}
 use Rattle.std.specs.List.{flat_map, join_by}
 use Rattle.std.specs.Str.{IsUtf8, chars}
 use Rattle.std.proofs.lemmas.Str.{chars-append}
-use Rattle.ut_soql.specs.declared.query.Cond.{Cond, Not}
+use Rattle.ut_query.specs.declared.query.Cond.{Cond, Not}
 use Rattle.ut_soql_print.specs.Printing.{as_unit, is_test, only_if, printed_condition}
 use Rattle.ut_soql_print.specs.Units.{unit_text}
 use Rattle.ut_soql_print.proofs.Units.{printed_not}

@@ -9,7 +9,8 @@ use Rattle.ut_grammar.specs.Lexing.{front_len, token_at, token_len, token_of, to
 use Rattle.ut_grammar.proofs.Fronts.{Fails}
 use Rattle.ut_grammar.proofs.Longest.{class_of-blank}
 use Rattle.ut_grammar.proofs.Tokenizing.{byte_len-append, tokens_of-cons}
-use Rattle.ut_soql.specs.Signs.{lexis, sign_of, signs, word_sign}
+use Rattle.ut_query.specs.Lexis.{lexis}
+use Rattle.ut_soql.specs.Signs.{sign_of, signs, word_sign}
 use Rattle.ut_soql.specs.declared.sign.Sign.{Sign}
 
 -- ---- one token, or a blank

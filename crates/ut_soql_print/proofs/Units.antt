@@ -4,8 +4,8 @@ use Rattle.std.specs.List.{AllByRecursion, join_by}
 use Rattle.std.proofs.lemmas.List.Folds.{flat_map-map}
 use mathlib.Core.Former.{Count}
 use denote.Hole.Carrier.{hidden}
-use Rattle.ut_soql.specs.declared.query.Cond.{Cond, Not, And, Or, And', Or', Row_of-Cond, end_of-Cond, more_of-Cond, items-the_row-Cond, items_hidden-the_row-Cond-1}
-use Rattle.ut_soql.specs.declared.query.Cond.TheBlock.{hidden-the_row-Cond-0}
+use Rattle.ut_query.specs.declared.query.Cond.{Cond, Not, And, Or, And', Or', Row_of-Cond, end_of-Cond, more_of-Cond, items-the_row-Cond, items_hidden-the_row-Cond-1}
+use Rattle.ut_query.specs.declared.query.Cond.TheBlock.{hidden-the_row-Cond-0}
 use Rattle.ut_soql_print.specs.Printing.{as_unit, greatest, is_test, levels, levels_within, printed_condition, printed_units, unit_levels}
 use Rattle.ut_soql_print.specs.Units.{unit_text}
 

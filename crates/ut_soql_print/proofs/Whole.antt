@@ -10,15 +10,16 @@ use Rattle.ut_grammar.proofs.Meets.{meets}
 use Rattle.ut_grammar.proofs.Tokenizing.{tokens_of-nil}
 use Rattle.ut_soql.specs.Grammar as g
 use Rattle.ut_soql.specs.Grammar.{count_in, descending_in, last_in, left_behind}
-use Rattle.ut_soql.specs.Signs.{lexis, signs}
+use Rattle.ut_query.specs.Lexis.{lexis}
+use Rattle.ut_soql.specs.Signs.{signs}
 use Rattle.ut_soql.specs.Spelling.{Spells}
-use Rattle.ut_soql.specs.declared.query.Cond.{Cond}
-use Rattle.ut_soql.specs.declared.query.Item.{Item}
-use Rattle.ut_soql.specs.declared.query.Item.TheVariants as item
-use Rattle.ut_soql.specs.declared.query.OrderKey.{OrderKey}
-use Rattle.ut_soql.specs.declared.query.Path.{Path}
-use Rattle.ut_soql.specs.declared.query.Query.{Query}
-use Rattle.ut_soql.specs.declared.query.Tail.{Tail}
+use Rattle.ut_query.specs.declared.query.Cond.{Cond}
+use Rattle.ut_query.specs.declared.query.Item.{Item}
+use Rattle.ut_query.specs.declared.query.Item.TheVariants as item
+use Rattle.ut_query.specs.declared.query.OrderKey.{OrderKey}
+use Rattle.ut_query.specs.declared.query.Path.{Path}
+use Rattle.ut_query.specs.declared.query.Query.{Query}
+use Rattle.ut_query.specs.declared.query.Tail.{Tail}
 use Rattle.ut_soql.specs.declared.sign.Sign.{Sign}
 use Rattle.ut_soql.specs.declared.sign.Sign.TheVariants as sign
 use Rattle.ut_soql_print.specs.Printing.{item_levels, levels_if, listed, nesting, only_if, optional, printed, printed_condition, printed_item, printed_key, printed_order, printed_path, printed_tail}

@@ -3,7 +3,8 @@ use Rattle.std.proofs.Common.{◌≡◌, ℕ, ◌+◌, List, [], ◌∷◌, ◌+
 use Rattle.ut_grammar.specs.declared.token.Placed.{Placed}
 use Rattle.ut_grammar.specs.declared.token.Token.{Token}
 use Rattle.ut_grammar.specs.Tokens.{AreTokens, IsToken, byte_len}
-use Rattle.ut_soql.specs.Signs.{lexis, sign_of, signs}
+use Rattle.ut_query.specs.Lexis.{lexis}
+use Rattle.ut_soql.specs.Signs.{sign_of, signs}
 use Rattle.ut_soql.specs.declared.sign.Sign.{Sign}
 
 pub record IsWritten (s : Sign) : Type 0 where

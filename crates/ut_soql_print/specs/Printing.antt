@@ -7,20 +7,20 @@ use Rattle.std.specs.List.{flat_map, join_by}
 use Rattle.ut_value.specs.Printing.{is_printable, print_value}
 use Rattle.ut_value.specs.declared.value.Value.{Value}
 use Rattle.ut_value.specs.declared.value.Value.TheVariants as value
-use Rattle.ut_soql.specs.Signs.{quote}
-use Rattle.ut_soql.specs.declared.query.Cond.{Cond, Test, Like, In, Not', And', Or', Row_of-Cond, end_of-Cond, more_of-Cond}
-use Rattle.ut_soql.specs.declared.query.Item.{Item}
-use Rattle.ut_soql.specs.declared.query.Item.TheVariants as item
-use Rattle.ut_soql.specs.declared.query.LikePart.{LikePart}
-use Rattle.ut_soql.specs.declared.query.LikePart.TheVariants as like
-use Rattle.ut_soql.specs.declared.query.Literal.{Literal}
-use Rattle.ut_soql.specs.declared.query.Literal.TheVariants as l
-use Rattle.ut_soql.specs.declared.query.Op.{Op}
-use Rattle.ut_soql.specs.declared.query.Op.TheVariants as op
-use Rattle.ut_soql.specs.declared.query.OrderKey.{OrderKey}
-use Rattle.ut_soql.specs.declared.query.Path.{Path}
-use Rattle.ut_soql.specs.declared.query.Query.{Query}
-use Rattle.ut_soql.specs.declared.query.Tail.{Tail}
+use Rattle.ut_query.specs.Lexis.{quote}
+use Rattle.ut_query.specs.declared.query.Cond.{Cond, Test, Like, In, Not', And', Or', Row_of-Cond, end_of-Cond, more_of-Cond}
+use Rattle.ut_query.specs.declared.query.Item.{Item}
+use Rattle.ut_query.specs.declared.query.Item.TheVariants as item
+use Rattle.ut_query.specs.declared.query.LikePart.{LikePart}
+use Rattle.ut_query.specs.declared.query.LikePart.TheVariants as like
+use Rattle.ut_query.specs.declared.query.Literal.{Literal}
+use Rattle.ut_query.specs.declared.query.Literal.TheVariants as l
+use Rattle.ut_query.specs.declared.query.Op.{Op}
+use Rattle.ut_query.specs.declared.query.Op.TheVariants as op
+use Rattle.ut_query.specs.declared.query.OrderKey.{OrderKey}
+use Rattle.ut_query.specs.declared.query.Path.{Path}
+use Rattle.ut_query.specs.declared.query.Query.{Query}
+use Rattle.ut_query.specs.declared.query.Tail.{Tail}
 
 -- ---- pieces of texts
 -- the texts of some things, with commas between

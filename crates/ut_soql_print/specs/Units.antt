@@ -1,6 +1,6 @@
 -- Words of private functions: conditions within another, as a list.
 use Rattle.std.specs.Prelude.{ℕ, List}
-use Rattle.ut_soql.specs.declared.query.Cond.{Cond}
+use Rattle.ut_query.specs.declared.query.Cond.{Cond}
 use Rattle.ut_soql_print.specs.Printing.{as_unit, is_test, printed_condition}
 
 -- the text of a condition within another

@@ -5,13 +5,13 @@ ghost use Rattle.std.specs.List.{join_by};
 ghost use Rattle.std.specs.Str.{IsAscii};
 ghost use Rattle.ut_soql_print.specs.Printing as spec;
 ghost use Rattle.ut_soql_print.specs.Units.{unit_text};
-ghost use Rattle.ut_soql.specs.declared.query.Cond.TheVariants as c;
+ghost use Rattle.ut_query.specs.declared.query.Cond.TheVariants as c;
 
 use crate::printed::{Printed, join};
 use crate::values::{operator, quoted_pattern};
 use crate::writer::Writer;
 use std::alloc::{AllocError, Global};
-use ut_soql::{Cond, LikePattern, Literal, Op, Path};
+use ut_query::{Cond, LikePattern, Literal, Op, Path};
 
 // ---- tests
 

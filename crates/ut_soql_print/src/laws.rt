@@ -2,7 +2,7 @@
 
 ghost use Rattle.std.specs.Prelude.{ℕ, ◌≤◌, List};
 ghost use Rattle.ut_soql.specs.Spelling.{Spells};
-ghost use Rattle.ut_soql.specs.declared.query.Query.{Query};
+ghost use Rattle.ut_query.specs.declared.query.Query.{Query};
 ghost use Rattle.ut_soql_print.specs.Printing.{nesting, printed};
 
 /// What is printed of a query is parsed to it again. The call does nothing.

@@ -9,7 +9,7 @@ use crate::conditions::{condition, only_if};
 use crate::printed::{Printed, join};
 use crate::writer::Writer;
 use std::alloc::{AllocError, Global};
-use ut_soql::{Cond, Item, OrderKey, Path, Query, Tail};
+use ut_query::{Cond, Item, OrderKey, Path, Query, Tail};
 use ut_value::Text;
 
 impl Printed for OrderKey {

@@ -9,7 +9,7 @@ ghost use Rattle.ut_value.specs.declared.value.Value.TheVariants as value;
 use crate::printed::{Printed, join};
 use crate::writer::Writer;
 use std::alloc::{AllocError, Global};
-use ut_soql::{LikePart, LikePattern, Literal, Op, Path};
+use ut_query::{LikePart, LikePattern, Literal, Op, Path};
 use ut_value::{Text, Value, print_value};
 
 impl Printed for Path {

@@ -6,7 +6,7 @@ use Rattle.std.specs.Str.{all_scalars, chars, is_utf8}
 use Rattle.std.proofs.lemmas.Str.{IsUtf8-from_is_utf8, scalars-chars}
 use Rattle.ut_json.specs.Reading.{◌>>=◌}
 use Rattle.ut_json.specs.declared.tree.Json.{Json}
-use Rattle.ut_soql.specs.declared.query.Query.{Query}
+use Rattle.ut_query.specs.declared.query.Query.{Query}
 use Rattle.ut_value.specs.Texts.{lower, texts_differ}
 use Rattle.ut_model.specs.declared.refusal.Refusal.{Refusal}
 use Rattle.ut_model.specs.declared.route.Route.{Route}

@@ -1,6 +1,6 @@
 -- What the verdict of any request leaves is sound.
 use Rattle.std.proofs.Common.{◌≡◌, Bool, true, false, not, Option, Some, None, refl}
-use Rattle.ut_soql.specs.declared.query.Query.{Query}
+use Rattle.ut_query.specs.declared.query.Query.{Query}
 use Rattle.ut_model.specs.Fields.{by_parent}
 use Rattle.ut_model.specs.declared.refusal.Refusal.TheVariants as refusal
 use Rattle.ut_model.specs.Asking.{ask, query_rules}

@@ -6,8 +6,10 @@ use Rattle.std.specs.Str.Lossy.{utf8_lossy, utf8_valid_len}
 use Rattle.form_urlencoded.specs.Form.{raw_pairs, split}
 use Rattle.percent_encoding.specs.Percent.{percent_decode}
 use Rattle.sha2.specs.Sha256.{sha256}
-use Rattle.ut_soql.specs.Reading.{asked_in, asked_object, front_len, is_comma, is_word, mark_len, mark_token, token_at, token_len, token_of, tokens_of, word_in}
-use Rattle.ut_soql.specs.Tokens.{begins_run, class_of, double, in_run, in_word, is_blank, is_letter, single}
+use Rattle.ut_grammar.specs.Tokens.{begins_run, class_of, in_run, in_word, is_blank, is_letter, single_token}
+use Rattle.ut_grammar.specs.Lexing.{front_len, mark_len, mark_token, token_at, token_len, token_of, tokens_of}
+use Rattle.ut_query.specs.Asking.{asked_in, asked_object, is_comma, is_word, word_in}
+use Rattle.ut_query.specs.Lexis.{is_mark, is_pair}
 use Rattle.ut_value.specs.Digits.{digits}
 use Rattle.ut_value.specs.Id.{id_in, made, number62, number_in}
 use Rattle.ut_value.specs.Numerals.{is_digit}
@@ -54,7 +56,7 @@ unfolding step
 returns-clause-no_key c = refl
 
 pub returns-clause-no_object : goal.returns-clause-no_object
-unfolding step cut id_in number_in number62 made digits routed lines split query_text raw_pairs chars encode_utf8 utf8_lossy percent_decode utf8_valid_len is_utf8 asked_in asked_object front_len is_comma is_word mark_len mark_token token_at token_len token_of tokens_of word_in begins_run class_of double in_run in_word is_blank is_letter single is_digit
+unfolding step cut id_in number_in number62 made digits routed lines split query_text raw_pairs chars encode_utf8 utf8_lossy percent_decode utf8_valid_len is_utf8 asked_in asked_object front_len is_comma is_word mark_len mark_token token_at token_len token_of tokens_of word_in begins_run class_of in_run in_word is_blank is_letter single_token is_mark is_pair is_digit
 returns-clause-no_object c =
     let w : World = with_org [] (codes "Acme") (sha256 (codes "abc!d")) in
     let key : List ℕ = codes "00D000000000001!005000000000000AAA!abc!d" in

@@ -1,0 +1,4 @@
+pub mod Like
+pub mod Worked
+pub mod Lexis
+pub mod Asking

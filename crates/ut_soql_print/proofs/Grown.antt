@@ -1,12 +1,12 @@
 -- A text as it grows.
-use Rattle.std.proofs.Common.{◌≡◌, ℕ, Bool, true, false, not, List, [], ◌∷◌, ◌++◌, map, Result, Ok, Err, OnOk, if◌then◌else◌, refl, sym, ◌∙◌, ap, append_assoc, append-nil, codes}
+use Rattle.std.proofs.Common.{◌≡◌, ℕ, Bool, true, false, not, List, [], ◌∷◌, ◌++◌, Result, Ok, Err, OnOk, if◌then◌else◌, refl, sym, ◌∙◌, ap, append_assoc, append-nil, codes}
 use Rattle.std.specs.Result.{is_ok}
 use Rattle.std.specs.List.{flat_map, join_by}
 use Rattle.std.specs.Str.{IsUtf8, chars}
 use Rattle.std.proofs.lemmas.Str.{chars-append}
 use Rattle.ut_query.specs.declared.query.Cond.{Cond, Not}
-use Rattle.ut_soql_print.specs.Printing.{as_unit, is_test, only_if, printed_condition}
-use Rattle.ut_soql_print.specs.Units.{unit_text}
+use Rattle.ut_soql_print.specs.Printing.{as_unit, is_simple, only_if, printed_condition}
+use Rattle.ut_soql_print.specs.inner.Units.{unit_text}
 use Rattle.ut_soql_print.proofs.Units.{printed_not}
 
 -- ---- characters
@@ -31,12 +31,12 @@ unit_parts : (bare : Bool) (text : List ℕ) → only_if (not bare) (codes "(") 
 unit_parts true text = append-nil text
 unit_parts false text = refl
 
-unit_is : (part got : Cond) (bare : Bool) → got ≡ part → bare ≡ is_test got
+unit_is : (part got : Cond) (bare : Bool) → got ≡ part → bare ≡ is_simple got
     → only_if (not bare) (codes "(") ++ (printed_condition got ++ only_if (not bare) (codes ")")) ≡ unit_text part
 unfolding unit_text
-unit_is part got bare e b = rw (e, b, e) (unit_parts (is_test part) (printed_condition part))
+unit_is part got bare e b = rw (e, b, e) (unit_parts (is_simple part) (printed_condition part))
 
-pub not_text : (w x y z v : List ℕ) (bare : Bool) (part got whole : Cond) → got ≡ part → whole ≡ Not part → bare ≡ is_test got → x ≡ w ++ codes "NOT "
+pub not_text : (w x y z v : List ℕ) (bare : Bool) (part got whole : Cond) → got ≡ part → whole ≡ Not part → bare ≡ is_simple got → x ≡ w ++ codes "NOT "
     → y ≡ x ++ only_if (not bare) (codes "(") → z ≡ y ++ printed_condition got → v ≡ z ++ only_if (not bare) (codes ")") → v ≡ w ++ printed_condition whole
 not_text w x y z v bare part got whole same is b e f g h =
     four w x y z v (codes "NOT ") _ _ _ e f g h ∙ ap (λ t. w ++ (codes "NOT " ++ t)) (unit_is part got bare same b)
@@ -50,7 +50,7 @@ left_more : (begun : Bool) (between : List ℕ) (part : Cond) (rest : List Cond)
 left_more true between part rest = sym (append_assoc between (unit_text part) (flat_map (λ u. between ++ unit_text u) rest))
 left_more false between part rest = refl
 
-pub unit_more : (w x y z v between : List ℕ) (begun bare : Bool) (part got : Cond) (rest : List Cond) → got ≡ part → bare ≡ is_test got → x ≡ w ++ only_if begun between
+pub unit_more : (w x y z v between : List ℕ) (begun bare : Bool) (part got : Cond) (rest : List Cond) → got ≡ part → bare ≡ is_simple got → x ≡ w ++ only_if begun between
     → y ≡ x ++ only_if (not bare) (codes "(") → z ≡ y ++ printed_condition got → v ≡ z ++ only_if (not bare) (codes ")")
     → v ++ left_text true between rest ≡ w ++ left_text begun between (part ∷ rest)
 unit_more w x y z v between begun bare part got rest same b e f g h =
@@ -61,8 +61,3 @@ unit_more w x y z v between begun bare part got rest same b e f g h =
 pub none_left : (begun : Bool) (between : List ℕ) → left_text begun between [] ≡ []
 none_left true between = refl
 none_left false between = refl
-
--- ---- characters of a text
-pub map_same : (xs : List ℕ) → map (λ x. x) xs ≡ xs
-map_same [] = refl
-map_same (x ∷ xs) = ap (λ ys. x ∷ ys) (map_same xs)

@@ -13,13 +13,14 @@ use Rattle.ut_query.specs.declared.query.Op.{Op}
 use Rattle.ut_query.specs.declared.query.Path.{Path}
 use Rattle.ut_soql.specs.declared.sign.Sign.{Sign}
 use Rattle.ut_soql.specs.declared.sign.Sign.TheVariants as sign
-use Rattle.ut_soql_print.specs.Printing.{as_unit, in_parentheses, is_test, levels, listed, printed_condition, printed_literal, printed_op, printed_part, printed_path, quoted, unit_levels}
-use Rattle.ut_soql_print.specs.Units.{unit_text}
+use Rattle.ut_soql_print.specs.Printing.{as_unit, in_parentheses, is_simple, listed, printed_condition, printed_literal, printed_op, printed_part, printed_path, quoted}
+use Rattle.ut_soql_print.specs.Nesting.{levels, unit_levels}
+use Rattle.ut_soql_print.specs.inner.Units.{unit_text}
 use Rattle.ut_soql_print.proofs.Lexed.{Reads, nothing, fails_append, reads_blank, reads_wider}
 use Rattle.ut_soql_print.proofs.Keywords.{goes_on, wider_by, spaced, and_reads, or_reads, not_reads, in_reads, like_reads, open_reads, close_reads, comma_blank_reads, operator_reads, is_equal}
 use Rattle.ut_soql_print.proofs.Leaves.{anything, all_anything, path_prints, literal_prints, pattern_prints}
 use Rattle.ut_soql_print.proofs.Prints.{Prints, behind, within, each_behind, prints_after, prints_any, prints_as, prints_both, prints_empty, prints_in_parentheses, prints_left, prints_one, prints_right, prints_separated, prints_text, prints_value, prints_wider}
-use Rattle.ut_soql_print.proofs.Units.{levels_of_unit, printed_not, printed_and, printed_or, levels_not, levels_and, levels_or, not_is_no_test, and_is_no_test, or_is_no_test, all_below}
+use Rattle.ut_soql_print.proofs.Units.{levels_of_unit, printed_not, printed_and, printed_or, levels_not, levels_and, levels_or, not_is_not_simple, and_is_not_simple, or_is_not_simple, all_below}
 use Rattle.ut_soql_print.proofs.Written.{AreWritten, written_split}
 
 -- ---- pieces of texts
@@ -171,7 +172,7 @@ tested (suc m) cs condition h = prints_right _ _ goes_on cs condition (prints_ri
 -- a condition whose text spells it at enough levels, and which is a unit without parentheses if it is a test
 record Good (condition : Cond) : Type 0 where
   pub whole : (m : ℕ) → levels condition ≤ m → Prints (g.cond_of (g.unit m)) goes_on (printed_condition condition) condition
-  pub bare : is_test condition ≡ true → (m : ℕ) → Prints (g.unit m) goes_on (printed_condition condition) condition
+  pub bare : is_simple condition ≡ true → (m : ℕ) → Prints (g.unit m) goes_on (printed_condition condition) condition
 
 test_good : (condition : Cond) → Prints g.test goes_on (printed_condition condition) condition → Good condition
 test_good condition h = record {
@@ -181,9 +182,9 @@ test_good condition h = record {
 
 good_unit : (condition : Cond) → Good condition → (m : ℕ) → levels_of_unit condition ≤ m → Prints (g.unit m) goes_on (unit_text condition) condition
 unfolding unit_text
-good_unit condition good m few = go (is_test condition) refl m few
+good_unit condition good m few = go (is_simple condition) refl m few
   where
-    go : (b : Bool) → is_test condition ≡ b → (n : ℕ) → unit_levels b (levels condition) ≤ n → Prints (g.unit n) goes_on (as_unit b (printed_condition condition)) condition
+    go : (b : Bool) → is_simple condition ≡ b → (n : ℕ) → unit_levels b (levels condition) ≤ n → Prints (g.unit n) goes_on (as_unit b (printed_condition condition)) condition
     go true e n few = good.bare e n
     go false e zero few = absurd (omega arith)
     go false e (suc n) few = grouped n (printed_condition condition) condition (good.whole n (omega arith))
@@ -191,7 +192,7 @@ good_unit condition good m few = go (is_test condition) refl m few
 not_good : (condition : Cond) → Good condition → Good (c.Not condition)
 not_good condition good = record {
   whole = λ m few. go m (subst (λ n. n ≤ m) (levels_not condition) few);
-  bare = λ e m. let none = not_is_no_test condition in absurd (cc);
+  bare = λ e m. let none = not_is_not_simple condition in absurd (cc);
 }
   where
     go : (m : ℕ) → 1 + levels_of_unit condition ≤ m → Prints (g.cond_of (g.unit m)) goes_on (printed_condition (c.Not condition)) (c.Not condition)
@@ -236,7 +237,7 @@ module _ (n : ℕ) (good : (y : List Sign) (condition : Cond) → (g.unit n).spe
         (prints_both (g.unit m) (λ _. g.chain (g.unit m)) goes_on (unit_text first) (flat_map (λ a. codes " AND " ++ unit_text a) more) first (λ one. c.And (one ∷ more))
         (apart_all (codes " AND ") (λ cs. refl) more) (good_unit first (good y first h v) m few.0)
         (prints_left _ _ goes_on _ _ (prints_as (λ all one. c.And (one ∷ all)) (Behind m sign.And) goes_on _ more rest))));
-    bare = λ e m. let none = and_is_no_test (first ∷ more) in absurd (cc);
+    bare = λ e m. let none = and_is_not_simple (first ∷ more) in absurd (cc);
   }
 
   disjunction_good : (y z : List Sign) (first : Cond) (more : List Cond) → (g.unit n).spells y first → AreWritten y → (Behind n sign.Or).spells z more → AreWritten z
@@ -250,7 +251,7 @@ module _ (n : ℕ) (good : (y : List Sign) (condition : Cond) → (g.unit n).spe
         (prints_both (g.unit m) (λ _. g.chain (g.unit m)) goes_on (unit_text first) (flat_map (λ a. codes " OR " ++ unit_text a) more) first (λ one. c.Or (one ∷ more))
         (apart_all (codes " OR ") (λ cs. refl) more) (good_unit first (good y first h v) m few.0)
         (prints_right _ _ goes_on _ _ (prints_left _ _ goes_on _ _ (prints_as (λ all one. c.Or (one ∷ all)) (Behind m sign.Or) goes_on _ more rest)))));
-    bare = λ e m. let none = or_is_no_test (first ∷ more) in absurd (cc);
+    bare = λ e m. let none = or_is_not_simple (first ∷ more) in absurd (cc);
   }
 
   chain_good : (x : List Sign) (condition : Cond) → (g.cond_of (g.unit n)).spells x condition → AreWritten x → Good condition

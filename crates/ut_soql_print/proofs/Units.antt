@@ -6,12 +6,13 @@ use mathlib.Core.Former.{Count}
 use denote.Hole.Carrier.{hidden}
 use Rattle.ut_query.specs.declared.query.Cond.{Cond, Not, And, Or, And', Or', Row_of-Cond, end_of-Cond, more_of-Cond, items-the_row-Cond, items_hidden-the_row-Cond-1}
 use Rattle.ut_query.specs.declared.query.Cond.TheBlock.{hidden-the_row-Cond-0}
-use Rattle.ut_soql_print.specs.Printing.{as_unit, greatest, is_test, levels, levels_within, printed_condition, printed_units, unit_levels}
-use Rattle.ut_soql_print.specs.Units.{unit_text}
+use Rattle.ut_soql_print.specs.Printing.{as_unit, is_simple, printed_condition, printed_units}
+use Rattle.ut_soql_print.specs.Nesting.{greatest, levels, levels_within, unit_levels}
+use Rattle.ut_soql_print.specs.inner.Units.{unit_text}
 
 -- the levels of a condition within another
 abbrev pub levels_of_unit : Cond → ℕ
-levels_of_unit c = unit_levels (is_test c) (levels c)
+levels_of_unit c = unit_levels (is_simple c) (levels c)
 
 abbrev row_of : Cond → (n : Count) × Row_of-Cond n
 row_of (And' _ row) = (_, row)
@@ -21,7 +22,7 @@ row_of _ = (_, end_of-Cond)
 units_in_row : (n : _) (row : Row_of-Cond n) → printed_units row ≡ map unit_text (items-the_row-Cond n row)
 unfolding unit_text
 units_in_row n end_of-Cond = refl
-units_in_row n (more_of-Cond first rest) = ap (λ us. as_unit (is_test first) (printed_condition first) ∷ us) (units_in_row _ rest)
+units_in_row n (more_of-Cond first rest) = ap (λ us. as_unit (is_simple first) (printed_condition first) ∷ us) (units_in_row _ rest)
 
 levels_in_row : (n : _) (row : Row_of-Cond n) → levels_within row ≡ map levels_of_unit (items-the_row-Cond n row)
 levels_in_row n end_of-Cond = refl
@@ -33,7 +34,7 @@ joined_map f between (x ∷ xs) = ap (λ z. f x ++ z) (flat_map-map (λ y. betwe
 
 pub printed_not : (c : Cond) → printed_condition (Not c) ≡ codes "NOT " ++ unit_text c
 unfolding hidden-the_row-Cond-0 hidden unit_text
-printed_not c = ap (λ z. codes "NOT " ++ z) (append-nil (as_unit (is_test c) (printed_condition c)))
+printed_not c = ap (λ z. codes "NOT " ++ z) (append-nil (as_unit (is_simple c) (printed_condition c)))
 
 joined_row : (between : List ℕ) (n : _) (row : Row_of-Cond n) (cs : List Cond) → items-the_row-Cond n row ≡ cs
     → join_by (λ (u : List ℕ). u) between (printed_units row) ≡ join_by unit_text between cs
@@ -60,15 +61,15 @@ levels_or cs =
     let row = row_of (Or cs) in
     ap greatest (levels_in_row row.0 row.1) ∙ ap (λ xs. greatest (map levels_of_unit xs)) (items_hidden-the_row-Cond-1 cs)
 
-pub not_is_no_test : (c : Cond) → is_test (Not c) ≡ false
+pub not_is_not_simple : (c : Cond) → is_simple (Not c) ≡ false
 unfolding hidden-the_row-Cond-0 hidden
-not_is_no_test c = refl
+not_is_not_simple c = refl
 
-pub and_is_no_test : (cs : List Cond) → is_test (And cs) ≡ false
-and_is_no_test cs = refl
+pub and_is_not_simple : (cs : List Cond) → is_simple (And cs) ≡ false
+and_is_not_simple cs = refl
 
-pub or_is_no_test : (cs : List Cond) → is_test (Or cs) ≡ false
-or_is_no_test cs = refl
+pub or_is_not_simple : (cs : List Cond) → is_simple (Or cs) ≡ false
+or_is_not_simple cs = refl
 
 -- what is greatest is no less than any
 pub all_below : {A : Type 0} (f : A → ℕ) (m : ℕ) (xs : List A) → greatest (map f xs) ≤ m → AllByRecursion (λ x. f x ≤ m) xs

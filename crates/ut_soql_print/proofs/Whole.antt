@@ -22,7 +22,8 @@ use Rattle.ut_query.specs.declared.query.Query.{Query}
 use Rattle.ut_query.specs.declared.query.Tail.{Tail}
 use Rattle.ut_soql.specs.declared.sign.Sign.{Sign}
 use Rattle.ut_soql.specs.declared.sign.Sign.TheVariants as sign
-use Rattle.ut_soql_print.specs.Printing.{item_levels, levels_if, listed, nesting, only_if, optional, printed, printed_condition, printed_item, printed_key, printed_order, printed_path, printed_tail}
+use Rattle.ut_soql_print.specs.Printing.{listed, only_if, optional, printed, printed_condition, printed_item, printed_key, printed_order, printed_path, printed_tail}
+use Rattle.ut_soql_print.specs.Nesting.{item_levels, levels_if, nesting}
 use Rattle.ut_soql_print.proofs.Keywords.{goes_on, by_reads, comma_blank_reads, desc_reads, ends, from_reads, last_reads, limit_reads, nulls_reads, offset_reads, order_reads, select_reads, spaced, where_reads}
 use Rattle.ut_soql_print.proofs.Leaves.{all_anything, anything, count_prints, name_ends, path_prints}
 use Rattle.ut_soql_print.proofs.Lexed.{Reads, nothing}

@@ -1,2 +1,3 @@
 pub mod Printing
-pub mod Units
+pub mod Nesting
+pub mod inner

@@ -1,7 +1,7 @@
 -- The text of a query: keywords in upper case, one blank between two tokens, but none round `.`, before `,` and inside parentheses.
 -- Source of the words and marks: Salesforce, "SOQL and SOSL Reference", "SOQL SELECT Syntax". Which blanks and parentheses are
 -- written is this product's own.
-use Rattle.std.specs.Prelude.{ℕ, ◌+◌, Bool, true, false, ◌||◌, ◌==◌, max, if◌then◌else◌, List, [], ◌∷◌, ◌++◌, map, Option, Some, None, codes}
+use Rattle.std.specs.Prelude.{ℕ, Bool, true, false, ◌||◌, ◌==◌, if◌then◌else◌, List, [], ◌∷◌, ◌++◌, Option, Some, None, codes}
 use Rattle.std.specs.Fmt.{decimal}
 use Rattle.std.specs.List.{flat_map, join_by}
 use Rattle.ut_value.specs.Printing.{is_printable, print_value}
@@ -58,9 +58,16 @@ is_special c = (c == quote) || (c == backslash)
 unfoldable pub printed_character : ℕ → List ℕ
 printed_character c = escaped_if (is_special c) c
 
--- `%` and `_`
+-- `%`
+abbrev pub percent : ℕ
+percent = 37
+
+-- `_`
+abbrev pub underscore : ℕ
+underscore = 95
+
 abbrev pub is_wildcard : ℕ → Bool
-is_wildcard c = (c == 37) || (c == 95)
+is_wildcard c = (c == percent) || (c == underscore)
 
 -- in a pattern `%` and `_` that stand for themselves need a backslash too
 unfoldable pub printed_part : LikePart → List ℕ
@@ -97,17 +104,17 @@ printed_op op.Greater = codes ">"
 printed_op op.GreaterEqual = codes ">="
 
 -- whether a condition needs no parentheses within another
-abbrev pub is_test : Cond → Bool
-is_test (Test path op literal) = true
-is_test (Like path pattern) = true
-is_test (In path negated literals) = true
-is_test (Not' shape part) = false
-is_test (And' shape parts) = false
-is_test (Or' shape parts) = false
+abbrev pub is_simple : Cond → Bool
+is_simple (Test path op literal) = true
+is_simple (Like path pattern) = true
+is_simple (In path negated literals) = true
+is_simple (Not' shape part) = false
+is_simple (And' shape parts) = false
+is_simple (Or' shape parts) = false
 
 -- the text of a condition within another
-abbrev pub as_unit : (is_test : Bool) → List ℕ → List ℕ
-as_unit is_test text = if is_test then text else in_parentheses text
+abbrev pub as_unit : (is_simple : Bool) → List ℕ → List ℕ
+as_unit is_simple text = if is_simple then text else in_parentheses text
 
 -- the conditions within another come as a `Row_of-Cond`, which NOT has too, with one condition
 abbrev mutual
@@ -122,7 +129,7 @@ abbrev mutual
 
   pub printed_units : {n : _} → Row_of-Cond n → List (List ℕ)
   printed_units end_of-Cond = []
-  printed_units (more_of-Cond first rest) = as_unit (is_test first) (printed_condition first) ∷ printed_units rest
+  printed_units (more_of-Cond first rest) = as_unit (is_simple first) (printed_condition first) ∷ printed_units rest
 
 -- ---- clauses
 abbrev pub printed_key : OrderKey → List ℕ
@@ -148,39 +155,3 @@ printed_item (item.Child paths tail) = printed_child paths tail
 
 abbrev pub printed : Query → List ℕ
 printed query = codes "SELECT " ++ listed printed_item query.select ++ printed_tail query.tail ++ optional (codes " OFFSET ") decimal query.offset
-
--- ---- levels
--- the greatest of some numbers
-abbrev pub greatest : List ℕ → ℕ
-greatest [] = 0
-greatest (n ∷ ns) = max n (greatest ns)
-
--- parentheses round a condition are one level
-abbrev pub unit_levels : (is_test : Bool) → ℕ → ℕ
-unit_levels is_test levels = if is_test then levels else 1 + levels
-
--- how deep NOT and parentheses nest in the text of a condition
-abbrev mutual
-  pub levels : Cond → ℕ
-  levels (Test path op literal) = 0
-  levels (Like path pattern) = 0
-  levels (In path negated literals) = 0
-  levels (Not' shape part) = 1 + greatest (levels_within part)
-  levels (And' shape parts) = greatest (levels_within parts)
-  levels (Or' shape parts) = greatest (levels_within parts)
-
-  pub levels_within : {n : _} → Row_of-Cond n → List ℕ
-  levels_within end_of-Cond = []
-  levels_within (more_of-Cond first rest) = unit_levels (is_test first) (levels first) ∷ levels_within rest
-
-abbrev pub levels_if : Option Cond → ℕ
-levels_if None = 0
-levels_if (Some condition) = levels condition
-
-abbrev pub item_levels : Item → ℕ
-item_levels (item.Path path) = 0
-item_levels (item.Child paths tail) = levels_if tail.condition
-
--- how deep NOT and parentheses nest in the conditions of the text of a query
-abbrev pub nesting : Query → ℕ
-nesting query = max (levels_if query.tail.condition) (greatest (map item_levels query.select))

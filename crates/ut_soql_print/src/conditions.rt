@@ -4,7 +4,7 @@ ghost use Rattle.std.specs.Prelude.{◌≡◌, ◌++◌, OnOk, codes, not};
 ghost use Rattle.std.specs.List.{join_by};
 ghost use Rattle.std.specs.Str.{IsAscii};
 ghost use Rattle.ut_soql_print.specs.Printing as spec;
-ghost use Rattle.ut_soql_print.specs.Units.{unit_text};
+ghost use Rattle.ut_soql_print.specs.inner.Units.{unit_text};
 ghost use Rattle.ut_query.specs.declared.query.Cond.TheVariants as c;
 
 use crate::printed::{Printed, join};
@@ -72,8 +72,8 @@ fn membership(
 // ---- conditions
 
 // Whether a condition needs no parentheses within another.
-fn is_test(cond: &Cond) -> bool
-    ensures { result ≡ spec.is_test cond.now }
+fn is_simple(cond: &Cond) -> bool
+    ensures { result ≡ spec.is_simple cond.now }
 {
     match cond {
         Cond::Test { .. } | Cond::Like { .. } | Cond::In { .. } => true,
@@ -96,7 +96,7 @@ pub fn condition(alloc: Global, out: &mut Writer, cond: &Cond) -> Result<(), All
         } => membership(alloc, out, path, *negated, literals.as_slice()),
         Cond::Not(part) => {
             let part = part.get();
-            let bare = is_test(part);
+            let bare = is_simple(part);
             out.word("NOT ")?;
             only_if(out, !bare, "(")?;
             condition(alloc, out, part)?;
@@ -115,7 +115,7 @@ fn units(alloc: Global, out: &mut Writer, between: &str, parts: &[Cond]) -> Resu
 {
     let mut begun = false;
     'parts: for part in parts {
-        let bare = is_test(part);
+        let bare = is_simple(part);
         only_if(out, begun, between)?;
         only_if(out, !bare, "(")?;
         condition(alloc, out, part)?;

@@ -3,12 +3,13 @@
 ghost use Rattle.std.specs.Prelude.{ℕ, ◌≤◌, List};
 ghost use Rattle.ut_soql.specs.Spelling.{Spells};
 ghost use Rattle.ut_query.specs.declared.query.Query.{Query};
-ghost use Rattle.ut_soql_print.specs.Printing.{nesting, printed};
+ghost use Rattle.ut_soql_print.specs.Printing.{printed};
+ghost use Rattle.ut_soql_print.specs.Nesting.{nesting};
 
 /// What is printed of a query is parsed to it again. The call does nothing.
 ///
-/// The query is one that some text spells. Its printed text may have more parentheses than that one, so at most 32 levels of
-/// parentheses and NOT in a condition are a condition of their own.
+/// The query is one that some text spells. Its printed text may have more parentheses than that text, so it is a premise of its
+/// own that they and NOT nest at most 32 levels in it.
 pub fn printing_laws()
     ensures parsed { (text : List ℕ) (query : Query) → Spells text query → nesting query ≤ 32 → Spells (printed query) query }
 {}

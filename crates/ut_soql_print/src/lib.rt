@@ -1,7 +1,7 @@
 //! The texts of queries.
 //!
-//! It depends on `ut_value` and `ut_soql`. Its contract: `print` returns the text that the definition `printed` gives a query,
-//! or is out of memory.
+//! It depends on `ut_value`, `ut_grammar`, `ut_query` and `ut_soql`. Its contract: `print` returns the text that the definition
+//! `printed` gives a query, or is out of memory. Where some text spells a query, what is printed of it spells it again.
 #![tactic(auto)]
 
 mod conditions;

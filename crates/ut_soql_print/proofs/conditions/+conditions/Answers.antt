@@ -7,8 +7,8 @@ use Rattle.ut_soql_print.proofs.conditions.+conditions.Goals as goal
 
 pub condition-returns-in_ok-condition-in-Not : goal.condition-returns-in_ok-condition-in-Not
 condition-returns-in_ok-condition-in-Not t c =
-    on_ok c.only_if-in-Not.result (λ e. not_text c.args.out.now c.word.new.self c.only_if.new.out c.condition.new.out c.only_if-in-Not.new.out c.is_test-bare.result
-    c.in-Not.part c.get-part.result.now c.args.cond.now c.get-part.ensures c.in-Not.is c.is_test-bare.ensures c.in_ok-word-in-Not.ensures c.in_ok-only_if-in-Not.ensures
+    on_ok c.only_if-in-Not.result (λ e. not_text c.args.out.now c.word.new.self c.only_if.new.out c.condition.new.out c.only_if-in-Not.new.out c.is_simple-bare.result
+    c.in-Not.part c.get-part.result.now c.args.cond.now c.get-part.ensures c.in-Not.is c.is_simple-bare.ensures c.in_ok-word-in-Not.ensures c.in_ok-only_if-in-Not.ensures
     c.in_ok-condition-in-Not.ensures e) c.only_if-in-Not.ensures
 
 pub condition-returns-in-And : goal.condition-returns-in-And
@@ -25,8 +25,8 @@ units-parts-preserved t c =
     let between = c.args.between.now in
     let part = c.part-item.result in
     let more = drop (c.parts.part-index + 1) parts in
-    unit_more c.parts.out c.only_if.new.out c.only_if-in-parts.new.out c.condition.new.out c.only_if-in-parts-2.new.out between c.parts.begun c.is_test-bare.result part part more refl
-    c.is_test-bare.ensures c.in_ok-only_if.ensures c.in_ok-only_if-2.ensures c.in_ok-condition.ensures c.in_ok-only_if-3.ensures
+    unit_more c.parts.out c.only_if.new.out c.only_if-in-parts.new.out c.condition.new.out c.only_if-in-parts-2.new.out between c.parts.begun c.is_simple-bare.result part part more refl
+    c.is_simple-bare.ensures c.in_ok-only_if.ensures c.in_ok-only_if-2.ensures c.in_ok-condition.ensures c.in_ok-only_if-3.ensures
     ∙ ap (λ p. c.parts.out ++ left_text c.parts.begun between (p ∷ more)) c.part-item.is
     ∙ sym (at_drop_more (λ rest. c.parts.out ++ left_text c.parts.begun between rest) parts c.parts.part-index part c.parts-test.true)
     ∙ c.parts.invariant

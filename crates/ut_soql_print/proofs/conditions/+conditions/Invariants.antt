@@ -1,6 +1,6 @@
 use Rattle.std.proofs.Common.{◌≡◌, ◌++◌, drop}
 use Rattle.std.specs.List.{join_by}
-use Rattle.ut_soql_print.specs.Units.{unit_text}
+use Rattle.ut_soql_print.specs.inner.Units.{unit_text}
 use Rattle.ut_soql_print.proofs.Grown.{left_text}
 use Rattle.ut_soql_print.proofs.conditions.+conditions.Given as goal
 

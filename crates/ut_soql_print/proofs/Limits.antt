@@ -41,7 +41,7 @@ limit_reads n few =
     let Q : Sign → Type 0 = λ s. Reads goes_on (decimal n) (s ∷ []) in
     subst Q (whole_sign n few) (subst P (whole_text n) (number_reads (pos (n * scale)) small))
 
--- ---- what stands behind LIMIT and OFFSET
+-- ---- what is behind LIMIT and OFFSET
 counted : (most n : ℕ) (m : ℕ) → (if nat_le m most then Some m else None) ≡ Some n → (m ≡ n) × (m ≤ most)
 counted most n m h = go (nat_le m most) refl h
   where

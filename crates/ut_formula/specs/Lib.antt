@@ -1,10 +1,4 @@
 pub mod Meaning
 pub mod Naming
 pub mod Worked
-pub mod Signs
-pub mod Terms
-pub mod Grammar
-pub mod Reading
-pub mod Spelling
 pub mod Operands
-pub mod Texts

@@ -12,8 +12,9 @@ use Rattle.ut_value.specs.declared.value.OnDelete.TheVariants as on_delete
 use Rattle.ut_model.specs.Cases.{in_case}
 use Rattle.ut_model.specs.Fields.{by_parent}
 use Rattle.ut_model.specs.Members.{Body, as_text, entry, flag_in, formed, levels, member_names, object_in, principal_in, text_in}
-use Rattle.ut_model.specs.Metadata.{NewMaster}
-use Rattle.ut_model.specs.NewFields.{SpelledType, plain, lookup_to}
+use Rattle.ut_model.specs.declared.metadata_bodies.NewMaster.{NewMaster}
+use Rattle.ut_model.specs.declared.metadata_bodies.SpelledType.{SpelledType}
+use Rattle.ut_model.specs.declared.metadata_bodies.SpelledType.TheVariants.{Plain, LookupTo}
 use Rattle.ut_model.specs.Requests.{Request, adds_field, adds_object, adds_sharing_rule, adds_validation_rule, sets_object, shares}
 use Rattle.ut_model.specs.SharingRules.{SpelledSource, from, by_formula}
 use Rattle.ut_model.specs.Sound.{is_name}
@@ -77,8 +78,8 @@ is_clear on_delete.Restrict = false
 
 -- flags suit the type: `required` all but a lookup that is cleared
 abbrev pub flags_suit : SpelledType → (required unique indexed : Bool) → Bool
-flags_suit (plain kind) required unique indexed = (not unique || suits_unique kind) && (not indexed || suits_indexed kind)
-flags_suit (lookup_to object o child) required unique indexed = not (unique || (indexed || (required && is_clear o)))
+flags_suit (Plain kind) required unique indexed = (not unique || suits_unique kind) && (not indexed || suits_indexed kind)
+flags_suit (LookupTo object o child) required unique indexed = not (unique || (indexed || (required && is_clear o)))
 
 abbrev pub field_request : Body → Option Request
 field_request body =

@@ -6,6 +6,8 @@ use Rattle.ut_value.specs.declared.sharing.Access.{Access}
 use Rattle.ut_value.specs.declared.value.FieldType.TheVariants as type
 use Rattle.ut_model.specs.declared.limit.Limit.TheVariants as limit
 use Rattle.ut_model.specs.declared.refusal.Refusal.TheVariants.{InvalidType}
+use Rattle.ut_model.specs.declared.metadata_bodies.NewMaster.{NewMaster}
+use Rattle.ut_model.specs.declared.metadata_bodies.NewObject.{NewObject}
 use Rattle.ut_model.specs.Cases.{in_case}
 use Rattle.ut_model.specs.Fields.{is_detail}
 use Rattle.ut_model.specs.Names.{bad_name, is_child_name, is_custom_name, taken}
@@ -16,19 +18,6 @@ use Rattle.ut_model.specs.Tenant.{Field, Object, Tenant}
 use Rattle.ut_model.specs.Verdict.{Verdict, accept, done, judged, with_object}
 
 -- ---- new objects
-
--- what a body says of a new detail: its Master field, the object of the masters, and what details are called there
-pub record NewMaster : Type 0 where
-  pub field : List ℕ
-  pub parent : List ℕ
-  pub child : List ℕ
-
--- what a body says of a new object, and the names of its members in their order: those of `master` are in its place
-pub record NewObject : Type 0 where
-  pub members : List (List ℕ)
-  pub name : List ℕ
-  pub access : Access
-  pub master : Option NewMaster
 
 -- the masters above an object, at most so many
 abbrev pub masters_above : ℕ → List Object → ℕ → ℕ

@@ -4,8 +4,10 @@ use Rattle.std.specs.Prelude.{ℕ, ◌+◌, Bool, false, not, ◌&&◌, ◌||◌
 use Rattle.ut_value.specs.Reading.{empty_value}
 use Rattle.ut_value.specs.declared.value.FieldType.{FieldType}
 use Rattle.ut_value.specs.declared.value.FieldType.TheVariants as type
-use Rattle.ut_value.specs.declared.value.OnDelete.{OnDelete}
 use Rattle.ut_model.specs.declared.limit.Limit.TheVariants as limit
+use Rattle.ut_model.specs.declared.metadata_bodies.NewField.{NewField}
+use Rattle.ut_model.specs.declared.metadata_bodies.SpelledType.{SpelledType}
+use Rattle.ut_model.specs.declared.metadata_bodies.SpelledType.TheVariants.{Plain, LookupTo}
 use Rattle.ut_model.specs.Cases.{in_case}
 use Rattle.ut_model.specs.Names.{bad_name, is_child_name, is_custom_name, taken}
 use Rattle.ut_model.specs.Objects.{Numbered, change_at, is_of}
@@ -14,37 +16,22 @@ use Rattle.ut_model.specs.Rules.{Rule, first_refusal, in_body_order, over_limit}
 use Rattle.ut_model.specs.Tenant.{Field, Tenant}
 use Rattle.ut_model.specs.Verdict.{Verdict, accept, done, judged, with_object}
 
--- a type as a body spells it: a lookup names its object, and what its records are called there
-pub data SpelledType : Type 0 where
-  plain : FieldType → SpelledType
-  lookup_to : (object : List ℕ) → OnDelete → (child : List ℕ) → SpelledType
-
--- what a body says of a new field, and the names of its members in their order
-pub record NewField : Type 0 where
-  pub members : List (List ℕ)
-  pub object : List ℕ
-  pub name : List ℕ
-  pub kind : SpelledType
-  pub required : Bool
-  pub unique : Bool
-  pub indexed : Bool
-
 -- ---- lookups
 
 -- what it comes to with the number of a lookup's object; other types have none
 abbrev pub with_target : Tenant → SpelledType → (Option ℕ → Verdict) → Verdict
-with_target t (plain kind) verdict = verdict None
-with_target t (lookup_to object on_delete child) verdict = with_object t object (λ o. verdict (Some o.number))
+with_target t (Plain kind) verdict = verdict None
+with_target t (LookupTo object on_delete child) verdict = with_object t object (λ o. verdict (Some o.number))
 
 -- the type, with the number of a lookup's object
 abbrev pub type_with : (target : Option ℕ) → SpelledType → FieldType
-type_with target (plain kind) = kind
-type_with target (lookup_to object on_delete child) = type.Lookup (unwrap_or target 0) on_delete
+type_with target (Plain kind) = kind
+type_with target (LookupTo object on_delete child) = type.Lookup (unwrap_or target 0) on_delete
 
 -- the child relationship of a lookup
 abbrev pub child_of : SpelledType → Option (List ℕ)
-child_of (plain kind) = None
-child_of (lookup_to object on_delete child) = Some child
+child_of (Plain kind) = None
+child_of (LookupTo object on_delete child) = Some child
 
 -- the first of these members is before the second
 abbrev pub is_before : (members : List (List ℕ)) → (first second : List ℕ) → Bool

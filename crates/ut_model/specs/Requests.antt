@@ -7,8 +7,11 @@ use Rattle.ut_model.specs.Asking.{ask}
 use Rattle.ut_model.specs.Creates.{create}
 use Rattle.ut_model.specs.Deletes.{delete}
 use Rattle.ut_model.specs.Given.{Assignment}
-use Rattle.ut_model.specs.Metadata.{NewObject, add_object, set_access}
-use Rattle.ut_model.specs.NewFields.{NewField, SpelledType, add_field}
+use Rattle.ut_model.specs.declared.metadata_bodies.NewObject.{NewObject}
+use Rattle.ut_model.specs.Metadata.{add_object, set_access}
+use Rattle.ut_model.specs.declared.metadata_bodies.NewField.{NewField}
+use Rattle.ut_model.specs.declared.metadata_bodies.SpelledType.{SpelledType}
+use Rattle.ut_model.specs.NewFields.{add_field}
 use Rattle.ut_model.specs.Paths.{Asked}
 use Rattle.ut_model.specs.People.{NewUser, add_group, add_role, add_user, set_group, set_role, set_user}
 use Rattle.ut_model.specs.Principals.{Spelled}

@@ -8,7 +8,8 @@ use Rattle.ut_value.specs.declared.value.FieldType.TheVariants as type
 use Rattle.ut_value.specs.declared.value.OnDelete.{OnDelete}
 use Rattle.ut_value.specs.declared.value.OnDelete.TheVariants as on_delete
 use Rattle.ut_model.specs.Members.{Body, all_there, as_text, entry, formed, list_in, object_in, text_in, whole_in}
-use Rattle.ut_model.specs.NewFields.{SpelledType, plain, lookup_to}
+use Rattle.ut_model.specs.declared.metadata_bodies.SpelledType.{SpelledType}
+use Rattle.ut_model.specs.declared.metadata_bodies.SpelledType.TheVariants.{Plain, LookupTo}
 
 -- the thing, where this is so
 abbrev pub where_so : {X : Type 0} → Bool → X → Option X
@@ -16,7 +17,7 @@ where_so good x = if good then Some x else None
 
 -- a type that is no lookup, within its bounds
 abbrev pub in_bounds_type : FieldType → Option SpelledType
-in_bounds_type kind = where_so (is_type kind) (plain kind)
+in_bounds_type kind = where_so (is_type kind) (Plain kind)
 
 -- `length`
 abbrev pub text_type : Body → Option SpelledType
@@ -49,7 +50,7 @@ lookup_type body =
     text_in b (codes "object") >>= λ object.
     text_in b (codes "onDelete") >>= entry deletions >>= λ o.
     text_in b (codes "child") >>= λ child.
-    Some (lookup_to object o child)
+    Some (LookupTo object o child)
 
 -- the kinds, and what else a type of each has
 abbrev pub type_forms : List (List ℕ × (Body → Option SpelledType))

@@ -7,7 +7,7 @@ use Rattle.ut_value.specs.declared.sharing.Access.TheVariants as access
 use Rattle.ut_value.specs.declared.sharing.Level.TheVariants.{Edit}
 use Rattle.ut_value.specs.declared.sharing.Principal.TheVariants as to
 use Rattle.ut_model.specs.Members.{Body}
-use Rattle.ut_model.specs.Metadata.{NewObject}
+use Rattle.ut_model.specs.declared.metadata_bodies.NewObject.{NewObject}
 use Rattle.ut_model.specs.Shares.{NewShare}
 
 -- a member that is a text

@@ -7,7 +7,7 @@ use Rattle.ut_value.specs.declared.sharing.Access.TheVariants as access
 use Rattle.ut_value.specs.declared.value.FieldType.TheVariants as type
 use Rattle.ut_value.specs.declared.value.OnDelete.TheVariants as on_delete
 use Rattle.ut_model.specs.Given.{Assignment, found_by, in_json}
-use Rattle.ut_model.specs.NewFields.{plain, lookup_to}
+use Rattle.ut_model.specs.declared.metadata_bodies.SpelledType.TheVariants.{Plain, LookupTo}
 use Rattle.ut_model.specs.Requests.{Request, adds_object, adds_validation_rule, creates, deletes, updates, upserts}
 use Rattle.ut_model.specs.WorkedRequests.{Call, add_deals, by_admin, deal_object, field_with, object_with, people, text_to}
 
@@ -20,8 +20,8 @@ add_rule name formula message =
 abbrev pub rules_made : List Call
 rules_made =
     people ++ add_deals
-    ∷ by_admin (field_with deal_object (codes "Amount__c") (plain (type.Number 6 0)) false)
-    ∷ by_admin (field_with deal_object (codes "Code__c") (plain (type.Text 20)) true)
+    ∷ by_admin (field_with deal_object (codes "Amount__c") (Plain (type.Number 6 0)) false)
+    ∷ by_admin (field_with deal_object (codes "Code__c") (Plain (type.Text 20)) true)
     ∷ by_admin (creates deal_object (text_to (codes "Code__c") (codes "k1") ∷ []))
     ∷ by_admin (add_rule (codes "B_low") (codes "Amount__c < 0") (codes "below zero"))
     ∷ by_admin (add_rule (codes "a_name") (codes "ISBLANK(Name)") (codes "no name"))
@@ -37,7 +37,7 @@ deal_of count more =
 abbrev pub accounts_made : List Call
 accounts_made =
     by_admin (object_with (codes "Account__c") access.Private)
-    ∷ by_admin (field_with (codes "Account__c") (codes "Code__c") (plain (type.Text 20)) true)
+    ∷ by_admin (field_with (codes "Account__c") (codes "Code__c") (Plain (type.Text 20)) true)
     ∷ []
 
 abbrev pub upsert_with : (key : List ℕ) → (text : Option (List ℕ)) → List Assignment → Call
@@ -54,7 +54,7 @@ abbrev pub account_with_code : List Call
 account_with_code =
     accounts_made
     ++ by_admin (object_with (codes "Contact__c") access.Private)
-    ∷ by_admin (field_with (codes "Contact__c") (codes "Account__c") (lookup_to (codes "Account__c") on_delete.Clear (codes "Contacts__r")) false)
+    ∷ by_admin (field_with (codes "Contact__c") (codes "Account__c") (LookupTo (codes "Account__c") on_delete.Clear (codes "Contacts__r")) false)
     ∷ upsert_account
     ∷ []
 
@@ -84,7 +84,7 @@ order_made =
     by_admin (object_with (codes "Order__c") access.Private)
     ∷ by_admin (detail_of (codes "Line__c") (codes "Order__c") (codes "Order__c") (codes "Lines__r"))
     ∷ by_admin (object_with (codes "Note__c") access.Private)
-    ∷ by_admin (field_with (codes "Note__c") (codes "Line__c") (lookup_to (codes "Line__c") on_delete.Restrict (codes "Notes__r")) false)
+    ∷ by_admin (field_with (codes "Note__c") (codes "Line__c") (LookupTo (codes "Line__c") on_delete.Restrict (codes "Notes__r")) false)
     ∷ by_admin (creates (codes "Order__c") [])
     ∷ make_line ∷ make_line ∷ make_line
     ∷ by_admin (creates (codes "Note__c") (text_to (codes "Line__c") (codes "a01000000000003") ∷ []))

@@ -10,7 +10,7 @@ use Rattle.ut_query.specs.declared.query.Literal.{Literal}
 use Rattle.ut_query.specs.declared.query.Op.{Op}
 use Rattle.ut_query.specs.declared.query.OrderKey.{OrderKey}
 use Rattle.ut_model.specs.Given.{Assignment}
-use Rattle.ut_model.specs.NewFields.{plain}
+use Rattle.ut_model.specs.declared.metadata_bodies.SpelledType.TheVariants.{Plain}
 use Rattle.ut_model.specs.Requests.{Request, asks, begins_retype, creates, deletes, sets_role, unshares, updates}
 use Rattle.ut_model.specs.WorkedQueries.{path, query, tail}
 use Rattle.ut_model.specs.WorkedRecords.{detail_of}
@@ -80,13 +80,13 @@ line_made =
 -- ---- the change of a deal's field to a text
 
 abbrev pub to_text : (field : List ℕ) → Call
-to_text field = by_admin (begins_retype deal_object field (plain (type.Text 20)))
+to_text field = by_admin (begins_retype deal_object field (Plain (type.Text 20)))
 
 -- deals with a stage that changes; there is one, so the next request finds the job still copying
 abbrev pub stage_changing : List Call
 stage_changing =
     add_deals
-    ∷ by_admin (field_with deal_object stage (plain (type.Picklist (codes "Open" ∷ codes "Shut" ∷ []))) false)
+    ∷ by_admin (field_with deal_object stage (Plain (type.Picklist (codes "Open" ∷ codes "Shut" ∷ []))) false)
     ∷ by_admin (creates deal_object [])
     ∷ to_text stage
     ∷ []

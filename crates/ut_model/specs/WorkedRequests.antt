@@ -17,7 +17,7 @@ use Rattle.ut_model.specs.Given.{Assignment, in_json}
 use Rattle.ut_model.specs.Jobs.{job_step}
 use Rattle.ut_model.specs.Levels.{Reads}
 use Rattle.ut_model.specs.Members.{entry}
-use Rattle.ut_model.specs.NewFields.{SpelledType}
+use Rattle.ut_model.specs.declared.metadata_bodies.SpelledType.{SpelledType}
 use Rattle.ut_model.specs.Organisations.{fresh}
 use Rattle.ut_model.specs.Paths.{Asked}
 use Rattle.ut_model.specs.Replies.{reply_of}

@@ -7,7 +7,7 @@ use Rattle.ut_value.specs.declared.value.FieldType.TheVariants as type
 use Rattle.ut_value.specs.declared.value.Value.TheVariants as value
 use Rattle.ut_query.specs.declared.query.Item.TheVariants as item
 use Rattle.ut_model.specs.declared.record.Record.{Record}
-use Rattle.ut_model.specs.NewFields.{plain}
+use Rattle.ut_model.specs.declared.metadata_bodies.SpelledType.TheVariants.{Plain}
 use Rattle.ut_model.specs.Requests.{asks, begins_retype, gets_retype, updates}
 use Rattle.ut_model.specs.Tenant.{Tenant}
 use Rattle.ut_model.specs.WorkedAccess.{admin, field, id_of, item as record_of, object}
@@ -29,7 +29,7 @@ filled many n other =
 
 -- the change to a number of 6 digits begins
 abbrev pub to_number : Call
-to_number = by_admin (begins_retype (codes "T__c") (codes "V__c") (plain (type.Number 6 0)))
+to_number = by_admin (begins_retype (codes "T__c") (codes "V__c") (Plain (type.Number 6 0)))
 
 -- `SELECT V__c FROM T__c LIMIT 1`
 abbrev pub select_first : Call

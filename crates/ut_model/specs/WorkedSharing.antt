@@ -11,7 +11,7 @@ use Rattle.ut_query.specs.declared.query.Cond.{Cond}
 use Rattle.ut_query.specs.declared.query.Cond.TheVariants.{Test}
 use Rattle.ut_query.specs.declared.query.Literal.{Literal}
 use Rattle.ut_query.specs.declared.query.Op.{Op}
-use Rattle.ut_model.specs.NewFields.{plain, lookup_to}
+use Rattle.ut_model.specs.declared.metadata_bodies.SpelledType.TheVariants.{Plain, LookupTo}
 use Rattle.ut_model.specs.Principals.{Spelled}
 use Rattle.ut_model.specs.Requests.{Request, adds_group, adds_sharing_rule, asks, creates, sets_group, shares, updates}
 use Rattle.ut_model.specs.SharingRules.{by_formula}
@@ -64,7 +64,7 @@ stage_to text = updates deal_object (codes "a0000000000000A") (text_to stage tex
 abbrev pub open_made : List Call
 open_made =
     people ++ add_deals
-    ∷ by_admin (field_with deal_object stage (plain (type.Picklist (codes "Open" ∷ codes "Shut" ∷ []))) false)
+    ∷ by_admin (field_with deal_object stage (Plain (type.Picklist (codes "Open" ∷ codes "Shut" ∷ []))) false)
     ∷ by_admin (adds_group (codes "G1"))
     ∷ by_admin (adds_group (codes "G2"))
     ∷ by_admin (sets_group (codes "00G000000000008") (principal_text to.User (codes "005000000000007") ∷ principal_text to.Group (codes "00G000000000009") ∷ []))
@@ -76,7 +76,7 @@ open_made =
 -- ---- contacts (1) refer to accounts (0) that Otto can't read, and notes to contacts
 
 abbrev pub lookup_field : (object name target child : List ℕ) → Request
-lookup_field object name target child = field_with object name (lookup_to target on_delete.Clear child) false
+lookup_field object name target child = field_with object name (LookupTo target on_delete.Clear child) false
 
 abbrev pub contact_made : List Call
 contact_made =

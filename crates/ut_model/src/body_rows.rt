@@ -8,7 +8,7 @@ ghost use Rattle.ut_value.specs.declared.value.FieldType.TheVariants as type;
 ghost use Rattle.ut_model.specs.Forms.{object_request, share_request, sharing_rule_request, validation_request};
 ghost use Rattle.ut_model.specs.Given.{in_json};
 ghost use Rattle.ut_model.specs.Members.{assignments, body_in, principal_in};
-ghost use Rattle.ut_model.specs.NewFields.{plain};
+ghost use Rattle.ut_model.specs.declared.metadata_bodies.SpelledType.TheVariants.{Plain};
 ghost use Rattle.ut_model.specs.PeopleForms.{group_request, role_request, user_request};
 ghost use Rattle.ut_model.specs.RequestOf.{value_part};
 ghost use Rattle.ut_model.specs.Requests.{adds_group, adds_object, adds_role, adds_sharing_rule, adds_user, shares};
@@ -52,7 +52,7 @@ pub fn spelling_rows()
     ensures other_kind { principal_in (codes "User:x") ≡ None }
     ensures no_id { principal_in (codes "group:") ≡ Some (record { kind = to.Group; text = [] }) }
     ensures number { type_of (type_body (codes "Number") (number_member (codes "digits") 600000000 ∷ number_member (codes "decimals") 0 ∷ []))
-        ≡ Some (plain (type.Number 6 0)) }
+        ≡ Some (Plain (type.Number 6 0)) }
     ensures half { type_of (type_body (codes "Text") (number_member (codes "length") 2050000000 ∷ [])) ≡ None }
     ensures too_long { type_of (type_body (codes "Text") (number_member (codes "length") 25600000000 ∷ [])) ≡ None }
     ensures ignored { assignments (text_member (codes "attributes") (codes "x") ∷ text_member (codes "Name") (codes "n") ∷ [])

@@ -13,7 +13,10 @@ use Rattle.ut_model.specs.declared.refusal.Refusal.TheVariants as refusal
 use Rattle.ut_model.specs.Cases.{in_case}
 use Rattle.ut_model.specs.Fields.{is_master, same_name}
 use Rattle.ut_model.specs.Names.{bad_name, is_child_name, is_custom_name, taken}
-use Rattle.ut_model.specs.NewFields.{NewField, SpelledType, add_field, child_taken, field_rules, is_before, lookup_to, name_taken, new_field, own_child, own_parent, parent_taken, plain, with_field, with_target}
+use Rattle.ut_model.specs.declared.metadata_bodies.NewField.{NewField}
+use Rattle.ut_model.specs.declared.metadata_bodies.SpelledType.{SpelledType}
+use Rattle.ut_model.specs.declared.metadata_bodies.SpelledType.TheVariants.{Plain, LookupTo}
+use Rattle.ut_model.specs.NewFields.{add_field, child_taken, field_rules, is_before, name_taken, new_field, own_child, own_parent, parent_taken, with_field, with_target}
 use Rattle.ut_model.specs.Objects.{Numbered}
 use Rattle.ut_model.specs.Relationships.{parent_name, relationship_names, target_of}
 use Rattle.ut_model.specs.Rules.{MemberRules, refuse_if}
@@ -67,10 +70,10 @@ module _ (t : Tenant) (s : IsSound t) (o : Numbered) (at : slice_get t.objects o
       (none_refuses (taken (map (λ (x : Field). x.name) o.object.fields) b.name ∷ in_case target None (parent_taken t o.number (record b { kind = kind })) ∷ []) e).0
 
   -- a field that is no reference
-  plain_sound : (kind : FieldType) → is_reference kind ≡ false → is_type kind ≡ true → flags_suit (record b { kind = plain kind }) kind ≡ true
-      → IsSound (judged t (field_rules t o None (record b { kind = plain kind })) (accept done (with_field o.number (new_field None (record b { kind = plain kind })) t))).tenant
+  plain_sound : (kind : FieldType) → is_reference kind ≡ false → is_type kind ≡ true → flags_suit (record b { kind = Plain kind }) kind ≡ true
+      → IsSound (judged t (field_rules t o None (record b { kind = Plain kind })) (accept done (with_field o.number (new_field None (record b { kind = Plain kind })) t))).tenant
   plain_sound kind reference bounds flags =
-      let b2 : NewField = record b { kind = plain kind } in
+      let b2 : NewField = record b { kind = Plain kind } in
       let f = new_field None b2 in
       when_judged IsSound t (field_rules t o None b2) (accept done (with_field o.number f t)) s (λ h.
       let form = member_rule ((codes "name", bad_name is_custom_name b.name) ∷ (codes "type", None) ∷ []) b.members (codes "name") h.0 named in
@@ -93,7 +96,7 @@ module _ (t : Tenant) (s : IsSound t) (o : Numbered) (at : slice_get t.objects o
       } in
       field_added t s o.number o.object at f (plain_master kind reference) sound_field (then_so b.unique (suits_unique kind) unique)
       (within_limit 40 (length o.object.fields + 1) (refusal.LimitExceeded limit.FieldsPerObject) limits.0)
-      (own_name None (plain kind) free)
+      (own_name None (Plain kind) free)
       (record { parent = λ q e. absurd (no_some (target_of kind) q no_target e); child = λ q e. absurd (no_some (target_of kind) q no_target e) }))
     where
       no_some : (z : Option ℕ) (q : ℕ) → z ≡ None → z ≡ Some q → ⊥
@@ -102,10 +105,10 @@ module _ (t : Tenant) (s : IsSound t) (o : Numbered) (at : slice_get t.objects o
 
   -- a lookup to an object that is there
   lookup_sound : (object : List ℕ) (d : OnDelete) (child : List ℕ) (q : Numbered) → slice_get t.objects q.number ≡ Some q.object → has_member b.members (codes "type") ≡ true
-      → flags_suit (record b { kind = lookup_to object d child }) (type.Lookup 0 d) ≡ true
-      → IsSound (judged t (field_rules t o (Some q.number) (record b { kind = lookup_to object d child })) (accept done (with_field o.number (new_field (Some q.number) (record b { kind = lookup_to object d child })) t))).tenant
+      → flags_suit (record b { kind = LookupTo object d child }) (type.Lookup 0 d) ≡ true
+      → IsSound (judged t (field_rules t o (Some q.number) (record b { kind = LookupTo object d child })) (accept done (with_field o.number (new_field (Some q.number) (record b { kind = LookupTo object d child })) t))).tenant
   lookup_sound object d child q there typed flags =
-      let b2 : NewField = record b { kind = lookup_to object d child } in
+      let b2 : NewField = record b { kind = LookupTo object d child } in
       let f = new_field (Some q.number) b2 in
       let n = o.number in
       when_judged IsSound t (field_rules t o (Some q.number) b2) (accept done (with_field n f t)) s (λ h.
@@ -132,7 +135,7 @@ module _ (t : Tenant) (s : IsSound t) (o : Numbered) (at : slice_get t.objects o
       } in
       field_added t s n o.object at f refl sound_field (then_so b.unique false unique)
       (within_limit 40 (length o.object.fields + 1) (refusal.LimitExceeded limit.FieldsPerObject) limits.0)
-      (own_name (Some q.number) (lookup_to object d child) free)
+      (own_name (Some q.number) (LookupTo object d child) free)
       (record {
         parent = λ r e. parents.0;
         child = λ r e. (child, refl, ap (λ (k : ℕ). list_any (same_name child) (relationship_names t.objects k)) (sym (out q.number r e)) ∙ children.0, λ same. apart (same ∙ sym (out q.number r e)) parents.1 children.1);
@@ -152,8 +155,8 @@ module _ (t : Tenant) (s : IsSound t) (o : Numbered) (at : slice_get t.objects o
       no_other true e = absurd cc
       no_other false e = refl
 
-      apart : o.number ≡ q.number → list_any (same_name (parent_name b.name)) (own_child o.number q.number (record b { kind = lookup_to object d child })) ≡ false
-          → list_any (same_name child) (own_parent o.number q.number (record b { kind = lookup_to object d child })) ≡ false → same_name (parent_name b.name) child ≡ false
+      apart : o.number ≡ q.number → list_any (same_name (parent_name b.name)) (own_child o.number q.number (record b { kind = LookupTo object d child })) ≡ false
+          → list_any (same_name child) (own_parent o.number q.number (record b { kind = LookupTo object d child })) ≡ false → same_name (parent_name b.name) child ≡ false
       apart same e g = by (is_before b.members (codes "name") (codes "type")) refl (either_before b.members (codes "name") (codes "type") named)
         where
           here_is : (o.number == q.number) ≡ true
@@ -175,15 +178,15 @@ add_field_sound t b fit s = by b.kind fit
 
     by : (kind : SpelledType) → is_fit_field (record b { kind = kind }) ≡ true
         → IsSound (with_object t b.object (λ o. with_target t kind (λ target. judged t (field_rules t o target (record b { kind = kind })) (accept done (with_field o.number (new_field target (record b { kind = kind })) t))))).tenant
-    by (plain kind) fit =
-        let named = both_left (has_member b.members (codes "name")) (not (is_reference kind) && (is_type kind && flags_suit (record b { kind = plain kind }) kind)) fit in
-        let rest = both_right (has_member b.members (codes "name")) (not (is_reference kind) && (is_type kind && flags_suit (record b { kind = plain kind }) kind)) fit in
-        let more = both_right (not (is_reference kind)) (is_type kind && flags_suit (record b { kind = plain kind }) kind) rest in
-        when_object IsSound t b.object (λ o. judged t (field_rules t o None (record b { kind = plain kind })) (accept done (with_field o.number (new_field None (record b { kind = plain kind })) t))) s (λ o at.
-        plain_sound t s o at b named kind (not_so (is_reference kind) (both_left (not (is_reference kind)) (is_type kind && flags_suit (record b { kind = plain kind }) kind) rest))
-        (both_left (is_type kind) (flags_suit (record b { kind = plain kind }) kind) more) (both_right (is_type kind) (flags_suit (record b { kind = plain kind }) kind) more))
-    by (lookup_to object d child) fit =
-        let b2 : NewField = record b { kind = lookup_to object d child } in
+    by (Plain kind) fit =
+        let named = both_left (has_member b.members (codes "name")) (not (is_reference kind) && (is_type kind && flags_suit (record b { kind = Plain kind }) kind)) fit in
+        let rest = both_right (has_member b.members (codes "name")) (not (is_reference kind) && (is_type kind && flags_suit (record b { kind = Plain kind }) kind)) fit in
+        let more = both_right (not (is_reference kind)) (is_type kind && flags_suit (record b { kind = Plain kind }) kind) rest in
+        when_object IsSound t b.object (λ o. judged t (field_rules t o None (record b { kind = Plain kind })) (accept done (with_field o.number (new_field None (record b { kind = Plain kind })) t))) s (λ o at.
+        plain_sound t s o at b named kind (not_so (is_reference kind) (both_left (not (is_reference kind)) (is_type kind && flags_suit (record b { kind = Plain kind }) kind) rest))
+        (both_left (is_type kind) (flags_suit (record b { kind = Plain kind }) kind) more) (both_right (is_type kind) (flags_suit (record b { kind = Plain kind }) kind) more))
+    by (LookupTo object d child) fit =
+        let b2 : NewField = record b { kind = LookupTo object d child } in
         let flags = flags_suit b2 (type.Lookup 0 d) in
         let named = both_left (has_member b.members (codes "name")) (has_member b.members (codes "type") && (true && flags)) fit in
         let rest = both_right (has_member b.members (codes "name")) (has_member b.members (codes "type") && (true && flags)) fit in

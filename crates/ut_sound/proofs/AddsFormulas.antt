@@ -8,8 +8,12 @@ use Rattle.ut_formula.specs.declared.formula.Formula.{Formula}
 use Rattle.ut_model.specs.declared.record.Record.{Record}
 use Rattle.ut_model.specs.Cases.{in_case}
 use Rattle.ut_model.specs.Levels.{Reads}
-use Rattle.ut_model.specs.Metadata.{NewObject, add_object, new_object, object_rules}
-use Rattle.ut_model.specs.NewFields.{NewField, SpelledType, add_field, field_rules, lookup_to, new_field, plain, with_field, with_target}
+use Rattle.ut_model.specs.declared.metadata_bodies.NewObject.{NewObject}
+use Rattle.ut_model.specs.Metadata.{add_object, new_object, object_rules}
+use Rattle.ut_model.specs.declared.metadata_bodies.NewField.{NewField}
+use Rattle.ut_model.specs.declared.metadata_bodies.SpelledType.{SpelledType}
+use Rattle.ut_model.specs.declared.metadata_bodies.SpelledType.TheVariants.{Plain, LookupTo}
+use Rattle.ut_model.specs.NewFields.{add_field, field_rules, new_field, with_field, with_target}
 use Rattle.ut_model.specs.Objects.{Numbered, change_at}
 use Rattle.ut_model.specs.Retyping.{source_uses}
 use Rattle.ut_model.specs.RuleFormulas.{formula_of, is_copy, names_field}
@@ -145,10 +149,10 @@ add_field_formulas reads law t b sound s = by b.kind
 
     by : (kind : SpelledType)
         → AreFormulasSound reads (with_object t b.object (λ o. with_target t kind (λ target. judged t (field_rules t o target (record b { kind = kind })) (accept done (with_field o.number (new_field target (record b { kind = kind })) t))))).tenant
-    by (plain kind) =
-        when_object (AreFormulasSound reads) t b.object (λ o. judged t (field_rules t o None (record b { kind = plain kind })) (accept done (with_field o.number (new_field None (record b { kind = plain kind })) t))) s (λ o at.
-        on o at None (record b { kind = plain kind }))
-    by (lookup_to object d child) =
-        let c : NewField = record b { kind = lookup_to object d child } in
+    by (Plain kind) =
+        when_object (AreFormulasSound reads) t b.object (λ o. judged t (field_rules t o None (record b { kind = Plain kind })) (accept done (with_field o.number (new_field None (record b { kind = Plain kind })) t))) s (λ o at.
+        on o at None (record b { kind = Plain kind }))
+    by (LookupTo object d child) =
+        let c : NewField = record b { kind = LookupTo object d child } in
         when_object (AreFormulasSound reads) t b.object (λ o. with_object t object (λ q. judged t (field_rules t o (Some q.number) c) (accept done (with_field o.number (new_field (Some q.number) c) t)))) s (λ o at.
         when_object (AreFormulasSound reads) t object (λ q. judged t (field_rules t o (Some q.number) c) (accept done (with_field o.number (new_field (Some q.number) c) t))) s (λ q there. on o at (Some q.number) c))

@@ -9,7 +9,7 @@ use Rattle.ut_model.specs.declared.refusal.Refusal.TheVariants as refusal
 use Rattle.ut_model.specs.Cases.{in_case}
 use Rattle.ut_model.specs.Fields.{Column, Where, column_named}
 use Rattle.ut_model.specs.Levels.{Reads}
-use Rattle.ut_model.specs.NewFields.{SpelledType}
+use Rattle.ut_model.specs.declared.metadata_bodies.SpelledType.{SpelledType}
 use Rattle.ut_model.specs.Objects.{Numbered}
 use Rattle.ut_model.specs.Retyping.{begin_on, begin_retype, can_become, custom_place, in_use, is_checkbox, new_job, new_type, place_to_change, under_way, with_job}
 use Rattle.ut_model.specs.Sound.{IsSound}

@@ -19,8 +19,9 @@ use Rattle.ut_model.specs.Fields.{by_parent}
 use Rattle.ut_model.specs.Forms.{access_request, accesses, all_names, field_request, is_clear, master_form, master_of, object_request, share_request, sharing_rule_request, source_in, validation_request}
 use Rattle.ut_model.specs.Forms.{flags_suit as body_flags}
 use Rattle.ut_model.specs.Members.{Body, all_there, as_text, entry, flag_in, formed, is_one_of, levels, list_in, member_names, object_in, principal_in, text_in, whole_in}
-use Rattle.ut_model.specs.Metadata.{NewMaster}
-use Rattle.ut_model.specs.NewFields.{SpelledType, lookup_to, plain}
+use Rattle.ut_model.specs.declared.metadata_bodies.NewMaster.{NewMaster}
+use Rattle.ut_model.specs.declared.metadata_bodies.SpelledType.{SpelledType}
+use Rattle.ut_model.specs.declared.metadata_bodies.SpelledType.TheVariants.{Plain, LookupTo}
 use Rattle.ut_model.specs.Paths.{Asked}
 use Rattle.ut_model.specs.PeopleForms.{retype_request}
 use Rattle.ut_model.specs.Requests.{Request, adds_field}
@@ -224,14 +225,14 @@ validation_fits a body x e =
 
 -- ---- types: within their bounds, and no reference but a lookup
 abbrev IsRead : SpelledType → Type 0
-IsRead (plain kind) = (is_type kind ≡ true) × (not (is_reference kind) ≡ true)
-IsRead (lookup_to object o child) = Unit {0}
+IsRead (Plain kind) = (is_type kind ≡ true) × (not (is_reference kind) ≡ true)
+IsRead (LookupTo object o child) = Unit {0}
 
 abbrev ReadsType : (Body → Option SpelledType) → Type 0
 ReadsType form = (b : Body) (kind : SpelledType) → form b ≡ Some kind → IsRead kind
 
 in_bounds : (k : FieldType) (kind : SpelledType) → not (is_reference k) ≡ true → in_bounds_type k ≡ Some kind → IsRead kind
-in_bounds k kind h e = let so = where_is (is_type k) (plain k) kind e in subst IsRead so.1 (so.0, h)
+in_bounds k kind h e = let so = where_is (is_type k) (Plain k) kind e in subst IsRead so.1 (so.0, h)
 
 text_read : ReadsType text_type
 text_read body kind e =
@@ -281,8 +282,8 @@ retype_fits a body x e =
     subst (IsFit a) (some_is _ x kind.2) (by kind.0 (type_read b.0 (codes "type") kind.0 kind.1))
   where
     by : (kind : SpelledType) → IsRead kind → is_type (new_type kind) ≡ true
-    by (plain k) h = h.0
-    by (lookup_to object o child) h = refl
+    by (Plain k) h = h.0
+    by (LookupTo object o child) h = refl
 
 -- ---- fields
 plain_flags : (k : FieldType) (required unique indexed : Bool) → not (is_reference k) ≡ true → ((not unique || suits_unique k) && (not indexed || suits_indexed k)) ≡ true
@@ -324,11 +325,11 @@ field_fits a body x e =
     by : (kind : SpelledType) → IsRead kind → (members : List (List ℕ)) (object name : List ℕ) (required unique indexed : Bool) → has_member members (codes "name") ≡ true → has_member members (codes "type") ≡ true
         → body_flags kind required unique indexed ≡ true
         → IsFit a (adds_field (record { members = members; object = object; name = name; kind = kind; required = required; unique = unique; indexed = indexed }))
-    by (plain k) h members object name required unique indexed n t s =
+    by (Plain k) h members object name required unique indexed n t s =
         let flags = implies required (may_be_required k) && (implies unique (suits_unique k) && implies indexed (suits_indexed k)) in
         both (has_member members (codes "name")) (not (is_reference k) && (is_type k && flags)) n
         (both (not (is_reference k)) (is_type k && flags) h.1 (both (is_type k) flags h.0 (plain_flags k required unique indexed h.1 s)))
-    by (lookup_to target o child) h members object name required unique indexed n t s =
+    by (LookupTo target o child) h members object name required unique indexed n t s =
         let flags = implies required (may_be_required (type.Lookup 0 o)) && (implies unique false && implies indexed false) in
         both (has_member members (codes "name")) (has_member members (codes "type") && flags) n
         (both (has_member members (codes "type")) flags t (lookup_flags o required unique indexed s))

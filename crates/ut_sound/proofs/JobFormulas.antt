@@ -12,7 +12,7 @@ use Rattle.ut_model.specs.Cases.{in_case}
 use Rattle.ut_model.specs.Fields.{Column, Where, column_named}
 use Rattle.ut_model.specs.Jobs.{clear_step, copy_step, failed_at, job_step, moved, new_value, next_hundred, step_in, switched}
 use Rattle.ut_model.specs.Levels.{Reads}
-use Rattle.ut_model.specs.NewFields.{SpelledType}
+use Rattle.ut_model.specs.declared.metadata_bodies.SpelledType.{SpelledType}
 use Rattle.ut_model.specs.Objects.{Numbered}
 use Rattle.ut_model.specs.Retyping.{begin_on, begin_retype, cancel_retype, in_use, new_job, new_type, place_to_change, source_uses, to_clear, under_way, uses, with_job}
 use Rattle.ut_model.specs.RuleFormulas.{is_copy}

@@ -12,7 +12,9 @@ use Rattle.ut_model.specs.Cases.{in_case}
 use Rattle.ut_model.specs.Fields.{by_parent, is_detail, is_master, same_name}
 use Rattle.ut_model.specs.Known.{known}
 use Rattle.ut_model.specs.Membership.{Has}
-use Rattle.ut_model.specs.Metadata.{NewMaster, NewObject, add_object, child_name_taken, detail_level, master_field, master_names, masters_above, new_fields, new_object, no_parent, object_rules, too_deep}
+use Rattle.ut_model.specs.declared.metadata_bodies.NewMaster.{NewMaster}
+use Rattle.ut_model.specs.declared.metadata_bodies.NewObject.{NewObject}
+use Rattle.ut_model.specs.Metadata.{add_object, child_name_taken, detail_level, master_field, master_names, masters_above, new_fields, new_object, no_parent, object_rules, too_deep}
 use Rattle.ut_model.specs.Names.{bad_name, is_child_name, is_custom_name, taken}
 use Rattle.ut_model.specs.Objects.{Numbered, is_of, object_named, object_number}
 use Rattle.ut_model.specs.Relationships.{Reference, master_in, parent_name, references, references_of, relationship_names, target_of}

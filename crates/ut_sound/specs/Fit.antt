@@ -15,8 +15,11 @@ use Rattle.ut_model.specs.Given.{Assignment, Given, in_json, json_text}
 use Rattle.ut_model.specs.Keys.{Key, with_key}
 use Rattle.ut_model.specs.Levels.{Reads}
 use Rattle.ut_model.specs.Members.{Body, body_in}
-use Rattle.ut_model.specs.Metadata.{NewObject}
-use Rattle.ut_model.specs.NewFields.{NewField, SpelledType, plain, lookup_to, type_with}
+use Rattle.ut_model.specs.declared.metadata_bodies.NewObject.{NewObject}
+use Rattle.ut_model.specs.declared.metadata_bodies.NewField.{NewField}
+use Rattle.ut_model.specs.declared.metadata_bodies.SpelledType.{SpelledType}
+use Rattle.ut_model.specs.declared.metadata_bodies.SpelledType.TheVariants.{Plain, LookupTo}
+use Rattle.ut_model.specs.NewFields.{type_with}
 use Rattle.ut_model.specs.Objects.{change_at}
 use Rattle.ut_model.specs.Paths.{Asked}
 use Rattle.ut_model.specs.Requests.{Request, creates, updates, upserts, shares, adds_object, sets_object, adds_field, adds_validation_rule, adds_sharing_rule, begins_retype}
@@ -63,8 +66,8 @@ is_fit_object b =
 
 -- a lookup is the member `type`, and no other type is a reference
 abbrev pub has_type : (members : List (List ℕ)) → SpelledType → Bool
-has_type members (plain kind) = not (is_reference kind)
-has_type members (lookup_to object on_delete child) = has_member members (codes "type")
+has_type members (Plain kind) = not (is_reference kind)
+has_type members (LookupTo object on_delete child) = has_member members (codes "type")
 
 -- flags that suit a type: required, unique, indexed
 abbrev pub flags_suit : NewField → FieldType → Bool

@@ -4,7 +4,7 @@ ghost use Rattle.std.specs.Prelude.{IsTrue, List, ℕ};
 ghost use Rattle.ut_value.specs.Types.{is_type};
 ghost use Rattle.ut_model.specs.Jobs.{job_step};
 ghost use Rattle.ut_model.specs.Levels.{Reads};
-ghost use Rattle.ut_model.specs.NewFields.{SpelledType};
+ghost use Rattle.ut_model.specs.declared.metadata_bodies.SpelledType.{SpelledType};
 ghost use Rattle.ut_model.specs.Retyping.{begin_retype, cancel_retype, new_type};
 ghost use Rattle.ut_model.specs.Sound.{IsSound};
 ghost use Rattle.ut_model.specs.Tenant.{Tenant};

@@ -3,3 +3,4 @@ pub mod Opened
 pub mod Versions
 pub mod Users
 pub mod Parts
+pub mod Kept

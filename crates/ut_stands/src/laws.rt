@@ -1,4 +1,4 @@
-ghost use Rattle.std.specs.Prelude.{◌≡◌, ◌+◌, ◌<◌, ℕ, List, [], ◌∷◌, ◌++◌, Some, None, codes, length};
+ghost use Rattle.std.specs.Prelude.{◌≡◌, ◌+◌, ◌<◌, ℕ, List, [], ◌∷◌, ◌++◌, Some, None, codes, length, true};
 ghost use Rattle.ut_keeper.specs.Tables.{Tables, no_rows};
 ghost use Rattle.ut_keys.specs.Holds.{Holds, with_row};
 ghost use Rattle.ut_keys.specs.Keys.{Key, Org, User, Version};
@@ -8,7 +8,8 @@ ghost use Rattle.ut_model.specs.Organisations.{with_org};
 ghost use Rattle.ut_model.specs.Sound.{IsSound};
 ghost use Rattle.ut_model.specs.Tenant.{Tenant};
 ghost use Rattle.ut_model.specs.World.{World, tenant_at, with_tenant};
-ghost use Rattle.ut_stands.specs.Stands.{HasKnownVersion, HasUnknownVersion, HasUsersAlone, Plan, Stands, StandsBy, all_tables, closed, opened, owner_of, row_at, row_in, rows_with, version_at};
+ghost use Rattle.ut_stands.specs.Plan.{FitsPlan, OrgPlan, Plan, opened, with_plan};
+ghost use Rattle.ut_stands.specs.Stands.{HasKnownVersion, HasUnknownVersion, Stands, StandsBy, all_tables, closed, owner_of, row_at, row_in, rows_with, version_at};
 
 use ut_keys::{VersionRow, row_laws, table_laws};
 
@@ -23,21 +24,20 @@ pub fn stands_laws()
 
     // At the keys of an organisation are the rows of its tenant, and past the last organisation there are none.
     ensures own { (p : Plan) (w : World) (n : ℕ) (t : Tenant) (k : Key)
-        → tenant_at w n ≡ Some t → owner_of k ≡ Some n → row_at p w k ≡ row_in t k }
+        → tenant_at w n ≡ Some t → owner_of k ≡ Some n → row_at p w k ≡ row_in (p.org n) t k }
     ensures past { (p : Plan) (w : World) (k : Key) → owner_of k ≡ Some (length w + 1) → row_at p w k ≡ None }
 
     // Tables that also have the rows of one more organisation, and the version's row.
-    ensures appended { (m after : Tables) (w : World) (t : Tenant)
-        → Stands m w → length w < limit_number limit.Organisations → IsSound t → HasUsersAlone t
-        → ((p : Plan) → StandsBy p m w → Holds all_tables after
-        (with_row Version (version_at opened (w ++ t ∷ [])) (rows_with (length w + 1) t (row_at p w))))
-        → Stands after (w ++ t ∷ []) }
+    ensures appended { (p : Plan) (m after : Tables) (w : World) (t : Tenant) (q : OrgPlan)
+        → StandsBy p m w → length w < limit_number limit.Organisations → IsSound t → FitsPlan q t
+        → Holds all_tables after (with_row Version (version_at true (w ++ t ∷ [])) (rows_with (length w + 1) q t (row_at p w)))
+        → StandsBy (opened (with_plan (length w + 1) q p)) after (w ++ t ∷ []) }
 
     // Tables that have the rows of another tenant in place of those of an organisation.
-    ensures changed { (m after : Tables) (w : World) (n : ℕ) (t u : Tenant)
-        → Stands m w → tenant_at w n ≡ Some t → IsSound u → HasUsersAlone u
-        → ((p : Plan) → StandsBy p m w → Holds all_tables after (rows_with n u (row_at p w)))
-        → Stands after (with_tenant w n u) }
+    ensures changed { (p : Plan) (m after : Tables) (w : World) (n : ℕ) (t u : Tenant) (q : OrgPlan)
+        → StandsBy p m w → tenant_at w n ≡ Some t → IsSound u → FitsPlan q u
+        → Holds all_tables after (rows_with n q u (row_at p w))
+        → StandsBy (with_plan n q p) after (with_tenant w n u) }
 {
     table_laws();
     row_laws::<VersionRow>();
@@ -45,14 +45,14 @@ pub fn stands_laws()
 
 /// The rows of the first organisation, worked by hand. The call does nothing.
 pub fn stands_rows()
-    ensures version { (digest : List ℕ) → row_at opened (with_org [] (codes "Acme") digest) Version
+    ensures version { (digest : List ℕ) → row_at (opened closed) (with_org [] (codes "Acme") digest) Version
         ≡ Some (0 ∷ 0 ∷ 0 ∷ 1 ∷ 0 ∷ 0 ∷ 0 ∷ 1 ∷ []) }
-    ensures org { (digest : List ℕ) → row_at opened (with_org [] (codes "Acme") digest) (Org 1)
+    ensures org { (digest : List ℕ) → row_at (opened closed) (with_org [] (codes "Acme") digest) (Org 1)
         ≡ Some (0 ∷ 0 ∷ 0 ∷ 4 ∷ 65 ∷ 99 ∷ 109 ∷ 101
         ∷ 0 ∷ 0 ∷ 0 ∷ 0 ∷ 0 ∷ 0 ∷ 0 ∷ 1
         ∷ 0 ∷ 0 ∷ 0 ∷ 0 ∷ 0 ∷ 0 ∷ 0 ∷ 1 ∷ 0 ∷ 0 ∷ 0 ∷ 0 ∷ 0 ∷ 0 ∷ 0 ∷ 0 ∷ 0 ∷ 0 ∷ []) }
-    ensures user { (digest : List ℕ) → row_at opened (with_org [] (codes "Acme") digest) (User 1 (codes "005000000000000"))
+    ensures user { (digest : List ℕ) → row_at (opened closed) (with_org [] (codes "Acme") digest) (User 1 (codes "005000000000000"))
         ≡ Some (0 ∷ 0 ∷ 0 ∷ 4 ∷ 65 ∷ 99 ∷ 109 ∷ 101 ∷ (digest ++ 0 ∷ 1 ∷ [])) }
-    ensures other { (digest : List ℕ) → row_at opened (with_org [] (codes "Acme") digest) (Org 2) ≡ None }
+    ensures other { (digest : List ℕ) → row_at (opened closed) (with_org [] (codes "Acme") digest) (Org 2) ≡ None }
     ensures closed { row_at closed [] Version ≡ None }
 {}

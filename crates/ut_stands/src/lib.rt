@@ -8,6 +8,7 @@ mod ending;
 mod fail;
 mod judged;
 mod laws;
+mod layout;
 mod opening;
 mod reads;
 
@@ -15,5 +16,6 @@ pub use crate::ending::finish;
 pub use crate::fail::{EditFail, OpenFail};
 pub use crate::judged::Judged;
 pub use crate::laws::{stands_laws, stands_rows};
+pub use crate::layout::{FieldPlace, JobPlace, Layout};
 pub use crate::opening::{KNOWN_VERSION, open_tables};
 pub use crate::reads::user;

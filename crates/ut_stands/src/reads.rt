@@ -7,7 +7,7 @@ ghost use Rattle.ut_keeper.specs.State.{KeeperCause, StaysAfter};
 ghost use Rattle.ut_keys.specs.declared.fail.StoreFail.TheVariants.{Keeper};
 ghost use Rattle.ut_model.specs.World.{user_in};
 ghost use Rattle.ut_stands.specs.Reads.{FindsAs};
-ghost use Rattle.ut_stands.specs.Stands.{user_of};
+ghost use Rattle.ut_stands.specs.Metadata.{user_of};
 
 use std::alloc::Global;
 use ut_keeper::{Draft, Keeper};

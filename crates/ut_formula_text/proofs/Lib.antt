@@ -1,0 +1,4 @@
+pub mod Instances
+pub mod Lists
+pub mod Top
+pub mod Spelled

@@ -1,0 +1,73 @@
+-- What a world leaves open of its tables: where the values of fields are kept, and what a change of a field's type has left.
+-- Source: C. D. Weissman and S. Bobrowski, "The Design of the Force.com Multitenant Internet Application Development Platform"
+-- (SIGMOD 2009): the values of all fields are in the flex columns of one table, here called slots; metadata say which is whose.
+use Rattle.std.specs.Prelude.{◌≡◌, ℕ, ◌<◌, Bool, true, false, not, ◌&&◌, ◌==◌, if◌then◌else◌, List, Option, Some, None, is_some, slice_get, IsTrue}
+use Rattle.std.specs.Option.{option_and_then}
+use Rattle.ut_value.specs.Types.{is_reference, is_type}
+use Rattle.ut_value.specs.Values.{valid}
+use Rattle.ut_value.specs.declared.job.Outcome.{Outcome}
+use Rattle.ut_value.specs.declared.job.Outcome.TheVariants as outcome
+use Rattle.ut_value.specs.declared.job.Phase.{Phase}
+use Rattle.ut_value.specs.declared.job.Phase.TheVariants as phase
+use Rattle.ut_value.specs.declared.value.FieldType.{FieldType}
+use Rattle.ut_value.specs.declared.value.FieldType.TheVariants as type
+use Rattle.ut_value.specs.declared.value.Value.{Value}
+use Rattle.ut_model.specs.Objects.{object_at}
+use Rattle.ut_model.specs.Retyping.{job_is_done}
+use Rattle.ut_model.specs.Tenant.{Job, Tenant}
+
+-- how many slots a record has
+abbrev pub slot_count : ℕ
+slot_count = 48
+
+-- what is left open in one organisation
+pub record OrgPlan : Type 0 where
+  -- the slot of a field, by the number of its object and its own
+  pub slot : (object field : ℕ) → ℕ
+  -- the slot of the change of a type: the one that is filled, and once nothing more is copied the one that is left
+  pub other : ℕ
+  -- the type that a field had before it was switched
+  pub was : FieldType
+  -- what a record has in the slot that is left, if anything, by its id
+  pub left : List ℕ → Option Value
+
+-- without fields and changes nothing is kept anywhere
+abbrev pub no_slots : OrgPlan
+no_slots = record { slot = λ object field. 0; other = 0; was = type.Checkbox; left = λ id. None }
+
+pub record Plan : Type 0 where
+  -- the version's row is there, which it needn't be where no organisation is
+  pub opened : Bool
+  -- by the organisation's number
+  pub org : ℕ → OrgPlan
+
+-- the plan with the version's row, and with another plan of the organisation with this number
+abbrev pub opened : Plan → Plan
+opened p = record p { opened = true }
+
+abbrev pub with_plan : ℕ → OrgPlan → Plan → Plan
+with_plan n q p = record p { org = λ k. if k == n then q else p.org k }
+
+-- ---- a plan that fits
+
+-- the object with this number has a field with this one
+abbrev pub has_field : Tenant → (object field : ℕ) → Bool
+has_field t n f = is_some (option_and_then (λ o. slice_get o.fields f) (object_at t n))
+
+-- the type of what is in the slot of a change: once it is switched, the values of the old type are left
+abbrev pub type_in : OrgPlan → Job → Phase → Outcome → FieldType
+type_in p j phase.Clear outcome.Switched = p.was
+type_in p j _ _ = j.to
+
+abbrev pub type_there : OrgPlan → Job → FieldType
+type_there p j = type_in p j j.phase j.outcome
+
+-- each field of an object has a slot of its own, and so has a change that isn't done; what is left is of its type
+pub record FitsPlan (p : OrgPlan) (t : Tenant) : Type 0 where
+  pub below : (n f : ℕ) → IsTrue (has_field t n f) → p.slot n f < slot_count
+  pub differ : (n f g : ℕ) → IsTrue (has_field t n f) → IsTrue (has_field t n g) → p.slot n f ≡ p.slot n g → f ≡ g
+  pub other : p.other < slot_count
+  pub apart : (j : Job) → t.job ≡ Some j → job_is_done j.phase ≡ false
+      → (f : ℕ) → IsTrue (has_field t j.object f) → p.slot j.object f ≡ p.other → ⊥
+  pub was : IsTrue (is_type p.was && not (is_reference p.was))
+  pub left : (j : Job) (i : List ℕ) (v : Value) → t.job ≡ Some j → p.left i ≡ Some v → IsTrue (valid (type_there p j) v)

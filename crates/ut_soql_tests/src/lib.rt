@@ -1,6 +1,7 @@
-//! Tests of `ut_soql`: texts with the place at which they are refused, by hand from the grammar.
+//! Tests of `ut_soql` and `ut_soql_print`: texts with the place at which they are refused, and with what is printed of their
+//! queries, by hand from the grammar and the form of printed queries.
 //!
-//! What is proved in `ut_soql` isn't tested again: these tables show that its definitions are those of the language.
+//! What is proved in these crates isn't tested again: these tables show that their definitions are those of the language.
 #![tactic(auto)]
 
 #[cfg(test)]

@@ -14,7 +14,7 @@ fn again(alloc: Global, text: &str) -> Result<Option<Text>, Fail> {
     }
 }
 
-// The row with what is printed in place of what is to be printed.
+// What is printed of the query of a text, or that it spells none.
 fn reprinted(alloc: Global, text: &str) -> Result<String, Fail> {
     let Some(printed) = again(alloc, text)? else {
         return Ok(String::from_str(alloc, "no query")?);

@@ -1,7 +1,7 @@
-//! Tests of `ut_soql`: texts with the place at which they are refused, by hand from the grammar, and patterns with texts.
+//! Tests of `ut_query`, `ut_soql` and `ut_soql_print`: texts with the place at which they are refused, and with what is printed
+//! of their queries, by hand from the grammar and the form of printed queries; and patterns with texts.
 //!
-//! What is proved in `ut_soql` and `ut_query` isn't tested again: these tables show that their definitions are those
-//! of the language.
+//! What is proved in these crates isn't tested again: these tables show that their definitions are those of the language.
 #![tactic(auto)]
 
 #[cfg(test)]
@@ -10,3 +10,7 @@ mod like;
 mod place_table;
 #[cfg(test)]
 mod places;
+#[cfg(test)]
+mod print_table;
+#[cfg(test)]
+mod printing;

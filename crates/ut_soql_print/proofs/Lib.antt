@@ -1,0 +1,15 @@
+pub mod Lexed
+pub mod Written
+pub mod Prints
+pub mod Keywords
+pub mod Names
+pub mod Quoted
+pub mod Units
+pub mod Grown
+pub mod Runs
+pub mod Limits
+pub mod Days
+pub mod Bounds
+pub mod Leaves
+pub mod Nested
+pub mod Whole

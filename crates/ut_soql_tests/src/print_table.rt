@@ -1,0 +1,48 @@
+//! Texts of queries. Behind each is the one form in which its query is printed.
+
+pub const PRINTED: &str = "\
+select Id from T
+SELECT Id FROM T
+SELECT Id, Account__r.Name, (SELECT Id FROM Notes__r) FROM Contact__c WHERE NOT (Age__c >= 18 OR Name LIKE 'A\\_%') ORDER BY Name DESC NULLS LAST LIMIT 10
+SELECT Id, Account__r.Name, (SELECT Id FROM Notes__r) FROM Contact__c WHERE NOT (Age__c >= 18 OR Name LIKE 'A\\_%') ORDER BY Name DESC NULLS LAST LIMIT 10
+SELECT a . b . c ,d FROM T
+SELECT a.b.c, d FROM T
+SELECT a FROM T order by a asc nulls first, b desc, c nulls last limit 007 offset 0
+SELECT a FROM T ORDER BY a, b DESC, c NULLS LAST LIMIT 7 OFFSET 0
+SELECT a FROM T where ((a=1))
+SELECT a FROM T WHERE a = 1
+SELECT a FROM T WHERE a=1 AND (b!=2 OR c<3)
+SELECT a FROM T WHERE a = 1 AND (b != 2 OR c < 3)
+SELECT a FROM T WHERE (a=1 AND b=2) AND c=3
+SELECT a FROM T WHERE (a = 1 AND b = 2) AND c = 3
+SELECT a FROM T WHERE NOT a>1
+SELECT a FROM T WHERE NOT a > 1
+SELECT a FROM T WHERE NOT a<=1 OR b>=2
+SELECT a FROM T WHERE (NOT a <= 1) OR b >= 2
+SELECT a FROM T WHERE NOT NOT (a = 1)
+SELECT a FROM T WHERE NOT (NOT a = 1)
+SELECT a FROM T WHERE a in(1,2 , 3)
+SELECT a FROM T WHERE a IN (1, 2, 3)
+SELECT a FROM T WHERE a not in ( null )
+SELECT a FROM T WHERE a NOT IN (NULL)
+SELECT a FROM T WHERE a = true AND b = False AND c = today AND d = YESTERDAY AND e = Tomorrow
+SELECT a FROM T WHERE a = TRUE AND b = FALSE AND c = TODAY AND d = YESTERDAY AND e = TOMORROW
+SELECT today FROM yesterday
+SELECT today FROM yesterday
+SELECT a FROM T WHERE a = +1.50 OR a = -0.0 OR a = 007
+SELECT a FROM T WHERE a = 1.5 OR a = 0 OR a = 7
+SELECT a FROM T WHERE a = -999999999999999999.99999999
+SELECT a FROM T WHERE a = -999999999999999999.99999999
+SELECT a FROM T WHERE a = 2011-04-26 AND b < 2011-04-26T13:30:00+01:30
+SELECT a FROM T WHERE a = 2011-04-26 AND b < 2011-04-26T12:00:00.000+0000
+SELECT a FROM T WHERE a = 'It\\'s \\\"so\\\"\\\\' AND b = '%_'
+SELECT a FROM T WHERE a = 'It\\'s \"so\"\\\\' AND b = '%_'
+SELECT a FROM T WHERE a = ''
+SELECT a FROM T WHERE a = ''
+SELECT a FROM T WHERE a LIKE '100\\% of \\'_\\\\%'
+SELECT a FROM T WHERE a LIKE '100\\% of \\'_\\\\%'
+SELECT (SELECT a, b FROM N__r WHERE NOT (a = 1 AND b = 2) ORDER BY a LIMIT 5), Id FROM T
+SELECT (SELECT a, b FROM N__r WHERE NOT (a = 1 AND b = 2) ORDER BY a LIMIT 5), Id FROM T
+SELECT a FROM T WHERE (a = 1) ORDER BY b.c DESC OFFSET 2000
+SELECT a FROM T WHERE a = 1 ORDER BY b.c DESC OFFSET 2000
+";

@@ -3,3 +3,10 @@ pub mod Opened
 pub mod Versions
 pub mod Users
 pub mod Parts
+pub mod Fits
+pub mod Found
+pub mod Pages
+pub mod Numbered
+pub mod MetadataRows
+pub mod MetadataLists
+pub mod SameNames

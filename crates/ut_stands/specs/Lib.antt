@@ -6,3 +6,4 @@ pub mod Stands
 pub mod Operations
 pub mod Reads
 pub mod Layouts
+pub mod LayoutRows

@@ -9,6 +9,7 @@ mod fail;
 mod judged;
 mod laws;
 mod layout;
+mod layouts;
 mod opening;
 mod reads;
 
@@ -17,5 +18,6 @@ pub use crate::fail::{EditFail, OpenFail};
 pub use crate::judged::Judged;
 pub use crate::laws::{stands_laws, stands_rows};
 pub use crate::layout::{FieldPlace, JobPlace, Layout};
+pub use crate::layouts::{layout_at, same_name};
 pub use crate::opening::{KNOWN_VERSION, open_tables};
 pub use crate::reads::user;

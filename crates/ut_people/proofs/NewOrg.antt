@@ -22,7 +22,9 @@ use Rattle.ut_model.specs.SoundPeople.{parent_in}
 use Rattle.ut_model.specs.Tenant.{Tenant}
 use Rattle.ut_model.specs.World.{World}
 use Rattle.ut_people.specs.People.{with_rows}
-use Rattle.ut_stands.specs.Stands.{all_tables, known_version, opened, owner_of, HasUsersAlone, Plan, Stands, StandsBy, org_of, row_at, row_in, rows_with, user_of, version_at}
+use Rattle.ut_stands.specs.Metadata.{org_of, user_of}
+use Rattle.ut_stands.specs.Plan.{FitsPlan, OrgPlan, Plan, no_slots, opened, with_plan}
+use Rattle.ut_stands.specs.Stands.{all_tables, kept_at, known_version, owner_of, Stands, StandsBy, row_at, row_in, rows_with, version_at}
 
 -- what `ut_keys` says of one row put, and of rows that agree
 abbrev pub PutsRows : Type 0
@@ -36,8 +38,9 @@ abbrev pub NonePast : Type 0
 NonePast = (p : Plan) (w : World) (k : Key) → owner_of k ≡ Some (length w + 1) → row_at p w k ≡ None
 
 abbrev pub RowsStand : Type 0
-RowsStand = (m after : Tables) (w : World) (t : Tenant) → Stands m w → length w < limit_number limit.Organisations → IsSound t → HasUsersAlone t
-    → ((p : Plan) → StandsBy p m w → Holds all_tables after (with_row Version (version_at opened (w ++ t ∷ [])) (rows_with (length w + 1) t (row_at p w)))) → Stands after (w ++ t ∷ [])
+RowsStand = (p : Plan) (m after : Tables) (w : World) (t : Tenant) (q : OrgPlan) → StandsBy p m w → length w < limit_number limit.Organisations → IsSound t → FitsPlan q t
+    → Holds all_tables after (with_row Version (version_at true (w ++ t ∷ [])) (rows_with (length w + 1) q t (row_at p w)))
+    → StandsBy (opened (with_plan (length w + 1) q p)) after (w ++ t ∷ [])
 
 pick : (b : Bool) (P : Bool → Type 0) → (b ≡ true → P true) → (b ≡ false → P false) → P b
 pick true P f g = f refl
@@ -60,10 +63,10 @@ with_three n name digest rows = with_row (User n first_user) (Some (user_row n n
 
 -- where it had none before, they are those of its tenant, and the version's
 module _ (n : ℕ) (name digest : List ℕ) (rows : Key → Option (List ℕ)) (none : (k : Key) → owner_of k ≡ Some n → rows k ≡ None) where
-  rest : (k : Key) (m : ℕ) → owner_of k ≡ Some m → row_in (fresh name digest) k ≡ None → rows k ≡ cond (eqb m n) (row_in (fresh name digest) k) (rows k)
-  rest k m of unwritten = pick (eqb m n) (λ b. rows k ≡ cond b (row_in (fresh name digest) k) (rows k)) (λ e. none k (of ∙ ap Some (eqb-true m n e)) ∙ sym unwritten) (λ e. refl)
+  rest : (k : Key) (m : ℕ) → owner_of k ≡ Some m → row_in no_slots (fresh name digest) k ≡ None → rows k ≡ cond (eqb m n) (row_in no_slots (fresh name digest) k) (rows k)
+  rest k m of unwritten = pick (eqb m n) (λ b. rows k ≡ cond b (row_in no_slots (fresh name digest) k) (rows k)) (λ e. none k (of ∙ ap Some (eqb-true m n e)) ∙ sym unwritten) (λ e. refl)
 
-  user_here : (m : ℕ) (i : List ℕ) → m ≡ n → cond (bytes_eq i first_user) (Some (user_row n name digest)) (rows (User m i)) ≡ row_in (fresh name digest) (User m i)
+  user_here : (m : ℕ) (i : List ℕ) → m ≡ n → cond (bytes_eq i first_user) (Some (user_row n name digest)) (rows (User m i)) ≡ row_in no_slots (fresh name digest) (User m i)
   unfolding row_in
   user_here m i e =
       ap (cond (bytes_eq i first_user) (Some (user_row n name digest))) (none (User m i) (ap Some e))
@@ -71,15 +74,15 @@ module _ (n : ℕ) (name digest : List ℕ) (rows : Key → Option (List ℕ)) (
       (λ _. ap (λ (k : ℕ). Some (user_row k name digest)) (sym e))
       (λ _. refl)
 
-  rows_are : (k : Key) → with_three n name digest rows k ≡ with_row Version (Some (version_row n)) (rows_with n (fresh name digest) rows) k
-  unfolding row_in
+  rows_are : (k : Key) → with_three n name digest rows k ≡ with_row Version (Some (version_row n)) (rows_with n no_slots (fresh name digest) rows) k
+  unfolding row_in kept_at
   rows_are Version = refl
   rows_are (Org m) =
       pick (eqb m n) (λ b. cond b (Some (org_row n name digest)) (rows (Org m)) ≡ cond b (Some (org_row m name digest)) (rows (Org m)))
       (λ e. ap (λ (k : ℕ). Some (org_row k name digest)) (sym (eqb-true m n e)))
       (λ e. refl)
   rows_are (User m i) =
-      pick (eqb m n) (λ b. cond (b && bytes_eq i first_user) (Some (user_row n name digest)) (rows (User m i)) ≡ cond b (row_in (fresh name digest) (User m i)) (rows (User m i)))
+      pick (eqb m n) (λ b. cond (b && bytes_eq i first_user) (Some (user_row n name digest)) (rows (User m i)) ≡ cond b (row_in no_slots (fresh name digest) (User m i)) (rows (User m i)))
       (λ e. user_here m i (eqb-true m n e))
       (λ e. refl)
   rows_are k = rest k _ refl refl
@@ -114,8 +117,16 @@ fresh_sound name digest good size = record {
     no_step a b (one_step e) = absurd cc
     no_step a b (more_steps e h) = absurd cc
 
-fresh_alone : (name digest : List ℕ) → HasUsersAlone (fresh name digest)
-fresh_alone name digest = record { objects = refl; roles = refl; groups = refl; rules = refl; records = refl; shares = refl; job = refl }
+-- it has no fields and no change of one
+fresh_fits : (name digest : List ℕ) → FitsPlan no_slots (fresh name digest)
+fresh_fits name digest = record {
+  below = λ n f there. absurd cc;
+  differ = λ n f g there other same. absurd cc;
+  other = omega arith;
+  apart = λ j is busy f there same. absurd cc;
+  was = refl;
+  left = λ j i v at left. absurd cc;
+}
 
 -- ---- the tables
 
@@ -130,17 +141,20 @@ puts_three puts m rows n name digest fits id h =
     puts all_tables (map.insert m1 (spell (Org n)) o) (with_row (Org n) (Some o) f1) (User n first_user) (user_row n name digest) (fits, (tt, id)) h2
 
 rows_stand : PutsRows → SameRows → NonePast → IsTrue (is_id first_user) → (m : Tables) (w : World) (name digest : List ℕ) → length w < limit_number limit.Organisations → (p : Plan) → StandsBy p m w
-    → Holds all_tables (with_rows (length w + 1) name digest m) (with_row Version (version_at opened (with_org w name digest)) (rows_with (length w + 1) (fresh name digest) (row_at p w)))
+    → Holds all_tables (with_rows (length w + 1) name digest m) (with_row Version (version_at true (with_org w name digest)) (rows_with (length w + 1) no_slots (fresh name digest) (row_at p w)))
 rows_stand puts same past id m w name digest few p s =
     let n = length w + 1 in
     let next = with_org w name digest in
     let counted : n ≡ length next = omega (arith, length-append w (fresh name digest ∷ [])) in
     let before = row_at p w in
-    let own = rows_with n (fresh name digest) before in
-    let after = with_row Version (version_at opened next) own in
+    let own = rows_with n no_slots (fresh name digest) before in
+    let after = with_row Version (version_at true next) own in
     let agree : (k : Key) → with_three n name digest before k ≡ after k = λ k. rows_are n name digest before (λ q e. past p w q e) k ∙ ap (λ (l : ℕ). with_row Version (Some (version_row l)) own k) counted in
     same all_tables (with_rows n name digest m) (with_three n name digest before) after (λ k _. agree k) (puts_three puts m before n name digest (omega (arith, few)) id s.rows)
 
 pub org_stands : PutsRows → SameRows → NonePast → RowsStand → IsTrue (is_id first_user) → (m : Tables) (w : World) (name digest : List ℕ) → Stands m w → length w < limit_number limit.Organisations → IsTrue (is_name name) → length digest ≡ 32
     → Stands (with_rows (length w + 1) name digest m) (with_org w name digest)
-org_stands puts same past stands id m w name digest s few good size = stands m (with_rows (length w + 1) name digest m) w (fresh name digest) s few (fresh_sound name digest good size) (fresh_alone name digest) (rows_stand puts same past id m w name digest few)
+org_stands puts same past stands id m w name digest (p, s) few good size = (
+  opened (with_plan (length w + 1) no_slots p),
+  stands p m (with_rows (length w + 1) name digest m) w (fresh name digest) no_slots s few (fresh_sound name digest good size) (fresh_fits name digest) (rows_stand puts same past id m w name digest few p s),
+)

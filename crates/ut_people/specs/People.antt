@@ -12,7 +12,8 @@ use Rattle.ut_model.specs.Callers.{Named, caller_of}
 use Rattle.ut_model.specs.Organisations.{administrator, first_user, fresh}
 use Rattle.ut_model.specs.World.{World, tenant_at}
 use Rattle.ut_model.specs.declared.caller.Caller.{Caller}
-use Rattle.ut_stands.specs.Stands.{known_version, org_of, user_of}
+use Rattle.ut_stands.specs.Metadata.{org_of, user_of}
+use Rattle.ut_stands.specs.Stands.{known_version}
 
 -- the caller whom a user's row gives, if it has this digest
 abbrev pub admitted_row : List ℕ → UserRow → Option Caller

@@ -8,8 +8,9 @@ ghost use Rattle.ut_model.specs.Sound.{is_name};
 ghost use Rattle.ut_model.specs.World.{World};
 ghost use Rattle.ut_people.specs.People.{with_rows};
 ghost use Rattle.ut_stands.specs.Fails.{IsRefusal, KeeperFailsEdit, is_judged};
+ghost use Rattle.ut_stands.specs.Metadata.{org_of, user_of};
 ghost use Rattle.ut_stands.specs.Operations.{Edits};
-ghost use Rattle.ut_stands.specs.Stands.{Stands, org_of, user_of};
+ghost use Rattle.ut_stands.specs.Stands.{Stands};
 
 use crate::admission::digest_of;
 use std::alloc::{AllocError, Global};

@@ -10,3 +10,4 @@ pub mod Numbered
 pub mod MetadataRows
 pub mod MetadataLists
 pub mod SameNames
+pub mod Kept

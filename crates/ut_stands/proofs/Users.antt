@@ -22,7 +22,9 @@ use Rattle.ut_model.specs.Tenant as model
 use Rattle.ut_model.specs.Tenant.{Tenant}
 use Rattle.ut_model.specs.World.{World, tenant_at, user_at, user_in, users_in, user_prefix}
 use Rattle.ut_stands.specs.Reads.{FindsAs}
-use Rattle.ut_stands.specs.Stands.{Stands, row_at, row_in, user_of}
+use Rattle.ut_stands.specs.Metadata.{user_of}
+use Rattle.ut_stands.specs.Plan.{OrgPlan}
+use Rattle.ut_stands.specs.Stands.{Stands, row_at, row_in}
 use Rattle.ut_stands.proofs.Names.{MakesIds, NamesAreShort, NamesAreTexts, drawn_is_id, name_fits, role_is_id}
 
 -- what is read is what stands there, as `ut_keys` says
@@ -47,10 +49,10 @@ found_sound k (v ∷ us) i u h e = by (λ f. found_sound k us i u h.1 f) (bytes_
     by rest false same = rest (sym (ap (λ b. cond b (Some v) (user_at us i)) same) ∙ e)
 
 -- the row of a user's key, in the world
-row_is : (org : ℕ) (i : List ℕ) (t : Option Tenant) → option_and_then (λ x. row_in x (User org i)) t ≡ option_map (row_bytes user_form) (option_map (user_of org) (user_at (users_in t) i))
+row_is : (q : OrgPlan) (org : ℕ) (i : List ℕ) (t : Option Tenant) → option_and_then (λ x. row_in q x (User org i)) t ≡ option_map (row_bytes user_form) (option_map (user_of org) (user_at (users_in t) i))
 unfolding row_in
-row_is org i None = refl
-row_is org i (Some t) = twice (user_at t.users i)
+row_is q org i None = refl
+row_is q org i (Some t) = twice (user_at t.users i)
   where
     twice : (o : Option model.User) → option_map (λ u. row_bytes user_form (user_of org u)) o ≡ option_map (row_bytes user_form) (option_map (user_of org) o)
     twice None = refl
@@ -58,7 +60,7 @@ row_is org i (Some t) = twice (user_at t.users i)
 
 kept : (m : Tables) (w : World) (org : ℕ) (i : List ℕ) → Stands m w → org < 2 ^ 32 → IsTrue (is_id i) → map.get m (spell (User org i)) ≡ option_map (row_bytes user_form) (option_map (user_of org) (user_in w org i))
 unfolding row_at
-kept m w org i (p, s) lo id = s.rows.at (User org i) (lo, (tt, id)) ∙ row_is org i (tenant_at w org)
+kept m w org i (p, s) lo id = s.rows.at (User org i) (lo, (tt, id)) ∙ row_is (p.org org) org i (tenant_at w org)
 
 -- a tenant of a sound world is sound
 found_tenant : (w : List Tenant) (n : ℕ) (t : Tenant) → AllByRecursion IsSound w → slice_get w n ≡ Some t → IsSound t

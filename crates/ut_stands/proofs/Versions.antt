@@ -14,9 +14,10 @@ use Rattle.ut_keys.specs.Rows.{version_form}
 use Rattle.ut_model.specs.Sound.{IsWorld}
 use Rattle.ut_model.specs.World.{World}
 use Rattle.ut_stands.specs.Fails.{of_store_opening}
+use Rattle.ut_stands.specs.Plan.{Plan}
 use Rattle.ut_stands.specs.Reads.{OpensAs}
 use Rattle.ut_stands.specs.declared.fail.OpenFail.TheVariants.{UnknownVersion}
-use Rattle.ut_stands.specs.Stands.{HasKnownVersion, HasUnknownVersion, IsVersion, Plan, Stands, StandsBy, row_at, version_of}
+use Rattle.ut_stands.specs.Stands.{HasKnownVersion, HasUnknownVersion, IsVersion, Stands, StandsBy, row_at, version_of}
 
 -- one spelling is of one row, and what is read is what stands there, as `ut_keys` says
 abbrev pub OneVersion : Type 0

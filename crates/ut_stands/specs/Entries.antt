@@ -68,9 +68,12 @@ slot_text (value.Bool true) = Some (codes "1")
 slot_text (value.Ref id) = Some id
 slot_text v = Some (print_value v)
 
+abbrev pub entry_text : Option Entry → Option (List ℕ)
+entry_text e = option_and_then (λ x. slot_text x.value) e
+
 -- the texts of all slots
 unfoldable pub slots_of : (ℕ → Option Entry) → List (Option (List ℕ))
-slots_of entries = map (λ s. option_and_then (λ e. slot_text e.value) (entries s)) (range_with_len 0 slot_count)
+slots_of entries = map (λ s. entry_text (entries s)) (range_with_len 0 slot_count)
 
 -- the text of a record's name
 abbrev pub name_text : Value → Option (List ℕ)

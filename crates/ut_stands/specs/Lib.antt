@@ -7,3 +7,4 @@ pub mod Operations
 pub mod Reads
 pub mod Layouts
 pub mod LayoutRows
+pub mod Records

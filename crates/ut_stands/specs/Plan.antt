@@ -1,7 +1,7 @@
 -- What a world leaves open of its tables: where the values of fields are kept, and what a change of a field's type has left.
 -- Source: C. D. Weissman and S. Bobrowski, "The Design of the Force.com Multitenant Internet Application Development Platform"
 -- (SIGMOD 2009): the values of all fields are in the flex columns of one table, here called slots; metadata say which is whose.
-use Rattle.std.specs.Prelude.{◌≡◌, ℕ, ◌<◌, ⊥, Bool, true, false, not, ◌&&◌, ◌==◌, if◌then◌else◌, List, Option, Some, None, is_some, slice_get, IsTrue}
+use Rattle.std.specs.Prelude.{◌≡◌, ℕ, ◌<◌, Bool, true, false, not, ◌&&◌, ◌==◌, if◌then◌else◌, List, Option, Some, None, is_some, slice_get, IsTrue}
 use Rattle.std.specs.Option.{option_and_then}
 use Rattle.ut_value.specs.Types.{is_reference, is_type}
 use Rattle.ut_value.specs.Values.{valid}

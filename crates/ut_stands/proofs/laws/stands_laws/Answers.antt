@@ -19,7 +19,7 @@ pub returns-clause-past : goal.returns-clause-past
 returns-clause-past c p w k e = parts.past p w k e
 
 pub returns-clause-appended : goal.returns-clause-appended
-returns-clause-appended c m after w t s few sound alone holds = parts.appended c.table_laws.ensures.same m after w t s few sound alone holds
+returns-clause-appended c p m after w t q s few sound fits holds = parts.appended c.table_laws.ensures.same p m after w t q s few sound fits holds
 
 pub returns-clause-changed : goal.returns-clause-changed
-returns-clause-changed c m after w n t u s at sound alone holds = parts.changed c.table_laws.ensures.same m after w n t u s at sound alone holds
+returns-clause-changed c p m after w n t u q s at sound fits holds = parts.changed c.table_laws.ensures.same p m after w n t u q s at sound fits holds

@@ -1,0 +1,96 @@
+-- Records that are kept alike have the same rows.
+use Rattle.std.proofs.Common.{◌≡◌, ℕ, Bool, true, false, cond, IsTrue, List, [], ◌∷◌, map, Option, Some, None, refl, sym, ap, ◌∙◌, subst, inl, inr}
+use Rattle.std.specs.Prelude.{filter, if◌then◌else◌, slice_get}
+use Rattle.std.specs.List.{find}
+use Rattle.std.specs.Option.{option_and_then, option_map}
+use Rattle.std.specs.Str.{bytes_eq}
+use Rattle.ut_keys.specs.Forms.{row_bytes}
+use Rattle.ut_keys.specs.Keys.{Key, Data, Index, Unique, Relation}
+use Rattle.ut_keys.specs.Rows.{data_form, unique_form}
+use Rattle.ut_model.specs.declared.record.Record.{Record}
+use Rattle.ut_model.specs.Membership.{Has}
+use Rattle.ut_model.specs.Objects.{is_of, object_at, record_at, records_of}
+use Rattle.ut_model.specs.Tenant.{Object, Tenant}
+use Rattle.ut_model.specs.World.{with_id}
+use Rattle.ut_stands.specs.Entries.{Entry, data_of, entry, entry_text, is_indexed, is_reference_to, is_unique, slots_of}
+use Rattle.ut_stands.specs.Plan.{OrgPlan}
+use Rattle.ut_stands.specs.Records.{Alike, KeptAlike, object_of_records}
+use Rattle.ut_stands.specs.Stands.{Kept, kept_at, kept_in, row_in, row_where, unique_at, unique_of}
+
+pick : (b : Bool) (P : Bool → Type 0) → (b ≡ true → P true) → (b ≡ false → P false) → P b
+pick true P f g = f refl
+pick false P f g = g refl
+
+some_is : {A : Type 0} (x y : A) → ◌≡◌ {A = Option A} (Some x) (Some y) → x ≡ y
+some_is x y e = cc
+
+-- ---- one record
+
+map_same : {A B : Type 0} (f g : A → B) → ((x : A) → f x ≡ g x) → (xs : List A) → map f xs ≡ map g xs
+map_same f g h [] = refl
+map_same f g h (x ∷ xs) = rw (h x, map_same f g h xs) refl
+
+slots_same : (e f : ℕ → Option Entry) → ((s : ℕ) → Alike (e s) (f s)) → slots_of e ≡ slots_of f
+unfolding slots_of
+slots_same e f h = map_same (λ s. entry_text (e s)) (λ s. entry_text (f s)) (λ s. (h s).text) _
+
+data_same : (org n : ℕ) (k l : Kept) → KeptAlike k l → data_of org n k.item k.entries ≡ data_of org n l.item l.entries
+data_same org n k l h = rw (h.id, h.name, h.owner, h.created, h.modified, slots_same k.entries l.entries h.entries) refl
+
+-- two records that may be missing
+KeptSame : Option Kept → Option Kept → Type 0
+KeptSame None None = Unit {0}
+KeptSame (Some k) (Some l) = KeptAlike k l
+KeptSame _ _ = ⊥
+
+data_row_same : (org n : ℕ) (a b : Option Kept) → KeptSame a b → option_map (λ (k : Kept). row_bytes data_form (data_of org n k.item k.entries)) a ≡ option_map (λ (k : Kept). row_bytes data_form (data_of org n k.item k.entries)) b
+data_row_same org n None None h = refl
+data_row_same org n None (Some l) h = absurd h
+data_row_same org n (Some k) None h = absurd h
+data_row_same org n (Some k) (Some l) h = ap (λ d. Some (row_bytes data_form d)) (data_same org n k l h)
+
+where_same : (is : Option Entry → Bool) (s : ℕ) (a b : Option Kept) → ((k l : Kept) → KeptAlike k l → is (k.entries s) ≡ is (l.entries s)) → KeptSame a b → row_where is s a ≡ row_where is s b
+where_same is s None None same h = refl
+where_same is s None (Some l) same h = absurd h
+where_same is s (Some k) None same h = absurd h
+where_same is s (Some k) (Some l) same h = ap (λ (x : Bool). cond x (Some []) None) (same k l h)
+
+-- ---- the records of an object
+
+record_id : Record → List ℕ
+record_id r = r.id
+
+module _ (p q : OrgPlan) (t u : Tenant) (n : ℕ) (o v : Object) (change : Record → Record) (ids : (r : Record) → (change r).id ≡ r.id) where
+  abbrev AllAlike : List Record → Type 0
+  AllAlike rs = (r : Record) → Has rs r → is_of n r ≡ true → KeptAlike (kept_in q u n v (change r)) (kept_in p t n o r)
+
+  of_same : (r : Record) → is_of n (change r) ≡ is_of n r
+  of_same r = rw (ids r) refl
+
+  -- the one with an id, if it is of the object
+  found : (rs : List Record) (id : List ℕ) → AllAlike rs
+      → KeptSame (option_and_then (λ r. if is_of n r then Some (kept_in q u n v r) else None) (with_id (λ r. r.id) (map change rs) id))
+      (option_and_then (λ r. if is_of n r then Some (kept_in p t n o r) else None) (with_id (λ r. r.id) rs id))
+  found [] id all = tt
+  found (r ∷ rs) id all =
+      rw (ids r)
+      (pick (bytes_eq id r.id) (λ b. KeptSame (option_and_then (λ r. if is_of n r then Some (kept_in q u n v r) else None) (cond b (Some (change r)) (with_id (λ r. r.id) (map change rs) id)))
+      (option_and_then (λ r. if is_of n r then Some (kept_in p t n o r) else None) (cond b (Some r) (with_id (λ r. r.id) rs id))))
+      (λ _. rw (of_same r) (pick (is_of n r) (λ b. KeptSame (cond b (Some (kept_in q u n v (change r))) None) (cond b (Some (kept_in p t n o r)) None)) (λ e. all r (inl refl) e) (λ _. tt)))
+      (λ _. found rs id (λ s h. all s (inr h))))
+
+  -- the first of them whose value is unique and has a key
+  unique_found : {Y : Type 0} (row : List ℕ → Y) (slot : ℕ) (key : List ℕ) (rs : List Record) → AllAlike rs
+      → option_map (λ (r : Record). row r.id) (find (λ r. is_unique key (entry q u.job n v r slot)) (filter (is_of n) (map change rs)))
+      ≡ option_map (λ (r : Record). row r.id) (find (λ r. is_unique key (entry p t.job n o r slot)) (filter (is_of n) rs))
+  unique_found row slot key [] all = refl
+  unique_found row slot key (r ∷ rs) all =
+      rw (of_same r)
+      (pick (is_of n r) (λ b. option_map (λ (r : Record). row r.id) (find (λ r. is_unique key (entry q u.job n v r slot)) (cond b (change r ∷ filter (is_of n) (map change rs)) (filter (is_of n) (map change rs))))
+      ≡ option_map (λ (r : Record). row r.id) (find (λ r. is_unique key (entry p t.job n o r slot)) (cond b (r ∷ filter (is_of n) rs) (filter (is_of n) rs))))
+      (λ e. rw (((all r (inl refl) e).entries slot).unique key)
+      (pick (is_unique key (entry p t.job n o r slot)) (λ b. option_map (λ (r : Record). row r.id) (cond b (Some (change r)) (find (λ r. is_unique key (entry q u.job n v r slot)) (filter (is_of n) (map change rs))))
+      ≡ option_map (λ (r : Record). row r.id) (cond b (Some r) (find (λ r. is_unique key (entry p t.job n o r slot)) (filter (is_of n) rs))))
+      (λ _. ap (λ i. Some (row i)) (ids r))
+      (λ _. unique_found row slot key rs (λ s h. all s (inr h)))))
+      (λ _. unique_found row slot key rs (λ s h. all s (inr h))))

@@ -1,0 +1,57 @@
+-- The rows of an object's records, and when records are kept in the same rows though plan and tenant change.
+-- Source: as in Entries: indexes, unique values and relationships are rows beside those of the records.
+use Rattle.std.specs.Prelude.{◌≡◌, ℕ, Bool, false, not, ◌&&◌, ◌||◌, ◌==◌, if◌then◌else◌, List, length, Option, Some, None, is_none, IsTrue}
+use Rattle.ut_formula.specs.Meaning.{value_at}
+use Rattle.ut_keys.specs.Keys.{Key, Data, Index, Unique, Relation}
+use Rattle.ut_model.specs.Cases.{in_case}
+use Rattle.ut_model.specs.Retyping.{job_is_done}
+use Rattle.ut_model.specs.SoundMetadata.{implies}
+use Rattle.ut_model.specs.Tenant.{Field, Job, Object, Tenant}
+use Rattle.ut_stands.specs.Entries.{Entry, entry_text, field_in, is_indexed, is_reference_to, is_unique, name_text}
+use Rattle.ut_stands.specs.Plan.{OrgPlan}
+use Rattle.ut_stands.specs.Stands.{Kept}
+use Rattle.ut_value.specs.Types.{suits_indexed, suits_unique}
+
+-- the object whose records a key is about: their own rows, and those of their values
+abbrev pub object_of_records : Key → Option ℕ
+object_of_records (Data org n id) = Some n
+object_of_records (Index org n slot value id) = Some n
+object_of_records (Unique org n slot value) = Some n
+object_of_records (Relation org n slot target id) = Some n
+object_of_records _ = None
+
+-- ---- the same rows
+
+-- two entries that are the same in all rows, as none and null are
+pub record Alike (e f : Option Entry) : Type 0 where
+  pub text : entry_text e ≡ entry_text f
+  pub indexed : (key : List ℕ) → is_indexed key e ≡ is_indexed key f
+  pub unique : (key : List ℕ) → is_unique key e ≡ is_unique key f
+  pub reference : (target : List ℕ) → is_reference_to target e ≡ is_reference_to target f
+
+-- two records that are the same in all rows
+pub record KeptAlike (k l : Kept) : Type 0 where
+  pub id : k.item.id ≡ l.item.id
+  pub name : name_text (value_at k.item.values 0) ≡ name_text (value_at l.item.values 0)
+  pub owner : k.item.owner ≡ l.item.owner
+  pub created : k.item.created ≡ l.item.created
+  pub modified : k.item.modified ≡ l.item.modified
+  pub entries : (slot : ℕ) → Alike (k.entries slot) (l.entries slot)
+
+-- ---- free slots
+
+-- a change of this object that isn't done has this slot
+abbrev pub is_other : OrgPlan → Option Job → (object slot : ℕ) → Bool
+is_other p job n s = in_case job false (λ j. not (job_is_done j.phase) && ((j.object == n) && (p.other == s)))
+
+-- no field of the object has this slot, and no change that isn't done
+abbrev pub is_free : OrgPlan → Option Job → (object : ℕ) → Object → (slot : ℕ) → Bool
+is_free p job n o s = is_none (field_in p n o.fields s) && not (is_other p job n s)
+
+-- the plan with this slot for a field
+abbrev pub with_slot : (object field slot : ℕ) → OrgPlan → OrgPlan
+with_slot n f s p = record p { slot = λ m g. if (m == n) && (g == f) then s else p.slot m g }
+
+-- a type for which these flags may be
+abbrev pub suits_flags : Field → Bool
+suits_flags f = implies f.unique (suits_unique f.kind) && implies f.indexed (suits_indexed f.kind)

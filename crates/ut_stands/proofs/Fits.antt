@@ -1,5 +1,5 @@
 -- The names, types and ids of sound metadata have spellings.
-use Rattle.std.proofs.Common.{◌≡◌, ℕ, zero, suc, ◌+◌, ◌-◌, ◌*◌, ◌<◌, ◌≤◌, Bool, true, false, ◌&&◌, ◌||◌, IsTrue, List, [], ◌∷◌, ◌++◌, length, take, drop, Option, Some, None, refl, sym, ap, subst, ◌∙◌, arith, length-append}
+use Rattle.std.proofs.Common.{◌≡◌, ℕ, zero, suc, ◌+◌, ◌-◌, ◌*◌, ◌/◌, ◌%◌, ◌<◌, ◌≤◌, Bool, true, false, ◌&&◌, ◌||◌, IsTrue, List, [], ◌∷◌, ◌++◌, length, take, drop, Option, Some, None, refl, sym, ap, subst, ◌∙◌, arith, length-append}
 use Rattle.std.specs.Prelude.{◌^◌, nat_le, nat_lt, encode_utf8_all, codes, get_or, IfSome}
 use Rattle.std.specs.List.{AllByRecursion, list_all, All}
 use Rattle.std.specs.Char.{encode_utf8}
@@ -157,7 +157,7 @@ prefix_size n = refl
 
 prefix_digits : (n : ℕ) → IsTrue (list_all is_digit62 (record_prefix n))
 unfolding record_prefix digits
-prefix_digits n = two (digit62 _) (digit62 _) (digit_is _ (omega arith)) (digit_is _ (omega arith))
+prefix_digits n = two (digit62 (n / 62 ^ 1 % 62)) (digit62 (n / 62 ^ 0 % 62)) (digit_is (n / 62 ^ 1 % 62) (omega arith)) (digit_is (n / 62 ^ 0 % 62) (omega arith))
   where
     two : (a b : ℕ) → is_digit62 a ≡ true → is_digit62 b ≡ true → list_all is_digit62 (97 ∷ a ∷ b ∷ []) ≡ true
     two a b h g = rw h (rw g refl)

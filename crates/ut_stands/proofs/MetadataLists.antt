@@ -24,7 +24,7 @@ use Rattle.ut_model.specs.Sound.{IsSound}
 use Rattle.ut_model.specs.Tenant as model
 use Rattle.ut_model.specs.Tenant.{Tenant}
 use Rattle.ut_model.specs.World.{World, tenant_at}
-use Rattle.ut_stands.specs.LayoutRows.{object_rows}
+use Rattle.ut_stands.specs.LayoutRows.{field_rows, object_rows}
 use Rattle.ut_stands.specs.Metadata.{field_of, object_of}
 use Rattle.ut_stands.specs.Plan.{FitsPlan, OrgPlan, Plan}
 use Rattle.ut_stands.specs.Stands.{StandsBy, row_at, row_in}
@@ -79,7 +79,7 @@ map_some f None y e = absurd cc
 map_some f (Some x) y e = (x, refl)
 
 no_row : {X : Type 0} (o : Option X) (x : X) → o ≡ None → o ≡ Some x → ⊥
-no_row o x e g = absurd (apart (sym e ∙ g))
+no_row {X = X} o x e g = absurd (apart (sym e ∙ g))
   where
     apart : ◌≡◌ {A = Option X} None (Some x) → ⊥
     apart h = cc
@@ -122,6 +122,15 @@ module _ (laws : KeyLaws) (p : Plan) (m : Tables) (w : World) (s : StandsBy p m 
   object_inside above e n small =
       (laws.under (Object org n) (number32 org) above (lo, small) e).1 ((laws.begins 1 (Both Number32 Number16) (org, n) org (lo, small) lo).1 refl)
 
+  -- what a tenant has at the key of an object
+  object_there_at : (t : Tenant) (i : ℕ) (o : model.Object) → slice_get t.objects i ≡ Some o → row_in (p.org org) t (Object org i) ≡ Some (row_bytes object_form (object_of org t i o))
+  unfolding row_in
+  object_there_at t i o there = ap (option_map (λ o. row_bytes object_form (object_of org t i o))) there
+
+  object_found_at : (t : Tenant) (i : ℕ) (row : List ℕ) → row_in (p.org org) t (Object org i) ≡ Some row → (o : model.Object) × (slice_get t.objects i ≡ Some o)
+  unfolding row_in
+  object_found_at t i row here = map_some (λ o. row_bytes object_form (object_of org t i o)) (object_at t i) row here
+
   objects_numbered : (t : Tenant) → tenant_at w org ≡ Some t → (above : List ℕ) → raised (number32 org) ≡ Some above
       → AreNumbered object_form (row_at p w) (number32 org) above (λ i. (org, i)) (object_of org t) t.objects
   objects_numbered t at above e =
@@ -136,21 +145,14 @@ module _ (laws : KeyLaws) (p : Plan) (m : Tables) (w : World) (s : StandsBy p m 
         inside = λ i o there.
             let within : i < length t.objects = slice_get_within t.objects i o there in
             object_inside above e i (omega (arith, within, sound.metadata.few));
-        there = λ i o there. object_row i (Some t) at ∙ row_there i o there;
+        there = λ i o there. object_row i (Some t) at ∙ object_there_at t i o there;
         only = λ k row fits table inside has.
             let it = object_under above e k fits table inside in
             let n = it.0 in
             let here : row_in (p.org org) t (Object org n) ≡ Some row = sym (object_row n (Some t) at) ∙ ap (row_at p w) (sym it.1) ∙ has in
-            let found = row_found n row here in
+            let found = object_found_at t n row here in
             (n, found.0, found.1, sym it.1);
       }
-    where
-      row_there : (i : ℕ) (o : model.Object) → slice_get t.objects i ≡ Some o → row_in (p.org org) t (Object org i) ≡ Some (row_bytes object_form (object_of org t i o))
-      unfolding row_in
-      row_there i o there = ap (option_map (λ o. row_bytes object_form (object_of org t i o))) there
-      row_found : (n : ℕ) (row : List ℕ) → row_in (p.org org) t (Object org n) ≡ Some row → (o : model.Object) × (slice_get t.objects n ≡ Some o)
-      unfolding row_in
-      row_found n row here = map_some (λ o. row_bytes object_form (object_of org t n o)) (object_at t n) row here
 
   pub objects_listed : ListsTo object_form (row_at p w) (number32 org) (raised (number32 org)) (object_rows org p w)
   unfolding object_rows
@@ -217,11 +219,11 @@ module _ (laws : KeyLaws) (p : Plan) (m : Tables) (w : World) (s : StandsBy p m 
               (i, found.0, sym (ap (option_and_then (λ o. slice_get o.fields i)) here) ∙ found.1, sym it.2);
         }
 
-    -- the rows of the fields of an object
-    abbrev pub rows_in_object : OrgPlan → Option model.Object → List FieldRow
+    abbrev rows_in_object : OrgPlan → Option model.Object → List FieldRow
     rows_in_object q o = in_case o [] (λ o. map (λ (f : ℕ × model.Field). field_of org q n f.0 f.1) (enumerate_from 0 o.fields))
 
-    pub fields_listed : ListsTo field_form (row_at p w) (number32 org ++ number16 n) (raised (number32 org ++ number16 n)) (in_case (tenant_at w org) [] (λ t. rows_in_object (p.org org) (object_at t n)))
+    pub fields_listed : ListsTo field_form (row_at p w) (number32 org ++ number16 n) (raised (number32 org ++ number16 n)) (field_rows org n p w)
+    unfolding field_rows
     fields_listed = by (tenant_at w org) refl (raised (number32 org ++ number16 n)) refl
       where
         of_object : (t : Tenant) → tenant_at w org ≡ Some t → (above : List ℕ) → raised (number32 org ++ number16 n) ≡ Some above → (o : Option model.Object) → object_at t n ≡ o

@@ -14,7 +14,7 @@ use Rattle.ut_keys.specs.Listings.{ListsBetween, with_key}
 
 -- the rows of a list, made of their numbers and its elements
 abbrev pub made_from : {U X : Type 0} → (ℕ → X → U) → ℕ → List X → List U
-made_from make n xs = map (λ (p : ℕ × X). make p.0 p.1) (enumerate_from n xs)
+made_from {U = U} {X = X} make n xs = map (λ (p : ℕ × X). make p.0 p.1) (enumerate_from n xs)
 
 -- the rows of an interval are those of a list, each at the key of its number
 pub record AreNumbered {U X : Type 0} (f : Form U) (rows : Key → Option (List ℕ)) (from below : List ℕ) (key : ℕ → Val f.key) (make : ℕ → X → U) (xs : List X) : Type 0 where

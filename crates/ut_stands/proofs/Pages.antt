@@ -1,7 +1,6 @@
 -- What a page gives is the list of the rows that stand there.
 use Rattle.std.proofs.Common.{◌≡◌, ℕ, zero, suc, IsTrue, Option, Some, None, List, [], ◌∷◌, refl, sym, ap, subst, ◌∙◌, inl, inr, map, take}
-use Rattle.std.specs.Prelude.{Result, Ok, Err, Vec}
-use Rattle.std.specs.Bool.{Bool}
+use Rattle.std.specs.Prelude.{Bool, Result, Ok, Err, Vec}
 use Rattle.std.specs.List.{AllByRecursion}
 use Rattle.std.proofs.lemmas.List.{take-map}
 use Rattle.ut_parts.specs.Plain.{whole}

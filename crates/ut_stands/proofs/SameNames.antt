@@ -1,9 +1,9 @@
 -- Texts are the same without their case exactly if their characters are.
-use Rattle.std.proofs.Common.{◌≡◌, ℕ, ◌+◌, ◌*◌, ◌/◌, ◌%◌, ◌<◌, ◌≤◌, Bool, true, false, cond, ltb, ◌&&◌, List, [], ◌∷◌, ◌++◌, map, refl, sym, ap, ap₂, subst, ◌∙◌, arith}
-use Rattle.std.specs.Prelude.{encode_utf8_all, bytes_eq}
+use Rattle.std.proofs.Common.{◌≡◌, ℕ, ◌+◌, ◌*◌, ◌/◌, ◌%◌, ◌<◌, ◌≤◌, Bool, true, false, cond, ltb, ◌&&◌, IsTrue, List, [], ◌∷◌, ◌++◌, map, refl, sym, ap, ap₂, subst, ◌∙◌, arith}
+use Rattle.std.specs.Prelude.{◌↔◌, encode_utf8_all, bytes_eq}
 use Rattle.std.proofs.Math.Utf8.{encode, scalar}
 use Rattle.std.specs.Char.{to_ascii_lowercase}
-use Rattle.std.specs.Str.{IsUtf8, all_scalars, chars, str_eq_ignore_ascii_case}
+use Rattle.std.specs.Str.{IsUtf8, all_scalars, chars}
 use Rattle.std.proofs.lemmas.Bool.Decides.{nat_tests, same_from_decides}
 use Rattle.std.proofs.lemmas.Slice.Eq.{bytes_eq-Decides}
 use Rattle.std.proofs.lemmas.Str.{chars-encodes, encode_ascii}
@@ -61,16 +61,19 @@ lower_scalars (c ∷ cs) h =
 one_text : (a b : List ℕ) → all_scalars a ≡ true → all_scalars b ≡ true → encode_utf8_all a ≡ encode_utf8_all b → a ≡ b
 one_text a b sa sb e = sym (chars-encodes a sa) ∙ ap chars e ∙ chars-encodes b sb
 
-same_encoded : (a b : List ℕ) → all_scalars a ≡ true → all_scalars b ≡ true → str_eq_ignore_ascii_case (encode_utf8_all a) (encode_utf8_all b) ≡ same_name a b
-same_encoded a b sa sb =
-    let d = bytes_eq-Decides (lower a) (lower b) in
-    same_from_decides _ _ (bytes_eq-Decides (lower (encode_utf8_all a)) (lower (encode_utf8_all b))) (
-      λ e. lower_encodes a ∙ ap encode_utf8_all (d.0 e) ∙ sym (lower_encodes b),
-      λ p. d.1 (one_text (lower a) (lower b) (lower_scalars a sa) (lower_scalars b sb) (sym (lower_encodes a) ∙ p ∙ lower_encodes b)),
-    )
+lower_same : (a b : List ℕ) → all_scalars a ≡ true → all_scalars b ≡ true → lower (encode_utf8_all a) ≡ lower (encode_utf8_all b) → lower a ≡ lower b
+lower_same a b sa sb p = one_text (lower a) (lower b) (lower_scalars a sa) (lower_scalars b sb) (sym (lower_encodes a) ∙ p ∙ lower_encodes b)
 
-pub texts_same : (x y : List ℕ) → IsUtf8 x → IsUtf8 y → str_eq_ignore_ascii_case x y ≡ same_name (chars x) (chars y)
-texts_same x y u v =
-    let a : chars x ≡ u.0 = ap chars (sym u.2) ∙ chars-encodes u.0 u.1 in
-    let b : chars y ≡ v.0 = ap chars (sym v.2) ∙ chars-encodes v.0 v.1 in
-    ap₂ str_eq_ignore_ascii_case (sym u.2) (sym v.2) ∙ same_encoded u.0 v.0 u.1 v.1 ∙ ap₂ same_name (sym a) (sym b)
+same_lower : (a b : List ℕ) → lower a ≡ lower b → lower (encode_utf8_all a) ≡ lower (encode_utf8_all b)
+same_lower a b e = lower_encodes a ∙ ap encode_utf8_all e ∙ sym (lower_encodes b)
+
+-- a test that says whether texts are the same without their case says it of their characters
+pub texts_same : (x y : List ℕ) (r : Bool) → IsUtf8 x → IsUtf8 y → IsTrue r ↔ (lower x ≡ lower y) → r ≡ same_name (chars x) (chars y)
+texts_same x y r u v test =
+    let a : chars x ≡ u.0 = ap chars (sym u.1.1) ∙ chars-encodes u.0 u.1.0 in
+    let b : chars y ≡ v.0 = ap chars (sym v.1.1) ∙ chars-encodes v.0 v.1.0 in
+    let d = bytes_eq-Decides (lower u.0) (lower v.0) in
+    same_from_decides r (same_name u.0 v.0) (test.0, test.1) (
+      λ e. ap lower (sym u.1.1) ∙ same_lower u.0 v.0 (d.0 e) ∙ ap lower v.1.1,
+      λ p. d.1 (lower_same u.0 v.0 u.1.0 v.1.0 (ap lower u.1.1 ∙ p ∙ ap lower (sym v.1.1))),
+    ) ∙ ap₂ same_name (sym a) (sym b)

@@ -1,16 +1,16 @@
 //! How layouts are read.
 
-ghost use Rattle.std.specs.Prelude.{◌≡◌, IsErrOf, is_ok};
+ghost use Rattle.std.specs.Prelude.{◌≡◌, IfOk, IsErrOf, is_ok, map};
 ghost use Rattle.std.specs.Str.{chars};
 ghost use Rattle.ut_keeper.specs.Draft.{DraftReads, DraftTells, state_of, tables_of};
 ghost use Rattle.ut_keeper.specs.State.{KeeperCause, StaysAfter};
 ghost use Rattle.ut_keys.specs.declared.fail.StoreFail.TheVariants.{Keeper};
 ghost use Rattle.ut_model.specs.Fields.{same_name};
-ghost use Rattle.ut_stands.specs.LayoutRows.{job_in, job_of_row, layout_by, object_rows, place_of_row, places_in};
+ghost use Rattle.ut_stands.specs.LayoutRows.{ListsBy, job_in, job_of_row, layout_by, object_rows, place_of_row, places_in, row_named};
 ghost use Rattle.ut_stands.specs.Layouts.{FindsBy, layout_at, layout_named, layouts_of};
 
 use crate::layout::{FieldPlace, JobPlace, Layout};
-use std::alloc::Global;
+use std::alloc::{AllocError, Global};
 use ut_keeper::{Draft, Keeper, draft_laws};
 use ut_keys::{
     FieldRow, JobRow, ObjectRow, StoreFail, listing_laws, page_under, row_at, row_laws, table_laws,
@@ -40,6 +40,14 @@ fn place_of(row: FieldRow) -> FieldPlace
     }
 }
 
+// The places of fields, from their rows.
+fn places_of(alloc: Global, rows: Vec<FieldRow>) -> Result<Items<FieldPlace>, AllocError>
+    ensures { IfOk result (λ places. places ≡ map place_of_row rows.items) }
+{
+    let places: Vec<FieldPlace> = rows.into_iter().map(place_of).collect(alloc)?;
+    Ok(Items::from_vec(places))
+}
+
 // The fields of an object with their slots. One object has at most 40.
 fn fields_of<K: Keeper>(
     alloc: Global,
@@ -58,8 +66,24 @@ fn fields_of<K: Keeper>(
     table_laws();
     shape_laws();
     let rows: Vec<FieldRow> = page_under(alloc, draft, &(org, object), None, 41)?;
-    let places: Vec<FieldPlace> = rows.into_iter().map(place_of).collect(alloc)?;
-    Ok(Items::from_vec(places))
+    Ok(places_of(alloc, rows)?)
+}
+
+// The place of a change, from its row, if it is on this object.
+fn job_of(row: JobRow, object: u16) -> Option<JobPlace>
+    ensures { result ≡ job_of_row object row }
+{
+    if row.object == object {
+        Some(JobPlace {
+            field: row.field,
+            kind: row.kind,
+            twin: row.twin,
+            phase: row.phase,
+            cursor: row.cursor,
+        })
+    } else {
+        None
+    }
 }
 
 // The change of a field's type that is made on an object.
@@ -78,14 +102,8 @@ fn job_on<K: Keeper>(
     row_laws::<JobRow>();
     id_laws();
     match row_at::<JobRow, K>(alloc, draft, &org) {
-        Ok(Some(row)) if row.object == object => Ok(Some(JobPlace {
-            field: row.field,
-            kind: row.kind,
-            twin: row.twin,
-            phase: row.phase,
-            cursor: row.cursor,
-        })),
-        Ok(_) => Ok(None),
+        Ok(None) => Ok(None),
+        Ok(Some(row)) => Ok(job_of(row, object)),
         Err(fail) => Err(fail),
     }
 }
@@ -120,9 +138,9 @@ fn objects_of<K: Keeper>(
     alloc: Global,
     draft: &mut Draft<'_, K>,
     org: u32,
-) -> Result<Items<ObjectRow>, StoreFail>
+) -> Result<Vec<ObjectRow>, StoreFail>
     ensures finds { DraftTells K.state draft.old draft.new
-        → FindsBy (object_rows org) (tables_of K.state draft.old) result }
+        → ListsBy (object_rows org) (tables_of K.state draft.old) result }
     ensures reads { DraftReads K.state 0 draft.old draft.new }
     ensures stays { StaysAfter (is_ok result) (state_of K.state draft.old) (state_of K.state draft.new) }
     ensures cause { KeeperCause (state_of K.state draft.old) (state_of K.state draft.new) (IsErrOf result Keeper) }
@@ -131,8 +149,15 @@ fn objects_of<K: Keeper>(
     listing_laws::<ObjectRow>();
     table_laws();
     shape_laws();
-    let rows: Vec<ObjectRow> = page_under(alloc, draft, &org, None, 101)?;
-    Ok(Items::from_vec(rows))
+    page_under(alloc, draft, &org, None, 101)
+}
+
+// The first row with this name.
+fn row_named(rows: Vec<ObjectRow>, name: &str) -> Option<ObjectRow>
+    ensures { result ≡ row_named (chars name.now) rows.items }
+{
+    rows.into_iter()
+        .find(|row| same_name(row.name.as_str(), name))
 }
 
 /// The layout of the object with this number, if there is one.

@@ -1,167 +1,242 @@
--- The names, types and ids of sound metadata have spellings.
-use Rattle.std.proofs.Common.{◌≡◌, ℕ, zero, suc, ◌+◌, ◌-◌, ◌*◌, ◌/◌, ◌%◌, ◌<◌, ◌≤◌, Bool, true, false, ◌&&◌, ◌||◌, IsTrue, List, [], ◌∷◌, ◌++◌, length, take, drop, Option, Some, None, refl, sym, ap, subst, ◌∙◌, arith, length-append}
-use Rattle.std.specs.Prelude.{◌^◌, nat_le, nat_lt, encode_utf8_all, codes, get_or, IfSome}
-use Rattle.std.specs.List.{AllByRecursion, list_all, All}
-use Rattle.std.specs.Char.{encode_utf8}
-use Rattle.std.specs.Str.{all_scalars, bytes_eq}
-use Rattle.std.proofs.lemmas.Bool.Decides.{nat_tests}
-use Rattle.std.proofs.lemmas.Slice.Eq.{bytes_eq-Decides}
-use Rattle.std.proofs.lemmas.Str.{length-encode, len_utf8_bounds}
-use Rattle.std.proofs.lemmas.List.{take-append-drop, length-take, length-drop}
-use Rattle.ut_value.specs.Digits.{digits}
-use Rattle.ut_value.specs.Id.{digit62, is_digit62, is_id, made}
-use Rattle.ut_value.specs.Numerals.{is_within}
-use Rattle.ut_value.specs.Types.{is_choice, is_reference, is_type}
-use Rattle.ut_value.specs.declared.value.FieldType.{FieldType}
-use Rattle.ut_value.specs.declared.value.FieldType.TheVariants as type
-use Rattle.ut_parts.specs.Composed.{FitsItems, FitsType}
-use Rattle.ut_parts.specs.Plain.{FitsText}
-use Rattle.ut_model.specs.Cases.{in_case}
-use Rattle.ut_model.specs.Names.{begins_with_letter, in_stem, is_child_name, is_custom_name, is_stem, is_underscore}
-use Rattle.ut_model.specs.Objects.{record_prefix}
-use Rattle.ut_model.specs.Relationships.{target_of}
-use Rattle.ut_model.specs.SoundSharing.{IsCursor}
-use Rattle.ut_stands.proofs.Names.{MakesIds, drawn_is_id}
+-- Plans that still fit where an object or a field comes.
+use Rattle.std.proofs.Common.{◌≡◌, ◌⊎◌, ℕ, zero, suc, ◌+◌, ◌<◌, ◌≤◌, Bool, true, false, not, ◌&&◌, cond, eqb, IsTrue, List, [], ◌∷◌, ◌++◌, length, Option, Some, None, refl, sym, ap, ◌∙◌, subst, arith, inl, inr}
+use Rattle.std.specs.Prelude.{is_none, is_some, slice_get}
+use Rattle.std.specs.List.{enumerate_from, find}
+use Rattle.std.specs.Option.{option_and_then, option_map}
+use Rattle.std.proofs.lemmas.Bool.{eqb-true}
+use Rattle.ut_model.specs.NewFields.{with_field}
+use Rattle.ut_model.specs.Objects.{object_at, with_object_changed}
+use Rattle.ut_model.specs.Retyping.{job_is_done}
+use Rattle.ut_model.specs.Sound.{IsSound}
+use Rattle.ut_model.specs.SoundJob.{HasSoundJob}
+use Rattle.ut_model.specs.Tenant.{Field, Job, Object, Tenant}
+use Rattle.ut_stands.specs.Entries.{field_in}
+use Rattle.ut_stands.specs.Plan.{FitsPlan, OrgPlan, has_field, slot_count, type_there}
+use Rattle.ut_stands.specs.Records.{is_free, is_other, with_slot}
+use Rattle.ut_stands.proofs.Free.{and_right, free_field, not_true}
+use Rattle.ut_stands.proofs.Kept.{pick, some_is}
+use Rattle.ut_stands.proofs.Placed.{get_changed, get_past, get_push, not_last, placed, there_same}
+use Rattle.ut_stands.proofs.Widened.{eqb_less, eqb_same, get_below}
+use Rattle.ut_value.specs.Values.{valid}
 
-pub both : (a b : Bool) → (a && b) ≡ true → (a ≡ true) × (b ≡ true)
-both true b h = (refl, h)
-both false b h = absurd cc
+-- an object has a field with this number
+abbrev has_in : (field : ℕ) → Option Object → Bool
+has_in f o = is_some (option_and_then (λ (x : Object). slice_get x.fields f) o)
 
-within : (low high n : ℕ) → is_within low high n ≡ true → (low ≤ n) × (n ≤ high)
-within low high n h =
-    let p = both (nat_le low n) (nat_le n high) h in
-    let a : nat_le low n ≡ true = p.0 in
-    let b : nat_le n high ≡ true = p.1 in
-    (grind (arith, nat_tests), grind (arith, nat_tests))
+there_is : {X : Type 0} (x : Option X) → is_some x ≡ true → (y : X) × (x ≡ Some y)
+there_is None e = absurd cc
+there_is (Some y) e = (y, refl)
 
--- ---- texts
+cleft : {X : Type 0} (x : X) → ◌≡◌ {A = Option X} None (Some x) → ⊥
+cleft x e = cc
 
--- at most four bytes a character
-four_each : (cs : List ℕ) → length (encode_utf8_all cs) ≤ 4 * length cs
-four_each [] = omega arith
-four_each (c ∷ cs) = omega (arith, four_each cs, length-append (encode_utf8 c) (encode_utf8_all cs), length-encode c, (len_utf8_bounds c).1)
+-- what is left is of its type under another slot too
+left_placed : (slots : ℕ → ℕ → ℕ) (p : OrgPlan) (t : Tenant) → FitsPlan p t → (j : Job) (i : List ℕ) (v : _) → t.job ≡ Some j → p.left i ≡ Some v → IsTrue (valid (type_there (placed slots p) j) v)
+left_placed slots p t fits j i v at left = subst (λ k. IsTrue (valid k v)) (sym (there_same slots p j j.phase j.outcome)) (fits.left j i v at left)
 
-pub short_fits : (cs : List ℕ) → length cs ≤ 1000 → all_scalars cs ≡ true → FitsText cs
-short_fits cs short scalars = (omega (arith, four_each cs, short), scalars)
+-- ---- an object that is changed but for its fields
 
-abbrev AreAscii : List ℕ → Type 0
-AreAscii cs = AllByRecursion (λ c. c < 128) cs
-
-ascii_scalars : (cs : List ℕ) → AreAscii cs → all_scalars cs ≡ true
-ascii_scalars [] h = refl
-ascii_scalars (c ∷ cs) h =
-    let low : c < 128 = h.0 in
-    let rest = ascii_scalars cs h.1 in
-    grind (arith, nat_tests)
-
-ascii_append : (cs ds : List ℕ) → AreAscii cs → AreAscii ds → AreAscii (cs ++ ds)
-ascii_append [] ds h g = g
-ascii_append (c ∷ cs) ds h g = (h.0, ascii_append cs ds h.1 g)
-
-digit_low : (c : ℕ) → is_digit62 c ≡ true → c < 128
-digit_low c h = grind (arith, nat_tests)
-
-stem_low : (c d : ℕ) → (is_digit62 c || (is_underscore c && is_digit62 d)) ≡ true → c < 128
-stem_low c d h = grind (arith, nat_tests)
-
-stem_ascii : (cs : List ℕ) → in_stem cs ≡ true → AreAscii cs
-stem_ascii [] h = tt
-stem_ascii (c ∷ []) h = (digit_low c h, tt)
-stem_ascii (c ∷ d ∷ cs) h =
-    let p = both (is_digit62 c || (is_underscore c && is_digit62 d)) (in_stem (d ∷ cs)) h in
-    (stem_low c d p.0, stem_ascii (d ∷ cs) p.1)
-
-stem_is : (cs : List ℕ) → is_stem cs ≡ true → (length cs ≤ 40) × AreAscii cs
-unfolding is_stem
-stem_is cs h =
-    let p = both (is_within 1 40 (length cs)) (begins_with_letter cs && in_stem cs) h in
-    let q = both (begins_with_letter cs) (in_stem cs) p.1 in
-    ((within 1 40 (length cs) p.0).1, stem_ascii cs q.1)
-
--- a stem and an ending of three characters
-ended : (cs ending : List ℕ) → length ending ≡ 3 → AreAscii ending → is_stem (take (length cs - 3) cs) ≡ true → bytes_eq (drop (length cs - 3) cs) ending ≡ true → FitsText cs
-ended cs ending three low stem end =
-    let front = take (length cs - 3) cs in
-    let back = drop (length cs - 3) cs in
-    let is : back ≡ ending = (bytes_eq-Decides back ending).0 end in
-    let whole : front ++ back ≡ cs = take-append-drop (length cs - 3) cs in
-    let s = stem_is front stem in
-    let low_back : AreAscii back = subst AreAscii (sym is) low in
-    let size : length cs ≤ 1000 = omega (arith, s.0, sym (length-append front back) ∙ ap length whole, ap length is, three) in
-    short_fits cs size (ascii_scalars cs (subst AreAscii whole (ascii_append front back s.1 low_back)))
-
-pub custom_fits : (cs : List ℕ) → IsTrue (is_custom_name cs) → FitsText cs
-unfolding is_custom_name
-custom_fits cs h =
-    let p = both (is_stem (take (length cs - 3) cs)) (bytes_eq (drop (length cs - 3) cs) (codes "__c")) h in
-    ended cs (codes "__c") refl (omega arith, (omega arith, (omega arith, tt))) p.0 p.1
-
-pub child_fits : (cs : List ℕ) → IsTrue (is_child_name cs) → FitsText cs
-unfolding is_child_name
-child_fits cs h =
-    let p = both (is_stem (take (length cs - 3) cs)) (bytes_eq (drop (length cs - 3) cs) (codes "__r")) h in
-    ended cs (codes "__r") refl (omega arith, (omega arith, (omega arith, tt))) p.0 p.1
-
-pub child_option_fits : (child : Option (List ℕ)) → IsTrue (in_case child true is_child_name) → IfSome child FitsText
-child_option_fits None h = tt
-child_option_fits (Some cs) h = child_fits cs h
-
--- ---- types
-
-choice_fits : (cs : List ℕ) → is_choice cs ≡ true → FitsText cs
-choice_fits cs h =
-    let p = both (all_scalars cs) (is_within 1 40 (length cs)) h in
-    short_fits cs (omega (arith, (within 1 40 (length cs) p.1).1)) p.0
-
-choices_fit : (values : List (List ℕ)) → list_all is_choice values ≡ true → All FitsText values
-choices_fit [] h k d lt = absurd (omega (arith, lt))
-choices_fit (v ∷ vs) h zero d lt = choice_fits v (both (is_choice v) (list_all is_choice vs) h).0
-choices_fit (v ∷ vs) h (suc k) d lt = choices_fit vs (both (is_choice v) (list_all is_choice vs) h).1 k d (omega (arith, lt))
-
--- a type within its bounds, whose target, if it has one, is an object of few
-pub type_fits : (kind : FieldType) (objects : ℕ) → objects ≤ 100 → is_type kind ≡ true → in_case (target_of kind) true (λ n. nat_lt n objects) ≡ true → FitsType kind
-type_fits (type.Text most) objects few h g = omega (arith, (within 1 255 most h).1)
-type_fits (type.Number digits decimals) objects few h g =
-    let p = both (is_within 1 18 digits) (nat_le decimals 8 && nat_le decimals digits) h in
-    let q = both (nat_le decimals 8) (nat_le decimals digits) p.1 in
-    let low : nat_le decimals 8 ≡ true = q.0 in
-    (omega (arith, (within 1 18 digits p.0).1), grind (arith, nat_tests))
-type_fits type.Checkbox objects few h g = tt
-type_fits type.Day objects few h g = tt
-type_fits type.Moment objects few h g = tt
-type_fits (type.Picklist values) objects few h g =
-    let p = both (is_within 1 100 (length values)) _ h in
-    let q = both (list_all is_choice values) _ p.1 in
-    (omega (arith, (within 1 100 (length values) p.0).1), choices_fit values q.0)
-type_fits (type.Lookup object on_delete) objects few h g =
-    let lt : nat_lt object objects ≡ true = g in
-    grind (arith, nat_tests)
-type_fits (type.Master object) objects few h g =
-    let lt : nat_lt object objects ≡ true = g in
-    grind (arith, nat_tests)
-
--- a type that is no reference
-pub plain_type_fits : (kind : FieldType) → is_type kind ≡ true → is_reference kind ≡ false → FitsType kind
-plain_type_fits (type.Lookup object on_delete) h g = absurd cc
-plain_type_fits (type.Master object) h g = absurd cc
-plain_type_fits kind h g = type_fits kind 0 (omega arith) h refl
-
--- ---- ids
-
-digit_is : (d : ℕ) → d < 62 → is_digit62 (digit62 d) ≡ true
-digit_is d h = grind (arith, nat_tests)
-
-prefix_size : (n : ℕ) → length (record_prefix n) ≡ 3
-unfolding record_prefix digits
-prefix_size n = refl
-
-prefix_digits : (n : ℕ) → IsTrue (list_all is_digit62 (record_prefix n))
-unfolding record_prefix digits
-prefix_digits n = two (digit62 (n / 62 ^ 1 % 62)) (digit62 (n / 62 ^ 0 % 62)) (digit_is (n / 62 ^ 1 % 62) (omega arith)) (digit_is (n / 62 ^ 0 % 62) (omega arith))
+pub fits_changed : (p : OrgPlan) (t : Tenant) (n : ℕ) (change : Object → Object) → ((o : Object) → (change o).fields ≡ o.fields) → FitsPlan p t → FitsPlan p (with_object_changed n change t)
+fits_changed p t n change same fits = record {
+  below = λ m f has. fits.below m f (kept m f has);
+  differ = λ m f g hf hg e. fits.differ m f g (kept m f hf) (kept m g hg) e;
+  other = fits.other;
+  apart = λ j at busy f has e. fits.apart j at busy f (kept j.object f has) e;
+  was = fits.was;
+  left = fits.left;
+}
   where
-    two : (a b : ℕ) → is_digit62 a ≡ true → is_digit62 b ≡ true → list_all is_digit62 (97 ∷ a ∷ b ∷ []) ≡ true
-    two a b h g = rw h (rw g refl)
+    has_same : (m f : ℕ) (o : Option Object) → has_in f (option_map (λ (x : Object). cond (eqb m n) (change x) x) o) ≡ has_in f o
+    has_same m f None = refl
+    has_same m f (Some o) = pick (eqb m n) (λ b. is_some (slice_get (cond b (change o) o).fields f) ≡ is_some (slice_get o.fields f)) (λ _. ap (λ (fs : List Field). is_some (slice_get fs f)) (same o)) (λ _. refl)
 
-pub cursor_is_id : MakesIds → (counter n : ℕ) (cursor : Option (List ℕ)) → IsCursor counter n cursor → IfSome cursor (λ i. IsTrue (is_id i))
-cursor_is_id makes counter n None h = tt
-cursor_is_id makes counter n (Some i) h = drawn_is_id makes (record_prefix n) counter i (prefix_size n) (prefix_digits n) h
+    kept : (m f : ℕ) → IsTrue (has_field (with_object_changed n change t) m f) → IsTrue (has_field t m f)
+    kept m f has = sym (has_same m f (object_at t m)) ∙ sym (ap (has_in f) (get_changed n change t.objects m)) ∙ has
+
+-- ---- one more object
+
+module _ (p : OrgPlan) (t : Tenant) (o : Object) (s : ℕ) (sound : IsSound t) (below : s < slot_count) (few : length o.fields ≤ 1) (fits : FitsPlan p t) where
+  abbrev next : Tenant
+  next = record t { objects = t.objects ++ o ∷ [] }
+
+  abbrev plan : OrgPlan
+  plan = with_slot (length t.objects) 0 s p
+
+  -- a field of before, or the first of the new object
+  old_or_new : (m f : ℕ) → IsTrue (has_field next m f) → IsTrue (has_field t m f) ⊎ ((m ≡ length t.objects) × (f ≡ 0))
+  old_or_new m f has =
+      pick (eqb m (length t.objects)) (λ b. has_in f (cond b (Some o) (slice_get t.objects m)) ≡ true → IsTrue (has_field t m f) ⊎ ((m ≡ length t.objects) × (f ≡ 0)))
+      (λ is there.
+      let (x, at) = there_is (slice_get o.fields f) there in
+      inr (eqb-true m (length t.objects) is, omega (arith, few, get_below o.fields f x at)))
+      (λ _ there. inl there)
+      (sym (ap (has_in f) (get_push t.objects o m)) ∙ has)
+
+  old_apart : (m f : ℕ) → IsTrue (has_field t m f) → eqb m (length t.objects) ≡ false
+  old_apart m f has = by (object_at t m) refl
+    where
+      by : (x : Option Object) → object_at t m ≡ x → eqb m (length t.objects) ≡ false
+      by None gone = absurd (no_field (sym (ap (has_in f) gone) ∙ has))
+        where
+          no_field : false ≡ true → ⊥
+          no_field e = cc
+      by (Some x) at = not_last t m x at
+
+  old_slot : (m f : ℕ) → IsTrue (has_field t m f) → plan.slot m f ≡ p.slot m f
+  old_slot m f has = rw (old_apart m f has) refl
+
+  new_slot : (m f : ℕ) → (m ≡ length t.objects) × (f ≡ 0) → plan.slot m f ≡ s
+  new_slot m f (e, z) = rw (e, z, eqb_same (length t.objects)) refl
+
+  mixed : (m f : ℕ) → IsTrue (has_field t m f) → m ≡ length t.objects → ⊥
+  mixed m f has e = clash (sym (old_apart m f has) ∙ ap (λ (x : ℕ). eqb x (length t.objects)) e ∙ eqb_same (length t.objects))
+    where
+      clash : false ≡ true → ⊥
+      clash e = cc
+
+  pub fits_object : FitsPlan plan next
+  fits_object = record {
+    below = λ m f has. below_by m f (old_or_new m f has);
+    differ = λ m f g hf hg e. differ_by m f g (old_or_new m f hf) (old_or_new m g hg) e;
+    other = fits.other;
+    apart = λ j at busy f has e. apart_by j at busy f (old_or_new j.object f has) e;
+    was = fits.was;
+    left = λ j i v at left. left_placed plan.slot p t fits j i v at left;
+  }
+    where
+      below_by : (m f : ℕ) → IsTrue (has_field t m f) ⊎ ((m ≡ length t.objects) × (f ≡ 0)) → plan.slot m f < slot_count
+      below_by m f (inl has) = subst (λ (x : ℕ). x < slot_count) (sym (old_slot m f has)) (fits.below m f has)
+      below_by m f (inr new) = subst (λ (x : ℕ). x < slot_count) (sym (new_slot m f new)) below
+
+      differ_by : (m f g : ℕ) → IsTrue (has_field t m f) ⊎ ((m ≡ length t.objects) × (f ≡ 0)) → IsTrue (has_field t m g) ⊎ ((m ≡ length t.objects) × (g ≡ 0)) → plan.slot m f ≡ plan.slot m g → f ≡ g
+      differ_by m f g (inl hf) (inl hg) e = fits.differ m f g hf hg (sym (old_slot m f hf) ∙ e ∙ old_slot m g hg)
+      differ_by m f g (inl hf) (inr new) e = absurd (mixed m f hf new.0)
+      differ_by m f g (inr new) (inl hg) e = absurd (mixed m g hg new.0)
+      differ_by m f g (inr a) (inr b) e = a.1 ∙ sym b.1
+
+      -- a change is of an object of before
+      job_there : (j : Job) → t.job ≡ Some j → j.object ≡ length t.objects → ⊥
+      job_there j at e = by (object_at t j.object) refl
+        where
+          sj : HasSoundJob t.counter t.objects t.records (Some j)
+          sj = subst (λ (x : Option Job). HasSoundJob t.counter t.objects t.records x) at sound.job
+
+          by : (x : Option Object) → object_at t j.object ≡ x → ⊥
+          by None gone = cleft sj.field (sym (ap (option_and_then (λ (x : Object). slice_get x.fields j.field)) gone) ∙ sj.there)
+          by (Some x) there = cleft x (sym (get_past t.objects) ∙ sym (ap (slice_get t.objects) e) ∙ there)
+
+      apart_by : (j : Job) → t.job ≡ Some j → job_is_done j.phase ≡ false → (f : ℕ) → IsTrue (has_field t j.object f) ⊎ ((j.object ≡ length t.objects) × (f ≡ 0)) → plan.slot j.object f ≡ p.other → ⊥
+      apart_by j at busy f (inl has) e = fits.apart j at busy f has (sym (old_slot j.object f has) ∙ e)
+      apart_by j at busy f (inr new) e = job_there j at new.0
+
+-- ---- one more field
+
+module _ (p : OrgPlan) (t : Tenant) (n : ℕ) (o : Object) (f : Field) (s : ℕ) (here : object_at t n ≡ Some o) (below : s < slot_count) (vacant : IsTrue (is_free p t.job n o s)) (fits : FitsPlan p t) where
+  abbrev wide : Tenant
+  wide = with_field n f t
+
+  abbrev wide_plan : OrgPlan
+  wide_plan = with_slot n (length o.fields) s p
+
+  abbrev IsNew : ℕ → ℕ → Type 0
+  IsNew m g = (m ≡ n) × (g ≡ length o.fields)
+
+  one_of : (m g : ℕ) (x : Option Object) → object_at t m ≡ x → has_in g (option_map (λ (y : Object). cond (eqb m n) (record y { fields = y.fields ++ f ∷ [] }) y) x) ≡ true → IsTrue (has_in g x) ⊎ IsNew m g
+  one_of m g None at has = absurd cc
+  one_of m g (Some x) at has =
+      pick (eqb m n) (λ b. is_some (slice_get (cond b (record x { fields = x.fields ++ f ∷ [] }) x).fields g) ≡ true → IsTrue (has_in g (Some x)) ⊎ IsNew m g)
+      (λ is there.
+      let same : m ≡ n = eqb-true m n is in
+      let object : x ≡ o = some_is x o (sym at ∙ ap (slice_get t.objects) same ∙ here) in
+      pick (eqb g (length x.fields)) (λ b. is_some (cond b (Some f) (slice_get x.fields g)) ≡ true → IsTrue (has_in g (Some x)) ⊎ IsNew m g)
+      (λ end _. inr (same, eqb-true g (length x.fields) end ∙ ap (λ (y : Object). length y.fields) object))
+      (λ _ old. inl old)
+      (sym (ap is_some (get_push x.fields f g)) ∙ there))
+      (λ _ there. inl there)
+      has
+
+  each : (m g : ℕ) → IsTrue (has_field wide m g) → IsTrue (has_field t m g) ⊎ IsNew m g
+  each m g has = one_of m g (object_at t m) refl (sym (ap (has_in g) (get_changed n (λ (y : Object). record y { fields = y.fields ++ f ∷ [] }) t.objects m)) ∙ has)
+
+  -- a field of this object is one of its list
+  listed : (g : ℕ) → IsTrue (has_field t n g) → (x : Field) × (slice_get o.fields g ≡ Some x)
+  listed g has = there_is (slice_get o.fields g) (sym (ap (has_in g) here) ∙ has)
+
+  same_slot : (m g : ℕ) → IsTrue (has_field t m g) → wide_plan.slot m g ≡ p.slot m g
+  same_slot m g has =
+      pick (eqb m n) (λ b. cond (b && eqb g (length o.fields)) s (p.slot m g) ≡ p.slot m g)
+      (λ is.
+      let (x, at) = listed g (subst (λ (i : ℕ). IsTrue (has_field t i g)) (eqb-true m n is) has) in
+      rw (eqb_less g (length o.fields) (get_below o.fields g x at)) refl)
+      (λ _. refl)
+
+  last_slot : (m g : ℕ) → IsNew m g → wide_plan.slot m g ≡ s
+  last_slot m g (e, l) = rw (e, l, eqb_same n, eqb_same (length o.fields)) refl
+
+  -- no field of before has the free slot
+  unnamed : (xs : List Field) (a g : ℕ) (x : Field) → find (λ (y : ℕ × Field). eqb (p.slot n y.0) s) (enumerate_from a xs) ≡ None → slice_get xs g ≡ Some x → (b : ℕ) → b ≡ a + g → eqb (p.slot n b) s ≡ false
+  unnamed [] a g x none at b is = absurd cc
+  unnamed (y ∷ xs) a zero x none at b is =
+      subst (λ (c : ℕ). eqb (p.slot n c) s ≡ false) (first is)
+      (pick (eqb (p.slot n a) s) (λ d. ◌≡◌ {A = Option (ℕ × Field)} (cond d (Some (a, y)) (find (λ (y : ℕ × Field). eqb (p.slot n y.0) s) (enumerate_from (a + 1) xs))) None → d ≡ false)
+      (λ _ e. absurd (cleft (a, y) (sym e)))
+      (λ _ _. refl)
+      none)
+    where
+      first : b ≡ a + 0 → a ≡ b
+      first is = omega (arith, is)
+  unnamed (y ∷ xs) a (suc g) x none at b is =
+      unnamed xs (a + 1) g x
+      (pick (eqb (p.slot n a) s) (λ d. ◌≡◌ {A = Option (ℕ × Field)} (cond d (Some (a, y)) (find (λ (y : ℕ × Field). eqb (p.slot n y.0) s) (enumerate_from (a + 1) xs))) None → find (λ (y : ℕ × Field). eqb (p.slot n y.0) s) (enumerate_from (a + 1) xs) ≡ None)
+      (λ _ e. absurd (cleft (a, y) (sym e)))
+      (λ _ e. e)
+      none)
+      at b (omega (arith, is))
+
+  clash : {b : Bool} → b ≡ false → b ≡ true → ⊥
+  clash f t = differ (sym f ∙ t)
+    where
+      differ : false ≡ true → ⊥
+      differ e = cc
+
+  vacant_slot : (g : ℕ) → IsTrue (has_field t n g) → p.slot n g ≡ s → ⊥
+  vacant_slot g has e =
+      let (x, at) = listed g has in
+      clash (unnamed o.fields 0 g x (free_field p t.job n o s vacant) at g (omega arith)) (ap (λ (c : ℕ). eqb c s) e ∙ eqb_same s)
+
+  pub fits_field : FitsPlan wide_plan wide
+  fits_field = record {
+    below = λ m g has. below_by m g (each m g has);
+    differ = λ m g h hg hh e. differ_by m g h (each m g hg) (each m h hh) e;
+    other = fits.other;
+    apart = λ j at busy g has e. apart_by j at busy g (each j.object g has) e;
+    was = fits.was;
+    left = λ j i v at left. left_placed wide_plan.slot p t fits j i v at left;
+  }
+    where
+      below_by : (m g : ℕ) → IsTrue (has_field t m g) ⊎ IsNew m g → wide_plan.slot m g < slot_count
+      below_by m g (inl has) = subst (λ (x : ℕ). x < slot_count) (sym (same_slot m g has)) (fits.below m g has)
+      below_by m g (inr new) = subst (λ (x : ℕ). x < slot_count) (sym (last_slot m g new)) below
+
+      -- a field of before and the new one have two slots
+      two : (m g h : ℕ) → IsTrue (has_field t m g) → IsNew m h → wide_plan.slot m g ≡ wide_plan.slot m h → ⊥
+      two m g h has new e =
+          vacant_slot g (subst (λ (i : ℕ). IsTrue (has_field t i g)) new.0 has)
+          (ap (λ (i : ℕ). p.slot i g) (sym new.0) ∙ sym (same_slot m g has) ∙ e ∙ last_slot m h new)
+
+      differ_by : (m g h : ℕ) → IsTrue (has_field t m g) ⊎ IsNew m g → IsTrue (has_field t m h) ⊎ IsNew m h → wide_plan.slot m g ≡ wide_plan.slot m h → g ≡ h
+      differ_by m g h (inl hg) (inl hh) e = fits.differ m g h hg hh (sym (same_slot m g hg) ∙ e ∙ same_slot m h hh)
+      differ_by m g h (inl hg) (inr new) e = absurd (two m g h hg new e)
+      differ_by m g h (inr new) (inl hh) e = absurd (two m h g hh new (sym e))
+      differ_by m g h (inr a) (inr b) e = a.1 ∙ sym b.1
+
+      apart_by : (j : Job) → t.job ≡ Some j → job_is_done j.phase ≡ false → (g : ℕ) → IsTrue (has_field t j.object g) ⊎ IsNew j.object g → wide_plan.slot j.object g ≡ p.other → ⊥
+      apart_by j at busy g (inl has) e = fits.apart j at busy g has (sym (same_slot j.object g has) ∙ e)
+      apart_by j at busy g (inr new) e =
+          let its : p.other ≡ s = sym e ∙ last_slot j.object g new in
+          clash
+          (subst (λ (x : Option Job). is_other p x n s ≡ false) at (not_true (is_other p t.job n s) (and_right (is_none (field_in p n o.fields s)) (not (is_other p t.job n s)) vacant)))
+          (other_is j busy new.0 its)
+        where
+          other_is : (j : Job) → job_is_done j.phase ≡ false → j.object ≡ n → p.other ≡ s → is_other p (Some j) n s ≡ true
+          other_is j busy o e = rw (busy, o, e, eqb_same n, eqb_same s) refl

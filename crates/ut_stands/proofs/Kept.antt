@@ -1,7 +1,7 @@
 -- Records that are kept alike have the same rows.
-use Rattle.std.proofs.Common.{◌≡◌, ℕ, Bool, true, false, cond, IsTrue, List, [], ◌∷◌, map, Option, Some, None, refl, sym, ap, ◌∙◌, subst, inl, inr}
-use Rattle.std.specs.Prelude.{filter, if◌then◌else◌, slice_get}
-use Rattle.std.specs.List.{find}
+use Rattle.std.proofs.Common.{◌≡◌, ℕ, Bool, true, false, cond, List, [], ◌∷◌, map, Option, Some, None, refl, sym, ap, subst, inl, inr}
+use Rattle.std.specs.Prelude.{filter, if◌then◌else◌}
+use Rattle.std.specs.List.{find, range_with_len}
 use Rattle.std.specs.Option.{option_and_then, option_map}
 use Rattle.std.specs.Str.{bytes_eq}
 use Rattle.ut_keys.specs.Forms.{row_bytes}
@@ -9,19 +9,19 @@ use Rattle.ut_keys.specs.Keys.{Key, Data, Index, Unique, Relation}
 use Rattle.ut_keys.specs.Rows.{data_form, unique_form}
 use Rattle.ut_model.specs.declared.record.Record.{Record}
 use Rattle.ut_model.specs.Membership.{Has}
-use Rattle.ut_model.specs.Objects.{is_of, object_at, record_at, records_of}
+use Rattle.ut_model.specs.Objects.{is_of, object_at}
 use Rattle.ut_model.specs.Tenant.{Object, Tenant}
 use Rattle.ut_model.specs.World.{with_id}
 use Rattle.ut_stands.specs.Entries.{Entry, data_of, entry, entry_text, is_indexed, is_reference_to, is_unique, slots_of}
-use Rattle.ut_stands.specs.Plan.{OrgPlan}
+use Rattle.ut_stands.specs.Plan.{OrgPlan, slot_count}
 use Rattle.ut_stands.specs.Records.{Alike, KeptAlike, object_of_records}
 use Rattle.ut_stands.specs.Stands.{Kept, kept_at, kept_in, row_in, row_where, unique_at, unique_of}
 
-pick : (b : Bool) (P : Bool → Type 0) → (b ≡ true → P true) → (b ≡ false → P false) → P b
+pub pick : (b : Bool) (P : Bool → Type 0) → (b ≡ true → P true) → (b ≡ false → P false) → P b
 pick true P f g = f refl
 pick false P f g = g refl
 
-some_is : {A : Type 0} (x y : A) → ◌≡◌ {A = Option A} (Some x) (Some y) → x ≡ y
+pub some_is : {A : Type 0} (x y : A) → ◌≡◌ {A = Option A} (Some x) (Some y) → x ≡ y
 some_is x y e = cc
 
 -- ---- one record
@@ -32,13 +32,13 @@ map_same f g h (x ∷ xs) = rw (h x, map_same f g h xs) refl
 
 slots_same : (e f : ℕ → Option Entry) → ((s : ℕ) → Alike (e s) (f s)) → slots_of e ≡ slots_of f
 unfolding slots_of
-slots_same e f h = map_same (λ s. entry_text (e s)) (λ s. entry_text (f s)) (λ s. (h s).text) _
+slots_same e f h = map_same (λ s. entry_text (e s)) (λ s. entry_text (f s)) (λ s. (h s).text) (range_with_len 0 slot_count)
 
 data_same : (org n : ℕ) (k l : Kept) → KeptAlike k l → data_of org n k.item k.entries ≡ data_of org n l.item l.entries
 data_same org n k l h = rw (h.id, h.name, h.owner, h.created, h.modified, slots_same k.entries l.entries h.entries) refl
 
 -- two records that may be missing
-KeptSame : Option Kept → Option Kept → Type 0
+abbrev KeptSame : Option Kept → Option Kept → Type 0
 KeptSame None None = Unit {0}
 KeptSame (Some k) (Some l) = KeptAlike k l
 KeptSame _ _ = ⊥
@@ -68,14 +68,17 @@ module _ (p q : OrgPlan) (t u : Tenant) (n : ℕ) (o v : Object) (change : Recor
   of_same r = rw (ids r) refl
 
   -- the one with an id, if it is of the object
-  found : (rs : List Record) (id : List ℕ) → AllAlike rs
-      → KeptSame (option_and_then (λ r. if is_of n r then Some (kept_in q u n v r) else None) (with_id (λ r. r.id) (map change rs) id))
-      (option_and_then (λ r. if is_of n r then Some (kept_in p t n o r) else None) (with_id (λ r. r.id) rs id))
+  abbrev of_new : Option Record → Option Kept
+  of_new x = option_and_then (λ (r : Record). if is_of n r then Some (kept_in q u n v r) else None) x
+
+  abbrev of_old : Option Record → Option Kept
+  of_old x = option_and_then (λ (r : Record). if is_of n r then Some (kept_in p t n o r) else None) x
+
+  found : (rs : List Record) (id : List ℕ) → AllAlike rs → KeptSame (of_new (with_id (λ r. r.id) (map change rs) id)) (of_old (with_id (λ r. r.id) rs id))
   found [] id all = tt
   found (r ∷ rs) id all =
-      rw (ids r)
-      (pick (bytes_eq id r.id) (λ b. KeptSame (option_and_then (λ r. if is_of n r then Some (kept_in q u n v r) else None) (cond b (Some (change r)) (with_id (λ r. r.id) (map change rs) id)))
-      (option_and_then (λ r. if is_of n r then Some (kept_in p t n o r) else None) (cond b (Some r) (with_id (λ r. r.id) rs id))))
+      subst (λ (i : List ℕ). KeptSame (of_new (cond (bytes_eq id i) (Some (change r)) (with_id (λ r. r.id) (map change rs) id))) (of_old (cond (bytes_eq id r.id) (Some r) (with_id (λ r. r.id) rs id)))) (sym (ids r))
+      (pick (bytes_eq id r.id) (λ b. KeptSame (of_new (cond b (Some (change r)) (with_id (λ r. r.id) (map change rs) id))) (of_old (cond b (Some r) (with_id (λ r. r.id) rs id))))
       (λ _. rw (of_same r) (pick (is_of n r) (λ b. KeptSame (cond b (Some (kept_in q u n v (change r))) None) (cond b (Some (kept_in p t n o r)) None)) (λ e. all r (inl refl) e) (λ _. tt)))
       (λ _. found rs id (λ s h. all s (inr h))))
 
@@ -94,3 +97,64 @@ module _ (p q : OrgPlan) (t u : Tenant) (n : ℕ) (o v : Object) (change : Recor
       (λ _. ap (λ i. Some (row i)) (ids r))
       (λ _. unique_found row slot key rs (λ s h. all s (inr h)))))
       (λ _. unique_found row slot key rs (λ s h. all s (inr h))))
+
+  module _ (here : object_at t n ≡ Some o) (there : object_at u n ≡ Some v) (records : u.records ≡ map change t.records) (all : AllAlike t.records) where
+    kept_same : (id : List ℕ) → KeptSame (kept_at q u n id) (kept_at p t n id)
+    unfolding kept_at
+    kept_same id = rw (here, there, records) (found t.records id all)
+
+    unique_same : (org slot : ℕ) (key : List ℕ)
+        → option_map (λ (r : Record). row_bytes unique_form (unique_of org n slot key r)) (unique_at q u n slot key)
+        ≡ option_map (λ (r : Record). row_bytes unique_form (unique_of org n slot key r)) (unique_at p t n slot key)
+    unique_same org slot key =
+        rw (here, there, records)
+        (unique_found (λ i. row_bytes unique_form (record { org = org; object = n; slot = slot; value = key; id = i })) slot key t.records all)
+
+    pub kept : (k : Key) → object_of_records k ≡ Some n → row_in q u k ≡ row_in p t k
+    unfolding row_in
+    kept (Data org m id) e = subst (λ (j : ℕ). row_in q u (Data org j id) ≡ row_in p t (Data org j id)) (sym (some_is m n e)) (data_row_same org n (kept_at q u n id) (kept_at p t n id) (kept_same id))
+    kept (Index org m slot key id) e =
+        subst (λ (j : ℕ). row_in q u (Index org j slot key id) ≡ row_in p t (Index org j slot key id)) (sym (some_is m n e))
+        (where_same (is_indexed key) slot (kept_at q u n id) (kept_at p t n id) (λ k l h. (h.entries slot).indexed key) (kept_same id))
+    kept (Relation org m slot target id) e =
+        subst (λ (j : ℕ). row_in q u (Relation org j slot target id) ≡ row_in p t (Relation org j slot target id)) (sym (some_is m n e))
+        (where_same (is_reference_to target) slot (kept_at q u n id) (kept_at p t n id) (λ k l h. (h.entries slot).reference target) (kept_same id))
+    kept (Unique org m slot key) e = subst (λ (j : ℕ). row_in q u (Unique org j slot key) ≡ row_in p t (Unique org j slot key)) (sym (some_is m n e)) (unique_same org slot key)
+    kept k e = absurd cc
+
+-- ---- no records
+
+pub nothing : {A B : Type 0} (o : Option A) → ◌≡◌ {A = Option B} (option_and_then (λ (x : A). None) o) None
+nothing None = refl
+nothing (Some x) = refl
+
+module _ (p : OrgPlan) (t : Tenant) (n : ℕ) where
+  abbrev NoneOf : List Record → Type 0
+  NoneOf rs = (r : Record) → Has rs r → is_of n r ≡ false
+
+  none_found : (of : Record → Option Kept) (rs : List Record) (id : List ℕ) → NoneOf rs → option_and_then (λ (r : Record). if is_of n r then of r else None) (with_id (λ r. r.id) rs id) ≡ None
+  none_found of [] id idle = refl
+  none_found of (r ∷ rs) id idle =
+      pick (bytes_eq id r.id) (λ b. option_and_then (λ (r : Record). if is_of n r then of r else None) (cond b (Some r) (with_id (λ r. r.id) rs id)) ≡ None)
+      (λ _. rw (idle r (inl refl)) refl)
+      (λ _. none_found of rs id (λ s h. idle s (inr h)))
+
+  none_of : (rs : List Record) → NoneOf rs → filter (is_of n) rs ≡ []
+  none_of [] idle = refl
+  none_of (r ∷ rs) idle = rw (idle r (inl refl)) (none_of rs (λ s h. idle s (inr h)))
+
+  module _ (idle : NoneOf t.records) where
+    none_at : (id : List ℕ) → kept_at p t n id ≡ None
+    unfolding kept_at
+    none_at id = none_found (λ r. option_map (λ o. kept_in p t n o r) (object_at t n)) t.records id idle
+
+    none_unique : (slot : ℕ) (key : List ℕ) → unique_at p t n slot key ≡ None
+    none_unique slot key = rw (none_of t.records idle) (nothing (object_at t n))
+
+    pub none : (k : Key) → object_of_records k ≡ Some n → row_in p t k ≡ None
+    unfolding row_in
+    none (Data org m id) e = rw (some_is m n e, none_at id) refl
+    none (Index org m slot key id) e = rw (some_is m n e, none_at id) refl
+    none (Relation org m slot target id) e = rw (some_is m n e, none_at id) refl
+    none (Unique org m slot key) e = rw (some_is m n e, none_unique slot key) refl
+    none k e = absurd cc

@@ -3,7 +3,7 @@ pub mod Opened
 pub mod Versions
 pub mod Users
 pub mod Parts
-pub mod Fits
+pub mod Spelled
 pub mod Found
 pub mod Pages
 pub mod Numbered
@@ -13,3 +13,8 @@ pub mod SameNames
 pub mod TwoReads
 pub mod LayoutReads
 pub mod Kept
+pub mod Free
+pub mod Placed
+pub mod Widened
+pub mod Fits
+pub mod Rest

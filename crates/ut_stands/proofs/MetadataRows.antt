@@ -27,7 +27,7 @@ use Rattle.ut_model.specs.Tenant.{Tenant}
 use Rattle.ut_stands.specs.Metadata.{field_of, job_of, object_of}
 use Rattle.ut_stands.specs.Plan.{FitsPlan, OrgPlan, has_field, type_in}
 use Rattle.ut_stands.specs.Stands.{row_in}
-use Rattle.ut_stands.proofs.Fits.{both, child_option_fits, cursor_is_id, custom_fits, plain_type_fits, type_fits}
+use Rattle.ut_stands.proofs.Spelled.{both, child_option_fits, cursor_is_id, custom_fits, plain_type_fits, type_fits}
 use Rattle.ut_stands.proofs.Found.{IsRowOf}
 use Rattle.ut_stands.proofs.Names.{MakesIds}
 

@@ -9,7 +9,7 @@ use Rattle.std.proofs.lemmas.Slice.Eq.{bytes_eq-Decides}
 use Rattle.std.proofs.lemmas.Str.{chars-encodes, encode_ascii}
 use Rattle.ut_model.specs.Fields.{same_name}
 use Rattle.ut_value.specs.Texts.{lower}
-use Rattle.ut_stands.proofs.Fits.{both}
+use Rattle.ut_stands.proofs.Spelled.{both}
 
 map_append : (xs ys : List ℕ) → lower (xs ++ ys) ≡ lower xs ++ lower ys
 map_append [] ys = refl

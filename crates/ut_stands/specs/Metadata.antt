@@ -1,7 +1,7 @@
 -- The rows of an organisation's people and metadata, from the parts of the tenant. Counts are those of its lists.
 -- Source: C. D. Weissman and S. Bobrowski, "The Design of the Force.com Multitenant Internet Application Development
 -- Platform" (SIGMOD 2009): objects and fields are rows of tables too.
-use Rattle.std.specs.Prelude.{ℕ, List, length, encode_utf8_all, bytes_eq, Option, Some, None}
+use Rattle.std.specs.Prelude.{ℕ, List, length, encode_utf8_all, bytes_eq, Option}
 use Rattle.std.specs.List.{find}
 use Rattle.ut_keys.specs.declared.field.FieldRow.{FieldRow}
 use Rattle.ut_keys.specs.declared.group.GroupRow.{GroupRow}
@@ -16,7 +16,6 @@ use Rattle.ut_keys.specs.declared.validation.ValidationRow.{ValidationRow}
 use Rattle.ut_model.specs.Objects.{records_of}
 use Rattle.ut_model.specs.Tenant as model
 use Rattle.ut_model.specs.Tenant.{Field, Group, Job, Object, Role, Share, SharingRule, Source, owned, meets, Tenant, ValidationRule}
-use Rattle.ut_parts.specs.declared.choices.FieldFlags.{FieldFlags}
 use Rattle.ut_stands.specs.Plan.{OrgPlan, type_there}
 use Rattle.ut_value.specs.Texts.{lower}
 use Rattle.ut_value.specs.declared.sharing.RuleSource.{RuleSource}

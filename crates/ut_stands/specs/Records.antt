@@ -1,12 +1,13 @@
 -- The rows of an object's records, and when records are kept in the same rows though plan and tenant change.
 -- Source: as in Entries: indexes, unique values and relationships are rows beside those of the records.
-use Rattle.std.specs.Prelude.{◌≡◌, ℕ, Bool, false, not, ◌&&◌, ◌||◌, ◌==◌, if◌then◌else◌, List, length, Option, Some, None, is_none, IsTrue}
+use Rattle.std.specs.Prelude.{◌≡◌, ℕ, Bool, true, false, not, ◌&&◌, ◌==◌, if◌then◌else◌, List, Option, Some, None, is_none}
 use Rattle.ut_formula.specs.Meaning.{value_at}
-use Rattle.ut_keys.specs.Keys.{Key, Data, Index, Unique, Relation}
+use Rattle.ut_keys.specs.Keys.{Key, Org, Object, Field, Data, Index, Unique, Relation}
 use Rattle.ut_model.specs.Cases.{in_case}
 use Rattle.ut_model.specs.Retyping.{job_is_done}
 use Rattle.ut_model.specs.SoundMetadata.{implies}
-use Rattle.ut_model.specs.Tenant.{Field, Job, Object, Tenant}
+use Rattle.ut_model.specs.Tenant as model
+use Rattle.ut_model.specs.Tenant.{Job}
 use Rattle.ut_stands.specs.Entries.{Entry, entry_text, field_in, is_indexed, is_reference_to, is_unique, name_text}
 use Rattle.ut_stands.specs.Plan.{OrgPlan}
 use Rattle.ut_stands.specs.Stands.{Kept}
@@ -19,6 +20,19 @@ object_of_records (Index org n slot value id) = Some n
 object_of_records (Unique org n slot value) = Some n
 object_of_records (Relation org n slot target id) = Some n
 object_of_records _ = None
+
+-- the key of an organisation's row, of that of an object, and of that of a field
+abbrev pub is_org_key : Key → Bool
+is_org_key (Org org) = true
+is_org_key _ = false
+
+abbrev pub is_object_key : (object : ℕ) → Key → Bool
+is_object_key n (Object org m) = m == n
+is_object_key n _ = false
+
+abbrev pub is_field_key : (object field : ℕ) → Key → Bool
+is_field_key n f (Field org m g) = (m == n) && (g == f)
+is_field_key n f _ = false
 
 -- ---- the same rows
 
@@ -45,7 +59,7 @@ abbrev pub is_other : OrgPlan → Option Job → (object slot : ℕ) → Bool
 is_other p job n s = in_case job false (λ j. not (job_is_done j.phase) && ((j.object == n) && (p.other == s)))
 
 -- no field of the object has this slot, and no change that isn't done
-abbrev pub is_free : OrgPlan → Option Job → (object : ℕ) → Object → (slot : ℕ) → Bool
+abbrev pub is_free : OrgPlan → Option Job → (object : ℕ) → model.Object → (slot : ℕ) → Bool
 is_free p job n o s = is_none (field_in p n o.fields s) && not (is_other p job n s)
 
 -- the plan with this slot for a field
@@ -53,5 +67,5 @@ abbrev pub with_slot : (object field slot : ℕ) → OrgPlan → OrgPlan
 with_slot n f s p = record p { slot = λ m g. if (m == n) && (g == f) then s else p.slot m g }
 
 -- a type for which these flags may be
-abbrev pub suits_flags : Field → Bool
+abbrev pub suits_flags : model.Field → Bool
 suits_flags f = implies f.unique (suits_unique f.kind) && implies f.indexed (suits_indexed f.kind)

@@ -12,6 +12,7 @@ mod layout;
 mod layouts;
 mod opening;
 mod reads;
+mod records;
 
 pub use crate::ending::finish;
 pub use crate::fail::{EditFail, OpenFail};
@@ -21,3 +22,4 @@ pub use crate::layout::{FieldPlace, JobPlace, Layout};
 pub use crate::layouts::{layout_at, same_name};
 pub use crate::opening::{KNOWN_VERSION, open_tables};
 pub use crate::reads::user;
+pub use crate::records::{metadata_laws, record_laws, slot_laws};

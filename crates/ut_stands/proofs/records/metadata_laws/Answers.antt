@@ -1,0 +1,10 @@
+use Rattle.ut_stands.proofs.Rest as rest
+use Rattle.ut_stands.proofs.records.metadata_laws.Goals as goal
+
+pub returns : goal.returns
+returns c = record {
+  object = λ p t o s k sound few unruled w e f. rest.object_rest p t o s sound few unruled k w e f;
+  access = λ p t n access k sound e. rest.access_rest p t n access sound k e;
+  field = λ p t n o f s k sound here vacant suits e g. rest.field_rest p t n o f s sound here vacant suits k e g;
+  counted = rest.counted;
+}

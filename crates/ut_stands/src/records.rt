@@ -1,0 +1,78 @@
+//! The rows of records and the slots of fields, while metadata change.
+
+ghost use Rattle.std.specs.Prelude.{◌≡◌, ◌<◌, ◌≤◌, ℕ, List, [], ◌∷◌, ◌++◌, IsTrue, Option, Some, None, false, length, map as plain_map};
+ghost use Rattle.ut_keys.specs.Keys.{Key};
+ghost use Rattle.ut_model.specs.declared.limit.Limit.TheVariants as limit;
+ghost use Rattle.ut_model.specs.declared.record.Record.{Record};
+ghost use Rattle.ut_model.specs.Limits.{limit_number};
+ghost use Rattle.ut_model.specs.Membership.{Has};
+ghost use Rattle.ut_model.specs.NewFields.{with_field};
+ghost use Rattle.ut_model.specs.Objects.{is_of, object_at, records_of, with_object_changed};
+ghost use Rattle.ut_model.specs.Sound.{IsSound};
+ghost use Rattle.ut_model.specs.Tenant.{Field, Job, Object, Tenant};
+ghost use Rattle.ut_stands.specs.Entries.{entry};
+ghost use Rattle.ut_stands.specs.Plan.{FitsPlan, OrgPlan, slot_count};
+ghost use Rattle.ut_stands.specs.Records.{KeptAlike, is_field_key, is_free, is_object_key, is_org_key, object_of_records, suits_flags, with_slot};
+ghost use Rattle.ut_stands.specs.Stands.{kept_in, row_in};
+ghost use Rattle.ut_value.specs.declared.sharing.Access.{Access};
+
+/// The laws of the rows of records, while plan and tenant change. The call does nothing.
+pub fn record_laws()
+    // An object's records have the same rows where each is kept alike, and none where there are none.
+    ensures kept { (p q : OrgPlan) (t u : Tenant) (n : ℕ) (o v : Object) (change : Record → Record)
+        → object_at t n ≡ Some o → object_at u n ≡ Some v
+        → u.records ≡ plain_map change t.records → ((r : Record) → (change r).id ≡ r.id)
+        → ((r : Record) → Has t.records r → IsTrue (is_of n r) → KeptAlike (kept_in q u n v (change r)) (kept_in p t n o r))
+        → (k : Key) → object_of_records k ≡ Some n → row_in q u k ≡ row_in p t k }
+    ensures none { (p : OrgPlan) (t : Tenant) (n : ℕ) (k : Key)
+        → ((r : Record) → Has t.records r → is_of n r ≡ false) → object_of_records k ≡ Some n → row_in p t k ≡ None }
+
+    // All records keep their rows where an object is changed but for its fields.
+    ensures described { (p : OrgPlan) (t : Tenant) (n : ℕ) (change : Object → Object) (m : ℕ) (k : Key)
+        → IsSound t → ((o : Object) → (change o).fields ≡ o.fields) → object_of_records k ≡ Some m
+        → row_in p (with_object_changed n change t) k ≡ row_in p t k }
+{}
+
+/// The laws of the rows of metadata: which stay where an object, another access, or a field in a free slot comes. The call
+/// does nothing.
+pub fn metadata_laws()
+    // All but the organisation's row, and those of the object and of its first field.
+    ensures object { (p : OrgPlan) (t : Tenant) (o : Object) (s : ℕ) (k : Key)
+        → IsSound t → length o.fields ≤ 1 → o.rules ≡ []
+        → is_org_key k ≡ false → is_object_key (length t.objects) k ≡ false → is_field_key (length t.objects) 0 k ≡ false
+        → row_in (with_slot (length t.objects) 0 s p) (record t { objects = t.objects ++ o ∷ [] }) k ≡ row_in p t k }
+
+    // All but the row of the object.
+    ensures access { (p : OrgPlan) (t : Tenant) (n : ℕ) (access : Access) (k : Key)
+        → IsSound t → is_object_key n k ≡ false
+        → row_in p (with_object_changed n (λ o. record o { access = access }) t) k ≡ row_in p t k }
+
+    // All but the rows of the object and of the field.
+    ensures field { (p : OrgPlan) (t : Tenant) (n : ℕ) (o : Object) (f : Field) (s : ℕ) (k : Key)
+        → IsSound t → object_at t n ≡ Some o → IsTrue (is_free p t.job n o s) → IsTrue (suits_flags f)
+        → is_object_key n k ≡ false → is_field_key n (length o.fields) k ≡ false
+        → row_in (with_slot n (length o.fields) s p) (with_field n f t) k ≡ row_in p t k }
+
+    // A field that comes leaves the number of each object's records.
+    ensures counted { (t : Tenant) (n m : ℕ) (f : Field) → length (records_of (with_field n f t) m) ≡ length (records_of t m) }
+{}
+
+/// The laws of slots. The call does nothing.
+pub fn slot_laws()
+    // Below 48 a slot is free, and nothing is in it.
+    ensures free { (p : OrgPlan) (job : Option Job) (n : ℕ) (o : Object)
+        → length o.fields ≤ limit_number limit.FieldsPerObject → (s : ℕ) × (s < slot_count) × IsTrue (is_free p job n o s) }
+    ensures nothing { (p : OrgPlan) (job : Option Job) (n : ℕ) (o : Object) (r : Record) (s : ℕ)
+        → IsTrue (is_free p job n o s) → entry p job n o r s ≡ None }
+
+    // The plan still fits where an object comes, where one is changed but for its fields, and where a field comes that has a
+    // free slot.
+    ensures object { (p : OrgPlan) (t : Tenant) (o : Object) (s : ℕ)
+        → IsSound t → FitsPlan p t → s < slot_count → length o.fields ≤ 1
+        → FitsPlan (with_slot (length t.objects) 0 s p) (record t { objects = t.objects ++ o ∷ [] }) }
+    ensures described { (p : OrgPlan) (t : Tenant) (n : ℕ) (change : Object → Object)
+        → FitsPlan p t → ((o : Object) → (change o).fields ≡ o.fields) → FitsPlan p (with_object_changed n change t) }
+    ensures field { (p : OrgPlan) (t : Tenant) (n : ℕ) (o : Object) (f : Field) (s : ℕ)
+        → FitsPlan p t → object_at t n ≡ Some o → s < slot_count → IsTrue (is_free p t.job n o s)
+        → FitsPlan (with_slot n (length o.fields) s p) (with_field n f t) }
+{}

@@ -22,7 +22,7 @@ use Rattle.ut_model.specs.Objects.{Numbered, numbered, object_at, object_named}
 use Rattle.ut_model.specs.Tenant as model
 use Rattle.ut_model.specs.Tenant.{Tenant}
 use Rattle.ut_model.specs.World.{World, tenant_at}
-use Rattle.ut_stands.specs.LayoutRows.{ListsBy, field_rows, job_in, job_of_row, layout_by, object_rows, place_of_row, places_in, row_named}
+use Rattle.ut_stands.specs.LayoutRows.{ListsBy, field_rows, job_in, job_of_row, layout_by, layout_by_found, layouts_by, object_rows, place_of_row, places_in, row_named}
 use Rattle.ut_stands.specs.Layouts.{FindsBy, job_on, layout_at, layout_named, layout_of, layouts_of, numbered_at, place_of}
 use Rattle.ut_stands.specs.Metadata.{field_of, job_of, object_of}
 use Rattle.ut_stands.specs.Plan.{OrgPlan, Plan}
@@ -41,6 +41,13 @@ pub err_again : {X Y : Type 0} (v : Plan → World → X) (u : Plan → World �
 err_again v u m Damaged h = h
 err_again v u m Keeper h = tt
 err_again v u m Memory h = tt
+
+-- the same value by other words
+again_by : {X : Type 0} (v u : Plan → World → X) (m : Tables) (r : Result X StoreFail) → ((p : Plan) (w : World) → StandsBy p m w → v p w ≡ u p w) → FindsBy v m r → FindsBy u m r
+again_by v u m (Ok x) same h = λ p w s. h p w s ∙ same p w s
+again_by v u m (Err Damaged) same h = h
+again_by v u m (Err Keeper) same h = tt
+again_by v u m (Err Memory) same h = tt
 
 list_err : {X Y : Type 0} (A : Type 0) (v : Plan → World → List X) (u : Plan → World → Y) (m : Tables) (e : StoreFail) → ListsBy {A = A} v m (Err e) → FindsBy u m (Err e)
 list_err A v u m Damaged h = h
@@ -160,8 +167,83 @@ layout_at_is org n p w = by (tenant_at w org) refl
     by None e = refl
     by (Some t) e = of_object t e (object_at t n) refl
 
-pub at_none : (org n : ℕ) (m : Tables) → FindsBy (row_of org (object_there org n)) m (Ok None) → FindsBy (layout_at org n) m (Ok None)
-at_none org n m h = λ p w s. ap (option_map (layout_in p w)) (h p w s) ∙ layout_at_is org n p w
+pub at_found : (org n : ℕ) (m : Tables) (row : Option ObjectRow) (r : Result (Option Layout) StoreFail) → FindsBy (row_of org (object_there org n)) m (Ok row) → FindsBy (layout_by_found row) m r → FindsBy (layout_at org n) m r
+at_found org n m row r h g = again_by (layout_by_found row) (layout_at org n) m r (λ p w s. ap (option_map (layout_in p w)) (h p w s) ∙ layout_at_is org n p w) g
 
-pub at_found : (org n : ℕ) (m : Tables) (row : ObjectRow) (l : Layout) → FindsBy (row_of org (object_there org n)) m (Ok (Some row)) → FindsBy (layout_by row) m (Ok l) → FindsBy (layout_at org n) m (Ok (Some l))
-at_found org n m row l h g = λ p w s. ap Some (g p w s) ∙ ap (option_map (layout_in p w)) (h p w s) ∙ layout_at_is org n p w
+-- what is found by a name
+module _ (org : ℕ) (p : Plan) (w : World) (t : Tenant) (e : tenant_at w org ≡ Some t) where
+  abbrev row_from : ℕ × model.Object → ObjectRow
+  row_from x = object_of org t x.0 x.1
+
+  abbrev as_numbered : ℕ × model.Object → Numbered
+  as_numbered x = record { number = x.0; object = x.1 }
+
+  -- these are the tenant's objects from a number on
+  abbrev AreFrom : ℕ → List model.Object → Type 0
+  AreFrom k os = (i : ℕ) (o : model.Object) → slice_get os i ≡ Some o → object_at t (k + i) ≡ Some o
+
+  first_from : (k : ℕ) (o : model.Object) (os : List model.Object) → AreFrom k (o ∷ os) → object_at t k ≡ Some o
+  first_from k o os h = subst (λ (n : ℕ). object_at t n ≡ Some o) (omega arith) (h 0 o refl)
+
+  rest_from : (k : ℕ) (o : model.Object) (os : List model.Object) → AreFrom k (o ∷ os) → AreFrom (k + 1) os
+  rest_from k o os h i x there = subst (λ (n : ℕ). object_at t n ≡ Some x) (omega arith) (h (suc i) x there)
+
+  named_from : (name : List ℕ) (k : ℕ) (os : List model.Object) → AreFrom k os
+      → option_map (layout_in p w) (find (λ (r : ObjectRow). same_name r.name name) (map row_from (enumerate_from k os)))
+      ≡ option_map (layout_of org (p.org org) t) (find (λ (o : Numbered). same_name o.object.name name) (map as_numbered (enumerate_from k os)))
+  named_from name k [] h = refl
+  named_from name k (o ∷ os) h = by (same_name o.name name) (named_from name (k + 1) os (rest_from k o os h))
+    where
+      by : (b : Bool) → option_map (layout_in p w) (find (λ (r : ObjectRow). same_name r.name name) (map row_from (enumerate_from (k + 1) os)))
+          ≡ option_map (layout_of org (p.org org) t) (find (λ (o : Numbered). same_name o.object.name name) (map as_numbered (enumerate_from (k + 1) os)))
+          → option_map (layout_in p w) (cond b (Some (object_of org t k o)) (find (λ (r : ObjectRow). same_name r.name name) (map row_from (enumerate_from (k + 1) os))))
+          ≡ option_map (layout_of org (p.org org) t) (cond b (Some (record { number = k; object = o })) (find (λ (o : Numbered). same_name o.object.name name) (map as_numbered (enumerate_from (k + 1) os))))
+      by true later = ap Some (by_row org p w t k o e (first_from k o os h))
+      by false later = later
+
+  all_from : (k : ℕ) (os : List model.Object) → AreFrom k os → map (layout_in p w) (map row_from (enumerate_from k os)) ≡ map (layout_of org (p.org org) t) (map as_numbered (enumerate_from k os))
+  all_from k [] h = refl
+  all_from k (o ∷ os) h =
+      let here = by_row org p w t k o e (first_from k o os h) in
+      let later = all_from (k + 1) os (rest_from k o os h) in
+      λ i. here i ∷ later i
+
+  are_all : AreFrom 0 t.objects
+  are_all i o there = subst (λ (n : ℕ). object_at t n ≡ Some o) (omega arith) there
+
+layout_named_is : (org : ℕ) (name : List ℕ) (p : Plan) (w : World) → option_map (layout_in p w) (row_named name (object_rows org p w)) ≡ layout_named org name p w
+unfolding layout_named object_named object_rows
+layout_named_is org name p w = by (tenant_at w org) refl
+  where
+    by : (o : Option Tenant) → tenant_at w org ≡ o → option_map (layout_in p w) (row_named name (in_case o [] (λ t. map (λ (x : ℕ × model.Object). object_of org t x.0 x.1) (enumerate_from 0 t.objects))))
+        ≡ option_and_then (λ t. option_map (layout_of org (p.org org) t) (find (λ (o : Numbered). same_name o.object.name name) (numbered t.objects))) o
+    by None e = refl
+    by (Some t) e = named_from org p w t e name 0 t.objects (are_all org p w t e)
+
+pub named_found : (org : ℕ) (name : List ℕ) (m : Tables) (rows : List ObjectRow) (r : Result (Option Layout) StoreFail)
+    → ((p : Plan) (w : World) → StandsBy p m w → rows ≡ object_rows org p w) → FindsBy (layout_by_found (row_named name rows)) m r → FindsBy (layout_named org name) m r
+named_found org name m rows r h g =
+    again_by (layout_by_found (row_named name rows)) (layout_named org name) m r (λ p w s. ap (λ (x : List ObjectRow). option_map (layout_in p w) (row_named name x)) (h p w s) ∙ layout_named_is org name p w) g
+
+layouts_are : (org : ℕ) (p : Plan) (w : World) → map (layout_in p w) (object_rows org p w) ≡ layouts_of org p w
+unfolding layouts_of object_rows
+layouts_are org p w = by (tenant_at w org) refl
+  where
+    by : (o : Option Tenant) → tenant_at w org ≡ o → map (layout_in p w) (in_case o [] (λ t. map (λ (x : ℕ × model.Object). object_of org t x.0 x.1) (enumerate_from 0 t.objects)))
+        ≡ in_case o [] (λ t. map (layout_of org (p.org org) t) (numbered t.objects))
+    by None e = refl
+    by (Some t) e = all_from org p w t e 0 t.objects (are_all org p w t e)
+
+pub layouts_found : (org : ℕ) (m : Tables) (rows : List ObjectRow) (r : Result (List Layout) StoreFail)
+    → ((p : Plan) (w : World) → StandsBy p m w → rows ≡ object_rows org p w) → FindsBy (layouts_by rows) m r → FindsBy (layouts_of org) m r
+layouts_found org m rows r h g =
+    again_by (layouts_by rows) (layouts_of org) m r (λ p w s. ap (map (layout_in p w)) (h p w s) ∙ layouts_are org p w) g
+
+-- one layout more
+map_append : {X Y : Type 0} (f : X → Y) (xs : List X) (x : X) → map f (xs ++ x ∷ []) ≡ map f xs ++ f x ∷ []
+map_append f [] x = refl
+map_append f (y ∷ xs) x = ap (λ (zs : List _). f y ∷ zs) (map_append f xs x)
+
+pub more_layouts : (p : Plan) (w : World) (rows : List ObjectRow) (row : ObjectRow) (all after : List Layout) (l : Layout) → after ≡ all ++ l ∷ [] → all ≡ layouts_by rows p w → l ≡ layout_by row p w → after ≡ layouts_by (rows ++ row ∷ []) p w
+more_layouts p w rows row all after l is old new =
+    is ∙ ap (λ (x : List Layout). x ++ l ∷ []) old ∙ ap (λ (x : Layout). layouts_by rows p w ++ x ∷ []) new ∙ sym (map_append (layout_in p w) rows row)

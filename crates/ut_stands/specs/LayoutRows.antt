@@ -1,7 +1,7 @@
 -- How layouts are made of rows: words of the functions that read them.
 use Rattle.std.specs.Prelude.{◌≡◌, ℕ, ◌==◌, if◌then◌else◌, List, [], map, Option, Some, None, Result, Ok, Err, Vec}
 use Rattle.std.specs.List.{enumerate_from, find}
-use Rattle.std.specs.Option.{option_and_then}
+use Rattle.std.specs.Option.{option_and_then, option_map}
 use Rattle.ut_keeper.specs.Tables.{Tables}
 use Rattle.ut_keys.specs.declared.fail.StoreFail.{StoreFail}
 use Rattle.ut_keys.specs.declared.fail.StoreFail.TheVariants.{Keeper, Memory, Damaged}
@@ -83,3 +83,10 @@ layout_by r p w =
       fields = places_in r.org r.object p w;
       job = job_in r.org r.object p w;
     }
+
+-- the same, if there is a row, and of several
+abbrev pub layout_by_found : Option ObjectRow → Plan → World → Option Layout
+layout_by_found row p w = option_map (λ r. layout_by r p w) row
+
+abbrev pub layouts_by : List ObjectRow → Plan → World → List Layout
+layouts_by rows p w = map (λ r. layout_by r p w) rows

@@ -2,7 +2,7 @@ use Rattle.std.proofs.Common.{arith}
 use Rattle.ut_keeper.specs.Draft.{tables_of}
 use Rattle.ut_stands.proofs.LayoutReads.{objects_read}
 use Rattle.ut_stands.proofs.MetadataLists.{KeyLaws}
-use Rattle.ut_stands.proofs.layouts.objects_of.Goals as goal
+use Rattle.ut_stands.proofs.layout_reads.objects_of.Goals as goal
 
 pub returns-clause-finds : goal.returns-clause-finds
 returns-clause-finds g c told =

@@ -6,7 +6,7 @@ ghost use Rattle.ut_keeper.specs.Draft.{DraftReads, DraftTells, state_of, tables
 ghost use Rattle.ut_keeper.specs.State.{KeeperCause, StaysAfter};
 ghost use Rattle.ut_keys.specs.declared.fail.StoreFail.TheVariants.{Keeper};
 ghost use Rattle.ut_model.specs.Fields.{same_name};
-ghost use Rattle.ut_stands.specs.LayoutRows.{ListsBy, job_in, job_of_row, layout_by, object_rows, place_of_row, places_in, row_named};
+ghost use Rattle.ut_stands.specs.LayoutRows.{ListsBy, job_in, job_of_row, layout_by, layout_by_found, layouts_by, object_rows, place_of_row, places_in, row_named};
 ghost use Rattle.ut_stands.specs.Layouts.{FindsBy, layout_at, layout_named, layouts_of};
 
 use crate::layout::{FieldPlace, JobPlace, Layout};
@@ -160,6 +160,28 @@ fn row_named(rows: Vec<ObjectRow>, name: &str) -> Option<ObjectRow>
         .find(|row| same_name(row.name.as_str(), name))
 }
 
+// The layout of an object, if there is one, from its row.
+fn layout_of_found<K: Keeper>(
+    alloc: Global,
+    draft: &mut Draft<'_, K>,
+    row: Option<ObjectRow>,
+) -> Result<Option<Layout>, StoreFail>
+    ensures finds { DraftTells K.state draft.old draft.new
+        → FindsBy (layout_by_found row) (tables_of K.state draft.old) result }
+    ensures reads { DraftReads K.state 0 draft.old draft.new }
+    ensures stays { StaysAfter (is_ok result) (state_of K.state draft.old) (state_of K.state draft.new) }
+    ensures cause { KeeperCause (state_of K.state draft.old) (state_of K.state draft.new) (IsErrOf result Keeper) }
+{
+    draft_laws::<K>();
+    match row {
+        None => Ok(None),
+        Some(row) => match layout_of_row(alloc, draft, row) {
+            Ok(layout) => Ok(Some(layout)),
+            Err(fail) => Err(fail),
+        },
+    }
+}
+
 /// The layout of the object with this number, if there is one.
 ///
 /// # Errors
@@ -179,12 +201,70 @@ pub fn layout_at<K: Keeper>(
 {
     row_laws::<ObjectRow>();
     draft_laws::<K>();
-    match row_at::<ObjectRow, K>(alloc, draft, &(org, object)) {
-        Ok(None) => Ok(None),
-        Ok(Some(row)) => match layout_of_row(alloc, draft, row) {
-            Ok(layout) => Ok(Some(layout)),
-            Err(fail) => Err(fail),
-        },
-        Err(fail) => Err(fail),
+    let row = row_at::<ObjectRow, K>(alloc, draft, &(org, object))?;
+    layout_of_found(alloc, draft, row)
+}
+
+/// The layout of the object with this name, whatever the case of its ASCII letters, if there is one.
+///
+/// # Errors
+///
+/// `Keeper` if the keeper failed, `Memory` if out of memory, `Damaged` never if the tables stand for a world.
+pub fn layout_named<K: Keeper>(
+    alloc: Global,
+    draft: &mut Draft<'_, K>,
+    org: u32,
+    name: &str,
+) -> Result<Option<Layout>, StoreFail>
+    ensures finds { DraftTells K.state draft.old draft.new
+        → FindsBy (layout_named org (chars name.now)) (tables_of K.state draft.old) result }
+    ensures reads { DraftReads K.state 0 draft.old draft.new }
+    ensures stays { StaysAfter (is_ok result) (state_of K.state draft.old) (state_of K.state draft.new) }
+    ensures cause { KeeperCause (state_of K.state draft.old) (state_of K.state draft.new) (IsErrOf result Keeper) }
+{
+    draft_laws::<K>();
+    let rows = objects_of(alloc, draft, org)?;
+    layout_of_found(alloc, draft, row_named(rows, name))
+}
+
+// The layouts of objects, from their rows.
+fn layouts_of_rows<K: Keeper>(
+    alloc: Global,
+    draft: &mut Draft<'_, K>,
+    rows: Vec<ObjectRow>,
+) -> Result<Items<Layout>, StoreFail>
+    ensures finds { DraftTells K.state draft.old draft.new
+        → FindsBy (layouts_by rows.items) (tables_of K.state draft.old) result }
+    ensures reads { DraftReads K.state 0 draft.old draft.new }
+    ensures stays { StaysAfter (is_ok result) (state_of K.state draft.old) (state_of K.state draft.new) }
+    ensures cause { KeeperCause (state_of K.state draft.old) (state_of K.state draft.new) (IsErrOf result Keeper) }
+{
+    draft_laws::<K>();
+    let mut all = Items::new(alloc);
+    for row in rows {
+        let layout = layout_of_row(alloc, draft, row)?;
+        all.push(layout)?;
     }
+    Ok(all)
+}
+
+/// The layouts of all objects of an organisation, in the order of their numbers.
+///
+/// # Errors
+///
+/// `Keeper` if the keeper failed, `Memory` if out of memory, `Damaged` never if the tables stand for a world.
+pub fn layouts<K: Keeper>(
+    alloc: Global,
+    draft: &mut Draft<'_, K>,
+    org: u32,
+) -> Result<Items<Layout>, StoreFail>
+    ensures finds { DraftTells K.state draft.old draft.new
+        → FindsBy (layouts_of org) (tables_of K.state draft.old) result }
+    ensures reads { DraftReads K.state 0 draft.old draft.new }
+    ensures stays { StaysAfter (is_ok result) (state_of K.state draft.old) (state_of K.state draft.new) }
+    ensures cause { KeeperCause (state_of K.state draft.old) (state_of K.state draft.new) (IsErrOf result Keeper) }
+{
+    draft_laws::<K>();
+    let rows = objects_of(alloc, draft, org)?;
+    layouts_of_rows(alloc, draft, rows)
 }

@@ -5,7 +5,7 @@ use Rattle.ut_stands.specs.LayoutRows.{ListsBy, field_rows, places_in}
 use Rattle.ut_stands.specs.Layouts.{FindsBy}
 use Rattle.ut_stands.proofs.LayoutReads.{fields_read, list_failed, places_found}
 use Rattle.ut_stands.proofs.MetadataLists.{KeyLaws}
-use Rattle.ut_stands.proofs.layouts.fields_of.Goals as goal
+use Rattle.ut_stands.proofs.layout_reads.fields_of.Goals as goal
 
 pub returns-in_err-rows-clause-finds : goal.returns-in_err-rows-clause-finds
 returns-in_err-rows-clause-finds g c told =

@@ -6,7 +6,7 @@ use Rattle.ut_stands.specs.Layouts.{FindsBy}
 use Rattle.ut_stands.proofs.Found.{row_finds, row_of}
 use Rattle.ut_stands.proofs.LayoutReads.{err_again, job_found}
 use Rattle.ut_stands.proofs.MetadataRows.{job_is_row, job_there}
-use Rattle.ut_stands.proofs.layouts.job_on.Goals as goal
+use Rattle.ut_stands.proofs.layout_reads.job_on.Goals as goal
 
 pub returns-in-Ok-None-clause-finds : goal.returns-in-Ok-None-clause-finds
 returns-in-Ok-None-clause-finds g c told =

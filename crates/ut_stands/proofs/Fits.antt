@@ -14,9 +14,8 @@ use Rattle.ut_stands.specs.Entries.{field_in}
 use Rattle.ut_stands.specs.Plan.{FitsPlan, OrgPlan, has_field, slot_count, type_there}
 use Rattle.ut_stands.specs.Records.{is_free, is_other, with_slot}
 use Rattle.ut_stands.proofs.Free.{and_right, free_field, not_true}
-use Rattle.ut_stands.proofs.Kept.{pick, some_is}
-use Rattle.ut_stands.proofs.Placed.{get_changed, get_past, get_push, not_last, placed, there_same}
-use Rattle.ut_stands.proofs.Widened.{eqb_less, eqb_same, get_below}
+use Rattle.ut_stands.proofs.Lookups.{eqb_less, eqb_same, get_below, get_past, get_push, none_is, pick, some_is}
+use Rattle.ut_stands.proofs.Placed.{get_changed, not_last, placed, there_same}
 use Rattle.ut_value.specs.Values.{valid}
 
 -- an object has a field with this number
@@ -26,9 +25,6 @@ has_in f o = is_some (option_and_then (λ (x : Object). slice_get x.fields f) o)
 there_is : {X : Type 0} (x : Option X) → is_some x ≡ true → (y : X) × (x ≡ Some y)
 there_is None e = absurd cc
 there_is (Some y) e = (y, refl)
-
-cleft : {X : Type 0} (x : X) → ◌≡◌ {A = Option X} None (Some x) → ⊥
-cleft x e = cc
 
 -- what is left is of its type under another slot too
 left_placed : (slots : ℕ → ℕ → ℕ) (p : OrgPlan) (t : Tenant) → FitsPlan p t → (j : Job) (i : List ℕ) (v : _) → t.job ≡ Some j → p.left i ≡ Some v → IsTrue (valid (type_there (placed slots p) j) v)
@@ -122,8 +118,8 @@ module _ (p : OrgPlan) (t : Tenant) (o : Object) (s : ℕ) (sound : IsSound t) (
           sj = subst (λ (x : Option Job). HasSoundJob t.counter t.objects t.records x) at sound.job
 
           by : (x : Option Object) → object_at t j.object ≡ x → ⊥
-          by None gone = cleft sj.field (sym (ap (option_and_then (λ (x : Object). slice_get x.fields j.field)) gone) ∙ sj.there)
-          by (Some x) there = cleft x (sym (get_past t.objects) ∙ sym (ap (slice_get t.objects) e) ∙ there)
+          by None gone = none_is sj.field (sym (ap (option_and_then (λ (x : Object). slice_get x.fields j.field)) gone) ∙ sj.there)
+          by (Some x) there = none_is x (sym (get_past t.objects) ∙ sym (ap (slice_get t.objects) e) ∙ there)
 
       apart_by : (j : Job) → t.job ≡ Some j → job_is_done j.phase ≡ false → (f : ℕ) → IsTrue (has_field t j.object f) ⊎ ((j.object ≡ length t.objects) × (f ≡ 0)) → plan.slot j.object f ≡ p.other → ⊥
       apart_by j at busy f (inl has) e = fits.apart j at busy f has (sym (old_slot j.object f has) ∙ e)
@@ -179,7 +175,7 @@ module _ (p : OrgPlan) (t : Tenant) (n : ℕ) (o : Object) (f : Field) (s : ℕ)
   unnamed (y ∷ xs) a zero x none at b is =
       subst (λ (c : ℕ). eqb (p.slot n c) s ≡ false) (first is)
       (pick (eqb (p.slot n a) s) (λ d. ◌≡◌ {A = Option (ℕ × Field)} (cond d (Some (a, y)) (find (λ (y : ℕ × Field). eqb (p.slot n y.0) s) (enumerate_from (a + 1) xs))) None → d ≡ false)
-      (λ _ e. absurd (cleft (a, y) (sym e)))
+      (λ _ e. absurd (none_is (a, y) (sym e)))
       (λ _ _. refl)
       none)
     where
@@ -188,7 +184,7 @@ module _ (p : OrgPlan) (t : Tenant) (n : ℕ) (o : Object) (f : Field) (s : ℕ)
   unnamed (y ∷ xs) a (suc g) x none at b is =
       unnamed xs (a + 1) g x
       (pick (eqb (p.slot n a) s) (λ d. ◌≡◌ {A = Option (ℕ × Field)} (cond d (Some (a, y)) (find (λ (y : ℕ × Field). eqb (p.slot n y.0) s) (enumerate_from (a + 1) xs))) None → find (λ (y : ℕ × Field). eqb (p.slot n y.0) s) (enumerate_from (a + 1) xs) ≡ None)
-      (λ _ e. absurd (cleft (a, y) (sym e)))
+      (λ _ e. absurd (none_is (a, y) (sym e)))
       (λ _ e. e)
       none)
       at b (omega (arith, is))

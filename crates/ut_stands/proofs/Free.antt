@@ -1,16 +1,18 @@
 -- Free slots: below 48 there is one, and nothing is in it.
 use Rattle.std.proofs.Common.{◌≡◌, ℕ, zero, suc, ◌+◌, ◌<◌, ◌≤◌, Bool, true, false, not, ◌&&◌, ◌||◌, cond, eqb, IsTrue, List, [], ◌∷◌, map, length, Option, Some, None, refl, sym, ap, ◌∙◌, subst, arith}
-use Rattle.std.specs.Prelude.{filter, is_none, slice_get}
+use Rattle.std.specs.Prelude.{filter, if◌then◌else◌, is_none, slice_get}
 use Rattle.std.specs.List.{enumerate_from, find, list_any}
 use Rattle.std.specs.Option.{option_and_then}
 use Rattle.std.proofs.lemmas.Bool.{eqb-true}
 use Rattle.ut_model.specs.declared.record.Record.{Record}
 use Rattle.ut_model.specs.Retyping.{job_is_done}
-use Rattle.ut_model.specs.Tenant.{Field, Job, Object}
+use Rattle.ut_model.specs.Tenant.{Field, Job, Object, Tenant}
 use Rattle.ut_stands.specs.Entries.{entry, field_in, job_entry, job_value, other_entry}
 use Rattle.ut_stands.specs.Plan.{OrgPlan, slot_count}
-use Rattle.ut_stands.specs.Records.{is_free, is_other}
-use Rattle.ut_stands.proofs.Kept.{pick}
+use Rattle.ut_model.specs.Cases.{in_case}
+use Rattle.ut_stands.specs.Layouts.{job_place, layout_of, place_of}
+use Rattle.ut_stands.specs.Records.{has_free, is_free, is_other}
+use Rattle.ut_stands.proofs.Lookups.{mapped_length, pick}
 use Rattle.ut_value.specs.declared.job.Phase.{Phase}
 use Rattle.ut_value.specs.declared.job.Phase.TheVariants as phase
 
@@ -75,10 +77,6 @@ length-enumerate : {X : Type 0} (xs : List X) (n : ℕ) → length (enumerate_fr
 length-enumerate [] n = refl
 length-enumerate (x ∷ xs) n = ap suc (length-enumerate xs (n + 1))
 
-length-mapped : {X : Type 0} (f : X → ℕ) (xs : List X) → length (map f xs) ≡ length xs
-length-mapped f [] = refl
-length-mapped f (x ∷ xs) = ap suc (length-mapped f xs)
-
 none_named : {X : Type 0} (g : X → ℕ) (s : ℕ) (xs : List X) → has_number s (map g xs) ≡ false → find (λ x. eqb (g x) s) xs ≡ None
 none_named g s [] e = refl
 none_named g s (x ∷ xs) e = rw (or_left (eqb (g x) s) (has_number s (map g xs)) e) (none_named g s xs (or_right (eqb (g x) s) (has_number s (map g xs)) e))
@@ -96,7 +94,7 @@ not_other p (Some j) n s e = rw e (ands (not (job_is_done j.phase)) (eqb j.objec
 pub free_slot : (p : OrgPlan) (job : Option Job) (n : ℕ) (o : Object) → length o.fields ≤ 40 → (s : ℕ) × (s < slot_count) × IsTrue (is_free p job n o s)
 free_slot p job n o few =
     let slots : List ℕ = map (λ (f : ℕ × Field). p.slot n f.0) (enumerate_from 0 o.fields) in
-    let size : length slots ≡ length o.fields = length-mapped (λ (f : ℕ × Field). p.slot n f.0) (enumerate_from 0 o.fields) ∙ length-enumerate o.fields 0 in
+    let size : length slots ≡ length o.fields = mapped_length (λ (f : ℕ × Field). p.slot n f.0) (enumerate_from 0 o.fields) ∙ length-enumerate o.fields 0 in
     let (s, below, none) = missing slot_count (p.other ∷ slots) (omega (arith, size, few)) in
     (s, below, rw (none_named (λ (f : ℕ × Field). p.slot n f.0) s (enumerate_from 0 o.fields) (or_right (eqb p.other s) (has_number s slots) none), not_other p job n s (or_left (eqb p.other s) (has_number s slots) none)) refl)
 
@@ -149,3 +147,26 @@ unfolding entry
 free_entry p job n o r s e =
     rw (free_field p job n o s e)
     (free_other p job n o r s (not_true (is_other p job n s) (and_right (is_none (field_in p n o.fields s)) (not (is_other p job n s)) e)))
+
+-- ---- the same by a layout
+
+fields_seen : (p : OrgPlan) (n s : ℕ) (xs : List (ℕ × Field)) → not (list_any (λ f. eqb f.slot s) (map (place_of p n) xs)) ≡ is_none (find (λ (f : ℕ × Field). eqb (p.slot n f.0) s) xs)
+fields_seen p n s [] = refl
+fields_seen p n s (x ∷ xs) =
+    pick (eqb (p.slot n x.0) s) (λ b. not (b || list_any (λ f. eqb f.slot s) (map (place_of p n) xs)) ≡ is_none (cond b (Some x) (find (λ (f : ℕ × Field). eqb (p.slot n f.0) s) xs)))
+    (λ _. refl)
+    (λ _. fields_seen p n s xs)
+
+job_seen : (p : OrgPlan) (n s : ℕ) (job : Option Job) → in_case (option_and_then (λ (j : Job). if eqb j.object n then Some (job_place p j) else None) job) false (λ j. not (job_is_done j.phase) && eqb j.twin s) ≡ is_other p job n s
+job_seen p n s None = refl
+job_seen p n s (Some j) =
+    pick (eqb j.object n) (λ b. in_case (cond b (Some (job_place p j)) None) false (λ j. not (job_is_done j.phase) && eqb j.twin s) ≡ (not (job_is_done j.phase) && (b && eqb p.other s)))
+    (λ _. refl)
+    (λ _. none (not (job_is_done j.phase)))
+  where
+    none : (b : Bool) → false ≡ (b && false)
+    none true = refl
+    none false = refl
+
+pub seen : (p : OrgPlan) (t : Tenant) (org n : ℕ) (o : Object) (s : ℕ) → has_free (layout_of org p t (record { number = n; object = o })) s ≡ is_free p t.job n o s
+seen p t org n o s = rw (fields_seen p n s (enumerate_from 0 o.fields), job_seen p n s t.job) refl

@@ -16,13 +16,7 @@ use Rattle.ut_stands.specs.Entries.{Entry, data_of, entry, entry_text, is_indexe
 use Rattle.ut_stands.specs.Plan.{OrgPlan, slot_count}
 use Rattle.ut_stands.specs.Records.{Alike, KeptAlike, object_of_records}
 use Rattle.ut_stands.specs.Stands.{Kept, kept_at, kept_in, row_in, row_where, unique_at, unique_of}
-
-pub pick : (b : Bool) (P : Bool → Type 0) → (b ≡ true → P true) → (b ≡ false → P false) → P b
-pick true P f g = f refl
-pick false P f g = g refl
-
-pub some_is : {A : Type 0} (x y : A) → ◌≡◌ {A = Option A} (Some x) (Some y) → x ≡ y
-some_is x y e = cc
+use Rattle.ut_stands.proofs.Lookups.{pick, some_is}
 
 -- ---- one record
 

@@ -1,10 +1,10 @@
 -- Tables that have no rows, those of one more organisation, or those of another tenant in place of an organisation's.
-use Rattle.std.proofs.Common.{◌≡◌, ℕ, zero, suc, ◌+◌, ◌<◌, ◌≤◌, Bool, true, false, cond, eqb, List, [], ◌∷◌, ◌++◌, length, Option, Some, None, refl, sym, ap, ◌∙◌, subst, arith, add-one, length-append}
-use Rattle.std.specs.Prelude.{if◌then◌else◌, slice_get}
+use Rattle.std.proofs.Common.{◌≡◌, ℕ, zero, suc, ◌+◌, ◌<◌, ◌≤◌, Bool, true, cond, eqb, List, [], ◌∷◌, ◌++◌, length, Option, Some, None, refl, sym, ap, ◌∙◌, subst, arith, add-one, length-append}
+use Rattle.std.specs.Prelude.{if◌then◌else◌}
 use Rattle.std.specs.List.{AllByRecursion}
 use Rattle.std.specs.Option.{option_and_then}
 use Rattle.std.proofs.lemmas.Bool.{eqb-false, eqb-true}
-use Rattle.std.proofs.Math.Dec.{eqb-suc-zero, eqb-zero-suc, eqb-suc-suc}
+use Rattle.std.proofs.Math.Dec.{eqb-zero-suc, eqb-suc-suc}
 use Rattle.ut_keeper.specs.Tables.{Tables, no_rows}
 use Rattle.ut_keys.specs.Forms.{row_bytes}
 use Rattle.ut_keys.specs.Holds.{Holds, with_row}
@@ -17,17 +17,11 @@ use Rattle.ut_model.specs.Tenant.{Tenant}
 use Rattle.ut_model.specs.World.{World, tenant_at, with_tenant}
 use Rattle.ut_stands.specs.Plan.{FitsPlan, OrgPlan, Plan, opened, with_plan}
 use Rattle.ut_stands.specs.Stands.{all_tables, closed, known_version, owned_row, owner_of, Stands, StandsBy, row_at, row_in, rows_with, version_at}
+use Rattle.ut_stands.proofs.Lookups.{get_past, get_push, pick, some_is}
 
 -- rows that agree, as `ut_keys` says
 abbrev pub SameRows : Type 0
 SameRows = (reach : ℕ → Bool) (m : Tables) (rows others : Key → Option (List ℕ)) → ((k : Key) → FitsKey k → rows k ≡ others k) → Holds reach m rows → Holds reach m others
-
-pick : (b : Bool) (P : Bool → Type 0) → (b ≡ true → P true) → (b ≡ false → P false) → P b
-pick true P f g = f refl
-pick false P f g = g refl
-
-some_is : {A : Type 0} (x y : A) → ◌≡◌ {A = Option A} (Some x) (Some y) → x ≡ y
-some_is x y e = cc
 
 -- ---- the rows of an organisation, if there is one with its number
 
@@ -43,11 +37,7 @@ pub own : (p : Plan) (w : World) (n : ℕ) (t : Tenant) (k : Key) → tenant_at 
 own p w n t k at e = owned p w n k e ∙ ap (rows_of (p.org n) k) at
 
 tenant_past : (w : World) → tenant_at w (suc (length w)) ≡ None
-tenant_past w = beyond w
-  where
-    beyond : {X : Type 0} (xs : List X) → slice_get xs (length xs) ≡ None
-    beyond [] = refl
-    beyond (x ∷ xs) = beyond xs
+tenant_past w = get_past w
 
 pub past : (p : Plan) (w : World) (k : Key) → owner_of k ≡ Some (length w + 1) → row_at p w k ≡ None
 past p w k e =
@@ -84,15 +74,9 @@ empty_stands same h = (closed, empty_by same h)
 
 -- ---- one more organisation
 
-slice_get-push : {X : Type 0} (xs : List X) (x : X) (n : ℕ) → slice_get (xs ++ x ∷ []) n ≡ cond (eqb n (length xs)) (Some x) (slice_get xs n)
-slice_get-push [] x zero = refl
-slice_get-push [] x (suc n) = rw (eqb-suc-zero n) refl
-slice_get-push (y ∷ xs) x zero = rw (eqb-zero-suc (length xs)) refl
-slice_get-push (y ∷ xs) x (suc n) = rw (eqb-suc-suc n (length xs)) (slice_get-push xs x n)
-
 tenant_at-push : (w : World) (t : Tenant) (n : ℕ) → tenant_at (w ++ t ∷ []) n ≡ cond (eqb n (length w + 1)) (Some t) (tenant_at w n)
 tenant_at-push w t zero = rw (add-one (length w), eqb-zero-suc (length w)) refl
-tenant_at-push w t (suc n) = rw (add-one (length w), eqb-suc-suc n (length w)) (slice_get-push w t n)
+tenant_at-push w t (suc n) = rw (add-one (length w), eqb-suc-suc n (length w)) (get_push w t n)
 
 all_push : {X : Type 0} (P : X → Type 0) (xs : List X) (x : X) → AllByRecursion P xs → P x → AllByRecursion P (xs ++ x ∷ [])
 all_push P [] x h p = (p, tt)

@@ -17,7 +17,8 @@ use Rattle.ut_stands.specs.Entries.{Entry, entry, job_entry, job_value, other_en
 use Rattle.ut_stands.specs.Plan.{OrgPlan, type_in}
 use Rattle.ut_stands.specs.Records.{Alike, KeptAlike, object_of_records, with_slot}
 use Rattle.ut_stands.specs.Stands.{row_in}
-use Rattle.ut_stands.proofs.Kept.{kept, none, pick}
+use Rattle.ut_stands.proofs.Kept.{kept, none}
+use Rattle.ut_stands.proofs.Lookups.{get_past, get_push, none_is, pick}
 use Rattle.ut_value.specs.declared.job.Outcome.{Outcome}
 use Rattle.ut_value.specs.declared.job.Outcome.TheVariants as outcome
 use Rattle.ut_value.specs.declared.job.Phase.{Phase}
@@ -69,16 +70,6 @@ kept_alike r e f h = record { id = refl; name = refl; owner = refl; created = re
 
 -- ---- objects
 
-pub get_push : {X : Type 0} (xs : List X) (x : X) (n : ℕ) → slice_get (xs ++ x ∷ []) n ≡ cond (eqb n (length xs)) (Some x) (slice_get xs n)
-get_push [] x zero = refl
-get_push [] x (suc n) = rw (eqb-suc-zero n) refl
-get_push (y ∷ xs) x zero = rw (eqb-zero-suc (length xs)) refl
-get_push (y ∷ xs) x (suc n) = rw (eqb-suc-suc n (length xs)) (get_push xs x n)
-
-pub get_past : {X : Type 0} (xs : List X) → slice_get xs (length xs) ≡ None
-get_past [] = refl
-get_past (x ∷ xs) = get_past xs
-
 pub get_changed : {X : Type 0} (n : ℕ) (change : X → X) (xs : List X) (m : ℕ) → slice_get (change_at n change xs) m ≡ option_map (λ (x : X). cond (eqb m n) (change x) x) (slice_get xs m)
 get_changed n change [] m = refl
 get_changed zero change (x ∷ xs) zero = refl
@@ -100,10 +91,7 @@ missing_of k os n gone (x ∷ rs) all r (inl e) = subst (λ (y : Record). is_of 
     nowhere here = differs (subst (λ (m : ℕ). slice_get os m ≡ Some (all.0).object) (eqb-true (object_number x.id) n here) (all.0).there)
       where
         differs : {o : Object} → slice_get os n ≡ Some o → ⊥
-        differs e = cleft (sym gone ∙ e)
-          where
-            cleft : {o : Object} → ◌≡◌ {A = Option Object} None (Some o) → ⊥
-            cleft e = cc
+        differs {o} e = none_is o (sym gone ∙ e)
 missing_of k os n gone (x ∷ rs) all r (inr h) = missing_of k os n gone rs all.1 r h
 
 pub no_records : (t : Tenant) (n : ℕ) → IsSound t → object_at t n ≡ None → (r : Record) → Has t.records r → is_of n r ≡ false
@@ -142,10 +130,7 @@ changed_rows p t n change m sound same k e = rows_stay p p t (with_object_change
     )
 
 pub not_last : (t : Tenant) (m : ℕ) (o : Object) → object_at t m ≡ Some o → eqb m (length t.objects) ≡ false
-not_last t m o here = pick (eqb m (length t.objects)) (λ b. b ≡ false) (λ e. absurd (cleft (sym (get_past t.objects) ∙ subst (λ (x : ℕ). slice_get t.objects x ≡ Some o) (eqb-true m (length t.objects) e) here))) (λ _. refl)
-  where
-    cleft : ◌≡◌ {A = Option Object} None (Some o) → ⊥
-    cleft e = cc
+not_last t m o here = pick (eqb m (length t.objects)) (λ b. b ≡ false) (λ e. absurd (none_is o (sym (get_past t.objects) ∙ subst (λ (x : ℕ). slice_get t.objects x ≡ Some o) (eqb-true m (length t.objects) e) here))) (λ _. refl)
 
 -- one more object, whose field may have a slot
 pub object_rows : (p : OrgPlan) (t : Tenant) (o : Object) (f s m : ℕ) → IsSound t → (k : Key) → object_of_records k ≡ Some m → row_in (with_slot (length t.objects) f s p) (record t { objects = t.objects ++ o ∷ [] }) k ≡ row_in p t k

@@ -1,24 +1,24 @@
 -- The rows that stay where an object, a field or another access comes: all but those of the objects and fields that are told.
-use Rattle.std.proofs.Common.{◌≡◌, ℕ, zero, suc, ◌+◌, ◌<◌, ◌≤◌, Bool, true, false, ◌&&◌, cond, eqb, IsTrue, List, [], ◌∷◌, ◌++◌, map, length, Option, Some, None, refl, sym, ap, ◌∙◌, subst, arith}
+use Rattle.std.proofs.Common.{◌≡◌, ℕ, zero, suc, ◌≤◌, Bool, true, false, ◌&&◌, cond, eqb, IsTrue, List, [], ◌∷◌, ◌++◌, map, length, Option, Some, None, refl, sym, ap, ◌∙◌, subst, arith}
 use Rattle.std.specs.Prelude.{filter, if◌then◌else◌, slice_get}
 use Rattle.std.specs.Option.{option_and_then, option_map}
 use Rattle.std.proofs.lemmas.Bool.{eqb-true}
 use Rattle.ut_keys.specs.Forms.{row_bytes}
 use Rattle.ut_keys.specs.Keys.{Key, Version, Org, Object, Field, Job, User, Role, Group, Validation, Sharing, Data, Index, Unique, Relation, Owner, Share, Grant}
-use Rattle.ut_keys.specs.Rows.{field_form, job_form, object_form, org_form}
+use Rattle.ut_keys.specs.Rows.{field_form, job_form}
 use Rattle.ut_model.specs.declared.record.Record.{Record}
 use Rattle.ut_model.specs.NewFields.{with_field}
 use Rattle.ut_model.specs.Objects.{change_at, is_of, object_at, records_of, with_object_changed}
 use Rattle.ut_model.specs.Sound.{IsSound}
 use Rattle.ut_model.specs.Tenant as model
 use Rattle.ut_model.specs.Tenant.{Tenant}
-use Rattle.ut_stands.specs.Metadata.{field_of, job_of, named_so, object_of, org_of}
+use Rattle.ut_stands.specs.Metadata.{field_of, job_of, named_so}
 use Rattle.ut_stands.specs.Plan.{OrgPlan}
 use Rattle.ut_stands.specs.Records.{is_field_key, is_free, is_object_key, is_org_key, suits_flags, with_slot}
 use Rattle.ut_stands.specs.Stands.{row_in}
-use Rattle.ut_stands.proofs.Kept.{pick, some_is}
-use Rattle.ut_stands.proofs.Placed.{changed_rows, get_changed, get_past, get_push, not_last, object_rows, placed, there_same}
-use Rattle.ut_stands.proofs.Widened.{field_rows, mapped_length}
+use Rattle.ut_stands.proofs.Lookups.{get_past, get_push, mapped_length, pick, some_is}
+use Rattle.ut_stands.proofs.Placed.{changed_rows, get_changed, object_rows, placed, there_same}
+use Rattle.ut_stands.proofs.Widened.{field_rows}
 use Rattle.ut_value.specs.Reading.{empty_value}
 use Rattle.ut_value.specs.declared.sharing.Access.{Access}
 

@@ -25,17 +25,12 @@ use Rattle.ut_stands.specs.Reads.{FindsAs}
 use Rattle.ut_stands.specs.Metadata.{user_of}
 use Rattle.ut_stands.specs.Plan.{OrgPlan}
 use Rattle.ut_stands.specs.Stands.{Stands, row_at, row_in}
+use Rattle.ut_stands.proofs.Lookups.{some_is}
 use Rattle.ut_stands.proofs.Names.{MakesIds, NamesAreShort, NamesAreTexts, drawn_is_id, name_fits, role_is_id}
 
 -- what is read is what stands there, as `ut_keys` says
 abbrev pub FindsUser : Type 0
 FindsUser = (k : ℕ × (Unit {0} × List ℕ)) (kept : Option (List ℕ)) (there : Option UserRow) (result : Result (Option UserRow) StoreFail) → ReadsAs user_form k kept result → kept ≡ option_map (row_bytes user_form) there → MayStandAt user_form k there → FoundAs user_form there result
-
-abbrev there : {A : Type 0} → A → Option A
-there x = Some x
-
-some_is : {A : Type 0} (x y : A) → there x ≡ there y → x ≡ y
-some_is x y e = cc
 
 -- what holds of each holds of the one found
 found_sound : (k : Known) (us : List model.User) (i : List ℕ) (u : model.User) → AllByRecursion (IsSoundUser k) us → user_at us i ≡ Some u → (u.id ≡ i) × IsSoundUser k u

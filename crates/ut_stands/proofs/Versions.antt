@@ -18,6 +18,7 @@ use Rattle.ut_stands.specs.Plan.{Plan}
 use Rattle.ut_stands.specs.Reads.{OpensAs}
 use Rattle.ut_stands.specs.declared.fail.OpenFail.TheVariants.{UnknownVersion}
 use Rattle.ut_stands.specs.Stands.{HasKnownVersion, HasUnknownVersion, IsVersion, Stands, StandsBy, row_at, version_of}
+use Rattle.ut_stands.proofs.Lookups.{some_is}
 
 -- one spelling is of one row, and what is read is what stands there, as `ut_keys` says
 abbrev pub OneVersion : Type 0
@@ -28,9 +29,6 @@ FindsVersion = (k : Unit {0}) (kept : Option (List ℕ)) (there : Option Version
 
 abbrev pub ReadsVersion : Tables → Result (Option VersionRow) StoreFail → Type 0
 ReadsVersion m r = ReadsAs version_form tt (map.get m (spell Version)) r
-
-some_is : {A : Type 0} (x y : A) → ◌≡◌ {A = Option A} (Some x) (Some y) → x ≡ y
-some_is x y e = cc
 
 version_same : OneVersion → (a b : VersionRow) → FitsForm version_form a → FitsForm version_form b → ◌≡◌ {A = Option (List ℕ)} (Some (row_bytes version_form a)) (Some (row_bytes version_form b)) → a ≡ b
 version_same one a b fa fb e = one a b fa fb refl (some_is (row_bytes version_form a) (row_bytes version_form b) e)

@@ -1,9 +1,9 @@
 -- One more field, in a free slot: all records keep their rows.
-use Rattle.std.proofs.Common.{◌≡◌, ℕ, zero, suc, ◌+◌, ◌<◌, Bool, true, false, not, ◌&&◌, cond, eqb, IsTrue, List, [], ◌∷◌, ◌++◌, map, length, Option, Some, None, refl, sym, ap, ◌∙◌, subst, arith, inl, inr}
+use Rattle.std.proofs.Common.{◌≡◌, ℕ, suc, ◌+◌, ◌<◌, Bool, true, false, not, ◌&&◌, cond, eqb, IsTrue, List, [], ◌∷◌, ◌++◌, map, length, Option, Some, None, refl, sym, ap, ◌∙◌, subst, arith, inl, inr}
 use Rattle.std.specs.Prelude.{if◌then◌else◌, is_none, slice_get}
 use Rattle.std.specs.List.{AllByRecursion, enumerate_from, find}
 use Rattle.std.specs.Option.{option_and_then, option_map}
-use Rattle.std.proofs.lemmas.Bool.{eqb-false, eqb-true}
+use Rattle.std.proofs.lemmas.Bool.{eqb-true}
 use Rattle.std.proofs.lemmas.List.{get_or_push}
 use lib.ListN.{get_or-append}
 use Rattle.ut_formula.specs.Meaning.{value_at}
@@ -23,8 +23,9 @@ use Rattle.ut_stands.specs.Plan.{OrgPlan}
 use Rattle.ut_stands.specs.Records.{Alike, KeptAlike, is_free, is_other, object_of_records, suits_flags, with_slot}
 use Rattle.ut_stands.specs.Stands.{kept_in, row_in}
 use Rattle.ut_stands.proofs.Free.{and_left, and_right, free_other, not_true}
-use Rattle.ut_stands.proofs.Kept.{kept, none, pick, some_is}
-use Rattle.ut_stands.proofs.Placed.{alike_same, entry_same, get_changed, get_push, kept_alike, no_records, other_same}
+use Rattle.ut_stands.proofs.Kept.{kept, none}
+use Rattle.ut_stands.proofs.Lookups.{eqb_less, eqb_same, get_below, get_push, mapped_length, pick, some_is}
+use Rattle.ut_stands.proofs.Placed.{alike_same, entry_same, get_changed, kept_alike, no_records, other_same}
 use Rattle.ut_value.specs.Reading.{empty_value}
 use Rattle.ut_value.specs.declared.job.Phase.{Phase}
 use Rattle.ut_value.specs.declared.job.Phase.TheVariants as phase
@@ -36,15 +37,6 @@ use Rattle.ut_value.specs.Types.{suits_indexed, suits_unique}
 use Rattle.ut_model.specs.SoundMetadata.{implies}
 
 -- ---- lists
-
-pub eqb_same : (n : ℕ) → eqb n n ≡ true
-eqb_same n = pick (eqb n n) (λ b. b ≡ true) (λ _. refl) (λ e. absurd (eqb-false n n e refl))
-
-pub eqb_less : (a b : ℕ) → a < b → eqb a b ≡ false
-eqb_less a b h = pick (eqb a b) (λ c. c ≡ false) (λ e. absurd (differ (eqb-true a b e))) (λ _. refl)
-  where
-    differ : a ≡ b → ⊥
-    differ e = omega (arith, e, h)
 
 -- one that is found is numbered below the end
 found_below : {X : Type 0} (test : ℕ × X → Bool) (xs : List X) (a : ℕ) (g : ℕ × X) → find test (enumerate_from a xs) ≡ Some g → g.0 < a + length xs
@@ -76,10 +68,6 @@ valid_length [] (v ∷ vs) h = absurd cc
 valid_length (k ∷ ks) [] h = absurd cc
 valid_length (k ∷ ks) (v ∷ vs) h = ap suc (valid_length ks vs (and_right _ _ h))
 
-pub mapped_length : {X Y : Type 0} (f : X → Y) (xs : List X) → length (map f xs) ≡ length xs
-mapped_length f [] = refl
-mapped_length f (x ∷ xs) = ap suc (mapped_length f xs)
-
 -- ---- an entry of a new field is like none
 
 no_index : (b : Bool) → (b && false) ≡ false
@@ -92,11 +80,6 @@ empty_by type.Checkbox false true h = absurd cc
 empty_by type.Checkbox true false h = absurd cc
 empty_by type.Checkbox true true h = absurd cc
 empty_by k i u h = record { text = refl; indexed = λ key. no_index i; unique = λ key. no_index u; reference = λ target. refl }
-
-pub get_below : {X : Type 0} (xs : List X) (i : ℕ) (x : X) → slice_get xs i ≡ Some x → i < length xs
-get_below [] i x e = absurd cc
-get_below (y ∷ xs) zero x e = omega arith
-get_below (y ∷ xs) (suc i) x e = omega (arith, get_below xs i x e)
 
 -- ---- the fields with the new one
 

@@ -8,3 +8,4 @@ pub mod Reads
 pub mod Layouts
 pub mod LayoutRows
 pub mod Records
+pub mod WorkedRows

@@ -1,6 +1,7 @@
 -- The rows of an object's records, and when records are kept in the same rows though plan and tenant change.
 -- Source: as in Entries: indexes, unique values and relationships are rows beside those of the records.
 use Rattle.std.specs.Prelude.{◌≡◌, ℕ, Bool, true, false, not, ◌&&◌, ◌==◌, if◌then◌else◌, List, Option, Some, None, is_none}
+use Rattle.std.specs.List.{list_any}
 use Rattle.ut_formula.specs.Meaning.{value_at}
 use Rattle.ut_keys.specs.Keys.{Key, Org, Object, Field, Data, Index, Unique, Relation}
 use Rattle.ut_model.specs.Cases.{in_case}
@@ -9,6 +10,7 @@ use Rattle.ut_model.specs.SoundMetadata.{implies}
 use Rattle.ut_model.specs.Tenant as model
 use Rattle.ut_model.specs.Tenant.{Job}
 use Rattle.ut_stands.specs.Entries.{Entry, entry_text, field_in, is_indexed, is_reference_to, is_unique, name_text}
+use Rattle.ut_stands.specs.declared.layout.Layout.{Layout}
 use Rattle.ut_stands.specs.Plan.{OrgPlan}
 use Rattle.ut_stands.specs.Stands.{Kept}
 use Rattle.ut_value.specs.Types.{suits_indexed, suits_unique}
@@ -61,6 +63,11 @@ is_other p job n s = in_case job false (λ j. not (job_is_done j.phase) && ((j.o
 -- no field of the object has this slot, and no change that isn't done
 abbrev pub is_free : OrgPlan → Option Job → (object : ℕ) → model.Object → (slot : ℕ) → Bool
 is_free p job n o s = is_none (field_in p n o.fields s) && not (is_other p job n s)
+
+-- the same by the object's layout
+abbrev pub has_free : Layout → (slot : ℕ) → Bool
+has_free l s =
+    not (list_any (λ f. f.slot == s) l.fields) && not (in_case l.job false (λ j. not (job_is_done j.phase) && (j.twin == s)))
 
 -- the plan with this slot for a field
 abbrev pub with_slot : (object field slot : ℕ) → OrgPlan → OrgPlan

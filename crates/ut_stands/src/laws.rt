@@ -1,7 +1,9 @@
-ghost use Rattle.std.specs.Prelude.{◌≡◌, ◌+◌, ◌<◌, ℕ, List, [], ◌∷◌, ◌++◌, Some, None, codes, length, true};
+ghost use Rattle.std.specs.Prelude.{◌≡◌, ◌+◌, ◌<◌, ℕ, List, [], ◌∷◌, ◌++◌, Some, None, codes, length, pos, replicate, true};
 ghost use Rattle.ut_keeper.specs.Tables.{Tables, no_rows};
+ghost use Rattle.ut_keys.specs.Forms.{row_bytes};
 ghost use Rattle.ut_keys.specs.Holds.{Holds, with_row};
-ghost use Rattle.ut_keys.specs.Keys.{Key, Org, User, Version};
+ghost use Rattle.ut_keys.specs.Keys.{Data, Index, Job, Key, Org, User, Version};
+ghost use Rattle.ut_keys.specs.Rows.{data_form, job_form};
 ghost use Rattle.ut_model.specs.declared.limit.Limit.TheVariants as limit;
 ghost use Rattle.ut_model.specs.Limits.{limit_number};
 ghost use Rattle.ut_model.specs.Organisations.{with_org};
@@ -10,6 +12,12 @@ ghost use Rattle.ut_model.specs.Tenant.{Tenant};
 ghost use Rattle.ut_model.specs.World.{World, tenant_at, with_tenant};
 ghost use Rattle.ut_stands.specs.Plan.{FitsPlan, OrgPlan, Plan, opened, with_plan};
 ghost use Rattle.ut_stands.specs.Stands.{HasKnownVersion, HasUnknownVersion, Stands, StandsBy, all_tables, closed, owner_of, row_at, row_in, rows_with, version_at};
+ghost use Rattle.ut_stands.specs.WorkedRows.{acme, acme_plan, first, second};
+ghost use Rattle.ut_value.specs.OrderKeys.{order_key};
+ghost use Rattle.ut_value.specs.declared.job.Outcome.TheVariants as outcome;
+ghost use Rattle.ut_value.specs.declared.job.Phase.TheVariants as phase;
+ghost use Rattle.ut_value.specs.declared.value.FieldType.TheVariants as type;
+ghost use Rattle.ut_value.specs.declared.value.Value.TheVariants as value;
 
 use ut_keys::{VersionRow, row_laws, table_laws};
 
@@ -55,4 +63,77 @@ pub fn stands_rows()
         ≡ Some (0 ∷ 0 ∷ 0 ∷ 4 ∷ 65 ∷ 99 ∷ 109 ∷ 101 ∷ (digest ++ 0 ∷ 1 ∷ [])) }
     ensures other { (digest : List ℕ) → row_at (opened closed) (with_org [] (codes "Acme") digest) (Org 2) ≡ None }
     ensures closed { row_at closed [] Version ≡ None }
+{}
+
+/// The rows of two records while a field's type is changed, worked by hand. The call does nothing.
+pub fn change_rows()
+    // Up to the cursor there is the value in both types, and past it in the one.
+    ensures copied { row_in acme_plan (acme phase.Copy outcome.Open) (Data 1 0 first.id)
+        ≡ Some (row_bytes data_form (record {
+          org = 1;
+          object = 0;
+          id = first.id;
+          name = Some (codes "A");
+          owner = None;
+          created = pos 5;
+          modified = pos 6;
+          slots = None ∷ None ∷ None ∷ Some (codes "7") ∷ None ∷ Some (codes "7") ∷ replicate 42 None;
+        })) }
+    ensures uncopied { row_in acme_plan (acme phase.Copy outcome.Open) (Data 1 0 second.id)
+        ≡ Some (row_bytes data_form (record {
+          org = 1;
+          object = 0;
+          id = second.id;
+          name = None;
+          owner = None;
+          created = pos 7;
+          modified = pos 8;
+          slots = None ∷ None ∷ None ∷ Some (codes "9") ∷ replicate 44 None;
+        })) }
+
+    // Up to the cursor nothing is left, and past it what was.
+    ensures cleared { row_in acme_plan (acme phase.Clear outcome.Switched) (Data 1 0 first.id)
+        ≡ Some (row_bytes data_form (record {
+          org = 1;
+          object = 0;
+          id = first.id;
+          name = Some (codes "A");
+          owner = None;
+          created = pos 5;
+          modified = pos 6;
+          slots = None ∷ None ∷ None ∷ Some (codes "7") ∷ replicate 44 None;
+        })) }
+    ensures gone { row_in acme_plan (acme phase.Clear outcome.Switched) (Index 1 0 5 (order_key (value.Day (pos 1))) first.id) ≡ None }
+    ensures left { row_in acme_plan (acme phase.Clear outcome.Switched) (Index 1 0 5 (order_key (value.Day (pos 1))) second.id)
+        ≡ Some [] }
+
+    // Values are indexed by their order keys.
+    ensures indexed { row_in acme_plan (acme phase.Copy outcome.Open) (Index 1 0 3 (order_key (value.Num (pos 700000000))) first.id)
+        ≡ Some [] }
+
+    // The type is that of what is in the slot of the change.
+    ensures copying { row_in acme_plan (acme phase.Copy outcome.Open) (Job 1)
+        ≡ Some (row_bytes job_form (record {
+          org = 1;
+          object = 0;
+          field = 0;
+          kind = type.Text 10;
+          twin = 5;
+          phase = phase.Copy;
+          outcome = outcome.Open;
+          cursor = Some first.id;
+          failed = None;
+        })) }
+    ensures clearing { row_in acme_plan (acme phase.Clear outcome.Switched) (Job 1)
+        ≡ Some (row_bytes job_form (record {
+          org = 1;
+          object = 0;
+          field = 0;
+          kind = type.Day;
+          twin = 5;
+          phase = phase.Clear;
+          outcome = outcome.Switched;
+          cursor = Some first.id;
+          failed = None;
+        })) }
 {}

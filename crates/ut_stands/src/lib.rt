@@ -17,7 +17,7 @@ mod records;
 pub use crate::ending::finish;
 pub use crate::fail::{EditFail, OpenFail};
 pub use crate::judged::Judged;
-pub use crate::laws::{stands_laws, stands_rows};
+pub use crate::laws::{change_rows, stands_laws, stands_rows};
 pub use crate::layout::{FieldPlace, JobPlace, Layout};
 pub use crate::layout_reads::{layout_at, layout_named, layouts, same_name};
 pub use crate::opening::{KNOWN_VERSION, open_tables};

@@ -11,8 +11,9 @@ ghost use Rattle.ut_model.specs.Objects.{is_of, object_at, records_of, with_obje
 ghost use Rattle.ut_model.specs.Sound.{IsSound};
 ghost use Rattle.ut_model.specs.Tenant.{Field, Job, Object, Tenant};
 ghost use Rattle.ut_stands.specs.Entries.{entry};
+ghost use Rattle.ut_stands.specs.Layouts.{layout_of};
 ghost use Rattle.ut_stands.specs.Plan.{FitsPlan, OrgPlan, slot_count};
-ghost use Rattle.ut_stands.specs.Records.{KeptAlike, is_field_key, is_free, is_object_key, is_org_key, object_of_records, suits_flags, with_slot};
+ghost use Rattle.ut_stands.specs.Records.{KeptAlike, has_free, is_field_key, is_free, is_object_key, is_org_key, object_of_records, suits_flags, with_slot};
 ghost use Rattle.ut_stands.specs.Stands.{kept_in, row_in};
 ghost use Rattle.ut_value.specs.declared.sharing.Access.{Access};
 
@@ -64,6 +65,10 @@ pub fn slot_laws()
         → length o.fields ≤ limit_number limit.FieldsPerObject → (s : ℕ) × (s < slot_count) × IsTrue (is_free p job n o s) }
     ensures nothing { (p : OrgPlan) (job : Option Job) (n : ℕ) (o : Object) (r : Record) (s : ℕ)
         → IsTrue (is_free p job n o s) → entry p job n o r s ≡ None }
+
+    // A layout shows which are free.
+    ensures seen { (p : OrgPlan) (t : Tenant) (org n : ℕ) (o : Object) (s : ℕ)
+        → has_free (layout_of org p t (record { number = n; object = o })) s ≡ is_free p t.job n o s }
 
     // The plan still fits where an object comes, where one is changed but for its fields, and where a field comes that has a
     // free slot.

@@ -3,7 +3,7 @@ use Rattle.std.proofs.Common.{◌≡◌, ℕ, zero, suc, ◌+◌, ◌<◌, ◌�
 use Rattle.std.specs.Prelude.{Result, Ok, Err, Vec, slice_get}
 use Rattle.std.specs.List.{enumerate_from, find}
 use Rattle.std.specs.Option.{option_and_then, option_map}
-use Rattle.std.proofs.lemmas.List.{length-map, take_all}
+use Rattle.std.proofs.lemmas.List.{length-map, map_push, take_all}
 use Rattle.std.proofs.lemmas.List.FromFn.{length-enumerate_from}
 use Rattle.ut_keeper.specs.Prefixes.{raised}
 use Rattle.ut_keeper.specs.Tables.{Tables}
@@ -240,10 +240,6 @@ layouts_found org m rows r h g =
     again_by (layouts_by rows) (layouts_of org) m r (λ p w s. ap (map (layout_in p w)) (h p w s) ∙ layouts_are org p w) g
 
 -- one layout more
-map_append : {X Y : Type 0} (f : X → Y) (xs : List X) (x : X) → map f (xs ++ x ∷ []) ≡ map f xs ++ f x ∷ []
-map_append f [] x = refl
-map_append f (y ∷ xs) x = ap (λ (zs : List _). f y ∷ zs) (map_append f xs x)
-
 pub more_layouts : (p : Plan) (w : World) (rows : List ObjectRow) (row : ObjectRow) (all after : List Layout) (l : Layout) → after ≡ all ++ l ∷ [] → all ≡ layouts_by rows p w → l ≡ layout_by row p w → after ≡ layouts_by (rows ++ row ∷ []) p w
 more_layouts p w rows row all after l is old new =
-    is ∙ ap (λ (x : List Layout). x ++ l ∷ []) old ∙ ap (λ (x : Layout). layouts_by rows p w ++ x ∷ []) new ∙ sym (map_append (layout_in p w) rows row)
+    is ∙ ap (λ (x : List Layout). x ++ l ∷ []) old ∙ ap (λ (x : Layout). layouts_by rows p w ++ x ∷ []) new ∙ sym (map_push (layout_in p w) rows row)

@@ -29,6 +29,7 @@ use Rattle.ut_stands.specs.Metadata.{field_of, object_of}
 use Rattle.ut_stands.specs.Plan.{FitsPlan, OrgPlan, Plan}
 use Rattle.ut_stands.specs.Stands.{StandsBy, row_at, row_in}
 use Rattle.ut_stands.proofs.Found.{owned_at, sound_tenant}
+use Rattle.ut_stands.proofs.Lookups.{none_is}
 use Rattle.ut_stands.proofs.MetadataRows.{field_fits, object_fits, sound_object}
 use Rattle.ut_stands.proofs.Numbered.{AreNumbered, made_from, numbered_lists}
 use Rattle.ut_stands.proofs.Pages.{ListsTo}
@@ -79,10 +80,7 @@ map_some f None y e = absurd cc
 map_some f (Some x) y e = (x, refl)
 
 no_row : {X : Type 0} (o : Option X) (x : X) → o ≡ None → o ≡ Some x → ⊥
-no_row {X = X} o x e g = absurd (apart (sym e ∙ g))
-  where
-    apart : ◌≡◌ {A = Option X} None (Some x) → ⊥
-    apart h = cc
+no_row o x e g = none_is x (sym e ∙ g)
 
 module _ (laws : KeyLaws) (p : Plan) (m : Tables) (w : World) (s : StandsBy p m w) (org : ℕ) (lo : org < 2 ^ 32) where
   -- the rows of a world that a tenant has

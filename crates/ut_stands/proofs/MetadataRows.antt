@@ -28,15 +28,9 @@ use Rattle.ut_stands.specs.Metadata.{field_of, job_of, object_of}
 use Rattle.ut_stands.specs.Plan.{FitsPlan, OrgPlan, has_field, type_in}
 use Rattle.ut_stands.specs.Stands.{row_in}
 use Rattle.ut_stands.proofs.Spelled.{both, child_option_fits, cursor_is_id, custom_fits, plain_type_fits, type_fits}
-use Rattle.ut_stands.proofs.Found.{IsRowOf}
+use Rattle.ut_stands.proofs.Found.{IsRowOf, map_twice}
+use Rattle.ut_stands.proofs.Lookups.{some_is}
 use Rattle.ut_stands.proofs.Names.{MakesIds}
-
-pub map_twice : {X Y Z : Type 0} (f : Y → Z) (g : X → Y) (o : Option X) → option_map (λ x. f (g x)) o ≡ option_map f (option_map g o)
-map_twice f g None = refl
-map_twice f g (Some x) = refl
-
-some_is : {X : Type 0} (x y : X) → ◌≡◌ {A = Option X} (Some x) (Some y) → x ≡ y
-some_is x y e = cc
 
 -- what holds of each element holds of the one at a place
 pub all_at : {X : Type 0} (P : X → Type 0) (xs : List X) (i : ℕ) (x : X) → AllByRecursion P xs → slice_get xs i ≡ Some x → P x

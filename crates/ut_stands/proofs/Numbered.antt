@@ -11,6 +11,7 @@ use Rattle.ut_keeper.specs.Tables.{Has, bytes_cmp, is_between}
 use Rattle.ut_keys.specs.Forms.{FitsForm, Form, key_bytes, row_bytes}
 use Rattle.ut_keys.specs.Keys.{FitsKey, Key, spell}
 use Rattle.ut_keys.specs.Listings.{ListsBetween, with_key}
+use Rattle.ut_stands.proofs.Lookups.{some_is}
 
 -- the rows of a list, made of their numbers and its elements
 abbrev pub made_from : {U X : Type 0} → (ℕ → X → U) → ℕ → List X → List U
@@ -46,8 +47,6 @@ module _ {U X : Type 0} (f : Form U) (key : ℕ → Val f.key) (make : ℕ → X
   number_has n [] i x e = absurd cc
   number_has n (y ∷ ys) zero x e = inl (here (some_is y x e))
     where
-      some_is : (y x : X) → ◌≡◌ {A = Option X} (Some y) (Some x) → y ≡ x
-      some_is y x e = cc
       here : y ≡ x → make (n + 0) x ≡ make n y
       here same = ap (λ (k : ℕ). make k x) (omega arith) ∙ ap (make n) (sym same)
   number_has n (y ∷ ys) (suc i) x e =

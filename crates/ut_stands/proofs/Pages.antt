@@ -15,6 +15,7 @@ use Rattle.ut_keys.specs.Keys.{Key}
 use Rattle.ut_keys.specs.Listings.{ListsBetween, rows_to}
 use Rattle.ut_keys.specs.Reads.{ListsAs}
 use Rattle.ut_stands.specs.Stands.{all_tables}
+use Rattle.ut_stands.proofs.Lookups.{some_is}
 
 -- a shape's spelling is read again, as `ut_parts` says
 abbrev pub ReadsAgain : Type 0
@@ -38,9 +39,6 @@ GivesRows listed (Ok rows) = rows.items ≡ listed
 GivesRows listed (Err Damaged) = ⊥
 GivesRows listed (Err Keeper) = Unit {0}
 GivesRows listed (Err Memory) = Unit {0}
-
-some_is : {X : Type 0} (x y : X) → ◌≡◌ {A = Option X} (Some x) (Some y) → x ≡ y
-some_is x y e = cc
 
 all_of : {X : Type 0} (P : X → Type 0) (xs : List X) → ((x : X) → Has xs x → P x) → AllByRecursion P xs
 all_of P [] h = tt

@@ -4,6 +4,15 @@ pub mod Opened
 pub mod Versions
 pub mod Users
 pub mod Parts
+pub mod Spelled
+pub mod Found
+pub mod Pages
+pub mod Numbered
+pub mod MetadataRows
+pub mod MetadataLists
+pub mod SameNames
+pub mod TwoReads
+pub mod LayoutReads
 pub mod Kept
 pub mod Free
 pub mod Placed

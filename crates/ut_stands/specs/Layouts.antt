@@ -10,7 +10,7 @@ use Rattle.ut_keys.specs.declared.fail.StoreFail.TheVariants.{Keeper, Memory, Da
 use Rattle.ut_model.specs.declared.record.Record.{Record}
 use Rattle.ut_model.specs.Cases.{in_case}
 use Rattle.ut_model.specs.Jobs.{is_past}
-use Rattle.ut_model.specs.Objects.{Numbered, is_of, object_at, object_named, record_at, records_of}
+use Rattle.ut_model.specs.Objects.{Numbered, is_of, numbered, object_at, object_named, record_at, records_of}
 use Rattle.ut_model.specs.Tenant.{Field, Job, Tenant}
 use Rattle.ut_model.specs.World.{World, tenant_at}
 use Rattle.ut_stands.specs.declared.layout.FieldPlace.{FieldPlace}
@@ -62,6 +62,10 @@ layout_at org n p w = option_and_then (λ t. option_map (layout_of org (p.org or
 
 unfoldable pub layout_named : (org : ℕ) → List ℕ → Plan → World → Option Layout
 layout_named org name p w = option_and_then (λ t. option_map (layout_of org (p.org org) t) (object_named t name)) (tenant_at w org)
+
+-- the layouts of all objects, in their order; none where there is no such organisation
+unfoldable pub layouts_of : (org : ℕ) → Plan → World → List Layout
+layouts_of org p w = in_case (tenant_at w org) [] (λ t. map (layout_of org (p.org org) t) (numbered t.objects))
 
 -- ---- records
 

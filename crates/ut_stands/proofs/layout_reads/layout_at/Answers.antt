@@ -1,0 +1,38 @@
+use Rattle.std.proofs.Common.{◌∙◌, Err, ap, arith, subst, sym}
+use Rattle.std.proofs.lemmas.Result.{err_from_is_err_and}
+use Rattle.ut_keeper.specs.Draft.{tables_of}
+use Rattle.ut_keeper.specs.Tables.{Tables}
+use Rattle.ut_keys.specs.Rows.{object_form}
+use Rattle.ut_stands.specs.LayoutRows.{layout_by_found}
+use Rattle.ut_stands.specs.Layouts.{FindsBy, layout_at}
+use Rattle.ut_stands.proofs.Found.{row_finds, row_of}
+use Rattle.ut_stands.proofs.LayoutReads.{at_found, err_again}
+use Rattle.ut_stands.proofs.MetadataRows.{object_is_row, object_there}
+use Rattle.ut_stands.proofs.TwoReads.{told_first, told_then}
+use Rattle.ut_stands.proofs.layout_reads.layout_at.Goals as goal
+
+pub returns-in_err-row-clause-finds : goal.returns-in_err-row-clause-finds
+returns-in_err-row-clause-finds g c told =
+    let m = tables_of g.K.Keeper.state c.args.draft.now in
+    let org = c.args.org in
+    let n = c.args.object in
+    let h = row_finds object_form org (org, n) (object_there org n) (object_is_row org n (omega arith) (omega arith)) c.row_laws.ensures.found m c.row_at.result (c.row_at.ensures.row told) in
+    let p = err_from_is_err_and c.from_residual.result c.from_residual.ensures.1 in
+    subst (FindsBy (layout_at org n) m) (sym (p.1 ∙ ap Err p.2))
+    (err_again (row_of org (object_there org n)) (layout_at org n) m c.in_err-row.field-0.0 (subst (FindsBy (row_of org (object_there org n)) m) c.in_err-row.was h))
+
+pub returns-clause-finds : goal.returns-clause-finds
+returns-clause-finds g c told =
+    let a = c.args.draft.now in
+    let b = c.row_at.new.draft in
+    let d = c.layout_of_found.new.draft in
+    let m = tables_of g.K.Keeper.state a in
+    let org = c.args.org in
+    let n = c.args.object in
+    let first = told_first g.K.Keeper.state 0 a b d c.layout_of_found.ensures.reads told in
+    let then = told_then g.K.Keeper.state 0 0 a b d c.row_at.ensures.reads c.layout_of_found.ensures.reads told in
+    let h = row_finds object_form org (org, n) (object_there org n) (object_is_row org n (omega arith) (omega arith)) c.row_laws.ensures.found m c.row_at.result (c.row_at.ensures.row first) in
+    let same = c.draft_laws.ensures.tables 0 a b c.row_at.ensures.reads first in
+    at_found org n m c.in_ok-row.row c.layout_of_found.result
+    (subst (FindsBy (row_of org (object_there org n)) m) c.in_ok-row.was h)
+    (subst (λ (t : Tables). FindsBy (layout_by_found c.in_ok-row.row) t c.layout_of_found.result) same (c.layout_of_found.ensures.finds then))

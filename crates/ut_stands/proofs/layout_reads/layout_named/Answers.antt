@@ -1,0 +1,37 @@
+use Rattle.std.proofs.Common.{◌∙◌, Err, ap, subst, sym}
+use Rattle.std.specs.Str.{chars}
+use Rattle.std.proofs.lemmas.Result.{err_from_is_err_and}
+use Rattle.ut_keeper.specs.Draft.{tables_of}
+use Rattle.ut_keeper.specs.Tables.{Tables}
+use Rattle.ut_keys.specs.declared.object.ObjectRow.{ObjectRow}
+use Rattle.std.specs.Prelude.{Option}
+use Rattle.ut_stands.specs.LayoutRows.{ListsBy, layout_by_found, object_rows, row_named}
+use Rattle.ut_stands.specs.Layouts.{FindsBy, layout_named}
+use Rattle.ut_stands.proofs.LayoutReads.{list_failed, named_found}
+use Rattle.ut_stands.proofs.TwoReads.{told_first, told_then}
+use Rattle.ut_stands.proofs.layout_reads.layout_named.Goals as goal
+
+pub returns-in_err-rows-clause-finds : goal.returns-in_err-rows-clause-finds
+returns-in_err-rows-clause-finds g c told =
+    let m = tables_of g.K.Keeper.state c.args.draft.now in
+    let org = c.args.org in
+    let name = chars c.args.name.now in
+    let p = err_from_is_err_and c.from_residual.result c.from_residual.ensures.1 in
+    subst (FindsBy (layout_named org name) m) (sym (p.1 ∙ ap Err p.2))
+    (list_failed (object_rows org) (layout_named org name) m c.objects_of.result c.in_err-rows.field-0.0 c.in_err-rows.was (c.objects_of.ensures.finds told))
+
+pub returns-clause-finds : goal.returns-clause-finds
+returns-clause-finds g c told =
+    let a = c.args.draft.now in
+    let b = c.objects_of.new.draft in
+    let d = c.layout_of_found.new.draft in
+    let m = tables_of g.K.Keeper.state a in
+    let org = c.args.org in
+    let name = chars c.args.name.now in
+    let first = told_first g.K.Keeper.state 0 a b d c.layout_of_found.ensures.reads told in
+    let then = told_then g.K.Keeper.state 0 0 a b d c.objects_of.ensures.reads c.layout_of_found.ensures.reads told in
+    let same = c.draft_laws.ensures.tables 0 a b c.objects_of.ensures.reads first in
+    let layout = subst (λ (t : Tables). FindsBy (layout_by_found c.row_named.result) t c.layout_of_found.result) same (c.layout_of_found.ensures.finds then) in
+    named_found org name m c.in_ok-rows.rows.items c.layout_of_found.result
+    (subst (ListsBy (object_rows org) m) c.in_ok-rows.was (c.objects_of.ensures.finds first))
+    (subst (λ (row : Option ObjectRow). FindsBy (layout_by_found row) m c.layout_of_found.result) c.row_named.ensures layout)

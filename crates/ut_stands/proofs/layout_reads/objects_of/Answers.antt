@@ -1,0 +1,16 @@
+use Rattle.std.proofs.Common.{arith}
+use Rattle.ut_keeper.specs.Draft.{tables_of}
+use Rattle.ut_stands.proofs.LayoutReads.{objects_read}
+use Rattle.ut_stands.proofs.MetadataLists.{KeyLaws}
+use Rattle.ut_stands.proofs.layout_reads.objects_of.Goals as goal
+
+pub returns-clause-finds : goal.returns-clause-finds
+returns-clause-finds g c told =
+    let m = tables_of g.K.Keeper.state c.args.draft.now in
+    let keys : KeyLaws = record {
+      under = c.table_laws.ensures.under;
+      ends = c.table_laws.ensures.ends;
+      compares = c.shape_laws.ensures.compared;
+      begins = c.shape_laws.ensures.begins;
+    } in
+    objects_read keys c.shape_laws.ensures.again c.row_laws.ensures.one c.listing_laws.ensures.listed m c.args.org (omega arith) c.page_under.result (c.page_under.ensures.rows told)

@@ -19,7 +19,7 @@ use Rattle.ut_model.specs.World.{World, tenant_at, with_id}
 use Rattle.ut_stands.specs.Layouts.{FindsBy}
 use Rattle.ut_stands.specs.Plan.{FitsPlan, OrgPlan, Plan}
 use Rattle.ut_stands.specs.Reads.{FindsAs}
-use Rattle.ut_stands.specs.Stands.{Stands, StandsBy, owned_row, owner_of, row_at, row_in}
+use Rattle.ut_stands.specs.Stands.{StandsBy, owned_row, owner_of, row_at, row_in}
 use Rattle.ut_stands.proofs.Lookups.{some_is}
 
 -- what is read is what stands there, as `ut_keys` says

@@ -1,5 +1,5 @@
 -- What is read of an organisation's objects and fields is what the world has there.
-use Rattle.std.proofs.Common.{◌≡◌, ℕ, zero, suc, ◌+◌, ◌<◌, ◌≤◌, ◌^◌, Bool, true, false, cond, eqb, Option, Some, None, List, [], ◌∷◌, ◌++◌, length, refl, sym, ap, subst, ◌∙◌, arith, map, take}
+use Rattle.std.proofs.Common.{◌≡◌, ℕ, suc, ◌+◌, ◌<◌, ◌≤◌, ◌^◌, Bool, true, false, cond, eqb, Option, Some, None, List, [], ◌∷◌, ◌++◌, length, refl, sym, ap, subst, ◌∙◌, arith, map, take}
 use Rattle.std.specs.Prelude.{Result, Ok, Err, Vec, slice_get}
 use Rattle.std.specs.List.{enumerate_from, find}
 use Rattle.std.specs.Option.{option_and_then, option_map}
@@ -25,7 +25,7 @@ use Rattle.ut_model.specs.World.{World, tenant_at}
 use Rattle.ut_stands.specs.LayoutRows.{ListsBy, field_rows, job_in, job_of_row, layout_by, layout_by_found, layouts_by, object_rows, place_of_row, places_in, row_named}
 use Rattle.ut_stands.specs.Layouts.{FindsBy, job_on, layout_at, layout_named, layout_of, layouts_of, numbered_at, place_of}
 use Rattle.ut_stands.specs.Metadata.{field_of, job_of, object_of}
-use Rattle.ut_stands.specs.Plan.{OrgPlan, Plan}
+use Rattle.ut_stands.specs.Plan.{Plan}
 use Rattle.ut_stands.specs.Stands.{StandsBy, row_at}
 use Rattle.ut_stands.specs.declared.layout.FieldPlace.{FieldPlace}
 use Rattle.ut_stands.specs.declared.layout.JobPlace.{JobPlace}
@@ -84,6 +84,7 @@ few_fields p m w org n s = by (tenant_at w org) refl
     of_object t e (Some o) here =
         let few = (sound_object t n o (sound_tenant w org t s.world.tenants e) here).few_fields in
         omega (arith, few, length-map (enumerate_from 0 o.fields) (λ (f : ℕ × model.Field). field_of org (p.org org) n f.0 f.1), length-enumerate_from 0 o.fields)
+
     by : (o : Option Tenant) → tenant_at w org ≡ o → length (in_case o [] (λ t. in_case (object_at t n) [] (λ o. map (λ (f : ℕ × model.Field). field_of org (p.org org) n f.0 f.1) (enumerate_from 0 o.fields)))) ≤ 41
     by None e = omega arith
     by (Some t) e = of_object t e (object_at t n) refl
@@ -116,6 +117,7 @@ places_are org n p w = by (tenant_at w org)
     of_object : (o : Option model.Object) → map place_of_row (in_case o [] (λ o. map (λ (f : ℕ × model.Field). field_of org (p.org org) n f.0 f.1) (enumerate_from 0 o.fields))) ≡ in_case o [] (λ o. map (place_of (p.org org) n) (enumerate_from 0 o.fields))
     of_object None = refl
     of_object (Some o) = map_again place_of_row (λ (f : ℕ × model.Field). field_of org (p.org org) n f.0 f.1) (enumerate_from 0 o.fields)
+
     by : (o : Option Tenant) → map place_of_row (in_case o [] (λ t. in_case (object_at t n) [] (λ o. map (λ (f : ℕ × model.Field). field_of org (p.org org) n f.0 f.1) (enumerate_from 0 o.fields))))
         ≡ in_case o [] (λ t. in_case (object_at t n) [] (λ o. map (place_of (p.org org) n) (enumerate_from 0 o.fields)))
     by None = refl
@@ -134,6 +136,7 @@ job_is org n p w = by (tenant_at w org)
     of_job : (j : Option model.Job) → option_and_then (job_of_row n) (option_map (job_of org (p.org org)) j) ≡ option_and_then (λ (j : model.Job). cond (eqb j.object n) (Some (record { field = j.field; kind = (job_of org (p.org org) j).kind; twin = (p.org org).other; phase = j.phase; cursor = j.cursor })) None) j
     of_job None = refl
     of_job (Some j) = refl
+
     by : (o : Option Tenant) → option_and_then (job_of_row n) (option_and_then (job_there org (p.org org)) o) ≡ option_and_then (λ t. job_on (p.org org) t n) o
     by None = refl
     by (Some t) = of_job t.job
@@ -163,6 +166,7 @@ layout_at_is org n p w = by (tenant_at w org) refl
     of_object : (t : Tenant) → tenant_at w org ≡ Some t → (o : Option model.Object) → object_at t n ≡ o → option_map (layout_in p w) (option_map (object_of org t n) o) ≡ option_map (layout_of org (p.org org) t) (option_map (λ o. record { number = n; object = o }) o)
     of_object t e None g = refl
     of_object t e (Some o) g = ap Some (by_row org p w t n o e g)
+
     by : (o : Option Tenant) → tenant_at w org ≡ o → option_map (layout_in p w) (option_and_then (object_there org n (p.org org)) o) ≡ option_and_then (λ t. option_map (layout_of org (p.org org) t) (numbered_at t n)) o
     by None e = refl
     by (Some t) e = of_object t e (object_at t n) refl

@@ -1,5 +1,5 @@
 -- The rows of an organisation's objects, and of an object's fields, are the lists of the world.
-use Rattle.std.proofs.Common.{◌≡◌, ℕ, zero, suc, ◌+◌, ◌-◌, ◌<◌, ◌≤◌, ◌^◌, Bool, true, false, IsTrue, Option, Some, None, List, [], ◌∷◌, ◌++◌, length, refl, sym, ap, subst, ◌∙◌, arith, map, Less, Equal, Ordering}
+use Rattle.std.proofs.Common.{◌≡◌, ℕ, zero, suc, ◌-◌, ◌<◌, ◌^◌, true, IsTrue, Option, Some, None, List, [], ◌++◌, length, refl, sym, ap, ◌∙◌, arith, map, Less, Equal, Ordering}
 use Rattle.std.specs.Prelude.{◌↔◌, IsSome, slice_get}
 use Rattle.std.specs.Cmp.{nat_cmp_is, nat_cmp_total}
 use Rattle.std.specs.List.{enumerate_from}
@@ -11,7 +11,6 @@ use Rattle.std.proofs.lemmas.Option.{slice_get_within}
 use Rattle.ut_keeper.specs.Prefixes.{StartsWith, raised}
 use Rattle.ut_keeper.specs.Tables.{Tables, bytes_cmp, is_between}
 use Rattle.ut_keys.specs.declared.field.FieldRow.{FieldRow}
-use Rattle.ut_keys.specs.declared.object.ObjectRow.{ObjectRow}
 use Rattle.ut_keys.specs.Forms.{Form, row_bytes}
 use Rattle.ut_keys.specs.Keys.{FitsKey, Key, Field, Object, spell}
 use Rattle.ut_keys.specs.Listings.{ListsBetween}
@@ -26,12 +25,12 @@ use Rattle.ut_model.specs.Tenant.{Tenant}
 use Rattle.ut_model.specs.World.{World, tenant_at}
 use Rattle.ut_stands.specs.LayoutRows.{field_rows, object_rows}
 use Rattle.ut_stands.specs.Metadata.{field_of, object_of}
-use Rattle.ut_stands.specs.Plan.{FitsPlan, OrgPlan, Plan}
+use Rattle.ut_stands.specs.Plan.{OrgPlan, Plan}
 use Rattle.ut_stands.specs.Stands.{StandsBy, row_at, row_in}
 use Rattle.ut_stands.proofs.Found.{owned_at, sound_tenant}
 use Rattle.ut_stands.proofs.Lookups.{none_is}
 use Rattle.ut_stands.proofs.MetadataRows.{field_fits, object_fits, sound_object}
-use Rattle.ut_stands.proofs.Numbered.{AreNumbered, made_from, numbered_lists}
+use Rattle.ut_stands.proofs.Numbered.{AreNumbered, numbered_lists}
 use Rattle.ut_stands.proofs.Pages.{ListsTo}
 
 -- the laws of keys, as `ut_keys` and `ut_parts` say
@@ -233,6 +232,7 @@ module _ (laws : KeyLaws) (p : Plan) (m : Tables) (w : World) (s : StandsBy p m 
             no_row (option_and_then (λ o. slice_get o.fields it.0) (object_at t n)) found.0 (ap (option_and_then (λ o. slice_get o.fields it.0)) here) found.1)
         of_object t e above g (Some o) here =
             numbered_lists field_form (λ i. (org, (n, i))) (field_of org (p.org org) n) (row_at p w) (number32 org ++ number16 n) above o.fields (fields_numbered t e o here above g)
+
         by : (o : Option Tenant) → tenant_at w org ≡ o → (a : Option (List ℕ)) → raised (number32 org ++ number16 n) ≡ a
             → ListsTo field_form (row_at p w) (number32 org ++ number16 n) a (in_case o [] (λ t. rows_in_object (p.org org) (object_at t n)))
         by None e None g = refl

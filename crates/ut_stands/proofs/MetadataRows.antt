@@ -1,13 +1,13 @@
 -- The rows of an organisation's objects, fields and change of a type: they fit their forms, and what is read is what it has.
-use Rattle.std.proofs.Common.{◌≡◌, ℕ, zero, suc, ◌+◌, ◌<◌, ◌≤◌, ◌^◌, Bool, true, false, not, ◌&&◌, IsTrue, Option, Some, None, List, [], ◌∷◌, ◌++◌, length, refl, sym, ap, subst, ◌∙◌, arith, map}
-use Rattle.std.specs.Prelude.{slice_get, is_some, IfSome}
+use Rattle.std.proofs.Common.{◌≡◌, ℕ, zero, suc, ◌+◌, ◌<◌, ◌^◌, Bool, true, false, not, ◌&&◌, IsTrue, Option, Some, None, List, [], ◌∷◌, length, refl, ap, subst, ◌∙◌, arith, map}
+use Rattle.std.specs.Prelude.{slice_get, is_some}
 use Rattle.std.specs.List.{AllByRecursion, enumerate_from}
 use Rattle.std.specs.Option.{option_and_then, option_map}
 use Rattle.std.proofs.lemmas.Option.{slice_get_within}
 use Rattle.ut_keys.specs.declared.field.FieldRow.{FieldRow}
 use Rattle.ut_keys.specs.declared.job.JobRow.{JobRow}
 use Rattle.ut_keys.specs.declared.object.ObjectRow.{ObjectRow}
-use Rattle.ut_keys.specs.Forms.{FitsForm, Form, row_bytes}
+use Rattle.ut_keys.specs.Forms.{FitsForm, row_bytes}
 use Rattle.ut_keys.specs.Keys.{Field, Job, Object}
 use Rattle.ut_keys.specs.Reads.{MayStandAt}
 use Rattle.ut_keys.specs.Rows.{field_form, job_form, object_form}
@@ -18,9 +18,9 @@ use Rattle.ut_value.specs.declared.job.Outcome.{Outcome}
 use Rattle.ut_value.specs.declared.job.Outcome.TheVariants as outcome
 use Rattle.ut_value.specs.declared.job.Phase.{Phase}
 use Rattle.ut_value.specs.declared.job.Phase.TheVariants as phase
-use Rattle.ut_model.specs.Objects.{Numbered, numbered, object_at}
+use Rattle.ut_model.specs.Objects.{Numbered, object_at}
 use Rattle.ut_model.specs.Sound.{IsSound}
-use Rattle.ut_model.specs.SoundJob.{HasSoundJob, IsSoundJob, job_field}
+use Rattle.ut_model.specs.SoundJob.{HasSoundJob, IsSoundJob}
 use Rattle.ut_model.specs.SoundMetadata.{IsSoundField, IsSoundObject}
 use Rattle.ut_model.specs.Tenant as model
 use Rattle.ut_model.specs.Tenant.{Tenant}
@@ -127,7 +127,6 @@ field_is_row org n i lo small low = record {
 
 -- ---- the change of a type
 
-
 plain_type : (k : FieldType) → IsTrue (is_type k && not (is_reference k)) → FitsType k
 plain_type k h =
     let p = both (is_type k) (not (is_reference k)) h in
@@ -154,11 +153,19 @@ job_fits makes org p t j lo s fp e =
     let inside : j.field < length o.fields = slice_get_within o.fields j.field sj.field at.2 in
     let twin : p.other < 48 = fp.other in (
       lo,
-      (omega (arith, there, s.metadata.few),
-       (omega (arith, inside, so.few_fields),
-        (type_there_fits p j j.phase j.outcome (plain_type p.was fp.was) (plain_type j.to sj.change.to),
-         (omega (arith, twin),
-          (refl, (refl, (cursor_is_id makes t.counter j.object j.cursor sj.cursor, cursor_is_id makes t.counter j.object j.failed sj.failed))))))),
+      (
+        omega (arith, there, s.metadata.few),
+        (
+          omega (arith, inside, so.few_fields),
+          (
+            type_there_fits p j j.phase j.outcome (plain_type p.was fp.was) (plain_type j.to sj.change.to),
+            (
+              omega (arith, twin),
+              (refl, (refl, (cursor_is_id makes t.counter j.object j.cursor sj.cursor, cursor_is_id makes t.counter j.object j.failed sj.failed))),
+            ),
+          ),
+        ),
+      ),
     )
 
 -- the row of the change, if there is one

@@ -1,11 +1,10 @@
 -- Rows that are numbered from 0, as the objects of an organisation and the fields of an object are, in the order of their keys.
-use Rattle.std.proofs.Common.{◌≡◌, ℕ, zero, suc, ◌+◌, ◌<◌, ◌≤◌, Bool, true, false, ◌&&◌, T, IsTrue, Option, Some, None, List, [], ◌∷◌, length, refl, sym, ap, subst, ◌∙◌, inl, inr, map, arith, add-one}
+use Rattle.std.proofs.Common.{◌≡◌, ℕ, zero, suc, ◌+◌, ◌<◌, ◌≤◌, Bool, true, false, ◌&&◌, T, IsTrue, Option, Some, List, [], ◌∷◌, length, refl, sym, ap, subst, ◌∙◌, inl, inr, map, arith}
 use Rattle.std.specs.Prelude.{slice_get}
 use Rattle.std.specs.List.{enumerate_from}
 use Rattle.std.specs.Ordering.{is_lt}
 use Rattle.std.specs.FinMap.{is_sorted}
 use Rattle.std.specs.FinMap.Entries.{below_all}
-use Rattle.std.proofs.lemmas.Option.{slice_get_within}
 use Rattle.ut_parts.specs.Shapes.{Val, spelled}
 use Rattle.ut_keeper.specs.Tables.{Has, bytes_cmp, is_between}
 use Rattle.ut_keys.specs.Forms.{FitsForm, Form, key_bytes, row_bytes}

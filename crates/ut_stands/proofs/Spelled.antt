@@ -1,20 +1,20 @@
 -- The names, types and ids of sound metadata have spellings.
-use Rattle.std.proofs.Common.{◌≡◌, ℕ, zero, suc, ◌+◌, ◌-◌, ◌*◌, ◌/◌, ◌%◌, ◌<◌, ◌≤◌, Bool, true, false, ◌&&◌, ◌||◌, IsTrue, List, [], ◌∷◌, ◌++◌, length, take, drop, Option, Some, None, refl, sym, ap, subst, ◌∙◌, arith, length-append}
-use Rattle.std.specs.Prelude.{◌^◌, nat_le, nat_lt, encode_utf8_all, codes, get_or, IfSome}
+use Rattle.std.proofs.Common.{◌≡◌, ℕ, zero, suc, ◌-◌, ◌*◌, ◌/◌, ◌%◌, ◌<◌, ◌≤◌, Bool, true, false, ◌&&◌, ◌||◌, IsTrue, List, [], ◌∷◌, ◌++◌, length, take, drop, Option, Some, None, refl, sym, ap, subst, ◌∙◌, arith, length-append}
+use Rattle.std.specs.Prelude.{◌^◌, nat_le, nat_lt, encode_utf8_all, codes, IfSome}
 use Rattle.std.specs.List.{AllByRecursion, list_all, All}
 use Rattle.std.specs.Char.{encode_utf8}
 use Rattle.std.specs.Str.{all_scalars, bytes_eq}
 use Rattle.std.proofs.lemmas.Bool.Decides.{nat_tests}
 use Rattle.std.proofs.lemmas.Slice.Eq.{bytes_eq-Decides}
 use Rattle.std.proofs.lemmas.Str.{length-encode, len_utf8_bounds}
-use Rattle.std.proofs.lemmas.List.{take-append-drop, length-take, length-drop}
+use Rattle.std.proofs.lemmas.List.{take-append-drop}
 use Rattle.ut_value.specs.Digits.{digits}
-use Rattle.ut_value.specs.Id.{digit62, is_digit62, is_id, made}
+use Rattle.ut_value.specs.Id.{digit62, is_digit62, is_id}
 use Rattle.ut_value.specs.Numerals.{is_within}
 use Rattle.ut_value.specs.Types.{is_choice, is_reference, is_type}
 use Rattle.ut_value.specs.declared.value.FieldType.{FieldType}
 use Rattle.ut_value.specs.declared.value.FieldType.TheVariants as type
-use Rattle.ut_parts.specs.Composed.{FitsItems, FitsType}
+use Rattle.ut_parts.specs.Composed.{FitsType}
 use Rattle.ut_parts.specs.Plain.{FitsText}
 use Rattle.ut_model.specs.Cases.{in_case}
 use Rattle.ut_model.specs.Names.{begins_with_letter, in_stem, is_child_name, is_custom_name, is_stem, is_underscore}

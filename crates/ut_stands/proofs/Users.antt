@@ -1,21 +1,17 @@
 -- What is read at a user's key is that user of the world.
-use Rattle.std.proofs.Common.{◌≡◌, ℕ, zero, suc, ◌^◌, ◌<◌, Bool, true, false, cond, IsTrue, List, [], ◌∷◌, Option, Some, None, refl, sym, ap, subst, ◌∙◌}
-use Rattle.std.specs.Prelude.{Result, Ok, Err, slice_get}
-use Rattle.std.specs.List.{AllByRecursion}
+use Rattle.std.proofs.Common.{◌≡◌, ℕ, ◌^◌, ◌<◌, IsTrue, List, Option, Some, None, refl, ap}
+use Rattle.std.specs.Prelude.{Result}
 use Rattle.std.specs.Option.{option_and_then, option_map}
 use Rattle.std.specs.FinMap as map
-use Rattle.std.specs.Str.{bytes_eq}
-use Rattle.std.proofs.lemmas.Slice.Eq.{bytes_eq-Decides}
 use Rattle.ut_value.specs.Id.{is_id}
 use Rattle.ut_keeper.specs.Tables.{Tables}
 use Rattle.ut_keys.specs.declared.fail.StoreFail.{StoreFail}
-use Rattle.ut_keys.specs.declared.fail.StoreFail.TheVariants.{Keeper, Memory, Damaged}
 use Rattle.ut_keys.specs.declared.user.UserRow.{UserRow}
 use Rattle.ut_keys.specs.Forms.{row_bytes}
 use Rattle.ut_keys.specs.Keys.{User, spell}
-use Rattle.ut_keys.specs.Reads.{FoundAs, MayStandAt, ReadsAs}
+use Rattle.ut_keys.specs.Reads.{MayStandAt, ReadsAs}
 use Rattle.ut_keys.specs.Rows.{user_form}
-use Rattle.ut_model.specs.Known.{Known, known}
+use Rattle.ut_model.specs.Known.{known}
 use Rattle.ut_model.specs.Sound.{IsSound}
 use Rattle.ut_model.specs.SoundPeople.{IsSoundUser}
 use Rattle.ut_model.specs.Tenant as model

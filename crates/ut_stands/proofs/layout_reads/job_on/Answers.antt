@@ -1,4 +1,4 @@
-use Rattle.std.proofs.Common.{◌≡◌, ◌∙◌, Err, None, Ok, Some, ap, refl, subst, sym, arith}
+use Rattle.std.proofs.Common.{◌∙◌, None, Ok, Some, ap, refl, subst, arith}
 use Rattle.ut_keeper.specs.Draft.{tables_of}
 use Rattle.ut_keys.specs.Rows.{job_form}
 use Rattle.ut_stands.specs.LayoutRows.{job_in}

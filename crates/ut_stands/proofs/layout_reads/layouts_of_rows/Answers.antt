@@ -1,5 +1,4 @@
 use Rattle.std.proofs.Common.{subst, sym}
-use Rattle.ut_keeper.specs.Draft.{tables_of}
 use Rattle.ut_keeper.specs.Tables.{Tables}
 use Rattle.ut_stands.specs.Stands.{StandsBy}
 use Rattle.ut_stands.proofs.LayoutReads.{more_layouts}

@@ -1,4 +1,4 @@
-use Rattle.std.proofs.Common.{◌≡◌, map, true}
+use Rattle.std.proofs.Common.{◌≡◌, true}
 use Rattle.ut_keeper.specs.Draft.{DraftReads, DraftTells, state_of, tables_of}
 use Rattle.ut_keeper.specs.State.{StaysAfter}
 use Rattle.ut_model.specs.World.{World}

@@ -125,7 +125,8 @@ fresh_fits name digest = record {
   other = omega arith;
   apart = λ j is busy f there same. absurd cc;
   was = refl;
-  left = λ j i v at left. absurd cc;
+  switched = λ j f at clear done is. absurd cc;
+  left = λ j i v at clear left. absurd cc;
 }
 
 -- ---- the tables

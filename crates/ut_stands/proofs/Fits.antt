@@ -8,10 +8,10 @@ use Rattle.ut_model.specs.NewFields.{with_field}
 use Rattle.ut_model.specs.Objects.{object_at, with_object_changed}
 use Rattle.ut_model.specs.Retyping.{job_is_done}
 use Rattle.ut_model.specs.Sound.{IsSound}
-use Rattle.ut_model.specs.SoundJob.{HasSoundJob}
+use Rattle.ut_model.specs.SoundJob.{HasSoundJob, job_field}
 use Rattle.ut_model.specs.Tenant.{Field, Job, Object, Tenant}
 use Rattle.ut_stands.specs.Entries.{field_in}
-use Rattle.ut_stands.specs.Plan.{FitsPlan, OrgPlan, has_field, slot_count, type_there}
+use Rattle.ut_stands.specs.Plan.{FitsPlan, OrgPlan, has_field, is_clear, slot_count, type_there}
 use Rattle.ut_stands.specs.Records.{is_free, is_other, with_slot}
 use Rattle.ut_stands.proofs.Free.{and_right, free_field, not_true}
 use Rattle.ut_stands.proofs.Lookups.{eqb_less, eqb_same, get_below, get_past, get_push, none_is, pick, some_is}
@@ -27,8 +27,12 @@ there_is None e = absurd cc
 there_is (Some y) e = (y, refl)
 
 -- what is left is of its type under another slot too
-left_placed : (slots : ℕ → ℕ → ℕ) (p : OrgPlan) (t : Tenant) → FitsPlan p t → (j : Job) (i : List ℕ) (v : _) → t.job ≡ Some j → p.left i ≡ Some v → IsTrue (valid (type_there (placed slots p) j) v)
-left_placed slots p t fits j i v at left = subst (λ k. IsTrue (valid k v)) (sym (there_same slots p j j.phase j.outcome)) (fits.left j i v at left)
+left_placed : (slots : ℕ → ℕ → ℕ) (p : OrgPlan) (t : Tenant) → FitsPlan p t → (j : Job) (i : List ℕ) (v : _) → t.job ≡ Some j → is_clear j.phase ≡ true → p.left i ≡ Some v → IsTrue (valid (type_there (placed slots p) j) v)
+left_placed slots p t fits j i v at clear left = subst (λ k. IsTrue (valid k v)) (sym (there_same slots p j j.phase j.outcome)) (fits.left j i v at clear left)
+
+-- the field with this number
+abbrev field_of : (field : ℕ) → Option Object → Option Field
+field_of f o = option_and_then (λ (x : Object). slice_get x.fields f) o
 
 -- ---- an object that is changed but for its fields
 
@@ -39,9 +43,17 @@ fits_changed p t n change same fits = record {
   other = fits.other;
   apart = λ j at busy f has e. fits.apart j at busy f (kept j.object f has) e;
   was = fits.was;
+  switched = λ j f at clear done is. fits.switched j f at clear done (sym (kept_field j) ∙ is);
   left = fits.left;
 }
   where
+    field_same : (m f : ℕ) (o : Option Object) → field_of f (option_map (λ (x : Object). cond (eqb m n) (change x) x) o) ≡ field_of f o
+    field_same m f None = refl
+    field_same m f (Some o) = pick (eqb m n) (λ b. slice_get (cond b (change o) o).fields f ≡ slice_get o.fields f) (λ _. ap (λ (fs : List Field). slice_get fs f) (same o)) (λ _. refl)
+
+    kept_field : (j : Job) → job_field (with_object_changed n change t).objects j ≡ job_field t.objects j
+    kept_field j = ap (field_of j.field) (get_changed n change t.objects j.object) ∙ field_same j.object j.field (slice_get t.objects j.object)
+
     has_same : (m f : ℕ) (o : Option Object) → has_in f (option_map (λ (x : Object). cond (eqb m n) (change x) x) o) ≡ has_in f o
     has_same m f None = refl
     has_same m f (Some o) = pick (eqb m n) (λ b. is_some (slice_get (cond b (change o) o).fields f) ≡ is_some (slice_get o.fields f)) (λ _. ap (λ (fs : List Field). is_some (slice_get fs f)) (same o)) (λ _. refl)
@@ -97,7 +109,8 @@ module _ (p : OrgPlan) (t : Tenant) (o : Object) (s : ℕ) (sound : IsSound t) (
     other = fits.other;
     apart = λ j at busy f has e. apart_by j at busy f (old_or_new j.object f has) e;
     was = fits.was;
-    left = λ j i v at left. left_placed plan.slot p t fits j i v at left;
+    switched = λ j f at clear done is. fits.switched j f at clear done (sym (kept_field j at) ∙ is);
+    left = λ j i v at clear left. left_placed plan.slot p t fits j i v at clear left;
   }
     where
       below_by : (m f : ℕ) → IsTrue (has_field t m f) ⊎ ((m ≡ length t.objects) × (f ≡ 0)) → plan.slot m f < slot_count
@@ -121,13 +134,20 @@ module _ (p : OrgPlan) (t : Tenant) (o : Object) (s : ℕ) (sound : IsSound t) (
           by None gone = none_is sj.field (sym (ap (option_and_then (λ (x : Object). slice_get x.fields j.field)) gone) ∙ sj.there)
           by (Some x) there = none_is x (sym (get_past t.objects) ∙ sym (ap (slice_get t.objects) e) ∙ there)
 
+      kept_field : (j : Job) → t.job ≡ Some j → job_field next.objects j ≡ job_field t.objects j
+      kept_field j at =
+          ap (field_of j.field) (get_push t.objects o j.object)
+          ∙ pick (eqb j.object (length t.objects)) (λ b. field_of j.field (cond b (Some o) (slice_get t.objects j.object)) ≡ job_field t.objects j)
+          (λ is. absurd (job_there j at (eqb-true j.object (length t.objects) is)))
+          (λ _. refl)
+
       apart_by : (j : Job) → t.job ≡ Some j → job_is_done j.phase ≡ false → (f : ℕ) → IsTrue (has_field t j.object f) ⊎ ((j.object ≡ length t.objects) × (f ≡ 0)) → plan.slot j.object f ≡ p.other → ⊥
       apart_by j at busy f (inl has) e = fits.apart j at busy f has (sym (old_slot j.object f has) ∙ e)
       apart_by j at busy f (inr new) e = job_there j at new.0
 
 -- ---- one more field
 
-module _ (p : OrgPlan) (t : Tenant) (n : ℕ) (o : Object) (f : Field) (s : ℕ) (here : object_at t n ≡ Some o) (below : s < slot_count) (vacant : IsTrue (is_free p t.job n o s)) (fits : FitsPlan p t) where
+module _ (p : OrgPlan) (t : Tenant) (n : ℕ) (o : Object) (f : Field) (s : ℕ) (sound : IsSound t) (here : object_at t n ≡ Some o) (below : s < slot_count) (vacant : IsTrue (is_free p t.job n o s)) (fits : FitsPlan p t) where
   abbrev wide : Tenant
   wide = with_field n f t
 
@@ -207,9 +227,25 @@ module _ (p : OrgPlan) (t : Tenant) (n : ℕ) (o : Object) (f : Field) (s : ℕ)
     other = fits.other;
     apart = λ j at busy g has e. apart_by j at busy g (each j.object g has) e;
     was = fits.was;
-    left = λ j i v at left. left_placed wide_plan.slot p t fits j i v at left;
+    switched = λ j g at clear done is. fits.switched j g at clear done (sym (kept_field j at) ∙ is);
+    left = λ j i v at clear left. left_placed wide_plan.slot p t fits j i v at clear left;
   }
     where
+      -- a change is of a field of before
+      kept_field : (j : Job) → t.job ≡ Some j → job_field wide.objects j ≡ job_field t.objects j
+      kept_field j at = ap (field_of j.field) (get_changed n (λ (y : Object). record y { fields = y.fields ++ f ∷ [] }) t.objects j.object) ∙ by (object_at t j.object) refl
+        where
+          sj : HasSoundJob t.counter t.objects t.records (Some j)
+          sj = subst (λ (x : Option Job). HasSoundJob t.counter t.objects t.records x) at sound.job
+
+          by : (x : Option Object) → object_at t j.object ≡ x → field_of j.field (option_map (λ (y : Object). cond (eqb j.object n) (record y { fields = y.fields ++ f ∷ [] }) y) x) ≡ field_of j.field x
+          by None e = refl
+          by (Some x) e =
+              let there : slice_get x.fields j.field ≡ Some sj.field = sym (ap (field_of j.field) e) ∙ sj.there in
+              pick (eqb j.object n) (λ b. slice_get (cond b (record x { fields = x.fields ++ f ∷ [] }) x).fields j.field ≡ slice_get x.fields j.field)
+              (λ _. get_push x.fields f j.field ∙ rw (eqb_less j.field (length x.fields) (get_below x.fields j.field sj.field there)) refl)
+              (λ _. refl)
+
       below_by : (m g : ℕ) → IsTrue (has_field t m g) ⊎ IsNew m g → wide_plan.slot m g < slot_count
       below_by m g (inl has) = subst (λ (x : ℕ). x < slot_count) (sym (same_slot m g has)) (fits.below m g has)
       below_by m g (inr new) = subst (λ (x : ℕ). x < slot_count) (sym (last_slot m g new)) below

@@ -1,9 +1,10 @@
 -- What a world leaves open of its tables: where the values of fields are kept, and what a change of a field's type has left.
 -- Source: C. D. Weissman and S. Bobrowski, "The Design of the Force.com Multitenant Internet Application Development Platform"
 -- (SIGMOD 2009): the values of all fields are in the flex columns of one table, here called slots; metadata say which is whose.
-use Rattle.std.specs.Prelude.{◌≡◌, ℕ, ◌<◌, Bool, true, false, not, ◌&&◌, ◌==◌, if◌then◌else◌, List, Option, Some, None, is_some, slice_get, IsTrue}
+use Rattle.std.specs.Prelude.{◌≡◌, ℕ, ◌<◌, Bool, true, false, not, ◌&&◌, ◌||◌, ◌==◌, if◌then◌else◌, List, Option, Some, None, is_some, slice_get, IsTrue}
 use Rattle.std.specs.Option.{option_and_then}
-use Rattle.ut_value.specs.Types.{is_reference, is_type}
+use Rattle.ut_value.specs.Conversion.{convertible}
+use Rattle.ut_value.specs.Types.{is_reference, is_type, suits_indexed}
 use Rattle.ut_value.specs.Values.{valid}
 use Rattle.ut_value.specs.declared.job.Outcome.{Outcome}
 use Rattle.ut_value.specs.declared.job.Outcome.TheVariants as outcome
@@ -14,7 +15,8 @@ use Rattle.ut_value.specs.declared.value.FieldType.TheVariants as type
 use Rattle.ut_value.specs.declared.value.Value.{Value}
 use Rattle.ut_model.specs.Objects.{object_at}
 use Rattle.ut_model.specs.Retyping.{job_is_done}
-use Rattle.ut_model.specs.Tenant.{Job, Tenant}
+use Rattle.ut_model.specs.SoundJob.{is_switched, job_field}
+use Rattle.ut_model.specs.Tenant.{Field, Job, Tenant}
 
 -- how many slots a record has
 abbrev pub slot_count : ℕ
@@ -62,6 +64,11 @@ type_in p j _ _ = j.to
 abbrev pub type_there : OrgPlan → Job → FieldType
 type_there p j = type_in p j j.phase j.outcome
 
+-- values are being cleared
+abbrev pub is_clear : Phase → Bool
+is_clear phase.Clear = true
+is_clear _ = false
+
 -- each field of an object has a slot of its own, and so has a change that isn't done; what is left is of its type
 pub record FitsPlan (p : OrgPlan) (t : Tenant) : Type 0 where
   pub below : (n f : ℕ) → IsTrue (has_field t n f) → p.slot n f < slot_count
@@ -70,4 +77,7 @@ pub record FitsPlan (p : OrgPlan) (t : Tenant) : Type 0 where
   pub apart : (j : Job) → t.job ≡ Some j → job_is_done j.phase ≡ false
       → (f : ℕ) → IsTrue (has_field t j.object f) → p.slot j.object f ≡ p.other → ⊥
   pub was : IsTrue (is_type p.was && not (is_reference p.was))
-  pub left : (j : Job) (i : List ℕ) (v : Value) → t.job ≡ Some j → p.left i ≡ Some v → IsTrue (valid (type_there p j) v)
+  -- the type before a switch suited the field, and converts to the new one
+  pub switched : (j : Job) (f : Field) → t.job ≡ Some j → is_clear j.phase ≡ true → is_switched j.outcome ≡ true → job_field t.objects j ≡ Some f
+      → IsTrue ((not f.indexed || suits_indexed p.was) && convertible p.was j.to)
+  pub left : (j : Job) (i : List ℕ) (v : Value) → t.job ≡ Some j → is_clear j.phase ≡ true → p.left i ≡ Some v → IsTrue (valid (type_there p j) v)

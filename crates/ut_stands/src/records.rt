@@ -78,6 +78,6 @@ pub fn slot_laws()
     ensures described { (p : OrgPlan) (t : Tenant) (n : ℕ) (change : Object → Object)
         → FitsPlan p t → ((o : Object) → (change o).fields ≡ o.fields) → FitsPlan p (with_object_changed n change t) }
     ensures field { (p : OrgPlan) (t : Tenant) (n : ℕ) (o : Object) (f : Field) (s : ℕ)
-        → FitsPlan p t → object_at t n ≡ Some o → s < slot_count → IsTrue (is_free p t.job n o s)
+        → IsSound t → FitsPlan p t → object_at t n ≡ Some o → s < slot_count → IsTrue (is_free p t.job n o s)
         → FitsPlan (with_slot n (length o.fields) s p) (with_field n f t) }
 {}

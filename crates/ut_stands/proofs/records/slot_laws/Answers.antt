@@ -9,5 +9,5 @@ returns c = record {
   seen = free.seen;
   object = λ p t o s sound fitting below few. fits.fits_object p t o s sound below few fitting;
   described = λ p t n change fitting same. fits.fits_changed p t n change same fitting;
-  field = λ p t n o f s fitting here below vacant. fits.fits_field p t n o f s here below vacant fitting;
+  field = λ p t n o f s sound fitting here below vacant. fits.fits_field p t n o f s sound here below vacant fitting;
 }

@@ -6,7 +6,7 @@ ghost use Rattle.ut_keeper.specs.Draft.{DraftReads, DraftTells, state_of, tables
 ghost use Rattle.ut_keeper.specs.State.{KeeperCause, StaysAfter};
 ghost use Rattle.ut_keys.specs.declared.fail.StoreFail.TheVariants.{Keeper};
 ghost use Rattle.ut_model.specs.Fields.{same_name};
-ghost use Rattle.ut_stands.specs.LayoutRows.{ListsBy, job_in, job_of_row, layout_by, layout_by_found, layouts_by, object_rows, place_of_row, places_in, row_named};
+ghost use Rattle.ut_stands.specs.inner.LayoutRows.{ListsBy, job_in, job_of_row, layout_by, layout_by_found, layouts_by, object_rows, place_of_row, places_in, row_named};
 ghost use Rattle.ut_stands.specs.Layouts.{FindsBy, layout_at, layout_named, layouts_of};
 
 use crate::layout::{FieldPlace, JobPlace, Layout};

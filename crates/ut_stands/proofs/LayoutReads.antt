@@ -22,7 +22,7 @@ use Rattle.ut_model.specs.Objects.{Numbered, numbered, object_at, object_named}
 use Rattle.ut_model.specs.Tenant as model
 use Rattle.ut_model.specs.Tenant.{Tenant}
 use Rattle.ut_model.specs.World.{World, tenant_at}
-use Rattle.ut_stands.specs.LayoutRows.{ListsBy, field_rows, job_in, job_of_row, layout_by, layout_by_found, layouts_by, object_rows, place_of_row, places_in, row_named}
+use Rattle.ut_stands.specs.inner.LayoutRows.{ListsBy, field_rows, job_in, job_of_row, layout_by, layout_by_found, layouts_by, object_rows, place_of_row, places_in, row_named}
 use Rattle.ut_stands.specs.Layouts.{FindsBy, job_on, layout_at, layout_named, layout_of, layouts_of, numbered_at, place_of}
 use Rattle.ut_stands.specs.Metadata.{field_of, job_of, object_of}
 use Rattle.ut_stands.specs.Plan.{Plan}

@@ -10,7 +10,6 @@ pub mod Pages
 pub mod Numbered
 pub mod MetadataRows
 pub mod MetadataLists
-pub mod SameNames
 pub mod TwoReads
 pub mod LayoutReads
 pub mod Kept

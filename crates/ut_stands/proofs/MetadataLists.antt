@@ -23,7 +23,7 @@ use Rattle.ut_model.specs.Sound.{IsSound}
 use Rattle.ut_model.specs.Tenant as model
 use Rattle.ut_model.specs.Tenant.{Tenant}
 use Rattle.ut_model.specs.World.{World, tenant_at}
-use Rattle.ut_stands.specs.LayoutRows.{field_rows, object_rows}
+use Rattle.ut_stands.specs.inner.LayoutRows.{field_rows, object_rows}
 use Rattle.ut_stands.specs.Metadata.{field_of, object_of}
 use Rattle.ut_stands.specs.Plan.{OrgPlan, Plan}
 use Rattle.ut_stands.specs.Stands.{StandsBy, row_at, row_in}

@@ -6,6 +6,6 @@ pub mod Stands
 pub mod Operations
 pub mod Reads
 pub mod Layouts
-pub mod LayoutRows
 pub mod Records
 pub mod WorkedRows
+pub mod inner

@@ -5,8 +5,7 @@ ghost use Rattle.std.specs.Str.{chars};
 ghost use Rattle.ut_keeper.specs.Draft.{DraftReads, DraftTells, state_of, tables_of};
 ghost use Rattle.ut_keeper.specs.State.{KeeperCause, StaysAfter};
 ghost use Rattle.ut_keys.specs.declared.fail.StoreFail.TheVariants.{Keeper};
-ghost use Rattle.ut_model.specs.Fields.{same_name};
-ghost use Rattle.ut_stands.specs.LayoutRows.{ListsBy, job_in, job_of_row, layout_by, layout_by_found, layouts_by, object_rows, place_of_row, places_in, row_named};
+ghost use Rattle.ut_stands.specs.inner.LayoutRows.{ListsBy, job_in, job_of_row, layout_by, layout_by_found, layouts_by, object_rows, place_of_row, places_in, row_named};
 ghost use Rattle.ut_stands.specs.Layouts.{FindsBy, layout_at, layout_named, layouts_of};
 
 use crate::layout::{FieldPlace, JobPlace, Layout};
@@ -15,15 +14,9 @@ use ut_keeper::{Draft, Keeper, draft_laws};
 use ut_keys::{
     FieldRow, JobRow, ObjectRow, StoreFail, listing_laws, page_under, row_at, row_laws, table_laws,
 };
+use ut_model::same_name;
 use ut_parts::shape_laws;
 use ut_value::{Items, id_laws};
-
-/// Whether two names are one, whatever the case of their ASCII letters.
-pub fn same_name(name: &str, other: &str) -> bool
-    ensures { result ≡ same_name (chars name.now) (chars other.now) }
-{
-    name.eq_ignore_ascii_case(other)
-}
 
 // A field's place, from its row.
 fn place_of(row: FieldRow) -> FieldPlace

@@ -19,7 +19,7 @@ pub use crate::fail::{EditFail, OpenFail};
 pub use crate::judged::Judged;
 pub use crate::laws::{change_rows, stands_laws, stands_rows};
 pub use crate::layout::{FieldPlace, JobPlace, Layout};
-pub use crate::layout_reads::{layout_at, layout_named, layouts, same_name};
+pub use crate::layout_reads::{layout_at, layout_named, layouts};
 pub use crate::opening::{KNOWN_VERSION, open_tables};
 pub use crate::reads::user;
 pub use crate::records::{metadata_laws, record_laws, slot_laws};

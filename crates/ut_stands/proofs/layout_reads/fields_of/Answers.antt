@@ -1,7 +1,7 @@
 use Rattle.std.proofs.Common.{◌∙◌, Err, ap, arith, subst, sym}
 use Rattle.std.proofs.lemmas.Result.{err_from_is_err_and}
 use Rattle.ut_keeper.specs.Draft.{tables_of}
-use Rattle.ut_stands.specs.LayoutRows.{ListsBy, field_rows, places_in}
+use Rattle.ut_stands.specs.inner.LayoutRows.{ListsBy, field_rows, places_in}
 use Rattle.ut_stands.specs.Layouts.{FindsBy}
 use Rattle.ut_stands.proofs.LayoutReads.{fields_read, list_failed, places_found}
 use Rattle.ut_stands.proofs.MetadataLists.{KeyLaws}

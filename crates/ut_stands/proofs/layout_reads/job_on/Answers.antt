@@ -1,7 +1,7 @@
 use Rattle.std.proofs.Common.{◌∙◌, None, Ok, Some, ap, refl, subst, arith}
 use Rattle.ut_keeper.specs.Draft.{tables_of}
 use Rattle.ut_keys.specs.Rows.{job_form}
-use Rattle.ut_stands.specs.LayoutRows.{job_in}
+use Rattle.ut_stands.specs.inner.LayoutRows.{job_in}
 use Rattle.ut_stands.specs.Layouts.{FindsBy}
 use Rattle.ut_stands.proofs.Found.{row_finds, row_of}
 use Rattle.ut_stands.proofs.LayoutReads.{err_again, job_found}

@@ -3,7 +3,7 @@ use Rattle.std.proofs.lemmas.Result.{err_from_is_err_and}
 use Rattle.ut_keeper.specs.Draft.{tables_of}
 use Rattle.ut_keeper.specs.Tables.{Tables}
 use Rattle.ut_keys.specs.Rows.{object_form}
-use Rattle.ut_stands.specs.LayoutRows.{layout_by_found}
+use Rattle.ut_stands.specs.inner.LayoutRows.{layout_by_found}
 use Rattle.ut_stands.specs.Layouts.{FindsBy, layout_at}
 use Rattle.ut_stands.proofs.Found.{row_finds, row_of}
 use Rattle.ut_stands.proofs.LayoutReads.{at_found, err_again}

@@ -5,7 +5,7 @@ use Rattle.ut_keeper.specs.Draft.{tables_of}
 use Rattle.ut_keeper.specs.Tables.{Tables}
 use Rattle.ut_keys.specs.declared.object.ObjectRow.{ObjectRow}
 use Rattle.std.specs.Prelude.{Option}
-use Rattle.ut_stands.specs.LayoutRows.{ListsBy, layout_by_found, object_rows}
+use Rattle.ut_stands.specs.inner.LayoutRows.{ListsBy, layout_by_found, object_rows}
 use Rattle.ut_stands.specs.Layouts.{FindsBy, layout_named}
 use Rattle.ut_stands.proofs.LayoutReads.{list_failed, named_found}
 use Rattle.ut_stands.proofs.TwoReads.{told_first, told_then}

@@ -2,7 +2,7 @@ use Rattle.std.proofs.Common.{◌∙◌, Err, ap, subst, sym}
 use Rattle.std.proofs.lemmas.Result.{err_from_is_err_and}
 use Rattle.ut_keeper.specs.Draft.{tables_of}
 use Rattle.ut_keeper.specs.Tables.{Tables}
-use Rattle.ut_stands.specs.LayoutRows.{ListsBy, layouts_by, object_rows}
+use Rattle.ut_stands.specs.inner.LayoutRows.{ListsBy, layouts_by, object_rows}
 use Rattle.ut_stands.specs.Layouts.{FindsBy, layouts_of}
 use Rattle.ut_stands.proofs.LayoutReads.{layouts_found, list_failed}
 use Rattle.ut_stands.proofs.TwoReads.{told_first, told_then}

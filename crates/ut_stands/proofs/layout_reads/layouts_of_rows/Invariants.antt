@@ -2,7 +2,7 @@ use Rattle.std.proofs.Common.{◌≡◌, true}
 use Rattle.ut_keeper.specs.Draft.{DraftReads, DraftTells, state_of, tables_of}
 use Rattle.ut_keeper.specs.State.{StaysAfter}
 use Rattle.ut_model.specs.World.{World}
-use Rattle.ut_stands.specs.LayoutRows.{layouts_by}
+use Rattle.ut_stands.specs.inner.LayoutRows.{layouts_by}
 use Rattle.ut_stands.specs.Plan.{Plan}
 use Rattle.ut_stands.specs.Stands.{StandsBy}
 use Rattle.ut_stands.proofs.layout_reads.layouts_of_rows.Given as goal

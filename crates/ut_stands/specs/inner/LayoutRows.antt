@@ -1,4 +1,4 @@
--- How layouts are made of rows: words of the functions that read them.
+-- How layouts are made of rows. No public contract reaches these words.
 use Rattle.std.specs.Prelude.{◌≡◌, ℕ, ◌==◌, if◌then◌else◌, List, [], map, Option, Some, None, Result, Ok, Err, Vec}
 use Rattle.std.specs.List.{enumerate_from, find}
 use Rattle.std.specs.Option.{option_and_then, option_map}

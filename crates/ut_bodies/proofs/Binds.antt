@@ -7,21 +7,11 @@ use Rattle.ut_json.specs.Reading.{◌>>=◌}
 use Rattle.ut_model.specs.Members.{entry}
 use Rattle.ut_bodies.specs.declared.fail.BodyFail.{BodyFail}
 use Rattle.ut_bodies.specs.declared.fail.BodyFail.TheVariants.{Form, Memory}
-use Rattle.ut_bodies.specs.inner.Outcomes.{Gives, Misses}
+use Rattle.ut_bodies.specs.inner.Outcomes.{Gives}
 
 -- what is read, after what was read before
 abbrev pub after : {A : Type 0} → List A → Option (List A) → Option (List A)
 after front all = option_map (λ xs. front ++ xs) all
-
--- what isn't there stops the steps
-pub misses_bind : {X Y : Type 0} (e : BodyFail) (o : Option X) (f : X → Option Y) → Misses e o → Misses e (o >>= f)
-misses_bind Form None f h = refl
-misses_bind Form (Some x) f h = absurd (cc)
-misses_bind Memory o f h = tt
-
--- what is there goes on to the next step
-pub some_bind : {X Y : Type 0} (o : Option X) (f : X → Option Y) (x : X) → o ≡ Some x → o >>= f ≡ f x
-some_bind o f x h = rw h refl
 
 -- a table whose things are made from those of another
 pub entry-map : {X Y : Type 0} (f : X → Y) (table : List (List ℕ × X)) (name : List ℕ)

@@ -11,7 +11,7 @@ ghost use Rattle.ut_bodies.specs.inner.Said.{said};
 use crate::fail::BodyFail;
 use crate::members::{are_formed, entry};
 use crate::name::Name;
-use crate::table::named;
+use crate::table::entry_named;
 use crate::values::{as_list, as_object, as_text, as_truth, as_whole, into_members};
 use std::alloc::{AllocError, Global};
 use ut_json::{Json, JsonFail, Member, read};
@@ -43,7 +43,7 @@ pub(crate) fn members_in(alloc: Global, bytes: &[u8]) -> Result<Items<Member>, B
 }
 
 /// A copy of a text.
-pub(crate) fn copied(alloc: Global, text: &Text) -> Result<Text, AllocError>
+pub(crate) fn copy_of(alloc: Global, text: &Text) -> Result<Text, AllocError>
     ensures { IfOk result (λ t. t ≡ text.now) }
 {
     Text::from_str(alloc, text.as_str())
@@ -71,7 +71,7 @@ impl<'a> Body<'a> {
     }
 
     /// Refuses a body that has a member twice, lacks a needed one, or has one that is neither needed nor optional.
-    pub(crate) fn formed(&self, needed: &[Name], optional: &[Name]) -> Result<(), BodyFail>
+    pub(crate) fn check_form(&self, needed: &[Name], optional: &[Name]) -> Result<(), BodyFail>
         ensures { Gives (λ _. said self.now) result (model.formed (names_of needed.now) (names_of optional.now) (said self.now)) }
     {
         if are_formed(self.members, needed, optional) {
@@ -102,10 +102,14 @@ impl<'a> Body<'a> {
     }
 
     /// What a table has under the text of a member.
-    pub(crate) fn named<T: Copy>(&self, name: Name, table: &[(&str, T)]) -> Result<T, BodyFail>
+    pub(crate) fn table_entry<T: Copy>(
+        &self,
+        name: Name,
+        table: &[(&str, T)],
+    ) -> Result<T, BodyFail>
         ensures { Gives (λ x. x) result (named_in (said self.now) (name_of name) (table_of table.now)) }
     {
-        named(table, self.text(name)?).ok_or(BodyFail::Form)
+        entry_named(table, self.text(name)?).ok_or(BodyFail::Form)
     }
 
     /// A truth value, which is false if the member isn't there.
@@ -176,7 +180,7 @@ fn all_texts(alloc: Global, items: &[Json]) -> Result<Items<Text>, BodyFail>
     let mut rest = items;
     'items: while let Some((item, more)) = rest.split_first() {
         let text = as_text(item).ok_or(BodyFail::Form)?;
-        texts.push(copied(alloc, text)?)?;
+        texts.push(copy_of(alloc, text)?)?;
         rest = more;
     }
     Ok(texts)
@@ -192,7 +196,7 @@ pub(crate) fn append_names(
 {
     let mut rest = members;
     'members: while let Some((member, more)) = rest.split_first() {
-        names.push(copied(alloc, &member.name)?)?;
+        names.push(copy_of(alloc, &member.name)?)?;
         rest = more;
     }
     Ok(())

@@ -26,7 +26,7 @@ impl From<AllocError> for BodyFail {
 }
 
 /// What was read, where what isn't of its form is none.
-pub(crate) fn found<T>(read: Result<T, BodyFail>) -> Result<Option<T>, AllocError>
+pub(crate) fn or_none<T>(read: Result<T, BodyFail>) -> Result<Option<T>, AllocError>
     ensures { result ≡ outcome read }
 {
     match read {

@@ -8,8 +8,8 @@ ghost use Rattle.ut_bodies.specs.Bodies.{request_in};
 ghost use Rattle.ut_bodies.specs.inner.Outcomes.{Gives};
 ghost use Rattle.ut_bodies.specs.inner.Said.{said};
 
-use crate::body::{Body, copied, members_in};
-use crate::fail::{BodyFail, found};
+use crate::body::{Body, copy_of, members_in};
+use crate::fail::{BodyFail, or_none};
 use crate::name::Name;
 use crate::types::type_in;
 use std::alloc::{AllocError, Global};
@@ -39,10 +39,10 @@ fn flags_suit(kind: &SpelledType, required: bool, unique: bool, indexed: bool) -
     }
 }
 
-fn field_said(alloc: Global, body: &Body) -> Result<NewField, BodyFail>
+fn read_field(alloc: Global, body: &Body) -> Result<NewField, BodyFail>
     ensures { Gives adds_field result (model.field_request (said body.now)) }
 {
-    body.formed(
+    body.check_form(
         &[Name::Object, Name::Name, Name::Type],
         &[Name::Required, Name::Unique, Name::Indexed],
     )?;
@@ -57,8 +57,8 @@ fn field_said(alloc: Global, body: &Body) -> Result<NewField, BodyFail>
     }
     Ok(NewField {
         members: body.member_names(alloc)?,
-        object: copied(alloc, object)?,
-        name: copied(alloc, name)?,
+        object: copy_of(alloc, object)?,
+        name: copy_of(alloc, name)?,
         kind,
         required,
         unique,
@@ -66,11 +66,11 @@ fn field_said(alloc: Global, body: &Body) -> Result<NewField, BodyFail>
     })
 }
 
-fn field_in(alloc: Global, body: &[u8]) -> Result<NewField, BodyFail>
+fn field_in_bytes(alloc: Global, body: &[u8]) -> Result<NewField, BodyFail>
     ensures { Gives adds_field result (request_in model.field_request body.now) }
 {
     let members = members_in(alloc, body)?;
-    field_said(alloc, &Body::new(members.as_slice()))
+    read_field(alloc, &Body::new(members.as_slice()))
 }
 
 /// The field that a body says is to be added; none if it isn't of that form.
@@ -81,5 +81,5 @@ fn field_in(alloc: Global, body: &[u8]) -> Result<NewField, BodyFail>
 pub fn new_field(alloc: Global, body: &[u8]) -> Result<Option<NewField>, AllocError>
     ensures { IfOk result (λ new. option_map adds_field new ≡ request_in model.field_request body.now) }
 {
-    found(field_in(alloc, body))
+    or_none(field_in_bytes(alloc, body))
 }

@@ -99,6 +99,6 @@ pub(crate) fn are_formed(members: &[Member], needed: &[Name], optional: &[Name])
         && (list_all (is_one_of (names_of needed.now ++ names_of optional.now)) (member_names (body_of members.now))
         && list_all (is_one_of (member_names (body_of members.now))) (names_of needed.now))) }
 {
-    // Unknown members come first: what is left is then too short for the square of its length to matter.
+    // Of known names alone one soon comes again, so that `differ` takes few steps.
     are_among(members, needed, optional) && differ(members) && are_there(members, needed)
 }

@@ -12,8 +12,8 @@ ghost use Rattle.ut_bodies.specs.inner.Outcomes.{Gives};
 ghost use Rattle.ut_bodies.specs.inner.Said.{said};
 ghost use Rattle.ut_bodies.specs.inner.Spelled.{body_of, member_object, named_in};
 
-use crate::body::{Body, append_names, copied, members_in};
-use crate::fail::{BodyFail, found};
+use crate::body::{Body, append_names, copy_of, members_in};
+use crate::fail::{BodyFail, or_none};
 use crate::members::is_text;
 use crate::name::Name;
 use std::alloc::{AllocError, Global};
@@ -25,7 +25,7 @@ use ut_value::{Access, Items, Text};
 fn access_in(body: &Body) -> Result<Access, BodyFail>
     ensures { Gives (λ a. a) result (named_in (said body.now) (codes "access") model.accesses) }
 {
-    body.named(
+    body.table_entry(
         Name::Access,
         &[
             ("Private", Access::Private),
@@ -48,14 +48,14 @@ fn is_by_parent(access: Access) -> bool
 fn master_form(alloc: Global, body: &Body) -> Result<NewMaster, BodyFail>
     ensures { Gives (λ m. m) result (model.master_form (said body.now)) }
 {
-    body.formed(&[Name::Field, Name::Parent, Name::Child], &[])?;
+    body.check_form(&[Name::Field, Name::Parent, Name::Child], &[])?;
     let field = body.text(Name::Field)?;
     let parent = body.text(Name::Parent)?;
     let child = body.text(Name::Child)?;
     Ok(NewMaster {
-        field: copied(alloc, field)?,
-        parent: copied(alloc, parent)?,
-        child: copied(alloc, child)?,
+        field: copy_of(alloc, field)?,
+        parent: copy_of(alloc, parent)?,
+        child: copy_of(alloc, child)?,
     })
 }
 
@@ -92,7 +92,7 @@ fn append_name(
     if is_text(&member.name, Name::Master.text()) {
         append_names(alloc, names, master)
     } else {
-        names.push(copied(alloc, &member.name)?)
+        names.push(copy_of(alloc, &member.name)?)
     }
 }
 
@@ -110,10 +110,10 @@ fn all_names(alloc: Global, body: &Body) -> Result<Items<Text>, AllocError>
     Ok(names)
 }
 
-fn object_said(alloc: Global, body: &Body) -> Result<NewObject, BodyFail>
+fn read_object(alloc: Global, body: &Body) -> Result<NewObject, BodyFail>
     ensures { Gives adds_object result (model.object_request (said body.now)) }
 {
-    body.formed(&[Name::Name, Name::Access], &[Name::Master])?;
+    body.check_form(&[Name::Name, Name::Access], &[Name::Master])?;
     let name = body.text(Name::Name)?;
     let access = access_in(body)?;
     let master = master_of(alloc, body)?;
@@ -122,16 +122,16 @@ fn object_said(alloc: Global, body: &Body) -> Result<NewObject, BodyFail>
     }
     Ok(NewObject {
         members: all_names(alloc, body)?,
-        name: copied(alloc, name)?,
+        name: copy_of(alloc, name)?,
         access,
         master,
     })
 }
 
-fn access_said(body: &Body) -> Result<Access, BodyFail>
+fn read_access(body: &Body) -> Result<Access, BodyFail>
     ensures { (object : List ℕ) → Gives (sets_object object) result (model.access_request object (said body.now)) }
 {
-    body.formed(&[Name::Access], &[])?;
+    body.check_form(&[Name::Access], &[])?;
     let access = access_in(body)?;
     if is_by_parent(access) {
         Err(BodyFail::Form)
@@ -140,18 +140,18 @@ fn access_said(body: &Body) -> Result<Access, BodyFail>
     }
 }
 
-fn object_in(alloc: Global, body: &[u8]) -> Result<NewObject, BodyFail>
+fn object_in_bytes(alloc: Global, body: &[u8]) -> Result<NewObject, BodyFail>
     ensures { Gives adds_object result (request_in model.object_request body.now) }
 {
     let members = members_in(alloc, body)?;
-    object_said(alloc, &Body::new(members.as_slice()))
+    read_object(alloc, &Body::new(members.as_slice()))
 }
 
 fn access_in_bytes(alloc: Global, body: &[u8]) -> Result<Access, BodyFail>
     ensures { (object : List ℕ) → Gives (sets_object object) result (request_in (model.access_request object) body.now) }
 {
     let members = members_in(alloc, body)?;
-    access_said(&Body::new(members.as_slice()))
+    read_access(&Body::new(members.as_slice()))
 }
 
 /// The object that a body says is to be added; none if it isn't of that form.
@@ -162,7 +162,7 @@ fn access_in_bytes(alloc: Global, body: &[u8]) -> Result<Access, BodyFail>
 pub fn new_object(alloc: Global, body: &[u8]) -> Result<Option<NewObject>, AllocError>
     ensures { IfOk result (λ new. option_map adds_object new ≡ request_in model.object_request body.now) }
 {
-    found(object_in(alloc, body))
+    or_none(object_in_bytes(alloc, body))
 }
 
 /// The default access that a body says an object is to have; none if it isn't of that form.
@@ -174,5 +174,5 @@ pub fn new_access(alloc: Global, body: &[u8]) -> Result<Option<Access>, AllocErr
     ensures { IfOk result (λ access. (object : List ℕ)
         → option_map (sets_object object) access ≡ request_in (model.access_request object) body.now) }
 {
-    found(access_in_bytes(alloc, body))
+    or_none(access_in_bytes(alloc, body))
 }

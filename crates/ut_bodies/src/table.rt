@@ -8,7 +8,7 @@ use crate::members::is_text;
 use ut_value::Text;
 
 /// What a table has first under a name.
-pub(crate) fn named<T: Copy>(table: &[(&str, T)], name: &Text) -> Option<T>
+pub(crate) fn entry_named<T: Copy>(table: &[(&str, T)], name: &Text) -> Option<T>
     ensures { result ≡ entry (table_of table.now) name.now }
 {
     match table.split_first() {
@@ -16,7 +16,7 @@ pub(crate) fn named<T: Copy>(table: &[(&str, T)], name: &Text) -> Option<T>
             if is_text(name, row.0) {
                 Some(row.1)
             } else {
-                named(more, name)
+                entry_named(more, name)
             }
         }
         None => None,

@@ -9,7 +9,7 @@ ghost use Rattle.ut_bodies.specs.inner.Names.{name_of};
 ghost use Rattle.ut_bodies.specs.inner.Said.{said};
 ghost use Rattle.ut_bodies.specs.inner.Spelled.{named_in};
 
-use crate::body::{Body, copied};
+use crate::body::{Body, copy_of};
 use crate::fail::BodyFail;
 use crate::name::Name;
 use std::alloc::Global;
@@ -54,7 +54,7 @@ fn small(number: u128) -> Result<u8, BodyFail>
 fn text_type(body: &Body) -> Result<SpelledType, BodyFail>
     ensures { Gives (λ t. t) result (model.text_type (said body.now)) }
 {
-    body.formed(&[Name::Kind, Name::Length], &[])?;
+    body.check_form(&[Name::Kind, Name::Length], &[])?;
     let length = body.whole(Name::Length)?;
     in_bounds(FieldType::Text(small(length)?))
 }
@@ -63,7 +63,7 @@ fn text_type(body: &Body) -> Result<SpelledType, BodyFail>
 fn number_type(body: &Body) -> Result<SpelledType, BodyFail>
     ensures { Gives (λ t. t) result (model.number_type (said body.now)) }
 {
-    body.formed(&[Name::Kind, Name::Digits, Name::Decimals], &[])?;
+    body.check_form(&[Name::Kind, Name::Digits, Name::Decimals], &[])?;
     let digits = body.whole(Name::Digits)?;
     let decimals = body.whole(Name::Decimals)?;
     in_bounds(FieldType::Number {
@@ -76,7 +76,7 @@ fn number_type(body: &Body) -> Result<SpelledType, BodyFail>
 fn simple_type(kind: FieldType, body: &Body) -> Result<SpelledType, BodyFail>
     ensures { Gives (λ t. t) result (model.simple_type kind (said body.now)) }
 {
-    body.formed(&[Name::Kind], &[])?;
+    body.check_form(&[Name::Kind], &[])?;
     in_bounds(kind)
 }
 
@@ -84,7 +84,7 @@ fn simple_type(kind: FieldType, body: &Body) -> Result<SpelledType, BodyFail>
 fn picklist_type(alloc: Global, body: &Body) -> Result<SpelledType, BodyFail>
     ensures { Gives (λ t. t) result (model.picklist_type (said body.now)) }
 {
-    body.formed(&[Name::Kind, Name::Values], &[])?;
+    body.check_form(&[Name::Kind, Name::Values], &[])?;
     let values = body.texts(alloc, Name::Values)?;
     in_bounds(FieldType::Picklist(values))
 }
@@ -93,7 +93,7 @@ fn picklist_type(alloc: Global, body: &Body) -> Result<SpelledType, BodyFail>
 fn on_delete_in(body: &Body) -> Result<OnDelete, BodyFail>
     ensures { Gives (λ o. o) result (named_in (said body.now) (codes "onDelete") model.deletions) }
 {
-    body.named(
+    body.table_entry(
         Name::OnDelete,
         &[("Clear", OnDelete::Clear), ("Restrict", OnDelete::Restrict)],
     )
@@ -103,7 +103,7 @@ fn on_delete_in(body: &Body) -> Result<OnDelete, BodyFail>
 fn lookup_type(alloc: Global, body: &Body) -> Result<SpelledType, BodyFail>
     ensures { Gives (λ t. t) result (model.lookup_type (said body.now)) }
 {
-    body.formed(
+    body.check_form(
         &[Name::Kind, Name::Object, Name::OnDelete, Name::Child],
         &[],
     )?;
@@ -111,9 +111,9 @@ fn lookup_type(alloc: Global, body: &Body) -> Result<SpelledType, BodyFail>
     let on_delete = on_delete_in(body)?;
     let child = body.text(Name::Child)?;
     Ok(SpelledType::LookupTo {
-        object: copied(alloc, object)?,
+        object: copy_of(alloc, object)?,
         on_delete,
-        child: copied(alloc, child)?,
+        child: copy_of(alloc, child)?,
     })
 }
 
@@ -136,7 +136,7 @@ fn type_by(alloc: Global, form: TypeForm, body: &Body) -> Result<SpelledType, Bo
 fn type_form(body: &Body) -> Result<TypeForm, BodyFail>
     ensures { Gives form_of result (named_in (said body.now) (codes "kind") model.type_forms) }
 {
-    body.named(
+    body.table_entry(
         Name::Kind,
         &[
             ("Text", TypeForm::Text),

@@ -128,7 +128,7 @@ const FIELDS: &str = r#"
 {"object":"A__c","name":"B__c","type":{"kind":"Lookup","object":"T__c","onDelete":"Restrict","child":"C__r"},"indexed":true} -> none
 "#;
 
-fn joined(alloc: Global, texts: &[Text], between: &str) -> Result<String, AllocError> {
+fn join(alloc: Global, texts: &[Text], between: &str) -> Result<String, AllocError> {
     let mut all = String::new(alloc);
     for text in texts {
         if !all.is_empty() {
@@ -140,7 +140,7 @@ fn joined(alloc: Global, texts: &[Text], between: &str) -> Result<String, AllocE
 }
 
 fn shown_object(alloc: Global, new: &NewObject) -> Result<String, Fail> {
-    let members = joined(alloc, new.members.as_slice(), " ")?;
+    let members = join(alloc, new.members.as_slice(), " ")?;
     let name = new.name.as_str();
     let access = new.access;
     let mut shown = format!(in alloc; "{name} {access:?} [{members}]")?;
@@ -160,7 +160,7 @@ fn shown_kind(alloc: Global, kind: &SpelledType) -> Result<String, Fail> {
             Ok(format!(in alloc; "Number {digits} {decimals}")?)
         }
         SpelledType::Plain(FieldType::Picklist(values)) => {
-            let values = joined(alloc, values.as_slice(), ",")?;
+            let values = join(alloc, values.as_slice(), ",")?;
             Ok(format!(in alloc; "Picklist {values}")?)
         }
         SpelledType::Plain(kind) => Ok(format!(in alloc; "{kind:?}")?),
@@ -183,7 +183,7 @@ fn shown_field(alloc: Global, new: &NewField) -> Result<String, Fail> {
     let required = if new.required { " required" } else { "" };
     let unique = if new.unique { " unique" } else { "" };
     let indexed = if new.indexed { " indexed" } else { "" };
-    let members = joined(alloc, new.members.as_slice(), " ")?;
+    let members = join(alloc, new.members.as_slice(), " ")?;
     Ok(format!(in alloc; "{object} {name} {kind}{required}{unique}{indexed} [{members}]")?)
 }
 
@@ -196,7 +196,7 @@ enum Form {
 }
 
 // What a body of this form says.
-fn said(alloc: Global, form: Form, body: &[u8]) -> Result<String, Fail> {
+fn text_of_body(alloc: Global, form: Form, body: &[u8]) -> Result<String, Fail> {
     match form {
         Form::Object => {
             if let Some(new) = new_object(alloc, body)? {
@@ -220,10 +220,14 @@ fn said(alloc: Global, form: Form, body: &[u8]) -> Result<String, Fail> {
 #[test]
 fn a_body_says_what_its_form_does(rt: HostRuntime) -> Result<(), Fail> {
     let mut rows = 0u64;
-    for (form, table) in [(Form::Object, OBJECTS), (Form::Access, ACCESSES), (Form::Field, FIELDS)] {
+    for (form, table) in [
+        (Form::Object, OBJECTS),
+        (Form::Access, ACCESSES),
+        (Form::Field, FIELDS),
+    ] {
         for row in table.lines().skip(1) {
             let (body, expected) = row.split_once(" -> ").ok_or("a row without an arrow")?;
-            let found = said(rt.alloc(), form, body.as_bytes())?;
+            let found = text_of_body(rt.alloc(), form, body.as_bytes())?;
             assert!(rt; found.as_str() == expected, "{row}");
             rows = rows.saturating_add(1);
         }
@@ -236,13 +240,22 @@ fn a_body_says_what_its_form_does(rt: HostRuntime) -> Result<(), Fail> {
 fn a_body_is_in_utf8(rt: HostRuntime) -> Result<(), Fail> {
     assert!(rt; new_object(rt.alloc(), b"{\"name\":\"\xc3\xa9\",\"access\":\"Read\"}")?.is_some());
     assert!(rt; new_object(rt.alloc(), b"{\"name\":\"\xff\",\"access\":\"Read\"}")?.is_none());
-    assert!(rt; new_object(rt.alloc(), b"\xef\xbb\xbf{\"name\":\"a\",\"access\":\"Read\"}")?.is_none());
+    assert!(rt;
+        new_object(
+            rt.alloc(),
+            b"\xef\xbb\xbf{\"name\":\"a\",\"access\":\"Read\"}"
+        )?
+        .is_none()
+    );
     Ok(())
 }
 
 // A picklist with so many different values.
 fn picklist(alloc: Global, count: u64) -> Result<String, AllocError> {
-    let mut body = String::from_str(alloc, "{\"object\":\"A__c\",\"name\":\"B__c\",\"type\":{\"kind\":\"Picklist\",\"values\":[\"0\"")?;
+    let mut body = String::from_str(
+        alloc,
+        "{\"object\":\"A__c\",\"name\":\"B__c\",\"type\":{\"kind\":\"Picklist\",\"values\":[\"0\"",
+    )?;
     for n in 1..count {
         body.push_str(format!(in alloc; ",\"{n}\"")?.as_str())?;
     }

@@ -3,4 +3,4 @@ use Rattle.ut_bodies.proofs.types.on_delete_in.Goals as goal
 
 pub returns : goal.returns
 unfolding chars
-returns c = c.named.ensures
+returns c = c.table_entry.ensures

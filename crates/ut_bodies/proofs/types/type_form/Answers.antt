@@ -19,4 +19,4 @@ returns c =
     ∷ (codes "Picklist", form.Picklist)
     ∷ (codes "Lookup", form.Lookup)
     ∷ [])
-    c.named.result (text_in (said c.args.body.now) (codes "kind")) c.named.ensures
+    c.table_entry.result (text_in (said c.args.body.now) (codes "kind")) c.table_entry.ensures

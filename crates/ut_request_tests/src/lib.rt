@@ -1,6 +1,8 @@
-//! Tests of `ut_query`, `ut_table`, `ut_model` and `ut_rest`.
+//! Tests of `ut_query`, `ut_table`, `ut_model`, `ut_bodies` and `ut_rest`.
 #![tactic(auto)]
 
+#[cfg(test)]
+mod bodies;
 #[cfg(test)]
 mod model;
 #[cfg(test)]

@@ -1,0 +1,6 @@
+-- Words of private functions' contracts alone.
+pub mod Kinds
+pub mod Names
+pub mod Outcomes
+pub mod Said
+pub mod Spelled

@@ -1,0 +1,26 @@
+-- How the names of members are written.
+use Rattle.std.specs.Prelude.{ℕ, List, codes, map}
+use Rattle.ut_bodies.specs.declared.name.Name.{Name}
+use Rattle.ut_bodies.specs.declared.name.Name.TheVariants as name
+
+abbrev pub name_of : Name → List ℕ
+name_of name.Access = codes "access"
+name_of name.Child = codes "child"
+name_of name.Decimals = codes "decimals"
+name_of name.Digits = codes "digits"
+name_of name.Field = codes "field"
+name_of name.Indexed = codes "indexed"
+name_of name.Kind = codes "kind"
+name_of name.Length = codes "length"
+name_of name.Master = codes "master"
+name_of name.Name = codes "name"
+name_of name.Object = codes "object"
+name_of name.OnDelete = codes "onDelete"
+name_of name.Parent = codes "parent"
+name_of name.Required = codes "required"
+name_of name.Type = codes "type"
+name_of name.Unique = codes "unique"
+name_of name.Values = codes "values"
+
+abbrev pub names_of : List Name → List (List ℕ)
+names_of = map name_of

@@ -1,0 +1,32 @@
+-- Values, members and tables of the code as those of the definitions.
+use Rattle.std.specs.Prelude.{ℕ, List, Option, None, if◌then◌else◌, map}
+use Rattle.std.specs.Borrow.{Bor}
+use Rattle.std.specs.Str.{chars, is_utf8}
+use Rattle.ut_json.specs.Reading.{◌>>=◌, text as json_in}
+use Rattle.ut_json.specs.declared.tree.Json.{Json}
+use Rattle.ut_json.specs.declared.tree.Member.{Member, out-Member}
+use Rattle.ut_model.specs.Members.{Body, all_there, as_text, entry, list_in, object_in, text_in}
+
+-- the value that bytes spell
+abbrev pub value_in : List ℕ → Option Json
+value_in bytes = if is_utf8 bytes then json_in (chars bytes) else None
+
+-- the members of an object
+abbrev pub body_of : List Member → Body
+body_of ms = map (λ m. ((out-Member m).name, (out-Member m).value)) ms
+
+-- a table with the characters of its names
+abbrev pub table_of : {X : Type 0} → List (Bor (List ℕ) × X) → List (List ℕ × X)
+table_of rows = map (λ r. (chars r.0.now, r.1)) rows
+
+-- what a table has under the text of a member
+abbrev pub named_in : {X : Type 0} → Body → (name : List ℕ) → (table : List (List ℕ × X)) → Option X
+named_in b name table = text_in b name >>= entry table
+
+-- a member that is a list of texts
+abbrev pub texts_in : Body → (name : List ℕ) → Option (List (List ℕ))
+texts_in b name = list_in b name >>= λ items. all_there (map as_text items)
+
+-- a member that is an object
+abbrev pub member_object : Body → (name : List ℕ) → Option Body
+member_object b name = entry b name >>= object_in

@@ -1,0 +1,18 @@
+//! What the bodies of requests say, from their bytes.
+//!
+//! It depends on `ut_json` for JSON, and on the definitions of the forms in `ut_model`. Its contract: what is returned is what the
+//! form's definition gives for the members that `body_in` finds in the bytes, and none where it gives none; or it is out of memory.
+#![tactic(auto)]
+
+mod body;
+mod fail;
+mod fields;
+mod members;
+mod name;
+mod objects;
+mod table;
+mod types;
+mod values;
+
+pub use crate::fields::new_field;
+pub use crate::objects::{new_access, new_object};

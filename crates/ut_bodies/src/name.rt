@@ -1,0 +1,54 @@
+//! The names of members.
+
+ghost use Rattle.std.specs.Prelude.{◌≡◌};
+ghost use Rattle.std.specs.Str.{chars};
+ghost use Rattle.ut_bodies.specs.inner.Names.{name_of};
+
+/// The members that bodies, and the objects in them, may have.
+#[derive(Clone, Copy, Debug)]
+pub(crate) enum Name {
+    Access,
+    Child,
+    Decimals,
+    Digits,
+    Field,
+    Indexed,
+    Kind,
+    Length,
+    Master,
+    Name,
+    Object,
+    OnDelete,
+    Parent,
+    Required,
+    Type,
+    Unique,
+    Values,
+}
+
+impl Name {
+    /// The name as it is written.
+    pub(crate) fn text(self) -> &'static str
+        ensures { chars result.now ≡ name_of self }
+    {
+        match self {
+            Name::Access => "access",
+            Name::Child => "child",
+            Name::Decimals => "decimals",
+            Name::Digits => "digits",
+            Name::Field => "field",
+            Name::Indexed => "indexed",
+            Name::Kind => "kind",
+            Name::Length => "length",
+            Name::Master => "master",
+            Name::Name => "name",
+            Name::Object => "object",
+            Name::OnDelete => "onDelete",
+            Name::Parent => "parent",
+            Name::Required => "required",
+            Name::Type => "type",
+            Name::Unique => "unique",
+            Name::Values => "values",
+        }
+    }
+}

@@ -1,0 +1,24 @@
+//! Tables of names.
+
+ghost use Rattle.std.specs.Prelude.{◌≡◌};
+ghost use Rattle.ut_model.specs.Members.{entry};
+ghost use Rattle.ut_bodies.specs.inner.Spelled.{table_of};
+
+use crate::members::is_text;
+use ut_value::Text;
+
+/// What a table has first under a name.
+pub(crate) fn entry_named<T: Copy>(table: &[(&str, T)], name: &Text) -> Option<T>
+    ensures { result ≡ entry (table_of table.now) name.now }
+{
+    match table.split_first() {
+        Some((row, more)) => {
+            if is_text(name, row.0) {
+                Some(row.1)
+            } else {
+                entry_named(more, name)
+            }
+        }
+        None => None,
+    }
+}

@@ -1,11 +1,12 @@
 -- What layouts tell of a tenant's objects is what the objects tell.
-use Rattle.std.proofs.Common.{◌≡◌, ◌∙◌, ℕ, ◌+◌, Bool, true, false, ◌&&◌, ◌||◌, ◌==◌, cond, eqb, List, [], ◌∷◌, ◌++◌, length, map, Option, Some, None, suc, append_assoc, refl, sym, ap, subst}
+use Rattle.std.proofs.Common.{◌≡◌, ◌∙◌, ℕ, ◌+◌, Bool, true, false, ◌&&◌, ◌||◌, ◌==◌, cond, List, [], ◌∷◌, ◌++◌, length, map, Option, Some, None, zero, suc, append_assoc, refl, sym, ap, subst}
 use Rattle.std.specs.Prelude.{filter, filter_map}
 use Rattle.std.specs.List.{enumerate_from, find, flat_map, list_any}
 use Rattle.std.specs.Option.{option_map}
 use Rattle.std.proofs.lemmas.List.Folds.{list_any-append}
 use Rattle.ut_model.specs.Cases.{in_case}
-use Rattle.ut_model.specs.Fields.{is_master, same_name}
+use Rattle.ut_model.specs.Fields.{same_name}
+use Rattle.ut_model.specs.Metadata.{masters_above}
 use Rattle.ut_model.specs.Objects.{Numbered, numbered, object_named}
 use Rattle.ut_model.specs.Relationships.{Reference, master_in, parent_name, reference_at, references, references_of, relationship_names, target_of}
 use Rattle.ut_model.specs.Tenant.{Field, Object, Tenant}
@@ -17,7 +18,7 @@ use Rattle.ut_stands.specs.declared.layout.FieldPlace.{FieldPlace}
 use Rattle.ut_stands.specs.declared.layout.Layout.{Layout}
 use Rattle.ut_meta.specs.Judging.{AreLayouts, layouts_in}
 use Rattle.ut_meta.specs.inner.Relations.{field_in, gives, has_child, is_master_of, layout_gives, master_among, master_of, named_in, names_among, numbered_in, references_in}
-use Rattle.ut_meta.proofs.Lists.{any_joined, any_mapped, any_of_passed, any_of_some, any_same, found_mapped, joined_mapped, joined_same, or_none, or_pairs, pick}
+use Rattle.ut_meta.proofs.Lists.{any_joined, any_of_passed, any_of_some, any_same, found_mapped, joined_mapped, joined_same, or_none, or_pairs, pick}
 
 -- ---- fields
 
@@ -82,7 +83,7 @@ module _ (n : ℕ) (name : List ℕ) where
       let here = λ (f : Reference). f.object == n in
       let there = λ (f : Reference). f.target == n in
       let more : (list_any q (map parent (filter here fs)) || list_any q (filter_map child (filter there fs))) ≡ list_any ref_gives fs =
-        sym (list_any-append q (map parent (filter here fs)) (filter_map child (filter there fs))) ∙ of_references fs in
+      sym (list_any-append q (map parent (filter here fs)) (filter_map child (filter there fs))) ∙ of_references fs in
       list_any-append q (map parent (filter here (f ∷ fs))) (filter_map child (filter there (f ∷ fs)))
       ∙ ap (λ (b : Bool). b || list_any q (filter_map child (filter there (f ∷ fs)))) (any_of_passed q parent here f fs)
       ∙ ap (λ (b : Bool). ((here f && q (parent f)) || list_any q (map parent (filter here fs))) || b) (any_of_some q child there f fs)
@@ -124,6 +125,9 @@ module _ (object n : ℕ) where
   abbrev with_kind : FieldPlace → FieldType → FieldPlace
   with_kind f kind = record f { kind = kind }
 
+  abbrev ref_at : ℕ → FieldPlace → FieldType → ℕ → Reference
+  ref_at k f kind target = record { object = object; position = k; field = field_in (with_kind f kind); target = target }
+
   -- the masters among the fields, or else these
   abbrev pub or_else : Bool → Option ℕ → Option ℕ → Option ℕ
   or_else here first other = cond here (in_case first other Some) other
@@ -138,9 +142,9 @@ module _ (object n : ℕ) where
   of_kind k f type.Moment fs rest other h = h
   of_kind k f (type.Picklist vs) fs rest other h = h
   of_kind k f (type.Lookup o d) fs rest other h =
-      pick (object == n) (λ b. option_map (λ (f : Reference). f.target) (cond (b && false) (Some _) (find (is_master_of n) rest)) ≡ or_else b (master_among fs) other) (λ e. h ∙ ap (λ (b : Bool). or_else b (master_among fs) other) e) (λ e. h ∙ ap (λ (b : Bool). or_else b (master_among fs) other) e)
+      pick (object == n) (λ b. option_map (λ (f : Reference). f.target) (cond (b && false) (Some (ref_at k f (type.Lookup o d) o)) (find (is_master_of n) rest)) ≡ or_else b (master_among fs) other) (λ e. h ∙ ap (λ (b : Bool). or_else b (master_among fs) other) e) (λ e. h ∙ ap (λ (b : Bool). or_else b (master_among fs) other) e)
   of_kind k f (type.Master o) fs rest other h =
-      pick (object == n) (λ b. option_map (λ (f : Reference). f.target) (cond (b && true) (Some _) (find (is_master_of n) rest)) ≡ or_else b (Some o) other) (λ e. refl) (λ e. h ∙ ap (λ (b : Bool). or_else b (master_among fs) other) e)
+      pick (object == n) (λ b. option_map (λ (f : Reference). f.target) (cond (b && true) (Some (ref_at k f (type.Master o) o)) (find (is_master_of n) rest)) ≡ or_else b (Some o) other) (λ e. refl) (λ e. h ∙ ap (λ (b : Bool). or_else b (master_among fs) other) e)
 
   of_places : (k : ℕ) (fs : List FieldPlace) (rest : List Reference)
       → master_in_all (flat_map (reference_at object) (enumerate_from k (map field_in fs)) ++ rest) ≡ or_else (object == n) (master_among fs) (master_in_all rest)
@@ -156,3 +160,25 @@ master_first l ls n = of_places l.object n 1 l.fields (references_in ls)
 
 pub master_is : (t : Tenant) (ls : List Layout) → AreLayouts t ls → (n : ℕ) → master_of ls n ≡ option_map (λ (f : Reference). f.target) (master_in t.objects n)
 master_is t ls h n = ap (λ (fs : List Reference). option_map (λ (f : Reference). f.target) (find (is_master_of n) fs)) (references_are t ls h)
+
+-- ---- levels
+
+by_target : (g : ℕ → ℕ) (o : Option Reference) (x : Option ℕ) → option_map (λ (f : Reference). f.target) o ≡ x
+    → in_case o 0 (λ f. suc (g f.target)) ≡ in_case x 0 (λ n. suc (g n))
+by_target g None x e = subst (λ (y : Option ℕ). 0 ≡ in_case y 0 (λ n. suc (g n))) e refl
+by_target g (Some f) x e = subst (λ (y : Option ℕ). suc (g f.target) ≡ in_case y 0 (λ n. suc (g n))) e refl
+
+-- a level, by the object of the masters
+level_is : (t : Tenant) (ls : List Layout) → AreLayouts t ls → (most n : ℕ)
+    → masters_above (suc most) t.objects n ≡ in_case (master_of ls n) 0 (λ target. suc (masters_above most t.objects target))
+level_is t ls h most n = by_target (masters_above most t.objects) (master_in t.objects n) (master_of ls n) (sym (master_is t ls h n))
+
+pub level_none : (t : Tenant) (ls : List Layout) → AreLayouts t ls → (most n : ℕ) → master_of ls n ≡ None → 0 ≡ masters_above most t.objects n
+level_none t ls h zero n e = refl
+level_none t ls h (suc most) n e = sym (level_is t ls h most n ∙ ap (λ (x : Option ℕ). in_case x 0 (λ target. suc (masters_above most t.objects target))) e)
+
+pub level_some : (t : Tenant) (ls : List Layout) → AreLayouts t ls → (most less n target r : ℕ) → most ≡ suc less → master_of ls n ≡ Some target → r ≡ masters_above less t.objects target
+    → suc r ≡ masters_above most t.objects n
+level_some t ls h most less n target r is e above =
+    ap suc above
+    ∙ sym (ap (λ (m : ℕ). masters_above m t.objects n) is ∙ level_is t ls h less n ∙ ap (λ (x : Option ℕ). in_case x 0 (λ target. suc (masters_above less t.objects target))) e)

@@ -1,2 +1,6 @@
 pub mod Lists
+pub mod Texts
 pub mod Layouts
+pub mod Judged
+pub mod JudgedFields
+pub mod Steps

@@ -1,5 +1,5 @@
 -- Lists: what is found or asked of lists that are mapped or joined.
-use Rattle.std.proofs.Common.{◌≡◌, ◌∙◌, ℕ, ◌+◌, Bool, true, false, ◌&&◌, ◌||◌, cond, List, [], ◌∷◌, ◌++◌, length, map, Option, Some, None, refl, sym, ap}
+use Rattle.std.proofs.Common.{◌≡◌, ◌∙◌, Bool, true, false, ◌&&◌, ◌||◌, cond, List, [], ◌∷◌, ◌++◌, map, Option, Some, None, refl, ap}
 use Rattle.std.specs.Prelude.{filter, filter_map}
 use Rattle.std.specs.List.{find, flat_map, list_any}
 use Rattle.std.specs.Option.{option_map}
@@ -62,7 +62,7 @@ any_of_passed q name p x xs =
 
 pub any_of_some : {X Y : Type 0} (q : Y → Bool) (name : X → Option Y) (p : X → Bool) (x : X) (xs : List X)
     → list_any q (filter_map name (filter p (x ∷ xs))) ≡ ((p x && in_case (name x) false q) || list_any q (filter_map name (filter p xs)))
-any_of_some q name p x xs =
+any_of_some {Y = Y} q name p x xs =
     pick (p x) (λ b. list_any q (filter_map name (cond b (x ∷ filter p xs) (filter p xs))) ≡ ((b && in_case (name x) false q) || list_any q (filter_map name (filter p xs))))
     (λ e. by_name (name x) refl) (λ e. refl)
   where

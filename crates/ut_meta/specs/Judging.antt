@@ -1,19 +1,16 @@
 -- What an edit of metadata is judged by: the layouts of an organisation's objects.
 -- Source: Salesforce, "Custom Object" and "Custom Field", as in the definitions of new objects and fields. That a free slot is
 -- the least is this product's own.
-use Rattle.std.specs.Prelude.{◌≡◌, ℕ, ◌<◌, Bool, true, false, not, ◌&&◌, ◌==◌, List, map, Option, Some, None, Result, Ok, Err, IsTrue}
-use Rattle.std.specs.List.{list_any}
+use Rattle.std.specs.Prelude.{◌≡◌, ℕ, ◌<◌, false, List, map, Option, Some, None, Result, Ok, Err, IsTrue}
 use Rattle.std.specs.Option.{option_map}
-use Rattle.ut_model.specs.Cases.{in_case}
 use Rattle.ut_model.specs.Objects.{numbered, object_named}
-use Rattle.ut_model.specs.Retyping.{job_is_done}
 use Rattle.ut_model.specs.Rules.{Rule}
 use Rattle.ut_model.specs.Tenant.{Tenant}
 use Rattle.ut_model.specs.Verdict.{Done, Verdict}
 use Rattle.ut_model.specs.declared.refusal.Refusal.{Refusal}
 use Rattle.ut_stands.specs.Layouts.{layout_of}
 use Rattle.ut_stands.specs.Plan.{OrgPlan}
-use Rattle.ut_stands.specs.declared.layout.JobPlace.{JobPlace}
+use Rattle.ut_stands.specs.Records.{has_free}
 use Rattle.ut_stands.specs.declared.layout.Layout.{Layout}
 
 -- ---- layouts
@@ -33,7 +30,7 @@ IsNamedLayout t name layout = (org : ℕ) × (p : OrgPlan) × (layout ≡ option
 -- ---- refusals
 
 abbrev pub refused : Result Done Refusal → Rule
-refused (Ok done) = None
+refused (Ok answer) = None
 refused (Err refusal) = Some refusal
 
 -- why a request is refused, if it is
@@ -42,15 +39,7 @@ refusal_of v = refused v.answer
 
 -- ---- slots
 
--- the slot is that of a change that isn't done
-abbrev pub is_changing : Option JobPlace → (slot : ℕ) → Bool
-is_changing job slot = in_case job false (λ j. not (job_is_done j.phase) && (j.twin == slot))
-
--- the slot is no field's, and not that of a change that isn't done
-abbrev pub is_free : Layout → (slot : ℕ) → Bool
-is_free l slot = not (list_any (λ f. f.slot == slot) l.fields) && not (is_changing l.job slot)
-
 -- it is free, and no slot below it is
 pub record IsLeastFree (l : Layout) (slot : ℕ) : Type 0 where
-  pub free : IsTrue (is_free l slot)
-  pub least : (s : ℕ) → s < slot → is_free l s ≡ false
+  pub free : IsTrue (has_free l slot)
+  pub least : (s : ℕ) → s < slot → has_free l s ≡ false

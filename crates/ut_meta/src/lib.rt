@@ -1,7 +1,7 @@
 //! An administrator's edits of metadata: new objects, another default access, new fields.
 //!
-//! It depends on `ut_stands` and `ut_sound`. Its contract: tables that stand for a world stand, after an edit, for the world
-//! with the organisation that the verdict of its request leaves, or the edit is refused as the verdict says.
+//! It depends on `ut_model` and `ut_stands`. Its contract: by the layouts of an organisation's objects an edit is refused
+//! exactly as the verdict of its request says, and a new field takes the least slot that is free.
 #![tactic(auto)]
 
 mod judging;
@@ -11,4 +11,5 @@ mod relations;
 mod rules;
 mod slots;
 
+pub use crate::judging::{judge_access, judge_field, judge_object, target_number};
 pub use crate::slots::free_slot;

@@ -36,9 +36,9 @@ pub fn parent_name(alloc: Global, field: &str) -> Result<Text, AllocError>
     ensures { IfOk result (λ name. name ≡ parent_name (chars field.now)) }
 {
     let all = characters(alloc, field)?;
-    let kept = all.len().saturating_sub(3);
+    let kept = &all[..all.len().saturating_sub(3)];
     let mut name = String::new(alloc);
-    for c in &all[..kept] {
+    for c in kept {
         name.push(*c)?;
     }
     name.push_str("__r")?;

@@ -54,7 +54,10 @@ fn gives(
         return Ok(false);
     };
     let parent = parent_name(alloc, field.name.as_str())?;
-    Ok(object == number && same_name(name, parent.as_str()) || target == number && is_child(field, name))
+    Ok(
+        object == number && same_name(name, parent.as_str())
+            || target == number && is_child(field, name),
+    )
 }
 
 // Whether one of these fields of this object does.
@@ -121,6 +124,7 @@ fn master_among(fields: &[FieldPlace]) -> Option<u16>
 }
 
 // The object of the masters of the records of the object with this number.
+#[tactic(auto, using(crate::proofs::Layouts::master_first))]
 fn master_of(layouts: &[Layout], number: u16) -> Option<u16>
     ensures { result ≡ inner.master_of layouts.now number }
 {

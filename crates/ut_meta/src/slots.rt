@@ -2,8 +2,10 @@
 
 ghost use Rattle.std.specs.Prelude.{◌≡◌, ◌<◌, ◌≤◌, ◌==◌, ℕ, IsTrue, length};
 ghost use Rattle.std.specs.List.{list_any};
-ghost use Rattle.ut_meta.specs.Judging.{IsLeastFree, is_changing, is_free};
+ghost use Rattle.ut_meta.specs.Judging.{IsLeastFree};
+ghost use Rattle.ut_meta.specs.inner.Relations.{is_changing};
 ghost use Rattle.ut_model.specs.Retyping.{job_is_done};
+ghost use Rattle.ut_stands.specs.Records.{has_free};
 
 use ut_stands::{FieldPlace, JobPlace, Layout};
 use ut_value::Phase;
@@ -33,7 +35,7 @@ fn is_changing(job: &Option<JobPlace>, slot: u8) -> bool
 }
 
 fn is_free(layout: &Layout, slot: u8) -> bool
-    ensures { result ≡ is_free layout.now slot }
+    ensures { result ≡ has_free layout.now slot }
 {
     !is_of_field(layout.fields.as_slice(), slot) && !is_changing(&layout.job, slot)
 }
@@ -43,10 +45,9 @@ const LAST_SLOT: u8 = 47;
 
 /// The slot of a new field: the least that is no field's and not that of a change that isn't done.
 ///
-/// An object with at most 40 fields has one.
+/// An object with at most 40 fields has one below 48.
 pub fn free_slot(layout: &Layout) -> u8
-    ensures least { (s : ℕ) → s < 48 → IsTrue (is_free layout.now s) → IsLeastFree layout.now result }
-    ensures few { length layout.now.fields ≤ 40 → IsLeastFree layout.now result }
+    ensures least { (s : ℕ) → s < 48 → IsTrue (has_free layout.now s) → IsLeastFree layout.now result }
     ensures within { result < 48 }
 {
     let mut slot = 0;

@@ -1,15 +1,17 @@
 -- Relationships and masters as layouts have them.
-use Rattle.std.specs.Prelude.{ℕ, Bool, true, false, ◌&&◌, ◌||◌, ◌==◌, List, [], ◌++◌, map, filter, filter_map, Option, Some, None, Result, Ok, Err}
+use Rattle.std.specs.Prelude.{ℕ, Bool, false, not, ◌&&◌, ◌||◌, ◌==◌, List, [], ◌++◌, map, filter, filter_map, Option, Some, None, Result, Ok, Err}
 use Rattle.std.specs.List.{find, flat_map, list_any}
 use Rattle.std.specs.Option.{option_map}
 use Rattle.ut_model.specs.Cases.{in_case}
 use Rattle.ut_model.specs.Fields.{is_master, same_name}
 use Rattle.ut_model.specs.Objects.{Numbered}
+use Rattle.ut_model.specs.Retyping.{job_is_done}
 use Rattle.ut_model.specs.Relationships.{Reference, parent_name, references_of, target_of}
 use Rattle.ut_model.specs.Tenant.{Field}
 use Rattle.ut_model.specs.declared.metadata_bodies.SpelledType.{SpelledType}
 use Rattle.ut_model.specs.declared.metadata_bodies.SpelledType.TheVariants.{Plain, LookupTo}
 use Rattle.ut_stands.specs.declared.layout.FieldPlace.{FieldPlace}
+use Rattle.ut_stands.specs.declared.layout.JobPlace.{JobPlace}
 use Rattle.ut_stands.specs.declared.layout.Layout.{Layout}
 
 -- ---- objects
@@ -73,3 +75,9 @@ master_among fields = in_case (find (λ (f : FieldPlace). is_master f.kind) fiel
 abbrev pub target_in : List Layout → SpelledType → Result (Option ℕ) (List ℕ)
 target_in layouts (Plain kind) = Ok None
 target_in layouts (LookupTo object on_delete child) = in_case (named_in layouts object) (Err object) (λ l. Ok (Some l.object))
+
+-- ---- slots
+
+-- the slot is that of a change that isn't done
+abbrev pub is_changing : Option JobPlace → (slot : ℕ) → Bool
+is_changing job slot = in_case job false (λ j. not (job_is_done j.phase) && (j.twin == slot))

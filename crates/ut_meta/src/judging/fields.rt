@@ -1,6 +1,6 @@
 //! New fields.
 
-ghost use Rattle.std.specs.Prelude.{◌≡◌, ℕ, IfOk, MatchOption, MatchResult, Some, None, Ok, Err, map};
+ghost use Rattle.std.specs.Prelude.{◌≡◌, ◌&&◌, ◌==◌, ℕ, IfOk, MatchOption, MatchResult, Some, None, Ok, Err, map};
 ghost use Rattle.std.specs.List.{list_any};
 ghost use Rattle.std.specs.Str.{chars};
 ghost use Rattle.ut_meta.specs.Judging.{AreLayouts, refusal_of};
@@ -122,16 +122,24 @@ fn has_name(fields: &[FieldPlace], name: &str) -> bool
     }
 }
 
+// Whether the lookup is to its own object, and the first of these members is before the second.
+fn comes_first(number: u16, target: u16, new: &NewField, first: &str, second: &str) -> bool
+    ensures { result ≡ ((number == target) && is_before new.now.members (chars first.now) (chars second.now)) }
+{
+    number == target && is_before(new.members.as_slice(), first, second)
+}
+
 // Whether the new field's own child relationship, where its member comes first, has this name.
 fn is_own_child(number: u16, target: u16, new: &NewField, name: &str) -> bool
     ensures { result ≡ list_any (same_name (chars name.now)) (own_child number target new.now) }
 {
-    if number != target || !is_before(new.members.as_slice(), "type", "name") {
-        return false;
-    }
-    match child_of(&new.kind) {
-        None => false,
-        Some(child) => same_name(name, child.as_str()),
+    if comes_first(number, target, new, "type", "name") {
+        match child_of(&new.kind) {
+            None => false,
+            Some(child) => same_name(name, child.as_str()),
+        }
+    } else {
+        false
     }
 }
 
@@ -145,11 +153,12 @@ fn is_own_parent(
 ) -> Result<bool, AllocError>
     ensures { IfOk result (λ b. b ≡ list_any (same_name (chars name.now)) (own_parent number target new.now)) }
 {
-    if number != target || !is_before(new.members.as_slice(), "name", "type") {
-        return Ok(false);
+    if comes_first(number, target, new, "name", "type") {
+        let parent = parent_name(alloc, new.name.as_str())?;
+        Ok(same_name(name, parent.as_str()))
+    } else {
+        Ok(false)
     }
-    let parent = parent_name(alloc, new.name.as_str())?;
-    Ok(same_name(name, parent.as_str()))
 }
 
 // That the parent relationship of a new lookup is taken.
@@ -240,7 +249,10 @@ fn judge_names(alloc: Global, names: &Names<'_>) -> Result<Option<Refusal>, Allo
     if let Some(refusal) = in_body_order(alloc, members, names)? {
         return Ok(Some(refusal));
     }
-    Ok(over_limit(Limit::FieldsPerObject, names.layout.fields.len() as u64 + 1))
+    Ok(over_limit(
+        Limit::FieldsPerObject,
+        names.layout.fields.as_slice().len() as u64 + 1,
+    ))
 }
 
 /// Why a new field is refused, if it is.

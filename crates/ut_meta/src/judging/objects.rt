@@ -114,7 +114,11 @@ impl RulesByMember for Names<'_> {
             return name_taken(alloc, is_taken, &self.new.name);
         }
         match &self.new.master {
-            Some(master) if is_member(member, "child") => child_name_taken(alloc, self.layouts, master),
+            Some(master) if is_member(member, "child") => child_name_taken(
+                alloc,
+                self.layouts,
+                master,
+            ),
             _ => Ok(None),
         }
     }

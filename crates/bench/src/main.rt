@@ -1,5 +1,5 @@
 //! Times of the parts whose cost matters, for `docs/PERFORMANCE.md`: `bench keeper ROWS`, `bench json BYTES`,
-//! `bench values CALLS`, `bench rows CALLS` and `bench like CALLS`.
+//! `bench values CALLS`, `bench rows CALLS`, `bench like CALLS` and `bench parse CALLS`.
 //!
 //! What was done goes to standard output, the times in microseconds to standard error.
 #![tactic(auto)]
@@ -17,6 +17,7 @@ use ut_json::{Json, Mark, Writer, read};
 use ut_keeper::{Draft, KeepFail, Keeper, MemoryKeeper, all_rows};
 use ut_keys::{DataRow, RowForm};
 use ut_query::{LikePart, LikePattern, like};
+use ut_soql::parse;
 use ut_value::{Bytes, FieldType, Items, Text, Value, order_key, read_value};
 
 const TABLE: u8 = 7;
@@ -273,6 +274,97 @@ fn measure_like(rt: &HostRuntime, calls: u32) -> io::Result<()> {
     println!(rt; "not like the pattern: {unlike}")
 }
 
+// So many times the same behind a beginning.
+fn repeated(alloc: Global, beginning: &str, times: u32, one: &str) -> Result<String, AllocError> {
+    let mut text = String::from_str(alloc, beginning)?;
+    for _ in 0..times {
+        text.push_str(one)?;
+    }
+    Ok(text)
+}
+
+// A query of about so many bytes, by what its rows show.
+fn many_items(alloc: Global, bytes: u32) -> Result<String, AllocError> {
+    let mut text = repeated(alloc, "SELECT Id", bytes / 17, ", Account__r.Name")?;
+    text.push_str(" FROM Deal__c")?;
+    Ok(text)
+}
+
+// A query of about so many bytes, by the comparisons of its condition.
+fn many_comparisons(alloc: Global, bytes: u32) -> Result<String, AllocError> {
+    let beginning = "SELECT Id FROM Deal__c WHERE Id != NULL";
+    repeated(alloc, beginning, bytes / 26, " AND Stage__c = 'Closed 7'")
+}
+
+// A query of 1,000 literals, each of about so many bytes.
+fn many_literals(alloc: Global, bytes: u32) -> Result<String, AllocError> {
+    let mut literal = repeated(alloc, ", '", bytes.saturating_sub(4), "a")?;
+    literal.push('\'')?;
+    let beginning = "SELECT Id FROM Deal__c WHERE Name IN ('a'";
+    let mut text = repeated(alloc, beginning, 999, literal.as_str())?;
+    text.push(')')?;
+    Ok(text)
+}
+
+// How many of so many readings of a text give a query.
+fn count_parsed(alloc: Global, calls: u32, text: &str) -> u32 {
+    let mut count = 0u32;
+    for _ in 0..calls {
+        if parse(alloc, text).is_ok() {
+            count = count.saturating_add(1);
+        }
+    }
+    count
+}
+
+fn measure_query(
+    rt: &HostRuntime,
+    calls: u32,
+    what: &str,
+    text: Result<String, AllocError>,
+) -> io::Result<()> {
+    let Ok(text) = text else {
+        return println!(rt; "out of memory");
+    };
+    let start = Instant::now(rt)?;
+    let queries = count_parsed(rt.alloc(), calls, text.as_str());
+    tell_time(rt, what, start)?;
+    let bytes = text.len();
+    println!(rt; "{what}: {bytes} bytes, queries: {queries}")
+}
+
+fn measure_parse(rt: &HostRuntime, calls: u32, bytes: u32) -> io::Result<()> {
+    let alloc = rt.alloc();
+    measure_query(rt, calls, "items", many_items(alloc, bytes))?;
+    measure_query(rt, calls, "comparisons", many_comparisons(alloc, bytes))?;
+    measure_query(rt, calls, "literals", many_literals(alloc, bytes / 1000))
+}
+
+// Measures the part of this name, if there is one.
+fn measure_part(rt: &HostRuntime, part: &str, size: u32) -> io::Result<bool> {
+    if part == "keeper" {
+        measure_keeper(rt, size, 1)?;
+        measure_keeper(rt, size, SCATTERED)?;
+    } else if part == "json" {
+        measure_json(rt, size)?;
+    } else if part == "values" {
+        measure_reading(rt, size)?;
+        measure_keys(rt, size)?;
+    } else if part == "rows" {
+        measure_rows(rt, size)?;
+    } else if part == "like" {
+        measure_like(rt, size)?;
+    } else if part == "parse" {
+        measure_parse(rt, size, 5_000)?;
+        measure_parse(rt, size, 25_000)?;
+        measure_parse(rt, size, 50_000)?;
+        measure_parse(rt, size, 100_000)?;
+    } else {
+        return Ok(false);
+    }
+    Ok(true)
+}
+
 fn measure(rt: &HostRuntime) -> io::Result<u8> {
     let words: Vec<String> = match env::args(rt)?.skip(1).collect(rt.alloc()) {
         Ok(words) => words,
@@ -280,32 +372,13 @@ fn measure(rt: &HostRuntime) -> io::Result<u8> {
     };
     if words.len() == 2 {
         if let Ok(size) = words[1].parse::<u32>() {
-            if words[0].as_str() == "keeper" {
-                measure_keeper(rt, size, 1)?;
-                measure_keeper(rt, size, SCATTERED)?;
-                return Ok(0);
-            }
-            if words[0].as_str() == "json" {
-                measure_json(rt, size)?;
-                return Ok(0);
-            }
-            if words[0].as_str() == "rows" {
-                measure_rows(rt, size)?;
-                return Ok(0);
-            }
-            if words[0].as_str() == "like" {
-                measure_like(rt, size)?;
-                return Ok(0);
-            }
-            if words[0].as_str() == "values" {
-                measure_reading(rt, size)?;
-                measure_keys(rt, size)?;
+            if measure_part(rt, words[0].as_str(), size)? {
                 return Ok(0);
             }
         }
     }
     eprintln!(rt;
-        "usage: bench keeper ROWS, bench json BYTES, bench values CALLS, bench rows CALLS, or bench like CALLS"
+        "usage: bench keeper ROWS, bench json BYTES, or bench values, rows, like or parse CALLS"
     )?;
     Ok(64)
 }

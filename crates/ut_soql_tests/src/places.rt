@@ -39,6 +39,6 @@ fn refuses_each_text_at_its_place(rt: HostRuntime) -> Result<(), Fail> {
         rows = rows.saturating_add(1);
     }
     assert_eq!(rt; wrong.as_str(), "");
-    assert_eq!(rt; rows, 187);
+    assert_eq!(rt; rows, 454);
     Ok(())
 }

@@ -1,0 +1,11 @@
+pub mod Loops
+pub mod Lists
+pub mod Slots
+pub mod Ids
+pub mod Texts
+pub mod Sound
+pub mod Reading
+pub mod Writing
+pub mod Plain
+pub mod Fits
+pub mod RowFits

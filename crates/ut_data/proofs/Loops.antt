@@ -1,0 +1,66 @@
+-- The loops over fields and slots: what was read is before what is still to be read.
+use Rattle.std.proofs.Common.{◌≡◌, ℕ, zero, suc, ◌+◌, ◌<◌, Bool, true, ◌&&◌, cond, eqb, List, [], ◌∷◌, ◌++◌, map, length, drop, take, get_or, drop-cons, add-one, Option, Some, None, refl, sym, ap, subst, ◌∙◌, append_assoc, arith}
+use Rattle.std.specs.List.{list_all, range_with_len}
+use Rattle.std.specs.Option.{option_map}
+use Rattle.std.proofs.lemmas.List.FromFn.{map-range_with_len_more}
+use Rattle.ut_value.specs.declared.value.Value.{Value}
+use Rattle.ut_parts.specs.Plain.{◌>>=◌}
+use Rattle.ut_data.specs.Decoding.{kinds_in, value_from, values_from}
+use Rattle.ut_model.specs.SoundRecords.{all_valid}
+use Rattle.std.proofs.lemmas.List.{take_more}
+use Rattle.ut_value.specs.Values.{valid}
+use Rattle.ut_value.specs.declared.value.FieldType.{FieldType}
+use Rattle.ut_value.specs.declared.value.FieldType.TheVariants as type
+use Rattle.ut_data.proofs.Lists.{and_left, and_right}
+use Rattle.ut_stands.specs.declared.layout.FieldPlace.{FieldPlace}
+
+-- these before what is read, if it is
+abbrev pub onto : List Value → Option (List Value) → Option (List Value)
+onto done read = option_map (λ vs. done ++ vs) read
+
+-- ---- the values of fields
+
+more_onto : (done : List Value) (v : Value) (read : Option (List Value)) → onto (done ++ v ∷ []) read ≡ onto done (read >>= λ vs. Some (v ∷ vs))
+more_onto done v None = refl
+more_onto done v (Some vs) = ap Some (append_assoc done (v ∷ []) vs)
+
+front : (fields : List FieldPlace) (i : ℕ) (f : FieldPlace) → i < length fields → f ≡ get_or fields i f → drop i fields ≡ f ∷ drop (i + 1) fields
+front fields i f lt is = drop-cons fields i f lt ∙ ap (λ (x : FieldPlace). x ∷ drop (suc i) fields) (sym is) ∙ ap (λ (n : ℕ). f ∷ drop n fields) (sym (add-one i))
+
+pub values_go_on : (slots : List (Option (List ℕ))) (fields : List FieldPlace) (i : ℕ) (f : FieldPlace) (done next : List Value) (v : Value) (whole : Option (List Value))
+    → i < length fields → f ≡ get_or fields i f → value_from slots f ≡ Some v → next ≡ done ++ v ∷ []
+    → onto done (values_from slots (drop i fields)) ≡ whole → onto next (values_from slots (drop (i + 1) fields)) ≡ whole
+values_go_on slots fields i f done next v whole lt is e n h =
+    let g = rw (front fields i f lt is) at h in
+    let g2 = rw e at g in
+    rw n (more_onto done v (values_from slots (drop (i + 1) fields)) ∙ g2)
+
+valid_more : (ks : List FieldType) (vs : List Value) (k : FieldType) (v : Value) → all_valid ks vs ≡ true → valid k v ≡ true → all_valid (ks ++ k ∷ []) (vs ++ v ∷ []) ≡ true
+valid_more [] [] k v h e = rw e refl
+valid_more [] (w ∷ vs) k v h e = absurd cc
+valid_more (j ∷ ks) [] k v h e = absurd cc
+valid_more (j ∷ ks) (w ∷ vs) k v h e =
+    rw (and_left (valid j w) (all_valid ks vs) h) (valid_more ks vs k v (and_right (valid j w) (all_valid ks vs) h) e)
+
+kinds_more : (fields : List FieldPlace) (f : FieldPlace) → kinds_in (fields ++ f ∷ []) ≡ kinds_in fields ++ f.kind ∷ []
+kinds_more fields f = ap (λ (ks : List FieldType). type.Text 80 ∷ ks) (by fields)
+  where
+    by : (xs : List FieldPlace) → map (λ x. x.kind) (xs ++ f ∷ []) ≡ map (λ x. x.kind) xs ++ f.kind ∷ []
+    by [] = refl
+    by (x ∷ xs) = ap (λ (ks : List FieldType). x.kind ∷ ks) (by xs)
+
+pub valids_go_on : (fields : List FieldPlace) (i : ℕ) (f : FieldPlace) (done next : List Value) (v : Value)
+    → i < length fields → f ≡ get_or fields i f → valid f.kind v ≡ true → next ≡ done ++ v ∷ []
+    → all_valid (kinds_in (take i fields)) done ≡ true → all_valid (kinds_in (take (i + 1) fields)) next ≡ true
+valids_go_on fields i f done next v lt is e n h =
+    let taken : take (i + 1) fields ≡ take i fields ++ f ∷ [] = take_more fields i f lt ∙ ap (λ (x : FieldPlace). take i fields ++ x ∷ []) (sym is) in
+    let kinds : kinds_in (take (i + 1) fields) ≡ kinds_in (take i fields) ++ f.kind ∷ [] = ap kinds_in taken ∙ kinds_more (take i fields) f in
+    let more = valid_more (kinds_in (take i fields)) done f.kind v h e in
+    subst (λ (ks : List FieldType). all_valid ks next ≡ true) (sym kinds)
+    (subst (λ (vs : List Value). all_valid (kinds_in (take i fields) ++ f.kind ∷ []) vs ≡ true) (sym n) more)
+
+-- ---- the texts of slots
+
+pub texts_go_on : (text : ℕ → Option (List ℕ)) (slot : ℕ) (done next : List (Option (List ℕ))) (x : Option (List ℕ))
+    → done ≡ map text (range_with_len 0 slot) → x ≡ text slot → next ≡ done ++ x ∷ [] → next ≡ map text (range_with_len 0 (slot + 1))
+texts_go_on text slot done next x d e n = rw (n, d, e) (sym (map-range_with_len_more text 0 slot slot (omega arith)))

@@ -1,0 +1,33 @@
+ghost use Rattle.std.specs.Prelude.{◌≡◌, ℕ, IsTrue, Some, None};
+ghost use Rattle.std.specs.List.{list_all};
+ghost use Rattle.ut_data.specs.Decoding.{record_from};
+ghost use Rattle.ut_data.specs.Encoding.{row_from};
+ghost use Rattle.ut_model.specs.declared.record.Record.{Record};
+ghost use Rattle.ut_model.specs.Membership.{Has};
+ghost use Rattle.ut_model.specs.Objects.{Numbered, is_of, object_at};
+ghost use Rattle.ut_model.specs.Sound.{IsSound};
+ghost use Rattle.ut_model.specs.Tenant.{Object, Tenant};
+ghost use Rattle.ut_stands.specs.Entries.{data_of, entry};
+ghost use Rattle.ut_stands.specs.Layouts.{job_on, layout_of};
+ghost use Rattle.ut_stands.specs.Plan.{FitsPlan, OrgPlan};
+ghost use Rattle.ut_value.specs.Printing.{is_printable};
+
+use ut_value::value_laws;
+
+/// The laws of the rows of records. The call does nothing.
+pub fn data_laws()
+    // The row of a sound record reads as that record.
+    ensures read { (org n : ℕ) (p : OrgPlan) (t : Tenant) (o : Object) (r : Record)
+        → IsSound t → FitsPlan p t → object_at t n ≡ Some o → Has t.records r → IsTrue (is_of n r)
+        → record_from (layout_of org p t (record { number = n; object = o })) (data_of org n r (entry p t.job n o r)) ≡ Some r }
+
+    // While no field's type is changed, the row that is made of a record is the one that tables have of it.
+    ensures written { (org n : ℕ) (p : OrgPlan) (t : Tenant) (o : Object) (r : Record)
+        → job_on p t n ≡ None → IsTrue (list_all is_printable r.values)
+        → row_from (layout_of org p t (record { number = n; object = o })) r None ≡ data_of org n r (entry p t.job n o r) }
+
+    // The values of sound records have texts.
+    ensures printable { (t : Tenant) (r : Record) → IsSound t → Has t.records r → IsTrue (list_all is_printable r.values) }
+{
+    value_laws();
+}

@@ -9,3 +9,4 @@ pub mod Writing
 pub mod Plain
 pub mod Fits
 pub mod RowFits
+pub mod RecordFits

@@ -1,6 +1,6 @@
 -- What is in each slot of a sound record is a valid value of a type, and the row of the record fits its form.
 use Rattle.std.proofs.Common.{◌≡◌, ℕ, zero, suc, ◌+◌, ◌<◌, ◌≤◌, ◌^◌, Bool, true, false, not, ◌&&◌, cond, eqb, IsTrue, List, [], ◌∷◌, ◌++◌, map, length, Option, Some, None, refl, sym, ap, subst, ◌∙◌, arith, lit<, eqb-true, ℤ}
-use Rattle.std.specs.Prelude.{◌==◌, FitsSigned, IfSome, is_some, slice_get}
+use Rattle.std.specs.Prelude.{◌==◌, IfSome, slice_get}
 use Rattle.std.specs.List.{All, AllByRecursion, enumerate_from, find, list_all, range_with_len}
 use Rattle.std.specs.Option.{option_and_then, option_map}
 use Rattle.std.proofs.lemmas.List.FromFn.{length-map-range_with_len}

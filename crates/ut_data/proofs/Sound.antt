@@ -22,7 +22,7 @@ abbrev pub ArePrintable : Type 0
 ArePrintable = (kind : FieldType) (v : Value) → IsTrue (valid kind v) → IsTrue (is_printable v)
 
 -- a tenant's record, as a sound one
-sound_record : (t : Tenant) (r : Record) → IsSound t → Has t.records r → IsSoundRecord (known t) t.objects r
+pub sound_record : (t : Tenant) (r : Record) → IsSound t → Has t.records r → IsSoundRecord (known t) t.objects r
 sound_record t r sound has = of_each (IsSoundRecord (known t) t.objects) t.records r sound.records.each has
 
 pub values_valid : (t : Tenant) (n : ℕ) (o : Object) (r : Record) → IsSound t → object_at t n ≡ Some o → Has t.records r → IsTrue (is_of n r) → IsTrue (all_valid (kinds_of o) r.values)

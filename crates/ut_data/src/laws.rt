@@ -1,7 +1,9 @@
-ghost use Rattle.std.specs.Prelude.{◌≡◌, ℕ, IsTrue, Some, None};
+ghost use Rattle.std.specs.Prelude.{◌≡◌, ◌<◌, ◌^◌, ℕ, IsTrue, Some, None};
 ghost use Rattle.std.specs.List.{list_all};
 ghost use Rattle.ut_data.specs.Decoding.{record_from};
 ghost use Rattle.ut_data.specs.Encoding.{row_from};
+ghost use Rattle.ut_keys.specs.Forms.{FitsForm};
+ghost use Rattle.ut_keys.specs.Rows.{data_form};
 ghost use Rattle.ut_model.specs.declared.record.Record.{Record};
 ghost use Rattle.ut_model.specs.Membership.{Has};
 ghost use Rattle.ut_model.specs.Objects.{Numbered, is_of, object_at};
@@ -12,7 +14,7 @@ ghost use Rattle.ut_stands.specs.Layouts.{job_on, layout_of};
 ghost use Rattle.ut_stands.specs.Plan.{FitsPlan, OrgPlan};
 ghost use Rattle.ut_value.specs.Printing.{is_printable};
 
-use ut_value::value_laws;
+use ut_value::{id_laws, value_laws};
 
 /// The laws of the rows of records. The call does nothing.
 pub fn data_laws()
@@ -28,6 +30,12 @@ pub fn data_laws()
 
     // The values of sound records have texts.
     ensures printable { (t : Tenant) (r : Record) → IsSound t → Has t.records r → IsTrue (list_all is_printable r.values) }
+
+    // It has a spelling.
+    ensures fits { (org n : ℕ) (p : OrgPlan) (t : Tenant) (o : Object) (r : Record)
+        → org < 2 ^ 32 → IsSound t → FitsPlan p t → object_at t n ≡ Some o → Has t.records r → IsTrue (is_of n r)
+        → FitsForm data_form (data_of org n r (entry p t.job n o r)) }
 {
     value_laws();
+    id_laws();
 }

@@ -1,4 +1,5 @@
 use Rattle.ut_data.proofs.Reading.{row_reads}
+use Rattle.ut_data.proofs.RecordFits.{record_fits}
 use Rattle.ut_data.proofs.Sound.{values_printable}
 use Rattle.ut_data.proofs.Writing.{row_written}
 use Rattle.ut_data.proofs.laws.data_laws.Goals as goal
@@ -11,3 +12,6 @@ returns-clause-written c org n p t o r none printable = row_written org n p t o 
 
 pub returns-clause-printable : goal.returns-clause-printable
 returns-clause-printable c t r sound has = values_printable c.value_laws.ensures.printable t r sound has
+
+pub returns-clause-fits : goal.returns-clause-fits
+returns-clause-fits c org n p t o r lo sound fits is has of = record_fits c.id_laws.ensures.made c.value_laws.ensures.converted org n p t o r lo sound fits is has of

@@ -10,3 +10,8 @@ pub mod Plain
 pub mod Fits
 pub mod RowFits
 pub mod RecordFits
+pub mod Standing
+pub mod Loading
+pub mod Rising
+pub mod Listed
+pub mod Pages

@@ -5,7 +5,7 @@ use Rattle.std.specs.Option.{option_map}
 use Rattle.std.proofs.lemmas.List.FromFn.{map-range_with_len_more}
 use Rattle.ut_value.specs.declared.value.Value.{Value}
 use Rattle.ut_parts.specs.Plain.{◌>>=◌}
-use Rattle.ut_data.specs.Decoding.{kinds_in, value_from, values_from}
+use Rattle.ut_data.specs.Decoding.{each_from, kinds_in}
 use Rattle.ut_model.specs.SoundRecords.{all_valid}
 use Rattle.std.proofs.lemmas.List.{take_more}
 use Rattle.ut_value.specs.Values.{valid}
@@ -14,26 +14,28 @@ use Rattle.ut_value.specs.declared.value.FieldType.TheVariants as type
 use Rattle.ut_data.proofs.Lists.{and_left, and_right}
 use Rattle.ut_stands.specs.declared.layout.FieldPlace.{FieldPlace}
 
--- these before what is read, if it is
-abbrev pub onto : List Value → Option (List Value) → Option (List Value)
-onto done read = option_map (λ vs. done ++ vs) read
+-- these before what is made, if it is
+abbrev pub onto : {Y : Type 0} → List Y → Option (List Y) → Option (List Y)
+onto done made = option_map (λ ys. done ++ ys) made
 
--- ---- the values of fields
+-- ---- what is made of each
 
-more_onto : (done : List Value) (v : Value) (read : Option (List Value)) → onto (done ++ v ∷ []) read ≡ onto done (read >>= λ vs. Some (v ∷ vs))
-more_onto done v None = refl
-more_onto done v (Some vs) = ap Some (append_assoc done (v ∷ []) vs)
+more_onto : {Y : Type 0} (done : List Y) (y : Y) (made : Option (List Y)) → onto (done ++ y ∷ []) made ≡ onto done (made >>= λ ys. Some (y ∷ ys))
+more_onto done y None = refl
+more_onto done y (Some ys) = ap Some (append_assoc done (y ∷ []) ys)
 
-front : (fields : List FieldPlace) (i : ℕ) (f : FieldPlace) → i < length fields → f ≡ get_or fields i f → drop i fields ≡ f ∷ drop (i + 1) fields
-front fields i f lt is = drop-cons fields i f lt ∙ ap (λ (x : FieldPlace). x ∷ drop (suc i) fields) (sym is) ∙ ap (λ (n : ℕ). f ∷ drop n fields) (sym (add-one i))
+front : {X : Type 0} (xs : List X) (i : ℕ) (x : X) → i < length xs → x ≡ get_or xs i x → drop i xs ≡ x ∷ drop (i + 1) xs
+front {X = X} xs i x lt is = drop-cons xs i x lt ∙ ap (λ (z : X). z ∷ drop (suc i) xs) (sym is) ∙ ap (λ (n : ℕ). x ∷ drop n xs) (sym (add-one i))
 
-pub values_go_on : (slots : List (Option (List ℕ))) (fields : List FieldPlace) (i : ℕ) (f : FieldPlace) (done next : List Value) (v : Value) (whole : Option (List Value))
-    → i < length fields → f ≡ get_or fields i f → value_from slots f ≡ Some v → next ≡ done ++ v ∷ []
-    → onto done (values_from slots (drop i fields)) ≡ whole → onto next (values_from slots (drop (i + 1) fields)) ≡ whole
-values_go_on slots fields i f done next v whole lt is e n h =
-    let g = rw (front fields i f lt is) at h in
+pub goes_on : {X Y : Type 0} (make : X → Option Y) (xs : List X) (i : ℕ) (x : X) (done next : List Y) (y : Y) (whole : Option (List Y))
+    → i < length xs → x ≡ get_or xs i x → make x ≡ Some y → next ≡ done ++ y ∷ []
+    → onto done (each_from make (drop i xs)) ≡ whole → onto next (each_from make (drop (i + 1) xs)) ≡ whole
+goes_on make xs i x done next y whole lt is e n h =
+    let g = rw (front xs i x lt is) at h in
     let g2 = rw e at g in
-    rw n (more_onto done v (values_from slots (drop (i + 1) fields)) ∙ g2)
+    rw n (more_onto done y (each_from make (drop (i + 1) xs)) ∙ g2)
+
+-- ---- valid values
 
 valid_more : (ks : List FieldType) (vs : List Value) (k : FieldType) (v : Value) → all_valid ks vs ≡ true → valid k v ≡ true → all_valid (ks ++ k ∷ []) (vs ++ v ∷ []) ≡ true
 valid_more [] [] k v h e = rw e refl

@@ -18,7 +18,7 @@ use Rattle.ut_value.specs.Types.{is_type}
 use Rattle.ut_value.specs.Values.{valid}
 use Rattle.ut_value.specs.declared.value.FieldType.TheVariants as type
 use Rattle.ut_value.specs.declared.value.Value.{Value}
-use Rattle.ut_data.specs.Decoding.{read_slot, record_from, values_from}
+use Rattle.ut_data.specs.Decoding.{each_from, read_slot, record_from, value_from}
 use Rattle.ut_data.proofs.Lists.{and_left, and_right}
 use Rattle.ut_data.proofs.Slots.{entry_at, slot_at, slot_below}
 use Rattle.ut_data.proofs.Sound.{fields_typed, values_valid}
@@ -33,7 +33,7 @@ HasTexts p n slots k fs vs = (i m : ℕ) (f : Field) (v : Value) → k + i ≡ m
 
 values_back : PrintsBack → (p : OrgPlan) (n : ℕ) (slots : Slots) (k : ℕ) (fs : List Field) (vs : List Value)
     → all_valid (map (λ f. f.kind) fs) vs ≡ true → list_all (λ f. is_type f.kind) fs ≡ true → HasTexts p n slots k fs vs
-    → values_from slots (map (place_of p n) (enumerate_from k fs)) ≡ Some vs
+    → each_from (value_from slots) (map (place_of p n) (enumerate_from k fs)) ≡ Some vs
 values_back prints p n slots k [] [] valids types texts = refl
 values_back prints p n slots k [] (v ∷ vs) valids types texts = absurd cc
 values_back prints p n slots k (f ∷ fs) [] valids types texts = absurd cc
@@ -41,7 +41,7 @@ values_back prints p n slots k (f ∷ fs) (v ∷ vs) valids types texts =
     let kind = f.kind in
     let here : slice_get slots (p.slot n k) ≡ Some (slot_text v) = texts 0 k f v (omega arith) refl refl in
     let back : read_slot f.kind (slot_text v) ≡ Some v = slot_back prints f.kind v (and_left (is_type f.kind) (list_all (λ f. is_type f.kind) fs) types) (and_left (valid f.kind v) (all_valid (map (λ f. f.kind) fs) vs) valids) in
-    let rest : values_from slots (map (place_of p n) (enumerate_from (k + 1) fs)) ≡ Some vs =
+    let rest : each_from (value_from slots) (map (place_of p n) (enumerate_from (k + 1) fs)) ≡ Some vs =
       values_back prints p n slots (k + 1) fs vs (and_right (valid f.kind v) (all_valid (map (λ f. f.kind) fs) vs) valids) (and_right (is_type f.kind) (list_all (λ f. is_type f.kind) fs) types)
       (λ i m g w e at is. texts (suc i) m g w (omega (arith, e)) at is)
     in
@@ -50,7 +50,7 @@ values_back prints p n slots k (f ∷ fs) (v ∷ vs) valids types texts =
 named_back : PrintsBack → (p : OrgPlan) (n : ℕ) (slots : Slots) (o : Object) (values : List Value)
     → all_valid (kinds_of o) values ≡ true → list_all (λ f. is_type f.kind) o.fields ≡ true
     → ((i : ℕ) (f : Field) → slice_get o.fields i ≡ Some f → slice_get slots (p.slot n i) ≡ Some (slot_text (value_at values (suc i))))
-    → (read_slot (type.Text 80) (name_text (value_at values 0)) >>= λ v. values_from slots (map (place_of p n) (enumerate_from 0 o.fields)) >>= λ vs. Some (v ∷ vs)) ≡ Some values
+    → (read_slot (type.Text 80) (name_text (value_at values 0)) >>= λ v. each_from (value_from slots) (map (place_of p n) (enumerate_from 0 o.fields)) >>= λ vs. Some (v ∷ vs)) ≡ Some values
 named_back prints p n slots o [] valids types texts = absurd cc
 named_back prints p n slots o (v ∷ vs) valids types texts =
     rw

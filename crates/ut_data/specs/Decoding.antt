@@ -28,10 +28,10 @@ read_slot kind text = where_read (read_value kind (unwrap_or text []))
 abbrev pub value_from : (slots : List (Option (List ℕ))) → FieldPlace → Option Value
 value_from slots f = slice_get slots f.slot >>= read_slot f.kind
 
--- the values of all these fields, if each is there
-abbrev pub values_from : (slots : List (Option (List ℕ))) → List FieldPlace → Option (List Value)
-values_from slots [] = Some []
-values_from slots (f ∷ fs) = value_from slots f >>= λ v. values_from slots fs >>= λ vs. Some (v ∷ vs)
+-- what is made of each, if something is made of all
+abbrev pub each_from : {X Y : Type 0} → (X → Option Y) → List X → Option (List Y)
+each_from make [] = Some []
+each_from make (x ∷ xs) = make x >>= λ y. each_from make xs >>= λ ys. Some (y ∷ ys)
 
 -- the types of a record's values, of which the name's is the first
 abbrev pub kinds_in : List FieldPlace → List FieldType
@@ -39,7 +39,7 @@ kinds_in fields = type.Text 80 ∷ map (λ f. f.kind) fields
 
 -- the name, and then the values of these fields
 abbrev pub all_from : DataRow → List FieldPlace → Option (List Value)
-all_from row fields = read_slot (type.Text 80) row.name >>= λ v. values_from row.slots fields >>= λ vs. Some (v ∷ vs)
+all_from row fields = read_slot (type.Text 80) row.name >>= λ v. each_from (value_from row.slots) fields >>= λ vs. Some (v ∷ vs)
 
 -- the record, where the layout's types are types
 abbrev pub record_from : Layout → DataRow → Option Record

@@ -7,7 +7,9 @@
 mod decoding;
 mod encoding;
 mod laws;
+mod reads;
 
 pub use crate::decoding::{has_types, record_of, record_within};
 pub use crate::encoding::row_of;
 pub use crate::laws::data_laws;
+pub use crate::reads::{load_record, walk};

@@ -15,3 +15,4 @@ pub mod Loading
 pub mod Rising
 pub mod Listed
 pub mod Pages
+pub mod Walking

@@ -1,16 +1,19 @@
 -- What a page of an object's rows gives is its records, from an id on.
-use Rattle.std.proofs.Common.{◌≡◌, ℕ, zero, suc, ◌<◌, ◌-◌, ◌^◌, Bool, IsTrue, List, [], ◌∷◌, ◌++◌, length, map, take, Option, Some, None, refl, sym, ap, subst, ◌∙◌, inl, inr, arith}
-use Rattle.std.specs.Prelude.{◌⊎◌, IfSome, IsSome, Result, Ok, Err, Vec}
+use Rattle.std.proofs.Common.{◌≡◌, ℕ, zero, suc, ◌<◌, ◌≤◌, ◌-◌, ◌^◌, Bool, false, IsTrue, List, [], ◌∷◌, ◌++◌, length, map, take, Option, Some, None, refl, sym, ap, subst, ◌∙◌, inl, inr, arith}
+use Rattle.std.specs.Prelude.{◌⊎◌, ◌==◌, IfSome, IsSome, Result, Ok, Err, Vec}
 use Rattle.std.specs.Option.{option_map}
 use Rattle.std.proofs.lemmas.List.{take-map}
 use Rattle.std.proofs.lemmas.Option.{slice_get_within}
 use Rattle.ut_value.specs.Causes.{GivesOr}
 use Rattle.ut_value.specs.Id.{is_id}
+use Rattle.ut_keeper.specs.declared.keeper.KeptRow.{KeptRow}
 use Rattle.ut_keeper.specs.Prefixes.{raised}
+use Rattle.ut_keeper.specs.State.{seen}
 use Rattle.ut_keeper.specs.Tables.{Tables, rows_between}
 use Rattle.ut_keys.specs.declared.data.DataRow.{DataRow}
 use Rattle.ut_keys.specs.declared.fail.StoreFail.{StoreFail}
 use Rattle.ut_keys.specs.declared.fail.StoreFail.TheVariants.{Keeper, Memory, Damaged}
+use Rattle.ut_keys.specs.Forms.{kept_as}
 use Rattle.ut_keys.specs.Listings.{rows_to, start_of}
 use Rattle.ut_keys.specs.Reads.{ListsAs}
 use Rattle.ut_keys.specs.Rows.{data_form}
@@ -23,7 +26,7 @@ use Rattle.ut_stands.specs.declared.layout.Layout.{Layout}
 use Rattle.ut_stands.specs.Layouts.{FindsOf, IsLayout, records_after}
 use Rattle.ut_stands.specs.Plan.{Plan}
 use Rattle.ut_stands.specs.Stands.{StandsBy, row_at}
-use Rattle.ut_data.specs.Decoding.{each_from, record_from}
+use Rattle.ut_data.specs.Decoding.{each_from, has_types, record_from}
 use Rattle.ut_data.specs.inner.Found.{listed_from}
 use Rattle.ut_data.proofs.Listed.{KeyLaws, key_at, member, plan, prefix_of, row_of, rows_listed, sound, those}
 use Rattle.ut_data.proofs.Loading.{err_is, no_ok, ok_is}
@@ -60,6 +63,36 @@ rows_read l row (r ∷ rs) h = rw (h r (inl refl), rows_read l row rs (λ x has.
 after_is : (org n : ℕ) (after : Option (List ℕ)) (limit : ℕ) (w : World) (t : Tenant) → tenant_at w org ≡ Some t → records_after org n after limit w ≡ take limit (those t n after)
 unfolding records_after
 after_is org n after limit w t at = rw at refl
+
+-- by a layout whose types aren't within their bounds no row spells a record
+pub none_typed : (l : Layout) (rows : List DataRow) → has_types l ≡ false → (length rows == 0) ≡ false → each_from (record_from l) rows ≡ None
+none_typed l [] h e = absurd cc
+none_typed l (row ∷ rows) h e = rw h refl
+
+-- ---- options, and how many rows are seen
+
+pub mapped : {X Y Z : Type 0} (f : Y → Z) (g : X → Y) (o : Option X) → option_map (λ x. f (g x)) o ≡ option_map f (option_map g o)
+mapped f g None = refl
+mapped f g (Some x) = refl
+
+pub some_mapped : {X Y : Type 0} (P : Y → Type 0) (g : X → Y) (o : Option X) → IfSome o (λ x. P (g x)) → IfSome (option_map g o) P
+some_mapped P g None h = tt
+some_mapped P g (Some x) h = h
+
+short_take : {X : Type 0} (n : ℕ) (xs : List X) → length (take n xs) ≤ n
+short_take zero xs = omega arith
+short_take (suc n) [] = omega arith
+short_take (suc n) (x ∷ xs) = omega (arith, short_take n xs)
+
+length_mapped : {X Y : Type 0} (f : X → Y) (xs : List X) → length (map f xs) ≡ length xs
+length_mapped f [] = refl
+length_mapped f (x ∷ xs) = ap suc (length_mapped f xs)
+
+pub few_seen : {A : Type 0} (limit : ℕ) (kept : List KeptRow) (r : Result (Vec DataRow A) StoreFail) → ListsAs data_form (take limit kept) r → seen limit r ≤ limit
+few_seen limit kept (Ok rows) e =
+    let same : length rows.items ≡ length (take limit kept) = sym (length_mapped (kept_as data_form) rows.items) ∙ ap length e.0 in
+    omega (arith, same, short_take limit kept)
+few_seen limit kept (Err f) e = omega arith
 
 -- what stands in the tables of a world: the records, and that they are read
 record Walked (A : Type 0) (w : World) (l : Layout) (after : Option (List ℕ)) (limit : ℕ) (rows : Result (Vec DataRow A) StoreFail) : Type 0 where

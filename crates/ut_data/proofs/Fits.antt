@@ -1,9 +1,8 @@
 -- The row of a sound record fits its form: its texts are short.
-use Rattle.std.proofs.Common.{◌≡◌, ℕ, zero, suc, ◌+◌, ◌-◌, ◌%◌, ◌<◌, ◌≤◌, ◌^◌, Bool, true, false, ◌&&◌, cond, eqb, IsTrue, List, [], ◌∷◌, map, length, Option, Some, None, refl, sym, ap, subst, ◌∙◌, arith, lit<, eqb-true, ℤ}
-use Rattle.std.specs.Prelude.{◌==◌, IfSome, nat_le, nat_lt, slice_get, unsigned_abs, codes}
-use Rattle.std.specs.List.{AllByRecursion, enumerate_from, find, list_all, list_any, range_with_len}
-use Rattle.std.specs.Option.{option_and_then}
-use Rattle.std.specs.Str.{IsAscii, all_scalars, bytes_eq}
+use Rattle.std.proofs.Common.{◌≡◌, ℕ, ◌+◌, ◌-◌, ◌%◌, ◌<◌, ◌≤◌, ◌^◌, Bool, true, false, ◌&&◌, List, [], ◌∷◌, length, refl, sym, subst, arith, lit<, eqb-true, ℤ}
+use Rattle.std.specs.Prelude.{◌==◌, IfSome, nat_le, nat_lt, unsigned_abs, codes}
+use Rattle.std.specs.List.{list_all, list_any}
+use Rattle.std.specs.Str.{all_scalars, bytes_eq}
 use Rattle.std.proofs.Math.Nat.{pow-le-pow_right}
 use Rattle.std.proofs.lemmas.Bool.Decides.{nat_tests}
 use Rattle.std.proofs.lemmas.Slice.Eq.{bytes_eq-Decides}

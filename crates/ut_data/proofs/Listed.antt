@@ -1,14 +1,13 @@
 -- The rows of an object's records in tables that stand for a world, in the order of their keys.
-use Rattle.std.proofs.Common.{◌≡◌, ℕ, zero, suc, ◌<◌, ◌-◌, ◌^◌, Bool, true, false, ◌&&◌, cond, T, IsTrue, List, [], ◌∷◌, ◌++◌, map, length, Option, Some, None, refl, sym, ap, subst, ◌∙◌, inl, inr, arith, Equal}
-use Rattle.std.specs.Prelude.{◌↔◌, IfSome, IsSome, slice_get}
+use Rattle.std.proofs.Common.{◌≡◌, ℕ, ◌<◌, ◌^◌, Bool, true, false, ◌&&◌, cond, T, IsTrue, List, [], ◌∷◌, ◌++◌, map, Option, Some, None, refl, sym, ap, subst, ◌∙◌, inl, inr, arith, Equal}
+use Rattle.std.specs.Prelude.{◌↔◌, IfSome}
 use Rattle.std.specs.Cmp.{nat_cmp_total}
 use Rattle.std.specs.FinMap.{is_sorted}
 use Rattle.std.specs.FinMap.Entries.{below_all}
 use Rattle.std.specs.List.{filter}
-use Rattle.std.specs.Option.{option_and_then, option_map}
+use Rattle.std.specs.Option.{option_map}
 use Rattle.std.specs.Ordering.{is_ge, is_lt, nat_cmp, ordering_then}
 use Rattle.std.proofs.lemmas.Cmp.{tied_itself}
-use Rattle.std.proofs.lemmas.Option.{slice_get_within}
 use Rattle.ut_value.specs.Id.{is_id}
 use Rattle.ut_keeper.specs.Prefixes.{StartsWith, raised}
 use Rattle.ut_keeper.specs.Tables.{Has as HasRow, Tables, bytes_cmp, is_between}
@@ -21,20 +20,19 @@ use Rattle.ut_keys.specs.Rows.{data_form}
 use Rattle.ut_model.specs.declared.record.Record.{Record}
 use Rattle.ut_model.specs.Jobs.{is_past}
 use Rattle.ut_model.specs.Membership.{Has}
-use Rattle.ut_model.specs.Objects.{is_of, object_at, record_at, records_of}
+use Rattle.ut_model.specs.Objects.{is_of, record_at, records_of}
 use Rattle.ut_model.specs.Sound.{IsSound}
 use Rattle.ut_model.specs.SoundPeople.{ids_rise}
 use Rattle.ut_model.specs.SoundRecords.{record_id}
-use Rattle.ut_model.specs.Tenant as model
 use Rattle.ut_model.specs.Tenant.{Tenant}
-use Rattle.ut_model.specs.World.{World, tenant_at}
+use Rattle.ut_model.specs.World.{World}
 use Rattle.ut_parts.specs.Plain.{number16, number32}
 use Rattle.ut_parts.specs.Shapes.{FitsIn, Shape, Val, front, front_of, in_order, is_key_shape, spelled}
 use Rattle.ut_stands.specs.declared.layout.Layout.{Layout}
-use Rattle.ut_stands.specs.Plan.{FitsPlan, OrgPlan, Plan}
-use Rattle.ut_stands.specs.Stands.{StandsBy, row_at, row_in}
-use Rattle.ut_data.proofs.Rising.{below_has, filter_has, found_itself, has_filter, rise_filter, still_above, t_both, t_first, t_second}
-use Rattle.ut_data.proofs.Standing.{Found, IsOf, Laws, found_of, of_object, row_in_plan, row_kept, sound_tenant}
+use Rattle.ut_stands.specs.Plan.{FitsPlan, Plan}
+use Rattle.ut_stands.specs.Stands.{StandsBy, row_at}
+use Rattle.ut_data.proofs.Rising.{filter_has, found_itself, has_filter, rise_filter, still_above, t_both, t_first, t_second}
+use Rattle.ut_data.proofs.Standing.{IsOf, Laws, found_of, of_object, row_in_plan, row_kept, sound_tenant}
 
 -- ---- laws of keys, as `ut_keys`, `ut_parts` and `ut_keeper` say
 
@@ -201,7 +199,7 @@ module _ (laws : Laws) (keys : KeyLaws) (ids : (t : Tenant) (r : Record) → IsS
     pub rows_listed : (after : Option (List ℕ)) → IfSome after (λ j. IsTrue (is_id j)) → ListsBetween data_form (row_at p w) (from after) above (map row_of (those one.tenant l.object after))
     rows_listed after ha = record {
       rises = keys_rise (those one.tenant l.object after) (λ r has. ids one.tenant r sound (member after r has).0)
-      (rise_filter (λ r. is_past after r.id) (records_of one.tenant l.object) (rise_filter (is_of l.object) one.tenant.records sound.records.rise));
+          (rise_filter (λ r. is_past after r.id) (records_of one.tenant l.object) (rise_filter (is_of l.object) one.tenant.records sound.records.rise));
       sound = λ u has.
           let (r, among, is) = row_has (those one.tenant l.object after) u has in
           let (here, of, past) = member after r among in

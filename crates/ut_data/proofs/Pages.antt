@@ -1,5 +1,5 @@
 -- What a page gives is the first of the rows that stand there.
-use Rattle.std.proofs.Common.{◌≡◌, ℕ, zero, suc, IsTrue, Option, Some, None, List, [], ◌∷◌, refl, sym, ap, ◌∙◌, inl, inr, map, take}
+use Rattle.std.proofs.Common.{◌≡◌, ℕ, zero, suc, IsTrue, Option, Some, List, [], ◌∷◌, refl, sym, ap, ◌∙◌, inl, inr, map, take}
 use Rattle.std.specs.Prelude.{Bool, Result, Ok, Err, Vec}
 use Rattle.std.specs.List.{AllByRecursion}
 use Rattle.std.proofs.lemmas.List.{take-map}

@@ -1,5 +1,5 @@
 -- Printed texts are short, and of ASCII characters.
-use Rattle.std.proofs.Common.{◌≡◌, ℕ, zero, suc, ◌+◌, ◌-◌, ◌*◌, ◌/◌, ◌%◌, ◌^◌, ◌<◌, ◌≤◌, Bool, true, false, ◌&&◌, cond, eqb, IsTrue, List, [], ◌∷◌, ◌++◌, map, length, refl, sym, ap, subst, ◌∙◌, arith, lit<, length-append, ℤ, pos, negsuc}
+use Rattle.std.proofs.Common.{◌≡◌, ℕ, zero, suc, ◌+◌, ◌*◌, ◌/◌, ◌%◌, ◌^◌, ◌<◌, ◌≤◌, true, cond, eqb, List, [], ◌∷◌, ◌++◌, map, length, refl, ◌∙◌, arith, lit<, length-append, ℤ, pos, negsuc}
 use Rattle.std.specs.Prelude.{codes, nat_lt, encode_utf8_all, unsigned_abs}
 use Rattle.std.specs.Char.{encode_utf8}
 use Rattle.std.specs.Fmt.{decimal}
@@ -10,7 +10,7 @@ use Rattle.std.proofs.lemmas.Bool.Decides.{nat_tests}
 use Rattle.std.proofs.lemmas.Fmt.{IsAscii-decimal_wide, length-decimal-le_wide}
 use Rattle.std.proofs.lemmas.Str.{length-encode, len_utf8_bounds}
 use Rattle.ut_value.specs.Digits.{digits}
-use Rattle.ut_value.specs.Numerals.{minus, point}
+use Rattle.ut_value.specs.Numerals.{point}
 use Rattle.ut_value.specs.Printing.{padded, print_clock, print_date, print_day, print_fraction, print_moment, print_number, print_places, print_size, scale}
 use Rattle.ut_parts.specs.Plain.{FitsText}
 use Rattle.ut_data.proofs.Lists.{and_left, and_right, pick}

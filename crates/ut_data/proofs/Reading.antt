@@ -1,8 +1,7 @@
 -- The row of a sound record reads as that record.
-use Rattle.std.proofs.Common.{◌≡◌, ℕ, zero, suc, ◌+◌, Bool, true, ◌&&◌, IsTrue, List, [], ◌∷◌, map, Option, Some, None, refl, sym, ap, ◌∙◌, subst, arith}
+use Rattle.std.proofs.Common.{◌≡◌, ℕ, zero, suc, ◌+◌, Bool, true, ◌&&◌, IsTrue, List, [], ◌∷◌, map, Option, Some, refl, ap, ◌∙◌, subst, arith}
 use Rattle.std.specs.Prelude.{slice_get}
 use Rattle.std.specs.List.{enumerate_from, list_all}
-use Rattle.std.specs.Option.{option_map}
 use Rattle.ut_formula.specs.Meaning.{value_at}
 use Rattle.ut_parts.specs.Plain.{◌>>=◌}
 use Rattle.ut_model.specs.declared.record.Record.{Record}
@@ -11,7 +10,7 @@ use Rattle.ut_model.specs.Objects.{is_of, object_at}
 use Rattle.ut_model.specs.Sound.{IsSound}
 use Rattle.ut_model.specs.SoundRecords.{all_valid, kinds_of}
 use Rattle.ut_model.specs.Tenant.{Field, Object, Tenant}
-use Rattle.ut_stands.specs.Entries.{data_of, entry, entry_text, field_entry, name_text, slot_text, slots_of}
+use Rattle.ut_stands.specs.Entries.{data_of, entry, entry_text, name_text, slot_text, slots_of}
 use Rattle.ut_stands.specs.Layouts.{layout_of, place_of}
 use Rattle.ut_stands.specs.Plan.{FitsPlan, OrgPlan}
 use Rattle.ut_value.specs.Types.{is_type}
@@ -42,8 +41,8 @@ values_back prints p n slots k (f ∷ fs) (v ∷ vs) valids types texts =
     let here : slice_get slots (p.slot n k) ≡ Some (slot_text v) = texts 0 k f v (omega arith) refl refl in
     let back : read_slot f.kind (slot_text v) ≡ Some v = slot_back prints f.kind v (and_left (is_type f.kind) (list_all (λ f. is_type f.kind) fs) types) (and_left (valid f.kind v) (all_valid (map (λ f. f.kind) fs) vs) valids) in
     let rest : each_from (value_from slots) (map (place_of p n) (enumerate_from (k + 1) fs)) ≡ Some vs =
-      values_back prints p n slots (k + 1) fs vs (and_right (valid f.kind v) (all_valid (map (λ f. f.kind) fs) vs) valids) (and_right (is_type f.kind) (list_all (λ f. is_type f.kind) fs) types)
-      (λ i m g w e at is. texts (suc i) m g w (omega (arith, e)) at is)
+    values_back prints p n slots (k + 1) fs vs (and_right (valid f.kind v) (all_valid (map (λ f. f.kind) fs) vs) valids) (and_right (is_type f.kind) (list_all (λ f. is_type f.kind) fs) types)
+    (λ i m g w e at is. texts (suc i) m g w (omega (arith, e)) at is)
     in
     rw (here, back, rest) refl
 
@@ -53,10 +52,11 @@ named_back : PrintsBack → (p : OrgPlan) (n : ℕ) (slots : Slots) (o : Object)
     → (read_slot (type.Text 80) (name_text (value_at values 0)) >>= λ v. each_from (value_from slots) (map (place_of p n) (enumerate_from 0 o.fields)) >>= λ vs. Some (v ∷ vs)) ≡ Some values
 named_back prints p n slots o [] valids types texts = absurd cc
 named_back prints p n slots o (v ∷ vs) valids types texts =
-    rw
-    (name_back prints v (and_left (valid (type.Text 80) v) (all_valid (map (λ f. f.kind) o.fields) vs) valids),
-    values_back prints p n slots 0 o.fields vs (and_right (valid (type.Text 80) v) (all_valid (map (λ f. f.kind) o.fields) vs) valids) types
-    (λ i m f w e at is. let same : i ≡ m = omega (arith, e) in subst (λ (j : ℕ). slice_get slots (p.slot n j) ≡ Some (slot_text w)) same (texts i f at ∙ ap (λ (x : Value). Some (slot_text x)) (value_got vs i w is))))
+    rw (
+      name_back prints v (and_left (valid (type.Text 80) v) (all_valid (map (λ f. f.kind) o.fields) vs) valids),
+      values_back prints p n slots 0 o.fields vs (and_right (valid (type.Text 80) v) (all_valid (map (λ f. f.kind) o.fields) vs) valids) types
+          (λ i m f w e at is. let same : i ≡ m = omega (arith, e) in subst (λ (j : ℕ). slice_get slots (p.slot n j) ≡ Some (slot_text w)) same (texts i f at ∙ ap (λ (x : Value). Some (slot_text x)) (value_got vs i w is))),
+    )
     refl
   where
     value_got : (ws : List Value) (i : ℕ) (w : Value) → slice_get ws i ≡ Some w → value_at ws i ≡ w

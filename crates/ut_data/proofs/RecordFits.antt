@@ -1,7 +1,7 @@
 -- The row of a sound record fits its form.
-use Rattle.std.proofs.Common.{◌≡◌, ℕ, zero, suc, ◌+◌, ◌/◌, ◌%◌, ◌<◌, ◌≤◌, ◌^◌, Bool, true, false, not, ◌&&◌, cond, IsTrue, List, [], ◌∷◌, map, length, Option, Some, None, refl, sym, ap, subst, ◌∙◌, arith, lit<, w64, ℤ, pos, negsuc}
+use Rattle.std.proofs.Common.{◌≡◌, ℕ, zero, suc, ◌+◌, ◌/◌, ◌%◌, ◌<◌, ◌^◌, Bool, true, false, not, cond, IsTrue, List, [], ◌∷◌, map, length, Option, Some, None, refl, sym, subst, ◌∙◌, arith, lit<, w64, ℤ, pos, negsuc}
 use Rattle.std.specs.Prelude.{FitsSigned, IfSome, is_some, int_le, nat_le, unsigned_abs}
-use Rattle.std.specs.List.{All, AllByRecursion, list_all, range_with_len}
+use Rattle.std.specs.List.{AllByRecursion, list_all, range_with_len}
 use Rattle.std.specs.Str.{bytes_eq}
 use Rattle.std.proofs.Math.Nat.{mod-lt}
 use Rattle.std.proofs.lemmas.Bool.Decides.{nat_tests}
@@ -18,7 +18,6 @@ use Rattle.ut_value.specs.declared.value.FieldType.TheVariants as type
 use Rattle.ut_value.specs.declared.value.Value.{Value}
 use Rattle.ut_formula.specs.Meaning.{value_at}
 use Rattle.ut_model.specs.declared.record.Record.{Record}
-use Rattle.ut_model.specs.Cases.{in_case}
 use Rattle.ut_model.specs.Fields.{is_detail}
 use Rattle.ut_model.specs.Known.{Known, known}
 use Rattle.ut_model.specs.Membership.{Has}
@@ -31,7 +30,7 @@ use Rattle.ut_model.specs.World.{user_at, user_prefix}
 use Rattle.ut_parts.specs.Plain.{FitsText}
 use Rattle.ut_keys.specs.Forms.{FitsForm}
 use Rattle.ut_keys.specs.Rows.{data_form}
-use Rattle.ut_stands.specs.Entries.{data_of, entry, entry_text, name_text, slots_of}
+use Rattle.ut_stands.specs.Entries.{data_of, entry, entry_text, slots_of}
 use Rattle.ut_stands.specs.Plan.{FitsPlan, OrgPlan, slot_count}
 use Rattle.ut_data.proofs.Fits.{name_fits}
 use Rattle.ut_data.proofs.Lists.{and_left, and_right}

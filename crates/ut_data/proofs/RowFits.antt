@@ -1,12 +1,9 @@
 -- What is in each slot of a sound record is a valid value of a type, and the row of the record fits its form.
-use Rattle.std.proofs.Common.{◌≡◌, ℕ, zero, suc, ◌+◌, ◌<◌, ◌≤◌, ◌^◌, Bool, true, false, not, ◌&&◌, cond, eqb, IsTrue, List, [], ◌∷◌, ◌++◌, map, length, Option, Some, None, refl, sym, ap, subst, ◌∙◌, arith, lit<, eqb-true, ℤ}
-use Rattle.std.specs.Prelude.{◌==◌, IfSome, slice_get}
-use Rattle.std.specs.List.{All, AllByRecursion, enumerate_from, find, list_all, range_with_len}
+use Rattle.std.proofs.Common.{◌≡◌, ℕ, zero, suc, ◌+◌, Bool, true, not, ◌&&◌, cond, eqb, IsTrue, List, [], ◌∷◌, map, Option, Some, None, refl, ap, subst, arith}
+use Rattle.std.specs.Prelude.{IfSome, slice_get}
+use Rattle.std.specs.List.{enumerate_from, find, list_all}
 use Rattle.std.specs.Option.{option_and_then, option_map}
-use Rattle.std.proofs.lemmas.List.FromFn.{length-map-range_with_len}
-use Rattle.std.proofs.lemmas.Option.{slice_get_within}
 use Rattle.ut_value.specs.Conversion.{convert}
-use Rattle.ut_value.specs.Id.{is_id}
 use Rattle.ut_value.specs.Types.{is_reference, is_type}
 use Rattle.ut_value.specs.Values.{valid}
 use Rattle.ut_value.specs.declared.job.Outcome.{Outcome}
@@ -27,7 +24,7 @@ use Rattle.ut_model.specs.SoundJob.{IsSoundJob}
 use Rattle.ut_model.specs.SoundRecords.{all_valid, kinds_of}
 use Rattle.ut_model.specs.Tenant.{Field, Job, Object, Tenant}
 use Rattle.ut_parts.specs.Plain.{FitsText}
-use Rattle.ut_stands.specs.Entries.{Entry, entry, entry_text, field_entry, field_in, job_entry, job_value, other_entry, slot_text}
+use Rattle.ut_stands.specs.Entries.{entry, entry_text, field_entry, field_in, job_entry, job_value, other_entry, slot_text}
 use Rattle.ut_stands.specs.Plan.{FitsPlan, OrgPlan, type_in, type_there}
 use Rattle.ut_data.proofs.Fits.{value_fits}
 use Rattle.ut_data.proofs.Lists.{and_left, and_right, pick, some_is}

@@ -1,12 +1,12 @@
 -- The text of a valid value in its slot reads back as the value.
-use Rattle.std.proofs.Common.{◌≡◌, ℕ, suc, Bool, true, false, ◌&&◌, IsTrue, List, [], ◌∷◌, ◌++◌, length, take, drop, Option, Some, None, refl, sym, ap, subst, ◌∙◌, arith, append-nil, eqb-true}
-use Rattle.std.specs.Prelude.{Result, Ok, Err, ◌==◌, codes}
+use Rattle.std.proofs.Common.{◌≡◌, ℕ, Bool, true, false, IsTrue, List, [], ◌∷◌, ◌++◌, length, take, drop, Some, refl, sym, ap, ◌∙◌, append-nil, eqb-true}
+use Rattle.std.specs.Prelude.{Ok, ◌==◌}
 use Rattle.std.specs.List.{list_all}
 use Rattle.std.proofs.lemmas.List.{take_at, drop_at}
 use Rattle.ut_value.specs.Conversion.{where_read}
 use Rattle.ut_value.specs.Id.{id_in, is_digit62, is_id}
 use Rattle.ut_value.specs.Printing.{print_value}
-use Rattle.ut_value.specs.Reading.{Read, read_truth, read_value, read_written}
+use Rattle.ut_value.specs.Reading.{read_truth, read_value, read_written}
 use Rattle.ut_value.specs.Types.{is_type}
 use Rattle.ut_value.specs.Values.{valid}
 use Rattle.ut_value.specs.declared.value.FieldType.{FieldType}
@@ -15,7 +15,7 @@ use Rattle.ut_value.specs.declared.value.Value.{Value}
 use Rattle.ut_value.specs.declared.value.Value.TheVariants as value
 use Rattle.ut_stands.specs.Entries.{name_text, slot_text}
 use Rattle.ut_data.specs.Decoding.{read_slot}
-use Rattle.ut_data.proofs.Lists.{and_left, and_right}
+use Rattle.ut_data.proofs.Lists.{and_left}
 
 -- what `ut_value` says of what is printed
 abbrev pub PrintsBack : Type 0

@@ -1,6 +1,6 @@
 -- What a page of an object's rows gives is its records, from an id on.
-use Rattle.std.proofs.Common.{◌≡◌, ℕ, zero, suc, ◌<◌, ◌≤◌, ◌-◌, ◌^◌, Bool, false, IsTrue, List, [], ◌∷◌, ◌++◌, length, map, take, Option, Some, None, refl, sym, ap, subst, ◌∙◌, inl, inr, arith}
-use Rattle.std.specs.Prelude.{◌⊎◌, ◌==◌, IfSome, IsSome, Result, Ok, Err, Vec}
+use Rattle.std.proofs.Common.{◌≡◌, ℕ, zero, suc, ◌<◌, ◌≤◌, ◌-◌, ◌^◌, false, IsTrue, List, [], ◌∷◌, ◌++◌, length, map, take, Option, Some, None, refl, sym, ap, subst, ◌∙◌, inl, inr, arith}
+use Rattle.std.specs.Prelude.{◌==◌, IfSome, IsSome, Result, Ok, Err, Vec}
 use Rattle.std.specs.Option.{option_map}
 use Rattle.std.proofs.lemmas.List.{take-map}
 use Rattle.std.proofs.lemmas.Option.{slice_get_within}
@@ -9,7 +9,7 @@ use Rattle.ut_value.specs.Id.{is_id}
 use Rattle.ut_keeper.specs.declared.keeper.KeptRow.{KeptRow}
 use Rattle.ut_keeper.specs.Prefixes.{raised}
 use Rattle.ut_keeper.specs.State.{seen}
-use Rattle.ut_keeper.specs.Tables.{Tables, rows_between}
+use Rattle.ut_keeper.specs.Tables.{Tables}
 use Rattle.ut_keys.specs.declared.data.DataRow.{DataRow}
 use Rattle.ut_keys.specs.declared.fail.StoreFail.{StoreFail}
 use Rattle.ut_keys.specs.declared.fail.StoreFail.TheVariants.{Keeper, Memory, Damaged}
@@ -33,7 +33,7 @@ use Rattle.ut_data.proofs.Loading.{err_is, no_ok, ok_is}
 use Rattle.ut_data.proofs.Pages.{GivesRows, PageLaws, page_gives}
 use Rattle.ut_data.proofs.RecordFits.{MakesIds, record_is_id}
 use Rattle.ut_data.proofs.Rising.{has_take}
-use Rattle.ut_data.proofs.Standing.{IsOf, Laws, layout_is}
+use Rattle.ut_data.proofs.Standing.{Laws, layout_is}
 
 -- there is a key above those that begin with an organisation's number, as `ut_keys` says
 abbrev pub PrefixEnds : Type 0

@@ -1,6 +1,6 @@
 -- The row that is made of a record is the one that tables have of it.
-use Rattle.std.proofs.Common.{◌≡◌, ℕ, zero, suc, ◌+◌, Bool, true, false, ◌&&◌, cond, eqb, IsTrue, List, [], ◌∷◌, map, Option, Some, None, refl, sym, ap, ◌∙◌, subst, arith}
-use Rattle.std.specs.List.{enumerate_from, find, list_all, range_with_len}
+use Rattle.std.proofs.Common.{◌≡◌, ℕ, zero, suc, ◌+◌, true, ◌&&◌, cond, eqb, IsTrue, List, [], ◌∷◌, map, Option, Some, None, refl}
+use Rattle.std.specs.List.{enumerate_from, find, list_all}
 use Rattle.std.specs.Prelude.{slice_get}
 use Rattle.std.specs.Option.{option_and_then, option_map}
 use Rattle.ut_formula.specs.Meaning.{value_at}
@@ -14,7 +14,6 @@ use Rattle.ut_stands.specs.declared.layout.FieldPlace.{FieldPlace}
 use Rattle.ut_stands.specs.declared.layout.JobPlace.{JobPlace}
 use Rattle.ut_value.specs.Printing.{is_printable}
 use Rattle.ut_value.specs.declared.value.Value.{Value}
-use Rattle.ut_value.specs.declared.value.Value.TheVariants as value
 use Rattle.ut_data.specs.Encoding.{row_from, text_in, texts_in, written}
 use Rattle.ut_data.proofs.Lists.{and_left, and_right, pick, same_range}
 

@@ -1,6 +1,6 @@
 -- The row of a record, by the layout of its object.
 -- Source: as in Decoding.
-use Rattle.std.specs.Prelude.{ℕ, suc, Bool, ◌==◌, if◌then◌else◌, List, map, Option, Some, None, slice_index_or}
+use Rattle.std.specs.Prelude.{ℕ, suc, ◌==◌, if◌then◌else◌, List, map, Option, None, slice_index_or}
 use Rattle.std.specs.List.{enumerate_from, find, range_with_len}
 use Rattle.std.specs.Option.{option_and_then, option_map}
 use Rattle.ut_value.specs.Printing.{is_printable}

@@ -1,7 +1,7 @@
 //! Records and the rows of table 7, by the layout of their object.
 //!
-//! It depends on `ut_stands`. Its contract: a record is read from a row exactly as its layout says, the row of a sound
-//! record reads as that record, and the row that is made of a record is the one that tables have of it.
+//! It depends on `ut_stands`. Its contract: of tables that stand for a world it reads the records that the world has; a row is
+//! read exactly as its layout says, and the row that is made of a record is the one that tables have of it.
 #![tactic(auto)]
 
 mod decoding;

@@ -23,9 +23,7 @@ use crate::decoding::{has_types, record_of, record_within};
 use crate::laws::data_laws;
 use std::alloc::Global;
 use ut_keeper::{Draft, Keeper, draft_laws, walk_laws};
-use ut_keys::{
-    DataRow, StoreFail, listing_laws, page_under, row_at, row_laws, table_laws,
-};
+use ut_keys::{DataRow, StoreFail, listing_laws, page_under, row_at, row_laws, table_laws};
 use ut_model::Record;
 use ut_parts::{CodecFail, shape_laws};
 use ut_stands::{Layout, stands_laws};

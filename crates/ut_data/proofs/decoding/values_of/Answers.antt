@@ -1,4 +1,4 @@
-use Rattle.std.proofs.Common.{◌≡◌, ◌<◌, List, ℕ, Option, Some, length, sym, subst, arith}
+use Rattle.std.proofs.Common.{◌≡◌, ◌<◌, List, ℕ, Option, Some, length, subst, arith}
 use Rattle.ut_data.specs.Decoding.{all_from, value_from}
 use Rattle.ut_data.proofs.Loops.{goes_on, valids_go_on}
 use Rattle.ut_data.proofs.decoding.values_of.Goals as goal
@@ -13,7 +13,7 @@ loop-field-preserved c =
     subst (λ (slots : List (Option (List ℕ))). value_from slots field ≡ Some c.in-Ok-value_of.value) c.texts.ensures c.in-Ok-value_of.ensures.gives in
     record {
       gives = goes_on (value_from c.args.row.now.slots) fields i field c.loop-field.values.items c.push-in-loop-field.new.self.items c.in-Ok-value_of.value (all_from c.args.row.now fields)
-      lt c.field-item.is read c.in_ok-push-2.ensures.items c.loop-field.invariant.gives;
+          lt c.field-item.is read c.in_ok-push-2.ensures.items c.loop-field.invariant.gives;
       valid = valids_go_on fields i field c.loop-field.values.items c.push-in-loop-field.new.self.items c.in-Ok-value_of.value
-      lt c.field-item.is c.in-Ok-value_of.ensures.valid c.in_ok-push-2.ensures.items c.loop-field.invariant.valid;
+          lt c.field-item.is c.in-Ok-value_of.ensures.valid c.in_ok-push-2.ensures.items c.loop-field.invariant.valid;
     }

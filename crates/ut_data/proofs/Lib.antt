@@ -16,3 +16,4 @@ pub mod Rising
 pub mod Listed
 pub mod Pages
 pub mod Walking
+pub mod WrittenFits

@@ -37,7 +37,7 @@ ConvertsValid = (from to : FieldType) (v w : Value) → IsTrue (is_type from) �
 -- ---- the fields of an object
 
 -- what is found among numbered things is one of them
-found_at : {X : Type 0} (test : ℕ × X → Bool) (k : ℕ) (xs : List X) (f : ℕ × X) → find test (enumerate_from k xs) ≡ Some f → (i : ℕ) × (k + i ≡ f.0) × (slice_get xs i ≡ Some f.1)
+pub found_at : {X : Type 0} (test : ℕ × X → Bool) (k : ℕ) (xs : List X) (f : ℕ × X) → find test (enumerate_from k xs) ≡ Some f → (i : ℕ) × (k + i ≡ f.0) × (slice_get xs i ≡ Some f.1)
 found_at test k [] f e = absurd cc
 found_at {X = X} test k (x ∷ xs) f e =
     pick (test (k, x)) (λ b. cond b (Some (k, x)) (find test (enumerate_from (k + 1) xs)) ≡ Some f → (i : ℕ) × (k + i ≡ f.0) × (slice_get (x ∷ xs) i ≡ Some f.1))
@@ -45,21 +45,23 @@ found_at {X = X} test k (x ∷ xs) f e =
     (λ _ there. let (i, number, at) = found_at test (k + 1) xs f there in (suc i, omega (arith, number), at))
     e
 
-typed_at : (fs : List Field) (i : ℕ) (f : Field) → list_all (λ f. is_type f.kind) fs ≡ true → slice_get fs i ≡ Some f → is_type f.kind ≡ true
-typed_at [] i f h e = absurd cc
-typed_at (g ∷ fs) zero f h e = subst (λ (x : Field). is_type x.kind ≡ true) (some_is g f e) (and_left (is_type g.kind) (list_all (λ f. is_type f.kind) fs) h)
-typed_at (g ∷ fs) (suc i) f h e = typed_at fs i f (and_right (is_type g.kind) (list_all (λ f. is_type f.kind) fs) h) e
+pub typed_at : {X : Type 0} (kind : X → FieldType) (xs : List X) (i : ℕ) (x : X) → list_all (λ x. is_type (kind x)) xs ≡ true → slice_get xs i ≡ Some x → is_type (kind x) ≡ true
+typed_at kind [] i x h e = absurd cc
+typed_at {X = X} kind (y ∷ ys) zero x h e =
+    subst (λ (z : X). is_type (kind z) ≡ true) (some_is y x e) (and_left (is_type (kind y)) (list_all (λ x. is_type (kind x)) ys) h)
+typed_at kind (y ∷ ys) (suc i) x h e = typed_at kind ys i x (and_right (is_type (kind y)) (list_all (λ x. is_type (kind x)) ys) h) e
 
-valid_at : (fs : List Field) (vs : List Value) (i : ℕ) (f : Field) → all_valid (map (λ f. f.kind) fs) vs ≡ true → slice_get fs i ≡ Some f → valid f.kind (value_at vs i) ≡ true
-valid_at [] vs i f h e = absurd cc
-valid_at (g ∷ fs) [] i f h e = absurd cc
-valid_at (g ∷ fs) (v ∷ vs) zero f h e = subst (λ (x : Field). valid x.kind v ≡ true) (some_is g f e) (and_left (valid g.kind v) (all_valid (map (λ f. f.kind) fs) vs) h)
-valid_at (g ∷ fs) (v ∷ vs) (suc i) f h e = valid_at fs vs i f (and_right (valid g.kind v) (all_valid (map (λ f. f.kind) fs) vs) h) e
+pub valid_at : {X : Type 0} (kind : X → FieldType) (xs : List X) (vs : List Value) (i : ℕ) (x : X) → all_valid (map kind xs) vs ≡ true → slice_get xs i ≡ Some x → valid (kind x) (value_at vs i) ≡ true
+valid_at kind [] vs i x h e = absurd cc
+valid_at kind (y ∷ ys) [] i x h e = absurd cc
+valid_at {X = X} kind (y ∷ ys) (v ∷ vs) zero x h e =
+    subst (λ (z : X). valid (kind z) v ≡ true) (some_is y x e) (and_left (valid (kind y) v) (all_valid (map kind ys) vs) h)
+valid_at kind (y ∷ ys) (v ∷ vs) (suc i) x h e = valid_at kind ys vs i x (and_right (valid (kind y) v) (all_valid (map kind ys) vs) h) e
 
 -- the values begin with the name
 field_valid : (o : Object) (values : List Value) (i : ℕ) (f : Field) → all_valid (kinds_of o) values ≡ true → slice_get o.fields i ≡ Some f → valid f.kind (value_at values (suc i)) ≡ true
 field_valid o [] i f h e = absurd cc
-field_valid o (v ∷ vs) i f h e = valid_at o.fields vs i f (and_right (valid (type.Text 80) v) (all_valid (map (λ f. f.kind) o.fields) vs) h) e
+field_valid o (v ∷ vs) i f h e = valid_at (λ (f : Field). f.kind) o.fields vs i f (and_right (valid (type.Text 80) v) (all_valid (map (λ f. f.kind) o.fields) vs) h) e
 
 -- ---- what is in a slot
 
@@ -76,7 +78,7 @@ module _ (converts : ConvertsValid) (p : OrgPlan) (t : Tenant) (n : ℕ) (o : Ob
   field_value : (i : ℕ) (f : Field) → slice_get o.fields i ≡ Some f → IsValue (value_at r.values (suc i))
   field_value i f at = record {
     kind = f.kind;
-    typed = typed_at o.fields i f (fields_typed t n o sound is) at;
+    typed = typed_at (λ (f : Field). f.kind) o.fields i f (fields_typed t n o sound is) at;
     valued = field_valid o r.values i f (values_valid t n o r sound is has of) at;
   }
 

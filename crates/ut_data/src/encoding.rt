@@ -1,11 +1,19 @@
 //! Rows made of records.
 
-ghost use Rattle.std.specs.Prelude.{◌≡◌, ◌<◌, IfOk, IfSome, Some, None, if◌then◌else◌, length};
+ghost use Rattle.std.specs.Prelude.{◌≡◌, ◌<◌, FitsSigned, IfOk, IfSome, IsTrue, Some, None, if◌then◌else◌, length};
 ghost use Rattle.std.specs.Option.{option_map};
 ghost use Rattle.std.specs.Str.{IsAscii, IsUtf8, chars};
+ghost use Rattle.std.specs.Int.{w64};
+ghost use Rattle.ut_data.specs.Decoding.{has_types, kinds_in};
 ghost use Rattle.ut_data.specs.Encoding.{field_with, kept_in, row_from, text_in, texts_in, written};
 ghost use Rattle.ut_formula.specs.Meaning.{value_at};
+ghost use Rattle.ut_keys.specs.Forms.{FitsForm};
+ghost use Rattle.ut_keys.specs.Keys.{record_key};
+ghost use Rattle.ut_keys.specs.Rows.{data_form};
+ghost use Rattle.ut_model.specs.SoundRecords.{all_valid};
+ghost use Rattle.ut_parts.specs.Shapes.{FitsIn};
 ghost use Rattle.ut_stands.specs.Entries.{name_text};
+ghost use Rattle.ut_value.specs.Id.{is_id};
 ghost use Rattle.ut_value.specs.Printing.{is_printable, print_value};
 
 use std::alloc::{AllocError, Global};
@@ -155,13 +163,8 @@ fn texts_of(
     Ok(texts)
 }
 
-/// The row of a record: the texts of its fields in their slots. The other slots hold what `kept`, another row of the record,
-/// has there, or nothing.
-///
-/// # Errors
-///
-/// When out of memory.
-pub fn row_of(
+// The row of a record, whatever its values.
+fn made_row(
     alloc: Global,
     layout: &Layout,
     item: &Record,
@@ -181,4 +184,38 @@ pub fn row_of(
         modified: item.modified,
         slots: Slots::new(Items::from_vec(texts)),
     })
+}
+
+// What the types of a record's parts say of them.
+fn parts_fit(org: u32, object: u16, id: Id, owner: Option<Id>, created: i64, modified: i64)
+    ensures key { FitsIn record_key (org, (object, id)) }
+    ensures owner { IfSome owner (λ i. IsTrue (is_id i)) }
+    ensures created { FitsSigned w64 created }
+    ensures modified { FitsSigned w64 modified }
+{
+    let _ = id.as_bytes();
+    if let Some(owner) = &owner {
+        let _ = owner.as_bytes();
+    }
+}
+
+/// The row of a record: the texts of its fields in their slots. The other slots hold what `kept`, another row of the record,
+/// has there, or nothing.
+///
+/// # Errors
+///
+/// When out of memory.
+pub fn row_of(
+    alloc: Global,
+    layout: &Layout,
+    item: &Record,
+    kept: Option<&DataRow>,
+) -> Result<DataRow, AllocError>
+    ensures row { IfOk result (λ row. row ≡ row_from layout.now item.now (option_map (λ row. row.now) kept.entry)) }
+    // It has a spelling, if the values are valid and the other row has one.
+    ensures fits { IsTrue (has_types layout.now) → IsTrue (all_valid (kinds_in layout.now.fields) item.now.values)
+        → IfSome (option_map (λ row. row.now) kept.entry) (FitsForm data_form) → IfOk result (FitsForm data_form) }
+{
+    parts_fit(layout.org, layout.object, item.id, item.owner, item.created, item.modified);
+    made_row(alloc, layout, item, kept)
 }

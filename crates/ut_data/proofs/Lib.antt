@@ -17,3 +17,4 @@ pub mod Listed
 pub mod Pages
 pub mod Walking
 pub mod WrittenFits
+pub mod Rewriting

@@ -18,7 +18,7 @@ use Rattle.ut_data.specs.Encoding.{row_from, text_in, texts_in, written}
 use Rattle.ut_data.proofs.Lists.{and_left, and_right, pick, same_range}
 
 -- the number of a field is that of its place in the layout
-number_same : (p : OrgPlan) (n s k : ℕ) (fs : List Field)
+pub number_same : (p : OrgPlan) (n s k : ℕ) (fs : List Field)
     → option_map (λ (f : ℕ × FieldPlace). f.0) (find (λ (f : ℕ × FieldPlace). eqb f.1.slot s) (enumerate_from k (map (place_of p n) (enumerate_from k fs))))
     ≡ option_map (λ (f : ℕ × Field). f.0) (find (λ (f : ℕ × Field). eqb (p.slot n f.0) s) (enumerate_from k fs))
 number_same p n s k [] = refl
@@ -29,7 +29,7 @@ number_same p n s k (f ∷ fs) =
     (λ _. refl)
     (λ _. number_same p n s (k + 1) fs)
 
-value_printable : (values : List Value) (i : ℕ) → list_all is_printable values ≡ true → is_printable (value_at values i) ≡ true
+pub value_printable : (values : List Value) (i : ℕ) → list_all is_printable values ≡ true → is_printable (value_at values i) ≡ true
 value_printable [] i h = refl
 value_printable (v ∷ vs) zero h = and_left (is_printable v) (list_all is_printable vs) h
 value_printable (v ∷ vs) (suc i) h = value_printable vs i (and_right (is_printable v) (list_all is_printable vs) h)

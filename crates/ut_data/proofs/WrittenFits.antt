@@ -1,5 +1,5 @@
 -- The row that is made of a record fits its form, where the record's values are valid for the layout's types.
-use Rattle.std.proofs.Common.{◌≡◌, ℕ, zero, suc, Bool, true, false, cond, eqb, IsTrue, List, [], ◌∷◌, map, Option, Some, None, refl, subst, arith, w64}
+use Rattle.std.proofs.Common.{◌≡◌, ℕ, zero, suc, true, cond, eqb, IsTrue, List, [], ◌∷◌, map, Option, Some, None, refl, subst, arith, w64}
 use Rattle.std.specs.Prelude.{FitsSigned, IfSome, slice_get, slice_index_or}
 use Rattle.std.specs.List.{AllByRecursion, enumerate_from, find, range_with_len}
 use Rattle.std.specs.Option.{option_map}
@@ -26,7 +26,7 @@ use Rattle.ut_stands.specs.declared.layout.Layout.{Layout}
 use Rattle.ut_stands.specs.Entries.{slot_text}
 use Rattle.ut_stands.specs.Plan.{slot_count}
 use Rattle.ut_data.specs.Decoding.{has_types, kinds_in}
-use Rattle.ut_data.specs.Encoding.{field_with, kept_in, row_from, text_in, texts_in, written}
+use Rattle.ut_data.specs.Encoding.{kept_in, row_from, text_in, texts_in, written}
 use Rattle.ut_data.proofs.Fits.{name_fits, value_fits}
 use Rattle.ut_data.proofs.Lists.{and_left, and_right, pick}
 use Rattle.ut_data.proofs.RecordFits.{each_range}

@@ -186,7 +186,7 @@ fn made_row(
     })
 }
 
-// What the types of a record's parts say of them.
+// That a record's id and moments, its owner and the numbers of its object have spellings, as their types say.
 fn parts_fit(org: u32, object: u16, id: Id, owner: Option<Id>, created: i64, modified: i64)
     ensures key { FitsIn record_key (org, (object, id)) }
     ensures owner { IfSome owner (λ i. IsTrue (is_id i)) }
@@ -216,6 +216,13 @@ pub fn row_of(
     ensures fits { IsTrue (has_types layout.now) → IsTrue (all_valid (kinds_in layout.now.fields) item.now.values)
         → IfSome (option_map (λ row. row.now) kept.entry) (FitsForm data_form) → IfOk result (FitsForm data_form) }
 {
-    parts_fit(layout.org, layout.object, item.id, item.owner, item.created, item.modified);
+    parts_fit(
+        layout.org,
+        layout.object,
+        item.id,
+        item.owner,
+        item.created,
+        item.modified,
+    );
     made_row(alloc, layout, item, kept)
 }

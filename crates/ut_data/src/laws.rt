@@ -1,18 +1,20 @@
-ghost use Rattle.std.specs.Prelude.{◌≡◌, ◌<◌, ◌^◌, ℕ, IsTrue, Some, None};
+ghost use Rattle.std.specs.Prelude.{◌≡◌, ◌<◌, ◌^◌, ℕ, IsTrue, Some, None, true};
 ghost use Rattle.std.specs.List.{list_all};
 ghost use Rattle.ut_data.specs.Decoding.{record_from};
 ghost use Rattle.ut_data.specs.Encoding.{row_from};
 ghost use Rattle.ut_keys.specs.Forms.{FitsForm};
 ghost use Rattle.ut_keys.specs.Rows.{data_form};
 ghost use Rattle.ut_model.specs.declared.record.Record.{Record};
+ghost use Rattle.ut_model.specs.Jobs.{is_past};
 ghost use Rattle.ut_model.specs.Membership.{Has};
 ghost use Rattle.ut_model.specs.Objects.{Numbered, is_of, object_at};
 ghost use Rattle.ut_model.specs.Sound.{IsSound};
-ghost use Rattle.ut_model.specs.Tenant.{Object, Tenant};
+ghost use Rattle.ut_model.specs.Tenant.{Job, Object, Tenant};
 ghost use Rattle.ut_stands.specs.Entries.{data_of, entry};
 ghost use Rattle.ut_stands.specs.Layouts.{job_on, layout_of};
 ghost use Rattle.ut_stands.specs.Plan.{FitsPlan, OrgPlan};
 ghost use Rattle.ut_value.specs.Printing.{is_printable};
+ghost use Rattle.ut_value.specs.declared.job.Phase.TheVariants as phase;
 
 use ut_value::{id_laws, value_laws};
 
@@ -27,6 +29,14 @@ pub fn data_laws()
     ensures written { (org n : ℕ) (p : OrgPlan) (t : Tenant) (o : Object) (r : Record)
         → job_on p t n ≡ None → IsTrue (list_all is_printable r.values)
         → row_from (layout_of org p t (record { number = n; object = o })) r None ≡ data_of org n r (entry p t.job n o r) }
+
+    // So it is where a change is under way that hasn't come to the record or clears what is left, if another row of the record
+    // says what is in the other slots.
+    ensures rewritten { (org n : ℕ) (p : OrgPlan) (t : Tenant) (o : Object) (q r : Record)
+        → q.id ≡ r.id → ((j : Job) → t.job ≡ Some j → j.object ≡ n → j.phase ≡ phase.Copy → is_past j.cursor r.id ≡ true)
+        → IsTrue (list_all is_printable r.values)
+        → row_from (layout_of org p t (record { number = n; object = o })) r (Some (data_of org n q (entry p t.job n o q)))
+        ≡ data_of org n r (entry p t.job n o r) }
 
     // The values of sound records have texts.
     ensures printable { (t : Tenant) (r : Record) → IsSound t → Has t.records r → IsTrue (list_all is_printable r.values) }

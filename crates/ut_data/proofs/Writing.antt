@@ -14,7 +14,7 @@ use Rattle.ut_stands.specs.declared.layout.FieldPlace.{FieldPlace}
 use Rattle.ut_stands.specs.declared.layout.JobPlace.{JobPlace}
 use Rattle.ut_value.specs.Printing.{is_printable}
 use Rattle.ut_value.specs.declared.value.Value.{Value}
-use Rattle.ut_data.specs.Encoding.{row_from, text_in, texts_in, written}
+use Rattle.ut_data.specs.Encoding.{row_from, text_of_slot, texts_of_slots, value_text}
 use Rattle.ut_data.proofs.Lists.{and_left, and_right, pick, same_range}
 
 -- the number of a field is that of its place in the layout
@@ -51,16 +51,16 @@ nothing_other p t n o r s none = by t.job none
         differ e = cc
 
 text_same : (org n : ℕ) (p : OrgPlan) (t : Tenant) (o : Object) (r : Record) (s : ℕ) → job_on p t n ≡ None → list_all is_printable r.values ≡ true
-    → text_in (layout_of org p t (record { number = n; object = o })) r None s ≡ entry_text (entry p t.job n o r s)
+    → text_of_slot (layout_of org p t (record { number = n; object = o })) r None s ≡ entry_text (entry p t.job n o r s)
 unfolding entry
 text_same org n p t o r s none printable = rw (number_same p n s 0 o.fields) (by (field_in p n o.fields s))
   where
-    by : (x : Option (ℕ × Field)) → in_case (option_map (λ (f : ℕ × Field). f.0) x) None (λ f. written (value_at r.values (suc f))) ≡ entry_text (in_case x (other_entry p t.job n o r s) (λ f. Some (field_entry r f)))
+    by : (x : Option (ℕ × Field)) → in_case (option_map (λ (f : ℕ × Field). f.0) x) None (λ f. value_text (value_at r.values (suc f))) ≡ entry_text (in_case x (other_entry p t.job n o r s) (λ f. Some (field_entry r f)))
     by None = rw (nothing_other p t n o r s none) refl
     by (Some f) = rw (value_printable r.values (suc f.0) printable) refl
 
 pub row_written : (org n : ℕ) (p : OrgPlan) (t : Tenant) (o : Object) (r : Record) → job_on p t n ≡ None → IsTrue (list_all is_printable r.values)
     → row_from (layout_of org p t (record { number = n; object = o })) r None ≡ data_of org n r (entry p t.job n o r)
-unfolding slots_of texts_in
+unfolding slots_of texts_of_slots
 row_written org n p t o r none printable =
-    rw (same_range (text_in (layout_of org p t (record { number = n; object = o })) r None) (λ s. entry_text (entry p t.job n o r s)) 0 slot_count (λ s. text_same org n p t o r s none printable)) refl
+    rw (same_range (text_of_slot (layout_of org p t (record { number = n; object = o })) r None) (λ s. entry_text (entry p t.job n o r s)) 0 slot_count (λ s. text_same org n p t o r s none printable)) refl

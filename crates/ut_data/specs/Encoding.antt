@@ -15,24 +15,24 @@ use Rattle.ut_stands.specs.declared.layout.FieldPlace.{FieldPlace}
 use Rattle.ut_stands.specs.declared.layout.Layout.{Layout}
 
 -- the number of the field with this slot
-abbrev pub field_with : List FieldPlace → (slot : ℕ) → Option ℕ
-field_with fields s = option_map (λ (f : ℕ × FieldPlace). f.0) (find (λ (f : ℕ × FieldPlace). f.1.slot == s) (enumerate_from 0 fields))
+abbrev pub field_of_slot : List FieldPlace → (slot : ℕ) → Option ℕ
+field_of_slot fields s = option_map (λ (f : ℕ × FieldPlace). f.0) (find (λ (f : ℕ × FieldPlace). f.1.slot == s) (enumerate_from 0 fields))
 
 -- the text of a value, which a day or a moment outside the years 0001 to 9999 doesn't have
-abbrev pub written : Value → Option (List ℕ)
-written v = if is_printable v then slot_text v else None
+abbrev pub value_text : Value → Option (List ℕ)
+value_text v = if is_printable v then slot_text v else None
 
 -- what a row has in a slot
-abbrev pub kept_in : Option DataRow → (slot : ℕ) → Option (List ℕ)
-kept_in kept s = option_and_then (λ row. slice_index_or row.slots s None) kept
+abbrev pub kept_text : Option DataRow → (slot : ℕ) → Option (List ℕ)
+kept_text kept s = option_and_then (λ row. slice_index_or row.slots s None) kept
 
 -- the text of the value of the field whose slot it is, and else what another row has there
-abbrev pub text_in : Layout → Record → Option DataRow → (slot : ℕ) → Option (List ℕ)
-text_in l r kept s = in_case (field_with l.fields s) (kept_in kept s) (λ f. written (value_at r.values (suc f)))
+abbrev pub text_of_slot : Layout → Record → Option DataRow → (slot : ℕ) → Option (List ℕ)
+text_of_slot l r kept s = in_case (field_of_slot l.fields s) (kept_text kept s) (λ f. value_text (value_at r.values (suc f)))
 
 -- what is in each slot
-unfoldable pub texts_in : Layout → Record → Option DataRow → List (Option (List ℕ))
-texts_in l r kept = map (text_in l r kept) (range_with_len 0 slot_count)
+unfoldable pub texts_of_slots : Layout → Record → Option DataRow → List (Option (List ℕ))
+texts_of_slots l r kept = map (text_of_slot l r kept) (range_with_len 0 slot_count)
 
 abbrev pub row_from : Layout → Record → Option DataRow → DataRow
 row_from l r kept =
@@ -44,5 +44,5 @@ row_from l r kept =
       owner = r.owner;
       created = r.created;
       modified = r.modified;
-      slots = texts_in l r kept;
+      slots = texts_of_slots l r kept;
     }

@@ -5,7 +5,7 @@ ghost use Rattle.std.specs.Option.{option_map};
 ghost use Rattle.std.specs.Str.{IsAscii, IsUtf8, chars};
 ghost use Rattle.std.specs.Int.{w64};
 ghost use Rattle.ut_data.specs.Decoding.{has_types, kinds_in};
-ghost use Rattle.ut_data.specs.Encoding.{field_with, kept_in, row_from, text_in, texts_in, written};
+ghost use Rattle.ut_data.specs.Encoding.{field_of_slot, kept_text, row_from, text_of_slot, texts_of_slots, value_text};
 ghost use Rattle.ut_formula.specs.Meaning.{value_at};
 ghost use Rattle.ut_keys.specs.Forms.{FitsForm};
 ghost use Rattle.ut_keys.specs.Keys.{record_key};
@@ -68,7 +68,7 @@ fn id_text(alloc: Global, id: &Id) -> Result<Text, AllocError>
 }
 
 fn value_text(alloc: Global, value: &Value) -> Result<Option<Text>, AllocError>
-    ensures { IfOk result (λ text. text ≡ written value.now) }
+    ensures { IfOk result (λ text. text ≡ value_text value.now) }
 {
     match value {
         Value::Null | Value::Bool(false) => Ok(None),
@@ -89,7 +89,7 @@ fn text_copy(alloc: Global, text: &Option<Text>) -> Result<Option<Text>, AllocEr
 
 // What a row has in a slot.
 fn kept_text(alloc: Global, kept: Option<&DataRow>, slot: u8) -> Result<Option<Text>, AllocError>
-    ensures { IfOk result (λ text. text ≡ kept_in (option_map (λ row. row.now) kept.entry) slot) }
+    ensures { IfOk result (λ text. text ≡ kept_text (option_map (λ row. row.now) kept.entry) slot) }
 {
     match kept {
         None => Ok(None),
@@ -102,7 +102,7 @@ fn kept_text(alloc: Global, kept: Option<&DataRow>, slot: u8) -> Result<Option<T
 
 // The text of the value at a position.
 fn text_at(alloc: Global, values: &[Value], position: usize) -> Result<Option<Text>, AllocError>
-    ensures { IfOk result (λ text. text ≡ written (value_at values.now position)) }
+    ensures { IfOk result (λ text. text ≡ value_text (value_at values.now position)) }
 {
     match values.get(position) {
         None => Ok(None),
@@ -111,8 +111,8 @@ fn text_at(alloc: Global, values: &[Value], position: usize) -> Result<Option<Te
 }
 
 // The number of the field with this slot.
-fn field_with(fields: &[FieldPlace], slot: u8) -> Option<usize>
-    ensures place { result ≡ field_with fields.now slot }
+fn field_of_slot(fields: &[FieldPlace], slot: u8) -> Option<usize>
+    ensures place { result ≡ field_of_slot fields.now slot }
     ensures below { IfSome result (λ number. number < length fields.now) }
 {
     for (number, field) in fields.iter().enumerate() {
@@ -123,16 +123,16 @@ fn field_with(fields: &[FieldPlace], slot: u8) -> Option<usize>
     None
 }
 
-fn text_in(
+fn text_of_slot(
     alloc: Global,
     layout: &Layout,
     item: &Record,
     kept: Option<&DataRow>,
     slot: u8,
 ) -> Result<Option<Text>, AllocError>
-    ensures { IfOk result (λ text. text ≡ text_in layout.now item.now (option_map (λ row. row.now) kept.entry) slot) }
+    ensures { IfOk result (λ text. text ≡ text_of_slot layout.now item.now (option_map (λ row. row.now) kept.entry) slot) }
 {
-    match field_with(layout.fields.as_slice(), slot) {
+    match field_of_slot(layout.fields.as_slice(), slot) {
         None => kept_text(alloc, kept, slot),
         Some(number) => text_at(alloc, item.values.as_slice(), number + 1),
     }
@@ -154,11 +154,11 @@ fn texts_of(
     item: &Record,
     kept: Option<&DataRow>,
 ) -> Result<Vec<Option<Text>>, AllocError>
-    ensures { IfOk result (λ texts. texts.items ≡ texts_in layout.now item.now (option_map (λ row. row.now) kept.entry)) }
+    ensures { IfOk result (λ texts. texts.items ≡ texts_of_slots layout.now item.now (option_map (λ row. row.now) kept.entry)) }
 {
     let mut texts = Vec::new(alloc);
     for slot in 0..SLOT_COUNT {
-        texts.push(text_in(alloc, layout, item, kept, slot)?)?;
+        texts.push(text_of_slot(alloc, layout, item, kept, slot)?)?;
     }
     Ok(texts)
 }

@@ -1,7 +1,7 @@
 use Rattle.std.proofs.Common.{◌≡◌, ℕ, drop, eqb}
 use Rattle.std.specs.List.{enumerate_from, find}
 use Rattle.ut_stands.specs.declared.layout.FieldPlace.{FieldPlace}
-use Rattle.ut_data.proofs.encoding.field_with.Given as goal
+use Rattle.ut_data.proofs.encoding.field_of_slot.Given as goal
 
 abbrev pub invariant-loop-number : goal.invariant-loop-number
 invariant-loop-number l =

@@ -111,8 +111,8 @@ pub fn record_within(alloc: Global, layout: &Layout, row: &DataRow) -> Result<Re
 ///
 /// # Errors
 ///
-/// `Damaged` exactly if it spells none: the layout's types aren't within their bounds, or a field's slot is missing or has a
-/// text that isn't a value of its type. `Memory` if out of memory.
+/// `Damaged` exactly if it spells none: the layout's types aren't within their bounds, the name has more than 80 characters, or
+/// a field's slot is missing or has a text that isn't a value of its type. `Memory` if out of memory.
 pub fn record_of(alloc: Global, layout: &Layout, row: &DataRow) -> Result<Record, CodecFail>
     ensures gives { Gives result (record_from layout.now row.now) }
     ensures valid { IfOk result (λ r. IsTrue (all_valid (kinds_in layout.now.fields) r.values)) }

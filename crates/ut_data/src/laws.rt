@@ -41,7 +41,7 @@ pub fn data_laws()
     // The values of sound records have texts.
     ensures printable { (t : Tenant) (r : Record) → IsSound t → Has t.records r → IsTrue (list_all is_printable r.values) }
 
-    // It has a spelling.
+    // The row of a sound record has a spelling.
     ensures fits { (org n : ℕ) (p : OrgPlan) (t : Tenant) (o : Object) (r : Record)
         → org < 2 ^ 32 → IsSound t → FitsPlan p t → object_at t n ≡ Some o → Has t.records r → IsTrue (is_of n r)
         → FitsForm data_form (data_of org n r (entry p t.job n o r)) }

@@ -1,0 +1,21 @@
+use Rattle.ut_data.proofs.Reading.{row_reads}
+use Rattle.ut_data.proofs.RecordFits.{record_fits}
+use Rattle.ut_data.proofs.Sound.{values_printable}
+use Rattle.ut_data.proofs.Rewriting.{row_rewritten}
+use Rattle.ut_data.proofs.Writing.{row_written}
+use Rattle.ut_data.proofs.laws.data_laws.Goals as goal
+
+pub returns-clause-read : goal.returns-clause-read
+returns-clause-read c org n p t o r sound fits is has of = row_reads c.value_laws.ensures.printed org n p t o r sound fits is has of
+
+pub returns-clause-written : goal.returns-clause-written
+returns-clause-written c org n p t o r none printable = row_written org n p t o r none printable
+
+pub returns-clause-printable : goal.returns-clause-printable
+returns-clause-printable c t r sound has = values_printable c.value_laws.ensures.printable t r sound has
+
+pub returns-clause-fits : goal.returns-clause-fits
+returns-clause-fits c org n p t o r lo sound fits is has of = record_fits c.id_laws.ensures.made c.value_laws.ensures.converted org n p t o r lo sound fits is has of
+
+pub returns-clause-rewritten : goal.returns-clause-rewritten
+returns-clause-rewritten c org n p t o q r same past printable = row_rewritten org n p t o q r same past printable

@@ -1,0 +1,24 @@
+use Rattle.std.proofs.Common.{ℕ, List, sym, subst}
+use Rattle.std.specs.FinMap as map
+use Rattle.ut_keeper.specs.Draft.{tables_of}
+use Rattle.ut_keys.specs.Keys.{Data, record_key, spell}
+use Rattle.ut_keys.specs.Reads.{ReadsAs}
+use Rattle.ut_keys.specs.Rows.{data_form}
+use Rattle.ut_parts.specs.Shapes.{FitsIn}
+use Rattle.ut_data.proofs.Loading.{record_finds}
+use Rattle.ut_data.proofs.Standing.{Laws}
+use Rattle.ut_data.proofs.reads.load_record.Goals as goal
+
+pub row_at-row-requires : goal.row_at-row-requires
+row_at-row-requires g c = subst (λ (k : ℕ × (ℕ × List ℕ)). FitsIn record_key k) (sym c.key_of-key.ensures.is) c.key_of-key.ensures.fits
+
+pub returns-clause-finds : goal.returns-clause-finds
+returns-clause-finds g c told =
+    let m = tables_of g.K.Keeper.state c.args.draft.now in
+    let laws : Laws = record {
+      own = c.stands_laws.ensures.own;
+      read = c.data_laws.ensures.read;
+      fits = c.data_laws.ensures.fits;
+    } in
+    let reads = subst (λ (k : ℕ × (ℕ × List ℕ)). ReadsAs data_form k (map.get m (spell (Data k.0 k.1.0 k.1.1))) c.row_at-row.result) c.key_of-key.ensures.is (c.row_at-row.ensures.row told) in
+    record_finds c.row_laws.ensures.found laws m c.args.layout.now c.args.id.now c.key_of-key.ensures.fits c.row_at-row.result c.record_found.result reads c.record_found.ensures

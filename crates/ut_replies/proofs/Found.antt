@@ -1,15 +1,15 @@
 -- What `SELECT Id, Name` finds, its rows, and that nothing of it is refused.
-use Rattle.std.proofs.Common.{◌≡◌, ℕ, Bool, true, false, ◌&&◌, ◌==◌, cond, List, [], ◌∷◌, map, filter, Option, Some, None, refl, sym, ap, subst, ◌∙◌, T, is_lt, slice_get, slice_index_or}
+use Rattle.std.proofs.Common.{◌≡◌, ℕ, Bool, true, false, ◌&&◌, ◌==◌, cond, List, [], ◌∷◌, map, filter, Option, Some, None, refl, sym, ap, subst, ◌∙◌, T, is_lt, slice_get, slice_index_or, lit<}
 use Rattle.std.specs.Prelude.{codes, encode_utf8_all}
 use Rattle.std.specs.Char.{encode_utf8}
-use Rattle.std.specs.Fmt.{decimal}
+use Rattle.std.proofs.lemmas.Fmt.{decimal_digit}
 use Rattle.std.specs.List.{AllByRecursion}
 use Rattle.std.specs.FinMap.{is_sorted}
 use Rattle.std.specs.FinMap.Entries.{below_all}
 use Rattle.std.specs.Ordering.{nat_cmp}
 use Rattle.std.specs.Cmp.Lexicographic.{slice_cmp}
 use Rattle.std.proofs.lemmas.Bool.{eqb-true}
-use Rattle.ut_json.specs.Printing.{printed_text}
+use Rattle.ut_json.specs.Printing.{escaped, printed_text, printed_truth}
 use Rattle.ut_value.specs.Id.{print18}
 use Rattle.ut_value.specs.Values.{valid}
 use Rattle.ut_value.specs.declared.value.FieldType.TheVariants as type
@@ -27,7 +27,7 @@ use Rattle.ut_model.specs.Ordered.{before, in_order, put_in}
 use Rattle.ut_model.specs.Paths.{Asked}
 use Rattle.ut_model.specs.Rows.{chosen, found, readable_of}
 use Rattle.ut_model.specs.Rules.{first_refusal}
-use Rattle.ut_model.specs.RowsJson.{found_json, member_json, object_json, row_json, rows_json, value_json}
+use Rattle.ut_model.specs.RowsJson.{found_json, list_json, member_json, object_json, row_json, rows_json, value_json}
 use Rattle.ut_model.specs.Sound.{IsSound}
 use Rattle.ut_model.specs.SoundPeople.{ids_rise}
 use Rattle.ut_model.specs.SoundRecords.{IsSoundRecord, all_valid, kinds_of, record_id}
@@ -156,7 +156,16 @@ body_is a object o s admin e =
     ap (λ rs. rows_json (map (λ r. row_json a r (names_query object).select) rs)) (found_all a object o s admin e)
     ∙ ap rows_json (same_map (λ r. row_json a r (names_query object).select) (name_row o.object.name) (records_of a.tenant o.number) (row_is a object o s e))
 
--- of no records
+-- ---- no records
+
+-- the body with these characters for the number of rows
+abbrev body_with : List ℕ → List ℕ
+body_with number =
+    encode_utf8_all (object_json (member_json (codes "totalSize") number ∷ member_json (codes "done") (printed_truth true) ∷ member_json (codes "records") (list_json []) ∷ []))
+
+with_zero : body_with (codes "0") ≡ codes "{\"totalSize\":0,\"done\":true,\"records\":[]}"
+unfolding escaped encode_utf8
+with_zero = refl
+
 pub none_written : (object : List ℕ) → encode_utf8_all (rows_json (map (name_row object) [])) ≡ codes "{\"totalSize\":0,\"done\":true,\"records\":[]}"
-unfolding decimal encode_utf8
-none_written object = refl
+none_written object = ap body_with (decimal_digit 0 (lit< tt)) ∙ with_zero

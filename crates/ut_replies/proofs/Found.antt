@@ -1,10 +1,9 @@
 -- What `SELECT Id, Name` finds, its rows, and that nothing of it is refused.
-use Rattle.std.proofs.Common.{◌≡◌, ℕ, Bool, true, false, ◌&&◌, ◌==◌, cond, List, [], ◌∷◌, map, filter, Option, Some, None, refl, sym, ap, subst, ◌∙◌, T, is_lt, slice_get, slice_index_or, lit<}
+use Rattle.std.proofs.Common.{◌≡◌, ℕ, Bool, true, false, ◌&&◌, cond, List, [], ◌∷◌, map, filter, Some, None, refl, ap, ◌∙◌, T, is_lt, slice_get, slice_index_or, lit<}
 use Rattle.std.specs.Prelude.{codes, encode_utf8_all}
 use Rattle.std.specs.Char.{encode_utf8}
 use Rattle.std.proofs.lemmas.Fmt.{decimal_digit}
 use Rattle.std.specs.List.{AllByRecursion}
-use Rattle.std.specs.FinMap.{is_sorted}
 use Rattle.std.specs.FinMap.Entries.{below_all}
 use Rattle.std.specs.Ordering.{nat_cmp}
 use Rattle.std.specs.Cmp.Lexicographic.{slice_cmp}
@@ -30,12 +29,11 @@ use Rattle.ut_model.specs.Rules.{first_refusal}
 use Rattle.ut_model.specs.RowsJson.{found_json, list_json, member_json, object_json, row_json, rows_json, value_json}
 use Rattle.ut_model.specs.Sound.{IsSound}
 use Rattle.ut_model.specs.SoundPeople.{ids_rise}
-use Rattle.ut_model.specs.SoundRecords.{IsSoundRecord, all_valid, kinds_of, record_id}
-use Rattle.ut_model.specs.Known.{known}
-use Rattle.ut_model.specs.Tenant.{Object, Tenant}
+use Rattle.ut_model.specs.SoundRecords.{all_valid, kinds_of, record_id}
+use Rattle.ut_model.specs.Tenant.{Object}
 use Rattle.ut_model.specs.Verdict.{accept, judged, refuse, rows_of, unless}
 use Rattle.ut_replies.specs.Names.{name_attributes, name_in, name_row, names_query}
-use Rattle.ut_replies.proofs.Lists.{all_at, all_kept, all_stay, kept_from, left, same_map, some_is}
+use Rattle.ut_replies.proofs.Lists.{all_kept, all_stay, kept_from, left, same_map}
 use Rattle.ut_replies.proofs.Places.{named_at}
 use Rattle.ut_replies.proofs.Readable.{reads_all, sound_at}
 
@@ -66,9 +64,10 @@ both_hold false b h = absurd h
 
 below_each : (r : Record) (rs : List Record) → T (below_all (slice_cmp nat_cmp) r.id (map (λ x. (record_id x, x)) rs)) → AllByRecursion (λ s. is_below r s ≡ true) rs
 below_each r [] h = tt
-below_each r (s ∷ rs) h =
-    (first (is_below r s) (below_all (slice_cmp nat_cmp) r.id (map (λ x. (record_id x, x)) rs)) h,
-    below_each r rs (second (is_below r s) (below_all (slice_cmp nat_cmp) r.id (map (λ x. (record_id x, x)) rs)) h))
+below_each r (s ∷ rs) h = (
+  first (is_below r s) (below_all (slice_cmp nat_cmp) r.id (map (λ x. (record_id x, x)) rs)) h,
+  below_each r rs (second (is_below r s) (below_all (slice_cmp nat_cmp) r.id (map (λ x. (record_id x, x)) rs)) h),
+)
 
 they_rise : (rs : List Record) → T (ids_rise record_id rs) → Rise rs
 they_rise [] h = tt

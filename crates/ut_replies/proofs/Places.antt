@@ -1,5 +1,5 @@
 -- Objects by their names and numbers, references by their objects, and records by their ids.
-use Rattle.std.proofs.Common.{◌≡◌, ℕ, zero, suc, ◌+◌, Bool, true, false, ◌&&◌, ◌==◌, cond, List, [], ◌∷◌, ◌++◌, map, Option, Some, None, refl, sym, ap, subst, ◌∙◌, arith, ◌⊎◌, inl, inr, bytes_eq, slice_get}
+use Rattle.std.proofs.Common.{◌≡◌, ℕ, zero, suc, ◌+◌, Bool, true, false, cond, List, [], ◌∷◌, ◌++◌, map, Option, Some, None, refl, sym, ap, subst, ◌∙◌, arith, inl, inr, bytes_eq, slice_get}
 use Rattle.std.specs.List.{enumerate_from, find, flat_map}
 use Rattle.ut_model.specs.Cases.{in_case}
 use Rattle.ut_model.specs.Fields.{same_name}
@@ -66,12 +66,12 @@ among_from n [] f m = absurd m
 among_from n (x ∷ os) f m =
     elim (in_either (references_of (record { number = n; object = x })) (flat_map references_of (numbered_from (n + 1) os)) f m) [
       | inl h ↦
-        let none : n ≡ n + 0 = omega arith in
-        (0, x, refl, subst (λ (k : ℕ). Has (references_of (record { number = k; object = x })) f) none h)
+          let none : n ≡ n + 0 = omega arith in
+          (0, x, refl, subst (λ (k : ℕ). Has (references_of (record { number = k; object = x })) f) none h)
       | inr h ↦
-        let r = among_from (n + 1) os f h in
-        let same : n + 1 + r.0 ≡ n + suc r.0 = omega arith in
-        (suc r.0, r.1, r.2, subst (λ (k : ℕ). Has (references_of (record { number = k; object = r.1 })) f) same r.3)
+          let r = among_from (n + 1) os f h in
+          let same : n + 1 + r.0 ≡ n + suc r.0 = omega arith in
+          (suc r.0, r.1, r.2, subst (λ (k : ℕ). Has (references_of (record { number = k; object = r.1 })) f) same r.3)
     ]
 
 pub own_reference : (os : List Object) (n : ℕ) (o : Object) (f : Reference) → slice_get os n ≡ Some o → f.object ≡ n → Has (flat_map references_of (numbered os)) f

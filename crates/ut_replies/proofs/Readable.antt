@@ -1,6 +1,5 @@
 -- An administrator reads each record: those of objects without a master, and so the details below them.
-use Rattle.std.proofs.Common.{◌≡◌, ℕ, zero, suc, ◌≤◌, Bool, true, false, not, ◌&&◌, ◌||◌, ◌==◌, cond, List, [], ◌∷◌, map, filter, Option, Some, None, is_some, refl, sym, ap, subst, ◌∙◌, arith, bytes_eq, slice_get}
-use Rattle.std.specs.List.{find}
+use Rattle.std.proofs.Common.{◌≡◌, ℕ, zero, suc, ◌≤◌, true, not, ◌&&◌, ◌||◌, ◌==◌, cond, List, ◌∷◌, map, Option, Some, None, is_some, refl, sym, ap, subst, ◌∙◌, arith}
 use Rattle.std.specs.Option.{option_and_then}
 use Rattle.std.proofs.lemmas.Bool.{eqb-true}
 use Rattle.std.proofs.lemmas.Slice.Eq.{bytes_eq-Decides}
@@ -8,14 +7,14 @@ use Rattle.ut_value.specs.declared.sharing.Level.{Level}
 use Rattle.ut_value.specs.declared.sharing.Level.TheVariants.{Nothing, Read, Edit, Full}
 use Rattle.ut_model.specs.declared.record.Record.{Record}
 use Rattle.ut_model.specs.Cases.{in_case}
-use Rattle.ut_model.specs.Fields.{is_master, ref_of}
+use Rattle.ut_model.specs.Fields.{is_master}
 use Rattle.ut_model.specs.Known.{item_of, known}
 use Rattle.ut_model.specs.Levels.{at_least, by_access, by_grant, can_read, full_for_edit, grants, greatest, level, level_within, own_level, owns, readable}
 use Rattle.ut_model.specs.Membership.{Has}
-use Rattle.ut_model.specs.Metadata.{detail_level, masters_above}
+use Rattle.ut_model.specs.Metadata.{masters_above}
 use Rattle.ut_model.specs.Objects.{is_of, numbered, object_number, object_of, record_at, records_of}
 use Rattle.ut_model.specs.Paths.{Asked}
-use Rattle.ut_model.specs.Relationships.{Reference, master_in, master_reference, named_id, named_record, references, references_of}
+use Rattle.ut_model.specs.Relationships.{Reference, master_reference, named_id, named_record, references, references_of}
 use Rattle.ut_model.specs.Sound.{IsSound}
 use Rattle.ut_model.specs.SoundMetadata.{IsSoundObject}
 use Rattle.ut_model.specs.SoundRecords.{IsSoundRecord, is_sound_reference}

@@ -1,6 +1,6 @@
 -- What is written, piece by piece.
 use Rattle.std.proofs.Common.{◌≡◌, ℕ, suc, ◌<◌, ◌*◌, ◌/◌, ◌%◌, ◌^◌, List, [], ◌∷◌, ◌++◌, length, map, true, refl, sym, ap, ◌∙◌, append_assoc, append-nil, lit<, arith, to_z, of_z}
-use Rattle.std.specs.Prelude.{codes, ℤ, pos, ◌*ℤ◌, Result, Ok, Err, OnOk}
+use Rattle.std.specs.Prelude.{codes, ℤ, pos, Result, Ok, Err, OnOk}
 use Rattle.std.specs.Char.{encode_utf8}
 use Rattle.std.specs.List.{flat_map}
 use Rattle.std.specs.Fmt.{decimal}
@@ -61,7 +61,7 @@ of_three w0 w1 w2 w3 w4 w5 w6 w7 a b c e1 e2 e3 e4 e5 e6 e7 =
     let comma = after w0 w4 w5 (123 ∷ (a ++ 44 ∷ b)) (44 ∷ []) second e5 in
     let third = after w0 w5 w6 ((123 ∷ (a ++ 44 ∷ b)) ++ 44 ∷ []) c comma e6 in
     let shape : ((123 ∷ (a ++ 44 ∷ b)) ++ 44 ∷ []) ++ c ≡ 123 ∷ (a ++ 44 ∷ (b ++ 44 ∷ c)) =
-        append_assoc (123 ∷ (a ++ 44 ∷ b)) (44 ∷ []) c ∙ append_assoc (123 ∷ a) (44 ∷ b) (44 ∷ c) in
+    append_assoc (123 ∷ (a ++ 44 ∷ b)) (44 ∷ []) c ∙ append_assoc (123 ∷ a) (44 ∷ b) (44 ∷ c) in
     after w0 w6 w7 (123 ∷ (a ++ 44 ∷ (b ++ 44 ∷ c))) (125 ∷ []) (third ∙ ap (λ t. w0 ++ encode_utf8_all t) shape) e7
 
 -- a member whose value is written behind its name
@@ -168,7 +168,7 @@ unfolding chars
 body_written w0 w1 w2 w3 w4 w5 w6 w7 body rows n count e0 e1 e2 e3 e4 e5 e6 e7 same =
     same
     ∙ of_three w0 w1 w2 w3 w4 w5 w6 w7 (member_json (codes "totalSize") (decimal (length rows))) (member_json (codes "done") (printed_truth true)) (member_json (codes "records") (list_json rows))
-      e1 (e2 ∙ ap (λ n. w1 ++ encode_utf8_all (member_json (codes "totalSize") (decimal n))) count) e3 e4 e5 e6 e7
+    e1 (e2 ∙ ap (λ n. w1 ++ encode_utf8_all (member_json (codes "totalSize") (decimal n))) count) e3 e4 e5 e6 e7
     ∙ ap (λ w. w ++ encode_utf8_all (rows_json rows)) e0
 
 module _ {A E : Type 0} (r : Result A E) (w0 w1 w2 object : List ℕ) where

@@ -36,11 +36,7 @@ fn write_attributes(
 }
 
 // A record's name.
-fn write_record_name(
-    alloc: Global,
-    writer: &mut Writer,
-    row: &Record,
-) -> Result<(), AllocError>
+fn write_record_name(alloc: Global, writer: &mut Writer, row: &Record) -> Result<(), AllocError>
     ensures { Wrote result writer.old writer.new (value_json (name_in row.now.values)) }
 {
     match row.values.as_slice().first() {

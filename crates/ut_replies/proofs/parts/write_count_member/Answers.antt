@@ -1,5 +1,4 @@
 use Rattle.std.specs.Str.{chars}
-use Rattle.ut_json.specs.Printing.{printed_text, printed_truth}
 use Rattle.std.specs.Fmt.{decimal}
 use Rattle.ut_replies.proofs.Written.{member, on_ok}
 use Rattle.ut_replies.proofs.parts.write_count_member.Goals as goal

@@ -1,6 +1,5 @@
 use Rattle.std.specs.Str.{chars}
-use Rattle.ut_json.specs.Printing.{printed_text, printed_truth}
-use Rattle.std.specs.Fmt.{decimal}
+use Rattle.ut_json.specs.Printing.{printed_text}
 use Rattle.ut_replies.proofs.Written.{member, on_ok}
 use Rattle.ut_replies.proofs.parts.write_text_member.Goals as goal
 

@@ -18,9 +18,8 @@ use Rattle.ut_json.specs.declared.writer.Mark.{Mark}
 use Rattle.ut_json.specs.declared.writer.Mark.TheVariants.{OpenList, CloseList, OpenObject, CloseObject, Comma, Colon}
 use Rattle.ut_value.specs.Id.{print18}
 use Rattle.ut_model.specs.declared.record.Record.{Record}
-use Rattle.ut_model.specs.RowsJson.{list_json, member_json, object_json, rows_json, value_json}
+use Rattle.ut_model.specs.RowsJson.{list_json, member_json, object_json, rows_json, url, value_json}
 use Rattle.ut_replies.specs.Names.{name_attributes, name_in, name_row}
-use Rattle.ut_replies.specs.inner.Parts.{address, attributes_by}
 
 -- one piece behind another
 pub after : (w0 w1 w2 a b : List ℕ) → w1 ≡ w0 ++ encode_utf8_all a → w2 ≡ w1 ++ encode_utf8_all b → w2 ≡ w0 ++ encode_utf8_all (a ++ b)
@@ -97,14 +96,16 @@ slash_utf8 : IsUtf8 (codes "/")
 unfolding is_utf8 chars encode_utf8
 slash_utf8 = IsUtf8-from_is_utf8 (codes "/") refl
 
-pub addressed : (object id : List ℕ) → IsUtf8 object
-    → chars (((codes "/services/data/v59.0/sobjects/" ++ object) ++ codes "/") ++ id) ≡ address (chars object) (chars id)
+pub addressed : (object bytes id : List ℕ) → IsUtf8 object → chars bytes ≡ print18 id
+    → chars (((codes "/services/data/v59.0/sobjects/" ++ object) ++ codes "/") ++ bytes) ≡ url (chars object) id
 unfolding chars
-addressed object id own =
-    let two = IsUtf8-append (codes "/services/data/v59.0/sobjects/") object front_utf8 own in
-    chars-append ((codes "/services/data/v59.0/sobjects/" ++ object) ++ codes "/") id (IsUtf8-append (codes "/services/data/v59.0/sobjects/" ++ object) (codes "/") two slash_utf8)
-    ∙ ap (λ t. t ++ chars id) (chars-append (codes "/services/data/v59.0/sobjects/" ++ object) (codes "/") two)
-    ∙ ap (λ t. (t ++ chars (codes "/")) ++ chars id) (chars-append (codes "/services/data/v59.0/sobjects/") object front_utf8)
+addressed object bytes id own is =
+    let front = codes "/services/data/v59.0/sobjects/" in
+    let two = IsUtf8-append front object front_utf8 own in
+    chars-append ((front ++ object) ++ codes "/") bytes (IsUtf8-append (front ++ object) (codes "/") two slash_utf8)
+    ∙ ap (λ t. t ++ chars bytes) (chars-append (front ++ object) (codes "/") two)
+    ∙ ap (λ t. (t ++ chars (codes "/")) ++ chars bytes) (chars-append front object front_utf8)
+    ∙ ap (λ t. ((front ++ chars object) ++ codes "/") ++ t) is
 
 -- ---- where the last piece is written by the call that is returned
 module _ {A E : Type 0} where
@@ -114,25 +115,25 @@ module _ {A E : Type 0} where
 
 -- ---- whole parts
 module _ (w0 w1 w2 w3 w4 w5 w6 : List ℕ) where
-  pub attributes_written : (object id place : List ℕ) → place ≡ address object id → w1 ≡ w0 ++ encode_utf8_all (printed_text (chars (codes "attributes")) ++ codes ":")
+  pub attributes_written : (object id place : List ℕ) → place ≡ url object id → w1 ≡ w0 ++ encode_utf8_all (printed_text (chars (codes "attributes")) ++ codes ":")
       → w2 ≡ w1 ++ encode_utf8_all (123 ∷ []) → w3 ≡ w2 ++ encode_utf8_all (member_json (chars (codes "type")) (printed_text object)) → w4 ≡ w3 ++ encode_utf8_all (44 ∷ [])
-      → w5 ≡ w4 ++ encode_utf8_all (member_json (chars (codes "url")) (printed_text place)) → w6 ≡ w5 ++ encode_utf8_all (125 ∷ []) → w6 ≡ w0 ++ encode_utf8_all (attributes_by object id)
+      → w5 ≡ w4 ++ encode_utf8_all (member_json (chars (codes "url")) (printed_text place)) → w6 ≡ w5 ++ encode_utf8_all (125 ∷ []) → w6 ≡ w0 ++ encode_utf8_all (name_attributes object id)
   unfolding chars
   attributes_written object id place same e1 e2 e3 e4 e5 e6 =
       let kind = member_json (codes "type") (printed_text object) in
-      let url = member_json (codes "url") (printed_text (address object id)) in
-      member w0 w1 w6 (codes "attributes") (object_json (kind ∷ url ∷ [])) e1
-      (of_two w1 w2 w3 w4 w5 w6 kind url e2 e3 e4 (e5 ∙ ap (λ p. w4 ++ encode_utf8_all (member_json (codes "url") (printed_text p))) same) e6)
+      let place_member = member_json (codes "url") (printed_text (url object id)) in
+      member w0 w1 w6 (codes "attributes") (object_json (kind ∷ place_member ∷ [])) e1
+      (of_two w1 w2 w3 w4 w5 w6 kind place_member e2 e3 e4 (e5 ∙ ap (λ p. w4 ++ encode_utf8_all (member_json (codes "url") (printed_text p))) same) e6)
 
 module _ (w0 w1 w2 w3 w4 w5 w6 w7 w8 : List ℕ) where
-  pub row_written : (object first second : List ℕ) (r : Record) → first ≡ print18 r.id → second ≡ print18 r.id → w1 ≡ w0 ++ encode_utf8_all (123 ∷ [])
-      → w2 ≡ w1 ++ encode_utf8_all (attributes_by object first) → w3 ≡ w2 ++ encode_utf8_all (44 ∷ []) → w4 ≡ w3 ++ encode_utf8_all (member_json (chars (codes "Id")) (printed_text second))
+  pub row_written : (object id : List ℕ) (r : Record) → id ≡ print18 r.id → w1 ≡ w0 ++ encode_utf8_all (123 ∷ [])
+      → w2 ≡ w1 ++ encode_utf8_all (name_attributes object r.id) → w3 ≡ w2 ++ encode_utf8_all (44 ∷ []) → w4 ≡ w3 ++ encode_utf8_all (member_json (chars (codes "Id")) (printed_text id))
       → w5 ≡ w4 ++ encode_utf8_all (44 ∷ []) → w6 ≡ w5 ++ encode_utf8_all (printed_text (chars (codes "Name")) ++ codes ":") → w7 ≡ w6 ++ encode_utf8_all (value_json (name_in r.values))
       → w8 ≡ w7 ++ encode_utf8_all (125 ∷ []) → w8 ≡ w0 ++ encode_utf8_all (name_row object r)
   unfolding chars
-  row_written object first second r is too e1 e2 e3 e4 e5 e6 e7 e8 =
+  row_written object id r is e1 e2 e3 e4 e5 e6 e7 e8 =
       of_three w0 w1 w2 w3 w4 w5 w7 w8 (name_attributes object r.id) (member_json (codes "Id") (printed_text (print18 r.id))) (member_json (codes "Name") (value_json (name_in r.values)))
-      e1 (e2 ∙ ap (λ i. w1 ++ encode_utf8_all (attributes_by object i)) is) e3 (e4 ∙ ap (λ i. w3 ++ encode_utf8_all (member_json (codes "Id") (printed_text i))) too) e5
+      e1 e2 e3 (e4 ∙ ap (λ i. w3 ++ encode_utf8_all (member_json (codes "Id") (printed_text i))) is) e5
       (member w5 w6 w7 (codes "Name") (value_json (name_in r.values)) e6 e7) e8
 
 no_length : (n : ℕ) → suc n ≡ 0 → ⊥

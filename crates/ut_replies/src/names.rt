@@ -5,26 +5,26 @@ ghost use Rattle.std.specs.List.{flat_map};
 ghost use Rattle.std.specs.Str.{chars};
 ghost use Rattle.ut_json.specs.Whole.{joined};
 ghost use Rattle.ut_model.specs.RowsJson.{list_json, member_json, rows_json, value_json};
-ghost use Rattle.ut_replies.specs.Names.{name_in, name_row};
-ghost use Rattle.ut_replies.specs.inner.Parts.{Wrote, attributes_by};
+ghost use Rattle.ut_replies.specs.Names.{name_attributes, name_in, name_row};
+ghost use Rattle.ut_replies.specs.inner.Parts.{Wrote};
 
 use crate::parts::{
-    address, write_count_member, write_mark, write_name, write_text, write_text_member,
+    address, id_text, write_count_member, write_mark, write_name, write_text, write_text_member,
     write_truth_member,
 };
 use std::alloc::{AllocError, Global};
 use ut_json::{Mark, Writer};
 use ut_model::Record;
-use ut_value::{Bytes, Value, print_value};
+use ut_value::{Bytes, Id, Value};
 
 // The first member of a row.
 fn write_attributes(
     alloc: Global,
     writer: &mut Writer,
     object: &str,
-    id: &str,
+    id: &Id,
 ) -> Result<(), AllocError>
-    ensures { Wrote result writer.old writer.new (attributes_by (chars object.now) (chars id.now)) }
+    ensures { Wrote result writer.old writer.new (name_attributes (chars object.now) id.now) }
 {
     let address = address(alloc, object, id)?;
     write_name(alloc, writer, "attributes")?;
@@ -54,10 +54,10 @@ fn write_row(
 ) -> Result<(), AllocError>
     ensures { Wrote result writer.old writer.new (name_row (chars object.now) row.now) }
 {
-    let id = print_value(alloc, &Value::Ref(row.id))?;
     write_mark(alloc, writer, Mark::OpenObject)?;
-    write_attributes(alloc, writer, object, id.as_str())?;
+    write_attributes(alloc, writer, object, &row.id)?;
     write_mark(alloc, writer, Mark::Comma)?;
+    let id = id_text(alloc, &row.id)?;
     write_text_member(alloc, writer, "Id", id.as_str())?;
     write_mark(alloc, writer, Mark::Comma)?;
     write_name(alloc, writer, "Name")?;

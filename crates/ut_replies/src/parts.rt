@@ -4,12 +4,13 @@ ghost use Rattle.std.specs.Prelude.{◌≡◌, ◌*◌, [], ◌∷◌, ◌++◌,
 ghost use Rattle.std.specs.Fmt.{decimal};
 ghost use Rattle.std.specs.Str.{chars};
 ghost use Rattle.ut_json.specs.Printing.{mark_of, printed_text, printed_truth};
-ghost use Rattle.ut_model.specs.RowsJson.{member_json};
-ghost use Rattle.ut_replies.specs.inner.Parts.{Wrote, address};
+ghost use Rattle.ut_value.specs.Id.{print18};
+ghost use Rattle.ut_model.specs.RowsJson.{member_json, url};
+ghost use Rattle.ut_replies.specs.inner.Parts.{Wrote};
 
 use std::alloc::{AllocError, Global};
 use ut_json::{Mark, Writer};
-use ut_value::Text;
+use ut_value::{Id, Text, Value, print_value};
 
 // One, as a count of 10^-8.
 const UNIT: i128 = 100_000_000;
@@ -96,13 +97,21 @@ pub(crate) fn write_truth_member(
     write_truth(alloc, writer, truth)
 }
 
-/// The address of a record, from the name of its object and its id.
-pub(crate) fn address(alloc: Global, object: &str, id: &str) -> Result<Text, AllocError>
-    ensures { IfOk result (λ text. text ≡ address (chars object.now) (chars id.now)) }
+/// An id in 18 characters.
+pub(crate) fn id_text(alloc: Global, id: &Id) -> Result<Text, AllocError>
+    ensures { IfOk result (λ text. text ≡ print18 id.now) }
 {
+    print_value(alloc, &Value::Ref(*id))
+}
+
+/// The address of a record, from the name of its object and its id.
+pub(crate) fn address(alloc: Global, object: &str, id: &Id) -> Result<Text, AllocError>
+    ensures { IfOk result (λ text. text ≡ url (chars object.now) id.now) }
+{
+    let id = id_text(alloc, id)?;
     let mut text = String::from_str(alloc, "/services/data/v59.0/sobjects/")?;
     text.push_str(object)?;
     text.push_str("/")?;
-    text.push_str(id)?;
+    text.push_str(id.as_str())?;
     Ok(Text::from_string(text))
 }

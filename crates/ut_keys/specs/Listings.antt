@@ -32,3 +32,8 @@ module _ {U : Type 0} (f : Form U) where
     pub rises : T (map.is_sorted bytes_cmp (plain_map with_key listed))
     pub sound : (u : U) → Has listed u → FitsForm f u × IsTrue (is_between from below (key_bytes f u)) × (rows (key_of f u) ≡ Some (row_bytes f u))
     pub complete : (k : Key) (row : List ℕ) → FitsKey k → (spell k).0 ≡ f.table → IsTrue (is_between from below (spell k).1) → rows k ≡ Some row → (u : U) × Has listed u × (key_of f u ≡ k)
+
+  -- the same from a key on: up to the keys above all with a prefix, or none where there is no key above these
+  abbrev pub ListsTo : (Key → Option (List ℕ)) → List ℕ → Option (List ℕ) → List U → Type 0
+  ListsTo rows from (Some above) listed = ListsBetween rows from above listed
+  ListsTo rows from None listed = listed ≡ []

@@ -1,6 +1,6 @@
 //! What is done with rows, for all forms.
 
-ghost use Rattle.std.specs.Prelude.{◌≡◌, ◌<◌, ℕ, Some, None, IfOk, IfErr, OnOk, IsErrOf, is_ok, take, map as plain_map};
+ghost use Rattle.std.specs.Prelude.{◌≡◌, ◌<◌, ℕ, Some, None, IfOk, IfErr, IfSome, OnOk, IsErrOf, is_ok, take, map as plain_map};
 ghost use Rattle.std.specs.FinMap as map;
 ghost use Rattle.std.specs.List.{AllByRecursion};
 ghost use Rattle.ut_keeper.specs.Draft.{DraftReads, DraftTells, DraftWorks, count_of, removals_of, rise, state_of, tables_of};
@@ -30,6 +30,7 @@ pub fn row_at<R: RowForm + Drop, K: Keeper>(
     requires { FitsIn R.form.key (R.parts key.now) }
     ensures row { DraftTells K.state draft.old draft.new
         → ReadsAs R.form (R.parts key.now) (map.get (tables_of K.state draft.old) (spell (R.form.named (R.parts key.now)))) result }
+    ensures fits { IfOk result (λ found. IfSome found (FitsForm R.form)) }
     ensures reads { DraftReads K.state (data_rows R.form.table 1) draft.old draft.new }
     ensures stays { StaysAfter (is_ok result) (state_of K.state draft.old) (state_of K.state draft.new) }
     ensures cause { KeeperCause (state_of K.state draft.old) (state_of K.state draft.new) (IsErrOf result Keeper) }

@@ -3,12 +3,15 @@ use Rattle.std.proofs.Common.{◌≡◌, ℕ, zero, suc, Bool, true, false, cond
 use Rattle.std.specs.Option.{option_and_then, option_map}
 use Rattle.std.specs.Prelude.{encode_utf8_all}
 use Rattle.std.specs.Str.{bytes_eq}
+use Rattle.std.proofs.lemmas.Slice.Eq.{bytes_eq-Decides}
 use Rattle.sha2.specs.Sha256.{sha256}
 use Rattle.ut_model.specs.declared.caller.Caller.{Caller}
 use Rattle.ut_model.specs.declared.refusal.Refusal.TheVariants as refusal
 use Rattle.ut_model.specs.declared.reply.Reply.{Reply}
-use Rattle.ut_model.specs.Callers.{Named, admitted, caller_in, caller_of, named}
-use Rattle.ut_model.specs.Step.{Answering, Message, caller_by, if_called, in_named, in_org, in_tenant, named_in, org_named, own, refusal_reply, step_by}
+use Rattle.ut_model.specs.Built.{answer_built, answered, asking}
+use Rattle.ut_model.specs.Cases.{in_case}
+use Rattle.ut_model.specs.Callers.{IsUser, Named, admitted, caller_in, caller_of, named}
+use Rattle.ut_model.specs.Step.{Answering, Message, caller_by, if_called, in_named, in_org, in_tenant, named_in, org_named, own, refusal_reply, refused, step_by}
 use Rattle.ut_model.specs.Tenant.{Tenant, User}
 use Rattle.ut_model.specs.World.{World, tenant_at, user_at, with_tenant}
 
@@ -18,7 +21,7 @@ no_session = refusal_reply refusal.InvalidSession
 -- ---- one organisation in place of another
 
 -- the same in its place changes nothing
-same_put : (w : World) (n : ℕ) (t : Tenant) → tenant_at w n ≡ Some t → with_tenant w n t ≡ w
+pub same_put : (w : World) (n : ℕ) (t : Tenant) → tenant_at w n ≡ Some t → with_tenant w n t ≡ w
 same_put w zero t e = absurd cc
 same_put [] (suc n) t e = absurd cc
 same_put (u ∷ w) (suc zero) t e = ap (λ x. x ∷ w) (sym (some_eq u t e))
@@ -108,25 +111,61 @@ module _ (answers : Answering) (w : World) (m : Message) (now : ℕ) where
   pub uncalled : caller_by w m ≡ None → step_by answers w m now ≡ (refusal_reply refusal.InvalidSession, w)
   uncalled e = uncalled_by (named_in m) (sym (by_bearer w m.bearer) ∙ e)
 
--- ---- what leaves an organisation as it is
+-- ---- the user who asks
 
--- the organisation of a caller is there
+user_is : (a b : User) → ◌≡◌ {A = Option User} (Some a) (Some b) → a ≡ b
+user_is a b e = cc
+
+-- who is found has the id that was looked for, and is found by the id
+id_is : (us : List User) (i : List ℕ) (u : User) → user_at us i ≡ Some u → u.id ≡ i
+id_is [] i u e = absurd cc
+id_is (x ∷ us) i u e = by (bytes_eq i x.id) refl e
+  where
+    by : (b : Bool) → bytes_eq i x.id ≡ b → cond b (Some x) (user_at us i) ≡ Some u → u.id ≡ i
+    by true same e = ap (λ (y : User). y.id) (sym (user_is x u e)) ∙ sym ((bytes_eq-Decides i x.id).0 same)
+    by false same e = id_is us i u e
+
+found_id : (us : List User) (i : List ℕ) (u : User) → user_at us i ≡ Some u → user_at us u.id ≡ Some u
+found_id us i u e = ap (λ k. user_at us k) (id_is us i u e) ∙ e
+
+-- the caller of this name in a tenant is a user of it
+user_in : (n : Named) (t : Tenant) (c : Caller) → caller_of n t ≡ Some c → (u : User) × ((user_at t.users c.user ≡ Some u) × (u.admin ≡ c.admin))
+user_in n t c e = by (user_at t.users n.user) refl e
+  where
+    is_it : (a b : Caller) → ◌≡◌ {A = Option Caller} (Some a) (Some b) → a ≡ b
+    is_it a b e = cc
+
+    admits : (u : User) (b : Bool) → user_at t.users n.user ≡ Some u → cond b (Some (record { org = n.org; user = u.id; admin = u.admin })) None ≡ Some c
+        → (v : User) × ((user_at t.users c.user ≡ Some v) × (v.admin ≡ c.admin))
+    admits u true at e =
+        let same = is_it (record { org = n.org; user = u.id; admin = u.admin }) c e in
+        (u, (ap (λ (x : Caller). user_at t.users x.user) (sym same) ∙ found_id t.users n.user u at, ap (λ (x : Caller). x.admin) same))
+    admits u false at e = absurd cc
+
+    by : (o : Option User) → user_at t.users n.user ≡ o → option_and_then (admitted n) o ≡ Some c → (v : User) × ((user_at t.users c.user ≡ Some v) × (v.admin ≡ c.admin))
+    by None at e = absurd cc
+    by (Some u) at e = admits u (bytes_eq u.digest (sha256 n.secret)) at e
+
 module _ (w : World) (m : Message) where
-  there_by : (o : Option Named) (c : Caller) → found_by w o ≡ Some c → (t : Tenant) × (tenant_at w c.org ≡ Some t)
-  there_by None c e = absurd cc
-  there_by (Some n) c e = by (tenant_at w n.org) refl e
+  user_by : (o : Option Named) (c : Caller) → found_by w o ≡ Some c → (t : Tenant) × (u : User) × IsUser w c t u
+  user_by None c e = absurd cc
+  user_by (Some n) c e = by (tenant_at w n.org) refl e
     where
-      by : (o : Option Tenant) → tenant_at w n.org ≡ o → option_and_then (caller_of n) o ≡ Some c → (t : Tenant) × (tenant_at w c.org ≡ Some t)
+      by : (o : Option Tenant) → tenant_at w n.org ≡ o → option_and_then (caller_of n) o ≡ Some c → (t : Tenant) × (u : User) × IsUser w c t u
       by None at e = absurd cc
-      by (Some t) at e = (t, ap (λ k. tenant_at w k) (org_of_caller n t c e) ∙ at)
+      by (Some t) at e =
+          let h = user_in n t c e in
+          (t, (h.0, record { tenant = ap (λ k. tenant_at w k) (org_of_caller n t c e) ∙ at; user = h.1.0; admin = h.1.1 }))
 
-  pub unchanged : (c : Caller) (does : Tenant → Reply × Tenant) (r : Reply) → caller_by w m ≡ Some c → ((t : Tenant) → does t ≡ (r, t)) → in_org w c.org does ≡ (r, w)
-  unchanged c does r e same =
-      let h = there_by (named_in m) c (sym (by_bearer w m.bearer) ∙ e) in
-      let t = h.0 in
-      ap (λ (o : Option Tenant). in_tenant w c.org does o) h.1
-      ∙ ap (λ (p : Reply × Tenant). (p.0, with_tenant w c.org p.1)) (same t)
-      ∙ ap (λ (v : World). (r, v)) (same_put w c.org t h.1)
+  pub user_of : (c : Caller) → caller_by w m ≡ Some c → (t : Tenant) × (u : User) × IsUser w c t u
+  user_of c e = user_by (named_in m) c (sym (by_bearer w m.bearer) ∙ e)
+
+-- what a user's message is answered
+pub answered_in : (w : World) (m : Message) (now : ℕ) (c : Caller) (t : Tenant) (u : User) → IsUser w c t u
+    → in_org w c.org (answered c m now) ≡ ((answer_built (asking t now u) m).0, with_tenant w c.org (answer_built (asking t now u) m).1)
+answered_in w m now c t u is =
+    ap (λ (o : Option Tenant). in_tenant w c.org (answered c m now) o) is.tenant
+    ∙ ap (λ (o : Option User). let r = in_case o (refused refusal.InvalidSession t) (λ v. answer_built (asking t now v) m) in (r.0, with_tenant w c.org r.1)) is.user
 
 -- ---- one organisation and the others
 

@@ -1,6 +1,6 @@
 -- Who calls: the user whom a key `ORG!USER!SECRET` names and whose secret it has.
 -- Source of the digest: FIPS 180-4, SHA-256. The form of a key is this product's own.
-use Rattle.std.specs.Prelude.{ℕ, Bool, ◌==◌, nat_lt, if◌then◌else◌, List, length, Option, Some, None}
+use Rattle.std.specs.Prelude.{◌≡◌, ℕ, Bool, ◌==◌, nat_lt, if◌then◌else◌, List, length, Option, Some, None}
 use Rattle.std.specs.List.{position_or_len, before_first, after_first}
 use Rattle.std.specs.Option.{option_and_then, option_map}
 use Rattle.std.specs.Str.{bytes_eq}
@@ -46,3 +46,9 @@ caller_of n t = option_and_then (admitted n) (user_at t.users n.user)
 -- the caller whom a key names, if its secret is right: the organisation is found first
 abbrev pub caller_in : World → List ℕ → Option Caller
 caller_in w key = option_and_then (λ n. option_and_then (caller_of n) (tenant_at w n.org)) (named key)
+
+-- the caller is this user of this organisation of the world
+pub record IsUser (w : World) (c : Caller) (t : Tenant) (u : User) : Type 0 where
+  pub tenant : tenant_at w c.org ≡ Some t
+  pub user : user_at t.users c.user ≡ Some u
+  pub admin : u.admin ≡ c.admin

@@ -68,3 +68,4 @@ pub mod WorkedLimits
 pub mod WorkedForms
 pub mod WorkedRefusals
 pub mod Whole
+pub mod Built

@@ -1,23 +1,17 @@
--- One step of the world: what a message is answered, and the world after it. The organisation that the message's key names is
+-- A step of the world by whatever answers a caller's message: the reply, and the world after it. The organisation that the message's key names is
 -- found first, and all else is a function of that tenant alone: so no request of another organisation changes a reply.
-use Rattle.std.specs.Prelude.{ℕ, not, Bool, ◌&&◌, if◌then◌else◌, List, [], bytes_eq, codes, encode_utf8_all, Option, Some, None}
+use Rattle.std.specs.Prelude.{ℕ, Bool, List, [], bytes_eq, codes, encode_utf8_all, Option, Some, None}
 use Rattle.std.specs.List.{find}
 use Rattle.std.specs.Option.{option_and_then, option_map}
 use Rattle.std.specs.Str.Lossy.{utf8_lossy}
 use Rattle.form_urlencoded.specs.Form.{parse as pairs_in}
-use Rattle.ut_query.specs.Asking.{asked_object}
 use Rattle.ut_model.specs.declared.caller.Caller.{Caller}
 use Rattle.ut_model.specs.declared.refusal.Refusal.{Refusal}
 use Rattle.ut_model.specs.declared.refusal.Refusal.TheVariants as refusal
 use Rattle.ut_model.specs.declared.reply.Reply.{Reply}
-use Rattle.ut_model.specs.declared.route.Route.{Route}
-use Rattle.ut_model.specs.declared.route.Route.TheVariants as route
-use Rattle.ut_model.specs.declared.routed.Routed.{Routed}
-use Rattle.ut_model.specs.declared.routed.Routed.TheVariants.{To, NotFound, NotAllowed}
 use Rattle.ut_model.specs.Bodies.{refusal_body}
 use Rattle.ut_model.specs.Callers.{Named, caller_in, caller_of, named}
 use Rattle.ut_model.specs.Refusals.{status_of}
-use Rattle.ut_model.specs.Routing.{is_administration, routed}
 use Rattle.ut_model.specs.Tenant.{Tenant}
 use Rattle.ut_model.specs.World.{World, tenant_at, with_tenant}
 
@@ -36,7 +30,7 @@ refusal_reply r = record { status = status_of r; body = refusal_body r }
 abbrev pub refused : Refusal → Tenant → Reply × Tenant
 refused r t = (refusal_reply r, t)
 
--- ---- a request of a caller
+-- ---- the text of a query
 
 -- whether a pair of a query string is named `q`
 abbrev pub is_q : List ℕ × List ℕ → Bool
@@ -50,26 +44,6 @@ value_text (Some pair) = utf8_lossy pair.1
 -- the text of a query, in UTF-8: the value of the first pair `q` of the query string
 unfoldable pub query_text : List ℕ → List ℕ
 query_text pairs = value_text (find is_q (pairs_in (encode_utf8_all pairs)))
-
--- why a query is refused: of queries only those for ids and names are built, and no organisation has an object as yet
-abbrev pub query_refusal : Option (List ℕ) → Refusal
-query_refusal None = refusal.NotBuilt (codes "query")
-query_refusal (Some object) = refusal.InvalidType object
-
--- what a request of a caller comes to at this moment: of the routes that of queries alone is built
-abbrev pub verdict : Caller → ℕ → Route → (body : List ℕ) → Tenant → Reply × Tenant
-verdict c now (route.Query pairs) body t = refused (query_refusal (asked_object (query_text pairs))) t
-verdict c now _ body t = refused (refusal.NotBuilt (codes "route")) t
-
--- no such path, another method, no administrator; then the request itself
-abbrev pub verdict_of : Caller → ℕ → Routed → (body : List ℕ) → Tenant → Reply × Tenant
-verdict_of c now NotFound body t = refused refusal.NotFound t
-verdict_of c now NotAllowed body t = refused refusal.MethodNotAllowed t
-verdict_of c now (To r) body t = if is_administration r && not c.admin then refused refusal.AdminRequired t else verdict c now r body t
-
--- what a caller's message is answered at this moment, and what becomes of the organisation
-abbrev pub answered : Caller → Message → ℕ → Tenant → Reply × Tenant
-answered c m now t = verdict_of c now (routed m.method m.target) m.body t
 
 -- ---- who asks
 
@@ -117,7 +91,3 @@ in_named answers w m now (Some n) = in_org w n.org (own answers n m now)
 -- a step of the world by what answers a caller's message
 abbrev pub step_by : Answering → World → Message → ℕ → Reply × World
 step_by answers w m now = in_named answers w m now (named_in m)
-
--- what a message is answered at this moment, and the world after it
-unfoldable pub step : World → Message → ℕ → Reply × World
-step = step_by answered

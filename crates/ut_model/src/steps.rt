@@ -9,10 +9,12 @@ ghost use Rattle.ut_model.specs.declared.route.Route.TheVariants as route;
 ghost use Rattle.ut_model.specs.declared.routed.Routed.TheVariants.{To, NotFound, NotAllowed};
 ghost use Rattle.ut_model.specs.Organisations.{with_org};
 ghost use Rattle.ut_model.specs.Routing.{routed};
-ghost use Rattle.ut_model.specs.Step.{Answering, Message, answered, caller_by, in_org, org_named, query_text, refusal_reply, step, step_by};
-ghost use Rattle.ut_model.specs.Tenant.{Tenant};
+ghost use Rattle.ut_model.specs.Built.{answer_built, answered, asking, step};
+ghost use Rattle.ut_model.specs.Callers.{IsUser};
+ghost use Rattle.ut_model.specs.Step.{Answering, Message, caller_by, in_org, org_named, query_text, refusal_reply, step_by};
+ghost use Rattle.ut_model.specs.Tenant.{Tenant, User};
 ghost use Rattle.ut_model.specs.Whole.{Sent, own_replies, replies_by, replies_for};
-ghost use Rattle.ut_model.specs.World.{World, tenant_at};
+ghost use Rattle.ut_model.specs.World.{World, tenant_at, with_tenant};
 
 /// The laws of the step of the world. The call does nothing.
 pub fn step_laws()
@@ -22,9 +24,14 @@ pub fn step_laws()
     ensures uncalled { (w : World) (m : Message) (now : ℕ) → caller_by w m ≡ None
         → step w m now ≡ (refusal_reply refusal.InvalidSession, w) }
 
-    // What leaves an organisation as it is leaves the world.
-    ensures unchanged { (w : World) (m : Message) (c : Caller) (does : Tenant → Reply × Tenant) (r : Reply) → caller_by w m ≡ Some c
-        → ((t : Tenant) → does t ≡ (r, t)) → in_org w c.org does ≡ (r, w) }
+    // A caller is a user of an organisation, and the message is answered as this user's.
+    ensures user { (w : World) (m : Message) (c : Caller) → caller_by w m ≡ Some c → (t : Tenant) × (u : User) × IsUser w c t u }
+    ensures answered { (w : World) (m : Message) (now : ℕ) (c : Caller) (t : Tenant) (u : User) → IsUser w c t u
+        → in_org w c.org (answered c m now)
+        ≡ ((answer_built (asking t now u) m).0, with_tenant w c.org (answer_built (asking t now u) m).1) }
+
+    // The same organisation in its place is the same world.
+    ensures same { (w : World) (org : ℕ) (t : Tenant) → tenant_at w org ≡ Some t → with_tenant w org t ≡ w }
 
     // A reply is made from the organisation alone that the message names, and no other organisation changes.
     ensures own { (w v : World) (m : Message) (now org : ℕ) → org_named m ≡ Some org → tenant_at w org ≡ tenant_at v org

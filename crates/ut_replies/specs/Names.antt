@@ -1,28 +1,12 @@
--- The query `SELECT Id, Name FROM OBJECT`, and its rows in JSON.
+-- The rows of the query `SELECT Id, Name FROM OBJECT` in JSON.
 -- Source of the form: Salesforce, REST API, "Query".
-use Rattle.std.specs.Prelude.{ℕ, List, [], ◌∷◌, codes, None}
+use Rattle.std.specs.Prelude.{ℕ, List, [], ◌∷◌, codes}
 use Rattle.ut_json.specs.Printing.{printed_text}
 use Rattle.ut_value.specs.Id.{print18}
 use Rattle.ut_value.specs.declared.value.Value.{Value}
 use Rattle.ut_value.specs.declared.value.Value.TheVariants as value
-use Rattle.ut_query.specs.declared.query.Item.{Item}
-use Rattle.ut_query.specs.declared.query.Item.TheVariants as item
-use Rattle.ut_query.specs.declared.query.Query.{Query}
 use Rattle.ut_model.specs.declared.record.Record.{Record}
 use Rattle.ut_model.specs.RowsJson.{member_json, object_json, url, value_json}
-
--- a field of the object itself
-abbrev pub own_field : List ℕ → Item
-own_field name = item.Path (record { names = name ∷ [] })
-
--- `SELECT Id, Name FROM OBJECT`
-abbrev pub names_query : (object : List ℕ) → Query
-names_query object =
-    record {
-      select = own_field (codes "Id") ∷ own_field (codes "Name") ∷ [];
-      tail = record { from = object; condition = None; order = []; limit = None };
-      offset = None;
-    }
 
 -- a record's name among its values: a text, or null
 abbrev pub name_in : List Value → Value

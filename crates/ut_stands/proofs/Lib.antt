@@ -4,6 +4,7 @@ pub mod Opened
 pub mod Versions
 pub mod Users
 pub mod Parts
+pub mod Changed
 pub mod Spelled
 pub mod Found
 pub mod Pages
@@ -12,6 +13,7 @@ pub mod MetadataRows
 pub mod MetadataLists
 pub mod TwoReads
 pub mod LayoutReads
+pub mod Organisations
 pub mod Kept
 pub mod Free
 pub mod Placed

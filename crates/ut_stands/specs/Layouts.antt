@@ -6,6 +6,8 @@ use Rattle.std.specs.List.{enumerate_from}
 use Rattle.std.specs.Option.{option_and_then, option_map}
 use Rattle.ut_keeper.specs.Tables.{Tables}
 use Rattle.ut_keys.specs.declared.fail.StoreFail.{StoreFail}
+use Rattle.ut_keys.specs.declared.object.ObjectRow.{ObjectRow}
+use Rattle.ut_keys.specs.declared.org.OrgRow.{OrgRow}
 use Rattle.ut_keys.specs.declared.fail.StoreFail.TheVariants.{Keeper, Memory, Damaged}
 use Rattle.ut_model.specs.declared.record.Record.{Record}
 use Rattle.ut_model.specs.Cases.{in_case}
@@ -16,6 +18,7 @@ use Rattle.ut_model.specs.World.{World, tenant_at}
 use Rattle.ut_stands.specs.declared.layout.FieldPlace.{FieldPlace}
 use Rattle.ut_stands.specs.declared.layout.JobPlace.{JobPlace}
 use Rattle.ut_stands.specs.declared.layout.Layout.{Layout}
+use Rattle.ut_stands.specs.Metadata.{object_of, org_of}
 use Rattle.ut_stands.specs.Plan.{OrgPlan, Plan, type_there}
 use Rattle.ut_stands.specs.Stands.{StandsBy}
 
@@ -66,6 +69,15 @@ layout_named org name p w = option_and_then (λ t. option_map (layout_of org (p.
 -- the layouts of all objects, in their order; none where there is no such organisation
 unfoldable pub layouts_of : (org : ℕ) → Plan → World → List Layout
 layouts_of org p w = in_case (tenant_at w org) [] (λ t. map (layout_of org (p.org org) t) (numbered t.objects))
+
+-- ---- rows
+
+-- the row of the organisation with this number, and of one of its objects
+abbrev pub org_row : (org : ℕ) → Plan → World → Option OrgRow
+org_row org p w = option_map (org_of org) (tenant_at w org)
+
+abbrev pub object_row : (org object : ℕ) → Plan → World → Option ObjectRow
+object_row org n p w = option_and_then (λ t. option_map (object_of org t n) (object_at t n)) (tenant_at w org)
 
 -- ---- records
 

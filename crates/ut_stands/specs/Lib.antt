@@ -3,6 +3,7 @@ pub mod Plan
 pub mod Entries
 pub mod Metadata
 pub mod Stands
+pub mod Changes
 pub mod Operations
 pub mod Reads
 pub mod Layouts

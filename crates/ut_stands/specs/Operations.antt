@@ -1,12 +1,16 @@
 -- Operations by their definitions: edits that may be refused, operations over a draft, and the same over a keeper once the
 -- draft was dropped or committed.
-use Rattle.std.specs.Prelude.{◌≡◌, ◌≢◌, ◌⊎◌, IsTrue, IsErrOf, Result, Ok, Err}
+use Rattle.std.specs.Prelude.{◌≡◌, ◌≢◌, ◌⊎◌, ℕ, IsTrue, IsErrOf, Result, Ok, Err}
 use Rattle.ut_keeper.specs.State.{KeeperState}
 use Rattle.ut_keeper.specs.Tables.{Tables}
 use Rattle.ut_keys.specs.declared.fail.StoreFail.{StoreFail}
 use Rattle.ut_keys.specs.declared.fail.StoreFail.TheVariants.{Damaged, Keeper, Memory}
 use Rattle.ut_model.specs.declared.refusal.Refusal.{Refusal}
-use Rattle.ut_model.specs.World.{World}
+use Rattle.ut_model.specs.declared.reply.Reply.{Reply}
+use Rattle.ut_model.specs.Paths.{Asked}
+use Rattle.ut_model.specs.Replies.{reply_of}
+use Rattle.ut_model.specs.Verdict.{Verdict, done}
+use Rattle.ut_model.specs.World.{World, with_tenant}
 use Rattle.ut_stands.specs.Stands.{Stands}
 use Rattle.ut_stands.specs.declared.fail.EditFail.{EditFail}
 use Rattle.ut_stands.specs.declared.fail.EditFail.TheVariants.{Refused, Store}
@@ -20,6 +24,22 @@ Edits verdict w after (Err (Refused r)) = verdict w ≡ Err r
 Edits verdict w after (Err (Store Damaged)) = ⊥
 Edits verdict w after (Err (Store Keeper)) = Unit {0}
 Edits verdict w after (Err (Store Memory)) = Unit {0}
+
+-- an edit of the organisation with this number by its verdict: it is done, and the draft's tables then stand for the world with
+-- what the verdict leaves of the organisation; or it is refused as the verdict says
+abbrev pub EditsIn : (org : ℕ) → Verdict → World → Tables → Result (Unit {0}) EditFail → Type 0
+EditsIn org v w after (Ok x) = (v.answer ≡ Ok done) × Stands after (with_tenant w org v.tenant)
+EditsIn org v w after (Err (Refused r)) = v.answer ≡ Err r
+EditsIn org v w after (Err (Store Damaged)) = ⊥
+EditsIn org v w after (Err (Store Keeper)) = Unit {0}
+EditsIn org v w after (Err (Store Memory)) = Unit {0}
+
+-- the reply to a request by its verdict, to who asks in the organisation with this number: the verdict leaves the organisation
+-- as it was, or the draft's tables then stand for the world with what it leaves
+abbrev pub RepliesIn : (org : ℕ) → Asked → Verdict → World → Tables → Result (Judged Reply) StoreFail → Type 0
+RepliesIn org a v w after (Ok (Same r)) = (r ≡ reply_of a v.answer) × (v.tenant ≡ a.tenant)
+RepliesIn org a v w after (Ok (Changed r)) = (r ≡ reply_of a v.answer) × Stands after (with_tenant w org v.tenant)
+RepliesIn org a v w after (Err e) = e ≢ Damaged
 
 -- an operation over a draft: what it returns, and the world for which the draft's tables then stand
 abbrev pub Judges : {X : Type 0} → (World → X × World) → World → Tables → Result (Judged X) StoreFail → Type 0

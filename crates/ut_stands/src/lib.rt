@@ -13,6 +13,7 @@ mod layout_reads;
 mod opening;
 mod reads;
 mod records;
+mod rows;
 
 pub use crate::ending::finish;
 pub use crate::fail::{EditFail, OpenFail};
@@ -23,3 +24,4 @@ pub use crate::layout_reads::{layout_at, layout_named, layouts};
 pub use crate::opening::{KNOWN_VERSION, open_tables};
 pub use crate::reads::user;
 pub use crate::records::{metadata_laws, record_laws, slot_laws};
+pub use crate::rows::{object_row, org_row};

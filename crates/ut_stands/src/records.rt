@@ -1,7 +1,9 @@
 //! The rows of records and the slots of fields, while metadata change.
 
-ghost use Rattle.std.specs.Prelude.{◌≡◌, ◌<◌, ◌≤◌, ℕ, List, [], ◌∷◌, ◌++◌, IsTrue, Option, Some, None, false, length, map as plain_map};
+ghost use Rattle.std.specs.Prelude.{◌≡◌, ◌<◌, ◌≤◌, ◌^◌, ℕ, List, [], ◌∷◌, ◌++◌, IsTrue, Option, Some, None, false, length, map as plain_map, slice_get};
+ghost use Rattle.ut_keys.specs.Forms.{FitsForm};
 ghost use Rattle.ut_keys.specs.Keys.{Key};
+ghost use Rattle.ut_keys.specs.Rows.{field_form, object_form};
 ghost use Rattle.ut_model.specs.declared.limit.Limit.TheVariants as limit;
 ghost use Rattle.ut_model.specs.declared.record.Record.{Record};
 ghost use Rattle.ut_model.specs.Limits.{limit_number};
@@ -12,6 +14,7 @@ ghost use Rattle.ut_model.specs.Sound.{IsSound};
 ghost use Rattle.ut_model.specs.Tenant.{Field, Job, Object, Tenant};
 ghost use Rattle.ut_stands.specs.Entries.{entry};
 ghost use Rattle.ut_stands.specs.Layouts.{layout_of};
+ghost use Rattle.ut_stands.specs.Metadata.{field_of, object_of};
 ghost use Rattle.ut_stands.specs.Plan.{FitsPlan, OrgPlan, slot_count};
 ghost use Rattle.ut_stands.specs.Records.{KeptAlike, has_free, is_field_key, is_free, is_object_key, is_org_key, object_of_records, suits_flags, with_slot};
 ghost use Rattle.ut_stands.specs.Stands.{kept_in, row_in};
@@ -53,6 +56,12 @@ pub fn metadata_laws()
         → IsSound t → object_at t n ≡ Some o → IsTrue (is_free p t.job n o s) → IsTrue (suits_flags f)
         → is_object_key n k ≡ false → is_field_key n (length o.fields) k ≡ false
         → row_in (with_slot n (length o.fields) s p) (with_field n f t) k ≡ row_in p t k }
+
+    // The rows of objects and fields fit their forms.
+    ensures object_fits { (org : ℕ) (t : Tenant) (n : ℕ) (o : Object) → org < 2 ^ 32 → IsSound t → object_at t n ≡ Some o
+        → FitsForm object_form (object_of org t n o) }
+    ensures field_fits { (org : ℕ) (p : OrgPlan) (t : Tenant) (n i : ℕ) (o : Object) (f : Field) → org < 2 ^ 32 → IsSound t → FitsPlan p t
+        → object_at t n ≡ Some o → slice_get o.fields i ≡ Some f → FitsForm field_form (field_of org p n i f) }
 
     // A field that comes leaves the number of each object's records.
     ensures counted { (t : Tenant) (n m : ℕ) (f : Field) → length (records_of (with_field n f t) m) ≡ length (records_of t m) }

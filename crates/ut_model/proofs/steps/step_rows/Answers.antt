@@ -17,7 +17,9 @@ use Rattle.ut_model.specs.declared.caller.Caller.{Caller}
 use Rattle.ut_model.specs.Callers.{cut}
 use Rattle.ut_model.specs.Organisations.{administrator, fresh, with_org}
 use Rattle.ut_model.specs.Routing.{lines, routed}
-use Rattle.ut_model.specs.Step.{Message, answered, query_text, step}
+use Rattle.ut_model.specs.Built.{answered, step}
+use Rattle.ut_model.specs.Objects.{object_named}
+use Rattle.ut_model.specs.Step.{Message, query_text}
 use Rattle.ut_model.specs.World.{World}
 use Rattle.ut_model.proofs.Called.{found, itself}
 use Rattle.ut_model.proofs.Stepped.{called}
@@ -56,7 +58,7 @@ unfolding step
 returns-clause-no_key c = refl
 
 pub returns-clause-no_object : goal.returns-clause-no_object
-unfolding step cut id_in number_in number62 made digits routed lines split query_text raw_pairs chars encode_utf8 utf8_lossy percent_decode utf8_valid_len is_utf8 asked_in asked_object front_len is_comma is_word mark_len mark_token token_at token_len token_of tokens_of word_in begins_run class_of in_run in_word is_blank is_letter single_token is_mark is_pair is_digit
+unfolding step object_named cut id_in number_in number62 made digits routed lines split query_text raw_pairs chars encode_utf8 utf8_lossy percent_decode utf8_valid_len is_utf8 asked_in asked_object front_len is_comma is_word mark_len mark_token token_at token_len token_of tokens_of word_in begins_run class_of in_run in_word is_blank is_letter single_token is_mark is_pair is_digit
 returns-clause-no_object c =
     let w : World = with_org [] (codes "Acme") (sha256 (codes "abc!d")) in
     let key : List ℕ = codes "00D000000000001!005000000000000AAA!abc!d" in

@@ -1,0 +1,109 @@
+-- The step of the world by the routes that are built: the replies that are made, and what becomes of the world. It is as the whole
+-- step (Whole) on these; a request of any other route, and what needs rows that aren't written yet, is refused with NOT_BUILT.
+-- Source of the query: Salesforce, REST API, "Query". What is built is this product's own.
+use Rattle.std.specs.Prelude.{ℕ, pos, Bool, true, false, not, ◌&&◌, ◌||◌, if◌then◌else◌, List, [], ◌∷◌, codes, Option, Some, None, Result, Ok, Err}
+use Rattle.ut_query.specs.Asking.{asked_object}
+use Rattle.ut_query.specs.declared.query.Item.{Item}
+use Rattle.ut_query.specs.declared.query.Item.TheVariants as item
+use Rattle.ut_query.specs.declared.query.Query.{Query}
+use Rattle.ut_model.specs.declared.refusal.Refusal.{Refusal}
+use Rattle.ut_model.specs.declared.refusal.Refusal.TheVariants as refusal
+use Rattle.ut_model.specs.declared.reply.Reply.{Reply}
+use Rattle.ut_model.specs.declared.route.Route.{Route}
+use Rattle.ut_model.specs.declared.route.Route.TheVariants as route
+use Rattle.ut_model.specs.declared.routed.Routed.{Routed}
+use Rattle.ut_model.specs.declared.routed.Routed.TheVariants.{To, NotFound, NotAllowed}
+use Rattle.ut_model.specs.Cases.{in_case}
+use Rattle.ut_model.specs.Levels.{Reads}
+use Rattle.ut_model.specs.Paths.{Asked}
+use Rattle.ut_model.specs.Replies.{reply_of}
+use Rattle.ut_model.specs.RequestOf.{ReadsQuery, request_of, verdict_or}
+use Rattle.ut_model.specs.Requests.{Request, adds_field, asks, verdict_on}
+use Rattle.ut_model.specs.Routing.{is_administration, routed}
+use Rattle.ut_model.specs.Step.{Answering, Message, query_text, refused, step_by}
+use Rattle.ut_model.specs.Tenant.{Tenant, User}
+use Rattle.ut_model.specs.Verdict.{Verdict, refuse}
+use Rattle.ut_model.specs.World.{World, user_at}
+
+-- ---- requests of administrators
+
+-- the routes of administration that are built
+abbrev pub is_built : Route → Bool
+is_built route.AddObject = true
+is_built (route.SetObject object) = true
+is_built route.AddField = true
+is_built _ = false
+
+-- a field that is unique or indexed needs rows that aren't written yet
+abbrev pub needs_index : Request → Bool
+needs_index (adds_field b) = b.unique || b.indexed
+needs_index _ = false
+
+-- NOT_BUILT, where such rows are needed
+abbrev pub when_built : Result Request Refusal → Result Request Refusal
+when_built (Err refusal) = Err refusal
+when_built (Ok request) = if needs_index request then Err (refusal.NotBuilt (codes "flag")) else Ok request
+
+-- these routes have no query
+abbrev pub no_query : ReadsQuery
+no_query text = Err 0
+
+-- the request that a route and a body make; its form is judged first, and then whether it is built
+abbrev pub built_request : Route → (body : List ℕ) → Result Request Refusal
+built_request r body = if is_built r then when_built (request_of no_query r body) else Err (refusal.NotBuilt (codes "route"))
+
+-- ---- queries
+
+-- a field of the object itself
+abbrev pub own_field : List ℕ → Item
+own_field name = item.Path (record { names = name ∷ [] })
+
+-- `SELECT Id, Name FROM OBJECT`
+abbrev pub names_query : (object : List ℕ) → Query
+names_query object =
+    record {
+      select = own_field (codes "Id") ∷ own_field (codes "Name") ∷ [];
+      tail = record { from = object; condition = None; order = []; limit = None };
+      offset = None;
+    }
+
+-- of queries, those for ids and names are built, of administrators
+abbrev pub names_verdict : Asked → Option (List ℕ) → Verdict
+names_verdict a None = refuse a.tenant (refusal.NotBuilt (codes "query"))
+names_verdict a (Some object) =
+    if a.user.admin then verdict_on a (asks (names_query object)) else refuse a.tenant (refusal.NotBuilt (codes "query"))
+
+-- ---- a caller's message
+
+-- what a request comes to
+abbrev pub built_verdict : Asked → Route → (body : List ℕ) → Verdict
+built_verdict a (route.Query pairs) body = names_verdict a (asked_object (query_text pairs))
+built_verdict a r body = verdict_or a (built_request r body)
+
+-- no such path, another method, no administrator; then the request itself
+abbrev pub verdict_to : Asked → (body : List ℕ) → Routed → Verdict
+verdict_to a body NotFound = refuse a.tenant refusal.NotFound
+verdict_to a body NotAllowed = refuse a.tenant refusal.MethodNotAllowed
+verdict_to a body (To r) = if is_administration r && not a.user.admin then refuse a.tenant refusal.AdminRequired else built_verdict a r body
+
+-- no request that is built reads a formula
+abbrev pub no_formula : Reads
+no_formula o criteria text = Err 0
+
+-- a user who asks in an organisation at this moment
+abbrev pub asking : Tenant → ℕ → User → Asked
+asking t now u = record { tenant = t; user = u; now = pos now; reads = no_formula }
+
+-- the reply to a user's message, and the organisation after it
+abbrev pub answer_built : Asked → Message → Reply × Tenant
+answer_built a m = let v = verdict_to a m.body (routed m.method m.target) in (reply_of a v.answer, v.tenant)
+
+-- what a caller's message is answered at this moment, and what becomes of the organisation
+abbrev pub answered : Answering
+answered c m now t = in_case (user_at t.users c.user) (refused refusal.InvalidSession t) (λ u. answer_built (asking t now u) m)
+
+-- ---- the world
+
+-- what a message is answered at this moment, and the world after it
+unfoldable pub step : World → Message → ℕ → Reply × World
+step = step_by answered

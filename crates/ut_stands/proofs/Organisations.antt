@@ -1,0 +1,68 @@
+-- What is read at an organisation's key is that organisation's row.
+use Rattle.std.proofs.Common.{◌≡◌, ℕ, ◌<◌, ◌^◌, ◌∙◌, List, Option, Some, None, refl, arith}
+use Rattle.std.specs.Prelude.{Result, Ok, Err}
+use Rattle.std.specs.Option.{option_and_then, option_map}
+use Rattle.std.specs.FinMap as map
+use Rattle.ut_keeper.specs.Tables.{Tables}
+use Rattle.ut_keys.specs.declared.fail.StoreFail.{StoreFail}
+use Rattle.ut_keys.specs.declared.fail.StoreFail.TheVariants.{Keeper, Memory, Damaged}
+use Rattle.ut_keys.specs.declared.org.OrgRow.{OrgRow}
+use Rattle.ut_keys.specs.Forms.{FitsForm, row_bytes}
+use Rattle.ut_keys.specs.Keys.{Org, spell}
+use Rattle.ut_keys.specs.Reads.{ReadsAs}
+use Rattle.ut_keys.specs.Rows.{org_form}
+use Rattle.ut_model.specs.Sound.{IsSound}
+use Rattle.ut_model.specs.Tenant.{Tenant}
+use Rattle.ut_model.specs.World.{World, tenant_at}
+use Rattle.ut_stands.specs.Layouts.{FindsBy, org_row}
+use Rattle.ut_stands.specs.Metadata.{org_of}
+use Rattle.ut_stands.specs.Plan.{OrgPlan, Plan}
+use Rattle.ut_stands.specs.Stands.{row_in}
+use Rattle.ut_stands.proofs.Found.{FindsRow, IsRowOf, row_finds, row_of}
+use Rattle.ut_stands.proofs.Names.{NamesAreShort, NamesAreTexts, name_fits}
+
+-- the row of the organisation itself
+abbrev there : ℕ → OrgPlan → Tenant → Option OrgRow
+there org p t = Some (org_of org t)
+
+rows_are : (org : ℕ) (p : OrgPlan) (t : Tenant) → row_in p t (Org org) ≡ option_map (row_bytes org_form) (there org p t)
+unfolding row_in
+rows_are org p t = refl
+
+module _ (texts : NamesAreTexts) (short : NamesAreShort) where
+  pub org_fits : (org : ℕ) (t : Tenant) → org < 2 ^ 32 → IsSound t → FitsForm org_form (org_of org t)
+  org_fits org t lo s = (
+    lo,
+    (
+      name_fits texts short t.name s.name,
+      (
+        omega (arith, s.counter),
+        (
+          omega (arith, s.metadata.few),
+          (
+            omega (arith, s.records.few),
+            (
+              omega (arith, s.users.few),
+              (omega (arith, s.roles.few), (omega (arith, s.groups.few), (omega (arith, s.rules.few), omega (arith, s.rules.few_drawn)))),
+            ),
+          ),
+        ),
+      ),
+    ),
+  )
+
+  org_is_row : (org : ℕ) → org < 2 ^ 32 → IsRowOf org_form org org (there org)
+  org_is_row org lo = record { owned = refl; fits = lo; rows = rows_are org; stands = λ p t s f. (refl, org_fits org t lo s) }
+
+  pub org_finds : FindsRow org_form → (m : Tables) (org : ℕ) → org < 2 ^ 32 → (r : Result (Option OrgRow) StoreFail) → ReadsAs org_form org (map.get m (spell (Org org))) r → FindsBy (org_row org) m r
+  org_finds finds m org lo r e = by r (row_finds org_form org org (there org) (org_is_row org lo) finds m r e)
+    where
+      same : (o : Option Tenant) (p : OrgPlan) → option_and_then (there org p) o ≡ option_map (org_of org) o
+      same None p = refl
+      same (Some t) p = refl
+
+      by : (r : Result (Option OrgRow) StoreFail) → FindsBy (row_of org (there org)) m r → FindsBy (org_row org) m r
+      by (Ok x) h = λ p w s. h p w s ∙ same (tenant_at w org) (p.org org)
+      by (Err Damaged) h = h
+      by (Err Keeper) h = tt
+      by (Err Memory) h = tt

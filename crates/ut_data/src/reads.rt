@@ -182,7 +182,6 @@ pub fn walk<K: Keeper>(
     ensures stays { StaysAfter (is_ok result) (state_of K.state draft.old) (state_of K.state draft.new) }
     ensures cause { KeeperCause (state_of K.state draft.old) (state_of K.state draft.new) (IsErrOf result Keeper) }
 {
-    row_laws::<DataRow>();
     listing_laws::<DataRow>();
     table_laws();
     shape_laws();

@@ -4,3 +4,4 @@ pub mod Layouts
 pub mod Judged
 pub mod JudgedFields
 pub mod Steps
+pub mod NewObjects

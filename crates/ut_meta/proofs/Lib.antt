@@ -4,3 +4,5 @@ pub mod Layouts
 pub mod Judged
 pub mod JudgedFields
 pub mod Steps
+pub mod Putting
+pub mod Edits

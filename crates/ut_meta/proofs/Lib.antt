@@ -4,4 +4,6 @@ pub mod Layouts
 pub mod Judged
 pub mod JudgedFields
 pub mod Steps
+pub mod Putting
+pub mod Edits
 pub mod NewObjects

@@ -41,6 +41,7 @@ use Rattle.ut_meta.specs.Judging.{layouts_in}
 use Rattle.ut_meta.specs.declared.edits.objects.NewRows.{NewRows}
 use Rattle.ut_meta.specs.inner.NewRows.{AreSpelled, IsSpelledMaster, change_to, changes_of, field_change, first_field, master_in, master_row, object_row, rows_by}
 use Rattle.ut_meta.specs.inner.Relations.{named_in}
+use Rattle.ut_meta.proofs.Edits.{EditedStands, beside, edit_done, other_field, other_object, other_org, unless_none}
 use Rattle.ut_meta.proofs.Layouts.{length_is, named_is}
 use Rattle.ut_meta.proofs.Lists.{pick}
 
@@ -56,10 +57,6 @@ eqb_same n = pick (eqb n n) (λ b. b ≡ true) (λ _. refl) (λ e. absurd (eqb-f
 both : (a b : Bool) → (a && b) ≡ true → (a ≡ true) × (b ≡ true)
 both true b h = (refl, h)
 both false b h = absurd cc
-
-neither : (a b : Bool) → (a || b) ≡ false → (a ≡ false) × (b ≡ false)
-neither true b h = absurd cc
-neither false b h = (refl, h)
 
 get_last : {X : Type 0} (xs : List X) (x : X) → slice_get (xs ++ x ∷ []) (length xs) ≡ Some x
 get_last [] x = refl
@@ -79,7 +76,7 @@ abbrev pub IsUnrefused : Tenant → NewObject → Type 0
 IsUnrefused t b = None ≡ first_refusal (object_rules t b)
 
 accepted : (t : Tenant) (b : NewObject) → IsUnrefused t b → add_object t b ≡ accept done (with_new t b)
-accepted t b e = ap (λ (r : Rule). unless r t (accept done (with_new t b))) (sym e)
+accepted t b e = unless_none (first_refusal (object_rules t b)) t (accept done (with_new t b)) e
 
 third_none : (a b c : Rule) (more : List Rule) → None ≡ first_refusal (a ∷ b ∷ c ∷ more) → c ≡ None
 third_none None None None more e = refl
@@ -121,28 +118,6 @@ pub record Laws : Type 0 where
       → FitsForm object_form (object_of org t n o)
   pub field_fits : (org : ℕ) (p : OrgPlan) (t : Tenant) (n i : ℕ) (o : Object) (f : Field) → org < 2 ^ 32 → IsSound t → FitsPlan p t
       → object_at t n ≡ Some o → slice_get o.fields i ≡ Some f → FitsForm field_form (field_of org p n i f)
-
--- ---- keys of the organisation that aren't those of the changed rows
-
-not_org : (org : ℕ) (k : Key) → owner_of k ≡ Some org → key_eq k (key.Org org) ≡ false → is_org_key k ≡ false
-not_org org (key.Org a) of e = absurd (eqb-false a org e (some_is a org of))
-not_org org k of e = refl
-
--- of two tests the second fails, where the first doesn't
-second : (a b : Bool) → a ≡ true → (a && b) ≡ false → b ≡ false
-second true b h e = e
-second false b h e = absurd cc
-
-own_org : (a org : ℕ) → ◌≡◌ {A = Option ℕ} (Some a) (Some org) → eqb a org ≡ true
-own_org a org of = ap (λ (x : ℕ). eqb x org) (some_is a org of) ∙ eqb_same org
-
-not_object : (org n : ℕ) (k : Key) → owner_of k ≡ Some org → key_eq k (key.Object org n) ≡ false → is_object_key n k ≡ false
-not_object org n (key.Object a m) of e = second (eqb a org) (eqb m n) (own_org a org of) e
-not_object org n k of e = refl
-
-not_field : (org n f : ℕ) (k : Key) → owner_of k ≡ Some org → key_eq k (key.Field org n f) ≡ false → is_field_key n f k ≡ false
-not_field org n f (key.Field a m g) of e = second (eqb a org) (eqb m n && eqb g f) (own_org a org of) e
-not_field org n f k of e = refl
 
 -- ---- the rows
 
@@ -306,32 +281,25 @@ module _ (laws : Laws) (org : ℕ) (small : org < 2 ^ 32) (p : OrgPlan) (t : Ten
   elsewhere : (k : Key) → owner_of k ≡ Some org → is_changed (changes_of rows_after) k ≡ false → row_in q u k ≡ row_in p t k
   elsewhere k of h = by (slice_get o.fields 0) refl h
     where
-      rest : Option FieldRow → Bool
-      rest f = list_any (λ (c : Change). key_eq k c.0) (field_change f ++ change_to object_form (object_of org u n o) ∷ [])
+      last : List Change
+      last = change_to object_form (object_of org u n o) ∷ []
 
       same : key_eq k (key.Org org) ≡ false → key_eq k (key.Object org n) ≡ false → is_field_key n 0 k ≡ false → row_in q u k ≡ row_in p t k
-      same a b c = laws.rows p t o 0 k sound few refl (not_org org k of a) (not_object org n k of b) c
+      same a b c = laws.rows p t o 0 k sound few refl (other_org org k of a) (other_object org n k of b) c
 
-      by : (x : Option Field) → slice_get o.fields 0 ≡ x → (key_eq k (key.Org org) || rest (option_map (field_of org q n 0) x)) ≡ false → row_in q u k ≡ row_in p t k
+      by : (x : Option Field) → slice_get o.fields 0 ≡ x
+          → is_changed (change_to org_form (org_of org u) ∷ (field_change (option_map (field_of org q n 0) x) ++ last)) k ≡ false → row_in q u k ≡ row_in p t k
       by None e h =
-          let (a, h2) = neither (key_eq k (key.Org org)) (key_eq k (key.Object org n) || false) h in
-          let (b, _) = neither (key_eq k (key.Object org n)) false h2 in
+          let (a, h2) = beside (change_to org_form (org_of org u)) last k h in
+          let (b, _) = beside (change_to object_form (object_of org u n o)) [] k h2 in
           pick (is_field_key n 0 k) (λ _. row_in q u k ≡ row_in p t k) (λ c. no_field k c e) (λ c. same a b c)
       by (Some f) e h =
-          let (a, h2) = neither (key_eq k (key.Org org)) (key_eq k (key.Field org n 0) || (key_eq k (key.Object org n) || false)) h in
-          let (c, h3) = neither (key_eq k (key.Field org n 0)) (key_eq k (key.Object org n) || false) h2 in
-          let (b, _) = neither (key_eq k (key.Object org n)) false h3 in
-          same a b (not_field org n 0 k of c)
+          let (a, h2) = beside (change_to org_form (org_of org u)) (change_to field_form (field_of org q n 0 f) ∷ last) k h in
+          let (c, h3) = beside (change_to field_form (field_of org q n 0 f)) last k h2 in
+          let (b, _) = beside (change_to object_form (object_of org u n o)) [] k h3 in
+          same a b (other_field org n 0 k of c)
 
 -- ---- the tables
-
-abbrev pub EditedStands : Type 0
-EditedStands =
-    (p : Plan) (m : Tables) (w : World) (n : ℕ) (t u : Tenant) (q : OrgPlan) (changes : List Change)
-    → StandsBy p m w → tenant_at w n ≡ Some t → IsSound u → FitsPlan q u
-    → AllByRecursion (IsOf n q u) changes
-    → ((k : Key) → owner_of k ≡ Some n → is_changed changes k ≡ false → row_in q u k ≡ row_in (p.org n) t k)
-    → StandsBy (with_plan n q p) (with_changes changes m) (with_tenant w n u)
 
 -- with these rows they stand for the world with the object
 pub object_stands : Laws → EditedStands → (org : ℕ) → org < 2 ^ 32 → (p : Plan) (m after : Tables) (w : World) (t : Tenant) (b : NewObject) (ls : List Layout) (row : OrgRow) (rows : NewRows)
@@ -340,17 +308,11 @@ pub object_stands : Laws → EditedStands → (org : ℕ) → org < 2 ^ 32 → (
     → EditsIn org (add_object t b) w after (Ok tt)
 object_stands laws edited org small p m after w t b ls row rows s sound at fit unrefused is row_is rows_is tables =
     let fits = s.plans org t at in
-    let verdict = accepted t b unrefused in
     let same : rows ≡ rows_after laws org small (p.org org) t b ls is fits sound fit unrefused =
     rows_is ∙ ap (λ (r : OrgRow). rows_by ls r b) row_is ∙ rows_are laws org small (p.org org) t b ls is fits sound fit unrefused in
-    let changes = changes_of (rows_after laws org small (p.org org) t b ls is fits sound fit unrefused) in
-    let q = with_slot (length t.objects) 0 0 (p.org org) in
-    let done_so : StandsBy (with_plan org q p) (with_changes changes m) (with_tenant w org (with_new t b)) =
-    edited p m w org t (with_new t b) q changes s at
-    (next_sound laws org small (p.org org) t b ls is fits sound fit unrefused)
+    edit_done edited p m after w org t (with_new t b) (with_slot (length t.objects) 0 0 (p.org org)) (add_object t b)
+    (changes_of (rows_after laws org small (p.org org) t b ls is fits sound fit unrefused)) s at (accepted t b unrefused) (laws.sound t b fit sound)
     (next_fits laws org small (p.org org) t b ls is fits sound fit unrefused)
     (own laws org small (p.org org) t b ls is fits sound fit unrefused)
-    (elsewhere laws org small (p.org org) t b ls is fits sound fit unrefused) in
-    let left : Stands after (with_tenant w org (with_new t b)) =
-    subst (λ (x : Tables). Stands x (with_tenant w org (with_new t b))) (sym (tables ∙ ap (λ (r : NewRows). with_changes (changes_of r) m) same)) (with_plan org q p, done_so) in
-    (ap (λ (v : Verdict). v.answer) verdict, subst (λ (x : Tenant). Stands after (with_tenant w org x)) (sym (ap (λ (v : Verdict). v.tenant) verdict)) left)
+    (elsewhere laws org small (p.org org) t b ls is fits sound fit unrefused)
+    (tables ∙ ap (λ (r : NewRows). with_changes (changes_of r) m) same)

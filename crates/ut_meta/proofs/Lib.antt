@@ -5,4 +5,5 @@ pub mod Judged
 pub mod JudgedFields
 pub mod Steps
 pub mod Putting
-pub mod Edits
+pub mod Editing
+pub mod AccessEdits

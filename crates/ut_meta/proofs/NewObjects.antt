@@ -41,7 +41,7 @@ use Rattle.ut_meta.specs.Judging.{layouts_in}
 use Rattle.ut_meta.specs.declared.edits.objects.NewRows.{NewRows}
 use Rattle.ut_meta.specs.inner.NewRows.{AreSpelled, IsSpelledMaster, change_to, changes_of, field_change, first_field, master_in, master_row, object_row, rows_by}
 use Rattle.ut_meta.specs.inner.Relations.{named_in}
-use Rattle.ut_meta.proofs.Edits.{EditedStands, beside, edit_done, other_field, other_object, other_org, unless_none}
+use Rattle.ut_meta.proofs.Editing.{EditedStands, beside, edit_done, other_field, other_object, other_org, unless_none}
 use Rattle.ut_meta.proofs.Layouts.{length_is, named_is}
 use Rattle.ut_meta.proofs.Lists.{pick}
 

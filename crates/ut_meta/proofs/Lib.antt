@@ -8,3 +8,4 @@ pub mod Putting
 pub mod Editing
 pub mod AccessEdits
 pub mod NewObjects
+pub mod ObjectEdits

@@ -6,3 +6,4 @@ pub mod JudgedFields
 pub mod Steps
 pub mod Putting
 pub mod Edits
+pub mod FieldStands

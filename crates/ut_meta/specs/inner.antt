@@ -1,2 +1,3 @@
+pub mod FieldRows
 pub mod Fields
 pub mod Relations

@@ -1,0 +1,5 @@
+//! An administrator's edits of metadata, over a draft of an organisation's tables.
+
+mod fields;
+
+pub use self::fields::add_field;

@@ -1,0 +1,229 @@
+//! New fields.
+
+ghost use Rattle.std.specs.Prelude.{◌≡◌, ◌<◌, Some, IfErr, IfOk, IsErrOf, IsTrue, OnOk, is_ok, true};
+ghost use Rattle.ut_keeper.specs.Draft.{DraftReads, DraftTells, DraftWorks, count_of, state_of, tables_of};
+ghost use Rattle.ut_keeper.specs.State.{KeeperCause, StaysAfter};
+ghost use Rattle.ut_keys.specs.declared.fail.StoreFail.TheVariants.{Keeper};
+ghost use Rattle.ut_keys.specs.Forms.{FitsForm};
+ghost use Rattle.ut_keys.specs.Rows.{field_form};
+ghost use Rattle.ut_meta.specs.inner.FieldRows.{MakesRow, PutsField, is_formed, row_with};
+ghost use Rattle.ut_model.specs.Cases.{in_case};
+ghost use Rattle.ut_model.specs.Names.{is_child_name};
+ghost use Rattle.ut_model.specs.NewFields.{add_field, child_of, new_field, type_with};
+ghost use Rattle.ut_model.specs.Tenant.{Tenant};
+ghost use Rattle.ut_model.specs.World.{World, tenant_at};
+ghost use Rattle.ut_sound.specs.Fit.{is_fit_field};
+ghost use Rattle.ut_stands.specs.Fails.{IsRefusal, KeeperFailsEdit, is_judged};
+ghost use Rattle.ut_stands.specs.Operations.{EditsIn};
+ghost use Rattle.ut_stands.specs.Stands.{Stands};
+
+use crate::judging::{child_of, judge_field, target_number};
+use crate::relations::layout_named;
+use crate::rules::copy_of;
+use crate::slots::free_slot;
+use std::alloc::{AllocError, Global};
+use ut_keeper::{Draft, Keeper, draft_laws};
+use ut_keys::{FieldFlags, FieldRow, StoreFail, put};
+use ut_model::{NewField, SpelledType, is_child_name, is_custom_name};
+use ut_sound::objects_sound;
+use ut_stands::{EditFail, Layout, layouts, metadata_laws, object_row, slot_laws, stands_laws};
+use ut_value::{FieldType, Items, Text, is_type};
+
+// Copies of texts.
+fn copies_of(alloc: Global, texts: &[Text]) -> Result<Items<Text>, AllocError>
+    ensures { IfOk result (λ copies. copies ≡ texts.now) }
+{
+    let mut copies = Items::new(alloc);
+    let mut rest = texts;
+    'texts: while let Some((text, more)) = rest.split_first() {
+        copies.push(copy_of(alloc, text)?)?;
+        rest = more;
+    }
+    Ok(copies)
+}
+
+// A copy of a type.
+fn copy_of_type(alloc: Global, kind: &FieldType) -> Result<FieldType, AllocError>
+    ensures { IfOk result (λ copy. copy ≡ kind.now) }
+{
+    match kind {
+        FieldType::Text(most) => Ok(FieldType::Text(*most)),
+        FieldType::Number { digits, decimals } => Ok(FieldType::Number {
+            digits: *digits,
+            decimals: *decimals,
+        }),
+        FieldType::Checkbox => Ok(FieldType::Checkbox),
+        FieldType::Day => Ok(FieldType::Day),
+        FieldType::Moment => Ok(FieldType::Moment),
+        FieldType::Picklist(values) => {
+            Ok(FieldType::Picklist(copies_of(alloc, values.as_slice())?))
+        }
+        FieldType::Lookup { object, on_delete } => Ok(FieldType::Lookup {
+            object: *object,
+            on_delete: *on_delete,
+        }),
+        FieldType::Master { object } => Ok(FieldType::Master { object: *object }),
+    }
+}
+
+// The type of a new field, if a lookup refers to the object with this number.
+fn type_with(alloc: Global, target: u16, kind: &SpelledType) -> Result<FieldType, AllocError>
+    ensures { IfOk result (λ made. made ≡ type_with (Some target) kind.now) }
+{
+    match kind {
+        SpelledType::Plain(kind) => copy_of_type(alloc, kind),
+        SpelledType::LookupTo { on_delete, .. } => Ok(FieldType::Lookup {
+            object: target,
+            on_delete: *on_delete,
+        }),
+    }
+}
+
+// A copy of the child relationship of a lookup.
+fn child_copy(alloc: Global, kind: &SpelledType) -> Result<Option<Text>, AllocError>
+    ensures { IfOk result (λ child. child ≡ child_of kind.now) }
+{
+    match child_of(kind) {
+        None => Ok(None),
+        Some(child) => Ok(Some(copy_of(alloc, child)?)),
+    }
+}
+
+// Whether a child relationship, if there is one, has its form.
+fn has_child_form(child: &Option<Text>) -> bool
+    ensures { result ≡ in_case child.now true is_child_name }
+{
+    match child {
+        None => true,
+        Some(child) => is_child_name(child.as_str()),
+    }
+}
+
+// Whether the names of a row have their forms, and its type is within its bounds.
+fn is_formed(row: &FieldRow) -> bool
+    ensures { result ≡ is_formed row.now }
+{
+    is_custom_name(row.name.as_str()) && is_type(&row.kind) && has_child_form(&row.child)
+}
+
+// The row of a new field in this slot, with the number 0. A lookup refers to the object with the number `target`.
+fn row_in_slot(
+    alloc: Global,
+    layout: &Layout,
+    slot: u8,
+    target: u16,
+    new: &NewField,
+) -> Result<FieldRow, AllocError>
+    ensures row { IfOk result (λ row. row ≡ row_with layout.now.org layout.now.object 0 slot (new_field (Some target) new.now)) }
+    ensures fits { IfOk result (λ row. IsTrue (is_formed row) → FitsForm field_form row) }
+{
+    Ok(FieldRow {
+        org: layout.org,
+        object: layout.object,
+        field: 0,
+        name: copy_of(alloc, &new.name)?,
+        kind: type_with(alloc, target, &new.kind)?,
+        flags: FieldFlags {
+            required: new.required,
+            unique: new.unique,
+            indexed: new.indexed,
+        },
+        slot,
+        child: child_copy(alloc, &new.kind)?,
+    })
+}
+
+// The row of a new field in the least slot that is free, with the number 0.
+fn row_of(alloc: Global, layouts: &[Layout], new: &NewField) -> Result<FieldRow, StoreFail>
+    ensures makes { MakesRow layouts.now new.now result }
+    ensures fits { IfOk result (FitsForm field_form) }
+{
+    let Some(layout) = layout_named(layouts, new.object.as_str()) else {
+        // Without an object it is refused.
+        return Err(StoreFail::Damaged);
+    };
+    let Ok(target) = target_number(layouts, &new.kind) else {
+        // A lookup to no object is refused.
+        return Err(StoreFail::Damaged);
+    };
+    let row = row_in_slot(
+        alloc,
+        layout,
+        free_slot(layout),
+        target.unwrap_or(0),
+        new,
+    )?;
+    if is_formed(&row) {
+        Ok(row)
+    } else {
+        // Other names are refused, and no body has another type.
+        Err(StoreFail::Damaged)
+    }
+}
+
+// Puts the row of an object's new field, with the next number, and counts the field in the row of the object.
+fn put_field<K: Keeper>(
+    alloc: Global,
+    draft: &mut Draft<'_, K>,
+    field: FieldRow,
+) -> Result<(), StoreFail>
+    requires { FitsForm field_form field }
+    ensures puts { DraftTells K.state draft.old draft.new
+        → PutsField field (tables_of K.state draft.old) (tables_of K.state draft.new) result }
+    ensures some { OnOk result (0 < count_of draft.new) }
+    ensures works { DraftWorks K.state 2 0 0 draft.old draft.new }
+    ensures stays { StaysAfter (is_ok result) (state_of K.state draft.old) (state_of K.state draft.new) }
+    ensures cause { KeeperCause (state_of K.state draft.old) (state_of K.state draft.new) (IsErrOf result Keeper) }
+{
+    draft_laws::<K>();
+    let Some(mut object) = object_row(alloc, draft, field.org, field.object)? else {
+        // Each object has its row.
+        return Err(StoreFail::Damaged);
+    };
+    let Some(count) = object.fields.checked_add(1) else {
+        // An object has at most 40 fields.
+        return Err(StoreFail::Damaged);
+    };
+    let mut field = field;
+    field.field = object.fields;
+    object.fields = count;
+    put(alloc, draft, &object)?;
+    put(alloc, draft, &field)?;
+    Ok(())
+}
+
+/// Adds a field to an object: in each of its records it is null, or false.
+///
+/// # Errors
+///
+/// `Refused` exactly as the verdict of the request says; nothing is then changed. `Store` with `Keeper` if the keeper
+/// failed, `Memory` if out of memory, `Damaged` never if the tables stand for a world and the body has its form.
+pub fn add_field<K: Keeper>(
+    alloc: Global,
+    draft: &mut Draft<'_, K>,
+    org: u32,
+    new: &NewField,
+) -> Result<(), EditFail>
+    ensures edits { DraftTells K.state draft.old draft.new
+        → (w : World) (t : Tenant) → Stands (tables_of K.state draft.old) w → tenant_at w org ≡ Some t
+        → IsTrue (is_fit_field new.now)
+        → EditsIn org (add_field t new.now) w (tables_of K.state draft.new) result }
+    ensures some { OnOk result (0 < count_of draft.new) }
+    ensures refused { IfErr result (λ e. IsRefusal e → DraftReads K.state 0 draft.old draft.new) }
+    ensures works { DraftWorks K.state 2 0 0 draft.old draft.new }
+    ensures stays { StaysAfter (is_judged result) (state_of K.state draft.old) (state_of K.state draft.new) }
+    ensures cause { KeeperCause (state_of K.state draft.old) (state_of K.state draft.new) (KeeperFailsEdit result) }
+{
+    draft_laws::<K>();
+    stands_laws();
+    metadata_laws();
+    slot_laws();
+    objects_sound();
+    let all = layouts(alloc, draft, org)?;
+    if let Some(refusal) = judge_field(alloc, all.as_slice(), new)? {
+        return Err(EditFail::Refused(refusal));
+    }
+    let row = row_of(alloc, all.as_slice(), new)?;
+    put_field(alloc, draft, row)?;
+    Ok(())
+}

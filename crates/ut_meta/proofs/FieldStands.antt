@@ -19,7 +19,6 @@ use Rattle.ut_model.specs.declared.metadata_bodies.SpelledType.TheVariants.{Plai
 use Rattle.ut_model.specs.declared.refusal.Refusal.TheVariants.{InvalidType}
 use Rattle.ut_model.specs.Cases.{in_case}
 use Rattle.ut_model.specs.Limits.{limit_number}
-use Rattle.ut_model.specs.Names.{is_child_name, is_custom_name}
 use Rattle.ut_model.specs.NewFields.{add_field, field_rules, new_field, with_field, with_target}
 use Rattle.ut_model.specs.Objects.{Numbered, change_at, numbered, object_at, object_named, records_of}
 use Rattle.ut_model.specs.Rules.{first_refusal}
@@ -40,9 +39,9 @@ use Rattle.ut_stands.specs.Stands.{Stands, StandsBy, owner_of, row_in}
 use Rattle.ut_stands.specs.declared.fail.EditFail.{EditFail}
 use Rattle.ut_stands.specs.declared.fail.EditFail.TheVariants.{Store}
 use Rattle.ut_stands.specs.declared.layout.Layout.{Layout}
-use Rattle.ut_value.specs.Types.{is_type, suits_indexed, suits_unique}
+use Rattle.ut_value.specs.Types.{suits_indexed, suits_unique}
 use Rattle.ut_meta.specs.Judging.{layouts_in, refusal_of}
-use Rattle.ut_meta.specs.inner.FieldRows.{IsRowFor, MakesRow, PutsField, counted_change, field_change, is_formed, row_with}
+use Rattle.ut_meta.specs.inner.FieldRows.{IsRowFor, IsSpelled, MakesRow, PutsField, counted_change, field_change, row_with}
 use Rattle.ut_meta.specs.inner.Relations.{named_in, target_in}
 use Rattle.ut_meta.proofs.Edits.{EditedStands, beside, edit_done, eqb_same, named_at, other_field, other_object, some_is, unrefused}
 use Rattle.ut_meta.proofs.JudgedFields.{on_object, unnamed}
@@ -134,11 +133,6 @@ module _ (t : Tenant) (n : ℕ) (o : Object) (f : Field) (there : object_at t n 
     suits : IsTrue (suits_flags f)
     suits = both_so (implies f.unique (suits_unique f.kind)) (implies f.indexed (suits_indexed f.kind)) field_sound.unique field_sound.indexed
 
-    formed : (org s : ℕ) → IsTrue (is_formed (row_with org n 0 s f))
-    formed org s =
-        both_so (is_custom_name f.name) (is_type f.kind && in_case f.child true is_child_name) field_sound.name
-        (both_so (is_type f.kind) (in_case f.child true is_child_name) field_sound.kind field_sound.child_name)
-
     -- ---- the rows that change
 
     module _ (org : ℕ) (p : OrgPlan) (s : ℕ) (low : org < 2 ^ 32) where
@@ -187,6 +181,11 @@ module _ (t : Tenant) (n : ℕ) (o : Object) (f : Field) (there : object_at t n 
       field_is : FieldFits → FitsPlan plan next → IsOf org plan next (field_change old_row (row_with org n 0 s f))
       field_is fits good =
           put_is_of field_form org plan next (row_with org n place s f) (subst (FitsForm field_form) field_row (fits org plan next n place (widen o) f low sound good there_then last_field)) refl field_there
+
+      spelled : FieldFits → FitsPlan plan next → IsSpelled f
+      spelled fits good =
+          let h = (fits org plan next n place (widen o) f low sound good there_then last_field).1 in
+          record { name = h.0; kind = h.1.0; child = h.1.1.1.1 }
 
 -- ---- a request that isn't refused
 
@@ -293,10 +292,15 @@ module _ (tenants : TenantSound) (fields : FieldSound) (p : Plan) (m : Tables) (
 
   -- ---- failures
 
-  pub row_fails : (after : Tables) (e : StoreFail) → MakesRow ls b (Err e) → EditsIn org (add_field t b) w after (Err (Store e))
-  row_fails after Damaged h = h (layout_of org (p.org org) t it.on) it.target it.named it.targets (formed t n o f it.there sound_next org 0)
-  row_fails after Keeper h = tt
-  row_fails after Memory h = tt
+  pub row_fails : FieldFits → HasFree → PlanFits → org < 2 ^ 32 → (after : Tables) (e : StoreFail) → MakesRow ls b (Err e) → EditsIn org (add_field t b) w after (Err (Store e))
+  row_fails field_fits has plans low after Damaged h =
+      let q = p.org org in
+      let few = few_before t n o f it.there sound_next in
+      let some = has q t.job n o (omega (arith, few)) in
+      let good = plans q t n o f some.0 sound_before (s.plans org t at) it.there some.1 some.2 in
+      h (layout_of org q t it.on) it.target it.named it.targets (spelled t n o f it.there sound_next org q some.0 low field_fits good)
+  row_fails field_fits has plans low after Keeper h = tt
+  row_fails field_fits has plans low after Memory h = tt
 
   pub put_fails : (row : FieldRow) (after : Tables) (e : StoreFail) → MakesRow ls b (Ok row) → PutsField row m after (Err e) → EditsIn org (add_field t b) w after (Err (Store e))
   put_fails row after Damaged makes h =

@@ -5,5 +5,5 @@ mod fields;
 mod objects;
 
 pub use self::access::judge_access;
-pub use self::fields::{child_of, judge_field, target_number};
+pub use self::fields::{judge_field, target_number};
 pub use self::objects::judge_object;

@@ -1,5 +1,5 @@
 -- The rows of a new field and of its object. No public contract reaches these words.
-use Rattle.std.specs.Prelude.{◌≡◌, ℕ, ◌+◌, ◌<◌, Bool, true, ◌&&◌, List, [], ◌∷◌, Option, Some, Result, Ok, Err, IsTrue}
+use Rattle.std.specs.Prelude.{◌≡◌, ℕ, ◌+◌, ◌<◌, List, [], ◌∷◌, Option, Some, Result, Ok, Err, IfSome, IsTrue}
 use Rattle.ut_keeper.specs.Tables.{Tables}
 use Rattle.ut_keys.specs.declared.fail.StoreFail.{StoreFail}
 use Rattle.ut_keys.specs.declared.fail.StoreFail.TheVariants.{Damaged, Keeper, Memory}
@@ -8,18 +8,17 @@ use Rattle.ut_keys.specs.declared.object.ObjectRow.{ObjectRow}
 use Rattle.ut_keys.specs.Forms.{key_of, row_bytes}
 use Rattle.ut_keys.specs.Rows.{field_form, object_form}
 use Rattle.ut_model.specs.declared.metadata_bodies.NewField.{NewField}
-use Rattle.ut_model.specs.Cases.{in_case}
-use Rattle.ut_model.specs.Names.{is_child_name, is_custom_name}
 use Rattle.ut_model.specs.NewFields.{new_field}
 use Rattle.ut_model.specs.Tenant.{Field}
 use Rattle.ut_model.specs.World.{World}
+use Rattle.ut_parts.specs.Composed.{FitsType}
+use Rattle.ut_parts.specs.Plain.{FitsText}
 use Rattle.ut_stands.specs.Changes.{Change, with_changes}
 use Rattle.ut_stands.specs.declared.layout.Layout.{Layout}
 use Rattle.ut_stands.specs.Layouts.{object_row}
 use Rattle.ut_stands.specs.Plan.{Plan}
 use Rattle.ut_stands.specs.Records.{has_free}
 use Rattle.ut_stands.specs.Stands.{StandsBy}
-use Rattle.ut_value.specs.Types.{is_type}
 use Rattle.ut_meta.specs.inner.Relations.{named_in, target_in}
 
 -- ---- the field's row
@@ -38,9 +37,11 @@ row_with org n place s f =
       child = f.child;
     }
 
--- its names have their forms, and its type is within its bounds
-abbrev pub is_formed : FieldRow → Bool
-is_formed r = is_custom_name r.name && (is_type r.kind && in_case r.child true is_child_name)
+-- a row can have its texts and its type
+pub record IsSpelled (f : Field) : Type 0 where
+  pub name : FitsText f.name
+  pub kind : FitsType f.kind
+  pub child : IfSome f.child FitsText
 
 -- the row of this field of the object with this layout, in a free slot if there is one
 pub record IsRowFor (l : Layout) (f : Field) (row : FieldRow) : Type 0 where
@@ -55,7 +56,7 @@ MakesRow ls b (Ok row) =
     → IsRowFor l (new_field target b) row
 MakesRow ls b (Err Damaged) =
     (l : Layout) (target : Option ℕ) → named_in ls b.object ≡ Some l → target_in ls b.kind ≡ Ok target
-    → IsTrue (is_formed (row_with l.org l.object 0 0 (new_field target b))) → ⊥
+    → IsSpelled (new_field target b) → ⊥
 MakesRow ls b (Err Keeper) = ⊥
 MakesRow ls b (Err Memory) = Unit {0}
 

@@ -1,74 +1,40 @@
 //! New fields.
 
-ghost use Rattle.std.specs.Prelude.{◌≡◌, ◌<◌, Some, IfErr, IfOk, IsErrOf, IsTrue, OnOk, is_ok, true};
+ghost use Rattle.std.specs.Prelude.{◌≡◌, ◌≢◌, ◌<◌, Some, IfErr, IfOk, IfSome, IsErrOf, IsTrue, OnOk, is_ok};
 ghost use Rattle.ut_keeper.specs.Draft.{DraftReads, DraftTells, DraftWorks, count_of, state_of, tables_of};
 ghost use Rattle.ut_keeper.specs.State.{KeeperCause, StaysAfter};
-ghost use Rattle.ut_keys.specs.declared.fail.StoreFail.TheVariants.{Keeper};
+ghost use Rattle.ut_keys.specs.declared.fail.StoreFail.TheVariants.{Keeper, Memory};
 ghost use Rattle.ut_keys.specs.Forms.{FitsForm};
 ghost use Rattle.ut_keys.specs.Rows.{field_form};
-ghost use Rattle.ut_meta.specs.inner.FieldRows.{MakesRow, PutsField, is_formed, row_with};
-ghost use Rattle.ut_model.specs.Cases.{in_case};
-ghost use Rattle.ut_model.specs.Names.{is_child_name};
+ghost use Rattle.ut_meta.specs.inner.FieldRows.{IsSpelled, MakesRow, PutsField, row_with};
 ghost use Rattle.ut_model.specs.NewFields.{add_field, child_of, new_field, type_with};
 ghost use Rattle.ut_model.specs.Tenant.{Tenant};
 ghost use Rattle.ut_model.specs.World.{World, tenant_at};
+ghost use Rattle.ut_parts.specs.Composed.{FitsType};
+ghost use Rattle.ut_parts.specs.Plain.{FitsText};
 ghost use Rattle.ut_sound.specs.Fit.{is_fit_field};
 ghost use Rattle.ut_stands.specs.Fails.{IsRefusal, KeeperFailsEdit, is_judged};
 ghost use Rattle.ut_stands.specs.Operations.{EditsIn};
 ghost use Rattle.ut_stands.specs.Stands.{Stands};
 
-use crate::judging::{child_of, judge_field, target_number};
+use crate::edits::copies::{copy_of_text, copy_of_type};
+use crate::judging::{judge_field, target_number};
 use crate::relations::layout_named;
-use crate::rules::copy_of;
 use crate::slots::free_slot;
-use std::alloc::{AllocError, Global};
+use std::alloc::Global;
 use ut_keeper::{Draft, Keeper, draft_laws};
 use ut_keys::{FieldFlags, FieldRow, StoreFail, put};
-use ut_model::{NewField, SpelledType, is_child_name, is_custom_name};
+use ut_model::{NewField, SpelledType};
 use ut_sound::objects_sound;
 use ut_stands::{EditFail, Layout, layouts, metadata_laws, object_row, slot_laws, stands_laws};
-use ut_value::{FieldType, Items, Text, is_type};
-
-// Copies of texts.
-fn copies_of(alloc: Global, texts: &[Text]) -> Result<Items<Text>, AllocError>
-    ensures { IfOk result (λ copies. copies ≡ texts.now) }
-{
-    let mut copies = Items::new(alloc);
-    let mut rest = texts;
-    'texts: while let Some((text, more)) = rest.split_first() {
-        copies.push(copy_of(alloc, text)?)?;
-        rest = more;
-    }
-    Ok(copies)
-}
-
-// A copy of a type.
-fn copy_of_type(alloc: Global, kind: &FieldType) -> Result<FieldType, AllocError>
-    ensures { IfOk result (λ copy. copy ≡ kind.now) }
-{
-    match kind {
-        FieldType::Text(most) => Ok(FieldType::Text(*most)),
-        FieldType::Number { digits, decimals } => Ok(FieldType::Number {
-            digits: *digits,
-            decimals: *decimals,
-        }),
-        FieldType::Checkbox => Ok(FieldType::Checkbox),
-        FieldType::Day => Ok(FieldType::Day),
-        FieldType::Moment => Ok(FieldType::Moment),
-        FieldType::Picklist(values) => {
-            Ok(FieldType::Picklist(copies_of(alloc, values.as_slice())?))
-        }
-        FieldType::Lookup { object, on_delete } => Ok(FieldType::Lookup {
-            object: *object,
-            on_delete: *on_delete,
-        }),
-        FieldType::Master { object } => Ok(FieldType::Master { object: *object }),
-    }
-}
+use ut_value::{FieldType, Text};
 
 // The type of a new field, if a lookup refers to the object with this number.
-fn type_with(alloc: Global, target: u16, kind: &SpelledType) -> Result<FieldType, AllocError>
-    ensures { IfOk result (λ made. made ≡ type_with (Some target) kind.now) }
+fn type_with(alloc: Global, target: u16, kind: &SpelledType) -> Result<FieldType, StoreFail>
+    ensures same { IfOk result (λ made. made ≡ type_with (Some target) kind.now) }
+    ensures fits { IfOk result FitsType }
+    ensures damaged { FitsType (type_with (Some target) kind.now) → IfErr result (λ e. e ≡ Memory) }
+    ensures cause { IfErr result (λ e. e ≢ Keeper) }
 {
     match kind {
         SpelledType::Plain(kind) => copy_of_type(alloc, kind),
@@ -79,31 +45,17 @@ fn type_with(alloc: Global, target: u16, kind: &SpelledType) -> Result<FieldType
     }
 }
 
-// A copy of the child relationship of a lookup.
-fn child_copy(alloc: Global, kind: &SpelledType) -> Result<Option<Text>, AllocError>
-    ensures { IfOk result (λ child. child ≡ child_of kind.now) }
+// The child relationship of a lookup.
+fn copy_of_child(alloc: Global, kind: &SpelledType) -> Result<Option<Text>, StoreFail>
+    ensures same { IfOk result (λ child. child ≡ child_of kind.now) }
+    ensures fits { IfOk result (λ child. IfSome child FitsText) }
+    ensures damaged { IfSome (child_of kind.now) FitsText → IfErr result (λ e. e ≡ Memory) }
+    ensures cause { IfErr result (λ e. e ≢ Keeper) }
 {
-    match child_of(kind) {
-        None => Ok(None),
-        Some(child) => Ok(Some(copy_of(alloc, child)?)),
+    match kind {
+        SpelledType::Plain(_) => Ok(None),
+        SpelledType::LookupTo { child, .. } => Ok(Some(copy_of_text(alloc, child)?)),
     }
-}
-
-// Whether a child relationship, if there is one, has its form.
-fn has_child_form(child: &Option<Text>) -> bool
-    ensures { result ≡ in_case child.now true is_child_name }
-{
-    match child {
-        None => true,
-        Some(child) => is_child_name(child.as_str()),
-    }
-}
-
-// Whether the names of a row have their forms, and its type is within its bounds.
-fn is_formed(row: &FieldRow) -> bool
-    ensures { result ≡ is_formed row.now }
-{
-    is_custom_name(row.name.as_str()) && is_type(&row.kind) && has_child_form(&row.child)
 }
 
 // The row of a new field in this slot, with the number 0. A lookup refers to the object with the number `target`.
@@ -113,23 +65,28 @@ fn row_in_slot(
     slot: u8,
     target: u16,
     new: &NewField,
-) -> Result<FieldRow, AllocError>
-    ensures row { IfOk result (λ row. row ≡ row_with layout.now.org layout.now.object 0 slot (new_field (Some target) new.now)) }
-    ensures fits { IfOk result (λ row. IsTrue (is_formed row) → FitsForm field_form row) }
+) -> Result<FieldRow, StoreFail>
+    ensures same { IfOk result (λ row. row ≡ row_with layout.now.org layout.now.object 0 slot (new_field (Some target) new.now)) }
+    ensures fits { IfOk result (FitsForm field_form) }
+    ensures damaged { IsSpelled (new_field (Some target) new.now) → IfErr result (λ e. e ≡ Memory) }
+    ensures cause { IfErr result (λ e. e ≢ Keeper) }
 {
+    let name = copy_of_text(alloc, &new.name)?;
+    let kind = type_with(alloc, target, &new.kind)?;
+    let child = copy_of_child(alloc, &new.kind)?;
     Ok(FieldRow {
         org: layout.org,
         object: layout.object,
         field: 0,
-        name: copy_of(alloc, &new.name)?,
-        kind: type_with(alloc, target, &new.kind)?,
+        name,
+        kind,
         flags: FieldFlags {
             required: new.required,
             unique: new.unique,
             indexed: new.indexed,
         },
         slot,
-        child: child_copy(alloc, &new.kind)?,
+        child,
     })
 }
 
@@ -146,19 +103,8 @@ fn row_of(alloc: Global, layouts: &[Layout], new: &NewField) -> Result<FieldRow,
         // A lookup to no object is refused.
         return Err(StoreFail::Damaged);
     };
-    let row = row_in_slot(
-        alloc,
-        layout,
-        free_slot(layout),
-        target.unwrap_or(0),
-        new,
-    )?;
-    if is_formed(&row) {
-        Ok(row)
-    } else {
-        // Other names are refused, and no body has another type.
-        Err(StoreFail::Damaged)
-    }
+    let slot = free_slot(layout);
+    row_in_slot(alloc, layout, slot, target.unwrap_or(0), new)
 }
 
 // Puts the row of an object's new field, with the next number, and counts the field in the row of the object.

@@ -23,8 +23,8 @@ use ut_model::{Limit, NewField, Refusal, SpelledType, is_child_name, is_custom_n
 use ut_stands::{FieldPlace, Layout};
 use ut_value::Text;
 
-/// The child relationship of a lookup; other types have none.
-pub fn child_of(kind: &SpelledType) -> Option<&Text>
+// The child relationship of a lookup.
+fn child_of(kind: &SpelledType) -> Option<&Text>
     ensures { MatchOption result (child_of kind.now ≡ None) (λ child. child_of kind.now ≡ Some child.now) }
 {
     match kind {

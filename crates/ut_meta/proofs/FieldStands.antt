@@ -43,7 +43,7 @@ use Rattle.ut_value.specs.Types.{suits_indexed, suits_unique}
 use Rattle.ut_meta.specs.Judging.{layouts_in, refusal_of}
 use Rattle.ut_meta.specs.inner.FieldRows.{IsRowFor, IsSpelled, MakesRow, PutsField, counted_change, field_change, row_with}
 use Rattle.ut_meta.specs.inner.Relations.{named_in, target_in}
-use Rattle.ut_meta.proofs.Edits.{EditedStands, beside, edit_done, eqb_same, named_at, other_field, other_object, some_is, unrefused}
+use Rattle.ut_meta.proofs.Editing.{EditedStands, beside, edit_done, eqb_same, named_at, other_field, other_object, some_is, unrefused}
 use Rattle.ut_meta.proofs.JudgedFields.{on_object, unnamed}
 use Rattle.ut_meta.proofs.Layouts.{named_is}
 use Rattle.ut_meta.proofs.Putting.{put_is_of}

@@ -5,5 +5,6 @@ pub mod Judged
 pub mod JudgedFields
 pub mod Steps
 pub mod Putting
-pub mod Edits
+pub mod Editing
+pub mod AccessEdits
 pub mod FieldStands

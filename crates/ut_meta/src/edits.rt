@@ -1,6 +1,8 @@
 //! An administrator's edits of metadata, over a draft of an organisation's tables.
 
+mod access;
 mod copies;
 mod fields;
 
+pub use self::access::set_access;
 pub use self::fields::add_field;

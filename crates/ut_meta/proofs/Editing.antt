@@ -130,8 +130,8 @@ failed_stays a b e (Ok x) passed = absurd passed
 failed_stays a b e (Err y) passed = subst (λ (z : EditFail). StaysAfter (is_judged {X = Unit {0}} (Err z)) a b) (sym passed) (λ stood judged clean. absurd cc)
 
 -- one call after another that was done
-pub stays_after : (a b c : KeeperState) (done later : Bool) → IsTrue done → Steps b c → StaysAfter done a b → StaysAfter later b c → StaysAfter later a c
-stays_after a b c done later is then first second = λ stood judged clean. second (first stood is (then.was_clean clean)) judged clean
+pub stays_after : (a b c : KeeperState) (was later : Bool) → IsTrue was → Steps b c → StaysAfter was a b → StaysAfter later b c → StaysAfter later a c
+stays_after a b c was later is then first second = λ stood judged clean. second (first stood is (then.was_clean clean)) judged clean
 
 pub was_ok : {X E : Type 0} (r : Result X E) (x : X) → r ≡ Ok x → IsTrue (is_ok r)
 was_ok r x e = ap is_ok e

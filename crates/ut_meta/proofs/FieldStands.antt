@@ -40,7 +40,7 @@ use Rattle.ut_stands.specs.declared.fail.EditFail.{EditFail}
 use Rattle.ut_stands.specs.declared.fail.EditFail.TheVariants.{Store}
 use Rattle.ut_stands.specs.declared.layout.Layout.{Layout}
 use Rattle.ut_value.specs.Types.{suits_indexed, suits_unique}
-use Rattle.ut_meta.specs.Judging.{layouts_in, refusal_of}
+use Rattle.ut_meta.specs.Judging.{AreLayouts, layouts_in, refusal_of}
 use Rattle.ut_meta.specs.inner.FieldRows.{IsRowFor, IsSpelled, MakesRow, PutsField, counted_change, field_change, row_with}
 use Rattle.ut_meta.specs.inner.Relations.{named_in, target_in}
 use Rattle.ut_meta.proofs.Editing.{EditedStands, beside, edit_done, eqb_same, named_at, other_field, other_object, some_is, unrefused}
@@ -238,6 +238,9 @@ module _ (org : ℕ) (p : OrgPlan) (t : Tenant) (b : NewField) (ls : List Layout
 layouts_there : (org : ℕ) (p : Plan) (w : World) (t : Tenant) → tenant_at w org ≡ Some t → layouts_of org p w ≡ layouts_in org (p.org org) t
 unfolding layouts_of
 layouts_there org p w t at = ap (λ (x : Option Tenant). in_case x [] (λ (t : Tenant). map (layout_of org (p.org org) t) (numbered t.objects))) at
+
+pub are_layouts : (org : ℕ) (p : Plan) (w : World) (t : Tenant) (ls : List Layout) → tenant_at w org ≡ Some t → ls ≡ layouts_of org p w → AreLayouts t ls
+are_layouts org p w t ls at are = (org, p.org org, are ∙ layouts_there org p w t at)
 
 module _ (tenants : TenantSound) (fields : FieldSound) (p : Plan) (m : Tables) (w : World) (org : ℕ) (t : Tenant) (b : NewField) (ls : List Layout) (s : StandsBy p m w) (at : tenant_at w org ≡ Some t) (fit : IsTrue (is_fit_field b)) (are : ls ≡ layouts_of org p w) (none : None ≡ refusal_of (add_field t b)) where
   it : IsAccepted org (p.org org) t b ls

@@ -61,12 +61,13 @@ fn copy_of_child(alloc: Global, kind: &SpelledType) -> Result<Option<Text>, Stor
 // The row of a new field in this slot, with the number 0. A lookup refers to the object with the number `target`.
 fn row_in_slot(
     alloc: Global,
-    layout: &Layout,
+    org: u32,
+    object: u16,
     slot: u8,
     target: u16,
     new: &NewField,
 ) -> Result<FieldRow, StoreFail>
-    ensures same { IfOk result (λ row. row ≡ row_with layout.now.org layout.now.object 0 slot (new_field (Some target) new.now)) }
+    ensures same { IfOk result (λ row. row ≡ row_with org object 0 slot (new_field (Some target) new.now)) }
     ensures fits { IfOk result (FitsForm field_form) }
     ensures damaged { IsSpelled (new_field (Some target) new.now) → IfErr result (λ e. e ≡ Memory) }
     ensures cause { IfErr result (λ e. e ≢ Keeper) }
@@ -75,8 +76,8 @@ fn row_in_slot(
     let kind = type_with(alloc, target, &new.kind)?;
     let child = copy_of_child(alloc, &new.kind)?;
     Ok(FieldRow {
-        org: layout.org,
-        object: layout.object,
+        org,
+        object,
         field: 0,
         name,
         kind,
@@ -104,7 +105,8 @@ fn row_of(alloc: Global, layouts: &[Layout], new: &NewField) -> Result<FieldRow,
         return Err(StoreFail::Damaged);
     };
     let slot = free_slot(layout);
-    row_in_slot(alloc, layout, slot, target.unwrap_or(0), new)
+    let target = target.unwrap_or(0);
+    row_in_slot(alloc, layout.org, layout.object, slot, target, new)
 }
 
 // Puts the row of an object's new field, with the next number, and counts the field in the row of the object.

@@ -209,7 +209,7 @@ module _ (org : ℕ) (p : OrgPlan) (t : Tenant) (b : NewField) (ls : List Layout
     Some q.number,
     ap (λ (x : Option Layout). in_case x (unnamed object) (λ (l : Layout). Ok (Some l.object))) (named_is org p t ls are object ∙ ap (option_map (layout_of org p t)) here),
     ap (λ (x : Option Numbered). in_case x (refuse t (InvalidType object)) (λ q. on_object t o b (Some q.number))) here
-    ∙ unrefused (first_refusal (field_rules t o (Some q.number) b)) t (with_field o.number (new_field (Some q.number) b) t) none,
+        ∙ unrefused (first_refusal (field_rules t o (Some q.number) b)) t (with_field o.number (new_field (Some q.number) b) t) none,
   )
 
   with_kind : (o : Numbered) (kind : SpelledType) → None ≡ refusal_of (with_target t kind (on_object t o b))

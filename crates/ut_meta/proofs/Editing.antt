@@ -1,5 +1,5 @@
 -- Edits of one organisation by their verdicts: done, refused or failed.
-use Rattle.std.proofs.Common.{◌≡◌, ◌∙◌, ℕ, zero, suc, ◌+◌, Bool, true, false, ◌&&◌, ◌||◌, cond, eqb, IsTrue, List, [], ◌∷◌, map, Option, Some, None, refl, sym, ap, subst, arith}
+use Rattle.std.proofs.Common.{◌≡◌, ◌∙◌, ℕ, suc, ◌+◌, Bool, true, false, ◌&&◌, ◌||◌, cond, eqb, IsTrue, List, [], ◌∷◌, map, Option, Some, None, refl, sym, ap, subst, arith}
 use Rattle.std.specs.Prelude.{Result, Ok, Err, IsErrAnd, IsErrOf, is_ok, slice_get}
 use Rattle.std.specs.List.{AllByRecursion, enumerate_from, find}
 use Rattle.std.proofs.lemmas.Bool.{eqb-false}
@@ -11,7 +11,7 @@ use Rattle.ut_keys.specs.declared.fail.StoreFail.{StoreFail}
 use Rattle.ut_keys.specs.declared.fail.StoreFail.TheVariants.{Damaged, Keeper, Memory}
 use Rattle.ut_model.specs.declared.refusal.Refusal.{Refusal}
 use Rattle.ut_model.specs.Fields.{same_name}
-use Rattle.ut_model.specs.Objects.{Numbered, numbered, object_at, object_named}
+use Rattle.ut_model.specs.Objects.{Numbered, object_at, object_named}
 use Rattle.ut_model.specs.Rules.{Rule}
 use Rattle.ut_model.specs.Sound.{IsSound}
 use Rattle.ut_model.specs.Tenant.{Object, Tenant}
@@ -25,7 +25,7 @@ use Rattle.ut_stands.specs.Plan.{FitsPlan, OrgPlan, Plan, with_plan}
 use Rattle.ut_stands.specs.Records.{is_field_key, is_object_key, is_org_key}
 use Rattle.ut_stands.specs.Stands.{Stands, StandsBy, owner_of, row_in}
 use Rattle.ut_stands.specs.declared.fail.EditFail.{EditFail}
-use Rattle.ut_stands.specs.declared.fail.EditFail.TheVariants.{Refused, Store}
+use Rattle.ut_stands.specs.declared.fail.EditFail.TheVariants.{Store}
 use Rattle.ut_meta.specs.Judging.{refusal_of, refused}
 use Rattle.ut_meta.proofs.Lists.{pick}
 
@@ -130,8 +130,8 @@ failed_stays a b e (Ok x) passed = absurd passed
 failed_stays a b e (Err y) passed = subst (λ (z : EditFail). StaysAfter (is_judged {X = Unit {0}} (Err z)) a b) (sym passed) (λ stood judged clean. absurd cc)
 
 -- one call after another that was done
-pub stays_after : (a b c : KeeperState) (was later : Bool) → IsTrue was → Steps b c → StaysAfter was a b → StaysAfter later b c → StaysAfter later a c
-stays_after a b c was later is then first second = λ stood judged clean. second (first stood is (then.was_clean clean)) judged clean
+pub stays_after : (a b c : KeeperState) (first later : Bool) → IsTrue first → Steps b c → StaysAfter first a b → StaysAfter later b c → StaysAfter later a c
+stays_after a b c first later is then stayed stays = λ stood judged clean. stays (stayed stood is (then.was_clean clean)) judged clean
 
 pub was_ok : {X E : Type 0} (r : Result X E) (x : X) → r ≡ Ok x → IsTrue (is_ok r)
 was_ok r x e = ap is_ok e

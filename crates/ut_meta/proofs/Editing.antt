@@ -29,7 +29,7 @@ use Rattle.ut_stands.specs.declared.fail.EditFail.TheVariants.{Store}
 use Rattle.ut_meta.specs.Judging.{refusal_of, refused}
 use Rattle.ut_meta.proofs.Lists.{pick}
 
-some_is : {A : Type 0} (x y : A) → ◌≡◌ {A = Option A} (Some x) (Some y) → x ≡ y
+pub some_is : {A : Type 0} (x y : A) → ◌≡◌ {A = Option A} (Some x) (Some y) → x ≡ y
 some_is x y e = cc
 
 -- ---- done
@@ -138,7 +138,7 @@ was_ok r x e = ap is_ok e
 
 -- ---- keys of the organisation beside those of the changes
 
-eqb_same : (n : ℕ) → eqb n n ≡ true
+pub eqb_same : (n : ℕ) → eqb n n ≡ true
 eqb_same n = pick (eqb n n) (λ b. b ≡ true) (λ h. refl) (λ h. absurd (eqb-false n n h refl))
 
 both_false : (a b : Bool) → a ≡ true → (a && b) ≡ false → b ≡ false

@@ -147,6 +147,11 @@ accepts a object o e =
     ap (λ x. in_case x (refuse a.tenant (refusal.InvalidType object)) (λ o. judged a.tenant (query_rules a.tenant o.number q) (accept (rows_of q) a.tenant))) e
     ∙ ap (λ x. unless x a.tenant (accept (rows_of q) a.tenant)) rules
 
+pub refuses : (a : Asked) (object : List ℕ) → object_named a.tenant object ≡ None → ask a (names_query object) ≡ refuse a.tenant (refusal.InvalidType object)
+refuses a object e =
+    let q = names_query object in
+    ap (λ x. in_case x (refuse a.tenant (refusal.InvalidType object)) (λ o. judged a.tenant (query_rules a.tenant o.number q) (accept (rows_of q) a.tenant))) e
+
 -- ---- the body
 
 pub body_is : (a : Asked) (object : List ℕ) (o : Numbered) → IsSound a.tenant → a.user.admin ≡ true → object_named a.tenant object ≡ Some o

@@ -1,0 +1,7 @@
+//! An administrator's edits of metadata, over a draft of an organisation's tables.
+
+mod access;
+mod objects;
+
+pub use self::access::set_access;
+pub use self::objects::add_object;

@@ -11,11 +11,10 @@ use Rattle.ut_model.specs.Replies.{reply_of}
 use Rattle.ut_model.specs.Verdict.{Verdict}
 use Rattle.ut_model.specs.World.{World}
 use Rattle.ut_stands.specs.Fails.{IsRefusal, KeeperFailsEdit, is_judged}
-use Rattle.ut_stands.specs.Operations.{IsChange, RepliesIn}
+use Rattle.ut_stands.specs.Operations.{IsChange, IsSame, RepliesIn}
 use Rattle.ut_stands.specs.declared.fail.EditFail.{EditFail}
 use Rattle.ut_stands.specs.declared.fail.EditFail.TheVariants.{Refused, Store}
 use Rattle.ut_stands.specs.declared.judged.Judged.{Judged}
-use Rattle.ut_admin.specs.Administration.{IsSame}
 use Rattle.ut_admin.specs.inner.Edits.{EditsFrom, reply_to}
 
 abbrev Edit : Type 0

@@ -1,7 +1,7 @@
 //! The replies to edits.
 
 ghost use Rattle.std.specs.Prelude.{◌≡◌, ◌⊎◌, [], Err, IfOk};
-ghost use Rattle.ut_admin.specs.Administration.{HasForm};
+ghost use Rattle.ut_admin.specs.Administration.{IsEditReply};
 ghost use Rattle.ut_admin.specs.inner.Edits.{reply_to};
 ghost use Rattle.ut_keys.specs.declared.fail.StoreFail.TheVariants.{Memory};
 ghost use Rattle.ut_model.specs.Replies.{json_reply};
@@ -32,7 +32,7 @@ pub(crate) fn reply_to(
     edit: Result<(), EditFail>,
 ) -> Result<Judged<Reply>, StoreFail>
     ensures value { (result ≡ reply_to edit) ⊎ (result ≡ Err Memory) }
-    ensures form { IfOk result HasForm }
+    ensures form { IfOk result IsEditReply }
 {
     match edit {
         Ok(()) => Ok(Judged::Changed(done_reply(alloc))),

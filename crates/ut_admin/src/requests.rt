@@ -1,7 +1,7 @@
 //! An administrator's request over a draft.
 
 ghost use Rattle.std.specs.Prelude.{◌≡◌, ◌<◌, IfOk, IsErrOf, Some, is_ok};
-ghost use Rattle.ut_admin.specs.Administration.{HasForm, IsSame};
+ghost use Rattle.ut_admin.specs.Administration.{IsEditReply};
 ghost use Rattle.ut_keeper.specs.Draft.{DraftReads, DraftTells, DraftWorks, count_of, state_of, tables_of};
 ghost use Rattle.ut_keeper.specs.State.{KeeperCause, StaysAfter};
 ghost use Rattle.ut_keys.specs.declared.fail.StoreFail.TheVariants.{Keeper};
@@ -9,7 +9,7 @@ ghost use Rattle.ut_model.specs.Built.{built_request};
 ghost use Rattle.ut_model.specs.Paths.{Asked};
 ghost use Rattle.ut_model.specs.RequestOf.{verdict_or};
 ghost use Rattle.ut_model.specs.World.{World, tenant_at};
-ghost use Rattle.ut_stands.specs.Operations.{IsChange, RepliesIn};
+ghost use Rattle.ut_stands.specs.Operations.{IsChange, IsSame, RepliesIn};
 ghost use Rattle.ut_stands.specs.Stands.{Stands};
 
 use crate::edits::edit;
@@ -38,7 +38,7 @@ pub fn administer<K: Keeper>(
         → (w : World) (a : Asked) → Stands (tables_of K.state draft.old) w → tenant_at w org ≡ Some a.tenant
         → RepliesIn org a (verdict_or a (built_request route.now body.now)) w (tables_of K.state draft.new) result }
     ensures changing { IsChange result → 0 < count_of draft.new }
-    ensures form { IfOk result HasForm }
+    ensures form { IfOk result IsEditReply }
     ensures same { IsSame result → DraftReads K.state 0 draft.old draft.new }
     ensures works { DraftWorks K.state 3 0 0 draft.old draft.new }
     ensures stays { StaysAfter (is_ok result) (state_of K.state draft.old) (state_of K.state draft.new) }

@@ -11,3 +11,4 @@ mod Computing
 mod Within
 mod Requesting
 mod Alone
+mod BuiltRequests

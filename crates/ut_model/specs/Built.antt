@@ -1,5 +1,6 @@
--- The step of the world by the routes that are built: the replies that are made, and what becomes of the world. It is as the whole
--- step (Whole) on these; a request of any other route, and what needs rows that aren't written yet, is refused with NOT_BUILT.
+-- The step of the world by the routes that are built: the replies that are made, and what becomes of the world. What is built has
+-- the verdicts of the whole step (Whole); a request of any other route, and what needs rows that aren't written yet, is refused
+-- with NOT_BUILT. No step of a change of a type is made yet, as no request begins one.
 -- Source of the query: Salesforce, REST API, "Query". What is built is this product's own.
 use Rattle.std.specs.Prelude.{ℕ, pos, Bool, true, false, not, ◌&&◌, ◌||◌, if◌then◌else◌, List, [], ◌∷◌, codes, Option, Some, None, Result, Ok, Err}
 use Rattle.ut_query.specs.Asking.{asked_object}

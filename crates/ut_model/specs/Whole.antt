@@ -1,4 +1,4 @@
--- The step of the world by all routes, and the replies to messages one after the other. Step has the routes that are built.
+-- The step of the world by all routes, and the replies to messages one after the other. Built has the routes that are built.
 -- Source: this product's own.
 use Rattle.std.specs.Prelude.{ℕ, pos, Bool, false, ◌==◌, List, [], ◌∷◌, map, filter, Option, Some, None}
 use Rattle.ut_model.specs.declared.refusal.Refusal.TheVariants.{InvalidSession}

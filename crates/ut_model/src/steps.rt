@@ -1,15 +1,18 @@
 //! What holds of the step of the world, for the layers above.
 
-ghost use Rattle.std.specs.Prelude.{◌≡◌, ◌≢◌, ℕ, List, ◌∷◌, [], IsSome, Option, Some, None, codes};
+ghost use Rattle.std.specs.Prelude.{◌≡◌, ◌≢◌, ℕ, List, ◌∷◌, [], IsSome, Option, Some, None, Ok, codes};
 ghost use Rattle.sha2.specs.Sha256.{sha256};
 ghost use Rattle.ut_model.specs.declared.caller.Caller.{Caller};
 ghost use Rattle.ut_model.specs.declared.refusal.Refusal.TheVariants as refusal;
 ghost use Rattle.ut_model.specs.declared.reply.Reply.{Reply};
+ghost use Rattle.ut_model.specs.declared.route.Route.{Route};
 ghost use Rattle.ut_model.specs.declared.route.Route.TheVariants as route;
 ghost use Rattle.ut_model.specs.declared.routed.Routed.TheVariants.{To, NotFound, NotAllowed};
 ghost use Rattle.ut_model.specs.Organisations.{with_org};
+ghost use Rattle.ut_model.specs.RequestOf.{ReadsQuery, request_of};
+ghost use Rattle.ut_model.specs.Requests.{Request};
 ghost use Rattle.ut_model.specs.Routing.{routed};
-ghost use Rattle.ut_model.specs.Built.{answer_built, answered, asking, step};
+ghost use Rattle.ut_model.specs.Built.{answer_built, answered, asking, built_request, step};
 ghost use Rattle.ut_model.specs.Callers.{IsUser};
 ghost use Rattle.ut_model.specs.Step.{Answering, Message, caller_by, in_org, org_named, query_text, refusal_reply, step_by};
 ghost use Rattle.ut_model.specs.Tenant.{Tenant, User};
@@ -23,6 +26,10 @@ pub fn step_laws()
         → step w m now ≡ in_org w c.org (answered c m now) }
     ensures uncalled { (w : World) (m : Message) (now : ℕ) → caller_by w m ≡ None
         → step w m now ≡ (refusal_reply refusal.InvalidSession, w) }
+
+    // What is built is the request of the whole step, however queries are read.
+    ensures built { (query_in : ReadsQuery) (r : Route) (body : List ℕ) (x : Request) → built_request r body ≡ Ok x
+        → request_of query_in r body ≡ Ok x }
 
     // A caller is a user of an organisation, and the message is answered as this user's.
     ensures user { (w : World) (m : Message) (c : Caller) → caller_by w m ≡ Some c → (t : Tenant) × (u : User) × IsUser w c t u }

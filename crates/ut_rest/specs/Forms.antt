@@ -7,6 +7,6 @@ use Rattle.ut_stands.specs.declared.judged.Judged.{Judged}
 use Rattle.ut_stands.specs.declared.judged.Judged.TheVariants.{Changed, Same}
 
 -- what changes nothing is refused, or answered by 200; a change is answered by 204 without a body
-abbrev pub HasForm : Judged Reply → Type 0
-HasForm (Same r) = IsTrue (is_refusal_status r.status) ⊎ (r.status ≡ 200)
-HasForm (Changed r) = (r.status ≡ 204) × (r.body ≡ [])
+abbrev pub IsRequestReply : Judged Reply → Type 0
+IsRequestReply (Same r) = IsTrue (is_refusal_status r.status) ⊎ (r.status ≡ 200)
+IsRequestReply (Changed r) = (r.status ≡ 204) × (r.body ≡ [])

@@ -14,7 +14,7 @@ ghost use Rattle.ut_model.specs.Paths.{Asked};
 ghost use Rattle.ut_model.specs.Step.{query_text};
 ghost use Rattle.ut_model.specs.World.{World, tenant_at};
 ghost use Rattle.ut_query.specs.Asking.{asked_object};
-ghost use Rattle.ut_rest.specs.Forms.{HasForm};
+ghost use Rattle.ut_rest.specs.Forms.{IsRequestReply};
 ghost use Rattle.ut_rest.specs.inner.Answers.{Refuses, names_reply};
 ghost use Rattle.ut_stands.specs.Layouts.{FindsOf, records_after};
 ghost use Rattle.ut_stands.specs.Operations.{IsChange, RepliesIn};
@@ -36,7 +36,7 @@ use ut_value::Text;
 // The reply that has the ids and names of these records, unless it is too large.
 fn names_reply(alloc: Global, object: &str, records: &[Record]) -> Result<Reply, AllocError>
     ensures value { IfOk result (λ r. r ≡ names_reply (chars object.now) records.now) }
-    ensures form { IfOk result (λ r. HasForm (Same r)) }
+    ensures form { IfOk result (λ r. IsRequestReply (Same r)) }
 {
     let body = names_body(alloc, object, records)?;
     unless_too_large(alloc, Reply { status: 200, body })
@@ -52,7 +52,7 @@ fn reply_of<K: Keeper>(
         → FindsOf layout.now (λ w. names_reply layout.now.name
         (records_after layout.now.org layout.now.object None (limit_number limit.RecordsPerObject) w))
         (tables_of K.state draft.old) result }
-    ensures form { IfOk result (λ r. HasForm (Same r)) }
+    ensures form { IfOk result (λ r. IsRequestReply (Same r)) }
     ensures reads { DraftReads K.state (limit_number limit.RecordsPerObject + removals_of K.state data_table draft.old) draft.old draft.new }
     ensures stays { StaysAfter (is_ok result) (state_of K.state draft.old) (state_of K.state draft.new) }
     ensures cause { KeeperCause (state_of K.state draft.old) (state_of K.state draft.new) (IsErrOf result Keeper) }
@@ -77,7 +77,7 @@ fn answer_names<K: Keeper>(
     ensures judged { DraftTells K.state draft.old draft.new
         → (w : World) (a : Asked) → Stands (tables_of K.state draft.old) w → tenant_at w org ≡ Some a.tenant → a.user.admin ≡ true
         → RepliesIn org a (ask a (names_query object)) w (tables_of K.state draft.new) result }
-    ensures form { IfOk result HasForm }
+    ensures form { IfOk result IsRequestReply }
     ensures unchanging { IsChange result → ⊥ }
     ensures reads { DraftReads K.state (limit_number limit.RecordsPerObject + removals_of K.state data_table draft.old) draft.old draft.new }
     ensures stays { StaysAfter (is_ok result) (state_of K.state draft.old) (state_of K.state draft.new) }
@@ -107,7 +107,7 @@ fn object_in(alloc: Global, pairs: &Text) -> Result<Option<Text>, AllocError>
 // Queries for anything else, and of who is no administrator, aren't built.
 fn refuse_query(alloc: Global) -> Result<Judged<Reply>, StoreFail>
     ensures value { Refuses (NotBuilt (codes "query")) result }
-    ensures form { IfOk result HasForm }
+    ensures form { IfOk result IsRequestReply }
 {
     match Text::from_str(alloc, "query") {
         Ok(what) => refuse(alloc, Refusal::NotBuilt { what }),
@@ -131,7 +131,7 @@ pub(crate) fn answer_query<K: Keeper>(
         → (w : World) (a : Asked) → Stands (tables_of K.state draft.old) w → tenant_at w caller.now.org ≡ Some a.tenant
         → a.user.admin ≡ caller.now.admin
         → RepliesIn caller.now.org a (names_verdict a (asked_object (query_text pairs.now))) w (tables_of K.state draft.new) result }
-    ensures form { IfOk result HasForm }
+    ensures form { IfOk result IsRequestReply }
     ensures unchanging { IsChange result → ⊥ }
     ensures reads { DraftReads K.state (limit_number limit.RecordsPerObject + removals_of K.state data_table draft.old) draft.old draft.new }
     ensures stays { StaysAfter (is_ok result) (state_of K.state draft.old) (state_of K.state draft.new) }

@@ -2,7 +2,7 @@
 
 ghost use Rattle.std.specs.Prelude.{◌≡◌, IfOk};
 ghost use Rattle.ut_model.specs.Replies.{unless_too_large};
-ghost use Rattle.ut_rest.specs.Forms.{HasForm};
+ghost use Rattle.ut_rest.specs.Forms.{IsRequestReply};
 ghost use Rattle.ut_rest.specs.inner.Answers.{Refuses};
 ghost use Rattle.ut_stands.specs.declared.judged.Judged.TheVariants.{Same};
 
@@ -21,7 +21,7 @@ const MOST_BYTES: usize = 16_777_216;
 /// `Memory` if out of memory.
 pub(crate) fn refuse(alloc: Global, refusal: Refusal) -> Result<Judged<Reply>, StoreFail>
     ensures value { Refuses refusal result }
-    ensures form { IfOk result HasForm }
+    ensures form { IfOk result IsRequestReply }
 {
     match refusal.reply(alloc) {
         Ok(reply) => Ok(Judged::Same(reply)),
@@ -36,7 +36,7 @@ pub(crate) fn refuse(alloc: Global, refusal: Refusal) -> Result<Judged<Reply>, S
 /// When out of memory.
 pub(crate) fn unless_too_large(alloc: Global, reply: Reply) -> Result<Reply, AllocError>
     ensures value { IfOk result (λ r. r ≡ unless_too_large reply) }
-    ensures form { HasForm (Same reply) → IfOk result (λ r. HasForm (Same r)) }
+    ensures form { IsRequestReply (Same reply) → IfOk result (λ r. IsRequestReply (Same r)) }
 {
     if reply.body.as_slice().len() > MOST_BYTES {
         Refusal::ReplyTooLarge.reply(alloc)

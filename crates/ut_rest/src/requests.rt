@@ -2,7 +2,7 @@
 
 ghost use Rattle.std.specs.Prelude.{◌≡◌, ◌&&◌, ◌+◌, ◌<◌, ℕ, IfOk, IsErrOf, Some, is_ok, not};
 ghost use Rattle.std.specs.Str.{chars};
-ghost use Rattle.ut_keeper.specs.Draft.{DraftTells, DraftWorks, count_of, removals_of, state_of, tables_of};
+ghost use Rattle.ut_keeper.specs.Draft.{DraftReads, DraftTells, DraftWorks, count_of, removals_of, state_of, tables_of};
 ghost use Rattle.ut_keeper.specs.State.{KeeperCause, StaysAfter, data_table};
 ghost use Rattle.ut_keys.specs.declared.fail.StoreFail.TheVariants.{Keeper};
 ghost use Rattle.ut_model.specs.declared.limit.Limit.TheVariants as limit;
@@ -14,8 +14,8 @@ ghost use Rattle.ut_model.specs.Paths.{Asked};
 ghost use Rattle.ut_model.specs.Routing.{is_administration, routed};
 ghost use Rattle.ut_model.specs.Tenant.{Tenant, User};
 ghost use Rattle.ut_model.specs.World.{World, tenant_at};
-ghost use Rattle.ut_rest.specs.Forms.{HasForm};
-ghost use Rattle.ut_stands.specs.Operations.{IsChange, RepliesIn};
+ghost use Rattle.ut_rest.specs.Forms.{IsRequestReply};
+ghost use Rattle.ut_stands.specs.Operations.{IsChange, IsSame, RepliesIn};
 ghost use Rattle.ut_stands.specs.Stands.{Stands};
 
 use crate::names::answer_query;
@@ -47,8 +47,9 @@ fn answer<K: Keeper>(
         → (w : World) (a : Asked) → Stands (tables_of K.state draft.old) w → tenant_at w caller.now.org ≡ Some a.tenant
         → a.user.admin ≡ caller.now.admin
         → RepliesIn caller.now.org a (verdict_to a body.now (To route.now)) w (tables_of K.state draft.new) result }
-    ensures form { IfOk result HasForm }
+    ensures form { IfOk result IsRequestReply }
     ensures changing { IsChange result → 0 < count_of draft.new }
+    ensures same { IsSame result → DraftReads K.state (limit_number limit.RecordsPerObject + removals_of K.state data_table draft.old) draft.old draft.new }
     ensures works { DraftWorks K.state 3 0 (limit_number limit.RecordsPerObject + removals_of K.state data_table draft.old) draft.old draft.new }
     ensures stays { StaysAfter (is_ok result) (state_of K.state draft.old) (state_of K.state draft.new) }
     ensures cause { KeeperCause (state_of K.state draft.old) (state_of K.state draft.new) (IsErrOf result Keeper) }
@@ -83,8 +84,9 @@ pub fn respond<K: Keeper>(
         → (w : World) (t : Tenant) (u : User) (now : ℕ) → Stands (tables_of K.state draft.old) w → IsUser w caller.now t u
         → RepliesIn caller.now.org (asking t now u) (verdict_to (asking t now u) body.now (routed (chars method.now) (chars target.now))) w
         (tables_of K.state draft.new) result }
-    ensures form { IfOk result HasForm }
+    ensures form { IfOk result IsRequestReply }
     ensures changing { IsChange result → 0 < count_of draft.new }
+    ensures same { IsSame result → DraftReads K.state (limit_number limit.RecordsPerObject + removals_of K.state data_table draft.old) draft.old draft.new }
     ensures works { DraftWorks K.state 3 0 (limit_number limit.RecordsPerObject + removals_of K.state data_table draft.old) draft.old draft.new }
     ensures stays { StaysAfter (is_ok result) (state_of K.state draft.old) (state_of K.state draft.new) }
     ensures cause { KeeperCause (state_of K.state draft.old) (state_of K.state draft.new) (IsErrOf result Keeper) }

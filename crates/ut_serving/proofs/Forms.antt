@@ -48,7 +48,7 @@ found_form r e = subst (Form r) (sym e) (refl, λ w. absurd (omega (arith, w)))
 done_form : (r : Reply) → r.status ≡ 204 → r.body ≡ [] → HasForm r
 done_form r e empty = subst (Form r) (sym e) (refl, λ w. empty)
 
-pub judged_form : (j : Judged Reply) → rest.HasForm j → JudgedForm j
+pub judged_form : (j : Judged Reply) → rest.IsRequestReply j → JudgedForm j
 judged_form (Same r) (inl h) = refusal_form r h
 judged_form (Same r) (inr e) = found_form r e
 judged_form (Changed r) h = done_form r h.0 h.1

@@ -53,6 +53,12 @@ IsChange (Ok (Same x)) = ⊥
 IsChange (Ok (Changed x)) = Unit {0}
 IsChange (Err e) = ⊥
 
+-- judging found that nothing is to be changed
+abbrev pub IsSame : {X : Type 0} → Result (Judged X) StoreFail → Type 0
+IsSame (Ok (Same x)) = Unit {0}
+IsSame (Ok (Changed x)) = ⊥
+IsSame (Err e) = ⊥
+
 -- what judging returned, changes or none
 abbrev pub Returns : {X : Type 0} → Result (Judged X) StoreFail → X → Type 0
 Returns (Ok (Same x)) y = y ≡ x

@@ -1,0 +1,26 @@
+-- What is built is the request of the whole step.
+use Rattle.std.proofs.Common.{◌≡◌, ℕ, Bool, true, false, cond, List, ap}
+use Rattle.std.specs.Prelude.{Result, Ok, Err}
+use Rattle.ut_model.specs.declared.refusal.Refusal.{Refusal}
+use Rattle.ut_model.specs.declared.refusal.Refusal.TheVariants.{NotBuilt}
+use Rattle.ut_model.specs.declared.route.Route.{Route}
+use Rattle.ut_model.specs.declared.route.Route.TheVariants as route
+use Rattle.ut_model.specs.Built.{built_request, needs_index, no_query, when_built}
+use Rattle.ut_model.specs.RequestOf.{ReadsQuery, request_of}
+use Rattle.ut_model.specs.Requests.{Request}
+use Rattle.std.specs.Prelude.{codes}
+
+by_flag : (b : Bool) (r : Refusal) (y x : Request) → cond b (Err r) (Ok y) ≡ Ok x → y ≡ x
+by_flag true r y x e = absurd cc
+by_flag false r y x e = cc
+
+read_so : (request : Result Request Refusal) (x : Request) → when_built request ≡ Ok x → request ≡ Ok x
+read_so (Err r) x e = absurd cc
+read_so (Ok y) x e = ap (λ q. Ok q) (by_flag (needs_index y) (NotBuilt (codes "flag")) y x e)
+
+pub built : (query_in : ReadsQuery) (r : Route) (body : List ℕ) (x : Request) → built_request r body ≡ Ok x → request_of query_in r body ≡ Ok x
+unfolding request_of
+built query_in route.AddObject body x e = read_so (request_of no_query route.AddObject body) x e
+built query_in (route.SetObject object) body x e = read_so (request_of no_query (route.SetObject object) body) x e
+built query_in route.AddField body x e = read_so (request_of no_query route.AddField body) x e
+built query_in _ body x e = absurd cc

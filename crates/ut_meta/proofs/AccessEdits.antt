@@ -139,7 +139,7 @@ access_done edited rows described fits sound m after w org t name access found r
     let next : ObjectRow = object_of org u n x in
     let row_is : row ≡ object_of org t n o.object = some_row row (object_of org t n o.object) (sym some ∙ h.is ∙ there_is org n p w t o.object at at_n) in
     let put_is : after ≡ with_changes (put_of object_form next ∷ []) m =
-      made ∙ ap (λ (r : ObjectRow). with_changes (put_of object_form (record r { access = access }) ∷ []) m) row_is in
+    made ∙ ap (λ (r : ObjectRow). with_changes (put_of object_form (record r { access = access }) ∷ []) m) row_is in
     edit_done edited p m after w org t u q v (put_of object_form next ∷ []) s at is sound_v
     (described q t n (λ x. record x { access = access }) (s.plans org t at) (λ x. refl))
     (put_is_of object_form org q u next (fits org u n x small sound_u at_u) refl (own_row q u org n x at_u), tt)

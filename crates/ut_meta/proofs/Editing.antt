@@ -1,5 +1,5 @@
 -- Edits of one organisation by their verdicts: done, refused or failed.
-use Rattle.std.proofs.Common.{◌≡◌, ◌∙◌, ℕ, zero, suc, ◌+◌, Bool, true, false, ◌&&◌, ◌||◌, cond, eqb, IsTrue, List, [], ◌∷◌, map, Option, Some, None, refl, sym, ap, subst, arith}
+use Rattle.std.proofs.Common.{◌≡◌, ◌∙◌, ℕ, suc, ◌+◌, Bool, true, false, ◌&&◌, ◌||◌, cond, eqb, IsTrue, List, [], ◌∷◌, map, Option, Some, None, refl, sym, ap, subst, arith}
 use Rattle.std.specs.Prelude.{Result, Ok, Err, IsErrAnd, IsErrOf, is_ok, slice_get}
 use Rattle.std.specs.List.{AllByRecursion, enumerate_from, find}
 use Rattle.std.proofs.lemmas.Bool.{eqb-false}
@@ -11,7 +11,7 @@ use Rattle.ut_keys.specs.declared.fail.StoreFail.{StoreFail}
 use Rattle.ut_keys.specs.declared.fail.StoreFail.TheVariants.{Damaged, Keeper, Memory}
 use Rattle.ut_model.specs.declared.refusal.Refusal.{Refusal}
 use Rattle.ut_model.specs.Fields.{same_name}
-use Rattle.ut_model.specs.Objects.{Numbered, numbered, object_at, object_named}
+use Rattle.ut_model.specs.Objects.{Numbered, object_at, object_named}
 use Rattle.ut_model.specs.Rules.{Rule}
 use Rattle.ut_model.specs.Sound.{IsSound}
 use Rattle.ut_model.specs.Tenant.{Object, Tenant}
@@ -25,11 +25,11 @@ use Rattle.ut_stands.specs.Plan.{FitsPlan, OrgPlan, Plan, with_plan}
 use Rattle.ut_stands.specs.Records.{is_field_key, is_object_key, is_org_key}
 use Rattle.ut_stands.specs.Stands.{Stands, StandsBy, owner_of, row_in}
 use Rattle.ut_stands.specs.declared.fail.EditFail.{EditFail}
-use Rattle.ut_stands.specs.declared.fail.EditFail.TheVariants.{Refused, Store}
+use Rattle.ut_stands.specs.declared.fail.EditFail.TheVariants.{Store}
 use Rattle.ut_meta.specs.Judging.{refusal_of, refused}
 use Rattle.ut_meta.proofs.Lists.{pick}
 
-some_is : {A : Type 0} (x y : A) → ◌≡◌ {A = Option A} (Some x) (Some y) → x ≡ y
+pub some_is : {A : Type 0} (x y : A) → ◌≡◌ {A = Option A} (Some x) (Some y) → x ≡ y
 some_is x y e = cc
 
 -- ---- done
@@ -138,7 +138,7 @@ was_ok r x e = ap is_ok e
 
 -- ---- keys of the organisation beside those of the changes
 
-eqb_same : (n : ℕ) → eqb n n ≡ true
+pub eqb_same : (n : ℕ) → eqb n n ≡ true
 eqb_same n = pick (eqb n n) (λ b. b ≡ true) (λ h. refl) (λ h. absurd (eqb-false n n h refl))
 
 both_false : (a b : Bool) → a ≡ true → (a && b) ≡ false → b ≡ false

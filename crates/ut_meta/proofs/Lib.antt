@@ -9,3 +9,4 @@ pub mod Editing
 pub mod AccessEdits
 pub mod NewObjects
 pub mod ObjectEdits
+pub mod FieldStands

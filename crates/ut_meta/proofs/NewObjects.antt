@@ -1,7 +1,7 @@
 -- A new object: the rows that it changes are those of the tenant after it, and tables with them stand for the world with it.
-use Rattle.std.proofs.Common.{◌≡◌, ◌∙◌, ℕ, zero, suc, ◌+◌, ◌<◌, ◌≤◌, ◌^◌, Bool, true, false, ◌&&◌, ◌||◌, cond, eqb, IsTrue, List, [], ◌∷◌, ◌++◌, length, Option, Some, None, refl, sym, ap, subst, arith, length-append}
-use Rattle.std.specs.Prelude.{IfSome, Result, Ok, Err, bytes_eq, codes, filter, is_some, map, slice_get}
-use Rattle.std.specs.List.{AllByRecursion, list_any}
+use Rattle.std.proofs.Common.{◌≡◌, ◌∙◌, ℕ, ◌+◌, ◌<◌, ◌≤◌, ◌^◌, Bool, true, false, ◌&&◌, cond, eqb, IsTrue, List, [], ◌∷◌, ◌++◌, length, Option, Some, None, refl, sym, ap, subst, arith, length-append}
+use Rattle.std.specs.Prelude.{IfSome, Ok, codes, filter, is_some, map, slice_get}
+use Rattle.std.specs.List.{AllByRecursion}
 use Rattle.std.specs.Option.{option_and_then, option_map}
 use Rattle.std.proofs.lemmas.Bool.{eqb-false, eqb-true}
 use Rattle.ut_keeper.specs.Tables.{Tables}
@@ -25,22 +25,20 @@ use Rattle.ut_model.specs.Rules.{Rule, first_refusal, in_body_order, over_limit}
 use Rattle.ut_model.specs.Sound.{IsSound}
 use Rattle.ut_model.specs.SoundRecords.{IsSoundRecord}
 use Rattle.ut_model.specs.Tenant.{Field, Object, Tenant}
-use Rattle.ut_model.specs.Verdict.{Verdict, accept, done, unless}
-use Rattle.ut_model.specs.World.{World, tenant_at, with_tenant}
+use Rattle.ut_model.specs.Verdict.{Verdict, accept, done}
+use Rattle.ut_model.specs.World.{World, tenant_at}
 use Rattle.ut_sound.specs.Fit.{is_fit_object}
 use Rattle.ut_stands.specs.Changes.{Change, IsOf, is_changed, with_changes}
 use Rattle.ut_stands.specs.Layouts.{layout_of}
 use Rattle.ut_stands.specs.Metadata.{field_of, object_of, org_of}
 use Rattle.ut_stands.specs.Operations.{EditsIn}
-use Rattle.ut_stands.specs.Plan.{FitsPlan, OrgPlan, Plan, slot_count, with_plan}
+use Rattle.ut_stands.specs.Plan.{FitsPlan, OrgPlan, Plan, slot_count}
 use Rattle.ut_stands.specs.Records.{is_field_key, is_object_key, is_org_key, with_slot}
-use Rattle.ut_stands.specs.Stands.{Stands, StandsBy, owner_of, row_in}
+use Rattle.ut_stands.specs.Stands.{StandsBy, owner_of, row_in}
 use Rattle.ut_stands.specs.declared.layout.Layout.{Layout}
-use Rattle.ut_value.specs.declared.value.FieldType.TheVariants as type
 use Rattle.ut_meta.specs.Judging.{layouts_in}
 use Rattle.ut_meta.specs.declared.edits.objects.NewRows.{NewRows}
-use Rattle.ut_meta.specs.inner.NewRows.{AreSpelled, IsSpelledMaster, change_to, changes_of, field_change, first_field, master_in, master_row, object_row, rows_by}
-use Rattle.ut_meta.specs.inner.Relations.{named_in}
+use Rattle.ut_meta.specs.inner.NewRows.{AreSpelled, IsSpelledMaster, change_to, changes_of, field_change, first_field, master_row, object_row, rows_by}
 use Rattle.ut_meta.proofs.Editing.{EditedStands, beside, edit_done, other_field, other_object, other_org, unless_none}
 use Rattle.ut_meta.proofs.Layouts.{length_is, named_is}
 use Rattle.ut_meta.proofs.Lists.{pick}

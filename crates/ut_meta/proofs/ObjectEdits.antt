@@ -1,6 +1,6 @@
 -- The steps of adding an object: what was read is the tenant's, and what a failure says.
-use Rattle.std.proofs.Common.{◌≡◌, ◌≢◌, ◌∙◌, ℕ, List, [], ◌∷◌, ◌++◌, Option, Some, None, refl, ap, subst}
-use Rattle.std.specs.Prelude.{IfErr, IsErrAnd, Result, Ok, Err, map}
+use Rattle.std.proofs.Common.{◌≡◌, ◌∙◌, ℕ, List, [], ◌∷◌, ◌++◌, Option, Some, ap, subst}
+use Rattle.std.specs.Prelude.{IfErr, IsErrAnd, Result, Err, map}
 use Rattle.std.specs.Option.{option_map}
 use Rattle.std.proofs.lemmas.Result.{IfErr-at_err}
 use Rattle.ut_keeper.specs.Tables.{Tables}

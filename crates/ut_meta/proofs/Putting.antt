@@ -1,6 +1,6 @@
 -- Calls over one draft, one after the other: what it tells over all of them it tells over each, and what the rows that are put
 -- make of its tables.
-use Rattle.std.proofs.Common.{◌≡◌, ◌∙◌, ℕ, List, [], ◌∷◌, Some, ap}
+use Rattle.std.proofs.Common.{◌≡◌, ◌∙◌, ℕ, [], ◌∷◌, Some, ap}
 use Rattle.ut_keeper.specs.Draft.{DraftReads, DraftTells, DraftWorks, Held, tables_of}
 use Rattle.ut_keeper.specs.Laid.{laid}
 use Rattle.ut_keeper.specs.State.{KeeperState}

@@ -12,6 +12,6 @@ mod relations;
 mod rules;
 mod slots;
 
-pub use crate::edits::{add_object, set_access};
+pub use crate::edits::{add_field, add_object, set_access};
 pub use crate::judging::{judge_access, judge_field, judge_object, target_number};
 pub use crate::slots::free_slot;

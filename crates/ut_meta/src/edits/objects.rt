@@ -17,6 +17,7 @@ ghost use Rattle.ut_stands.specs.Fails.{IsRefusal, KeeperFailsEdit, is_judged};
 ghost use Rattle.ut_stands.specs.Operations.{EditsIn};
 ghost use Rattle.ut_stands.specs.Stands.{Stands};
 
+use crate::edits::copies::copy_of_text;
 use crate::judging::judge_object;
 use crate::relations;
 use std::alloc::{AllocError, Global};
@@ -26,7 +27,7 @@ use ut_model::{NewMaster, NewObject};
 use ut_parts::FieldFlags;
 use ut_sound::objects_sound;
 use ut_stands::{EditFail, Layout, layouts, metadata_laws, org_row, slot_laws, stands_laws};
-use ut_value::{FieldType, Text};
+use ut_value::FieldType;
 
 // The rows that a new object changes.
 #[derive(Drop)]
@@ -36,20 +37,6 @@ struct NewRows {
     // That of a detail's Master field.
     field: Option<FieldRow>,
     object: ObjectRow,
-}
-
-// A copy of a text. A text that is too long for a row is `Damaged`: no name that passes its rules is.
-fn spelled_copy(alloc: Global, text: &Text) -> Result<Text, StoreFail>
-    ensures same { IfOk result (λ copy. copy ≡ text.now) }
-    ensures fits { IfOk result FitsText }
-    ensures damaged { FitsText text.now → IfErr result (λ e. e ≡ Memory) }
-    ensures cause { IfErr result (λ e. e ≢ Keeper) }
-{
-    let text = text.as_str();
-    if text.len() > u32::MAX as usize {
-        return Err(StoreFail::Damaged);
-    }
-    Ok(Text::from_str(alloc, text)?)
 }
 
 // The row of a new detail's Master field, in slot 0.
@@ -69,7 +56,7 @@ fn master_row(
         org,
         object,
         field: 0,
-        name: spelled_copy(alloc, &master.field)?,
+        name: copy_of_text(alloc, &master.field)?,
         kind: FieldType::Master { object: parent },
         flags: FieldFlags {
             required: true,
@@ -77,7 +64,7 @@ fn master_row(
             indexed: false,
         },
         slot: 0,
-        child: Some(spelled_copy(alloc, &master.child)?),
+        child: Some(copy_of_text(alloc, &master.child)?),
     })
 }
 
@@ -127,7 +114,7 @@ fn rows_of(
     let object = ObjectRow {
         org: org.org,
         object: number,
-        name: spelled_copy(alloc, &new.name)?,
+        name: copy_of_text(alloc, &new.name)?,
         access: new.access,
         records: 0,
         fields: u8::from(field.is_some()),

@@ -1,13 +1,10 @@
-use Rattle.std.proofs.Common.{◌≡◌, ◌∙◌, ◌<◌, ◌^◌, List, None, arith, ap, subst, sym}
+use Rattle.std.proofs.Common.{◌≡◌, ◌∙◌, ◌<◌, ◌^◌, arith, ap, subst, sym}
 use Rattle.ut_keeper.specs.Draft.{tables_of}
 use Rattle.ut_keeper.specs.Tables.{Tables}
-use Rattle.ut_model.specs.Metadata.{add_object, object_rules}
-use Rattle.ut_model.specs.Rules.{first_refusal}
-use Rattle.ut_model.specs.Sound.{IsSound}
+use Rattle.ut_model.specs.Metadata.{add_object}
 use Rattle.ut_stands.specs.Changes.{with_changes}
 use Rattle.ut_stands.specs.Layouts.{layouts_of, org_row}
 use Rattle.ut_stands.specs.Stands.{StandsBy}
-use Rattle.ut_stands.specs.declared.layout.Layout.{Layout}
 use Rattle.ut_meta.specs.Judging.{layouts_in}
 use Rattle.ut_meta.specs.inner.NewRows.{changes_of}
 use Rattle.ut_meta.proofs.Editing.{found_by}

@@ -1,5 +1,5 @@
 -- The records of an object that is found by its name, and the reply that has them.
-use Rattle.std.proofs.Common.{◌≡◌, ℕ, zero, suc, ◌+◌, ◌≤◌, Bool, true, false, cond, List, [], ◌∷◌, length, map, filter, take, Option, Some, None, Result, Ok, Err, refl, sym, ap, subst, ◌∙◌, arith, slice_get}
+use Rattle.std.proofs.Common.{◌≡◌, ℕ, suc, ◌+◌, Bool, true, false, cond, List, [], ◌∷◌, map, filter, take, Option, Some, None, Result, Ok, Err, refl, sym, ap, subst, ◌∙◌, arith, slice_get}
 use Rattle.std.proofs.lemmas.List.{take_all}
 use Rattle.std.specs.List.{enumerate_from, find}
 use Rattle.std.specs.Option.{option_and_then, option_map, unwrap_or}
@@ -19,7 +19,7 @@ use Rattle.ut_model.specs.Cases.{in_case}
 use Rattle.ut_model.specs.Fields.{same_name}
 use Rattle.ut_model.specs.Jobs.{is_past}
 use Rattle.ut_model.specs.Limits.{limit_number}
-use Rattle.ut_model.specs.Objects.{Numbered, numbered, object_named, records_of}
+use Rattle.ut_model.specs.Objects.{Numbered, object_named, records_of}
 use Rattle.ut_model.specs.Paths.{Asked}
 use Rattle.ut_model.specs.Replies.{json_reply, reply_of, unless_too_large}
 use Rattle.ut_model.specs.RowsJson.{found_json, rows_json}
@@ -35,7 +35,7 @@ use Rattle.ut_stands.specs.declared.layout.Layout.{Layout}
 use Rattle.ut_stands.specs.Layouts.{FindsBy, FindsOf, IsLayout, layout_at, layout_named, layout_of, numbered_at, records_after}
 use Rattle.ut_stands.specs.Operations.{RepliesIn}
 use Rattle.ut_stands.specs.Plan.{OrgPlan, Plan}
-use Rattle.ut_stands.specs.Stands.{Stands, StandsBy}
+use Rattle.ut_stands.specs.Stands.{Stands}
 
 -- ---- what the layers below say
 

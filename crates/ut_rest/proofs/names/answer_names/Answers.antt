@@ -1,4 +1,4 @@
-use Rattle.std.proofs.Common.{ℕ, ◌+◌, None, Some, ap, subst, ◌∙◌, Ok}
+use Rattle.std.proofs.Common.{◌+◌, None, Ok, Some, ap, subst, ◌∙◌}
 use Rattle.ut_keeper.specs.Draft.{removals_of, tables_of}
 use Rattle.ut_keeper.specs.State.{data_table}
 use Rattle.ut_keeper.specs.Tables.{Tables}

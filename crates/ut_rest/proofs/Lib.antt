@@ -1,7 +1,5 @@
 pub mod Characters
 pub mod Meetings
+pub mod Named
 pub mod Queries
 pub mod Tables
-pub mod Refused
-pub mod Named
-pub mod Answering

@@ -1,8 +1,11 @@
 -- The records of an object that is found by its name, and the reply that has them.
-use Rattle.std.proofs.Common.{◌≡◌, ℕ, zero, suc, ◌+◌, ◌≤◌, Bool, true, false, cond, List, [], ◌∷◌, length, map, filter, take, Option, Some, None, Result, Ok, Err, refl, sym, ap, subst, ◌∙◌, arith, slice_get}
+use Rattle.std.proofs.Common.{◌≡◌, ℕ, suc, ◌+◌, Bool, true, false, cond, List, [], ◌∷◌, map, filter, take, Option, Some, None, Result, Ok, Err, refl, sym, ap, subst, ◌∙◌, arith, slice_get}
 use Rattle.std.proofs.lemmas.List.{take_all}
 use Rattle.std.specs.List.{enumerate_from, find}
 use Rattle.std.specs.Option.{option_and_then, option_map, unwrap_or}
+use Rattle.ut_keeper.specs.Draft.{DraftReads, DraftTells, Held, tables_of}
+use Rattle.ut_keeper.specs.Laid.{laid}
+use Rattle.ut_keeper.specs.State.{KeeperState}
 use Rattle.ut_keeper.specs.Tables.{Tables}
 use Rattle.ut_keys.specs.declared.fail.StoreFail.{StoreFail}
 use Rattle.ut_keys.specs.declared.fail.StoreFail.TheVariants.{Damaged, Keeper, Memory}
@@ -16,24 +19,23 @@ use Rattle.ut_model.specs.Cases.{in_case}
 use Rattle.ut_model.specs.Fields.{same_name}
 use Rattle.ut_model.specs.Jobs.{is_past}
 use Rattle.ut_model.specs.Limits.{limit_number}
-use Rattle.ut_model.specs.Objects.{Numbered, numbered, object_named, records_of}
+use Rattle.ut_model.specs.Objects.{Numbered, object_named, records_of}
 use Rattle.ut_model.specs.Paths.{Asked}
 use Rattle.ut_model.specs.Replies.{json_reply, reply_of, unless_too_large}
 use Rattle.ut_model.specs.RowsJson.{found_json, rows_json}
 use Rattle.ut_model.specs.Sound.{IsSound}
 use Rattle.ut_model.specs.Tenant.{Object, Tenant}
-use Rattle.ut_model.specs.Verdict.{accept, refuse, rows_of}
+use Rattle.ut_model.specs.Verdict.{Verdict, accept, refuse, rows_of}
 use Rattle.ut_model.specs.World.{World, tenant_at}
 use Rattle.ut_replies.specs.Names.{name_row}
 use Rattle.ut_rest.specs.inner.Answers.{Refuses, names_reply}
 use Rattle.ut_stands.specs.declared.judged.Judged.{Judged}
-use Rattle.ut_stands.specs.declared.judged.Judged.TheVariants.{Same}
+use Rattle.ut_stands.specs.declared.judged.Judged.TheVariants.{Changed, Same}
 use Rattle.ut_stands.specs.declared.layout.Layout.{Layout}
 use Rattle.ut_stands.specs.Layouts.{FindsBy, FindsOf, IsLayout, layout_at, layout_named, layout_of, numbered_at, records_after}
 use Rattle.ut_stands.specs.Operations.{RepliesIn}
 use Rattle.ut_stands.specs.Plan.{OrgPlan, Plan}
-use Rattle.ut_stands.specs.Stands.{Stands, StandsBy}
-use Rattle.ut_rest.proofs.Refused.{replies_refused}
+use Rattle.ut_stands.specs.Stands.{Stands}
 
 -- ---- what the layers below say
 
@@ -50,6 +52,24 @@ Accepted = (a : Asked) (object : List ℕ) (o : Numbered) → object_named a.ten
 
 abbrev pub NoObject : Type 0
 NoObject = (a : Asked) (object : List ℕ) → object_named a.tenant object ≡ None → ask a (names_query object) ≡ refuse a.tenant (InvalidType object)
+
+-- ---- one read after another
+
+-- a keeper that told its tables over both told them over each, and the draft shows the second what it showed the first
+pub record BothTell {K : Type 0} (state : K → KeeperState) (a b c : Held K) : Type 0 where
+  pub first : DraftTells state a b
+  pub then : DraftTells state b c
+  pub same : tables_of state b ≡ tables_of state a
+
+pub both_tell : {K : Type 0} (state : K → KeeperState) (n k : ℕ) (a b c : Held K) → DraftReads state n a b → DraftReads state k b c → DraftTells state a c → BothTell state a b c
+both_tell state n k a b c read more told =
+    let first : DraftTells state a b = (told.0, more.reads.steps.stood told.1) in
+    let kept = read.reads.same first in
+    record {
+      first = first;
+      then = (kept.0, told.1);
+      same = ap (λ changes. laid changes (state b.keeper.now).tables) read.changes ∙ ap (laid a.changes.entries) kept.1;
+    }
 
 -- ---- the object with a name
 
@@ -80,6 +100,11 @@ named_at t name o e =
     ap (slice_get t.objects) k ∙ f.2
 
 -- ---- its layout
+
+-- what is found by a name's characters
+pub found_by : (org : ℕ) (m : Tables) (spelled name : List ℕ) (result : Result (Option Layout) StoreFail) (l : Option Layout) → spelled ≡ name → result ≡ Ok l
+    → FindsBy (layout_named org spelled) m result → FindsBy (layout_named org name) m (Ok l)
+found_by org m spelled name result l same is h = subst (FindsBy (layout_named org name) m) is (subst (λ name. FindsBy (layout_named org name) m result) same h)
 
 layout_there : (org : ℕ) (name : List ℕ) (p : Plan) (w : World) (t : Tenant) → tenant_at w org ≡ Some t
     → layout_named org name p w ≡ option_map (layout_of org (p.org org) t) (object_named t name)
@@ -159,7 +184,12 @@ pub nothing_replied : NoObject → (org : ℕ) (a : Asked) (name : List ℕ) (w 
     → RepliesIn org a (ask a (names_query name)) w after result
 nothing_replied no_object org a name w m after result (p, s) at finds refused =
     let none = none_named org (p.org org) a.tenant name (finds p w s ∙ layout_there org name p w a.tenant at) in
-    replies_refused org a (InvalidType name) (ask a (names_query name)) w after result (no_object a name none) refused
+    subst (λ (v : Verdict). RepliesIn org a v w after result) (sym (no_object a name none)) (by result refused)
+  where
+    by : (result : Result (Judged Reply) StoreFail) → Refuses (InvalidType name) result → RepliesIn org a (refuse a.tenant (InvalidType name)) w after result
+    by (Ok (Same r)) e = (e, refl)
+    by (Ok (Changed r)) e = absurd e
+    by (Err f) e = λ d. absurd cc
 
 -- ---- failures
 

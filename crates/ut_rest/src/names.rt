@@ -53,7 +53,8 @@ fn reply_of<K: Keeper>(
         (records_after layout.now.org layout.now.object None (limit_number limit.RecordsPerObject) w))
         (tables_of K.state draft.old) result }
     ensures form { IfOk result (λ r. IsRequestReply (Same r)) }
-    ensures reads { DraftReads K.state (limit_number limit.RecordsPerObject + removals_of K.state data_table draft.old) draft.old draft.new }
+    ensures reads { DraftReads K.state (limit_number limit.RecordsPerObject + removals_of K.state data_table draft.old)
+        draft.old draft.new }
     ensures stays { StaysAfter (is_ok result) (state_of K.state draft.old) (state_of K.state draft.new) }
     ensures cause { KeeperCause (state_of K.state draft.old) (state_of K.state draft.new) (IsErrOf result Keeper) }
 {
@@ -75,11 +76,13 @@ fn answer_names<K: Keeper>(
     object: Text,
 ) -> Result<Judged<Reply>, StoreFail>
     ensures judged { DraftTells K.state draft.old draft.new
-        → (w : World) (a : Asked) → Stands (tables_of K.state draft.old) w → tenant_at w org ≡ Some a.tenant → a.user.admin ≡ true
+        → (w : World) (a : Asked) → Stands (tables_of K.state draft.old) w
+        → tenant_at w org ≡ Some a.tenant → a.user.admin ≡ true
         → RepliesIn org a (ask a (names_query object)) w (tables_of K.state draft.new) result }
     ensures form { IfOk result IsRequestReply }
     ensures unchanging { IsChange result → ⊥ }
-    ensures reads { DraftReads K.state (limit_number limit.RecordsPerObject + removals_of K.state data_table draft.old) draft.old draft.new }
+    ensures reads { DraftReads K.state (limit_number limit.RecordsPerObject + removals_of K.state data_table draft.old)
+        draft.old draft.new }
     ensures stays { StaysAfter (is_ok result) (state_of K.state draft.old) (state_of K.state draft.new) }
     ensures cause { KeeperCause (state_of K.state draft.old) (state_of K.state draft.new) (IsErrOf result Keeper) }
 {
@@ -128,12 +131,14 @@ pub(crate) fn answer_query<K: Keeper>(
     pairs: &Text,
 ) -> Result<Judged<Reply>, StoreFail>
     ensures judged { DraftTells K.state draft.old draft.new
-        → (w : World) (a : Asked) → Stands (tables_of K.state draft.old) w → tenant_at w caller.now.org ≡ Some a.tenant
-        → a.user.admin ≡ caller.now.admin
-        → RepliesIn caller.now.org a (names_verdict a (asked_object (query_text pairs.now))) w (tables_of K.state draft.new) result }
+        → (w : World) (a : Asked) → Stands (tables_of K.state draft.old) w
+        → tenant_at w caller.now.org ≡ Some a.tenant → a.user.admin ≡ caller.now.admin
+        → RepliesIn caller.now.org a (names_verdict a (asked_object (query_text pairs.now))) w
+        (tables_of K.state draft.new) result }
     ensures form { IfOk result IsRequestReply }
     ensures unchanging { IsChange result → ⊥ }
-    ensures reads { DraftReads K.state (limit_number limit.RecordsPerObject + removals_of K.state data_table draft.old) draft.old draft.new }
+    ensures reads { DraftReads K.state (limit_number limit.RecordsPerObject + removals_of K.state data_table draft.old)
+        draft.old draft.new }
     ensures stays { StaysAfter (is_ok result) (state_of K.state draft.old) (state_of K.state draft.new) }
     ensures cause { KeeperCause (state_of K.state draft.old) (state_of K.state draft.new) (IsErrOf result Keeper) }
 {

@@ -44,13 +44,15 @@ fn answer<K: Keeper>(
     body: &[u8],
 ) -> Result<Judged<Reply>, StoreFail>
     ensures judged { DraftTells K.state draft.old draft.new
-        → (w : World) (a : Asked) → Stands (tables_of K.state draft.old) w → tenant_at w caller.now.org ≡ Some a.tenant
-        → a.user.admin ≡ caller.now.admin
+        → (w : World) (a : Asked) → Stands (tables_of K.state draft.old) w
+        → tenant_at w caller.now.org ≡ Some a.tenant → a.user.admin ≡ caller.now.admin
         → RepliesIn caller.now.org a (verdict_to a body.now (To route.now)) w (tables_of K.state draft.new) result }
     ensures form { IfOk result IsRequestReply }
     ensures changing { IsChange result → 0 < count_of draft.new }
-    ensures same { IsSame result → DraftReads K.state (limit_number limit.RecordsPerObject + removals_of K.state data_table draft.old) draft.old draft.new }
-    ensures works { DraftWorks K.state 3 0 (limit_number limit.RecordsPerObject + removals_of K.state data_table draft.old) draft.old draft.new }
+    ensures same { IsSame result → DraftReads K.state (limit_number limit.RecordsPerObject + removals_of K.state data_table draft.old)
+        draft.old draft.new }
+    ensures works { DraftWorks K.state 3 0 (limit_number limit.RecordsPerObject + removals_of K.state data_table draft.old)
+        draft.old draft.new }
     ensures stays { StaysAfter (is_ok result) (state_of K.state draft.old) (state_of K.state draft.new) }
     ensures cause { KeeperCause (state_of K.state draft.old) (state_of K.state draft.new) (IsErrOf result Keeper) }
 {
@@ -81,13 +83,16 @@ pub fn respond<K: Keeper>(
 ) -> Result<Judged<Reply>, StoreFail>
     // At any moment: no request that is built looks at the time.
     ensures judged { DraftTells K.state draft.old draft.new
-        → (w : World) (t : Tenant) (u : User) (now : ℕ) → Stands (tables_of K.state draft.old) w → IsUser w caller.now t u
-        → RepliesIn caller.now.org (asking t now u) (verdict_to (asking t now u) body.now (routed (chars method.now) (chars target.now))) w
+        → (w : World) (t : Tenant) (u : User) (now : ℕ) → Stands (tables_of K.state draft.old) w
+        → IsUser w caller.now t u → RepliesIn caller.now.org (asking t now u)
+        (verdict_to (asking t now u) body.now (routed (chars method.now) (chars target.now))) w
         (tables_of K.state draft.new) result }
     ensures form { IfOk result IsRequestReply }
     ensures changing { IsChange result → 0 < count_of draft.new }
-    ensures same { IsSame result → DraftReads K.state (limit_number limit.RecordsPerObject + removals_of K.state data_table draft.old) draft.old draft.new }
-    ensures works { DraftWorks K.state 3 0 (limit_number limit.RecordsPerObject + removals_of K.state data_table draft.old) draft.old draft.new }
+    ensures same { IsSame result → DraftReads K.state (limit_number limit.RecordsPerObject + removals_of K.state data_table draft.old)
+        draft.old draft.new }
+    ensures works { DraftWorks K.state 3 0 (limit_number limit.RecordsPerObject + removals_of K.state data_table draft.old)
+        draft.old draft.new }
     ensures stays { StaysAfter (is_ok result) (state_of K.state draft.old) (state_of K.state draft.new) }
     ensures cause { KeeperCause (state_of K.state draft.old) (state_of K.state draft.new) (IsErrOf result Keeper) }
 {

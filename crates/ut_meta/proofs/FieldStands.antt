@@ -1,5 +1,5 @@
 -- Tables with the rows of a new field stand for the world with it.
-use Rattle.std.proofs.Common.{◌≡◌, ◌∙◌, ℕ, zero, suc, ◌+◌, ◌<◌, ◌≤◌, ◌^◌, Bool, true, false, ◌&&◌, cond, eqb, IsTrue, List, [], ◌∷◌, ◌++◌, length, map, Option, Some, None, refl, sym, ap, subst, arith, length-append}
+use Rattle.std.proofs.Common.{◌≡◌, ◌∙◌, ℕ, zero, suc, ◌+◌, ◌<◌, ◌≤◌, ◌^◌, Bool, true, false, ◌&&◌, IsTrue, List, [], ◌∷◌, ◌++◌, length, map, Option, Some, None, refl, sym, ap, subst, arith, length-append}
 use Rattle.std.specs.Prelude.{Result, Ok, Err, IsErrAnd, slice_get}
 use Rattle.std.specs.List.{AllByRecursion, enumerate_from}
 use Rattle.std.specs.Option.{option_and_then, option_map}
@@ -25,17 +25,17 @@ use Rattle.ut_model.specs.Rules.{first_refusal}
 use Rattle.ut_model.specs.Sound.{IsSound}
 use Rattle.ut_model.specs.SoundMetadata.{IsSoundField, IsSoundObject, implies}
 use Rattle.ut_model.specs.Tenant.{Field, Job, Object, Tenant}
-use Rattle.ut_model.specs.Verdict.{Verdict, accept, done, judged, refuse, with_object}
+use Rattle.ut_model.specs.Verdict.{Verdict, accept, done, refuse, with_object}
 use Rattle.ut_model.specs.World.{World, tenant_at}
 use Rattle.ut_sound.specs.Fit.{is_fit_field}
-use Rattle.ut_stands.specs.Changes.{Change, IsOf, is_changed, with_changes}
+use Rattle.ut_stands.specs.Changes.{Change, IsOf, with_changes}
 use Rattle.ut_stands.specs.Fails.{of_store}
 use Rattle.ut_stands.specs.Layouts.{layout_of, layouts_of, object_row}
 use Rattle.ut_stands.specs.Metadata.{field_of, object_of}
 use Rattle.ut_stands.specs.Operations.{EditsIn}
 use Rattle.ut_stands.specs.Plan.{FitsPlan, OrgPlan, Plan, slot_count}
 use Rattle.ut_stands.specs.Records.{has_free, is_field_key, is_free, is_object_key, suits_flags, with_slot}
-use Rattle.ut_stands.specs.Stands.{Stands, StandsBy, owner_of, row_in}
+use Rattle.ut_stands.specs.Stands.{Stands, StandsBy, row_in}
 use Rattle.ut_stands.specs.declared.fail.EditFail.{EditFail}
 use Rattle.ut_stands.specs.declared.fail.EditFail.TheVariants.{Store}
 use Rattle.ut_stands.specs.declared.layout.Layout.{Layout}

@@ -1,8 +1,7 @@
-use Rattle.std.proofs.Common.{◌≡◌, ◌∙◌, ◌<◌, ◌^◌, Some, None, sym, subst, arith}
+use Rattle.std.proofs.Common.{◌≡◌, ◌∙◌, None, sym, subst, arith}
 use Rattle.ut_keeper.specs.Draft.{tables_of}
 use Rattle.ut_keeper.specs.Tables.{Tables}
 use Rattle.ut_model.specs.NewFields.{add_field}
-use Rattle.ut_stands.specs.Layouts.{layouts_of}
 use Rattle.ut_meta.specs.Judging.{refusal_of}
 use Rattle.ut_meta.specs.inner.FieldRows.{PutsField}
 use Rattle.std.specs.Prelude.{Ok, Err}

@@ -75,8 +75,8 @@ kept_there : (org n : ℕ) (id : List ℕ) → FitsKey (Data org n id) → (rows
 unfolding with_records
 kept_there org n id key rows rest m has = has.at (Data org n id) key ∙ rw (eqb_same org, eqb_same n) refl
 
-pub none_broken : (org n : ℕ) (rows : RecordRows) (rest : Key → Option (List ℕ)) (m : Tables) (id : List ℕ) → FitsKey (Data org n id) → AllFit org n rows → HasRecords org n rows rest m → IsBrokenAt org n id m → ⊥
-none_broken org n rows rest m id key fit has broken = broken (rows id) (fit id) (kept_there org n id key rows rest m has)
+pub none_broken : (org n : ℕ) (rows : RecordRows) (rest : Key → Option (List ℕ)) (m : Tables) (id : List ℕ) → FitsKey (Data org n id) → MayStandAt data_form (org, (n, id)) (rows id) → HasRecords org n rows rest m → IsBrokenAt org n id m → ⊥
+none_broken org n rows rest m id key fit has broken = broken (rows id) fit (kept_there org n id key rows rest m has)
 
 -- ---- a record is stored
 
@@ -84,10 +84,10 @@ module _ (same_rows : SameRows) (put : PutsRow) (finds : FindsData) (l : Layout)
   -- the tables, those that were read again, and those once the row is set; the row that was found, and the one that is made
   pub stored : (m again after : Tables) (found copy : Option DataRow) (row : DataRow) → ReadsAs data_form (l.org, (l.object, item.id)) (map.get m (spell (Data l.org l.object item.id))) (Ok found)
       → again ≡ m → copy ≡ found → row ≡ row_from l item copy → after ≡ map.insert again (spell (key_of data_form row)) (row_bytes data_form row)
-      → (rows : RecordRows) (rest : Key → Option (List ℕ)) → AllFit l.org l.object rows → HasRecords l.org l.object rows rest m
+      → (rows : RecordRows) (rest : Key → Option (List ℕ)) → MayStandAt data_form (l.org, (l.object, item.id)) (rows item.id) → HasRecords l.org l.object rows rest m
       → HasRecords l.org l.object (set_at item.id (Some (row_from l item (rows item.id))) rows) rest after
   stored m again after found copy row read same copied is is_after rows rest fit has =
-      let there : found ≡ rows item.id = finds (l.org, (l.object, item.id)) (map.get m (spell (Data l.org l.object item.id))) (rows item.id) (Ok found) read (kept_there l.org l.object item.id key rows rest m has) (fit item.id) in
+      let there : found ≡ rows item.id = finds (l.org, (l.object, item.id)) (map.get m (spell (Data l.org l.object item.id))) (rows item.id) (Ok found) read (kept_there l.org l.object item.id key rows rest m has) fit in
       let made : row ≡ row_from l item (rows item.id) = is ∙ ap (row_from l item) (copied ∙ there) in
       let tables : after ≡ map.insert m (spell (Data l.org l.object item.id)) (row_bytes data_form (row_from l item (rows item.id))) = is_after ∙ (λ i. map.insert (same i) (spell (key_of data_form (made i))) (row_bytes data_form (made i))) in
       subst (HasRecords l.org l.object (set_at item.id (Some (row_from l item (rows item.id))) rows) rest) (sym tables)

@@ -6,6 +6,7 @@ ghost use Rattle.ut_data.specs.Parts.{AllFit, HasRecords, IsBrokenAt, RecordRows
 ghost use Rattle.ut_keeper.specs.Tables.{Tables};
 ghost use Rattle.ut_keys.specs.Forms.{FitsForm};
 ghost use Rattle.ut_keys.specs.Keys.{Data, FitsKey, Key};
+ghost use Rattle.ut_keys.specs.Reads.{MayStandAt};
 ghost use Rattle.ut_keys.specs.Rows.{data_form};
 ghost use Rattle.ut_model.specs.declared.record.Record.{Record};
 ghost use Rattle.ut_model.specs.Jobs.{is_past};
@@ -71,9 +72,10 @@ pub fn part_laws()
     ensures fit { (org n : ℕ) (p : OrgPlan) (t : Tenant)
         → org < 2 ^ 32 → IsSound t → FitsPlan p t → AllFit org n (records_rows org n p t) }
 
-    // Where tables have rows of an object's records that have spellings, none is broken.
+    // Where tables have a row of a record that has a spelling, or none, it isn't broken.
     ensures whole { (org n : ℕ) (rows : RecordRows) (rest : Key → Option (List ℕ)) (m : Tables) (id : List ℕ)
-        → FitsKey (Data org n id) → AllFit org n rows → HasRecords org n rows rest m → IsBrokenAt org n id m → ⊥ }
+        → FitsKey (Data org n id) → MayStandAt data_form (org, (n, id)) (rows id) → HasRecords org n rows rest m
+        → IsBrokenAt org n id m → ⊥ }
 {
     table_laws();
     stands_laws();

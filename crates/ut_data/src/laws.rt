@@ -2,8 +2,9 @@ ghost use Rattle.std.specs.Prelude.{◌≡◌, ◌<◌, ◌^◌, ℕ, IsTrue, Li
 ghost use Rattle.std.specs.List.{list_all};
 ghost use Rattle.ut_data.specs.Decoding.{record_from};
 ghost use Rattle.ut_data.specs.Encoding.{row_from};
-ghost use Rattle.ut_data.specs.Parts.{AllFit, HasRecords, IsBrokenAt, RecordRows, records_rows, with_records};
+ghost use Rattle.ut_data.specs.Parts.{AllFit, HasRecords, IsBrokenAt, RecordRows, records_rows, set_at, with_records};
 ghost use Rattle.ut_keeper.specs.Tables.{Tables};
+ghost use Rattle.ut_keys.specs.declared.data.DataRow.{DataRow};
 ghost use Rattle.ut_keys.specs.Forms.{FitsForm};
 ghost use Rattle.ut_keys.specs.Keys.{Data, FitsKey, Key};
 ghost use Rattle.ut_keys.specs.Reads.{MayStandAt};
@@ -71,6 +72,10 @@ pub fn part_laws()
     // The rows of a sound tenant's records have spellings.
     ensures fit { (org n : ℕ) (p : OrgPlan) (t : Tenant)
         → org < 2 ^ 32 → IsSound t → FitsPlan p t → AllFit org n (records_rows org n p t) }
+
+    // So they have once there is such a row for an id, or none.
+    ensures set { (org n : ℕ) (id : List ℕ) (row : Option DataRow) (rows : RecordRows)
+        → MayStandAt data_form (org, (n, id)) row → AllFit org n rows → AllFit org n (set_at id row rows) }
 
     // Where tables have a row of a record that has a spelling, or none, it isn't broken.
     ensures whole { (org n : ℕ) (rows : RecordRows) (rest : Key → Option (List ℕ)) (m : Tables) (id : List ℕ)

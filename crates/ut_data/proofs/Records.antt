@@ -92,12 +92,18 @@ form_there : (k : ℕ × (ℕ × List ℕ)) (row : Option DataRow) → MayStandA
 form_there k None fit = tt
 form_there k (Some row) fit = fit.1
 
-module _ (finds : FindsData) (l : Layout) (item : Record) (key : FitsIn record_key (l.org, (l.object, item.id))) (m : Tables) (found copy : Option DataRow) (row : DataRow)
-    (read : ReadsAs data_form (l.org, (l.object, item.id)) (map.get m (spell (Data l.org l.object item.id))) (Ok found)) (copied : copy ≡ found) (is : row ≡ row_from l item copy)
+-- the row that is read at the key of a record, or none
+abbrev ReadsAt : ℕ × (ℕ × List ℕ) → Tables → Option DataRow → Type 0
+ReadsAt k m found = ReadsAs data_form k (map.get m (spell (Data k.0 k.1.0 k.1.1))) (Ok found)
+
+module _ (finds : FindsData) (l : Layout) (item : Record) (k : ℕ × (ℕ × List ℕ)) (at : k ≡ (l.org, (l.object, item.id))) (key : FitsIn record_key (l.org, (l.object, item.id)))
+    (m : Tables) (found copy : Option DataRow) (row : DataRow) (read : ReadsAt k m found) (copied : copy ≡ found) (is : row ≡ row_from l item copy)
     (rows : RecordRows) (rest : Key → Option (List ℕ)) (fit : MayStandAt data_form (l.org, (l.object, item.id)) (rows item.id)) (has : HasRecords l.org l.object rows rest m) where
   -- what was found is the row that the tables have, so that the one which is made is made over it
   found_there : copy ≡ rows item.id
-  found_there = copied ∙ finds (l.org, (l.object, item.id)) (map.get m (spell (Data l.org l.object item.id))) (rows item.id) (Ok found) read (kept_there l.org l.object item.id key rows rest m has) fit
+  found_there =
+      copied
+      ∙ finds (l.org, (l.object, item.id)) (map.get m (spell (Data l.org l.object item.id))) (rows item.id) (Ok found) (subst (λ (k : ℕ × (ℕ × List ℕ)). ReadsAt k m found) at read) (kept_there l.org l.object item.id key rows rest m has) fit
 
   made_over : row ≡ row_from l item (rows item.id)
   made_over = is ∙ ap (row_from l item) found_there

@@ -15,9 +15,10 @@ use Rattle.ut_stands.specs.Layouts.{layout_of, place_of}
 use Rattle.ut_stands.specs.Plan.{FitsPlan, OrgPlan}
 use Rattle.ut_value.specs.Types.{is_type}
 use Rattle.ut_value.specs.Values.{valid}
+use Rattle.ut_value.specs.declared.value.FieldType.{FieldType}
 use Rattle.ut_value.specs.declared.value.FieldType.TheVariants as type
 use Rattle.ut_value.specs.declared.value.Value.{Value}
-use Rattle.ut_data.specs.Decoding.{each_from, read_slot, record_from, value_from}
+use Rattle.ut_data.specs.Decoding.{each_from, has_types, kinds_in, read_slot, record_from, value_from}
 use Rattle.ut_data.proofs.Lists.{and_left, and_right}
 use Rattle.ut_data.proofs.Slots.{entry_at, slot_at, slot_below}
 use Rattle.ut_data.proofs.Sound.{fields_typed, values_valid}
@@ -64,9 +65,20 @@ named_back prints p n slots o (v ∷ vs) valids types texts =
     value_got (x ∷ ws) zero w e = cc
     value_got (x ∷ ws) (suc i) w e = value_got ws i w e
 
+layout_kinds : (p : OrgPlan) (n k : ℕ) (fs : List Field) → map (λ f. f.kind) (map (place_of p n) (enumerate_from k fs)) ≡ map (λ f. f.kind) fs
+layout_kinds p n k [] = refl
+layout_kinds p n k (f ∷ fs) = ap (λ (ks : List FieldType). f.kind ∷ ks) (layout_kinds p n (k + 1) fs)
+
+-- the types of a layout are those of its object
+pub object_kinds : (org n : ℕ) (p : OrgPlan) (t : Tenant) (o : Object) → kinds_in (layout_of org p t (record { number = n; object = o })).fields ≡ kinds_of o
+object_kinds org n p t o = ap (λ (ks : List FieldType). type.Text 80 ∷ ks) (layout_kinds p n 0 o.fields)
+
 layout_typed : (p : OrgPlan) (n k : ℕ) (fs : List Field) → list_all (λ f. is_type f.kind) (map (place_of p n) (enumerate_from k fs)) ≡ list_all (λ f. is_type f.kind) fs
 layout_typed p n k [] = refl
 layout_typed p n k (f ∷ fs) = ap (λ (b : Bool). is_type f.kind && b) (layout_typed p n (k + 1) fs)
+
+pub object_typed : (org n : ℕ) (p : OrgPlan) (t : Tenant) (o : Object) → IsSound t → object_at t n ≡ Some o → IsTrue (has_types (layout_of org p t (record { number = n; object = o })))
+object_typed org n p t o sound is = layout_typed p n 0 o.fields ∙ fields_typed t n o sound is
 
 pub row_reads : PrintsBack → (org n : ℕ) (p : OrgPlan) (t : Tenant) (o : Object) (r : Record)
     → IsSound t → FitsPlan p t → object_at t n ≡ Some o → Has t.records r → IsTrue (is_of n r)

@@ -1,12 +1,13 @@
 -- Tables in parts: one change of a record's row, and the rows of a world.
 use Rattle.std.proofs.Common.{◌≡◌, ℕ, ◌<◌, ◌^◌, Bool, true, false, ◌&&◌, cond, eqb, List, Option, Some, None, refl, sym, ap, subst, ◌∙◌, eqb-true}
-use Rattle.std.specs.Prelude.{Ok}
+use Rattle.std.specs.Prelude.{IfSome, Ok}
 use Rattle.std.specs.FinMap as map
 use Rattle.std.specs.Option.{option_and_then, option_map}
 use Rattle.std.specs.Str.{bytes_eq}
+use Rattle.std.proofs.lemmas.Slice.Eq.{bytes_eq-Decides}
 use Rattle.ut_keeper.specs.Tables.{Tables}
 use Rattle.ut_keys.specs.declared.data.DataRow.{DataRow}
-use Rattle.ut_keys.specs.Forms.{key_of, row_bytes}
+use Rattle.ut_keys.specs.Forms.{FitsForm, key_of, row_bytes}
 use Rattle.ut_keys.specs.Holds.{Holds, with_row}
 use Rattle.ut_keys.specs.Keys.{Data, FitsKey, Key, record_key, spell}
 use Rattle.ut_keys.specs.Reads.{MayStandAt, ReadsAs}
@@ -68,6 +69,13 @@ module _ (same : SameRows) (org n : ℕ) (id : List ℕ) (key : FitsKey (Data or
       (λ k _. changed_at org n id None rows rest k)
       (remove all_tables m (with_records org n rows rest) (Data org n id) key has)
 
+-- rows that may stand do so once one of them is set
+pub set_fits : (org n : ℕ) (id : List ℕ) (row : Option DataRow) (rows : RecordRows) → MayStandAt data_form (org, (n, id)) row → AllFit org n rows → AllFit org n (set_at id row rows)
+set_fits org n id row rows fit all other =
+    pick (bytes_eq other id) (λ b. MayStandAt data_form (org, (n, other)) (cond b row (rows other)))
+    (λ e. subst (λ (i : List ℕ). MayStandAt data_form (org, (n, i)) row) (sym ((bytes_eq-Decides other id).0 e)) fit)
+    (λ _. all other)
+
 -- ---- what is kept for a record
 
 kept_there : (org n : ℕ) (id : List ℕ) → FitsKey (Data org n id) → (rows : RecordRows) (rest : Key → Option (List ℕ)) (m : Tables) → HasRecords org n rows rest m
@@ -75,23 +83,43 @@ kept_there : (org n : ℕ) (id : List ℕ) → FitsKey (Data org n id) → (rows
 unfolding with_records
 kept_there org n id key rows rest m has = has.at (Data org n id) key ∙ rw (eqb_same org, eqb_same n) refl
 
-pub none_broken : (org n : ℕ) (rows : RecordRows) (rest : Key → Option (List ℕ)) (m : Tables) (id : List ℕ) → FitsKey (Data org n id) → AllFit org n rows → HasRecords org n rows rest m → IsBrokenAt org n id m → ⊥
-none_broken org n rows rest m id key fit has broken = broken (rows id) (fit id) (kept_there org n id key rows rest m has)
+pub none_broken : (org n : ℕ) (rows : RecordRows) (rest : Key → Option (List ℕ)) (m : Tables) (id : List ℕ) → FitsKey (Data org n id) → MayStandAt data_form (org, (n, id)) (rows id) → HasRecords org n rows rest m → IsBrokenAt org n id m → ⊥
+none_broken org n rows rest m id key fit has broken = broken (rows id) fit (kept_there org n id key rows rest m has)
 
 -- ---- a record is stored
 
-module _ (same_rows : SameRows) (put : PutsRow) (finds : FindsData) (l : Layout) (item : Record) (key : FitsIn record_key (l.org, (l.object, item.id))) where
-  -- the tables, those that were read again, and those once the row is set; the row that was found, and the one that is made
-  pub stored : (m again after : Tables) (found copy : Option DataRow) (row : DataRow) → ReadsAs data_form (l.org, (l.object, item.id)) (map.get m (spell (Data l.org l.object item.id))) (Ok found)
-      → again ≡ m → copy ≡ found → row ≡ row_from l item copy → after ≡ map.insert again (spell (key_of data_form row)) (row_bytes data_form row)
-      → (rows : RecordRows) (rest : Key → Option (List ℕ)) → AllFit l.org l.object rows → HasRecords l.org l.object rows rest m
+form_there : (k : ℕ × (ℕ × List ℕ)) (row : Option DataRow) → MayStandAt data_form k row → IfSome row (FitsForm data_form)
+form_there k None fit = tt
+form_there k (Some row) fit = fit.1
+
+-- the row that is read at the key of a record, or none
+abbrev ReadsAt : ℕ × (ℕ × List ℕ) → Tables → Option DataRow → Type 0
+ReadsAt k m found = ReadsAs data_form k (map.get m (spell (Data k.0 k.1.0 k.1.1))) (Ok found)
+
+module _ (finds : FindsData) (l : Layout) (item : Record) (k : ℕ × (ℕ × List ℕ)) (at : k ≡ (l.org, (l.object, item.id))) (key : FitsIn record_key (l.org, (l.object, item.id)))
+    (m : Tables) (found copy : Option DataRow) (row : DataRow) (read : ReadsAt k m found) (copied : copy ≡ found) (is : row ≡ row_from l item copy)
+    (rows : RecordRows) (rest : Key → Option (List ℕ)) (fit : MayStandAt data_form (l.org, (l.object, item.id)) (rows item.id)) (has : HasRecords l.org l.object rows rest m) where
+  -- what was found is the row that the tables have, so that the one which is made is made over it
+  found_there : copy ≡ rows item.id
+  found_there =
+      copied
+      ∙ finds (l.org, (l.object, item.id)) (map.get m (spell (Data l.org l.object item.id))) (rows item.id) (Ok found) (subst (λ (k : ℕ × (ℕ × List ℕ)). ReadsAt k m found) at read) (kept_there l.org l.object item.id key rows rest m has) fit
+
+  made_over : row ≡ row_from l item (rows item.id)
+  made_over = is ∙ ap (row_from l item) found_there
+
+  -- the tables that were read again, and those once the row is set
+  pub stored : SameRows → PutsRow → (again after : Tables) → again ≡ m → after ≡ map.insert again (spell (key_of data_form row)) (row_bytes data_form row)
       → HasRecords l.org l.object (set_at item.id (Some (row_from l item (rows item.id))) rows) rest after
-  stored m again after found copy row read same copied is is_after rows rest fit has =
-      let there : found ≡ rows item.id = finds (l.org, (l.object, item.id)) (map.get m (spell (Data l.org l.object item.id))) (rows item.id) (Ok found) read (kept_there l.org l.object item.id key rows rest m has) (fit item.id) in
-      let made : row ≡ row_from l item (rows item.id) = is ∙ ap (row_from l item) (copied ∙ there) in
-      let tables : after ≡ map.insert m (spell (Data l.org l.object item.id)) (row_bytes data_form (row_from l item (rows item.id))) = is_after ∙ (λ i. map.insert (same i) (spell (key_of data_form (made i))) (row_bytes data_form (made i))) in
+  stored same_rows put again after same is_after =
+      let tables : after ≡ map.insert m (spell (Data l.org l.object item.id)) (row_bytes data_form (row_from l item (rows item.id))) = is_after ∙ (λ i. map.insert (same i) (spell (key_of data_form (made_over i))) (row_bytes data_form (made_over i))) in
       subst (HasRecords l.org l.object (set_at item.id (Some (row_from l item (rows item.id))) rows) rest) (sym tables)
       (set_row same_rows l.org l.object item.id key rows rest m has put (row_from l item (rows item.id)))
+
+  pub stored_fits : (IfSome copy (FitsForm data_form) → FitsForm data_form row) → MayStandAt data_form (l.org, (l.object, item.id)) (Some (row_from l item (rows item.id)))
+  stored_fits fits =
+      let there : IfSome copy (FitsForm data_form) = subst (λ (x : Option DataRow). IfSome x (FitsForm data_form)) (sym found_there) (form_there (l.org, (l.object, item.id)) (rows item.id) fit) in
+      (refl, subst (FitsForm data_form) made_over (fits there))
 
 -- ---- the rows of a world
 

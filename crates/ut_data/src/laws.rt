@@ -1,17 +1,20 @@
 ghost use Rattle.std.specs.Prelude.{◌≡◌, ◌<◌, ◌^◌, ℕ, IsTrue, List, Option, Some, None, true};
 ghost use Rattle.std.specs.List.{list_all};
-ghost use Rattle.ut_data.specs.Decoding.{record_from};
+ghost use Rattle.ut_data.specs.Decoding.{has_types, kinds_in, record_from};
 ghost use Rattle.ut_data.specs.Encoding.{row_from};
-ghost use Rattle.ut_data.specs.Parts.{AllFit, HasRecords, IsBrokenAt, RecordRows, records_rows, with_records};
+ghost use Rattle.ut_data.specs.Parts.{AllFit, HasRecords, IsBrokenAt, RecordRows, records_rows, set_at, with_records};
 ghost use Rattle.ut_keeper.specs.Tables.{Tables};
+ghost use Rattle.ut_keys.specs.declared.data.DataRow.{DataRow};
 ghost use Rattle.ut_keys.specs.Forms.{FitsForm};
 ghost use Rattle.ut_keys.specs.Keys.{Data, FitsKey, Key};
+ghost use Rattle.ut_keys.specs.Reads.{MayStandAt};
 ghost use Rattle.ut_keys.specs.Rows.{data_form};
 ghost use Rattle.ut_model.specs.declared.record.Record.{Record};
 ghost use Rattle.ut_model.specs.Jobs.{is_past};
 ghost use Rattle.ut_model.specs.Membership.{Has};
 ghost use Rattle.ut_model.specs.Objects.{Numbered, is_of, object_at};
 ghost use Rattle.ut_model.specs.Sound.{IsSound};
+ghost use Rattle.ut_model.specs.SoundRecords.{kinds_of};
 ghost use Rattle.ut_model.specs.Tenant.{Job, Object, Tenant};
 ghost use Rattle.ut_model.specs.World.{World, tenant_at};
 ghost use Rattle.ut_stands.specs.Entries.{data_of, entry};
@@ -52,6 +55,14 @@ pub fn data_laws()
     ensures fits { (org n : ℕ) (p : OrgPlan) (t : Tenant) (o : Object) (r : Record)
         → org < 2 ^ 32 → IsSound t → FitsPlan p t → object_at t n ≡ Some o → Has t.records r → IsTrue (is_of n r)
         → FitsForm data_form (data_of org n r (entry p t.job n o r)) }
+
+    // The types of a sound object's layout are within their bounds.
+    ensures typed { (org n : ℕ) (p : OrgPlan) (t : Tenant) (o : Object) → IsSound t → object_at t n ≡ Some o
+        → IsTrue (has_types (layout_of org p t (record { number = n; object = o }))) }
+
+    // A record's values have the types of the layout exactly if they have those of the object.
+    ensures kinds { (org n : ℕ) (p : OrgPlan) (t : Tenant) (o : Object)
+        → kinds_in (layout_of org p t (record { number = n; object = o })).fields ≡ kinds_of o }
 {
     value_laws();
     id_laws();
@@ -71,9 +82,14 @@ pub fn part_laws()
     ensures fit { (org n : ℕ) (p : OrgPlan) (t : Tenant)
         → org < 2 ^ 32 → IsSound t → FitsPlan p t → AllFit org n (records_rows org n p t) }
 
-    // Where tables have rows of an object's records that have spellings, none is broken.
+    // So they have once there is such a row for an id, or none.
+    ensures set { (org n : ℕ) (id : List ℕ) (row : Option DataRow) (rows : RecordRows)
+        → MayStandAt data_form (org, (n, id)) row → AllFit org n rows → AllFit org n (set_at id row rows) }
+
+    // Where tables have a row of a record that has a spelling, or none, it isn't broken.
     ensures whole { (org n : ℕ) (rows : RecordRows) (rest : Key → Option (List ℕ)) (m : Tables) (id : List ℕ)
-        → FitsKey (Data org n id) → AllFit org n rows → HasRecords org n rows rest m → IsBrokenAt org n id m → ⊥ }
+        → FitsKey (Data org n id) → MayStandAt data_form (org, (n, id)) (rows id) → HasRecords org n rows rest m
+        → IsBrokenAt org n id m → ⊥ }
 {
     table_laws();
     stands_laws();

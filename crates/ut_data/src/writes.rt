@@ -3,11 +3,13 @@
 ghost use Rattle.std.specs.Prelude.{◌≡◌, ◌<◌, ℕ, IfErr, IsErrOf, IsTrue, List, None, OnOk, Option, Some, is_ok};
 ghost use Rattle.ut_data.specs.Decoding.{has_types, kinds_in};
 ghost use Rattle.ut_data.specs.Encoding.{row_from};
-ghost use Rattle.ut_data.specs.Parts.{AllFit, HasRecords, IsBrokenAt, RecordRows, set_at};
+ghost use Rattle.ut_data.specs.Parts.{HasRecords, IsBrokenAt, RecordRows, set_at};
 ghost use Rattle.ut_keeper.specs.Draft.{DraftTells, DraftWorks, count_of, state_of, tables_of};
 ghost use Rattle.ut_keeper.specs.State.{KeeperCause, StaysAfter};
 ghost use Rattle.ut_keys.specs.declared.fail.StoreFail.TheVariants.{Damaged, Keeper};
 ghost use Rattle.ut_keys.specs.Keys.{Key};
+ghost use Rattle.ut_keys.specs.Reads.{MayStandAt};
+ghost use Rattle.ut_keys.specs.Rows.{data_form};
 ghost use Rattle.ut_model.specs.SoundRecords.{all_valid};
 
 use crate::encoding::row_of;
@@ -34,10 +36,15 @@ pub fn store_record<K: Keeper>(
     requires types { IsTrue (has_types layout.now) }
     requires values { IsTrue (all_valid (kinds_in layout.now.fields) item.now.values) }
     ensures ok { DraftTells K.state draft.old draft.new
-        → OnOk result ((rows : RecordRows) (rest : Key → Option (List ℕ)) → AllFit layout.now.org layout.now.object rows
+        → OnOk result ((rows : RecordRows) (rest : Key → Option (List ℕ)) → MayStandAt data_form (layout.now.org, (layout.now.object, item.now.id)) (rows item.now.id)
         → HasRecords layout.now.org layout.now.object rows rest (tables_of K.state draft.old)
         → HasRecords layout.now.org layout.now.object
         (set_at item.now.id (Some (row_from layout.now item.now (rows item.now.id))) rows) rest (tables_of K.state draft.new)) }
+    // The row that is stored has a spelling, so that the next store finds it.
+    ensures fits { DraftTells K.state draft.old draft.new
+        → OnOk result ((rows : RecordRows) (rest : Key → Option (List ℕ)) → MayStandAt data_form (layout.now.org, (layout.now.object, item.now.id)) (rows item.now.id)
+        → HasRecords layout.now.org layout.now.object rows rest (tables_of K.state draft.old)
+        → MayStandAt data_form (layout.now.org, (layout.now.object, item.now.id)) (Some (row_from layout.now item.now (rows item.now.id)))) }
     ensures damaged { DraftTells K.state draft.old draft.new
         → IfErr result (λ e. e ≡ Damaged → IsBrokenAt layout.now.org layout.now.object item.now.id (tables_of K.state draft.old)) }
     ensures whole { DraftTells K.state draft.old draft.new

@@ -1,4 +1,4 @@
-use Rattle.ut_data.proofs.Reading.{row_reads}
+use Rattle.ut_data.proofs.Reading.{object_kinds, object_typed, row_reads}
 use Rattle.ut_data.proofs.RecordFits.{record_fits}
 use Rattle.ut_data.proofs.Sound.{values_printable}
 use Rattle.ut_data.proofs.Rewriting.{row_rewritten}
@@ -19,3 +19,9 @@ returns-clause-fits c org n p t o r lo sound fits is has of = record_fits c.id_l
 
 pub returns-clause-rewritten : goal.returns-clause-rewritten
 returns-clause-rewritten c org n p t o q r same past printable = row_rewritten org n p t o q r same past printable
+
+pub returns-clause-typed : goal.returns-clause-typed
+returns-clause-typed c org n p t o sound is = object_typed org n p t o sound is
+
+pub returns-clause-kinds : goal.returns-clause-kinds
+returns-clause-kinds c org n p t o = object_kinds org n p t o

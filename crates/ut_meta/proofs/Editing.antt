@@ -41,15 +41,22 @@ EditedStands = (p : Plan) (m : Tables) (w : World) (n : ℕ) (t u : Tenant) (q :
     → StandsBy (with_plan n q p) (with_changes changes m) (with_tenant w n u)
 
 -- an edit that accepts, by the changes that were made
+pub edit_stands : EditedStands → (p : Plan) (m after : Tables) (w : World) (org : ℕ) (t u : Tenant) (q : OrgPlan) (v : Verdict) (changes : List Change)
+    → StandsBy p m w → tenant_at w org ≡ Some t → v ≡ accept done u → IsSound v.tenant → FitsPlan q u → AllByRecursion (IsOf org q u) changes
+    → ((k : Key) → owner_of k ≡ Some org → is_changed changes k ≡ false → row_in q u k ≡ row_in (p.org org) t k)
+    → after ≡ with_changes changes m → StandsBy (with_plan org q p) after (with_tenant w org v.tenant)
+edit_stands edited p m after w org t u q v changes s at is sound fits are rest made =
+    let next : v.tenant ≡ u = ap (λ (x : Verdict). x.tenant) is in
+    let stands = edited p m w org t u q changes s at (subst IsSound next sound) fits are rest in
+    let there : StandsBy (with_plan org q p) after (with_tenant w org u) = subst (λ (x : Tables). StandsBy (with_plan org q p) x (with_tenant w org u)) (sym made) stands in
+    subst (λ (x : Tenant). StandsBy (with_plan org q p) after (with_tenant w org x)) (sym next) there
+
 pub edit_done : EditedStands → (p : Plan) (m after : Tables) (w : World) (org : ℕ) (t u : Tenant) (q : OrgPlan) (v : Verdict) (changes : List Change)
     → StandsBy p m w → tenant_at w org ≡ Some t → v ≡ accept done u → IsSound v.tenant → FitsPlan q u → AllByRecursion (IsOf org q u) changes
     → ((k : Key) → owner_of k ≡ Some org → is_changed changes k ≡ false → row_in q u k ≡ row_in (p.org org) t k)
     → after ≡ with_changes changes m → EditsIn org v w after (Ok tt)
 edit_done edited p m after w org t u q v changes s at is sound fits are rest made =
-    let next : v.tenant ≡ u = ap (λ (x : Verdict). x.tenant) is in
-    let stands = edited p m w org t u q changes s at (subst IsSound next sound) fits are rest in
-    let there : StandsBy (with_plan org q p) after (with_tenant w org u) = subst (λ (x : Tables). StandsBy (with_plan org q p) x (with_tenant w org u)) (sym made) stands in
-    (ap (λ (x : Verdict). x.answer) is, (with_plan org q p, subst (λ (x : Tenant). StandsBy (with_plan org q p) after (with_tenant w org x)) (sym next) there))
+    (ap (λ (x : Verdict). x.answer) is, (with_plan org q p, edit_stands edited p m after w org t u q v changes s at is sound fits are rest made))
 
 -- a verdict whose rules don't refuse
 pub unless_none : (rule : Rule) (t : Tenant) (v : Verdict) → None ≡ rule → unless rule t v ≡ v

@@ -33,7 +33,7 @@ use Rattle.ut_stands.specs.Fails.{of_store}
 use Rattle.ut_stands.specs.Layouts.{layout_of, layouts_of, object_row}
 use Rattle.ut_stands.specs.Metadata.{field_of, object_of}
 use Rattle.ut_stands.specs.Operations.{EditsIn}
-use Rattle.ut_stands.specs.Plan.{FitsPlan, OrgPlan, Plan, slot_count}
+use Rattle.ut_stands.specs.Plan.{FitsPlan, OrgPlan, Plan, slot_count, with_plan}
 use Rattle.ut_stands.specs.Records.{has_free, is_field_key, is_free, is_object_key, suits_flags, with_slot}
 use Rattle.ut_stands.specs.Stands.{Stands, StandsBy, row_in}
 use Rattle.ut_stands.specs.declared.fail.EditFail.{EditFail}
@@ -41,9 +41,10 @@ use Rattle.ut_stands.specs.declared.fail.EditFail.TheVariants.{Store}
 use Rattle.ut_stands.specs.declared.layout.Layout.{Layout}
 use Rattle.ut_value.specs.Types.{suits_indexed, suits_unique}
 use Rattle.ut_meta.specs.Judging.{AreLayouts, layouts_in, refusal_of}
+use Rattle.ut_meta.specs.Slots.{IsLeastFree, TakesLeastFree}
 use Rattle.ut_meta.specs.inner.FieldRows.{IsRowFor, IsSpelled, MakesRow, PutsField, counted_change, field_change, row_with}
 use Rattle.ut_meta.specs.inner.Relations.{named_in, target_in}
-use Rattle.ut_meta.proofs.Editing.{EditedStands, beside, edit_done, eqb_same, named_at, other_field, other_object, some_is, unrefused}
+use Rattle.ut_meta.proofs.Editing.{EditedStands, beside, edit_stands, eqb_same, named_at, other_field, other_object, some_is, unrefused}
 use Rattle.ut_meta.proofs.JudgedFields.{on_object, unnamed}
 use Rattle.ut_meta.proofs.Layouts.{named_is}
 use Rattle.ut_meta.proofs.Putting.{put_is_of}
@@ -193,6 +194,7 @@ module _ (t : Tenant) (n : ℕ) (o : Object) (f : Field) (there : object_at t n 
 pub record IsAccepted (org : ℕ) (p : OrgPlan) (t : Tenant) (b : NewField) (ls : List Layout) : Type 0 where
   pub on : Numbered
   pub target : Option ℕ
+  pub is_on : object_named t b.object ≡ Some on
   pub there : object_at t on.number ≡ Some on.object
   pub named : named_in ls b.object ≡ Some (layout_of org p t on)
   pub targets : target_in ls b.kind ≡ Ok target
@@ -224,6 +226,7 @@ module _ (org : ℕ) (p : OrgPlan) (t : Tenant) (b : NewField) (ls : List Layout
       record {
         on = o;
         target = k.0;
+        is_on = here;
         there = named_at t b.object o here;
         named = named_is org p t ls are b.object ∙ ap (option_map (layout_of org p t)) here;
         targets = k.1;
@@ -243,7 +246,7 @@ pub are_layouts : (org : ℕ) (p : Plan) (w : World) (t : Tenant) (ls : List Lay
 are_layouts org p w t ls at are = (org, p.org org, are ∙ layouts_there org p w t at)
 
 module _ (tenants : TenantSound) (fields : FieldSound) (p : Plan) (m : Tables) (w : World) (org : ℕ) (t : Tenant) (b : NewField) (ls : List Layout) (s : StandsBy p m w) (at : tenant_at w org ≡ Some t) (fit : IsTrue (is_fit_field b)) (are : ls ≡ layouts_of org p w) (none : None ≡ refusal_of (add_field t b)) where
-  it : IsAccepted org (p.org org) t b ls
+  pub it : IsAccepted org (p.org org) t b ls
   it = accepted org (p.org org) t b ls (are ∙ layouts_there org p w t at) none
 
   abbrev n : ℕ
@@ -270,28 +273,39 @@ module _ (tenants : TenantSound) (fields : FieldSound) (p : Plan) (m : Tables) (
       ∙ ap (option_and_then (λ (t : Tenant). option_map (object_of org t n) (object_at t n))) at
       ∙ ap (option_map (object_of org t n)) it.there
 
-  pub field_done : EditedStands → RowsElsewhere → ObjectFits → FieldFits → SameCount → HasFree → SeesFree → PlanFits → org < 2 ^ 32
-      → (row : FieldRow) (after : Tables) → MakesRow ls b (Ok row) → PutsField row m after (Ok tt) → EditsIn org (add_field t b) w after (Ok tt)
-  field_done edited elsewhere object_fits field_fits same has sees plans low row after makes puts =
+  pub field_stands : EditedStands → RowsElsewhere → ObjectFits → FieldFits → SameCount → HasFree → SeesFree → PlanFits → org < 2 ^ 32
+      → (row : FieldRow) (after : Tables) → MakesRow ls b (Ok row) → PutsField row m after (Ok tt) → TakesLeastFree org b p w t it.on after
+  field_stands edited elsewhere object_fits field_fits same has sees plans low row after makes puts =
       let q = p.org org in
       let r : IsRowFor (layout_of org q t it.on) f row = makes (layout_of org q t it.on) it.target it.named it.targets in
       let slot = row.slot in
       let few = few_before t n o f it.there sound_next in
       let some = has q t.job n o (omega (arith, few)) in
-      let free : is_free q t.job n o slot ≡ true = sym (sees q t org n o slot) ∙ r.free some.0 some.1 (sees q t org n o some.0 ∙ some.2) in
+      let least : IsLeastFree (layout_of org q t it.on) slot = r.least some.0 some.1 (sees q t org n o some.0 ∙ some.2) in
+      let free : is_free q t.job n o slot ≡ true = sym (sees q t org n o slot) ∙ least.free in
       let good = plans q t n o f slot sound_before (s.plans org t at) it.there r.below free in
       let old = object_of org t n o in
       let field = field_change old (row_with org n 0 slot f) in
       let changes : List Change = counted_change old ∷ field ∷ [] in
       let made : after ≡ with_changes changes m =
-      puts p w old s (row_there row r.made) ∙ ap (λ (x : FieldRow). with_changes (counted_change old ∷ field_change old x ∷ []) m) r.made in
-      edit_done edited p m after w org t (with_field n f t) (with_slot n (length o.fields) slot q) (add_field t b) changes s at it.verdict sound_after good
-      (object_is t n o f it.there sound_next org q slot low same object_fits, (field_is t n o f it.there sound_next org q slot low field_fits good, tt))
-      (λ k of unchanged.
-      let first = beside (counted_change old) (field ∷ []) k unchanged in
-      let second = beside field [] k first.1 in
-      elsewhere q t n o f slot k sound_before it.there free (suits t n o f it.there sound_next) (other_object org n k of first.0) (other_field org n (length o.fields) k of second.0))
-      made
+      puts p w old s (row_there row r.made) ∙ ap (λ (x : FieldRow). with_changes (counted_change old ∷ field_change old x ∷ []) m) r.made in (
+        slot,
+        least,
+        edit_stands edited p m after w org t (with_field n f t) (with_slot n (length o.fields) slot q) (add_field t b) changes s at it.verdict sound_after good
+            (object_is t n o f it.there sound_next org q slot low same object_fits, (field_is t n o f it.there sound_next org q slot low field_fits good, tt))
+            (λ k of unchanged.
+            let first = beside (counted_change old) (field ∷ []) k unchanged in
+            let second = beside field [] k first.1 in
+            elsewhere q t n o f slot k sound_before it.there free (suits t n o f it.there sound_next) (other_object org n k of first.0) (other_field org n (length o.fields) k of second.0))
+            made,
+      )
+
+  pub field_takes : (on : Numbered) (after : Tables) → object_named t b.object ≡ Some on → TakesLeastFree org b p w t it.on after → TakesLeastFree org b p w t on after
+  field_takes on after named takes = subst (λ (x : Numbered). TakesLeastFree org b p w t x after) (some_is it.on on (sym it.is_on ∙ named)) takes
+
+  pub field_done : (after : Tables) → TakesLeastFree org b p w t it.on after → EditsIn org (add_field t b) w after (Ok tt)
+  field_done after takes =
+      (ap (λ (v : Verdict). v.answer) it.verdict, (with_plan org (with_slot n (length o.fields) takes.0 (p.org org)) p, takes.2))
 
   -- ---- failures
 

@@ -1,7 +1,6 @@
 -- What an edit of metadata is judged by: the layouts of an organisation's objects.
--- Source: Salesforce, "Custom Object" and "Custom Field", as in the definitions of new objects and fields. That a free slot is
--- the least is this product's own.
-use Rattle.std.specs.Prelude.{◌≡◌, ℕ, ◌<◌, false, List, map, Option, Some, None, Result, Ok, Err, IsTrue}
+-- Source: Salesforce, "Custom Object" and "Custom Field", as in the definitions of new objects and fields.
+use Rattle.std.specs.Prelude.{◌≡◌, ℕ, List, map, Option, Some, None, Result, Ok, Err}
 use Rattle.std.specs.Option.{option_map}
 use Rattle.ut_model.specs.Objects.{numbered, object_named}
 use Rattle.ut_model.specs.Rules.{Rule}
@@ -10,7 +9,6 @@ use Rattle.ut_model.specs.Verdict.{Done, Verdict}
 use Rattle.ut_model.specs.declared.refusal.Refusal.{Refusal}
 use Rattle.ut_stands.specs.Layouts.{layout_of}
 use Rattle.ut_stands.specs.Plan.{OrgPlan}
-use Rattle.ut_stands.specs.Records.{has_free}
 use Rattle.ut_stands.specs.declared.layout.Layout.{Layout}
 
 -- ---- layouts
@@ -36,10 +34,3 @@ refused (Err refusal) = Some refusal
 -- why a request is refused, if it is
 abbrev pub refusal_of : Verdict → Rule
 refusal_of v = refused v.answer
-
--- ---- slots
-
--- it is free, and no slot below it is
-pub record IsLeastFree (l : Layout) (slot : ℕ) : Type 0 where
-  pub free : IsTrue (has_free l slot)
-  pub least : (s : ℕ) → s < slot → has_free l s ≡ false

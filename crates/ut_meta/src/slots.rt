@@ -2,7 +2,7 @@
 
 ghost use Rattle.std.specs.Prelude.{◌≡◌, ◌<◌, ◌≤◌, ◌==◌, ℕ, IsTrue, length};
 ghost use Rattle.std.specs.List.{list_any};
-ghost use Rattle.ut_meta.specs.Judging.{IsLeastFree};
+ghost use Rattle.ut_meta.specs.Slots.{IsLeastFree};
 ghost use Rattle.ut_meta.specs.inner.Relations.{is_changing};
 ghost use Rattle.ut_model.specs.Retyping.{job_is_done};
 ghost use Rattle.ut_stands.specs.Records.{has_free};

@@ -19,6 +19,7 @@ use Rattle.ut_stands.specs.Layouts.{object_row}
 use Rattle.ut_stands.specs.Plan.{Plan}
 use Rattle.ut_stands.specs.Records.{has_free}
 use Rattle.ut_stands.specs.Stands.{StandsBy}
+use Rattle.ut_meta.specs.Slots.{IsLeastFree}
 use Rattle.ut_meta.specs.inner.Relations.{named_in, target_in}
 
 -- ---- the field's row
@@ -43,10 +44,10 @@ pub record IsSpelled (f : Field) : Type 0 where
   pub kind : FitsType f.kind
   pub child : IfSome f.child FitsText
 
--- the row of this field of the object with this layout, in a free slot if there is one
+-- the row of this field of the object with this layout, in the least slot that is free if one is
 pub record IsRowFor (l : Layout) (f : Field) (row : FieldRow) : Type 0 where
   pub made : row ≡ row_with l.org l.object 0 row.slot f
-  pub free : (s : ℕ) → s < 48 → IsTrue (has_free l s) → IsTrue (has_free l row.slot)
+  pub least : (s : ℕ) → s < 48 → IsTrue (has_free l s) → IsLeastFree l row.slot
   pub below : row.slot < 48
 
 -- the row of a new field by these layouts

@@ -6,8 +6,10 @@ ghost use Rattle.ut_keeper.specs.State.{KeeperCause, StaysAfter};
 ghost use Rattle.ut_keys.specs.declared.fail.StoreFail.TheVariants.{Keeper, Memory};
 ghost use Rattle.ut_keys.specs.Forms.{FitsForm};
 ghost use Rattle.ut_keys.specs.Rows.{field_form};
+ghost use Rattle.ut_meta.specs.Slots.{TakesLeastFree};
 ghost use Rattle.ut_meta.specs.inner.FieldRows.{IsSpelled, MakesRow, PutsField, row_with};
 ghost use Rattle.ut_model.specs.NewFields.{add_field, child_of, new_field, type_with};
+ghost use Rattle.ut_model.specs.Objects.{Numbered, object_named};
 ghost use Rattle.ut_model.specs.Tenant.{Tenant};
 ghost use Rattle.ut_model.specs.World.{World, tenant_at};
 ghost use Rattle.ut_parts.specs.Composed.{FitsType};
@@ -15,7 +17,8 @@ ghost use Rattle.ut_parts.specs.Plain.{FitsText};
 ghost use Rattle.ut_sound.specs.Fit.{is_fit_field};
 ghost use Rattle.ut_stands.specs.Fails.{IsRefusal, KeeperFailsEdit, is_judged};
 ghost use Rattle.ut_stands.specs.Operations.{EditsIn};
-ghost use Rattle.ut_stands.specs.Stands.{Stands};
+ghost use Rattle.ut_stands.specs.Plan.{Plan};
+ghost use Rattle.ut_stands.specs.Stands.{Stands, StandsBy};
 
 use crate::edits::copies::{copy_of_text, copy_of_type};
 use crate::judging::{judge_field, target_number};
@@ -140,7 +143,7 @@ fn put_field<K: Keeper>(
     Ok(())
 }
 
-/// Adds a field to an object: in each of its records it is null, or false.
+/// Adds a field to an object, in the least slot that is free: in each of its records it is null, or false.
 ///
 /// # Errors
 ///
@@ -156,6 +159,10 @@ pub fn add_field<K: Keeper>(
         → (w : World) (t : Tenant) → Stands (tables_of K.state draft.old) w → tenant_at w org ≡ Some t
         → IsTrue (is_fit_field new.now)
         → EditsIn org (add_field t new.now) w (tables_of K.state draft.new) result }
+    ensures slot { DraftTells K.state draft.old draft.new
+        → (p : Plan) (w : World) (t : Tenant) (o : Numbered) → StandsBy p (tables_of K.state draft.old) w → tenant_at w org ≡ Some t
+        → IsTrue (is_fit_field new.now) → object_named t new.now.object ≡ Some o
+        → OnOk result (TakesLeastFree org new.now p w t o (tables_of K.state draft.new)) }
     ensures some { OnOk result (0 < count_of draft.new) }
     ensures refused { IfErr result (λ e. IsRefusal e → DraftReads K.state 0 draft.old draft.new) }
     ensures works { DraftWorks K.state 2 0 0 draft.old draft.new }

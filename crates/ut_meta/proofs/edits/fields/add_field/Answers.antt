@@ -6,7 +6,7 @@ use Rattle.ut_meta.specs.Judging.{refusal_of}
 use Rattle.ut_meta.specs.inner.FieldRows.{PutsField}
 use Rattle.std.specs.Prelude.{Ok, Err}
 use Rattle.ut_meta.proofs.Editing.{refused_so}
-use Rattle.ut_meta.proofs.FieldStands.{are_layouts, field_done, passed_on, put_fails, row_fails}
+use Rattle.ut_meta.proofs.FieldStands.{are_layouts, field_done, field_stands, field_takes, passed_on, put_fails, row_fails}
 use Rattle.ut_meta.proofs.Putting.{reads_tables, reads_then, works_first}
 use Rattle.ut_meta.proofs.edits.fields.add_field.Goals as goal
 
@@ -65,6 +65,27 @@ returns-clause-edits g c told w t s at fit =
     let none : None ≡ refusal_of (add_field t b) = sym c.in_default.is ∙ judged in
     let same = reads_tables state 0 c.args.draft.now c.layouts.new.draft c.layouts.ensures.reads first in
     let puts = subst (λ (x : Tables). PutsField row x after (Ok tt)) same (c.in_ok-put_field.ensures.puts then) in
-    field_done c.stands_laws.ensures.sound c.objects_sound.ensures.add_field s.0 m w org t b c.as_slice-2.result.now s.1 at fit (c.as_slice-2.ensures ∙ found) none
+    let takes = field_stands c.stands_laws.ensures.sound c.objects_sound.ensures.add_field s.0 m w org t b c.as_slice-2.result.now s.1 at fit (c.as_slice-2.ensures ∙ found) none
     c.stands_laws.ensures.edited c.metadata_laws.ensures.field c.metadata_laws.ensures.object_fits c.metadata_laws.ensures.field_fits c.metadata_laws.ensures.counted c.slot_laws.ensures.free c.slot_laws.ensures.seen
-    c.slot_laws.ensures.field (omega arith) row after c.in_ok-row.ensures.makes puts
+    c.slot_laws.ensures.field (omega arith) row after c.in_ok-row.ensures.makes puts in
+    field_done c.stands_laws.ensures.sound c.objects_sound.ensures.add_field s.0 m w org t b c.as_slice-2.result.now s.1 at fit (c.as_slice-2.ensures ∙ found) none after takes
+
+pub returns-clause-slot : goal.returns-clause-slot
+returns-clause-slot g c told p w t o by at fit here =
+    let state = g.K.Keeper.state in
+    let first = works_first state 2 0 0 c.args.draft.now c.layouts.new.draft c.put_field.new.draft c.put_field.ensures.works told in
+    let then = reads_then state 0 c.args.draft.now c.layouts.new.draft c.put_field.new.draft c.layouts.ensures.reads first told in
+    let m = tables_of state c.args.draft.now in
+    let after = tables_of state c.put_field.new.draft in
+    let org = c.args.org in
+    let b = c.args.new.now in
+    let row = c.in_ok-row.row in
+    let found = c.in_ok-all.ensures.finds first p w by in
+    let judged = c.in_ok-refusal.ensures t (are_layouts org p w t c.as_slice.result.now at (c.as_slice.ensures ∙ found)) in
+    let none : None ≡ refusal_of (add_field t b) = sym c.in_default.is ∙ judged in
+    let same = reads_tables state 0 c.args.draft.now c.layouts.new.draft c.layouts.ensures.reads first in
+    let puts = subst (λ (x : Tables). PutsField row x after (Ok tt)) same (c.in_ok-put_field.ensures.puts then) in
+    let takes = field_stands c.stands_laws.ensures.sound c.objects_sound.ensures.add_field p m w org t b c.as_slice-2.result.now by at fit (c.as_slice-2.ensures ∙ found) none
+    c.stands_laws.ensures.edited c.metadata_laws.ensures.field c.metadata_laws.ensures.object_fits c.metadata_laws.ensures.field_fits c.metadata_laws.ensures.counted c.slot_laws.ensures.free c.slot_laws.ensures.seen
+    c.slot_laws.ensures.field (omega arith) row after c.in_ok-row.ensures.makes puts in
+    field_takes c.stands_laws.ensures.sound c.objects_sound.ensures.add_field p m w org t b c.as_slice-2.result.now by at fit (c.as_slice-2.ensures ∙ found) none o after here takes

@@ -36,15 +36,18 @@ pub fn store_record<K: Keeper>(
     requires types { IsTrue (has_types layout.now) }
     requires values { IsTrue (all_valid (kinds_in layout.now.fields) item.now.values) }
     ensures ok { DraftTells K.state draft.old draft.new
-        → OnOk result ((rows : RecordRows) (rest : Key → Option (List ℕ)) → MayStandAt data_form (layout.now.org, (layout.now.object, item.now.id)) (rows item.now.id)
+        → OnOk result ((rows : RecordRows) (rest : Key → Option (List ℕ))
+        → MayStandAt data_form (layout.now.org, (layout.now.object, item.now.id)) (rows item.now.id)
         → HasRecords layout.now.org layout.now.object rows rest (tables_of K.state draft.old)
         → HasRecords layout.now.org layout.now.object
         (set_at item.now.id (Some (row_from layout.now item.now (rows item.now.id))) rows) rest (tables_of K.state draft.new)) }
     // The row that is stored has a spelling, so that the next store finds it.
     ensures fits { DraftTells K.state draft.old draft.new
-        → OnOk result ((rows : RecordRows) (rest : Key → Option (List ℕ)) → MayStandAt data_form (layout.now.org, (layout.now.object, item.now.id)) (rows item.now.id)
+        → OnOk result ((rows : RecordRows) (rest : Key → Option (List ℕ))
+        → MayStandAt data_form (layout.now.org, (layout.now.object, item.now.id)) (rows item.now.id)
         → HasRecords layout.now.org layout.now.object rows rest (tables_of K.state draft.old)
-        → MayStandAt data_form (layout.now.org, (layout.now.object, item.now.id)) (Some (row_from layout.now item.now (rows item.now.id)))) }
+        → MayStandAt data_form (layout.now.org, (layout.now.object, item.now.id))
+        (Some (row_from layout.now item.now (rows item.now.id)))) }
     ensures damaged { DraftTells K.state draft.old draft.new
         → IfErr result (λ e. e ≡ Damaged → IsBrokenAt layout.now.org layout.now.object item.now.id (tables_of K.state draft.old)) }
     ensures whole { DraftTells K.state draft.old draft.new

@@ -1,11 +1,14 @@
 //! One request: who calls, what is answered, and the keeper after it.
 
-ghost use Rattle.std.specs.Prelude.{◌≡◌, ◌⊎◌, IfOk, IsErrOf, IsTrue, OnErr, Some, is_ok, true};
-ghost use Rattle.ut_keeper.specs.Draft.{DraftReads, DraftTells, state_of, tables_of};
-ghost use Rattle.ut_keeper.specs.State.{KeeperCause, Shows, StaysAfter, Steps, Tells};
+ghost use Rattle.std.specs.Prelude.{◌≡◌, ◌<◌, ◌+◌, ◌⊎◌, IfOk, IsErrOf, IsTrue, OnErr, Some, is_ok, true};
+ghost use Rattle.ut_keeper.specs.Draft.{DraftReads, DraftTells, DraftWorks, count_of, removals_of, state_of, tables_of};
+ghost use Rattle.ut_keeper.specs.State.{KeeperCause, Shows, StaysAfter, Steps, Tells, data_table};
 ghost use Rattle.ut_keeper.specs.Tables.{Tables};
 ghost use Rattle.ut_keys.specs.declared.fail.StoreFail.TheVariants.{Keeper};
-ghost use Rattle.ut_model.specs.Step.{answered, caller_by, in_org, step};
+ghost use Rattle.ut_model.specs.declared.limit.Limit.TheVariants as limit;
+ghost use Rattle.ut_model.specs.Built.{answered, step};
+ghost use Rattle.ut_model.specs.Limits.{limit_number};
+ghost use Rattle.ut_model.specs.Step.{caller_by, in_org};
 ghost use Rattle.ut_model.specs.World.{World};
 ghost use Rattle.ut_stands.specs.Operations.{Does, IsChange, Judges};
 ghost use Rattle.ut_stands.specs.Reads.{FindsAs};
@@ -64,7 +67,7 @@ fn caller_of<K: Keeper>(
     }
 }
 
-// Judges what a caller's message asks for. As yet no request reads the tables or changes them.
+// Judges what a caller's message asks for, as the caller's.
 fn answer_caller<K: Keeper>(
     alloc: Global,
     draft: &mut Draft<'_, K>,
@@ -77,23 +80,23 @@ fn answer_caller<K: Keeper>(
         → caller_by w (message_in message.now) ≡ Some caller.now
         → Judges (λ v. in_org v caller.now.org (answered caller.now (message_in message.now) now)) w
         (tables_of K.state draft.new) result }
-    ensures unchanging { IsChange result → ⊥ }
+    ensures changing { IsChange result → 0 < count_of draft.new }
     ensures form { IfOk result JudgedForm }
-    ensures reads { DraftReads K.state 0 draft.old draft.new }
+    ensures works { DraftWorks K.state 3 0
+        (limit_number limit.RecordsPerObject + removals_of K.state data_table draft.old) draft.old draft.new }
     ensures stays { StaysAfter (is_ok result) (state_of K.state draft.old) (state_of K.state draft.new) }
     ensures cause { KeeperCause (state_of K.state draft.old) (state_of K.state draft.new) (IsErrOf result Keeper) }
 {
-    draft_laws::<K>();
     step_laws();
-    match respond(
+    respond(
         alloc,
+        draft,
         caller,
         message.method.as_str(),
         message.target.as_str(),
-    ) {
-        Ok(reply) => Ok(Judged::Same(reply)),
-        Err(_) => Err(StoreFail::Memory),
-    }
+        message.body.as_slice(),
+        now,
+    )
 }
 
 // Judges a caller's message, and makes the bytes of its reply.
@@ -108,8 +111,9 @@ fn judge_called<K: Keeper>(
         → (w : World) → Stands (tables_of K.state draft.old) w
         → caller_by w (message_in message.now) ≡ Some caller.now
         → Judges (does (message_in message.now) message.now.close now) w (tables_of K.state draft.new) result }
-    ensures unchanging { IsChange result → ⊥ }
-    ensures reads { DraftReads K.state 0 draft.old draft.new }
+    ensures changing { IsChange result → 0 < count_of draft.new }
+    ensures works { DraftWorks K.state 3 0
+        (limit_number limit.RecordsPerObject + removals_of K.state data_table draft.old) draft.old draft.new }
     ensures stays { StaysAfter (is_ok result) (state_of K.state draft.old) (state_of K.state draft.new) }
     ensures cause { KeeperCause (state_of K.state draft.old) (state_of K.state draft.new) (IsErrOf result Keeper) }
 {
@@ -130,8 +134,9 @@ fn judge<K: Keeper>(
     ensures judged { DraftTells K.state draft.old draft.new
         → (w : World) → Stands (tables_of K.state draft.old) w
         → Judges (does (message_in message.now) message.now.close now) w (tables_of K.state draft.new) result }
-    ensures unchanging { IsChange result → ⊥ }
-    ensures reads { DraftReads K.state 0 draft.old draft.new }
+    ensures changing { IsChange result → 0 < count_of draft.new }
+    ensures works { DraftWorks K.state 3 0
+        (limit_number limit.RecordsPerObject + removals_of K.state data_table draft.old) draft.old draft.new }
     ensures stays { StaysAfter (is_ok result) (state_of K.state draft.old) (state_of K.state draft.new) }
     ensures cause { KeeperCause (state_of K.state draft.old) (state_of K.state draft.new) (IsErrOf result Keeper) }
 {

@@ -119,11 +119,11 @@ user_is a b e = cc
 -- who is found has the id that was looked for, and is found by the id
 id_is : (us : List User) (i : List ℕ) (u : User) → user_at us i ≡ Some u → u.id ≡ i
 id_is [] i u e = absurd cc
-id_is (x ∷ us) i u e = by (bytes_eq i x.id) refl e
+id_is (x ∷ us) i u e = by (λ rest. id_is us i u rest) (bytes_eq i x.id) refl e
   where
-    by : (b : Bool) → bytes_eq i x.id ≡ b → cond b (Some x) (user_at us i) ≡ Some u → u.id ≡ i
-    by true same e = ap (λ (y : User). y.id) (sym (user_is x u e)) ∙ sym ((bytes_eq-Decides i x.id).0 same)
-    by false same e = id_is us i u e
+    by : (user_at us i ≡ Some u → u.id ≡ i) → (b : Bool) → bytes_eq i x.id ≡ b → cond b (Some x) (user_at us i) ≡ Some u → u.id ≡ i
+    by rest true same e = ap (λ (y : User). y.id) (sym (user_is x u e)) ∙ sym ((bytes_eq-Decides i x.id).0 same)
+    by rest false same e = rest e
 
 found_id : (us : List User) (i : List ℕ) (u : User) → user_at us i ≡ Some u → user_at us u.id ≡ Some u
 found_id us i u e = ap (λ k. user_at us k) (id_is us i u e) ∙ e
@@ -155,7 +155,7 @@ module _ (w : World) (m : Message) where
       by None at e = absurd cc
       by (Some t) at e =
           let h = user_in n t c e in
-          (t, (h.0, record { tenant = ap (λ k. tenant_at w k) (org_of_caller n t c e) ∙ at; user = h.1.0; admin = h.1.1 }))
+          (t, h.0, record { tenant = ap (λ k. tenant_at w k) (org_of_caller n t c e) ∙ at; user = h.1.0; admin = h.1.1 })
 
   pub user_of : (c : Caller) → caller_by w m ≡ Some c → (t : Tenant) × (u : User) × IsUser w c t u
   user_of c e = user_by (named_in m) c (sym (by_bearer w m.bearer) ∙ e)

@@ -77,12 +77,12 @@ edited equal puts removes same p m w n t u q changes s at sound fits are rest =
     targets (c ∷ cs) h = (ap (λ b. cond b (row_in q u c.0) (row_at p w c.0)) (own_is n (owner_of c.0) h.0.1) ∙ h.0.2, targets cs h.1)
 
     unchanged : (k : Key) → is_changed changes k ≡ false → row_at p w k ≡ target k
-    unchanged k no =
+    unchanged k same_key =
         pick (option_eq eqb (owner_of k) (Some n)) (λ b. row_at p w k ≡ cond b (row_in q u k) (row_at p w k))
-        (λ mine. let o = owned_so n (owner_of k) mine in own p w n t k at o ∙ sym (rest k o no))
+        (λ mine. let o = owned_so n (owner_of k) mine in own p w n t k at o ∙ sym (rest k o same_key))
         (λ _. refl)
 
     rows_are : (k : Key) → rows_after changes (row_at p w) k ≡ target k
     rows_are k =
         after_is equal target changes (row_at p w) k (targets changes are)
-        ∙ pick (is_changed changes k) (λ b. cond b (target k) (row_at p w k) ≡ target k) (λ _. refl) (λ no. unchanged k no)
+        ∙ pick (is_changed changes k) (λ b. cond b (target k) (row_at p w k) ≡ target k) (λ _. refl) (λ apart. unchanged k apart)

@@ -6,7 +6,7 @@ use Rattle.std.proofs.lemmas.Bool.{eqb-true}
 use Rattle.ut_http.specs.Reply.{phrase}
 use Rattle.ut_model.specs.declared.reply.Reply.{Reply}
 use Rattle.ut_model.specs.Refusals.{is_refusal_status}
-use Rattle.ut_rest.specs.Replies as rest
+use Rattle.ut_rest.specs.Forms as rest
 use Rattle.ut_serving.specs.Requests.{HasForm, JudgedForm}
 use Rattle.ut_stands.specs.declared.judged.Judged.{Judged}
 use Rattle.ut_stands.specs.declared.judged.Judged.TheVariants.{Changed, Same}

@@ -95,7 +95,6 @@ fn answer_caller<K: Keeper>(
         message.method.as_str(),
         message.target.as_str(),
         message.body.as_slice(),
-        now,
     )
 }
 

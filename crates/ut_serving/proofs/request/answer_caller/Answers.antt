@@ -28,7 +28,7 @@ returns-clause-judged g c told w s e =
     replied (λ v. in_org v who.org (answered who m c.args.now)) w who.org a (verdict_to a c.as_slice.result.now (routed method target)) (tables_of g.K.Keeper.state c.respond.new.draft) c.respond.result
     (c.step_laws.ensures.answered w m c.args.now who t u is ∙ ap (λ (v : Verdict). (reply_of a v.answer, with_tenant w who.org v.tenant)) same)
     (c.step_laws.ensures.same w who.org t is.tenant)
-    (c.respond.ensures.judged told w t u s is)
+    (c.respond.ensures.judged told w t u c.args.now s is)
 
 pub returns-clause-form : goal.returns-clause-form
 returns-clause-form g c = IfOk-weaker c.respond.result _ _ judged_form c.respond.ensures.form

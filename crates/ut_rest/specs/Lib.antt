@@ -1,3 +1,3 @@
 pub mod Lines
 pub mod Meetings
-pub mod Forms
+pub mod Replies

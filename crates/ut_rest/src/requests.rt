@@ -1,6 +1,6 @@
 //! What a caller's request is answered.
 
-ghost use Rattle.std.specs.Prelude.{◌≡◌, ◌<◌, ◌+◌, ℕ, IfOk, IsErrOf, is_ok};
+ghost use Rattle.std.specs.Prelude.{◌≡◌, ◌<◌, ◌+◌, IfOk, IsErrOf, is_ok};
 ghost use Rattle.std.specs.Str.{chars};
 ghost use Rattle.ut_keeper.specs.Draft.{DraftTells, DraftWorks, count_of, removals_of, state_of, tables_of};
 ghost use Rattle.ut_keeper.specs.State.{KeeperCause, StaysAfter, data_table};
@@ -12,7 +12,7 @@ ghost use Rattle.ut_model.specs.Limits.{limit_number};
 ghost use Rattle.ut_model.specs.Routing.{routed};
 ghost use Rattle.ut_model.specs.Tenant.{Tenant, User};
 ghost use Rattle.ut_model.specs.World.{World};
-ghost use Rattle.ut_rest.specs.Forms.{HasForm};
+ghost use Rattle.ut_rest.specs.Replies.{HasForm};
 ghost use Rattle.ut_stands.specs.Operations.{IsChange, RepliesIn};
 ghost use Rattle.ut_stands.specs.Stands.{Stands};
 
@@ -30,9 +30,10 @@ pub fn respond<K: Keeper>(
     method: &str,
     target: &str,
     body: &[u8],
+    now: u64,
 ) -> Result<Judged<Reply>, StoreFail>
     ensures judged { DraftTells K.state draft.old draft.new
-        → (w : World) (t : Tenant) (u : User) (now : ℕ) → Stands (tables_of K.state draft.old) w → IsUser w caller.now t u
+        → (w : World) (t : Tenant) (u : User) → Stands (tables_of K.state draft.old) w → IsUser w caller.now t u
         → RepliesIn caller.now.org (asking t now u)
         (verdict_to (asking t now u) body.now (routed (chars method.now) (chars target.now))) w
         (tables_of K.state draft.new) result }

@@ -18,3 +18,4 @@ pub mod Pages
 pub mod Walking
 pub mod WrittenFits
 pub mod Rewriting
+pub mod Records

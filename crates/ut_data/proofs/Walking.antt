@@ -122,7 +122,7 @@ module _ {A : Type 0} (walk : WalkLaws) (m : Tables) (l : Layout) (after : Optio
             let (here, of, past) = member walk.laws walk.keys ids p m w s l one lo small after r (has_take limit all r has) in
             subst (λ (k : Layout). record_from k (row r) ≡ Some r) one.made
             (walk.laws.read l.org l.object (p.org l.org) one.tenant one.object r (sound walk.laws walk.keys ids p m w s l one lo small) (plan walk.laws walk.keys ids p m w s l one lo small) one.there here of));
-        gives = subst (λ (us : List DataRow). GivesRows us rows) (take-map row limit all) (page_gives walk.pages m (row_at p w) from above (map row all) limit s.rows lists rows page);
+        gives = subst (λ (us : List DataRow). GivesRows us rows) (take-map row limit all) (page_gives walk.pages m (row_at p w) s.rows from (Some above) (map row all) limit lists rows page);
       }
 
   given : (w : World) (k : Walked A w l after limit rows) (v : Vec DataRow A) → rows ≡ Ok v → v.items ≡ map k.row k.listed → listed_from l rows ≡ Ok k.listed

@@ -8,8 +8,10 @@ mod decoding;
 mod encoding;
 mod laws;
 mod reads;
+mod writes;
 
 pub use crate::decoding::{has_types, record_of, record_within};
 pub use crate::encoding::row_of;
-pub use crate::laws::data_laws;
+pub use crate::laws::{data_laws, part_laws};
 pub use crate::reads::{load_record, walk};
+pub use crate::writes::{erase_record, store_record};

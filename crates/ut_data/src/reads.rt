@@ -29,7 +29,8 @@ use ut_parts::{CodecFail, shape_laws};
 use ut_stands::{Layout, stands_laws};
 use ut_value::{Id, Items, id_laws};
 
-fn key_of(org: u32, object: u16, id: &Id) -> (u32, (u16, Id))
+// The key of a record's row.
+pub(crate) fn key_of(org: u32, object: u16, id: &Id) -> (u32, (u16, Id))
     ensures is { result ≡ (org, (object, id.now)) }
     ensures fits { FitsIn record_key (org, (object, id.now)) }
 {
@@ -182,7 +183,6 @@ pub fn walk<K: Keeper>(
     ensures stays { StaysAfter (is_ok result) (state_of K.state draft.old) (state_of K.state draft.new) }
     ensures cause { KeeperCause (state_of K.state draft.old) (state_of K.state draft.new) (IsErrOf result Keeper) }
 {
-    row_laws::<DataRow>();
     listing_laws::<DataRow>();
     table_laws();
     shape_laws();

@@ -74,11 +74,11 @@ pub no_object : (t : Tenant) (ls : List Layout) → AreLayouts t ls → (b : New
 no_object t ls h b e = rw (absent t ls h b.object e) refl
 
 -- the verdict on a field of this object, whose type refers to this one
-abbrev on_object : Tenant → Numbered → NewField → Option ℕ → Verdict
+abbrev pub on_object : Tenant → Numbered → NewField → Option ℕ → Verdict
 on_object t o b target = judged t (field_rules t o target b) (accept done (with_field o.number (new_field target b) t))
 
 -- there is no object with this name
-abbrev unnamed : List ℕ → Result (Option ℕ) (List ℕ)
+abbrev pub unnamed : List ℕ → Result (Option ℕ) (List ℕ)
 unnamed name = Err name
 
 module _ (t : Tenant) (ls : List Layout) (h : AreLayouts t ls) (b : NewField) (o : Numbered) where

@@ -4,3 +4,9 @@ pub mod Layouts
 pub mod Judged
 pub mod JudgedFields
 pub mod Steps
+pub mod Putting
+pub mod Editing
+pub mod AccessEdits
+pub mod NewObjects
+pub mod ObjectEdits
+pub mod FieldStands

@@ -1,2 +1,4 @@
+pub mod FieldRows
 pub mod Fields
 pub mod Relations
+pub mod NewRows

@@ -4,6 +4,7 @@
 //! exactly as the verdict of its request says, and a new field takes the least slot that is free.
 #![tactic(auto)]
 
+mod edits;
 mod judging;
 mod members;
 mod references;
@@ -11,5 +12,6 @@ mod relations;
 mod rules;
 mod slots;
 
+pub use crate::edits::{add_field, add_object, set_access};
 pub use crate::judging::{judge_access, judge_field, judge_object, target_number};
 pub use crate::slots::free_slot;

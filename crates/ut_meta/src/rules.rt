@@ -8,7 +8,12 @@ use std::alloc::{AllocError, Global};
 use ut_model::{Limit, Refusal};
 use ut_value::Text;
 
-fn copy_of(alloc: Global, text: &Text) -> Result<Text, AllocError>
+/// A copy of a text.
+///
+/// # Errors
+///
+/// When out of memory.
+pub fn copy_of(alloc: Global, text: &Text) -> Result<Text, AllocError>
     ensures { IfOk result (λ copy. copy ≡ text.now) }
 {
     Text::from_str(alloc, text.as_str())

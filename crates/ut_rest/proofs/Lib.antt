@@ -2,4 +2,6 @@ pub mod Characters
 pub mod Meetings
 pub mod Queries
 pub mod Tables
-mod Refusing
+pub mod Refused
+pub mod Named
+pub mod Answering

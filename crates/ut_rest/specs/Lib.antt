@@ -1,2 +1,4 @@
+pub mod Forms
 pub mod Lines
 pub mod Meetings
+pub mod inner

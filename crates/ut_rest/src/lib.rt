@@ -1,14 +1,18 @@
-//! From a method and a target to the request that they ask for, and to its reply.
+//! From a caller's request, its method, target and body, to its reply, over a draft.
 //!
-//! It depends on the texts of `ut_value`, on the definitions of routes and of the step in `ut_model`, on `ut_soql` for the
-//! object that a query asks for, and on `form_urlencoded` for query strings. Its contract: `respond` returns the reply of the
-//! definition `verdict_of`, `route` what the definition `routed` gives for the characters of the method and the target, and
-//! `query_text` the text that the definition of that name finds in a query string. All can fail only when out of memory.
+//! It depends on the definitions of routes and of the step in `ut_model`, on `ut_query` for the object that a query asks for,
+//! on `ut_stands`, `ut_data` and `ut_replies` for an object's records and their rows, on `ut_admin` for administration, and on
+//! `form_urlencoded` for query strings. Its contract: over tables that stand for a world, `respond` returns the reply of the
+//! definition `verdict_to`, and the draft's tables then stand for the world with what the verdict leaves of the organisation.
+//! `route` returns what the definition `routed` gives for the characters of the method and the target, and `query_text` the
+//! text that the definition of that name finds in a query string, or they are out of memory.
 #![tactic(auto)]
 
 mod kind;
+mod names;
 mod pattern;
 mod query;
+mod replies;
 mod requests;
 mod routing;
 mod table;

@@ -1,47 +1,32 @@
 //! What a caller's request is answered.
 
-ghost use Rattle.std.specs.Prelude.{◌≡◌, ◌&&◌, ℕ, List, IfOk, IsTrue, not};
+ghost use Rattle.std.specs.Prelude.{◌≡◌, ◌&&◌, ◌+◌, ◌<◌, ℕ, IfOk, IsErrOf, Some, is_ok, not};
 ghost use Rattle.std.specs.Str.{chars};
-ghost use Rattle.ut_model.specs.declared.caller.Caller as asking;
-ghost use Rattle.ut_model.specs.Refusals.{is_refusal_status};
+ghost use Rattle.ut_keeper.specs.Draft.{DraftTells, DraftWorks, count_of, removals_of, state_of, tables_of};
+ghost use Rattle.ut_keeper.specs.State.{KeeperCause, StaysAfter, data_table};
+ghost use Rattle.ut_keys.specs.declared.fail.StoreFail.TheVariants.{Keeper};
+ghost use Rattle.ut_model.specs.declared.limit.Limit.TheVariants as limit;
+ghost use Rattle.ut_model.specs.declared.routed.Routed.TheVariants.{To};
+ghost use Rattle.ut_model.specs.Built.{asking, verdict_to};
+ghost use Rattle.ut_model.specs.Callers.{IsUser};
+ghost use Rattle.ut_model.specs.Limits.{limit_number};
+ghost use Rattle.ut_model.specs.Paths.{Asked};
 ghost use Rattle.ut_model.specs.Routing.{is_administration, routed};
-ghost use Rattle.ut_model.specs.Step.{query_refusal, refusal_reply, refused, verdict, verdict_of};
-ghost use Rattle.ut_model.specs.Tenant.{Tenant};
+ghost use Rattle.ut_model.specs.Tenant.{Tenant, User};
+ghost use Rattle.ut_model.specs.World.{World, tenant_at};
+ghost use Rattle.ut_rest.specs.Forms.{HasForm};
+ghost use Rattle.ut_stands.specs.Operations.{IsChange, RepliesIn};
+ghost use Rattle.ut_stands.specs.Stands.{Stands};
 
-use crate::query::query_text;
+use crate::names::answer_query;
+use crate::replies::refuse;
 use crate::routing::route;
-use std::alloc::{AllocError, Global};
+use std::alloc::Global;
+use ut_admin::administer;
+use ut_keeper::{Draft, Keeper, draft_laws};
+use ut_keys::StoreFail;
 use ut_model::{Caller, Refusal, Reply, Route, Routed};
-use ut_query::asked_object;
-use ut_value::Text;
-
-// Why a query is refused, by the object whose ids and names it asks for.
-fn query_refusal(alloc: Global, object: Option<Text>) -> Result<Refusal, AllocError>
-    ensures { IfOk result (λ r. r ≡ query_refusal object) }
-{
-    match object {
-        Some(name) => Ok(Refusal::InvalidType { name }),
-        None => Ok(Refusal::NotBuilt {
-            what: Text::from_str(alloc, "query")?,
-        }),
-    }
-}
-
-// Why a request is refused: of the routes that of queries alone is built.
-fn refusal_of(alloc: Global, route: &Route) -> Result<Refusal, AllocError>
-    ensures { IfOk result (λ r. (who : asking.Caller) (now : ℕ) (body : List ℕ) (t : Tenant)
-        → verdict who now route.now body t ≡ refused r t) }
-{
-    match route {
-        Route::Query { pairs } => {
-            let text = query_text(alloc, pairs)?;
-            query_refusal(alloc, asked_object(alloc, text.as_str())?)
-        }
-        _ => Ok(Refusal::NotBuilt {
-            what: Text::from_str(alloc, "route")?,
-        }),
-    }
-}
+use ut_stands::Judged;
 
 // Whether the request is for administrators, and its caller is none.
 fn lacks_administrator(caller: &Caller, route: &Route) -> bool
@@ -50,37 +35,65 @@ fn lacks_administrator(caller: &Caller, route: &Route) -> bool
     route.is_administration() && !caller.admin
 }
 
-fn refuse(alloc: Global, refusal: Refusal) -> Result<Reply, AllocError>
-    ensures value { IfOk result (λ r. r ≡ refusal_reply refusal) }
-    ensures known { IfOk result (λ r. IsTrue (is_refusal_status r.status)) }
+// Answers a request.
+fn answer<K: Keeper>(
+    alloc: Global,
+    draft: &mut Draft<'_, K>,
+    caller: &Caller,
+    route: &Route,
+    body: &[u8],
+) -> Result<Judged<Reply>, StoreFail>
+    ensures judged { DraftTells K.state draft.old draft.new
+        → (w : World) (a : Asked) → Stands (tables_of K.state draft.old) w → tenant_at w caller.now.org ≡ Some a.tenant
+        → a.user.admin ≡ caller.now.admin
+        → RepliesIn caller.now.org a (verdict_to a body.now (To route.now)) w (tables_of K.state draft.new) result }
+    ensures form { IfOk result HasForm }
+    ensures changing { IsChange result → 0 < count_of draft.new }
+    ensures works { DraftWorks K.state 3 0 (limit_number limit.RecordsPerObject + removals_of K.state data_table draft.old) draft.old draft.new }
+    ensures stays { StaysAfter (is_ok result) (state_of K.state draft.old) (state_of K.state draft.new) }
+    ensures cause { KeeperCause (state_of K.state draft.old) (state_of K.state draft.new) (IsErrOf result Keeper) }
 {
-    refusal.reply(alloc)
+    draft_laws::<K>();
+    if lacks_administrator(caller, route) {
+        return refuse(alloc, Refusal::AdminRequired);
+    }
+    match route {
+        Route::Query { pairs } => answer_query(alloc, draft, caller, pairs),
+        _ => administer(alloc, draft, caller.org, route, body),
+    }
 }
 
-/// What a caller's request is answered: as yet each is refused, and changes nothing.
+/// Judges a caller's request over the draft, and makes its reply: 204 if the draft holds the change that it asks for; rows or a
+/// refusal if it changes nothing.
 ///
 /// # Errors
 ///
-/// When out of memory.
-pub fn respond(
+/// `Keeper` if the keeper failed, `Memory` if out of memory, `Damaged` never if the tables stand for a world of which the caller
+/// is a user.
+pub fn respond<K: Keeper>(
     alloc: Global,
+    draft: &mut Draft<'_, K>,
     caller: &Caller,
     method: &str,
     target: &str,
-) -> Result<Reply, AllocError>
-    ensures judged { IfOk result (λ r. (now : ℕ) (body : List ℕ) (t : Tenant)
-        → verdict_of caller.now now (routed (chars method.now) (chars target.now)) body t ≡ (r, t)) }
-    ensures known { IfOk result (λ r. IsTrue (is_refusal_status r.status)) }
+    body: &[u8],
+) -> Result<Judged<Reply>, StoreFail>
+    // At any moment: no request that is built looks at the time.
+    ensures judged { DraftTells K.state draft.old draft.new
+        → (w : World) (t : Tenant) (u : User) (now : ℕ) → Stands (tables_of K.state draft.old) w → IsUser w caller.now t u
+        → RepliesIn caller.now.org (asking t now u) (verdict_to (asking t now u) body.now (routed (chars method.now) (chars target.now))) w
+        (tables_of K.state draft.new) result }
+    ensures form { IfOk result HasForm }
+    ensures changing { IsChange result → 0 < count_of draft.new }
+    ensures works { DraftWorks K.state 3 0 (limit_number limit.RecordsPerObject + removals_of K.state data_table draft.old) draft.old draft.new }
+    ensures stays { StaysAfter (is_ok result) (state_of K.state draft.old) (state_of K.state draft.new) }
+    ensures cause { KeeperCause (state_of K.state draft.old) (state_of K.state draft.new) (IsErrOf result Keeper) }
 {
-    match route(alloc, method, target)? {
-        Routed::To(route) => {
-            if lacks_administrator(caller, &route) {
-                refuse(alloc, Refusal::AdminRequired)
-            } else {
-                refuse(alloc, refusal_of(alloc, &route)?)
-            }
-        }
-        Routed::NotFound => refuse(alloc, Refusal::NotFound),
-        Routed::NotAllowed => refuse(alloc, Refusal::MethodNotAllowed),
+    draft_laws::<K>();
+    match route(alloc, method, target) {
+        Ok(Routed::To(route)) => answer(alloc, draft, caller, &route, body),
+        Ok(Routed::NotFound) => refuse(alloc, Refusal::NotFound),
+        Ok(Routed::NotAllowed) => refuse(alloc, Refusal::MethodNotAllowed),
+        Err(_) => Err(StoreFail::Memory),
     }
 }

@@ -33,7 +33,7 @@ use Rattle.ut_stands.specs.declared.layout.Layout.{Layout}
 use Rattle.ut_stands.proofs.Found.{row_of, sound_tenant}
 use Rattle.ut_stands.proofs.MetadataLists.{KeyLaws, fields_listed, objects_listed}
 use Rattle.ut_stands.proofs.MetadataRows.{job_there, object_there, sound_object}
-use Rattle.ut_stands.proofs.Pages.{GivesRows, ListedRows, OneRow, ReadsAgain, page_gives}
+use Rattle.ut_stands.proofs.Pages.{GivesRows, PageLaws, page_gives}
 
 -- ---- what failed
 
@@ -89,20 +89,20 @@ few_fields p m w org n s = by (tenant_at w org) refl
     by None e = omega arith
     by (Some t) e = of_object t e (object_at t n) refl
 
-module _ (keys : KeyLaws) (again : ReadsAgain) where
-  pub objects_read : OneRow object_form → ListedRows object_form → (m : Tables) (org : ℕ) → org < 2 ^ 32 → {A : Type 0} (r : Result (Vec ObjectRow A) StoreFail)
+module _ (keys : KeyLaws) where
+  pub objects_read : PageLaws object_form → (m : Tables) (org : ℕ) → org < 2 ^ 32 → {A : Type 0} (r : Result (Vec ObjectRow A) StoreFail)
       → ListsAs object_form (take 101 (rows_to m 2 (number32 org) (raised (number32 org)))) r → ListsBy (object_rows org) m r
-  objects_read one lists m org lo r e =
+  objects_read pages m org lo r e =
       given_by (object_rows org) m r (λ p w s.
       subst (λ (rows : List ObjectRow). GivesRows rows r) (take_all 101 (object_rows org p w) (few_objects p m w org s))
-      (page_gives object_form one again lists m (row_at p w) s.rows (number32 org) (raised (number32 org)) (object_rows org p w) 101 (objects_listed keys p m w s org lo) r e))
+      (page_gives object_form pages m (row_at p w) s.rows (number32 org) (raised (number32 org)) (object_rows org p w) 101 (objects_listed keys p m w s org lo) r e))
 
-  pub fields_read : OneRow field_form → ListedRows field_form → (m : Tables) (org n : ℕ) → org < 2 ^ 32 → n < 2 ^ 16 → {A : Type 0} (r : Result (Vec FieldRow A) StoreFail)
+  pub fields_read : PageLaws field_form → (m : Tables) (org n : ℕ) → org < 2 ^ 32 → n < 2 ^ 16 → {A : Type 0} (r : Result (Vec FieldRow A) StoreFail)
       → ListsAs field_form (take 41 (rows_to m 3 (number32 org ++ number16 n) (raised (number32 org ++ number16 n)))) r → ListsBy (field_rows org n) m r
-  fields_read one lists m org n lo small r e =
+  fields_read pages m org n lo small r e =
       given_by (field_rows org n) m r (λ p w s.
       subst (λ (rows : List FieldRow). GivesRows rows r) (take_all 41 (field_rows org n p w) (few_fields p m w org n s))
-      (page_gives field_form one again lists m (row_at p w) s.rows (number32 org ++ number16 n) (raised (number32 org ++ number16 n)) (field_rows org n p w) 41 (fields_listed keys p m w s org lo n small) r e))
+      (page_gives field_form pages m (row_at p w) s.rows (number32 org ++ number16 n) (raised (number32 org ++ number16 n)) (field_rows org n p w) 41 (fields_listed keys p m w s org lo n small) r e))
 
 -- ---- places
 

@@ -13,7 +13,7 @@ use Rattle.ut_keeper.specs.Tables.{Tables, bytes_cmp, is_between}
 use Rattle.ut_keys.specs.declared.field.FieldRow.{FieldRow}
 use Rattle.ut_keys.specs.Forms.{Form, row_bytes}
 use Rattle.ut_keys.specs.Keys.{FitsKey, Key, Field, Object, spell}
-use Rattle.ut_keys.specs.Listings.{ListsBetween}
+use Rattle.ut_keys.specs.Listings.{ListsBetween, ListsTo}
 use Rattle.ut_keys.specs.Rows.{field_form, object_form}
 use Rattle.ut_parts.specs.Plain.{number16, number32}
 use Rattle.ut_parts.specs.Shapes.{Both, FitsIn, Number16, Number32, Number8, Shape, Val, front, front_of, in_order, is_key_shape, spelled}
@@ -31,7 +31,6 @@ use Rattle.ut_stands.proofs.Found.{owned_at, sound_tenant}
 use Rattle.ut_stands.proofs.Lookups.{none_is}
 use Rattle.ut_stands.proofs.MetadataRows.{field_fits, object_fits, sound_object}
 use Rattle.ut_stands.proofs.Numbered.{AreNumbered, numbered_lists}
-use Rattle.ut_stands.proofs.Pages.{ListsTo}
 
 -- the laws of keys, as `ut_keys` and `ut_parts` say
 abbrev pub UnderPrefix : Type 0

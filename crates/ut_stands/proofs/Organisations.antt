@@ -1,5 +1,5 @@
 -- What is read at an organisation's key is that organisation's row.
-use Rattle.std.proofs.Common.{◌≡◌, ℕ, ◌<◌, ◌^◌, ◌∙◌, List, Option, Some, None, refl, arith}
+use Rattle.std.proofs.Common.{◌≡◌, ℕ, ◌<◌, ◌^◌, ◌∙◌, Option, Some, None, refl, arith}
 use Rattle.std.specs.Prelude.{Result, Ok, Err}
 use Rattle.std.specs.Option.{option_and_then, option_map}
 use Rattle.std.specs.FinMap as map
@@ -13,10 +13,10 @@ use Rattle.ut_keys.specs.Reads.{ReadsAs}
 use Rattle.ut_keys.specs.Rows.{org_form}
 use Rattle.ut_model.specs.Sound.{IsSound}
 use Rattle.ut_model.specs.Tenant.{Tenant}
-use Rattle.ut_model.specs.World.{World, tenant_at}
+use Rattle.ut_model.specs.World.{tenant_at}
 use Rattle.ut_stands.specs.Layouts.{FindsBy, org_row}
 use Rattle.ut_stands.specs.Metadata.{org_of}
-use Rattle.ut_stands.specs.Plan.{OrgPlan, Plan}
+use Rattle.ut_stands.specs.Plan.{OrgPlan}
 use Rattle.ut_stands.specs.Stands.{row_in}
 use Rattle.ut_stands.proofs.Found.{FindsRow, IsRowOf, row_finds, row_of}
 use Rattle.ut_stands.proofs.Names.{NamesAreShort, NamesAreTexts, name_fits}

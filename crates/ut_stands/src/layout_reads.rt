@@ -54,7 +54,6 @@ fn fields_of<K: Keeper>(
     ensures stays { StaysAfter (is_ok result) (state_of K.state draft.old) (state_of K.state draft.new) }
     ensures cause { KeeperCause (state_of K.state draft.old) (state_of K.state draft.new) (IsErrOf result Keeper) }
 {
-    row_laws::<FieldRow>();
     listing_laws::<FieldRow>();
     table_laws();
     shape_laws();
@@ -138,7 +137,6 @@ fn objects_of<K: Keeper>(
     ensures stays { StaysAfter (is_ok result) (state_of K.state draft.old) (state_of K.state draft.new) }
     ensures cause { KeeperCause (state_of K.state draft.old) (state_of K.state draft.new) (IsErrOf result Keeper) }
 {
-    row_laws::<ObjectRow>();
     listing_laws::<ObjectRow>();
     table_laws();
     shape_laws();

@@ -19,7 +19,7 @@ returns-clause-finds g c told =
     let walk : WalkLaws = record {
       laws = record { own = c.stands_laws.ensures.own; read = c.data_laws.ensures.read; fits = c.data_laws.ensures.fits };
       keys = record { under = c.table_laws.ensures.under; compares = c.shape_laws.ensures.compared; begins = c.shape_laws.ensures.begins; after = c.walk_laws.ensures.after_zero };
-      pages = record { again = c.shape_laws.ensures.again; one = c.row_laws.ensures.one; listed = c.listing_laws.ensures.listed };
+      pages = record { kept = c.listing_laws.ensures.kept; page = c.listing_laws.ensures.page };
       makes = c.id_laws.ensures.made;
       ends = c.table_laws.ensures.ends;
     } in

@@ -1,7 +1,12 @@
-use Rattle.std.proofs.Common.{◌∙◌, sym}
-use Rattle.ut_rest.proofs.Refusing.{judged}
+use Rattle.std.proofs.Common.{subst, sym, ◌∙◌}
+use Rattle.ut_keeper.specs.Draft.{tables_of}
+use Rattle.ut_model.specs.declared.routed.Routed.{Routed}
+use Rattle.ut_model.specs.Built.{asking, verdict_to}
+use Rattle.ut_stands.specs.Operations.{RepliesIn}
 use Rattle.ut_rest.proofs.requests.respond.Goals as goal
 
-pub returns-in-To-clause-judged : goal.returns-in-To-clause-judged
-returns-in-To-clause-judged c =
-    judged c.args.caller.now c.in-To.route _ c.in_ok-refusal_of-in-To.field-0 c.refuse-else-lacks_administrator.result (sym c.in-To.is ∙ c.in_ok-route.ensures) (sym c.lacks_administrator.ensures ∙ c.if-lacks_administrator.false) c.in_ok-refusal_of-in-To.ensures c.refuse-else-lacks_administrator.ensures.value
+pub returns-in-Ok-To-clause-judged : goal.returns-in-Ok-To-clause-judged
+returns-in-Ok-To-clause-judged g c told w t u now s user =
+    let a = asking t now u in
+    subst (λ (r : Routed). RepliesIn c.args.caller.now.org a (verdict_to a c.args.body.now r) w (tables_of g.K.Keeper.state c.answer.new.draft) c.answer.result)
+    (sym c.in-Ok-To.field-0-is ∙ c.in-Ok-To.ensures) (c.answer.ensures.judged told w a s user.tenant user.admin)

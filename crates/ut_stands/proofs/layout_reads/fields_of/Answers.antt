@@ -1,10 +1,12 @@
 use Rattle.std.proofs.Common.{◌∙◌, Err, ap, arith, subst, sym}
 use Rattle.std.proofs.lemmas.Result.{err_from_is_err_and}
 use Rattle.ut_keeper.specs.Draft.{tables_of}
+use Rattle.ut_keys.specs.Rows.{field_form}
 use Rattle.ut_stands.specs.inner.LayoutRows.{ListsBy, field_rows, places_in}
 use Rattle.ut_stands.specs.Layouts.{FindsBy}
 use Rattle.ut_stands.proofs.LayoutReads.{fields_read, list_failed, places_found}
 use Rattle.ut_stands.proofs.MetadataLists.{KeyLaws}
+use Rattle.ut_stands.proofs.Pages.{PageLaws}
 use Rattle.ut_stands.proofs.layout_reads.fields_of.Goals as goal
 
 pub returns-in_err-rows-clause-finds : goal.returns-in_err-rows-clause-finds
@@ -18,7 +20,8 @@ returns-in_err-rows-clause-finds g c told =
       compares = c.shape_laws.ensures.compared;
       begins = c.shape_laws.ensures.begins;
     } in
-    let read = fields_read keys c.shape_laws.ensures.again c.row_laws.ensures.one c.listing_laws.ensures.listed m org n (omega arith) (omega arith) c.page_under.result (c.page_under.ensures.rows told) in
+    let pages : PageLaws field_form = record { kept = c.listing_laws.ensures.kept; page = c.listing_laws.ensures.page } in
+    let read = fields_read keys pages m org n (omega arith) (omega arith) c.page_under.result (c.page_under.ensures.rows told) in
     let p = err_from_is_err_and c.from_residual.result c.from_residual.ensures.1 in
     subst (FindsBy (places_in org n) m) (sym (p.1 ∙ ap Err p.2)) (list_failed (field_rows org n) (places_in org n) m c.page_under.result c.in_err-rows.field-0.0 c.in_err-rows.was read)
 
@@ -33,5 +36,6 @@ returns-clause-finds g c told =
       compares = c.shape_laws.ensures.compared;
       begins = c.shape_laws.ensures.begins;
     } in
-    let read = fields_read keys c.shape_laws.ensures.again c.row_laws.ensures.one c.listing_laws.ensures.listed m org n (omega arith) (omega arith) c.page_under.result (c.page_under.ensures.rows told) in
+    let pages : PageLaws field_form = record { kept = c.listing_laws.ensures.kept; page = c.listing_laws.ensures.page } in
+    let read = fields_read keys pages m org n (omega arith) (omega arith) c.page_under.result (c.page_under.ensures.rows told) in
     places_found org n m c.in_ok-rows.rows.items c.in_ok-places_of.field-0 c.in_ok-places_of.ensures (subst (ListsBy (field_rows org n) m) c.in_ok-rows.was read)

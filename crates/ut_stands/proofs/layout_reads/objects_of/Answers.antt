@@ -1,7 +1,9 @@
 use Rattle.std.proofs.Common.{arith}
 use Rattle.ut_keeper.specs.Draft.{tables_of}
+use Rattle.ut_keys.specs.Rows.{object_form}
 use Rattle.ut_stands.proofs.LayoutReads.{objects_read}
 use Rattle.ut_stands.proofs.MetadataLists.{KeyLaws}
+use Rattle.ut_stands.proofs.Pages.{PageLaws}
 use Rattle.ut_stands.proofs.layout_reads.objects_of.Goals as goal
 
 pub returns-clause-finds : goal.returns-clause-finds
@@ -13,4 +15,5 @@ returns-clause-finds g c told =
       compares = c.shape_laws.ensures.compared;
       begins = c.shape_laws.ensures.begins;
     } in
-    objects_read keys c.shape_laws.ensures.again c.row_laws.ensures.one c.listing_laws.ensures.listed m c.args.org (omega arith) c.page_under.result (c.page_under.ensures.rows told)
+    let pages : PageLaws object_form = record { kept = c.listing_laws.ensures.kept; page = c.listing_laws.ensures.page } in
+    objects_read keys pages m c.args.org (omega arith) c.page_under.result (c.page_under.ensures.rows told)

@@ -1,0 +1,2 @@
+pub mod Administration
+pub mod inner

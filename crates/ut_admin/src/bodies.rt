@@ -1,0 +1,72 @@
+//! What the bodies of administrators' requests ask for.
+
+ghost use Rattle.std.specs.Prelude.{◌≡◌, List, ℕ};
+ghost use Rattle.ut_admin.specs.inner.Edits.{Asks, form_of};
+ghost use Rattle.ut_model.specs.Built.{built_request, needs_index};
+ghost use Rattle.ut_model.specs.Requests.{adds_field, adds_object, sets_object};
+ghost use Rattle.ut_model.specs.declared.route.Route.TheVariants.{AddField, AddObject, SetObject};
+
+use std::alloc::{AllocError, Global};
+use ut_bodies::{new_access, new_field, new_object};
+use ut_keys::StoreFail;
+use ut_model::{NewField, NewObject, Refusal};
+use ut_stands::EditFail;
+use ut_value::{Access, Text};
+
+// What was read, where a body that isn't of its form is refused.
+fn form_of<T>(read: Result<Option<T>, AllocError>) -> Result<T, EditFail>
+    ensures { result ≡ form_of read }
+{
+    match read {
+        Ok(Some(new)) => Ok(new),
+        Ok(None) => Err(EditFail::Refused(Refusal::BodyForm)),
+        Err(_) => Err(EditFail::Store(StoreFail::Memory)),
+    }
+}
+
+/// The object that a body asks for.
+///
+/// # Errors
+///
+/// `Refused` with `BodyForm` if the body isn't of that form; `Store` with `Memory` if out of memory.
+pub(crate) fn object_in(alloc: Global, body: &[u8]) -> Result<NewObject, EditFail>
+    ensures { Asks adds_object (built_request AddObject body.now) result }
+{
+    form_of(new_object(alloc, body))
+}
+
+/// The access that a body asks for.
+///
+/// # Errors
+///
+/// `Refused` with `BodyForm` if the body isn't of that form; `Store` with `Memory` if out of memory.
+pub(crate) fn access_in(alloc: Global, body: &[u8]) -> Result<Access, EditFail>
+    ensures { (object : List ℕ) → Asks (sets_object object) (built_request (SetObject object) body.now) result }
+{
+    form_of(new_access(alloc, body))
+}
+
+// Whether rows are needed that aren't written yet.
+fn needs_index(new: &NewField) -> bool
+    ensures { result ≡ needs_index (adds_field new.now) }
+{
+    new.unique || new.indexed
+}
+
+/// The field that a body asks for.
+///
+/// # Errors
+///
+/// `Refused` with `BodyForm` if the body isn't of that form, and with `NotBuilt` if it asks for a field that is unique or
+/// indexed; `Store` with `Memory` if out of memory.
+pub(crate) fn field_in(alloc: Global, body: &[u8]) -> Result<NewField, EditFail>
+    ensures { Asks adds_field (built_request AddField body.now) result }
+{
+    let new = form_of(new_field(alloc, body))?;
+    if needs_index(&new) {
+        return Err(EditFail::Refused(Refusal::NotBuilt {
+            what: Text::from_str(alloc, "flag")?,
+        }));
+    }
+    Ok(new)
+}

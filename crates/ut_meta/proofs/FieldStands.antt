@@ -1,0 +1,318 @@
+-- Tables with the rows of a new field stand for the world with it.
+use Rattle.std.proofs.Common.{◌≡◌, ◌∙◌, ℕ, zero, suc, ◌+◌, ◌<◌, ◌≤◌, ◌^◌, Bool, true, false, ◌&&◌, cond, eqb, IsTrue, List, [], ◌∷◌, ◌++◌, length, map, Option, Some, None, refl, sym, ap, subst, arith, length-append}
+use Rattle.std.specs.Prelude.{Result, Ok, Err, IsErrAnd, slice_get}
+use Rattle.std.specs.List.{AllByRecursion, enumerate_from}
+use Rattle.std.specs.Option.{option_and_then, option_map}
+use Rattle.ut_keeper.specs.Tables.{Tables}
+use Rattle.ut_keys.specs.declared.fail.StoreFail.{StoreFail}
+use Rattle.ut_keys.specs.declared.fail.StoreFail.TheVariants.{Damaged, Keeper, Memory}
+use Rattle.ut_keys.specs.declared.field.FieldRow.{FieldRow}
+use Rattle.ut_keys.specs.declared.object.ObjectRow.{ObjectRow}
+use Rattle.ut_keys.specs.Forms.{FitsForm, row_bytes}
+use Rattle.ut_keys.specs.Keys as key
+use Rattle.ut_keys.specs.Keys.{Key}
+use Rattle.ut_keys.specs.Rows.{field_form, object_form}
+use Rattle.ut_model.specs.declared.limit.Limit.TheVariants as limit
+use Rattle.ut_model.specs.declared.metadata_bodies.NewField.{NewField}
+use Rattle.ut_model.specs.declared.metadata_bodies.SpelledType.{SpelledType}
+use Rattle.ut_model.specs.declared.metadata_bodies.SpelledType.TheVariants.{Plain, LookupTo}
+use Rattle.ut_model.specs.declared.refusal.Refusal.TheVariants.{InvalidType}
+use Rattle.ut_model.specs.Cases.{in_case}
+use Rattle.ut_model.specs.Limits.{limit_number}
+use Rattle.ut_model.specs.NewFields.{add_field, field_rules, new_field, with_field, with_target}
+use Rattle.ut_model.specs.Objects.{Numbered, change_at, numbered, object_at, object_named, records_of}
+use Rattle.ut_model.specs.Rules.{first_refusal}
+use Rattle.ut_model.specs.Sound.{IsSound}
+use Rattle.ut_model.specs.SoundMetadata.{IsSoundField, IsSoundObject, implies}
+use Rattle.ut_model.specs.Tenant.{Field, Job, Object, Tenant}
+use Rattle.ut_model.specs.Verdict.{Verdict, accept, done, judged, refuse, with_object}
+use Rattle.ut_model.specs.World.{World, tenant_at}
+use Rattle.ut_sound.specs.Fit.{is_fit_field}
+use Rattle.ut_stands.specs.Changes.{Change, IsOf, is_changed, with_changes}
+use Rattle.ut_stands.specs.Fails.{of_store}
+use Rattle.ut_stands.specs.Layouts.{layout_of, layouts_of, object_row}
+use Rattle.ut_stands.specs.Metadata.{field_of, object_of}
+use Rattle.ut_stands.specs.Operations.{EditsIn}
+use Rattle.ut_stands.specs.Plan.{FitsPlan, OrgPlan, Plan, slot_count}
+use Rattle.ut_stands.specs.Records.{has_free, is_field_key, is_free, is_object_key, suits_flags, with_slot}
+use Rattle.ut_stands.specs.Stands.{Stands, StandsBy, owner_of, row_in}
+use Rattle.ut_stands.specs.declared.fail.EditFail.{EditFail}
+use Rattle.ut_stands.specs.declared.fail.EditFail.TheVariants.{Store}
+use Rattle.ut_stands.specs.declared.layout.Layout.{Layout}
+use Rattle.ut_value.specs.Types.{suits_indexed, suits_unique}
+use Rattle.ut_meta.specs.Judging.{AreLayouts, layouts_in, refusal_of}
+use Rattle.ut_meta.specs.inner.FieldRows.{IsRowFor, IsSpelled, MakesRow, PutsField, counted_change, field_change, row_with}
+use Rattle.ut_meta.specs.inner.Relations.{named_in, target_in}
+use Rattle.ut_meta.proofs.Editing.{EditedStands, beside, edit_done, eqb_same, named_at, other_field, other_object, some_is, unrefused}
+use Rattle.ut_meta.proofs.JudgedFields.{on_object, unnamed}
+use Rattle.ut_meta.proofs.Layouts.{named_is}
+use Rattle.ut_meta.proofs.Putting.{put_is_of}
+
+-- ---- what the layers below say of rows, plans and sound organisations
+
+abbrev pub RowsElsewhere : Type 0
+RowsElsewhere = (p : OrgPlan) (t : Tenant) (n : ℕ) (o : Object) (f : Field) (s : ℕ) (k : Key) → IsSound t → object_at t n ≡ Some o → IsTrue (is_free p t.job n o s) → IsTrue (suits_flags f)
+    → is_object_key n k ≡ false → is_field_key n (length o.fields) k ≡ false → row_in (with_slot n (length o.fields) s p) (with_field n f t) k ≡ row_in p t k
+
+abbrev pub ObjectFits : Type 0
+ObjectFits = (org : ℕ) (t : Tenant) (n : ℕ) (o : Object) → org < 2 ^ 32 → IsSound t → object_at t n ≡ Some o → FitsForm object_form (object_of org t n o)
+
+abbrev pub FieldFits : Type 0
+FieldFits = (org : ℕ) (p : OrgPlan) (t : Tenant) (n i : ℕ) (o : Object) (f : Field) → org < 2 ^ 32 → IsSound t → FitsPlan p t → object_at t n ≡ Some o → slice_get o.fields i ≡ Some f → FitsForm field_form (field_of org p n i f)
+
+abbrev pub SameCount : Type 0
+SameCount = (t : Tenant) (n m : ℕ) (f : Field) → length (records_of (with_field n f t) m) ≡ length (records_of t m)
+
+abbrev pub HasFree : Type 0
+HasFree = (p : OrgPlan) (job : Option Job) (n : ℕ) (o : Object) → length o.fields ≤ limit_number limit.FieldsPerObject → (s : ℕ) × (s < slot_count) × IsTrue (is_free p job n o s)
+
+abbrev pub SeesFree : Type 0
+SeesFree = (p : OrgPlan) (t : Tenant) (org n : ℕ) (o : Object) (s : ℕ) → has_free (layout_of org p t (record { number = n; object = o })) s ≡ is_free p t.job n o s
+
+abbrev pub PlanFits : Type 0
+PlanFits = (p : OrgPlan) (t : Tenant) (n : ℕ) (o : Object) (f : Field) (s : ℕ) → IsSound t → FitsPlan p t → object_at t n ≡ Some o → s < slot_count → IsTrue (is_free p t.job n o s) → FitsPlan (with_slot n (length o.fields) s p) (with_field n f t)
+
+abbrev pub TenantSound : Type 0
+TenantSound = (m : Tables) (w : World) (n : ℕ) (t : Tenant) → Stands m w → tenant_at w n ≡ Some t → IsSound t
+
+abbrev pub FieldSound : Type 0
+FieldSound = (t : Tenant) (b : NewField) → IsTrue (is_fit_field b) → IsSound t → IsSound (add_field t b).tenant
+
+-- ---- lists
+
+both_so : (a b : Bool) → a ≡ true → b ≡ true → (a && b) ≡ true
+both_so true b h g = g
+both_so false b h g = absurd cc
+
+all_last : {X : Type 0} (P : X → Type 0) (xs : List X) (x : X) → AllByRecursion P (xs ++ x ∷ []) → P x
+all_last P [] x h = h.0
+all_last P (y ∷ xs) x h = all_last P xs x h.1
+
+get_last : {X : Type 0} (xs : List X) (x : X) → slice_get (xs ++ x ∷ []) (length xs) ≡ Some x
+get_last [] x = refl
+get_last (y ∷ xs) x = get_last xs x
+
+get_changed : {X : Type 0} (n : ℕ) (change : X → X) (xs : List X) (x : X) → slice_get xs n ≡ Some x → slice_get (change_at n change xs) n ≡ Some (change x)
+get_changed n change [] x e = absurd cc
+get_changed zero change (y ∷ xs) x e = ap (λ (z : _). Some (change z)) (some_is y x e)
+get_changed (suc n) change (y ∷ xs) x e = get_changed n change xs x e
+
+abbrev pair : ℕ × Object → Numbered
+pair o = record { number = o.0; object = o.1 }
+
+numbered_all : (P : Numbered → Type 0) (k : ℕ) (os : List Object) (i : ℕ) (o : Object) → AllByRecursion P (map pair (enumerate_from k os)) → slice_get os i ≡ Some o → P (record { number = k + i; object = o })
+numbered_all P k [] i o h e = absurd cc
+numbered_all P k (x ∷ os) zero o h e =
+    subst (λ (n : ℕ). P (record { number = n; object = o })) (omega arith) (subst (λ (y : Object). P (record { number = k; object = y })) (some_is x o e) h.0)
+numbered_all P k (x ∷ os) (suc i) o h e =
+    subst (λ (n : ℕ). P (record { number = n; object = o })) (omega arith) (numbered_all P (k + 1) os i o h.1 e)
+
+sound_object : (t : Tenant) (n : ℕ) (o : Object) → IsSound t → object_at t n ≡ Some o → IsSoundObject t.objects (record { number = n; object = o })
+sound_object t n o s e =
+    subst (λ (k : ℕ). IsSoundObject t.objects (record { number = k; object = o })) (omega arith) (numbered_all (IsSoundObject t.objects) 0 t.objects n o s.metadata.objects e)
+
+-- ---- the organisation with the field
+
+module _ (t : Tenant) (n : ℕ) (o : Object) (f : Field) (there : object_at t n ≡ Some o) where
+  abbrev next : Tenant
+  next = with_field n f t
+
+  abbrev widen : Object → Object
+  widen x = record x { fields = x.fields ++ f ∷ [] }
+
+  there_then : object_at next n ≡ Some (widen o)
+  there_then = get_changed n widen t.objects o there
+
+  module _ (sound : IsSound next) where
+    field_sound : IsSoundField (length next.objects) f
+    field_sound = all_last (IsSoundField (length next.objects)) o.fields f (sound_object next n (widen o) sound there_then).fields
+
+    few_before : length o.fields < 40
+    few_before = omega (arith, (sound_object next n (widen o) sound there_then).few_fields, length-append o.fields (f ∷ []))
+
+    suits : IsTrue (suits_flags f)
+    suits = both_so (implies f.unique (suits_unique f.kind)) (implies f.indexed (suits_indexed f.kind)) field_sound.unique field_sound.indexed
+
+    -- ---- the rows that change
+
+    module _ (org : ℕ) (p : OrgPlan) (s : ℕ) (low : org < 2 ^ 32) where
+      abbrev place : ℕ
+      place = length o.fields
+
+      abbrev plan : OrgPlan
+      plan = with_slot n place s p
+
+      abbrev old_row : ObjectRow
+      old_row = object_of org t n o
+
+      abbrev new_row : ObjectRow
+      new_row = record old_row { fields = old_row.fields + 1 }
+
+      counted_row : SameCount → object_of org next n (widen o) ≡ new_row
+      counted_row same =
+          ap (λ (c : ℕ). record (object_of org next n (widen o)) { records = c }) (same t n n f)
+          ∙ ap (λ (c : ℕ). record old_row { fields = c }) (length-append o.fields (f ∷ []))
+
+      object_there : SameCount → row_in plan next (key.Object org n) ≡ Some (row_bytes object_form new_row)
+      unfolding row_in
+      object_there same =
+          ap (option_map (λ (x : Object). row_bytes object_form (object_of org next n x))) there_then
+          ∙ ap (λ (r : ObjectRow). Some (row_bytes object_form r)) (counted_row same)
+
+      object_is : SameCount → ObjectFits → IsOf org plan next (counted_change old_row)
+      object_is same fits = put_is_of object_form org plan next new_row (subst (FitsForm object_form) (counted_row same) (fits org next n (widen o) low sound there_then)) refl (object_there same)
+
+      slot_is : plan.slot n place ≡ s
+      slot_is = rw (eqb_same n, eqb_same place) refl
+
+      field_row : field_of org plan n place f ≡ row_with org n place s f
+      field_row = ap (λ (q : ℕ). row_with org n place q f) slot_is
+
+      last_field : slice_get (widen o).fields place ≡ Some f
+      last_field = get_last o.fields f
+
+      field_there : row_in plan next (key.Field org n place) ≡ Some (row_bytes field_form (row_with org n place s f))
+      unfolding row_in
+      field_there =
+          ap (λ (x : Option Object). option_map (λ (g : Field). row_bytes field_form (field_of org plan n place g)) (option_and_then (λ (y : Object). slice_get y.fields place) x)) there_then
+          ∙ ap (option_map (λ (g : Field). row_bytes field_form (field_of org plan n place g))) last_field
+          ∙ ap (λ (r : FieldRow). Some (row_bytes field_form r)) field_row
+
+      field_is : FieldFits → FitsPlan plan next → IsOf org plan next (field_change old_row (row_with org n 0 s f))
+      field_is fits good =
+          put_is_of field_form org plan next (row_with org n place s f) (subst (FitsForm field_form) field_row (fits org plan next n place (widen o) f low sound good there_then last_field)) refl field_there
+
+      spelled : FieldFits → FitsPlan plan next → IsSpelled f
+      spelled fits good =
+          let h = (fits org plan next n place (widen o) f low sound good there_then last_field).1 in
+          record { name = h.0; kind = h.1.0; child = h.1.1.1.1 }
+
+-- ---- a request that isn't refused
+
+-- its object, the object of its lookup, and what it leaves
+pub record IsAccepted (org : ℕ) (p : OrgPlan) (t : Tenant) (b : NewField) (ls : List Layout) : Type 0 where
+  pub on : Numbered
+  pub target : Option ℕ
+  pub there : object_at t on.number ≡ Some on.object
+  pub named : named_in ls b.object ≡ Some (layout_of org p t on)
+  pub targets : target_in ls b.kind ≡ Ok target
+  pub verdict : add_field t b ≡ accept done (with_field on.number (new_field target b) t)
+
+module _ (org : ℕ) (p : OrgPlan) (t : Tenant) (b : NewField) (ls : List Layout) (are : ls ≡ layouts_in org p t) where
+  abbrev left : Numbered → Option ℕ → Verdict
+  left o target = accept done (with_field o.number (new_field target b) t)
+
+  to_object : (o : Numbered) (object : List ℕ) (x : Option Numbered) → object_named t object ≡ x → None ≡ refusal_of (in_case x (refuse t (InvalidType object)) (λ q. on_object t o b (Some q.number)))
+      → (target : Option ℕ) × (in_case (named_in ls object) (unnamed object) (λ (l : Layout). Ok (Some l.object)) ≡ Ok target) × (with_object t object (λ q. on_object t o b (Some q.number)) ≡ left o target)
+  to_object o object None here none = absurd cc
+  to_object o object (Some q) here none = (
+    Some q.number,
+    ap (λ (x : Option Layout). in_case x (unnamed object) (λ (l : Layout). Ok (Some l.object))) (named_is org p t ls are object ∙ ap (option_map (layout_of org p t)) here),
+    ap (λ (x : Option Numbered). in_case x (refuse t (InvalidType object)) (λ q. on_object t o b (Some q.number))) here
+        ∙ unrefused (first_refusal (field_rules t o (Some q.number) b)) t (with_field o.number (new_field (Some q.number) b) t) none,
+  )
+
+  with_kind : (o : Numbered) (kind : SpelledType) → None ≡ refusal_of (with_target t kind (on_object t o b))
+      → (target : Option ℕ) × (target_in ls kind ≡ Ok target) × (with_target t kind (on_object t o b) ≡ left o target)
+  with_kind o (Plain kind) none = (None, refl, unrefused (first_refusal (field_rules t o None b)) t (with_field o.number (new_field None b) t) none)
+  with_kind o (LookupTo object on_delete child) none = to_object o object (object_named t object) refl none
+
+  of_object : (x : Option Numbered) → object_named t b.object ≡ x → None ≡ refusal_of (in_case x (refuse t (InvalidType b.object)) (λ o. with_target t b.kind (on_object t o b))) → IsAccepted org p t b ls
+  of_object None here none = absurd cc
+  of_object (Some o) here none =
+      let k = with_kind o b.kind none in
+      record {
+        on = o;
+        target = k.0;
+        there = named_at t b.object o here;
+        named = named_is org p t ls are b.object ∙ ap (option_map (layout_of org p t)) here;
+        targets = k.1;
+        verdict = ap (λ (x : Option Numbered). in_case x (refuse t (InvalidType b.object)) (λ o. with_target t b.kind (on_object t o b))) here ∙ k.2;
+      }
+
+  accepted : None ≡ refusal_of (add_field t b) → IsAccepted org p t b ls
+  accepted none = of_object (object_named t b.object) refl none
+
+-- ---- the edit
+
+layouts_there : (org : ℕ) (p : Plan) (w : World) (t : Tenant) → tenant_at w org ≡ Some t → layouts_of org p w ≡ layouts_in org (p.org org) t
+unfolding layouts_of
+layouts_there org p w t at = ap (λ (x : Option Tenant). in_case x [] (λ (t : Tenant). map (layout_of org (p.org org) t) (numbered t.objects))) at
+
+pub are_layouts : (org : ℕ) (p : Plan) (w : World) (t : Tenant) (ls : List Layout) → tenant_at w org ≡ Some t → ls ≡ layouts_of org p w → AreLayouts t ls
+are_layouts org p w t ls at are = (org, p.org org, are ∙ layouts_there org p w t at)
+
+module _ (tenants : TenantSound) (fields : FieldSound) (p : Plan) (m : Tables) (w : World) (org : ℕ) (t : Tenant) (b : NewField) (ls : List Layout) (s : StandsBy p m w) (at : tenant_at w org ≡ Some t) (fit : IsTrue (is_fit_field b)) (are : ls ≡ layouts_of org p w) (none : None ≡ refusal_of (add_field t b)) where
+  it : IsAccepted org (p.org org) t b ls
+  it = accepted org (p.org org) t b ls (are ∙ layouts_there org p w t at) none
+
+  abbrev n : ℕ
+  n = it.on.number
+
+  abbrev o : Object
+  o = it.on.object
+
+  abbrev f : Field
+  f = new_field it.target b
+
+  sound_before : IsSound t
+  sound_before = tenants m w org t (p, s) at
+
+  sound_after : IsSound (add_field t b).tenant
+  sound_after = fields t b fit sound_before
+
+  sound_next : IsSound (with_field n f t)
+  sound_next = subst IsSound (ap (λ (v : Verdict). v.tenant) it.verdict) sound_after
+
+  row_there : (row : FieldRow) → row ≡ row_with org n 0 row.slot f → object_row row.org row.object p w ≡ Some (object_of org t n o)
+  row_there row made =
+      ap (λ (x : FieldRow). object_row x.org x.object p w) made
+      ∙ ap (option_and_then (λ (t : Tenant). option_map (object_of org t n) (object_at t n))) at
+      ∙ ap (option_map (object_of org t n)) it.there
+
+  pub field_done : EditedStands → RowsElsewhere → ObjectFits → FieldFits → SameCount → HasFree → SeesFree → PlanFits → org < 2 ^ 32
+      → (row : FieldRow) (after : Tables) → MakesRow ls b (Ok row) → PutsField row m after (Ok tt) → EditsIn org (add_field t b) w after (Ok tt)
+  field_done edited elsewhere object_fits field_fits same has sees plans low row after makes puts =
+      let q = p.org org in
+      let r : IsRowFor (layout_of org q t it.on) f row = makes (layout_of org q t it.on) it.target it.named it.targets in
+      let slot = row.slot in
+      let few = few_before t n o f it.there sound_next in
+      let some = has q t.job n o (omega (arith, few)) in
+      let free : is_free q t.job n o slot ≡ true = sym (sees q t org n o slot) ∙ r.free some.0 some.1 (sees q t org n o some.0 ∙ some.2) in
+      let good = plans q t n o f slot sound_before (s.plans org t at) it.there r.below free in
+      let old = object_of org t n o in
+      let field = field_change old (row_with org n 0 slot f) in
+      let changes : List Change = counted_change old ∷ field ∷ [] in
+      let made : after ≡ with_changes changes m =
+      puts p w old s (row_there row r.made) ∙ ap (λ (x : FieldRow). with_changes (counted_change old ∷ field_change old x ∷ []) m) r.made in
+      edit_done edited p m after w org t (with_field n f t) (with_slot n (length o.fields) slot q) (add_field t b) changes s at it.verdict sound_after good
+      (object_is t n o f it.there sound_next org q slot low same object_fits, (field_is t n o f it.there sound_next org q slot low field_fits good, tt))
+      (λ k of unchanged.
+      let first = beside (counted_change old) (field ∷ []) k unchanged in
+      let second = beside field [] k first.1 in
+      elsewhere q t n o f slot k sound_before it.there free (suits t n o f it.there sound_next) (other_object org n k of first.0) (other_field org n (length o.fields) k of second.0))
+      made
+
+  -- ---- failures
+
+  pub row_fails : FieldFits → HasFree → PlanFits → org < 2 ^ 32 → (after : Tables) (e : StoreFail) → MakesRow ls b (Err e) → EditsIn org (add_field t b) w after (Err (Store e))
+  row_fails field_fits has plans low after Damaged h =
+      let q = p.org org in
+      let few = few_before t n o f it.there sound_next in
+      let some = has q t.job n o (omega (arith, few)) in
+      let good = plans q t n o f some.0 sound_before (s.plans org t at) it.there some.1 some.2 in
+      h (layout_of org q t it.on) it.target it.named it.targets (spelled t n o f it.there sound_next org q some.0 low field_fits good)
+  row_fails field_fits has plans low after Keeper h = tt
+  row_fails field_fits has plans low after Memory h = tt
+
+  pub put_fails : (row : FieldRow) (after : Tables) (e : StoreFail) → MakesRow ls b (Ok row) → PutsField row m after (Err e) → EditsIn org (add_field t b) w after (Err (Store e))
+  put_fails row after Damaged makes h =
+      let r : IsRowFor (layout_of org (p.org org) t it.on) f row = makes (layout_of org (p.org org) t it.on) it.target it.named it.targets in
+      h p w (object_of org t n o) s (row_there row r.made) (omega (arith, few_before t n o f it.there sound_next))
+  put_fails row after Keeper makes h = tt
+  put_fails row after Memory makes h = tt
+
+-- a failure that a `?` passes on
+pub passed_on : (org : ℕ) (v : Verdict) (w : World) (after : Tables) (e : StoreFail) (out : Result (Unit {0}) EditFail) → IsErrAnd out (λ y. y ≡ of_store e) → EditsIn org v w after (Err (Store e)) → EditsIn org v w after out
+passed_on org v w after e (Ok x) passed h = absurd passed
+passed_on org v w after e (Err y) passed h = subst (λ (z : EditFail). EditsIn org v w after (Err z)) (sym passed) h

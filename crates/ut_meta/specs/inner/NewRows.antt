@@ -1,0 +1,97 @@
+-- The rows that a new object changes: that of its organisation, its own, and that of a detail's Master field.
+-- Source: C. D. Weissman and S. Bobrowski, "The Design of the Force.com Multitenant Internet Application Development
+-- Platform" (SIGMOD 2009): objects and fields are rows of tables too.
+use Rattle.std.specs.Prelude.{ℕ, ◌+◌, ◌<◌, ◌^◌, true, false, if◌then◌else◌, List, [], ◌∷◌, ◌++◌, length, Option, Some, None, is_some, IsTrue, IfSome}
+use Rattle.std.specs.Option.{option_and_then, option_map}
+use Rattle.ut_keys.specs.declared.field.FieldRow.{FieldRow}
+use Rattle.ut_keys.specs.declared.object.ObjectRow.{ObjectRow}
+use Rattle.ut_keys.specs.declared.org.OrgRow.{OrgRow}
+use Rattle.ut_keys.specs.Forms.{FitsForm, Form, key_of, row_bytes}
+use Rattle.ut_keys.specs.Rows.{field_form, object_form, org_form}
+use Rattle.ut_model.specs.declared.metadata_bodies.NewMaster.{NewMaster}
+use Rattle.ut_model.specs.declared.metadata_bodies.NewObject.{NewObject}
+use Rattle.ut_parts.specs.Plain.{FitsText}
+use Rattle.ut_stands.specs.Changes.{Change}
+use Rattle.ut_stands.specs.declared.layout.Layout.{Layout}
+use Rattle.ut_value.specs.declared.value.FieldType.TheVariants as type
+use Rattle.ut_meta.specs.declared.edits.objects.NewRows.{NewRows}
+use Rattle.ut_meta.specs.inner.Relations.{named_in}
+
+-- ---- the rows
+
+-- of the Master field of the object with this number, whose masters are of the object with the other
+abbrev pub master_row : (org object parent : ℕ) → NewMaster → FieldRow
+master_row org n parent m =
+    record {
+      org = org;
+      object = n;
+      field = 0;
+      name = m.field;
+      kind = type.Master parent;
+      flags = record { required = true; unique = false; indexed = false };
+      slot = 0;
+      child = Some m.child;
+    }
+
+-- the same where its parent is among the layouts
+abbrev pub master_in : (org object : ℕ) → List Layout → NewMaster → Option FieldRow
+master_in org n layouts m = option_map (λ (l : Layout). master_row org n l.object m) (named_in layouts m.parent)
+
+-- of a new object's first field
+abbrev pub first_field : (org object : ℕ) → List Layout → Option NewMaster → Option FieldRow
+first_field org n layouts master = option_and_then (master_in org n layouts) master
+
+-- of a new object, which has this field or none
+abbrev pub object_row : (org object : ℕ) → Option FieldRow → NewObject → ObjectRow
+object_row org n field b =
+    record {
+      org = org;
+      object = n;
+      name = b.name;
+      access = b.access;
+      records = 0;
+      fields = if is_some field then 1 else 0;
+      validation_rules = 0;
+    }
+
+-- all of them, by the row of the organisation and the layouts of its objects
+abbrev pub rows_by : List Layout → OrgRow → NewObject → NewRows
+rows_by layouts org b =
+    record {
+      org = record org { objects = length layouts + 1 };
+      field = first_field org.org (length layouts) layouts b.master;
+      object = object_row org.org (length layouts) (first_field org.org (length layouts) layouts b.master) b;
+    }
+
+-- they have spellings
+pub record FitRows (r : NewRows) : Type 0 where
+  pub org : FitsForm org_form r.org
+  pub field : IfSome r.field (FitsForm field_form)
+  pub object : FitsForm object_form r.object
+
+-- ---- what has such rows
+
+-- the names of a detail's master have spellings, and the parent is there
+pub record IsSpelledMaster (layouts : List Layout) (m : NewMaster) : Type 0 where
+  pub field : FitsText m.field
+  pub child : FitsText m.child
+  pub parent : IsTrue (is_some (named_in layouts m.parent))
+
+-- the names of a new object have spellings, and so has its number
+pub record AreSpelled (layouts : List Layout) (b : NewObject) : Type 0 where
+  pub few : length layouts + 1 < 2 ^ 16
+  pub name : FitsText b.name
+  pub master : IfSome b.master (IsSpelledMaster layouts)
+
+-- ---- changes
+
+-- this row in its place
+abbrev pub change_to : {U : Type 0} → Form U → U → Change
+change_to f u = (key_of f u, Some (row_bytes f u))
+
+abbrev pub field_change : Option FieldRow → List Change
+field_change None = []
+field_change (Some f) = change_to field_form f ∷ []
+
+abbrev pub changes_of : NewRows → List Change
+changes_of r = change_to org_form r.org ∷ (field_change r.field ++ change_to object_form r.object ∷ [])

@@ -29,9 +29,10 @@ use Rattle.ut_stands.specs.Stands.{StandsBy, row_in}
 use Rattle.ut_stands.specs.declared.layout.Layout.{Layout}
 use Rattle.ut_value.specs.declared.sharing.Access.{Access}
 use Rattle.ut_meta.specs.Judging.{IsNamedLayout, refusal_of}
+use Rattle.ut_meta.specs.inner.Rows.{change_to}
 use Rattle.ut_meta.proofs.Editing.{EditedStands, beside, edit_done, found_by, named_at, other_object, unrefused}
 use Rattle.ut_meta.proofs.Judged.{one_named, unknown_object}
-use Rattle.ut_meta.proofs.Putting.{put_is_of, put_of}
+use Rattle.ut_meta.proofs.Putting.{put_is_of}
 
 -- what `ut_stands` says of rows and plans where an object has another access, and `ut_sound` of the tenant
 abbrev pub AccessRows : Type 0
@@ -122,7 +123,7 @@ row_there org p w t name row h at none = row_missing org t name h.numbered p w a
 pub access_done : EditedStands → AccessRows → DescribedFits → ObjectFits → AccessSound
     → (m after : Tables) (w : World) (org : ℕ) (t : Tenant) (name : List ℕ) (access : Access) (found : Option ObjectRow) (row : ObjectRow) (p : Plan)
     → org < 2 ^ 32 → StandsBy p m w → IsSound t → tenant_at w org ≡ Some t → by_parent access ≡ false → None ≡ refusal_of (set_access t name access)
-    → HasRow org p w t name found → found ≡ Some row → after ≡ with_changes (put_of object_form (record row { access = access }) ∷ []) m
+    → HasRow org p w t name found → found ≡ Some row → after ≡ with_changes (change_to object_form (record row { access = access }) ∷ []) m
     → EditsIn org (set_access t name access) w after (Ok tt)
 access_done edited rows described fits sound m after w org t name access found row p small s sound_t at by_master free h some made =
     let o = h.numbered in
@@ -138,10 +139,10 @@ access_done edited rows described fits sound m after w org t name access found r
     let sound_u : IsSound u = subst IsSound (ap (λ (v : Verdict). v.tenant) is) sound_v in
     let next : ObjectRow = object_of org u n x in
     let row_is : row ≡ object_of org t n o.object = some_row row (object_of org t n o.object) (sym some ∙ h.is ∙ there_is org n p w t o.object at at_n) in
-    let put_is : after ≡ with_changes (put_of object_form next ∷ []) m =
-    made ∙ ap (λ (r : ObjectRow). with_changes (put_of object_form (record r { access = access }) ∷ []) m) row_is in
-    edit_done edited p m after w org t u q v (put_of object_form next ∷ []) s at is sound_v
+    let put_is : after ≡ with_changes (change_to object_form next ∷ []) m =
+    made ∙ ap (λ (r : ObjectRow). with_changes (change_to object_form (record r { access = access }) ∷ []) m) row_is in
+    edit_done edited p m after w org t u q v (change_to object_form next ∷ []) s at is sound_v
     (described q t n (λ x. record x { access = access }) (s.plans org t at) (λ x. refl))
     (put_is_of object_form org q u next (fits org u n x small sound_u at_u) refl (own_row q u org n x at_u), tt)
-    (λ k of same. rows q t n access k sound_t (other_object org n k of (beside (put_of object_form next) [] k same).0))
+    (λ k of same. rows q t n access k sound_t (other_object org n k of (beside (change_to object_form next) [] k same).0))
     put_is

@@ -26,7 +26,7 @@ use Rattle.ut_stands.specs.Records.{is_field_key, is_object_key, is_org_key}
 use Rattle.ut_stands.specs.Stands.{Stands, StandsBy, owner_of, row_in}
 use Rattle.ut_stands.specs.declared.fail.EditFail.{EditFail}
 use Rattle.ut_stands.specs.declared.fail.EditFail.TheVariants.{Store}
-use Rattle.ut_meta.specs.Judging.{refusal_of, refused}
+use Rattle.ut_meta.specs.Judging.{refusal_of, rule_of_answer}
 use Rattle.ut_meta.proofs.Lists.{pick}
 
 pub some_is : {A : Type 0} (x y : A) → ◌≡◌ {A = Option A} (Some x) (Some y) → x ≡ y
@@ -74,7 +74,7 @@ unless_some rule t v r e = ap (λ (x : Rule). (unless x t v).answer) (sym e)
 pub refused_so : (v : Verdict) (r : Refusal) → Some r ≡ refusal_of v → v.answer ≡ Err r
 refused_so v r e = by v.answer e
   where
-    by : (x : Result Done Refusal) → Some r ≡ refused x → x ≡ Err r
+    by : (x : Result Done Refusal) → Some r ≡ rule_of_answer x → x ≡ Err r
     by (Ok d) e = absurd cc
     by (Err q) e = ap Err (some_is q r (sym e))
 

@@ -1,6 +1,6 @@
 -- Tables with the rows of a new field stand for the world with it.
 use Rattle.std.proofs.Common.{◌≡◌, ◌∙◌, ℕ, zero, suc, ◌+◌, ◌<◌, ◌≤◌, ◌^◌, Bool, true, false, ◌&&◌, IsTrue, List, [], ◌∷◌, ◌++◌, length, map, Option, Some, None, refl, sym, ap, subst, arith, length-append}
-use Rattle.std.specs.Prelude.{Result, Ok, Err, IsErrAnd, slice_get}
+use Rattle.std.specs.Prelude.{Result, Ok, Err, IsErrAnd, is_some, slice_get}
 use Rattle.std.specs.List.{AllByRecursion, enumerate_from}
 use Rattle.std.specs.Option.{option_and_then, option_map}
 use Rattle.ut_keeper.specs.Tables.{Tables}
@@ -42,8 +42,10 @@ use Rattle.ut_stands.specs.declared.layout.Layout.{Layout}
 use Rattle.ut_value.specs.Types.{suits_indexed, suits_unique}
 use Rattle.ut_meta.specs.Judging.{AreLayouts, layouts_in, refusal_of}
 use Rattle.ut_meta.specs.Slots.{IsLeastFree, TakesLeastFree}
-use Rattle.ut_meta.specs.inner.FieldRows.{IsRowFor, IsSpelled, MakesRow, PutsField, counted_change, field_change, row_with}
+use Rattle.ut_meta.specs.declared.edits.fields.NewFieldRows.{NewFieldRows}
+use Rattle.ut_meta.specs.inner.FieldRows.{AreRowsFor, HasTarget, IsSpelled, changes_of, rows_in}
 use Rattle.ut_meta.specs.inner.Relations.{named_in, target_in}
+use Rattle.ut_meta.specs.inner.Rows.{change_to, field_row}
 use Rattle.ut_meta.proofs.Editing.{EditedStands, beside, edit_stands, eqb_same, named_at, other_field, other_object, some_is, unrefused}
 use Rattle.ut_meta.proofs.JudgedFields.{on_object, unnamed}
 use Rattle.ut_meta.proofs.Layouts.{named_is}
@@ -160,28 +162,28 @@ module _ (t : Tenant) (n : ℕ) (o : Object) (f : Field) (there : object_at t n 
           ap (option_map (λ (x : Object). row_bytes object_form (object_of org next n x))) there_then
           ∙ ap (λ (r : ObjectRow). Some (row_bytes object_form r)) (counted_row same)
 
-      object_is : SameCount → ObjectFits → IsOf org plan next (counted_change old_row)
+      object_is : SameCount → ObjectFits → IsOf org plan next (change_to object_form new_row)
       object_is same fits = put_is_of object_form org plan next new_row (subst (FitsForm object_form) (counted_row same) (fits org next n (widen o) low sound there_then)) refl (object_there same)
 
       slot_is : plan.slot n place ≡ s
       slot_is = rw (eqb_same n, eqb_same place) refl
 
-      field_row : field_of org plan n place f ≡ row_with org n place s f
-      field_row = ap (λ (q : ℕ). row_with org n place q f) slot_is
+      row_is : field_of org plan n place f ≡ field_row org n place s f
+      row_is = ap (λ (q : ℕ). field_row org n place q f) slot_is
 
       last_field : slice_get (widen o).fields place ≡ Some f
       last_field = get_last o.fields f
 
-      field_there : row_in plan next (key.Field org n place) ≡ Some (row_bytes field_form (row_with org n place s f))
+      field_there : row_in plan next (key.Field org n place) ≡ Some (row_bytes field_form (field_row org n place s f))
       unfolding row_in
       field_there =
           ap (λ (x : Option Object). option_map (λ (g : Field). row_bytes field_form (field_of org plan n place g)) (option_and_then (λ (y : Object). slice_get y.fields place) x)) there_then
           ∙ ap (option_map (λ (g : Field). row_bytes field_form (field_of org plan n place g))) last_field
-          ∙ ap (λ (r : FieldRow). Some (row_bytes field_form r)) field_row
+          ∙ ap (λ (r : FieldRow). Some (row_bytes field_form r)) row_is
 
-      field_is : FieldFits → FitsPlan plan next → IsOf org plan next (field_change old_row (row_with org n 0 s f))
+      field_is : FieldFits → FitsPlan plan next → IsOf org plan next (change_to field_form (field_row org n place s f))
       field_is fits good =
-          put_is_of field_form org plan next (row_with org n place s f) (subst (FitsForm field_form) field_row (fits org plan next n place (widen o) f low sound good there_then last_field)) refl field_there
+          put_is_of field_form org plan next (field_row org n place s f) (subst (FitsForm field_form) row_is (fits org plan next n place (widen o) f low sound good there_then last_field)) refl field_there
 
       spelled : FieldFits → FitsPlan plan next → IsSpelled f
       spelled fits good =
@@ -198,6 +200,7 @@ pub record IsAccepted (org : ℕ) (p : OrgPlan) (t : Tenant) (b : NewField) (ls 
   pub there : object_at t on.number ≡ Some on.object
   pub named : named_in ls b.object ≡ Some (layout_of org p t on)
   pub targets : target_in ls b.kind ≡ Ok target
+  pub has : HasTarget target b.kind
   pub verdict : add_field t b ≡ accept done (with_field on.number (new_field target b) t)
 
 module _ (org : ℕ) (p : OrgPlan) (t : Tenant) (b : NewField) (ls : List Layout) (are : ls ≡ layouts_in org p t) where
@@ -205,18 +208,19 @@ module _ (org : ℕ) (p : OrgPlan) (t : Tenant) (b : NewField) (ls : List Layout
   left o target = accept done (with_field o.number (new_field target b) t)
 
   to_object : (o : Numbered) (object : List ℕ) (x : Option Numbered) → object_named t object ≡ x → None ≡ refusal_of (in_case x (refuse t (InvalidType object)) (λ q. on_object t o b (Some q.number)))
-      → (target : Option ℕ) × (in_case (named_in ls object) (unnamed object) (λ (l : Layout). Ok (Some l.object)) ≡ Ok target) × (with_object t object (λ q. on_object t o b (Some q.number)) ≡ left o target)
+      → (target : Option ℕ) × (in_case (named_in ls object) (unnamed object) (λ (l : Layout). Ok (Some l.object)) ≡ Ok target) × IsTrue (is_some target) × (with_object t object (λ q. on_object t o b (Some q.number)) ≡ left o target)
   to_object o object None here none = absurd cc
   to_object o object (Some q) here none = (
     Some q.number,
     ap (λ (x : Option Layout). in_case x (unnamed object) (λ (l : Layout). Ok (Some l.object))) (named_is org p t ls are object ∙ ap (option_map (layout_of org p t)) here),
+    refl,
     ap (λ (x : Option Numbered). in_case x (refuse t (InvalidType object)) (λ q. on_object t o b (Some q.number))) here
         ∙ unrefused (first_refusal (field_rules t o (Some q.number) b)) t (with_field o.number (new_field (Some q.number) b) t) none,
   )
 
   with_kind : (o : Numbered) (kind : SpelledType) → None ≡ refusal_of (with_target t kind (on_object t o b))
-      → (target : Option ℕ) × (target_in ls kind ≡ Ok target) × (with_target t kind (on_object t o b) ≡ left o target)
-  with_kind o (Plain kind) none = (None, refl, unrefused (first_refusal (field_rules t o None b)) t (with_field o.number (new_field None b) t) none)
+      → (target : Option ℕ) × (target_in ls kind ≡ Ok target) × HasTarget target kind × (with_target t kind (on_object t o b) ≡ left o target)
+  with_kind o (Plain kind) none = (None, refl, tt, unrefused (first_refusal (field_rules t o None b)) t (with_field o.number (new_field None b) t) none)
   with_kind o (LookupTo object on_delete child) none = to_object o object (object_named t object) refl none
 
   of_object : (x : Option Numbered) → object_named t b.object ≡ x → None ≡ refusal_of (in_case x (refuse t (InvalidType b.object)) (λ o. with_target t b.kind (on_object t o b))) → IsAccepted org p t b ls
@@ -230,7 +234,8 @@ module _ (org : ℕ) (p : OrgPlan) (t : Tenant) (b : NewField) (ls : List Layout
         there = named_at t b.object o here;
         named = named_is org p t ls are b.object ∙ ap (option_map (layout_of org p t)) here;
         targets = k.1;
-        verdict = ap (λ (x : Option Numbered). in_case x (refuse t (InvalidType b.object)) (λ o. with_target t b.kind (on_object t o b))) here ∙ k.2;
+        has = k.2;
+        verdict = ap (λ (x : Option Numbered). in_case x (refuse t (InvalidType b.object)) (λ o. with_target t b.kind (on_object t o b))) here ∙ k.3;
       }
 
   accepted : None ≡ refusal_of (add_field t b) → IsAccepted org p t b ls
@@ -267,34 +272,64 @@ module _ (tenants : TenantSound) (fields : FieldSound) (p : Plan) (m : Tables) (
   sound_next : IsSound (with_field n f t)
   sound_next = subst IsSound (ap (λ (v : Verdict). v.tenant) it.verdict) sound_after
 
-  row_there : (row : FieldRow) → row ≡ row_with org n 0 row.slot f → object_row row.org row.object p w ≡ Some (object_of org t n o)
-  row_there row made =
-      ap (λ (x : FieldRow). object_row x.org x.object p w) made
-      ∙ ap (option_and_then (λ (t : Tenant). option_map (object_of org t n) (object_at t n))) at
-      ∙ ap (option_map (object_of org t n)) it.there
+  abbrev q : OrgPlan
+  q = p.org org
+
+  -- ---- what was read
+
+  abbrev old : ObjectRow
+  old = object_of org t n o
+
+  layout_is : (l : Layout) → named_in ls b.object ≡ Some l → l ≡ layout_of org q t it.on
+  layout_is l named = some_is l (layout_of org q t it.on) (sym named ∙ it.named)
+
+  row_at : object_row org n p w ≡ Some old
+  row_at = ap (option_and_then (λ (t : Tenant). option_map (object_of org t n) (object_at t n))) at ∙ ap (option_map (object_of org t n)) it.there
+
+  -- the layout by the object's name, and the row by the number in it
+  found : (l : Layout) (row : Option ObjectRow) → named_in ls b.object ≡ Some l → row ≡ object_row org l.object p w → row ≡ Some old
+  found l row named read = read ∙ ap (λ (x : Layout). object_row org x.object p w) (layout_is l named) ∙ row_at
+
+  pub no_layout : named_in ls b.object ≡ None → ⊥
+  no_layout named = absent (sym named ∙ it.named)
+    where
+      absent : ◌≡◌ {A = Option Layout} None (Some (layout_of org q t it.on)) → ⊥
+      absent e = cc
+
+  pub no_row : (l : Layout) (row : Option ObjectRow) → named_in ls b.object ≡ Some l → row ≡ object_row org l.object p w → row ≡ None → ⊥
+  no_row l row named read none = absent (sym none ∙ found l row named read)
+    where
+      absent : ◌≡◌ {A = Option ObjectRow} None (Some old) → ⊥
+      absent e = cc
+
+  pub row_read : (l : Layout) (read : Option ObjectRow) (row : ObjectRow) → named_in ls b.object ≡ Some l → read ≡ object_row org l.object p w → read ≡ Some row → row ≡ old
+  row_read l read row named is some = some_is row old (sym some ∙ found l read named is)
+
+  -- ---- what was put
 
   pub field_stands : EditedStands → RowsElsewhere → ObjectFits → FieldFits → SameCount → HasFree → SeesFree → PlanFits → org < 2 ^ 32
-      → (row : FieldRow) (after : Tables) → MakesRow ls b (Ok row) → PutsField row m after (Ok tt) → TakesLeastFree org b p w t it.on after
-  field_stands edited elsewhere object_fits field_fits same has sees plans low row after makes puts =
-      let q = p.org org in
-      let r : IsRowFor (layout_of org q t it.on) f row = makes (layout_of org q t it.on) it.target it.named it.targets in
-      let slot = row.slot in
+      → (l : Layout) (row : ObjectRow) (rows : NewFieldRows) (after : Tables) → named_in ls b.object ≡ Some l → row ≡ old
+      → ((target : Option ℕ) → target_in ls b.kind ≡ Ok target → AreRowsFor l row (new_field target b) rows) → after ≡ with_changes (changes_of rows) m
+      → TakesLeastFree org b p w t it.on after
+  field_stands edited elsewhere object_fits field_fits same has sees plans low l row rows after named is_old makes puts =
+      let of_row : AreRowsFor l old f rows = subst (λ (x : ObjectRow). AreRowsFor l x f rows) is_old (makes it.target it.targets) in
+      let r : AreRowsFor (layout_of org q t it.on) old f rows = subst (λ (x : Layout). AreRowsFor x old f rows) (layout_is l named) of_row in
+      let slot = rows.field.slot in
       let few = few_before t n o f it.there sound_next in
       let some = has q t.job n o (omega (arith, few)) in
       let least : IsLeastFree (layout_of org q t it.on) slot = r.least some.0 some.1 (sees q t org n o some.0 ∙ some.2) in
       let free : is_free q t.job n o slot ≡ true = sym (sees q t org n o slot) ∙ least.free in
       let good = plans q t n o f slot sound_before (s.plans org t at) it.there r.below free in
-      let old = object_of org t n o in
-      let field = field_change old (row_with org n 0 slot f) in
-      let changes : List Change = counted_change old ∷ field ∷ [] in
-      let made : after ≡ with_changes changes m =
-      puts p w old s (row_there row r.made) ∙ ap (λ (x : FieldRow). with_changes (counted_change old ∷ field_change old x ∷ []) m) r.made in (
+      let counted = change_to object_form (rows_in slot old f).object in
+      let field = change_to field_form (rows_in slot old f).field in
+      let changes : List Change = changes_of (rows_in slot old f) in
+      let made : after ≡ with_changes changes m = puts ∙ ap (λ (x : NewFieldRows). with_changes (changes_of x) m) r.made in (
         slot,
         least,
         edit_stands edited p m after w org t (with_field n f t) (with_slot n (length o.fields) slot q) (add_field t b) changes s at it.verdict sound_after good
             (object_is t n o f it.there sound_next org q slot low same object_fits, (field_is t n o f it.there sound_next org q slot low field_fits good, tt))
             (λ k of unchanged.
-            let first = beside (counted_change old) (field ∷ []) k unchanged in
+            let first = beside counted (field ∷ []) k unchanged in
             let second = beside field [] k first.1 in
             elsewhere q t n o f slot k sound_before it.there free (suits t n o f it.there sound_next) (other_object org n k of first.0) (other_field org n (length o.fields) k of second.0))
             made,
@@ -309,24 +344,14 @@ module _ (tenants : TenantSound) (fields : FieldSound) (p : Plan) (m : Tables) (
 
   -- ---- failures
 
-  pub row_fails : FieldFits → HasFree → PlanFits → org < 2 ^ 32 → (after : Tables) (e : StoreFail) → MakesRow ls b (Err e) → EditsIn org (add_field t b) w after (Err (Store e))
-  row_fails field_fits has plans low after Damaged h =
-      let q = p.org org in
-      let few = few_before t n o f it.there sound_next in
-      let some = has q t.job n o (omega (arith, few)) in
+  abbrev pub field_targets : (target : Option ℕ) × (target_in ls b.kind ≡ Ok target) × HasTarget target b.kind
+  field_targets = (it.target, it.targets, it.has)
+
+  pub field_spelled : FieldFits → HasFree → PlanFits → org < 2 ^ 32 → IsSpelled f
+  field_spelled field_fits has plans low =
+      let some = has q t.job n o (omega (arith, few_before t n o f it.there sound_next)) in
       let good = plans q t n o f some.0 sound_before (s.plans org t at) it.there some.1 some.2 in
-      h (layout_of org q t it.on) it.target it.named it.targets (spelled t n o f it.there sound_next org q some.0 low field_fits good)
-  row_fails field_fits has plans low after Keeper h = tt
-  row_fails field_fits has plans low after Memory h = tt
+      spelled t n o f it.there sound_next org q some.0 low field_fits good
 
-  pub put_fails : (row : FieldRow) (after : Tables) (e : StoreFail) → MakesRow ls b (Ok row) → PutsField row m after (Err e) → EditsIn org (add_field t b) w after (Err (Store e))
-  put_fails row after Damaged makes h =
-      let r : IsRowFor (layout_of org (p.org org) t it.on) f row = makes (layout_of org (p.org org) t it.on) it.target it.named it.targets in
-      h p w (object_of org t n o) s (row_there row r.made) (omega (arith, few_before t n o f it.there sound_next))
-  put_fails row after Keeper makes h = tt
-  put_fails row after Memory makes h = tt
-
--- a failure that a `?` passes on
-pub passed_on : (org : ℕ) (v : Verdict) (w : World) (after : Tables) (e : StoreFail) (out : Result (Unit {0}) EditFail) → IsErrAnd out (λ y. y ≡ of_store e) → EditsIn org v w after (Err (Store e)) → EditsIn org v w after out
-passed_on org v w after e (Ok x) passed h = absurd passed
-passed_on org v w after e (Err y) passed h = subst (λ (z : EditFail). EditsIn org v w after (Err z)) (sym passed) h
+  pub few_counted : (row : ObjectRow) → row ≡ old → row.fields < 255
+  few_counted row is = subst (λ (x : ObjectRow). x.fields < 255) (sym is) (omega (arith, few_before t n o f it.there sound_next))

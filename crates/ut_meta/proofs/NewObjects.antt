@@ -38,7 +38,8 @@ use Rattle.ut_stands.specs.Stands.{StandsBy, owner_of, row_in}
 use Rattle.ut_stands.specs.declared.layout.Layout.{Layout}
 use Rattle.ut_meta.specs.Judging.{layouts_in}
 use Rattle.ut_meta.specs.declared.edits.objects.NewRows.{NewRows}
-use Rattle.ut_meta.specs.inner.NewRows.{AreSpelled, IsSpelledMaster, change_to, changes_of, field_change, first_field, master_row, object_row, rows_by}
+use Rattle.ut_meta.specs.inner.NewRows.{AreSpelled, IsSpelledMaster, changes_of, field_change, first_field, master_row, new_object_row, rows_by}
+use Rattle.ut_meta.specs.inner.Rows.{change_to}
 use Rattle.ut_meta.proofs.Editing.{EditedStands, beside, edit_done, other_field, other_object, other_org, unless_none}
 use Rattle.ut_meta.proofs.Layouts.{length_is, named_is}
 use Rattle.ut_meta.proofs.Lists.{pick}
@@ -196,14 +197,14 @@ module _ (laws : Laws) (org : ℕ) (small : org < 2 ^ 32) (p : OrgPlan) (t : Ten
       ∙ ap (with_counts (length u.objects) (length (records_of u n))) (count_is (field_of org q n 0) o.fields few)
     where
       with_number : ℕ → Option FieldRow → NewRows
-      with_number k f = record { org = record (org_of org t) { objects = k + 1 }; field = f; object = object_row org k f b }
+      with_number k f = record { org = record (org_of org t) { objects = k + 1 }; field = f; object = new_object_row org k f b }
 
       with_counts : (objects records fields : ℕ) → NewRows
       with_counts x y z =
           record {
             org = record (org_of org t) { objects = x };
             field = first_row;
-            object = record (object_row org n first_row b) { records = y; fields = z };
+            object = record (new_object_row org n first_row b) { records = y; fields = z };
           }
 
   -- ---- that they have spellings

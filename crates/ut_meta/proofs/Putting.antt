@@ -10,6 +10,7 @@ use Rattle.ut_model.specs.Tenant.{Tenant}
 use Rattle.ut_stands.specs.Changes.{Change, IsOf, with_change, with_changes}
 use Rattle.ut_stands.specs.Plan.{OrgPlan}
 use Rattle.ut_stands.specs.Stands.{owner_of, row_in}
+use Rattle.ut_meta.specs.inner.Rows.{change_to}
 
 -- ---- what a draft tells
 
@@ -34,13 +35,9 @@ module _ {K : Type 0} (state : K → KeeperState) where
 
 -- ---- rows that are put
 
--- the change that puts a row
-abbrev pub put_of : {U : Type 0} → Form U → U → Change
-put_of f row = (key_of f row, Some (row_bytes f row))
-
--- it is to what the tenant has there
+-- the change to a row is to what the tenant has there
 pub put_is_of : {U : Type 0} (f : Form U) (org : ℕ) (q : OrgPlan) (u : Tenant) (row : U) → FitsForm f row → owner_of (key_of f row) ≡ Some org → row_in q u (key_of f row) ≡ Some (row_bytes f row)
-    → IsOf org q u (put_of f row)
+    → IsOf org q u (change_to f row)
 put_is_of f org q u row fits own there = (f.fits (f.keyed row) fits.0, own, there)
 
 -- tables after one change, two and three

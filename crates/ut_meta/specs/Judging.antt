@@ -27,10 +27,10 @@ IsNamedLayout t name layout = (org : ℕ) × (p : OrgPlan) × (layout ≡ option
 
 -- ---- refusals
 
-abbrev pub refused : Result Done Refusal → Rule
-refused (Ok answer) = None
-refused (Err refusal) = Some refusal
+abbrev pub rule_of_answer : Result Done Refusal → Rule
+rule_of_answer (Ok answer) = None
+rule_of_answer (Err refusal) = Some refusal
 
 -- why a request is refused, if it is
 abbrev pub refusal_of : Verdict → Rule
-refusal_of v = refused v.answer
+refusal_of v = rule_of_answer v.answer

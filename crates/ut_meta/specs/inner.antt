@@ -1,3 +1,4 @@
+pub mod Rows
 pub mod FieldRows
 pub mod Fields
 pub mod Relations

@@ -1,7 +1,7 @@
 //! An administrator's edits of metadata: new objects, another default access, new fields.
 //!
-//! It depends on `ut_model` and `ut_stands`. Its contract: by the layouts of an organisation's objects an edit is refused
-//! exactly as the verdict of its request says, and a new field takes the least slot that is free.
+//! It depends on `ut_model` and `ut_stands`. Its contract: over tables that stand for a world an edit is refused exactly as
+//! its verdict says, or the draft's tables stand for the world with what the verdict leaves.
 #![tactic(auto)]
 
 mod edits;

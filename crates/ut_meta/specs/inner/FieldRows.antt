@@ -1,42 +1,28 @@
--- The rows of a new field and of its object. No public contract reaches these words.
-use Rattle.std.specs.Prelude.{◌≡◌, ℕ, ◌+◌, ◌<◌, List, [], ◌∷◌, Option, Some, Result, Ok, Err, IfSome, IsTrue}
-use Rattle.ut_keeper.specs.Tables.{Tables}
-use Rattle.ut_keys.specs.declared.fail.StoreFail.{StoreFail}
-use Rattle.ut_keys.specs.declared.fail.StoreFail.TheVariants.{Damaged, Keeper, Memory}
-use Rattle.ut_keys.specs.declared.field.FieldRow.{FieldRow}
+-- The rows that a new field changes: that of its object, and its own. No public contract reaches these words.
+-- Source: C. D. Weissman and S. Bobrowski, "The Design of the Force.com Multitenant Internet Application Development
+-- Platform" (SIGMOD 2009): objects and fields are rows of tables too.
+use Rattle.std.specs.Prelude.{◌≡◌, ℕ, ◌+◌, ◌<◌, List, [], ◌∷◌, Option, is_some, IfSome, IsTrue}
 use Rattle.ut_keys.specs.declared.object.ObjectRow.{ObjectRow}
-use Rattle.ut_keys.specs.Forms.{key_of, row_bytes}
+use Rattle.ut_keys.specs.Forms.{FitsForm}
 use Rattle.ut_keys.specs.Rows.{field_form, object_form}
-use Rattle.ut_model.specs.declared.metadata_bodies.NewField.{NewField}
-use Rattle.ut_model.specs.NewFields.{new_field}
+use Rattle.ut_model.specs.declared.metadata_bodies.SpelledType.{SpelledType}
+use Rattle.ut_model.specs.declared.metadata_bodies.SpelledType.TheVariants.{Plain, LookupTo}
 use Rattle.ut_model.specs.Tenant.{Field}
-use Rattle.ut_model.specs.World.{World}
 use Rattle.ut_parts.specs.Composed.{FitsType}
 use Rattle.ut_parts.specs.Plain.{FitsText}
-use Rattle.ut_stands.specs.Changes.{Change, with_changes}
+use Rattle.ut_stands.specs.Changes.{Change}
 use Rattle.ut_stands.specs.declared.layout.Layout.{Layout}
-use Rattle.ut_stands.specs.Layouts.{object_row}
-use Rattle.ut_stands.specs.Plan.{Plan}
 use Rattle.ut_stands.specs.Records.{has_free}
-use Rattle.ut_stands.specs.Stands.{StandsBy}
 use Rattle.ut_meta.specs.Slots.{IsLeastFree}
-use Rattle.ut_meta.specs.inner.Relations.{named_in, target_in}
+use Rattle.ut_meta.specs.declared.edits.fields.NewFieldRows.{NewFieldRows}
+use Rattle.ut_meta.specs.inner.Rows.{change_to, field_row}
 
--- ---- the field's row
+-- ---- what has such rows
 
--- the row of a field of this object, with its number and its slot
-abbrev pub row_with : (org object field slot : ℕ) → Field → FieldRow
-row_with org n place s f =
-    record {
-      org = org;
-      object = n;
-      field = place;
-      name = f.name;
-      kind = f.kind;
-      flags = record { required = f.required; unique = f.unique; indexed = f.indexed };
-      slot = s;
-      child = f.child;
-    }
+-- a lookup has the number of its object
+abbrev pub HasTarget : (target : Option ℕ) → SpelledType → Type 0
+HasTarget target (Plain kind) = Unit {0}
+HasTarget target (LookupTo object on_delete child) = IsTrue (is_some target)
 
 -- a row can have its texts and its type
 pub record IsSpelled (f : Field) : Type 0 where
@@ -44,40 +30,28 @@ pub record IsSpelled (f : Field) : Type 0 where
   pub kind : FitsType f.kind
   pub child : IfSome f.child FitsText
 
--- the row of this field of the object with this layout, in the least slot that is free if one is
-pub record IsRowFor (l : Layout) (f : Field) (row : FieldRow) : Type 0 where
-  pub made : row ≡ row_with l.org l.object 0 row.slot f
-  pub least : (s : ℕ) → s < 48 → IsTrue (has_free l s) → IsLeastFree l row.slot
-  pub below : row.slot < 48
+-- ---- the rows
 
--- the row of a new field by these layouts
-abbrev pub MakesRow : List Layout → NewField → Result FieldRow StoreFail → Type 0
-MakesRow ls b (Ok row) =
-    (l : Layout) (target : Option ℕ) → named_in ls b.object ≡ Some l → target_in ls b.kind ≡ Ok target
-    → IsRowFor l (new_field target b) row
-MakesRow ls b (Err Damaged) =
-    (l : Layout) (target : Option ℕ) → named_in ls b.object ≡ Some l → target_in ls b.kind ≡ Ok target
-    → IsSpelled (new_field target b) → ⊥
-MakesRow ls b (Err Keeper) = ⊥
-MakesRow ls b (Err Memory) = Unit {0}
+-- by the row of the object: with one field more, and that of the field in this slot, which has the next number
+abbrev pub rows_in : (slot : ℕ) → ObjectRow → Field → NewFieldRows
+rows_in s object f =
+    record {
+      object = record object { fields = object.fields + 1 };
+      field = field_row object.org object.object object.fields s f;
+    }
 
--- ---- what is put
+-- the same in the least slot that is free by the object's layout, if one is
+pub record AreRowsFor (l : Layout) (object : ObjectRow) (f : Field) (rows : NewFieldRows) : Type 0 where
+  pub made : rows ≡ rows_in rows.field.slot object f
+  pub least : (s : ℕ) → s < 48 → IsTrue (has_free l s) → IsLeastFree l rows.field.slot
+  pub below : rows.field.slot < 48
 
--- the change that puts the object's row with one field more, and that which puts the row of the field
-abbrev pub counted_change : ObjectRow → Change
-counted_change row = (key_of object_form row, Some (row_bytes object_form (record row { fields = row.fields + 1 })))
+-- they have spellings
+pub record FitFieldRows (r : NewFieldRows) : Type 0 where
+  pub object : FitsForm object_form r.object
+  pub field : FitsForm field_form r.field
 
-abbrev pub field_change : ObjectRow → FieldRow → Change
-field_change row field =
-    (key_of field_form (record field { field = row.fields }), Some (row_bytes field_form (record field { field = row.fields })))
+-- ---- changes
 
--- the row of a field is put, which has the next number of its object, by the row of the object
-abbrev pub PutsField : FieldRow → (before after : Tables) → Result (Unit {0}) StoreFail → Type 0
-PutsField field m after (Ok x) =
-    (p : Plan) (w : World) (row : ObjectRow) → StandsBy p m w → object_row field.org field.object p w ≡ Some row
-    → after ≡ with_changes (counted_change row ∷ field_change row field ∷ []) m
-PutsField field m after (Err Damaged) =
-    (p : Plan) (w : World) (row : ObjectRow) → StandsBy p m w → object_row field.org field.object p w ≡ Some row
-    → row.fields < 255 → ⊥
-PutsField field m after (Err Keeper) = Unit {0}
-PutsField field m after (Err Memory) = Unit {0}
+abbrev pub changes_of : NewFieldRows → List Change
+changes_of r = change_to object_form r.object ∷ change_to field_form r.field ∷ []

@@ -6,7 +6,7 @@ use Rattle.std.specs.Option.{option_and_then, option_map}
 use Rattle.ut_keys.specs.declared.field.FieldRow.{FieldRow}
 use Rattle.ut_keys.specs.declared.object.ObjectRow.{ObjectRow}
 use Rattle.ut_keys.specs.declared.org.OrgRow.{OrgRow}
-use Rattle.ut_keys.specs.Forms.{FitsForm, Form, key_of, row_bytes}
+use Rattle.ut_keys.specs.Forms.{FitsForm}
 use Rattle.ut_keys.specs.Rows.{field_form, object_form, org_form}
 use Rattle.ut_model.specs.declared.metadata_bodies.NewMaster.{NewMaster}
 use Rattle.ut_model.specs.declared.metadata_bodies.NewObject.{NewObject}
@@ -16,22 +16,15 @@ use Rattle.ut_stands.specs.declared.layout.Layout.{Layout}
 use Rattle.ut_value.specs.declared.value.FieldType.TheVariants as type
 use Rattle.ut_meta.specs.declared.edits.objects.NewRows.{NewRows}
 use Rattle.ut_meta.specs.inner.Relations.{named_in}
+use Rattle.ut_meta.specs.inner.Rows.{change_to, field_row}
 
 -- ---- the rows
 
 -- of the Master field of the object with this number, whose masters are of the object with the other
 abbrev pub master_row : (org object parent : ℕ) → NewMaster → FieldRow
 master_row org n parent m =
-    record {
-      org = org;
-      object = n;
-      field = 0;
-      name = m.field;
-      kind = type.Master parent;
-      flags = record { required = true; unique = false; indexed = false };
-      slot = 0;
-      child = Some m.child;
-    }
+    field_row org n 0 0
+    (record { name = m.field; kind = type.Master parent; required = true; unique = false; indexed = false; child = Some m.child })
 
 -- the same where its parent is among the layouts
 abbrev pub master_in : (org object : ℕ) → List Layout → NewMaster → Option FieldRow
@@ -42,8 +35,8 @@ abbrev pub first_field : (org object : ℕ) → List Layout → Option NewMaster
 first_field org n layouts master = option_and_then (master_in org n layouts) master
 
 -- of a new object, which has this field or none
-abbrev pub object_row : (org object : ℕ) → Option FieldRow → NewObject → ObjectRow
-object_row org n field b =
+abbrev pub new_object_row : (org object : ℕ) → Option FieldRow → NewObject → ObjectRow
+new_object_row org n field b =
     record {
       org = org;
       object = n;
@@ -60,7 +53,7 @@ rows_by layouts org b =
     record {
       org = record org { objects = length layouts + 1 };
       field = first_field org.org (length layouts) layouts b.master;
-      object = object_row org.org (length layouts) (first_field org.org (length layouts) layouts b.master) b;
+      object = new_object_row org.org (length layouts) (first_field org.org (length layouts) layouts b.master) b;
     }
 
 -- they have spellings
@@ -84,10 +77,6 @@ pub record AreSpelled (layouts : List Layout) (b : NewObject) : Type 0 where
   pub master : IfSome b.master (IsSpelledMaster layouts)
 
 -- ---- changes
-
--- this row in its place
-abbrev pub change_to : {U : Type 0} → Form U → U → Change
-change_to f u = (key_of f u, Some (row_bytes f u))
 
 abbrev pub field_change : Option FieldRow → List Change
 field_change None = []

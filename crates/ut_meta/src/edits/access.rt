@@ -20,8 +20,8 @@ use ut_sound::objects_sound;
 use ut_stands::{EditFail, layout_named, metadata_laws, object_row, slot_laws, stands_laws};
 use ut_value::Access;
 
-/// Sets what every user may do with the records of the object with this name, whatever the case of its letters. Access by
-/// the master is set by a new detail alone.
+/// Sets what every user may do with the records of the object with this name, whatever the case of its ASCII letters.
+/// Access by the master is set by a new detail alone.
 ///
 /// # Errors
 ///

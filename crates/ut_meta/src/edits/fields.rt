@@ -1,13 +1,15 @@
 //! New fields.
 
-ghost use Rattle.std.specs.Prelude.{◌≡◌, ◌≢◌, ◌<◌, Some, IfErr, IfOk, IfSome, IsErrOf, IsTrue, OnOk, is_ok};
+ghost use Rattle.std.specs.Prelude.{◌≡◌, ◌≢◌, ◌<◌, ℕ, Some, Ok, Option, IfErr, IfOk, IfSome, IsTrue, OnOk};
 ghost use Rattle.ut_keeper.specs.Draft.{DraftReads, DraftTells, DraftWorks, count_of, state_of, tables_of};
 ghost use Rattle.ut_keeper.specs.State.{KeeperCause, StaysAfter};
 ghost use Rattle.ut_keys.specs.declared.fail.StoreFail.TheVariants.{Keeper, Memory};
 ghost use Rattle.ut_keys.specs.Forms.{FitsForm};
-ghost use Rattle.ut_keys.specs.Rows.{field_form};
+ghost use Rattle.ut_keys.specs.Rows.{field_form, object_form};
 ghost use Rattle.ut_meta.specs.Slots.{TakesLeastFree};
-ghost use Rattle.ut_meta.specs.inner.FieldRows.{IsSpelled, MakesRow, PutsField, row_with};
+ghost use Rattle.ut_meta.specs.inner.FieldRows.{AreRowsFor, FitFieldRows, HasTarget, IsSpelled};
+ghost use Rattle.ut_meta.specs.inner.Relations.{target_in};
+ghost use Rattle.ut_meta.specs.inner.Rows.{field_row};
 ghost use Rattle.ut_model.specs.NewFields.{add_field, child_of, new_field, type_with};
 ghost use Rattle.ut_model.specs.Objects.{Numbered, object_named};
 ghost use Rattle.ut_model.specs.Tenant.{Tenant};
@@ -26,25 +28,39 @@ use crate::relations::layout_named;
 use crate::slots::free_slot;
 use std::alloc::Global;
 use ut_keeper::{Draft, Keeper, draft_laws};
-use ut_keys::{FieldFlags, FieldRow, StoreFail, put};
+use ut_keys::{FieldFlags, FieldRow, ObjectRow, StoreFail, put};
 use ut_model::{NewField, SpelledType};
 use ut_sound::objects_sound;
 use ut_stands::{EditFail, Layout, layouts, metadata_laws, object_row, slot_laws, stands_laws};
 use ut_value::{FieldType, Text};
 
-// The type of a new field, if a lookup refers to the object with this number.
-fn type_with(alloc: Global, target: u16, kind: &SpelledType) -> Result<FieldType, StoreFail>
-    ensures same { IfOk result (λ made. made ≡ type_with (Some target) kind.now) }
+// The rows that a new field changes.
+#[derive(Drop)]
+struct NewFieldRows {
+    // The object's, with one field more.
+    object: ObjectRow,
+    field: FieldRow,
+}
+
+// The type of a new field. A lookup refers to the object with the number `target`.
+fn type_with(alloc: Global, target: Option<u16>, kind: &SpelledType) -> Result<FieldType, StoreFail>
+    ensures same { IfOk result (λ made. made ≡ type_with target kind.now) }
     ensures fits { IfOk result FitsType }
-    ensures damaged { FitsType (type_with (Some target) kind.now) → IfErr result (λ e. e ≡ Memory) }
+    ensures damaged { HasTarget target kind.now → FitsType (type_with target kind.now) → IfErr result (λ e. e ≡ Memory) }
     ensures cause { IfErr result (λ e. e ≢ Keeper) }
 {
     match kind {
         SpelledType::Plain(kind) => copy_of_type(alloc, kind),
-        SpelledType::LookupTo { on_delete, .. } => Ok(FieldType::Lookup {
-            object: target,
-            on_delete: *on_delete,
-        }),
+        SpelledType::LookupTo { on_delete, .. } => {
+            let Some(object) = target else {
+                // A lookup to no object is refused.
+                return Err(StoreFail::Damaged);
+            };
+            Ok(FieldType::Lookup {
+                object,
+                on_delete: *on_delete,
+            })
+        }
     }
 }
 
@@ -61,27 +77,27 @@ fn copy_of_child(alloc: Global, kind: &SpelledType) -> Result<Option<Text>, Stor
     }
 }
 
-// The row of a new field in this slot, with the number 0. A lookup refers to the object with the number `target`.
-fn row_in_slot(
+// The row of a new field in this slot, which has the next number of the object with this row.
+fn field_row(
     alloc: Global,
-    org: u32,
-    object: u16,
+    object: &ObjectRow,
     slot: u8,
-    target: u16,
+    target: Option<u16>,
     new: &NewField,
 ) -> Result<FieldRow, StoreFail>
-    ensures same { IfOk result (λ row. row ≡ row_with org object 0 slot (new_field (Some target) new.now)) }
+    requires { FitsForm object_form object.now }
+    ensures same { IfOk result (λ row. row ≡ field_row object.now.org object.now.object object.now.fields slot (new_field target new.now)) }
     ensures fits { IfOk result (FitsForm field_form) }
-    ensures damaged { IsSpelled (new_field (Some target) new.now) → IfErr result (λ e. e ≡ Memory) }
+    ensures damaged { HasTarget target new.now.kind → IsSpelled (new_field target new.now) → IfErr result (λ e. e ≡ Memory) }
     ensures cause { IfErr result (λ e. e ≢ Keeper) }
 {
     let name = copy_of_text(alloc, &new.name)?;
     let kind = type_with(alloc, target, &new.kind)?;
     let child = copy_of_child(alloc, &new.kind)?;
     Ok(FieldRow {
-        org,
-        object,
-        field: 0,
+        org: object.org,
+        object: object.object,
+        field: object.fields,
         name,
         kind,
         flags: FieldFlags {
@@ -94,53 +110,34 @@ fn row_in_slot(
     })
 }
 
-// The row of a new field in the least slot that is free, with the number 0.
-fn row_of(alloc: Global, layouts: &[Layout], new: &NewField) -> Result<FieldRow, StoreFail>
-    ensures makes { MakesRow layouts.now new.now result }
-    ensures fits { IfOk result (FitsForm field_form) }
+// The rows of a new field in the least slot that is free, by the row of its object, whose layout is given too.
+fn rows_of(
+    alloc: Global,
+    layouts: &[Layout],
+    layout: &Layout,
+    object: ObjectRow,
+    new: &NewField,
+) -> Result<NewFieldRows, StoreFail>
+    requires { FitsForm object_form object }
+    ensures same { (target : Option ℕ) → target_in layouts.now new.now.kind ≡ Ok target
+        → IfOk result (AreRowsFor layout.now object (new_field target new.now)) }
+    ensures fits { IfOk result FitFieldRows }
+    ensures damaged { (target : Option ℕ) → target_in layouts.now new.now.kind ≡ Ok target → HasTarget target new.now.kind
+        → IsSpelled (new_field target new.now) → object.fields < 255 → IfErr result (λ e. e ≡ Memory) }
+    ensures cause { IfErr result (λ e. e ≢ Keeper) }
 {
-    let Some(layout) = layout_named(layouts, new.object.as_str()) else {
-        // Without an object it is refused.
-        return Err(StoreFail::Damaged);
-    };
     let Ok(target) = target_number(layouts, &new.kind) else {
         // A lookup to no object is refused.
-        return Err(StoreFail::Damaged);
-    };
-    let slot = free_slot(layout);
-    let target = target.unwrap_or(0);
-    row_in_slot(alloc, layout.org, layout.object, slot, target, new)
-}
-
-// Puts the row of an object's new field, with the next number, and counts the field in the row of the object.
-fn put_field<K: Keeper>(
-    alloc: Global,
-    draft: &mut Draft<'_, K>,
-    field: FieldRow,
-) -> Result<(), StoreFail>
-    requires { FitsForm field_form field }
-    ensures puts { DraftTells K.state draft.old draft.new
-        → PutsField field (tables_of K.state draft.old) (tables_of K.state draft.new) result }
-    ensures some { OnOk result (0 < count_of draft.new) }
-    ensures works { DraftWorks K.state 2 0 0 draft.old draft.new }
-    ensures stays { StaysAfter (is_ok result) (state_of K.state draft.old) (state_of K.state draft.new) }
-    ensures cause { KeeperCause (state_of K.state draft.old) (state_of K.state draft.new) (IsErrOf result Keeper) }
-{
-    draft_laws::<K>();
-    let Some(mut object) = object_row(alloc, draft, field.org, field.object)? else {
-        // Each object has its row.
         return Err(StoreFail::Damaged);
     };
     let Some(count) = object.fields.checked_add(1) else {
         // An object has at most 40 fields.
         return Err(StoreFail::Damaged);
     };
-    let mut field = field;
-    field.field = object.fields;
+    let field = field_row(alloc, &object, free_slot(layout), target, new)?;
+    let mut object = object;
     object.fields = count;
-    put(alloc, draft, &object)?;
-    put(alloc, draft, &field)?;
-    Ok(())
+    Ok(NewFieldRows { object, field })
 }
 
 /// Adds a field to an object, in the least slot that is free: in each of its records it is null, or false.
@@ -178,7 +175,16 @@ pub fn add_field<K: Keeper>(
     if let Some(refusal) = judge_field(alloc, all.as_slice(), new)? {
         return Err(EditFail::Refused(refusal));
     }
-    let row = row_of(alloc, all.as_slice(), new)?;
-    put_field(alloc, draft, row)?;
+    let Some(layout) = layout_named(all.as_slice(), new.object.as_str()) else {
+        // Without an object it is refused.
+        return Err(EditFail::Store(StoreFail::Damaged));
+    };
+    let Some(row) = object_row(alloc, draft, org, layout.object)? else {
+        // Each object has its row.
+        return Err(EditFail::Store(StoreFail::Damaged));
+    };
+    let rows = rows_of(alloc, all.as_slice(), layout, row, new)?;
+    put(alloc, draft, &rows.object)?;
+    put(alloc, draft, &rows.field)?;
     Ok(())
 }

@@ -72,7 +72,7 @@ struct Names<'a> {
     new: &'a NewObject,
 }
 
-/// Whether an object has this name.
+// Whether an object has this name.
 fn has_name(layouts: &[Layout], name: &str) -> bool
     ensures { result ≡ list_any (same_name (chars name.now)) (map (λ l. l.name) layouts.now) }
 {

@@ -1,11 +1,9 @@
 -- Tables with the rows of a new field stand for the world with it.
 use Rattle.std.proofs.Common.{◌≡◌, ◌∙◌, ℕ, zero, suc, ◌+◌, ◌<◌, ◌≤◌, ◌^◌, Bool, true, false, ◌&&◌, IsTrue, List, [], ◌∷◌, ◌++◌, length, map, Option, Some, None, refl, sym, ap, subst, arith, length-append}
-use Rattle.std.specs.Prelude.{Result, Ok, Err, IsErrAnd, is_some, slice_get}
+use Rattle.std.specs.Prelude.{Ok, is_some, slice_get}
 use Rattle.std.specs.List.{AllByRecursion, enumerate_from}
 use Rattle.std.specs.Option.{option_and_then, option_map}
 use Rattle.ut_keeper.specs.Tables.{Tables}
-use Rattle.ut_keys.specs.declared.fail.StoreFail.{StoreFail}
-use Rattle.ut_keys.specs.declared.fail.StoreFail.TheVariants.{Damaged, Keeper, Memory}
 use Rattle.ut_keys.specs.declared.field.FieldRow.{FieldRow}
 use Rattle.ut_keys.specs.declared.object.ObjectRow.{ObjectRow}
 use Rattle.ut_keys.specs.Forms.{FitsForm, row_bytes}
@@ -29,15 +27,12 @@ use Rattle.ut_model.specs.Verdict.{Verdict, accept, done, refuse, with_object}
 use Rattle.ut_model.specs.World.{World, tenant_at}
 use Rattle.ut_sound.specs.Fit.{is_fit_field}
 use Rattle.ut_stands.specs.Changes.{Change, IsOf, with_changes}
-use Rattle.ut_stands.specs.Fails.{of_store}
 use Rattle.ut_stands.specs.Layouts.{layout_of, layouts_of, object_row}
 use Rattle.ut_stands.specs.Metadata.{field_of, object_of}
 use Rattle.ut_stands.specs.Operations.{EditsIn}
 use Rattle.ut_stands.specs.Plan.{FitsPlan, OrgPlan, Plan, slot_count, with_plan}
 use Rattle.ut_stands.specs.Records.{has_free, is_field_key, is_free, is_object_key, suits_flags, with_slot}
 use Rattle.ut_stands.specs.Stands.{Stands, StandsBy, row_in}
-use Rattle.ut_stands.specs.declared.fail.EditFail.{EditFail}
-use Rattle.ut_stands.specs.declared.fail.EditFail.TheVariants.{Store}
 use Rattle.ut_stands.specs.declared.layout.Layout.{Layout}
 use Rattle.ut_value.specs.Types.{suits_indexed, suits_unique}
 use Rattle.ut_meta.specs.Judging.{AreLayouts, layouts_in, refusal_of}

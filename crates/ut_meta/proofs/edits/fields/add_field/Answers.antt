@@ -1,11 +1,11 @@
-use Rattle.std.proofs.Common.{◌≡◌, ◌∙◌, ◌<◌, ◌^◌, List, ℕ, Option, Some, None, sym, subst, ap, arith}
+use Rattle.std.proofs.Common.{◌≡◌, ◌∙◌, List, Some, None, sym, subst, ap, arith}
 use Rattle.std.specs.Str.{chars}
 use Rattle.ut_keeper.specs.Draft.{tables_of}
 use Rattle.ut_keeper.specs.Tables.{Tables}
 use Rattle.ut_keys.specs.Rows.{field_form, object_form}
 use Rattle.ut_model.specs.NewFields.{add_field}
 use Rattle.ut_stands.specs.Changes.{with_changes}
-use Rattle.ut_stands.specs.Layouts.{layouts_of, object_row}
+use Rattle.ut_stands.specs.Layouts.{object_row}
 use Rattle.ut_stands.specs.Stands.{StandsBy}
 use Rattle.ut_stands.specs.declared.layout.Layout.{Layout}
 use Rattle.ut_meta.specs.Judging.{refusal_of}

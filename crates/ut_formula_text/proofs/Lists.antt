@@ -4,10 +4,10 @@ use Rattle.ut_grammar.specs.Part as part
 use Rattle.ut_grammar.specs.Reader as reader
 use Rattle.ut_grammar.proofs.Lists.{Takes, exact_takes}
 use Rattle.ut_grammar.proofs.Pairs.{after_exact}
-use Rattle.ut_formula_text.specs.Grammar as g
-use Rattle.ut_formula_text.specs.Reading as spec
-use Rattle.ut_formula_text.specs.Signs.{kind}
-use Rattle.ut_formula_text.specs.declared.sign.Sign.{Sign}
+use Rattle.ut_formula_grammar.specs.Grammar as g
+use Rattle.ut_formula_grammar.specs.Reading as spec
+use Rattle.ut_formula_grammar.specs.Signs.{kind}
+use Rattle.ut_formula_grammar.specs.declared.sign.Sign.{Sign}
 use Rattle.ut_formula_text.proofs.Instances.{firsts, nested_exact}
 
 -- a comma and a formula take a token

@@ -10,11 +10,11 @@ use Rattle.ut_grammar.proofs.Unique.{one_list}
 use Rattle.ut_grammar.proofs.Verdict as v
 use Rattle.ut_formula.specs.declared.formula.Formula.{Formula}
 use Rattle.ut_formula.specs.declared.formula.NamedField.{NamedField}
-use Rattle.ut_formula_text.specs.Grammar as g
-use Rattle.ut_formula_text.specs.Reading as read
-use Rattle.ut_formula_text.specs.Signs.{kind, lexis, signs, starts}
-use Rattle.ut_formula_text.specs.Spelling.{IsRefusedAt, Spells, at_end, formula_in, place_in, whole_of}
-use Rattle.ut_formula_text.specs.declared.sign.Sign.{Sign}
+use Rattle.ut_formula_grammar.specs.Grammar as g
+use Rattle.ut_formula_grammar.specs.Reading as read
+use Rattle.ut_formula_grammar.specs.Signs.{kind, lexis, signs, starts}
+use Rattle.ut_formula_grammar.specs.Spelling.{IsRefusedAt, Spells, at_end, formula_in, place_in, whole_of}
+use Rattle.ut_formula_grammar.specs.declared.sign.Sign.{Sign}
 use Rattle.ut_formula_text.proofs.Instances.{firsts, whole_exact}
 
 ended : (f h : Formula) (rest : List Sign) (o : Outcome Sign Formula) → o ≡ Ok (h, rest) → at_end h rest ≡ Some f → o ≡ Ok (f, [])

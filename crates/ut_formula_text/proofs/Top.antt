@@ -9,11 +9,11 @@ use Rattle.ut_grammar.proofs.Unique.{one_list}
 use Rattle.ut_grammar.proofs.Verdict as v
 use Rattle.ut_formula.specs.declared.formula.Formula.{Formula}
 use Rattle.ut_formula.specs.declared.formula.NamedField.{NamedField}
-use Rattle.ut_formula_text.specs.Grammar as g
-use Rattle.ut_formula_text.specs.Reading as spec
-use Rattle.ut_formula_text.specs.Signs.{kind, lexis, signs, starts}
-use Rattle.ut_formula_text.specs.Spelling.{IsRefusedAt, Spells}
-use Rattle.ut_formula_text.specs.declared.sign.Sign.{Sign}
+use Rattle.ut_formula_grammar.specs.Grammar as g
+use Rattle.ut_formula_grammar.specs.Reading as spec
+use Rattle.ut_formula_grammar.specs.Signs.{kind, lexis, signs, starts}
+use Rattle.ut_formula_grammar.specs.Spelling.{IsRefusedAt, Spells}
+use Rattle.ut_formula_grammar.specs.declared.sign.Sign.{Sign}
 use Rattle.ut_formula_text.proofs.Instances.{firsts, whole_exact}
 
 pub found : (ts r : List Sign) (a : Formula) → spec.whole ts ≡ Ok (a, r) → length r ≡ 0 → g.whole.spells ts a

@@ -1,6 +1,1 @@
-pub mod Signs
-pub mod Terms
-pub mod Grammar
-pub mod Reading
-pub mod Spelling
 pub mod Texts

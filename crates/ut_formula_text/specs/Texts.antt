@@ -5,7 +5,7 @@ use Rattle.ut_value.specs.declared.value.Value.{Value}
 use Rattle.ut_value.specs.declared.value.Value.TheVariants as value
 use Rattle.ut_formula.specs.Meaning.{holds}
 use Rattle.ut_formula.specs.declared.formula.NamedField.{NamedField}
-use Rattle.ut_formula_text.specs.Spelling.{formula_in}
+use Rattle.ut_formula_grammar.specs.Spelling.{formula_in}
 
 -- the fields of a deal
 abbrev pub deal : List NamedField

@@ -3,7 +3,7 @@
 ghost use Rattle.std.specs.Prelude.{◌≡◌, ℕ, Bool, List, Some, None};
 ghost use Rattle.ut_formula.specs.declared.formula.Formula.{Formula};
 ghost use Rattle.ut_formula.specs.declared.formula.NamedField.{NamedField};
-ghost use Rattle.ut_formula_text.specs.Spelling.{IsRefusedAt, Spells, formula_in, place_in};
+ghost use Rattle.ut_formula_grammar.specs.Spelling.{IsRefusedAt, Spells, formula_in, place_in};
 
 /// What holds of texts and the formulas that they spell. The call does nothing.
 pub fn spelling_laws()

@@ -8,7 +8,6 @@
 mod laws;
 mod parsing;
 mod reader;
-mod sign;
 mod texts;
 mod values;
 mod words;

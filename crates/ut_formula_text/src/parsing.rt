@@ -2,12 +2,12 @@
 
 ghost use Rattle.std.specs.Prelude.{◌≡◌, ◌≤◌, length, chars, IfOk};
 ghost use Rattle.ut_formula.specs.declared.formula.Formula.{Formula};
-ghost use Rattle.ut_formula_text.specs.Grammar as grammar;
-ghost use Rattle.ut_formula_text.specs.Spelling.{IsRefusedAt, Spells};
+ghost use Rattle.ut_formula_grammar.specs.Grammar as grammar;
+ghost use Rattle.ut_formula_grammar.specs.Spelling.{IsRefusedAt, Spells};
 ghost use Rattle.ut_grammar.specs.Place.{IsOrMemory, IsPlace, OnMalformed};
 
 use crate::reader::whole;
-use crate::sign::Sign;
+use ut_formula_grammar::Sign;
 use crate::words::{FormulaLexis, signs, starts};
 use std::alloc::Global;
 use ut_formula::{Fields, Formula};

@@ -3,12 +3,12 @@
 //! Each function reads one part of the grammar, and returns its value and the tokens behind it.
 
 ghost use Rattle.std.specs.Prelude.{◌≡◌, ◌<◌, ◌≤◌, length, ◌∷◌, [], IfOk};
-ghost use Rattle.ut_formula_text.specs.Reading as spec;
-ghost use Rattle.ut_formula_text.specs.Signs.{kind};
+ghost use Rattle.ut_formula_grammar.specs.Reading as spec;
+ghost use Rattle.ut_formula_grammar.specs.Signs.{kind};
 ghost use Rattle.ut_grammar.specs.Reader as reader;
 ghost use Rattle.ut_grammar.specs.Reader.{Gives, with_front};
 
-use crate::sign::{Kind, Sign};
+use ut_formula_grammar::{Kind, Sign};
 use crate::values::{
     field_in, is_len, measured_in, picklist_in, prior_in, relation_in, simple_in, text_in, truth_in,
 };
@@ -51,7 +51,7 @@ const CLOSE: u8 = 15;
 const COMMA: u8 = 16;
 
 // A field of any type.
-#[tactic(auto, unfolding(crate::specs::Reading::field))]
+#[tactic(auto, unfolding(ut_formula_grammar::specs::Reading::field))]
 fn field(signs: &[Sign]) -> Result<(u8, &[Sign]), Fail>
     ensures value { Gives (λ x. (x.0, x.1.now)) result (spec.field signs.now) }
     ensures shorter { IfOk result (λ x. length x.1.now < length signs.now) }
@@ -65,7 +65,7 @@ fn field(signs: &[Sign]) -> Result<(u8, &[Sign]), Fail>
     }
 }
 
-#[tactic(auto, unfolding(crate::specs::Reading::picklist))]
+#[tactic(auto, unfolding(ut_formula_grammar::specs::Reading::picklist))]
 fn picklist(signs: &[Sign]) -> Result<(u8, &[Sign]), Fail>
     ensures value { Gives (λ x. (x.0, x.1.now)) result (spec.picklist signs.now) }
     ensures shorter { IfOk result (λ x. length x.1.now < length signs.now) }
@@ -80,7 +80,7 @@ fn picklist(signs: &[Sign]) -> Result<(u8, &[Sign]), Fail>
 }
 
 // A field that has a length.
-#[tactic(auto, unfolding(crate::specs::Reading::measured))]
+#[tactic(auto, unfolding(ut_formula_grammar::specs::Reading::measured))]
 fn measured(signs: &[Sign]) -> Result<(u8, &[Sign]), Fail>
     ensures value { Gives (λ x. (x.0, x.1.now)) result (spec.measured signs.now) }
     ensures shorter { IfOk result (λ x. length x.1.now < length signs.now) }
@@ -94,7 +94,7 @@ fn measured(signs: &[Sign]) -> Result<(u8, &[Sign]), Fail>
     }
 }
 
-#[tactic(auto, unfolding(crate::specs::Reading::text))]
+#[tactic(auto, unfolding(ut_formula_grammar::specs::Reading::text))]
 fn text(alloc: Global, signs: &[Sign]) -> Result<(Text, &[Sign]), Fail>
     ensures value { Gives (λ x. (x.0, x.1.now)) result (spec.text signs.now) }
     ensures shorter { IfOk result (λ x. length x.1.now < length signs.now) }
@@ -108,7 +108,7 @@ fn text(alloc: Global, signs: &[Sign]) -> Result<(Text, &[Sign]), Fail>
     }
 }
 
-#[tactic(auto, unfolding(crate::specs::Reading::relation))]
+#[tactic(auto, unfolding(ut_formula_grammar::specs::Reading::relation))]
 fn relation(signs: &[Sign]) -> Result<(Relation, &[Sign]), Fail>
     ensures value { Gives (λ x. (x.0, x.1.now)) result (spec.relation signs.now) }
     ensures shorter { IfOk result (λ x. length x.1.now < length signs.now) }
@@ -123,7 +123,7 @@ fn relation(signs: &[Sign]) -> Result<(Relation, &[Sign]), Fail>
 }
 
 // A field, a number or a text as a term, with its kind.
-#[tactic(auto, unfolding(crate::specs::Reading::simple))]
+#[tactic(auto, unfolding(ut_formula_grammar::specs::Reading::simple))]
 fn simple(
     alloc: Global,
     wanted: Option<Kind>,
@@ -142,7 +142,7 @@ fn simple(
 }
 
 // The tokens behind LEN, where a number suits.
-#[tactic(auto, unfolding(crate::specs::Reading::len_word))]
+#[tactic(auto, unfolding(ut_formula_grammar::specs::Reading::len_word))]
 fn len_word(wanted: Option<Kind>, signs: &[Sign]) -> Result<&[Sign], Fail>
     ensures value { Gives (λ rest. (tt, rest.now)) result (spec.len_word wanted signs.now) }
     ensures shorter { IfOk result (λ rest. length rest.now < length signs.now) }
@@ -160,7 +160,7 @@ fn len_word(wanted: Option<Kind>, signs: &[Sign]) -> Result<&[Sign], Fail>
 }
 
 // A field within PRIORVALUE.
-#[tactic(auto, unfolding(crate::specs::Reading::prior_field))]
+#[tactic(auto, unfolding(ut_formula_grammar::specs::Reading::prior_field))]
 fn prior_field(wanted: Option<Kind>, signs: &[Sign]) -> Result<((Term, Kind), &[Sign]), Fail>
     ensures value { Gives (λ x. (x.0, x.1.now)) result (spec.prior_field wanted signs.now) }
     ensures shorter { IfOk result (λ x. length x.1.now < length signs.now) }
@@ -174,7 +174,7 @@ fn prior_field(wanted: Option<Kind>, signs: &[Sign]) -> Result<((Term, Kind), &[
     }
 }
 
-#[tactic(auto, unfolding(crate::specs::Reading::length_term))]
+#[tactic(auto, unfolding(ut_formula_grammar::specs::Reading::length_term))]
 fn length_term(wanted: Option<Kind>, signs: &[Sign]) -> Result<((Term, Kind), &[Sign]), Fail>
     ensures value { Gives (λ x. (x.0, x.1.now)) result (spec.length_term wanted signs.now) }
     ensures shorter { IfOk result (λ x. length x.1.now < length signs.now) }
@@ -186,7 +186,7 @@ fn length_term(wanted: Option<Kind>, signs: &[Sign]) -> Result<((Term, Kind), &[
     Ok(((Term::Len(position), Kind::Number), rest))
 }
 
-#[tactic(auto, unfolding(crate::specs::Reading::prior_term))]
+#[tactic(auto, unfolding(ut_formula_grammar::specs::Reading::prior_term))]
 fn prior_term(wanted: Option<Kind>, signs: &[Sign]) -> Result<((Term, Kind), &[Sign]), Fail>
     ensures value { Gives (λ x. (x.0, x.1.now)) result (spec.prior_term wanted signs.now) }
     ensures shorter { IfOk result (λ x. length x.1.now < length signs.now) }
@@ -199,7 +199,7 @@ fn prior_term(wanted: Option<Kind>, signs: &[Sign]) -> Result<((Term, Kind), &[S
 }
 
 // A term of the kind that is wanted, or of any, with its kind.
-#[tactic(auto, unfolding(crate::specs::Reading::term_of))]
+#[tactic(auto, unfolding(ut_formula_grammar::specs::Reading::term_of))]
 fn term_of(
     alloc: Global,
     wanted: Option<Kind>,
@@ -218,7 +218,7 @@ fn term_of(
 }
 
 // A relation, and a term of this kind.
-#[tactic(auto, unfolding(crate::specs::Reading::ending))]
+#[tactic(auto, unfolding(ut_formula_grammar::specs::Reading::ending))]
 fn ending(alloc: Global, left: Kind, signs: &[Sign]) -> Result<((Relation, Term), &[Sign]), Fail>
     ensures value { (term : Term) → Gives (λ x. (x.0, x.1.now)) result (spec.ending (term, left) signs.now) }
     ensures shorter { IfOk result (λ x. length x.1.now < length signs.now) }
@@ -228,7 +228,7 @@ fn ending(alloc: Global, left: Kind, signs: &[Sign]) -> Result<((Relation, Term)
     Ok(((relation, right), rest))
 }
 
-#[tactic(auto, unfolding(crate::specs::Reading::comparison))]
+#[tactic(auto, unfolding(ut_formula_grammar::specs::Reading::comparison))]
 fn comparison(alloc: Global, signs: &[Sign]) -> Result<(Formula, &[Sign]), Fail>
     ensures value { Gives (λ x. (x.0, x.1.now)) result (spec.comparison signs.now) }
     ensures shorter { IfOk result (λ x. length x.1.now < length signs.now) }
@@ -245,7 +245,7 @@ fn comparison(alloc: Global, signs: &[Sign]) -> Result<(Formula, &[Sign]), Fail>
 
 // ---- formulas without formulas within them
 
-#[tactic(auto, unfolding(crate::specs::Reading::truth))]
+#[tactic(auto, unfolding(ut_formula_grammar::specs::Reading::truth))]
 fn truth(signs: &[Sign]) -> Result<(Formula, &[Sign]), Fail>
     ensures value { Gives (λ x. (x.0, x.1.now)) result (spec.truth signs.now) }
     ensures shorter { IfOk result (λ x. length x.1.now < length signs.now) }
@@ -259,7 +259,7 @@ fn truth(signs: &[Sign]) -> Result<(Formula, &[Sign]), Fail>
     }
 }
 
-#[tactic(auto, unfolding(crate::specs::Reading::is_new))]
+#[tactic(auto, unfolding(ut_formula_grammar::specs::Reading::is_new))]
 fn is_new(signs: &[Sign]) -> Result<(Formula, &[Sign]), Fail>
     ensures value { Gives (λ x. (x.0, x.1.now)) result (spec.is_new signs.now) }
     ensures shorter { IfOk result (λ x. length x.1.now < length signs.now) }
@@ -270,7 +270,7 @@ fn is_new(signs: &[Sign]) -> Result<(Formula, &[Sign]), Fail>
     Ok((Formula::IsNew, rest))
 }
 
-#[tactic(auto, unfolding(crate::specs::Reading::is_blank))]
+#[tactic(auto, unfolding(ut_formula_grammar::specs::Reading::is_blank))]
 fn is_blank(signs: &[Sign]) -> Result<(Formula, &[Sign]), Fail>
     ensures value { Gives (λ x. (x.0, x.1.now)) result (spec.is_blank signs.now) }
     ensures shorter { IfOk result (λ x. length x.1.now < length signs.now) }
@@ -282,7 +282,7 @@ fn is_blank(signs: &[Sign]) -> Result<(Formula, &[Sign]), Fail>
     Ok((Formula::IsBlank(position), rest))
 }
 
-#[tactic(auto, unfolding(crate::specs::Reading::is_changed))]
+#[tactic(auto, unfolding(ut_formula_grammar::specs::Reading::is_changed))]
 fn is_changed(signs: &[Sign]) -> Result<(Formula, &[Sign]), Fail>
     ensures value { Gives (λ x. (x.0, x.1.now)) result (spec.is_changed signs.now) }
     ensures shorter { IfOk result (λ x. length x.1.now < length signs.now) }
@@ -295,7 +295,7 @@ fn is_changed(signs: &[Sign]) -> Result<(Formula, &[Sign]), Fail>
 }
 
 // A picklist and one of its values.
-#[tactic(auto, unfolding(crate::specs::Reading::choice))]
+#[tactic(auto, unfolding(ut_formula_grammar::specs::Reading::choice))]
 fn choice(alloc: Global, signs: &[Sign]) -> Result<((u8, Text), &[Sign]), Fail>
     ensures value { Gives (λ x. (x.0, x.1.now)) result (spec.choice signs.now) }
     ensures shorter { IfOk result (λ x. length x.1.now < length signs.now) }
@@ -306,7 +306,7 @@ fn choice(alloc: Global, signs: &[Sign]) -> Result<((u8, Text), &[Sign]), Fail>
     Ok(((field, value), rest))
 }
 
-#[tactic(auto, unfolding(crate::specs::Reading::is_pickval))]
+#[tactic(auto, unfolding(ut_formula_grammar::specs::Reading::is_pickval))]
 fn is_pickval(alloc: Global, signs: &[Sign]) -> Result<(Formula, &[Sign]), Fail>
     ensures value { Gives (λ x. (x.0, x.1.now)) result (spec.is_pickval signs.now) }
     ensures shorter { IfOk result (λ x. length x.1.now < length signs.now) }
@@ -318,7 +318,7 @@ fn is_pickval(alloc: Global, signs: &[Sign]) -> Result<(Formula, &[Sign]), Fail>
     Ok((Formula::IsPickval { field, value }, rest))
 }
 
-#[tactic(auto, unfolding(crate::specs::Reading::of_fields))]
+#[tactic(auto, unfolding(ut_formula_grammar::specs::Reading::of_fields))]
 fn of_fields(alloc: Global, signs: &[Sign]) -> Result<(Formula, &[Sign]), Fail>
     ensures value { Gives (λ x. (x.0, x.1.now)) result (spec.of_fields signs.now) }
     ensures shorter { IfOk result (λ x. length x.1.now < length signs.now) }
@@ -334,7 +334,7 @@ fn of_fields(alloc: Global, signs: &[Sign]) -> Result<(Formula, &[Sign]), Fail>
     }
 }
 
-#[tactic(auto, unfolding(crate::specs::Reading::plain))]
+#[tactic(auto, unfolding(ut_formula_grammar::specs::Reading::plain))]
 fn plain(alloc: Global, signs: &[Sign]) -> Result<(Formula, &[Sign]), Fail>
     ensures value { Gives (λ x. (x.0, x.1.now)) result (spec.plain signs.now) }
     ensures shorter { IfOk result (λ x. length x.1.now < length signs.now) }
@@ -364,7 +364,7 @@ fn nested(alloc: Global, levels: usize, signs: &[Sign]) -> Result<(Formula, &[Si
 
 // A formula in which the formulas within it have at most so many levels.
 #[cycle(formulas)]
-#[tactic(auto, unfolding(crate::specs::Reading::formula_over))]
+#[tactic(auto, unfolding(ut_formula_grammar::specs::Reading::formula_over))]
 fn formula_over(alloc: Global, levels: usize, signs: &[Sign]) -> Result<(Formula, &[Sign]), Fail>
     ensures value { Gives (λ x. (x.0, x.1.now)) result (spec.formula_over (spec.nested levels) signs.now) }
     ensures shorter { IfOk result (λ x. length x.1.now < length signs.now) }
@@ -381,7 +381,7 @@ fn formula_over(alloc: Global, levels: usize, signs: &[Sign]) -> Result<(Formula
 }
 
 #[cycle(formulas)]
-#[tactic(auto, unfolding(crate::specs::Reading::negation))]
+#[tactic(auto, unfolding(ut_formula_grammar::specs::Reading::negation))]
 fn negation(alloc: Global, levels: usize, signs: &[Sign]) -> Result<(Formula, &[Sign]), Fail>
     ensures value { Gives (λ x. (x.0, x.1.now)) result (spec.negation (spec.nested levels) signs.now) }
     ensures shorter { IfOk result (λ x. length x.1.now < length signs.now) }
@@ -394,7 +394,7 @@ fn negation(alloc: Global, levels: usize, signs: &[Sign]) -> Result<(Formula, &[
 }
 
 #[cycle(formulas)]
-#[tactic(auto, unfolding(crate::specs::Reading::conjunction))]
+#[tactic(auto, unfolding(ut_formula_grammar::specs::Reading::conjunction))]
 fn conjunction(alloc: Global, levels: usize, signs: &[Sign]) -> Result<(Formula, &[Sign]), Fail>
     ensures value { Gives (λ x. (x.0, x.1.now)) result (spec.conjunction (spec.nested levels) signs.now) }
     ensures shorter { IfOk result (λ x. length x.1.now < length signs.now) }
@@ -407,7 +407,7 @@ fn conjunction(alloc: Global, levels: usize, signs: &[Sign]) -> Result<(Formula,
 }
 
 #[cycle(formulas)]
-#[tactic(auto, unfolding(crate::specs::Reading::disjunction))]
+#[tactic(auto, unfolding(ut_formula_grammar::specs::Reading::disjunction))]
 fn disjunction(alloc: Global, levels: usize, signs: &[Sign]) -> Result<(Formula, &[Sign]), Fail>
     ensures value { Gives (λ x. (x.0, x.1.now)) result (spec.disjunction (spec.nested levels) signs.now) }
     ensures shorter { IfOk result (λ x. length x.1.now < length signs.now) }
@@ -421,7 +421,7 @@ fn disjunction(alloc: Global, levels: usize, signs: &[Sign]) -> Result<(Formula,
 
 // One formula or more, with commas between.
 #[cycle(formulas)]
-#[tactic(auto, unfolding(crate::specs::Reading::formulas))]
+#[tactic(auto, unfolding(ut_formula_grammar::specs::Reading::formulas))]
 fn formulas(alloc: Global, levels: usize, signs: &[Sign]) -> Result<(Items<Formula>, &[Sign]), Fail>
     ensures value { Gives (λ x. (x.0, x.1.now)) result (spec.formulas (spec.nested levels) signs.now) }
     ensures shorter { IfOk result (λ x. length x.1.now < length signs.now) }
@@ -463,7 +463,7 @@ fn another(alloc: Global, levels: usize, signs: &[Sign]) -> Result<(Formula, &[S
 }
 
 /// A whole formula.
-#[tactic(auto, unfolding(crate::specs::Reading::whole))]
+#[tactic(auto, unfolding(ut_formula_grammar::specs::Reading::whole))]
 pub fn whole(alloc: Global, signs: &[Sign]) -> Result<(Formula, &[Sign]), Fail>
     ensures { Gives (λ x. (x.0, x.1.now)) result (spec.whole signs.now) }
 {

@@ -1,10 +1,10 @@
 //! From tokens to what the grammar of formulas sees of them.
 
 ghost use Rattle.std.specs.Prelude.{◌≡◌, ◌≤◌, ◌+◌, length, IfOk};
-ghost use Rattle.ut_formula_text.specs.Signs as spec;
+ghost use Rattle.ut_formula_grammar.specs.Signs as spec;
 ghost use Rattle.ut_grammar.specs.Counts.{number_count, plain_text};
 
-use crate::sign::{Sign, sort_of};
+use ut_formula_grammar::{Sign, sort_of};
 use std::alloc::{AllocError, Global};
 use ut_formula::{NamedField, Relation};
 use ut_grammar::{Lexis, Piece, Placed, Token, characters, number_count, plain_text};
@@ -14,7 +14,7 @@ use ut_value::{Items, Text};
 pub struct FormulaLexis;
 
 impl Lexis for FormulaLexis {
-    ghost use Rattle.ut_formula_text.specs.Signs as spec;
+    ghost use Rattle.ut_formula_grammar.specs.Signs as spec;
 
     ghost lexis = { spec.lexis };
 
@@ -22,7 +22,7 @@ impl Lexis for FormulaLexis {
         c == '"'
     }
 
-    #[tactic(auto, unfolding(crate::specs::Signs::escape))]
+    #[tactic(auto, unfolding(ut_formula_grammar::specs::Signs::escape))]
     fn escape(c: char) -> Option<Piece> {
         if c == '"' || c == '\\' {
             Some(Piece::Plain(c))
@@ -31,19 +31,19 @@ impl Lexis for FormulaLexis {
         }
     }
 
-    #[tactic(auto, unfolding(crate::specs::Signs::is_mark))]
+    #[tactic(auto, unfolding(ut_formula_grammar::specs::Signs::is_mark))]
     fn is_mark(c: char) -> bool {
         c == '(' || c == ')' || c == ',' || c == '=' || c == '<' || c == '>'
     }
 
-    #[tactic(auto, unfolding(crate::specs::Signs::is_pair))]
+    #[tactic(auto, unfolding(ut_formula_grammar::specs::Signs::is_pair))]
     fn is_pair(c: char, d: char) -> bool {
         c == '<' && (d == '>' || d == '=') || c == '>' && d == '='
     }
 }
 
 // Whether the text is this word, with the case of ASCII letters ignored.
-#[tactic(auto, unfolding(crate::specs::Signs::is_word))]
+#[tactic(auto, unfolding(ut_formula_grammar::specs::Signs::is_word))]
 fn is_word(word: &str, text: &Text) -> bool
     ensures { result ≡ spec.is_word word.now text.now }
 {
@@ -51,7 +51,7 @@ fn is_word(word: &str, text: &Text) -> bool
 }
 
 // Whether the text is this name, with the case of ASCII letters ignored.
-#[tactic(auto, unfolding(crate::specs::Signs::is_name))]
+#[tactic(auto, unfolding(ut_formula_grammar::specs::Signs::is_name))]
 fn is_name(name: &Text, text: &Text) -> bool
     ensures { result ≡ spec.is_name name.now text.now }
 {
@@ -59,7 +59,7 @@ fn is_name(name: &Text, text: &Text) -> bool
 }
 
 // The function word that a text is.
-#[tactic(auto, unfolding(crate::specs::Signs::function_word))]
+#[tactic(auto, unfolding(ut_formula_grammar::specs::Signs::function_word))]
 fn function_word(text: &Text) -> Option<Sign>
     ensures { result ≡ spec.function_word text.now }
 {
@@ -117,7 +117,7 @@ fn field_sign(fields: &[NamedField], text: &Text) -> Sign
     Sign::Bad
 }
 
-#[tactic(auto, unfolding(crate::specs::Signs::mark_sign))]
+#[tactic(auto, unfolding(ut_formula_grammar::specs::Signs::mark_sign))]
 fn mark_sign(c: char) -> Sign
     ensures { result ≡ spec.mark_sign c }
 {
@@ -132,7 +132,7 @@ fn mark_sign(c: char) -> Sign
     }
 }
 
-#[tactic(auto, unfolding(crate::specs::Signs::pair_sign))]
+#[tactic(auto, unfolding(ut_formula_grammar::specs::Signs::pair_sign))]
 fn pair_sign(c: char, d: char) -> Sign
     ensures { result ≡ spec.pair_sign c d }
 {

@@ -2,8 +2,8 @@ use Rattle.std.proofs.Common.{rules, arith, ◌≢◌, ◌∷◌, [], sym, ◌�
 use Rattle.std.proofs.lemmas.Result.{err_from_is_err_and}
 use Rattle.ut_grammar.specs.Reader.{with_front, after}
 use Rattle.ut_grammar.proofs.Lists.{any-ends, any-turn, any_fails, fails_by}
-use Rattle.ut_formula_text.specs.Reading.{more_formulas, nested}
-use Rattle.ut_formula_text.specs.Signs.{kind}
+use Rattle.ut_formula_grammar.specs.Reading.{more_formulas, nested}
+use Rattle.ut_formula_grammar.specs.Signs.{kind}
 use Rattle.ut_formula_text.proofs.Lists.{another_takes, nested-suc, nested-zero}
 use Rattle.ut_formula_text.proofs.reader.+formulas.Goals as goal
 

@@ -1,6 +1,6 @@
 use Rattle.std.proofs.Common.{◌≡◌, ◌≤◌, ◌+◌, ◌*◌, length}
 use Rattle.ut_grammar.specs.Reader.{with_front}
-use Rattle.ut_formula_text.specs.Reading as spec
+use Rattle.ut_formula_grammar.specs.Reading as spec
 use Rattle.ut_formula_text.proofs.reader.+formulas.Given as goal
 
 abbrev pub decreases-nested : goal.decreases-nested

@@ -7,9 +7,9 @@ use Rattle.ut_grammar.specs.Reader as reader
 use Rattle.ut_grammar.specs.Tokens as token
 use denote.Hole.Carrier.{hidden}
 use Rattle.ut_formula.specs.declared.formula.Formula.TheBlock.{hidden-the_row-Formula-0, hidden-the_row-Formula-1}
-use Rattle.ut_formula_text.specs.Reading as read
-use Rattle.ut_formula_text.specs.Signs as sign
-use Rattle.ut_formula_text.specs.Spelling as spelling
+use Rattle.ut_formula_grammar.specs.Reading as read
+use Rattle.ut_formula_grammar.specs.Signs as sign
+use Rattle.ut_formula_grammar.specs.Spelling as spelling
 use Rattle.ut_formula_text.proofs.texts.spelled_rows.Goals as goal
 
 pub returns : goal.returns

@@ -1,5 +1,5 @@
 use Rattle.std.proofs.Common.{◌≡◌, ◌++◌, length}
-use Rattle.ut_formula_text.specs.Signs as spec
+use Rattle.ut_formula_grammar.specs.Signs as spec
 use Rattle.ut_formula_text.proofs.words.signs.Given as goal
 
 abbrev pub invariant-tokens : goal.invariant-tokens

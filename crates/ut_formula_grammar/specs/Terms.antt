@@ -4,12 +4,12 @@ use Rattle.std.specs.Prelude.{ℕ, Bool, true, false, if◌then◌else◌, List,
 use Rattle.ut_formula.specs.declared.formula.Relation.{Relation}
 use Rattle.ut_formula.specs.declared.formula.Term.{Term}
 use Rattle.ut_formula.specs.declared.formula.Term.TheVariants as term
-use Rattle.ut_formula_text.specs.declared.sign.Sign.{Sign}
-use Rattle.ut_formula_text.specs.declared.sign.Sign.TheVariants as sign
-use Rattle.ut_formula_text.specs.declared.sign.Sort.{Sort}
-use Rattle.ut_formula_text.specs.declared.sign.Sort.TheVariants as sort
-use Rattle.ut_formula_text.specs.declared.sign.Kind.{Kind}
-use Rattle.ut_formula_text.specs.declared.sign.Kind.TheVariants as of
+use Rattle.ut_formula_grammar.specs.declared.sign.Sign.{Sign}
+use Rattle.ut_formula_grammar.specs.declared.sign.Sign.TheVariants as sign
+use Rattle.ut_formula_grammar.specs.declared.sign.Sort.{Sort}
+use Rattle.ut_formula_grammar.specs.declared.sign.Sort.TheVariants as sort
+use Rattle.ut_formula_grammar.specs.declared.sign.Kind.{Kind}
+use Rattle.ut_formula_grammar.specs.declared.sign.Kind.TheVariants as of
 
 -- ---- kinds of terms
 -- a field's kind; references aren't compared

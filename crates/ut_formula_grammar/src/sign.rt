@@ -1,7 +1,7 @@
 //! What the grammar of formulas sees of a token.
 
 ghost use Rattle.std.specs.Prelude.{◌≡◌};
-ghost use Rattle.ut_formula_text.specs.Signs as spec;
+ghost use Rattle.ut_formula_grammar.specs.Signs as spec;
 
 use ut_formula::Relation;
 use ut_grammar::Kinded;
@@ -83,7 +83,7 @@ pub enum Sign {
 }
 
 impl Kinded for Sign {
-    ghost use Rattle.ut_formula_text.specs.Signs as spec;
+    ghost use Rattle.ut_formula_grammar.specs.Signs as spec;
 
     ghost kind = { spec.kind };
 

@@ -9,10 +9,10 @@ use Rattle.ut_grammar.specs.Tokens.{AreTokens}
 use Rattle.ut_grammar.specs.declared.token.Placed.{Placed}
 use Rattle.ut_formula.specs.declared.formula.Formula.{Formula}
 use Rattle.ut_formula.specs.declared.formula.NamedField.{NamedField}
-use Rattle.ut_formula_text.specs.Grammar.{whole}
-use Rattle.ut_formula_text.specs.Reading as read
-use Rattle.ut_formula_text.specs.Signs.{lexis, signs, starts}
-use Rattle.ut_formula_text.specs.declared.sign.Sign.{Sign}
+use Rattle.ut_formula_grammar.specs.Grammar.{whole}
+use Rattle.ut_formula_grammar.specs.Reading as read
+use Rattle.ut_formula_grammar.specs.Signs.{lexis, signs, starts}
+use Rattle.ut_formula_grammar.specs.declared.sign.Sign.{Sign}
 
 -- the tokens of the text, over these fields, spell this formula
 abbrev pub Spells : (criteria : Bool) → List NamedField → (text : List ℕ) → Formula → Type 0

@@ -8,12 +8,12 @@ use Rattle.ut_formula.specs.declared.formula.Formula.TheVariants as formula
 use Rattle.ut_formula.specs.declared.formula.Relation.{Relation}
 use Rattle.ut_formula.specs.declared.formula.Term.{Term}
 use Rattle.ut_formula.specs.declared.formula.Term.TheVariants as term
-use Rattle.ut_formula_text.specs.Signs.{kind}
-use Rattle.ut_formula_text.specs.Terms.{truth_in, field_in, picklist_in, text_in, relation_in, measured_in, simple_in, len_in, prior_in}
-use Rattle.ut_formula_text.specs.declared.sign.Sign.{Sign}
-use Rattle.ut_formula_text.specs.declared.sign.Sign.TheVariants as sign
-use Rattle.ut_formula_text.specs.declared.sign.Kind.{Kind}
-use Rattle.ut_formula_text.specs.declared.sign.Kind.TheVariants as of
+use Rattle.ut_formula_grammar.specs.Signs.{kind}
+use Rattle.ut_formula_grammar.specs.Terms.{truth_in, field_in, picklist_in, text_in, relation_in, measured_in, simple_in, len_in, prior_in}
+use Rattle.ut_formula_grammar.specs.declared.sign.Sign.{Sign}
+use Rattle.ut_formula_grammar.specs.declared.sign.Sign.TheVariants as sign
+use Rattle.ut_formula_grammar.specs.declared.sign.Kind.{Kind}
+use Rattle.ut_formula_grammar.specs.declared.sign.Kind.TheVariants as of
 
 abbrev pub Signs : Type 0 → Type 1
 Signs A = Part Sign A

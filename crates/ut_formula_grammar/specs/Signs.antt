@@ -13,10 +13,10 @@ use Rattle.ut_value.specs.declared.value.FieldType.{FieldType}
 use Rattle.ut_value.specs.declared.value.FieldType.TheVariants as type
 use Rattle.ut_formula.specs.declared.formula.NamedField.{NamedField}
 use Rattle.ut_formula.specs.declared.formula.Relation.TheVariants as relation
-use Rattle.ut_formula_text.specs.declared.sign.Sign.{Sign}
-use Rattle.ut_formula_text.specs.declared.sign.Sign.TheVariants as sign
-use Rattle.ut_formula_text.specs.declared.sign.Sort.{Sort}
-use Rattle.ut_formula_text.specs.declared.sign.Sort.TheVariants as sort
+use Rattle.ut_formula_grammar.specs.declared.sign.Sign.{Sign}
+use Rattle.ut_formula_grammar.specs.declared.sign.Sign.TheVariants as sign
+use Rattle.ut_formula_grammar.specs.declared.sign.Sort.{Sort}
+use Rattle.ut_formula_grammar.specs.declared.sign.Sort.TheVariants as sort
 
 -- ---- characters
 -- `"`

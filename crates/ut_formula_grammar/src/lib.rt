@@ -1,0 +1,9 @@
+//! The grammar of formulas: which formula a text spells over some fields, and the place at which a text is refused.
+//!
+//! It depends on `ut_formula`, which has the formulas, on `ut_grammar` and on `ut_value`. It has the definitions alone, with
+//! what the grammar sees of a token, so that the rules of an organisation can cite them. `ut_formula_text` reads texts by it.
+#![tactic(auto)]
+
+mod sign;
+
+pub use crate::sign::{Kind, Sign, Sort, sort_of};

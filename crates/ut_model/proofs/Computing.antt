@@ -7,7 +7,9 @@ use Rattle.ucd_table.specs.Rows.{value_in}
 use Rattle.caseless.specs.Caseless.{default_case_fold}
 use Rattle.ut_value.specs.Digits.{digits}
 use Rattle.ut_value.specs.Id.{id_in, made, number62}
+use Rattle.ut_formula_grammar.proofs.Computing.{reading_formulas}
 use Rattle.ut_model.specs.Fields.{column_named}
+use Rattle.ut_model.specs.FormulaTexts.{reads_text}
 use Rattle.ut_model.specs.Levels.{grants, level, own_level, readable}
 use Rattle.ut_model.specs.Membership.{is_below, is_member, reaches}
 use Rattle.ut_model.specs.Objects.{object_named, object_number, record_prefix}
@@ -16,5 +18,5 @@ use Rattle.ut_model.specs.Relationships.{child_named, parent_name, parent_named}
 use Rattle.ut_model.specs.Rows.{found, found_children, rows}
 
 unfoldable pub computing : Unit {0}
-unfolding encode_utf8 chars full_folding full_folding_rows value_in default_case_fold digits id_in made number62 column_named grants level own_level readable is_below is_member reaches object_named object_number record_prefix in_order child_named parent_name parent_named found found_children rows
+unfolding encode_utf8 chars full_folding full_folding_rows value_in default_case_fold digits id_in made number62 column_named grants level own_level readable is_below is_member reaches object_named object_number record_prefix in_order child_named parent_name parent_named reading_formulas reads_text found found_children rows
 computing = tt

@@ -15,7 +15,6 @@ use Rattle.ut_model.specs.declared.route.Route.TheVariants as route
 use Rattle.ut_model.specs.declared.routed.Routed.{Routed}
 use Rattle.ut_model.specs.declared.routed.Routed.TheVariants.{To, NotFound, NotAllowed}
 use Rattle.ut_model.specs.Cases.{in_case}
-use Rattle.ut_model.specs.Levels.{Reads}
 use Rattle.ut_model.specs.Paths.{Asked}
 use Rattle.ut_model.specs.Replies.{reply_of}
 use Rattle.ut_model.specs.RequestOf.{ReadsQuery, request_of, verdict_or}
@@ -87,13 +86,9 @@ verdict_to a body NotFound = refuse a.tenant refusal.NotFound
 verdict_to a body NotAllowed = refuse a.tenant refusal.MethodNotAllowed
 verdict_to a body (To r) = if is_administration r && not a.user.admin then refuse a.tenant refusal.AdminRequired else built_verdict a r body
 
--- no request that is built reads a formula
-abbrev pub no_formula : Reads
-no_formula o criteria text = Err 0
-
 -- a user who asks in an organisation at this moment
 abbrev pub asking : Tenant → ℕ → User → Asked
-asking t now u = record { tenant = t; user = u; now = pos now; reads = no_formula }
+asking t now u = record { tenant = t; user = u; now = pos now }
 
 -- the reply to a user's message, and the organisation after it
 abbrev pub answer_built : Asked → Message → Reply × Tenant

@@ -13,6 +13,7 @@ use Rattle.ut_model.specs.declared.refusal.Refusal.{Refusal}
 use Rattle.ut_model.specs.declared.refusal.Refusal.TheVariants as refusal
 use Rattle.ut_model.specs.Cases.{in_case}
 use Rattle.ut_model.specs.Fields.{Column, Where, its_id, its_created, its_modified, column_named, custom_columns, is_detail, is_master, is_null, name_column, owner_column, ref_of, same_name, value_in, writable_columns}
+use Rattle.ut_model.specs.FormulaTexts.{reads_text}
 use Rattle.ut_model.specs.Given.{Assignment, ReadOr, has_value, read_given}
 use Rattle.ut_model.specs.Levels.{can_read, read_holds}
 use Rattle.ut_model.specs.Objects.{Numbered, records_of}
@@ -90,7 +91,7 @@ bad_owner t old new =
 
 -- a record of the object has this id, and the user may read it
 abbrev pub is_target : Asked → (object : ℕ) → List ℕ → Bool
-is_target a object id = in_case (record_in a.tenant object id) false (can_read a.reads a.tenant a.user)
+is_target a object id = in_case (record_in a.tenant object id) false (can_read a.tenant a.user)
 
 abbrev pub bad_reference : Asked → (old new : Record) → Reference → Rule
 bad_reference a old new f =
@@ -104,7 +105,7 @@ bad_target a o old new = first_refusal (bad_owner a.tenant old new ∷ first_of 
 -- ---- FIELD_CUSTOM_VALIDATION_EXCEPTION: the first rule, by lower-case name, whose formula holds
 abbrev pub fails : Asked → Object → (new : Record) → (old : Option Record) → ValidationRule → Rule
 fails a o new old rule =
-    refuse_if (read_holds (a.reads o false rule.formula) new.values (option_map (λ r. r.values) old))
+    refuse_if (read_holds (reads_text o false rule.formula) new.values (option_map (λ r. r.values) old))
     (refusal.ValidationFailed rule.name rule.message)
 
 abbrev pub validation_failed : Asked → Object → (new : Record) → (old : Option Record) → Rule
@@ -114,7 +115,7 @@ validation_failed a o new old = first_of (fails a o new old) o.rules
 
 -- its id is named only where the user may read it
 abbrev pub duplicate_of : Asked → Field → Record → Refusal
-duplicate_of a f other = if can_read a.reads a.tenant a.user other then refusal.DuplicateOf f.name other.id else refusal.DuplicateValue f.name
+duplicate_of a f other = if can_read a.tenant a.user other then refusal.DuplicateOf f.name other.id else refusal.DuplicateValue f.name
 
 abbrev pub clash : Asked → List Record → Record → ℕ × Field → Rule
 clash a others new f =

@@ -1,14 +1,14 @@
 -- How texts of formulas are read over the fields of an object: the formula that a text spells, or the place at which it is refused.
 -- Source: Salesforce, "Formula Operators and Functions", of formulas over a record's fields. That a refusal names the first token
 -- that can't follow is this product's own.
-use Rattle.std.specs.Prelude.{List, ◌∷◌, map, codes}
+use Rattle.std.specs.Prelude.{ℕ, Bool, List, ◌∷◌, map, codes, Result}
 use Rattle.std.specs.Option.{ok_or}
 use Rattle.ut_grammar.specs.Tokens.{byte_len}
 use Rattle.ut_value.specs.declared.value.FieldType.TheVariants as type
+use Rattle.ut_formula.specs.declared.formula.Formula.{Formula}
 use Rattle.ut_formula.specs.declared.formula.NamedField.{NamedField}
-use Rattle.ut_formula_text.specs.Spelling.{formula_in, place_in}
-use Rattle.ut_model.specs.Levels.{Reads}
-use Rattle.ut_model.specs.Tenant.{Field}
+use Rattle.ut_formula_grammar.specs.Spelling.{formula_in, place_in}
+use Rattle.ut_model.specs.Tenant.{Field, Object}
 
 -- ---- fields
 abbrev pub as_named : Field → NamedField
@@ -24,7 +24,7 @@ formula_fields fields = name_field ∷ map as_named fields
 
 -- ---- reading
 -- the formula that a text spells over an object's fields, or the place at which it is refused
-unfoldable pub reads_text : Reads
+unfoldable pub reads_text : Object → (criteria : Bool) → List ℕ → Result Formula ℕ
 reads_text o criteria text =
     let its = formula_fields o.fields in
     ok_or (formula_in criteria its text) (place_in criteria its text (byte_len text))

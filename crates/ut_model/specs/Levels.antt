@@ -15,6 +15,7 @@ use Rattle.ut_formula.specs.Meaning.{holds}
 use Rattle.ut_model.specs.declared.limit.Limit.TheVariants as limit
 use Rattle.ut_model.specs.declared.record.Record.{Record}
 use Rattle.ut_model.specs.Cases.{in_case}
+use Rattle.ut_model.specs.FormulaTexts.{reads_text}
 use Rattle.ut_model.specs.Limits.{limit_number}
 use Rattle.ut_model.specs.Membership.{is_above, is_member, reaches}
 use Rattle.ut_model.specs.Objects.{object_number, object_of, owner_of, record_at, records_of}
@@ -41,24 +42,19 @@ greatest (l ∷ ls) = if at_least l (greatest ls) then greatest ls else l
 
 -- ---- grants
 
--- how the text of a criteria rule or of a validation rule is read: the formula that it spells over the fields of an object, or
--- the byte at which the token begins that can't be there
-abbrev pub Reads : Type 0
-Reads = Object → (criteria : Bool) → List ℕ → Result Formula ℕ
-
 -- the formula that was read holds on these values of a record, which had the old ones before; what spells none doesn't hold
 abbrev pub read_holds : Result Formula ℕ → List Value → Option (List Value) → Bool
 read_holds (Ok formula) new old = holds formula new old
 read_holds (Err place) new old = false
 
 -- a criteria rule's text holds on a record of the object
-abbrev pub meets_text : Reads → List ℕ → Record → Object → Bool
-meets_text reads text r o = read_holds (reads o true text) r.values None
+abbrev pub meets_text : List ℕ → Record → Object → Bool
+meets_text text r o = read_holds (reads_text o true text) r.values None
 
 -- a source covers a record: its owner is a member, or the formula holds on it
-abbrev pub covered_by : Reads → Tenant → Record → Source → Bool
-covered_by reads t r (owned p) = in_case (owner_of t r) false (λ u. is_member t u p)
-covered_by reads t r (meets text) = in_case (object_of t r) false (meets_text reads text r)
+abbrev pub covered_by : Tenant → Record → Source → Bool
+covered_by t r (owned p) = in_case (owner_of t r) false (λ u. is_member t u p)
+covered_by t r (meets text) = in_case (object_of t r) false (meets_text text r)
 
 -- a rule acts unless it is leaving
 abbrev pub acts : RuleState → Bool
@@ -66,8 +62,8 @@ acts state.Leaving = false
 acts _ = true
 
 -- a rule that acts, of the record's object, whose source covers the record
-abbrev pub covers : Reads → Tenant → Record → SharingRule → Bool
-covers reads t r rule = acts rule.state && ((rule.object == object_number r.id) && covered_by reads t r rule.source)
+abbrev pub covers : Tenant → Record → SharingRule → Bool
+covers t r rule = acts rule.state && ((rule.object == object_number r.id) && covered_by t r rule.source)
 
 -- a level for whom a principal reaches
 pub record Grant : Type 0 where
@@ -75,9 +71,9 @@ pub record Grant : Type 0 where
   pub level : Level
 
 -- those of the rules that cover a record, and of its manual shares
-unfoldable pub grants : Reads → Tenant → Record → List Grant
-grants reads t r =
-    map (λ rule. record { to = rule.to; level = rule.level }) (filter (covers reads t r) t.rules)
+unfoldable pub grants : Tenant → Record → List Grant
+grants t r =
+    map (λ rule. record { to = rule.to; level = rule.level }) (filter (covers t r) t.rules)
     ++ map (λ share. record { to = share.to; level = share.level }) (filter (λ share. bytes_eq share.item r.id) t.shares)
 
 -- ---- the level of a user on a record
@@ -102,9 +98,9 @@ abbrev pub by_grant : Tenant → User → Grant → Level
 by_grant t u g = if reaches t g.to u then g.level else Nothing
 
 -- the level on a record that isn't a detail
-unfoldable pub own_level : Reads → Tenant → User → Record → Level
-own_level reads t u r =
-    greatest (by_owner t u r ∷ in_case (object_of t r) Nothing (λ o. by_access o.access) ∷ map (by_grant t u) (grants reads t r))
+unfoldable pub own_level : Tenant → User → Record → Level
+own_level t u r =
+    greatest (by_owner t u r ∷ in_case (object_of t r) Nothing (λ o. by_access o.access) ∷ map (by_grant t u) (grants t r))
 
 -- who may edit a master has its details in full
 abbrev pub full_for_edit : Level → Level
@@ -112,26 +108,26 @@ full_for_edit Edit = Full
 full_for_edit level = level
 
 -- the level on a record, through at most so many records: a detail's is its master's
-abbrev pub level_within : ℕ → Reads → Tenant → User → Record → Level
-level_within zero reads t u r = Nothing
-level_within (suc n) reads t u r =
-    in_case (master_reference t (object_number r.id)) (own_level reads t u r) (λ f.
-    in_case (named_record t f r) Nothing (λ m. full_for_edit (level_within n reads t u m)))
+abbrev pub level_within : ℕ → Tenant → User → Record → Level
+level_within zero t u r = Nothing
+level_within (suc n) t u r =
+    in_case (master_reference t (object_number r.id)) (own_level t u r) (λ f.
+    in_case (named_record t f r) Nothing (λ m. full_for_edit (level_within n t u m)))
 
 -- the level of a user on a record
-unfoldable pub level : Reads → Tenant → User → Record → Level
-level reads t u r = level_within (suc (limit_number limit.DetailLevels)) reads t u r
+unfoldable pub level : Tenant → User → Record → Level
+level t u r = level_within (suc (limit_number limit.DetailLevels)) t u r
 
 -- the same on the record with this id: nothing where there is none
-abbrev pub level_at : Reads → Tenant → User → List ℕ → Level
-level_at reads t u id = in_case (record_at t id) Nothing (level reads t u)
+abbrev pub level_at : Tenant → User → List ℕ → Level
+level_at t u id = in_case (record_at t id) Nothing (level t u)
 
 -- ---- what a user may read
 
 -- the user may read the record
-abbrev pub can_read : Reads → Tenant → User → Record → Bool
-can_read reads t u r = at_least Read (level reads t u r)
+abbrev pub can_read : Tenant → User → Record → Bool
+can_read t u r = at_least Read (level t u r)
 
 -- the records of an object that a user may read, in the order of their ids
-unfoldable pub readable : Reads → Tenant → User → ℕ → List Record
-readable reads t u n = filter (can_read reads t u) (records_of t n)
+unfoldable pub readable : Tenant → User → ℕ → List Record
+readable t u n = filter (can_read t u) (records_of t n)

@@ -22,6 +22,7 @@ pub mod Fields
 pub mod Objects
 pub mod Relationships
 pub mod Membership
+pub mod FormulaTexts
 pub mod Levels
 pub mod Paths
 pub mod Conditions

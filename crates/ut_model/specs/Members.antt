@@ -14,10 +14,10 @@ use Rattle.ut_value.specs.Printing.{scale}
 use Rattle.ut_value.specs.Texts.{lower, texts_differ}
 use Rattle.ut_value.specs.declared.sharing.Level.{Level}
 use Rattle.ut_value.specs.declared.sharing.Level.TheVariants as level
-use Rattle.ut_value.specs.declared.sharing.Principal.{Principal}
-use Rattle.ut_value.specs.declared.sharing.Principal.TheVariants as to
 use Rattle.ut_model.specs.Cases.{in_case}
 use Rattle.ut_model.specs.Given.{Assignment, in_json}
+use Rattle.ut_model.specs.declared.people_bodies.PrincipalKind.{PrincipalKind}
+use Rattle.ut_model.specs.declared.people_bodies.PrincipalKind.TheVariants as kind
 use Rattle.ut_model.specs.Principals.{Spelled}
 
 -- the first entry under a name
@@ -111,8 +111,8 @@ all_there (Some x ∷ rest) = option_map (λ xs. x ∷ xs) (all_there rest)
 abbrev pub levels : List (List ℕ × Level)
 levels = (codes "Read", level.Read) ∷ (codes "Edit", level.Edit) ∷ []
 
-abbrev pub kinds : List (List ℕ × (List ℕ → Principal))
-kinds = (codes "user", to.User) ∷ (codes "role", to.Role) ∷ (codes "subordinates", to.Subordinates) ∷ (codes "group", to.Group) ∷ []
+abbrev pub kinds : List (List ℕ × PrincipalKind)
+kinds = (codes "user", kind.User) ∷ (codes "role", kind.Role) ∷ (codes "subordinates", kind.Subordinates) ∷ (codes "group", kind.Group) ∷ []
 
 -- `:`
 abbrev pub is_colon : ℕ → Bool
@@ -122,7 +122,7 @@ is_colon c = c == 58
 unfoldable pub principal_in : List ℕ → Option Spelled
 principal_in text =
     if list_any is_colon text
-    then option_map (λ kind. record { kind = kind; text = after_first is_colon text }) (entry kinds (before_first is_colon text))
+    then option_map (λ k. record { kind = k; text = after_first is_colon text }) (entry kinds (before_first is_colon text))
     else None
 
 -- ---- values of fields: the member `attributes` is passed over, and no two names are the same whatever the case of their letters

@@ -8,21 +8,20 @@ use Rattle.ut_value.specs.declared.value.Value.TheVariants as value
 use Rattle.ut_model.specs.declared.record.Record.{Record}
 use Rattle.ut_model.specs.Cases.{in_case}
 use Rattle.ut_model.specs.Fields.{column_named, value_in}
-use Rattle.ut_model.specs.Levels.{Reads, can_read}
+use Rattle.ut_model.specs.Levels.{can_read}
 use Rattle.ut_model.specs.Objects.{object_number, object_of}
 use Rattle.ut_model.specs.Relationships.{named_record, parent_named}
 use Rattle.ut_model.specs.Tenant.{Tenant, User}
 
--- who asks, in which tenant and at which moment, in seconds from 1970-01-01T00:00:00Z; and how texts of criteria are read
+-- who asks, in which tenant and at which moment, in seconds from 1970-01-01T00:00:00Z
 pub record Asked : Type 0 where
   pub tenant : Tenant
   pub user : User
   pub now : ℤ
-  pub reads : Reads
 
 -- the user may read the record
 abbrev pub sees : Asked → Record → Option Record
-sees a r = if can_read a.reads a.tenant a.user r then Some r else None
+sees a r = if can_read a.tenant a.user r then Some r else None
 
 -- the parent of a record by the relationship with this name, if the user may read it
 abbrev pub parent_of : Asked → Record → List ℕ → Option Record

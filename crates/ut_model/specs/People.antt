@@ -1,12 +1,13 @@
 -- Users, roles and groups: new ones, and changes of the old.
 -- Source: Salesforce, "User", "UserRole" and "Group". The order of the rules is this product's own.
-use Rattle.std.specs.Prelude.{ℕ, ◌+◌, Bool, ◌||◌, if◌then◌else◌, List, [], ◌∷◌, ◌++◌, map, length, bytes_eq, codes, Option, None, is_none}
+use Rattle.std.specs.Prelude.{ℕ, ◌+◌, ◌||◌, if◌then◌else◌, List, [], ◌∷◌, ◌++◌, map, length, bytes_eq, codes, Option, None, is_none}
 use Rattle.std.specs.Option.{option_map}
 use Rattle.sha2.specs.Sha256.{sha256}
 use Rattle.ut_value.specs.Id.{made}
 use Rattle.ut_model.specs.declared.limit.Limit.{Limit}
 use Rattle.ut_model.specs.declared.limit.Limit.TheVariants as limit
 use Rattle.ut_model.specs.declared.refusal.Refusal.TheVariants.{InvalidReference, NotFound}
+pub use Rattle.ut_model.specs.declared.people_bodies.NewUser.{NewUser}
 use Rattle.ut_model.specs.Cases.{in_case}
 use Rattle.ut_model.specs.Membership.{is_below}
 use Rattle.ut_model.specs.Names.{bad_name}
@@ -36,13 +37,6 @@ abbrev pub changed : {X : Type 0} → (X → List ℕ) → (X → X) → List �
 changed id change i xs = map (λ x. if bytes_eq (id x) i then change x else x) xs
 
 -- ---- users
-
--- what a body says of a new user; the role may be missing
-pub record NewUser : Type 0 where
-  pub name : List ℕ
-  pub secret : List ℕ
-  pub role : Option (List ℕ)
-  pub admin : Bool
 
 abbrev pub new_user_rules : Tenant → NewUser → List Rule
 new_user_rules t b =

@@ -7,6 +7,9 @@ use Rattle.std.specs.Cmp.Lexicographic.{slice_cmp}
 use Rattle.ut_value.specs.Id.{id_in}
 use Rattle.ut_value.specs.declared.sharing.Principal.{Principal}
 use Rattle.ut_value.specs.declared.sharing.Principal.TheVariants as to
+use Rattle.ut_model.specs.declared.people_bodies.PrincipalKind.{PrincipalKind}
+use Rattle.ut_model.specs.declared.people_bodies.PrincipalKind.TheVariants as kind
+pub use Rattle.ut_model.specs.declared.people_bodies.Spelled.{Spelled}
 use Rattle.ut_model.specs.declared.refusal.Refusal.TheVariants.{MalformedId, InvalidReference}
 use Rattle.ut_model.specs.Cases.{in_case}
 use Rattle.ut_model.specs.Rules.{Rule, refuse_if}
@@ -29,14 +32,16 @@ spelled_id text = unwrap_or (id_in text) []
 
 -- ---- principals
 
--- a principal's kind, and the text of its id
-pub record Spelled : Type 0 where
-  pub kind : List ℕ → Principal
-  pub text : List ℕ
+-- the principal of a kind that has this id
+abbrev pub kind_of : PrincipalKind → List ℕ → Principal
+kind_of kind.User = to.User
+kind_of kind.Role = to.Role
+kind_of kind.Subordinates = to.Subordinates
+kind_of kind.Group = to.Group
 
 -- the principal that is spelled
 abbrev pub principal_of : Spelled → Principal
-principal_of p = p.kind (spelled_id p.text)
+principal_of p = kind_of p.kind (spelled_id p.text)
 
 -- the role with this id
 abbrev pub role_at : Tenant → List ℕ → Option Role

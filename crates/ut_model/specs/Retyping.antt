@@ -11,7 +11,6 @@ use Rattle.ut_value.specs.declared.value.FieldType.TheVariants as type
 use Rattle.ut_model.specs.declared.refusal.Refusal.TheVariants as refusal
 use Rattle.ut_model.specs.Cases.{in_case}
 use Rattle.ut_model.specs.Fields.{Where, its_value, column_named}
-use Rattle.ut_model.specs.Levels.{Reads}
 use Rattle.ut_model.specs.declared.metadata_bodies.SpelledType.{SpelledType}
 use Rattle.ut_model.specs.declared.metadata_bodies.SpelledType.TheVariants.{Plain, LookupTo}
 use Rattle.ut_model.specs.Objects.{Numbered}
@@ -45,21 +44,21 @@ custom_place (its_value (suc place)) = Some place
 custom_place _ = None
 
 -- FIELD_IN_USE: a formula of the object, as a validation rule's or a criteria rule's, names the field at this place
-abbrev pub uses : Reads → Object → (criteria : Bool) → (place : ℕ) → List ℕ → Bool
-uses reads o criteria place text = names_field (suc place) (formula_of reads o criteria text)
+abbrev pub uses : Object → (criteria : Bool) → (place : ℕ) → List ℕ → Bool
+uses o criteria place text = names_field (suc place) (formula_of o criteria text)
 
 -- the same of a sharing rule
-abbrev pub source_uses : Reads → Object → (place : ℕ) → Source → Bool
-source_uses reads o place (owned p) = false
-source_uses reads o place (meets text) = uses reads o true place text
+abbrev pub source_uses : Object → (place : ℕ) → Source → Bool
+source_uses o place (owned p) = false
+source_uses o place (meets text) = uses o true place text
 
 -- the first validation rule that names the field, and else the first criteria rule, by lower-case name
-abbrev pub in_use : Reads → Tenant → Numbered → (place : ℕ) → (field : List ℕ) → Rule
-in_use reads t o place field =
+abbrev pub in_use : Tenant → Numbered → (place : ℕ) → (field : List ℕ) → Rule
+in_use t o place field =
     first_refusal
-    (first_of (λ r. refuse_if (uses reads o.object false place r.formula) (refusal.FieldInUse field r.name)) o.object.rules
+    (first_of (λ r. refuse_if (uses o.object false place r.formula) (refusal.FieldInUse field r.name)) o.object.rules
     ∷ first_of
-    (λ r. refuse_if ((r.object == o.number) && source_uses reads o.object place r.source) (refusal.FieldInUse field r.name))
+    (λ r. refuse_if ((r.object == o.number) && source_uses o.object place r.source) (refusal.FieldInUse field r.name))
     t.rules
     ∷ [])
 
@@ -85,16 +84,16 @@ place_to_change o to at =
     option_and_then (λ place. option_and_then (λ f. if can_become to f then Some place else None) (slice_get o.fields place)) (custom_place at)
 
 -- RETYPE_UNSUPPORTED names the field, and FIELD_IN_USE comes after it
-abbrev pub begin_on : Reads → Tenant → Numbered → FieldType → (field : List ℕ) → Where → Verdict
-begin_on reads t o to field at =
+abbrev pub begin_on : Tenant → Numbered → FieldType → (field : List ℕ) → Where → Verdict
+begin_on t o to field at =
     judged t (under_way t ∷ []) (in_case (place_to_change o.object to at) (refuse t (refusal.RetypeUnsupported field)) (λ place.
-    judged t (in_use reads t o place field ∷ []) (accept done (with_job (new_job o.number place to) t))))
+    judged t (in_use t o place field ∷ []) (accept done (with_job (new_job o.number place to) t))))
 
 -- the change of a field's type begins
-abbrev pub begin_retype : Reads → Tenant → (object field : List ℕ) → SpelledType → Verdict
-begin_retype reads t object field to =
+abbrev pub begin_retype : Tenant → (object field : List ℕ) → SpelledType → Verdict
+begin_retype t object field to =
     with_object t object (λ o.
-    in_case (column_named o.object field) (refuse t (refusal.InvalidField field)) (λ c. begin_on reads t o (new_type to) c.name c.at))
+    in_case (column_named o.object field) (refuse t (refusal.InvalidField field)) (λ c. begin_on t o (new_type to) c.name c.at))
 
 -- ---- looking, and calling off
 

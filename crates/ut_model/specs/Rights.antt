@@ -16,7 +16,7 @@ use Rattle.ut_model.specs.Verdict.{Verdict, judged, refuse}
 
 -- INSUFFICIENT_ACCESS_OR_READONLY: the user's level on the record is below this
 abbrev pub denied : Asked → Level → Record → Rule
-denied a least r = refuse_if (not (at_least least (level a.reads a.tenant a.user r))) InsufficientAccess
+denied a least r = refuse_if (not (at_least least (level a.tenant a.user r))) InsufficientAccess
 
 -- what it comes to on a record, if there is one that the user may read; NOT_FOUND otherwise
 abbrev pub with_readable : Asked → Option Record → (Record → Verdict) → Verdict

@@ -30,7 +30,7 @@ chosen a tail offset rs = limited tail.limit (drop offset (in_order (before a ta
 
 -- the records that the user may read, of the object with this number
 abbrev pub readable_of : Asked → ℕ → List Record
-readable_of a n = readable a.reads a.tenant a.user n
+readable_of a n = readable a.tenant a.user n
 
 -- the records that a query finds
 unfoldable pub found : Asked → Query → List Record

@@ -1,11 +1,12 @@
 -- The formulas of validation rules and criteria rules, and the order of rules.
 -- Source: Salesforce, "Validation Rules", of formulas over a record's fields. The most characters of one, and that rules are in
 -- the order of their names, is this product's own.
-use Rattle.std.specs.Prelude.{ℕ, suc, Bool, true, false, ◌&&◌, ◌==◌, nat_lt, if◌then◌else◌, List, length, None, Some, Result, Ok, Err}
+use Rattle.std.specs.Prelude.{ℕ, suc, Bool, true, false, ◌&&◌, ◌==◌, nat_le, nat_lt, if◌then◌else◌, List, length, None, Some, Result, Ok, Err}
 use Rattle.std.specs.List.{list_any}
 use Rattle.std.specs.declared.cmp.Ordering.{Ordering}
 use Rattle.std.specs.Ordering.{nat_cmp}
 use Rattle.std.specs.Cmp.Lexicographic.{slice_cmp}
+use Rattle.std.specs.Str.{all_scalars}
 use Rattle.ut_value.specs.Texts.{lower}
 use Rattle.ut_value.specs.declared.job.Phase.{Phase}
 use Rattle.ut_value.specs.declared.job.Phase.TheVariants as phase
@@ -13,7 +14,7 @@ use Rattle.ut_formula.specs.Naming.{names}
 use Rattle.ut_formula.specs.declared.formula.Formula.{Formula}
 use Rattle.ut_model.specs.declared.refusal.Refusal.TheVariants.{MalformedFormula, JobBusy}
 use Rattle.ut_model.specs.Cases.{in_case}
-use Rattle.ut_model.specs.Levels.{Reads}
+use Rattle.ut_model.specs.FormulaTexts.{reads_text}
 use Rattle.ut_model.specs.Rules.{Rule, refuse_if}
 use Rattle.ut_model.specs.Tenant.{Object, Tenant}
 
@@ -21,9 +22,13 @@ use Rattle.ut_model.specs.Tenant.{Object, Tenant}
 abbrev pub name_cmp : List ℕ → List ℕ → Ordering
 name_cmp a b = slice_cmp nat_cmp (lower a) (lower b)
 
+-- the text of a rule: at most 4,000 characters
+abbrev pub is_rule_text : List ℕ → Bool
+is_rule_text text = all_scalars text && nat_le (length text) 4000
+
 -- what the text of a rule reads as: one of over 4,000 characters spells no formula
-unfoldable pub formula_of : Reads → Object → (criteria : Bool) → List ℕ → Result Formula ℕ
-formula_of reads o criteria text = if nat_lt 4000 (length text) then Err 0 else reads o criteria text
+unfoldable pub formula_of : Object → (criteria : Bool) → List ℕ → Result Formula ℕ
+formula_of o criteria text = if nat_lt 4000 (length text) then Err 0 else reads_text o criteria text
 
 -- MALFORMED_FORMULA, with the place
 abbrev pub malformed : Result Formula ℕ → Rule

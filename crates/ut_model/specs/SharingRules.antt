@@ -10,7 +10,6 @@ use Rattle.ut_model.specs.declared.limit.Limit.TheVariants as limit
 use Rattle.ut_model.specs.declared.refusal.Refusal.TheVariants.{InvalidType, NotFound}
 use Rattle.ut_model.specs.Cases.{in_case}
 use Rattle.ut_model.specs.Fields.{is_detail, same_name}
-use Rattle.ut_model.specs.Levels.{Reads}
 use Rattle.ut_model.specs.Names.{bad_name, is_stem, taken}
 use Rattle.ut_model.specs.Objects.{Numbered}
 use Rattle.ut_model.specs.Ordered.{put_in}
@@ -45,14 +44,14 @@ source_owner (from p) = Some p
 source_owner (by_formula text) = None
 
 -- what the text of a criteria rule reads as
-abbrev pub source_formula : Reads → Object → SpelledSource → Option (Result Formula ℕ)
-source_formula reads o (from p) = None
-source_formula reads o (by_formula text) = Some (formula_of reads o true text)
+abbrev pub source_formula : Object → SpelledSource → Option (Result Formula ℕ)
+source_formula o (from p) = None
+source_formula o (by_formula text) = Some (formula_of o true text)
 
-abbrev pub sharing_rules : Reads → Tenant → Numbered → NewSharingRule → List Rule
-sharing_rules reads t o b =
+abbrev pub sharing_rules : Tenant → Numbered → NewSharingRule → List Rule
+sharing_rules t o b =
     let owner = source_owner b.source in
-    let formula = source_formula reads o.object b.source in
+    let formula = source_formula o.object b.source in
     refuse_if (is_detail o.object) (InvalidType o.object.name)
     ∷ bad_name is_stem b.name
     ∷ taken (map (λ r. r.name) t.rules) b.name
@@ -85,9 +84,9 @@ abbrev pub with_rule : SharingRule → Tenant → Tenant
 with_rule r t = record t { rules = put_in (λ a b. name_cmp a.name b.name) r t.rules; rule_numbers = t.rule_numbers + 1 }
 
 -- a new sharing rule
-abbrev pub add_sharing_rule : Reads → Tenant → NewSharingRule → Verdict
-add_sharing_rule reads t b =
-    with_object t b.object (λ o. judged t (sharing_rules reads t o b) (accept done (with_rule (new_rule t o.number b) t)))
+abbrev pub add_sharing_rule : Tenant → NewSharingRule → Verdict
+add_sharing_rule t b =
+    with_object t b.object (λ o. judged t (sharing_rules t o b) (accept done (with_rule (new_rule t o.number b) t)))
 
 -- a rule that is removed is gone; NOT_FOUND where there is none with this name
 abbrev pub remove_sharing_rule : Tenant → (name : List ℕ) → Verdict

@@ -4,6 +4,7 @@ use Rattle.std.specs.List.{AllByRecursion}
 use Rattle.ut_model.specs.declared.limit.Limit.TheVariants as limit
 use Rattle.ut_model.specs.Known.{known, NumbersDiffer}
 use Rattle.ut_model.specs.Limits.{limit_number}
+use Rattle.ut_model.specs.SoundFormulas.{AreFormulasSound}
 use Rattle.ut_model.specs.SoundJob.{HasSoundJob}
 use Rattle.ut_model.specs.SoundMetadata.{HasSoundMetadata}
 unfoldable pub use Rattle.ut_model.specs.SoundPeople.{is_name}
@@ -26,6 +27,7 @@ pub record IsSound (t : Tenant) : Type 0 where
   pub rules : HasSoundRules (known t) t.objects t.rule_numbers t.rules
   pub shares : HasSoundShares (known t) t.objects t.shares
   pub job : HasSoundJob t.counter t.objects t.records t.job
+  pub formulas : AreFormulasSound t
 
 -- at most so many organisations, each sound
 pub record IsWorld (w : World) : Type 0 where

@@ -17,7 +17,7 @@ use Rattle.ut_model.specs.Metadata.{detail_level}
 use Rattle.ut_model.specs.Names.{is_custom_name, is_child_name, is_stem}
 use Rattle.ut_model.specs.Objects.{Numbered, numbered}
 use Rattle.ut_model.specs.Relationships.{relationship_names, target_of}
-use Rattle.ut_model.specs.RuleFormulas.{name_cmp}
+use Rattle.ut_model.specs.RuleFormulas.{is_rule_text, name_cmp}
 use Rattle.ut_model.specs.SoundPeople.{is_name}
 use Rattle.ut_model.specs.Tenant.{Field, Object, ValidationRule}
 
@@ -48,6 +48,7 @@ pub record IsSoundField (objects : ℕ) (f : Field) : Type 0 where
 
 pub record IsSoundValidation (r : ValidationRule) : Type 0 where
   pub name : IsTrue (is_stem r.name)
+  pub formula : IsTrue (is_rule_text r.formula)
   pub message : IsTrue (is_name r.message)
 
 -- how many Master fields an object has

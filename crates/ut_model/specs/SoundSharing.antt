@@ -16,7 +16,7 @@ use Rattle.ut_model.specs.Limits.{limit_number}
 use Rattle.ut_model.specs.Membership.{Has}
 use Rattle.ut_model.specs.Names.{is_stem}
 use Rattle.ut_model.specs.Objects.{object_number, record_prefix}
-use Rattle.ut_model.specs.RuleFormulas.{name_cmp}
+use Rattle.ut_model.specs.RuleFormulas.{is_rule_text, name_cmp}
 use Rattle.ut_model.specs.Shares.{share_cmp, shares_of}
 use Rattle.ut_model.specs.Tenant.{Object, Share, SharingRule, Source, owned, meets}
 
@@ -35,10 +35,10 @@ abbrev pub is_whole : RuleState → Bool
 is_whole state.Whole = true
 is_whole _ = false
 
--- the principal of an owner rule is there, and the rule whole
+-- the principal of an owner rule is there, and the rule whole; a formula's text is one of a rule
 abbrev pub is_sound_source : Known → RuleState → Source → Bool
 is_sound_source k s (owned p) = knows k p && is_whole s
-is_sound_source k s (meets text) = true
+is_sound_source k s (meets text) = is_rule_text text
 
 -- a cursor is an id of the object, made of a number below the counter
 abbrev pub IsCursor : ℕ → ℕ → Option (List ℕ) → Type 0

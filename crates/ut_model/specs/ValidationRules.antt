@@ -2,7 +2,6 @@
 -- Source: Salesforce, "Validation Rules". The order in which one is judged is this product's own.
 use Rattle.std.specs.Prelude.{ℕ, ◌+◌, false, List, [], ◌∷◌, map, length}
 use Rattle.ut_model.specs.declared.limit.Limit.TheVariants as limit
-use Rattle.ut_model.specs.Levels.{Reads}
 use Rattle.ut_model.specs.Names.{bad_name, is_stem, taken}
 use Rattle.ut_model.specs.Objects.{Numbered, with_object_changed}
 use Rattle.ut_model.specs.Ordered.{put_in}
@@ -16,9 +15,9 @@ pub record NewValidationRule : Type 0 where
   pub object : List ℕ
   pub rule : ValidationRule
 
-abbrev pub validation_rules : Reads → Tenant → Numbered → ValidationRule → List Rule
-validation_rules reads t o r =
-    let formula = formula_of reads o.object false r.formula in
+abbrev pub validation_rules : Tenant → Numbered → ValidationRule → List Rule
+validation_rules t o r =
+    let formula = formula_of o.object false r.formula in
     bad_name is_stem r.name
     ∷ taken (map (λ x. x.name) o.object.rules) r.name
     ∷ malformed formula
@@ -31,7 +30,7 @@ abbrev pub with_validation_rule : ValidationRule → Object → Object
 with_validation_rule r o = record o { rules = put_in (λ a b. name_cmp a.name b.name) r o.rules }
 
 -- a new validation rule
-abbrev pub add_validation_rule : Reads → Tenant → NewValidationRule → Verdict
-add_validation_rule reads t b =
+abbrev pub add_validation_rule : Tenant → NewValidationRule → Verdict
+add_validation_rule t b =
     with_object t b.object (λ o.
-    judged t (validation_rules reads t o b.rule) (accept done (with_object_changed o.number (with_validation_rule b.rule) t)))
+    judged t (validation_rules t o b.rule) (accept done (with_object_changed o.number (with_validation_rule b.rule) t)))

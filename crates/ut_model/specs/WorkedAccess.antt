@@ -1,5 +1,5 @@
 -- A small organisation for rows worked by hand: who may do what with its deals. A reader of the rules may pass it over.
-use Rattle.std.specs.Prelude.{ℕ, Bool, true, false, if◌then◌else◌, List, [], ◌∷◌, codes, bytes_eq, Option, Some, None, Ok, Err, pos}
+use Rattle.std.specs.Prelude.{ℕ, Bool, true, false, List, [], ◌∷◌, codes, Option, Some, None, pos}
 use Rattle.ut_value.specs.Id.{made}
 use Rattle.ut_value.specs.declared.job.RuleState.{RuleState}
 use Rattle.ut_value.specs.declared.sharing.Access.{Access}
@@ -12,11 +12,7 @@ use Rattle.ut_value.specs.declared.value.FieldType.{FieldType}
 use Rattle.ut_value.specs.declared.value.FieldType.TheVariants as type
 use Rattle.ut_value.specs.declared.value.Value.{Value}
 use Rattle.ut_value.specs.declared.value.Value.TheVariants as value
-use Rattle.ut_formula.specs.declared.formula.Formula.TheVariants as formula
-use Rattle.ut_formula.specs.declared.formula.Relation.TheVariants as relation
-use Rattle.ut_formula.specs.declared.formula.Term.TheVariants as term
 use Rattle.ut_model.specs.declared.record.Record.{Record}
-use Rattle.ut_model.specs.Levels.{Reads}
 use Rattle.ut_model.specs.Objects.{record_prefix}
 use Rattle.ut_model.specs.Tenant.{Field, Group, Object, Role, Share, SharingRule, Source, meets, Tenant, User}
 use Rattle.ut_model.specs.World.{group_prefix, role_prefix, user_prefix}
@@ -139,13 +135,9 @@ ruled source whom state records =
     records
     []
 
--- the texts of criteria that are read here
+-- the text of a criteria rule
 abbrev pub is_open : List ℕ
 is_open = codes "Stage__c = \"Open\""
-
-abbrev pub reads : Reads
-reads o criteria text =
-    if bytes_eq text is_open then Ok (formula.Compare (term.Field 1) relation.Equal (term.Text (codes "Open"))) else Err 0
 
 -- open deals are shared with the second group; Ron has a deal in this stage
 abbrev pub staged : List ℕ → RuleState → List ℕ → Tenant

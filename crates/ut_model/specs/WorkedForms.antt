@@ -5,7 +5,7 @@ use Rattle.ut_json.specs.declared.tree.Json.TheVariants as json
 use Rattle.ut_json.specs.declared.tree.Num.TheVariants.{Exact}
 use Rattle.ut_value.specs.declared.sharing.Access.TheVariants as access
 use Rattle.ut_value.specs.declared.sharing.Level.TheVariants.{Edit}
-use Rattle.ut_value.specs.declared.sharing.Principal.TheVariants as to
+use Rattle.ut_model.specs.declared.people_bodies.PrincipalKind.TheVariants as kind
 use Rattle.ut_model.specs.Members.{Body}
 use Rattle.ut_model.specs.declared.metadata_bodies.NewObject.{NewObject}
 use Rattle.ut_model.specs.Shares.{NewShare}
@@ -28,7 +28,7 @@ share_read =
     record {
       members = codes "to" ∷ codes "level" ∷ codes "record" ∷ [];
       item = codes "r";
-      to = record { kind = to.User; text = codes "x" };
+      to = record { kind = kind.User; text = codes "x" };
       level = Edit;
     }
 

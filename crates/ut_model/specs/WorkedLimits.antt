@@ -4,6 +4,7 @@ use Rattle.std.specs.List.{range_with_len}
 use Rattle.ut_value.specs.Id.{made}
 use Rattle.ut_value.specs.declared.sharing.Level.TheVariants.{Read}
 use Rattle.ut_value.specs.declared.sharing.Principal.TheVariants as to
+use Rattle.ut_model.specs.declared.people_bodies.PrincipalKind.TheVariants as kind
 use Rattle.ut_model.specs.Requests.{adds_group, sets_group}
 use Rattle.ut_model.specs.Tenant.{Tenant}
 use Rattle.ut_model.specs.World.{group_prefix}
@@ -16,7 +17,7 @@ abbrev pub group_made : List Call
 group_made = by_admin (adds_group (codes "G")) ∷ []
 
 abbrev pub members_to : ℕ → Call
-members_to n = by_admin (sets_group (codes "00G000000000001") (map (λ k. principal_text to.User (codes "005000000000000")) (range_with_len 1 n)))
+members_to n = by_admin (sets_group (codes "00G000000000001") (map (λ k. principal_text kind.User (codes "005000000000000")) (range_with_len 1 n)))
 
 -- deal 8, which is shared with so many groups
 abbrev pub shared_with : ℕ → Tenant

@@ -20,7 +20,7 @@ use Rattle.ut_model.specs.declared.record.Record.{Record}
 use Rattle.ut_model.specs.Paths.{Asked}
 use Rattle.ut_model.specs.Rows.{found}
 use Rattle.ut_model.specs.Tenant.{Object, Tenant, User}
-use Rattle.ut_model.specs.WorkedAccess.{admin, field, item as record_of, object, otto, reads, id_of, ron, tenant}
+use Rattle.ut_model.specs.WorkedAccess.{admin, field, item as record_of, object, otto, id_of, ron, tenant}
 
 -- 2023-11-14T22:13:20Z
 abbrev pub moment : ℤ
@@ -28,7 +28,7 @@ moment = pos 1700000000
 
 -- the user asks, at that moment
 abbrev pub asked_by : User → Tenant → Asked
-asked_by u t = record { tenant = t; user = u; now = moment; reads = reads }
+asked_by u t = record { tenant = t; user = u; now = moment }
 
 -- ---- parts of queries
 abbrev pub path : List (List ℕ) → Path

@@ -1,7 +1,6 @@
 -- Requests that are refused, for rows worked by hand. A reader of the rules may pass them over.
 use Rattle.std.specs.Prelude.{ℕ, false, List, [], ◌∷◌, ◌++◌, map, codes, Option, Some, None}
 use Rattle.ut_value.specs.declared.sharing.Access.TheVariants as access
-use Rattle.ut_value.specs.declared.sharing.Principal.TheVariants as to
 use Rattle.ut_value.specs.declared.value.FieldType.TheVariants as type
 use Rattle.ut_query.specs.declared.query.Cond.{Cond}
 use Rattle.ut_query.specs.declared.query.Cond.TheVariants.{Test}
@@ -9,6 +8,7 @@ use Rattle.ut_query.specs.declared.query.Item.TheVariants as item
 use Rattle.ut_query.specs.declared.query.Literal.{Literal}
 use Rattle.ut_query.specs.declared.query.Op.{Op}
 use Rattle.ut_query.specs.declared.query.OrderKey.{OrderKey}
+use Rattle.ut_model.specs.declared.people_bodies.PrincipalKind.TheVariants as kind
 use Rattle.ut_model.specs.Given.{Assignment}
 use Rattle.ut_model.specs.declared.metadata_bodies.SpelledType.TheVariants.{Plain}
 use Rattle.ut_model.specs.Requests.{Request, asks, begins_retype, creates, deletes, sets_role, unshares, updates}
@@ -48,7 +48,7 @@ owner_to user owner = by user (updates deal_object (codes "a00000000000008") (te
 -- Ron ends Otto's share of deal 8, or that of a principal of no form
 abbrev pub end_share : Call
 end_share =
-    by 5 (unshares (codes "a00000000000008") (codes "user:005000000000007") (Some (principal_text to.User (codes "005000000000007"))))
+    by 5 (unshares (codes "a00000000000008") (codes "user:005000000000007") (Some (principal_text kind.User (codes "005000000000007"))))
 
 abbrev pub end_no_share : Call
 end_no_share = by 5 (unshares (codes "a00000000000008") (codes "Otto") None)

@@ -1,22 +1,16 @@
 -- A fresh organisation that is asked one request after another, for rows worked by hand. A reader of the rules may pass it over.
-use Rattle.std.specs.Prelude.{ℕ, Bool, false, List, [], ◌∷◌, ◌++◌, codes, Option, Some, None, Ok, Err, pos}
+use Rattle.std.specs.Prelude.{ℕ, Bool, false, List, [], ◌∷◌, ◌++◌, codes, Option, Some, None}
 use Rattle.std.specs.Fmt.{decimal}
 use Rattle.std.specs.Option.{option_map}
 use Rattle.ut_json.specs.declared.tree.Json.TheVariants as json
 use Rattle.ut_value.specs.Id.{made}
 use Rattle.ut_value.specs.declared.sharing.Access.{Access}
 use Rattle.ut_value.specs.declared.sharing.Access.TheVariants as access
-use Rattle.ut_formula.specs.declared.formula.Formula.{Formula}
-use Rattle.ut_formula.specs.declared.formula.Formula.TheVariants as formula
-use Rattle.ut_formula.specs.declared.formula.Relation.TheVariants as relation
-use Rattle.ut_formula.specs.declared.formula.Term.TheVariants as term
 use Rattle.ut_model.specs.declared.refusal.Refusal.TheVariants.{InvalidSession}
 use Rattle.ut_model.specs.declared.reply.Reply.{Reply}
 use Rattle.ut_model.specs.Cases.{in_case}
 use Rattle.ut_model.specs.Given.{Assignment, in_json}
 use Rattle.ut_model.specs.Jobs.{job_step}
-use Rattle.ut_model.specs.Levels.{Reads}
-use Rattle.ut_model.specs.Members.{entry}
 use Rattle.ut_model.specs.declared.metadata_bodies.SpelledType.{SpelledType}
 use Rattle.ut_model.specs.Organisations.{fresh}
 use Rattle.ut_model.specs.Paths.{Asked}
@@ -25,21 +19,9 @@ use Rattle.ut_model.specs.Requests.{Request, adds_field, adds_object, adds_role,
 use Rattle.ut_model.specs.Step.{refusal_reply}
 use Rattle.ut_model.specs.Tenant.{Tenant}
 use Rattle.ut_model.specs.World.{user_at, user_prefix}
-use Rattle.ut_model.specs.WorkedAccess.{is_open}
 use Rattle.ut_model.specs.WorkedQueries.{ids_of, moment}
 
 -- ---- requests in turn
-
--- the texts of formulas that are read here; the name is at position 0, and the one custom field at 1
-abbrev pub formulas : List (List ℕ × Formula)
-formulas =
-    (is_open, formula.Compare (term.Field 1) relation.Equal (term.Text (codes "Open")))
-    ∷ (codes "Amount__c < 0", formula.Compare (term.Field 1) relation.Less (term.Num (pos 0)))
-    ∷ (codes "ISBLANK(Name)", formula.IsBlank 0)
-    ∷ []
-
-abbrev pub reads_formula : Reads
-reads_formula o criteria text = in_case (entry formulas text) (Err 0) Ok
 
 -- a request, and the number of the user who makes it
 pub record Call : Type 0 where
@@ -49,7 +31,7 @@ pub record Call : Type 0 where
 -- the user with this number, who asks once the organisation has made its step
 abbrev pub user_asks : Tenant → ℕ → Option Asked
 user_asks t n =
-    option_map (λ u. record { tenant = job_step t; user = u; now = moment; reads = reads_formula }) (user_at t.users (made user_prefix n))
+    option_map (λ u. record { tenant = job_step t; user = u; now = moment }) (user_at t.users (made user_prefix n))
 
 -- the reply, and the organisation afterwards
 abbrev pub called : Tenant → Call → Reply × Tenant

@@ -3,14 +3,14 @@
 use Rattle.std.specs.Prelude.{ℕ, false, List, [], ◌∷◌, ◌++◌, codes, Option, Some}
 use Rattle.ut_value.specs.declared.sharing.Access.TheVariants as access
 use Rattle.ut_value.specs.declared.sharing.Level.TheVariants.{Edit, Read}
-use Rattle.ut_value.specs.declared.sharing.Principal.{Principal}
-use Rattle.ut_value.specs.declared.sharing.Principal.TheVariants as to
 use Rattle.ut_value.specs.declared.value.FieldType.TheVariants as type
 use Rattle.ut_value.specs.declared.value.OnDelete.TheVariants as on_delete
 use Rattle.ut_query.specs.declared.query.Cond.{Cond}
 use Rattle.ut_query.specs.declared.query.Cond.TheVariants.{Test}
 use Rattle.ut_query.specs.declared.query.Literal.{Literal}
 use Rattle.ut_query.specs.declared.query.Op.{Op}
+use Rattle.ut_model.specs.declared.people_bodies.PrincipalKind.{PrincipalKind}
+use Rattle.ut_model.specs.declared.people_bodies.PrincipalKind.TheVariants as kind
 use Rattle.ut_model.specs.declared.metadata_bodies.SpelledType.TheVariants.{Plain, LookupTo}
 use Rattle.ut_model.specs.Principals.{Spelled}
 use Rattle.ut_model.specs.Requests.{Request, adds_group, adds_sharing_rule, asks, creates, sets_group, shares, updates}
@@ -21,7 +21,7 @@ use Rattle.ut_model.specs.WorkedRequests.{Call, add_deals, by, by_admin, deal_ma
 
 -- ---- Ron shares deal 8 with Otto for editing, and then gives it to Cea
 
-abbrev pub principal_text : (List ℕ → Principal) → List ℕ → Spelled
+abbrev pub principal_text : PrincipalKind → List ℕ → Spelled
 principal_text kind text = record { kind = kind; text = text }
 
 abbrev pub share_with_otto : Request
@@ -29,7 +29,7 @@ share_with_otto =
     shares (record {
       members = codes "record" ∷ codes "to" ∷ codes "level" ∷ [];
       item = codes "a00000000000008";
-      to = principal_text to.User (codes "005000000000007AAA");
+      to = principal_text kind.User (codes "005000000000007AAA");
       level = Edit;
     })
 
@@ -54,7 +54,7 @@ share_open_deals =
       object = deal_object;
       name = codes "Open_deals";
       source = by_formula is_open;
-      to = principal_text to.Group (codes "00G000000000009");
+      to = principal_text kind.Group (codes "00G000000000009");
       level = Read;
     })
 
@@ -67,8 +67,8 @@ open_made =
     ∷ by_admin (field_with deal_object stage (Plain (type.Picklist (codes "Open" ∷ codes "Shut" ∷ []))) false)
     ∷ by_admin (adds_group (codes "G1"))
     ∷ by_admin (adds_group (codes "G2"))
-    ∷ by_admin (sets_group (codes "00G000000000008") (principal_text to.User (codes "005000000000007") ∷ principal_text to.Group (codes "00G000000000009") ∷ []))
-    ∷ by_admin (sets_group (codes "00G000000000009") (principal_text to.Group (codes "00G000000000008") ∷ []))
+    ∷ by_admin (sets_group (codes "00G000000000008") (principal_text kind.User (codes "005000000000007") ∷ principal_text kind.Group (codes "00G000000000009") ∷ []))
+    ∷ by_admin (sets_group (codes "00G000000000009") (principal_text kind.Group (codes "00G000000000008") ∷ []))
     ∷ by_admin share_open_deals
     ∷ by 5 (creates deal_object (text_to stage (codes "Open") ∷ []))
     ∷ []

@@ -3,7 +3,7 @@
 ghost use Rattle.std.specs.Prelude.{◌≡◌, ◌∷◌, [], codes, false, None, Some};
 ghost use Rattle.ut_json.specs.declared.tree.Json.TheVariants as json;
 ghost use Rattle.ut_value.specs.declared.sharing.Level.TheVariants.{Read};
-ghost use Rattle.ut_value.specs.declared.sharing.Principal.TheVariants as to;
+ghost use Rattle.ut_model.specs.declared.people_bodies.PrincipalKind.TheVariants as kind;
 ghost use Rattle.ut_value.specs.declared.value.FieldType.TheVariants as type;
 ghost use Rattle.ut_model.specs.Forms.{object_request, share_request, sharing_rule_request, validation_request};
 ghost use Rattle.ut_model.specs.Given.{in_json};
@@ -39,7 +39,7 @@ pub fn form_rows()
           object = codes "A__c";
           name = codes "v";
           source = by_formula (codes "TRUE");
-          to = record { kind = to.Role; text = codes "r" };
+          to = record { kind = kind.Role; text = codes "r" };
           level = Read;
         })) }
     ensures two_sources { sharing_rule_request (rule_body (by_text ∷ from_role ∷ [])) ≡ None }
@@ -50,7 +50,7 @@ pub fn form_rows()
 pub fn spelling_rows()
     ensures no_colon { principal_in (codes "user") ≡ None }
     ensures other_kind { principal_in (codes "User:x") ≡ None }
-    ensures no_id { principal_in (codes "group:") ≡ Some (record { kind = to.Group; text = [] }) }
+    ensures no_id { principal_in (codes "group:") ≡ Some (record { kind = kind.Group; text = [] }) }
     ensures number { type_of (type_body (codes "Number") (number_member (codes "digits") 600000000 ∷ number_member (codes "decimals") 0 ∷ []))
         ≡ Some (Plain (type.Number 6 0)) }
     ensures half { type_of (type_body (codes "Text") (number_member (codes "length") 2050000000 ∷ [])) ≡ None }

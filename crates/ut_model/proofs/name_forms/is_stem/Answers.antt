@@ -1,5 +1,4 @@
 use Rattle.std.proofs.Common.{◌∙◌, ap}
-use Rattle.std.specs.Prelude.{codes}
 use Rattle.ut_model.specs.Names.{is_stem}
 use Rattle.ut_model.proofs.NameForms.{stem_of_text}
 use Rattle.ut_model.proofs.name_forms.is_stem.Goals as goal

@@ -15,17 +15,17 @@ use Rattle.ut_formula.specs.Naming.{names}
 use Rattle.ut_formula.specs.declared.formula.Formula.{Formula}
 use Rattle.ut_formula.specs.declared.formula.Formula.TheVariants as formula
 use Rattle.ut_formula.specs.declared.formula.NamedField.{NamedField}
-use Rattle.ut_formula_text.specs.Grammar as g
-use Rattle.ut_formula_text.specs.Reading as spec
-use Rattle.ut_formula_text.specs.Signs.{field_sign, function_word, is_name, lexis, sign_of, signs, sort_of, starts, word_or_field}
-use Rattle.ut_formula_text.specs.Spelling.{IsRefusedAt, Spells, formula_in, place_in, whole_of}
-use Rattle.ut_formula_text.specs.declared.sign.Sign.{Sign}
-use Rattle.ut_formula_text.specs.declared.sign.Sign.TheVariants as sign
+use Rattle.ut_formula_grammar.specs.Grammar as g
+use Rattle.ut_formula_grammar.specs.Reading as spec
+use Rattle.ut_formula_grammar.specs.Signs.{field_sign, function_word, is_name, lexis, sign_of, signs, sort_of, starts, word_or_field}
+use Rattle.ut_formula_grammar.specs.Spelling.{IsRefusedAt, Spells, formula_in, place_in, whole_of}
+use Rattle.ut_formula_grammar.specs.declared.sign.Sign.{Sign}
+use Rattle.ut_formula_grammar.specs.declared.sign.Sign.TheVariants as sign
 use Rattle.ut_model.specs.Objects.{change_at}
 use Rattle.ut_model.specs.RuleFormulas.{names_field}
 use Rattle.ut_model.specs.Tenant.{Field, Object}
-use Rattle.ut_sound.specs.Fit.{ReadsFormulas}
-use Rattle.ut_rule_text.specs.FormulaTexts.{as_named, formula_fields, name_field, reads_text}
+use Rattle.ut_rule_text.specs.Reading.{ReadsFormulas}
+use Rattle.ut_model.specs.FormulaTexts.{as_named, formula_fields, name_field, reads_text}
 use Rattle.ut_rule_text.proofs.KnownSigns.{OfFormula, known, whole_knows}
 use Rattle.ut_rule_text.proofs.Truths.{both_left, both_right, clash}
 
@@ -167,7 +167,7 @@ module _ (law : (criteria : Bool) (fields : List NamedField) (text : List ℕ) (
       let knows = whole_knows q within_not within_and within_or (signs criteria fs all) f (signs_spell o criteria text law (one text) f e) named in
       ap (λ (ts : List Sign). ok_or (whole_of (spec.whole ts)) (slice_index_or (starts all) (length ts - left (spec.whole ts)) (byte_len text))) (signs_same q criteria fs (formula_fields p.fields) same all knows)
 
-  pub reads_formulas : ReadsFormulas reads_text
+  pub reads_formulas : ReadsFormulas
   unfolding reads_text
   reads_formulas =
       record {

@@ -10,15 +10,15 @@ use Rattle.ut_formula.specs.declared.formula.Formula.TheVariants as formula
 use Rattle.ut_formula.specs.declared.formula.Relation.{Relation}
 use Rattle.ut_formula.specs.declared.formula.Term.{Term}
 use Rattle.ut_formula.specs.declared.formula.Term.TheVariants as term
-use Rattle.ut_formula_text.specs.Grammar.{Signs}
-use Rattle.ut_formula_text.specs.Grammar as g
-use Rattle.ut_formula_text.specs.Signs.{kind}
-use Rattle.ut_formula_text.specs.Terms.{field_in, if_suits, kind_of, len_in, measured_in, of_field, picklist_in, prior_in, relation_in, simple_in, suits, text_in, truth_in}
-use Rattle.ut_formula_text.specs.declared.sign.Sign.{Sign}
-use Rattle.ut_formula_text.specs.declared.sign.Sign.TheVariants as sign
-use Rattle.ut_formula_text.specs.declared.sign.Sort.TheVariants as sort
-use Rattle.ut_formula_text.specs.declared.sign.Kind.{Kind}
-use Rattle.ut_formula_text.specs.declared.sign.Kind.TheVariants as of
+use Rattle.ut_formula_grammar.specs.Grammar.{Signs}
+use Rattle.ut_formula_grammar.specs.Grammar as g
+use Rattle.ut_formula_grammar.specs.Signs.{kind}
+use Rattle.ut_formula_grammar.specs.Terms.{field_in, if_suits, kind_of, len_in, measured_in, of_field, picklist_in, prior_in, relation_in, simple_in, suits, text_in, truth_in}
+use Rattle.ut_formula_grammar.specs.declared.sign.Sign.{Sign}
+use Rattle.ut_formula_grammar.specs.declared.sign.Sign.TheVariants as sign
+use Rattle.ut_formula_grammar.specs.declared.sign.Sort.TheVariants as sort
+use Rattle.ut_formula_grammar.specs.declared.sign.Kind.{Kind}
+use Rattle.ut_formula_grammar.specs.declared.sign.Kind.TheVariants as of
 use Rattle.ut_rule_text.proofs.Truths as parts
 
 -- a token that can stand in a formula, and is no field but one for which the test holds

@@ -1,2 +1,2 @@
-pub mod FormulaTexts
+pub mod Reading
 pub mod WorkedTexts

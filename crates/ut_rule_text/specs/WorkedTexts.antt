@@ -9,7 +9,7 @@ use Rattle.ut_formula.specs.declared.formula.Formula.TheVariants as formula
 use Rattle.ut_formula.specs.declared.formula.Relation.TheVariants as relation
 use Rattle.ut_formula.specs.declared.formula.Term.TheVariants as term
 use Rattle.ut_model.specs.Tenant.{Field}
-use Rattle.ut_rule_text.specs.FormulaTexts.{reads_text}
+use Rattle.ut_model.specs.FormulaTexts.{reads_text}
 
 -- a custom field without flags
 abbrev pub custom_field : List ℕ → FieldType → Field

@@ -3,12 +3,12 @@
 ghost use Rattle.std.specs.Prelude.{◌≡◌, ◌∷◌, ◌++◌, [], ℕ, Bool, Err, List, Ok, codes, true};
 ghost use Rattle.ut_formula.specs.declared.formula.Formula.{Formula};
 ghost use Rattle.ut_formula.specs.declared.formula.Formula.TheVariants as formula;
-ghost use Rattle.ut_formula_text.specs.Spelling.{IsRefusedAt, Spells};
+ghost use Rattle.ut_formula_grammar.specs.Spelling.{IsRefusedAt, Spells};
 ghost use Rattle.ut_formula_text.specs.Texts.{quoted};
 ghost use Rattle.ut_grammar.specs.Tokens.{byte_len};
 ghost use Rattle.ut_model.specs.Tenant.{Object};
-ghost use Rattle.ut_sound.specs.Fit.{ReadsFormulas};
-ghost use Rattle.ut_rule_text.specs.FormulaTexts.{formula_fields, reads_text};
+ghost use Rattle.ut_rule_text.specs.Reading.{ReadsFormulas};
+ghost use Rattle.ut_model.specs.FormulaTexts.{formula_fields, reads_text};
 ghost use Rattle.ut_rule_text.specs.WorkedTexts.{amount, custom_field, over_five, read_over};
 ghost use Rattle.ut_value.specs.declared.value.FieldType.TheVariants as type;
 
@@ -27,7 +27,7 @@ pub fn text_laws()
     ensures refused { (o : Object) (criteria : Bool) (text : List ℕ) (place : ℕ)
         → reads_text o criteria text ≡ Err place → IsRefusedAt criteria (formula_fields o.fields) text (byte_len text) place }
     // It looks at fields alone, and not at those that a formula doesn't name.
-    ensures formulas { ReadsFormulas reads_text }
+    ensures formulas { ReadsFormulas }
 {
     formula_laws();
     spelling_laws();

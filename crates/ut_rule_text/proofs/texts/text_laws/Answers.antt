@@ -1,5 +1,5 @@
 use Rattle.ut_grammar.specs.Lexing.{tokens_of}
-use Rattle.ut_formula_text.specs.Signs.{lexis}
+use Rattle.ut_formula_grammar.specs.Signs.{lexis}
 use Rattle.ut_rule_text.proofs.FormulaTexts.{read_by, reads_formulas, refused_by, spelled_by}
 use Rattle.ut_rule_text.proofs.texts.text_laws.Goals as goal
 

@@ -20,7 +20,7 @@ use Rattle.ut_model.specs.NewFields.{add_field, child_taken, field_rules, is_bef
 use Rattle.ut_model.specs.Objects.{Numbered}
 use Rattle.ut_model.specs.Relationships.{parent_name, relationship_names, target_of}
 use Rattle.ut_model.specs.Rules.{MemberRules, refuse_if}
-use Rattle.ut_model.specs.Sound.{IsSound}
+use Rattle.ut_sound.proofs.SoundParts.{HasSoundParts}
 use Rattle.ut_model.specs.SoundMetadata.{IsSoundField, implies, may_be_required}
 use Rattle.ut_model.specs.Tenant.{Field, Tenant}
 use Rattle.ut_model.specs.Verdict.{Verdict, accept, done, judged, with_object}
@@ -62,7 +62,7 @@ one_of : (a : Bool) (x : List ℕ) (names : List (List ℕ)) → list_any (same_
 one_of true x names e h = e
 one_of false x names e h = absurd cc
 
-module _ (t : Tenant) (s : IsSound t) (o : Numbered) (at : slice_get t.objects o.number ≡ Some o.object) (b : NewField) (named : has_member b.members (codes "name") ≡ true) where
+module _ (t : Tenant) (s : HasSoundParts t) (o : Numbered) (at : slice_get t.objects o.number ≡ Some o.object) (b : NewField) (named : has_member b.members (codes "name") ≡ true) where
   -- the field's own name
   own_name : (target : Option ℕ) (kind : SpelledType) → name_taken t o target (record b { kind = kind }) ≡ None → list_any (same_name b.name) (map (λ (x : Field). x.name) o.object.fields) ≡ false
   own_name target kind e =
@@ -71,11 +71,11 @@ module _ (t : Tenant) (s : IsSound t) (o : Numbered) (at : slice_get t.objects o
 
   -- a field that is no reference
   plain_sound : (kind : FieldType) → is_reference kind ≡ false → is_type kind ≡ true → flags_suit (record b { kind = Plain kind }) kind ≡ true
-      → IsSound (judged t (field_rules t o None (record b { kind = Plain kind })) (accept done (with_field o.number (new_field None (record b { kind = Plain kind })) t))).tenant
+      → HasSoundParts (judged t (field_rules t o None (record b { kind = Plain kind })) (accept done (with_field o.number (new_field None (record b { kind = Plain kind })) t))).tenant
   plain_sound kind reference bounds flags =
       let b2 : NewField = record b { kind = Plain kind } in
       let f = new_field None b2 in
-      when_judged IsSound t (field_rules t o None b2) (accept done (with_field o.number f t)) s (λ h.
+      when_judged HasSoundParts t (field_rules t o None b2) (accept done (with_field o.number f t)) s (λ h.
       let form = member_rule ((codes "name", bad_name is_custom_name b.name) ∷ (codes "type", None) ∷ []) b.members (codes "name") h.0 named in
       let free = member_rule ((codes "name", name_taken t o None b2) ∷ (codes "type", None) ∷ []) b.members (codes "name") h.1.0 named in
       let limits = none_refuses (refuse_if (nat_lt 40 (length o.object.fields + 1)) (refusal.LimitExceeded limit.FieldsPerObject) ∷ []) h.1.1.0 in
@@ -106,12 +106,12 @@ module _ (t : Tenant) (s : IsSound t) (o : Numbered) (at : slice_get t.objects o
   -- a lookup to an object that is there
   lookup_sound : (object : List ℕ) (d : OnDelete) (child : List ℕ) (q : Numbered) → slice_get t.objects q.number ≡ Some q.object → has_member b.members (codes "type") ≡ true
       → flags_suit (record b { kind = LookupTo object d child }) (type.Lookup 0 d) ≡ true
-      → IsSound (judged t (field_rules t o (Some q.number) (record b { kind = LookupTo object d child })) (accept done (with_field o.number (new_field (Some q.number) (record b { kind = LookupTo object d child })) t))).tenant
+      → HasSoundParts (judged t (field_rules t o (Some q.number) (record b { kind = LookupTo object d child })) (accept done (with_field o.number (new_field (Some q.number) (record b { kind = LookupTo object d child })) t))).tenant
   lookup_sound object d child q there typed flags =
       let b2 : NewField = record b { kind = LookupTo object d child } in
       let f = new_field (Some q.number) b2 in
       let n = o.number in
-      when_judged IsSound t (field_rules t o (Some q.number) b2) (accept done (with_field n f t)) s (λ h.
+      when_judged HasSoundParts t (field_rules t o (Some q.number) b2) (accept done (with_field n f t)) s (λ h.
       let forms : MemberRules = (codes "name", bad_name is_custom_name b.name) ∷ (codes "type", bad_name is_child_name child) ∷ [] in
       let frees : MemberRules = (codes "name", name_taken t o (Some q.number) b2) ∷ (codes "type", child_taken t n b2 q.number) ∷ [] in
       let free = member_rule frees b.members (codes "name") h.1.0 named in
@@ -170,19 +170,19 @@ module _ (t : Tenant) (s : IsSound t) (o : Numbered) (at : slice_get t.objects o
               no_other (same_name (parent_name b.name) child) (one_of ((o.number == q.number) && is_before b.members (codes "type") (codes "name")) (parent_name b.name) (child ∷ []) e
               (both (o.number == q.number) (is_before b.members (codes "type") (codes "name")) here_is h))
 
-pub add_field_sound : (t : Tenant) (b : NewField) → is_fit_field b ≡ true → IsSound t → IsSound (add_field t b).tenant
+pub add_field_sound : (t : Tenant) (b : NewField) → is_fit_field b ≡ true → HasSoundParts t → HasSoundParts (add_field t b).tenant
 add_field_sound t b fit s = by b.kind fit
   where
     verdict : SpelledType → Numbered → Verdict
     verdict kind o = with_target t kind (λ target. judged t (field_rules t o target (record b { kind = kind })) (accept done (with_field o.number (new_field target (record b { kind = kind })) t)))
 
     by : (kind : SpelledType) → is_fit_field (record b { kind = kind }) ≡ true
-        → IsSound (with_object t b.object (λ o. with_target t kind (λ target. judged t (field_rules t o target (record b { kind = kind })) (accept done (with_field o.number (new_field target (record b { kind = kind })) t))))).tenant
+        → HasSoundParts (with_object t b.object (λ o. with_target t kind (λ target. judged t (field_rules t o target (record b { kind = kind })) (accept done (with_field o.number (new_field target (record b { kind = kind })) t))))).tenant
     by (Plain kind) fit =
         let named = both_left (has_member b.members (codes "name")) (not (is_reference kind) && (is_type kind && flags_suit (record b { kind = Plain kind }) kind)) fit in
         let rest = both_right (has_member b.members (codes "name")) (not (is_reference kind) && (is_type kind && flags_suit (record b { kind = Plain kind }) kind)) fit in
         let more = both_right (not (is_reference kind)) (is_type kind && flags_suit (record b { kind = Plain kind }) kind) rest in
-        when_object IsSound t b.object (λ o. judged t (field_rules t o None (record b { kind = Plain kind })) (accept done (with_field o.number (new_field None (record b { kind = Plain kind })) t))) s (λ o at.
+        when_object HasSoundParts t b.object (λ o. judged t (field_rules t o None (record b { kind = Plain kind })) (accept done (with_field o.number (new_field None (record b { kind = Plain kind })) t))) s (λ o at.
         plain_sound t s o at b named kind (not_so (is_reference kind) (both_left (not (is_reference kind)) (is_type kind && flags_suit (record b { kind = Plain kind }) kind) rest))
         (both_left (is_type kind) (flags_suit (record b { kind = Plain kind }) kind) more) (both_right (is_type kind) (flags_suit (record b { kind = Plain kind }) kind) more))
     by (LookupTo object d child) fit =
@@ -190,6 +190,6 @@ add_field_sound t b fit s = by b.kind fit
         let flags = flags_suit b2 (type.Lookup 0 d) in
         let named = both_left (has_member b.members (codes "name")) (has_member b.members (codes "type") && (true && flags)) fit in
         let rest = both_right (has_member b.members (codes "name")) (has_member b.members (codes "type") && (true && flags)) fit in
-        when_object IsSound t b.object (λ o. with_object t object (λ q. judged t (field_rules t o (Some q.number) b2) (accept done (with_field o.number (new_field (Some q.number) b2) t)))) s (λ o at.
-        when_object IsSound t object (λ q. judged t (field_rules t o (Some q.number) b2) (accept done (with_field o.number (new_field (Some q.number) b2) t))) s (λ q there.
+        when_object HasSoundParts t b.object (λ o. with_object t object (λ q. judged t (field_rules t o (Some q.number) b2) (accept done (with_field o.number (new_field (Some q.number) b2) t)))) s (λ o at.
+        when_object HasSoundParts t object (λ q. judged t (field_rules t o (Some q.number) b2) (accept done (with_field o.number (new_field (Some q.number) b2) t))) s (λ q there.
         lookup_sound t s o at b named object d child q there (both_left (has_member b.members (codes "type")) (true && flags) rest) (both_right (has_member b.members (codes "type")) (true && flags) rest)))

@@ -8,11 +8,10 @@ use Rattle.ut_value.specs.declared.value.FieldType.TheVariants as type
 use Rattle.ut_model.specs.declared.refusal.Refusal.TheVariants as refusal
 use Rattle.ut_model.specs.Cases.{in_case}
 use Rattle.ut_model.specs.Fields.{Column, Where, column_named}
-use Rattle.ut_model.specs.Levels.{Reads}
 use Rattle.ut_model.specs.declared.metadata_bodies.SpelledType.{SpelledType}
 use Rattle.ut_model.specs.Objects.{Numbered}
 use Rattle.ut_model.specs.Retyping.{begin_on, begin_retype, can_become, custom_place, in_use, is_checkbox, new_job, new_type, place_to_change, under_way, with_job}
-use Rattle.ut_model.specs.Sound.{IsSound}
+use Rattle.ut_sound.proofs.SoundParts.{HasSoundParts}
 use Rattle.ut_model.specs.SoundJob.{copies}
 use Rattle.ut_model.specs.SoundRecords.{those_of}
 use Rattle.ut_model.specs.Tenant.{Field, Object, Tenant}
@@ -55,8 +54,8 @@ changeable o to at place e = by (custom_place at) e
             fits false h e = absurd cc
             fits true h e = (f, subst (λ (k : ℕ). slice_get o.fields k ≡ Some f) (out n e) g, h)
 
-module _ (t : Tenant) (s : IsSound t) (o : Numbered) (at : slice_get t.objects o.number ≡ Some o.object) (to : FieldType) (bounds : is_type to ≡ true) where
-  began : (n : ℕ) (f : Field) → slice_get o.object.fields n ≡ Some f → can_become to f ≡ true → IsSound (with_job (new_job o.number n to) t)
+module _ (t : Tenant) (s : HasSoundParts t) (o : Numbered) (at : slice_get t.objects o.number ≡ Some o.object) (to : FieldType) (bounds : is_type to ≡ true) where
+  began : (n : ℕ) (f : Field) → slice_get o.object.fields n ≡ Some f → can_become to f ≡ true → HasSoundParts (with_job (new_job o.number n to) t)
   began n f e fit =
       let w = suits f.unique (convertible f.kind to) f.indexed (is_checkbox to) fit in
       let plain = convertible_plain f.kind to w.1 in
@@ -71,23 +70,23 @@ module _ (t : Tenant) (s : IsSound t) (o : Numbered) (at : slice_get t.objects o
         copied = list_all_from (copies (new_job o.number n to)) (those_of o.number t.records) (λ y m. refl);
       })
 
-  pub begin_on_sound : (reads : Reads) (field : List ℕ) (w : Where) → IsSound (begin_on reads t o to field w).tenant
-  begin_on_sound reads field w =
-      let then : ℕ → Verdict = λ place. judged t (in_use reads t o place field ∷ []) (accept done (with_job (new_job o.number place to) t)) in
-      when_judged IsSound t (under_way t ∷ []) (in_case (place_to_change o.object to w) (refuse t (refusal.RetypeUnsupported field)) then) s (λ _.
+  pub begin_on_sound : (field : List ℕ) (w : Where) → HasSoundParts (begin_on t o to field w).tenant
+  begin_on_sound field w =
+      let then : ℕ → Verdict = λ place. judged t (in_use t o place field ∷ []) (accept done (with_job (new_job o.number place to) t)) in
+      when_judged HasSoundParts t (under_way t ∷ []) (in_case (place_to_change o.object to w) (refuse t (refusal.RetypeUnsupported field)) then) s (λ _.
       by (place_to_change o.object to w) refl)
     where
       by : (p : Option ℕ) → place_to_change o.object to w ≡ p
-          → IsSound (in_case p (refuse t (refusal.RetypeUnsupported field)) (λ place. judged t (in_use reads t o place field ∷ []) (accept done (with_job (new_job o.number place to) t)))).tenant
+          → HasSoundParts (in_case p (refuse t (refusal.RetypeUnsupported field)) (λ place. judged t (in_use t o place field ∷ []) (accept done (with_job (new_job o.number place to) t)))).tenant
       by None e = s
       by (Some place) e =
           let c = changeable o.object to w place e in
-          when_judged IsSound t (in_use reads t o place field ∷ []) (accept done (with_job (new_job o.number place to) t)) s (λ _. began place c.0 c.1 c.2)
+          when_judged HasSoundParts t (in_use t o place field ∷ []) (accept done (with_job (new_job o.number place to) t)) s (λ _. began place c.0 c.1 c.2)
 
-pub begin_sound : (reads : Reads) (t : Tenant) (object field : List ℕ) (to : SpelledType) → is_type (new_type to) ≡ true → IsSound t → IsSound (begin_retype reads t object field to).tenant
-begin_sound reads t object field to bounds s =
-    when_object IsSound t object (λ o. in_case (column_named o.object field) (refuse t (refusal.InvalidField field)) (λ c. begin_on reads t o (new_type to) c.name c.at)) s (λ o at. by o at (column_named o.object field))
+pub begin_sound : (t : Tenant) (object field : List ℕ) (to : SpelledType) → is_type (new_type to) ≡ true → HasSoundParts t → HasSoundParts (begin_retype t object field to).tenant
+begin_sound t object field to bounds s =
+    when_object HasSoundParts t object (λ o. in_case (column_named o.object field) (refuse t (refusal.InvalidField field)) (λ c. begin_on t o (new_type to) c.name c.at)) s (λ o at. by o at (column_named o.object field))
   where
-    by : (o : Numbered) → slice_get t.objects o.number ≡ Some o.object → (c : Option Column) → IsSound (in_case c (refuse t (refusal.InvalidField field)) (λ c. begin_on reads t o (new_type to) c.name c.at)).tenant
+    by : (o : Numbered) → slice_get t.objects o.number ≡ Some o.object → (c : Option Column) → HasSoundParts (in_case c (refuse t (refusal.InvalidField field)) (λ c. begin_on t o (new_type to) c.name c.at)).tenant
     by o at None = s
-    by o at (Some c) = begin_on_sound t s o at (new_type to) bounds reads c.name c.at
+    by o at (Some c) = begin_on_sound t s o at (new_type to) bounds c.name c.at

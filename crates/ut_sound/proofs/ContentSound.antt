@@ -141,11 +141,11 @@ references_sound a o old new target missing fit before =
     known_target : (n : ℕ) (id : List ℕ) → is_target a n id ≡ true → item_of (known a.tenant) n id ≡ true
     known_target n id h = found (record_at a.tenant id) refl h
       where
-        found : (r : Option Record) → record_at a.tenant id ≡ r → in_case (option_and_then (λ r. cond (is_of n r) (Some r) None) r) false (can_read a.reads a.tenant a.user) ≡ true → (is_some (record_at a.tenant id) && (object_number id == n)) ≡ true
+        found : (r : Option Record) → record_at a.tenant id ≡ r → in_case (option_and_then (λ r. cond (is_of n r) (Some r) None) r) false (can_read a.tenant a.user) ≡ true → (is_some (record_at a.tenant id) && (object_number id == n)) ≡ true
         found None e h = absurd cc
         found (Some r) e h = its (is_of n r) refl h
           where
-            its : (b : Bool) → is_of n r ≡ b → in_case (cond b (Some r) None) false (can_read a.reads a.tenant a.user) ≡ true → (is_some (record_at a.tenant id) && (object_number id == n)) ≡ true
+            its : (b : Bool) → is_of n r ≡ b → in_case (cond b (Some r) None) false (can_read a.tenant a.user) ≡ true → (is_some (record_at a.tenant id) && (object_number id == n)) ≡ true
             its true w h = both (is_some (record_at a.tenant id)) (object_number id == n) (ap is_some e) (ap (λ (i : List ℕ). object_number i == n) ((found_at record_id a.tenant.records id r e).1) ∙ w)
             its false w h = absurd cc
 

@@ -15,7 +15,7 @@ use Rattle.ut_model.specs.Objects.{Numbered, record_prefix, records_of}
 use Rattle.ut_model.specs.Paths.{Asked}
 use Rattle.ut_model.specs.Relationships.{references_of}
 use Rattle.ut_model.specs.Rules.{first_of, refuse_if}
-use Rattle.ut_model.specs.Sound.{IsSound}
+use Rattle.ut_sound.proofs.SoundParts.{HasSoundParts}
 use Rattle.ut_model.specs.SoundRecords.{IsSoundRecord, is_sound_owner, is_sound_reference}
 use Rattle.ut_model.specs.Verdict.{accept, made_new, upserted}
 use Rattle.ut_sound.specs.Fit.{IsCaller, OfObjects, ReadsWell}
@@ -35,12 +35,12 @@ empty_owner a o h = by (is_detail o.object)
 
 -- with a key or without
 pub create_on_sound : IdLaws → (a : Asked) (o : Numbered) (key : Option Key) (given : List Assignment) → slice_get a.tenant.objects o.number ≡ Some o.object → IsCaller a
-    → ReadsWell a o.object (with_key key given) → IsSound a.tenant → IsSound (create_on a o key given).tenant
+    → ReadsWell a o.object (with_key key given) → HasSoundParts a.tenant → HasSoundParts (create_on a o key given).tenant
 create_on_sound ids a o key given at caller reads s =
     let t = a.tenant in
     let old = empty_record a o in
     let new = with_given a o.object (with_key key given) old in
-    when_judged IsSound t (create_rules a o key given new) (accept (in_case key (made_new new.id) (λ k. upserted new.id true)) (with_record new t)) s (λ h.
+    when_judged HasSoundParts t (create_rules a o key given new) (accept (in_case key (made_new new.id) (λ k. upserted new.id true)) (with_record new t)) s (λ h.
     let limits = none_refuses (refuse_if (nat_lt 20000 (length (records_of t o.number) + 1)) (refusal.LimitExceeded limit.RecordsPerObject) ∷ refuse_if (nat_lt 50000 (length t.records + 1)) (refusal.LimitExceeded limit.Records) ∷ refuse_if (nat_lt 999999999999999 (t.counter + 1)) (refusal.LimitExceeded limit.Ids) ∷ []) h.1.1.1.1.1.1.1.0 in
     let fit = reads h.1.0 old (empty_fits o.object) in
     let g = item_grows ids t s o at new refl in
@@ -72,5 +72,5 @@ create_on_sound ids a o key given at caller reads s =
     (within_limit 20000 (length (records_of t o.number) + 1) (refusal.LimitExceeded limit.RecordsPerObject) limits.0)
     (within_limit 999999999999999 (t.counter + 1) (refusal.LimitExceeded limit.Ids) limits.1.1.0))
 
-pub create_sound : IdLaws → (a : Asked) (object : List ℕ) (given : List Assignment) → IsCaller a → OfObjects a (λ o. ReadsWell a o given) → IsSound a.tenant → IsSound (create a object given).tenant
-create_sound ids a object given caller reads s = when_object IsSound a.tenant object (λ o. create_on a o None given) s (λ o at. create_on_sound ids a o None given at caller (reads o.number o.object at) s)
+pub create_sound : IdLaws → (a : Asked) (object : List ℕ) (given : List Assignment) → IsCaller a → OfObjects a (λ o. ReadsWell a o given) → HasSoundParts a.tenant → HasSoundParts (create a object given).tenant
+create_sound ids a object given caller reads s = when_object HasSoundParts a.tenant object (λ o. create_on a o None given) s (λ o at. create_on_sound ids a o None given at caller (reads o.number o.object at) s)

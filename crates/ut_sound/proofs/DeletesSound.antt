@@ -30,7 +30,7 @@ use Rattle.ut_model.specs.Paths.{Asked}
 use Rattle.ut_model.specs.Relationships.{Reference, master_reference, named_id, references, references_of, target_of}
 use Rattle.ut_model.specs.Rights.{with_named}
 use Rattle.ut_model.specs.Rules.{refuse_if}
-use Rattle.ut_model.specs.Sound.{IsSound}
+use Rattle.ut_sound.proofs.SoundParts.{HasSoundParts}
 use Rattle.ut_model.specs.SoundJob.{HasSoundJob, copies}
 use Rattle.ut_model.specs.Updates.{is_copied}
 use Rattle.ut_model.specs.Metadata.{masters_above}
@@ -160,7 +160,7 @@ named_same t u (to.Subordinates i) a b c h = ap (λ (z : List Role). is_some (wi
 named_same t u (to.Group i) a b c h = ap (λ (z : List Group). is_some (with_id group_id z i)) c ∙ h
 
 -- ---- what stays
-module _ (t : Tenant) (s : IsSound t) (now : ℤ) (day : is_moment now ≡ true) (gone : List Record) (free : held t gone ≡ None)
+module _ (t : Tenant) (s : HasSoundParts t) (now : ℤ) (day : is_moment now ≡ true) (gone : List Record) (free : held t gone ≡ None)
     (closed : (r : Record) → Has t.records r → has_id gone r.id ≡ false → (f : Reference) → Has (references t.objects) f → is_of f.object r ≡ true → is_master f.field.kind ≡ true
     → (id : List ℕ) → named_id f r ≡ Some id → has_id gone id ≡ true → ⊥) where
   abbrev lost_places : Record → List ℕ
@@ -372,7 +372,7 @@ module _ (t : Tenant) (s : IsSound t) (now : ℤ) (day : is_moment now ≡ true)
                       no_ref : (id : List ℕ) → Some id ≡ None → ⊥
                       no_ref id e = cc
 
-  pub without_sound : IsSound (without now gone t)
+  pub without_sound : HasSoundParts (without now gone t)
   without_sound =
       records_edited t (map after rest) (filter (λ x. not (has_id gone x.item)) t.shares) s there_before
       (record {
@@ -469,7 +469,7 @@ object_among n (suc i) (x ∷ os) o e =
     inr (subst (λ (z : ℕ). Has (numbered_from (n + 1) os) (record { number = z; object = o })) same (object_among (n + 1) i os o e))
 
 -- ---- what goes is closed under details: a detail of a detail of a detail has none
-module _ (t : Tenant) (s : IsSound t) where
+module _ (t : Tenant) (s : HasSoundParts t) where
   -- the master of a record is of the object above
   pub record Above (x : Record) (ys : List Record) : Type 0 where
     pub reference : Reference
@@ -636,10 +636,10 @@ module _ (t : Tenant) (s : IsSound t) where
       ]
 
 -- ---- the request
-pub delete_sound : (a : Asked) (object key : List ℕ) → is_moment a.now ≡ true → IsSound a.tenant → IsSound (delete a object key).tenant
+pub delete_sound : (a : Asked) (object key : List ℕ) → is_moment a.now ≡ true → HasSoundParts a.tenant → HasSoundParts (delete a object key).tenant
 delete_sound a object key day s =
-    when_object IsSound a.tenant object (λ o. with_named a o key Full (delete_record a)) s (λ o at.
-    when_named IsSound a o key Full (delete_record a) s (λ r among of.
+    when_object HasSoundParts a.tenant object (λ o. with_named a o key Full (delete_record a)) s (λ o at.
+    when_named HasSoundParts a o key Full (delete_record a) s (λ r among of.
     let gone = going a.tenant r in
-    when_judged IsSound a.tenant (held a.tenant gone ∷ too_many a.tenant gone ∷ []) (accept done (without a.now gone a.tenant)) s (λ h.
+    when_judged HasSoundParts a.tenant (held a.tenant gone ∷ too_many a.tenant gone ∷ []) (accept done (without a.now gone a.tenant)) s (λ h.
     without_sound a.tenant s a.now day gone h.0 (closed_going a.tenant s r))))

@@ -2,6 +2,7 @@
 use Rattle.std.proofs.Common.{◌≡◌, ℕ, Bool, true, false, not, ◌&&◌, ◌||◌, cond, List, [], ◌∷◌, ◌++◌, map, Option, Some, None, refl, ap, sym, subst, ◌∙◌, bytes_eq, codes}
 use Rattle.std.specs.Prelude.{is_some, is_none}
 use Rattle.std.specs.Bool.{beq}
+use Rattle.std.specs.Str.{all_scalars}
 use Rattle.std.specs.List.{AllByRecursion, find, flat_map, list_all, list_any}
 use Rattle.std.specs.Option.{option_map, unwrap_or}
 use Rattle.ut_json.specs.Reading.{◌>>=◌}
@@ -33,6 +34,7 @@ use Rattle.ut_model.specs.SoundSharing.{is_grant}
 use Rattle.ut_model.specs.TypeForms.{deletions, in_bounds_type, lookup_type, number_type, picklist_type, simple_type, text_type, type_forms, type_in, type_of, where_so}
 use Rattle.ut_sound.specs.Fit.{IsFit, has_member, has_source}
 use Rattle.ut_sound.proofs.Parts.{both, both_left, both_right, or_left, or_right, same_exact, same_itself}
+use Rattle.ut_sound.proofs.RuleTexts.{AreSpelled, formed_same, text_spelled}
 
 -- ---- what is there
 pub some_is : {X : Type 0} (x y : X) → Some x ≡ Some y → x ≡ y
@@ -91,8 +93,8 @@ share_fits a body x e =
     let named = bound (text_in b.0 (codes "level")) (entry levels) l.0 l.1 in
     subst (IsFit a) (some_is _ x l.2) (level_fits named.0 l.0 named.2)
 
-source_fits : (b : Body) (s : SpelledSource) → source_in b ≡ Some s → has_source (member_names b) s ≡ true
-source_fits b s e = by (entry b (codes "from")) refl e
+source_fits : (b : Body) (s : SpelledSource) → AreSpelled b → source_in b ≡ Some s → has_source (member_names b) s ≡ true
+source_fits b s spelled e = by (entry b (codes "from")) refl e
   where
     one : (c : Bool) (v : Json) → entry b (codes "from") ≡ Some v → cond c (option_map from (as_text v >>= principal_in)) None ≡ Some s → has_source (member_names b) s ≡ true
     one true v w e =
@@ -103,11 +105,11 @@ source_fits b s e = by (entry b (codes "from")) refl e
     by : (o : Option Json) → entry b (codes "from") ≡ o
         → in_case o (option_map by_formula (text_in b (codes "formula"))) (λ v. cond (is_none (entry b (codes "formula"))) (option_map from (as_text v >>= principal_in)) None) ≡ Some s
         → has_source (member_names b) s ≡ true
-    by None w e = let t = mapped (text_in b (codes "formula")) by_formula s e in subst (λ (z : SpelledSource). has_source (member_names b) z ≡ true) t.2 refl
+    by None w e = let t = mapped (text_in b (codes "formula")) by_formula s e in subst (λ (z : SpelledSource). has_source (member_names b) z ≡ true) t.2 (text_spelled b (codes "formula") t.0 spelled t.1)
     by (Some v) w e = one (is_none (entry b (codes "formula"))) v w e
 
-pub rule_fits : (a : Asked) (body : Body) (x : Request) → sharing_rule_request body ≡ Some x → IsFit a x
-rule_fits a body x e =
+pub rule_fits : (a : Asked) (body : Body) (x : Request) → AreSpelled body → sharing_rule_request body ≡ Some x → IsFit a x
+rule_fits a body x spelled e =
     let b = bound (formed (codes "object" ∷ codes "name" ∷ codes "to" ∷ codes "level" ∷ []) (codes "from" ∷ codes "formula" ∷ []) body) _ x e in
     let object = bound (text_in b.0 (codes "object")) _ x b.2 in
     let name = bound (text_in b.0 (codes "name")) _ x object.2 in
@@ -119,7 +121,7 @@ rule_fits a body x e =
     let member = bound (entry b.0 (codes "to")) as_text value.0 value.1 in
     subst (IsFit a) (some_is _ x s.2)
     (both (is_grant l.0) (has_member (member_names b.0) (codes "to") && has_source (member_names b.0) s.0) (level_fits named.0 l.0 named.2)
-    (both (has_member (member_names b.0) (codes "to")) (has_source (member_names b.0) s.0) (entry_member b.0 (codes "to") member.0 member.1) (source_fits b.0 s.0 s.1)))
+    (both (has_member (member_names b.0) (codes "to")) (has_source (member_names b.0) s.0) (entry_member b.0 (codes "to") member.0 member.1) (source_fits b.0 s.0 (subst AreSpelled (formed_same (codes "object" ∷ codes "name" ∷ codes "to" ∷ codes "level" ∷ []) (codes "from" ∷ codes "formula" ∷ []) body b.0 b.1) spelled) s.1)))
 
 -- ---- objects
 any_before : (p : List ℕ → Bool) (xs ys : List (List ℕ)) → list_any p xs ≡ true → list_any p (xs ++ ys) ≡ true
@@ -213,15 +215,16 @@ access_fits a object body x e =
     let so = where_is (not (by_parent access.0)) _ x access.2 in
     subst (IsFit a) so.1 so.0
 
-pub validation_fits : (a : Asked) (body : Body) (x : Request) → validation_request body ≡ Some x → IsFit a x
-validation_fits a body x e =
+pub validation_fits : (a : Asked) (body : Body) (x : Request) → AreSpelled body → validation_request body ≡ Some x → IsFit a x
+validation_fits a body x spelled e =
     let b = bound (formed (codes "object" ∷ codes "name" ∷ codes "formula" ∷ codes "message" ∷ []) [] body) _ x e in
     let object = bound (text_in b.0 (codes "object")) _ x b.2 in
     let name = bound (text_in b.0 (codes "name")) _ x object.2 in
     let formula = bound (text_in b.0 (codes "formula")) _ x name.2 in
     let message = bound (text_in b.0 (codes "message")) _ x formula.2 in
     let so = where_is (is_name message.0) _ x message.2 in
-    subst (IsFit a) so.1 so.0
+    let same = formed_same (codes "object" ∷ codes "name" ∷ codes "formula" ∷ codes "message" ∷ []) [] body b.0 b.1 in
+    subst (IsFit a) so.1 (both (is_name message.0) (all_scalars formula.0) so.0 (text_spelled b.0 (codes "formula") formula.0 (subst AreSpelled same spelled) formula.1))
 
 -- ---- types: within their bounds, and no reference but a lookup
 abbrev IsRead : SpelledType → Type 0

@@ -9,7 +9,6 @@ use Rattle.ut_formula.specs.declared.formula.Formula.{Formula}
 use Rattle.ut_model.specs.declared.refusal.Refusal.TheVariants as refusal
 use Rattle.ut_model.specs.Cases.{in_case}
 use Rattle.ut_model.specs.Fields.{is_detail, same_name}
-use Rattle.ut_model.specs.Levels.{Reads}
 use Rattle.ut_model.specs.Metadata.{set_access}
 use Rattle.ut_model.specs.Objects.{Numbered, change_at, with_object_changed}
 use Rattle.ut_model.specs.Ordered.{put_in}
@@ -21,7 +20,7 @@ use Rattle.ut_model.specs.SoundFormulas.{AreFormulasSound, HasSoundFormulas, cri
 use Rattle.ut_model.specs.Tenant.{Job, Object, SharingRule, Source, owned, meets, Tenant, ValidationRule}
 use Rattle.ut_model.specs.ValidationRules.{NewValidationRule, add_validation_rule, validation_rules, with_validation_rule}
 use Rattle.ut_model.specs.Verdict.{accept, done, judged}
-use Rattle.ut_sound.specs.Fit.{ReadsByFields}
+use Rattle.ut_rule_text.specs.Reading.{ReadsByFields}
 use Rattle.ut_sound.proofs.Parts.{both, both_left, both_right, list_all_kept, list_all_more, list_all_put, pick, unrefused}
 use Rattle.ut_sound.proofs.ObjectsSound.{changed_at, or_not, with_one}
 use Rattle.ut_sound.proofs.PeopleSound.{when_judged}
@@ -35,37 +34,37 @@ formed (Ok f) e = refl
 formed (Err place) e = absurd cc
 
 -- a sharing rule of the object doesn't name the job's field, and a validation rule doesn't
-abbrev pub free : Reads → Job → Object → SharingRule → Bool
-free reads j x r = not ((r.object == j.object) && source_uses reads x j.field r.source)
+abbrev pub free : Job → Object → SharingRule → Bool
+free j x r = not ((r.object == j.object) && source_uses x j.field r.source)
 
-abbrev pub free_rule : Reads → Job → Object → ValidationRule → Bool
-free_rule reads j x r = not (uses reads x false j.field r.formula)
+abbrev pub free_rule : Job → Object → ValidationRule → Bool
+free_rule j x r = not (uses x false j.field r.formula)
 
 -- the job's field is named by none, while values are copied
-abbrev pub IsUnnamed : Reads → List Object → List SharingRule → Option Job → Type 0
-IsUnnamed reads os rules job = IfSome job (λ j. IsTrue (not (is_copy j.phase) || in_case (slice_get os j.object) true (is_unnamed reads rules j)))
+abbrev pub IsUnnamed : List Object → List SharingRule → Option Job → Type 0
+IsUnnamed os rules job = IfSome job (λ j. IsTrue (not (is_copy j.phase) || in_case (slice_get os j.object) true (is_unnamed rules j)))
 
 -- with other sharing rules
-unnamed_with : (reads : Reads) (os : List Object) (old new : List SharingRule) (job : Option Job) → IsUnnamed reads os old job
-    → ((j : Job) → job ≡ Some j → is_copy j.phase ≡ true → (x : Object) → slice_get os j.object ≡ Some x → list_all (free reads j x) old ≡ true → list_all (free reads j x) new ≡ true)
-    → IsUnnamed reads os new job
-unnamed_with reads os old new None h g = tt
-unnamed_with reads os old new (Some j) h g = by (is_copy j.phase) refl h
+unnamed_with : (os : List Object) (old new : List SharingRule) (job : Option Job) → IsUnnamed os old job
+    → ((j : Job) → job ≡ Some j → is_copy j.phase ≡ true → (x : Object) → slice_get os j.object ≡ Some x → list_all (free j x) old ≡ true → list_all (free j x) new ≡ true)
+    → IsUnnamed os new job
+unnamed_with os old new None h g = tt
+unnamed_with os old new (Some j) h g = by (is_copy j.phase) refl h
   where
-    by : (b : Bool) → is_copy j.phase ≡ b → (not b || in_case (slice_get os j.object) true (is_unnamed reads old j)) ≡ true → (not b || in_case (slice_get os j.object) true (is_unnamed reads new j)) ≡ true
+    by : (b : Bool) → is_copy j.phase ≡ b → (not b || in_case (slice_get os j.object) true (is_unnamed old j)) ≡ true → (not b || in_case (slice_get os j.object) true (is_unnamed new j)) ≡ true
     by false e h = refl
     by true e h = found (slice_get os j.object) refl h
       where
-        found : (x : Option Object) → slice_get os j.object ≡ x → in_case x true (is_unnamed reads old j) ≡ true → in_case x true (is_unnamed reads new j) ≡ true
+        found : (x : Option Object) → slice_get os j.object ≡ x → in_case x true (is_unnamed old j) ≡ true → in_case x true (is_unnamed new j) ≡ true
         found None w h = refl
         found (Some x) w h =
-            let first = list_all (free_rule reads j x) x.rules in
-            both first (list_all (free reads j x) new) (both_left first (list_all (free reads j x) old) h) (g j refl e x w (both_right first (list_all (free reads j x) old) h))
+            let first = list_all (free_rule j x) x.rules in
+            both first (list_all (free j x) new) (both_left first (list_all (free j x) old) h) (g j refl e x w (both_right first (list_all (free j x) old) h))
 
 -- ---- a new sharing rule
-new_reads : (reads : Reads) (o : Object) (source : SpelledSource) → in_case (source_formula reads o source) None malformed ≡ None → source_reads reads (source_of source) o ≡ true
-new_reads reads o (from p) e = refl
-new_reads reads o (by_formula text) e = formed (formula_of reads o true text) e
+new_reads : (o : Object) (source : SpelledSource) → in_case (source_formula o source) None malformed ≡ None → source_reads (source_of source) o ≡ true
+new_reads o (from p) e = refl
+new_reads o (by_formula text) e = formed (formula_of o true text) e
 
 -- the formula of a rule that isn't refused doesn't name the job's field
 not_busy : (t : Tenant) (n : ℕ) (f : Result Formula ℕ) → busy t n f ≡ None → (j : Job) → t.job ≡ Some j → is_copy j.phase ≡ true → j.object ≡ n → names_field (suc j.field) f ≡ false
@@ -79,115 +78,115 @@ not_busy t n f e j is copy same =
     parts true false c p q h = absurd cc
     parts false b c p q h = absurd cc
 
-new_free : (reads : Reads) (t : Tenant) (o : Numbered) → slice_get t.objects o.number ≡ Some o.object → (source : SpelledSource) → in_case (source_formula reads o.object source) None (busy t o.number) ≡ None
-    → (j : Job) → t.job ≡ Some j → is_copy j.phase ≡ true → (x : Object) → slice_get t.objects j.object ≡ Some x → not ((o.number == j.object) && source_uses reads x j.field (source_of source)) ≡ true
-new_free reads t o at (from p) e j is copy x w = pick (o.number == j.object) (λ b. not (b && false) ≡ true) (λ _. refl) (λ _. refl)
-new_free reads t o at (by_formula text) e j is copy x w =
-    pick (o.number == j.object) (λ b. not (b && names_field (suc j.field) (formula_of reads x true text)) ≡ true)
+new_free : (t : Tenant) (o : Numbered) → slice_get t.objects o.number ≡ Some o.object → (source : SpelledSource) → in_case (source_formula o.object source) None (busy t o.number) ≡ None
+    → (j : Job) → t.job ≡ Some j → is_copy j.phase ≡ true → (x : Object) → slice_get t.objects j.object ≡ Some x → not ((o.number == j.object) && source_uses x j.field (source_of source)) ≡ true
+new_free t o at (from p) e j is copy x w = pick (o.number == j.object) (λ b. not (b && false) ≡ true) (λ _. refl) (λ _. refl)
+new_free t o at (by_formula text) e j is copy x w =
+    pick (o.number == j.object) (λ b. not (b && names_field (suc j.field) (formula_of x true text)) ≡ true)
     (λ h.
     let same : o.number ≡ j.object = eqb-true o.number j.object h in
     let object : o.object ≡ x = some_is o.object x (sym at ∙ ap (slice_get t.objects) same ∙ w) in
-    ap (λ (z : Object). not (names_field (suc j.field) (formula_of reads z true text))) (sym object) ∙ ap not (not_busy t o.number (formula_of reads o.object true text) e j is copy (sym same)))
+    ap (λ (z : Object). not (names_field (suc j.field) (formula_of z true text))) (sym object) ∙ ap not (not_busy t o.number (formula_of o.object true text) e j is copy (sym same)))
     (λ _. refl)
 
-pub add_rule_formulas : (reads : Reads) (t : Tenant) (b : NewSharingRule) → AreFormulasSound reads t → AreFormulasSound reads (add_sharing_rule reads t b).tenant
-add_rule_formulas reads t b s =
-    when_object (AreFormulasSound reads) t b.object (λ o. judged t (sharing_rules reads t o b) (accept done (with_rule (new_rule t o.number b) t))) s (λ o at.
-    when_judged (AreFormulasSound reads) t (sharing_rules reads t o b) (accept done (with_rule (new_rule t o.number b) t)) s (λ h.
+pub add_rule_formulas : (t : Tenant) (b : NewSharingRule) → AreFormulasSound t → AreFormulasSound (add_sharing_rule t b).tenant
+add_rule_formulas t b s =
+    when_object AreFormulasSound t b.object (λ o. judged t (sharing_rules t o b) (accept done (with_rule (new_rule t o.number b) t))) s (λ o at.
+    when_judged AreFormulasSound t (sharing_rules t o b) (accept done (with_rule (new_rule t o.number b) t)) s (λ h.
     let r = new_rule t o.number b in
     let order : SharingRule → SharingRule → Ordering = λ a b. name_cmp a.name b.name in
     record {
       validations = s.validations;
       criteria =
-          list_all_put (criteria_read reads t.objects) order r t.rules s.criteria
-          (ap (λ z. in_case z false (source_reads reads (source_of b.source))) at ∙ new_reads reads o.object b.source h.1.1.1.1.1.0);
-      unnamed = unnamed_with reads t.objects t.rules (put_in order r t.rules) t.job s.unnamed (λ j is copy x w old.
-          list_all_put (free reads j x) order r t.rules old (new_free reads t o at b.source h.1.1.1.1.1.1.0 j is copy x w));
+          list_all_put (criteria_read t.objects) order r t.rules s.criteria
+          (ap (λ z. in_case z false (source_reads (source_of b.source))) at ∙ new_reads o.object b.source h.1.1.1.1.1.0);
+      unnamed = unnamed_with t.objects t.rules (put_in order r t.rules) t.job s.unnamed (λ j is copy x w old.
+          list_all_put (free j x) order r t.rules old (new_free t o at b.source h.1.1.1.1.1.1.0 j is copy x w));
     }))
 
-pub remove_rule_formulas : (reads : Reads) (t : Tenant) (name : List ℕ) → AreFormulasSound reads t → AreFormulasSound reads (remove_sharing_rule t name).tenant
-remove_rule_formulas reads t name s =
+pub remove_rule_formulas : (t : Tenant) (name : List ℕ) → AreFormulasSound t → AreFormulasSound (remove_sharing_rule t name).tenant
+remove_rule_formulas t name s =
     let p : SharingRule → Bool = λ r. not (same_name r.name name) in
-    when_judged (AreFormulasSound reads) t (refuse_if (not (list_any (λ r. same_name r.name name) t.rules)) refusal.NotFound ∷ []) (accept done (record t { rules = filter p t.rules })) s (λ h.
+    when_judged AreFormulasSound t (refuse_if (not (list_any (λ r. same_name r.name name) t.rules)) refusal.NotFound ∷ []) (accept done (record t { rules = filter p t.rules })) s (λ h.
     record {
       validations = s.validations;
-      criteria = list_all_kept (criteria_read reads t.objects) p t.rules s.criteria;
-      unnamed = unnamed_with reads t.objects t.rules (filter p t.rules) t.job s.unnamed (λ j is copy x w old. list_all_kept (free reads j x) p t.rules old);
+      criteria = list_all_kept (criteria_read t.objects) p t.rules s.criteria;
+      unnamed = unnamed_with t.objects t.rules (filter p t.rules) t.job s.unnamed (λ j is copy x w old. list_all_kept (free j x) p t.rules old);
     })
 
 -- ---- another access or other validation rules of one object
-module _ (reads : Reads) (law : ReadsByFields reads) (A : Object → Access) (R : Object → List ValidationRule) where
-  same_formula : (b : Bool) (x : Object) (c : Bool) (text : List ℕ) → formula_of reads (or_not A R b x) c text ≡ formula_of reads x c text
+module _ (law : ReadsByFields) (A : Object → Access) (R : Object → List ValidationRule) where
+  same_formula : (b : Bool) (x : Object) (c : Bool) (text : List ℕ) → formula_of (or_not A R b x) c text ≡ formula_of x c text
   unfolding formula_of
   same_formula b x c text = ap (λ z. cond (nat_lt 4000 (length text)) (Err 0) z) (law (or_not A R b x) x refl c text)
 
   abbrev spells : Object → ValidationRule → Bool
-  spells x r = is_ok (formula_of reads x false r.formula)
+  spells x r = is_ok (formula_of x false r.formula)
 
   validations_changed : (n : ℕ) (os : List Object) → ((x : Object) → slice_get os n ≡ Some x → list_all (spells x) x.rules ≡ true → list_all (spells x) (R x) ≡ true)
-      → list_all (validations_read reads) os ≡ true → list_all (validations_read reads) (change_at n (λ o. record o { access = A o; rules = R o }) os) ≡ true
+      → list_all validations_read os ≡ true → list_all validations_read (change_at n (λ o. record o { access = A o; rules = R o }) os) ≡ true
   validations_changed n [] g h = refl
   validations_changed zero (x ∷ os) g h =
       let now : Object = record x { access = A x; rules = R x } in
-      both (validations_read reads now) (list_all (validations_read reads) os)
-      (list_all_more (spells x) (spells now) (λ r e. ap (λ (z : Result Formula ℕ). is_ok z) (same_formula true x false r.formula) ∙ e) (R x) (g x refl (both_left (validations_read reads x) (list_all (validations_read reads) os) h)))
-      (both_right (validations_read reads x) (list_all (validations_read reads) os) h)
+      both (validations_read now) (list_all validations_read os)
+      (list_all_more (spells x) (spells now) (λ r e. ap (λ (z : Result Formula ℕ). is_ok z) (same_formula true x false r.formula) ∙ e) (R x) (g x refl (both_left (validations_read x) (list_all validations_read os) h)))
+      (both_right (validations_read x) (list_all validations_read os) h)
   validations_changed (suc n) (x ∷ os) g h =
-      both (validations_read reads x) (list_all (validations_read reads) (change_at n (λ o. record o { access = A o; rules = R o }) os))
-      (both_left (validations_read reads x) (list_all (validations_read reads) os) h) (validations_changed n os g (both_right (validations_read reads x) (list_all (validations_read reads) os) h))
+      both (validations_read x) (list_all validations_read (change_at n (λ o. record o { access = A o; rules = R o }) os))
+      (both_left (validations_read x) (list_all validations_read os) h) (validations_changed n os g (both_right (validations_read x) (list_all validations_read os) h))
 
-  source_changed : (b : Bool) (x : Object) (source : Source) → source_reads reads source (or_not A R b x) ≡ source_reads reads source x
+  source_changed : (b : Bool) (x : Object) (source : Source) → source_reads source (or_not A R b x) ≡ source_reads source x
   source_changed b x (owned p) = refl
   source_changed b x (meets text) = ap (λ (z : Result Formula ℕ). is_ok z) (same_formula b x true text)
 
-  uses_changed : (b : Bool) (x : Object) (place : ℕ) (source : Source) → source_uses reads (or_not A R b x) place source ≡ source_uses reads x place source
+  uses_changed : (b : Bool) (x : Object) (place : ℕ) (source : Source) → source_uses (or_not A R b x) place source ≡ source_uses x place source
   uses_changed b x place (owned p) = refl
   uses_changed b x place (meets text) = ap (names_field (suc place)) (same_formula b x true text)
 
-  module _ (t : Tenant) (s : AreFormulasSound reads t) (n : ℕ) where
+  module _ (t : Tenant) (s : AreFormulasSound t) (n : ℕ) where
     abbrev now : List Object
     now = change_at n (λ o. record o { access = A o; rules = R o }) t.objects
 
-    criteria_changed : (r : SharingRule) → criteria_read reads t.objects r ≡ true → criteria_read reads now r ≡ true
+    criteria_changed : (r : SharingRule) → criteria_read t.objects r ≡ true → criteria_read now r ≡ true
     criteria_changed r h = by (slice_get t.objects r.object) refl h
       where
-        by : (x : Option Object) → slice_get t.objects r.object ≡ x → in_case x false (source_reads reads r.source) ≡ true → criteria_read reads now r ≡ true
+        by : (x : Option Object) → slice_get t.objects r.object ≡ x → in_case x false (source_reads r.source) ≡ true → criteria_read now r ≡ true
         by None w h = absurd cc
-        by (Some x) w h = let c = changed_at A R n t.objects r.object x w in ap (λ z. in_case z false (source_reads reads r.source)) c.1 ∙ source_changed c.0 x r.source ∙ h
+        by (Some x) w h = let c = changed_at A R n t.objects r.object x w in ap (λ z. in_case z false (source_reads r.source)) c.1 ∙ source_changed c.0 x r.source ∙ h
 
     pub object_formulas : ((x : Object) → slice_get t.objects n ≡ Some x → list_all (spells x) x.rules ≡ true → list_all (spells x) (R x) ≡ true)
-        → ((j : Job) → t.job ≡ Some j → is_copy j.phase ≡ true → (x : Object) → slice_get t.objects j.object ≡ Some x → j.object ≡ n → list_all (free_rule reads j x) x.rules ≡ true → list_all (free_rule reads j x) (R x) ≡ true)
-        → HasSoundFormulas reads now t.rules t.job
+        → ((j : Job) → t.job ≡ Some j → is_copy j.phase ≡ true → (x : Object) → slice_get t.objects j.object ≡ Some x → j.object ≡ n → list_all (free_rule j x) x.rules ≡ true → list_all (free_rule j x) (R x) ≡ true)
+        → HasSoundFormulas now t.rules t.job
     object_formulas good good_free =
         record {
           validations = validations_changed n t.objects good s.validations;
-          criteria = list_all_more (criteria_read reads t.objects) (criteria_read reads now) criteria_changed t.rules s.criteria;
+          criteria = list_all_more (criteria_read t.objects) (criteria_read now) criteria_changed t.rules s.criteria;
           unnamed = job_free t.job refl s.unnamed;
         }
       where
-        still : (j : Job) (x : Object) (b : Bool) → (b ≡ true → list_all (free_rule reads j x) x.rules ≡ true → list_all (free_rule reads j x) (R x) ≡ true) → is_unnamed reads t.rules j x ≡ true → is_unnamed reads t.rules j (or_not A R b x) ≡ true
+        still : (j : Job) (x : Object) (b : Bool) → (b ≡ true → list_all (free_rule j x) x.rules ≡ true → list_all (free_rule j x) (R x) ≡ true) → is_unnamed t.rules j x ≡ true → is_unnamed t.rules j (or_not A R b x) ≡ true
         still j x b g h =
             let y = or_not A R b x in
-            let first = list_all (free_rule reads j x) x.rules in
-            let second = list_all (free reads j x) t.rules in
-            both (list_all (free_rule reads j y) y.rules) (list_all (free reads j y) t.rules)
-            (list_all_more (free_rule reads j x) (free_rule reads j y) (λ r e. ap (λ (z : Result Formula ℕ). not (names_field (suc j.field) z)) (same_formula b x false r.formula) ∙ e) y.rules (rules_free b g (both_left first second h)))
-            (list_all_more (free reads j x) (free reads j y) (λ r e. ap (λ z. not ((r.object == j.object) && z)) (uses_changed b x j.field r.source) ∙ e) t.rules (both_right first second h))
+            let first = list_all (free_rule j x) x.rules in
+            let second = list_all (free j x) t.rules in
+            both (list_all (free_rule j y) y.rules) (list_all (free j y) t.rules)
+            (list_all_more (free_rule j x) (free_rule j y) (λ r e. ap (λ (z : Result Formula ℕ). not (names_field (suc j.field) z)) (same_formula b x false r.formula) ∙ e) y.rules (rules_free b g (both_left first second h)))
+            (list_all_more (free j x) (free j y) (λ r e. ap (λ z. not ((r.object == j.object) && z)) (uses_changed b x j.field r.source) ∙ e) t.rules (both_right first second h))
           where
-            rules_free : (b : Bool) → (b ≡ true → list_all (free_rule reads j x) x.rules ≡ true → list_all (free_rule reads j x) (R x) ≡ true) → list_all (free_rule reads j x) x.rules ≡ true → list_all (free_rule reads j x) (cond b (R x) x.rules) ≡ true
+            rules_free : (b : Bool) → (b ≡ true → list_all (free_rule j x) x.rules ≡ true → list_all (free_rule j x) (R x) ≡ true) → list_all (free_rule j x) x.rules ≡ true → list_all (free_rule j x) (cond b (R x) x.rules) ≡ true
             rules_free true g h = g refl h
             rules_free false g h = h
 
-        job_free : (job : Option Job) → t.job ≡ job → IsUnnamed reads t.objects t.rules job → IsUnnamed reads now t.rules job
+        job_free : (job : Option Job) → t.job ≡ job → IsUnnamed t.objects t.rules job → IsUnnamed now t.rules job
         job_free None e h = tt
         job_free (Some j) e h = by (is_copy j.phase) refl h
           where
-            by : (b : Bool) → is_copy j.phase ≡ b → (not b || in_case (slice_get t.objects j.object) true (is_unnamed reads t.rules j)) ≡ true → (not b || in_case (slice_get now j.object) true (is_unnamed reads t.rules j)) ≡ true
+            by : (b : Bool) → is_copy j.phase ≡ b → (not b || in_case (slice_get t.objects j.object) true (is_unnamed t.rules j)) ≡ true → (not b || in_case (slice_get now j.object) true (is_unnamed t.rules j)) ≡ true
             by false w h = refl
             by true w h = found (slice_get t.objects j.object) refl h
               where
-                found : (x : Option Object) → slice_get t.objects j.object ≡ x → in_case x true (is_unnamed reads t.rules j) ≡ true → in_case (slice_get now j.object) true (is_unnamed reads t.rules j) ≡ true
-                found None v h = ap (λ z. in_case z true (is_unnamed reads t.rules j)) (none_changed n t.objects j.object v)
+                found : (x : Option Object) → slice_get t.objects j.object ≡ x → in_case x true (is_unnamed t.rules j) ≡ true → in_case (slice_get now j.object) true (is_unnamed t.rules j) ≡ true
+                found None v h = ap (λ z. in_case z true (is_unnamed t.rules j)) (none_changed n t.objects j.object v)
                   where
                     none_changed : (n : ℕ) (os : List Object) (m : ℕ) → slice_get os m ≡ None → slice_get (change_at n (λ o. record o { access = A o; rules = R o }) os) m ≡ None
                     none_changed n [] m e = e
@@ -197,25 +196,25 @@ module _ (reads : Reads) (law : ReadsByFields reads) (A : Object → Access) (R 
                     none_changed (suc n) (x ∷ os) (suc m) e = none_changed n os m e
                 found (Some x) v h =
                     let c = changed_at A R n t.objects j.object x v in
-                    ap (λ z. in_case z true (is_unnamed reads t.rules j)) c.1 ∙ still j x c.0 (λ b. good_free j e w x v (c.2 b)) h
+                    ap (λ z. in_case z true (is_unnamed t.rules j)) c.1 ∙ still j x c.0 (λ b. good_free j e w x v (c.2 b)) h
 
-pub set_access_formulas : (reads : Reads) → ReadsByFields reads → (t : Tenant) (object : List ℕ) (access : Access) → AreFormulasSound reads t → AreFormulasSound reads (set_access t object access).tenant
-set_access_formulas reads law t object access s =
-    when_object (AreFormulasSound reads) t object (λ o. judged t (refuse_if (is_detail o.object) (refusal.InvalidType o.object.name) ∷ []) (accept done (with_object_changed o.number (λ x. record x { access = access }) t))) s (λ o at.
-    when_judged (AreFormulasSound reads) t (refuse_if (is_detail o.object) (refusal.InvalidType o.object.name) ∷ []) (accept done (with_object_changed o.number (λ x. record x { access = access }) t)) s (λ h.
-    object_formulas reads law (λ x. access) (λ x. x.rules) t s o.number (λ x e g. g) (λ j is copy x w same g. g)))
+pub set_access_formulas : ReadsByFields → (t : Tenant) (object : List ℕ) (access : Access) → AreFormulasSound t → AreFormulasSound (set_access t object access).tenant
+set_access_formulas law t object access s =
+    when_object AreFormulasSound t object (λ o. judged t (refuse_if (is_detail o.object) (refusal.InvalidType o.object.name) ∷ []) (accept done (with_object_changed o.number (λ x. record x { access = access }) t))) s (λ o at.
+    when_judged AreFormulasSound t (refuse_if (is_detail o.object) (refusal.InvalidType o.object.name) ∷ []) (accept done (with_object_changed o.number (λ x. record x { access = access }) t)) s (λ h.
+    object_formulas law (λ x. access) (λ x. x.rules) t s o.number (λ x e g. g) (λ j is copy x w same g. g)))
 
-pub add_validation_formulas : (reads : Reads) → ReadsByFields reads → (t : Tenant) (b : NewValidationRule) → AreFormulasSound reads t → AreFormulasSound reads (add_validation_rule reads t b).tenant
-add_validation_formulas reads law t b s =
+pub add_validation_formulas : ReadsByFields → (t : Tenant) (b : NewValidationRule) → AreFormulasSound t → AreFormulasSound (add_validation_rule t b).tenant
+add_validation_formulas law t b s =
     let r = b.rule in
-    when_object (AreFormulasSound reads) t b.object (λ o. judged t (validation_rules reads t o r) (accept done (with_object_changed o.number (with_validation_rule r) t))) s (λ o at.
-    when_judged (AreFormulasSound reads) t (validation_rules reads t o r) (accept done (with_object_changed o.number (with_validation_rule r) t)) s (λ h.
-    object_formulas reads law (λ x. x.access) (with_one r) t s o.number
+    when_object AreFormulasSound t b.object (λ o. judged t (validation_rules t o r) (accept done (with_object_changed o.number (with_validation_rule r) t))) s (λ o at.
+    when_judged AreFormulasSound t (validation_rules t o r) (accept done (with_object_changed o.number (with_validation_rule r) t)) s (λ h.
+    object_formulas law (λ x. x.access) (with_one r) t s o.number
     (λ x e g.
     let same : o.object ≡ x = some_is o.object x (sym at ∙ e) in
-    list_all_put (λ (q : ValidationRule). is_ok (formula_of reads x false q.formula)) (λ a b. name_cmp a.name b.name) r x.rules g
-    (ap (λ (z : Object). is_ok (formula_of reads z false r.formula)) (sym same) ∙ formed (formula_of reads o.object false r.formula) h.1.1.0))
+    list_all_put (λ (q : ValidationRule). is_ok (formula_of x false q.formula)) (λ a b. name_cmp a.name b.name) r x.rules g
+    (ap (λ (z : Object). is_ok (formula_of z false r.formula)) (sym same) ∙ formed (formula_of o.object false r.formula) h.1.1.0))
     (λ j is copy x w here_is g.
     let same : o.object ≡ x = some_is o.object x (sym at ∙ ap (slice_get t.objects) (sym here_is) ∙ w) in
-    list_all_put (free_rule reads j x) (λ a b. name_cmp a.name b.name) r x.rules g
-    (ap (λ (z : Object). not (names_field (suc j.field) (formula_of reads z false r.formula))) (sym same) ∙ ap not (not_busy t o.number (formula_of reads o.object false r.formula) h.1.1.1.0 j is copy here_is)))))
+    list_all_put (free_rule j x) (λ a b. name_cmp a.name b.name) r x.rules g
+    (ap (λ (z : Object). not (names_field (suc j.field) (formula_of z false r.formula))) (sym same) ∙ ap not (not_busy t o.number (formula_of o.object false r.formula) h.1.1.1.0 j is copy here_is)))))

@@ -27,7 +27,7 @@ use Rattle.ut_model.specs.Keys.{with_key}
 use Rattle.ut_model.specs.Membership.{Has}
 use Rattle.ut_model.specs.Names.{is_custom_name, is_stem}
 use Rattle.ut_model.specs.Paths.{Asked}
-use Rattle.ut_model.specs.Sound.{IsSound}
+use Rattle.ut_sound.proofs.SoundParts.{HasSoundParts}
 use Rattle.ut_model.specs.SoundMetadata.{IsSoundField, names_differ}
 use Rattle.ut_model.specs.SoundRecords.{all_valid, kinds_of}
 use Rattle.ut_model.specs.Tenant.{Field, Object, Tenant}
@@ -190,7 +190,7 @@ module _ (law : ReadLaw) where
       by (Ok w) g e = law f.kind (c ∷ cs) v h (g ∙ ap was_read (given_is w v e))
       by (Err why) g e = absurd cc
 
-  pub key_fits : (a : Asked) (key : List ℕ) (text : Option (List ℕ)) (given : List Assignment) → IsSound a.tenant → list_all (λ x. is_spelled x.given) given ≡ true → in_case text true all_scalars ≡ true
+  pub key_fits : (a : Asked) (key : List ℕ) (text : Option (List ℕ)) (given : List Assignment) → HasSoundParts a.tenant → list_all (λ x. is_spelled x.given) given ≡ true → in_case text true all_scalars ≡ true
       → OfObjects a (λ o. ReadsWellByKey a key text o given)
   key_fits a key text given sound spelled scalars n o there f v named read =
       let place = numbered_field 1 o.fields f (found_and (λ (f : ℕ × Field). f.1.unique && same_name f.1.name key) (enumerate_from 1 o.fields) f named).0 in

@@ -18,7 +18,7 @@ use Rattle.ut_model.specs.Objects.{object_number, record_prefix}
 use Rattle.ut_model.specs.Relationships.{Reference, references_of}
 use Rattle.ut_model.specs.Rules.{refuse_if}
 use Rattle.ut_model.specs.Cases.{in_case}
-use Rattle.ut_model.specs.Sound.{IsSound}
+use Rattle.ut_sound.proofs.SoundParts.{HasSoundParts}
 use Rattle.ut_model.specs.SoundJob.{HasSoundJob, IsSoundJob}
 use Rattle.ut_model.specs.SoundPeople.{HasSoundUsers, HasSoundRoles, HasSoundGroups, IsSoundUser, IsSoundRole, IsSoundGroup}
 use Rattle.ut_model.specs.SoundRecords.{HasSoundRecords, IsSoundRecord, is_sound_owner, is_sound_reference, record_id}
@@ -186,7 +186,7 @@ pub record_prefix_size : (n : ℕ) → length (record_prefix n) ≡ 3
 unfolding record_prefix digits
 record_prefix_size n = refl
 
-pub names_numbered : (t : Tenant) → IsSound t → (i : List ℕ) → names_any (known t) i ≡ true → IsNumbered t.counter i
+pub names_numbered : (t : Tenant) → HasSoundParts t → (i : List ℕ) → names_any (known t) i ≡ true → IsNumbered t.counter i
 names_numbered t s i h =
     let k = known t in
     elim (or_cases (k.user i) (k.role i || (k.group i || k.item i)) h) [
@@ -205,7 +205,7 @@ pub numbers_less : (k l : Known) → ((i : List ℕ) → names_any l i ≡ true 
 numbers_less k l back h i j a b e = h i j (back i a) (back j b) e
 
 -- one more, whose number is the counter
-pub numbers_more : IdLaws → (t : Tenant) → IsSound t → (l : Known) (p : List ℕ) → length p ≡ 3
+pub numbers_more : IdLaws → (t : Tenant) → HasSoundParts t → (l : Known) (p : List ℕ) → length p ≡ 3
     → ((i : List ℕ) → names_any l i ≡ true → (names_any (known t) i ≡ true) ⊎ (i ≡ made p t.counter)) → NumbersDiffer l
 numbers_more ids t s l p size back i j a b e =
     elim (back i a) [
@@ -224,7 +224,7 @@ numbers_more ids t s l p size back i j a b e =
         omega (arith, same, low)
 
 -- the new id names nothing yet
-pub unnamed_yet : IdLaws → (t : Tenant) → IsSound t → (p : List ℕ) → length p ≡ 3 → names_any (known t) (made p t.counter) ≡ true → ⊥
+pub unnamed_yet : IdLaws → (t : Tenant) → HasSoundParts t → (p : List ℕ) → length p ≡ 3 → names_any (known t) (made p t.counter) ≡ true → ⊥
 unnamed_yet ids t s p size h =
     let d = names_numbered t s (made p t.counter) h in
     let c : t.counter ≤ 999999999999999 = s.counter in

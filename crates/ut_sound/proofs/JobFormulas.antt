@@ -11,7 +11,6 @@ use Rattle.ut_model.specs.declared.refusal.Refusal.TheVariants as refusal
 use Rattle.ut_model.specs.Cases.{in_case}
 use Rattle.ut_model.specs.Fields.{Column, Where, column_named}
 use Rattle.ut_model.specs.Jobs.{clear_step, copy_step, failed_at, job_step, moved, new_value, next_hundred, step_in, switched}
-use Rattle.ut_model.specs.Levels.{Reads}
 use Rattle.ut_model.specs.declared.metadata_bodies.SpelledType.{SpelledType}
 use Rattle.ut_model.specs.Objects.{Numbered}
 use Rattle.ut_model.specs.Retyping.{begin_on, begin_retype, cancel_retype, in_use, new_job, new_type, place_to_change, source_uses, to_clear, under_way, uses, with_job}
@@ -26,77 +25,77 @@ use Rattle.ut_sound.proofs.FormulasSound.{IsUnnamed, free, free_rule}
 use Rattle.ut_sound.proofs.PeopleSound.{when_judged}
 use Rattle.ut_sound.proofs.SharingSound.{when_object}
 
-module _ (reads : Reads) (t : Tenant) (s : AreFormulasSound reads t) where
-  job_formulas : (j : Job) → IsUnnamed reads t.objects t.rules (Some j) → AreFormulasSound reads (with_job j t)
+module _ (t : Tenant) (s : AreFormulasSound t) where
+  job_formulas : (j : Job) → IsUnnamed t.objects t.rules (Some j) → AreFormulasSound (with_job j t)
   job_formulas j h = record { validations = s.validations; criteria = s.criteria; unnamed = h }
 
   -- no rule names the field of a job that begins
-  begun : (o : Numbered) → slice_get t.objects o.number ≡ Some o.object → (place : ℕ) (to : FieldType) (field : List ℕ) → in_use reads t o place field ≡ None → IsUnnamed reads t.objects t.rules (Some (new_job o.number place to))
+  begun : (o : Numbered) → slice_get t.objects o.number ≡ Some o.object → (place : ℕ) (to : FieldType) (field : List ℕ) → in_use t o place field ≡ None → IsUnnamed t.objects t.rules (Some (new_job o.number place to))
   begun o at place to field e =
       let j = new_job o.number place to in
       let rules = none_refuses (
-      first_of (λ (r : ValidationRule). refuse_if (uses reads o.object false place r.formula) (refusal.FieldInUse field r.name)) o.object.rules
-      ∷ first_of (λ (r : SharingRule). refuse_if ((r.object == o.number) && source_uses reads o.object place r.source) (refusal.FieldInUse field r.name)) t.rules ∷ []) e in
-      ap (λ z. in_case z true (is_unnamed reads t.rules j)) at
-      ∙ both (list_all (free_rule reads j o.object) o.object.rules) (list_all (free reads j o.object) t.rules)
-      (list_all_from (free_rule reads j o.object) o.object.rules (λ r m.
-      ap not (unrefused (uses reads o.object false place r.formula) (refusal.FieldInUse field r.name)
-      (none_for_each (λ (r : ValidationRule). refuse_if (uses reads o.object false place r.formula) (refusal.FieldInUse field r.name)) o.object.rules rules.0 r m))))
-      (list_all_from (free reads j o.object) t.rules (λ r m.
-      ap not (unrefused ((r.object == o.number) && source_uses reads o.object place r.source) (refusal.FieldInUse field r.name)
-      (none_for_each (λ (r : SharingRule). refuse_if ((r.object == o.number) && source_uses reads o.object place r.source) (refusal.FieldInUse field r.name)) t.rules rules.1.0 r m))))
+      first_of (λ (r : ValidationRule). refuse_if (uses o.object false place r.formula) (refusal.FieldInUse field r.name)) o.object.rules
+      ∷ first_of (λ (r : SharingRule). refuse_if ((r.object == o.number) && source_uses o.object place r.source) (refusal.FieldInUse field r.name)) t.rules ∷ []) e in
+      ap (λ z. in_case z true (is_unnamed t.rules j)) at
+      ∙ both (list_all (free_rule j o.object) o.object.rules) (list_all (free j o.object) t.rules)
+      (list_all_from (free_rule j o.object) o.object.rules (λ r m.
+      ap not (unrefused (uses o.object false place r.formula) (refusal.FieldInUse field r.name)
+      (none_for_each (λ (r : ValidationRule). refuse_if (uses o.object false place r.formula) (refusal.FieldInUse field r.name)) o.object.rules rules.0 r m))))
+      (list_all_from (free j o.object) t.rules (λ r m.
+      ap not (unrefused ((r.object == o.number) && source_uses o.object place r.source) (refusal.FieldInUse field r.name)
+      (none_for_each (λ (r : SharingRule). refuse_if ((r.object == o.number) && source_uses o.object place r.source) (refusal.FieldInUse field r.name)) t.rules rules.1.0 r m))))
 
-  begin_on_formulas : (o : Numbered) → slice_get t.objects o.number ≡ Some o.object → (to : FieldType) (field : List ℕ) (w : Where) → AreFormulasSound reads (begin_on reads t o to field w).tenant
+  begin_on_formulas : (o : Numbered) → slice_get t.objects o.number ≡ Some o.object → (to : FieldType) (field : List ℕ) (w : Where) → AreFormulasSound (begin_on t o to field w).tenant
   begin_on_formulas o at to field w =
-      when_judged (AreFormulasSound reads) t (under_way t ∷ [])
-      (in_case (place_to_change o.object to w) (refuse t (refusal.RetypeUnsupported field)) (λ place. judged t (in_use reads t o place field ∷ []) (accept done (with_job (new_job o.number place to) t)))) s (λ _.
+      when_judged AreFormulasSound t (under_way t ∷ [])
+      (in_case (place_to_change o.object to w) (refuse t (refusal.RetypeUnsupported field)) (λ place. judged t (in_use t o place field ∷ []) (accept done (with_job (new_job o.number place to) t)))) s (λ _.
       by (place_to_change o.object to w))
     where
-      by : (p : Option ℕ) → AreFormulasSound reads (in_case p (refuse t (refusal.RetypeUnsupported field)) (λ place. judged t (in_use reads t o place field ∷ []) (accept done (with_job (new_job o.number place to) t)))).tenant
+      by : (p : Option ℕ) → AreFormulasSound (in_case p (refuse t (refusal.RetypeUnsupported field)) (λ place. judged t (in_use t o place field ∷ []) (accept done (with_job (new_job o.number place to) t)))).tenant
       by None = s
       by (Some place) =
-          when_judged (AreFormulasSound reads) t (in_use reads t o place field ∷ []) (accept done (with_job (new_job o.number place to) t)) s (λ h.
+          when_judged AreFormulasSound t (in_use t o place field ∷ []) (accept done (with_job (new_job o.number place to) t)) s (λ h.
           job_formulas (new_job o.number place to) (begun o at place to field h.0))
 
-  pub begin_formulas : (object field : List ℕ) (to : SpelledType) → AreFormulasSound reads (begin_retype reads t object field to).tenant
+  pub begin_formulas : (object field : List ℕ) (to : SpelledType) → AreFormulasSound (begin_retype t object field to).tenant
   begin_formulas object field to =
-      when_object (AreFormulasSound reads) t object (λ o. in_case (column_named o.object field) (refuse t (refusal.InvalidField field)) (λ c. begin_on reads t o (new_type to) c.name c.at)) s (λ o at. by o at (column_named o.object field))
+      when_object AreFormulasSound t object (λ o. in_case (column_named o.object field) (refuse t (refusal.InvalidField field)) (λ c. begin_on t o (new_type to) c.name c.at)) s (λ o at. by o at (column_named o.object field))
     where
-      by : (o : Numbered) → slice_get t.objects o.number ≡ Some o.object → (c : Option Column) → AreFormulasSound reads (in_case c (refuse t (refusal.InvalidField field)) (λ c. begin_on reads t o (new_type to) c.name c.at)).tenant
+      by : (o : Numbered) → slice_get t.objects o.number ≡ Some o.object → (c : Option Column) → AreFormulasSound (in_case c (refuse t (refusal.InvalidField field)) (λ c. begin_on t o (new_type to) c.name c.at)).tenant
       by o at None = s
       by o at (Some c) = begin_on_formulas o at (new_type to) c.name c.at
 
-  pub cancel_formulas : AreFormulasSound reads (cancel_retype t).tenant
+  pub cancel_formulas : AreFormulasSound (cancel_retype t).tenant
   cancel_formulas = by t.job
     where
-      by : (job : Option Job) → AreFormulasSound reads (in_case job (refuse t refusal.NotFound) (λ j. judged t (refuse_if (not (is_copy j.phase)) refusal.NotFound ∷ []) (accept done (with_job (to_clear outcome.Cancelled j) t)))).tenant
+      by : (job : Option Job) → AreFormulasSound (in_case job (refuse t refusal.NotFound) (λ j. judged t (refuse_if (not (is_copy j.phase)) refusal.NotFound ∷ []) (accept done (with_job (to_clear outcome.Cancelled j) t)))).tenant
       by None = s
       by (Some j) =
-          when_judged (AreFormulasSound reads) t (refuse_if (not (is_copy j.phase)) refusal.NotFound ∷ []) (accept done (with_job (to_clear outcome.Cancelled j) t)) s (λ _.
+          when_judged AreFormulasSound t (refuse_if (not (is_copy j.phase)) refusal.NotFound ∷ []) (accept done (with_job (to_clear outcome.Cancelled j) t)) s (λ _.
           job_formulas (to_clear outcome.Cancelled j) refl)
 
   -- a step but the switch
-  pub step_formulas : ((j : Job) → t.job ≡ Some j → j.phase ≡ phase.Copy → next_hundred t j ≡ [] → AreFormulasSound reads (switched j t)) → AreFormulasSound reads (job_step t)
+  pub step_formulas : ((j : Job) → t.job ≡ Some j → j.phase ≡ phase.Copy → next_hundred t j ≡ [] → AreFormulasSound (switched j t)) → AreFormulasSound (job_step t)
   unfolding job_step
   step_formulas switch = by t.job refl s.unnamed
     where
-      by : (job : Option Job) → t.job ≡ job → IsUnnamed reads t.objects t.rules job → AreFormulasSound reads (in_case job t (λ j. step_in j.phase j t))
+      by : (job : Option Job) → t.job ≡ job → IsUnnamed t.objects t.rules job → AreFormulasSound (in_case job t (λ j. step_in j.phase j t))
       by None e h = s
       by (Some j) e h = phased j.phase refl
         where
-          phased : (p : Phase) → j.phase ≡ p → AreFormulasSound reads (step_in p j t)
+          phased : (p : Phase) → j.phase ≡ p → AreFormulasSound (step_in p j t)
           phased phase.Copy c = copying (next_hundred t j) refl
             where
-              copying : (rs : List Record) → next_hundred t j ≡ rs → AreFormulasSound reads (copy_step j rs t)
+              copying : (rs : List Record) → next_hundred t j ≡ rs → AreFormulasSound (copy_step j rs t)
               copying [] w = switch j e c w
               copying (r ∷ rs) w = found (find (λ z. is_none (new_value j z)) (r ∷ rs))
                 where
-                  found : (x : Option Record) → AreFormulasSound reads (with_job (in_case x (moved j (r ∷ rs)) (failed_at j)) t)
+                  found : (x : Option Record) → AreFormulasSound (with_job (in_case x (moved j (r ∷ rs)) (failed_at j)) t)
                   found None = job_formulas (moved j (r ∷ rs)) h
                   found (Some x) = job_formulas (failed_at j x) refl
           phased phase.Clear c = clearing (next_hundred t j)
             where
-              clearing : (rs : List Record) → AreFormulasSound reads (clear_step j rs t)
+              clearing : (rs : List Record) → AreFormulasSound (clear_step j rs t)
               clearing [] = job_formulas (record j { phase = phase.Done }) refl
               clearing (r ∷ rs) = job_formulas (moved j (r ∷ rs)) h
           phased phase.Done c = s

@@ -26,7 +26,7 @@ use Rattle.ut_model.specs.Objects.{is_of, object_number, record_prefix, records_
 use Rattle.ut_model.specs.Retyping.{cancel_retype, to_clear, with_job}
 use Rattle.ut_model.specs.RuleFormulas.{is_copy}
 use Rattle.ut_model.specs.Rules.{refuse_if}
-use Rattle.ut_model.specs.Sound.{IsSound}
+use Rattle.ut_sound.proofs.SoundParts.{HasSoundParts}
 use Rattle.ut_model.specs.SoundJob.{HasSoundJob, IsSoundJob, copies, is_failed, is_open, is_switched}
 use Rattle.ut_model.specs.SoundRecords.{IsSoundRecord, record_id, those_of}
 use Rattle.ut_model.specs.SoundSharing.{IsCursor}
@@ -39,12 +39,12 @@ use Rattle.ut_sound.proofs.ContentSound.{none_found}
 use Rattle.ut_sound.proofs.PeopleSound.{when_judged}
 use Rattle.ut_sound.proofs.UpsertsSound.{found_record}
 
-pub job_changed : (t : Tenant) (j : Job) → IsSound t → IsSoundJob t.counter t.objects t.records j → IsSound (with_job j t)
+pub job_changed : (t : Tenant) (j : Job) → HasSoundParts t → IsSoundJob t.counter t.objects t.records j → HasSoundParts (with_job j t)
 job_changed t j s h =
     record { name = s.name; counter = s.counter; numbers = s.numbers; users = s.users; roles = s.roles; groups = s.groups; metadata = s.metadata; records = s.records; rules = s.rules; shares = s.shares; job = h }
 
 -- a record of the object may be a cursor
-pub cursor_of : (t : Tenant) → IsSound t → (n : ℕ) (r : Record) → Has t.records r → is_of n r ≡ true → IsDrawn (record_prefix n) t.counter r.id
+pub cursor_of : (t : Tenant) → HasSoundParts t → (n : ℕ) (r : Record) → Has t.records r → is_of n r ≡ true → IsDrawn (record_prefix n) t.counter r.id
 cursor_of t s n r m of =
     let x = all_at (IsSoundRecord (known t) t.objects) r t.records s.records.each m in
     (x.number, x.drawn, x.id ∙ ap (λ (k : ℕ). made (record_prefix k) x.number) (eqb-true (object_number r.id) n of))
@@ -98,7 +98,7 @@ covers (suc n) (x ∷ xs) h last e y (inr m) le = by (take n xs) refl e (λ e. c
     by (z ∷ zs) t e more = inr (more (ap last_id t ∙ e))
 
 -- ---- a step
-module _ (t : Tenant) (s : IsSound t) (j : Job) (h : IsSoundJob t.counter t.objects t.records j) where
+module _ (t : Tenant) (s : HasSoundParts t) (j : Job) (h : IsSoundJob t.counter t.objects t.records j) where
   abbrev left : List Record
   left = filter (λ r. is_past j.cursor r.id) (records_of t j.object)
 
@@ -158,11 +158,11 @@ module _ (t : Tenant) (s : IsSound t) (j : Job) (h : IsSoundJob t.counter t.obje
           (covers 100 left (rise_kept (slice_cmp nat_cmp) record_id (λ r. is_past j.cursor r.id) (records_of t j.object) (rise_kept (slice_cmp nat_cmp) record_id (is_of j.object) t.records s.records.rise))
           x.0.id (ap last_id e ∙ x.2) y (kept_among (λ r. is_past j.cursor r.id) (records_of t j.object) y m (before_or_left y past)) le)
 
-  pub copy_moves : j.phase ≡ phase.Copy → (r : Record) (rs : List Record) → next_hundred t j ≡ r ∷ rs → IsSound (copy_step j (r ∷ rs) t)
+  pub copy_moves : j.phase ≡ phase.Copy → (r : Record) (rs : List Record) → next_hundred t j ≡ r ∷ rs → HasSoundParts (copy_step j (r ∷ rs) t)
   copy_moves copy r rs e = by (find (λ z. is_none (new_value j z)) (r ∷ rs)) refl
     where
       by : (f : Option Record) → find (λ z. is_none (new_value j z)) (r ∷ rs) ≡ f
-          → IsSound (with_job (in_case f (moved j (r ∷ rs)) (failed_at j)) t)
+          → HasSoundParts (with_job (in_case f (moved j (r ∷ rs)) (failed_at j)) t)
       by None w =
           job_changed t (moved j (r ∷ rs)) s (record {
             field = h.field;
@@ -178,7 +178,7 @@ module _ (t : Tenant) (s : IsSound t) (j : Job) (h : IsSoundJob t.counter t.obje
           let m = next_of x (subst (λ (zs : List Record). Has zs x) (sym e) (found_record (λ z. is_none (new_value j z)) (r ∷ rs) x w)) in
           job_changed t (failed_at j x) s (cleared t j outcome.Failed (Some x.id) refl refl refl (cursor_of t s j.object x m.0 m.1) h)
 
-  clear_moves : j.phase ≡ phase.Clear → (zs : List Record) → next_hundred t j ≡ zs → IsSound (clear_step j zs t)
+  clear_moves : j.phase ≡ phase.Clear → (zs : List Record) → next_hundred t j ≡ zs → HasSoundParts (clear_step j zs t)
   clear_moves clear [] e =
       job_changed t (record j { phase = phase.Done }) s (record {
         field = h.field;
@@ -204,35 +204,35 @@ module _ (t : Tenant) (s : IsSound t) (j : Job) (h : IsSoundJob t.counter t.obje
       })
 
 -- a step, where the switch leaves a sound tenant
-pub step_sound : (t : Tenant) → ((j : Job) → t.job ≡ Some j → j.phase ≡ phase.Copy → next_hundred t j ≡ [] → IsSound (switched j t)) → IsSound t → IsSound (job_step t)
+pub step_sound : (t : Tenant) → ((j : Job) → t.job ≡ Some j → j.phase ≡ phase.Copy → next_hundred t j ≡ [] → HasSoundParts (switched j t)) → HasSoundParts t → HasSoundParts (job_step t)
 unfolding job_step
 step_sound t switch s = by t.job refl
   where
-    by : (job : Option Job) → t.job ≡ job → IsSound (in_case job t (λ j. step_in j.phase j t))
+    by : (job : Option Job) → t.job ≡ job → HasSoundParts (in_case job t (λ j. step_in j.phase j t))
     by None e = s
     by (Some j) e = phased j.phase refl
       where
         h : IsSoundJob t.counter t.objects t.records j
         h = subst (λ (z : Option Job). HasSoundJob t.counter t.objects t.records z) e s.job
 
-        phased : (p : Phase) → j.phase ≡ p → IsSound (step_in p j t)
+        phased : (p : Phase) → j.phase ≡ p → HasSoundParts (step_in p j t)
         phased phase.Copy c = copying (next_hundred t j) refl
           where
-            copying : (zs : List Record) → next_hundred t j ≡ zs → IsSound (copy_step j zs t)
+            copying : (zs : List Record) → next_hundred t j ≡ zs → HasSoundParts (copy_step j zs t)
             copying [] w = switch j e c w
             copying (r ∷ rs) w = copy_moves t s j h c r rs w
         phased phase.Clear c = clear_moves t s j h c (next_hundred t j) refl
         phased phase.Done c = s
 
 -- a change that is called off
-pub cancel_sound : (t : Tenant) → IsSound t → IsSound (cancel_retype t).tenant
+pub cancel_sound : (t : Tenant) → HasSoundParts t → HasSoundParts (cancel_retype t).tenant
 cancel_sound t s = by t.job s.job
   where
     by : (job : Option Job) → HasSoundJob t.counter t.objects t.records job
-        → IsSound (in_case job (refuse t refusal.NotFound) (λ j. judged t (refuse_if (not (is_copy j.phase)) refusal.NotFound ∷ []) (accept done (with_job (to_clear outcome.Cancelled j) t)))).tenant
+        → HasSoundParts (in_case job (refuse t refusal.NotFound) (λ j. judged t (refuse_if (not (is_copy j.phase)) refusal.NotFound ∷ []) (accept done (with_job (to_clear outcome.Cancelled j) t)))).tenant
     by None h = s
     by (Some j) h =
-        when_judged IsSound t (refuse_if (not (is_copy j.phase)) refusal.NotFound ∷ []) (accept done (with_job (to_clear outcome.Cancelled j) t)) s (λ r.
+        when_judged HasSoundParts t (refuse_if (not (is_copy j.phase)) refusal.NotFound ∷ []) (accept done (with_job (to_clear outcome.Cancelled j) t)) s (λ r.
         let copy = holds_not (is_copy j.phase) (unrefused (not (is_copy j.phase)) refusal.NotFound r.0) in
         let open_is = h.open_in_copy ∙ copy in
         job_changed t (to_clear outcome.Cancelled j) s (cleared t j outcome.Cancelled j.failed refl refl (h.failed_where ∙ open_not_failed j.outcome open_is) h.failed h))

@@ -1,6 +1,8 @@
+mod SoundParts
 mod Parts
 mod Orders
 mod Growing
+mod RuleTexts
 mod Roles
 mod Digests
 mod PeopleSound

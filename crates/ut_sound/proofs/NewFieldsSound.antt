@@ -25,7 +25,7 @@ use Rattle.ut_model.specs.Metadata.{masters_above}
 use Rattle.ut_model.specs.NewFields.{with_field}
 use Rattle.ut_model.specs.Objects.{change_at, is_of, object_number}
 use Rattle.ut_model.specs.Relationships.{Reference, master_in, parent_name, reference_at, references, references_of, relationship_names, target_of}
-use Rattle.ut_model.specs.Sound.{IsSound}
+use Rattle.ut_sound.proofs.SoundParts.{HasSoundParts}
 use Rattle.ut_model.specs.SoundJob.{HasSoundJob, copies, job_field}
 use Rattle.ut_model.specs.SoundMetadata.{IsSoundField, IsSoundObject, names_differ}
 use Rattle.ut_model.specs.SoundRecords.{IsSoundRecord, UniqueHold, all_valid, is_sound_reference, kinds_of, record_id, those_of}
@@ -289,7 +289,7 @@ pub record FreeNames (os : List Object) (n : ℕ) (f : Field) : Type 0 where
   pub parent : (q : ℕ) → target_of f.kind ≡ Some q → list_any (same_name (parent_name f.name)) (relationship_names os n) ≡ false
   pub child : (q : ℕ) → target_of f.kind ≡ Some q → (c : List ℕ) × (f.child ≡ Some c) × (list_any (same_name c) (relationship_names os q) ≡ false) × (n ≡ q → same_name (parent_name f.name) c ≡ false)
 
-module _ (t : Tenant) (s : IsSound t) (n : ℕ) (p : Object) (there : slice_get t.objects n ≡ Some p) (f : Field) (plain : is_master f.kind ≡ false)
+module _ (t : Tenant) (s : HasSoundParts t) (n : ℕ) (p : Object) (there : slice_get t.objects n ≡ Some p) (f : Field) (plain : is_master f.kind ≡ false)
     (sound_field : IsSoundField (length t.objects) f) (unique_fits : f.unique ≡ true → suits_unique f.kind ≡ true) (few : length p.fields + 1 ≤ 40)
     (fresh : list_any (same_name f.name) (map (λ (x : Field). x.name) p.fields) ≡ false) (free : FreeNames t.objects n f) where
   abbrev os : List Object
@@ -556,7 +556,7 @@ module _ (t : Tenant) (s : IsSound t) (n : ℕ) (p : Object) (there : slice_get 
           ∙ ap (λ (v : Value). not (is_copied j.phase j.cursor y.id) || is_some (convert j.to v)) (kept_value y m (suc j.field) low)
           ∙ list_all_at (copies j) y (those_of j.object t.records) h.copied (kept_among (is_of j.object) t.records y m of)
 
-  pub field_added : IsSound (with_field n f t)
+  pub field_added : HasSoundParts (with_field n f t)
   field_added =
       let k = known t in
       let l = known u in

@@ -19,7 +19,7 @@ use Rattle.ut_model.specs.Names.{bad_name, is_child_name, is_custom_name, taken}
 use Rattle.ut_model.specs.Objects.{Numbered, is_of, object_named, object_number}
 use Rattle.ut_model.specs.Relationships.{Reference, master_in, parent_name, references, references_of, relationship_names, target_of}
 use Rattle.ut_model.specs.Rules.{MemberRules, in_body_order, over_limit, refuse_if}
-use Rattle.ut_model.specs.Sound.{IsSound}
+use Rattle.ut_sound.proofs.SoundParts.{HasSoundParts}
 use Rattle.ut_model.specs.SoundJob.{HasSoundJob, job_field}
 use Rattle.ut_model.specs.SoundMetadata.{HasSoundMetadata, IsSoundField, IsSoundObject, names_differ}
 use Rattle.ut_model.specs.SoundRecords.{IsSoundRecord, UniqueHold}
@@ -152,7 +152,7 @@ home k (x ∷ os) f m =
           (suc r.0, r.1, r.2 ∙ same, r.3, subst (λ (n : ℕ). Has (references_of (record { number = n; object = r.1 })) f) same r.4)
     ]
 
-module _ (t : Tenant) (s : IsSound t) (x : Object) where
+module _ (t : Tenant) (s : HasSoundParts t) (x : Object) where
   abbrev os : List Object
   os = t.objects
 
@@ -196,7 +196,7 @@ module _ (t : Tenant) (s : IsSound t) (x : Object) where
       by None w g = absurd cc
       by (Some o) w g = ap (option_and_then (λ (o : Object). slice_get o.fields j.field)) (extends j.object o w) ∙ g
 
-  object_added : HasSoundMetadata now → IsSound (record t { objects = now })
+  object_added : HasSoundMetadata now → HasSoundParts (record t { objects = now })
   object_added metadata =
       record {
         name = s.name;
@@ -308,7 +308,7 @@ and_false true b e = absurd cc
 and_false false b e = refl
 
 -- ---- no detail
-module _ (t : Tenant) (s : IsSound t) (b : NewObject) where
+module _ (t : Tenant) (s : HasSoundParts t) (b : NewObject) where
   abbrev plain : Object
   plain = record { name = b.name; access = b.access; fields = []; rules = [] }
 
@@ -325,7 +325,7 @@ module _ (t : Tenant) (s : IsSound t) (b : NewObject) where
   none_above : find (λ (f : Reference). (f.object == n) && is_master f.field.kind) (references t.objects) ≡ None
   none_above = find_none (λ (f : Reference). (f.object == n) && is_master f.field.kind) (references t.objects) (λ f m. and_false (f.object == n) (is_master f.field.kind) (apart_numbers f.object n (old_ends t s plain f m).0))
 
-  plain_added : n + 1 ≤ 100 → list_any (same_name b.name) (map (λ (o : Object). o.name) t.objects) ≡ false → is_custom_name b.name ≡ true → by_parent b.access ≡ false → IsSound (record t { objects = t.objects ++ plain ∷ [] })
+  plain_added : n + 1 ≤ 100 → list_any (same_name b.name) (map (λ (o : Object). o.name) t.objects) ≡ false → is_custom_name b.name ≡ true → by_parent b.access ≡ false → HasSoundParts (record t { objects = t.objects ++ plain ∷ [] })
   plain_added few free name access =
       let now = t.objects ++ plain ∷ [] in
       object_added t s plain
@@ -451,7 +451,7 @@ module _ (t : Tenant) (s : IsSound t) (b : NewObject) where
 
     detail_added : n + 1 ≤ 100 → list_any (same_name b.name) (map (λ (o : Object). o.name) t.objects) ≡ false → is_custom_name b.name ≡ true → by_parent b.access ≡ true
         → is_custom_name m.field ≡ true → is_child_name m.child ≡ true → list_any (same_name m.child) (relationship_names t.objects p.number) ≡ false → detail_level t.objects p.number + 1 ≤ 3
-        → IsSound (record t { objects = later })
+        → HasSoundParts (record t { objects = later })
     detail_added few free name access field child child_free deep =
         object_added t s detail
         (metadata_added t s detail (omega (arith, few, length_last t.objects detail)) free (names_old child_free) (λ k h. levels_old 4 k h)
@@ -484,9 +484,9 @@ module _ (t : Tenant) (s : IsSound t) (b : NewObject) where
         within a b h = grind (arith, nat_tests)
 
 -- ---- the request
-pub add_object_sound : (t : Tenant) (b : NewObject) → is_fit_object b ≡ true → IsSound t → IsSound (add_object t b).tenant
+pub add_object_sound : (t : Tenant) (b : NewObject) → is_fit_object b ≡ true → HasSoundParts t → HasSoundParts (add_object t b).tenant
 add_object_sound t b fit s =
-    when_judged IsSound t (object_rules t b) (accept done (record t { objects = t.objects ++ new_object t b ∷ [] })) s (λ h.
+    when_judged HasSoundParts t (object_rules t b) (accept done (record t { objects = t.objects ++ new_object t b ∷ [] })) s (λ h.
     let named = both_left (has_member b.members (codes "name")) _ fit in
     let limits = none_refuses (refuse_if (nat_lt 100 (length t.objects + 1)) (refusal.LimitExceeded limit.Objects) ∷ []) h.1.1.1.0 in
     let few = within_limit 100 (length t.objects + 1) (refusal.LimitExceeded limit.Objects) limits.0 in
@@ -509,7 +509,7 @@ add_object_sound t b fit s =
         → in_body_order b.members ((codes "name", bad_name is_custom_name b.name) ∷ in_case master [] master_names) ≡ None
         → in_body_order b.members ((codes "name", taken (map (λ (o : Object). o.name) t.objects) b.name) ∷ (codes "child", in_case master None (child_name_taken t)) ∷ []) ≡ None
         → in_case master None (no_parent t) ≡ None → in_case master None (too_deep t) ≡ None
-        → IsSound (record t { objects = t.objects ++ record { name = b.name; access = b.access; fields = new_fields t master; rules = [] } ∷ [] })
+        → HasSoundParts (record t { objects = t.objects ++ record { name = b.name; access = b.access; fields = new_fields t master; rules = [] } ∷ [] })
     by None access named few good free parent deep =
         plain_added t s b few (untaken (map (λ (o : Object). o.name) t.objects) b.name (member_rule (free_names None) b.members (codes "name") free named))
         (custom is_custom_name b.name (member_rule (names None) b.members (codes "name") good named))
@@ -527,14 +527,14 @@ add_object_sound t b fit s =
         child_rule = member_rule (free_names (Some m)) b.members (codes "child") free (both_right (has_member b.members (codes "field")) (has_member b.members (codes "child")) members)
 
         found : (p : Option Numbered) → object_named t m.parent ≡ p → in_case p (Some (refusal.InvalidType m.parent)) (λ o. None) ≡ None → too_deep t m ≡ None
-            → IsSound (record t { objects = t.objects ++ record { name = b.name; access = b.access; fields = in_case (object_named t m.parent) [] (λ o. master_field m o ∷ []); rules = [] } ∷ [] })
+            → HasSoundParts (record t { objects = t.objects ++ record { name = b.name; access = b.access; fields = in_case (object_named t m.parent) [] (λ o. master_field m o ∷ []); rules = [] } ∷ [] })
         found None e parent deep = absurd cc
         found (Some p) e parent deep =
             let is_child = custom is_child_name m.child (member_rule (names (Some m)) b.members (codes "child") good (both_right (has_member b.members (codes "field")) (has_member b.members (codes "child")) members)) in
             let is_field = custom is_custom_name m.field (member_rule (names (Some m)) b.members (codes "field") good (both_left (has_member b.members (codes "field")) (has_member b.members (codes "child")) members)) in
             let child_free = untaken (relationship_names t.objects p.number) m.child (ap (λ z. in_case z None (λ o. taken (relationship_names t.objects o.number) m.child)) (sym e) ∙ child_rule) in
             let depth = none_refuses (refuse_if (nat_lt 3 (detail_level t.objects p.number + 1)) (refusal.LimitExceeded limit.DetailLevels) ∷ []) (ap (λ z. in_case z None (λ (o : Numbered). over_limit ((limit.DetailLevels, detail_level t.objects o.number + 1) ∷ []))) (sym e) ∙ deep) in
-            subst (λ z. IsSound (record t { objects = t.objects ++ record { name = b.name; access = b.access; fields = in_case z [] (λ (o : Numbered). master_field m o ∷ []); rules = [] } ∷ [] })) (sym e)
+            subst (λ z. HasSoundParts (record t { objects = t.objects ++ record { name = b.name; access = b.access; fields = in_case z [] (λ (o : Numbered). master_field m o ∷ []); rules = [] } ∷ [] })) (sym e)
             (detail_added t s b m p (named_at t m.parent p e) few
             (untaken (map (λ (o : Object). o.name) t.objects) b.name (member_rule (free_names (Some m)) b.members (codes "name") free named))
             (custom is_custom_name b.name (member_rule (names (Some m)) b.members (codes "name") good named))

@@ -11,7 +11,7 @@ use Rattle.ut_model.specs.Known.{NumbersDiffer, group_id, known, names_any, numb
 use Rattle.ut_model.specs.Membership.{Has}
 use Rattle.ut_model.specs.Objects.{object_number, record_prefix}
 use Rattle.ut_model.specs.Same.{drawn_ids}
-use Rattle.ut_model.specs.Sound.{IsSound}
+use Rattle.ut_sound.proofs.SoundParts.{HasSoundParts}
 use Rattle.ut_model.specs.SoundPeople.{IsSoundGroup, IsSoundRole, IsSoundUser, ids_rise}
 use Rattle.ut_model.specs.SoundRecords.{IsSoundRecord, record_id}
 use Rattle.ut_model.specs.Tenant.{Tenant}
@@ -96,7 +96,7 @@ record_mark : (n m : ℕ) → get_or (made (record_prefix n) m) 0 0 ≡ 97
 unfolding made record_prefix digits
 record_mark n m = refl
 
-module _ (t : Tenant) (s : IsSound t) where
+module _ (t : Tenant) (s : HasSoundParts t) where
   user_mark : (i : List ℕ) → Has (map user_id t.users) i → (get_or i 0 0 ≡ 48) × (get_or i 2 0 ≡ 53)
   user_mark i m =
       let r = among_map user_id t.users i m in

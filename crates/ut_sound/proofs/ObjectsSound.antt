@@ -1,5 +1,7 @@
 -- Another access of an object, or other validation rules: its fields stay, and so all that speaks of them.
-use Rattle.std.proofs.Common.{◌≡◌, ℕ, zero, suc, ◌+◌, ◌≤◌, Bool, true, false, not, ◌||◌, cond, List, [], ◌∷◌, ◌++◌, map, length, filter, Option, Some, None, refl, ap, sym, subst, ◌∙◌, arith, slice_get, nat_lt, Equal}
+use Rattle.std.proofs.Common.{◌≡◌, ℕ, zero, suc, ◌+◌, ◌≤◌, nat_le, Bool, true, false, not, ◌||◌, cond, List, [], ◌∷◌, ◌++◌, map, length, filter, Option, Some, None, refl, ap, sym, subst, ◌∙◌, arith, slice_get, nat_lt, Equal}
+use Rattle.ut_sound.specs.Fit.{is_fit_validation}
+use Rattle.std.specs.Str.{all_scalars}
 use Rattle.std.specs.List.{AllByRecursion, flat_map, list_any}
 use Rattle.std.specs.Option.{option_and_then, unwrap_or}
 use Rattle.std.specs.Cmp.Lexicographic.{on_texts}
@@ -12,7 +14,6 @@ use Rattle.ut_model.specs.declared.refusal.Refusal.TheVariants as refusal
 use Rattle.ut_model.specs.Cases.{in_case}
 use Rattle.ut_model.specs.Fields.{by_parent, is_detail, is_master, same_name}
 use Rattle.ut_model.specs.Known.{known}
-use Rattle.ut_model.specs.Levels.{Reads}
 use Rattle.ut_model.specs.Metadata.{set_access}
 use Rattle.ut_model.specs.Names.{is_stem}
 use Rattle.ut_model.specs.Objects.{Numbered, change_at, is_of, object_number, with_object_changed}
@@ -20,7 +21,7 @@ use Rattle.ut_model.specs.Ordered.{put_in}
 use Rattle.ut_model.specs.Relationships.{Reference, references_of}
 use Rattle.ut_model.specs.RuleFormulas.{name_cmp}
 use Rattle.ut_model.specs.Rules.{refuse_if}
-use Rattle.ut_model.specs.Sound.{IsSound}
+use Rattle.ut_sound.proofs.SoundParts.{HasSoundParts}
 use Rattle.ut_model.specs.SoundJob.{HasSoundJob, job_field}
 use Rattle.ut_model.specs.SoundMetadata.{IsSoundField, IsSoundObject, IsSoundValidation, names_differ}
 use Rattle.ut_model.specs.SoundPeople.{is_name}
@@ -29,12 +30,13 @@ use Rattle.ut_model.specs.SoundSharing.{IsSoundRule, IsSoundShare, shareable}
 use Rattle.ut_model.specs.Tenant.{Field, Job, Object, Tenant, ValidationRule}
 use Rattle.ut_model.specs.ValidationRules.{NewValidationRule, add_validation_rule, validation_rules, with_validation_rule}
 use Rattle.ut_model.specs.Verdict.{accept, done, judged}
-use Rattle.ut_sound.proofs.Parts.{all_at, all_more, all_put, among_kept, clash, holds_not, length_put, none_refuses, none_so, unrefused}
+use Rattle.ut_sound.proofs.Parts.{all_at, all_more, all_put, among_kept, both, both_left, both_right, clash, holds_not, length_put, none_refuses, none_so, unrefused}
 use Rattle.ut_sound.proofs.Orders.{rise_put}
 use Rattle.ut_sound.proofs.Growing.{within_limit}
 use Rattle.ut_sound.proofs.Changes.{length_changed, level_by_references, map_changed, names_by_references}
 use Rattle.ut_sound.proofs.PeopleSound.{when_judged}
 use Rattle.ut_sound.proofs.SharingSound.{numbered_from, tied_names, when_object}
+use Rattle.ut_sound.proofs.RuleTexts.{short_text}
 
 some_is : {A : Type 0} (a b : A) → Some a ≡ Some b → a ≡ b
 some_is a b e = ap (λ w. unwrap_or w a) e
@@ -59,7 +61,7 @@ module _ (A : Object → Access) (R : Object → List ValidationRule) where
   refs_same k zero (x ∷ os) = refl
   refs_same k (suc n) (x ∷ os) = ap (λ (rs : List Reference). references_of (record { number = k; object = x }) ++ rs) (refs_same (k + 1) n os)
 
-  module _ (t : Tenant) (s : IsSound t) (n : ℕ) where
+  module _ (t : Tenant) (s : HasSoundParts t) (n : ℕ) where
     abbrev os : List Object
     os = t.objects
 
@@ -127,7 +129,7 @@ module _ (A : Object → Access) (R : Object → List ValidationRule) where
           by None w g = absurd cc
           by (Some o) w g = ap (option_and_then (λ (o : Object). slice_get o.fields j.field)) (changed_at n os j.object o w).1 ∙ g
 
-      pub object_changed : IsSound (with_object_changed n change t)
+      pub object_changed : HasSoundParts (with_object_changed n change t)
       object_changed =
           record {
             name = s.name;
@@ -172,10 +174,10 @@ no_masters (f ∷ fs) e = by (is_master f.kind) e (no_masters fs)
     by true e more = absurd cc
     by false e more = more e
 
-pub set_access_sound : (t : Tenant) (object : List ℕ) (access : Access) → by_parent access ≡ false → IsSound t → IsSound (set_access t object access).tenant
+pub set_access_sound : (t : Tenant) (object : List ℕ) (access : Access) → by_parent access ≡ false → HasSoundParts t → HasSoundParts (set_access t object access).tenant
 set_access_sound t object access plain s =
-    when_object IsSound t object (λ o. judged t (refuse_if (is_detail o.object) (refusal.InvalidType o.object.name) ∷ []) (accept done (with_object_changed o.number (λ x. record x { access = access }) t))) s (λ o at.
-    when_judged IsSound t (refuse_if (is_detail o.object) (refusal.InvalidType o.object.name) ∷ []) (accept done (with_object_changed o.number (λ x. record x { access = access }) t)) s (λ h.
+    when_object HasSoundParts t object (λ o. judged t (refuse_if (is_detail o.object) (refusal.InvalidType o.object.name) ∷ []) (accept done (with_object_changed o.number (λ x. record x { access = access }) t))) s (λ o at.
+    when_judged HasSoundParts t (refuse_if (is_detail o.object) (refusal.InvalidType o.object.name) ∷ []) (accept done (with_object_changed o.number (λ x. record x { access = access }) t)) s (λ h.
     object_changed (λ x. access) (λ x. x.rules) t s o.number
     (λ m x e h2.
     let same : o.object ≡ x = some_is o.object x (sym at ∙ e) in
@@ -208,11 +210,11 @@ apart (r ∷ rs) name h =
     rest true b e = absurd cc
     rest false b e = e
 
-pub add_validation_sound : (reads : Reads) (t : Tenant) (b : NewValidationRule) → is_name b.rule.message ≡ true → IsSound t → IsSound (add_validation_rule reads t b).tenant
-add_validation_sound reads t b message s =
+pub add_validation_sound : (t : Tenant) (b : NewValidationRule) → is_fit_validation b.rule ≡ true → HasSoundParts t → HasSoundParts (add_validation_rule t b).tenant
+add_validation_sound t b fit s =
     let r = b.rule in
-    when_object IsSound t b.object (λ o. judged t (validation_rules reads t o r) (accept done (with_object_changed o.number (with_validation_rule r) t))) s (λ o at.
-    when_judged IsSound t (validation_rules reads t o r) (accept done (with_object_changed o.number (with_validation_rule r) t)) s (λ h.
+    when_object HasSoundParts t b.object (λ o. judged t (validation_rules t o r) (accept done (with_object_changed o.number (with_validation_rule r) t))) s (λ o at.
+    when_judged HasSoundParts t (validation_rules t o r) (accept done (with_object_changed o.number (with_validation_rule r) t)) s (λ h.
     let limits = none_refuses (refuse_if (nat_lt 50 (length o.object.rules + 1)) (refusal.LimitExceeded limit.ValidationRulesPerObject) ∷ []) h.1.1.1.1.0 in
     object_changed (λ x. x.access) (with_one r) t s o.number
     (λ m x e h2.
@@ -224,7 +226,7 @@ add_validation_sound reads t b message s =
       relations = h2.relations;
       master = h2.master;
       level = h2.level;
-      rules = all_put IsSoundValidation (λ a b. name_cmp a.name b.name) r x.rules h2.rules (record { name = holds_not (is_stem r.name) (unrefused (not (is_stem r.name)) (refusal.InvalidName r.name) h.0); message = message });
+      rules = all_put IsSoundValidation (λ a b. name_cmp a.name b.name) r x.rules h2.rules (record { name = holds_not (is_stem r.name) (unrefused (not (is_stem r.name)) (refusal.InvalidName r.name) h.0); formula = both (all_scalars r.formula) (nat_le (length r.formula) 4000) (both_right (is_name r.message) (all_scalars r.formula) fit) (short_text o.object false r.formula h.1.1.0); message = both_left (is_name r.message) (all_scalars r.formula) fit });
       rules_rise = rise_put name_cmp (λ (r : ValidationRule). r.name) (on_texts lower) (λ a b. name_cmp a.name b.name) (λ a b. refl) r x.rules h2.rules_rise
           (apart x.rules r.name (ap (λ (z : Object). list_any (same_name r.name) (map (λ (r : ValidationRule). r.name) z.rules)) (sym same) ∙ unrefused (list_any (same_name r.name) (map (λ (r : ValidationRule). r.name) o.object.rules)) (refusal.NameTaken r.name) h.1.0));
       few_fields = h2.few_fields;

@@ -12,11 +12,12 @@ use Rattle.ut_model.specs.Fields.{column, its_value, typed}
 use Rattle.ut_model.specs.Given.{Assignment}
 use Rattle.ut_model.specs.Keys.{Key, with_key}
 use Rattle.ut_model.specs.Known.{group_id, role_id}
-use Rattle.ut_model.specs.Levels.{Reads}
 use Rattle.ut_model.specs.Objects.{Numbered, record_at}
 use Rattle.ut_model.specs.Paths.{Asked}
-use Rattle.ut_model.specs.People.{NewUser, add_group, add_role, add_user, changed, group_rules, new_group_rules, new_role_rules, new_user, new_user_rules, next_id, role_rules, set_group, set_role, set_user, user_rules, with_group, with_role, with_user}
-use Rattle.ut_model.specs.Principals.{Spelled, bad_id, principal_of, spelled_id}
+use Rattle.ut_model.specs.declared.people_bodies.NewUser.{NewUser}
+use Rattle.ut_model.specs.People.{add_group, add_role, add_user, changed, group_rules, new_group_rules, new_role_rules, new_user, new_user_rules, next_id, role_rules, set_group, set_role, set_user, user_rules, with_group, with_role, with_user}
+use Rattle.ut_model.specs.declared.people_bodies.Spelled.{Spelled}
+use Rattle.ut_model.specs.Principals.{bad_id, principal_of, spelled_id}
 use Rattle.ut_model.specs.Rights.{denied, with_named, with_readable}
 use Rattle.ut_model.specs.Rules.{in_body_order}
 use Rattle.ut_model.specs.Shares.{NewShare, share, share_of, share_rules, unshare, unshare_rules, unshare_with, with_share, without_share}
@@ -32,98 +33,97 @@ use Rattle.ut_sound.proofs.UpdatesSound.{when_named}
 use Rattle.ut_sound.proofs.UpsertsSound.{when_read}
 use Rattle.ut_model.specs.Given.{record_with}
 
-module _ (reads : Reads) where
-  abbrev P : Tenant → Type 0
-  P t = AreFormulasSound reads t
+abbrev P : Tenant → Type 0
+P t = AreFormulasSound t
 
-  -- ---- people
-  module _ (t : Tenant) (s : AreFormulasSound reads t) where
-    pub add_user_formulas : (b : NewUser) → AreFormulasSound reads (add_user t b).tenant
-    add_user_formulas b = let u = new_user t b in when_judged P t (new_user_rules t b) (accept (made_new u.id) (with_user u t)) s (λ _. s)
+-- ---- people
+module _ (t : Tenant) (s : AreFormulasSound t) where
+  pub add_user_formulas : (b : NewUser) → AreFormulasSound (add_user t b).tenant
+  add_user_formulas b = let u = new_user t b in when_judged P t (new_user_rules t b) (accept (made_new u.id) (with_user u t)) s (λ _. s)
 
-    pub set_user_formulas : (user : List ℕ) (role : Option (List ℕ)) → AreFormulasSound reads (set_user t user role).tenant
-    set_user_formulas user role =
-        when_judged P t (user_rules t user role) (accept done (record t { users = changed user_id (λ u. record u { role = option_map spelled_id role }) (spelled_id user) t.users })) s (λ _. s)
+  pub set_user_formulas : (user : List ℕ) (role : Option (List ℕ)) → AreFormulasSound (set_user t user role).tenant
+  set_user_formulas user role =
+      when_judged P t (user_rules t user role) (accept done (record t { users = changed user_id (λ u. record u { role = option_map spelled_id role }) (spelled_id user) t.users })) s (λ _. s)
 
-    pub add_role_formulas : (name : List ℕ) (parent : Option (List ℕ)) → AreFormulasSound reads (add_role t name parent).tenant
-    add_role_formulas name parent =
-        let r : Role = record { id = next_id t role_prefix; name = name; parent = option_map spelled_id parent } in
-        when_judged P t (new_role_rules t name parent) (accept (made_new r.id) (with_role r t)) s (λ _. s)
+  pub add_role_formulas : (name : List ℕ) (parent : Option (List ℕ)) → AreFormulasSound (add_role t name parent).tenant
+  add_role_formulas name parent =
+      let r : Role = record { id = next_id t role_prefix; name = name; parent = option_map spelled_id parent } in
+      when_judged P t (new_role_rules t name parent) (accept (made_new r.id) (with_role r t)) s (λ _. s)
 
-    pub set_role_formulas : (role : List ℕ) (parent : Option (List ℕ)) → AreFormulasSound reads (set_role t role parent).tenant
-    set_role_formulas role parent =
-        when_judged P t (role_rules t role parent) (accept done (record t { roles = changed role_id (λ r. record r { parent = option_map spelled_id parent }) (spelled_id role) t.roles })) s (λ _. s)
+  pub set_role_formulas : (role : List ℕ) (parent : Option (List ℕ)) → AreFormulasSound (set_role t role parent).tenant
+  set_role_formulas role parent =
+      when_judged P t (role_rules t role parent) (accept done (record t { roles = changed role_id (λ r. record r { parent = option_map spelled_id parent }) (spelled_id role) t.roles })) s (λ _. s)
 
-    pub add_group_formulas : (name : List ℕ) → AreFormulasSound reads (add_group t name).tenant
-    add_group_formulas name =
-        let x : Group = record { id = next_id t group_prefix; name = name; members = [] } in
-        when_judged P t (new_group_rules t name) (accept (made_new x.id) (with_group x t)) s (λ _. s)
+  pub add_group_formulas : (name : List ℕ) → AreFormulasSound (add_group t name).tenant
+  add_group_formulas name =
+      let x : Group = record { id = next_id t group_prefix; name = name; members = [] } in
+      when_judged P t (new_group_rules t name) (accept (made_new x.id) (with_group x t)) s (λ _. s)
 
-    pub set_group_formulas : (group : List ℕ) (members : List Spelled) → AreFormulasSound reads (set_group t group members).tenant
-    set_group_formulas group members =
-        when_judged P t (group_rules t group members) (accept done (record t { groups = changed group_id (λ g. record g { members = map principal_of members }) (spelled_id group) t.groups })) s (λ _. s)
+  pub set_group_formulas : (group : List ℕ) (members : List Spelled) → AreFormulasSound (set_group t group members).tenant
+  set_group_formulas group members =
+      when_judged P t (group_rules t group members) (accept done (record t { groups = changed group_id (λ g. record g { members = map principal_of members }) (spelled_id group) t.groups })) s (λ _. s)
 
-  -- ---- shares and records
-  module _ (a : Asked) (s : AreFormulasSound reads a.tenant) where
-    pub share_formulas : (b : NewShare) → AreFormulasSound reads (share a b).tenant
-    share_formulas b =
-        let t = a.tenant in
-        let x = share_of b in
-        when_judged P t (in_body_order b.members ((codes "record", bad_id b.item) ∷ (codes "to", bad_id b.to.text) ∷ []) ∷ [])
-        (with_readable a (record_at t (spelled_id b.item)) (λ r. judged t (share_rules a x r) (accept done (record t { shares = with_share x t.shares })))) s (λ _.
-        when_readable P a (record_at t (spelled_id b.item)) (λ r. judged t (share_rules a x r) (accept done (record t { shares = with_share x t.shares }))) s (λ r found.
-        when_judged P t (share_rules a x r) (accept done (record t { shares = with_share x t.shares })) s (λ _. s)))
+-- ---- shares and records
+module _ (a : Asked) (s : AreFormulasSound a.tenant) where
+  pub share_formulas : (b : NewShare) → AreFormulasSound (share a b).tenant
+  share_formulas b =
+      let t = a.tenant in
+      let x = share_of b in
+      when_judged P t (in_body_order b.members ((codes "record", bad_id b.item) ∷ (codes "to", bad_id b.to.text) ∷ []) ∷ [])
+      (with_readable a (record_at t (spelled_id b.item)) (λ r. judged t (share_rules a x r) (accept done (record t { shares = with_share x t.shares })))) s (λ _.
+      when_readable P a (record_at t (spelled_id b.item)) (λ r. judged t (share_rules a x r) (accept done (record t { shares = with_share x t.shares }))) s (λ r found.
+      when_judged P t (share_rules a x r) (accept done (record t { shares = with_share x t.shares })) s (λ _. s)))
 
-    pub unshare_formulas : (item part : List ℕ) (to : Option Spelled) → AreFormulasSound reads (unshare a item part to).tenant
-    unshare_formulas item part to =
-        when_judged P a.tenant (bad_id item ∷ []) (in_case to (refuse a.tenant (refusal.MalformedId part)) (λ p. judged a.tenant (bad_id p.text ∷ []) (unshare_with a item p))) s (λ _. by to)
-      where
-        by : (to : Option Spelled) → AreFormulasSound reads (in_case to (refuse a.tenant (refusal.MalformedId part)) (λ p. judged a.tenant (bad_id p.text ∷ []) (unshare_with a item p))).tenant
-        by None = s
-        by (Some p) =
-            let x : Share = record { item = spelled_id item; to = principal_of p; level = level.Full } in
-            when_judged P a.tenant (bad_id p.text ∷ []) (unshare_with a item p) s (λ _.
-            when_readable P a (record_at a.tenant x.item) (λ r. judged a.tenant (unshare_rules a x r) (accept done (record a.tenant { shares = without_share x a.tenant.shares }))) s (λ r found.
-            when_judged P a.tenant (unshare_rules a x r) (accept done (record a.tenant { shares = without_share x a.tenant.shares })) s (λ _. s)))
+  pub unshare_formulas : (item part : List ℕ) (to : Option Spelled) → AreFormulasSound (unshare a item part to).tenant
+  unshare_formulas item part to =
+      when_judged P a.tenant (bad_id item ∷ []) (in_case to (refuse a.tenant (refusal.MalformedId part)) (λ p. judged a.tenant (bad_id p.text ∷ []) (unshare_with a item p))) s (λ _. by to)
+    where
+      by : (to : Option Spelled) → AreFormulasSound (in_case to (refuse a.tenant (refusal.MalformedId part)) (λ p. judged a.tenant (bad_id p.text ∷ []) (unshare_with a item p))).tenant
+      by None = s
+      by (Some p) =
+          let x : Share = record { item = spelled_id item; to = principal_of p; level = level.Full } in
+          when_judged P a.tenant (bad_id p.text ∷ []) (unshare_with a item p) s (λ _.
+          when_readable P a (record_at a.tenant x.item) (λ r. judged a.tenant (unshare_rules a x r) (accept done (record a.tenant { shares = without_share x a.tenant.shares }))) s (λ r found.
+          when_judged P a.tenant (unshare_rules a x r) (accept done (record a.tenant { shares = without_share x a.tenant.shares })) s (λ _. s)))
 
-    create_on_formulas : (o : Numbered) (key : Option Key) (given : List Assignment) → AreFormulasSound reads (create_on a o key given).tenant
-    create_on_formulas o key given =
-        let new = with_given a o.object (with_key key given) (empty_record a o) in
-        when_judged P a.tenant (create_rules a o key given new) (accept (in_case key (made_new new.id) (λ k. upserted new.id true)) (with_record new a.tenant)) s (λ _. s)
+  create_on_formulas : (o : Numbered) (key : Option Key) (given : List Assignment) → AreFormulasSound (create_on a o key given).tenant
+  create_on_formulas o key given =
+      let new = with_given a o.object (with_key key given) (empty_record a o) in
+      when_judged P a.tenant (create_rules a o key given new) (accept (in_case key (made_new new.id) (λ k. upserted new.id true)) (with_record new a.tenant)) s (λ _. s)
 
-    update_on_formulas : (o : Numbered) (key : Option Key) (given : List Assignment) (old : Record) → AreFormulasSound reads (update_on a o key given old).tenant
-    update_on_formulas o key given old =
-        let new = with_given a o.object (with_key key given) old in
-        when_judged P a.tenant (update_rules a o key given old new) (accept (in_case key done (λ k. upserted old.id false)) (with_changed old new a.tenant)) s (λ _. s)
+  update_on_formulas : (o : Numbered) (key : Option Key) (given : List Assignment) (old : Record) → AreFormulasSound (update_on a o key given old).tenant
+  update_on_formulas o key given old =
+      let new = with_given a o.object (with_key key given) old in
+      when_judged P a.tenant (update_rules a o key given old new) (accept (in_case key done (λ k. upserted old.id false)) (with_changed old new a.tenant)) s (λ _. s)
 
-    pub create_formulas : (object : List ℕ) (given : List Assignment) → AreFormulasSound reads (create a object given).tenant
-    create_formulas object given = when_object P a.tenant object (λ o. create_on a o None given) s (λ o at. create_on_formulas o None given)
+  pub create_formulas : (object : List ℕ) (given : List Assignment) → AreFormulasSound (create a object given).tenant
+  create_formulas object given = when_object P a.tenant object (λ o. create_on a o None given) s (λ o at. create_on_formulas o None given)
 
-    pub update_formulas : (object key : List ℕ) (given : List Assignment) → AreFormulasSound reads (update a object key given).tenant
-    update_formulas object key given =
-        when_object P a.tenant object (λ o. with_named a o key level.Edit (update_on a o None given)) s (λ o at.
-        when_named P a o key level.Edit (update_on a o None given) s (λ r among of. update_on_formulas o None given r))
+  pub update_formulas : (object key : List ℕ) (given : List Assignment) → AreFormulasSound (update a object key given).tenant
+  update_formulas object key given =
+      when_object P a.tenant object (λ o. with_named a o key level.Edit (update_on a o None given)) s (λ o at.
+      when_named P a o key level.Edit (update_on a o None given) s (λ r among of. update_on_formulas o None given r))
 
-    pub upsert_formulas : (object key : List ℕ) (text : Option (List ℕ)) (given : List Assignment) → AreFormulasSound reads (upsert a object key text given).tenant
-    upsert_formulas object key text given =
-        when_object P a.tenant object
-        (λ o. in_case (unique_named o.object key) (refuse a.tenant (refusal.InvalidField (declared_name o.object key))) (λ f. with_read a.tenant (key_value f.1 text) (upsert_by a o given f))) s
-        (λ o at. by o (unique_named o.object key))
-      where
-        by_record : (o : Numbered) (k : Key) (r : Option Record) → AreFormulasSound reads (in_case r (create_on a o (Some k) given) (λ r. judged a.tenant (denied a level.Edit r ∷ []) (update_on a o (Some k) given r))).tenant
-        by_record o k None = create_on_formulas o (Some k) given
-        by_record o k (Some r) = when_judged P a.tenant (denied a level.Edit r ∷ []) (update_on a o (Some k) given r) s (λ _. update_on_formulas o (Some k) given r)
+  pub upsert_formulas : (object key : List ℕ) (text : Option (List ℕ)) (given : List Assignment) → AreFormulasSound (upsert a object key text given).tenant
+  upsert_formulas object key text given =
+      when_object P a.tenant object
+      (λ o. in_case (unique_named o.object key) (refuse a.tenant (refusal.InvalidField (declared_name o.object key))) (λ f. with_read a.tenant (key_value f.1 text) (upsert_by a o given f))) s
+      (λ o at. by o (unique_named o.object key))
+    where
+      by_record : (o : Numbered) (k : Key) (r : Option Record) → AreFormulasSound (in_case r (create_on a o (Some k) given) (λ r. judged a.tenant (denied a level.Edit r ∷ []) (update_on a o (Some k) given r))).tenant
+      by_record o k None = create_on_formulas o (Some k) given
+      by_record o k (Some r) = when_judged P a.tenant (denied a level.Edit r ∷ []) (update_on a o (Some k) given r) s (λ _. update_on_formulas o (Some k) given r)
 
-        by : (o : Numbered) (f : Option (ℕ × Field))
-            → AreFormulasSound reads (in_case f (refuse a.tenant (refusal.InvalidField (declared_name o.object key))) (λ f. with_read a.tenant (key_value f.1 text) (upsert_by a o given f))).tenant
-        by o None = s
-        by o (Some f) =
-            when_read P a.tenant (key_value f.1 text) (upsert_by a o given f) s (λ v w.
-            by_record o (record { column = column f.1.name (typed f.1.kind) (its_value f.0); value = v }) (record_with a.tenant o.number f.0 v))
+      by : (o : Numbered) (f : Option (ℕ × Field))
+          → AreFormulasSound (in_case f (refuse a.tenant (refusal.InvalidField (declared_name o.object key))) (λ f. with_read a.tenant (key_value f.1 text) (upsert_by a o given f))).tenant
+      by o None = s
+      by o (Some f) =
+          when_read P a.tenant (key_value f.1 text) (upsert_by a o given f) s (λ v w.
+          by_record o (record { column = column f.1.name (typed f.1.kind) (its_value f.0); value = v }) (record_with a.tenant o.number f.0 v))
 
-    pub delete_formulas : (object key : List ℕ) → AreFormulasSound reads (delete a object key).tenant
-    delete_formulas object key =
-        when_object P a.tenant object (λ o. with_named a o key level.Full (delete_record a)) s (λ o at.
-        when_named P a o key level.Full (delete_record a) s (λ r among of.
-        let gone = going a.tenant r in
-        when_judged P a.tenant (held a.tenant gone ∷ too_many a.tenant gone ∷ []) (accept done (without a.now gone a.tenant)) s (λ _. s)))
+  pub delete_formulas : (object key : List ℕ) → AreFormulasSound (delete a object key).tenant
+  delete_formulas object key =
+      when_object P a.tenant object (λ o. with_named a o key level.Full (delete_record a)) s (λ o at.
+      when_named P a o key level.Full (delete_record a) s (λ r among of.
+      let gone = going a.tenant r in
+      when_judged P a.tenant (held a.tenant gone ∷ too_many a.tenant gone ∷ []) (accept done (without a.now gone a.tenant)) s (λ _. s)))

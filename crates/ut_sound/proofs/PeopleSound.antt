@@ -15,11 +15,13 @@ use Rattle.ut_model.specs.Known.{Grows, Known, group_id, known, knows, names_any
 use Rattle.ut_model.specs.declared.limit.Limit.{Limit}
 use Rattle.ut_model.specs.declared.limit.Limit.TheVariants as limit
 use Rattle.ut_model.specs.Limits.{limit_number}
-use Rattle.ut_model.specs.People.{NewUser, add_group, add_role, add_user, changed, new_group_rules, new_role_rules, new_user_rules, group_rules, role_rules, user_rules, next_id, no_role, no_room, bad_parent, set_group, set_role, set_user, with_group, with_role, with_user}
+use Rattle.ut_model.specs.declared.people_bodies.NewUser.{NewUser}
+use Rattle.ut_model.specs.People.{add_group, add_role, add_user, changed, new_group_rules, new_role_rules, new_user_rules, group_rules, role_rules, user_rules, next_id, no_role, no_room, bad_parent, set_group, set_role, set_user, with_group, with_role, with_user}
 use Rattle.ut_model.specs.Membership.{Below, is_below, structure_of}
-use Rattle.ut_model.specs.Principals.{Spelled, spelled_id, is_there, principal_of, not_there, role_at}
+use Rattle.ut_model.specs.declared.people_bodies.Spelled.{Spelled}
+use Rattle.ut_model.specs.Principals.{spelled_id, is_there, principal_of, not_there, role_at}
 use Rattle.ut_model.specs.Rules.{Rule, first_of, first_refusal, refuse_if}
-use Rattle.ut_model.specs.Sound.{IsSound}
+use Rattle.ut_sound.proofs.SoundParts.{HasSoundParts}
 use Rattle.ut_model.specs.SoundPeople.{IsSoundUser, IsSoundRole, IsSoundGroup, is_name, parent_in}
 use Rattle.ut_model.specs.Tenant.{Group, Role, Tenant, User}
 use Rattle.ut_model.specs.Verdict.{Verdict, accept, done, judged, made_new, unless}
@@ -47,7 +49,7 @@ role_if t member None e = tt
 role_if t member (Some text) e = some_of (role_at t (spelled_id text)) (unrefused (is_none (role_at t (spelled_id text))) (refusal.InvalidReference member) e)
 
 -- ---- one more user, role or group
-module _ (ids : IdLaws) (t : Tenant) (s : IsSound t) where
+module _ (ids : IdLaws) (t : Tenant) (s : HasSoundParts t) where
   user_grows : (u : User) → Grows (known t) (known (with_user u t))
   user_grows u = record { people = record { counter = omega arith; user = last_has user_id t.users u; role = λ i h. h; group = λ i h. h }; item = λ i h. h }
 
@@ -62,7 +64,7 @@ module _ (ids : IdLaws) (t : Tenant) (s : IsSound t) where
       ]
 
   pub user_added : (u : User) → u.id ≡ next_id t user_prefix → is_name u.name ≡ true → length u.digest ≡ 32 → IfSome u.role (λ i. IsTrue ((known t).role i))
-      → length t.users + 1 ≤ 2000 → t.counter + 1 ≤ 999999999999999 → IsSound (with_user u t)
+      → length t.users + 1 ≤ 2000 → t.counter + 1 ≤ 999999999999999 → HasSoundParts (with_user u t)
   user_added u is name digest role few more =
       let g = user_grows u in
       let k = known t in
@@ -87,10 +89,10 @@ module _ (ids : IdLaws) (t : Tenant) (s : IsSound t) where
         job = job_more t.counter (t.counter + 1) (omega arith) t.objects t.records t.job s.job;
       }
 
-pub add_user_sound : IdLaws → ((m : List ℕ) → length (sha256 m) ≡ 32) → (t : Tenant) (b : NewUser) → IsSound t → IsSound (add_user t b).tenant
+pub add_user_sound : IdLaws → ((m : List ℕ) → length (sha256 m) ≡ 32) → (t : Tenant) (b : NewUser) → HasSoundParts t → HasSoundParts (add_user t b).tenant
 add_user_sound ids size t b s =
     let u : User = record { id = next_id t user_prefix; name = b.name; digest = sha256 b.secret; role = option_map spelled_id b.role; admin = b.admin } in
-    when_judged IsSound t (new_user_rules t b) (accept (made_new u.id) (with_user u t)) s (λ h.
+    when_judged HasSoundParts t (new_user_rules t b) (accept (made_new u.id) (with_user u t)) s (λ h.
     let limits = room_for t limit.Users (length t.users) h.1.1.1.0 in
     user_added ids t s u refl
     (holds_not (is_name b.name) (unrefused (not (is_name b.name)) (refusal.InvalidName b.name) h.0))
@@ -109,9 +111,9 @@ module _ {A : Type 0} (id : A → List ℕ) (change : A → A) (same : (x : A) �
   pub at_it_holds : (P : A → Type 0) (x : A) → P x → P (change x) → P (at_it x)
   at_it_holds P x p q = pick (bytes_eq (id x) i) (λ b. P (cond b (change x) x)) (λ _. q) (λ _. p)
 
-pub set_user_sound : (t : Tenant) (user : List ℕ) (role : Option (List ℕ)) → IsSound t → IsSound (set_user t user role).tenant
+pub set_user_sound : (t : Tenant) (user : List ℕ) (role : Option (List ℕ)) → HasSoundParts t → HasSoundParts (set_user t user role).tenant
 set_user_sound t user role s =
-    when_judged IsSound t (user_rules t user role) (accept done (record t { users = changed user_id (λ u. record u { role = option_map spelled_id role }) (spelled_id user) t.users })) s (λ h.
+    when_judged HasSoundParts t (user_rules t user role) (accept done (record t { users = changed user_id (λ u. record u { role = option_map spelled_id role }) (spelled_id user) t.users })) s (λ h.
     let change : User → User = λ u. record u { role = option_map spelled_id role } in
     let f = at_it user_id change (λ u. refl) (spelled_id user) in
     let same = at_it_same user_id change (λ u. refl) (spelled_id user) in
@@ -157,7 +159,7 @@ parent_known k roles a i p e = by (with_id role_id roles i) refl e
         let it = found_at role_id roles i r w in
         subst (λ (o : Option (List ℕ)). IfSome o (λ i. IsTrue (k.role i))) e (all_at (IsSoundRole k) r roles a it.0).parent
 
-module _ (ids : IdLaws) (t : Tenant) (s : IsSound t) where
+module _ (ids : IdLaws) (t : Tenant) (s : HasSoundParts t) where
   role_grows : (r : Role) → Grows (known t) (known (with_role r t))
   role_grows r = record { people = record { counter = omega arith; user = λ i h. h; role = last_has role_id t.roles r; group = λ i h. h }; item = λ i h. h }
 
@@ -189,7 +191,7 @@ module _ (ids : IdLaws) (t : Tenant) (s : IsSound t) where
       ]
 
   pub role_added : (r : Role) → r.id ≡ next_id t role_prefix → is_name r.name ≡ true → IfSome r.parent (λ i. IsTrue ((known t).role i))
-      → length t.roles + 1 ≤ 500 → t.counter + 1 ≤ 999999999999999 → IsSound (with_role r t)
+      → length t.roles + 1 ≤ 500 → t.counter + 1 ≤ 999999999999999 → HasSoundParts (with_role r t)
   role_added r is name parent few more =
       let g = role_grows r in
       let k = known t in
@@ -219,10 +221,10 @@ module _ (ids : IdLaws) (t : Tenant) (s : IsSound t) where
         job = job_more t.counter (t.counter + 1) (omega arith) t.objects t.records t.job s.job;
       }
 
-pub add_role_sound : IdLaws → (t : Tenant) (name : List ℕ) (parent : Option (List ℕ)) → IsSound t → IsSound (add_role t name parent).tenant
+pub add_role_sound : IdLaws → (t : Tenant) (name : List ℕ) (parent : Option (List ℕ)) → HasSoundParts t → HasSoundParts (add_role t name parent).tenant
 add_role_sound ids t name parent s =
     let r : Role = record { id = next_id t role_prefix; name = name; parent = option_map spelled_id parent } in
-    when_judged IsSound t (new_role_rules t name parent) (accept (made_new r.id) (with_role r t)) s (λ h.
+    when_judged HasSoundParts t (new_role_rules t name parent) (accept (made_new r.id) (with_role r t)) s (λ h.
     let limits = room_for t limit.Roles (length t.roles) h.1.1.1.0 in
     role_added ids t s r refl
     (holds_not (is_name name) (unrefused (not (is_name name)) (refusal.InvalidName name) h.0))
@@ -278,10 +280,10 @@ other_parent t x new a = by (with_id role_id t.roles a) refl
         (λ w is. inl (now ∙ sym is ∙ sym old))
         refl
 
-pub set_role_sound : BelowLaw → (t : Tenant) (role : List ℕ) (parent : Option (List ℕ)) → IsSound t → IsSound (set_role t role parent).tenant
+pub set_role_sound : BelowLaw → (t : Tenant) (role : List ℕ) (parent : Option (List ℕ)) → HasSoundParts t → HasSoundParts (set_role t role parent).tenant
 set_role_sound law t role parent s =
     let new = option_map spelled_id parent in
-    when_judged IsSound t (role_rules t role parent) (accept done (record t { roles = changed role_id (λ r. record r { parent = option_map spelled_id parent }) (spelled_id role) t.roles })) s (λ h.
+    when_judged HasSoundParts t (role_rules t role parent) (accept done (record t { roles = changed role_id (λ r. record r { parent = option_map spelled_id parent }) (spelled_id role) t.roles })) s (λ h.
     let x = spelled_id role in
     let change : Role → Role = λ r. record r { parent = new } in
     let f = at_it role_id change (λ r. refl) x in
@@ -315,7 +317,7 @@ set_role_sound law t role parent s =
     })
 
 -- ---- groups
-module _ (ids : IdLaws) (t : Tenant) (s : IsSound t) where
+module _ (ids : IdLaws) (t : Tenant) (s : HasSoundParts t) where
   group_grows : (x : Group) → Grows (known t) (known (with_group x t))
   group_grows x = record { people = record { counter = omega arith; user = λ i h. h; role = λ i h. h; group = last_has group_id t.groups x }; item = λ i h. h }
 
@@ -336,7 +338,7 @@ module _ (ids : IdLaws) (t : Tenant) (s : IsSound t) where
       ]
 
   pub group_added : (x : Group) → x.id ≡ next_id t group_prefix → is_name x.name ≡ true → x.members ≡ []
-      → length t.groups + 1 ≤ 500 → t.counter + 1 ≤ 999999999999999 → IsSound (with_group x t)
+      → length t.groups + 1 ≤ 500 → t.counter + 1 ≤ 999999999999999 → HasSoundParts (with_group x t)
   group_added x is name empty few more =
       let g = group_grows x in
       let k = known t in
@@ -362,10 +364,10 @@ module _ (ids : IdLaws) (t : Tenant) (s : IsSound t) where
         job = job_more t.counter (t.counter + 1) (omega arith) t.objects t.records t.job s.job;
       }
 
-pub add_group_sound : IdLaws → (t : Tenant) (name : List ℕ) → IsSound t → IsSound (add_group t name).tenant
+pub add_group_sound : IdLaws → (t : Tenant) (name : List ℕ) → HasSoundParts t → HasSoundParts (add_group t name).tenant
 add_group_sound ids t name s =
     let x : Group = record { id = next_id t group_prefix; name = name; members = [] } in
-    when_judged IsSound t (new_group_rules t name) (accept (made_new x.id) (with_group x t)) s (λ h.
+    when_judged HasSoundParts t (new_group_rules t name) (accept (made_new x.id) (with_group x t)) s (λ h.
     let limits = room_for t limit.Groups (length t.groups) h.1.0 in
     group_added ids t s x refl (holds_not (is_name name) (unrefused (not (is_name name)) (refusal.InvalidName name) h.0)) refl limits.0 limits.1)
 
@@ -387,10 +389,10 @@ members_there t (p ∷ ps) e = by (is_there t (principal_of p)) refl e (members_
     by true w e more = both (knows (known t) (principal_of p)) (list_all (knows (known t)) (map principal_of ps)) (same (principal_of p) ∙ w) (more e)
     by false w e more = absurd cc
 
-pub set_group_sound : (t : Tenant) (group : List ℕ) (members : List Spelled) → IsSound t → IsSound (set_group t group members).tenant
+pub set_group_sound : (t : Tenant) (group : List ℕ) (members : List Spelled) → HasSoundParts t → HasSoundParts (set_group t group members).tenant
 set_group_sound t group members s =
     let new = map principal_of members in
-    when_judged IsSound t (group_rules t group members) (accept done (record t { groups = changed group_id (λ g. record g { members = map principal_of members }) (spelled_id group) t.groups })) s (λ h.
+    when_judged HasSoundParts t (group_rules t group members) (accept done (record t { groups = changed group_id (λ g. record g { members = map principal_of members }) (spelled_id group) t.groups })) s (λ h.
     let x = spelled_id group in
     let change : Group → Group = λ g. record g { members = new } in
     let f = at_it group_id change (λ g. refl) x in

@@ -27,7 +27,7 @@ use Rattle.ut_model.specs.Known.{Grows, known, names_any}
 use Rattle.ut_model.specs.Membership.{Has}
 use Rattle.ut_model.specs.Objects.{Numbered, is_of, object_number, record_prefix}
 use Rattle.ut_model.specs.Ordered.{put_in}
-use Rattle.ut_model.specs.Sound.{IsSound}
+use Rattle.ut_sound.proofs.SoundParts.{HasSoundParts}
 use Rattle.ut_model.specs.SoundJob.{HasSoundJob, IsSoundJob, copies}
 use Rattle.ut_model.specs.SoundRecords.{IsSoundRecord, UniqueHold, record_id, those_of}
 use Rattle.ut_model.specs.SoundSharing.{IsCursor}
@@ -83,7 +83,7 @@ not_null a b e h = refl
 abbrev pub id_order : Record → Record → Ordering
 id_order a b = slice_cmp nat_cmp a.id b.id
 
-module _ (ids : IdLaws) (t : Tenant) (s : IsSound t) (o : Numbered) (at : slice_get t.objects o.number ≡ Some o.object) (r : Record) (is : r.id ≡ made (record_prefix o.number) t.counter) where
+module _ (ids : IdLaws) (t : Tenant) (s : HasSoundParts t) (o : Numbered) (at : slice_get t.objects o.number ≡ Some o.object) (r : Record) (is : r.id ≡ made (record_prefix o.number) t.counter) where
   pub item_grows : Grows (known t) (known (with_record r t))
   item_grows = record { people = record { counter = omega arith; user = λ i h. h; role = λ i h. h; group = λ i h. h }; item = put_has id_order r record_id t.records }
 
@@ -208,7 +208,7 @@ module _ (ids : IdLaws) (t : Tenant) (s : IsSound t) (o : Numbered) (at : slice_
         let same = ap (λ (xs : List Record). length xs) (count_put_out (is_of n) id_order r t.records e) in
         omega (arith, same, s.records.few_of n)
 
-    pub record_added : IsSoundRecord (known (with_record r t)) t.objects r → length t.records + 1 ≤ 50000 → length (those_of o.number t.records) + 1 ≤ 20000 → t.counter + 1 ≤ 999999999999999 → IsSound (with_record r t)
+    pub record_added : IsSoundRecord (known (with_record r t)) t.objects r → length t.records + 1 ≤ 50000 → length (those_of o.number t.records) + 1 ≤ 20000 → t.counter + 1 ≤ 999999999999999 → HasSoundParts (with_record r t)
     record_added sound few few_of more =
         let g = item_grows in
         let k = known t in

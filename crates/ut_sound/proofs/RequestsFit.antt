@@ -25,7 +25,9 @@ use Rattle.ut_model.specs.Step.{query_text}
 use Rattle.ut_sound.specs.Fit.{IsFit, is_spelled}
 use Rattle.ut_sound.proofs.BodyTexts.{body_spells}
 use Rattle.ut_sound.proofs.FormsFit.{access_fits, bound, field_fits, mapped, object_fits, retype_fits, rule_fits, share_fits, some_is, validation_fits, where_is}
+use Rattle.ut_sound.proofs.SoundParts.{parts}
 use Rattle.ut_sound.proofs.GivenFits.{ReadLaw, key_fits, spelled_fits}
+use Rattle.ut_sound.proofs.RuleTexts.{AreSpelled}
 
 abbrev was_request : Request → Result Request Refusal
 was_request x = Ok x
@@ -125,6 +127,10 @@ query_fits a (Err place) x e = absurd cc
 by_form : (a : Asked) (bytes : List ℕ) (form : Body → Option Request) (x : Request) → ((b : Body) (y : Request) → form b ≡ Some y → IsFit a y) → by_body bytes form ≡ Ok x → IsFit a x
 by_form a bytes form x fits e = let b = of_body bytes form x e in fits b.0 x b.2
 
+-- the same of a form that also asks that texts are of characters
+by_spelled : (a : Asked) (bytes : List ℕ) (form : Body → Option Request) (x : Request) → ((b : Body) (y : Request) → AreSpelled b → form b ≡ Some y → IsFit a y) → by_body bytes form ≡ Ok x → IsFit a x
+by_spelled a bytes form x fits e = let b = of_body bytes form x e in fits b.0 x (body_spells bytes b.0 b.1) b.2
+
 module _ (law : ReadLaw) (a : Asked) (query_in : ReadsQuery) (body : List ℕ) (x : Request) (sound : IsSound a.tenant) where
   -- a form of what is given
   by_given : (make : List Assignment → Request) → ((given : List Assignment) → list_all (λ (x : Assignment). is_spelled x.given) given ≡ true → IsFit a (make given))
@@ -141,14 +147,14 @@ module _ (law : ReadLaw) (a : Asked) (query_in : ReadsQuery) (body : List ℕ) (
   request_fits (route.Update object key) e = by_given (updates object key) (λ given h n o at. spelled_fits law a o given h) e
   request_fits (route.Delete object key) e = subst (IsFit a) (request_is (deletes object key) x e) tt
   request_fits (route.Upsert object key value) e =
-      by_given (upserts object key (value_part value)) (λ given h. key_fits law a key (value_part value) given sound h (value_scalars value)) e
+      by_given (upserts object key (value_part value)) (λ given h. key_fits law a key (value_part value) given (parts sound) h (value_scalars value)) e
   request_fits route.Share e = by_form a body share_request x (share_fits a) e
   request_fits (route.Unshare item part) e = subst (IsFit a) (request_is (unshares item part (principal_in part)) x e) tt
   request_fits route.AddObject e = by_form a body object_request x (object_fits a) e
   request_fits (route.SetObject object) e = by_form a body (access_request object) x (access_fits a object) e
   request_fits route.AddField e = by_form a body field_request x (field_fits a) e
-  request_fits route.AddValidationRule e = by_form a body validation_request x (validation_fits a) e
-  request_fits route.AddSharingRule e = by_form a body sharing_rule_request x (rule_fits a) e
+  request_fits route.AddValidationRule e = by_spelled a body validation_request x (validation_fits a) e
+  request_fits route.AddSharingRule e = by_spelled a body sharing_rule_request x (rule_fits a) e
   request_fits (route.RemoveSharingRule name) e = subst (IsFit a) (request_is (removes_sharing_rule name) x e) tt
   request_fits route.AddUser e = by_form a body user_request x (user_fits a) e
   request_fits (route.SetUser id) e = by_form a body (user_role_request id) x (user_role_fits a id) e

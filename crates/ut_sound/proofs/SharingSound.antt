@@ -1,5 +1,6 @@
 -- What a request about sharing leaves is sound.
 use Rattle.std.proofs.Common.{◌≡◌, ℕ, suc, ◌+◌, ◌≤◌, Bool, true, false, not, ◌&&◌, ◌||◌, cond, List, [], ◌∷◌, map, length, filter, Option, Some, None, is_some, refl, ap, sym, subst, ◌∙◌, arith, inl, inr, bytes_eq, codes, nat_le, nat_lt, slice_get, Equal, Ordering, is_eq, find}
+use Rattle.std.specs.Str.{all_scalars}
 use Rattle.std.specs.List.{AllByRecursion, enumerate_from, list_any}
 use Rattle.std.specs.Ordering.{ordering_reverse}
 use Rattle.std.specs.Option.{unwrap_or}
@@ -19,19 +20,20 @@ use Rattle.ut_model.specs.declared.limit.Limit.TheVariants as limit
 use Rattle.ut_model.specs.Cases.{in_case}
 use Rattle.ut_model.specs.Fields.{is_detail, same_name}
 use Rattle.ut_model.specs.Known.{known, knows}
-use Rattle.ut_model.specs.Levels.{Reads, can_read}
+use Rattle.ut_model.specs.Levels.{can_read}
 use Rattle.ut_model.specs.Membership.{Has}
 use Rattle.ut_model.specs.Names.{is_stem, taken}
 use Rattle.ut_model.specs.Objects.{Numbered, object_named, object_number, record_at}
 use Rattle.ut_model.specs.Ordered.{put_in}
 use Rattle.ut_model.specs.Paths.{Asked}
-use Rattle.ut_model.specs.Principals.{Spelled, bad_id, spelled_id, is_there, kind_number, not_there, principal_cmp, principal_id, principal_of}
+use Rattle.ut_model.specs.declared.people_bodies.Spelled.{Spelled}
+use Rattle.ut_model.specs.Principals.{bad_id, spelled_id, is_there, kind_number, not_there, principal_cmp, principal_id, principal_of}
 use Rattle.ut_model.specs.Rights.{with_readable}
-use Rattle.ut_model.specs.RuleFormulas.{name_cmp}
+use Rattle.ut_model.specs.RuleFormulas.{malformed, name_cmp}
 use Rattle.ut_model.specs.Rules.{Rule, in_body_order, refuse_if}
 use Rattle.ut_model.specs.Shares.{NewShare, same_share, share, share_cmp, share_of, share_rules, shares_of, unshare, unshare_rules, unshare_with, with_share, without_share}
-use Rattle.ut_model.specs.SharingRules.{NewSharingRule, SpelledSource, add_sharing_rule, by_formula, from, new_rule, remove_sharing_rule, sharing_rules, source_of, source_owner, with_rule}
-use Rattle.ut_model.specs.Sound.{IsSound}
+use Rattle.ut_model.specs.SharingRules.{NewSharingRule, SpelledSource, add_sharing_rule, by_formula, from, new_rule, remove_sharing_rule, sharing_rules, source_formula, source_of, source_owner, with_rule}
+use Rattle.ut_sound.proofs.SoundParts.{HasSoundParts}
 use Rattle.ut_model.specs.SoundRecords.{IsSoundRecord, record_id}
 use Rattle.ut_model.specs.SoundSharing.{NumbersOnce, HasSoundRules, HasSoundShares, IsSoundRule, IsSoundShare, is_grant, is_sound_source}
 use Rattle.ut_model.specs.Tenant.{Object, Share, SharingRule, Tenant}
@@ -42,6 +44,7 @@ use Rattle.ut_sound.proofs.Orders.{rise_kept, rise_put}
 use Rattle.ut_sound.proofs.Growing.{within_limit}
 use Rattle.ut_sound.proofs.Roles.{found_at}
 use Rattle.ut_sound.proofs.PeopleSound.{when_judged}
+use Rattle.ut_sound.proofs.RuleTexts.{short_text}
 
 -- ---- an object that is found by its name is at its number
 some_is : {A : Type 0} (x y : A) → Some x ≡ Some y → x ≡ y
@@ -77,11 +80,11 @@ when_object P t name verdict h f = by (object_named t name) refl
     by (Some o) e = f o (named_at t name o e)
 
 -- ---- one part alone is changed
-pub rules_changed : (t : Tenant) (rules : List SharingRule) (drawn : ℕ) → IsSound t → HasSoundRules (known t) t.objects drawn rules → IsSound (record t { rules = rules; rule_numbers = drawn })
+pub rules_changed : (t : Tenant) (rules : List SharingRule) (drawn : ℕ) → HasSoundParts t → HasSoundRules (known t) t.objects drawn rules → HasSoundParts (record t { rules = rules; rule_numbers = drawn })
 rules_changed t rules drawn s h =
     record { name = s.name; counter = s.counter; numbers = s.numbers; users = s.users; roles = s.roles; groups = s.groups; metadata = s.metadata; records = s.records; rules = h; shares = s.shares; job = s.job }
 
-pub shares_changed : (t : Tenant) (shares : List Share) → IsSound t → HasSoundShares (known t) t.objects shares → IsSound (record t { shares = shares })
+pub shares_changed : (t : Tenant) (shares : List Share) → HasSoundParts t → HasSoundShares (known t) t.objects shares → HasSoundParts (record t { shares = shares })
 shares_changed t shares s h =
     record { name = s.name; counter = s.counter; numbers = s.numbers; users = s.users; roles = s.roles; groups = s.groups; metadata = s.metadata; records = s.records; rules = s.rules; shares = h; job = s.job }
 
@@ -105,9 +108,9 @@ there_named t member p e = same p ∙ holds_not (is_there t p) (unrefused (not (
     same (to.Group i) = refl
 
 -- the source is sound
-new_source : (t : Tenant) (source : SpelledSource) → in_case (source_owner source) None (λ p. not_there t (codes "from") (principal_of p)) ≡ None → is_sound_source (known t) state.Whole (source_of source) ≡ true
-new_source t (from p) e = both (knows (known t) (principal_of p)) true (there_named t (codes "from") (principal_of p) e) refl
-new_source t (by_formula text) e = refl
+new_source : (t : Tenant) (o : Object) (members : List (List ℕ)) (source : SpelledSource) → has_source members source ≡ true → in_case (source_formula o source) None malformed ≡ None → in_case (source_owner source) None (λ p. not_there t (codes "from") (principal_of p)) ≡ None → is_sound_source (known t) state.Whole (source_of source) ≡ true
+new_source t o members (from p) fit short e = both (knows (known t) (principal_of p)) true (there_named t (codes "from") (principal_of p) e) refl
+new_source t o members (by_formula text) fit short e = both (all_scalars text) (nat_le (length text) 4000) fit (short_text o true text short)
 
 -- two names in one place of the order are one name
 pub tied_names : (a b : List ℕ) → name_cmp a b ≡ Equal → same_name a b ≡ true
@@ -131,7 +134,7 @@ own_number : (n : ℕ) → (nat_le 1 (n + 1) && nat_le (n + 1) (n + 1)) ≡ true
 own_number n = both (nat_le 1 (n + 1)) (nat_le (n + 1) (n + 1)) (grind (arith, nat_tests)) (grind (arith, nat_tests))
 
 -- its number is that of no other
-once : (t : Tenant) (r : SharingRule) → r.number ≡ t.rule_numbers + 1 → IsSound t → NumbersOnce (put_in (λ a b. name_cmp a.name b.name) r t.rules)
+once : (t : Tenant) (r : SharingRule) → r.number ≡ t.rule_numbers + 1 → HasSoundParts t → NumbersOnce (put_in (λ a b. name_cmp a.name b.name) r t.rules)
 once t r is s x y a b e =
     elim (among_put (λ a b. name_cmp a.name b.name) r t.rules x a) [
       | inl m ↦ elim (among_put (λ a b. name_cmp a.name b.name) r t.rules y b) [ inl n ↦ s.rules.numbers x y m n e | inr i ↦ absurd (low x m (e ∙ ap (λ (z : SharingRule). z.number) i)) ]
@@ -148,10 +151,10 @@ from_there : (t : Tenant) (members : List (List ℕ)) (source : SpelledSource) �
 from_there t members (from q) fit p e = member_rule ((codes "to", not_there t (codes "to") p) ∷ (codes "from", not_there t (codes "from") (principal_of q)) ∷ []) members (codes "from") e fit
 from_there t members (by_formula text) fit p e = refl
 
-pub add_rule_sound : (reads : Reads) (t : Tenant) (b : NewSharingRule) → is_fit_rule b ≡ true → IsSound t → IsSound (add_sharing_rule reads t b).tenant
-add_rule_sound reads t b fit s =
-    when_object IsSound t b.object (λ o. judged t (sharing_rules reads t o b) (accept done (with_rule (new_rule t o.number b) t))) s (λ o at.
-    when_judged IsSound t (sharing_rules reads t o b) (accept done (with_rule (new_rule t o.number b) t)) s (λ h.
+pub add_rule_sound : (t : Tenant) (b : NewSharingRule) → is_fit_rule b ≡ true → HasSoundParts t → HasSoundParts (add_sharing_rule t b).tenant
+add_rule_sound t b fit s =
+    when_object HasSoundParts t b.object (λ o. judged t (sharing_rules t o b) (accept done (with_rule (new_rule t o.number b) t))) s (λ o at.
+    when_judged HasSoundParts t (sharing_rules t o b) (accept done (with_rule (new_rule t o.number b) t)) s (λ h.
     let r = new_rule t o.number b in
     let k = known t in
     let order : SharingRule → SharingRule → Ordering = λ a b. name_cmp a.name b.name in
@@ -164,7 +167,7 @@ add_rule_sound reads t b fit s =
       name = holds_not (is_stem b.name) (unrefused (not (is_stem b.name)) (refusal.InvalidName b.name) h.1.0);
       object = ap (λ z. in_case z false (λ (o : Object). not (is_detail o))) at ∙ ap not (unrefused (is_detail o.object) (refusal.InvalidType o.object.name) h.0);
       number = own_number t.rule_numbers;
-      source = new_source t b.source (from_there t b.members b.source (both_right (has_member b.members (codes "to")) (has_source b.members b.source) members) (principal_of b.to) h.1.1.1.1.0);
+      source = new_source t o.object b.members b.source (both_right (has_member b.members (codes "to")) (has_source b.members b.source) members) h.1.1.1.1.1.0 (from_there t b.members b.source (both_right (has_member b.members (codes "to")) (has_source b.members b.source) members) (principal_of b.to) h.1.1.1.1.0);
       to = there_named t (codes "to") (principal_of b.to) to_there;
       level = both_left (is_grant b.level) (has_member b.members (codes "to") && has_source b.members b.source) fit;
       cursor = tt;
@@ -179,10 +182,10 @@ add_rule_sound reads t b fit s =
     })))
 
 -- ---- a sharing rule that is removed
-pub remove_rule_sound : (t : Tenant) (name : List ℕ) → IsSound t → IsSound (remove_sharing_rule t name).tenant
+pub remove_rule_sound : (t : Tenant) (name : List ℕ) → HasSoundParts t → HasSoundParts (remove_sharing_rule t name).tenant
 remove_rule_sound t name s =
     let p : SharingRule → Bool = λ r. not (same_name r.name name) in
-    when_judged IsSound t (refuse_if (not (list_any (λ r. same_name r.name name) t.rules)) refusal.NotFound ∷ []) (accept done (record t { rules = filter p t.rules })) s (λ h.
+    when_judged HasSoundParts t (refuse_if (not (list_any (λ r. same_name r.name name) t.rules)) refusal.NotFound ∷ []) (accept done (record t { rules = filter p t.rules })) s (λ h.
     rules_changed t (filter p t.rules) t.rule_numbers s
     (record {
       each = all_kept (IsSoundRule (known t) t.objects t.rule_numbers) p t.rules s.rules.each;
@@ -232,16 +235,16 @@ share_put t x sound few s =
 pub when_readable : (P : Tenant → Type 0) (a : Asked) (found : Option Record) (verdict : Record → Verdict) → P a.tenant → ((r : Record) → found ≡ Some r → P (verdict r).tenant) → P (with_readable a found verdict).tenant
 when_readable P a None verdict h f = h
 when_readable P a (Some r) verdict h f =
-    pick (can_read a.reads a.tenant a.user r) (λ b. P (in_case (cond b (Some r) None) (refuse a.tenant refusal.NotFound) verdict).tenant) (λ _. f r refl) (λ _. h)
+    pick (can_read a.tenant a.user r) (λ b. P (in_case (cond b (Some r) None) (refuse a.tenant refusal.NotFound) verdict).tenant) (λ _. f r refl) (λ _. h)
 
-pub share_sound : (a : Asked) (b : NewShare) → is_fit_share b ≡ true → IsSound a.tenant → IsSound (share a b).tenant
+pub share_sound : (a : Asked) (b : NewShare) → is_fit_share b ≡ true → HasSoundParts a.tenant → HasSoundParts (share a b).tenant
 share_sound a b fit s =
     let t = a.tenant in
     let x = share_of b in
-    when_judged IsSound t (in_body_order b.members ((codes "record", bad_id b.item) ∷ (codes "to", bad_id b.to.text) ∷ []) ∷ [])
+    when_judged HasSoundParts t (in_body_order b.members ((codes "record", bad_id b.item) ∷ (codes "to", bad_id b.to.text) ∷ []) ∷ [])
     (with_readable a (record_at t (spelled_id b.item)) (λ r. judged t (share_rules a x r) (accept done (record t { shares = with_share x t.shares })))) s (λ _.
-    when_readable IsSound a (record_at t (spelled_id b.item)) (λ r. judged t (share_rules a x r) (accept done (record t { shares = with_share x t.shares }))) s (λ r found.
-    when_judged IsSound t (share_rules a x r) (accept done (record t { shares = with_share x t.shares })) s (λ h.
+    when_readable HasSoundParts a (record_at t (spelled_id b.item)) (λ r. judged t (share_rules a x r) (accept done (record t { shares = with_share x t.shares }))) s (λ r found.
+    when_judged HasSoundParts t (share_rules a x r) (accept done (record t { shares = with_share x t.shares })) s (λ h.
     let at = found_at record_id t.records (spelled_id b.item) r found in
     let sound = all_at (IsSoundRecord (known t) t.objects) r t.records s.records.each at.0 in
     let here_is : slice_get t.objects (object_number x.item) ≡ Some sound.object = ap (λ (i : List ℕ). slice_get t.objects (object_number i)) at.1 ∙ sound.there in
@@ -259,15 +262,15 @@ share_sound a b fit s =
     (within_limit 100 (length (shares_of x.item (with_share x t.shares))) (refusal.LimitExceeded limit.SharesPerRecord) limits.0)
     s.shares))))
 
-pub unshare_sound : (a : Asked) (item part : List ℕ) (to : Option Spelled) → IsSound a.tenant → IsSound (unshare a item part to).tenant
+pub unshare_sound : (a : Asked) (item part : List ℕ) (to : Option Spelled) → HasSoundParts a.tenant → HasSoundParts (unshare a item part to).tenant
 unshare_sound a item part to s =
-    when_judged IsSound a.tenant (bad_id item ∷ []) (in_case to (refuse a.tenant (refusal.MalformedId part)) (λ p. judged a.tenant (bad_id p.text ∷ []) (unshare_with a item p))) s (λ _. by to)
+    when_judged HasSoundParts a.tenant (bad_id item ∷ []) (in_case to (refuse a.tenant (refusal.MalformedId part)) (λ p. judged a.tenant (bad_id p.text ∷ []) (unshare_with a item p))) s (λ _. by to)
   where
-    by : (to : Option Spelled) → IsSound (in_case to (refuse a.tenant (refusal.MalformedId part)) (λ p. judged a.tenant (bad_id p.text ∷ []) (unshare_with a item p))).tenant
+    by : (to : Option Spelled) → HasSoundParts (in_case to (refuse a.tenant (refusal.MalformedId part)) (λ p. judged a.tenant (bad_id p.text ∷ []) (unshare_with a item p))).tenant
     by None = s
     by (Some p) =
         let x : Share = record { item = spelled_id item; to = principal_of p; level = level.Full } in
-        when_judged IsSound a.tenant (bad_id p.text ∷ []) (unshare_with a item p) s (λ _.
-        when_readable IsSound a (record_at a.tenant x.item) (λ r. judged a.tenant (unshare_rules a x r) (accept done (record a.tenant { shares = without_share x a.tenant.shares }))) s (λ r found.
-        when_judged IsSound a.tenant (unshare_rules a x r) (accept done (record a.tenant { shares = without_share x a.tenant.shares })) s (λ h.
+        when_judged HasSoundParts a.tenant (bad_id p.text ∷ []) (unshare_with a item p) s (λ _.
+        when_readable HasSoundParts a (record_at a.tenant x.item) (λ r. judged a.tenant (unshare_rules a x r) (accept done (record a.tenant { shares = without_share x a.tenant.shares }))) s (λ r found.
+        when_judged HasSoundParts a.tenant (unshare_rules a x r) (accept done (record a.tenant { shares = without_share x a.tenant.shares })) s (λ h.
         shares_changed a.tenant (without_share x a.tenant.shares) s (shares_kept a.tenant (λ y. not (same_share y x)) s.shares))))

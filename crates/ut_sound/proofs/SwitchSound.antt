@@ -28,7 +28,7 @@ use Rattle.ut_model.specs.Objects.{Numbered, change_at, is_of, numbered, object_
 use Rattle.ut_model.specs.Relationships.{Reference, reference_at, references_of, target_of}
 use Rattle.ut_model.specs.Retyping.{is_checkbox, to_clear}
 use Rattle.ut_model.specs.RuleFormulas.{is_copy}
-use Rattle.ut_model.specs.Sound.{IsSound}
+use Rattle.ut_sound.proofs.SoundParts.{HasSoundParts}
 use Rattle.ut_model.specs.SoundJob.{HasSoundJob, IsSoundJob, copies, is_failed, is_open}
 use Rattle.ut_model.specs.SoundMetadata.{IsSoundField, IsSoundObject, implies, may_be_required, names_differ}
 use Rattle.ut_model.specs.SoundRecords.{IsSoundRecord, UniqueHold, all_valid, is_sound_reference, kinds_of, record_id, those_of}
@@ -109,7 +109,7 @@ take_none : (xs : List Record) → take 100 xs ≡ [] → xs ≡ []
 take_none [] e = refl
 take_none (x ∷ xs) e = absurd cc
 
-module _ (law : ConvertLaw) (t : Tenant) (s : IsSound t) (j : Job) (h : IsSoundJob t.counter t.objects t.records j) (copy : j.phase ≡ phase.Copy) (left : next_hundred t j ≡ []) where
+module _ (law : ConvertLaw) (t : Tenant) (s : HasSoundParts t) (j : Job) (h : IsSoundJob t.counter t.objects t.records j) (copy : j.phase ≡ phase.Copy) (left : next_hundred t j ≡ []) where
   abbrev g : Field → Field
   g f = record f { kind = j.to }
 
@@ -391,7 +391,7 @@ module _ (law : ConvertLaw) (t : Tenant) (s : IsSound t) (j : Job) (h : IsSoundJ
           let was = sym (ap (λ z. in_case z false (λ (o : Object). not (is_detail o))) (ap (slice_get os) k ∙ holder.1)) ∙ w in
           ap (λ z. in_case z false (λ (o : Object). not (is_detail o))) (ap (slice_get now) k ∙ same_at change j.object os holder.0 holder.1) ∙ ap not (detail_kept holder.0 holder.1) ∙ was
 
-  pub switch_sound : IsSound (switched j t)
+  pub switch_sound : HasSoundParts (switched j t)
   switch_sound =
       let k = known t in
       let l = known u in
@@ -451,5 +451,5 @@ module _ (law : ConvertLaw) (t : Tenant) (s : IsSound t) (j : Job) (h : IsSoundJ
       open_not_failed o e = absurd cc
 
 -- every step
-pub any_step_sound : ConvertLaw → (t : Tenant) → IsSound t → IsSound (job_step t)
+pub any_step_sound : ConvertLaw → (t : Tenant) → HasSoundParts t → HasSoundParts (job_step t)
 any_step_sound law t s = step_sound t (λ j is copy left. switch_sound law t s j (subst (λ (z : Option Job). HasSoundJob t.counter t.objects t.records z) is s.job) copy left) s

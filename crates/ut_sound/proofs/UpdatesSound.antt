@@ -27,7 +27,7 @@ use Rattle.ut_model.specs.Paths.{Asked}
 use Rattle.ut_model.specs.Relationships.{references_of}
 use Rattle.ut_model.specs.Rights.{denied, record_in, with_named, with_readable}
 use Rattle.ut_model.specs.Rules.{first_of, refuse_if}
-use Rattle.ut_model.specs.Sound.{IsSound}
+use Rattle.ut_sound.proofs.SoundParts.{HasSoundParts}
 use Rattle.ut_model.specs.SoundJob.{HasSoundJob, IsSoundJob, copies}
 use Rattle.ut_model.specs.SoundRecords.{HasSoundRecords, IsSoundRecord, UniqueHold, all_valid, is_sound_owner, is_sound_reference, kinds_of, record_id, those_of}
 use Rattle.ut_model.specs.SoundSharing.{HasSoundShares}
@@ -45,8 +45,8 @@ use Rattle.ut_sound.proofs.ContentSound.{owner_sound, references_sound, unique_s
 use Rattle.ut_sound.proofs.RecordsSound.{equal_turned, not_null}
 
 -- ---- other records and shares: the rest stays
-pub records_edited : (t : Tenant) (rs : List Record) (shares : List Share) → IsSound t → let u = record t { records = rs; shares = shares } in
-    ((i : List ℕ) → (known u).item i ≡ true → (known t).item i ≡ true) → HasSoundRecords (known u) t.objects rs → HasSoundShares (known u) t.objects shares → HasSoundJob t.counter t.objects rs t.job → IsSound u
+pub records_edited : (t : Tenant) (rs : List Record) (shares : List Share) → HasSoundParts t → let u = record t { records = rs; shares = shares } in
+    ((i : List ℕ) → (known u).item i ≡ true → (known t).item i ≡ true) → HasSoundRecords (known u) t.objects rs → HasSoundShares (known u) t.objects shares → HasSoundJob t.counter t.objects rs t.job → HasSoundParts u
 records_edited t rs shares s back records_sound shares_sound job =
     let k = known t in
     let l = known (record t { records = rs; shares = shares }) in
@@ -72,7 +72,7 @@ records_edited t rs shares s back records_sound shares_sound job =
     less false false false d e f h = f h
 
 -- ---- one record changed in its place
-module _ (t : Tenant) (s : IsSound t) (old : Record) (among : Has t.records old) (new : Record) (same_id : new.id ≡ old.id) where
+module _ (t : Tenant) (s : HasSoundParts t) (old : Record) (among : Has t.records old) (new : Record) (same_id : new.id ≡ old.id) where
   abbrev f : Record → Record
   f r = cond (bytes_eq r.id new.id) new r
 
@@ -92,7 +92,7 @@ module _ (t : Tenant) (s : IsSound t) (old : Record) (among : Has t.records old)
       → ((n place : ℕ) (p : Object) (g : Field) → slice_get t.objects n ≡ Some p → slice_get p.fields place ≡ Some g → g.unique ≡ true → object_number new.id ≡ n → is_null (value_at new.values (suc place)) ≡ false
       → (x : Record) → Has (those_of n t.records) x → bytes_eq x.id new.id ≡ false → equal (value_at x.values (suc place)) (value_at new.values (suc place)) ≡ true → ⊥)
       → ((j : Job) → t.job ≡ Some j → is_of j.object new ≡ true → copies j new ≡ true)
-      → IsSound (record t { records = map f t.records; shares = shares })
+      → HasSoundParts (record t { records = map f t.records; shares = shares })
   record_changed shares shares_sound sound unique copied =
       let k = known t in
       let u = record t { records = map f t.records; shares = shares } in
@@ -171,7 +171,7 @@ same_ref (value.Ref a) id e = ap (λ (z : List ℕ). Some z) (same_exact a id e)
 same_ref v id e = absurd cc
 
 pub update_on_sound : (a : Asked) (o : Numbered) (key : Option Key) (given : List Assignment) (old : Record) → slice_get a.tenant.objects o.number ≡ Some o.object → Has a.tenant.records old → is_of o.number old ≡ true → IsCaller a
-    → ReadsWell a o.object (with_key key given) → IsSound a.tenant → IsSound (update_on a o key given old).tenant
+    → ReadsWell a o.object (with_key key given) → HasSoundParts a.tenant → HasSoundParts (update_on a o key given old).tenant
 update_on_sound a o key given old at among of caller reads s =
     let t = a.tenant in
     let k = known t in
@@ -180,7 +180,7 @@ update_on_sound a o key given old at among of caller reads s =
     let number : object_number old.id ≡ o.number = eqb-true (object_number old.id) o.number of in
     let object : was.object ≡ o.object = out was.object o.object (sym was.there ∙ ap (slice_get t.objects) number ∙ at) in
     let same : record { number = object_number old.id; object = was.object } ≡ o = λ i. record { number = number i; object = object i } in
-    when_judged IsSound t (update_rules a o key given old new) (accept (in_case key done (λ k. upserted old.id false)) (with_changed old new t)) s (λ h.
+    when_judged HasSoundParts t (update_rules a o key given old new) (accept (in_case key done (λ k. upserted old.id false)) (with_changed old new t)) s (λ h.
     let fit = reads h.1.0 old (subst (λ (z : Numbered). all_valid (kinds_of z.object) old.values ≡ true) same was.values) in
     let target = h.1.1.1.1.0 in
     let owner = owner_sound t o.object (with_key key given) old new refl (subst (λ (z : Object). is_sound_owner k z old.owner ≡ true) object was.owner)
@@ -237,7 +237,7 @@ update_on_sound a o key given old at among of caller reads s =
         let no = unrefused (conflicts o new j) (refusal.RetypeConflict h.field.name) asked in
         parts (j.object == o.number) (is_copied j.phase j.cursor old.id) (convert j.to (value_at new.values (suc j.field))) (eq-eqb j.object o.number it) no
 
-pub update_sound : (a : Asked) (object key : List ℕ) (given : List Assignment) → IsCaller a → OfObjects a (λ o. ReadsWell a o given) → IsSound a.tenant → IsSound (update a object key given).tenant
+pub update_sound : (a : Asked) (object key : List ℕ) (given : List Assignment) → IsCaller a → OfObjects a (λ o. ReadsWell a o given) → HasSoundParts a.tenant → HasSoundParts (update a object key given).tenant
 update_sound a object key given caller reads s =
-    when_object IsSound a.tenant object (λ o. with_named a o key Edit (update_on a o None given)) s (λ o at.
-    when_named IsSound a o key Edit (update_on a o None given) s (λ r among of. update_on_sound a o None given r at among of caller (reads o.number o.object at) s))
+    when_object HasSoundParts a.tenant object (λ o. with_named a o key Edit (update_on a o None given)) s (λ o at.
+    when_named HasSoundParts a o key Edit (update_on a o None given) s (λ r among of. update_on_sound a o None given r at among of caller (reads o.number o.object at) s))

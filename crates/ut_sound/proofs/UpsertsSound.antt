@@ -15,7 +15,7 @@ use Rattle.ut_model.specs.Membership.{Has}
 use Rattle.ut_model.specs.Objects.{Numbered, is_of, records_of}
 use Rattle.ut_model.specs.Paths.{Asked}
 use Rattle.ut_model.specs.Rights.{denied}
-use Rattle.ut_model.specs.Sound.{IsSound}
+use Rattle.ut_sound.proofs.SoundParts.{HasSoundParts}
 use Rattle.ut_model.specs.Tenant.{Field, Tenant}
 use Rattle.ut_model.specs.Updates.{update_on}
 use Rattle.ut_model.specs.Upserts.{declared_name, key_value, unique_named, upsert, upsert_by, with_read}
@@ -41,24 +41,24 @@ when_read P t (Ok v) verdict h f = f v refl
 when_read P t (Err why) verdict h f = h
 
 pub upsert_sound : IdLaws → (a : Asked) (object key : List ℕ) (text : Option (List ℕ)) (given : List Assignment) → IsCaller a
-    → OfObjects a (λ o. ReadsWellByKey a key text o given) → IsSound a.tenant → IsSound (upsert a object key text given).tenant
+    → OfObjects a (λ o. ReadsWellByKey a key text o given) → HasSoundParts a.tenant → HasSoundParts (upsert a object key text given).tenant
 unfolding record_with
 upsert_sound ids a object key text given caller reads s =
-    when_object IsSound a.tenant object
+    when_object HasSoundParts a.tenant object
     (λ o. in_case (unique_named o.object key) (refuse a.tenant (refusal.InvalidField (declared_name o.object key))) (λ f. with_read a.tenant (key_value f.1 text) (upsert_by a o given f))) s
     (λ o at. by_field o at (unique_named o.object key) refl)
   where
     by_record : (o : Numbered) → slice_get a.tenant.objects o.number ≡ Some o.object → (k : Key) → ReadsWell a o.object (with_key (Some k) given) → (p : Record → Bool) (r : Option Record) → find p (records_of a.tenant o.number) ≡ r
-        → IsSound (in_case r (create_on a o (Some k) given) (λ r. judged a.tenant (denied a Edit r ∷ []) (update_on a o (Some k) given r))).tenant
+        → HasSoundParts (in_case r (create_on a o (Some k) given) (λ r. judged a.tenant (denied a Edit r ∷ []) (update_on a o (Some k) given r))).tenant
     by_record o at k well p None e = create_on_sound ids a o (Some k) given at caller well s
     by_record o at k well p (Some r) e =
         let m = among_kept (is_of o.number) a.tenant.records r (found_record p (records_of a.tenant o.number) r e) in
-        when_judged IsSound a.tenant (denied a Edit r ∷ []) (update_on a o (Some k) given r) s (λ _.
+        when_judged HasSoundParts a.tenant (denied a Edit r ∷ []) (update_on a o (Some k) given r) s (λ _.
         update_on_sound a o (Some k) given r at m.0 m.1 caller well s)
 
     by_field : (o : Numbered) → slice_get a.tenant.objects o.number ≡ Some o.object → (f : Option (ℕ × Field)) → unique_named o.object key ≡ f
-        → IsSound (in_case f (refuse a.tenant (refusal.InvalidField (declared_name o.object key))) (λ f. with_read a.tenant (key_value f.1 text) (upsert_by a o given f))).tenant
+        → HasSoundParts (in_case f (refuse a.tenant (refusal.InvalidField (declared_name o.object key))) (λ f. with_read a.tenant (key_value f.1 text) (upsert_by a o given f))).tenant
     by_field o at None e = s
     by_field o at (Some f) e =
-        when_read IsSound a.tenant (key_value f.1 text) (upsert_by a o given f) s (λ v w.
+        when_read HasSoundParts a.tenant (key_value f.1 text) (upsert_by a o given f) s (λ v w.
         by_record o at (key_of f v) (reads o.number o.object at f v e w) (has_value f.0 v) (record_with a.tenant o.number f.0 v) refl)

@@ -8,11 +8,12 @@ use Rattle.ut_model.specs.Cases.{in_case}
 use Rattle.ut_model.specs.Paths.{Asked}
 use Rattle.ut_model.specs.Requests.{Request, verdict_on, asks, creates, updates, deletes, upserts, shares, unshares, adds_object, sets_object, adds_field, adds_validation_rule, adds_sharing_rule, removes_sharing_rule, adds_user, sets_user, adds_role, sets_role, adds_group, sets_group, begins_retype, gets_retype, cancels_retype}
 use Rattle.ut_model.specs.Retyping.{get_retype}
-use Rattle.ut_model.specs.Sound.{IsSound}
+use Rattle.ut_sound.proofs.SoundParts.{HasSoundParts}
 use Rattle.ut_model.specs.SoundFormulas.{AreFormulasSound}
 use Rattle.ut_model.specs.Tenant.{Job, Tenant}
 use Rattle.ut_model.specs.Verdict.{accept, judged, refuse, rows_of, state_of}
-use Rattle.ut_sound.specs.Fit.{IsCaller, IsFit, ReadsFormulas}
+use Rattle.ut_rule_text.specs.Reading.{ReadsFormulas}
+use Rattle.ut_sound.specs.Fit.{IsCaller, IsFit}
 use Rattle.ut_sound.proofs.Digests.{digest_size}
 use Rattle.ut_sound.proofs.Growing.{IdLaws}
 use Rattle.ut_sound.proofs.PeopleSound.{BelowLaw, add_group_sound, add_role_sound, add_user_sound, set_group_sound, set_role_sound, set_user_sound, when_judged}
@@ -48,8 +49,8 @@ not_so : (b : Bool) → not b ≡ true → b ≡ false
 not_so true e = absurd cc
 not_so false e = refl
 
-pub verdict_sound : IdLaws → BelowLaw → (a : Asked) (r : Request) → IsCaller a → IsFit a r → IsSound a.tenant → IsSound (verdict_on a r).tenant
-verdict_sound ids below a (asks q) caller fit s = asked_kept IsSound a q s
+pub verdict_sound : IdLaws → BelowLaw → (a : Asked) (r : Request) → IsCaller a → IsFit a r → HasSoundParts a.tenant → HasSoundParts (verdict_on a r).tenant
+verdict_sound ids below a (asks q) caller fit s = asked_kept HasSoundParts a q s
 verdict_sound ids below a (creates object given) caller fit s = create_sound ids a object given caller fit s
 verdict_sound ids below a (updates object key given) caller fit s = update_sound a object key given caller fit s
 verdict_sound ids below a (deletes object key) caller fit s = delete_sound a object key caller.1 s
@@ -59,8 +60,8 @@ verdict_sound ids below a (unshares item part to) caller fit s = unshare_sound a
 verdict_sound ids below a (adds_object b) caller fit s = add_object_sound a.tenant b fit s
 verdict_sound ids below a (sets_object object access) caller fit s = set_access_sound a.tenant object access (not_so (by_parent access) fit) s
 verdict_sound ids below a (adds_field b) caller fit s = add_field_sound a.tenant b fit s
-verdict_sound ids below a (adds_validation_rule b) caller fit s = add_validation_sound a.reads a.tenant b fit s
-verdict_sound ids below a (adds_sharing_rule b) caller fit s = add_rule_sound a.reads a.tenant b fit s
+verdict_sound ids below a (adds_validation_rule b) caller fit s = add_validation_sound a.tenant b fit s
+verdict_sound ids below a (adds_sharing_rule b) caller fit s = add_rule_sound a.tenant b fit s
 verdict_sound ids below a (removes_sharing_rule name) caller fit s = remove_rule_sound a.tenant name s
 verdict_sound ids below a (adds_user b) caller fit s = add_user_sound ids digest_size a.tenant b s
 verdict_sound ids below a (sets_user id role) caller fit s = set_user_sound a.tenant id role s
@@ -68,31 +69,31 @@ verdict_sound ids below a (adds_role name parent) caller fit s = add_role_sound 
 verdict_sound ids below a (sets_role id parent) caller fit s = set_role_sound below a.tenant id parent s
 verdict_sound ids below a (adds_group name) caller fit s = add_group_sound ids a.tenant name s
 verdict_sound ids below a (sets_group id members) caller fit s = set_group_sound a.tenant id members s
-verdict_sound ids below a (begins_retype object field to) caller fit s = begin_sound a.reads a.tenant object field to fit s
-verdict_sound ids below a gets_retype caller fit s = looked_kept IsSound a.tenant s
+verdict_sound ids below a (begins_retype object field to) caller fit s = begin_sound a.tenant object field to fit s
+verdict_sound ids below a gets_retype caller fit s = looked_kept HasSoundParts a.tenant s
 verdict_sound ids below a cancels_retype caller fit s = cancel_sound a.tenant s
 
 -- and so of formulas
-pub verdict_formulas : (a : Asked) (r : Request) → ReadsFormulas a.reads → IsSound a.tenant → AreFormulasSound a.reads a.tenant → AreFormulasSound a.reads (verdict_on a r).tenant
-verdict_formulas a (asks q) law sound s = asked_kept (AreFormulasSound a.reads) a q s
-verdict_formulas a (creates object given) law sound s = create_formulas a.reads a s object given
-verdict_formulas a (updates object key given) law sound s = update_formulas a.reads a s object key given
-verdict_formulas a (deletes object key) law sound s = delete_formulas a.reads a s object key
-verdict_formulas a (upserts object key text given) law sound s = upsert_formulas a.reads a s object key text given
-verdict_formulas a (shares b) law sound s = share_formulas a.reads a s b
-verdict_formulas a (unshares item part to) law sound s = unshare_formulas a.reads a s item part to
-verdict_formulas a (adds_object b) law sound s = add_object_formulas a.reads a.tenant b sound s
-verdict_formulas a (sets_object object access) law sound s = set_access_formulas a.reads law.by_fields a.tenant object access s
-verdict_formulas a (adds_field b) law sound s = add_field_formulas a.reads law.over_more a.tenant b sound s
-verdict_formulas a (adds_validation_rule b) law sound s = add_validation_formulas a.reads law.by_fields a.tenant b s
-verdict_formulas a (adds_sharing_rule b) law sound s = add_rule_formulas a.reads a.tenant b s
-verdict_formulas a (removes_sharing_rule name) law sound s = remove_rule_formulas a.reads a.tenant name s
-verdict_formulas a (adds_user b) law sound s = add_user_formulas a.reads a.tenant s b
-verdict_formulas a (sets_user id role) law sound s = set_user_formulas a.reads a.tenant s id role
-verdict_formulas a (adds_role name parent) law sound s = add_role_formulas a.reads a.tenant s name parent
-verdict_formulas a (sets_role id parent) law sound s = set_role_formulas a.reads a.tenant s id parent
-verdict_formulas a (adds_group name) law sound s = add_group_formulas a.reads a.tenant s name
-verdict_formulas a (sets_group id members) law sound s = set_group_formulas a.reads a.tenant s id members
-verdict_formulas a (begins_retype object field to) law sound s = begin_formulas a.reads a.tenant s object field to
-verdict_formulas a gets_retype law sound s = looked_kept (AreFormulasSound a.reads) a.tenant s
-verdict_formulas a cancels_retype law sound s = cancel_formulas a.reads a.tenant s
+pub verdict_formulas : (a : Asked) (r : Request) → ReadsFormulas → HasSoundParts a.tenant → AreFormulasSound a.tenant → AreFormulasSound (verdict_on a r).tenant
+verdict_formulas a (asks q) law sound s = asked_kept AreFormulasSound a q s
+verdict_formulas a (creates object given) law sound s = create_formulas a s object given
+verdict_formulas a (updates object key given) law sound s = update_formulas a s object key given
+verdict_formulas a (deletes object key) law sound s = delete_formulas a s object key
+verdict_formulas a (upserts object key text given) law sound s = upsert_formulas a s object key text given
+verdict_formulas a (shares b) law sound s = share_formulas a s b
+verdict_formulas a (unshares item part to) law sound s = unshare_formulas a s item part to
+verdict_formulas a (adds_object b) law sound s = add_object_formulas a.tenant b sound s
+verdict_formulas a (sets_object object access) law sound s = set_access_formulas law.by_fields a.tenant object access s
+verdict_formulas a (adds_field b) law sound s = add_field_formulas law.over_more a.tenant b sound s
+verdict_formulas a (adds_validation_rule b) law sound s = add_validation_formulas law.by_fields a.tenant b s
+verdict_formulas a (adds_sharing_rule b) law sound s = add_rule_formulas a.tenant b s
+verdict_formulas a (removes_sharing_rule name) law sound s = remove_rule_formulas a.tenant name s
+verdict_formulas a (adds_user b) law sound s = add_user_formulas a.tenant s b
+verdict_formulas a (sets_user id role) law sound s = set_user_formulas a.tenant s id role
+verdict_formulas a (adds_role name parent) law sound s = add_role_formulas a.tenant s name parent
+verdict_formulas a (sets_role id parent) law sound s = set_role_formulas a.tenant s id parent
+verdict_formulas a (adds_group name) law sound s = add_group_formulas a.tenant s name
+verdict_formulas a (sets_group id members) law sound s = set_group_formulas a.tenant s id members
+verdict_formulas a (begins_retype object field to) law sound s = begin_formulas a.tenant s object field to
+verdict_formulas a gets_retype law sound s = looked_kept AreFormulasSound a.tenant s
+verdict_formulas a cancels_retype law sound s = cancel_formulas a.tenant s

@@ -13,18 +13,15 @@ use Rattle.ut_model.specs.Edits.{bad_value, with_given}
 use Rattle.ut_model.specs.Fields.{column, its_value, typed}
 use Rattle.ut_model.specs.Given.{Assignment, Given, in_json, json_text}
 use Rattle.ut_model.specs.Keys.{Key, with_key}
-use Rattle.ut_model.specs.Levels.{Reads}
 use Rattle.ut_model.specs.Members.{Body, body_in}
 use Rattle.ut_model.specs.declared.metadata_bodies.NewObject.{NewObject}
 use Rattle.ut_model.specs.declared.metadata_bodies.NewField.{NewField}
 use Rattle.ut_model.specs.declared.metadata_bodies.SpelledType.{SpelledType}
 use Rattle.ut_model.specs.declared.metadata_bodies.SpelledType.TheVariants.{Plain, LookupTo}
 use Rattle.ut_model.specs.NewFields.{type_with}
-use Rattle.ut_model.specs.Objects.{change_at}
 use Rattle.ut_model.specs.Paths.{Asked}
 use Rattle.ut_model.specs.Requests.{Request, creates, updates, upserts, shares, adds_object, sets_object, adds_field, adds_validation_rule, adds_sharing_rule, begins_retype}
 use Rattle.ut_model.specs.Retyping.{new_type}
-use Rattle.ut_model.specs.RuleFormulas.{names_field}
 use Rattle.ut_model.specs.Shares.{NewShare}
 use Rattle.ut_model.specs.SharingRules.{NewSharingRule, SpelledSource, by_formula, from}
 use Rattle.ut_model.specs.Fields.{by_parent}
@@ -32,7 +29,7 @@ use Rattle.ut_model.specs.SoundMetadata.{implies, may_be_required}
 use Rattle.ut_model.specs.SoundPeople.{is_name}
 use Rattle.ut_model.specs.SoundRecords.{all_valid, kinds_of}
 use Rattle.ut_model.specs.SoundSharing.{is_grant}
-use Rattle.ut_model.specs.Tenant.{Field, Object}
+use Rattle.ut_model.specs.Tenant.{Field, Object, ValidationRule}
 use Rattle.ut_model.specs.Upserts.{key_value, unique_named}
 use Rattle.ut_model.specs.World.{user_at}
 
@@ -42,14 +39,18 @@ use Rattle.ut_model.specs.World.{user_at}
 abbrev pub has_member : (members : List (List ℕ)) → (name : List ℕ) → Bool
 has_member members name = list_any (bytes_eq name) members
 
--- the source of an owner rule is the member `from`
+-- the source of an owner rule is the member `from`, and the text of a formula is of characters
 abbrev pub has_source : (members : List (List ℕ)) → SpelledSource → Bool
 has_source members (from p) = has_member members (codes "from")
-has_source members (by_formula text) = true
+has_source members (by_formula text) = all_scalars text
 
 -- the level is Read or Edit, and the principals are members of the body
 abbrev pub is_fit_rule : NewSharingRule → Bool
 is_fit_rule b = is_grant b.level && (has_member b.members (codes "to") && has_source b.members b.source)
+
+-- the message has its form, and the formula is of characters
+abbrev pub is_fit_validation : ValidationRule → Bool
+is_fit_validation r = is_name r.message && all_scalars r.formula
 
 -- the level is Read or Edit
 abbrev pub is_fit_share : NewShare → Bool
@@ -114,31 +115,6 @@ abbrev pub ReadsWellByKey : Asked → (key : List ℕ) → (text : Option (List 
 ReadsWellByKey a key text o given =
     (f : ℕ × Field) (v : Value) → unique_named o key ≡ Some f → key_value f.1 text ≡ Ok v → ReadsWell a o (with_key (Some (key_of f v)) given)
 
--- ---- formulas
-
--- how a text is read looks at the fields of the object alone: nothing else is named in a formula
-abbrev pub ReadsByFields : Reads → Type 0
-ReadsByFields reads = (o p : Object) → o.fields ≡ p.fields → (criteria : Bool) (text : List ℕ) → reads o criteria text ≡ reads p criteria text
-
--- a text that spells a formula reads the same where the object has one field more
-abbrev pub ReadsOverMore : Reads → Type 0
-ReadsOverMore reads =
-    (o : Object) (f : Field) (criteria : Bool) (text : List ℕ) → IsTrue (is_ok (reads o criteria text))
-    → reads (record o { fields = o.fields ++ f ∷ [] }) criteria text ≡ reads o criteria text
-
--- a text whose formula doesn't name a field reads the same whatever type the field has
-abbrev pub ReadsOtherTypes : Reads → Type 0
-ReadsOtherTypes reads =
-    (o : Object) (place : ℕ) (to : FieldType) (criteria : Bool) (text : List ℕ)
-    → IsTrue (is_ok (reads o criteria text)) → IsTrue (not (names_field (suc place) (reads o criteria text)))
-    → reads (record o { fields = change_at place (λ f. record f { kind = to }) o.fields }) criteria text ≡ reads o criteria text
-
--- all of these, as the grammar of formulas has them
-pub record ReadsFormulas (reads : Reads) : Type 0 where
-  pub by_fields : ReadsByFields reads
-  pub over_more : ReadsOverMore reads
-  pub other_types : ReadsOtherTypes reads
-
 -- ---- any request
 
 -- what the form of its body gives, for the user who asks
@@ -150,7 +126,7 @@ IsFit a (shares b) = IsTrue (is_fit_share b)
 IsFit a (adds_object b) = IsTrue (is_fit_object b)
 IsFit a (sets_object object access) = IsTrue (not (by_parent access))
 IsFit a (adds_field b) = IsTrue (is_fit_field b)
-IsFit a (adds_validation_rule b) = IsTrue (is_name b.rule.message)
+IsFit a (adds_validation_rule b) = IsTrue (is_fit_validation b.rule)
 IsFit a (adds_sharing_rule b) = IsTrue (is_fit_rule b)
 IsFit a (begins_retype object field to) = IsTrue (is_type (new_type to))
 IsFit a r = Unit {0}

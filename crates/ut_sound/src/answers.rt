@@ -2,26 +2,21 @@
 
 ghost use Rattle.std.specs.Prelude.{IsTrue, pos, ℕ};
 ghost use Rattle.ut_value.specs.Dates.{is_moment};
-ghost use Rattle.ut_model.specs.Levels.{Reads};
 ghost use Rattle.ut_model.specs.Paths.{Asked};
 ghost use Rattle.ut_model.specs.RequestOf.{ReadsQuery, answer_to};
 ghost use Rattle.ut_model.specs.Sound.{IsSound, IsWorld};
-ghost use Rattle.ut_model.specs.SoundFormulas.{AreFormulasSound};
 ghost use Rattle.ut_model.specs.Step.{Message};
 ghost use Rattle.ut_model.specs.Whole.{whole_step};
 ghost use Rattle.ut_model.specs.World.{World};
-ghost use Rattle.ut_sound.specs.Fit.{IsCaller, ReadsFormulas};
+ghost use Rattle.ut_sound.specs.Fit.{IsCaller};
 
 use crate::fits::requests_fit;
 use crate::verdicts::verdicts_sound;
 
-/// What the answer to any message of a caller leaves of a sound organisation is sound; and so are the formulas of rules, if texts
-/// are read as a grammar of formulas reads them. The call does nothing.
+/// What the answer to any message of a caller leaves of a sound organisation is sound. The call does nothing.
 pub fn answers_sound()
     ensures answer { (query_in : ReadsQuery) (a : Asked) (m : Message) → IsCaller a
         → IsSound a.tenant → IsSound (answer_to query_in a m).1 }
-    ensures formulas { (query_in : ReadsQuery) (a : Asked) (m : Message) → ReadsFormulas a.reads → IsSound a.tenant
-        → AreFormulasSound a.reads a.tenant → AreFormulasSound a.reads (answer_to query_in a m).1 }
 {
     requests_fit();
     verdicts_sound();
@@ -29,8 +24,8 @@ pub fn answers_sound()
 
 /// What a step of the world leaves of sound organisations is sound, at a moment of the calendar. The call does nothing.
 pub fn world_sound()
-    ensures step { (reads : Reads) (query_in : ReadsQuery) (w : World) (m : Message) (now : ℕ) → IsTrue (is_moment (pos now))
-        → IsWorld w → IsWorld (whole_step reads query_in w m now).1 }
+    ensures step { (query_in : ReadsQuery) (w : World) (m : Message) (now : ℕ) → IsTrue (is_moment (pos now))
+        → IsWorld w → IsWorld (whole_step query_in w m now).1 }
 {
     answers_sound();
 }

@@ -3,15 +3,16 @@
 ghost use Rattle.std.specs.Prelude.{IsTrue, List, false, ℕ, ◌≡◌};
 ghost use Rattle.ut_value.specs.declared.sharing.Access.{Access};
 ghost use Rattle.ut_model.specs.Fields.{by_parent};
-ghost use Rattle.ut_model.specs.Levels.{Reads};
 ghost use Rattle.ut_model.specs.declared.metadata_bodies.NewObject.{NewObject};
 ghost use Rattle.ut_model.specs.Metadata.{add_object, set_access};
 ghost use Rattle.ut_model.specs.declared.metadata_bodies.NewField.{NewField};
 ghost use Rattle.ut_model.specs.NewFields.{add_field};
-ghost use Rattle.ut_model.specs.Sound.{IsSound, is_name};
+ghost use Rattle.ut_model.specs.Sound.{IsSound};
 ghost use Rattle.ut_model.specs.Tenant.{Tenant};
 ghost use Rattle.ut_model.specs.ValidationRules.{NewValidationRule, add_validation_rule};
-ghost use Rattle.ut_sound.specs.Fit.{is_fit_field, is_fit_object};
+ghost use Rattle.ut_sound.specs.Fit.{is_fit_field, is_fit_object, is_fit_validation};
+
+use ut_rule_text::text_laws;
 
 /// What a new object, another access of one, a new field or a new validation rule leaves is sound, if the body has the form that every
 /// body has that is read: a new access is never the master's, and a message is a name. The call does nothing.
@@ -20,6 +21,8 @@ pub fn objects_sound()
         → IsSound t → IsSound (set_access t object access).tenant }
     ensures add_object { (t : Tenant) (b : NewObject) → IsTrue (is_fit_object b) → IsSound t → IsSound (add_object t b).tenant }
     ensures add_field { (t : Tenant) (b : NewField) → IsTrue (is_fit_field b) → IsSound t → IsSound (add_field t b).tenant }
-    ensures add_validation_rule { (reads : Reads) (t : Tenant) (b : NewValidationRule) → IsTrue (is_name b.rule.message)
-        → IsSound t → IsSound (add_validation_rule reads t b).tenant }
-{}
+    ensures add_validation_rule { (t : Tenant) (b : NewValidationRule) → IsTrue (is_fit_validation b.rule)
+        → IsSound t → IsSound (add_validation_rule t b).tenant }
+{
+    text_laws();
+}

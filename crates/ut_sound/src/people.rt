@@ -1,8 +1,9 @@
 //! Users, roles and groups.
 
 ghost use Rattle.std.specs.Prelude.{List, Option, ℕ};
-ghost use Rattle.ut_model.specs.People.{NewUser, add_group, add_role, add_user, set_group, set_role, set_user};
-ghost use Rattle.ut_model.specs.Principals.{Spelled};
+ghost use Rattle.ut_model.specs.declared.people_bodies.NewUser.{NewUser};
+ghost use Rattle.ut_model.specs.People.{add_group, add_role, add_user, set_group, set_role, set_user};
+ghost use Rattle.ut_model.specs.declared.people_bodies.Spelled.{Spelled};
 ghost use Rattle.ut_model.specs.Sound.{IsSound};
 ghost use Rattle.ut_model.specs.Tenant.{Tenant};
 

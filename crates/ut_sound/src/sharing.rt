@@ -1,9 +1,8 @@
 //! Sharing rules and manual shares.
 
 ghost use Rattle.std.specs.Prelude.{IsTrue, List, Option, ℕ};
-ghost use Rattle.ut_model.specs.Levels.{Reads};
 ghost use Rattle.ut_model.specs.Paths.{Asked};
-ghost use Rattle.ut_model.specs.Principals.{Spelled};
+ghost use Rattle.ut_model.specs.declared.people_bodies.Spelled.{Spelled};
 ghost use Rattle.ut_model.specs.Shares.{NewShare, share, unshare};
 ghost use Rattle.ut_model.specs.SharingRules.{NewSharingRule, add_sharing_rule, remove_sharing_rule};
 ghost use Rattle.ut_model.specs.Sound.{IsSound};
@@ -13,8 +12,8 @@ ghost use Rattle.ut_sound.specs.Fit.{is_fit_rule, is_fit_share};
 /// What a request about sharing leaves is sound, if its body has the form that every body has that is read. The call does
 /// nothing.
 pub fn sharing_sound()
-    ensures add_rule { (reads : Reads) (t : Tenant) (b : NewSharingRule) → IsTrue (is_fit_rule b)
-        → IsSound t → IsSound (add_sharing_rule reads t b).tenant }
+    ensures add_rule { (t : Tenant) (b : NewSharingRule) → IsTrue (is_fit_rule b)
+        → IsSound t → IsSound (add_sharing_rule t b).tenant }
     ensures remove_rule { (t : Tenant) (name : List ℕ) → IsSound t → IsSound (remove_sharing_rule t name).tenant }
     ensures share { (a : Asked) (b : NewShare) → IsTrue (is_fit_share b) → IsSound a.tenant → IsSound (share a b).tenant }
     ensures unshare { (a : Asked) (item part : List ℕ) (to : Option Spelled)

@@ -102,6 +102,7 @@ fresh_sound name digest good size = record {
   rules = record { each = tt; rise = tt; numbers = λ r s hr. absurd hr; few = omega arith; few_drawn = omega arith };
   shares = record { each = tt; rise = tt; few = λ id. omega arith };
   job = tt;
+  formulas = record { validations = refl; criteria = refl; unnamed = tt };
 }
   where
     -- there is one id

@@ -84,22 +84,22 @@ module _ (a : Asked) (s : IsSound a.tenant) where
       by_id (Some id) named h = by_record id (record_at a.tenant id) refl named h
 
   module _ (admin : a.user.admin ≡ true) where
-    own_full : (r : Record) → own_level a.reads a.tenant a.user r ≡ Full
+    own_full : (r : Record) → own_level a.tenant a.user r ≡ Full
     unfolding own_level
     own_full r =
-        let others = in_case (object_of a.tenant r) Nothing (λ o. by_access o.access) ∷ map (by_grant a.tenant a.user) (grants a.reads a.tenant r) in
+        let others = in_case (object_of a.tenant r) Nothing (λ o. by_access o.access) ∷ map (by_grant a.tenant a.user) (grants a.tenant r) in
         ap (λ b. greatest (cond (b || owns a.tenant a.user r) Full Nothing ∷ others)) admin ∙ most others
 
     step : (k : ℕ) (r : Record) → Has a.tenant.records r
-        → ((f : Reference) → suc (masters_above k a.tenant.objects f.target) ≤ k → (x : Record) → Has a.tenant.records x → object_number x.id ≡ f.target → level_within k a.reads a.tenant a.user x ≡ Full)
+        → ((f : Reference) → suc (masters_above k a.tenant.objects f.target) ≤ k → (x : Record) → Has a.tenant.records x → object_number x.id ≡ f.target → level_within k a.tenant a.user x ≡ Full)
         → (o : Option Reference) → master_reference a.tenant (object_number r.id) ≡ o → in_case o 0 (λ f. suc (masters_above k a.tenant.objects f.target)) ≤ k
-        → in_case o (own_level a.reads a.tenant a.user r) (λ f. in_case (named_record a.tenant f r) Nothing (λ m. full_for_edit (level_within k a.reads a.tenant a.user m))) ≡ Full
+        → in_case o (own_level a.tenant a.user r) (λ f. in_case (named_record a.tenant f r) Nothing (λ m. full_for_edit (level_within k a.tenant a.user m))) ≡ Full
     step k r m deeper None e few = own_full r
     step k r m deeper (Some f) e few =
         let x = master_of r f m e in
-        ap (λ o. in_case o Nothing (λ m. full_for_edit (level_within k a.reads a.tenant a.user m))) x.named ∙ ap full_for_edit (deeper f few x.it x.there x.number)
+        ap (λ o. in_case o Nothing (λ m. full_for_edit (level_within k a.tenant a.user m))) x.named ∙ ap full_for_edit (deeper f few x.it x.there x.number)
 
-    full_within : (k : ℕ) (r : Record) → Has a.tenant.records r → masters_above (suc k) a.tenant.objects (object_number r.id) ≤ k → level_within (suc k) a.reads a.tenant a.user r ≡ Full
+    full_within : (k : ℕ) (r : Record) → Has a.tenant.records r → masters_above (suc k) a.tenant.objects (object_number r.id) ≤ k → level_within (suc k) a.tenant a.user r ≡ Full
     full_within zero r m few = step zero r m (λ f h x n same. absurd (not_below (masters_above 0 a.tenant.objects f.target) h)) (master_reference a.tenant (object_number r.id)) refl few
     full_within (suc j) r m few =
         step (suc j) r m
@@ -112,9 +112,9 @@ module _ (a : Asked) (s : IsSound a.tenant) where
         (all_at (IsSoundObject a.tenant.objects) (numbered a.tenant.objects) s.metadata.objects (record { number = object_number r.id; object = w.object })
         (at_number (object_number r.id) a.tenant.objects w.object w.there)).level
 
-    pub reads_all : (n : ℕ) → readable a.reads a.tenant a.user n ≡ records_of a.tenant n
+    pub reads_all : (n : ℕ) → readable a.tenant a.user n ≡ records_of a.tenant n
     unfolding readable level
     reads_all n =
-        all_stay (can_read a.reads a.tenant a.user) (records_of a.tenant n) (λ r m.
+        all_stay (can_read a.tenant a.user) (records_of a.tenant n) (λ r m.
         let h = kept_from (is_of n) a.tenant.records r m in
         ap (at_least Read) (full_within 3 r h.0 (deep r h.0)))

@@ -1,5 +1,6 @@
 -- What is computed of a text is what the text spells.
-use Rattle.std.proofs.Common.{◌≡◌, ℕ, List, [], ◌∷◌, Some, Ok, Err, false, refl, sym, ◌∙◌, ap, subst, arith, slice_index_or}
+use Rattle.std.proofs.Common.{◌≡◌, ◌-◌, ℕ, List, [], ◌∷◌, length, Some, None, Ok, Err, false, refl, sym, ◌∙◌, ap, subst, arith, slice_index_or}
+use Rattle.ut_grammar.specs.Exact.{left}
 use Rattle.ut_grammar.specs.Lexing.{tokens_of}
 use Rattle.ut_grammar.specs.Place.{IsPlace}
 use Rattle.ut_grammar.specs.Reader.{Outcome}
@@ -10,7 +11,7 @@ use Rattle.ut_grammar.proofs.Verdict as v
 use Rattle.ut_soql.specs.Grammar as g
 use Rattle.ut_soql.specs.Readers as read
 use Rattle.ut_soql.specs.Signs.{kind, signs, starts}
-use Rattle.ut_soql.specs.Spelling.{IsRefusedAt, Spells, at_end, query_in, whole_of}
+use Rattle.ut_soql.specs.Spelling.{IsRefusedAt, Spells, at_end, place_in, query_in, whole_of}
 use Rattle.ut_query.specs.Lexis.{lexis}
 use Rattle.ut_query.specs.declared.query.Query.{Query}
 use Rattle.ut_soql.specs.declared.sign.Sign.{Sign}
@@ -39,6 +40,21 @@ module _ (text : List ℕ) where
       let P : List Placed → Type 0 = λ us. g.whole.spells (signs us) f in
       let sp = subst P (one_list lexis 0 text h.0 all h.1 (meets lexis 0 text)) h.2 in
       ap whole_of (v.spelled_whole kind g.whole read.whole (11 ∷ []) whole_goes false whole_exact (signs all) f sp)
+
+  -- the place is the defined one
+  pub refused : (end : ℕ) → query_in text ≡ None → IsRefusedAt text end (place_in text end)
+  unfolding place_in
+  refused end e = (all, meets lexis 0 text, by (read.whole ts) refl)
+    where
+      all : List Placed
+      all = tokens_of lexis 0 text
+
+      ts : List Sign
+      ts = signs all
+
+      by : (o : Outcome Sign Query) → read.whole ts ≡ o → IsPlace g.whole ts (starts all) end (slice_index_or (starts all) (length ts - left o) end)
+      by (Ok got) h = v.place_rest kind g.whole read.whole (11 ∷ []) whole_goes false whole_exact ts got.1 got.0 (starts all) end h
+      by (Err n) h = v.place_stuck kind g.whole read.whole (11 ∷ []) whole_goes false whole_exact ts n (starts all) end h
 
   -- a text is refused at one place
   pub one_place : (end p q : ℕ) → IsRefusedAt text end p → IsRefusedAt text end q → p ≡ q

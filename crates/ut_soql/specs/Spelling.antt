@@ -1,6 +1,7 @@
 -- Which query a text spells, and the place at which a text is refused.
 -- Source: none. It is this product's own that a refusal names the first token that can't follow.
-use Rattle.std.specs.Prelude.{ℕ, List, [], ◌∷◌, Option, Some, None, Ok, Err}
+use Rattle.std.specs.Prelude.{ℕ, ◌-◌, List, [], ◌∷◌, length, slice_index_or, Option, Some, None, Ok, Err}
+use Rattle.ut_grammar.specs.Exact.{left}
 use Rattle.ut_grammar.specs.Lexing.{tokens_of}
 use Rattle.ut_grammar.specs.Place.{IsPlace}
 use Rattle.ut_grammar.specs.Reader.{Outcome}
@@ -34,3 +35,10 @@ whole_of (Err left) = None
 -- the query that a text spells, if it spells one
 unfoldable pub query_in : (text : List ℕ) → Option Query
 query_in text = whole_of (read.whole (signs (tokens_of lexis 0 text)))
+
+-- the place at which a text that spells none is refused; the text ends at this byte
+unfoldable pub place_in : (text : List ℕ) → (end : ℕ) → ℕ
+place_in text end =
+    let all = tokens_of lexis 0 text in
+    let ts = signs all in
+    slice_index_or (starts all) (length ts - left (read.whole ts)) end

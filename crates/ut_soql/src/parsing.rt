@@ -1,9 +1,9 @@
 //! From a text to the query that it spells.
 
-ghost use Rattle.std.specs.Prelude.{◌≡◌, ℕ, List, Option, Some, length, chars, IfOk};
+ghost use Rattle.std.specs.Prelude.{◌≡◌, ℕ, List, None, Option, Some, length, chars, IfOk};
 ghost use Rattle.ut_grammar.specs.Place.{IsOrMemory, IsPlace, OnMalformed};
 ghost use Rattle.ut_soql.specs.Grammar as grammar;
-ghost use Rattle.ut_soql.specs.Spelling.{IsRefusedAt, Spells, query_in};
+ghost use Rattle.ut_soql.specs.Spelling.{IsRefusedAt, Spells, place_in, query_in};
 ghost use Rattle.ut_query.specs.declared.query.Query.{Query};
 
 use crate::items::whole;
@@ -65,6 +65,7 @@ pub fn spelling_laws()
     ensures spelled { (text : List ℕ) (query : Query) → query_in text ≡ Some query → Spells text query }
     ensures computed { (text : List ℕ) (query : Query) → Spells text query → query_in text ≡ Some query }
 
-    // A text is refused at one place.
+    // A text that spells none is refused at one place, which `place_in` computes.
+    ensures refused { (text : List ℕ) (end : ℕ) → query_in text ≡ None → IsRefusedAt text end (place_in text end) }
     ensures one_place { (text : List ℕ) (end p q : ℕ) → IsRefusedAt text end p → IsRefusedAt text end q → p ≡ q }
 {}

@@ -2,7 +2,7 @@
 
 ghost use Rattle.std.specs.Prelude.{◌≡◌, List, ℕ};
 ghost use Rattle.ut_admin.specs.inner.Edits.{Asks, form_of};
-ghost use Rattle.ut_model.specs.Built.{built_request, needs_index};
+ghost use Rattle.ut_step.specs.Built.{built_request, needs_index};
 ghost use Rattle.ut_model.specs.Requests.{adds_field, adds_object, sets_object};
 ghost use Rattle.ut_model.specs.declared.route.Route.TheVariants.{AddField, AddObject, SetObject};
 

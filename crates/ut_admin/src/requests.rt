@@ -5,7 +5,7 @@ ghost use Rattle.ut_admin.specs.Administration.{IsEditReply};
 ghost use Rattle.ut_keeper.specs.Draft.{DraftReads, DraftTells, DraftWorks, count_of, state_of, tables_of};
 ghost use Rattle.ut_keeper.specs.State.{KeeperCause, StaysAfter};
 ghost use Rattle.ut_keys.specs.declared.fail.StoreFail.TheVariants.{Keeper};
-ghost use Rattle.ut_model.specs.Built.{built_request};
+ghost use Rattle.ut_step.specs.Built.{built_request};
 ghost use Rattle.ut_model.specs.Paths.{Asked};
 ghost use Rattle.ut_model.specs.RequestOf.{verdict_or};
 ghost use Rattle.ut_model.specs.World.{World, tenant_at};

@@ -11,4 +11,3 @@ mod Computing
 mod Within
 mod Requesting
 mod Alone
-mod BuiltRequests

@@ -8,10 +8,8 @@ use Rattle.sha2.specs.Sha256.{sha256}
 use Rattle.ut_model.specs.declared.caller.Caller.{Caller}
 use Rattle.ut_model.specs.declared.refusal.Refusal.TheVariants as refusal
 use Rattle.ut_model.specs.declared.reply.Reply.{Reply}
-use Rattle.ut_model.specs.Built.{answer_built, answered, asking}
-use Rattle.ut_model.specs.Cases.{in_case}
 use Rattle.ut_model.specs.Callers.{IsUser, Named, admitted, caller_in, caller_of, named}
-use Rattle.ut_model.specs.Step.{Answering, Message, caller_by, if_called, in_named, in_org, in_tenant, named_in, org_named, own, refusal_reply, refused, step_by}
+use Rattle.ut_model.specs.Step.{Answering, Message, caller_by, if_called, in_named, in_org, in_tenant, named_in, org_named, own, refusal_reply, step_by}
 use Rattle.ut_model.specs.Tenant.{Tenant, User}
 use Rattle.ut_model.specs.World.{World, tenant_at, user_at, with_tenant}
 
@@ -159,13 +157,6 @@ module _ (w : World) (m : Message) where
 
   pub user_of : (c : Caller) → caller_by w m ≡ Some c → (t : Tenant) × (u : User) × IsUser w c t u
   user_of c e = user_by (named_in m) c (sym (by_bearer w m.bearer) ∙ e)
-
--- what a user's message is answered
-pub answered_in : (w : World) (m : Message) (now : ℕ) (c : Caller) (t : Tenant) (u : User) → IsUser w c t u
-    → in_org w c.org (answered c m now) ≡ ((answer_built (asking t now u) m).0, with_tenant w c.org (answer_built (asking t now u) m).1)
-answered_in w m now c t u is =
-    ap (λ (o : Option Tenant). in_tenant w c.org (answered c m now) o) is.tenant
-    ∙ ap (λ (o : Option User). let r = in_case o (refused refusal.InvalidSession t) (λ v. answer_built (asking t now v) m) in (r.0, with_tenant w c.org r.1)) is.user
 
 -- ---- one organisation and the others
 

@@ -119,3 +119,18 @@ query_rules t n q = bad_names t n q ∷ first_of (bad_test t) (all_tests t n q) 
 
 abbrev pub ask : Asked → Query → Verdict
 ask a q = with_object a.tenant q.tail.from (λ o. judged a.tenant (query_rules a.tenant o.number q) (accept (rows_of q) a.tenant))
+
+-- ---- the query for ids and names
+
+-- a field of the object itself
+abbrev pub own_field : List ℕ → Item
+own_field name = item.Path (record { names = name ∷ [] })
+
+-- `SELECT Id, Name FROM OBJECT`
+abbrev pub names_query : (object : List ℕ) → Query
+names_query object =
+    record {
+      select = own_field (codes "Id") ∷ own_field (codes "Name") ∷ [];
+      tail = record { from = object; condition = None; order = []; limit = None };
+      offset = None;
+    }

@@ -69,4 +69,3 @@ pub mod WorkedLimits
 pub mod WorkedForms
 pub mod WorkedRefusals
 pub mod Whole
-pub mod Built

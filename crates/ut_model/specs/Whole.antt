@@ -1,4 +1,4 @@
--- The step of the world by all routes, and the replies to messages one after the other. Built has the routes that are built.
+-- What answers a message by all routes, and the replies to messages one after the other. `ut_step` has the steps of the world.
 -- Source: this product's own.
 use Rattle.std.specs.Prelude.{ℕ, pos, Bool, false, ◌==◌, List, [], ◌∷◌, map, filter, Option, Some, None}
 use Rattle.ut_model.specs.declared.refusal.Refusal.TheVariants.{InvalidSession}
@@ -13,10 +13,6 @@ abbrev pub answered_whole : ReadsQuery → Answering
 answered_whole query_in c m now t =
     in_case (user_at t.users c.user) (refused InvalidSession t) (λ u.
     answer_to query_in (record { tenant = t; user = u; now = pos now }) m)
-
--- what a message is answered at this moment, and the world after it
-abbrev pub whole_step : ReadsQuery → World → Message → ℕ → Reply × World
-whole_step query_in = step_by (answered_whole query_in)
 
 -- ---- messages one after the other
 

@@ -59,4 +59,4 @@ pub use crate::request_rows::{
 };
 pub use crate::route::Route;
 pub use crate::routed::Routed;
-pub use crate::steps::{answering_laws, step_laws, step_rows};
+pub use crate::steps::{answering_laws, step_rows};

@@ -9,43 +9,12 @@ ghost use Rattle.ut_model.specs.declared.route.Route.{Route};
 ghost use Rattle.ut_model.specs.declared.route.Route.TheVariants as route;
 ghost use Rattle.ut_model.specs.declared.routed.Routed.TheVariants.{To, NotFound, NotAllowed};
 ghost use Rattle.ut_model.specs.Organisations.{with_org};
-ghost use Rattle.ut_model.specs.RequestOf.{ReadsQuery, request_of};
-ghost use Rattle.ut_model.specs.Requests.{Request};
 ghost use Rattle.ut_model.specs.Routing.{routed};
-ghost use Rattle.ut_model.specs.Built.{answer_built, answered, asking, built_request, step};
 ghost use Rattle.ut_model.specs.Callers.{IsUser};
 ghost use Rattle.ut_model.specs.Step.{Answering, Message, caller_by, in_org, org_named, query_text, refusal_reply, step_by};
 ghost use Rattle.ut_model.specs.Tenant.{Tenant, User};
 ghost use Rattle.ut_model.specs.Whole.{Sent, own_replies, replies_by, replies_for};
 ghost use Rattle.ut_model.specs.World.{World, tenant_at, with_tenant};
-
-/// The laws of the step of the world. The call does nothing.
-pub fn step_laws()
-    // A caller's message is answered in the caller's organisation, and a message of no caller is refused.
-    ensures called { (w : World) (m : Message) (now : ℕ) (c : Caller) → caller_by w m ≡ Some c
-        → step w m now ≡ in_org w c.org (answered c m now) }
-    ensures uncalled { (w : World) (m : Message) (now : ℕ) → caller_by w m ≡ None
-        → step w m now ≡ (refusal_reply refusal.InvalidSession, w) }
-
-    // What is built is the request of the whole step, however queries are read.
-    ensures built { (query_in : ReadsQuery) (r : Route) (body : List ℕ) (x : Request) → built_request r body ≡ Ok x
-        → request_of query_in r body ≡ Ok x }
-
-    // A caller is a user of an organisation, and the message is answered as this user's.
-    ensures user { (w : World) (m : Message) (c : Caller) → caller_by w m ≡ Some c → (t : Tenant) × (u : User) × IsUser w c t u }
-    ensures answered { (w : World) (m : Message) (now : ℕ) (c : Caller) (t : Tenant) (u : User) → IsUser w c t u
-        → in_org w c.org (answered c m now)
-        ≡ ((answer_built (asking t now u) m).0, with_tenant w c.org (answer_built (asking t now u) m).1) }
-
-    // The same organisation in its place is the same world.
-    ensures same { (w : World) (org : ℕ) (t : Tenant) → tenant_at w org ≡ Some t → with_tenant w org t ≡ w }
-
-    // A reply is made from the organisation alone that the message names, and no other organisation changes.
-    ensures own { (w v : World) (m : Message) (now org : ℕ) → org_named m ≡ Some org → tenant_at w org ≡ tenant_at v org
-        → ((step w m now).0 ≡ (step v m now).0) × (tenant_at (step w m now).1 org ≡ tenant_at (step v m now).1 org) }
-    ensures other { (w : World) (m : Message) (now org : ℕ) → (org_named m ≡ Some org → ⊥)
-        → tenant_at (step w m now).1 org ≡ tenant_at w org }
-{}
 
 /// The laws of a step of the world by whatever answers a caller's message: by all routes too. The call does nothing.
 pub fn answering_laws()
@@ -53,6 +22,16 @@ pub fn answering_laws()
         → step_by answers w m now ≡ in_org w c.org (answers c m now) }
     ensures uncalled { (answers : Answering) (w : World) (m : Message) (now : ℕ) → caller_by w m ≡ None
         → step_by answers w m now ≡ (refusal_reply refusal.InvalidSession, w) }
+
+    // A caller is a user of an organisation. The same organisation in its place is the same world.
+    ensures user { (w : World) (m : Message) (c : Caller) → caller_by w m ≡ Some c → (t : Tenant) × (u : User) × IsUser w c t u }
+    ensures same { (w : World) (org : ℕ) (t : Tenant) → tenant_at w org ≡ Some t → with_tenant w org t ≡ w }
+
+    // A reply is made from the organisation alone that the message names.
+    ensures own { (answers : Answering) (w v : World) (m : Message) (now org : ℕ) → org_named m ≡ Some org
+        → tenant_at w org ≡ tenant_at v org
+        → ((step_by answers w m now).0 ≡ (step_by answers v m now).0)
+        × (tenant_at (step_by answers w m now).1 org ≡ tenant_at (step_by answers v m now).1 org) }
 
     // Isolation: the replies to one organisation's messages are those to these messages alone, from any world that has the
     // same organisation.
@@ -71,14 +50,4 @@ pub fn step_rows()
     ensures no_path { routed (codes "GET") (codes "/x") ≡ NotFound }
     ensures first_q { query_text (codes "a=1&q=SELECT+Id%2C+Name&q=2") ≡ codes "SELECT Id, Name" }
     ensures no_q { query_text (codes "Q=1") ≡ [] }
-    ensures no_key { step [] (record { method = codes "GET"; target = codes "/x"; bearer = None; body = [] }) 0
-        ≡ (refusal_reply refusal.InvalidSession, []) }
-    ensures no_object { (let w : World = with_org [] (codes "Acme") (sha256 (codes "abc!d")) in
-        step w (record {
-          method = codes "GET";
-          target = codes "/services/data/v59.0/query?q=SELECT+Id,Name+FROM+Deal__c";
-          bearer = Some (codes "00D000000000001!005000000000000AAA!abc!d");
-          body = [];
-        }) 0
-        ≡ (refusal_reply (refusal.InvalidType (codes "Deal__c")), w)) }
 {}

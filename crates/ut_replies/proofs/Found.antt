@@ -32,7 +32,7 @@ use Rattle.ut_model.specs.SoundPeople.{ids_rise}
 use Rattle.ut_model.specs.SoundRecords.{all_valid, kinds_of, record_id}
 use Rattle.ut_model.specs.Tenant.{Object}
 use Rattle.ut_model.specs.Verdict.{accept, judged, refuse, rows_of, unless}
-use Rattle.ut_model.specs.Built.{names_query}
+use Rattle.ut_model.specs.Asking.{names_query}
 use Rattle.ut_replies.specs.Names.{name_attributes, name_in, name_row}
 use Rattle.ut_replies.proofs.Lists.{all_kept, all_stay, kept_from, left, same_map}
 use Rattle.ut_replies.proofs.Places.{named_at}

@@ -4,7 +4,7 @@ ghost use Rattle.std.specs.Prelude.{◌≡◌, ℕ, List, [], None, Some, codes,
 ghost use Rattle.ut_model.specs.declared.record.Record.{Record};
 ghost use Rattle.ut_model.specs.declared.refusal.Refusal.TheVariants.{InvalidType};
 ghost use Rattle.ut_model.specs.Asking.{ask};
-ghost use Rattle.ut_model.specs.Built.{names_query};
+ghost use Rattle.ut_model.specs.Asking.{names_query};
 ghost use Rattle.ut_model.specs.Membership.{Has};
 ghost use Rattle.ut_model.specs.Objects.{Numbered, object_named, records_of};
 ghost use Rattle.ut_model.specs.Paths.{Asked};

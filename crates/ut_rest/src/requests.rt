@@ -7,7 +7,7 @@ ghost use Rattle.ut_keeper.specs.State.{KeeperCause, StaysAfter, data_table};
 ghost use Rattle.ut_keys.specs.declared.fail.StoreFail.TheVariants.{Keeper};
 ghost use Rattle.ut_model.specs.declared.limit.Limit.TheVariants as limit;
 ghost use Rattle.ut_model.specs.declared.routed.Routed.TheVariants.{To};
-ghost use Rattle.ut_model.specs.Built.{asking, verdict_to};
+ghost use Rattle.ut_step.specs.Built.{asking, verdict_to};
 ghost use Rattle.ut_model.specs.Callers.{IsUser};
 ghost use Rattle.ut_model.specs.Limits.{limit_number};
 ghost use Rattle.ut_model.specs.Paths.{Asked};

@@ -11,7 +11,7 @@ use Rattle.ut_http.specs.declared.message.HttpMessage.{HttpMessage}
 use Rattle.ut_io.specs.Moments.{IsFirstMoment}
 use Rattle.ut_keeper.specs.State.{IsSettled, KeeperState, StaysAfter, Steps}
 use Rattle.ut_keeper.specs.Tables.{Tables}
-use Rattle.ut_model.specs.Built.{step}
+use Rattle.ut_step.specs.Built.{step}
 use Rattle.ut_model.specs.World.{World}
 use Rattle.ut_stands.specs.Stands.{Stands}
 use Rattle.ut_serving.specs.declared.request.Answer.{Answer}

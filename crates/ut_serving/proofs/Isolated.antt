@@ -1,7 +1,7 @@
 -- Isolation, over the exchanges of connections.
 use Rattle.std.proofs.Common.{◌≡◌, ℕ, Bool, true, false, ◌&&◌, cond, eq-eqb, List, [], ◌∷◌, ◌++◌, Option, Some, None, refl, sym, ap, subst, ◌∙◌}
 use Rattle.ut_model.specs.declared.reply.Reply.{Reply}
-use Rattle.ut_model.specs.Built.{step}
+use Rattle.ut_step.specs.Built.{step}
 use Rattle.ut_model.specs.Step.{Message, org_named}
 use Rattle.ut_model.specs.World.{World, tenant_at}
 use Rattle.ut_serving.specs.Exchanges.{Exchange, Outcome, done, store, memory, world_by, world_after}

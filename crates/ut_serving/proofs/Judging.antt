@@ -8,7 +8,7 @@ use Rattle.ut_keys.specs.declared.fail.StoreFail.{StoreFail}
 use Rattle.ut_keys.specs.declared.fail.StoreFail.TheVariants.{Damaged, Keeper, Memory}
 use Rattle.ut_model.specs.declared.limit.Limit.TheVariants as limit
 use Rattle.ut_model.specs.declared.reply.Reply.{Reply}
-use Rattle.ut_model.specs.Built.{step}
+use Rattle.ut_step.specs.Built.{step}
 use Rattle.ut_model.specs.Limits.{limit_number}
 use Rattle.ut_model.specs.Paths.{Asked}
 use Rattle.ut_model.specs.Replies.{reply_of}

@@ -4,7 +4,7 @@ use Rattle.ut_http.specs.declared.message.HttpMessage.{HttpMessage}
 use Rattle.ut_keeper.specs.State.{KeeperState, LeavesNoMore, Shows, Steps, Tells}
 use Rattle.ut_keeper.specs.Tables.{Tables}
 use Rattle.ut_keys.specs.declared.fail.StoreFail.{StoreFail}
-use Rattle.ut_model.specs.Built.{step}
+use Rattle.ut_step.specs.Built.{step}
 use Rattle.ut_model.specs.Step.{Message}
 use Rattle.ut_model.specs.World.{World}
 use Rattle.ut_stands.specs.Operations.{Does}

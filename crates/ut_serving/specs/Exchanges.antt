@@ -5,7 +5,7 @@ use Rattle.ut_value.specs.Causes.{up_to_last}
 use Rattle.ut_http.specs.Reply.{reply, store_failed, no_memory}
 use Rattle.ut_keeper.specs.State.{KeeperState}
 use Rattle.ut_keeper.specs.Tables.{Tables}
-use Rattle.ut_model.specs.Built.{step}
+use Rattle.ut_step.specs.Built.{step}
 use Rattle.ut_model.specs.Step.{Message}
 use Rattle.ut_model.specs.World.{World}
 use Rattle.ut_stands.specs.Stands.{Stands}

@@ -2,7 +2,7 @@
 use Rattle.std.specs.Prelude.{◌≡◌, ◌⊎◌, ℕ, IsTrue, List, [], ◌∷◌}
 use Rattle.ut_keeper.specs.State.{KeeperState}
 use Rattle.ut_keeper.specs.Tables.{Tables}
-use Rattle.ut_model.specs.Built.{step}
+use Rattle.ut_step.specs.Built.{step}
 use Rattle.ut_model.specs.Step.{Message}
 use Rattle.ut_model.specs.World.{World}
 use Rattle.ut_stands.specs.Stands.{Stands}

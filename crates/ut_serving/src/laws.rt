@@ -13,7 +13,7 @@ ghost use Rattle.ut_serving.specs.Leads.{Leads, LeadsFrom};
 ghost use Rattle.ut_value.specs.Causes.{RoseBy, last_count};
 
 use ut_keeper::Keeper;
-use ut_model::step_laws;
+use ut_step::step_laws;
 
 /// Isolation. The call does nothing.
 pub fn isolation_laws()

@@ -6,7 +6,7 @@ ghost use Rattle.ut_keeper.specs.State.{KeeperCause, Shows, StaysAfter, Steps, T
 ghost use Rattle.ut_keeper.specs.Tables.{Tables};
 ghost use Rattle.ut_keys.specs.declared.fail.StoreFail.TheVariants.{Keeper};
 ghost use Rattle.ut_model.specs.declared.limit.Limit.TheVariants as limit;
-ghost use Rattle.ut_model.specs.Built.{answered, step};
+ghost use Rattle.ut_step.specs.Built.{answered, step};
 ghost use Rattle.ut_model.specs.Limits.{limit_number};
 ghost use Rattle.ut_model.specs.Step.{caller_by, in_org};
 ghost use Rattle.ut_model.specs.World.{World};
@@ -21,7 +21,8 @@ use std::alloc::Global;
 use ut_http::HttpMessage;
 use ut_keeper::{Draft, Keeper, draft_laws};
 use ut_keys::StoreFail;
-use ut_model::{Caller, Refusal, Reply, step_laws};
+use ut_model::{Caller, Refusal, Reply};
+use ut_step::step_laws;
 use ut_people::caller;
 use ut_rest::respond;
 use ut_stands::{Judged, finish};

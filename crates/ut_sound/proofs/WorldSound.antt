@@ -10,9 +10,9 @@ use Rattle.ut_model.specs.Cases.{in_case}
 use Rattle.ut_model.specs.Limits.{limit_number}
 use Rattle.ut_model.specs.RequestOf.{ReadsQuery, answer_to}
 use Rattle.ut_model.specs.Sound.{IsSound, IsWorld}
-use Rattle.ut_model.specs.Step.{Message, if_called, in_named, in_tenant, named_in, own, refused}
+use Rattle.ut_model.specs.Step.{Message, if_called, in_named, in_tenant, named_in, own, refused, step_by}
 use Rattle.ut_model.specs.Tenant.{Tenant, User}
-use Rattle.ut_model.specs.Whole.{answered_whole, whole_step}
+use Rattle.ut_model.specs.Whole.{answered_whole}
 use Rattle.ut_model.specs.World.{World, tenant_at, user_at, user_id, with_id, with_tenant}
 use Rattle.ut_value.specs.Dates.{is_moment}
 use Rattle.ut_sound.specs.Fit.{IsCaller}
@@ -51,7 +51,7 @@ tenant_sound w zero t all e = absurd cc
 tenant_sound w (suc n) t all e = all_at IsSound t w all (at_has n w t e)
 
 pub world_sound : ((query_in : ReadsQuery) (a : _) (m : Message) → IsCaller a → IsSound a.tenant → IsSound (answer_to query_in a m).1)
-    → (query_in : ReadsQuery) (w : World) (m : Message) (now : ℕ) → is_moment (pos now) ≡ true → IsWorld w → IsWorld (whole_step query_in w m now).1
+    → (query_in : ReadsQuery) (w : World) (m : Message) (now : ℕ) → is_moment (pos now) ≡ true → IsWorld w → IsWorld (step_by (answered_whole query_in) w m now).1
 world_sound law query_in w m now moment s = by (named_in m)
   where
     user : (t : Tenant) → IsSound t → (c : Caller) (o : Option User) → user_at t.users c.user ≡ o

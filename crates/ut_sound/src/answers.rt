@@ -5,8 +5,8 @@ ghost use Rattle.ut_value.specs.Dates.{is_moment};
 ghost use Rattle.ut_model.specs.Paths.{Asked};
 ghost use Rattle.ut_model.specs.RequestOf.{ReadsQuery, answer_to};
 ghost use Rattle.ut_model.specs.Sound.{IsSound, IsWorld};
-ghost use Rattle.ut_model.specs.Step.{Message};
-ghost use Rattle.ut_model.specs.Whole.{whole_step};
+ghost use Rattle.ut_model.specs.Step.{Message, step_by};
+ghost use Rattle.ut_model.specs.Whole.{answered_whole};
 ghost use Rattle.ut_model.specs.World.{World};
 ghost use Rattle.ut_sound.specs.Fit.{IsCaller};
 
@@ -25,7 +25,7 @@ pub fn answers_sound()
 /// What a step of the world leaves of sound organisations is sound, at a moment of the calendar. The call does nothing.
 pub fn world_sound()
     ensures step { (query_in : ReadsQuery) (w : World) (m : Message) (now : ℕ) → IsTrue (is_moment (pos now))
-        → IsWorld w → IsWorld (whole_step query_in w m now).1 }
+        → IsWorld w → IsWorld (step_by (answered_whole query_in) w m now).1 }
 {
     answers_sound();
 }

@@ -5,7 +5,8 @@ use Rattle.ut_model.specs.declared.refusal.Refusal.{Refusal}
 use Rattle.ut_model.specs.declared.refusal.Refusal.TheVariants.{NotBuilt}
 use Rattle.ut_model.specs.declared.route.Route.{Route}
 use Rattle.ut_model.specs.declared.route.Route.TheVariants as route
-use Rattle.ut_model.specs.Built.{built_request, needs_index, no_query, when_built}
+use Rattle.ut_step.specs.Built.{built_request, needs_index, when_built}
+use Rattle.ut_step.specs.Queries.{reads_query}
 use Rattle.ut_model.specs.RequestOf.{ReadsQuery, request_of}
 use Rattle.ut_model.specs.Requests.{Request}
 use Rattle.std.specs.Prelude.{codes}
@@ -20,7 +21,7 @@ read_so (Ok y) x e = ap (λ q. Ok q) (by_flag (needs_index y) (NotBuilt (codes "
 
 pub built : (query_in : ReadsQuery) (r : Route) (body : List ℕ) (x : Request) → built_request r body ≡ Ok x → request_of query_in r body ≡ Ok x
 unfolding request_of
-built query_in route.AddObject body x e = read_so (request_of no_query route.AddObject body) x e
-built query_in (route.SetObject object) body x e = read_so (request_of no_query (route.SetObject object) body) x e
-built query_in route.AddField body x e = read_so (request_of no_query route.AddField body) x e
+built query_in route.AddObject body x e = read_so (request_of reads_query route.AddObject body) x e
+built query_in (route.SetObject object) body x e = read_so (request_of reads_query (route.SetObject object) body) x e
+built query_in route.AddField body x e = read_so (request_of reads_query route.AddField body) x e
 built query_in _ body x e = absurd cc

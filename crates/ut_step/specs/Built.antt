@@ -2,11 +2,8 @@
 -- the verdicts of the whole step (Whole); a request of any other route, and what needs rows that aren't written yet, is refused
 -- with NOT_BUILT. No step of a change of a type is made yet, as no request begins one.
 -- Source of the query: Salesforce, REST API, "Query". What is built is this product's own.
-use Rattle.std.specs.Prelude.{ℕ, pos, Bool, true, false, not, ◌&&◌, ◌||◌, if◌then◌else◌, List, [], ◌∷◌, codes, Option, Some, None, Result, Ok, Err}
+use Rattle.std.specs.Prelude.{ℕ, pos, Bool, true, false, not, ◌&&◌, ◌||◌, if◌then◌else◌, List, codes, Option, Some, None, Result, Ok, Err}
 use Rattle.ut_query.specs.Asking.{asked_object}
-use Rattle.ut_query.specs.declared.query.Item.{Item}
-use Rattle.ut_query.specs.declared.query.Item.TheVariants as item
-use Rattle.ut_query.specs.declared.query.Query.{Query}
 use Rattle.ut_model.specs.declared.refusal.Refusal.{Refusal}
 use Rattle.ut_model.specs.declared.refusal.Refusal.TheVariants as refusal
 use Rattle.ut_model.specs.declared.reply.Reply.{Reply}
@@ -14,16 +11,18 @@ use Rattle.ut_model.specs.declared.route.Route.{Route}
 use Rattle.ut_model.specs.declared.route.Route.TheVariants as route
 use Rattle.ut_model.specs.declared.routed.Routed.{Routed}
 use Rattle.ut_model.specs.declared.routed.Routed.TheVariants.{To, NotFound, NotAllowed}
+use Rattle.ut_model.specs.Asking.{names_query}
 use Rattle.ut_model.specs.Cases.{in_case}
 use Rattle.ut_model.specs.Paths.{Asked}
 use Rattle.ut_model.specs.Replies.{reply_of}
-use Rattle.ut_model.specs.RequestOf.{ReadsQuery, request_of, verdict_or}
+use Rattle.ut_model.specs.RequestOf.{request_of, verdict_or}
 use Rattle.ut_model.specs.Requests.{Request, adds_field, asks, verdict_on}
 use Rattle.ut_model.specs.Routing.{is_administration, routed}
 use Rattle.ut_model.specs.Step.{Answering, Message, query_text, refused, step_by}
 use Rattle.ut_model.specs.Tenant.{Tenant, User}
 use Rattle.ut_model.specs.Verdict.{Verdict, refuse}
 use Rattle.ut_model.specs.World.{World, user_at}
+use Rattle.ut_step.specs.Queries.{reads_query}
 
 -- ---- requests of administrators
 
@@ -44,28 +43,11 @@ abbrev pub when_built : Result Request Refusal → Result Request Refusal
 when_built (Err refusal) = Err refusal
 when_built (Ok request) = if needs_index request then Err (refusal.NotBuilt (codes "flag")) else Ok request
 
--- these routes have no query
-abbrev pub no_query : ReadsQuery
-no_query text = Err 0
-
 -- the request that a route and a body make; its form is judged first, and then whether it is built
 abbrev pub built_request : Route → (body : List ℕ) → Result Request Refusal
-built_request r body = if is_built r then when_built (request_of no_query r body) else Err (refusal.NotBuilt (codes "route"))
+built_request r body = if is_built r then when_built (request_of reads_query r body) else Err (refusal.NotBuilt (codes "route"))
 
 -- ---- queries
-
--- a field of the object itself
-abbrev pub own_field : List ℕ → Item
-own_field name = item.Path (record { names = name ∷ [] })
-
--- `SELECT Id, Name FROM OBJECT`
-abbrev pub names_query : (object : List ℕ) → Query
-names_query object =
-    record {
-      select = own_field (codes "Id") ∷ own_field (codes "Name") ∷ [];
-      tail = record { from = object; condition = None; order = []; limit = None };
-      offset = None;
-    }
 
 -- of queries, those for ids and names are built, of administrators
 abbrev pub names_verdict : Asked → Option (List ℕ) → Verdict

@@ -1,5 +1,5 @@
 use Rattle.std.proofs.Common.{sym, subst}
-use Rattle.ut_model.specs.Built.{built_request}
+use Rattle.ut_step.specs.Built.{built_request}
 use Rattle.ut_model.specs.Requests.{sets_object}
 use Rattle.ut_model.specs.declared.route.Route.TheVariants.{SetObject}
 use Rattle.ut_admin.specs.inner.Edits.{Asks}

@@ -1,7 +1,7 @@
 use Rattle.std.proofs.Common.{List, ℕ, subst}
 use Rattle.std.specs.Str.{chars}
 use Rattle.ut_keeper.specs.Draft.{state_of, tables_of}
-use Rattle.ut_model.specs.Built.{built_request}
+use Rattle.ut_step.specs.Built.{built_request}
 use Rattle.ut_model.specs.Fields.{by_parent}
 use Rattle.ut_model.specs.Metadata.{set_access}
 use Rattle.ut_model.specs.Requests.{adds_field, adds_object, sets_object}

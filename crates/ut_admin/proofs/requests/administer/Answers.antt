@@ -1,6 +1,6 @@
 use Rattle.std.proofs.Common.{◌<◌}
 use Rattle.ut_keeper.specs.Draft.{DraftReads, count_of, state_of, tables_of}
-use Rattle.ut_model.specs.Built.{built_request}
+use Rattle.ut_step.specs.Built.{built_request}
 use Rattle.ut_model.specs.RequestOf.{verdict_or}
 use Rattle.ut_admin.proofs.Replied as replied
 use Rattle.ut_admin.proofs.requests.administer.Goals as goal

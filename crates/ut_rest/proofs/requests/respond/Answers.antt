@@ -1,7 +1,7 @@
 use Rattle.std.proofs.Common.{subst, sym, ◌∙◌}
 use Rattle.ut_keeper.specs.Draft.{tables_of}
 use Rattle.ut_model.specs.declared.routed.Routed.{Routed}
-use Rattle.ut_model.specs.Built.{asking, verdict_to}
+use Rattle.ut_step.specs.Built.{asking, verdict_to}
 use Rattle.ut_stands.specs.Operations.{RepliesIn}
 use Rattle.ut_rest.proofs.requests.respond.Goals as goal
 

@@ -2,7 +2,7 @@ use Rattle.std.proofs.Common.{◌≡◌, ◌∙◌, ap, sym, List, ℕ}
 use Rattle.std.proofs.lemmas.Result.{IfOk-weaker}
 use Rattle.std.specs.Str.{chars}
 use Rattle.ut_keeper.specs.Draft.{tables_of}
-use Rattle.ut_model.specs.Built.{answered, asking, verdict_to}
+use Rattle.ut_step.specs.Built.{answered, asking, verdict_to}
 use Rattle.ut_model.specs.Replies.{reply_of}
 use Rattle.ut_model.specs.Routing.{routed}
 use Rattle.ut_model.specs.Step.{in_org}

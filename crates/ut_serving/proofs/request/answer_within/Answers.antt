@@ -2,7 +2,7 @@ use Rattle.std.proofs.Common.{rules, ◌≡◌, ◌⊎◌, IsTrue, sym, subst}
 use Rattle.std.specs.Prelude.{OnErr}
 use Rattle.ut_keeper.specs.State.{Shows, Tells}
 use Rattle.ut_keeper.specs.Tables.{Tables}
-use Rattle.ut_model.specs.Built.{step}
+use Rattle.ut_step.specs.Built.{step}
 use Rattle.ut_model.specs.World.{World}
 use Rattle.ut_stands.specs.Operations.{Does}
 use Rattle.ut_stands.specs.Stands.{Stands}

@@ -1,5 +1,5 @@
 use Rattle.ut_keeper.specs.Draft.{tables_of}
-use Rattle.ut_model.specs.Built.{answered}
+use Rattle.ut_step.specs.Built.{answered}
 use Rattle.ut_model.specs.Step.{in_org}
 use Rattle.ut_serving.specs.Requests.{message_in}
 use Rattle.ut_serving.proofs.Judging.{changes_in, judged_as}

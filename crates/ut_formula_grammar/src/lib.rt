@@ -4,6 +4,8 @@
 //! what the grammar sees of a token, so that the rules of an organisation can cite them. `ut_formula_text` reads texts by it.
 #![tactic(auto)]
 
+mod laws;
 mod sign;
 
+pub use crate::laws::spelling_laws;
 pub use crate::sign::{Kind, Sign, Sort, sort_of};

@@ -1,4 +1,2 @@
-pub mod Instances
 pub mod Lists
 pub mod Top
-pub mod Spelled

@@ -8,7 +8,7 @@ use Rattle.ut_formula_grammar.specs.Grammar as g
 use Rattle.ut_formula_grammar.specs.Reading as spec
 use Rattle.ut_formula_grammar.specs.Signs.{kind}
 use Rattle.ut_formula_grammar.specs.declared.sign.Sign.{Sign}
-use Rattle.ut_formula_text.proofs.Instances.{firsts, nested_exact}
+use Rattle.ut_formula_grammar.proofs.Instances.{firsts, nested_exact}
 
 -- a comma and a formula take a token
 pub another_takes : (levels : ℕ) → Takes (reader.after kind 16 (spec.nested levels))

@@ -14,7 +14,7 @@ use Rattle.ut_formula_grammar.specs.Reading as spec
 use Rattle.ut_formula_grammar.specs.Signs.{kind, lexis, signs, starts}
 use Rattle.ut_formula_grammar.specs.Spelling.{IsRefusedAt, Spells}
 use Rattle.ut_formula_grammar.specs.declared.sign.Sign.{Sign}
-use Rattle.ut_formula_text.proofs.Instances.{firsts, whole_exact}
+use Rattle.ut_formula_grammar.proofs.Instances.{firsts, whole_exact}
 
 pub found : (ts r : List Sign) (a : Formula) → spec.whole ts ≡ Ok (a, r) → length r ≡ 0 → g.whole.spells ts a
 found ts r a f none = v.read_whole kind g.whole spec.whole firsts [] false whole_exact ts a (v.read_to_end kind g.whole spec.whole firsts [] false whole_exact ts r a f none)

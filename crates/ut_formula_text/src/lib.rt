@@ -2,17 +2,15 @@
 //!
 //! It depends on `ut_formula`, which has the formulas, and on `ut_grammar`. Its contract: `parse` returns a formula exactly
 //! where the text spells one, and then that one, and refuses all else at exactly the place that the grammar defines.
-//! `spelling_laws` says that a text spells at most one formula and is refused at one place, and by what both are computed.
+//! `ut_formula_grammar` says that a text spells at most one formula and is refused at one place, and by what both are computed.
 #![tactic(auto)]
 
-mod laws;
 mod parsing;
 mod reader;
 mod texts;
 mod values;
 mod words;
 
-pub use crate::laws::spelling_laws;
 pub use crate::parsing::parse;
 pub use crate::texts::spelled_rows;
 pub use ut_formula::{Fields, Formula, NamedField};

@@ -1,5 +1,5 @@
 -- Objects and formulas for rows worked by hand. A reader of the rules may pass them over.
-use Rattle.std.specs.Prelude.{ℕ, false, List, [], codes, None, Result}
+use Rattle.std.specs.Prelude.{ℕ, false, List, [], ◌∷◌, ◌++◌, codes, None, Result}
 use Rattle.ut_value.specs.declared.sharing.Access.TheVariants as access
 use Rattle.ut_value.specs.declared.value.FieldType.{FieldType}
 use Rattle.ut_value.specs.declared.value.FieldType.TheVariants as type
@@ -26,3 +26,7 @@ read_over fields text = reads_text (record { name = codes "Deal__c"; access = ac
 -- the field at this position is over 5
 abbrev pub over_five : ℕ → Formula
 over_five position = formula.Compare (term.Field position) relation.Greater (term.Num (whole 5))
+
+-- a text between quotes
+abbrev pub quoted : List ℕ → List ℕ
+quoted cs = 34 ∷ cs ++ 34 ∷ []

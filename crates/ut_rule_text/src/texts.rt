@@ -4,16 +4,15 @@ ghost use Rattle.std.specs.Prelude.{◌≡◌, ◌∷◌, ◌++◌, [], ℕ, Boo
 ghost use Rattle.ut_formula.specs.declared.formula.Formula.{Formula};
 ghost use Rattle.ut_formula.specs.declared.formula.Formula.TheVariants as formula;
 ghost use Rattle.ut_formula_grammar.specs.Spelling.{IsRefusedAt, Spells};
-ghost use Rattle.ut_formula_text.specs.Texts.{quoted};
 ghost use Rattle.ut_grammar.specs.Tokens.{byte_len};
 ghost use Rattle.ut_model.specs.Tenant.{Object};
 ghost use Rattle.ut_rule_text.specs.Reading.{ReadsFormulas};
 ghost use Rattle.ut_model.specs.FormulaTexts.{formula_fields, reads_text};
-ghost use Rattle.ut_rule_text.specs.WorkedTexts.{amount, custom_field, over_five, read_over};
+ghost use Rattle.ut_rule_text.specs.WorkedTexts.{amount, custom_field, over_five, quoted, read_over};
 ghost use Rattle.ut_value.specs.declared.value.FieldType.TheVariants as type;
 
 use ut_formula::formula_laws;
-use ut_formula_text::spelling_laws;
+use ut_formula_grammar::spelling_laws;
 use ut_grammar::token_laws;
 
 /// Texts are read by the grammar of formulas, as the laws of sound formulas suppose. The call does nothing.

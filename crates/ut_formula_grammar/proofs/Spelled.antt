@@ -15,7 +15,7 @@ use Rattle.ut_formula_grammar.specs.Reading as read
 use Rattle.ut_formula_grammar.specs.Signs.{kind, lexis, signs, starts}
 use Rattle.ut_formula_grammar.specs.Spelling.{IsRefusedAt, Spells, at_end, formula_in, place_in, whole_of}
 use Rattle.ut_formula_grammar.specs.declared.sign.Sign.{Sign}
-use Rattle.ut_formula_text.proofs.Instances.{firsts, whole_exact}
+use Rattle.ut_formula_grammar.proofs.Instances.{firsts, whole_exact}
 
 ended : (f h : Formula) (rest : List Sign) (o : Outcome Sign Formula) → o ≡ Ok (h, rest) → at_end h rest ≡ Some f → o ≡ Ok (f, [])
 ended f h [] o same e = let equal : h ≡ f = cc in same ∙ ap (λ x. Ok (x, [])) equal

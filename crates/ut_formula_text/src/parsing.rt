@@ -7,10 +7,10 @@ ghost use Rattle.ut_formula_grammar.specs.Spelling.{IsRefusedAt, Spells};
 ghost use Rattle.ut_grammar.specs.Place.{IsOrMemory, IsPlace, OnMalformed};
 
 use crate::reader::whole;
-use ut_formula_grammar::Sign;
 use crate::words::{FormulaLexis, signs, starts};
 use std::alloc::Global;
 use ut_formula::{Fields, Formula};
+use ut_formula_grammar::Sign;
 use ut_grammar::{Fail, ParseFail, place, tokens};
 
 // The formula that the tokens spell. They begin at these bytes of a text which ends at `end`.

@@ -8,12 +8,12 @@ ghost use Rattle.ut_formula_grammar.specs.Signs.{kind};
 ghost use Rattle.ut_grammar.specs.Reader as reader;
 ghost use Rattle.ut_grammar.specs.Reader.{Gives, with_front};
 
-use ut_formula_grammar::{Kind, Sign};
 use crate::values::{
     field_in, is_len, measured_in, picklist_in, prior_in, relation_in, simple_in, text_in, truth_in,
 };
 use std::alloc::Global;
 use ut_formula::{Formula, Relation, Term};
+use ut_formula_grammar::{Kind, Sign};
 use ut_grammar::{Fail, begins_with, next, skip};
 use ut_value::{Boxed, Items, Text};
 

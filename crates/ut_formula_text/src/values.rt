@@ -4,9 +4,9 @@ ghost use Rattle.std.specs.Prelude.{◌≡◌, IfOk, if◌then◌else◌, Some, 
 ghost use Rattle.ut_formula.specs.declared.formula.Term.TheVariants as term;
 ghost use Rattle.ut_formula_grammar.specs.Terms as spec;
 
-use ut_formula_grammar::{Kind, Sign, Sort};
 use std::alloc::{AllocError, Global};
 use ut_formula::{Relation, Term};
+use ut_formula_grammar::{Kind, Sign, Sort};
 use ut_value::Text;
 
 fn kind_of(sort: Sort) -> Option<Kind>

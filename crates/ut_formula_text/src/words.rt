@@ -4,9 +4,9 @@ ghost use Rattle.std.specs.Prelude.{◌≡◌, ◌≤◌, ◌+◌, length, IfOk}
 ghost use Rattle.ut_formula_grammar.specs.Signs as spec;
 ghost use Rattle.ut_grammar.specs.Counts.{number_count, plain_text};
 
-use ut_formula_grammar::{Sign, sort_of};
 use std::alloc::{AllocError, Global};
 use ut_formula::{NamedField, Relation};
+use ut_formula_grammar::{Sign, sort_of};
 use ut_grammar::{Lexis, Piece, Placed, Token, characters, number_count, plain_text};
 use ut_value::{Items, Text};
 

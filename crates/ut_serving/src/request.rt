@@ -22,10 +22,10 @@ use ut_http::HttpMessage;
 use ut_keeper::{Draft, Keeper, draft_laws};
 use ut_keys::StoreFail;
 use ut_model::{Caller, Refusal, Reply};
-use ut_step::step_laws;
 use ut_people::caller;
 use ut_rest::respond;
 use ut_stands::{Judged, finish};
+use ut_step::step_laws;
 use ut_value::Bytes;
 
 /// The reply to a request.

@@ -30,13 +30,32 @@ pub record HasSoundParts (t : Tenant) : Type 0 where
 pub parts : {t : Tenant} → IsSound t → HasSoundParts t
 parts s =
     record {
-      name = s.name; counter = s.counter; numbers = s.numbers; users = s.users; roles = s.roles; groups = s.groups;
-      metadata = s.metadata; records = s.records; rules = s.rules; shares = s.shares; job = s.job;
+      name = s.name;
+      counter = s.counter;
+      numbers = s.numbers;
+      users = s.users;
+      roles = s.roles;
+      groups = s.groups;
+      metadata = s.metadata;
+      records = s.records;
+      rules = s.rules;
+      shares = s.shares;
+      job = s.job;
     }
 
 pub whole : {t : Tenant} → HasSoundParts t → AreFormulasSound t → IsSound t
 whole s f =
     record {
-      name = s.name; counter = s.counter; numbers = s.numbers; users = s.users; roles = s.roles; groups = s.groups;
-      metadata = s.metadata; records = s.records; rules = s.rules; shares = s.shares; job = s.job; formulas = f;
+      name = s.name;
+      counter = s.counter;
+      numbers = s.numbers;
+      users = s.users;
+      roles = s.roles;
+      groups = s.groups;
+      metadata = s.metadata;
+      records = s.records;
+      rules = s.rules;
+      shares = s.shares;
+      job = s.job;
+      formulas = f;
     }

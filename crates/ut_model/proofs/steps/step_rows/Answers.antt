@@ -35,4 +35,3 @@ returns-clause-first_q c = refl
 pub returns-clause-no_q : goal.returns-clause-no_q
 unfolding query_text raw_pairs split encode_utf8 utf8_lossy percent_decode utf8_valid_len is_utf8 chars
 returns-clause-no_q c = refl
-

@@ -46,13 +46,16 @@ pub fn step_laws()
         → ((step w m now).0 ≡ (step v m now).0) × (tenant_at (step w m now).1 org ≡ tenant_at (step v m now).1 org) }
     ensures other { (w : World) (m : Message) (now org : ℕ) → (org_named m ≡ Some org → ⊥)
         → tenant_at (step w m now).1 org ≡ tenant_at w org }
-
-    // Where no organisation changes a type, what is built is answered as the whole product answers it.
-    ensures whole { (w : World) (m : Message) (now : ℕ) → NoJobs w → IsBuilt w m now → IsReadSo m
-        → step w m now ≡ whole_step w m now }
 {
     answering_laws();
 }
+
+/// That what is built is the whole product, as far as it goes. The call does nothing.
+pub fn whole_laws()
+    // Where no organisation changes a type, what is built is answered as the whole product answers it.
+    ensures whole { (w : World) (m : Message) (now : ℕ) → NoJobs w → IsBuilt w m now → IsReadSo m
+        → step w m now ≡ whole_step w m now }
+{}
 
 /// Steps of the world, worked by hand. The call does nothing.
 pub fn step_rows()

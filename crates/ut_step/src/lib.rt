@@ -7,4 +7,4 @@
 
 mod laws;
 
-pub use crate::laws::{query_rows, step_laws, step_rows};
+pub use crate::laws::{query_rows, step_laws, step_rows, whole_laws};

@@ -1,7 +1,6 @@
 use Rattle.ut_step.specs.Built.{answered, step}
 use Rattle.ut_step.proofs.Answered.{answered_in}
 use Rattle.ut_step.proofs.BuiltRequests.{built}
-use Rattle.ut_step.proofs.Same.{same_step}
 use Rattle.ut_step.proofs.laws.step_laws.Goals as goal
 
 pub returns : goal.returns
@@ -15,5 +14,4 @@ returns c = record {
   same = λ w org t e. c.answering_laws.ensures.same w org t e;
   own = λ w v m now org e same. c.answering_laws.ensures.own answered w v m now org e same;
   other = λ w m now org no. c.answering_laws.ensures.other answered w m now org no;
-  whole = λ w m now none built so. same_step w m now none built so;
 }

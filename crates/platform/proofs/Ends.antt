@@ -153,8 +153,8 @@ module _ (k0 k1 : KeeperState) (same : Tells k0 k1 → Shows k1 k0.tables) (no_m
         let it = subst (Does does w k1 k2) is (h (later t) w (shown (first t) w s) (counted (first t) w s)) in
         (it.0, leaves w w (does w).1 t.0 it.1)
 
-    pub crash_through : (next : World → World) → (IsTrue k1.is_clean → IsTrue k1.stands)
-        → (k1.tells → IsTrue k1.stands → IsTrue k2.is_clean → (w : World) → Stands k1.tables w → length w ≡ n → (m : Tables) → k2.may_leave m → k1.may_leave m ⊎ Stands m (next w))
+    pub crash_through : (next : World → World) → (IsTrue k1.is_clean → IsTrue k1.trusted)
+        → (k1.tells → IsTrue k1.trusted → IsTrue k2.is_clean → (w : World) → Stands k1.tables w → length w ≡ n → (m : Tables) → k2.may_leave m → k1.may_leave m ⊎ Stands m (next w))
         → k0.tells → IsTrue k2.is_clean → (w : World) → Stands k0.tables w → (m : Tables) → k2.may_leave m → k0.may_leave m ⊎ Stands m (next w)
     crash_through next stands h tells clean w s m left =
         let one : IsTrue k1.is_clean = steps.was_clean clean in

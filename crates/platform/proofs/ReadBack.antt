@@ -22,8 +22,8 @@ module _ {K : Type 0} (state : K → KeeperState) where
       → rows_between (with_rows rows no_rows) data_table (codes "a00") (codes "a01") ≡ rows
       → Tells (state before) (state last) → (state before).tables ≡ no_rows → IfOk found (λ v. v.items ≡ rows)
   read_back before mid last a b d e n rows found ka na kb put applied kd nd reads end read back told none =
-      let stands : IsTrue (state (keeper_of e)).stands = subst (λ (k : K). IsTrue (state k).stands) end told.1 in
-      let mid_stands : IsTrue (state mid).stands = subst (λ (k : K). IsTrue (state k).stands) kd (reads.reads.steps.stood stands) in
+      let stands : IsTrue (state (keeper_of e)).trusted = subst (λ (k : K). IsTrue (state k).trusted) end told.1 in
+      let mid_stands : IsTrue (state mid).trusted = subst (λ (k : K). IsTrue (state k).trusted) kd (reads.reads.steps.stood stands) in
       let b_tells : (state (keeper_of b)).tells = subst (λ (k : K). (state k).tells) (sym (kb ∙ ka)) told.0 in
       let shows = applied (b_tells, mid_stands) in
       let d_tells : (state (keeper_of d)).tells = subst (λ (k : K). (state k).tells) (sym kd) shows.0 in

@@ -28,7 +28,7 @@ pub csvq_runs : (a b : Seen) (command : Option Command) (query : List ℕ) (r : 
 csvq_runs a b command query r status is same h = rw is (λ w world. (r, same, λ bytes moments source dated. (w, h w bytes moments source, tt)))
 
 pub csvq_crash : (k l : KeeperState) (command : Option Command) (query : List ℕ) → command ≡ Some (prints (csvq query)) → l ≡ k
-    → IfSome command (λ c. k.tells → IsTrue k.stands → IsTrue l.is_clean → (w : World) → Stands k.tables w → CrashLeaves c w k l)
+    → IfSome command (λ c. k.tells → IsTrue k.trusted → IsTrue l.is_clean → (w : World) → Stands k.tables w → CrashLeaves c w k l)
 csvq_crash k l command query is same = rw is (λ tells stands clean w s bytes moments m h. inl (subst (λ (x : KeeperState). x.may_leave m) same h))
 
 module _ (name secret : List ℕ) where
@@ -78,8 +78,8 @@ module _ (name secret : List ℕ) where
           (behind w (org_world w name secret) r, p, keeps w bytes moments a.keeper b.keeper a.written b.written r source p (leaves t w s))
 
   pub org_crash : (k l : KeeperState) (command : Option Command) → command ≡ Some (prints (org_add name secret))
-      → (k.tells → IsTrue k.stands → IsTrue l.is_clean → (w : World) → Stands k.tables w → (m : Tables) → l.may_leave m → k.may_leave m ⊎ Stands m (org_does name secret w).1)
-      → IfSome command (λ c. k.tells → IsTrue k.stands → IsTrue l.is_clean → (w : World) → Stands k.tables w → CrashLeaves c w k l)
+      → (k.tells → IsTrue k.trusted → IsTrue l.is_clean → (w : World) → Stands k.tables w → (m : Tables) → l.may_leave m → k.may_leave m ⊎ Stands m (org_does name secret w).1)
+      → IfSome command (λ c. k.tells → IsTrue k.trusted → IsTrue l.is_clean → (w : World) → Stands k.tables w → CrashLeaves c w k l)
   org_crash k l command is h = rw is (λ tells stands clean w s bytes moments m left. by w bytes moments m (h tells stands clean w s m left))
     where
       by : (w : World) (bytes moments : List ℕ) (m : Tables) → k.may_leave m ⊎ Stands m (org_world w name secret) → k.may_leave m ⊎ ((end v : World) × IsNext w (printed (org_add name secret) w bytes moments) end v × Stands m v)
@@ -113,7 +113,7 @@ module _ (command : Option Command) (c : Command) (serving : is_serving c ≡ tr
   reached (serves count) w k l serving h = h
 
   pub serving_crash : (k l : KeeperState) → LeadsFrom k l
-      → IfSome command (λ c. k.tells → IsTrue k.stands → IsTrue l.is_clean → (w : World) → Stands k.tables w → CrashLeaves c w k l)
+      → IfSome command (λ c. k.tells → IsTrue k.trusted → IsTrue l.is_clean → (w : World) → Stands k.tables w → CrashLeaves c w k l)
   serving_crash k l h = rw is (λ tells stands clean w s. reached c w k l serving (λ m left. (h tells stands w s).crash clean m left))
 
   -- nothing failed: it is done, or memory ran out

@@ -76,7 +76,7 @@ IsRefused w p end _ next = ⊥
 -- the tables stand for the world at the end; and a crash leaves tables that do, or what it might have left before if the
 -- world is the same, or what a refused batch would have made
 pub record Keeps (w end : World) (Refused : World → Type 0) (old new : KeeperState) : Type 0 where
-  pub tables : IsTrue new.stands → new.tells × Stands new.tables end
+  pub tables : IsTrue new.trusted → new.tells × Stands new.tables end
   pub crash : IsTrue new.is_clean → (m : Tables) → new.may_leave m → (old.may_leave m × (end ≡ w)) ⊎ (Stands m end ⊎ ((next : World) × Refused next × Stands m next))
 
 -- the same of a command that may not use the keeper

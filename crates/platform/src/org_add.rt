@@ -2,7 +2,7 @@
 
 ghost use Rattle.std.specs.Prelude.{◌≡◌, ◌<◌, ◌⊎◌, IfErr, IfOk, IsErrOf, IsTrue, OnErr, is_ok, length};
 ghost use Rattle.ut_keeper.specs.Draft.{DraftReads, DraftTells, DraftWorks, count_of, state_of, tables_of};
-ghost use Rattle.ut_keeper.specs.State.{KeeperCause, Shows, StandsAfter, StaysAfter, Steps, Tells};
+ghost use Rattle.ut_keeper.specs.State.{KeeperCause, Shows, TrustedAfter, StaysAfter, Steps, Tells};
 ghost use Rattle.ut_keeper.specs.Tables.{Tables};
 ghost use Rattle.ut_keys.specs.declared.fail.StoreFail.TheVariants.{Keeper};
 ghost use Rattle.ut_model.specs.World.{World};
@@ -82,7 +82,7 @@ fn add<K: Keeper>(
     ensures kept { Tells (K.state keeper.old) (K.state keeper.new) → OnErr result (Shows (K.state keeper.new) (K.state keeper.old).tables) }
     ensures refused { Tells (K.state keeper.old) (K.state keeper.new)
         → IfOk result (λ p. p.status ≡ 65 → Shows (K.state keeper.new) (K.state keeper.old).tables) }
-    ensures crash { (K.state keeper.old).tells → IsTrue (K.state keeper.old).stands → IsTrue (K.state keeper.new).is_clean
+    ensures crash { (K.state keeper.old).tells → IsTrue (K.state keeper.old).trusted → IsTrue (K.state keeper.new).is_clean
         → (w : World) → Stands (K.state keeper.old).tables w → length w ≡ organisations
         → (m : Tables) → (K.state keeper.new).may_leave m
         → (K.state keeper.old).may_leave m ⊎ Stands m (org_does name.now secret.now w).1 }
@@ -108,11 +108,11 @@ pub(crate) fn org_add_page<K: Keeper>(
     ensures kept { Tells (K.state keeper.old) (K.state keeper.new) → OnErr result (Shows (K.state keeper.new) (K.state keeper.old).tables) }
     ensures refused { Tells (K.state keeper.old) (K.state keeper.new)
         → IfOk result (λ p. p.status ≡ 65 → Shows (K.state keeper.new) (K.state keeper.old).tables) }
-    ensures crash { (K.state keeper.old).tells → IsTrue (K.state keeper.old).stands → IsTrue (K.state keeper.new).is_clean
+    ensures crash { (K.state keeper.old).tells → IsTrue (K.state keeper.old).trusted → IsTrue (K.state keeper.new).is_clean
         → (w : World) → Stands (K.state keeper.old).tables w → (m : Tables) → (K.state keeper.new).may_leave m
         → (K.state keeper.old).may_leave m ⊎ Stands m (org_does name.now secret.now w).1 }
     ensures steps { Steps (K.state keeper.old) (K.state keeper.new) }
-    ensures stands { StandsAfter (is_ok result) (K.state keeper.new) }
+    ensures trusted { TrustedAfter (is_ok result) (K.state keeper.new) }
     ensures cause { KeeperCause (K.state keeper.old) (K.state keeper.new) (KeeperFailsOpening result) }
 {
     stands_laws();

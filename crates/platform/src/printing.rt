@@ -3,7 +3,7 @@
 ghost use Rattle.std.specs.Prelude.{◌≡◌, ◌⊎◌, List, ℕ, IsErr, IsTrue, IfOk, IsErrOf, false, is_ok};
 ghost use Rattle.std.specs.Io.KnownBytes.{IsAtEnd};
 ghost use Rattle.ut_value.specs.Causes.{Cause};
-ghost use Rattle.ut_keeper.specs.State.{KeeperCause, Shows, StandsAfter, Steps, Tells};
+ghost use Rattle.ut_keeper.specs.State.{KeeperCause, Shows, TrustedAfter, Steps, Tells};
 ghost use Rattle.ut_keeper.specs.Tables.{Tables};
 ghost use Rattle.ut_model.specs.World.{World};
 ghost use Rattle.ut_query.specs.Asking.{asks_for_rows};
@@ -197,10 +197,10 @@ pub(crate) fn print_org_add<K: Keeper, W: Sink>(
         → Shows (K.state keeper.new) (K.state keeper.old).tables }
     ensures refused { Tells (K.state keeper.old) (K.state keeper.new)
         → IfOk result (λ status. status ≡ 65 → Shows (K.state keeper.new) (K.state keeper.old).tables) }
-    ensures crash { (K.state keeper.old).tells → IsTrue (K.state keeper.old).stands → IsTrue (K.state keeper.new).is_clean
+    ensures crash { (K.state keeper.old).tells → IsTrue (K.state keeper.old).trusted → IsTrue (K.state keeper.new).is_clean
         → (w : World) → Stands (K.state keeper.old).tables w → (m : Tables) → (K.state keeper.new).may_leave m
         → (K.state keeper.old).may_leave m ⊎ Stands m (org_does name.now secret.now w).1 }
-    ensures acknowledged { StandsAfter (is_ok result) (K.state keeper.new) }
+    ensures acknowledged { TrustedAfter (is_ok result) (K.state keeper.new) }
     ensures unwritten { is_done (store_end result) ≡ false → sink.new ≡ sink.old }
     ensures status { IsKnownStatus result }
     ensures steps { Steps (K.state keeper.old) (K.state keeper.new) }

@@ -88,9 +88,9 @@ pub fn run<K: Keeper, D: Door, S: Source, W: Sink, C: Clock>(
     // A keeper that is trusted no more.
     ensures acknowledged { IfSome (command_of (map string_bytes words.now)) (λ command. is_serving command ≡ false
         → (uses_of command).keeper ≡ true → (result ≡ 0) ⊎ (result ≡ 65)
-        → IsTrue (K.state keeper.new).is_clean → IsTrue (K.state keeper.new).stands) }
+        → IsTrue (K.state keeper.new).is_clean → IsTrue (K.state keeper.new).trusted) }
     ensures crash { IfSome (command_of (map string_bytes words.now)) (λ command.
-        (K.state keeper.old).tells → IsTrue (K.state keeper.old).stands → IsTrue (K.state keeper.new).is_clean
+        (K.state keeper.old).tells → IsTrue (K.state keeper.old).trusted → IsTrue (K.state keeper.new).is_clean
         → (w : World) → Stands (K.state keeper.old).tables w → CrashLeaves command w (K.state keeper.old) (K.state keeper.new)) }
     ensures falls { IfSome (command_of (map string_bytes words.now)) (λ command.
         Fell (K.state keeper.old) (K.state keeper.new) → (w : World) → Stands (K.state keeper.old).tables w → RunFalls command w

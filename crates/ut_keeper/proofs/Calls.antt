@@ -21,7 +21,7 @@ steps_on a b c s r = record {
     | inr fault ↦ inr (omega (arith, fault, r.counts))
   ];
   sure = λ h. let p = s.sure h in let q = r.sure p.0 in (q.0, q.1 ∙ p.1, λ still. q.2 (p.2 still));
-  shut = λ fell clean m h. s.shut fell (r.was_clean clean) m (r.shut (fallen a.stands b.stands s.stood fell) clean m h);
+  shut = λ fell clean m h. s.shut fell (r.was_clean clean) m (r.shut (fallen a.trusted b.trusted s.stood fell) clean m h);
 }
 
 pub reads_same : (s : KeeperState) → Reads s s

@@ -42,13 +42,13 @@ abbrev pub none_listed : List ℕ → Bool
 none_listed [] = true
 none_listed (n ∷ ns) = false
 
--- it always tells its tables, and a crash leaves just these
+-- it always tells its tables, and a crash leaves just these: over memory a crash is none of the process, whose end loses all tables
 abbrev pub memory_state : InMemory → KeeperState
 memory_state k = record {
   tells = Unit {0};
   tables = k.tables;
   may_leave = λ m. m ≡ k.tables;
-  stands = true;
+  trusted = true;
   is_clean = true;
   faults = k.faults;
   never_fails = none_listed k.failing;

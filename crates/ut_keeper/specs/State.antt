@@ -12,7 +12,7 @@ pub record KeeperState : Type 1 where
   -- the tables that a crash at this moment may leave, if the keeper tells its own
   pub may_leave : Tables → Type 0
   -- the keeper is still trusted: false from a fault on after which it tells nothing more
-  pub stands : Bool
+  pub trusted : Bool
   -- false once what it told may have been wrong
   pub is_clean : Bool
   -- the faults that it counted
@@ -27,31 +27,31 @@ pub record KeeperState : Type 1 where
 abbrev pub LeavesNoMore : KeeperState → KeeperState → Type 0
 LeavesNoMore old new = IsTrue new.is_clean → (m : Tables) → new.may_leave m → old.may_leave m
 
--- what every call keeps: the count of faults never falls, a keeper that stands or is clean after the call was so before,
--- a clean keeper ceases to stand only in a call that counts a fault, and once it has ceased no call lets a crash leave more
+-- what every call keeps: the count of faults never falls, a keeper that is trusted or clean after the call was so before,
+-- a clean keeper loses its trust only in a call that counts a fault, and once it is trusted no more no call lets a crash leave more
 pub record Steps (old new : KeeperState) : Type 0 where
   pub counts : old.faults ≤ new.faults
-  pub stood : IsTrue new.stands → IsTrue old.stands
+  pub stood : IsTrue new.trusted → IsTrue old.trusted
   pub was_clean : IsTrue new.is_clean → IsTrue old.is_clean
-  pub closes : IsTrue old.stands → IsTrue new.is_clean → IsTrue new.stands ⊎ Rose old.faults new.faults
-  pub sure : IsTrue old.never_fails → IsTrue new.never_fails × (new.faults ≡ old.faults) × (IsTrue old.stands → IsTrue new.stands)
-  pub shut : old.stands ≡ false → LeavesNoMore old new
+  pub closes : IsTrue old.trusted → IsTrue new.is_clean → IsTrue new.trusted ⊎ Rose old.faults new.faults
+  pub sure : IsTrue old.never_fails → IsTrue new.never_fails × (new.faults ≡ old.faults) × (IsTrue old.trusted → IsTrue new.trusted)
+  pub shut : old.trusted ≡ false → LeavesNoMore old new
 
--- it told its tables, and it still stands
+-- it told its tables, and it is still trusted
 abbrev pub Tells : KeeperState → KeeperState → Type 0
-Tells old new = old.tells × IsTrue new.stands
+Tells old new = old.tells × IsTrue new.trusted
 
 -- it still tells, and its tables are these
 abbrev pub Shows : KeeperState → Tables → Type 0
 Shows new m = new.tells × (new.tables ≡ m)
 
--- if the call was done, the keeper stands after it, as long as it is clean
-abbrev pub StandsAfter : Bool → KeeperState → Type 0
-StandsAfter done new = IsTrue done → IsTrue new.is_clean → IsTrue new.stands
+-- if the call was done, the keeper is trusted after it, as long as it is clean
+abbrev pub TrustedAfter : Bool → KeeperState → Type 0
+TrustedAfter done new = IsTrue done → IsTrue new.is_clean → IsTrue new.trusted
 
--- the same of a keeper that stood before: a draft may take what it returns from its own changes
+-- the same of a keeper that was trusted before: a draft may take what it returns from its own changes
 abbrev pub StaysAfter : Bool → KeeperState → KeeperState → Type 0
-StaysAfter done old new = IsTrue old.stands → StandsAfter done new
+StaysAfter done old new = IsTrue old.trusted → TrustedAfter done new
 
 -- a crash leaves the tables, and nothing else
 pub record IsSettled (s : KeeperState) : Type 0 where

@@ -2,7 +2,7 @@ ghost use Rattle.std.specs.Prelude.{◌≡◌, ◌⊎◌, ◌<◌, ◌≤◌, �
 ghost use Rattle.ut_keeper.specs.declared.keeper.KeepFail.TheVariants.{Failed};
 ghost use Rattle.ut_keeper.specs.declared.keeper.Change.TheVariants.{Put, Remove};
 ghost use Rattle.ut_keeper.specs.Tables.{Tables, row_at, rows_between, after, after_change};
-ghost use Rattle.ut_keeper.specs.State.{Steps, Tells, Shows, StandsAfter, StaysAfter, IsSettled, KeeperCause, ShownMost, data_rows, seen, more_written};
+ghost use Rattle.ut_keeper.specs.State.{Steps, Tells, Shows, TrustedAfter, StaysAfter, IsSettled, KeeperCause, ShownMost, data_rows, seen, more_written};
 ghost use Rattle.ut_keeper.specs.Laid.{laid};
 ghost use Rattle.ut_keeper.specs.inner.Changes.{change_of};
 
@@ -115,7 +115,7 @@ impl<'a, K: Keeper> Draft<'a, K> {
             (state_of K.state self.old) (state_of K.state self.new) }
         ensures reads { DraftReads K.state (data_rows table (seen limit result + removals_of K.state table self.old))
             self.old self.new }
-        ensures stands { StandsAfter (is_ok result) (state_of K.state self.new) }
+        ensures trusted { TrustedAfter (is_ok result) (state_of K.state self.new) }
         ensures cause { KeeperCause (state_of K.state self.old) (state_of K.state self.new) (IsErrOf result Failed) }
     {
         let held = held_in(alloc, &self.changes, table, from, below, limit)?;
@@ -192,7 +192,7 @@ impl<'a, K: Keeper> Draft<'a, K> {
             ≡ (if is_ok result then more_written (count_of self.entry) (state_of K.state self.entry).written
             else (state_of K.state self.entry).written) }
         ensures stays { StaysAfter (is_ok result) (state_of K.state self.entry) (K.state self.exit.0.now) }
-        ensures stands { 0 < count_of self.entry → StandsAfter (is_ok result) (K.state self.exit.0.now) }
+        ensures trusted { 0 < count_of self.entry → TrustedAfter (is_ok result) (K.state self.exit.0.now) }
         ensures settled { Tells (state_of K.state self.entry) (K.state self.exit.0.now)
             → IsSettled (K.state self.exit.0.now) }
         ensures cause { KeeperCause (state_of K.state self.entry) (K.state self.exit.0.now) (IsErrOf result Failed) }

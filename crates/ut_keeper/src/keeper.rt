@@ -2,7 +2,7 @@ ghost use Rattle.std.specs.Prelude.{◌≡◌, ◌⊎◌, ◌+◌, ◌≤◌, le
 ghost use Rattle.ut_keeper.specs.declared.keeper.KeepFail.TheVariants.{Failed, Memory};
 ghost use Rattle.ut_value.specs.Causes.{up_to_last};
 ghost use Rattle.ut_keeper.specs.Tables.{Tables, row_at, rows_between, after};
-ghost use Rattle.ut_keeper.specs.State.{KeeperState, Steps, LeavesNoMore, Tells, Shows, Reads, StandsAfter, IsSettled, KeeperCause, more_shown, shown_by_get, shown_by_scan};
+ghost use Rattle.ut_keeper.specs.State.{KeeperState, Steps, LeavesNoMore, Tells, Shows, Reads, TrustedAfter, IsSettled, KeeperCause, more_shown, shown_by_get, shown_by_scan};
 
 use std::alloc::{AllocError, Global};
 use std::error::Error;
@@ -80,7 +80,7 @@ pub struct Batch {
 /// of them. After an error the tables are what they were, so the call may be made again. `Failed` comes only if the
 /// count of faults rose in that call. Each count is a `u64` and saturates.
 ///
-/// `stands` says that the keeper is still trusted. It only falls: once a keeper has ceased to stand it tells nothing
+/// `trusted` says that the keeper is still trusted. It only falls: once a keeper is trusted no more it tells nothing
 /// more, and its calls return errors, as long as it is clean.
 pub trait Keeper {
     ghost state: { Self → KeeperState };
@@ -96,7 +96,7 @@ pub trait Keeper {
         ensures steps { Steps (state self.old) (state self.new) }
         ensures shown { (state self.new).shown ≡ (state self.old).shown }
         ensures written { (state self.new).written ≡ (state self.old).written }
-        ensures stands { StandsAfter (is_ok result) (state self.new) }
+        ensures trusted { TrustedAfter (is_ok result) (state self.new) }
         ensures cause { KeeperCause (state self.old) (state self.new) (IsErrOf result Failed) };
 
     /// The row of a key, or `None` where there is none.
@@ -109,7 +109,7 @@ pub trait Keeper {
             → IfOk result (λ row. row ≡ row_at (state self.old).tables table key.now) }
         ensures reads { Reads (state self.old) (state self.new) }
         ensures shown { (state self.new).shown ≡ more_shown table (shown_by_get result) (state self.old).shown }
-        ensures stands { StandsAfter (is_ok result) (state self.new) }
+        ensures trusted { TrustedAfter (is_ok result) (state self.new) }
         ensures cause { KeeperCause (state self.old) (state self.new) (IsErrOf result Failed) };
 
     /// The first `limit` rows with `from <= key < below`, in the order of their keys.
@@ -131,14 +131,14 @@ pub trait Keeper {
         ensures short { IfOk result (λ rows. length rows.items ≤ limit) }
         ensures reads { Reads (state self.old) (state self.new) }
         ensures shown { (state self.new).shown ≡ more_shown table (shown_by_scan result) (state self.old).shown }
-        ensures stands { StandsAfter (is_ok result) (state self.new) }
+        ensures trusted { TrustedAfter (is_ok result) (state self.new) }
         ensures cause { KeeperCause (state self.old) (state self.new) (IsErrOf result Failed) };
 
     /// Makes all changes in their order, or none.
     ///
     /// # Errors
     ///
-    /// `Failed` if the keeper failed, `Memory` if out of memory. If the keeper ceased to stand in this call, a crash
+    /// `Failed` if the keeper failed, `Memory` if out of memory. If the keeper lost its trust in this call, a crash
     /// may still leave the tables as they would be after the whole batch.
     fn apply(&mut self, alloc: Global, batch: &Batch) -> Result<(), KeepFail>
         ensures applied { Tells (state self.old) (state self.new)
@@ -156,9 +156,9 @@ pub trait Keeper {
         ensures written { (state self.new).written
             ≡ (if is_ok result then up_to_last ((state self.old).written + length batch.now.changes.items)
             else (state self.old).written) }
-        ensures stands { StandsAfter (is_ok result) (state self.new) }
+        ensures trusted { TrustedAfter (is_ok result) (state self.new) }
         ensures cause { KeeperCause (state self.old) (state self.new) (IsErrOf result Failed) };
 
-    // While a keeper tells and stands, a crash leaves its tables and nothing else.
-    ghost settled: { (k : Self) → (state k).tells → IsTrue (state k).stands → IsSettled (state k) };
+    // While a keeper tells and is trusted, a crash leaves its tables and nothing else.
+    ghost settled: { (k : Self) → (state k).tells → IsTrue (state k).trusted → IsSettled (state k) };
 }

@@ -2,7 +2,7 @@ ghost use Rattle.std.specs.Prelude.{◌≡◌, ◌⊎◌, ◌≤◌, ◌+◌, �
 ghost use Rattle.ut_value.specs.Causes.{up_to_last};
 ghost use Rattle.ut_keeper.specs.declared.keeper.KeepFail.TheVariants.{Failed};
 ghost use Rattle.ut_keeper.specs.Tables.{Tables, no_rows, row_at, rows_between, after};
-ghost use Rattle.ut_keeper.specs.State.{Steps, LeavesNoMore, Tells, Shows, Reads, StandsAfter, KeeperCause, more_shown, shown_by_get, shown_by_scan};
+ghost use Rattle.ut_keeper.specs.State.{Steps, LeavesNoMore, Tells, Shows, Reads, TrustedAfter, KeeperCause, more_shown, shown_by_get, shown_by_scan};
 ghost use Rattle.ut_keeper.specs.Memory.{memory_state, is_listed, FailsByNumber};
 
 use crate::changes::change_all;
@@ -120,7 +120,7 @@ impl Keeper for MemoryKeeper {
         ensures steps { Steps (memory_state self.old) (memory_state self.new) }
         ensures shown { (memory_state self.new).shown ≡ (memory_state self.old).shown }
         ensures written { (memory_state self.new).written ≡ (memory_state self.old).written }
-        ensures stands { StandsAfter (is_ok result) (memory_state self.new) }
+        ensures trusted { TrustedAfter (is_ok result) (memory_state self.new) }
         ensures cause { KeeperCause (memory_state self.old) (memory_state self.new) (IsErrOf result Failed) }
         ensures numbered { FailsByNumber self.old self.new (IsErrOf result Failed) }
     {
@@ -136,7 +136,7 @@ impl Keeper for MemoryKeeper {
         ensures reads { Reads (memory_state self.old) (memory_state self.new) }
         ensures shown { (memory_state self.new).shown
             ≡ more_shown table (shown_by_get result) (memory_state self.old).shown }
-        ensures stands { StandsAfter (is_ok result) (memory_state self.new) }
+        ensures trusted { TrustedAfter (is_ok result) (memory_state self.new) }
         ensures cause { KeeperCause (memory_state self.old) (memory_state self.new) (IsErrOf result Failed) }
         ensures numbered { FailsByNumber self.old self.new (IsErrOf result Failed) }
     {
@@ -167,7 +167,7 @@ impl Keeper for MemoryKeeper {
         ensures reads { Reads (memory_state self.old) (memory_state self.new) }
         ensures shown { (memory_state self.new).shown
             ≡ more_shown table (shown_by_scan result) (memory_state self.old).shown }
-        ensures stands { StandsAfter (is_ok result) (memory_state self.new) }
+        ensures trusted { TrustedAfter (is_ok result) (memory_state self.new) }
         ensures cause { KeeperCause (memory_state self.old) (memory_state self.new) (IsErrOf result Failed) }
         ensures numbered { FailsByNumber self.old self.new (IsErrOf result Failed) }
     {
@@ -194,7 +194,7 @@ impl Keeper for MemoryKeeper {
         ensures written { (memory_state self.new).written
             ≡ (if is_ok result then up_to_last ((memory_state self.old).written + length batch.now.changes.items)
             else (memory_state self.old).written) }
-        ensures stands { StandsAfter (is_ok result) (memory_state self.new) }
+        ensures trusted { TrustedAfter (is_ok result) (memory_state self.new) }
         ensures cause { KeeperCause (memory_state self.old) (memory_state self.new) (IsErrOf result Failed) }
         ensures numbered { FailsByNumber self.old self.new (IsErrOf result Failed) }
     {

@@ -83,7 +83,7 @@ FallsNext mid new coming held held2 = Fell mid new → (w : World) (d : DoorStat
 
 module _ (w : World) (moments : List ℕ) (d : DoorState) (first mid new : KeeperState) (coming : Option (List ℕ)) (held held2 : Option DoorState) where
   -- in a later one than these
-  in_later : (n before now : ℕ) → IsTrue mid.stands → new.stands ≡ false → IsTrue new.is_clean → Gone w moments d n coming held before now first mid → FallsNext mid new coming held held2 → FallsBringing w moments d held2 new
+  in_later : (n before now : ℕ) → IsTrue mid.trusted → new.trusted ≡ false → IsTrue new.is_clean → Gone w moments d n coming held before now first mid → FallsNext mid new coming held held2 → FallsBringing w moments d held2 new
   in_later n before now stands fell clean (cs, e, later, here, asked, h, count) next =
       let at = h.kept.tables stands in
       let (f, same, s) = next (at.0, stands, fell, clean) h.end e later at.1 here asked in (
@@ -127,10 +127,10 @@ module _ (w : World) (moments : List ℕ) (d : DoorState) (first mid new : Keepe
         },
       )
 
-  pub fell_on : (n before now : ℕ) → Steps mid new → Fell first new → (IsTrue mid.stands → Gone w moments d n coming held before now first mid) → (mid.stands ≡ false → FallsBringing w moments d held mid)
+  pub fell_on : (n before now : ℕ) → Steps mid new → Fell first new → (IsTrue mid.trusted → Gone w moments d n coming held before now first mid) → (mid.trusted ≡ false → FallsBringing w moments d held mid)
       → FallsNext mid new coming held held2 → OutputsGrow held held2 → FallsBringing w moments d held2 new
-  fell_on n before now steps (tells, stands, fell, clean) gone fallen next grows = by (either mid.stands)
+  fell_on n before now steps (tells, stands, fell, clean) gone fallen next grows = by (either mid.trusted)
     where
-      by : (mid.stands ≡ true) ⊎ (mid.stands ≡ false) → FallsBringing w moments d held2 new
+      by : (mid.trusted ≡ true) ⊎ (mid.trusted ≡ false) → FallsBringing w moments d held2 new
       by (inl open_) = in_later n before now open_ fell clean (gone open_) next
       by (inr shut) = before_it (λ t left. steps.shut shut clean t left) grows (fallen shut)

@@ -145,7 +145,7 @@ more (Ok true) cs ds n e h k = let l = length-append cs ds in omega (arith, l, h
 more (Ok false) cs ds n e h k = let l = length-append cs ds in let s = k.0 in (omega (arith, l, h, s), k.1)
 more (Err f) cs ds n e h k = let l = length-append cs ds in omega (arith, l, h, k)
 
-pub gone_on : (r : Result Bool IoFail) (w : World) (moments : List ℕ) (d : DoorState) (n : ℕ) (first mid new : KeeperState) (coming coming2 : Option (List ℕ)) (held held2 : Option DoorState) (before between now : ℕ) → IsTrue new.stands → Steps mid new
+pub gone_on : (r : Result Bool IoFail) (w : World) (moments : List ℕ) (d : DoorState) (n : ℕ) (first mid new : KeeperState) (coming coming2 : Option (List ℕ)) (held held2 : Option DoorState) (before between now : ℕ) → IsTrue new.trusted → Steps mid new
     → Gone w moments d n coming held before between first mid → NextFrom mid new coming held coming2 held2 between now r → BringsTo w moments d (λ cs e. More r n (length cs) e) coming2 held2 before now first new
 gone_on r w moments d n first mid new coming coming2 held held2 before between now stands steps (cs, e, later, here, asked, h, count) next =
     let at = h.kept.tables (steps.stood stands) in

@@ -66,7 +66,7 @@ left_at w m now old new settled s h t left = elim (h t left) [
 
 pub fell_on : (w : World) (m : HttpMessage) (now : ℕ) (moments : List ℕ) (old new : KeeperState) (coming before after : Option (List ℕ)) (a : Answer) (s : Result (Unit {0}) LineFail)
     → IsSettled old → Fell old new → Stands old.tables w → coming ≡ Some moments → IsFirstMoment coming now → (IsMade a → StaysAfter true old new) → IsFixed m.close a
-    → (old.tells → IsTrue old.stands → IsTrue new.is_clean → (v : World) → Stands old.tables v → (t : Tables) → new.may_leave t → old.may_leave t ⊎ Stands t (step v (message_in m) now).1)
+    → (old.tells → IsTrue old.trusted → IsTrue new.is_clean → (v : World) → Stands old.tables v → (t : Tables) → new.may_leave t → old.may_leave t ⊎ Stands t (step v (message_in m) now).1)
     → Wrote before after (bytes_in a) s → FallsOn w m moments new before after s
 fell_on w m now moments old new coming before after a s settled (tells, stands, fell, clean) is e first made fixed crash wrote = (
   now,
@@ -182,11 +182,11 @@ module _ (w : World) (moments input : List ℕ) (old : KeeperState) (before : Op
 
   -- it fell in this turn, or before
   pub fallen_on : (mid new : KeeperState) (coming left after after2 : Option (List ℕ)) (n : ℕ) (r : Result Bool LineFail) → Steps mid new → Fell old new
-      → (IsTrue mid.stands → Goes w moments input old before mid coming left after n) → (mid.stands ≡ false → Fallen mid after)
+      → (IsTrue mid.trusted → Goes w moments input old before mid coming left after n) → (mid.trusted ≡ false → Fallen mid after)
       → FallsFrom mid new coming left after after2 (eqb n 999) r → Grows after after2 → FallenBy new after2 r
-  fallen_on mid new coming left after after2 n r steps (tells, stands, fell, clean) goes fallen falls grows = by (either mid.stands)
+  fallen_on mid new coming left after after2 n r steps (tells, stands, fell, clean) goes fallen falls grows = by (either mid.trusted)
     where
-      by : (mid.stands ≡ true) ⊎ (mid.stands ≡ false) → FallenBy new after2 r
+      by : (mid.trusted ≡ true) ⊎ (mid.trusted ≡ false) → FallenBy new after2 r
       by (inr shut) = by_result new after2 r (fallen_later mid new after after2 (λ t left. steps.shut shut clean t left) grows (fallen shut))
       by (inl open_) =
           let (p, xs, follows, kept, here, going, count, few, wrote) = goes open_ in

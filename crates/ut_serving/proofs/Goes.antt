@@ -79,7 +79,7 @@ module _ (w : World) (moments input : List ℕ) (old : KeeperState) (before : Op
   pub start : (coming left : Option (List ℕ)) → old.tells → Stands old.tables w → coming ≡ Some moments → left ≡ Some input → Goes old coming left before 0
   start coming left tells stands e i = (begins w moments input, [], refl, kept_same w old tells stands, (e, i), refl, refl, omega arith, nothing before before (unchanged before))
 
-  pub go_on : (mid new : KeeperState) (coming left after coming2 left2 after2 : Option (List ℕ)) (n : ℕ) → IsTrue new.stands → Steps mid new
+  pub go_on : (mid new : KeeperState) (coming left after coming2 left2 after2 : Option (List ℕ)) (n : ℕ) → IsTrue new.trusted → Steps mid new
       → Goes mid coming left after n → TurnsFrom mid new coming left after coming2 left2 after2 (eqb n 999) (Ok false) → Goes new coming2 left2 after2 (n + 1)
   go_on mid new coming left after coming2 left2 after2 n stands steps (p, xs, follows, kept, here, going, count, few, wrote) turns =
       let at = kept.tables (steps.stood stands) in
@@ -154,7 +154,7 @@ module _ (w : World) (moments input : List ℕ) (old : KeeperState) (before : Op
       by_reply mid new coming2 left2 after after2 p q xs x steps follows kept wrote is k there at_fault false (take n (reply_in x)) refl (λ h. absurd cc) (front (reply_in x) (take n (reply_in x)) n within refl) app
   by_replied mid new coming2 left2 after after2 p q xs x steps follows kept wrote is k there (Err Read) h = absurd h
 
-  pub ends : (mid new : KeeperState) (coming left after coming2 left2 after2 : Option (List ℕ)) (n : ℕ) (s : Result (Unit {0}) LineFail) → IsTrue new.stands → Steps mid new
+  pub ends : (mid new : KeeperState) (coming left after coming2 left2 after2 : Option (List ℕ)) (n : ℕ) (s : Result (Unit {0}) LineFail) → IsTrue new.trusted → Steps mid new
       → Goes mid coming left after n → TurnsFrom mid new coming left after coming2 left2 after2 (eqb n 999) (over_by s) → Serves w moments input old new coming2 before after2 s
   ends mid new coming left after coming2 left2 after2 n s stands steps (p, xs, follows, kept, here, going, count, few, wrote) turns =
       let at = kept.tables (steps.stood stands) in

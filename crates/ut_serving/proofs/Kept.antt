@@ -56,7 +56,7 @@ pub kept_same : (w : World) (a : KeeperState) → a.tells → Stands a.tables w 
 kept_same w a tells stands = record { tables = λ _. (tells, stands); faults = omega arith; crash = λ clean m h. inl (h, refl, tt) }
 
 -- only reads, before the first request
-pub kept_opened : (w : World) (a b : KeeperState) → Steps a b → (IsTrue b.stands → Shows b a.tables) → LeavesNoMore a b → Stands a.tables w → LeavesBehind w w [] a b
+pub kept_opened : (w : World) (a b : KeeperState) → Steps a b → (IsTrue b.trusted → Shows b a.tables) → LeavesNoMore a b → Stands a.tables w → LeavesBehind w w [] a b
 kept_opened w a b steps shows less stands = record {
   tables = λ is. let s = shows is in (s.0, rw s.1 stands);
   faults = omega (arith, steps.counts);

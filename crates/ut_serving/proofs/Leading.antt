@@ -26,7 +26,7 @@ here : (w : World) (m : Tables) → Stands m w → StandsReached w m
 here w m stands = (w, ([], refl), stands)
 
 -- only reads
-pub led_by_reading : (w : World) (a b : KeeperState) → (IsTrue b.stands → Shows b a.tables) → LeavesNoMore a b → Stands a.tables w → Leads w a b
+pub led_by_reading : (w : World) (a b : KeeperState) → (IsTrue b.trusted → Shows b a.tables) → LeavesNoMore a b → Stands a.tables w → Leads w a b
 led_by_reading w a b shows less stands = record {
   tables = λ is. let s = shows is in (s.0, (w, ([], refl), rw s.1 stands));
   crash = λ clean m h. inl (less clean m h);
@@ -39,13 +39,13 @@ led_same a tells is w stands = led_by_reading w a a (λ _. (tells, refl)) (λ _ 
 pub led_on : (w : World) (a b c : KeeperState) → Leads w a b → Steps b c → LeadsFrom b c → Leads w a c
 led_on w a b c h steps next = record { tables = tables; crash = crash }
   where
-    tables : IsTrue c.stands → c.tells × StandsReached w c.tables
+    tables : IsTrue c.trusted → c.tells × StandsReached w c.tables
     tables is =
         let at = h.tables (steps.stood is) in
         let on = (next at.0 (steps.stood is) at.1.0 at.1.2).tables is in
         (on.0, further w at.1.0 c.tables at.1.1 on.1)
 
-    before : (b.stands ≡ true) ⊎ (b.stands ≡ false) → IsTrue c.is_clean → (m : Tables) → c.may_leave m → a.may_leave m ⊎ StandsReached w m
+    before : (b.trusted ≡ true) ⊎ (b.trusted ≡ false) → IsTrue c.is_clean → (m : Tables) → c.may_leave m → a.may_leave m ⊎ StandsReached w m
     before (inr shut) clean m l = h.crash (steps.was_clean clean) m (steps.shut shut clean m l)
     before (inl open_) clean m l =
         let at = h.tables open_ in
@@ -59,7 +59,7 @@ led_on w a b c h steps next = record { tables = tables; crash = crash }
     either false = inr refl
 
     crash : IsTrue c.is_clean → (m : Tables) → c.may_leave m → a.may_leave m ⊎ StandsReached w m
-    crash clean m l = before (either b.stands) clean m l
+    crash clean m l = before (either b.trusted) clean m l
 
 pub led_then : (a b c : KeeperState) → LeadsFrom a b → Steps b c → LeadsFrom b c → LeadsFrom a c
 led_then a b c h steps next tells is w stands = led_on w a b c (h tells is w stands) steps next
@@ -67,7 +67,7 @@ led_then a b c h steps next tells is w stands = led_on w a b c (h tells is w sta
 -- one request
 pub led_by_request : (m : HttpMessage) (now : ℕ) (old new : KeeperState) (r : Result (List ℕ) StoreFail)
     → (Tells old new → (w : World) → Stands old.tables w → Does (does (message_in m) m.close now) w old new r)
-    → (old.tells → IsTrue old.stands → IsTrue new.is_clean → (w : World) → Stands old.tables w → (t : Tables) → new.may_leave t → old.may_leave t ⊎ Stands t (step w (message_in m) now).1)
+    → (old.tells → IsTrue old.trusted → IsTrue new.is_clean → (w : World) → Stands old.tables w → (t : Tables) → new.may_leave t → old.may_leave t ⊎ Stands t (step w (message_in m) now).1)
     → LeadsFrom old new
 led_by_request m now old new r within crash tells is w stands = record {
   tables = λ on. by r (within (tells, on) w stands) on;
@@ -77,6 +77,6 @@ led_by_request m now old new r within crash tells is w stands = record {
   ];
 }
   where
-    by : (s : Result (List ℕ) StoreFail) → Does (does (message_in m) m.close now) w old new s → IsTrue new.stands → new.tells × StandsReached w new.tables
+    by : (s : Result (List ℕ) StoreFail) → Does (does (message_in m) m.close now) w old new s → IsTrue new.trusted → new.tells × StandsReached w new.tables
     by (Ok bytes) h on = let t = h.1.tables on in (t.0, ((step w (message_in m) now).1, ((message_in m, now) ∷ [], refl), t.1))
     by (Err e) h on = let t = h.1.tables on in (t.0, (w, ([], refl), t.1))

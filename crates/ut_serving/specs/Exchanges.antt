@@ -74,7 +74,7 @@ IsLate (x ∷ xs) end late = ((x.outcome ≢ done) × (late ≡ done_whole x) ×
 -- the keeper after these requests, which led from the world w to `end`
 pub record LeavesBehind (w end : World) (xs : List Exchange) (old new : KeeperState) : Type 0 where
   -- its tables stand for the world after them
-  pub tables : IsTrue new.stands → new.tells × Stands new.tables end
+  pub tables : IsTrue new.trusted → new.tells × Stands new.tables end
   -- at most as many were answered 503 as its faults rose
   pub faults : up_to_last (old.faults + stores xs) ≤ new.faults
   -- a crash leaves the world after them; or what it might have left before, where none changed the world; or one done late

@@ -25,7 +25,7 @@ use Rattle.ut_serving.specs.declared.wire.LineFail.TheVariants.{Read, Write}
 
 -- it told its tables and was trusted, and is trusted no more, though nothing that it told was wrong
 abbrev pub Fell : KeeperState → KeeperState → Type 0
-Fell old new = old.tells × IsTrue old.stands × (new.stands ≡ false) × IsTrue new.is_clean
+Fell old new = old.tells × IsTrue old.trusted × (new.trusted ≡ false) × IsTrue new.is_clean
 
 -- a crash leaves tables of this world, or of the one after this message
 abbrev pub MayLeave : World → Message → (now : ℕ) → KeeperState → Type 0

@@ -23,10 +23,10 @@ StandsReached w m = (end : World) × IsReached w end × Stands m end
 -- the keeper, whose tables stood for w
 pub record Leads (w : World) (old new : KeeperState) : Type 0 where
   -- while it is trusted, its tables stand for a world that requests lead to
-  pub tables : IsTrue new.stands → new.tells × StandsReached w new.tables
+  pub tables : IsTrue new.trusted → new.tells × StandsReached w new.tables
   -- a crash leaves such tables, or what it might have left before
   pub crash : IsTrue new.is_clean → (m : Tables) → new.may_leave m → old.may_leave m ⊎ StandsReached w m
 
 -- the same of a keeper that was trusted and told its tables, which stood for some world
 abbrev pub LeadsFrom : KeeperState → KeeperState → Type 0
-LeadsFrom old new = old.tells → IsTrue old.stands → (w : World) → Stands old.tables w → Leads w old new
+LeadsFrom old new = old.tells → IsTrue old.trusted → (w : World) → Stands old.tables w → Leads w old new

@@ -39,11 +39,11 @@ pub fn connection_laws()
 pub fn serving_laws<K: Keeper>()
     // Tables that stand for a world were only read.
     ensures left_by_reading { (w : World) (a b : K) → Steps (K.state a) (K.state b)
-        → (IsTrue (K.state b).stands → Shows (K.state b) (K.state a).tables)
+        → (IsTrue (K.state b).trusted → Shows (K.state b) (K.state a).tables)
         → LeavesNoMore (K.state a) (K.state b) → Stands (K.state a).tables w
         → LeavesBehind w w [] (K.state a) (K.state b) }
     ensures led_by_reading { (w : World) (a b : K)
-        → (IsTrue (K.state b).stands → Shows (K.state b) (K.state a).tables)
+        → (IsTrue (K.state b).trusted → Shows (K.state b) (K.state a).tables)
         → LeavesNoMore (K.state a) (K.state b) → Stands (K.state a).tables w
         → Leads w (K.state a) (K.state b) }
 

@@ -165,7 +165,7 @@ fn answer_within<K: Keeper>(
     ensures kept { Tells (K.state keeper.old) (K.state keeper.new)
         → OnErr result (Shows (K.state keeper.new) (K.state keeper.old).tables) }
     ensures leads { LeadsFrom (K.state keeper.old) (K.state keeper.new) }
-    ensures crash { (K.state keeper.old).tells → IsTrue (K.state keeper.old).stands → IsTrue (K.state keeper.new).is_clean
+    ensures crash { (K.state keeper.old).tells → IsTrue (K.state keeper.old).trusted → IsTrue (K.state keeper.new).is_clean
         → (w : World) → Stands (K.state keeper.old).tables w → (m : Tables) → (K.state keeper.new).may_leave m
         → (K.state keeper.old).may_leave m ⊎ Stands m (step w (message_in message.now) now).1 }
     ensures stays { StaysAfter (is_ok result) (K.state keeper.old) (K.state keeper.new) }
@@ -201,7 +201,7 @@ pub fn answer_message<K: Keeper>(
     ensures leads { LeadsFrom (K.state keeper.old) (K.state keeper.new) }
 
     // Also if the keeper is trusted no more: a crash leaves what it might have left before, or this request done whole.
-    ensures crash { (K.state keeper.old).tells → IsTrue (K.state keeper.old).stands → IsTrue (K.state keeper.new).is_clean
+    ensures crash { (K.state keeper.old).tells → IsTrue (K.state keeper.old).trusted → IsTrue (K.state keeper.new).is_clean
         → (w : World) → Stands (K.state keeper.old).tables w → (m : Tables) → (K.state keeper.new).may_leave m
         → (K.state keeper.old).may_leave m ⊎ Stands m (step w (message_in message.now) now).1 }
 

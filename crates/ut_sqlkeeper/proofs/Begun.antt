@@ -13,7 +13,7 @@ use Rattle.ut_sqlkeeper.specs.Opened.{unopened_state, opened_state}
 use Rattle.ut_sqlkeeper.proofs.Blank.{map_blank, sound_blank}
 use Rattle.ut_sqlkeeper.proofs.Shown.{clean_if_open, doubt_free}
 
-module _ (tells : Type 0) (refusals : ℕ) (b a : KeeperState) (steps : Steps b a) (counted : refusals ≤ b.faults) (opens : IsTrue b.is_clean → IsTrue b.stands) (clean_if_stands : IsTrue b.stands → IsTrue b.is_clean)
+module _ (tells : Type 0) (refusals : ℕ) (b a : KeeperState) (steps : Steps b a) (counted : refusals ≤ b.faults) (opens : IsTrue b.is_clean → IsTrue b.trusted) (clean_if_stands : IsTrue b.trusted → IsTrue b.is_clean)
     (blank : tells → IsTrue b.is_clean → b.tells × (b.tables ≡ no_rows)) where
   pub begun_steps : Steps (unopened_state tells refusals) a
   begun_steps = record {
@@ -31,7 +31,7 @@ module _ (tells : Type 0) (refusals : ℕ) (b a : KeeperState) (steps : Steps b 
       let shows = same (is.0, told.1) in
       (shows.0, shows.1 ∙ is.1)
 
-  pub begun_crash : (b.tells → LeavesNoMore b a) → (b.tells → IsTrue b.stands → IsSettled b) → tells → LeavesNoMore (unopened_state tells refusals) a
+  pub begun_crash : (b.tells → LeavesNoMore b a) → (b.tells → IsTrue b.trusted → IsSettled b) → tells → LeavesNoMore (unopened_state tells refusals) a
   begun_crash crash law told clean m left =
       let was = steps.was_clean clean in
       let is = blank told was in

@@ -134,9 +134,9 @@ module _ {A : Type 0} (rows_of : A → List Row) (sql : List ℕ) (params : Row)
   query_open (Ok x) ok err = λ shown. (shown_open sql params old new (rows_of x) ok).0
   query_open (Err e) ok err = harmless_open old new (fails_query sql params old new e err)
 
-  pub query_stands : (r : Result A Error) → IfOk r (λ x. Shown sql params old new (rows_of x)) → OnOk r (IsTrue new.is_open)
-  query_stands (Ok x) ok = (shown_open sql params old new (rows_of x) ok).1
-  query_stands (Err e) ok = tt
+  pub query_trusted : (r : Result A Error) → IfOk r (λ x. Shown sql params old new (rows_of x)) → OnOk r (IsTrue new.is_open)
+  query_trusted (Ok x) ok = (shown_open sql params old new (rows_of x) ok).1
+  query_trusted (Err e) ok = tt
 
 -- of a statement that is only compiled
 module _ {A : Type 0} (text_of : A → List ℕ) (sql : List ℕ) (old new : State) where

@@ -18,7 +18,7 @@ module _ {S : Type 0} (g : Ghosts S) (c : Held S)
     (only : (s : S) (db : Trees) → IsTrue (g.view s).is_open → g.recovers s db → db ≡ (g.view s).committed)
     (stays : (s : S) → IsTrue (g.view s).is_open → g.recovers s (g.view s).committed)
     (r : ℕ) (shown : List ℕ) (w : ℕ) where
-  pub settled_by : (keeper_state g c r shown w).tells → IsTrue (keeper_state g c r shown w).stands
+  pub settled_by : (keeper_state g c r shown w).tells → IsTrue (keeper_state g c r shown w).trusted
       → IsSettled (keeper_state g c r shown w)
   settled_by told stands =
       let last : map_in (state g c).now.trees ≡ map_in (state g c).committed.trees

@@ -13,7 +13,7 @@ unopened_state tells refusals = record {
   tells = tells;
   tables = no_rows;
   may_leave = λ m. m ≡ no_rows;
-  stands = true;
+  trusted = true;
   is_clean = true;
   faults = refusals;
   never_fails = false;
@@ -27,10 +27,10 @@ module _ {C : Type 0} (state_of : C → KeeperState) where
   opened_state tells refusals None = unopened_state tells refusals
   opened_state tells refusals (Some c) = state_of c
 
-  -- the trait's law: while it tells and stands, a crash leaves its tables and nothing else
-  pub opened_settled : ((c : C) → (state_of c).tells → IsTrue (state_of c).stands → IsSettled (state_of c))
+  -- the trait's law: while it tells and is trusted, a crash leaves its tables and nothing else
+  pub opened_settled : ((c : C) → (state_of c).tells → IsTrue (state_of c).trusted → IsSettled (state_of c))
       → (tells : Type 0) (refusals : ℕ) (c : Option C)
-      → (opened_state tells refusals c).tells → IsTrue (opened_state tells refusals c).stands
+      → (opened_state tells refusals c).tells → IsTrue (opened_state tells refusals c).trusted
       → IsSettled (opened_state tells refusals c)
   opened_settled law tells refusals None told stands = record { leaves = refl; only = λ m same. same }
   opened_settled law tells refusals (Some c) told stands = law c told stands
@@ -39,7 +39,7 @@ module _ {C : Type 0} (state_of : C → KeeperState) where
 pub record IsUnopened (tells : Type 0) (s : KeeperState) : Type 0 where
   pub told : tells ↔ s.tells
   pub tables : s.tables ≡ no_rows
-  pub stands : IsTrue s.stands
+  pub stands : IsTrue s.trusted
   pub is_clean : IsTrue s.is_clean
   pub faults : s.faults ≡ 0
   pub shown : (table : ℕ) → s.shown table ≡ 0
@@ -50,5 +50,5 @@ pub record IsOver {S : Type 0} (g : Ghosts S) (c : Held S) (s : KeeperState) : T
   pub told : s.tells ↔ (IsTrue (state g c).is_open × IsReady (state g c))
   pub tables : s.tables ≡ map_in (state g c).now.trees
   pub leaves : (m : Tables) → s.may_leave m ↔ ((db : Trees) × (state g c).may_leave db × (m ≡ map_in db))
-  pub stands : s.stands ≡ (state g c).is_open
+  pub stands : s.trusted ≡ (state g c).is_open
   pub is_clean : s.is_clean ≡ (state g c).is_clean

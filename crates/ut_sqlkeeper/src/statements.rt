@@ -38,7 +38,7 @@ pub(crate) fn rows_at<S: Alter>(
     ensures was_open { HasCleanDisk (state S.Store conn.new)
         → WasOpen (state S.Store conn.old) (state S.Store conn.new) }
     ensures keeps { Keeps (state S.Store conn.old) (state S.Store conn.new) }
-    ensures stands { HasCleanDisk (state S.Store conn.new) → OnOk result (IsTrue (state S.Store conn.new).is_open) }
+    ensures trusted { HasCleanDisk (state S.Store conn.new) → OnOk result (IsTrue (state S.Store conn.new).is_open) }
     ensures survives { Survives (state S.Store conn.old) (state S.Store conn.new) (λ _. ⊥) }
 {
     conn.query_all(
@@ -64,7 +64,7 @@ pub(crate) fn rows_in<S: Alter>(
     ensures was_open { HasCleanDisk (state S.Store conn.new)
         → WasOpen (state S.Store conn.old) (state S.Store conn.new) }
     ensures keeps { Keeps (state S.Store conn.old) (state S.Store conn.new) }
-    ensures stands { HasCleanDisk (state S.Store conn.new) → OnOk result (IsTrue (state S.Store conn.new).is_open) }
+    ensures trusted { HasCleanDisk (state S.Store conn.new) → OnOk result (IsTrue (state S.Store conn.new).is_open) }
     ensures survives { Survives (state S.Store conn.old) (state S.Store conn.new) (λ _. ⊥) }
 {
     // Only one list is a listing of an interval.
@@ -182,7 +182,7 @@ fn make_changes<S: Alter>(conn: &mut Connection<S>, changes: &[Change]) -> Resul
         → OnErr result (Stays (state S.Store conn.old) (state S.Store conn.new)) }
     ensures was_open { HasCleanDisk (state S.Store conn.new)
         → WasOpen (state S.Store conn.old) (state S.Store conn.new) }
-    ensures stands { HasCleanDisk (state S.Store conn.new)
+    ensures trusted { HasCleanDisk (state S.Store conn.new)
         → IfOk result (λ done. IsTrue done → IsTrue (state S.Store conn.new).is_open) }
     ensures keeps { Keeps (state S.Store conn.old) (state S.Store conn.new) }
     ensures crash { IsKept (state S.Store conn.old)
@@ -210,7 +210,7 @@ fn check_open<S: Alter>(conn: &mut Connection<S>) -> Result<Statement, Error>
         → Stays (state S.Store conn.old) (state S.Store conn.new) }
     ensures was_open { HasCleanDisk (state S.Store conn.new)
         → WasOpen (state S.Store conn.old) (state S.Store conn.new) }
-    ensures stands { HasCleanDisk (state S.Store conn.new) → OnOk result (IsTrue (state S.Store conn.new).is_open) }
+    ensures trusted { HasCleanDisk (state S.Store conn.new) → OnOk result (IsTrue (state S.Store conn.new).is_open) }
     ensures keeps { Keeps (state S.Store conn.old) (state S.Store conn.new) }
     ensures survives { Survives (state S.Store conn.old) (state S.Store conn.new) (λ _. ⊥) }
 {
@@ -230,7 +230,7 @@ pub(crate) fn apply_all<S: Alter>(
         → OnErr result (Stays (state S.Store conn.old) (state S.Store conn.new)) }
     ensures was_open { HasCleanDisk (state S.Store conn.new)
         → WasOpen (state S.Store conn.old) (state S.Store conn.new) }
-    ensures stands { HasCleanDisk (state S.Store conn.new)
+    ensures trusted { HasCleanDisk (state S.Store conn.new)
         → IfOk result (λ done. IsTrue done → IsTrue (state S.Store conn.new).is_open) }
     ensures keeps { Keeps (state S.Store conn.old) (state S.Store conn.new) }
     ensures crash { IsReady (state S.Store conn.old)
@@ -300,7 +300,7 @@ pub(crate) fn open_table<S: Alter>(conn: &mut Connection<S>) -> Result<(), Error
         × (map_in (state S.Store conn.new).now.trees ≡ map_in (state S.Store conn.old).now.trees) }
     ensures was_open { HasCleanDisk (state S.Store conn.new)
         → WasOpen (state S.Store conn.old) (state S.Store conn.new) }
-    ensures stands { HasCleanDisk (state S.Store conn.new) → OnOk result (IsTrue (state S.Store conn.new).is_open) }
+    ensures trusted { HasCleanDisk (state S.Store conn.new) → OnOk result (IsTrue (state S.Store conn.new).is_open) }
     ensures keeps { Keeps (state S.Store conn.old) (state S.Store conn.new) }
     ensures crash { IsReady (state S.Store conn.old)
         → Survives (state S.Store conn.old) (state S.Store conn.new)

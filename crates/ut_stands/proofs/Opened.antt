@@ -15,8 +15,8 @@ module _ {K : Type 0} (state : K → KeeperState) where
       → keeper_of d ≡ opened → ChangesNothing d → DraftReads state 0 d e → l ≡ keeper_of e
       → (DraftTells state d e → P (tables_of state d)) → Tells (state k) (state l) → P (state k).tables
   after_opening k opened d e l P same is none reads end holds told =
-      let stands : IsTrue (state (keeper_of e)).stands = subst (λ x. IsTrue (state x).stands) end told.1 in
-      let stood : IsTrue (state (keeper_of d)).stands = reads.reads.steps.stood stands in
-      let shown = same (told.0, subst (λ x. IsTrue (state x).stands) is stood) in
+      let stands : IsTrue (state (keeper_of e)).trusted = subst (λ x. IsTrue (state x).trusted) end told.1 in
+      let stood : IsTrue (state (keeper_of d)).trusted = reads.reads.steps.stood stands in
+      let shown = same (told.0, subst (λ x. IsTrue (state x).trusted) is stood) in
       let tells : (state (keeper_of d)).tells = subst (λ x. (state x).tells) (sym is) shown.0 in
       subst P (plain d opened is none ∙ shown.1) (holds (tells, stands))

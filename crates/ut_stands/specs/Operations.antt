@@ -68,7 +68,7 @@ Returns (Err e) y = ⊥
 -- what is left of tables that stood for w: tables that stand for `end`, and in a crash they, or those of before where the
 -- world is the same, or those of the whole operation
 pub record Leaves (w end next : World) (old new : KeeperState) : Type 0 where
-  pub tables : IsTrue new.stands → new.tells × Stands new.tables end
+  pub tables : IsTrue new.trusted → new.tells × Stands new.tables end
   pub crash : IsTrue new.is_clean → (m : Tables) → new.may_leave m → (old.may_leave m × (end ≡ w)) ⊎ Stands m next
 
 -- an operation over a keeper: done whole, or nothing is changed

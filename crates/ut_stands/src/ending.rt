@@ -44,7 +44,7 @@ pub fn finish<K: Keeper, T: Drop>(
     ensures crash { (d : Held K) (most gone shown : ℕ) (does : World → T × World) (w : World)
         → ChangesNothing d → DraftWorks K.state most gone shown d draft.entry
         → StaysAfter (is_ok judged) (state_of K.state d) (state_of K.state draft.entry)
-        → (state_of K.state d).tells → IsTrue (state_of K.state d).stands → IsTrue (K.state draft.exit.0.now).is_clean
+        → (state_of K.state d).tells → IsTrue (state_of K.state d).trusted → IsTrue (K.state draft.exit.0.now).is_clean
         → Stands (state_of K.state d).tables w
         → (DraftTells K.state d draft.entry → Judges does w (tables_of K.state draft.entry) judged)
         → (m : Tables) → (K.state draft.exit.0.now).may_leave m → (state_of K.state d).may_leave m ⊎ Stands m (does w).1 }

@@ -1,6 +1,6 @@
 ghost use Rattle.std.specs.Prelude.{◌≡◌, IfOk, length};
 ghost use Rattle.ut_keeper.specs.Draft.{DraftReads, DraftTells, state_of, tables_of};
-ghost use Rattle.ut_keeper.specs.State.{KeeperCause, LeavesNoMore, Shows, StandsAfter, StaysAfter, Steps, Tells};
+ghost use Rattle.ut_keeper.specs.State.{KeeperCause, LeavesNoMore, Shows, TrustedAfter, StaysAfter, Steps, Tells};
 ghost use Rattle.ut_model.specs.World.{World};
 ghost use Rattle.ut_stands.specs.Fails.{KeeperFailsOpening, sees_version};
 ghost use Rattle.ut_stands.specs.Reads.{OpensAs};
@@ -53,7 +53,7 @@ pub fn open_tables<K: Keeper>(alloc: Global, keeper: &mut K) -> Result<u32, Open
     ensures crash { (K.state keeper.old).tells → LeavesNoMore (K.state keeper.old) (K.state keeper.new) }
     ensures steps { Steps (K.state keeper.old) (K.state keeper.new) }
     ensures written { (K.state keeper.new).written ≡ (K.state keeper.old).written }
-    ensures stands { StandsAfter (sees_version result) (K.state keeper.new) }
+    ensures trusted { TrustedAfter (sees_version result) (K.state keeper.new) }
     ensures cause { KeeperCause (K.state keeper.old) (K.state keeper.new) (KeeperFailsOpening result) }
 {
     keeper.open(alloc)?;

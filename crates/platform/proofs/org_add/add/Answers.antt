@@ -45,7 +45,7 @@ returns-clause-crash g c =
     let state = g.K.Keeper.state in
     let d = c.new-draft.result in
     let op = org_does c.args.name.now c.args.secret.now in
-    moved (λ x y. (state x).tells → IsTrue (state x).stands → IsTrue (state y).is_clean → (w : World) → Stands (state x).tables w → length w ≡ c.args.organisations → (m : Tables) → (state y).may_leave m → (state x).may_leave m ⊎ Stands m (op w).1)
+    moved (λ x y. (state x).tells → IsTrue (state x).trusted → IsTrue (state y).is_clean → (w : World) → Stands (state x).tables w → length w ≡ c.args.organisations → (m : Tables) → (state y).may_leave m → (state x).may_leave m ⊎ Stands m (op w).1)
     d.keeper.now c.finish.new.draft.0 c.args.keeper.now _ c.new-draft.ensures.same (search rules)
     (λ tells stands clean w s counted m h. c.finish.ensures.crash d 3 0 0 op w c.new-draft.ensures.empty c.judge-judged.ensures.works c.judge-judged.ensures.stays tells stands clean s
     (λ drafted. c.judge-judged.ensures.judged drafted w (search rules) counted) m h)

@@ -21,13 +21,13 @@ pub returns-in-Ok-add-clause-crash : goal.returns-in-Ok-add-clause-crash
 returns-in-Ok-add-clause-crash g c tells _ clean w s m h =
     let state = g.K.Keeper.state in
     crash_through (state c.args.keeper.now) (state c.open_tables.new.keeper) c.open_tables.ensures.same c.open_tables.ensures.crash c.in-Ok.organisations c.in-Ok.ensures.counts (state c.add.new.keeper) c.add.ensures.steps
-    (λ v. (org_does c.args.name.now c.args.secret.now v).1) (c.open_tables.ensures.stands (subst (λ r. sees_version r ≡ true) (sym c.in-Ok.is) refl)) c.add.ensures.crash tells clean w s m h
+    (λ v. (org_does c.args.name.now c.args.secret.now v).1) (c.open_tables.ensures.trusted (subst (λ r. sees_version r ≡ true) (sym c.in-Ok.is) refl)) c.add.ensures.crash tells clean w s m h
 
 pub returns-in-Err-add-clause-crash : goal.returns-in-Err-add-clause-crash
 returns-in-Err-add-clause-crash g c tells _ clean w s m h =
     let state = g.K.Keeper.state in
     crash_through (state c.args.keeper.now) (state c.open_tables.new.keeper) c.open_tables.ensures.same c.open_tables.ensures.crash c.in-Ok.organisations c.in-Ok.ensures.counts (state c.add.new.keeper) c.add.ensures.steps
-    (λ v. (org_does c.args.name.now c.args.secret.now v).1) (c.open_tables.ensures.stands (subst (λ r. sees_version r ≡ true) (sym c.in-Ok.is) refl)) c.add.ensures.crash tells clean w s m h
+    (λ v. (org_does c.args.name.now c.args.secret.now v).1) (c.open_tables.ensures.trusted (subst (λ r. sees_version r ≡ true) (sym c.in-Ok.is) refl)) c.add.ensures.crash tells clean w s m h
 
 pub returns-in-Err-clause-does : goal.returns-in-Err-clause-does
 returns-in-Err-clause-does g c told w s =

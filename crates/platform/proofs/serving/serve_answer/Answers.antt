@@ -1,6 +1,6 @@
 use Rattle.std.proofs.Common.{rules, inl, inr, ◌≡◌, ◌∙◌, refl, ap, sym, subst, [], Err}
 use Rattle.ut_serving.specs.Exchanges.{LeavesBehind}
-use Rattle.ut_keeper.specs.State.{StandsAfter}
+use Rattle.ut_keeper.specs.State.{TrustedAfter}
 use Rattle.ut_serving.specs.Falls.{Falls}
 use Rattle.ut_serving.specs.Turning.{Serves}
 use Rattle.ut_stands.specs.Fails.{sees_version}
@@ -70,7 +70,7 @@ returns-in-Ok-clause-falls g c fell w s input moments here asked =
     let written = g.W.Sink.written in
     let mid = c.open_tables.new.keeper in
     let opening = c.open_tables.ensures in
-    let stands = subst (λ r. StandsAfter (sees_version r) (state mid)) c.in-Ok.is opening.stands refl (c.connection.ensures.steps.was_clean fell.3) in
+    let stands = subst (λ r. TrustedAfter (sees_version r) (state mid)) c.in-Ok.is opening.trusted refl (c.connection.ensures.steps.was_clean fell.3) in
     let at = opening.same (fell.0, stands) in
     let over = c.connection.new.wire in
     let falls = c.connection.ensures.falls (at.0, stands, fell.2, fell.3) w moments input (subst (λ m. Stands m w) (sym at.1) s) asked (ap left c.new-wire.ensures.source_held ∙ here) in

@@ -1,5 +1,5 @@
 use Rattle.std.proofs.Common.{Err, [], inl, inr, refl, subst, sym}
-use Rattle.ut_keeper.specs.State.{StandsAfter}
+use Rattle.ut_keeper.specs.State.{TrustedAfter}
 use Rattle.ut_serving.specs.Exchanges.{LeavesBehind}
 use Rattle.ut_stands.specs.Fails.{sees_version}
 use Rattle.ut_stands.specs.Reads.{OpensAs}
@@ -58,7 +58,7 @@ returns-in-Ok-clause-falls g c fell w s d moments here asked =
     let state = g.K.Keeper.state in
     let mid = c.open_tables.new.keeper in
     let opening = c.open_tables.ensures in
-    let stands = subst (λ r. StandsAfter (sees_version r) (state mid)) c.in-Ok.is opening.stands refl (c.open_and_serve.ensures.steps.was_clean fell.3) in
+    let stands = subst (λ r. TrustedAfter (sees_version r) (state mid)) c.in-Ok.is opening.trusted refl (c.open_and_serve.ensures.steps.was_clean fell.3) in
     let at = opening.same (fell.0, stands) in
     inr (c.open_and_serve.ensures.falls (at.0, stands, fell.2, fell.3) w d moments (subst (λ m. Stands m w) (sym at.1) s) here asked)
 

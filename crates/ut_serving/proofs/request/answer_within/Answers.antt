@@ -54,7 +54,7 @@ returns-clause-crash g c =
     let d = c.new-draft.result in
     let op = does (message_in c.args.message.now) c.args.message.now.close c.args.now in
     let works = c.judge-judged.ensures.works in
-    moved (λ x y. (state x).tells → IsTrue (state x).stands → IsTrue (state y).is_clean → (w : World) → Stands (state x).tables w → (m : Tables) → (state y).may_leave m → (state x).may_leave m ⊎ Stands m (step w (message_in c.args.message.now) c.args.now).1)
+    moved (λ x y. (state x).tells → IsTrue (state x).trusted → IsTrue (state y).is_clean → (w : World) → Stands (state x).tables w → (m : Tables) → (state y).may_leave m → (state x).may_leave m ⊎ Stands m (step w (message_in c.args.message.now) c.args.now).1)
     d.keeper.now c.finish.new.draft.0 c.args.keeper.now _ c.new-draft.ensures.same (search rules)
     (λ tells stands clean w s m h. c.finish.ensures.crash d 3 0 (shown_most state d) op w c.new-draft.ensures.empty works c.judge-judged.ensures.stays tells stands clean s
     (λ drafted. c.judge-judged.ensures.judged drafted w (search rules)) m h)

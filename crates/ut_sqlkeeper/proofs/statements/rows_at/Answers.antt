@@ -1,7 +1,7 @@
 use Rattle.std.proofs.lemmas.Result.{IfOk-weaker}
 use Rattle.sqlite.specs.Held.{state}
 use Rattle.ut_sqlkeeper.proofs.Plain.{get_bare, commits_none}
-use Rattle.ut_sqlkeeper.proofs.Get.{got_ready, query_harmless, query_open, query_stands, harmless_stays, keeps}
+use Rattle.ut_sqlkeeper.proofs.Get.{got_ready, query_harmless, query_open, query_trusted, harmless_stays, keeps}
 use Rattle.ut_sqlkeeper.specs.Kept.{get_text}
 use Rattle.ut_sqlkeeper.proofs.statements.rows_at.Goals as goal
 
@@ -25,5 +25,5 @@ returns-clause-survives g c = commits_none _ _ get_text _ get_bare c.query_all.e
 pub returns-clause-keeps : goal.returns-clause-keeps
 returns-clause-keeps g c = keeps _ _ _ c.query_all.ensures.survives
 
-pub returns-clause-stands : goal.returns-clause-stands
-returns-clause-stands g c clean = query_stands (λ rows. rows.items) get_text _ (state g.S.Store c.args.conn.now) (state g.S.Store c.query_all.new.self) c.query_all.result (c.query_all.ensures.ok clean)
+pub returns-clause-trusted : goal.returns-clause-trusted
+returns-clause-trusted g c clean = query_trusted (λ rows. rows.items) get_text _ (state g.S.Store c.args.conn.now) (state g.S.Store c.query_all.new.self) c.query_all.result (c.query_all.ensures.ok clean)

@@ -6,7 +6,7 @@ use Rattle.ut_keeper.specs.Tables.{rows_between}
 use Rattle.sqlite.specs.Held.{state}
 use Rattle.ut_sqlkeeper.proofs.Plain.{scan_bare, commits_none}
 use Rattle.ut_sqlkeeper.proofs.Scan.{scanned_ready, cut}
-use Rattle.ut_sqlkeeper.proofs.Get.{query_harmless, query_open, query_stands, harmless_stays, keeps}
+use Rattle.ut_sqlkeeper.proofs.Get.{query_harmless, query_open, query_trusted, harmless_stays, keeps}
 use Rattle.ut_sqlkeeper.specs.Kept.{scan_text, map_in}
 use Rattle.ut_sqlkeeper.proofs.statements.rows_in.Goals as goal
 
@@ -36,5 +36,5 @@ returns-clause-survives g c = commits_none _ _ scan_text _ scan_bare c.query_all
 pub returns-clause-keeps : goal.returns-clause-keeps
 returns-clause-keeps g c = keeps _ _ _ c.query_all.ensures.survives
 
-pub returns-clause-stands : goal.returns-clause-stands
-returns-clause-stands g c clean = query_stands (λ rows. rows.items) scan_text _ (state g.S.Store c.args.conn.now) (state g.S.Store c.query_all.new.self) c.query_all.result (c.query_all.ensures.ok clean)
+pub returns-clause-trusted : goal.returns-clause-trusted
+returns-clause-trusted g c clean = query_trusted (λ rows. rows.items) scan_text _ (state g.S.Store c.args.conn.now) (state g.S.Store c.query_all.new.self) c.query_all.result (c.query_all.ensures.ok clean)

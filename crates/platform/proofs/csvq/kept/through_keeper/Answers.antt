@@ -14,7 +14,7 @@ returns-clause-rows g c told none =
     let put = c.in_ok-put_rows.ensures in
     let commit = c.in_ok-commit.ensures in
     let mid : keeper_of c.new-draft-2.result ≡ c.commit.new.self.0 = search rules in
-    let stands : IsTrue (g.K.Keeper.state c.drop-draft-2.new.self.0).stands = search (rules, told.1) in
+    let stands : IsTrue (g.K.Keeper.state c.drop-draft-2.new.self.0).trusted = search (rules, told.1) in
     read_back g.K.Keeper.state _ _ _ c.new-draft.result c.put_rows.new.draft c.new-draft-2.result c.all_rows.new.draft _ (kept 1 rows) c.all_rows.result
     c.new-draft.ensures.same c.new-draft.ensures.empty put.keeper put.ok commit.applied mid c.new-draft-2.ensures.empty c.all_rows.ensures.reads c.drop-draft-2.ensures c.all_rows.ensures.rows
     (found_kept c.key_laws.ensures.total c.id_laws.ensures.ordered 1 rows few) (told.0, stands) none

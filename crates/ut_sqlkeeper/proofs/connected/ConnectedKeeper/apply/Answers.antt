@@ -48,5 +48,5 @@ returns-in-Ok-false-clause-steps g c =
     steps g.S.Store g.met.S.Store.shut_if_dirty c.args.self.now.conn c.apply_all.new.conn c.args.self.now.refusals.count _ c.args.self.now.shown c.args.self.now.shown _ _
     c.apply_all.ensures.keeps c.apply_all.ensures.was_open c.add.ensures.counts c.apply_all.ensures.shut
 
-pub returns-in-Ok-true-clause-stands : goal.returns-in-Ok-true-clause-stands
-returns-in-Ok-true-clause-stands g c _ clean = c.in-Ok-true.ensures.stands (no_doubt _ clean) c.in-Ok-true.field-0-test
+pub returns-in-Ok-true-clause-trusted : goal.returns-in-Ok-true-clause-trusted
+returns-in-Ok-true-clause-trusted g c _ clean = c.in-Ok-true.ensures.trusted (no_doubt _ clean) c.in-Ok-true.field-0-test

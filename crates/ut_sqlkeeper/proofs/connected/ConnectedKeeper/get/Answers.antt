@@ -36,8 +36,8 @@ returns-clause-reads g c =
     reads g.S.Store g.met.S.Store.shut_if_dirty c.args.self.now.conn c.rows_at.new.conn c.args.self.now.refusals.count c.refuse-in-Err-get.new.self.count c.args.self.now.shown c.args.self.now.shown c.args.self.now.written c.args.self.now.written
     c.rows_at.ensures.keeps c.rows_at.ensures.was_open c.refuse-in-Err-get.ensures.counts c.rows_at.ensures.stays c.rows_at.ensures.survives refl
 
-pub returns-in_default-clause-stands : goal.returns-in_default-clause-stands
-returns-in_default-clause-stands g c _ clean = c.in-Ok.ensures.stands (no_doubt _ clean)
+pub returns-in_default-clause-trusted : goal.returns-in_default-clause-trusted
+returns-in_default-clause-trusted g c _ clean = c.in-Ok.ensures.trusted (no_doubt _ clean)
 
-pub returns-in-Ok-get-clause-stands : goal.returns-in-Ok-get-clause-stands
-returns-in-Ok-get-clause-stands g c _ clean = c.in-Ok.ensures.stands (no_doubt _ clean)
+pub returns-in-Ok-get-clause-trusted : goal.returns-in-Ok-get-clause-trusted
+returns-in-Ok-get-clause-trusted g c _ clean = c.in-Ok.ensures.trusted (no_doubt _ clean)

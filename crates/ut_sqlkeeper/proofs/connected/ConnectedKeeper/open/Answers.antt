@@ -14,8 +14,8 @@ returns-in-Ok-clause-steps g c =
     steps g.S.Store g.met.S.Store.shut_if_dirty c.args.self.now.conn c.open_table.new.conn c.args.self.now.refusals.count c.args.self.now.refusals.count c.args.self.now.shown c.args.self.now.shown _ _
     c.open_table.ensures.keeps c.open_table.ensures.was_open (omega arith) c.open_table.ensures.shut
 
-pub returns-in-Ok-clause-stands : goal.returns-in-Ok-clause-stands
-returns-in-Ok-clause-stands g c _ clean = c.in-Ok.ensures.stands (no_doubt _ clean)
+pub returns-in-Ok-clause-trusted : goal.returns-in-Ok-clause-trusted
+returns-in-Ok-clause-trusted g c _ clean = c.in-Ok.ensures.trusted (no_doubt _ clean)
 
 pub returns-in-Err-clause-same : goal.returns-in-Err-clause-same
 returns-in-Err-clause-same g c told = made_told g.S.Store g.met.S.Store.shut_if_dirty c.args.self.now.conn c.open_table.new.conn 0 0 c.args.self.now.shown c.args.self.now.shown 0 0 c.open_table.ensures.kept told

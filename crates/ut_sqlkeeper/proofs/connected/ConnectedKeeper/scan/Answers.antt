@@ -26,8 +26,8 @@ returns-in-Ok-kept_rows-clause-rows g c told =
     let clean = clean_if_open g.S.Store g.met.S.Store.shut_if_dirty c.rows_in.new.conn told.1 in
     c.in-Ok-kept_rows.ensures ∙ ap (map kept_row) (c.as_slice.ensures.value ∙ c.truncate.ensures.items) ∙ map_take kept_row c.args.limit _ ∙ c.in-Ok.ensures.rows told.0.1 clean
 
-pub returns-in-Ok-kept_rows-clause-stands : goal.returns-in-Ok-kept_rows-clause-stands
-returns-in-Ok-kept_rows-clause-stands g c _ clean = c.in-Ok.ensures.stands (no_doubt _ clean)
+pub returns-in-Ok-kept_rows-clause-trusted : goal.returns-in-Ok-kept_rows-clause-trusted
+returns-in-Ok-kept_rows-clause-trusted g c _ clean = c.in-Ok.ensures.trusted (no_doubt _ clean)
 
 pub returns-in-Ok-kept_rows-clause-shown : goal.returns-in-Ok-kept_rows-clause-shown
 returns-in-Ok-kept_rows-clause-shown g c =

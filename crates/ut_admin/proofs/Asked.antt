@@ -15,10 +15,9 @@ use Rattle.ut_model.specs.declared.refusal.Refusal.TheVariants.{NotBuilt}
 use Rattle.ut_model.specs.declared.route.Route.{Route}
 use Rattle.ut_model.specs.declared.route.Route.TheVariants.{AddField, AddObject, SetObject}
 use Rattle.ut_step.specs.Built.{built_request, is_built, needs_index, when_built}
-use Rattle.ut_step.specs.Queries.{reads_query}
 use Rattle.ut_model.specs.Forms.{access_request, field_request, object_request}
 use Rattle.ut_model.specs.Paths.{Asked}
-use Rattle.ut_model.specs.RequestOf.{ReadsQuery, request_of, request_or, verdict_or}
+use Rattle.ut_model.specs.RequestOf.{request_of, request_or, verdict_or}
 use Rattle.ut_model.specs.Requests.{Request, adds_field, adds_object, sets_object, verdict_on}
 use Rattle.ut_model.specs.Sound.{IsSound}
 use Rattle.ut_model.specs.Tenant.{Tenant}
@@ -33,7 +32,7 @@ use Rattle.ut_admin.specs.inner.Edits.{Asks, EditsFrom, KeepsRefused, form_of}
 
 -- what `ut_sound` says of requests that are read
 abbrev pub RequestsFit : Type 0
-RequestsFit = (a : Asked) (query_in : ReadsQuery) (r : Route) (body : List ℕ) (x : Request) → IsSound a.tenant → request_of query_in r body ≡ Ok x → IsFit a x
+RequestsFit = (a : Asked) (r : Route) (body : List ℕ) (x : Request) → IsSound a.tenant → request_of r body ≡ Ok x → IsFit a x
 
 -- ---- bodies
 
@@ -72,19 +71,19 @@ asks_access object body read e =
 
 -- the field's flags are looked at once the body was of its form
 pub asks_field : (body : List ℕ) (read : Result (Option NewField) AllocError) → IfOk read (λ x. option_map adds_field x ≡ request_in field_request body)
-    → Asks adds_field (request_of reads_query AddField body) (form_of read)
+    → Asks adds_field (request_of AddField body) (form_of read)
 unfolding request_of
 asks_field body read e = asks_form adds_field read (request_in field_request body) e
 
-pub built_field : (body : List ℕ) (new : NewField) → Asks adds_field (request_of reads_query AddField body) (Ok new) → needs_index (adds_field new) ≡ false
+pub built_field : (body : List ℕ) (new : NewField) → Asks adds_field (request_of AddField body) (Ok new) → needs_index (adds_field new) ≡ false
     → Asks adds_field (built_request AddField body) (Ok new)
 built_field body new e plain = ap when_built e ∙ ap (λ b. cond b (Err (NotBuilt (codes "flag"))) (Ok (adds_field new))) plain
 
-pub unbuilt_field : (body : List ℕ) (new : NewField) → Asks adds_field (request_of reads_query AddField body) (Ok new) → needs_index (adds_field new) ≡ true
+pub unbuilt_field : (body : List ℕ) (new : NewField) → Asks adds_field (request_of AddField body) (Ok new) → needs_index (adds_field new) ≡ true
     → built_request AddField body ≡ Err (NotBuilt (codes "flag"))
 unbuilt_field body new e flagged = ap when_built e ∙ ap (λ b. cond b (Err (NotBuilt (codes "flag"))) (Ok (adds_field new))) flagged
 
-pub refused_field : (body : List ℕ) (fail : EditFail) → Asks adds_field (request_of reads_query AddField body) (Err fail) → Asks adds_field (built_request AddField body) (Err fail)
+pub refused_field : (body : List ℕ) (fail : EditFail) → Asks adds_field (request_of AddField body) (Err fail) → Asks adds_field (built_request AddField body) (Err fail)
 refused_field body (Refused r) e = ap when_built e
 refused_field body (Store f) e = e
 
@@ -104,7 +103,7 @@ by_built false request r x e = absurd cc
 
 pub fit : RequestsFit → (a : Asked) (r : Route) (body : List ℕ) (x : Request) → IsSound a.tenant → built_request r body ≡ Ok x → IsFit a x
 fit fits a r body x sound e =
-    fits a reads_query r body x sound (read_so (request_of reads_query r body) x (by_built (is_built r) (when_built (request_of reads_query r body)) (NotBuilt (codes "route")) x e))
+    fits a r body x sound (read_so (request_of r body) x (by_built (is_built r) (when_built (request_of r body)) (NotBuilt (codes "route")) x e))
 
 pub not_so : (b : Bool) → IsTrue (not b) → b ≡ false
 not_so true h = absurd cc
@@ -148,7 +147,7 @@ not_built _ no_object no_access no_field = refl
 pub edits_unbuilt : (org : ℕ) (a : Asked) (r : Route) (body what : List ℕ) (w : World) (after : Tables) → (r ≡ AddObject → ⊥) → ((object : List ℕ) → r ≡ SetObject object → ⊥) → (r ≡ AddField → ⊥)
     → what ≡ codes "route" → EditsFrom org a.tenant (verdict_or a (built_request r body)) w after (Err (Refused (NotBuilt what)))
 edits_unbuilt org a r body what w after no_object no_access no_field is =
-    let unbuilt = ap (λ b. cond b (when_built (request_of reads_query r body)) (Err (NotBuilt (codes "route")))) (not_built r no_object no_access no_field) in
+    let unbuilt = ap (λ b. cond b (when_built (request_of r body)) (Err (NotBuilt (codes "route")))) (not_built r no_object no_access no_field) in
     subst (λ q. EditsFrom org a.tenant (verdict_or a q) w after (Err (Refused (NotBuilt what)))) (sym unbuilt) (ap (λ t. Err (NotBuilt t)) (sym is), refl)
 
 -- the keeper isn't asked for a body

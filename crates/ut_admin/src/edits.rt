@@ -15,7 +15,7 @@ use crate::bodies::{access_in, field_in, object_in};
 use std::alloc::Global;
 use ut_keeper::{Draft, Keeper, draft_laws};
 use ut_meta::{add_field, add_object, set_access};
-use ut_model::{Refusal, Route};
+use ut_model::{Refusal, Route, refusal_laws};
 use ut_sound::requests_fit;
 use ut_stands::{EditFail, stands_laws};
 use ut_value::Text;
@@ -44,6 +44,7 @@ pub(crate) fn edit<K: Keeper>(
 {
     draft_laws::<K>();
     requests_fit();
+    refusal_laws();
     stands_laws();
     match route {
         Route::AddObject => {

@@ -6,6 +6,7 @@ ghost use Rattle.ut_admin.specs.inner.Edits.{reply_to};
 ghost use Rattle.ut_keys.specs.declared.fail.StoreFail.TheVariants.{Memory};
 ghost use Rattle.ut_model.specs.Replies.{json_reply};
 
+use http::StatusCode;
 use std::alloc::Global;
 use ut_keys::StoreFail;
 use ut_model::Reply;
@@ -17,7 +18,7 @@ fn done_reply(alloc: Global) -> Reply
     ensures { result ≡ json_reply 204 [] }
 {
     Reply {
-        status: 204,
+        status: StatusCode::NO_CONTENT,
         body: Bytes::from_vec(Vec::new(alloc)),
     }
 }

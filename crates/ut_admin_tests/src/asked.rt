@@ -69,7 +69,7 @@ pub(crate) fn answer_to(
     let (word, body) = line.split_once(' ').ok_or("a request without a body")?;
     let route = route_of(alloc, word)?;
     let reply = reply_to(alloc, keeper, &route, body)?;
-    let status = reply.status;
+    let status = reply.status.as_u16();
     let text = str::from_utf8(reply.body.as_slice()).map_err(|_| "a reply that isn't UTF-8")?;
     Ok(format!(in alloc; "{status} {text}")?)
 }

@@ -264,7 +264,7 @@ const WRITTEN: &[u8] = b"{\"a\\\"\\\\\\b\\t\\n\\f\\r\\u0001\\u001f\x7f\xc3\xa9/\
 fn the_writer_writes(rt: HostRuntime) -> Result<(), AllocError> {
     let alloc = rt.alloc();
     let mut writer = Writer::new(alloc);
-    writer.mark(alloc, Mark::OpenObject)?;
+    writer.raw(alloc, "{")?;
     writer.text(
         alloc,
         "a\"\\\u{8}\t\n\u{c}\r\u{1}\u{1f}\u{7f}\u{e9}/\u{1d11e}",
@@ -275,6 +275,7 @@ fn the_writer_writes(rt: HostRuntime) -> Result<(), AllocError> {
     write_words(alloc, &mut writer)?;
     writer.mark(alloc, Mark::CloseList)?;
     writer.mark(alloc, Mark::CloseObject)?;
+    assert!(rt; writer.len() == WRITTEN.len());
     let bytes = writer.finish();
     assert!(rt; bytes.as_slice() == WRITTEN);
     Ok(())

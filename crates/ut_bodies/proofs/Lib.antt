@@ -1,3 +1,2 @@
 pub mod Binds
-pub mod Same
 pub mod Spellings

@@ -2,10 +2,11 @@
 
 ghost use Rattle.std.specs.Prelude.{◌≡◌, ◌++◌, IfOk, OnOk, map};
 ghost use Rattle.std.specs.Option.{option_copied, option_map};
+ghost use Rattle.ut_json.specs.Reading.{value_in};
 ghost use Rattle.ut_model.specs.Members as model;
 ghost use Rattle.ut_bodies.specs.inner.Names.{name_of, names_of};
 ghost use Rattle.ut_bodies.specs.inner.Outcomes.{Gives};
-ghost use Rattle.ut_bodies.specs.inner.Spelled.{body_of, member_object, named_in, table_of, texts_in, value_in};
+ghost use Rattle.ut_bodies.specs.inner.Spelled.{body_of, member_object, named_in, table_of, texts_in};
 ghost use Rattle.ut_bodies.specs.inner.Said.{said};
 
 use crate::fail::BodyFail;
@@ -40,13 +41,6 @@ pub(crate) fn members_in(alloc: Global, bytes: &[u8]) -> Result<Items<Member>, B
         Ok(value) => into_members(value).ok_or(BodyFail::Form),
         Err(fail) => Err(fail),
     }
-}
-
-/// A copy of a text.
-pub(crate) fn copy_of(alloc: Global, text: &Text) -> Result<Text, AllocError>
-    ensures { IfOk result (λ t. t ≡ text.now) }
-{
-    Text::from_str(alloc, text.as_str())
 }
 
 /// An object in a body, or the whole body. Each method that reads a member has the error `Form` if the member is missing or has
@@ -180,7 +174,7 @@ fn all_texts(alloc: Global, items: &[Json]) -> Result<Items<Text>, BodyFail>
     let mut rest = items;
     'items: while let Some((item, more)) = rest.split_first() {
         let text = as_text(item).ok_or(BodyFail::Form)?;
-        texts.push(copy_of(alloc, text)?)?;
+        texts.push(text.copy(alloc)?)?;
         rest = more;
     }
     Ok(texts)
@@ -196,7 +190,7 @@ pub(crate) fn append_names(
 {
     let mut rest = members;
     'members: while let Some((member, more)) = rest.split_first() {
-        names.push(copy_of(alloc, &member.name)?)?;
+        names.push(member.name.copy(alloc)?)?;
         rest = more;
     }
     Ok(())

@@ -1,27 +1,34 @@
 //! What bodies say of fields.
 
-ghost use Rattle.std.specs.Prelude.{◌≡◌, IfOk};
+ghost use Rattle.std.specs.Prelude.{◌≡◌, IfOk, None};
 ghost use Rattle.std.specs.Option.{option_map};
 ghost use Rattle.ut_model.specs.Forms as model;
+ghost use Rattle.ut_model.specs.NewFields.{type_with};
 ghost use Rattle.ut_model.specs.Requests.{adds_field};
+ghost use Rattle.ut_model.specs.SoundMetadata.{may_be_required};
 ghost use Rattle.ut_bodies.specs.Bodies.{request_in};
 ghost use Rattle.ut_bodies.specs.inner.Outcomes.{Gives};
 ghost use Rattle.ut_bodies.specs.inner.Said.{said};
 
-use crate::body::{Body, copy_of, members_in};
+use crate::body::{Body, members_in};
 use crate::fail::{BodyFail, or_none};
 use crate::name::Name;
 use crate::types::type_in;
 use std::alloc::{AllocError, Global};
 use ut_model::{NewField, SpelledType};
-use ut_value::{OnDelete, suits_indexed, suits_unique};
+use ut_value::{FieldType, OnDelete, suits_indexed, suits_unique};
 
-fn is_clear(on_delete: OnDelete) -> bool
-    ensures { result ≡ model.is_clear on_delete }
+// Whether a field of the type may be required: all but a lookup that is cleared.
+fn may_be_required(kind: &SpelledType) -> bool
+    ensures { result ≡ may_be_required (type_with None kind.now) }
 {
-    match on_delete {
-        OnDelete::Clear => true,
-        OnDelete::Restrict => false,
+    match kind {
+        SpelledType::Plain(FieldType::Lookup { on_delete, .. })
+        | SpelledType::LookupTo { on_delete, .. } => match on_delete {
+            OnDelete::Clear => false,
+            OnDelete::Restrict => true,
+        },
+        SpelledType::Plain(_) => true,
     }
 }
 
@@ -29,14 +36,13 @@ fn is_clear(on_delete: OnDelete) -> bool
 fn flags_suit(kind: &SpelledType, required: bool, unique: bool, indexed: bool) -> bool
     ensures { result ≡ model.flags_suit kind.now required unique indexed }
 {
-    match kind {
-        SpelledType::Plain(kind) => {
-            (!unique || suits_unique(kind)) && (!indexed || suits_indexed(kind))
+    (!required || may_be_required(kind))
+        && match kind {
+            SpelledType::Plain(kind) => {
+                (!unique || suits_unique(kind)) && (!indexed || suits_indexed(kind))
+            }
+            SpelledType::LookupTo { .. } => !unique && !indexed,
         }
-        SpelledType::LookupTo { on_delete, .. } => {
-            !(unique || indexed || required && is_clear(*on_delete))
-        }
-    }
 }
 
 fn read_field(alloc: Global, body: &Body) -> Result<NewField, BodyFail>
@@ -57,8 +63,8 @@ fn read_field(alloc: Global, body: &Body) -> Result<NewField, BodyFail>
     }
     Ok(NewField {
         members: body.member_names(alloc)?,
-        object: copy_of(alloc, object)?,
-        name: copy_of(alloc, name)?,
+        object: object.copy(alloc)?,
+        name: name.copy(alloc)?,
         kind,
         required,
         unique,

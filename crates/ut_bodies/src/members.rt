@@ -11,15 +11,7 @@ ghost use Rattle.ut_bodies.specs.inner.Spelled.{body_of};
 
 use crate::name::Name;
 use ut_json::{Json, Member};
-use ut_value::Text;
-
-/// Whether a text has the characters of this name.
-pub(crate) fn is_text(text: &Text, name: &str) -> bool
-    ensures same { result ≡ bytes_eq text.now (chars name.now) }
-    ensures turned { result ≡ bytes_eq (chars name.now) text.now }
-{
-    text.as_str() == name
-}
+use ut_value::{Text, is_text};
 
 /// The value of the first member under a name.
 pub(crate) fn entry<'a>(members: &'a [Member], name: &str) -> Option<&'a Json>

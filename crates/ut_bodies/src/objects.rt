@@ -12,14 +12,13 @@ ghost use Rattle.ut_bodies.specs.inner.Outcomes.{Gives};
 ghost use Rattle.ut_bodies.specs.inner.Said.{said};
 ghost use Rattle.ut_bodies.specs.inner.Spelled.{body_of, member_object, named_in};
 
-use crate::body::{Body, append_names, copy_of, members_in};
+use crate::body::{Body, append_names, members_in};
 use crate::fail::{BodyFail, or_none};
-use crate::members::is_text;
 use crate::name::Name;
 use std::alloc::{AllocError, Global};
 use ut_json::Member;
 use ut_model::{NewMaster, NewObject};
-use ut_value::{Access, Items, Text};
+use ut_value::{Access, Items, Text, is_text};
 
 // The member `access`.
 fn access_in(body: &Body) -> Result<Access, BodyFail>
@@ -53,9 +52,9 @@ fn master_form(alloc: Global, body: &Body) -> Result<NewMaster, BodyFail>
     let parent = body.text(Name::Parent)?;
     let child = body.text(Name::Child)?;
     Ok(NewMaster {
-        field: copy_of(alloc, field)?,
-        parent: copy_of(alloc, parent)?,
-        child: copy_of(alloc, child)?,
+        field: field.copy(alloc)?,
+        parent: parent.copy(alloc)?,
+        child: child.copy(alloc)?,
     })
 }
 
@@ -92,7 +91,7 @@ fn append_name(
     if is_text(&member.name, Name::Master.text()) {
         append_names(alloc, names, master)
     } else {
-        names.push(copy_of(alloc, &member.name)?)
+        names.push(member.name.copy(alloc)?)
     }
 }
 
@@ -122,7 +121,7 @@ fn read_object(alloc: Global, body: &Body) -> Result<NewObject, BodyFail>
     }
     Ok(NewObject {
         members: all_names(alloc, body)?,
-        name: copy_of(alloc, name)?,
+        name: name.copy(alloc)?,
         access,
         master,
     })

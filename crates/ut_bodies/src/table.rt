@@ -4,8 +4,7 @@ ghost use Rattle.std.specs.Prelude.{◌≡◌};
 ghost use Rattle.ut_model.specs.Members.{entry};
 ghost use Rattle.ut_bodies.specs.inner.Spelled.{table_of};
 
-use crate::members::is_text;
-use ut_value::Text;
+use ut_value::{Text, is_text};
 
 /// What a table has first under a name.
 pub(crate) fn entry_named<T: Copy>(table: &[(&str, T)], name: &Text) -> Option<T>

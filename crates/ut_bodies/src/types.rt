@@ -9,7 +9,7 @@ ghost use Rattle.ut_bodies.specs.inner.Names.{name_of};
 ghost use Rattle.ut_bodies.specs.inner.Said.{said};
 ghost use Rattle.ut_bodies.specs.inner.Spelled.{named_in};
 
-use crate::body::{Body, copy_of};
+use crate::body::Body;
 use crate::fail::BodyFail;
 use crate::name::Name;
 use std::alloc::Global;
@@ -111,9 +111,9 @@ fn lookup_type(alloc: Global, body: &Body) -> Result<SpelledType, BodyFail>
     let on_delete = on_delete_in(body)?;
     let child = body.text(Name::Child)?;
     Ok(SpelledType::LookupTo {
-        object: copy_of(alloc, object)?,
+        object: object.copy(alloc)?,
         on_delete,
-        child: copy_of(alloc, child)?,
+        child: child.copy(alloc)?,
     })
 }
 

@@ -6,7 +6,6 @@ pub mod Texts
 pub mod Sound
 pub mod Reading
 pub mod Writing
-pub mod Plain
 pub mod Fits
 pub mod RowFits
 pub mod RecordFits

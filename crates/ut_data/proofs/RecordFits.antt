@@ -32,7 +32,7 @@ use Rattle.ut_keys.specs.Forms.{FitsForm}
 use Rattle.ut_keys.specs.Rows.{data_form}
 use Rattle.ut_stands.specs.Entries.{data_of, entry, entry_text, slots_of}
 use Rattle.ut_stands.specs.Plan.{FitsPlan, OrgPlan, slot_count}
-use Rattle.ut_data.proofs.Fits.{name_fits}
+use Rattle.ut_data.proofs.Fits.{PrintsShort, name_fits}
 use Rattle.ut_data.proofs.Lists.{and_left, and_right}
 use Rattle.ut_data.proofs.RowFits.{ConvertsValid, entry_fits}
 use Rattle.ut_data.proofs.Sound.{sound_record, values_valid}
@@ -100,15 +100,15 @@ first_valid : (o : Object) (values : List Value) → all_valid (kinds_of o) valu
 first_valid o [] h = absurd cc
 first_valid o (v ∷ vs) h = and_left (valid (type.Text 80) v) (all_valid (map (λ f. f.kind) o.fields) vs) h
 
-pub record_fits : MakesIds → ConvertsValid → (org n : ℕ) (p : OrgPlan) (t : Tenant) (o : Object) (r : Record)
+pub record_fits : MakesIds → ConvertsValid → PrintsShort → (org n : ℕ) (p : OrgPlan) (t : Tenant) (o : Object) (r : Record)
     → org < 2 ^ 32 → IsSound t → FitsPlan p t → object_at t n ≡ Some o → Has t.records r → IsTrue (is_of n r)
     → FitsForm data_form (data_of org n r (entry p t.job n o r))
 unfolding slots_of
-record_fits makes converts org n p t o r lo sound fits is has of =
+record_fits makes converts prints org n p t o r lo sound fits is has of =
     let one = sound_record t r sound has in
     let few : n < length t.objects = slice_get_within t.objects n o is in
     let E = entry p t.job n o r in
-    let texts = All-from_recursion (λ x. IfSome x FitsText) (map (λ s. entry_text (E s)) (range_with_len 0 slot_count)) (each_range (λ x. IfSome x FitsText) (λ s. entry_text (E s)) 0 slot_count (λ s. entry_fits converts p t n o r sound fits is has of s)) in (
+    let texts = All-from_recursion (λ x. IfSome x FitsText) (map (λ s. entry_text (E s)) (range_with_len 0 slot_count)) (each_range (λ x. IfSome x FitsText) (λ s. entry_text (E s)) 0 slot_count (λ s. entry_fits converts prints p t n o r sound fits is has of s)) in (
       (lo, (omega (arith, few, sound.metadata.few), record_is_id makes t r sound has)),
-      (name_fits (value_at r.values 0) (first_valid o r.values (values_valid t n o r sound is has of)), (owner_is_id makes t one.object r.owner sound one.owner, (moment_fits r.created one.created, (moment_fits r.modified one.modified, (length-map-range_with_len (λ s. entry_text (E s)) 0 slot_count, texts))))),
+      (name_fits prints (value_at r.values 0) (first_valid o r.values (values_valid t n o r sound is has of)), (owner_is_id makes t one.object r.owner sound one.owner, (moment_fits r.created one.created, (moment_fits r.modified one.modified, (length-map-range_with_len (λ s. entry_text (E s)) 0 slot_count, texts))))),
     )

@@ -26,7 +26,7 @@ use Rattle.ut_model.specs.Tenant.{Field, Job, Object, Tenant}
 use Rattle.ut_parts.specs.Plain.{FitsText}
 use Rattle.ut_stands.specs.Entries.{entry, entry_text, field_entry, field_in, job_entry, job_value, other_entry, slot_text}
 use Rattle.ut_stands.specs.Plan.{FitsPlan, OrgPlan, is_clear, type_in, type_there}
-use Rattle.ut_data.proofs.Fits.{value_fits}
+use Rattle.ut_data.proofs.Fits.{PrintsShort, value_fits}
 use Rattle.ut_data.proofs.Lists.{and_left, and_right, pick, some_is}
 use Rattle.ut_data.proofs.Sound.{fields_typed, values_valid}
 
@@ -71,10 +71,10 @@ record IsValue (v : Value) : Type 0 where
   typed : is_type kind ≡ true
   valued : valid kind v ≡ true
 
-value_text_fits : (v : Value) → IsValue v → IfSome (slot_text v) FitsText
-value_text_fits v h = value_fits h.kind v h.typed h.valued
+value_text_fits : PrintsShort → (v : Value) → IsValue v → IfSome (slot_text v) FitsText
+value_text_fits prints v h = value_fits prints h.kind v h.typed h.valued
 
-module _ (converts : ConvertsValid) (p : OrgPlan) (t : Tenant) (n : ℕ) (o : Object) (r : Record) (sound : IsSound t) (fits : FitsPlan p t) (is : object_at t n ≡ Some o) (has : Has t.records r) (of : IsTrue (is_of n r)) where
+module _ (converts : ConvertsValid) (prints : PrintsShort) (p : OrgPlan) (t : Tenant) (n : ℕ) (o : Object) (r : Record) (sound : IsSound t) (fits : FitsPlan p t) (is : object_at t n ≡ Some o) (has : Has t.records r) (of : IsTrue (is_of n r)) where
   field_value : (i : ℕ) (f : Field) → slice_get o.fields i ≡ Some f → IsValue (value_at r.values (suc i))
   field_value i f at = record {
     kind = f.kind;
@@ -112,7 +112,7 @@ module _ (converts : ConvertsValid) (p : OrgPlan) (t : Tenant) (n : ℕ) (o : Ob
   made_fits : (j : Job) (f : Field) → t.job ≡ Some j → slice_get o.fields j.field ≡ Some f → (x : Option Value) → job_value p j j.phase r ≡ x
       → IfSome (entry_text (option_map (λ v. record { kind = type_there p j; value = v; indexed = f.indexed; unique = f.unique }) x)) FitsText
   made_fits j f e at None made = tt
-  made_fits j f e at (Some v) made = value_text_fits v (job_is_value j f v e at j.phase refl made)
+  made_fits j f e at (Some v) made = value_text_fits prints v (job_is_value j f v e at j.phase refl made)
 
   of_field : (j : Job) → t.job ≡ Some j → (x : Option Field) → slice_get o.fields j.field ≡ x → IfSome (entry_text (option_and_then (job_entry p j r) x)) FitsText
   of_field j e None at = tt
@@ -130,7 +130,7 @@ module _ (converts : ConvertsValid) (p : OrgPlan) (t : Tenant) (n : ℕ) (o : Ob
   of_slot s (Some f) e =
       let (i, number, at) = found_at (λ (g : ℕ × Field). eqb (p.slot n g.0) s) 0 o.fields f e in
       let same : i ≡ f.0 = omega (arith, number) in
-      value_text_fits (value_at r.values (suc f.0)) (subst (λ (m : ℕ). IsValue (value_at r.values (suc m))) same (field_value i f.1 at))
+      value_text_fits prints (value_at r.values (suc f.0)) (subst (λ (m : ℕ). IsValue (value_at r.values (suc m))) same (field_value i f.1 at))
 
   -- the text in each slot has a spelling
   pub entry_fits : (s : ℕ) → IfSome (entry_text (entry p t.job n o r s)) FitsText

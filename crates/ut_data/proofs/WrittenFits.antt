@@ -27,7 +27,7 @@ use Rattle.ut_stands.specs.Entries.{slot_text}
 use Rattle.ut_stands.specs.Plan.{slot_count}
 use Rattle.ut_data.specs.Decoding.{has_types, kinds_in}
 use Rattle.ut_data.specs.Encoding.{kept_text, row_from, text_of_slot, texts_of_slots, value_text}
-use Rattle.ut_data.proofs.Fits.{name_fits, value_fits}
+use Rattle.ut_data.proofs.Fits.{PrintsShort, name_fits, value_fits}
 use Rattle.ut_data.proofs.Lists.{and_left, and_right, pick}
 use Rattle.ut_data.proofs.RecordFits.{each_range}
 use Rattle.ut_data.proofs.RowFits.{found_at, typed_at, valid_at}
@@ -47,15 +47,15 @@ kept_fits (Some row) s h = at_slot row.slots s (recursion_from_All FitsSlot row.
 written_fits : (v : Value) → FitsSlot (slot_text v) → FitsSlot (value_text v)
 written_fits v h = pick (is_printable v) (λ b. FitsSlot (cond b (slot_text v) None)) (λ _. h) (λ _. tt)
 
-field_fits : (l : Layout) (values : List Value) (i : ℕ) (f : FieldPlace) → has_types l ≡ true → all_valid (kinds_in l.fields) values ≡ true → slice_get l.fields i ≡ Some f → FitsSlot (value_text (value_at values (suc i)))
-field_fits l [] i f types valids at = absurd cc
-field_fits l (v ∷ vs) i f types valids at =
+field_fits : PrintsShort → (l : Layout) (values : List Value) (i : ℕ) (f : FieldPlace) → has_types l ≡ true → all_valid (kinds_in l.fields) values ≡ true → slice_get l.fields i ≡ Some f → FitsSlot (value_text (value_at values (suc i)))
+field_fits prints l [] i f types valids at = absurd cc
+field_fits prints l (v ∷ vs) i f types valids at =
     written_fits (value_at vs i)
-    (value_fits f.kind (value_at vs i) (typed_at (λ (x : FieldPlace). x.kind) l.fields i f types at)
+    (value_fits prints f.kind (value_at vs i) (typed_at (λ (x : FieldPlace). x.kind) l.fields i f types at)
     (valid_at (λ (x : FieldPlace). x.kind) l.fields vs i f (and_right (valid (type.Text 80) v) (all_valid (map (λ f. f.kind) l.fields) vs) valids) at))
 
-text_fits : (l : Layout) (r : Record) (kept : Option DataRow) (s : ℕ) → has_types l ≡ true → all_valid (kinds_in l.fields) r.values ≡ true → IfSome kept (FitsForm data_form) → FitsSlot (text_of_slot l r kept s)
-text_fits l r kept s types valids h = by (find (λ (f : ℕ × FieldPlace). eqb f.1.slot s) (enumerate_from 0 l.fields)) refl
+text_fits : PrintsShort → (l : Layout) (r : Record) (kept : Option DataRow) (s : ℕ) → has_types l ≡ true → all_valid (kinds_in l.fields) r.values ≡ true → IfSome kept (FitsForm data_form) → FitsSlot (text_of_slot l r kept s)
+text_fits prints l r kept s types valids h = by (find (λ (f : ℕ × FieldPlace). eqb f.1.slot s) (enumerate_from 0 l.fields)) refl
   where
     by : (x : Option (ℕ × FieldPlace)) → find (λ (f : ℕ × FieldPlace). eqb f.1.slot s) (enumerate_from 0 l.fields) ≡ x
         → FitsSlot (in_case (option_map (λ (f : ℕ × FieldPlace). f.0) x) (kept_text kept s) (λ f. value_text (value_at r.values (suc f))))
@@ -63,19 +63,19 @@ text_fits l r kept s types valids h = by (find (λ (f : ℕ × FieldPlace). eqb 
     by (Some f) e =
         let (i, number, at) = found_at (λ (g : ℕ × FieldPlace). eqb g.1.slot s) 0 l.fields f e in
         let same : i ≡ f.0 = omega (arith, number) in
-        subst (λ (n : ℕ). FitsSlot (value_text (value_at r.values (suc n)))) same (field_fits l r.values i f.1 types valids at)
+        subst (λ (n : ℕ). FitsSlot (value_text (value_at r.values (suc n)))) same (field_fits prints l r.values i f.1 types valids at)
 
 first_valid : (ks : List FieldType) (values : List Value) → all_valid (type.Text 80 ∷ ks) values ≡ true → valid (type.Text 80) (value_at values 0) ≡ true
 first_valid ks [] h = absurd cc
 first_valid ks (v ∷ vs) h = and_left (valid (type.Text 80) v) (all_valid ks vs) h
 
-pub row_from_fits : (l : Layout) (r : Record) (kept : Option DataRow) → FitsIn record_key (l.org, (l.object, r.id)) → IfSome r.owner (λ i. IsTrue (is_id i)) → FitsSigned w64 r.created → FitsSigned w64 r.modified
+pub row_from_fits : PrintsShort → (l : Layout) (r : Record) (kept : Option DataRow) → FitsIn record_key (l.org, (l.object, r.id)) → IfSome r.owner (λ i. IsTrue (is_id i)) → FitsSigned w64 r.created → FitsSigned w64 r.modified
     → has_types l ≡ true → all_valid (kinds_in l.fields) r.values ≡ true → IfSome kept (FitsForm data_form) → FitsForm data_form (row_from l r kept)
 unfolding texts_of_slots
-row_from_fits l r kept key owner created modified types valids h =
+row_from_fits prints l r kept key owner created modified types valids h =
     let texts =
-    All-from_recursion FitsSlot (map (text_of_slot l r kept) (range_with_len 0 slot_count)) (each_range FitsSlot (text_of_slot l r kept) 0 slot_count (λ s. text_fits l r kept s types valids h))
+    All-from_recursion FitsSlot (map (text_of_slot l r kept) (range_with_len 0 slot_count)) (each_range FitsSlot (text_of_slot l r kept) 0 slot_count (λ s. text_fits prints l r kept s types valids h))
     in (
       key,
-      (name_fits (value_at r.values 0) (first_valid (map (λ f. f.kind) l.fields) r.values valids), (owner, (created, (modified, (length-map-range_with_len (text_of_slot l r kept) 0 slot_count, texts))))),
+      (name_fits prints (value_at r.values 0) (first_valid (map (λ f. f.kind) l.fields) r.values valids), (owner, (created, (modified, (length-map-range_with_len (text_of_slot l r kept) 0 slot_count, texts))))),
     )

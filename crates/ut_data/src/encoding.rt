@@ -83,7 +83,7 @@ fn text_copy(alloc: Global, text: &Option<Text>) -> Result<Option<Text>, AllocEr
 {
     match text {
         None => Ok(None),
-        Some(text) => Ok(Some(Text::from_str(alloc, text.as_str())?)),
+        Some(text) => Ok(Some(text.copy(alloc)?)),
     }
 }
 
@@ -142,7 +142,7 @@ fn name_text(alloc: Global, values: &[Value]) -> Result<Option<Text>, AllocError
     ensures { IfOk result (λ text. text ≡ name_text (value_at values.now 0)) }
 {
     match values.first() {
-        Some(Value::Text(text)) => Ok(Some(Text::from_str(alloc, text.as_str())?)),
+        Some(Value::Text(text)) => Ok(Some(text.copy(alloc)?)),
         _ => Ok(None),
     }
 }
@@ -216,6 +216,7 @@ pub fn row_of(
     ensures fits { IsTrue (has_types layout.now) → IsTrue (all_valid (kinds_in layout.now.fields) item.now.values)
         → IfSome (option_map (λ row. row.now) kept.entry) (FitsForm data_form) → IfOk result (FitsForm data_form) }
 {
+    value_laws();
     parts_fit(
         layout.org,
         layout.object,

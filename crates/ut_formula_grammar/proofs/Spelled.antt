@@ -2,7 +2,7 @@
 use Rattle.std.proofs.Common.{◌≡◌, ℕ, ◌-◌, Bool, List, [], ◌∷◌, length, Some, None, Ok, Err, false, refl, sym, ◌∙◌, ap, subst, arith, slice_index_or}
 use Rattle.ut_grammar.specs.Exact.{left}
 use Rattle.ut_grammar.specs.Lexing.{tokens_of}
-use Rattle.ut_grammar.specs.Place.{IsPlace}
+use Rattle.ut_grammar.specs.Place.{IsPlace, if_last, starts, whole_of}
 use Rattle.ut_grammar.specs.Reader.{Outcome}
 use Rattle.ut_grammar.specs.declared.token.Placed.{Placed}
 use Rattle.ut_grammar.proofs.Meets.{meets}
@@ -12,12 +12,12 @@ use Rattle.ut_formula.specs.declared.formula.Formula.{Formula}
 use Rattle.ut_formula.specs.declared.formula.NamedField.{NamedField}
 use Rattle.ut_formula_grammar.specs.Grammar as g
 use Rattle.ut_formula_grammar.specs.Reading as read
-use Rattle.ut_formula_grammar.specs.Signs.{kind, lexis, signs, starts}
-use Rattle.ut_formula_grammar.specs.Spelling.{IsRefusedAt, Spells, at_end, formula_in, place_in, whole_of}
+use Rattle.ut_formula_grammar.specs.Signs.{kind, lexis, signs}
+use Rattle.ut_formula_grammar.specs.Spelling.{IsRefusedAt, Spells, formula_in, place_in}
 use Rattle.ut_formula_grammar.specs.declared.sign.Sign.{Sign}
 use Rattle.ut_formula_grammar.proofs.Instances.{firsts, whole_exact}
 
-ended : (f h : Formula) (rest : List Sign) (o : Outcome Sign Formula) → o ≡ Ok (h, rest) → at_end h rest ≡ Some f → o ≡ Ok (f, [])
+ended : (f h : Formula) (rest : List Sign) (o : Outcome Sign Formula) → o ≡ Ok (h, rest) → if_last h rest ≡ Some f → o ≡ Ok (f, [])
 ended f h [] o same e = let equal : h ≡ f = cc in same ∙ ap (λ x. Ok (x, [])) equal
 ended f h (sign ∷ more) o same e = absurd (cc)
 

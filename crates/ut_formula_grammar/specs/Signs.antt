@@ -15,6 +15,8 @@ use Rattle.ut_formula.specs.declared.formula.NamedField.{NamedField}
 use Rattle.ut_formula.specs.declared.formula.Relation.TheVariants as relation
 use Rattle.ut_formula_grammar.specs.declared.sign.Sign.{Sign}
 use Rattle.ut_formula_grammar.specs.declared.sign.Sign.TheVariants as sign
+use Rattle.ut_formula_grammar.specs.declared.sign.SignKind.{SignKind}
+use Rattle.ut_formula_grammar.specs.declared.sign.SignKind.TheVariants as of
 use Rattle.ut_formula_grammar.specs.declared.sign.Sort.{Sort}
 use Rattle.ut_formula_grammar.specs.declared.sign.Sort.TheVariants as sort
 
@@ -44,6 +46,26 @@ abbrev pub lexis : Lexis
 lexis = record { is_quote = λ c. c == quote; escape = escape; is_mark = is_mark; is_pair = is_pair }
 
 -- ---- kinds of tokens, by numbers
+abbrev pub number : SignKind → ℕ
+number of.Truth = 0
+number of.IsNew = 1
+number of.Not = 2
+number of.And = 3
+number of.Or = 4
+number of.IsBlank = 5
+number of.IsChanged = 6
+number of.IsPickval = 7
+number of.Len = 8
+number of.Prior = 9
+number of.Field = 10
+number of.Number = 11
+number of.Text = 12
+number of.Relation = 13
+number of.Open = 14
+number of.Close = 15
+number of.Comma = 16
+number of.Bad = 17
+
 abbrev pub kind : Sign → ℕ
 kind (sign.Truth truth) = 0
 kind sign.IsNew = 1
@@ -155,6 +177,3 @@ sign_of criteria fields token.Bad = sign.Bad
 -- the tokens of a text over these fields, and where they begin
 abbrev pub signs : (criteria : Bool) → List NamedField → List Placed → List Sign
 signs criteria fields all = map (λ placed. sign_of criteria fields placed.token) all
-
-abbrev pub starts : List Placed → List ℕ
-starts all = map (λ placed. placed.start) all

@@ -1,18 +1,16 @@
 -- Which formula a text spells, and the place at which a text is refused.
 -- Source: none. It is this product's own that a refusal names the first token that can't follow.
-use Rattle.std.specs.Prelude.{ℕ, ◌-◌, Bool, List, [], ◌∷◌, length, slice_index_or, Option, Some, None, Ok, Err}
+use Rattle.std.specs.Prelude.{ℕ, ◌-◌, Bool, List, length, slice_index_or, Option}
 use Rattle.ut_grammar.specs.Exact.{left}
 use Rattle.ut_grammar.specs.Lexing.{tokens_of}
-use Rattle.ut_grammar.specs.Place.{IsPlace}
-use Rattle.ut_grammar.specs.Reader.{Outcome}
+use Rattle.ut_grammar.specs.Place.{IsPlace, starts, whole_of}
 use Rattle.ut_grammar.specs.Tokens.{AreTokens}
 use Rattle.ut_grammar.specs.declared.token.Placed.{Placed}
 use Rattle.ut_formula.specs.declared.formula.Formula.{Formula}
 use Rattle.ut_formula.specs.declared.formula.NamedField.{NamedField}
 use Rattle.ut_formula_grammar.specs.Grammar.{whole}
 use Rattle.ut_formula_grammar.specs.Reading as read
-use Rattle.ut_formula_grammar.specs.Signs.{lexis, signs, starts}
-use Rattle.ut_formula_grammar.specs.declared.sign.Sign.{Sign}
+use Rattle.ut_formula_grammar.specs.Signs.{lexis, signs}
 
 -- the tokens of the text, over these fields, spell this formula
 abbrev pub Spells : (criteria : Bool) → List NamedField → (text : List ℕ) → Formula → Type 0
@@ -24,16 +22,6 @@ IsRefusedAt criteria fields text end place =
     (all : List Placed) × AreTokens lexis 0 text all × IsPlace whole (signs criteria fields all) (starts all) end place
 
 -- ---- the same, computed
--- what was read, if no token is left
-abbrev pub at_end : Formula → List Sign → Option Formula
-at_end f [] = Some f
-at_end f (sign ∷ more) = None
-
-abbrev pub whole_of : Outcome Sign Formula → Option Formula
-whole_of (Ok got) = at_end got.0 got.1
-whole_of (Err left) = None
-
--- the formula that a text spells over these fields, if it spells one
 unfoldable pub formula_in : (criteria : Bool) → List NamedField → (text : List ℕ) → Option Formula
 formula_in criteria fields text = whole_of (read.whole (signs criteria fields (tokens_of lexis 0 text)))
 

@@ -8,4 +8,4 @@ mod laws;
 mod sign;
 
 pub use crate::laws::spelling_laws;
-pub use crate::sign::{Kind, Sign, Sort, sort_of};
+pub use crate::sign::{Kind, Sign, SignKind, Sort, sort_of};

@@ -4,7 +4,7 @@ ghost use Rattle.std.specs.Prelude.{◌≡◌};
 ghost use Rattle.ut_formula_grammar.specs.Signs as spec;
 
 use ut_formula::Relation;
-use ut_grammar::Kinded;
+use ut_grammar::{Kinded, TokenKind};
 use ut_value::{FieldType, Text};
 
 /// What a formula asks of the type of a field.
@@ -82,31 +82,84 @@ pub enum Sign {
     Bad,
 }
 
+/// The kinds of tokens, as the definitions number them.
+#[derive(Clone, Copy, Debug, PartialEq, Eq)]
+pub enum SignKind {
+    /// `TRUE` or `FALSE`.
+    Truth,
+    /// `ISNEW`
+    IsNew,
+    /// `NOT`
+    Not,
+    /// `AND`
+    And,
+    /// `OR`
+    Or,
+    /// `ISBLANK`
+    IsBlank,
+    /// `ISCHANGED`
+    IsChanged,
+    /// `ISPICKVAL`
+    IsPickval,
+    /// `LEN`
+    Len,
+    /// `PRIORVALUE`
+    Prior,
+    /// The name of the field at this position.
+    Field,
+    /// A number, counted in units of 10^-8.
+    Number,
+    /// A text.
+    Text,
+    /// A relation.
+    Relation,
+    /// `(`
+    Open,
+    /// `)`
+    Close,
+    /// `,`
+    Comma,
+    /// What can follow nothing.
+    Bad,
+}
+
+impl TokenKind for SignKind {
+    ghost use Rattle.ut_formula_grammar.specs.Signs as spec;
+
+    ghost number = { spec.number };
+
+    fn number(self) -> u8 {
+        self as u8
+    }
+}
+
 impl Kinded for Sign {
     ghost use Rattle.ut_formula_grammar.specs.Signs as spec;
 
+    type Kind = SignKind;
+
     ghost kind = { spec.kind };
 
-    fn kind(&self) -> u8 {
+    fn kind(&self) -> SignKind {
         match self {
-            Sign::Truth(_) => 0,
-            Sign::IsNew => 1,
-            Sign::Not => 2,
-            Sign::And => 3,
-            Sign::Or => 4,
-            Sign::IsBlank => 5,
-            Sign::IsChanged => 6,
-            Sign::IsPickval => 7,
-            Sign::Len => 8,
-            Sign::Prior => 9,
-            Sign::Field(_, _) => 10,
-            Sign::Number(_) => 11,
-            Sign::Text(_) => 12,
-            Sign::Relation(_) => 13,
-            Sign::Open => 14,
-            Sign::Close => 15,
-            Sign::Comma => 16,
-            Sign::Bad => 17,
+            Sign::Truth(_) => SignKind::Truth,
+            Sign::IsNew => SignKind::IsNew,
+            Sign::Not => SignKind::Not,
+            Sign::And => SignKind::And,
+            Sign::Or => SignKind::Or,
+            Sign::IsBlank => SignKind::IsBlank,
+            Sign::IsChanged => SignKind::IsChanged,
+            Sign::IsPickval => SignKind::IsPickval,
+            Sign::Len => SignKind::Len,
+            Sign::Prior => SignKind::Prior,
+            Sign::Field(_, _) => SignKind::Field,
+            Sign::Number(_) => SignKind::Number,
+            Sign::Text(_) => SignKind::Text,
+            Sign::Relation(_) => SignKind::Relation,
+            Sign::Open => SignKind::Open,
+            Sign::Close => SignKind::Close,
+            Sign::Comma => SignKind::Comma,
+            Sign::Bad => SignKind::Bad,
         }
     }
 }

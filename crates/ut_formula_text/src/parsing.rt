@@ -1,42 +1,16 @@
 //! From a text to the formula that it spells.
 
 ghost use Rattle.std.specs.Prelude.{◌≡◌, ◌≤◌, length, chars, IfOk};
+ghost use Rattle.std.specs.Option.{ok_or};
 ghost use Rattle.ut_formula.specs.declared.formula.Formula.{Formula};
-ghost use Rattle.ut_formula_grammar.specs.Grammar as grammar;
-ghost use Rattle.ut_formula_grammar.specs.Spelling.{IsRefusedAt, Spells};
-ghost use Rattle.ut_grammar.specs.Place.{IsOrMemory, IsPlace, OnMalformed};
+ghost use Rattle.ut_formula_grammar.specs.Spelling.{IsRefusedAt, Spells, formula_in, place_in};
+ghost use Rattle.ut_grammar.specs.Place.{IsOrMemory, OnMalformed, UnlessMemory};
 
 use crate::reader::whole;
-use crate::words::{FormulaLexis, signs, starts};
+use crate::words::{FormulaLexis, signs};
 use std::alloc::Global;
 use ut_formula::{Fields, Formula};
-use ut_formula_grammar::Sign;
-use ut_grammar::{Fail, ParseFail, place, tokens};
-
-// The formula that the tokens spell. They begin at these bytes of a text which ends at `end`.
-fn read_signs(
-    alloc: Global,
-    signs: &[Sign],
-    starts: &[usize],
-    end: usize,
-) -> Result<Formula, ParseFail>
-    requires { length starts.now ≡ length signs.now }
-    ensures found { IfOk result (λ f. grammar.whole.spells signs.now f) }
-    ensures only { (f : Formula) → grammar.whole.spells signs.now f → IsOrMemory result f }
-    ensures place { OnMalformed result (λ at. IsPlace grammar.whole signs.now starts.now end at) }
-{
-    match whole(alloc, signs) {
-        Ok((formula, rest)) => {
-            if rest.is_empty() {
-                Ok(formula)
-            } else {
-                Err(ParseFail::Malformed(place(starts, rest.len(), end)))
-            }
-        }
-        Err(Fail::Stuck(left)) => Err(ParseFail::Malformed(place(starts, left, end))),
-        Err(Fail::Memory) => Err(ParseFail::Memory),
-    }
-}
+use ut_grammar::{ParseFail, at_end, starts, tokens};
 
 /// The formula that a text spells over some fields. The formula of a sharing rule by criteria (`criteria`) has no `ISNEW`,
 /// `ISCHANGED` or `PRIORVALUE`.
@@ -59,9 +33,16 @@ pub fn parse(
     ensures only { (f : Formula) → Spells criteria fields.now.items (chars text.now) f → IsOrMemory result f }
     // The place that is refused is the defined one.
     ensures place { OnMalformed result (λ at. IsRefusedAt criteria fields.now.items (chars text.now) (length text.now) at) }
+    // It is what reading by the grammar computes: the formula, or the place; unless out of memory.
+    ensures reads { UnlessMemory result (λ read.
+        ok_or (formula_in criteria fields.now.items (chars text.now)) (place_in criteria fields.now.items (chars text.now) (length text.now)) ≡ read) }
 {
     let all = tokens::<FormulaLexis>(alloc, text)?;
     let signs = signs(alloc, criteria, fields.items.as_slice(), all.as_slice())?;
     let starts = starts(alloc, all.as_slice())?;
-    read_signs(alloc, signs.as_slice(), starts.as_slice(), text.len())
+    at_end(
+        whole(alloc, signs.as_slice()),
+        starts.as_slice(),
+        text.len(),
+    )
 }

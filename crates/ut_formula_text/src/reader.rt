@@ -13,42 +13,9 @@ use crate::values::{
 };
 use std::alloc::Global;
 use ut_formula::{Formula, Relation, Term};
-use ut_formula_grammar::{Kind, Sign};
-use ut_grammar::{Fail, begins_with, next, skip};
+use ut_formula_grammar::{Kind, Sign, SignKind};
+use ut_grammar::{Fail, begins_with, next, skip, taken};
 use ut_value::{Boxed, Items, Text};
-
-// The kinds of tokens, as `Sign::kind` numbers them.
-const TRUTH: u8 = 0;
-
-const IS_NEW: u8 = 1;
-
-const NOT: u8 = 2;
-
-const AND: u8 = 3;
-
-const OR: u8 = 4;
-
-const IS_BLANK: u8 = 5;
-
-const IS_CHANGED: u8 = 6;
-
-const IS_PICKVAL: u8 = 7;
-
-const LEN: u8 = 8;
-
-const PRIOR: u8 = 9;
-
-const FIELD: u8 = 10;
-
-const NUMBER: u8 = 11;
-
-const TEXT: u8 = 12;
-
-const OPEN: u8 = 14;
-
-const CLOSE: u8 = 15;
-
-const COMMA: u8 = 16;
 
 // A field of any type.
 #[tactic(auto, unfolding(ut_formula_grammar::specs::Reading::field))]
@@ -57,10 +24,7 @@ fn field(signs: &[Sign]) -> Result<(u8, &[Sign]), Fail>
     ensures shorter { IfOk result (λ x. length x.1.now < length signs.now) }
 {
     match next(signs) {
-        Some((sign, rest)) => match field_in(sign) {
-            Some(position) => Ok((position, rest)),
-            None => Err(Fail::Stuck(signs.len())),
-        },
+        Some((sign, _)) => taken(field_in(sign), signs),
         None => Err(Fail::Stuck(0)),
     }
 }
@@ -71,10 +35,7 @@ fn picklist(signs: &[Sign]) -> Result<(u8, &[Sign]), Fail>
     ensures shorter { IfOk result (λ x. length x.1.now < length signs.now) }
 {
     match next(signs) {
-        Some((sign, rest)) => match picklist_in(sign) {
-            Some(position) => Ok((position, rest)),
-            None => Err(Fail::Stuck(signs.len())),
-        },
+        Some((sign, _)) => taken(picklist_in(sign), signs),
         None => Err(Fail::Stuck(0)),
     }
 }
@@ -86,10 +47,7 @@ fn measured(signs: &[Sign]) -> Result<(u8, &[Sign]), Fail>
     ensures shorter { IfOk result (λ x. length x.1.now < length signs.now) }
 {
     match next(signs) {
-        Some((sign, rest)) => match measured_in(sign) {
-            Some(position) => Ok((position, rest)),
-            None => Err(Fail::Stuck(signs.len())),
-        },
+        Some((sign, _)) => taken(measured_in(sign), signs),
         None => Err(Fail::Stuck(0)),
     }
 }
@@ -100,10 +58,7 @@ fn text(alloc: Global, signs: &[Sign]) -> Result<(Text, &[Sign]), Fail>
     ensures shorter { IfOk result (λ x. length x.1.now < length signs.now) }
 {
     match next(signs) {
-        Some((sign, rest)) => match text_in(alloc, sign)? {
-            Some(text) => Ok((text, rest)),
-            None => Err(Fail::Stuck(signs.len())),
-        },
+        Some((sign, _)) => taken(text_in(alloc, sign)?, signs),
         None => Err(Fail::Stuck(0)),
     }
 }
@@ -114,10 +69,7 @@ fn relation(signs: &[Sign]) -> Result<(Relation, &[Sign]), Fail>
     ensures shorter { IfOk result (λ x. length x.1.now < length signs.now) }
 {
     match next(signs) {
-        Some((sign, rest)) => match relation_in(sign) {
-            Some(relation) => Ok((relation, rest)),
-            None => Err(Fail::Stuck(signs.len())),
-        },
+        Some((sign, _)) => taken(relation_in(sign), signs),
         None => Err(Fail::Stuck(0)),
     }
 }
@@ -133,10 +85,7 @@ fn simple(
     ensures shorter { IfOk result (λ x. length x.1.now < length signs.now) }
 {
     match next(signs) {
-        Some((sign, rest)) => match simple_in(alloc, wanted, sign)? {
-            Some(term) => Ok((term, rest)),
-            None => Err(Fail::Stuck(signs.len())),
-        },
+        Some((sign, _)) => taken(simple_in(alloc, wanted, sign)?, signs),
         None => Err(Fail::Stuck(0)),
     }
 }
@@ -166,10 +115,7 @@ fn prior_field(wanted: Option<Kind>, signs: &[Sign]) -> Result<((Term, Kind), &[
     ensures shorter { IfOk result (λ x. length x.1.now < length signs.now) }
 {
     match next(signs) {
-        Some((sign, rest)) => match prior_in(wanted, sign) {
-            Some(term) => Ok((term, rest)),
-            None => Err(Fail::Stuck(signs.len())),
-        },
+        Some((sign, _)) => taken(prior_in(wanted, sign), signs),
         None => Err(Fail::Stuck(0)),
     }
 }
@@ -180,9 +126,9 @@ fn length_term(wanted: Option<Kind>, signs: &[Sign]) -> Result<((Term, Kind), &[
     ensures shorter { IfOk result (λ x. length x.1.now < length signs.now) }
 {
     let rest = len_word(wanted, signs)?;
-    let rest = skip(rest, OPEN)?;
+    let rest = skip(rest, SignKind::Open)?;
     let (position, rest) = measured(rest)?;
-    let rest = skip(rest, CLOSE)?;
+    let rest = skip(rest, SignKind::Close)?;
     Ok(((Term::Len(position), Kind::Number), rest))
 }
 
@@ -191,10 +137,10 @@ fn prior_term(wanted: Option<Kind>, signs: &[Sign]) -> Result<((Term, Kind), &[S
     ensures value { Gives (λ x. (x.0, x.1.now)) result (spec.prior_term wanted signs.now) }
     ensures shorter { IfOk result (λ x. length x.1.now < length signs.now) }
 {
-    let rest = skip(signs, PRIOR)?;
-    let rest = skip(rest, OPEN)?;
+    let rest = skip(signs, SignKind::Prior)?;
+    let rest = skip(rest, SignKind::Open)?;
     let (term, rest) = prior_field(wanted, rest)?;
-    let rest = skip(rest, CLOSE)?;
+    let rest = skip(rest, SignKind::Close)?;
     Ok((term, rest))
 }
 
@@ -208,9 +154,9 @@ fn term_of(
     ensures value { Gives (λ x. (x.0, x.1.now)) result (spec.term_of wanted signs.now) }
     ensures shorter { IfOk result (λ x. length x.1.now < length signs.now) }
 {
-    if begins_with(signs, &[FIELD, NUMBER, TEXT]) {
+    if begins_with(signs, &[SignKind::Field, SignKind::Number, SignKind::Text]) {
         simple(alloc, wanted, signs)
-    } else if begins_with(signs, &[LEN]) {
+    } else if begins_with(signs, &[SignKind::Len]) {
         length_term(wanted, signs)
     } else {
         prior_term(wanted, signs)
@@ -264,9 +210,9 @@ fn is_new(signs: &[Sign]) -> Result<(Formula, &[Sign]), Fail>
     ensures value { Gives (λ x. (x.0, x.1.now)) result (spec.is_new signs.now) }
     ensures shorter { IfOk result (λ x. length x.1.now < length signs.now) }
 {
-    let rest = skip(signs, IS_NEW)?;
-    let rest = skip(rest, OPEN)?;
-    let rest = skip(rest, CLOSE)?;
+    let rest = skip(signs, SignKind::IsNew)?;
+    let rest = skip(rest, SignKind::Open)?;
+    let rest = skip(rest, SignKind::Close)?;
     Ok((Formula::IsNew, rest))
 }
 
@@ -275,10 +221,10 @@ fn is_blank(signs: &[Sign]) -> Result<(Formula, &[Sign]), Fail>
     ensures value { Gives (λ x. (x.0, x.1.now)) result (spec.is_blank signs.now) }
     ensures shorter { IfOk result (λ x. length x.1.now < length signs.now) }
 {
-    let rest = skip(signs, IS_BLANK)?;
-    let rest = skip(rest, OPEN)?;
+    let rest = skip(signs, SignKind::IsBlank)?;
+    let rest = skip(rest, SignKind::Open)?;
     let (position, rest) = field(rest)?;
-    let rest = skip(rest, CLOSE)?;
+    let rest = skip(rest, SignKind::Close)?;
     Ok((Formula::IsBlank(position), rest))
 }
 
@@ -287,10 +233,10 @@ fn is_changed(signs: &[Sign]) -> Result<(Formula, &[Sign]), Fail>
     ensures value { Gives (λ x. (x.0, x.1.now)) result (spec.is_changed signs.now) }
     ensures shorter { IfOk result (λ x. length x.1.now < length signs.now) }
 {
-    let rest = skip(signs, IS_CHANGED)?;
-    let rest = skip(rest, OPEN)?;
+    let rest = skip(signs, SignKind::IsChanged)?;
+    let rest = skip(rest, SignKind::Open)?;
     let (position, rest) = field(rest)?;
-    let rest = skip(rest, CLOSE)?;
+    let rest = skip(rest, SignKind::Close)?;
     Ok((Formula::IsChanged(position), rest))
 }
 
@@ -301,7 +247,7 @@ fn choice(alloc: Global, signs: &[Sign]) -> Result<((u8, Text), &[Sign]), Fail>
     ensures shorter { IfOk result (λ x. length x.1.now < length signs.now) }
 {
     let (field, rest) = picklist(signs)?;
-    let rest = skip(rest, COMMA)?;
+    let rest = skip(rest, SignKind::Comma)?;
     let (value, rest) = text(alloc, rest)?;
     Ok(((field, value), rest))
 }
@@ -311,10 +257,10 @@ fn is_pickval(alloc: Global, signs: &[Sign]) -> Result<(Formula, &[Sign]), Fail>
     ensures value { Gives (λ x. (x.0, x.1.now)) result (spec.is_pickval signs.now) }
     ensures shorter { IfOk result (λ x. length x.1.now < length signs.now) }
 {
-    let rest = skip(signs, IS_PICKVAL)?;
-    let rest = skip(rest, OPEN)?;
+    let rest = skip(signs, SignKind::IsPickval)?;
+    let rest = skip(rest, SignKind::Open)?;
     let ((field, value), rest) = choice(alloc, rest)?;
-    let rest = skip(rest, CLOSE)?;
+    let rest = skip(rest, SignKind::Close)?;
     Ok((Formula::IsPickval { field, value }, rest))
 }
 
@@ -323,11 +269,11 @@ fn of_fields(alloc: Global, signs: &[Sign]) -> Result<(Formula, &[Sign]), Fail>
     ensures value { Gives (λ x. (x.0, x.1.now)) result (spec.of_fields signs.now) }
     ensures shorter { IfOk result (λ x. length x.1.now < length signs.now) }
 {
-    if begins_with(signs, &[IS_BLANK]) {
+    if begins_with(signs, &[SignKind::IsBlank]) {
         is_blank(signs)
-    } else if begins_with(signs, &[IS_CHANGED]) {
+    } else if begins_with(signs, &[SignKind::IsChanged]) {
         is_changed(signs)
-    } else if begins_with(signs, &[IS_PICKVAL]) {
+    } else if begins_with(signs, &[SignKind::IsPickval]) {
         is_pickval(alloc, signs)
     } else {
         comparison(alloc, signs)
@@ -339,9 +285,9 @@ fn plain(alloc: Global, signs: &[Sign]) -> Result<(Formula, &[Sign]), Fail>
     ensures value { Gives (λ x. (x.0, x.1.now)) result (spec.plain signs.now) }
     ensures shorter { IfOk result (λ x. length x.1.now < length signs.now) }
 {
-    if begins_with(signs, &[TRUTH]) {
+    if begins_with(signs, &[SignKind::Truth]) {
         truth(signs)
-    } else if begins_with(signs, &[IS_NEW]) {
+    } else if begins_with(signs, &[SignKind::IsNew]) {
         is_new(signs)
     } else {
         of_fields(alloc, signs)
@@ -369,11 +315,11 @@ fn formula_over(alloc: Global, levels: usize, signs: &[Sign]) -> Result<(Formula
     ensures value { Gives (λ x. (x.0, x.1.now)) result (spec.formula_over (spec.nested levels) signs.now) }
     ensures shorter { IfOk result (λ x. length x.1.now < length signs.now) }
 {
-    if begins_with(signs, &[NOT]) {
+    if begins_with(signs, &[SignKind::Not]) {
         negation(alloc, levels, signs)
-    } else if begins_with(signs, &[AND]) {
+    } else if begins_with(signs, &[SignKind::And]) {
         conjunction(alloc, levels, signs)
-    } else if begins_with(signs, &[OR]) {
+    } else if begins_with(signs, &[SignKind::Or]) {
         disjunction(alloc, levels, signs)
     } else {
         plain(alloc, signs)
@@ -386,10 +332,10 @@ fn negation(alloc: Global, levels: usize, signs: &[Sign]) -> Result<(Formula, &[
     ensures value { Gives (λ x. (x.0, x.1.now)) result (spec.negation (spec.nested levels) signs.now) }
     ensures shorter { IfOk result (λ x. length x.1.now < length signs.now) }
 {
-    let rest = skip(signs, NOT)?;
-    let rest = skip(rest, OPEN)?;
+    let rest = skip(signs, SignKind::Not)?;
+    let rest = skip(rest, SignKind::Open)?;
     let (within, rest) = nested(alloc, levels, rest)?;
-    let rest = skip(rest, CLOSE)?;
+    let rest = skip(rest, SignKind::Close)?;
     Ok((Formula::Not(Boxed::new(alloc, within)?), rest))
 }
 
@@ -399,10 +345,10 @@ fn conjunction(alloc: Global, levels: usize, signs: &[Sign]) -> Result<(Formula,
     ensures value { Gives (λ x. (x.0, x.1.now)) result (spec.conjunction (spec.nested levels) signs.now) }
     ensures shorter { IfOk result (λ x. length x.1.now < length signs.now) }
 {
-    let rest = skip(signs, AND)?;
-    let rest = skip(rest, OPEN)?;
+    let rest = skip(signs, SignKind::And)?;
+    let rest = skip(rest, SignKind::Open)?;
     let (all, rest) = formulas(alloc, levels, rest)?;
-    let rest = skip(rest, CLOSE)?;
+    let rest = skip(rest, SignKind::Close)?;
     Ok((Formula::And(all), rest))
 }
 
@@ -412,10 +358,10 @@ fn disjunction(alloc: Global, levels: usize, signs: &[Sign]) -> Result<(Formula,
     ensures value { Gives (λ x. (x.0, x.1.now)) result (spec.disjunction (spec.nested levels) signs.now) }
     ensures shorter { IfOk result (λ x. length x.1.now < length signs.now) }
 {
-    let rest = skip(signs, OR)?;
-    let rest = skip(rest, OPEN)?;
+    let rest = skip(signs, SignKind::Or)?;
+    let rest = skip(rest, SignKind::Open)?;
     let (all, rest) = formulas(alloc, levels, rest)?;
-    let rest = skip(rest, CLOSE)?;
+    let rest = skip(rest, SignKind::Close)?;
     Ok((Formula::Or(all), rest))
 }
 
@@ -444,7 +390,7 @@ fn more_formulas(
     ensures shorter { IfOk result (λ x. length x.1.now ≤ length signs.now) }
 {
     let mut rest = signs;
-    'formulas: while begins_with(rest, &[COMMA]) {
+    'formulas: while begins_with(rest, &[SignKind::Comma]) {
         let (found, more) = another(alloc, levels, rest)?;
         all.push(found)?;
         rest = more;
@@ -458,7 +404,7 @@ fn another(alloc: Global, levels: usize, signs: &[Sign]) -> Result<(Formula, &[S
     ensures value { Gives (λ x. (x.0, x.1.now)) result (reader.after kind 16 (spec.nested levels) signs.now) }
     ensures shorter { IfOk result (λ x. length x.1.now < length signs.now) }
 {
-    let rest = skip(signs, COMMA)?;
+    let rest = skip(signs, SignKind::Comma)?;
     nested(alloc, levels, rest)
 }
 

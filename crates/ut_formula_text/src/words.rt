@@ -215,16 +215,3 @@ pub fn signs(
     }
     Ok(found)
 }
-
-/// Where some tokens begin.
-pub fn starts(alloc: Global, tokens: &[Placed]) -> Result<Items<usize>, AllocError>
-    ensures { IfOk result (λ all. all ≡ spec.starts tokens.now) }
-{
-    let mut found = Items::new(alloc);
-    let mut rest = tokens;
-    'tokens: while let Some((placed, behind)) = rest.split_first() {
-        found.push(placed.start)?;
-        rest = behind;
-    }
-    Ok(found)
-}

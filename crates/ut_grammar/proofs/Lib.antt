@@ -10,3 +10,4 @@ pub mod Longest
 pub mod Tokenizing
 pub mod Meets
 pub mod Unique
+pub mod Wholes

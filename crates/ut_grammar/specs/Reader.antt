@@ -19,6 +19,11 @@ abbrev pub at_token : {K A : Type 0} → K → List K → Option A → Outcome K
 at_token t ts None = Err (suc (length ts))
 at_token t ts (Some a) = Ok (a, ts)
 
+-- what was made of the next token
+abbrev pub taken : {K A : Type 0} → Option A → Reader K A
+taken found [] = Err 0
+taken found (t ∷ ts) = at_token t ts found
+
 abbrev pub read_one : {K A : Type 0} → (K → Option A) → Reader K A
 read_one value [] = Err 0
 read_one value (t ∷ ts) = at_token t ts (value t)

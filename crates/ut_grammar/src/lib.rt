@@ -17,8 +17,9 @@ mod number;
 mod quoted;
 mod text;
 mod token;
+mod whole;
 
-pub use crate::cursor::{Kinded, begins_with, next, place, skip};
+pub use crate::cursor::{Kinded, TokenKind, begins_with, next, place, skip, taken};
 pub use crate::fail::{Fail, ParseFail};
 pub use crate::laws::token_laws;
 pub use crate::lexer::tokens;
@@ -27,3 +28,4 @@ pub use crate::number::number_count;
 pub use crate::quoted::plain_text;
 pub use crate::text::characters;
 pub use crate::token::{Piece, Placed, Token};
+pub use crate::whole::{at_end, starts};

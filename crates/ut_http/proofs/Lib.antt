@@ -8,3 +8,5 @@ pub mod Unique
 pub mod Reading
 pub mod Callers
 pub mod Connections
+pub mod Methods
+pub mod Replies

@@ -1,13 +1,16 @@
 ghost use Rattle.std.specs.Prelude.{None};
 
+use http::StatusCode;
 use std::alloc::{AllocError, Global};
 use std::process::Abort;
 use std::str::from_utf8;
 use std::test::Fail;
 use ut_http::{
-    Buffer, HttpFail, HttpMessage, Next, next_message, out_of_memory, reply_bytes, unavailable,
+    Buffer, HttpFail, HttpMessage, Next, next_message, out_of_memory, reply_bytes, reply_bytes_to,
+    unavailable_to,
 };
 use ut_io::{IoFail, Source};
+use ut_value::Text;
 
 /// A source in memory that tells nothing of its bytes, and gives them as they are cut.
 #[derive(Drop)]
@@ -365,7 +368,7 @@ fn reads_every_row_however_it_is_cut(rt: HostRuntime) -> Result<(), Fail> {
 fn writes_replies(rt: HostRuntime) -> Result<(), Fail> {
     let refused = reply_bytes(
         rt.alloc(),
-        401,
+        StatusCode::UNAUTHORIZED,
         b"[{\"message\":\"Session expired or invalid\",\"errorCode\":\"INVALID_SESSION_ID\"}]",
         false,
     )?;
@@ -373,13 +376,24 @@ fn writes_replies(rt: HostRuntime) -> Result<(), Fail> {
         refused.as_slice()
             == b"HTTP/1.1 401 Unauthorized\r\nContent-Type: application/json;charset=UTF-8\r\nContent-Length: 75\r\n\r\n[{\"message\":\"Session expired or invalid\",\"errorCode\":\"INVALID_SESSION_ID\"}]".as_slice()
     );
-    let empty = reply_bytes(rt.alloc(), 204, b"", true)?;
+    let head = Text::from_str(rt.alloc(), "HEAD")?;
+    let alone = reply_bytes_to(rt.alloc(), &head, StatusCode::NOT_FOUND, b"[]", false)?;
+    assert!(rt;
+        alone.as_slice()
+            == b"HTTP/1.1 404 Not Found\r\nContent-Type: application/json;charset=UTF-8\r\nContent-Length: 2\r\n\r\n".as_slice()
+    );
+    let get = Text::from_str(rt.alloc(), "GET")?;
+    let empty = reply_bytes(rt.alloc(), StatusCode::NO_CONTENT, b"", true)?;
     assert!(rt;
         empty.as_slice() == b"HTTP/1.1 204 No Content\r\nConnection: close\r\n\r\n".as_slice()
     );
     assert!(rt;
-        unavailable(false)
+        unavailable_to(&get, false)
             == b"HTTP/1.1 503 Service Unavailable\r\nContent-Type: application/json;charset=UTF-8\r\nContent-Length: 65\r\n\r\n[{\"message\":\"the store failed\",\"errorCode\":\"SERVER_UNAVAILABLE\"}]".as_slice()
+    );
+    assert!(rt;
+        unavailable_to(&head, false)
+            == b"HTTP/1.1 503 Service Unavailable\r\nContent-Type: application/json;charset=UTF-8\r\nContent-Length: 65\r\n\r\n".as_slice()
     );
     assert!(rt;
         out_of_memory(true)

@@ -1,8 +1,8 @@
 -- Failures that are passed on, and texts that grow by a character.
-use Rattle.std.proofs.Common.{◌≡◌, ℕ, List, [], ◌∷◌, ◌++◌, Option, None, sym, ◌∙◌, append-nil}
+use Rattle.std.proofs.Common.{◌≡◌, ℕ, List, [], ◌∷◌, ◌++◌, length, Option, None, sym, ◌∙◌, ap, append-nil, arith}
 use Rattle.std.specs.Str.{chars, IsUtf8}
 use Rattle.std.specs.Char.{encode_utf8}
-use Rattle.std.proofs.lemmas.Str.{encodes-append, encodes-chars, chars_from_encodes}
+use Rattle.std.proofs.lemmas.Str.{chars-nil, encodes-append, encodes-chars, chars_from_encodes}
 use Rattle.ut_json.specs.Outcomes.{Misses}
 use Rattle.ut_json.specs.declared.JsonFail.{JsonFail}
 use Rattle.ut_json.specs.declared.JsonFail.TheVariants.{NotJson, Memory}
@@ -11,6 +11,11 @@ use Rattle.ut_json.specs.declared.JsonFail.TheVariants.{NotJson, Memory}
 pub fails : (e : JsonFail) {Y W : Type 0} (part : Option Y) (whole : Option W) → (part ≡ None → whole ≡ None) → Misses e part → Misses e whole
 fails NotJson part whole f h = f h
 fails Memory part whole f h = tt
+
+-- a text without bytes has no characters
+pub no_chars : (bs rest : List ℕ) → bs ≡ rest → length rest ≡ 0 → chars bs ≡ []
+no_chars [] rest e h = chars-nil
+no_chars (b ∷ bs) rest e h = absurd (omega (arith, ap length e, h))
 
 pub chars_pushed : (bs new : List ℕ) (c : ℕ) → IsUtf8 bs → IsUtf8 new → new ≡ bs ++ encode_utf8 c → chars new ≡ chars bs ++ c ∷ []
 chars_pushed bs new c u v e =

@@ -8,7 +8,7 @@ pub mod Numbers
 pub mod Quotes
 pub mod Values
 pub mod Texts
-pub mod Printed
+pub mod Plain
 pub mod Written
 pub mod Wholes
 pub mod Scalars

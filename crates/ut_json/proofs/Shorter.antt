@@ -35,6 +35,12 @@ digits_shrinks (c ∷ cs) a rest h = digit (is_digit c) h
     digit true e = omega (arith, after_digits_le cs, ap length (rest_is _ a _ rest e))
     digit false e = absurd (cc)
 
+-- the rest after some digits
+pub some_shorter : (cs front rest : List ℕ) → front ≡ digits_at cs → rest ≡ after_digits cs → (front ≡ [] → ⊥) → length rest < length cs
+unfolding digits
+some_shorter cs [] rest f e some = absurd (some refl)
+some_shorter cs (d ∷ ds) rest f e some = digits_shrinks cs (d ∷ ds) rest (rw (← f, ← e) refl)
+
 minus_le : (cs : List ℕ) → length (minus cs).1 ≤ length cs
 unfolding minus
 minus_le cs = sign (behind 45 cs) refl

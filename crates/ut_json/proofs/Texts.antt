@@ -1,15 +1,27 @@
 -- Reading of bytes.
-use Rattle.std.proofs.Common.{◌≡◌, ℕ, List, Option, Some, None, Result, Ok, Err, ◌⊎◌, refl, sym, ◌∙◌, ap, inl, inr}
+use Rattle.std.proofs.Common.{◌≡◌, ℕ, Bool, true, false, List, Option, Some, None, Result, Ok, Err, ◌⊎◌, refl, sym, ◌∙◌, ap, inl, inr}
 use Rattle.std.specs.Prelude.{IfOk}
-use Rattle.std.specs.Str.{chars, IsUtf8}
-use Rattle.std.proofs.lemmas.Str.{encodes-chars, scalars-chars, chars_from_encodes}
+use Rattle.std.specs.Str.{chars, IsUtf8, is_utf8}
+use Rattle.std.proofs.lemmas.Str.{IsUtf8-from_is_utf8, is_utf8-from_IsUtf8, encodes-chars, scalars-chars, chars_from_encodes}
 use Rattle.ut_json.specs.Grammar.{Spells}
-use Rattle.ut_json.specs.Reading.{text}
+use Rattle.ut_json.specs.Reading.{text, value_in}
 use Rattle.ut_json.specs.Outcomes.{Gives}
 use Rattle.ut_json.specs.declared.JsonFail.{JsonFail}
 use Rattle.ut_json.specs.declared.JsonFail.TheVariants.{NotJson, Memory}
 use Rattle.ut_json.specs.declared.tree.Json.{Json}
 use Rattle.ut_json.proofs.Values.{text_told, text_whole}
+
+-- bytes that are UTF-8 spell what their characters spell
+pub value_of : (bytes : List ℕ) → IsUtf8 bytes → value_in bytes ≡ text (chars bytes)
+value_of bytes u = rw (is_utf8-from_IsUtf8 bytes u) refl
+
+-- others spell nothing
+pub no_value : (bytes : List ℕ) → (IsUtf8 bytes → ⊥) → value_in bytes ≡ None
+no_value bytes not_text = by_test (is_utf8 bytes) refl
+  where
+    by_test : (b : Bool) → is_utf8 bytes ≡ b → value_in bytes ≡ None
+    by_test true e = absurd (not_text (IsUtf8-from_is_utf8 bytes e))
+    by_test false e = rw e refl
 
 pub spelled_by : (bytes : List ℕ) (v : Json) → IsUtf8 bytes → text (chars bytes) ≡ Some v → Spells bytes v
 spelled_by bytes v u h = (chars bytes, sym (encodes-chars bytes u), scalars-chars bytes u, text_told (chars bytes) v h)

@@ -3,4 +3,4 @@ use Rattle.ut_json.specs.Numerals.{Parts}
 use Rattle.ut_json.specs.declared.numeral.Literal.{Literal}
 
 abbrev pub parts_of : Literal → Parts
-parts_of l = record { minus = l.minus; whole = l.whole.now; fraction = l.fraction.now; down = l.down; power = l.power.now }
+parts_of l = record { minus = l.minus; whole = l.whole; fraction = l.fraction; down = l.down; power = l.power }

@@ -1,5 +1,5 @@
 -- What a reading function of the code returns.
-use Rattle.std.specs.Prelude.{◌≡◌, Result, Ok, Err, Option, Some, None}
+use Rattle.std.specs.Prelude.{◌≡◌, ℕ, List, ◌++◌, Result, Ok, Err, Option, Some, None}
 use Rattle.ut_json.specs.declared.JsonFail.{JsonFail}
 use Rattle.ut_json.specs.declared.JsonFail.TheVariants.{NotJson, Memory}
 
@@ -17,3 +17,7 @@ Gives view (Err e) read = Misses e read
 abbrev pub Finds : {X Y : Type 0} → (X → Y) → Option X → Option Y → Type 0
 Finds view (Some x) read = read ≡ Some (view x)
 Finds view None read = read ≡ None
+
+-- bytes that begin with these
+abbrev pub BeginsWith : (bytes front : List ℕ) → Type 0
+BeginsWith bytes front = (more : List ℕ) × (bytes ≡ front ++ more)

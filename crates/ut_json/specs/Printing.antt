@@ -1,5 +1,5 @@
 -- What the writer writes: numbers, strings and marks. RFC 8259.
-use Rattle.std.specs.Prelude.{◌≡◌, ℕ, suc, ℤ, pos, negsuc, ◌+◌, ◌/◌, ◌%◌, Bool, true, false, ◌==◌, ◌||◌, nat_lt, if◌then◌else◌, List, [], ◌∷◌, ◌++◌, Option, Some, None}
+use Rattle.std.specs.Prelude.{◌≡◌, ℕ, suc, ℤ, pos, negsuc, ◌+◌, ◌/◌, ◌%◌, Bool, true, false, not, ◌==◌, ◌&&◌, ◌||◌, nat_le, nat_lt, if◌then◌else◌, List, [], ◌∷◌, ◌++◌, Option, Some, None}
 use Rattle.std.specs.List.{flat_map}
 use Rattle.ut_value.specs.Numerals.{is_digit}
 use Rattle.ut_json.specs.Numerals.{stands, is_exponent_mark}
@@ -16,6 +16,10 @@ letter_for c =
     else (if c == 10 then Some 110
     else (if c == 12 then Some 102
     else (if c == 13 then Some 114 else None))))))
+
+-- section 7: a character that stands for itself, which is neither a quotation mark nor a backslash nor below a space
+abbrev pub is_plain : ℕ → Bool
+is_plain c = nat_le 32 c && not (c == 34) && not (c == 92)
 
 abbrev pub hex_digit : ℕ → ℕ
 hex_digit d = if nat_lt d 10 then 48 + d else 87 + d

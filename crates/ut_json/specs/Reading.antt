@@ -1,5 +1,6 @@
 -- Reading by functions: the value at the front of a text, and what stands behind it.
 use Rattle.std.specs.Prelude.{ℕ, zero, suc, Bool, true, false, ◌||◌, ◌==◌, nat_lt, if◌then◌else◌, List, [], ◌∷◌, ◌++◌, length, Option, Some, None}
+use Rattle.std.specs.Str.{chars, is_utf8}
 use Rattle.ut_value.specs.Numerals.{exactly, is_digit, of_digits, signed}
 use Rattle.ut_json.specs.Characters.{after_spaces, digits_at, after_digits, short_escape, code_unit, is_high, is_low, paired}
 use Rattle.ut_json.specs.Numerals.{Parts, has_leading_zero, is_exponent_mark, up_of, down_of}
@@ -201,3 +202,7 @@ at_end v (c ∷ cs) = None
 
 unfoldable pub text : List ℕ → Option Json
 text cs = element (value depth) cs >>= λ v. at_end v.0 v.1
+
+-- the value that bytes spell, by their characters
+abbrev pub value_in : List ℕ → Option Json
+value_in bytes = if is_utf8 bytes then text (chars bytes) else None

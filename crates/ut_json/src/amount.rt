@@ -27,9 +27,14 @@ fn num_of(minus: bool, size: Option<u128>) -> Num
 
 /// The value of a literal.
 #[tactic(auto, unfolding(crate::specs::Reading::amount))]
-pub fn amount(literal: Literal) -> Num
-    ensures { result ≡ spec.amount (parts_of literal.entry) }
+pub fn amount(literal: &Literal) -> Num
+    ensures { result ≡ spec.amount (parts_of literal.now) }
 {
-    let size = exact_size(literal.whole, literal.fraction, literal.down, literal.power);
+    let size = exact_size(
+        literal.whole.as_slice(),
+        literal.fraction.as_slice(),
+        literal.down,
+        literal.power.as_slice(),
+    );
     num_of(literal.minus, size)
 }

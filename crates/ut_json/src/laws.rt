@@ -1,18 +1,20 @@
 //! What is written is read again.
 
-ghost use Rattle.std.specs.Prelude.{◌≡◌, ℤ, ℕ, List, ◌++◌, ◌<◌, encode_utf8_all};
+ghost use Rattle.std.specs.Prelude.{◌≡◌, ℤ, ℕ, List, ◌∷◌, [], ◌++◌, ◌<◌, IsTrue, encode_utf8_all};
+ghost use Rattle.std.specs.List.{list_all};
 ghost use Rattle.ut_json.specs.Grammar.{Quoted, Spells, depth};
 ghost use Rattle.ut_value.specs.Numerals.{exact_bound};
 ghost use Rattle.ut_value.specs.Printing.{print_number};
 ghost use Rattle.ut_json.specs.Numerals.{Numeral};
-ghost use Rattle.ut_json.specs.Printing.{printed_text, size, Ends};
+ghost use Rattle.ut_json.specs.Printing.{is_plain, printed_text, size, Ends};
 ghost use Rattle.ut_json.specs.Whole.{printed, Fits};
 ghost use Rattle.ut_json.specs.declared.tree.Json.{Json};
 ghost use Rattle.ut_json.specs.declared.tree.Num.TheVariants.{Exact};
 
-/// What is printed is read, also in front of more text: a number that is small enough, each text, and each whole
+/// A text of plain characters is printed as it is, in quotation marks. What is printed is read, also in front of more text: a number that is small enough, each text, and each whole
 /// value of such numbers in which no more than 32 brackets are open.
 pub fn json_laws()
+    ensures plain { (text : List ℕ) → IsTrue (list_all is_plain text) → printed_text text ≡ 34 ∷ (text ++ 34 ∷ []) }
     ensures numbers { (z : ℤ) (rest : List ℕ) → size z < exact_bound → Ends rest → Numeral (print_number z ++ rest) (Exact z) rest }
     ensures texts { (cs rest : List ℕ) → Quoted (printed_text cs ++ rest) cs rest }
     ensures values { (v : Json) → Fits depth v → Spells (encode_utf8_all (printed depth v)) v }

@@ -1,6 +1,6 @@
 //! JSON read and written exactly: a decimal never passes through a float.
 //!
-//! It depends on `ut_value` alone. Its contract: `read` answers a value exactly where `Spells` of `specs/Grammar.antt`
+//! It depends on `ut_value` alone. Its contract: `read` returns a value exactly where `Spells` of `specs/Grammar.antt`
 //! says that the bytes spell it, and that one, unless out of memory; and what a `Writer` writes for a value spells it.
 #![tactic(auto)]
 

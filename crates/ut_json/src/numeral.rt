@@ -1,6 +1,7 @@
 //! Number literals: their parts.
 
 ghost use Rattle.std.specs.Prelude.{◌≡◌, ◌<◌, ◌≤◌, ◌+◌, length, IfOk, ◌∷◌, [], Some, None};
+ghost use Rattle.std.specs.Str.{chars};
 ghost use Rattle.ut_json.specs.Numerals.{has_leading_zero};
 ghost use Rattle.ut_json.specs.Reading as spec;
 ghost use Rattle.ut_json.specs.Literals.{parts_of};
@@ -8,46 +9,48 @@ ghost use Rattle.ut_json.specs.Outcomes.{Gives, Finds};
 
 use crate::JsonFail;
 use crate::scan::{behind, digits, first};
+use std::alloc::Global;
+use ut_value::Items;
 
 /// What a number literal is made of.
-#[derive(Clone, Copy)]
-pub struct Literal<'a> {
+#[derive(Drop)]
+pub struct Literal {
     pub minus: bool,
-    pub whole: &'a [char],
-    pub fraction: &'a [char],
+    pub whole: Items<char>,
+    pub fraction: Items<char>,
     /// The exponent has a minus.
     pub down: bool,
     /// The digits of the exponent.
-    pub power: &'a [char],
+    pub power: Items<char>,
 }
 
 #[tactic(auto, unfolding(crate::specs::Reading::minus))]
-fn minus(chars: &[char]) -> (bool, &[char])
-    ensures value { (result.0, result.1.now) ≡ spec.minus chars.now }
-    ensures shorter { length result.1.now ≤ length chars.now }
+fn minus(text: &str) -> (bool, &str)
+    ensures value { (result.0, chars result.1.now) ≡ spec.minus (chars text.now) }
+    ensures shorter { length (chars result.1.now) ≤ length (chars text.now) }
 {
-    match behind(chars, '-') {
+    match behind(text, '-') {
         Some(rest) => (true, rest),
-        None => (false, chars),
+        None => (false, text),
     }
 }
 
 fn has_leading_zero(digits: &[char]) -> bool
     ensures { result ≡ has_leading_zero digits.now }
 {
-    match first(digits) {
-        Some((d, rest)) => d == '0' && first(rest).is_some(),
-        None => false,
+    match digits {
+        [d, _, ..] => *d == '0',
+        _ => false,
     }
 }
 
 #[tactic(auto, unfolding(crate::specs::Reading::whole))]
-fn whole(chars: &[char]) -> Result<(&[char], &[char]), JsonFail>
-    ensures value { Gives (λ x. (x.0.now, x.1.now)) result (spec.whole chars.now) }
-    ensures shorter { IfOk result (λ x. length x.1.now < length chars.now) }
+fn whole(alloc: Global, text: &str) -> Result<(Items<char>, &str), JsonFail>
+    ensures value { Gives (λ x. (x.0, chars x.1.now)) result (spec.whole (chars text.now)) }
+    ensures shorter { IfOk result (λ x. length (chars x.1.now) < length (chars text.now)) }
 {
-    let (front, rest) = digits(chars)?;
-    if has_leading_zero(front) {
+    let (front, rest) = digits(alloc, text)?;
+    if has_leading_zero(front.as_slice()) {
         Err(JsonFail::NotJson)
     } else {
         Ok((front, rest))
@@ -55,71 +58,71 @@ fn whole(chars: &[char]) -> Result<(&[char], &[char]), JsonFail>
 }
 
 #[tactic(auto, unfolding(crate::specs::Reading::fraction))]
-fn fraction(chars: &[char]) -> Result<(&[char], &[char]), JsonFail>
-    ensures value { Gives (λ x. (x.0.now, x.1.now)) result (spec.fraction chars.now) }
-    ensures shorter { IfOk result (λ x. length x.1.now ≤ length chars.now) }
+fn fraction(alloc: Global, text: &str) -> Result<(Items<char>, &str), JsonFail>
+    ensures value { Gives (λ x. (x.0, chars x.1.now)) result (spec.fraction (chars text.now)) }
+    ensures shorter { IfOk result (λ x. length (chars x.1.now) ≤ length (chars text.now)) }
 {
-    match behind(chars, '.') {
-        Some(after) => digits(after),
-        None => Ok((&[], chars)),
+    match behind(text, '.') {
+        Some(after) => digits(alloc, after),
+        None => Ok((Items::new(alloc), text)),
     }
 }
 
 #[tactic(auto, unfolding(crate::specs::Reading::power_sign))]
-fn power_sign(chars: &[char]) -> (bool, &[char])
-    ensures value { (result.0, result.1.now) ≡ spec.power_sign chars.now }
-    ensures shorter { length result.1.now ≤ length chars.now }
+fn power_sign(text: &str) -> (bool, &str)
+    ensures value { (result.0, chars result.1.now) ≡ spec.power_sign (chars text.now) }
+    ensures shorter { length (chars result.1.now) ≤ length (chars text.now) }
 {
-    match first(chars) {
+    match first(text) {
         Some((c, rest)) => {
             if c == '-' {
                 (true, rest)
             } else if c == '+' {
                 (false, rest)
             } else {
-                (false, chars)
+                (false, text)
             }
         }
-        None => (false, chars),
+        None => (false, text),
     }
 }
 
-fn power(chars: &[char]) -> Result<((bool, &[char]), &[char]), JsonFail>
-    ensures value { Gives (λ x. ((x.0.0, x.0.1.now), x.1.now)) result (spec.power (spec.power_sign chars.now)) }
-    ensures shorter { IfOk result (λ x. length x.1.now ≤ length chars.now) }
+fn power(alloc: Global, text: &str) -> Result<((bool, Items<char>), &str), JsonFail>
+    ensures value { Gives (λ x. ((x.0.0, x.0.1), chars x.1.now)) result (spec.power (spec.power_sign (chars text.now))) }
+    ensures shorter { IfOk result (λ x. length (chars x.1.now) ≤ length (chars text.now)) }
 {
-    let (down, rest) = power_sign(chars);
-    let (front, rest) = digits(rest)?;
+    let (down, rest) = power_sign(text);
+    let (front, rest) = digits(alloc, rest)?;
     Ok(((down, front), rest))
 }
 
 #[tactic(auto, unfolding(crate::specs::Reading::exponent))]
-fn exponent(chars: &[char]) -> Result<((bool, &[char]), &[char]), JsonFail>
-    ensures value { Gives (λ x. ((x.0.0, x.0.1.now), x.1.now)) result (spec.exponent chars.now) }
-    ensures shorter { IfOk result (λ x. length x.1.now ≤ length chars.now) }
+fn exponent(alloc: Global, text: &str) -> Result<((bool, Items<char>), &str), JsonFail>
+    ensures value { Gives (λ x. ((x.0.0, x.0.1), chars x.1.now)) result (spec.exponent (chars text.now)) }
+    ensures shorter { IfOk result (λ x. length (chars x.1.now) ≤ length (chars text.now)) }
 {
-    match first(chars) {
+    match first(text) {
         Some((c, rest)) => {
             if c == 'e' || c == 'E' {
-                power(rest)
+                power(alloc, rest)
             } else {
-                Ok(((false, &[]), chars))
+                Ok(((false, Items::new(alloc)), text))
             }
         }
-        None => Ok(((false, &[]), chars)),
+        None => Ok(((false, Items::new(alloc)), text)),
     }
 }
 
-/// The parts of the literal at the front, and what stands behind it.
+/// The parts of the literal at the front, and the rest.
 #[tactic(auto, unfolding(crate::specs::Reading::literal))]
-pub fn literal_at(chars: &[char]) -> Result<(Literal, &[char]), JsonFail>
-    ensures value { Gives (λ x. (parts_of x.0, x.1.now)) result (spec.literal chars.now) }
-    ensures shorter { IfOk result (λ x. length x.1.now < length chars.now) }
+pub fn literal_at(alloc: Global, text: &str) -> Result<(Literal, &str), JsonFail>
+    ensures value { Gives (λ x. (parts_of x.0, chars x.1.now)) result (spec.literal (chars text.now)) }
+    ensures shorter { IfOk result (λ x. length (chars x.1.now) < length (chars text.now)) }
 {
-    let (minus, rest) = minus(chars);
-    let (whole, rest) = whole(rest)?;
-    let (fraction, rest) = fraction(rest)?;
-    let ((down, power), rest) = exponent(rest)?;
+    let (minus, rest) = minus(text);
+    let (whole, rest) = whole(alloc, rest)?;
+    let (fraction, rest) = fraction(alloc, rest)?;
+    let ((down, power), rest) = exponent(alloc, rest)?;
     let literal = Literal {
         minus,
         whole,

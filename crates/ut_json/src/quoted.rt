@@ -1,7 +1,9 @@
 //! Strings and their escapes.
 
-ghost use Rattle.std.specs.Prelude.{◌≡◌, ◌<◌, ◌≤◌, length, IfOk, true, false, ◌∷◌, [], Some, None};
+ghost use Rattle.std.specs.Prelude.{◌≡◌, ◌<◌, ◌≤◌, length, IfOk, OnErr, Err, true, false, ◌∷◌, [], Some, None};
+ghost use Rattle.std.specs.Str.{chars};
 ghost use Rattle.ut_json.specs.Characters.{short_escape, code_unit, is_high, is_low, paired};
+ghost use Rattle.ut_json.specs.declared.JsonFail.TheVariants.{NotJson};
 ghost use Rattle.ut_json.specs.Reading as spec;
 ghost use Rattle.ut_json.specs.Outcomes.{Gives};
 ghost use Rattle.ut_json.specs.Turns.{turn_by, HexDigit};
@@ -48,25 +50,34 @@ fn code_unit(a: char, b: char, c: char, d: char) -> Result<u32, JsonFail>
     Ok(a * 4096 + b * 256 + c * 16 + d)
 }
 
-#[tactic(auto, unfolding(crate::specs::Reading::unit_of))]
-fn unit_of(chars: &[char]) -> Result<(u32, &[char]), JsonFail>
-    ensures value { Gives (λ x. (x.0, x.1.now)) result (spec.unit_of chars.now) }
-    ensures bound { IfOk result (λ x. x.0 < 65536) }
-    ensures shorter { IfOk result (λ x. length x.1.now < length chars.now) }
+// The first character, which there has to be, and the rest.
+fn next(text: &str) -> Result<(char, &str), JsonFail>
+    ensures some { IfOk result (λ p. chars text.now ≡ p.0 ∷ chars p.1.now) }
+    ensures none { OnErr result ((result ≡ Err NotJson) × (chars text.now ≡ [])) }
 {
-    match chars {
-        [a, b, c, d, rest @ ..] => Ok((code_unit(*a, *b, *c, *d)?, rest)),
-        _ => Err(JsonFail::NotJson),
-    }
+    first(text).ok_or(JsonFail::NotJson)
+}
+
+#[tactic(auto, unfolding(crate::specs::Reading::unit_of))]
+fn unit_of(text: &str) -> Result<(u32, &str), JsonFail>
+    ensures value { Gives (λ x. (x.0, chars x.1.now)) result (spec.unit_of (chars text.now)) }
+    ensures bound { IfOk result (λ x. x.0 < 65536) }
+    ensures shorter { IfOk result (λ x. length (chars x.1.now) < length (chars text.now)) }
+{
+    let (a, rest) = next(text)?;
+    let (b, rest) = next(rest)?;
+    let (c, rest) = next(rest)?;
+    let (d, rest) = next(rest)?;
+    Ok((code_unit(a, b, c, d)?, rest))
 }
 
 #[tactic(auto, unfolding(crate::specs::Reading::second_unit))]
-fn second_unit(chars: &[char]) -> Result<(u32, &[char]), JsonFail>
-    ensures value { Gives (λ x. (x.0, x.1.now)) result (spec.second_unit chars.now) }
+fn second_unit(text: &str) -> Result<(u32, &str), JsonFail>
+    ensures value { Gives (λ x. (x.0, chars x.1.now)) result (spec.second_unit (chars text.now)) }
     ensures bound { IfOk result (λ x. x.0 < 65536) }
-    ensures shorter { IfOk result (λ x. length x.1.now < length chars.now) }
+    ensures shorter { IfOk result (λ x. length (chars x.1.now) < length (chars text.now)) }
 {
-    let after = skip(chars, '\\')?;
+    let after = skip(text, '\\')?;
     let after = skip(after, 'u')?;
     unit_of(after)
 }
@@ -97,12 +108,12 @@ fn character(code: u32) -> Result<char, JsonFail>
 }
 
 #[tactic(auto, unfolding(crate::specs::Reading::low_unit))]
-fn low_unit(high: u32, chars: &[char]) -> Result<(char, &[char]), JsonFail>
+fn low_unit(high: u32, text: &str) -> Result<(char, &str), JsonFail>
     requires { is_high high ≡ true }
-    ensures value { Gives (λ x. (x.0, x.1.now)) result (spec.low_unit high chars.now) }
-    ensures shorter { IfOk result (λ x. length x.1.now < length chars.now) }
+    ensures value { Gives (λ x. (x.0, chars x.1.now)) result (spec.low_unit high (chars text.now)) }
+    ensures shorter { IfOk result (λ x. length (chars x.1.now) < length (chars text.now)) }
 {
-    let (low, rest) = second_unit(chars)?;
+    let (low, rest) = second_unit(text)?;
     if is_low(low) {
         let code = 65536 + (high - 55296) * 1024 + (low - 56320);
         Ok((character(code)?, rest))
@@ -111,27 +122,27 @@ fn low_unit(high: u32, chars: &[char]) -> Result<(char, &[char]), JsonFail>
     }
 }
 
-fn surrogate(unit: u32, chars: &[char]) -> Result<(char, &[char]), JsonFail>
+fn surrogate(unit: u32, text: &str) -> Result<(char, &str), JsonFail>
     requires { unit < 65536 }
-    ensures value { Gives (λ x. (x.0, x.1.now)) result (spec.surrogate (unit, chars.now)) }
-    ensures shorter { IfOk result (λ x. length x.1.now ≤ length chars.now) }
+    ensures value { Gives (λ x. (x.0, chars x.1.now)) result (spec.surrogate (unit, chars text.now)) }
+    ensures shorter { IfOk result (λ x. length (chars x.1.now) ≤ length (chars text.now)) }
 {
     if is_high(unit) {
-        low_unit(unit, chars)
+        low_unit(unit, text)
     } else if is_low(unit) {
         Err(JsonFail::NotJson)
     } else {
-        Ok((character(unit)?, chars))
+        Ok((character(unit)?, text))
     }
 }
 
-/// What stands behind a backslash.
+/// The character that an escape stands for, from after its backslash, and the rest.
 #[tactic(auto, unfolding(crate::specs::Reading::escape))]
-fn escape(chars: &[char]) -> Result<(char, &[char]), JsonFail>
-    ensures value { Gives (λ x. (x.0, x.1.now)) result (spec.escape chars.now) }
-    ensures shorter { IfOk result (λ x. length x.1.now < length chars.now) }
+fn escape(text: &str) -> Result<(char, &str), JsonFail>
+    ensures value { Gives (λ x. (x.0, chars x.1.now)) result (spec.escape (chars text.now)) }
+    ensures shorter { IfOk result (λ x. length (chars x.1.now) < length (chars text.now)) }
 {
-    match first(chars) {
+    match first(text) {
         Some((letter, after)) => {
             if letter == 'u' {
                 let (unit, rest) = unit_of(after)?;
@@ -147,13 +158,13 @@ fn escape(chars: &[char]) -> Result<(char, &[char]), JsonFail>
     }
 }
 
-/// The next character of a string, or `None` behind its end.
+/// The next character of a string, or `None` at its end, and the rest.
 #[tactic(auto, unfolding(crate::specs::Reading::character_turn))]
-fn character_turn(chars: &[char]) -> Result<(Option<char>, &[char]), JsonFail>
-    ensures value { Gives (λ x. turn_by x.0 x.1.now) result (spec.character_turn chars.now) }
-    ensures shorter { IfOk result (λ x. length x.1.now < length chars.now) }
+fn character_turn(text: &str) -> Result<(Option<char>, &str), JsonFail>
+    ensures value { Gives (λ x. turn_by x.0 (chars x.1.now)) result (spec.character_turn (chars text.now)) }
+    ensures shorter { IfOk result (λ x. length (chars x.1.now) < length (chars text.now)) }
 {
-    match first(chars) {
+    match first(text) {
         Some((c, rest)) => {
             if c == '"' {
                 Ok((None, rest))
@@ -170,30 +181,30 @@ fn character_turn(chars: &[char]) -> Result<(Option<char>, &[char]), JsonFail>
     }
 }
 
-/// The characters up to a quotation mark, and what stands behind that.
+/// The characters up to a quotation mark, and the rest after it.
 #[tactic(auto, unfolding(crate::specs::Reading::content))]
-pub fn content(alloc: Global, chars: &[char]) -> Result<(Text, &[char]), JsonFail>
-    ensures value { Gives (λ x. (x.0, x.1.now)) result (spec.content chars.now) }
-    ensures shorter { IfOk result (λ x. length x.1.now < length chars.now) }
+pub fn content(alloc: Global, text: &str) -> Result<(Text, &str), JsonFail>
+    ensures value { Gives (λ x. (x.0, chars x.1.now)) result (spec.content (chars text.now)) }
+    ensures shorter { IfOk result (λ x. length (chars x.1.now) < length (chars text.now)) }
 {
-    let mut text = String::new(alloc);
-    let mut rest = chars;
+    let mut content = String::new(alloc);
+    let mut rest = text;
     'turns: loop {
         let (next, after) = character_turn(rest)?;
         rest = after;
         match next {
-            Some(c) => text.push(c)?,
-            None => return Ok((Text::from_string(text), rest)),
+            Some(c) => content.push(c)?,
+            None => return Ok((Text::from_string(content), rest)),
         }
     }
 }
 
-/// A string, and what stands behind it.
+/// A string, and the rest.
 #[tactic(auto, unfolding(crate::specs::Reading::quoted))]
-pub fn quoted(alloc: Global, chars: &[char]) -> Result<(Text, &[char]), JsonFail>
-    ensures value { Gives (λ x. (x.0, x.1.now)) result (spec.quoted chars.now) }
-    ensures shorter { IfOk result (λ x. length x.1.now < length chars.now) }
+pub fn quoted(alloc: Global, text: &str) -> Result<(Text, &str), JsonFail>
+    ensures value { Gives (λ x. (x.0, chars x.1.now)) result (spec.quoted (chars text.now)) }
+    ensures shorter { IfOk result (λ x. length (chars x.1.now) < length (chars text.now)) }
 {
-    let after = skip(chars, '"')?;
+    let after = skip(text, '"')?;
     content(alloc, after)
 }

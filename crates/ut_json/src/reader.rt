@@ -14,31 +14,31 @@ use crate::numeral::literal_at;
 use crate::quoted::{content, quoted};
 use crate::scan::{after_spaces, behind, first, skip};
 use crate::tree::{Json, Member, Num};
-use std::alloc::{AllocError, Global};
+use std::alloc::Global;
 use ut_value::{Items, is_digit};
 
 /// So many lists and objects may be open at once.
 const DEPTH: u8 = 32;
 
 #[tactic(auto, unfolding(crate::specs::Reading::numeral))]
-fn numeral(chars: &[char]) -> Result<(Num, &[char]), JsonFail>
-    ensures value { Gives (λ x. (x.0, x.1.now)) result (spec.numeral chars.now) }
-    ensures shorter { IfOk result (λ x. length x.1.now < length chars.now) }
+fn numeral(alloc: Global, text: &str) -> Result<(Num, &str), JsonFail>
+    ensures value { Gives (λ x. (x.0, chars x.1.now)) result (spec.numeral (chars text.now)) }
+    ensures shorter { IfOk result (λ x. length (chars x.1.now) < length (chars text.now)) }
 {
-    let (literal, rest) = literal_at(chars)?;
-    Ok((amount(literal), rest))
+    let (literal, rest) = literal_at(alloc, text)?;
+    Ok((amount(&literal), rest))
 }
 
-/// What stands behind a word.
+/// The rest after a word.
 #[tactic(auto, unfolding(crate::specs::Reading::after_word))]
-fn after_word<'a>(chars: &'a [char], word: &[char]) -> Result<&'a [char], JsonFail>
-    ensures value { Gives (λ rest. rest.now) result (spec.after_word word.now chars.now) }
-    ensures shorter { IfOk result (λ rest. length rest.now ≤ length chars.now) }
+fn after_word<'a>(text: &'a str, word: &[char]) -> Result<&'a str, JsonFail>
+    ensures value { Gives (λ rest. chars rest.now) result (spec.after_word word.now (chars text.now)) }
+    ensures shorter { IfOk result (λ rest. length (chars rest.now) ≤ length (chars text.now)) }
 {
-    let mut rest = chars;
+    let mut rest = text;
     let mut left = word;
-    'letters: while let Some((letter, more)) = first(left) {
-        rest = skip(rest, letter)?;
+    'letters: while let Some((letter, more)) = left.split_first() {
+        rest = skip(rest, *letter)?;
         left = more;
     }
     Ok(rest)
@@ -46,11 +46,11 @@ fn after_word<'a>(chars: &'a [char], word: &[char]) -> Result<&'a [char], JsonFa
 
 /// `null`, `true` or `false`.
 #[tactic(auto, unfolding(crate::specs::Reading::named))]
-fn named(chars: &[char]) -> Result<(Json, &[char]), JsonFail>
-    ensures value { Gives (λ x. (x.0, x.1.now)) result (spec.named chars.now) }
-    ensures shorter { IfOk result (λ x. length x.1.now < length chars.now) }
+fn named(text: &str) -> Result<(Json, &str), JsonFail>
+    ensures value { Gives (λ x. (x.0, chars x.1.now)) result (spec.named (chars text.now)) }
+    ensures shorter { IfOk result (λ x. length (chars x.1.now) < length (chars text.now)) }
 {
-    match first(chars) {
+    match first(text) {
         Some((c, rest)) => {
             if c == 'n' {
                 Ok((Json::Null, after_word(rest, &['u', 'l', 'l'])?))
@@ -66,13 +66,13 @@ fn named(chars: &[char]) -> Result<(Json, &[char]), JsonFail>
     }
 }
 
-/// Whether another item follows, where a comma or the end has to stand.
+/// Whether another item follows: a comma or the end has to be here.
 #[tactic(auto, unfolding(crate::specs::Reading::separator))]
-fn separator(chars: &[char], end: char) -> Result<(bool, &[char]), JsonFail>
-    ensures value { Gives (λ x. (x.0, x.1.now)) result (spec.separator end chars.now) }
-    ensures shorter { IfOk result (λ x. length x.1.now < length chars.now) }
+fn separator(text: &str, end: char) -> Result<(bool, &str), JsonFail>
+    ensures value { Gives (λ x. (x.0, chars x.1.now)) result (spec.separator end (chars text.now)) }
+    ensures shorter { IfOk result (λ x. length (chars x.1.now) < length (chars text.now)) }
 {
-    match first(chars) {
+    match first(text) {
         Some((c, rest)) => {
             if c == ',' {
                 Ok((true, rest))
@@ -89,33 +89,33 @@ fn separator(chars: &[char], end: char) -> Result<(bool, &[char]), JsonFail>
 /// A value between white space.
 #[cycle(values)]
 #[tactic(auto, unfolding(crate::specs::Reading::element))]
-fn element(alloc: Global, levels: u8, chars: &[char]) -> Result<(Json, &[char]), JsonFail>
-    ensures value { Gives (λ x. (x.0, x.1.now)) result (spec.element (spec.value levels) chars.now) }
-    ensures shorter { IfOk result (λ x. length x.1.now < length chars.now) }
+fn element(alloc: Global, levels: u8, text: &str) -> Result<(Json, &str), JsonFail>
+    ensures value { Gives (λ x. (x.0, chars x.1.now)) result (spec.element (spec.value levels) (chars text.now)) }
+    ensures shorter { IfOk result (λ x. length (chars x.1.now) < length (chars text.now)) }
 {
-    let (value, rest) = value(alloc, levels, after_spaces(chars))?;
+    let (value, rest) = value(alloc, levels, after_spaces(text))?;
     Ok((value, after_spaces(rest)))
 }
 
 /// An item of a list, and whether another one follows.
 #[cycle(values)]
 #[tactic(auto, unfolding(crate::specs::Reading::item_turn))]
-fn item_turn(alloc: Global, levels: u8, chars: &[char]) -> Result<((Json, bool), &[char]), JsonFail>
-    ensures value { Gives (λ x. (x.0.0 ∷ [], x.0.1, x.1.now)) result (spec.item_turn (spec.element (spec.value levels)) 93 chars.now) }
-    ensures shorter { IfOk result (λ x. length x.1.now < length chars.now) }
+fn item_turn(alloc: Global, levels: u8, text: &str) -> Result<((Json, bool), &str), JsonFail>
+    ensures value { Gives (λ x. (x.0.0 ∷ [], x.0.1, chars x.1.now)) result (spec.item_turn (spec.element (spec.value levels)) 93 (chars text.now)) }
+    ensures shorter { IfOk result (λ x. length (chars x.1.now) < length (chars text.now)) }
 {
-    let (item, rest) = element(alloc, levels, chars)?;
+    let (item, rest) = element(alloc, levels, text)?;
     let (more, rest) = separator(rest, ']')?;
     Ok(((item, more), rest))
 }
 
 #[cycle(values)]
-fn items(alloc: Global, levels: u8, chars: &[char]) -> Result<(Items<Json>, &[char]), JsonFail>
-    ensures value { Gives (λ x. (x.0, x.1.now)) result (spec.repeated (spec.item_turn (spec.element (spec.value levels)) 93) chars.now) }
-    ensures shorter { IfOk result (λ x. length x.1.now < length chars.now) }
+fn items(alloc: Global, levels: u8, text: &str) -> Result<(Items<Json>, &str), JsonFail>
+    ensures value { Gives (λ x. (x.0, chars x.1.now)) result (spec.repeated (spec.item_turn (spec.element (spec.value levels)) 93) (chars text.now)) }
+    ensures shorter { IfOk result (λ x. length (chars x.1.now) < length (chars text.now)) }
 {
     let mut items = Items::new(alloc);
-    let mut rest = chars;
+    let mut rest = text;
     'turns: loop {
         let ((item, more), after) = item_turn(alloc, levels, rest)?;
         items.push(item)?;
@@ -126,29 +126,29 @@ fn items(alloc: Global, levels: u8, chars: &[char]) -> Result<(Items<Json>, &[ch
     }
 }
 
-/// What stands behind the bracket that opens a list.
+/// The items of a list, from after the bracket that opens it, and the rest.
 #[cycle(values)]
-fn list(alloc: Global, levels: u8, chars: &[char]) -> Result<(Items<Json>, &[char]), JsonFail>
-    ensures value { Gives (λ x. (x.0, x.1.now)) result (spec.lists_at levels chars.now) }
-    ensures shorter { IfOk result (λ x. length x.1.now < length chars.now) }
+fn list(alloc: Global, levels: u8, text: &str) -> Result<(Items<Json>, &str), JsonFail>
+    ensures value { Gives (λ x. (x.0, chars x.1.now)) result (spec.lists_at levels (chars text.now)) }
+    ensures shorter { IfOk result (λ x. length (chars x.1.now) < length (chars text.now)) }
 {
     if levels == 0 {
         return Err(JsonFail::NotJson);
     }
-    match behind(after_spaces(chars), ']') {
+    match behind(after_spaces(text), ']') {
         Some(rest) => Ok((Items::new(alloc), rest)),
-        None => items(alloc, levels - 1, chars),
+        None => items(alloc, levels - 1, text),
     }
 }
 
 /// A member of an object.
 #[cycle(values)]
 #[tactic(auto, unfolding(crate::specs::Reading::pair))]
-fn pair(alloc: Global, levels: u8, chars: &[char]) -> Result<(Member, &[char]), JsonFail>
-    ensures value { Gives (λ x. (x.0, x.1.now)) result (spec.pair (spec.value levels) chars.now) }
-    ensures shorter { IfOk result (λ x. length x.1.now < length chars.now) }
+fn pair(alloc: Global, levels: u8, text: &str) -> Result<(Member, &str), JsonFail>
+    ensures value { Gives (λ x. (x.0, chars x.1.now)) result (spec.pair (spec.value levels) (chars text.now)) }
+    ensures shorter { IfOk result (λ x. length (chars x.1.now) < length (chars text.now)) }
 {
-    let (name, rest) = quoted(alloc, after_spaces(chars))?;
+    let (name, rest) = quoted(alloc, after_spaces(text))?;
     let rest = skip(after_spaces(rest), ':')?;
     let (value, rest) = element(alloc, levels, rest)?;
     Ok((Member { name, value }, rest))
@@ -157,26 +157,22 @@ fn pair(alloc: Global, levels: u8, chars: &[char]) -> Result<(Member, &[char]), 
 /// A member, and whether another one follows.
 #[cycle(values)]
 #[tactic(auto, unfolding(crate::specs::Reading::item_turn))]
-fn member_turn(
-    alloc: Global,
-    levels: u8,
-    chars: &[char],
-) -> Result<((Member, bool), &[char]), JsonFail>
-    ensures value { Gives (λ x. (x.0.0 ∷ [], x.0.1, x.1.now)) result (spec.item_turn (spec.pair (spec.value levels)) 125 chars.now) }
-    ensures shorter { IfOk result (λ x. length x.1.now < length chars.now) }
+fn member_turn(alloc: Global, levels: u8, text: &str) -> Result<((Member, bool), &str), JsonFail>
+    ensures value { Gives (λ x. (x.0.0 ∷ [], x.0.1, chars x.1.now)) result (spec.item_turn (spec.pair (spec.value levels)) 125 (chars text.now)) }
+    ensures shorter { IfOk result (λ x. length (chars x.1.now) < length (chars text.now)) }
 {
-    let (member, rest) = pair(alloc, levels, chars)?;
+    let (member, rest) = pair(alloc, levels, text)?;
     let (more, rest) = separator(rest, '}')?;
     Ok(((member, more), rest))
 }
 
 #[cycle(values)]
-fn members(alloc: Global, levels: u8, chars: &[char]) -> Result<(Items<Member>, &[char]), JsonFail>
-    ensures value { Gives (λ x. (x.0, x.1.now)) result (spec.repeated (spec.item_turn (spec.pair (spec.value levels)) 125) chars.now) }
-    ensures shorter { IfOk result (λ x. length x.1.now < length chars.now) }
+fn members(alloc: Global, levels: u8, text: &str) -> Result<(Items<Member>, &str), JsonFail>
+    ensures value { Gives (λ x. (x.0, chars x.1.now)) result (spec.repeated (spec.item_turn (spec.pair (spec.value levels)) 125) (chars text.now)) }
+    ensures shorter { IfOk result (λ x. length (chars x.1.now) < length (chars text.now)) }
 {
     let mut members = Items::new(alloc);
-    let mut rest = chars;
+    let mut rest = text;
     'turns: loop {
         let ((member, more), after) = member_turn(alloc, levels, rest)?;
         members.push(member)?;
@@ -187,28 +183,28 @@ fn members(alloc: Global, levels: u8, chars: &[char]) -> Result<(Items<Member>, 
     }
 }
 
-/// What stands behind the bracket that opens an object.
+/// The members of an object, from after the bracket that opens it, and the rest.
 #[cycle(values)]
-fn object(alloc: Global, levels: u8, chars: &[char]) -> Result<(Items<Member>, &[char]), JsonFail>
-    ensures value { Gives (λ x. (x.0, x.1.now)) result (spec.objects_at levels chars.now) }
-    ensures shorter { IfOk result (λ x. length x.1.now < length chars.now) }
+fn object(alloc: Global, levels: u8, text: &str) -> Result<(Items<Member>, &str), JsonFail>
+    ensures value { Gives (λ x. (x.0, chars x.1.now)) result (spec.objects_at levels (chars text.now)) }
+    ensures shorter { IfOk result (λ x. length (chars x.1.now) < length (chars text.now)) }
 {
     if levels == 0 {
         return Err(JsonFail::NotJson);
     }
-    match behind(after_spaces(chars), '}') {
+    match behind(after_spaces(text), '}') {
         Some(rest) => Ok((Items::new(alloc), rest)),
-        None => members(alloc, levels - 1, chars),
+        None => members(alloc, levels - 1, text),
     }
 }
 
 #[cycle(values)]
 #[tactic(auto, unfolding(crate::specs::Reading::value_of))]
-fn value_here(alloc: Global, levels: u8, chars: &[char]) -> Result<(Json, &[char]), JsonFail>
-    ensures value { Gives (λ x. (x.0, x.1.now)) result (spec.value_of (spec.lists_at levels) (spec.objects_at levels) chars.now) }
-    ensures shorter { IfOk result (λ x. length x.1.now < length chars.now) }
+fn value_here(alloc: Global, levels: u8, text: &str) -> Result<(Json, &str), JsonFail>
+    ensures value { Gives (λ x. (x.0, chars x.1.now)) result (spec.value_of (spec.lists_at levels) (spec.objects_at levels) (chars text.now)) }
+    ensures shorter { IfOk result (λ x. length (chars x.1.now) < length (chars text.now)) }
 {
-    match first(chars) {
+    match first(text) {
         Some((c, rest)) => {
             if c == '"' {
                 let (text, rest) = content(alloc, rest)?;
@@ -220,40 +216,34 @@ fn value_here(alloc: Global, levels: u8, chars: &[char]) -> Result<(Json, &[char
                 let (members, rest) = object(alloc, levels, rest)?;
                 Ok((Json::Object(members), rest))
             } else if c == '-' || is_digit(c) {
-                let (number, rest) = numeral(chars)?;
+                let (number, rest) = numeral(alloc, text)?;
                 Ok((Json::Number(number), rest))
             } else {
-                named(chars)
+                named(text)
             }
         }
         None => Err(JsonFail::NotJson),
     }
 }
 
-/// The value at the front, inside of which so many more lists and objects may be open.
+/// The value at the front, inside of which `levels` more lists and objects may be open, and the rest.
 #[cycle(values)]
-fn value(alloc: Global, levels: u8, chars: &[char]) -> Result<(Json, &[char]), JsonFail>
-    ensures value { Gives (λ x. (x.0, x.1.now)) result (spec.value levels chars.now) }
-    ensures shorter { IfOk result (λ x. length x.1.now < length chars.now) }
+fn value(alloc: Global, levels: u8, text: &str) -> Result<(Json, &str), JsonFail>
+    ensures value { Gives (λ x. (x.0, chars x.1.now)) result (spec.value levels (chars text.now)) }
+    ensures shorter { IfOk result (λ x. length (chars x.1.now) < length (chars text.now)) }
 {
-    value_here(alloc, levels, chars)
+    value_here(alloc, levels, text)
 }
 
 #[tactic(auto, unfolding(crate::specs::Reading::text))]
-fn text_value(alloc: Global, chars: &[char]) -> Result<Json, JsonFail>
-    ensures { Gives (λ v. v) result (spec.text chars.now) }
+fn text_value(alloc: Global, text: &str) -> Result<Json, JsonFail>
+    ensures { Gives (λ v. v) result (spec.text (chars text.now)) }
 {
-    let (value, rest) = element(alloc, DEPTH, chars)?;
+    let (value, rest) = element(alloc, DEPTH, text)?;
     match first(rest) {
         Some(_) => Err(JsonFail::NotJson),
         None => Ok(value),
     }
-}
-
-fn characters(alloc: Global, text: &str) -> Result<Vec<char>, AllocError>
-    ensures { IfOk result (λ v. v.items ≡ chars text.now) }
-{
-    text.chars().collect(alloc)
 }
 
 /// The value that bytes are the text of.
@@ -262,16 +252,15 @@ fn characters(alloc: Global, text: &str) -> Result<Vec<char>, AllocError>
 ///
 /// `NotJson` where they spell no value, and `Memory` when out of memory.
 pub fn read(alloc: Global, bytes: &[u8]) -> Result<Json, JsonFail>
+    // What the characters spell is returned, unless out of memory.
+    ensures value { Gives (λ v. v) result (spec.value_in bytes.now) }
     // What is read is spelled so.
     ensures spelled { IfOk result (λ value. Spells bytes.now value) }
     // What is spelled so is read, unless out of memory.
     ensures only { (value : Json) → Spells bytes.now value → (result ≡ Ok value) ⊎ (result ≡ Err Memory) }
 {
     match str::from_utf8(bytes) {
-        Ok(text) => {
-            let chars = characters(alloc, text)?;
-            text_value(alloc, &chars)
-        }
+        Ok(text) => text_value(alloc, text),
         Err(_) => Err(JsonFail::NotJson),
     }
 }

@@ -1,40 +1,44 @@
 //! Single characters, white space and digits.
 
-ghost use Rattle.std.specs.Prelude.{◌≡◌, ◌<◌, ◌≤◌, ◌+◌, length, IfOk, IfSome, MatchOption, take, drop, ◌∷◌, [], Some, None};
+ghost use Rattle.std.specs.Prelude.{◌≡◌, ◌<◌, ◌≤◌, length, IfOk, IfSome, OnErr, Err, MatchOption, ◌∷◌, [], Some, None};
+ghost use Rattle.std.specs.Str.{chars};
 ghost use Rattle.ut_json.specs.Characters.{is_space, after_spaces, digits_at, after_digits};
+ghost use Rattle.ut_json.specs.declared.JsonFail.TheVariants.{Memory};
 ghost use Rattle.ut_json.specs.Reading as spec;
 ghost use Rattle.ut_json.specs.Outcomes.{Gives, Finds};
 
 use crate::JsonFail;
-use ut_value::is_digit;
+use std::alloc::Global;
+use ut_value::{Items, is_digit};
 
-/// The first character, and those behind it.
-pub fn first(chars: &[char]) -> Option<(char, &[char])>
-    ensures { MatchOption result (chars.now ≡ []) (λ p. chars.now ≡ p.0 ∷ p.1.now) }
+/// The first character, and the rest.
+pub fn first(text: &str) -> Option<(char, &str)>
+    ensures { MatchOption result (chars text.now ≡ []) (λ p. chars text.now ≡ p.0 ∷ chars p.1.now) }
 {
-    match chars.split_first() {
-        Some((c, rest)) => Some((*c, rest)),
+    let mut rest = text.chars();
+    match rest.next() {
+        Some(c) => Some((c, rest.as_str())),
         None => None,
     }
 }
 
-/// What stands behind this character, where it is the first.
-pub fn behind(chars: &[char], c: char) -> Option<&[char]>
-    ensures value { Finds (λ rest. rest.now) result (spec.behind c chars.now) }
-    ensures shorter { IfSome result (λ rest. length rest.now < length chars.now) }
+/// The rest, if the first character is this one.
+pub fn behind(text: &str, c: char) -> Option<&str>
+    ensures value { Finds (λ rest. chars rest.now) result (spec.behind c (chars text.now)) }
+    ensures shorter { IfSome result (λ rest. length (chars rest.now) < length (chars text.now)) }
 {
-    match first(chars) {
+    match first(text) {
         Some((x, rest)) => { if x == c { Some(rest) } else { None } }
         None => None,
     }
 }
 
-/// What stands behind this character, which has to be the first.
-pub fn skip(chars: &[char], c: char) -> Result<&[char], JsonFail>
-    ensures value { Gives (λ rest. rest.now) result (spec.behind c chars.now) }
-    ensures shorter { IfOk result (λ rest. length rest.now < length chars.now) }
+/// The rest after this character, which has to be the first.
+pub fn skip(text: &str, c: char) -> Result<&str, JsonFail>
+    ensures value { Gives (λ rest. chars rest.now) result (spec.behind c (chars text.now)) }
+    ensures shorter { IfOk result (λ rest. length (chars rest.now) < length (chars text.now)) }
 {
-    match behind(chars, c) {
+    match behind(text, c) {
         Some(rest) => Ok(rest),
         None => Err(JsonFail::NotJson),
     }
@@ -46,12 +50,12 @@ fn is_space(c: char) -> bool
     c == ' ' || c == '\t' || c == '\n' || c == '\r'
 }
 
-/// What stands behind the white space at the front.
-pub fn after_spaces(chars: &[char]) -> &[char]
-    ensures value { result.now ≡ after_spaces chars.now }
-    ensures shorter { length result.now ≤ length chars.now }
+/// The rest after the white space at the front.
+pub fn after_spaces(text: &str) -> &str
+    ensures value { chars result.now ≡ after_spaces (chars text.now) }
+    ensures shorter { length (chars result.now) ≤ length (chars text.now) }
 {
-    let mut rest = chars;
+    let mut rest = text;
     'spaces: while let Some((c, tail)) = first(rest) {
         if !is_space(c) {
             break;
@@ -61,30 +65,34 @@ pub fn after_spaces(chars: &[char]) -> &[char]
     rest
 }
 
-fn count_digits(chars: &[char]) -> usize
-    ensures within { result ≤ length chars.now }
-    ensures front { take result chars.now ≡ digits_at chars.now }
-    ensures back { drop result chars.now ≡ after_digits chars.now }
+// The digits at the front, and the rest.
+fn digits_at(alloc: Global, text: &str) -> Result<(Items<char>, &str), JsonFail>
+    ensures front { IfOk result (λ x. x.0 ≡ digits_at (chars text.now)) }
+    ensures back { IfOk result (λ x. chars x.1.now ≡ after_digits (chars text.now)) }
+    ensures fail { OnErr result (result ≡ Err Memory) }
 {
-    let mut count = 0;
-    'digits: for c in chars {
-        if !is_digit(*c) {
+    let mut front = Items::new(alloc);
+    let mut rest = text;
+    'digits: while let Some((c, tail)) = first(rest) {
+        if !is_digit(c) {
             break;
         }
-        count += 1;
+        front.push(c)?;
+        rest = tail;
     }
-    count
+    Ok((front, rest))
 }
 
-/// One digit or more, and what stands behind them.
+/// One digit or more, and the rest.
 #[tactic(auto, unfolding(crate::specs::Reading::digits))]
-pub fn digits(chars: &[char]) -> Result<(&[char], &[char]), JsonFail>
-    ensures value { Gives (λ x. (x.0.now, x.1.now)) result (spec.digits chars.now) }
-    ensures shorter { IfOk result (λ x. length x.1.now < length chars.now) }
+pub fn digits(alloc: Global, text: &str) -> Result<(Items<char>, &str), JsonFail>
+    ensures value { Gives (λ x. (x.0, chars x.1.now)) result (spec.digits (chars text.now)) }
+    ensures shorter { IfOk result (λ x. length (chars x.1.now) < length (chars text.now)) }
 {
-    let (front, rest) = chars.split_at(count_digits(chars));
-    match first(front) {
-        Some(_) => Ok((front, rest)),
-        None => Err(JsonFail::NotJson),
+    let (front, rest) = digits_at(alloc, text)?;
+    if front.is_empty() {
+        Err(JsonFail::NotJson)
+    } else {
+        Ok((front, rest))
     }
 }

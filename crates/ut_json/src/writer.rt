@@ -1,11 +1,11 @@
 //! The writer.
 
-ghost use Rattle.std.specs.Prelude.{◌≡◌, [], ◌∷◌, ◌++◌, OnOk, OnErr, encode_utf8_all};
+ghost use Rattle.std.specs.Prelude.{◌≡◌, [], ◌∷◌, ◌++◌, OnOk, OnErr, encode_utf8_all, length};
 ghost use Rattle.std.specs.Str.{chars};
 ghost use Rattle.ut_value.specs.Printing.{print_number};
 ghost use Rattle.ut_json.specs.Printing.{printed_text, printed_truth, printed_null, mark_of};
 
-use crate::printing::quoted_text;
+use crate::printing::push_quoted;
 use std::alloc::{AllocError, Global};
 use std::marker::Model;
 use ut_value::{Bytes, number_text};
@@ -103,12 +103,27 @@ impl Writer {
     }
 
     /// A string.
-    pub fn text(&mut self, alloc: Global, value: &str) -> Result<(), AllocError>
+    #[tactic(auto, using(crate::proofs::Plain::undone))]
+    pub fn text(&mut self, _alloc: Global, value: &str) -> Result<(), AllocError>
         ensures ok { OnOk result (self.new ≡ self.old ++ encode_utf8_all (printed_text (chars value.now))) }
         ensures err { OnErr result (self.new ≡ self.old) }
     {
-        let text = quoted_text(alloc, value)?;
-        self.append(text.as_str())
+        let start = self.len();
+        match push_quoted(&mut self.out, value) {
+            Ok(()) => Ok(()),
+            Err(fail) => {
+                self.out.truncate(start);
+                Err(fail)
+            }
+        }
+    }
+
+    /// A text that is JSON already, as it is.
+    pub fn raw(&mut self, _alloc: Global, json: &str) -> Result<(), AllocError>
+        ensures ok { OnOk result (self.new ≡ self.old ++ json.now) }
+        ensures err { OnErr result (self.new ≡ self.old) }
+    {
+        self.append(json)
     }
 
     /// One of the characters between values.
@@ -117,6 +132,13 @@ impl Writer {
         ensures err { OnErr result (self.new ≡ self.old) }
     {
         self.out.push(mark_of(mark))
+    }
+
+    /// How many bytes there are so far.
+    pub fn len(&self) -> usize
+        ensures { result ≡ length self.now }
+    {
+        self.out.as_bytes().len()
     }
 
     /// The bytes.

@@ -1,6 +1,6 @@
 -- One call after another.
-use Rattle.std.proofs.Common.{◌≡◌, inl, inr, ℕ, ◌+◌, ◌≤◌, length, Bool, true, false, IsTrue, true≢false, refl, sym, ap, ◌∙◌, arith}
-use Rattle.ut_keeper.specs.State.{KeeperState, Steps, Reads, data_table}
+use Rattle.std.proofs.Common.{◌≡◌, inl, inr, ℕ, ◌+◌, ◌≤◌, ◌==◌, length, Bool, true, false, cond, IsTrue, true≢false, refl, sym, ap, ◌∙◌, arith}
+use Rattle.ut_keeper.specs.State.{KeeperState, Steps, Reads, ShowsMost, data_rows, data_table}
 use Rattle.ut_keeper.specs.Laid.{laid, removals}
 use Rattle.ut_keeper.specs.Draft.{Held, tables_of, DraftReads, DraftWorks, DraftTells, rise}
 
@@ -36,8 +36,8 @@ reads_on s t u a b = record {
 }
 
 module _ {K : Type 0} (state : K → KeeperState) where
-  pub draft_same : (d : Held K) → DraftReads state 0 d d
-  draft_same d = record { same_reference = refl; changes = refl; reads = reads_same (state d.keeper.now); shows = λ _. omega arith }
+  pub draft_none : (most : ℕ) (d : Held K) → DraftReads state most d d
+  draft_none most d = record { same_reference = refl; changes = refl; reads = reads_same (state d.keeper.now); shows = λ _. omega arith }
 
   pub told_first : (most gone shown : ℕ) (a b c : Held K) → DraftWorks state most gone shown b c → DraftTells state a c → DraftTells state a b
   told_first most gone shown a b c r told = (told.0, r.reads.steps.stood told.1)
@@ -73,9 +73,19 @@ module _ {K : Type 0} (state : K → KeeperState) where
     shows = (draft_works 0 0 shown 0 0 later a b c (reads_work shown a b s) (reads_work later b c r)).shows;
   }
 
-  -- what two calls that read show is what the count rose by
-  pub draft_rise : (shown later : ℕ) (a b c : Held K) → DraftReads state shown a b → DraftReads state later b c → DraftReads state (rise state a c) a c
-  draft_rise shown later a b c s r = let both = draft_reads shown later a b c s r in record { same_reference = both.same_reference; changes = both.changes; reads = both.reads; shows = λ _. omega arith }
+  -- what a call that reads showed is what the count rose by
+  pub reads_rise : (shown : ℕ) (a b : Held K) → DraftReads state shown a b → DraftReads state (rise state a b) a b
+  reads_rise shown a b s = record { same_reference = s.same_reference; changes = s.changes; reads = s.reads; shows = λ _. omega arith }
+
+  -- the same of two calls that read rows of one table: if those aren't data rows, none is
+  pub rows_rise : (table shown later : ℕ) (a b c : Held K) → DraftReads state (data_rows table shown) a b → DraftReads state (data_rows table later) b c → DraftReads state (data_rows table (rise state a c)) a c
+  rows_rise table shown later a b c s r =
+      let both = draft_reads (data_rows table shown) (data_rows table later) a b c s r in
+      record { same_reference = both.same_reference; changes = both.changes; reads = both.reads; shows = λ told. by (data_table == table) (both.shows told) }
+    where
+      by : (is_data : Bool) → ShowsMost (cond is_data shown 0 + cond is_data later 0) (state a.keeper.now) (state c.keeper.now) → ShowsMost (cond is_data (rise state a c) 0) (state a.keeper.now) (state c.keeper.now)
+      by true h = omega arith
+      by false h = omega (arith, h)
 
   -- a larger bound, which may be known only where the keeper tells
   pub reads_most : (shown most : ℕ) (a b : Held K) → (DraftTells state a b → shown ≤ most) → DraftReads state shown a b → DraftReads state most a b
@@ -92,3 +102,13 @@ module _ {K : Type 0} (state : K → KeeperState) where
 
   pub reads_tables : (shown : ℕ) (a b : Held K) → DraftReads state shown a b → DraftTells state a b → tables_of state b ≡ tables_of state a
   reads_tables shown a b s told = ap (λ es. laid es (state b.keeper.now).tables) s.changes ∙ ap (laid a.changes.entries) (s.reads.same told).1
+
+  -- a keeper that told its tables over two calls that read told them over each, and the second reads what the first did
+  pub both_tell : (shown later : ℕ) (a b c : Held K) → DraftReads state shown a b → DraftReads state later b c → DraftTells state a c → DraftTells state a b × DraftTells state b c × (tables_of state b ≡ tables_of state a)
+  both_tell shown later a b c s r told =
+      let first : DraftTells state a b = (told.0, r.reads.steps.stood told.1) in
+      (first, ((s.reads.same first).0, told.1), reads_tables shown a b s first)
+
+  -- its premises can be met: a draft of which nothing is read
+  both_same : (d : Held K) → DraftTells state d d → DraftTells state d d × DraftTells state d d × (tables_of state d ≡ tables_of state d)
+  both_same d = both_tell 0 0 d d d (draft_none 0 d) (draft_none 0 d)

@@ -1,5 +1,5 @@
 -- A walk in pages.
-use Rattle.std.proofs.Common.{◌≡◌, ℕ, zero, suc, ◌-◌, ◌<◌, List, [], ◌∷◌, ◌++◌, length, take, drop, Some, None, refl, sym, ap, ◌∙◌, arith}
+use Rattle.std.proofs.Common.{◌≡◌, ℕ, zero, suc, ◌-◌, ◌<◌, List, [], ◌∷◌, ◌++◌, length, take, drop, Some, None, refl, sym, ap, ◌∙◌, append_assoc, arith}
 use Rattle.std.specs.List.{slice_get}
 use Rattle.std.proofs.lemmas.List.{take-append-drop}
 use Rattle.ut_keeper.specs.declared.keeper.KeptRow.{KeptRow}
@@ -24,6 +24,13 @@ page_step m t next below page rows last is at =
     let joined : rows ++ drop page all ≡ all = ap (λ l. l ++ drop page all) is ∙ take-append-drop page all in
     let apart : all ≡ parts.0 ++ last ∷ drop page all = sym joined ∙ ap (λ l. l ++ drop page all) parts.1 ∙ append_one parts.0 last (drop page all) in
     ap (λ l. rows ++ l) (page_rest m t next below parts.0 last (drop page all) apart) ∙ joined
+
+-- the rows that are read so far and those that are not are the same before a page and after it
+pub page_on : (m : Tables) (t : ℕ) (next below : List ℕ) (page : ℕ) (rows : List KeptRow) (last : KeptRow) (all more whole : List KeptRow) → rows ≡ take page (rows_between m t next below) → slice_get rows (length rows - 1) ≡ Some last
+    → more ≡ all ++ rows → all ++ rows_between m t next below ≡ whole → more ++ rows_between m t (last.key ++ 0 ∷ []) below ≡ whole
+page_on m t next below page rows last all more whole is at joined before =
+    let rest = rows_between m t (last.key ++ 0 ∷ []) below in
+    ap (λ l. l ++ rest) joined ∙ append_assoc all rows rest ∙ ap (λ l. all ++ l) (page_step m t next below page rows last is at) ∙ before
 
 -- an empty page is the end
 pub page_end : (m : Tables) (t : ℕ) (next below : List ℕ) (page : ℕ) (rows : List KeptRow) → 0 < page → rows ≡ take page (rows_between m t next below) → slice_get rows (length rows - 1) ≡ None → rows_between m t next below ≡ []

@@ -70,6 +70,10 @@ pub record KeeperCause (old new : KeeperState) (failed : Type 0) : Type 0 where
   pub rose : failed → Rose old.faults new.faults
   pub never : IsTrue old.never_fails → failed → ⊥
 
+-- the count of faults stays the same, unless the call failed
+abbrev pub Quiet : KeeperState → KeeperState → Type 0 → Type 0
+Quiet old new failed = (failed → ⊥) → new.faults ≡ old.faults
+
 -- the counts of rows shown, once so many more of this table were
 abbrev pub more_shown : ℕ → ℕ → (ℕ → ℕ) → ℕ → ℕ
 more_shown table zero shown = shown

@@ -2,7 +2,7 @@ ghost use Rattle.std.specs.Prelude.{◌≡◌, ◌⊎◌, ◌<◌, ◌≤◌, �
 ghost use Rattle.ut_keeper.specs.declared.keeper.KeepFail.TheVariants.{Failed};
 ghost use Rattle.ut_keeper.specs.declared.keeper.Change.TheVariants.{Put, Remove};
 ghost use Rattle.ut_keeper.specs.Tables.{Tables, row_at, rows_between, after, after_change};
-ghost use Rattle.ut_keeper.specs.State.{Steps, Tells, Shows, TrustedAfter, StaysAfter, IsSettled, KeeperCause, ShownMost, data_rows, seen, more_written};
+ghost use Rattle.ut_keeper.specs.State.{Steps, Tells, Shows, TrustedAfter, StaysAfter, IsSettled, KeeperCause, Quiet, ShownMost, data_rows, seen, more_written};
 ghost use Rattle.ut_keeper.specs.Laid.{laid};
 ghost use Rattle.ut_keeper.specs.inner.Changes.{change_of};
 
@@ -80,6 +80,7 @@ impl<'a, K: Keeper> Draft<'a, K> {
         ensures reads { DraftReads K.state (data_rows table 1) self.old self.new }
         ensures stays { StaysAfter (is_ok result) (state_of K.state self.old) (state_of K.state self.new) }
         ensures cause { KeeperCause (state_of K.state self.old) (state_of K.state self.new) (IsErrOf result Failed) }
+        ensures quiet { Quiet (state_of K.state self.old) (state_of K.state self.new) (IsErrOf result Failed) }
     {
         let place = Place::copied(alloc, table, key)?;
         match self.changes.get(&place) {
@@ -117,6 +118,7 @@ impl<'a, K: Keeper> Draft<'a, K> {
             self.old self.new }
         ensures trusted { TrustedAfter (is_ok result) (state_of K.state self.new) }
         ensures cause { KeeperCause (state_of K.state self.old) (state_of K.state self.new) (IsErrOf result Failed) }
+        ensures quiet { Quiet (state_of K.state self.old) (state_of K.state self.new) (IsErrOf result Failed) }
     {
         let held = held_in(alloc, &self.changes, table, from, below, limit)?;
         // A row that the draft takes away may use up the limit.
@@ -172,8 +174,8 @@ impl<'a, K: Keeper> Draft<'a, K> {
     ///
     /// # Errors
     ///
-    /// `Failed` if the keeper failed, `Memory` if out of memory. No change is then made; if the keeper ceased to stand
-    /// in this call, a crash may still leave all of them made.
+    /// `Failed` if the keeper failed, `Memory` if out of memory. No change is then made; if the keeper isn't trusted
+    /// after this call, a crash may still leave all of them made.
     pub fn commit(self, alloc: Global) -> Result<(), KeepFail>
         ensures applied { Tells (state_of K.state self.entry) (K.state self.exit.0.now)
             → OnOk result (Shows (K.state self.exit.0.now) (tables_of K.state self.entry)) }
@@ -196,6 +198,7 @@ impl<'a, K: Keeper> Draft<'a, K> {
         ensures settled { Tells (state_of K.state self.entry) (K.state self.exit.0.now)
             → IsSettled (K.state self.exit.0.now) }
         ensures cause { KeeperCause (state_of K.state self.entry) (K.state self.exit.0.now) (IsErrOf result Failed) }
+        ensures quiet { Quiet (state_of K.state self.entry) (K.state self.exit.0.now) (IsErrOf result Failed) }
     {
         let Draft { keeper, changes } = self;
         if changes.is_empty() {

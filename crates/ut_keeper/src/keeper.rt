@@ -2,7 +2,7 @@ ghost use Rattle.std.specs.Prelude.{◌≡◌, ◌⊎◌, ◌+◌, ◌≤◌, le
 ghost use Rattle.ut_keeper.specs.declared.keeper.KeepFail.TheVariants.{Failed, Memory};
 ghost use Rattle.ut_value.specs.Causes.{up_to_last};
 ghost use Rattle.ut_keeper.specs.Tables.{Tables, row_at, rows_between, after};
-ghost use Rattle.ut_keeper.specs.State.{KeeperState, Steps, LeavesNoMore, Tells, Shows, Reads, TrustedAfter, IsSettled, KeeperCause, more_shown, shown_by_get, shown_by_scan};
+ghost use Rattle.ut_keeper.specs.State.{KeeperState, Steps, LeavesNoMore, Tells, Shows, Reads, TrustedAfter, IsSettled, KeeperCause, Quiet, more_shown, shown_by_get, shown_by_scan};
 
 use std::alloc::{AllocError, Global};
 use std::error::Error;
@@ -77,8 +77,8 @@ pub struct Batch {
 /// What keeps the tables: a finite map from a table's number and a key to a row.
 ///
 /// Keys are ordered as bytes. A keeper says whether it tells its tables; if it doesn't, what it returns promises nothing
-/// of them. After an error the tables are what they were, so the call may be made again. `Failed` comes only if the
-/// count of faults rose in that call. Each count is a `u64` and saturates.
+/// of them. After an error the tables are what they were, so the call may be made again. The count of faults rises
+/// exactly in the calls that return `Failed`. Each count is a `u64` and saturates.
 ///
 /// `trusted` says that the keeper is still trusted. It only falls: once a keeper is trusted no more it tells nothing
 /// more, and its calls return errors, as long as it is clean.
@@ -97,7 +97,8 @@ pub trait Keeper {
         ensures shown { (state self.new).shown ≡ (state self.old).shown }
         ensures written { (state self.new).written ≡ (state self.old).written }
         ensures trusted { TrustedAfter (is_ok result) (state self.new) }
-        ensures cause { KeeperCause (state self.old) (state self.new) (IsErrOf result Failed) };
+        ensures cause { KeeperCause (state self.old) (state self.new) (IsErrOf result Failed) }
+        ensures quiet { Quiet (state self.old) (state self.new) (IsErrOf result Failed) };
 
     /// The row of a key, or `None` where there is none.
     ///
@@ -110,7 +111,8 @@ pub trait Keeper {
         ensures reads { Reads (state self.old) (state self.new) }
         ensures shown { (state self.new).shown ≡ more_shown table (shown_by_get result) (state self.old).shown }
         ensures trusted { TrustedAfter (is_ok result) (state self.new) }
-        ensures cause { KeeperCause (state self.old) (state self.new) (IsErrOf result Failed) };
+        ensures cause { KeeperCause (state self.old) (state self.new) (IsErrOf result Failed) }
+        ensures quiet { Quiet (state self.old) (state self.new) (IsErrOf result Failed) };
 
     /// The first `limit` rows with `from <= key < below`, in the order of their keys.
     ///
@@ -132,7 +134,8 @@ pub trait Keeper {
         ensures reads { Reads (state self.old) (state self.new) }
         ensures shown { (state self.new).shown ≡ more_shown table (shown_by_scan result) (state self.old).shown }
         ensures trusted { TrustedAfter (is_ok result) (state self.new) }
-        ensures cause { KeeperCause (state self.old) (state self.new) (IsErrOf result Failed) };
+        ensures cause { KeeperCause (state self.old) (state self.new) (IsErrOf result Failed) }
+        ensures quiet { Quiet (state self.old) (state self.new) (IsErrOf result Failed) };
 
     /// Makes all changes in their order, or none.
     ///
@@ -157,7 +160,8 @@ pub trait Keeper {
             ≡ (if is_ok result then up_to_last ((state self.old).written + length batch.now.changes.items)
             else (state self.old).written) }
         ensures trusted { TrustedAfter (is_ok result) (state self.new) }
-        ensures cause { KeeperCause (state self.old) (state self.new) (IsErrOf result Failed) };
+        ensures cause { KeeperCause (state self.old) (state self.new) (IsErrOf result Failed) }
+        ensures quiet { Quiet (state self.old) (state self.new) (IsErrOf result Failed) };
 
     // While a keeper tells and is trusted, a crash leaves its tables and nothing else.
     ghost settled: { (k : Self) → (state k).tells → IsTrue (state k).trusted → IsSettled (state k) };

@@ -6,7 +6,7 @@ ghost use Rattle.ut_keeper.specs.declared.keeper.KeptRow.{KeptRow};
 ghost use Rattle.ut_keeper.specs.Tables.{Tables, place_cmp, bytes_cmp, is_between, rows_between, IsListing};
 ghost use Rattle.ut_keeper.specs.Walks.{next_above};
 ghost use Rattle.ut_keeper.specs.Prefixes.{StartsWith, AreBytes, raised};
-ghost use Rattle.ut_keeper.specs.Draft.{Held, count_of, tables_of, removals_of, DraftTells, DraftReads, DraftWorks};
+ghost use Rattle.ut_keeper.specs.Draft.{Held, count_of, tables_of, removals_of, DraftTells, DraftReads, DraftWorks, rise};
 
 use crate::keeper::Keeper;
 
@@ -66,6 +66,11 @@ pub fn draft_laws<K: Keeper>()
     ensures told_then { (most gone shown : ℕ) (a b c : Held K) → DraftWorks K.state most gone shown a b
         → DraftTells K.state a b → DraftTells K.state a c → DraftTells K.state b c }
 
+    // The same of two calls that read, the second of which reads what the first did.
+    ensures both { (shown later : ℕ) (a b c : Held K) → DraftReads K.state shown a b → DraftReads K.state later b c
+        → DraftTells K.state a c
+        → DraftTells K.state a b × DraftTells K.state b c × (tables_of K.state b ≡ tables_of K.state a) }
+
     // A draft removes at most as many rows as it changes places.
     ensures removals { (table : ℕ) (a : Held K) → removals_of K.state table a ≤ count_of a }
 
@@ -78,11 +83,14 @@ pub fn draft_laws<K: Keeper>()
         → DraftWorks K.state more taken later b c
         → DraftWorks K.state (most + more) (gone + taken) (shown + later) a c }
 
-    // A call that reads is one that works; its bound may be larger, or be known only if the keeper tells.
+    // A call that reads is one that works; its bound may be larger, or be known only if the keeper tells, or be what
+    // the count rose by.
     ensures reads_work { (shown : ℕ) (a b : Held K)
         → DraftReads K.state shown a b → DraftWorks K.state 0 0 shown a b }
     ensures reads_most { (shown most : ℕ) (a b : Held K) → (DraftTells K.state a b → shown ≤ most)
         → DraftReads K.state shown a b → DraftReads K.state most a b }
+    ensures rise { (shown : ℕ) (a b : Held K)
+        → DraftReads K.state shown a b → DraftReads K.state (rise K.state a b) a b }
     ensures works_most { (most gone shown more taken larger : ℕ) (a b : Held K)
         → most ≤ more → gone ≤ taken → (DraftTells K.state a b → shown ≤ larger)
         → DraftWorks K.state most gone shown a b → DraftWorks K.state more taken larger a b }

@@ -2,7 +2,7 @@ ghost use Rattle.std.specs.Prelude.{◌≡◌, ◌⊎◌, ◌≤◌, ◌+◌, �
 ghost use Rattle.ut_value.specs.Causes.{up_to_last};
 ghost use Rattle.ut_keeper.specs.declared.keeper.KeepFail.TheVariants.{Failed};
 ghost use Rattle.ut_keeper.specs.Tables.{Tables, no_rows, row_at, rows_between, after};
-ghost use Rattle.ut_keeper.specs.State.{Steps, LeavesNoMore, Tells, Shows, Reads, TrustedAfter, KeeperCause, more_shown, shown_by_get, shown_by_scan};
+ghost use Rattle.ut_keeper.specs.State.{Steps, LeavesNoMore, Tells, Shows, Reads, TrustedAfter, KeeperCause, Quiet, more_shown, shown_by_get, shown_by_scan};
 ghost use Rattle.ut_keeper.specs.Memory.{memory_state, is_listed, FailsByNumber};
 
 use crate::changes::change_all;
@@ -17,8 +17,8 @@ use ut_value::Bytes;
 
 /// The tables in memory, with a list of the calls that fail.
 ///
-/// It always tells its tables, and a crash leaves just these. `get` takes time by the logarithm of the number of rows,
-/// `scan` also by the rows that it returns.
+/// It always tells its tables, and a crash leaves just these: over memory a crash is none of the process, whose end loses
+/// all tables. `get` takes time by the logarithm of the number of rows, `scan` also by the rows that it returns.
 #[derive(Debug, Drop)]
 pub struct MemoryKeeper {
     rows: Rows,
@@ -122,6 +122,7 @@ impl Keeper for MemoryKeeper {
         ensures written { (memory_state self.new).written ≡ (memory_state self.old).written }
         ensures trusted { TrustedAfter (is_ok result) (memory_state self.new) }
         ensures cause { KeeperCause (memory_state self.old) (memory_state self.new) (IsErrOf result Failed) }
+        ensures quiet { Quiet (memory_state self.old) (memory_state self.new) (IsErrOf result Failed) }
         ensures numbered { FailsByNumber self.old self.new (IsErrOf result Failed) }
     {
         if self.fails() {
@@ -138,6 +139,7 @@ impl Keeper for MemoryKeeper {
             ≡ more_shown table (shown_by_get result) (memory_state self.old).shown }
         ensures trusted { TrustedAfter (is_ok result) (memory_state self.new) }
         ensures cause { KeeperCause (memory_state self.old) (memory_state self.new) (IsErrOf result Failed) }
+        ensures quiet { Quiet (memory_state self.old) (memory_state self.new) (IsErrOf result Failed) }
         ensures numbered { FailsByNumber self.old self.new (IsErrOf result Failed) }
     {
         if self.fails() {
@@ -169,6 +171,7 @@ impl Keeper for MemoryKeeper {
             ≡ more_shown table (shown_by_scan result) (memory_state self.old).shown }
         ensures trusted { TrustedAfter (is_ok result) (memory_state self.new) }
         ensures cause { KeeperCause (memory_state self.old) (memory_state self.new) (IsErrOf result Failed) }
+        ensures quiet { Quiet (memory_state self.old) (memory_state self.new) (IsErrOf result Failed) }
         ensures numbered { FailsByNumber self.old self.new (IsErrOf result Failed) }
     {
         if self.fails() {
@@ -196,6 +199,7 @@ impl Keeper for MemoryKeeper {
             else (memory_state self.old).written) }
         ensures trusted { TrustedAfter (is_ok result) (memory_state self.new) }
         ensures cause { KeeperCause (memory_state self.old) (memory_state self.new) (IsErrOf result Failed) }
+        ensures quiet { Quiet (memory_state self.old) (memory_state self.new) (IsErrOf result Failed) }
         ensures numbered { FailsByNumber self.old self.new (IsErrOf result Failed) }
     {
         if self.fails() {

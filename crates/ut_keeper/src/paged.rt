@@ -1,7 +1,7 @@
 ghost use Rattle.std.specs.Prelude.{◌≡◌, ◌<◌, ◌++◌, IfOk, OnOk, IsErrOf, is_ok};
 ghost use Rattle.ut_keeper.specs.declared.keeper.KeepFail.TheVariants.{Failed};
 ghost use Rattle.ut_keeper.specs.Tables.{rows_between};
-ghost use Rattle.ut_keeper.specs.State.{KeeperCause, StaysAfter};
+ghost use Rattle.ut_keeper.specs.State.{KeeperCause, Quiet, StaysAfter, data_rows};
 ghost use Rattle.ut_keeper.specs.Walks.{next_above};
 ghost use Rattle.ut_keeper.specs.Draft.{state_of, tables_of, DraftTells, DraftReads, rise};
 
@@ -46,9 +46,10 @@ pub fn all_rows<K: Keeper>(
     requires { 0 < page }
     ensures rows { DraftTells K.state draft.old draft.new
         → IfOk result (λ rows. rows.items ≡ rows_between (tables_of K.state draft.old) table from.now below.now) }
-    ensures reads { DraftReads K.state (rise K.state draft.old draft.new) draft.old draft.new }
+    ensures reads { DraftReads K.state (data_rows table (rise K.state draft.old draft.new)) draft.old draft.new }
     ensures stays { StaysAfter (is_ok result) (state_of K.state draft.old) (state_of K.state draft.new) }
     ensures cause { KeeperCause (state_of K.state draft.old) (state_of K.state draft.new) (IsErrOf result Failed) }
+    ensures quiet { Quiet (state_of K.state draft.old) (state_of K.state draft.new) (IsErrOf result Failed) }
 {
     let mut all = Vec::new(alloc);
     let mut next = Bytes::from_slice(alloc, from)?;

@@ -51,4 +51,4 @@ pub use crate::unique::UniqueRow;
 pub use crate::user::UserRow;
 pub use crate::validation::ValidationRow;
 pub use crate::version::VersionRow;
-pub use ut_parts::{CodecFail, FieldFlags, Mark, Part, Slots, spelling_of};
+pub use ut_parts::{CodecFail, FieldFlags, Mark, ObjectAccess, Part, Slots, spelling_of};

@@ -3,8 +3,8 @@ ghost use Rattle.ut_keys.specs.Rows.{object_form};
 
 use crate::form::RowForm;
 use std::alloc::{AllocError, Global};
-use ut_parts::{CodecFail, Part, both_of};
-use ut_value::{Access, Text};
+use ut_parts::{CodecFail, ObjectAccess, Part, both_of};
+use ut_value::Text;
 
 /// A row of table 2: an object of an organisation, with its counts.
 #[derive(Debug, Drop)]
@@ -15,8 +15,8 @@ pub struct ObjectRow {
     pub object: u16,
     /// Its name.
     pub name: Text,
-    /// What every user may do with its records.
-    pub access: Access,
+    /// What every user may do with its records, and whether the hierarchy of roles counts.
+    pub access: ObjectAccess,
     /// How many records it has.
     pub records: u32,
     /// How many fields.
@@ -50,7 +50,9 @@ impl RowForm for ObjectRow {
     }
 
     fn of_parts(alloc: Global, key: &[u8], row: &[u8]) -> Result<ObjectRow, CodecFail> {
-        let (key, rest) = both_of::<Self::Key, (Text, (Access, (u32, (u8, u8))))>(alloc, key, row)?;
+        let (key, rest) = both_of::<Self::Key, (Text, (ObjectAccess, (u32, (u8, u8))))>(
+            alloc, key, row,
+        )?;
         let (org, object) = key;
         let (name, (access, (records, (fields, validation_rules)))) = rest;
         Ok(ObjectRow {

@@ -67,7 +67,7 @@ pub fn rows_under<R: RowForm + Drop, P: Part, K: Keeper>(
     requires page { 0 < page }
     ensures rows { DraftTells K.state draft.old draft.new
         → ListsAs R.form (all_under (tables_of K.state draft.old) R.form.table (P.spell prefix.now)) result }
-    ensures reads { DraftReads K.state (rise K.state draft.old draft.new) draft.old draft.new }
+    ensures reads { DraftReads K.state (data_rows R.form.table (rise K.state draft.old draft.new)) draft.old draft.new }
     ensures stays { StaysAfter (is_ok result) (state_of K.state draft.old) (state_of K.state draft.new) }
     ensures cause { KeeperCause (state_of K.state draft.old) (state_of K.state draft.new) (IsErrOf result Keeper) }
 {

@@ -4,8 +4,8 @@ use std::alloc::{AllocError, Global};
 use std::fmt::Debug;
 use std::process::Abort;
 use ut_keys::{CodecFail, FieldFlags, Part};
-use ut_parts::whole_of;
-use ut_value::{Access, FieldType, Items, Level, OnDelete, Outcome, Phase, RuleState, Text};
+use ut_parts::{ObjectAccess, whole_of};
+use ut_value::{FieldType, Items, Level, OnDelete, Outcome, Phase, RuleState, Text};
 
 const REFUSED: &str = "Err(Damaged)";
 
@@ -31,15 +31,27 @@ fn check_names<P: Part + Debug + Drop>(
     Ok(())
 }
 
+// Each byte from 0 on is read as an access and whether the hierarchy of roles counts, and no other byte is.
+fn check_accesses(rt: &impl Abort, alloc: Global) -> Result<(), AllocError> {
+    let names =
+        "Private true,Read true,ReadWrite true,ControlledByParent true,Private false,Read false,ReadWrite false";
+    let mut names = names.split(',');
+    for byte in 0..=255u8 {
+        let found = match whole_of::<ObjectAccess>(alloc, &[byte]) {
+            Ok(found) => format!(in alloc; "{:?} {}", found.access, found.hierarchy)?,
+            Err(fail) => format!(in alloc; "Err({fail:?})")?,
+        };
+        let wanted = names.next().unwrap_or(REFUSED);
+        assert!(rt; found.as_str() == wanted, "at {byte}: {found}");
+    }
+    assert!(rt; names.next().is_none());
+    Ok(())
+}
+
 #[test]
 fn reads_names(rt: HostRuntime) -> Result<(), AllocError> {
     let alloc = rt.alloc();
-    check_names::<Access>(
-        &rt,
-        alloc,
-        0,
-        "Ok(Private),Ok(Read),Ok(ReadWrite),Ok(ControlledByParent)",
-    )?;
+    check_accesses(&rt, alloc)?;
     check_names::<Level>(&rt, alloc, 1, "Ok(Read),Ok(Edit)")?;
     check_names::<OnDelete>(&rt, alloc, 0, "Ok(Clear),Ok(Restrict)")?;
     check_names::<bool>(&rt, alloc, 0, "Ok(false),Ok(true)")?;

@@ -63,7 +63,8 @@ fn reads_an_object(rt: HostRuntime) -> Result<(), Fail> {
     assert!(rt; row.org == ORG);
     assert!(rt; row.object == 0x1234);
     assert!(rt; row.name.as_str() == "Invoice__c");
-    assert!(rt; row.access == Access::ControlledByParent);
+    assert!(rt; row.access.access == Access::ControlledByParent);
+    assert!(rt; row.access.hierarchy);
     assert!(rt; row.records == 0x000A_0B0C);
     assert!(rt; row.fields == 13);
     assert!(rt; row.validation_rules == 14);

@@ -21,7 +21,7 @@ use Rattle.ut_model.specs.Verdict.{Verdict, accept, done, unless}
 use Rattle.ut_model.specs.World.{World, tenant_at}
 use Rattle.ut_stands.specs.Changes.{with_changes}
 use Rattle.ut_stands.specs.Layouts.{FindsBy, layout_named, layout_of, object_row}
-use Rattle.ut_stands.specs.Metadata.{object_of}
+use Rattle.ut_stands.specs.Metadata.{access_of, object_of}
 use Rattle.ut_stands.specs.Operations.{EditsIn}
 use Rattle.ut_stands.specs.Plan.{FitsPlan, OrgPlan, Plan}
 use Rattle.ut_stands.specs.Records.{is_object_key}
@@ -123,7 +123,7 @@ row_there org p w t name row h at none = row_missing org t name h.numbered p w a
 pub access_done : EditedStands → AccessRows → DescribedFits → ObjectFits → AccessSound
     → (m after : Tables) (w : World) (org : ℕ) (t : Tenant) (name : List ℕ) (access : Access) (found : Option ObjectRow) (row : ObjectRow) (p : Plan)
     → org < 2 ^ 32 → StandsBy p m w → IsSound t → tenant_at w org ≡ Some t → by_parent access ≡ false → None ≡ refusal_of (set_access t name access)
-    → HasRow org p w t name found → found ≡ Some row → after ≡ with_changes (change_to object_form (record row { access = access }) ∷ []) m
+    → HasRow org p w t name found → found ≡ Some row → after ≡ with_changes (change_to object_form (record row { access = access_of access }) ∷ []) m
     → EditsIn org (set_access t name access) w after (Ok tt)
 access_done edited rows described fits sound m after w org t name access found row p small s sound_t at by_master free h some made =
     let o = h.numbered in
@@ -140,7 +140,7 @@ access_done edited rows described fits sound m after w org t name access found r
     let next : ObjectRow = object_of org u n x in
     let row_is : row ≡ object_of org t n o.object = some_row row (object_of org t n o.object) (sym some ∙ h.is ∙ there_is org n p w t o.object at at_n) in
     let put_is : after ≡ with_changes (change_to object_form next ∷ []) m =
-    made ∙ ap (λ (r : ObjectRow). with_changes (change_to object_form (record r { access = access }) ∷ []) m) row_is in
+    made ∙ ap (λ (r : ObjectRow). with_changes (change_to object_form (record r { access = access_of access }) ∷ []) m) row_is in
     edit_done edited p m after w org t u q v (change_to object_form next ∷ []) s at is sound_v
     (described q t n (λ x. record x { access = access }) (s.plans org t at) (λ x. refl))
     (put_is_of object_form org q u next (fits org u n x small sound_u at_u) refl (own_row q u org n x at_u), tt)

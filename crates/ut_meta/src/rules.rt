@@ -8,17 +8,6 @@ use std::alloc::{AllocError, Global};
 use ut_model::{Limit, Refusal};
 use ut_value::Text;
 
-/// A copy of a text.
-///
-/// # Errors
-///
-/// When out of memory.
-pub fn copy_of(alloc: Global, text: &Text) -> Result<Text, AllocError>
-    ensures { IfOk result (λ copy. copy ≡ text.now) }
-{
-    Text::from_str(alloc, text.as_str())
-}
-
 /// That the name isn't of its form, if it isn't good.
 ///
 /// # Errors
@@ -31,7 +20,7 @@ pub fn bad_name(alloc: Global, is_good: bool, name: &Text) -> Result<Option<Refu
         return Ok(None);
     }
     Ok(Some(Refusal::InvalidName {
-        name: copy_of(alloc, name)?,
+        name: name.copy(alloc)?,
     }))
 }
 
@@ -47,7 +36,7 @@ pub fn name_taken(alloc: Global, is_taken: bool, name: &Text) -> Result<Option<R
         return Ok(None);
     }
     Ok(Some(Refusal::NameTaken {
-        name: copy_of(alloc, name)?,
+        name: name.copy(alloc)?,
     }))
 }
 
@@ -60,7 +49,7 @@ pub fn invalid_type(alloc: Global, name: &Text) -> Result<Refusal, AllocError>
     ensures { IfOk result (λ refusal. refusal ≡ InvalidType name.now) }
 {
     Ok(Refusal::InvalidType {
-        name: copy_of(alloc, name)?,
+        name: name.copy(alloc)?,
     })
 }
 

@@ -11,3 +11,9 @@ mod Computing
 mod Within
 mod Requesting
 mod Alone
+mod Elements
+mod Places
+mod Administering
+mod Rising
+mod JobUsers
+mod Refusing

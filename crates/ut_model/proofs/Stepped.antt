@@ -33,14 +33,14 @@ same_put (u ∷ w) (suc zero) t e = ap (λ x. x ∷ w) (sym (some_eq u t e))
 same_put (u ∷ w) (suc (suc n)) t e = ap (λ x. u ∷ x) (same_put w (suc n) t e)
 
 -- it is found at its place
-put_found : (w : World) (n : ℕ) (t u : Tenant) → tenant_at w n ≡ Some u → tenant_at (with_tenant w n t) n ≡ Some t
+pub put_found : (w : World) (n : ℕ) (t u : Tenant) → tenant_at w n ≡ Some u → tenant_at (with_tenant w n t) n ≡ Some t
 put_found w zero t u e = absurd cc
 put_found [] (suc n) t u e = absurd cc
 put_found (x ∷ w) (suc zero) t u e = refl
 put_found (x ∷ w) (suc (suc n)) t u e = put_found w (suc n) t u e
 
 -- and the others at theirs
-put_other : (w : World) (n m : ℕ) (t : Tenant) → (n ≡ m → ⊥) → tenant_at (with_tenant w n t) m ≡ tenant_at w m
+pub put_other : (w : World) (n m : ℕ) (t : Tenant) → (n ≡ m → ⊥) → tenant_at (with_tenant w n t) m ≡ tenant_at w m
 put_other w zero m t apart = refl
 put_other [] (suc n) m t apart = refl
 put_other (x ∷ w) (suc zero) zero t apart = refl
@@ -49,6 +49,13 @@ put_other (x ∷ w) (suc zero) (suc (suc m)) t apart = refl
 put_other (x ∷ w) (suc (suc n)) zero t apart = refl
 put_other (x ∷ w) (suc (suc n)) (suc zero) t apart = refl
 put_other (x ∷ w) (suc (suc n)) (suc (suc m)) t apart = put_other w (suc n) (suc m) t (λ e. apart (ap suc e))
+
+-- of two that are put there the second counts
+pub put_twice : (w : World) (n : ℕ) (t u : Tenant) → with_tenant (with_tenant w n t) n u ≡ with_tenant w n u
+put_twice w zero t u = refl
+put_twice [] (suc n) t u = refl
+put_twice (x ∷ w) (suc zero) t u = refl
+put_twice (x ∷ w) (suc (suc n)) t u = ap (λ v. x ∷ v) (put_twice w (suc n) t u)
 
 -- ---- who is found
 

@@ -17,7 +17,7 @@ use Rattle.ut_model.specs.Keys.{Key, bad_fields, with_key}
 use Rattle.ut_model.specs.Objects.{Numbered, record_prefix, records_of}
 use Rattle.ut_model.specs.Ordered.{put_in}
 use Rattle.ut_model.specs.Paths.{Asked}
-use Rattle.ut_model.specs.Relationships.{master_reference, named_record}
+use Rattle.ut_model.specs.Relationships.{master_in, named_record}
 use Rattle.ut_model.specs.Rights.{denied}
 use Rattle.ut_model.specs.Rules.{Rule, over_limit}
 use Rattle.ut_model.specs.Tenant.{Tenant}
@@ -41,7 +41,7 @@ with_record r t = record t { records = put_in (λ a b. slice_cmp nat_cmp a.id b.
 -- who makes a detail needs Edit on its master
 abbrev pub master_denied : Asked → Numbered → Record → Rule
 master_denied a o new =
-    in_case (master_reference a.tenant o.number) None (λ f. in_case (named_record a.tenant f new) None (denied a Edit))
+    in_case (master_in a.tenant.objects o.number) None (λ f. in_case (named_record a.tenant f new) None (denied a Edit))
 
 -- the rules of a create, for the record that it would make
 abbrev pub create_rules : Asked → Numbered → Option Key → List Assignment → (new : Record) → List Rule

@@ -1,6 +1,6 @@
 -- Deletion of a record: what goes with it, and what becomes of records that refer to it.
 -- Source: Salesforce, "Object Relationships Overview": details go with their master; a lookup is cleared, or restricts. That a
--- deletion changes at most 1,000 records is this product's own.
+-- deletion changes only so many records is this product's own.
 use Rattle.std.specs.Prelude.{ℕ, zero, suc, ◌+◌, Bool, true, false, not, ◌&&◌, ◌==◌, nat_lt, if◌then◌else◌, List, [], ◌∷◌, ◌++◌, map, filter, length, bytes_eq, ℤ}
 use Rattle.std.specs.List.{enumerate_from, list_any}
 use Rattle.ut_value.specs.declared.sharing.Level.TheVariants.{Full}
@@ -13,10 +13,10 @@ use Rattle.ut_model.specs.declared.limit.Limit.TheVariants as limit
 use Rattle.ut_model.specs.declared.record.Record.{Record}
 use Rattle.ut_model.specs.declared.refusal.Refusal.TheVariants.{CascadeTooLarge, DeleteFailed}
 use Rattle.ut_model.specs.Cases.{in_case}
-use Rattle.ut_model.specs.Limits.{limit_number}
+use Rattle.ut_model.specs.Limits.{deletion_limit, limit_number}
 use Rattle.ut_model.specs.Objects.{is_of, object_at, object_number}
 use Rattle.ut_model.specs.Paths.{Asked}
-use Rattle.ut_model.specs.Relationships.{Reference, master_reference, named_id, references}
+use Rattle.ut_model.specs.Relationships.{Reference, master_in, named_id, references}
 use Rattle.ut_model.specs.Rights.{with_named}
 use Rattle.ut_model.specs.Rules.{Rule, refuse_if, first_of}
 use Rattle.ut_model.specs.Tenant.{Tenant}
@@ -34,7 +34,7 @@ names_one_of rs f r = in_case (named_id f r) false (has_id rs)
 
 -- the details whose masters are among these
 abbrev pub details_of : Tenant → List Record → List Record
-details_of t rs = filter (λ r. in_case (master_reference t (object_number r.id)) false (λ f. names_one_of rs f r)) t.records
+details_of t rs = filter (λ r. in_case (master_in t.objects (object_number r.id)) false (λ f. names_one_of rs f r)) t.records
 
 -- these, their details, the details of these, and so on through so many levels
 abbrev pub with_details : ℕ → Tenant → List Record → List Record
@@ -78,9 +78,9 @@ lost t gone r = filter (λ f. is_cleared f.field.kind && refers gone f r) (refer
 abbrev pub loses : Tenant → (gone : List Record) → Record → Bool
 loses t gone r = list_any (λ f. is_cleared f.field.kind && refers gone f r) (references t.objects)
 
--- CASCADE_TOO_LARGE: records deleted and records cleared are over 1,000 together
+-- CASCADE_TOO_LARGE: records deleted and records cleared are too many together
 abbrev pub too_many : Tenant → (gone : List Record) → Rule
-too_many t gone = refuse_if (nat_lt 1000 (length gone + length (filter (loses t gone) t.records))) CascadeTooLarge
+too_many t gone = refuse_if (nat_lt deletion_limit (length gone + length (filter (loses t gone) t.records))) CascadeTooLarge
 
 -- ---- delete
 

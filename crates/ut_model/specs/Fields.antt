@@ -4,6 +4,7 @@
 use Rattle.std.specs.Prelude.{ℕ, Bool, true, false, if◌then◌else◌, List, [], ◌∷◌, ◌++◌, map, bytes_eq, codes, Option, Some, None}
 use Rattle.std.specs.List.{enumerate_from, find, list_any}
 use Rattle.ut_value.specs.Texts.{lower}
+pub use Rattle.ut_value.specs.Values.{ref_of}
 use Rattle.ut_value.specs.declared.sharing.Access.{Access}
 use Rattle.ut_value.specs.declared.sharing.Access.TheVariants as access
 use Rattle.ut_value.specs.declared.value.FieldType.{FieldType}
@@ -12,6 +13,7 @@ use Rattle.ut_value.specs.declared.value.Value.{Value}
 use Rattle.ut_value.specs.declared.value.Value.TheVariants as value
 use Rattle.ut_formula.specs.Meaning.{value_at}
 use Rattle.ut_model.specs.declared.record.Record.{Record}
+use Rattle.ut_model.specs.Limits.{name_limit}
 use Rattle.ut_model.specs.Tenant.{Field, Object}
 
 -- one name, whatever the case of its ASCII letters
@@ -45,11 +47,6 @@ is_null _ = false
 abbrev pub as_ref : Option (List ℕ) → Value
 as_ref None = value.Null
 as_ref (Some id) = value.Ref id
-
--- the id that a reference names
-abbrev pub ref_of : Value → Option (List ℕ)
-ref_of (value.Ref id) = Some id
-ref_of _ = None
 
 -- where a record has a value: among its values the name's is at position 0, and those of the custom fields follow
 pub data Where : Type 0 where
@@ -86,7 +83,7 @@ column name kind at = record { name = name; kind = kind; at = at }
 
 -- `Name`: a text of at most 80 characters
 abbrev pub name_column : Column
-name_column = column (codes "Name") (typed (type.Text 80)) (its_value 0)
+name_column = column (codes "Name") (typed (type.Text name_limit)) (its_value 0)
 
 -- `OwnerId`, which a detail doesn't have
 abbrev pub owner_column : Column

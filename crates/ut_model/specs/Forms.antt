@@ -1,5 +1,5 @@
 -- The forms of the bodies, each with the request that it makes. They are this product's own.
-use Rattle.std.specs.Prelude.{ℕ, Bool, true, false, not, ◌&&◌, ◌||◌, List, [], ◌∷◌, bytes_eq, codes, if◌then◌else◌, Option, Some, None, is_some, is_none}
+use Rattle.std.specs.Prelude.{ℕ, Bool, not, ◌&&◌, List, [], ◌∷◌, bytes_eq, codes, if◌then◌else◌, Option, Some, None, is_some, is_none}
 use Rattle.std.specs.Bool.{beq}
 use Rattle.std.specs.List.{flat_map}
 use Rattle.std.specs.Option.{option_map}
@@ -7,17 +7,17 @@ use Rattle.ut_json.specs.Reading.{◌>>=◌}
 use Rattle.ut_value.specs.Types.{suits_unique, suits_indexed}
 use Rattle.ut_value.specs.declared.sharing.Access.{Access}
 use Rattle.ut_value.specs.declared.sharing.Access.TheVariants as access
-use Rattle.ut_value.specs.declared.value.OnDelete.{OnDelete}
-use Rattle.ut_value.specs.declared.value.OnDelete.TheVariants as on_delete
 use Rattle.ut_model.specs.Cases.{in_case}
 use Rattle.ut_model.specs.Fields.{by_parent}
 use Rattle.ut_model.specs.Members.{Body, as_text, entry, flag_in, formed, levels, member_names, object_in, principal_in, text_in}
 use Rattle.ut_model.specs.declared.metadata_bodies.NewMaster.{NewMaster}
 use Rattle.ut_model.specs.declared.metadata_bodies.SpelledType.{SpelledType}
-use Rattle.ut_model.specs.declared.metadata_bodies.SpelledType.TheVariants.{Plain, LookupTo}
+use Rattle.ut_model.specs.NewFields.{type_with}
 use Rattle.ut_model.specs.Requests.{Request, adds_field, adds_object, adds_sharing_rule, adds_validation_rule, sets_object, shares}
-use Rattle.ut_model.specs.SharingRules.{SpelledSource, from, by_formula}
+use Rattle.ut_model.specs.declared.sharing_bodies.SpelledSource.TheVariants.{Owner, Criteria}
+use Rattle.ut_model.specs.SharingRules.{SpelledSource}
 use Rattle.ut_model.specs.Sound.{is_name}
+use Rattle.ut_model.specs.SoundMetadata.{implies, may_be_required}
 use Rattle.ut_model.specs.TypeForms.{type_in, where_so}
 
 -- ---- shares
@@ -72,14 +72,11 @@ access_request object body =
 
 -- ---- fields
 
-abbrev pub is_clear : OnDelete → Bool
-is_clear on_delete.Clear = true
-is_clear on_delete.Restrict = false
-
--- flags suit the type: `required` all but a lookup that is cleared
+-- flags suit the type, whatever object a lookup names
 abbrev pub flags_suit : SpelledType → (required unique indexed : Bool) → Bool
-flags_suit (Plain kind) required unique indexed = (not unique || suits_unique kind) && (not indexed || suits_indexed kind)
-flags_suit (LookupTo object o child) required unique indexed = not (unique || (indexed || (required && is_clear o)))
+flags_suit kind required unique indexed =
+    let k = type_with None kind in
+    implies required (may_be_required k) && (implies unique (suits_unique k) && implies indexed (suits_indexed k))
 
 abbrev pub field_request : Body → Option Request
 field_request body =
@@ -113,13 +110,13 @@ validation_request body =
     text_in b (codes "formula") >>= λ formula.
     text_in b (codes "message") >>= λ message.
     where_so (is_name message)
-    (adds_validation_rule (record { object = object; rule = record { name = name; formula = formula; message = message } }))
+    (adds_validation_rule (record { object = object; name = name; formula = formula; message = message }))
 
 -- just one of `from` and `formula`
 abbrev pub source_in : Body → Option SpelledSource
 source_in b =
-    in_case (entry b (codes "from")) (option_map by_formula (text_in b (codes "formula"))) (λ v.
-    if is_none (entry b (codes "formula")) then option_map from (as_text v >>= principal_in) else None)
+    in_case (entry b (codes "from")) (option_map Criteria (text_in b (codes "formula"))) (λ v.
+    if is_none (entry b (codes "formula")) then option_map Owner (as_text v >>= principal_in) else None)
 
 abbrev pub sharing_rule_request : Body → Option Request
 sharing_rule_request body =

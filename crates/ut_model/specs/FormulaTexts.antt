@@ -8,6 +8,7 @@ use Rattle.ut_value.specs.declared.value.FieldType.TheVariants as type
 use Rattle.ut_formula.specs.declared.formula.Formula.{Formula}
 use Rattle.ut_formula.specs.declared.formula.NamedField.{NamedField}
 use Rattle.ut_formula_grammar.specs.Spelling.{formula_in, place_in}
+use Rattle.ut_model.specs.Limits.{name_limit}
 use Rattle.ut_model.specs.Tenant.{Field, Object}
 
 -- ---- fields
@@ -16,7 +17,7 @@ as_named f = record { name = f.name; kind = f.kind }
 
 -- `Name`: a text of at most 80 characters
 abbrev pub name_field : NamedField
-name_field = record { name = codes "Name"; kind = type.Text 80 }
+name_field = record { name = codes "Name"; kind = type.Text name_limit }
 
 -- the fields that a formula over an object may name, in the order of a record's values: `Name`, then the custom fields
 abbrev pub formula_fields : List Field → List NamedField

@@ -18,6 +18,9 @@ use Rattle.ut_value.specs.declared.value.Value.{Value}
 use Rattle.ut_value.specs.declared.value.Value.TheVariants as value
 use Rattle.ut_formula.specs.Meaning.{value_at}
 use Rattle.ut_model.specs.declared.record.Record.{Record}
+pub use Rattle.ut_model.specs.declared.record_bodies.Assignment.{Assignment}
+pub use Rattle.ut_model.specs.declared.record_bodies.Given.{Given}
+use Rattle.ut_model.specs.declared.record_bodies.Given.TheVariants as gives
 use Rattle.ut_model.specs.declared.refusal.Refusal.{Refusal}
 use Rattle.ut_model.specs.declared.refusal.Refusal.TheVariants as refusal
 use Rattle.ut_model.specs.Cases.{in_case}
@@ -25,18 +28,6 @@ use Rattle.ut_model.specs.Fields.{Column, Kind, ids, typed, is_null}
 use Rattle.ut_model.specs.Objects.{object_at, records_of}
 use Rattle.ut_model.specs.Relationships.{target_of}
 use Rattle.ut_model.specs.Tenant.{Field, Tenant}
-
--- what is given to a field
-pub data Given : Type 0 where
-  a_value : Value → Given
-  in_json : Json → Given
-  -- to a reference: the record of its target whose unique field, at this place among the custom fields, has the value of the text
-  found_by : (field : ℕ) → (text : List ℕ) → Given
-
--- a field, by its name, and what is given to it
-pub record Assignment : Type 0 where
-  pub field : List ℕ
-  pub given : Given
 
 -- ---- texts and JSON
 
@@ -132,6 +123,6 @@ read_found t c field text =
 
 -- ---- the value that is given to a field, or its refusal
 abbrev pub read_given : Tenant → Column → Given → ReadOr
-read_given t c (a_value v) = Ok v
-read_given t c (in_json j) = or_refusal c.name c.kind (json_text j) (read_json c.kind j)
-read_given t c (found_by field text) = read_found t c field text
+read_given t c (gives.Read v) = Ok v
+read_given t c (gives.Json j) = or_refusal c.name c.kind (json_text j) (read_json c.kind j)
+read_given t c (gives.Find field text) = read_found t c field text

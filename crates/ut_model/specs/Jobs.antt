@@ -1,4 +1,4 @@
--- One step of a change of a field's type. Each request of a recognised caller first makes one, over at most a hundred records.
+-- One step of a change of a field's type. Each request of a recognised caller first makes one, over only so many records.
 -- It is this product's own.
 use Rattle.std.specs.Prelude.{ℕ, suc, Bool, true, if◌then◌else◌, List, [], ◌∷◌, map, filter, take, slice_set, Option, Some, None, is_none}
 use Rattle.std.specs.List.{find}
@@ -12,6 +12,7 @@ use Rattle.ut_value.specs.declared.value.Value.{Value}
 use Rattle.ut_formula.specs.Meaning.{value_at}
 use Rattle.ut_model.specs.declared.record.Record.{Record}
 use Rattle.ut_model.specs.Cases.{in_case}
+use Rattle.ut_model.specs.Limits.{step_records}
 use Rattle.ut_model.specs.Objects.{change_at, is_of, records_of}
 use Rattle.ut_model.specs.Retyping.{to_clear, with_job}
 use Rattle.ut_model.specs.Tenant.{Job, Tenant}
@@ -22,9 +23,9 @@ use Rattle.ut_model.specs.Tenant.{Job, Tenant}
 abbrev pub is_past : (cursor : Option (List ℕ)) → List ℕ → Bool
 is_past cursor id = in_case cursor true (λ c. is_lt (slice_cmp nat_cmp c id))
 
--- the first hundred records of the job's object after its cursor
+-- the first records of the job's object after its cursor, as many as a step takes
 abbrev pub next_hundred : Tenant → Job → List Record
-next_hundred t j = take 100 (filter (λ r. is_past j.cursor r.id) (records_of t j.object))
+next_hundred t j = take step_records (filter (λ r. is_past j.cursor r.id) (records_of t j.object))
 
 -- the id of the last record
 abbrev pub last_id : List Record → Option (List ℕ)
@@ -60,11 +61,15 @@ switched j t =
 abbrev pub failed_at : Job → Record → Job
 failed_at j r = record (to_clear outcome.Failed j) { failed = Some r.id }
 
--- no record is left: the switch; one doesn't convert: the first such ends the copy; else the cursor moves
+-- a record of the job's object can't take the new type
+abbrev pub is_bad : Tenant → Job → Record → Bool
+is_bad t j r = is_none (new_value j r)
+
+-- no record is left: the switch; one is bad: the first such ends the copy; else the cursor moves
 abbrev pub copy_step : Job → List Record → Tenant → Tenant
 copy_step j [] t = switched j t
 copy_step j (r ∷ rs) t =
-    with_job (in_case (find (λ s. is_none (new_value j s)) (r ∷ rs)) (moved j (r ∷ rs)) (failed_at j)) t
+    with_job (in_case (find (is_bad t j) (r ∷ rs)) (moved j (r ∷ rs)) (failed_at j)) t
 
 -- ---- clearing
 

@@ -4,11 +4,12 @@
 use Rattle.std.specs.Prelude.{Bool, false, not, ◌&&◌, List, [], ◌∷◌, ◌++◌, Option, Some, None, Ok, Err}
 use Rattle.ut_value.specs.Values.{same_value}
 use Rattle.ut_value.specs.declared.value.Value.{Value}
+use Rattle.ut_model.specs.declared.record_bodies.Given.TheVariants as gives
 use Rattle.ut_model.specs.declared.refusal.Refusal.TheVariants.{InvalidField}
 use Rattle.ut_model.specs.Cases.{in_case}
 use Rattle.ut_model.specs.Edits.{bad_field}
 use Rattle.ut_model.specs.Fields.{Column, same_name}
-use Rattle.ut_model.specs.Given.{Assignment, ReadOr, a_value, read_given}
+use Rattle.ut_model.specs.Given.{Assignment, ReadOr, read_given}
 use Rattle.ut_model.specs.Rules.{Rule, refuse_if, first_of, first_refusal}
 use Rattle.ut_model.specs.Tenant.{Object, Tenant}
 
@@ -34,4 +35,4 @@ bad_fields t o key given = first_of (λ x. first_refusal (bad_field o x ∷ othe
 -- what the body gives, and the key
 abbrev pub with_key : Option Key → List Assignment → List Assignment
 with_key None given = given
-with_key (Some k) given = given ++ record { field = k.column.name; given = a_value k.value } ∷ []
+with_key (Some k) given = given ++ record { field = k.column.name; given = gives.Read k.value } ∷ []

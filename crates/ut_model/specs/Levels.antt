@@ -19,7 +19,7 @@ use Rattle.ut_model.specs.FormulaTexts.{reads_text}
 use Rattle.ut_model.specs.Limits.{limit_number}
 use Rattle.ut_model.specs.Membership.{is_above, is_member, reaches}
 use Rattle.ut_model.specs.Objects.{object_number, object_of, owner_of, record_at, records_of}
-use Rattle.ut_model.specs.Relationships.{master_reference, named_record}
+use Rattle.ut_model.specs.Relationships.{master_in, named_record}
 use Rattle.ut_model.specs.Tenant.{Object, SharingRule, Source, owned, meets, Tenant, User}
 
 -- ---- levels in their order
@@ -111,7 +111,7 @@ full_for_edit level = level
 abbrev pub level_within : ℕ → Tenant → User → Record → Level
 level_within zero t u r = Nothing
 level_within (suc n) t u r =
-    in_case (master_reference t (object_number r.id)) (own_level t u r) (λ f.
+    in_case (master_in t.objects (object_number r.id)) (own_level t u r) (λ f.
     in_case (named_record t f r) Nothing (λ m. full_for_edit (level_within n t u m)))
 
 -- the level of a user on a record

@@ -15,9 +15,10 @@ use Rattle.ut_value.specs.Texts.{lower, texts_differ}
 use Rattle.ut_value.specs.declared.sharing.Level.{Level}
 use Rattle.ut_value.specs.declared.sharing.Level.TheVariants as level
 use Rattle.ut_model.specs.Cases.{in_case}
-use Rattle.ut_model.specs.Given.{Assignment, in_json}
+use Rattle.ut_model.specs.Given.{Assignment}
 use Rattle.ut_model.specs.declared.people_bodies.PrincipalKind.{PrincipalKind}
 use Rattle.ut_model.specs.declared.people_bodies.PrincipalKind.TheVariants as kind
+use Rattle.ut_model.specs.declared.record_bodies.Given.TheVariants as gives
 use Rattle.ut_model.specs.Principals.{Spelled}
 
 -- the first entry under a name
@@ -129,5 +130,5 @@ principal_in text =
 unfoldable pub assignments : Body → Option (List Assignment)
 assignments b =
     if texts_differ (map lower (member_names b))
-    then Some (map (λ m. record { field = m.0; given = in_json m.1 }) (filter (λ m. not (bytes_eq m.0 (codes "attributes"))) b))
+    then Some (map (λ m. record { field = m.0; given = gives.Json m.1 }) (filter (λ m. not (bytes_eq m.0 (codes "attributes"))) b))
     else None

@@ -4,7 +4,7 @@ use Rattle.std.specs.Fmt.{decimal}
 use Rattle.ut_value.specs.Id.{print18}
 use Rattle.ut_model.specs.declared.refusal.Refusal.{Refusal}
 use Rattle.ut_model.specs.declared.refusal.Refusal.TheVariants as refusal
-use Rattle.ut_model.specs.Limits.{limit_name, limit_number}
+use Rattle.ut_model.specs.Limits.{body_limit, deletion_limit, input_limit, limit_name, limit_number, reply_limit}
 
 -- the message, in UTF-8
 abbrev pub message_of : Refusal → List ℕ
@@ -12,7 +12,7 @@ message_of refusal.BadHead = codes "the request head can't be read"
 message_of refusal.HeadTooLarge = codes "the request head is too large"
 message_of refusal.TransferEncoding = codes "transfer encodings aren't supported"
 message_of refusal.LengthRequired = codes "a Content-Length is required"
-message_of refusal.BodyTooLarge = codes "the body is over 4194304 bytes"
+message_of refusal.BodyTooLarge = codes "the body is over " ++ (decimal body_limit ++ codes " bytes")
 message_of refusal.InvalidSession = codes "Session expired or invalid"
 message_of refusal.NotFound = codes "The requested resource does not exist"
 message_of refusal.MethodNotAllowed = codes "the method isn't allowed here"
@@ -35,16 +35,16 @@ message_of (refusal.ValidationFailed rule message) = encode_utf8_all rule ++ (co
 message_of (refusal.DuplicateValue field) = encode_utf8_all field ++ codes ": duplicate value"
 message_of (refusal.DuplicateOf field other) = encode_utf8_all field ++ (codes ": duplicate of " ++ encode_utf8_all (print18 other))
 message_of (refusal.DeleteFailed object field) = encode_utf8_all object ++ (codes "." ++ encode_utf8_all field ++ codes ": the record is referred to")
-message_of refusal.CascadeTooLarge = codes "over 1000 records"
+message_of refusal.CascadeTooLarge = codes "over " ++ (decimal deletion_limit ++ codes " records")
 message_of (refusal.LimitExceeded limit) = limit_name limit ++ codes ": " ++ decimal (limit_number limit)
-message_of refusal.ReplyTooLarge = codes "the reply is over 16777216 bytes"
+message_of refusal.ReplyTooLarge = codes "the reply is over " ++ (decimal reply_limit ++ codes " bytes")
 message_of (refusal.InvalidName name) = encode_utf8_all name ++ codes " isn't a name here"
 message_of (refusal.NameTaken name) = encode_utf8_all name ++ codes " is taken"
 message_of refusal.JobBusy = codes "a retype is under way"
 message_of (refusal.RetypeUnsupported field) = encode_utf8_all field ++ codes " can't be retyped so"
 message_of (refusal.FieldInUse field rule) = encode_utf8_all field ++ (codes " is used by rule " ++ encode_utf8_all rule)
 message_of (refusal.MalformedFormula place) = codes "unexpected token at " ++ decimal place
-message_of refusal.InputTooLarge = codes "over 67108864 bytes"
+message_of refusal.InputTooLarge = codes "over " ++ (decimal input_limit ++ codes " bytes")
 message_of (refusal.CsvRefused row) = codes "row " ++ decimal row
 message_of (refusal.HeadingRefused cell) = encode_utf8_all cell
 message_of refusal.SubqueryNotExported = codes "subqueries aren't exported"

@@ -10,6 +10,7 @@ use Rattle.ut_model.specs.declared.metadata_bodies.NewMaster.{NewMaster}
 use Rattle.ut_model.specs.declared.metadata_bodies.NewObject.{NewObject}
 use Rattle.ut_model.specs.Cases.{in_case}
 use Rattle.ut_model.specs.Fields.{is_detail}
+use Rattle.ut_model.specs.Limits.{limit_number}
 use Rattle.ut_model.specs.Names.{bad_name, is_child_name, is_custom_name, taken}
 use Rattle.ut_model.specs.Objects.{Numbered, object_named, with_object_changed}
 use Rattle.ut_model.specs.Relationships.{master_in, relationship_names}
@@ -24,9 +25,9 @@ abbrev pub masters_above : ℕ → List Object → ℕ → ℕ
 masters_above zero os n = 0
 masters_above (suc most) os n = in_case (master_in os n) 0 (λ f. suc (masters_above most os f.target))
 
--- the detail level of an object: 0 without a master. No object of an organisation has more than three masters above it
+-- the detail level of an object: 0 without a master. It is counted one further than it may go
 abbrev pub detail_level : List Object → ℕ → ℕ
-detail_level os n = masters_above 4 os n
+detail_level os n = masters_above (suc (limit_number limit.DetailLevels)) os n
 
 -- the forms of a new detail's names
 abbrev pub master_names : NewMaster → MemberRules

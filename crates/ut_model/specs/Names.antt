@@ -8,6 +8,7 @@ use Rattle.ut_value.specs.Numerals.{is_within}
 use Rattle.ut_grammar.specs.Tokens.{is_letter}
 use Rattle.ut_model.specs.declared.refusal.Refusal.TheVariants.{InvalidName, NameTaken}
 use Rattle.ut_model.specs.Fields.{same_name}
+use Rattle.ut_model.specs.Limits.{stem_limit}
 use Rattle.ut_model.specs.Rules.{Rule, refuse_if}
 
 -- ---- forms
@@ -31,9 +32,9 @@ abbrev pub begins_with_letter : List ℕ → Bool
 begins_with_letter [] = false
 begins_with_letter (c ∷ cs) = is_letter c
 
--- a stem, as the name of a rule is: 1 to 40 characters, a letter first; no two `_` in a row, and none at the end
+-- a stem, as the name of a rule is: not empty and not too long, a letter first; no two `_` in a row, and none at the end
 unfoldable pub is_stem : List ℕ → Bool
-is_stem cs = is_within 1 40 (length cs) && (begins_with_letter cs && in_stem cs)
+is_stem cs = is_within 1 stem_limit (length cs) && (begins_with_letter cs && in_stem cs)
 
 -- a stem with this ending of three characters
 abbrev pub is_stem_with : List ℕ → List ℕ → Bool

@@ -25,9 +25,13 @@ nulls_cmp a b = bool_cmp (is_null b) (is_null a)
 abbrev pub key_cmp : OrderKey → Value → Value → Ordering
 key_cmp k a b = ordering_then (turned k.nulls_last (nulls_cmp a b)) (turned k.descending (cmp a b))
 
+-- two records by their ids
+abbrev pub by_id : Record → Record → Ordering
+by_id r s = slice_cmp nat_cmp r.id s.id
+
 -- two records: the first key that decides, and else the ids
 abbrev pub before : Asked → List OrderKey → Record → Record → Ordering
-before a [] r s = slice_cmp nat_cmp r.id s.id
+before a [] r s = by_id r s
 before a (k ∷ ks) r s = ordering_then (key_cmp k (path_value a r k.path.names) (path_value a s k.path.names)) (before a ks r s)
 
 -- ---- lists in order

@@ -3,10 +3,11 @@
 use Rattle.std.specs.Prelude.{ℕ, List, [], ◌∷◌, map, codes, Option, Some, unwrap_or}
 use Rattle.ut_json.specs.Reading.{◌>>=◌}
 use Rattle.ut_value.specs.Id.{id_in}
+use Rattle.ut_value.specs.Principals.{kind_number}
 use Rattle.ut_value.specs.Texts.{texts_differ}
 use Rattle.ut_model.specs.Members.{Body, all_there, as_text, formed, list_in, principal_in, text_in, text_or_null_in, truth_in}
 use Rattle.ut_model.specs.Organisations.{is_secret}
-use Rattle.ut_model.specs.Principals.{Spelled, kind_number, principal_of}
+use Rattle.ut_model.specs.Principals.{Spelled, principal_of}
 use Rattle.ut_model.specs.Requests.{Request, adds_group, adds_role, adds_user, begins_retype, sets_group, sets_role, sets_user}
 use Rattle.ut_model.specs.TypeForms.{type_in, where_so}
 

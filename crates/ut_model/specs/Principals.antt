@@ -1,9 +1,6 @@
 -- Ids and principals as requests spell them, and what they name.
 -- Source of the kinds: Salesforce, "Record-Level Security". How a request spells a principal is this product's own.
 use Rattle.std.specs.Prelude.{ℕ, Bool, not, List, [], Option, None, is_none, is_some, unwrap_or}
-use Rattle.std.specs.declared.cmp.Ordering.{Ordering}
-use Rattle.std.specs.Ordering.{nat_cmp, ordering_then}
-use Rattle.std.specs.Cmp.Lexicographic.{slice_cmp}
 use Rattle.ut_value.specs.Id.{id_in}
 use Rattle.ut_value.specs.declared.sharing.Principal.{Principal}
 use Rattle.ut_value.specs.declared.sharing.Principal.TheVariants as to
@@ -61,21 +58,3 @@ is_there t (to.Group i) = is_some (group_at t i)
 -- INVALID_CROSS_REFERENCE_KEY, under the name of the member that spells it
 abbrev pub not_there : Tenant → (member : List ℕ) → Principal → Rule
 not_there t member p = refuse_if (not (is_there t p)) (InvalidReference member)
-
--- ---- the order of principals: users, roles, subordinates of roles, groups, and each by id
-
-abbrev pub kind_number : Principal → ℕ
-kind_number (to.User i) = 0
-kind_number (to.Role i) = 1
-kind_number (to.Subordinates i) = 2
-kind_number (to.Group i) = 3
-
--- the id in a principal
-abbrev pub principal_id : Principal → List ℕ
-principal_id (to.User i) = i
-principal_id (to.Role i) = i
-principal_id (to.Subordinates i) = i
-principal_id (to.Group i) = i
-
-abbrev pub principal_cmp : Principal → Principal → Ordering
-principal_cmp p q = ordering_then (nat_cmp (kind_number p) (kind_number q)) (slice_cmp nat_cmp (principal_id p) (principal_id q))

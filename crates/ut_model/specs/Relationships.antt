@@ -62,9 +62,6 @@ child_named t n name = find (λ f. (f.target == n) && in_case f.field.child fals
 abbrev pub master_in : List Object → ℕ → Option Reference
 master_in os n = find (λ f. (f.object == n) && is_master f.field.kind) (references os)
 
-abbrev pub master_reference : Tenant → ℕ → Option Reference
-master_reference t n = master_in t.objects n
-
 -- the names of all relationships of an object: to parents, and to children
 abbrev pub relationship_names : List Object → ℕ → List (List ℕ)
 relationship_names os n =

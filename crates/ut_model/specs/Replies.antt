@@ -13,6 +13,7 @@ use Rattle.ut_model.specs.declared.refusal.Refusal.{Refusal}
 use Rattle.ut_model.specs.declared.refusal.Refusal.TheVariants.{ReplyTooLarge}
 use Rattle.ut_model.specs.declared.reply.Reply.{Reply}
 use Rattle.ut_model.specs.Cases.{in_case}
+use Rattle.ut_model.specs.Limits.{reply_limit}
 use Rattle.ut_model.specs.Objects.{object_at}
 use Rattle.ut_model.specs.Paths.{Asked}
 use Rattle.ut_model.specs.RowsJson.{found_json, list_json, member_json, object_json}
@@ -66,7 +67,7 @@ json_reply status characters = record { status = status; body = encode_utf8_all 
 
 -- REPLY_TOO_LARGE, of rows alone
 abbrev pub unless_too_large : Reply → Reply
-unless_too_large r = if nat_lt 16777216 (length r.body) then refusal_reply ReplyTooLarge else r
+unless_too_large r = if nat_lt reply_limit (length r.body) then refusal_reply ReplyTooLarge else r
 
 abbrev pub done_reply : Asked → Done → Reply
 done_reply a done = json_reply 204 []

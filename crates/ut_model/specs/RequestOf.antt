@@ -7,6 +7,7 @@ use Rattle.std.specs.Str.{chars, is_utf8}
 use Rattle.percent_encoding.specs.Percent.{percent_decode}
 use Rattle.ut_json.specs.Reading.{◌>>=◌}
 use Rattle.ut_query.specs.declared.query.Query.{Query}
+use Rattle.ut_soql_grammar.specs.Spelling.{reads_query}
 use Rattle.ut_model.specs.declared.refusal.Refusal.{Refusal}
 use Rattle.ut_model.specs.declared.refusal.Refusal.TheVariants as refusal
 use Rattle.ut_model.specs.declared.reply.Reply.{Reply}
@@ -26,11 +27,7 @@ use Rattle.ut_model.specs.Step.{Message, query_text}
 use Rattle.ut_model.specs.Tenant.{Tenant}
 use Rattle.ut_model.specs.Verdict.{Verdict, refuse}
 
--- how the text of a query, in UTF-8, is read: the query that it spells, or the byte at which the token begins that can't be there
-abbrev pub ReadsQuery : Type 0
-ReadsQuery = List ℕ → Result Query ℕ
-
--- the request of a query
+-- the request of a query, or the byte at which the token begins that can't be there
 abbrev pub query_or : Result Query ℕ → Result Request Refusal
 query_or (Ok q) = Ok (asks q)
 query_or (Err place) = Err (refusal.MalformedQuery place)
@@ -48,30 +45,30 @@ abbrev pub value_part : List ℕ → Option (List ℕ)
 value_part part = let bytes = percent_decode (encode_utf8_all part) in if is_utf8 bytes then Some (chars bytes) else None
 
 -- the request that a route and a body make, or why there is none
-unfoldable pub request_of : ReadsQuery → Route → (body : List ℕ) → Result Request Refusal
-request_of query_in (route.Query pairs) body = query_or (query_in (query_text pairs))
-request_of query_in (route.Create object) body = by_body body (λ b. option_map (creates object) (assignments b))
-request_of query_in (route.Update object key) body = by_body body (λ b. option_map (updates object key) (assignments b))
-request_of query_in (route.Delete object key) body = Ok (deletes object key)
-request_of query_in (route.Upsert object key value) body =
+unfoldable pub request_of : Route → (body : List ℕ) → Result Request Refusal
+request_of (route.Query pairs) body = query_or (reads_query (query_text pairs))
+request_of (route.Create object) body = by_body body (λ b. option_map (creates object) (assignments b))
+request_of (route.Update object key) body = by_body body (λ b. option_map (updates object key) (assignments b))
+request_of (route.Delete object key) body = Ok (deletes object key)
+request_of (route.Upsert object key value) body =
     by_body body (λ b. option_map (upserts object key (value_part value)) (assignments b))
-request_of query_in route.Share body = by_body body share_request
-request_of query_in (route.Unshare item part) body = Ok (unshares item part (principal_in part))
-request_of query_in route.AddObject body = by_body body object_request
-request_of query_in (route.SetObject object) body = by_body body (access_request object)
-request_of query_in route.AddField body = by_body body field_request
-request_of query_in route.AddValidationRule body = by_body body validation_request
-request_of query_in route.AddSharingRule body = by_body body sharing_rule_request
-request_of query_in (route.RemoveSharingRule name) body = Ok (removes_sharing_rule name)
-request_of query_in route.AddUser body = by_body body user_request
-request_of query_in (route.SetUser id) body = by_body body (user_role_request id)
-request_of query_in route.AddRole body = by_body body role_request
-request_of query_in (route.SetRole id) body = by_body body (role_parent_request id)
-request_of query_in route.AddGroup body = by_body body group_request
-request_of query_in (route.SetGroup id) body = by_body body (members_request id)
-request_of query_in route.BeginRetype body = by_body body retype_request
-request_of query_in route.GetRetype body = Ok gets_retype
-request_of query_in route.CancelRetype body = Ok cancels_retype
+request_of route.Share body = by_body body share_request
+request_of (route.Unshare item part) body = Ok (unshares item part (principal_in part))
+request_of route.AddObject body = by_body body object_request
+request_of (route.SetObject object) body = by_body body (access_request object)
+request_of route.AddField body = by_body body field_request
+request_of route.AddValidationRule body = by_body body validation_request
+request_of route.AddSharingRule body = by_body body sharing_rule_request
+request_of (route.RemoveSharingRule name) body = Ok (removes_sharing_rule name)
+request_of route.AddUser body = by_body body user_request
+request_of (route.SetUser id) body = by_body body (user_role_request id)
+request_of route.AddRole body = by_body body role_request
+request_of (route.SetRole id) body = by_body body (role_parent_request id)
+request_of route.AddGroup body = by_body body group_request
+request_of (route.SetGroup id) body = by_body body (members_request id)
+request_of route.BeginRetype body = by_body body retype_request
+request_of route.GetRetype body = Ok gets_retype
+request_of route.CancelRetype body = Ok cancels_retype
 
 -- ---- what a message comes to
 
@@ -80,15 +77,15 @@ verdict_or a (Ok request) = verdict_on a request
 verdict_or a (Err refusal) = refuse a.tenant refusal
 
 -- no such path, another method, no administrator; then the form of the body, and the request itself
-abbrev pub verdict_at : ReadsQuery → Asked → (body : List ℕ) → Routed → Verdict
-verdict_at query_in a body NotFound = refuse a.tenant refusal.NotFound
-verdict_at query_in a body NotAllowed = refuse a.tenant refusal.MethodNotAllowed
-verdict_at query_in a body (To r) =
-    if is_administration r && not a.user.admin then refuse a.tenant refusal.AdminRequired else verdict_or a (request_of query_in r body)
+abbrev pub verdict_at : Asked → (body : List ℕ) → Routed → Verdict
+verdict_at a body NotFound = refuse a.tenant refusal.NotFound
+verdict_at a body NotAllowed = refuse a.tenant refusal.MethodNotAllowed
+verdict_at a body (To r) =
+    if is_administration r && not a.user.admin then refuse a.tenant refusal.AdminRequired else verdict_or a (request_of r body)
 
 -- the reply to a user's message, and the organisation after it: the job's step is made first, whatever the message comes to
-abbrev pub answer_to : ReadsQuery → Asked → Message → Reply × Tenant
-answer_to query_in a m =
+abbrev pub answer_to : Asked → Message → Reply × Tenant
+answer_to a m =
     let b = record a { tenant = job_step a.tenant } in
-    let v = verdict_at query_in b m.body (routed m.method m.target) in
+    let v = verdict_at b m.body (routed m.method m.target) in
     (reply_of b v.answer, v.tenant)

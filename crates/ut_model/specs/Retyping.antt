@@ -12,7 +12,7 @@ use Rattle.ut_model.specs.declared.refusal.Refusal.TheVariants as refusal
 use Rattle.ut_model.specs.Cases.{in_case}
 use Rattle.ut_model.specs.Fields.{Where, its_value, column_named}
 use Rattle.ut_model.specs.declared.metadata_bodies.SpelledType.{SpelledType}
-use Rattle.ut_model.specs.declared.metadata_bodies.SpelledType.TheVariants.{Plain, LookupTo}
+use Rattle.ut_model.specs.NewFields.{type_with}
 use Rattle.ut_model.specs.Objects.{Numbered}
 use Rattle.ut_model.specs.RuleFormulas.{formula_of, is_copy, names_field}
 use Rattle.ut_model.specs.Rules.{Rule, refuse_if, first_of, first_refusal}
@@ -66,8 +66,7 @@ in_use t o place field =
 
 -- the new type; a lookup is none of those that convert, whatever its object
 abbrev pub new_type : SpelledType → FieldType
-new_type (Plain kind) = kind
-new_type (LookupTo object on_delete child) = type.Lookup 0 on_delete
+new_type kind = type_with None kind
 
 -- a job that begins
 abbrev pub new_job : (object field : ℕ) → FieldType → Job

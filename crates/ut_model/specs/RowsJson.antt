@@ -16,6 +16,7 @@ use Rattle.ut_query.specs.declared.query.Query.{Query}
 use Rattle.ut_model.specs.declared.record.Record.{Record}
 use Rattle.ut_model.specs.Cases.{in_case, with_before}
 use Rattle.ut_model.specs.Fields.{column_named, same_name}
+use Rattle.ut_model.specs.Limits.{nested_rows}
 use Rattle.ut_model.specs.Objects.{object_number, object_of}
 use Rattle.ut_model.specs.Paths.{Asked, field_value, parent_of}
 use Rattle.ut_model.specs.Relationships.{child_named, parent_name, parent_named}
@@ -117,9 +118,9 @@ row_within zero a r items = []
 row_within (suc n) a r items =
     object_json (attributes a r ∷ flat_map (λ x. item_member (row_within n a) a r items x.before x.it) (with_before [] items))
 
--- a subquery, and five steps to parents
+-- through as many as a query can select
 abbrev pub row_json : Asked → RowJson
-row_json a r items = row_within 7 a r items
+row_json a r items = row_within nested_rows a r items
 
 -- the rows of a query
 unfoldable pub found_json : Asked → Query → List ℕ

@@ -15,6 +15,7 @@ use Rattle.ut_formula.specs.declared.formula.Formula.{Formula}
 use Rattle.ut_model.specs.declared.refusal.Refusal.TheVariants.{MalformedFormula, JobBusy}
 use Rattle.ut_model.specs.Cases.{in_case}
 use Rattle.ut_model.specs.FormulaTexts.{reads_text}
+use Rattle.ut_model.specs.Limits.{formula_limit}
 use Rattle.ut_model.specs.Rules.{Rule, refuse_if}
 use Rattle.ut_model.specs.Tenant.{Object, Tenant}
 
@@ -22,13 +23,13 @@ use Rattle.ut_model.specs.Tenant.{Object, Tenant}
 abbrev pub name_cmp : List ℕ → List ℕ → Ordering
 name_cmp a b = slice_cmp nat_cmp (lower a) (lower b)
 
--- the text of a rule: at most 4,000 characters
+-- the text of a rule is of characters, and not too long
 abbrev pub is_rule_text : List ℕ → Bool
-is_rule_text text = all_scalars text && nat_le (length text) 4000
+is_rule_text text = all_scalars text && nat_le (length text) formula_limit
 
--- what the text of a rule reads as: one of over 4,000 characters spells no formula
+-- what the text of a rule reads as: one that is too long spells no formula
 unfoldable pub formula_of : Object → (criteria : Bool) → List ℕ → Result Formula ℕ
-formula_of o criteria text = if nat_lt 4000 (length text) then Err 0 else reads_text o criteria text
+formula_of o criteria text = if nat_lt formula_limit (length text) then Err 0 else reads_text o criteria text
 
 -- MALFORMED_FORMULA, with the place
 abbrev pub malformed : Result Formula ℕ → Rule

@@ -5,17 +5,18 @@ use Rattle.std.specs.List.{list_any}
 use Rattle.std.specs.declared.cmp.Ordering.{Ordering}
 use Rattle.std.specs.Ordering.{nat_cmp, is_eq, ordering_then}
 use Rattle.std.specs.Cmp.Lexicographic.{slice_cmp}
-use Rattle.ut_value.specs.declared.sharing.Level.{Level}
+use Rattle.ut_value.specs.Principals.{principal_cmp}
 use Rattle.ut_value.specs.declared.sharing.Level.TheVariants.{Full}
 use Rattle.ut_model.specs.declared.limit.Limit.TheVariants as limit
 use Rattle.ut_model.specs.declared.record.Record.{Record}
 use Rattle.ut_model.specs.declared.refusal.Refusal.TheVariants.{InvalidReference, InvalidType, MalformedId}
+pub use Rattle.ut_model.specs.declared.sharing_bodies.NewShare.{NewShare}
 use Rattle.ut_model.specs.Cases.{in_case}
 use Rattle.ut_model.specs.Fields.{is_detail}
 use Rattle.ut_model.specs.Objects.{object_of, record_at}
 use Rattle.ut_model.specs.Ordered.{put_in}
 use Rattle.ut_model.specs.Paths.{Asked}
-use Rattle.ut_model.specs.Principals.{Spelled, bad_id, not_there, principal_cmp, principal_of, spelled_id}
+use Rattle.ut_model.specs.Principals.{Spelled, bad_id, not_there, principal_of, spelled_id}
 use Rattle.ut_model.specs.Rights.{denied, with_readable}
 use Rattle.ut_model.specs.Rules.{Rule, refuse_if, in_body_order, over_limit}
 use Rattle.ut_model.specs.Tenant.{Share, Tenant}
@@ -49,14 +50,7 @@ shares_of item shares = filter (λ x. bytes_eq x.item item) shares
 abbrev pub detail_refused : Tenant → Record → Rule
 detail_refused t r = in_case (object_of t r) None (λ o. refuse_if (is_detail o) (InvalidType o.name))
 
--- what a body says of a share, and the names of its members in their order
-pub record NewShare : Type 0 where
-  pub members : List (List ℕ)
-  pub item : List ℕ
-  pub to : Spelled
-  pub level : Level
-
--- the share that it says
+-- the share that a body says
 abbrev pub share_of : NewShare → Share
 share_of b = record { item = spelled_id b.item; to = principal_of b.to; level = b.level }
 

@@ -4,10 +4,12 @@
 use Rattle.std.specs.Prelude.{ℕ, ◌+◌, true, not, List, [], ◌∷◌, map, filter, length, codes, Option, Some, None, Result}
 use Rattle.std.specs.List.{list_any}
 use Rattle.ut_value.specs.declared.job.RuleState.TheVariants as state
-use Rattle.ut_value.specs.declared.sharing.Level.{Level}
 use Rattle.ut_formula.specs.declared.formula.Formula.{Formula}
 use Rattle.ut_model.specs.declared.limit.Limit.TheVariants as limit
 use Rattle.ut_model.specs.declared.refusal.Refusal.TheVariants.{InvalidType, NotFound}
+pub use Rattle.ut_model.specs.declared.sharing_bodies.NewSharingRule.{NewSharingRule}
+pub use Rattle.ut_model.specs.declared.sharing_bodies.SpelledSource.{SpelledSource}
+use Rattle.ut_model.specs.declared.sharing_bodies.SpelledSource.TheVariants.{Owner, Criteria}
 use Rattle.ut_model.specs.Cases.{in_case}
 use Rattle.ut_model.specs.Fields.{is_detail, same_name}
 use Rattle.ut_model.specs.Names.{bad_name, is_stem, taken}
@@ -19,34 +21,20 @@ use Rattle.ut_model.specs.Rules.{Rule, refuse_if, in_body_order, over_limit}
 use Rattle.ut_model.specs.Tenant.{Object, SharingRule, Source, owned, meets, Tenant}
 use Rattle.ut_model.specs.Verdict.{Verdict, accept, done, judged, with_object}
 
--- the records that a new rule covers, as a body says: by owner, or by a formula
-pub data SpelledSource : Type 0 where
-  from : Spelled → SpelledSource
-  by_formula : List ℕ → SpelledSource
-
--- what a body says of a new sharing rule, and the names of its members in their order
-pub record NewSharingRule : Type 0 where
-  pub members : List (List ℕ)
-  pub object : List ℕ
-  pub name : List ℕ
-  pub source : SpelledSource
-  pub to : Spelled
-  pub level : Level
-
 -- the source that is spelled
 abbrev pub source_of : SpelledSource → Source
-source_of (from p) = owned (principal_of p)
-source_of (by_formula text) = meets text
+source_of (Owner p) = owned (principal_of p)
+source_of (Criteria text) = meets text
 
 -- whose records an owner rule shares
 abbrev pub source_owner : SpelledSource → Option Spelled
-source_owner (from p) = Some p
-source_owner (by_formula text) = None
+source_owner (Owner p) = Some p
+source_owner (Criteria text) = None
 
 -- what the text of a criteria rule reads as
 abbrev pub source_formula : Object → SpelledSource → Option (Result Formula ℕ)
-source_formula o (from p) = None
-source_formula o (by_formula text) = Some (formula_of o true text)
+source_formula o (Owner p) = None
+source_formula o (Criteria text) = Some (formula_of o true text)
 
 abbrev pub sharing_rules : Tenant → Numbered → NewSharingRule → List Rule
 sharing_rules t o b =

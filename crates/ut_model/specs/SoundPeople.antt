@@ -8,14 +8,14 @@ use Rattle.std.specs.Str.{all_scalars}
 use Rattle.std.specs.Cmp.Lexicographic.{slice_cmp}
 use Rattle.ut_model.specs.declared.limit.Limit.TheVariants as limit
 use Rattle.ut_model.specs.Known.{Known, IsDrawn, group_id, knows, role_id}
-use Rattle.ut_model.specs.Limits.{limit_number}
+use Rattle.ut_model.specs.Limits.{limit_number, name_limit}
 use Rattle.ut_model.specs.Membership.{Below}
 use Rattle.ut_model.specs.Tenant.{User, Role, Group}
 use Rattle.ut_model.specs.World.{with_id, user_id, user_prefix, role_prefix, group_prefix}
 
 -- the name of an organisation or of people, and the message of a validation rule: 1 to 80 characters
 unfoldable pub is_name : List ℕ → Bool
-is_name characters = all_scalars characters && (nat_le 1 (length characters) && nat_le (length characters) 80)
+is_name characters = all_scalars characters && (nat_le 1 (length characters) && nat_le (length characters) name_limit)
 
 -- ids strictly rise
 abbrev pub ids_rise : {X : Type 0} → (X → List ℕ) → List X → Bool

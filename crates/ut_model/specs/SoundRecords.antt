@@ -14,7 +14,7 @@ use Rattle.ut_model.specs.declared.record.Record.{Record}
 use Rattle.ut_model.specs.Cases.{in_case}
 use Rattle.ut_model.specs.Fields.{is_detail, is_master, is_null, ref_of}
 use Rattle.ut_model.specs.Known.{Known, item_of}
-use Rattle.ut_model.specs.Limits.{limit_number}
+use Rattle.ut_model.specs.Limits.{limit_number, name_limit}
 use Rattle.ut_model.specs.Membership.{Has}
 use Rattle.ut_model.specs.Objects.{is_of, object_number, record_prefix}
 use Rattle.ut_model.specs.Relationships.{Reference, references_of}
@@ -26,7 +26,7 @@ record_id r = r.id
 
 -- the types of a record's values: the name is a text of at most 80 characters, and those of the custom fields follow
 abbrev pub kinds_of : Object → List FieldType
-kinds_of o = type.Text 80 ∷ map (λ f. f.kind) o.fields
+kinds_of o = type.Text name_limit ∷ map (λ f. f.kind) o.fields
 
 -- one valid value for each type
 abbrev pub all_valid : List FieldType → List Value → Bool

@@ -18,7 +18,7 @@ use Rattle.ut_model.specs.Given.{Assignment}
 use Rattle.ut_model.specs.Keys.{Key, bad_fields, with_key}
 use Rattle.ut_model.specs.Objects.{Numbered}
 use Rattle.ut_model.specs.Paths.{Asked}
-use Rattle.ut_model.specs.Relationships.{master_reference}
+use Rattle.ut_model.specs.Relationships.{master_in}
 use Rattle.ut_model.specs.Rights.{denied, with_named}
 use Rattle.ut_model.specs.Rules.{Rule, refuse_if}
 use Rattle.ut_model.specs.Tenant.{Job, Tenant}
@@ -31,7 +31,7 @@ owner_denied a old new = if same_owner old new then None else denied a Full old
 -- a detail keeps its master
 abbrev pub master_changed : Tenant → Numbered → (old new : Record) → Rule
 master_changed t o old new =
-    in_case (master_reference t o.number) None (λ f.
+    in_case (master_in t.objects o.number) None (λ f.
     refuse_if (not (same_value (value_at old.values f.position) (value_at new.values f.position))) (refusal.InvalidField f.field.name))
 
 -- ---- RETYPE_CONFLICT: once a record was copied, its value of the job's field must convert

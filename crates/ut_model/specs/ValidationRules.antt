@@ -1,7 +1,8 @@
 -- New validation rules.
 -- Source: Salesforce, "Validation Rules". The order in which one is judged is this product's own.
-use Rattle.std.specs.Prelude.{ℕ, ◌+◌, false, List, [], ◌∷◌, map, length}
+use Rattle.std.specs.Prelude.{◌+◌, false, List, [], ◌∷◌, map, length}
 use Rattle.ut_model.specs.declared.limit.Limit.TheVariants as limit
+pub use Rattle.ut_model.specs.declared.metadata_bodies.NewValidationRule.{NewValidationRule}
 use Rattle.ut_model.specs.Names.{bad_name, is_stem, taken}
 use Rattle.ut_model.specs.Objects.{Numbered, with_object_changed}
 use Rattle.ut_model.specs.Ordered.{put_in}
@@ -10,16 +11,15 @@ use Rattle.ut_model.specs.Rules.{Rule, over_limit}
 use Rattle.ut_model.specs.Tenant.{Object, Tenant, ValidationRule}
 use Rattle.ut_model.specs.Verdict.{Verdict, accept, done, judged, with_object}
 
--- what a body says of a new validation rule: of which object, and the rule
-pub record NewValidationRule : Type 0 where
-  pub object : List ℕ
-  pub rule : ValidationRule
+-- the rule that a body says
+abbrev pub validation_of : NewValidationRule → ValidationRule
+validation_of b = record { name = b.name; formula = b.formula; message = b.message }
 
-abbrev pub validation_rules : Tenant → Numbered → ValidationRule → List Rule
-validation_rules t o r =
-    let formula = formula_of o.object false r.formula in
-    bad_name is_stem r.name
-    ∷ taken (map (λ x. x.name) o.object.rules) r.name
+abbrev pub validation_rules : Tenant → Numbered → NewValidationRule → List Rule
+validation_rules t o b =
+    let formula = formula_of o.object false b.formula in
+    bad_name is_stem b.name
+    ∷ taken (map (λ r. r.name) o.object.rules) b.name
     ∷ malformed formula
     ∷ busy t o.number formula
     ∷ over_limit ((limit.ValidationRulesPerObject, length o.object.rules + 1) ∷ [])
@@ -33,4 +33,4 @@ with_validation_rule r o = record o { rules = put_in (λ a b. name_cmp a.name b.
 abbrev pub add_validation_rule : Tenant → NewValidationRule → Verdict
 add_validation_rule t b =
     with_object t b.object (λ o.
-    judged t (validation_rules t o b.rule) (accept done (with_object_changed o.number (with_validation_rule b.rule) t)))
+    judged t (validation_rules t o b) (accept done (with_object_changed o.number (with_validation_rule (validation_of b)) t)))

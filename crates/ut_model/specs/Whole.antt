@@ -4,15 +4,15 @@ use Rattle.std.specs.Prelude.{ℕ, pos, Bool, false, ◌==◌, List, [], ◌∷�
 use Rattle.ut_model.specs.declared.refusal.Refusal.TheVariants.{InvalidSession}
 use Rattle.ut_model.specs.declared.reply.Reply.{Reply}
 use Rattle.ut_model.specs.Cases.{in_case}
-use Rattle.ut_model.specs.RequestOf.{ReadsQuery, answer_to}
+use Rattle.ut_model.specs.RequestOf.{answer_to}
 use Rattle.ut_model.specs.Step.{Answering, Message, org_named, refused, step_by}
 use Rattle.ut_model.specs.World.{World, user_at}
 
--- a caller's message by all routes; queries are read so
-abbrev pub answered_whole : ReadsQuery → Answering
-answered_whole query_in c m now t =
+-- a caller's message by all routes
+abbrev pub answered_whole : Answering
+answered_whole c m now t =
     in_case (user_at t.users c.user) (refused InvalidSession t) (λ u.
-    answer_to query_in (record { tenant = t; user = u; now = pos now }) m)
+    answer_to (record { tenant = t; user = u; now = pos now }) m)
 
 -- ---- messages one after the other
 

@@ -6,7 +6,8 @@ use Rattle.ut_json.specs.declared.tree.Num.TheVariants.{Exact}
 use Rattle.ut_value.specs.declared.sharing.Access.TheVariants as access
 use Rattle.ut_value.specs.declared.value.FieldType.TheVariants as type
 use Rattle.ut_value.specs.declared.value.OnDelete.TheVariants as on_delete
-use Rattle.ut_model.specs.Given.{Assignment, found_by, in_json}
+use Rattle.ut_model.specs.declared.record_bodies.Given.TheVariants as gives
+use Rattle.ut_model.specs.Given.{Assignment}
 use Rattle.ut_model.specs.declared.metadata_bodies.SpelledType.TheVariants.{Plain, LookupTo}
 use Rattle.ut_model.specs.Requests.{Request, adds_object, adds_validation_rule, creates, deletes, updates, upserts}
 use Rattle.ut_model.specs.WorkedRequests.{Call, add_deals, by_admin, deal_object, field_with, object_with, people, text_to}
@@ -15,7 +16,7 @@ use Rattle.ut_model.specs.WorkedRequests.{Call, add_deals, by_admin, deal_object
 
 abbrev pub add_rule : (name formula message : List ℕ) → Request
 add_rule name formula message =
-    adds_validation_rule (record { object = deal_object; rule = record { name = name; formula = formula; message = message } })
+    adds_validation_rule (record { object = deal_object; name = name; formula = formula; message = message })
 
 abbrev pub rules_made : List Call
 rules_made =
@@ -30,7 +31,7 @@ rules_made =
 -- a deal with this amount and the code `K1`
 abbrev pub deal_of : ℤ → List Assignment → Request
 deal_of count more =
-    creates deal_object (record { field = codes "Amount__c"; given = in_json (json.Number (Exact count)) } ∷ text_to (codes "Code__c") (codes "K1") ∷ more)
+    creates deal_object (record { field = codes "Amount__c"; given = gives.Json (json.Number (Exact count)) } ∷ text_to (codes "Code__c") (codes "K1") ∷ more)
 
 -- ---- accounts with a unique code
 
@@ -60,7 +61,7 @@ account_with_code =
 
 -- a contact of the account that has this code
 abbrev pub contact_of : (code : List ℕ) → Call
-contact_of code = by_admin (creates (codes "Contact__c") (record { field = codes "Account__c"; given = found_by 0 code } ∷ []))
+contact_of code = by_admin (creates (codes "Contact__c") (record { field = codes "Account__c"; given = gives.Find 0 code } ∷ []))
 
 -- ---- an order (1) with three lines (2, 3, 4), of which one is referred to by a note (5)
 

@@ -9,7 +9,8 @@ use Rattle.ut_value.specs.declared.sharing.Access.TheVariants as access
 use Rattle.ut_model.specs.declared.refusal.Refusal.TheVariants.{InvalidSession}
 use Rattle.ut_model.specs.declared.reply.Reply.{Reply}
 use Rattle.ut_model.specs.Cases.{in_case}
-use Rattle.ut_model.specs.Given.{Assignment, in_json}
+use Rattle.ut_model.specs.declared.record_bodies.Given.TheVariants as gives
+use Rattle.ut_model.specs.Given.{Assignment}
 use Rattle.ut_model.specs.Jobs.{job_step}
 use Rattle.ut_model.specs.declared.metadata_bodies.SpelledType.{SpelledType}
 use Rattle.ut_model.specs.Organisations.{fresh}
@@ -77,7 +78,7 @@ user_with name role = adds_user (record { name = name; secret = codes "abcdefghi
 
 -- a text for a field
 abbrev pub text_to : (field text : List ℕ) → Assignment
-text_to field text = record { field = field; given = in_json (json.Text text) }
+text_to field text = record { field = field; given = gives.Json (json.Text text) }
 
 -- ---- replies
 

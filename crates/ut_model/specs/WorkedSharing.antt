@@ -14,7 +14,7 @@ use Rattle.ut_model.specs.declared.people_bodies.PrincipalKind.TheVariants as ki
 use Rattle.ut_model.specs.declared.metadata_bodies.SpelledType.TheVariants.{Plain, LookupTo}
 use Rattle.ut_model.specs.Principals.{Spelled}
 use Rattle.ut_model.specs.Requests.{Request, adds_group, adds_sharing_rule, asks, creates, sets_group, shares, updates}
-use Rattle.ut_model.specs.SharingRules.{by_formula}
+use Rattle.ut_model.specs.declared.sharing_bodies.SpelledSource.TheVariants.{Criteria}
 use Rattle.ut_model.specs.WorkedAccess.{is_open}
 use Rattle.ut_model.specs.WorkedQueries.{account_name, contacts_where, path}
 use Rattle.ut_model.specs.WorkedRequests.{Call, add_deals, by, by_admin, deal_made, deal_object, field_with, object_with, people, text_to}
@@ -53,7 +53,7 @@ share_open_deals =
       members = codes "object" ∷ codes "name" ∷ codes "to" ∷ codes "level" ∷ codes "formula" ∷ [];
       object = deal_object;
       name = codes "Open_deals";
-      source = by_formula is_open;
+      source = Criteria is_open;
       to = principal_text kind.Group (codes "00G000000000009");
       level = Read;
     })

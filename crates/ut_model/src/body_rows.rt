@@ -6,13 +6,13 @@ ghost use Rattle.ut_value.specs.declared.sharing.Level.TheVariants.{Read};
 ghost use Rattle.ut_model.specs.declared.people_bodies.PrincipalKind.TheVariants as kind;
 ghost use Rattle.ut_value.specs.declared.value.FieldType.TheVariants as type;
 ghost use Rattle.ut_model.specs.Forms.{object_request, share_request, sharing_rule_request, validation_request};
-ghost use Rattle.ut_model.specs.Given.{in_json};
 ghost use Rattle.ut_model.specs.Members.{assignments, body_in, principal_in};
 ghost use Rattle.ut_model.specs.declared.metadata_bodies.SpelledType.TheVariants.{Plain};
+ghost use Rattle.ut_model.specs.declared.record_bodies.Given.TheVariants as gives;
+ghost use Rattle.ut_model.specs.declared.sharing_bodies.SpelledSource.TheVariants.{Criteria};
 ghost use Rattle.ut_model.specs.PeopleForms.{group_request, role_request, user_request};
 ghost use Rattle.ut_model.specs.RequestOf.{value_part};
 ghost use Rattle.ut_model.specs.Requests.{adds_group, adds_object, adds_role, adds_sharing_rule, adds_user, shares};
-ghost use Rattle.ut_model.specs.SharingRules.{by_formula};
 ghost use Rattle.ut_model.specs.TypeForms.{type_of};
 ghost use Rattle.ut_model.specs.WorkedForms.{by_text, from_role, number_member, object_body, private_object, rule_body, share_body, share_read, text_member, type_body, user_body, validation_body};
 
@@ -38,7 +38,7 @@ pub fn form_rows()
           members = codes "object" ∷ codes "name" ∷ codes "to" ∷ codes "level" ∷ codes "formula" ∷ [];
           object = codes "A__c";
           name = codes "v";
-          source = by_formula (codes "TRUE");
+          source = Criteria (codes "TRUE");
           to = record { kind = kind.Role; text = codes "r" };
           level = Read;
         })) }
@@ -56,7 +56,7 @@ pub fn spelling_rows()
     ensures half { type_of (type_body (codes "Text") (number_member (codes "length") 2050000000 ∷ [])) ≡ None }
     ensures too_long { type_of (type_body (codes "Text") (number_member (codes "length") 25600000000 ∷ [])) ≡ None }
     ensures ignored { assignments (text_member (codes "attributes") (codes "x") ∷ text_member (codes "Name") (codes "n") ∷ [])
-        ≡ Some (record { field = codes "Name"; given = in_json (json.Text (codes "n")) } ∷ []) }
+        ≡ Some (record { field = codes "Name"; given = gives.Json (json.Text (codes "n")) } ∷ []) }
     ensures same_name { assignments (text_member (codes "name") (codes "x") ∷ text_member (codes "Name") (codes "n") ∷ [])
         ≡ None }
     ensures key { value_part (codes "A%2F1+2") ≡ Some (codes "A/1+2") }

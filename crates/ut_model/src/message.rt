@@ -7,7 +7,7 @@ ghost use Rattle.ut_model.specs.Limits.{limit_name, limit_number};
 ghost use Rattle.ut_model.specs.Messages.{message_of};
 ghost use Rattle.ut_value.specs.Id.{print18};
 
-use crate::limit::Limit;
+use crate::limit::{BODY_LIMIT, DELETION_LIMIT, INPUT_LIMIT, Limit, REPLY_LIMIT};
 use crate::refusal::Refusal;
 use std::alloc::{AllocError, Global};
 use ut_value::{Id, Text, Value, print_value};
@@ -59,6 +59,13 @@ fn duplicate_of(alloc: Global, field: &Text, other: &Id) -> Result<String, Alloc
     joined(alloc, field, ": duplicate of ", &other)
 }
 
+// A number between words.
+fn counted(alloc: Global, before: &str, number: usize, behind: &str) -> Result<String, AllocError>
+    ensures { IfOk result (λ s. string_bytes s ≡ before.now ++ (decimal number ++ behind.now)) }
+{
+    format!(in alloc; "{before}{number}{behind}")
+}
+
 fn limit_message(alloc: Global, limit: Limit) -> Result<String, AllocError>
     ensures { IfOk result (λ s. string_bytes s ≡ limit_name limit ++ codes ": " ++ decimal (limit_number limit)) }
 {
@@ -83,7 +90,7 @@ impl Refusal {
                 String::from_str(alloc, "transfer encodings aren't supported")
             }
             Refusal::LengthRequired => String::from_str(alloc, "a Content-Length is required"),
-            Refusal::BodyTooLarge => String::from_str(alloc, "the body is over 4194304 bytes"),
+            Refusal::BodyTooLarge => counted(alloc, "the body is over ", BODY_LIMIT, " bytes"),
             Refusal::InvalidSession => String::from_str(alloc, "Session expired or invalid"),
             Refusal::NotFound => String::from_str(alloc, "The requested resource does not exist"),
             Refusal::MethodNotAllowed => String::from_str(alloc, "the method isn't allowed here"),
@@ -115,16 +122,16 @@ impl Refusal {
             Refusal::DuplicateValue { field } => followed(alloc, field, ": duplicate value"),
             Refusal::DuplicateOf { field, other } => duplicate_of(alloc, field, other),
             Refusal::DeleteFailed { object, field } => referred_to(alloc, object, field),
-            Refusal::CascadeTooLarge => String::from_str(alloc, "over 1000 records"),
+            Refusal::CascadeTooLarge => counted(alloc, "over ", DELETION_LIMIT, " records"),
             Refusal::LimitExceeded { limit } => limit_message(alloc, *limit),
-            Refusal::ReplyTooLarge => String::from_str(alloc, "the reply is over 16777216 bytes"),
+            Refusal::ReplyTooLarge => counted(alloc, "the reply is over ", REPLY_LIMIT, " bytes"),
             Refusal::InvalidName { name } => followed(alloc, name, " isn't a name here"),
             Refusal::NameTaken { name } => followed(alloc, name, " is taken"),
             Refusal::JobBusy => String::from_str(alloc, "a retype is under way"),
             Refusal::RetypeUnsupported { field } => followed(alloc, field, " can't be retyped so"),
             Refusal::FieldInUse { field, rule } => joined(alloc, field, " is used by rule ", rule),
             Refusal::MalformedFormula { place } => format!(in alloc; "unexpected token at {place}"),
-            Refusal::InputTooLarge => String::from_str(alloc, "over 67108864 bytes"),
+            Refusal::InputTooLarge => counted(alloc, "over ", INPUT_LIMIT, " bytes"),
             Refusal::CsvRefused { row } => format!(in alloc; "row {row}"),
             Refusal::HeadingRefused { cell } => String::from_str(alloc, cell.as_str()),
             Refusal::SubqueryNotExported => String::from_str(alloc, "subqueries aren't exported"),

@@ -1,4 +1,5 @@
-//! What bodies say of new objects and fields. That members are judged in the body's order is why their names are held too.
+//! What bodies say of new objects, fields and validation rules. That members of a new object or field are judged in the body's
+//! order is why their names are held too.
 
 use ut_value::{Access, FieldType, Items, OnDelete, Text};
 
@@ -59,4 +60,17 @@ pub enum SpelledType {
         /// What the records with the reference are called there.
         child: Text,
     },
+}
+
+/// What a body says of a new validation rule.
+#[derive(Debug, Drop)]
+pub struct NewValidationRule {
+    /// The name of its object.
+    pub object: Text,
+    /// Its name.
+    pub name: Text,
+    /// The text of its formula, which holds on what is refused.
+    pub formula: Text,
+    /// What is said of what is refused.
+    pub message: Text,
 }

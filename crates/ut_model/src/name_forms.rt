@@ -5,6 +5,8 @@ ghost use Rattle.std.specs.Str.{chars};
 ghost use Rattle.ut_model.specs.Fields.{same_name};
 ghost use Rattle.ut_model.specs.Names as form;
 
+use crate::limit::STEM_LIMIT;
+
 /// Whether two names are one, whatever the case of their ASCII letters.
 pub fn same_name(a: &str, b: &str) -> bool
     ensures { result ≡ same_name (chars a.now) (chars b.now) }
@@ -43,12 +45,12 @@ fn begins_with_letter(bytes: &[u8]) -> bool
     }
 }
 
-// Whether it is 1 to 40 characters as a name has them.
+// Whether it is a stem, by its bytes.
 #[tactic(auto, unfolding(crate::specs::Names::is_stem))]
 fn is_stem_of(bytes: &[u8]) -> bool
     ensures { result ≡ form.is_stem bytes.now }
 {
-    1 <= bytes.len() && bytes.len() <= 40 && begins_with_letter(bytes) && in_stem(bytes)
+    1 <= bytes.len() && bytes.len() <= STEM_LIMIT && begins_with_letter(bytes) && in_stem(bytes)
 }
 
 // Whether it is a stem with this ending of three characters.

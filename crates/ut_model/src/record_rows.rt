@@ -8,7 +8,7 @@ ghost use Rattle.ut_value.specs.declared.value.FieldType.TheVariants as type;
 ghost use Rattle.ut_value.specs.declared.value.Value.TheVariants as value;
 ghost use Rattle.ut_model.specs.Fields.{typed};
 ghost use Rattle.ut_model.specs.Given.{read_json};
-ghost use Rattle.ut_model.specs.WorkedRecords.{account_with_code, accounts_made, contact_of, deal_of, delete_order, note_on, order_made, rules_made, upsert_account, upsert_with, upserted_so};
+ghost use Rattle.ut_model.specs.WorkedRecords.{add_rule, account_with_code, accounts_made, contact_of, deal_of, delete_order, note_on, order_made, rules_made, upsert_account, upsert_with, upserted_so};
 ghost use Rattle.ut_model.specs.WorkedRefusals.{contacts_by, found_contact, no_target};
 ghost use Rattle.ut_model.specs.WorkedRequests.{all_of, by, by_admin, done_so, made_so, refused_so, rows_so, said, start, text_to};
 
@@ -22,6 +22,10 @@ pub fn validation_rows()
         ≡ refused_so 400 (codes "DUPLICATE_VALUE") (codes "Code__c: duplicate value") }
     ensures readable { said start rules_made (by_admin (deal_of (pos 0) (text_to (codes "Name") (codes "n") ∷ [])))
         ≡ refused_so 400 (codes "DUPLICATE_VALUE") (codes "Code__c: duplicate of a00000000000008AAA") }
+
+    // A rule that spells no formula: `=` can't follow `<`.
+    ensures malformed { said start rules_made (by_admin (add_rule (codes "c_both") (codes "Amount__c < = 0") (codes "both")))
+        ≡ refused_so 400 (codes "MALFORMED_FORMULA") (codes "unexpected token at 12") }
 {}
 
 /// Upserts by a unique field. The call does nothing.

@@ -9,6 +9,7 @@ ghost use Rattle.ut_model.specs.declared.route.Route.{Route};
 ghost use Rattle.ut_model.specs.declared.route.Route.TheVariants as route;
 ghost use Rattle.ut_model.specs.declared.routed.Routed.TheVariants.{To, NotFound, NotAllowed};
 ghost use Rattle.ut_model.specs.Organisations.{with_org};
+ghost use Rattle.ut_model.specs.Jobs.{job_step};
 ghost use Rattle.ut_model.specs.Routing.{routed};
 ghost use Rattle.ut_model.specs.Callers.{IsUser};
 ghost use Rattle.ut_model.specs.Step.{Answering, Message, caller_by, in_org, org_named, query_text, refusal_reply, step_by};
@@ -39,6 +40,17 @@ pub fn answering_laws()
         → replies_for org (replies_by answers w qs) ≡ own_replies answers org v qs }
     ensures other { (answers : Answering) (w : World) (m : Message) (now org : ℕ) → (org_named m ≡ Some org → ⊥)
         → tenant_at (step_by answers w m now).1 org ≡ tenant_at w org }
+{}
+
+/// One organisation in the place of another, and what a step of a change of a type leaves. The call does nothing.
+pub fn tenant_laws()
+    // It is found at its place, the others at theirs, and of two that are put there the second counts.
+    ensures put { (w : World) (n : ℕ) (t u : Tenant) → tenant_at w n ≡ Some t → tenant_at (with_tenant w n u) n ≡ Some u }
+    ensures others { (w : World) (n m : ℕ) (u : Tenant) → (m ≡ n → ⊥) → tenant_at (with_tenant w n u) m ≡ tenant_at w m }
+    ensures twice { (w : World) (n : ℕ) (t u : Tenant) → with_tenant (with_tenant w n t) n u ≡ with_tenant w n u }
+
+    // A step leaves the users.
+    ensures users { (t : Tenant) → (job_step t).users ≡ t.users }
 {}
 
 /// Routes and steps of the world, worked by hand. The call does nothing.

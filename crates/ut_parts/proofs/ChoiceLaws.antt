@@ -4,11 +4,12 @@ use Rattle.std.proofs.lemmas.Bool.{ltb-true}
 use Rattle.ut_value.specs.declared.job.Outcome.TheVariants as outcome
 use Rattle.ut_value.specs.declared.job.Phase.TheVariants as phase
 use Rattle.ut_value.specs.declared.job.RuleState.TheVariants as state
+use Rattle.ut_value.specs.declared.sharing.Access.{Access}
 use Rattle.ut_value.specs.declared.sharing.Access.TheVariants as access
 use Rattle.ut_value.specs.declared.sharing.Level.TheVariants as level
 use Rattle.ut_value.specs.declared.value.OnDelete.TheVariants as delete
 use Rattle.ut_parts.specs.declared.choices.FieldFlags.{FieldFlags}
-use Rattle.ut_parts.specs.Choices.{Choice, Accesses, Levels, Phases, Outcomes, States, Deletes, Chosen, byte_of, is_spelled, of_byte, choice, choice_at, flags, flags_of, flags_at}
+use Rattle.ut_parts.specs.Choices.{Choice, Accesses, Levels, Phases, Outcomes, States, Deletes, Chosen, access_byte, byte_of, is_spelled, of_byte, choice, choice_at, flags, flags_of, flags_at}
 use Rattle.ut_parts.specs.PartLaws.{IsBytes, Takes, IsPart}
 use Rattle.ut_parts.proofs.PlainLaws.{IsBytes-rest, bind_some, guard_some, some_is}
 
@@ -20,11 +21,14 @@ here c y x e s = subst (λ (z : Chosen c). (byte_of c z ≡ byte_of c y) × IsTr
 
 -- the name of a byte has that byte
 named_so : (c : Choice) (b : ℕ) (x : Chosen c) → of_byte c b ≡ Some x → (byte_of c x ≡ b) × IsTrue (is_spelled c x)
-named_so Accesses zero x e = here Accesses access.Private x e refl
-named_so Accesses (suc zero) x e = here Accesses access.Read x e refl
-named_so Accesses (suc (suc zero)) x e = here Accesses access.ReadWrite x e refl
-named_so Accesses (suc (suc (suc zero))) x e = here Accesses access.ControlledByParent x e refl
-named_so Accesses (suc (suc (suc (suc b)))) x e = absurd cc
+named_so Accesses zero x e = here Accesses (record { access = access.Private; hierarchy = true }) x e refl
+named_so Accesses (suc zero) x e = here Accesses (record { access = access.Read; hierarchy = true }) x e refl
+named_so Accesses (suc (suc zero)) x e = here Accesses (record { access = access.ReadWrite; hierarchy = true }) x e refl
+named_so Accesses (suc (suc (suc zero))) x e = here Accesses (record { access = access.ControlledByParent; hierarchy = true }) x e refl
+named_so Accesses (suc (suc (suc (suc zero)))) x e = here Accesses (record { access = access.Private; hierarchy = false }) x e refl
+named_so Accesses (suc (suc (suc (suc (suc zero))))) x e = here Accesses (record { access = access.Read; hierarchy = false }) x e refl
+named_so Accesses (suc (suc (suc (suc (suc (suc zero)))))) x e = here Accesses (record { access = access.ReadWrite; hierarchy = false }) x e refl
+named_so Accesses (suc (suc (suc (suc (suc (suc (suc b))))))) x e = absurd cc
 named_so Levels zero x e = absurd cc
 named_so Levels (suc zero) x e = here Levels level.Read x e refl
 named_so Levels (suc (suc zero)) x e = here Levels level.Edit x e refl
@@ -46,12 +50,20 @@ named_so Deletes zero x e = here Deletes delete.Clear x e refl
 named_so Deletes (suc zero) x e = here Deletes delete.Restrict x e refl
 named_so Deletes (suc (suc b)) x e = absurd cc
 
+access_again : (a : Access) (h : Bool) → IsTrue (is_spelled Accesses (record { access = a; hierarchy = h }))
+    → of_byte Accesses (access_byte (record { access = a; hierarchy = h })) ≡ Some (record { access = a; hierarchy = h })
+access_again access.Private true h = refl
+access_again access.Private false h = refl
+access_again access.Read true h = refl
+access_again access.Read false h = refl
+access_again access.ReadWrite true h = refl
+access_again access.ReadWrite false h = refl
+access_again access.ControlledByParent true h = refl
+access_again access.ControlledByParent false h = absurd cc
+
 -- and the byte of a name that is spelled has that name
 byte_again : (c : Choice) (x : Chosen c) → IsTrue (is_spelled c x) → of_byte c (byte_of c x) ≡ Some x
-byte_again Accesses access.Private h = refl
-byte_again Accesses access.Read h = refl
-byte_again Accesses access.ReadWrite h = refl
-byte_again Accesses access.ControlledByParent h = refl
+byte_again Accesses x h = access_again x.access x.hierarchy h
 byte_again Levels level.Nothing h = absurd cc
 byte_again Levels level.Read h = refl
 byte_again Levels level.Edit h = refl

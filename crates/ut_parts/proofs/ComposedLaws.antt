@@ -16,7 +16,8 @@ use Rattle.ut_value.specs.declared.value.FieldType.{FieldType}
 use Rattle.ut_value.specs.declared.value.FieldType.TheVariants as type
 use Rattle.ut_parts.specs.Choices.{Deletes}
 use Rattle.ut_parts.proofs.ChoiceLaws.{choice_part}
-use Rattle.ut_parts.specs.Composed.{number8_at, signed64, as_signed, signed64_at, kind_of, named_by, principal, of_kind, principal_at, FitsPrincipal, ordered, with_byte, ordered_at, in_turn, items, in_turn_at, items_at, FitsItems, FitsTimes, source, source_at, FitsSource, field_type, field_type_at, FitsType}
+use Rattle.ut_value.specs.Principals.{kind_number, principal_id}
+use Rattle.ut_parts.specs.Composed.{number8_at, signed64, as_signed, signed64_at, principal, of_kind, principal_at, FitsPrincipal, ordered, with_byte, ordered_at, in_turn, items, in_turn_at, items_at, FitsItems, FitsTimes, source, source_at, FitsSource, field_type, field_type_at, FitsType}
 use Rattle.ut_parts.specs.PartLaws.{IsBytes, Takes, IsPart}
 use Rattle.ut_parts.proofs.PlainLaws.{IsBytes-rest, bind_some, some_is, Takes-then, number16_part, number32_part, number64_part, text_part, id_part, pair_part}
 
@@ -56,15 +57,15 @@ signed64_part = record {
 
 -- ---- principals
 
-kind_is : (kind : ℕ) (id : List ℕ) (left : List ℕ) (p : Principal) (rest : List ℕ) → of_kind kind (id, left) ≡ Some (p, rest) → (kind ≡ kind_of p) × (id ≡ named_by p) × (left ≡ rest)
+kind_is : (kind : ℕ) (id : List ℕ) (left : List ℕ) (p : Principal) (rest : List ℕ) → of_kind kind (id, left) ≡ Some (p, rest) → (kind ≡ kind_number p) × (id ≡ principal_id p) × (left ≡ rest)
 kind_is zero id left p rest e =
-    subst (λ (x : Principal × List ℕ). (0 ≡ kind_of x.0) × (id ≡ named_by x.0) × (left ≡ x.1)) (some_is (User id, left) (p, rest) e) (refl, refl, refl)
+    subst (λ (x : Principal × List ℕ). (0 ≡ kind_number x.0) × (id ≡ principal_id x.0) × (left ≡ x.1)) (some_is (User id, left) (p, rest) e) (refl, refl, refl)
 kind_is (suc zero) id left p rest e =
-    subst (λ (x : Principal × List ℕ). (1 ≡ kind_of x.0) × (id ≡ named_by x.0) × (left ≡ x.1)) (some_is (Role id, left) (p, rest) e) (refl, refl, refl)
+    subst (λ (x : Principal × List ℕ). (1 ≡ kind_number x.0) × (id ≡ principal_id x.0) × (left ≡ x.1)) (some_is (Role id, left) (p, rest) e) (refl, refl, refl)
 kind_is (suc (suc zero)) id left p rest e =
-    subst (λ (x : Principal × List ℕ). (2 ≡ kind_of x.0) × (id ≡ named_by x.0) × (left ≡ x.1)) (some_is (Subordinates id, left) (p, rest) e) (refl, refl, refl)
+    subst (λ (x : Principal × List ℕ). (2 ≡ kind_number x.0) × (id ≡ principal_id x.0) × (left ≡ x.1)) (some_is (Subordinates id, left) (p, rest) e) (refl, refl, refl)
 kind_is (suc (suc (suc zero))) id left p rest e =
-    subst (λ (x : Principal × List ℕ). (3 ≡ kind_of x.0) × (id ≡ named_by x.0) × (left ≡ x.1)) (some_is (Group id, left) (p, rest) e) (refl, refl, refl)
+    subst (λ (x : Principal × List ℕ). (3 ≡ kind_number x.0) × (id ≡ principal_id x.0) × (left ≡ x.1)) (some_is (Group id, left) (p, rest) e) (refl, refl, refl)
 kind_is (suc (suc (suc (suc k)))) id left p rest e = absurd cc
 
 principal_takes : (bytes : List ℕ) (p : Principal) (rest : List ℕ) → IsBytes bytes → principal_at bytes ≡ Some (p, rest) → Takes bytes (principal p) rest × FitsPrincipal p
@@ -76,9 +77,9 @@ principal_takes (kind ∷ bytes) p rest fits e =
     let k = kind_is kind b.0.0 b.0.1 p rest b.2 in
     principal_is kind bytes b.0.0 b.0.1 p rest k.0 k.1 k.2 t.0 t.1
   where
-    principal_is : (kind : ℕ) (bytes id left : List ℕ) (p : Principal) (rest : List ℕ) → kind ≡ kind_of p → id ≡ named_by p → left ≡ rest → Takes bytes id left → is_id id ≡ true → Takes (kind ∷ bytes) (principal p) rest × FitsPrincipal p
+    principal_is : (kind : ℕ) (bytes id left : List ℕ) (p : Principal) (rest : List ℕ) → kind ≡ kind_number p → id ≡ principal_id p → left ≡ rest → Takes bytes id left → is_id id ≡ true → Takes (kind ∷ bytes) (principal p) rest × FitsPrincipal p
     principal_is kind bytes id left p rest k i l t ok =
-        (record { parts = ap (λ (w : List ℕ). kind ∷ w) (subst (λ (z : List ℕ). bytes ≡ id ++ z) l t.parts) ∙ ap (λ (n : ℕ). n ∷ (id ++ rest)) k ∙ ap (λ (z : List ℕ). kind_of p ∷ (z ++ rest)) i; rest_fits = subst IsBytes l t.rest_fits }, subst (λ (z : List ℕ). is_id z ≡ true) i ok)
+        (record { parts = ap (λ (w : List ℕ). kind ∷ w) (subst (λ (z : List ℕ). bytes ≡ id ++ z) l t.parts) ∙ ap (λ (n : ℕ). n ∷ (id ++ rest)) k ∙ ap (λ (z : List ℕ). kind_number p ∷ (z ++ rest)) i; rest_fits = subst IsBytes l t.rest_fits }, subst (λ (z : List ℕ). is_id z ≡ true) i ok)
 
 principal_again : (p : Principal) (rest : List ℕ) → FitsPrincipal p → principal_at (principal p ++ rest) ≡ Some (p, rest)
 unfolding principal_at

@@ -9,7 +9,8 @@ use Rattle.std.specs.Ordering.{nat_cmp}
 use Rattle.ut_value.specs.Digits.{digits_value}
 use Rattle.ut_keeper.specs.Tables.{bytes_cmp}
 use Rattle.ut_parts.specs.Plain.{number8, number16, number64}
-use Rattle.ut_parts.specs.Composed.{kind_of, named_by, principal, FitsPrincipal, principal_cmp, ordered}
+use Rattle.ut_value.specs.Principals.{kind_number, principal_cmp, principal_id}
+use Rattle.ut_parts.specs.Composed.{principal, FitsPrincipal, ordered}
 use Rattle.ut_parts.specs.PartLaws.{IsBytes, KeepsOrder}
 use Rattle.ut_parts.proofs.PlainOrder.{DigitsOrdered, digits_keep, then_assoc, id_keeps}
 
@@ -42,7 +43,7 @@ number64_keeps law = digits_keep law 256 8 (λ n. n) (λ n. n < 2 ^ 64) (to_be_b
 
 pub principal_keeps : KeepsOrder principal_cmp FitsPrincipal principal
 principal_keeps a b x y fa fb =
-    rw (id_keeps (named_by a) (named_by b) x y fa fb) (sym (then_assoc (nat_cmp (kind_of a) (kind_of b)) (bytes_cmp (named_by a) (named_by b)) (bytes_cmp x y)))
+    rw (id_keeps (principal_id a) (principal_id b) x y fa fb) (sym (then_assoc (nat_cmp (kind_number a) (kind_number b)) (bytes_cmp (principal_id a) (principal_id b)) (bytes_cmp x y)))
 
 -- ---- ordered bytes
 

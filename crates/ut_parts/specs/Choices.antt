@@ -1,5 +1,5 @@
 -- Parts of one byte that choose among names, and the flags of a field.
-use Rattle.std.specs.Prelude.{ℕ, zero, suc, ◌+◌, ◌/◌, ◌%◌, Bool, true, false, List, [], ◌∷◌, Option, Some, None, ◌==◌, nat_lt, if◌then◌else◌}
+use Rattle.std.specs.Prelude.{ℕ, zero, suc, ◌+◌, ◌/◌, ◌%◌, Bool, true, false, not, ◌||◌, List, [], ◌∷◌, Option, Some, None, ◌==◌, nat_lt, if◌then◌else◌}
 use Rattle.ut_value.specs.declared.job.Outcome.{Outcome}
 use Rattle.ut_value.specs.declared.job.Outcome.TheVariants as outcome
 use Rattle.ut_value.specs.declared.job.Phase.{Phase}
@@ -14,6 +14,12 @@ use Rattle.ut_value.specs.declared.value.OnDelete.{OnDelete}
 use Rattle.ut_value.specs.declared.value.OnDelete.TheVariants as delete
 use Rattle.ut_parts.specs.Plain.{◌>>=◌}
 use Rattle.ut_parts.specs.declared.choices.FieldFlags.{FieldFlags}
+use Rattle.ut_parts.specs.declared.choices.ObjectAccess.{ObjectAccess}
+
+-- a flag is worth this number where it is set
+abbrev pub worth : ℕ → Bool → ℕ
+worth n true = n
+worth n false = 0
 
 -- ---- names
 
@@ -27,19 +33,32 @@ pub data Choice : Type 0 where
   Deletes : Choice
 
 abbrev pub Chosen : Choice → Type 0
-Chosen Accesses = Access
+Chosen Accesses = ObjectAccess
 Chosen Levels = Level
 Chosen Phases = Phase
 Chosen Outcomes = Outcome
 Chosen States = RuleState
 Chosen Deletes = OnDelete
 
+-- the number of an access
+abbrev pub access_number : Access → ℕ
+access_number access.Private = 0
+access_number access.Read = 1
+access_number access.ReadWrite = 2
+access_number access.ControlledByParent = 3
+
+-- where the hierarchy doesn't count, 4 more
+abbrev pub access_byte : ObjectAccess → ℕ
+access_byte x = access_number x.access + worth 4 (not x.hierarchy)
+
+-- whether an access is the object's own, and not its parent's
+abbrev pub is_own : Access → Bool
+is_own access.ControlledByParent = false
+is_own _ = true
+
 -- the byte of each name
 abbrev pub byte_of : (c : Choice) → Chosen c → ℕ
-byte_of Accesses access.Private = 0
-byte_of Accesses access.Read = 1
-byte_of Accesses access.ReadWrite = 2
-byte_of Accesses access.ControlledByParent = 3
+byte_of Accesses x = access_byte x
 byte_of Levels level.Nothing = 0
 byte_of Levels level.Read = 1
 byte_of Levels level.Edit = 2
@@ -57,18 +76,22 @@ byte_of States state.Leaving = 2
 byte_of Deletes delete.Clear = 0
 byte_of Deletes delete.Restrict = 1
 
--- of levels only those that a share or a rule may give are spelled
+-- of levels only those that a share or a rule may give are spelled, and the hierarchy counts where the access is the parent's
 abbrev pub is_spelled : (c : Choice) → Chosen c → Bool
+is_spelled Accesses x = x.hierarchy || is_own x.access
 is_spelled Levels level.Nothing = false
 is_spelled Levels level.Full = false
 is_spelled _ _ = true
 
 -- the name of a byte, if it has one
 abbrev pub of_byte : (c : Choice) → ℕ → Option (Chosen c)
-of_byte Accesses zero = Some access.Private
-of_byte Accesses (suc zero) = Some access.Read
-of_byte Accesses (suc (suc zero)) = Some access.ReadWrite
-of_byte Accesses (suc (suc (suc zero))) = Some access.ControlledByParent
+of_byte Accesses zero = Some (record { access = access.Private; hierarchy = true })
+of_byte Accesses (suc zero) = Some (record { access = access.Read; hierarchy = true })
+of_byte Accesses (suc (suc zero)) = Some (record { access = access.ReadWrite; hierarchy = true })
+of_byte Accesses (suc (suc (suc zero))) = Some (record { access = access.ControlledByParent; hierarchy = true })
+of_byte Accesses (suc (suc (suc (suc zero)))) = Some (record { access = access.Private; hierarchy = false })
+of_byte Accesses (suc (suc (suc (suc (suc zero))))) = Some (record { access = access.Read; hierarchy = false })
+of_byte Accesses (suc (suc (suc (suc (suc (suc zero)))))) = Some (record { access = access.ReadWrite; hierarchy = false })
 of_byte Levels (suc zero) = Some level.Read
 of_byte Levels (suc (suc zero)) = Some level.Edit
 of_byte Phases zero = Some phase.Copy
@@ -93,11 +116,6 @@ choice_at c [] = None
 choice_at c (b ∷ rest) = of_byte c b >>= λ x. Some (x, rest)
 
 -- ---- flags
-
--- a flag is worth this number where it is set
-abbrev pub worth : ℕ → Bool → ℕ
-worth n true = n
-worth n false = 0
 
 -- 1 required, 2 unique, 4 indexed, added up
 abbrev pub flags : FieldFlags → List ℕ

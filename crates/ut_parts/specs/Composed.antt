@@ -2,16 +2,14 @@
 use Rattle.std.specs.Prelude.{◌≡◌, ℕ, zero, suc, ◌<◌, ◌^◌, ℤ, IsTrue, List, [], ◌∷◌, ◌++◌, length, Option, Some, None, ◌==◌, if◌then◌else◌}
 use Rattle.std.specs.Int.{w16, w32, w64, cast_signed, cast_unsigned}
 use Rattle.std.specs.List.{All}
-use Rattle.std.specs.Ordering.{nat_cmp, ordering_then}
-use Rattle.std.specs.declared.cmp.Ordering.{Ordering}
 use Rattle.ut_value.specs.Id.{is_id}
+use Rattle.ut_value.specs.Principals.{kind_number, principal_id}
 use Rattle.ut_value.specs.declared.sharing.Principal.{Principal}
 use Rattle.ut_value.specs.declared.sharing.Principal.TheVariants.{User, Role, Subordinates, Group}
 use Rattle.ut_value.specs.declared.sharing.RuleSource.{RuleSource}
 use Rattle.ut_value.specs.declared.sharing.RuleSource.TheVariants.{Owner, Criteria}
 use Rattle.ut_value.specs.declared.value.FieldType.{FieldType}
 use Rattle.ut_value.specs.declared.value.FieldType.TheVariants as type
-use Rattle.ut_keeper.specs.Tables.{bytes_cmp}
 use Rattle.ut_parts.specs.Choices.{Deletes, choice, choice_at}
 use Rattle.ut_parts.specs.Plain.{◌>>=◌, number8, number16, number32, number64, number_at, text, text_at, FitsText, id_at, pair_at}
 
@@ -36,23 +34,9 @@ signed64_at bytes = number_at w64 bytes >>= as_signed
 
 -- ---- principals
 
--- the number of a principal's kind
-abbrev pub kind_of : Principal → ℕ
-kind_of (User id) = 0
-kind_of (Role id) = 1
-kind_of (Subordinates id) = 2
-kind_of (Group id) = 3
-
--- the id that a principal names
-abbrev pub named_by : Principal → List ℕ
-named_by (User id) = id
-named_by (Role id) = id
-named_by (Subordinates id) = id
-named_by (Group id) = id
-
 -- a principal is its kind and its id
 abbrev pub principal : Principal → List ℕ
-principal p = kind_of p ∷ named_by p
+principal p = kind_number p ∷ principal_id p
 
 -- the principal of this kind and id, if there is such a kind
 abbrev pub of_kind : ℕ → List ℕ × List ℕ → Option (Principal × List ℕ)
@@ -69,11 +53,7 @@ principal_at (kind ∷ rest) = id_at rest >>= of_kind kind
 
 -- its id is an id
 abbrev pub FitsPrincipal : Principal → Type 0
-FitsPrincipal p = IsTrue (is_id (named_by p))
-
--- by kind, and then by id
-abbrev pub principal_cmp : Principal → Principal → Ordering
-principal_cmp p q = ordering_then (nat_cmp (kind_of p) (kind_of q)) (bytes_cmp (named_by p) (named_by q))
+FitsPrincipal p = IsTrue (is_id (principal_id p))
 
 -- ---- ordered bytes
 

@@ -1,12 +1,9 @@
 -- What the laws of parts say: that a reader and a spelling fit together, and that spellings keep an order.
-use Rattle.std.specs.Prelude.{◌≡◌, ℕ, ◌<◌, List, ◌++◌, Option, Some, get_or}
+use Rattle.std.specs.Prelude.{◌≡◌, List, ◌++◌, Option, Some, ℕ}
 use Rattle.std.specs.Ordering.{ordering_then}
 use Rattle.std.specs.declared.cmp.Ordering.{Ordering}
+pub use Rattle.ut_value.specs.Bytes.{IsBytes}
 use Rattle.ut_keeper.specs.Tables.{bytes_cmp}
-
--- each is below 256
-abbrev pub IsBytes : List ℕ → Type 0
-IsBytes bytes = (i : ℕ) → get_or bytes i 0 < 256
 
 -- what a reader took from the front
 pub record Takes (bytes text rest : List ℕ) : Type 0 where

@@ -4,7 +4,8 @@ use Rattle.std.specs.Int.{w16, w32, w64}
 use Rattle.ut_value.specs.Id.{is_id}
 use Rattle.ut_value.specs.declared.sharing.Principal.{Principal}
 use Rattle.ut_parts.specs.Plain.{number8, number16, number32, number64, number_at, text, text_at, FitsText, same_bytes, id_at, truth, truth_at, optional, optional_at, fixed_at, mark_at, nothing, nothing_at, pair_at}
-use Rattle.ut_parts.specs.Composed.{number8_at, signed64, signed64_at, principal, principal_at, FitsPrincipal, principal_cmp, ordered, ordered_at, in_turn, in_turn_at, FitsTimes, items, items_at, FitsItems, source, source_at, FitsSource, field_type, field_type_at, FitsType}
+use Rattle.ut_value.specs.Principals.{principal_cmp}
+use Rattle.ut_parts.specs.Composed.{number8_at, signed64, signed64_at, principal, principal_at, FitsPrincipal, ordered, ordered_at, in_turn, in_turn_at, FitsTimes, items, items_at, FitsItems, source, source_at, FitsSource, field_type, field_type_at, FitsType}
 use Rattle.ut_parts.specs.Choices.{Choice, Chosen, is_spelled, choice, choice_at, flags, flags_at}
 use Rattle.ut_parts.specs.declared.choices.FieldFlags.{FieldFlags}
 use Rattle.ut_value.specs.declared.sharing.RuleSource.{RuleSource}

@@ -8,7 +8,17 @@ use crate::part::Part;
 use std::alloc::{AllocError, Global};
 use ut_value::{Access, Level, OnDelete, Outcome, Phase, RuleState};
 
-impl Part for Access {
+/// What every user may do with an object's records, and whether those above in the hierarchy of roles may do what those
+/// below may.
+#[derive(Clone, Copy, Debug, PartialEq, Eq)]
+pub struct ObjectAccess {
+    /// What every user may do.
+    pub access: Access,
+    /// Whether the hierarchy of roles counts. It does wherever the access is the parent's.
+    pub hierarchy: bool,
+}
+
+impl Part for ObjectAccess {
     ghost spell = { choice Accesses };
 
     ghost Fits = { λ x. IsTrue (is_spelled Accesses x) };
@@ -16,24 +26,29 @@ impl Part for Access {
     ghost reads = { choice_at Accesses };
 
     fn put(&self, out: &mut Vec<u8>) -> Result<(), AllocError> {
-        out.push(match self {
+        let byte = match self.access {
             Access::Private => 0,
             Access::Read => 1,
             Access::ReadWrite => 2,
             Access::ControlledByParent => 3,
-        })?;
+        };
+        out.push(if self.hierarchy { byte } else { byte + 4 })?;
         Ok(())
     }
 
     #[tactic(auto, unfolding(crate::specs::Choices::choice_at))]
-    fn take(_: Global, bytes: &[u8]) -> Result<(Access, &[u8]), CodecFail> {
-        match bytes {
-            [0, rest @ ..] => Ok((Access::Private, rest)),
-            [1, rest @ ..] => Ok((Access::Read, rest)),
-            [2, rest @ ..] => Ok((Access::ReadWrite, rest)),
-            [3, rest @ ..] => Ok((Access::ControlledByParent, rest)),
-            _ => Err(CodecFail::Damaged),
-        }
+    fn take(_: Global, bytes: &[u8]) -> Result<(ObjectAccess, &[u8]), CodecFail> {
+        let (access, hierarchy, rest) = match bytes {
+            [0, rest @ ..] => (Access::Private, true, rest),
+            [1, rest @ ..] => (Access::Read, true, rest),
+            [2, rest @ ..] => (Access::ReadWrite, true, rest),
+            [3, rest @ ..] => (Access::ControlledByParent, true, rest),
+            [4, rest @ ..] => (Access::Private, false, rest),
+            [5, rest @ ..] => (Access::Read, false, rest),
+            [6, rest @ ..] => (Access::ReadWrite, false, rest),
+            _ => return Err(CodecFail::Damaged),
+        };
+        Ok((ObjectAccess { access, hierarchy }, rest))
     }
 }
 

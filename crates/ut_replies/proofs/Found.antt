@@ -1,111 +1,48 @@
--- What `SELECT Id, Name` finds, its rows, and that nothing of it is refused.
-use Rattle.std.proofs.Common.{◌≡◌, ℕ, Bool, true, false, ◌&&◌, cond, List, [], ◌∷◌, map, filter, Some, None, refl, ap, ◌∙◌, T, is_lt, slice_get, slice_index_or, lit<}
+-- What a query for ids and names finds, its rows, and that nothing of it is refused.
+use Rattle.std.proofs.Common.{◌≡◌, ℕ, true, List, [], ◌∷◌, map, filter, Some, None, refl, ap, sym, ◌∙◌, slice_get, slice_index_or, lit<}
 use Rattle.std.specs.Prelude.{codes, encode_utf8_all}
 use Rattle.std.specs.Char.{encode_utf8}
 use Rattle.std.proofs.lemmas.Fmt.{decimal_digit}
-use Rattle.std.specs.List.{AllByRecursion}
-use Rattle.std.specs.FinMap.Entries.{below_all}
-use Rattle.std.specs.Ordering.{nat_cmp}
-use Rattle.std.specs.Cmp.Lexicographic.{slice_cmp}
+use Rattle.std.specs.List.Sorted.{IsStrictlySortedBy}
 use Rattle.std.proofs.lemmas.Bool.{eqb-true}
 use Rattle.ut_json.specs.Printing.{escaped, printed_text, printed_truth}
 use Rattle.ut_value.specs.Id.{print18}
+use Rattle.ut_value.specs.Texts.{lower}
 use Rattle.ut_value.specs.Values.{valid}
 use Rattle.ut_value.specs.declared.value.FieldType.TheVariants as type
 use Rattle.ut_value.specs.declared.value.Value.{Value}
 use Rattle.ut_value.specs.declared.value.Value.TheVariants as value
+use Rattle.ut_query.specs.declared.query.Query.{Query}
 use Rattle.ut_model.specs.declared.record.Record.{Record}
 use Rattle.ut_model.specs.declared.refusal.Refusal.TheVariants as refusal
-use Rattle.ut_model.specs.Asking.{ask, query_rules}
+use Rattle.ut_model.specs.Asking.{ask, asks_for_names, query_rules}
 use Rattle.ut_model.specs.Cases.{in_case}
 use Rattle.ut_model.specs.Conditions.{satisfies}
-use Rattle.ut_model.specs.Fields.{column_named}
 use Rattle.ut_model.specs.Membership.{Has}
-use Rattle.ut_model.specs.Objects.{Numbered, is_of, object_named, object_number, object_of, records_of}
-use Rattle.ut_model.specs.Ordered.{before, in_order, put_in}
+use Rattle.ut_model.specs.Known.{known}
+use Rattle.ut_model.specs.Objects.{Numbered, is_of, object_at, object_named, object_number, object_of, records_of}
+use Rattle.ut_model.specs.Ordered.{before, by_id, in_order}
 use Rattle.ut_model.specs.Paths.{Asked}
 use Rattle.ut_model.specs.Rows.{chosen, found, readable_of}
 use Rattle.ut_model.specs.Rules.{first_refusal}
 use Rattle.ut_model.specs.RowsJson.{found_json, list_json, member_json, object_json, row_json, rows_json, value_json}
 use Rattle.ut_model.specs.Sound.{IsSound}
-use Rattle.ut_model.specs.SoundPeople.{ids_rise}
-use Rattle.ut_model.specs.SoundRecords.{all_valid, kinds_of, record_id}
-use Rattle.ut_model.specs.Tenant.{Object}
+use Rattle.ut_model.specs.SoundRecords.{IsSoundRecord, all_valid, kinds_of}
+use Rattle.ut_model.specs.Tenant.{Object, Tenant}
 use Rattle.ut_model.specs.Verdict.{accept, judged, refuse, rows_of, unless}
-use Rattle.ut_model.specs.Asking.{names_query}
 use Rattle.ut_replies.specs.Names.{name_attributes, name_in, name_row}
-use Rattle.ut_replies.proofs.Lists.{all_kept, all_stay, kept_from, left, same_map}
-use Rattle.ut_replies.proofs.Places.{named_at}
-use Rattle.ut_replies.proofs.Readable.{reads_all, sound_at}
+use Rattle.ut_replies.proofs.Lists.{all_at, all_stay, kept_from, left, same_map}
+use Rattle.ut_replies.proofs.Spelled.{id_column, own_name, spelled, spelling}
 
--- ---- records whose ids rise
+-- ---- what the model's laws say
 
-abbrev is_below : Record → Record → Bool
-is_below r s = is_lt (slice_cmp nat_cmp r.id s.id)
+pub record Laws : Type 0 where
+  pub readable : (a : Asked) (n : ℕ) → IsSound a.tenant → a.user.admin ≡ true → readable_of a n ≡ records_of a.tenant n
+  pub rise : (t : Tenant) (n : ℕ) → IsSound t → IsStrictlySortedBy by_id (records_of t n)
+  pub already : (a : Asked) (rs : List Record) → IsStrictlySortedBy by_id rs → in_order (before a []) rs ≡ rs
+  pub named : (t : Tenant) (name : List ℕ) (o : Numbered) → object_named t name ≡ Some o → object_at t o.number ≡ Some o.object
 
-abbrev Rise : List Record → Type 0
-Rise [] = Unit {0}
-Rise (r ∷ rs) = AllByRecursion (λ s. is_below r s ≡ true) rs × Rise rs
-
-first : (a b : Bool) → T (a && b) → a ≡ true
-first true b h = refl
-first false b h = absurd h
-
-second : (a b : Bool) → T (a && b) → T b
-second true b h = h
-second false b h = absurd h
-
-it_holds : (a : Bool) → T a → a ≡ true
-it_holds true h = refl
-it_holds false h = absurd h
-
-both_hold : (a b : Bool) → T (a && b) → T a
-both_hold true b h = tt
-both_hold false b h = absurd h
-
-below_each : (r : Record) (rs : List Record) → T (below_all (slice_cmp nat_cmp) r.id (map (λ x. (record_id x, x)) rs)) → AllByRecursion (λ s. is_below r s ≡ true) rs
-below_each r [] h = tt
-below_each r (s ∷ rs) h = (
-  first (is_below r s) (below_all (slice_cmp nat_cmp) r.id (map (λ x. (record_id x, x)) rs)) h,
-  below_each r rs (second (is_below r s) (below_all (slice_cmp nat_cmp) r.id (map (λ x. (record_id x, x)) rs)) h),
-)
-
-they_rise : (rs : List Record) → T (ids_rise record_id rs) → Rise rs
-they_rise [] h = tt
-they_rise (r ∷ rs) h =
-    let below = below_all (slice_cmp nat_cmp) r.id (map (λ x. (record_id x, x)) rs) in
-    (below_each r rs (both_hold below (ids_rise record_id rs) h), they_rise rs (second below (ids_rise record_id rs) h))
-
-kept_rise : (p : Record → Bool) (rs : List Record) → Rise rs → Rise (filter p rs)
-kept_rise p [] h = tt
-kept_rise p (r ∷ rs) h = by (p r) (kept_rise p rs h.1)
-  where
-    by : (b : Bool) → Rise (filter p rs) → Rise (cond b (r ∷ filter p rs) (filter p rs))
-    by true rest = (all_kept (λ s. is_below r s ≡ true) p rs h.0, rest)
-    by false rest = rest
-
--- they are in order
-in_order_already : (a : Asked) (rs : List Record) → Rise rs → in_order (before a []) rs ≡ rs
-unfolding in_order
-in_order_already a [] h = refl
-in_order_already a (r ∷ rs) h = ap (put_in (before a []) r) (in_order_already a rs h.1) ∙ in_front rs h.0
-  where
-    in_front : (rs : List Record) → AllByRecursion (λ s. is_below r s ≡ true) rs → put_in (before a []) r rs ≡ r ∷ rs
-    in_front [] h = refl
-    in_front (s ∷ rs) h = ap (λ b. cond b (r ∷ s ∷ rs) (s ∷ put_in (before a []) r rs)) h.0
-
--- ---- what is found
-
-pub found_all : (a : Asked) (object : List ℕ) (o : Numbered) → IsSound a.tenant → a.user.admin ≡ true → object_named a.tenant object ≡ Some o
-    → found a (names_query object) ≡ records_of a.tenant o.number
-unfolding found
-found_all a object o s admin e =
-    ap (λ x. in_case x [] (λ o. chosen a (names_query object).tail 0 (readable_of a o.number))) e
-    ∙ ap (λ rs. in_order (before a []) (filter (satisfies a None) rs)) (reads_all a s admin o.number)
-    ∙ ap (in_order (before a [])) (all_stay (satisfies a None) (records_of a.tenant o.number) (λ r m. refl))
-    ∙ in_order_already a (records_of a.tenant o.number) (kept_rise (is_of o.number) a.tenant.records (they_rise a.tenant.records s.records.rise))
-
--- ---- a row
+-- ---- the name of a record
 
 -- a name is a text, or null
 text_or_null : (v : Value) (vs : List Value) → valid (type.Text 80) v ≡ true → slice_index_or (v ∷ vs) 0 value.Null ≡ name_in (v ∷ vs)
@@ -126,40 +63,79 @@ abbrev row_of : List ℕ → Record → Value → List ℕ
 row_of object r v =
     object_json (name_attributes object r.id ∷ member_json (codes "Id") (printed_text (print18 r.id)) ∷ member_json (codes "Name") (value_json v) ∷ [])
 
-pub row_is : (a : Asked) (object : List ℕ) (o : Numbered) → IsSound a.tenant → object_named a.tenant object ≡ Some o
-    → (r : Record) → Has (records_of a.tenant o.number) r → row_json a r (names_query object).select ≡ name_row o.object.name r
-unfolding column_named
-row_is a object o s e r m =
-    let h = kept_from (is_of o.number) a.tenant.records r m in
-    let at : object_of a.tenant r ≡ Some o.object = ap (slice_get a.tenant.objects) (eqb-true (object_number r.id) o.number h.1) ∙ named_at a.tenant object o e in
-    let fields : row_json a r (names_query object).select ≡ row_of o.object.name r (slice_index_or r.values 0 value.Null) = rw at refl in
-    let w = sound_at a s r h.0 in
-    fields ∙ ap (row_of o.object.name r) (name_there w.object r.values w.values)
+module _ (laws : Laws) (id name : List ℕ) (same_id : lower id ≡ lower (codes "Id")) (same_name : lower name ≡ lower (codes "Name")) where
+  -- ---- what is found
 
--- ---- the verdict
+  found_spelled : (a : Asked) (object : List ℕ) (o : Numbered) → IsSound a.tenant → a.user.admin ≡ true → object_named a.tenant object ≡ Some o
+      → found a (spelled id name object) ≡ records_of a.tenant o.number
+  unfolding found
+  found_spelled a object o s admin e =
+      ap (λ x. in_case x [] (λ o. chosen a (spelled id name object).tail 0 (readable_of a o.number))) e
+      ∙ ap (λ rs. in_order (before a []) (filter (satisfies a None) rs)) (laws.readable a o.number s admin)
+      ∙ ap (in_order (before a [])) (all_stay (satisfies a None) (records_of a.tenant o.number) (λ r m. refl))
+      ∙ laws.already a (records_of a.tenant o.number) (laws.rise a.tenant o.number s)
 
-pub accepts : (a : Asked) (object : List ℕ) (o : Numbered) → object_named a.tenant object ≡ Some o → ask a (names_query object) ≡ accept (rows_of (names_query object)) a.tenant
-unfolding column_named
-accepts a object o e =
-    let at : slice_get a.tenant.objects o.number ≡ Some o.object = named_at a.tenant object o e in
-    let q = names_query object in
-    let rules : first_refusal (query_rules a.tenant o.number q) ≡ None = rw at refl in
-    ap (λ x. in_case x (refuse a.tenant (refusal.InvalidType object)) (λ o. judged a.tenant (query_rules a.tenant o.number q) (accept (rows_of q) a.tenant))) e
-    ∙ ap (λ x. unless x a.tenant (accept (rows_of q) a.tenant)) rules
+  -- ---- a row
 
-pub refuses : (a : Asked) (object : List ℕ) → object_named a.tenant object ≡ None → ask a (names_query object) ≡ refuse a.tenant (refusal.InvalidType object)
-refuses a object e =
-    let q = names_query object in
-    ap (λ x. in_case x (refuse a.tenant (refusal.InvalidType object)) (λ o. judged a.tenant (query_rules a.tenant o.number q) (accept (rows_of q) a.tenant))) e
+  row_spelled : (a : Asked) (object : List ℕ) (o : Numbered) → IsSound a.tenant → object_named a.tenant object ≡ Some o
+      → (r : Record) → Has (records_of a.tenant o.number) r → row_json a r (spelled id name object).select ≡ name_row o.object.name r
+  row_spelled a object o s e r m =
+      let h = kept_from (is_of o.number) a.tenant.records r m in
+      let at : object_of a.tenant r ≡ Some o.object = ap (slice_get a.tenant.objects) (eqb-true (object_number r.id) o.number h.1) ∙ laws.named a.tenant object o e in
+      let fields : row_json a r (spelled id name object).select ≡ row_of o.object.name r (slice_index_or r.values 0 value.Null) =
+      rw (at, id_column o.object id same_id, own_name o.object name same_name) refl in
+      let w = all_at (IsSoundRecord (known a.tenant) a.tenant.objects) a.tenant.records s.records.each r h.0 in
+      fields ∙ ap (row_of o.object.name r) (name_there w.object r.values w.values)
 
--- ---- the body
+  -- ---- the verdict
 
-pub body_is : (a : Asked) (object : List ℕ) (o : Numbered) → IsSound a.tenant → a.user.admin ≡ true → object_named a.tenant object ≡ Some o
-    → found_json a (names_query object) ≡ rows_json (map (name_row o.object.name) (records_of a.tenant o.number))
-unfolding found_json
-body_is a object o s admin e =
-    ap (λ rs. rows_json (map (λ r. row_json a r (names_query object).select) rs)) (found_all a object o s admin e)
-    ∙ ap rows_json (same_map (λ r. row_json a r (names_query object).select) (name_row o.object.name) (records_of a.tenant o.number) (row_is a object o s e))
+  accepted_spelled : (a : Asked) (object : List ℕ) (o : Numbered) → object_named a.tenant object ≡ Some o
+      → ask a (spelled id name object) ≡ accept (rows_of (spelled id name object)) a.tenant
+  accepted_spelled a object o e =
+      let at : slice_get a.tenant.objects o.number ≡ Some o.object = laws.named a.tenant object o e in
+      let q = spelled id name object in
+      let rules : first_refusal (query_rules a.tenant o.number q) ≡ None =
+      rw (at, id_column o.object id same_id, own_name o.object name same_name, same_id, same_name) refl in
+      ap (λ x. in_case x (refuse a.tenant (refusal.InvalidType object)) (λ o. judged a.tenant (query_rules a.tenant o.number q) (accept (rows_of q) a.tenant))) e
+      ∙ ap (λ x. unless x a.tenant (accept (rows_of q) a.tenant)) rules
+
+  -- ---- the body
+
+  body_spelled : (a : Asked) (object : List ℕ) (o : Numbered) → IsSound a.tenant → a.user.admin ≡ true → object_named a.tenant object ≡ Some o
+      → found_json a (spelled id name object) ≡ rows_json (map (name_row o.object.name) (records_of a.tenant o.number))
+  unfolding found_json
+  body_spelled a object o s admin e =
+      ap (λ rs. rows_json (map (λ r. row_json a r (spelled id name object).select) rs)) (found_spelled a object o s admin e)
+      ∙ ap rows_json (same_map (λ r. row_json a r (spelled id name object).select) (name_row o.object.name) (records_of a.tenant o.number) (row_spelled a object o s e))
+
+-- ---- the same of a query for ids and names
+
+pub found_all : Laws → (a : Asked) (q : Query) (o : Numbered) → IsSound a.tenant → a.user.admin ≡ true → asks_for_names q ≡ true → object_named a.tenant q.tail.from ≡ Some o
+    → found a q ≡ records_of a.tenant o.number
+found_all laws a q o s admin asks e =
+    let p = spelling q asks in
+    ap (found a) p.is ∙ found_spelled laws p.id p.name p.same_id p.same_name a q.tail.from o s admin e
+
+pub row_is : Laws → (a : Asked) (q : Query) (o : Numbered) → IsSound a.tenant → asks_for_names q ≡ true → object_named a.tenant q.tail.from ≡ Some o
+    → (r : Record) → Has (records_of a.tenant o.number) r → row_json a r q.select ≡ name_row o.object.name r
+row_is laws a q o s asks e r m =
+    let p = spelling q asks in
+    ap (λ (q : Query). row_json a r q.select) p.is ∙ row_spelled laws p.id p.name p.same_id p.same_name a q.tail.from o s e r m
+
+pub body_is : Laws → (a : Asked) (q : Query) (o : Numbered) → IsSound a.tenant → a.user.admin ≡ true → asks_for_names q ≡ true → object_named a.tenant q.tail.from ≡ Some o
+    → found_json a q ≡ rows_json (map (name_row o.object.name) (records_of a.tenant o.number))
+body_is laws a q o s admin asks e =
+    let p = spelling q asks in
+    ap (found_json a) p.is ∙ body_spelled laws p.id p.name p.same_id p.same_name a q.tail.from o s admin e
+
+pub accepts : Laws → (a : Asked) (q : Query) (o : Numbered) → asks_for_names q ≡ true → object_named a.tenant q.tail.from ≡ Some o → ask a q ≡ accept (rows_of q) a.tenant
+accepts laws a q o asks e =
+    let p = spelling q asks in
+    ap (ask a) p.is ∙ accepted_spelled laws p.id p.name p.same_id p.same_name a q.tail.from o e ∙ ap (λ (q : Query). accept (rows_of q) a.tenant) (sym p.is)
+
+pub refuses : (a : Asked) (q : Query) → object_named a.tenant q.tail.from ≡ None → ask a q ≡ refuse a.tenant (refusal.InvalidType q.tail.from)
+refuses a q e =
+    ap (λ x. in_case x (refuse a.tenant (refusal.InvalidType q.tail.from)) (λ o. judged a.tenant (query_rules a.tenant o.number q) (accept (rows_of q) a.tenant))) e
 
 -- ---- no records
 

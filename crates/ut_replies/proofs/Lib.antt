@@ -1,5 +1,4 @@
 pub mod Written
 pub mod Lists
-pub mod Places
-pub mod Readable
+pub mod Spelled
 pub mod Found

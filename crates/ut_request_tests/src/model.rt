@@ -10,7 +10,7 @@ fn says(
     message: &str,
 ) -> Result<bool, AllocError> {
     let said = refusal.message(alloc)?;
-    Ok(refusal.code() == code && refusal.status() == status && said.as_str() == message)
+    Ok(refusal.code() == code && refusal.status().as_u16() == status && said.as_str() == message)
 }
 
 #[test]

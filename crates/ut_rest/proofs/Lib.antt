@@ -1,4 +1,5 @@
 pub mod Characters
+pub mod Literals
 pub mod Meetings
 pub mod Named
 pub mod Queries

@@ -1,6 +1,6 @@
 //! From a caller's request, its method, target and body, to its reply, over a draft.
 //!
-//! It depends on the definitions of routes and of the step in `ut_model`, on `ut_query` for the object that a query asks for,
+//! It depends on the definitions of routes and of the step in `ut_model`, on `ut_soql` for queries,
 //! on `ut_stands`, `ut_data` and `ut_replies` for an object's records and their rows, on `ut_admin` for administration, and on
 //! `form_urlencoded` for query strings. Its contract: over tables that stand for a world, `respond` returns the reply of the
 //! definition `verdict_to`, and the draft's tables then stand for the world with what the verdict leaves of the organisation.
@@ -8,6 +8,7 @@
 //! text that the definition of that name finds in a query string, or they are out of memory.
 #![tactic(auto)]
 
+mod asking;
 mod kind;
 mod names;
 mod pattern;

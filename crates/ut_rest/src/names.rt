@@ -1,36 +1,41 @@
 //! The query for the ids and names of an object's records.
 
-ghost use Rattle.std.specs.Prelude.{◌≡◌, ◌+◌, IfOk, IsErrOf, None, Some, codes, is_ok, true};
+ghost use Rattle.std.specs.Prelude.{◌≡◌, ◌+◌, IfOk, IsErrOf, None, Ok, Some, codes, is_ok, true};
 ghost use Rattle.std.specs.Str.{chars};
+ghost use Rattle.ut_grammar.specs.Place.{UnlessMemory};
 ghost use Rattle.ut_keeper.specs.Draft.{DraftReads, DraftTells, removals_of, state_of, tables_of};
 ghost use Rattle.ut_keeper.specs.State.{KeeperCause, StaysAfter, data_table};
 ghost use Rattle.ut_keys.specs.declared.fail.StoreFail.TheVariants.{Keeper};
 ghost use Rattle.ut_model.specs.declared.limit.Limit.TheVariants as limit;
 ghost use Rattle.ut_model.specs.declared.refusal.Refusal.TheVariants.{NotBuilt};
-ghost use Rattle.ut_model.specs.Asking.{ask};
-ghost use Rattle.ut_model.specs.Asking.{names_query};
-ghost use Rattle.ut_step.specs.Built.{names_verdict};
+ghost use Rattle.ut_model.specs.Asking.{ask, asks_for_names};
 ghost use Rattle.ut_model.specs.Limits.{limit_number};
 ghost use Rattle.ut_model.specs.Paths.{Asked};
 ghost use Rattle.ut_model.specs.Step.{query_text};
 ghost use Rattle.ut_model.specs.World.{World, tenant_at};
-ghost use Rattle.ut_query.specs.Asking.{asked_object};
+ghost use Rattle.ut_query.specs.declared.query.Query.{Query};
 ghost use Rattle.ut_rest.specs.Forms.{IsRequestReply};
 ghost use Rattle.ut_rest.specs.inner.Answers.{Refuses, names_reply};
+ghost use Rattle.ut_soql_grammar.specs.Spelling.{reads_query};
 ghost use Rattle.ut_stands.specs.Layouts.{FindsOf, records_after};
 ghost use Rattle.ut_stands.specs.Operations.{IsChange, RepliesIn};
 ghost use Rattle.ut_stands.specs.Stands.{Stands};
 ghost use Rattle.ut_stands.specs.declared.judged.Judged.TheVariants.{Same};
+ghost use Rattle.ut_step.specs.Built.{query_verdict};
 
+use crate::asking::asks_for_names;
 use crate::query::query_text;
 use crate::replies::{refuse, unless_too_large};
+use http::StatusCode;
 use std::alloc::{AllocError, Global};
 use ut_data::walk;
+use ut_grammar::ParseFail;
 use ut_keeper::{Draft, Keeper, draft_laws};
 use ut_keys::StoreFail;
-use ut_model::{Caller, Limit, Record, Refusal, Reply};
-use ut_query::asked_object;
+use ut_model::{Caller, Limit, Record, Refusal, Reply, object_laws};
+use ut_query::Query;
 use ut_replies::{names_body, names_laws};
+use ut_soql::parse;
 use ut_stands::{Judged, Layout, layout_named, stands_laws};
 use ut_value::Text;
 
@@ -40,7 +45,8 @@ fn names_reply(alloc: Global, object: &str, records: &[Record]) -> Result<Reply,
     ensures form { IfOk result (λ r. IsRequestReply (Same r)) }
 {
     let body = names_body(alloc, object, records)?;
-    unless_too_large(alloc, Reply { status: 200, body })
+    let status = StatusCode::OK;
+    unless_too_large(alloc, Reply { status, body })
 }
 
 // The reply that has the ids and names of all records of an object.
@@ -77,9 +83,9 @@ fn answer_names<K: Keeper>(
     object: Text,
 ) -> Result<Judged<Reply>, StoreFail>
     ensures judged { DraftTells K.state draft.old draft.new
-        → (w : World) (a : Asked) → Stands (tables_of K.state draft.old) w
-        → tenant_at w org ≡ Some a.tenant → a.user.admin ≡ true
-        → RepliesIn org a (ask a (names_query object)) w (tables_of K.state draft.new) result }
+        → (w : World) (a : Asked) (q : Query) → Stands (tables_of K.state draft.old) w
+        → tenant_at w org ≡ Some a.tenant → a.user.admin ≡ true → asks_for_names q ≡ true → q.tail.from ≡ object
+        → RepliesIn org a (ask a q) w (tables_of K.state draft.new) result }
     ensures form { IfOk result IsRequestReply }
     ensures unchanging { IsChange result → ⊥ }
     ensures reads { DraftReads K.state (limit_number limit.RecordsPerObject + removals_of K.state data_table draft.old)
@@ -90,6 +96,7 @@ fn answer_names<K: Keeper>(
     draft_laws::<K>();
     stands_laws();
     names_laws();
+    object_laws();
     match layout_named(alloc, draft, org, object.as_str()) {
         Ok(Some(layout)) => match reply_of(alloc, draft, &layout) {
             Ok(reply) => Ok(Judged::Same(reply)),
@@ -100,12 +107,12 @@ fn answer_names<K: Keeper>(
     }
 }
 
-// The object whose ids and names the query of a query string asks for.
-fn object_in(alloc: Global, pairs: &Text) -> Result<Option<Text>, AllocError>
-    ensures { IfOk result (λ object. object ≡ asked_object (query_text pairs.now)) }
+// The query that a query string has.
+fn query_in(alloc: Global, pairs: &Text) -> Result<Query, ParseFail>
+    ensures { UnlessMemory result (λ read. reads_query (query_text pairs.now) ≡ read) }
 {
     let text = query_text(alloc, pairs)?;
-    asked_object(alloc, text.as_str())
+    parse(alloc, text.as_str())
 }
 
 // Queries for anything else, and of who is no administrator, aren't built.
@@ -116,6 +123,33 @@ fn refuse_query(alloc: Global) -> Result<Judged<Reply>, StoreFail>
     match Text::from_str(alloc, "query") {
         Ok(what) => refuse(alloc, Refusal::NotBuilt { what }),
         Err(_) => Err(StoreFail::Memory),
+    }
+}
+
+// Answers a query that was read.
+fn answer_read<K: Keeper>(
+    alloc: Global,
+    draft: &mut Draft<'_, K>,
+    caller: &Caller,
+    query: Query,
+) -> Result<Judged<Reply>, StoreFail>
+    ensures judged { DraftTells K.state draft.old draft.new
+        → (w : World) (a : Asked) → Stands (tables_of K.state draft.old) w
+        → tenant_at w caller.now.org ≡ Some a.tenant → a.user.admin ≡ caller.now.admin
+        → RepliesIn caller.now.org a (query_verdict a (Ok query)) w (tables_of K.state draft.new) result }
+    ensures form { IfOk result IsRequestReply }
+    ensures unchanging { IsChange result → ⊥ }
+    ensures reads { DraftReads K.state (limit_number limit.RecordsPerObject + removals_of K.state data_table draft.old)
+        draft.old draft.new }
+    ensures stays { StaysAfter (is_ok result) (state_of K.state draft.old) (state_of K.state draft.new) }
+    ensures cause { KeeperCause (state_of K.state draft.old) (state_of K.state draft.new) (IsErrOf result Keeper) }
+{
+    draft_laws::<K>();
+    if asks_for_names(&query) && caller.admin {
+        let tail = query.tail;
+        answer_names(alloc, draft, caller.org, tail.from)
+    } else {
+        refuse_query(alloc)
     }
 }
 
@@ -134,7 +168,7 @@ pub(crate) fn answer_query<K: Keeper>(
     ensures judged { DraftTells K.state draft.old draft.new
         → (w : World) (a : Asked) → Stands (tables_of K.state draft.old) w
         → tenant_at w caller.now.org ≡ Some a.tenant → a.user.admin ≡ caller.now.admin
-        → RepliesIn caller.now.org a (names_verdict a (asked_object (query_text pairs.now))) w
+        → RepliesIn caller.now.org a (query_verdict a (reads_query (query_text pairs.now))) w
         (tables_of K.state draft.new) result }
     ensures form { IfOk result IsRequestReply }
     ensures unchanging { IsChange result → ⊥ }
@@ -144,15 +178,9 @@ pub(crate) fn answer_query<K: Keeper>(
     ensures cause { KeeperCause (state_of K.state draft.old) (state_of K.state draft.new) (IsErrOf result Keeper) }
 {
     draft_laws::<K>();
-    match object_in(alloc, pairs) {
-        Ok(Some(object)) => {
-            if caller.admin {
-                answer_names(alloc, draft, caller.org, object)
-            } else {
-                refuse_query(alloc)
-            }
-        }
-        Ok(None) => refuse_query(alloc),
-        Err(_) => Err(StoreFail::Memory),
+    match query_in(alloc, pairs) {
+        Ok(query) => answer_read(alloc, draft, caller, query),
+        Err(ParseFail::Malformed(place)) => refuse(alloc, Refusal::MalformedQuery { place }),
+        Err(ParseFail::Memory) => Err(StoreFail::Memory),
     }
 }

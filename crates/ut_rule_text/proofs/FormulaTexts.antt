@@ -6,6 +6,7 @@ use Rattle.std.specs.Option.{ok_or}
 use Rattle.std.proofs.lemmas.List.{map-append}
 use Rattle.ut_grammar.specs.Exact.{left}
 use Rattle.ut_grammar.specs.Lexing.{tokens_of}
+use Rattle.ut_grammar.specs.Place.{starts, whole_of}
 use Rattle.ut_grammar.specs.Tokens.{AreTokens, byte_len}
 use Rattle.ut_grammar.specs.declared.token.Placed.{Placed}
 use Rattle.ut_grammar.specs.declared.token.Token.{Token}
@@ -17,8 +18,8 @@ use Rattle.ut_formula.specs.declared.formula.Formula.TheVariants as formula
 use Rattle.ut_formula.specs.declared.formula.NamedField.{NamedField}
 use Rattle.ut_formula_grammar.specs.Grammar as g
 use Rattle.ut_formula_grammar.specs.Reading as spec
-use Rattle.ut_formula_grammar.specs.Signs.{field_sign, function_word, is_name, lexis, sign_of, signs, sort_of, starts, word_or_field}
-use Rattle.ut_formula_grammar.specs.Spelling.{IsRefusedAt, Spells, formula_in, place_in, whole_of}
+use Rattle.ut_formula_grammar.specs.Signs.{field_sign, function_word, is_name, lexis, sign_of, signs, sort_of, word_or_field}
+use Rattle.ut_formula_grammar.specs.Spelling.{IsRefusedAt, Spells, formula_in, place_in}
 use Rattle.ut_formula_grammar.specs.declared.sign.Sign.{Sign}
 use Rattle.ut_formula_grammar.specs.declared.sign.Sign.TheVariants as sign
 use Rattle.ut_model.specs.Objects.{change_at}

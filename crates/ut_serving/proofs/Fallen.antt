@@ -5,7 +5,7 @@ use Rattle.std.specs.Io.KnownBytes as known
 use Rattle.std.proofs.KnownBytes.{Appends-trans}
 use Rattle.ut_http.specs.Answer.{Between}
 use Rattle.ut_http.specs.Item.{whole, IsItem}
-use Rattle.ut_http.specs.Reply.{reply, store_failed, no_memory}
+use Rattle.ut_http.specs.Reply.{reply_to, store_failed, no_memory}
 use Rattle.ut_http.specs.declared.fail.HttpFail.{HttpFail}
 use Rattle.ut_http.specs.declared.message.HttpMessage.{HttpMessage}
 use Rattle.ut_io.specs.Moments.{IsFirstMoment}
@@ -50,11 +50,11 @@ grows_none before after h = ([], nothing before after h)
 
 -- ---- the request in which it falls
 
-undone_text : (close : Bool) (a : Answer) → (IsMade a → ⊥) → IsFixed close a → IsUndone close (bytes_in a)
-undone_text close (Made bytes) never fixed = absurd (never tt)
-undone_text close (Damaged bytes) never fixed = inr (inr fixed)
-undone_text close (Unavailable closes) never fixed = inl (ap (λ (c : Bool). reply 503 store_failed c) fixed)
-undone_text close (OutOfMemory closes) never fixed = inr (inl (ap (λ (c : Bool). reply 507 no_memory c) fixed))
+undone_text : (m : HttpMessage) (a : Answer) → (IsMade a → ⊥) → IsFixed m a → IsUndone m.method m.close (bytes_in m.method a)
+undone_text m (Made bytes) never fixed = absurd (never tt)
+undone_text m (Damaged bytes) never fixed = inr (inr fixed)
+undone_text m (Unavailable close) never fixed = inl (ap (λ (c : Bool). reply_to m.method 503 store_failed c) fixed)
+undone_text m (OutOfMemory close) never fixed = inr (inl (ap (λ (c : Bool). reply_to m.method 507 no_memory c) fixed))
 
 -- a crash before it left the tables as they stood
 left_at : (w : World) (m : HttpMessage) (now : ℕ) (old new : KeeperState) → IsSettled old → Stands old.tables w
@@ -65,15 +65,15 @@ left_at w m now old new settled s h t left = elim (h t left) [
 ]
 
 pub fell_on : (w : World) (m : HttpMessage) (now : ℕ) (moments : List ℕ) (old new : KeeperState) (coming before after : Option (List ℕ)) (a : Answer) (s : Result (Unit {0}) LineFail)
-    → IsSettled old → Fell old new → Stands old.tables w → coming ≡ Some moments → IsFirstMoment coming now → (IsMade a → StaysAfter true old new) → IsFixed m.close a
+    → IsSettled old → Fell old new → Stands old.tables w → coming ≡ Some moments → IsFirstMoment coming now → (IsMade a → StaysAfter true old new) → IsFixed m a
     → (old.tells → IsTrue old.trusted → IsTrue new.is_clean → (v : World) → Stands old.tables v → (t : Tables) → new.may_leave t → old.may_leave t ⊎ Stands t (step v (message_in m) now).1)
-    → Wrote before after (bytes_in a) s → FallsOn w m moments new before after s
+    → Wrote before after (bytes_in m.method a) s → FallsOn w m moments new before after s
 fell_on w m now moments old new coming before after a s settled (tells, stands, fell, clean) is e first made fixed crash wrote = (
   now,
   subst (λ (c : Option (List ℕ)). IsFirstMoment c now) e first,
   left_at w m now old new settled is (crash tells stands clean w is),
-  bytes_in a,
-  undone_text m.close a (λ is_made. absurd (cc (made is_made stands refl clean, fell))) fixed,
+  bytes_in m.method a,
+  undone_text m a (λ is_made. absurd (cc (made is_made stands refl clean, fell))) fixed,
   wrote,
 )
 
@@ -89,7 +89,7 @@ fell_turn p coming left here going m close last new bytes left2 before mid after
     let it = item_at left (prepend_known bytes left2) p.input (λ i rest. IsItem i (whole m) rest) here.1 item in (
       record { goes_on = going; request = m; rest = it.0; item = it.2; now = now; moment = first; crash = crash },
       text,
-      subst (λ (b : Bool). IsUndone b text) (closes ∙ ap (λ (b : Bool). m.close || b) (sym full)) undone,
+      subst (λ (b : Bool). IsUndone m.method b text) (closes ∙ ap (λ (b : Bool). m.close || b) (sym full)) undone,
       wrote_in before mid after text close s unwritten wrote,
     )
 

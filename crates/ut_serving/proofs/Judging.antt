@@ -1,6 +1,6 @@
 -- What is judged, by the step of the world.
 use Rattle.std.proofs.Common.{◌≡◌, ◌⊎◌, inl, inr, ℕ, ◌+◌, Bool, List, Result, Ok, Err, sym, ap, subst, ◌∙◌}
-use Rattle.ut_http.specs.Reply.{reply}
+use Rattle.ut_http.specs.Reply.{reply_to}
 use Rattle.ut_keeper.specs.Draft.{Held, removals_of}
 use Rattle.ut_keeper.specs.State.{KeeperState, data_table}
 use Rattle.ut_keeper.specs.Tables.{Tables}
@@ -47,23 +47,23 @@ replied of w org a v after (Ok (Changed x)) e same h = (
 replied of w org a v after (Err f) e same h = h
 
 -- a reply in bytes goes with changes only where the judged one does
-pub changes_in : (P : Type 0) (close : Bool) (j : Judged Reply) (r : Result (Judged (List ℕ)) StoreFail) → (r ≡ Ok (in_bytes close j)) ⊎ (r ≡ Err Memory)
+pub changes_in : (P : Type 0) (method : List ℕ) (close : Bool) (j : Judged Reply) (r : Result (Judged (List ℕ)) StoreFail) → (r ≡ Ok (in_bytes method close j)) ⊎ (r ≡ Err Memory)
     → (IsChange (Ok j) → P) → IsChange r → P
-changes_in P close (Same x) r (inl is) h change = absurd (subst (λ (y : Result (Judged (List ℕ)) StoreFail). IsChange y) is change)
-changes_in P close (Changed x) r (inl is) h change = h tt
-changes_in P close j r (inr is) h change = absurd (subst (λ (y : Result (Judged (List ℕ)) StoreFail). IsChange y) is change)
+changes_in P method close (Same x) r (inl is) h change = absurd (subst (λ (y : Result (Judged (List ℕ)) StoreFail). IsChange y) is change)
+changes_in P method close (Changed x) r (inl is) h change = h tt
+changes_in P method close j r (inr is) h change = absurd (subst (λ (y : Result (Judged (List ℕ)) StoreFail). IsChange y) is change)
 
 module _ (m : Message) (close : Bool) (now : ℕ) (w : World) (after : Tables) where
   -- an operation that is the step's, in bytes
-  judged_done : (of : World → Reply × World) → of w ≡ step w m now → (j : Judged Reply) → Judges of w after (Ok j) → Judges (does m close now) w after (Ok (in_bytes close j))
+  judged_done : (of : World → Reply × World) → of w ≡ step w m now → (j : Judged Reply) → Judges of w after (Ok j) → Judges (does m close now) w after (Ok (in_bytes m.method close j))
   judged_done of e (Same r) h =
       let is : r ≡ (step w m now).0 = h.0 ∙ ap (λ (s : Reply × World). s.0) e in
-      (ap (λ (s : Reply). reply s.status s.body close) is, sym (ap (λ (s : Reply × World). s.1) e) ∙ h.1)
+      (ap (λ (s : Reply). reply_to m.method s.status s.body close) is, sym (ap (λ (s : Reply × World). s.1) e) ∙ h.1)
   judged_done of e (Changed r) h =
       let is : r ≡ (step w m now).0 = h.0 ∙ ap (λ (s : Reply × World). s.0) e in
-      (ap (λ (s : Reply). reply s.status s.body close) is, subst (λ (u : World). Stands after u) (ap (λ (s : Reply × World). s.1) e) h.1)
+      (ap (λ (s : Reply). reply_to m.method s.status s.body close) is, subst (λ (u : World). Stands after u) (ap (λ (s : Reply × World). s.1) e) h.1)
 
   pub judged_as : (of : World → Reply × World) → step w m now ≡ of w → (j : Judged Reply) (r : Result (Judged (List ℕ)) StoreFail)
-      → (r ≡ Ok (in_bytes close j)) ⊎ (r ≡ Err Memory) → Judges of w after (Ok j) → Judges (does m close now) w after r
+      → (r ≡ Ok (in_bytes m.method close j)) ⊎ (r ≡ Err Memory) → Judges of w after (Ok j) → Judges (does m close now) w after r
   judged_as of e j r (inl is) h = subst (λ (x : Result (Judged (List ℕ)) StoreFail). Judges (does m close now) w after x) (sym is) (judged_done of (sym e) j h)
   judged_as of e j r (inr is) h = subst (λ (x : Result (Judged (List ℕ)) StoreFail). Judges (does m close now) w after x) (sym is) (λ d. absurd cc)

@@ -2,7 +2,7 @@
 use Rattle.std.proofs.Common.{◌≡◌, ◌⊎◌, inl, inr, ℕ, ◌+◌, IsTrue, List, [], ◌∷◌, ◌++◌, Ok, Err, refl, sym, subst, ◌∙◌, arith}
 use Rattle.ut_value.specs.Causes.{Rose}
 use Rattle.ut_http.specs.declared.message.HttpMessage.{HttpMessage}
-use Rattle.ut_http.specs.Reply.{reply, store_failed, no_memory}
+use Rattle.ut_http.specs.Reply.{reply_to, store_failed, no_memory}
 use Rattle.ut_keeper.specs.State.{KeeperState, LeavesNoMore, Shows, Steps}
 use Rattle.ut_keeper.specs.Tables.{Tables}
 use Rattle.ut_keys.specs.declared.fail.StoreFail.{StoreFail}
@@ -77,7 +77,7 @@ module _ (w : World) (m : HttpMessage) (now : ℕ) (old new : KeeperState) where
     },
   )
 
-  pub answered_store : (e : StoreFail) (bytes : List ℕ) → Rose old.faults new.faults → Does (does (message_in m) m.close now) w old new (Err e) → bytes ≡ reply 503 store_failed m.close → Answers w m now old new bytes
+  pub answered_store : (e : StoreFail) (bytes : List ℕ) → Rose old.faults new.faults → Does (does (message_in m) m.close now) w old new (Err e) → bytes ≡ reply_to m.method 503 store_failed m.close → Answers w m now old new bytes
   answered_store e bytes rose h is = (
     store,
     is,
@@ -91,7 +91,7 @@ module _ (w : World) (m : HttpMessage) (now : ℕ) (old new : KeeperState) where
     },
   )
 
-  pub answered_memory : (e : StoreFail) (bytes : List ℕ) → Steps old new → Does (does (message_in m) m.close now) w old new (Err e) → bytes ≡ reply 507 no_memory m.close → Answers w m now old new bytes
+  pub answered_memory : (e : StoreFail) (bytes : List ℕ) → Steps old new → Does (does (message_in m) m.close now) w old new (Err e) → bytes ≡ reply_to m.method 507 no_memory m.close → Answers w m now old new bytes
   answered_memory e bytes steps h is = (
     memory,
     is,

@@ -1,7 +1,7 @@
 -- Answers: the bytes that an answer to one request holds, and what one request does.
-use Rattle.std.specs.Prelude.{◌≡◌, ℕ, Bool, List, [], ◌∷◌}
+use Rattle.std.specs.Prelude.{◌≡◌, ℕ, List, [], ◌∷◌}
 use Rattle.ut_http.specs.declared.message.HttpMessage.{HttpMessage}
-use Rattle.ut_http.specs.Reply.{reply, store_failed, no_memory}
+use Rattle.ut_http.specs.Reply.{reply_to, store_failed, no_memory}
 use Rattle.ut_keeper.specs.State.{KeeperState}
 use Rattle.ut_model.specs.Bodies.{damaged_body}
 use Rattle.ut_model.specs.World.{World}
@@ -10,19 +10,19 @@ use Rattle.ut_serving.specs.declared.request.Answer.TheVariants.{Made, Damaged, 
 use Rattle.ut_serving.specs.Exchanges.{Exchange, LeavesBehind, Outcome, reply_in, world_after}
 use Rattle.ut_serving.specs.Requests.{message_in}
 
--- the bytes that an answer holds
-abbrev pub bytes_in : Answer → List ℕ
-bytes_in (Made bytes) = bytes
-bytes_in (Damaged bytes) = bytes
-bytes_in (Unavailable close) = reply 503 store_failed close
-bytes_in (OutOfMemory close) = reply 507 no_memory close
+-- the bytes that an answer holds to a message with this method
+abbrev pub bytes_in : (method : List ℕ) → Answer → List ℕ
+bytes_in method (Made bytes) = bytes
+bytes_in method (Damaged bytes) = bytes
+bytes_in method (Unavailable close) = reply_to method 503 store_failed close
+bytes_in method (OutOfMemory close) = reply_to method 507 no_memory close
 
--- an answer that the definition of a step doesn't make is a fixed reply, with this `close`
-abbrev pub IsFixed : Bool → Answer → Type 0
-IsFixed close (Made bytes) = Unit {0}
-IsFixed close (Damaged bytes) = bytes ≡ reply 500 damaged_body close
-IsFixed close (Unavailable closes) = closes ≡ close
-IsFixed close (OutOfMemory closes) = closes ≡ close
+-- an answer to this message that the definition of a step doesn't make is a fixed reply
+abbrev pub IsFixed : HttpMessage → Answer → Type 0
+IsFixed m (Made bytes) = Unit {0}
+IsFixed m (Damaged bytes) = bytes ≡ reply_to m.method 500 damaged_body m.close
+IsFixed m (Unavailable close) = close ≡ m.close
+IsFixed m (OutOfMemory close) = close ≡ m.close
 
 abbrev pub IsMade : Answer → Type 0
 IsMade (Made bytes) = Unit {0}

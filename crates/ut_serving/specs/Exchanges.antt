@@ -2,7 +2,7 @@
 use Rattle.std.specs.Prelude.{◌≡◌, ◌≢◌, ◌⊎◌, ℕ, ◌+◌, ◌≤◌, Bool, IsTrue, List, [], ◌∷◌}
 use Rattle.std.specs.List.{AllByRecursion}
 use Rattle.ut_value.specs.Causes.{up_to_last}
-use Rattle.ut_http.specs.Reply.{reply, store_failed, no_memory}
+use Rattle.ut_http.specs.Reply.{reply_to, store_failed, no_memory}
 use Rattle.ut_keeper.specs.State.{KeeperState}
 use Rattle.ut_keeper.specs.Tables.{Tables}
 use Rattle.ut_step.specs.Built.{step}
@@ -31,9 +31,9 @@ pub record Exchange : Type 0 where
   pub outcome : Outcome
 
 abbrev pub reply_by : Outcome → Exchange → List ℕ
-reply_by done x = reply (step x.world x.message x.now).0.status (step x.world x.message x.now).0.body x.close
-reply_by store x = reply 503 store_failed x.close
-reply_by memory x = reply 507 no_memory x.close
+reply_by done x = reply_to x.message.method (step x.world x.message x.now).0.status (step x.world x.message x.now).0.body x.close
+reply_by store x = reply_to x.message.method 503 store_failed x.close
+reply_by memory x = reply_to x.message.method 507 no_memory x.close
 
 -- what was written for it
 abbrev pub reply_in : Exchange → List ℕ

@@ -5,7 +5,7 @@ use Rattle.std.specs.Prelude.{◌≡◌, ◌⊎◌, ℕ, ◌≤◌, Bool, false,
 use Rattle.std.specs.Io.KnownBytes.{Appends}
 use Rattle.ut_http.specs.declared.message.HttpMessage.{HttpMessage}
 use Rattle.ut_http.specs.Item.{whole, IsItem}
-use Rattle.ut_http.specs.Reply.{reply, store_failed, no_memory}
+use Rattle.ut_http.specs.Reply.{reply_to, store_failed, no_memory}
 use Rattle.ut_io.specs.Doors.{DoorState, outputs}
 use Rattle.ut_io.specs.Moments.{IsFirstMoment}
 use Rattle.ut_io.specs.Streams.{AppendsFront}
@@ -32,8 +32,10 @@ abbrev pub MayLeave : World → Message → (now : ℕ) → KeeperState → Type
 MayLeave w m now k = (t : Tables) → k.may_leave t → Stands t w ⊎ Stands t (step w m now).1
 
 -- a reply that acknowledges nothing: the store failed, memory ran out, or the store is damaged
-abbrev pub IsUndone : (close : Bool) → List ℕ → Type 0
-IsUndone close text = (text ≡ reply 503 store_failed close) ⊎ ((text ≡ reply 507 no_memory close) ⊎ (text ≡ reply 500 damaged_body close))
+abbrev pub IsUndone : (method : List ℕ) → (close : Bool) → List ℕ → Type 0
+IsUndone method close text =
+    (text ≡ reply_to method 503 store_failed close)
+    ⊎ ((text ≡ reply_to method 507 no_memory close) ⊎ (text ≡ reply_to method 500 damaged_body close))
 
 -- ---- one request
 
@@ -60,11 +62,11 @@ WroteIn before after text (Err Read) = ⊥
 -- a message was answered so, and the keeper fell in it
 abbrev pub FallsOn : World → HttpMessage → List ℕ → KeeperState → Option (List ℕ) → Option (List ℕ) → Result (Unit {0}) LineFail → Type 0
 FallsOn w m moments new before after result =
-    (now : ℕ) × IsFirstMoment (Some moments) now × MayLeave w (message_in m) now new × (text : List ℕ) × IsUndone m.close text × Wrote before after text result
+    (now : ℕ) × IsFirstMoment (Some moments) now × MayLeave w (message_in m) now new × (text : List ℕ) × IsUndone m.method m.close text × Wrote before after text result
 
 -- the keeper fell in this turn
 abbrev pub FallsIn : Place → KeeperState → Option (List ℕ) → Option (List ℕ) → Result Bool LineFail → Type 0
-FallsIn p new before after result = (at : FallsAt p new) × (text : List ℕ) × IsUndone (closes p new at) text × WroteIn before after text result
+FallsIn p new before after result = (at : FallsAt p new) × (text : List ℕ) × IsUndone at.request.method (closes p new at) text × WroteIn before after text result
 
 -- ---- a connection
 
@@ -81,7 +83,7 @@ pub record Falls (w : World) (moments input : List ℕ) (before after : Option (
   -- the request in which it fell; its reply acknowledges nothing
   pub at : FallsAt place new
   pub text : List ℕ
-  pub undone : IsUndone (closes place new at) text
+  pub undone : IsUndone at.request.method (closes place new at) text
   -- the replies before it were written, and then this one
   pub out : List ℕ
   pub goes_out : BeginsWith text out

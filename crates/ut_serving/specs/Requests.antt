@@ -4,7 +4,8 @@ use Rattle.std.specs.Prelude.{◌≡◌, ℕ, Bool, true, List, [], IsSome}
 use Rattle.ut_http.specs.declared.fail.HttpFail.{HttpFail}
 use Rattle.ut_http.specs.declared.fail.HttpFail.TheVariants as fail
 use Rattle.ut_http.specs.declared.message.HttpMessage.{HttpMessage}
-use Rattle.ut_http.specs.Reply.{phrase, reply}
+use Rattle.http.specs.StatusCode.{reason_phrase}
+use Rattle.ut_http.specs.Reply.{reply, reply_to}
 use Rattle.ut_model.specs.declared.refusal.Refusal.{Refusal}
 use Rattle.ut_model.specs.declared.refusal.Refusal.TheVariants as refusal
 use Rattle.ut_model.specs.declared.reply.Reply.{Reply}
@@ -22,20 +23,20 @@ message_in m = record { method = m.method; target = m.target; bearer = m.bearer;
 
 -- a request as an operation: the bytes of its reply, and the world after it
 abbrev pub does : Message → (close : Bool) → (now : ℕ) → World → List ℕ × World
-does m close now w = (reply (step w m now).0.status (step w m now).0.body close, (step w m now).1)
+does m close now w = (reply_to m.method (step w m now).0.status (step w m now).0.body close, (step w m now).1)
 
 -- a reply of HTTP: its status has a phrase, and a 204 has no body (RFC 9110, 15.3.5)
 abbrev pub HasForm : Reply → Type 0
-HasForm r = IsSome (phrase r.status) × (r.status ≡ 204 → r.body ≡ [])
+HasForm r = IsSome (reason_phrase r.status) × (r.status ≡ 204 → r.body ≡ [])
 
 abbrev pub JudgedForm : Judged Reply → Type 0
 JudgedForm (Same r) = HasForm r
 JudgedForm (Changed r) = HasForm r
 
--- the bytes of a judged reply
-abbrev pub in_bytes : Bool → Judged Reply → Judged (List ℕ)
-in_bytes close (Same r) = Same (reply r.status r.body close)
-in_bytes close (Changed r) = Changed (reply r.status r.body close)
+-- the bytes of a judged reply to a message with this method
+abbrev pub in_bytes : (method : List ℕ) → (close : Bool) → Judged Reply → Judged (List ℕ)
+in_bytes method close (Same r) = Same (reply_to method r.status r.body close)
+in_bytes method close (Changed r) = Changed (reply_to method r.status r.body close)
 
 -- ---- bytes that are no message
 

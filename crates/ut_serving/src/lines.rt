@@ -17,9 +17,12 @@ use crate::replies::last_reply;
 use crate::request::{Answer, answer_message};
 use crate::wire::{LineFail, Wire};
 use std::alloc::Global;
-use ut_http::{Buffer, HttpFail, HttpMessage, Next, out_of_memory, unavailable};
+use ut_http::{
+    Buffer, HttpFail, HttpMessage, Next, out_of_memory, out_of_memory_to, unavailable_to,
+};
 use ut_io::Clock;
 use ut_keeper::Keeper;
+use ut_value::Text;
 
 // Writes one text.
 fn write_text<W: Wire>(wire: &mut W, text: &[u8]) -> Result<(), LineFail>
@@ -35,8 +38,9 @@ fn write_text<W: Wire>(wire: &mut W, text: &[u8]) -> Result<(), LineFail>
     }
 }
 
-fn write_answer<W: Wire>(wire: &mut W, answer: &Answer) -> Result<(), LineFail>
-    ensures wrote { Wrote (W.output wire.old) (W.output wire.new) (bytes_in answer.now) result }
+// Writes what answers a message with this method.
+fn write_answer<W: Wire>(wire: &mut W, method: &Text, answer: &Answer) -> Result<(), LineFail>
+    ensures wrote { Wrote (W.output wire.old) (W.output wire.new) (bytes_in method.now answer.now) result }
     ensures unread { Keeps (W.input wire.old) (W.input wire.new) }
     ensures stays { W.stays wire.old wire.new }
     ensures reads { Cause (W.read_faults wire.old) (W.read_faults wire.new) (IsErrOf result Read) }
@@ -45,8 +49,8 @@ fn write_answer<W: Wire>(wire: &mut W, answer: &Answer) -> Result<(), LineFail>
     match answer {
         Answer::Made(bytes) => write_text(wire, bytes.as_slice()),
         Answer::Damaged(bytes) => write_text(wire, bytes.as_slice()),
-        Answer::Unavailable { close } => write_text(wire, unavailable(*close)),
-        Answer::OutOfMemory { close } => write_text(wire, out_of_memory(*close)),
+        Answer::Unavailable { close } => write_text(wire, unavailable_to(method, *close)),
+        Answer::OutOfMemory { close } => write_text(wire, out_of_memory_to(method, *close)),
     }
 }
 
@@ -88,7 +92,7 @@ fn reply<K: Keeper, W: Wire, C: Clock>(
 {
     let now = clock.now();
     let answer = answer_message(alloc, keeper, message, now);
-    write_answer(wire, &answer)
+    write_answer(wire, &message.method, &answer)
 }
 
 // Whether the connection is over, if no write failed.

@@ -1,13 +1,16 @@
 //! Replies in bytes, as they are written.
 
-ghost use Rattle.std.specs.Prelude.{◌≡◌, ◌⊎◌, Err, IfOk, Ok};
-ghost use Rattle.ut_http.specs.Reply.{reply};
+ghost use Rattle.std.specs.Prelude.{◌≡◌, ◌⊎◌, [], Err, IfOk, IsSome, Ok};
+ghost use Rattle.http.specs.StatusCode.{reason_phrase};
+ghost use Rattle.ut_http.specs.Reply.{reply_to};
 ghost use Rattle.ut_keys.specs.declared.fail.StoreFail.TheVariants.{Memory};
-ghost use Rattle.ut_model.specs.Bodies.{damaged_body};
+ghost use Rattle.ut_model.specs.Bodies.{damaged_body, refusal_body};
+ghost use Rattle.ut_model.specs.Refusals.{status_of};
 ghost use Rattle.ut_serving.specs.Requests.{JudgedForm, in_bytes, last_reply, refusal_bytes, refusal_of};
 
+use http::StatusCode;
 use std::alloc::{AllocError, Global};
-use ut_http::{HttpFail, reply_bytes};
+use ut_http::{HttpFail, HttpMessage, reply_bytes, reply_bytes_to};
 use ut_keys::StoreFail;
 use ut_model::{Refusal, Reply, damaged_body};
 use ut_stands::Judged;
@@ -26,16 +29,40 @@ fn refusal_of(fail: HttpFail) -> Refusal
     }
 }
 
-/// The reply that refuses so.
+// The bytes of a reply to a message.
+fn bytes_to(
+    alloc: Global,
+    message: &HttpMessage,
+    status: StatusCode,
+    body: &[u8],
+) -> Result<Bytes, AllocError>
+    requires known { IsSome (reason_phrase status) }
+    requires empty { status ≡ 204 → body.now ≡ [] }
+    ensures { IfOk result (λ bytes. bytes ≡ reply_to message.now.method status body.now
+        message.now.close) }
+{
+    reply_bytes_to(alloc, &message.method, status, body, message.close)
+}
+
+/// The reply to a message that refuses it so.
 ///
 /// # Errors
 ///
 /// If out of memory.
-pub(crate) fn refusal_bytes(
+pub(crate) fn refusal_bytes_to(
     alloc: Global,
+    message: &HttpMessage,
     refusal: &Refusal,
-    close: bool,
 ) -> Result<Bytes, AllocError>
+    ensures { IfOk result (λ bytes. bytes ≡ reply_to message.now.method (status_of refusal.now)
+        (refusal_body refusal.now) message.now.close) }
+{
+    let body = refusal.body(alloc)?;
+    bytes_to(alloc, message, refusal.status(), body.as_slice())
+}
+
+// The reply that refuses so what is no message.
+fn refusal_bytes(alloc: Global, refusal: &Refusal, close: bool) -> Result<Bytes, AllocError>
     ensures { IfOk result (λ bytes. bytes ≡ refusal_bytes refusal.now close) }
 {
     let body = refusal.body(alloc)?;
@@ -53,46 +80,44 @@ pub(crate) fn last_reply(alloc: Global, fail: HttpFail) -> Result<Bytes, AllocEr
     refusal_bytes(alloc, &refusal_of(fail), true)
 }
 
-/// The reply of damaged tables.
+/// The reply of damaged tables to a message.
 ///
 /// # Errors
 ///
 /// If out of memory.
-pub(crate) fn damaged_bytes(alloc: Global, close: bool) -> Result<Bytes, AllocError>
-    ensures { IfOk result (λ bytes. bytes ≡ reply 500 damaged_body close) }
+pub(crate) fn damaged_bytes(alloc: Global, message: &HttpMessage) -> Result<Bytes, AllocError>
+    ensures { IfOk result (λ bytes. bytes ≡ reply_to message.now.method 500 damaged_body
+        message.now.close) }
 {
     let body = damaged_body(alloc)?;
-    reply_bytes(alloc, 500, body.as_slice(), close)
+    let status = StatusCode::INTERNAL_SERVER_ERROR;
+    bytes_to(alloc, message, status, body.as_slice())
 }
 
-/// The bytes of a judged reply.
+/// The bytes of a judged reply to a message.
 ///
 /// # Errors
 ///
 /// `Memory` if out of memory.
 pub(crate) fn judged_bytes(
     alloc: Global,
+    message: &HttpMessage,
     judged: &Judged<Reply>,
-    close: bool,
 ) -> Result<Judged<Bytes>, StoreFail>
     requires { JudgedForm judged.now }
-    ensures { (result ≡ Ok (in_bytes close judged.now)) ⊎ (result ≡ Err Memory) }
+    ensures { (result ≡ Ok (in_bytes message.now.method message.now.close judged.now))
+        ⊎ (result ≡ Err Memory) }
 {
     match judged {
-        Judged::Same(reply) => match reply_bytes(
-            alloc,
-            reply.status,
-            reply.body.as_slice(),
-            close,
-        ) {
+        Judged::Same(reply) => match bytes_to(alloc, message, reply.status, reply.body.as_slice()) {
             Ok(bytes) => Ok(Judged::Same(bytes)),
             Err(_) => Err(StoreFail::Memory),
         },
-        Judged::Changed(reply) => match reply_bytes(
+        Judged::Changed(reply) => match bytes_to(
             alloc,
+            message,
             reply.status,
             reply.body.as_slice(),
-            close,
         ) {
             Ok(bytes) => Ok(Judged::Changed(bytes)),
             Err(_) => Err(StoreFail::Memory),

@@ -16,7 +16,7 @@ ghost use Rattle.ut_stands.specs.Stands.{Stands};
 ghost use Rattle.ut_serving.specs.Leads.{LeadsFrom};
 ghost use Rattle.ut_serving.specs.Requests.{JudgedForm, does, message_in};
 
-use crate::replies::{damaged_bytes, judged_bytes, refusal_bytes};
+use crate::replies::{damaged_bytes, judged_bytes, refusal_bytes_to};
 use std::alloc::Global;
 use ut_http::HttpMessage;
 use ut_keeper::{Draft, Keeper, draft_laws};
@@ -119,7 +119,7 @@ fn judge_called<K: Keeper>(
 {
     step_laws();
     match answer_caller(alloc, draft, caller, message, now) {
-        Ok(judged) => judged_bytes(alloc, &judged, message.close),
+        Ok(judged) => judged_bytes(alloc, message, &judged),
         Err(fail) => Err(fail),
     }
 }
@@ -144,7 +144,7 @@ fn judge<K: Keeper>(
     step_laws();
     match caller_of(alloc, draft, message) {
         Ok(Some(caller)) => judge_called(alloc, draft, &caller, message, now),
-        Ok(None) => match refusal_bytes(alloc, &Refusal::InvalidSession, message.close) {
+        Ok(None) => match refusal_bytes_to(alloc, message, &Refusal::InvalidSession) {
             Ok(bytes) => Ok(Judged::Same(bytes)),
             Err(_) => Err(StoreFail::Memory),
         },
@@ -189,13 +189,13 @@ pub fn answer_message<K: Keeper>(
     // Over tables that stand for a world: the reply of the step of the world, or 503 or 507.
     ensures answers { Tells (K.state keeper.old) (K.state keeper.new)
         → (w : World) → Stands (K.state keeper.old).tables w
-        → Answers w message.now now (K.state keeper.old) (K.state keeper.new) (bytes_in result) }
+        → Answers w message.now now (K.state keeper.old) (K.state keeper.new) (bytes_in message.now.method result) }
     ensures undamaged { Tells (K.state keeper.old) (K.state keeper.new)
         → (w : World) → Stands (K.state keeper.old).tables w
         → IsDamaged result → ⊥ }
 
     // Over any tables.
-    ensures form { IsFixed message.now.close result }
+    ensures form { IsFixed message.now result }
     ensures kept { Tells (K.state keeper.old) (K.state keeper.new) → (IsMade result → ⊥)
         → Shows (K.state keeper.new) (K.state keeper.old).tables }
     ensures leads { LeadsFrom (K.state keeper.old) (K.state keeper.new) }
@@ -218,7 +218,7 @@ pub fn answer_message<K: Keeper>(
         Err(StoreFail::Memory) => Answer::OutOfMemory {
             close: message.close,
         },
-        Err(StoreFail::Damaged) => match damaged_bytes(alloc, message.close) {
+        Err(StoreFail::Damaged) => match damaged_bytes(alloc, message) {
             Ok(bytes) => Answer::Damaged(bytes),
             Err(_) => Answer::OutOfMemory {
                 close: message.close,

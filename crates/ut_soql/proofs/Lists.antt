@@ -8,14 +8,14 @@ use Rattle.ut_grammar.specs.declared.fail.Fail.TheVariants.{Stuck, Memory}
 use Rattle.ut_grammar.proofs.Lists.{Takes, exact_takes}
 use Rattle.ut_grammar.proofs.Pairs.{after_exact}
 use Rattle.ut_grammar.proofs.Turns.{Shortens, repeat-ends, repeat-turn, repeat-stuck, with_front-append}
-use Rattle.ut_soql.specs.Grammar as g
-use Rattle.ut_soql.specs.Grammar.{left_behind}
-use Rattle.ut_soql.specs.Readers as spec
-use Rattle.ut_soql.specs.Signs.{kind}
+use Rattle.ut_soql_grammar.specs.Grammar as g
+use Rattle.ut_soql_grammar.specs.Grammar.{left_behind}
+use Rattle.ut_soql_grammar.specs.Readers as spec
+use Rattle.ut_soql_grammar.specs.Signs.{kind}
 use Rattle.ut_query.specs.declared.query.Item.{Item}
-use Rattle.ut_soql.specs.declared.sign.Sign.{Sign}
-use Rattle.ut_soql.proofs.Instances.{name_exact, literal_exact, literal_firsts, path_exact, unit_exact, unit_firsts}
-use Rattle.ut_soql.proofs.QueryInstances.{key_exact, comma_item_exact}
+use Rattle.ut_soql_grammar.specs.declared.sign.Sign.{Sign}
+use Rattle.ut_soql_grammar.proofs.Instances.{name_exact, literal_exact, literal_firsts, path_exact, unit_exact, unit_firsts}
+use Rattle.ut_soql_grammar.proofs.QueryInstances.{key_exact, comma_item_exact}
 
 -- ---- a separator and what is behind it take a token
 pub name_takes : Takes (reader.after kind 29 spec.name)

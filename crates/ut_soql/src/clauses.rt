@@ -3,104 +3,79 @@
 ghost use Rattle.std.specs.Prelude.{◌≡◌, ◌<◌, ◌≤◌, length, ◌∷◌, [], IfOk};
 ghost use Rattle.ut_grammar.specs.Reader as reader;
 ghost use Rattle.ut_grammar.specs.Reader.{Gives, with_front};
-ghost use Rattle.ut_soql.specs.Readers as spec;
-ghost use Rattle.ut_soql.specs.Signs.{kind};
+ghost use Rattle.ut_soql_grammar.specs.Readers as spec;
+ghost use Rattle.ut_soql_grammar.specs.Signs.{kind, number};
 
 use crate::conditions::condition;
 use crate::paths::{name, path};
-use crate::sign::Sign;
 use crate::values::{count_in, descending_in, last_in};
 use std::alloc::Global;
-use ut_grammar::{Fail, begins_with, next, skip};
+use ut_grammar::{Fail, begins_with, next, skip, taken};
 use ut_query::{Cond, OrderKey, Path, Tail};
+use ut_soql_grammar::{Sign, SignKind};
 use ut_value::{Items, Text};
 
-const FROM: u8 = 12;
-
-const WHERE: u8 = 13;
-
-const ORDER: u8 = 14;
-
-const BY: u8 = 15;
-
-const DESCENDING: u8 = 16;
-
-const NULLS: u8 = 17;
-
-const LIMIT: u8 = 19;
-
-const COMMA: u8 = 28;
-
-#[tactic(auto, unfolding(crate::specs::Readers::descending))]
+#[tactic(auto, unfolding(ut_soql_grammar::specs::Readers::descending))]
 fn descending(signs: &[Sign]) -> Result<(bool, &[Sign]), Fail>
     ensures value { Gives (λ x. (x.0, x.1.now)) result (spec.descending signs.now) }
     ensures shorter { IfOk result (λ x. length x.1.now < length signs.now) }
 {
     match next(signs) {
-        Some((sign, rest)) => match descending_in(sign) {
-            Some(found) => Ok((found, rest)),
-            None => Err(Fail::Stuck(signs.len())),
-        },
+        Some((sign, _)) => taken(descending_in(sign), signs),
         None => Err(Fail::Stuck(0)),
     }
 }
 
-#[tactic(auto, unfolding(crate::specs::Readers::last))]
+#[tactic(auto, unfolding(ut_soql_grammar::specs::Readers::last))]
 fn last(signs: &[Sign]) -> Result<(bool, &[Sign]), Fail>
     ensures value { Gives (λ x. (x.0, x.1.now)) result (spec.last signs.now) }
     ensures shorter { IfOk result (λ x. length x.1.now < length signs.now) }
 {
     match next(signs) {
-        Some((sign, rest)) => match last_in(sign) {
-            Some(found) => Ok((found, rest)),
-            None => Err(Fail::Stuck(signs.len())),
-        },
+        Some((sign, _)) => taken(last_in(sign), signs),
         None => Err(Fail::Stuck(0)),
     }
 }
 
-#[tactic(auto, unfolding(crate::specs::Readers::count))]
+#[tactic(auto, unfolding(ut_soql_grammar::specs::Readers::count))]
 fn count(most: u32, signs: &[Sign]) -> Result<(u32, &[Sign]), Fail>
     ensures value { Gives (λ x. (x.0, x.1.now)) result (spec.count most signs.now) }
     ensures shorter { IfOk result (λ x. length x.1.now < length signs.now) }
 {
     match next(signs) {
-        Some((sign, rest)) => match count_in(most, sign) {
-            Some(found) => Ok((found, rest)),
-            None => Err(Fail::Stuck(signs.len())),
-        },
+        Some((sign, _)) => taken(count_in(most, sign), signs),
         None => Err(Fail::Stuck(0)),
     }
 }
 
 // ---- keys
 
-#[tactic(auto, unfolding(crate::specs::Readers::direction))]
+#[tactic(auto, unfolding(ut_soql_grammar::specs::Readers::direction))]
 fn direction(signs: &[Sign]) -> Result<(bool, &[Sign]), Fail>
     ensures value { Gives (λ x. (x.0, x.1.now)) result (spec.direction signs.now) }
     ensures shorter { IfOk result (λ x. length x.1.now ≤ length signs.now) }
 {
-    if begins_with(signs, &[DESCENDING]) {
+    if begins_with(signs, &[SignKind::Descending]) {
         descending(signs)
     } else {
         Ok((false, signs))
     }
 }
 
-#[tactic(auto, unfolding(crate::specs::Readers::nulls))]
+#[tactic(auto, unfolding(ut_soql_grammar::specs::Readers::nulls))]
 fn nulls(signs: &[Sign]) -> Result<(bool, &[Sign]), Fail>
     ensures value { Gives (λ x. (x.0, x.1.now)) result (spec.nulls signs.now) }
     ensures shorter { IfOk result (λ x. length x.1.now ≤ length signs.now) }
 {
-    if begins_with(signs, &[NULLS]) {
-        let rest = skip(signs, NULLS)?;
+    if begins_with(signs, &[SignKind::Nulls]) {
+        let rest = skip(signs, SignKind::Nulls)?;
         last(rest)
     } else {
         Ok((false, signs))
     }
 }
 
-#[tactic(auto, unfolding(crate::specs::Readers::directed))]
+#[tactic(auto, unfolding(ut_soql_grammar::specs::Readers::directed))]
 fn directed(alloc: Global, signs: &[Sign]) -> Result<((Path, bool), &[Sign]), Fail>
     ensures value { Gives (λ x. (x.0, x.1.now)) result (spec.directed signs.now) }
     ensures shorter { IfOk result (λ x. length x.1.now < length signs.now) }
@@ -110,7 +85,7 @@ fn directed(alloc: Global, signs: &[Sign]) -> Result<((Path, bool), &[Sign]), Fa
     Ok(((path, descending), rest))
 }
 
-#[tactic(auto, unfolding(crate::specs::Readers::key))]
+#[tactic(auto, unfolding(ut_soql_grammar::specs::Readers::key))]
 fn key(alloc: Global, signs: &[Sign]) -> Result<(OrderKey, &[Sign]), Fail>
     ensures value { Gives (λ x. (x.0, x.1.now)) result (spec.key signs.now) }
     ensures shorter { IfOk result (λ x. length x.1.now < length signs.now) }
@@ -130,7 +105,7 @@ fn another_key(alloc: Global, signs: &[Sign]) -> Result<(OrderKey, &[Sign]), Fai
     ensures value { Gives (λ x. (x.0, x.1.now)) result (reader.after kind 28 spec.key signs.now) }
     ensures shorter { IfOk result (λ x. length x.1.now < length signs.now) }
 {
-    let rest = skip(signs, COMMA)?;
+    let rest = skip(signs, SignKind::Comma)?;
     key(alloc, rest)
 }
 
@@ -145,7 +120,7 @@ fn more_keys(
 {
     let mut rest = signs;
     let mut left: usize = 31;
-    'items: while begins_with(rest, &[COMMA]) {
+    'items: while begins_with(rest, &[SignKind::Comma]) {
         if left == 0 {
             return Err(Fail::Stuck(rest.len()));
         }
@@ -157,7 +132,7 @@ fn more_keys(
     Ok((all, rest))
 }
 
-#[tactic(auto, unfolding(crate::specs::Readers::keys))]
+#[tactic(auto, unfolding(ut_soql_grammar::specs::Readers::keys))]
 fn keys(alloc: Global, signs: &[Sign]) -> Result<(Items<OrderKey>, &[Sign]), Fail>
     ensures value { Gives (λ x. (x.0, x.1.now)) result (spec.keys signs.now) }
     ensures shorter { IfOk result (λ x. length x.1.now < length signs.now) }
@@ -168,14 +143,14 @@ fn keys(alloc: Global, signs: &[Sign]) -> Result<(Items<OrderKey>, &[Sign]), Fai
     more_keys(alloc, all, rest)
 }
 
-#[tactic(auto, unfolding(crate::specs::Readers::ordering))]
+#[tactic(auto, unfolding(ut_soql_grammar::specs::Readers::ordering))]
 fn ordering(alloc: Global, signs: &[Sign]) -> Result<(Items<OrderKey>, &[Sign]), Fail>
     ensures value { Gives (λ x. (x.0, x.1.now)) result (spec.ordering signs.now) }
     ensures shorter { IfOk result (λ x. length x.1.now ≤ length signs.now) }
 {
-    if begins_with(signs, &[ORDER]) {
-        let rest = skip(signs, ORDER)?;
-        let rest = skip(rest, BY)?;
+    if begins_with(signs, &[SignKind::Order]) {
+        let rest = skip(signs, SignKind::Order)?;
+        let rest = skip(rest, SignKind::By)?;
         keys(alloc, rest)
     } else {
         Ok((Items::new(alloc), signs))
@@ -184,22 +159,22 @@ fn ordering(alloc: Global, signs: &[Sign]) -> Result<(Items<OrderKey>, &[Sign]),
 
 // ---- clauses
 
-#[tactic(auto, unfolding(crate::specs::Readers::filtered))]
+#[tactic(auto, unfolding(ut_soql_grammar::specs::Readers::filtered))]
 fn filtered(alloc: Global, signs: &[Sign]) -> Result<(Option<Cond>, &[Sign]), Fail>
     ensures value { Gives (λ x. (x.0, x.1.now)) result (spec.filtered signs.now) }
     ensures shorter { IfOk result (λ x. length x.1.now < length signs.now) }
 {
-    let rest = skip(signs, WHERE)?;
+    let rest = skip(signs, SignKind::Where)?;
     let (condition, rest) = condition(alloc, rest)?;
     Ok((Some(condition), rest))
 }
 
-#[tactic(auto, unfolding(crate::specs::Readers::filter))]
+#[tactic(auto, unfolding(ut_soql_grammar::specs::Readers::filter))]
 fn filter(alloc: Global, signs: &[Sign]) -> Result<(Option<Cond>, &[Sign]), Fail>
     ensures value { Gives (λ x. (x.0, x.1.now)) result (spec.filter signs.now) }
     ensures shorter { IfOk result (λ x. length x.1.now ≤ length signs.now) }
 {
-    if begins_with(signs, &[WHERE]) {
+    if begins_with(signs, &[SignKind::Where]) {
         filtered(alloc, signs)
     } else {
         Ok((None, signs))
@@ -207,40 +182,40 @@ fn filter(alloc: Global, signs: &[Sign]) -> Result<(Option<Cond>, &[Sign]), Fail
 }
 
 // A number behind a word of this kind.
-#[tactic(auto, unfolding(crate::specs::Readers::counted))]
-fn counted(code: u8, most: u32, signs: &[Sign]) -> Result<(Option<u32>, &[Sign]), Fail>
-    ensures value { Gives (λ x. (x.0, x.1.now)) result (spec.counted code most signs.now) }
+#[tactic(auto, unfolding(ut_soql_grammar::specs::Readers::counted))]
+fn counted(word: SignKind, most: u32, signs: &[Sign]) -> Result<(Option<u32>, &[Sign]), Fail>
+    ensures value { Gives (λ x. (x.0, x.1.now)) result (spec.counted (number word) most signs.now) }
     ensures shorter { IfOk result (λ x. length x.1.now < length signs.now) }
 {
-    let rest = skip(signs, code)?;
+    let rest = skip(signs, word)?;
     let (count, rest) = count(most, rest)?;
     Ok((Some(count), rest))
 }
 
-#[tactic(auto, unfolding(crate::specs::Readers::limit))]
+#[tactic(auto, unfolding(ut_soql_grammar::specs::Readers::limit))]
 fn limit(signs: &[Sign]) -> Result<(Option<u32>, &[Sign]), Fail>
     ensures value { Gives (λ x. (x.0, x.1.now)) result (spec.limit signs.now) }
     ensures shorter { IfOk result (λ x. length x.1.now ≤ length signs.now) }
 {
-    if begins_with(signs, &[LIMIT]) {
-        counted(LIMIT, 50_000, signs)
+    if begins_with(signs, &[SignKind::Limit]) {
+        counted(SignKind::Limit, 50_000, signs)
     } else {
         Ok((None, signs))
     }
 }
 
-#[tactic(auto, unfolding(crate::specs::Readers::sourced))]
+#[tactic(auto, unfolding(ut_soql_grammar::specs::Readers::sourced))]
 fn sourced(alloc: Global, signs: &[Sign]) -> Result<((Text, Option<Cond>), &[Sign]), Fail>
     ensures value { Gives (λ x. (x.0, x.1.now)) result (spec.sourced signs.now) }
     ensures shorter { IfOk result (λ x. length x.1.now < length signs.now) }
 {
-    let rest = skip(signs, FROM)?;
+    let rest = skip(signs, SignKind::From)?;
     let (from, rest) = name(alloc, rest)?;
     let (condition, rest) = filter(alloc, rest)?;
     Ok(((from, condition), rest))
 }
 
-#[tactic(auto, unfolding(crate::specs::Readers::ordered))]
+#[tactic(auto, unfolding(ut_soql_grammar::specs::Readers::ordered))]
 fn ordered(
     alloc: Global,
     signs: &[Sign],
@@ -254,7 +229,7 @@ fn ordered(
 }
 
 /// Where rows come from, which they are and in which order.
-#[tactic(auto, unfolding(crate::specs::Readers::tail))]
+#[tactic(auto, unfolding(ut_soql_grammar::specs::Readers::tail))]
 pub fn tail(alloc: Global, signs: &[Sign]) -> Result<(Tail, &[Sign]), Fail>
     ensures value { Gives (λ x. (x.0, x.1.now)) result (spec.tail signs.now) }
     ensures shorter { IfOk result (λ x. length x.1.now < length signs.now) }

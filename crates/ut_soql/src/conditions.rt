@@ -3,25 +3,15 @@
 ghost use Rattle.std.specs.Prelude.{◌≡◌, ◌<◌, ◌≤◌, length, ◌∷◌, [], IfOk};
 ghost use Rattle.ut_grammar.specs.Reader as reader;
 ghost use Rattle.ut_grammar.specs.Reader.{Gives, with_front};
-ghost use Rattle.ut_soql.specs.Readers as spec;
-ghost use Rattle.ut_soql.specs.Signs.{kind};
+ghost use Rattle.ut_soql_grammar.specs.Readers as spec;
+ghost use Rattle.ut_soql_grammar.specs.Signs.{kind, number};
 
 use crate::paths::of_path;
-use crate::sign::Sign;
 use std::alloc::Global;
 use ut_grammar::{Fail, begins_with, skip};
 use ut_query::Cond;
+use ut_soql_grammar::{Sign, SignKind};
 use ut_value::{Boxed, Items};
-
-const AND: u8 = 4;
-
-const OR: u8 = 5;
-
-const NOT: u8 = 6;
-
-const OPEN: u8 = 26;
-
-const CLOSE: u8 = 27;
 
 // A unit, in which NOT and parentheses nest at most so many levels.
 #[cycle(conditions)]
@@ -36,14 +26,14 @@ fn unit(alloc: Global, levels: usize, signs: &[Sign]) -> Result<(Cond, &[Sign]),
 }
 
 #[cycle(conditions)]
-#[tactic(auto, unfolding(crate::specs::Readers::inner))]
+#[tactic(auto, unfolding(ut_soql_grammar::specs::Readers::inner))]
 fn inner(alloc: Global, levels: usize, signs: &[Sign]) -> Result<(Cond, &[Sign]), Fail>
     ensures value { Gives (λ x. (x.0, x.1.now)) result (spec.inner (spec.unit levels) signs.now) }
     ensures shorter { IfOk result (λ x. length x.1.now < length signs.now) }
 {
-    if begins_with(signs, &[NOT]) {
+    if begins_with(signs, &[SignKind::Not]) {
         negation(alloc, levels, signs)
-    } else if begins_with(signs, &[OPEN]) {
+    } else if begins_with(signs, &[SignKind::Open]) {
         group(alloc, levels, signs)
     } else {
         of_path(alloc, signs)
@@ -51,35 +41,40 @@ fn inner(alloc: Global, levels: usize, signs: &[Sign]) -> Result<(Cond, &[Sign])
 }
 
 #[cycle(conditions)]
-#[tactic(auto, unfolding(crate::specs::Readers::negation))]
+#[tactic(auto, unfolding(ut_soql_grammar::specs::Readers::negation))]
 fn negation(alloc: Global, levels: usize, signs: &[Sign]) -> Result<(Cond, &[Sign]), Fail>
     ensures value { Gives (λ x. (x.0, x.1.now)) result (spec.negation (spec.unit levels) signs.now) }
     ensures shorter { IfOk result (λ x. length x.1.now < length signs.now) }
 {
-    let (within, rest) = another(alloc, levels, NOT, signs)?;
+    let (within, rest) = another(alloc, levels, SignKind::Not, signs)?;
     Ok((Cond::Not(Boxed::new(alloc, within)?), rest))
 }
 
 // A condition in parentheses.
 #[cycle(conditions)]
-#[tactic(auto, unfolding(crate::specs::Readers::group))]
+#[tactic(auto, unfolding(ut_soql_grammar::specs::Readers::group))]
 fn group(alloc: Global, levels: usize, signs: &[Sign]) -> Result<(Cond, &[Sign]), Fail>
     ensures value { Gives (λ x. (x.0, x.1.now)) result (spec.group (spec.unit levels) signs.now) }
     ensures shorter { IfOk result (λ x. length x.1.now < length signs.now) }
 {
-    let rest = skip(signs, OPEN)?;
+    let rest = skip(signs, SignKind::Open)?;
     let (within, rest) = cond_of(alloc, levels, rest)?;
-    let rest = skip(rest, CLOSE)?;
+    let rest = skip(rest, SignKind::Close)?;
     Ok((within, rest))
 }
 
 // A unit behind a word of this kind.
 #[cycle(conditions)]
-fn another(alloc: Global, levels: usize, code: u8, signs: &[Sign]) -> Result<(Cond, &[Sign]), Fail>
-    ensures value { Gives (λ x. (x.0, x.1.now)) result (reader.after kind code (spec.unit levels) signs.now) }
+fn another(
+    alloc: Global,
+    levels: usize,
+    word: SignKind,
+    signs: &[Sign],
+) -> Result<(Cond, &[Sign]), Fail>
+    ensures value { Gives (λ x. (x.0, x.1.now)) result (reader.after kind (number word) (spec.unit levels) signs.now) }
     ensures shorter { IfOk result (λ x. length x.1.now < length signs.now) }
 {
-    let rest = skip(signs, code)?;
+    let rest = skip(signs, word)?;
     unit(alloc, levels, rest)
 }
 
@@ -88,16 +83,16 @@ fn another(alloc: Global, levels: usize, code: u8, signs: &[Sign]) -> Result<(Co
 fn more_units(
     alloc: Global,
     levels: usize,
-    code: u8,
+    word: SignKind,
     mut all: Items<Cond>,
     signs: &[Sign],
 ) -> Result<(Items<Cond>, &[Sign]), Fail>
-    ensures value { Gives (λ x. (x.0, x.1.now)) result (with_front all (spec.more_units (spec.unit levels) code signs.now)) }
+    ensures value { Gives (λ x. (x.0, x.1.now)) result (with_front all (spec.more_units (spec.unit levels) (number word) signs.now)) }
     ensures shorter { IfOk result (λ x. length x.1.now ≤ length signs.now) }
 {
     let mut rest = signs;
-    'units: while begins_with(rest, &[code]) {
-        let (found, more) = another(alloc, levels, code, rest)?;
+    'units: while begins_with(rest, &[word]) {
+        let (found, more) = another(alloc, levels, word, rest)?;
         all.push(found)?;
         rest = more;
     }
@@ -106,26 +101,26 @@ fn more_units(
 
 // The units that AND or OR joins.
 #[cycle(conditions)]
-#[tactic(auto, unfolding(crate::specs::Readers::joined))]
+#[tactic(auto, unfolding(ut_soql_grammar::specs::Readers::joined))]
 fn joined(
     alloc: Global,
     levels: usize,
-    code: u8,
+    word: SignKind,
     first: Cond,
     signs: &[Sign],
 ) -> Result<(Items<Cond>, &[Sign]), Fail>
-    ensures value { Gives (λ x. (x.0, x.1.now)) result (spec.joined (spec.unit levels) code first signs.now) }
+    ensures value { Gives (λ x. (x.0, x.1.now)) result (spec.joined (spec.unit levels) (number word) first signs.now) }
     ensures shorter { IfOk result (λ x. length x.1.now ≤ length signs.now) }
 {
     let mut all = Items::new(alloc);
     all.push(first)?;
-    let (second, rest) = another(alloc, levels, code, signs)?;
+    let (second, rest) = another(alloc, levels, word, signs)?;
     all.push(second)?;
-    more_units(alloc, levels, code, all, rest)
+    more_units(alloc, levels, word, all, rest)
 }
 
 #[cycle(conditions)]
-#[tactic(auto, unfolding(crate::specs::Readers::conjunction))]
+#[tactic(auto, unfolding(ut_soql_grammar::specs::Readers::conjunction))]
 fn conjunction(
     alloc: Global,
     levels: usize,
@@ -135,12 +130,12 @@ fn conjunction(
     ensures value { Gives (λ x. (x.0, x.1.now)) result (spec.conjunction (spec.unit levels) first signs.now) }
     ensures shorter { IfOk result (λ x. length x.1.now ≤ length signs.now) }
 {
-    let (all, rest) = joined(alloc, levels, AND, first, signs)?;
+    let (all, rest) = joined(alloc, levels, SignKind::And, first, signs)?;
     Ok((Cond::And(all), rest))
 }
 
 #[cycle(conditions)]
-#[tactic(auto, unfolding(crate::specs::Readers::disjunction))]
+#[tactic(auto, unfolding(ut_soql_grammar::specs::Readers::disjunction))]
 fn disjunction(
     alloc: Global,
     levels: usize,
@@ -150,20 +145,20 @@ fn disjunction(
     ensures value { Gives (λ x. (x.0, x.1.now)) result (spec.disjunction (spec.unit levels) first signs.now) }
     ensures shorter { IfOk result (λ x. length x.1.now ≤ length signs.now) }
 {
-    let (all, rest) = joined(alloc, levels, OR, first, signs)?;
+    let (all, rest) = joined(alloc, levels, SignKind::Or, first, signs)?;
     Ok((Cond::Or(all), rest))
 }
 
 // The condition that a first unit and what is behind it make.
 #[cycle(conditions)]
-#[tactic(auto, unfolding(crate::specs::Readers::chain))]
+#[tactic(auto, unfolding(ut_soql_grammar::specs::Readers::chain))]
 fn chain(alloc: Global, levels: usize, first: Cond, signs: &[Sign]) -> Result<(Cond, &[Sign]), Fail>
     ensures value { Gives (λ x. (x.0, x.1.now)) result (spec.chain (spec.unit levels) first signs.now) }
     ensures shorter { IfOk result (λ x. length x.1.now ≤ length signs.now) }
 {
-    if begins_with(signs, &[AND]) {
+    if begins_with(signs, &[SignKind::And]) {
         conjunction(alloc, levels, first, signs)
-    } else if begins_with(signs, &[OR]) {
+    } else if begins_with(signs, &[SignKind::Or]) {
         disjunction(alloc, levels, first, signs)
     } else {
         Ok((first, signs))
@@ -172,7 +167,7 @@ fn chain(alloc: Global, levels: usize, first: Cond, signs: &[Sign]) -> Result<(C
 
 // A condition whose units nest at most so many levels.
 #[cycle(conditions)]
-#[tactic(auto, unfolding(crate::specs::Readers::cond_of))]
+#[tactic(auto, unfolding(ut_soql_grammar::specs::Readers::cond_of))]
 fn cond_of(alloc: Global, levels: usize, signs: &[Sign]) -> Result<(Cond, &[Sign]), Fail>
     ensures value { Gives (λ x. (x.0, x.1.now)) result (spec.cond_of (spec.unit levels) signs.now) }
     ensures shorter { IfOk result (λ x. length x.1.now < length signs.now) }
@@ -182,7 +177,7 @@ fn cond_of(alloc: Global, levels: usize, signs: &[Sign]) -> Result<(Cond, &[Sign
 }
 
 /// A whole condition.
-#[tactic(auto, unfolding(crate::specs::Readers::condition))]
+#[tactic(auto, unfolding(ut_soql_grammar::specs::Readers::condition))]
 pub fn condition(alloc: Global, signs: &[Sign]) -> Result<(Cond, &[Sign]), Fail>
     ensures value { Gives (λ x. (x.0, x.1.now)) result (spec.condition signs.now) }
     ensures shorter { IfOk result (λ x. length x.1.now < length signs.now) }

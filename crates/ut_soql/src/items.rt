@@ -3,28 +3,18 @@
 ghost use Rattle.std.specs.Prelude.{◌≡◌, ◌<◌, ◌≤◌, length, ◌∷◌, [], IfOk};
 ghost use Rattle.ut_grammar.specs.Reader as reader;
 ghost use Rattle.ut_grammar.specs.Reader.{Gives, with_front};
-ghost use Rattle.ut_soql.specs.Readers as spec;
-ghost use Rattle.ut_soql.specs.Signs.{kind};
-ghost use Rattle.ut_soql.specs.Grammar.{left_behind};
+ghost use Rattle.ut_soql_grammar.specs.Readers as spec;
+ghost use Rattle.ut_soql_grammar.specs.Signs.{kind};
+ghost use Rattle.ut_soql_grammar.specs.Grammar.{left_behind};
 
 use crate::clauses::tail;
 use crate::paths::path;
-use crate::sign::Sign;
 use crate::values::small_count;
 use std::alloc::Global;
-use ut_grammar::{Fail, begins_with, next, skip};
+use ut_grammar::{Fail, begins_with, next, skip, taken};
 use ut_query::{Item, Path, Query, Tail};
+use ut_soql_grammar::{Sign, SignKind};
 use ut_value::Items;
-
-const SELECT: u8 = 11;
-
-const OFFSET: u8 = 20;
-
-const OPEN: u8 = 26;
-
-const CLOSE: u8 = 27;
-
-const COMMA: u8 = 28;
 
 // ---- children
 
@@ -33,7 +23,7 @@ fn another_path(alloc: Global, signs: &[Sign]) -> Result<(Path, &[Sign]), Fail>
     ensures value { Gives (λ x. (x.0, x.1.now)) result (reader.after kind 28 spec.path signs.now) }
     ensures shorter { IfOk result (λ x. length x.1.now < length signs.now) }
 {
-    let rest = skip(signs, COMMA)?;
+    let rest = skip(signs, SignKind::Comma)?;
     path(alloc, rest)
 }
 
@@ -47,7 +37,7 @@ fn more_paths(
     ensures shorter { IfOk result (λ x. length x.1.now ≤ length signs.now) }
 {
     let mut rest = signs;
-    'items: while begins_with(rest, &[COMMA]) {
+    'items: while begins_with(rest, &[SignKind::Comma]) {
         let (found, more) = another_path(alloc, rest)?;
         all.push(found)?;
         rest = more;
@@ -55,7 +45,7 @@ fn more_paths(
     Ok((all, rest))
 }
 
-#[tactic(auto, unfolding(crate::specs::Readers::paths))]
+#[tactic(auto, unfolding(ut_soql_grammar::specs::Readers::paths))]
 fn paths(alloc: Global, signs: &[Sign]) -> Result<(Items<Path>, &[Sign]), Fail>
     ensures value { Gives (λ x. (x.0, x.1.now)) result (spec.paths signs.now) }
     ensures shorter { IfOk result (λ x. length x.1.now < length signs.now) }
@@ -66,31 +56,31 @@ fn paths(alloc: Global, signs: &[Sign]) -> Result<(Items<Path>, &[Sign]), Fail>
     more_paths(alloc, all, rest)
 }
 
-#[tactic(auto, unfolding(crate::specs::Readers::within_child))]
+#[tactic(auto, unfolding(ut_soql_grammar::specs::Readers::within_child))]
 fn within_child(alloc: Global, signs: &[Sign]) -> Result<(Item, &[Sign]), Fail>
     ensures value { Gives (λ x. (x.0, x.1.now)) result (spec.within_child signs.now) }
     ensures shorter { IfOk result (λ x. length x.1.now < length signs.now) }
 {
-    let rest = skip(signs, SELECT)?;
+    let rest = skip(signs, SignKind::Select)?;
     let (paths, rest) = paths(alloc, rest)?;
     let (tail, rest) = tail(alloc, rest)?;
     Ok((Item::Child { paths, tail }, rest))
 }
 
-#[tactic(auto, unfolding(crate::specs::Readers::child))]
+#[tactic(auto, unfolding(ut_soql_grammar::specs::Readers::child))]
 fn child(alloc: Global, signs: &[Sign]) -> Result<(Item, &[Sign]), Fail>
     ensures value { Gives (λ x. (x.0, x.1.now)) result (spec.child signs.now) }
     ensures shorter { IfOk result (λ x. length x.1.now < length signs.now) }
 {
-    let rest = skip(signs, OPEN)?;
+    let rest = skip(signs, SignKind::Open)?;
     let (item, rest) = within_child(alloc, rest)?;
-    let rest = skip(rest, CLOSE)?;
+    let rest = skip(rest, SignKind::Close)?;
     Ok((item, rest))
 }
 
 // ---- items
 
-#[tactic(auto, unfolding(crate::specs::Readers::path_item))]
+#[tactic(auto, unfolding(ut_soql_grammar::specs::Readers::path_item))]
 fn path_item(alloc: Global, signs: &[Sign]) -> Result<(Item, &[Sign]), Fail>
     ensures value { Gives (λ x. (x.0, x.1.now)) result (spec.path_item signs.now) }
     ensures shorter { IfOk result (λ x. length x.1.now < length signs.now) }
@@ -99,12 +89,20 @@ fn path_item(alloc: Global, signs: &[Sign]) -> Result<(Item, &[Sign]), Fail>
     Ok((Item::Path(path), rest))
 }
 
-#[tactic(auto, unfolding(crate::specs::Readers::any_item))]
+#[tactic(auto, unfolding(ut_soql_grammar::specs::Readers::any_item))]
 fn any_item(alloc: Global, signs: &[Sign]) -> Result<(Item, &[Sign]), Fail>
     ensures value { Gives (λ x. (x.0, x.1.now)) result (spec.any_item signs.now) }
     ensures shorter { IfOk result (λ x. length x.1.now < length signs.now) }
 {
-    if begins_with(signs, &[0, 1, 2, 3]) {
+    if begins_with(
+        signs,
+        &[
+            SignKind::Name,
+            SignKind::Today,
+            SignKind::Yesterday,
+            SignKind::Tomorrow,
+        ],
+    ) {
         path_item(alloc, signs)
     } else {
         child(alloc, signs)
@@ -137,7 +135,7 @@ fn another_item(alloc: Global, left: usize, signs: &[Sign]) -> Result<(Item, &[S
     ensures value { Gives (λ x. (x.0, x.1.now)) result (reader.after kind 28 (spec.item_of left) signs.now) }
     ensures shorter { IfOk result (λ x. length x.1.now < length signs.now) }
 {
-    let rest = skip(signs, COMMA)?;
+    let rest = skip(signs, SignKind::Comma)?;
     item_of(alloc, left, rest)
 }
 
@@ -153,7 +151,7 @@ fn more_items(
 {
     let mut rest = signs;
     let mut left = children;
-    'items: while begins_with(rest, &[COMMA]) {
+    'items: while begins_with(rest, &[SignKind::Comma]) {
         let (found, more) = another_item(alloc, left, rest)?;
         left = left_behind(left, &found);
         all.push(found)?;
@@ -162,7 +160,7 @@ fn more_items(
     Ok((all, rest))
 }
 
-#[tactic(auto, unfolding(crate::specs::Readers::items))]
+#[tactic(auto, unfolding(ut_soql_grammar::specs::Readers::items))]
 fn items(alloc: Global, signs: &[Sign]) -> Result<(Items<Item>, &[Sign]), Fail>
     ensures value { Gives (λ x. (x.0, x.1.now)) result (spec.items signs.now) }
     ensures shorter { IfOk result (λ x. length x.1.now < length signs.now) }
@@ -176,39 +174,36 @@ fn items(alloc: Global, signs: &[Sign]) -> Result<(Items<Item>, &[Sign]), Fail>
 
 // ---- queries
 
-#[tactic(auto, unfolding(crate::specs::Readers::selected))]
+#[tactic(auto, unfolding(ut_soql_grammar::specs::Readers::selected))]
 fn selected(alloc: Global, signs: &[Sign]) -> Result<((Items<Item>, Tail), &[Sign]), Fail>
     ensures value { Gives (λ x. (x.0, x.1.now)) result (spec.selected signs.now) }
     ensures shorter { IfOk result (λ x. length x.1.now < length signs.now) }
 {
-    let rest = skip(signs, SELECT)?;
+    let rest = skip(signs, SignKind::Select)?;
     let (select, rest) = items(alloc, rest)?;
     let (tail, rest) = tail(alloc, rest)?;
     Ok(((select, tail), rest))
 }
 
 // A number of rows that are left out, at most 2,000.
-#[tactic(auto, unfolding(crate::specs::Readers::count))]
+#[tactic(auto, unfolding(ut_soql_grammar::specs::Readers::count))]
 fn left_out(signs: &[Sign]) -> Result<(u16, &[Sign]), Fail>
     ensures value { Gives (λ x. (x.0, x.1.now)) result (spec.count 2000 signs.now) }
     ensures shorter { IfOk result (λ x. length x.1.now < length signs.now) }
 {
     match next(signs) {
-        Some((sign, rest)) => match small_count(sign) {
-            Some(found) => Ok((found, rest)),
-            None => Err(Fail::Stuck(signs.len())),
-        },
+        Some((sign, _)) => taken(small_count(sign), signs),
         None => Err(Fail::Stuck(0)),
     }
 }
 
-#[tactic(auto, unfolding(crate::specs::Readers::offset, crate::specs::Readers::counted))]
+#[tactic(auto, unfolding(ut_soql_grammar::specs::Readers::offset, ut_soql_grammar::specs::Readers::counted))]
 fn offset(signs: &[Sign]) -> Result<(Option<u16>, &[Sign]), Fail>
     ensures value { Gives (λ x. (x.0, x.1.now)) result (spec.offset signs.now) }
     ensures shorter { IfOk result (λ x. length x.1.now ≤ length signs.now) }
 {
-    if begins_with(signs, &[OFFSET]) {
-        let rest = skip(signs, OFFSET)?;
+    if begins_with(signs, &[SignKind::Offset]) {
+        let rest = skip(signs, SignKind::Offset)?;
         let (count, rest) = left_out(rest)?;
         Ok((Some(count), rest))
     } else {
@@ -217,7 +212,7 @@ fn offset(signs: &[Sign]) -> Result<(Option<u16>, &[Sign]), Fail>
 }
 
 /// A whole query.
-#[tactic(auto, unfolding(crate::specs::Readers::whole))]
+#[tactic(auto, unfolding(ut_soql_grammar::specs::Readers::whole))]
 pub fn whole(alloc: Global, signs: &[Sign]) -> Result<(Query, &[Sign]), Fail>
     ensures { Gives (λ x. (x.0, x.1.now)) result (spec.whole signs.now) }
 {

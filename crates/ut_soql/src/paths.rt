@@ -5,85 +5,56 @@
 ghost use Rattle.std.specs.Prelude.{◌≡◌, ◌<◌, ◌≤◌, length, ◌∷◌, [], IfOk};
 ghost use Rattle.ut_grammar.specs.Reader as reader;
 ghost use Rattle.ut_grammar.specs.Reader.{Gives, with_front};
-ghost use Rattle.ut_soql.specs.Readers as spec;
-ghost use Rattle.ut_soql.specs.Signs.{kind};
+ghost use Rattle.ut_soql_grammar.specs.Readers as spec;
+ghost use Rattle.ut_soql_grammar.specs.Signs.{kind};
 
-use crate::sign::Sign;
 use crate::values::{literal_in, name_in, operator_in, pattern_in};
 use std::alloc::Global;
-use ut_grammar::{Fail, begins_with, next, skip};
+use ut_grammar::{Fail, begins_with, next, skip, taken};
 use ut_query::{Cond, LikePattern, Literal, Op, Path};
+use ut_soql_grammar::{Sign, SignKind};
 use ut_value::{Items, Text};
 
-// The kinds of tokens, as `Sign::kind` numbers them.
-const NOT: u8 = 6;
-
-const IN: u8 = 7;
-
-const LIKE: u8 = 8;
-
-const OP: u8 = 25;
-
-const OPEN: u8 = 26;
-
-const CLOSE: u8 = 27;
-
-const COMMA: u8 = 28;
-
-const DOT: u8 = 29;
-
-#[tactic(auto, unfolding(crate::specs::Readers::name))]
+#[tactic(auto, unfolding(ut_soql_grammar::specs::Readers::name))]
 pub fn name(alloc: Global, signs: &[Sign]) -> Result<(Text, &[Sign]), Fail>
     ensures value { Gives (λ x. (x.0, x.1.now)) result (spec.name signs.now) }
     ensures shorter { IfOk result (λ x. length x.1.now < length signs.now) }
 {
     match next(signs) {
-        Some((sign, rest)) => match name_in(alloc, sign)? {
-            Some(found) => Ok((found, rest)),
-            None => Err(Fail::Stuck(signs.len())),
-        },
+        Some((sign, _)) => taken(name_in(alloc, sign)?, signs),
         None => Err(Fail::Stuck(0)),
     }
 }
 
-#[tactic(auto, unfolding(crate::specs::Readers::literal))]
+#[tactic(auto, unfolding(ut_soql_grammar::specs::Readers::literal))]
 fn literal(alloc: Global, signs: &[Sign]) -> Result<(Literal, &[Sign]), Fail>
     ensures value { Gives (λ x. (x.0, x.1.now)) result (spec.literal signs.now) }
     ensures shorter { IfOk result (λ x. length x.1.now < length signs.now) }
 {
     match next(signs) {
-        Some((sign, rest)) => match literal_in(alloc, sign)? {
-            Some(found) => Ok((found, rest)),
-            None => Err(Fail::Stuck(signs.len())),
-        },
+        Some((sign, _)) => taken(literal_in(alloc, sign)?, signs),
         None => Err(Fail::Stuck(0)),
     }
 }
 
-#[tactic(auto, unfolding(crate::specs::Readers::operator))]
+#[tactic(auto, unfolding(ut_soql_grammar::specs::Readers::operator))]
 fn operator(signs: &[Sign]) -> Result<(Op, &[Sign]), Fail>
     ensures value { Gives (λ x. (x.0, x.1.now)) result (spec.operator signs.now) }
     ensures shorter { IfOk result (λ x. length x.1.now < length signs.now) }
 {
     match next(signs) {
-        Some((sign, rest)) => match operator_in(sign) {
-            Some(found) => Ok((found, rest)),
-            None => Err(Fail::Stuck(signs.len())),
-        },
+        Some((sign, _)) => taken(operator_in(sign), signs),
         None => Err(Fail::Stuck(0)),
     }
 }
 
-#[tactic(auto, unfolding(crate::specs::Readers::pattern))]
+#[tactic(auto, unfolding(ut_soql_grammar::specs::Readers::pattern))]
 fn pattern(alloc: Global, signs: &[Sign]) -> Result<(LikePattern, &[Sign]), Fail>
     ensures value { Gives (λ x. (x.0, x.1.now)) result (spec.pattern signs.now) }
     ensures shorter { IfOk result (λ x. length x.1.now < length signs.now) }
 {
     match next(signs) {
-        Some((sign, rest)) => match pattern_in(alloc, sign)? {
-            Some(found) => Ok((found, rest)),
-            None => Err(Fail::Stuck(signs.len())),
-        },
+        Some((sign, _)) => taken(pattern_in(alloc, sign)?, signs),
         None => Err(Fail::Stuck(0)),
     }
 }
@@ -95,7 +66,7 @@ fn another_name(alloc: Global, signs: &[Sign]) -> Result<(Text, &[Sign]), Fail>
     ensures value { Gives (λ x. (x.0, x.1.now)) result (reader.after kind 29 spec.name signs.now) }
     ensures shorter { IfOk result (λ x. length x.1.now < length signs.now) }
 {
-    let rest = skip(signs, DOT)?;
+    let rest = skip(signs, SignKind::Dot)?;
     name(alloc, rest)
 }
 
@@ -110,7 +81,7 @@ fn more_names(
 {
     let mut rest = signs;
     let mut left: usize = 5;
-    'items: while begins_with(rest, &[DOT]) {
+    'items: while begins_with(rest, &[SignKind::Dot]) {
         if left == 0 {
             return Err(Fail::Stuck(rest.len()));
         }
@@ -123,7 +94,7 @@ fn more_names(
 }
 
 // From 1 to 6 names, with points between.
-#[tactic(auto, unfolding(crate::specs::Readers::names))]
+#[tactic(auto, unfolding(ut_soql_grammar::specs::Readers::names))]
 fn names(alloc: Global, signs: &[Sign]) -> Result<(Items<Text>, &[Sign]), Fail>
     ensures value { Gives (λ x. (x.0, x.1.now)) result (spec.names signs.now) }
     ensures shorter { IfOk result (λ x. length x.1.now < length signs.now) }
@@ -134,7 +105,7 @@ fn names(alloc: Global, signs: &[Sign]) -> Result<(Items<Text>, &[Sign]), Fail>
     more_names(alloc, all, rest)
 }
 
-#[tactic(auto, unfolding(crate::specs::Readers::path))]
+#[tactic(auto, unfolding(ut_soql_grammar::specs::Readers::path))]
 pub fn path(alloc: Global, signs: &[Sign]) -> Result<(Path, &[Sign]), Fail>
     ensures value { Gives (λ x. (x.0, x.1.now)) result (spec.path signs.now) }
     ensures shorter { IfOk result (λ x. length x.1.now < length signs.now) }
@@ -150,7 +121,7 @@ fn another_literal(alloc: Global, signs: &[Sign]) -> Result<(Literal, &[Sign]), 
     ensures value { Gives (λ x. (x.0, x.1.now)) result (reader.after kind 28 spec.literal signs.now) }
     ensures shorter { IfOk result (λ x. length x.1.now < length signs.now) }
 {
-    let rest = skip(signs, COMMA)?;
+    let rest = skip(signs, SignKind::Comma)?;
     literal(alloc, rest)
 }
 
@@ -165,7 +136,7 @@ fn more_literals(
 {
     let mut rest = signs;
     let mut left: usize = 999;
-    'items: while begins_with(rest, &[COMMA]) {
+    'items: while begins_with(rest, &[SignKind::Comma]) {
         if left == 0 {
             return Err(Fail::Stuck(rest.len()));
         }
@@ -178,7 +149,7 @@ fn more_literals(
 }
 
 // From 1 to 1,000 literals, with commas between.
-#[tactic(auto, unfolding(crate::specs::Readers::literal_list))]
+#[tactic(auto, unfolding(ut_soql_grammar::specs::Readers::literal_list))]
 fn literal_list(alloc: Global, signs: &[Sign]) -> Result<(Items<Literal>, &[Sign]), Fail>
     ensures value { Gives (λ x. (x.0, x.1.now)) result (spec.literal_list signs.now) }
     ensures shorter { IfOk result (λ x. length x.1.now < length signs.now) }
@@ -189,20 +160,20 @@ fn literal_list(alloc: Global, signs: &[Sign]) -> Result<(Items<Literal>, &[Sign
     more_literals(alloc, all, rest)
 }
 
-#[tactic(auto, unfolding(crate::specs::Readers::literals))]
+#[tactic(auto, unfolding(ut_soql_grammar::specs::Readers::literals))]
 fn literals(alloc: Global, signs: &[Sign]) -> Result<(Items<Literal>, &[Sign]), Fail>
     ensures value { Gives (λ x. (x.0, x.1.now)) result (spec.literals signs.now) }
     ensures shorter { IfOk result (λ x. length x.1.now < length signs.now) }
 {
-    let rest = skip(signs, OPEN)?;
+    let rest = skip(signs, SignKind::Open)?;
     let (all, rest) = literal_list(alloc, rest)?;
-    let rest = skip(rest, CLOSE)?;
+    let rest = skip(rest, SignKind::Close)?;
     Ok((all, rest))
 }
 
 // ---- tests
 
-#[tactic(auto, unfolding(crate::specs::Readers::comparison))]
+#[tactic(auto, unfolding(ut_soql_grammar::specs::Readers::comparison))]
 fn comparison(alloc: Global, path: Path, signs: &[Sign]) -> Result<(Cond, &[Sign]), Fail>
     ensures value { Gives (λ x. (x.0, x.1.now)) result (spec.comparison path signs.now) }
     ensures shorter { IfOk result (λ x. length x.1.now < length signs.now) }
@@ -212,22 +183,22 @@ fn comparison(alloc: Global, path: Path, signs: &[Sign]) -> Result<(Cond, &[Sign
     Ok((Cond::Test { path, op, literal }, rest))
 }
 
-#[tactic(auto, unfolding(crate::specs::Readers::likeness))]
+#[tactic(auto, unfolding(ut_soql_grammar::specs::Readers::likeness))]
 fn likeness(alloc: Global, path: Path, signs: &[Sign]) -> Result<(Cond, &[Sign]), Fail>
     ensures value { Gives (λ x. (x.0, x.1.now)) result (spec.likeness path signs.now) }
     ensures shorter { IfOk result (λ x. length x.1.now < length signs.now) }
 {
-    let rest = skip(signs, LIKE)?;
+    let rest = skip(signs, SignKind::Like)?;
     let (pattern, rest) = pattern(alloc, rest)?;
     Ok((Cond::Like { path, pattern }, rest))
 }
 
-#[tactic(auto, unfolding(crate::specs::Readers::membership))]
+#[tactic(auto, unfolding(ut_soql_grammar::specs::Readers::membership))]
 fn membership(alloc: Global, path: Path, signs: &[Sign]) -> Result<(Cond, &[Sign]), Fail>
     ensures value { Gives (λ x. (x.0, x.1.now)) result (spec.membership path signs.now) }
     ensures shorter { IfOk result (λ x. length x.1.now < length signs.now) }
 {
-    let rest = skip(signs, IN)?;
+    let rest = skip(signs, SignKind::In)?;
     let (literals, rest) = literals(alloc, rest)?;
     let test = Cond::In {
         path,
@@ -237,13 +208,13 @@ fn membership(alloc: Global, path: Path, signs: &[Sign]) -> Result<(Cond, &[Sign
     Ok((test, rest))
 }
 
-#[tactic(auto, unfolding(crate::specs::Readers::exclusion))]
+#[tactic(auto, unfolding(ut_soql_grammar::specs::Readers::exclusion))]
 fn exclusion(alloc: Global, path: Path, signs: &[Sign]) -> Result<(Cond, &[Sign]), Fail>
     ensures value { Gives (λ x. (x.0, x.1.now)) result (spec.exclusion path signs.now) }
     ensures shorter { IfOk result (λ x. length x.1.now < length signs.now) }
 {
-    let rest = skip(signs, NOT)?;
-    let rest = skip(rest, IN)?;
+    let rest = skip(signs, SignKind::Not)?;
+    let rest = skip(rest, SignKind::In)?;
     let (literals, rest) = literals(alloc, rest)?;
     let test = Cond::In {
         path,
@@ -253,23 +224,23 @@ fn exclusion(alloc: Global, path: Path, signs: &[Sign]) -> Result<(Cond, &[Sign]
     Ok((test, rest))
 }
 
-#[tactic(auto, unfolding(crate::specs::Readers::ending))]
+#[tactic(auto, unfolding(ut_soql_grammar::specs::Readers::ending))]
 fn ending(alloc: Global, path: Path, signs: &[Sign]) -> Result<(Cond, &[Sign]), Fail>
     ensures value { Gives (λ x. (x.0, x.1.now)) result (spec.ending path signs.now) }
     ensures shorter { IfOk result (λ x. length x.1.now < length signs.now) }
 {
-    if begins_with(signs, &[OP]) {
+    if begins_with(signs, &[SignKind::Op]) {
         comparison(alloc, path, signs)
-    } else if begins_with(signs, &[LIKE]) {
+    } else if begins_with(signs, &[SignKind::Like]) {
         likeness(alloc, path, signs)
-    } else if begins_with(signs, &[IN]) {
+    } else if begins_with(signs, &[SignKind::In]) {
         membership(alloc, path, signs)
     } else {
         exclusion(alloc, path, signs)
     }
 }
 
-#[tactic(auto, unfolding(crate::specs::Readers::of_path))]
+#[tactic(auto, unfolding(ut_soql_grammar::specs::Readers::of_path))]
 pub fn of_path(alloc: Global, signs: &[Sign]) -> Result<(Cond, &[Sign]), Fail>
     ensures value { Gives (λ x. (x.0, x.1.now)) result (spec.of_path signs.now) }
     ensures shorter { IfOk result (λ x. length x.1.now < length signs.now) }

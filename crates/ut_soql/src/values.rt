@@ -2,12 +2,12 @@
 
 ghost use Rattle.std.specs.Prelude.{◌≡◌, ◌++◌, IfOk, map};
 ghost use Rattle.ut_grammar.specs.Counts.{plain_text};
-ghost use Rattle.ut_soql.specs.Grammar as grammar;
+ghost use Rattle.ut_soql_grammar.specs.Grammar as grammar;
 
-use crate::sign::Sign;
 use std::alloc::{AllocError, Global};
 use ut_grammar::{Piece, plain_text};
 use ut_query::{LikePart, LikePattern, Literal, Op};
+use ut_soql_grammar::Sign;
 use ut_value::{Items, Text};
 
 pub fn name_in(alloc: Global, sign: &Sign) -> Result<Option<Text>, AllocError>
@@ -58,7 +58,7 @@ pub fn literal_in(alloc: Global, sign: &Sign) -> Result<Option<Literal>, AllocEr
     }
 }
 
-#[tactic(auto, unfolding(crate::specs::Grammar::part_of))]
+#[tactic(auto, unfolding(ut_soql_grammar::specs::Grammar::part_of))]
 fn part_of(piece: Piece) -> LikePart
     ensures { result ≡ grammar.part_of piece }
 {

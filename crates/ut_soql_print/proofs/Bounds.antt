@@ -14,11 +14,11 @@ use Rattle.ut_value.specs.declared.value.Value.TheVariants as value
 use Rattle.ut_value.proofs.DateLaws.{day_valid, moment_valid}
 use Rattle.ut_value.proofs.Sizes.{exactly_is}
 use Rattle.std.specs.Prelude.{option_map}
-use Rattle.ut_soql.specs.Grammar.{literal_in, text_literal}
-use Rattle.ut_soql.specs.Signs.{sign_of, word_sign, condition_word, clause_word, name_sign, is_written, mark_sign, pair_sign, run_sign, number_sign, day_or, moment_in}
+use Rattle.ut_soql_grammar.specs.Grammar.{literal_in, text_literal}
+use Rattle.ut_soql_grammar.specs.Signs.{sign_of, word_sign, condition_word, clause_word, name_sign, is_written, mark_sign, pair_sign, run_sign, number_sign, day_or, moment_in}
 use Rattle.ut_query.specs.declared.query.Literal.TheVariants as l
-use Rattle.ut_soql.specs.declared.sign.Sign.{Sign}
-use Rattle.ut_soql.specs.declared.sign.Sign.TheVariants as sign
+use Rattle.ut_soql_grammar.specs.declared.sign.Sign.{Sign}
+use Rattle.ut_soql_grammar.specs.declared.sign.Sign.TheVariants as sign
 use Rattle.std.proofs.Common.{codes}
 use Rattle.ut_soql_print.proofs.Names.{at_clause_word, at_condition_word, at_or, either_if}
 use Rattle.ut_soql_print.proofs.Written.{IsWritten}

@@ -20,9 +20,9 @@ use Rattle.ut_value.proofs.DateTexts.{length_day}
 use Rattle.ut_value.proofs.Printed.{no_sign}
 use Rattle.ut_value.proofs.Splits.{written-none}
 use Rattle.ut_value.proofs.ValueLaws.{printed_reads}
-use Rattle.ut_soql.specs.Signs.{sign_of, run_sign, day_or, moment_in}
-use Rattle.ut_soql.specs.declared.sign.Sign.{Sign}
-use Rattle.ut_soql.specs.declared.sign.Sign.TheVariants as sign
+use Rattle.ut_soql_grammar.specs.Signs.{sign_of, run_sign, day_or, moment_in}
+use Rattle.ut_soql_grammar.specs.declared.sign.Sign.{Sign}
+use Rattle.ut_soql_grammar.specs.declared.sign.Sign.TheVariants as sign
 use Rattle.ut_soql_print.proofs.Lexed.{Reads}
 use Rattle.ut_soql_print.proofs.Keywords.{goes_on}
 use Rattle.ut_soql_print.proofs.Runs.{IsRun, digit_class, digit_runs, is_run_reads, passes_both}

@@ -9,11 +9,11 @@ use Rattle.ut_grammar.specs.Lexing.{token_len, token_of, mark_len, mark_token}
 use Rattle.ut_grammar.proofs.Fronts.{Fails}
 use Rattle.ut_value.specs.Numerals.{is_digit}
 use Rattle.ut_query.specs.Lexis.{lexis, is_mark, is_pair}
-use Rattle.ut_soql.specs.Signs.{sign_of, word_sign, condition_word, clause_word, name_sign, is_written, mark_sign, pair_sign}
+use Rattle.ut_soql_grammar.specs.Signs.{sign_of, word_sign, condition_word, clause_word, name_sign, is_written, mark_sign, pair_sign}
 use Rattle.ut_query.specs.declared.query.Op.{Op}
 use Rattle.ut_query.specs.declared.query.Op.TheVariants as op
-use Rattle.ut_soql.specs.declared.sign.Sign.{Sign}
-use Rattle.ut_soql.specs.declared.sign.Sign.TheVariants as sign
+use Rattle.ut_soql_grammar.specs.declared.sign.Sign.{Sign}
+use Rattle.ut_soql_grammar.specs.declared.sign.Sign.TheVariants as sign
 use Rattle.ut_soql_print.specs.Printing.{printed_op}
 use Rattle.ut_soql_print.proofs.Lexed.{Reads, nothing, blank_at_end, one_reads, reads_before, reads_same, reads_then, reads_wider, word_reads}
 

@@ -7,15 +7,15 @@ use Rattle.ut_grammar.specs.Tokens.{in_word, is_letter}
 use Rattle.ut_grammar.specs.declared.token.Piece.TheVariants.{Plain}
 use Rattle.ut_value.specs.Numerals.{is_digit}
 use Rattle.ut_value.specs.Printing.{print_day, print_moment, print_number, scale}
-use Rattle.ut_soql.specs.Grammar as g
-use Rattle.ut_soql.specs.Grammar.{count_in, literal_in, name_in, pattern_in}
-use Rattle.ut_soql.specs.Signs.{number_sign}
+use Rattle.ut_soql_grammar.specs.Grammar as g
+use Rattle.ut_soql_grammar.specs.Grammar.{count_in, literal_in, name_in, pattern_in}
+use Rattle.ut_soql_grammar.specs.Signs.{number_sign}
 use Rattle.ut_query.specs.declared.query.LikePattern.{LikePattern}
 use Rattle.ut_query.specs.declared.query.Literal.{Literal}
 use Rattle.ut_query.specs.declared.query.Literal.TheVariants as l
 use Rattle.ut_query.specs.declared.query.Path.{Path}
-use Rattle.ut_soql.specs.declared.sign.Sign.{Sign}
-use Rattle.ut_soql.specs.declared.sign.Sign.TheVariants as sign
+use Rattle.ut_soql_grammar.specs.declared.sign.Sign.{Sign}
+use Rattle.ut_soql_grammar.specs.declared.sign.Sign.TheVariants as sign
 use Rattle.ut_soql_print.specs.Printing.{printed_character, printed_literal, printed_part, printed_path, quoted}
 use Rattle.ut_soql_print.proofs.Bounds.{literal_day, literal_moment, literal_number}
 use Rattle.ut_soql_print.proofs.Days.{day_reads, moment_reads}

@@ -10,8 +10,8 @@ use Rattle.ut_grammar.proofs.Fronts.{Fails}
 use Rattle.ut_grammar.proofs.Longest.{class_of-blank}
 use Rattle.ut_grammar.proofs.Tokenizing.{byte_len-append, tokens_of-cons}
 use Rattle.ut_query.specs.Lexis.{lexis}
-use Rattle.ut_soql.specs.Signs.{sign_of, signs, word_sign}
-use Rattle.ut_soql.specs.declared.sign.Sign.{Sign}
+use Rattle.ut_soql_grammar.specs.Signs.{sign_of, signs, word_sign}
+use Rattle.ut_soql_grammar.specs.declared.sign.Sign.{Sign}
 
 -- ---- one token, or a blank
 token_reads : (c : ℕ) (w rest : List ℕ) (at : ℕ) → is_blank c ≡ false → token_len lexis (class_of lexis c) c (w ++ rest) ≡ length w

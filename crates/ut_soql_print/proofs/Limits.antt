@@ -6,10 +6,10 @@ use Rattle.std.proofs.lemmas.Bool.Decides.{nat_tests}
 use Rattle.ut_value.specs.Numerals.{exact_bound, is_digit}
 use Rattle.ut_value.specs.Printing.{print_size, scale}
 use Rattle.ut_value.proofs.Printed.{AreDigits, decimal_is}
-use Rattle.ut_soql.specs.Grammar.{count_in}
-use Rattle.ut_soql.specs.Signs.{number_sign}
-use Rattle.ut_soql.specs.declared.sign.Sign.{Sign}
-use Rattle.ut_soql.specs.declared.sign.Sign.TheVariants as sign
+use Rattle.ut_soql_grammar.specs.Grammar.{count_in}
+use Rattle.ut_soql_grammar.specs.Signs.{number_sign}
+use Rattle.ut_soql_grammar.specs.declared.sign.Sign.{Sign}
+use Rattle.ut_soql_grammar.specs.declared.sign.Sign.TheVariants as sign
 use Rattle.ut_soql_print.proofs.Lexed.{Reads}
 use Rattle.ut_soql_print.proofs.Keywords.{goes_on}
 use Rattle.ut_soql_print.proofs.Runs.{number_reads}

@@ -15,11 +15,11 @@ use Rattle.ut_value.specs.declared.value.Value.{Value}
 use Rattle.ut_value.specs.declared.value.Value.TheVariants as value
 use Rattle.ut_value.specs.declared.value.FieldType.TheVariants as type
 use Rattle.std.specs.Prelude.{Result, Ok, ℤ}
-use Rattle.ut_soql.specs.Grammar.{name_in}
+use Rattle.ut_soql_grammar.specs.Grammar.{name_in}
 use Rattle.ut_query.specs.Lexis.{lexis, is_mark}
-use Rattle.ut_soql.specs.Signs.{sign_of, word_sign, word_or, condition_word, clause_word, name_sign, is_written, mark_sign, pair_sign, run_sign, number_sign, day_or, moment_in}
-use Rattle.ut_soql.specs.declared.sign.Sign.{Sign}
-use Rattle.ut_soql.specs.declared.sign.Sign.TheVariants as sign
+use Rattle.ut_soql_grammar.specs.Signs.{sign_of, word_sign, word_or, condition_word, clause_word, name_sign, is_written, mark_sign, pair_sign, run_sign, number_sign, day_or, moment_in}
+use Rattle.ut_soql_grammar.specs.declared.sign.Sign.{Sign}
+use Rattle.ut_soql_grammar.specs.declared.sign.Sign.TheVariants as sign
 use Rattle.ut_soql_print.proofs.Lexed.{Reads, word_reads}
 use Rattle.ut_soql_print.proofs.Written.{IsWritten}
 

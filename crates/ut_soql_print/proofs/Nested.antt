@@ -4,15 +4,15 @@ use Rattle.std.specs.List.{AllByRecursion, flat_map}
 use Rattle.ut_grammar.specs.Part.{Part, one, empty, both, either, as_value}
 use Rattle.ut_grammar.specs.Part as part
 use Rattle.ut_grammar.proofs.Fronts.{Fails}
-use Rattle.ut_soql.specs.Grammar as g
-use Rattle.ut_soql.specs.Grammar.{operator_in, pattern_in}
+use Rattle.ut_soql_grammar.specs.Grammar as g
+use Rattle.ut_soql_grammar.specs.Grammar.{operator_in, pattern_in}
 use Rattle.ut_query.specs.declared.query.Cond.{Cond}
 use Rattle.ut_query.specs.declared.query.Cond.TheVariants as c
 use Rattle.ut_query.specs.declared.query.Literal.{Literal}
 use Rattle.ut_query.specs.declared.query.Op.{Op}
 use Rattle.ut_query.specs.declared.query.Path.{Path}
-use Rattle.ut_soql.specs.declared.sign.Sign.{Sign}
-use Rattle.ut_soql.specs.declared.sign.Sign.TheVariants as sign
+use Rattle.ut_soql_grammar.specs.declared.sign.Sign.{Sign}
+use Rattle.ut_soql_grammar.specs.declared.sign.Sign.TheVariants as sign
 use Rattle.ut_soql_print.specs.Printing.{as_unit, in_parentheses, is_simple, listed, printed_condition, printed_literal, printed_op, printed_part, printed_path, quoted}
 use Rattle.ut_soql_print.specs.Nesting.{levels, unit_levels}
 use Rattle.ut_soql_print.specs.inner.Units.{unit_text}

@@ -4,10 +4,10 @@ use Rattle.std.specs.List.{AllByRecursion, flat_map, join_by}
 use Rattle.ut_grammar.specs.Part.{Part, one, empty, both, either, as_value, many, of_kind, one_fewer, SpellsMany, SpellsBoth}
 use Rattle.ut_grammar.specs.Part as part
 use Rattle.ut_grammar.proofs.Fronts.{Fails}
-use Rattle.ut_soql.specs.Grammar as g
-use Rattle.ut_soql.specs.Signs.{kind}
-use Rattle.ut_soql.specs.declared.sign.Sign.{Sign}
-use Rattle.ut_soql.specs.declared.sign.Sign.TheVariants as sign
+use Rattle.ut_soql_grammar.specs.Grammar as g
+use Rattle.ut_soql_grammar.specs.Signs.{kind}
+use Rattle.ut_soql_grammar.specs.declared.sign.Sign.{Sign}
+use Rattle.ut_soql_grammar.specs.declared.sign.Sign.TheVariants as sign
 use Rattle.ut_soql_print.specs.Printing.{in_parentheses}
 use Rattle.ut_soql_print.proofs.Lexed.{Reads, nothing, fails_append, reads_append, reads_before, reads_none, reads_then, reads_wider}
 use Rattle.ut_soql_print.proofs.Written.{AreWritten, written_split}

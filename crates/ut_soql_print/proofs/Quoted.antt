@@ -9,13 +9,13 @@ use Rattle.ut_grammar.specs.Counts.{plain_text}
 use Rattle.ut_grammar.specs.Tokens.{is_blank, is_letter, begins_run, class_of, with_piece, pieces_of, text_len, text_token}
 use Rattle.ut_grammar.specs.Lexing.{token_len, token_of}
 use Rattle.ut_value.specs.Numerals.{is_digit}
-use Rattle.ut_soql.specs.Grammar.{part_of, parts_of}
+use Rattle.ut_soql_grammar.specs.Grammar.{part_of, parts_of}
 use Rattle.ut_query.specs.Lexis.{lexis, escaped}
-use Rattle.ut_soql.specs.Signs.{sign_of}
+use Rattle.ut_soql_grammar.specs.Signs.{sign_of}
 use Rattle.ut_query.specs.declared.query.LikePart.{LikePart}
 use Rattle.ut_query.specs.declared.query.LikePart.TheVariants as like
-use Rattle.ut_soql.specs.declared.sign.Sign.{Sign}
-use Rattle.ut_soql.specs.declared.sign.Sign.TheVariants as sign
+use Rattle.ut_soql_grammar.specs.declared.sign.Sign.{Sign}
+use Rattle.ut_soql_grammar.specs.declared.sign.Sign.TheVariants as sign
 use Rattle.ut_soql_print.specs.Printing.{escaped_if, is_special, is_wildcard, printed_character, printed_part, quoted}
 use Rattle.ut_soql_print.proofs.Lexed.{Reads, nothing, one_reads}
 

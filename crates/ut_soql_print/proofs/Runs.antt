@@ -15,8 +15,8 @@ use Rattle.ut_value.specs.inner.Splits.{IsSplit}
 use Rattle.ut_value.proofs.Printed.{AreDigits, decimal_is, fraction_of, no_sign, places_are, size_printed, size_split, whole_small}
 use Rattle.ut_value.proofs.Splits.{written-split}
 use Rattle.ut_query.specs.Lexis.{lexis}
-use Rattle.ut_soql.specs.Signs.{sign_of, run_sign, number_sign}
-use Rattle.ut_soql.specs.declared.sign.Sign.{Sign}
+use Rattle.ut_soql_grammar.specs.Signs.{sign_of, run_sign, number_sign}
+use Rattle.ut_soql_grammar.specs.declared.sign.Sign.{Sign}
 use Rattle.ut_soql_print.proofs.Lexed.{Reads, reads_wider, run_reads}
 use Rattle.ut_soql_print.proofs.Keywords.{goes_on, wider_by}
 

@@ -8,11 +8,11 @@ use Rattle.ut_grammar.specs.Tokens.{byte_len}
 use Rattle.ut_grammar.proofs.Fronts.{Fails}
 use Rattle.ut_grammar.proofs.Meets.{meets}
 use Rattle.ut_grammar.proofs.Tokenizing.{tokens_of-nil}
-use Rattle.ut_soql.specs.Grammar as g
-use Rattle.ut_soql.specs.Grammar.{count_in, descending_in, last_in, left_behind}
+use Rattle.ut_soql_grammar.specs.Grammar as g
+use Rattle.ut_soql_grammar.specs.Grammar.{count_in, descending_in, last_in, left_behind}
 use Rattle.ut_query.specs.Lexis.{lexis}
-use Rattle.ut_soql.specs.Signs.{signs}
-use Rattle.ut_soql.specs.Spelling.{Spells}
+use Rattle.ut_soql_grammar.specs.Signs.{signs}
+use Rattle.ut_soql_grammar.specs.Spelling.{Spells}
 use Rattle.ut_query.specs.declared.query.Cond.{Cond}
 use Rattle.ut_query.specs.declared.query.Item.{Item}
 use Rattle.ut_query.specs.declared.query.Item.TheVariants as item
@@ -20,8 +20,8 @@ use Rattle.ut_query.specs.declared.query.OrderKey.{OrderKey}
 use Rattle.ut_query.specs.declared.query.Path.{Path}
 use Rattle.ut_query.specs.declared.query.Query.{Query}
 use Rattle.ut_query.specs.declared.query.Tail.{Tail}
-use Rattle.ut_soql.specs.declared.sign.Sign.{Sign}
-use Rattle.ut_soql.specs.declared.sign.Sign.TheVariants as sign
+use Rattle.ut_soql_grammar.specs.declared.sign.Sign.{Sign}
+use Rattle.ut_soql_grammar.specs.declared.sign.Sign.TheVariants as sign
 use Rattle.ut_soql_print.specs.Printing.{listed, only_if, optional, printed, printed_condition, printed_item, printed_key, printed_order, printed_path, printed_tail}
 use Rattle.ut_soql_print.specs.Nesting.{item_levels, levels_if, nesting}
 use Rattle.ut_soql_print.proofs.Keywords.{goes_on, by_reads, comma_blank_reads, desc_reads, ends, from_reads, last_reads, limit_reads, nulls_reads, offset_reads, order_reads, select_reads, spaced, where_reads}

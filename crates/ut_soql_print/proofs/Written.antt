@@ -4,8 +4,8 @@ use Rattle.ut_grammar.specs.declared.token.Placed.{Placed}
 use Rattle.ut_grammar.specs.declared.token.Token.{Token}
 use Rattle.ut_grammar.specs.Tokens.{AreTokens, IsToken, byte_len}
 use Rattle.ut_query.specs.Lexis.{lexis}
-use Rattle.ut_soql.specs.Signs.{sign_of, signs}
-use Rattle.ut_soql.specs.declared.sign.Sign.{Sign}
+use Rattle.ut_soql_grammar.specs.Signs.{sign_of, signs}
+use Rattle.ut_soql_grammar.specs.declared.sign.Sign.{Sign}
 
 pub record IsWritten (s : Sign) : Type 0 where
   pub chars : List ℕ

@@ -1,7 +1,7 @@
 //! What holds of the texts of queries, for the layers above.
 
 ghost use Rattle.std.specs.Prelude.{ℕ, ◌≤◌, List};
-ghost use Rattle.ut_soql.specs.Spelling.{Spells};
+ghost use Rattle.ut_soql_grammar.specs.Spelling.{Spells};
 ghost use Rattle.ut_query.specs.declared.query.Query.{Query};
 ghost use Rattle.ut_soql_print.specs.Printing.{printed};
 ghost use Rattle.ut_soql_print.specs.Nesting.{nesting};

@@ -24,7 +24,8 @@ use Rattle.ut_sound.proofs.SoundParts.{HasSoundParts}
 use Rattle.ut_model.specs.SoundMetadata.{IsSoundField, implies, may_be_required}
 use Rattle.ut_model.specs.Tenant.{Field, Tenant}
 use Rattle.ut_model.specs.Verdict.{Verdict, accept, done, judged, with_object}
-use Rattle.ut_sound.specs.Fit.{flags_suit, has_member, is_fit_field}
+use Rattle.ut_model.specs.Forms.{flags_suit}
+use Rattle.ut_sound.specs.Fit.{has_member, is_fit_field}
 use Rattle.ut_sound.proofs.Parts.{both, both_left, both_right, holds_not, member_rule, none_refuses, unrefused}
 use Rattle.ut_sound.proofs.Growing.{within_limit}
 use Rattle.ut_sound.proofs.PeopleSound.{when_judged}
@@ -70,7 +71,7 @@ module _ (t : Tenant) (s : HasSoundParts t) (o : Numbered) (at : slice_get t.obj
       (none_refuses (taken (map (λ (x : Field). x.name) o.object.fields) b.name ∷ in_case target None (parent_taken t o.number (record b { kind = kind })) ∷ []) e).0
 
   -- a field that is no reference
-  plain_sound : (kind : FieldType) → is_reference kind ≡ false → is_type kind ≡ true → flags_suit (record b { kind = Plain kind }) kind ≡ true
+  plain_sound : (kind : FieldType) → is_reference kind ≡ false → is_type kind ≡ true → flags_suit (Plain kind) b.required b.unique b.indexed ≡ true
       → HasSoundParts (judged t (field_rules t o None (record b { kind = Plain kind })) (accept done (with_field o.number (new_field None (record b { kind = Plain kind })) t))).tenant
   plain_sound kind reference bounds flags =
       let b2 : NewField = record b { kind = Plain kind } in
@@ -105,7 +106,7 @@ module _ (t : Tenant) (s : HasSoundParts t) (o : Numbered) (at : slice_get t.obj
 
   -- a lookup to an object that is there
   lookup_sound : (object : List ℕ) (d : OnDelete) (child : List ℕ) (q : Numbered) → slice_get t.objects q.number ≡ Some q.object → has_member b.members (codes "type") ≡ true
-      → flags_suit (record b { kind = LookupTo object d child }) (type.Lookup 0 d) ≡ true
+      → flags_suit (LookupTo object d child) b.required b.unique b.indexed ≡ true
       → HasSoundParts (judged t (field_rules t o (Some q.number) (record b { kind = LookupTo object d child })) (accept done (with_field o.number (new_field (Some q.number) (record b { kind = LookupTo object d child })) t))).tenant
   lookup_sound object d child q there typed flags =
       let b2 : NewField = record b { kind = LookupTo object d child } in
@@ -179,15 +180,15 @@ add_field_sound t b fit s = by b.kind fit
     by : (kind : SpelledType) → is_fit_field (record b { kind = kind }) ≡ true
         → HasSoundParts (with_object t b.object (λ o. with_target t kind (λ target. judged t (field_rules t o target (record b { kind = kind })) (accept done (with_field o.number (new_field target (record b { kind = kind })) t))))).tenant
     by (Plain kind) fit =
-        let named = both_left (has_member b.members (codes "name")) (not (is_reference kind) && (is_type kind && flags_suit (record b { kind = Plain kind }) kind)) fit in
-        let rest = both_right (has_member b.members (codes "name")) (not (is_reference kind) && (is_type kind && flags_suit (record b { kind = Plain kind }) kind)) fit in
-        let more = both_right (not (is_reference kind)) (is_type kind && flags_suit (record b { kind = Plain kind }) kind) rest in
+        let named = both_left (has_member b.members (codes "name")) (not (is_reference kind) && (is_type kind && flags_suit (Plain kind) b.required b.unique b.indexed)) fit in
+        let rest = both_right (has_member b.members (codes "name")) (not (is_reference kind) && (is_type kind && flags_suit (Plain kind) b.required b.unique b.indexed)) fit in
+        let more = both_right (not (is_reference kind)) (is_type kind && flags_suit (Plain kind) b.required b.unique b.indexed) rest in
         when_object HasSoundParts t b.object (λ o. judged t (field_rules t o None (record b { kind = Plain kind })) (accept done (with_field o.number (new_field None (record b { kind = Plain kind })) t))) s (λ o at.
-        plain_sound t s o at b named kind (not_so (is_reference kind) (both_left (not (is_reference kind)) (is_type kind && flags_suit (record b { kind = Plain kind }) kind) rest))
-        (both_left (is_type kind) (flags_suit (record b { kind = Plain kind }) kind) more) (both_right (is_type kind) (flags_suit (record b { kind = Plain kind }) kind) more))
+        plain_sound t s o at b named kind (not_so (is_reference kind) (both_left (not (is_reference kind)) (is_type kind && flags_suit (Plain kind) b.required b.unique b.indexed) rest))
+        (both_left (is_type kind) (flags_suit (Plain kind) b.required b.unique b.indexed) more) (both_right (is_type kind) (flags_suit (Plain kind) b.required b.unique b.indexed) more))
     by (LookupTo object d child) fit =
         let b2 : NewField = record b { kind = LookupTo object d child } in
-        let flags = flags_suit b2 (type.Lookup 0 d) in
+        let flags = flags_suit (LookupTo object d child) b.required b.unique b.indexed in
         let named = both_left (has_member b.members (codes "name")) (has_member b.members (codes "type") && (true && flags)) fit in
         let rest = both_right (has_member b.members (codes "name")) (has_member b.members (codes "type") && (true && flags)) fit in
         when_object HasSoundParts t b.object (λ o. with_object t object (λ q. judged t (field_rules t o (Some q.number) b2) (accept done (with_field o.number (new_field (Some q.number) b2) t)))) s (λ o at.

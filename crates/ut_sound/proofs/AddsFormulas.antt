@@ -5,6 +5,7 @@ use Rattle.std.specs.List.{list_all}
 use Rattle.std.specs.Option.{option_and_then}
 use Rattle.std.proofs.lemmas.Bool.{eqb-true}
 use Rattle.ut_formula.specs.declared.formula.Formula.{Formula}
+use Rattle.ut_model.specs.Limits.{formula_limit}
 use Rattle.ut_model.specs.declared.record.Record.{Record}
 use Rattle.ut_model.specs.Cases.{in_case}
 use Rattle.ut_model.specs.declared.metadata_bodies.NewObject.{NewObject}
@@ -75,7 +76,7 @@ module _ (law : ReadsOverMore) (f : Field) where
   same_formula : (o : Object) (c : Bool) (text : List ℕ) → is_ok (formula_of o c text) ≡ true → formula_of (add f o) c text ≡ formula_of o c text
   unfolding formula_of
   same_formula o c text h =
-      pick (nat_lt 4000 (length text)) (λ b. is_ok (cond b (Err 0) (reads_text o c text)) ≡ true → cond b (Err 0) (reads_text (add f o) c text) ≡ cond b (Err 0) (reads_text o c text)) (λ _ e. refl) (λ _ e. law o f c text e) h
+      pick (nat_lt formula_limit (length text)) (λ b. is_ok (cond b (Err 0) (reads_text o c text)) ≡ true → cond b (Err 0) (reads_text (add f o) c text) ≡ cond b (Err 0) (reads_text o c text)) (λ _ e. refl) (λ _ e. law o f c text e) h
 
   validations_over : (n : ℕ) (os : List Object) → list_all validations_read os ≡ true → list_all validations_read (change_at n (add f) os) ≡ true
   validations_over n [] h = refl

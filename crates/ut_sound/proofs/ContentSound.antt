@@ -15,7 +15,8 @@ use Rattle.ut_model.specs.declared.refusal.Refusal.TheVariants as refusal
 use Rattle.ut_model.specs.Cases.{in_case}
 use Rattle.ut_model.specs.Edits.{bad_owner, bad_reference, bad_target, clash, duplicate, duplicate_of, given_owner, is_target, missing, required_missing, same_owner}
 use Rattle.ut_model.specs.Fields.{is_detail, is_master, is_null, owner_column, ref_of}
-use Rattle.ut_model.specs.Given.{Assignment, has_value}
+use Rattle.ut_model.specs.declared.record_bodies.Assignment.{Assignment}
+use Rattle.ut_model.specs.Given.{has_value}
 use Rattle.ut_model.specs.Known.{item_of, known}
 use Rattle.ut_model.specs.Levels.{can_read}
 use Rattle.ut_model.specs.Membership.{Has}

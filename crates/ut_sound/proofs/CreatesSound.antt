@@ -8,7 +8,7 @@ use Rattle.ut_model.specs.Cases.{in_case}
 use Rattle.ut_model.specs.Creates.{create, create_on, create_rules, empty_record, with_record}
 use Rattle.ut_model.specs.Edits.{bad_owner, bad_reference, with_given}
 use Rattle.ut_model.specs.Fields.{is_detail}
-use Rattle.ut_model.specs.Given.{Assignment}
+use Rattle.ut_model.specs.declared.record_bodies.Assignment.{Assignment}
 use Rattle.ut_model.specs.Keys.{Key, with_key}
 use Rattle.ut_model.specs.Known.{known}
 use Rattle.ut_model.specs.Objects.{Numbered, record_prefix, records_of}

@@ -27,7 +27,7 @@ use Rattle.ut_model.specs.Known.{group_id, item_of, known, knows, role_id}
 use Rattle.ut_model.specs.Membership.{Has}
 use Rattle.ut_model.specs.Objects.{Numbered, is_of, numbered, object_number}
 use Rattle.ut_model.specs.Paths.{Asked}
-use Rattle.ut_model.specs.Relationships.{Reference, master_reference, named_id, references, references_of, target_of}
+use Rattle.ut_model.specs.Relationships.{Reference, master_in, named_id, references, references_of, target_of}
 use Rattle.ut_model.specs.Rights.{with_named}
 use Rattle.ut_model.specs.Rules.{refuse_if}
 use Rattle.ut_sound.proofs.SoundParts.{HasSoundParts}
@@ -473,7 +473,7 @@ module _ (t : Tenant) (s : HasSoundParts t) where
   -- the master of a record is of the object above
   pub record Above (x : Record) (ys : List Record) : Type 0 where
     pub reference : Reference
-    pub found : master_reference t (object_number x.id) ≡ Some reference
+    pub found : master_in t.objects (object_number x.id) ≡ Some reference
     pub master : Record
     pub among : Has ys master
     pub target : object_number master.id ≡ reference.target
@@ -491,7 +491,7 @@ module _ (t : Tenant) (s : HasSoundParts t) where
       by false w e more = let m = more e in (inr m.0, m.1)
 
   -- the target of a sound reference
-  target_number : (x : Record) → Has t.records x → (f : Reference) → master_reference t (object_number x.id) ≡ Some f → (id : List ℕ) → named_id f x ≡ Some id → object_number id ≡ f.target
+  target_number : (x : Record) → Has t.records x → (f : Reference) → master_in t.objects (object_number x.id) ≡ Some f → (id : List ℕ) → named_id f x ≡ Some id → object_number id ≡ f.target
   target_number x m f e id named =
       let was = all_at (IsSoundRecord (known t) t.objects) x t.records s.records.each m in
       let n = object_number x.id in
@@ -504,10 +504,10 @@ module _ (t : Tenant) (s : HasSoundParts t) where
 
   pub detail_above : (ys : List Record) (x : Record) → Has (details_of t ys) x → Has t.records x × Above x ys
   detail_above ys x m =
-      let w = among_kept (λ r. in_case (master_reference t (object_number r.id)) false (λ f. names_one_of ys f r)) t.records x m in
-      (w.0, by (master_reference t (object_number x.id)) refl w.0 w.1)
+      let w = among_kept (λ r. in_case (master_in t.objects (object_number r.id)) false (λ f. names_one_of ys f r)) t.records x m in
+      (w.0, by (master_in t.objects (object_number x.id)) refl w.0 w.1)
     where
-      by : (f : Option Reference) → master_reference t (object_number x.id) ≡ f → Has t.records x → in_case f false (λ f. names_one_of ys f x) ≡ true → Above x ys
+      by : (f : Option Reference) → master_in t.objects (object_number x.id) ≡ f → Has t.records x → in_case f false (λ f. names_one_of ys f x) ≡ true → Above x ys
       by None e m h = absurd cc
       by (Some f) e m h = named (named_id f x) refl h
         where
@@ -574,7 +574,7 @@ module _ (t : Tenant) (s : HasSoundParts t) where
   -- a record whose master is among these is one of their details
   child : (x : Record) → Has t.records x → (f : Reference) → Has (references t.objects) f → is_of f.object x ≡ true → is_master f.field.kind ≡ true → (id : List ℕ) → named_id f x ≡ Some id
       → (ys : List Record) → has_id ys id ≡ true → Has (details_of t ys) x
-  child x m f among of k id named ys h = kept_among (λ r. in_case (master_reference t (object_number r.id)) false (λ f. names_one_of ys f r)) t.records x m its_master
+  child x m f among of k id named ys h = kept_among (λ r. in_case (master_in t.objects (object_number r.id)) false (λ f. names_one_of ys f r)) t.records x m its_master
     where
       was : IsSoundRecord (known t) t.objects x
       was = all_at (IsSoundRecord (known t) t.objects) x t.records s.records.each m
@@ -591,7 +591,7 @@ module _ (t : Tenant) (s : HasSoundParts t) where
       own : Has (references_of o) f
       own = own_reference t f among n was.object mine was.there
 
-      first : (g : Reference) × (master_reference t n ≡ Some g)
+      first : (g : Reference) × (master_in t.objects n ≡ Some g)
       first = find_there (masters_of n) (references t.objects) f among (both (f.object == n) (is_master f.field.kind) (eq-eqb f.object n mine) k)
 
       same_place : first.0.position ≡ f.position
@@ -604,7 +604,7 @@ module _ (t : Tenant) (s : HasSoundParts t) where
           let e = one_place (λ (f : Field). is_master f.kind) was.object.fields a.place b.place first.0.field f.field a.field b.field (both_right (first.0.object == n) (is_master first.0.field.kind) p.1) k few in
           omega (arith, a.is, b.is, e)
 
-      its_master : in_case (master_reference t (object_number x.id)) false (λ f. names_one_of ys f x) ≡ true
+      its_master : in_case (master_in t.objects (object_number x.id)) false (λ f. names_one_of ys f x) ≡ true
       its_master =
           let named_first : named_id first.0 x ≡ Some id = ap (λ (p : ℕ). ref_of (value_at x.values p)) same_place ∙ named in
           ap (λ z. in_case z false (λ (f : Reference). names_one_of ys f x)) first.1 ∙ ap (λ z. in_case z false (has_id ys)) named_first ∙ h

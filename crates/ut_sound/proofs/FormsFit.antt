@@ -8,17 +8,15 @@ use Rattle.std.specs.Option.{option_map, unwrap_or}
 use Rattle.ut_json.specs.Reading.{◌>>=◌}
 use Rattle.ut_json.specs.declared.tree.Json.{Json}
 use Rattle.ut_value.specs.Texts.{texts_differ}
-use Rattle.ut_value.specs.Types.{is_reference, is_type, suits_indexed, suits_unique}
+use Rattle.ut_value.specs.Types.{is_reference, is_type}
 use Rattle.ut_value.specs.declared.sharing.Access.{Access}
 use Rattle.ut_value.specs.declared.sharing.Level.{Level}
 use Rattle.ut_value.specs.declared.value.FieldType.{FieldType}
 use Rattle.ut_value.specs.declared.value.FieldType.TheVariants as type
-use Rattle.ut_value.specs.declared.value.OnDelete.{OnDelete}
-use Rattle.ut_value.specs.declared.value.OnDelete.TheVariants as on_delete
 use Rattle.ut_model.specs.Cases.{in_case}
 use Rattle.ut_model.specs.Fields.{by_parent}
-use Rattle.ut_model.specs.Forms.{access_request, accesses, all_names, field_request, is_clear, master_form, master_of, object_request, share_request, sharing_rule_request, source_in, validation_request}
-use Rattle.ut_model.specs.Forms.{flags_suit as body_flags}
+use Rattle.ut_model.specs.Forms.{access_request, accesses, all_names, field_request, master_form, master_of, object_request, share_request, sharing_rule_request, source_in, validation_request}
+use Rattle.ut_model.specs.Forms.{flags_suit}
 use Rattle.ut_model.specs.Members.{Body, all_there, as_text, entry, flag_in, formed, is_one_of, levels, list_in, member_names, object_in, principal_in, text_in, whole_in}
 use Rattle.ut_model.specs.declared.metadata_bodies.NewMaster.{NewMaster}
 use Rattle.ut_model.specs.declared.metadata_bodies.SpelledType.{SpelledType}
@@ -27,9 +25,9 @@ use Rattle.ut_model.specs.Paths.{Asked}
 use Rattle.ut_model.specs.PeopleForms.{retype_request}
 use Rattle.ut_model.specs.Requests.{Request, adds_field}
 use Rattle.ut_model.specs.Retyping.{new_type}
-use Rattle.ut_model.specs.SharingRules.{SpelledSource, by_formula, from}
+use Rattle.ut_model.specs.declared.sharing_bodies.SpelledSource.TheVariants.{Owner, Criteria}
+use Rattle.ut_model.specs.declared.sharing_bodies.SpelledSource.{SpelledSource}
 use Rattle.ut_model.specs.Sound.{is_name}
-use Rattle.ut_model.specs.SoundMetadata.{implies, may_be_required}
 use Rattle.ut_model.specs.SoundSharing.{is_grant}
 use Rattle.ut_model.specs.TypeForms.{deletions, in_bounds_type, lookup_type, number_type, picklist_type, simple_type, text_type, type_forms, type_in, type_of, where_so}
 use Rattle.ut_sound.specs.Fit.{IsFit, has_member, has_source}
@@ -96,16 +94,16 @@ share_fits a body x e =
 source_fits : (b : Body) (s : SpelledSource) → AreSpelled b → source_in b ≡ Some s → has_source (member_names b) s ≡ true
 source_fits b s spelled e = by (entry b (codes "from")) refl e
   where
-    one : (c : Bool) (v : Json) → entry b (codes "from") ≡ Some v → cond c (option_map from (as_text v >>= principal_in)) None ≡ Some s → has_source (member_names b) s ≡ true
+    one : (c : Bool) (v : Json) → entry b (codes "from") ≡ Some v → cond c (option_map Owner (as_text v >>= principal_in)) None ≡ Some s → has_source (member_names b) s ≡ true
     one true v w e =
-        let p = mapped (as_text v >>= principal_in) from s e in
+        let p = mapped (as_text v >>= principal_in) Owner s e in
         subst (λ (z : SpelledSource). has_source (member_names b) z ≡ true) p.2 (entry_member b (codes "from") v w)
     one false v w e = absurd cc
 
     by : (o : Option Json) → entry b (codes "from") ≡ o
-        → in_case o (option_map by_formula (text_in b (codes "formula"))) (λ v. cond (is_none (entry b (codes "formula"))) (option_map from (as_text v >>= principal_in)) None) ≡ Some s
+        → in_case o (option_map Criteria (text_in b (codes "formula"))) (λ v. cond (is_none (entry b (codes "formula"))) (option_map Owner (as_text v >>= principal_in)) None) ≡ Some s
         → has_source (member_names b) s ≡ true
-    by None w e = let t = mapped (text_in b (codes "formula")) by_formula s e in subst (λ (z : SpelledSource). has_source (member_names b) z ≡ true) t.2 (text_spelled b (codes "formula") t.0 spelled t.1)
+    by None w e = let t = mapped (text_in b (codes "formula")) Criteria s e in subst (λ (z : SpelledSource). has_source (member_names b) z ≡ true) t.2 (text_spelled b (codes "formula") t.0 spelled t.1)
     by (Some v) w e = one (is_none (entry b (codes "formula"))) v w e
 
 pub rule_fits : (a : Asked) (body : Body) (x : Request) → AreSpelled body → sharing_rule_request body ≡ Some x → IsFit a x
@@ -289,26 +287,6 @@ retype_fits a body x e =
     by (LookupTo object o child) h = refl
 
 -- ---- fields
-plain_flags : (k : FieldType) (required unique indexed : Bool) → not (is_reference k) ≡ true → ((not unique || suits_unique k) && (not indexed || suits_indexed k)) ≡ true
-    → (implies required (may_be_required k) && (implies unique (suits_unique k) && implies indexed (suits_indexed k))) ≡ true
-plain_flags k required unique indexed h s = both (implies required (may_be_required k)) (implies unique (suits_unique k) && implies indexed (suits_indexed k)) (may k required h) s
-  where
-    always : (x : Bool) → (not x || true) ≡ true
-    always true = refl
-    always false = refl
-
-    may : (k : FieldType) (required : Bool) → not (is_reference k) ≡ true → implies required (may_be_required k) ≡ true
-    may (type.Lookup object o) required h = absurd cc
-    may k required h = always required
-
-lookup_flags : (o : OnDelete) (required unique indexed : Bool) → not (unique || (indexed || (required && is_clear o))) ≡ true
-    → (implies required (may_be_required (type.Lookup 0 o)) && (implies unique false && implies indexed false)) ≡ true
-lookup_flags o required true indexed h = absurd cc
-lookup_flags o required false true h = absurd cc
-lookup_flags o false false false h = refl
-lookup_flags on_delete.Clear true false false h = absurd cc
-lookup_flags on_delete.Restrict true false false h = refl
-
 pub field_fits : (a : Asked) (body : Body) (x : Request) → field_request body ≡ Some x → IsFit a x
 field_fits a body x e =
     let b = bound (formed (codes "object" ∷ codes "name" ∷ codes "type" ∷ []) (codes "required" ∷ codes "unique" ∷ codes "indexed" ∷ []) body) _ x e in
@@ -318,7 +296,7 @@ field_fits a body x e =
     let required = bound (flag_in b.0 (codes "required")) _ x kind.2 in
     let unique = bound (flag_in b.0 (codes "unique")) _ x required.2 in
     let indexed = bound (flag_in b.0 (codes "indexed")) _ x unique.2 in
-    let so = where_is (body_flags kind.0 required.0 unique.0 indexed.0) _ x indexed.2 in
+    let so = where_is (flags_suit kind.0 required.0 unique.0 indexed.0) _ x indexed.2 in
     let called = bound (entry b.0 (codes "name")) as_text name.0 name.1 in
     let inner = bound (entry b.0 (codes "type") >>= object_in) type_of kind.0 kind.1 in
     let member = bound (entry b.0 (codes "type")) object_in inner.0 inner.1 in
@@ -326,13 +304,13 @@ field_fits a body x e =
     (by kind.0 (type_read b.0 (codes "type") kind.0 kind.1) (member_names b.0) object.0 name.0 required.0 unique.0 indexed.0 (entry_member b.0 (codes "name") called.0 called.1) (entry_member b.0 (codes "type") member.0 member.1) so.0)
   where
     by : (kind : SpelledType) → IsRead kind → (members : List (List ℕ)) (object name : List ℕ) (required unique indexed : Bool) → has_member members (codes "name") ≡ true → has_member members (codes "type") ≡ true
-        → body_flags kind required unique indexed ≡ true
+        → flags_suit kind required unique indexed ≡ true
         → IsFit a (adds_field (record { members = members; object = object; name = name; kind = kind; required = required; unique = unique; indexed = indexed }))
     by (Plain k) h members object name required unique indexed n t s =
-        let flags = implies required (may_be_required k) && (implies unique (suits_unique k) && implies indexed (suits_indexed k)) in
+        let flags = flags_suit (Plain k) required unique indexed in
         both (has_member members (codes "name")) (not (is_reference k) && (is_type k && flags)) n
-        (both (not (is_reference k)) (is_type k && flags) h.1 (both (is_type k) flags h.0 (plain_flags k required unique indexed h.1 s)))
+        (both (not (is_reference k)) (is_type k && flags) h.1 (both (is_type k) flags h.0 s))
     by (LookupTo target o child) h members object name required unique indexed n t s =
-        let flags = implies required (may_be_required (type.Lookup 0 o)) && (implies unique false && implies indexed false) in
+        let flags = flags_suit (LookupTo target o child) required unique indexed in
         both (has_member members (codes "name")) (has_member members (codes "type") && flags) n
-        (both (has_member members (codes "type")) flags t (lookup_flags o required unique indexed s))
+        (both (has_member members (codes "type")) flags t s)

@@ -6,6 +6,7 @@ use Rattle.std.specs.Option.{unwrap_or}
 use Rattle.std.proofs.lemmas.Bool.{eqb-true}
 use Rattle.ut_value.specs.declared.sharing.Access.{Access}
 use Rattle.ut_formula.specs.declared.formula.Formula.{Formula}
+use Rattle.ut_model.specs.Limits.{formula_limit}
 use Rattle.ut_model.specs.declared.refusal.Refusal.TheVariants as refusal
 use Rattle.ut_model.specs.Cases.{in_case}
 use Rattle.ut_model.specs.Fields.{is_detail, same_name}
@@ -15,10 +16,14 @@ use Rattle.ut_model.specs.Ordered.{put_in}
 use Rattle.ut_model.specs.Retyping.{source_uses, uses}
 use Rattle.ut_model.specs.RuleFormulas.{busy, formula_of, is_copy, malformed, name_cmp, names_field}
 use Rattle.ut_model.specs.Rules.{refuse_if}
-use Rattle.ut_model.specs.SharingRules.{NewSharingRule, SpelledSource, add_sharing_rule, by_formula, from, new_rule, remove_sharing_rule, sharing_rules, source_formula, source_of, with_rule}
+use Rattle.ut_model.specs.declared.sharing_bodies.SpelledSource.TheVariants.{Owner, Criteria}
+use Rattle.ut_model.specs.declared.sharing_bodies.NewSharingRule.{NewSharingRule}
+use Rattle.ut_model.specs.declared.sharing_bodies.SpelledSource.{SpelledSource}
+use Rattle.ut_model.specs.SharingRules.{add_sharing_rule, new_rule, remove_sharing_rule, sharing_rules, source_formula, source_of, with_rule}
 use Rattle.ut_model.specs.SoundFormulas.{AreFormulasSound, HasSoundFormulas, criteria_read, is_unnamed, source_reads, validations_read}
 use Rattle.ut_model.specs.Tenant.{Job, Object, SharingRule, Source, owned, meets, Tenant, ValidationRule}
-use Rattle.ut_model.specs.ValidationRules.{NewValidationRule, add_validation_rule, validation_rules, with_validation_rule}
+use Rattle.ut_model.specs.declared.metadata_bodies.NewValidationRule.{NewValidationRule}
+use Rattle.ut_model.specs.ValidationRules.{add_validation_rule, validation_of, validation_rules, with_validation_rule}
 use Rattle.ut_model.specs.Verdict.{accept, done, judged}
 use Rattle.ut_rule_text.specs.Reading.{ReadsByFields}
 use Rattle.ut_sound.proofs.Parts.{both, both_left, both_right, list_all_kept, list_all_more, list_all_put, pick, unrefused}
@@ -63,8 +68,8 @@ unnamed_with os old new (Some j) h g = by (is_copy j.phase) refl h
 
 -- ---- a new sharing rule
 new_reads : (o : Object) (source : SpelledSource) → in_case (source_formula o source) None malformed ≡ None → source_reads (source_of source) o ≡ true
-new_reads o (from p) e = refl
-new_reads o (by_formula text) e = formed (formula_of o true text) e
+new_reads o (Owner p) e = refl
+new_reads o (Criteria text) e = formed (formula_of o true text) e
 
 -- the formula of a rule that isn't refused doesn't name the job's field
 not_busy : (t : Tenant) (n : ℕ) (f : Result Formula ℕ) → busy t n f ≡ None → (j : Job) → t.job ≡ Some j → is_copy j.phase ≡ true → j.object ≡ n → names_field (suc j.field) f ≡ false
@@ -80,8 +85,8 @@ not_busy t n f e j is copy same =
 
 new_free : (t : Tenant) (o : Numbered) → slice_get t.objects o.number ≡ Some o.object → (source : SpelledSource) → in_case (source_formula o.object source) None (busy t o.number) ≡ None
     → (j : Job) → t.job ≡ Some j → is_copy j.phase ≡ true → (x : Object) → slice_get t.objects j.object ≡ Some x → not ((o.number == j.object) && source_uses x j.field (source_of source)) ≡ true
-new_free t o at (from p) e j is copy x w = pick (o.number == j.object) (λ b. not (b && false) ≡ true) (λ _. refl) (λ _. refl)
-new_free t o at (by_formula text) e j is copy x w =
+new_free t o at (Owner p) e j is copy x w = pick (o.number == j.object) (λ b. not (b && false) ≡ true) (λ _. refl) (λ _. refl)
+new_free t o at (Criteria text) e j is copy x w =
     pick (o.number == j.object) (λ b. not (b && names_field (suc j.field) (formula_of x true text)) ≡ true)
     (λ h.
     let same : o.number ≡ j.object = eqb-true o.number j.object h in
@@ -118,7 +123,7 @@ remove_rule_formulas t name s =
 module _ (law : ReadsByFields) (A : Object → Access) (R : Object → List ValidationRule) where
   same_formula : (b : Bool) (x : Object) (c : Bool) (text : List ℕ) → formula_of (or_not A R b x) c text ≡ formula_of x c text
   unfolding formula_of
-  same_formula b x c text = ap (λ z. cond (nat_lt 4000 (length text)) (Err 0) z) (law (or_not A R b x) x refl c text)
+  same_formula b x c text = ap (λ z. cond (nat_lt formula_limit (length text)) (Err 0) z) (law (or_not A R b x) x refl c text)
 
   abbrev spells : Object → ValidationRule → Bool
   spells x r = is_ok (formula_of x false r.formula)
@@ -206,9 +211,9 @@ set_access_formulas law t object access s =
 
 pub add_validation_formulas : ReadsByFields → (t : Tenant) (b : NewValidationRule) → AreFormulasSound t → AreFormulasSound (add_validation_rule t b).tenant
 add_validation_formulas law t b s =
-    let r = b.rule in
-    when_object AreFormulasSound t b.object (λ o. judged t (validation_rules t o r) (accept done (with_object_changed o.number (with_validation_rule r) t))) s (λ o at.
-    when_judged AreFormulasSound t (validation_rules t o r) (accept done (with_object_changed o.number (with_validation_rule r) t)) s (λ h.
+    let r : ValidationRule = validation_of b in
+    when_object AreFormulasSound t b.object (λ o. judged t (validation_rules t o b) (accept done (with_object_changed o.number (with_validation_rule r) t))) s (λ o at.
+    when_judged AreFormulasSound t (validation_rules t o b) (accept done (with_object_changed o.number (with_validation_rule r) t)) s (λ h.
     object_formulas law (λ x. x.access) (with_one r) t s o.number
     (λ x e g.
     let same : o.object ≡ x = some_is o.object x (sym at ∙ e) in

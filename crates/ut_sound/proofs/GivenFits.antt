@@ -21,7 +21,10 @@ use Rattle.ut_formula.specs.Meaning.{value_at}
 use Rattle.ut_model.specs.declared.record.Record.{Record}
 use Rattle.ut_model.specs.Edits.{given_to, value_or}
 use Rattle.ut_model.specs.Fields.{Column, column, its_value, name_column, same_name, typed, value_in}
-use Rattle.ut_model.specs.Given.{Assignment, Given, ReadOr, a_value, found_by, in_json, json_text, or_refusal, read_given, read_json, read_json_number}
+use Rattle.ut_model.specs.declared.record_bodies.Given.TheVariants as gives
+use Rattle.ut_model.specs.declared.record_bodies.Assignment.{Assignment}
+use Rattle.ut_model.specs.declared.record_bodies.Given.{Given}
+use Rattle.ut_model.specs.Given.{ReadOr, json_text, or_refusal, read_given, read_json, read_json_number}
 use Rattle.ut_model.specs.Cases.{in_case}
 use Rattle.ut_model.specs.Keys.{with_key}
 use Rattle.ut_model.specs.Membership.{Has}
@@ -129,7 +132,7 @@ module _ (law : ReadLaw) where
 
   -- what is found for a field is in JSON, or a value of the field's type
   abbrev IsGood : FieldType → Assignment → Type 0
-  IsGood k x = (is_spelled x.given ≡ true) ⊎ ((w : Value) × (x.given ≡ a_value w) × (valid k w ≡ true))
+  IsGood k x = (is_spelled x.given ≡ true) ⊎ ((w : Value) × (x.given ≡ gives.Read w) × (valid k w ≡ true))
 
   -- the value of one field
   column_valid : (t : Tenant) (given : List Assignment) (name : List ℕ) (k : FieldType) (i : ℕ) (old : Value)
@@ -142,9 +145,9 @@ module _ (law : ReadLaw) where
       read (Err why) text g = h
 
       one : (x : Given) → is_spelled x ≡ true → valid k (value_or old (Some (read_given t (column name (typed k) (its_value i)) x))) ≡ true
-      one (in_json j) w = read (read_json (typed k) j) (json_text j) (λ v e. json_valid k j v w e)
-      one (a_value v) w = absurd cc
-      one (found_by field text) w = absurd cc
+      one (gives.Json j) w = read (read_json (typed k) j) (json_text j) (λ v e. json_valid k j v w e)
+      one (gives.Read v) w = absurd cc
+      one (gives.Find field text) w = absurd cc
 
       by : (x : Option Assignment) → find (λ x. same_name x.field name) given ≡ x → valid k (value_or old (option_map (λ x. read_given t (column name (typed k) (its_value i)) x.given) x)) ≡ true
       by None e = h
@@ -197,11 +200,11 @@ module _ (law : ReadLaw) where
       let object = sound_object a.tenant sound n o there in
       let k = key_of f v in
       good_fits a o (with_key (Some k) given)
-      (λ x m e. elim (among_last given (record { field = f.1.name; given = a_value v }) x m) [
+      (λ x m e. elim (among_last given (record { field = f.1.name; given = gives.Read v }) x m) [
         | inl w ↦ inl (list_all_at (λ x. is_spelled x.given) x given spelled w)
         | inr w ↦ absurd (not_name f.1.name (all_at (IsSoundField (length a.tenant.objects)) f.1 o.fields object.fields (at_has place.0 o.fields f.1 place.1)).name (ap (λ (z : Assignment). same_name z.field (codes "Name")) (sym w) ∙ e))
       ])
-      (λ p g at x m e. elim (among_last given (record { field = f.1.name; given = a_value v }) x m) [
+      (λ p g at x m e. elim (among_last given (record { field = f.1.name; given = gives.Read v }) x m) [
         | inl w ↦ inl (list_all_at (λ x. is_spelled x.given) x given spelled w)
         | inr w ↦
             let same : place.0 ≡ p = one_name o.fields place.0 p f.1 g object.field_names place.1 at (ap (λ (z : Assignment). same_name z.field g.name) (sym w) ∙ e) in

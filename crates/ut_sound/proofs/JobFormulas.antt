@@ -1,6 +1,5 @@
 -- A change of a field's type keeps that no rule names the field while its values are copied.
 use Rattle.std.proofs.Common.{◌≡◌, ℕ, true, false, not, ◌&&◌, ◌==◌, List, [], ◌∷◌, Option, Some, None, refl, ap, ◌∙◌, slice_get}
-use Rattle.std.specs.Prelude.{is_none}
 use Rattle.std.specs.List.{find, list_all}
 use Rattle.ut_value.specs.declared.job.Outcome.TheVariants as outcome
 use Rattle.ut_value.specs.declared.job.Phase.{Phase}
@@ -10,7 +9,7 @@ use Rattle.ut_model.specs.declared.record.Record.{Record}
 use Rattle.ut_model.specs.declared.refusal.Refusal.TheVariants as refusal
 use Rattle.ut_model.specs.Cases.{in_case}
 use Rattle.ut_model.specs.Fields.{Column, Where, column_named}
-use Rattle.ut_model.specs.Jobs.{clear_step, copy_step, failed_at, job_step, moved, new_value, next_hundred, step_in, switched}
+use Rattle.ut_model.specs.Jobs.{clear_step, copy_step, failed_at, is_bad, job_step, moved, next_hundred, step_in, switched}
 use Rattle.ut_model.specs.declared.metadata_bodies.SpelledType.{SpelledType}
 use Rattle.ut_model.specs.Objects.{Numbered}
 use Rattle.ut_model.specs.Retyping.{begin_on, begin_retype, cancel_retype, in_use, new_job, new_type, place_to_change, source_uses, to_clear, under_way, uses, with_job}
@@ -88,7 +87,7 @@ module _ (t : Tenant) (s : AreFormulasSound t) where
             where
               copying : (rs : List Record) → next_hundred t j ≡ rs → AreFormulasSound (copy_step j rs t)
               copying [] w = switch j e c w
-              copying (r ∷ rs) w = found (find (λ z. is_none (new_value j z)) (r ∷ rs))
+              copying (r ∷ rs) w = found (find (is_bad t j) (r ∷ rs))
                 where
                   found : (x : Option Record) → AreFormulasSound (with_job (in_case x (moved j (r ∷ rs)) (failed_at j)) t)
                   found None = job_formulas (moved j (r ∷ rs)) h

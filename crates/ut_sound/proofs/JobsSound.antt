@@ -16,10 +16,11 @@ use Rattle.ut_value.specs.declared.job.Phase.{Phase}
 use Rattle.ut_value.specs.declared.job.Phase.TheVariants as phase
 use Rattle.ut_value.specs.declared.value.Value.{Value}
 use Rattle.ut_formula.specs.Meaning.{value_at}
+use Rattle.ut_model.specs.Limits.{step_records}
 use Rattle.ut_model.specs.declared.record.Record.{Record}
 use Rattle.ut_model.specs.declared.refusal.Refusal.TheVariants as refusal
 use Rattle.ut_model.specs.Cases.{in_case}
-use Rattle.ut_model.specs.Jobs.{clear_step, copy_step, failed_at, is_past, job_step, last_id, moved, new_value, next_hundred, step_in, switched}
+use Rattle.ut_model.specs.Jobs.{clear_step, copy_step, failed_at, is_bad, is_past, job_step, last_id, moved, next_hundred, step_in, switched}
 use Rattle.ut_model.specs.Known.{IsDrawn, known}
 use Rattle.ut_model.specs.Membership.{Has}
 use Rattle.ut_model.specs.Objects.{is_of, object_number, record_prefix, records_of}
@@ -104,7 +105,7 @@ module _ (t : Tenant) (s : HasSoundParts t) (j : Job) (h : IsSoundJob t.counter 
 
   next_of : (y : Record) → Has (next_hundred t j) y → Has t.records y × (is_of j.object y ≡ true)
   next_of y m =
-      let w = among_kept (λ r. is_past j.cursor r.id) (records_of t j.object) y (among_take 100 left y m) in
+      let w = among_kept (λ r. is_past j.cursor r.id) (records_of t j.object) y (among_take step_records left y m) in
       among_kept (is_of j.object) t.records y w.0
 
   -- the last of the next records as cursor
@@ -127,7 +128,7 @@ module _ (t : Tenant) (s : HasSoundParts t) (j : Job) (h : IsSoundJob t.counter 
       by None e = refl
       by (Some c) e = less y.id c (slice_cmp nat_cmp y.id c) refl e
 
-  copied_on : j.phase ≡ phase.Copy → (r : Record) (rs : List Record) → next_hundred t j ≡ r ∷ rs → find (λ z. is_none (new_value j z)) (r ∷ rs) ≡ None
+  copied_on : j.phase ≡ phase.Copy → (r : Record) (rs : List Record) → next_hundred t j ≡ r ∷ rs → find (is_bad t j) (r ∷ rs) ≡ None
       → (y : Record) → Has (those_of j.object t.records) y → copies (moved j (r ∷ rs)) y ≡ true
   copied_on copy r rs e none y m =
       let x = last_among r rs in
@@ -149,19 +150,19 @@ module _ (t : Tenant) (s : HasSoundParts t) (j : Job) (h : IsSoundJob t.counter 
       unstuck (Some v) e = refl
 
       fits : (z : Record) → Has (r ∷ rs) z → is_some (convert j.to (value_at z.values (suc j.field))) ≡ true
-      fits z m = unstuck (convert j.to (value_at z.values (suc j.field))) (none_found (λ z. is_none (new_value j z)) (r ∷ rs) none z m)
+      fits z m = unstuck (convert j.to (value_at z.values (suc j.field))) (none_found (is_bad t j) (r ∷ rs) none z m)
 
       among_next : (z : Record) → is_le (slice_cmp nat_cmp y.id (last_among r rs).0.id) ≡ true → is_copied phase.Copy j.cursor y.id ≡ false → Has (r ∷ rs) y
       among_next z le past =
           let x = last_among r rs in
           subst (λ (zs : List Record). Has zs y) e
-          (covers 100 left (rise_kept (slice_cmp nat_cmp) record_id (λ r. is_past j.cursor r.id) (records_of t j.object) (rise_kept (slice_cmp nat_cmp) record_id (is_of j.object) t.records s.records.rise))
+          (covers step_records left (rise_kept (slice_cmp nat_cmp) record_id (λ r. is_past j.cursor r.id) (records_of t j.object) (rise_kept (slice_cmp nat_cmp) record_id (is_of j.object) t.records s.records.rise))
           x.0.id (ap last_id e ∙ x.2) y (kept_among (λ r. is_past j.cursor r.id) (records_of t j.object) y m (before_or_left y past)) le)
 
   pub copy_moves : j.phase ≡ phase.Copy → (r : Record) (rs : List Record) → next_hundred t j ≡ r ∷ rs → HasSoundParts (copy_step j (r ∷ rs) t)
-  copy_moves copy r rs e = by (find (λ z. is_none (new_value j z)) (r ∷ rs)) refl
+  copy_moves copy r rs e = by (find (is_bad t j) (r ∷ rs)) refl
     where
-      by : (f : Option Record) → find (λ z. is_none (new_value j z)) (r ∷ rs) ≡ f
+      by : (f : Option Record) → find (is_bad t j) (r ∷ rs) ≡ f
           → HasSoundParts (with_job (in_case f (moved j (r ∷ rs)) (failed_at j)) t)
       by None w =
           job_changed t (moved j (r ∷ rs)) s (record {
@@ -175,7 +176,7 @@ module _ (t : Tenant) (s : HasSoundParts t) (j : Job) (h : IsSoundJob t.counter 
             copied = list_all_from (copies (moved j (r ∷ rs))) (those_of j.object t.records) (copied_on copy r rs e w);
           })
       by (Some x) w =
-          let m = next_of x (subst (λ (zs : List Record). Has zs x) (sym e) (found_record (λ z. is_none (new_value j z)) (r ∷ rs) x w)) in
+          let m = next_of x (subst (λ (zs : List Record). Has zs x) (sym e) (found_record (is_bad t j) (r ∷ rs) x w)) in
           job_changed t (failed_at j x) s (cleared t j outcome.Failed (Some x.id) refl refl refl (cursor_of t s j.object x m.0 m.1) h)
 
   clear_moves : j.phase ≡ phase.Clear → (zs : List Record) → next_hundred t j ≡ zs → HasSoundParts (clear_step j zs t)

@@ -34,3 +34,4 @@ mod BodyTexts
 mod RequestsFit
 mod AnswersSound
 mod WorldSound
+mod FreshIds

@@ -8,6 +8,7 @@ use Rattle.std.specs.Cmp.Lexicographic.{on_texts}
 use Rattle.std.proofs.lemmas.Bool.{eqb-true}
 use Rattle.ut_value.specs.Texts.{lower}
 use Rattle.ut_value.specs.declared.sharing.Access.{Access}
+use Rattle.ut_model.specs.Limits.{formula_limit}
 use Rattle.ut_model.specs.declared.limit.Limit.TheVariants as limit
 use Rattle.ut_model.specs.declared.record.Record.{Record}
 use Rattle.ut_model.specs.declared.refusal.Refusal.TheVariants as refusal
@@ -28,7 +29,8 @@ use Rattle.ut_model.specs.SoundPeople.{is_name}
 use Rattle.ut_model.specs.SoundRecords.{IsSoundRecord, UniqueHold}
 use Rattle.ut_model.specs.SoundSharing.{IsSoundRule, IsSoundShare, shareable}
 use Rattle.ut_model.specs.Tenant.{Field, Job, Object, Tenant, ValidationRule}
-use Rattle.ut_model.specs.ValidationRules.{NewValidationRule, add_validation_rule, validation_rules, with_validation_rule}
+use Rattle.ut_model.specs.declared.metadata_bodies.NewValidationRule.{NewValidationRule}
+use Rattle.ut_model.specs.ValidationRules.{add_validation_rule, validation_of, validation_rules, with_validation_rule}
 use Rattle.ut_model.specs.Verdict.{accept, done, judged}
 use Rattle.ut_sound.proofs.Parts.{all_at, all_more, all_put, among_kept, both, both_left, both_right, clash, holds_not, length_put, none_refuses, none_so, unrefused}
 use Rattle.ut_sound.proofs.Orders.{rise_put}
@@ -210,11 +212,11 @@ apart (r ∷ rs) name h =
     rest true b e = absurd cc
     rest false b e = e
 
-pub add_validation_sound : (t : Tenant) (b : NewValidationRule) → is_fit_validation b.rule ≡ true → HasSoundParts t → HasSoundParts (add_validation_rule t b).tenant
+pub add_validation_sound : (t : Tenant) (b : NewValidationRule) → is_fit_validation b ≡ true → HasSoundParts t → HasSoundParts (add_validation_rule t b).tenant
 add_validation_sound t b fit s =
-    let r = b.rule in
-    when_object HasSoundParts t b.object (λ o. judged t (validation_rules t o r) (accept done (with_object_changed o.number (with_validation_rule r) t))) s (λ o at.
-    when_judged HasSoundParts t (validation_rules t o r) (accept done (with_object_changed o.number (with_validation_rule r) t)) s (λ h.
+    let r : ValidationRule = validation_of b in
+    when_object HasSoundParts t b.object (λ o. judged t (validation_rules t o b) (accept done (with_object_changed o.number (with_validation_rule r) t))) s (λ o at.
+    when_judged HasSoundParts t (validation_rules t o b) (accept done (with_object_changed o.number (with_validation_rule r) t)) s (λ h.
     let limits = none_refuses (refuse_if (nat_lt 50 (length o.object.rules + 1)) (refusal.LimitExceeded limit.ValidationRulesPerObject) ∷ []) h.1.1.1.1.0 in
     object_changed (λ x. x.access) (with_one r) t s o.number
     (λ m x e h2.
@@ -226,7 +228,7 @@ add_validation_sound t b fit s =
       relations = h2.relations;
       master = h2.master;
       level = h2.level;
-      rules = all_put IsSoundValidation (λ a b. name_cmp a.name b.name) r x.rules h2.rules (record { name = holds_not (is_stem r.name) (unrefused (not (is_stem r.name)) (refusal.InvalidName r.name) h.0); formula = both (all_scalars r.formula) (nat_le (length r.formula) 4000) (both_right (is_name r.message) (all_scalars r.formula) fit) (short_text o.object false r.formula h.1.1.0); message = both_left (is_name r.message) (all_scalars r.formula) fit });
+      rules = all_put IsSoundValidation (λ a b. name_cmp a.name b.name) r x.rules h2.rules (record { name = holds_not (is_stem r.name) (unrefused (not (is_stem r.name)) (refusal.InvalidName r.name) h.0); formula = both (all_scalars r.formula) (nat_le (length r.formula) formula_limit) (both_right (is_name r.message) (all_scalars r.formula) fit) (short_text o.object false r.formula h.1.1.0); message = both_left (is_name r.message) (all_scalars r.formula) fit });
       rules_rise = rise_put name_cmp (λ (r : ValidationRule). r.name) (on_texts lower) (λ a b. name_cmp a.name b.name) (λ a b. refl) r x.rules h2.rules_rise
           (apart x.rules r.name (ap (λ (z : Object). list_any (same_name r.name) (map (λ (r : ValidationRule). r.name) z.rules)) (sym same) ∙ unrefused (list_any (same_name r.name) (map (λ (r : ValidationRule). r.name) o.object.rules)) (refusal.NameTaken r.name) h.1.0));
       few_fields = h2.few_fields;

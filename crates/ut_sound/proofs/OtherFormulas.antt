@@ -9,7 +9,7 @@ use Rattle.ut_model.specs.Creates.{create, create_on, create_rules, empty_record
 use Rattle.ut_model.specs.Deletes.{delete, delete_record, going, held, too_many, without}
 use Rattle.ut_model.specs.Edits.{with_given}
 use Rattle.ut_model.specs.Fields.{column, its_value, typed}
-use Rattle.ut_model.specs.Given.{Assignment}
+use Rattle.ut_model.specs.declared.record_bodies.Assignment.{Assignment}
 use Rattle.ut_model.specs.Keys.{Key, with_key}
 use Rattle.ut_model.specs.Known.{group_id, role_id}
 use Rattle.ut_model.specs.Objects.{Numbered, record_at}
@@ -20,7 +20,8 @@ use Rattle.ut_model.specs.declared.people_bodies.Spelled.{Spelled}
 use Rattle.ut_model.specs.Principals.{bad_id, principal_of, spelled_id}
 use Rattle.ut_model.specs.Rights.{denied, with_named, with_readable}
 use Rattle.ut_model.specs.Rules.{in_body_order}
-use Rattle.ut_model.specs.Shares.{NewShare, share, share_of, share_rules, unshare, unshare_rules, unshare_with, with_share, without_share}
+use Rattle.ut_model.specs.declared.sharing_bodies.NewShare.{NewShare}
+use Rattle.ut_model.specs.Shares.{share, share_of, share_rules, unshare, unshare_rules, unshare_with, with_share, without_share}
 use Rattle.ut_model.specs.SoundFormulas.{AreFormulasSound}
 use Rattle.ut_model.specs.Tenant.{Field, Group, Role, Share, Tenant}
 use Rattle.ut_model.specs.Updates.{update, update_on, update_rules, with_changed}

@@ -122,7 +122,7 @@ module _ (ids : IdLaws) (t : Tenant) (s : HasSoundParts t) (o : Numbered) (at : 
   apart_ids : (y : Record) → Has t.records y → slice_cmp nat_cmp r.id y.id ≡ Equal → ⊥
   apart_ids y m e = fresh_id y m (same_exact r.id y.id (sym (is_eq-slice_cmp r.id y.id) ∙ ap is_eq e))
 
-  other_id : (y : Record) → Has t.records y → bytes_eq y.id r.id ≡ false
+  pub other_id : (y : Record) → Has t.records y → bytes_eq y.id r.id ≡ false
   other_id y m = by (bytes_eq y.id r.id) refl
     where
       by : (b : Bool) → bytes_eq y.id r.id ≡ b → b ≡ false

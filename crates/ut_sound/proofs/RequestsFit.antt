@@ -7,18 +7,21 @@ use Rattle.std.proofs.lemmas.Str.{IsUtf8-from_is_utf8, scalars-chars}
 use Rattle.ut_json.specs.Reading.{◌>>=◌}
 use Rattle.ut_json.specs.declared.tree.Json.{Json}
 use Rattle.ut_query.specs.declared.query.Query.{Query}
+use Rattle.ut_soql_grammar.specs.Spelling.{reads_query}
 use Rattle.ut_value.specs.Texts.{lower, texts_differ}
 use Rattle.ut_model.specs.declared.refusal.Refusal.{Refusal}
 use Rattle.ut_model.specs.declared.route.Route.{Route}
 use Rattle.ut_model.specs.declared.route.Route.TheVariants as route
 use Rattle.ut_model.specs.Cases.{in_case}
 use Rattle.ut_model.specs.Forms.{access_request, field_request, object_request, share_request, sharing_rule_request, validation_request}
-use Rattle.ut_model.specs.Given.{Assignment, in_json, json_text}
+use Rattle.ut_model.specs.declared.record_bodies.Given.TheVariants as gives
+use Rattle.ut_model.specs.declared.record_bodies.Assignment.{Assignment}
+use Rattle.ut_model.specs.Given.{json_text}
 use Rattle.ut_model.specs.Members.{Body, all_there, as_text, assignments, body_in, formed, list_in, member_names, principal_in, text_in, text_or_null_in, truth_in}
 use Rattle.ut_model.specs.Organisations.{is_secret}
 use Rattle.ut_model.specs.Paths.{Asked}
 use Rattle.ut_model.specs.PeopleForms.{group_request, members_request, retype_request, role_parent_request, role_request, identity_of, user_request, user_role_request}
-use Rattle.ut_model.specs.RequestOf.{ReadsQuery, by_body, query_or, request_of, request_or, value_part}
+use Rattle.ut_model.specs.RequestOf.{by_body, query_or, request_of, request_or, value_part}
 use Rattle.ut_model.specs.Requests.{Request, adds_group, adds_role, asks, cancels_retype, creates, deletes, gets_retype, removes_sharing_rule, sets_role, sets_user, unshares, updates, upserts}
 use Rattle.ut_model.specs.Sound.{IsSound}
 use Rattle.ut_model.specs.Step.{query_text}
@@ -45,13 +48,13 @@ of_body bytes form x e = bound (body_in bytes) form x (by (body_in bytes >>= for
 
 -- ---- what is given
 given_spelled : (b : Body) → list_all (λ (m : List ℕ × Json). all_scalars (json_text m.1)) b ≡ true
-    → list_all (λ (x : Assignment). is_spelled x.given) (map (λ (m : List ℕ × Json). record { field = m.0; given = in_json m.1 }) (filter (λ (m : List ℕ × Json). not (bytes_eq m.0 (codes "attributes"))) b)) ≡ true
+    → list_all (λ (x : Assignment). is_spelled x.given) (map (λ (m : List ℕ × Json). record { field = m.0; given = gives.Json m.1 }) (filter (λ (m : List ℕ × Json). not (bytes_eq m.0 (codes "attributes"))) b)) ≡ true
 given_spelled [] h = refl
 given_spelled (m ∷ b) h = by (all_scalars (json_text m.1)) (not (bytes_eq m.0 (codes "attributes"))) refl h (given_spelled b)
   where
     by : (s keep : Bool) → all_scalars (json_text m.1) ≡ s → (s && list_all (λ (m : List ℕ × Json). all_scalars (json_text m.1)) b) ≡ true
-        → (list_all (λ (m : List ℕ × Json). all_scalars (json_text m.1)) b ≡ true → list_all (λ (x : Assignment). is_spelled x.given) (map (λ (m : List ℕ × Json). record { field = m.0; given = in_json m.1 }) (filter (λ (m : List ℕ × Json). not (bytes_eq m.0 (codes "attributes"))) b)) ≡ true)
-        → list_all (λ (x : Assignment). is_spelled x.given) (map (λ (m : List ℕ × Json). record { field = m.0; given = in_json m.1 }) (cond keep (m ∷ filter (λ (m : List ℕ × Json). not (bytes_eq m.0 (codes "attributes"))) b) (filter (λ (m : List ℕ × Json). not (bytes_eq m.0 (codes "attributes"))) b))) ≡ true
+        → (list_all (λ (m : List ℕ × Json). all_scalars (json_text m.1)) b ≡ true → list_all (λ (x : Assignment). is_spelled x.given) (map (λ (m : List ℕ × Json). record { field = m.0; given = gives.Json m.1 }) (filter (λ (m : List ℕ × Json). not (bytes_eq m.0 (codes "attributes"))) b)) ≡ true)
+        → list_all (λ (x : Assignment). is_spelled x.given) (map (λ (m : List ℕ × Json). record { field = m.0; given = gives.Json m.1 }) (cond keep (m ∷ filter (λ (m : List ℕ × Json). not (bytes_eq m.0 (codes "attributes"))) b) (filter (λ (m : List ℕ × Json). not (bytes_eq m.0 (codes "attributes"))) b))) ≡ true
     by true true w h more = rw w (more h)
     by true false w h more = more h
     by false keep w h more = absurd cc
@@ -60,7 +63,7 @@ assigned : (bytes : List ℕ) (b : Body) (given : List Assignment) → body_in b
 unfolding assignments
 assigned bytes b given w e = by (texts_differ (map lower (member_names b))) e
   where
-    by : (c : Bool) → cond c (Some (map (λ (m : List ℕ × Json). record { field = m.0; given = in_json m.1 }) (filter (λ (m : List ℕ × Json). not (bytes_eq m.0 (codes "attributes"))) b))) None ≡ Some given
+    by : (c : Bool) → cond c (Some (map (λ (m : List ℕ × Json). record { field = m.0; given = gives.Json m.1 }) (filter (λ (m : List ℕ × Json). not (bytes_eq m.0 (codes "attributes"))) b))) None ≡ Some given
         → list_all (λ (x : Assignment). is_spelled x.given) given ≡ true
     by true e = subst (λ (z : List Assignment). list_all (λ (x : Assignment). is_spelled x.given) z ≡ true) (some_is _ given e) (given_spelled b (body_spells bytes b w))
     by false e = absurd cc
@@ -131,7 +134,7 @@ by_form a bytes form x fits e = let b = of_body bytes form x e in fits b.0 x b.2
 by_spelled : (a : Asked) (bytes : List ℕ) (form : Body → Option Request) (x : Request) → ((b : Body) (y : Request) → AreSpelled b → form b ≡ Some y → IsFit a y) → by_body bytes form ≡ Ok x → IsFit a x
 by_spelled a bytes form x fits e = let b = of_body bytes form x e in fits b.0 x (body_spells bytes b.0 b.1) b.2
 
-module _ (law : ReadLaw) (a : Asked) (query_in : ReadsQuery) (body : List ℕ) (x : Request) (sound : IsSound a.tenant) where
+module _ (law : ReadLaw) (a : Asked) (body : List ℕ) (x : Request) (sound : IsSound a.tenant) where
   -- a form of what is given
   by_given : (make : List Assignment → Request) → ((given : List Assignment) → list_all (λ (x : Assignment). is_spelled x.given) given ≡ true → IsFit a (make given))
       → by_body body (λ b. option_map make (assignments b)) ≡ Ok x → IsFit a x
@@ -140,9 +143,9 @@ module _ (law : ReadLaw) (a : Asked) (query_in : ReadsQuery) (body : List ℕ) (
       let given = mapped (assignments b.0) make x b.2 in
       subst (IsFit a) given.2 (fits given.0 (assigned body b.0 given.0 b.1 given.1))
 
-  pub request_fits : (r : Route) → request_of query_in r body ≡ Ok x → IsFit a x
+  pub request_fits : (r : Route) → request_of r body ≡ Ok x → IsFit a x
   unfolding request_of
-  request_fits (route.Query pairs) e = query_fits a (query_in (query_text pairs)) x e
+  request_fits (route.Query pairs) e = query_fits a (reads_query (query_text pairs)) x e
   request_fits (route.Create object) e = by_given (creates object) (λ given h n o at. spelled_fits law a o given h) e
   request_fits (route.Update object key) e = by_given (updates object key) (λ given h n o at. spelled_fits law a o given h) e
   request_fits (route.Delete object key) e = subst (IsFit a) (request_is (deletes object key) x e) tt

@@ -1,6 +1,6 @@
 -- The texts of rules: those that spell a formula are short, and those of a body are of characters.
-use Rattle.std.proofs.Common.{◌≡◌, ◌∙◌, ℕ, ◌≤◌, Bool, true, false, ◌&&◌, cond, List, [], ◌∷◌, ◌++◌, length, Option, Some, None, refl, sym, ap, subst, arith, nat_lt, nat_le, bytes_eq}
-use Rattle.std.specs.Prelude.{Result, Ok, Err}
+use Rattle.std.proofs.Common.{◌≡◌, ℕ, Bool, true, false, ◌&&◌, cond, List, [], ◌∷◌, ◌++◌, length, Option, Some, None, refl, subst, arith, nat_lt, nat_le, bytes_eq}
+use Rattle.std.specs.Prelude.{Err}
 use Rattle.std.specs.List.{find, list_all}
 use Rattle.std.specs.Option.{option_map}
 use Rattle.std.specs.Str.{all_scalars}
@@ -8,8 +8,7 @@ use Rattle.std.proofs.lemmas.Bool.Decides.{nat_tests}
 use Rattle.ut_json.specs.Reading.{◌>>=◌}
 use Rattle.ut_json.specs.declared.tree.Json.{Json}
 use Rattle.ut_json.specs.declared.tree.Json.TheVariants as json
-use Rattle.ut_formula.specs.declared.formula.Formula.{Formula}
-use Rattle.ut_model.specs.declared.refusal.Refusal.TheVariants.{MalformedFormula}
+use Rattle.ut_model.specs.Limits.{formula_limit}
 use Rattle.ut_value.specs.Texts.{texts_differ}
 use Rattle.ut_model.specs.Given.{json_text}
 use Rattle.ut_model.specs.Members.{Body, as_text, entry, formed, is_one_of, member_names, text_in}
@@ -19,14 +18,14 @@ use Rattle.ut_model.specs.Tenant.{Object}
 use Rattle.ut_sound.proofs.Parts.{both_left, both_right}
 
 -- a text that isn't refused has at most 4,000 characters
-pub short_text : (o : Object) (criteria : Bool) (text : List ℕ) → malformed (formula_of o criteria text) ≡ None → nat_le (length text) 4000 ≡ true
+pub short_text : (o : Object) (criteria : Bool) (text : List ℕ) → malformed (formula_of o criteria text) ≡ None → nat_le (length text) formula_limit ≡ true
 unfolding formula_of
-short_text o criteria text e = by (nat_lt 4000 (length text)) refl e
+short_text o criteria text e = by (nat_lt formula_limit (length text)) refl e
   where
-    low : (n : ℕ) → nat_lt 4000 n ≡ false → nat_le n 4000 ≡ true
+    low : (n : ℕ) → nat_lt formula_limit n ≡ false → nat_le n formula_limit ≡ true
     low n h = grind (arith, nat_tests)
 
-    by : (b : Bool) → nat_lt 4000 (length text) ≡ b → malformed (cond b (Err 0) (reads_text o criteria text)) ≡ None → nat_le (length text) 4000 ≡ true
+    by : (b : Bool) → nat_lt formula_limit (length text) ≡ b → malformed (cond b (Err 0) (reads_text o criteria text)) ≡ None → nat_le (length text) formula_limit ≡ true
     by true h e = absurd cc
     by false h e = low (length text) h
 

@@ -6,14 +6,16 @@ use Rattle.std.specs.Ordering.{ordering_reverse}
 use Rattle.std.specs.Option.{unwrap_or}
 use Rattle.std.specs.Cmp.{IsTotalOrder}
 use Rattle.std.specs.Cmp.Lexicographic.{on_texts}
-use Rattle.std.proofs.lemmas.Cmp.{nat_cmp_total, nat_list_cmp_total, on_total, then_total}
+use Rattle.std.proofs.lemmas.Cmp.{nat_list_cmp_total, on_total, then_total}
 use Rattle.std.proofs.lemmas.Bool.Decides.{nat_tests}
 use Rattle.std.proofs.lemmas.Map.Text.{is_eq-slice_cmp}
+use Rattle.ut_value.specs.Principals.{principals_total}
 use Rattle.ut_value.specs.Texts.{lower}
 use Rattle.ut_value.specs.declared.sharing.Level.TheVariants as level
 use Rattle.ut_value.specs.declared.sharing.Principal.{Principal}
 use Rattle.ut_value.specs.declared.sharing.Principal.TheVariants as to
 use Rattle.ut_value.specs.declared.job.RuleState.TheVariants as state
+use Rattle.ut_model.specs.Limits.{formula_limit}
 use Rattle.ut_model.specs.declared.record.Record.{Record}
 use Rattle.ut_model.specs.declared.refusal.Refusal.TheVariants as refusal
 use Rattle.ut_model.specs.declared.limit.Limit.TheVariants as limit
@@ -27,12 +29,16 @@ use Rattle.ut_model.specs.Objects.{Numbered, object_named, object_number, record
 use Rattle.ut_model.specs.Ordered.{put_in}
 use Rattle.ut_model.specs.Paths.{Asked}
 use Rattle.ut_model.specs.declared.people_bodies.Spelled.{Spelled}
-use Rattle.ut_model.specs.Principals.{bad_id, spelled_id, is_there, kind_number, not_there, principal_cmp, principal_id, principal_of}
+use Rattle.ut_model.specs.Principals.{bad_id, spelled_id, is_there, not_there, principal_of}
 use Rattle.ut_model.specs.Rights.{with_readable}
 use Rattle.ut_model.specs.RuleFormulas.{malformed, name_cmp}
 use Rattle.ut_model.specs.Rules.{Rule, in_body_order, refuse_if}
-use Rattle.ut_model.specs.Shares.{NewShare, same_share, share, share_cmp, share_of, share_rules, shares_of, unshare, unshare_rules, unshare_with, with_share, without_share}
-use Rattle.ut_model.specs.SharingRules.{NewSharingRule, SpelledSource, add_sharing_rule, by_formula, from, new_rule, remove_sharing_rule, sharing_rules, source_formula, source_of, source_owner, with_rule}
+use Rattle.ut_model.specs.declared.sharing_bodies.NewShare.{NewShare}
+use Rattle.ut_model.specs.Shares.{same_share, share, share_cmp, share_of, share_rules, shares_of, unshare, unshare_rules, unshare_with, with_share, without_share}
+use Rattle.ut_model.specs.declared.sharing_bodies.SpelledSource.TheVariants.{Owner, Criteria}
+use Rattle.ut_model.specs.declared.sharing_bodies.NewSharingRule.{NewSharingRule}
+use Rattle.ut_model.specs.declared.sharing_bodies.SpelledSource.{SpelledSource}
+use Rattle.ut_model.specs.SharingRules.{add_sharing_rule, new_rule, remove_sharing_rule, sharing_rules, source_formula, source_of, source_owner, with_rule}
 use Rattle.ut_sound.proofs.SoundParts.{HasSoundParts}
 use Rattle.ut_model.specs.SoundRecords.{IsSoundRecord, record_id}
 use Rattle.ut_model.specs.SoundSharing.{NumbersOnce, HasSoundRules, HasSoundShares, IsSoundRule, IsSoundShare, is_grant, is_sound_source}
@@ -109,8 +115,8 @@ there_named t member p e = same p ∙ holds_not (is_there t p) (unrefused (not (
 
 -- the source is sound
 new_source : (t : Tenant) (o : Object) (members : List (List ℕ)) (source : SpelledSource) → has_source members source ≡ true → in_case (source_formula o source) None malformed ≡ None → in_case (source_owner source) None (λ p. not_there t (codes "from") (principal_of p)) ≡ None → is_sound_source (known t) state.Whole (source_of source) ≡ true
-new_source t o members (from p) fit short e = both (knows (known t) (principal_of p)) true (there_named t (codes "from") (principal_of p) e) refl
-new_source t o members (by_formula text) fit short e = both (all_scalars text) (nat_le (length text) 4000) fit (short_text o true text short)
+new_source t o members (Owner p) fit short e = both (knows (known t) (principal_of p)) true (there_named t (codes "from") (principal_of p) e) refl
+new_source t o members (Criteria text) fit short e = both (all_scalars text) (nat_le (length text) formula_limit) fit (short_text o true text short)
 
 -- two names in one place of the order are one name
 pub tied_names : (a b : List ℕ) → name_cmp a b ≡ Equal → same_name a b ≡ true
@@ -148,8 +154,8 @@ once t r is s x y a b e =
 from_there : (t : Tenant) (members : List (List ℕ)) (source : SpelledSource) → has_source members source ≡ true → (p : Principal)
     → in_body_order members ((codes "to", not_there t (codes "to") p) ∷ (codes "from", in_case (source_owner source) None (λ p. not_there t (codes "from") (principal_of p))) ∷ []) ≡ None
     → in_case (source_owner source) None (λ p. not_there t (codes "from") (principal_of p)) ≡ None
-from_there t members (from q) fit p e = member_rule ((codes "to", not_there t (codes "to") p) ∷ (codes "from", not_there t (codes "from") (principal_of q)) ∷ []) members (codes "from") e fit
-from_there t members (by_formula text) fit p e = refl
+from_there t members (Owner q) fit p e = member_rule ((codes "to", not_there t (codes "to") p) ∷ (codes "from", not_there t (codes "from") (principal_of q)) ∷ []) members (codes "from") e fit
+from_there t members (Criteria text) fit p e = refl
 
 pub add_rule_sound : (t : Tenant) (b : NewSharingRule) → is_fit_rule b ≡ true → HasSoundParts t → HasSoundParts (add_sharing_rule t b).tenant
 add_rule_sound t b fit s =
@@ -196,11 +202,8 @@ remove_rule_sound t name s =
     }))
 
 -- ---- shares
-principal_total : IsTotalOrder principal_cmp
-principal_total = then_total (on_total kind_number nat_cmp_total) (on_total principal_id nat_list_cmp_total)
-
 share_total : IsTotalOrder share_cmp
-share_total = then_total (on_total (λ (s : Share). s.item) nat_list_cmp_total) (on_total (λ (s : Share). s.to) principal_total)
+share_total = then_total (on_total (λ (s : Share). s.item) nat_list_cmp_total) (on_total (λ (s : Share). s.to) principals_total)
 
 pub shares_kept : (t : Tenant) (p : Share → Bool) → HasSoundShares (known t) t.objects t.shares → HasSoundShares (known t) t.objects (filter p t.shares)
 shares_kept t p s =

@@ -1,5 +1,5 @@
 -- A sound tenant, in its parts and its formulas: each is kept for itself.
-use Rattle.std.proofs.Common.{ℕ, ◌≤◌}
+use Rattle.std.proofs.Common.{◌≤◌}
 use Rattle.std.specs.Prelude.{IsTrue}
 use Rattle.ut_model.specs.declared.limit.Limit.TheVariants as limit
 use Rattle.ut_model.specs.Known.{known, NumbersDiffer}

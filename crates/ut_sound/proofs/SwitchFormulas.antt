@@ -5,6 +5,7 @@ use Rattle.std.specs.List.{list_all}
 use Rattle.std.specs.Option.{option_and_then}
 use Rattle.ut_value.specs.declared.job.Phase.TheVariants as phase
 use Rattle.ut_formula.specs.declared.formula.Formula.{Formula}
+use Rattle.ut_model.specs.Limits.{formula_limit}
 use Rattle.ut_model.specs.Cases.{in_case}
 use Rattle.ut_model.specs.Jobs.{job_step, switched}
 use Rattle.ut_model.specs.Objects.{change_at}
@@ -35,7 +36,7 @@ module _ (law : ReadsOtherTypes) (t : Tenant) (s : AreFormulasSound t) (j : Job)
   same_formula : (c : Bool) (text : List ℕ) → is_ok (formula_of p c text) ≡ true → not (names_field (suc j.field) (formula_of p c text)) ≡ true → formula_of (change p) c text ≡ formula_of p c text
   unfolding formula_of
   same_formula c text h g =
-      pick (nat_lt 4000 (length text)) (λ b. is_ok (cond b (Err 0) (reads_text p c text)) ≡ true → not (names_field (suc j.field) (cond b (Err 0) (reads_text p c text))) ≡ true → cond b (Err 0) (reads_text (change p) c text) ≡ cond b (Err 0) (reads_text p c text))
+      pick (nat_lt formula_limit (length text)) (λ b. is_ok (cond b (Err 0) (reads_text p c text)) ≡ true → not (names_field (suc j.field) (cond b (Err 0) (reads_text p c text))) ≡ true → cond b (Err 0) (reads_text (change p) c text) ≡ cond b (Err 0) (reads_text p c text))
       (λ _ e f. refl) (λ _ e f. law p j.field j.to c text e f) h g
 
   -- no rule names the field

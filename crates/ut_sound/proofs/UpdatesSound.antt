@@ -18,7 +18,7 @@ use Rattle.ut_model.specs.declared.refusal.Refusal.TheVariants as refusal
 use Rattle.ut_model.specs.Cases.{in_case}
 use Rattle.ut_model.specs.Edits.{bad_owner, bad_reference, same_owner, with_given}
 use Rattle.ut_model.specs.Fields.{is_null, ref_of}
-use Rattle.ut_model.specs.Given.{Assignment}
+use Rattle.ut_model.specs.declared.record_bodies.Assignment.{Assignment}
 use Rattle.ut_model.specs.Keys.{Key, with_key}
 use Rattle.ut_model.specs.Known.{Grows, KeepsPeople, known}
 use Rattle.ut_model.specs.Membership.{Has}

@@ -8,7 +8,7 @@ use Rattle.ut_model.specs.declared.refusal.Refusal.TheVariants.{InvalidSession}
 use Rattle.ut_model.specs.Callers.{Named, caller_of}
 use Rattle.ut_model.specs.Cases.{in_case}
 use Rattle.ut_model.specs.Limits.{limit_number}
-use Rattle.ut_model.specs.RequestOf.{ReadsQuery, answer_to}
+use Rattle.ut_model.specs.RequestOf.{answer_to}
 use Rattle.ut_model.specs.Sound.{IsSound, IsWorld}
 use Rattle.ut_model.specs.Step.{Message, if_called, in_named, in_tenant, named_in, own, refused, step_by}
 use Rattle.ut_model.specs.Tenant.{Tenant, User}
@@ -50,28 +50,28 @@ tenant_sound : (w : World) (n : ℕ) (t : Tenant) → AllByRecursion IsSound w �
 tenant_sound w zero t all e = absurd cc
 tenant_sound w (suc n) t all e = all_at IsSound t w all (at_has n w t e)
 
-pub world_sound : ((query_in : ReadsQuery) (a : _) (m : Message) → IsCaller a → IsSound a.tenant → IsSound (answer_to query_in a m).1)
-    → (query_in : ReadsQuery) (w : World) (m : Message) (now : ℕ) → is_moment (pos now) ≡ true → IsWorld w → IsWorld (step_by (answered_whole query_in) w m now).1
-world_sound law query_in w m now moment s = by (named_in m)
+pub world_sound : ((a : _) (m : Message) → IsCaller a → IsSound a.tenant → IsSound (answer_to a m).1)
+    → (w : World) (m : Message) (now : ℕ) → is_moment (pos now) ≡ true → IsWorld w → IsWorld (step_by answered_whole w m now).1
+world_sound law w m now moment s = by (named_in m)
   where
     user : (t : Tenant) → IsSound t → (c : Caller) (o : Option User) → user_at t.users c.user ≡ o
-        → IsSound (in_case o (refused InvalidSession t) (λ u. answer_to query_in (record { tenant = t; user = u; now = pos now }) m)).1
+        → IsSound (in_case o (refused InvalidSession t) (λ u. answer_to (record { tenant = t; user = u; now = pos now }) m)).1
     user t h c None e = h
-    user t h c (Some u) e = law query_in (record { tenant = t; user = u; now = pos now }) m (found_self t.users c.user u e, moment) h
+    user t h c (Some u) e = law (record { tenant = t; user = u; now = pos now }) m (found_self t.users c.user u e, moment) h
 
-    called : (t : Tenant) → IsSound t → (c : Option Caller) → IsSound (if_called (answered_whole query_in) m now c t).1
+    called : (t : Tenant) → IsSound t → (c : Option Caller) → IsSound (if_called answered_whole m now c t).1
     called t h None = h
     called t h (Some c) = user t h c (user_at t.users c.user) refl
 
-    here : (n : Named) (o : Option Tenant) → tenant_at w n.org ≡ o → IsWorld (in_tenant w n.org (own (answered_whole query_in) n m now) o).1
+    here : (n : Named) (o : Option Tenant) → tenant_at w n.org ≡ o → IsWorld (in_tenant w n.org (own answered_whole n m now) o).1
     here n None e = s
     here n (Some t) e =
-        let after = (own (answered_whole query_in) n m now t).1 in
+        let after = (own answered_whole n m now t).1 in
         record {
           few = subst (λ (k : ℕ). k ≤ limit_number limit.Organisations) (sym (put_length w n.org after)) s.few;
           tenants = put_sound w n.org after s.tenants (called t (tenant_sound w n.org t s.tenants e) (caller_of n t));
         }
 
-    by : (n : Option Named) → IsWorld (in_named (answered_whole query_in) w m now n).1
+    by : (n : Option Named) → IsWorld (in_named answered_whole w m now n).1
     by None = s
     by (Some n) = here n (tenant_at w n.org) refl

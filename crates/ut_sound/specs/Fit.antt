@@ -1,17 +1,20 @@
 -- What the form of a body gives, beyond what the rules of its request ask. Every request that is read has it; a request as data may
 -- lack it, and then what its verdict leaves need not be sound. It is this product's own.
-use Rattle.std.specs.Prelude.{◌≡◌, ℕ, suc, Bool, true, false, not, ◌&&◌, List, [], ◌∷◌, ◌++◌, None, Option, Some, Ok, bytes_eq, codes, slice_get, is_ok, is_some, IsTrue}
+use Rattle.std.specs.Prelude.{◌≡◌, ℕ, Bool, false, not, ◌&&◌, List, None, Option, Some, Ok, bytes_eq, codes, slice_get, is_some, IsTrue}
 use Rattle.std.specs.List.{list_all, list_any}
 use Rattle.std.specs.Str.{all_scalars}
 use Rattle.ut_value.specs.Dates.{is_moment}
-use Rattle.ut_value.specs.Types.{is_reference, is_type, suits_indexed, suits_unique}
-use Rattle.ut_value.specs.declared.value.FieldType.{FieldType}
+use Rattle.ut_value.specs.Types.{is_reference, is_type}
 use Rattle.ut_value.specs.declared.value.Value.{Value}
 use Rattle.ut_model.specs.declared.record.Record.{Record}
 use Rattle.ut_model.specs.Cases.{in_case}
 use Rattle.ut_model.specs.Edits.{bad_value, with_given}
 use Rattle.ut_model.specs.Fields.{column, its_value, typed}
-use Rattle.ut_model.specs.Given.{Assignment, Given, in_json, json_text}
+use Rattle.ut_model.specs.declared.record_bodies.Given.TheVariants as gives
+use Rattle.ut_model.specs.declared.record_bodies.Assignment.{Assignment}
+use Rattle.ut_model.specs.declared.record_bodies.Given.{Given}
+use Rattle.ut_model.specs.Given.{json_text}
+use Rattle.ut_model.specs.Forms.{flags_suit}
 use Rattle.ut_model.specs.Keys.{Key, with_key}
 use Rattle.ut_model.specs.Members.{Body, body_in}
 use Rattle.ut_model.specs.declared.metadata_bodies.NewObject.{NewObject}
@@ -22,15 +25,17 @@ use Rattle.ut_model.specs.NewFields.{type_with}
 use Rattle.ut_model.specs.Paths.{Asked}
 use Rattle.ut_model.specs.Requests.{Request, creates, updates, upserts, shares, adds_object, sets_object, adds_field, adds_validation_rule, adds_sharing_rule, begins_retype}
 use Rattle.ut_model.specs.Retyping.{new_type}
-use Rattle.ut_model.specs.Shares.{NewShare}
-use Rattle.ut_model.specs.SharingRules.{NewSharingRule, SpelledSource, by_formula, from}
+use Rattle.ut_model.specs.declared.sharing_bodies.NewShare.{NewShare}
+use Rattle.ut_model.specs.declared.sharing_bodies.SpelledSource.TheVariants.{Owner, Criteria}
+use Rattle.ut_model.specs.declared.sharing_bodies.NewSharingRule.{NewSharingRule}
+use Rattle.ut_model.specs.declared.sharing_bodies.SpelledSource.{SpelledSource}
 use Rattle.ut_model.specs.Fields.{by_parent}
-use Rattle.ut_model.specs.SoundMetadata.{implies, may_be_required}
 use Rattle.ut_model.specs.SoundPeople.{is_name}
 use Rattle.ut_model.specs.SoundRecords.{all_valid, kinds_of}
 use Rattle.ut_model.specs.SoundSharing.{is_grant}
-use Rattle.ut_model.specs.Tenant.{Field, Object, ValidationRule}
+use Rattle.ut_model.specs.Tenant.{Field, Object}
 use Rattle.ut_model.specs.Upserts.{key_value, unique_named}
+use Rattle.ut_model.specs.declared.metadata_bodies.NewValidationRule.{NewValidationRule}
 use Rattle.ut_model.specs.World.{user_at}
 
 -- ---- sharing
@@ -41,16 +46,16 @@ has_member members name = list_any (bytes_eq name) members
 
 -- the source of an owner rule is the member `from`, and the text of a formula is of characters
 abbrev pub has_source : (members : List (List ℕ)) → SpelledSource → Bool
-has_source members (from p) = has_member members (codes "from")
-has_source members (by_formula text) = all_scalars text
+has_source members (Owner p) = has_member members (codes "from")
+has_source members (Criteria text) = all_scalars text
 
 -- the level is Read or Edit, and the principals are members of the body
 abbrev pub is_fit_rule : NewSharingRule → Bool
 is_fit_rule b = is_grant b.level && (has_member b.members (codes "to") && has_source b.members b.source)
 
 -- the message has its form, and the formula is of characters
-abbrev pub is_fit_validation : ValidationRule → Bool
-is_fit_validation r = is_name r.message && all_scalars r.formula
+abbrev pub is_fit_validation : NewValidationRule → Bool
+is_fit_validation b = is_name b.message && all_scalars b.formula
 
 -- the level is Read or Edit
 abbrev pub is_fit_share : NewShare → Bool
@@ -70,16 +75,11 @@ abbrev pub has_type : (members : List (List ℕ)) → SpelledType → Bool
 has_type members (Plain kind) = not (is_reference kind)
 has_type members (LookupTo object on_delete child) = has_member members (codes "type")
 
--- flags that suit a type: required, unique, indexed
-abbrev pub flags_suit : NewField → FieldType → Bool
-flags_suit b kind =
-    implies b.required (may_be_required kind) && (implies b.unique (suits_unique kind) && implies b.indexed (suits_indexed kind))
-
 -- `name` is a member, the type is within its bounds, and the flags suit it, whatever object a lookup names
 abbrev pub is_fit_field : NewField → Bool
 is_fit_field b =
     has_member b.members (codes "name") && (has_type b.members b.kind
-    && (is_type (type_with None b.kind) && flags_suit b (type_with None b.kind)))
+    && (is_type (type_with None b.kind) && flags_suit b.kind b.required b.unique b.indexed))
 
 -- ---- records
 
@@ -99,7 +99,7 @@ ReadsWell a o given =
 
 -- what a body in JSON gives: its texts are characters
 abbrev pub is_spelled : Given → Bool
-is_spelled (in_json j) = all_scalars (json_text j)
+is_spelled (gives.Json j) = all_scalars (json_text j)
 is_spelled _ = false
 
 -- the texts that this body's members are, are characters
@@ -126,7 +126,7 @@ IsFit a (shares b) = IsTrue (is_fit_share b)
 IsFit a (adds_object b) = IsTrue (is_fit_object b)
 IsFit a (sets_object object access) = IsTrue (not (by_parent access))
 IsFit a (adds_field b) = IsTrue (is_fit_field b)
-IsFit a (adds_validation_rule b) = IsTrue (is_fit_validation b.rule)
+IsFit a (adds_validation_rule b) = IsTrue (is_fit_validation b)
 IsFit a (adds_sharing_rule b) = IsTrue (is_fit_rule b)
 IsFit a (begins_retype object field to) = IsTrue (is_type (new_type to))
 IsFit a r = Unit {0}

@@ -3,7 +3,7 @@
 ghost use Rattle.std.specs.Prelude.{IsTrue, pos, ℕ};
 ghost use Rattle.ut_value.specs.Dates.{is_moment};
 ghost use Rattle.ut_model.specs.Paths.{Asked};
-ghost use Rattle.ut_model.specs.RequestOf.{ReadsQuery, answer_to};
+ghost use Rattle.ut_model.specs.RequestOf.{answer_to};
 ghost use Rattle.ut_model.specs.Sound.{IsSound, IsWorld};
 ghost use Rattle.ut_model.specs.Step.{Message, step_by};
 ghost use Rattle.ut_model.specs.Whole.{answered_whole};
@@ -12,20 +12,22 @@ ghost use Rattle.ut_sound.specs.Fit.{IsCaller};
 
 use crate::fits::requests_fit;
 use crate::verdicts::verdicts_sound;
+use ut_model::tenant_laws;
 
 /// What the answer to any message of a caller leaves of a sound organisation is sound. The call does nothing.
 pub fn answers_sound()
-    ensures answer { (query_in : ReadsQuery) (a : Asked) (m : Message) → IsCaller a
-        → IsSound a.tenant → IsSound (answer_to query_in a m).1 }
+    ensures answer { (a : Asked) (m : Message) → IsCaller a
+        → IsSound a.tenant → IsSound (answer_to a m).1 }
 {
     requests_fit();
     verdicts_sound();
+    tenant_laws();
 }
 
 /// What a step of the world leaves of sound organisations is sound, at a moment of the calendar. The call does nothing.
 pub fn world_sound()
-    ensures step { (query_in : ReadsQuery) (w : World) (m : Message) (now : ℕ) → IsTrue (is_moment (pos now))
-        → IsWorld w → IsWorld (step_by (answered_whole query_in) w m now).1 }
+    ensures step { (w : World) (m : Message) (now : ℕ) → IsTrue (is_moment (pos now))
+        → IsWorld w → IsWorld (step_by answered_whole w m now).1 }
 {
     answers_sound();
 }

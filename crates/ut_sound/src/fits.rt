@@ -5,9 +5,9 @@ ghost use Rattle.std.specs.Prelude.{IsTrue, List, Ok, Option, true, ℕ, ◌≡�
 ghost use Rattle.std.specs.Str.{all_scalars};
 ghost use Rattle.ut_model.specs.declared.route.Route.{Route};
 ghost use Rattle.ut_model.specs.Cases.{in_case};
-ghost use Rattle.ut_model.specs.Given.{Assignment};
+ghost use Rattle.ut_model.specs.declared.record_bodies.Assignment.{Assignment};
 ghost use Rattle.ut_model.specs.Paths.{Asked};
-ghost use Rattle.ut_model.specs.RequestOf.{ReadsQuery, request_of};
+ghost use Rattle.ut_model.specs.RequestOf.{request_of};
 ghost use Rattle.ut_model.specs.Requests.{Request};
 ghost use Rattle.ut_model.specs.Sound.{IsSound};
 ghost use Rattle.ut_model.specs.Tenant.{Object};
@@ -29,8 +29,8 @@ pub fn fit_laws()
 
 /// Every request that is read has its form. The call does nothing.
 pub fn requests_fit()
-    ensures request { (a : Asked) (query_in : ReadsQuery) (r : Route) (body : List ℕ) (x : Request) → IsSound a.tenant
-        → request_of query_in r body ≡ Ok x → IsFit a x }
+    ensures request { (a : Asked) (r : Route) (body : List ℕ) (x : Request) → IsSound a.tenant
+        → request_of r body ≡ Ok x → IsFit a x }
 {
     value_laws();
 }

@@ -9,7 +9,8 @@ ghost use Rattle.ut_model.specs.declared.metadata_bodies.NewField.{NewField};
 ghost use Rattle.ut_model.specs.NewFields.{add_field};
 ghost use Rattle.ut_model.specs.Sound.{IsSound};
 ghost use Rattle.ut_model.specs.Tenant.{Tenant};
-ghost use Rattle.ut_model.specs.ValidationRules.{NewValidationRule, add_validation_rule};
+ghost use Rattle.ut_model.specs.declared.metadata_bodies.NewValidationRule.{NewValidationRule};
+ghost use Rattle.ut_model.specs.ValidationRules.{add_validation_rule};
 ghost use Rattle.ut_sound.specs.Fit.{is_fit_field, is_fit_object, is_fit_validation};
 
 use ut_rule_text::text_laws;
@@ -21,7 +22,7 @@ pub fn objects_sound()
         → IsSound t → IsSound (set_access t object access).tenant }
     ensures add_object { (t : Tenant) (b : NewObject) → IsTrue (is_fit_object b) → IsSound t → IsSound (add_object t b).tenant }
     ensures add_field { (t : Tenant) (b : NewField) → IsTrue (is_fit_field b) → IsSound t → IsSound (add_field t b).tenant }
-    ensures add_validation_rule { (t : Tenant) (b : NewValidationRule) → IsTrue (is_fit_validation b.rule)
+    ensures add_validation_rule { (t : Tenant) (b : NewValidationRule) → IsTrue (is_fit_validation b)
         → IsSound t → IsSound (add_validation_rule t b).tenant }
 {
     text_laws();

@@ -3,8 +3,10 @@
 ghost use Rattle.std.specs.Prelude.{IsTrue, List, Option, ℕ};
 ghost use Rattle.ut_model.specs.Paths.{Asked};
 ghost use Rattle.ut_model.specs.declared.people_bodies.Spelled.{Spelled};
-ghost use Rattle.ut_model.specs.Shares.{NewShare, share, unshare};
-ghost use Rattle.ut_model.specs.SharingRules.{NewSharingRule, add_sharing_rule, remove_sharing_rule};
+ghost use Rattle.ut_model.specs.declared.sharing_bodies.NewShare.{NewShare};
+ghost use Rattle.ut_model.specs.Shares.{share, unshare};
+ghost use Rattle.ut_model.specs.declared.sharing_bodies.NewSharingRule.{NewSharingRule};
+ghost use Rattle.ut_model.specs.SharingRules.{add_sharing_rule, remove_sharing_rule};
 ghost use Rattle.ut_model.specs.Sound.{IsSound};
 ghost use Rattle.ut_model.specs.Tenant.{Tenant};
 ghost use Rattle.ut_sound.specs.Fit.{is_fit_rule, is_fit_share};

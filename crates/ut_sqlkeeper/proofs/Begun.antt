@@ -1,5 +1,5 @@
 -- A keeper that gets its connection and makes the table in one call.
-use Rattle.std.proofs.Common.{◌≡◌, inl, inr, ℕ, ◌+◌, ◌≤◌, List, Option, Some, None, false, IsTrue, true≢false, refl, sym, subst, ◌∙◌, arith}
+use Rattle.std.proofs.Common.{◌≡◌, inl, inr, ℕ, List, Option, Some, None, false, IsTrue, true≢false, refl, sym, subst, ◌∙◌, arith}
 use Rattle.ut_keeper.specs.Tables.{no_rows}
 use Rattle.ut_keeper.specs.State.{KeeperState, Steps, Tells, Shows, LeavesNoMore, IsSettled}
 use Rattle.sqlite.specs.Tree.{Trees}
@@ -13,7 +13,7 @@ use Rattle.ut_sqlkeeper.specs.Opened.{unopened_state, opened_state}
 use Rattle.ut_sqlkeeper.proofs.Blank.{map_blank, sound_blank}
 use Rattle.ut_sqlkeeper.proofs.Shown.{clean_if_open, doubt_free}
 
-module _ (tells : Type 0) (refusals : ℕ) (b a : KeeperState) (steps : Steps b a) (counted : refusals ≤ b.faults) (opens : IsTrue b.is_clean → IsTrue b.trusted) (clean_if_stands : IsTrue b.trusted → IsTrue b.is_clean)
+module _ (tells : Type 0) (refusals : ℕ) (b a : KeeperState) (steps : Steps b a) (counted : refusals ≡ b.faults) (opens : IsTrue b.is_clean → IsTrue b.trusted) (clean_if_stands : IsTrue b.trusted → IsTrue b.is_clean)
     (blank : tells → IsTrue b.is_clean → b.tells × (b.tables ≡ no_rows)) where
   pub begun_steps : Steps (unopened_state tells refusals) a
   begun_steps = record {
@@ -58,8 +58,8 @@ module _ {S : Type 0} (g : Ghosts S) (dirty : (s : S) → (g.view s).is_clean �
   clean_at : IsTrue (state g c).is_open → IsTrue (state g c).is_clean
   clean_at shown = doubt_free _ (clean_if_open g dirty c shown)
 
-  counted : first ≤ r + (state g c).faults
-  counted = omega (arith, count)
+  counted : first ≡ r
+  counted = sym count
 
   pub start_steps : Steps (unopened_state tells first) a
   start_steps = begun_steps tells first (keeper_state g c r rs w) a steps counted stands_at clean_at shows_at

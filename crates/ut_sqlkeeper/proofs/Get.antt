@@ -176,4 +176,4 @@ pub stays_map : (old new : State) → Stays old new → IsReady old → IsTrue n
 stays_map old new stays it shown = let k = stays it shown in (k.0, ap (λ (d : Database). map_in d.trees) k.1)
 
 pub keeps : (old new : State) (P : Trees → Type 0) → Survives old new P → Keeps old new
-keeps old new P s = record { clean = s.clean; counts = s.counts; closes = s.closes }
+keeps old new P s = record { clean = s.clean }

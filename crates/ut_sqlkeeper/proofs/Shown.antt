@@ -12,7 +12,7 @@ use Rattle.sqlite.specs.Held.{Held, state}
 use Rattle.sqlite_trees.specs.View.{doubt}
 use Rattle.sqlite_trees.proofs.Doubt.{no_doubt}
 use Rattle.ut_keeper.specs.Tables.{Tables}
-use Rattle.ut_value.specs.Causes.{up_to_last}
+use Rattle.ut_value.specs.Causes.{Rose, up_to_last}
 use Rattle.ut_keeper.specs.State.{Steps, Reads, Tells, Shows, more_shown}
 use Rattle.ut_sqlkeeper.specs.Laws.{nothing_pends}
 use Rattle.ut_sqlkeeper.specs.Kept.{IsReady, keeper_state, map_in}
@@ -32,13 +32,13 @@ module _ {S : Type 0} (g : Ghosts S) (dirty : (s : S) → (g.view s).is_clean �
       go false is = absurd (true≢false (sym shown ∙ dirty c.store is))
 
   module _ (old new : Held S) (r q : ℕ) (shown more : List ℕ) (w v : ℕ) where
-    pub steps : Keeps (state g old) (state g new) → (HasCleanDisk (state g new) → WasOpen (state g old) (state g new)) → r ≤ q → ((state g old).is_open ≡ false → Survives (state g old) (state g new) (λ _. ⊥))
-        → Steps (keeper_state g old r shown w) (keeper_state g new q more v)
-    steps keeps was rise shut = record {
-      counts = omega (arith, keeps.counts);
+    pub steps : Keeps (state g old) (state g new) → (HasCleanDisk (state g new) → WasOpen (state g old) (state g new)) → r ≤ q → (HasCleanDisk (state g new) → IsTrue (state g new).is_open ⊎ Rose r q)
+        → ((state g old).is_open ≡ false → Survives (state g old) (state g new) (λ _. ⊥)) → Steps (keeper_state g old r shown w) (keeper_state g new q more v)
+    steps keeps was rise seen shut = record {
+      counts = rise;
       stood = λ h. was (clean_if_open new h) h;
       was_clean = λ h. let now = no_doubt _ h in doubt_free _ (omega (arith, keeps.clean));
-      closes = λ h clean. elim (keeps.closes (no_doubt _ clean) h) [ inl still ↦ inl still | inr fault ↦ inr (omega (arith, keeps.counts)) ];
+      closes = λ _ clean. seen (no_doubt _ clean);
       sure = λ h. absurd (true≢false (sym h));
       shut = λ fell clean m left. elim ((shut fell).crash (no_doubt _ clean) left.0 left.1) [ inl was ↦ (left.0, was, left.2) | inr none ↦ absurd none ];
     }
@@ -48,10 +48,10 @@ module _ {S : Type 0} (g : Ghosts S) (dirty : (s : S) → (g.view s).is_clean �
         let k = stays (clean_if_open new told.1) told.0.1 told.1 in
         ((told.1, k.0), ap (λ (d : Database). map_in d.trees) k.1)
 
-    pub reads : Keeps (state g old) (state g new) → (HasCleanDisk (state g new) → WasOpen (state g old) (state g new)) → r ≤ q → (HasCleanDisk (state g new) → Stays (state g old) (state g new))
+    pub reads : Keeps (state g old) (state g new) → (HasCleanDisk (state g new) → WasOpen (state g old) (state g new)) → r ≤ q → (HasCleanDisk (state g new) → IsTrue (state g new).is_open ⊎ Rose r q) → (HasCleanDisk (state g new) → Stays (state g old) (state g new))
         → Survives (state g old) (state g new) (λ _. ⊥) → v ≡ w → Reads (keeper_state g old r shown w) (keeper_state g new q more v)
-    reads keeps was rise stays survives same = record {
-      steps = steps keeps was rise (λ _. survives);
+    reads keeps was rise seen stays survives same = record {
+      steps = steps keeps was rise seen (λ _. survives);
       same = stays_told stays;
       crash = λ clean m left. elim (survives.crash (no_doubt _ clean) left.0 left.1) [ inl was ↦ (left.0, was, left.2) | inr none ↦ absurd none ];
       written = same;

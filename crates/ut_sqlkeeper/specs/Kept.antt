@@ -1,5 +1,5 @@
 -- The one table of the keeper, the map that its rows are, and what a keeper shows of its connection.
-use Rattle.std.specs.Prelude.{◌≡◌, ◌+◌, ◌⊎◌, slice_index, true, false, [], ◌∷◌, ◌++◌, None, codes, List, ℕ, pos, IsTrue}
+use Rattle.std.specs.Prelude.{◌≡◌, ◌⊎◌, slice_index, true, false, [], ◌∷◌, ◌++◌, None, codes, List, ℕ, pos, IsTrue}
 use Rattle.std.specs.FinMap.{from_entries}
 use Rattle.sqlite.specs.Collation.TheVariants.{Binary}
 use Rattle.sqlite.specs.declared.types.Value.{Value}
@@ -115,16 +115,16 @@ pub record IsBlank (s : State) : Type 0 where
 abbrev pub IsReady : State → Type 0
 IsReady s = IsKept s ⊎ IsBlank s
 
--- what a keeper shows of its connection, of its own count of refusals and of its counts of rows: it tells its tables
+-- what a keeper shows of its connection, of its count of refused calls and of its counts of rows: it tells its tables
 -- while the connection is open and the database ready, and they are that database's map
 abbrev pub keeper_state : {S : Type 0} → Ghosts S → Held S → ℕ → List ℕ → ℕ → KeeperState
 keeper_state g c refusals shown written = record {
   tells = IsTrue (state g c).is_open × IsReady (state g c);
   tables = map_in (state g c).now.trees;
   may_leave = λ m. (db : Trees) × (state g c).may_leave db × (m ≡ map_in db);
-  stands = (state g c).is_open;
+  trusted = (state g c).is_open;
   is_clean = (state g c).is_clean;
-  faults = refusals + (state g c).faults;
+  faults = refusals;
   never_fails = false;
   shown = λ t. slice_index shown t;
   written = written;

@@ -4,6 +4,7 @@ ghost use Rattle.std.specs.Prelude.{◌≡◌, ℕ, slice_index};
 ghost use Rattle.ut_sqlkeeper.specs.Kept.{keeper_state};
 
 use crate::fault::{DatabaseFault, Refusals};
+use crate::refusing::refuse_call;
 use crate::statements::{apply_all, kept_rows, open_table, rows_at, rows_in};
 use sqlite::{Alter, Connection};
 use std::alloc::Global;
@@ -64,14 +65,14 @@ impl<S: Alter> Keeper for Connected<S> {
     fn open(&mut self, _alloc: Global) -> Result<(), KeepFail> {
         match open_table(&mut self.conn) {
             Ok(()) => Ok(()),
-            Err(error) => Err(self.refusals.refuse(error)),
+            Err(error) => Err(refuse_call(&mut self.conn, &mut self.refusals, error)),
         }
     }
 
     fn get(&mut self, _alloc: Global, table: u8, key: &[u8]) -> Result<Option<Bytes>, KeepFail> {
         let rows = match rows_at(&mut self.conn, table, key) {
             Ok(rows) => rows,
-            Err(error) => return Err(self.refusals.refuse(error)),
+            Err(error) => return Err(refuse_call(&mut self.conn, &mut self.refusals, error)),
         };
         let Some(row) = rows.first() else {
             return Ok(None);
@@ -96,7 +97,7 @@ impl<S: Alter> Keeper for Connected<S> {
     ) -> Result<Vec<KeptRow>, KeepFail> {
         let mut rows = match rows_in(&mut self.conn, table, from, below, limit) {
             Ok(rows) => rows,
-            Err(error) => return Err(self.refusals.refuse(error)),
+            Err(error) => return Err(refuse_call(&mut self.conn, &mut self.refusals, error)),
         };
         // There may be more if the limit is no number of SQL, or the connection doesn't tell its rows.
         rows.truncate(limit);
@@ -121,7 +122,7 @@ impl<S: Alter> Keeper for Connected<S> {
                 self.refusals.add(DatabaseFault::Other);
                 Err(KeepFail::Failed)
             }
-            Err(error) => Err(self.refusals.refuse(error)),
+            Err(error) => Err(refuse_call(&mut self.conn, &mut self.refusals, error)),
         }
     }
 

@@ -25,6 +25,8 @@ pub enum DatabaseFault {
     Disk,
     /// An earlier fault has shut the database: `ErrorCode::Closed`.
     Closed,
+    /// A call ran out of memory, and so did the one that was to find whether the database is still open.
+    Unknown,
     /// The keeper isn't opened.
     NotOpened,
     /// Anything else, such as a database with a table `kept` of another form.
@@ -40,6 +42,7 @@ impl fmt::Display for DatabaseFault {
             DatabaseFault::Full => "the disk is full",
             DatabaseFault::Disk => "the file couldn't be read or written",
             DatabaseFault::Closed => "an earlier fault has closed the database",
+            DatabaseFault::Unknown => "out of memory, and the database may be closed",
             DatabaseFault::NotOpened => "the database isn't opened",
             DatabaseFault::Other => "the database has other tables than this program's",
         })
@@ -48,8 +51,8 @@ impl fmt::Display for DatabaseFault {
 
 impl std::error::Error for DatabaseFault {}
 
-// What an error is for a user.
-fn fault_of(error: Error) -> DatabaseFault {
+/// What an error is for a user.
+pub(crate) fn fault_of(error: Error) -> DatabaseFault {
     match error {
         Error::SqliteFailure(ErrorCode::CannotOpen) => DatabaseFault::CannotOpen,
         Error::SqliteFailure(ErrorCode::DatabaseBusy) => DatabaseFault::Busy,
@@ -59,8 +62,14 @@ fn fault_of(error: Error) -> DatabaseFault {
         Error::SqliteFailure(ErrorCode::DiskFull) => DatabaseFault::Full,
         Error::SqliteFailure(ErrorCode::SystemIoFailure) => DatabaseFault::Disk,
         Error::SqliteFailure(ErrorCode::Closed) => DatabaseFault::Closed,
+        Error::SqliteFailure(ErrorCode::OutOfMemory) => DatabaseFault::Unknown,
         _ => DatabaseFault::Other,
     }
+}
+
+/// The error says that the call is out of memory.
+pub(crate) fn is_out_of_memory(error: &Error) -> bool {
+    matches!(error, Error::SqliteFailure(ErrorCode::OutOfMemory))
 }
 
 /// The calls that a keeper counted as failed: how many, and why the last one was. The count saturates.
@@ -92,12 +101,13 @@ impl Refusals {
         self.last = Some(fault);
     }
 
-    /// Counts a call that an error ended, unless memory ran out.
+    /// Counts a call that an error ended, unless it is out of memory.
     pub(crate) fn refuse(&mut self, error: Error) -> KeepFail
         ensures counts { self.old.count ≤ self.new.count }
         ensures cause { result ≡ KeepFail.Failed → Rose self.old.count self.new.count }
+        ensures quiet { (result ≡ KeepFail.Failed → ⊥) → self.new.count ≡ self.old.count }
     {
-        if let Error::SqliteFailure(ErrorCode::OutOfMemory) = error {
+        if is_out_of_memory(&error) {
             KeepFail::Memory
         } else {
             self.add(fault_of(error));

@@ -24,6 +24,7 @@ mod connected;
 mod fault;
 mod keeper;
 mod opener;
+mod refusing;
 mod statements;
 
 pub use crate::connected::Connected;

@@ -204,8 +204,8 @@ fn make_changes<S: Alter>(conn: &mut Connection<S>, changes: &[Change]) -> Resul
     Ok(true)
 }
 
-// Finds whether the connection is open: `Ok` comes only if it is.
-fn check_open<S: Alter>(conn: &mut Connection<S>) -> Result<Statement, Error>
+/// Finds whether the connection is open: `Ok` comes only if it is.
+pub(crate) fn check_open<S: Alter>(conn: &mut Connection<S>) -> Result<Statement, Error>
     ensures stays { HasCleanDisk (state S.Store conn.new)
         → Stays (state S.Store conn.old) (state S.Store conn.new) }
     ensures was_open { HasCleanDisk (state S.Store conn.new)

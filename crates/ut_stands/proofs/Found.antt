@@ -79,7 +79,7 @@ module _ {U : Type 0} (f : Form U) (org : ℕ) (key : Val f.key) (there : OrgPla
 
   stands_in : (p : Plan) (m : Tables) (w : World) → StandsBy p m w → (o : Option Tenant) → tenant_at w org ≡ o → MayStandAt f key (option_and_then (there (p.org org)) o)
   stands_in p m w s None e = tt
-  stands_in p m w s (Some t) e = h.trusted (p.org org) t (sound_tenant w org t s.world.tenants e) (s.plans org t e)
+  stands_in p m w s (Some t) e = h.stands (p.org org) t (sound_tenant w org t s.world.tenants e) (s.plans org t e)
 
   pub stands_there : (p : Plan) (m : Tables) (w : World) → StandsBy p m w → MayStandAt f key (row_of org there p w)
   stands_there p m w s = stands_in p m w s (tenant_at w org) refl

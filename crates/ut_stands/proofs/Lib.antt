@@ -11,7 +11,6 @@ pub mod Pages
 pub mod Numbered
 pub mod MetadataRows
 pub mod MetadataLists
-pub mod TwoReads
 pub mod LayoutReads
 pub mod Organisations
 pub mod Kept

@@ -1,7 +1,7 @@
 -- The rows of an organisation's people and metadata, from the parts of the tenant. Counts are those of its lists.
 -- Source: C. D. Weissman and S. Bobrowski, "The Design of the Force.com Multitenant Internet Application Development
 -- Platform" (SIGMOD 2009): objects and fields are rows of tables too.
-use Rattle.std.specs.Prelude.{ℕ, List, length, encode_utf8_all, bytes_eq, Option}
+use Rattle.std.specs.Prelude.{ℕ, true, List, length, encode_utf8_all, bytes_eq, Option}
 use Rattle.std.specs.List.{find}
 use Rattle.ut_keys.specs.declared.field.FieldRow.{FieldRow}
 use Rattle.ut_keys.specs.declared.group.GroupRow.{GroupRow}
@@ -16,8 +16,10 @@ use Rattle.ut_keys.specs.declared.validation.ValidationRow.{ValidationRow}
 use Rattle.ut_model.specs.Objects.{records_of}
 use Rattle.ut_model.specs.Tenant as model
 use Rattle.ut_model.specs.Tenant.{Field, Group, Job, Object, Role, Share, SharingRule, Source, owned, meets, Tenant, ValidationRule}
+use Rattle.ut_parts.specs.declared.choices.ObjectAccess.{ObjectAccess}
 use Rattle.ut_stands.specs.Plan.{OrgPlan, type_there}
 use Rattle.ut_value.specs.Texts.{lower}
+use Rattle.ut_value.specs.declared.sharing.Access.{Access}
 use Rattle.ut_value.specs.declared.sharing.RuleSource.{RuleSource}
 use Rattle.ut_value.specs.declared.sharing.RuleSource.TheVariants as source
 
@@ -50,6 +52,10 @@ group_of org g = record { org = org; id = g.id; name = g.name; members = g.membe
 
 -- ---- objects
 
+-- the hierarchy of roles counts on every object
+abbrev pub access_of : Access → ObjectAccess
+access_of access = record { access = access; hierarchy = true }
+
 -- the object with this number
 abbrev pub object_of : ℕ → Tenant → ℕ → Object → ObjectRow
 object_of org t n o =
@@ -57,7 +63,7 @@ object_of org t n o =
       org = org;
       object = n;
       name = o.name;
-      access = o.access;
+      access = access_of o.access;
       records = length (records_of t n);
       fields = length o.fields;
       validation_rules = length o.rules;

@@ -119,7 +119,7 @@ fn layout_of_row<K: Keeper>(
         org: row.org,
         object: row.object,
         name: row.name,
-        access: row.access,
+        access: row.access.access,
         fields,
         job,
     })

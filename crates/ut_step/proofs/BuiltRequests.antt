@@ -6,8 +6,7 @@ use Rattle.ut_model.specs.declared.refusal.Refusal.TheVariants.{NotBuilt}
 use Rattle.ut_model.specs.declared.route.Route.{Route}
 use Rattle.ut_model.specs.declared.route.Route.TheVariants as route
 use Rattle.ut_step.specs.Built.{built_request, needs_index, when_built}
-use Rattle.ut_step.specs.Queries.{reads_query}
-use Rattle.ut_model.specs.RequestOf.{ReadsQuery, request_of}
+use Rattle.ut_model.specs.RequestOf.{request_of}
 use Rattle.ut_model.specs.Requests.{Request}
 use Rattle.std.specs.Prelude.{codes}
 
@@ -19,9 +18,9 @@ read_so : (request : Result Request Refusal) (x : Request) → when_built reques
 read_so (Err r) x e = absurd cc
 read_so (Ok y) x e = ap (λ q. Ok q) (by_flag (needs_index y) (NotBuilt (codes "flag")) y x e)
 
-pub built : (query_in : ReadsQuery) (r : Route) (body : List ℕ) (x : Request) → built_request r body ≡ Ok x → request_of query_in r body ≡ Ok x
+pub built : (r : Route) (body : List ℕ) (x : Request) → built_request r body ≡ Ok x → request_of r body ≡ Ok x
 unfolding request_of
-built query_in route.AddObject body x e = read_so (request_of reads_query route.AddObject body) x e
-built query_in (route.SetObject object) body x e = read_so (request_of reads_query (route.SetObject object) body) x e
-built query_in route.AddField body x e = read_so (request_of reads_query route.AddField body) x e
-built query_in _ body x e = absurd cc
+built route.AddObject body x e = read_so (request_of route.AddObject body) x e
+built (route.SetObject object) body x e = read_so (request_of (route.SetObject object) body) x e
+built route.AddField body x e = read_so (request_of route.AddField body) x e
+built _ body x e = absurd cc

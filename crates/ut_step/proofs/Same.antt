@@ -1,7 +1,6 @@
 -- What is built is answered as the whole product answers it.
 use Rattle.std.proofs.Common.{◌≡◌, ℕ, zero, suc, Bool, true, false, not, ◌&&◌, cond, List, [], ◌∷◌, Option, Some, None, refl, sym, ap, subst, ◌∙◌}
 use Rattle.std.specs.Prelude.{Result, Ok, Err, codes}
-use Rattle.ut_query.specs.Asking.{asked_object}
 use Rattle.ut_query.specs.declared.query.Query.{Query}
 use Rattle.ut_model.specs.declared.caller.Caller.{Caller}
 use Rattle.ut_model.specs.declared.refusal.Refusal.{Refusal}
@@ -11,7 +10,7 @@ use Rattle.ut_model.specs.declared.route.Route.{Route}
 use Rattle.ut_model.specs.declared.route.Route.TheVariants as route
 use Rattle.ut_model.specs.declared.routed.Routed.{Routed}
 use Rattle.ut_model.specs.declared.routed.Routed.TheVariants.{To, NotFound, NotAllowed}
-use Rattle.ut_model.specs.Asking.{names_query}
+use Rattle.ut_model.specs.Asking.{asks_for_names}
 use Rattle.ut_model.specs.Callers.{Named, caller_of}
 use Rattle.ut_model.specs.Cases.{in_case}
 use Rattle.ut_model.specs.Jobs.{job_step, step_in}
@@ -25,14 +24,14 @@ use Rattle.ut_model.specs.Tenant.{Job, Tenant, User}
 use Rattle.ut_model.specs.Verdict.{Verdict, refuse}
 use Rattle.ut_model.specs.Whole.{answered_whole}
 use Rattle.ut_model.specs.World.{World, tenant_at, user_at, with_tenant}
-use Rattle.ut_step.specs.Built.{answer_built, answered, asking, built_request, built_verdict, is_built, names_verdict, needs_index, step, verdict_to, when_built}
-use Rattle.ut_step.specs.Queries.{reads_query}
-use Rattle.ut_step.specs.Whole.{IsBuilt, IsReadSo, NoJobs, whole_step}
+use Rattle.ut_step.specs.Built.{answer_built, answered, asking, built_request, background, built_verdict, is_built, needs_index, query_verdict, step, stepped, verdict_to, when_built}
+use Rattle.ut_soql_grammar.specs.Spelling.{reads_query}
+use Rattle.ut_step.specs.Whole.{IsBuilt, NoJobs, whole_step}
 
 -- an organisation without a job makes no step
-no_step : (t : Tenant) → t.job ≡ None → job_step t ≡ t
+same_background : (t : Tenant) → t.job ≡ None → background t ≡ job_step t
 unfolding job_step
-no_step t e = ap (λ (j : Option Job). in_case j t (λ j. step_in j.phase j t)) e
+same_background t e = sym (ap (λ (j : Option Job). in_case j t (λ j. step_in j.phase j t)) e)
 
 job_none : (w : World) (n : ℕ) (t : Tenant) → NoJobs w → tenant_at w n ≡ Some t → t.job ≡ None
 job_none w zero t none e = absurd cc
@@ -50,8 +49,8 @@ module _ (a : Asked) (body : List ℕ) where
   abbrev IsAllowed : Verdict → Type 0
   IsAllowed v = (reply_of a v.answer).status ≡ 501 → ⊥
 
-  same_request : (r : Route) → IsAllowed (verdict_or a (built_request r body)) → verdict_or a (built_request r body) ≡ verdict_or a (request_of reads_query r body)
-  same_request r ok = by (is_built r) (request_of reads_query r body) ok
+  same_request : (r : Route) → IsAllowed (verdict_or a (built_request r body)) → verdict_or a (built_request r body) ≡ verdict_or a (request_of r body)
+  same_request r ok = by (is_built r) (request_of r body) ok
     where
       flag : (b : Bool) (x : Request) → IsAllowed (verdict_or a (cond b (Err (refusal.NotBuilt (codes "flag"))) (Ok x)))
           → verdict_or a (cond b (Err (refusal.NotBuilt (codes "flag"))) (Ok x)) ≡ verdict_on a x
@@ -67,60 +66,56 @@ module _ (a : Asked) (body : List ℕ) where
       by true q ok = made q ok
       by false q ok = absurd (ok refl)
 
-  abbrev ReadsSo : Routed → Type 0
-  ReadsSo r =
-      (pairs object : List ℕ) → r ≡ To (route.Query pairs) → asked_object (query_text pairs) ≡ Some object → reads_query (query_text pairs) ≡ Ok (names_query object)
-
-  same_query : (pairs : List ℕ) → ReadsSo (To (route.Query pairs)) → (o : Option (List ℕ)) → asked_object (query_text pairs) ≡ o → IsAllowed (names_verdict a o)
-      → names_verdict a o ≡ verdict_or a (query_or (reads_query (query_text pairs)))
-  same_query pairs so None e ok = absurd (ok refl)
-  same_query pairs so (Some object) e ok = by a.user.admin ok
+  same_query : (q : Result Query ℕ) → IsAllowed (query_verdict a q) → query_verdict a q ≡ verdict_or a (query_or q)
+  same_query (Err place) ok = refl
+  same_query (Ok q) ok = by (asks_for_names q && a.user.admin) ok
     where
-      by : (b : Bool) → IsAllowed (cond b (verdict_or a (query_or (Ok (names_query object)))) (refuse a.tenant (refusal.NotBuilt (codes "query"))))
-          → cond b (verdict_or a (query_or (Ok (names_query object)))) (refuse a.tenant (refusal.NotBuilt (codes "query"))) ≡ verdict_or a (query_or (reads_query (query_text pairs)))
-      by true ok = ap (λ (q : Result Query ℕ). verdict_or a (query_or q)) (sym (so pairs object refl e))
+      by : (b : Bool) → IsAllowed (cond b (verdict_or a (query_or (Ok q))) (refuse a.tenant (refusal.NotBuilt (codes "query"))))
+          → cond b (verdict_or a (query_or (Ok q))) (refuse a.tenant (refusal.NotBuilt (codes "query"))) ≡ verdict_or a (query_or (Ok q))
+      by true ok = refl
       by false ok = absurd (ok refl)
 
-  same_route : (r : Route) → ReadsSo (To r) → IsAllowed (built_verdict a r body) → built_verdict a r body ≡ verdict_or a (request_of reads_query r body)
+  same_route : (r : Route) → IsAllowed (built_verdict a r body) → built_verdict a r body ≡ verdict_or a (request_of r body)
   unfolding request_of
-  same_route (route.Query pairs) so ok = same_query pairs so (asked_object (query_text pairs)) refl ok
-  same_route r so ok = same_request r ok
+  same_route (route.Query pairs) ok = same_query (reads_query (query_text pairs)) ok
+  same_route r ok = same_request r ok
 
-  same_verdict : (r : Routed) → ReadsSo r → IsAllowed (verdict_to a body r) → verdict_to a body r ≡ verdict_at reads_query a body r
-  same_verdict NotFound so ok = refl
-  same_verdict NotAllowed so ok = refl
-  same_verdict (To r) so ok = by (is_administration r && not a.user.admin) ok
+  same_verdict : (r : Routed) → IsAllowed (verdict_to a body r) → verdict_to a body r ≡ verdict_at a body r
+  same_verdict NotFound ok = refl
+  same_verdict NotAllowed ok = refl
+  same_verdict (To r) ok = by (is_administration r && not a.user.admin) ok
     where
       by : (b : Bool) → IsAllowed (cond b (refuse a.tenant refusal.AdminRequired) (built_verdict a r body))
-          → cond b (refuse a.tenant refusal.AdminRequired) (built_verdict a r body) ≡ cond b (refuse a.tenant refusal.AdminRequired) (verdict_or a (request_of reads_query r body))
+          → cond b (refuse a.tenant refusal.AdminRequired) (built_verdict a r body) ≡ cond b (refuse a.tenant refusal.AdminRequired) (verdict_or a (request_of r body))
       by true ok = refl
-      by false ok = same_route r so ok
+      by false ok = same_route r ok
 
-same_answer : (a : Asked) (m : Message) → a.tenant.job ≡ None → IsReadSo m → ((answer_built a m).0.status ≡ 501 → ⊥) → answer_built a m ≡ answer_to reads_query a m
-same_answer a m none so ok =
-    ap (λ (v : Verdict). (reply_of a v.answer, v.tenant)) (same_verdict a m.body (routed m.method m.target) so ok)
-    ∙ ap (λ (t : Tenant). let b : Asked = record a { tenant = t } in let v = verdict_at reads_query b m.body (routed m.method m.target) in (reply_of b v.answer, v.tenant)) (sym (no_step a.tenant none))
+same_answer : (a : Asked) (m : Message) → a.tenant.job ≡ None → ((answer_built a m).0.status ≡ 501 → ⊥) → answer_built a m ≡ answer_to a m
+same_answer a m none ok =
+    let b : Asked = stepped a in
+    ap (λ (v : Verdict). (reply_of b v.answer, v.tenant)) (same_verdict b m.body (routed m.method m.target) ok)
+    ∙ ap (λ (t : Tenant). let b : Asked = record a { tenant = t } in let v = verdict_at b m.body (routed m.method m.target) in (reply_of b v.answer, v.tenant)) (same_background a.tenant none)
 
 -- ---- the world
 
-pub same_step : (w : World) (m : Message) (now : ℕ) → NoJobs w → IsBuilt w m now → IsReadSo m → step w m now ≡ whole_step w m now
+pub same_step : (w : World) (m : Message) (now : ℕ) → NoJobs w → IsBuilt w m now → step w m now ≡ whole_step w m now
 unfolding step whole_step
-same_step w m now none ok so = by (named_in m) ok
+same_step w m now none ok = by (named_in m) ok
   where
     user : (t : Tenant) → t.job ≡ None → (o : Option User) → ((in_case o (refused refusal.InvalidSession t) (λ u. answer_built (asking t now u) m)).0.status ≡ 501 → ⊥)
-        → in_case o (refused refusal.InvalidSession t) (λ u. answer_built (asking t now u) m) ≡ in_case o (refused refusal.InvalidSession t) (λ u. answer_to reads_query (asking t now u) m)
+        → in_case o (refused refusal.InvalidSession t) (λ u. answer_built (asking t now u) m) ≡ in_case o (refused refusal.InvalidSession t) (λ u. answer_to (asking t now u) m)
     user t e None ok = refl
-    user t e (Some u) ok = same_answer (asking t now u) m e so ok
+    user t e (Some u) ok = same_answer (asking t now u) m e ok
 
-    called : (t : Tenant) → t.job ≡ None → (c : Option Caller) → ((if_called answered m now c t).0.status ≡ 501 → ⊥) → if_called answered m now c t ≡ if_called (answered_whole reads_query) m now c t
+    called : (t : Tenant) → t.job ≡ None → (c : Option Caller) → ((if_called answered m now c t).0.status ≡ 501 → ⊥) → if_called answered m now c t ≡ if_called answered_whole m now c t
     called t e None ok = refl
     called t e (Some c) ok = user t e (user_at t.users c.user) ok
 
     here : (n : Named) (o : Option Tenant) → tenant_at w n.org ≡ o → ((in_tenant w n.org (own answered n m now) o).0.status ≡ 501 → ⊥)
-        → in_tenant w n.org (own answered n m now) o ≡ in_tenant w n.org (own (answered_whole reads_query) n m now) o
+        → in_tenant w n.org (own answered n m now) o ≡ in_tenant w n.org (own answered_whole n m now) o
     here n None e ok = refl
     here n (Some t) e ok = ap (λ (r : Reply × Tenant). (r.0, with_tenant w n.org r.1)) (called t (job_none w n.org t none e) (caller_of n t) ok)
 
-    by : (o : Option Named) → ((in_named answered w m now o).0.status ≡ 501 → ⊥) → in_named answered w m now o ≡ in_named (answered_whole reads_query) w m now o
+    by : (o : Option Named) → ((in_named answered w m now o).0.status ≡ 501 → ⊥) → in_named answered w m now o ≡ in_named answered_whole w m now o
     by None ok = refl
     by (Some n) ok = here n (tenant_at w n.org) refl ok

@@ -1,9 +1,11 @@
 -- The step of the world by the routes that are built: the replies that are made, and what becomes of the world. What is built has
 -- the verdicts of the whole step (Whole); a request of any other route, and what needs rows that aren't written yet, is refused
--- with NOT_BUILT. No step of a change of a type is made yet, as no request begins one.
+-- with NOT_BUILT.
 -- Source of the query: Salesforce, REST API, "Query". What is built is this product's own.
-use Rattle.std.specs.Prelude.{ℕ, pos, Bool, true, false, not, ◌&&◌, ◌||◌, if◌then◌else◌, List, codes, Option, Some, None, Result, Ok, Err}
-use Rattle.ut_query.specs.Asking.{asked_object}
+use Rattle.std.specs.Prelude.{ℕ, pos, Bool, true, false, not, ◌&&◌, ◌||◌, if◌then◌else◌, List, codes, Result, Ok, Err}
+use Rattle.ut_query.specs.declared.query.Query.{Query}
+use Rattle.ut_soql_grammar.specs.Spelling.{reads_query}
+use Rattle.ut_query.specs.declared.query.Query.{Query}
 use Rattle.ut_model.specs.declared.refusal.Refusal.{Refusal}
 use Rattle.ut_model.specs.declared.refusal.Refusal.TheVariants as refusal
 use Rattle.ut_model.specs.declared.reply.Reply.{Reply}
@@ -11,7 +13,7 @@ use Rattle.ut_model.specs.declared.route.Route.{Route}
 use Rattle.ut_model.specs.declared.route.Route.TheVariants as route
 use Rattle.ut_model.specs.declared.routed.Routed.{Routed}
 use Rattle.ut_model.specs.declared.routed.Routed.TheVariants.{To, NotFound, NotAllowed}
-use Rattle.ut_model.specs.Asking.{names_query}
+use Rattle.ut_model.specs.Asking.{asks_for_names}
 use Rattle.ut_model.specs.Cases.{in_case}
 use Rattle.ut_model.specs.Paths.{Asked}
 use Rattle.ut_model.specs.Replies.{reply_of}
@@ -22,7 +24,6 @@ use Rattle.ut_model.specs.Step.{Answering, Message, query_text, refused, step_by
 use Rattle.ut_model.specs.Tenant.{Tenant, User}
 use Rattle.ut_model.specs.Verdict.{Verdict, refuse}
 use Rattle.ut_model.specs.World.{World, user_at}
-use Rattle.ut_step.specs.Queries.{reads_query}
 
 -- ---- requests of administrators
 
@@ -45,21 +46,21 @@ when_built (Ok request) = if needs_index request then Err (refusal.NotBuilt (cod
 
 -- the request that a route and a body make; its form is judged first, and then whether it is built
 abbrev pub built_request : Route → (body : List ℕ) → Result Request Refusal
-built_request r body = if is_built r then when_built (request_of reads_query r body) else Err (refusal.NotBuilt (codes "route"))
+built_request r body = if is_built r then when_built (request_of r body) else Err (refusal.NotBuilt (codes "route"))
 
 -- ---- queries
 
 -- of queries, those for ids and names are built, of administrators
-abbrev pub names_verdict : Asked → Option (List ℕ) → Verdict
-names_verdict a None = refuse a.tenant (refusal.NotBuilt (codes "query"))
-names_verdict a (Some object) =
-    if a.user.admin then verdict_on a (asks (names_query object)) else refuse a.tenant (refusal.NotBuilt (codes "query"))
+abbrev pub query_verdict : Asked → Result Query ℕ → Verdict
+query_verdict a (Err place) = refuse a.tenant (refusal.MalformedQuery place)
+query_verdict a (Ok q) =
+    if asks_for_names q && a.user.admin then verdict_on a (asks q) else refuse a.tenant (refusal.NotBuilt (codes "query"))
 
 -- ---- a caller's message
 
 -- what a request comes to
 abbrev pub built_verdict : Asked → Route → (body : List ℕ) → Verdict
-built_verdict a (route.Query pairs) body = names_verdict a (asked_object (query_text pairs))
+built_verdict a (route.Query pairs) body = query_verdict a (reads_query (query_text pairs))
 built_verdict a r body = verdict_or a (built_request r body)
 
 -- no such path, another method, no administrator; then the request itself
@@ -72,9 +73,20 @@ verdict_to a body (To r) = if is_administration r && not a.user.admin then refus
 abbrev pub asking : Tenant → ℕ → User → Asked
 asking t now u = record { tenant = t; user = u; now = pos now }
 
+-- what is done in the organisation before a request is judged. No step of a change of a type is made yet, as no request begins one
+abbrev pub background : Tenant → Tenant
+background t = t
+
+-- the same user, once that is done
+abbrev pub stepped : Asked → Asked
+stepped a = record a { tenant = background a.tenant }
+
 -- the reply to a user's message, and the organisation after it
 abbrev pub answer_built : Asked → Message → Reply × Tenant
-answer_built a m = let v = verdict_to a m.body (routed m.method m.target) in (reply_of a v.answer, v.tenant)
+answer_built a m =
+    let b = stepped a in
+    let v = verdict_to b m.body (routed m.method m.target) in
+    (reply_of b v.answer, v.tenant)
 
 -- what a caller's message is answered at this moment, and what becomes of the organisation
 abbrev pub answered : Answering

@@ -1,3 +1,3 @@
-pub mod Queries
 pub mod Built
 pub mod Whole
+pub mod Worked

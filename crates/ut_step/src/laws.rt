@@ -1,22 +1,21 @@
 //! What holds of the step of the world, for the layers above.
 
-ghost use Rattle.std.specs.Prelude.{◌≡◌, ◌≢◌, ℕ, List, ◌∷◌, [], IsSome, Option, Some, None, Ok, Err, codes};
-ghost use Rattle.sha2.specs.Sha256.{sha256};
-ghost use Rattle.ut_query.specs.Asking.{asked_object};
+ghost use Rattle.std.specs.Prelude.{◌≡◌, ℕ, List, [], Some, None, Ok, codes, true, false};
+ghost use Rattle.std.specs.Option.{option_map};
 ghost use Rattle.ut_model.specs.declared.caller.Caller.{Caller};
 ghost use Rattle.ut_model.specs.declared.refusal.Refusal.TheVariants as refusal;
 ghost use Rattle.ut_model.specs.declared.route.Route.{Route};
-ghost use Rattle.ut_model.specs.Asking.{names_query};
+ghost use Rattle.ut_model.specs.Asking.{asks_for_names};
 ghost use Rattle.ut_model.specs.Callers.{IsUser};
-ghost use Rattle.ut_model.specs.Organisations.{with_org};
-ghost use Rattle.ut_model.specs.RequestOf.{ReadsQuery, request_of};
+ghost use Rattle.ut_model.specs.RequestOf.{request_of};
 ghost use Rattle.ut_model.specs.Requests.{Request};
 ghost use Rattle.ut_model.specs.Step.{Message, caller_by, in_org, org_named, refusal_reply};
 ghost use Rattle.ut_model.specs.Tenant.{Tenant, User};
 ghost use Rattle.ut_model.specs.World.{World, tenant_at, with_tenant};
 ghost use Rattle.ut_step.specs.Built.{answer_built, answered, asking, built_request, step};
-ghost use Rattle.ut_step.specs.Queries.{reads_query};
-ghost use Rattle.ut_step.specs.Whole.{IsBuilt, IsReadSo, NoJobs, whole_step};
+ghost use Rattle.ut_soql_grammar.specs.Spelling.{query_in};
+ghost use Rattle.ut_step.specs.Whole.{IsBuilt, NoJobs, whole_step};
+ghost use Rattle.ut_step.specs.Worked.{acme, asks_by};
 
 use ut_model::answering_laws;
 
@@ -28,9 +27,9 @@ pub fn step_laws()
     ensures uncalled { (w : World) (m : Message) (now : ℕ) → caller_by w m ≡ None
         → step w m now ≡ (refusal_reply refusal.InvalidSession, w) }
 
-    // What is built is the request of the whole step, however queries are read.
-    ensures built { (query_in : ReadsQuery) (r : Route) (body : List ℕ) (x : Request) → built_request r body ≡ Ok x
-        → request_of query_in r body ≡ Ok x }
+    // What is built is the request of the whole step.
+    ensures built { (r : Route) (body : List ℕ) (x : Request) → built_request r body ≡ Ok x
+        → request_of r body ≡ Ok x }
 
     // A caller is a user of an organisation, and the message is answered as this user's.
     ensures user { (w : World) (m : Message) (c : Caller) → caller_by w m ≡ Some c → (t : Tenant) × (u : User) × IsUser w c t u }
@@ -53,7 +52,7 @@ pub fn step_laws()
 /// That what is built is the whole product, as far as it goes. The call does nothing.
 pub fn whole_laws()
     // Where no organisation changes a type, what is built is answered as the whole product answers it.
-    ensures whole { (w : World) (m : Message) (now : ℕ) → NoJobs w → IsBuilt w m now → IsReadSo m
+    ensures whole { (w : World) (m : Message) (now : ℕ) → NoJobs w → IsBuilt w m now
         → step w m now ≡ whole_step w m now }
 {}
 
@@ -61,25 +60,27 @@ pub fn whole_laws()
 pub fn step_rows()
     ensures no_key { step [] (record { method = codes "GET"; target = codes "/x"; bearer = None; body = [] }) 0
         ≡ (refusal_reply refusal.InvalidSession, []) }
-    ensures no_object { (let w : World = with_org [] (codes "Acme") (sha256 (codes "abc!d")) in
-        step w (record {
-          method = codes "GET";
-          target = codes "/services/data/v59.0/query?q=SELECT+Id,Name+FROM+Deal__c";
-          bearer = Some (codes "00D000000000001!005000000000000AAA!abc!d");
-          body = [];
-        }) 0
-        ≡ (refusal_reply (refusal.InvalidType (codes "Deal__c")), w)) }
+    ensures no_object { step acme (asks_by (codes "q=SELECT+Id,Name+FROM+Deal__c")) 0
+        ≡ (refusal_reply (refusal.InvalidType (codes "Deal__c")), acme) }
+
+    // A word of the language is no name; other queries aren't built.
+    ensures no_query { step acme (asks_by (codes "q=SELECT+Id,Name+FROM+Limit")) 0
+        ≡ (refusal_reply (refusal.MalformedQuery 20), acme) }
+    ensures other_query { step acme (asks_by (codes "q=SELECT+Id+FROM+Deal__c")) 0
+        ≡ (refusal_reply (refusal.NotBuilt (codes "query")), acme) }
 {
     answering_laws();
 }
 
-/// Texts of queries, by the grammar and by their tokens alone. Each was worked out by hand. The call does nothing.
+/// Which queries are for ids and names, worked by hand. The call does nothing.
 pub fn query_rows()
-    // A query that is known by its tokens is the one that the grammar reads, ..
-    ensures read { reads_query (codes "SELECT Id, Name FROM Deal__c") ≡ Ok (names_query (codes "Deal__c")) }
-    ensures asked { asked_object (codes "SELECT Id, Name FROM Deal__c") ≡ Some (codes "Deal__c") }
-
-    // .. but where the object is a word of the language, which the grammar refuses at the object's place.
-    ensures word { reads_query (codes "SELECT Id, Name FROM Limit") ≡ Err 21 }
-    ensures asked_word { asked_object (codes "SELECT Id, Name FROM Limit") ≡ Some (codes "Limit") }
+    ensures named { option_map asks_for_names (query_in (codes "select id, NAME from deal__C")) ≡ Some true }
+    ensures turned { option_map asks_for_names (query_in (codes "SELECT Name, Id FROM Deal__c")) ≡ Some false }
+    ensures one { option_map asks_for_names (query_in (codes "SELECT Id FROM Deal__c")) ≡ Some false }
+    ensures path { option_map asks_for_names (query_in (codes "SELECT Id, Account__r.Name FROM Deal__c")) ≡ Some false }
+    ensures test { option_map asks_for_names (query_in (codes "SELECT Id, Name FROM Deal__c WHERE Name = NULL")) ≡ Some false }
+    ensures order { option_map asks_for_names (query_in (codes "SELECT Id, Name FROM Deal__c ORDER BY Name")) ≡ Some false }
+    ensures limit { option_map asks_for_names (query_in (codes "SELECT Id, Name FROM Deal__c LIMIT 1")) ≡ Some false }
+    ensures offset { option_map asks_for_names (query_in (codes "SELECT Id, Name FROM Deal__c OFFSET 1")) ≡ Some false }
+    ensures word { query_in (codes "SELECT Id, Name FROM Limit") ≡ None }
 {}

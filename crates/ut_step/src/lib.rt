@@ -1,6 +1,6 @@
 //! The step of the world: by the routes that are built, and by all.
 //!
-//! It depends on `ut_model`, which has the verdicts, and on `ut_soql` and `ut_grammar`, by whose definitions queries are read.
+//! It depends on `ut_model`, which has the verdicts, and on `ut_soql_grammar`, by which queries are read.
 //! Its contract: the step is a function of the organisation that the message's key names, and where no organisation changes a
 //! type, what is built is answered as the whole product answers it.
 #![tactic(auto)]

@@ -8,33 +8,20 @@ use Rattle.std.proofs.lemmas.List.Folds.{list_all-append}
 use Rattle.std.proofs.lemmas.Bool.{eq-eqb, eqb-true}
 use Rattle.csv.specs.Machine.{Read, next_record}
 use Rattle.csv.specs.Records.{AllText}
-use Rattle.csv.specs.Reading.{ExplainsRead, NextIs, Reached, ReadsNext, TookRecord, default_config, pending_of, records, source_of, strip_bom}
+use Rattle.csv.specs.Reading.{NextIs, Reached, ReadsNext, TookRecord, default_config, pending_of, records, source_of, strip_bom}
 use Rattle.csv.specs.declared.reader.Reader.{Reader}
 use Rattle.csv.specs.declared.parser.Config.{Config}
 use Rattle.csv.specs.declared.parser.State.{State}
 use Rattle.csv.specs.declared.parser.State.TheVariants as st
-use Rattle.csv.specs.declared.error.ErrorKind.{ErrorKind}
-use Rattle.csv.specs.declared.error.ErrorKind.TheVariants as kind
 use Rattle.csv.proofs.ReadFacts.{reached-more}
 use Rattle.ut_table.specs.Table.{begins_with_two_marks, first_refused, first_unfit, fits, is_text, table_of}
-use Rattle.ut_table.specs.inner.Kinds.{MatchesKind}
-use Rattle.ut_table.specs.declared.fail.TableFail.{TableFail}
-use Rattle.ut_table.specs.declared.fail.TableFail.TheVariants.{Memory, Refused}
-use Rattle.ut_table.proofs.Records.{reached-records}
-
--- the number of cells that a record after these has to have, if there is a heading
-abbrev pub width : List (List (List ℕ)) → Option ℕ
-width [] = None
-width (heading ∷ rows) = Some (length heading)
+use Rattle.ut_table.specs.inner.Standing.{all_fit, width}
+use Rattle.ut_table.proofs.Taken.{reached-records}
 
 -- whether a record fits after these
 abbrev pub fits_after : List (List (List ℕ)) → List (List ℕ) → Bool
 fits_after [] cells = fits cells cells
 fits_after (heading ∷ rows) cells = fits heading cells
-
-abbrev pub all_fit : List (List (List ℕ)) → Bool
-all_fit [] = true
-all_fit (heading ∷ rows) = list_all (fits heading) (heading ∷ rows)
 
 -- text, as a test and as csv says it
 pub text-is : (cells : List (List ℕ)) → AllText cells → is_text cells ≡ true
@@ -58,7 +45,7 @@ no-text cells h = by (is_text cells) refl
     by true e = absurd (h (is-text cells e))
     by false e = e
 
-other-width : (a b : ℕ) → a ≢ b → nat_eq b a ≡ false
+pub other-width : (a b : ℕ) → a ≢ b → nat_eq b a ≡ false
 other-width a b h = by (nat_eq b a) refl
   where
     by : (t : Bool) → nat_eq b a ≡ t → nat_eq b a ≡ false
@@ -80,18 +67,6 @@ unfit-width (heading ∷ rows) cells expected e h =
     let same : length heading ≡ expected = cc e in
     let other : nat_eq (length cells) (length heading) ≡ false = other-width (length heading) (length cells) (λ q. h (sym same ∙ q)) in
     rw (other) (both-false (is_text cells))
-
--- an error of a record tells its number, and that it doesn't fit
-pub told : {R : Type 0} (rem : R → Option (List ℕ)) (a b : Reader R) (k : ErrorKind) (fail : TableFail) (rows : List (List (List ℕ))) (place row : ℕ)
-    → a.expected ≡ width rows → ExplainsRead rem a b true k → MatchesKind k (fail ≡ Refused place) (fail ≡ Memory) → fail ≡ Refused row
-    → (row ≡ place) × (fields : List (List ℕ)) × TookRecord rem a b fields × (fits_after rows fields ≡ false)
-told rem a b (kind.Utf8 pos err) fail rows place row w h s r = (cc (s, r), h.1, h.2, unfit-text rows h.1 h.3)
-told rem a b (kind.UnequalLengths pos expected len) fail rows place row w h s r =
-    (cc (s, r), h.3, h.4, unfit-width rows h.3 expected (sym w ∙ h.1) (λ q. h.2 (q ∙ h.5)))
-told rem a b (kind.Io e) fail rows place row w h s r = cc (s, r)
-told rem a b kind.OutOfMemory fail rows place row w h s r = cc (s, r)
-told rem a b (kind.Serialize why) fail rows place row w h s r = absurd h
-told rem a b (kind.Deserialize pos err) fail rows place row w h s r = absurd h
 
 took-next : (cfg : Config) (s0 a b : State) (xs y : List ℕ) (rows : List (List (List ℕ))) (f : List (List ℕ)) (k : Option (List ℕ))
     → ReadsNext cfg a (Some y) k true f b → Reached cfg s0 xs rows a y

@@ -1,2 +1,4 @@
 -- Words of private functions' contracts alone.
 pub mod Kinds
+pub mod Spots
+pub mod Standing

@@ -9,9 +9,14 @@ use thiserror::Error;
 pub enum TableFail {
     /// A record isn't UTF-8 or has another number of cells than the heading; `row` is the number of the first such
     /// record, 0 for the heading. It is also 0 where there is no record, and where the source begins with two byte
-    /// order marks.
+    /// order marks. `line` is that in which the record begins, and `column` that of its first cell which is missing, too
+    /// many or not UTF-8, both from 1.
     #[error("record {row} is refused")]
-    Refused { row: usize },
+    Refused {
+        row: usize,
+        line: usize,
+        column: usize,
+    },
     #[error("out of memory")]
     Memory,
 }

@@ -53,7 +53,7 @@ both : (a b : Bool) → (a && b) ≡ true → (a ≡ true) × (b ≡ true)
 both true b h = (refl, h)
 both false b h = absurd cc
 
-moment_bounds : (second : ℤ) → is_moment second ≡ true → (first_moment ≤ℤ second) × (second ≤ℤ last_moment)
+pub moment_bounds : (second : ℤ) → is_moment second ≡ true → (first_moment ≤ℤ second) × (second ≤ℤ last_moment)
 moment_bounds second h =
     let p = both (int_le first_moment second) (int_le second last_moment) h in
     (omega (arith, signed_arith), omega (arith, signed_arith))

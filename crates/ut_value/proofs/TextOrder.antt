@@ -26,22 +26,22 @@ four_turns Equal b c d e = three_turns b c d e
 four_turns Greater b c d e = refl
 
 -- ---- the bytes of a character, by how many there are
-data Size (x : ℕ) : Type 0 where
+pub data Size (x : ℕ) : Type 0 where
   one : x < 128 → Size x
   two : 128 ≤ x → x < 2048 → Size x
   three : 2048 ≤ x → x < 65536 → Size x
   four : 65536 ≤ x → Size x
 
-size_of : (x : ℕ) → Size x
+pub size_of : (x : ℕ) → Size x
 size_of x = ⊎_elim (λ h. one h) (λ g. ⊎_elim (λ h. two g h) (λ k. ⊎_elim (λ h. three k h) (λ l. four l) (cases_lt x 65536)) (cases_lt x 2048)) (cases_lt x 128)
 
-abbrev spelled : (x : ℕ) → Size x → List ℕ
+abbrev pub spelled : (x : ℕ) → Size x → List ℕ
 spelled x (one h) = x ∷ []
 spelled x (two g h) = (192 + x / 64) ∷ (128 + x % 64) ∷ []
 spelled x (three g h) = (224 + x / 4096) ∷ (128 + x / 64 % 64) ∷ (128 + x % 64) ∷ []
 spelled x (four g) = (240 + x / 262144) ∷ (128 + x / 4096 % 64) ∷ (128 + x / 64 % 64) ∷ (128 + x % 64) ∷ []
 
-encode_is : (x : ℕ) (s : Size x) → encode x ≡ spelled x s
+pub encode_is : (x : ℕ) (s : Size x) → encode x ≡ spelled x s
 unfolding encode
 encode_is x (one h) = rw (lt-ltb x 128 h) refl
 encode_is x (two g h) = rw (le-ltb x 128 g, lt-ltb x 2048 h) refl

@@ -109,7 +109,7 @@ no_choice [] a h = absurd cc
 no_choice ([] ∷ values) a h = absurd cc
 no_choice ((c ∷ cs) ∷ values) a h = no_choice values (both (is_choice (c ∷ cs)) (list_all is_choice values) a).1 h
 
-choices : (values : List (List ℕ)) → is_type (type.Picklist values) ≡ true → list_all is_choice values ≡ true
+pub choices : (values : List (List ℕ)) → is_type (type.Picklist values) ≡ true → list_all is_choice values ≡ true
 choices values t =
     let rest = (both (is_within 1 100 (length values)) (list_all is_choice values && texts_differ values) t).1 in
     (both (list_all is_choice values) (texts_differ values) rest).0
@@ -144,15 +144,15 @@ printed_reads (type.Master object) (value.Ref id) t h = back_by (type.Master obj
 printed_reads _ _ t h = absurd cc
 
 -- ---- valid values have texts
-day_of_kind : (kind : FieldType) (day : ℤ) → valid kind (value.Day day) ≡ true → is_day day ≡ true
+pub day_of_kind : (kind : FieldType) (day : ℤ) → valid kind (value.Day day) ≡ true → is_day day ≡ true
 day_of_kind type.Day day h = h
 day_of_kind _ day h = absurd cc
 
-moment_of_kind : (kind : FieldType) (second : ℤ) → valid kind (value.Moment second) ≡ true → is_moment second ≡ true
+pub moment_of_kind : (kind : FieldType) (second : ℤ) → valid kind (value.Moment second) ≡ true → is_moment second ≡ true
 moment_of_kind type.Moment second h = h
 moment_of_kind _ second h = absurd cc
 
-id_of_kind : (kind : FieldType) (id : List ℕ) → valid kind (value.Ref id) ≡ true → is_id id ≡ true
+pub id_of_kind : (kind : FieldType) (id : List ℕ) → valid kind (value.Ref id) ≡ true → is_id id ≡ true
 id_of_kind (type.Lookup object on_delete) id h = h
 id_of_kind (type.Master object) id h = h
 id_of_kind _ id h = absurd cc
@@ -180,12 +180,12 @@ choice_scalars (x ∷ values) cs a h = by (bytes_eq cs x) refl h (λ k. choice_s
     by true e h rest = ap all_scalars ((bytes_eq-Decides cs x).0 e) ∙ first
     by false e h rest = rest h
 
-text_scalars : (kind : FieldType) (cs : List ℕ) → is_type kind ≡ true → valid kind (value.Text cs) ≡ true → all_scalars cs ≡ true
+pub text_scalars : (kind : FieldType) (cs : List ℕ) → is_type kind ≡ true → valid kind (value.Text cs) ≡ true → all_scalars cs ≡ true
 text_scalars (type.Text most) cs t h = (both (all_scalars cs) (is_within 1 most (length cs)) h).0
 text_scalars (type.Picklist values) cs t h = choice_scalars values cs (choices values t) h
 text_scalars _ cs t h = absurd cc
 
-print_scalars : (kind : FieldType) (v : Value) → is_type kind ≡ true → valid kind v ≡ true → all_scalars (print_value v) ≡ true
+pub print_scalars : (kind : FieldType) (v : Value) → is_type kind ≡ true → valid kind v ≡ true → all_scalars (print_value v) ≡ true
 print_scalars kind value.Null t h = refl
 print_scalars kind (value.Text cs) t h = text_scalars kind cs t h
 print_scalars kind (value.Num count) t h = ascii_scalars (print_number count) (number_ascii count)

@@ -30,7 +30,7 @@ key_order (value.Bool true) (value.Bool false) f g = refl
 key_order (value.Bool true) (value.Bool true) f g = refl
 key_order a b f g = refl
 
-lists_equal : (xs ys : List ℕ) → slice_cmp nat_cmp xs ys ≡ Equal → xs ≡ ys
+pub lists_equal : (xs ys : List ℕ) → slice_cmp nat_cmp xs ys ≡ Equal → xs ≡ ys
 lists_equal xs ys e = (bytes_decides xs ys).0 (texts_ties xs ys ∙ ap is_eq e)
 
 pub same_keys : (a b : Value) → Fits a → Fits b → (order_key a ≡ order_key b) ↔ IsTrue (equal a b)

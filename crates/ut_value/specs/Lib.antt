@@ -1,3 +1,5 @@
+pub mod Bytes
+pub mod Principals
 pub mod Causes
 pub mod Digits
 pub mod Id

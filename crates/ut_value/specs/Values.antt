@@ -1,6 +1,6 @@
 -- Validity and comparison of values.
 -- Source of the kinds: Salesforce, "Field Types". The limits are this product's own.
-use Rattle.std.specs.Prelude.{ℕ, ◌+◌, ◌-◌, ◌^◌, ◌%◌, Bool, true, false, ◌&&◌, ◌==◌, nat_lt, if◌then◌else◌, length, bytes_eq, ℤ, unsigned_abs}
+use Rattle.std.specs.Prelude.{ℕ, ◌+◌, ◌-◌, ◌^◌, ◌%◌, Bool, true, false, ◌&&◌, ◌==◌, nat_lt, if◌then◌else◌, List, length, Option, Some, None, bytes_eq, ℤ, unsigned_abs}
 use Rattle.std.specs.List.{list_any}
 use Rattle.std.specs.Str.{all_scalars}
 use Rattle.std.specs.declared.cmp.Ordering.{Ordering}
@@ -82,3 +82,9 @@ same_value (value.Moment a) (value.Moment b) = int_eq a b
 same_value (value.Ref a) (value.Ref b) = bytes_eq a b
 same_value (value.Bool a) (value.Bool b) = beq a b
 same_value _ _ = false
+
+-- ---- references
+-- the id that a reference names
+abbrev pub ref_of : Value → Option (List ℕ)
+ref_of (value.Ref id) = Some id
+ref_of _ = None

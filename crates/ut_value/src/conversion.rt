@@ -11,7 +11,7 @@ ghost use Rattle.ut_value.specs.declared.fail.ConvertFail.TheVariants as fail;
 ghost use Rattle.ut_value.specs.declared.value.FieldType.TheVariants as type;
 
 use crate::count::is_number;
-use crate::date_text::day_of_moment;
+use crate::date_text::day_of_valid_moment;
 use crate::fail::{ConvertFail, ValueFail};
 use crate::printing::print_value;
 use crate::reading::{empty_value, read_value};
@@ -122,7 +122,7 @@ pub fn convert(
         }
         (Value::Num(count), FieldType::Checkbox) => converted(truth_of(*count)),
         (Value::Day(day), FieldType::Moment) => Ok(Value::Moment(i64::from(*day) * 86_400)),
-        (Value::Moment(second), FieldType::Day) => Ok(Value::Day(day_of_moment(*second))),
+        (Value::Moment(second), FieldType::Day) => Ok(Value::Day(day_of_valid_moment(*second))),
         _ => by_text(alloc, to, value),
     }
 }

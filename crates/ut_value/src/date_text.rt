@@ -64,13 +64,20 @@ pub(crate) fn moment_text(alloc: Global, second: i64) -> Result<String, AllocErr
     requires { IsTrue (is_moment second) }
     ensures { IfOk result (λ text. string_bytes text ≡ print_moment second) }
 {
-    let day = day_text(alloc, day_of_moment(second))?;
+    let day = day_text(alloc, day_of_valid_moment(second))?;
     let clock = clock_text(alloc, second.rem_euclid(DAY) as u32)?;
     format!(in alloc; "{day}T{clock}.000+0000")
 }
 
-/// The day of a moment, in UTC.
-pub(crate) fn day_of_moment(second: i64) -> i32
+/// The day of a moment, in UTC: both are counted from 1970-01-01, and any moment has a day.
+pub fn day_of_moment(second: i64) -> i64
+    ensures { result ≡ day_of_moment second }
+{
+    second.div_euclid(DAY)
+}
+
+/// The day of a moment of the years 0001 to 9999.
+pub(crate) fn day_of_valid_moment(second: i64) -> i32
     requires { IsTrue (is_moment second) }
     ensures value { result ≡ day_of_moment second }
     ensures day { IsTrue (is_day result) }

@@ -1,5 +1,7 @@
-ghost use Rattle.std.specs.Prelude.{◌≡◌, ◌++◌, IfOk, OnOk, encode_utf8_all};
+ghost use Rattle.std.specs.Prelude.{◌≡◌, ◌++◌, IfOk, IsTrue, OnOk, encode_utf8_all};
+ghost use Rattle.std.specs.Str.{all_scalars, chars};
 ghost use Rattle.caseless.specs.Caseless.{default_case_fold};
+ghost use Rattle.ut_value.specs.Bytes.{IsBytes};
 ghost use Rattle.ut_value.specs.OrderKeys.{order_key, ordered_bytes, raised};
 ghost use Rattle.ut_value.specs.Texts.{text_cmp};
 ghost use Rattle.ut_value.specs.Values.{cmp, kind_place, same_value};
@@ -7,27 +9,33 @@ ghost use Rattle.ut_value.specs.Values.{cmp, kind_place, same_value};
 use crate::bytes::Bytes;
 use crate::text::Text;
 use crate::value::Value;
-use caseless::default_case_fold_str;
+use caseless::{Caseless, default_case_fold_str};
 use std::alloc::{AllocError, Global};
 use std::cmp::Ordering;
 
+/// The order of two texts: that of their folded characters, by number. It takes no memory.
+pub fn text_order(a: &str, b: &str) -> Ordering
+    ensures { result ≡ text_cmp (chars a.now) (chars b.now) }
+{
+    a.chars()
+        .default_case_fold()
+        .cmp(b.chars().default_case_fold())
+}
+
 /// The order of two values: null first, texts by their folded characters, numbers, days and moments by size, ids by
-/// bytes, false before true. Values of different kinds, which no field has, are ordered by their kinds.
-///
-/// # Errors
-///
-/// If out of memory.
-pub fn order(alloc: Global, a: &Value, b: &Value) -> Result<Ordering, AllocError>
-    ensures { IfOk result (λ o. o ≡ cmp a.now b.now) }
+/// bytes, false before true. Values of different kinds, which no field has, are ordered by their kinds. It takes no
+/// memory.
+pub fn order(a: &Value, b: &Value) -> Ordering
+    ensures { result ≡ cmp a.now b.now }
 {
     match (a, b) {
-        (Value::Text(a), Value::Text(b)) => text_order(alloc, a, b),
-        (Value::Num(a), Value::Num(b)) => Ok(a.cmp(b)),
-        (Value::Day(a), Value::Day(b)) => Ok(a.cmp(b)),
-        (Value::Moment(a), Value::Moment(b)) => Ok(a.cmp(b)),
-        (Value::Ref(a), Value::Ref(b)) => Ok(a.as_bytes().cmp(b.as_bytes())),
-        (Value::Bool(a), Value::Bool(b)) => Ok(a.cmp(b)),
-        _ => Ok(kind_place(a).cmp(&kind_place(b))),
+        (Value::Text(a), Value::Text(b)) => text_order(a.as_str(), b.as_str()),
+        (Value::Num(a), Value::Num(b)) => a.cmp(b),
+        (Value::Day(a), Value::Day(b)) => a.cmp(b),
+        (Value::Moment(a), Value::Moment(b)) => a.cmp(b),
+        (Value::Ref(a), Value::Ref(b)) => a.cmp(b),
+        (Value::Bool(a), Value::Bool(b)) => a.cmp(b),
+        _ => kind_place(a).cmp(&kind_place(b)),
     }
 }
 
@@ -45,14 +53,6 @@ pub fn same_value(a: &Value, b: &Value) -> bool
         (Value::Bool(a), Value::Bool(b)) => a == b,
         _ => false,
     }
-}
-
-fn text_order(alloc: Global, a: &Text, b: &Text) -> Result<Ordering, AllocError>
-    ensures { IfOk result (λ o. o ≡ text_cmp a.now b.now) }
-{
-    let a = default_case_fold_str(alloc, a.as_str())?;
-    let b = default_case_fold_str(alloc, b.as_str())?;
-    Ok(a.as_str().cmp(b.as_str()))
 }
 
 // The place of a value's kind in the order of kinds.
@@ -77,7 +77,8 @@ fn kind_place(value: &Value) -> u8
 /// If out of memory.
 #[tactic(auto, unfolding(crate::specs::OrderKeys::order_key))]
 pub fn order_key(alloc: Global, value: &Value) -> Result<Bytes, AllocError>
-    ensures { IfOk result (λ key. key ≡ order_key value.now) }
+    ensures key { IfOk result (λ key. key ≡ order_key value.now) }
+    ensures bytes { IfOk result IsBytes }
 {
     let mut key = Vec::new(alloc);
     key.push(kind_place(value))?;
@@ -86,7 +87,8 @@ pub fn order_key(alloc: Global, value: &Value) -> Result<Bytes, AllocError>
 }
 
 fn put_ordered(alloc: Global, key: &mut Vec<u8>, value: &Value) -> Result<(), AllocError>
-    ensures { OnOk result (key.new.items ≡ key.old.items ++ ordered_bytes value.now) }
+    ensures key { OnOk result (key.new.items ≡ key.old.items ++ ordered_bytes value.now) }
+    ensures bytes { OnOk result (IsBytes (order_key value.now)) }
 {
     match value {
         Value::Null => {}
@@ -101,7 +103,8 @@ fn put_ordered(alloc: Global, key: &mut Vec<u8>, value: &Value) -> Result<(), Al
 }
 
 fn put_folded(alloc: Global, key: &mut Vec<u8>, text: &Text) -> Result<(), AllocError>
-    ensures { OnOk result (key.new.items ≡ key.old.items ++ encode_utf8_all (default_case_fold text.now)) }
+    ensures key { OnOk result (key.new.items ≡ key.old.items ++ encode_utf8_all (default_case_fold text.now)) }
+    ensures scalars { OnOk result (IsTrue (all_scalars text.now)) }
 {
     let folded = default_case_fold_str(alloc, text.as_str())?;
     key.extend_from_slice(folded.as_str().as_bytes())?;

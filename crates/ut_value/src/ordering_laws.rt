@@ -3,16 +3,20 @@ ghost use Rattle.std.specs.Cmp.{IsTotalOrder};
 ghost use Rattle.std.specs.Cmp.Lexicographic.{slice_cmp};
 ghost use Rattle.std.specs.Ordering.{nat_cmp};
 ghost use Rattle.std.specs.declared.cmp.Ordering.TheVariants.{Less, Equal};
+ghost use Rattle.ut_value.specs.Bytes.{IsBytes};
 ghost use Rattle.ut_value.specs.OrderKeys.{Fits, order_key};
-ghost use Rattle.ut_value.specs.Values.{cmp, equal};
+ghost use Rattle.ut_value.specs.Types.{is_type};
+ghost use Rattle.ut_value.specs.Values.{cmp, equal, valid};
+ghost use Rattle.ut_value.specs.declared.value.FieldType.{FieldType};
 ghost use Rattle.ut_value.specs.declared.value.Value.{Value};
 ghost use Rattle.ut_value.specs.declared.value.Value.TheVariants as value;
 
-/// Order keys are ordered as their values, and equal exactly where these are. The order of values is total. The call
-/// does nothing.
+/// Order keys are bytes, ordered as their values, and equal exactly where these are. The order of values is total. The
+/// call does nothing.
 pub fn order_laws()
     ensures ordered { (a b : Value) → Fits a → Fits b → slice_cmp nat_cmp (order_key a) (order_key b) ≡ cmp a b }
     ensures same { (a b : Value) → Fits a → Fits b → (order_key a ≡ order_key b) ↔ IsTrue (equal a b) }
+    ensures bytes { (kind : FieldType) (v : Value) → IsTrue (is_type kind) → IsTrue (valid kind v) → IsBytes (order_key v) }
     ensures total { IsTotalOrder cmp }
 {}
 

@@ -15,7 +15,7 @@ use crate::count::read_number;
 use crate::dates::{read_day, read_moment};
 use crate::fail::ValueFail;
 use crate::id::Id;
-use crate::text::{Text, character_count};
+use crate::text::{Text, character_count, is_text};
 use crate::value::{FieldType, Value};
 use sqlite_items::Items;
 use std::alloc::{AllocError, Global};
@@ -27,7 +27,8 @@ fn characters(alloc: Global, text: &str) -> Result<Vec<char>, AllocError>
     text.chars().collect(alloc)
 }
 
-pub(crate) fn empty_value(kind: &FieldType) -> Value
+/// The value that the empty text reads as in a type: null, and false for `Checkbox`.
+pub fn empty_value(kind: &FieldType) -> Value
     ensures { result ≡ empty_value kind.now }
 {
     match kind {
@@ -46,18 +47,11 @@ fn read_text(alloc: Global, most: u8, text: &str) -> Result<Value, ValueFail>
     }
 }
 
-// Whether these are the same characters.
-fn is_text(text: &str, value: &Text) -> bool
-    ensures { result ≡ bytes_eq (chars text.now) value.now }
-{
-    value.as_str() == text
-}
-
 /// Whether a text is one of these.
 pub(crate) fn is_listed(values: &[Text], text: &str) -> bool
     ensures { result ≡ list_any (bytes_eq (chars text.now)) values.now }
 {
-    values.iter().any(|value| is_text(text, value))
+    values.iter().any(|value| is_text(value, text))
 }
 
 fn read_choice(alloc: Global, values: &Items<Text>, text: &str) -> Result<Value, ValueFail>

@@ -31,7 +31,7 @@ fn orders_values_and_their_keys(rt: HostRuntime) -> Result<(), AllocError> {
     ]?;
     for (i, a) in rising.iter().enumerate() {
         for (j, b) in rising.iter().enumerate() {
-            assert!(rt; order(alloc, a, b)? == i.cmp(&j), "at {i} and {j}");
+            assert!(rt; order(a, b) == i.cmp(&j), "at {i} and {j}");
             let key = order_key(alloc, a)?;
             let other = order_key(alloc, b)?;
             assert!(rt;
@@ -40,7 +40,7 @@ fn orders_values_and_their_keys(rt: HostRuntime) -> Result<(), AllocError> {
             );
         }
     }
-    let folded = order(alloc, &text(alloc, "Straße")?, &text(alloc, "STRASSE")?)?;
+    let folded = order(&text(alloc, "Straße")?, &text(alloc, "STRASSE")?);
     assert!(rt; folded == Ordering::Equal);
     Ok(())
 }

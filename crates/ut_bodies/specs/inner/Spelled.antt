@@ -1,15 +1,10 @@
 -- Values, members and tables of the code as those of the definitions.
-use Rattle.std.specs.Prelude.{ℕ, List, Option, None, if◌then◌else◌, map}
+use Rattle.std.specs.Prelude.{ℕ, List, Option, map}
 use Rattle.std.specs.Borrow.{Bor}
-use Rattle.std.specs.Str.{chars, is_utf8}
-use Rattle.ut_json.specs.Reading.{◌>>=◌, text as json_in}
-use Rattle.ut_json.specs.declared.tree.Json.{Json}
+use Rattle.std.specs.Str.{chars}
+use Rattle.ut_json.specs.Reading.{◌>>=◌}
 use Rattle.ut_json.specs.declared.tree.Member.{Member, out-Member}
 use Rattle.ut_model.specs.Members.{Body, all_there, as_text, entry, list_in, object_in, text_in}
-
--- the value that bytes spell
-abbrev pub value_in : List ℕ → Option Json
-value_in bytes = if is_utf8 bytes then json_in (chars bytes) else None
 
 -- the members of an object
 abbrev pub body_of : List Member → Body

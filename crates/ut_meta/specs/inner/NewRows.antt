@@ -12,6 +12,7 @@ use Rattle.ut_model.specs.declared.metadata_bodies.NewMaster.{NewMaster}
 use Rattle.ut_model.specs.declared.metadata_bodies.NewObject.{NewObject}
 use Rattle.ut_parts.specs.Plain.{FitsText}
 use Rattle.ut_stands.specs.Changes.{Change}
+use Rattle.ut_stands.specs.Metadata.{access_of}
 use Rattle.ut_stands.specs.declared.layout.Layout.{Layout}
 use Rattle.ut_value.specs.declared.value.FieldType.TheVariants as type
 use Rattle.ut_meta.specs.declared.edits.objects.NewRows.{NewRows}
@@ -41,7 +42,7 @@ new_object_row org n field b =
       org = org;
       object = n;
       name = b.name;
-      access = b.access;
+      access = access_of b.access;
       records = 0;
       fields = if is_some field then 1 else 0;
       validation_rules = 0;

@@ -16,6 +16,7 @@ use crate::judging::judge_access;
 use std::alloc::Global;
 use ut_keeper::{Draft, Keeper, draft_laws};
 use ut_keys::{StoreFail, put};
+use ut_parts::ObjectAccess;
 use ut_sound::objects_sound;
 use ut_stands::{EditFail, layout_named, metadata_laws, object_row, slot_laws, stands_laws};
 use ut_value::Access;
@@ -62,7 +63,10 @@ pub fn set_access<K: Keeper>(
         // Each object has its row.
         return Err(EditFail::Store(StoreFail::Damaged));
     };
-    row.access = access;
+    row.access = ObjectAccess {
+        access,
+        hierarchy: true,
+    };
     put(alloc, draft, &row)?;
     Ok(())
 }

@@ -3,13 +3,12 @@
 ghost use Rattle.std.specs.Prelude.{◌≡◌, ◌≢◌, ◌↔◌, IfErr, IfOk, IsTrue};
 ghost use Rattle.std.specs.List.{All};
 ghost use Rattle.ut_keys.specs.declared.fail.StoreFail.TheVariants.{Keeper, Memory};
-ghost use Rattle.ut_parts.specs.Composed.{FitsItems, FitsType};
+ghost use Rattle.ut_parts.specs.Composed.{FitsType};
 ghost use Rattle.ut_parts.specs.Plain.{FitsText};
 
-use crate::rules::copy_of;
-use std::alloc::{AllocError, Global};
+use std::alloc::Global;
 use ut_keys::StoreFail;
-use ut_value::{FieldType, Items, Text};
+use ut_value::{FieldType, Text};
 
 // Whether a row can have this text: the number of its bytes has 32 bits.
 fn is_spelled(text: &Text) -> bool
@@ -38,33 +37,32 @@ pub fn copy_of_text(alloc: Global, text: &Text) -> Result<Text, StoreFail>
     if !is_spelled(text) {
         return Err(StoreFail::Damaged);
     }
-    Ok(copy_of(alloc, text)?)
+    Ok(text.copy(alloc)?)
 }
 
-// Copies of texts.
-fn copies_of(alloc: Global, texts: &[Text]) -> Result<Items<Text>, AllocError>
-    ensures { IfOk result (λ copies. copies ≡ texts.now) }
+// Whether a row can have this type. Its numbers have the widths of a row's.
+fn is_spelled_type(kind: &FieldType) -> bool
+    ensures { IsTrue result ↔ FitsType kind.now }
 {
-    let mut copies = Items::new(alloc);
-    let mut rest = texts;
-    'texts: while let Some((text, more)) = rest.split_first() {
-        copies.push(copy_of(alloc, text)?)?;
-        rest = more;
+    match kind {
+        FieldType::Picklist(values) => {
+            let texts = values.as_slice();
+            texts.len() <= u32::MAX as usize && are_spelled(texts)
+        }
+        FieldType::Text(most) => {
+            let _most = *most;
+            true
+        }
+        FieldType::Number { digits, decimals } => {
+            let _numbers = (*digits, *decimals);
+            true
+        }
+        FieldType::Lookup { object, .. } | FieldType::Master { object } => {
+            let _object = *object;
+            true
+        }
+        FieldType::Checkbox | FieldType::Day | FieldType::Moment => true,
     }
-    Ok(copies)
-}
-
-// A copy of the values that a picklist lists.
-fn copy_of_values(alloc: Global, values: &[Text]) -> Result<Items<Text>, StoreFail>
-    ensures same { IfOk result (λ copies. copies ≡ values.now) }
-    ensures fits { IfOk result (FitsItems FitsText) }
-    ensures damaged { FitsItems FitsText values.now → IfErr result (λ e. e ≡ Memory) }
-    ensures cause { IfErr result (λ e. e ≢ Keeper) }
-{
-    if values.len() > u32::MAX as usize || !are_spelled(values) {
-        return Err(StoreFail::Damaged);
-    }
-    Ok(copies_of(alloc, values)?)
 }
 
 /// A copy of a type.
@@ -78,22 +76,8 @@ pub fn copy_of_type(alloc: Global, kind: &FieldType) -> Result<FieldType, StoreF
     ensures damaged { FitsType kind.now → IfErr result (λ e. e ≡ Memory) }
     ensures cause { IfErr result (λ e. e ≢ Keeper) }
 {
-    match kind {
-        FieldType::Text(most) => Ok(FieldType::Text(*most)),
-        FieldType::Number { digits, decimals } => Ok(FieldType::Number {
-            digits: *digits,
-            decimals: *decimals,
-        }),
-        FieldType::Checkbox => Ok(FieldType::Checkbox),
-        FieldType::Day => Ok(FieldType::Day),
-        FieldType::Moment => Ok(FieldType::Moment),
-        FieldType::Picklist(values) => {
-            Ok(FieldType::Picklist(copy_of_values(alloc, values.as_slice())?))
-        }
-        FieldType::Lookup { object, on_delete } => Ok(FieldType::Lookup {
-            object: *object,
-            on_delete: *on_delete,
-        }),
-        FieldType::Master { object } => Ok(FieldType::Master { object: *object }),
+    if !is_spelled_type(kind) {
+        return Err(StoreFail::Damaged);
     }
+    Ok(kind.copy(alloc)?)
 }

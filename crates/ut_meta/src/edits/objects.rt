@@ -24,7 +24,7 @@ use std::alloc::{AllocError, Global};
 use ut_keeper::{Draft, Keeper, draft_laws};
 use ut_keys::{FieldRow, ObjectRow, OrgRow, StoreFail, put};
 use ut_model::{NewMaster, NewObject};
-use ut_parts::FieldFlags;
+use ut_parts::{FieldFlags, ObjectAccess};
 use ut_sound::objects_sound;
 use ut_stands::{EditFail, Layout, layouts, metadata_laws, org_row, slot_laws, stands_laws};
 use ut_value::FieldType;
@@ -115,7 +115,10 @@ fn rows_of(
         org: org.org,
         object: number,
         name: copy_of_text(alloc, &new.name)?,
-        access: new.access,
+        access: ObjectAccess {
+            access: new.access,
+            hierarchy: true,
+        },
         records: 0,
         fields: u8::from(field.is_some()),
         validation_rules: 0,

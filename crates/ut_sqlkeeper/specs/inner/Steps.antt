@@ -5,8 +5,7 @@ use Rattle.sqlite.specs.Order.{Row, column, bytes}
 use Rattle.sqlite_trees.specs.View.{IsShaped, doubt}
 use Rattle.sqlite_trees.specs.declared.store.Shape.TheVariants as shape
 use Rattle.sqlite.specs.Effect.{IsDatabase}
-use Rattle.sqlite.specs.State.{State, HasCleanDisk}
-use Rattle.sqlite_disk.specs.Disk.{MoreFaults}
+use Rattle.sqlite.specs.State.{State}
 use Rattle.ut_keeper.specs.declared.keeper.KeptRow.{KeptRow}
 use Rattle.ut_keeper.specs.Tables.{Tables}
 use Rattle.ut_sqlkeeper.specs.Kept.{kept_schema, no_schema, tables_in, IsReady}
@@ -32,11 +31,9 @@ Stays old new = IsReady old → IsTrue new.is_open → IsReady new × (new.now �
 abbrev pub WasOpen : State → State → Type 0
 WasOpen old new = IsTrue new.is_open → IsTrue old.is_open
 
--- no fault is forgotten, and only a fault shuts the connection
+-- a disk that isn't clean is never clean again
 pub record Keeps (old new : State) : Type 0 where
   pub clean : doubt old.is_clean ≤ doubt new.is_clean
-  pub counts : old.faults ≤ new.faults
-  pub closes : HasCleanDisk new → IsTrue old.is_open → IsTrue new.is_open ⊎ MoreFaults old.faults new.faults
 
 -- within a transaction: the database has the one table
 pub record IsGood (s : State) : Type 0 where

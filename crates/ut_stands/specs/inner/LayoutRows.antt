@@ -79,7 +79,7 @@ layout_by r p w =
       org = r.org;
       object = r.object;
       name = r.name;
-      access = r.access;
+      access = r.access.access;
       fields = places_in r.org r.object p w;
       job = job_in r.org r.object p w;
     }

@@ -14,6 +14,6 @@ returns-clause-fits c = λ types valids kept.
     let created : FitsSigned w64 c.args.item.now.created = search rules in
     let modified : FitsSigned w64 c.args.item.now.modified = search rules in
     let fits =
-    row_from_fits c.args.layout.now c.args.item.now (option_map {T = Bor DataRow} {U = DataRow} (λ row. row.now) c.args.kept) known.key known.owner created modified types valids kept
+    row_from_fits (record { short = c.value_laws.ensures.short; scalars = c.value_laws.ensures.scalars }) c.args.layout.now c.args.item.now (option_map {T = Bor DataRow} {U = DataRow} (λ row. row.now) c.args.kept) known.key known.owner created modified types valids kept
     in
     IfOk-weaker c.made_row.result _ _ (λ row is. subst (FitsForm data_form) (sym is) fits) c.made_row.ensures

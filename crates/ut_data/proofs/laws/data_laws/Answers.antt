@@ -15,7 +15,7 @@ pub returns-clause-printable : goal.returns-clause-printable
 returns-clause-printable c t r sound has = values_printable c.value_laws.ensures.printable t r sound has
 
 pub returns-clause-fits : goal.returns-clause-fits
-returns-clause-fits c org n p t o r lo sound fits is has of = record_fits c.id_laws.ensures.made c.value_laws.ensures.converted org n p t o r lo sound fits is has of
+returns-clause-fits c org n p t o r lo sound fits is has of = record_fits c.id_laws.ensures.made c.value_laws.ensures.converted (record { short = c.value_laws.ensures.short; scalars = c.value_laws.ensures.scalars }) org n p t o r lo sound fits is has of
 
 pub returns-clause-rewritten : goal.returns-clause-rewritten
 returns-clause-rewritten c org n p t o q r same past printable = row_rewritten org n p t o q r same past printable

@@ -1,6 +1,10 @@
+use Rattle.ut_json.proofs.Plain.{plain_printed}
 use Rattle.ut_json.proofs.Written.{number_printed, text_printed}
 use Rattle.ut_json.proofs.Wholes.{whole_printed}
 use Rattle.ut_json.proofs.laws.json_laws.Goals as goal
+
+pub returns-clause-plain : goal.returns-clause-plain
+returns-clause-plain c = plain_printed
 
 pub returns-clause-numbers : goal.returns-clause-numbers
 returns-clause-numbers c = number_printed

@@ -1,4 +1,7 @@
 use Rattle.std.proofs.Common.{◌≡◌, ◌≤◌, ◌+◌, ◌*◌, length}
+use denote.Text.{Utf8}
+use denote.Shadow.{shadow}
+use Rattle.std.specs.Str.{chars}
 use Rattle.ut_json.specs.Reading.{with_front}
 use Rattle.ut_json.specs.Reading as spec
 use Rattle.ut_json.proofs.reader.+values.Given as goal
@@ -35,18 +38,20 @@ decreases-members l = 10 * l.levels + 6
 
 abbrev pub invariant-items-turns : goal.invariant-items-turns
 invariant-items-turns l = record {
-  same : with_front l.items (spec.repeated (spec.item_turn (spec.element (spec.value l.levels)) 93) l.rest) ≡ spec.repeated (spec.item_turn (spec.element (spec.value l.levels)) 93) l.fn.chars;
-  shorter : length l.rest ≤ length l.fn.chars;
+  utf8 : shadow (Utf8 l.rest);
+  same : with_front l.items (spec.repeated (spec.item_turn (spec.element (spec.value l.levels)) 93) (chars l.rest)) ≡ spec.repeated (spec.item_turn (spec.element (spec.value l.levels)) 93) (chars l.fn.text);
+  shorter : length (chars l.rest) ≤ length (chars l.fn.text);
 }
 
 abbrev pub decreases-items-turns : goal.decreases-items-turns
-decreases-items-turns l = length l.rest
+decreases-items-turns l = length (chars l.rest)
 
 abbrev pub invariant-members-turns : goal.invariant-members-turns
 invariant-members-turns l = record {
-  same : with_front l.members (spec.repeated (spec.item_turn (spec.pair (spec.value l.levels)) 125) l.rest) ≡ spec.repeated (spec.item_turn (spec.pair (spec.value l.levels)) 125) l.fn.chars;
-  shorter : length l.rest ≤ length l.fn.chars;
+  utf8 : shadow (Utf8 l.rest);
+  same : with_front l.members (spec.repeated (spec.item_turn (spec.pair (spec.value l.levels)) 125) (chars l.rest)) ≡ spec.repeated (spec.item_turn (spec.pair (spec.value l.levels)) 125) (chars l.fn.text);
+  shorter : length (chars l.rest) ≤ length (chars l.fn.text);
 }
 
 abbrev pub decreases-members-turns : goal.decreases-members-turns
-decreases-members-turns l = length l.rest
+decreases-members-turns l = length (chars l.rest)

@@ -1,11 +1,15 @@
 use Rattle.std.proofs.Common.{◌≡◌, ◌≤◌, length}
+use denote.Text.{Utf8}
+use denote.Shadow.{shadow}
+use Rattle.std.specs.Str.{chars}
 use Rattle.ut_json.specs.Reading.{after_word}
 use Rattle.ut_json.proofs.reader.after_word.Given as goal
 
 abbrev pub invariant-letters : goal.invariant-letters
 invariant-letters l = record {
-  same : after_word l.left l.rest ≡ after_word l.word l.fn.chars;
-  shorter : length l.rest ≤ length l.fn.chars;
+  utf8 : shadow (Utf8 l.rest);
+  same : after_word l.left (chars l.rest) ≡ after_word l.word (chars l.fn.text);
+  shorter : length (chars l.rest) ≤ length (chars l.fn.text);
 }
 
 abbrev pub decreases-letters : goal.decreases-letters

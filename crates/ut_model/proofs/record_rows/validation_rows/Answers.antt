@@ -10,4 +10,5 @@ returns c =
       second = refl;
       third = refl;
       readable = refl;
+      malformed = refl;
     }

@@ -6,7 +6,7 @@ use Rattle.ut_serving.proofs.lines.reply.Goals as goal
 pub returns-clause-replies : goal.returns-clause-replies
 returns-clause-replies g c told w moments s e =
     replied w c.args.message.now moments (g.K.Keeper.state c.args.keeper.now) (g.K.Keeper.state c.answer_message-answer.new.keeper) (g.C.Clock.coming c.args.clock.now) (g.C.Clock.coming c.now-now.new.self)
-    (g.W.Wire.output c.args.wire.now) (g.W.Wire.output c.write_answer.new.wire) c.now-now.result (bytes_in c.answer_message-answer.result) c.write_answer.result
+    (g.W.Wire.output c.args.wire.now) (g.W.Wire.output c.write_answer.new.wire) c.now-now.result (bytes_in c.args.message.now.method c.answer_message-answer.result) c.write_answer.result
     e c.now-now.ensures.first c.now-now.ensures.asked (c.answer_message-answer.ensures.answers told w s) c.write_answer.ensures.wrote
 
 pub returns-clause-falls : goal.returns-clause-falls
@@ -18,4 +18,4 @@ returns-clause-falls g c fell w moments s e =
     (g.met.K.Keeper.settled c.args.keeper.now fell.0 fell.1) fell s e c.now-now.ensures.first answer.ensures.acknowledged answer.ensures.form answer.ensures.crash c.write_answer.ensures.wrote
 
 pub returns-clause-grows : goal.returns-clause-grows
-returns-clause-grows g c = wrote_grows (g.W.Wire.output c.args.wire.now) (g.W.Wire.output c.write_answer.new.wire) (bytes_in c.answer_message-answer.result) c.write_answer.result c.write_answer.ensures.wrote
+returns-clause-grows g c = wrote_grows (g.W.Wire.output c.args.wire.now) (g.W.Wire.output c.write_answer.new.wire) (bytes_in c.args.message.now.method c.answer_message-answer.result) c.write_answer.result c.write_answer.ensures.wrote

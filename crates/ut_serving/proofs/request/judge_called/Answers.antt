@@ -14,4 +14,4 @@ returns-in-Ok-clause-judged g c told w s e =
 
 pub returns-in-Ok-clause-changing : goal.returns-in-Ok-clause-changing
 returns-in-Ok-clause-changing g c change =
-    changes_in _ c.args.message.now.close c.in-Ok.judged c.judged_bytes.result c.judged_bytes.ensures c.in-Ok.ensures.changing change
+    changes_in _ c.args.message.now.method c.args.message.now.close c.in-Ok.judged c.judged_bytes.result c.judged_bytes.ensures c.in-Ok.ensures.changing change

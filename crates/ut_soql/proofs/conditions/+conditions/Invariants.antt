@@ -1,6 +1,7 @@
 use Rattle.std.proofs.Common.{◌≡◌, ◌≤◌, ◌+◌, ◌*◌, length}
 use Rattle.ut_grammar.specs.Reader.{with_front}
-use Rattle.ut_soql.specs.Readers as spec
+use Rattle.ut_soql_grammar.specs.Readers as spec
+use Rattle.ut_soql_grammar.specs.Signs.{number}
 use Rattle.ut_soql.proofs.conditions.+conditions.Given as goal
 
 abbrev pub decreases-unit : goal.decreases-unit
@@ -38,7 +39,7 @@ decreases-inner l = 10 * l.levels + 8
 
 abbrev pub invariant-more_units-units : goal.invariant-more_units-units
 invariant-more_units-units l = record {
-  same : with_front l.all (spec.more_units (spec.unit l.levels) l.code l.rest) ≡ with_front l.fn.all (spec.more_units (spec.unit l.levels) l.code l.fn.signs);
+  same : with_front l.all (spec.more_units (spec.unit l.levels) (number l.word) l.rest) ≡ with_front l.fn.all (spec.more_units (spec.unit l.levels) (number l.word) l.fn.signs);
   shorter : length l.rest ≤ length l.fn.signs;
 }
 

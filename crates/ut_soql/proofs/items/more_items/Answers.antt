@@ -2,7 +2,7 @@ use Rattle.std.proofs.Common.{rules, arith, ap, sym, ◌∙◌, ◌∷◌, [], �
 use Rattle.std.proofs.lemmas.Result.{err_from_is_err_and}
 use Rattle.ut_grammar.specs.Reader.{with_front}
 use Rattle.ut_grammar.proofs.Lists.{fails_by}
-use Rattle.ut_soql.specs.Readers.{more_items}
+use Rattle.ut_soql_grammar.specs.Readers.{more_items}
 use Rattle.ut_soql.proofs.Lists.{items-ends, items-turn, items_fails}
 use Rattle.ut_soql.proofs.items.more_items.Goals as goal
 

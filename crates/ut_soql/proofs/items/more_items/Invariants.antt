@@ -1,6 +1,6 @@
 use Rattle.std.proofs.Common.{◌≡◌, ◌≤◌, length}
 use Rattle.ut_grammar.specs.Reader.{with_front}
-use Rattle.ut_soql.specs.Readers as spec
+use Rattle.ut_soql_grammar.specs.Readers as spec
 use Rattle.ut_soql.proofs.items.more_items.Given as goal
 
 abbrev pub invariant-items : goal.invariant-items

@@ -2,8 +2,8 @@ use Rattle.std.proofs.Common.{rules, arith, ◌<◌, ◌∷◌, [], sym, ◌∙�
 use Rattle.std.proofs.lemmas.Result.{err_from_is_err_and}
 use Rattle.ut_grammar.specs.Reader.{with_front, after}
 use Rattle.ut_grammar.proofs.Lists.{list-ends, list-full, list-turn, list_fails, fails_by}
-use Rattle.ut_soql.specs.Readers.{more_names, name}
-use Rattle.ut_soql.specs.Signs.{kind}
+use Rattle.ut_soql_grammar.specs.Readers.{more_names, name}
+use Rattle.ut_soql_grammar.specs.Signs.{kind}
 use Rattle.ut_soql.proofs.Lists.{name_takes}
 use Rattle.ut_soql.proofs.paths.more_names.Goals as goal
 

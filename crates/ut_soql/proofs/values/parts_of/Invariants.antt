@@ -1,5 +1,5 @@
 use Rattle.std.proofs.Common.{◌≡◌, ◌++◌, length}
-use Rattle.ut_soql.specs.Grammar as grammar
+use Rattle.ut_soql_grammar.specs.Grammar as grammar
 use Rattle.ut_soql.proofs.values.parts_of.Given as goal
 
 abbrev pub invariant-pieces : goal.invariant-pieces

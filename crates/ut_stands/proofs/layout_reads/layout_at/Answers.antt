@@ -8,7 +8,6 @@ use Rattle.ut_stands.specs.Layouts.{FindsBy, layout_at}
 use Rattle.ut_stands.proofs.Found.{row_finds, row_of}
 use Rattle.ut_stands.proofs.LayoutReads.{at_found, err_again}
 use Rattle.ut_stands.proofs.MetadataRows.{object_is_row, object_there}
-use Rattle.ut_stands.proofs.TwoReads.{told_first, told_then}
 use Rattle.ut_stands.proofs.layout_reads.layout_at.Goals as goal
 
 pub returns-in_err-row-clause-finds : goal.returns-in_err-row-clause-finds
@@ -29,10 +28,8 @@ returns-clause-finds g c told =
     let m = tables_of g.K.Keeper.state a in
     let org = c.args.org in
     let n = c.args.object in
-    let first = told_first g.K.Keeper.state 0 a b d c.layout_of_found.ensures.reads told in
-    let then = told_then g.K.Keeper.state 0 0 a b d c.row_at.ensures.reads c.layout_of_found.ensures.reads told in
-    let h = row_finds object_form org (org, n) (object_there org n) (object_is_row org n (omega arith) (omega arith)) c.row_laws.ensures.found m c.row_at.result (c.row_at.ensures.row first) in
-    let same = c.draft_laws.ensures.tables 0 a b c.row_at.ensures.reads first in
+    let tell = c.draft_laws.ensures.both 0 0 a b d c.row_at.ensures.reads c.layout_of_found.ensures.reads told in
+    let h = row_finds object_form org (org, n) (object_there org n) (object_is_row org n (omega arith) (omega arith)) c.row_laws.ensures.found m c.row_at.result (c.row_at.ensures.row tell.0) in
     at_found org n m c.in_ok-row.row c.layout_of_found.result
     (subst (FindsBy (row_of org (object_there org n)) m) c.in_ok-row.was h)
-    (subst (λ (t : Tables). FindsBy (layout_by_found c.in_ok-row.row) t c.layout_of_found.result) same (c.layout_of_found.ensures.finds then))
+    (subst (λ (t : Tables). FindsBy (layout_by_found c.in_ok-row.row) t c.layout_of_found.result) tell.2 (c.layout_of_found.ensures.finds tell.1))

@@ -8,7 +8,6 @@ use Rattle.std.specs.Prelude.{Option}
 use Rattle.ut_stands.specs.inner.LayoutRows.{ListsBy, layout_by_found, object_rows}
 use Rattle.ut_stands.specs.Layouts.{FindsBy, layout_named}
 use Rattle.ut_stands.proofs.LayoutReads.{list_failed, named_found}
-use Rattle.ut_stands.proofs.TwoReads.{told_first, told_then}
 use Rattle.ut_stands.proofs.layout_reads.layout_named.Goals as goal
 
 pub returns-in_err-rows-clause-finds : goal.returns-in_err-rows-clause-finds
@@ -28,10 +27,8 @@ returns-clause-finds g c told =
     let m = tables_of g.K.Keeper.state a in
     let org = c.args.org in
     let name = chars c.args.name.now in
-    let first = told_first g.K.Keeper.state 0 a b d c.layout_of_found.ensures.reads told in
-    let then = told_then g.K.Keeper.state 0 0 a b d c.objects_of.ensures.reads c.layout_of_found.ensures.reads told in
-    let same = c.draft_laws.ensures.tables 0 a b c.objects_of.ensures.reads first in
-    let layout = subst (λ (t : Tables). FindsBy (layout_by_found c.row_named.result) t c.layout_of_found.result) same (c.layout_of_found.ensures.finds then) in
+    let tell = c.draft_laws.ensures.both 0 0 a b d c.objects_of.ensures.reads c.layout_of_found.ensures.reads told in
+    let layout = subst (λ (t : Tables). FindsBy (layout_by_found c.row_named.result) t c.layout_of_found.result) tell.2 (c.layout_of_found.ensures.finds tell.1) in
     named_found org name m c.in_ok-rows.rows.items c.layout_of_found.result
-    (subst (ListsBy (object_rows org) m) c.in_ok-rows.was (c.objects_of.ensures.finds first))
+    (subst (ListsBy (object_rows org) m) c.in_ok-rows.was (c.objects_of.ensures.finds tell.0))
     (subst (λ (row : Option ObjectRow). FindsBy (layout_by_found row) m c.layout_of_found.result) c.row_named.ensures layout)

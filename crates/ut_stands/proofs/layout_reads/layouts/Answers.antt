@@ -5,7 +5,6 @@ use Rattle.ut_keeper.specs.Tables.{Tables}
 use Rattle.ut_stands.specs.inner.LayoutRows.{ListsBy, layouts_by, object_rows}
 use Rattle.ut_stands.specs.Layouts.{FindsBy, layouts_of}
 use Rattle.ut_stands.proofs.LayoutReads.{layouts_found, list_failed}
-use Rattle.ut_stands.proofs.TwoReads.{told_first, told_then}
 use Rattle.ut_stands.proofs.layout_reads.layouts.Goals as goal
 
 pub returns-in_err-rows-clause-finds : goal.returns-in_err-rows-clause-finds
@@ -23,9 +22,7 @@ returns-clause-finds g c told =
     let d = c.layouts_of_rows.new.draft in
     let m = tables_of g.K.Keeper.state a in
     let org = c.args.org in
-    let first = told_first g.K.Keeper.state 0 a b d c.layouts_of_rows.ensures.reads told in
-    let then = told_then g.K.Keeper.state 0 0 a b d c.objects_of.ensures.reads c.layouts_of_rows.ensures.reads told in
-    let same = c.draft_laws.ensures.tables 0 a b c.objects_of.ensures.reads first in
+    let tell = c.draft_laws.ensures.both 0 0 a b d c.objects_of.ensures.reads c.layouts_of_rows.ensures.reads told in
     layouts_found org m c.in_ok-rows.rows.items c.layouts_of_rows.result
-    (subst (ListsBy (object_rows org) m) c.in_ok-rows.was (c.objects_of.ensures.finds first))
-    (subst (λ (t : Tables). FindsBy (layouts_by c.in_ok-rows.rows.items) t c.layouts_of_rows.result) same (c.layouts_of_rows.ensures.finds then))
+    (subst (ListsBy (object_rows org) m) c.in_ok-rows.was (c.objects_of.ensures.finds tell.0))
+    (subst (λ (t : Tables). FindsBy (layouts_by c.in_ok-rows.rows.items) t c.layouts_of_rows.result) tell.2 (c.layouts_of_rows.ensures.finds tell.1))

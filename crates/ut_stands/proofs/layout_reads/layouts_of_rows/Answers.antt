@@ -2,7 +2,6 @@ use Rattle.std.proofs.Common.{subst, sym}
 use Rattle.ut_keeper.specs.Tables.{Tables}
 use Rattle.ut_stands.specs.Stands.{StandsBy}
 use Rattle.ut_stands.proofs.LayoutReads.{more_layouts}
-use Rattle.ut_stands.proofs.TwoReads.{told_first, told_then}
 use Rattle.ut_stands.proofs.layout_reads.layouts_of_rows.Goals as goal
 
 pub loop-row-preserved : goal.loop-row-preserved
@@ -16,9 +15,7 @@ loop-row-preserved g c =
       reads = c.draft_laws.ensures.reads 0 0 a b d before.reads read;
       stays = λ stood done clean. c.in_ok-layout.ensures.stays (before.stays stood done (read.reads.steps.was_clean clean)) done clean;
       found = λ told p w s.
-          let first = told_first g.K.Keeper.state 0 a b d read told in
-          let then = told_then g.K.Keeper.state 0 0 a b d before.reads read told in
-          let same = c.draft_laws.ensures.tables 0 a b before.reads first in
-          let stands = subst (λ (t : Tables). StandsBy p t w) (sym same) s in
-          more_layouts p w c.loop-row.yielded c.in-Some.row c.loop-row.all c.push.new.self c.in_ok-layout.layout c.in_ok-push.ensures.ok (before.found first p w s) (c.in_ok-layout.ensures.finds then p w stands);
+          let tell = c.draft_laws.ensures.both 0 0 a b d before.reads read told in
+          let stands = subst (λ (t : Tables). StandsBy p t w) (sym tell.2) s in
+          more_layouts p w c.loop-row.yielded c.in-Some.row c.loop-row.all c.push.new.self c.in_ok-layout.layout c.in_ok-push.ensures.ok (before.found tell.0 p w s) (c.in_ok-layout.ensures.finds tell.1 p w stands);
     }

@@ -8,7 +8,7 @@ unfolding step
 returns c = record {
   called = λ w m now caller e. c.answering_laws.ensures.called answered w m now caller e;
   uncalled = λ w m now e. c.answering_laws.ensures.uncalled answered w m now e;
-  built = λ query_in r body x e. built query_in r body x e;
+  built = λ r body x e. built r body x e;
   user = λ w m caller e. c.answering_laws.ensures.user w m caller e;
   answered = λ w m now caller t u is. answered_in w m now caller t u is;
   same = λ w org t e. c.answering_laws.ensures.same w org t e;

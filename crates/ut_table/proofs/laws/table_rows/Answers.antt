@@ -2,10 +2,11 @@ use Rattle.std.proofs.Common.{refl}
 use lib.Utf8.{encode}
 use Rattle.std.specs.Str.{chars, is_utf8}
 use Rattle.csv.proofs.OnLiterals.{csv_on_literals}
+use Rattle.ut_table.specs.Place.{after_records, line_ends, past_ends}
 use Rattle.ut_table.proofs.laws.table_rows.Goals as goal
 
 pub returns : goal.returns
-unfolding csv_on_literals chars is_utf8 encode
+unfolding csv_on_literals chars is_utf8 encode line_ends after_records past_ends
 returns c = record {
   empty = refl;
   heading = (refl, refl);
@@ -16,4 +17,6 @@ returns c = record {
   quoted = (refl, refl);
   other_heading = refl;
   other_row = refl;
+  places = (refl, refl, refl, refl);
+  cells = refl;
 }

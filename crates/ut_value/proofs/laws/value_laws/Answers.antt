@@ -1,4 +1,5 @@
-use Rattle.ut_value.proofs.ValueLaws.{read_valid, printed_reads, printable, converted_valid}
+use Rattle.ut_value.proofs.ValueLaws.{read_valid, printed_reads, print_scalars, printable, converted_valid}
+use Rattle.ut_value.proofs.ValueSizes.{fits, plain, short}
 use Rattle.ut_value.proofs.laws.value_laws.Goals as goal
 
 pub returns-clause-read : goal.returns-clause-read
@@ -12,3 +13,15 @@ returns-clause-printable c kind v h = printable kind v h
 
 pub returns-clause-converted : goal.returns-clause-converted
 returns-clause-converted c from to v w t h e = converted_valid from to v w t h e
+
+pub returns-clause-fits : goal.returns-clause-fits
+returns-clause-fits c kind v t h = fits kind v t h
+
+pub returns-clause-short : goal.returns-clause-short
+returns-clause-short c kind v t h = short kind v t h
+
+pub returns-clause-scalars : goal.returns-clause-scalars
+returns-clause-scalars c kind v t h = print_scalars kind v t h
+
+pub returns-clause-plain : goal.returns-clause-plain
+returns-clause-plain c kind v e h = plain kind v e h

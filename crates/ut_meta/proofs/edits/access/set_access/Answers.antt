@@ -5,6 +5,7 @@ use Rattle.ut_keeper.specs.Tables.{Tables}
 use Rattle.ut_keys.specs.Rows.{object_form}
 use Rattle.ut_model.specs.Metadata.{set_access}
 use Rattle.ut_stands.specs.Changes.{Change, with_changes}
+use Rattle.ut_stands.specs.Metadata.{access_of}
 use Rattle.ut_meta.specs.inner.Rows.{change_to}
 use Rattle.ut_meta.proofs.AccessEdits.{access_done, layout_seen, none_refused, row_seen, row_there}
 use Rattle.ut_meta.proofs.Editing.{refused_so}
@@ -57,7 +58,7 @@ returns-clause-edits g c told w t s at by_master =
     let unread = reads_tables state 0 then later c.object_row.ensures.reads second in
     let named = layout_seen m org name s.0 w t c.layout_named.result c.in_ok-found.found c.in_ok-found.was (c.layout_named.ensures.finds first) s.1 at in
     let row = row_seen m (tables_of state then) org name s.0 w t c.in_ok-found.found c.in-Some-found.layout c.object_row.result c.in_ok-row.field-0 named c.in-Some-found.is c.in_ok-row.was (c.object_row.ensures.finds second) same s.1 in
-    let changes : List Change = change_to object_form (record c.in-Some-2.row { access = c.args.access }) ∷ [] in
+    let changes : List Change = change_to object_form (record c.in-Some-2.row { access = access_of c.args.access }) ∷ [] in
     let made : tables_of state after ≡ with_changes changes m = c.in_ok-put.ensures.ok ∙ ap (λ (x : Tables). with_changes changes x) (unread ∙ same) in
     access_done c.stands_laws.ensures.edited c.metadata_laws.ensures.access c.slot_laws.ensures.described c.metadata_laws.ensures.object_fits c.objects_sound.ensures.set_access m (tables_of state after) w org t name c.args.access
     c.in_ok-row.field-0 c.in-Some-2.row s.0 (omega arith) s.1 (c.stands_laws.ensures.sound m w org t s at) at by_master (sym c.in_default.is ∙ c.in_ok-refusal.ensures t c.args.access named) row c.in-Some-2.is made

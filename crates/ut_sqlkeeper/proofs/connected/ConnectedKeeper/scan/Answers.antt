@@ -1,25 +1,33 @@
-use Rattle.std.proofs.Common.{◌≡◌, ◌≤◌, ◌+◌, arith, ap, refl, ◌∙◌, map, length, slice_index, ◌-◌, ◌^◌}
+use Rattle.std.proofs.Common.{◌≡◌, ◌≤◌, ◌+◌, inl, arith, ap, refl, ◌∙◌, map, length, slice_index, ◌-◌, ◌^◌}
 use Rattle.ut_value.specs.Causes.{up_to_last}
 use Rattle.ut_sqlkeeper.specs.inner.Steps.{kept_row}
 use Rattle.sqlite_trees.proofs.Doubt.{no_doubt}
 use Rattle.ut_sqlkeeper.proofs.Scan.{map_take}
+use Rattle.sqlite.specs.Held.{state}
+use Rattle.ut_sqlkeeper.proofs.Refused.{keeps_on, was_open_on, stays_on, survives_on}
 use Rattle.ut_sqlkeeper.proofs.Shown.{clean_if_open, reads, counted_by}
 use Rattle.ut_sqlkeeper.proofs.connected.ConnectedKeeper.scan.Goals as goal
 
 pub returns-in-Err-clause-reads : goal.returns-in-Err-clause-reads
 returns-in-Err-clause-reads g c =
-    reads g.S.Store g.met.S.Store.shut_if_dirty c.args.self.now.conn c.rows_in.new.conn c.args.self.now.refusals.count c.refuse.new.self.count c.args.self.now.shown c.args.self.now.shown c.args.self.now.written c.args.self.now.written
-    c.rows_in.ensures.keeps c.rows_in.ensures.was_open c.refuse.ensures.counts c.rows_in.ensures.stays c.rows_in.ensures.survives refl
+    let old = state g.S.Store c.args.self.now.conn in
+    let mid = state g.S.Store c.rows_in.new.conn in
+    let new = state g.S.Store c.refuse_call.new.conn in
+    let did = c.rows_in.ensures in
+    let then = c.refuse_call.ensures in
+    reads g.S.Store g.met.S.Store.shut_if_dirty c.args.self.now.conn c.refuse_call.new.conn c.args.self.now.refusals.count c.refuse_call.new.refusals.count c.args.self.now.shown c.args.self.now.shown c.args.self.now.written c.args.self.now.written
+    (keeps_on old mid new then.keeps did.keeps) (was_open_on old mid new then.keeps then.was_open did.was_open) then.counts then.seen (stays_on old mid new then.keeps then.was_open then.stays did.stays)
+    (survives_on old mid new then.keeps (λ _. ⊥) did.survives then.survives) refl
 
 pub returns-clause-reads : goal.returns-clause-reads
 returns-clause-reads g c =
-    reads g.S.Store g.met.S.Store.shut_if_dirty c.args.self.now.conn c.rows_in.new.conn c.args.self.now.refusals.count c.refuse-in-Err-kept_rows.new.self.count c.args.self.now.shown c.args.self.now.shown c.args.self.now.written c.args.self.now.written
-    c.rows_in.ensures.keeps c.rows_in.ensures.was_open c.refuse-in-Err-kept_rows.ensures.counts c.rows_in.ensures.stays c.rows_in.ensures.survives refl
+    reads g.S.Store g.met.S.Store.shut_if_dirty c.args.self.now.conn c.rows_in.new.conn c.args.self.now.refusals.count c.refuse.new.self.count c.args.self.now.shown c.args.self.now.shown c.args.self.now.written c.args.self.now.written
+    c.rows_in.ensures.keeps c.rows_in.ensures.was_open c.refuse.ensures.counts (λ clean. inl (c.in-Ok.ensures.trusted clean)) c.rows_in.ensures.stays c.rows_in.ensures.survives refl
 
 pub returns-in-Ok-kept_rows-clause-reads : goal.returns-in-Ok-kept_rows-clause-reads
 returns-in-Ok-kept_rows-clause-reads g c =
     reads g.S.Store g.met.S.Store.shut_if_dirty c.args.self.now.conn c.rows_in.new.conn c.args.self.now.refusals.count c.args.self.now.refusals.count c.args.self.now.shown _ c.args.self.now.written c.args.self.now.written
-    c.rows_in.ensures.keeps c.rows_in.ensures.was_open (omega arith) c.rows_in.ensures.stays c.rows_in.ensures.survives refl
+    c.rows_in.ensures.keeps c.rows_in.ensures.was_open (omega arith) (λ clean. inl (c.in-Ok.ensures.trusted clean)) c.rows_in.ensures.stays c.rows_in.ensures.survives refl
 
 pub returns-in-Ok-kept_rows-clause-rows : goal.returns-in-Ok-kept_rows-clause-rows
 returns-in-Ok-kept_rows-clause-rows g c told =

@@ -1,5 +1,0 @@
-use Rattle.ut_soql.proofs.Spelled.{spelled, computed, refused, one_place}
-use Rattle.ut_soql.proofs.parsing.spelling_laws.Goals as goal
-
-pub returns : goal.returns
-returns c = record { spelled = spelled; computed = computed; refused = refused; one_place = one_place }

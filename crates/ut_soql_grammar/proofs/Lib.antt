@@ -1,0 +1,4 @@
+pub mod Instances
+pub mod QueryInstances
+pub mod Spelled
+pub mod Computing

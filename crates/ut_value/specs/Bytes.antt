@@ -1,0 +1,6 @@
+-- Lists of numbers that are bytes.
+use Rattle.std.specs.Prelude.{ℕ, ◌<◌, List, get_or}
+
+-- each is below 256
+abbrev pub IsBytes : List ℕ → Type 0
+IsBytes bytes = (i : ℕ) → get_or bytes i 0 < 256

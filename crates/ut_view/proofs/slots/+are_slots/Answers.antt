@@ -1,0 +1,21 @@
+use Rattle.std.proofs.Common.{◌≡◌, ◌-◌, suc, ◌∙◌, sym, ap, option_map, arith}
+use Rattle.ut_view.specs.Seen.{optional_text}
+use Rattle.ut_view.proofs.Turns.{are, breaks, goes_on, none_left}
+use Rattle.ut_view.proofs.slots.+are_slots.Goals as goal
+
+pub returns-then-count-eq0 : goal.returns-then-count-eq0
+returns-then-count-eq0 t c =
+    let n : c.args.count ≡ 0 = omega (arith, c.if-count-eq0.true) in
+    c.is_empty.ensures ∙ sym (ap (λ k. are k c.args.bytes.now) n ∙ none_left c.args.bytes.now)
+
+pub returns-in-Some : goal.returns-in-Some
+returns-in-Some t c =
+    let n : c.args.count ≡ suc (c.args.count - 1) = omega (arith, c.if-count-eq0.false) in
+    let e = sym c.optional_text_front.ensures ∙ ap (option_map optional_text) c.in-Some.is in
+    c.are_slots.ensures ∙ sym (ap (λ k. are k c.args.bytes.now) n ∙ goes_on (c.args.count - 1) c.args.bytes.now c.in-Some.rest.now _ e)
+
+pub returns-in-None : goal.returns-in-None
+returns-in-None t c =
+    let n : c.args.count ≡ suc (c.args.count - 1) = omega (arith, c.if-count-eq0.false) in
+    let e = sym c.optional_text_front.ensures ∙ ap (option_map optional_text) c.in-None.is in
+    sym (ap (λ k. are k c.args.bytes.now) n ∙ breaks (c.args.count - 1) c.args.bytes.now e)

@@ -5,7 +5,8 @@ use Rattle.std.specs.Option.{option_map}
 use Rattle.std.specs.Char.{digit_value}
 use Rattle.std.specs.Str.{byte}
 use Rattle.std.specs.Str.Parse.{AllDigits, digits_value}
-use Rattle.platform.specs.Commands.{all_digits, command_of, count_in, is_counting, is_within, most_connections, serves}
+use Rattle.platform.specs.Commands.{all_digits, command_of, count_in, is_counting, most_connections, serves}
+use Rattle.ut_value.specs.Numerals.{is_within}
 use Rattle.platform.specs.Words.{IsCount}
 
 both : (a b : Bool) → (a && b) ≡ true → (a ≡ true) × (b ≡ true)

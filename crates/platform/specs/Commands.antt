@@ -4,6 +4,7 @@ use Rattle.std.specs.Char.{digit_value}
 use Rattle.std.specs.Option.{option_map}
 use Rattle.std.specs.Str.{byte, bytes_eq}
 use Rattle.std.specs.Str.Parse.{digits_value}
+use Rattle.ut_value.specs.Numerals.{is_within}
 use Rattle.ut_model.specs.World.{World}
 use Rattle.ut_query.specs.Asking.{asks_for_rows}
 use Rattle.platform.specs.Csvq.{rows_printed}
@@ -34,9 +35,6 @@ all_digits (c ∷ cs) = nat_le (digit_value c) 9 && all_digits cs
 abbrev pub is_counting : List ℕ → Bool
 is_counting [] = false
 is_counting (c ∷ cs) = not (c == byte "0") && all_digits (c ∷ cs)
-
-abbrev pub is_within : (least most : ℕ) → ℕ → Bool
-is_within least most n = nat_le least n && nat_le n most
 
 -- the most connections that one run serves
 abbrev pub most_connections : ℕ

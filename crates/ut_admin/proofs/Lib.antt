@@ -1,2 +1,3 @@
 mod Asked
 mod Replied
+pub mod Made

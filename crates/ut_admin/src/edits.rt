@@ -1,6 +1,6 @@
 //! The edits that administrators' requests ask for.
 
-ghost use Rattle.std.specs.Prelude.{◌≡◌, ◌<◌, IfErr, OnOk, Some};
+ghost use Rattle.std.specs.Prelude.{◌≡◌, ◌<◌, IfErr, IsTrue, OnOk, Some};
 ghost use Rattle.ut_admin.specs.inner.Edits.{EditsFrom};
 ghost use Rattle.ut_keeper.specs.Draft.{DraftReads, DraftTells, DraftWorks, count_of, state_of, tables_of};
 ghost use Rattle.ut_keeper.specs.State.{KeeperCause, StaysAfter};
@@ -9,16 +9,39 @@ ghost use Rattle.ut_model.specs.Paths.{Asked};
 ghost use Rattle.ut_model.specs.RequestOf.{verdict_or};
 ghost use Rattle.ut_model.specs.World.{World, tenant_at};
 ghost use Rattle.ut_stands.specs.Fails.{IsRefusal, KeeperFailsEdit, is_judged};
+ghost use Rattle.ut_stands.specs.Operations.{EditsIn};
 ghost use Rattle.ut_stands.specs.Stands.{Stands};
 
 use crate::bodies::{access_in, field_in, object_in};
 use std::alloc::Global;
+use ut_edits::{Edit, make_edit};
 use ut_keeper::{Draft, Keeper, draft_laws};
-use ut_meta::{add_field, add_object, set_access};
+use ut_meta::{AddField, AddObject, SetAccess};
 use ut_model::{Refusal, Route, refusal_laws};
 use ut_sound::requests_fit;
-use ut_stands::{EditFail, stands_laws};
+use ut_stands::{EditFail, local_laws, stands_laws};
 use ut_value::Text;
+
+// Makes an edit over tables that stand for a world.
+fn make<E: Edit, K: Keeper>(
+    alloc: Global,
+    draft: &mut Draft<'_, K>,
+    org: u32,
+    edit: &E,
+) -> Result<(), EditFail>
+    ensures edits { DraftTells K.state draft.old draft.new
+        → (w : World) (a : Asked) → Stands (tables_of K.state draft.old) w → tenant_at w org ≡ Some a.tenant
+        → IsTrue (E.is_fit edit.now)
+        → EditsIn org (E.verdict edit.now a) w (tables_of K.state draft.new) result }
+    ensures some { OnOk result (0 < count_of draft.new) }
+    ensures refused { IfErr result (λ e. IsRefusal e → DraftReads K.state 0 draft.old draft.new) }
+    ensures works { DraftWorks K.state E.most E.gone 0 draft.old draft.new }
+    ensures stays { StaysAfter (is_judged result) (state_of K.state draft.old) (state_of K.state draft.new) }
+    ensures cause { KeeperCause (state_of K.state draft.old) (state_of K.state draft.new) (KeeperFailsEdit result) }
+{
+    local_laws();
+    make_edit(alloc, draft, org, edit)
+}
 
 /// The edit that a route and a body ask for.
 ///
@@ -49,15 +72,16 @@ pub(crate) fn edit<K: Keeper>(
     match route {
         Route::AddObject => {
             let new = object_in(alloc, body)?;
-            add_object(alloc, draft, org, &new)
+            make(alloc, draft, org, &AddObject { new: &new })
         }
         Route::SetObject { object } => {
             let access = access_in(alloc, body)?;
-            set_access(alloc, draft, org, object.as_str(), access)
+            let object = object.as_str();
+            make(alloc, draft, org, &SetAccess { object, access })
         }
         Route::AddField => {
             let new = field_in(alloc, body)?;
-            add_field(alloc, draft, org, &new)
+            make(alloc, draft, org, &AddField { new: &new })
         }
         // No other route is built.
         _ => Err(EditFail::Refused(Refusal::NotBuilt {

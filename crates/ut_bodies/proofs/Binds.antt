@@ -4,7 +4,7 @@ use Rattle.std.specs.Prelude.{Result, Ok, Err, bytes_eq}
 use Rattle.std.specs.List.{find}
 use Rattle.std.specs.Option.{option_map}
 use Rattle.ut_json.specs.Reading.{◌>>=◌}
-use Rattle.ut_model.specs.Members.{entry}
+use Rattle.ut_model.specs.Members.{entry_named}
 use Rattle.ut_bodies.specs.declared.fail.BodyFail.{BodyFail}
 use Rattle.ut_bodies.specs.declared.fail.BodyFail.TheVariants.{Form, Memory}
 use Rattle.ut_bodies.specs.inner.Outcomes.{Gives}
@@ -15,11 +15,11 @@ after front all = option_map (λ xs. front ++ xs) all
 
 -- a table whose things are made from those of another
 pub entry-map : {X Y : Type 0} (f : X → Y) (table : List (List ℕ × X)) (name : List ℕ)
-    → entry (map (λ r. (r.0, f r.1)) table) name ≡ option_map f (entry table name)
+    → entry_named (map (λ r. (r.0, f r.1)) table) name ≡ option_map f (entry_named table name)
 entry-map f [] name = refl
 entry-map {X} {Y} f (row ∷ rows) name = by_test (bytes_eq row.0 name) (entry-map f rows name)
   where
-    by_test : (b : Bool) → entry (map (λ r. (r.0, f r.1)) rows) name ≡ option_map f (entry rows name)
+    by_test : (b : Bool) → entry_named (map (λ r. (r.0, f r.1)) rows) name ≡ option_map f (entry_named rows name)
         → option_map {T = List ℕ × Y} (λ x. x.1) (cond b (Some (row.0, f row.1)) (find (λ x. bytes_eq x.0 name) (map (λ r. (r.0, f r.1)) rows)))
         ≡ option_map f (option_map {T = List ℕ × X} (λ x. x.1) (cond b (Some row) (find (λ x. bytes_eq x.0 name) rows)))
     by_test true h = refl
@@ -32,7 +32,7 @@ gives_mapped f (Err Memory) o h = tt
 
 -- what such a table gives of a text
 pub gives_by_table : {X Y : Type 0} (f : X → Y) (table : List (List ℕ × X)) (r : Result X BodyFail) (o : Option (List ℕ))
-    → Gives (λ x. x) r (o >>= entry table) → Gives f r (o >>= entry (map (λ r. (r.0, f r.1)) table))
+    → Gives (λ x. x) r (o >>= entry_named table) → Gives f r (o >>= entry_named (map (λ r. (r.0, f r.1)) table))
 gives_by_table f table r None h = gives_mapped f r None h
 gives_by_table f table r (Some name) h =
-    subst (λ (o : Option _). Gives f r o) (sym (entry-map f table name)) (gives_mapped f r (entry table name) h)
+    subst (λ (o : Option _). Gives f r o) (sym (entry-map f table name)) (gives_mapped f r (entry_named table name) h)

@@ -6,7 +6,7 @@ ghost use Rattle.ut_json.specs.Reading.{value_in};
 ghost use Rattle.ut_model.specs.Members as model;
 ghost use Rattle.ut_bodies.specs.inner.Names.{name_of, names_of};
 ghost use Rattle.ut_bodies.specs.inner.Outcomes.{Gives};
-ghost use Rattle.ut_bodies.specs.inner.Spelled.{body_of, member_object, named_in, table_of, texts_in};
+ghost use Rattle.ut_bodies.specs.inner.Spelled.{body_of, choice_member, member_object, table_of, texts_in};
 ghost use Rattle.ut_bodies.specs.inner.Said.{said};
 
 use crate::fail::BodyFail;
@@ -77,14 +77,14 @@ impl<'a> Body<'a> {
 
     /// The value of a member, if it is there.
     pub(crate) fn entry(&self, name: Name) -> Option<&'a Json>
-        ensures { option_copied result ≡ model.entry (said self.now) (name_of name) }
+        ensures { option_copied result ≡ model.entry_named (said self.now) (name_of name) }
     {
         entry(self.members, name.text())
     }
 
     // The value of a member that must be there.
     fn value(&self, name: Name) -> Result<&'a Json, BodyFail>
-        ensures { Gives (λ v. v.now) result (model.entry (said self.now) (name_of name)) }
+        ensures { Gives (λ v. v.now) result (model.entry_named (said self.now) (name_of name)) }
     {
         self.entry(name).ok_or(BodyFail::Form)
     }
@@ -101,7 +101,7 @@ impl<'a> Body<'a> {
         name: Name,
         table: &[(&str, T)],
     ) -> Result<T, BodyFail>
-        ensures { Gives (λ x. x) result (named_in (said self.now) (name_of name) (table_of table.now)) }
+        ensures { Gives (λ x. x) result (choice_member (said self.now) (name_of name) (table_of table.now)) }
     {
         entry_named(table, self.text(name)?).ok_or(BodyFail::Form)
     }

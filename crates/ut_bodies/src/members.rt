@@ -5,7 +5,7 @@ ghost use Rattle.std.specs.List.{list_all, list_any};
 ghost use Rattle.std.specs.Option.{option_copied};
 ghost use Rattle.std.specs.Str.{chars};
 ghost use Rattle.ut_value.specs.Texts.{texts_differ};
-ghost use Rattle.ut_model.specs.Members.{entry, is_one_of, member_names};
+ghost use Rattle.ut_model.specs.Members.{entry_named, is_one_of, member_names};
 ghost use Rattle.ut_bodies.specs.inner.Names.{names_of};
 ghost use Rattle.ut_bodies.specs.inner.Spelled.{body_of};
 
@@ -15,7 +15,7 @@ use ut_value::{Text, is_text};
 
 /// The value of the first member under a name.
 pub(crate) fn entry<'a>(members: &'a [Member], name: &str) -> Option<&'a Json>
-    ensures { option_copied result ≡ entry (body_of members.now) (chars name.now) }
+    ensures { option_copied result ≡ entry_named (body_of members.now) (chars name.now) }
 {
     let mut rest = members;
     'members: while let Some((member, more)) = rest.split_first() {

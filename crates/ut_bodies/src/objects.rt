@@ -10,7 +10,7 @@ ghost use Rattle.ut_model.specs.Requests.{adds_object, sets_object};
 ghost use Rattle.ut_bodies.specs.Bodies.{request_in};
 ghost use Rattle.ut_bodies.specs.inner.Outcomes.{Gives};
 ghost use Rattle.ut_bodies.specs.inner.Said.{said};
-ghost use Rattle.ut_bodies.specs.inner.Spelled.{body_of, member_object, named_in};
+ghost use Rattle.ut_bodies.specs.inner.Spelled.{body_of, choice_member, member_object};
 
 use crate::body::{Body, append_names, members_in};
 use crate::fail::{BodyFail, or_none};
@@ -22,7 +22,7 @@ use ut_value::{Access, Items, Text, is_text};
 
 // The member `access`.
 fn access_in(body: &Body) -> Result<Access, BodyFail>
-    ensures { Gives (λ a. a) result (named_in (said body.now) (codes "access") model.accesses) }
+    ensures { Gives (λ a. a) result (choice_member (said body.now) (codes "access") model.accesses) }
 {
     body.table_entry(
         Name::Access,
@@ -60,7 +60,7 @@ fn master_form(alloc: Global, body: &Body) -> Result<NewMaster, BodyFail>
 
 // The member `master`, which may be left out.
 fn master_of(alloc: Global, body: &Body) -> Result<Option<NewMaster>, BodyFail>
-    ensures { Gives (λ m. m) result (model.master_of (said body.now)) }
+    ensures { Gives (λ m. m) result (model.master_member (said body.now)) }
 {
     match body.entry(Name::Master) {
         Some(_) => Ok(Some(master_form(alloc, &body.object(Name::Master)?)?)),

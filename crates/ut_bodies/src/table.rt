@@ -1,14 +1,14 @@
 //! Tables of names.
 
 ghost use Rattle.std.specs.Prelude.{◌≡◌};
-ghost use Rattle.ut_model.specs.Members.{entry};
+ghost use Rattle.ut_model.specs.Members.{entry_named};
 ghost use Rattle.ut_bodies.specs.inner.Spelled.{table_of};
 
 use ut_value::{Text, is_text};
 
 /// What a table has first under a name.
 pub(crate) fn entry_named<T: Copy>(table: &[(&str, T)], name: &Text) -> Option<T>
-    ensures { result ≡ entry (table_of table.now) name.now }
+    ensures { result ≡ entry_named (table_of table.now) name.now }
 {
     match table.split_first() {
         Some((row, more)) => {

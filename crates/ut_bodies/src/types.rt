@@ -7,7 +7,7 @@ ghost use Rattle.ut_bodies.specs.inner.Outcomes.{Gives};
 ghost use Rattle.ut_bodies.specs.inner.Kinds.{form_of};
 ghost use Rattle.ut_bodies.specs.inner.Names.{name_of};
 ghost use Rattle.ut_bodies.specs.inner.Said.{said};
-ghost use Rattle.ut_bodies.specs.inner.Spelled.{named_in};
+ghost use Rattle.ut_bodies.specs.inner.Spelled.{choice_member};
 
 use crate::body::Body;
 use crate::fail::BodyFail;
@@ -91,7 +91,7 @@ fn picklist_type(alloc: Global, body: &Body) -> Result<SpelledType, BodyFail>
 
 // What becomes of a lookup when its record is deleted.
 fn on_delete_in(body: &Body) -> Result<OnDelete, BodyFail>
-    ensures { Gives (λ o. o) result (named_in (said body.now) (codes "onDelete") model.deletions) }
+    ensures { Gives (λ o. o) result (choice_member (said body.now) (codes "onDelete") model.deletions) }
 {
     body.table_entry(
         Name::OnDelete,
@@ -134,7 +134,7 @@ fn type_by(alloc: Global, form: TypeForm, body: &Body) -> Result<SpelledType, Bo
 
 /// The form that a body's `kind` names.
 fn type_form(body: &Body) -> Result<TypeForm, BodyFail>
-    ensures { Gives form_of result (named_in (said body.now) (codes "kind") model.type_forms) }
+    ensures { Gives form_of result (choice_member (said body.now) (codes "kind") model.type_forms) }
 {
     body.table_entry(
         Name::Kind,
@@ -159,7 +159,7 @@ fn type_of(alloc: Global, body: &Body) -> Result<SpelledType, BodyFail>
 
 /// A member that is a type.
 pub(crate) fn type_in(alloc: Global, body: &Body, name: Name) -> Result<SpelledType, BodyFail>
-    ensures { Gives (λ t. t) result (model.type_in (said body.now) (name_of name)) }
+    ensures { Gives (λ t. t) result (model.type_member (said body.now) (name_of name)) }
 {
     type_of(alloc, &body.object(name)?)
 }

@@ -6,11 +6,11 @@ use Rattle.ut_formula.specs.Meaning.{value_at}
 use Rattle.ut_parts.specs.Plain.{◌>>=◌}
 use Rattle.ut_model.specs.declared.record.Record.{Record}
 use Rattle.ut_model.specs.Membership.{Has}
-use Rattle.ut_model.specs.Objects.{is_of, object_at}
+use Rattle.ut_model.specs.Objects.{is_of, object_numbered}
 use Rattle.ut_model.specs.Sound.{IsSound}
 use Rattle.ut_model.specs.SoundRecords.{all_valid, kinds_of}
 use Rattle.ut_model.specs.Tenant.{Field, Object, Tenant}
-use Rattle.ut_stands.specs.Entries.{data_of, entry, entry_text, name_text, slot_text, slots_of}
+use Rattle.ut_stands.specs.Entries.{data_of, entry_text, name_text, slot_entry, slot_text, slots_of}
 use Rattle.ut_stands.specs.Layouts.{layout_of, place_of}
 use Rattle.ut_stands.specs.Plan.{FitsPlan, OrgPlan}
 use Rattle.ut_value.specs.Types.{is_type}
@@ -77,15 +77,15 @@ layout_typed : (p : OrgPlan) (n k : ℕ) (fs : List Field) → list_all (λ f. i
 layout_typed p n k [] = refl
 layout_typed p n k (f ∷ fs) = ap (λ (b : Bool). is_type f.kind && b) (layout_typed p n (k + 1) fs)
 
-pub object_typed : (org n : ℕ) (p : OrgPlan) (t : Tenant) (o : Object) → IsSound t → object_at t n ≡ Some o → IsTrue (has_types (layout_of org p t (record { number = n; object = o })))
+pub object_typed : (org n : ℕ) (p : OrgPlan) (t : Tenant) (o : Object) → IsSound t → object_numbered t n ≡ Some o → IsTrue (has_types (layout_of org p t (record { number = n; object = o })))
 object_typed org n p t o sound is = layout_typed p n 0 o.fields ∙ fields_typed t n o sound is
 
 pub row_reads : PrintsBack → (org n : ℕ) (p : OrgPlan) (t : Tenant) (o : Object) (r : Record)
-    → IsSound t → FitsPlan p t → object_at t n ≡ Some o → Has t.records r → IsTrue (is_of n r)
-    → record_from (layout_of org p t (record { number = n; object = o })) (data_of org n r (entry p t.job n o r)) ≡ Some r
+    → IsSound t → FitsPlan p t → object_numbered t n ≡ Some o → Has t.records r → IsTrue (is_of n r)
+    → record_from (layout_of org p t (record { number = n; object = o })) (data_of org n r (slot_entry p t.job n o r)) ≡ Some r
 row_reads prints org n p t o r sound fits is has of =
     let types = fields_typed t n o sound is in
-    let E = entry p t.job n o r in
+    let E = slot_entry p t.job n o r in
     let values =
     named_back prints p n (slots_of E) o r.values (values_valid t n o r sound is has of) types
     (λ i f at. slot_at E (p.slot n i) (slot_below p t n o i f fits is at) ∙ ap (λ x. Some (entry_text x)) (entry_at p t n o r i f fits is at))

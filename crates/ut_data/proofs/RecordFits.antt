@@ -21,7 +21,7 @@ use Rattle.ut_model.specs.declared.record.Record.{Record}
 use Rattle.ut_model.specs.Fields.{is_detail}
 use Rattle.ut_model.specs.Known.{Known, known}
 use Rattle.ut_model.specs.Membership.{Has}
-use Rattle.ut_model.specs.Objects.{is_of, object_at, object_number, record_prefix}
+use Rattle.ut_model.specs.Objects.{is_of, object_number, object_numbered, record_prefix}
 use Rattle.ut_model.specs.Sound.{IsSound}
 use Rattle.ut_model.specs.SoundPeople.{IsSoundUser}
 use Rattle.ut_model.specs.SoundRecords.{all_valid, is_sound_owner, kinds_of}
@@ -30,7 +30,7 @@ use Rattle.ut_model.specs.World.{user_at, user_prefix}
 use Rattle.ut_parts.specs.Plain.{FitsText}
 use Rattle.ut_keys.specs.Forms.{FitsForm}
 use Rattle.ut_keys.specs.Rows.{data_form}
-use Rattle.ut_stands.specs.Entries.{data_of, entry, entry_text, slots_of}
+use Rattle.ut_stands.specs.Entries.{data_of, entry_text, slot_entry, slots_of}
 use Rattle.ut_stands.specs.Plan.{FitsPlan, OrgPlan, slot_count}
 use Rattle.ut_data.proofs.Fits.{PrintsShort, name_fits}
 use Rattle.ut_data.proofs.Lists.{and_left, and_right}
@@ -101,13 +101,13 @@ first_valid o [] h = absurd cc
 first_valid o (v ∷ vs) h = and_left (valid (type.Text 80) v) (all_valid (map (λ f. f.kind) o.fields) vs) h
 
 pub record_fits : MakesIds → ConvertsValid → PrintsShort → (org n : ℕ) (p : OrgPlan) (t : Tenant) (o : Object) (r : Record)
-    → org < 2 ^ 32 → IsSound t → FitsPlan p t → object_at t n ≡ Some o → Has t.records r → IsTrue (is_of n r)
-    → FitsForm data_form (data_of org n r (entry p t.job n o r))
+    → org < 2 ^ 32 → IsSound t → FitsPlan p t → object_numbered t n ≡ Some o → Has t.records r → IsTrue (is_of n r)
+    → FitsForm data_form (data_of org n r (slot_entry p t.job n o r))
 unfolding slots_of
 record_fits makes converts prints org n p t o r lo sound fits is has of =
     let one = sound_record t r sound has in
     let few : n < length t.objects = slice_get_within t.objects n o is in
-    let E = entry p t.job n o r in
+    let E = slot_entry p t.job n o r in
     let texts = All-from_recursion (λ x. IfSome x FitsText) (map (λ s. entry_text (E s)) (range_with_len 0 slot_count)) (each_range (λ x. IfSome x FitsText) (λ s. entry_text (E s)) 0 slot_count (λ s. entry_fits converts prints p t n o r sound fits is has of s)) in (
       (lo, (omega (arith, few, sound.metadata.few), record_is_id makes t r sound has)),
       (name_fits prints (value_at r.values 0) (first_valid o r.values (values_valid t n o r sound is has of)), (owner_is_id makes t one.object r.owner sound one.owner, (moment_fits r.created one.created, (moment_fits r.modified one.modified, (length-map-range_with_len (λ s. entry_text (E s)) 0 slot_count, texts))))),

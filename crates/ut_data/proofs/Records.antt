@@ -14,7 +14,7 @@ use Rattle.ut_keys.specs.Reads.{MayStandAt, ReadsAs}
 use Rattle.ut_keys.specs.Rows.{data_form}
 use Rattle.ut_parts.specs.Shapes.{FitsIn}
 use Rattle.ut_model.specs.declared.record.Record.{Record}
-use Rattle.ut_model.specs.Objects.{is_of, object_at, record_at}
+use Rattle.ut_model.specs.Objects.{is_of, object_numbered, record_at}
 use Rattle.ut_model.specs.Sound.{IsSound}
 use Rattle.ut_model.specs.Tenant as model
 use Rattle.ut_model.specs.Tenant.{Tenant}
@@ -152,7 +152,7 @@ module _ (org n : ℕ) (p : OrgPlan) (t : Tenant) where
   unfolding records_rows kept_at
   rows_fit fits lo sound plan id = by (record_at t id) refl
     where
-      of_object : (r : Record) → record_at t id ≡ Some r → is_of n r ≡ true → (o : Option model.Object) → object_at t n ≡ o
+      of_object : (r : Record) → record_at t id ≡ Some r → is_of n r ≡ true → (o : Option model.Object) → object_numbered t n ≡ o
           → MayStandAt data_form (org, (n, id)) (option_map (λ (k : Kept). data_of org n k.item k.entries) (option_map (λ o. kept_in p t n o r) o))
       of_object r at of None there = tt
       of_object r at of (Some o) there =
@@ -160,12 +160,12 @@ module _ (org n : ℕ) (p : OrgPlan) (t : Tenant) where
           (ap (λ (i : List ℕ). (org, (n, i))) found.same, fits org n p t o r lo sound plan there found.has of)
 
       by : (x : Option Record) → record_at t id ≡ x
-          → MayStandAt data_form (org, (n, id)) (option_map (λ (k : Kept). data_of org n k.item k.entries) (option_and_then (λ r. cond (is_of n r) (option_map (λ o. kept_in p t n o r) (object_at t n)) None) x))
+          → MayStandAt data_form (org, (n, id)) (option_map (λ (k : Kept). data_of org n k.item k.entries) (option_and_then (λ r. cond (is_of n r) (option_map (λ o. kept_in p t n o r) (object_numbered t n)) None) x))
       by None at = tt
       by (Some r) at =
           pick (is_of n r)
-          (λ b. MayStandAt data_form (org, (n, id)) (option_map (λ (k : Kept). data_of org n k.item k.entries) (cond b (option_map (λ o. kept_in p t n o r) (object_at t n)) None)))
-          (λ of. of_object r at of (object_at t n) refl)
+          (λ b. MayStandAt data_form (org, (n, id)) (option_map (λ (k : Kept). data_of org n k.item k.entries) (cond b (option_map (λ o. kept_in p t n o r) (object_numbered t n)) None)))
+          (λ of. of_object r at of (object_numbered t n) refl)
           (λ _. tt)
 
 pub in_parts : SameRows → OwnRows → (p : Plan) (m : Tables) (w : World) (org n : ℕ) (t : Tenant) → StandsBy p m w → tenant_at w org ≡ Some t → HasRecords org n (records_rows org n (p.org org) t) (row_at p w) m

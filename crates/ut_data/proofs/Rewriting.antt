@@ -13,7 +13,7 @@ use Rattle.ut_model.specs.declared.record.Record.{Record}
 use Rattle.ut_model.specs.Cases.{in_case}
 use Rattle.ut_model.specs.Jobs.{is_past}
 use Rattle.ut_model.specs.Tenant.{Field, Job, Object, Tenant}
-use Rattle.ut_stands.specs.Entries.{Entry, data_of, entry, entry_text, field_entry, field_in, job_entry, job_value, other_entry, slots_of}
+use Rattle.ut_stands.specs.Entries.{Entry, data_of, entry_text, field_entry, job_entry, job_value, other_entry, slot_entry, slot_field, slots_of}
 use Rattle.ut_stands.specs.Layouts.{layout_of}
 use Rattle.ut_stands.specs.Plan.{OrgPlan, slot_count, type_there}
 use Rattle.ut_data.specs.Encoding.{row_from, text_of_slot, texts_of_slots, value_text}
@@ -52,9 +52,9 @@ other_same p n o q r s same (Some j) past =
 
 text_same : (org n : ℕ) (p : OrgPlan) (t : Tenant) (o : Object) (q r : Record) (s : ℕ) → s < slot_count → q.id ≡ r.id
     → ((j : Job) → t.job ≡ Some j → j.object ≡ n → j.phase ≡ phase.Copy → is_past j.cursor r.id ≡ true) → list_all is_printable r.values ≡ true
-    → text_of_slot (layout_of org p t (record { number = n; object = o })) r (Some (data_of org n q (entry p t.job n o q))) s ≡ entry_text (entry p t.job n o r s)
-unfolding entry
-text_same org n p t o q r s lt same past printable = rw (number_same p n s 0 o.fields, kept_is (entry p t.job n o q) s lt) (by (field_in p n o.fields s))
+    → text_of_slot (layout_of org p t (record { number = n; object = o })) r (Some (data_of org n q (slot_entry p t.job n o q))) s ≡ entry_text (slot_entry p t.job n o r s)
+unfolding slot_entry
+text_same org n p t o q r s lt same past printable = rw (number_same p n s 0 o.fields, kept_is (slot_entry p t.job n o q) s lt) (by (slot_field p n o.fields s))
   where
     by : (x : Option (ℕ × Field))
         → in_case (option_map (λ (f : ℕ × Field). f.0) x) (entry_text (in_case x (other_entry p t.job n o q s) (λ f. Some (field_entry q f)))) (λ f. value_text (value_at r.values (suc f)))
@@ -64,10 +64,10 @@ text_same org n p t o q r s lt same past printable = rw (number_same p n s 0 o.f
 
 pub row_rewritten : (org n : ℕ) (p : OrgPlan) (t : Tenant) (o : Object) (q r : Record) → q.id ≡ r.id
     → ((j : Job) → t.job ≡ Some j → j.object ≡ n → j.phase ≡ phase.Copy → is_past j.cursor r.id ≡ true) → IsTrue (list_all is_printable r.values)
-    → row_from (layout_of org p t (record { number = n; object = o })) r (Some (data_of org n q (entry p t.job n o q))) ≡ data_of org n r (entry p t.job n o r)
+    → row_from (layout_of org p t (record { number = n; object = o })) r (Some (data_of org n q (slot_entry p t.job n o q))) ≡ data_of org n r (slot_entry p t.job n o r)
 unfolding slots_of texts_of_slots
 row_rewritten org n p t o q r same past printable =
     rw
-    (same_below (text_of_slot (layout_of org p t (record { number = n; object = o })) r (Some (data_of org n q (entry p t.job n o q)))) (λ s. entry_text (entry p t.job n o r s)) 0 slot_count
+    (same_below (text_of_slot (layout_of org p t (record { number = n; object = o })) r (Some (data_of org n q (slot_entry p t.job n o q)))) (λ s. entry_text (slot_entry p t.job n o r s)) 0 slot_count
     (λ s lt. text_same org n p t o q r s (omega (arith, lt)) same past printable))
     refl

@@ -12,7 +12,7 @@ use Rattle.ut_model.specs.declared.record.Record.{Record}
 use Rattle.ut_model.specs.Membership.{Has}
 use Rattle.ut_model.specs.SoundPeople.{ids_rise}
 use Rattle.ut_model.specs.SoundRecords.{record_id}
-use Rattle.ut_model.specs.World.{with_id}
+use Rattle.ut_model.specs.World.{having_id}
 use Rattle.ut_data.proofs.Lists.{pick}
 
 -- ---- tests as types
@@ -94,13 +94,13 @@ not_less a h = differ (sym (ap is_lt (tied_itself nat_list_cmp_total a)) ∙ h)
     differ e = cc
 
 -- a record is found by its id
-pub found_itself : (rs : List Record) (r : Record) → T (ids_rise record_id rs) → Has rs r → with_id (λ r. r.id) rs r.id ≡ Some r
+pub found_itself : (rs : List Record) (r : Record) → T (ids_rise record_id rs) → Has rs r → having_id (λ r. r.id) rs r.id ≡ Some r
 found_itself [] r h has = absurd has
-found_itself (x ∷ rs) r h (inl e) = subst (λ (y : Record). with_id (λ r. r.id) (x ∷ rs) y.id ≡ Some y) (sym e) (rw ((bytes_eq-Decides x.id x.id).1 refl) refl)
+found_itself (x ∷ rs) r h (inl e) = subst (λ (y : Record). having_id (λ r. r.id) (x ∷ rs) y.id ≡ Some y) (sym e) (rw ((bytes_eq-Decides x.id x.id).1 refl) refl)
 found_itself (x ∷ rs) r h (inr has) =
     let above = t_first (below_all bytes_cmp x.id (with_ids rs)) (is_sorted bytes_cmp (with_ids rs)) h in
     let rest = found_itself rs r (t_second (below_all bytes_cmp x.id (with_ids rs)) (is_sorted bytes_cmp (with_ids rs)) h) has in
-    pick (bytes_eq r.id x.id) (λ b. bytes_eq r.id x.id ≡ b → cond b (Some x) (with_id (λ r. r.id) rs r.id) ≡ Some r)
+    pick (bytes_eq r.id x.id) (λ b. bytes_eq r.id x.id ≡ b → cond b (Some x) (having_id (λ r. r.id) rs r.id) ≡ Some r)
     (λ _ same. absurd (not_less x.id (subst (λ (i : List ℕ). is_lt (bytes_cmp x.id i) ≡ true) ((bytes_eq-Decides r.id x.id).0 same) (below_has x.id rs r above has))))
     (λ _ _. rest)
     refl

@@ -18,14 +18,14 @@ use Rattle.ut_model.specs.declared.record.Record.{Record}
 use Rattle.ut_model.specs.Cases.{in_case}
 use Rattle.ut_model.specs.Jobs.{is_past}
 use Rattle.ut_model.specs.Membership.{Has}
-use Rattle.ut_model.specs.Objects.{is_of, object_at}
+use Rattle.ut_model.specs.Objects.{is_of, object_numbered}
 use Rattle.ut_model.specs.Sound.{IsSound}
 use Rattle.ut_model.specs.SoundJob.{IsSoundJob}
 use Rattle.ut_model.specs.SoundRecords.{all_valid, kinds_of}
 use Rattle.ut_model.specs.Tenant.{Field, Job, Object, Tenant}
 use Rattle.ut_parts.specs.Plain.{FitsText}
-use Rattle.ut_stands.specs.Entries.{entry, entry_text, field_entry, field_in, job_entry, job_value, other_entry, slot_text}
-use Rattle.ut_stands.specs.Plan.{FitsPlan, OrgPlan, is_clear, type_in, type_there}
+use Rattle.ut_stands.specs.Entries.{entry_text, field_entry, job_entry, job_value, other_entry, slot_entry, slot_field, slot_text}
+use Rattle.ut_stands.specs.Plan.{FitsPlan, OrgPlan, is_clearing, slot_type, type_there}
 use Rattle.ut_data.proofs.Fits.{PrintsShort, value_fits}
 use Rattle.ut_data.proofs.Lists.{and_left, and_right, pick, some_is}
 use Rattle.ut_data.proofs.Sound.{fields_typed, values_valid}
@@ -74,7 +74,7 @@ record IsValue (v : Value) : Type 0 where
 value_text_fits : PrintsShort → (v : Value) → IsValue v → IfSome (slot_text v) FitsText
 value_text_fits prints v h = value_fits prints h.kind v h.typed h.valued
 
-module _ (converts : ConvertsValid) (prints : PrintsShort) (p : OrgPlan) (t : Tenant) (n : ℕ) (o : Object) (r : Record) (sound : IsSound t) (fits : FitsPlan p t) (is : object_at t n ≡ Some o) (has : Has t.records r) (of : IsTrue (is_of n r)) where
+module _ (converts : ConvertsValid) (prints : PrintsShort) (p : OrgPlan) (t : Tenant) (n : ℕ) (o : Object) (r : Record) (sound : IsSound t) (fits : FitsPlan p t) (is : object_numbered t n ≡ Some o) (has : Has t.records r) (of : IsTrue (is_of n r)) where
   field_value : (i : ℕ) (f : Field) → slice_get o.fields i ≡ Some f → IsValue (value_at r.values (suc i))
   field_value i f at = record {
     kind = f.kind;
@@ -82,7 +82,7 @@ module _ (converts : ConvertsValid) (prints : PrintsShort) (p : OrgPlan) (t : Te
     valued = field_valid o r.values i f (values_valid t n o r sound is has of) at;
   }
 
-  left_typed : (j : Job) → is_type j.to ≡ true → (f : Phase) (x : Outcome) → is_type (type_in p j f x) ≡ true
+  left_typed : (j : Job) → is_type j.to ≡ true → (f : Phase) (x : Outcome) → is_type (slot_type p j f x) ≡ true
   left_typed j to phase.Copy x = to
   left_typed j to phase.Done x = to
   left_typed j to phase.Clear outcome.Switched = and_left (is_type p.was) (not (is_reference p.was)) fits.was
@@ -104,7 +104,7 @@ module _ (converts : ConvertsValid) (prints : PrintsShort) (p : OrgPlan) (t : Te
   job_is_value j f v e at phase.Clear is some =
       let to = and_left (is_type j.to) (not (is_reference j.to)) (sound_job j e).change.to in
       pick (is_past j.cursor r.id) (λ b. cond b (p.left r.id) None ≡ Some v → IsValue v)
-      (λ _ left. record { kind = type_there p j; typed = left_typed j to j.phase j.outcome; valued = fits.left j r.id v e (ap is_clear is) left })
+      (λ _ left. record { kind = type_there p j; typed = left_typed j to j.phase j.outcome; valued = fits.left j r.id v e (ap is_clearing is) left })
       (λ _ none. absurd cc)
       some
   job_is_value j f v e at phase.Done is some = absurd cc
@@ -125,7 +125,7 @@ module _ (converts : ConvertsValid) (prints : PrintsShort) (p : OrgPlan) (t : Te
       (λ _. of_field j e (slice_get o.fields j.field) refl)
       (λ _. tt)
 
-  of_slot : (s : ℕ) (x : Option (ℕ × Field)) → field_in p n o.fields s ≡ x → IfSome (entry_text (in_case x (other_entry p t.job n o r s) (λ f. Some (field_entry r f)))) FitsText
+  of_slot : (s : ℕ) (x : Option (ℕ × Field)) → slot_field p n o.fields s ≡ x → IfSome (entry_text (in_case x (other_entry p t.job n o r s) (λ f. Some (field_entry r f)))) FitsText
   of_slot s None e = of_job s t.job refl
   of_slot s (Some f) e =
       let (i, number, at) = found_at (λ (g : ℕ × Field). eqb (p.slot n g.0) s) 0 o.fields f e in
@@ -133,6 +133,6 @@ module _ (converts : ConvertsValid) (prints : PrintsShort) (p : OrgPlan) (t : Te
       value_text_fits prints (value_at r.values (suc f.0)) (subst (λ (m : ℕ). IsValue (value_at r.values (suc m))) same (field_value i f.1 at))
 
   -- the text in each slot has a spelling
-  pub entry_fits : (s : ℕ) → IfSome (entry_text (entry p t.job n o r s)) FitsText
-  unfolding entry
-  entry_fits s = of_slot s (field_in p n o.fields s) refl
+  pub entry_fits : (s : ℕ) → IfSome (entry_text (slot_entry p t.job n o r s)) FitsText
+  unfolding slot_entry
+  entry_fits s = of_slot s (slot_field p n o.fields s) refl

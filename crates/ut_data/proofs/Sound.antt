@@ -5,7 +5,7 @@ use Rattle.std.specs.List.{AllByRecursion, list_all}
 use Rattle.ut_model.specs.declared.record.Record.{Record}
 use Rattle.ut_model.specs.Known.{known}
 use Rattle.ut_model.specs.Membership.{Has}
-use Rattle.ut_model.specs.Objects.{is_of, object_at, object_number}
+use Rattle.ut_model.specs.Objects.{is_of, object_number, object_numbered}
 use Rattle.ut_model.specs.Sound.{IsSound}
 use Rattle.ut_model.specs.SoundMetadata.{IsSoundField, IsSoundObject}
 use Rattle.ut_model.specs.SoundRecords.{IsSoundRecord, all_valid, kinds_of}
@@ -25,7 +25,7 @@ ArePrintable = (kind : FieldType) (v : Value) → IsTrue (valid kind v) → IsTr
 pub sound_record : (t : Tenant) (r : Record) → IsSound t → Has t.records r → IsSoundRecord (known t) t.objects r
 sound_record t r sound has = of_each (IsSoundRecord (known t) t.objects) t.records r sound.records.each has
 
-pub values_valid : (t : Tenant) (n : ℕ) (o : Object) (r : Record) → IsSound t → object_at t n ≡ Some o → Has t.records r → IsTrue (is_of n r) → IsTrue (all_valid (kinds_of o) r.values)
+pub values_valid : (t : Tenant) (n : ℕ) (o : Object) (r : Record) → IsSound t → object_numbered t n ≡ Some o → Has t.records r → IsTrue (is_of n r) → IsTrue (all_valid (kinds_of o) r.values)
 values_valid t n o r sound is has of =
     let one = sound_record t r sound has in
     let number : object_number r.id ≡ n = eqb-true (object_number r.id) n of in
@@ -36,7 +36,7 @@ typed : (n : ℕ) (fs : List Field) → AllByRecursion (IsSoundField n) fs → l
 typed n [] all = refl
 typed n (f ∷ fs) all = rw (all.0.kind) (typed n fs all.1)
 
-pub fields_typed : (t : Tenant) (n : ℕ) (o : Object) → IsSound t → object_at t n ≡ Some o → list_all (λ f. is_type f.kind) o.fields ≡ true
+pub fields_typed : (t : Tenant) (n : ℕ) (o : Object) → IsSound t → object_numbered t n ≡ Some o → list_all (λ f. is_type f.kind) o.fields ≡ true
 fields_typed t n o sound is =
     let one = of_numbered (IsSoundObject t.objects) (λ (x : ℕ × Object). record { number = x.0; object = x.1 }) t.objects 0 n n o (omega arith) is sound.metadata.objects in
     typed (length t.objects) o.fields one.fields

@@ -15,16 +15,16 @@ use Rattle.ut_keys.specs.Reads.{MayStandAt}
 use Rattle.ut_keys.specs.Rows.{data_form}
 use Rattle.ut_model.specs.declared.record.Record.{Record}
 use Rattle.ut_model.specs.Membership.{Has}
-use Rattle.ut_model.specs.Objects.{is_of, object_at, record_at}
+use Rattle.ut_model.specs.Objects.{is_of, object_numbered, record_at}
 use Rattle.ut_model.specs.Sound.{IsSound}
 use Rattle.ut_model.specs.Tenant as model
 use Rattle.ut_model.specs.Tenant.{Tenant}
-use Rattle.ut_model.specs.World.{World, tenant_at, with_id}
+use Rattle.ut_model.specs.World.{World, having_id, tenant_at}
 use Rattle.ut_stands.specs.declared.layout.Layout.{Layout}
-use Rattle.ut_stands.specs.Entries.{data_of, entry}
+use Rattle.ut_stands.specs.Entries.{data_of, slot_entry}
 use Rattle.ut_stands.specs.Layouts.{IsLayout, layout_at, layout_of, numbered_at, record_in}
 use Rattle.ut_stands.specs.Plan.{FitsPlan, OrgPlan, Plan}
-use Rattle.ut_stands.specs.Stands.{Kept, StandsBy, kept_at, kept_in, owner_of, row_at, row_in}
+use Rattle.ut_stands.specs.Stands.{Kept, StandsBy, kept_at, kept_in, org_of_key, row_at, row_in}
 use Rattle.ut_data.specs.Decoding.{record_from}
 use Rattle.ut_data.proofs.Lists.{pick, some_is}
 
@@ -32,18 +32,18 @@ use Rattle.ut_data.proofs.Lists.{pick, some_is}
 
 -- the rows at the keys of an organisation, as `ut_stands` says
 abbrev pub OwnRows : Type 0
-OwnRows = (p : Plan) (w : World) (n : ℕ) (t : Tenant) (k : Key) → tenant_at w n ≡ Some t → owner_of k ≡ Some n → row_at p w k ≡ row_in (p.org n) t k
+OwnRows = (p : Plan) (w : World) (n : ℕ) (t : Tenant) (k : Key) → tenant_at w n ≡ Some t → org_of_key k ≡ Some n → row_at p w k ≡ row_in (p.org n) t k
 
 -- the row of a sound record reads as it, and has a spelling, as `data_laws` says
 abbrev pub RowsRead : Type 0
 RowsRead = (org n : ℕ) (p : OrgPlan) (t : Tenant) (o : model.Object) (r : Record)
-    → IsSound t → FitsPlan p t → object_at t n ≡ Some o → Has t.records r → IsTrue (is_of n r)
-    → record_from (layout_of org p t (record { number = n; object = o })) (data_of org n r (entry p t.job n o r)) ≡ Some r
+    → IsSound t → FitsPlan p t → object_numbered t n ≡ Some o → Has t.records r → IsTrue (is_of n r)
+    → record_from (layout_of org p t (record { number = n; object = o })) (data_of org n r (slot_entry p t.job n o r)) ≡ Some r
 
 abbrev pub RowsFit : Type 0
 RowsFit = (org n : ℕ) (p : OrgPlan) (t : Tenant) (o : model.Object) (r : Record)
-    → org < 2 ^ 32 → IsSound t → FitsPlan p t → object_at t n ≡ Some o → Has t.records r → IsTrue (is_of n r)
-    → FitsForm data_form (data_of org n r (entry p t.job n o r))
+    → org < 2 ^ 32 → IsSound t → FitsPlan p t → object_numbered t n ≡ Some o → Has t.records r → IsTrue (is_of n r)
+    → FitsForm data_form (data_of org n r (slot_entry p t.job n o r))
 
 pub record Laws : Type 0 where
   pub own : OwnRows
@@ -56,14 +56,14 @@ pub record IsOf (p : Plan) (w : World) (l : Layout) : Type 0 where
   pub tenant : Tenant
   pub object : model.Object
   pub at : tenant_at w l.org ≡ Some tenant
-  pub there : object_at tenant l.object ≡ Some object
+  pub there : object_numbered tenant l.object ≡ Some object
   pub made : layout_of l.org (p.org l.org) tenant (record { number = l.object; object = object }) ≡ l
 
 pub layout_is : (p : Plan) (w : World) (l : Layout) → IsLayout p w l → IsOf p w l
 unfolding layout_at
 layout_is p w l h = in_tenant (tenant_at w l.org) refl h
   where
-    in_object : (t : Tenant) → tenant_at w l.org ≡ Some t → (o : Option model.Object) → object_at t l.object ≡ o
+    in_object : (t : Tenant) → tenant_at w l.org ≡ Some t → (o : Option model.Object) → object_numbered t l.object ≡ o
         → option_map (layout_of l.org (p.org l.org) t) (option_map (λ x. record { number = l.object; object = x }) o) ≡ Some l → IsOf p w l
     in_object t at None there h = absurd cc
     in_object t at (Some o) there h = record {
@@ -76,7 +76,7 @@ layout_is p w l h = in_tenant (tenant_at w l.org) refl h
 
     in_tenant : (x : Option Tenant) → tenant_at w l.org ≡ x → option_and_then (λ t. option_map (layout_of l.org (p.org l.org) t) (numbered_at t l.object)) x ≡ Some l → IsOf p w l
     in_tenant None at h = absurd cc
-    in_tenant (Some t) at h = in_object t at (object_at t l.object) refl h
+    in_tenant (Some t) at h = in_object t at (object_numbered t l.object) refl h
 
 of_place : {X : Type 0} (P : X → Type 0) (xs : List X) (i : ℕ) (x : X) → AllByRecursion P xs → slice_get xs i ≡ Some x → P x
 of_place P [] i x all e = absurd cc
@@ -95,15 +95,15 @@ abbrev pub of_object : ℕ → Option Record → Option Record
 of_object n x = option_and_then (λ r. cond (is_of n r) (Some r) None) x
 
 abbrev pub row_in_plan : ℕ → OrgPlan → Tenant → ℕ → model.Object → Record → DataRow
-row_in_plan org p t n o r = data_of org n r (entry p t.job n o r)
+row_in_plan org p t n o r = data_of org n r (slot_entry p t.job n o r)
 
-pub row_kept : (org n : ℕ) (p : OrgPlan) (t : Tenant) (o : model.Object) (id : List ℕ) → object_at t n ≡ Some o
+pub row_kept : (org n : ℕ) (p : OrgPlan) (t : Tenant) (o : model.Object) (id : List ℕ) → object_numbered t n ≡ Some o
     → row_in p t (Data org n id) ≡ option_map (row_bytes data_form) (option_map (row_in_plan org p t n o) (of_object n (record_at t id)))
 unfolding row_in kept_at
 row_kept org n p t o id is = by (record_at t id)
   where
     by : (x : Option Record)
-        → option_map (λ (k : Kept). row_bytes data_form (data_of org n k.item k.entries)) (option_and_then (λ r. cond (is_of n r) (option_map (λ o. kept_in p t n o r) (object_at t n)) None) x)
+        → option_map (λ (k : Kept). row_bytes data_form (data_of org n k.item k.entries)) (option_and_then (λ r. cond (is_of n r) (option_map (λ o. kept_in p t n o r) (object_numbered t n)) None) x)
         ≡ option_map (row_bytes data_form) (option_map (row_in_plan org p t n o) (of_object n x))
     by None = refl
     by (Some r) =
@@ -113,10 +113,10 @@ row_kept org n p t o id is = by (record_at t id)
         (λ _. refl)
         (λ _. refl))
 
-found_id : (rs : List Record) (id : List ℕ) (r : Record) → with_id (λ r. r.id) rs id ≡ Some r → (r.id ≡ id) × Has rs r
+found_id : (rs : List Record) (id : List ℕ) (r : Record) → having_id (λ r. r.id) rs id ≡ Some r → (r.id ≡ id) × Has rs r
 found_id [] id r e = absurd cc
 found_id (x ∷ rs) id r e =
-    pick (bytes_eq id x.id) (λ b. bytes_eq id x.id ≡ b → cond b (Some x) (with_id (λ r. r.id) rs id) ≡ Some r → (r.id ≡ id) × Has (x ∷ rs) r)
+    pick (bytes_eq id x.id) (λ b. bytes_eq id x.id ≡ b → cond b (Some x) (having_id (λ r. r.id) rs id) ≡ Some r → (r.id ≡ id) × Has (x ∷ rs) r)
     (λ _ same here. let is : x ≡ r = some_is x r here in (ap (λ (y : Record). y.id) (sym is) ∙ sym ((bytes_eq-Decides id x.id).0 same), inl (sym is)))
     (λ _ _ rest. let (same, has) = found_id rs id r rest in (same, inr has))
     refl e

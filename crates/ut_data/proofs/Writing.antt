@@ -7,7 +7,7 @@ use Rattle.ut_formula.specs.Meaning.{value_at}
 use Rattle.ut_model.specs.declared.record.Record.{Record}
 use Rattle.ut_model.specs.Cases.{in_case}
 use Rattle.ut_model.specs.Tenant.{Field, Job, Object, Tenant}
-use Rattle.ut_stands.specs.Entries.{data_of, entry, entry_text, field_entry, field_in, job_entry, other_entry, slots_of}
+use Rattle.ut_stands.specs.Entries.{data_of, entry_text, field_entry, job_entry, other_entry, slot_entry, slot_field, slots_of}
 use Rattle.ut_stands.specs.Layouts.{job_on, job_place, layout_of, place_of}
 use Rattle.ut_stands.specs.Plan.{OrgPlan, slot_count}
 use Rattle.ut_stands.specs.declared.layout.FieldPlace.{FieldPlace}
@@ -51,16 +51,16 @@ nothing_other p t n o r s none = by t.job none
         differ e = cc
 
 text_same : (org n : ℕ) (p : OrgPlan) (t : Tenant) (o : Object) (r : Record) (s : ℕ) → job_on p t n ≡ None → list_all is_printable r.values ≡ true
-    → text_of_slot (layout_of org p t (record { number = n; object = o })) r None s ≡ entry_text (entry p t.job n o r s)
-unfolding entry
-text_same org n p t o r s none printable = rw (number_same p n s 0 o.fields) (by (field_in p n o.fields s))
+    → text_of_slot (layout_of org p t (record { number = n; object = o })) r None s ≡ entry_text (slot_entry p t.job n o r s)
+unfolding slot_entry
+text_same org n p t o r s none printable = rw (number_same p n s 0 o.fields) (by (slot_field p n o.fields s))
   where
     by : (x : Option (ℕ × Field)) → in_case (option_map (λ (f : ℕ × Field). f.0) x) None (λ f. value_text (value_at r.values (suc f))) ≡ entry_text (in_case x (other_entry p t.job n o r s) (λ f. Some (field_entry r f)))
     by None = rw (nothing_other p t n o r s none) refl
     by (Some f) = rw (value_printable r.values (suc f.0) printable) refl
 
 pub row_written : (org n : ℕ) (p : OrgPlan) (t : Tenant) (o : Object) (r : Record) → job_on p t n ≡ None → IsTrue (list_all is_printable r.values)
-    → row_from (layout_of org p t (record { number = n; object = o })) r None ≡ data_of org n r (entry p t.job n o r)
+    → row_from (layout_of org p t (record { number = n; object = o })) r None ≡ data_of org n r (slot_entry p t.job n o r)
 unfolding slots_of texts_of_slots
 row_written org n p t o r none printable =
-    rw (same_range (text_of_slot (layout_of org p t (record { number = n; object = o })) r None) (λ s. entry_text (entry p t.job n o r s)) 0 slot_count (λ s. text_same org n p t o r s none printable)) refl
+    rw (same_range (text_of_slot (layout_of org p t (record { number = n; object = o })) r None) (λ s. entry_text (slot_entry p t.job n o r s)) 0 slot_count (λ s. text_same org n p t o r s none printable)) refl

@@ -14,7 +14,7 @@ use Rattle.ut_formula.specs.declared.formula.Relation.{Relation}
 use Rattle.ut_formula.specs.declared.formula.Term.{Term}
 use Rattle.ut_formula.specs.declared.formula.Term.TheVariants as term
 use Rattle.ut_formula_grammar.specs.Grammar as g
-use Rattle.ut_formula_grammar.specs.Terms.{truth_in, field_in, picklist_in, text_in, relation_in, measured_in, simple_in, len_in, prior_in}
+use Rattle.ut_formula_grammar.specs.Terms.{truth_in, field_token, picklist_in, text_in, relation_in, measured_in, simple_in, len_in, prior_in}
 use Rattle.ut_formula_grammar.specs.Reading as spec
 use Rattle.ut_formula_grammar.specs.Signs.{kind}
 use Rattle.ut_formula_grammar.specs.declared.sign.Sign.{Sign}
@@ -23,11 +23,11 @@ use Rattle.ut_formula_grammar.specs.declared.sign.Kind.{Kind}
 use Rattle.ut_formula_grammar.specs.declared.sign.Kind.TheVariants as of
 
 -- ---- single tokens
-field_exact : Exact kind (one field_in) spec.field (10 ∷ []) [] false
+field_exact : Exact kind (one field_token) spec.field (10 ∷ []) [] false
 unfolding spec.field
-field_exact = one_exact kind field_in (10 ∷ []) all
+field_exact = one_exact kind field_token (10 ∷ []) all
   where
-    all : (x : Sign) (a : ℕ) → field_in x ≡ Some a → elem (kind x) (10 ∷ []) ≡ true
+    all : (x : Sign) (a : ℕ) → field_token x ≡ Some a → elem (kind x) (10 ∷ []) ≡ true
     all (sign.Field position sort) a h = refl
     all _ a h = absurd (cc)
 
@@ -146,15 +146,15 @@ is_new_exact =
     (after_exact kind 1 (part.after kind 14 (part.sign kind 15)) (reader.after kind 14 (reader.sign kind 15)) (14 ∷ []) []
     (after_exact kind 14 (part.sign kind 15) (reader.sign kind 15) (15 ∷ []) [] (sign_exact kind 15)))
 
-is_blank_exact : Exact kind (as_value formula.IsBlank (g.call sign.IsBlank (one field_in))) spec.is_blank (5 ∷ []) [] false
+is_blank_exact : Exact kind (as_value formula.IsBlank (g.call sign.IsBlank (one field_token))) spec.is_blank (5 ∷ []) [] false
 unfolding spec.is_blank
 is_blank_exact =
-    as_exact kind formula.IsBlank (g.call sign.IsBlank (one field_in)) (spec.call 5 spec.field) (5 ∷ []) [] false (call_exact sign.IsBlank (one field_in) spec.field (10 ∷ []) [] field_exact refl)
+    as_exact kind formula.IsBlank (g.call sign.IsBlank (one field_token)) (spec.call 5 spec.field) (5 ∷ []) [] false (call_exact sign.IsBlank (one field_token) spec.field (10 ∷ []) [] field_exact refl)
 
-is_changed_exact : Exact kind (as_value formula.IsChanged (g.call sign.IsChanged (one field_in))) spec.is_changed (6 ∷ []) [] false
+is_changed_exact : Exact kind (as_value formula.IsChanged (g.call sign.IsChanged (one field_token))) spec.is_changed (6 ∷ []) [] false
 unfolding spec.is_changed
 is_changed_exact =
-    as_exact kind formula.IsChanged (g.call sign.IsChanged (one field_in)) (spec.call 6 spec.field) (6 ∷ []) [] false (call_exact sign.IsChanged (one field_in) spec.field (10 ∷ []) [] field_exact refl)
+    as_exact kind formula.IsChanged (g.call sign.IsChanged (one field_token)) (spec.call 6 spec.field) (6 ∷ []) [] false (call_exact sign.IsChanged (one field_token) spec.field (10 ∷ []) [] field_exact refl)
 
 choice_exact : Exact kind (both (one picklist_in) (λ _. part.after kind 16 (one text_in))) spec.choice (10 ∷ []) [] false
 unfolding spec.choice

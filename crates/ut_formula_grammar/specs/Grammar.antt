@@ -9,7 +9,7 @@ use Rattle.ut_formula.specs.declared.formula.Relation.{Relation}
 use Rattle.ut_formula.specs.declared.formula.Term.{Term}
 use Rattle.ut_formula.specs.declared.formula.Term.TheVariants as term
 use Rattle.ut_formula_grammar.specs.Signs.{kind}
-use Rattle.ut_formula_grammar.specs.Terms.{truth_in, field_in, picklist_in, text_in, relation_in, measured_in, simple_in, len_in, prior_in}
+use Rattle.ut_formula_grammar.specs.Terms.{truth_in, field_token, picklist_in, text_in, relation_in, measured_in, simple_in, len_in, prior_in}
 use Rattle.ut_formula_grammar.specs.declared.sign.Sign.{Sign}
 use Rattle.ut_formula_grammar.specs.declared.sign.Sign.TheVariants as sign
 use Rattle.ut_formula_grammar.specs.declared.sign.Kind.{Kind}
@@ -60,8 +60,8 @@ abbrev pub plain : Signs Formula
 plain =
     either (as_value formula.Const (one truth_in))
     (either (as_value (λ _. formula.IsNew) (after sign.IsNew (after sign.Open (just sign.Close))))
-    (either (as_value formula.IsBlank (call sign.IsBlank (one field_in)))
-    (either (as_value formula.IsChanged (call sign.IsChanged (one field_in)))
+    (either (as_value formula.IsBlank (call sign.IsBlank (one field_token)))
+    (either (as_value formula.IsChanged (call sign.IsChanged (one field_token)))
     (either (as_value (λ v. formula.IsPickval v.0 v.1) (call sign.IsPickval (both (one picklist_in) (λ _. after sign.Comma (one text_in)))))
     comparison))))
 

@@ -7,7 +7,7 @@ use Rattle.ut_formula.specs.declared.formula.Formula.TheVariants as formula
 use Rattle.ut_formula.specs.declared.formula.Relation.{Relation}
 use Rattle.ut_formula.specs.declared.formula.Term.{Term}
 use Rattle.ut_formula.specs.declared.formula.Term.TheVariants as term
-use Rattle.ut_formula_grammar.specs.Terms.{truth_in, field_in, picklist_in, text_in, relation_in, measured_in, simple_in, len_in, prior_in}
+use Rattle.ut_formula_grammar.specs.Terms.{truth_in, field_token, picklist_in, text_in, relation_in, measured_in, simple_in, len_in, prior_in}
 use Rattle.ut_formula_grammar.specs.Signs.{kind}
 use Rattle.ut_formula_grammar.specs.declared.sign.Sign.{Sign}
 use Rattle.ut_formula_grammar.specs.declared.sign.Kind.{Kind}
@@ -18,7 +18,7 @@ Reads A = Reader Sign A
 
 -- ---- single tokens
 unfoldable pub field : Reads ℕ
-field = read_one field_in
+field = read_one field_token
 
 unfoldable pub picklist : Reads ℕ
 picklist = read_one picklist_in

@@ -1,9 +1,8 @@
 -- What the grammar of formulas sees of a token: function words, fields by their positions, numbers, texts, relations and marks.
 -- Source of the words and marks: Salesforce, "Formula Operators and Functions". Which of them formulas have is this product's own.
-use Rattle.std.specs.Prelude.{ℕ, ◌+◌, Bool, true, false, ◌&&◌, ◌||◌, ◌==◌, if◌then◌else◌, List, [], ◌∷◌, map, Option, Some, None, codes, bytes_eq, encode_utf8_all, ℤ}
-use Rattle.std.specs.Char.{to_ascii_lowercase}
+use Rattle.std.specs.Prelude.{ℕ, ◌+◌, Bool, true, false, ◌&&◌, ◌||◌, ◌==◌, if◌then◌else◌, List, [], ◌∷◌, map, Option, Some, None, codes, encode_utf8_all, ℤ}
 use Rattle.ut_grammar.specs.Counts.{number_count, plain_text}
-use Rattle.ut_grammar.specs.Tokens.{Lexis}
+use Rattle.ut_grammar.specs.Tokens.{Lexis, is_written}
 use Rattle.ut_grammar.specs.declared.token.Piece.{Piece}
 use Rattle.ut_grammar.specs.declared.token.Piece.TheVariants.{Plain}
 use Rattle.ut_grammar.specs.declared.token.Token.{Token}
@@ -87,28 +86,20 @@ kind sign.Comma = 16
 kind sign.Bad = 17
 
 -- ---- words
--- a word of the language, with the case of ASCII letters ignored
-unfoldable pub is_word : List ℕ → List ℕ → Bool
-is_word word cs = bytes_eq (map to_ascii_lowercase word) (map to_ascii_lowercase (encode_utf8_all cs))
-
--- the name of a field, with the case of ASCII letters ignored
-unfoldable pub is_name : List ℕ → List ℕ → Bool
-is_name name cs = bytes_eq (map to_ascii_lowercase (encode_utf8_all name)) (map to_ascii_lowercase (encode_utf8_all cs))
-
 -- the function words, and TRUE and FALSE, which aren't names
 unfoldable pub function_word : List ℕ → Option Sign
 function_word cs =
-    if is_word (codes "TRUE") cs then Some (sign.Truth true)
-    else (if is_word (codes "FALSE") cs then Some (sign.Truth false)
-    else (if is_word (codes "ISNEW") cs then Some sign.IsNew
-    else (if is_word (codes "NOT") cs then Some sign.Not
-    else (if is_word (codes "AND") cs then Some sign.And
-    else (if is_word (codes "OR") cs then Some sign.Or
-    else (if is_word (codes "ISBLANK") cs then Some sign.IsBlank
-    else (if is_word (codes "ISCHANGED") cs then Some sign.IsChanged
-    else (if is_word (codes "ISPICKVAL") cs then Some sign.IsPickval
-    else (if is_word (codes "LEN") cs then Some sign.Len
-    else (if is_word (codes "PRIORVALUE") cs then Some sign.Prior
+    if is_written (codes "TRUE") cs then Some (sign.Truth true)
+    else (if is_written (codes "FALSE") cs then Some (sign.Truth false)
+    else (if is_written (codes "ISNEW") cs then Some sign.IsNew
+    else (if is_written (codes "NOT") cs then Some sign.Not
+    else (if is_written (codes "AND") cs then Some sign.And
+    else (if is_written (codes "OR") cs then Some sign.Or
+    else (if is_written (codes "ISBLANK") cs then Some sign.IsBlank
+    else (if is_written (codes "ISCHANGED") cs then Some sign.IsChanged
+    else (if is_written (codes "ISPICKVAL") cs then Some sign.IsPickval
+    else (if is_written (codes "LEN") cs then Some sign.Len
+    else (if is_written (codes "PRIORVALUE") cs then Some sign.Prior
     else None))))))))))
 
 -- a criteria formula has no words of what was before
@@ -132,7 +123,7 @@ sort_of (type.Master object) = sort.Reference
 -- the first of these fields that has this name; they begin at this position
 abbrev pub field_sign : ℕ → List NamedField → List ℕ → Sign
 field_sign at [] cs = sign.Bad
-field_sign at (field ∷ more) cs = if is_name field.name cs then sign.Field at (sort_of field.kind) else field_sign (at + 1) more cs
+field_sign at (field ∷ more) cs = if is_written (encode_utf8_all field.name) cs then sign.Field at (sort_of field.kind) else field_sign (at + 1) more cs
 
 -- a function word, or the name of a field
 abbrev pub word_or_field : (criteria : Bool) → List NamedField → List ℕ → Option Sign → Sign

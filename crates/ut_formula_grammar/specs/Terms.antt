@@ -49,9 +49,9 @@ abbrev pub truth_in : Sign → Option Bool
 truth_in (sign.Truth truth) = Some truth
 truth_in _ = None
 
-abbrev pub field_in : Sign → Option ℕ
-field_in (sign.Field position sort) = Some position
-field_in _ = None
+abbrev pub field_token : Sign → Option ℕ
+field_token (sign.Field position sort) = Some position
+field_token _ = None
 
 abbrev pub picklist_in : Sign → Option ℕ
 picklist_in (sign.Field position sort.Picklist) = Some position

@@ -66,7 +66,7 @@ pub fn truth_in(sign: &Sign) -> Option<bool>
 
 /// A field of any type.
 pub fn field_in(sign: &Sign) -> Option<u8>
-    ensures { result ≡ spec.field_in sign.now }
+    ensures { result ≡ spec.field_token sign.now }
 {
     match sign {
         Sign::Field(position, _) => Some(*position),

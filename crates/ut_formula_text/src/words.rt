@@ -7,7 +7,7 @@ ghost use Rattle.ut_grammar.specs.Counts.{number_count, plain_text};
 use std::alloc::{AllocError, Global};
 use ut_formula::{NamedField, Relation};
 use ut_formula_grammar::{Sign, sort_of};
-use ut_grammar::{Lexis, Piece, Placed, Token, characters, number_count, plain_text};
+use ut_grammar::{Lexis, Piece, Placed, Token, characters, is_written, number_count, plain_text};
 use ut_value::{Items, Text};
 
 /// How formulas write texts and marks.
@@ -42,48 +42,32 @@ impl Lexis for FormulaLexis {
     }
 }
 
-// Whether the text is this word, with the case of ASCII letters ignored.
-#[tactic(auto, unfolding(ut_formula_grammar::specs::Signs::is_word))]
-fn is_word(word: &str, text: &Text) -> bool
-    ensures { result ≡ spec.is_word word.now text.now }
-{
-    word.eq_ignore_ascii_case(text.as_str())
-}
-
-// Whether the text is this name, with the case of ASCII letters ignored.
-#[tactic(auto, unfolding(ut_formula_grammar::specs::Signs::is_name))]
-fn is_name(name: &Text, text: &Text) -> bool
-    ensures { result ≡ spec.is_name name.now text.now }
-{
-    name.as_str().eq_ignore_ascii_case(text.as_str())
-}
-
 // The function word that a text is.
 #[tactic(auto, unfolding(ut_formula_grammar::specs::Signs::function_word))]
 fn function_word(text: &Text) -> Option<Sign>
     ensures { result ≡ spec.function_word text.now }
 {
-    if is_word("TRUE", text) {
+    if is_written("TRUE", text) {
         Some(Sign::Truth(true))
-    } else if is_word("FALSE", text) {
+    } else if is_written("FALSE", text) {
         Some(Sign::Truth(false))
-    } else if is_word("ISNEW", text) {
+    } else if is_written("ISNEW", text) {
         Some(Sign::IsNew)
-    } else if is_word("NOT", text) {
+    } else if is_written("NOT", text) {
         Some(Sign::Not)
-    } else if is_word("AND", text) {
+    } else if is_written("AND", text) {
         Some(Sign::And)
-    } else if is_word("OR", text) {
+    } else if is_written("OR", text) {
         Some(Sign::Or)
-    } else if is_word("ISBLANK", text) {
+    } else if is_written("ISBLANK", text) {
         Some(Sign::IsBlank)
-    } else if is_word("ISCHANGED", text) {
+    } else if is_written("ISCHANGED", text) {
         Some(Sign::IsChanged)
-    } else if is_word("ISPICKVAL", text) {
+    } else if is_written("ISPICKVAL", text) {
         Some(Sign::IsPickval)
-    } else if is_word("LEN", text) {
+    } else if is_written("LEN", text) {
         Some(Sign::Len)
-    } else if is_word("PRIORVALUE", text) {
+    } else if is_written("PRIORVALUE", text) {
         Some(Sign::Prior)
     } else {
         None
@@ -108,7 +92,7 @@ fn field_sign(fields: &[NamedField], text: &Text) -> Sign
     let mut rest = fields;
     let mut position: u8 = 0;
     'fields: while let Some((field, behind)) = rest.split_first() {
-        if is_name(&field.name, text) {
+        if is_written(field.name.as_str(), text) {
             return Sign::Field(position, sort_of(&field.kind));
         }
         position += 1;

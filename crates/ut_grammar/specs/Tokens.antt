@@ -2,7 +2,8 @@
 -- Source of the rules: Salesforce, "SOQL and SOSL Reference" and "Formula Operators and Functions": names, quoted strings with
 -- their escape sequences, and the formats of numbers and dates. That every text has tokens, some of which can follow nothing, is
 -- this product's own.
-use Rattle.std.specs.Prelude.{◌≡◌, ℕ, ◌+◌, Bool, true, false, ◌||◌, if◌then◌else◌, ◌==◌, List, [], ◌∷◌, ◌++◌, length, Option, Some, None, encode_utf8_all}
+use Rattle.std.specs.Prelude.{◌≡◌, ℕ, ◌+◌, Bool, true, false, ◌||◌, if◌then◌else◌, ◌==◌, List, [], ◌∷◌, ◌++◌, length, map, Option, Some, None, bytes_eq, encode_utf8_all}
+use Rattle.std.specs.Char.{to_ascii_lowercase}
 use Rattle.ut_grammar.specs.declared.token.Piece.{Piece}
 use Rattle.ut_grammar.specs.declared.token.Piece.TheVariants as p
 use Rattle.ut_grammar.specs.declared.token.Token.{Token}
@@ -41,6 +42,11 @@ in_run c = is_letter c || (is_digit c || ((c == 46) || ((c == 58) || ((c == 43) 
 -- what begins a run: a digit, `+` and `-`
 unfoldable pub begins_run : ℕ → Bool
 begins_run c = is_digit c || ((c == 43) || (c == 45))
+
+-- ---- words
+-- the characters are this word, which is in UTF-8, with the case of ASCII letters ignored
+unfoldable pub is_written : List ℕ → List ℕ → Bool
+is_written word cs = bytes_eq (map to_ascii_lowercase word) (map to_ascii_lowercase (encode_utf8_all cs))
 
 -- ---- the token of some characters
 -- a run is good where it is a number, a day or a moment

@@ -26,6 +26,6 @@ pub use crate::lexer::tokens;
 pub use crate::lexis::Lexis;
 pub use crate::number::number_count;
 pub use crate::quoted::plain_text;
-pub use crate::text::characters;
+pub use crate::text::{characters, is_written};
 pub use crate::token::{Piece, Placed, Token};
 pub use crate::whole::{at_end, starts};

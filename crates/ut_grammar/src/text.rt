@@ -1,6 +1,7 @@
-//! Texts and their characters.
+//! Texts, their characters, and the words that they are.
 
 ghost use Rattle.std.specs.Prelude.{◌≡◌, IfOk, chars, encode_utf8_all};
+ghost use Rattle.ut_grammar.specs.Tokens.{is_written};
 
 use std::alloc::{AllocError, Global};
 use ut_value::Text;
@@ -26,4 +27,12 @@ pub fn characters(alloc: Global, text: &str) -> Result<Vec<char>, AllocError>
     ensures bytes { IfOk result (λ all. encode_utf8_all all.items ≡ text.now) }
 {
     text.chars().collect(alloc)
+}
+
+/// Whether the text is this word, with the case of ASCII letters ignored.
+#[tactic(auto, unfolding(crate::specs::Tokens::is_written))]
+pub fn is_written(word: &str, text: &Text) -> bool
+    ensures { result ≡ is_written word.now text.now }
+{
+    word.eq_ignore_ascii_case(text.as_str())
 }

@@ -14,5 +14,6 @@ pub mod Counted
 pub mod Paging
 pub mod Splits
 pub mod Calls
+pub mod Alone
 pub mod Prefixes
 pub mod Words

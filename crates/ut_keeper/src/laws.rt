@@ -6,6 +6,7 @@ ghost use Rattle.ut_keeper.specs.declared.keeper.KeptRow.{KeptRow};
 ghost use Rattle.ut_keeper.specs.Tables.{Tables, place_cmp, bytes_cmp, is_between, rows_between, IsListing};
 ghost use Rattle.ut_keeper.specs.Walks.{next_above};
 ghost use Rattle.ut_keeper.specs.Prefixes.{StartsWith, AreBytes, raised};
+ghost use Rattle.ut_keeper.specs.Memory.{InMemory, memory_state};
 ghost use Rattle.ut_keeper.specs.Draft.{Held, count_of, tables_of, removals_of, DraftTells, DraftReads, DraftWorks, rise};
 
 use crate::keeper::Keeper;
@@ -52,6 +53,12 @@ pub fn key_laws()
         → (IsTrue (is_between prefix above key) ↔ StartsWith prefix key) }
     ensures unbounded { (prefix key : List ℕ) → raised prefix ≡ None → AreBytes key
         → (IsTrue (is_ge (bytes_cmp key prefix)) ↔ StartsWith prefix key) }
+{}
+
+/// A draft over a keeper in memory, of which nothing is read: the premises of `draft_laws` can be met.
+pub fn draft_rows()
+    ensures told { (d : Held InMemory) → DraftTells memory_state d d }
+    ensures reads { (d : Held InMemory) → DraftReads memory_state 0 d d }
 {}
 
 /// The laws by which the bounds of calls over one draft add up. The call does nothing.

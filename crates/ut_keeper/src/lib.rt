@@ -22,7 +22,7 @@ mod rows;
 
 pub use crate::draft::Draft;
 pub use crate::keeper::{Batch, Change, KeepFail, Keeper, KeptRow};
-pub use crate::laws::{draft_laws, key_laws, walk_laws};
+pub use crate::laws::{draft_laws, draft_rows, key_laws, walk_laws};
 pub use crate::memory::MemoryKeeper;
 pub use crate::paged::{all_rows, next_key};
 pub use crate::prefix::prefix_ends;

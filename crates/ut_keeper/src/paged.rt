@@ -1,7 +1,7 @@
-ghost use Rattle.std.specs.Prelude.{◌≡◌, ◌<◌, ◌++◌, IfOk, OnOk, IsErrOf, is_ok};
+ghost use Rattle.std.specs.Prelude.{◌≡◌, ◌-◌, ◌<◌, ◌++◌, IfOk, OnOk, IsErrOf, is_ok};
 ghost use Rattle.ut_keeper.specs.declared.keeper.KeepFail.TheVariants.{Failed};
 ghost use Rattle.ut_keeper.specs.Tables.{rows_between};
-ghost use Rattle.ut_keeper.specs.State.{KeeperCause, Quiet, StaysAfter, data_rows};
+ghost use Rattle.ut_keeper.specs.State.{KeeperCause, Quiet, ShownMost, StaysAfter, data_rows};
 ghost use Rattle.ut_keeper.specs.Walks.{next_above};
 ghost use Rattle.ut_keeper.specs.Draft.{state_of, tables_of, DraftTells, DraftReads, rise};
 
@@ -30,7 +30,8 @@ fn add_all(all: &mut Vec<KeptRow>, rows: Vec<KeptRow>) -> Result<(), AllocError>
     all.append(&mut rows)
 }
 
-/// All rows with `from <= key < below` as they will be, in the order of their keys, read `page` rows at a time.
+/// All rows with `from <= key < below` as they will be, in the order of their keys, read `page` rows at a time. No row of
+/// another table is shown for it.
 ///
 /// # Errors
 ///
@@ -46,6 +47,9 @@ pub fn all_rows<K: Keeper>(
     requires { 0 < page }
     ensures rows { DraftTells K.state draft.old draft.new
         → IfOk result (λ rows. rows.items ≡ rows_between (tables_of K.state draft.old) table from.now below.now) }
+    ensures shown { ShownMost table
+        ((state_of K.state draft.new).shown table - (state_of K.state draft.old).shown table)
+        (state_of K.state draft.old) (state_of K.state draft.new) }
     ensures reads { DraftReads K.state (data_rows table (rise K.state draft.old draft.new)) draft.old draft.new }
     ensures stays { StaysAfter (is_ok result) (state_of K.state draft.old) (state_of K.state draft.new) }
     ensures cause { KeeperCause (state_of K.state draft.old) (state_of K.state draft.new) (IsErrOf result Failed) }

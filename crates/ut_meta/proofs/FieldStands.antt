@@ -1,9 +1,13 @@
--- Tables with the rows of a new field stand for the world with it.
+-- The rows of a new field take those of the organisation to those of the tenant with it.
 use Rattle.std.proofs.Common.{◌≡◌, ◌∙◌, ℕ, zero, suc, ◌+◌, ◌<◌, ◌≤◌, ◌^◌, Bool, true, false, ◌&&◌, IsTrue, List, [], ◌∷◌, ◌++◌, length, map, Option, Some, None, refl, sym, ap, subst, arith, length-append}
-use Rattle.std.specs.Prelude.{Ok, is_some, slice_get}
+use Rattle.std.specs.Prelude.{Err, Ok, Result, is_some, slice_get}
 use Rattle.std.specs.List.{AllByRecursion, enumerate_from}
 use Rattle.std.specs.Option.{option_and_then, option_map}
+use Rattle.ut_edits.specs.Edits.{FailsBy, Takes}
+use Rattle.ut_edits.specs.Rows.{change_to}
 use Rattle.ut_keeper.specs.Tables.{Tables}
+use Rattle.ut_keys.specs.declared.fail.StoreFail.{StoreFail}
+use Rattle.ut_keys.specs.declared.fail.StoreFail.TheVariants.{Damaged, Keeper, Memory}
 use Rattle.ut_keys.specs.declared.field.FieldRow.{FieldRow}
 use Rattle.ut_keys.specs.declared.object.ObjectRow.{ObjectRow}
 use Rattle.ut_keys.specs.Forms.{FitsForm, row_bytes}
@@ -17,46 +21,46 @@ use Rattle.ut_model.specs.declared.metadata_bodies.SpelledType.TheVariants.{Plai
 use Rattle.ut_model.specs.declared.refusal.Refusal.TheVariants.{InvalidType}
 use Rattle.ut_model.specs.Cases.{in_case}
 use Rattle.ut_model.specs.Limits.{limit_number}
-use Rattle.ut_model.specs.NewFields.{add_field, field_rules, new_field, with_field, with_target}
-use Rattle.ut_model.specs.Objects.{Numbered, change_at, numbered, object_at, object_named, records_of}
+use Rattle.ut_model.specs.NewFields.{add_field, field_rules, new_field, on_target, with_field}
+use Rattle.ut_model.specs.Objects.{Numbered, change_at, object_named, object_numbered, records_of}
 use Rattle.ut_model.specs.Rules.{first_refusal}
 use Rattle.ut_model.specs.Sound.{IsSound}
 use Rattle.ut_model.specs.SoundMetadata.{IsSoundField, IsSoundObject, implies}
 use Rattle.ut_model.specs.Tenant.{Field, Job, Object, Tenant}
-use Rattle.ut_model.specs.Verdict.{Verdict, accept, done, refuse, with_object}
-use Rattle.ut_model.specs.World.{World, tenant_at}
+use Rattle.ut_model.specs.Verdict.{Verdict, accept, done, on_object, refuse}
 use Rattle.ut_sound.specs.Fit.{is_fit_field}
-use Rattle.ut_stands.specs.Changes.{Change, IsOf, with_changes}
-use Rattle.ut_stands.specs.Layouts.{layout_of, layouts_of, object_row}
-use Rattle.ut_stands.specs.Metadata.{field_of, object_of}
-use Rattle.ut_stands.specs.Operations.{EditsIn}
-use Rattle.ut_stands.specs.Plan.{FitsPlan, OrgPlan, Plan, slot_count, with_plan}
+use Rattle.ut_stands.specs.Changes.{IsOf}
+use Rattle.ut_stands.specs.Fails.{of_store}
+use Rattle.ut_stands.specs.Layouts.{layout_of, own_object_row}
+use Rattle.ut_stands.specs.Local.{FindsThere, IsIn, StandsIn}
+use Rattle.ut_stands.specs.Metadata.{field_of, row_of_object}
+use Rattle.ut_stands.specs.Plan.{FitsPlan, OrgPlan, slot_count}
 use Rattle.ut_stands.specs.Records.{has_free, is_field_key, is_free, is_object_key, suits_flags, with_slot}
-use Rattle.ut_stands.specs.Stands.{Stands, StandsBy, row_in}
+use Rattle.ut_stands.specs.Stands.{row_in}
 use Rattle.ut_stands.specs.declared.layout.Layout.{Layout}
 use Rattle.ut_value.specs.Types.{suits_indexed, suits_unique}
-use Rattle.ut_meta.specs.Judging.{AreLayouts, layouts_in, refusal_of}
-use Rattle.ut_meta.specs.Slots.{IsLeastFree, TakesLeastFree}
+use Rattle.ut_meta.specs.Judging.{layouts_in, verdict_refusal}
+use Rattle.ut_meta.specs.Slots.{FieldPlanned, IsLeastFree, IsLeastUnused}
 use Rattle.ut_meta.specs.declared.edits.fields.NewFieldRows.{NewFieldRows}
-use Rattle.ut_meta.specs.inner.FieldRows.{AreRowsFor, HasTarget, IsSpelled, changes_of, rows_in}
-use Rattle.ut_meta.specs.inner.Relations.{named_in, target_in}
-use Rattle.ut_meta.specs.inner.Rows.{change_to, field_row}
-use Rattle.ut_meta.proofs.Editing.{EditedStands, beside, edit_stands, eqb_same, named_at, other_field, other_object, some_is, unrefused}
-use Rattle.ut_meta.proofs.JudgedFields.{on_object, unnamed}
+use Rattle.ut_meta.specs.inner.FieldRows.{AreOfOrg, AreRowsFor, FitFieldRows, HasTarget, IsSpelled, changes_of, rows_in}
+use Rattle.ut_meta.specs.inner.Relations.{layout_by_name, target_in}
+use Rattle.ut_meta.specs.inner.Rows.{field_row}
+use Rattle.ut_meta.proofs.Editing.{beside, eqb_same, named_at, other_field, other_object, some_is, unrefused}
+use Rattle.ut_meta.proofs.JudgedFields.{field_verdict, unnamed}
 use Rattle.ut_meta.proofs.Layouts.{named_is}
-use Rattle.ut_meta.proofs.Putting.{put_is_of}
+use Rattle.ut_meta.proofs.Putting.{put_is_in, put_is_of}
 
 -- ---- what the layers below say of rows, plans and sound organisations
 
 abbrev pub RowsElsewhere : Type 0
-RowsElsewhere = (p : OrgPlan) (t : Tenant) (n : ℕ) (o : Object) (f : Field) (s : ℕ) (k : Key) → IsSound t → object_at t n ≡ Some o → IsTrue (is_free p t.job n o s) → IsTrue (suits_flags f)
+RowsElsewhere = (p : OrgPlan) (t : Tenant) (n : ℕ) (o : Object) (f : Field) (s : ℕ) (k : Key) → IsSound t → object_numbered t n ≡ Some o → IsTrue (is_free p t.job n o s) → IsTrue (suits_flags f)
     → is_object_key n k ≡ false → is_field_key n (length o.fields) k ≡ false → row_in (with_slot n (length o.fields) s p) (with_field n f t) k ≡ row_in p t k
 
 abbrev pub ObjectFits : Type 0
-ObjectFits = (org : ℕ) (t : Tenant) (n : ℕ) (o : Object) → org < 2 ^ 32 → IsSound t → object_at t n ≡ Some o → FitsForm object_form (object_of org t n o)
+ObjectFits = (org : ℕ) (t : Tenant) (n : ℕ) (o : Object) → org < 2 ^ 32 → IsSound t → object_numbered t n ≡ Some o → FitsForm object_form (row_of_object org t n o)
 
 abbrev pub FieldFits : Type 0
-FieldFits = (org : ℕ) (p : OrgPlan) (t : Tenant) (n i : ℕ) (o : Object) (f : Field) → org < 2 ^ 32 → IsSound t → FitsPlan p t → object_at t n ≡ Some o → slice_get o.fields i ≡ Some f → FitsForm field_form (field_of org p n i f)
+FieldFits = (org : ℕ) (p : OrgPlan) (t : Tenant) (n i : ℕ) (o : Object) (f : Field) → org < 2 ^ 32 → IsSound t → FitsPlan p t → object_numbered t n ≡ Some o → slice_get o.fields i ≡ Some f → FitsForm field_form (field_of org p n i f)
 
 abbrev pub SameCount : Type 0
 SameCount = (t : Tenant) (n m : ℕ) (f : Field) → length (records_of (with_field n f t) m) ≡ length (records_of t m)
@@ -68,10 +72,7 @@ abbrev pub SeesFree : Type 0
 SeesFree = (p : OrgPlan) (t : Tenant) (org n : ℕ) (o : Object) (s : ℕ) → has_free (layout_of org p t (record { number = n; object = o })) s ≡ is_free p t.job n o s
 
 abbrev pub PlanFits : Type 0
-PlanFits = (p : OrgPlan) (t : Tenant) (n : ℕ) (o : Object) (f : Field) (s : ℕ) → IsSound t → FitsPlan p t → object_at t n ≡ Some o → s < slot_count → IsTrue (is_free p t.job n o s) → FitsPlan (with_slot n (length o.fields) s p) (with_field n f t)
-
-abbrev pub TenantSound : Type 0
-TenantSound = (m : Tables) (w : World) (n : ℕ) (t : Tenant) → Stands m w → tenant_at w n ≡ Some t → IsSound t
+PlanFits = (p : OrgPlan) (t : Tenant) (n : ℕ) (o : Object) (f : Field) (s : ℕ) → IsSound t → FitsPlan p t → object_numbered t n ≡ Some o → s < slot_count → IsTrue (is_free p t.job n o s) → FitsPlan (with_slot n (length o.fields) s p) (with_field n f t)
 
 abbrev pub FieldSound : Type 0
 FieldSound = (t : Tenant) (b : NewField) → IsTrue (is_fit_field b) → IsSound t → IsSound (add_field t b).tenant
@@ -105,20 +106,20 @@ numbered_all P k (x ∷ os) zero o h e =
 numbered_all P k (x ∷ os) (suc i) o h e =
     subst (λ (n : ℕ). P (record { number = n; object = o })) (omega arith) (numbered_all P (k + 1) os i o h.1 e)
 
-sound_object : (t : Tenant) (n : ℕ) (o : Object) → IsSound t → object_at t n ≡ Some o → IsSoundObject t.objects (record { number = n; object = o })
+sound_object : (t : Tenant) (n : ℕ) (o : Object) → IsSound t → object_numbered t n ≡ Some o → IsSoundObject t.objects (record { number = n; object = o })
 sound_object t n o s e =
     subst (λ (k : ℕ). IsSoundObject t.objects (record { number = k; object = o })) (omega arith) (numbered_all (IsSoundObject t.objects) 0 t.objects n o s.metadata.objects e)
 
 -- ---- the organisation with the field
 
-module _ (t : Tenant) (n : ℕ) (o : Object) (f : Field) (there : object_at t n ≡ Some o) where
+module _ (t : Tenant) (n : ℕ) (o : Object) (f : Field) (there : object_numbered t n ≡ Some o) where
   abbrev next : Tenant
   next = with_field n f t
 
   abbrev widen : Object → Object
   widen x = record x { fields = x.fields ++ f ∷ [] }
 
-  there_then : object_at next n ≡ Some (widen o)
+  there_then : object_numbered next n ≡ Some (widen o)
   there_then = get_changed n widen t.objects o there
 
   module _ (sound : IsSound next) where
@@ -141,20 +142,20 @@ module _ (t : Tenant) (n : ℕ) (o : Object) (f : Field) (there : object_at t n 
       plan = with_slot n place s p
 
       abbrev old_row : ObjectRow
-      old_row = object_of org t n o
+      old_row = row_of_object org t n o
 
       abbrev new_row : ObjectRow
       new_row = record old_row { fields = old_row.fields + 1 }
 
-      counted_row : SameCount → object_of org next n (widen o) ≡ new_row
+      counted_row : SameCount → row_of_object org next n (widen o) ≡ new_row
       counted_row same =
-          ap (λ (c : ℕ). record (object_of org next n (widen o)) { records = c }) (same t n n f)
+          ap (λ (c : ℕ). record (row_of_object org next n (widen o)) { records = c }) (same t n n f)
           ∙ ap (λ (c : ℕ). record old_row { fields = c }) (length-append o.fields (f ∷ []))
 
       object_there : SameCount → row_in plan next (key.Object org n) ≡ Some (row_bytes object_form new_row)
       unfolding row_in
       object_there same =
-          ap (option_map (λ (x : Object). row_bytes object_form (object_of org next n x))) there_then
+          ap (option_map (λ (x : Object). row_bytes object_form (row_of_object org next n x))) there_then
           ∙ ap (λ (r : ObjectRow). Some (row_bytes object_form r)) (counted_row same)
 
       object_is : SameCount → ObjectFits → IsOf org plan next (change_to object_form new_row)
@@ -192,8 +193,8 @@ pub record IsAccepted (org : ℕ) (p : OrgPlan) (t : Tenant) (b : NewField) (ls 
   pub on : Numbered
   pub target : Option ℕ
   pub is_on : object_named t b.object ≡ Some on
-  pub there : object_at t on.number ≡ Some on.object
-  pub named : named_in ls b.object ≡ Some (layout_of org p t on)
+  pub there : object_numbered t on.number ≡ Some on.object
+  pub named : layout_by_name ls b.object ≡ Some (layout_of org p t on)
   pub targets : target_in ls b.kind ≡ Ok target
   pub has : HasTarget target b.kind
   pub verdict : add_field t b ≡ accept done (with_field on.number (new_field target b) t)
@@ -202,23 +203,23 @@ module _ (org : ℕ) (p : OrgPlan) (t : Tenant) (b : NewField) (ls : List Layout
   abbrev left : Numbered → Option ℕ → Verdict
   left o target = accept done (with_field o.number (new_field target b) t)
 
-  to_object : (o : Numbered) (object : List ℕ) (x : Option Numbered) → object_named t object ≡ x → None ≡ refusal_of (in_case x (refuse t (InvalidType object)) (λ q. on_object t o b (Some q.number)))
-      → (target : Option ℕ) × (in_case (named_in ls object) (unnamed object) (λ (l : Layout). Ok (Some l.object)) ≡ Ok target) × IsTrue (is_some target) × (with_object t object (λ q. on_object t o b (Some q.number)) ≡ left o target)
+  to_object : (o : Numbered) (object : List ℕ) (x : Option Numbered) → object_named t object ≡ x → None ≡ verdict_refusal (in_case x (refuse t (InvalidType object)) (λ q. field_verdict t o b (Some q.number)))
+      → (target : Option ℕ) × (in_case (layout_by_name ls object) (unnamed object) (λ (l : Layout). Ok (Some l.object)) ≡ Ok target) × IsTrue (is_some target) × (on_object t object (λ q. field_verdict t o b (Some q.number)) ≡ left o target)
   to_object o object None here none = absurd cc
   to_object o object (Some q) here none = (
     Some q.number,
     ap (λ (x : Option Layout). in_case x (unnamed object) (λ (l : Layout). Ok (Some l.object))) (named_is org p t ls are object ∙ ap (option_map (layout_of org p t)) here),
     refl,
-    ap (λ (x : Option Numbered). in_case x (refuse t (InvalidType object)) (λ q. on_object t o b (Some q.number))) here
+    ap (λ (x : Option Numbered). in_case x (refuse t (InvalidType object)) (λ q. field_verdict t o b (Some q.number))) here
         ∙ unrefused (first_refusal (field_rules t o (Some q.number) b)) t (with_field o.number (new_field (Some q.number) b) t) none,
   )
 
-  with_kind : (o : Numbered) (kind : SpelledType) → None ≡ refusal_of (with_target t kind (on_object t o b))
-      → (target : Option ℕ) × (target_in ls kind ≡ Ok target) × HasTarget target kind × (with_target t kind (on_object t o b) ≡ left o target)
+  with_kind : (o : Numbered) (kind : SpelledType) → None ≡ verdict_refusal (on_target t kind (field_verdict t o b))
+      → (target : Option ℕ) × (target_in ls kind ≡ Ok target) × HasTarget target kind × (on_target t kind (field_verdict t o b) ≡ left o target)
   with_kind o (Plain kind) none = (None, refl, tt, unrefused (first_refusal (field_rules t o None b)) t (with_field o.number (new_field None b) t) none)
   with_kind o (LookupTo object on_delete child) none = to_object o object (object_named t object) refl none
 
-  of_object : (x : Option Numbered) → object_named t b.object ≡ x → None ≡ refusal_of (in_case x (refuse t (InvalidType b.object)) (λ o. with_target t b.kind (on_object t o b))) → IsAccepted org p t b ls
+  of_object : (x : Option Numbered) → object_named t b.object ≡ x → None ≡ verdict_refusal (in_case x (refuse t (InvalidType b.object)) (λ o. on_target t b.kind (field_verdict t o b))) → IsAccepted org p t b ls
   of_object None here none = absurd cc
   of_object (Some o) here none =
       let k = with_kind o b.kind none in
@@ -230,24 +231,17 @@ module _ (org : ℕ) (p : OrgPlan) (t : Tenant) (b : NewField) (ls : List Layout
         named = named_is org p t ls are b.object ∙ ap (option_map (layout_of org p t)) here;
         targets = k.1;
         has = k.2;
-        verdict = ap (λ (x : Option Numbered). in_case x (refuse t (InvalidType b.object)) (λ o. with_target t b.kind (on_object t o b))) here ∙ k.3;
+        verdict = ap (λ (x : Option Numbered). in_case x (refuse t (InvalidType b.object)) (λ o. on_target t b.kind (field_verdict t o b))) here ∙ k.3;
       }
 
-  accepted : None ≡ refusal_of (add_field t b) → IsAccepted org p t b ls
+  accepted : None ≡ verdict_refusal (add_field t b) → IsAccepted org p t b ls
   accepted none = of_object (object_named t b.object) refl none
 
 -- ---- the edit
 
-layouts_there : (org : ℕ) (p : Plan) (w : World) (t : Tenant) → tenant_at w org ≡ Some t → layouts_of org p w ≡ layouts_in org (p.org org) t
-unfolding layouts_of
-layouts_there org p w t at = ap (λ (x : Option Tenant). in_case x [] (λ (t : Tenant). map (layout_of org (p.org org) t) (numbered t.objects))) at
-
-pub are_layouts : (org : ℕ) (p : Plan) (w : World) (t : Tenant) (ls : List Layout) → tenant_at w org ≡ Some t → ls ≡ layouts_of org p w → AreLayouts t ls
-are_layouts org p w t ls at are = (org, p.org org, are ∙ layouts_there org p w t at)
-
-module _ (tenants : TenantSound) (fields : FieldSound) (p : Plan) (m : Tables) (w : World) (org : ℕ) (t : Tenant) (b : NewField) (ls : List Layout) (s : StandsBy p m w) (at : tenant_at w org ≡ Some t) (fit : IsTrue (is_fit_field b)) (are : ls ≡ layouts_of org p w) (none : None ≡ refusal_of (add_field t b)) where
-  pub it : IsAccepted org (p.org org) t b ls
-  it = accepted org (p.org org) t b ls (are ∙ layouts_there org p w t at) none
+module _ (fields : FieldSound) (org : ℕ) (q : OrgPlan) (t : Tenant) (b : NewField) (ls : List Layout) (sound : IsSound t) (plan : FitsPlan q t) (fit : IsTrue (is_fit_field b)) (are : ls ≡ layouts_in org q t) (none : None ≡ verdict_refusal (add_field t b)) where
+  pub it : IsAccepted org q t b ls
+  it = accepted org q t b ls are none
 
   abbrev n : ℕ
   n = it.on.number
@@ -258,55 +252,49 @@ module _ (tenants : TenantSound) (fields : FieldSound) (p : Plan) (m : Tables) (
   abbrev f : Field
   f = new_field it.target b
 
-  sound_before : IsSound t
-  sound_before = tenants m w org t (p, s) at
-
-  sound_after : IsSound (add_field t b).tenant
-  sound_after = fields t b fit sound_before
-
   sound_next : IsSound (with_field n f t)
-  sound_next = subst IsSound (ap (λ (v : Verdict). v.tenant) it.verdict) sound_after
-
-  abbrev q : OrgPlan
-  q = p.org org
+  sound_next = subst IsSound (ap (λ (v : Verdict). v.tenant) it.verdict) (fields t b fit sound)
 
   -- ---- what was read
 
   abbrev old : ObjectRow
-  old = object_of org t n o
+  old = row_of_object org t n o
 
-  layout_is : (l : Layout) → named_in ls b.object ≡ Some l → l ≡ layout_of org q t it.on
+  layout_is : (l : Layout) → layout_by_name ls b.object ≡ Some l → l ≡ layout_of org q t it.on
   layout_is l named = some_is l (layout_of org q t it.on) (sym named ∙ it.named)
 
-  row_at : object_row org n p w ≡ Some old
-  row_at = ap (option_and_then (λ (t : Tenant). option_map (object_of org t n) (object_at t n))) at ∙ ap (option_map (object_of org t n)) it.there
+  -- the row by the number in the layout of the object with the name
+  its_row : (l : Layout) → layout_by_name ls b.object ≡ Some l → own_object_row org l.object q (Some t) ≡ Some old
+  its_row l named = ap (λ (x : Layout). own_object_row org x.object q (Some t)) (layout_is l named) ∙ ap (option_map (row_of_object org t n)) it.there
 
-  -- the layout by the object's name, and the row by the number in it
-  found : (l : Layout) (row : Option ObjectRow) → named_in ls b.object ≡ Some l → row ≡ object_row org l.object p w → row ≡ Some old
-  found l row named read = read ∙ ap (λ (x : Layout). object_row org x.object p w) (layout_is l named) ∙ row_at
-
-  pub no_layout : named_in ls b.object ≡ None → ⊥
+  pub no_layout : layout_by_name ls b.object ≡ None → ⊥
   no_layout named = absent (sym named ∙ it.named)
     where
       absent : ◌≡◌ {A = Option Layout} None (Some (layout_of org q t it.on)) → ⊥
       absent e = cc
 
-  pub no_row : (l : Layout) (row : Option ObjectRow) → named_in ls b.object ≡ Some l → row ≡ object_row org l.object p w → row ≡ None → ⊥
-  no_row l row named read none = absent (sym none ∙ found l row named read)
+  pub row_read : (m : Tables) (l : Layout) (r : Result ObjectRow StoreFail) (row : ObjectRow) → StandsIn org q m (Some t) → layout_by_name ls b.object ≡ Some l → FindsThere org (own_object_row org l.object) m r → r ≡ Ok row → row ≡ old
+  row_read m l r row s named h was = some_is row old (subst (FindsThere org (own_object_row org l.object) m) was h q (Some t) s ∙ its_row l named)
+
+  pub row_missed : (m : Tables) (l : Layout) (v : Verdict) (r : Result ObjectRow StoreFail) (e : StoreFail) → StandsIn org q m (Some t) → layout_by_name ls b.object ≡ Some l → FindsThere org (own_object_row org l.object) m r → r ≡ Err e
+      → FailsBy v (of_store e)
+  row_missed m l v r e s named h was = by e (subst (FindsThere org (own_object_row org l.object) m) was h)
     where
-      absent : ◌≡◌ {A = Option ObjectRow} None (Some old) → ⊥
+      absent : ◌≡◌ {A = Option ObjectRow} (Some old) None → ⊥
       absent e = cc
 
-  pub row_read : (l : Layout) (read : Option ObjectRow) (row : ObjectRow) → named_in ls b.object ≡ Some l → read ≡ object_row org l.object p w → read ≡ Some row → row ≡ old
-  row_read l read row named is some = some_is row old (sym some ∙ found l read named is)
+      by : (e : StoreFail) → FindsThere org (own_object_row org l.object) m (Err e) → e ≡ Damaged → ⊥
+      by Damaged h d = absent (sym (its_row l named) ∙ h q (Some t) s)
+      by Keeper h d = absurd cc
+      by Memory h d = absurd cc
 
-  -- ---- what was put
+  -- ---- what is changed
 
-  pub field_stands : EditedStands → RowsElsewhere → ObjectFits → FieldFits → SameCount → HasFree → SeesFree → PlanFits → org < 2 ^ 32
-      → (l : Layout) (row : ObjectRow) (rows : NewFieldRows) (after : Tables) → named_in ls b.object ≡ Some l → row ≡ old
-      → ((target : Option ℕ) → target_in ls b.kind ≡ Ok target → AreRowsFor l row (new_field target b) rows) → after ≡ with_changes (changes_of rows) m
-      → TakesLeastFree org b p w t it.on after
-  field_stands edited elsewhere object_fits field_fits same has sees plans low l row rows after named is_old makes puts =
+  pub field_takes : RowsElsewhere → ObjectFits → FieldFits → SameCount → HasFree → SeesFree → PlanFits → org < 2 ^ 32
+      → (l : Layout) (row : ObjectRow) (rows : NewFieldRows) → layout_by_name ls b.object ≡ Some l → row ≡ old
+      → ((target : Option ℕ) → target_in ls b.kind ≡ Ok target → AreRowsFor l row (new_field target b) rows)
+      → Takes org q t (add_field t b) (FieldPlanned b) (changes_of rows)
+  field_takes elsewhere object_fits field_fits same has sees plans low l row rows named is_old makes =
       let of_row : AreRowsFor l old f rows = subst (λ (x : ObjectRow). AreRowsFor l x f rows) is_old (makes it.target it.targets) in
       let r : AreRowsFor (layout_of org q t it.on) old f rows = subst (λ (x : Layout). AreRowsFor x old f rows) (layout_is l named) of_row in
       let slot = rows.field.slot in
@@ -314,28 +302,24 @@ module _ (tenants : TenantSound) (fields : FieldSound) (p : Plan) (m : Tables) (
       let some = has q t.job n o (omega (arith, few)) in
       let least : IsLeastFree (layout_of org q t it.on) slot = r.least some.0 some.1 (sees q t org n o some.0 ∙ some.2) in
       let free : is_free q t.job n o slot ≡ true = sym (sees q t org n o slot) ∙ least.free in
-      let good = plans q t n o f slot sound_before (s.plans org t at) it.there r.below free in
+      let good = plans q t n o f slot sound plan it.there r.below free in
       let counted = change_to object_form (rows_in slot old f).object in
       let field = change_to field_form (rows_in slot old f).field in
-      let changes : List Change = changes_of (rows_in slot old f) in
-      let made : after ≡ with_changes changes m = puts ∙ ap (λ (x : NewFieldRows). with_changes (changes_of x) m) r.made in (
-        slot,
-        least,
-        edit_stands edited p m after w org t (with_field n f t) (with_slot n (length o.fields) slot q) (add_field t b) changes s at it.verdict sound_after good
-            (object_is t n o f it.there sound_next org q slot low same object_fits, (field_is t n o f it.there sound_next org q slot low field_fits good, tt))
-            (λ k of unchanged.
+      let unused : IsLeastUnused q t it.on slot = record { unused = free; least = λ s below. sym (sees q t org n o s) ∙ least.least s below } in
+      let takes : Takes org q t (accept done (with_field n f t)) (FieldPlanned b) (changes_of (rows_in slot old f)) = record {
+        answer = refl;
+        sound = sound_next;
+        plan = with_slot n (length o.fields) slot q;
+        kept = λ on named_on. subst (λ (x : Numbered). (s : ℕ) × IsLeastUnused q t x s × (with_slot n (length o.fields) slot q ≡ with_slot x.number (length x.object.fields) s q)) (some_is it.on on (sym it.is_on ∙ named_on)) (slot, unused, refl);
+        fits = good;
+        are = (object_is t n o f it.there sound_next org q slot low same object_fits, (field_is t n o f it.there sound_next org q slot low field_fits good, tt));
+        rest = λ k of unchanged.
             let first = beside counted (field ∷ []) k unchanged in
             let second = beside field [] k first.1 in
-            elsewhere q t n o f slot k sound_before it.there free (suits t n o f it.there sound_next) (other_object org n k of first.0) (other_field org n (length o.fields) k of second.0))
-            made,
-      )
-
-  pub field_takes : (on : Numbered) (after : Tables) → object_named t b.object ≡ Some on → TakesLeastFree org b p w t it.on after → TakesLeastFree org b p w t on after
-  field_takes on after named takes = subst (λ (x : Numbered). TakesLeastFree org b p w t x after) (some_is it.on on (sym it.is_on ∙ named)) takes
-
-  pub field_done : (after : Tables) → TakesLeastFree org b p w t it.on after → EditsIn org (add_field t b) w after (Ok tt)
-  field_done after takes =
-      (ap (λ (v : Verdict). v.answer) it.verdict, (with_plan org (with_slot n (length o.fields) takes.0 (p.org org)) p, takes.2))
+            elsewhere q t n o f slot k sound it.there free (suits t n o f it.there sound_next) (other_object org n k of first.0) (other_field org n (length o.fields) k of second.0);
+      } in
+      subst (λ (x : NewFieldRows). Takes org q t (add_field t b) (FieldPlanned b) (changes_of x)) (sym r.made)
+      (subst (λ (v : Verdict). Takes org q t v (FieldPlanned b) (changes_of (rows_in slot old f))) (sym it.verdict) takes)
 
   -- ---- failures
 
@@ -345,8 +329,15 @@ module _ (tenants : TenantSound) (fields : FieldSound) (p : Plan) (m : Tables) (
   pub field_spelled : FieldFits → HasFree → PlanFits → org < 2 ^ 32 → IsSpelled f
   field_spelled field_fits has plans low =
       let some = has q t.job n o (omega (arith, few_before t n o f it.there sound_next)) in
-      let good = plans q t n o f some.0 sound_before (s.plans org t at) it.there some.1 some.2 in
+      let good = plans q t n o f some.0 sound plan it.there some.1 some.2 in
       spelled t n o f it.there sound_next org q some.0 low field_fits good
 
   pub few_counted : (row : ObjectRow) → row ≡ old → row.fields < 255
   few_counted row is = subst (λ (x : ObjectRow). x.fields < 255) (sym is) (omega (arith, few_before t n o f it.there sound_next))
+
+-- whatever the organisation has, the rows are at its keys
+pub field_own : (org n : ℕ) (row : ObjectRow) (rows : NewFieldRows) → FitFieldRows rows → AreOfOrg row.org rows → object_form.keyed row ≡ (org, n) → AllByRecursion (IsIn org) (changes_of rows)
+field_own org n row rows fits of own = (
+  put_is_in object_form org rows.object fits.object (ap Some of.object ∙ ap (λ (k : ℕ × ℕ). Some k.0) own),
+  (put_is_in field_form org rows.field fits.field (ap Some of.field ∙ ap (λ (k : ℕ × ℕ). Some k.0) own), tt),
+)

@@ -17,13 +17,13 @@ use Rattle.ut_stands.specs.Plan.{OrgPlan}
 use Rattle.ut_stands.specs.declared.layout.FieldPlace.{FieldPlace}
 use Rattle.ut_stands.specs.declared.layout.Layout.{Layout}
 use Rattle.ut_value.specs.declared.sharing.Access.{Access}
-use Rattle.ut_meta.specs.Judging.{AreLayouts, IsNamedLayout, refusal_of}
-use Rattle.ut_meta.specs.inner.Relations.{layout_gives, named_in}
+use Rattle.ut_meta.specs.Judging.{AreLayouts, IsNamedLayout, verdict_refusal}
+use Rattle.ut_meta.specs.inner.Relations.{layout_by_name, layout_gives}
 use Rattle.ut_meta.specs.inner.Fields.{Places}
 use Rattle.ut_meta.proofs.Layouts.{named_is, relationships_are}
 
 -- what is refused is the first refusal of the rules
-pub rules_refuse : (t : Tenant) (rules : Rule) (answer : Done) (after : Tenant) → refusal_of (unless rules t (accept answer after)) ≡ rules
+pub rules_refuse : (t : Tenant) (rules : Rule) (answer : Done) (after : Tenant) → verdict_refusal (unless rules t (accept answer after)) ≡ rules
 rules_refuse t None answer after = refl
 rules_refuse t (Some r) answer after = refl
 
@@ -56,11 +56,11 @@ masters_back p n k [] = refl
 masters_back p n k (f ∷ fs) = ap (λ (b : Bool). is_master f.kind || b) (masters_back p n (k + 1) fs)
 
 pub unknown_object : (t : Tenant) (name : List ℕ) (access : Access) (layout : Option Layout) → IsNamedLayout t name layout → layout ≡ None
-    → refusal_of (set_access t name access) ≡ Some (InvalidType name)
+    → verdict_refusal (set_access t name access) ≡ Some (InvalidType name)
 unknown_object t name access layout (org, p, e) none = rw (none_named org p t name (sym e ∙ none)) refl
 
 pub known_object : (t : Tenant) (name : List ℕ) (access : Access) (layout : Option Layout) (l : Layout) → IsNamedLayout t name layout → layout ≡ Some l
-    → refusal_of (set_access t name access) ≡ refuse_if (list_any (λ (f : FieldPlace). is_master f.kind) l.fields) (InvalidType l.name)
+    → verdict_refusal (set_access t name access) ≡ refuse_if (list_any (λ (f : FieldPlace). is_master f.kind) l.fields) (InvalidType l.name)
 known_object t name access layout l (org, p, e) some =
     let f = one_named org p t name l (sym e ∙ some) in
     let o = f.numbered in
@@ -83,7 +83,7 @@ pub first_none : (r : Rule) (rs : List Rule) → r ≡ None → first_refusal (r
 first_none r rs e = rw e refl
 
 -- the object with a name, by the layouts
-pub absent : (t : Tenant) (ls : List Layout) → AreLayouts t ls → (name : List ℕ) → named_in ls name ≡ None → object_named t name ≡ None
+pub absent : (t : Tenant) (ls : List Layout) → AreLayouts t ls → (name : List ℕ) → layout_by_name ls name ≡ None → object_named t name ≡ None
 absent t ls (org, p, e) name none = none_named org p t name (sym (named_is org p t ls e name) ∙ none)
 
 -- an object that a layout is of
@@ -93,15 +93,15 @@ pub record IsObjectOf (t : Tenant) (ls : List Layout) (name : List ℕ) (l : Lay
   pub number : l.object ≡ numbered.number
   pub places : Places t numbered ls l
 
-pub present : (t : Tenant) (ls : List Layout) → AreLayouts t ls → (name : List ℕ) (l : Layout) → named_in ls name ≡ Some l → IsObjectOf t ls name l
+pub present : (t : Tenant) (ls : List Layout) → AreLayouts t ls → (name : List ℕ) (l : Layout) → layout_by_name ls name ≡ Some l → IsObjectOf t ls name l
 present t ls (org, p, e) name l some =
     let f = one_named org p t name l (sym (named_is org p t ls e name) ∙ some) in
     record { numbered = f.numbered; there = f.there; number = ap (λ (x : Layout). x.object) f.same; places = record { org = org; plan = p; all = e; one = f.same } }
 
-pub child_free : (t : Tenant) (ls : List Layout) → AreLayouts t ls → (m : NewMaster) → named_in ls m.parent ≡ None → child_name_taken t m ≡ None
+pub child_free : (t : Tenant) (ls : List Layout) → AreLayouts t ls → (m : NewMaster) → layout_by_name ls m.parent ≡ None → child_name_taken t m ≡ None
 child_free t ls h m none = rw (absent t ls h m.parent none) refl
 
-pub child_is_taken : (t : Tenant) (ls : List Layout) → AreLayouts t ls → (m : NewMaster) (l : Layout) → named_in ls m.parent ≡ Some l
+pub child_is_taken : (t : Tenant) (ls : List Layout) → AreLayouts t ls → (m : NewMaster) (l : Layout) → layout_by_name ls m.parent ≡ Some l
     → child_name_taken t m ≡ refuse_if (list_any (layout_gives l.object m.child) ls) (NameTaken m.child)
 child_is_taken t ls h m l some =
     let f = present t ls h m.parent l some in
@@ -109,16 +109,16 @@ child_is_taken t ls h m l some =
     (ap (λ (b : Bool). refuse_if b (NameTaken m.child)) (sym (relationships_are f.numbered.number m.child t ls h))
     ∙ ap (λ (n : ℕ). refuse_if (list_any (layout_gives n m.child) ls) (NameTaken m.child)) (sym f.number))
 
-pub parent_absent : (t : Tenant) (ls : List Layout) → AreLayouts t ls → (m : NewMaster) → named_in ls m.parent ≡ None → no_parent t m ≡ Some (InvalidType m.parent)
+pub parent_absent : (t : Tenant) (ls : List Layout) → AreLayouts t ls → (m : NewMaster) → layout_by_name ls m.parent ≡ None → no_parent t m ≡ Some (InvalidType m.parent)
 parent_absent t ls h m none = rw (absent t ls h m.parent none) refl
 
-pub parent_present : (t : Tenant) (ls : List Layout) → AreLayouts t ls → (m : NewMaster) (l : Layout) → named_in ls m.parent ≡ Some l → no_parent t m ≡ None
+pub parent_present : (t : Tenant) (ls : List Layout) → AreLayouts t ls → (m : NewMaster) (l : Layout) → layout_by_name ls m.parent ≡ Some l → no_parent t m ≡ None
 parent_present t ls h m l some = let f = present t ls h m.parent l some in rw f.there refl
 
-pub no_depth : (t : Tenant) (ls : List Layout) → AreLayouts t ls → (m : NewMaster) → named_in ls m.parent ≡ None → too_deep t m ≡ None
+pub no_depth : (t : Tenant) (ls : List Layout) → AreLayouts t ls → (m : NewMaster) → layout_by_name ls m.parent ≡ None → too_deep t m ≡ None
 no_depth t ls h m none = rw (absent t ls h m.parent none) refl
 
-pub depth_is : (t : Tenant) (ls : List Layout) → AreLayouts t ls → (m : NewMaster) (l : Layout) → named_in ls m.parent ≡ Some l
+pub depth_is : (t : Tenant) (ls : List Layout) → AreLayouts t ls → (m : NewMaster) (l : Layout) → layout_by_name ls m.parent ≡ Some l
     → too_deep t m ≡ over_limit ((limit.DetailLevels, detail_level t.objects l.object + 1) ∷ [])
 depth_is t ls h m l some =
     let f = present t ls h m.parent l some in

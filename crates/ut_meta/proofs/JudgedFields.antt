@@ -9,7 +9,7 @@ use Rattle.ut_model.specs.declared.metadata_bodies.SpelledType.TheVariants.{Plai
 use Rattle.ut_model.specs.declared.refusal.Refusal.TheVariants.{InvalidType, NameTaken}
 use Rattle.ut_model.specs.Cases.{in_case}
 use Rattle.ut_model.specs.Fields.{same_name}
-use Rattle.ut_model.specs.NewFields.{add_field, child_of, child_taken, field_rules, new_field, own_child, own_parent, parent_taken, with_field, with_target}
+use Rattle.ut_model.specs.NewFields.{add_field, child_of, child_taken, field_rules, new_field, on_target, own_child, own_parent, parent_taken, with_field}
 use Rattle.ut_model.specs.Objects.{Numbered}
 use Rattle.ut_model.specs.Relationships.{parent_name, relationship_names}
 use Rattle.ut_model.specs.Rules.{first_refusal, refuse_if}
@@ -19,9 +19,9 @@ use Rattle.ut_stands.specs.Layouts.{place_of}
 use Rattle.ut_stands.specs.Plan.{OrgPlan}
 use Rattle.ut_stands.specs.declared.layout.FieldPlace.{FieldPlace}
 use Rattle.ut_stands.specs.declared.layout.Layout.{Layout}
-use Rattle.ut_meta.specs.Judging.{AreLayouts, refusal_of}
+use Rattle.ut_meta.specs.Judging.{AreLayouts, verdict_refusal}
 use Rattle.ut_meta.specs.inner.Fields.{Places}
-use Rattle.ut_meta.specs.inner.Relations.{layout_gives, named_in, target_in}
+use Rattle.ut_meta.specs.inner.Relations.{layout_by_name, layout_gives, target_in}
 use Rattle.ut_meta.proofs.Judged.{absent, present, rules_refuse}
 use Rattle.ut_meta.proofs.Layouts.{relationships_are}
 
@@ -70,12 +70,12 @@ no_child_taken t n target b e = rw e refl
 
 -- ---- the verdict
 
-pub no_object : (t : Tenant) (ls : List Layout) → AreLayouts t ls → (b : NewField) → named_in ls b.object ≡ None → refusal_of (add_field t b) ≡ Some (InvalidType b.object)
+pub no_object : (t : Tenant) (ls : List Layout) → AreLayouts t ls → (b : NewField) → layout_by_name ls b.object ≡ None → verdict_refusal (add_field t b) ≡ Some (InvalidType b.object)
 no_object t ls h b e = rw (absent t ls h b.object e) refl
 
 -- the verdict on a field of this object, whose type refers to this one
-abbrev pub on_object : Tenant → Numbered → NewField → Option ℕ → Verdict
-on_object t o b target = judged t (field_rules t o target b) (accept done (with_field o.number (new_field target b) t))
+abbrev pub field_verdict : Tenant → Numbered → NewField → Option ℕ → Verdict
+field_verdict t o b target = judged t (field_rules t o target b) (accept done (with_field o.number (new_field target b) t))
 
 -- there is no object with this name
 abbrev pub unnamed : List ℕ → Result (Option ℕ) (List ℕ)
@@ -86,35 +86,35 @@ module _ (t : Tenant) (ls : List Layout) (h : AreLayouts t ls) (b : NewField) (o
   named_err None object name e = (refl, cc)
   named_err (Some l) object name e = absurd cc
 
-  unknown_target : (name : List ℕ) (kind : SpelledType) → target_in ls kind ≡ Err name → refusal_of (with_target t kind (on_object t o b)) ≡ Some (InvalidType name)
+  unknown_target : (name : List ℕ) (kind : SpelledType) → target_in ls kind ≡ Err name → verdict_refusal (on_target t kind (field_verdict t o b)) ≡ Some (InvalidType name)
   unknown_target name (Plain kind) e = absurd cc
   unknown_target name (LookupTo object on_delete child) e =
-      let n = named_err (named_in ls object) object name e in
+      let n = named_err (layout_by_name ls object) object name e in
       rw (absent t ls h object n.0) (ap (λ (x : List ℕ). Some (InvalidType x)) n.1)
 
-  judged_on : (target : Option ℕ) → refusal_of (on_object t o b target) ≡ first_refusal (field_rules t o target b)
+  judged_on : (target : Option ℕ) → verdict_refusal (field_verdict t o b target) ≡ first_refusal (field_rules t o target b)
   judged_on target = rules_refuse t (first_refusal (field_rules t o target b)) done (with_field o.number (new_field target b) t)
 
   named_ok : (x : Option Layout) (object : List ℕ) (target : Option ℕ) → in_case x (unnamed object) (λ (l : Layout). Ok (Some l.object)) ≡ Ok target → (l : Layout) × (x ≡ Some l) × (Some l.object ≡ target)
   named_ok None object target e = absurd cc
   named_ok (Some l) object target e = (l, refl, cc)
 
-  known_target : (target : Option ℕ) (kind : SpelledType) → target_in ls kind ≡ Ok target → refusal_of (with_target t kind (on_object t o b)) ≡ first_refusal (field_rules t o target b)
+  known_target : (target : Option ℕ) (kind : SpelledType) → target_in ls kind ≡ Ok target → verdict_refusal (on_target t kind (field_verdict t o b)) ≡ first_refusal (field_rules t o target b)
   known_target target (Plain kind) e =
       let is : None ≡ target = cc in
       judged_on None ∙ ap (λ (x : Option ℕ). first_refusal (field_rules t o x b)) is
   known_target target (LookupTo object on_delete child) e =
-      let (l, some, is) = named_ok (named_in ls object) object target e in
+      let (l, some, is) = named_ok (layout_by_name ls object) object target e in
       let f = present t ls h object l some in
       rw f.there
       (judged_on (Some f.numbered.number) ∙ ap (λ (x : Option ℕ). first_refusal (field_rules t o x b)) (ap Some (sym f.number) ∙ is))
 
-pub no_target : (t : Tenant) (ls : List Layout) → (h : AreLayouts t ls) → (b : NewField) (l : Layout) → named_in ls b.object ≡ Some l → (name : List ℕ) → target_in ls b.kind ≡ Err name
-    → refusal_of (add_field t b) ≡ Some (InvalidType name)
+pub no_target : (t : Tenant) (ls : List Layout) → (h : AreLayouts t ls) → (b : NewField) (l : Layout) → layout_by_name ls b.object ≡ Some l → (name : List ℕ) → target_in ls b.kind ≡ Err name
+    → verdict_refusal (add_field t b) ≡ Some (InvalidType name)
 no_target t ls h b l e name bad = let f = present t ls h b.object l e in rw f.there (unknown_target t ls h b f.numbered name b.kind bad)
 
-pub placed : (t : Tenant) (ls : List Layout) (h : AreLayouts t ls) (b : NewField) (l : Layout) → named_in ls b.object ≡ Some l → (target : Option ℕ) → target_in ls b.kind ≡ Ok target
-    → (o : Numbered) × Places t o ls l × (refusal_of (add_field t b) ≡ first_refusal (field_rules t o target b))
+pub placed : (t : Tenant) (ls : List Layout) (h : AreLayouts t ls) (b : NewField) (l : Layout) → layout_by_name ls b.object ≡ Some l → (target : Option ℕ) → target_in ls b.kind ≡ Ok target
+    → (o : Numbered) × Places t o ls l × (verdict_refusal (add_field t b) ≡ first_refusal (field_rules t o target b))
 placed t ls h b l e target good =
     let f = present t ls h b.object l e in
     (f.numbered, f.places, rw f.there (known_target t ls h b f.numbered target b.kind good))

@@ -8,7 +8,7 @@ use Rattle.ut_model.specs.Cases.{in_case}
 use Rattle.ut_model.specs.Fields.{same_name}
 use Rattle.ut_model.specs.Metadata.{masters_above}
 use Rattle.ut_model.specs.Objects.{Numbered, numbered, object_named}
-use Rattle.ut_model.specs.Relationships.{Reference, master_in, parent_name, reference_at, references, references_of, relationship_names, target_of}
+use Rattle.ut_model.specs.Relationships.{Reference, master_of_object, parent_name, reference_at, references, references_of, relationship_names, target_of}
 use Rattle.ut_model.specs.Tenant.{Field, Object, Tenant}
 use Rattle.ut_value.specs.declared.value.FieldType.{FieldType}
 use Rattle.ut_value.specs.declared.value.FieldType.TheVariants as type
@@ -17,12 +17,12 @@ use Rattle.ut_stands.specs.Plan.{OrgPlan}
 use Rattle.ut_stands.specs.declared.layout.FieldPlace.{FieldPlace}
 use Rattle.ut_stands.specs.declared.layout.Layout.{Layout}
 use Rattle.ut_meta.specs.Judging.{AreLayouts, layouts_in}
-use Rattle.ut_meta.specs.inner.Relations.{field_in, gives, has_child, is_master_of, layout_gives, master_among, master_of, named_in, names_among, numbered_in, references_in}
+use Rattle.ut_meta.specs.inner.Relations.{field_of_place, gives, has_child, is_master_of, layout_by_name, layout_gives, master_among, master_object, names_among, numbered_in, references_in}
 use Rattle.ut_meta.proofs.Lists.{any_joined, any_of_passed, any_of_some, any_same, found_mapped, joined_mapped, joined_same, or_none, or_pairs, pick}
 
 -- ---- fields
 
-pub fields_back : (p : OrgPlan) (n k : ℕ) (fs : List Field) → map field_in (map (place_of p n) (enumerate_from k fs)) ≡ fs
+pub fields_back : (p : OrgPlan) (n k : ℕ) (fs : List Field) → map field_of_place (map (place_of p n) (enumerate_from k fs)) ≡ fs
 fields_back p n k [] = refl
 fields_back p n k (f ∷ fs) = ap (λ (x : List Field). f ∷ x) (fields_back p n (k + 1) fs)
 
@@ -49,10 +49,10 @@ length_is t ls (org, p, e) = ap length e ∙ length_from org p t 0 t.objects
 
 -- the layout with a name is that of the object with it
 pub named_is : (org : ℕ) (p : OrgPlan) (t : Tenant) (ls : List Layout) → ls ≡ layouts_in org p t → (name : List ℕ)
-    → named_in ls name ≡ option_map (layout_of org p t) (object_named t name)
+    → layout_by_name ls name ≡ option_map (layout_of org p t) (object_named t name)
 unfolding object_named
 named_is org p t ls e name =
-    ap (λ (l : List Layout). named_in l name) e
+    ap (λ (l : List Layout). layout_by_name l name) e
     ∙ found_mapped (λ (l : Layout). same_name l.name name) (layout_of org p t) (numbered t.objects)
 
 -- ---- references
@@ -98,15 +98,15 @@ module _ (n : ℕ) (name : List ℕ) where
       by_target (Some target) e = rw e (or_none _)
 
   of_fields : (object k : ℕ) (fs : List FieldPlace)
-      → list_any (λ (f : ℕ × Field). list_any ref_gives (reference_at object f)) (enumerate_from k (map field_in fs)) ≡ list_any (λ (f : FieldPlace). gives n name object (field_in f)) fs
+      → list_any (λ (f : ℕ × Field). list_any ref_gives (reference_at object f)) (enumerate_from k (map field_of_place fs)) ≡ list_any (λ (f : FieldPlace). gives n name object (field_of_place f)) fs
   of_fields object k [] = refl
   of_fields object k (f ∷ fs) =
-      ap (λ (b : Bool). b || list_any (λ (f : ℕ × Field). list_any ref_gives (reference_at object f)) (enumerate_from (k + 1) (map field_in fs))) (of_field object k (field_in f))
-      ∙ ap (λ (b : Bool). gives n name object (field_in f) || b) (of_fields object (k + 1) fs)
+      ap (λ (b : Bool). b || list_any (λ (f : ℕ × Field). list_any ref_gives (reference_at object f)) (enumerate_from (k + 1) (map field_of_place fs))) (of_field object k (field_of_place f))
+      ∙ ap (λ (b : Bool). gives n name object (field_of_place f) || b) (of_fields object (k + 1) fs)
 
   of_layout : (l : Layout) → list_any ref_gives (references_of (numbered_in l)) ≡ layout_gives n name l
   of_layout l =
-      any_joined ref_gives (reference_at l.object) (enumerate_from 1 (map field_in l.fields))
+      any_joined ref_gives (reference_at l.object) (enumerate_from 1 (map field_of_place l.fields))
       ∙ of_fields l.object 1 l.fields
 
   pub relationships_are : (t : Tenant) (ls : List Layout) → AreLayouts t ls → list_any (layout_gives n name) ls ≡ list_any (same_name name) (relationship_names t.objects n)
@@ -126,7 +126,7 @@ module _ (object n : ℕ) where
   with_kind f kind = record f { kind = kind }
 
   abbrev ref_at : ℕ → FieldPlace → FieldType → ℕ → Reference
-  ref_at k f kind target = record { object = object; position = k; field = field_in (with_kind f kind); target = target }
+  ref_at k f kind target = record { object = object; position = k; field = field_of_place (with_kind f kind); target = target }
 
   -- the masters among the fields, or else these
   abbrev pub or_else : Bool → Option ℕ → Option ℕ → Option ℕ
@@ -134,7 +134,7 @@ module _ (object n : ℕ) where
 
   of_kind : (k : ℕ) (f : FieldPlace) (kind : FieldType) (fs : List FieldPlace) (rest : List Reference) (other : Option ℕ)
       → master_in_all rest ≡ or_else (object == n) (master_among fs) other
-      → master_in_all (reference_at object (k, field_in (with_kind f kind)) ++ rest) ≡ or_else (object == n) (master_among (with_kind f kind ∷ fs)) other
+      → master_in_all (reference_at object (k, field_of_place (with_kind f kind)) ++ rest) ≡ or_else (object == n) (master_among (with_kind f kind ∷ fs)) other
   of_kind k f (type.Text m) fs rest other h = h
   of_kind k f (type.Number d m) fs rest other h = h
   of_kind k f type.Checkbox fs rest other h = h
@@ -147,18 +147,18 @@ module _ (object n : ℕ) where
       pick (object == n) (λ b. option_map (λ (f : Reference). f.target) (cond (b && true) (Some (ref_at k f (type.Master o) o)) (find (is_master_of n) rest)) ≡ or_else b (Some o) other) (λ e. refl) (λ e. h ∙ ap (λ (b : Bool). or_else b (master_among fs) other) e)
 
   of_places : (k : ℕ) (fs : List FieldPlace) (rest : List Reference)
-      → master_in_all (flat_map (reference_at object) (enumerate_from k (map field_in fs)) ++ rest) ≡ or_else (object == n) (master_among fs) (master_in_all rest)
+      → master_in_all (flat_map (reference_at object) (enumerate_from k (map field_of_place fs)) ++ rest) ≡ or_else (object == n) (master_among fs) (master_in_all rest)
   of_places k [] rest = pick (object == n) (λ b. master_in_all rest ≡ or_else b None (master_in_all rest)) (λ e. refl) (λ e. refl)
   of_places k (f ∷ fs) rest =
       subst (λ (gs : List Reference). master_in_all gs ≡ or_else (object == n) (master_among (f ∷ fs)) (master_in_all rest))
-      (sym (append_assoc (reference_at object (k, field_in f)) (flat_map (reference_at object) (enumerate_from (k + 1) (map field_in fs))) rest))
-      (of_kind k f f.kind fs (flat_map (reference_at object) (enumerate_from (k + 1) (map field_in fs)) ++ rest) (master_in_all rest) (of_places (k + 1) fs rest))
+      (sym (append_assoc (reference_at object (k, field_of_place f)) (flat_map (reference_at object) (enumerate_from (k + 1) (map field_of_place fs))) rest))
+      (of_kind k f f.kind fs (flat_map (reference_at object) (enumerate_from (k + 1) (map field_of_place fs)) ++ rest) (master_in_all rest) (of_places (k + 1) fs rest))
 
 -- a layout's masters, or else those of the others
-pub master_first : (l : Layout) (ls : List Layout) (n : ℕ) → master_of (l ∷ ls) n ≡ or_else l.object n (l.object == n) (master_among l.fields) (master_of ls n)
+pub master_first : (l : Layout) (ls : List Layout) (n : ℕ) → master_object (l ∷ ls) n ≡ or_else l.object n (l.object == n) (master_among l.fields) (master_object ls n)
 master_first l ls n = of_places l.object n 1 l.fields (references_in ls)
 
-pub master_is : (t : Tenant) (ls : List Layout) → AreLayouts t ls → (n : ℕ) → master_of ls n ≡ option_map (λ (f : Reference). f.target) (master_in t.objects n)
+pub master_is : (t : Tenant) (ls : List Layout) → AreLayouts t ls → (n : ℕ) → master_object ls n ≡ option_map (λ (f : Reference). f.target) (master_of_object t.objects n)
 master_is t ls h n = ap (λ (fs : List Reference). option_map (λ (f : Reference). f.target) (find (is_master_of n) fs)) (references_are t ls h)
 
 -- ---- levels
@@ -170,14 +170,14 @@ by_target g (Some f) x e = subst (λ (y : Option ℕ). suc (g f.target) ≡ in_c
 
 -- a level, by the object of the masters
 level_is : (t : Tenant) (ls : List Layout) → AreLayouts t ls → (most n : ℕ)
-    → masters_above (suc most) t.objects n ≡ in_case (master_of ls n) 0 (λ target. suc (masters_above most t.objects target))
-level_is t ls h most n = by_target (masters_above most t.objects) (master_in t.objects n) (master_of ls n) (sym (master_is t ls h n))
+    → masters_above (suc most) t.objects n ≡ in_case (master_object ls n) 0 (λ target. suc (masters_above most t.objects target))
+level_is t ls h most n = by_target (masters_above most t.objects) (master_of_object t.objects n) (master_object ls n) (sym (master_is t ls h n))
 
-pub level_none : (t : Tenant) (ls : List Layout) → AreLayouts t ls → (most n : ℕ) → master_of ls n ≡ None → 0 ≡ masters_above most t.objects n
+pub level_none : (t : Tenant) (ls : List Layout) → AreLayouts t ls → (most n : ℕ) → master_object ls n ≡ None → 0 ≡ masters_above most t.objects n
 level_none t ls h zero n e = refl
 level_none t ls h (suc most) n e = sym (level_is t ls h most n ∙ ap (λ (x : Option ℕ). in_case x 0 (λ target. suc (masters_above most t.objects target))) e)
 
-pub level_some : (t : Tenant) (ls : List Layout) → AreLayouts t ls → (most less n target r : ℕ) → most ≡ suc less → master_of ls n ≡ Some target → r ≡ masters_above less t.objects target
+pub level_some : (t : Tenant) (ls : List Layout) → AreLayouts t ls → (most less n target r : ℕ) → most ≡ suc less → master_object ls n ≡ Some target → r ≡ masters_above less t.objects target
     → suc r ≡ masters_above most t.objects n
 level_some t ls h most less n target r is e above =
     ap suc above

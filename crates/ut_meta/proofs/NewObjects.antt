@@ -1,10 +1,12 @@
 -- A new object: the rows that it changes are those of the tenant after it, and tables with them stand for the world with it.
 use Rattle.std.proofs.Common.{◌≡◌, ◌∙◌, ℕ, ◌+◌, ◌<◌, ◌≤◌, ◌^◌, Bool, true, false, ◌&&◌, cond, eqb, IsTrue, List, [], ◌∷◌, ◌++◌, length, Option, Some, None, refl, sym, ap, subst, arith, length-append}
-use Rattle.std.specs.Prelude.{IfSome, Ok, codes, filter, is_some, map, slice_get}
+use Rattle.std.specs.Prelude.{IfSome, codes, filter, is_some, map, slice_get}
 use Rattle.std.specs.List.{AllByRecursion}
 use Rattle.std.specs.Option.{option_and_then, option_map}
 use Rattle.std.proofs.lemmas.Bool.{eqb-false, eqb-true}
-use Rattle.ut_keeper.specs.Tables.{Tables}
+use Rattle.ut_edits.specs.Edits.{Planned, Takes}
+use Rattle.ut_edits.specs.Rows.{change_to, spelled as as_data}
+use Rattle.ut_keeper.specs.declared.keeper.Change.{Change as Spelled}
 use Rattle.ut_keys.specs.declared.field.FieldRow.{FieldRow}
 use Rattle.ut_keys.specs.declared.org.OrgRow.{OrgRow}
 use Rattle.ut_keys.specs.Forms.{FitsForm, row_bytes}
@@ -20,29 +22,29 @@ use Rattle.ut_model.specs.Cases.{in_case}
 use Rattle.ut_model.specs.Known.{Known, known}
 use Rattle.ut_model.specs.Metadata.{add_object, child_name_taken, master_field, master_names, new_fields, new_object, no_parent, object_rules, too_deep}
 use Rattle.ut_model.specs.Names.{bad_name, is_custom_name, taken}
-use Rattle.ut_model.specs.Objects.{Numbered, is_of, object_at, object_named, object_number, records_of}
+use Rattle.ut_model.specs.Objects.{Numbered, is_of, object_named, object_number, object_numbered, records_of}
 use Rattle.ut_model.specs.Rules.{Rule, first_refusal, in_body_order, over_limit}
 use Rattle.ut_model.specs.Sound.{IsSound}
 use Rattle.ut_model.specs.SoundRecords.{IsSoundRecord}
 use Rattle.ut_model.specs.Tenant.{Field, Object, Tenant}
 use Rattle.ut_model.specs.Verdict.{Verdict, accept, done}
-use Rattle.ut_model.specs.World.{World, tenant_at}
 use Rattle.ut_sound.specs.Fit.{is_fit_object}
-use Rattle.ut_stands.specs.Changes.{Change, IsOf, is_changed, with_changes}
+use Rattle.ut_stands.specs.Changes.{Change, IsOf, is_changed}
 use Rattle.ut_stands.specs.Layouts.{layout_of}
-use Rattle.ut_stands.specs.Metadata.{field_of, object_of, org_of}
-use Rattle.ut_stands.specs.Operations.{EditsIn}
-use Rattle.ut_stands.specs.Plan.{FitsPlan, OrgPlan, Plan, slot_count}
+use Rattle.ut_stands.specs.Local.{IsIn}
+use Rattle.ut_stands.specs.Metadata.{field_of, org_of, row_of_object}
+use Rattle.ut_stands.specs.Plan.{FitsPlan, OrgPlan, slot_count}
 use Rattle.ut_stands.specs.Records.{is_field_key, is_object_key, is_org_key, with_slot}
-use Rattle.ut_stands.specs.Stands.{StandsBy, owner_of, row_in}
+use Rattle.ut_stands.specs.Stands.{org_of_key, row_in}
 use Rattle.ut_stands.specs.declared.layout.Layout.{Layout}
 use Rattle.ut_meta.specs.Judging.{layouts_in}
 use Rattle.ut_meta.specs.declared.edits.objects.NewRows.{NewRows}
-use Rattle.ut_meta.specs.inner.NewRows.{AreSpelled, IsSpelledMaster, changes_of, field_change, first_field, master_row, new_object_row, rows_by}
-use Rattle.ut_meta.specs.inner.Rows.{change_to}
-use Rattle.ut_meta.proofs.Editing.{EditedStands, beside, edit_done, other_field, other_object, other_org, unless_none}
+use Rattle.ut_meta.specs.inner.NewRows.{AreSpelled, FitRows, IsSpelledMaster, changes_of, field_row_changes, first_field, master_row, new_object_row, rows_by}
+use Rattle.ut_meta.specs.inner.Relations.{layout_by_name}
+use Rattle.ut_meta.proofs.Editing.{beside, other_field, other_object, other_org, unless_none}
 use Rattle.ut_meta.proofs.Layouts.{length_is, named_is}
 use Rattle.ut_meta.proofs.Lists.{pick}
+use Rattle.ut_meta.proofs.Putting.{put_is_in}
 
 some_is : {A : Type 0} (x y : A) → ◌≡◌ {A = Option A} (Some x) (Some y) → x ≡ y
 some_is x y e = cc
@@ -110,13 +112,13 @@ pub record Laws : Type 0 where
   pub sound : (t : Tenant) (b : NewObject) → IsTrue (is_fit_object b) → IsSound t → IsSound (add_object t b).tenant
   pub slots : (p : OrgPlan) (t : Tenant) (o : Object) (s : ℕ) → IsSound t → FitsPlan p t → s < slot_count → length o.fields ≤ 1
       → FitsPlan (with_slot (length t.objects) 0 s p) (record t { objects = t.objects ++ o ∷ [] })
-  pub rows : (p : OrgPlan) (t : Tenant) (o : Object) (s : ℕ) (k : Key) → IsSound t → length o.fields ≤ 1 → o.rules ≡ []
+  pub rows : (p : OrgPlan) (t : Tenant) (o : Object) (s : ℕ) (k : Key) → IsSound t → length o.fields ≤ 1 → o.validation_rules ≡ []
       → is_org_key k ≡ false → is_object_key (length t.objects) k ≡ false → is_field_key (length t.objects) 0 k ≡ false
       → row_in (with_slot (length t.objects) 0 s p) (record t { objects = t.objects ++ o ∷ [] }) k ≡ row_in p t k
-  pub object_fits : (org : ℕ) (t : Tenant) (n : ℕ) (o : Object) → org < 2 ^ 32 → IsSound t → object_at t n ≡ Some o
-      → FitsForm object_form (object_of org t n o)
+  pub object_fits : (org : ℕ) (t : Tenant) (n : ℕ) (o : Object) → org < 2 ^ 32 → IsSound t → object_numbered t n ≡ Some o
+      → FitsForm object_form (row_of_object org t n o)
   pub field_fits : (org : ℕ) (p : OrgPlan) (t : Tenant) (n i : ℕ) (o : Object) (f : Field) → org < 2 ^ 32 → IsSound t → FitsPlan p t
-      → object_at t n ≡ Some o → slice_get o.fields i ≡ Some f → FitsForm field_form (field_of org p n i f)
+      → object_numbered t n ≡ Some o → slice_get o.fields i ≡ Some f → FitsForm field_form (field_of org p n i f)
 
 -- ---- the rows
 
@@ -161,7 +163,7 @@ module _ (laws : Laws) (org : ℕ) (small : org < 2 ^ 32) (p : OrgPlan) (t : Ten
   next_fits : FitsPlan q u
   next_fits = laws.slots p t o 0 sound fits (omega arith) few
 
-  at_n : object_at u n ≡ Some o
+  at_n : object_numbered u n ≡ Some o
   at_n = get_last t.objects o
 
   few_objects : n + 1 ≤ 100
@@ -175,7 +177,7 @@ module _ (laws : Laws) (org : ℕ) (small : org < 2 ^ 32) (p : OrgPlan) (t : Ten
 
   -- the rows of the tenant after it
   abbrev rows_after : NewRows
-  rows_after = record { org = org_of org u; field = first_row; object = object_of org u n o }
+  rows_after = record { org = org_of org u; field = first_row; object = row_of_object org u n o }
 
   first_by : (master : Option NewMaster) → first_field org n ls master ≡ option_map (field_of org q n 0) (slice_get (new_fields t master) 0)
   first_by None = refl
@@ -237,9 +239,9 @@ module _ (laws : Laws) (org : ℕ) (small : org < 2 ^ 32) (p : OrgPlan) (t : Ten
   unfolding row_in
   org_row_is = refl
 
-  object_row_is : row_in q u (key.Object org n) ≡ Some (row_bytes object_form (object_of org u n o))
+  object_row_is : row_in q u (key.Object org n) ≡ Some (row_bytes object_form (row_of_object org u n o))
   unfolding row_in
-  object_row_is = ap (option_map (λ (o : Object). row_bytes object_form (object_of org u n o))) at_n
+  object_row_is = ap (option_map (λ (o : Object). row_bytes object_form (row_of_object org u n o))) at_n
 
   field_row_is : (f : Field) → slice_get o.fields 0 ≡ Some f → row_in q u (key.Field org n 0) ≡ Some (row_bytes field_form (field_of org q n 0 f))
   unfolding row_in
@@ -253,11 +255,11 @@ module _ (laws : Laws) (org : ℕ) (small : org < 2 ^ 32) (p : OrgPlan) (t : Ten
       low : n < 2 ^ 16
       low = omega (arith, few_objects)
 
-      object_own : IsOf org q u (change_to object_form (object_of org u n o))
+      object_own : IsOf org q u (change_to object_form (row_of_object org u n o))
       object_own = ((small, low), refl, object_row_is)
 
       of_field : (x : Option Field) → slice_get o.fields 0 ≡ x
-          → AllByRecursion (IsOf org q u) (field_change (option_map (field_of org q n 0) x) ++ change_to object_form (object_of org u n o) ∷ [])
+          → AllByRecursion (IsOf org q u) (field_row_changes (option_map (field_of org q n 0) x) ++ change_to object_form (row_of_object org u n o) ∷ [])
       of_field None e = (object_own, tt)
       of_field (Some f) e = (((small, (low, omega arith)), refl, field_row_is f e), (object_own, tt))
 
@@ -269,49 +271,84 @@ module _ (laws : Laws) (org : ℕ) (small : org < 2 ^ 32) (p : OrgPlan) (t : Ten
   no_field (key.Field a m g) h e =
       let (is_n, is_0) = both (eqb m n) (eqb g 0) h in
       let field = λ (x : Object). slice_get x.fields g in
-      let after : option_and_then field (object_at u m) ≡ None =
-      ap (λ (i : ℕ). option_and_then field (object_at u i)) (eqb-true m n is_n) ∙ ap (option_and_then field) at_n ∙ ap (slice_get o.fields) (eqb-true g 0 is_0) ∙ e in
-      let before : option_and_then field (object_at t m) ≡ None =
-      ap (λ (i : ℕ). option_and_then field (object_at t i)) (eqb-true m n is_n) ∙ ap (option_and_then field) (get_past t.objects) in
+      let after : option_and_then field (object_numbered u m) ≡ None =
+      ap (λ (i : ℕ). option_and_then field (object_numbered u i)) (eqb-true m n is_n) ∙ ap (option_and_then field) at_n ∙ ap (slice_get o.fields) (eqb-true g 0 is_0) ∙ e in
+      let before : option_and_then field (object_numbered t m) ≡ None =
+      ap (λ (i : ℕ). option_and_then field (object_numbered t i)) (eqb-true m n is_n) ∙ ap (option_and_then field) (get_past t.objects) in
       ap (option_map (λ (f : Field). row_bytes field_form (field_of a q m g f))) after
       ∙ sym (ap (option_map (λ (f : Field). row_bytes field_form (field_of a p m g f))) before)
   no_field k h e = absurd cc
 
-  elsewhere : (k : Key) → owner_of k ≡ Some org → is_changed (changes_of rows_after) k ≡ false → row_in q u k ≡ row_in p t k
+  elsewhere : (k : Key) → org_of_key k ≡ Some org → is_changed (changes_of rows_after) k ≡ false → row_in q u k ≡ row_in p t k
   elsewhere k of h = by (slice_get o.fields 0) refl h
     where
       last : List Change
-      last = change_to object_form (object_of org u n o) ∷ []
+      last = change_to object_form (row_of_object org u n o) ∷ []
 
       same : key_eq k (key.Org org) ≡ false → key_eq k (key.Object org n) ≡ false → is_field_key n 0 k ≡ false → row_in q u k ≡ row_in p t k
       same a b c = laws.rows p t o 0 k sound few refl (other_org org k of a) (other_object org n k of b) c
 
       by : (x : Option Field) → slice_get o.fields 0 ≡ x
-          → is_changed (change_to org_form (org_of org u) ∷ (field_change (option_map (field_of org q n 0) x) ++ last)) k ≡ false → row_in q u k ≡ row_in p t k
+          → is_changed (change_to org_form (org_of org u) ∷ (field_row_changes (option_map (field_of org q n 0) x) ++ last)) k ≡ false → row_in q u k ≡ row_in p t k
       by None e h =
           let (a, h2) = beside (change_to org_form (org_of org u)) last k h in
-          let (b, _) = beside (change_to object_form (object_of org u n o)) [] k h2 in
+          let (b, _) = beside (change_to object_form (row_of_object org u n o)) [] k h2 in
           pick (is_field_key n 0 k) (λ _. row_in q u k ≡ row_in p t k) (λ c. no_field k c e) (λ c. same a b c)
       by (Some f) e h =
           let (a, h2) = beside (change_to org_form (org_of org u)) (change_to field_form (field_of org q n 0 f) ∷ last) k h in
           let (c, h3) = beside (change_to field_form (field_of org q n 0 f)) last k h2 in
-          let (b, _) = beside (change_to object_form (object_of org u n o)) [] k h3 in
+          let (b, _) = beside (change_to object_form (row_of_object org u n o)) [] k h3 in
           same a b (other_field org n 0 k of c)
 
--- ---- the tables
+-- ---- the edit
 
--- with these rows they stand for the world with the object
-pub object_stands : Laws → EditedStands → (org : ℕ) → org < 2 ^ 32 → (p : Plan) (m after : Tables) (w : World) (t : Tenant) (b : NewObject) (ls : List Layout) (row : OrgRow) (rows : NewRows)
-    → StandsBy p m w → IsSound t → tenant_at w org ≡ Some t → IsTrue (is_fit_object b) → IsUnrefused t b
-    → ls ≡ layouts_in org (p.org org) t → row ≡ org_of org t → rows ≡ rows_by ls row b → after ≡ with_changes (changes_of rows) m
-    → EditsIn org (add_object t b) w after (Ok tt)
-object_stands laws edited org small p m after w t b ls row rows s sound at fit unrefused is row_is rows_is tables =
-    let fits = s.plans org t at in
-    let same : rows ≡ rows_after laws org small (p.org org) t b ls is fits sound fit unrefused =
-    rows_is ∙ ap (λ (r : OrgRow). rows_by ls r b) row_is ∙ rows_are laws org small (p.org org) t b ls is fits sound fit unrefused in
-    edit_done edited p m after w org t (with_new t b) (with_slot (length t.objects) 0 0 (p.org org)) (add_object t b)
-    (changes_of (rows_after laws org small (p.org org) t b ls is fits sound fit unrefused)) s at (accepted t b unrefused) (laws.sound t b fit sound)
-    (next_fits laws org small (p.org org) t b ls is fits sound fit unrefused)
-    (own laws org small (p.org org) t b ls is fits sound fit unrefused)
-    (elsewhere laws org small (p.org org) t b ls is fits sound fit unrefused)
-    (tables ∙ ap (λ (r : NewRows). with_changes (changes_of r) m) same)
+-- how the rows are kept with the object: a first field of it is in slot 0
+abbrev pub ObjectPlanned : Planned
+ObjectPlanned q t next = next ≡ with_slot (length t.objects) 0 0 q
+
+-- these rows take the organisation's to those of the tenant with the object
+pub object_takes : Laws → (org : ℕ) → org < 2 ^ 32 → (q : OrgPlan) (t : Tenant) (b : NewObject) (ls : List Layout) (row : OrgRow) (rows : NewRows)
+    → FitsPlan q t → IsSound t → IsTrue (is_fit_object b) → IsUnrefused t b → ls ≡ layouts_in org q t → row ≡ org_of org t → rows ≡ rows_by ls row b
+    → Takes org q t (add_object t b) ObjectPlanned (changes_of rows)
+object_takes laws org small q t b ls row rows fits sound fit unrefused is row_is rows_is =
+    let same : rows ≡ rows_after laws org small q t b ls is fits sound fit unrefused =
+    rows_is ∙ ap (λ (r : OrgRow). rows_by ls r b) row_is ∙ rows_are laws org small q t b ls is fits sound fit unrefused in
+    let takes : Takes org q t (accept done (with_new t b)) ObjectPlanned (changes_of (rows_after laws org small q t b ls is fits sound fit unrefused)) = record {
+      answer = refl;
+      sound = subst IsSound (ap (λ (v : Verdict). v.tenant) (accepted t b unrefused)) (laws.sound t b fit sound);
+      plan = with_slot (length t.objects) 0 0 q;
+      kept = refl;
+      fits = next_fits laws org small q t b ls is fits sound fit unrefused;
+      are = own laws org small q t b ls is fits sound fit unrefused;
+      rest = elsewhere laws org small q t b ls is fits sound fit unrefused;
+    } in
+    subst (λ (r : NewRows). Takes org q t (add_object t b) ObjectPlanned (changes_of r)) (sym same)
+    (subst (λ (v : Verdict). Takes org q t v ObjectPlanned (changes_of (rows_after laws org small q t b ls is fits sound fit unrefused))) (sym (accepted t b unrefused)) takes)
+
+-- whatever the organisation has, they are at its keys
+pub object_own : (org : ℕ) (ls : List Layout) (row : OrgRow) (b : NewObject) (rows : NewRows) → FitRows rows → rows ≡ rows_by ls row b → row.org ≡ org → AllByRecursion (IsIn org) (changes_of rows)
+object_own org ls row b rows fits is own =
+    (put_is_in org_form org rows.org fits.org (ap (λ (r : NewRows). Some r.org.org) is ∙ ap Some own), of_field rows.field fits.field (ap (λ (r : NewRows). r.field) is))
+  where
+    object_in : IsIn org (change_to object_form rows.object)
+    object_in = put_is_in object_form org rows.object fits.object (ap (λ (r : NewRows). Some r.object.org) is ∙ ap Some own)
+
+    number_of : (n : ℕ) (m : Option NewMaster) (f : FieldRow) → first_field row.org n ls m ≡ Some f → f.org ≡ row.org
+    number_of n None f e = absurd (none_is f e)
+    number_of n (Some m) f e = by (layout_by_name ls m.parent) e
+      where
+        by : (l : Option Layout) → option_map (λ (l : Layout). master_row row.org n l.object m) l ≡ Some f → f.org ≡ row.org
+        by None e = absurd (none_is f e)
+        by (Some l) e = ap (λ (x : FieldRow). x.org) (sym (some_is (master_row row.org n l.object m) f e))
+
+    of_field : (f : Option FieldRow) → IfSome f (FitsForm field_form) → f ≡ first_field row.org (length ls) ls b.master → AllByRecursion (IsIn org) (field_row_changes f ++ change_to object_form rows.object ∷ [])
+    of_field None h e = (object_in, tt)
+    of_field (Some f) h e = (put_is_in field_form org f h (ap Some (number_of (length ls) b.master f (sym e) ∙ own)), (object_in, tt))
+
+-- the changes as data, one after the other
+pub spelled_rows : (a c : Change) (field : Option FieldRow) (x y z : List Spelled) → x ≡ [] ++ as_data a ∷ [] → y ≡ x ++ map as_data (field_row_changes field) → z ≡ y ++ as_data c ∷ [] → z ≡ map as_data (a ∷ (field_row_changes field ++ c ∷ []))
+spelled_rows a c field x y z ex ey ez = ez ∙ ap (λ (u : List Spelled). u ++ as_data c ∷ []) (ey ∙ ap (λ (u : List Spelled). u ++ map as_data (field_row_changes field)) ex) ∙ by field
+  where
+    by : (field : Option FieldRow) → ((as_data a ∷ []) ++ map as_data (field_row_changes field)) ++ as_data c ∷ [] ≡ map as_data (a ∷ (field_row_changes field ++ c ∷ []))
+    by None = refl
+    by (Some f) = refl

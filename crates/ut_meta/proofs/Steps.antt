@@ -17,7 +17,7 @@ use Rattle.ut_stands.specs.declared.layout.FieldPlace.{FieldPlace}
 use Rattle.ut_stands.specs.declared.layout.Layout.{Layout}
 use Rattle.ut_meta.specs.Judging.{AreLayouts}
 use Rattle.ut_meta.specs.inner.Fields.{Places}
-use Rattle.ut_meta.specs.inner.Relations.{named_in}
+use Rattle.ut_meta.specs.inner.Relations.{layout_by_name}
 use Rattle.ut_meta.proofs.JudgedFields.{field_names}
 use Rattle.ut_meta.proofs.Layouts.{names_are}
 use Rattle.ut_meta.proofs.Lists.{pick}
@@ -27,8 +27,8 @@ pub if_ok : {X E : Type 0} (r : Result X E) (x y : X) → x ≡ y → IfOk r (λ
 if_ok {X = X} {E = E} r x y e h = subst (λ (z : X). IfOk r (λ v. v ≡ z)) e h
 
 -- a layout's name is given as a text
-pub at_name : (ls : List Layout) (a b : List ℕ) (x : Option Layout) → a ≡ b → named_in ls a ≡ x → named_in ls b ≡ x
-at_name ls a b x e h = ap (named_in ls) (sym e) ∙ h
+pub at_name : (ls : List Layout) (a b : List ℕ) (x : Option Layout) → a ≡ b → layout_by_name ls a ≡ x → layout_by_name ls b ≡ x
+at_name ls a b x e h = ap (layout_by_name ls) (sym e) ∙ h
 
 -- ---- the rule of a member
 

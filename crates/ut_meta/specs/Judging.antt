@@ -2,11 +2,13 @@
 -- Source: Salesforce, "Custom Object" and "Custom Field", as in the definitions of new objects and fields.
 use Rattle.std.specs.Prelude.{◌≡◌, ℕ, List, map, Option, Some, None, Result, Ok, Err}
 use Rattle.std.specs.Option.{option_map}
-use Rattle.ut_model.specs.Objects.{numbered, object_named}
+use Rattle.ut_edits.specs.Edits.{FailsBy}
+use Rattle.ut_model.specs.Objects.{Numbered, numbered, object_named}
 use Rattle.ut_model.specs.Rules.{Rule}
 use Rattle.ut_model.specs.Tenant.{Tenant}
 use Rattle.ut_model.specs.Verdict.{Done, Verdict}
 use Rattle.ut_model.specs.declared.refusal.Refusal.{Refusal}
+use Rattle.ut_stands.specs.declared.fail.EditFail.{EditFail}
 use Rattle.ut_stands.specs.Layouts.{layout_of}
 use Rattle.ut_stands.specs.Plan.{OrgPlan}
 use Rattle.ut_stands.specs.declared.layout.Layout.{Layout}
@@ -32,5 +34,12 @@ rule_of_answer (Ok answer) = None
 rule_of_answer (Err refusal) = Some refusal
 
 -- why a request is refused, if it is
-abbrev pub refusal_of : Verdict → Rule
-refusal_of v = rule_of_answer v.answer
+abbrev pub verdict_refusal : Verdict → Rule
+verdict_refusal v = rule_of_answer v.answer
+
+-- ---- what judging finds
+
+-- the number of the object with this name, where the verdict doesn't refuse; or why there is none
+abbrev pub AcceptsOn : Tenant → (name : List ℕ) → Verdict → Result ℕ EditFail → Type 0
+AcceptsOn t name v (Ok n) = (None ≡ verdict_refusal v) × ((o : Numbered) × (object_named t name ≡ Some o) × (n ≡ o.number))
+AcceptsOn t name v (Err e) = FailsBy v e

@@ -1,10 +1,10 @@
-//! An administrator's edits of metadata, over a draft of an organisation's tables.
+//! An administrator's edits of metadata.
 
 mod access;
 mod copies;
 mod fields;
 mod objects;
 
-pub use self::access::set_access;
-pub use self::fields::add_field;
-pub use self::objects::add_object;
+pub use self::access::SetAccess;
+pub use self::fields::AddField;
+pub use self::objects::AddObject;

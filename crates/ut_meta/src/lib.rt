@@ -1,7 +1,7 @@
 //! An administrator's edits of metadata: new objects, another default access, new fields.
 //!
-//! It depends on `ut_model` and `ut_stands`. Its contract: over tables that stand for a world an edit is refused exactly as
-//! its verdict says, or the draft's tables stand for the world with what the verdict leaves.
+//! It depends on `ut_model`, `ut_stands` and `ut_edits`. Its contract is that of `Edit`: each is judged by its verdict, and its
+//! changes take the organisation's rows to those of what the verdict leaves.
 #![tactic(auto)]
 
 mod edits;
@@ -12,6 +12,6 @@ mod relations;
 mod rules;
 mod slots;
 
-pub use crate::edits::{add_field, add_object, set_access};
+pub use crate::edits::{AddField, AddObject, SetAccess};
 pub use crate::judging::{judge_access, judge_field, judge_object, target_number};
 pub use crate::slots::free_slot;

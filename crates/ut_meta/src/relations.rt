@@ -15,8 +15,8 @@ use ut_stands::{FieldPlace, Layout};
 
 /// The layout of the object with this name, whatever the case of its letters.
 pub fn layout_named<'a>(layouts: &'a [Layout], name: &str) -> Option<&'a Layout>
-    ensures { MatchOption result (inner.named_in layouts.now (chars name.now) ≡ None)
-        (λ l. inner.named_in layouts.now (chars name.now) ≡ Some l.now) }
+    ensures { MatchOption result (inner.layout_by_name layouts.now (chars name.now) ≡ None)
+        (λ l. inner.layout_by_name layouts.now (chars name.now) ≡ Some l.now) }
 {
     match layouts.split_first() {
         None => None,
@@ -48,7 +48,7 @@ fn gives(
     object: u16,
     field: &FieldPlace,
 ) -> Result<bool, AllocError>
-    ensures { IfOk result (λ b. b ≡ inner.gives number (chars name.now) object (inner.field_in field.now)) }
+    ensures { IfOk result (λ b. b ≡ inner.gives number (chars name.now) object (inner.field_of_place field.now)) }
 {
     let Some(target) = target_of(&field.kind) else {
         return Ok(false);
@@ -68,7 +68,7 @@ fn any_gives(
     object: u16,
     fields: &[FieldPlace],
 ) -> Result<bool, AllocError>
-    ensures { IfOk result (λ b. b ≡ list_any (λ f. inner.gives number (chars name.now) object (inner.field_in f)) fields.now) }
+    ensures { IfOk result (λ b. b ≡ list_any (λ f. inner.gives number (chars name.now) object (inner.field_of_place f)) fields.now) }
 {
     match fields.split_first() {
         None => Ok(false),
@@ -126,7 +126,7 @@ fn master_among(fields: &[FieldPlace]) -> Option<u16>
 // The object of the masters of the records of the object with this number.
 #[tactic(auto, using(crate::proofs::Layouts::master_first))]
 fn master_of(layouts: &[Layout], number: u16) -> Option<u16>
-    ensures { result ≡ inner.master_of layouts.now number }
+    ensures { result ≡ inner.master_object layouts.now number }
 {
     match layouts.split_first() {
         None => None,

@@ -12,8 +12,8 @@ use Rattle.ut_model.specs.Known.{item_of, known}
 use Rattle.ut_model.specs.Levels.{at_least, by_access, by_grant, can_read, full_for_edit, grants, greatest, level, level_within, own_level, owns, readable}
 use Rattle.ut_model.specs.Membership.{Has}
 use Rattle.ut_model.specs.Metadata.{masters_above}
-use Rattle.ut_model.specs.Objects.{is_of, numbered, object_number, object_of, record_at, records_of}
-use Rattle.ut_model.specs.Relationships.{Reference, master_in, named_id, named_record, references, references_of}
+use Rattle.ut_model.specs.Objects.{is_of, numbered, object_number, object_of_record, record_at, records_of}
+use Rattle.ut_model.specs.Relationships.{Reference, master_of_object, named_id, named_record, references, references_of}
 use Rattle.ut_model.specs.Sound.{IsSound}
 use Rattle.ut_model.specs.SoundMetadata.{IsSoundObject}
 use Rattle.ut_model.specs.SoundRecords.{IsSoundRecord, is_sound_reference}
@@ -48,7 +48,7 @@ module _ (t : Tenant) (u : User) (s : IsSound t) where
     there : Has t.records it
     number : object_number it.id ≡ f.target
 
-  master_of : (r : Record) (f : Reference) → Has t.records r → master_in t.objects (object_number r.id) ≡ Some f → Master r f
+  master_of : (r : Record) (f : Reference) → Has t.records r → master_of_object t.objects (object_number r.id) ≡ Some f → Master r f
   master_of r f m e = by_id (named_id f r) refl sound_reference
     where
       w : IsSoundRecord (known t) t.objects r
@@ -87,12 +87,12 @@ module _ (t : Tenant) (u : User) (s : IsSound t) where
     own_full : (r : Record) → own_level t u r ≡ Full
     unfolding own_level
     own_full r =
-        let others = in_case (object_of t r) Nothing (λ o. by_access o.access) ∷ map (by_grant t u) (grants t r) in
+        let others = in_case (object_of_record t r) Nothing (λ o. by_access o.access) ∷ map (by_grant t u) (grants t r) in
         ap (λ b. greatest (cond (b || owns t u r) Full Nothing ∷ others)) admin ∙ most others
 
     step : (k : ℕ) (r : Record) → Has t.records r
         → ((f : Reference) → suc (masters_above k t.objects f.target) ≤ k → (x : Record) → Has t.records x → object_number x.id ≡ f.target → level_within k t u x ≡ Full)
-        → (o : Option Reference) → master_in t.objects (object_number r.id) ≡ o → in_case o 0 (λ f. suc (masters_above k t.objects f.target)) ≤ k
+        → (o : Option Reference) → master_of_object t.objects (object_number r.id) ≡ o → in_case o 0 (λ f. suc (masters_above k t.objects f.target)) ≤ k
         → in_case o (own_level t u r) (λ f. in_case (named_record t f r) Nothing (λ m. full_for_edit (level_within k t u m))) ≡ Full
     step k r m deeper None e few = own_full r
     step k r m deeper (Some f) e few =
@@ -100,11 +100,11 @@ module _ (t : Tenant) (u : User) (s : IsSound t) where
         ap (λ o. in_case o Nothing (λ m. full_for_edit (level_within k t u m))) x.named ∙ ap full_for_edit (deeper f few x.it x.there x.number)
 
     full_within : (k : ℕ) (r : Record) → Has t.records r → masters_above (suc k) t.objects (object_number r.id) ≤ k → level_within (suc k) t u r ≡ Full
-    full_within zero r m few = step zero r m (λ f h x n same. absurd (not_below (masters_above 0 t.objects f.target) h)) (master_in t.objects (object_number r.id)) refl few
+    full_within zero r m few = step zero r m (λ f h x n same. absurd (not_below (masters_above 0 t.objects f.target) h)) (master_of_object t.objects (object_number r.id)) refl few
     full_within (suc j) r m few =
         step (suc j) r m
         (λ f h x n same. full_within j x n (subst (λ (i : ℕ). masters_above (suc j) t.objects i ≤ j) (sym same) (one_less (masters_above (suc j) t.objects f.target) j h)))
-        (master_in t.objects (object_number r.id)) refl few
+        (master_of_object t.objects (object_number r.id)) refl few
 
     deep : (r : Record) → Has t.records r → masters_above 4 t.objects (object_number r.id) ≤ 3
     deep r m =

@@ -10,7 +10,7 @@ use Rattle.ut_value.specs.declared.sharing.Principal.{Principal}
 use Rattle.ut_value.specs.declared.sharing.Principal.TheVariants as to
 use Rattle.ut_model.specs.Known.{role_id, group_id}
 use Rattle.ut_model.specs.Tenant.{Tenant, User, Role, Group}
-use Rattle.ut_model.specs.World.{with_id}
+use Rattle.ut_model.specs.World.{having_id}
 use Rattle.ut_model.specs.Cases.{in_case}
 use Rattle.ut_model.specs.Membership.{Has, Structure, structure_of, Below, RoleBelow, Member, IsMember, IsAbove, Reaches, is_below_within, is_member_within, is_below, is_member, is_above, reaches}
 use Rattle.ut_model.proofs.Least as least
@@ -24,16 +24,16 @@ id_same a b = (bytes_eq-Decides a b).0
 pub id_itself : (a : List ℕ) → bytes_eq a a ≡ true
 id_itself a = (bytes_eq-Decides a a).1 refl
 
-pub found_is : {X : Type 0} (id : X → List ℕ) (xs : List X) (i : List ℕ) (x : X) → with_id id xs i ≡ Some x → Has xs x × (id x ≡ i)
+pub found_is : {X : Type 0} (id : X → List ℕ) (xs : List X) (i : List ℕ) (x : X) → having_id id xs i ≡ Some x → Has xs x × (id x ≡ i)
 found_is id [] i x e = absurd cc
 found_is {X} id (y ∷ xs) i x e = by (λ f. found_is id xs i x f) (bytes_eq i (id y)) refl
   where
-    by : (with_id id xs i ≡ Some x → Has xs x × (id x ≡ i)) → (b : Bool) → bytes_eq i (id y) ≡ b → Has (y ∷ xs) x × (id x ≡ i)
+    by : (having_id id xs i ≡ Some x → Has xs x × (id x ≡ i)) → (b : Bool) → bytes_eq i (id y) ≡ b → Has (y ∷ xs) x × (id x ≡ i)
     by rest true same =
-        let is : ◌≡◌ {A = Option X} (Some y) (Some x) = sym (ap (λ b. cond b (Some y) (with_id id xs i)) same) ∙ e in
+        let is : ◌≡◌ {A = Option X} (Some y) (Some x) = sym (ap (λ b. cond b (Some y) (having_id id xs i)) same) ∙ e in
         let one : x ≡ y = cc in
         (inl one, ap id one ∙ sym (id_same i (id y) same))
-    by rest false other = let r = rest (sym (ap (λ b. cond b (Some y) (with_id id xs i)) other) ∙ e) in (inr r.0, r.1)
+    by rest false other = let r = rest (sym (ap (λ b. cond b (Some y) (having_id id xs i)) other) ∙ e) in (inr r.0, r.1)
 
 has_map : {X Y : Type 0} (f : X → Y) (xs : List X) (x : X) → Has xs x → Has (map f xs) (f x)
 has_map f [] x h = absurd h
@@ -259,16 +259,16 @@ module _ (n : ℕ) (s : Structure) (who : List ℕ) (role : Option (List ℕ)) w
 -- ---- of a tenant
 
 some_parent : (t : Tenant) (a c : List ℕ) → (structure_of t).parent a ≡ Some c → Has (map role_id t.roles) a
-some_parent t a c e = at (with_id role_id t.roles a) refl e
+some_parent t a c e = at (having_id role_id t.roles a) refl e
   where
-    at : (o : Option Role) → with_id role_id t.roles a ≡ o → option_and_then (λ r. r.parent) o ≡ Some c → Has (map role_id t.roles) a
+    at : (o : Option Role) → having_id role_id t.roles a ≡ o → option_and_then (λ r. r.parent) o ≡ Some c → Has (map role_id t.roles) a
     at None is h = absurd cc
     at (Some r) is h = let f = found_is role_id t.roles a r is in subst (Has (map role_id t.roles)) f.1 (has_map role_id t.roles r f.0)
 
 some_members : (t : Tenant) (i : List ℕ) (ms : List Principal) → (structure_of t).members i ≡ Some ms → Has (map group_id t.groups) i
-some_members t i ms e = at (with_id group_id t.groups i) refl e
+some_members t i ms e = at (having_id group_id t.groups i) refl e
   where
-    at : (o : Option Group) → with_id group_id t.groups i ≡ o → option_map (λ g. g.members) o ≡ Some ms → Has (map group_id t.groups) i
+    at : (o : Option Group) → having_id group_id t.groups i ≡ o → option_map (λ g. g.members) o ≡ Some ms → Has (map group_id t.groups) i
     at None is h = absurd cc
     at (Some g) is h =
         let f = found_is group_id t.groups i g is in

@@ -7,7 +7,7 @@ use Rattle.ut_model.specs.Membership.{Has}
 use Rattle.ut_model.specs.Objects.{Numbered, numbered, object_named}
 use Rattle.ut_model.specs.Relationships.{Reference, reference_at, references_of, target_of}
 use Rattle.ut_model.specs.Tenant.{Field, Object, Tenant}
-use Rattle.ut_model.specs.World.{with_id}
+use Rattle.ut_model.specs.World.{having_id}
 use Rattle.ut_model.proofs.Elements.{in_either, some_is}
 
 abbrev pub numbered_from : ℕ → List Object → List Numbered
@@ -85,10 +85,10 @@ own_reference os n o f at is m =
     subst (λ (k : ℕ). Has (references_of (record { number = k; object = o })) f) number (subst (λ (x : Object). Has (references_of (record { number = r.0; object = x })) f) object h)
 
 -- what an id names has it
-pub with_its_id : {A : Type 0} (id : A → List ℕ) (xs : List A) (i : List ℕ) (x : A) → with_id id xs i ≡ Some x → Has xs x × (bytes_eq i (id x) ≡ true)
+pub with_its_id : {A : Type 0} (id : A → List ℕ) (xs : List A) (i : List ℕ) (x : A) → having_id id xs i ≡ Some x → Has xs x × (bytes_eq i (id x) ≡ true)
 with_its_id id [] i x e = absurd cc
 with_its_id id (y ∷ ys) i x e = by (bytes_eq i (id y)) refl e (with_its_id id ys i x)
   where
-    by : (b : Bool) → bytes_eq i (id y) ≡ b → cond b (Some y) (with_id id ys i) ≡ Some x → (with_id id ys i ≡ Some x → Has ys x × (bytes_eq i (id x) ≡ true)) → Has (y ∷ ys) x × (bytes_eq i (id x) ≡ true)
+    by : (b : Bool) → bytes_eq i (id y) ≡ b → cond b (Some y) (having_id id ys i) ≡ Some x → (having_id id ys i ≡ Some x → Has ys x × (bytes_eq i (id x) ≡ true)) → Has (y ∷ ys) x × (bytes_eq i (id x) ≡ true)
     by true t w more = let same = some_is y x w in (inl (sym same), ap (λ z. bytes_eq i (id z)) (sym same) ∙ t)
     by false t w more = (inr (more w).0, (more w).1)

@@ -17,29 +17,29 @@ use Rattle.ut_model.specs.declared.refusal.Refusal.TheVariants.{InvalidField, In
 use Rattle.ut_model.specs.Asking.{query_rules}
 use Rattle.ut_model.specs.Cases.{in_case}
 use Rattle.ut_model.specs.Creates.{create_on, create_rules, empty_record}
-use Rattle.ut_model.specs.Deletes.{delete_record, going, held, too_many}
+use Rattle.ut_model.specs.Deletes.{cascade, delete_record, restricted_by, too_many}
 use Rattle.ut_model.specs.Edits.{with_given}
-use Rattle.ut_model.specs.Fields.{Column, column, column_named, is_detail, its_value, same_name, typed}
-use Rattle.ut_model.specs.Given.{Assignment, ReadOr, record_with}
+use Rattle.ut_model.specs.Fields.{Column, column, column_named, is_detail, of_type, same_name, value_site}
+use Rattle.ut_model.specs.Given.{Assignment, ReadOr, record_by_value}
 use Rattle.ut_model.specs.Keys.{Key, with_key}
 use Rattle.ut_model.specs.Metadata.{object_rules}
-use Rattle.ut_model.specs.NewFields.{field_rules, with_target}
+use Rattle.ut_model.specs.NewFields.{field_rules, on_target}
 use Rattle.ut_model.specs.Objects.{Numbered, object_named, record_at}
-use Rattle.ut_model.specs.Paths.{Asked, sees}
+use Rattle.ut_model.specs.Paths.{Asked, if_readable}
 use Rattle.ut_model.specs.People.{group_rules, new_group_rules, new_role_rules, new_user_rules, role_rules, user_rules}
 use Rattle.ut_model.specs.Principals.{bad_id, principal_of, spelled_id}
 use Rattle.ut_model.specs.Requests.{Request, verdict_on, asks, creates, updates, deletes, upserts, shares, unshares, adds_object, sets_object, adds_field, adds_validation_rule, adds_sharing_rule, removes_sharing_rule, adds_user, sets_user, adds_role, sets_role, adds_group, sets_group, begins_retype, gets_retype, cancels_retype}
 use Rattle.ut_model.specs.Retyping.{begin_on, in_use, new_type, place_to_change, under_way}
-use Rattle.ut_model.specs.Rights.{denied, record_in, with_named}
+use Rattle.ut_model.specs.Rights.{denied, on_named, record_of_object}
 use Rattle.ut_model.specs.Rules.{Rule, first_refusal, in_body_order, refuse_if}
 use Rattle.ut_model.specs.RuleFormulas.{is_copy}
 use Rattle.ut_model.specs.Shares.{NewShare, share, share_of, share_rules, unshare, unshare_rules}
-use Rattle.ut_model.specs.SharingRules.{sharing_rules}
+use Rattle.ut_model.specs.SharingRules.{new_sharing_rule_rules}
 use Rattle.ut_model.specs.Tenant.{Field, Share, Tenant}
 use Rattle.ut_model.specs.Updates.{update_on, update_rules}
-use Rattle.ut_model.specs.Upserts.{declared_name, key_value, unique_named, upsert_by, with_read}
-use Rattle.ut_model.specs.ValidationRules.{validation_rules}
-use Rattle.ut_model.specs.Verdict.{Done, Verdict, accept, judged, refuse, unless, with_object}
+use Rattle.ut_model.specs.Upserts.{declared_name, key_value, on_value, unique_named, upsert_by}
+use Rattle.ut_model.specs.ValidationRules.{new_validation_rule_rules}
+use Rattle.ut_model.specs.Verdict.{Done, Verdict, accept, judged, on_object, refuse, unless}
 
 -- if it refuses, the organisation stays this one
 record Keeps (t : Tenant) (v : Verdict) : Type 0 where
@@ -64,23 +64,23 @@ by_either : {t : Tenant} {X : Type 0} (o : Option X) (v : Verdict) (f : X → Ve
 by_either None v f none each = none
 by_either (Some x) v f none each = each x
 
-by_read : {t : Tenant} (r : ReadOr) (f : Value → Verdict) → ((v : Value) → Keeps t (f v)) → Keeps t (with_read t r f)
+by_read : {t : Tenant} (r : ReadOr) (f : Value → Verdict) → ((v : Value) → Keeps t (f v)) → Keeps t (on_value t r f)
 by_read (Ok v) f each = each v
 by_read (Err why) f each = by_refusing
 
-by_target : {t : Tenant} (kind : SpelledType) (f : Option ℕ → Verdict) → ((target : Option ℕ) → Keeps t (f target)) → Keeps t (with_target t kind f)
+by_target : {t : Tenant} (kind : SpelledType) (f : Option ℕ → Verdict) → ((target : Option ℕ) → Keeps t (f target)) → Keeps t (on_target t kind f)
 by_target (Plain kind) f each = each None
 by_target {t} (LookupTo object on_delete child) f each = by_case (object_named t object) (InvalidType object) (λ o. f (Some o.number)) (λ o. each (Some o.number))
 
-by_name : (a : Asked) (o : Numbered) (text : List ℕ) (least : Level) (f : Record → Verdict) → ((r : Record) → Keeps a.tenant (f r)) → Keeps a.tenant (with_named a o text least f)
+by_name : (a : Asked) (o : Numbered) (text : List ℕ) (least : Level) (f : Record → Verdict) → ((r : Record) → Keeps a.tenant (f r)) → Keeps a.tenant (on_named a o text least f)
 by_name a o text least f each =
     by_case (id_in text) (MalformedId text) _ (λ id.
-    by_case (option_and_then (sees a) (record_in a.tenant o.number id)) NotFound _ (λ r. by_rule _ (f r) (each r)))
+    by_case (option_and_then (if_readable a) (record_of_object a.tenant o.number id)) NotFound _ (λ r. by_rule _ (f r) (each r)))
 
 by_rules : {t : Tenant} (rules : List Rule) (v : Verdict) → Keeps t v → Keeps t (judged t rules v)
 by_rules rules v h = by_rule (first_refusal rules) v h
 
-by_object : {t : Tenant} (name : List ℕ) (f : Numbered → Verdict) → ((o : Numbered) → Keeps t (f o)) → Keeps t (with_object t name f)
+by_object : {t : Tenant} (name : List ℕ) (f : Numbered → Verdict) → ((o : Numbered) → Keeps t (f o)) → Keeps t (on_object t name f)
 by_object {t} name f each = by_case (object_named t name) (InvalidType name) f each
 
 -- ---- records
@@ -97,13 +97,13 @@ update_keeps a o key given old =
 
 delete_keeps : (a : Asked) (r : Record) → Keeps a.tenant (delete_record a r)
 delete_keeps a r =
-    let gone = going a.tenant r in
-    by_rules (held a.tenant gone ∷ too_many a.tenant gone ∷ []) _ by_accepting
+    let gone = cascade a.tenant r in
+    by_rules (restricted_by a.tenant gone ∷ too_many a.tenant gone ∷ []) _ by_accepting
 
 upsert_keeps : (a : Asked) (o : Numbered) (given : List Assignment) (f : ℕ × Field) (v : Value) → Keeps a.tenant (upsert_by a o given f v)
 upsert_keeps a o given f v =
-    let key : Option Key = Some (record { column = column f.1.name (typed f.1.kind) (its_value f.0); value = v }) in
-    by_either (record_with a.tenant o.number f.0 v) (create_on a o key given) _ (create_keeps a o key given)
+    let key : Option Key = Some (record { column = column f.1.name (of_type f.1.kind) (value_site f.0); value = v }) in
+    by_either (record_by_value a.tenant o.number f.0 v) (create_on a o key given) _ (create_keeps a o key given)
     (λ r. by_rules (denied a Edit r ∷ []) (update_on a o key given r) (update_keeps a o key given r))
 
 -- ---- shares
@@ -111,7 +111,7 @@ upsert_keeps a o given f v =
 share_keeps : (a : Asked) (b : NewShare) → Keeps a.tenant (share a b)
 share_keeps a b =
     by_rules (in_body_order b.members ((codes "record", bad_id b.item) ∷ (codes "to", bad_id b.to.text) ∷ []) ∷ []) _
-    (by_case (option_and_then (sees a) (record_at a.tenant (spelled_id b.item))) NotFound _ (λ r.
+    (by_case (option_and_then (if_readable a) (record_at a.tenant (spelled_id b.item))) NotFound _ (λ r.
     by_rules (share_rules a (share_of b) r) _ by_accepting))
 
 unshare_keeps : (a : Asked) (item part : List ℕ) (to : Option Spelled) → Keeps a.tenant (unshare a item part to)
@@ -119,7 +119,7 @@ unshare_keeps a item part to =
     by_rules (bad_id item ∷ []) _ (by_case to (MalformedId part) _ (λ p.
     by_rules (bad_id p.text ∷ []) _
     (let s : Share = record { item = spelled_id item; to = principal_of p; level = Full } in
-    by_case (option_and_then (sees a) (record_at a.tenant s.item)) NotFound _ (λ r. by_rules (unshare_rules a s r) _ by_accepting))))
+    by_case (option_and_then (if_readable a) (record_at a.tenant s.item)) NotFound _ (λ r. by_rules (unshare_rules a s r) _ by_accepting))))
 
 -- ---- the change of a type
 
@@ -144,9 +144,9 @@ judges a (adds_object b) = by_rules (object_rules a.tenant b) _ by_accepting
 judges a (sets_object object access) = by_object object _ (λ o. by_rules (refuse_if (is_detail o.object) (InvalidType o.object.name) ∷ []) _ by_accepting)
 judges a (adds_field b) =
     by_object b.object _ (λ o. by_target b.kind _ (λ target. by_rules (field_rules a.tenant o target b) _ by_accepting))
-judges a (adds_validation_rule b) = by_object b.object _ (λ o. by_rules (validation_rules a.tenant o b) _ by_accepting)
-judges a (adds_sharing_rule b) = by_object b.object _ (λ o. by_rules (sharing_rules a.tenant o b) _ by_accepting)
-judges a (removes_sharing_rule name) = by_rules (refuse_if (not (list_any (λ r. same_name r.name name) a.tenant.rules)) NotFound ∷ []) _ by_accepting
+judges a (adds_validation_rule b) = by_object b.object _ (λ o. by_rules (new_validation_rule_rules a.tenant o b) _ by_accepting)
+judges a (adds_sharing_rule b) = by_object b.object _ (λ o. by_rules (new_sharing_rule_rules a.tenant o b) _ by_accepting)
+judges a (removes_sharing_rule name) = by_rules (refuse_if (not (list_any (λ r. same_name r.name name) a.tenant.sharing_rules)) NotFound ∷ []) _ by_accepting
 judges a (adds_user b) = by_rules (new_user_rules a.tenant b) _ by_accepting
 judges a (sets_user id role) = by_rules (user_rules a.tenant id role) _ by_accepting
 judges a (adds_role name parent) = by_rules (new_role_rules a.tenant name parent) _ by_accepting

@@ -9,8 +9,8 @@ use Rattle.ut_value.specs.Numerals.{exactly, is_digit, is_negative, is_numeral, 
 use Rattle.ut_value.specs.Printing.{print_places, print_size}
 use Rattle.ut_value.specs.Reading.{read_number, read_truth}
 use Rattle.ut_model.specs.Bodies.{body_of}
-use Rattle.ut_model.specs.Deletes.{going}
-use Rattle.ut_model.specs.Given.{record_with}
+use Rattle.ut_model.specs.Deletes.{cascade}
+use Rattle.ut_model.specs.Given.{record_by_value}
 use Rattle.ut_model.specs.Jobs.{job_step}
 use Rattle.ut_model.specs.Members.{assignments, body_in, principal_in}
 use Rattle.ut_model.specs.Names.{is_child_name, is_custom_name, is_stem}
@@ -21,5 +21,5 @@ use Rattle.ut_model.specs.Sound.{is_name}
 use Rattle.ut_model.proofs.Computing.{computing}
 
 unfoldable pub requesting : Unit {0}
-unfolding computing fmt_digits is_utf8 percent_decode escaped is_letter number_in exactly is_digit is_negative is_numeral is_unsigned_numeral of_digits size_of without_sign print_places print_size read_number read_truth body_of going record_with job_step assignments body_in principal_in is_child_name is_custom_name is_stem is_secret found_json formula_of is_name
+unfolding computing fmt_digits is_utf8 percent_decode escaped is_letter number_in exactly is_digit is_negative is_numeral is_unsigned_numeral of_digits size_of without_sign print_places print_size read_number read_truth body_of cascade record_by_value job_step assignments body_in principal_in is_child_name is_custom_name is_stem is_secret found_json formula_of is_name
 requesting = tt

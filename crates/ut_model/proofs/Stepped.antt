@@ -9,7 +9,7 @@ use Rattle.ut_model.specs.declared.caller.Caller.{Caller}
 use Rattle.ut_model.specs.declared.refusal.Refusal.TheVariants as refusal
 use Rattle.ut_model.specs.declared.reply.Reply.{Reply}
 use Rattle.ut_model.specs.Callers.{IsUser, Named, admitted, caller_in, caller_of, named}
-use Rattle.ut_model.specs.Step.{Answering, Message, caller_by, if_called, in_named, in_org, in_tenant, named_in, org_named, own, refusal_reply, step_by}
+use Rattle.ut_model.specs.Step.{Answering, Message, answer_in, caller_by, if_called, in_key, in_org, in_tenant, key_in, org_named, refusal_reply, step_by}
 use Rattle.ut_model.specs.Tenant.{Tenant, User}
 use Rattle.ut_model.specs.World.{World, tenant_at, user_at, with_tenant}
 
@@ -86,7 +86,7 @@ by_bearer w (Some key) = refl
 
 module _ (answers : Answering) (w : World) (m : Message) (now : ℕ) where
   called_in : (n : Named) (c : Caller) (o : Option Tenant) → option_and_then (caller_of n) o ≡ Some c
-      → in_tenant w n.org (own answers n m now) o ≡ in_tenant w n.org (answers c m now) o
+      → in_tenant w n.org (answer_in answers n m now) o ≡ in_tenant w n.org (answers c m now) o
   called_in n c None e = absurd cc
   called_in n c (Some t) e = ap (λ (x : Option Caller). ((if_called answers m now x t).0, with_tenant w n.org (if_called answers m now x t).1)) e
 
@@ -94,27 +94,27 @@ module _ (answers : Answering) (w : World) (m : Message) (now : ℕ) where
   caller_org n c None e = absurd cc
   caller_org n c (Some t) e = org_of_caller n t c e
 
-  called_by : (o : Option Named) (c : Caller) → found_by w o ≡ Some c → in_named answers w m now o ≡ in_org w c.org (answers c m now)
+  called_by : (o : Option Named) (c : Caller) → found_by w o ≡ Some c → in_key answers w m now o ≡ in_org w c.org (answers c m now)
   called_by None c e = absurd cc
   called_by (Some n) c e =
       called_in n c (tenant_at w n.org) e
       ∙ ap (λ k. in_org w k (answers c m now)) (sym (caller_org n c (tenant_at w n.org) e))
 
   pub called : (c : Caller) → caller_by w m ≡ Some c → step_by answers w m now ≡ in_org w c.org (answers c m now)
-  called c e = called_by (named_in m) c (sym (by_bearer w m.bearer) ∙ e)
+  called c e = called_by (key_in m) c (sym (by_bearer w m.bearer) ∙ e)
 
-  uncalled_in : (n : Named) (o : Option Tenant) → tenant_at w n.org ≡ o → option_and_then (caller_of n) o ≡ None → in_tenant w n.org (own answers n m now) o ≡ (no_session, w)
+  uncalled_in : (n : Named) (o : Option Tenant) → tenant_at w n.org ≡ o → option_and_then (caller_of n) o ≡ None → in_tenant w n.org (answer_in answers n m now) o ≡ (no_session, w)
   uncalled_in n None at e = refl
   uncalled_in n (Some t) at e =
       ap (λ (x : Option Caller). ((if_called answers m now x t).0, with_tenant w n.org (if_called answers m now x t).1)) e
       ∙ ap (λ (v : World). (no_session, v)) (same_put w n.org t at)
 
-  uncalled_by : (o : Option Named) → found_by w o ≡ None → in_named answers w m now o ≡ (no_session, w)
+  uncalled_by : (o : Option Named) → found_by w o ≡ None → in_key answers w m now o ≡ (no_session, w)
   uncalled_by None e = refl
   uncalled_by (Some n) e = uncalled_in n (tenant_at w n.org) refl e
 
   pub uncalled : caller_by w m ≡ None → step_by answers w m now ≡ (refusal_reply refusal.InvalidSession, w)
-  uncalled e = uncalled_by (named_in m) (sym (by_bearer w m.bearer) ∙ e)
+  uncalled e = uncalled_by (key_in m) (sym (by_bearer w m.bearer) ∙ e)
 
 -- ---- the user who asks
 
@@ -163,7 +163,7 @@ module _ (w : World) (m : Message) where
           (t, h.0, record { tenant = ap (λ k. tenant_at w k) (org_of_caller n t c e) ∙ at; user = h.1.0; admin = h.1.1 })
 
   pub user_of : (c : Caller) → caller_by w m ≡ Some c → (t : Tenant) × (u : User) × IsUser w c t u
-  user_of c e = user_by (named_in m) c (sym (by_bearer w m.bearer) ∙ e)
+  user_of c e = user_by (key_in m) c (sym (by_bearer w m.bearer) ∙ e)
 
 -- ---- one organisation and the others
 
@@ -180,11 +180,11 @@ module _ (answers : Answering) (m : Message) (now org : ℕ) where
       (own_in w v does (tenant_at w org) refl (sym e))
 
   own_named : (w v : World) (o : Option Named) → option_map (λ n. n.org) o ≡ Some org → tenant_at w org ≡ tenant_at v org
-      → ((in_named answers w m now o).0 ≡ (in_named answers v m now o).0) × (tenant_at (in_named answers w m now o).1 org ≡ tenant_at (in_named answers v m now o).1 org)
+      → ((in_key answers w m now o).0 ≡ (in_key answers v m now o).0) × (tenant_at (in_key answers w m now o).1 org ≡ tenant_at (in_key answers v m now o).1 org)
   own_named w v None e same = absurd cc
   own_named w v (Some n) e same =
-      subst (λ k. ((in_org w k (own answers n m now)).0 ≡ (in_org v k (own answers n m now)).0) × (tenant_at (in_org w k (own answers n m now)).1 org ≡ tenant_at (in_org v k (own answers n m now)).1 org))
-      (sym (some_eq n.org org e)) (same_org w v (own answers n m now) same)
+      subst (λ k. ((in_org w k (answer_in answers n m now)).0 ≡ (in_org v k (answer_in answers n m now)).0) × (tenant_at (in_org w k (answer_in answers n m now)).1 org ≡ tenant_at (in_org v k (answer_in answers n m now)).1 org))
+      (sym (some_eq n.org org e)) (same_org w v (answer_in answers n m now) same)
     where
       some_eq : (a b : ℕ) → ◌≡◌ {A = Option ℕ} (Some a) (Some b) → a ≡ b
       some_eq a b e = ap (λ (o : Option ℕ). from a o) e
@@ -195,15 +195,15 @@ module _ (answers : Answering) (m : Message) (now org : ℕ) where
 
   pub own_alone : (w v : World) → org_named m ≡ Some org → tenant_at w org ≡ tenant_at v org
       → ((step_by answers w m now).0 ≡ (step_by answers v m now).0) × (tenant_at (step_by answers w m now).1 org ≡ tenant_at (step_by answers v m now).1 org)
-  own_alone w v e same = own_named w v (named_in m) e same
+  own_alone w v e same = own_named w v (key_in m) e same
 
   other_in : (w : World) (k : ℕ) (does : Tenant → Reply × Tenant) (o : Option Tenant) → (k ≡ org → ⊥) → tenant_at (in_tenant w k does o).1 org ≡ tenant_at w org
   other_in w k does None apart = refl
   other_in w k does (Some t) apart = put_other w k org (does t).1 apart
 
-  other_named : (w : World) (o : Option Named) → (option_map (λ n. n.org) o ≡ Some org → ⊥) → tenant_at (in_named answers w m now o).1 org ≡ tenant_at w org
+  other_named : (w : World) (o : Option Named) → (option_map (λ n. n.org) o ≡ Some org → ⊥) → tenant_at (in_key answers w m now o).1 org ≡ tenant_at w org
   other_named w None apart = refl
-  other_named w (Some n) apart = other_in w n.org (own answers n m now) (tenant_at w n.org) (λ e. apart (ap Some e))
+  other_named w (Some n) apart = other_in w n.org (answer_in answers n m now) (tenant_at w n.org) (λ e. apart (ap Some e))
 
   pub other_stays : (w : World) → (org_named m ≡ Some org → ⊥) → tenant_at (step_by answers w m now).1 org ≡ tenant_at w org
-  other_stays w apart = other_named w (named_in m) apart
+  other_stays w apart = other_named w (key_in m) apart

@@ -15,21 +15,21 @@ use Rattle.ut_query.specs.declared.query.Tail.{Tail}
 use Rattle.ut_model.specs.declared.refusal.Refusal.TheVariants.{InvalidField, InvalidFilter}
 use Rattle.ut_model.specs.Cases.{in_case, with_before}
 use Rattle.ut_model.specs.Fields.{Column, column_named, same_name}
-use Rattle.ut_model.specs.Objects.{object_at}
+use Rattle.ut_model.specs.Objects.{object_numbered}
 use Rattle.ut_model.specs.Paths.{Asked}
 use Rattle.ut_model.specs.Principals.{bad_id}
 use Rattle.ut_model.specs.Relationships.{child_named, parent_named}
 use Rattle.ut_model.specs.Rules.{Rule, refuse_if, first_refusal, first_of}
 use Rattle.ut_model.specs.Tenant.{Tenant}
 use Rattle.ut_model.specs.Tests.{Tested, Way, among, by, by_pattern, holds_ids, suits_of, tests, way_suits}
-use Rattle.ut_model.specs.Verdict.{Verdict, accept, judged, rows_of, with_object}
+use Rattle.ut_model.specs.Verdict.{Verdict, accept, judged, on_object, rows_of}
 
 -- ---- paths
 
 -- the field to which a path leads from the object with this number
 abbrev pub path_column : Tenant → ℕ → List (List ℕ) → Option Column
 path_column t n [] = None
-path_column t n (name ∷ []) = option_and_then (λ o. column_named o name) (object_at t n)
+path_column t n (name ∷ []) = option_and_then (λ o. column_named o name) (object_numbered t n)
 path_column t n (name ∷ next ∷ names) = in_case (parent_named t n name) None (λ f. path_column t f.target (next ∷ names))
 
 -- a path as it is spelled
@@ -95,7 +95,7 @@ all_tests t n q = flat_map (child_tests t n) q.select ++ map (λ x. (n, x)) (tes
 abbrev pub bad_test : Tenant → ℕ × Tested → Rule
 bad_test t x =
     in_case (path_column t x.0 x.1.names) None (λ c.
-    refuse_if (not (way_suits (suits_of c.kind) x.1.way)) (InvalidFilter (spelled_path x.1.names)))
+    refuse_if (not (way_suits (suits_of c.content) x.1.way)) (InvalidFilter (spelled_path x.1.names)))
 
 -- the literals of a test
 abbrev pub literals_of : Way → List Literal
@@ -111,7 +111,7 @@ text_no_id _ = None
 -- the first text compared with an id that isn't one
 abbrev pub test_no_id : Tenant → ℕ × Tested → Rule
 test_no_id t x =
-    in_case (path_column t x.0 x.1.names) None (λ c. if holds_ids c.kind then first_of text_no_id (literals_of x.1.way) else None)
+    in_case (path_column t x.0 x.1.names) None (λ c. if holds_ids c.content then first_of text_no_id (literals_of x.1.way) else None)
 
 -- ---- a query, which changes nothing: each rule is judged over its whole text before the next
 
@@ -119,7 +119,7 @@ abbrev pub query_rules : Tenant → ℕ → Query → List Rule
 query_rules t n q = bad_names t n q ∷ first_of (bad_test t) (all_tests t n q) ∷ first_of (test_no_id t) (all_tests t n q) ∷ []
 
 abbrev pub ask : Asked → Query → Verdict
-ask a q = with_object a.tenant q.tail.from (λ o. judged a.tenant (query_rules a.tenant o.number q) (accept (rows_of q) a.tenant))
+ask a q = on_object a.tenant q.tail.from (λ o. judged a.tenant (query_rules a.tenant o.number q) (accept (rows_of q) a.tenant))
 
 -- ---- the query for ids and names
 

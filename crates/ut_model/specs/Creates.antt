@@ -17,11 +17,11 @@ use Rattle.ut_model.specs.Keys.{Key, bad_fields, with_key}
 use Rattle.ut_model.specs.Objects.{Numbered, record_prefix, records_of}
 use Rattle.ut_model.specs.Ordered.{put_in}
 use Rattle.ut_model.specs.Paths.{Asked}
-use Rattle.ut_model.specs.Relationships.{master_in, named_record}
+use Rattle.ut_model.specs.Relationships.{master_of_object, named_record}
 use Rattle.ut_model.specs.Rights.{denied}
 use Rattle.ut_model.specs.Rules.{Rule, over_limit}
 use Rattle.ut_model.specs.Tenant.{Tenant}
-use Rattle.ut_model.specs.Verdict.{Verdict, accept, judged, made_new, upserted, with_object}
+use Rattle.ut_model.specs.Verdict.{Verdict, accept, judged, made_new, on_object, upserted}
 
 -- a new record to which nothing is given: the next id, the caller as owner unless it is a detail, null or false, made now
 abbrev pub empty_record : Asked → Numbered → Record
@@ -41,7 +41,7 @@ with_record r t = record t { records = put_in (λ a b. slice_cmp nat_cmp a.id b.
 -- who makes a detail needs Edit on its master
 abbrev pub master_denied : Asked → Numbered → Record → Rule
 master_denied a o new =
-    in_case (master_in a.tenant.objects o.number) None (λ f. in_case (named_record a.tenant f new) None (denied a Edit))
+    in_case (master_of_object a.tenant.objects o.number) None (λ f. in_case (named_record a.tenant f new) None (denied a Edit))
 
 -- the rules of a create, for the record that it would make
 abbrev pub create_rules : Asked → Numbered → Option Key → List Assignment → (new : Record) → List Rule
@@ -69,4 +69,4 @@ create_on a o key given =
 
 -- create
 abbrev pub create : Asked → (object : List ℕ) → List Assignment → Verdict
-create a object given = with_object a.tenant object (λ o. create_on a o None given)
+create a object given = on_object a.tenant object (λ o. create_on a o None given)

@@ -14,13 +14,13 @@ use Rattle.ut_model.specs.declared.record.Record.{Record}
 use Rattle.ut_model.specs.declared.refusal.Refusal.TheVariants.{CascadeTooLarge, DeleteFailed}
 use Rattle.ut_model.specs.Cases.{in_case}
 use Rattle.ut_model.specs.Limits.{deletion_limit, limit_number}
-use Rattle.ut_model.specs.Objects.{is_of, object_at, object_number}
+use Rattle.ut_model.specs.Objects.{is_of, object_number, object_numbered}
 use Rattle.ut_model.specs.Paths.{Asked}
-use Rattle.ut_model.specs.Relationships.{Reference, master_in, named_id, references}
-use Rattle.ut_model.specs.Rights.{with_named}
+use Rattle.ut_model.specs.Relationships.{Reference, master_of_object, named_id, references}
+use Rattle.ut_model.specs.Rights.{on_named}
 use Rattle.ut_model.specs.Rules.{Rule, refuse_if, first_of}
 use Rattle.ut_model.specs.Tenant.{Tenant}
-use Rattle.ut_model.specs.Verdict.{Verdict, accept, done, judged, with_object}
+use Rattle.ut_model.specs.Verdict.{Verdict, accept, done, judged, on_object}
 
 -- ---- what goes
 
@@ -29,27 +29,27 @@ abbrev pub has_id : List Record → List ℕ → Bool
 has_id rs id = list_any (λ r. bytes_eq r.id id) rs
 
 -- the record refers by this field to one of these
-abbrev pub names_one_of : List Record → Reference → Record → Bool
-names_one_of rs f r = in_case (named_id f r) false (has_id rs)
+abbrev pub refers_to_one_of : List Record → Reference → Record → Bool
+refers_to_one_of rs f r = in_case (named_id f r) false (has_id rs)
 
 -- the details whose masters are among these
 abbrev pub details_of : Tenant → List Record → List Record
-details_of t rs = filter (λ r. in_case (master_in t.objects (object_number r.id)) false (λ f. names_one_of rs f r)) t.records
+details_of t rs = filter (λ r. in_case (master_of_object t.objects (object_number r.id)) false (λ f. refers_to_one_of rs f r)) t.records
 
 -- these, their details, the details of these, and so on through so many levels
-abbrev pub with_details : ℕ → Tenant → List Record → List Record
-with_details zero t rs = rs
-with_details (suc n) t rs = rs ++ with_details n t (details_of t rs)
+abbrev pub and_details : ℕ → Tenant → List Record → List Record
+and_details zero t rs = rs
+and_details (suc n) t rs = rs ++ and_details n t (details_of t rs)
 
 -- a record, and level by level all its details
-unfoldable pub going : Tenant → Record → List Record
-going t r = with_details (limit_number limit.DetailLevels) t (r ∷ [])
+unfoldable pub cascade : Tenant → Record → List Record
+cascade t r = and_details (limit_number limit.DetailLevels) t (r ∷ [])
 
 -- ---- what refers to it
 
 -- a record that stays refers by this field to one that goes
-abbrev pub refers : (gone : List Record) → Reference → Record → Bool
-refers gone f r = not (has_id gone r.id) && (is_of f.object r && names_one_of gone f r)
+abbrev pub refers_into : (gone : List Record) → Reference → Record → Bool
+refers_into gone f r = not (has_id gone r.id) && (is_of f.object r && refers_to_one_of gone f r)
 
 abbrev pub restricts : FieldType → Bool
 restricts (type.Lookup object on_delete.Restrict) = true
@@ -61,26 +61,26 @@ is_cleared _ = false
 
 -- the name of the object with this number
 abbrev pub name_at : Tenant → ℕ → List ℕ
-name_at t n = in_case (object_at t n) [] (λ o. o.name)
+name_at t n = in_case (object_numbered t n) [] (λ o. o.name)
 
 -- DELETE_FAILED: the first reference by which a record that stays holds one that goes
-abbrev pub held : Tenant → (gone : List Record) → Rule
-held t gone =
+abbrev pub restricted_by : Tenant → (gone : List Record) → Rule
+restricted_by t gone =
     first_of
-    (λ f. refuse_if (restricts f.field.kind && list_any (refers gone f) t.records) (DeleteFailed (name_at t f.object) f.field.name))
+    (λ f. refuse_if (restricts f.field.kind && list_any (refers_into gone f) t.records) (DeleteFailed (name_at t f.object) f.field.name))
     (references t.objects)
 
 -- the lookups that a record loses
-abbrev pub lost : Tenant → (gone : List Record) → Record → List Reference
-lost t gone r = filter (λ f. is_cleared f.field.kind && refers gone f r) (references t.objects)
+abbrev pub cleared_lookups : Tenant → (gone : List Record) → Record → List Reference
+cleared_lookups t gone r = filter (λ f. is_cleared f.field.kind && refers_into gone f r) (references t.objects)
 
 -- a record loses a lookup
-abbrev pub loses : Tenant → (gone : List Record) → Record → Bool
-loses t gone r = list_any (λ f. is_cleared f.field.kind && refers gone f r) (references t.objects)
+abbrev pub loses_lookup : Tenant → (gone : List Record) → Record → Bool
+loses_lookup t gone r = list_any (λ f. is_cleared f.field.kind && refers_into gone f r) (references t.objects)
 
 -- CASCADE_TOO_LARGE: records deleted and records cleared are too many together
 abbrev pub too_many : Tenant → (gone : List Record) → Rule
-too_many t gone = refuse_if (nat_lt deletion_limit (length gone + length (filter (loses t gone) t.records))) CascadeTooLarge
+too_many t gone = refuse_if (nat_lt deletion_limit (length gone + length (filter (loses_lookup t gone) t.records))) CascadeTooLarge
 
 -- ---- delete
 
@@ -91,7 +91,7 @@ null_at positions values = map (λ v. if list_any (λ p. p == v.0) positions the
 -- a record with the lookups that it loses null; then it is modified now
 abbrev pub cleared : ℤ → Tenant → (gone : List Record) → Record → Record
 cleared now t gone r =
-    if loses t gone r then record r { modified = now; values = null_at (map (λ f. f.position) (lost t gone r)) r.values } else r
+    if loses_lookup t gone r then record r { modified = now; values = null_at (map (λ f. f.position) (cleared_lookups t gone r)) r.values } else r
 
 -- without what goes and its shares, and with the lookups to it cleared
 abbrev pub without : ℤ → (gone : List Record) → Tenant → Tenant
@@ -104,8 +104,8 @@ without now gone t =
 -- the deletion of this record
 abbrev pub delete_record : Asked → Record → Verdict
 delete_record a r =
-    let gone = going a.tenant r in judged a.tenant (held a.tenant gone ∷ too_many a.tenant gone ∷ []) (accept done (without a.now gone a.tenant))
+    let gone = cascade a.tenant r in judged a.tenant (restricted_by a.tenant gone ∷ too_many a.tenant gone ∷ []) (accept done (without a.now gone a.tenant))
 
 -- delete: rights are asked on the named record alone
 abbrev pub delete : Asked → (object key : List ℕ) → Verdict
-delete a object key = with_object a.tenant object (λ o. with_named a o key Full (delete_record a))
+delete a object key = on_object a.tenant object (λ o. on_named a o key Full (delete_record a))

@@ -12,21 +12,21 @@ use Rattle.ut_model.specs.declared.record.Record.{Record}
 use Rattle.ut_model.specs.declared.refusal.Refusal.{Refusal}
 use Rattle.ut_model.specs.declared.refusal.Refusal.TheVariants as refusal
 use Rattle.ut_model.specs.Cases.{in_case}
-use Rattle.ut_model.specs.Fields.{Column, Where, its_id, its_created, its_modified, column_named, custom_columns, is_detail, is_master, is_null, name_column, owner_column, ref_of, same_name, value_in, writable_columns}
+use Rattle.ut_model.specs.Fields.{Column, Site, its_id, its_created, its_modified, column_named, custom_columns, is_detail, is_master, is_null, name_column, owner_column, ref_of, same_name, value_in, writable_columns}
 use Rattle.ut_model.specs.FormulaTexts.{reads_text}
 use Rattle.ut_model.specs.Given.{Assignment, ReadOr, has_value, read_given}
 use Rattle.ut_model.specs.Levels.{can_read, read_holds}
 use Rattle.ut_model.specs.Objects.{Numbered, records_of}
 use Rattle.ut_model.specs.Paths.{Asked}
 use Rattle.ut_model.specs.Relationships.{Reference, references_of}
-use Rattle.ut_model.specs.Rights.{record_in}
+use Rattle.ut_model.specs.Rights.{record_of_object}
 use Rattle.ut_model.specs.Rules.{Rule, refuse_if, first_of, first_refusal}
 use Rattle.ut_model.specs.Tenant.{Field, Object, Tenant, ValidationRule}
 use Rattle.ut_model.specs.World.{user_at}
 
 -- ---- INVALID_FIELD: a name that the object doesn't have, or a field that can't be given
 
-abbrev pub is_writable : Where → Bool
+abbrev pub is_writable : Site → Bool
 is_writable its_id = false
 is_writable its_created = false
 is_writable its_modified = false
@@ -91,7 +91,7 @@ bad_owner t old new =
 
 -- a record of the object has this id, and the user may read it
 abbrev pub is_target : Asked → (object : ℕ) → List ℕ → Bool
-is_target a object id = in_case (record_in a.tenant object id) false (can_read a.tenant a.user)
+is_target a object id = in_case (record_of_object a.tenant object id) false (can_read a.tenant a.user)
 
 abbrev pub bad_reference : Asked → (old new : Record) → Reference → Rule
 bad_reference a old new f =
@@ -109,7 +109,7 @@ fails a o new old rule =
     (refusal.ValidationFailed rule.name rule.message)
 
 abbrev pub validation_failed : Asked → Object → (new : Record) → (old : Option Record) → Rule
-validation_failed a o new old = first_of (fails a o new old) o.rules
+validation_failed a o new old = first_of (fails a o new old) o.validation_rules
 
 -- ---- DUPLICATE_VALUE: the first unique field whose value another record of the object has
 

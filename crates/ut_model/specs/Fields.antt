@@ -49,52 +49,52 @@ as_ref None = value.Null
 as_ref (Some id) = value.Ref id
 
 -- where a record has a value: among its values the name's is at position 0, and those of the custom fields follow
-pub data Where : Type 0 where
-  its_id : Where
-  its_owner : Where
-  its_created : Where
-  its_modified : Where
-  its_value : ℕ → Where
+pub data Site : Type 0 where
+  its_id : Site
+  its_owner : Site
+  its_created : Site
+  its_modified : Site
+  value_site : ℕ → Site
 
 -- the value of a record there
-abbrev pub value_in : Where → Record → Value
+abbrev pub value_in : Site → Record → Value
 value_in its_id r = value.Ref r.id
 value_in its_owner r = as_ref r.owner
 value_in its_created r = value.Moment r.created
 value_in its_modified r = value.Moment r.modified
-value_in (its_value position) r = value_at r.values position
+value_in (value_site position) r = value_at r.values position
 
 -- ---- columns
 
 -- what a field holds: values of a type or, as `Id` and `OwnerId`, ids
-pub data Kind : Type 0 where
-  typed : FieldType → Kind
-  ids : Kind
+pub data Content : Type 0 where
+  of_type : FieldType → Content
+  of_ids : Content
 
 -- a field: its name as declared, what it holds, and where a record has it
 pub record Column : Type 0 where
   pub name : List ℕ
-  pub kind : Kind
-  pub at : Where
+  pub content : Content
+  pub at : Site
 
 -- a column, from its parts
-abbrev pub column : List ℕ → Kind → Where → Column
-column name kind at = record { name = name; kind = kind; at = at }
+abbrev pub column : List ℕ → Content → Site → Column
+column name content at = record { name = name; content = content; at = at }
 
 -- `Name`: a text of at most 80 characters
 abbrev pub name_column : Column
-name_column = column (codes "Name") (typed (type.Text name_limit)) (its_value 0)
+name_column = column (codes "Name") (of_type (type.Text name_limit)) (value_site 0)
 
 -- `OwnerId`, which a detail doesn't have
 abbrev pub owner_column : Column
-owner_column = column (codes "OwnerId") ids its_owner
+owner_column = column (codes "OwnerId") of_ids its_owner
 
 abbrev pub owner_columns : Object → List Column
 owner_columns o = if is_detail o then [] else owner_column ∷ []
 
 -- the custom fields, in their order
 abbrev pub custom_columns : Object → List Column
-custom_columns o = map (λ (f : ℕ × Field). column f.1.name (typed f.1.kind) (its_value f.0)) (enumerate_from 1 o.fields)
+custom_columns o = map (λ (f : ℕ × Field). column f.1.name (of_type f.1.kind) (value_site f.0)) (enumerate_from 1 o.fields)
 
 -- the fields that an edit may give
 abbrev pub writable_columns : Object → List Column
@@ -103,9 +103,9 @@ writable_columns o = name_column ∷ owner_columns o ++ custom_columns o
 -- all fields
 abbrev pub columns : Object → List Column
 columns o =
-    column (codes "Id") ids its_id
-    ∷ column (codes "CreatedDate") (typed type.Moment) its_created
-    ∷ column (codes "LastModifiedDate") (typed type.Moment) its_modified
+    column (codes "Id") of_ids its_id
+    ∷ column (codes "CreatedDate") (of_type type.Moment) its_created
+    ∷ column (codes "LastModifiedDate") (of_type type.Moment) its_modified
     ∷ writable_columns o
 
 -- the field with this name

@@ -9,7 +9,7 @@ use Rattle.ut_value.specs.declared.sharing.Access.{Access}
 use Rattle.ut_value.specs.declared.sharing.Access.TheVariants as access
 use Rattle.ut_model.specs.Cases.{in_case}
 use Rattle.ut_model.specs.Fields.{by_parent}
-use Rattle.ut_model.specs.Members.{Body, as_text, entry, flag_in, formed, levels, member_names, object_in, principal_in, text_in}
+use Rattle.ut_model.specs.Members.{Body, as_text, entry_named, flag_in, formed, levels, member_names, object_in, principal_in, text_in}
 use Rattle.ut_model.specs.declared.metadata_bodies.NewMaster.{NewMaster}
 use Rattle.ut_model.specs.declared.metadata_bodies.SpelledType.{SpelledType}
 use Rattle.ut_model.specs.NewFields.{type_with}
@@ -18,7 +18,7 @@ use Rattle.ut_model.specs.declared.sharing_bodies.SpelledSource.TheVariants.{Own
 use Rattle.ut_model.specs.SharingRules.{SpelledSource}
 use Rattle.ut_model.specs.Sound.{is_name}
 use Rattle.ut_model.specs.SoundMetadata.{implies, may_be_required}
-use Rattle.ut_model.specs.TypeForms.{type_in, where_so}
+use Rattle.ut_model.specs.TypeForms.{type_member, where_so}
 
 -- ---- shares
 abbrev pub share_request : Body → Option Request
@@ -26,7 +26,7 @@ share_request body =
     formed (codes "record" ∷ codes "to" ∷ codes "level" ∷ []) [] body >>= λ b.
     text_in b (codes "record") >>= λ item.
     text_in b (codes "to") >>= principal_in >>= λ p.
-    text_in b (codes "level") >>= entry levels >>= λ level.
+    text_in b (codes "level") >>= entry_named levels >>= λ level.
     Some (shares (record { members = member_names b; item = item; to = p; level = level }))
 
 -- ---- objects
@@ -47,27 +47,27 @@ master_form body =
     Some (record { field = field; parent = parent; child = child })
 
 -- `master` may be left out
-abbrev pub master_of : Body → Option (Option NewMaster)
-master_of b = in_case (entry b (codes "master")) (Some None) (λ v. option_map Some (object_in v >>= master_form))
+abbrev pub master_member : Body → Option (Option NewMaster)
+master_member b = in_case (entry_named b (codes "master")) (Some None) (λ v. option_map Some (object_in v >>= master_form))
 
 -- the names of all members in their order, those of `master` in its place
 abbrev pub all_names : Body → List (List ℕ)
 all_names b =
-    flat_map (λ name. if bytes_eq name (codes "master") then in_case (entry b name >>= object_in) [] member_names else name ∷ []) (member_names b)
+    flat_map (λ name. if bytes_eq name (codes "master") then in_case (entry_named b name >>= object_in) [] member_names else name ∷ []) (member_names b)
 
 -- `master` is there exactly where the access is ControlledByParent
 abbrev pub object_request : Body → Option Request
 object_request body =
     formed (codes "name" ∷ codes "access" ∷ []) (codes "master" ∷ []) body >>= λ b.
     text_in b (codes "name") >>= λ name.
-    text_in b (codes "access") >>= entry accesses >>= λ a.
-    master_of b >>= λ master.
+    text_in b (codes "access") >>= entry_named accesses >>= λ a.
+    master_member b >>= λ master.
     where_so (beq (by_parent a) (is_some master)) (adds_object (record { members = all_names b; name = name; access = a; master = master }))
 
 abbrev pub access_request : (object : List ℕ) → Body → Option Request
 access_request object body =
     formed (codes "access" ∷ []) [] body >>= λ b.
-    text_in b (codes "access") >>= entry accesses >>= λ a.
+    text_in b (codes "access") >>= entry_named accesses >>= λ a.
     where_so (not (by_parent a)) (sets_object object a)
 
 -- ---- fields
@@ -83,7 +83,7 @@ field_request body =
     formed (codes "object" ∷ codes "name" ∷ codes "type" ∷ []) (codes "required" ∷ codes "unique" ∷ codes "indexed" ∷ []) body >>= λ b.
     text_in b (codes "object") >>= λ object.
     text_in b (codes "name") >>= λ name.
-    type_in b (codes "type") >>= λ kind.
+    type_member b (codes "type") >>= λ kind.
     flag_in b (codes "required") >>= λ required.
     flag_in b (codes "unique") >>= λ unique.
     flag_in b (codes "indexed") >>= λ indexed.
@@ -115,8 +115,8 @@ validation_request body =
 -- just one of `from` and `formula`
 abbrev pub source_in : Body → Option SpelledSource
 source_in b =
-    in_case (entry b (codes "from")) (option_map Criteria (text_in b (codes "formula"))) (λ v.
-    if is_none (entry b (codes "formula")) then option_map Owner (as_text v >>= principal_in) else None)
+    in_case (entry_named b (codes "from")) (option_map Criteria (text_in b (codes "formula"))) (λ v.
+    if is_none (entry_named b (codes "formula")) then option_map Owner (as_text v >>= principal_in) else None)
 
 abbrev pub sharing_rule_request : Body → Option Request
 sharing_rule_request body =
@@ -124,6 +124,6 @@ sharing_rule_request body =
     text_in b (codes "object") >>= λ object.
     text_in b (codes "name") >>= λ name.
     text_in b (codes "to") >>= principal_in >>= λ p.
-    text_in b (codes "level") >>= entry levels >>= λ level.
+    text_in b (codes "level") >>= entry_named levels >>= λ level.
     source_in b >>= λ source.
     Some (adds_sharing_rule (record { members = member_names b; object = object; name = name; source = source; to = p; level = level }))

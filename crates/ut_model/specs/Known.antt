@@ -6,7 +6,7 @@ use Rattle.ut_value.specs.declared.sharing.Principal.{Principal}
 use Rattle.ut_value.specs.declared.sharing.Principal.TheVariants as to
 use Rattle.ut_model.specs.Objects.{object_number, record_at}
 use Rattle.ut_model.specs.Tenant.{Tenant, Role, Group}
-use Rattle.ut_model.specs.World.{user_at, with_id}
+use Rattle.ut_model.specs.World.{having_id, user_at}
 
 pub record Known : Type 0 where
   pub counter : ℕ
@@ -28,8 +28,8 @@ known t =
     record {
       counter = t.counter;
       user = λ i. is_some (user_at t.users i);
-      role = λ i. is_some (with_id role_id t.roles i);
-      group = λ i. is_some (with_id group_id t.groups i);
+      role = λ i. is_some (having_id role_id t.roles i);
+      group = λ i. is_some (having_id group_id t.groups i);
       item = λ i. is_some (record_at t i);
     }
 

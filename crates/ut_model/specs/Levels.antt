@@ -18,8 +18,8 @@ use Rattle.ut_model.specs.Cases.{in_case}
 use Rattle.ut_model.specs.FormulaTexts.{reads_text}
 use Rattle.ut_model.specs.Limits.{limit_number}
 use Rattle.ut_model.specs.Membership.{is_above, is_member, reaches}
-use Rattle.ut_model.specs.Objects.{object_number, object_of, owner_of, record_at, records_of}
-use Rattle.ut_model.specs.Relationships.{master_in, named_record}
+use Rattle.ut_model.specs.Objects.{object_number, object_of_record, owner_of, record_at, records_of}
+use Rattle.ut_model.specs.Relationships.{master_of_object, named_record}
 use Rattle.ut_model.specs.Tenant.{Object, SharingRule, Source, owned, meets, Tenant, User}
 
 -- ---- levels in their order
@@ -54,7 +54,7 @@ meets_text text r o = read_holds (reads_text o true text) r.values None
 -- a source covers a record: its owner is a member, or the formula holds on it
 abbrev pub covered_by : Tenant → Record → Source → Bool
 covered_by t r (owned p) = in_case (owner_of t r) false (λ u. is_member t u p)
-covered_by t r (meets text) = in_case (object_of t r) false (meets_text text r)
+covered_by t r (meets text) = in_case (object_of_record t r) false (meets_text text r)
 
 -- a rule acts unless it is leaving
 abbrev pub acts : RuleState → Bool
@@ -73,7 +73,7 @@ pub record Grant : Type 0 where
 -- those of the rules that cover a record, and of its manual shares
 unfoldable pub grants : Tenant → Record → List Grant
 grants t r =
-    map (λ rule. record { to = rule.to; level = rule.level }) (filter (covers t r) t.rules)
+    map (λ rule. record { to = rule.to; level = rule.level }) (filter (covers t r) t.sharing_rules)
     ++ map (λ share. record { to = share.to; level = share.level }) (filter (λ share. bytes_eq share.item r.id) t.shares)
 
 -- ---- the level of a user on a record
@@ -100,7 +100,7 @@ by_grant t u g = if reaches t g.to u then g.level else Nothing
 -- the level on a record that isn't a detail
 unfoldable pub own_level : Tenant → User → Record → Level
 own_level t u r =
-    greatest (by_owner t u r ∷ in_case (object_of t r) Nothing (λ o. by_access o.access) ∷ map (by_grant t u) (grants t r))
+    greatest (by_owner t u r ∷ in_case (object_of_record t r) Nothing (λ o. by_access o.access) ∷ map (by_grant t u) (grants t r))
 
 -- who may edit a master has its details in full
 abbrev pub full_for_edit : Level → Level
@@ -111,7 +111,7 @@ full_for_edit level = level
 abbrev pub level_within : ℕ → Tenant → User → Record → Level
 level_within zero t u r = Nothing
 level_within (suc n) t u r =
-    in_case (master_in t.objects (object_number r.id)) (own_level t u r) (λ f.
+    in_case (master_of_object t.objects (object_number r.id)) (own_level t u r) (λ f.
     in_case (named_record t f r) Nothing (λ m. full_for_edit (level_within n t u m)))
 
 -- the level of a user on a record

@@ -22,8 +22,8 @@ use Rattle.ut_model.specs.declared.record_bodies.Given.TheVariants as gives
 use Rattle.ut_model.specs.Principals.{Spelled}
 
 -- the first entry under a name
-abbrev pub entry : {X : Type 0} → List (List ℕ × X) → List ℕ → Option X
-entry table name = option_map (λ x. x.1) (find (λ x. bytes_eq x.0 name) table)
+abbrev pub entry_named : {X : Type 0} → List (List ℕ × X) → List ℕ → Option X
+entry_named table name = option_map (λ x. x.1) (find (λ x. bytes_eq x.0 name) table)
 
 -- ---- bodies
 
@@ -83,23 +83,23 @@ list_by _ = None
 
 -- the members of these types
 abbrev pub text_in : Body → List ℕ → Option (List ℕ)
-text_in b name = entry b name >>= as_text
+text_in b name = entry_named b name >>= as_text
 
 abbrev pub text_or_null_in : Body → List ℕ → Option (Option (List ℕ))
-text_or_null_in b name = entry b name >>= as_text_or_null
+text_or_null_in b name = entry_named b name >>= as_text_or_null
 
 abbrev pub truth_in : Body → List ℕ → Option Bool
-truth_in b name = entry b name >>= as_truth
+truth_in b name = entry_named b name >>= as_truth
 
 -- a truth value, false where it is left out
 abbrev pub flag_in : Body → List ℕ → Option Bool
-flag_in b name = in_case (entry b name) (Some false) as_truth
+flag_in b name = in_case (entry_named b name) (Some false) as_truth
 
 abbrev pub whole_in : Body → List ℕ → Option ℕ
-whole_in b name = entry b name >>= as_whole
+whole_in b name = entry_named b name >>= as_whole
 
 abbrev pub list_in : Body → List ℕ → Option (List Json)
-list_in b name = entry b name >>= λ v. list_by (out-Json v)
+list_in b name = entry_named b name >>= λ v. list_by (out-Json v)
 
 -- all of them, if each is there
 abbrev pub all_there : {X : Type 0} → List (Option X) → Option (List X)
@@ -123,7 +123,7 @@ is_colon c = c == 58
 unfoldable pub principal_in : List ℕ → Option Spelled
 principal_in text =
     if list_any is_colon text
-    then option_map (λ k. record { kind = k; text = after_first is_colon text }) (entry kinds (before_first is_colon text))
+    then option_map (λ k. record { kind = k; text = after_first is_colon text }) (entry_named kinds (before_first is_colon text))
     else None
 
 -- ---- values of fields: the member `attributes` is passed over, and no two names are the same whatever the case of their letters

@@ -9,7 +9,7 @@ use Rattle.ut_value.specs.declared.sharing.Principal.{Principal}
 use Rattle.ut_value.specs.declared.sharing.Principal.TheVariants as to
 use Rattle.ut_model.specs.Cases.{in_case}
 use Rattle.ut_model.specs.Tenant.{Tenant, User}
-use Rattle.ut_model.specs.World.{with_id}
+use Rattle.ut_model.specs.World.{having_id}
 
 -- the list has this
 abbrev pub Has : {X : Type 0} → List X → X → Type 0
@@ -25,8 +25,8 @@ pub record Structure : Type 0 where
 abbrev pub structure_of : Tenant → Structure
 structure_of t =
     record {
-      parent = λ i. option_and_then (λ r. r.parent) (with_id (λ r. r.id) t.roles i);
-      members = λ i. option_map (λ g. g.members) (with_id (λ g. g.id) t.groups i);
+      parent = λ i. option_and_then (λ r. r.parent) (having_id (λ r. r.id) t.roles i);
+      members = λ i. option_map (λ g. g.members) (having_id (λ g. g.id) t.groups i);
     }
 
 -- ---- the relations

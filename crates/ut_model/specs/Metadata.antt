@@ -13,17 +13,17 @@ use Rattle.ut_model.specs.Fields.{is_detail}
 use Rattle.ut_model.specs.Limits.{limit_number}
 use Rattle.ut_model.specs.Names.{bad_name, is_child_name, is_custom_name, taken}
 use Rattle.ut_model.specs.Objects.{Numbered, object_named, with_object_changed}
-use Rattle.ut_model.specs.Relationships.{master_in, relationship_names}
+use Rattle.ut_model.specs.Relationships.{master_of_object, relationship_names}
 use Rattle.ut_model.specs.Rules.{MemberRules, Rule, in_body_order, over_limit, refuse_if}
 use Rattle.ut_model.specs.Tenant.{Field, Object, Tenant}
-use Rattle.ut_model.specs.Verdict.{Verdict, accept, done, judged, with_object}
+use Rattle.ut_model.specs.Verdict.{Verdict, accept, done, judged, on_object}
 
 -- ---- new objects
 
 -- the masters above an object, at most so many
 abbrev pub masters_above : ℕ → List Object → ℕ → ℕ
 masters_above zero os n = 0
-masters_above (suc most) os n = in_case (master_in os n) 0 (λ f. suc (masters_above most os f.target))
+masters_above (suc most) os n = in_case (master_of_object os n) 0 (λ f. suc (masters_above most os f.target))
 
 -- the detail level of an object: 0 without a master. It is counted one further than it may go
 abbrev pub detail_level : List Object → ℕ → ℕ
@@ -66,7 +66,7 @@ abbrev pub new_fields : Tenant → Option NewMaster → List Field
 new_fields t master = in_case master [] (λ m. in_case (object_named t m.parent) [] (λ o. master_field m o ∷ []))
 
 abbrev pub new_object : Tenant → NewObject → Object
-new_object t b = record { name = b.name; access = b.access; fields = new_fields t b.master; rules = [] }
+new_object t b = record { name = b.name; access = b.access; fields = new_fields t b.master; validation_rules = [] }
 
 -- a new object, which has the next number
 abbrev pub add_object : Tenant → NewObject → Verdict
@@ -75,6 +75,6 @@ add_object t b = judged t (object_rules t b) (accept done (record t { objects = 
 -- ---- another default access of an object; a detail's is its master's
 abbrev pub set_access : Tenant → (object : List ℕ) → Access → Verdict
 set_access t object access =
-    with_object t object (λ o.
+    on_object t object (λ o.
     judged t (refuse_if (is_detail o.object) (InvalidType o.object.name) ∷ [])
     (accept done (with_object_changed o.number (λ x. record x { access = access }) t)))

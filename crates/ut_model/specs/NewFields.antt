@@ -14,14 +14,14 @@ use Rattle.ut_model.specs.Objects.{Numbered, change_at, is_of}
 use Rattle.ut_model.specs.Relationships.{parent_name, relationship_names}
 use Rattle.ut_model.specs.Rules.{Rule, first_refusal, in_body_order, over_limit}
 use Rattle.ut_model.specs.Tenant.{Field, Tenant}
-use Rattle.ut_model.specs.Verdict.{Verdict, accept, done, judged, with_object}
+use Rattle.ut_model.specs.Verdict.{Verdict, accept, done, judged, on_object}
 
 -- ---- lookups
 
 -- what it comes to with the number of a lookup's object; other types have none
-abbrev pub with_target : Tenant → SpelledType → (Option ℕ → Verdict) → Verdict
-with_target t (Plain kind) verdict = verdict None
-with_target t (LookupTo object on_delete child) verdict = with_object t object (λ o. verdict (Some o.number))
+abbrev pub on_target : Tenant → SpelledType → (Option ℕ → Verdict) → Verdict
+on_target t (Plain kind) verdict = verdict None
+on_target t (LookupTo object on_delete child) verdict = on_object t object (λ o. verdict (Some o.number))
 
 -- the type, with the number of a lookup's object
 abbrev pub type_with : (target : Option ℕ) → SpelledType → FieldType
@@ -95,5 +95,5 @@ with_field n f t =
 -- a new field
 abbrev pub add_field : Tenant → NewField → Verdict
 add_field t b =
-    with_object t b.object (λ o. with_target t b.kind (λ target.
+    on_object t b.object (λ o. on_target t b.kind (λ target.
     judged t (field_rules t o target b) (accept done (with_field o.number (new_field target b) t))))

@@ -9,7 +9,7 @@ use Rattle.ut_value.specs.Id.{digit62, number62}
 use Rattle.ut_model.specs.declared.record.Record.{Record}
 use Rattle.ut_model.specs.Fields.{same_name}
 use Rattle.ut_model.specs.Tenant.{Object, Tenant, User}
-use Rattle.ut_model.specs.World.{user_at, with_id}
+use Rattle.ut_model.specs.World.{having_id, user_at}
 
 -- ---- objects
 
@@ -23,8 +23,8 @@ abbrev pub numbered : List Object → List Numbered
 numbered os = map (λ (o : ℕ × Object). record { number = o.0; object = o.1 }) (enumerate_from 0 os)
 
 -- the object with this number
-abbrev pub object_at : Tenant → ℕ → Option Object
-object_at t n = slice_get t.objects n
+abbrev pub object_numbered : Tenant → ℕ → Option Object
+object_numbered t n = slice_get t.objects n
 
 -- the object with this name
 unfoldable pub object_named : Tenant → List ℕ → Option Numbered
@@ -55,8 +55,8 @@ abbrev pub is_of : ℕ → Record → Bool
 is_of n r = object_number r.id == n
 
 -- the object of a record
-abbrev pub object_of : Tenant → Record → Option Object
-object_of t r = object_at t (object_number r.id)
+abbrev pub object_of_record : Tenant → Record → Option Object
+object_of_record t r = object_numbered t (object_number r.id)
 
 -- the records of an object, in the order of their ids
 abbrev pub records_of : Tenant → ℕ → List Record
@@ -64,7 +64,7 @@ records_of t n = filter (is_of n) t.records
 
 -- the record with this id
 abbrev pub record_at : Tenant → List ℕ → Option Record
-record_at t id = with_id (λ r. r.id) t.records id
+record_at t id = having_id (λ r. r.id) t.records id
 
 -- the owner of a record
 abbrev pub owner_of : Tenant → Record → Option User

@@ -9,7 +9,7 @@ use Rattle.ut_model.specs.declared.record.Record.{Record}
 use Rattle.ut_model.specs.Cases.{in_case}
 use Rattle.ut_model.specs.Fields.{column_named, value_in}
 use Rattle.ut_model.specs.Levels.{can_read}
-use Rattle.ut_model.specs.Objects.{object_number, object_of}
+use Rattle.ut_model.specs.Objects.{object_number, object_of_record}
 use Rattle.ut_model.specs.Relationships.{named_record, parent_named}
 use Rattle.ut_model.specs.Tenant.{Tenant, User}
 
@@ -20,17 +20,17 @@ pub record Asked : Type 0 where
   pub now : ℤ
 
 -- the user may read the record
-abbrev pub sees : Asked → Record → Option Record
-sees a r = if can_read a.tenant a.user r then Some r else None
+abbrev pub if_readable : Asked → Record → Option Record
+if_readable a r = if can_read a.tenant a.user r then Some r else None
 
 -- the parent of a record by the relationship with this name, if the user may read it
 abbrev pub parent_of : Asked → Record → List ℕ → Option Record
 parent_of a r name =
-    option_and_then (sees a) (option_and_then (λ f. named_record a.tenant f r) (parent_named a.tenant (object_number r.id) name))
+    option_and_then (if_readable a) (option_and_then (λ f. named_record a.tenant f r) (parent_named a.tenant (object_number r.id) name))
 
 -- the value of the field with this name
 abbrev pub field_value : Tenant → Record → List ℕ → Value
-field_value t r name = in_case (option_and_then (λ o. column_named o name) (object_of t r)) value.Null (λ c. value_in c.at r)
+field_value t r name = in_case (option_and_then (λ o. column_named o name) (object_of_record t r)) value.Null (λ c. value_in c.at r)
 
 -- the value of a path: null where a step is null, or leads to a record that the user may not read
 abbrev pub path_value : Asked → Record → List (List ℕ) → Value

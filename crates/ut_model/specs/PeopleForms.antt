@@ -9,7 +9,7 @@ use Rattle.ut_model.specs.Members.{Body, all_there, as_text, formed, list_in, pr
 use Rattle.ut_model.specs.Organisations.{is_secret}
 use Rattle.ut_model.specs.Principals.{Spelled, principal_of}
 use Rattle.ut_model.specs.Requests.{Request, adds_group, adds_role, adds_user, begins_retype, sets_group, sets_role, sets_user}
-use Rattle.ut_model.specs.TypeForms.{type_in, where_so}
+use Rattle.ut_model.specs.TypeForms.{type_member, where_so}
 
 -- ---- users
 abbrev pub user_request : Body → Option Request
@@ -61,5 +61,5 @@ retype_request body =
     formed (codes "object" ∷ codes "field" ∷ codes "type" ∷ []) [] body >>= λ b.
     text_in b (codes "object") >>= λ object.
     text_in b (codes "field") >>= λ field.
-    type_in b (codes "type") >>= λ kind.
+    type_member b (codes "type") >>= λ kind.
     Some (begins_retype object field kind)

@@ -11,7 +11,7 @@ use Rattle.ut_model.specs.declared.refusal.Refusal.TheVariants.{MalformedId, Inv
 use Rattle.ut_model.specs.Cases.{in_case}
 use Rattle.ut_model.specs.Rules.{Rule, refuse_if}
 use Rattle.ut_model.specs.Tenant.{Group, Role, Tenant}
-use Rattle.ut_model.specs.World.{user_at, with_id}
+use Rattle.ut_model.specs.World.{having_id, user_at}
 
 -- ---- ids
 
@@ -42,11 +42,11 @@ principal_of p = kind_of p.kind (spelled_id p.text)
 
 -- the role with this id
 abbrev pub role_at : Tenant → List ℕ → Option Role
-role_at t i = with_id (λ r. r.id) t.roles i
+role_at t i = having_id (λ r. r.id) t.roles i
 
 -- the group with this id
 abbrev pub group_at : Tenant → List ℕ → Option Group
-group_at t i = with_id (λ g. g.id) t.groups i
+group_at t i = having_id (λ g. g.id) t.groups i
 
 -- the principal names a thing of its kind
 abbrev pub is_there : Tenant → Principal → Bool

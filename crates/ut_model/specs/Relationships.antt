@@ -59,8 +59,8 @@ unfoldable pub child_named : Tenant → ℕ → List ℕ → Option Reference
 child_named t n name = find (λ f. (f.target == n) && in_case f.field.child false (same_name name)) (references t.objects)
 
 -- the reference of an object's records to their masters
-abbrev pub master_in : List Object → ℕ → Option Reference
-master_in os n = find (λ f. (f.object == n) && is_master f.field.kind) (references os)
+abbrev pub master_of_object : List Object → ℕ → Option Reference
+master_of_object os n = find (λ f. (f.object == n) && is_master f.field.kind) (references os)
 
 -- the names of all relationships of an object: to parents, and to children
 abbrev pub relationship_names : List Object → ℕ → List (List ℕ)

@@ -14,7 +14,7 @@ use Rattle.ut_model.specs.declared.refusal.Refusal.TheVariants.{ReplyTooLarge}
 use Rattle.ut_model.specs.declared.reply.Reply.{Reply}
 use Rattle.ut_model.specs.Cases.{in_case}
 use Rattle.ut_model.specs.Limits.{reply_limit}
-use Rattle.ut_model.specs.Objects.{object_at}
+use Rattle.ut_model.specs.Objects.{object_numbered}
 use Rattle.ut_model.specs.Paths.{Asked}
 use Rattle.ut_model.specs.RowsJson.{found_json, list_json, member_json, object_json}
 use Rattle.ut_model.specs.Step.{refusal_reply}
@@ -49,7 +49,7 @@ outcome_name outcome.Cancelled = codes "Cancelled"
 -- how far the change of a field's type is: the object, the field, the phase, the outcome, and the record that didn't convert
 abbrev pub job_json : Tenant → Job → List ℕ
 job_json t j =
-    let object = object_at t j.object in
+    let object = object_numbered t j.object in
     let field = option_and_then (λ o. slice_get o.fields j.field) object in
     object_json
     (member_json (codes "object") (printed_text (in_case object [] (λ o. o.name)))

@@ -10,14 +10,14 @@ use Rattle.ut_value.specs.declared.value.FieldType.{FieldType}
 use Rattle.ut_value.specs.declared.value.FieldType.TheVariants as type
 use Rattle.ut_model.specs.declared.refusal.Refusal.TheVariants as refusal
 use Rattle.ut_model.specs.Cases.{in_case}
-use Rattle.ut_model.specs.Fields.{Where, its_value, column_named}
+use Rattle.ut_model.specs.Fields.{Site, value_site, column_named}
 use Rattle.ut_model.specs.declared.metadata_bodies.SpelledType.{SpelledType}
 use Rattle.ut_model.specs.NewFields.{type_with}
 use Rattle.ut_model.specs.Objects.{Numbered}
 use Rattle.ut_model.specs.RuleFormulas.{formula_of, is_copy, names_field}
 use Rattle.ut_model.specs.Rules.{Rule, refuse_if, first_of, first_refusal}
 use Rattle.ut_model.specs.Tenant.{Field, Job, Object, Source, owned, meets, Tenant}
-use Rattle.ut_model.specs.Verdict.{Verdict, accept, done, judged, refuse, state_of, with_object}
+use Rattle.ut_model.specs.Verdict.{Verdict, accept, done, judged, on_object, refuse, state_of}
 
 -- ---- the rules
 
@@ -39,8 +39,8 @@ abbrev pub can_become : FieldType → Field → Bool
 can_become to f = not f.unique && (convertible f.kind to && not (f.indexed && is_checkbox to))
 
 -- the place of a custom field among its object's, from where records have it
-abbrev pub custom_place : Where → Option ℕ
-custom_place (its_value (suc place)) = Some place
+abbrev pub custom_place : Site → Option ℕ
+custom_place (value_site (suc place)) = Some place
 custom_place _ = None
 
 -- FIELD_IN_USE: a formula of the object, as a validation rule's or a criteria rule's, names the field at this place
@@ -56,10 +56,10 @@ source_uses o place (meets text) = uses o true place text
 abbrev pub in_use : Tenant → Numbered → (place : ℕ) → (field : List ℕ) → Rule
 in_use t o place field =
     first_refusal
-    (first_of (λ r. refuse_if (uses o.object false place r.formula) (refusal.FieldInUse field r.name)) o.object.rules
+    (first_of (λ r. refuse_if (uses o.object false place r.formula) (refusal.FieldInUse field r.name)) o.object.validation_rules
     ∷ first_of
     (λ r. refuse_if ((r.object == o.number) && source_uses o.object place r.source) (refusal.FieldInUse field r.name))
-    t.rules
+    t.sharing_rules
     ∷ [])
 
 -- ---- beginning
@@ -78,12 +78,12 @@ abbrev pub with_job : Job → Tenant → Tenant
 with_job j t = record t { job = Some j }
 
 -- a custom field that can have the type: its place
-abbrev pub place_to_change : Object → FieldType → Where → Option ℕ
+abbrev pub place_to_change : Object → FieldType → Site → Option ℕ
 place_to_change o to at =
     option_and_then (λ place. option_and_then (λ f. if can_become to f then Some place else None) (slice_get o.fields place)) (custom_place at)
 
 -- RETYPE_UNSUPPORTED names the field, and FIELD_IN_USE comes after it
-abbrev pub begin_on : Tenant → Numbered → FieldType → (field : List ℕ) → Where → Verdict
+abbrev pub begin_on : Tenant → Numbered → FieldType → (field : List ℕ) → Site → Verdict
 begin_on t o to field at =
     judged t (under_way t ∷ []) (in_case (place_to_change o.object to at) (refuse t (refusal.RetypeUnsupported field)) (λ place.
     judged t (in_use t o place field ∷ []) (accept done (with_job (new_job o.number place to) t))))
@@ -91,7 +91,7 @@ begin_on t o to field at =
 -- the change of a field's type begins
 abbrev pub begin_retype : Tenant → (object field : List ℕ) → SpelledType → Verdict
 begin_retype t object field to =
-    with_object t object (λ o.
+    on_object t object (λ o.
     in_case (column_named o.object field) (refuse t (refusal.InvalidField field)) (λ c. begin_on t o (new_type to) c.name c.at))
 
 -- ---- looking, and calling off

@@ -9,7 +9,7 @@ use Rattle.ut_model.specs.declared.refusal.Refusal.TheVariants.{MalformedId, Not
 use Rattle.ut_model.specs.Cases.{in_case}
 use Rattle.ut_model.specs.Levels.{at_least, level}
 use Rattle.ut_model.specs.Objects.{Numbered, is_of, record_at}
-use Rattle.ut_model.specs.Paths.{Asked, sees}
+use Rattle.ut_model.specs.Paths.{Asked, if_readable}
 use Rattle.ut_model.specs.Rules.{Rule, refuse_if}
 use Rattle.ut_model.specs.Tenant.{Tenant}
 use Rattle.ut_model.specs.Verdict.{Verdict, judged, refuse}
@@ -19,16 +19,16 @@ abbrev pub denied : Asked → Level → Record → Rule
 denied a least r = refuse_if (not (at_least least (level a.tenant a.user r))) InsufficientAccess
 
 -- what it comes to on a record, if there is one that the user may read; NOT_FOUND otherwise
-abbrev pub with_readable : Asked → Option Record → (Record → Verdict) → Verdict
-with_readable a found verdict = in_case (option_and_then (sees a) found) (refuse a.tenant NotFound) verdict
+abbrev pub on_readable : Asked → Option Record → (Record → Verdict) → Verdict
+on_readable a found verdict = in_case (option_and_then (if_readable a) found) (refuse a.tenant NotFound) verdict
 
 -- the record with this id, if it is of the object with this number
-abbrev pub record_in : Tenant → ℕ → List ℕ → Option Record
-record_in t n id = option_and_then (λ r. if is_of n r then Some r else None) (record_at t id)
+abbrev pub record_of_object : Tenant → ℕ → List ℕ → Option Record
+record_of_object t n id = option_and_then (λ r. if is_of n r then Some r else None) (record_at t id)
 
 -- what it comes to on the object's record that a text names: MALFORMED_ID, NOT_FOUND, and then the level that is needed
-abbrev pub with_named : Asked → Numbered → List ℕ → Level → (Record → Verdict) → Verdict
-with_named a o text least verdict =
+abbrev pub on_named : Asked → Numbered → List ℕ → Level → (Record → Verdict) → Verdict
+on_named a o text least verdict =
     in_case (id_in text) (refuse a.tenant (MalformedId text)) (λ id.
-    with_readable a (record_in a.tenant o.number id) (λ r.
+    on_readable a (record_of_object a.tenant o.number id) (λ r.
     judged a.tenant (denied a least r ∷ []) (verdict r)))

@@ -17,7 +17,7 @@ use Rattle.ut_model.specs.declared.record.Record.{Record}
 use Rattle.ut_model.specs.Cases.{in_case, with_before}
 use Rattle.ut_model.specs.Fields.{column_named, same_name}
 use Rattle.ut_model.specs.Limits.{nested_rows}
-use Rattle.ut_model.specs.Objects.{object_number, object_of}
+use Rattle.ut_model.specs.Objects.{object_number, object_of_record}
 use Rattle.ut_model.specs.Paths.{Asked, field_value, parent_of}
 use Rattle.ut_model.specs.Relationships.{child_named, parent_name, parent_named}
 use Rattle.ut_model.specs.Rows.{found, found_children}
@@ -43,10 +43,10 @@ value_json v = printed_text (print_value v)
 -- ---- names as they are declared
 
 abbrev pub object_name : Asked → Record → List ℕ
-object_name a r = in_case (object_of a.tenant r) [] (λ o. o.name)
+object_name a r = in_case (object_of_record a.tenant r) [] (λ o. o.name)
 
 abbrev pub field_name : Asked → Record → List ℕ → List ℕ
-field_name a r name = in_case (option_and_then (λ o. column_named o name) (object_of a.tenant r)) name (λ c. c.name)
+field_name a r name = in_case (option_and_then (λ o. column_named o name) (object_of_record a.tenant r)) name (λ c. c.name)
 
 abbrev pub parent_relationship : Asked → Record → List ℕ → List ℕ
 parent_relationship a r name = in_case (parent_named a.tenant (object_number r.id) name) name (λ f. parent_name f.field.name)
@@ -82,13 +82,13 @@ children_json [] = printed_null
 children_json (r ∷ rows) = rows_json (r ∷ rows)
 
 -- what a selected path goes on with behind this relationship, if it begins with it
-abbrev pub rest_of : List ℕ → Item → Option Item
-rest_of name (item.Path p) = behind_name name p.names
+abbrev pub behind_relationship : List ℕ → Item → Option Item
+behind_relationship name (item.Path p) = behind_name name p.names
   where
     behind_name : List ℕ → List (List ℕ) → Option Item
     behind_name name (first ∷ next ∷ names) = if same_name name first then Some (item.Path (record { names = next ∷ names })) else None
     behind_name name _ = None
-rest_of name (item.Child paths tail) = None
+behind_relationship name (item.Child paths tail) = None
 
 -- how a record is written, with what is selected of it
 abbrev pub RowJson : Type 0
@@ -96,21 +96,21 @@ RowJson = Record → List Item → List ℕ
 
 -- a parent with all paths through it; null where there is none that the user may read
 abbrev pub parent_json : RowJson → Asked → Record → List Item → List ℕ → List ℕ
-parent_json row a r all name = in_case (parent_of a r name) printed_null (λ s. row s (filter_map (rest_of name) all))
+parent_json write_row a r selected name = in_case (parent_of a r name) printed_null (λ s. write_row s (filter_map (behind_relationship name) selected))
 
 -- the member of a path: paths with one first relationship share one, at the place of the first
-abbrev pub path_member : RowJson → Asked → Record → (all before : List Item) → List (List ℕ) → List (List ℕ)
-path_member row a r all before [] = []
-path_member row a r all before (name ∷ []) = member_json (field_name a r name) (value_json (field_value a.tenant r name)) ∷ []
-path_member row a r all before (name ∷ next ∷ names) =
-    if list_any (λ x. is_some (rest_of name x)) before then []
-    else member_json (parent_relationship a r name) (parent_json row a r all name) ∷ []
+abbrev pub path_member : RowJson → Asked → Record → (selected selected_before : List Item) → List (List ℕ) → List (List ℕ)
+path_member write_row a r selected selected_before [] = []
+path_member write_row a r selected selected_before (name ∷ []) = member_json (field_name a r name) (value_json (field_value a.tenant r name)) ∷ []
+path_member write_row a r selected selected_before (name ∷ next ∷ names) =
+    if list_any (λ x. is_some (behind_relationship name x)) selected_before then []
+    else member_json (parent_relationship a r name) (parent_json write_row a r selected name) ∷ []
 
 -- the member of what is selected
-abbrev pub item_member : RowJson → Asked → Record → (all before : List Item) → Item → List (List ℕ)
-item_member row a r all before (item.Path p) = path_member row a r all before p.names
-item_member row a r all before (item.Child paths tail) =
-    member_json (child_relationship a r tail.from) (children_json (map (λ s. row s (map item.Path paths)) (found_children a r tail))) ∷ []
+abbrev pub item_member : RowJson → Asked → Record → (selected selected_before : List Item) → Item → List (List ℕ)
+item_member write_row a r selected selected_before (item.Path p) = path_member write_row a r selected selected_before p.names
+item_member write_row a r selected selected_before (item.Child paths tail) =
+    member_json (child_relationship a r tail.from) (children_json (map (λ s. write_row s (map item.Path paths)) (found_children a r tail))) ∷ []
 
 -- a row: its attributes, and the members of what is selected in its order; through at most so many relationships
 abbrev pub row_within : ℕ → Asked → RowJson

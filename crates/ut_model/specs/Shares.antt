@@ -13,11 +13,11 @@ use Rattle.ut_model.specs.declared.refusal.Refusal.TheVariants.{InvalidReference
 pub use Rattle.ut_model.specs.declared.sharing_bodies.NewShare.{NewShare}
 use Rattle.ut_model.specs.Cases.{in_case}
 use Rattle.ut_model.specs.Fields.{is_detail}
-use Rattle.ut_model.specs.Objects.{object_of, record_at}
+use Rattle.ut_model.specs.Objects.{object_of_record, record_at}
 use Rattle.ut_model.specs.Ordered.{put_in}
 use Rattle.ut_model.specs.Paths.{Asked}
 use Rattle.ut_model.specs.Principals.{Spelled, bad_id, not_there, principal_of, spelled_id}
-use Rattle.ut_model.specs.Rights.{denied, with_readable}
+use Rattle.ut_model.specs.Rights.{denied, on_readable}
 use Rattle.ut_model.specs.Rules.{Rule, refuse_if, in_body_order, over_limit}
 use Rattle.ut_model.specs.Tenant.{Share, Tenant}
 use Rattle.ut_model.specs.Verdict.{Verdict, accept, done, judged, refuse}
@@ -48,7 +48,7 @@ shares_of item shares = filter (λ x. bytes_eq x.item item) shares
 
 -- a detail isn't shared
 abbrev pub detail_refused : Tenant → Record → Rule
-detail_refused t r = in_case (object_of t r) None (λ o. refuse_if (is_detail o) (InvalidType o.name))
+detail_refused t r = in_case (object_of_record t r) None (λ o. refuse_if (is_detail o) (InvalidType o.name))
 
 -- the share that a body says
 abbrev pub share_of : NewShare → Share
@@ -66,7 +66,7 @@ share_rules a s r =
 abbrev pub share : Asked → NewShare → Verdict
 share a b =
     judged a.tenant (in_body_order b.members ((codes "record", bad_id b.item) ∷ (codes "to", bad_id b.to.text) ∷ []) ∷ [])
-    (with_readable a (record_at a.tenant (spelled_id b.item)) (λ r.
+    (on_readable a (record_at a.tenant (spelled_id b.item)) (λ r.
     judged a.tenant (share_rules a (share_of b) r) (accept done (record a.tenant { shares = with_share (share_of b) a.tenant.shares }))))
 
 -- ---- the end of a share
@@ -82,7 +82,7 @@ unshare_rules a s r =
 abbrev pub unshare_with : Asked → (item : List ℕ) → Spelled → Verdict
 unshare_with a item p =
     let s : Share = record { item = spelled_id item; to = principal_of p; level = Full } in
-    with_readable a (record_at a.tenant s.item) (λ r.
+    on_readable a (record_at a.tenant s.item) (λ r.
     judged a.tenant (unshare_rules a s r) (accept done (record a.tenant { shares = without_share s a.tenant.shares })))
 
 -- the same by the parts of the path; the principal is none where its part has another form, and then MALFORMED_ID names the part

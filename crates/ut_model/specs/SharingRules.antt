@@ -19,7 +19,7 @@ use Rattle.ut_model.specs.Principals.{Spelled, bad_id, not_there, principal_of}
 use Rattle.ut_model.specs.RuleFormulas.{busy, formula_of, malformed, name_cmp}
 use Rattle.ut_model.specs.Rules.{Rule, refuse_if, in_body_order, over_limit}
 use Rattle.ut_model.specs.Tenant.{Object, SharingRule, Source, owned, meets, Tenant}
-use Rattle.ut_model.specs.Verdict.{Verdict, accept, done, judged, with_object}
+use Rattle.ut_model.specs.Verdict.{Verdict, accept, done, judged, on_object}
 
 -- the source that is spelled
 abbrev pub source_of : SpelledSource → Source
@@ -36,13 +36,13 @@ abbrev pub source_formula : Object → SpelledSource → Option (Result Formula 
 source_formula o (Owner p) = None
 source_formula o (Criteria text) = Some (formula_of o true text)
 
-abbrev pub sharing_rules : Tenant → Numbered → NewSharingRule → List Rule
-sharing_rules t o b =
+abbrev pub new_sharing_rule_rules : Tenant → Numbered → NewSharingRule → List Rule
+new_sharing_rule_rules t o b =
     let owner = source_owner b.source in
     let formula = source_formula o.object b.source in
     refuse_if (is_detail o.object) (InvalidType o.object.name)
     ∷ bad_name is_stem b.name
-    ∷ taken (map (λ r. r.name) t.rules) b.name
+    ∷ taken (map (λ r. r.name) t.sharing_rules) b.name
     ∷ in_body_order b.members ((codes "to", bad_id b.to.text) ∷ (codes "from", in_case owner None (λ p. bad_id p.text)) ∷ [])
     ∷ in_body_order b.members
     ((codes "to", not_there t (codes "to") (principal_of b.to))
@@ -50,7 +50,7 @@ sharing_rules t o b =
     ∷ [])
     ∷ in_case formula None malformed
     ∷ in_case formula None (busy t o.number)
-    ∷ over_limit ((limit.SharingRules, length t.rules + 1) ∷ (limit.RuleNumbers, t.rule_numbers + 1) ∷ [])
+    ∷ over_limit ((limit.SharingRules, length t.sharing_rules + 1) ∷ (limit.RuleNumbers, t.rule_numbers + 1) ∷ [])
     ∷ []
 
 -- a new rule has the next number, and acts from now on
@@ -69,15 +69,15 @@ new_rule t n b =
 
 -- one more sharing rule
 abbrev pub with_rule : SharingRule → Tenant → Tenant
-with_rule r t = record t { rules = put_in (λ a b. name_cmp a.name b.name) r t.rules; rule_numbers = t.rule_numbers + 1 }
+with_rule r t = record t { sharing_rules = put_in (λ a b. name_cmp a.name b.name) r t.sharing_rules; rule_numbers = t.rule_numbers + 1 }
 
 -- a new sharing rule
 abbrev pub add_sharing_rule : Tenant → NewSharingRule → Verdict
 add_sharing_rule t b =
-    with_object t b.object (λ o. judged t (sharing_rules t o b) (accept done (with_rule (new_rule t o.number b) t)))
+    on_object t b.object (λ o. judged t (new_sharing_rule_rules t o b) (accept done (with_rule (new_rule t o.number b) t)))
 
 -- a rule that is removed is gone; NOT_FOUND where there is none with this name
 abbrev pub remove_sharing_rule : Tenant → (name : List ℕ) → Verdict
 remove_sharing_rule t name =
-    judged t (refuse_if (not (list_any (λ r. same_name r.name name) t.rules)) NotFound ∷ [])
-    (accept done (record t { rules = filter (λ r. not (same_name r.name name)) t.rules }))
+    judged t (refuse_if (not (list_any (λ r. same_name r.name name) t.sharing_rules)) NotFound ∷ [])
+    (accept done (record t { sharing_rules = filter (λ r. not (same_name r.name name)) t.sharing_rules }))

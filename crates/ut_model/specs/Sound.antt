@@ -24,7 +24,7 @@ pub record IsSound (t : Tenant) : Type 0 where
   pub groups : HasSoundGroups (known t) t.groups
   pub metadata : HasSoundMetadata t.objects
   pub records : HasSoundRecords (known t) t.objects t.records
-  pub rules : HasSoundRules (known t) t.objects t.rule_numbers t.rules
+  pub rules : HasSoundRules (known t) t.objects t.rule_numbers t.sharing_rules
   pub shares : HasSoundShares (known t) t.objects t.shares
   pub job : HasSoundJob t.counter t.objects t.records t.job
   pub formulas : AreFormulasSound t

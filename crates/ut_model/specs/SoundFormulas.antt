@@ -12,7 +12,7 @@ use Rattle.ut_model.specs.Tenant.{Job, Object, SharingRule, Source, owned, meets
 
 -- an object's validation rules do
 abbrev pub validations_read : Object → Bool
-validations_read o = list_all (λ r. is_ok (formula_of o false r.formula)) o.rules
+validations_read o = list_all (λ r. is_ok (formula_of o false r.formula)) o.validation_rules
 
 -- the source of a sharing rule on the object does, if it is a text
 abbrev pub source_reads : Source → Object → Bool
@@ -28,7 +28,7 @@ criteria_read os r = in_case (slice_get os r.object) false (source_reads r.sourc
 -- no validation rule of the object names the job's field, and no sharing rule
 abbrev pub is_unnamed : List SharingRule → Job → Object → Bool
 is_unnamed rules j o =
-    list_all (λ r. not (uses o false j.field r.formula)) o.rules
+    list_all (λ r. not (uses o false j.field r.formula)) o.validation_rules
     && list_all (λ r. not ((r.object == j.object) && source_uses o j.field r.source)) rules
 
 -- all rules of an organisation; the field of a job is named by none while its values are copied
@@ -39,4 +39,4 @@ pub record HasSoundFormulas (os : List Object) (rules : List SharingRule) (job :
 
 -- those of a tenant
 abbrev pub AreFormulasSound : Tenant → Type 0
-AreFormulasSound t = HasSoundFormulas t.objects t.rules t.job
+AreFormulasSound t = HasSoundFormulas t.objects t.sharing_rules t.job

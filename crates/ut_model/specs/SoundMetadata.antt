@@ -64,11 +64,11 @@ pub record IsSoundObject (os : List Object) (o : Numbered) : Type 0 where
   -- one Master field exactly where the access is ControlledByParent, and else none
   pub master : masters o.object ≡ (if by_parent o.object.access then 1 else 0)
   pub level : detail_level os o.number ≤ limit_number limit.DetailLevels
-  pub rules : AllByRecursion IsSoundValidation o.object.rules
+  pub rules : AllByRecursion IsSoundValidation o.object.validation_rules
   -- in the order of their lower-case names, which differ
-  pub rules_rise : T (is_sorted name_cmp (map (λ r. (r.name, r)) o.object.rules))
+  pub rules_rise : T (is_sorted name_cmp (map (λ r. (r.name, r)) o.object.validation_rules))
   pub few_fields : length o.object.fields ≤ limit_number limit.FieldsPerObject
-  pub few_rules : length o.object.rules ≤ limit_number limit.ValidationRulesPerObject
+  pub few_rules : length o.object.validation_rules ≤ limit_number limit.ValidationRulesPerObject
 
 -- all objects, whose names differ
 pub record HasSoundMetadata (os : List Object) : Type 0 where

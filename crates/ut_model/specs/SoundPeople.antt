@@ -11,7 +11,7 @@ use Rattle.ut_model.specs.Known.{Known, IsDrawn, group_id, knows, role_id}
 use Rattle.ut_model.specs.Limits.{limit_number, name_limit}
 use Rattle.ut_model.specs.Membership.{Below}
 use Rattle.ut_model.specs.Tenant.{User, Role, Group}
-use Rattle.ut_model.specs.World.{with_id, user_id, user_prefix, role_prefix, group_prefix}
+use Rattle.ut_model.specs.World.{having_id, user_id, user_prefix, role_prefix, group_prefix}
 
 -- the name of an organisation or of people, and the message of a validation rule: 1 to 80 characters
 unfoldable pub is_name : List ℕ → Bool
@@ -40,7 +40,7 @@ pub record IsSoundGroup (k : Known) (g : Group) : Type 0 where
 
 -- the parent of a role
 abbrev pub parent_in : List Role → List ℕ → Option (List ℕ)
-parent_in roles i = option_and_then (λ r. r.parent) (with_id role_id roles i)
+parent_in roles i = option_and_then (λ r. r.parent) (having_id role_id roles i)
 
 -- no role is below itself
 abbrev pub NoCycle : List Role → Type 0

@@ -37,23 +37,23 @@ abbrev pub is_q : List ℕ × List ℕ → Bool
 is_q pair = bytes_eq (utf8_lossy pair.0) (codes "q")
 
 -- the text of a pair's value, in UTF-8; without a pair it is empty
-abbrev pub value_text : Option (List ℕ × List ℕ) → List ℕ
-value_text None = []
-value_text (Some pair) = utf8_lossy pair.1
+abbrev pub pair_text : Option (List ℕ × List ℕ) → List ℕ
+pair_text None = []
+pair_text (Some pair) = utf8_lossy pair.1
 
 -- the text of a query, in UTF-8: the value of the first pair `q` of the query string
 unfoldable pub query_text : List ℕ → List ℕ
-query_text pairs = value_text (find is_q (pairs_in (encode_utf8_all pairs)))
+query_text pairs = pair_text (find is_q (pairs_in (encode_utf8_all pairs)))
 
 -- ---- who asks
 
 -- what the key of a message names, before any organisation is looked at
-abbrev pub named_in : Message → Option Named
-named_in m = option_and_then (λ key. named (encode_utf8_all key)) m.bearer
+abbrev pub key_in : Message → Option Named
+key_in m = option_and_then (λ key. named (encode_utf8_all key)) m.bearer
 
 -- the number of the organisation that the key of a message names
 abbrev pub org_named : Message → Option ℕ
-org_named m = option_map (λ n. n.org) (named_in m)
+org_named m = option_map (λ n. n.org) (key_in m)
 
 -- the caller whom the key of a message names, if its secret is right
 abbrev pub caller_by : World → Message → Option Caller
@@ -69,8 +69,8 @@ if_called answers m now None t = refused refusal.InvalidSession t
 if_called answers m now (Some c) t = answers c m now t
 
 -- what a message with this key is answered in an organisation
-abbrev pub own : Answering → Named → Message → ℕ → Tenant → Reply × Tenant
-own answers n m now t = if_called answers m now (caller_of n t) t
+abbrev pub answer_in : Answering → Named → Message → ℕ → Tenant → Reply × Tenant
+answer_in answers n m now t = if_called answers m now (caller_of n t) t
 
 -- ---- the world
 
@@ -84,10 +84,10 @@ abbrev pub in_org : World → ℕ → (Tenant → Reply × Tenant) → Reply × 
 in_org w org does = in_tenant w org does (tenant_at w org)
 
 -- the same in the organisation that is named, if one is
-abbrev pub in_named : Answering → World → Message → ℕ → Option Named → Reply × World
-in_named answers w m now None = (refusal_reply refusal.InvalidSession, w)
-in_named answers w m now (Some n) = in_org w n.org (own answers n m now)
+abbrev pub in_key : Answering → World → Message → ℕ → Option Named → Reply × World
+in_key answers w m now None = (refusal_reply refusal.InvalidSession, w)
+in_key answers w m now (Some n) = in_org w n.org (answer_in answers n m now)
 
 -- a step of the world by what answers a caller's message
 abbrev pub step_by : Answering → World → Message → ℕ → Reply × World
-step_by answers w m now = in_named answers w m now (named_in m)
+step_by answers w m now = in_key answers w m now (key_in m)

@@ -11,7 +11,7 @@ use Rattle.ut_query.specs.declared.query.Literal.{Literal}
 use Rattle.ut_query.specs.declared.query.Literal.TheVariants as literal
 use Rattle.ut_query.specs.declared.query.Op.{Op}
 use Rattle.ut_query.specs.declared.query.Op.TheVariants as op
-use Rattle.ut_model.specs.Fields.{Kind, typed, ids}
+use Rattle.ut_model.specs.Fields.{Content, of_type, of_ids}
 
 -- ---- the tests of a condition, in the order of the text
 
@@ -103,14 +103,14 @@ suits_type type.Checkbox = suits truth_or_null false false false
 suits_type (type.Lookup object on_delete) = ids_suit
 suits_type (type.Master object) = ids_suit
 
-abbrev pub suits_of : Kind → Suits
-suits_of ids = ids_suit
-suits_of (typed kind) = suits_type kind
+abbrev pub suits_of : Content → Suits
+suits_of of_ids = ids_suit
+suits_of (of_type kind) = suits_type kind
 
 -- a field holds ids
-abbrev pub holds_ids : Kind → Bool
-holds_ids ids = true
-holds_ids (typed kind) = is_reference kind
+abbrev pub holds_ids : Content → Bool
+holds_ids of_ids = true
+holds_ids (of_type kind) = is_reference kind
 
 -- `=` and `!=`
 abbrev pub is_equality : Op → Bool

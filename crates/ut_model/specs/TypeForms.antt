@@ -7,7 +7,7 @@ use Rattle.ut_value.specs.declared.value.FieldType.{FieldType}
 use Rattle.ut_value.specs.declared.value.FieldType.TheVariants as type
 use Rattle.ut_value.specs.declared.value.OnDelete.{OnDelete}
 use Rattle.ut_value.specs.declared.value.OnDelete.TheVariants as on_delete
-use Rattle.ut_model.specs.Members.{Body, all_there, as_text, entry, formed, list_in, object_in, text_in, whole_in}
+use Rattle.ut_model.specs.Members.{Body, all_there, as_text, entry_named, formed, list_in, object_in, text_in, whole_in}
 use Rattle.ut_model.specs.declared.metadata_bodies.SpelledType.{SpelledType}
 use Rattle.ut_model.specs.declared.metadata_bodies.SpelledType.TheVariants.{Plain, LookupTo}
 
@@ -48,7 +48,7 @@ abbrev pub lookup_type : Body → Option SpelledType
 lookup_type body =
     formed (codes "kind" ∷ codes "object" ∷ codes "onDelete" ∷ codes "child" ∷ []) [] body >>= λ b.
     text_in b (codes "object") >>= λ object.
-    text_in b (codes "onDelete") >>= entry deletions >>= λ o.
+    text_in b (codes "onDelete") >>= entry_named deletions >>= λ o.
     text_in b (codes "child") >>= λ child.
     Some (LookupTo object o child)
 
@@ -66,8 +66,8 @@ type_forms =
 
 -- the type that a body spells
 abbrev pub type_of : Body → Option SpelledType
-type_of b = text_in b (codes "kind") >>= entry type_forms >>= λ form. form b
+type_of b = text_in b (codes "kind") >>= entry_named type_forms >>= λ form. form b
 
 -- a member that is a type
-abbrev pub type_in : Body → List ℕ → Option SpelledType
-type_in b name = entry b name >>= object_in >>= type_of
+abbrev pub type_member : Body → List ℕ → Option SpelledType
+type_member b name = entry_named b name >>= object_in >>= type_of

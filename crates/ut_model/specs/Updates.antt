@@ -18,11 +18,11 @@ use Rattle.ut_model.specs.Given.{Assignment}
 use Rattle.ut_model.specs.Keys.{Key, bad_fields, with_key}
 use Rattle.ut_model.specs.Objects.{Numbered}
 use Rattle.ut_model.specs.Paths.{Asked}
-use Rattle.ut_model.specs.Relationships.{master_in}
-use Rattle.ut_model.specs.Rights.{denied, with_named}
+use Rattle.ut_model.specs.Relationships.{master_of_object}
+use Rattle.ut_model.specs.Rights.{denied, on_named}
 use Rattle.ut_model.specs.Rules.{Rule, refuse_if}
 use Rattle.ut_model.specs.Tenant.{Job, Tenant}
-use Rattle.ut_model.specs.Verdict.{Verdict, accept, done, judged, upserted, with_object}
+use Rattle.ut_model.specs.Verdict.{Verdict, accept, done, judged, on_object, upserted}
 
 -- a change of owner needs Full
 abbrev pub owner_denied : Asked → (old new : Record) → Rule
@@ -31,7 +31,7 @@ owner_denied a old new = if same_owner old new then None else denied a Full old
 -- a detail keeps its master
 abbrev pub master_changed : Tenant → Numbered → (old new : Record) → Rule
 master_changed t o old new =
-    in_case (master_in t.objects o.number) None (λ f.
+    in_case (master_of_object t.objects o.number) None (λ f.
     refuse_if (not (same_value (value_at old.values f.position) (value_at new.values f.position))) (refusal.InvalidField f.field.name))
 
 -- ---- RETYPE_CONFLICT: once a record was copied, its value of the job's field must convert
@@ -84,4 +84,4 @@ update_on a o key given old =
 
 -- update
 abbrev pub update : Asked → (object key : List ℕ) → List Assignment → Verdict
-update a object key given = with_object a.tenant object (λ o. with_named a o key Edit (update_on a o None given))
+update a object key given = on_object a.tenant object (λ o. on_named a o key Edit (update_on a o None given))

@@ -9,14 +9,14 @@ use Rattle.ut_value.specs.declared.value.Value.{Value}
 use Rattle.ut_model.specs.declared.refusal.Refusal.TheVariants as refusal
 use Rattle.ut_model.specs.Cases.{in_case}
 use Rattle.ut_model.specs.Creates.{create_on}
-use Rattle.ut_model.specs.Fields.{its_value, column, column_named, typed, same_name}
-use Rattle.ut_model.specs.Given.{Assignment, ReadOr, or_refusal, record_with}
+use Rattle.ut_model.specs.Fields.{value_site, column, column_named, of_type, same_name}
+use Rattle.ut_model.specs.Given.{Assignment, ReadOr, or_refusal, record_by_value}
 use Rattle.ut_model.specs.Objects.{Numbered}
 use Rattle.ut_model.specs.Paths.{Asked}
 use Rattle.ut_model.specs.Rights.{denied}
 use Rattle.ut_model.specs.Tenant.{Field, Object, Tenant}
 use Rattle.ut_model.specs.Updates.{update_on}
-use Rattle.ut_model.specs.Verdict.{Verdict, judged, refuse, with_object}
+use Rattle.ut_model.specs.Verdict.{Verdict, judged, on_object, refuse}
 
 -- the unique field with this name, and its position among a record's values
 abbrev pub unique_named : Object → List ℕ → Option (ℕ × Field)
@@ -30,23 +30,23 @@ declared_name o name = in_case (column_named o name) name (λ c. c.name)
 abbrev pub key_value : Field → Option (List ℕ) → ReadOr
 key_value f None = Err (refusal.WrongType f.name)
 key_value f (Some []) = Err (refusal.WrongType f.name)
-key_value f (Some (c ∷ cs)) = or_refusal f.name (typed f.kind) (c ∷ cs) (read_value f.kind (c ∷ cs))
+key_value f (Some (c ∷ cs)) = or_refusal f.name (of_type f.kind) (c ∷ cs) (read_value f.kind (c ∷ cs))
 
 -- what it comes to with the value that was read, or its refusal
-abbrev pub with_read : Tenant → ReadOr → (Value → Verdict) → Verdict
-with_read t (Ok v) verdict = verdict v
-with_read t (Err refusal) verdict = refuse t refusal
+abbrev pub on_value : Tenant → ReadOr → (Value → Verdict) → Verdict
+on_value t (Ok v) verdict = verdict v
+on_value t (Err refusal) verdict = refuse t refusal
 
 -- by this field and this value
 abbrev pub upsert_by : Asked → Numbered → List Assignment → ℕ × Field → Value → Verdict
 upsert_by a o given f v =
-    let key = Some (record { column = column f.1.name (typed f.1.kind) (its_value f.0); value = v }) in
-    in_case (record_with a.tenant o.number f.0 v) (create_on a o key given) (λ r.
+    let key = Some (record { column = column f.1.name (of_type f.1.kind) (value_site f.0); value = v }) in
+    in_case (record_by_value a.tenant o.number f.0 v) (create_on a o key given) (λ r.
     judged a.tenant (denied a Edit r ∷ []) (update_on a o key given r))
 
 -- upsert; INVALID_FIELD where the key is no unique field
 abbrev pub upsert : Asked → (object key : List ℕ) → (text : Option (List ℕ)) → List Assignment → Verdict
 upsert a object key text given =
-    with_object a.tenant object (λ o.
+    on_object a.tenant object (λ o.
     in_case (unique_named o.object key) (refuse a.tenant (refusal.InvalidField (declared_name o.object key))) (λ f.
-    with_read a.tenant (key_value f.1 text) (upsert_by a o given f)))
+    on_value a.tenant (key_value f.1 text) (upsert_by a o given f)))

@@ -9,28 +9,28 @@ use Rattle.ut_model.specs.Ordered.{put_in}
 use Rattle.ut_model.specs.RuleFormulas.{busy, formula_of, malformed, name_cmp}
 use Rattle.ut_model.specs.Rules.{Rule, over_limit}
 use Rattle.ut_model.specs.Tenant.{Object, Tenant, ValidationRule}
-use Rattle.ut_model.specs.Verdict.{Verdict, accept, done, judged, with_object}
+use Rattle.ut_model.specs.Verdict.{Verdict, accept, done, judged, on_object}
 
 -- the rule that a body says
 abbrev pub validation_of : NewValidationRule → ValidationRule
 validation_of b = record { name = b.name; formula = b.formula; message = b.message }
 
-abbrev pub validation_rules : Tenant → Numbered → NewValidationRule → List Rule
-validation_rules t o b =
+abbrev pub new_validation_rule_rules : Tenant → Numbered → NewValidationRule → List Rule
+new_validation_rule_rules t o b =
     let formula = formula_of o.object false b.formula in
     bad_name is_stem b.name
-    ∷ taken (map (λ r. r.name) o.object.rules) b.name
+    ∷ taken (map (λ r. r.name) o.object.validation_rules) b.name
     ∷ malformed formula
     ∷ busy t o.number formula
-    ∷ over_limit ((limit.ValidationRulesPerObject, length o.object.rules + 1) ∷ [])
+    ∷ over_limit ((limit.ValidationRulesPerObject, length o.object.validation_rules + 1) ∷ [])
     ∷ []
 
 -- the object with one rule more
 abbrev pub with_validation_rule : ValidationRule → Object → Object
-with_validation_rule r o = record o { rules = put_in (λ a b. name_cmp a.name b.name) r o.rules }
+with_validation_rule r o = record o { validation_rules = put_in (λ a b. name_cmp a.name b.name) r o.validation_rules }
 
 -- a new validation rule
 abbrev pub add_validation_rule : Tenant → NewValidationRule → Verdict
 add_validation_rule t b =
-    with_object t b.object (λ o.
-    judged t (validation_rules t o b) (accept done (with_object_changed o.number (with_validation_rule (validation_of b)) t)))
+    on_object t b.object (λ o.
+    judged t (new_validation_rule_rules t o b) (accept done (with_object_changed o.number (with_validation_rule (validation_of b)) t)))

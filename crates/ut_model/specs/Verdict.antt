@@ -44,5 +44,5 @@ abbrev pub judged : Tenant → List Rule → Verdict → Verdict
 judged t rules verdict = unless (first_refusal rules) t verdict
 
 -- what it comes to on the object with this name; INVALID_TYPE where there is none
-abbrev pub with_object : Tenant → List ℕ → (Numbered → Verdict) → Verdict
-with_object t name verdict = in_case (object_named t name) (refuse t (InvalidType name)) verdict
+abbrev pub on_object : Tenant → List ℕ → (Numbered → Verdict) → Verdict
+on_object t name verdict = in_case (object_named t name) (refuse t (InvalidType name)) verdict

@@ -72,7 +72,7 @@ abbrev pub field : List ℕ → FieldType → (child : Option (List ℕ)) → Fi
 field name kind child = record { name = name; kind = kind; required = false; unique = false; indexed = false; child = child }
 
 abbrev pub object : List ℕ → Access → List Field → Object
-object name access fields = record { name = name; access = access; fields = fields; rules = [] }
+object name access fields = record { name = name; access = access; fields = fields; validation_rules = [] }
 
 -- deals (0) with a stage, their lines (1), and parts (2) of lines
 abbrev pub deals : Access → List Object
@@ -113,7 +113,7 @@ tenant objects rules records shares =
       users = admin ∷ ron ∷ cea ∷ otto ∷ [];
       roles = roles;
       groups = groups;
-      rules = rules;
+      sharing_rules = rules;
       records = records;
       shares = shares;
       job = None;

@@ -58,8 +58,8 @@ abbrev pub named_x : Cond
 named_x = cond.Test (path (codes "Name" ∷ [])) op.Equal (literal.Text (codes "x"))
 
 -- a name that is among these, or is not
-abbrev pub named_in : Bool → List Literal → Cond
-named_in negated literals = cond.In (path (codes "Name" ∷ [])) negated literals
+abbrev pub name_among : Bool → List Literal → Cond
+name_among negated literals = cond.In (path (codes "Name" ∷ [])) negated literals
 
 -- `SELECT Id FROM name`
 abbrev pub ids_of : List ℕ → Query

@@ -125,7 +125,7 @@ add_deals = by_admin (object_with deal_object access.Private)
 
 -- Ron makes deal 8
 abbrev pub make_deal : Call
-make_deal = by 5 (creates deal_object (text_to (codes "Name") (codes "D1") ∷ []))
+make_deal = by 5 (creates deal_object (text_to (codes "Name") (codes "Q1") ∷ []))
 
 abbrev pub deal_made : List Call
 deal_made = people ++ add_deals ∷ make_deal ∷ []

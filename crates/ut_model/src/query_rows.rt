@@ -11,7 +11,7 @@ ghost use Rattle.ut_model.specs.Conditions.{holds, is_like, passes};
 ghost use Rattle.ut_model.specs.Paths.{path_value};
 ghost use Rattle.ut_model.specs.Rows.{found_children, listed, rows, shown};
 ghost use Rattle.ut_model.specs.WorkedAccess.{admin, cea, d1, otto, private, ron};
-ghost use Rattle.ut_model.specs.WorkedQueries.{account, account_name, asked_by, both, contact, contacts, contacts_where, either, ids_of, last_note, moment, named_in, named_x, no_name, not_x, note, opposite, order_by, path, row_ids, sorted};
+ghost use Rattle.ut_model.specs.WorkedQueries.{account, account_name, asked_by, both, contact, contacts, contacts_where, either, ids_of, last_note, moment, name_among, named_x, no_name, not_x, note, opposite, order_by, path, row_ids, sorted};
 
 /// Rows, paths through records that the user may not read, and children. The call does nothing.
 pub fn path_rows()
@@ -64,8 +64,8 @@ pub fn condition_rows()
     ensures null_is_like_nothing { is_like (part.Many ∷ []) value.Null ≡ false }
 
     // On the contact, whose name is null.
-    ensures among { holds (asked_by otto (contacts [])) contact (named_in false (literal.Text (codes "x") ∷ literal.Null ∷ [])) ≡ true }
-    ensures not_among { holds (asked_by otto (contacts [])) contact (named_in true (literal.Text (codes "x") ∷ [])) ≡ true }
+    ensures among { holds (asked_by otto (contacts [])) contact (name_among false (literal.Text (codes "x") ∷ literal.Null ∷ [])) ≡ true }
+    ensures not_among { holds (asked_by otto (contacts [])) contact (name_among true (literal.Text (codes "x") ∷ [])) ≡ true }
     ensures all { holds (asked_by otto (contacts [])) contact (both no_name named_x) ≡ false }
     ensures some { holds (asked_by otto (contacts [])) contact (either named_x no_name) ≡ true }
     ensures not { holds (asked_by otto (contacts [])) contact (both no_name (opposite named_x)) ≡ true }

@@ -7,7 +7,7 @@ ghost use Rattle.ut_model.specs.declared.record.Record.{Record};
 ghost use Rattle.ut_model.specs.declared.refusal.Refusal.{Refusal};
 ghost use Rattle.ut_model.specs.Levels.{level};
 ghost use Rattle.ut_model.specs.Membership.{Has};
-ghost use Rattle.ut_model.specs.Objects.{Numbered, object_at, object_named, records_of};
+ghost use Rattle.ut_model.specs.Objects.{Numbered, object_named, object_numbered, records_of};
 ghost use Rattle.ut_model.specs.Ordered.{before, by_id, in_order};
 ghost use Rattle.ut_model.specs.Paths.{Asked};
 ghost use Rattle.ut_model.specs.Requests.{Request, verdict_on};
@@ -17,7 +17,7 @@ ghost use Rattle.ut_model.specs.Tenant.{Tenant, User};
 
 /// The object that is named is the one with its number. The call does nothing.
 pub fn object_laws()
-    ensures named { (t : Tenant) (name : List ℕ) (o : Numbered) → object_named t name ≡ Some o → object_at t o.number ≡ Some o.object }
+    ensures named { (t : Tenant) (name : List ℕ) (o : Numbered) → object_named t name ≡ Some o → object_numbered t o.number ≡ Some o.object }
 {}
 
 /// The records of an object are in the order of their ids, which is their order without keys. The call does nothing.

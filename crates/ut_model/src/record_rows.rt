@@ -6,7 +6,7 @@ ghost use Rattle.ut_json.specs.declared.tree.Num.TheVariants.{Beyond, Exact};
 ghost use Rattle.ut_value.specs.declared.fail.ValueFail.TheVariants.{OutOfRange, WrongType};
 ghost use Rattle.ut_value.specs.declared.value.FieldType.TheVariants as type;
 ghost use Rattle.ut_value.specs.declared.value.Value.TheVariants as value;
-ghost use Rattle.ut_model.specs.Fields.{typed};
+ghost use Rattle.ut_model.specs.Fields.{of_type};
 ghost use Rattle.ut_model.specs.Given.{read_json};
 ghost use Rattle.ut_model.specs.WorkedRecords.{add_rule, account_with_code, accounts_made, contact_of, deal_of, delete_order, note_on, order_made, rules_made, upsert_account, upsert_with, upserted_so};
 ghost use Rattle.ut_model.specs.WorkedRefusals.{contacts_by, found_contact, no_target};
@@ -63,12 +63,12 @@ pub fn delete_rows()
 
 /// Numbers in JSON, given to a field of 18 digits and 8 decimals. The call does nothing.
 pub fn number_rows()
-    ensures exact { read_json (typed (type.Number 18 8)) (json.Number (Exact (pos 123456789012345678)))
+    ensures exact { read_json (of_type (type.Number 18 8)) (json.Number (Exact (pos 123456789012345678)))
         ≡ Ok (value.Num (pos 123456789012345678)) }
-    ensures too_large { read_json (typed (type.Number 18 8)) (json.Number (Exact (pos 1234567890112345678)))
+    ensures too_large { read_json (of_type (type.Number 18 8)) (json.Number (Exact (pos 1234567890112345678)))
         ≡ Err OutOfRange }
-    ensures too_small { read_json (typed (type.Number 18 8)) (json.Number Beyond) ≡ Err OutOfRange }
-    ensures text { read_json (typed (type.Number 18 8)) (json.Text (codes "15")) ≡ Ok (value.Num (pos 1500000000)) }
-    ensures truth { read_json (typed (type.Number 18 8)) (json.Bool true) ≡ Err WrongType }
-    ensures no_truth { read_json (typed type.Checkbox) json.Null ≡ Ok (value.Bool false) }
+    ensures too_small { read_json (of_type (type.Number 18 8)) (json.Number Beyond) ≡ Err OutOfRange }
+    ensures text { read_json (of_type (type.Number 18 8)) (json.Text (codes "15")) ≡ Ok (value.Num (pos 1500000000)) }
+    ensures truth { read_json (of_type (type.Number 18 8)) (json.Bool true) ≡ Err WrongType }
+    ensures no_truth { read_json (of_type type.Checkbox) json.Null ≡ Ok (value.Bool false) }
 {}

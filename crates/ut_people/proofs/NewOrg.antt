@@ -24,7 +24,7 @@ use Rattle.ut_model.specs.World.{World}
 use Rattle.ut_people.specs.People.{with_rows}
 use Rattle.ut_stands.specs.Metadata.{org_of, user_of}
 use Rattle.ut_stands.specs.Plan.{FitsPlan, OrgPlan, Plan, no_slots, opened, with_plan}
-use Rattle.ut_stands.specs.Stands.{all_tables, kept_at, known_version, owner_of, Stands, StandsBy, row_at, row_in, rows_with, version_at}
+use Rattle.ut_stands.specs.Stands.{all_tables, kept_at, known_version, org_of_key, Stands, StandsBy, row_at, row_in, rows_with, version_at}
 
 -- what `ut_keys` says of one row put, and of rows that agree
 abbrev pub PutsRows : Type 0
@@ -35,7 +35,7 @@ SameRows = (reach : ℕ → Bool) (m : Tables) (rows others : Key → Option (Li
 
 -- what `ut_stands` says of keys past the last organisation, and of the rows of one more
 abbrev pub NonePast : Type 0
-NonePast = (p : Plan) (w : World) (k : Key) → owner_of k ≡ Some (length w + 1) → row_at p w k ≡ None
+NonePast = (p : Plan) (w : World) (k : Key) → org_of_key k ≡ Some (length w + 1) → row_at p w k ≡ None
 
 abbrev pub RowsStand : Type 0
 RowsStand = (p : Plan) (m after : Tables) (w : World) (t : Tenant) (q : OrgPlan) → StandsBy p m w → length w < limit_number limit.Organisations → IsSound t → FitsPlan q t
@@ -62,8 +62,8 @@ abbrev with_three : ℕ → List ℕ → List ℕ → (Key → Option (List ℕ)
 with_three n name digest rows = with_row (User n first_user) (Some (user_row n name digest)) (with_row (Org n) (Some (org_row n name digest)) (with_row Version (Some (version_row n)) rows))
 
 -- where it had none before, they are those of its tenant, and the version's
-module _ (n : ℕ) (name digest : List ℕ) (rows : Key → Option (List ℕ)) (none : (k : Key) → owner_of k ≡ Some n → rows k ≡ None) where
-  rest : (k : Key) (m : ℕ) → owner_of k ≡ Some m → row_in no_slots (fresh name digest) k ≡ None → rows k ≡ cond (eqb m n) (row_in no_slots (fresh name digest) k) (rows k)
+module _ (n : ℕ) (name digest : List ℕ) (rows : Key → Option (List ℕ)) (none : (k : Key) → org_of_key k ≡ Some n → rows k ≡ None) where
+  rest : (k : Key) (m : ℕ) → org_of_key k ≡ Some m → row_in no_slots (fresh name digest) k ≡ None → rows k ≡ cond (eqb m n) (row_in no_slots (fresh name digest) k) (rows k)
   rest k m of unwritten = pick (eqb m n) (λ b. rows k ≡ cond b (row_in no_slots (fresh name digest) k) (rows k)) (λ e. none k (of ∙ ap Some (eqb-true m n e)) ∙ sym unwritten) (λ e. refl)
 
   user_here : (m : ℕ) (i : List ℕ) → m ≡ n → cond (bytes_eq i first_user) (Some (user_row n name digest)) (rows (User m i)) ≡ row_in no_slots (fresh name digest) (User m i)

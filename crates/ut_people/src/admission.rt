@@ -1,10 +1,13 @@
 ghost use Rattle.std.specs.Prelude.{◌≡◌, IsErrOf, MatchOption, None, Some, length, is_ok};
+ghost use Rattle.std.specs.Option.{option_map};
 ghost use Rattle.sha2.specs.Sha256.{sha256};
 ghost use Rattle.ut_keeper.specs.Draft.{DraftReads, DraftTells, state_of, tables_of};
 ghost use Rattle.ut_keeper.specs.State.{KeeperCause, StaysAfter};
 ghost use Rattle.ut_keys.specs.declared.fail.StoreFail.TheVariants.{Keeper};
 ghost use Rattle.ut_model.specs.Callers.{caller_in, cut, named_ids};
+ghost use Rattle.ut_model.specs.World.{user_in};
 ghost use Rattle.ut_people.specs.People.{admitted_row, caller_among};
+ghost use Rattle.ut_stands.specs.Metadata.{user_of};
 ghost use Rattle.ut_stands.specs.Reads.{FindsAs};
 
 use sha2::{Digest, Sha256};
@@ -12,7 +15,7 @@ use std::alloc::Global;
 use ut_keeper::{Draft, Keeper, draft_laws};
 use ut_keys::{StoreFail, UserRow};
 use ut_model::{Caller, org_number};
-use ut_stands::user;
+use ut_stands::{found_laws, user};
 use ut_value::{Id, id_in};
 
 /// The SHA-256 digest of a secret's bytes.
@@ -62,6 +65,23 @@ fn admitted(secret: &str, row: &UserRow) -> Option<Caller>
     }
 }
 
+// The user with this id in the organisation of a world, as a row.
+fn user_in<K: Keeper>(
+    alloc: Global,
+    draft: &mut Draft<'_, K>,
+    org: u32,
+    id: &Id,
+) -> Result<Option<UserRow>, StoreFail>
+    ensures finds { DraftTells K.state draft.old draft.new
+        → FindsAs (λ w. option_map (user_of org) (user_in w org id.now)) (tables_of K.state draft.old) result }
+    ensures reads { DraftReads K.state 0 draft.old draft.new }
+    ensures stays { StaysAfter (is_ok result) (state_of K.state draft.old) (state_of K.state draft.new) }
+    ensures cause { KeeperCause (state_of K.state draft.old) (state_of K.state draft.new) (IsErrOf result Keeper) }
+{
+    found_laws::<Option<UserRow>, K>();
+    user(alloc, draft, org, id)
+}
+
 // The caller with this secret, who has this id in the organisation with this number.
 fn caller_with<K: Keeper>(
     alloc: Global,
@@ -81,7 +101,7 @@ fn caller_with<K: Keeper>(
         // There are fewer organisations.
         return Ok(None);
     };
-    match user(alloc, draft, org, id) {
+    match user_in(alloc, draft, org, id) {
         Ok(Some(row)) => Ok(admitted(secret, &row)),
         Ok(None) => Ok(None),
         Err(fail) => Err(fail),

@@ -1,8 +1,8 @@
 -- The one query that asks for its tokens alone.
 -- Source: none. It is this product's own, until queries are answered by their grammar.
-use Rattle.std.specs.Prelude.{ℕ, Bool, false, ◌&&◌, if◌then◌else◌, ◌==◌, List, [], ◌∷◌, map, Option, Some, None, chars, codes, encode_utf8_all, bytes_eq}
-use Rattle.std.specs.Char.{to_ascii_lowercase}
+use Rattle.std.specs.Prelude.{ℕ, Bool, false, ◌&&◌, if◌then◌else◌, ◌==◌, List, [], ◌∷◌, Option, Some, None, chars, codes}
 use Rattle.ut_grammar.specs.Lexing.{tokens_of}
+use Rattle.ut_grammar.specs.Tokens.{is_written}
 use Rattle.ut_grammar.specs.declared.token.Token.{Token}
 use Rattle.ut_grammar.specs.declared.token.Token.TheVariants as t
 use Rattle.ut_grammar.specs.declared.token.Placed.{Placed}
@@ -10,7 +10,7 @@ use Rattle.ut_query.specs.Lexis.{lexis}
 
 -- the token is this word, with the case of ASCII letters ignored
 unfoldable pub is_word : List ℕ → Token → Bool
-is_word word (t.Word cs) = bytes_eq (map to_ascii_lowercase word) (map to_ascii_lowercase (encode_utf8_all cs))
+is_word word (t.Word cs) = is_written word cs
 is_word word _ = false
 
 -- the token is a comma
@@ -37,7 +37,7 @@ asked_object bytes = asked_in (tokens_of lexis 0 (chars bytes))
 -- whether a name is this word, with the case of ASCII letters ignored
 unfoldable pub is_named : List ℕ → Option (List ℕ) → Bool
 is_named word None = false
-is_named word (Some name) = bytes_eq (map to_ascii_lowercase (encode_utf8_all name)) (map to_ascii_lowercase word)
+is_named word (Some name) = is_written word name
 
 -- whether a text, in UTF-8, asks for the ids and names of all rows of a CSV text
 unfoldable pub asks_for_rows : List ℕ → Bool

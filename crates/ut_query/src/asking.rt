@@ -7,7 +7,7 @@ ghost use Rattle.ut_query.specs.Lexis.{lexis};
 
 use crate::lexis::QueryLexis;
 use std::alloc::{AllocError, Global};
-use ut_grammar::{Placed, Token, tokens};
+use ut_grammar::{Placed, Token, is_written, tokens};
 use ut_value::{Items, Text};
 
 /// Whether the token is this word, with the case of ASCII letters ignored.
@@ -16,7 +16,7 @@ fn is_word(word: &str, token: &Token) -> bool
     ensures { result ≡ spec.is_word word.now token.now }
 {
     match token {
-        Token::Word(text) => word.eq_ignore_ascii_case(text.as_str()),
+        Token::Word(text) => is_written(word, text),
         _ => false,
     }
 }
@@ -96,7 +96,7 @@ pub fn asks_for_rows(alloc: Global, text: &str) -> Result<bool, AllocError>
     ensures { IfOk result (λ answer. answer ≡ spec.asks_for_rows text.now) }
 {
     match asked_object(alloc, text)? {
-        Some(object) => Ok(object.as_str().eq_ignore_ascii_case("Row__c")),
+        Some(object) => Ok(is_written("Row__c", &object)),
         None => Ok(false),
     }
 }

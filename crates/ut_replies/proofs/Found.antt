@@ -20,7 +20,7 @@ use Rattle.ut_model.specs.Cases.{in_case}
 use Rattle.ut_model.specs.Conditions.{satisfies}
 use Rattle.ut_model.specs.Membership.{Has}
 use Rattle.ut_model.specs.Known.{known}
-use Rattle.ut_model.specs.Objects.{Numbered, is_of, object_at, object_named, object_number, object_of, records_of}
+use Rattle.ut_model.specs.Objects.{Numbered, is_of, object_named, object_number, object_numbered, object_of_record, records_of}
 use Rattle.ut_model.specs.Ordered.{before, by_id, in_order}
 use Rattle.ut_model.specs.Paths.{Asked}
 use Rattle.ut_model.specs.Rows.{chosen, found, readable_of}
@@ -40,7 +40,7 @@ pub record Laws : Type 0 where
   pub readable : (a : Asked) (n : ℕ) → IsSound a.tenant → a.user.admin ≡ true → readable_of a n ≡ records_of a.tenant n
   pub rise : (t : Tenant) (n : ℕ) → IsSound t → IsStrictlySortedBy by_id (records_of t n)
   pub already : (a : Asked) (rs : List Record) → IsStrictlySortedBy by_id rs → in_order (before a []) rs ≡ rs
-  pub named : (t : Tenant) (name : List ℕ) (o : Numbered) → object_named t name ≡ Some o → object_at t o.number ≡ Some o.object
+  pub named : (t : Tenant) (name : List ℕ) (o : Numbered) → object_named t name ≡ Some o → object_numbered t o.number ≡ Some o.object
 
 -- ---- the name of a record
 
@@ -81,7 +81,7 @@ module _ (laws : Laws) (id name : List ℕ) (same_id : lower id ≡ lower (codes
       → (r : Record) → Has (records_of a.tenant o.number) r → row_json a r (spelled id name object).select ≡ name_row o.object.name r
   row_spelled a object o s e r m =
       let h = kept_from (is_of o.number) a.tenant.records r m in
-      let at : object_of a.tenant r ≡ Some o.object = ap (slice_get a.tenant.objects) (eqb-true (object_number r.id) o.number h.1) ∙ laws.named a.tenant object o e in
+      let at : object_of_record a.tenant r ≡ Some o.object = ap (slice_get a.tenant.objects) (eqb-true (object_number r.id) o.number h.1) ∙ laws.named a.tenant object o e in
       let fields : row_json a r (spelled id name object).select ≡ row_of o.object.name r (slice_index_or r.values 0 value.Null) =
       rw (at, id_column o.object id same_id, own_name o.object name same_name) refl in
       let w = all_at (IsSoundRecord (known a.tenant) a.tenant.objects) a.tenant.records s.records.each r h.0 in

@@ -10,7 +10,7 @@ use Rattle.ut_query.specs.declared.query.Item.TheVariants as item
 use Rattle.ut_query.specs.declared.query.OrderKey.{OrderKey}
 use Rattle.ut_query.specs.declared.query.Query.{Query}
 use Rattle.ut_model.specs.Asking.{asks_for_names, is_one_name, is_own_field, is_whole, no_order, selects_names}
-use Rattle.ut_model.specs.Fields.{Column, column, column_named, columns, ids, its_id, name_column}
+use Rattle.ut_model.specs.Fields.{Column, column, column_named, columns, its_id, name_column, of_ids}
 use Rattle.ut_model.specs.Tenant.{Object}
 use Rattle.ut_replies.proofs.Lists.{left, right}
 
@@ -96,7 +96,7 @@ same_column : (o : Object) (m n : List ℕ) → lower m ≡ lower n → column_n
 unfolding column_named
 same_column o m n e = ap (λ (k : List ℕ). find (λ (c : Column). bytes_eq (lower c.name) k) (columns o)) e
 
-pub id_column : (o : Object) (id : List ℕ) → lower id ≡ lower (codes "Id") → column_named o id ≡ Some (column (codes "Id") ids its_id)
+pub id_column : (o : Object) (id : List ℕ) → lower id ≡ lower (codes "Id") → column_named o id ≡ Some (column (codes "Id") of_ids its_id)
 unfolding column_named
 id_column o id e = same_column o id (codes "Id") e ∙ refl
 

@@ -1,3 +1,4 @@
+pub mod Found
 pub mod Characters
 pub mod Literals
 pub mod Meetings

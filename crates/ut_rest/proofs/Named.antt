@@ -15,7 +15,7 @@ use Rattle.ut_model.specs.Asking.{ask, asks_for_names}
 use Rattle.ut_model.specs.Cases.{in_case}
 use Rattle.ut_model.specs.Jobs.{is_past}
 use Rattle.ut_model.specs.Limits.{limit_number}
-use Rattle.ut_model.specs.Objects.{Numbered, object_at, object_named, records_of}
+use Rattle.ut_model.specs.Objects.{Numbered, object_named, object_numbered, records_of}
 use Rattle.ut_model.specs.Paths.{Asked}
 use Rattle.ut_model.specs.Replies.{json_reply, reply_of, unless_too_large}
 use Rattle.ut_model.specs.RowsJson.{found_json, rows_json}
@@ -47,7 +47,7 @@ abbrev pub Accepted : Type 0
 Accepted = (a : Asked) (q : Query) (o : Numbered) → asks_for_names q ≡ true → object_named a.tenant q.tail.from ≡ Some o → ask a q ≡ accept (rows_of q) a.tenant
 
 abbrev pub NamedAt : Type 0
-NamedAt = (t : Tenant) (name : List ℕ) (o : Numbered) → object_named t name ≡ Some o → object_at t o.number ≡ Some o.object
+NamedAt = (t : Tenant) (name : List ℕ) (o : Numbered) → object_named t name ≡ Some o → object_numbered t o.number ≡ Some o.object
 
 abbrev pub NoObject : Type 0
 NoObject = (a : Asked) (q : Query) → object_named a.tenant q.tail.from ≡ None → ask a q ≡ refuse a.tenant (InvalidType q.tail.from)

@@ -17,7 +17,7 @@ ghost use Rattle.ut_query.specs.declared.query.Query.{Query};
 ghost use Rattle.ut_rest.specs.Forms.{IsRequestReply};
 ghost use Rattle.ut_rest.specs.inner.Answers.{Refuses, names_reply};
 ghost use Rattle.ut_soql_grammar.specs.Spelling.{reads_query};
-ghost use Rattle.ut_stands.specs.Layouts.{FindsOf, records_after};
+ghost use Rattle.ut_stands.specs.Layouts.{FindsBy, FindsOf, layout_named, records_after};
 ghost use Rattle.ut_stands.specs.Operations.{IsChange, RepliesIn};
 ghost use Rattle.ut_stands.specs.Stands.{Stands};
 ghost use Rattle.ut_stands.specs.declared.judged.Judged.TheVariants.{Same};
@@ -36,7 +36,7 @@ use ut_model::{Caller, Limit, Record, Refusal, Reply, object_laws};
 use ut_query::Query;
 use ut_replies::{names_body, names_laws};
 use ut_soql::parse;
-use ut_stands::{Judged, Layout, layout_named, stands_laws};
+use ut_stands::{Judged, Layout, found_laws, layout_named, stands_laws};
 use ut_value::Text;
 
 // The reply that has the ids and names of these records, unless it is too large.
@@ -75,6 +75,23 @@ fn reply_of<K: Keeper>(
     }
 }
 
+// The layout of the object with this name in the organisation of a world.
+fn layout_of<K: Keeper>(
+    alloc: Global,
+    draft: &mut Draft<'_, K>,
+    org: u32,
+    name: &str,
+) -> Result<Option<Layout>, StoreFail>
+    ensures finds { DraftTells K.state draft.old draft.new
+        → FindsBy (layout_named org (chars name.now)) (tables_of K.state draft.old) result }
+    ensures reads { DraftReads K.state 0 draft.old draft.new }
+    ensures stays { StaysAfter (is_ok result) (state_of K.state draft.old) (state_of K.state draft.new) }
+    ensures cause { KeeperCause (state_of K.state draft.old) (state_of K.state draft.new) (IsErrOf result Keeper) }
+{
+    found_laws::<Option<Layout>, K>();
+    layout_named(alloc, draft, org, name)
+}
+
 // Answers an administrator who asks for the ids and names of the object with this name.
 fn answer_names<K: Keeper>(
     alloc: Global,
@@ -97,7 +114,7 @@ fn answer_names<K: Keeper>(
     stands_laws();
     names_laws();
     object_laws();
-    match layout_named(alloc, draft, org, object.as_str()) {
+    match layout_of(alloc, draft, org, object.as_str()) {
         Ok(Some(layout)) => match reply_of(alloc, draft, &layout) {
             Ok(reply) => Ok(Judged::Same(reply)),
             Err(fail) => Err(fail),

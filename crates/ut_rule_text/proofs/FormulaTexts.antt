@@ -1,13 +1,13 @@
 -- Reading over an object's fields reads what texts spell, and looks at no field but those that a formula names.
 use Rattle.std.proofs.Common.{◌≡◌, ℕ, zero, suc, ◌+◌, ◌-◌, Bool, true, false, not, ◌&&◌, ◌||◌, ◌==◌, cond, List, [], ◌∷◌, ◌++◌, map, length, flat_map, slice_index_or, Option, Some, None, Ok, Err, refl, ap, sym, subst, ◌∙◌, arith, eq-eqb}
-use Rattle.std.specs.Prelude.{Result, is_ok, codes}
+use Rattle.std.specs.Prelude.{Result, is_ok, codes, encode_utf8_all}
 use Rattle.std.specs.List.{list_all, list_any}
 use Rattle.std.specs.Option.{ok_or}
 use Rattle.std.proofs.lemmas.List.{map-append}
 use Rattle.ut_grammar.specs.Exact.{left}
 use Rattle.ut_grammar.specs.Lexing.{tokens_of}
 use Rattle.ut_grammar.specs.Place.{starts, whole_of}
-use Rattle.ut_grammar.specs.Tokens.{AreTokens, byte_len}
+use Rattle.ut_grammar.specs.Tokens.{AreTokens, byte_len, is_written}
 use Rattle.ut_grammar.specs.declared.token.Placed.{Placed}
 use Rattle.ut_grammar.specs.declared.token.Token.{Token}
 use Rattle.ut_grammar.specs.declared.token.Token.TheVariants as token
@@ -18,7 +18,7 @@ use Rattle.ut_formula.specs.declared.formula.Formula.TheVariants as formula
 use Rattle.ut_formula.specs.declared.formula.NamedField.{NamedField}
 use Rattle.ut_formula_grammar.specs.Grammar as g
 use Rattle.ut_formula_grammar.specs.Reading as spec
-use Rattle.ut_formula_grammar.specs.Signs.{field_sign, function_word, is_name, lexis, sign_of, signs, sort_of, word_or_field}
+use Rattle.ut_formula_grammar.specs.Signs.{field_sign, function_word, lexis, sign_of, signs, sort_of, word_or_field}
 use Rattle.ut_formula_grammar.specs.Spelling.{IsRefusedAt, Spells, formula_in, place_in}
 use Rattle.ut_formula_grammar.specs.declared.sign.Sign.{Sign}
 use Rattle.ut_formula_grammar.specs.declared.sign.Sign.TheVariants as sign
@@ -94,7 +94,7 @@ module _ (q : ℕ → Bool) (criteria : Bool) (fs gs : List NamedField) (same : 
 -- one field more
 field_over : (f : NamedField) (cs : List ℕ) (at : ℕ) (fs : List NamedField) → known (λ _. true) (field_sign at fs cs) ≡ true → field_sign at (fs ++ f ∷ []) cs ≡ field_sign at fs cs
 field_over f cs at [] h = absurd cc
-field_over f cs at (x ∷ fs) h = by (is_name x.name cs) h (field_over f cs (at + 1) fs)
+field_over f cs at (x ∷ fs) h = by (is_written (encode_utf8_all x.name) cs) h (field_over f cs (at + 1) fs)
   where
     by : (b : Bool) → known (λ _. true) (cond b (sign.Field at (sort_of x.kind)) (field_sign (at + 1) fs cs)) ≡ true
         → (known (λ _. true) (field_sign (at + 1) fs cs) ≡ true → field_sign (at + 1) (fs ++ f ∷ []) cs ≡ field_sign (at + 1) fs cs)
@@ -110,7 +110,7 @@ module _ (to : FieldType) (q : ℕ → Bool) (cs : List ℕ) where
   field_other : (at n : ℕ) → q (at + n) ≡ false → (fs : List Field) → known q (field_sign at (map as_named fs) cs) ≡ true
       → field_sign at (map as_named (change_at n change fs)) cs ≡ field_sign at (map as_named fs) cs
   field_other at n unknown [] h = refl
-  field_other at zero unknown (x ∷ fs) h = by (is_name x.name cs) h
+  field_other at zero unknown (x ∷ fs) h = by (is_written (encode_utf8_all x.name) cs) h
     where
       by : (b : Bool) → known q (cond b (sign.Field at (sort_of x.kind)) (field_sign (at + 1) (map as_named fs) cs)) ≡ true
           → cond b (sign.Field at (sort_of to)) (field_sign (at + 1) (map as_named fs) cs) ≡ cond b (sign.Field at (sort_of x.kind)) (field_sign (at + 1) (map as_named fs) cs)
@@ -118,7 +118,7 @@ module _ (to : FieldType) (q : ℕ → Bool) (cs : List ℕ) where
       by false h = refl
   field_other at (suc n) unknown (x ∷ fs) h =
       let there : (at + 1) + n ≡ at + suc n = omega arith in
-      by (is_name x.name cs) h (field_other (at + 1) n (ap q there ∙ unknown) fs)
+      by (is_written (encode_utf8_all x.name) cs) h (field_other (at + 1) n (ap q there ∙ unknown) fs)
     where
       by : (b : Bool) → known q (cond b (sign.Field at (sort_of x.kind)) (field_sign (at + 1) (map as_named fs) cs)) ≡ true
           → (known q (field_sign (at + 1) (map as_named fs) cs) ≡ true → field_sign (at + 1) (map as_named (change_at n change fs)) cs ≡ field_sign (at + 1) (map as_named fs) cs)
@@ -132,7 +132,7 @@ module _ (to : FieldType) (q : ℕ → Bool) (cs : List ℕ) where
 
   its_other : (place : ℕ) → q (suc place) ≡ false → (fs : List Field) → known q (field_sign 0 (formula_fields fs) cs) ≡ true
       → field_sign 0 (formula_fields (change_at place change fs)) cs ≡ field_sign 0 (formula_fields fs) cs
-  its_other place unknown fs h = by (is_name (codes "Name") cs) h
+  its_other place unknown fs h = by (is_written (encode_utf8_all (codes "Name")) cs) h
     where
       by : (b : Bool) → known q (cond b named (field_sign 1 (map as_named fs) cs)) ≡ true
           → cond b named (field_sign 1 (map as_named (change_at place change fs)) cs) ≡ cond b named (field_sign 1 (map as_named fs) cs)

@@ -13,7 +13,7 @@ use Rattle.ut_formula.specs.declared.formula.Term.TheVariants as term
 use Rattle.ut_formula_grammar.specs.Grammar.{Signs}
 use Rattle.ut_formula_grammar.specs.Grammar as g
 use Rattle.ut_formula_grammar.specs.Signs.{kind}
-use Rattle.ut_formula_grammar.specs.Terms.{field_in, if_suits, kind_of, len_in, measured_in, of_field, picklist_in, prior_in, relation_in, simple_in, suits, text_in, truth_in}
+use Rattle.ut_formula_grammar.specs.Terms.{field_token, if_suits, kind_of, len_in, measured_in, of_field, picklist_in, prior_in, relation_in, simple_in, suits, text_in, truth_in}
 use Rattle.ut_formula_grammar.specs.declared.sign.Sign.{Sign}
 use Rattle.ut_formula_grammar.specs.declared.sign.Sign.TheVariants as sign
 use Rattle.ut_formula_grammar.specs.declared.sign.Sort.TheVariants as sort
@@ -148,10 +148,10 @@ module _ (q : ℕ → Bool) where
       all (sign.Field position sort.Picklist) a h n = ap (λ (w : Option ℕ). q (unwrap_or w a)) h ∙ n
       all _ a h n = absurd (cc)
 
-  field_knows : Knows (one field_in) OfField
-  field_knows = one_knows field_in OfField all
+  field_knows : Knows (one field_token) OfField
+  field_knows = one_knows field_token OfField all
     where
-      all : (x : Sign) (a : ℕ) → field_in x ≡ Some a → OfField a → known q x ≡ true
+      all : (x : Sign) (a : ℕ) → field_token x ≡ Some a → OfField a → known q x ≡ true
       all (sign.Field position sort) a h n = ap (λ (w : Option ℕ). q (unwrap_or w a)) h ∙ n
       all _ a h n = absurd (cc)
 
@@ -218,10 +218,10 @@ module _ (q : ℕ → Bool) where
   is_new = as_value (λ _. formula.IsNew) (part.after kind 1 (part.after kind 14 (part.sign kind 15)))
 
   abbrev is_blank : Signs Formula
-  is_blank = as_value formula.IsBlank (part.after kind 5 (g.in_parentheses (one field_in)))
+  is_blank = as_value formula.IsBlank (part.after kind 5 (g.in_parentheses (one field_token)))
 
   abbrev is_changed : Signs Formula
-  is_changed = as_value formula.IsChanged (part.after kind 6 (g.in_parentheses (one field_in)))
+  is_changed = as_value formula.IsChanged (part.after kind 6 (g.in_parentheses (one field_token)))
 
   abbrev choice : Signs (ℕ × List ℕ)
   choice = both (one picklist_in) (λ _. part.after kind 16 (one text_in))
@@ -240,9 +240,9 @@ module _ (q : ℕ → Bool) where
       (as_knows (λ _. formula.IsNew) (part.after kind 1 (part.after kind 14 (part.sign kind 15))) Any OfFormula (λ v n. tt)
       (after_knows 1 refl refl (part.after kind 14 (part.sign kind 15)) Any (after_knows 14 refl refl (part.sign kind 15) Any (sign_knows 15 refl refl))))
       (either_knows is_blank (either is_changed (either is_pickval g.comparison)) OfFormula
-      (as_knows formula.IsBlank (part.after kind 5 (g.in_parentheses (one field_in))) OfField OfFormula its_field (call_knows 5 refl refl (one field_in) OfField field_knows))
+      (as_knows formula.IsBlank (part.after kind 5 (g.in_parentheses (one field_token))) OfField OfFormula its_field (call_knows 5 refl refl (one field_token) OfField field_knows))
       (either_knows is_changed (either is_pickval g.comparison) OfFormula
-      (as_knows formula.IsChanged (part.after kind 6 (g.in_parentheses (one field_in))) OfField OfFormula its_field (call_knows 6 refl refl (one field_in) OfField field_knows))
+      (as_knows formula.IsChanged (part.after kind 6 (g.in_parentheses (one field_token))) OfField OfFormula its_field (call_knows 6 refl refl (one field_token) OfField field_knows))
       (either_knows is_pickval g.comparison OfFormula
       (as_knows (λ v. formula.IsPickval v.0 v.1) (part.after kind 7 (g.in_parentheses choice)) (λ v. OfField v.0 × Any v.1) OfFormula (λ v n. (its_field v.0 n, tt))
       (call_knows 7 refl refl choice (λ v. OfField v.0 × Any v.1) choice_knows))

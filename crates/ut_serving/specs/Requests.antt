@@ -41,14 +41,14 @@ in_bytes method close (Changed r) = Changed (reply_to method r.status r.body clo
 -- ---- bytes that are no message
 
 -- why bytes are no message, as a refusal; the last two are none
-abbrev pub refusal_of : HttpFail → Refusal
-refusal_of fail.BadHead = refusal.BadHead
-refusal_of fail.HeadTooLarge = refusal.HeadTooLarge
-refusal_of fail.TransferEncoding = refusal.TransferEncoding
-refusal_of fail.LengthRequired = refusal.LengthRequired
-refusal_of fail.BodyTooLarge = refusal.BodyTooLarge
-refusal_of fail.Failed = refusal.BadHead
-refusal_of fail.Memory = refusal.BadHead
+abbrev pub head_refusal : HttpFail → Refusal
+head_refusal fail.BadHead = refusal.BadHead
+head_refusal fail.HeadTooLarge = refusal.HeadTooLarge
+head_refusal fail.TransferEncoding = refusal.TransferEncoding
+head_refusal fail.LengthRequired = refusal.LengthRequired
+head_refusal fail.BodyTooLarge = refusal.BodyTooLarge
+head_refusal fail.Failed = refusal.BadHead
+head_refusal fail.Memory = refusal.BadHead
 
 -- the bytes of the reply that refuses so
 abbrev pub refusal_bytes : Refusal → (close : Bool) → List ℕ
@@ -56,4 +56,4 @@ refusal_bytes r close = reply (status_of r) (refusal_body r) close
 
 -- the reply to bytes that are no message: the last of its connection
 abbrev pub last_reply : HttpFail → List ℕ
-last_reply e = refusal_bytes (refusal_of e) true
+last_reply e = refusal_bytes (head_refusal e) true

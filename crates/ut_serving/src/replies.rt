@@ -6,7 +6,7 @@ ghost use Rattle.ut_http.specs.Reply.{reply_to};
 ghost use Rattle.ut_keys.specs.declared.fail.StoreFail.TheVariants.{Memory};
 ghost use Rattle.ut_model.specs.Bodies.{damaged_body, refusal_body};
 ghost use Rattle.ut_model.specs.Refusals.{status_of};
-ghost use Rattle.ut_serving.specs.Requests.{JudgedForm, in_bytes, last_reply, refusal_bytes, refusal_of};
+ghost use Rattle.ut_serving.specs.Requests.{JudgedForm, head_refusal, in_bytes, last_reply, refusal_bytes};
 
 use http::StatusCode;
 use std::alloc::{AllocError, Global};
@@ -18,7 +18,7 @@ use ut_value::Bytes;
 
 // Why bytes are no message, as a refusal. `Failed` and `Memory` are none.
 fn refusal_of(fail: HttpFail) -> Refusal
-    ensures { result ≡ refusal_of fail }
+    ensures { result ≡ head_refusal fail }
 {
     match fail {
         HttpFail::HeadTooLarge => Refusal::HeadTooLarge,

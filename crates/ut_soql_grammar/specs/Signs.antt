@@ -1,9 +1,9 @@
 -- What the grammar of queries sees of a token: keywords, names, numbers, days, moments, texts, operators and marks.
 -- Source of the words and marks: Salesforce, "SOQL and SOSL Reference". Which of them queries have is this product's own.
-use Rattle.std.specs.Prelude.{ℕ, ◌/◌, Bool, true, false, ◌==◌, nat_le, if◌then◌else◌, List, map, Option, Some, None, Result, Ok, codes, bytes_eq, encode_utf8_all, ℤ, pos, negsuc}
-use Rattle.std.specs.Char.{to_ascii_lowercase}
+use Rattle.std.specs.Prelude.{ℕ, ◌/◌, true, false, ◌==◌, nat_le, if◌then◌else◌, List, map, Option, Some, None, Result, Ok, codes, ℤ, pos, negsuc}
 use Rattle.std.specs.List.{list_all}
 use Rattle.ut_grammar.specs.Counts.{number_count}
+use Rattle.ut_grammar.specs.Tokens.{is_written}
 use Rattle.ut_grammar.specs.declared.token.Token.{Token}
 use Rattle.ut_grammar.specs.declared.token.Token.TheVariants as token
 use Rattle.ut_grammar.specs.declared.token.Placed.{Placed}
@@ -87,10 +87,6 @@ kind sign.Dot = 29
 kind sign.Bad = 30
 
 -- ---- words
--- these characters, with the case of ASCII letters ignored
-unfoldable pub is_written : List ℕ → List ℕ → Bool
-is_written word cs = bytes_eq (map to_ascii_lowercase word) (map to_ascii_lowercase (encode_utf8_all cs))
-
 -- the words of conditions and their literals
 unfoldable pub condition_word : List ℕ → Option Sign
 condition_word cs =

@@ -4,6 +4,7 @@ use Rattle.std.specs.Prelude.{unsigned_abs}
 use Rattle.ut_grammar.specs.declared.token.Token.{Token}
 use Rattle.ut_grammar.specs.declared.token.Token.TheVariants as token
 use Rattle.ut_grammar.specs.Counts.{number_count, plain_text}
+use Rattle.ut_grammar.specs.Tokens.{is_written}
 use Rattle.ut_value.specs.Dates.{is_day, is_moment}
 use Rattle.ut_value.specs.Numerals.{exact_bound, is_negative, is_written_number, signed, size_of, without_sign}
 use Rattle.ut_value.specs.Reading.{as_value, read_day, read_moment, read_value}
@@ -15,7 +16,7 @@ use Rattle.ut_value.proofs.DateLaws.{day_valid, moment_valid}
 use Rattle.ut_value.proofs.Sizes.{exactly_is}
 use Rattle.std.specs.Prelude.{option_map}
 use Rattle.ut_soql_grammar.specs.Grammar.{literal_in, text_literal}
-use Rattle.ut_soql_grammar.specs.Signs.{sign_of, word_sign, condition_word, clause_word, name_sign, is_written, mark_sign, pair_sign, run_sign, number_sign, day_or, moment_in}
+use Rattle.ut_soql_grammar.specs.Signs.{sign_of, word_sign, condition_word, clause_word, name_sign, mark_sign, pair_sign, run_sign, number_sign, day_or, moment_in}
 use Rattle.ut_query.specs.declared.query.Literal.TheVariants as l
 use Rattle.ut_soql_grammar.specs.declared.sign.Sign.{Sign}
 use Rattle.ut_soql_grammar.specs.declared.sign.Sign.TheVariants as sign

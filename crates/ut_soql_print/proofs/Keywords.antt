@@ -4,12 +4,12 @@ use Rattle.std.specs.List.{list_all}
 use Rattle.std.proofs.lemmas.Bool.Decides.{nat_tests}
 use Rattle.ut_grammar.specs.declared.classes.Class.TheVariants.{Letters, Other}
 use lib.Utf8.{encode}
-use Rattle.ut_grammar.specs.Tokens.{Passes, is_blank, is_letter, in_word, begins_run, class_of, single_token}
+use Rattle.ut_grammar.specs.Tokens.{Passes, is_blank, is_letter, in_word, begins_run, class_of, single_token, is_written}
 use Rattle.ut_grammar.specs.Lexing.{token_len, token_of, mark_len, mark_token}
 use Rattle.ut_grammar.proofs.Fronts.{Fails}
 use Rattle.ut_value.specs.Numerals.{is_digit}
 use Rattle.ut_query.specs.Lexis.{lexis, is_mark, is_pair}
-use Rattle.ut_soql_grammar.specs.Signs.{sign_of, word_sign, condition_word, clause_word, name_sign, is_written, mark_sign, pair_sign}
+use Rattle.ut_soql_grammar.specs.Signs.{sign_of, word_sign, condition_word, clause_word, name_sign, mark_sign, pair_sign}
 use Rattle.ut_query.specs.declared.query.Op.{Op}
 use Rattle.ut_query.specs.declared.query.Op.TheVariants as op
 use Rattle.ut_soql_grammar.specs.declared.sign.Sign.{Sign}

@@ -6,7 +6,7 @@ use Rattle.ut_grammar.specs.declared.token.Piece.{Piece}
 use Rattle.ut_grammar.specs.declared.token.Token.{Token}
 use Rattle.ut_grammar.specs.declared.token.Token.TheVariants as token
 use Rattle.ut_grammar.specs.Counts.{number_count}
-use Rattle.ut_grammar.specs.Tokens.{Passes, class_of, in_word, run_token, text_token, pieces_of, pieces_token, single_token, IsOfClass, IsToken}
+use Rattle.ut_grammar.specs.Tokens.{Passes, class_of, in_word, run_token, text_token, pieces_of, pieces_token, single_token, is_written, IsOfClass, IsToken}
 use Rattle.ut_value.specs.Numerals.{is_written_number}
 use Rattle.ut_value.specs.Dates.{is_written_day, is_written_moment}
 use Rattle.ut_value.specs.Reading.{read_value}
@@ -17,7 +17,7 @@ use Rattle.ut_value.specs.declared.value.FieldType.TheVariants as type
 use Rattle.std.specs.Prelude.{Result, Ok, ℤ}
 use Rattle.ut_soql_grammar.specs.Grammar.{name_in}
 use Rattle.ut_query.specs.Lexis.{lexis, is_mark}
-use Rattle.ut_soql_grammar.specs.Signs.{sign_of, word_sign, word_or, condition_word, clause_word, name_sign, is_written, mark_sign, pair_sign, run_sign, number_sign, day_or, moment_in}
+use Rattle.ut_soql_grammar.specs.Signs.{sign_of, word_sign, word_or, condition_word, clause_word, name_sign, mark_sign, pair_sign, run_sign, number_sign, day_or, moment_in}
 use Rattle.ut_soql_grammar.specs.declared.sign.Sign.{Sign}
 use Rattle.ut_soql_grammar.specs.declared.sign.Sign.TheVariants as sign
 use Rattle.ut_soql_print.proofs.Lexed.{Reads, word_reads}

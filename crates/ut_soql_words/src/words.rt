@@ -9,20 +9,12 @@ ghost use Rattle.ut_value.specs.Reading.{read_value};
 ghost use Rattle.ut_value.specs.declared.value.FieldType.TheVariants as type;
 
 use std::alloc::{AllocError, Global};
-use ut_grammar::{Placed, Token, characters, number_count};
+use ut_grammar::{Placed, Token, characters, is_written, number_count};
 use ut_query::Op;
 use ut_soql_grammar::Sign;
 use ut_value::{FieldType, Items, Text, Value, ValueFail, is_digit, read_value};
 
 // ---- words
-
-// Whether the text is this word, with the case of ASCII letters ignored.
-#[tactic(auto, unfolding(ut_soql_grammar::specs::Signs::is_written))]
-fn is_written(word: &str, text: &Text) -> bool
-    ensures { result ≡ spec.is_written word.now text.now }
-{
-    word.eq_ignore_ascii_case(text.as_str())
-}
 
 // The words of conditions and their literals.
 #[tactic(auto, unfolding(ut_soql_grammar::specs::Signs::condition_word))]

@@ -16,14 +16,14 @@ use Rattle.ut_model.specs.Names.{bad_name, is_child_name, is_custom_name, taken}
 use Rattle.ut_model.specs.declared.metadata_bodies.NewField.{NewField}
 use Rattle.ut_model.specs.declared.metadata_bodies.SpelledType.{SpelledType}
 use Rattle.ut_model.specs.declared.metadata_bodies.SpelledType.TheVariants.{Plain, LookupTo}
-use Rattle.ut_model.specs.NewFields.{add_field, child_taken, field_rules, is_before, name_taken, new_field, own_child, own_parent, parent_taken, with_field, with_target}
+use Rattle.ut_model.specs.NewFields.{add_field, child_taken, field_rules, is_before, name_taken, new_field, on_target, own_child, own_parent, parent_taken, with_field}
 use Rattle.ut_model.specs.Objects.{Numbered}
 use Rattle.ut_model.specs.Relationships.{parent_name, relationship_names, target_of}
 use Rattle.ut_model.specs.Rules.{MemberRules, refuse_if}
 use Rattle.ut_sound.proofs.SoundParts.{HasSoundParts}
 use Rattle.ut_model.specs.SoundMetadata.{IsSoundField, implies, may_be_required}
 use Rattle.ut_model.specs.Tenant.{Field, Tenant}
-use Rattle.ut_model.specs.Verdict.{Verdict, accept, done, judged, with_object}
+use Rattle.ut_model.specs.Verdict.{Verdict, accept, done, judged, on_object}
 use Rattle.ut_model.specs.Forms.{flags_suit}
 use Rattle.ut_sound.specs.Fit.{has_member, is_fit_field}
 use Rattle.ut_sound.proofs.Parts.{both, both_left, both_right, holds_not, member_rule, none_refuses, unrefused}
@@ -175,10 +175,10 @@ pub add_field_sound : (t : Tenant) (b : NewField) → is_fit_field b ≡ true �
 add_field_sound t b fit s = by b.kind fit
   where
     verdict : SpelledType → Numbered → Verdict
-    verdict kind o = with_target t kind (λ target. judged t (field_rules t o target (record b { kind = kind })) (accept done (with_field o.number (new_field target (record b { kind = kind })) t)))
+    verdict kind o = on_target t kind (λ target. judged t (field_rules t o target (record b { kind = kind })) (accept done (with_field o.number (new_field target (record b { kind = kind })) t)))
 
     by : (kind : SpelledType) → is_fit_field (record b { kind = kind }) ≡ true
-        → HasSoundParts (with_object t b.object (λ o. with_target t kind (λ target. judged t (field_rules t o target (record b { kind = kind })) (accept done (with_field o.number (new_field target (record b { kind = kind })) t))))).tenant
+        → HasSoundParts (on_object t b.object (λ o. on_target t kind (λ target. judged t (field_rules t o target (record b { kind = kind })) (accept done (with_field o.number (new_field target (record b { kind = kind })) t))))).tenant
     by (Plain kind) fit =
         let named = both_left (has_member b.members (codes "name")) (not (is_reference kind) && (is_type kind && flags_suit (Plain kind) b.required b.unique b.indexed)) fit in
         let rest = both_right (has_member b.members (codes "name")) (not (is_reference kind) && (is_type kind && flags_suit (Plain kind) b.required b.unique b.indexed)) fit in
@@ -191,6 +191,6 @@ add_field_sound t b fit s = by b.kind fit
         let flags = flags_suit (LookupTo object d child) b.required b.unique b.indexed in
         let named = both_left (has_member b.members (codes "name")) (has_member b.members (codes "type") && (true && flags)) fit in
         let rest = both_right (has_member b.members (codes "name")) (has_member b.members (codes "type") && (true && flags)) fit in
-        when_object HasSoundParts t b.object (λ o. with_object t object (λ q. judged t (field_rules t o (Some q.number) b2) (accept done (with_field o.number (new_field (Some q.number) b2) t)))) s (λ o at.
+        when_object HasSoundParts t b.object (λ o. on_object t object (λ q. judged t (field_rules t o (Some q.number) b2) (accept done (with_field o.number (new_field (Some q.number) b2) t)))) s (λ o at.
         when_object HasSoundParts t object (λ q. judged t (field_rules t o (Some q.number) b2) (accept done (with_field o.number (new_field (Some q.number) b2) t))) s (λ q there.
         lookup_sound t s o at b named object d child q there (both_left (has_member b.members (codes "type")) (true && flags) rest) (both_right (has_member b.members (codes "type")) (true && flags) rest)))

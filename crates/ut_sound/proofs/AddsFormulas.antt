@@ -13,7 +13,7 @@ use Rattle.ut_model.specs.Metadata.{add_object, new_object, object_rules}
 use Rattle.ut_model.specs.declared.metadata_bodies.NewField.{NewField}
 use Rattle.ut_model.specs.declared.metadata_bodies.SpelledType.{SpelledType}
 use Rattle.ut_model.specs.declared.metadata_bodies.SpelledType.TheVariants.{Plain, LookupTo}
-use Rattle.ut_model.specs.NewFields.{add_field, field_rules, new_field, with_field, with_target}
+use Rattle.ut_model.specs.NewFields.{add_field, field_rules, new_field, on_target, with_field}
 use Rattle.ut_model.specs.Objects.{Numbered, change_at}
 use Rattle.ut_model.specs.Retyping.{source_uses}
 use Rattle.ut_model.specs.FormulaTexts.{reads_text}
@@ -22,7 +22,7 @@ use Rattle.ut_sound.proofs.SoundParts.{HasSoundParts}
 use Rattle.ut_model.specs.SoundFormulas.{AreFormulasSound, criteria_read, is_unnamed, source_reads, validations_read}
 use Rattle.ut_model.specs.SoundJob.{HasSoundJob}
 use Rattle.ut_model.specs.Tenant.{Field, Job, Object, SharingRule, Source, owned, meets, Tenant, ValidationRule}
-use Rattle.ut_model.specs.Verdict.{accept, done, judged, with_object}
+use Rattle.ut_model.specs.Verdict.{accept, done, judged, on_object}
 use Rattle.ut_rule_text.specs.Reading.{ReadsOverMore}
 use Rattle.ut_sound.proofs.Parts.{both, both_left, both_right, list_all_at, list_all_from, list_all_more, pick}
 use Rattle.ut_sound.proofs.Changes.{at_has, changed_or_not}
@@ -60,8 +60,8 @@ add_object_formulas t b sound s =
     when_judged AreFormulasSound t (object_rules t b) (accept done (record t { objects = t.objects ++ new_object t b ∷ [] })) s (λ _.
     record {
       validations = list_all_last validations_read t.objects x s.validations refl;
-      criteria = list_all_more (criteria_read t.objects) (criteria_read now) criteria_over t.rules s.criteria;
-      unnamed = unnamed_over t.objects now t.rules t.records t.counter t.job sound.job (λ j o e old. ap (λ z. in_case z true (is_unnamed t.rules j)) (get_before t.objects x j.object o e) ∙ old) s.unnamed;
+      criteria = list_all_more (criteria_read t.objects) (criteria_read now) criteria_over t.sharing_rules s.criteria;
+      unnamed = unnamed_over t.objects now t.sharing_rules t.records t.counter t.job sound.job (λ j o e old. ap (λ z. in_case z true (is_unnamed t.sharing_rules j)) (get_before t.objects x j.object o e) ∙ old) s.unnamed;
     })
   where
     criteria_over : (r : SharingRule) → criteria_read t.objects r ≡ true → criteria_read (t.objects ++ new_object t b ∷ []) r ≡ true
@@ -82,7 +82,7 @@ module _ (law : ReadsOverMore) (f : Field) where
   validations_over n [] h = refl
   validations_over zero (o ∷ os) h =
       both (validations_read (add f o)) (list_all validations_read os)
-      (list_all_more (λ (r : ValidationRule). is_ok (formula_of o false r.formula)) (λ r. is_ok (formula_of (add f o) false r.formula)) (λ r e. ap (λ (z : Result Formula ℕ). is_ok z) (same_formula o false r.formula e) ∙ e) o.rules
+      (list_all_more (λ (r : ValidationRule). is_ok (formula_of o false r.formula)) (λ r. is_ok (formula_of (add f o) false r.formula)) (λ r e. ap (λ (z : Result Formula ℕ). is_ok z) (same_formula o false r.formula e) ∙ e) o.validation_rules
       (both_left (validations_read o) (list_all validations_read os) h))
       (both_right (validations_read o) (list_all validations_read os) h)
   validations_over (suc n) (o ∷ os) h =
@@ -108,16 +108,16 @@ module _ (law : ReadsOverMore) (f : Field) where
           | inr c ↦ ap (λ z. in_case z false (source_reads r.source)) c.1 ∙ h
         ]
 
-    still : (j : Job) → j.object ≡ n → is_unnamed t.rules j p ≡ true → is_unnamed t.rules j (add f p) ≡ true
+    still : (j : Job) → j.object ≡ n → is_unnamed t.sharing_rules j p ≡ true → is_unnamed t.sharing_rules j (add f p) ≡ true
     still j same h =
-        let first = list_all (free_rule j p) p.rules in
-        let second = list_all (free j p) t.rules in
+        let first = list_all (free_rule j p) p.validation_rules in
+        let second = list_all (free j p) t.sharing_rules in
         let spelled = list_all_at validations_read p t.objects s.validations (at_has n t.objects p there) in
-        both (list_all (free_rule j (add f p)) p.rules) (list_all (free j (add f p)) t.rules)
-        (list_all_from (free_rule j (add f p)) p.rules (λ r m.
-        ap (λ (z : Result Formula ℕ). not (names_field (suc j.field) z)) (same_formula p false r.formula (list_all_at (λ (r : ValidationRule). is_ok (formula_of p false r.formula)) r p.rules spelled m))
-        ∙ list_all_at (free_rule j p) r p.rules (both_left first second h) m))
-        (list_all_from (free j (add f p)) t.rules (λ r m. by r (r.object == j.object) refl (list_all_at (criteria_read t.objects) r t.rules s.criteria m) (list_all_at (free j p) r t.rules (both_right first second h) m)))
+        both (list_all (free_rule j (add f p)) p.validation_rules) (list_all (free j (add f p)) t.sharing_rules)
+        (list_all_from (free_rule j (add f p)) p.validation_rules (λ r m.
+        ap (λ (z : Result Formula ℕ). not (names_field (suc j.field) z)) (same_formula p false r.formula (list_all_at (λ (r : ValidationRule). is_ok (formula_of p false r.formula)) r p.validation_rules spelled m))
+        ∙ list_all_at (free_rule j p) r p.validation_rules (both_left first second h) m))
+        (list_all_from (free j (add f p)) t.sharing_rules (λ r m. by r (r.object == j.object) refl (list_all_at (criteria_read t.objects) r t.sharing_rules s.criteria m) (list_all_at (free j p) r t.sharing_rules (both_right first second h) m)))
       where
         by : (r : SharingRule) (b : Bool) → (r.object == j.object) ≡ b → criteria_read t.objects r ≡ true → not (b && source_uses p j.field r.source) ≡ true → not (b && source_uses (add f p) j.field r.source) ≡ true
         by r false w reads_well old = refl
@@ -129,11 +129,11 @@ module _ (law : ReadsOverMore) (f : Field) where
     field_formulas =
         record {
           validations = validations_over n t.objects s.validations;
-          criteria = list_all_more (criteria_read t.objects) (criteria_read now) criteria_over t.rules s.criteria;
-          unnamed = unnamed_over t.objects now t.rules t.records t.counter t.job sound.job (λ j x e old.
+          criteria = list_all_more (criteria_read t.objects) (criteria_read now) criteria_over t.sharing_rules s.criteria;
+          unnamed = unnamed_over t.objects now t.sharing_rules t.records t.counter t.job sound.job (λ j x e old.
               elim (changed_or_not (add f) n t.objects p there j.object) [
-                | inl c ↦ ap (λ z. in_case z true (is_unnamed t.rules j)) c.1 ∙ still j c.0 (ap (is_unnamed t.rules j) (some_is p x (sym there ∙ sym (ap (slice_get t.objects) c.0) ∙ e)) ∙ old)
-                | inr c ↦ ap (λ z. in_case z true (is_unnamed t.rules j)) (c.1 ∙ e) ∙ old
+                | inl c ↦ ap (λ z. in_case z true (is_unnamed t.sharing_rules j)) c.1 ∙ still j c.0 (ap (is_unnamed t.sharing_rules j) (some_is p x (sym there ∙ sym (ap (slice_get t.objects) c.0) ∙ e)) ∙ old)
+                | inr c ↦ ap (λ z. in_case z true (is_unnamed t.sharing_rules j)) (c.1 ∙ e) ∙ old
               ]) s.unnamed;
         }
       where
@@ -149,11 +149,11 @@ add_field_formulas law t b sound s = by b.kind
         field_formulas law (new_field target c) t sound s o.number o.object at)
 
     by : (kind : SpelledType)
-        → AreFormulasSound (with_object t b.object (λ o. with_target t kind (λ target. judged t (field_rules t o target (record b { kind = kind })) (accept done (with_field o.number (new_field target (record b { kind = kind })) t))))).tenant
+        → AreFormulasSound (on_object t b.object (λ o. on_target t kind (λ target. judged t (field_rules t o target (record b { kind = kind })) (accept done (with_field o.number (new_field target (record b { kind = kind })) t))))).tenant
     by (Plain kind) =
         when_object AreFormulasSound t b.object (λ o. judged t (field_rules t o None (record b { kind = Plain kind })) (accept done (with_field o.number (new_field None (record b { kind = Plain kind })) t))) s (λ o at.
         on o at None (record b { kind = Plain kind }))
     by (LookupTo object d child) =
         let c : NewField = record b { kind = LookupTo object d child } in
-        when_object AreFormulasSound t b.object (λ o. with_object t object (λ q. judged t (field_rules t o (Some q.number) c) (accept done (with_field o.number (new_field (Some q.number) c) t)))) s (λ o at.
+        when_object AreFormulasSound t b.object (λ o. on_object t object (λ q. judged t (field_rules t o (Some q.number) c) (accept done (with_field o.number (new_field (Some q.number) c) t)))) s (λ o at.
         when_object AreFormulasSound t object (λ q. judged t (field_rules t o (Some q.number) c) (accept done (with_field o.number (new_field (Some q.number) c) t))) s (λ q there. on o at (Some q.number) c))

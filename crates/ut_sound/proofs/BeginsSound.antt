@@ -7,7 +7,7 @@ use Rattle.ut_value.specs.declared.value.FieldType.{FieldType}
 use Rattle.ut_value.specs.declared.value.FieldType.TheVariants as type
 use Rattle.ut_model.specs.declared.refusal.Refusal.TheVariants as refusal
 use Rattle.ut_model.specs.Cases.{in_case}
-use Rattle.ut_model.specs.Fields.{Column, Where, column_named}
+use Rattle.ut_model.specs.Fields.{Column, Site, column_named}
 use Rattle.ut_model.specs.declared.metadata_bodies.SpelledType.{SpelledType}
 use Rattle.ut_model.specs.Objects.{Numbered}
 use Rattle.ut_model.specs.Retyping.{begin_on, begin_retype, can_become, custom_place, in_use, is_checkbox, new_job, new_type, place_to_change, under_way, with_job}
@@ -36,7 +36,7 @@ suits false true true false e = (refl, refl, refl)
 suits false true false d e = (refl, refl, refl)
 
 -- a place that can be changed is a field's that can have the type
-pub changeable : (o : Object) (to : FieldType) (at : Where) (place : ℕ) → place_to_change o to at ≡ Some place → (f : Field) × (slice_get o.fields place ≡ Some f) × (can_become to f ≡ true)
+pub changeable : (o : Object) (to : FieldType) (at : Site) (place : ℕ) → place_to_change o to at ≡ Some place → (f : Field) × (slice_get o.fields place ≡ Some f) × (can_become to f ≡ true)
 changeable o to at place e = by (custom_place at) e
   where
     out : (n : ℕ) → Some n ≡ Some place → n ≡ place
@@ -70,7 +70,7 @@ module _ (t : Tenant) (s : HasSoundParts t) (o : Numbered) (at : slice_get t.obj
         copied = list_all_from (copies (new_job o.number n to)) (those_of o.number t.records) (λ y m. refl);
       })
 
-  pub begin_on_sound : (field : List ℕ) (w : Where) → HasSoundParts (begin_on t o to field w).tenant
+  pub begin_on_sound : (field : List ℕ) (w : Site) → HasSoundParts (begin_on t o to field w).tenant
   begin_on_sound field w =
       let then : ℕ → Verdict = λ place. judged t (in_use t o place field ∷ []) (accept done (with_job (new_job o.number place to) t)) in
       when_judged HasSoundParts t (under_way t ∷ []) (in_case (place_to_change o.object to w) (refuse t (refusal.RetypeUnsupported field)) then) s (λ _.

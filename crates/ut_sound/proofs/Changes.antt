@@ -8,7 +8,7 @@ use Rattle.ut_model.specs.Fields.{is_master}
 use Rattle.ut_model.specs.Membership.{Has}
 use Rattle.ut_model.specs.Metadata.{masters_above}
 use Rattle.ut_model.specs.Objects.{Numbered, change_at}
-use Rattle.ut_model.specs.Relationships.{Reference, master_in, parent_name, references, relationship_names}
+use Rattle.ut_model.specs.Relationships.{Reference, master_of_object, parent_name, references, relationship_names}
 use Rattle.ut_model.specs.Tenant.{Object}
 use Rattle.ut_sound.proofs.Parts.{all_from, clash, pick}
 use Rattle.ut_sound.proofs.SharingSound.{numbered_from}
@@ -67,9 +67,9 @@ at_has zero (y ∷ xs) x e = inl (sym (ap (λ w. unwrap_or w y) e))
 at_has (suc n) (y ∷ xs) x e = inr (at_has n xs x e)
 
 -- levels depend on the references to masters alone
-pub level_by_masters : (os now : List Object) → ((m : ℕ) → master_in now m ≡ master_in os m) → (k m : ℕ) → masters_above k now m ≡ masters_above k os m
+pub level_by_masters : (os now : List Object) → ((m : ℕ) → master_of_object now m ≡ master_of_object os m) → (k m : ℕ) → masters_above k now m ≡ masters_above k os m
 level_by_masters os now same zero m = refl
-level_by_masters os now same (suc k) m = ap (λ z. in_case z 0 (λ (f : Reference). suc (masters_above k now f.target))) (same m) ∙ by (master_in os m) (level_by_masters os now same k)
+level_by_masters os now same (suc k) m = ap (λ z. in_case z 0 (λ (f : Reference). suc (masters_above k now f.target))) (same m) ∙ by (master_of_object os m) (level_by_masters os now same k)
   where
     by : (z : Option Reference) → ((m : ℕ) → masters_above k now m ≡ masters_above k os m) → in_case z 0 (λ (f : Reference). suc (masters_above k now f.target)) ≡ in_case z 0 (λ (f : Reference). suc (masters_above k os f.target))
     by None h = refl
@@ -80,7 +80,7 @@ module _ (os now : List Object) (same : references now ≡ references os) where
   pub names_by_references : (m : ℕ) → relationship_names now m ≡ relationship_names os m
   names_by_references m = ap (λ (rs : List Reference). map (λ (f : Reference). parent_name f.field.name) (filter (λ f. f.object == m) rs) ++ filter_map (λ (f : Reference). f.field.child) (filter (λ f. f.target == m) rs)) same
 
-  master_by_references : (m : ℕ) → master_in now m ≡ master_in os m
+  master_by_references : (m : ℕ) → master_of_object now m ≡ master_of_object os m
   master_by_references m = ap (λ (rs : List Reference). find (λ (f : Reference). (f.object == m) && is_master f.field.kind) rs) same
 
   pub level_by_references : (k m : ℕ) → masters_above k now m ≡ masters_above k os m

@@ -21,14 +21,14 @@ use Rattle.ut_formula.specs.Meaning.{value_at}
 use Rattle.ut_model.specs.declared.record.Record.{Record}
 use Rattle.ut_model.specs.declared.refusal.Refusal.TheVariants as refusal
 use Rattle.ut_model.specs.Cases.{in_case}
-use Rattle.ut_model.specs.Deletes.{cleared, delete, delete_record, details_of, going, has_id, held, is_cleared, loses, lost, name_at, names_one_of, null_at, refers, restricts, too_many, without}
+use Rattle.ut_model.specs.Deletes.{cascade, cleared, cleared_lookups, delete, delete_record, details_of, has_id, is_cleared, loses_lookup, name_at, null_at, refers_into, refers_to_one_of, restricted_by, restricts, too_many, without}
 use Rattle.ut_model.specs.Fields.{by_parent, is_master, is_null, ref_of}
 use Rattle.ut_model.specs.Known.{group_id, item_of, known, knows, role_id}
 use Rattle.ut_model.specs.Membership.{Has}
 use Rattle.ut_model.specs.Objects.{Numbered, is_of, numbered, object_number}
 use Rattle.ut_model.specs.Paths.{Asked}
-use Rattle.ut_model.specs.Relationships.{Reference, master_in, named_id, references, references_of, target_of}
-use Rattle.ut_model.specs.Rights.{with_named}
+use Rattle.ut_model.specs.Relationships.{Reference, master_of_object, named_id, references, references_of, target_of}
+use Rattle.ut_model.specs.Rights.{on_named}
 use Rattle.ut_model.specs.Rules.{refuse_if}
 use Rattle.ut_sound.proofs.SoundParts.{HasSoundParts}
 use Rattle.ut_model.specs.SoundJob.{HasSoundJob, copies}
@@ -39,7 +39,7 @@ use Rattle.ut_model.specs.SoundRecords.{IsSoundRecord, UniqueHold, all_valid, is
 use Rattle.ut_model.specs.SoundSharing.{IsSoundShare}
 use Rattle.ut_model.specs.Tenant.{Field, Group, Job, Object, Role, Tenant, User}
 use Rattle.ut_model.specs.Verdict.{accept, done}
-use Rattle.ut_model.specs.World.{user_id, with_id}
+use Rattle.ut_model.specs.World.{having_id, user_id}
 use Rattle.ut_sound.proofs.Parts.{all_at, all_from, among_any, among_has, among_kept, among_map, any_among, both, both_left, both_right, clash, count_same, has_among, has_kept, has_same, kept_among, length_kept, length_kept_twice, list_all_at, list_all_from, or_left, or_right, pick, same_exact, same_itself, unrefused}
 use Rattle.ut_sound.proofs.Orders.{rise_kept, rise_map}
 use Rattle.ut_sound.proofs.PeopleSound.{when_judged}
@@ -154,17 +154,17 @@ not_plain (type.Lookup o d) e m = cc
 not_plain k e m = cc
 
 named_same : (t u : Tenant) (p : Principal) → u.users ≡ t.users → u.roles ≡ t.roles → u.groups ≡ t.groups → knows (known t) p ≡ true → knows (known u) p ≡ true
-named_same t u (to.User i) a b c h = ap (λ (z : List User). is_some (with_id user_id z i)) a ∙ h
-named_same t u (to.Role i) a b c h = ap (λ (z : List Role). is_some (with_id role_id z i)) b ∙ h
-named_same t u (to.Subordinates i) a b c h = ap (λ (z : List Role). is_some (with_id role_id z i)) b ∙ h
-named_same t u (to.Group i) a b c h = ap (λ (z : List Group). is_some (with_id group_id z i)) c ∙ h
+named_same t u (to.User i) a b c h = ap (λ (z : List User). is_some (having_id user_id z i)) a ∙ h
+named_same t u (to.Role i) a b c h = ap (λ (z : List Role). is_some (having_id role_id z i)) b ∙ h
+named_same t u (to.Subordinates i) a b c h = ap (λ (z : List Role). is_some (having_id role_id z i)) b ∙ h
+named_same t u (to.Group i) a b c h = ap (λ (z : List Group). is_some (having_id group_id z i)) c ∙ h
 
 -- ---- what stays
-module _ (t : Tenant) (s : HasSoundParts t) (now : ℤ) (day : is_moment now ≡ true) (gone : List Record) (free : held t gone ≡ None)
+module _ (t : Tenant) (s : HasSoundParts t) (now : ℤ) (day : is_moment now ≡ true) (gone : List Record) (free : restricted_by t gone ≡ None)
     (closed : (r : Record) → Has t.records r → has_id gone r.id ≡ false → (f : Reference) → Has (references t.objects) f → is_of f.object r ≡ true → is_master f.field.kind ≡ true
     → (id : List ℕ) → named_id f r ≡ Some id → has_id gone id ≡ true → ⊥) where
   abbrev lost_places : Record → List ℕ
-  lost_places r = map (λ (f : Reference). f.position) (lost t gone r)
+  lost_places r = map (λ (f : Reference). f.position) (cleared_lookups t gone r)
 
   abbrev after : Record → Record
   after r = cleared now t gone r
@@ -176,36 +176,36 @@ module _ (t : Tenant) (s : HasSoundParts t) (now : ℤ) (day : is_moment now ≡
   u = without now gone t
 
   same_id : (r : Record) → (after r).id ≡ r.id
-  same_id r = pick (loses t gone r) (λ b. (cond b (record r { modified = now; values = null_at (lost_places r) r.values }) r).id ≡ r.id) (λ _. refl) (λ _. refl)
+  same_id r = pick (loses_lookup t gone r) (λ b. (cond b (record r { modified = now; values = null_at (lost_places r) r.values }) r).id ≡ r.id) (λ _. refl) (λ _. refl)
 
   -- a record that stays refers to one that goes by lookups that are cleared alone
   loses_it : (r : Record) → Has t.records r → has_id gone r.id ≡ false → (f : Reference) → Has (references t.objects) f → is_of f.object r ≡ true → (n : ℕ) → target_of f.field.kind ≡ Some n
       → (id : List ℕ) → named_id f r ≡ Some id → has_id gone id ≡ true → is_cleared f.field.kind ≡ true
   loses_it r m stays f among of n target id named goes = by (kinds f.field.kind n target)
     where
-      refers_so : refers gone f r ≡ true
-      refers_so = both (not (has_id gone r.id)) (is_of f.object r && names_one_of gone f r) (ap not stays) (both (is_of f.object r) (names_one_of gone f r) of (ap (λ o. in_case o false (has_id gone)) named ∙ goes))
+      refers_so : refers_into gone f r ≡ true
+      refers_so = both (not (has_id gone r.id)) (is_of f.object r && refers_to_one_of gone f r) (ap not stays) (both (is_of f.object r) (refers_to_one_of gone f r) of (ap (λ o. in_case o false (has_id gone)) named ∙ goes))
 
       by : (is_cleared f.field.kind ≡ true) ⊎ ((restricts f.field.kind ≡ true) ⊎ (is_master f.field.kind ≡ true)) → is_cleared f.field.kind ≡ true
       by (inl k) = k
       by (inr (inl k)) =
-          let rule = none_for_each (λ (f : Reference). refuse_if (restricts f.field.kind && list_any (refers gone f) t.records) (refusal.DeleteFailed (name_at t f.object) f.field.name)) (references t.objects) free f among in
-          let no = unrefused (restricts f.field.kind && list_any (refers gone f) t.records) (refusal.DeleteFailed (name_at t f.object) f.field.name) rule in
-          absurd (clash (sym (both (restricts f.field.kind) (list_any (refers gone f) t.records) k (any_among (refers gone f) r t.records m refers_so)) ∙ no))
+          let rule = none_for_each (λ (f : Reference). refuse_if (restricts f.field.kind && list_any (refers_into gone f) t.records) (refusal.DeleteFailed (name_at t f.object) f.field.name)) (references t.objects) free f among in
+          let no = unrefused (restricts f.field.kind && list_any (refers_into gone f) t.records) (refusal.DeleteFailed (name_at t f.object) f.field.name) rule in
+          absurd (clash (sym (both (restricts f.field.kind) (list_any (refers_into gone f) t.records) k (any_among (refers_into gone f) r t.records m refers_so)) ∙ no))
       by (inr (inr k)) = absurd (closed r m stays f among of k id named goes)
 
   abbrev is_lost : Record → Reference → Bool
-  is_lost r f = is_cleared f.field.kind && refers gone f r
+  is_lost r f = is_cleared f.field.kind && refers_into gone f r
 
   -- it is then among the positions that are lost
   lost_there : (r : Record) → has_id gone r.id ≡ false → (f : Reference) → Has (references t.objects) f → is_of f.object r ≡ true → is_cleared f.field.kind ≡ true
-      → (id : List ℕ) → named_id f r ≡ Some id → has_id gone id ≡ true → (loses t gone r ≡ true) × (list_any (λ p. p == f.position) (lost_places r) ≡ true)
+      → (id : List ℕ) → named_id f r ≡ Some id → has_id gone id ≡ true → (loses_lookup t gone r ≡ true) × (list_any (λ p. p == f.position) (lost_places r) ≡ true)
   lost_there r stays f among of k id named goes =
-      let refers_so : refers gone f r ≡ true = both (not (has_id gone r.id)) (is_of f.object r && names_one_of gone f r) (ap not stays)
-      (both (is_of f.object r) (names_one_of gone f r) of (ap (λ o. in_case o false (has_id gone)) named ∙ goes)) in
-      let lost_so : is_lost r f ≡ true = both (is_cleared f.field.kind) (refers gone f r) k refers_so in (
+      let refers_so : refers_into gone f r ≡ true = both (not (has_id gone r.id)) (is_of f.object r && refers_to_one_of gone f r) (ap not stays)
+      (both (is_of f.object r) (refers_to_one_of gone f r) of (ap (λ o. in_case o false (has_id gone)) named ∙ goes)) in
+      let lost_so : is_lost r f ≡ true = both (is_cleared f.field.kind) (refers_into gone f r) k refers_so in (
         any_among (is_lost r) f (references t.objects) among lost_so,
-        any_place f (lost t gone r) (kept_among (is_lost r) (references t.objects) f among lost_so),
+        any_place f (cleared_lookups t gone r) (kept_among (is_lost r) (references t.objects) f among lost_so),
       )
     where
       any_place : (f : Reference) (fs : List Reference) → Has fs f → list_any (λ p. p == f.position) (map (λ (f : Reference). f.position) fs) ≡ true
@@ -217,15 +217,15 @@ module _ (t : Tenant) (s : HasSoundParts t) (now : ℤ) (day : is_moment now ≡
   lost_by : (r : Record) (n : ℕ) → list_any (λ p. p == n) (lost_places r) ≡ true → (f : Reference) × Has (references t.objects) f × (f.position ≡ n) × (is_of f.object r ≡ true) × (is_cleared f.field.kind ≡ true)
   lost_by r n h =
       let p = among_any (λ p. p == n) (lost_places r) h in
-      let f = among_map (λ (f : Reference). f.position) (lost t gone r) p.0 p.1 in
+      let f = among_map (λ (f : Reference). f.position) (cleared_lookups t gone r) p.0 p.1 in
       let m = among_kept (is_lost r) (references t.objects) f.0 f.1 in
-      let w = both_right (is_cleared f.0.field.kind) (refers gone f.0 r) m.1 in
-      (f.0, m.0, sym f.2 ∙ eqb-true p.0 n p.2, both_left (is_of f.0.object r) (names_one_of gone f.0 r) (both_right (not (has_id gone r.id)) (is_of f.0.object r && names_one_of gone f.0 r) w), both_left (is_cleared f.0.field.kind) (refers gone f.0 r) m.1)
+      let w = both_right (is_cleared f.0.field.kind) (refers_into gone f.0 r) m.1 in
+      (f.0, m.0, sym f.2 ∙ eqb-true p.0 n p.2, both_left (is_of f.0.object r) (refers_to_one_of gone f.0 r) (both_right (not (has_id gone r.id)) (is_of f.0.object r && refers_to_one_of gone f.0 r) w), both_left (is_cleared f.0.field.kind) (refers_into gone f.0 r) m.1)
 
   -- a value afterwards: null where it was lost, and else the same
   value_after : (r : Record) (n : ℕ) → (value_at (after r).values n ≡ value_at r.values n) ⊎ ((value_at (after r).values n ≡ value.Null) × (list_any (λ p. p == n) (lost_places r) ≡ true))
   value_after r n =
-      pick (loses t gone r) (λ b. let x = cond b (record r { modified = now; values = null_at (lost_places r) r.values }) r in
+      pick (loses_lookup t gone r) (λ b. let x = cond b (record r { modified = now; values = null_at (lost_places r) r.values }) r in
       (value_at x.values n ≡ value_at r.values n) ⊎ ((value_at x.values n ≡ value.Null) × (list_any (λ p. p == n) (lost_places r) ≡ true)))
       (λ _.
       let none : 0 + n ≡ n = omega arith in
@@ -243,7 +243,7 @@ module _ (t : Tenant) (s : HasSoundParts t) (now : ℤ) (day : is_moment now ≡
   there_still i h stays =
       let r = has_among record_id t.records i h in
       let m = kept_among (λ r. not (has_id gone r.id)) t.records r.0 r.1 (ap (λ (z : List ℕ). not (has_id gone z)) (sym r.2) ∙ ap not stays) in
-      has_same record_id after same_id rest i ∙ subst (λ (z : List ℕ). is_some (with_id record_id rest z) ≡ true) (sym r.2) (among_has record_id rest r.0 m)
+      has_same record_id after same_id rest i ∙ subst (λ (z : List ℕ). is_some (having_id record_id rest z) ≡ true) (sym r.2) (among_has record_id rest r.0 m)
 
   there_before : (i : List ℕ) → (known u).item i ≡ true → (known t).item i ≡ true
   there_before i h = has_kept record_id (λ r. not (has_id gone r.id)) t.records i (sym (has_same record_id after same_id rest i) ∙ h)
@@ -258,7 +258,7 @@ module _ (t : Tenant) (s : HasSoundParts t) (now : ℤ) (day : is_moment now ≡
   -- each record that stays
   record_stays : (r : Record) → Has rest r → IsSoundRecord (known u) t.objects (after r)
   record_stays r m =
-      pick (loses t gone r) (λ b. IsSoundRecord (known u) t.objects (cond b (record r { modified = now; values = null_at (lost_places r) r.values }) r))
+      pick (loses_lookup t gone r) (λ b. IsSoundRecord (known u) t.objects (cond b (record r { modified = now; values = null_at (lost_places r) r.values }) r))
       (λ loss.
       record {
         object = was.object;
@@ -295,10 +295,10 @@ module _ (t : Tenant) (s : HasSoundParts t) (now : ℤ) (day : is_moment now ≡
       o : Numbered
       o = record { number = object_number r.id; object = was.object }
 
-      values_if : loses t gone r ≡ true → (after r).values ≡ null_at (lost_places r) r.values
+      values_if : loses_lookup t gone r ≡ true → (after r).values ≡ null_at (lost_places r) r.values
       values_if e = ap (λ b. (cond b (record r { modified = now; values = null_at (lost_places r) r.values }) r).values) e
 
-      values_if_not : loses t gone r ≡ false → (after r).values ≡ r.values
+      values_if_not : loses_lookup t gone r ≡ false → (after r).values ≡ r.values
       values_if_not e = ap (λ b. (cond b (record r { modified = now; values = null_at (lost_places r) r.values }) r).values) e
 
       -- two references at one place of one object are of one field
@@ -473,7 +473,7 @@ module _ (t : Tenant) (s : HasSoundParts t) where
   -- the master of a record is of the object above
   pub record Above (x : Record) (ys : List Record) : Type 0 where
     pub reference : Reference
-    pub found : master_in t.objects (object_number x.id) ≡ Some reference
+    pub found : master_of_object t.objects (object_number x.id) ≡ Some reference
     pub master : Record
     pub among : Has ys master
     pub target : object_number master.id ≡ reference.target
@@ -491,7 +491,7 @@ module _ (t : Tenant) (s : HasSoundParts t) where
       by false w e more = let m = more e in (inr m.0, m.1)
 
   -- the target of a sound reference
-  target_number : (x : Record) → Has t.records x → (f : Reference) → master_in t.objects (object_number x.id) ≡ Some f → (id : List ℕ) → named_id f x ≡ Some id → object_number id ≡ f.target
+  target_number : (x : Record) → Has t.records x → (f : Reference) → master_of_object t.objects (object_number x.id) ≡ Some f → (id : List ℕ) → named_id f x ≡ Some id → object_number id ≡ f.target
   target_number x m f e id named =
       let was = all_at (IsSoundRecord (known t) t.objects) x t.records s.records.each m in
       let n = object_number x.id in
@@ -504,10 +504,10 @@ module _ (t : Tenant) (s : HasSoundParts t) where
 
   pub detail_above : (ys : List Record) (x : Record) → Has (details_of t ys) x → Has t.records x × Above x ys
   detail_above ys x m =
-      let w = among_kept (λ r. in_case (master_in t.objects (object_number r.id)) false (λ f. names_one_of ys f r)) t.records x m in
-      (w.0, by (master_in t.objects (object_number x.id)) refl w.0 w.1)
+      let w = among_kept (λ r. in_case (master_of_object t.objects (object_number r.id)) false (λ f. refers_to_one_of ys f r)) t.records x m in
+      (w.0, by (master_of_object t.objects (object_number x.id)) refl w.0 w.1)
     where
-      by : (f : Option Reference) → master_in t.objects (object_number x.id) ≡ f → Has t.records x → in_case f false (λ f. names_one_of ys f x) ≡ true → Above x ys
+      by : (f : Option Reference) → master_of_object t.objects (object_number x.id) ≡ f → Has t.records x → in_case f false (λ f. refers_to_one_of ys f x) ≡ true → Above x ys
       by None e m h = absurd cc
       by (Some f) e m h = named (named_id f x) refl h
         where
@@ -574,7 +574,7 @@ module _ (t : Tenant) (s : HasSoundParts t) where
   -- a record whose master is among these is one of their details
   child : (x : Record) → Has t.records x → (f : Reference) → Has (references t.objects) f → is_of f.object x ≡ true → is_master f.field.kind ≡ true → (id : List ℕ) → named_id f x ≡ Some id
       → (ys : List Record) → has_id ys id ≡ true → Has (details_of t ys) x
-  child x m f among of k id named ys h = kept_among (λ r. in_case (master_in t.objects (object_number r.id)) false (λ f. names_one_of ys f r)) t.records x m its_master
+  child x m f among of k id named ys h = kept_among (λ r. in_case (master_of_object t.objects (object_number r.id)) false (λ f. refers_to_one_of ys f r)) t.records x m its_master
     where
       was : IsSoundRecord (known t) t.objects x
       was = all_at (IsSoundRecord (known t) t.objects) x t.records s.records.each m
@@ -591,7 +591,7 @@ module _ (t : Tenant) (s : HasSoundParts t) where
       own : Has (references_of o) f
       own = own_reference t f among n was.object mine was.there
 
-      first : (g : Reference) × (master_in t.objects n ≡ Some g)
+      first : (g : Reference) × (master_of_object t.objects n ≡ Some g)
       first = find_there (masters_of n) (references t.objects) f among (both (f.object == n) (is_master f.field.kind) (eq-eqb f.object n mine) k)
 
       same_place : first.0.position ≡ f.position
@@ -604,14 +604,14 @@ module _ (t : Tenant) (s : HasSoundParts t) where
           let e = one_place (λ (f : Field). is_master f.kind) was.object.fields a.place b.place first.0.field f.field a.field b.field (both_right (first.0.object == n) (is_master first.0.field.kind) p.1) k few in
           omega (arith, a.is, b.is, e)
 
-      its_master : in_case (master_in t.objects (object_number x.id)) false (λ f. names_one_of ys f x) ≡ true
+      its_master : in_case (master_of_object t.objects (object_number x.id)) false (λ f. refers_to_one_of ys f x) ≡ true
       its_master =
           let named_first : named_id first.0 x ≡ Some id = ap (λ (p : ℕ). ref_of (value_at x.values p)) same_place ∙ named in
-          ap (λ z. in_case z false (λ (f : Reference). names_one_of ys f x)) first.1 ∙ ap (λ z. in_case z false (has_id ys)) named_first ∙ h
+          ap (λ z. in_case z false (λ (f : Reference). refers_to_one_of ys f x)) first.1 ∙ ap (λ z. in_case z false (has_id ys)) named_first ∙ h
 
-  pub closed_going : (r x : Record) → Has t.records x → has_id (going t r) x.id ≡ false → (f : Reference) → Has (references t.objects) f → is_of f.object x ≡ true → is_master f.field.kind ≡ true
-      → (id : List ℕ) → named_id f x ≡ Some id → has_id (going t r) id ≡ true → ⊥
-  unfolding going
+  pub closed_going : (r x : Record) → Has t.records x → has_id (cascade t r) x.id ≡ false → (f : Reference) → Has (references t.objects) f → is_of f.object x ≡ true → is_master f.field.kind ≡ true
+      → (id : List ℕ) → named_id f x ≡ Some id → has_id (cascade t r) id ≡ true → ⊥
+  unfolding cascade
   closed_going r x m stays f among of k id named goes =
       let one : List Record = r ∷ [] in
       let a = details_of t one in
@@ -638,8 +638,8 @@ module _ (t : Tenant) (s : HasSoundParts t) where
 -- ---- the request
 pub delete_sound : (a : Asked) (object key : List ℕ) → is_moment a.now ≡ true → HasSoundParts a.tenant → HasSoundParts (delete a object key).tenant
 delete_sound a object key day s =
-    when_object HasSoundParts a.tenant object (λ o. with_named a o key Full (delete_record a)) s (λ o at.
+    when_object HasSoundParts a.tenant object (λ o. on_named a o key Full (delete_record a)) s (λ o at.
     when_named HasSoundParts a o key Full (delete_record a) s (λ r among of.
-    let gone = going a.tenant r in
-    when_judged HasSoundParts a.tenant (held a.tenant gone ∷ too_many a.tenant gone ∷ []) (accept done (without a.now gone a.tenant)) s (λ h.
+    let gone = cascade a.tenant r in
+    when_judged HasSoundParts a.tenant (restricted_by a.tenant gone ∷ too_many a.tenant gone ∷ []) (accept done (without a.now gone a.tenant)) s (λ h.
     without_sound a.tenant s a.now day gone h.0 (closed_going a.tenant s r))))

@@ -15,9 +15,9 @@ use Rattle.ut_value.specs.declared.value.FieldType.{FieldType}
 use Rattle.ut_value.specs.declared.value.FieldType.TheVariants as type
 use Rattle.ut_model.specs.Cases.{in_case}
 use Rattle.ut_model.specs.Fields.{by_parent}
-use Rattle.ut_model.specs.Forms.{access_request, accesses, all_names, field_request, master_form, master_of, object_request, share_request, sharing_rule_request, source_in, validation_request}
+use Rattle.ut_model.specs.Forms.{access_request, accesses, all_names, field_request, master_form, master_member, object_request, share_request, sharing_rule_request, source_in, validation_request}
 use Rattle.ut_model.specs.Forms.{flags_suit}
-use Rattle.ut_model.specs.Members.{Body, all_there, as_text, entry, flag_in, formed, is_one_of, levels, list_in, member_names, object_in, principal_in, text_in, whole_in}
+use Rattle.ut_model.specs.Members.{Body, all_there, as_text, entry_named, flag_in, formed, is_one_of, levels, list_in, member_names, object_in, principal_in, text_in, whole_in}
 use Rattle.ut_model.specs.declared.metadata_bodies.NewMaster.{NewMaster}
 use Rattle.ut_model.specs.declared.metadata_bodies.SpelledType.{SpelledType}
 use Rattle.ut_model.specs.declared.metadata_bodies.SpelledType.TheVariants.{Plain, LookupTo}
@@ -29,7 +29,7 @@ use Rattle.ut_model.specs.declared.sharing_bodies.SpelledSource.TheVariants.{Own
 use Rattle.ut_model.specs.declared.sharing_bodies.SpelledSource.{SpelledSource}
 use Rattle.ut_model.specs.Sound.{is_name}
 use Rattle.ut_model.specs.SoundSharing.{is_grant}
-use Rattle.ut_model.specs.TypeForms.{deletions, in_bounds_type, lookup_type, number_type, picklist_type, simple_type, text_type, type_forms, type_in, type_of, where_so}
+use Rattle.ut_model.specs.TypeForms.{deletions, in_bounds_type, lookup_type, number_type, picklist_type, simple_type, text_type, type_forms, type_member, type_of, where_so}
 use Rattle.ut_sound.specs.Fit.{IsFit, has_member, has_source}
 use Rattle.ut_sound.proofs.Parts.{both, both_left, both_right, or_left, or_right, same_exact, same_itself}
 use Rattle.ut_sound.proofs.RuleTexts.{AreSpelled, formed_same, text_spelled}
@@ -51,19 +51,19 @@ where_is true x y e = (refl, some_is x y e)
 where_is false x y e = absurd cc
 
 -- ---- entries and members
-entry_all : {X : Type 0} (P : X → Type 0) (table : List (List ℕ × X)) (name : List ℕ) (v : X) → AllByRecursion (λ (x : List ℕ × X). P x.1) table → entry table name ≡ Some v → P v
+entry_all : {X : Type 0} (P : X → Type 0) (table : List (List ℕ × X)) (name : List ℕ) (v : X) → AllByRecursion (λ (x : List ℕ × X). P x.1) table → entry_named table name ≡ Some v → P v
 entry_all P [] name v all e = absurd cc
 entry_all P (x ∷ xs) name v all e = by (bytes_eq x.0 name) e (entry_all P xs name v all.1)
   where
-    by : (b : Bool) → option_map (λ (x : List ℕ × _). x.1) (cond b (Some x) (find (λ x. bytes_eq x.0 name) xs)) ≡ Some v → (entry xs name ≡ Some v → P v) → P v
+    by : (b : Bool) → option_map (λ (x : List ℕ × _). x.1) (cond b (Some x) (find (λ x. bytes_eq x.0 name) xs)) ≡ Some v → (entry_named xs name ≡ Some v → P v) → P v
     by true e more = subst P (some_is x.1 v e) all.0
     by false e more = more e
 
-entry_member : (b : Body) (name : List ℕ) (v : Json) → entry b name ≡ Some v → has_member (member_names b) name ≡ true
+entry_member : (b : Body) (name : List ℕ) (v : Json) → entry_named b name ≡ Some v → has_member (member_names b) name ≡ true
 entry_member [] name v e = absurd cc
 entry_member (m ∷ ms) name v e = by (bytes_eq m.0 name) refl e (entry_member ms name v)
   where
-    by : (b : Bool) → bytes_eq m.0 name ≡ b → option_map (λ (x : List ℕ × Json). x.1) (cond b (Some m) (find (λ x. bytes_eq x.0 name) ms)) ≡ Some v → (entry ms name ≡ Some v → has_member (member_names ms) name ≡ true) → has_member (member_names (m ∷ ms)) name ≡ true
+    by : (b : Bool) → bytes_eq m.0 name ≡ b → option_map (λ (x : List ℕ × Json). x.1) (cond b (Some m) (find (λ x. bytes_eq x.0 name) ms)) ≡ Some v → (entry_named ms name ≡ Some v → has_member (member_names ms) name ≡ true) → has_member (member_names (m ∷ ms)) name ≡ true
     by true w e more = or_left (bytes_eq name m.0) (has_member (member_names ms) name) (ap (λ (z : List ℕ). bytes_eq name z) (same_exact m.0 name w) ∙ same_itself name)
     by false w e more = or_right (bytes_eq name m.0) (has_member (member_names ms) name) (more e)
 
@@ -79,7 +79,7 @@ formed_is needed optional b c e =
     by false y z w e = absurd cc
 
 -- ---- shares and sharing rules
-level_fits : (name : List ℕ) (l : Level) → entry levels name ≡ Some l → is_grant l ≡ true
+level_fits : (name : List ℕ) (l : Level) → entry_named levels name ≡ Some l → is_grant l ≡ true
 level_fits name l e = entry_all (λ l. is_grant l ≡ true) levels name l (refl, (refl, tt)) e
 
 pub share_fits : (a : Asked) (body : Body) (x : Request) → share_request body ≡ Some x → IsFit a x
@@ -87,24 +87,24 @@ share_fits a body x e =
     let b = bound (formed (codes "record" ∷ codes "to" ∷ codes "level" ∷ []) [] body) _ x e in
     let item = bound (text_in b.0 (codes "record")) _ x b.2 in
     let p = bound (text_in b.0 (codes "to") >>= principal_in) _ x item.2 in
-    let l = bound (text_in b.0 (codes "level") >>= entry levels) _ x p.2 in
-    let named = bound (text_in b.0 (codes "level")) (entry levels) l.0 l.1 in
+    let l = bound (text_in b.0 (codes "level") >>= entry_named levels) _ x p.2 in
+    let named = bound (text_in b.0 (codes "level")) (entry_named levels) l.0 l.1 in
     subst (IsFit a) (some_is _ x l.2) (level_fits named.0 l.0 named.2)
 
 source_fits : (b : Body) (s : SpelledSource) → AreSpelled b → source_in b ≡ Some s → has_source (member_names b) s ≡ true
-source_fits b s spelled e = by (entry b (codes "from")) refl e
+source_fits b s spelled e = by (entry_named b (codes "from")) refl e
   where
-    one : (c : Bool) (v : Json) → entry b (codes "from") ≡ Some v → cond c (option_map Owner (as_text v >>= principal_in)) None ≡ Some s → has_source (member_names b) s ≡ true
+    one : (c : Bool) (v : Json) → entry_named b (codes "from") ≡ Some v → cond c (option_map Owner (as_text v >>= principal_in)) None ≡ Some s → has_source (member_names b) s ≡ true
     one true v w e =
         let p = mapped (as_text v >>= principal_in) Owner s e in
         subst (λ (z : SpelledSource). has_source (member_names b) z ≡ true) p.2 (entry_member b (codes "from") v w)
     one false v w e = absurd cc
 
-    by : (o : Option Json) → entry b (codes "from") ≡ o
-        → in_case o (option_map Criteria (text_in b (codes "formula"))) (λ v. cond (is_none (entry b (codes "formula"))) (option_map Owner (as_text v >>= principal_in)) None) ≡ Some s
+    by : (o : Option Json) → entry_named b (codes "from") ≡ o
+        → in_case o (option_map Criteria (text_in b (codes "formula"))) (λ v. cond (is_none (entry_named b (codes "formula"))) (option_map Owner (as_text v >>= principal_in)) None) ≡ Some s
         → has_source (member_names b) s ≡ true
     by None w e = let t = mapped (text_in b (codes "formula")) Criteria s e in subst (λ (z : SpelledSource). has_source (member_names b) z ≡ true) t.2 (text_spelled b (codes "formula") t.0 spelled t.1)
-    by (Some v) w e = one (is_none (entry b (codes "formula"))) v w e
+    by (Some v) w e = one (is_none (entry_named b (codes "formula"))) v w e
 
 pub rule_fits : (a : Asked) (body : Body) (x : Request) → AreSpelled body → sharing_rule_request body ≡ Some x → IsFit a x
 rule_fits a body x spelled e =
@@ -112,11 +112,11 @@ rule_fits a body x spelled e =
     let object = bound (text_in b.0 (codes "object")) _ x b.2 in
     let name = bound (text_in b.0 (codes "name")) _ x object.2 in
     let p = bound (text_in b.0 (codes "to") >>= principal_in) _ x name.2 in
-    let l = bound (text_in b.0 (codes "level") >>= entry levels) _ x p.2 in
-    let named = bound (text_in b.0 (codes "level")) (entry levels) l.0 l.1 in
+    let l = bound (text_in b.0 (codes "level") >>= entry_named levels) _ x p.2 in
+    let named = bound (text_in b.0 (codes "level")) (entry_named levels) l.0 l.1 in
     let s = bound (source_in b.0) _ x l.2 in
     let value = bound (text_in b.0 (codes "to")) principal_in p.0 p.1 in
-    let member = bound (entry b.0 (codes "to")) as_text value.0 value.1 in
+    let member = bound (entry_named b.0 (codes "to")) as_text value.0 value.1 in
     subst (IsFit a) (some_is _ x s.2)
     (both (is_grant l.0) (has_member (member_names b.0) (codes "to") && has_source (member_names b.0) s.0) (level_fits named.0 l.0 named.2)
     (both (has_member (member_names b.0) (codes "to")) (has_source (member_names b.0) s.0) (entry_member b.0 (codes "to") member.0 member.1) (source_fits b.0 s.0 (subst AreSpelled (formed_same (codes "object" ∷ codes "name" ∷ codes "to" ∷ codes "level" ∷ []) (codes "from" ∷ codes "formula" ∷ []) body b.0 b.1) spelled) s.1)))
@@ -145,11 +145,11 @@ in_place p make name (x ∷ xs) good h = by (bytes_eq name x) refl h (in_place p
 
 -- what stands for a member among all names
 abbrev place_of : Body → List ℕ → List (List ℕ)
-place_of b name = cond (bytes_eq name (codes "master")) (in_case (entry b name >>= object_in) [] member_names) (name ∷ [])
+place_of b name = cond (bytes_eq name (codes "master")) (in_case (entry_named b name >>= object_in) [] member_names) (name ∷ [])
 
-master_names : (b m : Body) (v : Json) (name : List ℕ) → entry b (codes "master") ≡ Some v → object_in v ≡ Some m → has_member (member_names m) name ≡ true → has_member (all_names b) name ≡ true
+master_names : (b m : Body) (v : Json) (name : List ℕ) → entry_named b (codes "master") ≡ Some v → object_in v ≡ Some m → has_member (member_names m) name ≡ true → has_member (all_names b) name ≡ true
 master_names b m v name e o h =
-    let there : (entry b (codes "master") >>= object_in) ≡ Some m = ap (λ (z : Option Json). z >>= object_in) e ∙ o in
+    let there : (entry_named b (codes "master") >>= object_in) ≡ Some m = ap (λ (z : Option Json). z >>= object_in) e ∙ o in
     in_place (bytes_eq name) (place_of b) (codes "master") (member_names b) (ap (λ (z : Option Body). has_member (in_case z [] member_names) name) there ∙ h) (entry_member b (codes "master") v e)
 
 master_has : (mb : Body) (m : NewMaster) → master_form mb ≡ Some m → (has_member (member_names mb) (codes "field") ≡ true) × (has_member (member_names mb) (codes "child") ≡ true)
@@ -177,12 +177,12 @@ beq_true : (x : Bool) → beq x true ≡ true → x ≡ true
 beq_true true e = refl
 beq_true false e = absurd cc
 
-master_fits : (b : Body) (access : Access) (master : Option NewMaster) → master_of b ≡ Some master → beq (by_parent access) (is_some master) ≡ true
+master_fits : (b : Body) (access : Access) (master : Option NewMaster) → master_member b ≡ Some master → beq (by_parent access) (is_some master) ≡ true
     → in_case master (not (by_parent access)) (λ m. by_parent access && (has_member (all_names b) (codes "field") && has_member (all_names b) (codes "child"))) ≡ true
 master_fits b access None e h = beq_false (by_parent access) h
-master_fits b access (Some m) e h = by (entry b (codes "master")) refl e
+master_fits b access (Some m) e h = by (entry_named b (codes "master")) refl e
   where
-    by : (o : Option Json) → entry b (codes "master") ≡ o → in_case o (Some None) (λ v. option_map Some (object_in v >>= master_form)) ≡ Some (Some m)
+    by : (o : Option Json) → entry_named b (codes "master") ≡ o → in_case o (Some None) (λ v. option_map Some (object_in v >>= master_form)) ≡ Some (Some m)
         → (by_parent access && (has_member (all_names b) (codes "field") && has_member (all_names b) (codes "child"))) ≡ true
     by None w e = absurd cc
     by (Some v) w e =
@@ -196,10 +196,10 @@ pub object_fits : (a : Asked) (body : Body) (x : Request) → object_request bod
 object_fits a body x e =
     let b = bound (formed (codes "name" ∷ codes "access" ∷ []) (codes "master" ∷ []) body) _ x e in
     let name = bound (text_in b.0 (codes "name")) _ x b.2 in
-    let access = bound (text_in b.0 (codes "access") >>= entry accesses) _ x name.2 in
-    let master = bound (master_of b.0) _ x access.2 in
+    let access = bound (text_in b.0 (codes "access") >>= entry_named accesses) _ x name.2 in
+    let master = bound (master_member b.0) _ x access.2 in
     let so = where_is (beq (by_parent access.0) (is_some master.0)) _ x master.2 in
-    let member = bound (entry b.0 (codes "name")) as_text name.0 name.1 in
+    let member = bound (entry_named b.0 (codes "name")) as_text name.0 name.1 in
     let whole = in_case master.0 (not (by_parent access.0)) (λ m. by_parent access.0 && (has_member (all_names b.0) (codes "field") && has_member (all_names b.0) (codes "child"))) in
     subst (IsFit a) so.1
     (both (has_member (all_names b.0) (codes "name")) whole
@@ -209,7 +209,7 @@ object_fits a body x e =
 pub access_fits : (a : Asked) (object : List ℕ) (body : Body) (x : Request) → access_request object body ≡ Some x → IsFit a x
 access_fits a object body x e =
     let b = bound (formed (codes "access" ∷ []) [] body) _ x e in
-    let access = bound (text_in b.0 (codes "access") >>= entry accesses) _ x b.2 in
+    let access = bound (text_in b.0 (codes "access") >>= entry_named accesses) _ x b.2 in
     let so = where_is (not (by_parent access.0)) _ x access.2 in
     subst (IsFit a) so.1 so.0
 
@@ -262,15 +262,15 @@ lookup_read : ReadsType lookup_type
 lookup_read body kind e =
     let b = bound (formed (codes "kind" ∷ codes "object" ∷ codes "onDelete" ∷ codes "child" ∷ []) [] body) _ kind e in
     let object = bound (text_in b.0 (codes "object")) _ kind b.2 in
-    let o = bound (text_in b.0 (codes "onDelete") >>= entry deletions) _ kind object.2 in
+    let o = bound (text_in b.0 (codes "onDelete") >>= entry_named deletions) _ kind object.2 in
     let child = bound (text_in b.0 (codes "child")) _ kind o.2 in
     subst IsRead (some_is _ kind child.2) tt
 
-type_read : (b : Body) (name : List ℕ) (kind : SpelledType) → type_in b name ≡ Some kind → IsRead kind
+type_read : (b : Body) (name : List ℕ) (kind : SpelledType) → type_member b name ≡ Some kind → IsRead kind
 type_read b name kind e =
-    let inner = bound (entry b name >>= object_in) type_of kind e in
-    let form = bound (text_in inner.0 (codes "kind") >>= entry type_forms) _ kind inner.2 in
-    let named = bound (text_in inner.0 (codes "kind")) (entry type_forms) form.0 form.1 in
+    let inner = bound (entry_named b name >>= object_in) type_of kind e in
+    let form = bound (text_in inner.0 (codes "kind") >>= entry_named type_forms) _ kind inner.2 in
+    let named = bound (text_in inner.0 (codes "kind")) (entry_named type_forms) form.0 form.1 in
     entry_all ReadsType type_forms named.0 form.0
     (text_read, (number_read, (simple_read type.Checkbox refl, (simple_read type.Day refl, (simple_read type.Moment refl, (picklist_read, (lookup_read, tt))))))) named.2 inner.0 kind form.2
 
@@ -279,7 +279,7 @@ retype_fits a body x e =
     let b = bound (formed (codes "object" ∷ codes "field" ∷ codes "type" ∷ []) [] body) _ x e in
     let object = bound (text_in b.0 (codes "object")) _ x b.2 in
     let field = bound (text_in b.0 (codes "field")) _ x object.2 in
-    let kind = bound (type_in b.0 (codes "type")) _ x field.2 in
+    let kind = bound (type_member b.0 (codes "type")) _ x field.2 in
     subst (IsFit a) (some_is _ x kind.2) (by kind.0 (type_read b.0 (codes "type") kind.0 kind.1))
   where
     by : (kind : SpelledType) → IsRead kind → is_type (new_type kind) ≡ true
@@ -292,14 +292,14 @@ field_fits a body x e =
     let b = bound (formed (codes "object" ∷ codes "name" ∷ codes "type" ∷ []) (codes "required" ∷ codes "unique" ∷ codes "indexed" ∷ []) body) _ x e in
     let object = bound (text_in b.0 (codes "object")) _ x b.2 in
     let name = bound (text_in b.0 (codes "name")) _ x object.2 in
-    let kind = bound (type_in b.0 (codes "type")) _ x name.2 in
+    let kind = bound (type_member b.0 (codes "type")) _ x name.2 in
     let required = bound (flag_in b.0 (codes "required")) _ x kind.2 in
     let unique = bound (flag_in b.0 (codes "unique")) _ x required.2 in
     let indexed = bound (flag_in b.0 (codes "indexed")) _ x unique.2 in
     let so = where_is (flags_suit kind.0 required.0 unique.0 indexed.0) _ x indexed.2 in
-    let called = bound (entry b.0 (codes "name")) as_text name.0 name.1 in
-    let inner = bound (entry b.0 (codes "type") >>= object_in) type_of kind.0 kind.1 in
-    let member = bound (entry b.0 (codes "type")) object_in inner.0 inner.1 in
+    let called = bound (entry_named b.0 (codes "name")) as_text name.0 name.1 in
+    let inner = bound (entry_named b.0 (codes "type") >>= object_in) type_of kind.0 kind.1 in
+    let member = bound (entry_named b.0 (codes "type")) object_in inner.0 inner.1 in
     subst (IsFit a) so.1
     (by kind.0 (type_read b.0 (codes "type") kind.0 kind.1) (member_names b.0) object.0 name.0 required.0 unique.0 indexed.0 (entry_member b.0 (codes "name") called.0 called.1) (entry_member b.0 (codes "type") member.0 member.1) so.0)
   where

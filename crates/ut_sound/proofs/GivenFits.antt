@@ -20,7 +20,7 @@ use Rattle.ut_value.specs.declared.value.Value.TheVariants as value
 use Rattle.ut_formula.specs.Meaning.{value_at}
 use Rattle.ut_model.specs.declared.record.Record.{Record}
 use Rattle.ut_model.specs.Edits.{given_to, value_or}
-use Rattle.ut_model.specs.Fields.{Column, column, its_value, name_column, same_name, typed, value_in}
+use Rattle.ut_model.specs.Fields.{Column, column, name_column, of_type, same_name, value_in, value_site}
 use Rattle.ut_model.specs.declared.record_bodies.Given.TheVariants as gives
 use Rattle.ut_model.specs.declared.record_bodies.Assignment.{Assignment}
 use Rattle.ut_model.specs.declared.record_bodies.Given.{Given}
@@ -113,7 +113,7 @@ one_name (x ∷ fs) (suc i) zero f g h e w same =
     ∙ ap not (listed x.name f fs i e (ap (λ (z : List ℕ). bytes_eq z (lower f.name)) (ap (λ (z : Field). lower z.name) (field_is x g w) ∙ sym (same_exact (lower f.name) (lower g.name) same)) ∙ same_itself (lower f.name)))))
 
 module _ (law : ReadLaw) where
-  number_valid : (k : FieldType) (n : Num) (v : Value) → read_json_number (typed k) n ≡ Ok v → valid k v ≡ true
+  number_valid : (k : FieldType) (n : Num) (v : Value) → read_json_number (of_type k) n ≡ Ok v → valid k v ≡ true
   number_valid (type.Number digits decimals) (num.Exact count) v e = by (is_number digits decimals count) refl e
     where
       by : (b : Bool) → is_number digits decimals count ≡ b → as_value (λ n. value.Num n) (cond b (Ok count) (Err OutOfRange)) ≡ Ok v → valid (type.Number digits decimals) v ≡ true
@@ -122,7 +122,7 @@ module _ (law : ReadLaw) where
   number_valid (type.Number digits decimals) num.Beyond v e = absurd cc
   number_valid k n v e = absurd cc
 
-  json_valid : (k : FieldType) (j : Json) (v : Value) → all_scalars (json_text j) ≡ true → read_json (typed k) j ≡ Ok v → valid k v ≡ true
+  json_valid : (k : FieldType) (j : Json) (v : Value) → all_scalars (json_text j) ≡ true → read_json (of_type k) j ≡ Ok v → valid k v ≡ true
   json_valid k (json.Text text) v h e = law k text v h e
   json_valid k json.Null v h e = law k [] v refl e
   json_valid k (json.Number n) v h e = number_valid k n v e
@@ -137,37 +137,37 @@ module _ (law : ReadLaw) where
   -- the value of one field
   column_valid : (t : Tenant) (given : List Assignment) (name : List ℕ) (k : FieldType) (i : ℕ) (old : Value)
       → ((x : Assignment) → Has given x → same_name x.field name ≡ true → IsGood k x) → valid k old ≡ true
-      → valid k (value_or old (given_to t given (column name (typed k) (its_value i)))) ≡ true
+      → valid k (value_or old (given_to t given (column name (of_type k) (value_site i)))) ≡ true
   column_valid t given name k i old good h = by (find (λ x. same_name x.field name) given) refl
     where
-      read : (r : Read) (text : List ℕ) → ((v : Value) → r ≡ Ok v → valid k v ≡ true) → valid k (value_or old (Some (or_refusal name (typed k) text r))) ≡ true
+      read : (r : Read) (text : List ℕ) → ((v : Value) → r ≡ Ok v → valid k v ≡ true) → valid k (value_or old (Some (or_refusal name (of_type k) text r))) ≡ true
       read (Ok v) text g = g v refl
       read (Err why) text g = h
 
-      one : (x : Given) → is_spelled x ≡ true → valid k (value_or old (Some (read_given t (column name (typed k) (its_value i)) x))) ≡ true
-      one (gives.Json j) w = read (read_json (typed k) j) (json_text j) (λ v e. json_valid k j v w e)
+      one : (x : Given) → is_spelled x ≡ true → valid k (value_or old (Some (read_given t (column name (of_type k) (value_site i)) x))) ≡ true
+      one (gives.Json j) w = read (read_json (of_type k) j) (json_text j) (λ v e. json_valid k j v w e)
       one (gives.Read v) w = absurd cc
       one (gives.Find field text) w = absurd cc
 
-      by : (x : Option Assignment) → find (λ x. same_name x.field name) given ≡ x → valid k (value_or old (option_map (λ x. read_given t (column name (typed k) (its_value i)) x.given) x)) ≡ true
+      by : (x : Option Assignment) → find (λ x. same_name x.field name) given ≡ x → valid k (value_or old (option_map (λ x. read_given t (column name (of_type k) (value_site i)) x.given) x)) ≡ true
       by None e = h
       by (Some x) e =
           let f = found_and (λ x. same_name x.field name) given x e in
           elim (good x f.0 f.1) [
             | inl w ↦ one x.given w
-            | inr w ↦ ap (λ z. valid k (value_or old (Some (read_given t (column name (typed k) (its_value i)) z)))) w.1 ∙ w.2
+            | inr w ↦ ap (λ z. valid k (value_or old (Some (read_given t (column name (of_type k) (value_site i)) z)))) w.1 ∙ w.2
           ]
 
   -- those of the custom fields
   fields_valid : (t : Tenant) (given : List Assignment) (old : Record) (i : ℕ) (fs : List Field)
       → ((p : ℕ) (f : Field) → slice_get fs p ≡ Some f → (x : Assignment) → Has given x → same_name x.field f.name ≡ true → IsGood f.kind x)
       → ((p : ℕ) (f : Field) → slice_get fs p ≡ Some f → valid f.kind (value_at old.values (i + p)) ≡ true)
-      → all_valid (map (λ (f : Field). f.kind) fs) (map (λ (c : Column). value_or (value_in c.at old) (given_to t given c)) (map (λ (f : ℕ × Field). column f.1.name (typed f.1.kind) (its_value f.0)) (enumerate_from i fs))) ≡ true
+      → all_valid (map (λ (f : Field). f.kind) fs) (map (λ (c : Column). value_or (value_in c.at old) (given_to t given c)) (map (λ (f : ℕ × Field). column f.1.name (of_type f.1.kind) (value_site f.0)) (enumerate_from i fs))) ≡ true
   fields_valid t given old i [] good h = refl
   fields_valid t given old i (f ∷ fs) good h =
       let none : i + 0 ≡ i = omega arith in
-      both (valid f.kind (value_or (value_at old.values i) (given_to t given (column f.name (typed f.kind) (its_value i)))))
-      (all_valid (map (λ (f : Field). f.kind) fs) (map (λ (c : Column). value_or (value_in c.at old) (given_to t given c)) (map (λ (f : ℕ × Field). column f.1.name (typed f.1.kind) (its_value f.0)) (enumerate_from (i + 1) fs))))
+      both (valid f.kind (value_or (value_at old.values i) (given_to t given (column f.name (of_type f.kind) (value_site i)))))
+      (all_valid (map (λ (f : Field). f.kind) fs) (map (λ (c : Column). value_or (value_in c.at old) (given_to t given c)) (map (λ (f : ℕ × Field). column f.1.name (of_type f.1.kind) (value_site f.0)) (enumerate_from (i + 1) fs))))
       (column_valid t given f.name f.kind i (value_at old.values i) (good 0 f refl) (subst (λ (n : ℕ). valid f.kind (value_at old.values n) ≡ true) none (h 0 f refl)))
       (fields_valid t given old (i + 1) fs (λ p g e. good (suc p) g e) (λ p g e. let same : i + suc p ≡ i + 1 + p = omega arith in subst (λ (n : ℕ). valid g.kind (value_at old.values n) ≡ true) same (h (suc p) g e)))
 
@@ -175,7 +175,7 @@ module _ (law : ReadLaw) where
       → ((p : ℕ) (f : Field) → slice_get o.fields p ≡ Some f → (x : Assignment) → Has given x → same_name x.field f.name ≡ true → IsGood f.kind x) → ReadsWell a o given
   good_fits a o given named good refused old h =
       both (valid (type.Text 80) (value_or (value_at old.values 0) (given_to a.tenant given name_column)))
-      (all_valid (map (λ (f : Field). f.kind) o.fields) (map (λ (c : Column). value_or (value_in c.at old) (given_to a.tenant given c)) (map (λ (f : ℕ × Field). column f.1.name (typed f.1.kind) (its_value f.0)) (enumerate_from 1 o.fields))))
+      (all_valid (map (λ (f : Field). f.kind) o.fields) (map (λ (c : Column). value_or (value_in c.at old) (given_to a.tenant given c)) (map (λ (f : ℕ × Field). column f.1.name (of_type f.1.kind) (value_site f.0)) (enumerate_from 1 o.fields))))
       (column_valid a.tenant given (codes "Name") (type.Text 80) 0 (value_at old.values 0) named (valid_at (kinds_of o) old.values 0 (type.Text 80) h refl))
       (fields_valid a.tenant given old 1 o.fields good (λ p f e. let same : suc p ≡ 1 + p = omega arith in subst (λ (n : ℕ). valid f.kind (value_at old.values n) ≡ true) same (valid_at (kinds_of o) old.values (suc p) f.kind h (kind_at o p f e))))
 
@@ -189,7 +189,7 @@ module _ (law : ReadLaw) where
   key_valid f (Some []) v h e = absurd cc
   key_valid f (Some (c ∷ cs)) v h e = by (read_value f.kind (c ∷ cs)) refl e
     where
-      by : (r : Read) → read_value f.kind (c ∷ cs) ≡ r → or_refusal f.name (typed f.kind) (c ∷ cs) r ≡ Ok v → valid f.kind v ≡ true
+      by : (r : Read) → read_value f.kind (c ∷ cs) ≡ r → or_refusal f.name (of_type f.kind) (c ∷ cs) r ≡ Ok v → valid f.kind v ≡ true
       by (Ok w) g e = law f.kind (c ∷ cs) v h (g ∙ ap was_read (given_is w v e))
       by (Err why) g e = absurd cc
 

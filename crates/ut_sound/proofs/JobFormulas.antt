@@ -8,7 +8,7 @@ use Rattle.ut_value.specs.declared.value.FieldType.{FieldType}
 use Rattle.ut_model.specs.declared.record.Record.{Record}
 use Rattle.ut_model.specs.declared.refusal.Refusal.TheVariants as refusal
 use Rattle.ut_model.specs.Cases.{in_case}
-use Rattle.ut_model.specs.Fields.{Column, Where, column_named}
+use Rattle.ut_model.specs.Fields.{Column, Site, column_named}
 use Rattle.ut_model.specs.Jobs.{clear_step, copy_step, failed_at, is_bad, job_step, moved, next_hundred, step_in, switched}
 use Rattle.ut_model.specs.declared.metadata_bodies.SpelledType.{SpelledType}
 use Rattle.ut_model.specs.Objects.{Numbered}
@@ -25,26 +25,26 @@ use Rattle.ut_sound.proofs.PeopleSound.{when_judged}
 use Rattle.ut_sound.proofs.SharingSound.{when_object}
 
 module _ (t : Tenant) (s : AreFormulasSound t) where
-  job_formulas : (j : Job) → IsUnnamed t.objects t.rules (Some j) → AreFormulasSound (with_job j t)
+  job_formulas : (j : Job) → IsUnnamed t.objects t.sharing_rules (Some j) → AreFormulasSound (with_job j t)
   job_formulas j h = record { validations = s.validations; criteria = s.criteria; unnamed = h }
 
   -- no rule names the field of a job that begins
-  begun : (o : Numbered) → slice_get t.objects o.number ≡ Some o.object → (place : ℕ) (to : FieldType) (field : List ℕ) → in_use t o place field ≡ None → IsUnnamed t.objects t.rules (Some (new_job o.number place to))
+  begun : (o : Numbered) → slice_get t.objects o.number ≡ Some o.object → (place : ℕ) (to : FieldType) (field : List ℕ) → in_use t o place field ≡ None → IsUnnamed t.objects t.sharing_rules (Some (new_job o.number place to))
   begun o at place to field e =
       let j = new_job o.number place to in
       let rules = none_refuses (
-      first_of (λ (r : ValidationRule). refuse_if (uses o.object false place r.formula) (refusal.FieldInUse field r.name)) o.object.rules
-      ∷ first_of (λ (r : SharingRule). refuse_if ((r.object == o.number) && source_uses o.object place r.source) (refusal.FieldInUse field r.name)) t.rules ∷ []) e in
-      ap (λ z. in_case z true (is_unnamed t.rules j)) at
-      ∙ both (list_all (free_rule j o.object) o.object.rules) (list_all (free j o.object) t.rules)
-      (list_all_from (free_rule j o.object) o.object.rules (λ r m.
+      first_of (λ (r : ValidationRule). refuse_if (uses o.object false place r.formula) (refusal.FieldInUse field r.name)) o.object.validation_rules
+      ∷ first_of (λ (r : SharingRule). refuse_if ((r.object == o.number) && source_uses o.object place r.source) (refusal.FieldInUse field r.name)) t.sharing_rules ∷ []) e in
+      ap (λ z. in_case z true (is_unnamed t.sharing_rules j)) at
+      ∙ both (list_all (free_rule j o.object) o.object.validation_rules) (list_all (free j o.object) t.sharing_rules)
+      (list_all_from (free_rule j o.object) o.object.validation_rules (λ r m.
       ap not (unrefused (uses o.object false place r.formula) (refusal.FieldInUse field r.name)
-      (none_for_each (λ (r : ValidationRule). refuse_if (uses o.object false place r.formula) (refusal.FieldInUse field r.name)) o.object.rules rules.0 r m))))
-      (list_all_from (free j o.object) t.rules (λ r m.
+      (none_for_each (λ (r : ValidationRule). refuse_if (uses o.object false place r.formula) (refusal.FieldInUse field r.name)) o.object.validation_rules rules.0 r m))))
+      (list_all_from (free j o.object) t.sharing_rules (λ r m.
       ap not (unrefused ((r.object == o.number) && source_uses o.object place r.source) (refusal.FieldInUse field r.name)
-      (none_for_each (λ (r : SharingRule). refuse_if ((r.object == o.number) && source_uses o.object place r.source) (refusal.FieldInUse field r.name)) t.rules rules.1.0 r m))))
+      (none_for_each (λ (r : SharingRule). refuse_if ((r.object == o.number) && source_uses o.object place r.source) (refusal.FieldInUse field r.name)) t.sharing_rules rules.1.0 r m))))
 
-  begin_on_formulas : (o : Numbered) → slice_get t.objects o.number ≡ Some o.object → (to : FieldType) (field : List ℕ) (w : Where) → AreFormulasSound (begin_on t o to field w).tenant
+  begin_on_formulas : (o : Numbered) → slice_get t.objects o.number ≡ Some o.object → (to : FieldType) (field : List ℕ) (w : Site) → AreFormulasSound (begin_on t o to field w).tenant
   begin_on_formulas o at to field w =
       when_judged AreFormulasSound t (under_way t ∷ [])
       (in_case (place_to_change o.object to w) (refuse t (refusal.RetypeUnsupported field)) (λ place. judged t (in_use t o place field ∷ []) (accept done (with_job (new_job o.number place to) t)))) s (λ _.
@@ -78,7 +78,7 @@ module _ (t : Tenant) (s : AreFormulasSound t) where
   unfolding job_step
   step_formulas switch = by t.job refl s.unnamed
     where
-      by : (job : Option Job) → t.job ≡ job → IsUnnamed t.objects t.rules job → AreFormulasSound (in_case job t (λ j. step_in j.phase j t))
+      by : (job : Option Job) → t.job ≡ job → IsUnnamed t.objects t.sharing_rules job → AreFormulasSound (in_case job t (λ j. step_in j.phase j t))
       by None e h = s
       by (Some j) e h = phased j.phase refl
         where

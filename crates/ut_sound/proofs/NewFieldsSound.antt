@@ -24,7 +24,7 @@ use Rattle.ut_model.specs.Membership.{Has}
 use Rattle.ut_model.specs.Metadata.{masters_above}
 use Rattle.ut_model.specs.NewFields.{with_field}
 use Rattle.ut_model.specs.Objects.{change_at, is_of, object_number}
-use Rattle.ut_model.specs.Relationships.{Reference, master_in, parent_name, reference_at, references, references_of, relationship_names, target_of}
+use Rattle.ut_model.specs.Relationships.{Reference, master_of_object, parent_name, reference_at, references, references_of, relationship_names, target_of}
 use Rattle.ut_sound.proofs.SoundParts.{HasSoundParts}
 use Rattle.ut_model.specs.SoundJob.{HasSoundJob, copies, job_field}
 use Rattle.ut_model.specs.SoundMetadata.{IsSoundField, IsSoundObject, names_differ}
@@ -336,7 +336,7 @@ module _ (t : Tenant) (s : HasSoundParts t) (n : ℕ) (p : Object) (there : slic
           (λ w. ap (list_any (same_name c.0)) old ∙ ap (λ (k : ℕ). list_any (same_name c.0) (relationship_names os k)) (sym (eqb-true q m w)) ∙ c.2)
           (λ v w. c.3 (eqb-true n m v ∙ sym (eqb-true q m w)))
 
-  masters_kept : (m : ℕ) → master_in now m ≡ master_in os m
+  masters_kept : (m : ℕ) → master_of_object now m ≡ master_of_object os m
   masters_kept m = by (target_of f.kind) refl
     where
       test : Reference → Bool
@@ -560,7 +560,7 @@ module _ (t : Tenant) (s : HasSoundParts t) (n : ℕ) (p : Object) (there : slic
   field_added =
       let k = known t in
       let l = known u in
-      let rules = rules_more k l grows.people os t.rule_numbers t.rules s.rules in
+      let rules = rules_more k l grows.people os t.rule_numbers t.sharing_rules s.rules in
       let shares = shares_more k l grows os t.shares s.shares in
       record {
         name = s.name;
@@ -586,7 +586,7 @@ module _ (t : Tenant) (s : HasSoundParts t) (n : ℕ) (p : Object) (there : slic
         rules =
             record {
               each = all_more (IsSoundRule l os t.rule_numbers) (IsSoundRule l now t.rule_numbers) (λ r x.
-                  record { name = x.name; object = shareable_over r.object x.object; number = x.number; source = x.source; to = x.to; level = x.level; cursor = x.cursor }) t.rules rules.each;
+                  record { name = x.name; object = shareable_over r.object x.object; number = x.number; source = x.source; to = x.to; level = x.level; cursor = x.cursor }) t.sharing_rules rules.each;
               rise = rules.rise;
               numbers = rules.numbers;
               few = rules.few;

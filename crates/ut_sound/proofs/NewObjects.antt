@@ -17,7 +17,7 @@ use Rattle.ut_model.specs.declared.metadata_bodies.NewObject.{NewObject}
 use Rattle.ut_model.specs.Metadata.{add_object, child_name_taken, detail_level, master_field, master_names, masters_above, new_fields, new_object, no_parent, object_rules, too_deep}
 use Rattle.ut_model.specs.Names.{bad_name, is_child_name, is_custom_name, taken}
 use Rattle.ut_model.specs.Objects.{Numbered, is_of, object_named, object_number}
-use Rattle.ut_model.specs.Relationships.{Reference, master_in, parent_name, references, references_of, relationship_names, target_of}
+use Rattle.ut_model.specs.Relationships.{Reference, master_of_object, parent_name, references, references_of, relationship_names, target_of}
 use Rattle.ut_model.specs.Rules.{MemberRules, in_body_order, over_limit, refuse_if}
 use Rattle.ut_sound.proofs.SoundParts.{HasSoundParts}
 use Rattle.ut_model.specs.SoundJob.{HasSoundJob, job_field}
@@ -218,7 +218,7 @@ module _ (t : Tenant) (s : HasSoundParts t) (x : Object) where
         rules =
             record {
               each = all_more (IsSoundRule (known t) os t.rule_numbers) (IsSoundRule (known t) now t.rule_numbers) (λ r h.
-                  record { name = h.name; object = shareable_over r.object h.object; number = h.number; source = h.source; to = h.to; level = h.level; cursor = h.cursor }) t.rules s.rules.each;
+                  record { name = h.name; object = shareable_over r.object h.object; number = h.number; source = h.source; to = h.to; level = h.level; cursor = h.cursor }) t.sharing_rules s.rules.each;
               rise = s.rules.rise;
               numbers = s.rules.numbers;
               few = s.rules.few;
@@ -310,7 +310,7 @@ and_false false b e = refl
 -- ---- no detail
 module _ (t : Tenant) (s : HasSoundParts t) (b : NewObject) where
   abbrev plain : Object
-  plain = record { name = b.name; access = b.access; fields = []; rules = [] }
+  plain = record { name = b.name; access = b.access; fields = []; validation_rules = [] }
 
   abbrev n : ℕ
   n = length t.objects
@@ -355,7 +355,7 @@ module _ (t : Tenant) (s : HasSoundParts t) (b : NewObject) where
     own = master_field m p
 
     abbrev detail : Object
-    detail = record { name = b.name; access = b.access; fields = own ∷ []; rules = [] }
+    detail = record { name = b.name; access = b.access; fields = own ∷ []; validation_rules = [] }
 
     abbrev later : List Object
     later = t.objects ++ detail ∷ []
@@ -382,7 +382,7 @@ module _ (t : Tenant) (s : HasSoundParts t) (b : NewObject) where
         ≡ cond (p.number == k) (filter (λ (f : Reference). f.target == k) (references t.objects) ++ r ∷ []) (filter (λ (f : Reference). f.target == k) (references t.objects))
     to_old k = ap (λ (rs : List Reference). filter (λ (f : Reference). f.target == k) rs) more ∙ filter_last (λ (f : Reference). f.target == k) (references t.objects) r
 
-    above_old : (k : ℕ) → k < n → master_in later k ≡ master_in t.objects k
+    above_old : (k : ℕ) → k < n → master_of_object later k ≡ master_of_object t.objects k
     above_old k h =
         ap (find (λ (f : Reference). (f.object == k) && is_master f.field.kind)) more
         ∙ find_last (λ (f : Reference). (f.object == k) && is_master f.field.kind) (references t.objects) r (and_false (n == k) true (turned n k h))
@@ -393,9 +393,9 @@ module _ (t : Tenant) (s : HasSoundParts t) (b : NewObject) where
     levels_old : (i k : ℕ) → k < n → masters_above i later k ≡ masters_above i t.objects k
     levels_old zero k h = refl
     levels_old (suc i) k h =
-        ap (λ z. in_case z 0 (λ (f : Reference). suc (masters_above i later f.target))) (above_old k h) ∙ by (master_in t.objects k) refl (levels_old i)
+        ap (λ z. in_case z 0 (λ (f : Reference). suc (masters_above i later f.target))) (above_old k h) ∙ by (master_of_object t.objects k) refl (levels_old i)
       where
-        by : (z : Option Reference) → master_in t.objects k ≡ z → ((k : ℕ) → k < n → masters_above i later k ≡ masters_above i t.objects k)
+        by : (z : Option Reference) → master_of_object t.objects k ≡ z → ((k : ℕ) → k < n → masters_above i later k ≡ masters_above i t.objects k)
             → in_case z 0 (λ (f : Reference). suc (masters_above i later f.target)) ≡ in_case z 0 (λ (f : Reference). suc (masters_above i t.objects f.target))
         by None e g = refl
         by (Some f) e g = ap suc (g f.target (old_ends t s detail f (found_record (λ (f : Reference). (f.object == k) && is_master f.field.kind) (references t.objects) f e)).1)
@@ -424,7 +424,7 @@ module _ (t : Tenant) (s : HasSoundParts t) (b : NewObject) where
     -- one step up counts one master at most
     masters_more : (i k : ℕ) → masters_above i t.objects k ≤ masters_above (suc i) t.objects k
     masters_more zero k = omega arith
-    masters_more (suc i) k = by (master_in t.objects k) (masters_more i)
+    masters_more (suc i) k = by (master_of_object t.objects k) (masters_more i)
       where
         by : (z : Option Reference) → ((k : ℕ) → masters_above i t.objects k ≤ masters_above (suc i) t.objects k)
             → in_case z 0 (λ (f : Reference). suc (masters_above i t.objects f.target)) ≤ in_case z 0 (λ (f : Reference). suc (masters_above (suc i) t.objects f.target))
@@ -509,7 +509,7 @@ add_object_sound t b fit s =
         → in_body_order b.members ((codes "name", bad_name is_custom_name b.name) ∷ in_case master [] master_names) ≡ None
         → in_body_order b.members ((codes "name", taken (map (λ (o : Object). o.name) t.objects) b.name) ∷ (codes "child", in_case master None (child_name_taken t)) ∷ []) ≡ None
         → in_case master None (no_parent t) ≡ None → in_case master None (too_deep t) ≡ None
-        → HasSoundParts (record t { objects = t.objects ++ record { name = b.name; access = b.access; fields = new_fields t master; rules = [] } ∷ [] })
+        → HasSoundParts (record t { objects = t.objects ++ record { name = b.name; access = b.access; fields = new_fields t master; validation_rules = [] } ∷ [] })
     by None access named few good free parent deep =
         plain_added t s b few (untaken (map (λ (o : Object). o.name) t.objects) b.name (member_rule (free_names None) b.members (codes "name") free named))
         (custom is_custom_name b.name (member_rule (names None) b.members (codes "name") good named))
@@ -527,14 +527,14 @@ add_object_sound t b fit s =
         child_rule = member_rule (free_names (Some m)) b.members (codes "child") free (both_right (has_member b.members (codes "field")) (has_member b.members (codes "child")) members)
 
         found : (p : Option Numbered) → object_named t m.parent ≡ p → in_case p (Some (refusal.InvalidType m.parent)) (λ o. None) ≡ None → too_deep t m ≡ None
-            → HasSoundParts (record t { objects = t.objects ++ record { name = b.name; access = b.access; fields = in_case (object_named t m.parent) [] (λ o. master_field m o ∷ []); rules = [] } ∷ [] })
+            → HasSoundParts (record t { objects = t.objects ++ record { name = b.name; access = b.access; fields = in_case (object_named t m.parent) [] (λ o. master_field m o ∷ []); validation_rules = [] } ∷ [] })
         found None e parent deep = absurd cc
         found (Some p) e parent deep =
             let is_child = custom is_child_name m.child (member_rule (names (Some m)) b.members (codes "child") good (both_right (has_member b.members (codes "field")) (has_member b.members (codes "child")) members)) in
             let is_field = custom is_custom_name m.field (member_rule (names (Some m)) b.members (codes "field") good (both_left (has_member b.members (codes "field")) (has_member b.members (codes "child")) members)) in
             let child_free = untaken (relationship_names t.objects p.number) m.child (ap (λ z. in_case z None (λ o. taken (relationship_names t.objects o.number) m.child)) (sym e) ∙ child_rule) in
             let depth = none_refuses (refuse_if (nat_lt 3 (detail_level t.objects p.number + 1)) (refusal.LimitExceeded limit.DetailLevels) ∷ []) (ap (λ z. in_case z None (λ (o : Numbered). over_limit ((limit.DetailLevels, detail_level t.objects o.number + 1) ∷ []))) (sym e) ∙ deep) in
-            subst (λ z. HasSoundParts (record t { objects = t.objects ++ record { name = b.name; access = b.access; fields = in_case z [] (λ (o : Numbered). master_field m o ∷ []); rules = [] } ∷ [] })) (sym e)
+            subst (λ z. HasSoundParts (record t { objects = t.objects ++ record { name = b.name; access = b.access; fields = in_case z [] (λ (o : Numbered). master_field m o ∷ []); validation_rules = [] } ∷ [] })) (sym e)
             (detail_added t s b m p (named_at t m.parent p e) few
             (untaken (map (λ (o : Object). o.name) t.objects) b.name (member_rule (free_names (Some m)) b.members (codes "name") free named))
             (custom is_custom_name b.name (member_rule (names (Some m)) b.members (codes "name") good named))

@@ -30,7 +30,7 @@ use Rattle.ut_model.specs.SoundRecords.{IsSoundRecord, UniqueHold}
 use Rattle.ut_model.specs.SoundSharing.{IsSoundRule, IsSoundShare, shareable}
 use Rattle.ut_model.specs.Tenant.{Field, Job, Object, Tenant, ValidationRule}
 use Rattle.ut_model.specs.declared.metadata_bodies.NewValidationRule.{NewValidationRule}
-use Rattle.ut_model.specs.ValidationRules.{add_validation_rule, validation_of, validation_rules, with_validation_rule}
+use Rattle.ut_model.specs.ValidationRules.{add_validation_rule, new_validation_rule_rules, validation_of, with_validation_rule}
 use Rattle.ut_model.specs.Verdict.{accept, done, judged}
 use Rattle.ut_sound.proofs.Parts.{all_at, all_more, all_put, among_kept, both, both_left, both_right, clash, holds_not, length_put, none_refuses, none_so, unrefused}
 use Rattle.ut_sound.proofs.Orders.{rise_put}
@@ -45,11 +45,11 @@ some_is a b e = ap (λ w. unwrap_or w a) e
 
 module _ (A : Object → Access) (R : Object → List ValidationRule) where
   abbrev pub change : Object → Object
-  change o = record o { access = A o; rules = R o }
+  change o = record o { access = A o; validation_rules = R o }
 
   -- the object, changed or not
   abbrev pub or_not : Bool → Object → Object
-  or_not b o = record o { access = cond b (A o) o.access; rules = cond b (R o) o.rules }
+  or_not b o = record o { access = cond b (A o) o.access; validation_rules = cond b (R o) o.validation_rules }
 
   pub changed_at : (n : ℕ) (os : List Object) (m : ℕ) (o : Object) → slice_get os m ≡ Some o → (b : Bool) × (slice_get (change_at n change os) m ≡ Some (or_not b o)) × (b ≡ true → m ≡ n)
   changed_at n [] m o e = absurd cc
@@ -150,7 +150,7 @@ module _ (A : Object → Access) (R : Object → List ValidationRule) where
             rules =
                 record {
                   each = all_more (IsSoundRule (known t) os t.rule_numbers) (IsSoundRule (known t) now t.rule_numbers) (λ r x.
-                      record { name = x.name; object = shareable_over r.object x.object; number = x.number; source = x.source; to = x.to; level = x.level; cursor = x.cursor }) t.rules s.rules.each;
+                      record { name = x.name; object = shareable_over r.object x.object; number = x.number; source = x.source; to = x.to; level = x.level; cursor = x.cursor }) t.sharing_rules s.rules.each;
                   rise = s.rules.rise;
                   numbers = s.rules.numbers;
                   few = s.rules.few;
@@ -180,7 +180,7 @@ pub set_access_sound : (t : Tenant) (object : List ℕ) (access : Access) → by
 set_access_sound t object access plain s =
     when_object HasSoundParts t object (λ o. judged t (refuse_if (is_detail o.object) (refusal.InvalidType o.object.name) ∷ []) (accept done (with_object_changed o.number (λ x. record x { access = access }) t))) s (λ o at.
     when_judged HasSoundParts t (refuse_if (is_detail o.object) (refusal.InvalidType o.object.name) ∷ []) (accept done (with_object_changed o.number (λ x. record x { access = access }) t)) s (λ h.
-    object_changed (λ x. access) (λ x. x.rules) t s o.number
+    object_changed (λ x. access) (λ x. x.validation_rules) t s o.number
     (λ m x e h2.
     let same : o.object ≡ x = some_is o.object x (sym at ∙ e) in
     let none : is_detail x ≡ false = ap is_detail (sym same) ∙ unrefused (is_detail o.object) (refusal.InvalidType o.object.name) h.0 in
@@ -199,7 +199,7 @@ set_access_sound t object access plain s =
 
 -- ---- a new validation rule
 abbrev pub with_one : ValidationRule → Object → List ValidationRule
-with_one r o = put_in (λ a b. name_cmp a.name b.name) r o.rules
+with_one r o = put_in (λ a b. name_cmp a.name b.name) r o.validation_rules
 
 -- no rule of the object has the new name
 apart : (rs : List ValidationRule) (name : List ℕ) → list_any (same_name name) (map (λ (r : ValidationRule). r.name) rs) ≡ false → AllByRecursion (λ (y : ValidationRule). name_cmp name y.name ≡ Equal → ⊥) rs
@@ -215,9 +215,9 @@ apart (r ∷ rs) name h =
 pub add_validation_sound : (t : Tenant) (b : NewValidationRule) → is_fit_validation b ≡ true → HasSoundParts t → HasSoundParts (add_validation_rule t b).tenant
 add_validation_sound t b fit s =
     let r : ValidationRule = validation_of b in
-    when_object HasSoundParts t b.object (λ o. judged t (validation_rules t o b) (accept done (with_object_changed o.number (with_validation_rule r) t))) s (λ o at.
-    when_judged HasSoundParts t (validation_rules t o b) (accept done (with_object_changed o.number (with_validation_rule r) t)) s (λ h.
-    let limits = none_refuses (refuse_if (nat_lt 50 (length o.object.rules + 1)) (refusal.LimitExceeded limit.ValidationRulesPerObject) ∷ []) h.1.1.1.1.0 in
+    when_object HasSoundParts t b.object (λ o. judged t (new_validation_rule_rules t o b) (accept done (with_object_changed o.number (with_validation_rule r) t))) s (λ o at.
+    when_judged HasSoundParts t (new_validation_rule_rules t o b) (accept done (with_object_changed o.number (with_validation_rule r) t)) s (λ h.
+    let limits = none_refuses (refuse_if (nat_lt 50 (length o.object.validation_rules + 1)) (refusal.LimitExceeded limit.ValidationRulesPerObject) ∷ []) h.1.1.1.1.0 in
     object_changed (λ x. x.access) (with_one r) t s o.number
     (λ m x e h2.
     let same : o.object ≡ x = some_is o.object x (sym at ∙ e) in
@@ -228,9 +228,9 @@ add_validation_sound t b fit s =
       relations = h2.relations;
       master = h2.master;
       level = h2.level;
-      rules = all_put IsSoundValidation (λ a b. name_cmp a.name b.name) r x.rules h2.rules (record { name = holds_not (is_stem r.name) (unrefused (not (is_stem r.name)) (refusal.InvalidName r.name) h.0); formula = both (all_scalars r.formula) (nat_le (length r.formula) formula_limit) (both_right (is_name r.message) (all_scalars r.formula) fit) (short_text o.object false r.formula h.1.1.0); message = both_left (is_name r.message) (all_scalars r.formula) fit });
-      rules_rise = rise_put name_cmp (λ (r : ValidationRule). r.name) (on_texts lower) (λ a b. name_cmp a.name b.name) (λ a b. refl) r x.rules h2.rules_rise
-          (apart x.rules r.name (ap (λ (z : Object). list_any (same_name r.name) (map (λ (r : ValidationRule). r.name) z.rules)) (sym same) ∙ unrefused (list_any (same_name r.name) (map (λ (r : ValidationRule). r.name) o.object.rules)) (refusal.NameTaken r.name) h.1.0));
+      rules = all_put IsSoundValidation (λ a b. name_cmp a.name b.name) r x.validation_rules h2.rules (record { name = holds_not (is_stem r.name) (unrefused (not (is_stem r.name)) (refusal.InvalidName r.name) h.0); formula = both (all_scalars r.formula) (nat_le (length r.formula) formula_limit) (both_right (is_name r.message) (all_scalars r.formula) fit) (short_text o.object false r.formula h.1.1.0); message = both_left (is_name r.message) (all_scalars r.formula) fit });
+      rules_rise = rise_put name_cmp (λ (r : ValidationRule). r.name) (on_texts lower) (λ a b. name_cmp a.name b.name) (λ a b. refl) r x.validation_rules h2.rules_rise
+          (apart x.validation_rules r.name (ap (λ (z : Object). list_any (same_name r.name) (map (λ (r : ValidationRule). r.name) z.validation_rules)) (sym same) ∙ unrefused (list_any (same_name r.name) (map (λ (r : ValidationRule). r.name) o.object.validation_rules)) (refusal.NameTaken r.name) h.1.0));
       few_fields = h2.few_fields;
-      few_rules = let size : length o.object.rules ≡ length x.rules = ap (λ (z : Object). length z.rules) same in omega (arith, size, length_put (λ a b. name_cmp a.name b.name) r x.rules, within_limit 50 (length o.object.rules + 1) (refusal.LimitExceeded limit.ValidationRulesPerObject) limits.0);
+      few_rules = let size : length o.object.validation_rules ≡ length x.validation_rules = ap (λ (z : Object). length z.validation_rules) same in omega (arith, size, length_put (λ a b. name_cmp a.name b.name) r x.validation_rules, within_limit 50 (length o.object.validation_rules + 1) (refusal.LimitExceeded limit.ValidationRulesPerObject) limits.0);
     })))

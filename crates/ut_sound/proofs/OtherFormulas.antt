@@ -6,9 +6,9 @@ use Rattle.ut_model.specs.declared.record.Record.{Record}
 use Rattle.ut_model.specs.declared.refusal.Refusal.TheVariants as refusal
 use Rattle.ut_model.specs.Cases.{in_case}
 use Rattle.ut_model.specs.Creates.{create, create_on, create_rules, empty_record, with_record}
-use Rattle.ut_model.specs.Deletes.{delete, delete_record, going, held, too_many, without}
+use Rattle.ut_model.specs.Deletes.{cascade, delete, delete_record, restricted_by, too_many, without}
 use Rattle.ut_model.specs.Edits.{with_given}
-use Rattle.ut_model.specs.Fields.{column, its_value, typed}
+use Rattle.ut_model.specs.Fields.{column, of_type, value_site}
 use Rattle.ut_model.specs.declared.record_bodies.Assignment.{Assignment}
 use Rattle.ut_model.specs.Keys.{Key, with_key}
 use Rattle.ut_model.specs.Known.{group_id, role_id}
@@ -18,21 +18,21 @@ use Rattle.ut_model.specs.declared.people_bodies.NewUser.{NewUser}
 use Rattle.ut_model.specs.People.{add_group, add_role, add_user, changed, group_rules, new_group_rules, new_role_rules, new_user, new_user_rules, next_id, role_rules, set_group, set_role, set_user, user_rules, with_group, with_role, with_user}
 use Rattle.ut_model.specs.declared.people_bodies.Spelled.{Spelled}
 use Rattle.ut_model.specs.Principals.{bad_id, principal_of, spelled_id}
-use Rattle.ut_model.specs.Rights.{denied, with_named, with_readable}
+use Rattle.ut_model.specs.Rights.{denied, on_named, on_readable}
 use Rattle.ut_model.specs.Rules.{in_body_order}
 use Rattle.ut_model.specs.declared.sharing_bodies.NewShare.{NewShare}
 use Rattle.ut_model.specs.Shares.{share, share_of, share_rules, unshare, unshare_rules, unshare_with, with_share, without_share}
 use Rattle.ut_model.specs.SoundFormulas.{AreFormulasSound}
 use Rattle.ut_model.specs.Tenant.{Field, Group, Role, Share, Tenant}
 use Rattle.ut_model.specs.Updates.{update, update_on, update_rules, with_changed}
-use Rattle.ut_model.specs.Upserts.{declared_name, key_value, unique_named, upsert, upsert_by, with_read}
+use Rattle.ut_model.specs.Upserts.{declared_name, key_value, on_value, unique_named, upsert, upsert_by}
 use Rattle.ut_model.specs.Verdict.{accept, done, judged, made_new, refuse, upserted}
 use Rattle.ut_model.specs.World.{user_id, group_prefix, role_prefix}
 use Rattle.ut_sound.proofs.PeopleSound.{when_judged}
 use Rattle.ut_sound.proofs.SharingSound.{when_object, when_readable}
 use Rattle.ut_sound.proofs.UpdatesSound.{when_named}
 use Rattle.ut_sound.proofs.UpsertsSound.{when_read}
-use Rattle.ut_model.specs.Given.{record_with}
+use Rattle.ut_model.specs.Given.{record_by_value}
 
 abbrev P : Tenant → Type 0
 P t = AreFormulasSound t
@@ -71,7 +71,7 @@ module _ (a : Asked) (s : AreFormulasSound a.tenant) where
       let t = a.tenant in
       let x = share_of b in
       when_judged P t (in_body_order b.members ((codes "record", bad_id b.item) ∷ (codes "to", bad_id b.to.text) ∷ []) ∷ [])
-      (with_readable a (record_at t (spelled_id b.item)) (λ r. judged t (share_rules a x r) (accept done (record t { shares = with_share x t.shares })))) s (λ _.
+      (on_readable a (record_at t (spelled_id b.item)) (λ r. judged t (share_rules a x r) (accept done (record t { shares = with_share x t.shares })))) s (λ _.
       when_readable P a (record_at t (spelled_id b.item)) (λ r. judged t (share_rules a x r) (accept done (record t { shares = with_share x t.shares }))) s (λ r found.
       when_judged P t (share_rules a x r) (accept done (record t { shares = with_share x t.shares })) s (λ _. s)))
 
@@ -102,13 +102,13 @@ module _ (a : Asked) (s : AreFormulasSound a.tenant) where
 
   pub update_formulas : (object key : List ℕ) (given : List Assignment) → AreFormulasSound (update a object key given).tenant
   update_formulas object key given =
-      when_object P a.tenant object (λ o. with_named a o key level.Edit (update_on a o None given)) s (λ o at.
+      when_object P a.tenant object (λ o. on_named a o key level.Edit (update_on a o None given)) s (λ o at.
       when_named P a o key level.Edit (update_on a o None given) s (λ r among of. update_on_formulas o None given r))
 
   pub upsert_formulas : (object key : List ℕ) (text : Option (List ℕ)) (given : List Assignment) → AreFormulasSound (upsert a object key text given).tenant
   upsert_formulas object key text given =
       when_object P a.tenant object
-      (λ o. in_case (unique_named o.object key) (refuse a.tenant (refusal.InvalidField (declared_name o.object key))) (λ f. with_read a.tenant (key_value f.1 text) (upsert_by a o given f))) s
+      (λ o. in_case (unique_named o.object key) (refuse a.tenant (refusal.InvalidField (declared_name o.object key))) (λ f. on_value a.tenant (key_value f.1 text) (upsert_by a o given f))) s
       (λ o at. by o (unique_named o.object key))
     where
       by_record : (o : Numbered) (k : Key) (r : Option Record) → AreFormulasSound (in_case r (create_on a o (Some k) given) (λ r. judged a.tenant (denied a level.Edit r ∷ []) (update_on a o (Some k) given r))).tenant
@@ -116,15 +116,15 @@ module _ (a : Asked) (s : AreFormulasSound a.tenant) where
       by_record o k (Some r) = when_judged P a.tenant (denied a level.Edit r ∷ []) (update_on a o (Some k) given r) s (λ _. update_on_formulas o (Some k) given r)
 
       by : (o : Numbered) (f : Option (ℕ × Field))
-          → AreFormulasSound (in_case f (refuse a.tenant (refusal.InvalidField (declared_name o.object key))) (λ f. with_read a.tenant (key_value f.1 text) (upsert_by a o given f))).tenant
+          → AreFormulasSound (in_case f (refuse a.tenant (refusal.InvalidField (declared_name o.object key))) (λ f. on_value a.tenant (key_value f.1 text) (upsert_by a o given f))).tenant
       by o None = s
       by o (Some f) =
           when_read P a.tenant (key_value f.1 text) (upsert_by a o given f) s (λ v w.
-          by_record o (record { column = column f.1.name (typed f.1.kind) (its_value f.0); value = v }) (record_with a.tenant o.number f.0 v))
+          by_record o (record { column = column f.1.name (of_type f.1.kind) (value_site f.0); value = v }) (record_by_value a.tenant o.number f.0 v))
 
   pub delete_formulas : (object key : List ℕ) → AreFormulasSound (delete a object key).tenant
   delete_formulas object key =
-      when_object P a.tenant object (λ o. with_named a o key level.Full (delete_record a)) s (λ o at.
+      when_object P a.tenant object (λ o. on_named a o key level.Full (delete_record a)) s (λ o at.
       when_named P a o key level.Full (delete_record a) s (λ r among of.
-      let gone = going a.tenant r in
-      when_judged P a.tenant (held a.tenant gone ∷ too_many a.tenant gone ∷ []) (accept done (without a.now gone a.tenant)) s (λ _. s)))
+      let gone = cascade a.tenant r in
+      when_judged P a.tenant (restricted_by a.tenant gone ∷ too_many a.tenant gone ∷ []) (accept done (without a.now gone a.tenant)) s (λ _. s)))

@@ -5,7 +5,7 @@ use Rattle.std.proofs.lemmas.Slice.Eq.{bytes_eq-Decides}
 use Rattle.ut_model.specs.Membership.{Has}
 use Rattle.ut_model.specs.Ordered.{put_in}
 use Rattle.ut_model.specs.Rules.{MemberRules, Rule, first_refusal, in_body_order, refuse_if, rule_of}
-use Rattle.ut_model.specs.World.{with_id}
+use Rattle.ut_model.specs.World.{having_id}
 use Rattle.ut_model.specs.declared.refusal.Refusal.{Refusal}
 
 pub pick : (b : Bool) (P : Bool → Type 0) → (b ≡ true → P true) → (b ≡ false → P false) → P b
@@ -148,12 +148,12 @@ module _ {A : Type 0} where
   -- ---- what an id names
   module _ (id : A → List ℕ) where
     abbrev pub has : List A → List ℕ → Bool
-    has xs i = is_some (with_id id xs i)
+    has xs i = is_some (having_id id xs i)
 
     has_step : (x : A) (xs : List A) (i : List ℕ) → has (x ∷ xs) i ≡ true → (i ≡ id x) ⊎ (has xs i ≡ true)
     has_step x xs i h = by (bytes_eq i (id x)) refl h
       where
-        by : (b : Bool) → bytes_eq i (id x) ≡ b → is_some (cond b (Some x) (with_id id xs i)) ≡ true → (i ≡ id x) ⊎ (has xs i ≡ true)
+        by : (b : Bool) → bytes_eq i (id x) ≡ b → is_some (cond b (Some x) (having_id id xs i)) ≡ true → (i ≡ id x) ⊎ (has xs i ≡ true)
         by true t g = inl (same_exact i (id x) t)
         by false t g = inr g
 
@@ -161,7 +161,7 @@ module _ {A : Type 0} where
     has_first x xs i e = let t : bytes_eq i (id x) ≡ true = ap (bytes_eq i) (sym e) ∙ same_itself i in rw t refl
 
     has_rest : (x : A) (xs : List A) (i : List ℕ) → has xs i ≡ true → has (x ∷ xs) i ≡ true
-    has_rest x xs i h = pick (bytes_eq i (id x)) (λ b. is_some (cond b (Some x) (with_id id xs i)) ≡ true) (λ _. refl) (λ _. h)
+    has_rest x xs i h = pick (bytes_eq i (id x)) (λ b. is_some (cond b (Some x) (having_id id xs i)) ≡ true) (λ _. refl) (λ _. h)
 
     pub has_among : (xs : List A) (i : List ℕ) → has xs i ≡ true → (x : A) × Has xs x × (i ≡ id x)
     has_among [] i h = absurd cc
@@ -198,7 +198,7 @@ module _ {A : Type 0} where
     has_same f same [] i = refl
     has_same f same (x ∷ xs) i =
         let e : bytes_eq i (id (f x)) ≡ bytes_eq i (id x) = ap (bytes_eq i) (same x) in
-        rw e (pick (bytes_eq i (id x)) (λ b. is_some (cond b (Some (f x)) (with_id id (map f xs) i)) ≡ is_some (cond b (Some x) (with_id id xs i))) (λ _. refl) (λ _. has_same f same xs i))
+        rw e (pick (bytes_eq i (id x)) (λ b. is_some (cond b (Some (f x)) (having_id id (map f xs) i)) ≡ is_some (cond b (Some x) (having_id id xs i))) (λ _. refl) (λ _. has_same f same xs i))
 
 -- ---- one of a list
 pub any_among : {A : Type 0} (f : A → Bool) (x : A) (xs : List A) → Has xs x → f x ≡ true → list_any f xs ≡ true
@@ -282,10 +282,10 @@ module _ {A : Type 0} (order : A → A → Ordering) (x : A) where
   put_new [] = inl refl
   put_new (z ∷ xs) = let h = put_new xs in pick (is_lt (order x z)) (λ b. Has (cond b (x ∷ z ∷ xs) (z ∷ put_in order x xs)) x) (λ _. inl refl) (λ _. inr h)
 
-  pub put_has : (id : A → List ℕ) (xs : List A) (i : List ℕ) → is_some (with_id id xs i) ≡ true → is_some (with_id id (put_in order x xs) i) ≡ true
-  put_has id xs i h = let r = has_among id xs i h in subst (λ (j : List ℕ). is_some (with_id id (put_in order x xs) j) ≡ true) (sym r.2) (among_has id (put_in order x xs) r.0 (put_old xs r.0 r.1))
+  pub put_has : (id : A → List ℕ) (xs : List A) (i : List ℕ) → is_some (having_id id xs i) ≡ true → is_some (having_id id (put_in order x xs) i) ≡ true
+  put_has id xs i h = let r = has_among id xs i h in subst (λ (j : List ℕ). is_some (having_id id (put_in order x xs) j) ≡ true) (sym r.2) (among_has id (put_in order x xs) r.0 (put_old xs r.0 r.1))
 
-  pub put_has_new : (id : A → List ℕ) (xs : List A) → is_some (with_id id (put_in order x xs) (id x)) ≡ true
+  pub put_has_new : (id : A → List ℕ) (xs : List A) → is_some (having_id id (put_in order x xs) (id x)) ≡ true
   put_has_new id xs = among_has id (put_in order x xs) x (put_new xs)
 
   pub count_put : (p : A → Bool) (xs : List A) → length (filter p (put_in order x xs)) ≤ length (filter p xs) + 1

@@ -25,7 +25,7 @@ use Rattle.ut_sound.proofs.SoundParts.{HasSoundParts}
 use Rattle.ut_model.specs.SoundPeople.{IsSoundUser, IsSoundRole, IsSoundGroup, is_name, parent_in}
 use Rattle.ut_model.specs.Tenant.{Group, Role, Tenant, User}
 use Rattle.ut_model.specs.Verdict.{Verdict, accept, done, judged, made_new, unless}
-use Rattle.ut_model.specs.World.{user_id, user_prefix, role_prefix, group_prefix, with_id}
+use Rattle.ut_model.specs.World.{user_id, user_prefix, role_prefix, group_prefix, having_id}
 use Rattle.ut_sound.proofs.Parts.{all_at, all_last, all_map, all_more, both, clash, list_all_more, has_last, has_same, holds_not, last_has, length_last, none_refuses, or_cases, or_left, or_right, pick, same_exact, same_itself, unrefused}
 use Rattle.ut_sound.proofs.Orders.{rise_last, rise_map}
 use Rattle.ut_sound.proofs.Growing.{IdLaws, drawn_less, each_group_more, each_role_more, groups_more, job_more, knows_more, numbers_less, numbers_more, records_more, roles_more, rules_more, shares_more, some_of, unnamed_yet, users_more, within_limit}
@@ -84,7 +84,7 @@ module _ (ids : IdLaws) (t : Tenant) (s : HasSoundParts t) where
         groups = groups_more k l g.people t.groups s.groups;
         metadata = s.metadata;
         records = records_more k l g t.objects t.records s.records;
-        rules = rules_more k l g.people t.objects t.rule_numbers t.rules s.rules;
+        rules = rules_more k l g.people t.objects t.rule_numbers t.sharing_rules s.rules;
         shares = shares_more k l g t.objects t.shares s.shares;
         job = job_more t.counter (t.counter + 1) (omega arith) t.objects t.records t.job s.job;
       }
@@ -139,7 +139,7 @@ set_user_sound t user role s =
       groups = groups_more k l g.people t.groups s.groups;
       metadata = s.metadata;
       records = records_more k l g t.objects t.records s.records;
-      rules = rules_more k l g.people t.objects t.rule_numbers t.rules s.rules;
+      rules = rules_more k l g.people t.objects t.rule_numbers t.sharing_rules s.rules;
       shares = shares_more k l g t.objects t.shares s.shares;
       job = s.job;
     })
@@ -151,9 +151,9 @@ if_some (Some x) h = h x refl
 
 -- a parent is a role that is known
 parent_known : (k : Known) (roles : List Role) → AllByRecursion (IsSoundRole k) roles → (i p : List ℕ) → parent_in roles i ≡ Some p → k.role p ≡ true
-parent_known k roles a i p e = by (with_id role_id roles i) refl e
+parent_known k roles a i p e = by (having_id role_id roles i) refl e
   where
-    by : (o : Option Role) → with_id role_id roles i ≡ o → option_and_then (λ (r : Role). r.parent) o ≡ Some p → k.role p ≡ true
+    by : (o : Option Role) → having_id role_id roles i ≡ o → option_and_then (λ (r : Role). r.parent) o ≡ Some p → k.role p ≡ true
     by None w e = absurd cc
     by (Some r) w e =
         let it = found_at role_id roles i r w in
@@ -216,7 +216,7 @@ module _ (ids : IdLaws) (t : Tenant) (s : HasSoundParts t) where
         groups = groups_more k l g.people t.groups s.groups;
         metadata = s.metadata;
         records = records_more k l g t.objects t.records s.records;
-        rules = rules_more k l g.people t.objects t.rule_numbers t.rules s.rules;
+        rules = rules_more k l g.people t.objects t.rule_numbers t.sharing_rules s.rules;
         shares = shares_more k l g t.objects t.shares s.shares;
         job = job_more t.counter (t.counter + 1) (omega arith) t.objects t.records t.job s.job;
       }
@@ -262,15 +262,15 @@ good_parent law t role (Some text) e p is = subst (λ (q : List ℕ). ((known t)
 -- where the parent is another one
 other_parent : (t : Tenant) (x : List ℕ) (new : Option (List ℕ)) (a : List ℕ)
     → let f = at_it role_id (λ r. record r { parent = new }) (λ r. refl) x in (parent_in (map f t.roles) a ≡ parent_in t.roles a) ⊎ ((a ≡ x) × (parent_in (map f t.roles) a ≡ new))
-other_parent t x new a = by (with_id role_id t.roles a) refl
+other_parent t x new a = by (having_id role_id t.roles a) refl
   where
     f : Role → Role
     f r = cond (bytes_eq r.id x) (record r { parent = new }) r
 
-    lift : parent_in (map f t.roles) a ≡ option_and_then (λ (r : Role). r.parent) (option_map f (with_id role_id t.roles a))
+    lift : parent_in (map f t.roles) a ≡ option_and_then (λ (r : Role). r.parent) (option_map f (having_id role_id t.roles a))
     lift = ap (option_and_then (λ (r : Role). r.parent)) (found_map role_id f (at_it_same role_id (λ r. record r { parent = new }) (λ r. refl) x) t.roles a)
 
-    by : (o : Option Role) → with_id role_id t.roles a ≡ o → (parent_in (map f t.roles) a ≡ parent_in t.roles a) ⊎ ((a ≡ x) × (parent_in (map f t.roles) a ≡ new))
+    by : (o : Option Role) → having_id role_id t.roles a ≡ o → (parent_in (map f t.roles) a ≡ parent_in t.roles a) ⊎ ((a ≡ x) × (parent_in (map f t.roles) a ≡ new))
     by None e = inl (lift ∙ ap (λ o. option_and_then (λ (r : Role). r.parent) (option_map f o)) e ∙ sym (ap (option_and_then (λ (r : Role). r.parent)) e))
     by (Some r) e =
         let old : parent_in t.roles a ≡ r.parent = ap (option_and_then (λ (r : Role). r.parent)) e in
@@ -311,7 +311,7 @@ set_role_sound law t role parent s =
       groups = groups_more k l g.people t.groups s.groups;
       metadata = s.metadata;
       records = records_more k l g t.objects t.records s.records;
-      rules = rules_more k l g.people t.objects t.rule_numbers t.rules s.rules;
+      rules = rules_more k l g.people t.objects t.rule_numbers t.sharing_rules s.rules;
       shares = shares_more k l g t.objects t.shares s.shares;
       job = s.job;
     })
@@ -359,7 +359,7 @@ module _ (ids : IdLaws) (t : Tenant) (s : HasSoundParts t) where
             };
         metadata = s.metadata;
         records = records_more k l g t.objects t.records s.records;
-        rules = rules_more k l g.people t.objects t.rule_numbers t.rules s.rules;
+        rules = rules_more k l g.people t.objects t.rule_numbers t.sharing_rules s.rules;
         shares = shares_more k l g t.objects t.shares s.shares;
         job = job_more t.counter (t.counter + 1) (omega arith) t.objects t.records t.job s.job;
       }
@@ -421,7 +421,7 @@ set_group_sound t group members s =
           };
       metadata = s.metadata;
       records = records_more k l g t.objects t.records s.records;
-      rules = rules_more k l g.people t.objects t.rule_numbers t.rules s.rules;
+      rules = rules_more k l g.people t.objects t.rule_numbers t.sharing_rules s.rules;
       shares = shares_more k l g t.objects t.shares s.shares;
       job = s.job;
     })

@@ -230,7 +230,7 @@ module _ (ids : IdLaws) (t : Tenant) (s : HasSoundParts t) (o : Numbered) (at : 
                 few = omega (arith, length_put order r t.records, few);
                 few_of = λ n. count n (is_of n r) refl few_of;
               };
-          rules = rules_more k l g.people t.objects t.rule_numbers t.rules s.rules;
+          rules = rules_more k l g.people t.objects t.rule_numbers t.sharing_rules s.rules;
           shares = shares_more k l g t.objects t.shares s.shares;
           job = job_grown t.job s.job;
         }

@@ -2,7 +2,7 @@
 use Rattle.std.proofs.Common.{◌≡◌, ℕ, Bool, true, false, cond, List, [], ◌∷◌, ◌++◌, map, Option, Some, None, refl, ap, sym, subst, ◌∙◌, ◌⊎◌, inl, inr, bytes_eq, option_map}
 use Rattle.std.specs.Option.{unwrap_or}
 use Rattle.ut_model.specs.Membership.{Below, Has, more_steps, one_step}
-use Rattle.ut_model.specs.World.{with_id}
+use Rattle.ut_model.specs.World.{having_id}
 use Rattle.ut_sound.proofs.Parts.{pick, same_exact}
 
 abbrev Up : Type 0
@@ -59,7 +59,7 @@ module _ (up : Up) where
 -- ---- the parents of roles
 module _ {A : Type 0} (id : A → List ℕ) where
   -- one more at the end
-  pub found_last : (xs : List A) (x : A) (i : List ℕ) → (with_id id (xs ++ x ∷ []) i ≡ with_id id xs i) ⊎ ((i ≡ id x) × (with_id id (xs ++ x ∷ []) i ≡ Some x))
+  pub found_last : (xs : List A) (x : A) (i : List ℕ) → (having_id id (xs ++ x ∷ []) i ≡ having_id id xs i) ⊎ ((i ≡ id x) × (having_id id (xs ++ x ∷ []) i ≡ Some x))
   found_last [] x i = by (bytes_eq i (id x)) refl
     where
       by : (b : Bool) → bytes_eq i (id x) ≡ b → (cond b (Some x) None ≡ None) ⊎ ((i ≡ id x) × (cond b (Some x) None ≡ Some x))
@@ -67,34 +67,34 @@ module _ {A : Type 0} (id : A → List ℕ) where
       by false t = inl refl
   found_last (y ∷ xs) x i = by (bytes_eq i (id y)) (found_last xs x i)
     where
-      by : (b : Bool) → (with_id id (xs ++ x ∷ []) i ≡ with_id id xs i) ⊎ ((i ≡ id x) × (with_id id (xs ++ x ∷ []) i ≡ Some x))
-          → (cond b (Some y) (with_id id (xs ++ x ∷ []) i) ≡ cond b (Some y) (with_id id xs i)) ⊎ ((i ≡ id x) × (cond b (Some y) (with_id id (xs ++ x ∷ []) i) ≡ Some x))
+      by : (b : Bool) → (having_id id (xs ++ x ∷ []) i ≡ having_id id xs i) ⊎ ((i ≡ id x) × (having_id id (xs ++ x ∷ []) i ≡ Some x))
+          → (cond b (Some y) (having_id id (xs ++ x ∷ []) i) ≡ cond b (Some y) (having_id id xs i)) ⊎ ((i ≡ id x) × (cond b (Some y) (having_id id (xs ++ x ∷ []) i) ≡ Some x))
       by true h = inl refl
       by false h = h
 
-  pub found_id : (xs : List A) (i : List ℕ) (x : A) → with_id id xs i ≡ Some x → i ≡ id x
+  pub found_id : (xs : List A) (i : List ℕ) (x : A) → having_id id xs i ≡ Some x → i ≡ id x
   found_id [] i x e = absurd cc
   found_id (y ∷ xs) i x e = by (bytes_eq i (id y)) refl e (found_id xs i x)
     where
-      by : (b : Bool) → bytes_eq i (id y) ≡ b → cond b (Some y) (with_id id xs i) ≡ Some x → (with_id id xs i ≡ Some x → i ≡ id x) → i ≡ id x
+      by : (b : Bool) → bytes_eq i (id y) ≡ b → cond b (Some y) (having_id id xs i) ≡ Some x → (having_id id xs i ≡ Some x → i ≡ id x) → i ≡ id x
       by true t e more = same_exact i (id y) t ∙ ap (λ o. unwrap_or (option_map id o) []) e
       by false t e more = more e
 
   -- what is found is in the list
-  pub found_at : (xs : List A) (i : List ℕ) (x : A) → with_id id xs i ≡ Some x → Has xs x × (i ≡ id x)
+  pub found_at : (xs : List A) (i : List ℕ) (x : A) → having_id id xs i ≡ Some x → Has xs x × (i ≡ id x)
   found_at [] i x e = absurd cc
   found_at (y ∷ xs) i x e = by (bytes_eq i (id y)) refl e (found_at xs i x)
     where
       out : (z : A) → Some z ≡ Some x → x ≡ z
       out z e = sym (ap (λ o. unwrap_or o z) e)
 
-      by : (b : Bool) → bytes_eq i (id y) ≡ b → cond b (Some y) (with_id id xs i) ≡ Some x → (with_id id xs i ≡ Some x → Has xs x × (i ≡ id x)) → Has (y ∷ xs) x × (i ≡ id x)
+      by : (b : Bool) → bytes_eq i (id y) ≡ b → cond b (Some y) (having_id id xs i) ≡ Some x → (having_id id xs i ≡ Some x → Has xs x × (i ≡ id x)) → Has (y ∷ xs) x × (i ≡ id x)
       by true t e more = (inl (out y e), same_exact i (id y) t ∙ ap id (sym (out y e)))
       by false t e more = let m = more e in (inr m.0, m.1)
 
   module _ (f : A → A) (same : (x : A) → id (f x) ≡ id x) where
-    pub found_map : (xs : List A) (i : List ℕ) → with_id id (map f xs) i ≡ option_map f (with_id id xs i)
+    pub found_map : (xs : List A) (i : List ℕ) → having_id id (map f xs) i ≡ option_map f (having_id id xs i)
     found_map [] i = refl
     found_map (x ∷ xs) i =
         let e : bytes_eq i (id (f x)) ≡ bytes_eq i (id x) = ap (bytes_eq i) (same x) in
-        rw e (pick (bytes_eq i (id x)) (λ b. cond b (Some (f x)) (with_id id (map f xs) i) ≡ option_map f (cond b (Some x) (with_id id xs i))) (λ _. refl) (λ _. found_map xs i))
+        rw e (pick (bytes_eq i (id x)) (λ b. cond b (Some (f x)) (having_id id (map f xs) i) ≡ option_map f (cond b (Some x) (having_id id xs i))) (λ _. refl) (λ _. found_map xs i))

@@ -11,7 +11,7 @@ use Rattle.ut_json.specs.declared.tree.Json.TheVariants as json
 use Rattle.ut_model.specs.Limits.{formula_limit}
 use Rattle.ut_value.specs.Texts.{texts_differ}
 use Rattle.ut_model.specs.Given.{json_text}
-use Rattle.ut_model.specs.Members.{Body, as_text, entry, formed, is_one_of, member_names, text_in}
+use Rattle.ut_model.specs.Members.{Body, as_text, entry_named, formed, is_one_of, member_names, text_in}
 use Rattle.ut_model.specs.FormulaTexts.{reads_text}
 use Rattle.ut_model.specs.RuleFormulas.{formula_of, malformed}
 use Rattle.ut_model.specs.Tenant.{Object}
@@ -34,13 +34,13 @@ short_text o criteria text e = by (nat_lt formula_limit (length text)) refl e
 abbrev pub AreSpelled : Body → Type 0
 AreSpelled b = list_all (λ (m : List ℕ × Json). all_scalars (json_text m.1)) b ≡ true
 
-entry_spelled : (b : Body) (name : List ℕ) (v : Json) → AreSpelled b → entry b name ≡ Some v → all_scalars (json_text v) ≡ true
+entry_spelled : (b : Body) (name : List ℕ) (v : Json) → AreSpelled b → entry_named b name ≡ Some v → all_scalars (json_text v) ≡ true
 entry_spelled [] name v h e = absurd cc
 entry_spelled (m ∷ b) name v h e =
     by (bytes_eq m.0 name) (both_left (all_scalars (json_text m.1)) (list_all (λ (m : List ℕ × Json). all_scalars (json_text m.1)) b) h)
     (entry_spelled b name v (both_right (all_scalars (json_text m.1)) (list_all (λ (m : List ℕ × Json). all_scalars (json_text m.1)) b) h)) e
   where
-    by : (c : Bool) → all_scalars (json_text m.1) ≡ true → (entry b name ≡ Some v → all_scalars (json_text v) ≡ true)
+    by : (c : Bool) → all_scalars (json_text m.1) ≡ true → (entry_named b name ≡ Some v → all_scalars (json_text v) ≡ true)
         → option_map (λ (x : List ℕ × Json). x.1) (cond c (Some m) (find (λ (x : List ℕ × Json). bytes_eq x.0 name) b)) ≡ Some v → all_scalars (json_text v) ≡ true
     by true first rest e = subst (λ (x : Json). all_scalars (json_text x) ≡ true) (some_json m.1 v e) first
       where
@@ -54,9 +54,9 @@ text_is v text e = absurd cc
 
 -- a member that is a text is of characters
 pub text_spelled : (b : Body) (name text : List ℕ) → AreSpelled b → text_in b name ≡ Some text → all_scalars text ≡ true
-text_spelled b name text h e = by (entry b name) refl e
+text_spelled b name text h e = by (entry_named b name) refl e
   where
-    by : (o : Option Json) → entry b name ≡ o → (o >>= as_text) ≡ Some text → all_scalars text ≡ true
+    by : (o : Option Json) → entry_named b name ≡ o → (o >>= as_text) ≡ Some text → all_scalars text ≡ true
     by None w e = absurd cc
     by (Some v) w e = subst (λ (x : List ℕ). all_scalars x ≡ true) (text_is v text e) (entry_spelled b name v h w)
 

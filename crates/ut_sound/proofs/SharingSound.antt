@@ -30,7 +30,7 @@ use Rattle.ut_model.specs.Ordered.{put_in}
 use Rattle.ut_model.specs.Paths.{Asked}
 use Rattle.ut_model.specs.declared.people_bodies.Spelled.{Spelled}
 use Rattle.ut_model.specs.Principals.{bad_id, spelled_id, is_there, not_there, principal_of}
-use Rattle.ut_model.specs.Rights.{with_readable}
+use Rattle.ut_model.specs.Rights.{on_readable}
 use Rattle.ut_model.specs.RuleFormulas.{malformed, name_cmp}
 use Rattle.ut_model.specs.Rules.{Rule, in_body_order, refuse_if}
 use Rattle.ut_model.specs.declared.sharing_bodies.NewShare.{NewShare}
@@ -38,12 +38,12 @@ use Rattle.ut_model.specs.Shares.{same_share, share, share_cmp, share_of, share_
 use Rattle.ut_model.specs.declared.sharing_bodies.SpelledSource.TheVariants.{Owner, Criteria}
 use Rattle.ut_model.specs.declared.sharing_bodies.NewSharingRule.{NewSharingRule}
 use Rattle.ut_model.specs.declared.sharing_bodies.SpelledSource.{SpelledSource}
-use Rattle.ut_model.specs.SharingRules.{add_sharing_rule, new_rule, remove_sharing_rule, sharing_rules, source_formula, source_of, source_owner, with_rule}
+use Rattle.ut_model.specs.SharingRules.{add_sharing_rule, new_rule, new_sharing_rule_rules, remove_sharing_rule, source_formula, source_of, source_owner, with_rule}
 use Rattle.ut_sound.proofs.SoundParts.{HasSoundParts}
 use Rattle.ut_model.specs.SoundRecords.{IsSoundRecord, record_id}
 use Rattle.ut_model.specs.SoundSharing.{NumbersOnce, HasSoundRules, HasSoundShares, IsSoundRule, IsSoundShare, is_grant, is_sound_source}
 use Rattle.ut_model.specs.Tenant.{Object, Share, SharingRule, Tenant}
-use Rattle.ut_model.specs.Verdict.{Verdict, accept, done, judged, refuse, with_object}
+use Rattle.ut_model.specs.Verdict.{Verdict, accept, done, judged, on_object, refuse}
 use Rattle.ut_sound.specs.Fit.{has_member, has_source, is_fit_rule, is_fit_share}
 use Rattle.ut_sound.proofs.Parts.{all_at, all_from, all_kept, all_more, all_put, among_kept, among_put, both, both_left, both_right, clash, count_put_out, holds_not, length_kept, length_kept_twice, length_put, member_rule, none_refuses, none_so, pick, same_exact, unrefused}
 use Rattle.ut_sound.proofs.Orders.{rise_kept, rise_put}
@@ -78,7 +78,7 @@ named_at t name o e =
     let k : o.number ≡ f.0 = f.1 ∙ omega arith in
     ap (slice_get t.objects) k ∙ f.2
 
-pub when_object : (P : Tenant → Type 0) (t : Tenant) (name : List ℕ) (verdict : Numbered → Verdict) → P t → ((o : Numbered) → slice_get t.objects o.number ≡ Some o.object → P (verdict o).tenant) → P (with_object t name verdict).tenant
+pub when_object : (P : Tenant → Type 0) (t : Tenant) (name : List ℕ) (verdict : Numbered → Verdict) → P t → ((o : Numbered) → slice_get t.objects o.number ≡ Some o.object → P (verdict o).tenant) → P (on_object t name verdict).tenant
 when_object P t name verdict h f = by (object_named t name) refl
   where
     by : (found : Option Numbered) → object_named t name ≡ found → P (in_case found (refuse t (refusal.InvalidType name)) verdict).tenant
@@ -86,7 +86,7 @@ when_object P t name verdict h f = by (object_named t name) refl
     by (Some o) e = f o (named_at t name o e)
 
 -- ---- one part alone is changed
-pub rules_changed : (t : Tenant) (rules : List SharingRule) (drawn : ℕ) → HasSoundParts t → HasSoundRules (known t) t.objects drawn rules → HasSoundParts (record t { rules = rules; rule_numbers = drawn })
+pub rules_changed : (t : Tenant) (rules : List SharingRule) (drawn : ℕ) → HasSoundParts t → HasSoundRules (known t) t.objects drawn rules → HasSoundParts (record t { sharing_rules = rules; rule_numbers = drawn })
 rules_changed t rules drawn s h =
     record { name = s.name; counter = s.counter; numbers = s.numbers; users = s.users; roles = s.roles; groups = s.groups; metadata = s.metadata; records = s.records; rules = h; shares = s.shares; job = s.job }
 
@@ -123,8 +123,8 @@ pub tied_names : (a b : List ℕ) → name_cmp a b ≡ Equal → same_name a b �
 tied_names a b e = sym (is_eq-slice_cmp (lower a) (lower b)) ∙ ap is_eq e
 
 -- no rule has the new name
-apart : (t : Tenant) (name : List ℕ) → taken (map (λ (r : SharingRule). r.name) t.rules) name ≡ None → AllByRecursion (λ (y : SharingRule). name_cmp name y.name ≡ Equal → ⊥) t.rules
-apart t name e = by t.rules (unrefused (list_any (same_name name) (map (λ (r : SharingRule). r.name) t.rules)) (refusal.NameTaken name) e)
+apart : (t : Tenant) (name : List ℕ) → taken (map (λ (r : SharingRule). r.name) t.sharing_rules) name ≡ None → AllByRecursion (λ (y : SharingRule). name_cmp name y.name ≡ Equal → ⊥) t.sharing_rules
+apart t name e = by t.sharing_rules (unrefused (list_any (same_name name) (map (λ (r : SharingRule). r.name) t.sharing_rules)) (refusal.NameTaken name) e)
   where
     by : (rs : List SharingRule) → list_any (same_name name) (map (λ (r : SharingRule). r.name) rs) ≡ false → AllByRecursion (λ (y : SharingRule). name_cmp name y.name ≡ Equal → ⊥) rs
     by [] h = tt
@@ -140,15 +140,15 @@ own_number : (n : ℕ) → (nat_le 1 (n + 1) && nat_le (n + 1) (n + 1)) ≡ true
 own_number n = both (nat_le 1 (n + 1)) (nat_le (n + 1) (n + 1)) (grind (arith, nat_tests)) (grind (arith, nat_tests))
 
 -- its number is that of no other
-once : (t : Tenant) (r : SharingRule) → r.number ≡ t.rule_numbers + 1 → HasSoundParts t → NumbersOnce (put_in (λ a b. name_cmp a.name b.name) r t.rules)
+once : (t : Tenant) (r : SharingRule) → r.number ≡ t.rule_numbers + 1 → HasSoundParts t → NumbersOnce (put_in (λ a b. name_cmp a.name b.name) r t.sharing_rules)
 once t r is s x y a b e =
-    elim (among_put (λ a b. name_cmp a.name b.name) r t.rules x a) [
-      | inl m ↦ elim (among_put (λ a b. name_cmp a.name b.name) r t.rules y b) [ inl n ↦ s.rules.numbers x y m n e | inr i ↦ absurd (low x m (e ∙ ap (λ (z : SharingRule). z.number) i)) ]
-      | inr j ↦ elim (among_put (λ a b. name_cmp a.name b.name) r t.rules y b) [ inl n ↦ absurd (low y n (sym e ∙ ap (λ (z : SharingRule). z.number) j)) | inr i ↦ j ∙ sym i ]
+    elim (among_put (λ a b. name_cmp a.name b.name) r t.sharing_rules x a) [
+      | inl m ↦ elim (among_put (λ a b. name_cmp a.name b.name) r t.sharing_rules y b) [ inl n ↦ s.rules.numbers x y m n e | inr i ↦ absurd (low x m (e ∙ ap (λ (z : SharingRule). z.number) i)) ]
+      | inr j ↦ elim (among_put (λ a b. name_cmp a.name b.name) r t.sharing_rules y b) [ inl n ↦ absurd (low y n (sym e ∙ ap (λ (z : SharingRule). z.number) j)) | inr i ↦ j ∙ sym i ]
     ]
   where
-    low : (z : SharingRule) → Has t.rules z → z.number ≡ r.number → ⊥
-    low z m e = let w = number_within z.number t.rule_numbers (all_at (IsSoundRule (known t) t.objects t.rule_numbers) z t.rules s.rules.each m).number in omega (arith, w, e, is)
+    low : (z : SharingRule) → Has t.sharing_rules z → z.number ≡ r.number → ⊥
+    low z m e = let w = number_within z.number t.rule_numbers (all_at (IsSoundRule (known t) t.objects t.rule_numbers) z t.sharing_rules s.rules.each m).number in omega (arith, w, e, is)
 
 -- the source of an owner rule, which is a member of the body
 from_there : (t : Tenant) (members : List (List ℕ)) (source : SpelledSource) → has_source members source ≡ true → (p : Principal)
@@ -159,12 +159,12 @@ from_there t members (Criteria text) fit p e = refl
 
 pub add_rule_sound : (t : Tenant) (b : NewSharingRule) → is_fit_rule b ≡ true → HasSoundParts t → HasSoundParts (add_sharing_rule t b).tenant
 add_rule_sound t b fit s =
-    when_object HasSoundParts t b.object (λ o. judged t (sharing_rules t o b) (accept done (with_rule (new_rule t o.number b) t))) s (λ o at.
-    when_judged HasSoundParts t (sharing_rules t o b) (accept done (with_rule (new_rule t o.number b) t)) s (λ h.
+    when_object HasSoundParts t b.object (λ o. judged t (new_sharing_rule_rules t o b) (accept done (with_rule (new_rule t o.number b) t))) s (λ o at.
+    when_judged HasSoundParts t (new_sharing_rule_rules t o b) (accept done (with_rule (new_rule t o.number b) t)) s (λ h.
     let r = new_rule t o.number b in
     let k = known t in
     let order : SharingRule → SharingRule → Ordering = λ a b. name_cmp a.name b.name in
-    let limits = none_refuses (refuse_if (nat_lt 300 (length t.rules + 1)) (refusal.LimitExceeded limit.SharingRules) ∷ refuse_if (nat_lt 4000000000 (t.rule_numbers + 1)) (refusal.LimitExceeded limit.RuleNumbers) ∷ []) h.1.1.1.1.1.1.1.0 in
+    let limits = none_refuses (refuse_if (nat_lt 300 (length t.sharing_rules + 1)) (refusal.LimitExceeded limit.SharingRules) ∷ refuse_if (nat_lt 4000000000 (t.rule_numbers + 1)) (refusal.LimitExceeded limit.RuleNumbers) ∷ []) h.1.1.1.1.1.1.1.0 in
     let owner_rule : Rule = in_case (source_owner b.source) None (λ p. not_there t (codes "from") (principal_of p)) in
     let members = both_right (is_grant b.level) (has_member b.members (codes "to") && has_source b.members b.source) fit in
     let to_there = member_rule ((codes "to", not_there t (codes "to") (principal_of b.to)) ∷ (codes "from", owner_rule) ∷ []) b.members (codes "to") h.1.1.1.1.0 (both_left (has_member b.members (codes "to")) (has_source b.members b.source) members) in
@@ -178,12 +178,12 @@ add_rule_sound t b fit s =
       level = both_left (is_grant b.level) (has_member b.members (codes "to") && has_source b.members b.source) fit;
       cursor = tt;
     } in
-    rules_changed t (put_in order r t.rules) (t.rule_numbers + 1) s
+    rules_changed t (put_in order r t.sharing_rules) (t.rule_numbers + 1) s
     (record {
-      each = all_put (IsSoundRule k t.objects (t.rule_numbers + 1)) order r t.rules (all_more (IsSoundRule k t.objects t.rule_numbers) (IsSoundRule k t.objects (t.rule_numbers + 1)) (drawn_more t) t.rules s.rules.each) sound;
-      rise = rise_put name_cmp (λ (r : SharingRule). r.name) (on_texts lower) order (λ x y. refl) r t.rules s.rules.rise (apart t b.name h.1.1.0);
+      each = all_put (IsSoundRule k t.objects (t.rule_numbers + 1)) order r t.sharing_rules (all_more (IsSoundRule k t.objects t.rule_numbers) (IsSoundRule k t.objects (t.rule_numbers + 1)) (drawn_more t) t.sharing_rules s.rules.each) sound;
+      rise = rise_put name_cmp (λ (r : SharingRule). r.name) (on_texts lower) order (λ x y. refl) r t.sharing_rules s.rules.rise (apart t b.name h.1.1.0);
       numbers = once t r refl s;
-      few = omega (arith, length_put order r t.rules, within_limit 300 (length t.rules + 1) (refusal.LimitExceeded limit.SharingRules) limits.0);
+      few = omega (arith, length_put order r t.sharing_rules, within_limit 300 (length t.sharing_rules + 1) (refusal.LimitExceeded limit.SharingRules) limits.0);
       few_drawn = within_limit 4000000000 (t.rule_numbers + 1) (refusal.LimitExceeded limit.RuleNumbers) limits.1.0;
     })))
 
@@ -191,13 +191,13 @@ add_rule_sound t b fit s =
 pub remove_rule_sound : (t : Tenant) (name : List ℕ) → HasSoundParts t → HasSoundParts (remove_sharing_rule t name).tenant
 remove_rule_sound t name s =
     let p : SharingRule → Bool = λ r. not (same_name r.name name) in
-    when_judged HasSoundParts t (refuse_if (not (list_any (λ r. same_name r.name name) t.rules)) refusal.NotFound ∷ []) (accept done (record t { rules = filter p t.rules })) s (λ h.
-    rules_changed t (filter p t.rules) t.rule_numbers s
+    when_judged HasSoundParts t (refuse_if (not (list_any (λ r. same_name r.name name) t.sharing_rules)) refusal.NotFound ∷ []) (accept done (record t { sharing_rules = filter p t.sharing_rules })) s (λ h.
+    rules_changed t (filter p t.sharing_rules) t.rule_numbers s
     (record {
-      each = all_kept (IsSoundRule (known t) t.objects t.rule_numbers) p t.rules s.rules.each;
-      rise = rise_kept name_cmp (λ (r : SharingRule). r.name) p t.rules s.rules.rise;
-      numbers = λ x y a b e. s.rules.numbers x y (among_kept p t.rules x a).0 (among_kept p t.rules y b).0 e;
-      few = omega (arith, length_kept p t.rules, s.rules.few);
+      each = all_kept (IsSoundRule (known t) t.objects t.rule_numbers) p t.sharing_rules s.rules.each;
+      rise = rise_kept name_cmp (λ (r : SharingRule). r.name) p t.sharing_rules s.rules.rise;
+      numbers = λ x y a b e. s.rules.numbers x y (among_kept p t.sharing_rules x a).0 (among_kept p t.sharing_rules y b).0 e;
+      few = omega (arith, length_kept p t.sharing_rules, s.rules.few);
       few_drawn = s.rules.few_drawn;
     }))
 
@@ -235,7 +235,7 @@ share_put t x sound few s =
         let same = ap (λ (xs : List Share). length xs) (count_put_out q share_cmp x (filter p t.shares) e) in
         omega (arith, same, length_kept_twice q p t.shares, s.few id)
 
-pub when_readable : (P : Tenant → Type 0) (a : Asked) (found : Option Record) (verdict : Record → Verdict) → P a.tenant → ((r : Record) → found ≡ Some r → P (verdict r).tenant) → P (with_readable a found verdict).tenant
+pub when_readable : (P : Tenant → Type 0) (a : Asked) (found : Option Record) (verdict : Record → Verdict) → P a.tenant → ((r : Record) → found ≡ Some r → P (verdict r).tenant) → P (on_readable a found verdict).tenant
 when_readable P a None verdict h f = h
 when_readable P a (Some r) verdict h f =
     pick (can_read a.tenant a.user r) (λ b. P (in_case (cond b (Some r) None) (refuse a.tenant refusal.NotFound) verdict).tenant) (λ _. f r refl) (λ _. h)
@@ -245,7 +245,7 @@ share_sound a b fit s =
     let t = a.tenant in
     let x = share_of b in
     when_judged HasSoundParts t (in_body_order b.members ((codes "record", bad_id b.item) ∷ (codes "to", bad_id b.to.text) ∷ []) ∷ [])
-    (with_readable a (record_at t (spelled_id b.item)) (λ r. judged t (share_rules a x r) (accept done (record t { shares = with_share x t.shares })))) s (λ _.
+    (on_readable a (record_at t (spelled_id b.item)) (λ r. judged t (share_rules a x r) (accept done (record t { shares = with_share x t.shares })))) s (λ _.
     when_readable HasSoundParts a (record_at t (spelled_id b.item)) (λ r. judged t (share_rules a x r) (accept done (record t { shares = with_share x t.shares }))) s (λ r found.
     when_judged HasSoundParts t (share_rules a x r) (accept done (record t { shares = with_share x t.shares })) s (λ h.
     let at = found_at record_id t.records (spelled_id b.item) r found in

@@ -40,22 +40,22 @@ module _ (law : ReadsOtherTypes) (t : Tenant) (s : AreFormulasSound t) (j : Job)
       (λ _ e f. refl) (λ _ e f. law p j.field j.to c text e f) h g
 
   -- no rule names the field
-  unnamed : is_unnamed t.rules j p ≡ true
+  unnamed : is_unnamed t.sharing_rules j p ≡ true
   unnamed =
-      let h : IsUnnamed t.objects t.rules (Some j) = subst (λ (z : Option Job). IsUnnamed t.objects t.rules z) is s.unnamed in
-      sym (ap (λ z. in_case z true (is_unnamed t.rules j)) there) ∙ (sym (ap (λ z. not (is_copy z) || in_case (slice_get t.objects j.object) true (is_unnamed t.rules j)) copy) ∙ h)
+      let h : IsUnnamed t.objects t.sharing_rules (Some j) = subst (λ (z : Option Job). IsUnnamed t.objects t.sharing_rules z) is s.unnamed in
+      sym (ap (λ z. in_case z true (is_unnamed t.sharing_rules j)) there) ∙ (sym (ap (λ z. not (is_copy z) || in_case (slice_get t.objects j.object) true (is_unnamed t.sharing_rules j)) copy) ∙ h)
 
   abbrev rules_free : Bool
-  rules_free = list_all (free_rule j p) p.rules
+  rules_free = list_all (free_rule j p) p.validation_rules
 
   abbrev sharing_free : Bool
-  sharing_free = list_all (free j p) t.rules
+  sharing_free = list_all (free j p) t.sharing_rules
 
   changed_reads : validations_read p ≡ true → validations_read (change p) ≡ true
   changed_reads h =
-      list_all_from (λ (r : ValidationRule). is_ok (formula_of (change p) false r.formula)) p.rules (λ r m.
-      let good = list_all_at (λ (r : ValidationRule). is_ok (formula_of p false r.formula)) r p.rules h m in
-      ap (λ (z : Result Formula ℕ). is_ok z) (same_formula false r.formula good (list_all_at (free_rule j p) r p.rules (both_left rules_free sharing_free unnamed) m)) ∙ good)
+      list_all_from (λ (r : ValidationRule). is_ok (formula_of (change p) false r.formula)) p.validation_rules (λ r m.
+      let good = list_all_at (λ (r : ValidationRule). is_ok (formula_of p false r.formula)) r p.validation_rules h m in
+      ap (λ (z : Result Formula ℕ). is_ok z) (same_formula false r.formula good (list_all_at (free_rule j p) r p.validation_rules (both_left rules_free sharing_free unnamed) m)) ∙ good)
 
   validations_over : (n : ℕ) (os : List Object) → slice_get os n ≡ Some p → list_all validations_read os ≡ true → list_all validations_read (change_at n change os) ≡ true
   validations_over n [] e h = absurd cc
@@ -86,7 +86,7 @@ module _ (law : ReadsOtherTypes) (t : Tenant) (s : AreFormulasSound t) (j : Job)
   switch_formulas =
       record {
         validations = validations_over j.object t.objects there s.validations;
-        criteria = list_all_from (criteria_read now) t.rules (λ r m. criteria_over r (list_all_at (criteria_read t.objects) r t.rules s.criteria m) (list_all_at (free j p) r t.rules (both_right rules_free sharing_free unnamed) m));
+        criteria = list_all_from (criteria_read now) t.sharing_rules (λ r m. criteria_over r (list_all_at (criteria_read t.objects) r t.sharing_rules s.criteria m) (list_all_at (free j p) r t.sharing_rules (both_right rules_free sharing_free unnamed) m));
         unnamed = refl;
       }
 

@@ -395,7 +395,7 @@ module _ (law : ConvertLaw) (t : Tenant) (s : HasSoundParts t) (j : Job) (h : Is
   switch_sound =
       let k = known t in
       let l = known u in
-      let rules = rules_more k l grows.people os t.rule_numbers t.rules s.rules in
+      let rules = rules_more k l grows.people os t.rule_numbers t.sharing_rules s.rules in
       let shares = shares_more k l grows os t.shares s.shares in
       record {
         name = s.name;
@@ -421,7 +421,7 @@ module _ (law : ConvertLaw) (t : Tenant) (s : HasSoundParts t) (j : Job) (h : Is
         rules =
             record {
               each = all_more (IsSoundRule l os t.rule_numbers) (IsSoundRule l now t.rule_numbers) (λ r x.
-                  record { name = x.name; object = shareable_over r.object x.object; number = x.number; source = x.source; to = x.to; level = x.level; cursor = x.cursor }) t.rules rules.each;
+                  record { name = x.name; object = shareable_over r.object x.object; number = x.number; source = x.source; to = x.to; level = x.level; cursor = x.cursor }) t.sharing_rules rules.each;
               rise = rules.rise;
               numbers = rules.numbers;
               few = rules.few;

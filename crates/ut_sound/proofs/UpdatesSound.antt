@@ -25,7 +25,7 @@ use Rattle.ut_model.specs.Membership.{Has}
 use Rattle.ut_model.specs.Objects.{Numbered, is_of, object_number, record_at}
 use Rattle.ut_model.specs.Paths.{Asked}
 use Rattle.ut_model.specs.Relationships.{references_of}
-use Rattle.ut_model.specs.Rights.{denied, record_in, with_named, with_readable}
+use Rattle.ut_model.specs.Rights.{denied, on_named, on_readable, record_of_object}
 use Rattle.ut_model.specs.Rules.{first_of, refuse_if}
 use Rattle.ut_sound.proofs.SoundParts.{HasSoundParts}
 use Rattle.ut_model.specs.SoundJob.{HasSoundJob, IsSoundJob, copies}
@@ -60,7 +60,7 @@ records_edited t rs shares s back records_sound shares_sound job =
       groups = groups_more k l g t.groups s.groups;
       metadata = s.metadata;
       records = records_sound;
-      rules = rules_more k l g t.objects t.rule_numbers t.rules s.rules;
+      rules = rules_more k l g t.objects t.rule_numbers t.sharing_rules s.rules;
       shares = shares_sound;
       job = job;
     }
@@ -148,7 +148,7 @@ module _ (t : Tenant) (s : HasSoundParts t) (old : Record) (among : Has t.record
 
 -- ---- a record that is named in a request
 pub when_named : (P : Tenant → Type 0) (a : Asked) (o : Numbered) (text : List ℕ) (least : Level) (verdict : Record → Verdict) → P a.tenant
-    → ((r : Record) → Has a.tenant.records r → is_of o.number r ≡ true → P (verdict r).tenant) → P (with_named a o text least verdict).tenant
+    → ((r : Record) → Has a.tenant.records r → is_of o.number r ≡ true → P (verdict r).tenant) → P (on_named a o text least verdict).tenant
 when_named P a o text least verdict h g = by (id_in text)
   where
     found : (id : List ℕ) (r : Record) (x : Option Record) → record_at a.tenant id ≡ x → option_and_then (λ r. cond (is_of o.number r) (Some r) None) x ≡ Some r → Has a.tenant.records r × (is_of o.number r ≡ true)
@@ -159,10 +159,10 @@ when_named P a o text least verdict h g = by (id_in text)
         its true t w = let same : x ≡ r = ap (λ z. unwrap_or z x) w in (subst (λ (z : Record). Has a.tenant.records z) same (found_at record_id a.tenant.records id x e).0, subst (λ (z : Record). is_of o.number z ≡ true) same t)
         its false t w = absurd cc
 
-    by : (id : Option (List ℕ)) → P (in_case id (refuse a.tenant (refusal.MalformedId text)) (λ id. with_readable a (record_in a.tenant o.number id) (λ r. judged a.tenant (denied a least r ∷ []) (verdict r)))).tenant
+    by : (id : Option (List ℕ)) → P (in_case id (refuse a.tenant (refusal.MalformedId text)) (λ id. on_readable a (record_of_object a.tenant o.number id) (λ r. judged a.tenant (denied a least r ∷ []) (verdict r)))).tenant
     by None = h
     by (Some id) =
-        when_readable P a (record_in a.tenant o.number id) (λ r. judged a.tenant (denied a least r ∷ []) (verdict r)) h (λ r e.
+        when_readable P a (record_of_object a.tenant o.number id) (λ r. judged a.tenant (denied a least r ∷ []) (verdict r)) h (λ r e.
         let it = found id r (record_at a.tenant id) refl e in
         when_judged P a.tenant (denied a least r ∷ []) (verdict r) h (λ _. g r it.0 it.1))
 
@@ -239,5 +239,5 @@ update_on_sound a o key given old at among of caller reads s =
 
 pub update_sound : (a : Asked) (object key : List ℕ) (given : List Assignment) → IsCaller a → OfObjects a (λ o. ReadsWell a o given) → HasSoundParts a.tenant → HasSoundParts (update a object key given).tenant
 update_sound a object key given caller reads s =
-    when_object HasSoundParts a.tenant object (λ o. with_named a o key Edit (update_on a o None given)) s (λ o at.
+    when_object HasSoundParts a.tenant object (λ o. on_named a o key Edit (update_on a o None given)) s (λ o at.
     when_named HasSoundParts a o key Edit (update_on a o None given) s (λ r among of. update_on_sound a o None given r at among of caller (reads o.number o.object at) s))

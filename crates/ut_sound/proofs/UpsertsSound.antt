@@ -10,7 +10,7 @@ use Rattle.ut_model.specs.declared.refusal.Refusal.TheVariants as refusal
 use Rattle.ut_model.specs.Cases.{in_case}
 use Rattle.ut_model.specs.Creates.{create_on}
 use Rattle.ut_model.specs.declared.record_bodies.Assignment.{Assignment}
-use Rattle.ut_model.specs.Given.{ReadOr, has_value, record_with}
+use Rattle.ut_model.specs.Given.{ReadOr, has_value, record_by_value}
 use Rattle.ut_model.specs.Keys.{Key, with_key}
 use Rattle.ut_model.specs.Membership.{Has}
 use Rattle.ut_model.specs.Objects.{Numbered, is_of, records_of}
@@ -19,7 +19,7 @@ use Rattle.ut_model.specs.Rights.{denied}
 use Rattle.ut_sound.proofs.SoundParts.{HasSoundParts}
 use Rattle.ut_model.specs.Tenant.{Field, Tenant}
 use Rattle.ut_model.specs.Updates.{update_on}
-use Rattle.ut_model.specs.Upserts.{declared_name, key_value, unique_named, upsert, upsert_by, with_read}
+use Rattle.ut_model.specs.Upserts.{declared_name, key_value, on_value, unique_named, upsert, upsert_by}
 use Rattle.ut_model.specs.Verdict.{Verdict, judged, refuse}
 use Rattle.ut_sound.specs.Fit.{IsCaller, OfObjects, ReadsWell, ReadsWellByKey, key_of}
 use Rattle.ut_sound.proofs.Parts.{among_kept}
@@ -37,16 +37,16 @@ found_record p (z ∷ xs) x e = by (p z) e (found_record p xs x)
     by true w more = inl (sym (ap (λ o. unwrap_or o z) w))
     by false w more = inr (more w)
 
-pub when_read : (P : Tenant → Type 0) (t : Tenant) (r : ReadOr) (verdict : Value → Verdict) → P t → ((v : Value) → r ≡ Ok v → P (verdict v).tenant) → P (with_read t r verdict).tenant
+pub when_read : (P : Tenant → Type 0) (t : Tenant) (r : ReadOr) (verdict : Value → Verdict) → P t → ((v : Value) → r ≡ Ok v → P (verdict v).tenant) → P (on_value t r verdict).tenant
 when_read P t (Ok v) verdict h f = f v refl
 when_read P t (Err why) verdict h f = h
 
 pub upsert_sound : IdLaws → (a : Asked) (object key : List ℕ) (text : Option (List ℕ)) (given : List Assignment) → IsCaller a
     → OfObjects a (λ o. ReadsWellByKey a key text o given) → HasSoundParts a.tenant → HasSoundParts (upsert a object key text given).tenant
-unfolding record_with
+unfolding record_by_value
 upsert_sound ids a object key text given caller reads s =
     when_object HasSoundParts a.tenant object
-    (λ o. in_case (unique_named o.object key) (refuse a.tenant (refusal.InvalidField (declared_name o.object key))) (λ f. with_read a.tenant (key_value f.1 text) (upsert_by a o given f))) s
+    (λ o. in_case (unique_named o.object key) (refuse a.tenant (refusal.InvalidField (declared_name o.object key))) (λ f. on_value a.tenant (key_value f.1 text) (upsert_by a o given f))) s
     (λ o at. by_field o at (unique_named o.object key) refl)
   where
     by_record : (o : Numbered) → slice_get a.tenant.objects o.number ≡ Some o.object → (k : Key) → ReadsWell a o.object (with_key (Some k) given) → (p : Record → Bool) (r : Option Record) → find p (records_of a.tenant o.number) ≡ r
@@ -58,8 +58,8 @@ upsert_sound ids a object key text given caller reads s =
         update_on_sound a o (Some k) given r at m.0 m.1 caller well s)
 
     by_field : (o : Numbered) → slice_get a.tenant.objects o.number ≡ Some o.object → (f : Option (ℕ × Field)) → unique_named o.object key ≡ f
-        → HasSoundParts (in_case f (refuse a.tenant (refusal.InvalidField (declared_name o.object key))) (λ f. with_read a.tenant (key_value f.1 text) (upsert_by a o given f))).tenant
+        → HasSoundParts (in_case f (refuse a.tenant (refusal.InvalidField (declared_name o.object key))) (λ f. on_value a.tenant (key_value f.1 text) (upsert_by a o given f))).tenant
     by_field o at None e = s
     by_field o at (Some f) e =
         when_read HasSoundParts a.tenant (key_value f.1 text) (upsert_by a o given f) s (λ v w.
-        by_record o at (key_of f v) (reads o.number o.object at f v e w) (has_value f.0 v) (record_with a.tenant o.number f.0 v) refl)
+        by_record o at (key_of f v) (reads o.number o.object at f v e w) (has_value f.0 v) (record_by_value a.tenant o.number f.0 v) refl)

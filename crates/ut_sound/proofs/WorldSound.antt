@@ -10,25 +10,25 @@ use Rattle.ut_model.specs.Cases.{in_case}
 use Rattle.ut_model.specs.Limits.{limit_number}
 use Rattle.ut_model.specs.RequestOf.{answer_to}
 use Rattle.ut_model.specs.Sound.{IsSound, IsWorld}
-use Rattle.ut_model.specs.Step.{Message, if_called, in_named, in_tenant, named_in, own, refused, step_by}
+use Rattle.ut_model.specs.Step.{Message, answer_in, if_called, in_key, in_tenant, key_in, refused, step_by}
 use Rattle.ut_model.specs.Tenant.{Tenant, User}
 use Rattle.ut_model.specs.Whole.{answered_whole}
-use Rattle.ut_model.specs.World.{World, tenant_at, user_at, user_id, with_id, with_tenant}
+use Rattle.ut_model.specs.World.{World, having_id, tenant_at, user_at, user_id, with_tenant}
 use Rattle.ut_value.specs.Dates.{is_moment}
 use Rattle.ut_sound.specs.Fit.{IsCaller}
 use Rattle.ut_sound.proofs.Changes.{at_has}
 use Rattle.ut_sound.proofs.FormsFit.{some_is}
 use Rattle.ut_sound.proofs.Parts.{all_at, same_itself}
 
-found_self : (xs : List User) (i : List ℕ) (u : User) → with_id user_id xs i ≡ Some u → is_some (with_id user_id xs u.id) ≡ true
+found_self : (xs : List User) (i : List ℕ) (u : User) → having_id user_id xs i ≡ Some u → is_some (having_id user_id xs u.id) ≡ true
 found_self [] i u e = absurd cc
 found_self (x ∷ xs) i u e = by (bytes_eq i x.id) e (found_self xs i u)
   where
-    either : (b : Bool) → is_some (with_id user_id xs u.id) ≡ true → is_some (cond b (Some x) (with_id user_id xs u.id)) ≡ true
+    either : (b : Bool) → is_some (having_id user_id xs u.id) ≡ true → is_some (cond b (Some x) (having_id user_id xs u.id)) ≡ true
     either true h = refl
     either false h = h
 
-    by : (b : Bool) → cond b (Some x) (with_id user_id xs i) ≡ Some u → (with_id user_id xs i ≡ Some u → is_some (with_id user_id xs u.id) ≡ true) → is_some (cond (bytes_eq u.id x.id) (Some x) (with_id user_id xs u.id)) ≡ true
+    by : (b : Bool) → cond b (Some x) (having_id user_id xs i) ≡ Some u → (having_id user_id xs i ≡ Some u → is_some (having_id user_id xs u.id) ≡ true) → is_some (cond (bytes_eq u.id x.id) (Some x) (having_id user_id xs u.id)) ≡ true
     by true e more =
         let same : bytes_eq u.id x.id ≡ true = ap (λ (z : User). bytes_eq z.id x.id) (sym (some_is x u e)) ∙ same_itself x.id in
         rw same refl
@@ -52,7 +52,7 @@ tenant_sound w (suc n) t all e = all_at IsSound t w all (at_has n w t e)
 
 pub world_sound : ((a : _) (m : Message) → IsCaller a → IsSound a.tenant → IsSound (answer_to a m).1)
     → (w : World) (m : Message) (now : ℕ) → is_moment (pos now) ≡ true → IsWorld w → IsWorld (step_by answered_whole w m now).1
-world_sound law w m now moment s = by (named_in m)
+world_sound law w m now moment s = by (key_in m)
   where
     user : (t : Tenant) → IsSound t → (c : Caller) (o : Option User) → user_at t.users c.user ≡ o
         → IsSound (in_case o (refused InvalidSession t) (λ u. answer_to (record { tenant = t; user = u; now = pos now }) m)).1
@@ -63,15 +63,15 @@ world_sound law w m now moment s = by (named_in m)
     called t h None = h
     called t h (Some c) = user t h c (user_at t.users c.user) refl
 
-    here : (n : Named) (o : Option Tenant) → tenant_at w n.org ≡ o → IsWorld (in_tenant w n.org (own answered_whole n m now) o).1
+    here : (n : Named) (o : Option Tenant) → tenant_at w n.org ≡ o → IsWorld (in_tenant w n.org (answer_in answered_whole n m now) o).1
     here n None e = s
     here n (Some t) e =
-        let after = (own answered_whole n m now t).1 in
+        let after = (answer_in answered_whole n m now t).1 in
         record {
           few = subst (λ (k : ℕ). k ≤ limit_number limit.Organisations) (sym (put_length w n.org after)) s.few;
           tenants = put_sound w n.org after s.tenants (called t (tenant_sound w n.org t s.tenants e) (caller_of n t));
         }
 
-    by : (n : Option Named) → IsWorld (in_named answered_whole w m now n).1
+    by : (n : Option Named) → IsWorld (in_key answered_whole w m now n).1
     by None = s
     by (Some n) = here n (tenant_at w n.org) refl

@@ -9,7 +9,7 @@ use Rattle.ut_value.specs.declared.value.Value.{Value}
 use Rattle.ut_model.specs.declared.record.Record.{Record}
 use Rattle.ut_model.specs.Cases.{in_case}
 use Rattle.ut_model.specs.Edits.{bad_value, with_given}
-use Rattle.ut_model.specs.Fields.{column, its_value, typed}
+use Rattle.ut_model.specs.Fields.{column, of_type, value_site}
 use Rattle.ut_model.specs.declared.record_bodies.Given.TheVariants as gives
 use Rattle.ut_model.specs.declared.record_bodies.Assignment.{Assignment}
 use Rattle.ut_model.specs.declared.record_bodies.Given.{Given}
@@ -108,7 +108,7 @@ SpellsCharacters body = (b : Body) → body_in body ≡ Some b → IsTrue (list_
 
 -- the key of an upsert by this field
 abbrev pub key_of : ℕ × Field → Value → Key
-key_of f v = record { column = column f.1.name (typed f.1.kind) (its_value f.0); value = v }
+key_of f v = record { column = column f.1.name (of_type f.1.kind) (value_site f.0); value = v }
 
 -- the same with the key of an upsert, where the text of the path reads to a value of the unique field
 abbrev pub ReadsWellByKey : Asked → (key : List ℕ) → (text : Option (List ℕ)) → Object → List Assignment → Type 0

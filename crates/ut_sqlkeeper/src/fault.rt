@@ -1,6 +1,8 @@
 //! Why a database refused, and how often it did.
 
-ghost use Rattle.std.specs.Prelude.{◌≡◌, ◌≤◌, ◌+◌, Some, None};
+ghost use Rattle.std.specs.Prelude.{◌≡◌, ◌≤◌, ◌+◌, IsTrue, Some, None};
+ghost use Rattle.sqlite.specs.declared.error.Error.TheVariants.{SqliteFailure};
+ghost use Rattle.sqlite.specs.declared.error.ErrorCode.TheVariants.{OutOfMemory};
 ghost use Rattle.ut_value.specs.Causes.{up_to_last, Rose};
 
 use sqlite::{Error, ErrorCode};
@@ -68,7 +70,10 @@ pub(crate) fn fault_of(error: Error) -> DatabaseFault {
 }
 
 /// The error says that the call is out of memory.
-pub(crate) fn is_out_of_memory(error: &Error) -> bool {
+pub(crate) fn is_out_of_memory(error: &Error) -> bool
+    ensures only { IsTrue result → error.now ≡ SqliteFailure OutOfMemory }
+    ensures each { error.now ≡ SqliteFailure OutOfMemory → IsTrue result }
+{
     matches!(error, Error::SqliteFailure(ErrorCode::OutOfMemory))
 }
 
@@ -106,6 +111,9 @@ impl Refusals {
         ensures counts { self.old.count ≤ self.new.count }
         ensures cause { result ≡ KeepFail.Failed → Rose self.old.count self.new.count }
         ensures quiet { (result ≡ KeepFail.Failed → ⊥) → self.new.count ≡ self.old.count }
+        ensures memory { result ≡ KeepFail.Memory → error ≡ SqliteFailure OutOfMemory }
+        ensures failed { result ≡ KeepFail.Failed → error ≡ SqliteFailure OutOfMemory → ⊥ }
+        ensures same { result ≡ KeepFail.Memory → self.new.last ≡ self.old.last }
     {
         if is_out_of_memory(&error) {
             KeepFail::Memory

@@ -1,6 +1,6 @@
 //! A keeper that gets its connection when it is opened.
 
-ghost use Rattle.std.specs.Prelude.{◌≡◌, IfSome};
+ghost use Rattle.std.specs.Prelude.{◌≡◌, ℕ, IfSome};
 ghost use Rattle.std.specs.Option.{option_map};
 ghost use Rattle.ut_sqlkeeper.specs.Opened.{opened_state, IsUnopened, IsOver};
 
@@ -66,6 +66,9 @@ impl<S: Alter + Drop> SqlKeeper<Ready<S>> {
     /// A keeper over this connection. It has to be opened too, since that makes the table.
     pub fn adopt(conn: Connection<S>) -> SqlKeeper<Ready<S>>
         ensures over { IsOver S.Store conn (⟦<SqlKeeper<Ready<S>> as Keeper>⟧.state result) }
+        ensures faults { (⟦<SqlKeeper<Ready<S>> as Keeper>⟧.state result).faults ≡ 0 }
+        ensures shown { (table : ℕ) → (⟦<SqlKeeper<Ready<S>> as Keeper>⟧.state result).shown table ≡ 0 }
+        ensures written { (⟦<SqlKeeper<Ready<S>> as Keeper>⟧.state result).written ≡ 0 }
     {
         SqlKeeper {
             opener: Ready::new(),

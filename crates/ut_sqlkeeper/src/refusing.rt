@@ -3,6 +3,8 @@
 ghost use Rattle.std.specs.Prelude.{◌≡◌, ◌⊎◌, ◌≤◌, IsTrue};
 ghost use Rattle.sqlite.specs.State.{HasCleanDisk, Survives};
 ghost use Rattle.sqlite.specs.Held.{state};
+ghost use Rattle.sqlite.specs.declared.error.Error.TheVariants.{SqliteFailure};
+ghost use Rattle.sqlite.specs.declared.error.ErrorCode.TheVariants.{OutOfMemory};
 ghost use Rattle.ut_value.specs.Causes.{Rose};
 ghost use Rattle.ut_sqlkeeper.specs.inner.Steps.{Keeps, Stays, WasOpen};
 
@@ -29,6 +31,8 @@ pub(crate) fn refuse_call<S: Alter>(
     ensures counts { refusals.old.count ≤ refusals.new.count }
     ensures cause { result ≡ KeepFail.Failed → Rose refusals.old.count refusals.new.count }
     ensures quiet { (result ≡ KeepFail.Failed → ⊥) → refusals.new.count ≡ refusals.old.count }
+    ensures memory { result ≡ KeepFail.Memory → error ≡ SqliteFailure OutOfMemory }
+    ensures same { result ≡ KeepFail.Memory → refusals.new.last ≡ refusals.old.last }
     ensures seen { HasCleanDisk (state S.Store conn.new)
         → IsTrue (state S.Store conn.new).is_open ⊎ Rose refusals.old.count refusals.new.count }
 {

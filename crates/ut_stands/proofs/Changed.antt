@@ -12,7 +12,7 @@ use Rattle.ut_model.specs.Tenant.{Tenant}
 use Rattle.ut_model.specs.World.{World, tenant_at, with_tenant}
 use Rattle.ut_stands.specs.Changes.{Change, IsOf, is_changed, with_change, with_changes}
 use Rattle.ut_stands.specs.Plan.{FitsPlan, OrgPlan, Plan, with_plan}
-use Rattle.ut_stands.specs.Stands.{StandsBy, all_tables, owner_of, row_at, row_in, rows_with}
+use Rattle.ut_stands.specs.Stands.{StandsBy, all_tables, org_of_key, row_at, row_in, rows_with}
 use Rattle.ut_stands.proofs.Lookups.{eqb_same, pick}
 use Rattle.ut_stands.proofs.Parts.{SameRows, changed, own}
 
@@ -53,7 +53,7 @@ after_is equal target (c ∷ cs) rows k are =
 
 -- a key of the organisation
 is_own : ℕ → Key → Bool
-is_own n k = option_eq eqb (owner_of k) (Some n)
+is_own n k = option_eq eqb (org_of_key k) (Some n)
 
 owned_so : (n : ℕ) (o : Option ℕ) → option_eq eqb o (Some n) ≡ true → o ≡ Some n
 owned_so n None e = absurd cc
@@ -63,7 +63,7 @@ own_is : (n : ℕ) (o : Option ℕ) → o ≡ Some n → option_eq eqb o (Some n
 own_is n o e = rw e (eqb_same n)
 
 pub edited : EqualKeys → PutsRows → RemovesRows → SameRows → (p : Plan) (m : Tables) (w : World) (n : ℕ) (t u : Tenant) (q : OrgPlan) (changes : List Change) → StandsBy p m w → tenant_at w n ≡ Some t → IsSound u → FitsPlan q u
-    → AllByRecursion (IsOf n q u) changes → ((k : Key) → owner_of k ≡ Some n → is_changed changes k ≡ false → row_in q u k ≡ row_in (p.org n) t k)
+    → AllByRecursion (IsOf n q u) changes → ((k : Key) → org_of_key k ≡ Some n → is_changed changes k ≡ false → row_in q u k ≡ row_in (p.org n) t k)
     → StandsBy (with_plan n q p) (with_changes changes m) (with_tenant w n u)
 edited equal puts removes same p m w n t u q changes s at sound fits are rest =
     changed same p m (with_changes changes m) w n t u q s at sound fits
@@ -74,12 +74,12 @@ edited equal puts removes same p m w n t u q changes s at sound fits are rest =
 
     targets : (cs : List Change) → AllByRecursion (IsOf n q u) cs → AllByRecursion (λ c. target c.0 ≡ c.1) cs
     targets [] h = tt
-    targets (c ∷ cs) h = (ap (λ b. cond b (row_in q u c.0) (row_at p w c.0)) (own_is n (owner_of c.0) h.0.1) ∙ h.0.2, targets cs h.1)
+    targets (c ∷ cs) h = (ap (λ b. cond b (row_in q u c.0) (row_at p w c.0)) (own_is n (org_of_key c.0) h.0.1) ∙ h.0.2, targets cs h.1)
 
     unchanged : (k : Key) → is_changed changes k ≡ false → row_at p w k ≡ target k
     unchanged k same_key =
-        pick (option_eq eqb (owner_of k) (Some n)) (λ b. row_at p w k ≡ cond b (row_in q u k) (row_at p w k))
-        (λ mine. let o = owned_so n (owner_of k) mine in own p w n t k at o ∙ sym (rest k o same_key))
+        pick (option_eq eqb (org_of_key k) (Some n)) (λ b. row_at p w k ≡ cond b (row_in q u k) (row_at p w k))
+        (λ mine. let o = owned_so n (org_of_key k) mine in own p w n t k at o ∙ sym (rest k o same_key))
         (λ _. refl)
 
     rows_are : (k : Key) → rows_after changes (row_at p w) k ≡ target k

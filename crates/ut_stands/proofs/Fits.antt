@@ -5,13 +5,13 @@ use Rattle.std.specs.List.{enumerate_from, find}
 use Rattle.std.specs.Option.{option_and_then, option_map}
 use Rattle.std.proofs.lemmas.Bool.{eqb-true}
 use Rattle.ut_model.specs.NewFields.{with_field}
-use Rattle.ut_model.specs.Objects.{object_at, with_object_changed}
+use Rattle.ut_model.specs.Objects.{object_numbered, with_object_changed}
 use Rattle.ut_model.specs.Retyping.{job_is_done}
 use Rattle.ut_model.specs.Sound.{IsSound}
 use Rattle.ut_model.specs.SoundJob.{HasSoundJob, job_field}
 use Rattle.ut_model.specs.Tenant.{Field, Job, Object, Tenant}
-use Rattle.ut_stands.specs.Entries.{field_in}
-use Rattle.ut_stands.specs.Plan.{FitsPlan, OrgPlan, has_field, is_clear, slot_count, type_there}
+use Rattle.ut_stands.specs.Entries.{slot_field}
+use Rattle.ut_stands.specs.Plan.{FitsPlan, OrgPlan, has_field, is_clearing, slot_count, type_there}
 use Rattle.ut_stands.specs.Records.{is_free, is_other, with_slot}
 use Rattle.ut_stands.proofs.Free.{and_right, free_field, not_true}
 use Rattle.ut_stands.proofs.Lookups.{eqb_less, eqb_same, get_below, get_past, get_push, none_is, pick, some_is}
@@ -27,7 +27,7 @@ there_is None e = absurd cc
 there_is (Some y) e = (y, refl)
 
 -- what is left is of its type under another slot too
-left_placed : (slots : ℕ → ℕ → ℕ) (p : OrgPlan) (t : Tenant) → FitsPlan p t → (j : Job) (i : List ℕ) (v : _) → t.job ≡ Some j → is_clear j.phase ≡ true → p.left i ≡ Some v → IsTrue (valid (type_there (placed slots p) j) v)
+left_placed : (slots : ℕ → ℕ → ℕ) (p : OrgPlan) (t : Tenant) → FitsPlan p t → (j : Job) (i : List ℕ) (v : _) → t.job ≡ Some j → is_clearing j.phase ≡ true → p.left i ≡ Some v → IsTrue (valid (type_there (placed slots p) j) v)
 left_placed slots p t fits j i v at clear left = subst (λ k. IsTrue (valid k v)) (sym (there_same slots p j j.phase j.outcome)) (fits.left j i v at clear left)
 
 -- the field with this number
@@ -59,7 +59,7 @@ fits_changed p t n change same fits = record {
     has_same m f (Some o) = pick (eqb m n) (λ b. is_some (slice_get (cond b (change o) o).fields f) ≡ is_some (slice_get o.fields f)) (λ _. ap (λ (fs : List Field). is_some (slice_get fs f)) (same o)) (λ _. refl)
 
     kept : (m f : ℕ) → IsTrue (has_field (with_object_changed n change t) m f) → IsTrue (has_field t m f)
-    kept m f has = sym (has_same m f (object_at t m)) ∙ sym (ap (has_in f) (get_changed n change t.objects m)) ∙ has
+    kept m f has = sym (has_same m f (object_numbered t m)) ∙ sym (ap (has_in f) (get_changed n change t.objects m)) ∙ has
 
 -- ---- one more object
 
@@ -81,9 +81,9 @@ module _ (p : OrgPlan) (t : Tenant) (o : Object) (s : ℕ) (sound : IsSound t) (
       (sym (ap (has_in f) (get_push t.objects o m)) ∙ has)
 
   old_apart : (m f : ℕ) → IsTrue (has_field t m f) → eqb m (length t.objects) ≡ false
-  old_apart m f has = by (object_at t m) refl
+  old_apart m f has = by (object_numbered t m) refl
     where
-      by : (x : Option Object) → object_at t m ≡ x → eqb m (length t.objects) ≡ false
+      by : (x : Option Object) → object_numbered t m ≡ x → eqb m (length t.objects) ≡ false
       by None gone = absurd (no_field (sym (ap (has_in f) gone) ∙ has))
         where
           no_field : false ≡ true → ⊥
@@ -125,12 +125,12 @@ module _ (p : OrgPlan) (t : Tenant) (o : Object) (s : ℕ) (sound : IsSound t) (
 
       -- a change is of an object of before
       job_there : (j : Job) → t.job ≡ Some j → j.object ≡ length t.objects → ⊥
-      job_there j at e = by (object_at t j.object) refl
+      job_there j at e = by (object_numbered t j.object) refl
         where
           sj : HasSoundJob t.counter t.objects t.records (Some j)
           sj = subst (λ (x : Option Job). HasSoundJob t.counter t.objects t.records x) at sound.job
 
-          by : (x : Option Object) → object_at t j.object ≡ x → ⊥
+          by : (x : Option Object) → object_numbered t j.object ≡ x → ⊥
           by None gone = none_is sj.field (sym (ap (option_and_then (λ (x : Object). slice_get x.fields j.field)) gone) ∙ sj.there)
           by (Some x) there = none_is x (sym (get_past t.objects) ∙ sym (ap (slice_get t.objects) e) ∙ there)
 
@@ -147,7 +147,7 @@ module _ (p : OrgPlan) (t : Tenant) (o : Object) (s : ℕ) (sound : IsSound t) (
 
 -- ---- one more field
 
-module _ (p : OrgPlan) (t : Tenant) (n : ℕ) (o : Object) (f : Field) (s : ℕ) (sound : IsSound t) (here : object_at t n ≡ Some o) (below : s < slot_count) (vacant : IsTrue (is_free p t.job n o s)) (fits : FitsPlan p t) where
+module _ (p : OrgPlan) (t : Tenant) (n : ℕ) (o : Object) (f : Field) (s : ℕ) (sound : IsSound t) (here : object_numbered t n ≡ Some o) (below : s < slot_count) (vacant : IsTrue (is_free p t.job n o s)) (fits : FitsPlan p t) where
   abbrev wide : Tenant
   wide = with_field n f t
 
@@ -157,7 +157,7 @@ module _ (p : OrgPlan) (t : Tenant) (n : ℕ) (o : Object) (f : Field) (s : ℕ)
   abbrev IsNew : ℕ → ℕ → Type 0
   IsNew m g = (m ≡ n) × (g ≡ length o.fields)
 
-  one_of : (m g : ℕ) (x : Option Object) → object_at t m ≡ x → has_in g (option_map (λ (y : Object). cond (eqb m n) (record y { fields = y.fields ++ f ∷ [] }) y) x) ≡ true → IsTrue (has_in g x) ⊎ IsNew m g
+  one_of : (m g : ℕ) (x : Option Object) → object_numbered t m ≡ x → has_in g (option_map (λ (y : Object). cond (eqb m n) (record y { fields = y.fields ++ f ∷ [] }) y) x) ≡ true → IsTrue (has_in g x) ⊎ IsNew m g
   one_of m g None at has = absurd cc
   one_of m g (Some x) at has =
       pick (eqb m n) (λ b. is_some (slice_get (cond b (record x { fields = x.fields ++ f ∷ [] }) x).fields g) ≡ true → IsTrue (has_in g (Some x)) ⊎ IsNew m g)
@@ -172,7 +172,7 @@ module _ (p : OrgPlan) (t : Tenant) (n : ℕ) (o : Object) (f : Field) (s : ℕ)
       has
 
   each : (m g : ℕ) → IsTrue (has_field wide m g) → IsTrue (has_field t m g) ⊎ IsNew m g
-  each m g has = one_of m g (object_at t m) refl (sym (ap (has_in g) (get_changed n (λ (y : Object). record y { fields = y.fields ++ f ∷ [] }) t.objects m)) ∙ has)
+  each m g has = one_of m g (object_numbered t m) refl (sym (ap (has_in g) (get_changed n (λ (y : Object). record y { fields = y.fields ++ f ∷ [] }) t.objects m)) ∙ has)
 
   -- a field of this object is one of its list
   listed : (g : ℕ) → IsTrue (has_field t n g) → (x : Field) × (slice_get o.fields g ≡ Some x)
@@ -233,12 +233,12 @@ module _ (p : OrgPlan) (t : Tenant) (n : ℕ) (o : Object) (f : Field) (s : ℕ)
     where
       -- a change is of a field of before
       kept_field : (j : Job) → t.job ≡ Some j → job_field wide.objects j ≡ job_field t.objects j
-      kept_field j at = ap (field_of j.field) (get_changed n (λ (y : Object). record y { fields = y.fields ++ f ∷ [] }) t.objects j.object) ∙ by (object_at t j.object) refl
+      kept_field j at = ap (field_of j.field) (get_changed n (λ (y : Object). record y { fields = y.fields ++ f ∷ [] }) t.objects j.object) ∙ by (object_numbered t j.object) refl
         where
           sj : HasSoundJob t.counter t.objects t.records (Some j)
           sj = subst (λ (x : Option Job). HasSoundJob t.counter t.objects t.records x) at sound.job
 
-          by : (x : Option Object) → object_at t j.object ≡ x → field_of j.field (option_map (λ (y : Object). cond (eqb j.object n) (record y { fields = y.fields ++ f ∷ [] }) y) x) ≡ field_of j.field x
+          by : (x : Option Object) → object_numbered t j.object ≡ x → field_of j.field (option_map (λ (y : Object). cond (eqb j.object n) (record y { fields = y.fields ++ f ∷ [] }) y) x) ≡ field_of j.field x
           by None e = refl
           by (Some x) e =
               let there : slice_get x.fields j.field ≡ Some sj.field = sym (ap (field_of j.field) e) ∙ sj.there in
@@ -267,7 +267,7 @@ module _ (p : OrgPlan) (t : Tenant) (n : ℕ) (o : Object) (f : Field) (s : ℕ)
       apart_by j at busy g (inr new) e =
           let its : p.other ≡ s = sym e ∙ last_slot j.object g new in
           clash
-          (subst (λ (x : Option Job). is_other p x n s ≡ false) at (not_true (is_other p t.job n s) (and_right (is_none (field_in p n o.fields s)) (not (is_other p t.job n s)) vacant)))
+          (subst (λ (x : Option Job). is_other p x n s ≡ false) at (not_true (is_other p t.job n s) (and_right (is_none (slot_field p n o.fields s)) (not (is_other p t.job n s)) vacant)))
           (other_is j busy new.0 its)
         where
           other_is : (j : Job) → job_is_done j.phase ≡ false → j.object ≡ n → p.other ≡ s → is_other p (Some j) n s ≡ true

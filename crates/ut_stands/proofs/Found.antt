@@ -1,13 +1,15 @@
 -- What is read at a key of an organisation is what its tenant has there, for all forms of rows.
-use Rattle.std.proofs.Common.{◌≡◌, ℕ, zero, suc, Bool, true, false, cond, Option, Some, None, List, [], ◌∷◌, refl, sym, ap, subst, ◌∙◌}
-use Rattle.std.specs.Prelude.{Result, Ok, Err, slice_get}
+use Rattle.std.proofs.Common.{◌≡◌, ℕ, ◌<◌, ◌^◌, zero, suc, Bool, true, false, cond, Option, Some, None, List, [], ◌∷◌, refl, sym, ap, subst, ◌∙◌}
+use Rattle.std.specs.Prelude.{IfOk, IfSome, IsErrOf, Result, Ok, Err, is_ok, slice_get}
 use Rattle.std.specs.List.{AllByRecursion}
 use Rattle.std.specs.Option.{option_and_then, option_map}
 use Rattle.std.specs.FinMap as map
+use Rattle.std.specs.FinMap.{IsAntisymmetric}
 use Rattle.std.specs.Str.{bytes_eq}
 use Rattle.std.proofs.lemmas.Slice.Eq.{bytes_eq-Decides}
 use Rattle.ut_parts.specs.Shapes.{FitsIn, Val}
-use Rattle.ut_keeper.specs.Tables.{Tables}
+use Rattle.ut_keeper.specs.State.{KeeperCause, KeeperState, StaysAfter}
+use Rattle.ut_keeper.specs.Tables.{Tables, place_cmp}
 use Rattle.ut_keys.specs.declared.fail.StoreFail.{StoreFail}
 use Rattle.ut_keys.specs.declared.fail.StoreFail.TheVariants.{Keeper, Memory, Damaged}
 use Rattle.ut_keys.specs.Forms.{Form, row_bytes}
@@ -15,12 +17,14 @@ use Rattle.ut_keys.specs.Keys.{Key, Version, spell}
 use Rattle.ut_keys.specs.Reads.{FoundAs, MayStandAt, ReadsAs}
 use Rattle.ut_model.specs.Sound.{IsSound}
 use Rattle.ut_model.specs.Tenant.{Tenant}
-use Rattle.ut_model.specs.World.{World, tenant_at, with_id}
+use Rattle.ut_model.specs.World.{World, having_id, tenant_at}
+use Rattle.ut_stands.specs.Calls.{HasFallen, ended, is_done}
 use Rattle.ut_stands.specs.Layouts.{FindsBy}
+use Rattle.ut_stands.specs.Local.{FindsIn, StandsIn, is_own}
 use Rattle.ut_stands.specs.Plan.{FitsPlan, OrgPlan, Plan}
-use Rattle.ut_stands.specs.Reads.{FindsAs}
-use Rattle.ut_stands.specs.Stands.{StandsBy, owned_row, owner_of, row_at, row_in}
-use Rattle.ut_stands.proofs.Lookups.{some_is}
+use Rattle.ut_stands.specs.Stands.{StandsBy, org_of_key, owned_row, row_at, row_in}
+use Rattle.ut_stands.proofs.Lookups.{eqb_same, some_is}
+use Rattle.ut_stands.proofs.Places.{PrefixLaws, part_at, place_is}
 
 -- what is read is what stands there, as `ut_keys` says
 abbrev pub FindsRow : {U : Type 0} → Form U → Type 0
@@ -41,62 +45,94 @@ map_twice f g None = refl
 map_twice f g (Some x) = refl
 
 -- the thing with an id has that id, and what holds of each holds of it
-pub found_with_id : {X : Type 0} (id : X → List ℕ) (P : X → Type 0) (xs : List X) (i : List ℕ) (x : X) → AllByRecursion P xs → with_id id xs i ≡ Some x → (id x ≡ i) × P x
+pub found_with_id : {X : Type 0} (id : X → List ℕ) (P : X → Type 0) (xs : List X) (i : List ℕ) (x : X) → AllByRecursion P xs → having_id id xs i ≡ Some x → (id x ≡ i) × P x
 found_with_id id P [] i x h e = absurd cc
 found_with_id {X = X} id P (y ∷ ys) i x h e = by (found_with_id id P ys i x h.1) (bytes_eq i (id y)) refl
   where
-    by : (with_id id ys i ≡ Some x → (id x ≡ i) × P x) → (b : Bool) → bytes_eq i (id y) ≡ b → (id x ≡ i) × P x
+    by : (having_id id ys i ≡ Some x → (id x ≡ i) × P x) → (b : Bool) → bytes_eq i (id y) ≡ b → (id x ≡ i) × P x
     by rest true same =
-        let is : y ≡ x = some_is y x (sym (ap (λ (b : Bool). cond b (Some y) (with_id id ys i)) same) ∙ e) in
+        let is : y ≡ x = some_is y x (sym (ap (λ (b : Bool). cond b (Some y) (having_id id ys i)) same) ∙ e) in
         subst (λ (z : X). (id z ≡ i) × P z) is (sym ((bytes_eq-Decides i (id y)).0 same), h.0)
-    by rest false same = rest (sym (ap (λ (b : Bool). cond b (Some y) (with_id id ys i)) same) ∙ e)
+    by rest false same = rest (sym (ap (λ (b : Bool). cond b (Some y) (having_id id ys i)) same) ∙ e)
 
 -- the row at a key of an organisation
-pub owned_at : (p : Plan) (w : World) (n : ℕ) (k : Key) → owner_of k ≡ Some n → row_at p w k ≡ option_and_then (λ t. row_in (p.org n) t k) (tenant_at w n)
+pub owned_at : (p : Plan) (w : World) (n : ℕ) (k : Key) → org_of_key k ≡ Some n → row_at p w k ≡ option_and_then (λ t. row_in (p.org n) t k) (tenant_at w n)
 unfolding row_at
 owned_at p w n Version e = absurd cc
 owned_at p w n k e = ap (owned_row p w k) e
 
 -- a row that a tenant has at a key of its organisation, or none: `there`
 pub record IsRowOf {U : Type 0} (f : Form U) (org : ℕ) (key : Val f.key) (there : OrgPlan → Tenant → Option U) : Type 0 where
-  pub owned : owner_of (f.named key) ≡ Some org
+  pub owned : org_of_key (f.named key) ≡ Some org
   pub fits : FitsIn f.key key
   pub rows : (p : OrgPlan) (t : Tenant) → row_in p t (f.named key) ≡ option_map (row_bytes f) (there p t)
   pub stands : (p : OrgPlan) (t : Tenant) → IsSound t → FitsPlan p t → MayStandAt f key (there p t)
 
--- the same of a world
-abbrev pub row_of : {U : Type 0} → (org : ℕ) → (OrgPlan → Tenant → Option U) → Plan → World → Option U
-row_of org there p w = option_and_then (there (p.org org)) (tenant_at w org)
+-- the same of an organisation that is a tenant or isn't there
+abbrev pub row_in_org : {U : Type 0} → (OrgPlan → Tenant → Option U) → OrgPlan → Option Tenant → Option U
+row_in_org there q t = option_and_then (there q) t
 
-module _ {U : Type 0} (f : Form U) (org : ℕ) (key : Val f.key) (there : OrgPlan → Tenant → Option U) (h : IsRowOf f org key there) where
-  kept_in_tenant : (p : OrgPlan) (o : Option Tenant) → option_and_then (λ t. row_in p t (f.named key)) o ≡ option_map (row_bytes f) (option_and_then (there p) o)
-  kept_in_tenant p None = refl
-  kept_in_tenant p (Some t) = h.rows p t
+module _ (laws : PrefixLaws) (exact : IsAntisymmetric place_cmp) {U : Type 0} (f : Form U) (org : ℕ) (lo : org < 2 ^ 32) (key : Val f.key) (there : OrgPlan → Tenant → Option U) (h : IsRowOf f org key there) where
+  mine : is_own org (f.named key) ≡ true
+  mine = rw h.owned (eqb_same org)
 
-  pub kept_there : (p : Plan) (m : Tables) (w : World) → StandsBy p m w → map.get m (spell (f.named key)) ≡ option_map (row_bytes f) (row_of org there p w)
-  kept_there p m w s =
-      s.rows.at (f.named key) (f.fits key h.fits) ∙ owned_at p w org (f.named key) h.owned ∙ kept_in_tenant (p.org org) (tenant_at w org)
+  in_tenant : (q : OrgPlan) (o : Option Tenant) → option_and_then (λ (t : Tenant). row_in q t (f.named key)) o ≡ option_map (row_bytes f) (option_and_then (there q) o)
+  in_tenant q None = refl
+  in_tenant q (Some t) = h.rows q t
 
-  stands_in : (p : Plan) (m : Tables) (w : World) → StandsBy p m w → (o : Option Tenant) → tenant_at w org ≡ o → MayStandAt f key (option_and_then (there (p.org org)) o)
-  stands_in p m w s None e = tt
-  stands_in p m w s (Some t) e = h.stands (p.org org) t (sound_tenant w org t s.world.tenants e) (s.plans org t e)
+  pub kept_there : (q : OrgPlan) (m : Tables) (t : Option Tenant) → StandsIn org q m t → map.get m (spell (f.named key)) ≡ option_map (row_bytes f) (option_and_then (there q) t)
+  kept_there q m t s =
+      let fits = f.fits key h.fits in
+      sym (part_at exact org m (spell (f.named key)) ∙ ap (λ b. cond b (map.get m (spell (f.named key))) None) (place_is laws org (f.named key) lo fits ∙ mine))
+      ∙ s.rows.at (f.named key) fits ∙ ap (λ b. cond b (option_and_then (λ (u : Tenant). row_in q u (f.named key)) t) None) mine ∙ in_tenant q t
 
-  pub stands_there : (p : Plan) (m : Tables) (w : World) → StandsBy p m w → MayStandAt f key (row_of org there p w)
-  stands_there p m w s = stands_in p m w s (tenant_at w org) refl
+  pub stands_there : (q : OrgPlan) (m : Tables) (t : Option Tenant) → StandsIn org q m t → MayStandAt f key (option_and_then (there q) t)
+  stands_there q m None s = tt
+  stands_there q m (Some t) s = h.stands q t s.sound s.plan
 
   -- what is read at the key is what the tenant has there
-  pub row_finds : FindsRow f → (m : Tables) (r : Result (Option U) StoreFail) → ReadsAs f key (map.get m (spell (f.named key))) r → FindsBy (row_of org there) m r
-  row_finds finds m r e = by r (λ p w s. finds key (map.get m (spell (f.named key))) (row_of org there p w) r e (kept_there p m w s) (stands_there p m w s))
+  pub row_finds : FindsRow f → (m : Tables) (r : Result (Option U) StoreFail) → ReadsAs f key (map.get m (spell (f.named key))) r → FindsIn org (row_in_org there) m r
+  row_finds finds m r e = by r (λ q t s. finds key (map.get m (spell (f.named key))) (option_and_then (there q) t) r e (kept_there q m t s) (stands_there q m t s))
     where
-      by : (r : Result (Option U) StoreFail) → ((p : Plan) (w : World) → StandsBy p m w → FoundAs f (row_of org there p w) r) → FindsBy (row_of org there) m r
+      by : (r : Result (Option U) StoreFail) → ((q : OrgPlan) (t : Option Tenant) → StandsIn org q m t → FoundAs f (option_and_then (there q) t) r) → FindsIn org (row_in_org there) m r
       by (Ok u) g = g
       by (Err Damaged) g = g
       by (Err Keeper) g = tt
       by (Err Memory) g = tt
 
--- what is found by a plan, whatever the plan, is found as it is in the world
-pub found_as : {X : Type 0} (v : Plan → World → X) (u : World → X) (m : Tables) (r : Result X StoreFail) → ((p : Plan) (w : World) → v p w ≡ u w) → FindsBy v m r → FindsAs u m r
-found_as v u m (Ok x) same h = λ w s. h s.0 w s.1 ∙ same s.0 w
-found_as v u m (Err Damaged) same h = λ w s. h s.0 w s.1
-found_as v u m (Err Keeper) same h = tt
-found_as v u m (Err Memory) same h = tt
+-- the same value by other words
+pub found_same : {X : Type 0} (n : ℕ) (v u : OrgPlan → Option Tenant → X) (m : Tables) (r : Result X StoreFail) → ((q : OrgPlan) (t : Option Tenant) → v q t ≡ u q t) → FindsIn n v m r → FindsIn n u m r
+found_same n v u m (Ok x) same h = λ q t s. h q t s ∙ same q t
+found_same n v u m (Err Damaged) same h = h
+found_same n v u m (Err Keeper) same h = tt
+found_same n v u m (Err Memory) same h = tt
+
+-- what each organisation has, each world has there
+pub found_by : {X : Type 0} (n : ℕ) (v : OrgPlan → Option Tenant → X) (m : Tables) (r : Result X StoreFail) → ((p : Plan) (w : World) → StandsBy p m w → StandsIn n (p.org n) m (tenant_at w n))
+    → FindsIn n v m r → FindsBy (λ p w. v (p.org n) (tenant_at w n)) m r
+found_by n v m (Ok x) each h = λ p w s. h (p.org n) (tenant_at w n) (each p w s)
+found_by n v m (Err Damaged) each h = λ p w s. h (p.org n) (tenant_at w n) (each p w s)
+found_by n v m (Err Keeper) each h = tt
+found_by n v m (Err Memory) each h = tt
+
+-- a row that is read has the key that it was asked by
+pub key_found : {U : Type 0} (f : Form U) (k : Val f.key) (kept : Option (List ℕ)) (r : Result (Option U) StoreFail) → ReadsAs f k kept r → IfOk r (λ found. IfSome found (λ u. f.keyed u ≡ k))
+key_found f k kept (Ok None) h = tt
+key_found f k kept (Ok (Some u)) h = h.has_key
+key_found f k kept (Err e) h = tt
+
+-- a call that was done returned `Ok`, and one that fell returned the keeper's failure
+pub stays_so : {X : Type 0} (old new : KeeperState) (r : Result X StoreFail) → StaysAfter (is_done (ended r)) old new → StaysAfter (is_ok r) old new
+stays_so old new (Ok x) h = h
+stays_so old new (Err Damaged) h = h
+stays_so old new (Err Keeper) h = h
+stays_so old new (Err Memory) h = h
+
+pub cause_so : {X : Type 0} (old new : KeeperState) (r : Result X StoreFail) → KeeperCause old new (HasFallen (ended r)) → KeeperCause old new (IsErrOf r Keeper)
+cause_so {X = X} old new r h = record { rose = λ failed. h.rose (fallen r failed); never = λ sure failed. h.never sure (fallen r failed) }
+  where
+    fallen : (r : Result X StoreFail) → IsErrOf r Keeper → HasFallen (ended r)
+    fallen (Ok x) f = absurd cc
+    fallen (Err Damaged) f = absurd cc
+    fallen (Err Keeper) f = tt
+    fallen (Err Memory) f = absurd cc

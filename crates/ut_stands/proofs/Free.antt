@@ -7,7 +7,7 @@ use Rattle.std.proofs.lemmas.Bool.{eqb-true}
 use Rattle.ut_model.specs.declared.record.Record.{Record}
 use Rattle.ut_model.specs.Retyping.{job_is_done}
 use Rattle.ut_model.specs.Tenant.{Field, Job, Object, Tenant}
-use Rattle.ut_stands.specs.Entries.{entry, field_in, job_entry, job_value, other_entry}
+use Rattle.ut_stands.specs.Entries.{job_entry, job_value, other_entry, slot_entry, slot_field}
 use Rattle.ut_stands.specs.Plan.{OrgPlan, slot_count}
 use Rattle.ut_model.specs.Cases.{in_case}
 use Rattle.ut_stands.specs.Layouts.{job_place, layout_of, place_of}
@@ -113,8 +113,8 @@ is_missing None e = refl
 is_missing (Some x) e = absurd cc
 
 -- no field has a free slot
-pub free_field : (p : OrgPlan) (job : Option Job) (n : ℕ) (o : Object) (s : ℕ) → IsTrue (is_free p job n o s) → field_in p n o.fields s ≡ None
-free_field p job n o s e = is_missing (field_in p n o.fields s) (and_left (is_none (field_in p n o.fields s)) (not (is_other p job n s)) e)
+pub free_field : (p : OrgPlan) (job : Option Job) (n : ℕ) (o : Object) (s : ℕ) → IsTrue (is_free p job n o s) → slot_field p n o.fields s ≡ None
+free_field p job n o s e = is_missing (slot_field p n o.fields s) (and_left (is_none (slot_field p n o.fields s)) (not (is_other p job n s)) e)
 
 pub not_true : (b : Bool) → not b ≡ true → b ≡ false
 not_true false e = refl
@@ -142,11 +142,11 @@ free_other p (Some j) n o r s e =
     is_done true e = refl
     is_done false e = absurd cc
 
-pub free_entry : (p : OrgPlan) (job : Option Job) (n : ℕ) (o : Object) (r : Record) (s : ℕ) → IsTrue (is_free p job n o s) → entry p job n o r s ≡ None
-unfolding entry
+pub free_entry : (p : OrgPlan) (job : Option Job) (n : ℕ) (o : Object) (r : Record) (s : ℕ) → IsTrue (is_free p job n o s) → slot_entry p job n o r s ≡ None
+unfolding slot_entry
 free_entry p job n o r s e =
     rw (free_field p job n o s e)
-    (free_other p job n o r s (not_true (is_other p job n s) (and_right (is_none (field_in p n o.fields s)) (not (is_other p job n s)) e)))
+    (free_other p job n o r s (not_true (is_other p job n s) (and_right (is_none (slot_field p n o.fields s)) (not (is_other p job n s)) e)))
 
 -- ---- the same by a layout
 

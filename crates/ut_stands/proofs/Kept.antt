@@ -9,10 +9,10 @@ use Rattle.ut_keys.specs.Keys.{Key, Data, Index, Unique, Relation}
 use Rattle.ut_keys.specs.Rows.{data_form, unique_form}
 use Rattle.ut_model.specs.declared.record.Record.{Record}
 use Rattle.ut_model.specs.Membership.{Has}
-use Rattle.ut_model.specs.Objects.{is_of, object_at}
+use Rattle.ut_model.specs.Objects.{is_of, object_numbered}
 use Rattle.ut_model.specs.Tenant.{Object, Tenant}
-use Rattle.ut_model.specs.World.{with_id}
-use Rattle.ut_stands.specs.Entries.{Entry, data_of, entry, entry_text, is_indexed, is_reference_to, is_unique, slots_of}
+use Rattle.ut_model.specs.World.{having_id}
+use Rattle.ut_stands.specs.Entries.{Entry, data_of, entry_text, is_indexed, is_reference_to, is_unique, slot_entry, slots_of}
 use Rattle.ut_stands.specs.Plan.{OrgPlan, slot_count}
 use Rattle.ut_stands.specs.Records.{Alike, KeptAlike, object_of_records}
 use Rattle.ut_stands.specs.Stands.{Kept, kept_at, kept_in, row_in, row_where, unique_at, unique_of}
@@ -68,31 +68,31 @@ module _ (p q : OrgPlan) (t u : Tenant) (n : ℕ) (o v : Object) (change : Recor
   abbrev of_old : Option Record → Option Kept
   of_old x = option_and_then (λ (r : Record). if is_of n r then Some (kept_in p t n o r) else None) x
 
-  found : (rs : List Record) (id : List ℕ) → AllAlike rs → KeptSame (of_new (with_id (λ r. r.id) (map change rs) id)) (of_old (with_id (λ r. r.id) rs id))
+  found : (rs : List Record) (id : List ℕ) → AllAlike rs → KeptSame (of_new (having_id (λ r. r.id) (map change rs) id)) (of_old (having_id (λ r. r.id) rs id))
   found [] id all = tt
   found (r ∷ rs) id all =
-      subst (λ (i : List ℕ). KeptSame (of_new (cond (bytes_eq id i) (Some (change r)) (with_id (λ r. r.id) (map change rs) id))) (of_old (cond (bytes_eq id r.id) (Some r) (with_id (λ r. r.id) rs id)))) (sym (ids r))
-      (pick (bytes_eq id r.id) (λ b. KeptSame (of_new (cond b (Some (change r)) (with_id (λ r. r.id) (map change rs) id))) (of_old (cond b (Some r) (with_id (λ r. r.id) rs id))))
+      subst (λ (i : List ℕ). KeptSame (of_new (cond (bytes_eq id i) (Some (change r)) (having_id (λ r. r.id) (map change rs) id))) (of_old (cond (bytes_eq id r.id) (Some r) (having_id (λ r. r.id) rs id)))) (sym (ids r))
+      (pick (bytes_eq id r.id) (λ b. KeptSame (of_new (cond b (Some (change r)) (having_id (λ r. r.id) (map change rs) id))) (of_old (cond b (Some r) (having_id (λ r. r.id) rs id))))
       (λ _. rw (of_same r) (pick (is_of n r) (λ b. KeptSame (cond b (Some (kept_in q u n v (change r))) None) (cond b (Some (kept_in p t n o r)) None)) (λ e. all r (inl refl) e) (λ _. tt)))
       (λ _. found rs id (λ s h. all s (inr h))))
 
   -- the first of them whose value is unique and has a key
   unique_found : {Y : Type 0} (row : List ℕ → Y) (slot : ℕ) (key : List ℕ) (rs : List Record) → AllAlike rs
-      → option_map (λ (r : Record). row r.id) (find (λ r. is_unique key (entry q u.job n v r slot)) (filter (is_of n) (map change rs)))
-      ≡ option_map (λ (r : Record). row r.id) (find (λ r. is_unique key (entry p t.job n o r slot)) (filter (is_of n) rs))
+      → option_map (λ (r : Record). row r.id) (find (λ r. is_unique key (slot_entry q u.job n v r slot)) (filter (is_of n) (map change rs)))
+      ≡ option_map (λ (r : Record). row r.id) (find (λ r. is_unique key (slot_entry p t.job n o r slot)) (filter (is_of n) rs))
   unique_found row slot key [] all = refl
   unique_found row slot key (r ∷ rs) all =
       rw (of_same r)
-      (pick (is_of n r) (λ b. option_map (λ (r : Record). row r.id) (find (λ r. is_unique key (entry q u.job n v r slot)) (cond b (change r ∷ filter (is_of n) (map change rs)) (filter (is_of n) (map change rs))))
-      ≡ option_map (λ (r : Record). row r.id) (find (λ r. is_unique key (entry p t.job n o r slot)) (cond b (r ∷ filter (is_of n) rs) (filter (is_of n) rs))))
+      (pick (is_of n r) (λ b. option_map (λ (r : Record). row r.id) (find (λ r. is_unique key (slot_entry q u.job n v r slot)) (cond b (change r ∷ filter (is_of n) (map change rs)) (filter (is_of n) (map change rs))))
+      ≡ option_map (λ (r : Record). row r.id) (find (λ r. is_unique key (slot_entry p t.job n o r slot)) (cond b (r ∷ filter (is_of n) rs) (filter (is_of n) rs))))
       (λ e. rw (((all r (inl refl) e).entries slot).unique key)
-      (pick (is_unique key (entry p t.job n o r slot)) (λ b. option_map (λ (r : Record). row r.id) (cond b (Some (change r)) (find (λ r. is_unique key (entry q u.job n v r slot)) (filter (is_of n) (map change rs))))
-      ≡ option_map (λ (r : Record). row r.id) (cond b (Some r) (find (λ r. is_unique key (entry p t.job n o r slot)) (filter (is_of n) rs))))
+      (pick (is_unique key (slot_entry p t.job n o r slot)) (λ b. option_map (λ (r : Record). row r.id) (cond b (Some (change r)) (find (λ r. is_unique key (slot_entry q u.job n v r slot)) (filter (is_of n) (map change rs))))
+      ≡ option_map (λ (r : Record). row r.id) (cond b (Some r) (find (λ r. is_unique key (slot_entry p t.job n o r slot)) (filter (is_of n) rs))))
       (λ _. ap (λ i. Some (row i)) (ids r))
       (λ _. unique_found row slot key rs (λ s h. all s (inr h)))))
       (λ _. unique_found row slot key rs (λ s h. all s (inr h))))
 
-  module _ (here : object_at t n ≡ Some o) (there : object_at u n ≡ Some v) (records : u.records ≡ map change t.records) (all : AllAlike t.records) where
+  module _ (here : object_numbered t n ≡ Some o) (there : object_numbered u n ≡ Some v) (records : u.records ≡ map change t.records) (all : AllAlike t.records) where
     kept_same : (id : List ℕ) → KeptSame (kept_at q u n id) (kept_at p t n id)
     unfolding kept_at
     kept_same id = rw (here, there, records) (found t.records id all)
@@ -126,10 +126,10 @@ module _ (p : OrgPlan) (t : Tenant) (n : ℕ) where
   abbrev NoneOf : List Record → Type 0
   NoneOf rs = (r : Record) → Has rs r → is_of n r ≡ false
 
-  none_found : (of : Record → Option Kept) (rs : List Record) (id : List ℕ) → NoneOf rs → option_and_then (λ (r : Record). if is_of n r then of r else None) (with_id (λ r. r.id) rs id) ≡ None
+  none_found : (of : Record → Option Kept) (rs : List Record) (id : List ℕ) → NoneOf rs → option_and_then (λ (r : Record). if is_of n r then of r else None) (having_id (λ r. r.id) rs id) ≡ None
   none_found of [] id idle = refl
   none_found of (r ∷ rs) id idle =
-      pick (bytes_eq id r.id) (λ b. option_and_then (λ (r : Record). if is_of n r then of r else None) (cond b (Some r) (with_id (λ r. r.id) rs id)) ≡ None)
+      pick (bytes_eq id r.id) (λ b. option_and_then (λ (r : Record). if is_of n r then of r else None) (cond b (Some r) (having_id (λ r. r.id) rs id)) ≡ None)
       (λ _. rw (idle r (inl refl)) refl)
       (λ _. none_found of rs id (λ s h. idle s (inr h)))
 
@@ -140,10 +140,10 @@ module _ (p : OrgPlan) (t : Tenant) (n : ℕ) where
   module _ (idle : NoneOf t.records) where
     none_at : (id : List ℕ) → kept_at p t n id ≡ None
     unfolding kept_at
-    none_at id = none_found (λ r. option_map (λ o. kept_in p t n o r) (object_at t n)) t.records id idle
+    none_at id = none_found (λ r. option_map (λ o. kept_in p t n o r) (object_numbered t n)) t.records id idle
 
     none_unique : (slot : ℕ) (key : List ℕ) → unique_at p t n slot key ≡ None
-    none_unique slot key = rw (none_of t.records idle) (nothing (object_at t n))
+    none_unique slot key = rw (none_of t.records idle) (nothing (object_numbered t n))
 
     pub none : (k : Key) → object_of_records k ≡ Some n → row_in p t k ≡ None
     unfolding row_in

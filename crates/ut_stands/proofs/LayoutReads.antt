@@ -1,12 +1,13 @@
--- What is read of an organisation's objects and fields is what the world has there.
-use Rattle.std.proofs.Common.{◌≡◌, ℕ, suc, ◌+◌, ◌<◌, ◌≤◌, ◌^◌, Bool, true, false, cond, eqb, Option, Some, None, List, [], ◌∷◌, ◌++◌, length, refl, sym, ap, subst, ◌∙◌, arith, map, take}
+-- What is read of an organisation's objects and fields is what its tenant has there.
+use Rattle.std.proofs.Common.{◌≡◌, ℕ, suc, ◌+◌, ◌<◌, ◌≤◌, ◌^◌, ◌==◌, Bool, true, false, not, cond, eqb, IsTrue, Option, Some, None, List, [], ◌∷◌, ◌++◌, length, refl, sym, ap, subst, ◌∙◌, arith, map, take}
 use Rattle.std.specs.Prelude.{Result, Ok, Err, Vec, slice_get}
 use Rattle.std.specs.List.{enumerate_from, find}
 use Rattle.std.specs.Option.{option_and_then, option_map}
-use Rattle.std.proofs.lemmas.List.{length-map, map_push, take_all}
+use Rattle.std.proofs.lemmas.List.{append-nil, length-map, map_push, take_all}
 use Rattle.std.proofs.lemmas.List.FromFn.{length-enumerate_from}
+use Rattle.ut_keeper.specs.declared.keeper.KeptRow.{KeptRow}
 use Rattle.ut_keeper.specs.Prefixes.{raised}
-use Rattle.ut_keeper.specs.Tables.{Tables}
+use Rattle.ut_keeper.specs.Tables.{Tables, is_between, rows_between}
 use Rattle.ut_keys.specs.declared.fail.StoreFail.{StoreFail}
 use Rattle.ut_keys.specs.declared.fail.StoreFail.TheVariants.{Keeper, Memory, Damaged}
 use Rattle.ut_keys.specs.declared.field.FieldRow.{FieldRow}
@@ -18,91 +19,93 @@ use Rattle.ut_keys.specs.Rows.{field_form, object_form}
 use Rattle.ut_parts.specs.Plain.{number16, number32}
 use Rattle.ut_model.specs.Cases.{in_case}
 use Rattle.ut_model.specs.Fields.{same_name}
-use Rattle.ut_model.specs.Objects.{Numbered, numbered, object_at, object_named}
+use Rattle.ut_model.specs.Objects.{Numbered, object_named, object_numbered}
 use Rattle.ut_model.specs.Tenant as model
 use Rattle.ut_model.specs.Tenant.{Tenant}
-use Rattle.ut_model.specs.World.{World, tenant_at}
-use Rattle.ut_stands.specs.inner.LayoutRows.{ListsBy, field_rows, job_in, job_of_row, layout_by, layout_by_found, layouts_by, object_rows, place_of_row, places_in, row_named}
-use Rattle.ut_stands.specs.Layouts.{FindsBy, job_on, layout_at, layout_named, layout_of, layouts_of, numbered_at, place_of}
-use Rattle.ut_stands.specs.Metadata.{field_of, job_of, object_of}
-use Rattle.ut_stands.specs.Plan.{Plan}
-use Rattle.ut_stands.specs.Stands.{StandsBy, row_at}
+use Rattle.ut_stands.specs.inner.LayoutRows.{ListsIn, change_row, field_rows, job_of_row, layout_by, layout_by_found, layouts_by, object_rows, place_of_row, places_in, row_named}
+use Rattle.ut_stands.specs.Layouts.{job_on, layout_of, own_layout, own_layout_named, own_layouts, place_of}
+use Rattle.ut_stands.specs.Local.{FindsIn, StandsIn, is_place_of, part_of, rows_alone}
+use Rattle.ut_stands.specs.Metadata.{field_of, job_of, row_of_object}
+use Rattle.ut_stands.specs.Plan.{OrgPlan}
 use Rattle.ut_stands.specs.declared.layout.FieldPlace.{FieldPlace}
 use Rattle.ut_stands.specs.declared.layout.JobPlace.{JobPlace}
 use Rattle.ut_stands.specs.declared.layout.Layout.{Layout}
-use Rattle.ut_stands.proofs.Found.{row_of, sound_tenant}
+use Rattle.ut_stands.proofs.Found.{row_in_org}
+use Rattle.ut_stands.proofs.Intervals.{under_shorter}
 use Rattle.ut_stands.proofs.MetadataLists.{KeyLaws, fields_listed, objects_listed}
 use Rattle.ut_stands.proofs.MetadataRows.{job_there, object_there, sound_object}
 use Rattle.ut_stands.proofs.Pages.{GivesRows, PageLaws, page_gives}
 
 -- ---- what failed
 
-pub err_again : {X Y : Type 0} (v : Plan → World → X) (u : Plan → World → Y) (m : Tables) (e : StoreFail) → FindsBy v m (Err e) → FindsBy u m (Err e)
-err_again v u m Damaged h = h
-err_again v u m Keeper h = tt
-err_again v u m Memory h = tt
+pub err_again : {X Y : Type 0} (n : ℕ) (v : OrgPlan → Option Tenant → X) (u : OrgPlan → Option Tenant → Y) (m : Tables) (e : StoreFail) → FindsIn n v m (Err e) → FindsIn n u m (Err e)
+err_again n v u m Damaged h = h
+err_again n v u m Keeper h = tt
+err_again n v u m Memory h = tt
 
--- the same value by other words
-again_by : {X : Type 0} (v u : Plan → World → X) (m : Tables) (r : Result X StoreFail) → ((p : Plan) (w : World) → StandsBy p m w → v p w ≡ u p w) → FindsBy v m r → FindsBy u m r
-again_by v u m (Ok x) same h = λ p w s. h p w s ∙ same p w s
-again_by v u m (Err Damaged) same h = h
-again_by v u m (Err Keeper) same h = tt
-again_by v u m (Err Memory) same h = tt
+list_err : {X Y : Type 0} (A : Type 0) (n : ℕ) (v : OrgPlan → Option Tenant → List X) (u : OrgPlan → Option Tenant → Y) (m : Tables) (e : StoreFail) → ListsIn {A = A} n v m (Err e) → FindsIn n u m (Err e)
+list_err A n v u m Damaged h = h
+list_err A n v u m Keeper h = tt
+list_err A n v u m Memory h = tt
 
-list_err : {X Y : Type 0} (A : Type 0) (v : Plan → World → List X) (u : Plan → World → Y) (m : Tables) (e : StoreFail) → ListsBy {A = A} v m (Err e) → FindsBy u m (Err e)
-list_err A v u m Damaged h = h
-list_err A v u m Keeper h = tt
-list_err A v u m Memory h = tt
+pub list_failed : {X Y A : Type 0} (n : ℕ) (v : OrgPlan → Option Tenant → List X) (u : OrgPlan → Option Tenant → Y) (m : Tables) (r : Result (Vec X A) StoreFail) (e : StoreFail) → r ≡ Err e → ListsIn n v m r → FindsIn n u m (Err e)
+list_failed {A = A} n v u m r e is h = list_err A n v u m e (subst (ListsIn n v m) is h)
 
-pub list_failed : {X Y A : Type 0} (v : Plan → World → List X) (u : Plan → World → Y) (m : Tables) (r : Result (Vec X A) StoreFail) (e : StoreFail) → r ≡ Err e → ListsBy v m r → FindsBy u m (Err e)
-list_failed {A = A} v u m r e is h = list_err A v u m e (subst (ListsBy v m) is h)
-
-given_by : {X A : Type 0} (v : Plan → World → List X) (m : Tables) (r : Result (Vec X A) StoreFail) → ((p : Plan) (w : World) → StandsBy p m w → GivesRows (v p w) r) → ListsBy v m r
-given_by v m (Ok rows) h = h
-given_by v m (Err Damaged) h = h
-given_by v m (Err Keeper) h = tt
-given_by v m (Err Memory) h = tt
+given_in : {X A : Type 0} (n : ℕ) (v : OrgPlan → Option Tenant → List X) (m : Tables) (r : Result (Vec X A) StoreFail) → ((q : OrgPlan) (t : Option Tenant) → StandsIn n q m t → GivesRows (v q t) r) → ListsIn n v m r
+given_in n v m (Ok rows) h = h
+given_in n v m (Err Damaged) h = h
+given_in n v m (Err Keeper) h = tt
+given_in n v m (Err Memory) h = tt
 
 -- ---- pages
 
-few_objects : (p : Plan) (m : Tables) (w : World) (org : ℕ) → StandsBy p m w → length (object_rows org p w) ≤ 101
+few_objects : (q : OrgPlan) (m : Tables) (t : Option Tenant) (org : ℕ) → StandsIn org q m t → length (object_rows org q t) ≤ 101
 unfolding object_rows
-few_objects p m w org s = by (tenant_at w org) refl
-  where
-    by : (o : Option Tenant) → tenant_at w org ≡ o → length (in_case o [] (λ t. map (λ (x : ℕ × model.Object). object_of org t x.0 x.1) (enumerate_from 0 t.objects))) ≤ 101
-    by None e = omega arith
-    by (Some t) e =
-        let few = (sound_tenant w org t s.world.tenants e).metadata.few in
-        omega (arith, few, length-map (enumerate_from 0 t.objects) (λ (x : ℕ × model.Object). object_of org t x.0 x.1), length-enumerate_from 0 t.objects)
+few_objects q m None org s = omega arith
+few_objects q m (Some t) org s =
+    let few = s.sound.metadata.few in
+    omega (arith, few, length-map (enumerate_from 0 t.objects) (λ (x : ℕ × model.Object). row_of_object org t x.0 x.1), length-enumerate_from 0 t.objects)
 
-few_fields : (p : Plan) (m : Tables) (w : World) (org n : ℕ) → StandsBy p m w → length (field_rows org n p w) ≤ 41
+few_fields : (q : OrgPlan) (m : Tables) (t : Option Tenant) (org n : ℕ) → StandsIn org q m t → length (field_rows org n q t) ≤ 41
 unfolding field_rows
-few_fields p m w org n s = by (tenant_at w org) refl
+few_fields q m None org n s = omega arith
+few_fields q m (Some t) org n s = of_object (object_numbered t n) refl
   where
-    of_object : (t : Tenant) → tenant_at w org ≡ Some t → (o : Option model.Object) → object_at t n ≡ o → length (in_case o [] (λ o. map (λ (f : ℕ × model.Field). field_of org (p.org org) n f.0 f.1) (enumerate_from 0 o.fields))) ≤ 41
-    of_object t e None here = omega arith
-    of_object t e (Some o) here =
-        let few = (sound_object t n o (sound_tenant w org t s.world.tenants e) here).few_fields in
-        omega (arith, few, length-map (enumerate_from 0 o.fields) (λ (f : ℕ × model.Field). field_of org (p.org org) n f.0 f.1), length-enumerate_from 0 o.fields)
+    of_object : (o : Option model.Object) → object_numbered t n ≡ o → length (in_case o [] (λ o. map (λ (f : ℕ × model.Field). field_of org q n f.0 f.1) (enumerate_from 0 o.fields))) ≤ 41
+    of_object None here = omega arith
+    of_object (Some o) here =
+        let few = (sound_object t n o s.sound here).few_fields in
+        omega (arith, few, length-map (enumerate_from 0 o.fields) (λ (f : ℕ × model.Field). field_of org q n f.0 f.1), length-enumerate_from 0 o.fields)
 
-    by : (o : Option Tenant) → tenant_at w org ≡ o → length (in_case o [] (λ t. in_case (object_at t n) [] (λ o. map (λ (f : ℕ × model.Field). field_of org (p.org org) n f.0 f.1) (enumerate_from 0 o.fields)))) ≤ 41
-    by None e = omega arith
-    by (Some t) e = of_object t e (object_at t n) refl
+-- the rows of an interval of the organisation are those of its part
+abbrev pub ListedIn : Type 0
+ListedIn = (m : Tables) (n table : ℕ) (from below : List ℕ) → ((key : List ℕ) → IsTrue (is_between from below key) → is_place_of n (table, key) ≡ true) → rows_between m table from below ≡ rows_between (part_of n m) table from below
 
-module _ (keys : KeyLaws) where
+module _ (keys : KeyLaws) (listed : ListedIn) where
+  in_part : (m : Tables) (org table : ℕ) (rest : List ℕ) → not (table == 0) ≡ true → rows_to m table (number32 org ++ rest) (raised (number32 org ++ rest)) ≡ rows_to (part_of org m) table (number32 org ++ rest) (raised (number32 org ++ rest))
+  in_part m org table rest nonzero = by (raised (number32 org ++ rest)) refl
+    where
+      by : (a : Option (List ℕ)) → raised (number32 org ++ rest) ≡ a → rows_to m table (number32 org ++ rest) a ≡ rows_to (part_of org m) table (number32 org ++ rest) a
+      by None e = refl
+      by (Some above) e = listed m org table (number32 org ++ rest) above (λ key inside. rw (nonzero, under_shorter (number32 org) rest above key e inside) refl)
+
   pub objects_read : PageLaws object_form → (m : Tables) (org : ℕ) → org < 2 ^ 32 → {A : Type 0} (r : Result (Vec ObjectRow A) StoreFail)
-      → ListsAs object_form (take 101 (rows_to m 2 (number32 org) (raised (number32 org)))) r → ListsBy (object_rows org) m r
+      → ListsAs object_form (take 101 (rows_to m 2 (number32 org) (raised (number32 org)))) r → ListsIn org (object_rows org) m r
   objects_read pages m org lo r e =
-      given_by (object_rows org) m r (λ p w s.
-      subst (λ (rows : List ObjectRow). GivesRows rows r) (take_all 101 (object_rows org p w) (few_objects p m w org s))
-      (page_gives object_form pages m (row_at p w) s.rows (number32 org) (raised (number32 org)) (object_rows org p w) 101 (objects_listed keys p m w s org lo) r e))
+      let here : rows_to m 2 (number32 org) (raised (number32 org)) ≡ rows_to (part_of org m) 2 (number32 org) (raised (number32 org)) =
+      subst (λ (x : List ℕ). rows_to m 2 x (raised x) ≡ rows_to (part_of org m) 2 x (raised x)) (append-nil (number32 org)) (in_part m org 2 [] refl) in
+      let e = subst (λ (rows : List KeptRow). ListsAs object_form (take 101 rows) r) here e in
+      given_in org (object_rows org) m r (λ q t s.
+      subst (λ (rows : List ObjectRow). GivesRows rows r) (take_all 101 (object_rows org q t) (few_objects q m t org s))
+      (page_gives object_form pages (part_of org m) (rows_alone org q t) s.rows (number32 org) (raised (number32 org)) (object_rows org q t) 101 (objects_listed keys q m org lo t s) r e))
 
   pub fields_read : PageLaws field_form → (m : Tables) (org n : ℕ) → org < 2 ^ 32 → n < 2 ^ 16 → {A : Type 0} (r : Result (Vec FieldRow A) StoreFail)
-      → ListsAs field_form (take 41 (rows_to m 3 (number32 org ++ number16 n) (raised (number32 org ++ number16 n)))) r → ListsBy (field_rows org n) m r
+      → ListsAs field_form (take 41 (rows_to m 3 (number32 org ++ number16 n) (raised (number32 org ++ number16 n)))) r → ListsIn org (field_rows org n) m r
   fields_read pages m org n lo small r e =
-      given_by (field_rows org n) m r (λ p w s.
-      subst (λ (rows : List FieldRow). GivesRows rows r) (take_all 41 (field_rows org n p w) (few_fields p m w org n s))
-      (page_gives field_form pages m (row_at p w) s.rows (number32 org ++ number16 n) (raised (number32 org ++ number16 n)) (field_rows org n p w) 41 (fields_listed keys p m w s org lo n small) r e))
+      let e = subst (λ (rows : List KeptRow). ListsAs field_form (take 41 rows) r) (in_part m org 3 (number16 n) refl) e in
+      given_in org (field_rows org n) m r (λ q t s.
+      subst (λ (rows : List FieldRow). GivesRows rows r) (take_all 41 (field_rows org n q t) (few_fields q m t org n s))
+      (page_gives field_form pages (part_of org m) (rows_alone org q t) s.rows (number32 org ++ number16 n) (raised (number32 org ++ number16 n)) (field_rows org n q t) 41 (fields_listed keys q m org lo n small t s) r e))
 
 -- ---- places
 
@@ -110,140 +113,141 @@ map_again : {X Y Z : Type 0} (f : Y → Z) (g : X → Y) (xs : List X) → map f
 map_again f g [] = refl
 map_again f g (x ∷ xs) = ap (λ (zs : List _). f (g x) ∷ zs) (map_again f g xs)
 
-places_are : (org n : ℕ) (p : Plan) (w : World) → map place_of_row (field_rows org n p w) ≡ places_in org n p w
+places_are : (org n : ℕ) (q : OrgPlan) (t : Option Tenant) → map place_of_row (field_rows org n q t) ≡ places_in n q t
 unfolding field_rows places_in
-places_are org n p w = by (tenant_at w org)
+places_are org n q None = refl
+places_are org n q (Some t) = of_object (object_numbered t n)
   where
-    of_object : (o : Option model.Object) → map place_of_row (in_case o [] (λ o. map (λ (f : ℕ × model.Field). field_of org (p.org org) n f.0 f.1) (enumerate_from 0 o.fields))) ≡ in_case o [] (λ o. map (place_of (p.org org) n) (enumerate_from 0 o.fields))
+    of_object : (o : Option model.Object) → map place_of_row (in_case o [] (λ o. map (λ (f : ℕ × model.Field). field_of org q n f.0 f.1) (enumerate_from 0 o.fields))) ≡ in_case o [] (λ o. map (place_of q n) (enumerate_from 0 o.fields))
     of_object None = refl
-    of_object (Some o) = map_again place_of_row (λ (f : ℕ × model.Field). field_of org (p.org org) n f.0 f.1) (enumerate_from 0 o.fields)
-
-    by : (o : Option Tenant) → map place_of_row (in_case o [] (λ t. in_case (object_at t n) [] (λ o. map (λ (f : ℕ × model.Field). field_of org (p.org org) n f.0 f.1) (enumerate_from 0 o.fields))))
-        ≡ in_case o [] (λ t. in_case (object_at t n) [] (λ o. map (place_of (p.org org) n) (enumerate_from 0 o.fields)))
-    by None = refl
-    by (Some t) = of_object (object_at t n)
+    of_object (Some o) = map_again place_of_row (λ (f : ℕ × model.Field). field_of org q n f.0 f.1) (enumerate_from 0 o.fields)
 
 pub places_found : (org n : ℕ) (m : Tables) (rows : List FieldRow) (places : List FieldPlace) → places ≡ map place_of_row rows
-    → ((p : Plan) (w : World) → StandsBy p m w → rows ≡ field_rows org n p w) → FindsBy (places_in org n) m (Ok places)
-places_found org n m rows places is h = λ p w s. is ∙ ap (map place_of_row) (h p w s) ∙ places_are org n p w
+    → ((q : OrgPlan) (t : Option Tenant) → StandsIn org q m t → rows ≡ field_rows org n q t) → FindsIn org (places_in n) m (Ok places)
+places_found org n m rows places is h = λ q t s. is ∙ ap (map place_of_row) (h q t s) ∙ places_are org n q t
 
 -- ---- changes
 
-job_is : (org n : ℕ) (p : Plan) (w : World) → option_and_then (job_of_row n) (row_of org (job_there org) p w) ≡ job_in org n p w
-unfolding job_in
-job_is org n p w = by (tenant_at w org)
+pub change_is : (org : ℕ) (q : OrgPlan) (t : Option Tenant) → option_and_then (job_there org q) t ≡ change_row org q t
+unfolding change_row
+change_is org q None = refl
+change_is org q (Some t) = refl
+
+job_is : (org n : ℕ) (q : OrgPlan) (t : Tenant) → option_and_then (job_of_row n) (change_row org q (Some t)) ≡ job_on q t n
+unfolding change_row
+job_is org n q t = of_job t.job
   where
-    of_job : (j : Option model.Job) → option_and_then (job_of_row n) (option_map (job_of org (p.org org)) j) ≡ option_and_then (λ (j : model.Job). cond (eqb j.object n) (Some (record { field = j.field; kind = (job_of org (p.org org) j).kind; twin = (p.org org).other; phase = j.phase; cursor = j.cursor })) None) j
+    of_job : (j : Option model.Job) → option_and_then (job_of_row n) (option_map (job_of org q) j) ≡ option_and_then (λ (j : model.Job). cond (eqb j.object n) (Some (record { field = j.field; kind = (job_of org q j).kind; twin = q.other; phase = j.phase; cursor = j.cursor })) None) j
     of_job None = refl
     of_job (Some j) = refl
 
-    by : (o : Option Tenant) → option_and_then (job_of_row n) (option_and_then (job_there org (p.org org)) o) ≡ option_and_then (λ t. job_on (p.org org) t n) o
-    by None = refl
-    by (Some t) = of_job t.job
-
-pub job_found : (org n : ℕ) (m : Tables) (row : Option JobRow) (job : Option JobPlace) → job ≡ option_and_then (job_of_row n) row → FindsBy (row_of org (job_there org)) m (Ok row) → FindsBy (job_in org n) m (Ok job)
-job_found org n m row job is h = λ p w s. is ∙ ap (option_and_then (job_of_row n)) (h p w s) ∙ job_is org n p w
-
 -- ---- layouts
 
--- the layout of an object by its row
-by_row : (org : ℕ) (p : Plan) (w : World) (t : Tenant) (n : ℕ) (o : model.Object) → tenant_at w org ≡ Some t → object_at t n ≡ Some o → layout_by (object_of org t n o) p w ≡ layout_of org (p.org org) t (record { number = n; object = o })
-unfolding places_in job_in
-by_row org p w t n o e g =
-    let fields : in_case (tenant_at w org) [] (λ t. in_case (object_at t n) [] (λ o. map (place_of (p.org org) n) (enumerate_from 0 o.fields))) ≡ map (place_of (p.org org) n) (enumerate_from 0 o.fields) =
-    ap (λ (x : Option Tenant). in_case x [] (λ t. in_case (object_at t n) [] (λ o. map (place_of (p.org org) n) (enumerate_from 0 o.fields)))) e
-    ∙ ap (λ (x : Option model.Object). in_case x [] (λ o. map (place_of (p.org org) n) (enumerate_from 0 o.fields))) g in
-    let job : option_and_then (λ t. job_on (p.org org) t n) (tenant_at w org) ≡ job_on (p.org org) t n = ap (option_and_then (λ t. job_on (p.org org) t n)) e in
+-- the layout of an object by its row and that of the change
+by_row : (org : ℕ) (q : OrgPlan) (t : Tenant) (n : ℕ) (o : model.Object) → object_numbered t n ≡ Some o → layout_by org (row_of_object org t n o) (change_row org q (Some t)) q (Some t) ≡ layout_of org q t (record { number = n; object = o })
+unfolding places_in
+by_row org q t n o g =
+    let fields : in_case (object_numbered t n) [] (λ o. map (place_of q n) (enumerate_from 0 o.fields)) ≡ map (place_of q n) (enumerate_from 0 o.fields) =
+    ap (λ (x : Option model.Object). in_case x [] (λ o. map (place_of q n) (enumerate_from 0 o.fields))) g in
+    let job = job_is org n q t in
     λ i. record { org = org; object = n; name = o.name; access = o.access; fields = fields i; job = job i }
 
-abbrev layout_in : Plan → World → ObjectRow → Layout
-layout_in p w r = layout_by r p w
+-- a layout's parts, once they are read
+pub layout_found : (org : ℕ) (r : ObjectRow) (change : Option JobRow) (m : Tables) (places : List FieldPlace) (job : Option JobPlace) → FindsIn org (places_in r.object) m (Ok places) → job ≡ option_and_then (job_of_row r.object) change
+    → FindsIn org (layout_by org r change) m (Ok (record { org = org; object = r.object; name = r.name; access = r.access.access; fields = places; job = job }))
+layout_found org r change m places job h is = λ q t s.
+    let fields = h q t s in
+    λ i. record { org = org; object = r.object; name = r.name; access = r.access.access; fields = fields i; job = is i }
 
-layout_at_is : (org n : ℕ) (p : Plan) (w : World) → option_map (layout_in p w) (row_of org (object_there org n) p w) ≡ layout_at org n p w
-unfolding layout_at
-layout_at_is org n p w = by (tenant_at w org) refl
+pub one_found : (org : ℕ) (r : ObjectRow) (change : Option JobRow) (m : Tables) (l : Layout) → FindsIn org (change_row org) m (Ok change) → FindsIn org (layout_by org r change) m (Ok l) → FindsIn org (layout_by_found org (Some r)) m (Ok (Some l))
+one_found org r change m l h g = λ q t s. ap Some (g q t s ∙ ap (λ (x : Option JobRow). layout_by org r x q t) (h q t s))
+
+abbrev layout_in : ℕ → OrgPlan → Option Tenant → ObjectRow → Layout
+layout_in org q t r = layout_by org r (change_row org q t) q t
+
+layout_at_is : (org n : ℕ) (q : OrgPlan) (t : Option Tenant) → option_map (layout_in org q t) (option_and_then (object_there org n q) t) ≡ own_layout org n q t
+unfolding own_layout
+layout_at_is org n q None = refl
+layout_at_is org n q (Some t) = of_object (object_numbered t n) refl
   where
-    of_object : (t : Tenant) → tenant_at w org ≡ Some t → (o : Option model.Object) → object_at t n ≡ o → option_map (layout_in p w) (option_map (object_of org t n) o) ≡ option_map (layout_of org (p.org org) t) (option_map (λ o. record { number = n; object = o }) o)
-    of_object t e None g = refl
-    of_object t e (Some o) g = ap Some (by_row org p w t n o e g)
+    of_object : (o : Option model.Object) → object_numbered t n ≡ o → option_map (layout_in org q (Some t)) (option_map (row_of_object org t n) o) ≡ option_map (layout_of org q t) (option_map (λ o. record { number = n; object = o }) o)
+    of_object None g = refl
+    of_object (Some o) g = ap Some (by_row org q t n o g)
 
-    by : (o : Option Tenant) → tenant_at w org ≡ o → option_map (layout_in p w) (option_and_then (object_there org n (p.org org)) o) ≡ option_and_then (λ t. option_map (layout_of org (p.org org) t) (numbered_at t n)) o
-    by None e = refl
-    by (Some t) e = of_object t e (object_at t n) refl
+-- the same of what each tenant has there, by other words
+again_in : {X : Type 0} (n : ℕ) (v u : OrgPlan → Option Tenant → X) (m : Tables) (r : Result X StoreFail) → ((q : OrgPlan) (t : Option Tenant) → StandsIn n q m t → v q t ≡ u q t) → FindsIn n v m r → FindsIn n u m r
+again_in n v u m (Ok x) same h = λ q t s. h q t s ∙ same q t s
+again_in n v u m (Err Damaged) same h = h
+again_in n v u m (Err Keeper) same h = tt
+again_in n v u m (Err Memory) same h = tt
 
-pub at_found : (org n : ℕ) (m : Tables) (row : Option ObjectRow) (r : Result (Option Layout) StoreFail) → FindsBy (row_of org (object_there org n)) m (Ok row) → FindsBy (layout_by_found row) m r → FindsBy (layout_at org n) m r
-at_found org n m row r h g = again_by (layout_by_found row) (layout_at org n) m r (λ p w s. ap (option_map (layout_in p w)) (h p w s) ∙ layout_at_is org n p w) g
+pub at_found : (org n : ℕ) (m : Tables) (row : Option ObjectRow) (r : Result (Option Layout) StoreFail) → FindsIn org (row_in_org (object_there org n)) m (Ok row) → FindsIn org (layout_by_found org row) m r → FindsIn org (own_layout org n) m r
+at_found org n m row r h g = again_in org (layout_by_found org row) (own_layout org n) m r (λ q t s. ap (option_map (layout_in org q t)) (h q t s) ∙ layout_at_is org n q t) g
 
 -- what is found by a name
-module _ (org : ℕ) (p : Plan) (w : World) (t : Tenant) (e : tenant_at w org ≡ Some t) where
+module _ (org : ℕ) (q : OrgPlan) (t : Tenant) where
   abbrev row_from : ℕ × model.Object → ObjectRow
-  row_from x = object_of org t x.0 x.1
+  row_from x = row_of_object org t x.0 x.1
 
   abbrev as_numbered : ℕ × model.Object → Numbered
   as_numbered x = record { number = x.0; object = x.1 }
 
   -- these are the tenant's objects from a number on
   abbrev AreFrom : ℕ → List model.Object → Type 0
-  AreFrom k os = (i : ℕ) (o : model.Object) → slice_get os i ≡ Some o → object_at t (k + i) ≡ Some o
+  AreFrom k os = (i : ℕ) (o : model.Object) → slice_get os i ≡ Some o → object_numbered t (k + i) ≡ Some o
 
-  first_from : (k : ℕ) (o : model.Object) (os : List model.Object) → AreFrom k (o ∷ os) → object_at t k ≡ Some o
-  first_from k o os h = subst (λ (n : ℕ). object_at t n ≡ Some o) (omega arith) (h 0 o refl)
+  first_from : (k : ℕ) (o : model.Object) (os : List model.Object) → AreFrom k (o ∷ os) → object_numbered t k ≡ Some o
+  first_from k o os h = subst (λ (n : ℕ). object_numbered t n ≡ Some o) (omega arith) (h 0 o refl)
 
   rest_from : (k : ℕ) (o : model.Object) (os : List model.Object) → AreFrom k (o ∷ os) → AreFrom (k + 1) os
-  rest_from k o os h i x there = subst (λ (n : ℕ). object_at t n ≡ Some x) (omega arith) (h (suc i) x there)
+  rest_from k o os h i x there = subst (λ (n : ℕ). object_numbered t n ≡ Some x) (omega arith) (h (suc i) x there)
 
   named_from : (name : List ℕ) (k : ℕ) (os : List model.Object) → AreFrom k os
-      → option_map (layout_in p w) (find (λ (r : ObjectRow). same_name r.name name) (map row_from (enumerate_from k os)))
-      ≡ option_map (layout_of org (p.org org) t) (find (λ (o : Numbered). same_name o.object.name name) (map as_numbered (enumerate_from k os)))
+      → option_map (layout_in org q (Some t)) (find (λ (r : ObjectRow). same_name r.name name) (map row_from (enumerate_from k os)))
+      ≡ option_map (layout_of org q t) (find (λ (o : Numbered). same_name o.object.name name) (map as_numbered (enumerate_from k os)))
   named_from name k [] h = refl
   named_from name k (o ∷ os) h = by (same_name o.name name) (named_from name (k + 1) os (rest_from k o os h))
     where
-      by : (b : Bool) → option_map (layout_in p w) (find (λ (r : ObjectRow). same_name r.name name) (map row_from (enumerate_from (k + 1) os)))
-          ≡ option_map (layout_of org (p.org org) t) (find (λ (o : Numbered). same_name o.object.name name) (map as_numbered (enumerate_from (k + 1) os)))
-          → option_map (layout_in p w) (cond b (Some (object_of org t k o)) (find (λ (r : ObjectRow). same_name r.name name) (map row_from (enumerate_from (k + 1) os))))
-          ≡ option_map (layout_of org (p.org org) t) (cond b (Some (record { number = k; object = o })) (find (λ (o : Numbered). same_name o.object.name name) (map as_numbered (enumerate_from (k + 1) os))))
-      by true later = ap Some (by_row org p w t k o e (first_from k o os h))
+      by : (b : Bool) → option_map (layout_in org q (Some t)) (find (λ (r : ObjectRow). same_name r.name name) (map row_from (enumerate_from (k + 1) os)))
+          ≡ option_map (layout_of org q t) (find (λ (o : Numbered). same_name o.object.name name) (map as_numbered (enumerate_from (k + 1) os)))
+          → option_map (layout_in org q (Some t)) (cond b (Some (row_of_object org t k o)) (find (λ (r : ObjectRow). same_name r.name name) (map row_from (enumerate_from (k + 1) os))))
+          ≡ option_map (layout_of org q t) (cond b (Some (record { number = k; object = o })) (find (λ (o : Numbered). same_name o.object.name name) (map as_numbered (enumerate_from (k + 1) os))))
+      by true later = ap Some (by_row org q t k o (first_from k o os h))
       by false later = later
 
-  all_from : (k : ℕ) (os : List model.Object) → AreFrom k os → map (layout_in p w) (map row_from (enumerate_from k os)) ≡ map (layout_of org (p.org org) t) (map as_numbered (enumerate_from k os))
+  all_from : (k : ℕ) (os : List model.Object) → AreFrom k os → map (layout_in org q (Some t)) (map row_from (enumerate_from k os)) ≡ map (layout_of org q t) (map as_numbered (enumerate_from k os))
   all_from k [] h = refl
   all_from k (o ∷ os) h =
-      let here = by_row org p w t k o e (first_from k o os h) in
+      let here = by_row org q t k o (first_from k o os h) in
       let later = all_from (k + 1) os (rest_from k o os h) in
       λ i. here i ∷ later i
 
   are_all : AreFrom 0 t.objects
-  are_all i o there = subst (λ (n : ℕ). object_at t n ≡ Some o) (omega arith) there
+  are_all i o there = subst (λ (n : ℕ). object_numbered t n ≡ Some o) (omega arith) there
 
-layout_named_is : (org : ℕ) (name : List ℕ) (p : Plan) (w : World) → option_map (layout_in p w) (row_named name (object_rows org p w)) ≡ layout_named org name p w
-unfolding layout_named object_named object_rows
-layout_named_is org name p w = by (tenant_at w org) refl
-  where
-    by : (o : Option Tenant) → tenant_at w org ≡ o → option_map (layout_in p w) (row_named name (in_case o [] (λ t. map (λ (x : ℕ × model.Object). object_of org t x.0 x.1) (enumerate_from 0 t.objects))))
-        ≡ option_and_then (λ t. option_map (layout_of org (p.org org) t) (find (λ (o : Numbered). same_name o.object.name name) (numbered t.objects))) o
-    by None e = refl
-    by (Some t) e = named_from org p w t e name 0 t.objects (are_all org p w t e)
+layout_named_is : (org : ℕ) (name : List ℕ) (q : OrgPlan) (t : Option Tenant) → option_map (layout_in org q t) (row_named name (object_rows org q t)) ≡ own_layout_named org name q t
+unfolding own_layout_named object_named object_rows
+layout_named_is org name q None = refl
+layout_named_is org name q (Some t) = named_from org q t name 0 t.objects (are_all org q t)
 
 pub named_found : (org : ℕ) (name : List ℕ) (m : Tables) (rows : List ObjectRow) (r : Result (Option Layout) StoreFail)
-    → ((p : Plan) (w : World) → StandsBy p m w → rows ≡ object_rows org p w) → FindsBy (layout_by_found (row_named name rows)) m r → FindsBy (layout_named org name) m r
+    → ((q : OrgPlan) (t : Option Tenant) → StandsIn org q m t → rows ≡ object_rows org q t) → FindsIn org (layout_by_found org (row_named name rows)) m r → FindsIn org (own_layout_named org name) m r
 named_found org name m rows r h g =
-    again_by (layout_by_found (row_named name rows)) (layout_named org name) m r (λ p w s. ap (λ (x : List ObjectRow). option_map (layout_in p w) (row_named name x)) (h p w s) ∙ layout_named_is org name p w) g
+    again_in org (layout_by_found org (row_named name rows)) (own_layout_named org name) m r (λ q t s. ap (λ (x : List ObjectRow). option_map (layout_in org q t) (row_named name x)) (h q t s) ∙ layout_named_is org name q t) g
 
-layouts_are : (org : ℕ) (p : Plan) (w : World) → map (layout_in p w) (object_rows org p w) ≡ layouts_of org p w
-unfolding layouts_of object_rows
-layouts_are org p w = by (tenant_at w org) refl
-  where
-    by : (o : Option Tenant) → tenant_at w org ≡ o → map (layout_in p w) (in_case o [] (λ t. map (λ (x : ℕ × model.Object). object_of org t x.0 x.1) (enumerate_from 0 t.objects)))
-        ≡ in_case o [] (λ t. map (layout_of org (p.org org) t) (numbered t.objects))
-    by None e = refl
-    by (Some t) e = all_from org p w t e 0 t.objects (are_all org p w t e)
+layouts_are : (org : ℕ) (q : OrgPlan) (t : Option Tenant) → map (layout_in org q t) (object_rows org q t) ≡ own_layouts org q t
+unfolding own_layouts object_rows
+layouts_are org q None = refl
+layouts_are org q (Some t) = all_from org q t 0 t.objects (are_all org q t)
 
-pub layouts_found : (org : ℕ) (m : Tables) (rows : List ObjectRow) (r : Result (List Layout) StoreFail)
-    → ((p : Plan) (w : World) → StandsBy p m w → rows ≡ object_rows org p w) → FindsBy (layouts_by rows) m r → FindsBy (layouts_of org) m r
-layouts_found org m rows r h g =
-    again_by (layouts_by rows) (layouts_of org) m r (λ p w s. ap (map (layout_in p w)) (h p w s) ∙ layouts_are org p w) g
+pub layouts_found : (org : ℕ) (m : Tables) (rows : List ObjectRow) (change : Option JobRow) (r : Result (List Layout) StoreFail)
+    → ((q : OrgPlan) (t : Option Tenant) → StandsIn org q m t → rows ≡ object_rows org q t) → FindsIn org (change_row org) m (Ok change) → FindsIn org (layouts_by org rows change) m r → FindsIn org (own_layouts org) m r
+layouts_found org m rows change r h k g =
+    again_in org (layouts_by org rows change) (own_layouts org) m r
+    (λ q t s. ap (λ (x : Option JobRow). layouts_by org rows x q t) (k q t s) ∙ ap (map (layout_in org q t)) (h q t s) ∙ layouts_are org q t) g
 
 -- one layout more
-pub more_layouts : (p : Plan) (w : World) (rows : List ObjectRow) (row : ObjectRow) (all after : List Layout) (l : Layout) → after ≡ all ++ l ∷ [] → all ≡ layouts_by rows p w → l ≡ layout_by row p w → after ≡ layouts_by (rows ++ row ∷ []) p w
-more_layouts p w rows row all after l is old new =
-    is ∙ ap (λ (x : List Layout). x ++ l ∷ []) old ∙ ap (λ (x : Layout). layouts_by rows p w ++ x ∷ []) new ∙ sym (map_push (layout_in p w) rows row)
+pub more_layouts : (org : ℕ) (q : OrgPlan) (t : Option Tenant) (change : Option JobRow) (rows : List ObjectRow) (row : ObjectRow) (all after : List Layout) (l : Layout) → after ≡ all ++ l ∷ [] → all ≡ layouts_by org rows change q t → l ≡ layout_by org row change q t
+    → after ≡ layouts_by org (rows ++ row ∷ []) change q t
+more_layouts org q t change rows row all after l is old new =
+    is ∙ ap (λ (x : List Layout). x ++ l ∷ []) old ∙ ap (λ (x : Layout). layouts_by org rows change q t ++ x ∷ []) new ∙ sym (map_push (λ r. layout_by org r change q t) rows row)

@@ -1,4 +1,5 @@
 pub mod Lookups
+pub mod Intervals
 pub mod Names
 pub mod Opened
 pub mod Versions
@@ -7,6 +8,10 @@ pub mod Parts
 pub mod Changed
 pub mod Spelled
 pub mod Found
+pub mod Places
+pub mod Standing
+pub mod Edited
+pub mod Listed
 pub mod Pages
 pub mod Numbered
 pub mod MetadataRows

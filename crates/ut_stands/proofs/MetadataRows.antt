@@ -18,14 +18,14 @@ use Rattle.ut_value.specs.declared.job.Outcome.{Outcome}
 use Rattle.ut_value.specs.declared.job.Outcome.TheVariants as outcome
 use Rattle.ut_value.specs.declared.job.Phase.{Phase}
 use Rattle.ut_value.specs.declared.job.Phase.TheVariants as phase
-use Rattle.ut_model.specs.Objects.{Numbered, object_at}
+use Rattle.ut_model.specs.Objects.{Numbered, object_numbered}
 use Rattle.ut_model.specs.Sound.{IsSound}
 use Rattle.ut_model.specs.SoundJob.{HasSoundJob, IsSoundJob}
 use Rattle.ut_model.specs.SoundMetadata.{IsSoundField, IsSoundObject}
 use Rattle.ut_model.specs.Tenant as model
 use Rattle.ut_model.specs.Tenant.{Tenant}
-use Rattle.ut_stands.specs.Metadata.{field_of, job_of, object_of}
-use Rattle.ut_stands.specs.Plan.{FitsPlan, OrgPlan, has_field, type_in}
+use Rattle.ut_stands.specs.Metadata.{field_of, job_of, row_of_object}
+use Rattle.ut_stands.specs.Plan.{FitsPlan, OrgPlan, has_field, slot_type}
 use Rattle.ut_stands.specs.Stands.{row_in}
 use Rattle.ut_stands.proofs.Spelled.{both, child_option_fits, cursor_is_id, custom_fits, plain_type_fits, type_fits}
 use Rattle.ut_stands.proofs.Found.{IsRowOf, map_twice}
@@ -48,13 +48,13 @@ numbered_all P k (x ∷ os) zero o h e =
 numbered_all P k (x ∷ os) (suc i) o h e =
     subst (λ (n : ℕ). P (record { number = n; object = o })) (omega arith) (numbered_all P (k + 1) os i o h.1 e)
 
-pub sound_object : (t : Tenant) (n : ℕ) (o : model.Object) → IsSound t → object_at t n ≡ Some o → IsSoundObject t.objects (record { number = n; object = o })
+pub sound_object : (t : Tenant) (n : ℕ) (o : model.Object) → IsSound t → object_numbered t n ≡ Some o → IsSoundObject t.objects (record { number = n; object = o })
 sound_object t n o s e =
     subst (λ (k : ℕ). IsSoundObject t.objects (record { number = k; object = o })) (omega arith) (numbered_all (IsSoundObject t.objects) 0 t.objects n o s.metadata.objects e)
 
 -- ---- objects
 
-pub object_fits : (org : ℕ) (t : Tenant) (n : ℕ) (o : model.Object) → org < 2 ^ 32 → IsSound t → object_at t n ≡ Some o → FitsForm object_form (object_of org t n o)
+pub object_fits : (org : ℕ) (t : Tenant) (n : ℕ) (o : model.Object) → org < 2 ^ 32 → IsSound t → object_numbered t n ≡ Some o → FitsForm object_form (row_of_object org t n o)
 object_fits org t n o lo s e =
     let so = sound_object t n o s e in
     let there : n < length t.objects = slice_get_within t.objects n o e in (
@@ -64,30 +64,30 @@ object_fits org t n o lo s e =
 
 -- the row of an object, if there is one
 abbrev pub object_there : (org n : ℕ) → OrgPlan → Tenant → Option ObjectRow
-object_there org n p t = option_map (object_of org t n) (object_at t n)
+object_there org n p t = option_map (row_of_object org t n) (object_numbered t n)
 
-object_may : (org n : ℕ) (t : Tenant) → org < 2 ^ 32 → IsSound t → (o : Option model.Object) → object_at t n ≡ o → MayStandAt object_form (org, n) (option_map (object_of org t n) o)
+object_may : (org n : ℕ) (t : Tenant) → org < 2 ^ 32 → IsSound t → (o : Option model.Object) → object_numbered t n ≡ o → MayStandAt object_form (org, n) (option_map (row_of_object org t n) o)
 object_may org n t lo s None e = tt
 object_may org n t lo s (Some o) e = (refl, object_fits org t n o lo s e)
 
 object_rows_are : (org n : ℕ) (p : OrgPlan) (t : Tenant) → row_in p t (Object org n) ≡ option_map (row_bytes object_form) (object_there org n p t)
 unfolding row_in
-object_rows_are org n p t = map_twice (row_bytes object_form) (object_of org t n) (object_at t n)
+object_rows_are org n p t = map_twice (row_bytes object_form) (row_of_object org t n) (object_numbered t n)
 
 pub object_is_row : (org n : ℕ) → org < 2 ^ 32 → n < 2 ^ 16 → IsRowOf object_form org (org, n) (object_there org n)
 object_is_row org n lo small = record {
   owned = refl;
   fits = (lo, small);
   rows = object_rows_are org n;
-  stands = λ p t s f. object_may org n t lo s (object_at t n) refl;
+  stands = λ p t s f. object_may org n t lo s (object_numbered t n) refl;
 }
 
 -- ---- fields
 
-has_it : (t : Tenant) (n i : ℕ) (o : model.Object) (f : model.Field) → object_at t n ≡ Some o → slice_get o.fields i ≡ Some f → IsTrue (has_field t n i)
+has_it : (t : Tenant) (n i : ℕ) (o : model.Object) (f : model.Field) → object_numbered t n ≡ Some o → slice_get o.fields i ≡ Some f → IsTrue (has_field t n i)
 has_it t n i o f e g = ap (λ (x : Option model.Object). is_some (option_and_then (λ o. slice_get o.fields i) x)) e ∙ ap is_some g
 
-pub field_fits : (org : ℕ) (p : OrgPlan) (t : Tenant) (n i : ℕ) (o : model.Object) (f : model.Field) → org < 2 ^ 32 → IsSound t → FitsPlan p t → object_at t n ≡ Some o → slice_get o.fields i ≡ Some f → FitsForm field_form (field_of org p n i f)
+pub field_fits : (org : ℕ) (p : OrgPlan) (t : Tenant) (n i : ℕ) (o : model.Object) (f : model.Field) → org < 2 ^ 32 → IsSound t → FitsPlan p t → object_numbered t n ≡ Some o → slice_get o.fields i ≡ Some f → FitsForm field_form (field_of org p n i f)
 field_fits org p t n i o f lo s fp e g =
     let so = sound_object t n o s e in
     let sf = all_at (IsSoundField (length t.objects)) o.fields i f so.fields g in
@@ -100,29 +100,29 @@ field_fits org p t n i o f lo s fp e g =
 
 -- the row of a field, if there is one
 abbrev pub field_there : (org n i : ℕ) → OrgPlan → Tenant → Option FieldRow
-field_there org n i p t = option_map (field_of org p n i) (option_and_then (λ o. slice_get o.fields i) (object_at t n))
+field_there org n i p t = option_map (field_of org p n i) (option_and_then (λ o. slice_get o.fields i) (object_numbered t n))
 
 pub and_then_some : {X Y : Type 0} (f : X → Option Y) (o : Option X) (y : Y) → option_and_then f o ≡ Some y → (x : X) × (o ≡ Some x) × (f x ≡ Some y)
 and_then_some f None y e = absurd cc
 and_then_some f (Some x) y e = (x, refl, e)
 
-field_may : (org n i : ℕ) (p : OrgPlan) (t : Tenant) → org < 2 ^ 32 → IsSound t → FitsPlan p t → (f : Option model.Field) → option_and_then (λ o. slice_get o.fields i) (object_at t n) ≡ f
+field_may : (org n i : ℕ) (p : OrgPlan) (t : Tenant) → org < 2 ^ 32 → IsSound t → FitsPlan p t → (f : Option model.Field) → option_and_then (λ o. slice_get o.fields i) (object_numbered t n) ≡ f
     → MayStandAt field_form (org, (n, i)) (option_map (field_of org p n i) f)
 field_may org n i p t lo s fp None e = tt
 field_may org n i p t lo s fp (Some f) e =
-    let it = and_then_some (λ (o : model.Object). slice_get o.fields i) (object_at t n) f e in
+    let it = and_then_some (λ (o : model.Object). slice_get o.fields i) (object_numbered t n) f e in
     (refl, field_fits org p t n i it.0 f lo s fp it.1 it.2)
 
 field_rows_are : (org n i : ℕ) (p : OrgPlan) (t : Tenant) → row_in p t (Field org n i) ≡ option_map (row_bytes field_form) (field_there org n i p t)
 unfolding row_in
-field_rows_are org n i p t = map_twice (row_bytes field_form) (field_of org p n i) (option_and_then (λ o. slice_get o.fields i) (object_at t n))
+field_rows_are org n i p t = map_twice (row_bytes field_form) (field_of org p n i) (option_and_then (λ o. slice_get o.fields i) (object_numbered t n))
 
 pub field_is_row : (org n i : ℕ) → org < 2 ^ 32 → n < 2 ^ 16 → i < 256 → IsRowOf field_form org (org, (n, i)) (field_there org n i)
 field_is_row org n i lo small low = record {
   owned = refl;
   fits = (lo, (small, low));
   rows = field_rows_are org n i;
-  stands = λ p t s f. field_may org n i p t lo s f (option_and_then (λ o. slice_get o.fields i) (object_at t n)) refl;
+  stands = λ p t s f. field_may org n i p t lo s f (option_and_then (λ o. slice_get o.fields i) (object_numbered t n)) refl;
 }
 
 -- ---- the change of a type
@@ -136,7 +136,7 @@ plain_type k h =
     not_true true e = absurd cc
     not_true false e = refl
 
-type_there_fits : (p : OrgPlan) (j : model.Job) (ph : Phase) (out : Outcome) → FitsType p.was → FitsType j.to → FitsType (type_in p j ph out)
+type_there_fits : (p : OrgPlan) (j : model.Job) (ph : Phase) (out : Outcome) → FitsType p.was → FitsType j.to → FitsType (slot_type p j ph out)
 type_there_fits p j phase.Clear outcome.Switched was to = was
 type_there_fits p j _ _ was to = to
 

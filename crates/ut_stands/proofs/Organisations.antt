@@ -1,11 +1,11 @@
 -- What is read at an organisation's key is that organisation's row.
-use Rattle.std.proofs.Common.{◌≡◌, ℕ, ◌<◌, ◌^◌, ◌∙◌, Option, Some, None, refl, arith}
-use Rattle.std.specs.Prelude.{Result, Ok, Err}
+use Rattle.std.proofs.Common.{◌≡◌, ℕ, ◌<◌, ◌^◌, Option, Some, None, refl, arith}
+use Rattle.std.specs.Prelude.{Result}
 use Rattle.std.specs.Option.{option_and_then, option_map}
 use Rattle.std.specs.FinMap as map
-use Rattle.ut_keeper.specs.Tables.{Tables}
+use Rattle.std.specs.FinMap.{IsAntisymmetric}
+use Rattle.ut_keeper.specs.Tables.{Tables, place_cmp}
 use Rattle.ut_keys.specs.declared.fail.StoreFail.{StoreFail}
-use Rattle.ut_keys.specs.declared.fail.StoreFail.TheVariants.{Keeper, Memory, Damaged}
 use Rattle.ut_keys.specs.declared.org.OrgRow.{OrgRow}
 use Rattle.ut_keys.specs.Forms.{FitsForm, row_bytes}
 use Rattle.ut_keys.specs.Keys.{Org, spell}
@@ -13,13 +13,14 @@ use Rattle.ut_keys.specs.Reads.{ReadsAs}
 use Rattle.ut_keys.specs.Rows.{org_form}
 use Rattle.ut_model.specs.Sound.{IsSound}
 use Rattle.ut_model.specs.Tenant.{Tenant}
-use Rattle.ut_model.specs.World.{tenant_at}
-use Rattle.ut_stands.specs.Layouts.{FindsBy, org_row}
+use Rattle.ut_stands.specs.Layouts.{own_row}
+use Rattle.ut_stands.specs.Local.{FindsIn}
 use Rattle.ut_stands.specs.Metadata.{org_of}
 use Rattle.ut_stands.specs.Plan.{OrgPlan}
 use Rattle.ut_stands.specs.Stands.{row_in}
-use Rattle.ut_stands.proofs.Found.{FindsRow, IsRowOf, row_finds, row_of}
+use Rattle.ut_stands.proofs.Found.{FindsRow, IsRowOf, found_same, row_finds, row_in_org}
 use Rattle.ut_stands.proofs.Names.{NamesAreShort, NamesAreTexts, name_fits}
+use Rattle.ut_stands.proofs.Places.{PrefixLaws}
 
 -- the row of the organisation itself
 abbrev there : ℕ → OrgPlan → Tenant → Option OrgRow
@@ -54,15 +55,9 @@ module _ (texts : NamesAreTexts) (short : NamesAreShort) where
   org_is_row : (org : ℕ) → org < 2 ^ 32 → IsRowOf org_form org org (there org)
   org_is_row org lo = record { owned = refl; fits = lo; rows = rows_are org; stands = λ p t s f. (refl, org_fits org t lo s) }
 
-  pub org_finds : FindsRow org_form → (m : Tables) (org : ℕ) → org < 2 ^ 32 → (r : Result (Option OrgRow) StoreFail) → ReadsAs org_form org (map.get m (spell (Org org))) r → FindsBy (org_row org) m r
-  org_finds finds m org lo r e = by r (row_finds org_form org org (there org) (org_is_row org lo) finds m r e)
+  pub org_finds : PrefixLaws → IsAntisymmetric place_cmp → FindsRow org_form → (m : Tables) (org : ℕ) → org < 2 ^ 32 → (r : Result (Option OrgRow) StoreFail) → ReadsAs org_form org (map.get m (spell (Org org))) r → FindsIn org (own_row org) m r
+  org_finds laws exact finds m org lo r e = found_same org (row_in_org (there org)) (own_row org) m r same (row_finds laws exact org_form org lo org (there org) (org_is_row org lo) finds m r e)
     where
-      same : (o : Option Tenant) (p : OrgPlan) → option_and_then (there org p) o ≡ option_map (org_of org) o
-      same None p = refl
-      same (Some t) p = refl
-
-      by : (r : Result (Option OrgRow) StoreFail) → FindsBy (row_of org (there org)) m r → FindsBy (org_row org) m r
-      by (Ok x) h = λ p w s. h p w s ∙ same (tenant_at w org) (p.org org)
-      by (Err Damaged) h = h
-      by (Err Keeper) h = tt
-      by (Err Memory) h = tt
+      same : (p : OrgPlan) (o : Option Tenant) → option_and_then (there org p) o ≡ option_map (org_of org) o
+      same p None = refl
+      same p (Some t) = refl

@@ -16,7 +16,7 @@ use Rattle.ut_model.specs.Sound.{IsSound}
 use Rattle.ut_model.specs.Tenant.{Tenant}
 use Rattle.ut_model.specs.World.{World, tenant_at, with_tenant}
 use Rattle.ut_stands.specs.Plan.{FitsPlan, OrgPlan, Plan, opened, with_plan}
-use Rattle.ut_stands.specs.Stands.{all_tables, closed, known_version, owned_row, owner_of, Stands, StandsBy, row_at, row_in, rows_with, version_at}
+use Rattle.ut_stands.specs.Stands.{all_tables, closed, known_version, owned_row, org_of_key, Stands, StandsBy, row_at, row_in, rows_with, version_at}
 use Rattle.ut_stands.proofs.Lookups.{get_past, get_push, pick, some_is}
 
 -- rows that agree, as `ut_keys` says
@@ -28,18 +28,18 @@ SameRows = (reach : ℕ → Bool) (m : Tables) (rows others : Key → Option (Li
 abbrev rows_of : OrgPlan → Key → Option Tenant → Option (List ℕ)
 rows_of q k o = option_and_then (λ t. row_in q t k) o
 
-owned : (p : Plan) (w : World) (n : ℕ) (k : Key) → owner_of k ≡ Some n → row_at p w k ≡ rows_of (p.org n) k (tenant_at w n)
+owned : (p : Plan) (w : World) (n : ℕ) (k : Key) → org_of_key k ≡ Some n → row_at p w k ≡ rows_of (p.org n) k (tenant_at w n)
 unfolding row_at
 owned p w n Version e = absurd cc
 owned p w n k e = ap (owned_row p w k) e
 
-pub own : (p : Plan) (w : World) (n : ℕ) (t : Tenant) (k : Key) → tenant_at w n ≡ Some t → owner_of k ≡ Some n → row_at p w k ≡ row_in (p.org n) t k
+pub own : (p : Plan) (w : World) (n : ℕ) (t : Tenant) (k : Key) → tenant_at w n ≡ Some t → org_of_key k ≡ Some n → row_at p w k ≡ row_in (p.org n) t k
 own p w n t k at e = owned p w n k e ∙ ap (rows_of (p.org n) k) at
 
 tenant_past : (w : World) → tenant_at w (suc (length w)) ≡ None
 tenant_past w = get_past w
 
-pub past : (p : Plan) (w : World) (k : Key) → owner_of k ≡ Some (length w + 1) → row_at p w k ≡ None
+pub past : (p : Plan) (w : World) (k : Key) → org_of_key k ≡ Some (length w + 1) → row_at p w k ≡ None
 past p w k e =
     owned p w (length w + 1) k e
     ∙ ap (λ (n : ℕ). rows_of (p.org n) k (tenant_at w n)) (add-one (length w))
@@ -50,7 +50,7 @@ past p w k e =
 none_at : (k : Key) → ◌≡◌ {A = Option (List ℕ)} None (row_at closed [] k)
 unfolding row_at
 none_at Version = refl
-none_at k = none (owner_of k)
+none_at k = none (org_of_key k)
   where
     none : (o : Option ℕ) → ◌≡◌ {A = Option (List ℕ)} None (owned_row closed [] k o)
     none None = refl

@@ -9,12 +9,12 @@ use Rattle.ut_keys.specs.Keys.{Key}
 use Rattle.ut_model.specs.declared.record.Record.{Record}
 use Rattle.ut_model.specs.Known.{Known, known}
 use Rattle.ut_model.specs.Membership.{Has}
-use Rattle.ut_model.specs.Objects.{change_at, is_of, object_at, object_number, with_object_changed}
+use Rattle.ut_model.specs.Objects.{change_at, is_of, object_number, object_numbered, with_object_changed}
 use Rattle.ut_model.specs.Sound.{IsSound}
 use Rattle.ut_model.specs.SoundRecords.{IsSoundRecord}
 use Rattle.ut_model.specs.Tenant.{Field, Job, Object, Tenant}
-use Rattle.ut_stands.specs.Entries.{Entry, entry, job_entry, job_value, other_entry}
-use Rattle.ut_stands.specs.Plan.{OrgPlan, type_in}
+use Rattle.ut_stands.specs.Entries.{Entry, job_entry, job_value, other_entry, slot_entry}
+use Rattle.ut_stands.specs.Plan.{OrgPlan, slot_type}
 use Rattle.ut_stands.specs.Records.{Alike, KeptAlike, object_of_records, with_slot}
 use Rattle.ut_stands.specs.Stands.{row_in}
 use Rattle.ut_stands.proofs.Kept.{kept, none}
@@ -34,7 +34,7 @@ find_same f g h (x ∷ xs) = rw (h x, find_same f g h xs) refl
 abbrev pub placed : (ℕ → ℕ → ℕ) → OrgPlan → OrgPlan
 placed slots p = record p { slot = slots }
 
-pub there_same : (slots : ℕ → ℕ → ℕ) (p : OrgPlan) (j : Job) (f : Phase) (o : Outcome) → type_in (placed slots p) j f o ≡ type_in p j f o
+pub there_same : (slots : ℕ → ℕ → ℕ) (p : OrgPlan) (j : Job) (f : Phase) (o : Outcome) → slot_type (placed slots p) j f o ≡ slot_type p j f o
 there_same slots p j phase.Copy o = refl
 there_same slots p j phase.Clear outcome.Open = refl
 there_same slots p j phase.Clear outcome.Switched = refl
@@ -56,8 +56,8 @@ other_same slots p None n o r s = refl
 other_same slots p (Some j) n o r s = ap (λ (x : Option Entry). cond (eqb j.object n && eqb p.other s) x None) (job_same slots p j r (slice_get o.fields j.field))
 
 -- where the fields of an object have the slots that they had, the entries are the same
-pub entry_same : (slots : ℕ → ℕ → ℕ) (p : OrgPlan) (job : Option Job) (n : ℕ) (o : Object) (r : Record) (s : ℕ) → ((f : ℕ) → slots n f ≡ p.slot n f) → entry (placed slots p) job n o r s ≡ entry p job n o r s
-unfolding entry
+pub entry_same : (slots : ℕ → ℕ → ℕ) (p : OrgPlan) (job : Option Job) (n : ℕ) (o : Object) (r : Record) (s : ℕ) → ((f : ℕ) → slots n f ≡ p.slot n f) → slot_entry (placed slots p) job n o r s ≡ slot_entry p job n o r s
+unfolding slot_entry
 entry_same slots p job n o r s h =
     rw (find_same (λ (f : ℕ × Field). eqb (slots n f.0) s) (λ (f : ℕ × Field). eqb (p.slot n f.0) s) (λ f. ap (λ (x : ℕ). eqb x s) (h f.0)) (enumerate_from 0 o.fields), other_same slots p job n o r s) refl
 
@@ -94,49 +94,49 @@ missing_of k os n gone (x ∷ rs) all r (inl e) = subst (λ (y : Record). is_of 
         differs {o} e = none_is o (sym gone ∙ e)
 missing_of k os n gone (x ∷ rs) all r (inr h) = missing_of k os n gone rs all.1 r h
 
-pub no_records : (t : Tenant) (n : ℕ) → IsSound t → object_at t n ≡ None → (r : Record) → Has t.records r → is_of n r ≡ false
+pub no_records : (t : Tenant) (n : ℕ) → IsSound t → object_numbered t n ≡ None → (r : Record) → Has t.records r → is_of n r ≡ false
 no_records t n s gone = missing_of (known t) t.objects n gone t.records s.records.each
 
 -- ---- another access, and one more object
 
 -- records that stay as they are keep their rows where the objects that were there have the same entries
 pub rows_stay : (p q : OrgPlan) (t u : Tenant) (n : ℕ) → IsSound t → u.records ≡ t.records
-    → ((o : Object) → object_at t n ≡ Some o → (v : Object) × (object_at u n ≡ Some v) × ((r : Record) (s : ℕ) → entry q u.job n v r s ≡ entry p t.job n o r s))
+    → ((o : Object) → object_numbered t n ≡ Some o → (v : Object) × (object_numbered u n ≡ Some v) × ((r : Record) (s : ℕ) → slot_entry q u.job n v r s ≡ slot_entry p t.job n o r s))
     → (k : Key) → object_of_records k ≡ Some n → row_in q u k ≡ row_in p t k
-rows_stay p q t u n sound same entries k e = by (object_at t n) refl
+rows_stay p q t u n sound same entries k e = by (object_numbered t n) refl
   where
-    by : (o : Option Object) → object_at t n ≡ o → row_in q u k ≡ row_in p t k
+    by : (o : Option Object) → object_numbered t n ≡ o → row_in q u k ≡ row_in p t k
     by None gone =
         let idle = no_records t n sound gone in
         none q u n (subst (λ (rs : List Record). (r : Record) → Has rs r → is_of n r ≡ false) (sym same) idle) k e ∙ sym (none p t n idle k e)
     by (Some o) here =
         let (v, there, alike) = entries o here in
-        kept p q t u n o v (λ r. r) (λ r. refl) here there (same ∙ sym (map-id t.records)) (λ r h of. kept_alike r (entry q u.job n v r) (entry p t.job n o r) (alike r)) k e
+        kept p q t u n o v (λ r. r) (λ r. refl) here there (same ∙ sym (map-id t.records)) (λ r h of. kept_alike r (slot_entry q u.job n v r) (slot_entry p t.job n o r) (alike r)) k e
 
 -- an entry is of the fields alone
-entry_fields : (p : OrgPlan) (job : Option Job) (n : ℕ) (o v : Object) (r : Record) (s : ℕ) → v.fields ≡ o.fields → entry p job n v r s ≡ entry p job n o r s
-unfolding entry
-entry_fields p job n o v r s h = ap (λ (fs : List Field). entry p job n (record o { fields = fs }) r s) h
+entry_fields : (p : OrgPlan) (job : Option Job) (n : ℕ) (o v : Object) (r : Record) (s : ℕ) → v.fields ≡ o.fields → slot_entry p job n v r s ≡ slot_entry p job n o r s
+unfolding slot_entry
+entry_fields p job n o v r s h = ap (λ (fs : List Field). slot_entry p job n (record o { fields = fs }) r s) h
 
 -- an object that is changed but for its fields
 pub changed_rows : (p : OrgPlan) (t : Tenant) (n : ℕ) (change : Object → Object) (m : ℕ) → IsSound t → ((o : Object) → (change o).fields ≡ o.fields) → (k : Key) → object_of_records k ≡ Some m → row_in p (with_object_changed n change t) k ≡ row_in p t k
 changed_rows p t n change m sound same k e = rows_stay p p t (with_object_changed n change t) m sound refl entries k e
   where
-    entries : (o : Object) → object_at t m ≡ Some o → (v : Object) × (object_at (with_object_changed n change t) m ≡ Some v) × ((r : Record) (s : ℕ) → entry p t.job m v r s ≡ entry p t.job m o r s)
+    entries : (o : Object) → object_numbered t m ≡ Some o → (v : Object) × (object_numbered (with_object_changed n change t) m ≡ Some v) × ((r : Record) (s : ℕ) → slot_entry p t.job m v r s ≡ slot_entry p t.job m o r s)
     entries o here = (
       cond (eqb m n) (change o) o,
       get_changed n change t.objects m ∙ ap (option_map (λ (x : Object). cond (eqb m n) (change x) x)) here,
       λ r s. entry_fields p t.job m o (cond (eqb m n) (change o) o) r s (pick (eqb m n) (λ b. (cond b (change o) o).fields ≡ o.fields) (λ _. same o) (λ _. refl)),
     )
 
-pub not_last : (t : Tenant) (m : ℕ) (o : Object) → object_at t m ≡ Some o → eqb m (length t.objects) ≡ false
+pub not_last : (t : Tenant) (m : ℕ) (o : Object) → object_numbered t m ≡ Some o → eqb m (length t.objects) ≡ false
 not_last t m o here = pick (eqb m (length t.objects)) (λ b. b ≡ false) (λ e. absurd (none_is o (sym (get_past t.objects) ∙ subst (λ (x : ℕ). slice_get t.objects x ≡ Some o) (eqb-true m (length t.objects) e) here))) (λ _. refl)
 
 -- one more object, whose field may have a slot
 pub object_rows : (p : OrgPlan) (t : Tenant) (o : Object) (f s m : ℕ) → IsSound t → (k : Key) → object_of_records k ≡ Some m → row_in (with_slot (length t.objects) f s p) (record t { objects = t.objects ++ o ∷ [] }) k ≡ row_in p t k
 object_rows p t o f s m sound k e = rows_stay p (with_slot (length t.objects) f s p) t (record t { objects = t.objects ++ o ∷ [] }) m sound refl entries k e
   where
-    entries : (x : Object) → object_at t m ≡ Some x → (v : Object) × (slice_get (t.objects ++ o ∷ []) m ≡ Some v) × ((r : Record) (y : ℕ) → entry (with_slot (length t.objects) f s p) t.job m v r y ≡ entry p t.job m x r y)
+    entries : (x : Object) → object_numbered t m ≡ Some x → (v : Object) × (slice_get (t.objects ++ o ∷ []) m ≡ Some v) × ((r : Record) (y : ℕ) → slot_entry (with_slot (length t.objects) f s p) t.job m v r y ≡ slot_entry p t.job m x r y)
     entries x here = (
       x,
       get_push t.objects o m ∙ rw (not_last t m x here) here,

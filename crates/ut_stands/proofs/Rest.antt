@@ -8,7 +8,7 @@ use Rattle.ut_keys.specs.Keys.{Key, Version, Org, Object, Field, Job, User, Role
 use Rattle.ut_keys.specs.Rows.{field_form, job_form}
 use Rattle.ut_model.specs.declared.record.Record.{Record}
 use Rattle.ut_model.specs.NewFields.{with_field}
-use Rattle.ut_model.specs.Objects.{change_at, is_of, object_at, records_of, with_object_changed}
+use Rattle.ut_model.specs.Objects.{change_at, is_of, object_numbered, records_of, with_object_changed}
 use Rattle.ut_model.specs.Sound.{IsSound}
 use Rattle.ut_model.specs.Tenant as model
 use Rattle.ut_model.specs.Tenant.{Tenant}
@@ -68,7 +68,7 @@ module _ (p : OrgPlan) (t : Tenant) (n : ℕ) (a : Access) (sound : IsSound t) w
   access_rest (User org id) e = refl
   access_rest (Role org id) e = refl
   access_rest (Group org id) e = refl
-  access_rest (Validation org m name) e = ap (option_map _) (through (λ (x : model.Object). named_so (λ r. r.name) x.rules name) n set t.objects m (λ x at is. refl))
+  access_rest (Validation org m name) e = ap (option_map _) (through (λ (x : model.Object). named_so (λ r. r.name) x.validation_rules name) n set t.objects m (λ x at is. refl))
   access_rest (Sharing org name) e = refl
   access_rest (Data org m id) e = changed_rows p t n set m sound (λ o. refl) (Data org m id) refl
   access_rest (Index org m slot value id) e = changed_rows p t n set m sound (λ o. refl) (Index org m slot value id) refl
@@ -80,7 +80,7 @@ module _ (p : OrgPlan) (t : Tenant) (n : ℕ) (a : Access) (sound : IsSound t) w
 
 -- ---- one more object
 
-module _ (p : OrgPlan) (t : Tenant) (o : model.Object) (s : ℕ) (sound : IsSound t) (few : length o.fields ≤ 1) (unruled : o.rules ≡ []) where
+module _ (p : OrgPlan) (t : Tenant) (o : model.Object) (s : ℕ) (sound : IsSound t) (few : length o.fields ≤ 1) (unruled : o.validation_rules ≡ []) where
   abbrev next : Tenant
   next = record t { objects = t.objects ++ o ∷ [] }
 
@@ -119,7 +119,7 @@ module _ (p : OrgPlan) (t : Tenant) (o : model.Object) (s : ℕ) (sound : IsSoun
   object_rest (User org id) w e f = refl
   object_rest (Role org id) w e f = refl
   object_rest (Group org id) w e f = refl
-  object_rest (Validation org m name) w e f = ap (option_map _) (looked (λ (x : model.Object). named_so (λ r. r.name) x.rules name) m (λ _. rw unruled refl))
+  object_rest (Validation org m name) w e f = ap (option_map _) (looked (λ (x : model.Object). named_so (λ r. r.name) x.validation_rules name) m (λ _. rw unruled refl))
   object_rest (Sharing org name) w e f = refl
   object_rest (Data org m id) w e f = object_rows p t o 0 s m sound (Data org m id) refl
   object_rest (Index org m slot value id) w e f = object_rows p t o 0 s m sound (Index org m slot value id) refl
@@ -150,7 +150,7 @@ counted_in n m f (r ∷ rs) =
 pub counted : (t : Tenant) (n m : ℕ) (f : model.Field) → length (records_of (with_field n f t) m) ≡ length (records_of t m)
 counted t n m f = counted_in n m f t.records
 
-module _ (p : OrgPlan) (t : Tenant) (n : ℕ) (o : model.Object) (f : model.Field) (s : ℕ) (sound : IsSound t) (here : object_at t n ≡ Some o) (vacant : IsTrue (is_free p t.job n o s)) (suits : IsTrue (suits_flags f)) where
+module _ (p : OrgPlan) (t : Tenant) (n : ℕ) (o : model.Object) (f : model.Field) (s : ℕ) (sound : IsSound t) (here : object_numbered t n ≡ Some o) (vacant : IsTrue (is_free p t.job n o s)) (suits : IsTrue (suits_flags f)) where
   abbrev wide : Tenant
   wide = with_field n f t
 
@@ -160,7 +160,7 @@ module _ (p : OrgPlan) (t : Tenant) (n : ℕ) (o : model.Object) (f : model.Fiel
   abbrev widen : model.Object → model.Object
   widen x = record x { fields = x.fields ++ f ∷ [] }
 
-  field_there : (m g : ℕ) → (eqb m n && eqb g (length o.fields)) ≡ false → option_and_then (λ (x : model.Object). slice_get x.fields g) (object_at wide m) ≡ option_and_then (λ (x : model.Object). slice_get x.fields g) (object_at t m)
+  field_there : (m g : ℕ) → (eqb m n && eqb g (length o.fields)) ≡ false → option_and_then (λ (x : model.Object). slice_get x.fields g) (object_numbered wide m) ≡ option_and_then (λ (x : model.Object). slice_get x.fields g) (object_numbered t m)
   field_there m g e = through (λ (x : model.Object). slice_get x.fields g) n widen t.objects m same
     where
       same : (x : model.Object) → slice_get t.objects m ≡ Some x → eqb m n ≡ true → slice_get (widen x).fields g ≡ slice_get x.fields g
@@ -179,7 +179,7 @@ module _ (p : OrgPlan) (t : Tenant) (n : ℕ) (o : model.Object) (f : model.Fiel
   field_rest (User org id) e g = refl
   field_rest (Role org id) e g = refl
   field_rest (Group org id) e g = refl
-  field_rest (Validation org m name) e g = ap (option_map _) (through (λ (x : model.Object). named_so (λ r. r.name) x.rules name) n widen t.objects m (λ x at is. refl))
+  field_rest (Validation org m name) e g = ap (option_map _) (through (λ (x : model.Object). named_so (λ r. r.name) x.validation_rules name) n widen t.objects m (λ x at is. refl))
   field_rest (Sharing org name) e g = refl
   field_rest (Data org m id) e g = field_rows p t n o f s sound here vacant suits m (Data org m id) refl
   field_rest (Index org m slot value id) e g = field_rows p t n o f s sound here vacant suits m (Index org m slot value id) refl

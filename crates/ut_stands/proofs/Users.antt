@@ -1,10 +1,11 @@
--- What is read at a user's key is that user of the world.
+-- What is read at a user's key is that user of the organisation.
 use Rattle.std.proofs.Common.{◌≡◌, ℕ, ◌^◌, ◌<◌, IsTrue, List, Option, Some, None, refl, ap}
 use Rattle.std.specs.Prelude.{Result}
 use Rattle.std.specs.Option.{option_and_then, option_map}
 use Rattle.std.specs.FinMap as map
+use Rattle.std.specs.FinMap.{IsAntisymmetric}
 use Rattle.ut_value.specs.Id.{is_id}
-use Rattle.ut_keeper.specs.Tables.{Tables}
+use Rattle.ut_keeper.specs.Tables.{Tables, place_cmp}
 use Rattle.ut_keys.specs.declared.fail.StoreFail.{StoreFail}
 use Rattle.ut_keys.specs.declared.user.UserRow.{UserRow}
 use Rattle.ut_keys.specs.Forms.{row_bytes}
@@ -16,13 +17,14 @@ use Rattle.ut_model.specs.Sound.{IsSound}
 use Rattle.ut_model.specs.SoundPeople.{IsSoundUser}
 use Rattle.ut_model.specs.Tenant as model
 use Rattle.ut_model.specs.Tenant.{Tenant}
-use Rattle.ut_model.specs.World.{World, tenant_at, user_at, user_id, user_in, users_in, user_prefix}
-use Rattle.ut_stands.specs.Reads.{FindsAs}
+use Rattle.ut_model.specs.World.{user_at, user_id, users_in, user_prefix}
+use Rattle.ut_stands.specs.Local.{FindsIn}
 use Rattle.ut_stands.specs.Metadata.{user_of}
-use Rattle.ut_stands.specs.Plan.{OrgPlan, Plan}
+use Rattle.ut_stands.specs.Plan.{OrgPlan}
 use Rattle.ut_stands.specs.Stands.{row_in}
-use Rattle.ut_stands.proofs.Found.{FindsRow, IsRowOf, found_as, found_with_id, map_twice, row_finds, row_of}
+use Rattle.ut_stands.proofs.Found.{FindsRow, IsRowOf, found_same, found_with_id, map_twice, row_finds, row_in_org}
 use Rattle.ut_stands.proofs.Names.{MakesIds, NamesAreShort, NamesAreTexts, drawn_is_id, name_fits, role_is_id}
+use Rattle.ut_stands.proofs.Places.{PrefixLaws}
 
 -- the row of a user, if there is one
 abbrev pub user_there : ℕ → List ℕ → OrgPlan → Tenant → Option UserRow
@@ -52,17 +54,13 @@ module _ (makes : MakesIds) (texts : NamesAreTexts) (short : NamesAreShort) wher
     stands = λ p t s f. user_may org i t lo s (user_at t.users i) refl;
   }
 
-abbrev pub user_value : ℕ → List ℕ → World → Option UserRow
-user_value org i w = option_map (user_of org) (user_in w org i)
-
-in_world : (org : ℕ) (i : List ℕ) (p : Plan) (w : World) → row_of org (user_there org i) p w ≡ user_value org i w
-in_world org i p w = by (tenant_at w org)
-  where
-    by : (o : Option Tenant) → option_and_then (user_there org i (p.org org)) o ≡ option_map (user_of org) (user_at (users_in o) i)
-    by None = refl
-    by (Some t) = refl
-
 -- what is read at a user's key is that user
-pub user_finds : FindsRow user_form → MakesIds → NamesAreTexts → NamesAreShort → (m : Tables) (org : ℕ) (i : List ℕ) → org < 2 ^ 32 → IsTrue (is_id i) → (r : Result (Option UserRow) StoreFail) → ReadsAs user_form (org, (tt, i)) (map.get m (spell (User org i))) r → FindsAs (user_value org i) m r
-user_finds finds makes texts short m org i lo id r e =
-    found_as (row_of org (user_there org i)) (user_value org i) m r (in_world org i) (row_finds user_form org (org, (tt, i)) (user_there org i) (user_is_row makes texts short org i lo id) finds m r e)
+pub user_finds : PrefixLaws → IsAntisymmetric place_cmp → FindsRow user_form → MakesIds → NamesAreTexts → NamesAreShort → (m : Tables) (org : ℕ) (i : List ℕ) → org < 2 ^ 32 → IsTrue (is_id i)
+    → (r : Result (Option UserRow) StoreFail) → ReadsAs user_form (org, (tt, i)) (map.get m (spell (User org i))) r → FindsIn org (λ q t. option_map (user_of org) (user_at (users_in t) i)) m r
+user_finds laws exact finds makes texts short m org i lo id r e =
+    found_same org (row_in_org (user_there org i)) (λ q t. option_map (user_of org) (user_at (users_in t) i)) m r same
+    (row_finds laws exact user_form org lo (org, (tt, i)) (user_there org i) (user_is_row makes texts short org i lo id) finds m r e)
+  where
+    same : (q : OrgPlan) (t : Option Tenant) → option_and_then (user_there org i q) t ≡ option_map (user_of org) (user_at (users_in t) i)
+    same q None = refl
+    same q (Some t) = refl

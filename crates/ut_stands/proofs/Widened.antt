@@ -13,12 +13,12 @@ use Rattle.ut_model.specs.Cases.{in_case}
 use Rattle.ut_model.specs.Known.{known}
 use Rattle.ut_model.specs.Membership.{Has}
 use Rattle.ut_model.specs.NewFields.{with_field}
-use Rattle.ut_model.specs.Objects.{is_of, object_at, object_number}
+use Rattle.ut_model.specs.Objects.{is_of, object_number, object_numbered}
 use Rattle.ut_model.specs.Sound.{IsSound}
 use Rattle.ut_model.specs.SoundJob.{HasSoundJob}
 use Rattle.ut_model.specs.SoundRecords.{IsSoundRecord, all_valid, kinds_of}
 use Rattle.ut_model.specs.Tenant.{Field, Job, Object, Tenant}
-use Rattle.ut_stands.specs.Entries.{Entry, entry, field_entry, field_in, job_entry, job_value, name_text, other_entry}
+use Rattle.ut_stands.specs.Entries.{Entry, field_entry, job_entry, job_value, name_text, other_entry, slot_entry, slot_field}
 use Rattle.ut_stands.specs.Plan.{OrgPlan}
 use Rattle.ut_stands.specs.Records.{Alike, KeptAlike, is_free, is_other, object_of_records, suits_flags, with_slot}
 use Rattle.ut_stands.specs.Stands.{kept_in, row_in}
@@ -137,7 +137,7 @@ module _ (p : OrgPlan) (n : ℕ) (o : Object) (f : Field) (s : ℕ) where
   job_entry_grown : (j : Job) (r : Record) (g : Field) → suc j.field < length r.values → job_entry p j (grown r) g ≡ job_entry p j r g
   job_entry_grown j r g below = rw (job_value_grown j j.phase r below) refl
 
-  module _ (t : Tenant) (sound : IsSound t) (here : object_at t n ≡ Some o) (r : Record) (size : length r.values ≡ suc last) where
+  module _ (t : Tenant) (sound : IsSound t) (here : object_numbered t n ≡ Some o) (r : Record) (size : length r.values ≡ suc last) where
     other_by : (y : ℕ) (job : Option Job) → HasSoundJob t.counter t.objects t.records job → other_entry p job n widened (grown r) y ≡ other_entry p job n o r y
     other_by y None h = refl
     other_by y (Some j) h =
@@ -165,7 +165,7 @@ module _ (p : OrgPlan) (n : ℕ) (o : Object) (f : Field) (s : ℕ) where
       idle y e =
           free_other p t.job n o r y
           (subst (λ (x : ℕ). is_other p t.job n x ≡ false) (eqb-true s y e)
-          (not_true (is_other p t.job n s) (and_right (is_none (field_in p n o.fields s)) (not (is_other p t.job n s)) free)))
+          (not_true (is_other p t.job n s) (and_right (is_none (slot_field p n o.fields s)) (not (is_other p t.job n s)) free)))
 
       new_alike : Alike (Some (field_entry (grown r) (last, f))) None
       new_alike = subst (λ (v : Value). Alike (Some (record { kind = f.kind; value = v; indexed = f.indexed; unique = f.unique })) None) (sym (value_last r size)) (empty_by f.kind f.indexed f.unique suits)
@@ -173,17 +173,17 @@ module _ (p : OrgPlan) (n : ℕ) (o : Object) (f : Field) (s : ℕ) where
       abbrev made : (y : ℕ) → Option (ℕ × Field) → Option Entry
       made y g = in_case g (other_entry wider t.job n widened (grown r) y) (λ x. Some (field_entry (grown r) x))
 
-      entry_grown : (y : ℕ) → Alike (entry wider t.job n widened (grown r) y) (entry p t.job n o r y)
-      unfolding entry
-      entry_grown y = by (field_in p n o.fields y) refl
+      entry_grown : (y : ℕ) → Alike (slot_entry wider t.job n widened (grown r) y) (slot_entry p t.job n o r y)
+      unfolding slot_entry
+      entry_grown y = by (slot_field p n o.fields y) refl
         where
-          by : (g : Option (ℕ × Field)) → field_in p n o.fields y ≡ g → Alike (made y (field_in wider n widened.fields y)) (in_case g (other_entry p t.job n o r y) (λ x. Some (field_entry r x)))
+          by : (g : Option (ℕ × Field)) → slot_field p n o.fields y ≡ g → Alike (made y (slot_field wider n widened.fields y)) (in_case g (other_entry p t.job n o r y) (λ x. Some (field_entry r x)))
           by (Some g) e =
-              let new : field_in wider n widened.fields y ≡ Some g = find_grown y o.fields 0 (omega arith) ∙ ap (or_new y) e in
+              let new : slot_field wider n widened.fields y ≡ Some g = find_grown y o.fields 0 (omega arith) ∙ ap (or_new y) e in
               let below : suc g.0 < length r.values = omega (arith, size, found_below (λ (x : ℕ × Field). eqb (p.slot n x.0) y) o.fields 0 g e) in
-              alike_same (made y (field_in wider n widened.fields y)) (Some (field_entry r g)) (ap (made y) new ∙ ap (λ (v : Value). Some (record { kind = g.1.kind; value = v; indexed = g.1.indexed; unique = g.1.unique })) (value_before r (suc g.0) below))
+              alike_same (made y (slot_field wider n widened.fields y)) (Some (field_entry r g)) (ap (made y) new ∙ ap (λ (v : Value). Some (record { kind = g.1.kind; value = v; indexed = g.1.indexed; unique = g.1.unique })) (value_before r (suc g.0) below))
           by None e =
-              let new : field_in wider n widened.fields y ≡ cond (eqb s y) (Some (last, f)) None = find_grown y o.fields 0 (omega arith) ∙ ap (or_new y) e in
+              let new : slot_field wider n widened.fields y ≡ cond (eqb s y) (Some (last, f)) None = find_grown y o.fields 0 (omega arith) ∙ ap (or_new y) e in
               subst (λ (x : Option (ℕ × Field)). Alike (made y x) (other_entry p t.job n o r y)) (sym new)
               (pick (eqb s y) (λ b. Alike (made y (cond b (Some (last, f)) None)) (other_entry p t.job n o r y))
               (λ is. subst (λ (x : Option Entry). Alike (Some (field_entry (grown r) (last, f))) x) (sym (idle y is)) new_alike)
@@ -201,7 +201,7 @@ module _ (p : OrgPlan) (n : ℕ) (o : Object) (f : Field) (s : ℕ) where
 
 -- ---- all records
 
-module _ (p : OrgPlan) (t : Tenant) (n : ℕ) (o : Object) (f : Field) (s : ℕ) (sound : IsSound t) (here : object_at t n ≡ Some o) (free : IsTrue (is_free p t.job n o s)) (suits : IsTrue (suits_flags f)) where
+module _ (p : OrgPlan) (t : Tenant) (n : ℕ) (o : Object) (f : Field) (s : ℕ) (sound : IsSound t) (here : object_numbered t n ≡ Some o) (free : IsTrue (is_free p t.job n o s)) (suits : IsTrue (suits_flags f)) where
   abbrev change : Record → Record
   change r = if is_of n r then grown p n o f s r else r
 
@@ -224,27 +224,27 @@ module _ (p : OrgPlan) (t : Tenant) (n : ℕ) (o : Object) (f : Field) (s : ℕ)
   alike_there m x apart r h of =
       let other : is_of n r ≡ false = subst (λ (i : ℕ). eqb i n ≡ false) (sym (eqb-true (object_number r.id) m of)) apart in
       subst (λ (b : Bool). KeptAlike (kept_in (wider p n o f s) t m x (cond b (grown p n o f s r) r)) (kept_in p t m x r)) (sym other)
-      (kept_alike r (entry (wider p n o f s) t.job m x r) (entry p t.job m x r) (λ y. entry_same (wider p n o f s).slot p t.job m x r y (λ g. rw apart refl)))
+      (kept_alike r (slot_entry (wider p n o f s) t.job m x r) (slot_entry p t.job m x r) (λ y. entry_same (wider p n o f s).slot p t.job m x r y (λ g. rw apart refl)))
 
   abbrev next : Tenant
   next = with_field n f t
 
   pub field_rows : (m : ℕ) (k : Key) → object_of_records k ≡ Some m → row_in (wider p n o f s) (with_field n f t) k ≡ row_in p t k
-  field_rows m k e = by (object_at t m) refl
+  field_rows m k e = by (object_numbered t m) refl
     where
-      still : object_at t m ≡ None → (r : Record) → Has next.records r → is_of m r ≡ false
+      still : object_numbered t m ≡ None → (r : Record) → Has next.records r → is_of m r ≡ false
       still gone r h =
           let (x, there, is) = has_mapped change t.records r h in
           subst (λ (y : Record). is_of m y ≡ false) (sym is) (ap (λ (i : List ℕ). eqb (object_number i) m) (ids x) ∙ no_records t m sound gone x there)
 
-      by : (x : Option Object) → object_at t m ≡ x → row_in (wider p n o f s) next k ≡ row_in p t k
+      by : (x : Option Object) → object_numbered t m ≡ x → row_in (wider p n o f s) next k ≡ row_in p t k
       by None gone = none (wider p n o f s) next m (still gone) k e ∙ sym (none p t m (no_records t m sound gone) k e)
       by (Some x) there =
-          let put : object_at next m ≡ Some (cond (eqb m n) (record x { fields = x.fields ++ f ∷ [] }) x) = get_changed n (λ (y : Object). record y { fields = y.fields ++ f ∷ [] }) t.objects m ∙ ap (option_map (λ (y : Object). cond (eqb m n) (record y { fields = y.fields ++ f ∷ [] }) y)) there in
-          pick (eqb m n) (λ b. object_at next m ≡ Some (cond b (record x { fields = x.fields ++ f ∷ [] }) x) → row_in (wider p n o f s) next k ≡ row_in p t k)
+          let put : object_numbered next m ≡ Some (cond (eqb m n) (record x { fields = x.fields ++ f ∷ [] }) x) = get_changed n (λ (y : Object). record y { fields = y.fields ++ f ∷ [] }) t.objects m ∙ ap (option_map (λ (y : Object). cond (eqb m n) (record y { fields = y.fields ++ f ∷ [] }) y)) there in
+          pick (eqb m n) (λ b. object_numbered next m ≡ Some (cond b (record x { fields = x.fields ++ f ∷ [] }) x) → row_in (wider p n o f s) next k ≡ row_in p t k)
           (λ is at.
           let same : m ≡ n = eqb-true m n is in
           let object : x ≡ o = some_is x o (sym there ∙ ap (slice_get t.objects) same ∙ here) in
-          kept p (wider p n o f s) t next n o (widened p n o f s) change ids here (subst (λ (i : ℕ). object_at next i ≡ Some (widened p n o f s)) same (at ∙ ap (λ (y : Object). Some (record y { fields = y.fields ++ f ∷ [] })) object)) refl alike_here k (e ∙ ap Some same))
+          kept p (wider p n o f s) t next n o (widened p n o f s) change ids here (subst (λ (i : ℕ). object_numbered next i ≡ Some (widened p n o f s)) same (at ∙ ap (λ (y : Object). Some (record y { fields = y.fields ++ f ∷ [] })) object)) refl alike_here k (e ∙ ap Some same))
           (λ apart at. kept p (wider p n o f s) t next m x x change ids there at refl (alike_there m x apart) k e)
           put

@@ -6,7 +6,7 @@ use Rattle.ut_keeper.specs.Tables.{Tables}
 use Rattle.ut_keys.specs.Keys.{FitsKey, Key, key_eq, spell}
 use Rattle.ut_model.specs.Tenant.{Tenant}
 use Rattle.ut_stands.specs.Plan.{OrgPlan}
-use Rattle.ut_stands.specs.Stands.{owner_of, row_in}
+use Rattle.ut_stands.specs.Stands.{org_of_key, row_in}
 
 -- another row at a key, or none
 abbrev pub Change : Type 0
@@ -28,4 +28,4 @@ is_changed changes k = list_any (λ c. key_eq k c.0) changes
 
 -- a change to what the tenant, the organisation with this number, has at a key of its own
 abbrev pub IsOf : (org : ℕ) → OrgPlan → Tenant → Change → Type 0
-IsOf org p t c = FitsKey c.0 × (owner_of c.0 ≡ Some org) × (row_in p t c.0 ≡ c.1)
+IsOf org p t c = FitsKey c.0 × (org_of_key c.0 ≡ Some org) × (row_in p t c.0 ≡ c.1)

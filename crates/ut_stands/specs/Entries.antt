@@ -31,8 +31,8 @@ pub record Entry : Type 0 where
 -- ---- which is in a slot
 
 -- the field with this slot, and its number
-abbrev pub field_in : OrgPlan → (object : ℕ) → List Field → (slot : ℕ) → Option (ℕ × Field)
-field_in p n fields s = find (λ (f : ℕ × Field). p.slot n f.0 == s) (enumerate_from 0 fields)
+abbrev pub slot_field : OrgPlan → (object : ℕ) → List Field → (slot : ℕ) → Option (ℕ × Field)
+slot_field p n fields s = find (λ (f : ℕ × Field). p.slot n f.0 == s) (enumerate_from 0 fields)
 
 -- a record's value of a field: the values begin with the name
 abbrev pub field_entry : Record → ℕ × Field → Entry
@@ -55,8 +55,8 @@ other_entry p job n o r s =
     if (j.object == n) && (p.other == s) then option_and_then (job_entry p j r) (slice_get o.fields j.field) else None)
 
 -- what is in a slot of a record of the object with this number
-unfoldable pub entry : OrgPlan → Option Job → (object : ℕ) → Object → Record → (slot : ℕ) → Option Entry
-entry p job n o r s = in_case (field_in p n o.fields s) (other_entry p job n o r s) (λ f. Some (field_entry r f))
+unfoldable pub slot_entry : OrgPlan → Option Job → (object : ℕ) → Object → Record → (slot : ℕ) → Option Entry
+slot_entry p job n o r s = in_case (slot_field p n o.fields s) (other_entry p job n o r s) (λ f. Some (field_entry r f))
 
 -- ---- what the rows have of it
 

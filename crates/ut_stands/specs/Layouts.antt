@@ -12,13 +12,13 @@ use Rattle.ut_keys.specs.declared.fail.StoreFail.TheVariants.{Keeper, Memory, Da
 use Rattle.ut_model.specs.declared.record.Record.{Record}
 use Rattle.ut_model.specs.Cases.{in_case}
 use Rattle.ut_model.specs.Jobs.{is_past}
-use Rattle.ut_model.specs.Objects.{Numbered, is_of, numbered, object_at, object_named, record_at, records_of}
+use Rattle.ut_model.specs.Objects.{Numbered, is_of, numbered, object_named, object_numbered, record_at, records_of}
 use Rattle.ut_model.specs.Tenant.{Field, Job, Tenant}
 use Rattle.ut_model.specs.World.{World, tenant_at}
 use Rattle.ut_stands.specs.declared.layout.FieldPlace.{FieldPlace}
 use Rattle.ut_stands.specs.declared.layout.JobPlace.{JobPlace}
 use Rattle.ut_stands.specs.declared.layout.Layout.{Layout}
-use Rattle.ut_stands.specs.Metadata.{object_of, org_of}
+use Rattle.ut_stands.specs.Metadata.{org_of, row_of_object}
 use Rattle.ut_stands.specs.Plan.{OrgPlan, Plan, type_there}
 use Rattle.ut_stands.specs.Stands.{StandsBy}
 
@@ -57,27 +57,44 @@ layout_of org p t o =
 
 -- the object with this number, in a tenant
 abbrev pub numbered_at : Tenant → ℕ → Option Numbered
-numbered_at t n = option_map (λ o. record { number = n; object = o }) (object_at t n)
+numbered_at t n = option_map (λ o. record { number = n; object = o }) (object_numbered t n)
 
--- the layout of the object with this number, and of the one with this name, whatever the case of its letters
+-- in one organisation, which is this tenant or isn't there: the layout of the object with this number, of the one with this
+-- name, whatever the case of its letters, and of all objects in their order
+unfoldable pub own_layout : (org object : ℕ) → OrgPlan → Option Tenant → Option Layout
+own_layout org n q t = option_and_then (λ u. option_map (layout_of org q u) (numbered_at u n)) t
+
+unfoldable pub own_layout_named : (org : ℕ) → List ℕ → OrgPlan → Option Tenant → Option Layout
+own_layout_named org name q t = option_and_then (λ u. option_map (layout_of org q u) (object_named u name)) t
+
+unfoldable pub own_layouts : (org : ℕ) → OrgPlan → Option Tenant → List Layout
+own_layouts org q t = in_case t [] (λ u. map (layout_of org q u) (numbered u.objects))
+
+-- the same of a world
 unfoldable pub layout_at : (org object : ℕ) → Plan → World → Option Layout
 layout_at org n p w = option_and_then (λ t. option_map (layout_of org (p.org org) t) (numbered_at t n)) (tenant_at w org)
 
 unfoldable pub layout_named : (org : ℕ) → List ℕ → Plan → World → Option Layout
 layout_named org name p w = option_and_then (λ t. option_map (layout_of org (p.org org) t) (object_named t name)) (tenant_at w org)
 
--- the layouts of all objects, in their order; none where there is no such organisation
 unfoldable pub layouts_of : (org : ℕ) → Plan → World → List Layout
 layouts_of org p w = in_case (tenant_at w org) [] (λ t. map (layout_of org (p.org org) t) (numbered t.objects))
 
 -- ---- rows
 
--- the row of the organisation with this number, and of one of its objects
+-- in one organisation: its row, and that of one of its objects
+abbrev pub own_row : (org : ℕ) → OrgPlan → Option Tenant → Option OrgRow
+own_row org q t = option_map (org_of org) t
+
+abbrev pub own_object_row : (org object : ℕ) → OrgPlan → Option Tenant → Option ObjectRow
+own_object_row org n q t = option_and_then (λ u. option_map (row_of_object org u n) (object_numbered u n)) t
+
+-- the same of a world
 abbrev pub org_row : (org : ℕ) → Plan → World → Option OrgRow
 org_row org p w = option_map (org_of org) (tenant_at w org)
 
 abbrev pub object_row : (org object : ℕ) → Plan → World → Option ObjectRow
-object_row org n p w = option_and_then (λ t. option_map (object_of org t n) (object_at t n)) (tenant_at w org)
+object_row org n p w = option_and_then (λ t. option_map (row_of_object org t n) (object_numbered t n)) (tenant_at w org)
 
 -- ---- records
 

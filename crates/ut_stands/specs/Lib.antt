@@ -4,6 +4,8 @@ pub mod Entries
 pub mod Metadata
 pub mod Stands
 pub mod Changes
+pub mod Local
+pub mod Calls
 pub mod Operations
 pub mod Reads
 pub mod Layouts

@@ -35,7 +35,7 @@ org_of n t =
       users = length t.users;
       roles = length t.roles;
       groups = length t.groups;
-      sharing_rules = length t.rules;
+      sharing_rules = length t.sharing_rules;
       rule_numbers = t.rule_numbers;
     }
 
@@ -57,8 +57,8 @@ abbrev pub access_of : Access → ObjectAccess
 access_of access = record { access = access; hierarchy = true }
 
 -- the object with this number
-abbrev pub object_of : ℕ → Tenant → ℕ → Object → ObjectRow
-object_of org t n o =
+abbrev pub row_of_object : ℕ → Tenant → ℕ → Object → ObjectRow
+row_of_object org t n o =
     record {
       org = org;
       object = n;
@@ -66,7 +66,7 @@ object_of org t n o =
       access = access_of o.access;
       records = length (records_of t n);
       fields = length o.fields;
-      validation_rules = length o.rules;
+      validation_rules = length o.validation_rules;
     }
 
 -- a field of this object, with its number and its slot
@@ -108,9 +108,9 @@ abbrev pub validation_of : ℕ → ℕ → ValidationRule → ValidationRow
 validation_of org n r =
     record { org = org; object = n; lower_name = lower_bytes r.name; name = r.name; formula = r.formula; message = r.message }
 
-abbrev pub source_of : Source → RuleSource
-source_of (owned principal) = source.Owner principal
-source_of (meets formula) = source.Criteria formula
+abbrev pub source_part : Source → RuleSource
+source_part (owned principal) = source.Owner principal
+source_part (meets formula) = source.Criteria formula
 
 abbrev pub sharing_of : ℕ → SharingRule → SharingRow
 sharing_of org r =
@@ -120,15 +120,15 @@ sharing_of org r =
       name = r.name;
       object = r.object;
       number = r.number;
-      source = source_of r.source;
+      source = source_part r.source;
       to = r.to;
       level = r.level;
       state = r.state;
       cursor = r.cursor;
     }
 
-abbrev pub share_of : ℕ → Share → ShareRow
-share_of org s = record { org = org; id = s.item; to = s.to; level = s.level }
+abbrev pub row_of_share : ℕ → Share → ShareRow
+row_of_share org s = record { org = org; id = s.item; to = s.to; level = s.level }
 
 -- the rule with this name in lower case
 abbrev pub named_so : {X : Type 0} → (X → List ℕ) → List X → List ℕ → Option X

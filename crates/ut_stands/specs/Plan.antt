@@ -13,7 +13,7 @@ use Rattle.ut_value.specs.declared.job.Phase.TheVariants as phase
 use Rattle.ut_value.specs.declared.value.FieldType.{FieldType}
 use Rattle.ut_value.specs.declared.value.FieldType.TheVariants as type
 use Rattle.ut_value.specs.declared.value.Value.{Value}
-use Rattle.ut_model.specs.Objects.{object_at}
+use Rattle.ut_model.specs.Objects.{object_numbered}
 use Rattle.ut_model.specs.Retyping.{job_is_done}
 use Rattle.ut_model.specs.SoundJob.{is_switched, job_field}
 use Rattle.ut_model.specs.Tenant.{Field, Job, Tenant}
@@ -54,20 +54,20 @@ with_plan n q p = record p { org = λ k. if k == n then q else p.org k }
 
 -- the object with this number has a field with this one
 abbrev pub has_field : Tenant → (object field : ℕ) → Bool
-has_field t n f = is_some (option_and_then (λ o. slice_get o.fields f) (object_at t n))
+has_field t n f = is_some (option_and_then (λ o. slice_get o.fields f) (object_numbered t n))
 
 -- the type of what is in the slot of a change: once it is switched, the values of the old type are left
-abbrev pub type_in : OrgPlan → Job → Phase → Outcome → FieldType
-type_in p j phase.Clear outcome.Switched = p.was
-type_in p j _ _ = j.to
+abbrev pub slot_type : OrgPlan → Job → Phase → Outcome → FieldType
+slot_type p j phase.Clear outcome.Switched = p.was
+slot_type p j _ _ = j.to
 
 abbrev pub type_there : OrgPlan → Job → FieldType
-type_there p j = type_in p j j.phase j.outcome
+type_there p j = slot_type p j j.phase j.outcome
 
 -- values are being cleared
-abbrev pub is_clear : Phase → Bool
-is_clear phase.Clear = true
-is_clear _ = false
+abbrev pub is_clearing : Phase → Bool
+is_clearing phase.Clear = true
+is_clearing _ = false
 
 -- each field of an object has a slot of its own, and so has a change that isn't done; what is left is of its type
 pub record FitsPlan (p : OrgPlan) (t : Tenant) : Type 0 where
@@ -78,6 +78,6 @@ pub record FitsPlan (p : OrgPlan) (t : Tenant) : Type 0 where
       → (f : ℕ) → IsTrue (has_field t j.object f) → p.slot j.object f ≡ p.other → ⊥
   pub was : IsTrue (is_type p.was && not (is_reference p.was))
   -- the type before a switch suited the field, and converts to the new one
-  pub switched : (j : Job) (f : Field) → t.job ≡ Some j → is_clear j.phase ≡ true → is_switched j.outcome ≡ true → job_field t.objects j ≡ Some f
+  pub switched : (j : Job) (f : Field) → t.job ≡ Some j → is_clearing j.phase ≡ true → is_switched j.outcome ≡ true → job_field t.objects j ≡ Some f
       → IsTrue ((not f.indexed || suits_indexed p.was) && convertible p.was j.to)
-  pub left : (j : Job) (i : List ℕ) (v : Value) → t.job ≡ Some j → is_clear j.phase ≡ true → p.left i ≡ Some v → IsTrue (valid (type_there p j) v)
+  pub left : (j : Job) (i : List ℕ) (v : Value) → t.job ≡ Some j → is_clearing j.phase ≡ true → p.left i ≡ Some v → IsTrue (valid (type_there p j) v)

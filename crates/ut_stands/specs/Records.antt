@@ -9,7 +9,7 @@ use Rattle.ut_model.specs.Retyping.{job_is_done}
 use Rattle.ut_model.specs.SoundMetadata.{implies}
 use Rattle.ut_model.specs.Tenant as model
 use Rattle.ut_model.specs.Tenant.{Job}
-use Rattle.ut_stands.specs.Entries.{Entry, entry_text, field_in, is_indexed, is_reference_to, is_unique, name_text}
+use Rattle.ut_stands.specs.Entries.{Entry, entry_text, is_indexed, is_reference_to, is_unique, name_text, slot_field}
 use Rattle.ut_stands.specs.declared.layout.Layout.{Layout}
 use Rattle.ut_stands.specs.Plan.{OrgPlan}
 use Rattle.ut_stands.specs.Stands.{Kept}
@@ -62,7 +62,7 @@ is_other p job n s = in_case job false (λ j. not (job_is_done j.phase) && ((j.o
 
 -- no field of the object has this slot, and no change that isn't done
 abbrev pub is_free : OrgPlan → Option Job → (object : ℕ) → model.Object → (slot : ℕ) → Bool
-is_free p job n o s = is_none (field_in p n o.fields s) && not (is_other p job n s)
+is_free p job n o s = is_none (slot_field p n o.fields s) && not (is_other p job n s)
 
 -- the same by the object's layout
 abbrev pub has_free : Layout → (slot : ℕ) → Bool

@@ -14,7 +14,7 @@ size_field =
     record { name = codes "Size__c"; kind = type.Number 4 0; required = false; unique = false; indexed = true; child = None }
 
 abbrev pub deal : Object
-deal = record { name = codes "Deal__c"; access = access.ReadWrite; fields = size_field ∷ []; rules = [] }
+deal = record { name = codes "Deal__c"; access = access.ReadWrite; fields = size_field ∷ []; validation_rules = [] }
 
 -- a record named `A` whose size is 7, and one without a name whose size is 9
 abbrev pub first : Record
@@ -48,7 +48,7 @@ acme phase outcome =
       users = [];
       roles = [];
       groups = [];
-      rules = [];
+      sharing_rules = [];
       records = first ∷ second ∷ [];
       shares = [];
       job = Some (record { object = 0; field = 0; to = type.Text 10; phase = phase; outcome = outcome; cursor = Some first.id; failed = None });

@@ -13,7 +13,7 @@ ghost use Rattle.ut_model.specs.Tenant.{Tenant};
 ghost use Rattle.ut_model.specs.World.{World, tenant_at, with_tenant};
 ghost use Rattle.ut_stands.specs.Changes.{Change, IsOf, is_changed, with_changes};
 ghost use Rattle.ut_stands.specs.Plan.{FitsPlan, OrgPlan, Plan, opened, with_plan};
-ghost use Rattle.ut_stands.specs.Stands.{HasKnownVersion, HasUnknownVersion, Stands, StandsBy, all_tables, closed, owner_of, row_at, row_in, rows_with, version_at};
+ghost use Rattle.ut_stands.specs.Stands.{HasKnownVersion, HasUnknownVersion, Stands, StandsBy, all_tables, closed, org_of_key, row_at, row_in, rows_with, version_at};
 ghost use Rattle.ut_stands.specs.WorkedRows.{acme, acme_plan, first, second};
 ghost use Rattle.ut_value.specs.OrderKeys.{order_key};
 ghost use Rattle.ut_value.specs.declared.job.Outcome.TheVariants as outcome;
@@ -34,8 +34,8 @@ pub fn stands_laws()
 
     // At the keys of an organisation are the rows of its tenant, and past the last organisation there are none.
     ensures own { (p : Plan) (w : World) (n : ℕ) (t : Tenant) (k : Key)
-        → tenant_at w n ≡ Some t → owner_of k ≡ Some n → row_at p w k ≡ row_in (p.org n) t k }
-    ensures past { (p : Plan) (w : World) (k : Key) → owner_of k ≡ Some (length w + 1) → row_at p w k ≡ None }
+        → tenant_at w n ≡ Some t → org_of_key k ≡ Some n → row_at p w k ≡ row_in (p.org n) t k }
+    ensures past { (p : Plan) (w : World) (k : Key) → org_of_key k ≡ Some (length w + 1) → row_at p w k ≡ None }
 
     // Each organisation is sound.
     ensures sound { (m : Tables) (w : World) (n : ℕ) (t : Tenant) → Stands m w → tenant_at w n ≡ Some t → IsSound t }
@@ -56,7 +56,7 @@ pub fn stands_laws()
     ensures edited { (p : Plan) (m : Tables) (w : World) (n : ℕ) (t u : Tenant) (q : OrgPlan) (changes : List Change)
         → StandsBy p m w → tenant_at w n ≡ Some t → IsSound u → FitsPlan q u
         → AllByRecursion (IsOf n q u) changes
-        → ((k : Key) → owner_of k ≡ Some n → is_changed changes k ≡ false → row_in q u k ≡ row_in (p.org n) t k)
+        → ((k : Key) → org_of_key k ≡ Some n → is_changed changes k ≡ false → row_in q u k ≡ row_in (p.org n) t k)
         → StandsBy (with_plan n q p) (with_changes changes m) (with_tenant w n u) }
 {
     table_laws();

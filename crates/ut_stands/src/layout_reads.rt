@@ -1,16 +1,19 @@
 //! How layouts are read.
 
-ghost use Rattle.std.specs.Prelude.{◌≡◌, IfOk, IsErrOf, is_ok, map};
+ghost use Rattle.std.specs.Prelude.{◌≡◌, IfOk, map};
+ghost use Rattle.std.specs.Option.{option_and_then};
 ghost use Rattle.std.specs.Str.{chars};
-ghost use Rattle.ut_keeper.specs.Draft.{DraftReads, DraftTells, state_of, tables_of};
-ghost use Rattle.ut_keeper.specs.State.{KeeperCause, StaysAfter};
-ghost use Rattle.ut_keys.specs.declared.fail.StoreFail.TheVariants.{Keeper};
-ghost use Rattle.ut_stands.specs.inner.LayoutRows.{ListsBy, job_in, job_of_row, layout_by, layout_by_found, layouts_by, object_rows, place_of_row, places_in, row_named};
-ghost use Rattle.ut_stands.specs.Layouts.{FindsBy, layout_at, layout_named, layouts_of};
+ghost use Rattle.ut_keeper.specs.Draft.{DraftTells, tables_of};
+ghost use Rattle.ut_stands.specs.Calls.{Calls, ended};
+ghost use Rattle.ut_stands.specs.inner.LayoutRows.{ListsIn, change_row, job_of_row, layout_by, layout_by_found, layouts_by, object_rows, place_of_row, places_in, row_named};
+ghost use Rattle.ut_stands.specs.Layouts.{own_layout, own_layout_named, own_layouts};
+ghost use Rattle.ut_stands.specs.Local.{FindsIn};
 
+use crate::calls::call_laws;
 use crate::layout::{FieldPlace, JobPlace, Layout};
+use crate::local::local_laws;
 use std::alloc::{AllocError, Global};
-use ut_keeper::{Draft, Keeper, draft_laws};
+use ut_keeper::{Draft, Keeper, draft_laws, key_laws};
 use ut_keys::{
     FieldRow, JobRow, ObjectRow, StoreFail, listing_laws, page_under, row_at, row_laws, table_laws,
 };
@@ -49,74 +52,85 @@ fn fields_of<K: Keeper>(
     object: u16,
 ) -> Result<Items<FieldPlace>, StoreFail>
     ensures finds { DraftTells K.state draft.old draft.new
-        → FindsBy (places_in org object) (tables_of K.state draft.old) result }
-    ensures reads { DraftReads K.state 0 draft.old draft.new }
-    ensures stays { StaysAfter (is_ok result) (state_of K.state draft.old) (state_of K.state draft.new) }
-    ensures cause { KeeperCause (state_of K.state draft.old) (state_of K.state draft.new) (IsErrOf result Keeper) }
+        → FindsIn org (places_in object) (tables_of K.state draft.old) result }
+    ensures calls { Calls K.state 0 (ended result) draft.old draft.new }
 {
+    local_laws();
     listing_laws::<FieldRow>();
     table_laws();
     shape_laws();
+    call_laws::<K>();
     let rows: Vec<FieldRow> = page_under(alloc, draft, &(org, object), None, 41)?;
     Ok(places_of(alloc, rows)?)
 }
 
-// The place of a change, from its row, if it is on this object.
-fn job_of(row: JobRow, object: u16) -> Option<JobPlace>
-    ensures { result ≡ job_of_row object row }
-{
-    if row.object == object {
-        Some(JobPlace {
-            field: row.field,
-            kind: row.kind,
-            twin: row.twin,
-            phase: row.phase,
-            cursor: row.cursor,
-        })
-    } else {
-        None
-    }
-}
-
-// The change of a field's type that is made on an object.
-fn job_on<K: Keeper>(
+// The row of the change of a field's type, if one is made.
+fn change_row<K: Keeper>(
     alloc: Global,
     draft: &mut Draft<'_, K>,
     org: u32,
-    object: u16,
-) -> Result<Option<JobPlace>, StoreFail>
+) -> Result<Option<JobRow>, StoreFail>
     ensures finds { DraftTells K.state draft.old draft.new
-        → FindsBy (job_in org object) (tables_of K.state draft.old) result }
-    ensures reads { DraftReads K.state 0 draft.old draft.new }
-    ensures stays { StaysAfter (is_ok result) (state_of K.state draft.old) (state_of K.state draft.new) }
-    ensures cause { KeeperCause (state_of K.state draft.old) (state_of K.state draft.new) (IsErrOf result Keeper) }
+        → FindsIn org (change_row org) (tables_of K.state draft.old) result }
+    ensures calls { Calls K.state 0 (ended result) draft.old draft.new }
 {
+    key_laws();
+    table_laws();
     row_laws::<JobRow>();
     id_laws();
-    match row_at::<JobRow, K>(alloc, draft, &org) {
-        Ok(None) => Ok(None),
-        Ok(Some(row)) => Ok(job_of(row, object)),
-        Err(fail) => Err(fail),
+    row_at(alloc, draft, &org)
+}
+
+// The place of a change, from its row, if it is on this object.
+fn job_of(alloc: Global, row: &JobRow, object: u16) -> Result<Option<JobPlace>, AllocError>
+    ensures { IfOk result (λ job. job ≡ job_of_row object row.now) }
+{
+    if row.object == object {
+        let kind = row.kind.copy(alloc)?;
+        Ok(Some(JobPlace {
+            field: row.field,
+            kind,
+            twin: row.twin,
+            phase: row.phase,
+            cursor: row.cursor,
+        }))
+    } else {
+        Ok(None)
     }
 }
 
-// The layout of an object, from its row.
+// The change on an object, from the row of the change, if one is made.
+fn job_on(
+    alloc: Global,
+    change: &Option<JobRow>,
+    object: u16,
+) -> Result<Option<JobPlace>, AllocError>
+    ensures { IfOk result (λ job. job ≡ option_and_then (job_of_row object) change.now) }
+{
+    match change {
+        None => Ok(None),
+        Some(row) => job_of(alloc, row, object),
+    }
+}
+
+// The layout of an object, from its row and that of the change.
 fn layout_of_row<K: Keeper>(
     alloc: Global,
     draft: &mut Draft<'_, K>,
+    org: u32,
     row: ObjectRow,
+    change: &Option<JobRow>,
 ) -> Result<Layout, StoreFail>
     ensures finds { DraftTells K.state draft.old draft.new
-        → FindsBy (layout_by row) (tables_of K.state draft.old) result }
-    ensures reads { DraftReads K.state 0 draft.old draft.new }
-    ensures stays { StaysAfter (is_ok result) (state_of K.state draft.old) (state_of K.state draft.new) }
-    ensures cause { KeeperCause (state_of K.state draft.old) (state_of K.state draft.new) (IsErrOf result Keeper) }
+        → FindsIn org (layout_by org row change.now) (tables_of K.state draft.old) result }
+    ensures calls { Calls K.state 0 (ended result) draft.old draft.new }
 {
     draft_laws::<K>();
-    let fields = fields_of(alloc, draft, row.org, row.object)?;
-    let job = job_on(alloc, draft, row.org, row.object)?;
+    call_laws::<K>();
+    let fields = fields_of(alloc, draft, org, row.object)?;
+    let job = job_on(alloc, change, row.object)?;
     Ok(Layout {
-        org: row.org,
+        org,
         object: row.object,
         name: row.name,
         access: row.access.access,
@@ -132,11 +146,10 @@ fn objects_of<K: Keeper>(
     org: u32,
 ) -> Result<Vec<ObjectRow>, StoreFail>
     ensures finds { DraftTells K.state draft.old draft.new
-        → ListsBy (object_rows org) (tables_of K.state draft.old) result }
-    ensures reads { DraftReads K.state 0 draft.old draft.new }
-    ensures stays { StaysAfter (is_ok result) (state_of K.state draft.old) (state_of K.state draft.new) }
-    ensures cause { KeeperCause (state_of K.state draft.old) (state_of K.state draft.new) (IsErrOf result Keeper) }
+        → ListsIn org (object_rows org) (tables_of K.state draft.old) result }
+    ensures calls { Calls K.state 0 (ended result) draft.old draft.new }
 {
+    local_laws();
     listing_laws::<ObjectRow>();
     table_laws();
     shape_laws();
@@ -155,21 +168,24 @@ fn row_named(rows: Vec<ObjectRow>, name: &str) -> Option<ObjectRow>
 fn layout_of_found<K: Keeper>(
     alloc: Global,
     draft: &mut Draft<'_, K>,
+    org: u32,
     row: Option<ObjectRow>,
 ) -> Result<Option<Layout>, StoreFail>
     ensures finds { DraftTells K.state draft.old draft.new
-        → FindsBy (layout_by_found row) (tables_of K.state draft.old) result }
-    ensures reads { DraftReads K.state 0 draft.old draft.new }
-    ensures stays { StaysAfter (is_ok result) (state_of K.state draft.old) (state_of K.state draft.new) }
-    ensures cause { KeeperCause (state_of K.state draft.old) (state_of K.state draft.new) (IsErrOf result Keeper) }
+        → FindsIn org (layout_by_found org row) (tables_of K.state draft.old) result }
+    ensures calls { Calls K.state 0 (ended result) draft.old draft.new }
 {
     draft_laws::<K>();
+    call_laws::<K>();
     match row {
         None => Ok(None),
-        Some(row) => match layout_of_row(alloc, draft, row) {
-            Ok(layout) => Ok(Some(layout)),
-            Err(fail) => Err(fail),
-        },
+        Some(row) => {
+            let change = change_row(alloc, draft, org)?;
+            match layout_of_row(alloc, draft, org, row, &change) {
+                Ok(layout) => Ok(Some(layout)),
+                Err(fail) => Err(fail),
+            }
+        }
     }
 }
 
@@ -177,7 +193,8 @@ fn layout_of_found<K: Keeper>(
 ///
 /// # Errors
 ///
-/// `Keeper` if the keeper failed, `Memory` if out of memory, `Damaged` never if the tables stand for a world.
+/// `Keeper` if the keeper failed, `Memory` if out of memory, `Damaged` never if the organisation's rows stand for a tenant or
+/// for none.
 pub fn layout_at<K: Keeper>(
     alloc: Global,
     draft: &mut Draft<'_, K>,
@@ -185,22 +202,24 @@ pub fn layout_at<K: Keeper>(
     object: u16,
 ) -> Result<Option<Layout>, StoreFail>
     ensures finds { DraftTells K.state draft.old draft.new
-        → FindsBy (layout_at org object) (tables_of K.state draft.old) result }
-    ensures reads { DraftReads K.state 0 draft.old draft.new }
-    ensures stays { StaysAfter (is_ok result) (state_of K.state draft.old) (state_of K.state draft.new) }
-    ensures cause { KeeperCause (state_of K.state draft.old) (state_of K.state draft.new) (IsErrOf result Keeper) }
+        → FindsIn org (own_layout org object) (tables_of K.state draft.old) result }
+    ensures calls { Calls K.state 0 (ended result) draft.old draft.new }
 {
-    row_laws::<ObjectRow>();
     draft_laws::<K>();
+    key_laws();
+    table_laws();
+    row_laws::<ObjectRow>();
+    call_laws::<K>();
     let row = row_at::<ObjectRow, K>(alloc, draft, &(org, object))?;
-    layout_of_found(alloc, draft, row)
+    layout_of_found(alloc, draft, org, row)
 }
 
 /// The layout of the object with this name, whatever the case of its ASCII letters, if there is one.
 ///
 /// # Errors
 ///
-/// `Keeper` if the keeper failed, `Memory` if out of memory, `Damaged` never if the tables stand for a world.
+/// `Keeper` if the keeper failed, `Memory` if out of memory, `Damaged` never if the organisation's rows stand for a tenant or
+/// for none.
 pub fn layout_named<K: Keeper>(
     alloc: Global,
     draft: &mut Draft<'_, K>,
@@ -208,32 +227,33 @@ pub fn layout_named<K: Keeper>(
     name: &str,
 ) -> Result<Option<Layout>, StoreFail>
     ensures finds { DraftTells K.state draft.old draft.new
-        → FindsBy (layout_named org (chars name.now)) (tables_of K.state draft.old) result }
-    ensures reads { DraftReads K.state 0 draft.old draft.new }
-    ensures stays { StaysAfter (is_ok result) (state_of K.state draft.old) (state_of K.state draft.new) }
-    ensures cause { KeeperCause (state_of K.state draft.old) (state_of K.state draft.new) (IsErrOf result Keeper) }
+        → FindsIn org (own_layout_named org (chars name.now)) (tables_of K.state draft.old) result }
+    ensures calls { Calls K.state 0 (ended result) draft.old draft.new }
 {
     draft_laws::<K>();
+    call_laws::<K>();
     let rows = objects_of(alloc, draft, org)?;
-    layout_of_found(alloc, draft, row_named(rows, name))
+    let row = row_named(rows, name);
+    layout_of_found(alloc, draft, org, row)
 }
 
-// The layouts of objects, from their rows.
+// The layouts of objects, from their rows and that of the change.
 fn layouts_of_rows<K: Keeper>(
     alloc: Global,
     draft: &mut Draft<'_, K>,
+    org: u32,
     rows: Vec<ObjectRow>,
+    change: &Option<JobRow>,
 ) -> Result<Items<Layout>, StoreFail>
     ensures finds { DraftTells K.state draft.old draft.new
-        → FindsBy (layouts_by rows.items) (tables_of K.state draft.old) result }
-    ensures reads { DraftReads K.state 0 draft.old draft.new }
-    ensures stays { StaysAfter (is_ok result) (state_of K.state draft.old) (state_of K.state draft.new) }
-    ensures cause { KeeperCause (state_of K.state draft.old) (state_of K.state draft.new) (IsErrOf result Keeper) }
+        → FindsIn org (layouts_by org rows.items change.now) (tables_of K.state draft.old) result }
+    ensures calls { Calls K.state 0 (ended result) draft.old draft.new }
 {
     draft_laws::<K>();
+    call_laws::<K>();
     let mut all = Items::new(alloc);
     for row in rows {
-        let layout = layout_of_row(alloc, draft, row)?;
+        let layout = layout_of_row(alloc, draft, org, row, change)?;
         all.push(layout)?;
     }
     Ok(all)
@@ -243,19 +263,20 @@ fn layouts_of_rows<K: Keeper>(
 ///
 /// # Errors
 ///
-/// `Keeper` if the keeper failed, `Memory` if out of memory, `Damaged` never if the tables stand for a world.
+/// `Keeper` if the keeper failed, `Memory` if out of memory, `Damaged` never if the organisation's rows stand for a tenant or
+/// for none.
 pub fn layouts<K: Keeper>(
     alloc: Global,
     draft: &mut Draft<'_, K>,
     org: u32,
 ) -> Result<Items<Layout>, StoreFail>
     ensures finds { DraftTells K.state draft.old draft.new
-        → FindsBy (layouts_of org) (tables_of K.state draft.old) result }
-    ensures reads { DraftReads K.state 0 draft.old draft.new }
-    ensures stays { StaysAfter (is_ok result) (state_of K.state draft.old) (state_of K.state draft.new) }
-    ensures cause { KeeperCause (state_of K.state draft.old) (state_of K.state draft.new) (IsErrOf result Keeper) }
+        → FindsIn org (own_layouts org) (tables_of K.state draft.old) result }
+    ensures calls { Calls K.state 0 (ended result) draft.old draft.new }
 {
     draft_laws::<K>();
+    call_laws::<K>();
+    let change = change_row(alloc, draft, org)?;
     let rows = objects_of(alloc, draft, org)?;
-    layouts_of_rows(alloc, draft, rows)
+    layouts_of_rows(alloc, draft, org, rows, &change)
 }

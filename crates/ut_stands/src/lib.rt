@@ -4,24 +4,28 @@
 //! has there, and tables with the rows of a new or changed organisation stand for the world with it.
 #![tactic(auto)]
 
+mod calls;
 mod ending;
 mod fail;
 mod judged;
 mod laws;
 mod layout;
 mod layout_reads;
+mod local;
 mod opening;
 mod reads;
 mod records;
 mod rows;
 
+pub use crate::calls::call_laws;
 pub use crate::ending::finish;
 pub use crate::fail::{EditFail, OpenFail};
 pub use crate::judged::Judged;
 pub use crate::laws::{change_rows, stands_laws, stands_rows};
 pub use crate::layout::{FieldPlace, JobPlace, Layout};
 pub use crate::layout_reads::{layout_at, layout_named, layouts};
+pub use crate::local::{found_laws, local_laws};
 pub use crate::opening::{KNOWN_VERSION, open_tables};
 pub use crate::reads::user;
 pub use crate::records::{metadata_laws, record_laws, slot_laws};
-pub use crate::rows::{object_row, org_row};
+pub use crate::rows::{object_row, object_there, org_row, org_there};

@@ -9,12 +9,12 @@ ghost use Rattle.ut_model.specs.declared.record.Record.{Record};
 ghost use Rattle.ut_model.specs.Limits.{limit_number};
 ghost use Rattle.ut_model.specs.Membership.{Has};
 ghost use Rattle.ut_model.specs.NewFields.{with_field};
-ghost use Rattle.ut_model.specs.Objects.{is_of, object_at, records_of, with_object_changed};
+ghost use Rattle.ut_model.specs.Objects.{is_of, object_numbered, records_of, with_object_changed};
 ghost use Rattle.ut_model.specs.Sound.{IsSound};
 ghost use Rattle.ut_model.specs.Tenant.{Field, Job, Object, Tenant};
-ghost use Rattle.ut_stands.specs.Entries.{entry};
+ghost use Rattle.ut_stands.specs.Entries.{slot_entry};
 ghost use Rattle.ut_stands.specs.Layouts.{layout_of};
-ghost use Rattle.ut_stands.specs.Metadata.{field_of, object_of};
+ghost use Rattle.ut_stands.specs.Metadata.{field_of, row_of_object};
 ghost use Rattle.ut_stands.specs.Plan.{FitsPlan, OrgPlan, slot_count};
 ghost use Rattle.ut_stands.specs.Records.{KeptAlike, has_free, is_field_key, is_free, is_object_key, is_org_key, object_of_records, suits_flags, with_slot};
 ghost use Rattle.ut_stands.specs.Stands.{kept_in, row_in};
@@ -24,7 +24,7 @@ ghost use Rattle.ut_value.specs.declared.sharing.Access.{Access};
 pub fn record_laws()
     // An object's records have the same rows where each is kept alike, and none where there are none.
     ensures kept { (p q : OrgPlan) (t u : Tenant) (n : ℕ) (o v : Object) (change : Record → Record)
-        → object_at t n ≡ Some o → object_at u n ≡ Some v
+        → object_numbered t n ≡ Some o → object_numbered u n ≡ Some v
         → u.records ≡ plain_map change t.records → ((r : Record) → (change r).id ≡ r.id)
         → ((r : Record) → Has t.records r → IsTrue (is_of n r) → KeptAlike (kept_in q u n v (change r)) (kept_in p t n o r))
         → (k : Key) → object_of_records k ≡ Some n → row_in q u k ≡ row_in p t k }
@@ -42,7 +42,7 @@ pub fn record_laws()
 pub fn metadata_laws()
     // All but the organisation's row, and those of the object and of its first field.
     ensures object { (p : OrgPlan) (t : Tenant) (o : Object) (s : ℕ) (k : Key)
-        → IsSound t → length o.fields ≤ 1 → o.rules ≡ []
+        → IsSound t → length o.fields ≤ 1 → o.validation_rules ≡ []
         → is_org_key k ≡ false → is_object_key (length t.objects) k ≡ false → is_field_key (length t.objects) 0 k ≡ false
         → row_in (with_slot (length t.objects) 0 s p) (record t { objects = t.objects ++ o ∷ [] }) k ≡ row_in p t k }
 
@@ -53,15 +53,15 @@ pub fn metadata_laws()
 
     // All but the rows of the object and of the field.
     ensures field { (p : OrgPlan) (t : Tenant) (n : ℕ) (o : Object) (f : Field) (s : ℕ) (k : Key)
-        → IsSound t → object_at t n ≡ Some o → IsTrue (is_free p t.job n o s) → IsTrue (suits_flags f)
+        → IsSound t → object_numbered t n ≡ Some o → IsTrue (is_free p t.job n o s) → IsTrue (suits_flags f)
         → is_object_key n k ≡ false → is_field_key n (length o.fields) k ≡ false
         → row_in (with_slot n (length o.fields) s p) (with_field n f t) k ≡ row_in p t k }
 
     // The rows of objects and fields fit their forms.
-    ensures object_fits { (org : ℕ) (t : Tenant) (n : ℕ) (o : Object) → org < 2 ^ 32 → IsSound t → object_at t n ≡ Some o
-        → FitsForm object_form (object_of org t n o) }
+    ensures object_fits { (org : ℕ) (t : Tenant) (n : ℕ) (o : Object) → org < 2 ^ 32 → IsSound t → object_numbered t n ≡ Some o
+        → FitsForm object_form (row_of_object org t n o) }
     ensures field_fits { (org : ℕ) (p : OrgPlan) (t : Tenant) (n i : ℕ) (o : Object) (f : Field) → org < 2 ^ 32 → IsSound t → FitsPlan p t
-        → object_at t n ≡ Some o → slice_get o.fields i ≡ Some f → FitsForm field_form (field_of org p n i f) }
+        → object_numbered t n ≡ Some o → slice_get o.fields i ≡ Some f → FitsForm field_form (field_of org p n i f) }
 
     // A field that comes leaves the number of each object's records.
     ensures counted { (t : Tenant) (n m : ℕ) (f : Field) → length (records_of (with_field n f t) m) ≡ length (records_of t m) }
@@ -73,7 +73,7 @@ pub fn slot_laws()
     ensures free { (p : OrgPlan) (job : Option Job) (n : ℕ) (o : Object)
         → length o.fields ≤ limit_number limit.FieldsPerObject → (s : ℕ) × (s < slot_count) × IsTrue (is_free p job n o s) }
     ensures nothing { (p : OrgPlan) (job : Option Job) (n : ℕ) (o : Object) (r : Record) (s : ℕ)
-        → IsTrue (is_free p job n o s) → entry p job n o r s ≡ None }
+        → IsTrue (is_free p job n o s) → slot_entry p job n o r s ≡ None }
 
     // A layout shows which are free.
     ensures seen { (p : OrgPlan) (t : Tenant) (org n : ℕ) (o : Object) (s : ℕ)
@@ -87,6 +87,6 @@ pub fn slot_laws()
     ensures described { (p : OrgPlan) (t : Tenant) (n : ℕ) (change : Object → Object)
         → FitsPlan p t → ((o : Object) → (change o).fields ≡ o.fields) → FitsPlan p (with_object_changed n change t) }
     ensures field { (p : OrgPlan) (t : Tenant) (n : ℕ) (o : Object) (f : Field) (s : ℕ)
-        → IsSound t → FitsPlan p t → object_at t n ≡ Some o → s < slot_count → IsTrue (is_free p t.job n o s)
+        → IsSound t → FitsPlan p t → object_numbered t n ≡ Some o → s < slot_count → IsTrue (is_free p t.job n o s)
         → FitsPlan (with_slot n (length o.fields) s p) (with_field n f t) }
 {}

@@ -1,35 +1,36 @@
 //! Rows of metadata, as they are read before they are changed.
 
-ghost use Rattle.std.specs.Prelude.{IfOk, IfSome, IsErrOf, is_ok};
-ghost use Rattle.ut_keeper.specs.Draft.{DraftReads, DraftTells, state_of, tables_of};
-ghost use Rattle.ut_keeper.specs.State.{KeeperCause, StaysAfter};
-ghost use Rattle.ut_keys.specs.declared.fail.StoreFail.TheVariants.{Keeper};
+ghost use Rattle.std.specs.Prelude.{◌≡◌, IfOk, IfSome};
+ghost use Rattle.ut_keeper.specs.Draft.{DraftTells, tables_of};
 ghost use Rattle.ut_keys.specs.Forms.{FitsForm};
 ghost use Rattle.ut_keys.specs.Rows.{object_form, org_form};
-ghost use Rattle.ut_stands.specs.Layouts.{FindsBy, object_row, org_row};
+ghost use Rattle.ut_stands.specs.Calls.{Calls, ended};
+ghost use Rattle.ut_stands.specs.Layouts.{own_object_row, own_row};
+ghost use Rattle.ut_stands.specs.Local.{FindsIn, FindsThere};
 
 use std::alloc::Global;
-use ut_keeper::{Draft, Keeper};
-use ut_keys::{ObjectRow, OrgRow, StoreFail, row_at, row_laws};
+use ut_keeper::{Draft, Keeper, key_laws};
+use ut_keys::{ObjectRow, OrgRow, StoreFail, row_at, row_laws, table_laws};
 use ut_model::name_laws;
 
 /// The row of the organisation with this number, if there is one.
 ///
 /// # Errors
 ///
-/// `Keeper` if the keeper failed, `Memory` if out of memory, `Damaged` never if the tables stand for a world.
+/// `Keeper` if the keeper failed, `Memory` if out of memory, `Damaged` never if the organisation's rows stand for a tenant or
+/// for none.
 pub fn org_row<K: Keeper>(
     alloc: Global,
     draft: &mut Draft<'_, K>,
     org: u32,
 ) -> Result<Option<OrgRow>, StoreFail>
     ensures finds { DraftTells K.state draft.old draft.new
-        → FindsBy (org_row org) (tables_of K.state draft.old) result }
+        → FindsIn org (own_row org) (tables_of K.state draft.old) result × IfOk result (λ found. IfSome found (λ row. row.org ≡ org)) }
     ensures fits { IfOk result (λ found. IfSome found (FitsForm org_form)) }
-    ensures reads { DraftReads K.state 0 draft.old draft.new }
-    ensures stays { StaysAfter (is_ok result) (state_of K.state draft.old) (state_of K.state draft.new) }
-    ensures cause { KeeperCause (state_of K.state draft.old) (state_of K.state draft.new) (IsErrOf result Keeper) }
+    ensures calls { Calls K.state 0 (ended result) draft.old draft.new }
 {
+    key_laws();
+    table_laws();
     row_laws::<OrgRow>();
     name_laws();
     row_at(alloc, draft, &org)
@@ -39,7 +40,8 @@ pub fn org_row<K: Keeper>(
 ///
 /// # Errors
 ///
-/// `Keeper` if the keeper failed, `Memory` if out of memory, `Damaged` never if the tables stand for a world.
+/// `Keeper` if the keeper failed, `Memory` if out of memory, `Damaged` never if the organisation's rows stand for a tenant or
+/// for none.
 pub fn object_row<K: Keeper>(
     alloc: Global,
     draft: &mut Draft<'_, K>,
@@ -47,12 +49,61 @@ pub fn object_row<K: Keeper>(
     object: u16,
 ) -> Result<Option<ObjectRow>, StoreFail>
     ensures finds { DraftTells K.state draft.old draft.new
-        → FindsBy (object_row org object) (tables_of K.state draft.old) result }
+        → FindsIn org (own_object_row org object) (tables_of K.state draft.old) result
+        × IfOk result (λ found. IfSome found (λ row. object_form.keyed row ≡ (org, object))) }
     ensures fits { IfOk result (λ found. IfSome found (FitsForm object_form)) }
-    ensures reads { DraftReads K.state 0 draft.old draft.new }
-    ensures stays { StaysAfter (is_ok result) (state_of K.state draft.old) (state_of K.state draft.new) }
-    ensures cause { KeeperCause (state_of K.state draft.old) (state_of K.state draft.new) (IsErrOf result Keeper) }
+    ensures calls { Calls K.state 0 (ended result) draft.old draft.new }
 {
+    key_laws();
+    table_laws();
     row_laws::<ObjectRow>();
     row_at(alloc, draft, &(org, object))
+}
+
+/// The row of the organisation with this number, which has to be there.
+///
+/// # Errors
+///
+/// `Damaged` if there is none, which is never if the organisation's rows stand for a tenant; `Keeper` if the keeper failed,
+/// `Memory` if out of memory.
+pub fn org_there<K: Keeper>(
+    alloc: Global,
+    draft: &mut Draft<'_, K>,
+    org: u32,
+) -> Result<OrgRow, StoreFail>
+    ensures finds { DraftTells K.state draft.old draft.new
+        → FindsThere org (own_row org) (tables_of K.state draft.old) result × IfOk result (λ row. row.org ≡ org) }
+    ensures fits { IfOk result (FitsForm org_form) }
+    ensures calls { Calls K.state 0 (ended result) draft.old draft.new }
+{
+    match org_row(alloc, draft, org) {
+        Ok(Some(row)) => Ok(row),
+        Ok(None) => Err(StoreFail::Damaged),
+        Err(fail) => Err(fail),
+    }
+}
+
+/// The row of the object with this number, which has to be there.
+///
+/// # Errors
+///
+/// `Damaged` if there is none, which is never if the organisation's rows stand for a tenant with that object; `Keeper` if the
+/// keeper failed, `Memory` if out of memory.
+pub fn object_there<K: Keeper>(
+    alloc: Global,
+    draft: &mut Draft<'_, K>,
+    org: u32,
+    object: u16,
+) -> Result<ObjectRow, StoreFail>
+    ensures finds { DraftTells K.state draft.old draft.new
+        → FindsThere org (own_object_row org object) (tables_of K.state draft.old) result
+        × IfOk result (λ row. object_form.keyed row ≡ (org, object)) }
+    ensures fits { IfOk result (FitsForm object_form) }
+    ensures calls { Calls K.state 0 (ended result) draft.old draft.new }
+{
+    match object_row(alloc, draft, org, object) {
+        Ok(Some(row)) => Ok(row),
+        Ok(None) => Err(StoreFail::Damaged),
+        Err(fail) => Err(fail),
+    }
 }

@@ -19,7 +19,7 @@ use Rattle.ut_model.specs.Replies.{reply_of}
 use Rattle.ut_model.specs.RequestOf.{answer_to, query_or, request_of, verdict_at, verdict_or}
 use Rattle.ut_model.specs.Requests.{Request, verdict_on}
 use Rattle.ut_model.specs.Routing.{is_administration, routed}
-use Rattle.ut_model.specs.Step.{Message, if_called, in_named, in_tenant, named_in, own, query_text, refused}
+use Rattle.ut_model.specs.Step.{Message, answer_in, if_called, in_key, in_tenant, key_in, query_text, refused}
 use Rattle.ut_model.specs.Tenant.{Job, Tenant, User}
 use Rattle.ut_model.specs.Verdict.{Verdict, refuse}
 use Rattle.ut_model.specs.Whole.{answered_whole}
@@ -100,7 +100,7 @@ same_answer a m none ok =
 
 pub same_step : (w : World) (m : Message) (now : ℕ) → NoJobs w → IsBuilt w m now → step w m now ≡ whole_step w m now
 unfolding step whole_step
-same_step w m now none ok = by (named_in m) ok
+same_step w m now none ok = by (key_in m) ok
   where
     user : (t : Tenant) → t.job ≡ None → (o : Option User) → ((in_case o (refused refusal.InvalidSession t) (λ u. answer_built (asking t now u) m)).0.status ≡ 501 → ⊥)
         → in_case o (refused refusal.InvalidSession t) (λ u. answer_built (asking t now u) m) ≡ in_case o (refused refusal.InvalidSession t) (λ u. answer_to (asking t now u) m)
@@ -111,11 +111,11 @@ same_step w m now none ok = by (named_in m) ok
     called t e None ok = refl
     called t e (Some c) ok = user t e (user_at t.users c.user) ok
 
-    here : (n : Named) (o : Option Tenant) → tenant_at w n.org ≡ o → ((in_tenant w n.org (own answered n m now) o).0.status ≡ 501 → ⊥)
-        → in_tenant w n.org (own answered n m now) o ≡ in_tenant w n.org (own answered_whole n m now) o
+    here : (n : Named) (o : Option Tenant) → tenant_at w n.org ≡ o → ((in_tenant w n.org (answer_in answered n m now) o).0.status ≡ 501 → ⊥)
+        → in_tenant w n.org (answer_in answered n m now) o ≡ in_tenant w n.org (answer_in answered_whole n m now) o
     here n None e ok = refl
     here n (Some t) e ok = ap (λ (r : Reply × Tenant). (r.0, with_tenant w n.org r.1)) (called t (job_none w n.org t none e) (caller_of n t) ok)
 
-    by : (o : Option Named) → ((in_named answered w m now o).0.status ≡ 501 → ⊥) → in_named answered w m now o ≡ in_named answered_whole w m now o
+    by : (o : Option Named) → ((in_key answered w m now o).0.status ≡ 501 → ⊥) → in_key answered w m now o ≡ in_key answered_whole w m now o
     by None ok = refl
     by (Some n) ok = here n (tenant_at w n.org) refl ok

@@ -5,7 +5,6 @@
 use Rattle.std.specs.Prelude.{ℕ, pos, Bool, true, false, not, ◌&&◌, ◌||◌, if◌then◌else◌, List, codes, Result, Ok, Err}
 use Rattle.ut_query.specs.declared.query.Query.{Query}
 use Rattle.ut_soql_grammar.specs.Spelling.{reads_query}
-use Rattle.ut_query.specs.declared.query.Query.{Query}
 use Rattle.ut_model.specs.declared.refusal.Refusal.{Refusal}
 use Rattle.ut_model.specs.declared.refusal.Refusal.TheVariants as refusal
 use Rattle.ut_model.specs.declared.reply.Reply.{Reply}

@@ -1,5 +1,5 @@
 -- What a record that was read, or one that was refused, says of the whole table.
-use Rattle.std.proofs.Common.{◌≡◌, ◌≢◌, ◌<◌, ℕ, rules, arith, ◌&&◌, not, List, [], ◌∷◌, ◌++◌, length, Option, Some, None, Bool, true, false, refl, sym, ◌∙◌, length-append, nat_eq, nat_lt}
+use Rattle.std.proofs.Common.{◌≡◌, ◌≢◌, ◌<◌, ◌≤◌, ℕ, if◌then◌else◌, rules, arith, ◌&&◌, not, List, [], ◌∷◌, ◌++◌, length, Option, Some, None, Bool, true, false, refl, sym, ◌∙◌, length-append, nat_eq, nat_lt}
 use Rattle.std.specs.Prelude.{IfSome}
 use Rattle.std.specs.Str.{is_utf8, IsUtf8}
 use Rattle.std.specs.List.{list_all, position, position_or_len}
@@ -151,3 +151,31 @@ refused-empty source (heading ∷ rows) marks e none = absurd (omega (arith, non
 pub refused-none : (source : List ℕ) (rows : List (List (List ℕ))) → begins_with_two_marks source ≡ false → table_of source ≡ rows
     → 0 < length rows → all_fit rows ≡ true → first_refused source ≡ None
 refused-none source rows marks e some h = rw (marks, e) (unfit-none rows some h)
+
+-- where the first ones pass, one that fails stands after them
+passed-front : {X : Type 0} (test : X → Bool) (xs rest : List X) → list_all test xs ≡ true → length xs ≤ position_or_len (λ x. not (test x)) (xs ++ rest)
+passed-front test [] rest h = omega arith
+passed-front test (x ∷ xs) rest h = by (test x) refl (passed-front test xs rest) h
+  where
+    by : (b : Bool) → test x ≡ b → (list_all test xs ≡ true → length xs ≤ position_or_len (λ x. not (test x)) (xs ++ rest)) → (b && list_all test xs) ≡ true
+        → length (x ∷ xs) ≤ position_or_len (λ x. not (test x)) (x ∷ (xs ++ rest))
+    by true e more h = rw e (omega (arith, more h))
+    by false e more h = cc h
+
+some-if : (b : Bool) (n k : ℕ) → (if b then Some n else None) ≡ Some k → n ≡ k
+some-if true n k e = cc e
+some-if false n k e = cc e
+
+unfit-later : (rows rest : List (List (List ℕ))) (row : ℕ) → 0 < length rows → all_fit rows ≡ true → first_unfit (rows ++ rest) ≡ Some row → length rows ≤ row
+unfit-later [] rest row some h e = absurd (omega (arith, some))
+unfit-later (heading ∷ rows) rest row some h e =
+    let front = passed-front (fits heading) (heading ∷ rows) rest h in
+    let same = some-if _ (position_or_len (λ cells. not (fits heading cells)) ((heading ∷ rows) ++ rest)) row e in
+    omega (arith, front, same)
+
+-- so the record that is refused first stands after those that were read
+pub refused-later : (source : List ℕ) (s : State) (ys : List ℕ) (rows : List (List (List ℕ))) (row : ℕ) → begins_with_two_marks source ≡ false
+    → Reached default_config st.StartRecord (strip_bom source) rows s ys → 0 < length rows → all_fit rows ≡ true → first_refused source ≡ Some row → length rows ≤ row
+refused-later source s ys rows row marks reached some h e =
+    let t = reached-records default_config s (strip_bom source) ys rows reached in
+    unfit-later rows t.0 row some h (rw (marks, t.1) at e)

@@ -67,3 +67,8 @@ pub record IsRefusedAt (source : List ℕ) (row line column : ℕ) : Type 0 wher
 abbrev pub TellsPlace : List ℕ → TableFail → Type 0
 TellsPlace source (Refused row line column) = IsRefusedAt source row line column
 TellsPlace source Memory = Unit {0}
+
+-- a refusal is of the record with this number
+abbrev pub RefusesRecord : ℕ → TableFail → Type 0
+RefusesRecord n (Refused row line column) = row ≡ n
+RefusesRecord n Memory = Unit {0}

@@ -1,9 +1,9 @@
 //! The records of a source, one at a time.
 
-ghost use Rattle.std.specs.Prelude.{◌≡◌, ◌+◌, ◌<◌, ◌^◌, IfErr, IfOk, OnOk, IfSome, None, Some, Err, is_some, false, if◌then◌else◌, option_map, slice_get};
+ghost use Rattle.std.specs.Prelude.{◌≡◌, ℕ, ◌+◌, ◌<◌, ◌^◌, IfErr, IfOk, OnOk, IfSome, None, Some, Err, is_some, false, if◌then◌else◌, option_map, slice_get};
 ghost use Rattle.csv.specs.Reading.{error_kind};
 ghost use Rattle.csv.specs.Records.{AllText, fields_of};
-ghost use Rattle.ut_table.specs.Place.{TellsPlace, line_of};
+ghost use Rattle.ut_table.specs.Place.{RefusesRecord, TellsPlace, line_of};
 ghost use Rattle.ut_table.specs.Table.{begins_with_two_marks, first_refused, table_of};
 ghost use Rattle.ut_table.specs.inner.Kinds.{TellsText, TellsWidth};
 ghost use Rattle.ut_table.specs.inner.Standing.{StandsAt};
@@ -44,6 +44,7 @@ impl<'a> Records<'a> {
     pub fn new(alloc: Global, source: &'a [u8]) -> Records<'a>
         ensures source { result.source ≡ source.now }
         ensures read { result.read ≡ 0 }
+        ensures failed { begins_with_two_marks source.now ≡ false → result.failed ≡ None }
     {
         let reader = ReaderBuilder::new()
             .has_headers(false)
@@ -69,7 +70,11 @@ impl<'a> Records<'a> {
         ensures record { IfOk result (λ found. option_map fields_of found ≡ slice_get (table_of self.old.source) self.old.read) }
         ensures read { IfOk result (λ found. self.new.read ≡ (if is_some found then self.old.read + 1 else self.old.read)) }
         ensures accepted { IfOk result (λ found. found ≡ None → first_refused self.old.source ≡ None) }
+        ensures later { IfOk result (λ found. IfSome found (λ _. (row : ℕ) → first_refused self.old.source ≡ Some row → self.old.read < row)) }
         ensures refused { IfErr result (λ fail. TellsPlace self.old.source fail) }
+        ensures here { IfErr result (λ fail. RefusesRecord self.old.read fail) }
+        ensures kept { IfErr result (λ _. self.new.read ≡ self.old.read) }
+        ensures going { IfOk result (λ _. self.new.failed ≡ None) }
         ensures failed { IfErr result (λ fail. self.new.failed ≡ Some fail) }
         ensures again { IfSome self.old.failed (λ fail. result ≡ Err fail) }
     {
@@ -99,6 +104,8 @@ impl<'a> Records<'a> {
 // A source that begins with two byte order marks is refused.
 fn failure_at_start(source: &[u8]) -> Option<TableFail>
     ensures marked { IfSome result (λ fail. TellsPlace source.now fail) }
+    ensures first { IfSome result (λ fail. RefusesRecord 0 fail) }
+    ensures unmarked { begins_with_two_marks source.now ≡ false → result ≡ None }
     ensures other { result ≡ None → begins_with_two_marks source.now ≡ false }
 {
     if source.starts_with(b"\xEF\xBB\xBF\xEF\xBB\xBF".as_slice()) {
@@ -121,6 +128,7 @@ fn next_of<'a>(
     ensures stands { IfOk result (λ found. IfSome found (λ _. StandsAt (λ s. Some s.now) source.now (read + 1) reader.new)) }
     ensures accepted { IfOk result (λ found. found ≡ None → first_refused source.now ≡ None) }
     ensures refused { IfErr result (λ fail. TellsPlace source.now fail) }
+    ensures here { IfErr result (λ fail. RefusesRecord read fail) }
 {
     match reader.read_byte_record(cells) {
         Ok(true) => {

@@ -41,7 +41,9 @@ pub use crate::exact::exact_size;
 pub use crate::fail::{ConvertFail, ValueFail};
 pub use crate::id::{Id, NotAnId};
 pub use crate::job::{Outcome, Phase, RuleState};
-pub use crate::laws::{cause_laws, digit_laws, id_laws, id_rows, principal_laws, value_laws};
+pub use crate::laws::{
+    cause_laws, digit_laws, id_laws, id_rows, law_rows, principal_laws, value_laws,
+};
 pub use crate::numeral::{is_digit, is_written_number};
 pub use crate::ordering::{order, order_key, same_value, text_order};
 pub use crate::ordering_laws::{order_laws, order_rows};

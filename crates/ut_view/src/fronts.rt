@@ -97,7 +97,7 @@ fn as_string(bytes: &[u8]) -> Option<&str>
     }
 }
 
-/// The text at the front, and the rest.
+// The text at the front, and the rest.
 #[tactic(auto, unfolding(ut_parts::specs::Plain::text_at))]
 fn text_front(bytes: &[u8]) -> Option<(&str, &[u8])>
     ensures { option_map (λ x. (chars x.0.now, x.1.now)) result ≡ text_at bytes.now }

@@ -4,7 +4,7 @@ use Rattle.std.specs.Borrow.{Bor}
 use Rattle.std.specs.Str.{chars}
 use Rattle.ut_json.specs.Reading.{◌>>=◌}
 use Rattle.ut_json.specs.declared.tree.Member.{Member, out-Member}
-use Rattle.ut_model.specs.Members.{Body, all_there, as_text, entry, list_in, object_in, text_in}
+use Rattle.ut_model.specs.Members.{Body, all_there, as_text, entry_named, list_in, object_in, text_in}
 
 -- the members of an object
 abbrev pub body_of : List Member → Body
@@ -15,8 +15,8 @@ abbrev pub table_of : {X : Type 0} → List (Bor (List ℕ) × X) → List (List
 table_of rows = map (λ r. (chars r.0.now, r.1)) rows
 
 -- what a table has under the text of a member
-abbrev pub named_in : {X : Type 0} → Body → (name : List ℕ) → (table : List (List ℕ × X)) → Option X
-named_in b name table = text_in b name >>= entry table
+abbrev pub choice_member : {X : Type 0} → Body → (name : List ℕ) → (table : List (List ℕ × X)) → Option X
+choice_member b name table = text_in b name >>= entry_named table
 
 -- a member that is a list of texts
 abbrev pub texts_in : Body → (name : List ℕ) → Option (List (List ℕ))
@@ -24,4 +24,4 @@ texts_in b name = list_in b name >>= λ items. all_there (map as_text items)
 
 -- a member that is an object
 abbrev pub member_object : Body → (name : List ℕ) → Option Body
-member_object b name = entry b name >>= object_in
+member_object b name = entry_named b name >>= object_in

@@ -2,6 +2,7 @@
 -- Source: C. D. Weissman and S. Bobrowski, "The Design of the Force.com Multitenant Internet Application Development
 -- Platform" (SIGMOD 2009): objects and fields are rows of tables too.
 use Rattle.std.specs.Prelude.{◌≡◌, ℕ, ◌+◌, ◌<◌, List, [], ◌∷◌, Option, is_some, IfSome, IsTrue}
+use Rattle.ut_edits.specs.Rows.{change_to}
 use Rattle.ut_keys.specs.declared.object.ObjectRow.{ObjectRow}
 use Rattle.ut_keys.specs.Forms.{FitsForm}
 use Rattle.ut_keys.specs.Rows.{field_form, object_form}
@@ -15,7 +16,7 @@ use Rattle.ut_stands.specs.declared.layout.Layout.{Layout}
 use Rattle.ut_stands.specs.Records.{has_free}
 use Rattle.ut_meta.specs.Slots.{IsLeastFree}
 use Rattle.ut_meta.specs.declared.edits.fields.NewFieldRows.{NewFieldRows}
-use Rattle.ut_meta.specs.inner.Rows.{change_to, field_row}
+use Rattle.ut_meta.specs.inner.Rows.{field_row}
 
 -- ---- what has such rows
 
@@ -45,6 +46,11 @@ pub record AreRowsFor (l : Layout) (object : ObjectRow) (f : Field) (rows : NewF
   pub made : rows ≡ rows_in rows.field.slot object f
   pub least : (s : ℕ) → s < 48 → IsTrue (has_free l s) → IsLeastFree l rows.field.slot
   pub below : rows.field.slot < 48
+
+-- they are rows of the organisation with this number
+pub record AreOfOrg (org : ℕ) (r : NewFieldRows) : Type 0 where
+  pub object : r.object.org ≡ org
+  pub field : r.field.org ≡ org
 
 -- they have spellings
 pub record FitFieldRows (r : NewFieldRows) : Type 0 where

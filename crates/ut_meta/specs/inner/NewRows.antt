@@ -3,6 +3,7 @@
 -- Platform" (SIGMOD 2009): objects and fields are rows of tables too.
 use Rattle.std.specs.Prelude.{ℕ, ◌+◌, ◌<◌, ◌^◌, true, false, if◌then◌else◌, List, [], ◌∷◌, ◌++◌, length, Option, Some, None, is_some, IsTrue, IfSome}
 use Rattle.std.specs.Option.{option_and_then, option_map}
+use Rattle.ut_edits.specs.Rows.{change_to}
 use Rattle.ut_keys.specs.declared.field.FieldRow.{FieldRow}
 use Rattle.ut_keys.specs.declared.object.ObjectRow.{ObjectRow}
 use Rattle.ut_keys.specs.declared.org.OrgRow.{OrgRow}
@@ -16,8 +17,8 @@ use Rattle.ut_stands.specs.Metadata.{access_of}
 use Rattle.ut_stands.specs.declared.layout.Layout.{Layout}
 use Rattle.ut_value.specs.declared.value.FieldType.TheVariants as type
 use Rattle.ut_meta.specs.declared.edits.objects.NewRows.{NewRows}
-use Rattle.ut_meta.specs.inner.Relations.{named_in}
-use Rattle.ut_meta.specs.inner.Rows.{change_to, field_row}
+use Rattle.ut_meta.specs.inner.Relations.{layout_by_name}
+use Rattle.ut_meta.specs.inner.Rows.{field_row}
 
 -- ---- the rows
 
@@ -28,12 +29,12 @@ master_row org n parent m =
     (record { name = m.field; kind = type.Master parent; required = true; unique = false; indexed = false; child = Some m.child })
 
 -- the same where its parent is among the layouts
-abbrev pub master_in : (org object : ℕ) → List Layout → NewMaster → Option FieldRow
-master_in org n layouts m = option_map (λ (l : Layout). master_row org n l.object m) (named_in layouts m.parent)
+abbrev pub master_row_in : (org object : ℕ) → List Layout → NewMaster → Option FieldRow
+master_row_in org n layouts m = option_map (λ (l : Layout). master_row org n l.object m) (layout_by_name layouts m.parent)
 
 -- of a new object's first field
 abbrev pub first_field : (org object : ℕ) → List Layout → Option NewMaster → Option FieldRow
-first_field org n layouts master = option_and_then (master_in org n layouts) master
+first_field org n layouts master = option_and_then (master_row_in org n layouts) master
 
 -- of a new object, which has this field or none
 abbrev pub new_object_row : (org object : ℕ) → Option FieldRow → NewObject → ObjectRow
@@ -69,7 +70,7 @@ pub record FitRows (r : NewRows) : Type 0 where
 pub record IsSpelledMaster (layouts : List Layout) (m : NewMaster) : Type 0 where
   pub field : FitsText m.field
   pub child : FitsText m.child
-  pub parent : IsTrue (is_some (named_in layouts m.parent))
+  pub parent : IsTrue (is_some (layout_by_name layouts m.parent))
 
 -- the names of a new object have spellings, and so has its number
 pub record AreSpelled (layouts : List Layout) (b : NewObject) : Type 0 where
@@ -79,9 +80,9 @@ pub record AreSpelled (layouts : List Layout) (b : NewObject) : Type 0 where
 
 -- ---- changes
 
-abbrev pub field_change : Option FieldRow → List Change
-field_change None = []
-field_change (Some f) = change_to field_form f ∷ []
+abbrev pub field_row_changes : Option FieldRow → List Change
+field_row_changes None = []
+field_row_changes (Some f) = change_to field_form f ∷ []
 
 abbrev pub changes_of : NewRows → List Change
-changes_of r = change_to org_form r.org ∷ (field_change r.field ++ change_to object_form r.object ∷ [])
+changes_of r = change_to org_form r.org ∷ (field_row_changes r.field ++ change_to object_form r.object ∷ [])

@@ -16,8 +16,8 @@ use Rattle.ut_stands.specs.declared.layout.Layout.{Layout}
 
 -- ---- objects
 
-abbrev pub field_in : FieldPlace → Field
-field_in f =
+abbrev pub field_of_place : FieldPlace → Field
+field_of_place f =
     record { name = f.name; kind = f.kind; required = f.required; unique = f.unique; indexed = f.indexed; child = f.child }
 
 -- an object without its validation rules
@@ -25,15 +25,15 @@ abbrev pub numbered_in : Layout → Numbered
 numbered_in l =
     record {
       number = l.object;
-      object = record { name = l.name; access = l.access; fields = map field_in l.fields; rules = [] };
+      object = record { name = l.name; access = l.access; fields = map field_of_place l.fields; validation_rules = [] };
     }
 
 abbrev pub references_in : List Layout → List Reference
 references_in layouts = flat_map (λ l. references_of (numbered_in l)) layouts
 
 -- the layout of the object with this name
-abbrev pub named_in : List Layout → List ℕ → Option Layout
-named_in layouts name = find (λ (l : Layout). same_name l.name name) layouts
+abbrev pub layout_by_name : List Layout → List ℕ → Option Layout
+layout_by_name layouts name = find (λ (l : Layout). same_name l.name name) layouts
 
 -- ---- relationships
 
@@ -54,7 +54,7 @@ gives n name object f =
     ((object == n) && same_name name (parent_name f.name)) || ((target == n) && has_child name f.child))
 
 abbrev pub layout_gives : (number : ℕ) → (name : List ℕ) → Layout → Bool
-layout_gives n name l = list_any (λ f. gives n name l.object (field_in f)) l.fields
+layout_gives n name l = list_any (λ f. gives n name l.object (field_of_place f)) l.fields
 
 -- ---- masters
 
@@ -62,8 +62,8 @@ abbrev pub is_master_of : (object : ℕ) → Reference → Bool
 is_master_of n f = (f.object == n) && is_master f.field.kind
 
 -- the object of the masters of an object's records
-abbrev pub master_of : List Layout → (object : ℕ) → Option ℕ
-master_of layouts n = option_map (λ (f : Reference). f.target) (find (is_master_of n) (references_in layouts))
+abbrev pub master_object : List Layout → (object : ℕ) → Option ℕ
+master_object layouts n = option_map (λ (f : Reference). f.target) (find (is_master_of n) (references_in layouts))
 
 -- the same among the fields of one
 abbrev pub master_among : List FieldPlace → Option ℕ
@@ -74,7 +74,7 @@ master_among fields = in_case (find (λ (f : FieldPlace). is_master f.kind) fiel
 -- the number of a lookup's object, or its name where there is none
 abbrev pub target_in : List Layout → SpelledType → Result (Option ℕ) (List ℕ)
 target_in layouts (Plain kind) = Ok None
-target_in layouts (LookupTo object on_delete child) = in_case (named_in layouts object) (Err object) (λ l. Ok (Some l.object))
+target_in layouts (LookupTo object on_delete child) = in_case (layout_by_name layouts object) (Err object) (λ l. Ok (Some l.object))
 
 -- ---- slots
 

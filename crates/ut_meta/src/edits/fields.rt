@@ -1,37 +1,31 @@
 //! New fields.
 
-ghost use Rattle.std.specs.Prelude.{◌≡◌, ◌≢◌, ◌<◌, ℕ, Some, Ok, Option, IfErr, IfOk, IfSome, IsTrue, OnOk};
-ghost use Rattle.ut_keeper.specs.Draft.{DraftReads, DraftTells, DraftWorks, count_of, state_of, tables_of};
-ghost use Rattle.ut_keeper.specs.State.{KeeperCause, StaysAfter};
+ghost use Rattle.std.specs.Prelude.{◌<◌, ◌≡◌, ◌≢◌, ℕ, IfErr, IfOk, IfSome, Ok, Option};
+ghost use Rattle.ut_edits.specs.Rows.{Spells};
 ghost use Rattle.ut_keys.specs.declared.fail.StoreFail.TheVariants.{Keeper, Memory};
 ghost use Rattle.ut_keys.specs.Forms.{FitsForm};
 ghost use Rattle.ut_keys.specs.Rows.{field_form, object_form};
-ghost use Rattle.ut_meta.specs.Slots.{TakesLeastFree};
-ghost use Rattle.ut_meta.specs.inner.FieldRows.{AreRowsFor, FitFieldRows, HasTarget, IsSpelled};
+ghost use Rattle.ut_meta.specs.inner.FieldRows.{AreOfOrg, AreRowsFor, FitFieldRows, HasTarget, IsSpelled, changes_of};
 ghost use Rattle.ut_meta.specs.inner.Relations.{target_in};
 ghost use Rattle.ut_meta.specs.inner.Rows.{field_row};
+ghost use Rattle.ut_meta.specs.Slots.{FieldPlanned};
 ghost use Rattle.ut_model.specs.NewFields.{add_field, child_of, new_field, type_with};
-ghost use Rattle.ut_model.specs.Objects.{Numbered, object_named};
-ghost use Rattle.ut_model.specs.Tenant.{Tenant};
-ghost use Rattle.ut_model.specs.World.{World, tenant_at};
 ghost use Rattle.ut_parts.specs.Composed.{FitsType};
 ghost use Rattle.ut_parts.specs.Plain.{FitsText};
 ghost use Rattle.ut_sound.specs.Fit.{is_fit_field};
-ghost use Rattle.ut_stands.specs.Fails.{IsRefusal, KeeperFailsEdit, is_judged};
-ghost use Rattle.ut_stands.specs.Operations.{EditsIn};
-ghost use Rattle.ut_stands.specs.Plan.{Plan};
-ghost use Rattle.ut_stands.specs.Stands.{Stands, StandsBy};
+ghost use Rattle.ut_stands.specs.Fails.{of_store};
 
 use crate::edits::copies::{copy_of_text, copy_of_type};
 use crate::judging::{judge_field, target_number};
 use crate::relations::layout_named;
 use crate::slots::free_slot;
 use std::alloc::Global;
-use ut_keeper::{Draft, Keeper, draft_laws};
-use ut_keys::{FieldFlags, FieldRow, ObjectRow, StoreFail, put};
+use ut_edits::{Edit, put_row};
+use ut_keeper::{Change, Draft, Keeper};
+use ut_keys::{FieldFlags, FieldRow, ObjectRow, StoreFail};
 use ut_model::{NewField, SpelledType};
 use ut_sound::objects_sound;
-use ut_stands::{EditFail, Layout, layouts, metadata_laws, object_row, slot_laws, stands_laws};
+use ut_stands::{EditFail, Layout, call_laws, layouts, metadata_laws, object_there, slot_laws};
 use ut_value::{FieldType, Text};
 
 // The rows that a new field changes.
@@ -122,6 +116,7 @@ fn rows_of(
     ensures same { (target : Option ℕ) → target_in layouts.now new.now.kind ≡ Ok target
         → IfOk result (AreRowsFor layout.now object (new_field target new.now)) }
     ensures fits { IfOk result FitFieldRows }
+    ensures own { IfOk result (AreOfOrg object.org) }
     ensures damaged { (target : Option ℕ) → target_in layouts.now new.now.kind ≡ Ok target → HasTarget target new.now.kind
         → IsSpelled (new_field target new.now) → object.fields < 255 → IfErr result (λ e. e ≡ Memory) }
     ensures cause { IfErr result (λ e. e ≢ Keeper) }
@@ -140,51 +135,57 @@ fn rows_of(
     Ok(NewFieldRows { object, field })
 }
 
+// The changes that put the rows of a new field.
+fn changes_of(alloc: Global, rows: &NewFieldRows) -> Result<Vec<Change>, EditFail>
+    requires { FitFieldRows rows.now }
+    ensures made { IfOk result (λ x. Spells (changes_of rows.now) x.items) }
+    ensures cause { IfErr result (λ e. e ≡ of_store Memory) }
+{
+    let mut changes = Vec::new(alloc);
+    put_row(alloc, &mut changes, &rows.object)?;
+    put_row(alloc, &mut changes, &rows.field)?;
+    Ok(changes)
+}
+
 /// Adds a field to an object, in the least slot that is free: in each of its records it is null, or false.
 ///
-/// # Errors
-///
-/// `Refused` exactly as the verdict of the request says; nothing is then changed. `Store` with `Keeper` if the keeper
-/// failed, `Memory` if out of memory, `Damaged` never if the tables stand for a world and the body has its form.
-pub fn add_field<K: Keeper>(
-    alloc: Global,
-    draft: &mut Draft<'_, K>,
-    org: u32,
-    new: &NewField,
-) -> Result<(), EditFail>
-    ensures edits { DraftTells K.state draft.old draft.new
-        → (w : World) (t : Tenant) → Stands (tables_of K.state draft.old) w → tenant_at w org ≡ Some t
-        → IsTrue (is_fit_field new.now)
-        → EditsIn org (add_field t new.now) w (tables_of K.state draft.new) result }
-    ensures slot { DraftTells K.state draft.old draft.new
-        → (p : Plan) (w : World) (t : Tenant) (o : Numbered) → StandsBy p (tables_of K.state draft.old) w → tenant_at w org ≡ Some t
-        → IsTrue (is_fit_field new.now) → object_named t new.now.object ≡ Some o
-        → OnOk result (TakesLeastFree org new.now p w t o (tables_of K.state draft.new)) }
-    ensures some { OnOk result (0 < count_of draft.new) }
-    ensures refused { IfErr result (λ e. IsRefusal e → DraftReads K.state 0 draft.old draft.new) }
-    ensures works { DraftWorks K.state 2 0 0 draft.old draft.new }
-    ensures stays { StaysAfter (is_judged result) (state_of K.state draft.old) (state_of K.state draft.new) }
-    ensures cause { KeeperCause (state_of K.state draft.old) (state_of K.state draft.new) (KeeperFailsEdit result) }
-{
-    draft_laws::<K>();
-    stands_laws();
-    metadata_laws();
-    slot_laws();
-    objects_sound();
-    let all = layouts(alloc, draft, org)?;
-    if let Some(refusal) = judge_field(alloc, all.as_slice(), new)? {
-        return Err(EditFail::Refused(refusal));
+/// It is refused exactly as the verdict of the request says.
+#[derive(Drop)]
+pub struct AddField<'a> {
+    pub new: &'a NewField,
+}
+
+impl Edit for AddField<'_> {
+    ghost verdict = { λ e a. add_field a.tenant e.new.now };
+
+    ghost planned = { λ e. FieldPlanned e.new.now };
+
+    ghost is_fit = { λ e. is_fit_field e.new.now };
+
+    ghost most = { 2 };
+
+    ghost gone = { 0 };
+
+    fn judge<K: Keeper>(
+        &self,
+        alloc: Global,
+        draft: &mut Draft<'_, K>,
+        org: u32,
+    ) -> Result<Vec<Change>, EditFail> {
+        call_laws::<K>();
+        metadata_laws();
+        slot_laws();
+        objects_sound();
+        let all = layouts(alloc, draft, org)?;
+        if let Some(refusal) = judge_field(alloc, all.as_slice(), self.new)? {
+            return Err(EditFail::Refused(refusal));
+        }
+        let Some(layout) = layout_named(all.as_slice(), self.new.object.as_str()) else {
+            // Without an object it is refused.
+            return Err(EditFail::Store(StoreFail::Damaged));
+        };
+        let row = object_there(alloc, draft, org, layout.object)?;
+        let rows = rows_of(alloc, all.as_slice(), layout, row, self.new)?;
+        changes_of(alloc, &rows)
     }
-    let Some(layout) = layout_named(all.as_slice(), new.object.as_str()) else {
-        // Without an object it is refused.
-        return Err(EditFail::Store(StoreFail::Damaged));
-    };
-    let Some(row) = object_row(alloc, draft, org, layout.object)? else {
-        // Each object has its row.
-        return Err(EditFail::Store(StoreFail::Damaged));
-    };
-    let rows = rows_of(alloc, all.as_slice(), layout, row, new)?;
-    put(alloc, draft, &rows.object)?;
-    put(alloc, draft, &rows.field)?;
-    Ok(())
 }

@@ -1,32 +1,28 @@
 //! New objects.
 
-ghost use Rattle.std.specs.Prelude.{◌≡◌, ◌≢◌, ◌<◌, IfErr, IfOk, IfSome, IsTrue, OnOk, Some, is_ok};
-ghost use Rattle.ut_keeper.specs.Draft.{DraftReads, DraftTells, DraftWorks, count_of, state_of, tables_of};
-ghost use Rattle.ut_keeper.specs.State.{KeeperCause, StaysAfter};
+ghost use Rattle.std.specs.Prelude.{◌++◌, ◌≡◌, ◌≢◌, IfErr, IfOk, IfSome, OnOk, length, map};
+ghost use Rattle.ut_edits.specs.Rows.{Spells, spelled};
 ghost use Rattle.ut_keys.specs.declared.fail.StoreFail.TheVariants.{Keeper, Memory};
 ghost use Rattle.ut_keys.specs.Forms.{FitsForm};
 ghost use Rattle.ut_keys.specs.Rows.{field_form, org_form};
-ghost use Rattle.ut_meta.specs.inner.NewRows.{AreSpelled, FitRows, IsSpelledMaster, changes_of, field_change, first_field, master_row, rows_by};
+ghost use Rattle.ut_meta.specs.inner.NewRows.{AreSpelled, FitRows, IsSpelledMaster, changes_of, field_row_changes, first_field, master_row, rows_by};
 ghost use Rattle.ut_model.specs.Metadata.{add_object};
-ghost use Rattle.ut_model.specs.Tenant.{Tenant};
-ghost use Rattle.ut_model.specs.World.{World, tenant_at};
 ghost use Rattle.ut_parts.specs.Plain.{FitsText};
 ghost use Rattle.ut_sound.specs.Fit.{is_fit_object};
-ghost use Rattle.ut_stands.specs.Changes.{with_changes};
-ghost use Rattle.ut_stands.specs.Fails.{IsRefusal, KeeperFailsEdit, is_judged};
-ghost use Rattle.ut_stands.specs.Operations.{EditsIn};
-ghost use Rattle.ut_stands.specs.Stands.{Stands};
+ghost use Rattle.ut_stands.specs.Fails.{of_store};
+ghost use Rattle.ut_stands.specs.Records.{with_slot};
 
 use crate::edits::copies::copy_of_text;
 use crate::judging::judge_object;
 use crate::relations;
 use std::alloc::{AllocError, Global};
-use ut_keeper::{Draft, Keeper, draft_laws};
-use ut_keys::{FieldRow, ObjectRow, OrgRow, StoreFail, put};
+use ut_edits::{Edit, put_row};
+use ut_keeper::{Change, Draft, Keeper};
+use ut_keys::{FieldRow, ObjectRow, OrgRow, StoreFail};
 use ut_model::{NewMaster, NewObject};
 use ut_parts::{FieldFlags, ObjectAccess};
 use ut_sound::objects_sound;
-use ut_stands::{EditFail, Layout, layouts, metadata_laws, org_row, slot_laws, stands_laws};
+use ut_stands::{EditFail, Layout, call_laws, layouts, metadata_laws, org_there, slot_laws};
 use ut_value::FieldType;
 
 // The rows that a new object changes.
@@ -128,79 +124,70 @@ fn rows_of(
     Ok(NewRows { org, field, object })
 }
 
-// Puts the row of a field, if there is one.
-fn put_field<K: Keeper>(
+// One change more, which puts the row of a field, if there is one.
+fn put_field(
     alloc: Global,
-    draft: &mut Draft<'_, K>,
+    changes: &mut Vec<Change>,
     field: &Option<FieldRow>,
 ) -> Result<(), AllocError>
     requires { IfSome field.now (FitsForm field_form) }
-    ensures ok { OnOk result (tables_of K.state draft.new ≡ with_changes (field_change field.now) (tables_of K.state draft.old)) }
-    ensures works { DraftWorks K.state 1 0 0 draft.old draft.new }
-    ensures stays { StaysAfter (is_ok result) (state_of K.state draft.old) (state_of K.state draft.new) }
+    ensures { OnOk result (changes.new.items ≡ changes.old.items ++ map spelled (field_row_changes field.now)) }
 {
-    draft_laws::<K>();
     match field {
         None => Ok(()),
-        Some(field) => put(alloc, draft, field),
+        Some(field) => put_row(alloc, changes, field),
     }
 }
 
-// Puts the rows of a new object.
-fn put_rows<K: Keeper>(
-    alloc: Global,
-    draft: &mut Draft<'_, K>,
-    rows: &NewRows,
-) -> Result<(), AllocError>
+// The changes that put the rows of a new object.
+fn changes_of(alloc: Global, rows: &NewRows) -> Result<Vec<Change>, EditFail>
     requires { FitRows rows.now }
-    ensures ok { OnOk result (tables_of K.state draft.new ≡ with_changes (changes_of rows.now) (tables_of K.state draft.old)) }
-    ensures some { OnOk result (0 < count_of draft.new) }
-    ensures works { DraftWorks K.state 3 0 0 draft.old draft.new }
-    ensures stays { StaysAfter (is_ok result) (state_of K.state draft.old) (state_of K.state draft.new) }
+    ensures made { IfOk result (λ x. Spells (changes_of rows.now) x.items) }
+    ensures cause { IfErr result (λ e. e ≡ of_store Memory) }
 {
-    draft_laws::<K>();
-    put(alloc, draft, &rows.org)?;
-    put_field(alloc, draft, &rows.field)?;
-    put(alloc, draft, &rows.object)
+    let mut changes = Vec::new(alloc);
+    put_row(alloc, &mut changes, &rows.org)?;
+    put_field(alloc, &mut changes, &rows.field)?;
+    put_row(alloc, &mut changes, &rows.object)?;
+    Ok(changes)
 }
 
-/// Adds an object, which has the next number; a detail also has its Master field.
+/// Adds an object, which has the next number; a detail also has its Master field, in slot 0.
 ///
-/// # Errors
-///
-/// `Refused` with the refusal of the first rule that refuses it, by its names, its parent, and the numbers of objects and
-/// of levels of details; nothing is then changed. `Store` with `Keeper` if the keeper failed, `Memory` if out of memory,
-/// `Damaged` never if the tables stand for a world and the body has the form of one that is read.
-pub fn add_object<K: Keeper>(
-    alloc: Global,
-    draft: &mut Draft<'_, K>,
-    org: u32,
-    new: &NewObject,
-) -> Result<(), EditFail>
-    ensures edits { DraftTells K.state draft.old draft.new
-        → (w : World) (t : Tenant) → Stands (tables_of K.state draft.old) w → tenant_at w org ≡ Some t
-        → IsTrue (is_fit_object new.now)
-        → EditsIn org (add_object t new.now) w (tables_of K.state draft.new) result }
-    ensures some { OnOk result (0 < count_of draft.new) }
-    ensures refused { IfErr result (λ e. IsRefusal e → DraftReads K.state 0 draft.old draft.new) }
-    ensures works { DraftWorks K.state 3 0 0 draft.old draft.new }
-    ensures stays { StaysAfter (is_judged result) (state_of K.state draft.old) (state_of K.state draft.new) }
-    ensures cause { KeeperCause (state_of K.state draft.old) (state_of K.state draft.new) (KeeperFailsEdit result) }
-{
-    draft_laws::<K>();
-    stands_laws();
-    metadata_laws();
-    slot_laws();
-    objects_sound();
-    let all = layouts(alloc, draft, org)?;
-    if let Some(refusal) = judge_object(alloc, all.as_slice(), new)? {
-        return Err(EditFail::Refused(refusal));
+/// It is refused with the refusal of the first rule that refuses it, by its names, its parent, and the numbers of objects and
+/// of levels of details.
+#[derive(Drop)]
+pub struct AddObject<'a> {
+    pub new: &'a NewObject,
+}
+
+impl Edit for AddObject<'_> {
+    ghost verdict = { λ e a. add_object a.tenant e.new.now };
+
+    ghost planned = { λ e q t next. next ≡ with_slot (length t.objects) 0 0 q };
+
+    ghost is_fit = { λ e. is_fit_object e.new.now };
+
+    ghost most = { 3 };
+
+    ghost gone = { 0 };
+
+    fn judge<K: Keeper>(
+        &self,
+        alloc: Global,
+        draft: &mut Draft<'_, K>,
+        org: u32,
+    ) -> Result<Vec<Change>, EditFail> {
+        call_laws::<K>();
+        metadata_laws();
+        slot_laws();
+        objects_sound();
+        let all = layouts(alloc, draft, org)?;
+        if let Some(refusal) = judge_object(alloc, all.as_slice(), self.new)? {
+            return Err(EditFail::Refused(refusal));
+        }
+        let row = org_there(alloc, draft, org)?;
+        let rows = rows_of(alloc, all.as_slice(), row, self.new)?;
+        changes_of(alloc, &rows)
     }
-    let Some(row) = org_row(alloc, draft, org)? else {
-        // An organisation of a world has its row.
-        return Err(EditFail::Store(StoreFail::Damaged));
-    };
-    let rows = rows_of(alloc, all.as_slice(), row, new)?;
-    put_rows(alloc, draft, &rows)?;
-    Ok(())
 }

@@ -1,19 +1,20 @@
 //! Another default access of an object.
 
-ghost use Rattle.std.specs.Prelude.{◌≡◌, ℕ, IfOk, Some, None, option_map};
+ghost use Rattle.std.specs.Prelude.{◌≡◌};
 ghost use Rattle.std.specs.List.{list_any};
 ghost use Rattle.std.specs.Str.{chars};
-ghost use Rattle.ut_meta.specs.Judging.{IsNamedLayout, refusal_of};
+ghost use Rattle.ut_meta.specs.Judging.{AcceptsOn, IsNamedLayout};
 ghost use Rattle.ut_model.specs.Fields.{is_master};
 ghost use Rattle.ut_model.specs.Metadata.{set_access};
 ghost use Rattle.ut_model.specs.Tenant.{Tenant};
+ghost use Rattle.ut_stands.specs.Calls.{ended_edit, fell};
 ghost use Rattle.ut_value.specs.declared.sharing.Access.{Access};
 
 use crate::references::is_master;
 use crate::rules::invalid_type;
-use std::alloc::{AllocError, Global};
+use std::alloc::Global;
 use ut_model::Refusal;
-use ut_stands::{FieldPlace, Layout};
+use ut_stands::{EditFail, FieldPlace, Layout};
 use ut_value::Text;
 
 // Whether one of the fields is a detail's reference to its master.
@@ -23,29 +24,25 @@ fn has_master(fields: &[FieldPlace]) -> bool
     fields.iter().any(|field| is_master(&field.kind))
 }
 
-/// Why another access of the object with this name is refused, if it is. The layout is the object's, if there is one.
+/// The number of the object with this name, if another access of it isn't refused. The layout is the object's, if there is one.
 ///
 /// # Errors
 ///
-/// When out of memory.
-pub fn judge_access(
-    alloc: Global,
-    layout: &Option<Layout>,
-    object: &str,
-) -> Result<Option<Refusal>, AllocError>
-    ensures { (t : Tenant) (access : Access) → IsNamedLayout t (chars object.now) layout.now
-        → IfOk result (λ r. r ≡ refusal_of (set_access t (chars object.now) access)) }
+/// `Refused` as the verdict says, `Store` with `Memory` if out of memory.
+pub fn judge_access(alloc: Global, layout: &Option<Layout>, object: &str) -> Result<u16, EditFail>
+    ensures accepts { (t : Tenant) (access : Access) → IsNamedLayout t (chars object.now) layout.now
+        → AcceptsOn t (chars object.now) (set_access t (chars object.now) access) result }
+    ensures cause { ended_edit result ≡ fell → ⊥ }
 {
     match layout {
-        None => {
-            let name = Text::from_str(alloc, object)?;
-            Ok(Some(Refusal::InvalidType { name }))
-        }
+        None => Err(EditFail::Refused(Refusal::InvalidType {
+            name: Text::from_str(alloc, object)?,
+        })),
         Some(layout) => {
             if has_master(layout.fields.as_slice()) {
-                Ok(Some(invalid_type(alloc, &layout.name)?))
+                Err(EditFail::Refused(invalid_type(alloc, &layout.name)?))
             } else {
-                Ok(None)
+                Ok(layout.object)
             }
         }
     }

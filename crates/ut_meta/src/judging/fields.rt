@@ -3,7 +3,7 @@
 ghost use Rattle.std.specs.Prelude.{◌≡◌, ◌&&◌, ◌==◌, ℕ, IfOk, MatchOption, MatchResult, Some, None, Ok, Err, map};
 ghost use Rattle.std.specs.List.{list_any};
 ghost use Rattle.std.specs.Str.{chars};
-ghost use Rattle.ut_meta.specs.Judging.{AreLayouts, refusal_of};
+ghost use Rattle.ut_meta.specs.Judging.{AreLayouts, verdict_refusal};
 ghost use Rattle.ut_meta.specs.inner.Fields.{Places};
 ghost use Rattle.ut_meta.specs.inner.Relations.{target_in};
 ghost use Rattle.ut_model.specs.Cases.{in_case};
@@ -265,7 +265,7 @@ pub fn judge_field(
     layouts: &[Layout],
     new: &NewField,
 ) -> Result<Option<Refusal>, AllocError>
-    ensures { (t : Tenant) → AreLayouts t layouts.now → IfOk result (λ r. r ≡ refusal_of (add_field t new.now)) }
+    ensures { (t : Tenant) → AreLayouts t layouts.now → IfOk result (λ r. r ≡ verdict_refusal (add_field t new.now)) }
 {
     let Some(layout) = layout_named(layouts, new.object.as_str()) else {
         return Ok(Some(invalid_type(alloc, &new.object)?));

@@ -9,17 +9,16 @@ use Rattle.ut_keys.specs.declared.field.FieldRow.{FieldRow}
 use Rattle.ut_keys.specs.declared.job.JobRow.{JobRow}
 use Rattle.ut_keys.specs.declared.object.ObjectRow.{ObjectRow}
 use Rattle.ut_model.specs.Cases.{in_case}
-use Rattle.ut_model.specs.Objects.{object_at}
+use Rattle.ut_model.specs.Objects.{object_numbered}
 use Rattle.ut_model.specs.Fields.{same_name}
-use Rattle.ut_model.specs.Tenant.{Field, Object}
-use Rattle.ut_model.specs.World.{World, tenant_at}
+use Rattle.ut_model.specs.Tenant.{Field, Object, Tenant}
 use Rattle.ut_stands.specs.declared.layout.FieldPlace.{FieldPlace}
 use Rattle.ut_stands.specs.declared.layout.JobPlace.{JobPlace}
 use Rattle.ut_stands.specs.declared.layout.Layout.{Layout}
-use Rattle.ut_stands.specs.Layouts.{job_on, place_of}
-use Rattle.ut_stands.specs.Metadata.{field_of, object_of}
-use Rattle.ut_stands.specs.Plan.{Plan}
-use Rattle.ut_stands.specs.Stands.{StandsBy}
+use Rattle.ut_stands.specs.Layouts.{place_of}
+use Rattle.ut_stands.specs.Local.{StandsIn}
+use Rattle.ut_stands.specs.Metadata.{field_of, job_of, row_of_object}
+use Rattle.ut_stands.specs.Plan.{OrgPlan}
 
 -- a field's row as its place
 abbrev pub place_of_row : FieldRow → FieldPlace
@@ -46,47 +45,46 @@ abbrev pub row_named : List ℕ → List ObjectRow → Option ObjectRow
 row_named name rows = find (λ r. same_name r.name name) rows
 
 -- the rows of an organisation's objects; none where there is no such organisation
-unfoldable pub object_rows : (org : ℕ) → Plan → World → List ObjectRow
-object_rows org p w =
-    in_case (tenant_at w org) [] (λ t. map (λ (o : ℕ × Object). object_of org t o.0 o.1) (enumerate_from 0 t.objects))
+unfoldable pub object_rows : (org : ℕ) → OrgPlan → Option Tenant → List ObjectRow
+object_rows org q t =
+    in_case t [] (λ u. map (λ (o : ℕ × Object). row_of_object org u o.0 o.1) (enumerate_from 0 u.objects))
 
 -- the rows of an object's fields; none where there is no such object
-unfoldable pub field_rows : (org object : ℕ) → Plan → World → List FieldRow
-field_rows org n p w =
-    in_case (tenant_at w org) [] (λ t. in_case (object_at t n) [] (λ o.
-    map (λ (f : ℕ × Field). field_of org (p.org org) n f.0 f.1) (enumerate_from 0 o.fields)))
+unfoldable pub field_rows : (org object : ℕ) → OrgPlan → Option Tenant → List FieldRow
+field_rows org n q t =
+    in_case t [] (λ u. in_case (object_numbered u n) [] (λ o.
+    map (λ (f : ℕ × Field). field_of org q n f.0 f.1) (enumerate_from 0 o.fields)))
 
 -- the fields of an object with their slots; none where there is no such object
-unfoldable pub places_in : (org object : ℕ) → Plan → World → List FieldPlace
-places_in org n p w =
-    in_case (tenant_at w org) [] (λ t. in_case (object_at t n) [] (λ o. map (place_of (p.org org) n) (enumerate_from 0 o.fields)))
+unfoldable pub places_in : (object : ℕ) → OrgPlan → Option Tenant → List FieldPlace
+places_in n q t = in_case t [] (λ u. in_case (object_numbered u n) [] (λ o. map (place_of q n) (enumerate_from 0 o.fields)))
 
--- the change on an object
-unfoldable pub job_in : (org object : ℕ) → Plan → World → Option JobPlace
-job_in org n p w = option_and_then (λ t. job_on (p.org org) t n) (tenant_at w org)
+-- the row of the change of a field's type
+unfoldable pub change_row : (org : ℕ) → OrgPlan → Option Tenant → Option JobRow
+change_row org q t = option_and_then (λ u. option_map (job_of org q) u.job) t
 
--- rows that are read are what every world has there for which the tables stand by a plan, and such are never damaged
-abbrev pub ListsBy : {U A : Type 0} → (Plan → World → List U) → Tables → Result (Vec U A) StoreFail → Type 0
-ListsBy value m (Ok rows) = (p : Plan) (w : World) → StandsBy p m w → rows.items ≡ value p w
-ListsBy value m (Err Damaged) = (p : Plan) (w : World) → StandsBy p m w → ⊥
-ListsBy value m (Err Keeper) = Unit {0}
-ListsBy value m (Err Memory) = Unit {0}
+-- rows that are read are what each tenant has there, or none, for which the organisation's rows stand, and such are never damaged
+abbrev pub ListsIn : {U A : Type 0} → (org : ℕ) → (OrgPlan → Option Tenant → List U) → Tables → Result (Vec U A) StoreFail → Type 0
+ListsIn n value m (Ok rows) = (q : OrgPlan) (t : Option Tenant) → StandsIn n q m t → rows.items ≡ value q t
+ListsIn n value m (Err Damaged) = (q : OrgPlan) (t : Option Tenant) → StandsIn n q m t → ⊥
+ListsIn n value m (Err Keeper) = Unit {0}
+ListsIn n value m (Err Memory) = Unit {0}
 
--- the layout of the object that has this row
-abbrev pub layout_by : ObjectRow → Plan → World → Layout
-layout_by r p w =
+-- the layout of the object that has this row, where the change has that row
+abbrev pub layout_by : (org : ℕ) → ObjectRow → Option JobRow → OrgPlan → Option Tenant → Layout
+layout_by org r change q t =
     record {
-      org = r.org;
+      org = org;
       object = r.object;
       name = r.name;
       access = r.access.access;
-      fields = places_in r.org r.object p w;
-      job = job_in r.org r.object p w;
+      fields = places_in r.object q t;
+      job = option_and_then (job_of_row r.object) change;
     }
 
--- the same, if there is a row, and of several
-abbrev pub layout_by_found : Option ObjectRow → Plan → World → Option Layout
-layout_by_found row p w = option_map (λ r. layout_by r p w) row
+-- the layout by the object's row, if there is one, and the layouts by several
+abbrev pub layout_by_found : (org : ℕ) → Option ObjectRow → OrgPlan → Option Tenant → Option Layout
+layout_by_found org row q t = option_map (λ r. layout_by org r (change_row org q t) q t) row
 
-abbrev pub layouts_by : List ObjectRow → Plan → World → List Layout
-layouts_by rows p w = map (λ r. layout_by r p w) rows
+abbrev pub layouts_by : (org : ℕ) → List ObjectRow → Option JobRow → OrgPlan → Option Tenant → List Layout
+layouts_by org rows change q t = map (λ r. layout_by org r change q t) rows

@@ -5,7 +5,7 @@ use Rattle.csv.specs.Reading.{Reached, Ready, default_config, expected_len, is_f
 use Rattle.csv.specs.declared.parser.State.TheVariants as st
 use Rattle.csv.specs.declared.reader.Reader.{Reader}
 use Rattle.csv.specs.declared.reader.Trim.TheVariants as trim
-use Rattle.ut_table.specs.Place.{TellsPlace}
+use Rattle.ut_table.specs.Place.{RefusesRecord, TellsPlace}
 use Rattle.ut_table.specs.Table.{begins_with_two_marks, first_refused, fits, table_of}
 use Rattle.ut_table.specs.declared.fail.TableFail.{TableFail}
 
@@ -37,5 +37,6 @@ pub record StandsAt {R : Type 0} (rem : R → Option (List ℕ)) (source : List 
 -- what is so of a source that is read record by record: it failed, or it is read to its end, or its reader stands after what was read
 pub record GoesOn {R : Type 0} (rem : R → Option (List ℕ)) (source : List ℕ) (read : ℕ) (is_ended : Bool) (fail : Option TableFail) (reader : Reader R) : Type 0 where
   pub failed : IfSome fail (TellsPlace source)
+  pub here : IfSome fail (RefusesRecord read)
   pub ended : is_ended ≡ true → (slice_get (table_of source) read ≡ None) × (first_refused source ≡ None)
   pub stands : is_ended ≡ false → fail ≡ None → StandsAt rem source read reader

@@ -2,12 +2,11 @@ use Rattle.std.proofs.Common.{List, ℕ, subst}
 use Rattle.std.specs.Str.{chars}
 use Rattle.ut_keeper.specs.Draft.{state_of, tables_of}
 use Rattle.ut_step.specs.Built.{built_request}
-use Rattle.ut_model.specs.Fields.{by_parent}
 use Rattle.ut_model.specs.Metadata.{set_access}
 use Rattle.ut_model.specs.Requests.{adds_field, adds_object, sets_object}
 use Rattle.ut_model.specs.declared.route.Route.TheVariants.{AddField, AddObject, SetObject}
 use Rattle.ut_stands.specs.Operations.{EditsIn}
-use Rattle.ut_admin.proofs.Asked.{cause_none, edits_asked, edits_none, edits_unbuilt, fit, not_so, returned}
+use Rattle.ut_admin.proofs.Asked.{cause_none, edits_asked, edits_none, edits_unbuilt, fit, returned}
 use Rattle.ut_admin.proofs.edits.edit.Goals as goal
 
 pub returns-in_err-access-in-SetObject-clause-edits :
@@ -35,8 +34,8 @@ returns-in_ok-new-in-AddObject-clause-edits g c told w a s at =
     let asked = c.in_ok-new-in-AddObject.ensures in
     let sound = c.stands_laws.ensures.sound (tables_of g.K.Keeper.state c.args.draft.now) w c.args.org a.tenant s at in
     let fits = fit c.requests_fit.ensures.request a AddObject body (adds_object new) sound asked in
-    edits_asked c.args.org a c.args.route.now AddObject body (adds_object new) w (tables_of g.K.Keeper.state c.add_object.new.draft) c.add_object.result c.in-AddObject.is asked
-    (c.refusal_laws.ensures.refused a (adds_object new)) (c.add_object.ensures.edits told w a.tenant s at fits)
+    edits_asked c.args.org a c.args.route.now AddObject body (adds_object new) w (tables_of g.K.Keeper.state c.make.new.draft) c.make.result c.in-AddObject.is asked
+    (c.refusal_laws.ensures.refused a (adds_object new)) (c.make.ensures.edits told w a s at fits)
 
 pub returns-in_ok-access-in-SetObject-clause-edits :
     goal.returns-in_ok-access-in-SetObject-clause-edits
@@ -44,14 +43,14 @@ returns-in_ok-access-in-SetObject-clause-edits g c told w a s at =
     let object = c.in-SetObject.object in
     let access = c.in_ok-access-in-SetObject.access in
     let body = c.args.body.now in
-    let after = tables_of g.K.Keeper.state c.set_access.new.draft in
+    let after = tables_of g.K.Keeper.state c.make-in-SetObject.new.draft in
     let asked = c.in_ok-access-in-SetObject.ensures object in
     let sound = c.stands_laws.ensures.sound (tables_of g.K.Keeper.state c.args.draft.now) w c.args.org a.tenant s at in
     let fits = fit c.requests_fit.ensures.request a (SetObject object) body (sets_object object access) sound asked in
-    let edits = c.set_access.ensures.edits told w a.tenant s at (not_so (by_parent access) fits) in
-    edits_asked c.args.org a c.args.route.now (SetObject object) body (sets_object object access) w after c.set_access.result c.in-SetObject.is asked
+    let edits = c.make-in-SetObject.ensures.edits told w a s at fits in
+    edits_asked c.args.org a c.args.route.now (SetObject object) body (sets_object object access) w after c.make-in-SetObject.result c.in-SetObject.is asked
     (c.refusal_laws.ensures.refused a (sets_object object access))
-    (subst (λ (name : List ℕ). EditsIn c.args.org (set_access a.tenant name access) w after c.set_access.result) c.as_str.ensures.characters edits)
+    (subst (λ (name : List ℕ). EditsIn c.args.org (set_access a.tenant name access) w after c.make-in-SetObject.result) c.as_str-object.ensures.characters edits)
 
 pub returns-in_ok-new-in-AddField-clause-edits : goal.returns-in_ok-new-in-AddField-clause-edits
 returns-in_ok-new-in-AddField-clause-edits g c told w a s at =
@@ -60,8 +59,8 @@ returns-in_ok-new-in-AddField-clause-edits g c told w a s at =
     let asked = c.in_ok-new-in-AddField.ensures in
     let sound = c.stands_laws.ensures.sound (tables_of g.K.Keeper.state c.args.draft.now) w c.args.org a.tenant s at in
     let fits = fit c.requests_fit.ensures.request a AddField body (adds_field new) sound asked in
-    edits_asked c.args.org a c.args.route.now AddField body (adds_field new) w (tables_of g.K.Keeper.state c.add_field.new.draft) c.add_field.result c.in-AddField.is asked
-    (c.refusal_laws.ensures.refused a (adds_field new)) (c.add_field.ensures.edits told w a.tenant s at fits)
+    edits_asked c.args.org a c.args.route.now AddField body (adds_field new) w (tables_of g.K.Keeper.state c.make-in-AddField.new.draft) c.make-in-AddField.result c.in-AddField.is asked
+    (c.refusal_laws.ensures.refused a (adds_field new)) (c.make-in-AddField.ensures.edits told w a s at fits)
 
 pub returns-in_ok-from_str-in_default-clause-edits : goal.returns-in_ok-from_str-in_default-clause-edits
 unfolding chars

@@ -5,6 +5,7 @@ use Rattle.ut_keeper.specs.Tables.{rows_between}
 use Rattle.ut_keeper.specs.Draft.{removals_of, rise, tables_of}
 use Rattle.ut_keeper.specs.State.{data_rows, seen}
 use Rattle.ut_keeper.proofs.Paging.{page_on}
+use Rattle.ut_keeper.proofs.Alone.{alone_on}
 use Rattle.ut_keeper.proofs.Calls.{both_tell, rows_rise}
 use Rattle.ut_keeper.proofs.paged.all_rows.Goals as goal
 
@@ -23,6 +24,7 @@ pages-preserved g c =
     let more = c.scan.ensures.reads in
     record {
       reads = rows_rise state t shown later first mid after c.pages.invariant.reads more;
+      shown = alone_on t later (state first.keeper.now) (state mid.keeper.now) (state after.keeper.now) c.pages.invariant.shown c.scan.ensures.shown;
       quiet = c.in_ok-rows.ensures.quiet (λ failed. absurd cc) ∙ c.pages.invariant.quiet;
       rows = λ told.
           let tell = both_tell state (data_rows t shown) (data_rows t later) first mid after c.pages.invariant.reads more told in

@@ -1,5 +1,5 @@
-use Rattle.std.proofs.Common.{◌≡◌, ◌++◌}
-use Rattle.ut_keeper.specs.State.{data_rows}
+use Rattle.std.proofs.Common.{◌≡◌, ◌-◌, ◌++◌}
+use Rattle.ut_keeper.specs.State.{ShownMost, data_rows}
 use Rattle.ut_keeper.specs.Tables.{rows_between}
 use Rattle.ut_keeper.specs.Draft.{state_of, tables_of, DraftTells, DraftReads, rise}
 use Rattle.ut_keeper.proofs.paged.all_rows.Given as goal
@@ -7,6 +7,7 @@ use Rattle.ut_keeper.proofs.paged.all_rows.Given as goal
 abbrev pub invariant-pages : goal.invariant-pages
 invariant-pages g l = record {
   reads : DraftReads g.K.Keeper.state (data_rows l.table (rise g.K.Keeper.state l.initial.draft l.draft)) l.initial.draft l.draft;
+  shown : ShownMost l.table ((state_of g.K.Keeper.state l.draft).shown l.table - (state_of g.K.Keeper.state l.initial.draft).shown l.table) (state_of g.K.Keeper.state l.initial.draft) (state_of g.K.Keeper.state l.draft);
   quiet : (state_of g.K.Keeper.state l.draft).faults ≡ (state_of g.K.Keeper.state l.initial.draft).faults;
   rows : DraftTells g.K.Keeper.state l.initial.draft l.draft
       → l.all.items ++ rows_between (tables_of g.K.Keeper.state l.initial.draft) l.table l.next l.below ≡ rows_between (tables_of g.K.Keeper.state l.initial.draft) l.table l.from l.below;

@@ -14,12 +14,12 @@ use Rattle.ut_rest.proofs.names.answer_names.Goals as goal
 pub returns-in-Ok-clause-judged : goal.returns-in-Ok-clause-judged
 returns-in-Ok-clause-judged g c told w a q s at admin asks from =
     let state = g.K.Keeper.state in
-    let b = c.layout_named.new.draft in
+    let b = c.layout_of.new.draft in
     let m = tables_of state c.args.draft.now in
     let l = c.in-Ok-Some.layout in
     let most = limit_number limit.RecordsPerObject + removals_of state data_table b in
-    let tell = c.draft_laws.ensures.both 0 most c.args.draft.now b c.reply_of.new.draft c.layout_named.ensures.reads c.reply_of.ensures.reads told in
-    let there = found_by c.args.org m _ c.args.object c.layout_named.result (Some l) c.as_str.ensures.characters (c.in-Ok-Some.is ∙ ap Ok c.in-Ok-Some.field-0-is) (c.layout_named.ensures.finds tell.0) in
+    let tell = c.draft_laws.ensures.both 0 most c.args.draft.now b c.reply_of.new.draft c.layout_of.ensures.reads c.reply_of.ensures.reads told in
+    let there = found_by c.args.org m _ c.args.object c.layout_of.result (Some l) c.as_str.ensures.characters (c.in-Ok-Some.is ∙ ap Ok c.in-Ok-Some.field-0-is) (c.layout_of.ensures.finds tell.0) in
     let value = λ (w : World). names_reply l.name (records_after l.org l.object None (limit_number limit.RecordsPerObject) w) in
     let gives = subst (λ (t : Tables). FindsOf l value t c.reply_of.result) tell.2 (c.reply_of.ensures.finds tell.1) in
     names_replied c.object_laws.ensures.named c.stands_laws.ensures.sound c.names_laws.ensures.body c.names_laws.ensures.accepted c.args.org a q l w m (tables_of state c.reply_of.new.draft) c.in-Ok.reply s at admin asks
@@ -29,12 +29,12 @@ returns-in-Ok-clause-judged g c told w a q s at admin asks from =
 pub returns-in-Ok-Some-clause-judged : goal.returns-in-Ok-Some-clause-judged
 returns-in-Ok-Some-clause-judged g c told w a q s at admin asks from =
     let state = g.K.Keeper.state in
-    let b = c.layout_named.new.draft in
+    let b = c.layout_of.new.draft in
     let m = tables_of state c.args.draft.now in
     let l = c.in-Ok-Some.layout in
     let most = limit_number limit.RecordsPerObject + removals_of state data_table b in
-    let tell = c.draft_laws.ensures.both 0 most c.args.draft.now b c.reply_of.new.draft c.layout_named.ensures.reads c.reply_of.ensures.reads told in
-    let there = found_by c.args.org m _ c.args.object c.layout_named.result (Some l) c.as_str.ensures.characters (c.in-Ok-Some.is ∙ ap Ok c.in-Ok-Some.field-0-is) (c.layout_named.ensures.finds tell.0) in
+    let tell = c.draft_laws.ensures.both 0 most c.args.draft.now b c.reply_of.new.draft c.layout_of.ensures.reads c.reply_of.ensures.reads told in
+    let there = found_by c.args.org m _ c.args.object c.layout_of.result (Some l) c.as_str.ensures.characters (c.in-Ok-Some.is ∙ ap Ok c.in-Ok-Some.field-0-is) (c.layout_of.ensures.finds tell.0) in
     let value = λ (w : World). names_reply l.name (records_after l.org l.object None (limit_number limit.RecordsPerObject) w) in
     let gives = subst (λ (t : Tables). FindsOf l value t c.reply_of.result) tell.2 (c.reply_of.ensures.finds tell.1) in
     records_failed c.object_laws.ensures.named value c.args.org c.args.object l w a.tenant m c.in-Err-reply_of.fail s at there (subst (FindsOf l value m) c.in-Err-reply_of.is gives)
@@ -43,8 +43,8 @@ pub returns-in-Ok-None-clause-judged : goal.returns-in-Ok-None-clause-judged
 returns-in-Ok-None-clause-judged g c told w a q s at admin asks from =
     let state = g.K.Keeper.state in
     let m = tables_of state c.args.draft.now in
-    let there = found_by c.args.org m _ c.args.object c.layout_named.result None c.as_str.ensures.characters (c.in-Ok-None.is ∙ ap Ok c.in-Ok-None.field-0-is) (c.layout_named.ensures.finds told) in
+    let there = found_by c.args.org m _ c.args.object c.layout_of.result None c.as_str.ensures.characters (c.in-Ok-None.is ∙ ap Ok c.in-Ok-None.field-0-is) (c.layout_of.ensures.finds told) in
     let result = c.refuse.result in
-    nothing_replied c.names_laws.ensures.no_object c.args.org a q w m (tables_of state c.layout_named.new.draft) result s at
+    nothing_replied c.names_laws.ensures.no_object c.args.org a q w m (tables_of state c.layout_of.new.draft) result s at
     (subst (λ (n : List ℕ). FindsBy (layout_named c.args.org n) m (Ok None)) (sym from) there)
     (subst (λ (n : List ℕ). Refuses (InvalidType n) result) (sym from) c.refuse.ensures.value)

@@ -4,7 +4,7 @@ use Rattle.std.specs.Cow.{cow_str_bytes}
 use Rattle.std.specs.Prelude.{bytes_eq, codes, true}
 use Rattle.form_urlencoded.specs.Form.{DecodesTo}
 use Rattle.form_urlencoded.specs.Parse.{pairs_left}
-use Rattle.ut_model.specs.Step.{query_text, value_text}
+use Rattle.ut_model.specs.Step.{pair_text, query_text}
 use Rattle.ut_rest.proofs.Queries.{find-found, find-none}
 use Rattle.ut_rest.proofs.query.query_text.Goals as goal
 
@@ -17,10 +17,10 @@ returns-then-eq c =
     ap (λ k. bytes_eq k (codes "q")) (sym c.as_str-in-loop-pair.ensures.value) ∙ sym c.eq.ensures ∙ c.if-eq.true in
     let found = find-found name value (cow_str_bytes c.in_ok-name.name) (cow_str_bytes c.in_ok-name.value)
     (pairs_left c.loop-pair.pair-iterator) (pairs_left c.next.new.self) left both.0 both.1 same in
-    IfOk-weaker c.into_owned.result _ _ (λ s e. e ∙ sym found ∙ ap value_text c.loop-pair.invariant) c.into_owned.ensures.ok
+    IfOk-weaker c.into_owned.result _ _ (λ s e. e ∙ sym found ∙ ap pair_text c.loop-pair.invariant) c.into_owned.ensures.ok
 
 pub returns : goal.returns
 unfolding query_text
 returns c =
     c.new.ensures.bytes ∙ sym (find-none (pairs_left c.loop-pair.pair-iterator) c.in-None.ensures.steps.0)
-    ∙ ap value_text c.loop-pair.invariant
+    ∙ ap pair_text c.loop-pair.invariant

@@ -2,8 +2,8 @@ use Rattle.std.proofs.Common.{◌∙◌, Err, ap, arith, subst, sym}
 use Rattle.std.proofs.lemmas.Result.{err_from_is_err_and}
 use Rattle.ut_keeper.specs.Draft.{tables_of}
 use Rattle.ut_keys.specs.Rows.{field_form}
-use Rattle.ut_stands.specs.inner.LayoutRows.{ListsBy, field_rows, places_in}
-use Rattle.ut_stands.specs.Layouts.{FindsBy}
+use Rattle.ut_stands.specs.inner.LayoutRows.{ListsIn, field_rows, places_in}
+use Rattle.ut_stands.specs.Local.{FindsIn}
 use Rattle.ut_stands.proofs.LayoutReads.{fields_read, list_failed, places_found}
 use Rattle.ut_stands.proofs.MetadataLists.{KeyLaws}
 use Rattle.ut_stands.proofs.Pages.{PageLaws}
@@ -21,9 +21,9 @@ returns-in_err-rows-clause-finds g c told =
       begins = c.shape_laws.ensures.begins;
     } in
     let pages : PageLaws field_form = record { kept = c.listing_laws.ensures.kept; page = c.listing_laws.ensures.page } in
-    let read = fields_read keys pages m org n (omega arith) (omega arith) c.page_under.result (c.page_under.ensures.rows told) in
+    let read = fields_read keys c.local_laws.ensures.listed pages m org n (omega arith) (omega arith) c.page_under.result (c.page_under.ensures.rows told) in
     let p = err_from_is_err_and c.from_residual.result c.from_residual.ensures.1 in
-    subst (FindsBy (places_in org n) m) (sym (p.1 ∙ ap Err p.2)) (list_failed (field_rows org n) (places_in org n) m c.page_under.result c.in_err-rows.field-0.0 c.in_err-rows.was read)
+    subst (FindsIn org (places_in n) m) (sym (p.1 ∙ ap Err p.2)) (list_failed org (field_rows org n) (places_in n) m c.page_under.result c.in_err-rows.field-0.0 c.in_err-rows.was read)
 
 pub returns-clause-finds : goal.returns-clause-finds
 returns-clause-finds g c told =
@@ -37,5 +37,5 @@ returns-clause-finds g c told =
       begins = c.shape_laws.ensures.begins;
     } in
     let pages : PageLaws field_form = record { kept = c.listing_laws.ensures.kept; page = c.listing_laws.ensures.page } in
-    let read = fields_read keys pages m org n (omega arith) (omega arith) c.page_under.result (c.page_under.ensures.rows told) in
-    places_found org n m c.in_ok-rows.rows.items c.in_ok-places_of.field-0 c.in_ok-places_of.ensures (subst (ListsBy (field_rows org n) m) c.in_ok-rows.was read)
+    let read = fields_read keys c.local_laws.ensures.listed pages m org n (omega arith) (omega arith) c.page_under.result (c.page_under.ensures.rows told) in
+    places_found org n m c.in_ok-rows.rows.items c.in_ok-places_of.field-0 c.in_ok-places_of.ensures (subst (ListsIn org (field_rows org n) m) c.in_ok-rows.was read)

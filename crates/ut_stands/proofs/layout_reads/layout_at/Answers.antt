@@ -4,10 +4,12 @@ use Rattle.ut_keeper.specs.Draft.{tables_of}
 use Rattle.ut_keeper.specs.Tables.{Tables}
 use Rattle.ut_keys.specs.Rows.{object_form}
 use Rattle.ut_stands.specs.inner.LayoutRows.{layout_by_found}
-use Rattle.ut_stands.specs.Layouts.{FindsBy, layout_at}
-use Rattle.ut_stands.proofs.Found.{row_finds, row_of}
+use Rattle.ut_stands.specs.Layouts.{own_layout}
+use Rattle.ut_stands.specs.Local.{FindsIn}
+use Rattle.ut_stands.proofs.Found.{row_finds, row_in_org}
 use Rattle.ut_stands.proofs.LayoutReads.{at_found, err_again}
 use Rattle.ut_stands.proofs.MetadataRows.{object_is_row, object_there}
+use Rattle.ut_stands.proofs.Places.{PrefixLaws}
 use Rattle.ut_stands.proofs.layout_reads.layout_at.Goals as goal
 
 pub returns-in_err-row-clause-finds : goal.returns-in_err-row-clause-finds
@@ -15,10 +17,11 @@ returns-in_err-row-clause-finds g c told =
     let m = tables_of g.K.Keeper.state c.args.draft.now in
     let org = c.args.org in
     let n = c.args.object in
-    let h = row_finds object_form org (org, n) (object_there org n) (object_is_row org n (omega arith) (omega arith)) c.row_laws.ensures.found m c.row_at.result (c.row_at.ensures.row told) in
+    let laws : PrefixLaws = record { interval = c.key_laws.ensures.interval; unbounded = c.key_laws.ensures.unbounded; bytes = c.table_laws.ensures.bytes } in
+    let h = row_finds laws c.key_laws.ensures.exact object_form org (omega arith) (org, n) (object_there org n) (object_is_row org n (omega arith) (omega arith)) c.row_laws.ensures.found m c.row_at.result (c.row_at.ensures.row told) in
     let p = err_from_is_err_and c.from_residual.result c.from_residual.ensures.1 in
-    subst (FindsBy (layout_at org n) m) (sym (p.1 ∙ ap Err p.2))
-    (err_again (row_of org (object_there org n)) (layout_at org n) m c.in_err-row.field-0.0 (subst (FindsBy (row_of org (object_there org n)) m) c.in_err-row.was h))
+    subst (FindsIn org (own_layout org n) m) (sym (p.1 ∙ ap Err p.2))
+    (err_again org (row_in_org (object_there org n)) (own_layout org n) m c.in_err-row.field-0.0 (subst (FindsIn org (row_in_org (object_there org n)) m) c.in_err-row.was h))
 
 pub returns-clause-finds : goal.returns-clause-finds
 returns-clause-finds g c told =
@@ -28,8 +31,9 @@ returns-clause-finds g c told =
     let m = tables_of g.K.Keeper.state a in
     let org = c.args.org in
     let n = c.args.object in
-    let tell = c.draft_laws.ensures.both 0 0 a b d c.row_at.ensures.reads c.layout_of_found.ensures.reads told in
-    let h = row_finds object_form org (org, n) (object_there org n) (object_is_row org n (omega arith) (omega arith)) c.row_laws.ensures.found m c.row_at.result (c.row_at.ensures.row tell.0) in
+    let laws : PrefixLaws = record { interval = c.key_laws.ensures.interval; unbounded = c.key_laws.ensures.unbounded; bytes = c.table_laws.ensures.bytes } in
+    let tell = c.draft_laws.ensures.both 0 0 a b d c.row_at.ensures.reads c.layout_of_found.ensures.calls.reads told in
+    let h = row_finds laws c.key_laws.ensures.exact object_form org (omega arith) (org, n) (object_there org n) (object_is_row org n (omega arith) (omega arith)) c.row_laws.ensures.found m c.row_at.result (c.row_at.ensures.row tell.0) in
     at_found org n m c.in_ok-row.row c.layout_of_found.result
-    (subst (FindsBy (row_of org (object_there org n)) m) c.in_ok-row.was h)
-    (subst (λ (t : Tables). FindsBy (layout_by_found c.in_ok-row.row) t c.layout_of_found.result) tell.2 (c.layout_of_found.ensures.finds tell.1))
+    (subst (FindsIn org (row_in_org (object_there org n)) m) c.in_ok-row.was h)
+    (subst (λ (t : Tables). FindsIn org (layout_by_found org c.in_ok-row.row) t c.layout_of_found.result) tell.2 (c.layout_of_found.ensures.finds tell.1))

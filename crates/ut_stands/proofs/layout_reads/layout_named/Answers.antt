@@ -1,12 +1,13 @@
 use Rattle.std.proofs.Common.{◌∙◌, Err, ap, subst, sym}
+use Rattle.std.specs.Prelude.{Option}
 use Rattle.std.specs.Str.{chars}
 use Rattle.std.proofs.lemmas.Result.{err_from_is_err_and}
 use Rattle.ut_keeper.specs.Draft.{tables_of}
 use Rattle.ut_keeper.specs.Tables.{Tables}
 use Rattle.ut_keys.specs.declared.object.ObjectRow.{ObjectRow}
-use Rattle.std.specs.Prelude.{Option}
-use Rattle.ut_stands.specs.inner.LayoutRows.{ListsBy, layout_by_found, object_rows}
-use Rattle.ut_stands.specs.Layouts.{FindsBy, layout_named}
+use Rattle.ut_stands.specs.inner.LayoutRows.{ListsIn, layout_by_found, object_rows}
+use Rattle.ut_stands.specs.Layouts.{own_layout_named}
+use Rattle.ut_stands.specs.Local.{FindsIn}
 use Rattle.ut_stands.proofs.LayoutReads.{list_failed, named_found}
 use Rattle.ut_stands.proofs.layout_reads.layout_named.Goals as goal
 
@@ -16,8 +17,8 @@ returns-in_err-rows-clause-finds g c told =
     let org = c.args.org in
     let name = chars c.args.name.now in
     let p = err_from_is_err_and c.from_residual.result c.from_residual.ensures.1 in
-    subst (FindsBy (layout_named org name) m) (sym (p.1 ∙ ap Err p.2))
-    (list_failed (object_rows org) (layout_named org name) m c.objects_of.result c.in_err-rows.field-0.0 c.in_err-rows.was (c.objects_of.ensures.finds told))
+    subst (FindsIn org (own_layout_named org name) m) (sym (p.1 ∙ ap Err p.2))
+    (list_failed org (object_rows org) (own_layout_named org name) m c.objects_of.result c.in_err-rows.field-0.0 c.in_err-rows.was (c.objects_of.ensures.finds told))
 
 pub returns-clause-finds : goal.returns-clause-finds
 returns-clause-finds g c told =
@@ -27,8 +28,8 @@ returns-clause-finds g c told =
     let m = tables_of g.K.Keeper.state a in
     let org = c.args.org in
     let name = chars c.args.name.now in
-    let tell = c.draft_laws.ensures.both 0 0 a b d c.objects_of.ensures.reads c.layout_of_found.ensures.reads told in
-    let layout = subst (λ (t : Tables). FindsBy (layout_by_found c.row_named.result) t c.layout_of_found.result) tell.2 (c.layout_of_found.ensures.finds tell.1) in
+    let tell = c.draft_laws.ensures.both 0 0 a b d c.objects_of.ensures.calls.reads c.layout_of_found.ensures.calls.reads told in
+    let layout = subst (λ (t : Tables). FindsIn org (layout_by_found org c.row_named-row.result) t c.layout_of_found.result) tell.2 (c.layout_of_found.ensures.finds tell.1) in
     named_found org name m c.in_ok-rows.rows.items c.layout_of_found.result
-    (subst (ListsBy (object_rows org) m) c.in_ok-rows.was (c.objects_of.ensures.finds tell.0))
-    (subst (λ (row : Option ObjectRow). FindsBy (layout_by_found row) m c.layout_of_found.result) c.row_named.ensures layout)
+    (subst (ListsIn org (object_rows org) m) c.in_ok-rows.was (c.objects_of.ensures.finds tell.0))
+    (subst (λ (row : Option ObjectRow). FindsIn org (layout_by_found org row) m c.layout_of_found.result) c.row_named-row.ensures layout)

@@ -1,28 +1,31 @@
-use Rattle.std.proofs.Common.{◌∙◌, Err, ap, subst, sym}
-use Rattle.std.proofs.lemmas.Result.{err_from_is_err_and}
+use Rattle.std.proofs.Common.{subst, sym}
 use Rattle.ut_keeper.specs.Draft.{tables_of}
 use Rattle.ut_keeper.specs.Tables.{Tables}
-use Rattle.ut_stands.specs.inner.LayoutRows.{ListsBy, layouts_by, object_rows}
-use Rattle.ut_stands.specs.Layouts.{FindsBy, layouts_of}
-use Rattle.ut_stands.proofs.LayoutReads.{layouts_found, list_failed}
+use Rattle.ut_stands.specs.inner.LayoutRows.{layouts_by}
+use Rattle.ut_stands.specs.Local.{FindsIn, StandsIn}
+use Rattle.ut_stands.proofs.LayoutReads.{layouts_found}
 use Rattle.ut_stands.proofs.layout_reads.layouts.Goals as goal
-
-pub returns-in_err-rows-clause-finds : goal.returns-in_err-rows-clause-finds
-returns-in_err-rows-clause-finds g c told =
-    let m = tables_of g.K.Keeper.state c.args.draft.now in
-    let org = c.args.org in
-    let p = err_from_is_err_and c.from_residual.result c.from_residual.ensures.1 in
-    subst (FindsBy (layouts_of org) m) (sym (p.1 ∙ ap Err p.2))
-    (list_failed (object_rows org) (layouts_of org) m c.objects_of.result c.in_err-rows.field-0.0 c.in_err-rows.was (c.objects_of.ensures.finds told))
 
 pub returns-clause-finds : goal.returns-clause-finds
 returns-clause-finds g c told =
+    let state = g.K.Keeper.state in
+    let laws = c.call_laws.ensures in
     let a = c.args.draft.now in
-    let b = c.objects_of.new.draft in
-    let d = c.layouts_of_rows.new.draft in
-    let m = tables_of g.K.Keeper.state a in
+    let b = c.change_row.new.draft in
+    let d = c.objects_of.new.draft in
+    let e = c.layouts_of_rows.new.draft in
     let org = c.args.org in
-    let tell = c.draft_laws.ensures.both 0 0 a b d c.objects_of.ensures.reads c.layouts_of_rows.ensures.reads told in
-    layouts_found org m c.in_ok-rows.rows.items c.layouts_of_rows.result
-    (subst (ListsBy (object_rows org) m) c.in_ok-rows.was (c.objects_of.ensures.finds tell.0))
-    (subst (λ (t : Tables). FindsBy (layouts_by c.in_ok-rows.rows.items) t c.layouts_of_rows.result) tell.2 (c.layouts_of_rows.ensures.finds tell.1))
+    let m = tables_of state a in
+    let rows = c.in_ok-rows.rows.items in
+    let change = c.in_ok-change.change in
+    let to_d = laws.told_first 0 _ a d e c.layouts_of_rows.ensures.calls told in
+    let to_b = laws.told_first 0 _ a b d c.objects_of.ensures.calls to_d in
+    let from_b = laws.told_then 0 _ a b d c.change_row.ensures.calls to_b to_d in
+    let on_b = laws.tables 0 _ a b c.change_row.ensures.calls to_b in
+    let on_d = laws.tables 0 _ b d c.objects_of.ensures.calls from_b in
+    let from_d = laws.told_then 0 _ b d e c.objects_of.ensures.calls from_b (laws.told_then 0 _ a b e c.change_row.ensures.calls to_b told) in
+    layouts_found org m rows change c.layouts_of_rows.result
+    (λ q t s. c.in_ok-rows.ensures.finds from_b q t (subst (λ (x : Tables). StandsIn org q x t) (sym on_b) s))
+    (c.in_ok-change.ensures.finds to_b)
+    (subst (λ (x : Tables). FindsIn org (layouts_by org rows change) x c.layouts_of_rows.result) on_b
+    (subst (λ (x : Tables). FindsIn org (layouts_by org rows change) x c.layouts_of_rows.result) on_d (c.layouts_of_rows.ensures.finds from_d)))

@@ -1,15 +1,14 @@
-use Rattle.std.proofs.Common.{◌≡◌, true}
-use Rattle.ut_keeper.specs.Draft.{DraftReads, DraftTells, state_of, tables_of}
-use Rattle.ut_keeper.specs.State.{StaysAfter}
-use Rattle.ut_model.specs.World.{World}
+use Rattle.std.proofs.Common.{◌≡◌, Option}
+use Rattle.ut_keeper.specs.Draft.{DraftTells, tables_of}
+use Rattle.ut_model.specs.Tenant.{Tenant}
+use Rattle.ut_stands.specs.Calls.{Calls, done}
 use Rattle.ut_stands.specs.inner.LayoutRows.{layouts_by}
-use Rattle.ut_stands.specs.Plan.{Plan}
-use Rattle.ut_stands.specs.Stands.{StandsBy}
+use Rattle.ut_stands.specs.Local.{StandsIn}
+use Rattle.ut_stands.specs.Plan.{OrgPlan}
 use Rattle.ut_stands.proofs.layout_reads.layouts_of_rows.Given as goal
 
 abbrev pub invariant-loop-row : goal.invariant-loop-row
 invariant-loop-row g l = record {
-  reads : DraftReads g.K.Keeper.state 0 l.fn.draft l.draft;
-  stays : StaysAfter true (state_of g.K.Keeper.state l.fn.draft) (state_of g.K.Keeper.state l.draft);
-  found : DraftTells g.K.Keeper.state l.fn.draft l.draft → (p : Plan) (w : World) → StandsBy p (tables_of g.K.Keeper.state l.fn.draft) w → l.all ≡ layouts_by l.yielded p w;
+  calls : Calls g.K.Keeper.state 0 done l.fn.draft l.draft;
+  found : DraftTells g.K.Keeper.state l.fn.draft l.draft → (q : OrgPlan) (t : Option Tenant) → StandsIn l.fn.org q (tables_of g.K.Keeper.state l.fn.draft) t → l.all ≡ layouts_by l.fn.org l.yielded l.fn.change q t;
 }

@@ -16,4 +16,4 @@ returns-clause-finds g c told =
       begins = c.shape_laws.ensures.begins;
     } in
     let pages : PageLaws object_form = record { kept = c.listing_laws.ensures.kept; page = c.listing_laws.ensures.page } in
-    objects_read keys pages m c.args.org (omega arith) c.page_under.result (c.page_under.ensures.rows told)
+    objects_read keys c.local_laws.ensures.listed pages m c.args.org (omega arith) c.page_under.result (c.page_under.ensures.rows told)

@@ -1,9 +1,11 @@
 use Rattle.std.proofs.Common.{arith}
 use Rattle.ut_keeper.specs.Draft.{tables_of}
+use Rattle.ut_stands.proofs.Places.{PrefixLaws}
 use Rattle.ut_stands.proofs.Users.{user_finds}
 use Rattle.ut_stands.proofs.reads.user.Goals as goal
 
 pub returns-clause-finds : goal.returns-clause-finds
 returns-clause-finds g c told =
     let m = tables_of g.K.Keeper.state c.args.draft.now in
-    user_finds c.row_laws.ensures.found c.id_laws.ensures.made c.name_laws.ensures.text c.name_laws.ensures.short m c.args.org c.args.id.now (omega arith) c.as_bytes.ensures.id c.row_at.result (c.row_at.ensures.row told)
+    let laws : PrefixLaws = record { interval = c.key_laws.ensures.interval; unbounded = c.key_laws.ensures.unbounded; bytes = c.table_laws.ensures.bytes } in
+    user_finds laws c.key_laws.ensures.exact c.row_laws.ensures.found c.id_laws.ensures.made c.name_laws.ensures.text c.name_laws.ensures.short m c.args.org c.args.id.now (omega arith) c.as_bytes.ensures.id c.row_at.result (c.row_at.ensures.row told)

@@ -1,9 +1,17 @@
 use Rattle.std.proofs.Common.{arith}
 use Rattle.ut_keeper.specs.Draft.{tables_of}
+use Rattle.std.specs.FinMap as map
+use Rattle.ut_keys.specs.Keys.{Org, spell}
+use Rattle.ut_keys.specs.Rows.{org_form}
+use Rattle.ut_stands.proofs.Found.{key_found}
 use Rattle.ut_stands.proofs.Organisations.{org_finds}
+use Rattle.ut_stands.proofs.Places.{PrefixLaws}
 use Rattle.ut_stands.proofs.rows.org_row.Goals as goal
 
 pub returns-clause-finds : goal.returns-clause-finds
 returns-clause-finds g c told =
     let m = tables_of g.K.Keeper.state c.args.draft.now in
-    org_finds c.name_laws.ensures.text c.name_laws.ensures.short c.row_laws.ensures.found m c.args.org (omega arith) c.row_at.result (c.row_at.ensures.row told)
+    let laws : PrefixLaws = record { interval = c.key_laws.ensures.interval; unbounded = c.key_laws.ensures.unbounded; bytes = c.table_laws.ensures.bytes } in (
+      org_finds c.name_laws.ensures.text c.name_laws.ensures.short laws c.key_laws.ensures.exact c.row_laws.ensures.found m c.args.org (omega arith) c.row_at.result (c.row_at.ensures.row told),
+      key_found org_form c.args.org (map.get m (spell (Org c.args.org))) c.row_at.result (c.row_at.ensures.row told),
+    )

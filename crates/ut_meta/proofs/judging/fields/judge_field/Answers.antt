@@ -2,7 +2,7 @@ use Rattle.std.proofs.Common.{◌∙◌, Some, None, sym, ap}
 use Rattle.std.specs.Str.{chars}
 use Rattle.ut_model.specs.NewFields.{add_field, field_rules}
 use Rattle.ut_model.specs.Rules.{first_refusal}
-use Rattle.ut_meta.specs.Judging.{refusal_of}
+use Rattle.ut_meta.specs.Judging.{verdict_refusal}
 use Rattle.ut_meta.proofs.JudgedFields.{no_object, no_target, placed}
 use Rattle.ut_meta.proofs.Steps.{at_name, if_ok}
 use Rattle.ut_meta.proofs.judging.fields.judge_field.Goals as goal
@@ -18,7 +18,7 @@ returns-in-Ok c =
     λ t h.
     let some = at_name c.args.layouts.now (chars c.as_str.result.now) c.args.new.now.object (Some c.in-Some.layout.now) c.as_str.ensures.characters c.in-Some.ensures in
     let (o, places, e) = placed t c.args.layouts.now h c.args.new.now c.in-Some.layout.now some c.in-Ok.target c.in-Ok.ensures in
-    if_ok c.judge_names.result (first_refusal (field_rules t o c.in-Ok.target c.args.new.now)) (refusal_of (add_field t c.args.new.now)) (sym e) (c.judge_names.ensures t o places)
+    if_ok c.judge_names.result (first_refusal (field_rules t o c.in-Ok.target c.args.new.now)) (verdict_refusal (add_field t c.args.new.now)) (sym e) (c.judge_names.ensures t o places)
 
 pub returns-in_ok-invalid_type-in-Err : goal.returns-in_ok-invalid_type-in-Err
 returns-in_ok-invalid_type-in-Err c =

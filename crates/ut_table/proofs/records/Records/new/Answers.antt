@@ -9,6 +9,7 @@ invariant_of-result c =
     let named = c.has_headers.ensures in
     record {
       failed = c.failure_at_start.ensures.marked;
+      here = c.failure_at_start.ensures.first;
       ended = λ e. cc e;
       stands = λ e none. record {
         trim = rw named at fr.trim ∙ c.new.ensures.trim;

@@ -1,0 +1,74 @@
+-- Changes that are made, and what they make of the tables.
+use Rattle.std.proofs.Common.{◌≡◌, ◌∙◌, ◌≤◌, ◌<◌, ◌^◌, ℕ, ◌+◌, false, List, [], ◌∷◌, ◌++◌, map, Some, None, refl, sym, ap, subst, arith}
+use Rattle.std.specs.Prelude.{Result, Ok, Err, IsErrAnd, Vec}
+use Rattle.std.specs.List.{AllByRecursion}
+use Rattle.ut_edits.specs.Edits.{ChangesIn, Edits, EditsAt, Judges, JudgesTo, Planned}
+use Rattle.ut_edits.specs.Rows.{AreOf, gone_of, spelled}
+use Rattle.ut_keeper.specs.Tables.{Tables, after, after_change}
+use Rattle.ut_keeper.specs.declared.keeper.Change.{Change as Spelled}
+use Rattle.ut_keys.specs.Keys.{Key}
+use Rattle.ut_model.specs.Paths.{Asked}
+use Rattle.ut_model.specs.Sound.{IsSound}
+use Rattle.ut_model.specs.Tenant.{Tenant}
+use Rattle.ut_model.specs.Verdict.{Verdict}
+use Rattle.ut_stands.specs.Changes.{Change, IsOf, is_changed, with_change, with_changes}
+use Rattle.ut_stands.specs.declared.fail.EditFail.{EditFail}
+use Rattle.ut_stands.specs.Local.{IsIn, KeepsOthers, StandsIn}
+use Rattle.ut_stands.specs.Plan.{FitsPlan, OrgPlan}
+use Rattle.ut_stands.specs.Stands.{org_of_key, row_in}
+
+-- what `ut_stands` says of one organisation's rows after changes, and of those of others
+abbrev pub EditedIn : Type 0
+EditedIn = (m : Tables) (n : ℕ) (t u : Tenant) (p q : OrgPlan) (changes : List Change) → n < 2 ^ 32 → StandsIn n p m (Some t) → IsSound u → FitsPlan q u → AllByRecursion (IsOf n q u) changes
+    → ((k : Key) → org_of_key k ≡ Some n → is_changed changes k ≡ false → row_in q u k ≡ row_in p t k) → StandsIn n q (with_changes changes m) (Some u)
+
+abbrev pub KeptIn : Type 0
+KeptIn = (m : Tables) (n : ℕ) (changes : List Change) → n < 2 ^ 32 → AllByRecursion (IsIn n) changes → KeepsOthers n m (with_changes changes m)
+
+-- one change more
+pub after_push : (cs : List Spelled) (c : Spelled) (m : Tables) → after (cs ++ c ∷ []) m ≡ after (c ∷ []) (after cs m)
+after_push [] c m = refl
+after_push (x ∷ cs) c m = after_push cs c (after_change x m)
+
+pub gone_push : (cs : List Spelled) (c : Spelled) → gone_of (cs ++ c ∷ []) ≡ gone_of cs + gone_of (c ∷ [])
+gone_push [] c = omega arith
+gone_push (x ∷ cs) c = let e = gone_push cs c in omega (arith, e)
+
+pub gone_front : (xs ys : List Spelled) → gone_of xs ≤ gone_of (xs ++ ys)
+gone_front [] ys = omega arith
+gone_front (x ∷ xs) ys = let e = gone_front xs ys in omega (arith, e)
+
+one : (c : Change) (m : Tables) → after_change (spelled c) m ≡ with_change c m
+one (k, Some row) m = refl
+one (k, None) m = refl
+
+pub after_spelled : (cs : List Change) (m : Tables) → after (map spelled cs) m ≡ with_changes cs m
+after_spelled [] m = refl
+after_spelled (c ∷ cs) m = ap (after (map spelled cs)) (one c m) ∙ after_spelled cs (with_change c m)
+
+-- ---- edits
+
+module _ (edited : EditedIn) (kept : KeptIn) (org : ℕ) (lo : org < 2 ^ 32) (m then : Tables) (planned : Planned) {A : Type 0} where
+  changed_at : (q : OrgPlan) (t : Tenant) (v : Verdict) (x : Vec Spelled A) → StandsIn org q m (Some t) → JudgesTo {A = A} org q t v planned (Ok x) → then ≡ after x.items m → EditsAt org v (planned q t) then (Ok tt)
+  changed_at q t v x s (changes, spells, takes) made =
+      let is : then ≡ with_changes changes m = made ∙ ap (λ (xs : List Spelled). after xs m) spells ∙ after_spelled changes m in
+      (takes.answer, (takes.plan, takes.kept, subst (λ (z : Tables). StandsIn org takes.plan z (Some v.tenant)) (sym is) (edited m org t v.tenant q takes.plan changes lo s takes.sound takes.fits takes.are takes.rest)))
+
+  others_at : (x : Vec Spelled A) → AreOf org x.items → then ≡ after x.items m → KeepsOthers org m then
+  others_at x (changes, spells, are) made =
+      subst (KeepsOthers org m) (sym (made ∙ ap (λ (xs : List Spelled). after xs m) spells ∙ after_spelled changes m)) (kept m org changes lo are)
+
+  -- an edit that is judged, once its changes are made
+  pub edit_made : (verdict : Asked → Verdict) (fit : _) (r : Result (Vec Spelled A) EditFail) (x : Vec Spelled A) → r ≡ Ok x → Judges org verdict planned fit m r → then ≡ after x.items m → Edits org verdict planned fit m then (Ok tt)
+  edit_made verdict fit r x was h made = record {
+    others = others_at x (subst (ChangesIn org) was h.own) made;
+    edited = λ q a s f. changed_at q a.tenant (verdict a) x s (subst (JudgesTo org q a.tenant (verdict a) planned) was (h.judged q a s f)) made;
+  }
+
+  -- one that is refused or fails, passed on by a `?`
+  pub edit_passed : (verdict : Asked → Verdict) (fit : _) (r : Result (Vec Spelled A) EditFail) (e : EditFail) (out : Result (Unit {0}) EditFail) → r ≡ Err e → IsErrAnd out (λ y. y ≡ e) → Judges org verdict planned fit m r → Edits org verdict planned fit m then out
+  edit_passed verdict fit r e (Ok x) was passed h = absurd passed
+  edit_passed verdict fit r e (Err y) was passed h = subst (λ (z : EditFail). Edits org verdict planned fit m then (Err z)) (sym passed) (record {
+    others = tt;
+    edited = λ q a s f. subst (JudgesTo org q a.tenant (verdict a) planned) was (h.judged q a s f);
+  })

@@ -1,0 +1,66 @@
+//! Requests of administration on organisation 1.
+
+use crate::line::first_of;
+use std::alloc::{AllocError, Global};
+use ut_admin::administer;
+use ut_keeper::{Draft, MemoryKeeper};
+use ut_keys::StoreFail;
+use ut_model::{Reply, Route};
+use ut_stands::Judged;
+use ut_value::Text;
+
+// A request is made whole, or changes nothing.
+fn reply_to(
+    alloc: Global,
+    keeper: &mut MemoryKeeper,
+    route: &Route,
+    body: &str,
+) -> Result<Reply, StoreFail> {
+    let mut draft = Draft::new(alloc, keeper);
+    match administer(alloc, &mut draft, 1, route, body.as_bytes())? {
+        Judged::Changed(reply) => {
+            draft.commit(alloc)?;
+            Ok(reply)
+        }
+        Judged::Same(reply) => Ok(reply),
+    }
+}
+
+// The status and the body.
+fn shown(alloc: Global, reply: &Reply) -> Result<String, AllocError> {
+    let status = reply.status.as_u16();
+    let body = str::from_utf8(reply.body.as_slice()).unwrap_or("?");
+    let all = format!(in alloc; "{status} {body}")?;
+    String::from_str(alloc, all.as_str().trim_end())
+}
+
+fn shown_reply(
+    alloc: Global,
+    keeper: &mut MemoryKeeper,
+    route: &Route,
+    body: &str,
+) -> Result<String, StoreFail> {
+    let reply = reply_to(alloc, keeper, route, body)?;
+    Ok(shown(alloc, &reply)?)
+}
+
+/// The status and the body of the reply to a request: of a new object, field or role its body, and of another default access
+/// the object and the body.
+pub(crate) fn answer(
+    alloc: Global,
+    keeper: &mut MemoryKeeper,
+    call: &str,
+    arguments: &str,
+) -> Result<String, StoreFail> {
+    match call {
+        "object" => shown_reply(alloc, keeper, &Route::AddObject, arguments),
+        "field" => shown_reply(alloc, keeper, &Route::AddField, arguments),
+        "role" => shown_reply(alloc, keeper, &Route::AddRole, arguments),
+        "access" => {
+            let (object, body) = first_of(arguments);
+            let object = Text::from_str(alloc, object)?;
+            shown_reply(alloc, keeper, &Route::SetObject { object }, body)
+        }
+        _ => Ok(String::from_str(alloc, "no such call")?),
+    }
+}

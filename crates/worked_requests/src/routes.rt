@@ -1,0 +1,65 @@
+//! Methods and targets with their routes, and query strings.
+
+use crate::line::first_of;
+use std::alloc::{AllocError, Global};
+use ut_model::{Route, Routed};
+use ut_rest::{query_text, route};
+use ut_value::Text;
+
+// The texts of a route, in order.
+fn texts(route: &Route) -> [&str; 3] {
+    match route {
+        Route::Query { pairs: one }
+        | Route::Create { object: one }
+        | Route::SetObject { object: one }
+        | Route::RemoveSharingRule { name: one }
+        | Route::SetUser { id: one }
+        | Route::SetRole { id: one }
+        | Route::SetGroup { id: one } => [one.as_str(), "", ""],
+        Route::Update {
+            object: one,
+            key: two,
+        }
+        | Route::Delete {
+            object: one,
+            key: two,
+        }
+        | Route::Unshare { item: one, to: two } => [one.as_str(), two.as_str(), ""],
+        Route::Upsert { object, key, value } => [object.as_str(), key.as_str(), value.as_str()],
+        _ => ["", "", ""],
+    }
+}
+
+// The name of a route.
+fn name(alloc: Global, route: &Route) -> Result<String, AllocError> {
+    let printed = format!(in alloc; "{route:?}")?;
+    let name = printed.as_str().split(' ').next().unwrap_or("");
+    String::from_str(alloc, name)
+}
+
+// The name of a route, and its texts.
+fn shown(alloc: Global, route: &Route) -> Result<String, AllocError> {
+    let mut shown = name(alloc, route)?;
+    for text in texts(route) {
+        if !text.is_empty() {
+            shown.push(' ')?;
+            shown.push_str(text)?;
+        }
+    }
+    Ok(shown)
+}
+
+/// What a method and a target are routed to.
+pub(crate) fn found(alloc: Global, arguments: &str) -> Result<String, AllocError> {
+    let (method, target) = first_of(arguments);
+    match route(alloc, method, target)? {
+        Routed::To(route) => shown(alloc, &route),
+        Routed::NotFound => String::from_str(alloc, "NotFound"),
+        Routed::NotAllowed => String::from_str(alloc, "NotAllowed"),
+    }
+}
+
+/// The text of the query that is in a query string.
+pub(crate) fn query(alloc: Global, pairs: &str) -> Result<String, AllocError> {
+    query_text(alloc, &Text::from_str(alloc, pairs)?)
+}

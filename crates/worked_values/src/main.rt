@@ -1,0 +1,30 @@
+//! Worked examples of the low crates. A line of standard input is a call and its arguments, with `|` between two of
+//! them; the line is written again, with what the call gives behind `=>`. An empty line, and one that begins with `#`, is
+//! written as it is.
+#![tactic(auto)]
+
+mod calls;
+mod cells;
+mod documents;
+mod fields;
+mod forms;
+mod identities;
+mod keepers;
+mod messages;
+mod orders;
+mod parts;
+mod rows;
+mod sockets;
+mod streams;
+mod values;
+
+use crate::calls::answer;
+use std::io;
+
+fn main(rt: HostRuntime) -> io::Result<()> {
+    for line in rt.lines(rt.alloc()) {
+        let found = answer(&rt, line?.as_str())?;
+        println!(rt; "{found}")?;
+    }
+    Ok(())
+}

@@ -5,7 +5,7 @@ ghost use Rattle.std.specs.Prelude.{◌≡◌, ◌⊎◌, ◌↔◌, IfOk, IsNon
 ghost use Rattle.platform.specs.Commands.{command_of};
 ghost use Rattle.ut_usage.specs.Lines.{IsCommandLine};
 
-use platform::run;
+use platform::{run, run_laws};
 use std::alloc::AllocError;
 use std::env;
 use std::io::ErrorKind;
@@ -49,6 +49,8 @@ fn all_words(rt: &HostRuntime) -> Result<Vec<String>, NoWords> {
 fn run_over<K: Keeper>(rt: HostRuntime, keeper: &mut K, port: u16, command: &[String]) -> u8
     ensures { (result ≡ 64) ↔ (command_of (map string_bytes command.now) ≡ None) }
 {
+    // For the proof alone.
+    run_laws();
     let alloc = rt.alloc();
     let mut door = TcpDoor::new(rt, port);
     let mut source = StdSource::new(rt.stdin());

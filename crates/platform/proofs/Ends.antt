@@ -1,6 +1,6 @@
 -- How a command of one deed ends, and what it leaves, from what was done on its way.
 use Rattle.std.proofs.Common.{◌≡◌, ◌⊎◌, inl, inr, ℕ, IsTrue, List, [], length, Option, Some, None, Result, Ok, Err, refl, sym, ap, subst, ◌∙◌, append-nil}
-use Rattle.std.specs.Prelude.{IfOk, IsErr, IsErrOf}
+use Rattle.std.specs.Prelude.{IfOk, IsErr}
 use Rattle.std.specs.Result.{IsErrAnd}
 use Rattle.std.specs.Io.KnownBytes.{Appends}
 use Rattle.ut_io.specs.Streams.{AppendsFront}
@@ -13,19 +13,15 @@ use Rattle.ut_stands.specs.declared.fail.OpenFail.{OpenFail}
 use Rattle.ut_stands.specs.declared.fail.OpenFail.TheVariants as opening
 use Rattle.ut_stands.specs.declared.judged.Judged.{Judged}
 use Rattle.ut_stands.specs.declared.judged.Judged.TheVariants.{Changed, Same}
-use Rattle.ut_stands.specs.Operations.{Does, IsChange, Leaves, Returns}
-use Rattle.ut_stands.specs.Reads.{OpensAs}
+use Rattle.ut_stands.specs.Operations.{Does, IsChange, Judges, Returns}
+use Rattle.ut_stands.specs.Opening.{OpensAs}
 use Rattle.ut_stands.specs.Stands.{HasKnownVersion, HasUnknownVersion, Stands}
 use Rattle.platform.specs.Deeds.{Prints, StopsBefore, StopsWithin, one_deed}
 use Rattle.platform.specs.Printed.{PageText}
-use Rattle.platform.specs.Stops.{DoesOpened, IsKnownStatus, Refuses, behind, csvq_end, csvq_stop_of, store_end, store_stop_of}
+use Rattle.platform.specs.Run.{KeepsWorld}
+use Rattle.platform.specs.Stops.{DoesOpened, Refuses, behind, csvq_end, csvq_stop_of, store_end, store_stop_of}
 use Rattle.platform.specs.declared.csvq.InputFail.{InputFail}
 use Rattle.platform.specs.declared.csvq.InputFail.TheVariants as input
-use Rattle.platform.specs.declared.printing.CsvqStop.{CsvqStop}
-use Rattle.platform.specs.declared.printing.CsvqStop.TheVariants as csvq
-use Rattle.platform.specs.declared.printing.StoreStop.{StoreStop}
-use Rattle.platform.specs.declared.printing.StoreStop.TheVariants as storing
-use Rattle.platform.specs.declared.stop.Stop.TheVariants.{DoorFailed, SourceFailed}
 
 -- ---- what was written
 
@@ -59,55 +55,23 @@ pub input_stops : (w : World) (p : PageText) (old : Option (List ℕ)) (fail : I
 input_stops w p old input.Failed = stops_before w w p old
 input_stops w p old input.Memory = stops_before w w p old
 
-pub opening_stops : (does : World → PageText × World) (w : World) (k l : KeeperState) (old : Option (List ℕ)) (fail : OpenFail) → DoesOpened does w k l (Err fail)
+pub opening_stops : (does : World → PageText × World) (w : World) (l : KeeperState) (old : Option (List ℕ)) (fail : OpenFail) → DoesOpened does w l (Err fail)
     → Prints w (one_deed (does w).0 (does w).1) old old (store_end (Err (store_stop_of fail))) (behind w (does w).1 (store_end (Err (store_stop_of fail))))
-opening_stops does w k l old (opening.Store store.Keeper) h = stops_before w (does w).1 (does w).0 old
-opening_stops does w k l old (opening.Store store.Memory) h = stops_before w (does w).1 (does w).0 old
-opening_stops does w k l old (opening.Store store.Damaged) h = h.0 refl
-opening_stops does w k l old opening.UnknownVersion h = absurd h
+opening_stops does w l old (opening.Store store.Keeper) h = stops_before w (does w).1 (does w).0 old
+opening_stops does w l old (opening.Store store.Memory) h = stops_before w (does w).1 (does w).0 old
+opening_stops does w l old (opening.Store store.Damaged) h = h.0 refl
+opening_stops does w l old opening.UnknownVersion h = absurd h
 
-pub opening_leaves : (does : World → PageText × World) (w : World) (k l : KeeperState) (fail : OpenFail) → DoesOpened does w k l (Err fail) → Leaves w (behind w (does w).1 (store_end (Err (store_stop_of fail)))) (does w).1 k l
-opening_leaves does w k l (opening.Store store.Keeper) h = h.1
-opening_leaves does w k l (opening.Store store.Memory) h = h.1
-opening_leaves does w k l (opening.Store store.Damaged) h = absurd (h.0 refl)
-opening_leaves does w k l opening.UnknownVersion h = absurd h
+pub opening_keeps : (does : World → PageText × World) (w : World) (l : KeeperState) (fail : OpenFail) → DoesOpened does w l (Err fail) → KeepsWorld (behind w (does w).1 (store_end (Err (store_stop_of fail)))) l
+opening_keeps does w l (opening.Store store.Keeper) h = h.1
+opening_keeps does w l (opening.Store store.Memory) h = h.1
+opening_keeps does w l (opening.Store store.Damaged) h = absurd (h.0 refl)
+opening_keeps does w l opening.UnknownVersion h = absurd h
 
 -- what is returned for a failure that was handed on
 pub handed_on : {X E : Type 0} (r : Result X E) (e : E) → IsErr r × IsErrAnd r (λ x. x ≡ e) → r ≡ Err e
 handed_on (Ok x) e h = absurd h.1
 handed_on (Err y) e h = ap Err h.1
-
--- ---- a command that prints has the stops of its own alone
-
-pub csvq_known : (r : Result ℕ CsvqStop) → IsKnownStatus r → IsKnownStatus (csvq_end r)
-csvq_known (Ok status) h = h
-csvq_known (Err e) h = tt
-
-pub store_known : (r : Result ℕ StoreStop) → IsKnownStatus r → IsKnownStatus (store_end r)
-store_known (Ok status) h = h
-store_known (Err e) h = tt
-
-pub csvq_door : (r : Result ℕ CsvqStop) → IsErrOf (csvq_end r) DoorFailed → ⊥
-csvq_door (Ok status) e = absurd cc
-csvq_door (Err csvq.NoMemory) e = absurd cc
-csvq_door (Err csvq.SourceFailed) e = absurd cc
-csvq_door (Err csvq.SinkFailed) e = absurd cc
-
-pub store_door : (r : Result ℕ StoreStop) → IsErrOf (store_end r) DoorFailed → ⊥
-store_door (Ok status) e = absurd cc
-store_door (Err storing.NoMemory) e = absurd cc
-store_door (Err storing.KeeperFailed) e = absurd cc
-store_door (Err storing.SinkFailed) e = absurd cc
-store_door (Err storing.Damaged) e = absurd cc
-store_door (Err storing.UnknownVersion) e = absurd cc
-
-pub store_source : (r : Result ℕ StoreStop) → IsErrOf (store_end r) SourceFailed → ⊥
-store_source (Ok status) e = absurd cc
-store_source (Err storing.NoMemory) e = absurd cc
-store_source (Err storing.KeeperFailed) e = absurd cc
-store_source (Err storing.SinkFailed) e = absurd cc
-store_source (Err storing.Damaged) e = absurd cc
-store_source (Err storing.UnknownVersion) e = absurd cc
 
 -- ---- a refusal changes nothing
 
@@ -116,6 +80,12 @@ refused_kept S judged (Err e) r d f = tt
 refused_kept S (Err e) (Ok p) r d f = absurd r
 refused_kept S (Ok (Same q)) (Ok p) r d f = λ _. f (λ c. c)
 refused_kept S (Ok (Changed q)) (Ok p) r d f = λ is. f (d (sym (ap (λ (x : PageText). x.status) r) ∙ is))
+
+-- what a change leaves stands for the world that the operation leaves
+pub changed_stands : {X : Type 0} (does : World → X × World) (w : World) (after : Tables) (j : Result (Judged X) StoreFail) → IsChange j → Judges Stands does w after j → Stands after (does w).1
+changed_stands does w after (Ok (Same x)) change h = absurd change
+changed_stands does w after (Ok (Changed x)) change h = h.1
+changed_stands does w after (Err e) change h = absurd change
 
 -- ---- with the opening
 
@@ -134,24 +104,17 @@ module _ (k0 k1 : KeeperState) (same : Tells k0 k1 → Shows k1 k0.tables) (no_m
     counted : Tells k0 k1 → (w : World) → Stands k0.tables w → length w ≡ n
     counted t w s = sym (counts t w s)
 
-    leaves : (w end next : World) → k0.tells → Leaves w end next k1 k2 → Leaves w end next k0 k2
-    leaves w end next tells l = record { tables = l.tables; crash = λ clean m h. by clean m (l.crash clean m h) }
-      where
-        by : IsTrue k2.is_clean → (m : Tables) → (k1.may_leave m × (end ≡ w)) ⊎ Stands m next → (k0.may_leave m × (end ≡ w)) ⊎ Stands m next
-        by clean m (inl h) = inl (no_more tells (steps.was_clean clean) m h.0, h.1)
-        by clean m (inr s) = inr s
-
     pub opened : (does : World → PageText × World) (w : World) (r : Result PageText StoreFail) → Tells k0 k2 → Stands k0.tables w
-        → (Tells k1 k2 → (w : World) → Stands k1.tables w → length w ≡ n → Does does w k1 k2 r) → (x : PageText) → r ≡ Ok x → DoesOpened does w k0 k2 (Ok x)
+        → (Tells k1 k2 → (w : World) → Stands k1.tables w → length w ≡ n → Does Stands does w k2 r) → (x : PageText) → r ≡ Ok x → DoesOpened does w k2 (Ok x)
     opened does w r t s h x e =
-        let it = subst (Does does w k1 k2) e (h (later t) w (shown (first t) w s) (counted (first t) w s)) in
-        (it.0, leaves w (does w).1 (does w).1 t.0 it.1)
+        let it = subst (Does Stands does w k2) e (h (later t) w (shown (first t) w s) (counted (first t) w s)) in
+        it
 
     pub opened_failed : (does : World → PageText × World) (w : World) (r : Result PageText StoreFail) → Tells k0 k2 → Stands k0.tables w
-        → (Tells k1 k2 → (w : World) → Stands k1.tables w → length w ≡ n → Does does w k1 k2 r) → (e : StoreFail) → r ≡ Err e → DoesOpened does w k0 k2 (Err (opening.Store e))
+        → (Tells k1 k2 → (w : World) → Stands k1.tables w → length w ≡ n → Does Stands does w k2 r) → (e : StoreFail) → r ≡ Err e → DoesOpened does w k2 (Err (opening.Store e))
     opened_failed does w r t s h e is =
-        let it = subst (Does does w k1 k2) is (h (later t) w (shown (first t) w s) (counted (first t) w s)) in
-        (it.0, leaves w w (does w).1 t.0 it.1)
+        let it = subst (Does Stands does w k2) is (h (later t) w (shown (first t) w s) (counted (first t) w s)) in
+        it
 
     pub crash_through : (next : World → World) → (IsTrue k1.is_clean → IsTrue k1.trusted)
         → (k1.tells → IsTrue k1.trusted → IsTrue k2.is_clean → (w : World) → Stands k1.tables w → length w ≡ n → (m : Tables) → k2.may_leave m → k1.may_leave m ⊎ Stands m (next w))
@@ -167,14 +130,11 @@ module _ (k0 k1 : KeeperState) (same : Tells k0 k1 → Shows k1 k0.tables) (no_m
 
   -- the opening failed
   pub unopened : (known : (m : Tables) (w : World) → Stands m w → HasKnownVersion m) → (one : (m : Tables) → HasKnownVersion m → HasUnknownVersion m → ⊥)
-      → (does : World → PageText × World) (w : World) (fail : OpenFail) → Tells k0 k1 → Stands k0.tables w → OpensAs k0.tables (Err fail) → DoesOpened does w k0 k1 (Err fail)
+      → (does : World → PageText × World) (w : World) (fail : OpenFail) → Tells k0 k1 → Stands k0.tables w → OpensAs k0.tables (Err fail) → DoesOpened does w k1 (Err fail)
   unopened known one does w fail t s = by fail
     where
-      stays : (next : World) → Leaves w w next k0 k1
-      stays next = record { tables = λ _. ((same t).0, shown t w s); crash = λ clean m h. inl (no_more t.0 clean m h, refl) }
-
-      by : (fail : OpenFail) → OpensAs k0.tables (Err fail) → DoesOpened does w k0 k1 (Err fail)
+      by : (fail : OpenFail) → OpensAs k0.tables (Err fail) → DoesOpened does w k1 (Err fail)
       by (opening.Store store.Damaged) o = absurd (o.no_world w s)
-      by (opening.Store store.Keeper) o = (λ e. absurd cc, stays (does w).1)
-      by (opening.Store store.Memory) o = (λ e. absurd cc, stays (does w).1)
+      by (opening.Store store.Keeper) o = (λ e. absurd cc, ((same t).0, shown t w s))
+      by (opening.Store store.Memory) o = (λ e. absurd cc, ((same t).0, shown t w s))
       by opening.UnknownVersion o = one k0.tables (known k0.tables w s) o

@@ -24,19 +24,19 @@ refusal_is : (w : World) (name secret : List ℕ) (b : Bool) → is_name (chars 
 refusal_is w name secret b good secrets full = rw (good, secrets, full) refl
 
 module _ (w : World) (name secret : List ℕ) (good : is_name (chars name) ≡ true) (secrets : is_secret secret ≡ true) where
-  pub judged_full : (after : Tables) (r : Refusal) (p : PageText) → org_verdict (chars name) (sha256 secret) w ≡ Err r → p ≡ refused r → Judges (org_does name secret) w after (Ok (Same p))
+  pub judged_full : (after : Tables) (r : Refusal) (p : PageText) → org_verdict (chars name) (sha256 secret) w ≡ Err r → p ≡ refused r → Judges Stands (org_does name secret) w after (Ok (Same p))
   judged_full after r p v e = by (is_full w) refl v
     where
-      by : (b : Bool) → is_full w ≡ b → if◌then◌else◌ {A = Result (ℕ × World) Refusal} b (Err (LimitExceeded limit.Organisations)) (Ok (length w + 1, with_org w (chars name) (sha256 secret))) ≡ Err r → Judges (org_does name secret) w after (Ok (Same p))
+      by : (b : Bool) → is_full w ≡ b → if◌then◌else◌ {A = Result (ℕ × World) Refusal} b (Err (LimitExceeded limit.Organisations)) (Ok (length w + 1, with_org w (chars name) (sha256 secret))) ≡ Err r → Judges Stands (org_does name secret) w after (Ok (Same p))
       by true full v =
           let why : org_refusal w (chars name) secret ≡ Some r = refusal_is w name secret true good secrets full ∙ cc in
           (e ∙ sym (ap (λ o. page_by o (length w + 1)) why), ap (λ o. world_by o w (with_org w (chars name) (sha256 secret))) why)
       by false full v = absurd cc
 
-  pub judged_done : (after : Tables) (n : ℕ) (next : World) (p : PageText) → org_verdict (chars name) (sha256 secret) w ≡ Ok (n, next) → p ≡ added_page n → Stands after next → Judges (org_does name secret) w after (Ok (Changed p))
+  pub judged_done : (after : Tables) (n : ℕ) (next : World) (p : PageText) → org_verdict (chars name) (sha256 secret) w ≡ Ok (n, next) → p ≡ added_page n → Stands after next → Judges Stands (org_does name secret) w after (Ok (Changed p))
   judged_done after n next p v e s = by (is_full w) refl v
     where
-      by : (b : Bool) → is_full w ≡ b → if◌then◌else◌ {A = Result (ℕ × World) Refusal} b (Err (LimitExceeded limit.Organisations)) (Ok (length w + 1, with_org w (chars name) (sha256 secret))) ≡ Ok (n, next) → Judges (org_does name secret) w after (Ok (Changed p))
+      by : (b : Bool) → is_full w ≡ b → if◌then◌else◌ {A = Result (ℕ × World) Refusal} b (Err (LimitExceeded limit.Organisations)) (Ok (length w + 1, with_org w (chars name) (sha256 secret))) ≡ Ok (n, next) → Judges Stands (org_does name secret) w after (Ok (Changed p))
       by true full v = absurd cc
       by false full v =
           let none : org_refusal w (chars name) secret ≡ None = refusal_is w name secret false good secrets full in
@@ -45,7 +45,7 @@ module _ (w : World) (name secret : List ℕ) (good : is_name (chars name) ≡ t
             subst (λ (v : World). Stands after v) (sym (ap (λ (x : ℕ × World). x.1) same) ∙ sym (ap (λ o. world_by o w (with_org w (chars name) (sha256 secret))) none)) s,
           )
 
-pub judged_failed : (verdict : World → Result (ℕ × World) Refusal) (does : World → PageText × World) (w : World) (after left : Tables) (e : StoreFail) → Edits verdict w left (Err (Store e)) → Judges does w after (Err e)
+pub judged_failed : (verdict : World → Result (ℕ × World) Refusal) (does : World → PageText × World) (w : World) (after left : Tables) (e : StoreFail) → Edits verdict w left (Err (Store e)) → Judges Stands does w after (Err e)
 judged_failed verdict does w after left store.Damaged h is = h
 judged_failed verdict does w after left store.Keeper h is = absurd cc
 judged_failed verdict does w after left store.Memory h is = absurd cc

@@ -7,5 +7,9 @@ pub mod Lines
 pub mod Pages
 pub mod ReadBack
 pub mod Runs
+pub mod OfCsvq
+pub mod OfOrgAdd
+pub mod OfServing
+pub mod Statuses
 mod Answering
 mod Falling

@@ -1,6 +1,7 @@
 -- The commands, what each uses, and what each prints.
 use Rattle.std.specs.Prelude.{ℕ, Bool, true, false, not, ◌&&◌, ◌==◌, nat_le, if◌then◌else◌, List, [], ◌∷◌, Option, Some, None, codes}
 use Rattle.std.specs.Char.{digit_value}
+use Rattle.std.specs.List.{list_any}
 use Rattle.std.specs.Option.{option_map}
 use Rattle.std.specs.Str.{byte, bytes_eq}
 use Rattle.std.specs.Str.Parse.{digits_value}
@@ -73,7 +74,14 @@ abbrev pub command_of : List (List ℕ) → Option Command
 command_of [] = None
 command_of (word ∷ arguments) = found_in table word arguments
 
--- ---- what each uses
+-- ---- what each uses, and what it may have done by its status
+
+-- how often a command asks the clock
+pub data Asks : Type 0 where
+  never : Asks
+  once : Asks
+  -- once for each message
+  each : Asks
 
 pub record Uses : Type 0 where
   -- whether it opens the keeper
@@ -82,19 +90,70 @@ pub record Uses : Type 0 where
   pub source : Bool
   -- whether it opens the door
   pub door : Bool
-  -- whether it asks the clock: a command that prints asks once, a connection once for each message
-  pub clock : Bool
+  pub clock : Asks
   -- whether what it prints depends on the moment
   pub dated : Bool
+  -- its statuses
+  pub statuses : List ℕ
+  -- after these the tables may be others than before: something was done, whatever became of the writing
+  pub changes : List ℕ
+  -- after these something may have been written to the sink
+  pub writes : List ℕ
+  -- after these nothing but the opening of the tables was tried
+  pub openings : List ℕ
+
+-- the statuses of a command that serves connections, if it stops at the opening of the tables
+abbrev pub opening_stops : List ℕ
+opening_stops = 71 ∷ 72 ∷ 76 ∷ 77 ∷ []
 
 abbrev pub uses : Printing → Uses
-uses (csvq query) = record { keeper = false; source = asks_for_rows query; door = false; clock = true; dated = false }
-uses (org_add name secret) = record { keeper = true; source = false; door = false; clock = false; dated = false }
+uses (csvq query) = record {
+  keeper = false;
+  source = asks_for_rows query;
+  door = false;
+  clock = once;
+  dated = false;
+  statuses = 0 ∷ 65 ∷ 71 ∷ 73 ∷ 74 ∷ [];
+  changes = [];
+  writes = 0 ∷ 65 ∷ 73 ∷ [];
+  openings = [];
+}
+uses (org_add name secret) = record {
+  keeper = true;
+  source = false;
+  door = false;
+  clock = never;
+  dated = false;
+  statuses = 0 ∷ 65 ∷ 71 ∷ 72 ∷ 73 ∷ 76 ∷ 77 ∷ [];
+  changes = 0 ∷ 73 ∷ [];
+  writes = 0 ∷ 65 ∷ 73 ∷ [];
+  openings = [];
+}
 
 abbrev pub uses_of : Command → Uses
 uses_of (prints p) = uses p
-uses_of answers = record { keeper = true; source = true; door = false; clock = true; dated = true }
-uses_of (serves count) = record { keeper = true; source = false; door = true; clock = true; dated = true }
+uses_of answers = record {
+  keeper = true;
+  source = true;
+  door = false;
+  clock = each;
+  dated = true;
+  statuses = 0 ∷ 73 ∷ 74 ∷ opening_stops;
+  changes = 0 ∷ 73 ∷ 74 ∷ [];
+  writes = 0 ∷ 73 ∷ 74 ∷ [];
+  openings = opening_stops;
+}
+uses_of (serves count) = record {
+  keeper = true;
+  source = false;
+  door = true;
+  clock = each;
+  dated = true;
+  statuses = 0 ∷ 75 ∷ opening_stops;
+  changes = 0 ∷ 75 ∷ [];
+  writes = [];
+  openings = opening_stops;
+}
 
 -- whether it serves connections
 abbrev pub is_serving : Command → Bool
@@ -102,15 +161,51 @@ is_serving (prints p) = false
 is_serving answers = true
 is_serving (serves count) = true
 
--- whether these words open the keeper
+-- whether these words use the keeper
 abbrev pub opens_in : Option Command → Bool
 opens_in None = false
 opens_in (Some command) = (uses_of command).keeper
 
--- whether these words open the door
-abbrev pub opens_door_in : Option Command → Bool
-opens_door_in None = false
-opens_door_in (Some command) = (uses_of command).door
+-- ---- by the status
+
+abbrev pub is_one_of : ℕ → List ℕ → Bool
+is_one_of status statuses = list_any (λ s. s == status) statuses
+
+abbrev pub has_status : Command → ℕ → Bool
+has_status command status = is_one_of status (uses_of command).statuses
+
+abbrev pub may_change : Command → ℕ → Bool
+may_change command status = is_one_of status (uses_of command).changes
+
+abbrev pub may_write : Command → ℕ → Bool
+may_write command status = is_one_of status (uses_of command).writes
+
+-- of a command that serves connections
+abbrev pub is_opening : ℕ → Bool
+is_opening status = is_one_of status opening_stops
+
+-- ---- what is used
+
+pub record Used : Type 0 where
+  pub keeper : Bool
+  pub door : Bool
+  pub source : Bool
+  pub sink : Bool
+  pub clock : Bool
+
+abbrev pub asks : Asks → Bool
+asks never = false
+asks once = true
+asks each = true
+
+-- what a command uses that wrote or didn't, and did or didn't get past its opening
+abbrev pub used_so : Uses → (wrote begun : Bool) → Used
+used_so u wrote begun = record { keeper = u.keeper; door = begun && u.door; source = begun && u.source; sink = wrote; clock = begun && asks u.clock }
+
+-- what these words use that end with this status
+abbrev pub used_by : Option Command → ℕ → Used
+used_by None status = record { keeper = false; door = false; source = false; sink = false; clock = false }
+used_by (Some command) status = used_so (uses_of command) (may_write command status) (not (is_one_of status (uses_of command).openings))
 
 -- ---- what each prints, given the world of the tables, the bytes of its input, and the moments that the clock will tell
 

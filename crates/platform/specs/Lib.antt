@@ -7,6 +7,7 @@ pub mod Seen
 pub mod Serving
 pub mod Run
 pub mod Falling
+pub mod Promise
 pub mod Kept
 pub mod Words
 pub mod Stops

@@ -5,10 +5,15 @@ use Rattle.ut_keeper.specs.State.{KeeperState}
 
 pub record Seen : Type 1 where
   pub keeper : KeeperState
-  -- the door, if it tells what it holds, and how many of its connections have failed
+  -- the door, if it tells what it holds; how often it failed, and how often one of its connections did
   pub door : Option DoorState
+  pub door_faults : ℕ
   pub line_faults : ℕ
-  -- what the source has left, what the sink got, and the moments that the clock will tell, if they tell it
+  -- what the source has left, if it tells, and how many reads failed
   pub left : Option (List ℕ)
+  pub read_faults : ℕ
+  -- what the sink got, if it tells, and how many writes failed
   pub written : Option (List ℕ)
+  pub write_faults : ℕ
+  -- the moments that the clock will tell, if it tells them
   pub coming : Option (List ℕ)

@@ -25,11 +25,11 @@ pub record Served (w : World) (moments : List ℕ) (cs : List Connection) (a b :
   pub served : AreServed cs w moments end later
   pub isolated : IsIsolated w (exchanges_of cs)
   pub asked : b.coming ≡ Some later
-  pub kept : LeavesBehind w end (exchanges_of cs) a.keeper b.keeper
+  pub kept : LeavesBehind end (exchanges_of cs) a.keeper b.keeper
 
 -- nothing but the opening was tried
 pub record OpensOnly (w : World) (a b : Seen) : Type 0 where
-  pub kept : LeavesBehind w w [] a.keeper b.keeper
+  pub kept : LeavesBehind w [] a.keeper b.keeper
   pub door : b.door ≡ a.door
   pub left : b.left ≡ a.left
   pub written : b.written ≡ a.written

@@ -6,13 +6,13 @@ use Rattle.ut_keys.specs.declared.fail.StoreFail.TheVariants as store
 use Rattle.ut_model.specs.World.{World}
 use Rattle.ut_stands.specs.declared.fail.OpenFail.{OpenFail}
 use Rattle.ut_stands.specs.declared.fail.OpenFail.TheVariants as opening
-use Rattle.ut_stands.specs.Operations.{Leaves}
 use Rattle.ut_keeper.specs.Tables.{Tables}
 use Rattle.ut_stands.specs.Stands.{HasKnownVersion, HasUnknownVersion, Stands}
 use Rattle.ut_stands.specs.declared.judged.Judged.{Judged}
 use Rattle.ut_stands.specs.declared.judged.Judged.TheVariants.{Changed, Same}
 use Rattle.ut_io.specs.declared.traits.IoFail.{IoFail}
 use Rattle.platform.specs.Printed.{PageText}
+use Rattle.platform.specs.Run.{KeepsWorld}
 use Rattle.platform.specs.declared.csvq.InputFail.{InputFail}
 use Rattle.platform.specs.declared.csvq.InputFail.TheVariants as input
 use Rattle.platform.specs.declared.printing.CsvqStop.{CsvqStop}
@@ -68,11 +68,11 @@ abbrev pub page_end : Result ℕ IoFail → Result ℕ Stop
 page_end (Ok status) = Ok status
 page_end (Err e) = Err stop.SinkFailed
 
--- an operation by its definition, the opening included
-abbrev pub DoesOpened : {X : Type 0} → (World → X × World) → World → KeeperState → KeeperState → Result X OpenFail → Type 0
-DoesOpened does w old new (Ok x) = (x ≡ (does w).0) × Leaves w (does w).1 (does w).1 old new
-DoesOpened does w old new (Err (opening.Store e)) = (e ≢ store.Damaged) × Leaves w w (does w).1 old new
-DoesOpened does w old new (Err opening.UnknownVersion) = ⊥
+-- an operation by its definition, the opening included: what is returned, and the world that is kept
+abbrev pub DoesOpened : {X : Type 0} → (World → X × World) → World → KeeperState → Result X OpenFail → Type 0
+DoesOpened does w new (Ok x) = (x ≡ (does w).0) × KeepsWorld (does w).1 new
+DoesOpened does w new (Err (opening.Store e)) = (e ≢ store.Damaged) × KeepsWorld w new
+DoesOpened does w new (Err opening.UnknownVersion) = ⊥
 
 -- the page of a refusal
 abbrev pub Refuses : Judged PageText → Type 0
@@ -98,14 +98,6 @@ is_done (Err _) = false
 -- the world behind a command that leaves `next` if its page was made
 abbrev pub behind : {X : Type 0} → World → World → Result X Stop → World
 behind w next r = if is_done r then next else w
-
--- it failed by something that is handed in, which counts its faults
-abbrev pub IsFault : Stop → Type 0
-IsFault stop.KeeperFailed = Unit {0}
-IsFault stop.SinkFailed = Unit {0}
-IsFault stop.SourceFailed = Unit {0}
-IsFault stop.DoorFailed = Unit {0}
-IsFault _ = ⊥
 
 abbrev pub VersionStops : Tables → Result ℕ Stop → Type 0
 VersionStops m (Ok x) = HasKnownVersion m

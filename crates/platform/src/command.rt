@@ -1,6 +1,6 @@
 ghost use Rattle.std.specs.Prelude.{◌≡◌, ◌↔◌, IfSome, IsSome, is_some, map, string_bytes};
 ghost use Rattle.std.specs.Str.Parse.{digits_value};
-ghost use Rattle.platform.specs.Commands.{command_of, count_in};
+ghost use Rattle.platform.specs.Commands.{command_of, count_in, opens_in};
 
 /// The words of a command line, taken apart.
 pub(crate) enum Words<'a> {
@@ -65,5 +65,18 @@ pub(crate) fn read_words(words: &[String]) -> Words<'_>
         }
     } else {
         Words::Other
+    }
+}
+
+/// Whether the words are a command that uses the keeper.
+pub fn uses_keeper(words: &[String]) -> bool
+    ensures { result ≡ opens_in (command_of (map string_bytes words.now)) }
+{
+    match read_words(words) {
+        Words::Csvq(_) => false,
+        Words::OrgAdd(_, _) => true,
+        Words::Answer => true,
+        Words::Serve(_) => true,
+        Words::Other => false,
     }
 }

@@ -1,8 +1,15 @@
-ghost use Rattle.std.specs.Prelude.{◌≡◌, [], ◌∷◌, None, Some, codes};
+ghost use Rattle.std.specs.Prelude.{◌≡◌, ◌≢◌, ◌⊎◌, ◌↔◌, ℕ, [], ◌∷◌, Option, None, Some, codes, true};
 ghost use Rattle.sha2.specs.Sha256.{sha256};
+ghost use Rattle.ut_keeper.specs.Tables.{Tables};
 ghost use Rattle.ut_model.specs.Organisations.{with_org};
-ghost use Rattle.platform.specs.Commands.{command_of, csvq, org_add, printed, serves};
+ghost use Rattle.ut_model.specs.World.{World};
+ghost use Rattle.ut_stands.specs.Stands.{Stands};
+ghost use Rattle.platform.specs.Commands.{Command, command_of, csvq, has_status, is_serving, org_add, printed, serves};
 ghost use Rattle.platform.specs.Deeds.{one_deed};
+ghost use Rattle.platform.specs.Promise.{IsStatus};
+ghost use Rattle.platform.specs.Run.{VersionEnds};
+
+use ut_stands::stands_laws;
 
 /// What commands print, worked by hand. Of `csvq`: rows, a name in quotes, no row, a heading and a query that are refused.
 /// Of `org-add`: the first organisation, the second, a name and a
@@ -40,3 +47,15 @@ pub fn serving_rows()
     ensures empty { command_of (codes "serve" ∷ [] ∷ []) ≡ None }
     ensures letters { command_of (codes "serve" ∷ codes "1k" ∷ []) ≡ None }
 {}
+
+/// What follows from the contract of `run`. The call does nothing.
+pub fn run_laws()
+    // 64 tells that the words are no command, and nothing else does.
+    ensures none { (words : Option Command) (status : ℕ) → IsStatus words status → (status ≡ 64) ↔ (words ≡ None) }
+    // Connections are served, or memory ran out before the first message, if nothing that is handed in failed.
+    ensures served { (command : Command) (status : ℕ) (m : Tables) (w : World) → is_serving command ≡ true → has_status command status ≡ true
+        → VersionEnds m status → Stands m w → status ≢ 72 → status ≢ 73 → status ≢ 74 → status ≢ 75
+        → (status ≡ 0) ⊎ (status ≡ 71) }
+{
+    stands_laws();
+}

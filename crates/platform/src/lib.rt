@@ -15,6 +15,6 @@ mod running;
 mod serving;
 mod stop;
 
-pub use crate::command::is_count;
-pub use crate::laws::{printed_rows, serving_rows};
+pub use crate::command::{is_count, uses_keeper};
+pub use crate::laws::{printed_rows, run_laws, serving_rows};
 pub use crate::running::run;

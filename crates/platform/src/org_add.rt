@@ -8,7 +8,7 @@ ghost use Rattle.ut_keys.specs.declared.fail.StoreFail.TheVariants.{Keeper};
 ghost use Rattle.ut_model.specs.World.{World};
 ghost use Rattle.ut_stands.specs.Fails.{KeeperFailsOpening};
 ghost use Rattle.ut_stands.specs.Operations.{Does, IsChange, Judges};
-ghost use Rattle.ut_stands.specs.Reads.{OpensAs};
+ghost use Rattle.ut_stands.specs.Opening.{OpensAs};
 ghost use Rattle.ut_stands.specs.Stands.{Stands};
 ghost use Rattle.platform.specs.OrgAdd.{added_page, org_does};
 ghost use Rattle.platform.specs.Stops.{DoesOpened, Refuses, VersionAs};
@@ -46,7 +46,7 @@ fn judge<K: Keeper>(
 ) -> Result<Judged<Page>, StoreFail>
     ensures judged { DraftTells K.state draft.old draft.new
         → (w : World) → Stands (tables_of K.state draft.old) w → length w ≡ organisations
-        → Judges (org_does name.now secret.now) w (tables_of K.state draft.new) result }
+        → Judges Stands (org_does name.now secret.now) w (tables_of K.state draft.new) result }
     ensures change { IsChange result → 0 < count_of draft.new }
     ensures done { IfOk result (λ j. Refuses j → IsChange result → ⊥) }
     ensures works { DraftWorks K.state 3 0 0 draft.old draft.new }
@@ -78,7 +78,7 @@ fn add<K: Keeper>(
 ) -> Result<Page, StoreFail>
     ensures does { Tells (K.state keeper.old) (K.state keeper.new)
         → (w : World) → Stands (K.state keeper.old).tables w → length w ≡ organisations
-        → Does (org_does name.now secret.now) w (K.state keeper.old) (K.state keeper.new) result }
+        → Does Stands (org_does name.now secret.now) w (K.state keeper.new) result }
     ensures kept { Tells (K.state keeper.old) (K.state keeper.new) → OnErr result (Shows (K.state keeper.new) (K.state keeper.old).tables) }
     ensures refused { Tells (K.state keeper.old) (K.state keeper.new)
         → IfOk result (λ p. p.status ≡ 65 → Shows (K.state keeper.new) (K.state keeper.old).tables) }
@@ -103,7 +103,7 @@ pub(crate) fn org_add_page<K: Keeper>(
     secret: &str,
 ) -> Result<Page, OpenFail>
     ensures does { Tells (K.state keeper.old) (K.state keeper.new) → (w : World) → Stands (K.state keeper.old).tables w
-        → DoesOpened (org_does name.now secret.now) w (K.state keeper.old) (K.state keeper.new) result }
+        → DoesOpened (org_does name.now secret.now) w (K.state keeper.new) result }
     ensures version { Tells (K.state keeper.old) (K.state keeper.new) → VersionAs (K.state keeper.old).tables result }
     ensures kept { Tells (K.state keeper.old) (K.state keeper.new) → OnErr result (Shows (K.state keeper.new) (K.state keeper.old).tables) }
     ensures refused { Tells (K.state keeper.old) (K.state keeper.new)

@@ -7,12 +7,11 @@ ghost use Rattle.ut_keeper.specs.State.{KeeperCause, Shows, TrustedAfter, Steps,
 ghost use Rattle.ut_keeper.specs.Tables.{Tables};
 ghost use Rattle.ut_model.specs.World.{World};
 ghost use Rattle.ut_query.specs.Asking.{asks_for_rows};
-ghost use Rattle.ut_stands.specs.Operations.{Leaves};
 ghost use Rattle.ut_stands.specs.Stands.{Stands};
 ghost use Rattle.platform.specs.Commands.{csvq, org_add, printed};
 ghost use Rattle.platform.specs.Deeds.{Prints, one_deed};
 ghost use Rattle.platform.specs.OrgAdd.{org_does};
-ghost use Rattle.platform.specs.Run.{IsTold, status_in};
+ghost use Rattle.platform.specs.Run.{IsTold, KeepsWorld, status_in};
 ghost use Rattle.platform.specs.Stops.{IsKnownStatus, VersionStops, behind, csvq_end, csvq_stop_of, is_done, page_end, stop_of_csvq, stop_of_store, store_end, store_stop_of};
 ghost use Rattle.platform.specs.declared.printing.CsvqStop.TheVariants as csvq_stop;
 ghost use Rattle.platform.specs.declared.printing.StoreStop.TheVariants as store_stop;
@@ -188,9 +187,8 @@ pub(crate) fn print_org_add<K: Keeper, W: Sink>(
         → (bytes moments : List ℕ) → Prints w (printed (org_add name.now secret.now) w bytes moments)
         (W.written sink.old) (W.written sink.new) (store_end result)
         (behind w (org_does name.now secret.now w).1 (store_end result)) }
-    ensures leaves { Tells (K.state keeper.old) (K.state keeper.new) → (w : World) → Stands (K.state keeper.old).tables w
-        → Leaves w (behind w (org_does name.now secret.now w).1 (store_end result)) (org_does name.now secret.now w).1
-        (K.state keeper.old) (K.state keeper.new) }
+    ensures keeps { Tells (K.state keeper.old) (K.state keeper.new) → (w : World) → Stands (K.state keeper.old).tables w
+        → KeepsWorld (behind w (org_does name.now secret.now w).1 (store_end result)) (K.state keeper.new) }
     ensures version { Tells (K.state keeper.old) (K.state keeper.new)
         → VersionStops (K.state keeper.old).tables (store_end result) }
     ensures kept { Tells (K.state keeper.old) (K.state keeper.new) → is_done (store_end result) ≡ false

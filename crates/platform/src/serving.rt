@@ -1,5 +1,4 @@
-ghost use Rattle.std.specs.Prelude.{◌≡◌, ◌⊎◌, ◌<◌, ◌≤◌, ◌==◌, List, ℕ, IfOk, IsErrOf, IsTrue, Option, Some, false, true};
-ghost use Rattle.std.specs.List.{list_any};
+ghost use Rattle.std.specs.Prelude.{◌≡◌, ◌⊎◌, ◌<◌, ◌≤◌, List, ℕ, IfOk, IsErrOf, Option, Some, false, true};
 ghost use Rattle.ut_io.specs.Doors.{DoorState};
 ghost use Rattle.ut_keeper.specs.State.{KeeperCause, Shows, Steps, Tells};
 ghost use Rattle.ut_model.specs.World.{World};
@@ -7,9 +6,9 @@ ghost use Rattle.ut_serving.specs.Falls.{Falls, FallsBringing, Fell};
 ghost use Rattle.ut_serving.specs.Leads.{LeadsFrom};
 ghost use Rattle.ut_stands.specs.Stands.{Stands};
 ghost use Rattle.ut_value.specs.Causes.{Cause};
-ghost use Rattle.platform.specs.Commands.{answers, serves};
+ghost use Rattle.platform.specs.Commands.{answers, has_status, is_opening, may_change, serves};
 ghost use Rattle.platform.specs.Falling.{FallsOpening};
-ghost use Rattle.platform.specs.Run.{is_opening, may_change, status_in, statuses_of};
+ghost use Rattle.platform.specs.Run.{status_in};
 ghost use Rattle.platform.specs.Serving.{RunsAnswer, RunsServe, answer_end, serve_end};
 ghost use Rattle.platform.specs.Stops.{VersionStops};
 ghost use Rattle.platform.specs.declared.stop.Stop.TheVariants.{DoorFailed, KeeperFailed, SinkFailed, SourceFailed};
@@ -41,9 +40,9 @@ pub(crate) fn serve_answer<K: Keeper, S: Source, W: Sink, C: Clock>(
     clock: &mut C,
 ) -> Result<u8, Stop>
     ensures runs { Tells (K.state keeper.old) (K.state keeper.new) → (w : World) → Stands (K.state keeper.old).tables w
-        → (door : Option DoorState) (faults : ℕ) → RunsAnswer w
-        (record { keeper = K.state keeper.old; door = door; line_faults = faults; left = S.left source.old; written = W.written sink.old; coming = C.coming clock.old })
-        (record { keeper = K.state keeper.new; door = door; line_faults = faults; left = S.left source.new; written = W.written sink.new; coming = C.coming clock.new })
+        → (door : Option DoorState) (faults lines : ℕ) → RunsAnswer w
+        (record { keeper = K.state keeper.old; door = door; door_faults = faults; line_faults = lines; left = S.left source.old; read_faults = S.faults source.old; written = W.written sink.old; write_faults = W.faults sink.old; coming = C.coming clock.old })
+        (record { keeper = K.state keeper.new; door = door; door_faults = faults; line_faults = lines; left = S.left source.new; read_faults = S.faults source.new; written = W.written sink.new; write_faults = W.faults sink.new; coming = C.coming clock.new })
         result }
     ensures leads { LeadsFrom (K.state keeper.old) (K.state keeper.new) }
     ensures falls { Fell (K.state keeper.old) (K.state keeper.new) → (w : World) → Stands (K.state keeper.old).tables w
@@ -53,7 +52,7 @@ pub(crate) fn serve_answer<K: Keeper, S: Source, W: Sink, C: Clock>(
     ensures kept { Tells (K.state keeper.old) (K.state keeper.new) → may_change answers (status_in result) ≡ false
         → Shows (K.state keeper.new) (K.state keeper.old).tables }
     ensures version { Tells (K.state keeper.old) (K.state keeper.new) → VersionStops (K.state keeper.old).tables result }
-    ensures statuses { IsTrue (list_any (λ s. s == status_in result) (statuses_of answers)) }
+    ensures statuses { has_status answers (status_in result) ≡ true }
     ensures status { IfOk result (λ s. s ≡ 0) }
     ensures unserved { is_opening (status_in result) ≡ true
         → (source.new ≡ source.old) × (sink.new ≡ sink.old) × (clock.new ≡ clock.old) }
@@ -96,9 +95,9 @@ pub(crate) fn serve_door<K: Keeper, D: Door, C: Clock>(
 ) -> Result<u8, Stop>
     requires { 0 < count }
     ensures runs { Tells (K.state keeper.old) (K.state keeper.new) → (w : World) → Stands (K.state keeper.old).tables w
-        → (left written : Option (List ℕ)) → RunsServe count w
-        (record { keeper = K.state keeper.old; door = D.held door.old; line_faults = D.line_faults door.old; left = left; written = written; coming = C.coming clock.old })
-        (record { keeper = K.state keeper.new; door = D.held door.new; line_faults = D.line_faults door.new; left = left; written = written; coming = C.coming clock.new })
+        → (left written : Option (List ℕ)) (reads writes : ℕ) → RunsServe count w
+        (record { keeper = K.state keeper.old; door = D.held door.old; door_faults = D.faults door.old; line_faults = D.line_faults door.old; left = left; read_faults = reads; written = written; write_faults = writes; coming = C.coming clock.old })
+        (record { keeper = K.state keeper.new; door = D.held door.new; door_faults = D.faults door.new; line_faults = D.line_faults door.new; left = left; read_faults = reads; written = written; write_faults = writes; coming = C.coming clock.new })
         result }
     ensures leads { LeadsFrom (K.state keeper.old) (K.state keeper.new) }
     ensures falls { Fell (K.state keeper.old) (K.state keeper.new) → (w : World) → Stands (K.state keeper.old).tables w
@@ -108,7 +107,7 @@ pub(crate) fn serve_door<K: Keeper, D: Door, C: Clock>(
     ensures kept { Tells (K.state keeper.old) (K.state keeper.new) → may_change (serves count) (status_in result) ≡ false
         → Shows (K.state keeper.new) (K.state keeper.old).tables }
     ensures version { Tells (K.state keeper.old) (K.state keeper.new) → VersionStops (K.state keeper.old).tables result }
-    ensures statuses { IsTrue (list_any (λ s. s == status_in result) (statuses_of (serves count))) }
+    ensures statuses { has_status (serves count) (status_in result) ≡ true }
     ensures status { IfOk result (λ s. s ≡ 0) }
     ensures unserved { is_opening (status_in result) ≡ true → (door.new ≡ door.old) × (clock.new ≡ clock.old) }
     ensures steps { Steps (K.state keeper.old) (K.state keeper.new) }

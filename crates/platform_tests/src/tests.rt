@@ -32,8 +32,9 @@ const ADDED: &str = "\
 1;72;0 00D000000000001EAA 005000000000000AAA
 2;72;0 00D000000000001EAA 005000000000000AAA
 3;72;0 00D000000000001EAA 005000000000000AAA
-4;0 00D000000000001EAA 005000000000000AAA;72
-7;0 00D000000000001EAA 005000000000000AAA;0 00D000000000002EAA 005000000000000AAA
+4;72;0 00D000000000001EAA 005000000000000AAA
+5;0 00D000000000001EAA 005000000000000AAA;72
+8;0 00D000000000001EAA 005000000000000AAA;0 00D000000000002EAA 005000000000000AAA
 ";
 
 // Whether the runs of a line give what it says.
@@ -67,15 +68,15 @@ fn statuses_of(alloc: Global, shown: &str) -> Result<String, AllocError> {
     Ok(statuses)
 }
 
-// The call of the keeper that fails, and the status and replies of `answer`. The organisation takes the first three calls
+// The call of the keeper that fails, and the status and replies of `answer`. The organisation takes the first four calls
 // of the keeper, and the opening the next two.
 const ANSWERED: &str = "\
-4;72
 5;72
-6;0 503 404 404
-7;0 404 503 404
-8;0 404 404 503
-9;0 404 404 404
+6;72
+7;0 503 404 404
+8;0 404 503 404
+9;0 404 404 503
+10;0 404 404 404
 ";
 
 // Whether three messages are answered as a line says.

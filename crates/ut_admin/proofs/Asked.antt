@@ -1,12 +1,14 @@
 -- The requests that bodies ask for, and the edits of these.
-use Rattle.std.proofs.Common.{◌≡◌, ℕ, Bool, true, false, cond, IsTrue, List, refl, sym, ap, subst, ◌∙◌, Option, Some, None, Result, Ok, Err}
+use Rattle.std.proofs.Common.{◌≡◌, ◌≤◌, ℕ, Bool, true, false, cond, IsTrue, List, refl, sym, ap, subst, ◌∙◌, arith, Option, Some, None, Result, Ok, Err}
 use Rattle.std.specs.Prelude.{IfOk, IsErr, IsErrAnd, not, codes}
 use Rattle.std.specs.Option.{option_map}
 use Rattle.std.specs.declared.alloc.AllocError.{AllocError}
 use Rattle.ut_bodies.specs.Bodies.{request_in}
-use Rattle.ut_keeper.specs.State.{KeeperCause, KeeperState}
+use Rattle.ut_edits.specs.Edits.{DraftsEdit, EditsAt, MakesEdit, Planned}
+use Rattle.ut_keeper.specs.Draft.{DraftTells, Held}
+use Rattle.ut_keeper.specs.State.{KeeperState}
 use Rattle.ut_keeper.specs.Tables.{Tables}
-use Rattle.ut_keys.specs.declared.fail.StoreFail.TheVariants.{Damaged, Keeper, Memory}
+use Rattle.ut_keys.specs.declared.fail.StoreFail.TheVariants.{Damaged, Memory}
 use Rattle.ut_value.specs.declared.sharing.Access.{Access}
 use Rattle.ut_model.specs.declared.metadata_bodies.NewField.{NewField}
 use Rattle.ut_model.specs.declared.metadata_bodies.NewObject.{NewObject}
@@ -15,20 +17,21 @@ use Rattle.ut_model.specs.declared.refusal.Refusal.TheVariants.{NotBuilt}
 use Rattle.ut_model.specs.declared.route.Route.{Route}
 use Rattle.ut_model.specs.declared.route.Route.TheVariants.{AddField, AddObject, SetObject}
 use Rattle.ut_step.specs.Built.{built_request, is_built, needs_index, when_built}
+use Rattle.ut_step.specs.Own.{request_changes, request_gone}
 use Rattle.ut_model.specs.Forms.{access_request, field_request, object_request}
 use Rattle.ut_model.specs.Paths.{Asked}
 use Rattle.ut_model.specs.RequestOf.{request_of, request_or, verdict_or}
 use Rattle.ut_model.specs.Requests.{Request, adds_field, adds_object, sets_object, verdict_on}
 use Rattle.ut_model.specs.Sound.{IsSound}
 use Rattle.ut_model.specs.Tenant.{Tenant}
-use Rattle.ut_model.specs.Verdict.{Verdict}
-use Rattle.ut_model.specs.World.{World}
+use Rattle.ut_model.specs.Verdict.{Verdict, done}
 use Rattle.ut_sound.specs.Fit.{IsFit}
-use Rattle.ut_stands.specs.Fails.{KeeperFailsEdit}
-use Rattle.ut_stands.specs.Operations.{EditsIn}
+use Rattle.ut_stands.specs.Calls.{Calls, Ending, Makes, ended_edit, fell, stopped}
+use Rattle.ut_stands.specs.Calls.{done as ended_done}
+use Rattle.ut_stands.specs.Plan.{OrgPlan}
 use Rattle.ut_stands.specs.declared.fail.EditFail.{EditFail}
 use Rattle.ut_stands.specs.declared.fail.EditFail.TheVariants.{Refused, Store}
-use Rattle.ut_admin.specs.inner.Edits.{Asks, EditsFrom, KeepsRefused, form_of}
+use Rattle.ut_admin.specs.inner.Edits.{Asks, EditsFrom, EditsTo, KeepsRefused, form_of}
 
 -- what `ut_sound` says of requests that are read
 abbrev pub RequestsFit : Type 0
@@ -111,31 +114,39 @@ not_so false h = refl
 
 -- ---- edits
 
-edits_from : (org : ℕ) (t : Tenant) (v : Verdict) (w : World) (after : Tables) (result : Result (Unit {0}) EditFail) → KeepsRefused t v → EditsIn org v w after result → EditsFrom org t v w after result
-edits_from org t v w after (Ok x) kept e = e
-edits_from org t v w after (Err (Refused r)) kept e = (e, kept r e)
-edits_from org t v w after (Err (Store f)) kept e = e
+edits_to : (org : ℕ) (t : Tenant) (v : Verdict) (planned : OrgPlan → Type 0) (after : Tables) (result : Result (Unit {0}) EditFail) → KeepsRefused t v → EditsAt org v (λ x. done) planned after result → EditsTo org t v after result
+edits_to org t v planned after (Ok x) kept e = (e.0, (e.1.0, e.1.2))
+edits_to org t v planned after (Err (Refused r)) kept e = (e, kept r e)
+edits_to org t v planned after (Err (Store f)) kept e = e
 
 -- the edit of the request that the route and the body ask for
-pub edits_asked : (org : ℕ) (a : Asked) (r s : Route) (body : List ℕ) (x : Request) (w : World) (after : Tables) (result : Result (Unit {0}) EditFail) → r ≡ s → built_request s body ≡ Ok x
-    → KeepsRefused a.tenant (verdict_on a x) → EditsIn org (verdict_on a x) w after result → EditsFrom org a.tenant (verdict_or a (built_request r body)) w after result
-edits_asked org a r s body x w after result route e kept edits =
-    subst (λ q. EditsFrom org a.tenant (verdict_or a (built_request q body)) w after result) (sym route)
-    (subst (λ q. EditsFrom org a.tenant (verdict_or a q) w after result) (sym e) (edits_from org a.tenant (verdict_on a x) w after result kept edits))
+pub edits_asked : (org : ℕ) (r s : Route) (body : List ℕ) (x : Request) (verdict : Asked → Verdict) (planned : Planned) (fit : Bool) (m after : Tables) (result : Result (Unit {0}) EditFail) → r ≡ s → built_request s body ≡ Ok x
+    → ((a : Asked) → verdict a ≡ verdict_on a x) → ((a : Asked) → KeepsRefused a.tenant (verdict_on a x)) → ((a : Asked) → IsSound a.tenant → IsTrue fit) → MakesEdit org verdict (λ y. done) planned fit m after result
+    → EditsFrom org (λ a. verdict_or a (built_request r body)) m after result
+edits_asked org r s body x verdict planned fit m after result route e same kept fits h = record {
+  others = h.others;
+  edited = λ q a stands.
+      let is : verdict_or a (built_request r body) ≡ verdict_on a x = ap (λ y. verdict_or a (built_request y body)) route ∙ ap (verdict_or a) e in
+      subst (λ v. EditsTo org a.tenant v after result) (same a ∙ sym is)
+      (edits_to org a.tenant (verdict a) (planned q a.tenant) after result (subst (KeepsRefused a.tenant) (sym (same a)) (kept a)) (h.edited q a stands (fits a stands.sound)));
+}
 
 -- no edit, where the body asks for none
-none_asked : {X : Type 0} (make : X → Request) (org : ℕ) (a : Asked) (request : Result Request Refusal) (fail : EditFail) (w : World) (after : Tables) → Asks make request (Err fail)
-    → EditsFrom org a.tenant (verdict_or a request) w after (Err fail)
-none_asked make org a request (Refused r) w after e = subst (λ q. EditsFrom org a.tenant (verdict_or a q) w after (Err (Refused r))) (sym e) (refl, refl)
-none_asked make org a request (Store Damaged) w after e = absurd cc
-none_asked make org a request (Store Keeper) w after e = tt
-none_asked make org a request (Store Memory) w after e = tt
+none_asked : {X : Type 0} (make : X → Request) (org : ℕ) (a : Asked) (request : Result Request Refusal) (fail : EditFail) (after : Tables) → Asks make request (Err fail)
+    → EditsTo org a.tenant (verdict_or a request) after (Err fail)
+none_asked make org a request (Refused r) after e = subst (λ q. EditsTo org a.tenant (verdict_or a q) after (Err (Refused r))) (sym e) (refl, refl)
+none_asked make org a request (Store f) after e = λ damaged. apart (sym e ∙ damaged)
+  where
+    apart : Memory ≡ Damaged → ⊥
+    apart d = cc
 
-pub edits_none : {X : Type 0} (make : X → Request) (org : ℕ) (a : Asked) (r s : Route) (body : List ℕ) (fail : EditFail) (w : World) (after : Tables) (result : Result (Unit {0}) EditFail) → r ≡ s
-    → result ≡ Err fail → Asks make (built_request s body) (Err fail) → EditsFrom org a.tenant (verdict_or a (built_request r body)) w after result
-edits_none make org a r s body fail w after result route is e =
-    subst (λ q. EditsFrom org a.tenant (verdict_or a (built_request q body)) w after result) (sym route)
-    (subst (λ q. EditsFrom org a.tenant (verdict_or a (built_request s body)) w after q) (sym is) (none_asked make org a (built_request s body) fail w after e))
+pub edits_none : {X : Type 0} (make : X → Request) (org : ℕ) (r s : Route) (body : List ℕ) (fail : EditFail) (m : Tables) (result : Result (Unit {0}) EditFail) → r ≡ s
+    → result ≡ Err fail → Asks make (built_request s body) (Err fail) → EditsFrom org (λ a. verdict_or a (built_request r body)) m m result
+edits_none make org r s body fail m result route is e =
+    subst (λ q. EditsFrom org (λ a. verdict_or a (built_request r body)) m m q) (sym is) (record {
+      others = tt;
+      edited = λ q a stands. subst (λ y. EditsTo org a.tenant (verdict_or a (built_request y body)) m (Err fail)) (sym route) (none_asked make org a (built_request s body) fail m e);
+    })
 
 -- no edit of another route
 not_built : (r : Route) → (r ≡ AddObject → ⊥) → ((object : List ℕ) → r ≡ SetObject object → ⊥) → (r ≡ AddField → ⊥) → is_built r ≡ false
@@ -144,22 +155,55 @@ not_built (SetObject object) no_object no_access no_field = absurd (no_access ob
 not_built AddField no_object no_access no_field = absurd (no_field refl)
 not_built _ no_object no_access no_field = refl
 
-pub edits_unbuilt : (org : ℕ) (a : Asked) (r : Route) (body what : List ℕ) (w : World) (after : Tables) → (r ≡ AddObject → ⊥) → ((object : List ℕ) → r ≡ SetObject object → ⊥) → (r ≡ AddField → ⊥)
-    → what ≡ codes "route" → EditsFrom org a.tenant (verdict_or a (built_request r body)) w after (Err (Refused (NotBuilt what)))
-edits_unbuilt org a r body what w after no_object no_access no_field is =
+pub edits_unbuilt : (org : ℕ) (r : Route) (body what : List ℕ) (m : Tables) → (r ≡ AddObject → ⊥) → ((object : List ℕ) → r ≡ SetObject object → ⊥) → (r ≡ AddField → ⊥)
+    → what ≡ codes "route" → EditsFrom org (λ a. verdict_or a (built_request r body)) m m (Err (Refused (NotBuilt what)))
+edits_unbuilt org r body what m no_object no_access no_field is =
     let unbuilt = ap (λ b. cond b (when_built (request_of r body)) (Err (NotBuilt (codes "route")))) (not_built r no_object no_access no_field) in
-    subst (λ q. EditsFrom org a.tenant (verdict_or a q) w after (Err (Refused (NotBuilt what)))) (sym unbuilt) (ap (λ t. Err (NotBuilt t)) (sym is), refl)
+    record {
+      others = tt;
+      edited = λ q a stands. subst (λ y. EditsTo org a.tenant (verdict_or a y) m (Err (Refused (NotBuilt what)))) (sym unbuilt) (ap (λ t. Err (NotBuilt t)) (sym is), refl);
+    }
 
--- the keeper isn't asked for a body
-never_keeper : {X : Type 0} (make : X → Request) (request : Result Request Refusal) (fail : EditFail) → Asks make request (Err fail) → KeeperFailsEdit {X = Unit {0}} (Err fail) → ⊥
-never_keeper make request (Refused r) e failed = failed
-never_keeper make request (Store f) e failed = cc
+-- out of memory
+pub edits_memory : (org : ℕ) (verdict : Asked → Verdict) (m : Tables) → EditsFrom org verdict m m (Err (Store Memory))
+edits_memory org verdict m = record { others = tt; edited = λ q a stands damaged. apart damaged }
+  where
+    apart : Memory ≡ Damaged → ⊥
+    apart d = cc
 
-pub cause_none : {X : Type 0} (make : X → Request) (request : Result Request Refusal) (fail : EditFail) (result : Result (Unit {0}) EditFail) (old : KeeperState) → result ≡ Err fail
-    → Asks make request (Err fail) → KeeperCause old old (KeeperFailsEdit result)
-cause_none make request fail result old is e =
-    let never : KeeperFailsEdit result → ⊥ = subst (λ (q : Result (Unit {0}) EditFail). KeeperFailsEdit q → ⊥) (sym is) (never_keeper make request fail e) in
-    record { rose = λ failed. absurd (never failed); never = λ _ failed. never failed }
+-- ---- what is left of the draft
+
+-- what `ut_stands` says of no call at all, of reads, and of wider bounds
+pub record CallLaws {K : Type 0} (state : K → KeeperState) : Type 0 where
+  pub weaker : (shown : ℕ) (e : Ending) (a b : Held K) → (e ≡ fell → ⊥) → Calls state shown ended_done a b → Calls state shown e a b
+  pub none : (e : Ending) (a : Held K) → e ≡ ended_done → Calls state 0 e a a
+  pub makes : (shown : ℕ) (e : Ending) (a b : Held K) → Calls state shown e a b → Makes state 0 0 shown e a b
+  pub most : (most gone shown more taken larger : ℕ) (e : Ending) (a b : Held K) → most ≤ more → gone ≤ taken → (DraftTells state a b → shown ≤ larger) → Makes state most gone shown e a b → Makes state more taken larger e a b
+
+module _ {K : Type 0} (state : K → KeeperState) (laws : CallLaws state) where
+  -- an edit changes at most as many rows as a request may
+  pub drafts_most : (most gone : ℕ) (result : Result (Unit {0}) EditFail) (a b : Held K) → most ≤ request_changes → gone ≤ request_gone → DraftsEdit state most gone result a b → DraftsEdit state request_changes request_gone result a b
+  drafts_most most gone result a b few none h = record {
+    makes = laws.most most gone 0 request_changes request_gone 0 (ended_edit result) a b few none (λ _. omega arith) h.makes;
+    some = h.some;
+    refused = h.refused;
+  }
+
+  none_made : (e : Ending) (a : Held K) → (e ≡ fell → ⊥) → Makes state request_changes request_gone 0 e a a
+  none_made e a stood = laws.most 0 0 0 request_changes request_gone 0 e a a (omega arith) (omega arith) (λ _. omega arith) (laws.makes 0 e a a (laws.weaker 0 e a a stood (laws.none ended_done a refl)))
+
+  -- a refusal, or out of memory, before the draft was touched
+  pub refused_drafts : (r : Refusal) (a : Held K) → DraftsEdit {X = Unit {0}} state request_changes request_gone (Err (Refused r)) a a
+  refused_drafts r a = record { makes = none_made ended_done a (λ e. cc); some = tt; refused = λ _. (laws.none ended_done a refl).reads }
+
+  pub memory_drafts : (a : Held K) → DraftsEdit {X = Unit {0}} state request_changes request_gone (Err (Store Memory)) a a
+  memory_drafts a = record { makes = none_made stopped a (λ e. cc); some = tt; refused = λ r. absurd r }
+
+  pub none_drafts : {X : Type 0} (make : X → Request) (request : Result Request Refusal) (fail : EditFail) (result : Result (Unit {0}) EditFail) (a : Held K) → result ≡ Err fail
+      → Asks make request (Err fail) → DraftsEdit state request_changes request_gone result a a
+  none_drafts make request (Refused r) result a is e = subst (λ (q : Result (Unit {0}) EditFail). DraftsEdit state request_changes request_gone q a a) (sym is) (refused_drafts r a)
+  none_drafts make request (Store f) result a is e =
+      subst (λ (q : Result (Unit {0}) EditFail). DraftsEdit state request_changes request_gone q a a) (sym (is ∙ ap (λ x. Err (Store x)) e)) (memory_drafts a)
 
 -- what the exit of a `?` returns
 pub returned : {X E : Type 0} (r : Result X E) (e : E) → IsErr r × IsErrAnd r (λ x. x ≡ e) → r ≡ Err e

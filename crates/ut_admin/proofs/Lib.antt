@@ -1,3 +1,2 @@
 mod Asked
 mod Replied
-pub mod Made

@@ -1,21 +1,24 @@
 -- What a reply says of the edit that it is made for.
-use Rattle.std.proofs.Common.{◌≡◌, ◌⊎◌, inl, inr, ℕ, IsTrue, sym, ap, subst, refl, Result, Ok, Err}
-use Rattle.std.specs.Prelude.{IfErr, IsErrOf, OnOk, is_ok}
-use Rattle.ut_keeper.specs.State.{KeeperCause, KeeperState, StaysAfter}
+use Rattle.std.proofs.Common.{◌≡◌, ◌⊎◌, ◌<◌, inl, inr, ℕ, IsTrue, sym, ap, subst, refl, Result, Ok, Err}
+use Rattle.std.specs.Prelude.{IfErr, OnOk}
+use Rattle.ut_edits.specs.Edits.{DraftsEdit, OthersStay}
+use Rattle.ut_keeper.specs.Draft.{DraftReads, Held, count_of}
+use Rattle.ut_keeper.specs.State.{KeeperState}
 use Rattle.ut_keeper.specs.Tables.{Tables}
 use Rattle.ut_keys.specs.declared.fail.StoreFail.{StoreFail}
-use Rattle.ut_keys.specs.declared.fail.StoreFail.TheVariants.{Damaged, Keeper, Memory}
+use Rattle.ut_keys.specs.declared.fail.StoreFail.TheVariants.{Memory}
 use Rattle.ut_model.specs.declared.reply.Reply.{Reply}
 use Rattle.ut_model.specs.Paths.{Asked}
 use Rattle.ut_model.specs.Replies.{reply_of}
 use Rattle.ut_model.specs.Verdict.{Verdict}
-use Rattle.ut_model.specs.World.{World}
-use Rattle.ut_stands.specs.Fails.{IsRefusal, KeeperFailsEdit, is_judged}
-use Rattle.ut_stands.specs.Operations.{IsChange, IsSame, RepliesIn}
+use Rattle.ut_stands.specs.Calls.{Ending, Makes, ended, ended_edit, is_done, stopped}
+use Rattle.ut_stands.specs.Fails.{IsRefusal}
+use Rattle.ut_stands.specs.Local.{KeepsOthers}
+use Rattle.ut_stands.specs.Operations.{Drafts, IsChange, IsSame, RepliesAt, Responds}
 use Rattle.ut_stands.specs.declared.fail.EditFail.{EditFail}
 use Rattle.ut_stands.specs.declared.fail.EditFail.TheVariants.{Refused, Store}
 use Rattle.ut_stands.specs.declared.judged.Judged.{Judged}
-use Rattle.ut_admin.specs.inner.Edits.{EditsFrom, reply_to}
+use Rattle.ut_admin.specs.inner.Edits.{EditsFrom, EditsTo, reply_to}
 
 abbrev Edit : Type 0
 Edit = Result (Unit {0}) EditFail
@@ -30,48 +33,58 @@ by_reply : (P : Returned → Type 0) (edit : Edit) (result : Returned) → IsRep
 by_reply P edit result (inl e) replied none = subst P (sym e) replied
 by_reply P edit result (inr e) replied none = subst P (sym e) none
 
-replies : (org : ℕ) (a : Asked) (v : Verdict) (w : World) (after : Tables) (edit : Edit) → EditsFrom org a.tenant v w after edit → RepliesIn org a v w after (reply_to edit)
-replies org a v w after (Ok x) e = (ap (reply_of a) (sym e.0), e.1)
-replies org a v w after (Err (Refused r)) e = (ap (reply_of a) (sym e.0), e.1)
-replies org a v w after (Err (Store Damaged)) e = absurd e
-replies org a v w after (Err (Store Keeper)) e = λ is. cc
-replies org a v w after (Err (Store Memory)) e = λ is. cc
+replies : (org : ℕ) (a : Asked) (v : Verdict) (after : Tables) (edit : Edit) → EditsTo org a.tenant v after edit → RepliesAt org a v after (reply_to edit)
+replies org a v after (Ok x) e = (ap (reply_of a) (sym e.0), e.1)
+replies org a v after (Err (Refused r)) e = (ap (reply_of a) (sym e.0), e.1)
+replies org a v after (Err (Store f)) e = e
 
-pub judged : (org : ℕ) (a : Asked) (v : Verdict) (w : World) (after : Tables) (edit : Edit) (result : Returned) → IsReply edit result → EditsFrom org a.tenant v w after edit
-    → RepliesIn org a v w after result
-judged org a v w after edit result is e = by_reply (RepliesIn org a v w after) edit result is (replies org a v w after edit e) (λ same. cc)
+others : (org : ℕ) (m after : Tables) (edit : Edit) → OthersStay org m after edit → IsChange (reply_to edit) → KeepsOthers org m after
+others org m after (Ok x) stay change = stay
+others org m after (Err (Refused r)) stay change = absurd change
+others org m after (Err (Store f)) stay change = absurd change
+
+-- the reply to a request by the edit that was made for it
+pub responds : (org : ℕ) (verdict : Asked → Verdict) (m after : Tables) (edit : Edit) (result : Returned) → IsReply edit result → EditsFrom org verdict m after edit
+    → Responds org (λ a. Unit {0}) verdict m after result
+responds org verdict m after edit result is e = record {
+  others = by_reply (λ r. IsChange r → KeepsOthers org m after) edit result is (others org m after edit e.others) (λ none. absurd none);
+  replied = λ q a stands asking. by_reply (RepliesAt org a (verdict a) after) edit result is (replies org a (verdict a) after edit (e.edited q a stands)) (λ same. cc);
+}
+
+-- ---- what is left of the draft
 
 changes : (P : Type 0) (edit : Edit) → OnOk edit P → IsChange (reply_to edit) → P
 changes P (Ok x) some changing = some
 changes P (Err (Refused r)) some changing = absurd changing
 changes P (Err (Store f)) some changing = absurd changing
 
-pub changing : (P : Type 0) (edit : Edit) (result : Returned) → IsReply edit result → OnOk edit P → IsChange result → P
-changing P edit result is some = by_reply (λ r. IsChange r → P) edit result is (changes P edit some) (λ none. absurd none)
-
 same_if : (P : Type 0) (edit : Edit) → IfErr edit (λ e. IsRefusal e → P) → IsSame (reply_to edit) → P
 same_if P (Ok x) refused is = absurd is
 same_if P (Err (Refused r)) refused is = refused tt
 same_if P (Err (Store f)) refused is = absurd is
 
-pub same : (P : Type 0) (edit : Edit) (result : Returned) → IsReply edit result → IfErr edit (λ e. IsRefusal e → P) → IsSame result → P
-same P edit result is refused = by_reply (λ r. IsSame r → P) edit result is (same_if P edit refused) (λ none. absurd none)
+ended_so : (edit : Edit) → ended (reply_to edit) ≡ ended_edit edit
+ended_so (Ok x) = refl
+ended_so (Err (Refused r)) = refl
+ended_so (Err (Store f)) = refl
 
-judged_if : (edit : Edit) → IsTrue (is_ok (reply_to edit)) → IsTrue (is_judged edit)
-judged_if (Ok x) h = refl
-judged_if (Err (Refused r)) h = refl
-judged_if (Err (Store f)) h = h
+module _ {K : Type 0} (state : K → KeeperState) (most gone : ℕ) (old new : Held K) where
+  -- out of memory for the reply
+  stopped_after : (e : Ending) → Makes state most gone 0 e old new → Makes state most gone 0 stopped old new
+  stopped_after e h = record {
+    works = h.works;
+    stays = λ trusted done. absurd (not_done done);
+    cause = record { rose = λ none. absurd none; never = λ sure none. none };
+  }
+    where
+      not_done : IsTrue (is_done stopped) → ⊥
+      not_done d = cc
 
-pub stays : (edit : Edit) (result : Returned) (old new : KeeperState) → IsReply edit result → StaysAfter (is_judged edit) old new → StaysAfter (is_ok result) old new
-stays edit result old new is after stands done =
-    after stands (by_reply (λ r. IsTrue (is_ok r) → IsTrue (is_judged edit)) edit result is (judged_if edit) (λ none. absurd cc) done)
-
-failed_if : (edit : Edit) → IsErrOf (reply_to edit) Keeper → KeeperFailsEdit edit
-failed_if (Ok x) h = absurd cc
-failed_if (Err (Refused r)) h = absurd cc
-failed_if (Err (Store f)) h = cc
-
-pub cause : (edit : Edit) (result : Returned) (old new : KeeperState) → IsReply edit result → KeeperCause old new (KeeperFailsEdit edit) → KeeperCause old new (IsErrOf result Keeper)
-cause edit result old new is by =
-    let failed : IsErrOf result Keeper → KeeperFailsEdit edit = by_reply (λ r. IsErrOf r Keeper → KeeperFailsEdit edit) edit result is (failed_if edit) (λ none. absurd cc) in
-    record { rose = λ f. by.rose (failed f); never = λ sure f. by.never sure (failed f) }
+  pub drafts : (edit : Edit) (result : Returned) → IsReply edit result → DraftsEdit state most gone edit old new → Drafts state most gone 0 result old new
+  drafts edit result is h = by_reply (λ r. Drafts state most gone 0 r old new) edit result is
+      (record {
+        makes = subst (λ (e : Ending). Makes state most gone 0 e old new) (sym (ended_so edit)) h.makes;
+        changing = changes (0 < count_of new) edit h.some;
+        same = same_if (DraftReads state 0 old new) edit h.refused;
+      })
+      (record { makes = stopped_after (ended_edit edit) h.makes; changing = λ none. absurd none; same = λ none. absurd none })

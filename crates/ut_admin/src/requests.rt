@@ -1,16 +1,12 @@
 //! An administrator's request over a draft.
 
-ghost use Rattle.std.specs.Prelude.{◌≡◌, ◌<◌, IfOk, IsErrOf, Some, is_ok};
+ghost use Rattle.std.specs.Prelude.{IfOk};
 ghost use Rattle.ut_admin.specs.Administration.{IsEditReply};
-ghost use Rattle.ut_keeper.specs.Draft.{DraftReads, DraftTells, DraftWorks, count_of, state_of, tables_of};
-ghost use Rattle.ut_keeper.specs.State.{KeeperCause, StaysAfter};
-ghost use Rattle.ut_keys.specs.declared.fail.StoreFail.TheVariants.{Keeper};
+ghost use Rattle.ut_keeper.specs.Draft.{DraftTells, tables_of};
 ghost use Rattle.ut_step.specs.Built.{built_request};
-ghost use Rattle.ut_model.specs.Paths.{Asked};
+ghost use Rattle.ut_step.specs.Own.{request_changes, request_gone};
 ghost use Rattle.ut_model.specs.RequestOf.{verdict_or};
-ghost use Rattle.ut_model.specs.World.{World, tenant_at};
-ghost use Rattle.ut_stands.specs.Operations.{IsChange, IsSame, RepliesIn};
-ghost use Rattle.ut_stands.specs.Stands.{Stands};
+ghost use Rattle.ut_stands.specs.Operations.{Drafts, Responds};
 
 use crate::edits::edit;
 use crate::replies::reply_to;
@@ -25,8 +21,7 @@ use ut_stands::Judged;
 ///
 /// # Errors
 ///
-/// `Keeper` if the keeper failed, `Memory` if out of memory, `Damaged` never if the tables stand for a world with the
-/// organisation.
+/// `Keeper` if the keeper failed, `Memory` if out of memory, `Damaged` never if the organisation's rows stand for a tenant.
 pub fn administer<K: Keeper>(
     alloc: Global,
     draft: &mut Draft<'_, K>,
@@ -34,15 +29,11 @@ pub fn administer<K: Keeper>(
     route: &Route,
     body: &[u8],
 ) -> Result<Judged<Reply>, StoreFail>
-    ensures judged { DraftTells K.state draft.old draft.new
-        → (w : World) (a : Asked) → Stands (tables_of K.state draft.old) w → tenant_at w org ≡ Some a.tenant
-        → RepliesIn org a (verdict_or a (built_request route.now body.now)) w (tables_of K.state draft.new) result }
-    ensures changing { IsChange result → 0 < count_of draft.new }
+    ensures what { DraftTells K.state draft.old draft.new
+        → Responds org (λ a. Unit {0}) (λ a. verdict_or a (built_request route.now body.now)) (tables_of K.state draft.old)
+        (tables_of K.state draft.new) result }
     ensures form { IfOk result IsEditReply }
-    ensures same { IsSame result → DraftReads K.state 0 draft.old draft.new }
-    ensures works { DraftWorks K.state 3 0 0 draft.old draft.new }
-    ensures stays { StaysAfter (is_ok result) (state_of K.state draft.old) (state_of K.state draft.new) }
-    ensures cause { KeeperCause (state_of K.state draft.old) (state_of K.state draft.new) (IsErrOf result Keeper) }
+    ensures drafts { Drafts K.state request_changes request_gone 0 result draft.old draft.new }
 {
     let edited = edit(alloc, draft, org, route, body);
     reply_to(alloc, edited)

@@ -9,12 +9,11 @@ pub mod Writing
 pub mod Fits
 pub mod RowFits
 pub mod RecordFits
+pub mod Ended
 pub mod Standing
 pub mod Loading
 pub mod Rising
 pub mod Listed
-pub mod Pages
 pub mod Walking
 pub mod WrittenFits
 pub mod Rewriting
-pub mod Records

@@ -1,6 +1,6 @@
--- The rows of an object's records in tables that stand for a world, in the order of their keys.
+-- The rows of an object's records among those of their organisation alone, in the order of their keys.
 use Rattle.std.proofs.Common.{◌≡◌, ℕ, ◌<◌, ◌^◌, Bool, true, false, ◌&&◌, cond, T, IsTrue, List, [], ◌∷◌, ◌++◌, map, Option, Some, None, refl, sym, ap, subst, ◌∙◌, inl, inr, arith, Equal}
-use Rattle.std.specs.Prelude.{◌↔◌, IfSome}
+use Rattle.std.specs.Prelude.{IfSome}
 use Rattle.std.specs.Cmp.{nat_cmp_total}
 use Rattle.std.specs.FinMap.{is_sorted}
 use Rattle.std.specs.FinMap.Entries.{below_all}
@@ -9,8 +9,8 @@ use Rattle.std.specs.Option.{option_map}
 use Rattle.std.specs.Ordering.{is_ge, is_lt, nat_cmp, ordering_then}
 use Rattle.std.proofs.lemmas.Cmp.{tied_itself}
 use Rattle.ut_value.specs.Id.{is_id}
-use Rattle.ut_keeper.specs.Prefixes.{StartsWith, raised}
-use Rattle.ut_keeper.specs.Tables.{Has as HasRow, Tables, bytes_cmp, is_between}
+use Rattle.ut_keeper.specs.Prefixes.{raised}
+use Rattle.ut_keeper.specs.Tables.{Has as HasRow, bytes_cmp, is_between}
 use Rattle.ut_keeper.specs.Walks.{next_above}
 use Rattle.ut_keys.specs.declared.data.DataRow.{DataRow}
 use Rattle.ut_keys.specs.Forms.{FitsForm, key_bytes, row_bytes}
@@ -25,25 +25,16 @@ use Rattle.ut_model.specs.Sound.{IsSound}
 use Rattle.ut_model.specs.SoundPeople.{ids_rise}
 use Rattle.ut_model.specs.SoundRecords.{record_id}
 use Rattle.ut_model.specs.Tenant.{Tenant}
-use Rattle.ut_model.specs.World.{World}
 use Rattle.ut_parts.specs.Plain.{number16, number32}
-use Rattle.ut_parts.specs.Shapes.{FitsIn, Shape, Val, front, front_of, in_order, is_key_shape, spelled}
+use Rattle.ut_parts.specs.Shapes.{spelled}
 use Rattle.ut_stands.specs.declared.layout.Layout.{Layout}
-use Rattle.ut_stands.specs.Plan.{FitsPlan, Plan}
-use Rattle.ut_stands.specs.Stands.{StandsBy, row_at}
+use Rattle.ut_stands.specs.Local.{rows_alone}
+use Rattle.ut_stands.specs.Plan.{FitsPlan, OrgPlan}
+use Rattle.ut_stands.proofs.MetadataLists.{BeginsSo, ComparesKeys, UnderPrefix}
 use Rattle.ut_data.proofs.Rising.{filter_has, found_itself, has_filter, rise_filter, still_above, t_both, t_first, t_second}
-use Rattle.ut_data.proofs.Standing.{IsOf, Laws, found_of, of_object, row_in_plan, row_kept, sound_tenant}
+use Rattle.ut_data.proofs.Standing.{IsOf, Laws, found_of, of_object, own_row, row_in_plan, row_kept}
 
 -- ---- laws of keys, as `ut_keys`, `ut_parts` and `ut_keeper` say
-
-abbrev pub UnderPrefix : Type 0
-UnderPrefix = (k : Key) (prefix above : List ℕ) → FitsKey k → raised prefix ≡ Some above → (IsTrue (is_between prefix above (spell k).1) ↔ StartsWith prefix (spell k).1)
-
-abbrev pub ComparesKeys : Type 0
-ComparesKeys = (s : Shape) → IsTrue (is_key_shape s) → (a b : Val s) → FitsIn s a → FitsIn s b → bytes_cmp (spelled s a) (spelled s b) ≡ in_order s a b
-
-abbrev pub BeginsSo : Type 0
-BeginsSo = (n : ℕ) (s : Shape) (v : Val s) (p : Val (front n s)) → FitsIn s v → FitsIn (front n s) p → (StartsWith (spelled (front n s) p) (spelled s v) ↔ (front_of n s v ≡ p))
 
 abbrev pub AfterZero : Type 0
 AfterZero = (key other : List ℕ) → is_ge (bytes_cmp other (next_above key)) ≡ is_lt (bytes_cmp key other)
@@ -67,15 +58,12 @@ those t n after = filter (λ r. is_past after r.id) (records_of t n)
 tied : (n : ℕ) → nat_cmp n n ≡ Equal
 tied n = tied_itself nat_cmp_total n
 
-module _ (laws : Laws) (keys : KeyLaws) (ids : (t : Tenant) (r : Record) → IsSound t → Has t.records r → IsTrue (is_id r.id)) (p : Plan) (m : Tables) (w : World) (s : StandsBy p m w) (l : Layout) (one : IsOf p w l) (lo : l.org < 2 ^ 32) (small : l.object < 2 ^ 16) where
-  pub sound : IsSound one.tenant
-  sound = sound_tenant w l.org one.tenant s.world.tenants one.at
-
-  pub plan : FitsPlan (p.org l.org) one.tenant
-  plan = s.plans l.org one.tenant one.at
+module _ (laws : Laws) (keys : KeyLaws) (q : OrgPlan) (t : Tenant) (l : Layout) (one : IsOf q t l) (sound : IsSound t) (plan : FitsPlan q t) (ids : (r : Record) → Has t.records r → IsTrue (is_id r.id)) (lo : l.org < 2 ^ 32) (small : l.object < 2 ^ 16) where
+  abbrev rows : Key → Option (List ℕ)
+  rows = rows_alone l.org q (Some t)
 
   abbrev pub row_of : Record → DataRow
-  row_of = row_in_plan l.org (p.org l.org) one.tenant l.object one.object
+  row_of = row_in_plan l.org q t l.object one.object
 
   compare : (i j : List ℕ) → IsTrue (is_id i) → IsTrue (is_id j) → bytes_cmp (key_at l.org l.object i) (key_at l.org l.object j) ≡ bytes_cmp i j
   compare i j hi hj =
@@ -104,10 +92,10 @@ module _ (laws : Laws) (keys : KeyLaws) (ids : (t : Tenant) (r : Record) → IsS
 
   -- ---- their members
 
-  pub member : (after : Option (List ℕ)) (r : Record) → Has (those one.tenant l.object after) r → Has one.tenant.records r × IsTrue (is_of l.object r) × IsTrue (is_past after r.id)
+  pub member : (after : Option (List ℕ)) (r : Record) → Has (those t l.object after) r → Has t.records r × IsTrue (is_of l.object r) × IsTrue (is_past after r.id)
   member after r has =
-      let (among, past) = has_filter (λ r. is_past after r.id) (records_of one.tenant l.object) r has in
-      let (here, of) = has_filter (is_of l.object) one.tenant.records r among in
+      let (among, past) = has_filter (λ r. is_past after r.id) (records_of t l.object) r has in
+      let (here, of) = has_filter (is_of l.object) t.records r among in
       (here, of, past)
 
   pub row_has : (rs : List Record) (u : DataRow) → HasRow (map row_of rs) u → (r : Record) × Has rs r × (u ≡ row_of r)
@@ -120,12 +108,12 @@ module _ (laws : Laws) (keys : KeyLaws) (ids : (t : Tenant) (r : Record) → IsS
   has_row (x ∷ rs) r (inl e) = inl (ap row_of e)
   has_row (x ∷ rs) r (inr h) = inr (has_row rs r h)
 
-  row_there : (i : List ℕ) → row_at p w (Data l.org l.object i) ≡ option_map (row_bytes data_form) (option_map row_of (of_object l.object (record_at one.tenant i)))
-  row_there i = laws.own p w l.org one.tenant (Data l.org l.object i) one.at refl ∙ row_kept l.org l.object (p.org l.org) one.tenant one.object i one.there
+  row_there : (i : List ℕ) → rows (Data l.org l.object i) ≡ option_map (row_bytes data_form) (option_map row_of (of_object l.object (record_at t i)))
+  row_there i = own_row l.org l.object q t i ∙ row_kept l.org l.object q t one.object i one.there
 
-  row_of_record : (r : Record) → Has one.tenant.records r → IsTrue (is_of l.object r) → row_at p w (Data l.org l.object r.id) ≡ Some (row_bytes data_form (row_of r))
+  row_of_record : (r : Record) → Has t.records r → IsTrue (is_of l.object r) → rows (Data l.org l.object r.id) ≡ Some (row_bytes data_form (row_of r))
   row_of_record r has of =
-      row_there r.id ∙ ap (λ x. option_map (row_bytes data_form) (option_map row_of (of_object l.object x))) (found_itself one.tenant.records r sound.records.rise has)
+      row_there r.id ∙ ap (λ x. option_map (row_bytes data_form) (option_map row_of (of_object l.object x))) (found_itself t.records r sound.records.rise has)
       ∙ ap (λ (b : Bool). option_map (row_bytes data_form) (option_map row_of (cond b (Some r) None))) of
 
   some_found : (x : Option Record) (bytes : List ℕ) → option_map (row_bytes data_form) (option_map row_of x) ≡ Some bytes → (r : Record) × (x ≡ Some r)
@@ -165,7 +153,7 @@ module _ (laws : Laws) (keys : KeyLaws) (ids : (t : Tenant) (r : Record) → IsS
         (and_second (is_ge (bytes_cmp k (prefix_of l.org l.object))) (is_lt (bytes_cmp k above)) whole)
 
     -- a key of the interval begins with the prefix
-    begins_so : (after : Option (List ℕ)) (k : List ℕ) → IfSome after (λ j. IsTrue (is_id j)) → is_between (from after) above k ≡ true → is_between (prefix_of l.org l.object) above k ≡ true
+    pub begins_so : (after : Option (List ℕ)) (k : List ℕ) → IfSome after (λ j. IsTrue (is_id j)) → is_between (from after) above k ≡ true → is_between (prefix_of l.org l.object) above k ≡ true
     begins_so None k ha h = h
     begins_so (Some j) k ha h =
         let a = key_at l.org l.object j in
@@ -181,31 +169,31 @@ module _ (laws : Laws) (keys : KeyLaws) (ids : (t : Tenant) (r : Record) → IsS
         let k = key_at l.org l.object i in
         ap is_lt (sym (compare j i ha h)) ∙ sym (keys.after a k) ∙ and_first (is_ge (bytes_cmp k (next_above a))) (is_lt (bytes_cmp k above)) inside
 
-    complete : (after : Option (List ℕ)) → IfSome after (λ j. IsTrue (is_id j)) → (k : Key) (bytes : List ℕ) → FitsKey k → (spell k).0 ≡ 7 → IsTrue (is_between (from after) above (spell k).1) → row_at p w k ≡ Some bytes
-        → (u : DataRow) × HasRow (map row_of (those one.tenant l.object after)) u × (Data u.org u.object u.id ≡ k)
+    complete : (after : Option (List ℕ)) → IfSome after (λ j. IsTrue (is_id j)) → (k : Key) (bytes : List ℕ) → FitsKey k → (spell k).0 ≡ 7 → IsTrue (is_between (from after) above (spell k).1) → rows k ≡ Some bytes
+        → (u : DataRow) × HasRow (map row_of (those t l.object after)) u × (Data u.org u.object u.id ≡ k)
     complete after ha (Data o n i) bytes fits table within here =
         let starts = (keys.under (Data o n i) (prefix_of l.org l.object) above fits rises).0 (begins_so after (key_at o n i) ha within) in
         let same : (o, n) ≡ (l.org, l.object) = (keys.begins 2 record_key (o, (n, i)) (l.org, l.object) fits (lo, small)).0 starts in
         let is : Data o n i ≡ Data l.org l.object i = ap (λ (q : ℕ × ℕ). Data q.0 q.1 i) same in
-        let (r, found) = some_found (of_object l.object (record_at one.tenant i)) bytes (sym (row_there i) ∙ ap (row_at p w) (sym is) ∙ here) in
-        let f = found_of one.tenant l.object i r (record_at one.tenant i) refl found in
+        let (r, found) = some_found (of_object l.object (record_at t i)) bytes (sym (row_there i) ∙ ap rows (sym is) ∙ here) in
+        let f = found_of t l.object i r (record_at t i) refl found in
         let past : is_past after i ≡ true = past_so after i ha fits.1.1 (subst (λ (q : ℕ × ℕ). is_between (from after) above (key_at q.0 q.1 i) ≡ true) same within) in
-        let member : Has (those one.tenant l.object after) r =
-        filter_has (λ r. is_past after r.id) (records_of one.tenant l.object) r (filter_has (is_of l.object) one.tenant.records r f.has f.of) (subst (λ (j : List ℕ). is_past after j ≡ true) (sym f.same) past)
+        let member : Has (those t l.object after) r =
+        filter_has (λ r. is_past after r.id) (records_of t l.object) r (filter_has (is_of l.object) t.records r f.has f.of) (subst (λ (j : List ℕ). is_past after j ≡ true) (sym f.same) past)
         in
-        (row_of r, has_row (those one.tenant l.object after) r member, ap (λ (j : List ℕ). Data l.org l.object j) f.same ∙ sym is)
+        (row_of r, has_row (those t l.object after) r member, ap (λ (j : List ℕ). Data l.org l.object j) f.same ∙ sym is)
     complete after ha k bytes fits table within here = absurd (omega (arith, table))
 
-    pub rows_listed : (after : Option (List ℕ)) → IfSome after (λ j. IsTrue (is_id j)) → ListsBetween data_form (row_at p w) (from after) above (map row_of (those one.tenant l.object after))
+    pub rows_listed : (after : Option (List ℕ)) → IfSome after (λ j. IsTrue (is_id j)) → ListsBetween data_form rows (from after) above (map row_of (those t l.object after))
     rows_listed after ha = record {
-      rises = keys_rise (those one.tenant l.object after) (λ r has. ids one.tenant r sound (member after r has).0)
-          (rise_filter (λ r. is_past after r.id) (records_of one.tenant l.object) (rise_filter (is_of l.object) one.tenant.records sound.records.rise));
+      rises = keys_rise (those t l.object after) (λ r has. ids r (member after r has).0)
+          (rise_filter (λ r. is_past after r.id) (records_of t l.object) (rise_filter (is_of l.object) t.records sound.records.rise));
       sound = λ u has.
-          let (r, among, is) = row_has (those one.tenant l.object after) u has in
+          let (r, among, is) = row_has (those t l.object after) u has in
           let (here, of, past) = member after r among in
-          subst (λ (v : DataRow). FitsForm data_form v × IsTrue (is_between (from after) above (key_bytes data_form v)) × (row_at p w (Data v.org v.object v.id) ≡ Some (row_bytes data_form v))) (sym is) (
-            laws.fits l.org l.object (p.org l.org) one.tenant one.object r lo sound plan one.there here of,
-            inside after r.id ha (ids one.tenant r sound here) past,
+          subst (λ (v : DataRow). FitsForm data_form v × IsTrue (is_between (from after) above (key_bytes data_form v)) × (rows (Data v.org v.object v.id) ≡ Some (row_bytes data_form v))) (sym is) (
+            laws.fits l.org l.object q t one.object r lo sound plan one.there here of,
+            inside after r.id ha (ids r here) past,
             row_of_record r here of,
           );
       complete = complete after ha;

@@ -2,9 +2,10 @@
 use Rattle.std.proofs.Common.{◌≡◌, ℕ, List, Option, Some, None, refl, sym, ◌∙◌, inl, inr}
 use Rattle.std.specs.Prelude.{Result, Ok, Err, IfSome}
 use Rattle.std.specs.FinMap as map
+use Rattle.std.specs.FinMap.{IsAntisymmetric}
 use Rattle.std.specs.Option.{option_map}
 use Rattle.ut_value.specs.Causes.{GivesOr}
-use Rattle.ut_keeper.specs.Tables.{Tables}
+use Rattle.ut_keeper.specs.Tables.{Tables, place_cmp}
 use Rattle.ut_keys.specs.declared.data.DataRow.{DataRow}
 use Rattle.ut_keys.specs.declared.fail.StoreFail.{StoreFail}
 use Rattle.ut_keys.specs.declared.fail.StoreFail.TheVariants.{Keeper, Memory, Damaged}
@@ -14,14 +15,14 @@ use Rattle.ut_parts.specs.Shapes.{FitsIn}
 use Rattle.ut_keys.specs.Reads.{FoundAs, MayStandAt, ReadsAs}
 use Rattle.ut_keys.specs.Rows.{data_form}
 use Rattle.ut_model.specs.declared.record.Record.{Record}
-use Rattle.ut_model.specs.World.{World}
+use Rattle.ut_model.specs.Tenant.{Tenant}
 use Rattle.ut_stands.specs.declared.layout.Layout.{Layout}
 use Rattle.ut_stands.specs.Layouts.{FindsOf, IsLayout, record_in}
-use Rattle.ut_stands.specs.Plan.{Plan}
-use Rattle.ut_stands.specs.Stands.{StandsBy}
+use Rattle.ut_stands.specs.Local.{StandsIn}
+use Rattle.ut_stands.specs.Plan.{OrgPlan}
 use Rattle.ut_data.specs.Decoding.{record_from}
 use Rattle.ut_data.specs.inner.Found.{found_from}
-use Rattle.ut_data.proofs.Standing.{Laws, Standing, stands_there}
+use Rattle.ut_data.proofs.Standing.{Laws, OwnPlaces, Standing, stands_there}
 
 -- what is read is what stands there, as `ut_keys` says
 abbrev pub FindsData : Type 0
@@ -41,8 +42,8 @@ no_ok x e h = cc
 pub err_is : {X : Type 0} (e f : StoreFail) → ◌≡◌ {A = Result X StoreFail} (Err e) (Err f) → e ≡ f
 err_is e f h = cc
 
-module _ (m : Tables) (w : World) (l : Layout) (id : List ℕ) (st : Standing m w l id) where
-  found_ok : (row : Result (Option DataRow) StoreFail) (x : Option Record) → FoundAs data_form (option_map st.row st.found) row → found_from l row ≡ Ok x → x ≡ record_in l.org l.object id w
+module _ (m : Tables) (t : Tenant) (l : Layout) (id : List ℕ) (st : Standing m t l id) where
+  found_ok : (row : Result (Option DataRow) StoreFail) (x : Option Record) → FoundAs data_form (option_map st.row st.found) row → found_from l row ≡ Ok x → x ≡ record_in l.object id t
   found_ok (Ok d) x f g = ok_is x st.found (sym g ∙ given l st.row st.found d st.reads f) ∙ sym st.is
   found_ok (Err e) x f g = absurd (no_ok x e g)
 
@@ -52,19 +53,19 @@ module _ (m : Tables) (w : World) (l : Layout) (id : List ℕ) (st : Standing m 
   found_damaged (Err Keeper) f g = absurd (cc (err_is Keeper Damaged g))
   found_damaged (Err Memory) f g = absurd (cc (err_is Memory Damaged g))
 
-pub record_finds : FindsData → Laws → (m : Tables) (l : Layout) (id : List ℕ) → FitsIn record_key (l.org, (l.object, id)) → (row : Result (Option DataRow) StoreFail) (result : Result (Option Record) StoreFail)
+pub record_finds : FindsData → IsAntisymmetric place_cmp → OwnPlaces → Laws → (m : Tables) (l : Layout) (id : List ℕ) → FitsIn record_key (l.org, (l.object, id)) → (row : Result (Option DataRow) StoreFail) (result : Result (Option Record) StoreFail)
     → ReadsAs data_form (l.org, (l.object, id)) (map.get m (spell (Data l.org l.object id))) row → GivesOr Memory (found_from l row) result
-    → FindsOf l (record_in l.org l.object id) m result
-record_finds finds laws m l id fits row result reads gives = by result gives
+    → FindsOf l (record_in l.object id) m result
+record_finds finds exact own laws m l id fits row result reads gives = by result gives
   where
-    there : (p : Plan) (w : World) → StandsBy p m w → IsLayout p w l → (st : Standing m w l id) × FoundAs data_form (option_map st.row st.found) row
-    there p w s h =
-        let st = stands_there laws p m w l id fits s h in
+    there : (q : OrgPlan) (t : Tenant) → StandsIn l.org q m (Some t) → IsLayout q t l → (st : Standing m t l id) × FoundAs data_form (option_map st.row st.found) row
+    there q t s h =
+        let st = stands_there exact own laws q t m l id fits s h in
         (st, finds (l.org, (l.object, id)) (map.get m (spell (Data l.org l.object id))) (option_map st.row st.found) row reads st.kept st.may)
 
-    by : (r : Result (Option Record) StoreFail) → GivesOr Memory (found_from l row) r → FindsOf l (record_in l.org l.object id) m r
-    by (Ok x) g = λ p w s h. let (st, f) = there p w s h in found_ok m w l id st row x f g
+    by : (r : Result (Option Record) StoreFail) → GivesOr Memory (found_from l row) r → FindsOf l (record_in l.object id) m r
+    by (Ok x) g = λ q t s h. let (st, f) = there q t s h in found_ok m t l id st row x f g
     by (Err Keeper) g = tt
     by (Err Memory) g = tt
     by (Err Damaged) (inl e) = absurd cc
-    by (Err Damaged) (inr g) = λ p w s h. let (st, f) = there p w s h in found_damaged m w l id st row f g
+    by (Err Damaged) (inr g) = λ q t s h. let (st, f) = there q t s h in found_damaged m t l id st row f g

@@ -1,15 +1,15 @@
--- What tables that stand for a world have at a record's key.
-use Rattle.std.proofs.Common.{◌≡◌, ℕ, zero, suc, ◌<◌, ◌^◌, cond, IsTrue, List, [], ◌∷◌, Option, Some, None, refl, sym, ap, subst, ◌∙◌, inl, inr}
-use Rattle.std.specs.Prelude.{IfSome, slice_get}
+-- What tables have at a record's key, where the organisation's rows stand for a tenant.
+use Rattle.std.proofs.Common.{◌≡◌, ℕ, ◌<◌, ◌^◌, cond, IsTrue, List, [], ◌∷◌, Option, Some, None, refl, sym, ap, subst, ◌∙◌, inl, inr}
+use Rattle.std.specs.Prelude.{IfSome}
 use Rattle.std.specs.FinMap as map
-use Rattle.std.specs.List.{AllByRecursion}
+use Rattle.std.specs.FinMap.{IsAntisymmetric}
 use Rattle.std.specs.Option.{option_and_then, option_map}
 use Rattle.std.specs.Str.{bytes_eq}
 use Rattle.std.proofs.lemmas.Slice.Eq.{bytes_eq-Decides}
-use Rattle.ut_keeper.specs.Tables.{Tables}
+use Rattle.ut_keeper.specs.Tables.{Tables, place_cmp}
 use Rattle.ut_keys.specs.declared.data.DataRow.{DataRow}
 use Rattle.ut_keys.specs.Forms.{FitsForm, row_bytes}
-use Rattle.ut_keys.specs.Keys.{Data, Key, record_key, spell}
+use Rattle.ut_keys.specs.Keys.{Data, FitsKey, Key, record_key, spell}
 use Rattle.ut_parts.specs.Shapes.{FitsIn}
 use Rattle.ut_keys.specs.Reads.{MayStandAt}
 use Rattle.ut_keys.specs.Rows.{data_form}
@@ -19,20 +19,22 @@ use Rattle.ut_model.specs.Objects.{is_of, object_numbered, record_at}
 use Rattle.ut_model.specs.Sound.{IsSound}
 use Rattle.ut_model.specs.Tenant as model
 use Rattle.ut_model.specs.Tenant.{Tenant}
-use Rattle.ut_model.specs.World.{World, having_id, tenant_at}
+use Rattle.ut_model.specs.World.{having_id}
 use Rattle.ut_stands.specs.declared.layout.Layout.{Layout}
 use Rattle.ut_stands.specs.Entries.{data_of, slot_entry}
-use Rattle.ut_stands.specs.Layouts.{IsLayout, layout_at, layout_of, numbered_at, record_in}
-use Rattle.ut_stands.specs.Plan.{FitsPlan, OrgPlan, Plan}
-use Rattle.ut_stands.specs.Stands.{Kept, StandsBy, kept_at, kept_in, org_of_key, row_at, row_in}
+use Rattle.ut_stands.specs.Layouts.{IsLayout, layout_of, own_layout, record_in}
+use Rattle.ut_stands.specs.Local.{StandsIn, is_own, is_place_of, rows_alone}
+use Rattle.ut_stands.specs.Plan.{FitsPlan, OrgPlan}
+use Rattle.ut_stands.specs.Stands.{Kept, kept_at, kept_in, row_in}
+use Rattle.ut_stands.proofs.Places.{part_at}
 use Rattle.ut_data.specs.Decoding.{record_from}
-use Rattle.ut_data.proofs.Lists.{pick, some_is}
+use Rattle.ut_data.proofs.Lists.{eqb_same, pick, some_is}
 
 -- ---- laws that other functions have
 
--- the rows at the keys of an organisation, as `ut_stands` says
-abbrev pub OwnRows : Type 0
-OwnRows = (p : Plan) (w : World) (n : ℕ) (t : Tenant) (k : Key) → tenant_at w n ≡ Some t → org_of_key k ≡ Some n → row_at p w k ≡ row_in (p.org n) t k
+-- a key is at a place of the organisation whose key it is, as `local_laws` says
+abbrev pub OwnPlaces : Type 0
+OwnPlaces = (n : ℕ) (k : Key) → n < 2 ^ 32 → FitsKey k → is_place_of n (spell k) ≡ is_own n k
 
 -- the row of a sound record reads as it, and has a spelling, as `data_laws` says
 abbrev pub RowsRead : Type 0
@@ -46,47 +48,28 @@ RowsFit = (org n : ℕ) (p : OrgPlan) (t : Tenant) (o : model.Object) (r : Recor
     → FitsForm data_form (data_of org n r (slot_entry p t.job n o r))
 
 pub record Laws : Type 0 where
-  pub own : OwnRows
   pub read : RowsRead
   pub fits : RowsFit
 
 -- ---- a layout's object
 
-pub record IsOf (p : Plan) (w : World) (l : Layout) : Type 0 where
-  pub tenant : Tenant
+pub record IsOf (q : OrgPlan) (t : Tenant) (l : Layout) : Type 0 where
   pub object : model.Object
-  pub at : tenant_at w l.org ≡ Some tenant
-  pub there : object_numbered tenant l.object ≡ Some object
-  pub made : layout_of l.org (p.org l.org) tenant (record { number = l.object; object = object }) ≡ l
+  pub there : object_numbered t l.object ≡ Some object
+  pub made : layout_of l.org q t (record { number = l.object; object = object }) ≡ l
 
-pub layout_is : (p : Plan) (w : World) (l : Layout) → IsLayout p w l → IsOf p w l
-unfolding layout_at
-layout_is p w l h = in_tenant (tenant_at w l.org) refl h
+pub layout_is : (q : OrgPlan) (t : Tenant) (l : Layout) → IsLayout q t l → IsOf q t l
+unfolding own_layout
+layout_is q t l h = by (object_numbered t l.object) refl h
   where
-    in_object : (t : Tenant) → tenant_at w l.org ≡ Some t → (o : Option model.Object) → object_numbered t l.object ≡ o
-        → option_map (layout_of l.org (p.org l.org) t) (option_map (λ x. record { number = l.object; object = x }) o) ≡ Some l → IsOf p w l
-    in_object t at None there h = absurd cc
-    in_object t at (Some o) there h = record {
-      tenant = t;
+    by : (o : Option model.Object) → object_numbered t l.object ≡ o
+        → option_map (layout_of l.org q t) (option_map (λ x. record { number = l.object; object = x }) o) ≡ Some l → IsOf q t l
+    by None there h = absurd cc
+    by (Some o) there h = record {
       object = o;
-      at = at;
       there = there;
-      made = some_is (layout_of l.org (p.org l.org) t (record { number = l.object; object = o })) l h;
+      made = some_is (layout_of l.org q t (record { number = l.object; object = o })) l h;
     }
-
-    in_tenant : (x : Option Tenant) → tenant_at w l.org ≡ x → option_and_then (λ t. option_map (layout_of l.org (p.org l.org) t) (numbered_at t l.object)) x ≡ Some l → IsOf p w l
-    in_tenant None at h = absurd cc
-    in_tenant (Some t) at h = in_object t at (object_numbered t l.object) refl h
-
-of_place : {X : Type 0} (P : X → Type 0) (xs : List X) (i : ℕ) (x : X) → AllByRecursion P xs → slice_get xs i ≡ Some x → P x
-of_place P [] i x all e = absurd cc
-of_place P (y ∷ ys) zero x all e = subst P (some_is y x e) all.0
-of_place P (y ∷ ys) (suc i) x all e = of_place P ys i x all.1 e
-
--- a tenant of a sound world is sound
-pub sound_tenant : (w : World) (n : ℕ) (t : Tenant) → AllByRecursion IsSound w → tenant_at w n ≡ Some t → IsSound t
-sound_tenant w zero t all e = absurd cc
-sound_tenant w (suc n) t all e = of_place IsSound w n t all e
 
 -- ---- a record's row
 
@@ -137,47 +120,57 @@ found_of t n id r (Some s) e h =
     (λ _ _ none. absurd cc)
     refl h
 
+-- ---- the tables at keys of the organisation
+
+-- its rows alone are its tenant's
+pub own_row : (org n : ℕ) (q : OrgPlan) (t : Tenant) (id : List ℕ) → rows_alone org q (Some t) (Data org n id) ≡ row_in q t (Data org n id)
+own_row org n q t id = ap (λ b. cond b (row_in q t (Data org n id)) None) (eqb_same org)
+
+at_key : IsAntisymmetric place_cmp → OwnPlaces → (org n : ℕ) (q : OrgPlan) (t : Tenant) (m : Tables) (id : List ℕ) → org < 2 ^ 32 → FitsKey (Data org n id) → StandsIn org q m (Some t)
+    → map.get m (spell (Data org n id)) ≡ row_in q t (Data org n id)
+at_key exact own org n q t m id lo key s =
+    let k = Data org n id in
+    sym (part_at exact org m (spell k) ∙ ap (λ b. cond b (map.get m (spell k)) None) (own org k lo key ∙ eqb_same org)) ∙ s.rows.at k key ∙ own_row org n q t id
+
 -- ---- what is there
 
-pub record Standing (m : Tables) (w : World) (l : Layout) (id : List ℕ) : Type 0 where
+pub record Standing (m : Tables) (t : Tenant) (l : Layout) (id : List ℕ) : Type 0 where
   pub found : Option Record
-  pub is : record_in l.org l.object id w ≡ found
+  pub is : record_in l.object id t ≡ found
   pub row : Record → DataRow
   pub kept : map.get m (spell (Data l.org l.object id)) ≡ option_map (row_bytes data_form) (option_map row found)
   pub may : MayStandAt data_form (l.org, (l.object, id)) (option_map row found)
   pub reads : IfSome found (λ r. record_from l (row r) ≡ Some r)
 
-record_is : (org n : ℕ) (id : List ℕ) (w : World) (t : Tenant) → tenant_at w org ≡ Some t → record_in org n id w ≡ of_object n (record_at t id)
+record_is : (n : ℕ) (id : List ℕ) (t : Tenant) → record_in n id t ≡ of_object n (record_at t id)
 unfolding record_in
-record_is org n id w t at = rw at refl
+record_is n id t = refl
 
-pub stands_there : Laws → (p : Plan) (m : Tables) (w : World) (l : Layout) (id : List ℕ) → FitsIn record_key (l.org, (l.object, id)) → StandsBy p m w → IsLayout p w l → Standing m w l id
-stands_there laws p m w l id key s h =
-    let one = layout_is p w l h in
-    let t = one.tenant in
-    let q = p.org l.org in
-    let sound : IsSound t = sound_tenant w l.org t s.world.tenants one.at in
-    let plan : FitsPlan q t = s.plans l.org t one.at in
+module _ (laws : Laws) (q : OrgPlan) (t : Tenant) (l : Layout) (one : IsOf q t l) (sound : IsSound t) (plan : FitsPlan q t) (id : List ℕ) where
+  abbrev row : Record → DataRow
+  row = row_in_plan l.org q t l.object one.object
+
+  may_be : l.org < 2 ^ 32 → (x : Option Record) → of_object l.object (record_at t id) ≡ x → MayStandAt data_form (l.org, (l.object, id)) (option_map row x)
+  may_be lo None e = tt
+  may_be lo (Some r) e =
+      let f = found_of t l.object id r (record_at t id) refl e in
+      (ap (λ (i : List ℕ). (l.org, (l.object, i))) f.same, laws.fits l.org l.object q t one.object r lo sound plan one.there f.has f.of)
+
+  read_be : (x : Option Record) → of_object l.object (record_at t id) ≡ x → IfSome x (λ r. record_from l (row r) ≡ Some r)
+  read_be None e = tt
+  read_be (Some r) e =
+      let f = found_of t l.object id r (record_at t id) refl e in
+      subst (λ (k : Layout). record_from k (row r) ≡ Some r) one.made (laws.read l.org l.object q t one.object r sound plan one.there f.has f.of)
+
+pub stands_there : IsAntisymmetric place_cmp → OwnPlaces → Laws → (q : OrgPlan) (t : Tenant) (m : Tables) (l : Layout) (id : List ℕ) → FitsIn record_key (l.org, (l.object, id)) → StandsIn l.org q m (Some t) → IsLayout q t l
+    → Standing m t l id
+stands_there exact own laws q t m l id key s h =
+    let one = layout_is q t l h in
     record {
       found = of_object l.object (record_at t id);
-      is = record_is l.org l.object id w t one.at;
+      is = record_is l.object id t;
       row = row_in_plan l.org q t l.object one.object;
-      kept = s.rows.at (Data l.org l.object id) key ∙ laws.own p w l.org t (Data l.org l.object id) one.at refl ∙ row_kept l.org l.object q t one.object id one.there;
-      may = may_be one sound plan (of_object l.object (record_at t id)) refl;
-      reads = read_be one sound plan (of_object l.object (record_at t id)) refl;
+      kept = at_key exact own l.org l.object q t m id key.0 key s ∙ row_kept l.org l.object q t one.object id one.there;
+      may = may_be laws q t l one s.sound s.plan id key.0 (of_object l.object (record_at t id)) refl;
+      reads = read_be laws q t l one s.sound s.plan id (of_object l.object (record_at t id)) refl;
     }
-  where
-    may_be : (one : IsOf p w l) → IsSound one.tenant → FitsPlan (p.org l.org) one.tenant → (x : Option Record) → of_object l.object (record_at one.tenant id) ≡ x
-        → MayStandAt data_form (l.org, (l.object, id)) (option_map (row_in_plan l.org (p.org l.org) one.tenant l.object one.object) x)
-    may_be one sound plan None e = tt
-    may_be one sound plan (Some r) e =
-        let f = found_of one.tenant l.object id r (record_at one.tenant id) refl e in
-        (ap (λ (i : List ℕ). (l.org, (l.object, i))) f.same, laws.fits l.org l.object (p.org l.org) one.tenant one.object r key.0 sound plan one.there f.has f.of)
-
-    read_be : (one : IsOf p w l) → IsSound one.tenant → FitsPlan (p.org l.org) one.tenant → (x : Option Record) → of_object l.object (record_at one.tenant id) ≡ x
-        → IfSome x (λ r. record_from l (row_in_plan l.org (p.org l.org) one.tenant l.object one.object r) ≡ Some r)
-    read_be one sound plan None e = tt
-    read_be one sound plan (Some r) e =
-        let f = found_of one.tenant l.object id r (record_at one.tenant id) refl e in
-        subst (λ (k : Layout). record_from k (row_in_plan l.org (p.org l.org) one.tenant l.object one.object r) ≡ Some r) one.made
-        (laws.read l.org l.object (p.org l.org) one.tenant one.object r sound plan one.there f.has f.of)

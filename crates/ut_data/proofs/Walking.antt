@@ -1,15 +1,14 @@
 -- What a page of an object's rows gives is its records, from an id on.
-use Rattle.std.proofs.Common.{◌≡◌, ℕ, zero, suc, ◌<◌, ◌≤◌, ◌-◌, ◌^◌, false, IsTrue, List, [], ◌∷◌, ◌++◌, length, map, take, Option, Some, None, refl, sym, ap, subst, ◌∙◌, inl, inr, arith}
+use Rattle.std.proofs.Common.{◌≡◌, ℕ, zero, suc, ◌<◌, ◌≤◌, ◌^◌, false, true, IsTrue, List, [], ◌∷◌, ◌++◌, length, map, take, Option, Some, None, refl, sym, ap, subst, ◌∙◌, inl, inr, arith}
 use Rattle.std.specs.Prelude.{◌==◌, IfSome, IsSome, Result, Ok, Err, Vec}
 use Rattle.std.specs.Option.{option_map}
 use Rattle.std.proofs.lemmas.List.{take-map}
-use Rattle.std.proofs.lemmas.Option.{slice_get_within}
 use Rattle.ut_value.specs.Causes.{GivesOr}
 use Rattle.ut_value.specs.Id.{is_id}
 use Rattle.ut_keeper.specs.declared.keeper.KeptRow.{KeptRow}
 use Rattle.ut_keeper.specs.Prefixes.{raised}
 use Rattle.ut_keeper.specs.State.{seen}
-use Rattle.ut_keeper.specs.Tables.{Tables}
+use Rattle.ut_keeper.specs.Tables.{Tables, is_between, rows_between}
 use Rattle.ut_keys.specs.declared.data.DataRow.{DataRow}
 use Rattle.ut_keys.specs.declared.fail.StoreFail.{StoreFail}
 use Rattle.ut_keys.specs.declared.fail.StoreFail.TheVariants.{Keeper, Memory, Damaged}
@@ -20,37 +19,34 @@ use Rattle.ut_keys.specs.Rows.{data_form}
 use Rattle.ut_model.specs.declared.record.Record.{Record}
 use Rattle.ut_model.specs.Membership.{Has}
 use Rattle.ut_model.specs.Tenant.{Tenant}
-use Rattle.ut_model.specs.World.{World, tenant_at}
-use Rattle.ut_parts.specs.Plain.{number32}
+use Rattle.ut_parts.specs.Plain.{number16, number32}
 use Rattle.ut_stands.specs.declared.layout.Layout.{Layout}
 use Rattle.ut_stands.specs.Layouts.{FindsOf, IsLayout, records_after}
-use Rattle.ut_stands.specs.Plan.{Plan}
-use Rattle.ut_stands.specs.Stands.{StandsBy, row_at}
+use Rattle.ut_stands.specs.Local.{StandsIn, is_under, part_of, rows_alone}
+use Rattle.ut_stands.specs.Plan.{OrgPlan}
+use Rattle.ut_stands.proofs.LayoutReads.{ListedIn}
+use Rattle.ut_stands.proofs.MetadataLists.{PrefixEnds}
+use Rattle.ut_stands.proofs.Pages.{GivesRows, PageLaws, page_gives}
 use Rattle.ut_data.specs.Decoding.{each_from, has_types, record_from}
 use Rattle.ut_data.specs.inner.Found.{listed_from}
-use Rattle.ut_data.proofs.Listed.{KeyLaws, key_at, member, plan, prefix_of, row_of, rows_listed, sound, those}
+use Rattle.ut_data.proofs.Listed.{KeyLaws, begins_so, key_at, member, prefix_of, row_of, rows_listed, those}
 use Rattle.ut_data.proofs.Loading.{err_is, no_ok, ok_is}
-use Rattle.ut_data.proofs.Pages.{GivesRows, PageLaws, page_gives}
 use Rattle.ut_data.proofs.RecordFits.{MakesIds, record_is_id}
 use Rattle.ut_data.proofs.Rising.{has_take}
 use Rattle.ut_data.proofs.Standing.{Laws, layout_is}
 
--- there is a key above those that begin with an organisation's number, as `ut_keys` says
-abbrev pub PrefixEnds : Type 0
-PrefixEnds = (org : ℕ) (rest : List ℕ) → org < 2 ^ 32 - 1 → IsSome (raised (number32 org ++ rest))
+-- the keys of an interval that begins with the organisation's number are under it, as `local_laws` says
+abbrev pub UnderNumber : Type 0
+UnderNumber = (n : ℕ) (rest above key : List ℕ) → raised (number32 n ++ rest) ≡ Some above → IsTrue (is_between (number32 n ++ rest) above key) → is_under (number32 n) key ≡ true
 
 pub record WalkLaws : Type 0 where
   pub laws : Laws
   pub keys : KeyLaws
-  pub pages : PageLaws
+  pub pages : PageLaws data_form
   pub makes : MakesIds
   pub ends : PrefixEnds
-
-known_org : (p : Plan) (m : Tables) (w : World) (org : ℕ) (t : Tenant) → StandsBy p m w → tenant_at w org ≡ Some t → org < 2 ^ 32 - 1
-known_org p m w zero t s e = absurd cc
-known_org p m w (suc n) t s e =
-    let there : n < length w = slice_get_within w n t e in
-    omega (arith, there, s.world.few)
+  pub under : UnderNumber
+  pub listed : ListedIn
 
 some_of : {X : Type 0} (o : Option X) → IsSome o → (x : X) × (o ≡ Some x)
 some_of None h = absurd cc
@@ -60,9 +56,9 @@ rows_read : (l : Layout) (row : Record → DataRow) (rs : List Record) → ((r :
 rows_read l row [] h = refl
 rows_read l row (r ∷ rs) h = rw (h r (inl refl), rows_read l row rs (λ x has. h x (inr has))) refl
 
-after_is : (org n : ℕ) (after : Option (List ℕ)) (limit : ℕ) (w : World) (t : Tenant) → tenant_at w org ≡ Some t → records_after org n after limit w ≡ take limit (those t n after)
+after_is : (n : ℕ) (after : Option (List ℕ)) (limit : ℕ) (t : Tenant) → records_after n after limit t ≡ take limit (those t n after)
 unfolding records_after
-after_is org n after limit w t at = rw at refl
+after_is n after limit t = refl
 
 -- by a layout whose types aren't within their bounds no row spells a record
 pub none_typed : (l : Layout) (rows : List DataRow) → has_types l ≡ false → (length rows == 0) ≡ false → each_from (record_from l) rows ≡ None
@@ -94,53 +90,59 @@ few_seen limit kept (Ok rows) e =
     omega (arith, same, short_take limit kept)
 few_seen limit kept (Err f) e = omega arith
 
--- what stands in the tables of a world: the records, and that they are read
-record Walked (A : Type 0) (w : World) (l : Layout) (after : Option (List ℕ)) (limit : ℕ) (rows : Result (Vec DataRow A) StoreFail) : Type 0 where
+-- what is in the tables: the records, and that they are read
+record Walked (A : Type 0) (t : Tenant) (l : Layout) (after : Option (List ℕ)) (limit : ℕ) (rows : Result (Vec DataRow A) StoreFail) : Type 0 where
   listed : List Record
-  is : records_after l.org l.object after limit w ≡ listed
+  is : records_after l.object after limit t ≡ listed
   row : Record → DataRow
   reads : each_from (record_from l) (map row listed) ≡ Some listed
   gives : GivesRows (map row listed) rows
 
 module _ {A : Type 0} (walk : WalkLaws) (m : Tables) (l : Layout) (after : Option (List ℕ)) (limit : ℕ) (lo : l.org < 2 ^ 32) (small : l.object < 2 ^ 16) (ha : IfSome after (λ j. IsTrue (is_id j))) (rows : Result (Vec DataRow A) StoreFail)
     (e : ListsAs data_form (take limit (rows_to m 7 (start_of (prefix_of l.org l.object) (option_map (key_at l.org l.object) after)) (raised (prefix_of l.org l.object)))) rows) where
-  walked : (p : Plan) (w : World) → StandsBy p m w → IsLayout p w l → Walked A w l after limit rows
-  walked p w s h =
-      let one = layout_is p w l h in
-      let ids = record_is_id walk.makes in
-      let row = row_of walk.laws walk.keys ids p m w s l one lo small in
-      let (above, rises) = some_of (raised (prefix_of l.org l.object)) (walk.ends l.org _ (known_org p m w l.org one.tenant s one.at)) in
-      let all = those one.tenant l.object after in
-      let lists = rows_listed walk.laws walk.keys ids p m w s l one lo small above rises after ha in
-      let from = start_of (prefix_of l.org l.object) (option_map (key_at l.org l.object) after) in
-      let page = subst (λ (o : Option (List ℕ)). ListsAs data_form (take limit (rows_to m 7 from o)) rows) rises e in
+  abbrev from : List ℕ
+  from = start_of (prefix_of l.org l.object) (option_map (key_at l.org l.object) after)
+
+  walked : (q : OrgPlan) (t : Tenant) → StandsIn l.org q m (Some t) → IsLayout q t l → Walked A t l after limit rows
+  walked q t s h =
+      let one = layout_is q t l h in
+      let ids : (r : Record) → Has t.records r → IsTrue (is_id r.id) = λ r has. record_is_id walk.makes t r s.sound has in
+      let row = row_of walk.laws walk.keys q t l one s.sound s.plan ids lo small in
+      let (above, rises) = some_of (raised (prefix_of l.org l.object)) (walk.ends l.org (number16 l.object) s.number) in
+      let all = those t l.object after in
+      let lists = rows_listed walk.laws walk.keys q t l one s.sound s.plan ids lo small above rises after ha in
+      let begins = begins_so walk.laws walk.keys q t l one s.sound s.plan ids lo small above rises after in
+      let part : rows_between m 7 from above ≡ rows_between (part_of l.org m) 7 from above =
+      walk.listed m l.org 7 from above (λ key inside. walk.under l.org (number16 l.object) above key rises (begins key ha inside)) in
+      let found = subst (λ (o : Option (List ℕ)). ListsAs data_form (take limit (rows_to m 7 from o)) rows) rises e in
+      let page = subst (λ (kept : List KeptRow). ListsAs data_form (take limit kept) rows) part found in
       record {
         listed = take limit all;
-        is = after_is l.org l.object after limit w one.tenant one.at;
+        is = after_is l.object after limit t;
         row = row;
         reads = rows_read l row (take limit all) (λ r has.
-            let (here, of, past) = member walk.laws walk.keys ids p m w s l one lo small after r (has_take limit all r has) in
+            let (here, of, past) = member walk.laws walk.keys q t l one s.sound s.plan ids lo small after r (has_take limit all r has) in
             subst (λ (k : Layout). record_from k (row r) ≡ Some r) one.made
-            (walk.laws.read l.org l.object (p.org l.org) one.tenant one.object r (sound walk.laws walk.keys ids p m w s l one lo small) (plan walk.laws walk.keys ids p m w s l one lo small) one.there here of));
-        gives = subst (λ (us : List DataRow). GivesRows us rows) (take-map row limit all) (page_gives walk.pages m (row_at p w) s.rows from (Some above) (map row all) limit lists rows page);
+            (walk.laws.read l.org l.object q t one.object r s.sound s.plan one.there here of));
+        gives = subst (λ (us : List DataRow). GivesRows us rows) (take-map row limit all) (page_gives data_form walk.pages (part_of l.org m) (rows_alone l.org q (Some t)) s.rows from (Some above) (map row all) limit lists rows page);
       }
 
-  given : (w : World) (k : Walked A w l after limit rows) (v : Vec DataRow A) → rows ≡ Ok v → v.items ≡ map k.row k.listed → listed_from l rows ≡ Ok k.listed
-  given w k v is same = rw (is, same, k.reads) refl
+  given : (t : Tenant) (k : Walked A t l after limit rows) (v : Vec DataRow A) → rows ≡ Ok v → v.items ≡ map k.row k.listed → listed_from l rows ≡ Ok k.listed
+  given t k v is same = rw (is, same, k.reads) refl
 
-  found_ok : (w : World) (k : Walked A w l after limit rows) (x : List Record) → (r : Result (Vec DataRow A) StoreFail) → rows ≡ r → listed_from l r ≡ Ok x → x ≡ records_after l.org l.object after limit w
-  found_ok w k x (Ok v) is g = ok_is x k.listed (sym g ∙ ap (listed_from l) (sym is) ∙ given w k v is (subst (GivesRows (map k.row k.listed)) is k.gives)) ∙ sym k.is
-  found_ok w k x (Err f) is g = absurd (no_ok x f g)
+  found_ok : (t : Tenant) (k : Walked A t l after limit rows) (x : List Record) → (r : Result (Vec DataRow A) StoreFail) → rows ≡ r → listed_from l r ≡ Ok x → x ≡ records_after l.object after limit t
+  found_ok t k x (Ok v) is g = ok_is x k.listed (sym g ∙ ap (listed_from l) (sym is) ∙ given t k v is (subst (GivesRows (map k.row k.listed)) is k.gives)) ∙ sym k.is
+  found_ok t k x (Err f) is g = absurd (no_ok x f g)
 
-  found_damaged : (w : World) (k : Walked A w l after limit rows) → (r : Result (Vec DataRow A) StoreFail) → rows ≡ r → listed_from l r ≡ Err Damaged → ⊥
-  found_damaged w k (Ok v) is g = no_ok k.listed Damaged (sym g ∙ ap (listed_from l) (sym is) ∙ given w k v is (subst (GivesRows (map k.row k.listed)) is k.gives))
-  found_damaged w k (Err Damaged) is g = subst (GivesRows (map k.row k.listed)) is k.gives
-  found_damaged w k (Err Keeper) is g = absurd (cc (err_is Keeper Damaged g))
-  found_damaged w k (Err Memory) is g = absurd (cc (err_is Memory Damaged g))
+  found_damaged : (t : Tenant) (k : Walked A t l after limit rows) → (r : Result (Vec DataRow A) StoreFail) → rows ≡ r → listed_from l r ≡ Err Damaged → ⊥
+  found_damaged t k (Ok v) is g = no_ok k.listed Damaged (sym g ∙ ap (listed_from l) (sym is) ∙ given t k v is (subst (GivesRows (map k.row k.listed)) is k.gives))
+  found_damaged t k (Err Damaged) is g = subst (GivesRows (map k.row k.listed)) is k.gives
+  found_damaged t k (Err Keeper) is g = absurd (cc (err_is Keeper Damaged g))
+  found_damaged t k (Err Memory) is g = absurd (cc (err_is Memory Damaged g))
 
-  pub walk_finds : (result : Result (List Record) StoreFail) → GivesOr Memory (listed_from l rows) result → FindsOf l (records_after l.org l.object after limit) m result
-  walk_finds (Ok x) g = λ p w s h. found_ok w (walked p w s h) x rows refl g
+  pub walk_finds : (result : Result (List Record) StoreFail) → GivesOr Memory (listed_from l rows) result → FindsOf l (records_after l.object after limit) m result
+  walk_finds (Ok x) g = λ q t s h. found_ok t (walked q t s h) x rows refl g
   walk_finds (Err Keeper) g = tt
   walk_finds (Err Memory) g = tt
   walk_finds (Err Damaged) (inl e) = absurd cc
-  walk_finds (Err Damaged) (inr g) = λ p w s h. found_damaged w (walked p w s h) rows refl g
+  walk_finds (Err Damaged) (inr g) = λ q t s h. found_damaged t (walked q t s h) rows refl g

@@ -1,13 +1,8 @@
-ghost use Rattle.std.specs.Prelude.{◌≡◌, ◌<◌, ◌^◌, ℕ, IsTrue, List, Option, Some, None, true};
+ghost use Rattle.std.specs.Prelude.{◌≡◌, ◌<◌, ◌^◌, ℕ, IsTrue, Some, None, true};
 ghost use Rattle.std.specs.List.{list_all};
 ghost use Rattle.ut_data.specs.Decoding.{has_types, kinds_in, record_from};
 ghost use Rattle.ut_data.specs.Encoding.{row_from};
-ghost use Rattle.ut_data.specs.Parts.{AllFit, HasRecords, IsBrokenAt, RecordRows, records_rows, set_at, with_records};
-ghost use Rattle.ut_keeper.specs.Tables.{Tables};
-ghost use Rattle.ut_keys.specs.declared.data.DataRow.{DataRow};
 ghost use Rattle.ut_keys.specs.Forms.{FitsForm};
-ghost use Rattle.ut_keys.specs.Keys.{Data, FitsKey, Key};
-ghost use Rattle.ut_keys.specs.Reads.{MayStandAt};
 ghost use Rattle.ut_keys.specs.Rows.{data_form};
 ghost use Rattle.ut_model.specs.declared.record.Record.{Record};
 ghost use Rattle.ut_model.specs.Jobs.{is_past};
@@ -16,16 +11,12 @@ ghost use Rattle.ut_model.specs.Objects.{Numbered, is_of, object_numbered};
 ghost use Rattle.ut_model.specs.Sound.{IsSound};
 ghost use Rattle.ut_model.specs.SoundRecords.{kinds_of};
 ghost use Rattle.ut_model.specs.Tenant.{Job, Object, Tenant};
-ghost use Rattle.ut_model.specs.World.{World, tenant_at};
 ghost use Rattle.ut_stands.specs.Entries.{data_of, slot_entry};
 ghost use Rattle.ut_stands.specs.Layouts.{job_on, layout_of};
-ghost use Rattle.ut_stands.specs.Plan.{FitsPlan, OrgPlan, Plan};
-ghost use Rattle.ut_stands.specs.Stands.{StandsBy, row_at, rows_with};
+ghost use Rattle.ut_stands.specs.Plan.{FitsPlan, OrgPlan};
 ghost use Rattle.ut_value.specs.Printing.{is_printable};
 ghost use Rattle.ut_value.specs.declared.job.Phase.TheVariants as phase;
 
-use ut_keys::table_laws;
-use ut_stands::stands_laws;
 use ut_value::{id_laws, value_laws};
 
 /// The laws of the rows of records. The call does nothing.
@@ -66,32 +57,4 @@ pub fn data_laws()
 {
     value_laws();
     id_laws();
-}
-
-/// The laws of tables in parts. The call does nothing.
-pub fn part_laws()
-    // Tables that stand for a world have the rows of an object's records, and beside them the rest of the world's.
-    ensures parts { (p : Plan) (m : Tables) (w : World) (org n : ℕ) (t : Tenant)
-        → StandsBy p m w → tenant_at w org ≡ Some t → HasRecords org n (records_rows org n (p.org org) t) (row_at p w) m }
-
-    // So it is with the rows once an organisation is this tenant.
-    ensures joined { (org n : ℕ) (p : OrgPlan) (t : Tenant) (rows : Key → Option (List ℕ)) (k : Key)
-        → rows_with org p t rows k ≡ with_records org n (records_rows org n p t) (rows_with org p t rows) k }
-
-    // The rows of a sound tenant's records have spellings.
-    ensures fit { (org n : ℕ) (p : OrgPlan) (t : Tenant)
-        → org < 2 ^ 32 → IsSound t → FitsPlan p t → AllFit org n (records_rows org n p t) }
-
-    // So they have once there is such a row for an id, or none.
-    ensures set { (org n : ℕ) (id : List ℕ) (row : Option DataRow) (rows : RecordRows)
-        → MayStandAt data_form (org, (n, id)) row → AllFit org n rows → AllFit org n (set_at id row rows) }
-
-    // Where tables have a row of a record that has a spelling, or none, it isn't broken.
-    ensures whole { (org n : ℕ) (rows : RecordRows) (rest : Key → Option (List ℕ)) (m : Tables) (id : List ℕ)
-        → FitsKey (Data org n id) → MayStandAt data_form (org, (n, id)) (rows id) → HasRecords org n rows rest m
-        → IsBrokenAt org n id m → ⊥ }
-{
-    table_laws();
-    stands_laws();
-    data_laws();
 }

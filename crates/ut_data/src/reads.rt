@@ -1,13 +1,13 @@
 //! Reads of records.
 
-ghost use Rattle.std.specs.Prelude.{◌≡◌, ◌+◌, ◌++◌, IfSome, IsErrOf, IsTrue, is_ok, take};
+ghost use Rattle.std.specs.Prelude.{◌≡◌, ◌+◌, ◌++◌, IfSome, IsTrue, take};
 ghost use Rattle.std.specs.Option.{option_map};
 ghost use Rattle.ut_data.specs.Decoding.{each_from, has_types, record_from};
 ghost use Rattle.ut_data.specs.inner.Found.{found_from, listed_from};
-ghost use Rattle.ut_keeper.specs.Draft.{DraftReads, DraftTells, removals_of, state_of, tables_of};
+ghost use Rattle.ut_keeper.specs.Draft.{DraftTells, removals_of, tables_of};
 ghost use Rattle.ut_keeper.specs.Prefixes.{raised};
-ghost use Rattle.ut_keeper.specs.State.{KeeperCause, StaysAfter, seen};
-ghost use Rattle.ut_keys.specs.declared.fail.StoreFail.TheVariants.{Keeper, Memory};
+ghost use Rattle.ut_keeper.specs.State.{seen};
+ghost use Rattle.ut_keys.specs.declared.fail.StoreFail.TheVariants.{Memory};
 ghost use Rattle.ut_keys.specs.Keys.{record_key};
 ghost use Rattle.ut_keys.specs.Listings.{rows_to, start_of};
 ghost use Rattle.ut_keys.specs.Reads.{ListsAs};
@@ -15,6 +15,7 @@ ghost use Rattle.ut_keys.specs.Rows.{data_form};
 ghost use Rattle.ut_parts.specs.Plain.{number16, number32};
 ghost use Rattle.ut_parts.specs.Gives.{Gives, GivesBy};
 ghost use Rattle.ut_parts.specs.Shapes.{Both, FitsIn, Number16, Number32, spelled};
+ghost use Rattle.ut_stands.specs.Calls.{Calls, ended};
 ghost use Rattle.ut_stands.specs.Layouts.{FindsOf, record_in, records_after};
 ghost use Rattle.ut_value.specs.Causes.{GivesOr};
 ghost use Rattle.ut_value.specs.Id.{is_id};
@@ -22,15 +23,15 @@ ghost use Rattle.ut_value.specs.Id.{is_id};
 use crate::decoding::{has_types, record_of, record_within};
 use crate::laws::data_laws;
 use std::alloc::Global;
-use ut_keeper::{Draft, Keeper, draft_laws, walk_laws};
+use ut_keeper::{Draft, Keeper, draft_laws, key_laws, walk_laws};
 use ut_keys::{DataRow, StoreFail, listing_laws, page_under, row_at, row_laws, table_laws};
 use ut_model::Record;
 use ut_parts::{CodecFail, shape_laws};
-use ut_stands::{Layout, stands_laws};
+use ut_stands::{Layout, local_laws};
 use ut_value::{Id, Items, id_laws};
 
 // The key of a record's row.
-pub(crate) fn key_of(org: u32, object: u16, id: &Id) -> (u32, (u16, Id))
+fn key_of(org: u32, object: u16, id: &Id) -> (u32, (u16, Id))
     ensures is { result ≡ (org, (object, id.now)) }
     ensures fits { FitsIn record_key (org, (object, id.now)) }
 {
@@ -61,8 +62,8 @@ fn record_found(
 ///
 /// # Errors
 ///
-/// `Keeper` if the keeper failed, `Memory` if out of memory, `Damaged` never if the tables stand for a world and the layout is
-/// one of its.
+/// `Keeper` if the keeper failed, `Memory` if out of memory, `Damaged` never if the organisation's rows stand for a tenant whose
+/// layout it is.
 pub fn load_record<K: Keeper>(
     alloc: Global,
     draft: &mut Draft<'_, K>,
@@ -70,13 +71,12 @@ pub fn load_record<K: Keeper>(
     id: &Id,
 ) -> Result<Option<Record>, StoreFail>
     ensures finds { DraftTells K.state draft.old draft.new
-        → FindsOf layout.now (record_in layout.now.org layout.now.object id.now) (tables_of K.state draft.old) result }
-    ensures reads { DraftReads K.state 1 draft.old draft.new }
-    ensures stays { StaysAfter (is_ok result) (state_of K.state draft.old) (state_of K.state draft.new) }
-    ensures cause { KeeperCause (state_of K.state draft.old) (state_of K.state draft.new) (IsErrOf result Keeper) }
+        → FindsOf layout.now (record_in layout.now.object id.now) (tables_of K.state draft.old) result }
+    ensures calls { Calls K.state 1 (ended result) draft.old draft.new }
 {
+    key_laws();
     row_laws::<DataRow>();
-    stands_laws();
+    local_laws();
     data_laws();
     let key = key_of(layout.org, layout.object, id);
     let row = row_at::<DataRow, K>(alloc, draft, &key);
@@ -148,11 +148,8 @@ fn rows_after<K: Keeper>(
         → ListsAs data_form (take limit (rows_to (tables_of K.state draft.old) 7
         (start_of (number32 org ++ number16 object) (option_map (λ id. spelled record_key (org, (object, id.now))) after.entry))
         (raised (number32 org ++ number16 object)))) result }
-    ensures fits { FitsIn (Both Number32 Number16) (org, object) }
-    ensures ids { IfSome after.entry (λ id. IsTrue (is_id id.now)) }
-    ensures reads { DraftReads K.state (seen limit result + removals_of K.state 7 draft.old) draft.old draft.new }
-    ensures stays { StaysAfter (is_ok result) (state_of K.state draft.old) (state_of K.state draft.new) }
-    ensures cause { KeeperCause (state_of K.state draft.old) (state_of K.state draft.new) (IsErrOf result Keeper) }
+    ensures fits { FitsIn (Both Number32 Number16) (org, object) × IfSome after.entry (λ id. IsTrue (is_id id.now)) }
+    ensures calls { Calls K.state (seen limit result + removals_of K.state 7 draft.old) (ended result) draft.old draft.new }
 {
     match after {
         None => page_under(alloc, draft, &(org, object), None, limit),
@@ -167,8 +164,8 @@ fn rows_after<K: Keeper>(
 ///
 /// # Errors
 ///
-/// `Keeper` if the keeper failed, `Memory` if out of memory, `Damaged` never if the tables stand for a world and the layout is
-/// one of its.
+/// `Keeper` if the keeper failed, `Memory` if out of memory, `Damaged` never if the organisation's rows stand for a tenant whose
+/// layout it is.
 pub fn walk<K: Keeper>(
     alloc: Global,
     draft: &mut Draft<'_, K>,
@@ -177,11 +174,9 @@ pub fn walk<K: Keeper>(
     limit: usize,
 ) -> Result<Items<Record>, StoreFail>
     ensures finds { DraftTells K.state draft.old draft.new
-        → FindsOf layout.now (records_after layout.now.org layout.now.object (option_map (λ id. id.now) after.entry) limit)
+        → FindsOf layout.now (records_after layout.now.object (option_map (λ id. id.now) after.entry) limit)
         (tables_of K.state draft.old) result }
-    ensures reads { DraftReads K.state (limit + removals_of K.state 7 draft.old) draft.old draft.new }
-    ensures stays { StaysAfter (is_ok result) (state_of K.state draft.old) (state_of K.state draft.new) }
-    ensures cause { KeeperCause (state_of K.state draft.old) (state_of K.state draft.new) (IsErrOf result Keeper) }
+    ensures calls { Calls K.state (limit + removals_of K.state 7 draft.old) (ended result) draft.old draft.new }
 {
     listing_laws::<DataRow>();
     table_laws();
@@ -189,7 +184,7 @@ pub fn walk<K: Keeper>(
     walk_laws();
     draft_laws::<K>();
     id_laws();
-    stands_laws();
+    local_laws();
     data_laws();
     let rows = rows_after(alloc, draft, layout.org, layout.object, after, limit);
     records_found(alloc, layout, rows)

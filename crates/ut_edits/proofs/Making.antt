@@ -1,8 +1,9 @@
 -- Changes that are made, and what they make of the tables.
 use Rattle.std.proofs.Common.{◌≡◌, ◌∙◌, ◌≤◌, ◌<◌, ◌^◌, ℕ, ◌+◌, false, List, [], ◌∷◌, ◌++◌, map, Some, None, refl, sym, ap, subst, arith}
-use Rattle.std.specs.Prelude.{Result, Ok, Err, IsErrAnd, Vec}
+use Rattle.std.specs.Prelude.{Result, Ok, Err, IsErrAnd}
 use Rattle.std.specs.List.{AllByRecursion}
-use Rattle.ut_edits.specs.Edits.{ChangesIn, Edits, EditsAt, Judges, JudgesTo, Planned}
+use Rattle.ut_edits.specs.declared.decided.Decided.{Decided}
+use Rattle.ut_edits.specs.Edits.{ChangesIn, Decides, DecidesTo, EditsAt, MakesEdit, Planned}
 use Rattle.ut_edits.specs.Rows.{AreOf, gone_of, spelled}
 use Rattle.ut_keeper.specs.Tables.{Tables, after, after_change}
 use Rattle.ut_keeper.specs.declared.keeper.Change.{Change as Spelled}
@@ -10,7 +11,7 @@ use Rattle.ut_keys.specs.Keys.{Key}
 use Rattle.ut_model.specs.Paths.{Asked}
 use Rattle.ut_model.specs.Sound.{IsSound}
 use Rattle.ut_model.specs.Tenant.{Tenant}
-use Rattle.ut_model.specs.Verdict.{Verdict}
+use Rattle.ut_model.specs.Verdict.{Done, Verdict}
 use Rattle.ut_stands.specs.Changes.{Change, IsOf, is_changed, with_change, with_changes}
 use Rattle.ut_stands.specs.declared.fail.EditFail.{EditFail}
 use Rattle.ut_stands.specs.Local.{IsIn, KeepsOthers, StandsIn}
@@ -48,27 +49,27 @@ after_spelled (c ∷ cs) m = ap (after (map spelled cs)) (one c m) ∙ after_spe
 
 -- ---- edits
 
-module _ (edited : EditedIn) (kept : KeptIn) (org : ℕ) (lo : org < 2 ^ 32) (m then : Tables) (planned : Planned) {A : Type 0} where
-  changed_at : (q : OrgPlan) (t : Tenant) (v : Verdict) (x : Vec Spelled A) → StandsIn org q m (Some t) → JudgesTo {A = A} org q t v planned (Ok x) → then ≡ after x.items m → EditsAt org v (planned q t) then (Ok tt)
-  changed_at q t v x s (changes, spells, takes) made =
-      let is : then ≡ with_changes changes m = made ∙ ap (λ (xs : List Spelled). after xs m) spells ∙ after_spelled changes m in
+module _ {X : Type 0} (edited : EditedIn) (kept : KeptIn) (org : ℕ) (lo : org < 2 ^ 32) (m then : Tables) (answered : X → Done) (planned : Planned) where
+  changed_at : (q : OrgPlan) (t : Tenant) (v : Verdict) (x : Decided X) → StandsIn org q m (Some t) → DecidesTo org q t v answered planned (Ok x) → then ≡ after x.changes.items m → EditsAt org v answered (planned q t) then (Ok x.answer)
+  changed_at q t v x s (changes, spelt, takes) made =
+      let is : then ≡ with_changes changes m = made ∙ ap (λ (xs : List Spelled). after xs m) spelt ∙ after_spelled changes m in
       (takes.answer, (takes.plan, takes.kept, subst (λ (z : Tables). StandsIn org takes.plan z (Some v.tenant)) (sym is) (edited m org t v.tenant q takes.plan changes lo s takes.sound takes.fits takes.are takes.rest)))
 
-  others_at : (x : Vec Spelled A) → AreOf org x.items → then ≡ after x.items m → KeepsOthers org m then
-  others_at x (changes, spells, are) made =
-      subst (KeepsOthers org m) (sym (made ∙ ap (λ (xs : List Spelled). after xs m) spells ∙ after_spelled changes m)) (kept m org changes lo are)
+  others_at : (x : Decided X) → AreOf org x.changes.items → then ≡ after x.changes.items m → KeepsOthers org m then
+  others_at x (changes, spelt, are) made =
+      subst (KeepsOthers org m) (sym (made ∙ ap (λ (xs : List Spelled). after xs m) spelt ∙ after_spelled changes m)) (kept m org changes lo are)
 
   -- an edit that is judged, once its changes are made
-  pub edit_made : (verdict : Asked → Verdict) (fit : _) (r : Result (Vec Spelled A) EditFail) (x : Vec Spelled A) → r ≡ Ok x → Judges org verdict planned fit m r → then ≡ after x.items m → Edits org verdict planned fit m then (Ok tt)
+  pub edit_made : (verdict : Asked → Verdict) (fit : _) (r : Result (Decided X) EditFail) (x : Decided X) → r ≡ Ok x → Decides org verdict answered planned fit m r → then ≡ after x.changes.items m → MakesEdit org verdict answered planned fit m then (Ok x.answer)
   edit_made verdict fit r x was h made = record {
     others = others_at x (subst (ChangesIn org) was h.own) made;
-    edited = λ q a s f. changed_at q a.tenant (verdict a) x s (subst (JudgesTo org q a.tenant (verdict a) planned) was (h.judged q a s f)) made;
+    edited = λ q a s f. changed_at q a.tenant (verdict a) x s (subst (DecidesTo org q a.tenant (verdict a) answered planned) was (h.decided q a s f)) made;
   }
 
   -- one that is refused or fails, passed on by a `?`
-  pub edit_passed : (verdict : Asked → Verdict) (fit : _) (r : Result (Vec Spelled A) EditFail) (e : EditFail) (out : Result (Unit {0}) EditFail) → r ≡ Err e → IsErrAnd out (λ y. y ≡ e) → Judges org verdict planned fit m r → Edits org verdict planned fit m then out
+  pub edit_passed : (verdict : Asked → Verdict) (fit : _) (r : Result (Decided X) EditFail) (e : EditFail) (out : Result X EditFail) → r ≡ Err e → IsErrAnd out (λ y. y ≡ e) → Decides org verdict answered planned fit m r → MakesEdit org verdict answered planned fit m then out
   edit_passed verdict fit r e (Ok x) was passed h = absurd passed
-  edit_passed verdict fit r e (Err y) was passed h = subst (λ (z : EditFail). Edits org verdict planned fit m then (Err z)) (sym passed) (record {
+  edit_passed verdict fit r e (Err y) was passed h = subst (λ (z : EditFail). MakesEdit org verdict answered planned fit m then (Err z)) (sym passed) (record {
     others = tt;
-    edited = λ q a s f. subst (JudgesTo org q a.tenant (verdict a) planned) was (h.judged q a s f);
+    edited = λ q a s f. subst (DecidesTo org q a.tenant (verdict a) answered planned) was (h.decided q a s f);
   })

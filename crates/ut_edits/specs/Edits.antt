@@ -1,18 +1,22 @@
--- An edit as data: judged, it is refused, or it is these changes of rows.
-use Rattle.std.specs.Prelude.{◌≡◌, ◌≢◌, ℕ, Bool, false, IsTrue, List, Some, Result, Ok, Err, Vec}
+-- An edit as data: judged, it is refused, or it is an answer and changes of rows.
+use Rattle.std.specs.Prelude.{◌≡◌, ◌≢◌, ◌<◌, ℕ, Bool, false, IfErr, IsTrue, List, OnOk, Some, Result, Ok, Err}
 use Rattle.std.specs.List.{AllByRecursion}
-use Rattle.ut_edits.specs.Rows.{AreOf, Spells}
-use Rattle.ut_keeper.specs.declared.keeper.Change.{Change as Spelled}
+use Rattle.ut_edits.specs.declared.decided.Decided.{Decided}
+use Rattle.ut_edits.specs.Rows.{AreOf, AreSpelled}
+use Rattle.ut_keeper.specs.Draft.{DraftReads, Held, count_of}
+use Rattle.ut_keeper.specs.State.{KeeperState}
 use Rattle.ut_keeper.specs.Tables.{Tables}
 use Rattle.ut_keys.specs.declared.fail.StoreFail.TheVariants.{Damaged}
 use Rattle.ut_keys.specs.Keys.{Key}
 use Rattle.ut_model.specs.Paths.{Asked}
 use Rattle.ut_model.specs.Sound.{IsSound}
 use Rattle.ut_model.specs.Tenant.{Tenant}
-use Rattle.ut_model.specs.Verdict.{Verdict, done}
+use Rattle.ut_model.specs.Verdict.{Done, Verdict}
+use Rattle.ut_stands.specs.Calls.{Makes, ended_edit}
 use Rattle.ut_stands.specs.Changes.{Change, IsOf, is_changed}
 use Rattle.ut_stands.specs.declared.fail.EditFail.{EditFail}
 use Rattle.ut_stands.specs.declared.fail.EditFail.TheVariants.{Refused, Store}
+use Rattle.ut_stands.specs.Fails.{IsRefusal}
 use Rattle.ut_stands.specs.Local.{KeepsOthers, StandsIn}
 use Rattle.ut_stands.specs.Plan.{FitsPlan, OrgPlan}
 use Rattle.ut_stands.specs.Stands.{org_of_key, row_in}
@@ -23,9 +27,10 @@ use Rattle.ut_stands.specs.Stands.{org_of_key, row_in}
 abbrev pub Planned : Type 1
 Planned = OrgPlan → Tenant → OrgPlan → Type 0
 
--- by these changes the rows of the tenant t, kept by the plan q, become those of the tenant that the verdict leaves
-pub record Takes (org : ℕ) (q : OrgPlan) (t : Tenant) (v : Verdict) (planned : Planned) (changes : List Change) : Type 0 where
-  pub answer : v.answer ≡ Ok done
+-- the verdict answers this; and by these changes the rows of the tenant t, kept by the plan q, become those of the tenant that
+-- the verdict leaves
+pub record Takes (org : ℕ) (q : OrgPlan) (t : Tenant) (v : Verdict) (answered : Done) (planned : Planned) (changes : List Change) : Type 0 where
+  pub answer : v.answer ≡ Ok answered
   pub sound : IsSound v.tenant
   pub plan : OrgPlan
   pub kept : planned q t plan
@@ -38,37 +43,45 @@ abbrev pub FailsBy : Verdict → EditFail → Type 0
 FailsBy v (Refused r) = v.answer ≡ Err r
 FailsBy v (Store e) = e ≢ Damaged
 
--- what judging comes to in the organisation with this number: the changes, or why there are none
-abbrev pub JudgesTo : {A : Type 0} → (org : ℕ) → OrgPlan → Tenant → Verdict → Planned → Result (Vec Spelled A) EditFail → Type 0
-JudgesTo org q t v planned (Ok x) = (changes : List Change) × Spells changes x.items × Takes org q t v planned changes
-JudgesTo org q t v planned (Err e) = FailsBy v e
+-- what judging comes to in the organisation with this number: what is answered and the changes, or why there are none.
+-- `answered` is what the verdict calls an answer
+abbrev pub DecidesTo : {X : Type 0} → (org : ℕ) → OrgPlan → Tenant → Verdict → (answered : X → Done) → Planned → Result (Decided X) EditFail → Type 0
+DecidesTo org q t v answered planned (Ok x) = (changes : List Change) × AreSpelled changes x.changes.items × Takes org q t v (answered x.answer) planned changes
+DecidesTo org q t v answered planned (Err e) = FailsBy v e
 
 -- the changes, if there are any, are at keys of the organisation
-abbrev pub ChangesIn : {A : Type 0} → (org : ℕ) → Result (Vec Spelled A) EditFail → Type 0
-ChangesIn org (Ok x) = AreOf org x.items
+abbrev pub ChangesIn : {X : Type 0} → (org : ℕ) → Result (Decided X) EditFail → Type 0
+ChangesIn org (Ok x) = AreOf org x.changes.items
 ChangesIn org (Err e) = Unit {0}
 
 -- judged over these tables: whatever they have, only the organisation's rows are changed; and where these stand for the
 -- tenant of who asks, it comes to the verdict
-pub record Judges {A : Type 0} (org : ℕ) (verdict : Asked → Verdict) (planned : Planned) (fit : Bool) (m : Tables) (result : Result (Vec Spelled A) EditFail) : Type 0 where
+pub record Decides {X : Type 0} (org : ℕ) (verdict : Asked → Verdict) (answered : X → Done) (planned : Planned) (fit : Bool) (m : Tables) (result : Result (Decided X) EditFail) : Type 0 where
   pub own : ChangesIn org result
-  pub judged : (q : OrgPlan) (a : Asked) → StandsIn org q m (Some a.tenant) → IsTrue fit → JudgesTo org q a.tenant (verdict a) planned result
+  pub decided : (q : OrgPlan) (a : Asked) → StandsIn org q m (Some a.tenant) → IsTrue fit → DecidesTo org q a.tenant (verdict a) answered planned result
 
 -- ---- making
 
--- an edit in the organisation with this number: it is done, and its rows then stand for what the verdict leaves, by such a
--- plan; or it is refused as the verdict says
-abbrev pub EditsAt : (org : ℕ) → Verdict → (OrgPlan → Type 0) → Tables → Result (Unit {0}) EditFail → Type 0
-EditsAt org v planned after (Ok x) = (v.answer ≡ Ok done) × ((q : OrgPlan) × planned q × StandsIn org q after (Some v.tenant))
-EditsAt org v planned after (Err e) = FailsBy v e
+-- an edit in the organisation with this number: it answers what the verdict answers, and the rows then stand for what the
+-- verdict leaves, by such a plan; or it is refused as the verdict says
+abbrev pub EditsAt : {X : Type 0} → (org : ℕ) → Verdict → (answered : X → Done) → (OrgPlan → Type 0) → Tables → Result X EditFail → Type 0
+EditsAt org v answered planned after (Ok x) = (v.answer ≡ Ok (answered x)) × ((q : OrgPlan) × planned q × StandsIn org q after (Some v.tenant))
+EditsAt org v answered planned after (Err e) = FailsBy v e
 
 -- no row of others changes where it is done
-abbrev pub OthersStay : (org : ℕ) → Tables → Tables → Result (Unit {0}) EditFail → Type 0
+abbrev pub OthersStay : {X : Type 0} → (org : ℕ) → Tables → Tables → Result X EditFail → Type 0
 OthersStay org m after (Ok x) = KeepsOthers org m after
 OthersStay org m after (Err e) = Unit {0}
 
 -- made over these tables, of which those came: whatever they have, no row of others changes; and where the organisation's
 -- rows stand for the tenant of who asks, it comes to the verdict
-pub record Edits (org : ℕ) (verdict : Asked → Verdict) (planned : Planned) (fit : Bool) (m after : Tables) (result : Result (Unit {0}) EditFail) : Type 0 where
+pub record MakesEdit {X : Type 0} (org : ℕ) (verdict : Asked → Verdict) (answered : X → Done) (planned : Planned) (fit : Bool) (m after : Tables) (result : Result X EditFail) : Type 0 where
   pub others : OthersStay org m after result
-  pub edited : (q : OrgPlan) (a : Asked) → StandsIn org q m (Some a.tenant) → IsTrue fit → EditsAt org (verdict a) (planned q a.tenant) after result
+  pub edited : (q : OrgPlan) (a : Asked) → StandsIn org q m (Some a.tenant) → IsTrue fit → EditsAt org (verdict a) answered (planned q a.tenant) after result
+
+module _ {K X : Type 0} (state : K → KeeperState) where
+  -- what it leaves of a draft: its changes are at most so many; there are some if it is done, and none if it is refused
+  pub record DraftsEdit (most gone : ℕ) (result : Result X EditFail) (old new : Held K) : Type 0 where
+    pub makes : Makes state most gone 0 (ended_edit result) old new
+    pub some : OnOk result (0 < count_of new)
+    pub refused : IfErr result (λ e. IsRefusal e → DraftReads state 0 old new)

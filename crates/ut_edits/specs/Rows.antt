@@ -23,8 +23,8 @@ abbrev pub spelled : Change → Spelled
 spelled c = spelled_at (spell c.0) c.1
 
 -- these are the changes, in bytes
-abbrev pub Spells : List Change → List Spelled → Type 0
-Spells changes bytes = bytes ≡ map spelled changes
+abbrev pub AreSpelled : List Change → List Spelled → Type 0
+AreSpelled changes bytes = bytes ≡ map spelled changes
 
 -- the data rows that such changes remove at most
 abbrev pub gone_by : Spelled → ℕ
@@ -37,7 +37,7 @@ gone_of (c ∷ cs) = gone_by c + gone_of cs
 
 -- changes at keys of the organisation with this number
 abbrev pub AreOf : (org : ℕ) → List Spelled → Type 0
-AreOf n bytes = (changes : List Change) × Spells changes bytes × AllByRecursion (IsIn n) changes
+AreOf n bytes = (changes : List Change) × AreSpelled changes bytes × AllByRecursion (IsIn n) changes
 
 -- some changes, at most so many, which remove at most so many data rows
 pub record AreFew (at_most at_most_gone : ℕ) (bytes : List Spelled) : Type 0 where

@@ -1,15 +1,9 @@
 -- From the offsets of the parser to the head of the grammar.
-use Rattle.std.proofs.Common.{◌≡◌, ◌⊎◌, ℕ, ◌<◌, List, take, drop, map, Option, Some, Ok, Err, codes, refl, sym, ap, ◌∙◌, arith, subst, inl, inr}
+use Rattle.std.proofs.Common.{◌≡◌, ◌⊎◌, ℕ, List, take, drop, map, Option, Some, Ok, Err, codes, refl, sym, ap, ◌∙◌, arith, subst, inl, inr}
 use Rattle.std.proofs.lemmas.List.{length-take}
 use Rattle.std.specs.Str.{chars}
-use Rattle.std.specs.Str.{IsAscii}
-use Rattle.std.proofs.lemmas.Str.Ascii.{IsAscii-from_all}
-use Rattle.std.proofs.lemmas.Bool.Decides.{nat_tests}
-use Rattle.std.proofs.lemmas.List.Elements.{All-weaker}
-use Rattle.std.proofs.Common.{true}
-use Rattle.std.proofs.lemmas.Str.{IsUtf8-from_ascii}
 use Rattle.std.proofs.Common.{IsUtf8}
-use Rattle.httparse.specs.Grammar.{RequestHead, IsToken, is_token_byte}
+use Rattle.httparse.specs.Grammar.{RequestHead}
 use Rattle.httparse.specs.Spans.{IsRequestOf, IsRequestAt, header_bytes, span_bytes}
 use Rattle.httparse.specs.declared.spans.RequestSpans.{RequestSpans}
 use Rattle.httparse.specs.declared.spans.HeaderSpan.{HeaderSpan}
@@ -32,7 +26,7 @@ parts_of_head : (text : List ℕ) (lines : List HeaderSpan) (spans : RequestSpan
     → HeadIs (span_bytes text spans.method) (span_bytes text spans.path) (map (header_bytes text) (take spans.headers lines)) spans.version spans.len parts
     → IsHeadOf h parts
 parts_of_head text lines spans h parts at is = record {
-  method = is.method ∙ ap chars at.method;
+  method = is.method ∙ at.method;
   target = is.target ∙ ap chars at.path;
   bearer = is.bearer ∙ ap (λ ls. bearer (values_named (codes "authorization") ls)) at.fields;
   close = is.close ∙ ap (λ v. closes v (map (header_bytes text) (take spans.headers lines))) at.version ∙ ap (closes h.minor) at.fields;
@@ -65,17 +59,6 @@ refused_size bytes left lines spans e a (inl memory) = inl memory
 refused_size bytes left lines spans e (within, (h, at)) (inr size) =
     inr (inr (inr (h, (drop spans.len (window bytes), at.reads), sym (same_size (window bytes) lines spans h at) ∙ size)))
 
--- ---- the method and the target are text
-
-token_byte_is_ascii : (b : ℕ) → is_token_byte b ≡ true → b < 128
-unfolding is_token_byte
-token_byte_is_ascii b token = grind (arith, nat_tests)
-
-token_is_ascii : (bytes : List ℕ) → IsToken bytes → IsAscii bytes
-token_is_ascii bytes token = IsAscii-from_all bytes (All-weaker (λ b. is_token_byte b ≡ true) (λ b. b < 128) token_byte_is_ascii bytes token.1)
-
-pub method_is_text : (bytes : List ℕ) (lines : List HeaderSpan) (spans : RequestSpans) → IsRequestOf bytes lines spans → IsUtf8 (span_bytes bytes spans.method)
-method_is_text bytes lines spans (h, at) = subst IsUtf8 (sym at.method) (IsUtf8-from_ascii h.method (token_is_ascii h.method at.reads.0.method))
-
+-- the target is text
 pub target_is_text : (bytes : List ℕ) (lines : List HeaderSpan) (spans : RequestSpans) → IsRequestOf bytes lines spans → IsUtf8 (span_bytes bytes spans.path)
 target_is_text bytes lines spans (h, at) = subst IsUtf8 (sym at.path) at.reads.0.target_text

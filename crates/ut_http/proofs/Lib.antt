@@ -8,5 +8,4 @@ pub mod Unique
 pub mod Reading
 pub mod Callers
 pub mod Connections
-pub mod Methods
 pub mod Replies

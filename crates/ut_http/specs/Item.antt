@@ -37,7 +37,7 @@ size_of head = body_size head.method (lines_of head)
 -- the message of a head and its body
 abbrev pub message_of : RequestHead → List ℕ → HttpMessage
 message_of head body = record {
-  method = chars head.method;
+  method = head.method;
   target = chars head.target;
   bearer = bearer (values_named (codes "authorization") (lines_of head));
   body = body;

@@ -8,7 +8,7 @@ use Rattle.ut_http.specs.Item.{lines_of}
 
 -- the parts of a head with that method, target, lines, version and length
 pub record HeadIs (verb path : List ℕ) (lines : List (List ℕ × List ℕ)) (minor end : ℕ) (head : Head) : Type 0 where
-  pub method : head.method ≡ chars verb
+  pub method : head.method ≡ verb
   pub target : head.target ≡ chars path
   pub bearer : head.bearer ≡ bearer (values_named (codes "authorization") lines)
   pub close : head.close ≡ closes minor lines

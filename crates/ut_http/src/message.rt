@@ -1,9 +1,10 @@
+use http::Method;
 use ut_value::{Bytes, Text};
 
 /// A message of a connection.
 #[derive(Debug, Drop)]
 pub struct HttpMessage {
-    pub method: Text,
+    pub method: Method,
     /// The request target as it was spelled.
     pub target: Text,
     /// What follows `Bearer ` in the only Authorization line, where that is text.

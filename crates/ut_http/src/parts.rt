@@ -9,6 +9,7 @@ use crate::close::is_last;
 use crate::fail::HttpFail;
 use crate::framing::body_size;
 use crate::lines::{Found, find, is_same};
+use http::Method;
 use httparse::spans::{HeaderSpan, RequestSpans};
 use std::alloc::{AllocError, Global};
 use std::str::from_utf8;
@@ -17,7 +18,7 @@ use ut_value::Text;
 /// What a head says.
 #[derive(Drop)]
 pub(crate) struct Head {
-    pub(crate) method: Text,
+    pub(crate) method: Method,
     pub(crate) target: Text,
     pub(crate) bearer: Option<Text>,
     pub(crate) close: bool,
@@ -32,6 +33,16 @@ fn text_of(alloc: Global, bytes: &[u8]) -> Result<Text, AllocError>
     ensures { IfOk result (λ text. text ≡ chars bytes.now) }
 {
     Text::from_str(alloc, from_utf8(bytes).unwrap())
+}
+
+// The method of a head. Its bytes are a token, so the one error is to be out of memory.
+fn method_of(alloc: Global, bytes: &[u8]) -> Result<Method, AllocError>
+    ensures { IfOk result (λ method. method ≡ bytes.now) }
+{
+    match Method::from_bytes(alloc, bytes) {
+        Ok(method) => Ok(method),
+        Err(_) => Err(AllocError),
+    }
 }
 
 fn credentials(alloc: Global, value: &[u8]) -> Result<Option<Text>, AllocError>
@@ -64,7 +75,6 @@ pub(crate) fn parts(
     spans: &RequestSpans,
 ) -> Result<Head, HttpFail>
     requires within { IsRequestWithin text.now lines.now spans.now }
-    requires method { IsUtf8 (span_bytes text.now spans.now.method) }
     requires target { IsUtf8 (span_bytes text.now spans.now.path) }
     ensures ok { IfOk result (λ head. HeadIs (span_bytes text.now spans.now.method) (span_bytes text.now spans.now.path) (map (header_bytes text.now) (take spans.now.headers lines.now)) spans.now.version spans.now.len head) }
     ensures err { IfErr result (λ e. (e ≡ Memory) ⊎ (body_size (span_bytes text.now spans.now.method) (map (header_bytes text.now) (take spans.now.headers lines.now)) ≡ Err e)) }
@@ -72,7 +82,7 @@ pub(crate) fn parts(
     let size = body_size(text, lines, spans)?;
     let named = &lines[..spans.headers];
     Ok(Head {
-        method: text_of(alloc, spans.method.of(text))?,
+        method: method_of(alloc, spans.method.of(text))?,
         target: text_of(alloc, spans.path.of(text))?,
         bearer: bearer(alloc, text, named)?,
         close: is_last(text, named, spans.version),

@@ -4,9 +4,9 @@ ghost use Rattle.std.specs.String.{string_bytes};
 ghost use Rattle.http.specs.StatusCode.{reason_phrase};
 ghost use Rattle.ut_http.specs.Reply.{body_lines, close_line, is_head, no_memory, reply, reply_head, reply_to, store_failed};
 
-use http::StatusCode;
+use http::{Method, StatusCode};
 use std::alloc::{AllocError, Global};
-use ut_value::{Bytes, Text};
+use ut_value::Bytes;
 
 // The phrase of a status.
 fn phrase(status: StatusCode) -> &'static str
@@ -65,10 +65,10 @@ pub fn reply_bytes(
     Ok(Bytes::from_vec(bytes))
 }
 
-fn is_head(method: &Text) -> bool
+fn is_head(method: &Method) -> bool
     ensures { result ≡ is_head method.now }
 {
-    method.as_str() == "HEAD"
+    *method == Method::HEAD
 }
 
 /// The same as the reply to a message with this method: to HEAD its head alone.
@@ -78,7 +78,7 @@ fn is_head(method: &Text) -> bool
 /// When out of memory.
 pub fn reply_bytes_to(
     alloc: Global,
-    method: &Text,
+    method: &Method,
     status: StatusCode,
     body: &[u8],
     close: bool,
@@ -95,7 +95,7 @@ pub fn reply_bytes_to(
 }
 
 // What of a whole reply, whose body has so many bytes, goes to a message with this method.
-fn part_to(method: &Text, whole: &'static [u8], size: usize) -> &'static [u8]
+fn part_to(method: &Method, whole: &'static [u8], size: usize) -> &'static [u8]
     requires { size ≤ length whole.now }
     ensures { (head body : List ℕ) → whole.now ≡ head ++ body → length body ≡ size
         → result.now ≡ head ++ if◌then◌else◌ (is_head method.now) [] body }
@@ -119,7 +119,7 @@ fn unavailable(close: bool) -> &'static [u8]
 }
 
 /// The reply to a message with this method where the store failed. It takes no memory.
-pub fn unavailable_to(method: &Text, close: bool) -> &'static [u8]
+pub fn unavailable_to(method: &Method, close: bool) -> &'static [u8]
     ensures { result.now ≡ reply_to method.now 503 store_failed close }
 {
     part_to(method, unavailable(close), 65)
@@ -137,7 +137,7 @@ pub fn out_of_memory(close: bool) -> &'static [u8]
 }
 
 /// The reply to a message with this method when out of memory. It takes no memory.
-pub fn out_of_memory_to(method: &Text, close: bool) -> &'static [u8]
+pub fn out_of_memory_to(method: &Method, close: bool) -> &'static [u8]
     ensures { result.now ≡ reply_to method.now 507 no_memory close }
 {
     part_to(method, out_of_memory(close), 57)

@@ -2,11 +2,11 @@
 use Rattle.std.proofs.Common.{◌≡◌, ◌∙◌, ◌<◌, ◌^◌, ℕ, zero, suc, Bool, true, false, not, IsTrue, List, [], ◌∷◌, Option, Some, None, refl, sym, ap, subst}
 use Rattle.std.specs.Prelude.{Err, IsErrAnd, Ok, Result, slice_get}
 use Rattle.std.specs.Option.{option_map}
+use Rattle.ut_edits.proofs.Reading.{not_damaged, not_missed}
 use Rattle.ut_edits.specs.Edits.{FailsBy, Planned, Takes}
 use Rattle.ut_edits.specs.Rows.{change_to}
 use Rattle.ut_keeper.specs.Tables.{Tables}
 use Rattle.ut_keys.specs.declared.fail.StoreFail.{StoreFail}
-use Rattle.ut_keys.specs.declared.fail.StoreFail.TheVariants.{Damaged, Keeper, Memory}
 use Rattle.ut_keys.specs.declared.object.ObjectRow.{ObjectRow}
 use Rattle.ut_keys.specs.Forms.{FitsForm, row_bytes}
 use Rattle.ut_keys.specs.Keys as key
@@ -77,12 +77,7 @@ layout_seen m org name q t r found was h s = (org, q, subst (FindsIn org (own_la
 pub read_failed : {X : Type 0} (org : ℕ) (value : OrgPlan → Option Tenant → X) (m : Tables) (r : Result X StoreFail) (e : StoreFail) (t : Tenant) (name : List ℕ) (v : Verdict) (out : Result ℕ EditFail) (q : OrgPlan)
     → FindsIn org value m r → r ≡ Err e → IsErrAnd out (λ y. y ≡ of_store e) → StandsIn org q m (Some t) → AcceptsOn t name v out
 read_failed org value m r e t name v (Ok x) q h was passed s = absurd passed
-read_failed org value m r e t name v (Err y) q h was passed s = subst (λ (z : EditFail). AcceptsOn t name v (Err z)) (sym passed) (by e (subst (FindsIn org value m) was h))
-  where
-    by : (e : StoreFail) → FindsIn org value m (Err e) → e ≡ Damaged → ⊥
-    by Damaged h d = h q (Some t) s
-    by Keeper h d = absurd cc
-    by Memory h d = absurd cc
+read_failed org value m r e t name v (Err y) q h was passed s = subst (λ (z : EditFail). AcceptsOn t name v (Err z)) (sym passed) (not_damaged org q m t v r e was s value h)
 
 -- what judging found
 pub accepted_on : (t : Tenant) (name : List ℕ) (v : Verdict) (r : Result ℕ EditFail) (n : ℕ) → AcceptsOn t name v r → r ≡ Ok n → (None ≡ verdict_refusal v) × ((o : Numbered) × (object_named t name ≡ Some o) × (n ≡ o.number))
@@ -107,15 +102,7 @@ module _ (org : ℕ) (t : Tenant) (name : List ℕ) (n : ℕ) (m : Tables) (q : 
       record { numbered = on.0; there = on.1; is = some_is row (row_of_object org t on.0.number on.0.object) (found q (Some t) s ∙ its_row) }
 
   pub row_missed : (v : Verdict) (r : Result ObjectRow StoreFail) (e : StoreFail) → FindsThere org (own_object_row org n) m r → r ≡ Err e → FailsBy v (of_store e)
-  row_missed v r e h was = by e (subst (FindsThere org (own_object_row org n) m) was h)
-    where
-      absent : (x : ObjectRow) → ◌≡◌ {A = Option ObjectRow} (Some x) None → ⊥
-      absent x e = cc
-
-      by : (e : StoreFail) → FindsThere org (own_object_row org n) m (Err e) → e ≡ Damaged → ⊥
-      by Damaged h d = absent (row_of_object org t on.0.number on.0.object) (sym its_row ∙ h q (Some t) s)
-      by Keeper h d = absurd cc
-      by Memory h d = absurd cc
+  row_missed v r e h was = not_missed org q m t v r e was s (own_object_row org n) (row_of_object org t on.0.number on.0.object) its_row h
 
 -- ---- what is changed
 
@@ -127,7 +114,7 @@ pub access_takes : AccessRows → DescribedFits → ObjectFits → AccessSound
     → (org : ℕ) (t : Tenant) (name : List ℕ) (access : Access) (row : ObjectRow) (q : OrgPlan)
     → org < 2 ^ 32 → FitsPlan q t → IsSound t → by_parent access ≡ false → None ≡ verdict_refusal (set_access t name access)
     → HasRow org t name row
-    → Takes org q t (set_access t name access) SamePlan (change_to object_form (record row { access = access_of access }) ∷ [])
+    → Takes org q t (set_access t name access) done SamePlan (change_to object_form (record row { access = access_of access }) ∷ [])
 access_takes rows described fits sound org t name access row q small plan sound_t by_master free h =
     let o = h.numbered in
     let n = o.number in
@@ -138,7 +125,7 @@ access_takes rows described fits sound org t name access row q small plan sound_
     let is : v ≡ accept done u = accepted t name access o h.there free in
     let sound_u : IsSound u = subst IsSound (ap (λ (v : Verdict). v.tenant) is) (sound t name access by_master sound_t) in
     let next : ObjectRow = row_of_object org u n x in
-    let takes : Takes org q t (accept done u) SamePlan (change_to object_form next ∷ []) = record {
+    let takes : Takes org q t (accept done u) done SamePlan (change_to object_form next ∷ []) = record {
       answer = refl;
       sound = sound_u;
       plan = q;
@@ -147,8 +134,8 @@ access_takes rows described fits sound org t name access row q small plan sound_
       are = (put_is_of object_form org q u next (fits org u n x small sound_u at_u) refl (own_row q u org n x at_u), tt);
       rest = λ k of same. rows q t n access k sound_t (other_object org n k of (beside (change_to object_form next) [] k same).0);
     } in
-    subst (λ (r : ObjectRow). Takes org q t v SamePlan (change_to object_form (record r { access = access_of access }) ∷ [])) (sym h.is)
-    (subst (λ (y : Verdict). Takes org q t y SamePlan (change_to object_form next ∷ [])) (sym is) takes)
+    subst (λ (r : ObjectRow). Takes org q t v done SamePlan (change_to object_form (record r { access = access_of access }) ∷ [])) (sym h.is)
+    (subst (λ (y : Verdict). Takes org q t y done SamePlan (change_to object_form next ∷ [])) (sym is) takes)
 
 pub not_by : (access : Access) → IsTrue (not (by_parent access)) → by_parent access ≡ false
 not_by access h = by (by_parent access) h

@@ -32,9 +32,6 @@ unrefused (Some r) t u e = absurd cc
 
 -- ---- refused
 
-pub unless_some : (rule : Rule) (t : Tenant) (v : Verdict) (r : Refusal) → Some r ≡ rule → (unless rule t v).answer ≡ Err r
-unless_some rule t v r e = ap (λ (x : Rule). (unless x t v).answer) (sym e)
-
 pub refused_so : (v : Verdict) (r : Refusal) → Some r ≡ verdict_refusal v → v.answer ≡ Err r
 refused_so v r e = by v.answer e
   where

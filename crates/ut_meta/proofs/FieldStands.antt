@@ -3,11 +3,11 @@ use Rattle.std.proofs.Common.{◌≡◌, ◌∙◌, ℕ, zero, suc, ◌+◌, ◌
 use Rattle.std.specs.Prelude.{Err, Ok, Result, is_some, slice_get}
 use Rattle.std.specs.List.{AllByRecursion, enumerate_from}
 use Rattle.std.specs.Option.{option_and_then, option_map}
+use Rattle.ut_edits.proofs.Reading.{not_missed}
 use Rattle.ut_edits.specs.Edits.{FailsBy, Takes}
 use Rattle.ut_edits.specs.Rows.{change_to}
 use Rattle.ut_keeper.specs.Tables.{Tables}
 use Rattle.ut_keys.specs.declared.fail.StoreFail.{StoreFail}
-use Rattle.ut_keys.specs.declared.fail.StoreFail.TheVariants.{Damaged, Keeper, Memory}
 use Rattle.ut_keys.specs.declared.field.FieldRow.{FieldRow}
 use Rattle.ut_keys.specs.declared.object.ObjectRow.{ObjectRow}
 use Rattle.ut_keys.specs.Forms.{FitsForm, row_bytes}
@@ -278,22 +278,14 @@ module _ (fields : FieldSound) (org : ℕ) (q : OrgPlan) (t : Tenant) (b : NewFi
 
   pub row_missed : (m : Tables) (l : Layout) (v : Verdict) (r : Result ObjectRow StoreFail) (e : StoreFail) → StandsIn org q m (Some t) → layout_by_name ls b.object ≡ Some l → FindsThere org (own_object_row org l.object) m r → r ≡ Err e
       → FailsBy v (of_store e)
-  row_missed m l v r e s named h was = by e (subst (FindsThere org (own_object_row org l.object) m) was h)
-    where
-      absent : ◌≡◌ {A = Option ObjectRow} (Some old) None → ⊥
-      absent e = cc
-
-      by : (e : StoreFail) → FindsThere org (own_object_row org l.object) m (Err e) → e ≡ Damaged → ⊥
-      by Damaged h d = absent (sym (its_row l named) ∙ h q (Some t) s)
-      by Keeper h d = absurd cc
-      by Memory h d = absurd cc
+  row_missed m l v r e s named h was = not_missed org q m t v r e was s (own_object_row org l.object) old (its_row l named) h
 
   -- ---- what is changed
 
   pub field_takes : RowsElsewhere → ObjectFits → FieldFits → SameCount → HasFree → SeesFree → PlanFits → org < 2 ^ 32
       → (l : Layout) (row : ObjectRow) (rows : NewFieldRows) → layout_by_name ls b.object ≡ Some l → row ≡ old
       → ((target : Option ℕ) → target_in ls b.kind ≡ Ok target → AreRowsFor l row (new_field target b) rows)
-      → Takes org q t (add_field t b) (FieldPlanned b) (changes_of rows)
+      → Takes org q t (add_field t b) done (FieldPlanned b) (changes_of rows)
   field_takes elsewhere object_fits field_fits same has sees plans low l row rows named is_old makes =
       let of_row : AreRowsFor l old f rows = subst (λ (x : ObjectRow). AreRowsFor l x f rows) is_old (makes it.target it.targets) in
       let r : AreRowsFor (layout_of org q t it.on) old f rows = subst (λ (x : Layout). AreRowsFor x old f rows) (layout_is l named) of_row in
@@ -306,7 +298,7 @@ module _ (fields : FieldSound) (org : ℕ) (q : OrgPlan) (t : Tenant) (b : NewFi
       let counted = change_to object_form (rows_in slot old f).object in
       let field = change_to field_form (rows_in slot old f).field in
       let unused : IsLeastUnused q t it.on slot = record { unused = free; least = λ s below. sym (sees q t org n o s) ∙ least.least s below } in
-      let takes : Takes org q t (accept done (with_field n f t)) (FieldPlanned b) (changes_of (rows_in slot old f)) = record {
+      let takes : Takes org q t (accept done (with_field n f t)) done (FieldPlanned b) (changes_of (rows_in slot old f)) = record {
         answer = refl;
         sound = sound_next;
         plan = with_slot n (length o.fields) slot q;
@@ -318,8 +310,8 @@ module _ (fields : FieldSound) (org : ℕ) (q : OrgPlan) (t : Tenant) (b : NewFi
             let second = beside field [] k first.1 in
             elsewhere q t n o f slot k sound it.there free (suits t n o f it.there sound_next) (other_object org n k of first.0) (other_field org n (length o.fields) k of second.0);
       } in
-      subst (λ (x : NewFieldRows). Takes org q t (add_field t b) (FieldPlanned b) (changes_of x)) (sym r.made)
-      (subst (λ (v : Verdict). Takes org q t v (FieldPlanned b) (changes_of (rows_in slot old f))) (sym it.verdict) takes)
+      subst (λ (x : NewFieldRows). Takes org q t (add_field t b) done (FieldPlanned b) (changes_of x)) (sym r.made)
+      (subst (λ (v : Verdict). Takes org q t v done (FieldPlanned b) (changes_of (rows_in slot old f))) (sym it.verdict) takes)
 
   -- ---- failures
 

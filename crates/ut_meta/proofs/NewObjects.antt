@@ -5,8 +5,7 @@ use Rattle.std.specs.List.{AllByRecursion}
 use Rattle.std.specs.Option.{option_and_then, option_map}
 use Rattle.std.proofs.lemmas.Bool.{eqb-false, eqb-true}
 use Rattle.ut_edits.specs.Edits.{Planned, Takes}
-use Rattle.ut_edits.specs.Rows.{change_to, spelled as as_data}
-use Rattle.ut_keeper.specs.declared.keeper.Change.{Change as Spelled}
+use Rattle.ut_edits.specs.Rows.{change_to}
 use Rattle.ut_keys.specs.declared.field.FieldRow.{FieldRow}
 use Rattle.ut_keys.specs.declared.org.OrgRow.{OrgRow}
 use Rattle.ut_keys.specs.Forms.{FitsForm, row_bytes}
@@ -39,7 +38,7 @@ use Rattle.ut_stands.specs.Stands.{org_of_key, row_in}
 use Rattle.ut_stands.specs.declared.layout.Layout.{Layout}
 use Rattle.ut_meta.specs.Judging.{layouts_in}
 use Rattle.ut_meta.specs.declared.edits.objects.NewRows.{NewRows}
-use Rattle.ut_meta.specs.inner.NewRows.{AreSpelled, FitRows, IsSpelledMaster, changes_of, field_row_changes, first_field, master_row, new_object_row, rows_by}
+use Rattle.ut_meta.specs.inner.NewRows.{FitRows, IsSpelledMaster, IsSpelledObject, changes_of, field_row_changes, first_field, master_row, new_object_row, rows_by}
 use Rattle.ut_meta.specs.inner.Relations.{layout_by_name}
 use Rattle.ut_meta.proofs.Editing.{beside, other_field, other_object, other_org, unless_none}
 use Rattle.ut_meta.proofs.Layouts.{length_is, named_is}
@@ -211,7 +210,7 @@ module _ (laws : Laws) (org : ℕ) (small : org < 2 ^ 32) (p : OrgPlan) (t : Ten
 
   -- ---- that they have spellings
 
-  pub spelled : AreSpelled ls b
+  pub spelled : IsSpelledObject ls b
   spelled = record {
     few = omega (arith, counted, few_objects);
     name = (laws.object_fits org u n o small next_sound at_n).1.0;
@@ -309,11 +308,11 @@ ObjectPlanned q t next = next ≡ with_slot (length t.objects) 0 0 q
 -- these rows take the organisation's to those of the tenant with the object
 pub object_takes : Laws → (org : ℕ) → org < 2 ^ 32 → (q : OrgPlan) (t : Tenant) (b : NewObject) (ls : List Layout) (row : OrgRow) (rows : NewRows)
     → FitsPlan q t → IsSound t → IsTrue (is_fit_object b) → IsUnrefused t b → ls ≡ layouts_in org q t → row ≡ org_of org t → rows ≡ rows_by ls row b
-    → Takes org q t (add_object t b) ObjectPlanned (changes_of rows)
+    → Takes org q t (add_object t b) done ObjectPlanned (changes_of rows)
 object_takes laws org small q t b ls row rows fits sound fit unrefused is row_is rows_is =
     let same : rows ≡ rows_after laws org small q t b ls is fits sound fit unrefused =
     rows_is ∙ ap (λ (r : OrgRow). rows_by ls r b) row_is ∙ rows_are laws org small q t b ls is fits sound fit unrefused in
-    let takes : Takes org q t (accept done (with_new t b)) ObjectPlanned (changes_of (rows_after laws org small q t b ls is fits sound fit unrefused)) = record {
+    let takes : Takes org q t (accept done (with_new t b)) done ObjectPlanned (changes_of (rows_after laws org small q t b ls is fits sound fit unrefused)) = record {
       answer = refl;
       sound = subst IsSound (ap (λ (v : Verdict). v.tenant) (accepted t b unrefused)) (laws.sound t b fit sound);
       plan = with_slot (length t.objects) 0 0 q;
@@ -322,8 +321,8 @@ object_takes laws org small q t b ls row rows fits sound fit unrefused is row_is
       are = own laws org small q t b ls is fits sound fit unrefused;
       rest = elsewhere laws org small q t b ls is fits sound fit unrefused;
     } in
-    subst (λ (r : NewRows). Takes org q t (add_object t b) ObjectPlanned (changes_of r)) (sym same)
-    (subst (λ (v : Verdict). Takes org q t v ObjectPlanned (changes_of (rows_after laws org small q t b ls is fits sound fit unrefused))) (sym (accepted t b unrefused)) takes)
+    subst (λ (r : NewRows). Takes org q t (add_object t b) done ObjectPlanned (changes_of r)) (sym same)
+    (subst (λ (v : Verdict). Takes org q t v done ObjectPlanned (changes_of (rows_after laws org small q t b ls is fits sound fit unrefused))) (sym (accepted t b unrefused)) takes)
 
 -- whatever the organisation has, they are at its keys
 pub object_own : (org : ℕ) (ls : List Layout) (row : OrgRow) (b : NewObject) (rows : NewRows) → FitRows rows → rows ≡ rows_by ls row b → row.org ≡ org → AllByRecursion (IsIn org) (changes_of rows)
@@ -344,11 +343,3 @@ object_own org ls row b rows fits is own =
     of_field : (f : Option FieldRow) → IfSome f (FitsForm field_form) → f ≡ first_field row.org (length ls) ls b.master → AllByRecursion (IsIn org) (field_row_changes f ++ change_to object_form rows.object ∷ [])
     of_field None h e = (object_in, tt)
     of_field (Some f) h e = (put_is_in field_form org f h (ap Some (number_of (length ls) b.master f (sym e) ∙ own)), (object_in, tt))
-
--- the changes as data, one after the other
-pub spelled_rows : (a c : Change) (field : Option FieldRow) (x y z : List Spelled) → x ≡ [] ++ as_data a ∷ [] → y ≡ x ++ map as_data (field_row_changes field) → z ≡ y ++ as_data c ∷ [] → z ≡ map as_data (a ∷ (field_row_changes field ++ c ∷ []))
-spelled_rows a c field x y z ex ey ez = ez ∙ ap (λ (u : List Spelled). u ++ as_data c ∷ []) (ey ∙ ap (λ (u : List Spelled). u ++ map as_data (field_row_changes field)) ex) ∙ by field
-  where
-    by : (field : Option FieldRow) → ((as_data a ∷ []) ++ map as_data (field_row_changes field)) ++ as_data c ∷ [] ≡ map as_data (a ∷ (field_row_changes field ++ c ∷ []))
-    by None = refl
-    by (Some f) = refl

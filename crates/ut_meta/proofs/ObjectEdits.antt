@@ -1,31 +1,41 @@
--- The steps of adding an object: what was read is the tenant's, and what a failure says.
-use Rattle.std.proofs.Common.{◌≡◌, ◌∙◌, ℕ, List, [], ◌∷◌, ◌++◌, Option, Some, None, sym, subst}
-use Rattle.std.specs.Prelude.{Err, IfErr, Ok, Result}
+-- The steps of adding an object or a field: what was read is the tenant's, and what a failure says.
+use Rattle.std.proofs.Common.{◌≡◌, ◌∙◌, ℕ, List, [], ◌∷◌, ◌++◌, Some, None, refl, sym, subst}
+use Rattle.std.specs.Prelude.{Err, IfErr, IsErrAnd, Ok, Result}
 use Rattle.std.proofs.lemmas.Result.{IfErr-at_err}
+use Rattle.ut_edits.proofs.Reading.{not_missed}
 use Rattle.ut_edits.specs.Edits.{FailsBy}
 use Rattle.ut_keeper.specs.Tables.{Tables}
 use Rattle.ut_keys.specs.declared.fail.StoreFail.{StoreFail}
-use Rattle.ut_keys.specs.declared.fail.StoreFail.TheVariants.{Damaged, Keeper, Memory}
+use Rattle.ut_keys.specs.declared.fail.StoreFail.TheVariants.{Damaged, Memory}
 use Rattle.ut_keys.specs.declared.org.OrgRow.{OrgRow}
 use Rattle.ut_model.specs.declared.metadata_bodies.NewObject.{NewObject}
-use Rattle.ut_model.specs.declared.refusal.Refusal.{Refusal}
 use Rattle.ut_model.specs.Metadata.{add_object, new_object, object_rules}
-use Rattle.ut_model.specs.Rules.{first_refusal}
+use Rattle.ut_model.specs.Rules.{Rule, first_refusal}
 use Rattle.ut_model.specs.Tenant.{Tenant}
-use Rattle.ut_model.specs.Verdict.{Verdict, accept, done}
+use Rattle.ut_model.specs.Verdict.{Verdict, accept, done, unless}
+use Rattle.ut_stands.specs.declared.fail.EditFail.{EditFail}
 use Rattle.ut_stands.specs.declared.layout.Layout.{Layout}
 use Rattle.ut_stands.specs.Fails.{of_store}
 use Rattle.ut_stands.specs.Layouts.{own_layouts, own_row}
 use Rattle.ut_stands.specs.Local.{FindsIn, FindsThere, StandsIn}
 use Rattle.ut_stands.specs.Metadata.{org_of}
 use Rattle.ut_stands.specs.Plan.{OrgPlan}
-use Rattle.ut_meta.specs.Judging.{layouts_in}
-use Rattle.ut_meta.proofs.Editing.{some_is, unless_some}
+use Rattle.ut_meta.specs.Judging.{AcceptsBy, layouts_in, verdict_refusal}
+use Rattle.ut_meta.proofs.Editing.{some_is}
 
 -- ---- refused
 
-pub object_refused : (t : Tenant) (b : NewObject) (r : Refusal) → Some r ≡ first_refusal (object_rules t b) → (add_object t b).answer ≡ Err r
-object_refused t b r e = unless_some (first_refusal (object_rules t b)) t (accept done (record t { objects = t.objects ++ new_object t b ∷ [] })) r e
+pub refusal_is : (t : Tenant) (b : NewObject) → first_refusal (object_rules t b) ≡ verdict_refusal (add_object t b)
+refusal_is t b = by (first_refusal (object_rules t b)) (record t { objects = t.objects ++ new_object t b ∷ [] })
+  where
+    by : (rule : Rule) (u : Tenant) → rule ≡ verdict_refusal (unless rule t (accept done u))
+    by None u = refl
+    by (Some r) u = refl
+
+-- no layouts are returned
+pub accepts_none : (org : ℕ) (q : OrgPlan) (t : Tenant) (v : Verdict) (e : EditFail) (result : Result (List Layout) EditFail) → IsErrAnd result (λ y. y ≡ e) → FailsBy v e → AcceptsBy org q t v result
+accepts_none org q t v e (Ok layouts) passed h = absurd passed
+accepts_none org q t v e (Err y) passed h = subst (FailsBy v) (sym passed) h
 
 -- ---- what was read
 
@@ -38,28 +48,10 @@ org_row_is org q m t r row was h s = some_is row (org_of org t) (subst (FindsThe
 
 -- ---- what failed
 
--- a read of what each tenant has isn't damaged
-pub not_damaged : {X : Type 0} (org : ℕ) (value : OrgPlan → Option Tenant → X) (q : OrgPlan) (m : Tables) (t : Tenant) (v : Verdict) (r : Result X StoreFail) (e : StoreFail)
-    → r ≡ Err e → FindsIn org value m r → StandsIn org q m (Some t) → FailsBy v (of_store e)
-not_damaged org value q m t v r e was h s = by e (subst (FindsIn org value m) was h)
-  where
-    by : (e : StoreFail) → FindsIn org value m (Err e) → e ≡ Damaged → ⊥
-    by Damaged h d = h q (Some t) s
-    by Keeper h d = absurd cc
-    by Memory h d = absurd cc
-
--- and so is that of the organisation's row
+-- a read of the organisation's row
 pub org_missed : (org : ℕ) (q : OrgPlan) (m : Tables) (t : Tenant) (v : Verdict) (r : Result OrgRow StoreFail) (e : StoreFail)
     → r ≡ Err e → FindsThere org (own_row org) m r → StandsIn org q m (Some t) → FailsBy v (of_store e)
-org_missed org q m t v r e was h s = by e (subst (FindsThere org (own_row org) m) was h)
-  where
-    absent : (x : OrgRow) → ◌≡◌ {A = Option OrgRow} (Some x) None → ⊥
-    absent x e = cc
-
-    by : (e : StoreFail) → FindsThere org (own_row org) m (Err e) → e ≡ Damaged → ⊥
-    by Damaged h d = absent (org_of org t) (h q (Some t) s)
-    by Keeper h d = absurd cc
-    by Memory h d = absurd cc
+org_missed org q m t v r e was h s = not_missed org q m t v r e was s (own_row org) (org_of org t) refl h
 
 -- rows that aren't made for want of memory
 pub rows_fail : {X : Type 0} (v : Verdict) (r : Result X StoreFail) (e : StoreFail) → IfErr r (λ e. e ≡ Memory) → r ≡ Err e → FailsBy v (of_store e)

@@ -39,6 +39,11 @@ verdict_refusal v = rule_of_answer v.answer
 
 -- ---- what judging finds
 
+-- the layouts of the tenant's objects, where the verdict doesn't refuse; or why there are none
+abbrev pub AcceptsBy : (org : ℕ) → OrgPlan → Tenant → Verdict → Result (List Layout) EditFail → Type 0
+AcceptsBy org q t v (Ok layouts) = (layouts ≡ layouts_in org q t) × (None ≡ verdict_refusal v)
+AcceptsBy org q t v (Err e) = FailsBy v e
+
 -- the number of the object with this name, where the verdict doesn't refuse; or why there is none
 abbrev pub AcceptsOn : Tenant → (name : List ℕ) → Verdict → Result ℕ EditFail → Type 0
 AcceptsOn t name v (Ok n) = (None ≡ verdict_refusal v) × ((o : Numbered) × (object_named t name ≡ Some o) × (n ≡ o.number))

@@ -1,5 +1,6 @@
 //! An administrator's edits of metadata.
 
+mod accepting;
 mod access;
 mod copies;
 mod fields;

@@ -1,27 +1,41 @@
 -- What is answered of callers and of new organisations.
-use Rattle.std.specs.Prelude.{ℕ, if◌then◌else◌, List, Option, Some, None}
+use Rattle.std.specs.Prelude.{◌≡◌, ◌<◌, ◌≤◌, ◌^◌, ℕ, if◌then◌else◌, IfOk, IfSome, List, Option, Some, None, Result, Ok}
 use Rattle.std.specs.Option.{option_and_then}
 use Rattle.std.specs.Str.{bytes_eq}
 use Rattle.std.specs.FinMap as map
 use Rattle.ut_keeper.specs.Tables.{Tables}
+use Rattle.ut_keys.specs.declared.fail.StoreFail.{StoreFail}
 use Rattle.ut_keys.specs.Forms.{row_bytes}
 use Rattle.ut_keys.specs.Keys.{Org, User, Version, spell}
 use Rattle.ut_keys.specs.Rows.{org_form, user_form, version_form}
 use Rattle.ut_keys.specs.declared.user.UserRow.{UserRow}
 use Rattle.ut_model.specs.Callers.{Named, caller_of}
 use Rattle.ut_model.specs.Organisations.{administrator, first_user, fresh}
-use Rattle.ut_model.specs.World.{World, tenant_at}
+use Rattle.ut_model.specs.Tenant.{Tenant}
 use Rattle.ut_model.specs.declared.caller.Caller.{Caller}
+use Rattle.ut_stands.specs.Local.{FindsIn}
 use Rattle.ut_stands.specs.Metadata.{org_of, user_of}
 use Rattle.ut_stands.specs.Stands.{known_version}
 
--- the caller whom a user's row gives, if it has this digest
-abbrev pub admitted_row : List ℕ → UserRow → Option Caller
-admitted_row digest row = if bytes_eq row.digest digest then Some (record { org = row.org; user = row.id; admin = row.admin }) else None
+-- the caller whom a user's row in the organisation with this number gives, if it has this digest
+abbrev pub admitted_row : (org : ℕ) → List ℕ → UserRow → Option Caller
+admitted_row org digest row = if bytes_eq row.digest digest then Some (record { org = org; user = row.id; admin = row.admin }) else None
 
--- the caller of whom these are named, in a world
-abbrev pub caller_among : Named → World → Option Caller
-caller_among n w = option_and_then (caller_of n) (tenant_at w n.org)
+-- the caller of whom these are named, in an organisation that is this tenant or isn't there
+abbrev pub caller_among : Named → Option Tenant → Option Caller
+caller_among n t = option_and_then (caller_of n) t
+
+-- what is found where a key names these: whatever the tables have, a caller of the organisation that is named, and none for a
+-- number that no organisation has; and where the organisation's rows stand, the caller is the definition's
+pub record FindsNamed (n : Named) (m : Tables) (result : Result (Option Caller) StoreFail) : Type 0 where
+  pub own : IfOk result (λ found. IfSome found (λ c. c.org ≡ n.org))
+  pub none : 2 ^ 32 ≤ n.org → result ≡ Ok None
+  pub finds : n.org < 2 ^ 32 → FindsIn n.org (λ q t. caller_among n t) m result
+
+-- without such there is no caller
+abbrev pub FindsCaller : Option Named → Tables → Result (Option Caller) StoreFail → Type 0
+FindsCaller None m result = result ≡ Ok None
+FindsCaller (Some n) m result = FindsNamed n m result
 
 -- tables with the three rows of a new organisation of this number
 abbrev pub with_rows : ℕ → List ℕ → List ℕ → Tables → Tables

@@ -1,21 +1,16 @@
-ghost use Rattle.std.specs.Prelude.{◌≡◌, IsErrOf, MatchOption, None, Some, length, is_ok};
-ghost use Rattle.std.specs.Option.{option_map};
+ghost use Rattle.std.specs.Prelude.{◌≡◌, MatchOption, None, Some, length};
 ghost use Rattle.sha2.specs.Sha256.{sha256};
-ghost use Rattle.ut_keeper.specs.Draft.{DraftReads, DraftTells, state_of, tables_of};
-ghost use Rattle.ut_keeper.specs.State.{KeeperCause, StaysAfter};
-ghost use Rattle.ut_keys.specs.declared.fail.StoreFail.TheVariants.{Keeper};
-ghost use Rattle.ut_model.specs.Callers.{caller_in, cut, named_ids};
-ghost use Rattle.ut_model.specs.World.{user_in};
-ghost use Rattle.ut_people.specs.People.{admitted_row, caller_among};
-ghost use Rattle.ut_stands.specs.Metadata.{user_of};
-ghost use Rattle.ut_stands.specs.Reads.{FindsAs};
+ghost use Rattle.ut_keeper.specs.Draft.{DraftTells, tables_of};
+ghost use Rattle.ut_model.specs.Callers.{cut, named, named_ids};
+ghost use Rattle.ut_people.specs.People.{FindsCaller, admitted_row};
+ghost use Rattle.ut_stands.specs.Calls.{Calls, ended};
 
 use sha2::{Digest, Sha256};
 use std::alloc::Global;
 use ut_keeper::{Draft, Keeper, draft_laws};
 use ut_keys::{StoreFail, UserRow};
 use ut_model::{Caller, org_number};
-use ut_stands::{found_laws, user};
+use ut_stands::{call_laws, user};
 use ut_value::{Id, id_in};
 
 /// The SHA-256 digest of a secret's bytes.
@@ -50,36 +45,19 @@ fn named_ids(org: &str, user: &str) -> Option<(u64, Id)>
     }
 }
 
-// The caller whom a user's row gives, if the secret is the user's.
-fn admitted(secret: &str, row: &UserRow) -> Option<Caller>
-    ensures { result ≡ admitted_row (sha256 secret.now) row.now }
+// The caller whom a user's row in the organisation with this number gives, if the secret is the user's.
+fn admitted(org: u32, secret: &str, row: &UserRow) -> Option<Caller>
+    ensures { result ≡ admitted_row org (sha256 secret.now) row.now }
 {
     if row.digest == digest_of(secret) {
         Some(Caller {
-            org: row.org,
+            org,
             user: row.id,
             admin: row.admin,
         })
     } else {
         None
     }
-}
-
-// The user with this id in the organisation of a world, as a row.
-fn user_in<K: Keeper>(
-    alloc: Global,
-    draft: &mut Draft<'_, K>,
-    org: u32,
-    id: &Id,
-) -> Result<Option<UserRow>, StoreFail>
-    ensures finds { DraftTells K.state draft.old draft.new
-        → FindsAs (λ w. option_map (user_of org) (user_in w org id.now)) (tables_of K.state draft.old) result }
-    ensures reads { DraftReads K.state 0 draft.old draft.new }
-    ensures stays { StaysAfter (is_ok result) (state_of K.state draft.old) (state_of K.state draft.new) }
-    ensures cause { KeeperCause (state_of K.state draft.old) (state_of K.state draft.new) (IsErrOf result Keeper) }
-{
-    found_laws::<Option<UserRow>, K>();
-    user(alloc, draft, org, id)
 }
 
 // The caller with this secret, who has this id in the organisation with this number.
@@ -91,18 +69,17 @@ fn caller_with<K: Keeper>(
     secret: &str,
 ) -> Result<Option<Caller>, StoreFail>
     ensures finds { DraftTells K.state draft.old draft.new
-        → FindsAs (caller_among (record { org = org; user = id.now; secret = secret.now })) (tables_of K.state draft.old) result }
-    ensures reads { DraftReads K.state 0 draft.old draft.new }
-    ensures stays { StaysAfter (is_ok result) (state_of K.state draft.old) (state_of K.state draft.new) }
-    ensures cause { KeeperCause (state_of K.state draft.old) (state_of K.state draft.new) (IsErrOf result Keeper) }
+        → FindsCaller (Some (record { org = org; user = id.now; secret = secret.now })) (tables_of K.state draft.old) result }
+    ensures calls { Calls K.state 0 (ended result) draft.old draft.new }
 {
     draft_laws::<K>();
+    call_laws::<K>();
     let Ok(org) = u32::try_from(org) else {
         // There are fewer organisations.
         return Ok(None);
     };
-    match user_in(alloc, draft, org, id) {
-        Ok(Some(row)) => Ok(admitted(secret, &row)),
+    match user(alloc, draft, org, id) {
+        Ok(Some(row)) => Ok(admitted(org, secret, &row)),
         Ok(None) => Ok(None),
         Err(fail) => Err(fail),
     }
@@ -113,19 +90,18 @@ fn caller_with<K: Keeper>(
 ///
 /// # Errors
 ///
-/// `Keeper` where the keeper failed, `Memory` when out of memory, `Damaged` never where the tables stand for a world.
+/// `Keeper` if the keeper failed, `Memory` if out of memory, `Damaged` never if the rows of the organisation that is named
+/// stand for a tenant or for none.
 pub fn caller<K: Keeper>(
     alloc: Global,
     draft: &mut Draft<'_, K>,
     key: &str,
 ) -> Result<Option<Caller>, StoreFail>
-    ensures finds { DraftTells K.state draft.old draft.new
-        → FindsAs (λ w. caller_in w key.now) (tables_of K.state draft.old) result }
-    ensures reads { DraftReads K.state 0 draft.old draft.new }
-    ensures stays { StaysAfter (is_ok result) (state_of K.state draft.old) (state_of K.state draft.new) }
-    ensures cause { KeeperCause (state_of K.state draft.old) (state_of K.state draft.new) (IsErrOf result Keeper) }
+    ensures finds { DraftTells K.state draft.old draft.new → FindsCaller (named key.now) (tables_of K.state draft.old) result }
+    ensures calls { Calls K.state 0 (ended result) draft.old draft.new }
 {
     draft_laws::<K>();
+    call_laws::<K>();
     let Some((org, rest)) = cut(key) else {
         return Ok(None);
     };

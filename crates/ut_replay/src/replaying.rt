@@ -11,7 +11,7 @@ ghost use Rattle.ut_replay.specs.declared.replaying.End.TheVariants.{Fault as Is
 use crate::line::{Fault, Line, LineFail, RawRow, Run};
 use crate::reading::read_line;
 use crate::report::{Counts, report};
-use platform::run;
+use platform::{run, run_laws};
 use std::alloc::{AllocError, Global};
 use std::fmt;
 use ut_io::{MemoryClock, MemoryDoor, MemorySink, MemorySource};
@@ -115,6 +115,8 @@ fn count_run(
     ensures data_rows_shown { result.data_rows_shown
         ≡ slice_index keeper.new.shown data_table - slice_index keeper.old.shown data_table }
 {
+    // For the proof alone.
+    run_laws();
     let written = keeper.written();
     let shown = keeper.shown(DATA_TABLE);
     let status = run(alloc, words, keeper, door, source, sink, clock);

@@ -1,7 +1,10 @@
-pub mod Found
 pub mod Characters
 pub mod Literals
-pub mod Meetings
 pub mod Named
+pub mod Parts
 pub mod Queries
+pub mod Finding
 pub mod Tables
+mod Responses
+mod Verdicts
+pub mod Ways

@@ -1,12 +1,29 @@
 -- The forms of replies to callers' requests.
--- Source: RFC 9110, 15.3.1 and 15.3.5, of 200 and 204.
+-- Source: RFC 9110, 15.3.1, 15.3.2 and 15.3.5, of 200, 201 and 204.
 use Rattle.std.specs.Prelude.{◌≡◌, ◌⊎◌, [], IsTrue}
 use Rattle.ut_model.specs.declared.reply.Reply.{Reply}
+use Rattle.ut_model.specs.declared.route.Route.TheVariants.{Query}
+use Rattle.ut_model.specs.declared.routed.Routed.{Routed}
+use Rattle.ut_model.specs.declared.routed.Routed.TheVariants.{To, NotFound, NotAllowed}
 use Rattle.ut_model.specs.Refusals.{is_refusal_status}
 use Rattle.ut_stands.specs.declared.judged.Judged.{Judged}
 use Rattle.ut_stands.specs.declared.judged.Judged.TheVariants.{Changed, Same}
 
--- what changes nothing is refused, or answered by 200; a change is answered by 204 without a body
-abbrev pub IsRequestReply : Judged Reply → Type 0
-IsRequestReply (Same r) = IsTrue (is_refusal_status r.status) ⊎ (r.status ≡ 200)
-IsRequestReply (Changed r) = (r.status ≡ 204) × (r.body ≡ [])
+-- a reply that goes with no change: it refuses, or it is of 200
+abbrev pub IsReadReply : Reply → Type 0
+IsReadReply r = IsTrue (is_refusal_status r.status) ⊎ (r.status ≡ 200)
+
+-- a reply that goes with a change: 204 without a body, or 200 or 201 with one
+abbrev pub IsDoneReply : Reply → Type 0
+IsDoneReply r = ((r.status ≡ 204) × (r.body ≡ [])) ⊎ ((r.status ≡ 200) ⊎ (r.status ≡ 201))
+
+-- a request that may change something: no query, and none of no such path or method
+abbrev pub MayChange : Routed → Type 0
+MayChange NotFound = ⊥
+MayChange NotAllowed = ⊥
+MayChange (To (Query pairs)) = ⊥
+MayChange (To _) = Unit {0}
+
+abbrev pub IsRequestReply : Routed → Judged Reply → Type 0
+IsRequestReply routed (Same r) = IsReadReply r
+IsRequestReply routed (Changed r) = MayChange routed × IsDoneReply r

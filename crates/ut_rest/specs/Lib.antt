@@ -1,4 +1,2 @@
 pub mod Forms
-pub mod Lines
-pub mod Meetings
 pub mod inner

@@ -1,2 +1,4 @@
 -- Words of private functions' contracts alone.
 pub mod Answers
+pub mod Places
+pub mod Kinds

@@ -1,5 +1,5 @@
 ghost use Rattle.std.specs.Prelude.{◌≡◌};
-ghost use Rattle.ut_rest.specs.Lines.{made_with};
+ghost use Rattle.ut_rest.specs.inner.Kinds.{made_with};
 
 use ut_model::Route;
 use ut_value::Text;

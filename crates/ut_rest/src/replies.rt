@@ -2,9 +2,8 @@
 
 ghost use Rattle.std.specs.Prelude.{◌≡◌, IfOk};
 ghost use Rattle.ut_model.specs.Replies.{unless_too_large};
-ghost use Rattle.ut_rest.specs.Forms.{IsRequestReply};
-ghost use Rattle.ut_rest.specs.inner.Answers.{Refuses};
-ghost use Rattle.ut_stands.specs.declared.judged.Judged.TheVariants.{Same};
+ghost use Rattle.ut_rest.specs.Forms.{IsReadReply};
+ghost use Rattle.ut_rest.specs.inner.Answers.{Refuses, unchanged};
 
 use std::alloc::{AllocError, Global};
 use ut_keys::StoreFail;
@@ -14,18 +13,28 @@ use ut_stands::Judged;
 // The most bytes that the body of a reply with rows may have.
 const MOST_BYTES: usize = 16_777_216;
 
-/// The reply that refuses so. Nothing is changed.
+/// The reply that refuses so.
 ///
 /// # Errors
 ///
 /// `Memory` if out of memory.
-pub(crate) fn refuse(alloc: Global, refusal: Refusal) -> Result<Judged<Reply>, StoreFail>
+pub(crate) fn refuse(alloc: Global, refusal: Refusal) -> Result<Reply, StoreFail>
     ensures value { Refuses refusal result }
-    ensures form { IfOk result IsRequestReply }
+    ensures form { IfOk result IsReadReply }
 {
     match refusal.reply(alloc) {
-        Ok(reply) => Ok(Judged::Same(reply)),
+        Ok(reply) => Ok(reply),
         Err(_) => Err(StoreFail::Memory),
+    }
+}
+
+/// A reply, as one that goes with no change.
+pub(crate) fn unchanged(read: Result<Reply, StoreFail>) -> Result<Judged<Reply>, StoreFail>
+    ensures { result ≡ unchanged read }
+{
+    match read {
+        Ok(reply) => Ok(Judged::Same(reply)),
+        Err(fail) => Err(fail),
     }
 }
 
@@ -36,7 +45,7 @@ pub(crate) fn refuse(alloc: Global, refusal: Refusal) -> Result<Judged<Reply>, S
 /// When out of memory.
 pub(crate) fn unless_too_large(alloc: Global, reply: Reply) -> Result<Reply, AllocError>
     ensures value { IfOk result (λ r. r ≡ unless_too_large reply) }
-    ensures form { IsRequestReply (Same reply) → IfOk result (λ r. IsRequestReply (Same r)) }
+    ensures form { IsReadReply reply → IfOk result IsReadReply }
 {
     if reply.body.as_slice().len() > MOST_BYTES {
         Refusal::ReplyTooLarge.reply(alloc)

@@ -1,86 +1,72 @@
-ghost use Rattle.std.specs.Prelude.{◌≡◌, IfOk, map};
+ghost use Rattle.std.specs.Prelude.{◌≡◌, IfOk, List, drop, map, ℕ};
 ghost use Rattle.std.specs.Str.{chars};
-ghost use Rattle.ut_model.specs.Routing as model;
-ghost use Rattle.ut_rest.specs.Lines.{line_of, routed_by, routed_in};
-ghost use Rattle.ut_rest.specs.Meetings.{texts};
+ghost use Rattle.ut_model.specs.Routing.{part, path_of, query_of, routed};
+ghost use Rattle.ut_routes.specs.Cuts.{AllUtf8};
+ghost use Rattle.ut_routes.specs.Pick.{router_rows};
+ghost use Rattle.ut_rest.specs.inner.Kinds.{kind_in, kind_lines, routed_at};
+ghost use Rattle.ut_rest.specs.inner.Places.{table, taken};
 
-use crate::pattern::{is_same, parts_of};
-use crate::table::{Line, lines};
-use crate::target::{path_and_query, segments_of};
+use crate::methods::kind_at;
+use crate::place::Place;
+use http::Method;
+use matchit::{ParamsIter, Router};
 use std::alloc::{AllocError, Global};
 use ut_model::Routed;
 use ut_value::Text;
 
-// Part `n` of a path; without one it is empty.
-fn part(alloc: Global, parts: &[&str], n: usize) -> Result<Text, AllocError>
-    ensures { IfOk result (λ t. t ≡ model.part n (texts parts.now)) }
+// The next part of a path; without one it is empty.
+fn next_part(alloc: Global, parts: &mut ParamsIter<'_, '_, '_>) -> Result<Text, AllocError>
+    ensures text { AllUtf8 (taken parts.old) → IfOk result (λ t. t ≡ part 0 (map chars (taken parts.old))) }
+    ensures rest { parts.new ≡ drop 1 parts.old }
 {
-    match parts.get(n) {
-        Some(text) => Text::from_str(alloc, text),
+    if parts.is_empty() {
+        return Ok(Text::from_string(String::new(alloc)));
+    }
+    match parts.next() {
+        Some((_name, text)) => Text::from_str(alloc, text),
         None => Ok(Text::from_string(String::new(alloc))),
     }
 }
 
-// What a line makes of a method, a query string and the segments of a path.
-fn route_by(
+// What a method comes to at a place, with a query string and the parts of the path.
+fn route_at(
     alloc: Global,
-    line: &Line,
-    method: &str,
+    place: Place,
+    method: &Method,
     query: &str,
-    path: &[&str],
+    mut parts: ParamsIter<'_, '_, '_>,
 ) -> Result<Routed, AllocError>
-    ensures { IfOk result
-        (λ r. r ≡ routed_by (line_of line.now) (chars method.now) (chars query.now) (texts path.now)) }
+    ensures { AllUtf8 (taken parts.entry) → IfOk result
+        (λ r. r ≡ routed_at (kind_in method.now place kind_lines) (chars query.now) (map chars (taken parts.entry))) }
 {
-    let Line(line_method, pattern, kind) = *line;
-    let Some(parts) = parts_of(alloc, pattern, path)? else {
-        return Ok(Routed::NotFound);
-    };
-    if !is_same(method, line_method) {
+    let Some(kind) = kind_at(place, method) else {
         return Ok(Routed::NotAllowed);
-    }
+    };
     let pairs = Text::from_str(alloc, query)?;
-    let first = part(alloc, &parts, 0)?;
-    let second = part(alloc, &parts, 1)?;
-    let third = part(alloc, &parts, 2)?;
+    let first = next_part(alloc, &mut parts)?;
+    let second = next_part(alloc, &mut parts)?;
+    let third = next_part(alloc, &mut parts)?;
     Ok(Routed::To(kind.route(pairs, first, second, third)))
 }
 
-// What the lines of a table make of them.
-fn route_in(
-    alloc: Global,
-    table: &[Line],
-    method: &str,
-    query: &str,
-    path: &[&str],
-) -> Result<Routed, AllocError>
-    ensures { IfOk result
-        (λ r. r ≡ routed_in (map line_of table.now) (chars method.now) (chars query.now) (texts path.now)) }
-{
-    let mut is_path = false;
-    for line in table {
-        match route_by(alloc, line, method, query, path)? {
-            Routed::To(route) => return Ok(Routed::To(route)),
-            Routed::NotAllowed => is_path = true,
-            Routed::NotFound => {}
-        }
-    }
-    if is_path {
-        Ok(Routed::NotAllowed)
-    } else {
-        Ok(Routed::NotFound)
-    }
-}
-
-/// The request that a method and a target ask for.
+/// The request that a method, a path and a query string ask for, by the router of the table.
 ///
 /// # Errors
 ///
 /// When out of memory.
-pub fn route(alloc: Global, method: &str, target: &str) -> Result<Routed, AllocError>
-    ensures { IfOk result (λ r. r ≡ model.routed (chars method.now) (chars target.now)) }
+pub fn route_by(
+    alloc: Global,
+    router: &Router<Place>,
+    method: &Method,
+    path: &str,
+    query: &str,
+) -> Result<Routed, AllocError>
+    requires { router.now ≡ router_rows table }
+    ensures { (target : List ℕ) → chars path.now ≡ path_of target → chars query.now ≡ query_of target
+        → IfOk result (λ r. r ≡ routed method.now target) }
 {
-    let (path, query) = path_and_query(target);
-    let segments = segments_of(alloc, path)?;
-    route_in(alloc, &lines(), method, query, &segments)
+    match router.at(path) {
+        Ok(found) => route_at(alloc, *found.value, method, query, found.params.iter()),
+        Err(_) => Ok(Routed::NotFound),
+    }
 }

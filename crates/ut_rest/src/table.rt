@@ -1,40 +1,57 @@
-ghost use Rattle.std.specs.Prelude.{◌≡◌, map};
-ghost use Rattle.ut_model.specs.Routing as model;
-ghost use Rattle.ut_rest.specs.Lines.{line_of};
+ghost use Rattle.std.specs.Prelude.{◌≡◌, [], IfOk, OnOk, map};
+ghost use Rattle.ut_routes.specs.Pick.{router_rows};
+ghost use Rattle.ut_rest.specs.inner.Places.{added, pattern_of, patterns, table};
 
-use crate::kind::Kind::{self, *};
+use crate::place::Place;
+use matchit::{InsertError, Router};
+use std::alloc::Global;
 
-/// A line of the table: the method and the pattern of a request, and its kind. In a pattern `{}` is a part of the path,
-/// which isn't empty; all else is itself.
-#[derive(Debug, Clone, Copy)]
-pub struct Line(pub &'static str, pub &'static str, pub Kind);
-
-/// The table of all requests.
-pub fn lines() -> [Line; 22]
-    ensures { map line_of result ≡ model.lines }
+// The pattern of each place. What is in braces is a part of the path, which isn't empty; all else is itself.
+fn patterns() -> [(&'static str, Place); 19]
+    ensures { map pattern_of result ≡ patterns }
 {
     [
-        Line("GET", "/services/data/v59.0/query", Query),
-        Line("POST", "/services/data/v59.0/sobjects/{}", Create),
-        Line("PATCH", "/services/data/v59.0/sobjects/{}/{}", Update),
-        Line("DELETE", "/services/data/v59.0/sobjects/{}/{}", Delete),
-        Line("PATCH", "/services/data/v59.0/sobjects/{}/{}/{}", Upsert),
-        Line("POST", "/services/data/v59.0/shares", Share),
-        Line("DELETE", "/services/data/v59.0/shares/{}/{}", Unshare),
-        Line("POST", "/admin/objects", AddObject),
-        Line("PATCH", "/admin/objects/{}", SetObject),
-        Line("POST", "/admin/fields", AddField),
-        Line("POST", "/admin/validation-rules", AddValidationRule),
-        Line("POST", "/admin/sharing-rules", AddSharingRule),
-        Line("DELETE", "/admin/sharing-rules/{}", RemoveSharingRule),
-        Line("POST", "/admin/users", AddUser),
-        Line("PATCH", "/admin/users/{}", SetUser),
-        Line("POST", "/admin/roles", AddRole),
-        Line("PATCH", "/admin/roles/{}", SetRole),
-        Line("POST", "/admin/groups", AddGroup),
-        Line("PATCH", "/admin/groups/{}", SetGroup),
-        Line("POST", "/admin/retype", BeginRetype),
-        Line("GET", "/admin/retype", GetRetype),
-        Line("DELETE", "/admin/retype", CancelRetype),
+        ("/services/data/v59.0/query", Place::Query),
+        ("/services/data/v59.0/sobjects/{a}", Place::Object),
+        ("/services/data/v59.0/sobjects/{a}/{b}", Place::Record),
+        ("/services/data/v59.0/sobjects/{a}/{b}/{c}", Place::External),
+        ("/services/data/v59.0/shares", Place::Shares),
+        ("/services/data/v59.0/shares/{a}/{b}", Place::Share),
+        ("/admin/objects", Place::Objects),
+        ("/admin/objects/{a}", Place::ObjectNamed),
+        ("/admin/fields", Place::Fields),
+        ("/admin/validation-rules", Place::ValidationRules),
+        ("/admin/sharing-rules", Place::SharingRules),
+        ("/admin/sharing-rules/{a}", Place::SharingRule),
+        ("/admin/users", Place::Users),
+        ("/admin/users/{a}", Place::User),
+        ("/admin/roles", Place::Roles),
+        ("/admin/roles/{a}", Place::Role),
+        ("/admin/groups", Place::Groups),
+        ("/admin/groups/{a}", Place::Group),
+        ("/admin/retype", Place::Retype),
     ]
+}
+
+// Adds each pattern.
+fn add(router: &mut Router<Place>, table: &[(&'static str, Place)]) -> Result<(), InsertError>
+    ensures { OnOk result (router.new ≡ added router.old (map pattern_of table.now)) }
+{
+    for (text, place) in table {
+        router.insert(text, *place)?;
+    }
+    Ok(())
+}
+
+/// The router of the table.
+///
+/// # Errors
+///
+/// When out of memory.
+pub fn router(alloc: Global) -> Result<Router<Place>, InsertError>
+    ensures { IfOk result (λ r. r ≡ router_rows table) }
+{
+    let mut router = Router::new(alloc);
+    add(&mut router, &patterns())?;
+    Ok(router)
 }

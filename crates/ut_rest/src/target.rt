@@ -1,8 +1,6 @@
-ghost use Rattle.std.specs.Prelude.{◌≡◌, IfOk, map};
+ghost use Rattle.std.specs.Prelude.{◌≡◌};
 ghost use Rattle.std.specs.Str.{chars};
-ghost use Rattle.ut_model.specs.Routing.{path_of, query_of, segments};
-
-use std::alloc::{AllocError, Global};
+ghost use Rattle.ut_model.specs.Routing.{path_of, query_of};
 
 /// The path of a target, and its query string: what is before the first `?`, and what is behind it.
 pub fn path_and_query(target: &str) -> (&str, &str)
@@ -13,15 +11,4 @@ pub fn path_and_query(target: &str) -> (&str, &str)
         Some(parts) => parts,
         None => (target, ""),
     }
-}
-
-/// What is between the `/` of a path.
-///
-/// # Errors
-///
-/// When out of memory.
-pub fn segments_of(alloc: Global, path: &str) -> Result<Vec<&str>, AllocError>
-    ensures { IfOk result (λ parts. map (λ s. chars s.now) parts.items ≡ segments (chars path.now)) }
-{
-    path.split('/').collect(alloc)
 }

@@ -48,7 +48,7 @@ brings_on w moments d e f cs ds between later before mid now a b c h steps k = r
   inputs = h.inputs ∙ ap (λ (xs : List (List ℕ)). inputs_of cs ++ xs) k.inputs ∙ sym (append_assoc (inputs_of cs) (inputs_of ds) f.coming) ∙ ap (λ (xs : List (List ℕ)). xs ++ f.coming) (sym (inputs_more cs ds));
   outputs_are = k.outputs_are ∙ ap (λ (xs : List (List ℕ)). xs ++ outputs_of ds) h.outputs_are ∙ append_assoc (outputs d) (outputs_of cs) (outputs_of ds) ∙ ap (λ (xs : List (List ℕ)). outputs d ++ xs) (sym (outputs_more cs ds));
   served = served_more cs ds w h.end k.end moments between later h.served k.served;
-  kept = subst (λ (xs : List Exchange). LeavesBehind w k.end xs a c) (sym (exchanges_more cs ds)) (kept_on w h.end k.end (exchanges_of cs) (exchanges_of ds) a b c h.kept steps k.kept);
+  kept = subst (λ (xs : List Exchange). LeavesBehind k.end xs a c) (sym (exchanges_more cs ds)) (kept_on h.end k.end (exchanges_of cs) (exchanges_of ds) a b c h.kept k.kept);
   lines = let m = faulted_more cs ds in omega (arith, h.lines, k.lines, m);
 }
 
@@ -81,7 +81,7 @@ module _ (w : World) (moments : List ℕ) (old new : KeeperState) (coming : Opti
       inputs = e ∙ ap (λ (xs : List (List ℕ)). input ∷ xs) (sym left) ∙ ap (λ (i : List ℕ). i ∷ b.coming) (sym same);
       outputs_are = last_output b.done b.present present ∙ ap (λ (os : List (List ℕ)). os ++ output_so_far b.present ∷ []) ended ∙ ap (λ (o : List ℕ). outputs d ++ o ∷ []) app;
       served = (end, after, served, (refl, refl));
-      kept = subst (λ (xs : List Exchange). LeavesBehind w end xs old new) (sym (append-nil c.exchanges)) kept;
+      kept = subst (λ (xs : List Exchange). LeavesBehind end xs old new) (sym (append-nil c.exchanges)) kept;
       lines = subst (λ (r : Result (Unit {0}) LineFail). RoseBy (cond (is_err r) 1 0 + 0) before now) is (fault_count s before now later rose);
     },
     refl,

@@ -5,6 +5,7 @@ use Rattle.std.specs.List.{list_any}
 use Rattle.std.proofs.lemmas.Bool.{eqb-true}
 use Rattle.http.specs.StatusCode.{reason_phrase}
 use Rattle.ut_model.specs.declared.reply.Reply.{Reply}
+use Rattle.ut_model.specs.declared.routed.Routed.{Routed}
 use Rattle.ut_model.specs.Refusals.{is_refusal_status}
 use Rattle.ut_rest.specs.Forms as rest
 use Rattle.ut_http.specs.Reply.{reply, reply_to}
@@ -49,10 +50,15 @@ found_form r e = subst (Form r) (sym e) (refl, λ w. absurd (omega (arith, w)))
 done_form : (r : Reply) → r.status ≡ 204 → r.body ≡ [] → HasForm r
 done_form r e empty = subst (Form r) (sym e) (refl, λ w. empty)
 
-pub judged_form : (j : Judged Reply) → rest.IsRequestReply j → JudgedForm j
-judged_form (Same r) (inl h) = refusal_form r h
-judged_form (Same r) (inr e) = found_form r e
-judged_form (Changed r) h = done_form r h.0 h.1
+created_form : (r : Reply) → r.status ≡ 201 → HasForm r
+created_form r e = subst (Form r) (sym e) (refl, λ w. absurd (omega (arith, w)))
+
+pub judged_form : (routed : Routed) (j : Judged Reply) → rest.IsRequestReply routed j → JudgedForm j
+judged_form routed (Same r) (inl h) = refusal_form r h
+judged_form routed (Same r) (inr e) = found_form r e
+judged_form routed (Changed r) (may, inl h) = done_form r h.0 h.1
+judged_form routed (Changed r) (may, inr (inl e)) = found_form r e
+judged_form routed (Changed r) (may, inr (inr e)) = created_form r e
 
 -- each status of a refusal has a phrase
 pub refusal_known : (s : ℕ) → IsTrue (is_refusal_status s) → IsSome (reason_phrase s)

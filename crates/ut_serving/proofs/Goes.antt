@@ -69,7 +69,7 @@ module _ (w : World) (moments input : List ℕ) (old : KeeperState) (before : Op
   -- so many turns, after which the connection goes on
   abbrev pub Goes : KeeperState → Option (List ℕ) → Option (List ℕ) → Option (List ℕ) → ℕ → Type 0
   Goes new coming left after n =
-      (p : Place) × (xs : List Exchange) × Follows (begins w moments input) xs p × LeavesBehind w p.world xs old new × IsHere p coming left × (p.closed ≡ false) × (p.count ≡ n) × (n ≤ 999)
+      (p : Place) × (xs : List Exchange) × Follows (begins w moments input) xs p × LeavesBehind p.world xs old new × IsHere p coming left × (p.closed ≡ false) × (p.count ≡ n) × (n ≤ 999)
       × Appends before after (joined (map reply_in xs))
 
   abbrev pub TurnsFrom : KeeperState → KeeperState → Option (List ℕ) → Option (List ℕ) → Option (List ℕ) → Option (List ℕ) → Option (List ℕ) → Option (List ℕ) → Bool → Result Bool LineFail → Type 0
@@ -88,7 +88,7 @@ module _ (w : World) (moments input : List ℕ) (old : KeeperState) (before : Op
           q,
           xs ++ x ∷ [],
           follows_more (begins w moments input) p q xs x follows is,
-          kept_on w p.world q.world xs (x ∷ []) old mid new kept steps k,
+          kept_on p.world q.world xs (x ∷ []) old mid new kept k,
           there,
           ap (λ (y : Place). y.closed) is.next ∙ sym open_,
           ap (λ (y : Place). y.count) is.next ∙ ap (λ k. k + 1) count,
@@ -102,8 +102,8 @@ module _ (w : World) (moments input : List ℕ) (old : KeeperState) (before : Op
       ]
 
   -- the last turn
-  by_reply : (mid new : KeeperState) (coming2 left2 after after2 : Option (List ℕ)) (p q : Place) (xs : List Exchange) (x : Exchange) → Steps mid new → Follows (begins w moments input) xs p → LeavesBehind w p.world xs old mid
-      → Appends before after (joined (map reply_in xs)) → IsAnswered p x q → LeavesBehind p.world q.world (x ∷ []) mid new → IsHere q coming2 left2
+  by_reply : (mid new : KeeperState) (coming2 left2 after after2 : Option (List ℕ)) (p q : Place) (xs : List Exchange) (x : Exchange) → Steps mid new → Follows (begins w moments input) xs p → LeavesBehind p.world xs old mid
+      → Appends before after (joined (map reply_in xs)) → IsAnswered p x q → LeavesBehind q.world (x ∷ []) mid new → IsHere q coming2 left2
       → (o : Over) (written : Bool) (out : List ℕ) → last_words o ≡ [] → IsOver o written q → IsOutput (reply_in x ∷ []) written out → Appends after after2 out
       → Serves w moments input old new coming2 before after2 (end_by written o)
   by_reply mid new coming2 left2 after after2 p q xs x steps follows kept wrote is k there o written out none over whole app = (
@@ -120,14 +120,14 @@ module _ (w : World) (moments input : List ℕ) (old : KeeperState) (before : Op
       world = refl;
       moments_left = refl;
     },
-    kept_on w p.world q.world xs (x ∷ []) old mid new kept steps k,
+    kept_on p.world q.world xs (x ∷ []) old mid new kept k,
     there.0,
     Appends-trans before after after2 (joined (map reply_in xs)) out wrote app,
     refl,
   )
 
-  by_over : (mid new : KeeperState) (coming2 after after2 : Option (List ℕ)) (p : Place) (xs : List Exchange) → Steps mid new → Follows (begins w moments input) xs p → LeavesBehind w p.world xs old mid
-      → Appends before after (joined (map reply_in xs)) → LeavesBehind p.world p.world [] mid new → coming2 ≡ Some p.moments
+  by_over : (mid new : KeeperState) (coming2 after after2 : Option (List ℕ)) (p : Place) (xs : List Exchange) → Steps mid new → Follows (begins w moments input) xs p → LeavesBehind p.world xs old mid
+      → Appends before after (joined (map reply_in xs)) → LeavesBehind p.world [] mid new → coming2 ≡ Some p.moments
       → (o : Over) (written : Bool) (out : List ℕ) → IsOver o written p → IsOutput (last_words o) written out → Appends after after2 out
       → Serves w moments input old new coming2 before after2 (end_by written o)
   by_over mid new coming2 after after2 p xs steps follows kept wrote k later o written out over whole app = (
@@ -136,7 +136,7 @@ module _ (w : World) (moments input : List ℕ) (old : KeeperState) (before : Op
     p.moments,
     refl,
     record { last = p; follows = follows; over = over; output = output_after (map reply_in xs) (last_words o) written out whole; world = refl; moments_left = refl },
-    subst (λ (ys : List Exchange). LeavesBehind w p.world ys old new) (append-nil xs) (kept_on w p.world p.world xs [] old mid new kept steps k),
+    subst (λ (ys : List Exchange). LeavesBehind p.world ys old new) (append-nil xs) (kept_on p.world p.world xs [] old mid new kept k),
     later,
     Appends-trans before after after2 (joined (map reply_in xs)) out wrote app,
     refl,
@@ -145,8 +145,8 @@ module _ (w : World) (moments input : List ℕ) (old : KeeperState) (before : Op
   front : (text out : List ℕ) (n : ℕ) → n ≤ length text → out ≡ take n text → IsOutput (text ∷ []) false out
   front text out n within is = ([], text, n, refl, within, is)
 
-  by_replied : (mid new : KeeperState) (coming2 left2 after after2 : Option (List ℕ)) (p q : Place) (xs : List Exchange) (x : Exchange) → Steps mid new → Follows (begins w moments input) xs p → LeavesBehind w p.world xs old mid
-      → Appends before after (joined (map reply_in xs)) → IsAnswered p x q → LeavesBehind p.world q.world (x ∷ []) mid new → IsHere q coming2 left2
+  by_replied : (mid new : KeeperState) (coming2 left2 after after2 : Option (List ℕ)) (p q : Place) (xs : List Exchange) (x : Exchange) → Steps mid new → Follows (begins w moments input) xs p → LeavesBehind p.world xs old mid
+      → Appends before after (joined (map reply_in xs)) → IsAnswered p x q → LeavesBehind q.world (x ∷ []) mid new → IsHere q coming2 left2
       → (s : Result (Unit {0}) LineFail) → Replied after after2 x (over_by s) → Serves w moments input old new coming2 before after2 s
   by_replied mid new coming2 left2 after after2 p q xs x steps follows kept wrote is k there (Ok done) (shut, app) =
       by_reply mid new coming2 left2 after after2 p q xs x steps follows kept wrote is k there at_close true (reply_in x) refl (refl, ap (λ (y : Place). y.closed) is.next ∙ sym shut) (sym (append-nil (reply_in x))) app

@@ -1,69 +1,191 @@
--- What is judged, by the step of the world.
-use Rattle.std.proofs.Common.{◌≡◌, ◌⊎◌, inl, inr, ℕ, ◌+◌, Bool, List, Result, Ok, Err, sym, ap, subst, ◌∙◌}
-use Rattle.ut_http.specs.Reply.{reply_to}
-use Rattle.ut_keeper.specs.Draft.{Held, removals_of}
-use Rattle.ut_keeper.specs.State.{KeeperState, data_table}
+-- What is judged, by the step of the organisation that a message's key names.
+use Rattle.std.proofs.Common.{◌≡◌, ◌⊎◌, inl, inr, ℕ, ◌<◌, ◌^◌, Bool, true, false, List, [], ◌∷◌, Option, Some, None, Result, Ok, Err, refl, sym, ap, subst, ◌∙◌}
+use Rattle.std.proofs.lemmas.Slice.Eq.{bytes_eq-Decides}
+use Rattle.std.specs.Prelude.{if◌then◌else◌}
+use Rattle.std.specs.Option.{option_and_then}
+use Rattle.std.specs.Str.{bytes_eq}
 use Rattle.ut_keeper.specs.Tables.{Tables}
 use Rattle.ut_keys.specs.declared.fail.StoreFail.{StoreFail}
 use Rattle.ut_keys.specs.declared.fail.StoreFail.TheVariants.{Damaged, Keeper, Memory}
-use Rattle.ut_model.specs.declared.limit.Limit.TheVariants as limit
+use Rattle.ut_model.specs.declared.caller.Caller.{Caller}
+use Rattle.ut_model.specs.declared.refusal.Refusal.TheVariants.{InvalidSession}
 use Rattle.ut_model.specs.declared.reply.Reply.{Reply}
-use Rattle.ut_step.specs.Built.{step}
-use Rattle.ut_model.specs.Limits.{limit_number}
+use Rattle.ut_model.specs.Callers.{Named, admitted, caller_of}
+use Rattle.ut_model.specs.Cases.{in_case}
 use Rattle.ut_model.specs.Paths.{Asked}
 use Rattle.ut_model.specs.Replies.{reply_of}
-use Rattle.ut_model.specs.Step.{Message}
-use Rattle.ut_model.specs.Tenant.{Tenant}
+use Rattle.ut_model.specs.Routing.{routed}
+use Rattle.ut_model.specs.Step.{Message, if_called, refused}
+use Rattle.ut_model.specs.Tenant.{Tenant, User}
 use Rattle.ut_model.specs.Verdict.{Verdict}
-use Rattle.ut_model.specs.World.{World, with_tenant}
-use Rattle.ut_stands.specs.Operations.{IsChange, Judges, RepliesIn}
-use Rattle.ut_stands.specs.Reads.{FindsAs}
-use Rattle.ut_stands.specs.Stands.{Stands}
+use Rattle.ut_model.specs.World.{user_at}
+use Rattle.ut_people.specs.People.{FindsCaller, FindsNamed, caller_among}
+use Rattle.ut_rest.specs.Forms.{IsRequestReply}
+use Rattle.ut_stands.specs.Local.{FindsIn, KeepsOthers, StandsFor, StandsIn}
+use Rattle.ut_stands.specs.Operations.{IsChange, Judges, RepliesAt, Responds}
+use Rattle.ut_stands.specs.Plan.{OrgPlan}
 use Rattle.ut_stands.specs.declared.judged.Judged.{Judged}
 use Rattle.ut_stands.specs.declared.judged.Judged.TheVariants.{Changed, Same}
-use Rattle.ut_serving.specs.Requests.{does, in_bytes}
+use Rattle.ut_step.specs.Built.{answer_built, answered, asking, verdict_to}
+use Rattle.ut_step.specs.Own.{IsAsking}
+use Rattle.ut_serving.specs.Own.{JudgesBy, JudgesCaller, JudgesNamed, JudgesReply, JudgesUnnamed, bytes_of, own_does}
+use Rattle.ut_serving.specs.Requests.{in_bytes}
 
--- the data rows that may be shown over a draft
-abbrev pub shown_most : {K : Type 0} → (K → KeeperState) → Held K → ℕ
-shown_most state d = limit_number limit.RecordsPerObject + removals_of state data_table d
+abbrev Returned : Type 0
+Returned = Result (Judged (List ℕ)) StoreFail
 
--- what is read of tables that stand for a world is never damaged
-pub undamaged : {X : Type 0} (value : World → X) (t : Tables) (e : StoreFail) (w : World) → FindsAs value t (Err e) → Stands t w → e ≡ Damaged → ⊥
-undamaged value t Damaged w h stands is = h w stands
-undamaged value t Keeper w h stands is = absurd cc
-undamaged value t Memory w h stands is = absurd cc
+-- what was judged, in bytes; or it is out of memory
+abbrev pub IsBytes : (method : List ℕ) → (close : Bool) → Judged Reply → Returned → Type 0
+IsBytes method close j r = (r ≡ Ok (in_bytes method close j)) ⊎ (r ≡ Err Memory)
 
--- the reply to a request by its verdict, as an operation on the world
-pub replied : (of : World → Reply × World) (w : World) (org : ℕ) (a : Asked) (v : Verdict) (after : Tables) (r : Result (Judged Reply) StoreFail)
-    → of w ≡ (reply_of a v.answer, with_tenant w org v.tenant) → with_tenant w org a.tenant ≡ w → RepliesIn org a v w after r → Judges of w after r
-replied of w org a v after (Ok (Same x)) e same h = (
-  h.0 ∙ sym (ap (λ (s : Reply × World). s.0) e),
-  ap (λ (s : Reply × World). s.1) e ∙ ap (λ (t : Tenant). with_tenant w org t) h.1 ∙ same,
-)
-replied of w org a v after (Ok (Changed x)) e same h = (
-  h.0 ∙ sym (ap (λ (s : Reply × World). s.0) e),
-  subst (λ (u : World). Stands after u) (sym (ap (λ (s : Reply × World). s.1) e)) h.1,
-)
-replied of w org a v after (Err f) e same h = h
+by_bytes : (P : Returned → Type 0) (method : List ℕ) (close : Bool) (j : Judged Reply) (r : Returned) → IsBytes method close j r → P (Ok (in_bytes method close j)) → P (Err Memory) → P r
+by_bytes P method close j r (inl is) given none = subst P (sym is) given
+by_bytes P method close j r (inr is) given none = subst P (sym is) none
 
--- a reply in bytes goes with changes only where the judged one does
-pub changes_in : (P : Type 0) (method : List ℕ) (close : Bool) (j : Judged Reply) (r : Result (Judged (List ℕ)) StoreFail) → (r ≡ Ok (in_bytes method close j)) ⊎ (r ≡ Err Memory)
-    → (IsChange (Ok j) → P) → IsChange r → P
-changes_in P method close (Same x) r (inl is) h change = absurd (subst (λ (y : Result (Judged (List ℕ)) StoreFail). IsChange y) is change)
-changes_in P method close (Changed x) r (inl is) h change = h tt
-changes_in P method close j r (inr is) h change = absurd (subst (λ (y : Result (Judged (List ℕ)) StoreFail). IsChange y) is change)
+-- an operation that does the same to s
+same_does : {S X : Type 0} (stands : Tables → S → Type 0) (d e : S → X × S) (s : S) (after : Tables) (r : Result (Judged X) StoreFail) → d s ≡ e s → Judges stands d s after r → Judges stands e s after r
+same_does {S = S} {X = X} stands d e s after (Ok (Same x)) is h = subst (λ (y : X × S). (x ≡ y.0) × (y.1 ≡ s)) is h
+same_does {S = S} {X = X} stands d e s after (Ok (Changed x)) is h = subst (λ (y : X × S). (x ≡ y.0) × stands after y.1) is h
+same_does stands d e s after (Err f) is h = h
 
-module _ (m : Message) (close : Bool) (now : ℕ) (w : World) (after : Tables) where
-  -- an operation that is the step's, in bytes
-  judged_done : (of : World → Reply × World) → of w ≡ step w m now → (j : Judged Reply) → Judges of w after (Ok j) → Judges (does m close now) w after (Ok (in_bytes m.method close j))
-  judged_done of e (Same r) h =
-      let is : r ≡ (step w m now).0 = h.0 ∙ ap (λ (s : Reply × World). s.0) e in
-      (ap (λ (s : Reply). reply_to m.method s.status s.body close) is, sym (ap (λ (s : Reply × World). s.1) e) ∙ h.1)
-  judged_done of e (Changed r) h =
-      let is : r ≡ (step w m now).0 = h.0 ∙ ap (λ (s : Reply × World). s.0) e in
-      (ap (λ (s : Reply). reply_to m.method s.status s.body close) is, subst (λ (u : World). Stands after u) (ap (λ (s : Reply × World). s.1) e) h.1)
+-- ---- a caller's message
 
-  pub judged_as : (of : World → Reply × World) → step w m now ≡ of w → (j : Judged Reply) (r : Result (Judged (List ℕ)) StoreFail)
-      → (r ≡ Ok (in_bytes m.method close j)) ⊎ (r ≡ Err Memory) → Judges of w after (Ok j) → Judges (does m close now) w after r
-  judged_as of e j r (inl is) h = subst (λ (x : Result (Judged (List ℕ)) StoreFail). Judges (does m close now) w after x) (sym is) (judged_done of (sym e) j h)
-  judged_as of e j r (inr is) h = subst (λ (x : Result (Judged (List ℕ)) StoreFail). Judges (does m close now) w after x) (sym is) (λ d. absurd cc)
+module _ (c : Caller) (m : Message) (close : Bool) (now : ℕ) (before after : Tables) where
+  abbrev verdict : Asked → Verdict
+  verdict a = verdict_to a m.body (routed m.method m.target)
+
+  -- what answers the caller is what answers the user
+  answered_is : (t : Tenant) (u : User) → IsAsking c (asking t now u) → answered c m now t ≡ (reply_of (asking t now u) (verdict (asking t now u)).answer, (verdict (asking t now u)).tenant)
+  answered_is t u h = ap (λ o. in_case o (refused InvalidSession t) (λ u. answer_built (asking t now u) m)) h.user
+
+  abbrev does_to : Tenant → Option Tenant → List ℕ × Option Tenant
+  does_to t s = (bytes_of m close (answered c m now t).0, Some (answered c m now t).1)
+
+  replied : (t : Tenant) (u : User) → IsAsking c (asking t now u) → (j : Judged Reply) → RepliesAt c.org (asking t now u) (verdict (asking t now u)) after (Ok j) → Judges (StandsFor c.org) (does_to t) (Some t) after (Ok (in_bytes m.method close j))
+  replied t u asks (Same r) h =
+      let is = answered_is t u asks in (
+        ap (bytes_of m close) (h.0 ∙ sym (ap (λ (s : Reply × Tenant). s.0) is)),
+        ap (λ (s : Reply × Tenant). Some s.1) is ∙ ap Some h.1,
+      )
+  replied t u asks (Changed r) h =
+      let is = answered_is t u asks in (
+        ap (bytes_of m close) (h.0 ∙ sym (ap (λ (s : Reply × Tenant). s.0) is)),
+        subst (λ (s : Tenant). StandsFor c.org after (Some s)) (sym (ap (λ (s : Reply × Tenant). s.1) is)) h.1,
+      )
+
+  change_of : (j : Judged Reply) → IsChange {X = List ℕ} (Ok (in_bytes m.method close j)) → IsChange (Ok j)
+  change_of (Same r) h = h
+  change_of (Changed r) h = h
+
+  pub caller_judged : (j : Judged Reply) (r : Returned) → IsBytes m.method close j r → Responds c.org (IsAsking c) verdict before after (Ok j) → JudgesCaller c m close now before after r
+  caller_judged j r is h = record {
+    others = by_bytes (λ x. IsChange x → KeepsOthers c.org before after) m.method close j r is (λ change. h.others (change_of j change)) (λ none. absurd none);
+    judged = λ q t u s asks. by_bytes (Judges (StandsFor c.org) (does_to t) (Some t) after) m.method close j r is (replied t u asks j (h.replied q (asking t now u) s asks)) (λ d. cc);
+  }
+
+  pub caller_failed : (e : StoreFail) → Responds c.org (IsAsking c) verdict before after (Err e) → JudgesCaller c m close now before after (Err e)
+  caller_failed e h = record { others = λ none. absurd none; judged = λ q t u s asks. h.replied q (asking t now u) s asks }
+
+-- the reply is of its form
+pub reply_judged : (m : Message) (close : Bool) (j : Judged Reply) (r : Returned) → IsBytes m.method close j r → IsRequestReply (routed m.method m.target) j → JudgesReply m close r
+reply_judged m close j r is h = by_bytes (JudgesReply m close) m.method close j r is (j, h, refl) tt
+
+-- ---- who calls
+
+-- the user whose secret it is
+record Admits (n : Named) (t : Tenant) (c : Caller) : Type 0 where
+  user : User
+  there : user_at t.users n.user ≡ Some user
+  same : c ≡ record { org = n.org; user = user.id; admin = user.admin }
+
+admits : (n : Named) (t : Tenant) (c : Caller) → Some c ≡ caller_of n t → Admits n t c
+admits n t c e = by (user_at t.users n.user) refl e
+  where
+    by_digest : (u : User) → user_at t.users n.user ≡ Some u → (b : Bool) → Some c ≡ (if b then Some (record { org = n.org; user = u.id; admin = u.admin }) else None) → Admits n t c
+    by_digest u there true e = record { user = u; there = there; same = cc }
+    by_digest u there false e = absurd cc
+
+    by : (o : Option User) → user_at t.users n.user ≡ o → Some c ≡ option_and_then (admitted n) o → Admits n t c
+    by None there e = absurd cc
+    by (Some u) there e = by_digest u there _ e
+
+has_id : (users : List User) (i : List ℕ) (u : User) → user_at users i ≡ Some u → i ≡ u.id
+has_id [] i u e = absurd cc
+has_id (x ∷ xs) i u e = by (bytes_eq i x.id) refl (has_id xs i u)
+  where
+    by : (b : Bool) → bytes_eq i x.id ≡ b → (user_at xs i ≡ Some u → i ≡ u.id) → i ≡ u.id
+    by true same rest =
+        let is : x ≡ u = first (sym (ap (λ b. if b then Some x else user_at xs i) same) ∙ e) in
+        (bytes_eq-Decides i x.id).0 same ∙ ap (λ (y : User). y.id) is
+      where
+        first : Some x ≡ Some u → x ≡ u
+        first e = cc
+    by false same rest = rest (sym (ap (λ b. if b then Some x else user_at xs i) same) ∙ e)
+
+asks_so : (n : Named) (t : Tenant) (c : Caller) (now : ℕ) (h : Admits n t c) → IsAsking c (asking t now h.user)
+asks_so n t c now h = record {
+  user = subst (λ (i : List ℕ). user_at t.users i ≡ Some h.user) (has_id t.users n.user h.user h.there ∙ sym (ap (λ (x : Caller). x.user) h.same)) h.there;
+  admin = sym (ap (λ (x : Caller). x.admin) h.same);
+}
+
+module _ (n : Named) (m : Message) (close : Bool) (now : ℕ) (before after : Tables) where
+  -- the step where the caller is found, and where none is
+  step_called : (t : Tenant) (o : Option Caller) → caller_of n t ≡ o → own_does n m close now (Some t) ≡ (bytes_of m close (if_called answered m now o t).0, Some (if_called answered m now o t).1)
+  step_called t o e = ap (λ o. (bytes_of m close (if_called answered m now o t).0, Some (if_called answered m now o t).1)) e
+
+  -- a caller was found
+  pub named_judged : (c : Caller) (r : Returned) → n.org < 2 ^ 32 → FindsNamed n before (Ok (Some c)) → JudgesCaller c m close now before after r → JudgesNamed n m close now before after r
+  named_judged c r lo found h = record {
+    others = λ change. subst (λ (k : ℕ). KeepsOthers k before after) found.own (h.others change);
+    judged = λ q t s. by q t s (found.finds lo q t s);
+  }
+    where
+      by : (q : OrgPlan) (t : Option Tenant) → StandsIn n.org q before t → Some c ≡ caller_among n t → Judges (StandsFor n.org) (own_does n m close now) t after r
+      by q None s e = absurd cc
+      by q (Some t) s e =
+          let a = admits n t c e in
+          let judged = h.judged q t a.user (subst (λ (k : ℕ). StandsIn k q before (Some t)) (sym found.own) s) (asks_so n t c now a) in
+          same_does (StandsFor n.org) (λ x. (bytes_of m close (answered c m now t).0, Some (answered c m now t).1)) (own_does n m close now) (Some t) after r (sym (step_called t (Some c) (sym e)))
+          (subst (λ (k : ℕ). Judges (StandsFor k) (λ x. (bytes_of m close (answered c m now t).0, Some (answered c m now t).1)) (Some t) after r) found.own judged)
+
+  -- none was found, and the message is refused
+  refused_judged : (t : Option Tenant) (r : Returned) → None ≡ caller_among n t → JudgesUnnamed m close r → Judges (StandsFor n.org) (own_does n m close now) t after r
+  refused_judged None (Ok (Same x)) e h = (h, refl)
+  refused_judged (Some t) (Ok (Same x)) e h =
+      let is = step_called t None (sym e) in
+      (h ∙ sym (ap (λ (s : List ℕ × Option Tenant). s.0) is), ap (λ (s : List ℕ × Option Tenant). s.1) is)
+  refused_judged t (Ok (Changed x)) e h = absurd h
+  refused_judged t (Err f) e h = λ d. cc (h, d)
+
+  no_change : (r : Returned) → JudgesUnnamed m close r → IsChange r → ⊥
+  no_change (Ok (Same x)) h c = c
+  no_change (Ok (Changed x)) h c = h
+  no_change (Err f) h c = c
+
+  pub unnamed_judged : (r : Returned) → n.org < 2 ^ 32 → FindsNamed n before (Ok None) → JudgesUnnamed m close r → JudgesNamed n m close now before after r
+  unnamed_judged r lo found h = record { others = λ change. absurd (no_change r h change); judged = λ q t s. refused_judged t r (found.finds lo q t s) h }
+
+  -- the search failed
+  named_failed : (f : StoreFail) → n.org < 2 ^ 32 → FindsIn n.org (λ q t. caller_among n t) before (Err f) → JudgesNamed n m close now before after (Err f)
+  named_failed Damaged lo h = record { others = λ none. absurd none; judged = λ q t s. absurd (h q t s) }
+  named_failed Keeper lo h = record { others = λ none. absurd none; judged = λ q t s d. cc }
+  named_failed Memory lo h = record { others = λ none. absurd none; judged = λ q t s d. cc }
+
+module _ (m : Message) (close : Bool) (now : ℕ) (before after : Tables) where
+  no_caller : (c : Caller) → ◌≡◌ {A = Result (Option Caller) StoreFail} (Ok (Some c)) (Ok None) → ⊥
+  no_caller c e = cc
+
+  pub judged_called : (key : Option Named) (c : Caller) (r : Returned) → FindsCaller key before (Ok (Some c)) → JudgesCaller c m close now before after r → JudgesBy key m close now before after r
+  judged_called None c r found h = absurd (no_caller c found)
+  judged_called (Some n) c r found h = ((λ lo. named_judged n m close now before after c r lo found h), (λ hi. absurd (no_caller c (found.none hi))))
+
+  pub judged_uncalled : (key : Option Named) (r : Returned) → FindsCaller key before (Ok None) → JudgesUnnamed m close r → JudgesBy key m close now before after r
+  judged_uncalled None r found h = h
+  judged_uncalled (Some n) r found h = ((λ lo. unnamed_judged n m close now before after r lo found h), (λ hi. h))
+
+  not_failed : (f : StoreFail) → ◌≡◌ {A = Result (Option Caller) StoreFail} (Err f) (Ok None) → ⊥
+  not_failed f e = cc
+
+  pub judged_failed : (key : Option Named) (f : StoreFail) → FindsCaller key before (Err f) → JudgesBy key m close now before after (Err f)
+  judged_failed None f found = absurd (not_failed f found)
+  judged_failed (Some n) f found = ((λ lo. named_failed n m close now before after f lo (found.finds lo)), (λ hi. absurd (not_failed f (found.none hi))))

@@ -1,6 +1,5 @@
 -- What requests lead to, one after the other.
 use Rattle.std.proofs.Common.{◌≡◌, ◌⊎◌, inl, inr, ℕ, Bool, true, false, IsTrue, List, [], ◌∷◌, ◌++◌, Result, Ok, Err, refl, ap, ◌∙◌}
-use Rattle.ut_http.specs.declared.message.HttpMessage.{HttpMessage}
 use Rattle.ut_keeper.specs.State.{KeeperState, LeavesNoMore, Shows, Steps, Tells}
 use Rattle.ut_keeper.specs.Tables.{Tables}
 use Rattle.ut_keys.specs.declared.fail.StoreFail.{StoreFail}
@@ -10,7 +9,7 @@ use Rattle.ut_model.specs.World.{World}
 use Rattle.ut_stands.specs.Operations.{Does}
 use Rattle.ut_stands.specs.Stands.{Stands}
 use Rattle.ut_serving.specs.Leads.{IsReached, Leads, LeadsFrom, StandsReached, led_to}
-use Rattle.ut_serving.specs.Requests.{does, message_in}
+use Rattle.ut_serving.specs.Requests.{does}
 
 led_more : (w : World) (ps qs : List (Message × ℕ)) → led_to (led_to w ps) qs ≡ led_to w (ps ++ qs)
 led_more w [] qs = refl
@@ -65,18 +64,18 @@ pub led_then : (a b c : KeeperState) → LeadsFrom a b → Steps b c → LeadsFr
 led_then a b c h steps next tells is w stands = led_on w a b c (h tells is w stands) steps next
 
 -- one request
-pub led_by_request : (m : HttpMessage) (now : ℕ) (old new : KeeperState) (r : Result (List ℕ) StoreFail)
-    → (Tells old new → (w : World) → Stands old.tables w → Does (does (message_in m) m.close now) w old new r)
-    → (old.tells → IsTrue old.trusted → IsTrue new.is_clean → (w : World) → Stands old.tables w → (t : Tables) → new.may_leave t → old.may_leave t ⊎ Stands t (step w (message_in m) now).1)
+pub led_by_request : (m : Message) (close : Bool) (now : ℕ) (old new : KeeperState) (r : Result (List ℕ) StoreFail)
+    → (Tells old new → (w : World) → Stands old.tables w → Does Stands (does m close now) w new r)
+    → (old.tells → IsTrue old.trusted → IsTrue new.is_clean → (w : World) → Stands old.tables w → (t : Tables) → new.may_leave t → old.may_leave t ⊎ Stands t (step w m now).1)
     → LeadsFrom old new
-led_by_request m now old new r within crash tells is w stands = record {
-  tables = λ on. by r (within (tells, on) w stands) on;
+led_by_request m close now old new r within crash tells is w stands = record {
+  tables = λ on. by r (within (tells, on) w stands);
   crash = λ clean t l. elim (crash tells is clean w stands t l) [
     | inl before ↦ inl before
-    | inr done ↦ inr ((step w (message_in m) now).1, ((message_in m, now) ∷ [], refl), done)
+    | inr done ↦ inr ((step w m now).1, ((m, now) ∷ [], refl), done)
   ];
 }
   where
-    by : (s : Result (List ℕ) StoreFail) → Does (does (message_in m) m.close now) w old new s → IsTrue new.trusted → new.tells × StandsReached w new.tables
-    by (Ok bytes) h on = let t = h.1.tables on in (t.0, ((step w (message_in m) now).1, ((message_in m, now) ∷ [], refl), t.1))
-    by (Err e) h on = let t = h.1.tables on in (t.0, (w, ([], refl), t.1))
+    by : (s : Result (List ℕ) StoreFail) → Does Stands (does m close now) w new s → new.tells × StandsReached w new.tables
+    by (Ok bytes) h = (h.1.0, ((step w m now).1, ((m, now) ∷ [], refl), h.1.1))
+    by (Err e) h = (h.1.0, (w, ([], refl), h.1.1))

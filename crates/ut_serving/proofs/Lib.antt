@@ -1,5 +1,7 @@
 pub mod Kept
 pub mod Judging
+pub mod Messages
+pub mod Worlds
 pub mod Leading
 pub mod Turned
 pub mod Goes

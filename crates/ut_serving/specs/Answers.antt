@@ -1,8 +1,10 @@
 -- Answers: the bytes that an answer to one request holds, and what one request does.
-use Rattle.std.specs.Prelude.{◌≡◌, ℕ, List, [], ◌∷◌}
+use Rattle.std.specs.Prelude.{◌≡◌, ℕ, List, [], ◌∷◌, Result, Ok, Err}
 use Rattle.ut_http.specs.declared.message.HttpMessage.{HttpMessage}
 use Rattle.ut_http.specs.Reply.{reply_to, store_failed, no_memory}
 use Rattle.ut_keeper.specs.State.{KeeperState}
+use Rattle.ut_keys.specs.declared.fail.StoreFail.{StoreFail}
+use Rattle.ut_keys.specs.declared.fail.StoreFail.TheVariants as fail
 use Rattle.ut_model.specs.Bodies.{damaged_body}
 use Rattle.ut_model.specs.World.{World}
 use Rattle.ut_serving.specs.declared.request.Answer.{Answer}
@@ -23,6 +25,13 @@ IsFixed m (Made bytes) = Unit {0}
 IsFixed m (Damaged bytes) = bytes ≡ reply_to m.method 500 damaged_body m.close
 IsFixed m (Unavailable close) = close ≡ m.close
 IsFixed m (OutOfMemory close) = close ≡ m.close
+
+-- how the request ended
+abbrev pub outcome_of : Answer → Result (List ℕ) StoreFail
+outcome_of (Made bytes) = Ok bytes
+outcome_of (Damaged bytes) = Err fail.Damaged
+outcome_of (Unavailable close) = Err fail.Keeper
+outcome_of (OutOfMemory close) = Err fail.Memory
 
 abbrev pub IsMade : Answer → Type 0
 IsMade (Made bytes) = Unit {0}
@@ -49,4 +58,4 @@ exchange w m now o = record { world = w; message = message_in m; now = now; clos
 -- one request: what is written for it, and what it leaves behind
 abbrev pub Answers : World → HttpMessage → (now : ℕ) → KeeperState → KeeperState → List ℕ → Type 0
 Answers w m now old new out =
-    (o : Outcome) × (out ≡ reply_in (exchange w m now o)) × LeavesBehind w (world_after (exchange w m now o)) (exchange w m now o ∷ []) old new
+    (o : Outcome) × (out ≡ reply_in (exchange w m now o)) × LeavesBehind (world_after (exchange w m now o)) (exchange w m now o ∷ []) old new

@@ -17,7 +17,7 @@ pub record Brings (w : World) (moments : List ℕ) (d e : DoorState) (cs : List 
   -- the door has their outputs, one for each, and no more
   pub outputs_are : outputs e ≡ outputs d ++ outputs_of cs
   pub served : AreServed cs w moments end later
-  pub kept : LeavesBehind w end (exchanges_of cs) old new
+  pub kept : LeavesBehind end (exchanges_of cs) old new
   -- a read or a write ended at most as many of them as the faults of lines rose
   pub lines : RoseBy (faulted cs) before now
 

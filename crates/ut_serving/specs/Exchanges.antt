@@ -1,10 +1,8 @@
 -- Exchanges: requests with what was answered, the world after each, and what they leave behind in a keeper.
-use Rattle.std.specs.Prelude.{◌≡◌, ◌≢◌, ◌⊎◌, ℕ, ◌+◌, ◌≤◌, Bool, IsTrue, List, [], ◌∷◌}
-use Rattle.std.specs.List.{AllByRecursion}
+use Rattle.std.specs.Prelude.{ℕ, ◌+◌, ◌≤◌, Bool, IsTrue, List, [], ◌∷◌}
 use Rattle.ut_value.specs.Causes.{up_to_last}
 use Rattle.ut_http.specs.Reply.{reply_to, store_failed, no_memory}
 use Rattle.ut_keeper.specs.State.{KeeperState}
-use Rattle.ut_keeper.specs.Tables.{Tables}
 use Rattle.ut_step.specs.Built.{step}
 use Rattle.ut_model.specs.Step.{Message}
 use Rattle.ut_model.specs.World.{World}
@@ -62,21 +60,10 @@ abbrev pub stores : List Exchange → ℕ
 stores [] = 0
 stores (x ∷ xs) = fault_of x.outcome + stores xs
 
--- all of them met this world
-abbrev pub AllMet : World → List Exchange → Type 0
-AllMet w xs = AllByRecursion (λ x. x.world ≡ w) xs
-
--- `late` is the world of one of them done whole, though it was answered 503 or 507; from it on none changed the world `end`
-abbrev pub IsLate : List Exchange → World → World → Type 0
-IsLate [] end late = ⊥
-IsLate (x ∷ xs) end late = ((x.outcome ≢ done) × (late ≡ done_whole x) × AllMet end (x ∷ xs)) ⊎ IsLate xs end late
-
--- the keeper after these requests, which led from the world w to `end`
-pub record LeavesBehind (w end : World) (xs : List Exchange) (old new : KeeperState) : Type 0 where
+-- the keeper after these requests, which led to the world `end`; while it is trusted, a crash leaves its tables and nothing
+-- else (`Keeper.settled`)
+pub record LeavesBehind (end : World) (xs : List Exchange) (old new : KeeperState) : Type 0 where
   -- its tables stand for the world after them
   pub tables : IsTrue new.trusted → new.tells × Stands new.tables end
   -- at most as many were answered 503 as its faults rose
   pub faults : up_to_last (old.faults + stores xs) ≤ new.faults
-  -- a crash leaves the world after them; or what it might have left before, where none changed the world; or one done late
-  pub crash : IsTrue new.is_clean → (m : Tables) → new.may_leave m
-      → (old.may_leave m × (w ≡ end) × AllMet end xs) ⊎ (Stands m end ⊎ ((late : World) × IsLate xs end late × Stands m late))

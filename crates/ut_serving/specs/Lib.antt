@@ -1,4 +1,5 @@
 pub mod Requests
+pub mod Own
 pub mod Exchanges
 pub mod Answers
 pub mod Leads

@@ -39,9 +39,8 @@ pub fn connection_laws()
 pub fn serving_laws<K: Keeper>()
     // Tables that stand for a world were only read.
     ensures left_by_reading { (w : World) (a b : K) → Steps (K.state a) (K.state b)
-        → (IsTrue (K.state b).trusted → Shows (K.state b) (K.state a).tables)
-        → LeavesNoMore (K.state a) (K.state b) → Stands (K.state a).tables w
-        → LeavesBehind w w [] (K.state a) (K.state b) }
+        → (IsTrue (K.state b).trusted → Shows (K.state b) (K.state a).tables) → Stands (K.state a).tables w
+        → LeavesBehind w [] (K.state a) (K.state b) }
     ensures led_by_reading { (w : World) (a b : K)
         → (IsTrue (K.state b).trusted → Shows (K.state b) (K.state a).tables)
         → LeavesNoMore (K.state a) (K.state b) → Stands (K.state a).tables w
@@ -49,8 +48,8 @@ pub fn serving_laws<K: Keeper>()
 
     // Requests after it.
     ensures left_from_open { (w end : World) (xs : List Exchange) (a b c : K)
-        → LeavesBehind w w [] (K.state a) (K.state b) → Steps (K.state b) (K.state c)
-        → LeavesBehind w end xs (K.state b) (K.state c) → LeavesBehind w end xs (K.state a) (K.state c) }
+        → LeavesBehind w [] (K.state a) (K.state b)
+        → LeavesBehind end xs (K.state b) (K.state c) → LeavesBehind end xs (K.state a) (K.state c) }
     ensures led_from_open { (w : World) (a b c : K)
         → Leads w (K.state a) (K.state b) → Steps (K.state b) (K.state c)
         → LeadsFrom (K.state b) (K.state c) → Leads w (K.state a) (K.state c) }

@@ -1,8 +1,11 @@
 //! One connection, served to its end.
 
-ghost use Rattle.std.specs.Prelude.{◌≡◌, ◌≤◌, ◌==◌, false, IfOk, IsErrOf, ℕ, List, Some};
+ghost use Rattle.std.specs.Prelude.{◌≡◌, ◌⊎◌, ◌<◌, ◌≤◌, ◌==◌, [], false, length, IfOk, IsErrOf, ℕ, List, Ok, Some};
 ghost use Rattle.std.specs.Io.KnownBytes.{Keeps, prepend_known};
 ghost use Rattle.ut_value.specs.Causes.{Cause};
+ghost use Rattle.ut_http.specs.Item.{IsItem, whole};
+ghost use Rattle.ut_http.specs.Reads.{read_limit};
+ghost use Rattle.ut_http.specs.declared.message.HttpMessage.{HttpMessage};
 ghost use Rattle.ut_keeper.specs.State.{Steps, Tells};
 ghost use Rattle.ut_model.specs.World.{World};
 ghost use Rattle.ut_stands.specs.Stands.{Stands};
@@ -16,13 +19,14 @@ ghost use Rattle.ut_serving.specs.declared.wire.LineFail.TheVariants.{Read, Writ
 use crate::replies::last_reply;
 use crate::request::{Answer, answer_message};
 use crate::wire::{LineFail, Wire};
-use std::alloc::Global;
+use http::Method;
+use std::alloc::{AllocError, Global};
 use ut_http::{
     Buffer, HttpFail, HttpMessage, Next, out_of_memory, out_of_memory_to, unavailable_to,
 };
 use ut_io::Clock;
 use ut_keeper::Keeper;
-use ut_value::Text;
+use ut_rest::Routes;
 
 // Writes one text.
 fn write_text<W: Wire>(wire: &mut W, text: &[u8]) -> Result<(), LineFail>
@@ -39,7 +43,7 @@ fn write_text<W: Wire>(wire: &mut W, text: &[u8]) -> Result<(), LineFail>
 }
 
 // Writes what answers a message with this method.
-fn write_answer<W: Wire>(wire: &mut W, method: &Text, answer: &Answer) -> Result<(), LineFail>
+fn write_answer<W: Wire>(wire: &mut W, method: &Method, answer: &Answer) -> Result<(), LineFail>
     ensures wrote { Wrote (W.output wire.old) (W.output wire.new) (bytes_in method.now answer.now) result }
     ensures unread { Keeps (W.input wire.old) (W.input wire.new) }
     ensures stays { W.stays wire.old wire.new }
@@ -57,6 +61,7 @@ fn write_answer<W: Wire>(wire: &mut W, method: &Text, answer: &Answer) -> Result
 // Ends a connection at bytes that are no message.
 fn refuse<W: Wire>(alloc: Global, wire: &mut W, fail: HttpFail) -> Result<(), LineFail>
     ensures refuses { RefusesWith fail (W.output wire.old) (W.output wire.new) result }
+    ensures unread { Keeps (W.input wire.old) (W.input wire.new) }
     ensures stays { W.stays wire.old wire.new }
     ensures reads { Cause (W.read_faults wire.old) (W.read_faults wire.new) (IsErrOf result Read) }
     ensures writes { Cause (W.write_faults wire.old) (W.write_faults wire.new) (IsErrOf result Write) }
@@ -70,6 +75,7 @@ fn refuse<W: Wire>(alloc: Global, wire: &mut W, fail: HttpFail) -> Result<(), Li
 // Answers a message, and writes the reply.
 fn reply<K: Keeper, W: Wire, C: Clock>(
     alloc: Global,
+    routes: &Routes,
     keeper: &mut K,
     wire: &mut W,
     clock: &mut C,
@@ -91,7 +97,7 @@ fn reply<K: Keeper, W: Wire, C: Clock>(
     ensures writes { Cause (W.write_faults wire.old) (W.write_faults wire.new) (IsErrOf result Write) }
 {
     let now = clock.now();
-    let answer = answer_message(alloc, keeper, message, now);
+    let answer = answer_message(alloc, routes, keeper, message, now);
     write_answer(wire, &message.method, &answer)
 }
 
@@ -108,6 +114,7 @@ fn over_if_written(written: Result<(), LineFail>, over: bool) -> Result<bool, Li
 // Answers the next item of a connection, and returns whether the connection is over.
 fn turn<K: Keeper, W: Wire, C: Clock>(
     alloc: Global,
+    routes: &Routes,
     keeper: &mut K,
     wire: &mut W,
     clock: &mut C,
@@ -125,6 +132,12 @@ fn turn<K: Keeper, W: Wire, C: Clock>(
         → IsHere p (C.coming clock.old) (prepend_known buffer.old (W.input wire.old))
         → p.closed ≡ false → (p.count == 999) ≡ last
         → FallsIn p (K.state keeper.new) (W.output wire.old) (W.output wire.new) result }
+    // With a whole message at hand nothing is read before its reply is written; behind one for which it read, less stays at
+    // hand than one read may give.
+    ensures at_hand { (m : HttpMessage) (rest : List ℕ) → IsItem buffer.old (whole m) rest
+        → Keeps (W.input wire.old) (W.input wire.new) }
+    ensures read_ahead { result ≡ Ok false
+        → Keeps (W.input wire.old) (W.input wire.new) ⊎ (length buffer.new < read_limit) }
     ensures grows { Grows (W.output wire.old) (W.output wire.new) }
     ensures leads { LeadsFrom (K.state keeper.old) (K.state keeper.new) }
     ensures steps { Steps (K.state keeper.old) (K.state keeper.new) }
@@ -136,7 +149,7 @@ fn turn<K: Keeper, W: Wire, C: Clock>(
         Ok(Next::Message(message)) => {
             let close = message.close || last;
             let message = HttpMessage { close, ..message };
-            over_if_written(reply(alloc, keeper, wire, clock, &message), close)
+            over_if_written(reply(alloc, routes, keeper, wire, clock, &message), close)
         }
         Ok(Next::End) => Ok(true),
         Ok(Next::Cut) => Ok(true),
@@ -149,6 +162,7 @@ fn turn<K: Keeper, W: Wire, C: Clock>(
 // Takes turns to the end of a connection: the thousandth reply closes it.
 fn turns<K: Keeper, W: Wire, C: Clock>(
     alloc: Global,
+    routes: &Routes,
     keeper: &mut K,
     wire: &mut W,
     clock: &mut C,
@@ -170,11 +184,20 @@ fn turns<K: Keeper, W: Wire, C: Clock>(
     ensures writes { Cause (W.write_faults wire.old) (W.write_faults wire.new) (IsErrOf result Write) }
 {
     for count in 0..1000u32 {
-        if turn(alloc, keeper, wire, clock, buffer, count == 999)? {
+        if turn(alloc, routes, keeper, wire, clock, buffer, count == 999)? {
             return Ok(());
         }
     }
     Ok(())
+}
+
+// What a connection begins with: nothing read, and the routes.
+fn begin(alloc: Global) -> Result<(Buffer, Routes), AllocError>
+    ensures { IfOk result (λ begun. begun.0 ≡ []) }
+{
+    let buffer = Buffer::new(alloc)?;
+    let routes = Routes::new(alloc)?;
+    Ok((buffer, routes))
 }
 
 /// Serves one connection to its end, with at most 1,000 replies to messages. The thousandth closes it, and so do a message
@@ -204,8 +227,8 @@ pub fn connection<K: Keeper, W: Wire, C: Clock>(
     ensures reads { Cause (W.read_faults wire.old) (W.read_faults wire.new) (IsErrOf result Read) }
     ensures writes { Cause (W.write_faults wire.old) (W.write_faults wire.new) (IsErrOf result Write) }
 {
-    match Buffer::new(alloc) {
-        Ok(mut buffer) => turns(alloc, keeper, wire, clock, &mut buffer),
+    match begin(alloc) {
+        Ok((mut buffer, routes)) => turns(alloc, &routes, keeper, wire, clock, &mut buffer),
         Err(_) => write_text(wire, out_of_memory(true)),
     }
 }

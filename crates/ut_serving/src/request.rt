@@ -1,30 +1,30 @@
 //! One request: who calls, what is answered, and the keeper after it.
 
-ghost use Rattle.std.specs.Prelude.{◌≡◌, ◌<◌, ◌+◌, ◌⊎◌, IfOk, IsErrOf, IsTrue, OnErr, Some, is_ok, true};
-ghost use Rattle.ut_keeper.specs.Draft.{DraftReads, DraftTells, DraftWorks, count_of, removals_of, state_of, tables_of};
+ghost use Rattle.std.specs.Prelude.{◌≡◌, ◌+◌, ◌⊎◌, IsTrue, true};
+ghost use Rattle.ut_keeper.specs.Draft.{DraftTells, removals_of, tables_of};
 ghost use Rattle.ut_keeper.specs.State.{KeeperCause, Shows, StaysAfter, Steps, Tells, data_table};
 ghost use Rattle.ut_keeper.specs.Tables.{Tables};
-ghost use Rattle.ut_keys.specs.declared.fail.StoreFail.TheVariants.{Keeper};
-ghost use Rattle.ut_model.specs.declared.limit.Limit.TheVariants as limit;
-ghost use Rattle.ut_step.specs.Built.{answered, step};
-ghost use Rattle.ut_model.specs.Limits.{limit_number};
-ghost use Rattle.ut_model.specs.Step.{caller_by, in_org};
+ghost use Rattle.ut_model.specs.Step.{key_in};
 ghost use Rattle.ut_model.specs.World.{World};
-ghost use Rattle.ut_stands.specs.Operations.{Does, IsChange, Judges};
-ghost use Rattle.ut_stands.specs.Reads.{FindsAs};
+ghost use Rattle.ut_people.specs.People.{FindsCaller};
+ghost use Rattle.ut_stands.specs.Calls.{Calls, ended};
+ghost use Rattle.ut_stands.specs.Operations.{Drafts};
 ghost use Rattle.ut_stands.specs.Stands.{Stands};
+ghost use Rattle.ut_step.specs.Built.{step};
+ghost use Rattle.ut_step.specs.Own.{request_changes, request_gone, request_shown};
 ghost use Rattle.ut_serving.specs.Leads.{LeadsFrom};
-ghost use Rattle.ut_serving.specs.Requests.{JudgedForm, does, message_in};
+ghost use Rattle.ut_serving.specs.Own.{Asks, DoesMessage, JudgesCaller, JudgesMessage, JudgesReply, JudgesUnnamed, Replies};
+ghost use Rattle.ut_serving.specs.Requests.{message_in};
 
 use crate::replies::{damaged_bytes, judged_bytes, refusal_bytes_to};
 use std::alloc::Global;
 use ut_http::HttpMessage;
 use ut_keeper::{Draft, Keeper, draft_laws};
 use ut_keys::StoreFail;
-use ut_model::{Caller, Refusal, Reply};
+use ut_model::{Caller, Refusal};
 use ut_people::caller;
-use ut_rest::respond;
-use ut_stands::{Judged, finish};
+use ut_rest::{Routes, respond};
+use ut_stands::{Judged, call_laws, ended_laws, finish, local_laws};
 use ut_step::step_laws;
 use ut_value::Bytes;
 
@@ -47,7 +47,7 @@ pub enum Answer {
     },
 }
 
-ghost use Rattle.ut_serving.specs.Answers.{Answers, IsDamaged, IsFixed, IsMade, IsUnavailable, bytes_in};
+ghost use Rattle.ut_serving.specs.Answers.{Answers, IsDamaged, IsFixed, IsMade, IsUnavailable, bytes_in, outcome_of};
 
 // The caller whom a message's key names, if its secret is right.
 fn caller_of<K: Keeper>(
@@ -56,98 +56,77 @@ fn caller_of<K: Keeper>(
     message: &HttpMessage,
 ) -> Result<Option<Caller>, StoreFail>
     ensures finds { DraftTells K.state draft.old draft.new
-        → FindsAs (λ w. caller_by w (message_in message.now)) (tables_of K.state draft.old) result }
-    ensures reads { DraftReads K.state 0 draft.old draft.new }
-    ensures stays { StaysAfter (is_ok result) (state_of K.state draft.old) (state_of K.state draft.new) }
-    ensures cause { KeeperCause (state_of K.state draft.old) (state_of K.state draft.new) (IsErrOf result Keeper) }
+        → FindsCaller (key_in (message_in message.now)) (tables_of K.state draft.old) result }
+    ensures calls { Calls K.state 0 (ended result) draft.old draft.new }
 {
-    draft_laws::<K>();
+    call_laws::<K>();
     match &message.bearer {
         Some(key) => caller(alloc, draft, key.as_str()),
         None => Ok(None),
     }
 }
 
-// Judges what a caller's message asks for, as the caller's.
-fn answer_caller<K: Keeper>(
-    alloc: Global,
-    draft: &mut Draft<'_, K>,
-    caller: &Caller,
-    message: &HttpMessage,
-    now: u64,
-) -> Result<Judged<Reply>, StoreFail>
-    ensures judged { DraftTells K.state draft.old draft.new
-        → (w : World) → Stands (tables_of K.state draft.old) w
-        → caller_by w (message_in message.now) ≡ Some caller.now
-        → Judges (λ v. in_org v caller.now.org (answered caller.now (message_in message.now) now)) w
-        (tables_of K.state draft.new) result }
-    ensures changing { IsChange result → 0 < count_of draft.new }
-    ensures form { IfOk result JudgedForm }
-    ensures works { DraftWorks K.state 3 0
-        (limit_number limit.RecordsPerObject + removals_of K.state data_table draft.old) draft.old draft.new }
-    ensures stays { StaysAfter (is_ok result) (state_of K.state draft.old) (state_of K.state draft.new) }
-    ensures cause { KeeperCause (state_of K.state draft.old) (state_of K.state draft.new) (IsErrOf result Keeper) }
-{
-    step_laws();
-    respond(
-        alloc,
-        draft,
-        caller,
-        message.method.as_str(),
-        message.target.as_str(),
-        message.body.as_slice(),
-    )
-}
-
-// Judges a caller's message, and makes the bytes of its reply.
+// Judges what a caller's message asks for, and makes the bytes of its reply.
 fn judge_called<K: Keeper>(
     alloc: Global,
+    routes: &Routes,
     draft: &mut Draft<'_, K>,
     caller: &Caller,
     message: &HttpMessage,
     now: u64,
 ) -> Result<Judged<Bytes>, StoreFail>
-    ensures judged { DraftTells K.state draft.old draft.new
-        → (w : World) → Stands (tables_of K.state draft.old) w
-        → caller_by w (message_in message.now) ≡ Some caller.now
-        → Judges (does (message_in message.now) message.now.close now) w (tables_of K.state draft.new) result }
-    ensures changing { IsChange result → 0 < count_of draft.new }
-    ensures works { DraftWorks K.state 3 0
-        (limit_number limit.RecordsPerObject + removals_of K.state data_table draft.old) draft.old draft.new }
-    ensures stays { StaysAfter (is_ok result) (state_of K.state draft.old) (state_of K.state draft.new) }
-    ensures cause { KeeperCause (state_of K.state draft.old) (state_of K.state draft.new) (IsErrOf result Keeper) }
+    ensures what { DraftTells K.state draft.old draft.new
+        → JudgesCaller caller.now (message_in message.now) message.now.close now (tables_of K.state draft.old)
+        (tables_of K.state draft.new) result }
+    ensures form { JudgesReply (message_in message.now) message.now.close result }
+    ensures drafts { Drafts K.state request_changes request_gone (request_shown + removals_of K.state data_table draft.old) result
+        draft.old draft.new }
 {
-    step_laws();
-    match answer_caller(alloc, draft, caller, message, now) {
+    call_laws::<K>();
+    match respond(
+        alloc,
+        routes,
+        draft,
+        caller,
+        &message.method,
+        message.target.as_str(),
+        message.body.as_slice(),
+    ) {
         Ok(judged) => judged_bytes(alloc, message, &judged),
         Err(fail) => Err(fail),
+    }
+}
+
+// Refuses a message of no caller.
+fn refuse_uncalled(alloc: Global, message: &HttpMessage) -> Result<Judged<Bytes>, StoreFail>
+    ensures what { JudgesUnnamed (message_in message.now) message.now.close result }
+    ensures form { JudgesReply (message_in message.now) message.now.close result }
+{
+    match refusal_bytes_to(alloc, message, &Refusal::InvalidSession) {
+        Ok(bytes) => Ok(Judged::Same(bytes)),
+        Err(_) => Err(StoreFail::Memory),
     }
 }
 
 // Judges a message: a caller's by what it asks, and one of no caller is refused.
 fn judge<K: Keeper>(
     alloc: Global,
+    routes: &Routes,
     draft: &mut Draft<'_, K>,
     message: &HttpMessage,
     now: u64,
 ) -> Result<Judged<Bytes>, StoreFail>
-    ensures judged { DraftTells K.state draft.old draft.new
-        → (w : World) → Stands (tables_of K.state draft.old) w
-        → Judges (does (message_in message.now) message.now.close now) w (tables_of K.state draft.new) result }
-    ensures changing { IsChange result → 0 < count_of draft.new }
-    ensures works { DraftWorks K.state 3 0
-        (limit_number limit.RecordsPerObject + removals_of K.state data_table draft.old) draft.old draft.new }
-    ensures stays { StaysAfter (is_ok result) (state_of K.state draft.old) (state_of K.state draft.new) }
-    ensures cause { KeeperCause (state_of K.state draft.old) (state_of K.state draft.new) (IsErrOf result Keeper) }
+    ensures what { DraftTells K.state draft.old draft.new
+        → JudgesMessage message.now now (tables_of K.state draft.old) (tables_of K.state draft.new) result }
+    ensures form { JudgesReply (message_in message.now) message.now.close result }
+    ensures drafts { Drafts K.state request_changes request_gone (request_shown + removals_of K.state data_table draft.old) result
+        draft.old draft.new }
 {
     draft_laws::<K>();
-    step_laws();
+    call_laws::<K>();
     match caller_of(alloc, draft, message) {
-        Ok(Some(caller)) => judge_called(alloc, draft, &caller, message, now),
-        Ok(None) => match refusal_bytes_to(alloc, message, &Refusal::InvalidSession) {
-            Ok(bytes) => Ok(Judged::Same(bytes)),
-            Err(_) => Err(StoreFail::Memory),
-        },
+        Ok(Some(caller)) => judge_called(alloc, routes, draft, &caller, message, now),
+        Ok(None) => refuse_uncalled(alloc, message),
         Err(fail) => Err(fail),
     }
 }
@@ -155,62 +134,36 @@ fn judge<K: Keeper>(
 // A request done whole, or not at all.
 fn answer_within<K: Keeper>(
     alloc: Global,
+    routes: &Routes,
     keeper: &mut K,
     message: &HttpMessage,
     now: u64,
 ) -> Result<Bytes, StoreFail>
-    ensures within { Tells (K.state keeper.old) (K.state keeper.new)
-        → (w : World) → Stands (K.state keeper.old).tables w
-        → Does (does (message_in message.now) message.now.close now) w (K.state keeper.old) (K.state keeper.new) result }
-    ensures kept { Tells (K.state keeper.old) (K.state keeper.new)
-        → OnErr result (Shows (K.state keeper.new) (K.state keeper.old).tables) }
-    ensures leads { LeadsFrom (K.state keeper.old) (K.state keeper.new) }
-    ensures crash { (K.state keeper.old).tells → IsTrue (K.state keeper.old).trusted → IsTrue (K.state keeper.new).is_clean
-        → (w : World) → Stands (K.state keeper.old).tables w → (m : Tables) → (K.state keeper.new).may_leave m
-        → (K.state keeper.old).may_leave m ⊎ Stands m (step w (message_in message.now) now).1 }
-    ensures stays { StaysAfter (is_ok result) (K.state keeper.old) (K.state keeper.new) }
-    ensures steps { Steps (K.state keeper.old) (K.state keeper.new) }
-    ensures cause { KeeperCause (K.state keeper.old) (K.state keeper.new) (IsErrOf result Keeper) }
+    ensures does { DoesMessage message.now now (K.state keeper.old) (K.state keeper.new) result }
+    ensures form { Replies (message_in message.now) message.now.close (K.state keeper.old) (K.state keeper.new) result }
+    ensures asks { Asks (K.state keeper.old) (K.state keeper.new) result }
 {
     draft_laws::<K>();
+    ended_laws::<Judged<Bytes>, K>();
     let mut draft = Draft::new(alloc, keeper);
-    let judged = judge(alloc, &mut draft, message, now);
+    let judged = judge(alloc, routes, &mut draft, message, now);
     finish(alloc, draft, judged)
 }
 
-/// Answers one request. A failure of the store, damaged tables and being out of memory are answered too: nothing is
-/// changed then, though after a failure of the store a crash may still leave the request done whole.
-pub fn answer_message<K: Keeper>(
+// The answer to one request, by what it comes to over any tables.
+fn answer_own<K: Keeper>(
     alloc: Global,
+    routes: &Routes,
     keeper: &mut K,
     message: &HttpMessage,
     now: u64,
 ) -> Answer
-    // Over tables that stand for a world: the reply of the step of the world, or 503 or 507.
-    ensures answers { Tells (K.state keeper.old) (K.state keeper.new)
-        → (w : World) → Stands (K.state keeper.old).tables w
-        → Answers w message.now now (K.state keeper.old) (K.state keeper.new) (bytes_in message.now.method result) }
-    ensures undamaged { Tells (K.state keeper.old) (K.state keeper.new)
-        → (w : World) → Stands (K.state keeper.old).tables w
-        → IsDamaged result → ⊥ }
-
-    // Over any tables.
-    ensures form { IsFixed message.now result }
-    ensures kept { Tells (K.state keeper.old) (K.state keeper.new) → (IsMade result → ⊥)
-        → Shows (K.state keeper.new) (K.state keeper.old).tables }
-    ensures leads { LeadsFrom (K.state keeper.old) (K.state keeper.new) }
-
-    // Also if the keeper is trusted no more: a crash leaves what it might have left before, or this request done whole.
-    ensures crash { (K.state keeper.old).tells → IsTrue (K.state keeper.old).trusted → IsTrue (K.state keeper.new).is_clean
-        → (w : World) → Stands (K.state keeper.old).tables w → (m : Tables) → (K.state keeper.new).may_leave m
-        → (K.state keeper.old).may_leave m ⊎ Stands m (step w (message_in message.now) now).1 }
-
-    // A reply that the definition of a step makes is given by a keeper that is still trusted.
-    ensures acknowledged { IsMade result → StaysAfter true (K.state keeper.old) (K.state keeper.new) }
-    ensures steps { Steps (K.state keeper.old) (K.state keeper.new) }
-    ensures cause { KeeperCause (K.state keeper.old) (K.state keeper.new) (IsUnavailable result) }
+    ensures does { DoesMessage message.now now (K.state keeper.old) (K.state keeper.new) (outcome_of result) }
+    ensures form { IsFixed message.now result
+        × Replies (message_in message.now) message.now.close (K.state keeper.old) (K.state keeper.new) (outcome_of result) }
+    ensures asks { Asks (K.state keeper.old) (K.state keeper.new) (outcome_of result) }
 {
-    match answer_within(alloc, keeper, message, now) {
+    match answer_within(alloc, routes, keeper, message, now) {
         Ok(reply) => Answer::Made(reply),
         Err(StoreFail::Keeper) => Answer::Unavailable {
             close: message.close,
@@ -225,4 +178,49 @@ pub fn answer_message<K: Keeper>(
             },
         },
     }
+}
+
+/// Answers one request. A failure of the store, damaged tables and being out of memory are answered too: nothing is
+/// changed then, though after a failure of the store a crash may still leave the request done whole.
+pub fn answer_message<K: Keeper>(
+    alloc: Global,
+    routes: &Routes,
+    keeper: &mut K,
+    message: &HttpMessage,
+    now: u64,
+) -> Answer
+    // Whatever the rows of other organisations are: what the message comes to in the organisation that its key names. Of others no
+    // row changes.
+    ensures does { DoesMessage message.now now (K.state keeper.old) (K.state keeper.new) (outcome_of result) }
+
+    // Over any tables: the reply is of the form of its route, and a refusal or what was read leaves the keeper as it was. Few
+    // rows are written, and few are shown.
+    ensures form { IsFixed message.now result
+        × Replies (message_in message.now) message.now.close (K.state keeper.old) (K.state keeper.new) (outcome_of result) }
+    ensures asks { Asks (K.state keeper.old) (K.state keeper.new) (outcome_of result) }
+    ensures kept { Tells (K.state keeper.old) (K.state keeper.new) → (IsMade result → ⊥)
+        → Shows (K.state keeper.new) (K.state keeper.old).tables }
+
+    // Over tables that stand for a world: the reply of the step of the world, or 503 or 507.
+    ensures answers { Tells (K.state keeper.old) (K.state keeper.new)
+        → (w : World) → Stands (K.state keeper.old).tables w
+        → Answers w message.now now (K.state keeper.old) (K.state keeper.new) (bytes_in message.now.method result) }
+    ensures undamaged { Tells (K.state keeper.old) (K.state keeper.new)
+        → (w : World) → Stands (K.state keeper.old).tables w
+        → IsDamaged result → ⊥ }
+    ensures leads { LeadsFrom (K.state keeper.old) (K.state keeper.new) }
+
+    // Also if the keeper is trusted no more: a crash leaves what it might have left before, or this request done whole.
+    ensures crash { (K.state keeper.old).tells → IsTrue (K.state keeper.old).trusted → IsTrue (K.state keeper.new).is_clean
+        → (w : World) → Stands (K.state keeper.old).tables w → (m : Tables) → (K.state keeper.new).may_leave m
+        → (K.state keeper.old).may_leave m ⊎ Stands m (step w (message_in message.now) now).1 }
+
+    // A reply that the definition of a step makes is given by a keeper that is still trusted.
+    ensures acknowledged { IsMade result → StaysAfter true (K.state keeper.old) (K.state keeper.new) }
+    ensures steps { Steps (K.state keeper.old) (K.state keeper.new) }
+    ensures cause { KeeperCause (K.state keeper.old) (K.state keeper.new) (IsUnavailable result) }
+{
+    local_laws();
+    step_laws();
+    answer_own(alloc, routes, keeper, message, now)
 }

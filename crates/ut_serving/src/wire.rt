@@ -1,12 +1,16 @@
 //! What a connection is served over.
 
-ghost use Rattle.std.specs.Prelude.{◌≡◌, ◌≤◌, ℕ, List, Option, IsErr, IsErrOf, OnOk, OnErr};
+ghost use Rattle.std.specs.Prelude.{◌≡◌, ◌≤◌, ◌<◌, ◌⊎◌, ℕ, List, Ok, Option, IsErr, IsErrOf, OnOk, OnErr, length};
 ghost use Rattle.std.proofs.Common.{◌∙◌};
 ghost use Rattle.std.specs.Io.KnownBytes.{Appends, Keeps, prepend_known};
 ghost use Rattle.ut_value.specs.Causes.{Cause};
 ghost use Rattle.ut_io.specs.Doors.{input_of, output_of};
 ghost use Rattle.ut_io.specs.Streams.{AppendsFront};
 ghost use Rattle.ut_http.specs.Answer.{Answered, Between};
+ghost use Rattle.ut_http.specs.Item.{IsItem, whole};
+ghost use Rattle.ut_http.specs.Reads.{read_limit};
+ghost use Rattle.ut_http.specs.declared.message.HttpMessage.{HttpMessage};
+ghost use Rattle.ut_http.specs.declared.message.Next.TheVariants.{Message};
 ghost use Rattle.ut_http.specs.declared.fail.HttpFail.TheVariants.{Failed};
 ghost use Rattle.ut_serving.specs.Present.{PresentKeeps, PresentKeeps-refl, PresentKeeps-trans};
 
@@ -48,6 +52,10 @@ pub trait Wire {
     fn next(&mut self, alloc: Global, buffer: &mut Buffer) -> Result<Next, HttpFail>
         ensures answer { Between (prepend_known buffer.old (input self.old)) (prepend_known buffer.new (input self.new))
             (λ i rest. Answered i result rest) }
+        // A whole message at hand is the answer without a read; behind one for which it read, less stays than one read may give.
+        ensures at_hand { (m : HttpMessage) (rest : List ℕ) → IsItem buffer.old (whole m) rest → input self.new ≡ input self.old }
+        ensures read_ahead { (m : HttpMessage) → result ≡ Ok (Message m)
+            → (input self.new ≡ input self.old) ⊎ (length buffer.new < read_limit) }
         ensures unwritten { Keeps (output self.old) (output self.new) }
         ensures stays { stays self.old self.new }
         ensures cause { Cause (read_faults self.old) (read_faults self.new) (IsErrOf result Failed) }

@@ -1,5 +1,5 @@
 -- One organisation's rows after changes of its own, and those of others, which stay.
-use Rattle.std.proofs.Common.{◌≡◌, ◌∙◌, ◌<◌, ◌^◌, ℕ, true, false, ◌||◌, cond, List, [], ◌∷◌, Option, Some, None, refl, sym, ap, subst}
+use Rattle.std.proofs.Common.{◌≡◌, ◌↔◌, ◌∙◌, ◌<◌, ◌^◌, ℕ, Bool, IsTrue, true, false, ◌||◌, cond, List, [], ◌∷◌, Option, Some, None, refl, sym, ap, subst}
 use Rattle.std.specs.Prelude.{nat_eq}
 use Rattle.std.specs.List.{AllByRecursion}
 use Rattle.std.specs.Cmp.{IsTotalOrder}
@@ -18,11 +18,20 @@ use Rattle.ut_model.specs.Tenant.{Tenant}
 use Rattle.ut_stands.specs.Changes.{Change, IsOf, is_changed, with_change, with_changes}
 use Rattle.ut_stands.specs.Plan.{FitsPlan, OrgPlan}
 use Rattle.ut_stands.specs.Stands.{all_tables, org_of_key, row_in}
-use Rattle.ut_stands.proofs.Changed.{EqualKeys, PutsRows, RemovesRows}
 use Rattle.ut_stands.proofs.Lookups.{eqb_same, pick}
 use Rattle.ut_stands.proofs.Parts.{SameRows}
 use Rattle.ut_stands.specs.Local.{IsIn, KeepsOthers, StandsIn, is_own, is_place_of, part_of, rows_alone}
 use Rattle.ut_stands.proofs.Places.{PrefixLaws, part_at, place_is}
+
+-- what `ut_keys` says of keys, and of one row put and one taken away
+abbrev pub EqualKeys : Type 0
+EqualKeys = (a b : Key) → IsTrue (key_eq a b) ↔ (a ≡ b)
+
+abbrev pub PutsRows : Type 0
+PutsRows = (reach : ℕ → Bool) (m : Tables) (rows : Key → Option (List ℕ)) (k : Key) (row : List ℕ) → FitsKey k → Holds reach m rows → Holds reach (map.insert m (spell k) row) (with_row k (Some row) rows)
+
+abbrev pub RemovesRows : Type 0
+RemovesRows = (reach : ℕ → Bool) (m : Tables) (rows : Key → Option (List ℕ)) (k : Key) → FitsKey k → Holds reach m rows → Holds reach (map.remove m (spell k)) (with_row k None rows)
 
 pub own_is : (n : ℕ) (k : Key) → org_of_key k ≡ Some n → is_own n k ≡ true
 own_is n k e = rw e (eqb_same n)

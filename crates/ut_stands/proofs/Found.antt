@@ -19,10 +19,9 @@ use Rattle.ut_model.specs.Sound.{IsSound}
 use Rattle.ut_model.specs.Tenant.{Tenant}
 use Rattle.ut_model.specs.World.{World, having_id, tenant_at}
 use Rattle.ut_stands.specs.Calls.{HasFallen, ended, is_done}
-use Rattle.ut_stands.specs.Layouts.{FindsBy}
 use Rattle.ut_stands.specs.Local.{FindsIn, StandsIn, is_own}
 use Rattle.ut_stands.specs.Plan.{FitsPlan, OrgPlan, Plan}
-use Rattle.ut_stands.specs.Stands.{StandsBy, org_of_key, owned_row, row_at, row_in}
+use Rattle.ut_stands.specs.Stands.{org_of_key, owned_row, row_at, row_in}
 use Rattle.ut_stands.proofs.Lookups.{eqb_same, some_is}
 use Rattle.ut_stands.proofs.Places.{PrefixLaws, part_at, place_is}
 
@@ -106,14 +105,6 @@ found_same n v u m (Ok x) same h = λ q t s. h q t s ∙ same q t
 found_same n v u m (Err Damaged) same h = h
 found_same n v u m (Err Keeper) same h = tt
 found_same n v u m (Err Memory) same h = tt
-
--- what each organisation has, each world has there
-pub found_by : {X : Type 0} (n : ℕ) (v : OrgPlan → Option Tenant → X) (m : Tables) (r : Result X StoreFail) → ((p : Plan) (w : World) → StandsBy p m w → StandsIn n (p.org n) m (tenant_at w n))
-    → FindsIn n v m r → FindsBy (λ p w. v (p.org n) (tenant_at w n)) m r
-found_by n v m (Ok x) each h = λ p w s. h (p.org n) (tenant_at w n) (each p w s)
-found_by n v m (Err Damaged) each h = λ p w s. h (p.org n) (tenant_at w n) (each p w s)
-found_by n v m (Err Keeper) each h = tt
-found_by n v m (Err Memory) each h = tt
 
 -- a row that is read has the key that it was asked by
 pub key_found : {U : Type 0} (f : Form U) (k : Val f.key) (kept : Option (List ℕ)) (r : Result (Option U) StoreFail) → ReadsAs f k kept r → IfOk r (λ found. IfSome found (λ u. f.keyed u ≡ k))

@@ -5,7 +5,6 @@ pub mod Opened
 pub mod Versions
 pub mod Users
 pub mod Parts
-pub mod Changed
 pub mod Spelled
 pub mod Found
 pub mod Places
@@ -24,3 +23,4 @@ pub mod Placed
 pub mod Widened
 pub mod Fits
 pub mod Rest
+pub mod Ended

@@ -1,5 +1,5 @@
 -- Tables stand for a world as they stand for each of its organisations.
-use Rattle.std.proofs.Common.{◌≡◌, ◌∙◌, ◌<◌, ◌^◌, ◌-◌, ℕ, suc, zero, length, arith, true, cond, List, Option, Some, None, refl, sym, ap}
+use Rattle.std.proofs.Common.{◌≡◌, ◌∙◌, ◌<◌, ◌^◌, ◌-◌, ℕ, suc, zero, length, arith, true, false, cond, List, Option, Some, None, refl, sym, ap}
 use Rattle.std.specs.Prelude.{IfSome, nat_eq}
 use Rattle.std.specs.FinMap as map
 use Rattle.std.specs.FinMap.{IsAntisymmetric}
@@ -65,16 +65,15 @@ module _ (laws : PrefixLaws) (exact : IsAntisymmetric place_cmp) (p : Plan) (m :
     rows = record { at = at_one; only = λ place row _ e. only_one place row e };
   }
 
-module _ (laws : PrefixLaws) (exact : IsAntisymmetric place_cmp) (p : Plan) (m after : Tables) (w : World) (n : ℕ) (t u : Tenant) (q : OrgPlan) (ln : n < 2 ^ 32) (s : StandsBy p m w) (s_in : StandsIn n q after (Some u)) (others : KeepsOthers n m after) where
-  at_all : (k : Key) → FitsKey k → map.get after (spell k) ≡ rows_with n q u (row_at p w) k
-  at_all k f =
-      pick (is_own n k) (λ b. is_own n k ≡ b → map.get after (spell k) ≡ cond b (row_in q u k) (row_at p w k))
-      (λ mine _. sym (own_place mine) ∙ s_in.rows.at k f ∙ ap (λ b. cond b (row_in q u k) None) mine)
-      (λ other _. others (spell k) (place_is laws n k ln f ∙ other) ∙ s.rows.at k f)
-      refl
-    where
-      own_place : is_own n k ≡ true → map.get (part_of n after) (spell k) ≡ map.get after (spell k)
-      own_place mine = part_at exact n after (spell k) ∙ ap (λ b. cond b (map.get after (spell k)) None) (place_is laws n k ln f ∙ mine)
+-- tables in which no row of others than of one organisation changes
+module _ (laws : PrefixLaws) (exact : IsAntisymmetric place_cmp) (p : Plan) (m after : Tables) (w : World) (n : ℕ) (q : OrgPlan) (ln : n < 2 ^ 32) (s : StandsBy p m w) (u : Option Tenant) (s_in : StandsIn n q after u) (others : KeepsOthers n m after) where
+  at_own : (k : Key) → FitsKey k → is_own n k ≡ true → map.get after (spell k) ≡ option_and_then (λ (v : Tenant). row_in q v k) u
+  at_own k f mine =
+      sym (part_at exact n after (spell k) ∙ ap (λ b. cond b (map.get after (spell k)) None) (place_is laws n k ln f ∙ mine))
+      ∙ s_in.rows.at k f ∙ ap (λ b. cond b (option_and_then (λ (v : Tenant). row_in q v k) u) None) mine
+
+  at_other : (k : Key) → FitsKey k → is_own n k ≡ false → map.get after (spell k) ≡ row_at p w k
+  at_other k f other = others (spell k) (place_is laws n k ln f ∙ other) ∙ s.rows.at k f
 
   only_all : (place : Place) (row : List ℕ) → map.get after place ≡ Some row → (k : Key) × FitsKey k × (place ≡ spell k)
   only_all place row e =
@@ -83,5 +82,27 @@ module _ (laws : PrefixLaws) (exact : IsAntisymmetric place_cmp) (p : Plan) (m a
       (λ other _. s.rows.only place row refl (sym (others place other) ∙ e))
       refl
 
+  -- the organisation is still none
+  at_none : u ≡ None → tenant_at w n ≡ None → (k : Key) → FitsKey k → map.get after (spell k) ≡ row_at p w k
+  at_none none at k f =
+      pick (is_own n k) (λ b. is_own n k ≡ b → map.get after (spell k) ≡ row_at p w k)
+      (λ mine _. at_own k f mine ∙ ap (option_and_then (λ (v : Tenant). row_in q v k)) none
+      ∙ sym (owned_at p w n k (owned_so n (org_of_key k) mine) ∙ ap (option_and_then (λ (v : Tenant). row_in (p.org n) v k)) at))
+      (λ other _. at_other k f other)
+      refl
+
+  pub nobody : u ≡ None → tenant_at w n ≡ None → StandsBy p after w
+  nobody none at = record { world = s.world; plans = s.plans; opened = s.opened; rows = record { at = at_none none at; only = λ place row _ e. only_all place row e } }
+
+-- the organisation is another tenant
+module _ (laws : PrefixLaws) (exact : IsAntisymmetric place_cmp) (p : Plan) (m after : Tables) (w : World) (n : ℕ) (t u : Tenant) (q : OrgPlan) (ln : n < 2 ^ 32) (s : StandsBy p m w) (s_in : StandsIn n q after (Some u)) (others : KeepsOthers n m after) where
+  at_all : (k : Key) → FitsKey k → map.get after (spell k) ≡ rows_with n q u (row_at p w) k
+  at_all k f =
+      pick (is_own n k) (λ b. is_own n k ≡ b → map.get after (spell k) ≡ cond b (row_in q u k) (row_at p w k))
+      (λ mine _. at_own laws exact p m after w n q ln s (Some u) s_in others k f mine)
+      (λ other _. at_other laws exact p m after w n q ln s (Some u) s_in others k f other)
+      refl
+
   pub whole : SameRows → tenant_at w n ≡ Some t → StandsBy (with_plan n q p) after (with_tenant w n u)
-  whole same at = changed same p m after w n t u q s at s_in.sound s_in.plan (record { at = at_all; only = λ place row _ e. only_all place row e })
+  whole same at =
+      changed same p m after w n t u q s at s_in.sound s_in.plan (record { at = at_all; only = λ place row _ e. only_all laws exact p m after w n q ln s (Some u) s_in others place row e })

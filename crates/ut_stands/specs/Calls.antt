@@ -6,6 +6,8 @@ use Rattle.ut_keys.specs.declared.fail.StoreFail.{StoreFail}
 use Rattle.ut_keys.specs.declared.fail.StoreFail.TheVariants.{Damaged, Keeper, Memory}
 use Rattle.ut_stands.specs.declared.fail.EditFail.{EditFail}
 use Rattle.ut_stands.specs.declared.fail.EditFail.TheVariants.{Refused, Store}
+use Rattle.ut_stands.specs.declared.fail.OpenFail.{OpenFail}
+use Rattle.ut_stands.specs.declared.fail.OpenFail.TheVariants as opening
 
 -- how a call ended: it was done (a refusal is an answer too), the keeper failed, or it stopped of itself
 pub data Ending : Type 0 where
@@ -26,6 +28,11 @@ abbrev pub ended_edit : {X : Type 0} → Result X EditFail → Ending
 ended_edit (Ok x) = done
 ended_edit (Err (Refused r)) = done
 ended_edit (Err (Store e)) = ended_by e
+
+abbrev pub ended_opening : {X : Type 0} → Result X OpenFail → Ending
+ended_opening (Ok x) = done
+ended_opening (Err opening.UnknownVersion) = done
+ended_opening (Err (opening.Store e)) = ended_by e
 
 abbrev pub is_done : Ending → Bool
 is_done done = true

@@ -1,4 +1,4 @@
--- The layout of an object of a world, and its records.
+-- The layout of an object of one organisation, and its records.
 -- Source: C. D. Weissman and S. Bobrowski, "The Design of the Force.com Multitenant Internet Application Development
 -- Platform" (SIGMOD 2009): metadata say which field is in which slot.
 use Rattle.std.specs.Prelude.{◌≡◌, ℕ, ◌==◌, if◌then◌else◌, List, [], map, filter, take, Option, Some, None, Result, Ok, Err}
@@ -14,13 +14,12 @@ use Rattle.ut_model.specs.Cases.{in_case}
 use Rattle.ut_model.specs.Jobs.{is_past}
 use Rattle.ut_model.specs.Objects.{Numbered, is_of, numbered, object_named, object_numbered, record_at, records_of}
 use Rattle.ut_model.specs.Tenant.{Field, Job, Tenant}
-use Rattle.ut_model.specs.World.{World, tenant_at}
 use Rattle.ut_stands.specs.declared.layout.FieldPlace.{FieldPlace}
 use Rattle.ut_stands.specs.declared.layout.JobPlace.{JobPlace}
 use Rattle.ut_stands.specs.declared.layout.Layout.{Layout}
+use Rattle.ut_stands.specs.Local.{StandsIn}
 use Rattle.ut_stands.specs.Metadata.{org_of, row_of_object}
-use Rattle.ut_stands.specs.Plan.{OrgPlan, Plan, type_there}
-use Rattle.ut_stands.specs.Stands.{StandsBy}
+use Rattle.ut_stands.specs.Plan.{OrgPlan, type_there}
 
 -- ---- layouts
 
@@ -70,16 +69,6 @@ own_layout_named org name q t = option_and_then (λ u. option_map (layout_of org
 unfoldable pub own_layouts : (org : ℕ) → OrgPlan → Option Tenant → List Layout
 own_layouts org q t = in_case t [] (λ u. map (layout_of org q u) (numbered u.objects))
 
--- the same of a world
-unfoldable pub layout_at : (org object : ℕ) → Plan → World → Option Layout
-layout_at org n p w = option_and_then (λ t. option_map (layout_of org (p.org org) t) (numbered_at t n)) (tenant_at w org)
-
-unfoldable pub layout_named : (org : ℕ) → List ℕ → Plan → World → Option Layout
-layout_named org name p w = option_and_then (λ t. option_map (layout_of org (p.org org) t) (object_named t name)) (tenant_at w org)
-
-unfoldable pub layouts_of : (org : ℕ) → Plan → World → List Layout
-layouts_of org p w = in_case (tenant_at w org) [] (λ t. map (layout_of org (p.org org) t) (numbered t.objects))
-
 -- ---- rows
 
 -- in one organisation: its row, and that of one of its objects
@@ -89,41 +78,25 @@ own_row org q t = option_map (org_of org) t
 abbrev pub own_object_row : (org object : ℕ) → OrgPlan → Option Tenant → Option ObjectRow
 own_object_row org n q t = option_and_then (λ u. option_map (row_of_object org u n) (object_numbered u n)) t
 
--- the same of a world
-abbrev pub org_row : (org : ℕ) → Plan → World → Option OrgRow
-org_row org p w = option_map (org_of org) (tenant_at w org)
-
-abbrev pub object_row : (org object : ℕ) → Plan → World → Option ObjectRow
-object_row org n p w = option_and_then (λ t. option_map (row_of_object org t n) (object_numbered t n)) (tenant_at w org)
-
 -- ---- records
 
--- the record with this id, if it is of the object
-unfoldable pub record_in : (org object : ℕ) → List ℕ → World → Option Record
-record_in org n id w =
-    option_and_then (λ t. option_and_then (λ r. if is_of n r then Some r else None) (record_at t id)) (tenant_at w org)
+-- of one organisation: the record with this id, if it is of the object
+unfoldable pub record_in : (object : ℕ) → List ℕ → Tenant → Option Record
+record_in n id t = option_and_then (λ r. if is_of n r then Some r else None) (record_at t id)
 
 -- at most so many records of the object in the order of their ids: the first, or those after an id
-unfoldable pub records_after : (org object : ℕ) → Option (List ℕ) → (limit : ℕ) → World → List Record
-records_after org n after limit w =
-    in_case (tenant_at w org) [] (λ t. take limit (filter (λ r. is_past after r.id) (records_of t n)))
+unfoldable pub records_after : (object : ℕ) → Option (List ℕ) → (limit : ℕ) → Tenant → List Record
+records_after n after limit t = take limit (filter (λ r. is_past after r.id) (records_of t n))
 
--- ---- what is read
+-- ---- what is read by a layout
 
--- what is found is what every world has there for which the tables stand by a plan, and such are never damaged
-abbrev pub FindsBy : {X : Type 0} → (Plan → World → X) → Tables → Result X StoreFail → Type 0
-FindsBy value m (Ok x) = (p : Plan) (w : World) → StandsBy p m w → x ≡ value p w
-FindsBy value m (Err Damaged) = (p : Plan) (w : World) → StandsBy p m w → ⊥
-FindsBy value m (Err Keeper) = Unit {0}
-FindsBy value m (Err Memory) = Unit {0}
+-- the layout is that of its object in this tenant
+abbrev pub IsLayout : OrgPlan → Tenant → Layout → Type 0
+IsLayout q t l = own_layout l.org l.object q (Some t) ≡ Some l
 
--- the layout is that of its object
-abbrev pub IsLayout : Plan → World → Layout → Type 0
-IsLayout p w l = layout_at l.org l.object p w ≡ Some l
-
--- the same of what is found by a layout
-abbrev pub FindsOf : {X : Type 0} → Layout → (World → X) → Tables → Result X StoreFail → Type 0
-FindsOf l value m (Ok x) = (p : Plan) (w : World) → StandsBy p m w → IsLayout p w l → x ≡ value w
-FindsOf l value m (Err Damaged) = (p : Plan) (w : World) → StandsBy p m w → IsLayout p w l → ⊥
+-- what is found is what each tenant has for which the organisation's rows stand and whose layout it is, and such are never damaged
+abbrev pub FindsOf : {X : Type 0} → Layout → (Tenant → X) → Tables → Result X StoreFail → Type 0
+FindsOf l value m (Ok x) = (q : OrgPlan) (t : Tenant) → StandsIn l.org q m (Some t) → IsLayout q t l → x ≡ value t
+FindsOf l value m (Err Damaged) = (q : OrgPlan) (t : Tenant) → StandsIn l.org q m (Some t) → IsLayout q t l → ⊥
 FindsOf l value m (Err Keeper) = Unit {0}
 FindsOf l value m (Err Memory) = Unit {0}

@@ -7,7 +7,7 @@ pub mod Changes
 pub mod Local
 pub mod Calls
 pub mod Operations
-pub mod Reads
+pub mod Opening
 pub mod Layouts
 pub mod Records
 pub mod WorkedRows

@@ -48,9 +48,9 @@ pub record StandsIn (org : ℕ) (q : OrgPlan) (m : Tables) (t : Option Tenant) :
   pub plan : IfSome t (FitsPlan q)
   pub rows : Holds all_tables (part_of org m) (rows_alone org q t)
 
--- the organisation's rows are this tenant's by some plan
-abbrev pub StandsFor : (org : ℕ) → Tables → Tenant → Type 0
-StandsFor n m t = (q : OrgPlan) × StandsIn n q m (Some t)
+-- the organisation's rows are this tenant's, or none, by some plan
+abbrev pub StandsFor : (org : ℕ) → Tables → Option Tenant → Type 0
+StandsFor n m t = (q : OrgPlan) × StandsIn n q m t
 
 -- nothing changes at the places of others
 abbrev pub KeepsOthers : (org : ℕ) → Tables → Tables → Type 0

@@ -1,7 +1,7 @@
--- Operations by their definitions: edits that may be refused, operations over a draft, and the same over a keeper once the
--- draft was dropped or committed.
-use Rattle.std.specs.Prelude.{◌≡◌, ◌≢◌, ◌⊎◌, ℕ, IsTrue, IsErrOf, Result, Ok, Err}
-use Rattle.ut_keeper.specs.State.{KeeperState}
+-- Operations by their definitions, over a draft and over a keeper: on the world for which tables stand, or on one organisation.
+use Rattle.std.specs.Prelude.{◌≡◌, ◌≢◌, ◌⊎◌, ◌<◌, ◌≤◌, ℕ, ◌+◌, IfErr, IfOk, IsErrOf, IsTrue, OnErr, Option, Result, Ok, Err, Some, is_ok}
+use Rattle.ut_keeper.specs.Draft.{DraftReads, Held, count_of}
+use Rattle.ut_keeper.specs.State.{KeeperCause, KeeperState, Shows, StaysAfter, Steps, Tells}
 use Rattle.ut_keeper.specs.Tables.{Tables}
 use Rattle.ut_keys.specs.declared.fail.StoreFail.{StoreFail}
 use Rattle.ut_keys.specs.declared.fail.StoreFail.TheVariants.{Damaged, Keeper, Memory}
@@ -9,15 +9,19 @@ use Rattle.ut_model.specs.declared.refusal.Refusal.{Refusal}
 use Rattle.ut_model.specs.declared.reply.Reply.{Reply}
 use Rattle.ut_model.specs.Paths.{Asked}
 use Rattle.ut_model.specs.Replies.{reply_of}
-use Rattle.ut_model.specs.Verdict.{Verdict, done}
-use Rattle.ut_model.specs.World.{World, with_tenant}
+use Rattle.ut_model.specs.Tenant.{Tenant}
+use Rattle.ut_model.specs.Verdict.{Verdict}
+use Rattle.ut_model.specs.World.{World}
+use Rattle.ut_stands.specs.Calls.{Makes, ended}
+use Rattle.ut_stands.specs.Local.{KeepsOthers, StandsFor, StandsIn}
+use Rattle.ut_stands.specs.Plan.{OrgPlan}
 use Rattle.ut_stands.specs.Stands.{Stands}
 use Rattle.ut_stands.specs.declared.fail.EditFail.{EditFail}
 use Rattle.ut_stands.specs.declared.fail.EditFail.TheVariants.{Refused, Store}
 use Rattle.ut_stands.specs.declared.judged.Judged.{Judged}
 use Rattle.ut_stands.specs.declared.judged.Judged.TheVariants.{Changed, Same}
 
--- an edit by its verdict: what it returns and the world for which the draft's tables then stand, or why it is refused
+-- an edit of the world by its verdict: what it returns and the world for which the draft's tables then stand, or why it is refused
 abbrev pub Edits : {X : Type 0} → (World → Result (X × World) Refusal) → World → Tables → Result X EditFail → Type 0
 Edits verdict w after (Ok x) = (next : World) × (verdict w ≡ Ok (x, next)) × Stands after next
 Edits verdict w after (Err (Refused r)) = verdict w ≡ Err r
@@ -25,27 +29,7 @@ Edits verdict w after (Err (Store Damaged)) = ⊥
 Edits verdict w after (Err (Store Keeper)) = Unit {0}
 Edits verdict w after (Err (Store Memory)) = Unit {0}
 
--- an edit of the organisation with this number by its verdict: it is done, and the draft's tables then stand for the world with
--- what the verdict leaves of the organisation; or it is refused as the verdict says
-abbrev pub EditsIn : (org : ℕ) → Verdict → World → Tables → Result (Unit {0}) EditFail → Type 0
-EditsIn org v w after (Ok x) = (v.answer ≡ Ok done) × Stands after (with_tenant w org v.tenant)
-EditsIn org v w after (Err (Refused r)) = v.answer ≡ Err r
-EditsIn org v w after (Err (Store Damaged)) = ⊥
-EditsIn org v w after (Err (Store Keeper)) = Unit {0}
-EditsIn org v w after (Err (Store Memory)) = Unit {0}
-
--- the reply to a request by its verdict, to who asks in the organisation with this number: the verdict leaves the organisation
--- as it was, or the draft's tables then stand for the world with what it leaves
-abbrev pub RepliesIn : (org : ℕ) → Asked → Verdict → World → Tables → Result (Judged Reply) StoreFail → Type 0
-RepliesIn org a v w after (Ok (Same r)) = (r ≡ reply_of a v.answer) × (v.tenant ≡ a.tenant)
-RepliesIn org a v w after (Ok (Changed r)) = (r ≡ reply_of a v.answer) × Stands after (with_tenant w org v.tenant)
-RepliesIn org a v w after (Err e) = e ≢ Damaged
-
--- an operation over a draft: what it returns, and the world for which the draft's tables then stand
-abbrev pub Judges : {X : Type 0} → (World → X × World) → World → Tables → Result (Judged X) StoreFail → Type 0
-Judges does w after (Ok (Same x)) = (x ≡ (does w).0) × ((does w).1 ≡ w)
-Judges does w after (Ok (Changed x)) = (x ≡ (does w).0) × Stands after (does w).1
-Judges does w after (Err e) = e ≢ Damaged
+-- ---- over a draft
 
 -- the draft holds changes that are to be made
 abbrev pub IsChange : {X : Type 0} → Result (Judged X) StoreFail → Type 0
@@ -65,18 +49,73 @@ Returns (Ok (Same x)) y = y ≡ x
 Returns (Ok (Changed x)) y = y ≡ x
 Returns (Err e) y = ⊥
 
--- what is left of tables that stood for w: tables that stand for `end`, and in a crash they, or those of before where the
--- world is the same, or those of the whole operation
-pub record Leaves (w end next : World) (old new : KeeperState) : Type 0 where
-  pub tables : IsTrue new.trusted → new.tells × Stands new.tables end
-  pub crash : IsTrue new.is_clean → (m : Tables) → new.may_leave m → (old.may_leave m × (end ≡ w)) ⊎ Stands m next
+-- an operation on s, for which tables stand in this sense: what it returns, and for what the draft's tables then stand
+abbrev pub Judges : {S X : Type 0} → (Tables → S → Type 0) → (S → X × S) → S → Tables → Result (Judged X) StoreFail → Type 0
+Judges stands does s after (Ok (Same x)) = (x ≡ (does s).0) × ((does s).1 ≡ s)
+Judges stands does s after (Ok (Changed x)) = (x ≡ (does s).0) × stands after (does s).1
+Judges stands does s after (Err e) = e ≢ Damaged
 
--- an operation over a keeper: done whole, or nothing is changed
-abbrev pub Does : {X : Type 0} → (World → X × World) → World → KeeperState → KeeperState → Result X StoreFail → Type 0
-Does does w old new (Ok x) = (x ≡ (does w).0) × Leaves w (does w).1 (does w).1 old new
-Does does w old new (Err e) = (e ≢ Damaged) × Leaves w w (does w).1 old new
+-- the reply to a request by its verdict, to who asks in the organisation with this number: the verdict leaves the organisation
+-- as it was, or its rows then stand for what it leaves
+abbrev pub RepliesAt : (org : ℕ) → Asked → Verdict → Tables → Result (Judged Reply) StoreFail → Type 0
+RepliesAt org a v after (Ok (Same r)) = (r ≡ reply_of a v.answer) × (v.tenant ≡ a.tenant)
+RepliesAt org a v after (Ok (Changed r)) = (r ≡ reply_of a v.answer) × StandsFor org after (Some v.tenant)
+RepliesAt org a v after (Err e) = e ≢ Damaged
+
+-- a request in the organisation with this number, judged over these tables, of which those came: whatever they have, no row of
+-- others changes; and where the organisation's rows stand for the tenant of such a one as asks, the reply is by the verdict
+pub record Responds (org : ℕ) (IsAsking : Asked → Type 0) (verdict : Asked → Verdict) (m after : Tables) (result : Result (Judged Reply) StoreFail) : Type 0 where
+  pub others : IsChange result → KeepsOthers org m after
+  pub replied : (q : OrgPlan) (a : Asked) → StandsIn org q m (Some a.tenant) → IsAsking a → RepliesAt org a (verdict a) after result
+
+module _ {K X : Type 0} (state : K → KeeperState) where
+  -- what judging leaves of a draft: its changes are at most so many, and there are some exactly if there are to be
+  pub record Drafts (most gone shown : ℕ) (result : Result (Judged X) StoreFail) (old new : Held K) : Type 0 where
+    pub makes : Makes state most gone shown (ended result) old new
+    pub changing : IsChange result → 0 < count_of new
+    pub same : IsSame result → DraftReads state shown old new
+
+-- ---- over a keeper that tells its tables
+
+-- an operation on s: done whole, or nothing is changed
+abbrev pub Does : {S X : Type 0} → (Tables → S → Type 0) → (S → X × S) → S → KeeperState → Result X StoreFail → Type 0
+Does stands does s new (Ok x) = (x ≡ (does s).0) × (new.tells × stands new.tables (does s).1)
+Does stands does s new (Err e) = (e ≢ Damaged) × (new.tells × stands new.tables s)
+
+-- how it ends when it was judged over these tables, of which the draft made those
+abbrev pub Ends : {X : Type 0} → Result (Judged X) StoreFail → (before drafted : Tables) → KeeperState → Result X StoreFail → Type 0
+Ends (Ok (Same x)) before drafted new (Ok y) = (y ≡ x) × Shows new before
+Ends (Ok (Same x)) before drafted new (Err e) = ⊥
+Ends (Ok (Changed x)) before drafted new (Ok y) = (y ≡ x) × Shows new drafted
+Ends (Ok (Changed x)) before drafted new (Err e) = (e ≢ Damaged) × Shows new before
+Ends (Err e) before drafted new (Ok y) = ⊥
+Ends (Err e) before drafted new (Err f) = (f ≡ e) × Shows new before
 
 -- the keeper failed at the commit
 abbrev pub FailsAtCommit : {X : Type 0} → Result (Judged X) StoreFail → Result X StoreFail → Type 0
 FailsAtCommit (Ok j) result = IsErrOf result Keeper
 FailsAtCommit (Err e) result = ⊥
+
+-- what the end keeps, whatever is told: at most so many rows are written, and none without a change
+pub record Finishes {X : Type 0} (judged : Result (Judged X) StoreFail) (count : ℕ) (old new : KeeperState) (result : Result X StoreFail) : Type 0 where
+  pub returned : IfOk result (Returns judged)
+  pub stopped : IfErr judged (λ e. result ≡ Err e)
+  pub steps : Steps old new
+  pub stays : IsTrue (is_ok judged) → StaysAfter (is_ok result) old new
+  pub cause : KeeperCause old new (FailsAtCommit judged result)
+  pub written : new.written ≤ old.written + count
+  pub unwritten : (IsChange judged → ⊥) → new.written ≡ old.written
+  pub shown : new.shown ≡ old.shown
+
+-- ---- in one organisation, over a keeper
+
+-- an operation in the organisation with this number
+pub record DoesIn {X : Type 0} (org : ℕ) (does : Option Tenant → X × Option Tenant) (old new : KeeperState) (result : Result X StoreFail) : Type 0 where
+  -- whatever the tables have, no row of others changes, and no row at all if it failed
+  pub others : Tells old new → KeepsOthers org old.tables new.tables
+  pub kept : Tells old new → OnErr result (Shows new old.tables)
+  -- where the organisation's rows stand for a tenant, or for none, it is done
+  pub done : Tells old new → (q : OrgPlan) (t : Option Tenant) → StandsIn org q old.tables t → Does (StandsFor org) does t new result
+  -- a crash leaves what it might have left before, or the operation done whole
+  pub crash : old.tells → IsTrue old.trusted → IsTrue new.is_clean → (m : Tables) → new.may_leave m
+      → old.may_leave m ⊎ (KeepsOthers org old.tables m × ((q : OrgPlan) (t : Option Tenant) → StandsIn org q old.tables t → StandsFor org m (does t).1))

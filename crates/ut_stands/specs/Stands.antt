@@ -154,9 +154,13 @@ pub record IsVersion (m : Tables) (row : VersionRow) : Type 0 where
   pub fits : FitsForm version_form row
   pub kept : map.get m (spell Version) ≡ Some (row_bytes version_form row)
 
--- the version is the one that is known here. Tables without its row are of it
+-- nothing is at the key of the version, nor at that of the first organisation
+abbrev pub HasNothing : Tables → Type 0
+HasNothing m = (map.get m (spell Version) ≡ None) × (map.get m (spell (Org 1)) ≡ None)
+
+-- the version is the one that is known here. Tables that have nothing are of it
 abbrev pub HasKnownVersion : Tables → Type 0
-HasKnownVersion m = (map.get m (spell Version) ≡ None) ⊎ ((row : VersionRow) × IsVersion m row × (row.version ≡ known_version))
+HasKnownVersion m = HasNothing m ⊎ ((row : VersionRow) × IsVersion m row × (row.version ≡ known_version))
 
 -- the version is another
 abbrev pub HasUnknownVersion : Tables → Type 0

@@ -1,9 +1,9 @@
-ghost use Rattle.std.specs.Prelude.{◌≡◌, ◌+◌, ℕ, Err, IsErrAnd, Result};
-ghost use Rattle.ut_keeper.specs.Draft.{DraftReads, DraftTells, Held, state_of, tables_of};
+ghost use Rattle.std.specs.Prelude.{◌≡◌, ◌≤◌, ◌+◌, ℕ, IsErrOf, Result, is_ok};
+ghost use Rattle.ut_keeper.specs.Draft.{DraftTells, Held, tables_of};
+ghost use Rattle.ut_keeper.specs.State.{KeeperCause, StaysAfter};
 ghost use Rattle.ut_keys.specs.declared.fail.StoreFail.{StoreFail};
-ghost use Rattle.ut_stands.specs.Fails.{of_store};
-ghost use Rattle.ut_stands.specs.declared.fail.EditFail.{EditFail};
-ghost use Rattle.ut_stands.specs.Calls.{Calls, Ending, done, ended, ended_edit, fell};
+ghost use Rattle.ut_keys.specs.declared.fail.StoreFail.TheVariants.{Keeper};
+ghost use Rattle.ut_stands.specs.Calls.{Calls, Ending, HasFallen, Makes, done, ended, fell, is_done};
 
 use ut_keeper::{Keeper, draft_laws};
 
@@ -26,6 +26,24 @@ pub fn call_laws<K: Keeper>()
         → DraftTells K.state a c → DraftTells K.state a b }
     ensures told_then { (shown : ℕ) (e : Ending) (a b c : Held K) → Calls K.state shown e a b
         → DraftTells K.state a b → DraftTells K.state a c → DraftTells K.state b c }
+
+    // A call that reads changes nothing, and a bound may be wider.
+    ensures makes { (shown : ℕ) (e : Ending) (a b : Held K) → Calls K.state shown e a b → Makes K.state 0 0 shown e a b }
+    ensures most { (most gone shown more taken larger : ℕ) (e : Ending) (a b : Held K)
+        → most ≤ more → gone ≤ taken → (DraftTells K.state a b → shown ≤ larger)
+        → Makes K.state most gone shown e a b → Makes K.state more taken larger e a b }
+
+    // Changes after a call that reads and was done.
+    ensures reads_then { (shown most gone later : ℕ) (e : Ending) (a b c : Held K)
+        → Calls K.state shown done a b → Makes K.state most gone later e b c → Makes K.state most gone (shown + later) e a c }
 {
     draft_laws::<K>();
 }
+
+/// What a call keeps, in the words of its result. The call does nothing.
+pub fn ended_laws<X, K: Keeper>()
+    ensures stays { (old new : K) (result : Result X StoreFail) → StaysAfter (is_done (ended result)) (K.state old) (K.state new)
+        → StaysAfter (is_ok result) (K.state old) (K.state new) }
+    ensures cause { (old new : K) (result : Result X StoreFail) → KeeperCause (K.state old) (K.state new) (HasFallen (ended result))
+        → KeeperCause (K.state old) (K.state new) (IsErrOf result Keeper) }
+{}

@@ -1,5 +1,4 @@
 ghost use Rattle.std.specs.Prelude.{◌≡◌, ◌+◌, ◌<◌, ℕ, List, [], ◌∷◌, ◌++◌, Some, None, codes, false, length, pos, replicate, true};
-ghost use Rattle.std.specs.List.{AllByRecursion};
 ghost use Rattle.ut_keeper.specs.Tables.{Tables, no_rows};
 ghost use Rattle.ut_keys.specs.Forms.{row_bytes};
 ghost use Rattle.ut_keys.specs.Holds.{Holds, with_row};
@@ -10,8 +9,7 @@ ghost use Rattle.ut_model.specs.Limits.{limit_number};
 ghost use Rattle.ut_model.specs.Organisations.{with_org};
 ghost use Rattle.ut_model.specs.Sound.{IsSound};
 ghost use Rattle.ut_model.specs.Tenant.{Tenant};
-ghost use Rattle.ut_model.specs.World.{World, tenant_at, with_tenant};
-ghost use Rattle.ut_stands.specs.Changes.{Change, IsOf, is_changed, with_changes};
+ghost use Rattle.ut_model.specs.World.{World, tenant_at};
 ghost use Rattle.ut_stands.specs.Plan.{FitsPlan, OrgPlan, Plan, opened, with_plan};
 ghost use Rattle.ut_stands.specs.Stands.{HasKnownVersion, HasUnknownVersion, Stands, StandsBy, all_tables, closed, org_of_key, row_at, row_in, rows_with, version_at};
 ghost use Rattle.ut_stands.specs.WorkedRows.{acme, acme_plan, first, second};
@@ -45,19 +43,6 @@ pub fn stands_laws()
         → StandsBy p m w → length w < limit_number limit.Organisations → IsSound t → FitsPlan q t
         → Holds all_tables after (with_row Version (version_at true (w ++ t ∷ [])) (rows_with (length w + 1) q t (row_at p w)))
         → StandsBy (opened (with_plan (length w + 1) q p)) after (w ++ t ∷ []) }
-
-    // Tables that have the rows of another tenant in place of those of an organisation.
-    ensures changed { (p : Plan) (m after : Tables) (w : World) (n : ℕ) (t u : Tenant) (q : OrgPlan)
-        → StandsBy p m w → tenant_at w n ≡ Some t → IsSound u → FitsPlan q u
-        → Holds all_tables after (rows_with n q u (row_at p w))
-        → StandsBy (with_plan n q p) after (with_tenant w n u) }
-
-    // The same by the changes that were made: each is to what the other tenant has there, and elsewhere the two have the same.
-    ensures edited { (p : Plan) (m : Tables) (w : World) (n : ℕ) (t u : Tenant) (q : OrgPlan) (changes : List Change)
-        → StandsBy p m w → tenant_at w n ≡ Some t → IsSound u → FitsPlan q u
-        → AllByRecursion (IsOf n q u) changes
-        → ((k : Key) → org_of_key k ≡ Some n → is_changed changes k ≡ false → row_in q u k ≡ row_in (p.org n) t k)
-        → StandsBy (with_plan n q p) (with_changes changes m) (with_tenant w n u) }
 {
     table_laws();
     row_laws::<VersionRow>();

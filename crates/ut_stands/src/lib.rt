@@ -17,14 +17,14 @@ mod reads;
 mod records;
 mod rows;
 
-pub use crate::calls::call_laws;
+pub use crate::calls::{call_laws, ended_laws};
 pub use crate::ending::finish;
 pub use crate::fail::{EditFail, OpenFail};
 pub use crate::judged::Judged;
 pub use crate::laws::{change_rows, stands_laws, stands_rows};
 pub use crate::layout::{FieldPlace, JobPlace, Layout};
 pub use crate::layout_reads::{layout_at, layout_named, layouts};
-pub use crate::local::{found_laws, local_laws};
+pub use crate::local::local_laws;
 pub use crate::opening::{KNOWN_VERSION, open_tables};
 pub use crate::reads::user;
 pub use crate::records::{metadata_laws, record_laws, slot_laws};

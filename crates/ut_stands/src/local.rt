@@ -1,23 +1,18 @@
-ghost use Rattle.std.specs.Prelude.{◌++◌, ◌<◌, ◌^◌, ◌≡◌, ℕ, IsErrOf, IsTrue, List, Option, Result, Some, false, is_ok, true};
+ghost use Rattle.std.specs.Prelude.{◌++◌, ◌<◌, ◌^◌, ◌≡◌, ℕ, IsTrue, List, None, Some, false, true};
 ghost use Rattle.std.specs.List.{AllByRecursion};
 ghost use Rattle.ut_keeper.specs.Prefixes.{raised};
-ghost use Rattle.ut_keeper.specs.State.{KeeperCause, StaysAfter};
 ghost use Rattle.ut_keeper.specs.Tables.{Tables, is_between, rows_between};
-ghost use Rattle.ut_keys.specs.declared.fail.StoreFail.{StoreFail};
-ghost use Rattle.ut_keys.specs.declared.fail.StoreFail.TheVariants.{Keeper};
 ghost use Rattle.ut_keys.specs.Keys.{FitsKey, Key, spell};
 ghost use Rattle.ut_model.specs.Sound.{IsSound};
 ghost use Rattle.ut_model.specs.Tenant.{Tenant};
 ghost use Rattle.ut_model.specs.World.{World, tenant_at, with_tenant};
 ghost use Rattle.ut_parts.specs.Plain.{number32};
-ghost use Rattle.ut_stands.specs.Calls.{HasFallen, ended, is_done};
 ghost use Rattle.ut_stands.specs.Changes.{Change, IsOf, is_changed, with_changes};
-ghost use Rattle.ut_stands.specs.Layouts.{FindsBy};
-ghost use Rattle.ut_stands.specs.Local.{FindsIn, IsIn, KeepsOthers, StandsIn, is_own, is_place_of, is_under, part_of};
+ghost use Rattle.ut_stands.specs.Local.{IsIn, KeepsOthers, StandsIn, is_own, is_place_of, is_under, part_of};
 ghost use Rattle.ut_stands.specs.Plan.{FitsPlan, OrgPlan, Plan, with_plan};
 ghost use Rattle.ut_stands.specs.Stands.{StandsBy, org_of_key, row_in};
 
-use ut_keeper::{Keeper, key_laws, walk_laws};
+use ut_keeper::{key_laws, walk_laws};
 use ut_keys::table_laws;
 
 /// The laws of one organisation's rows, whatever the rows of others are. The call does nothing.
@@ -34,6 +29,11 @@ pub fn local_laws()
         → n < 2 ^ 32 → StandsBy p m w → tenant_at w n ≡ Some t
         → StandsIn n q after (Some u) → KeepsOthers n m after
         → StandsBy (with_plan n q p) after (with_tenant w n u) }
+
+    // The same world, if there is still none.
+    ensures nobody { (p : Plan) (m after : Tables) (w : World) (n : ℕ) (q : OrgPlan)
+        → n < 2 ^ 32 → StandsBy p m w → tenant_at w n ≡ None → StandsIn n q after None → KeepsOthers n m after
+        → StandsBy p after w }
 
     // By the changes that were made: each is to what the other tenant has there, and elsewhere the two have the same.
     ensures edited { (m : Tables) (n : ℕ) (t u : Tenant) (p q : OrgPlan) (changes : List Change)
@@ -56,17 +56,4 @@ pub fn local_laws()
     key_laws();
     walk_laws();
     table_laws();
-}
-
-/// What one organisation has is what a world has there, and what a read keeps it keeps in the words of results. The call does
-/// nothing.
-pub fn found_laws<X, K: Keeper>()
-    ensures by_world { (n : ℕ) (value : OrgPlan → Option Tenant → X) (m : Tables) (result : Result X StoreFail) → n < 2 ^ 32
-        → FindsIn n value m result → FindsBy (λ p w. value (p.org n) (tenant_at w n)) m result }
-    ensures stays { (old new : K) (result : Result X StoreFail) → StaysAfter (is_done (ended result)) (K.state old) (K.state new)
-        → StaysAfter (is_ok result) (K.state old) (K.state new) }
-    ensures cause { (old new : K) (result : Result X StoreFail) → KeeperCause (K.state old) (K.state new) (HasFallen (ended result))
-        → KeeperCause (K.state old) (K.state new) (IsErrOf result Keeper) }
-{
-    local_laws();
 }

@@ -1,3 +1,4 @@
 pub mod Built
 pub mod Whole
 pub mod Worked
+pub mod Own

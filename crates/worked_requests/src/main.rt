@@ -49,13 +49,12 @@ fn answer(
 ) -> Result<String, StoreFail> {
     match call {
         "put" => rows::put(alloc, keeper, arguments),
-        "kept" => rows::kept(alloc, keeper, arguments),
         "layout-at" => layouts::at(alloc, keeper, arguments),
         "layout-named" => layouts::named(alloc, keeper, arguments),
         "layouts" => layouts::all(alloc, keeper, arguments),
-        "store" => records::store(alloc, keeper, arguments),
         "load" => records::load(alloc, keeper, arguments),
-        "erase" => records::erase(alloc, keeper, arguments),
+        "walk" => records::after(alloc, keeper, arguments),
+        "row-of" => records::row(alloc, keeper, arguments),
         "route" => Ok(routes::found(alloc, arguments)?),
         "query-text" => Ok(routes::query(alloc, arguments)?),
         _ => administration::answer(alloc, keeper, call, arguments),

@@ -1,12 +1,15 @@
 //! Records of the object 0 of organisation 1.
 
-ghost use Rattle.std.specs.Prelude.{IfOk, IsTrue};
-ghost use Rattle.ut_data.specs.Decoding.{kinds_in};
+ghost use Rattle.std.specs.Prelude.{IfOk, IfSome, IsTrue};
+ghost use Rattle.std.specs.Option.{option_map};
+ghost use Rattle.ut_data.specs.Decoding.{has_types, kinds_in};
+ghost use Rattle.ut_keys.specs.Forms.{FitsForm};
+ghost use Rattle.ut_keys.specs.Rows.{data_form};
 ghost use Rattle.ut_model.specs.SoundRecords.{all_valid};
 
 use crate::line::{bytes, first_of};
 use std::alloc::{AllocError, Global};
-use ut_data::{erase_record, has_types, load_record, record_of, store_record};
+use ut_data::{has_types, load_record, record_within, row_of, walk};
 use ut_keeper::{Draft, MemoryKeeper};
 use ut_keys::{DataRow, RowForm, StoreFail};
 use ut_model::Record;
@@ -14,43 +17,69 @@ use ut_parts::CodecFail;
 use ut_stands::{Layout, layout_at};
 use ut_value::{Id, Value};
 
-// The record of a row at a key.
-fn record_in(alloc: Global, layout: &Layout, key: &str, row: &str) -> Result<Record, CodecFail>
-    ensures { IfOk result (λ item. IsTrue (all_valid (kinds_in layout.now.fields) item.values)) }
+// The row at a key.
+fn row_in(alloc: Global, key: &str, row: &str) -> Result<DataRow, CodecFail>
+    ensures { IfOk result (FitsForm data_form) }
 {
     let key = bytes(alloc, key)?;
     let row = bytes(alloc, row)?;
-    let row = DataRow::read(alloc, key.as_slice(), row.as_slice())?;
-    record_of(alloc, layout, &row)
+    DataRow::read(alloc, key.as_slice(), row.as_slice())
 }
 
-fn store_row(
-    alloc: Global,
-    draft: &mut Draft<'_, MemoryKeeper>,
-    layout: &Layout,
-    arguments: &str,
-) -> Result<(), StoreFail> {
-    if !has_types(layout) {
-        return Err(StoreFail::Damaged);
+// The row at a key, if one is given.
+fn kept_in(alloc: Global, key: &str, row: &str) -> Result<Option<DataRow>, CodecFail>
+    ensures { IfOk result (λ row. IfSome row (FitsForm data_form)) }
+{
+    if row.is_empty() {
+        Ok(None)
+    } else {
+        Ok(Some(row_in(alloc, key, row)?))
     }
-    let (key, row) = first_of(arguments);
-    let item = record_in(alloc, layout, key, row)?;
-    store_record(alloc, draft, layout, &item)
 }
 
-/// Stores the record that a row has: the key and the row.
-pub(crate) fn store(
+// The row that is made of a record, over another row of it.
+fn shown_row(
+    alloc: Global,
+    layout: &Layout,
+    item: &Record,
+    kept: Option<&DataRow>,
+) -> Result<String, AllocError>
+    requires types { IsTrue (has_types layout.now) }
+    requires values { IsTrue (all_valid (kinds_in layout.now.fields) item.now.values) }
+    requires kept { IfSome (option_map (λ row. row.now) kept) (FitsForm data_form) }
+{
+    let row = row_of(alloc, layout, item, kept)?;
+    let row = row.write(alloc)?;
+    hex::encode(alloc, row.as_slice())
+}
+
+fn row_by(alloc: Global, layout: &Layout, arguments: &str) -> Result<String, CodecFail> {
+    let (key, rest) = first_of(arguments);
+    let (row, kept) = first_of(rest);
+    let row = row_in(alloc, key, row)?;
+    let kept = kept_in(alloc, key, kept)?;
+    if !has_types(layout) {
+        return Err(CodecFail::Damaged);
+    }
+    let item = record_within(alloc, layout, &row)?;
+    Ok(shown_row(alloc, layout, &item, kept.as_ref())?)
+}
+
+/// The row of the record that a row spells: the key, the row, and another row that is kept there, or none.
+pub(crate) fn row(
     alloc: Global,
     keeper: &mut MemoryKeeper,
     arguments: &str,
 ) -> Result<String, StoreFail> {
     let mut draft = Draft::new(alloc, keeper);
-    let Some(layout) = layout_at(alloc, &mut draft, 1, 0)? else {
-        return Ok(String::from_str(alloc, "no object")?);
-    };
-    store_row(alloc, &mut draft, &layout, arguments)?;
-    draft.commit(alloc)?;
-    Ok(String::from_str(alloc, "stored")?)
+    match layout_at(alloc, &mut draft, 1, 0)? {
+        Some(layout) => Ok(row_by(alloc, &layout, arguments)?),
+        None => Ok(String::from_str(alloc, "no object")?),
+    }
+}
+
+fn id_text(id: &Id) -> &str {
+    str::from_utf8(id.as_bytes()).unwrap_or("?")
 }
 
 // A blank, and the value.
@@ -63,7 +92,7 @@ fn shown_value(alloc: Global, value: &Value) -> Result<String, AllocError> {
             format!(in alloc; " {text}")
         }
         Value::Ref(id) => {
-            let id = str::from_utf8(id.as_bytes()).unwrap_or("?");
+            let id = id_text(id);
             format!(in alloc; " {id}")
         }
         _ => String::from_str(alloc, " another"),
@@ -102,18 +131,35 @@ pub(crate) fn load(
     Ok(shown_or_none(alloc, found)?)
 }
 
-/// Erases the record with an id.
-pub(crate) fn erase(
+// Each record with its id before it.
+fn joined(alloc: Global, records: &[Record]) -> Result<String, AllocError> {
+    let mut all = String::new(alloc);
+    for record in records {
+        if !all.is_empty() {
+            all.push_str("; ")?;
+        }
+        all.push_str(id_text(&record.id))?;
+        all.push_str(" ")?;
+        all.push_str(shown(alloc, record)?.as_str())?;
+    }
+    Ok(all)
+}
+
+/// The records after an id, or the first of all: the id, and how many at most.
+pub(crate) fn after(
     alloc: Global,
     keeper: &mut MemoryKeeper,
-    id: &str,
+    arguments: &str,
 ) -> Result<String, StoreFail> {
+    let (id, limit) = first_of(arguments);
+    let limit = limit.parse::<usize>().unwrap_or(0);
+    let id = Id::from_bytes(id.as_bytes());
     let mut draft = Draft::new(alloc, keeper);
-    let layout = layout_at(alloc, &mut draft, 1, 0)?;
-    let (Some(layout), Some(id)) = (layout, Id::from_bytes(id.as_bytes())) else {
-        return Ok(String::from_str(alloc, "no object or no id")?);
-    };
-    erase_record(alloc, &mut draft, &layout, &id)?;
-    draft.commit(alloc)?;
-    Ok(String::from_str(alloc, "erased")?)
+    match layout_at(alloc, &mut draft, 1, 0)? {
+        Some(layout) => {
+            let found = walk(alloc, &mut draft, &layout, id.as_ref(), limit)?;
+            Ok(joined(alloc, found.as_slice())?)
+        }
+        None => Ok(String::from_str(alloc, "no object")?),
+    }
 }

@@ -1,9 +1,10 @@
 //! Methods and targets with their routes, and query strings.
 
 use crate::line::first_of;
+use http::Method;
 use std::alloc::{AllocError, Global};
 use ut_model::{Route, Routed};
-use ut_rest::{query_text, route};
+use ut_rest::{Routes, query_text};
 use ut_value::Text;
 
 // The texts of a route, in order.
@@ -49,10 +50,13 @@ fn shown(alloc: Global, route: &Route) -> Result<String, AllocError> {
     Ok(shown)
 }
 
-/// What a method and a target are routed to.
+/// What a method and a target are routed to; what isn't a token is no method.
 pub(crate) fn found(alloc: Global, arguments: &str) -> Result<String, AllocError> {
     let (method, target) = first_of(arguments);
-    match route(alloc, method, target)? {
+    let Ok(method) = Method::from_bytes(alloc, method.as_bytes()) else {
+        return String::from_str(alloc, "no method");
+    };
+    match Routes::new(alloc)?.route(alloc, &method, target)? {
         Routed::To(route) => shown(alloc, &route),
         Routed::NotFound => String::from_str(alloc, "NotFound"),
         Routed::NotAllowed => String::from_str(alloc, "NotAllowed"),

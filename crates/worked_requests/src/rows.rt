@@ -24,18 +24,3 @@ pub(crate) fn put(
     draft.commit(alloc)?;
     Ok(String::from_str(alloc, "put")?)
 }
-
-/// The row that is kept for a key: the table and the key.
-pub(crate) fn kept(
-    alloc: Global,
-    keeper: &mut MemoryKeeper,
-    arguments: &str,
-) -> Result<String, StoreFail> {
-    let (digits, key) = first_of(arguments);
-    let key = bytes(alloc, key)?;
-    let mut draft = Draft::new(alloc, keeper);
-    match draft.get(alloc, table(digits), key.as_slice())? {
-        Some(row) => Ok(hex::encode(alloc, row.as_slice())?),
-        None => Ok(String::from_str(alloc, "none")?),
-    }
-}

@@ -3,14 +3,13 @@
 ghost use Rattle.std.specs.Prelude.{None};
 
 use crate::cells::{bytes_in, cell, cell_of, repeated_in};
-use http::StatusCode;
+use http::{Method, StatusCode};
 use std::alloc::{AllocError, Global};
 use ut_http::{
     Buffer, HttpFail, HttpMessage, Next, next_message, out_of_memory, reply_bytes, reply_bytes_to,
     unavailable_to,
 };
 use ut_io::{IoFail, Source};
-use ut_value::Text;
 
 // How bytes are cut into reads.
 #[derive(Clone, Copy)]
@@ -202,13 +201,16 @@ pub fn messages(alloc: Global, cells: &[&str]) -> Result<String, AllocError> {
     Ok(whole)
 }
 
-/// A status, a method, a body, and `close` or nothing: the reply.
+/// A status, a method (GET if there is none), a body, and `close` or nothing: the reply.
 ///
 /// # Errors
 ///
 /// If out of memory.
 pub fn reply(alloc: Global, cells: &[&str]) -> Result<String, AllocError> {
-    let method = Text::from_str(alloc, cell(cells, 1))?;
+    let method = match Method::from_bytes(alloc, cell(cells, 1).as_bytes()) {
+        Ok(method) => method,
+        Err(_) => Method::GET,
+    };
     let body = bytes_in(alloc, cell(cells, 2))?;
     let body = body.as_slice();
     let close = cell(cells, 3) == "close";

@@ -73,7 +73,7 @@ pub record IsSpelledMaster (layouts : List Layout) (m : NewMaster) : Type 0 wher
   pub parent : IsTrue (is_some (layout_by_name layouts m.parent))
 
 -- the names of a new object have spellings, and so has its number
-pub record AreSpelled (layouts : List Layout) (b : NewObject) : Type 0 where
+pub record IsSpelledObject (layouts : List Layout) (b : NewObject) : Type 0 where
   pub few : length layouts + 1 < 2 ^ 16
   pub name : FitsText b.name
   pub master : IfSome b.master (IsSpelledMaster layouts)

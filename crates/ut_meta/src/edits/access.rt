@@ -7,6 +7,7 @@ ghost use Rattle.ut_meta.specs.Judging.{AcceptsOn};
 ghost use Rattle.ut_model.specs.Fields.{by_parent};
 ghost use Rattle.ut_model.specs.Metadata.{set_access};
 ghost use Rattle.ut_model.specs.Tenant.{Tenant};
+ghost use Rattle.ut_model.specs.Verdict.{done};
 ghost use Rattle.ut_stands.specs.Calls.{Calls, ended_edit};
 ghost use Rattle.ut_stands.specs.Local.{StandsIn};
 ghost use Rattle.ut_stands.specs.Plan.{OrgPlan};
@@ -14,8 +15,8 @@ ghost use Rattle.ut_value.specs.declared.sharing.Access.{Access};
 
 use crate::judging::judge_access;
 use std::alloc::Global;
-use ut_edits::{Edit, one_row};
-use ut_keeper::{Change, Draft, Keeper};
+use ut_edits::{Decided, Edit, one_row};
+use ut_keeper::{Draft, Keeper};
 use ut_parts::ObjectAccess;
 use ut_sound::objects_sound;
 use ut_stands::{EditFail, call_laws, layout_named, metadata_laws, object_there, slot_laws};
@@ -49,7 +50,11 @@ pub struct SetAccess<'a> {
 }
 
 impl Edit for SetAccess<'_> {
+    type Answer = ();
+
     ghost verdict = { λ e a. set_access a.tenant (chars e.object.now) e.access };
+
+    ghost answered = { λ _. done };
 
     ghost planned = { λ e q t next. next ≡ q };
 
@@ -64,7 +69,7 @@ impl Edit for SetAccess<'_> {
         alloc: Global,
         draft: &mut Draft<'_, K>,
         org: u32,
-    ) -> Result<Vec<Change>, EditFail> {
+    ) -> Result<Decided<()>, EditFail> {
         call_laws::<K>();
         metadata_laws();
         slot_laws();
@@ -75,6 +80,6 @@ impl Edit for SetAccess<'_> {
             access: self.access,
             hierarchy: true,
         };
-        one_row(alloc, &row)
+        one_row(alloc, (), &row)
     }
 }

@@ -1,7 +1,7 @@
 //! New fields.
 
 ghost use Rattle.std.specs.Prelude.{◌<◌, ◌≡◌, ◌≢◌, ℕ, IfErr, IfOk, IfSome, Ok, Option};
-ghost use Rattle.ut_edits.specs.Rows.{Spells};
+ghost use Rattle.ut_edits.specs.Rows.{AreSpelled};
 ghost use Rattle.ut_keys.specs.declared.fail.StoreFail.TheVariants.{Keeper, Memory};
 ghost use Rattle.ut_keys.specs.Forms.{FitsForm};
 ghost use Rattle.ut_keys.specs.Rows.{field_form, object_form};
@@ -10,22 +10,24 @@ ghost use Rattle.ut_meta.specs.inner.Relations.{target_in};
 ghost use Rattle.ut_meta.specs.inner.Rows.{field_row};
 ghost use Rattle.ut_meta.specs.Slots.{FieldPlanned};
 ghost use Rattle.ut_model.specs.NewFields.{add_field, child_of, new_field, type_with};
+ghost use Rattle.ut_model.specs.Verdict.{done};
 ghost use Rattle.ut_parts.specs.Composed.{FitsType};
 ghost use Rattle.ut_parts.specs.Plain.{FitsText};
 ghost use Rattle.ut_sound.specs.Fit.{is_fit_field};
 ghost use Rattle.ut_stands.specs.Fails.{of_store};
 
+use crate::edits::accepting::accepting_layouts;
 use crate::edits::copies::{copy_of_text, copy_of_type};
-use crate::judging::{judge_field, target_number};
+use crate::judging::target_number;
 use crate::relations::layout_named;
 use crate::slots::free_slot;
 use std::alloc::Global;
-use ut_edits::{Edit, put_row};
-use ut_keeper::{Change, Draft, Keeper};
+use ut_edits::{Decided, Edit, put_row};
+use ut_keeper::{Draft, Keeper};
 use ut_keys::{FieldFlags, FieldRow, ObjectRow, StoreFail};
 use ut_model::{NewField, SpelledType};
 use ut_sound::objects_sound;
-use ut_stands::{EditFail, Layout, call_laws, layouts, metadata_laws, object_there, slot_laws};
+use ut_stands::{EditFail, Layout, call_laws, metadata_laws, object_there, slot_laws};
 use ut_value::{FieldType, Text};
 
 // The rows that a new field changes.
@@ -135,16 +137,19 @@ fn rows_of(
     Ok(NewFieldRows { object, field })
 }
 
-// The changes that put the rows of a new field.
-fn changes_of(alloc: Global, rows: &NewFieldRows) -> Result<Vec<Change>, EditFail>
+// The edit, decided: it puts the rows of a new field.
+fn decided(alloc: Global, rows: &NewFieldRows) -> Result<Decided<()>, EditFail>
     requires { FitFieldRows rows.now }
-    ensures made { IfOk result (λ x. Spells (changes_of rows.now) x.items) }
+    ensures made { IfOk result (λ x. AreSpelled (changes_of rows.now) x.changes.items) }
     ensures cause { IfErr result (λ e. e ≡ of_store Memory) }
 {
     let mut changes = Vec::new(alloc);
     put_row(alloc, &mut changes, &rows.object)?;
     put_row(alloc, &mut changes, &rows.field)?;
-    Ok(changes)
+    Ok(Decided {
+        answer: (),
+        changes,
+    })
 }
 
 /// Adds a field to an object, in the least slot that is free: in each of its records it is null, or false.
@@ -156,7 +161,11 @@ pub struct AddField<'a> {
 }
 
 impl Edit for AddField<'_> {
+    type Answer = ();
+
     ghost verdict = { λ e a. add_field a.tenant e.new.now };
+
+    ghost answered = { λ _. done };
 
     ghost planned = { λ e. FieldPlanned e.new.now };
 
@@ -171,21 +180,18 @@ impl Edit for AddField<'_> {
         alloc: Global,
         draft: &mut Draft<'_, K>,
         org: u32,
-    ) -> Result<Vec<Change>, EditFail> {
+    ) -> Result<Decided<()>, EditFail> {
         call_laws::<K>();
         metadata_laws();
         slot_laws();
         objects_sound();
-        let all = layouts(alloc, draft, org)?;
-        if let Some(refusal) = judge_field(alloc, all.as_slice(), self.new)? {
-            return Err(EditFail::Refused(refusal));
-        }
+        let all = accepting_layouts(alloc, draft, org, self.new)?;
         let Some(layout) = layout_named(all.as_slice(), self.new.object.as_str()) else {
             // Without an object it is refused.
             return Err(EditFail::Store(StoreFail::Damaged));
         };
         let row = object_there(alloc, draft, org, layout.object)?;
         let rows = rows_of(alloc, all.as_slice(), layout, row, self.new)?;
-        changes_of(alloc, &rows)
+        decided(alloc, &rows)
     }
 }

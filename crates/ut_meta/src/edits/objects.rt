@@ -1,28 +1,29 @@
 //! New objects.
 
 ghost use Rattle.std.specs.Prelude.{◌++◌, ◌≡◌, ◌≢◌, IfErr, IfOk, IfSome, OnOk, length, map};
-ghost use Rattle.ut_edits.specs.Rows.{Spells, spelled};
+ghost use Rattle.ut_edits.specs.Rows.{AreSpelled, spelled};
 ghost use Rattle.ut_keys.specs.declared.fail.StoreFail.TheVariants.{Keeper, Memory};
 ghost use Rattle.ut_keys.specs.Forms.{FitsForm};
 ghost use Rattle.ut_keys.specs.Rows.{field_form, org_form};
-ghost use Rattle.ut_meta.specs.inner.NewRows.{AreSpelled, FitRows, IsSpelledMaster, changes_of, field_row_changes, first_field, master_row, rows_by};
+ghost use Rattle.ut_meta.specs.inner.NewRows.{FitRows, IsSpelledMaster, IsSpelledObject, changes_of, field_row_changes, first_field, master_row, rows_by};
 ghost use Rattle.ut_model.specs.Metadata.{add_object};
+ghost use Rattle.ut_model.specs.Verdict.{done};
 ghost use Rattle.ut_parts.specs.Plain.{FitsText};
 ghost use Rattle.ut_sound.specs.Fit.{is_fit_object};
 ghost use Rattle.ut_stands.specs.Fails.{of_store};
 ghost use Rattle.ut_stands.specs.Records.{with_slot};
 
+use crate::edits::accepting::accepting_layouts;
 use crate::edits::copies::copy_of_text;
-use crate::judging::judge_object;
 use crate::relations;
 use std::alloc::{AllocError, Global};
-use ut_edits::{Edit, put_row};
+use ut_edits::{Decided, Edit, put_row};
 use ut_keeper::{Change, Draft, Keeper};
 use ut_keys::{FieldRow, ObjectRow, OrgRow, StoreFail};
 use ut_model::{NewMaster, NewObject};
 use ut_parts::{FieldFlags, ObjectAccess};
 use ut_sound::objects_sound;
-use ut_stands::{EditFail, Layout, call_laws, layouts, metadata_laws, org_there, slot_laws};
+use ut_stands::{EditFail, Layout, call_laws, metadata_laws, org_there, slot_laws};
 use ut_value::FieldType;
 
 // The rows that a new object changes.
@@ -98,7 +99,7 @@ fn rows_of(
     requires { FitsForm org_form org }
     ensures same { IfOk result (λ rows. rows ≡ rows_by layouts.now org new.now) }
     ensures fits { IfOk result FitRows }
-    ensures damaged { AreSpelled layouts.now new.now → IfErr result (λ e. e ≡ Memory) }
+    ensures damaged { IsSpelledObject layouts.now new.now → IfErr result (λ e. e ≡ Memory) }
     ensures cause { IfErr result (λ e. e ≢ Keeper) }
 {
     let Ok(count) = u16::try_from(layouts.len() + 1) else {
@@ -139,17 +140,20 @@ fn put_field(
     }
 }
 
-// The changes that put the rows of a new object.
-fn changes_of(alloc: Global, rows: &NewRows) -> Result<Vec<Change>, EditFail>
+// The edit, decided: it puts the rows of a new object.
+fn decided(alloc: Global, rows: &NewRows) -> Result<Decided<()>, EditFail>
     requires { FitRows rows.now }
-    ensures made { IfOk result (λ x. Spells (changes_of rows.now) x.items) }
+    ensures made { IfOk result (λ x. AreSpelled (changes_of rows.now) x.changes.items) }
     ensures cause { IfErr result (λ e. e ≡ of_store Memory) }
 {
     let mut changes = Vec::new(alloc);
     put_row(alloc, &mut changes, &rows.org)?;
     put_field(alloc, &mut changes, &rows.field)?;
     put_row(alloc, &mut changes, &rows.object)?;
-    Ok(changes)
+    Ok(Decided {
+        answer: (),
+        changes,
+    })
 }
 
 /// Adds an object, which has the next number; a detail also has its Master field, in slot 0.
@@ -162,7 +166,11 @@ pub struct AddObject<'a> {
 }
 
 impl Edit for AddObject<'_> {
+    type Answer = ();
+
     ghost verdict = { λ e a. add_object a.tenant e.new.now };
+
+    ghost answered = { λ _. done };
 
     ghost planned = { λ e q t next. next ≡ with_slot (length t.objects) 0 0 q };
 
@@ -177,17 +185,14 @@ impl Edit for AddObject<'_> {
         alloc: Global,
         draft: &mut Draft<'_, K>,
         org: u32,
-    ) -> Result<Vec<Change>, EditFail> {
+    ) -> Result<Decided<()>, EditFail> {
         call_laws::<K>();
         metadata_laws();
         slot_laws();
         objects_sound();
-        let all = layouts(alloc, draft, org)?;
-        if let Some(refusal) = judge_object(alloc, all.as_slice(), self.new)? {
-            return Err(EditFail::Refused(refusal));
-        }
+        let all = accepting_layouts(alloc, draft, org, self.new)?;
         let row = org_there(alloc, draft, org)?;
         let rows = rows_of(alloc, all.as_slice(), row, self.new)?;
-        changes_of(alloc, &rows)
+        decided(alloc, &rows)
     }
 }

@@ -1,6 +1,6 @@
 use Rattle.std.proofs.Common.{◌≡◌, true, refl, sym, subst}
 use Rattle.ut_stands.specs.Fails.{sees_version}
-use Rattle.ut_stands.specs.Reads.{OpensAs}
+use Rattle.ut_stands.specs.Opening.{OpensAs}
 use Rattle.platform.specs.OrgAdd.{org_does}
 use Rattle.platform.proofs.Ends.{crash_through, opened, opened_failed, unopened}
 use Rattle.platform.proofs.org_add.org_add_page.Goals as goal

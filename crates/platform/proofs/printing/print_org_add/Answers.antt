@@ -1,10 +1,10 @@
 use Rattle.std.proofs.Common.{Ok, subst, sym}
-use Rattle.ut_stands.specs.Operations.{Leaves}
 use Rattle.platform.specs.Commands.{org_add, printed}
 use Rattle.platform.specs.Deeds.{Prints, one_deed}
 use Rattle.platform.specs.OrgAdd.{org_does}
+use Rattle.platform.specs.Run.{KeepsWorld}
 use Rattle.platform.specs.Stops.{DoesOpened, behind, store_end, store_stop_of}
-use Rattle.platform.proofs.Ends.{handed_on, opening_leaves, opening_stops}
+use Rattle.platform.proofs.Ends.{handed_on, opening_keeps, opening_stops}
 use Rattle.platform.proofs.printing.print_org_add.Goals as goal
 
 pub returns-clause-prints : goal.returns-clause-prints
@@ -17,21 +17,19 @@ returns-clause-prints g c told w s bytes moments =
 
 pub returns-in_err-page-clause-prints : goal.returns-in_err-page-clause-prints
 returns-in_err-page-clause-prints g c told w s bytes moments =
-    let k = g.K.Keeper.state c.args.keeper.now in
     let l = g.K.Keeper.state c.org_add_page.new.keeper in
     let old = g.W.Sink.written c.args.sink.now in
     let op = org_does c.args.name.now c.args.secret.now in
     let fail = c.in_err-page.field-0.0 in
     subst (λ r. Prints w (printed (org_add c.args.name.now c.args.secret.now) w bytes moments) old old (store_end r) (behind w (op w).1 (store_end r)))
     (sym (handed_on c.from_residual.result (store_stop_of fail) c.from_residual.ensures))
-    (opening_stops op w k l old fail (subst (DoesOpened op w k l) c.in_err-page.was (c.org_add_page.ensures.does told w s)))
+    (opening_stops op w l old fail (subst (DoesOpened op w l) c.in_err-page.was (c.org_add_page.ensures.does told w s)))
 
-pub returns-in_err-page-clause-leaves : goal.returns-in_err-page-clause-leaves
-returns-in_err-page-clause-leaves g c told w s =
-    let k = g.K.Keeper.state c.args.keeper.now in
+pub returns-in_err-page-clause-keeps : goal.returns-in_err-page-clause-keeps
+returns-in_err-page-clause-keeps g c told w s =
     let l = g.K.Keeper.state c.org_add_page.new.keeper in
     let op = org_does c.args.name.now c.args.secret.now in
     let fail = c.in_err-page.field-0.0 in
-    subst (λ r. Leaves w (behind w (op w).1 (store_end r)) (op w).1 k l)
+    subst (λ r. KeepsWorld (behind w (op w).1 (store_end r)) l)
     (sym (handed_on c.from_residual.result (store_stop_of fail) c.from_residual.ensures))
-    (opening_leaves op w k l fail (subst (DoesOpened op w k l) c.in_err-page.was (c.org_add_page.ensures.does told w s)))
+    (opening_keeps op w l fail (subst (DoesOpened op w l) c.in_err-page.was (c.org_add_page.ensures.does told w s)))

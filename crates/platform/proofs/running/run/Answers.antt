@@ -1,187 +1,179 @@
+use Rattle.std.proofs.Common.{◌≡◌, ◌∙◌, true, false, refl, sym, subst, arith}
+use Rattle.platform.specs.Commands.{answers, csvq, has_status, is_opening, may_write, org_add, prints, serves}
+use Rattle.platform.specs.Promise.{Causes}
 use Rattle.platform.specs.Seen.{Seen}
-use Rattle.std.proofs.Common.{refl, ℕ, List, [], ◌∷◌}
-use Rattle.platform.specs.Commands.{answers, csvq, org_add, serves}
-use Rattle.platform.specs.declared.stop.Stop.TheVariants.{DoorFailed, SinkFailed, SourceFailed}
-use Rattle.platform.specs.Stops.{csvq_end, store_end}
-use Rattle.platform.proofs.Ends.{csvq_door, csvq_known, store_door, store_known, store_source}
-use Rattle.platform.proofs.Runs.{csvq_runs, is_72, is_73, is_74, is_75, known_zero, not_listed, faulted, org_crash, org_runs, quiet, serving_completes, serving_crash, serving_leads, serving_runs, version_ends}
-use Rattle.platform.proofs.Falling.{answer_falls, print_falls, serve_falls}
+use Rattle.platform.proofs.Runs.{caused, is_72, is_73, is_74, is_75, keeper_caused, known_zero, not_own, of_none, of_words, quiet, status_of_none, status_of_words, true_isnt_false, unused_of_words, was_opening}
+use Rattle.platform.proofs.OfCsvq as by_csvq
+use Rattle.platform.proofs.OfOrgAdd as by_org_add
+use Rattle.platform.proofs.OfServing.{serving_promise, unwritten}
 use Rattle.platform.proofs.running.run.Goals as goal
 
-pub returns-in-Csvq-clause-runs : goal.returns-in-Csvq-clause-runs
-returns-in-Csvq-clause-runs g c =
-    let k = g.K.Keeper.state c.args.keeper.now in
-    let held = g.D.Door.held c.args.door.now in
-    let faults = g.D.Door.line_faults c.args.door.now in
-    let a : Seen = record { keeper = k; door = held; line_faults = faults; left = g.S.Source.left c.args.source.now; written = g.W.Sink.written c.args.sink.now; coming = g.C.Clock.coming c.args.clock.now } in
-    let b : Seen = record { keeper = k; door = held; line_faults = faults; left = g.S.Source.left c.print_csvq.new.source; written = g.W.Sink.written c.print_csvq.new.sink; coming = g.C.Clock.coming c.now-now.new.self } in
-    csvq_runs a b _ c.in-Csvq.query.now (csvq_end c.print_csvq.result) c.csvq_status.result c.in-Csvq.ensures c.csvq_status.ensures c.print_csvq.ensures.prints
+-- ---- `csvq`
 
-pub returns-in-OrgAdd-clause-runs : goal.returns-in-OrgAdd-clause-runs
-returns-in-OrgAdd-clause-runs g c =
-    let k = g.K.Keeper.state c.args.keeper.now in
-    let l = g.K.Keeper.state c.print_org_add.new.keeper in
-    let held = g.D.Door.held c.args.door.now in
-    let faults = g.D.Door.line_faults c.args.door.now in
-    let a : Seen = record { keeper = k; door = held; line_faults = faults; left = g.S.Source.left c.args.source.now; written = g.W.Sink.written c.args.sink.now; coming = g.C.Clock.coming c.args.clock.now } in
-    let b : Seen = record { keeper = l; door = held; line_faults = faults; left = g.S.Source.left c.args.source.now; written = g.W.Sink.written c.print_org_add.new.sink; coming = g.C.Clock.coming c.args.clock.now } in
-    org_runs c.in-OrgAdd.name.now c.in-OrgAdd.secret.now a b _ (store_end c.print_org_add.result) c.store_status.result c.in-OrgAdd.ensures c.store_status.ensures (store_source c.print_org_add.result) c.print_org_add.ensures.prints c.print_org_add.ensures.leaves
+pub returns-in-Csvq-clause-status : goal.returns-in-Csvq-clause-status
+returns-in-Csvq-clause-status g c =
+    let query = c.in-Csvq.query.now in
+    status_of_words _ (prints (csvq query)) c.csvq_status.result c.in-Csvq.ensures
+    (by_csvq.own query c.print_csvq.result c.csvq_status.result c.print_csvq.ensures.status c.csvq_status.ensures)
 
-pub returns-in-OrgAdd-clause-crash : goal.returns-in-OrgAdd-clause-crash
-returns-in-OrgAdd-clause-crash g c =
-    let k = g.K.Keeper.state c.args.keeper.now in
-    let l = g.K.Keeper.state c.print_org_add.new.keeper in
-    org_crash c.in-OrgAdd.name.now c.in-OrgAdd.secret.now k l _ c.in-OrgAdd.ensures c.print_org_add.ensures.crash
+pub returns-in-Csvq-clause-promise : goal.returns-in-Csvq-clause-promise
+returns-in-Csvq-clause-promise g c =
+    let query = c.in-Csvq.query.now in
+    let it = c.print_csvq.ensures in
+    let status = c.csvq_status.result in
+    let a : Seen = record { keeper = g.K.Keeper.state c.args.keeper.now; door = g.D.Door.held c.args.door.now; door_faults = g.D.Door.faults c.args.door.now; line_faults = g.D.Door.line_faults c.args.door.now; left = g.S.Source.left c.args.source.now; read_faults = g.S.Source.faults c.args.source.now; written = g.W.Sink.written c.args.sink.now; write_faults = g.W.Sink.faults c.args.sink.now; coming = g.C.Clock.coming c.args.clock.now } in
+    let b : Seen = record { keeper = g.K.Keeper.state c.args.keeper.now; door = g.D.Door.held c.args.door.now; door_faults = g.D.Door.faults c.args.door.now; line_faults = g.D.Door.line_faults c.args.door.now; left = g.S.Source.left c.print_csvq.new.source; read_faults = g.S.Source.faults c.print_csvq.new.source; written = g.W.Sink.written c.print_csvq.new.sink; write_faults = g.W.Sink.faults c.print_csvq.new.sink; coming = g.C.Clock.coming c.now-now.new.self } in
+    of_words _ (prints (csvq query)) a b status c.in-Csvq.ensures
+    (by_csvq.csvq_promise query a b c.print_csvq.result status it.status c.csvq_status.ensures refl refl refl it.prints it.whole c.now-now.ensures.asked it.source_cause it.sink_cause)
 
-pub returns-in-OrgAdd-clause-version : goal.returns-in-OrgAdd-clause-version
-returns-in-OrgAdd-clause-version g c opens told =
-    version_ends c.stands_laws.ensures.one_version (g.K.Keeper.state c.args.keeper.now).tables (store_end c.print_org_add.result) c.store_status.result (store_known c.print_org_add.result c.print_org_add.ensures.status) c.store_status.ensures (c.print_org_add.ensures.version told)
+pub returns-in-Csvq-clause-unused : goal.returns-in-Csvq-clause-unused
+returns-in-Csvq-clause-unused g c =
+    let query = c.in-Csvq.query.now in
+    let it = c.print_csvq.ensures in
+    let status = c.csvq_status.result in
+    unused_of_words _ (prints (csvq query)) status c.in-Csvq.ensures (record {
+      keeper_same = λ none. refl;
+      door_same = λ none. refl;
+      source_same = it.unread;
+      sink_same = λ none. it.unwritten (sym (by_csvq.writes query c.print_csvq.result status it.status c.csvq_status.ensures) ∙ none);
+      clock_same = λ none. absurd (true_isnt_false none);
+    })
 
-pub returns-in-Answer-clause-runs : goal.returns-in-Answer-clause-runs
-returns-in-Answer-clause-runs g c =
-    let k = g.K.Keeper.state c.args.keeper.now in
-    let l = g.K.Keeper.state c.serve_answer.new.keeper in
-    let held = g.D.Door.held c.args.door.now in
-    let faults = g.D.Door.line_faults c.args.door.now in
-    let a : Seen = record { keeper = k; door = held; line_faults = faults; left = g.S.Source.left c.args.source.now; written = g.W.Sink.written c.args.sink.now; coming = g.C.Clock.coming c.args.clock.now } in
-    let b : Seen = record { keeper = l; door = g.D.Door.held c.args.door.now; line_faults = g.D.Door.line_faults c.args.door.now; left = g.S.Source.left c.serve_answer.new.source; written = g.W.Sink.written c.serve_answer.new.sink; coming = g.C.Clock.coming c.serve_answer.new.clock } in
-    serving_runs _ answers refl c.in-Answer.ensures a b c.serve_answer.result c.status_of.result c.status_of.ensures
-    (λ told w s. c.serve_answer.ensures.runs told w s held faults)
+-- ---- `org-add`
 
-pub returns-in-Answer-clause-leads : goal.returns-in-Answer-clause-leads
-returns-in-Answer-clause-leads g c =
-    serving_leads _ answers refl c.in-Answer.ensures (g.K.Keeper.state c.args.keeper.now) (g.K.Keeper.state c.serve_answer.new.keeper) c.serve_answer.ensures.leads c.serve_answer.ensures.steps
+pub returns-in-OrgAdd-clause-status : goal.returns-in-OrgAdd-clause-status
+returns-in-OrgAdd-clause-status g c =
+    let name = c.in-OrgAdd.name.now in
+    let secret = c.in-OrgAdd.secret.now in
+    status_of_words _ (prints (org_add name secret)) c.store_status.result c.in-OrgAdd.ensures
+    (by_org_add.own name secret c.print_org_add.result c.store_status.result c.print_org_add.ensures.status c.store_status.ensures)
 
-pub returns-in-Answer-clause-crash : goal.returns-in-Answer-clause-crash
-returns-in-Answer-clause-crash g c =
-    serving_crash _ answers refl c.in-Answer.ensures (g.K.Keeper.state c.args.keeper.now) (g.K.Keeper.state c.serve_answer.new.keeper) c.serve_answer.ensures.leads
+pub returns-in-OrgAdd-clause-promise : goal.returns-in-OrgAdd-clause-promise
+returns-in-OrgAdd-clause-promise g c =
+    let name = c.in-OrgAdd.name.now in
+    let secret = c.in-OrgAdd.secret.now in
+    let r = c.print_org_add.result in
+    let it = c.print_org_add.ensures in
+    let status = c.store_status.result in
+    let same = c.store_status.ensures in
+    let a : Seen = record { keeper = g.K.Keeper.state c.args.keeper.now; door = g.D.Door.held c.args.door.now; door_faults = g.D.Door.faults c.args.door.now; line_faults = g.D.Door.line_faults c.args.door.now; left = g.S.Source.left c.args.source.now; read_faults = g.S.Source.faults c.args.source.now; written = g.W.Sink.written c.args.sink.now; write_faults = g.W.Sink.faults c.args.sink.now; coming = g.C.Clock.coming c.args.clock.now } in
+    let b : Seen = record { keeper = g.K.Keeper.state c.print_org_add.new.keeper; door = g.D.Door.held c.args.door.now; door_faults = g.D.Door.faults c.args.door.now; line_faults = g.D.Door.line_faults c.args.door.now; left = g.S.Source.left c.args.source.now; read_faults = g.S.Source.faults c.args.source.now; written = g.W.Sink.written c.print_org_add.new.sink; write_faults = g.W.Sink.faults c.print_org_add.new.sink; coming = g.C.Clock.coming c.args.clock.now } in
+    of_words _ (prints (org_add name secret)) a b status c.in-OrgAdd.ensures
+    (by_org_add.org_promise name secret a b r status it.status same refl refl refl (g.met.K.Keeper.settled c.args.keeper.now) c.stands_laws.ensures.one_version
+    (by_org_add.org_causes name secret a b r status it.status same refl refl refl it.steps it.acknowledged it.keeper_cause it.sink_cause)
+    it.prints it.keeps it.version it.kept it.refused it.crash)
 
-pub returns-in-Answer-clause-version : goal.returns-in-Answer-clause-version
-returns-in-Answer-clause-version g c opens told =
-    version_ends c.stands_laws.ensures.one_version (g.K.Keeper.state c.args.keeper.now).tables c.serve_answer.result c.status_of.result (known_zero c.serve_answer.result c.serve_answer.ensures.status) c.status_of.ensures (c.serve_answer.ensures.version told)
+pub returns-in-OrgAdd-clause-unused : goal.returns-in-OrgAdd-clause-unused
+returns-in-OrgAdd-clause-unused g c =
+    let name = c.in-OrgAdd.name.now in
+    let secret = c.in-OrgAdd.secret.now in
+    let it = c.print_org_add.ensures in
+    let status = c.store_status.result in
+    unused_of_words _ (prints (org_add name secret)) status c.in-OrgAdd.ensures (record {
+      keeper_same = λ none. absurd (true_isnt_false none);
+      door_same = λ none. refl;
+      source_same = λ none. refl;
+      sink_same = λ none. it.unwritten (sym (by_org_add.writes name secret c.print_org_add.result status it.status c.store_status.ensures) ∙ none);
+      clock_same = λ none. refl;
+    })
 
-pub returns-in-Answer-clause-keeper_cause : goal.returns-in-Answer-clause-keeper_cause
-returns-in-Answer-clause-keeper_cause g c =
-    let failed = is_72 c.serve_answer.result c.status_of.result (known_zero c.serve_answer.result c.serve_answer.ensures.status) c.status_of.ensures in
-    record { rose = λ e. c.serve_answer.ensures.keeper_cause.rose (failed e); never = λ sure e. c.serve_answer.ensures.keeper_cause.never sure (failed e) }
+-- ---- `answer`
 
-pub returns-in-Serve-clause-runs : goal.returns-in-Serve-clause-runs
-returns-in-Serve-clause-runs g c =
-    let k = g.K.Keeper.state c.args.keeper.now in
-    let l = g.K.Keeper.state c.serve_door.new.keeper in
-    let held = g.D.Door.held c.args.door.now in
-    let faults = g.D.Door.line_faults c.args.door.now in
-    let a : Seen = record { keeper = k; door = held; line_faults = faults; left = g.S.Source.left c.args.source.now; written = g.W.Sink.written c.args.sink.now; coming = g.C.Clock.coming c.args.clock.now } in
-    let b : Seen = record { keeper = l; door = g.D.Door.held c.serve_door.new.door; line_faults = g.D.Door.line_faults c.serve_door.new.door; left = g.S.Source.left c.args.source.now; written = g.W.Sink.written c.args.sink.now; coming = g.C.Clock.coming c.serve_door.new.clock } in
-    serving_runs _ (serves c.in-Serve.count) refl c.in-Serve.ensures.1 a b c.serve_door.result c.status_of-in-Serve.result c.status_of-in-Serve.ensures
-    (λ told w s. c.serve_door.ensures.runs told w s (g.S.Source.left c.args.source.now) (g.W.Sink.written c.args.sink.now))
+pub returns-in-Answer-clause-status : goal.returns-in-Answer-clause-status
+returns-in-Answer-clause-status g c =
+    status_of_words _ answers c.status_of.result c.in-Answer.ensures (subst (λ n. has_status answers n ≡ true) (sym c.status_of.ensures) c.serve_answer.ensures.statuses)
 
-pub returns-in-Serve-clause-leads : goal.returns-in-Serve-clause-leads
-returns-in-Serve-clause-leads g c =
-    serving_leads _ (serves c.in-Serve.count) refl c.in-Serve.ensures.1 (g.K.Keeper.state c.args.keeper.now) (g.K.Keeper.state c.serve_door.new.keeper) c.serve_door.ensures.leads c.serve_door.ensures.steps
-
-pub returns-in-Serve-clause-crash : goal.returns-in-Serve-clause-crash
-returns-in-Serve-clause-crash g c =
-    serving_crash _ (serves c.in-Serve.count) refl c.in-Serve.ensures.1 (g.K.Keeper.state c.args.keeper.now) (g.K.Keeper.state c.serve_door.new.keeper) c.serve_door.ensures.leads
-
-pub returns-in-Serve-clause-version : goal.returns-in-Serve-clause-version
-returns-in-Serve-clause-version g c opens told =
-    version_ends c.stands_laws.ensures.one_version (g.K.Keeper.state c.args.keeper.now).tables c.serve_door.result c.status_of-in-Serve.result (known_zero c.serve_door.result c.serve_door.ensures.status) c.status_of-in-Serve.ensures (c.serve_door.ensures.version told)
-
-pub returns-in-Serve-clause-keeper_cause : goal.returns-in-Serve-clause-keeper_cause
-returns-in-Serve-clause-keeper_cause g c =
-    let failed = is_72 c.serve_door.result c.status_of-in-Serve.result (known_zero c.serve_door.result c.serve_door.ensures.status) c.status_of-in-Serve.ensures in
-    record { rose = λ e. c.serve_door.ensures.keeper_cause.rose (failed e); never = λ sure e. c.serve_door.ensures.keeper_cause.never sure (failed e) }
-
-pub returns-in-Answer-clause-sink_cause : goal.returns-in-Answer-clause-sink_cause
-returns-in-Answer-clause-sink_cause g c =
-    let failed = is_73 c.serve_answer.result c.status_of.result (known_zero c.serve_answer.result c.serve_answer.ensures.status) c.status_of.ensures in
-    record { later = c.serve_answer.ensures.sink_cause.later; rose = λ e. c.serve_answer.ensures.sink_cause.rose (failed e) }
-
-pub returns-in-Answer-clause-source_cause : goal.returns-in-Answer-clause-source_cause
-returns-in-Answer-clause-source_cause g c =
-    let failed = is_74 c.serve_answer.result c.status_of.result (known_zero c.serve_answer.result c.serve_answer.ensures.status) c.status_of.ensures in
-    record { later = c.serve_answer.ensures.source_cause.later; rose = λ e. c.serve_answer.ensures.source_cause.rose (failed e) }
-
-pub returns-in-Answer-clause-door_cause : goal.returns-in-Answer-clause-door_cause
-returns-in-Answer-clause-door_cause g c =
-    quiet (g.D.Door.faults c.args.door.now) _
-    (λ e. not_listed answers c.serve_answer.result DoorFailed c.serve_answer.ensures.statuses refl
-    (is_75 c.serve_answer.result c.status_of.result (known_zero c.serve_answer.result c.serve_answer.ensures.status) c.status_of.ensures e))
-
-pub returns-in-Csvq-clause-door_cause : goal.returns-in-Csvq-clause-door_cause
-returns-in-Csvq-clause-door_cause g c =
-    quiet (g.D.Door.faults c.args.door.now) _
-    (λ e. csvq_door c.print_csvq.result (is_75 (csvq_end c.print_csvq.result) c.csvq_status.result (csvq_known c.print_csvq.result c.print_csvq.ensures.status) c.csvq_status.ensures e))
-
-pub returns-in-OrgAdd-clause-door_cause : goal.returns-in-OrgAdd-clause-door_cause
-returns-in-OrgAdd-clause-door_cause g c =
-    quiet (g.D.Door.faults c.args.door.now) _
-    (λ e. store_door c.print_org_add.result (is_75 (store_end c.print_org_add.result) c.store_status.result (store_known c.print_org_add.result c.print_org_add.ensures.status) c.store_status.ensures e))
-
-pub returns-in-Answer-clause-complete : goal.returns-in-Answer-clause-complete
-returns-in-Answer-clause-complete g c =
-    let it = c.serve_answer.ensures in
+pub returns-in-Answer-clause-promise : goal.returns-in-Answer-clause-promise
+returns-in-Answer-clause-promise g c =
     let r = c.serve_answer.result in
-    let k = g.K.Keeper.state in
-    let counts : List (ℕ × ℕ) = ((k c.args.keeper.now).faults, (k c.serve_answer.new.keeper).faults) ∷ (g.S.Source.faults c.args.source.now, g.S.Source.faults c.serve_answer.new.source)
-    ∷ (g.W.Sink.faults c.args.sink.now, g.W.Sink.faults c.serve_answer.new.sink) ∷ (g.D.Door.faults c.args.door.now, g.D.Door.faults c.args.door.now) ∷ [] in
-    serving_completes _ answers refl c.in-Answer.ensures c.stands_laws.ensures.one_version c.stands_laws.ensures.known
-    (g.K.Keeper.state c.args.keeper.now) (g.K.Keeper.state c.serve_answer.new.keeper) r c.status_of.result it.status c.status_of.ensures it.version counts
-    (λ none f. faulted r f (λ e. none.0 (it.keeper_cause.rose e)) (λ e. none.1.1.0 (it.sink_cause.rose e)) (λ e. none.1.0 (it.source_cause.rose e)) (not_listed answers r DoorFailed it.statuses refl))
+    let it = c.serve_answer.ensures in
+    let status = c.status_of.result in
+    let same = c.status_of.ensures in
+    let known = known_zero r it.status in
+    let a : Seen = record { keeper = g.K.Keeper.state c.args.keeper.now; door = g.D.Door.held c.args.door.now; door_faults = g.D.Door.faults c.args.door.now; line_faults = g.D.Door.line_faults c.args.door.now; left = g.S.Source.left c.args.source.now; read_faults = g.S.Source.faults c.args.source.now; written = g.W.Sink.written c.args.sink.now; write_faults = g.W.Sink.faults c.args.sink.now; coming = g.C.Clock.coming c.args.clock.now } in
+    let b : Seen = record { keeper = g.K.Keeper.state c.serve_answer.new.keeper; door = g.D.Door.held c.args.door.now; door_faults = g.D.Door.faults c.args.door.now; line_faults = g.D.Door.line_faults c.args.door.now; left = g.S.Source.left c.serve_answer.new.source; read_faults = g.S.Source.faults c.serve_answer.new.source; written = g.W.Sink.written c.serve_answer.new.sink; write_faults = g.W.Sink.faults c.serve_answer.new.sink; coming = g.C.Clock.coming c.serve_answer.new.clock } in
+    let own = subst (λ n. has_status answers n ≡ true) (sym same) it.statuses in
+    let causes : Causes answers a b status = record {
+      steps = it.steps;
+      lines = omega arith;
+      keeper = keeper_caused a.keeper b.keeper it.keeper_cause (is_72 r status known same);
+      sink = caused a.write_faults b.write_faults it.sink_cause (is_73 r status known same);
+      source = caused a.read_faults b.read_faults it.source_cause (is_74 r status known same);
+      door = quiet a.door_faults b.door_faults refl (not_own answers status 75 own refl);
+      acknowledged = λ printing. absurd (true_isnt_false printing);
+    } in
+    of_words _ answers a b status c.in-Answer.ensures
+    (serving_promise answers refl a b r status same it.status (g.met.K.Keeper.settled c.args.keeper.now) c.stands_laws.ensures.one_version causes
+    (λ told w s. it.runs told w s (g.D.Door.held c.args.door.now) (g.D.Door.faults c.args.door.now) (g.D.Door.line_faults c.args.door.now)) it.leads it.falls it.kept it.version)
 
-pub returns-in-Serve-clause-complete : goal.returns-in-Serve-clause-complete
-returns-in-Serve-clause-complete g c =
+pub returns-in-Answer-clause-unused : goal.returns-in-Answer-clause-unused
+returns-in-Answer-clause-unused g c =
+    let r = c.serve_answer.result in
+    let it = c.serve_answer.ensures in
+    let status = c.status_of.result in
+    let same = c.status_of.ensures in
+    let opening = λ (e : is_opening status ≡ true). subst (λ n. is_opening n ≡ true) same e in
+    unused_of_words _ answers status c.in-Answer.ensures (record {
+      keeper_same = λ none. absurd (true_isnt_false none);
+      door_same = λ none. refl;
+      source_same = λ none. (it.unserved (opening (was_opening (is_opening status) none))).0;
+      sink_same = λ none. (it.unserved (unwritten r it.status it.statuses (subst (λ n. may_write answers n ≡ false) same none))).1;
+      clock_same = λ none. (it.unserved (opening (was_opening (is_opening status) none))).2;
+    })
+
+-- ---- `serve`
+
+pub returns-in-Serve-clause-status : goal.returns-in-Serve-clause-status
+returns-in-Serve-clause-status g c =
+    let this = serves c.in-Serve.count in
+    status_of_words _ this c.status_of-in-Serve.result c.in-Serve.ensures.1 (subst (λ n. has_status this n ≡ true) (sym c.status_of-in-Serve.ensures) c.serve_door.ensures.statuses)
+
+pub returns-in-Serve-clause-promise : goal.returns-in-Serve-clause-promise
+returns-in-Serve-clause-promise g c =
+    let this = serves c.in-Serve.count in
+    let r = c.serve_door.result in
     let it = c.serve_door.ensures in
-    let r = c.serve_door.result in
-    let cmd = serves c.in-Serve.count in
-    let k = g.K.Keeper.state in
-    let counts : List (ℕ × ℕ) = ((k c.args.keeper.now).faults, (k c.serve_door.new.keeper).faults) ∷ (g.S.Source.faults c.args.source.now, g.S.Source.faults c.args.source.now)
-    ∷ (g.W.Sink.faults c.args.sink.now, g.W.Sink.faults c.args.sink.now) ∷ (g.D.Door.faults c.args.door.now, g.D.Door.faults c.serve_door.new.door) ∷ [] in
-    serving_completes _ cmd refl c.in-Serve.ensures.1 c.stands_laws.ensures.one_version c.stands_laws.ensures.known
-    (g.K.Keeper.state c.args.keeper.now) (g.K.Keeper.state c.serve_door.new.keeper) r c.status_of-in-Serve.result it.status c.status_of-in-Serve.ensures it.version counts
-    (λ none f. faulted r f (λ e. none.0 (it.keeper_cause.rose e)) (not_listed cmd r SinkFailed it.statuses refl) (not_listed cmd r SourceFailed it.statuses refl) (λ e. none.1.1.1.0 (it.door_cause.rose e)))
+    let status = c.status_of-in-Serve.result in
+    let same = c.status_of-in-Serve.ensures in
+    let known = known_zero r it.status in
+    let a : Seen = record { keeper = g.K.Keeper.state c.args.keeper.now; door = g.D.Door.held c.args.door.now; door_faults = g.D.Door.faults c.args.door.now; line_faults = g.D.Door.line_faults c.args.door.now; left = g.S.Source.left c.args.source.now; read_faults = g.S.Source.faults c.args.source.now; written = g.W.Sink.written c.args.sink.now; write_faults = g.W.Sink.faults c.args.sink.now; coming = g.C.Clock.coming c.args.clock.now } in
+    let b : Seen = record { keeper = g.K.Keeper.state c.serve_door.new.keeper; door = g.D.Door.held c.serve_door.new.door; door_faults = g.D.Door.faults c.serve_door.new.door; line_faults = g.D.Door.line_faults c.serve_door.new.door; left = g.S.Source.left c.args.source.now; read_faults = g.S.Source.faults c.args.source.now; written = g.W.Sink.written c.args.sink.now; write_faults = g.W.Sink.faults c.args.sink.now; coming = g.C.Clock.coming c.serve_door.new.clock } in
+    let own = subst (λ n. has_status this n ≡ true) (sym same) it.statuses in
+    let causes : Causes this a b status = record {
+      steps = it.steps;
+      lines = it.line_faults;
+      keeper = keeper_caused a.keeper b.keeper it.keeper_cause (is_72 r status known same);
+      sink = quiet a.write_faults b.write_faults refl (not_own this status 73 own refl);
+      source = quiet a.read_faults b.read_faults refl (not_own this status 74 own refl);
+      door = caused a.door_faults b.door_faults it.door_cause (is_75 r status known same);
+      acknowledged = λ printing. absurd (true_isnt_false printing);
+    } in
+    of_words _ this a b status c.in-Serve.ensures.1
+    (serving_promise this refl a b r status same it.status (g.met.K.Keeper.settled c.args.keeper.now) c.stands_laws.ensures.one_version causes
+    (λ told w s. it.runs told w s (g.S.Source.left c.args.source.now) (g.W.Sink.written c.args.sink.now) (g.S.Source.faults c.args.source.now) (g.W.Sink.faults c.args.sink.now)) it.leads it.falls it.kept it.version)
 
-pub returns-in-Serve-clause-sink_cause : goal.returns-in-Serve-clause-sink_cause
-returns-in-Serve-clause-sink_cause g c =
-    let r = c.serve_door.result in
-    quiet (g.W.Sink.faults c.args.sink.now) _
-    (λ e. not_listed (serves c.in-Serve.count) r SinkFailed c.serve_door.ensures.statuses refl
-    (is_73 r c.status_of-in-Serve.result (known_zero r c.serve_door.ensures.status) c.status_of-in-Serve.ensures e))
+pub returns-in-Serve-clause-unused : goal.returns-in-Serve-clause-unused
+returns-in-Serve-clause-unused g c =
+    let it = c.serve_door.ensures in
+    let status = c.status_of-in-Serve.result in
+    let opening = λ (e : is_opening status ≡ true). subst (λ n. is_opening n ≡ true) c.status_of-in-Serve.ensures e in
+    unused_of_words _ (serves c.in-Serve.count) status c.in-Serve.ensures.1 (record {
+      keeper_same = λ none. absurd (true_isnt_false none);
+      door_same = λ none. (it.unserved (opening (was_opening (is_opening status) none))).0;
+      source_same = λ none. refl;
+      sink_same = λ none. refl;
+      clock_same = λ none. (it.unserved (opening (was_opening (is_opening status) none))).1;
+    })
 
-pub returns-in-Serve-clause-source_cause : goal.returns-in-Serve-clause-source_cause
-returns-in-Serve-clause-source_cause g c =
-    let r = c.serve_door.result in
-    quiet (g.S.Source.faults c.args.source.now) _
-    (λ e. not_listed (serves c.in-Serve.count) r SourceFailed c.serve_door.ensures.statuses refl
-    (is_74 r c.status_of-in-Serve.result (known_zero r c.serve_door.ensures.status) c.status_of-in-Serve.ensures e))
+-- ---- no command
 
-pub returns-in-Serve-clause-door_cause : goal.returns-in-Serve-clause-door_cause
-returns-in-Serve-clause-door_cause g c =
-    let r = c.serve_door.result in
-    let failed = is_75 r c.status_of-in-Serve.result (known_zero r c.serve_door.ensures.status) c.status_of-in-Serve.ensures in
-    record { later = c.serve_door.ensures.door_cause.later; rose = λ e. c.serve_door.ensures.door_cause.rose (failed e) }
+pub returns-in-Other-clause-status : goal.returns-in-Other-clause-status
+returns-in-Other-clause-status g c = status_of_none _ c.in-Other.ensures
 
-pub returns-in-Csvq-clause-falls : goal.returns-in-Csvq-clause-falls
-returns-in-Csvq-clause-falls g c =
-    let a : Seen = record { keeper = g.K.Keeper.state c.args.keeper.now; door = g.D.Door.held c.args.door.now; line_faults = g.D.Door.line_faults c.args.door.now; left = g.S.Source.left c.args.source.now; written = g.W.Sink.written c.args.sink.now; coming = g.C.Clock.coming c.args.clock.now } in
-    let b : Seen = record { keeper = g.K.Keeper.state c.args.keeper.now; door = g.D.Door.held c.args.door.now; line_faults = g.D.Door.line_faults c.args.door.now; left = g.S.Source.left c.print_csvq.new.source; written = g.W.Sink.written c.print_csvq.new.sink; coming = g.C.Clock.coming c.now-now.new.self } in
-    print_falls _ a b c.csvq_status.result (csvq c.in-Csvq.query.now) c.in-Csvq.ensures
+pub returns-in-Other-clause-promise : goal.returns-in-Other-clause-promise
+returns-in-Other-clause-promise g c =
+    let a : Seen = record { keeper = g.K.Keeper.state c.args.keeper.now; door = g.D.Door.held c.args.door.now; door_faults = g.D.Door.faults c.args.door.now; line_faults = g.D.Door.line_faults c.args.door.now; left = g.S.Source.left c.args.source.now; read_faults = g.S.Source.faults c.args.source.now; written = g.W.Sink.written c.args.sink.now; write_faults = g.W.Sink.faults c.args.sink.now; coming = g.C.Clock.coming c.args.clock.now } in
+    of_none a a _ 64 c.in-Other.ensures
 
-pub returns-in-OrgAdd-clause-falls : goal.returns-in-OrgAdd-clause-falls
-returns-in-OrgAdd-clause-falls g c =
-    let a : Seen = record { keeper = g.K.Keeper.state c.args.keeper.now; door = g.D.Door.held c.args.door.now; line_faults = g.D.Door.line_faults c.args.door.now; left = g.S.Source.left c.args.source.now; written = g.W.Sink.written c.args.sink.now; coming = g.C.Clock.coming c.args.clock.now } in
-    let b : Seen = record { keeper = g.K.Keeper.state c.print_org_add.new.keeper; door = g.D.Door.held c.args.door.now; line_faults = g.D.Door.line_faults c.args.door.now; left = g.S.Source.left c.args.source.now; written = g.W.Sink.written c.print_org_add.new.sink; coming = g.C.Clock.coming c.args.clock.now } in
-    print_falls _ a b c.store_status.result (org_add c.in-OrgAdd.name.now c.in-OrgAdd.secret.now) c.in-OrgAdd.ensures
-
-pub returns-in-Answer-clause-falls : goal.returns-in-Answer-clause-falls
-returns-in-Answer-clause-falls g c =
-    let a : Seen = record { keeper = g.K.Keeper.state c.args.keeper.now; door = g.D.Door.held c.args.door.now; line_faults = g.D.Door.line_faults c.args.door.now; left = g.S.Source.left c.args.source.now; written = g.W.Sink.written c.args.sink.now; coming = g.C.Clock.coming c.args.clock.now } in
-    let b : Seen = record { keeper = g.K.Keeper.state c.serve_answer.new.keeper; door = g.D.Door.held c.args.door.now; line_faults = g.D.Door.line_faults c.args.door.now; left = g.S.Source.left c.serve_answer.new.source; written = g.W.Sink.written c.serve_answer.new.sink; coming = g.C.Clock.coming c.serve_answer.new.clock } in
-    answer_falls _ a b c.status_of.result c.serve_answer.result c.in-Answer.ensures c.status_of.ensures c.serve_answer.ensures.falls
-
-pub returns-in-Serve-clause-falls : goal.returns-in-Serve-clause-falls
-returns-in-Serve-clause-falls g c =
-    let a : Seen = record { keeper = g.K.Keeper.state c.args.keeper.now; door = g.D.Door.held c.args.door.now; line_faults = g.D.Door.line_faults c.args.door.now; left = g.S.Source.left c.args.source.now; written = g.W.Sink.written c.args.sink.now; coming = g.C.Clock.coming c.args.clock.now } in
-    let b : Seen = record { keeper = g.K.Keeper.state c.serve_door.new.keeper; door = g.D.Door.held c.serve_door.new.door; line_faults = g.D.Door.line_faults c.serve_door.new.door; left = g.S.Source.left c.args.source.now; written = g.W.Sink.written c.args.sink.now; coming = g.C.Clock.coming c.serve_door.new.clock } in
-    serve_falls _ a b c.status_of-in-Serve.result c.in-Serve.count c.serve_door.result c.in-Serve.ensures.1 c.status_of-in-Serve.ensures c.serve_door.ensures.falls
+pub returns-in-Other-clause-unused : goal.returns-in-Other-clause-unused
+returns-in-Other-clause-unused g c = record { keeper_same = λ none. refl; door_same = λ none. refl; source_same = λ none. refl; sink_same = λ none. refl; clock_same = λ none. refl }

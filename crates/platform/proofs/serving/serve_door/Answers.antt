@@ -2,7 +2,7 @@ use Rattle.std.proofs.Common.{Err, [], inl, inr, refl, subst, sym}
 use Rattle.ut_keeper.specs.State.{TrustedAfter}
 use Rattle.ut_serving.specs.Exchanges.{LeavesBehind}
 use Rattle.ut_stands.specs.Fails.{sees_version}
-use Rattle.ut_stands.specs.Reads.{OpensAs}
+use Rattle.ut_stands.specs.Opening.{OpensAs}
 use Rattle.ut_stands.specs.Stands.{Stands}
 use Rattle.platform.specs.Seen.{Seen}
 use Rattle.platform.specs.Serving.{IsOpening}
@@ -12,7 +12,7 @@ use Rattle.platform.proofs.Falling.{fell_opening}
 use Rattle.platform.proofs.serving.serve_door.Goals as goal
 
 pub returns-in-Ok-clause-runs : goal.returns-in-Ok-clause-runs
-returns-in-Ok-clause-runs g c told w s left written =
+returns-in-Ok-clause-runs g c told w s left written reads writes =
     let state = g.K.Keeper.state in
     let held = g.D.Door.held in
     let lines = g.D.Door.line_faults in
@@ -22,12 +22,12 @@ returns-in-Ok-clause-runs g c told w s left written =
     let last = c.open_and_serve.new.keeper in
     let opening = c.open_tables.ensures in
     let steps = c.open_and_serve.ensures.steps in
-    let opened : LeavesBehind w w [] (state first) (state mid) = c.serving_laws.ensures.left_by_reading w first mid opening.steps (λ trusted. opening.same (told.0, trusted)) (opening.crash told.0) s in
+    let opened : LeavesBehind w [] (state first) (state mid) = c.serving_laws.ensures.left_by_reading w first mid opening.steps (λ trusted. opening.same (told.0, trusted)) s in
     let at = opened.tables (steps.stood told.1) in
-    let a : Seen = record { keeper = state first; door = held c.args.door.now; line_faults = lines c.args.door.now; left = left; written = written; coming = coming c.args.clock.now } in
-    let b : Seen = record { keeper = state last; door = held c.open_and_serve.new.door; line_faults = lines c.open_and_serve.new.door; left = left; written = written; coming = coming c.open_and_serve.new.clock } in
+    let a : Seen = record { keeper = state first; door = held c.args.door.now; door_faults = g.D.Door.faults c.args.door.now; line_faults = lines c.args.door.now; left = left; read_faults = reads; written = written; write_faults = writes; coming = coming c.args.clock.now } in
+    let b : Seen = record { keeper = state last; door = held c.open_and_serve.new.door; door_faults = g.D.Door.faults c.open_and_serve.new.door; line_faults = lines c.open_and_serve.new.door; left = left; read_faults = reads; written = written; write_faults = writes; coming = coming c.open_and_serve.new.clock } in
     served w a b (state mid) c.args.count c.open_and_serve.result c.serve_end.result c.serve_end.ensures
-    (λ end xs h. c.serving_laws.ensures.left_from_open w end xs first mid last opened steps h) c.isolation_laws.ensures
+    (λ end xs h. c.serving_laws.ensures.left_from_open w end xs first mid last opened h) c.isolation_laws.ensures
     (λ d moments here asked. c.open_and_serve.ensures.serves (at.0, told.1) w d moments at.1 here asked)
 
 pub returns-in-Ok-clause-leads : goal.returns-in-Ok-clause-leads
@@ -40,17 +40,17 @@ returns-in-Ok-clause-leads g c tells trusted w s =
     c.open_and_serve.ensures.steps c.open_and_serve.ensures.leads
 
 pub returns-in-Err-clause-runs : goal.returns-in-Err-clause-runs
-returns-in-Err-clause-runs g c told w s left written =
+returns-in-Err-clause-runs g c told w s left written reads writes =
     let state = g.K.Keeper.state in
     let first = c.args.keeper.now in
     let mid = c.open_tables.new.keeper in
     let opening = c.open_tables.ensures in
-    let a : Seen = record { keeper = state first; door = g.D.Door.held c.args.door.now; line_faults = g.D.Door.line_faults c.args.door.now; left = left; written = written; coming = g.C.Clock.coming c.args.clock.now } in
-    let b : Seen = record { keeper = state mid; door = g.D.Door.held c.args.door.now; line_faults = g.D.Door.line_faults c.args.door.now; left = left; written = written; coming = g.C.Clock.coming c.args.clock.now } in
+    let a : Seen = record { keeper = state first; door = g.D.Door.held c.args.door.now; door_faults = g.D.Door.faults c.args.door.now; line_faults = g.D.Door.line_faults c.args.door.now; left = left; read_faults = reads; written = written; write_faults = writes; coming = g.C.Clock.coming c.args.clock.now } in
+    let b : Seen = record { keeper = state mid; door = g.D.Door.held c.args.door.now; door_faults = g.D.Door.faults c.args.door.now; line_faults = g.D.Door.line_faults c.args.door.now; left = left; read_faults = reads; written = written; write_faults = writes; coming = g.C.Clock.coming c.args.clock.now } in
     λ d moments _ _. inl (opened_only w a b c.from.result
     (subst (λ (x : Stop). IsOpening (Err x)) (sym c.from.ensures)
     (failed_opening c.stands_laws.ensures.one_version c.stands_laws.ensures.known (state first).tables w c.in-Err.fail (subst (OpensAs (state first).tables) c.in-Err.is (opening.opens told)) s))
-    (c.serving_laws.ensures.left_by_reading w first mid opening.steps (λ trusted. opening.same (told.0, trusted)) (opening.crash told.0) s)
+    (c.serving_laws.ensures.left_by_reading w first mid opening.steps (λ trusted. opening.same (told.0, trusted)) s)
     refl refl refl refl)
 
 pub returns-in-Ok-clause-falls : goal.returns-in-Ok-clause-falls

@@ -5,6 +5,8 @@ use Rattle.ut_keys.specs.Keys.{Data, record_key, spell}
 use Rattle.ut_keys.specs.Reads.{ReadsAs}
 use Rattle.ut_keys.specs.Rows.{data_form}
 use Rattle.ut_parts.specs.Shapes.{FitsIn}
+use Rattle.ut_data.specs.inner.Found.{found_from}
+use Rattle.ut_data.proofs.Ended.{calls_of, found_is_made, made_calls}
 use Rattle.ut_data.proofs.Loading.{record_finds}
 use Rattle.ut_data.proofs.Standing.{Laws}
 use Rattle.ut_data.proofs.reads.load_record.Goals as goal
@@ -15,10 +17,16 @@ row_at-row-requires g c = subst (λ (k : ℕ × (ℕ × List ℕ)). FitsIn recor
 pub returns-clause-finds : goal.returns-clause-finds
 returns-clause-finds g c told =
     let m = tables_of g.K.Keeper.state c.args.draft.now in
-    let laws : Laws = record {
-      own = c.stands_laws.ensures.own;
-      read = c.data_laws.ensures.read;
-      fits = c.data_laws.ensures.fits;
-    } in
+    let laws : Laws = record { read = c.data_laws.ensures.read; fits = c.data_laws.ensures.fits } in
     let reads = subst (λ (k : ℕ × (ℕ × List ℕ)). ReadsAs data_form k (map.get m (spell (Data k.0 k.1.0 k.1.1))) c.row_at-row.result) c.key_of-key.ensures.is (c.row_at-row.ensures.row told) in
-    record_finds c.row_laws.ensures.found laws m c.args.layout.now c.args.id.now c.key_of-key.ensures.fits c.row_at-row.result c.record_found.result reads c.record_found.ensures
+    record_finds c.row_laws.ensures.found c.key_laws.ensures.exact c.local_laws.ensures.own laws m c.args.layout.now c.args.id.now c.key_of-key.ensures.fits c.row_at-row.result c.record_found.result reads c.record_found.ensures
+
+pub returns-clause-calls : goal.returns-clause-calls
+returns-clause-calls g c =
+    let state = g.K.Keeper.state in
+    let a = c.args.draft.now in
+    let b = c.row_at-row.new.draft in
+    let l = c.args.layout.now in
+    let row = c.row_at-row.result in
+    made_calls state 1 a b row (found_from l row) c.record_found.result (found_is_made l row) c.record_found.ensures
+    (calls_of state 1 a b row c.row_at-row.ensures.reads c.row_at-row.ensures.stays c.row_at-row.ensures.cause)

@@ -2,7 +2,7 @@ use Rattle.std.proofs.Common.{rules}
 use Rattle.std.proofs.lemmas.Result.{err_from_is_err_and}
 use Rattle.ut_http.specs.Item.{window}
 use Rattle.ut_http.proofs.Windows.{window_at_hand}
-use Rattle.ut_http.proofs.Heads.{found_head, refused_head, refused_size, method_is_text, target_is_text}
+use Rattle.ut_http.proofs.Heads.{found_head, refused_head, refused_size, target_is_text}
 use Rattle.ut_http.proofs.next.next_head.Goals as goal
 
 pub returns-in_err-spans-clause-answer : goal.returns-in_err-spans-clause-answer
@@ -17,7 +17,6 @@ parts-requires g c =
     let a = rw c.in-Some.is at c.in_ok-spans.ensures.answer in
     rw w record {
       within = a.0;
-      method = method_is_text (window c.read_head.new.bytes.items) c.read_head.new.lines c.in-Some.spans a.1;
       target = target_is_text (window c.read_head.new.bytes.items) c.read_head.new.lines c.in-Some.spans a.1;
     }
 

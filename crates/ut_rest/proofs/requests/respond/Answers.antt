@@ -1,12 +1,69 @@
-use Rattle.std.proofs.Common.{subst, sym, ◌∙◌}
-use Rattle.ut_keeper.specs.Draft.{tables_of}
+use Rattle.std.proofs.Common.{◌∙◌, ◌+◌, sym, subst, arith}
+use Rattle.std.specs.Prelude.{IfOk}
+use Rattle.ut_keeper.specs.Draft.{removals_of, tables_of}
+use Rattle.ut_keeper.specs.State.{data_table}
+use Rattle.ut_model.specs.declared.refusal.Refusal.TheVariants as refusal
 use Rattle.ut_model.specs.declared.routed.Routed.{Routed}
-use Rattle.ut_step.specs.Built.{asking, verdict_to}
-use Rattle.ut_stands.specs.Operations.{RepliesIn}
+use Rattle.ut_stands.specs.Operations.{Responds}
+use Rattle.ut_step.specs.Built.{verdict_to}
+use Rattle.ut_step.specs.Own.{IsAsking, request_shown}
+use Rattle.ut_rest.specs.Forms.{IsRequestReply}
+use Rattle.ut_rest.proofs.Named.{refused_so}
+use Rattle.ut_rest.proofs.Responses.{drafts_of, form_of, read_responds, refused_calls}
 use Rattle.ut_rest.proofs.requests.respond.Goals as goal
 
-pub returns-in-Ok-To-clause-judged : goal.returns-in-Ok-To-clause-judged
-returns-in-Ok-To-clause-judged g c told w t u now s user =
-    let a = asking t now u in
-    subst (λ (r : Routed). RepliesIn c.args.caller.now.org a (verdict_to a c.args.body.now r) w (tables_of g.K.Keeper.state c.answer.new.draft) c.answer.result)
-    (sym c.in-Ok-To.field-0-is ∙ c.in-Ok-To.ensures) (c.answer.ensures.judged told w a s user.tenant user.admin)
+-- ---- a request of a route
+
+pub returns-in-Ok-To-clause-what : goal.returns-in-Ok-To-clause-what
+returns-in-Ok-To-clause-what g c told =
+    let state = g.K.Keeper.state in
+    let caller = c.args.caller.now in
+    subst (λ (r : Routed). Responds caller.org (IsAsking caller) (λ a. verdict_to a c.args.body.now r) (tables_of state c.args.draft.now) (tables_of state c.answer.new.draft) c.answer.result)
+    (sym c.in-Ok-To.field-0-is ∙ c.in-Ok-To.ensures) (c.answer.ensures.what told)
+
+pub returns-in-Ok-To-clause-form : goal.returns-in-Ok-To-clause-form
+returns-in-Ok-To-clause-form g c = subst (λ (r : Routed). IfOk c.answer.result (IsRequestReply r)) (sym c.in-Ok-To.field-0-is ∙ c.in-Ok-To.ensures) c.answer.ensures.form
+
+-- ---- no such path
+
+pub returns-in-Ok-NotFound-clause-what : goal.returns-in-Ok-NotFound-clause-what
+returns-in-Ok-NotFound-clause-what g c told =
+    let m = tables_of g.K.Keeper.state c.args.draft.now in
+    let caller = c.args.caller.now in
+    subst (λ (r : Routed). Responds caller.org (IsAsking caller) (λ a. verdict_to a c.args.body.now r) m m c.unchanged.result)
+    (sym c.in-Ok-NotFound.field-0-is ∙ c.in-Ok-NotFound.ensures)
+    (read_responds caller.org (IsAsking caller) _ m m c.refuse.result c.unchanged.result c.unchanged.ensures
+    (λ p a s asking. refused_so a refusal.NotFound c.refuse.result c.refuse.ensures.value))
+
+pub returns-in-Ok-NotFound-clause-form : goal.returns-in-Ok-NotFound-clause-form
+returns-in-Ok-NotFound-clause-form g c = form_of _ c.refuse.result c.unchanged.result c.unchanged.ensures c.refuse.ensures.form
+
+pub returns-in-Ok-NotFound-clause-drafts : goal.returns-in-Ok-NotFound-clause-drafts
+returns-in-Ok-NotFound-clause-drafts g c =
+    let state = g.K.Keeper.state in
+    let laws = c.call_laws.ensures in
+    let a = c.args.draft.now in
+    drafts_of state laws.makes laws.most 0 (request_shown + removals_of state data_table a) (omega arith) a a c.refuse.result c.unchanged.result c.unchanged.ensures
+    (refused_calls state laws.weaker laws.none refusal.NotFound c.refuse.result a c.refuse.ensures.value)
+
+-- ---- another method
+
+pub returns-in-Ok-NotAllowed-clause-what : goal.returns-in-Ok-NotAllowed-clause-what
+returns-in-Ok-NotAllowed-clause-what g c told =
+    let m = tables_of g.K.Keeper.state c.args.draft.now in
+    let caller = c.args.caller.now in
+    subst (λ (r : Routed). Responds caller.org (IsAsking caller) (λ a. verdict_to a c.args.body.now r) m m c.unchanged-in-Ok-NotAllowed.result)
+    (sym c.in-Ok-NotAllowed.field-0-is ∙ c.in-Ok-NotAllowed.ensures)
+    (read_responds caller.org (IsAsking caller) _ m m c.refuse-in-Ok-NotAllowed.result c.unchanged-in-Ok-NotAllowed.result c.unchanged-in-Ok-NotAllowed.ensures
+    (λ p a s asking. refused_so a refusal.MethodNotAllowed c.refuse-in-Ok-NotAllowed.result c.refuse-in-Ok-NotAllowed.ensures.value))
+
+pub returns-in-Ok-NotAllowed-clause-form : goal.returns-in-Ok-NotAllowed-clause-form
+returns-in-Ok-NotAllowed-clause-form g c = form_of _ c.refuse-in-Ok-NotAllowed.result c.unchanged-in-Ok-NotAllowed.result c.unchanged-in-Ok-NotAllowed.ensures c.refuse-in-Ok-NotAllowed.ensures.form
+
+pub returns-in-Ok-NotAllowed-clause-drafts : goal.returns-in-Ok-NotAllowed-clause-drafts
+returns-in-Ok-NotAllowed-clause-drafts g c =
+    let state = g.K.Keeper.state in
+    let laws = c.call_laws.ensures in
+    let a = c.args.draft.now in
+    drafts_of state laws.makes laws.most 0 (request_shown + removals_of state data_table a) (omega arith) a a c.refuse-in-Ok-NotAllowed.result c.unchanged-in-Ok-NotAllowed.result c.unchanged-in-Ok-NotAllowed.ensures
+    (refused_calls state laws.weaker laws.none refusal.MethodNotAllowed c.refuse-in-Ok-NotAllowed.result a c.refuse-in-Ok-NotAllowed.ensures.value)

@@ -15,7 +15,7 @@ returns-clause-falls g c fell w moments s e =
     let answer = c.answer_message-answer in
     fell_on w c.args.message.now c.now-now.result moments (state c.args.keeper.now) (state answer.new.keeper) (g.C.Clock.coming c.args.clock.now)
     (g.W.Wire.output c.args.wire.now) (g.W.Wire.output c.write_answer.new.wire) answer.result c.write_answer.result
-    (g.met.K.Keeper.settled c.args.keeper.now fell.0 fell.1) fell s e c.now-now.ensures.first answer.ensures.acknowledged answer.ensures.form answer.ensures.crash c.write_answer.ensures.wrote
+    (g.met.K.Keeper.settled c.args.keeper.now fell.0 fell.1) fell s e c.now-now.ensures.first answer.ensures.acknowledged answer.ensures.form.0 answer.ensures.crash c.write_answer.ensures.wrote
 
 pub returns-clause-grows : goal.returns-clause-grows
 returns-clause-grows g c = wrote_grows (g.W.Wire.output c.args.wire.now) (g.W.Wire.output c.write_answer.new.wire) (bytes_in c.args.message.now.method c.answer_message-answer.result) c.write_answer.result c.write_answer.ensures.wrote

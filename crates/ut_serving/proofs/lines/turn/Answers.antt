@@ -1,5 +1,6 @@
-use Rattle.std.proofs.Common.{◌≡◌, ◌||◌, rules, Bool, true, false}
+use Rattle.std.proofs.Common.{◌≡◌, ◌||◌, ◌∙◌, rules, ap, inl, inr, subst, ℕ, Bool, true, false, List, Option, Some, None, Ok}
 use Rattle.std.specs.Io.KnownBytes.{prepend_known}
+use Rattle.std.specs.Io.KnownBytes as known
 use Rattle.ut_serving.proofs.Fallen.{fell_turn, grows_none, grows_then, not_fell, refusal_grows, wrote_grows}
 use Rattle.ut_serving.proofs.Turned.{message_turn, end_turn, cut_turn, read_turn, memory_turn, refused_turn, refused_between}
 use Rattle.ut_serving.proofs.lines.turn.Goals.{then-message, else-message}
@@ -101,3 +102,37 @@ pub returns-in-Err-clause-grows : goal.returns-in-Err-clause-grows
 returns-in-Err-clause-grows g c =
     let output = g.W.Wire.output in
     grows_then (output c.args.wire.now) (output c.next.new.self) (output c.refuse.new.wire) c.next.ensures.unwritten (refusal_grows c.in-Err.fail (output c.next.new.self) (output c.refuse.new.wire) c.refuse.result c.refuse.ensures.refuses)
+
+-- ---- what is read before a reply
+
+kept_same : (a b : Option (List ℕ)) → b ≡ a → known.Keeps a b
+kept_same None b e = tt
+kept_same (Some xs) None e = absurd cc
+kept_same (Some xs) (Some ys) e = search (rules, e)
+
+kept_from : (a b c : Option (List ℕ)) → b ≡ a → known.Keeps b c → known.Keeps a c
+kept_from a b c e h = subst (λ x. known.Keeps x c) e h
+
+pub returns-after-message-clause-at_hand : goal.returns-after-message-clause-at_hand
+returns-after-message-clause-at_hand g c m rest item = kept_from _ _ _ (c.next.ensures.at_hand m rest item) c.reply.ensures.unread
+
+pub returns-in-Ok-End-clause-at_hand : goal.returns-in-Ok-End-clause-at_hand
+returns-in-Ok-End-clause-at_hand g c m rest item = kept_same _ _ (c.next.ensures.at_hand m rest item)
+
+pub returns-in-Ok-Cut-clause-at_hand : goal.returns-in-Ok-Cut-clause-at_hand
+returns-in-Ok-Cut-clause-at_hand g c m rest item = kept_same _ _ (c.next.ensures.at_hand m rest item)
+
+pub returns-in-Err-Failed-clause-at_hand : goal.returns-in-Err-Failed-clause-at_hand
+returns-in-Err-Failed-clause-at_hand g c m rest item = kept_same _ _ (c.next.ensures.at_hand m rest item)
+
+pub returns-in-Err-Memory-clause-at_hand : goal.returns-in-Err-Memory-clause-at_hand
+returns-in-Err-Memory-clause-at_hand g c m rest item = kept_from _ _ _ (c.next.ensures.at_hand m rest item) c.write_text.ensures.unread
+
+pub returns-in-Err-clause-at_hand : goal.returns-in-Err-clause-at_hand
+returns-in-Err-clause-at_hand g c m rest item = kept_from _ _ _ (c.next.ensures.at_hand m rest item) c.refuse.ensures.unread
+
+pub returns-after-message-clause-read_ahead : goal.returns-after-message-clause-read_ahead
+returns-after-message-clause-read_ahead g c goes_on = elim (c.next.ensures.read_ahead c.in-Ok-Message.message (c.in-Ok-Message.is ∙ ap Ok c.in-Ok-Message.field-0-is)) [
+  | inl same ↦ inl (kept_from _ _ _ same c.reply.ensures.unread)
+  | inr few ↦ inr few
+]

@@ -1,20 +1,64 @@
-use Rattle.std.proofs.Common.{ap, Err, refl}
-use Rattle.ut_serving.specs.Answers.{bytes_in}
-use Rattle.ut_serving.specs.declared.request.Answer.TheVariants.{OutOfMemory, Unavailable}
-use Rattle.ut_serving.proofs.Kept.{answered_done, answered_store, answered_memory}
+use Rattle.std.proofs.Common.{refl}
+use Rattle.ut_model.specs.Step.{key_in}
+use Rattle.ut_serving.specs.Answers.{outcome_of}
+use Rattle.ut_serving.specs.Requests.{does, message_in}
+use Rattle.ut_serving.proofs.Kept.{acknowledged_by, answered_by, cause_by, kept_by, undamaged_by}
+use Rattle.ut_serving.proofs.Leading.{led_by_request}
+use Rattle.ut_serving.proofs.Worlds.{WorldLaws, by_world, crash_world}
 use Rattle.ut_serving.proofs.request.answer_message.Goals as goal
 
-pub returns-in-Ok-clause-answers : goal.returns-in-Ok-clause-answers
-returns-in-Ok-clause-answers g c told w s =
-    answered_done w c.args.message.now c.args.now (g.K.Keeper.state c.args.keeper.now) (g.K.Keeper.state c.answer_within.new.keeper) c.in-Ok.reply c.answer_within.ensures.steps (c.in-Ok.ensures.within told w s)
+pub returns-clause-kept : goal.returns-clause-kept
+returns-clause-kept g c told made =
+    let state = g.K.Keeper.state in
+    let m = c.args.message.now in
+    kept_by (key_in (message_in m)) (message_in m) m.close c.args.now (state c.args.keeper.now) (state c.answer_own.new.keeper) c.answer_own.result c.answer_own.ensures.does told made
 
-pub returns-in-Err-Keeper-clause-answers : goal.returns-in-Err-Keeper-clause-answers
-returns-in-Err-Keeper-clause-answers g c told w s =
-    answered_store w c.args.message.now c.args.now (g.K.Keeper.state c.args.keeper.now) (g.K.Keeper.state c.answer_within.new.keeper) c.in-Err-Keeper.field-0 (bytes_in c.args.message.now.method (Unavailable c.args.message.now.close)) (c.in-Err-Keeper.ensures.cause.rose (ap Err c.in-Err-Keeper.field-0-is)) (c.in-Err-Keeper.ensures.within told w s) refl
+pub returns-clause-answers : goal.returns-clause-answers
+returns-clause-answers g c told w s =
+    let state = g.K.Keeper.state in
+    let m = c.args.message.now in
+    let old = state c.args.keeper.now in
+    let new = state c.answer_own.new.keeper in
+    let laws : WorldLaws = record { each = c.local_laws.ensures.each; whole = c.local_laws.ensures.whole; nobody = c.local_laws.ensures.nobody } in
+    answered_by w m c.args.now old new c.answer_own.result c.answer_own.ensures.form.0 c.answer_own.ensures.asks
+    (by_world laws (message_in m) m.close c.args.now old new w s (key_in (message_in m)) (outcome_of c.answer_own.result) refl c.answer_own.ensures.does told)
 
-pub returns-in-Err-Memory-clause-answers : goal.returns-in-Err-Memory-clause-answers
-returns-in-Err-Memory-clause-answers g c told w s =
-    answered_memory w c.args.message.now c.args.now (g.K.Keeper.state c.args.keeper.now) (g.K.Keeper.state c.answer_within.new.keeper) c.in-Err-Memory.field-0 (bytes_in c.args.message.now.method (OutOfMemory c.args.message.now.close)) c.answer_within.ensures.steps (c.in-Err-Memory.ensures.within told w s) refl
+pub returns-clause-undamaged : goal.returns-clause-undamaged
+returns-clause-undamaged g c told w s damaged =
+    let state = g.K.Keeper.state in
+    let m = c.args.message.now in
+    let old = state c.args.keeper.now in
+    let new = state c.answer_own.new.keeper in
+    let laws : WorldLaws = record { each = c.local_laws.ensures.each; whole = c.local_laws.ensures.whole; nobody = c.local_laws.ensures.nobody } in
+    undamaged_by (does (message_in m) m.close c.args.now) w new c.answer_own.result
+    (by_world laws (message_in m) m.close c.args.now old new w s (key_in (message_in m)) (outcome_of c.answer_own.result) refl c.answer_own.ensures.does told) damaged
 
-pub returns-in-Ok-damaged_bytes-clause-undamaged : goal.returns-in-Ok-damaged_bytes-clause-undamaged
-returns-in-Ok-damaged_bytes-clause-undamaged g c told w s damaged = (c.in-Err-Damaged.ensures.within told w s).0 c.in-Err-Damaged.field-0-is
+pub returns-clause-crash : goal.returns-clause-crash
+returns-clause-crash g c tells trusted clean w s left may =
+    let state = g.K.Keeper.state in
+    let m = c.args.message.now in
+    let old = state c.args.keeper.now in
+    let new = state c.answer_own.new.keeper in
+    let laws : WorldLaws = record { each = c.local_laws.ensures.each; whole = c.local_laws.ensures.whole; nobody = c.local_laws.ensures.nobody } in
+    crash_world laws (message_in m) m.close c.args.now old new w s (key_in (message_in m)) (outcome_of c.answer_own.result) refl c.answer_own.ensures.does tells trusted clean left may
+
+pub returns-clause-leads : goal.returns-clause-leads
+returns-clause-leads g c =
+    let state = g.K.Keeper.state in
+    let m = c.args.message.now in
+    let old = state c.args.keeper.now in
+    let new = state c.answer_own.new.keeper in
+    let laws : WorldLaws = record { each = c.local_laws.ensures.each; whole = c.local_laws.ensures.whole; nobody = c.local_laws.ensures.nobody } in
+    led_by_request (message_in m) m.close c.args.now old new (outcome_of c.answer_own.result)
+    (λ told w s. by_world laws (message_in m) m.close c.args.now old new w s (key_in (message_in m)) (outcome_of c.answer_own.result) refl c.answer_own.ensures.does told)
+    (λ tells trusted clean w s left may. crash_world laws (message_in m) m.close c.args.now old new w s (key_in (message_in m)) (outcome_of c.answer_own.result) refl c.answer_own.ensures.does tells trusted clean left may)
+
+pub returns-clause-acknowledged : goal.returns-clause-acknowledged
+returns-clause-acknowledged g c made =
+    let state = g.K.Keeper.state in
+    acknowledged_by (state c.args.keeper.now) (state c.answer_own.new.keeper) c.answer_own.result c.answer_own.ensures.asks.stays made
+
+pub returns-clause-cause : goal.returns-clause-cause
+returns-clause-cause g c =
+    let state = g.K.Keeper.state in
+    cause_by (state c.args.keeper.now) (state c.answer_own.new.keeper) c.answer_own.result c.answer_own.ensures.asks.cause

@@ -1,60 +1,56 @@
-use Rattle.std.proofs.Common.{rules, ◌≡◌, ◌⊎◌, IsTrue, sym, subst}
-use Rattle.std.specs.Prelude.{OnErr}
-use Rattle.ut_keeper.specs.State.{Shows, Tells}
+use Rattle.std.proofs.Common.{rules, ◌∙◌, subst}
+use Rattle.ut_keeper.specs.Draft.{DraftTells, tables_of}
 use Rattle.ut_keeper.specs.Tables.{Tables}
-use Rattle.ut_step.specs.Built.{step}
-use Rattle.ut_model.specs.World.{World}
-use Rattle.ut_stands.specs.Operations.{Does}
-use Rattle.ut_stands.specs.Stands.{Stands}
-use Rattle.ut_serving.specs.Leads.{LeadsFrom}
-use Rattle.ut_serving.specs.Requests.{does, message_in}
-use Rattle.ut_serving.proofs.Judging.{shown_most}
-use Rattle.ut_serving.proofs.Leading.{led_by_request}
+use Rattle.ut_model.specs.Step.{key_in}
+use Rattle.ut_stands.proofs.Ended.{empty_tables, moved, told_draft, unchanged}
+use Rattle.ut_step.specs.Own.{request_changes, request_gone}
+use Rattle.ut_serving.specs.Own.{Asks, DoesMessage, JudgesMessage, Replies}
+use Rattle.ut_serving.specs.Requests.{message_in}
+use Rattle.ut_serving.proofs.Messages.{asks_by, does_by, replies_by, shown_most}
 use Rattle.ut_serving.proofs.request.answer_within.Goals as goal
 
--- between keepers by other names
-moved : {K : Type 0} (P : K → K → Type 0) (a b c d : K) → a ≡ c → d ≡ b → P a b → P c d
-moved P a b c d p q h = subst (λ x. P x d) p (subst (λ y. P a y) (sym q) h)
-
-pub returns-clause-within : goal.returns-clause-within
-returns-clause-within g c =
+pub returns-clause-does : goal.returns-clause-does
+returns-clause-does g c =
     let state = g.K.Keeper.state in
     let d = c.new-draft.result in
-    let op = does (message_in c.args.message.now) c.args.message.now.close c.args.now in
-    moved (λ x y. Tells (state x) (state y) → (w : World) → Stands (state x).tables w → Does op w (state x) (state y) c.finish.result)
-    d.keeper.now c.finish.new.draft.0 c.args.keeper.now _ c.new-draft.ensures.same (search rules)
-    (λ told w s. c.finish.ensures.does d 3 0 (shown_most state d) op w c.new-draft.ensures.empty c.judge-judged.ensures.works c.judge-judged.ensures.changing told s
-    (λ drafted. c.judge-judged.ensures.judged drafted w (search rules)))
+    let e = c.judge-judged.new.draft in
+    let m = c.args.message.now in
+    let j = c.judge-judged.result in
+    let empty = c.new-draft.ensures.empty in
+    let makes = c.judge-judged.ensures.drafts.makes in
+    let shown = shown_most state d in
+    moved (λ x y. DoesMessage m c.args.now (state x) (state y) c.finish.result) d.keeper.now c.finish.new.draft.0 c.args.keeper.now _ c.new-draft.ensures.same (search rules)
+    (does_by (state d.keeper.now) (state c.finish.new.draft.0) (DraftTells state d e) (tables_of state e) j c.finish.result
+    (record {
+      drafts = λ told. told_draft state d e (state c.finish.new.draft.0) told c.finish.ensures.finishes.steps;
+      ends = λ told. c.finish.ensures.ends d request_changes request_gone shown empty makes.works told;
+      crash = λ tells trusted clean left may. c.finish.ensures.crash d request_changes request_gone shown empty makes.works (c.ended_laws.ensures.stays d.keeper.now e.keeper.now j makes.stays) tells trusted clean left may;
+    })
+    (key_in (message_in m)) (message_in m) m.close c.args.now
+    (λ told. subst (λ (t : Tables). JudgesMessage m c.args.now t (tables_of state e) j) (empty_tables state d empty) (c.judge-judged.ensures.what told)))
 
-pub returns-clause-kept : goal.returns-clause-kept
-returns-clause-kept g c =
+pub returns-clause-form : goal.returns-clause-form
+returns-clause-form g c =
     let state = g.K.Keeper.state in
     let d = c.new-draft.result in
-    moved (λ x y. Tells (state x) (state y) → OnErr c.finish.result (Shows (state y) (state x).tables))
-    d.keeper.now c.finish.new.draft.0 c.args.keeper.now _ c.new-draft.ensures.same (search rules)
-    (c.finish.ensures.kept d 3 0 (shown_most state d) c.new-draft.ensures.empty c.judge-judged.ensures.works)
+    let e = c.judge-judged.new.draft in
+    let m = c.args.message.now in
+    let j = c.judge-judged.result in
+    let new = state c.finish.new.draft.0 in
+    let makes = c.judge-judged.ensures.drafts.makes in
+    moved (λ x y. Replies (message_in m) m.close (state x) (state y) c.finish.result) d.keeper.now c.finish.new.draft.0 c.args.keeper.now _ c.new-draft.ensures.same (search rules)
+    (replies_by (message_in m) m.close (state d.keeper.now) new j c.finish.result c.judge-judged.ensures.form c.finish.ensures.finishes.returned
+    (λ quiet. (
+      (λ told. unchanged (state d.keeper.now).tables (tables_of state e) new j c.finish.result (c.finish.ensures.ends d request_changes request_gone (shown_most state d) c.new-draft.ensures.empty makes.works told) quiet),
+      c.finish.ensures.finishes.unwritten quiet ∙ makes.works.reads.written,
+    )))
 
-pub returns-clause-leads : goal.returns-clause-leads
-returns-clause-leads g c =
+pub returns-clause-asks : goal.returns-clause-asks
+returns-clause-asks g c =
     let state = g.K.Keeper.state in
     let d = c.new-draft.result in
-    let op = does (message_in c.args.message.now) c.args.message.now.close c.args.now in
-    let works = c.judge-judged.ensures.works in
-    moved (λ x y. LeadsFrom (state x) (state y))
-    d.keeper.now c.finish.new.draft.0 c.args.keeper.now _ c.new-draft.ensures.same (search rules)
-    (led_by_request c.args.message.now c.args.now (state d.keeper.now) (state c.finish.new.draft.0) c.finish.result
-    (λ told w s. c.finish.ensures.does d 3 0 (shown_most state d) op w c.new-draft.ensures.empty works c.judge-judged.ensures.changing told s
-    (λ drafted. c.judge-judged.ensures.judged drafted w (search rules)))
-    (λ tells stands clean w s m h. c.finish.ensures.crash d 3 0 (shown_most state d) op w c.new-draft.ensures.empty works c.judge-judged.ensures.stays tells stands clean s
-    (λ drafted. c.judge-judged.ensures.judged drafted w (search rules)) m h))
-
-pub returns-clause-crash : goal.returns-clause-crash
-returns-clause-crash g c =
-    let state = g.K.Keeper.state in
-    let d = c.new-draft.result in
-    let op = does (message_in c.args.message.now) c.args.message.now.close c.args.now in
-    let works = c.judge-judged.ensures.works in
-    moved (λ x y. (state x).tells → IsTrue (state x).trusted → IsTrue (state y).is_clean → (w : World) → Stands (state x).tables w → (m : Tables) → (state y).may_leave m → (state x).may_leave m ⊎ Stands m (step w (message_in c.args.message.now) c.args.now).1)
-    d.keeper.now c.finish.new.draft.0 c.args.keeper.now _ c.new-draft.ensures.same (search rules)
-    (λ tells stands clean w s m h. c.finish.ensures.crash d 3 0 (shown_most state d) op w c.new-draft.ensures.empty works c.judge-judged.ensures.stays tells stands clean s
-    (λ drafted. c.judge-judged.ensures.judged drafted w (search rules)) m h)
+    let e = c.judge-judged.new.draft in
+    let j = c.judge-judged.result in
+    let makes = c.judge-judged.ensures.drafts.makes in
+    moved (λ x y. Asks (state x) (state y) c.finish.result) d.keeper.now c.finish.new.draft.0 c.args.keeper.now _ c.new-draft.ensures.same (search rules)
+    (asks_by state d e (state c.finish.new.draft.0) j c.finish.result c.new-draft.ensures.empty makes.works (c.ended_laws.ensures.stays d.keeper.now e.keeper.now j makes.stays) (c.ended_laws.ensures.cause d.keeper.now e.keeper.now j makes.cause) c.finish.ensures.finishes)

@@ -1,23 +1,37 @@
-use Rattle.std.proofs.Common.{◌+◌, ap, arith}
-use Rattle.ut_keeper.specs.Draft.{tables_of}
-use Rattle.ut_keeper.specs.Laid.{removals}
+use Rattle.std.proofs.Common.{◌∙◌, ◌+◌, Ok, ap, subst}
+use Rattle.ut_keeper.specs.Draft.{removals_of, tables_of}
 use Rattle.ut_keeper.specs.State.{data_table}
-use Rattle.ut_model.specs.Step.{caller_by}
+use Rattle.ut_keeper.specs.Tables.{Tables}
+use Rattle.ut_model.specs.Step.{key_in}
+use Rattle.ut_people.specs.People.{FindsCaller}
+use Rattle.ut_stands.specs.Calls.{ended}
+use Rattle.ut_step.specs.Own.{request_changes, request_gone, request_shown}
+use Rattle.ut_serving.specs.Own.{JudgesCaller}
 use Rattle.ut_serving.specs.Requests.{message_in}
-use Rattle.ut_serving.proofs.Judging.{shown_most, undamaged}
+use Rattle.ut_serving.proofs.Judging.{judged_called, judged_uncalled}
 use Rattle.ut_serving.proofs.request.judge.Goals as goal
 
-pub returns-in-Err-clause-judged : goal.returns-in-Err-clause-judged
-returns-in-Err-clause-judged g c told w s =
-    undamaged (λ v. caller_by v (message_in c.args.message.now)) (tables_of g.K.Keeper.state c.args.draft.now) c.in-Err.fail w (c.in-Err.ensures.finds told) s
-
-pub returns-in-Ok-Some-clause-works : goal.returns-in-Ok-Some-clause-works
-returns-in-Ok-Some-clause-works g c =
+pub returns-in-Ok-Some-clause-what : goal.returns-in-Ok-Some-clause-what
+returns-in-Ok-Some-clause-what g c told =
     let state = g.K.Keeper.state in
-    let laws = c.draft_laws.ensures in
     let a = c.args.draft.now in
     let b = c.caller_of.new.draft in
     let d = c.judge_called.new.draft in
-    let same = ap (removals data_table) c.caller_of.ensures.reads.changes in
-    laws.works_most (0 + 3) (0 + 0) (0 + shown_most state b) 3 0 (shown_most state a) a d (omega arith) (omega arith) (λ _. omega (arith, same))
-    (laws.works 0 0 0 3 0 (shown_most state b) a b d (laws.reads_work 0 a b c.caller_of.ensures.reads) c.judge_called.ensures.works)
+    let m = message_in c.args.message.now in
+    let caller = c.in-Ok-Some.caller in
+    let calls = c.caller_of.ensures.calls in
+    let e = ended c.caller_of.result in
+    let first = c.draft_laws.ensures.told_first request_changes request_gone (request_shown + removals_of state data_table b) a b d c.judge_called.ensures.drafts.makes.works told in
+    let later = c.call_laws.ensures.told_then 0 e a b d calls first told in
+    let same = c.call_laws.ensures.tables 0 e a b calls first in
+    let judged = subst (λ (t : Tables). JudgesCaller caller m c.args.message.now.close c.args.now t (tables_of state d) c.judge_called.result) same (c.judge_called.ensures.what later) in
+    judged_called m c.args.message.now.close c.args.now (tables_of state a) (tables_of state d) (key_in m) caller c.judge_called.result
+    (subst (FindsCaller (key_in m) (tables_of state a)) (c.in-Ok-Some.is ∙ ap Ok c.in-Ok-Some.field-0-is) (c.caller_of.ensures.finds first)) judged
+
+pub returns-in-Ok-None-clause-what : goal.returns-in-Ok-None-clause-what
+returns-in-Ok-None-clause-what g c told =
+    let state = g.K.Keeper.state in
+    let before = tables_of state c.args.draft.now in
+    let m = message_in c.args.message.now in
+    judged_uncalled m c.args.message.now.close c.args.now before (tables_of state c.caller_of.new.draft) (key_in m) c.refuse_uncalled.result
+    (subst (FindsCaller (key_in m) before) (c.in-Ok-None.is ∙ ap Ok c.in-Ok-None.field-0-is) (c.caller_of.ensures.finds told)) c.refuse_uncalled.ensures.what

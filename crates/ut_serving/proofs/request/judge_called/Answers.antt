@@ -1,17 +1,36 @@
+use Rattle.std.proofs.Common.{List, ℕ, subst}
+use Rattle.std.specs.Str.{chars}
 use Rattle.ut_keeper.specs.Draft.{tables_of}
-use Rattle.ut_step.specs.Built.{answered}
-use Rattle.ut_model.specs.Step.{in_org}
+use Rattle.ut_model.specs.Routing.{routed}
+use Rattle.ut_stands.specs.Operations.{Responds}
+use Rattle.ut_step.specs.Built.{verdict_to}
+use Rattle.ut_step.specs.Own.{IsAsking}
 use Rattle.ut_serving.specs.Requests.{message_in}
-use Rattle.ut_serving.proofs.Judging.{changes_in, judged_as}
+use Rattle.ut_serving.proofs.Judging.{caller_failed, caller_judged}
 use Rattle.ut_serving.proofs.request.judge_called.Goals as goal
 
-pub returns-in-Ok-clause-judged : goal.returns-in-Ok-clause-judged
-returns-in-Ok-clause-judged g c told w s e =
-    let m = message_in c.args.message.now in
+pub returns-in-Ok-clause-what : goal.returns-in-Ok-clause-what
+returns-in-Ok-clause-what g c told =
+    let state = g.K.Keeper.state in
     let caller = c.args.caller.now in
-    judged_as m c.args.message.now.close c.args.now w (tables_of g.K.Keeper.state c.answer_caller.new.draft) (λ v. in_org v caller.org (answered caller m c.args.now))
-    (c.step_laws.ensures.called w m c.args.now caller e) c.in-Ok.judged c.judged_bytes.result c.judged_bytes.ensures (c.in-Ok.ensures.judged told w s e)
+    let m = message_in c.args.message.now in
+    let before = tables_of state c.args.draft.now in
+    let after = tables_of state c.respond.new.draft in
+    let responds =
+    subst (λ (t : List ℕ). Responds caller.org (IsAsking caller) (λ a. verdict_to a m.body (routed m.method t)) before after c.respond.result) c.as_str.ensures.characters
+    (subst (λ (b : List ℕ). Responds caller.org (IsAsking caller) (λ a. verdict_to a b (routed m.method (chars c.as_str.result.now))) before after c.respond.result) c.as_slice.ensures (c.respond.ensures.what told)) in
+    caller_judged caller m c.args.message.now.close c.args.now before after c.in-Ok.judged c.judged_bytes.result c.judged_bytes.ensures
+    (subst (λ r. Responds caller.org (IsAsking caller) (λ a. verdict_to a m.body (routed m.method m.target)) before after r) c.in-Ok.is responds)
 
-pub returns-in-Ok-clause-changing : goal.returns-in-Ok-clause-changing
-returns-in-Ok-clause-changing g c change =
-    changes_in _ c.args.message.now.method c.args.message.now.close c.in-Ok.judged c.judged_bytes.result c.judged_bytes.ensures c.in-Ok.ensures.changing change
+pub returns-in-Err-clause-what : goal.returns-in-Err-clause-what
+returns-in-Err-clause-what g c told =
+    let state = g.K.Keeper.state in
+    let caller = c.args.caller.now in
+    let m = message_in c.args.message.now in
+    let before = tables_of state c.args.draft.now in
+    let after = tables_of state c.respond.new.draft in
+    let responds =
+    subst (λ (t : List ℕ). Responds caller.org (IsAsking caller) (λ a. verdict_to a m.body (routed m.method t)) before after c.respond.result) c.as_str.ensures.characters
+    (subst (λ (b : List ℕ). Responds caller.org (IsAsking caller) (λ a. verdict_to a b (routed m.method (chars c.as_str.result.now))) before after c.respond.result) c.as_slice.ensures (c.respond.ensures.what told)) in
+    caller_failed caller m c.args.message.now.close c.args.now before after c.in-Err.fail
+    (subst (λ r. Responds caller.org (IsAsking caller) (λ a. verdict_to a m.body (routed m.method m.target)) before after r) c.in-Err.is responds)

@@ -1,4 +1,3 @@
-use Rattle.ut_stands.proofs.Changed.{edited}
 use Rattle.ut_stands.proofs.Found.{sound_tenant}
 use Rattle.ut_stands.proofs.Parts as parts
 use Rattle.ut_stands.proofs.Versions.{known, not_both}
@@ -23,13 +22,5 @@ returns-clause-past c p w k e = parts.past p w k e
 pub returns-clause-appended : goal.returns-clause-appended
 returns-clause-appended c p m after w t q s few sound fits holds = parts.appended c.table_laws.ensures.same p m after w t q s few sound fits holds
 
-pub returns-clause-changed : goal.returns-clause-changed
-returns-clause-changed c p m after w n t u q s at sound fits holds = parts.changed c.table_laws.ensures.same p m after w n t u q s at sound fits holds
-
 pub returns-clause-sound : goal.returns-clause-sound
 returns-clause-sound c m w n t s at = sound_tenant w n t s.1.world.tenants at
-
-pub returns-clause-edited : goal.returns-clause-edited
-returns-clause-edited c p m w n t u q changes s at sound fits are rest =
-    let laws = c.table_laws.ensures in
-    edited laws.equal laws.put laws.removed laws.same p m w n t u q changes s at sound fits are rest

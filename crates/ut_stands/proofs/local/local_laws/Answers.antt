@@ -1,3 +1,4 @@
+use Rattle.std.proofs.Common.{None, refl}
 use Rattle.ut_parts.specs.Plain.{number32}
 use Rattle.ut_stands.proofs.Edited as edited
 use Rattle.ut_stands.proofs.Intervals.{under_shorter}
@@ -18,6 +19,11 @@ pub returns-clause-whole : goal.returns-clause-whole
 returns-clause-whole c p m after w n t u q ln s at s_in others =
     let laws : PrefixLaws = record { interval = c.key_laws.ensures.interval; unbounded = c.key_laws.ensures.unbounded; bytes = c.table_laws.ensures.bytes } in
     standing.whole laws c.key_laws.ensures.exact p m after w n t u q ln s s_in others c.table_laws.ensures.same at
+
+pub returns-clause-nobody : goal.returns-clause-nobody
+returns-clause-nobody c p m after w n q ln s at s_in others =
+    let laws : PrefixLaws = record { interval = c.key_laws.ensures.interval; unbounded = c.key_laws.ensures.unbounded; bytes = c.table_laws.ensures.bytes } in
+    standing.nobody laws c.key_laws.ensures.exact p m after w n q ln s None s_in others refl at
 
 pub returns-clause-edited : goal.returns-clause-edited
 returns-clause-edited c =

@@ -1,7 +1,7 @@
 use Rattle.std.proofs.Common.{◌≡◌, length, rules}
 use Rattle.std.specs.Prelude.{IfOk}
 use Rattle.ut_model.specs.World.{World}
-use Rattle.ut_stands.specs.Reads.{OpensAs}
+use Rattle.ut_stands.specs.Opening.{OpensAs}
 use Rattle.ut_stands.specs.Stands.{Stands}
 use Rattle.ut_stands.proofs.Opened.{after_opening}
 use Rattle.ut_stands.proofs.opening.open_tables.Goals as goal
@@ -9,10 +9,10 @@ use Rattle.ut_stands.proofs.opening.open_tables.Goals as goal
 pub returns-clause-opens : goal.returns-clause-opens
 returns-clause-opens g c =
     after_opening g.K.Keeper.state c.args.keeper.now c.open.new.self c.new-draft.result c.count_organisations.new.draft _ (λ m. OpensAs m c.count_organisations.result)
-    c.open.ensures.same c.new-draft.ensures.same c.new-draft.ensures.empty c.count_organisations.ensures.reads (search rules) c.count_organisations.ensures.opens
+    c.open.ensures.same c.new-draft.ensures.same c.new-draft.ensures.empty c.count_organisations.ensures.calls.reads (search rules) c.count_organisations.ensures.opens
 
 pub returns-clause-counts : goal.returns-clause-counts
 returns-clause-counts g c =
     after_opening g.K.Keeper.state c.args.keeper.now c.open.new.self c.new-draft.result c.count_organisations.new.draft _
     (λ m. (w : World) → Stands m w → IfOk c.count_organisations.result (λ n. n ≡ length w))
-    c.open.ensures.same c.new-draft.ensures.same c.new-draft.ensures.empty c.count_organisations.ensures.reads (search rules) c.count_organisations.ensures.counts
+    c.open.ensures.same c.new-draft.ensures.same c.new-draft.ensures.empty c.count_organisations.ensures.calls.reads (search rules) c.count_organisations.ensures.counts

@@ -1,15 +1,14 @@
-use Rattle.std.proofs.Common.{[], ◌∷◌, ℕ, Some, ap, arith, subst}
+use Rattle.std.proofs.Common.{[], ◌∷◌, ℕ, Some, ap, arith}
 use Rattle.std.specs.Str.{chars}
 use Rattle.ut_edits.specs.Rows.{change_to}
-use Rattle.ut_edits.proofs.Judged.{made_so, passed_on}
+use Rattle.ut_edits.proofs.Judged.{done_so, passed_on}
+use Rattle.ut_edits.proofs.Reading.{found_before, two_reads}
 use Rattle.ut_keeper.specs.Draft.{tables_of}
-use Rattle.ut_keeper.specs.Tables.{Tables}
 use Rattle.ut_keys.specs.Rows.{object_form}
 use Rattle.ut_model.specs.Metadata.{set_access}
 use Rattle.ut_model.specs.Paths.{Asked}
 use Rattle.ut_stands.specs.Fails.{of_store}
 use Rattle.ut_stands.specs.Layouts.{own_object_row}
-use Rattle.ut_stands.specs.Local.{FindsThere}
 use Rattle.ut_stands.specs.Metadata.{access_of}
 use Rattle.ut_meta.proofs.AccessEdits.{SamePlan, access_fits, access_takes, accepted_on, not_by, refused_on, row_missed, row_read}
 use Rattle.ut_meta.proofs.Putting.{put_is_in}
@@ -26,42 +25,35 @@ returns-in_err-object-clause-what g c told =
 pub returns-in_err-row-clause-what : goal.returns-in_err-row-clause-what
 returns-in_err-row-clause-what g c told =
     let state = g.K.Keeper.state in
-    let a = c.args.draft.now in
-    let b = c.object_to_set.new.draft in
-    let d = c.object_there.new.draft in
-    let m = tables_of state a in
+    let m = tables_of state c.args.draft.now in
     let org = c.args.org in
     let e = c.args.self.now in
     let name = chars e.object.now in
     let n = c.in_ok-object.object in
-    let laws = c.call_laws.ensures in
-    let first = laws.told_first 0 _ a b d c.object_there.ensures.calls told in
-    let found = subst (λ (t : Tables). FindsThere org (own_object_row org n) t c.object_there.result) (laws.tables 0 _ a b c.object_to_set.ensures.calls first) (c.object_there.ensures.finds (laws.told_then 0 _ a b d c.object_to_set.ensures.calls first told)).0 in
+    let calls = c.call_laws.ensures in
+    let reads = two_reads state calls.told_first calls.told_then calls.tables c.args.draft.now c.object_to_set.new.draft c.object_there.new.draft c.object_to_set.ensures.calls c.object_there.ensures.calls told in
+    let found = found_before state org (own_object_row org n) c.object_there.result reads (c.object_there.ensures.finds reads.then).0 in
     passed_on org (λ (a : Asked). set_access a.tenant name e.access) SamePlan _ m (of_store c.in_err-row.field-0.0) c.from_residual-in_err-row.result c.from_residual-in_err-row.ensures.1
     (λ q a s f.
-    let on = accepted_on a.tenant name (set_access a.tenant name e.access) c.object_to_set.result n (c.object_to_set.ensures.accepts first q a.tenant e.access s) c.in_ok-object.was in
+    let on = accepted_on a.tenant name (set_access a.tenant name e.access) c.object_to_set.result n (c.object_to_set.ensures.accepts reads.first q a.tenant e.access s) c.in_ok-object.was in
     row_missed org a.tenant name n m q s on.1 (set_access a.tenant name e.access) c.object_there.result c.in_err-row.field-0.0 found c.in_err-row.was)
 
 pub returns-clause-what : goal.returns-clause-what
 returns-clause-what g c told =
     let state = g.K.Keeper.state in
-    let a = c.args.draft.now in
-    let b = c.object_to_set.new.draft in
-    let d = c.object_there.new.draft in
-    let m = tables_of state a in
+    let m = tables_of state c.args.draft.now in
     let org = c.args.org in
     let e = c.args.self.now in
     let name = chars e.object.now in
     let n = c.in_ok-object.object in
     let row = c.in_ok-row.row in
-    let laws = c.call_laws.ensures in
-    let first = laws.told_first 0 _ a b d c.object_there.ensures.calls told in
-    let read = c.object_there.ensures.finds (laws.told_then 0 _ a b d c.object_to_set.ensures.calls first told) in
-    let found = subst (λ (t : Tables). FindsThere org (own_object_row org n) t c.object_there.result) (laws.tables 0 _ a b c.object_to_set.ensures.calls first) read.0 in
+    let calls = c.call_laws.ensures in
+    let reads = two_reads state calls.told_first calls.told_then calls.tables c.args.draft.now c.object_to_set.new.draft c.object_there.new.draft c.object_to_set.ensures.calls c.object_there.ensures.calls told in
+    let found = found_before state org (own_object_row org n) c.object_there.result reads (c.object_there.ensures.finds reads.then).0 in
     let next = record row { access = access_of e.access } in
-    made_so org (λ (a : Asked). set_access a.tenant name e.access) SamePlan _ m (change_to object_form next ∷ []) c.one_row.result c.one_row.ensures.made c.one_row.ensures.cause
-    (put_is_in object_form org next (access_fits row e.access c.in_ok-row.ensures.fits) (ap (λ (k : ℕ × ℕ). Some k.0) (c.in_ok-row.ensures.finds (laws.told_then 0 _ a b d c.object_to_set.ensures.calls first told)).1), tt)
+    done_so org (λ (a : Asked). set_access a.tenant name e.access) SamePlan _ m (change_to object_form next ∷ []) c.one_row.result c.one_row.ensures.made c.one_row.ensures.cause
+    (put_is_in object_form org next (access_fits row e.access c.in_ok-row.ensures.fits) (ap (λ (k : ℕ × ℕ). Some k.0) (c.in_ok-row.ensures.finds reads.then).1), tt)
     (λ q a s f.
-    let on = accepted_on a.tenant name (set_access a.tenant name e.access) c.object_to_set.result n (c.object_to_set.ensures.accepts first q a.tenant e.access s) c.in_ok-object.was in
+    let on = accepted_on a.tenant name (set_access a.tenant name e.access) c.object_to_set.result n (c.object_to_set.ensures.accepts reads.first q a.tenant e.access s) c.in_ok-object.was in
     access_takes c.metadata_laws.ensures.access c.slot_laws.ensures.described c.metadata_laws.ensures.object_fits c.objects_sound.ensures.set_access org a.tenant name e.access row q (omega arith)
     s.plan s.sound (not_by e.access f) on.0 (row_read org a.tenant name n m q s on.1 c.object_there.result row found c.in_ok-row.was))

@@ -1,0 +1,3 @@
+pub mod Runs
+pub mod Histories
+pub mod Calls

@@ -1,0 +1,23 @@
+/// What a pattern of the table is for: one place in the product, whose methods are the lines of the table with this pattern.
+#[derive(Debug, Clone, Copy, Drop)]
+pub enum Place {
+    Query,
+    Object,
+    Record,
+    External,
+    Shares,
+    Share,
+    Objects,
+    ObjectNamed,
+    Fields,
+    ValidationRules,
+    SharingRules,
+    SharingRule,
+    Users,
+    User,
+    Roles,
+    Role,
+    Groups,
+    Group,
+    Retype,
+}

@@ -1,0 +1,5 @@
+pub mod Pick
+pub mod Find
+pub mod Ways
+pub mod Cuts
+pub mod Routes

@@ -1,0 +1,166 @@
+-- One message over a keeper: judged over a draft, which is then ended.
+use Rattle.std.proofs.Common.{◌≡◌, ◌⊎◌, inl, inr, ℕ, ◌+◌, ◌≤◌, Bool, IsTrue, List, Option, Some, None, Result, Ok, Err, refl, sym, ap, subst, ◌∙◌, arith}
+use Rattle.std.specs.Prelude.{IfErr, IfOk, IsErrOf, is_ok, length}
+use Rattle.ut_keeper.specs.Draft.{ChangesNothing, DraftWorks, Held, count_of, removals_of}
+use Rattle.ut_keeper.specs.Laid.{removals}
+use Rattle.ut_keeper.proofs.Calls.{steps_on}
+use Rattle.ut_keeper.specs.State.{KeeperCause, KeeperState, Shows, StaysAfter, Steps, Tells, data_table}
+use Rattle.ut_keeper.specs.Tables.{Tables}
+use Rattle.ut_keys.specs.declared.fail.StoreFail.{StoreFail}
+use Rattle.ut_keys.specs.declared.fail.StoreFail.TheVariants.{Damaged, Keeper, Memory}
+use Rattle.ut_model.specs.declared.reply.Reply.{Reply}
+use Rattle.ut_model.specs.Callers.{Named}
+use Rattle.ut_model.specs.Step.{Message}
+use Rattle.ut_stands.specs.Local.{KeepsOthers, StandsFor}
+use Rattle.ut_stands.specs.Operations.{DoesIn, Ends, FailsAtCommit, Finishes, IsChange, Judges, Returns}
+use Rattle.ut_stands.specs.declared.judged.Judged.{Judged}
+use Rattle.ut_stands.specs.declared.judged.Judged.TheVariants.{Changed, Same}
+use Rattle.ut_step.specs.Own.{request_changes, request_gone, request_shown}
+use Rattle.ut_stands.proofs.Ended.{done, kept_if_failed, others_stay, unchanged}
+use Rattle.ut_serving.specs.Own.{Asks, DoesBy, DoesUnnamed, JudgesBy, JudgesNamed, JudgesReply, JudgesUnnamed, KeepsIfSame, Replies, judged_bytes, own_does, unnamed_bytes}
+use Rattle.ut_serving.specs.Requests.{in_bytes}
+
+abbrev Returned : Type 0
+Returned = Result (Judged (List ℕ)) StoreFail
+
+-- what a change leaves stands for what the operation leaves
+changed_stands : {S X : Type 0} (stands : Tables → S → Type 0) (does : S → X × S) (s : S) (after : Tables) (j : Result (Judged X) StoreFail) → IsChange j → Judges stands does s after j → stands after (does s).1
+changed_stands stands does s after (Ok (Same x)) change h = absurd change
+changed_stands stands does s after (Ok (Changed x)) change h = h.1
+changed_stands stands does s after (Err e) change h = absurd change
+
+-- a draft over the keeper `old`, with `drafted` as its tables once `j` was judged, that ended with `r` over the keeper `new`
+pub record Ended (old new : KeeperState) (told : Type 0) (drafted : Tables) (j : Returned) (r : Result (List ℕ) StoreFail) : Type 0 where
+  pub drafts : Tells old new → told
+  pub ends : Tells old new → Ends j old.tables drafted new r
+  pub crash : old.tells → IsTrue old.trusted → IsTrue new.is_clean → (m : Tables) → new.may_leave m → old.may_leave m ⊎ (IsChange j × told × (m ≡ drafted))
+
+module _ (old new : KeeperState) (told : Type 0) (drafted : Tables) (j : Returned) (r : Result (List ℕ) StoreFail) (e : Ended old new told drafted j r) where
+  named_does : (n : Named) (m : Message) (close : Bool) (now : ℕ) → (told → JudgesNamed n m close now old.tables drafted j) → DoesIn n.org (own_does n m close now) old new r
+  named_does n m close now judged = record {
+    others = λ t. others_stay old.tables drafted new n.org j r (e.ends t) (judged (e.drafts t)).others;
+    kept = λ t. kept_if_failed old.tables drafted new j r (e.ends t);
+    done = λ t q s stands. done old.tables drafted new (StandsFor n.org) (own_does n m close now) s j r (e.ends t) ((judged (e.drafts t)).judged q s stands) (q, stands);
+    crash = λ tells trusted clean left may. elim (e.crash tells trusted clean left may) [
+      | inl before ↦ inl before
+      | inr (change, is_told, is) ↦ inr (
+        subst (λ (x : Tables). KeepsOthers n.org old.tables x) (sym is) ((judged is_told).others change),
+        (λ q s stands. subst (λ (x : Tables). StandsFor n.org x (own_does n m close now s).1) (sym is) (changed_stands (StandsFor n.org) (own_does n m close now) s drafted j change ((judged is_told).judged q s stands))),
+      )
+    ];
+  }
+
+  unnamed_change : (m : Message) (close : Bool) (j : Returned) → JudgesUnnamed m close j → IsChange j → ⊥
+  unnamed_change m close (Ok (Same x)) h c = c
+  unnamed_change m close (Ok (Changed x)) h c = h
+  unnamed_change m close (Err f) h c = c
+
+  undamaged_by : (m : Message) (close : Bool) (j : Returned) (r : Result (List ℕ) StoreFail) → JudgesUnnamed m close j → Ends j old.tables drafted new r → IsErrOf r Damaged → ⊥
+  undamaged_by m close (Ok (Same x)) (Ok y) h k d = cc
+  undamaged_by m close (Ok (Same x)) (Err f) h k d = k
+  undamaged_by m close (Ok (Changed x)) r h k d = h
+  undamaged_by m close (Err g) (Ok y) h k d = k
+  undamaged_by m close (Err g) (Err f) h k d = cc (h, k.0, d)
+
+  reply_by : (m : Message) (close : Bool) (j : Returned) (r : Result (List ℕ) StoreFail) → JudgesUnnamed m close j → Ends j old.tables drafted new r → IfOk r (λ bytes. bytes ≡ unnamed_bytes m close)
+  reply_by m close j (Err f) h k = tt
+  reply_by m close (Ok (Same x)) (Ok y) h k = k.0 ∙ h
+  reply_by m close (Ok (Changed x)) (Ok y) h k = absurd h
+  reply_by m close (Err g) (Ok y) h k = absurd k
+
+  unnamed_does : (m : Message) (close : Bool) → (told → JudgesUnnamed m close j) → DoesUnnamed m close old new r
+  unnamed_does m close h = record {
+    reply = λ t. reply_by m close j r (h (e.drafts t)) (e.ends t);
+    undamaged = λ t. undamaged_by m close j r (h (e.drafts t)) (e.ends t);
+    kept = λ t. unchanged old.tables drafted new j r (e.ends t) (unnamed_change m close j (h (e.drafts t)));
+    crash = λ tells trusted clean left may. elim (e.crash tells trusted clean left may) [
+      | inl before ↦ before
+      | inr (change, is_told, is) ↦ absurd (unnamed_change m close j (h is_told) change)
+    ];
+  }
+
+  -- a message is done as it was judged
+  pub does_by : (key : Option Named) (m : Message) (close : Bool) (now : ℕ) → (told → JudgesBy key m close now old.tables drafted j) → DoesBy key m close now old new r
+  does_by None m close now judged = unnamed_does m close judged
+  does_by (Some n) m close now judged = ((λ lo. named_does n m close now (λ t. (judged t).0 lo)), (λ hi. unnamed_does m close (λ t. (judged t).1 hi)))
+
+-- ---- the reply
+
+module _ (m : Message) (close : Bool) (old new : KeeperState) where
+  same_bytes : (q : Judged Reply) (x : List ℕ) → Same x ≡ in_bytes m.method close q → (x ≡ judged_bytes m close q) × (KeepsIfSame q old new → KeepsIfSame q old new)
+  same_bytes (Same r) x e = (cc, λ k. k)
+  same_bytes (Changed r) x e = absurd cc
+
+  changed_bytes : (q : Judged Reply) (x : List ℕ) → Changed x ≡ in_bytes m.method close q → (x ≡ judged_bytes m close q) × KeepsIfSame q old new
+  changed_bytes (Same r) x e = absurd cc
+  changed_bytes (Changed r) x e = (cc, tt)
+
+  kept_same : (q : Judged Reply) → (Tells old new → Shows new old.tables) × (new.written ≡ old.written) → KeepsIfSame q old new
+  kept_same (Same r) k = k
+  kept_same (Changed r) k = tt
+
+  -- the reply that was judged, and what goes with it
+  pub replies_by : (j : Returned) (r : Result (List ℕ) StoreFail) → JudgesReply m close j → IfOk r (Returns j) → ((IsChange j → ⊥) → (Tells old new → Shows new old.tables) × (new.written ≡ old.written)) → Replies m close old new r
+  replies_by j (Err f) h k quiet = tt
+  replies_by (Ok (Same x)) (Ok y) (q, form, is) k quiet = (q, form, k ∙ (same_bytes q x is).0, kept_same q (quiet (λ c. c)))
+  replies_by (Ok (Changed x)) (Ok y) (q, form, is) k quiet = (q, form, k ∙ (changed_bytes q x is).0, (changed_bytes q x is).1)
+  replies_by (Err g) (Ok y) h k quiet = absurd k
+
+-- ---- the keeper
+
+-- the data rows that may be shown over a draft
+abbrev pub shown_most : {K : Type 0} → (K → KeeperState) → Held K → ℕ
+shown_most state d = request_shown + removals_of state data_table d
+
+module _ {K : Type 0} (state : K → KeeperState) (d e : Held K) (new : KeeperState) (j : Returned) (r : Result (List ℕ) StoreFail) where
+  stays_by : StaysAfter (is_ok j) (state d.keeper.now) (state e.keeper.now) → (IsTrue (is_ok j) → StaysAfter (is_ok r) (state e.keeper.now) new) → IfErr j (λ f. r ≡ Err f) → Steps (state e.keeper.now) new
+      → StaysAfter (is_ok r) (state d.keeper.now) new
+  stays_by first then stopped steps trusted done clean = by j r first then stopped done
+    where
+      by : (j : Returned) (r : Result (List ℕ) StoreFail) → StaysAfter (is_ok j) (state d.keeper.now) (state e.keeper.now) → (IsTrue (is_ok j) → StaysAfter (is_ok r) (state e.keeper.now) new) → IfErr j (λ f. r ≡ Err f) → IsTrue (is_ok r) → IsTrue new.trusted
+      by (Ok x) r first then stopped done = then refl (first trusted refl (steps.was_clean clean)) done clean
+      by (Err f) (Ok y) first then stopped done = absurd cc
+      by (Err f) (Err h) first then stopped done = absurd cc
+
+  cause_by : KeeperCause (state d.keeper.now) (state e.keeper.now) (IsErrOf j Keeper) → KeeperCause (state e.keeper.now) new (FailsAtCommit j r) → IfErr j (λ f. r ≡ Err f) → Steps (state d.keeper.now) (state e.keeper.now) → Steps (state e.keeper.now) new
+      → KeeperCause (state d.keeper.now) new (IsErrOf r Keeper)
+  cause_by first later stopped before after = by j r first later stopped
+    where
+      by : (j : Returned) (r : Result (List ℕ) StoreFail) → KeeperCause (state d.keeper.now) (state e.keeper.now) (IsErrOf j Keeper) → KeeperCause (state e.keeper.now) new (FailsAtCommit j r) → IfErr j (λ f. r ≡ Err f) → KeeperCause (state d.keeper.now) new (IsErrOf r Keeper)
+      by (Ok x) r first later stopped = record {
+        rose = λ f. let rose = later.rose f in omega (arith, rose, before.counts);
+        never = λ sure f. later.never (before.sure sure).0 f;
+      }
+      by (Err f) (Ok y) first later stopped = absurd cc
+      by (Err f) (Err h) first later stopped = record {
+        rose = λ fell. let rose = first.rose (ap (λ e. Err e) (sym (same f h stopped) ∙ same Keeper h fell)) in omega (arith, rose, after.counts);
+        never = λ sure fell. first.never sure (ap (λ e. Err e) (sym (same f h stopped) ∙ same Keeper h fell));
+      }
+        where
+          same : (f h : StoreFail) → ◌≡◌ {A = Result (List ℕ) StoreFail} (Err h) (Err f) → h ≡ f
+          same f h e = cc
+
+  -- what the request keeps of the keeper
+  pub asks_by : ChangesNothing d → DraftWorks state request_changes request_gone (shown_most state d) d e → StaysAfter (is_ok j) (state d.keeper.now) (state e.keeper.now)
+      → KeeperCause (state d.keeper.now) (state e.keeper.now) (IsErrOf j Keeper) → Finishes j (count_of e) (state e.keeper.now) new r → Asks (state d.keeper.now) new r
+  asks_by empty works stays cause finishes = record {
+    steps = steps_on (state d.keeper.now) (state e.keeper.now) new works.reads.steps finishes.steps;
+    stays = stays_by stays finishes.stays finishes.stopped finishes.steps;
+    cause = cause_by cause finishes.cause finishes.stopped works.reads.steps finishes.steps;
+    written = let few : count_of e ≤ count_of d + request_changes = works.changes in let none : count_of d ≡ 0 = ap length empty in omega (arith, few, none, finishes.written, works.reads.written);
+    shown = λ told.
+        let most = works.shows (told.0, finishes.steps.stood told.1) in
+        let none : removals_of state data_table d ≡ 0 = ap (removals data_table) empty in
+        let same : new.shown data_table ≡ (state e.keeper.now).shown data_table = ap (λ (f : ℕ → ℕ). f data_table) finishes.shown in
+        omega (arith, most, none, same);
+  }
+
+-- ---- answers that are made of it
+
+-- out of memory for the reply of damaged tables
+pub does_memory : (key : Option Named) (m : Message) (close : Bool) (now : ℕ) (old new : KeeperState) → DoesBy key m close now old new (Err Damaged) → DoesBy key m close now old new (Err Memory)
+does_memory None m close now old new h = record { reply = λ t. tt; undamaged = λ t d. cc; kept = h.kept; crash = h.crash }
+does_memory (Some n) m close now old new h = (
+  (λ lo. let d = h.0 lo in record { others = d.others; kept = d.kept; done = λ t q s stands. absurd ((d.done t q s stands).0 refl); crash = d.crash }),
+  (λ hi. let d = h.1 hi in record { reply = λ t. tt; undamaged = λ t e. cc; kept = d.kept; crash = d.crash }),
+)

@@ -1,0 +1,113 @@
+-- What one message comes to in the organisation that its key names, over any tables: those of others may be damaged.
+use Rattle.std.specs.Prelude.{◌≡◌, ◌<◌, ◌≤◌, ◌+◌, ◌^◌, ℕ, Bool, IfOk, IsErrOf, IsTrue, List, Option, Some, None, Result, Ok, Err, is_ok}
+use Rattle.ut_http.specs.declared.message.HttpMessage.{HttpMessage}
+use Rattle.ut_http.specs.Reply.{reply_to}
+use Rattle.ut_keeper.specs.State.{KeeperCause, KeeperState, LeavesNoMore, Shows, ShowsMost, StaysAfter, Steps, Tells}
+use Rattle.ut_keeper.specs.Tables.{Tables}
+use Rattle.ut_keys.specs.declared.fail.StoreFail.{StoreFail}
+use Rattle.ut_keys.specs.declared.fail.StoreFail.TheVariants.{Damaged, Keeper, Memory}
+use Rattle.ut_model.specs.declared.caller.Caller.{Caller}
+use Rattle.ut_model.specs.declared.refusal.Refusal.TheVariants as refusal
+use Rattle.ut_model.specs.declared.reply.Reply.{Reply}
+use Rattle.ut_model.specs.Callers.{Named}
+use Rattle.ut_model.specs.Routing.{routed}
+use Rattle.ut_model.specs.Step.{Message, key_in, refusal_reply}
+use Rattle.ut_model.specs.Tenant.{Tenant, User}
+use Rattle.ut_rest.specs.Forms.{IsRequestReply}
+use Rattle.ut_stands.specs.declared.judged.Judged.{Judged}
+use Rattle.ut_stands.specs.declared.judged.Judged.TheVariants.{Changed, Same}
+use Rattle.ut_stands.specs.Local.{KeepsOthers, StandsFor, StandsIn}
+use Rattle.ut_stands.specs.Operations.{DoesIn, IsChange, Judges}
+use Rattle.ut_stands.specs.Plan.{OrgPlan}
+use Rattle.ut_step.specs.Built.{answered, asking}
+use Rattle.ut_step.specs.Own.{IsAsking, own_step, request_changes, request_shown}
+use Rattle.ut_serving.specs.Requests.{in_bytes, message_in}
+
+-- the bytes of a reply to a message
+abbrev pub bytes_of : Message → (close : Bool) → Reply → List ℕ
+bytes_of m close r = reply_to m.method r.status r.body close
+
+-- ---- in the organisation that the key names
+
+-- a message as an operation there: the bytes of its reply, and what becomes of the organisation
+abbrev pub own_does : Named → Message → (close : Bool) → (now : ℕ) → Option Tenant → List ℕ × Option Tenant
+own_does n m close now t = (bytes_of m close (own_step n m now t).0, (own_step n m now t).1)
+
+-- a caller's message, judged over these tables, of which those came
+pub record JudgesCaller (c : Caller) (m : Message) (close : Bool) (now : ℕ) (before after : Tables) (result : Result (Judged (List ℕ)) StoreFail) : Type 0 where
+  pub others : IsChange result → KeepsOthers c.org before after
+  pub judged : (q : OrgPlan) (t : Tenant) (u : User) → StandsIn c.org q before (Some t) → IsAsking c (asking t now u)
+      → Judges (StandsFor c.org) (λ s. (bytes_of m close (answered c m now t).0, Some (answered c m now t).1)) (Some t) after result
+
+-- a message whose key names these
+pub record JudgesNamed (n : Named) (m : Message) (close : Bool) (now : ℕ) (before after : Tables) (result : Result (Judged (List ℕ)) StoreFail) : Type 0 where
+  pub others : IsChange result → KeepsOthers n.org before after
+  pub judged : (q : OrgPlan) (t : Option Tenant) → StandsIn n.org q before t → Judges (StandsFor n.org) (own_does n m close now) t after result
+
+-- ---- of no organisation
+
+abbrev pub unnamed_bytes : Message → (close : Bool) → List ℕ
+unnamed_bytes m close = bytes_of m close (refusal_reply refusal.InvalidSession)
+
+-- a message without a key, or whose key has a number that no organisation has: it is refused, and nothing changes
+abbrev pub JudgesUnnamed : Message → (close : Bool) → Result (Judged (List ℕ)) StoreFail → Type 0
+JudgesUnnamed m close (Ok (Same bytes)) = bytes ≡ unnamed_bytes m close
+JudgesUnnamed m close (Ok (Changed bytes)) = ⊥
+JudgesUnnamed m close (Err e) = e ≡ Memory
+
+pub record DoesUnnamed (m : Message) (close : Bool) (old new : KeeperState) (result : Result (List ℕ) StoreFail) : Type 0 where
+  pub reply : Tells old new → IfOk result (λ bytes. bytes ≡ unnamed_bytes m close)
+  pub undamaged : Tells old new → IsErrOf result Damaged → ⊥
+  pub kept : Tells old new → Shows new old.tables
+  pub crash : old.tells → IsTrue old.trusted → LeavesNoMore old new
+
+-- ---- any message
+
+abbrev pub JudgesBy : Option Named → Message → (close : Bool) → (now : ℕ) → (before after : Tables) → Result (Judged (List ℕ)) StoreFail → Type 0
+JudgesBy None m close now before after result = JudgesUnnamed m close result
+JudgesBy (Some n) m close now before after result =
+    (n.org < 2 ^ 32 → JudgesNamed n m close now before after result) × (2 ^ 32 ≤ n.org → JudgesUnnamed m close result)
+
+abbrev pub DoesBy : Option Named → Message → (close : Bool) → (now : ℕ) → (old new : KeeperState) → Result (List ℕ) StoreFail → Type 0
+DoesBy None m close now old new result = DoesUnnamed m close old new result
+DoesBy (Some n) m close now old new result =
+    (n.org < 2 ^ 32 → DoesIn n.org (own_does n m close now) old new result) × (2 ^ 32 ≤ n.org → DoesUnnamed m close old new result)
+
+-- judged over a draft, and done over a keeper
+abbrev pub JudgesMessage : HttpMessage → (now : ℕ) → (before after : Tables) → Result (Judged (List ℕ)) StoreFail → Type 0
+JudgesMessage m now before after result = JudgesBy (key_in (message_in m)) (message_in m) m.close now before after result
+
+abbrev pub DoesMessage : HttpMessage → (now : ℕ) → (old new : KeeperState) → Result (List ℕ) StoreFail → Type 0
+DoesMessage m now old new result = DoesBy (key_in (message_in m)) (message_in m) m.close now old new result
+
+-- ---- replies, whatever the tables have
+
+-- what was judged is a reply of the form of its route, in bytes
+abbrev pub JudgesReply : Message → (close : Bool) → Result (Judged (List ℕ)) StoreFail → Type 0
+JudgesReply m close (Ok j) = (r : Judged Reply) × IsRequestReply (routed m.method m.target) r × (j ≡ in_bytes m.method close r)
+JudgesReply m close (Err e) = Unit {0}
+
+-- the keeper is as it was, where the reply goes with no change
+abbrev pub KeepsIfSame : Judged Reply → (old new : KeeperState) → Type 0
+KeepsIfSame (Same r) old new = (Tells old new → Shows new old.tables) × (new.written ≡ old.written)
+KeepsIfSame (Changed r) old new = Unit {0}
+
+abbrev pub judged_bytes : Message → (close : Bool) → Judged Reply → List ℕ
+judged_bytes m close (Same r) = bytes_of m close r
+judged_bytes m close (Changed r) = bytes_of m close r
+
+-- the reply is of the form of its route: one that refuses, or that has what was read, goes with no change
+abbrev pub Replies : Message → (close : Bool) → (old new : KeeperState) → Result (List ℕ) StoreFail → Type 0
+Replies m close old new (Ok bytes) =
+    (r : Judged Reply) × IsRequestReply (routed m.method m.target) r × (bytes ≡ judged_bytes m close r) × KeepsIfSame r old new
+Replies m close old new (Err e) = Unit {0}
+
+-- ---- the keeper
+
+-- what a request keeps of a keeper: few rows are written, and few are shown
+pub record Asks {X : Type 0} (old new : KeeperState) (result : Result X StoreFail) : Type 0 where
+  pub steps : Steps old new
+  pub stays : StaysAfter (is_ok result) old new
+  pub cause : KeeperCause old new (IsErrOf result Keeper)
+  pub written : new.written ≤ old.written + request_changes
+  pub shown : Tells old new → ShowsMost request_shown old new

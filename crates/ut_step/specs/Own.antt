@@ -1,0 +1,33 @@
+-- A step of one organisation: who asks there, what a message with a key comes to, and how much a request may do.
+use Rattle.std.specs.Prelude.{◌≡◌, ℕ, Option, Some, None}
+use Rattle.ut_model.specs.declared.caller.Caller.{Caller}
+use Rattle.ut_model.specs.declared.limit.Limit.TheVariants as limit
+use Rattle.ut_model.specs.declared.refusal.Refusal.TheVariants as refusal
+use Rattle.ut_model.specs.declared.reply.Reply.{Reply}
+use Rattle.ut_model.specs.Callers.{Named}
+use Rattle.ut_model.specs.Limits.{limit_number}
+use Rattle.ut_model.specs.Paths.{Asked}
+use Rattle.ut_model.specs.Step.{Message, answer_in, refusal_reply}
+use Rattle.ut_model.specs.Tenant.{Tenant}
+use Rattle.ut_model.specs.World.{user_at}
+use Rattle.ut_step.specs.Built.{answered}
+
+-- the caller is the one who asks
+pub record IsAsking (c : Caller) (a : Asked) : Type 0 where
+  pub user : user_at a.tenant.users c.user ≡ Some a.user
+  pub admin : a.user.admin ≡ c.admin
+
+-- what a message whose key names these comes to, where the organisation is this tenant or isn't there, and what becomes of it
+abbrev pub own_step : Named → Message → (now : ℕ) → Option Tenant → Reply × Option Tenant
+own_step n m now None = (refusal_reply refusal.InvalidSession, None)
+own_step n m now (Some t) = ((answer_in answered n m now t).0, Some (answer_in answered n m now t).1)
+
+-- the most rows that a request changes, the most data rows that it removes, and the most data rows that are shown to it
+abbrev pub request_changes : ℕ
+request_changes = 3
+
+abbrev pub request_gone : ℕ
+request_gone = 0
+
+abbrev pub request_shown : ℕ
+request_shown = limit_number limit.RecordsPerObject

@@ -1,18 +1,21 @@
 //! The program: it hands the words after its name, the standard streams and the system's clock to `platform::run`.
 #![tactic(auto)]
 
-ghost use Rattle.std.specs.Prelude.{◌≡◌, ◌⊎◌, ◌↔◌, IfOk, IsNone, None, map, string_bytes};
-ghost use Rattle.platform.specs.Commands.{command_of};
+ghost use Rattle.std.specs.Prelude.{◌≡◌, ◌⊎◌, ◌↔◌, IfOk, IsNone, None, map, string_bytes, true};
+ghost use Rattle.platform.specs.Commands.{command_of, opens_in};
 ghost use Rattle.ut_usage.specs.Lines.{IsCommandLine};
 
-use platform::{run, run_laws};
+mod in_file;
+
+use crate::in_file::run_in_file;
+use platform::{run, run_laws, uses_keeper};
 use std::alloc::AllocError;
 use std::env;
 use std::io::ErrorKind;
 use std::process::ExitCode;
+use ut_files::Unknown;
 use ut_io::{StdSink, StdSource, SystemClock, TcpDoor};
-use ut_keeper::{Keeper, MemoryKeeper};
-use ut_sqlkeeper::{OnPath, SqlKeeper};
+use ut_keeper::MemoryKeeper;
 use ut_usage::{CommandLine, Mistake, read_line};
 
 // The statuses that may come before a command runs, as `run` has them.
@@ -45,49 +48,63 @@ fn all_words(rt: &HostRuntime) -> Result<Vec<String>, NoWords> {
     }
 }
 
-// Runs the command after PATH and PORT over this keeper.
-fn run_over<K: Keeper>(rt: HostRuntime, keeper: &mut K, port: u16, command: &[String]) -> u8
-    ensures { (result ≡ 64) ↔ (command_of (map string_bytes command.now) ≡ None) }
+// Runs the command over tables in memory, which are empty.
+fn run_in_memory(rt: HostRuntime, port: u16, command: &[String]) -> Result<u8, AllocError>
+    ensures { IfOk result (λ status. (status ≡ 64) ↔ (command_of (map string_bytes command.now) ≡ None)) }
 {
     // For the proof alone.
     run_laws();
-    let alloc = rt.alloc();
+    let mut keeper = MemoryKeeper::new(rt.alloc(), &[])?;
     let mut door = TcpDoor::new(rt, port);
     let mut source = StdSource::new(rt.stdin());
     let mut sink = StdSink::new(rt.stdout());
     let mut clock = SystemClock::new(rt);
-    run(
-        alloc,
+    Ok(run(
+        rt.alloc(),
         command,
-        keeper,
+        &mut keeper,
         &mut door,
         &mut source,
         &mut sink,
         &mut clock,
-    )
+    ))
 }
 
 // Runs the command over the tables in a file. Why the file failed is said in a line of its own.
-fn run_on_path(rt: HostRuntime, path: &str, port: u16, command: &[String]) -> Result<u8, AllocError>
-    ensures { IfOk result (λ status. (status ≡ 64) ↔ (command_of (map string_bytes command.now) ≡ None)) }
+fn run_on_path(rt: HostRuntime, path: &str, port: u16, command: &[String]) -> u8
+    requires { opens_in (command_of (map string_bytes command.now)) ≡ true }
+    ensures { (result ≡ 64) ↔ (command_of (map string_bytes command.now) ≡ None) }
 {
-    let mut keeper = SqlKeeper::new(OnPath::new(rt, String::from_str(rt.alloc(), path)?));
-    let status = run_over(rt, &mut keeper, port, command);
-    if let Some(fault) = keeper.last_fault() {
+    // For the proof alone.
+    run_laws();
+    let mut door = TcpDoor::new(rt, port);
+    let mut source = StdSource::new(rt.stdin());
+    let mut sink = StdSink::new(rt.stdout());
+    let mut clock = SystemClock::new(rt);
+    let ended = run_in_file(
+        rt,
+        path,
+        Unknown,
+        command,
+        &mut door,
+        &mut source,
+        &mut sink,
+        &mut clock,
+    );
+    if let Some(fault) = ended.fault {
         let _ = eprintln!(rt; "carmuguur: {path:?}: {fault}");
     }
-    Ok(status)
+    ended.status
 }
 
-// Runs a command line: `-` as PATH is for tables in memory, any other PATH for a file.
+// Runs a command line: `-` as PATH is for tables in memory, any other PATH for a file, which a command opens that uses the tables.
 fn run_line(rt: HostRuntime, line: &CommandLine<'_>) -> Result<u8, AllocError>
     ensures { IfOk result (λ status. (status ≡ 64) ↔ (command_of (map string_bytes line.now.command.now) ≡ None)) }
 {
-    if line.path == "-" {
-        let mut keeper = MemoryKeeper::new(rt.alloc(), &[])?;
-        return Ok(run_over(rt, &mut keeper, line.port, line.command));
+    if line.path != "-" && uses_keeper(line.command) {
+        return Ok(run_on_path(rt, line.path, line.port, line.command));
     }
-    run_on_path(rt, line.path, line.port, line.command)
+    run_in_memory(rt, line.port, line.command)
 }
 
 // What standard error says of a status of `run`: nothing if standard output has the answer or the refusal.

@@ -17,8 +17,8 @@ use crate::page::{Page, page_of_refusal};
 use std::alloc::{AllocError, Global};
 use ut_keeper::{Draft, Keeper, draft_laws};
 use ut_keys::StoreFail;
-use ut_model::{Refusal, first_user_id, org_id};
-use ut_people::{add_org, is_name, is_secret};
+use ut_model::{Refusal, first_user_id, is_name, org_id};
+use ut_people::{add_org, is_secret};
 use ut_stands::{EditFail, Judged, OpenFail, finish, open_tables, stands_laws};
 
 // The page of a new organisation with this number.

@@ -12,16 +12,17 @@ use Rattle.ut_keys.specs.declared.fail.StoreFail.TheVariants.{Damaged, Memory}
 use Rattle.ut_value.specs.declared.sharing.Access.{Access}
 use Rattle.ut_model.specs.declared.metadata_bodies.NewField.{NewField}
 use Rattle.ut_model.specs.declared.metadata_bodies.NewObject.{NewObject}
+use Rattle.ut_model.specs.declared.metadata_bodies.NewValidationRule.{NewValidationRule}
 use Rattle.ut_model.specs.declared.refusal.Refusal.{Refusal}
 use Rattle.ut_model.specs.declared.refusal.Refusal.TheVariants.{NotBuilt}
 use Rattle.ut_model.specs.declared.route.Route.{Route}
-use Rattle.ut_model.specs.declared.route.Route.TheVariants.{AddField, AddObject, SetObject}
+use Rattle.ut_model.specs.declared.route.Route.TheVariants.{AddField, AddObject, AddValidationRule, SetObject}
 use Rattle.ut_step.specs.Built.{built_request, is_built, needs_index, when_built}
 use Rattle.ut_step.specs.Own.{request_changes, request_gone}
-use Rattle.ut_model.specs.Forms.{access_request, field_request, object_request}
+use Rattle.ut_model.specs.Forms.{access_request, field_request, object_request, validation_request}
 use Rattle.ut_model.specs.Paths.{Asked}
 use Rattle.ut_model.specs.RequestOf.{request_of, request_or, verdict_or}
-use Rattle.ut_model.specs.Requests.{Request, adds_field, adds_object, sets_object, verdict_on}
+use Rattle.ut_model.specs.Requests.{Request, adds_field, adds_object, adds_validation_rule, sets_object, verdict_on}
 use Rattle.ut_model.specs.Sound.{IsSound}
 use Rattle.ut_model.specs.Tenant.{Tenant}
 use Rattle.ut_model.specs.Verdict.{Verdict, done}
@@ -58,6 +59,12 @@ pub asks_object : (body : List ℕ) (read : Result (Option NewObject) AllocError
 unfolding request_of
 asks_object body read e =
     asks_built adds_object (request_or (request_in object_request body)) (form_of read) (λ x. refl) (asks_form adds_object read (request_in object_request body) e)
+
+pub asks_rule : (body : List ℕ) (read : Result (Option NewValidationRule) AllocError) → IfOk read (λ x. option_map adds_validation_rule x ≡ request_in validation_request body)
+    → Asks adds_validation_rule (built_request AddValidationRule body) (form_of read)
+unfolding request_of
+asks_rule body read e =
+    asks_built adds_validation_rule (request_or (request_in validation_request body)) (form_of read) (λ x. refl) (asks_form adds_validation_rule read (request_in validation_request body) e)
 
 of_object : (read : Result (Option Access) AllocError) (body : List ℕ) → IfOk read (λ x. (object : List ℕ) → option_map (sets_object object) x ≡ request_in (access_request object) body)
     → (object : List ℕ) → IfOk read (λ x. option_map (sets_object object) x ≡ request_in (access_request object) body)
@@ -120,15 +127,15 @@ edits_to org t v planned after (Err (Refused r)) kept e = (e, kept r e)
 edits_to org t v planned after (Err (Store f)) kept e = e
 
 -- the edit of the request that the route and the body ask for
-pub edits_asked : (org : ℕ) (r s : Route) (body : List ℕ) (x : Request) (verdict : Asked → Verdict) (planned : Planned) (fit : Bool) (m after : Tables) (result : Result (Unit {0}) EditFail) → r ≡ s → built_request s body ≡ Ok x
-    → ((a : Asked) → verdict a ≡ verdict_on a x) → ((a : Asked) → KeepsRefused a.tenant (verdict_on a x)) → ((a : Asked) → IsSound a.tenant → IsTrue fit) → MakesEdit org verdict (λ y. done) planned fit m after result
+pub edits_asked : (org : ℕ) (r s : Route) (body : List ℕ) (x : Request) (verdict : Asked → Verdict) (planned : Planned) (fits : Asked → Type 0) (m after : Tables) (result : Result (Unit {0}) EditFail) → r ≡ s → built_request s body ≡ Ok x
+    → ((a : Asked) → verdict a ≡ verdict_on a x) → ((a : Asked) → KeepsRefused a.tenant (verdict_on a x)) → ((a : Asked) → IsSound a.tenant → fits a) → MakesEdit org verdict (λ y. done) planned fits m after result
     → EditsFrom org (λ a. verdict_or a (built_request r body)) m after result
-edits_asked org r s body x verdict planned fit m after result route e same kept fits h = record {
+edits_asked org r s body x verdict planned fits m after result route e same kept fit h = record {
   others = h.others;
   edited = λ q a stands.
       let is : verdict_or a (built_request r body) ≡ verdict_on a x = ap (λ y. verdict_or a (built_request y body)) route ∙ ap (verdict_or a) e in
       subst (λ v. EditsTo org a.tenant v after result) (same a ∙ sym is)
-      (edits_to org a.tenant (verdict a) (planned q a.tenant) after result (subst (KeepsRefused a.tenant) (sym (same a)) (kept a)) (h.edited q a stands (fits a stands.sound)));
+      (edits_to org a.tenant (verdict a) (planned q a.tenant) after result (subst (KeepsRefused a.tenant) (sym (same a)) (kept a)) (h.edited q a stands (fit a stands.sound)));
 }
 
 -- no edit, where the body asks for none
@@ -149,16 +156,17 @@ edits_none make org r s body fail m result route is e =
     })
 
 -- no edit of another route
-not_built : (r : Route) → (r ≡ AddObject → ⊥) → ((object : List ℕ) → r ≡ SetObject object → ⊥) → (r ≡ AddField → ⊥) → is_built r ≡ false
-not_built AddObject no_object no_access no_field = absurd (no_object refl)
-not_built (SetObject object) no_object no_access no_field = absurd (no_access object refl)
-not_built AddField no_object no_access no_field = absurd (no_field refl)
-not_built _ no_object no_access no_field = refl
+not_built : (r : Route) → (r ≡ AddObject → ⊥) → ((object : List ℕ) → r ≡ SetObject object → ⊥) → (r ≡ AddField → ⊥) → (r ≡ AddValidationRule → ⊥) → is_built r ≡ false
+not_built AddObject no_object no_access no_field no_rule = absurd (no_object refl)
+not_built (SetObject object) no_object no_access no_field no_rule = absurd (no_access object refl)
+not_built AddField no_object no_access no_field no_rule = absurd (no_field refl)
+not_built AddValidationRule no_object no_access no_field no_rule = absurd (no_rule refl)
+not_built _ no_object no_access no_field no_rule = refl
 
-pub edits_unbuilt : (org : ℕ) (r : Route) (body what : List ℕ) (m : Tables) → (r ≡ AddObject → ⊥) → ((object : List ℕ) → r ≡ SetObject object → ⊥) → (r ≡ AddField → ⊥)
+pub edits_unbuilt : (org : ℕ) (r : Route) (body what : List ℕ) (m : Tables) → (r ≡ AddObject → ⊥) → ((object : List ℕ) → r ≡ SetObject object → ⊥) → (r ≡ AddField → ⊥) → (r ≡ AddValidationRule → ⊥)
     → what ≡ codes "route" → EditsFrom org (λ a. verdict_or a (built_request r body)) m m (Err (Refused (NotBuilt what)))
-edits_unbuilt org r body what m no_object no_access no_field is =
-    let unbuilt = ap (λ b. cond b (when_built (request_of r body)) (Err (NotBuilt (codes "route")))) (not_built r no_object no_access no_field) in
+edits_unbuilt org r body what m no_object no_access no_field no_rule is =
+    let unbuilt = ap (λ b. cond b (when_built (request_of r body)) (Err (NotBuilt (codes "route")))) (not_built r no_object no_access no_field no_rule) in
     record {
       others = tt;
       edited = λ q a stands. subst (λ y. EditsTo org a.tenant (verdict_or a y) m (Err (Refused (NotBuilt what)))) (sym unbuilt) (ap (λ t. Err (NotBuilt t)) (sym is), refl);

@@ -11,7 +11,7 @@ use Rattle.ut_model.specs.declared.reply.Reply.{Reply}
 use Rattle.ut_model.specs.Paths.{Asked}
 use Rattle.ut_model.specs.Replies.{reply_of}
 use Rattle.ut_model.specs.Verdict.{Verdict}
-use Rattle.ut_stands.specs.Calls.{Ending, Makes, ended, ended_edit, is_done, stopped}
+use Rattle.ut_stands.specs.Calls.{Ending, HasFallen, Makes, ended, ended_edit, is_done, stopped}
 use Rattle.ut_stands.specs.Fails.{IsRefusal}
 use Rattle.ut_stands.specs.Local.{KeepsOthers}
 use Rattle.ut_stands.specs.Operations.{Drafts, IsChange, IsSame, RepliesAt, Responds}
@@ -27,11 +27,11 @@ abbrev Returned : Type 0
 Returned = Result (Judged Reply) StoreFail
 
 abbrev pub IsReply : Edit → Returned → Type 0
-IsReply edit result = (result ≡ reply_to edit) ⊎ (result ≡ Err Memory)
+IsReply edit result = (result ≡ reply_to edit) ⊎ ((result ≡ Err Memory) × IfErr edit IsRefusal)
 
-by_reply : (P : Returned → Type 0) (edit : Edit) (result : Returned) → IsReply edit result → P (reply_to edit) → P (Err Memory) → P result
+by_reply : (P : Returned → Type 0) (edit : Edit) (result : Returned) → IsReply edit result → P (reply_to edit) → (IfErr edit IsRefusal → P (Err Memory)) → P result
 by_reply P edit result (inl e) replied none = subst P (sym e) replied
-by_reply P edit result (inr e) replied none = subst P (sym e) none
+by_reply P edit result (inr e) replied none = subst P (sym e.0) (none e.1)
 
 replies : (org : ℕ) (a : Asked) (v : Verdict) (after : Tables) (edit : Edit) → EditsTo org a.tenant v after edit → RepliesAt org a v after (reply_to edit)
 replies org a v after (Ok x) e = (ap (reply_of a) (sym e.0), e.1)
@@ -47,8 +47,8 @@ others org m after (Err (Store f)) stay change = absurd change
 pub responds : (org : ℕ) (verdict : Asked → Verdict) (m after : Tables) (edit : Edit) (result : Returned) → IsReply edit result → EditsFrom org verdict m after edit
     → Responds org (λ a. Unit {0}) verdict m after result
 responds org verdict m after edit result is e = record {
-  others = by_reply (λ r. IsChange r → KeepsOthers org m after) edit result is (others org m after edit e.others) (λ none. absurd none);
-  replied = λ q a stands asking. by_reply (RepliesAt org a (verdict a) after) edit result is (replies org a (verdict a) after edit (e.edited q a stands)) (λ same. cc);
+  others = by_reply (λ r. IsChange r → KeepsOthers org m after) edit result is (others org m after edit e.others) (λ judged none. absurd none);
+  replied = λ q a stands asking. by_reply (RepliesAt org a (verdict a) after) edit result is (replies org a (verdict a) after edit (e.edited q a stands)) (λ judged same. cc);
 }
 
 -- ---- what is left of the draft
@@ -69,16 +69,22 @@ ended_so (Err (Refused r)) = refl
 ended_so (Err (Store f)) = refl
 
 module _ {K : Type 0} (state : K → KeeperState) (most gone : ℕ) (old new : Held K) where
-  -- out of memory for the reply
-  stopped_after : (e : Ending) → Makes state most gone 0 e old new → Makes state most gone 0 stopped old new
-  stopped_after e h = record {
+  -- out of memory for the reply to an edit that was judged
+  stopped_after : (edit : Edit) → IfErr edit IsRefusal → Makes state most gone 0 (ended_edit edit) old new → Makes state most gone 0 stopped old new
+  stopped_after edit judged h = record {
     works = h.works;
     stays = λ trusted done. absurd (not_done done);
     cause = record { rose = λ none. absurd none; never = λ sure none. none };
+    quiet = λ none. h.quiet (not_fallen edit judged);
   }
     where
       not_done : IsTrue (is_done stopped) → ⊥
       not_done d = cc
+
+      not_fallen : (edit : Edit) → IfErr edit IsRefusal → HasFallen (ended_edit edit) → ⊥
+      not_fallen (Ok x) judged f = f
+      not_fallen (Err (Refused r)) judged f = f
+      not_fallen (Err (Store e)) judged f = judged
 
   pub drafts : (edit : Edit) (result : Returned) → IsReply edit result → DraftsEdit state most gone edit old new → Drafts state most gone 0 result old new
   drafts edit result is h = by_reply (λ r. Drafts state most gone 0 r old new) edit result is
@@ -87,4 +93,4 @@ module _ {K : Type 0} (state : K → KeeperState) (most gone : ℕ) (old new : H
         changing = changes (0 < count_of new) edit h.some;
         same = same_if (DraftReads state 0 old new) edit h.refused;
       })
-      (record { makes = stopped_after (ended_edit edit) h.makes; changing = λ none. absurd none; same = λ none. absurd none })
+      (λ judged. record { makes = stopped_after edit judged h.makes; changing = λ none. absurd none; same = λ none. absurd none })

@@ -3,13 +3,13 @@
 ghost use Rattle.std.specs.Prelude.{◌≡◌, List, ℕ};
 ghost use Rattle.ut_admin.specs.inner.Edits.{Asks, form_of};
 ghost use Rattle.ut_step.specs.Built.{built_request, needs_index};
-ghost use Rattle.ut_model.specs.Requests.{adds_field, adds_object, sets_object};
-ghost use Rattle.ut_model.specs.declared.route.Route.TheVariants.{AddField, AddObject, SetObject};
+ghost use Rattle.ut_model.specs.Requests.{adds_field, adds_object, adds_validation_rule, sets_object};
+ghost use Rattle.ut_model.specs.declared.route.Route.TheVariants.{AddField, AddObject, AddValidationRule, SetObject};
 
 use std::alloc::{AllocError, Global};
-use ut_bodies::{new_access, new_field, new_object};
+use ut_bodies::{new_access, new_field, new_object, new_validation_rule};
 use ut_keys::StoreFail;
-use ut_model::{NewField, NewObject, Refusal};
+use ut_model::{NewField, NewObject, NewValidationRule, Refusal};
 use ut_stands::EditFail;
 use ut_value::{Access, Text};
 
@@ -44,6 +44,17 @@ pub(crate) fn access_in(alloc: Global, body: &[u8]) -> Result<Access, EditFail>
     ensures { (object : List ℕ) → Asks (sets_object object) (built_request (SetObject object) body.now) result }
 {
     form_of(new_access(alloc, body))
+}
+
+/// The validation rule that a body asks for.
+///
+/// # Errors
+///
+/// `Refused` with `BodyForm` if the body isn't of that form; `Store` with `Memory` if out of memory.
+pub(crate) fn rule_in(alloc: Global, body: &[u8]) -> Result<NewValidationRule, EditFail>
+    ensures { Asks adds_validation_rule (built_request AddValidationRule body.now) result }
+{
+    form_of(new_validation_rule(alloc, body))
 }
 
 // Whether rows are needed that aren't written yet.

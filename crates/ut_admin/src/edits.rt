@@ -7,11 +7,11 @@ ghost use Rattle.ut_step.specs.Built.{built_request};
 ghost use Rattle.ut_step.specs.Own.{request_changes, request_gone};
 ghost use Rattle.ut_model.specs.RequestOf.{verdict_or};
 
-use crate::bodies::{access_in, field_in, object_in};
+use crate::bodies::{access_in, field_in, object_in, rule_in};
 use std::alloc::Global;
 use ut_edits::make_edit;
 use ut_keeper::{Draft, Keeper};
-use ut_meta::{AddField, AddObject, SetAccess};
+use ut_meta::{AddField, AddObject, AddValidationRule, SetAccess};
 use ut_model::{Refusal, Route, refusal_laws};
 use ut_sound::requests_fit;
 use ut_stands::{EditFail, call_laws};
@@ -51,6 +51,10 @@ pub(crate) fn edit<K: Keeper>(
         Route::AddField => {
             let new = field_in(alloc, body)?;
             make_edit(alloc, draft, org, &AddField { new: &new })
+        }
+        Route::AddValidationRule => {
+            let new = rule_in(alloc, body)?;
+            make_edit(alloc, draft, org, &AddValidationRule { new: &new })
         }
         // No other route is built.
         _ => Err(EditFail::Refused(Refusal::NotBuilt {

@@ -1,7 +1,7 @@
-//! An administrator's requests on objects and fields, from the route and the body to the reply.
+//! An administrator's requests on objects, fields and validation rules, from the route and the body to the reply.
 //!
-//! It depends on `ut_bodies` for what bodies say and on `ut_meta` for the edits. Its contract: over tables that stand for a
-//! world the reply is that of the request's verdict, and the tables then stand for the world with the organisation that the
+//! It depends on `ut_bodies` for what bodies say and on `ut_meta` for the edits. Its contract: over tables in which the
+//! organisation's rows stand for a tenant the reply is that of the request's verdict, and its rows then stand for what the
 //! verdict leaves.
 #![tactic(auto)]
 

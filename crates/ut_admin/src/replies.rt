@@ -1,10 +1,11 @@
 //! The replies to edits.
 
-ghost use Rattle.std.specs.Prelude.{◌≡◌, ◌⊎◌, [], Err, IfOk};
+ghost use Rattle.std.specs.Prelude.{◌≡◌, ◌⊎◌, [], Err, IfErr, IfOk};
 ghost use Rattle.ut_admin.specs.Administration.{IsEditReply};
 ghost use Rattle.ut_admin.specs.inner.Edits.{reply_to};
 ghost use Rattle.ut_keys.specs.declared.fail.StoreFail.TheVariants.{Memory};
 ghost use Rattle.ut_model.specs.Replies.{json_reply};
+ghost use Rattle.ut_stands.specs.Fails.{IsRefusal};
 
 use http::StatusCode;
 use std::alloc::Global;
@@ -32,7 +33,7 @@ pub(crate) fn reply_to(
     alloc: Global,
     edit: Result<(), EditFail>,
 ) -> Result<Judged<Reply>, StoreFail>
-    ensures value { (result ≡ reply_to edit) ⊎ (result ≡ Err Memory) }
+    ensures value { (result ≡ reply_to edit) ⊎ ((result ≡ Err Memory) × IfErr edit IsRefusal) }
     ensures form { IfOk result IsEditReply }
 {
     match edit {

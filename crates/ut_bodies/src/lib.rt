@@ -10,9 +10,11 @@ mod fields;
 mod members;
 mod name;
 mod objects;
+mod rules;
 mod table;
 mod types;
 mod values;
 
 pub use crate::fields::new_field;
 pub use crate::objects::{new_access, new_object};
+pub use crate::rules::new_validation_rule;

@@ -15,9 +15,10 @@ use Rattle.ut_parts.specs.Shapes.{FitsIn}
 use Rattle.ut_keys.specs.Reads.{FoundAs, MayStandAt, ReadsAs}
 use Rattle.ut_keys.specs.Rows.{data_form}
 use Rattle.ut_model.specs.declared.record.Record.{Record}
+use Rattle.ut_model.specs.Rights.{record_of_object}
 use Rattle.ut_model.specs.Tenant.{Tenant}
 use Rattle.ut_stands.specs.declared.layout.Layout.{Layout}
-use Rattle.ut_stands.specs.Layouts.{FindsOf, IsLayout, record_in}
+use Rattle.ut_stands.specs.Layouts.{FindsOf, IsLayout}
 use Rattle.ut_stands.specs.Local.{StandsIn}
 use Rattle.ut_stands.specs.Plan.{OrgPlan}
 use Rattle.ut_data.specs.Decoding.{record_from}
@@ -43,7 +44,7 @@ pub err_is : {X : Type 0} (e f : StoreFail) → ◌≡◌ {A = Result X StoreFai
 err_is e f h = cc
 
 module _ (m : Tables) (t : Tenant) (l : Layout) (id : List ℕ) (st : Standing m t l id) where
-  found_ok : (row : Result (Option DataRow) StoreFail) (x : Option Record) → FoundAs data_form (option_map st.row st.found) row → found_from l row ≡ Ok x → x ≡ record_in l.object id t
+  found_ok : (row : Result (Option DataRow) StoreFail) (x : Option Record) → FoundAs data_form (option_map st.row st.found) row → found_from l row ≡ Ok x → x ≡ record_of_object t l.object id
   found_ok (Ok d) x f g = ok_is x st.found (sym g ∙ given l st.row st.found d st.reads f) ∙ sym st.is
   found_ok (Err e) x f g = absurd (no_ok x e g)
 
@@ -55,7 +56,7 @@ module _ (m : Tables) (t : Tenant) (l : Layout) (id : List ℕ) (st : Standing m
 
 pub record_finds : FindsData → IsAntisymmetric place_cmp → OwnPlaces → Laws → (m : Tables) (l : Layout) (id : List ℕ) → FitsIn record_key (l.org, (l.object, id)) → (row : Result (Option DataRow) StoreFail) (result : Result (Option Record) StoreFail)
     → ReadsAs data_form (l.org, (l.object, id)) (map.get m (spell (Data l.org l.object id))) row → GivesOr Memory (found_from l row) result
-    → FindsOf l (record_in l.object id) m result
+    → FindsOf l (λ (t : Tenant). record_of_object t l.object id) m result
 record_finds finds exact own laws m l id fits row result reads gives = by result gives
   where
     there : (q : OrgPlan) (t : Tenant) → StandsIn l.org q m (Some t) → IsLayout q t l → (st : Standing m t l id) × FoundAs data_form (option_map st.row st.found) row
@@ -63,7 +64,7 @@ record_finds finds exact own laws m l id fits row result reads gives = by result
         let st = stands_there exact own laws q t m l id fits s h in
         (st, finds (l.org, (l.object, id)) (map.get m (spell (Data l.org l.object id))) (option_map st.row st.found) row reads st.kept st.may)
 
-    by : (r : Result (Option Record) StoreFail) → GivesOr Memory (found_from l row) r → FindsOf l (record_in l.object id) m r
+    by : (r : Result (Option Record) StoreFail) → GivesOr Memory (found_from l row) r → FindsOf l (λ (t : Tenant). record_of_object t l.object id) m r
     by (Ok x) g = λ q t s h. let (st, f) = there q t s h in found_ok m t l id st row x f g
     by (Err Keeper) g = tt
     by (Err Memory) g = tt

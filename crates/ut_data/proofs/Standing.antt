@@ -16,13 +16,14 @@ use Rattle.ut_keys.specs.Rows.{data_form}
 use Rattle.ut_model.specs.declared.record.Record.{Record}
 use Rattle.ut_model.specs.Membership.{Has}
 use Rattle.ut_model.specs.Objects.{is_of, object_numbered, record_at}
+use Rattle.ut_model.specs.Rights.{record_of_object}
 use Rattle.ut_model.specs.Sound.{IsSound}
 use Rattle.ut_model.specs.Tenant as model
 use Rattle.ut_model.specs.Tenant.{Tenant}
 use Rattle.ut_model.specs.World.{having_id}
 use Rattle.ut_stands.specs.declared.layout.Layout.{Layout}
 use Rattle.ut_stands.specs.Entries.{data_of, slot_entry}
-use Rattle.ut_stands.specs.Layouts.{IsLayout, layout_of, own_layout, record_in}
+use Rattle.ut_stands.specs.Layouts.{IsLayout, layout_of, own_layout}
 use Rattle.ut_stands.specs.Local.{StandsIn, is_own, is_place_of, rows_alone}
 use Rattle.ut_stands.specs.Plan.{FitsPlan, OrgPlan}
 use Rattle.ut_stands.specs.Stands.{Kept, kept_at, kept_in, row_in}
@@ -136,14 +137,13 @@ at_key exact own org n q t m id lo key s =
 
 pub record Standing (m : Tables) (t : Tenant) (l : Layout) (id : List ℕ) : Type 0 where
   pub found : Option Record
-  pub is : record_in l.object id t ≡ found
+  pub is : record_of_object t l.object id ≡ found
   pub row : Record → DataRow
   pub kept : map.get m (spell (Data l.org l.object id)) ≡ option_map (row_bytes data_form) (option_map row found)
   pub may : MayStandAt data_form (l.org, (l.object, id)) (option_map row found)
   pub reads : IfSome found (λ r. record_from l (row r) ≡ Some r)
 
-record_is : (n : ℕ) (id : List ℕ) (t : Tenant) → record_in n id t ≡ of_object n (record_at t id)
-unfolding record_in
+record_is : (n : ℕ) (id : List ℕ) (t : Tenant) → record_of_object t n id ≡ of_object n (record_at t id)
 record_is n id t = refl
 
 module _ (laws : Laws) (q : OrgPlan) (t : Tenant) (l : Layout) (one : IsOf q t l) (sound : IsSound t) (plan : FitsPlan q t) (id : List ℕ) where

@@ -1,6 +1,6 @@
 //! Reads of records.
 
-ghost use Rattle.std.specs.Prelude.{◌≡◌, ◌+◌, ◌++◌, IfSome, IsTrue, take};
+ghost use Rattle.std.specs.Prelude.{◌≡◌, ◌+◌, ◌++◌, Err, IfErr, IfSome, IsTrue, take};
 ghost use Rattle.std.specs.Option.{option_map};
 ghost use Rattle.ut_data.specs.Decoding.{each_from, has_types, record_from};
 ghost use Rattle.ut_data.specs.inner.Found.{found_from, listed_from};
@@ -12,11 +12,12 @@ ghost use Rattle.ut_keys.specs.Keys.{record_key};
 ghost use Rattle.ut_keys.specs.Listings.{rows_to, start_of};
 ghost use Rattle.ut_keys.specs.Reads.{ListsAs};
 ghost use Rattle.ut_keys.specs.Rows.{data_form};
+ghost use Rattle.ut_model.specs.Rights.{record_of_object};
 ghost use Rattle.ut_parts.specs.Plain.{number16, number32};
 ghost use Rattle.ut_parts.specs.Gives.{Gives, GivesBy};
 ghost use Rattle.ut_parts.specs.Shapes.{Both, FitsIn, Number16, Number32, spelled};
 ghost use Rattle.ut_stands.specs.Calls.{Calls, ended};
-ghost use Rattle.ut_stands.specs.Layouts.{FindsOf, record_in, records_after};
+ghost use Rattle.ut_stands.specs.Layouts.{FindsOf, records_after};
 ghost use Rattle.ut_value.specs.Causes.{GivesOr};
 ghost use Rattle.ut_value.specs.Id.{is_id};
 
@@ -46,7 +47,8 @@ fn record_found(
     layout: &Layout,
     row: Result<Option<DataRow>, StoreFail>,
 ) -> Result<Option<Record>, StoreFail>
-    ensures { GivesOr Memory (found_from layout.now row) result }
+    ensures found { GivesOr Memory (found_from layout.now row) result }
+    ensures failed { IfErr row (λ e. result ≡ Err e) }
 {
     match row {
         Ok(None) => Ok(None),
@@ -71,7 +73,7 @@ pub fn load_record<K: Keeper>(
     id: &Id,
 ) -> Result<Option<Record>, StoreFail>
     ensures finds { DraftTells K.state draft.old draft.new
-        → FindsOf layout.now (record_in layout.now.object id.now) (tables_of K.state draft.old) result }
+        → FindsOf layout.now (λ t. record_of_object t layout.now.object id.now) (tables_of K.state draft.old) result }
     ensures calls { Calls K.state 1 (ended result) draft.old draft.new }
 {
     key_laws();
@@ -124,7 +126,8 @@ fn records_found(
     layout: &Layout,
     rows: Result<Vec<DataRow>, StoreFail>,
 ) -> Result<Items<Record>, StoreFail>
-    ensures { GivesOr Memory (listed_from layout.now rows) result }
+    ensures listed { GivesOr Memory (listed_from layout.now rows) result }
+    ensures failed { IfErr rows (λ e. result ≡ Err e) }
 {
     match rows {
         Ok(rows) => match records_of(alloc, layout, rows.as_slice()) {

@@ -60,16 +60,16 @@ module _ {X : Type 0} (edited : EditedIn) (kept : KeptIn) (org : ℕ) (lo : org 
       subst (KeepsOthers org m) (sym (made ∙ ap (λ (xs : List Spelled). after xs m) spelt ∙ after_spelled changes m)) (kept m org changes lo are)
 
   -- an edit that is judged, once its changes are made
-  pub edit_made : (verdict : Asked → Verdict) (fit : _) (r : Result (Decided X) EditFail) (x : Decided X) → r ≡ Ok x → Decides org verdict answered planned fit m r → then ≡ after x.changes.items m → MakesEdit org verdict answered planned fit m then (Ok x.answer)
-  edit_made verdict fit r x was h made = record {
+  pub edit_made : (verdict : Asked → Verdict) (fits : Asked → Type 0) (r : Result (Decided X) EditFail) (x : Decided X) → r ≡ Ok x → Decides org verdict answered planned fits m r → then ≡ after x.changes.items m → MakesEdit org verdict answered planned fits m then (Ok x.answer)
+  edit_made verdict fits r x was h made = record {
     others = others_at x (subst (ChangesIn org) was h.own) made;
     edited = λ q a s f. changed_at q a.tenant (verdict a) x s (subst (DecidesTo org q a.tenant (verdict a) answered planned) was (h.decided q a s f)) made;
   }
 
   -- one that is refused or fails, passed on by a `?`
-  pub edit_passed : (verdict : Asked → Verdict) (fit : _) (r : Result (Decided X) EditFail) (e : EditFail) (out : Result X EditFail) → r ≡ Err e → IsErrAnd out (λ y. y ≡ e) → Decides org verdict answered planned fit m r → MakesEdit org verdict answered planned fit m then out
-  edit_passed verdict fit r e (Ok x) was passed h = absurd passed
-  edit_passed verdict fit r e (Err y) was passed h = subst (λ (z : EditFail). MakesEdit org verdict answered planned fit m then (Err z)) (sym passed) (record {
+  pub edit_passed : (verdict : Asked → Verdict) (fits : Asked → Type 0) (r : Result (Decided X) EditFail) (e : EditFail) (out : Result X EditFail) → r ≡ Err e → IsErrAnd out (λ y. y ≡ e) → Decides org verdict answered planned fits m r → MakesEdit org verdict answered planned fits m then out
+  edit_passed verdict fits r e (Ok x) was passed h = absurd passed
+  edit_passed verdict fits r e (Err y) was passed h = subst (λ (z : EditFail). MakesEdit org verdict answered planned fits m then (Err z)) (sym passed) (record {
     others = tt;
     edited = λ q a s f. subst (DecidesTo org q a.tenant (verdict a) answered planned) was (h.decided q a s f);
   })

@@ -1,5 +1,5 @@
 -- An edit as data: judged, it is refused, or it is an answer and changes of rows.
-use Rattle.std.specs.Prelude.{◌≡◌, ◌≢◌, ◌<◌, ℕ, Bool, false, IfErr, IsTrue, List, OnOk, Some, Result, Ok, Err}
+use Rattle.std.specs.Prelude.{◌≡◌, ◌≢◌, ◌<◌, ℕ, false, IfErr, List, OnOk, Some, Result, Ok, Err}
 use Rattle.std.specs.List.{AllByRecursion}
 use Rattle.ut_edits.specs.declared.decided.Decided.{Decided}
 use Rattle.ut_edits.specs.Rows.{AreOf, AreSpelled}
@@ -55,10 +55,10 @@ ChangesIn org (Ok x) = AreOf org x.changes.items
 ChangesIn org (Err e) = Unit {0}
 
 -- judged over these tables: whatever they have, only the organisation's rows are changed; and where these stand for the
--- tenant of who asks, it comes to the verdict
-pub record Decides {X : Type 0} (org : ℕ) (verdict : Asked → Verdict) (answered : X → Done) (planned : Planned) (fit : Bool) (m : Tables) (result : Result (Decided X) EditFail) : Type 0 where
+-- tenant of who asks, and what is asked fits who asks, it comes to the verdict
+pub record Decides {X : Type 0} (org : ℕ) (verdict : Asked → Verdict) (answered : X → Done) (planned : Planned) (fits : Asked → Type 0) (m : Tables) (result : Result (Decided X) EditFail) : Type 0 where
   pub own : ChangesIn org result
-  pub decided : (q : OrgPlan) (a : Asked) → StandsIn org q m (Some a.tenant) → IsTrue fit → DecidesTo org q a.tenant (verdict a) answered planned result
+  pub decided : (q : OrgPlan) (a : Asked) → StandsIn org q m (Some a.tenant) → fits a → DecidesTo org q a.tenant (verdict a) answered planned result
 
 -- ---- making
 
@@ -74,10 +74,10 @@ OthersStay org m after (Ok x) = KeepsOthers org m after
 OthersStay org m after (Err e) = Unit {0}
 
 -- made over these tables, of which those came: whatever they have, no row of others changes; and where the organisation's
--- rows stand for the tenant of who asks, it comes to the verdict
-pub record MakesEdit {X : Type 0} (org : ℕ) (verdict : Asked → Verdict) (answered : X → Done) (planned : Planned) (fit : Bool) (m after : Tables) (result : Result X EditFail) : Type 0 where
+-- rows stand for the tenant of who asks, and what is asked fits who asks, it comes to the verdict
+pub record MakesEdit {X : Type 0} (org : ℕ) (verdict : Asked → Verdict) (answered : X → Done) (planned : Planned) (fits : Asked → Type 0) (m after : Tables) (result : Result X EditFail) : Type 0 where
   pub others : OthersStay org m after result
-  pub edited : (q : OrgPlan) (a : Asked) → StandsIn org q m (Some a.tenant) → IsTrue fit → EditsAt org (verdict a) answered (planned q a.tenant) after result
+  pub edited : (q : OrgPlan) (a : Asked) → StandsIn org q m (Some a.tenant) → fits a → EditsAt org (verdict a) answered (planned q a.tenant) after result
 
 module _ {K X : Type 0} (state : K → KeeperState) where
   -- what it leaves of a draft: its changes are at most so many; there are some if it is done, and none if it is refused

@@ -1,6 +1,6 @@
 //! Edits that are judged before they are made.
 
-ghost use Rattle.std.specs.Prelude.{◌≡◌, ◌∷◌, [], ℕ, Bool, IfErr, IfOk};
+ghost use Rattle.std.specs.Prelude.{◌≡◌, ◌∷◌, [], ℕ, IfErr, IfOk};
 ghost use Rattle.ut_edits.specs.Edits.{Decides, DraftsEdit, MakesEdit};
 ghost use Rattle.ut_edits.specs.Rows.{AreFew, AreSpelled, change_to};
 ghost use Rattle.ut_keeper.specs.Draft.{DraftTells, tables_of};
@@ -54,8 +54,8 @@ pub trait Edit {
     /// How the organisation's rows are kept then.
     ghost planned: { Self → OrgPlan → Tenant → OrgPlan → Type 0 };
 
-    /// What it asks for is of its form.
-    ghost is_fit: { Self → Bool };
+    /// What it asks for has its form, for who asks.
+    ghost fits: { Self → Asked → Type 0 };
 
     /// How many rows it changes at most, and how many data rows it removes at most.
     ghost most: { ℕ };
@@ -75,7 +75,7 @@ pub trait Edit {
         org: u32,
     ) -> Result<Decided<Self::Answer>, EditFail>
         ensures what { DraftTells K.state draft.old draft.new
-            → Decides org (verdict self.now) answered (planned self.now) (is_fit self.now) (tables_of K.state draft.old) result }
+            → Decides org (verdict self.now) answered (planned self.now) (fits self.now) (tables_of K.state draft.old) result }
         ensures few { IfOk result (λ x. AreFew most gone x.changes.items) }
         ensures calls { Calls K.state 0 (ended_edit result) draft.old draft.new };
 }
@@ -92,7 +92,7 @@ pub fn make_edit<E: Edit, K: Keeper>(
     edit: &E,
 ) -> Result<E::Answer, EditFail>
     ensures what { DraftTells K.state draft.old draft.new
-        → MakesEdit org (E.verdict edit.now) E.answered (E.planned edit.now) (E.is_fit edit.now) (tables_of K.state draft.old)
+        → MakesEdit org (E.verdict edit.now) E.answered (E.planned edit.now) (E.fits edit.now) (tables_of K.state draft.old)
         (tables_of K.state draft.new) result }
     ensures makes { DraftsEdit K.state E.most E.gone result draft.old draft.new }
 {

@@ -7,7 +7,7 @@ use Rattle.ut_keeper.specs.State.{IsSettled, KeeperState}
 use Rattle.ut_keeper.specs.Tables.{Tables}
 use Rattle.ut_step.specs.Built.{step}
 use Rattle.ut_model.specs.World.{World}
-use Rattle.ut_value.specs.Causes.{RoseBy}
+use Rattle.ut_value.specs.Causes.{Rose, RoseBy}
 use Rattle.ut_serving.specs.Connections.{Connection, end_of, faulted, inputs_of, outputs_of}
 use Rattle.ut_serving.specs.Falls.{Falls, FallsBringing}
 use Rattle.ut_serving.specs.Leads.{IsReached, StandsReached}
@@ -99,13 +99,13 @@ module _ (k l : KeeperState) (a b : Around) (status : ℕ) (w : World) (m : Tabl
         → (end : World) × Says command w end a b status × Stands m end
     whole (prints (csvq query)) p unused = (
       w,
-      (λ bytes moments source dated. let h = p.does w (inl refl) in let q = h.2 bytes moments source dated in (h.0, h.1, q.0, q.1, refl)),
+      (λ e. refl, λ bytes moments source dated. let h = p.does w (inl refl) in let q = h.2 bytes moments source dated in (h.0, h.1, q.0, q.1, refl)),
       before (unused refl),
     )
     whole (prints (org_add name secret)) p unused =
         let h = p.does w (inr ((told, st), s)) in
         let q = h.2 [] [] (inl refl) (inl refl) in
-        (q.0, (λ bytes moments source dated. (h.0, h.1, q.0, q.1, refl)), after q.0 q.2)
+        (q.0, (λ e. absurd (true_isnt_false e), λ bytes moments source dated. (h.0, h.1, q.0, q.1, refl)), after q.0 q.2)
     whole answers p unused = whole_answers p a.left a.coming refl refl
     whole (serves count) p unused = whole_serves count p a.door a.coming refl refl
 
@@ -175,6 +175,7 @@ module _ (k l : KeeperState) (a b : Around) (status : ℕ) (w : World) (m : Tabl
                   more = x.more;
                   outputs_are = x.outputs_are;
                   falls = h.1;
+                  undone = x.undone;
                 },
               ),
               h.2,
@@ -192,20 +193,28 @@ module _ (k l : KeeperState) (a b : Around) (status : ℕ) (w : World) (m : Tabl
 
         by : Stands m w ⊎ ((end next : World) × IsNext w (printed (org_add name secret) w [] []) end next × Stands m next)
             → (end : World) × Breaks (prints (org_add name secret)) w end a b status × Stands m end
-        by (inl h) = (w, (none, inl refl), h)
-        by (inr (from, next, is, h)) = (next, (none, inr (from, is)), h)
+        by (inl h) = (w, (refl, none, inl refl), h)
+        by (inr (from, next, is, h)) = (next, (refl, none, inr (from, is)), h)
     breaks answers p unused = breaks_answers p a.left a.coming refl refl
     breaks (serves count) p unused = breaks_serves count p a.door a.coming refl refl
 
   -- ---- either
 
-  goes_by : (command : Command) → Kept command → ((uses_of command).keeper ≡ false → k.may_leave m) → ((uses_of command).keeper ≡ false → IsTrue l.trusted)
+  -- its fall was counted
+  counted : (command : Command) → Kept command → l.trusted ≡ false → Rose a.keeper_faults b.keeper_faults
+  counted command p fell = by (p.causes.steps.closes trusted clean)
+    where
+      by : IsTrue l.trusted ⊎ Rose k.faults l.faults → Rose a.keeper_faults b.keeper_faults
+      by (inl st) = absurd (true_isnt_false (sym st ∙ fell))
+      by (inr rose) = rw (faults_a, faults_b) rose
+
+  goes_by : (command : Command) → IsStatus (Some command) status → Kept command → ((uses_of command).keeper ≡ false → k.may_leave m) → ((uses_of command).keeper ≡ false → IsTrue l.trusted)
       → (v : Bool) → l.trusted ≡ v → (end : World) × Goes w end (Some command) a b status × Stands m end
-  goes_by command p unused stays true st = let h = whole st command p unused in (h.0, inl h.1, h.2)
-  goes_by command p unused stays false fell = let h = breaks fell command p stays in (h.0, inr h.1, h.2)
+  goes_by command is p unused stays true st = let h = whole st command p unused in (h.0, (is, inl h.1), h.2)
+  goes_by command is p unused stays false fell = let h = breaks fell command p stays in (h.0, (is, inr (h.1, counted command p fell)), h.2)
 
   pub goes : (o : Option Command) → IsStatus o status → IfSome o Kept
       → ((used_by o status).keeper ≡ false → k.may_leave m) → ((used_by o status).keeper ≡ false → IsTrue l.trusted)
       → (end : World) × Goes w end o a b status × Stands m end
   goes None is p unused stays = (w, (is, refl), before (unused refl))
-  goes (Some command) is p unused stays = goes_by command p unused stays l.trusted refl
+  goes (Some command) is p unused stays = goes_by command is p unused stays l.trusted refl

@@ -2,6 +2,7 @@
 use Rattle.std.proofs.Common.{◌≡◌, ◌⊎◌, inl, inr, ℕ, List, [], Result, Ok, Err, refl, arith}
 use Rattle.std.specs.Io.KnownBytes.{Appends}
 use Rattle.ut_model.specs.World.{World}
+use Rattle.ut_value.specs.Causes.{Rose}
 use Rattle.platform.specs.Commands.{org_add, printed, prints}
 use Rattle.platform.specs.Deeds.{Prints, text_of}
 use Rattle.platform.specs.Run.{status_in}
@@ -24,6 +25,6 @@ module _ (a b : Around) (name secret : List ℕ) where
   by_result (Err Damaged) said same h = absurd (omega (arith, same))
   by_result (Err UnknownVersion) said same h = absurd (omega (arith, same))
 
-  pub line : (end : World) → Says (prints (org_add name secret)) [] end a b 0 ⊎ Breaks (prints (org_add name secret)) [] end a b 0 → Line
-  line end (inl says) = let h = says [] [] (inl refl) (inl refl) in by_result h.0 h.2 h.1 h.3
-  line end (inr breaks) = absurd (breaks.0 (inl refl))
+  pub line : (end : World) → Says (prints (org_add name secret)) [] end a b 0 ⊎ (Breaks (prints (org_add name secret)) [] end a b 0 × Rose a.keeper_faults b.keeper_faults) → Line
+  line end (inl says) = let h = says.1 [] [] (inl refl) (inl refl) in by_result h.0 h.2 h.1 h.3
+  line end (inr breaks) = absurd (breaks.0.1 (inl refl))

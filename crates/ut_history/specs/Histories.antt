@@ -1,7 +1,8 @@
 -- What runs do in turn, from a world on: words, bytes, moments and worlds alone. Nothing here knows of a table or a row.
 use Rattle.std.specs.Prelude.{◌≡◌, ◌⊎◌, ℕ, ◌≤◌, ◌==◌, ◌||◌, true, false, if◌then◌else◌, List, [], ◌∷◌, ◌++◌, length, map, Option, Some, None, Result}
 use Rattle.std.specs.Io.KnownBytes.{Appends}
-use Rattle.ut_value.specs.Causes.{RoseBy}
+use Rattle.std.specs.List.{AllByRecursion}
+use Rattle.ut_value.specs.Causes.{Rose, RoseBy}
 use Rattle.ut_http.specs.declared.message.HttpMessage.{HttpMessage}
 use Rattle.ut_http.specs.Item.{whole, IsItem}
 use Rattle.ut_io.specs.Doors.{DoorState, outputs}
@@ -10,11 +11,12 @@ use Rattle.ut_step.specs.Built.{step}
 use Rattle.ut_model.specs.World.{World}
 use Rattle.ut_serving.specs.Connections.{Connection, Place, AreServed, Follows, begins, end_of, exchanges_of, faulted, inputs_of, joined, outputs_of}
 use Rattle.ut_serving.specs.Exchanges.{Exchange, reply_in, stores}
-use Rattle.ut_serving.specs.Falls.{BeginsWith, IsUndone}
+use Rattle.ut_serving.specs.Falls.{IsUndone, IsUndoneBehind}
 use Rattle.ut_serving.specs.Leads.{IsReached}
 use Rattle.ut_serving.specs.Requests.{message_in}
 use Rattle.platform.specs.Commands.{Command, Printing, answers, is_opening, prints, printed, serves, uses}
 use Rattle.platform.specs.Deeds.{IsNext, Prints}
+use Rattle.platform.specs.Promise.{IsStatus}
 use Rattle.platform.specs.Run.{IsTold, status_in}
 use Rattle.platform.specs.Serving.{IsIsolated, IsOpening, ServeEnds, answer_end}
 use Rattle.platform.specs.declared.stop.Stop.{Stop}
@@ -22,12 +24,13 @@ use Rattle.ut_history.specs.Runs.{Around, Run}
 
 -- ---- a run that was whole, from the world w to `end`
 
--- a text was printed
+-- a text was printed; where the keeper isn't opened the world stays, whatever is told
 abbrev pub SaysPrints : Printing → World → World → Around → Around → ℕ → Type 0
 SaysPrints p w end a b status =
-    (bytes moments : List ℕ) → IsTold (uses p).source a.left bytes → IsTold (uses p).dated a.coming moments
+    ((uses p).keeper ≡ false → end ≡ w)
+    × ((bytes moments : List ℕ) → IsTold (uses p).source a.left bytes → IsTold (uses p).dated a.coming moments
     → (r : Result ℕ Stop) × (status ≡ status_in r) × (said : World) × Prints w (printed p w bytes moments) a.written b.written r said
-    × (end ≡ (if (uses p).keeper then said else w))
+    × (end ≡ (if (uses p).keeper then said else w)))
 
 -- connections were served
 pub record ServedSo (w end : World) (moments : List ℕ) (cs : List Connection) (a b : Around) : Type 0 where
@@ -81,7 +84,8 @@ pub record Fallen (w end : World) (moments input : List ℕ) (before after : Opt
   pub text : List ℕ
   pub undone : IsUndone request.method (request.close || (place.count == 999)) text
   pub out : List ℕ
-  pub goes_out : BeginsWith text out
+  -- and behind it nothing that acknowledges anything
+  pub goes_out : IsUndoneBehind text out
   pub output : Appends before after (joined (map reply_in answered) ++ out)
   -- all before it lasts, and it lasts whole or not at all
   pub doubt : (end ≡ place.world) ⊎ (end ≡ (step place.world (message_in request) now).1)
@@ -99,6 +103,8 @@ pub record FallenServing (w end : World) (moments : List ℕ) (d e : DoorState) 
   pub more : List (List ℕ)
   pub outputs_are : outputs e ≡ outputs d ++ (outputs_of served ++ output ∷ more)
   pub falls : Fallen between end later input (Some []) (Some output)
+  -- no connection after it was told that anything is done
+  pub undone : AllByRecursion (IsUndoneBehind []) more
 
 abbrev pub BreaksAnswers : World → World → Around → Around → ℕ → Option (List ℕ) → Option (List ℕ) → Type 0
 BreaksAnswers w end a b status (Some input) (Some moments) = ((is_opening status ≡ true) × (end ≡ w)) ⊎ Fallen w end moments input a.written b.written
@@ -109,10 +115,10 @@ BreaksServes w end a b status (Some d) (Some moments) =
     ((is_opening status ≡ true) × (end ≡ w)) ⊎ ((e : DoorState) × (b.door ≡ Some e) × FallenServing w end moments d e)
 BreaksServes w end a b status _ _ = IsReached w end
 
--- a text that was to be printed: its status acknowledges nothing, and its deed is done whole or not at all
+-- a text that was to be printed of the tables: its status acknowledges nothing, and its deed is done whole or not at all
 abbrev pub BreaksPrints : Printing → World → World → ℕ → Type 0
 BreaksPrints p w end status =
-    (((status ≡ 0) ⊎ (status ≡ 65)) → ⊥) × ((end ≡ w) ⊎ ((from : World) × IsNext w (printed p w [] []) from end))
+    ((uses p).keeper ≡ true) × (((status ≡ 0) ⊎ (status ≡ 65)) → ⊥) × ((end ≡ w) ⊎ ((from : World) × IsNext w (printed p w [] []) from end))
 
 abbrev pub Breaks : Command → World → World → Around → Around → ℕ → Type 0
 Breaks (prints p) w end a b status = BreaksPrints p w end status
@@ -121,10 +127,12 @@ Breaks (serves count) w end a b status = BreaksServes w end a b status a.door a.
 
 -- ---- runs in turn
 
--- words that are no command end with 64 and change nothing; a command's run was whole, or the store fell in it
+-- words that are no command end with 64 and change nothing; a command ends with one of its own statuses, and its run was whole,
+-- or the store fell in it, and counted that
 abbrev pub Goes : World → World → Option Command → Around → Around → ℕ → Type 0
 Goes w end None a b status = (status ≡ 64) × (end ≡ w)
-Goes w end (Some command) a b status = Says command w end a b status ⊎ Breaks command w end a b status
+Goes w end (Some command) a b status =
+    IsStatus (Some command) status × (Says command w end a b status ⊎ (Breaks command w end a b status × Rose a.keeper_faults b.keeper_faults))
 
 -- each run goes from the world that the one before it left
 abbrev pub Histories : World → List Run → Type 0

@@ -14,7 +14,7 @@ mod scan;
 mod tree;
 mod writer;
 
-pub use crate::laws::json_laws;
+pub use crate::laws::{json_laws, law_rows};
 pub use crate::reader::read;
 pub use crate::tree::{Json, Member, Num};
 pub use crate::writer::{Mark, Writer};

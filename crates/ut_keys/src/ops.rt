@@ -4,7 +4,7 @@ ghost use Rattle.std.specs.Prelude.{◌≡◌, ◌<◌, ℕ, Some, None, IfOk, I
 ghost use Rattle.std.specs.FinMap as map;
 ghost use Rattle.std.specs.List.{AllByRecursion};
 ghost use Rattle.ut_keeper.specs.Draft.{DraftReads, DraftTells, DraftWorks, count_of, removals_of, rise, state_of, tables_of};
-ghost use Rattle.ut_keeper.specs.State.{KeeperCause, StaysAfter, data_rows};
+ghost use Rattle.ut_keeper.specs.State.{KeeperCause, Quiet, StaysAfter, data_rows};
 ghost use Rattle.ut_keys.specs.declared.fail.StoreFail.TheVariants.{Keeper};
 ghost use Rattle.ut_keys.specs.Forms.{FitsForm, key_of, row_bytes};
 ghost use Rattle.ut_keys.specs.Keys.{spell};
@@ -34,6 +34,7 @@ pub fn row_at<R: RowForm + Drop, K: Keeper>(
     ensures reads { DraftReads K.state (data_rows R.form.table 1) draft.old draft.new }
     ensures stays { StaysAfter (is_ok result) (state_of K.state draft.old) (state_of K.state draft.new) }
     ensures cause { KeeperCause (state_of K.state draft.old) (state_of K.state draft.new) (IsErrOf result Keeper) }
+    ensures quiet { Quiet (state_of K.state draft.old) (state_of K.state draft.new) (IsErrOf result Keeper) }
 {
     shape_laws();
     let key = spelling_of(alloc, key)?;

@@ -5,7 +5,7 @@ ghost use Rattle.std.specs.List.{AllByRecursion};
 ghost use Rattle.std.specs.Option.{option_map};
 ghost use Rattle.ut_keeper.specs.Draft.{DraftReads, DraftTells, removals_of, rise, state_of, tables_of};
 ghost use Rattle.ut_keeper.specs.Prefixes.{raised};
-ghost use Rattle.ut_keeper.specs.State.{KeeperCause, StaysAfter, data_rows, seen};
+ghost use Rattle.ut_keeper.specs.State.{KeeperCause, Quiet, StaysAfter, data_rows, seen};
 ghost use Rattle.ut_keys.specs.declared.fail.StoreFail.TheVariants.{Keeper};
 ghost use Rattle.ut_keys.specs.Forms.{FitsForm, kept_as};
 ghost use Rattle.ut_keys.specs.Listings.{rows_to, rows_under as all_under, start_of};
@@ -70,6 +70,7 @@ pub fn rows_under<R: RowForm + Drop, P: Part, K: Keeper>(
     ensures reads { DraftReads K.state (data_rows R.form.table (rise K.state draft.old draft.new)) draft.old draft.new }
     ensures stays { StaysAfter (is_ok result) (state_of K.state draft.old) (state_of K.state draft.new) }
     ensures cause { KeeperCause (state_of K.state draft.old) (state_of K.state draft.new) (IsErrOf result Keeper) }
+    ensures quiet { Quiet (state_of K.state draft.old) (state_of K.state draft.new) (IsErrOf result Keeper) }
 {
     let prefix = spelling_of(alloc, prefix)?;
     let Some((from, below)) = prefix_ends(alloc, prefix.as_slice())? else {
@@ -106,6 +107,7 @@ pub fn page_under<R: RowForm + Drop, P: Part, K: Keeper>(
     ensures reads { DraftReads K.state (data_rows R.form.table (seen limit result + removals_of K.state R.form.table draft.old)) draft.old draft.new }
     ensures stays { StaysAfter (is_ok result) (state_of K.state draft.old) (state_of K.state draft.new) }
     ensures cause { KeeperCause (state_of K.state draft.old) (state_of K.state draft.new) (IsErrOf result Keeper) }
+    ensures quiet { Quiet (state_of K.state draft.old) (state_of K.state draft.new) (IsErrOf result Keeper) }
 {
     let prefix = spelling_of(alloc, prefix)?;
     let Some((from, below)) = prefix_ends(alloc, prefix.as_slice())? else {

@@ -30,6 +30,7 @@ use Rattle.ut_stands.specs.Plan.{FitsPlan, OrgPlan}
 use Rattle.ut_stands.specs.Records.{is_object_key}
 use Rattle.ut_stands.specs.Stands.{row_in}
 use Rattle.ut_value.specs.declared.sharing.Access.{Access}
+use Rattle.ut_meta.specs.inner.Rows.{HasRow}
 use Rattle.ut_meta.specs.Judging.{AcceptsOn, IsNamedLayout, verdict_refusal}
 use Rattle.ut_meta.proofs.Editing.{beside, named_at, other_object, some_is, unrefused}
 use Rattle.ut_meta.proofs.Putting.{put_is_of}
@@ -48,12 +49,12 @@ ObjectFits = (org : ℕ) (t : Tenant) (n : ℕ) (o : Object) → org < 2 ^ 32 �
 abbrev pub AccessSound : Type 0
 AccessSound = (t : Tenant) (object : List ℕ) (access : Access) → by_parent access ≡ false → IsSound t → IsSound (set_access t object access).tenant
 
-get_changed : {X : Type 0} (n : ℕ) (change : X → X) (xs : List X) (x : X) → slice_get xs n ≡ Some x → slice_get (change_at n change xs) n ≡ Some (change x)
+pub get_changed : {X : Type 0} (n : ℕ) (change : X → X) (xs : List X) (x : X) → slice_get xs n ≡ Some x → slice_get (change_at n change xs) n ≡ Some (change x)
 get_changed n change [] x e = absurd cc
 get_changed zero change (y ∷ xs) x e = ap (option_map change) e
 get_changed (suc n) change (y ∷ xs) x e = get_changed n change xs x e
 
-own_row : (q : OrgPlan) (u : Tenant) (org n : ℕ) (o : Object) → object_numbered u n ≡ Some o → row_in q u (key.Object org n) ≡ Some (row_bytes object_form (row_of_object org u n o))
+pub own_row : (q : OrgPlan) (u : Tenant) (org n : ℕ) (o : Object) → object_numbered u n ≡ Some o → row_in q u (key.Object org n) ≡ Some (row_bytes object_form (row_of_object org u n o))
 unfolding row_in
 own_row q u org n o there = ap (option_map (λ (o : Object). row_bytes object_form (row_of_object org u n o))) there
 
@@ -85,12 +86,6 @@ accepted_on t name v r n h was = subst (AcceptsOn t name v) was h
 
 pub refused_on : (t : Tenant) (name : List ℕ) (v : Verdict) (r : Result ℕ EditFail) (e : EditFail) → AcceptsOn t name v r → r ≡ Err e → FailsBy v e
 refused_on t name v r e h was = subst (AcceptsOn t name v) was h
-
--- an object with its row
-pub record HasRow (org : ℕ) (t : Tenant) (name : List ℕ) (row : ObjectRow) : Type 0 where
-  pub numbered : Numbered
-  pub there : object_named t name ≡ Some numbered
-  pub is : row ≡ row_of_object org t numbered.number numbered.object
 
 module _ (org : ℕ) (t : Tenant) (name : List ℕ) (n : ℕ) (m : Tables) (q : OrgPlan) (s : StandsIn org q m (Some t)) (on : (o : Numbered) × (object_named t name ≡ Some o) × (n ≡ o.number)) where
   its_row : own_object_row org n q (Some t) ≡ Some (row_of_object org t on.0.number on.0.object)

@@ -1,6 +1,6 @@
 -- Edits of one organisation by their verdicts: done, refused or failed.
 use Rattle.std.proofs.Common.{◌≡◌, ◌∙◌, ℕ, suc, ◌+◌, Bool, true, false, ◌&&◌, ◌||◌, cond, eqb, List, [], ◌∷◌, map, Option, Some, None, refl, sym, ap, arith}
-use Rattle.std.specs.Prelude.{Result, Ok, Err, slice_get}
+use Rattle.std.specs.Prelude.{Result, Ok, Err, bytes_eq, slice_get}
 use Rattle.std.specs.List.{enumerate_from, find}
 use Rattle.std.proofs.lemmas.Bool.{eqb-false}
 use Rattle.ut_keys.specs.Keys as key
@@ -12,7 +12,7 @@ use Rattle.ut_model.specs.Rules.{Rule}
 use Rattle.ut_model.specs.Tenant.{Object, Tenant}
 use Rattle.ut_model.specs.Verdict.{Done, Verdict, accept, done, unless}
 use Rattle.ut_stands.specs.Changes.{Change, is_changed}
-use Rattle.ut_stands.specs.Records.{is_field_key, is_object_key, is_org_key}
+use Rattle.ut_stands.specs.Records.{is_field_key, is_object_key, is_org_key, is_rule_key}
 use Rattle.ut_stands.specs.Stands.{org_of_key}
 use Rattle.ut_meta.specs.Judging.{rule_of_answer, verdict_refusal}
 use Rattle.ut_meta.proofs.Lists.{pick}
@@ -118,6 +118,25 @@ other_field org n f (key.Relation m i s v id) of e = refl
 other_field org n f (key.Owner m i o id) of e = refl
 other_field org n f (key.Share m id to) of e = refl
 other_field org n f (key.Grant m to i id cause) of e = refl
+
+pub other_rule : (org n : ℕ) (name : List ℕ) (k : Key) → org_of_key k ≡ Some org → key_eq k (key.Validation org n name) ≡ false → is_rule_key n name k ≡ false
+other_rule org n name (key.Validation m i other) of e = both_false (eqb m org) (eqb i n && bytes_eq other name) (own_number m org of) e
+other_rule org n name key.Version of e = refl
+other_rule org n name (key.Org m) of e = refl
+other_rule org n name (key.Object m i) of e = refl
+other_rule org n name (key.Field m i g) of e = refl
+other_rule org n name (key.Job m) of e = refl
+other_rule org n name (key.User m i) of e = refl
+other_rule org n name (key.Role m i) of e = refl
+other_rule org n name (key.Group m i) of e = refl
+other_rule org n name (key.Sharing m other) of e = refl
+other_rule org n name (key.Data m i id) of e = refl
+other_rule org n name (key.Index m i s v id) of e = refl
+other_rule org n name (key.Unique m i s v) of e = refl
+other_rule org n name (key.Relation m i s v id) of e = refl
+other_rule org n name (key.Owner m i o id) of e = refl
+other_rule org n name (key.Share m id to) of e = refl
+other_rule org n name (key.Grant m to i id cause) of e = refl
 
 -- ---- an object with a name has its number
 

@@ -10,3 +10,6 @@ pub mod AccessEdits
 pub mod NewObjects
 pub mod ObjectEdits
 pub mod FieldStands
+pub mod RuleTexts
+pub mod JudgedRules
+pub mod RuleStands

@@ -3,3 +3,4 @@ pub mod FieldRows
 pub mod Fields
 pub mod Relations
 pub mod NewRows
+pub mod RuleRows

@@ -5,7 +5,9 @@ mod access;
 mod copies;
 mod fields;
 mod objects;
+mod validation;
 
 pub use self::access::SetAccess;
 pub use self::fields::AddField;
 pub use self::objects::AddObject;
+pub use self::validation::AddValidationRule;

@@ -1,10 +1,11 @@
-//! An administrator's edits of metadata: new objects, another default access, new fields.
+//! An administrator's edits of metadata: new objects, another default access, new fields, new validation rules.
 //!
 //! It depends on `ut_model`, `ut_stands` and `ut_edits`. Its contract is that of `Edit`: each is judged by its verdict, and its
 //! changes take the organisation's rows to those of what the verdict leaves.
 #![tactic(auto)]
 
 mod edits;
+mod formulas;
 mod judging;
 mod members;
 mod references;
@@ -12,6 +13,6 @@ mod relations;
 mod rules;
 mod slots;
 
-pub use crate::edits::{AddField, AddObject, SetAccess};
-pub use crate::judging::{judge_access, judge_field, judge_object, target_number};
+pub use crate::edits::{AddField, AddObject, AddValidationRule, SetAccess};
+pub use crate::judging::{judge_access, judge_field, judge_object, judge_rule, target_number};
 pub use crate::slots::free_slot;

@@ -3,9 +3,11 @@ use Rattle.std.proofs.Common.{◌≡◌, ℕ, zero, suc, Bool, true, false, ◌|
 use Rattle.std.specs.Prelude.{◌↔◌}
 use Rattle.std.specs.List.{list_any}
 use Rattle.std.specs.Option.{option_map, option_and_then}
+use Rattle.std.specs.Ordering.{eq_by_cmp}
 use Rattle.std.specs.Str.{bytes_eq}
 use Rattle.std.proofs.lemmas.Slice.Eq.{bytes_eq-Decides}
 use Rattle.std.proofs.lemmas.List.{length-map}
+use Rattle.ut_value.specs.Principals.{principal_cmp}
 use Rattle.ut_value.specs.declared.sharing.Principal.{Principal}
 use Rattle.ut_value.specs.declared.sharing.Principal.TheVariants as to
 use Rattle.ut_model.specs.Known.{role_id, group_id}
@@ -115,36 +117,9 @@ module _ (parent : List ℕ → Option (List ℕ)) (b : List ℕ) where
 
 -- ---- members
 
-abbrev pub same_principal : Principal → Principal → Bool
-same_principal (to.User i) (to.User j) = bytes_eq i j
-same_principal (to.Role i) (to.Role j) = bytes_eq i j
-same_principal (to.Subordinates i) (to.Subordinates j) = bytes_eq i j
-same_principal (to.Group i) (to.Group j) = bytes_eq i j
-same_principal _ _ = false
-
-pub principal_same : (p q : Principal) → same_principal p q ≡ true → p ≡ q
-principal_same (to.User i) (to.User j) e = ap to.User (id_same i j e)
-principal_same (to.User i) (to.Role j) e = absurd cc
-principal_same (to.User i) (to.Subordinates j) e = absurd cc
-principal_same (to.User i) (to.Group j) e = absurd cc
-principal_same (to.Role i) (to.User j) e = absurd cc
-principal_same (to.Role i) (to.Role j) e = ap to.Role (id_same i j e)
-principal_same (to.Role i) (to.Subordinates j) e = absurd cc
-principal_same (to.Role i) (to.Group j) e = absurd cc
-principal_same (to.Subordinates i) (to.User j) e = absurd cc
-principal_same (to.Subordinates i) (to.Role j) e = absurd cc
-principal_same (to.Subordinates i) (to.Subordinates j) e = ap to.Subordinates (id_same i j e)
-principal_same (to.Subordinates i) (to.Group j) e = absurd cc
-principal_same (to.Group i) (to.User j) e = absurd cc
-principal_same (to.Group i) (to.Role j) e = absurd cc
-principal_same (to.Group i) (to.Subordinates j) e = absurd cc
-principal_same (to.Group i) (to.Group j) e = ap to.Group (id_same i j e)
-
-pub principal_itself : (p : Principal) → same_principal p p ≡ true
-principal_itself (to.User i) = id_itself i
-principal_itself (to.Role i) = id_itself i
-principal_itself (to.Subordinates i) = id_itself i
-principal_itself (to.Group i) = id_itself i
+-- what `principal_laws` says of the test of principals
+abbrev pub SamePrincipals : Type 0
+SamePrincipals = (p q : Principal) → IsTrue (eq_by_cmp principal_cmp p q) ↔ (p ≡ q)
 
 any_same : {A : Type 0} (f g : A → Bool) → ((x : A) → f x ≡ g x) → (xs : List A) → list_any f xs ≡ list_any g xs
 any_same f g same [] = refl
@@ -235,14 +210,14 @@ module _ (n : ℕ) (s : Structure) (who : List ℕ) (role : Option (List ℕ)) w
         least.onward (subst (λ (o : Option (List Principal)). Has (or_none o) q) (sym e) h) (from_member q m)
 
     -- every group that has members is in the list
-    pub member_decides : (all : List (List ℕ)) → ((i : List ℕ) (ms : List Principal) → s.members i ≡ Some ms → Has all i) → (p : Principal)
+    pub member_decides : SamePrincipals → (all : List (List ℕ)) → ((i : List ℕ) (ms : List Principal) → s.members i ≡ Some ms → Has all i) → (p : Principal)
         → IsTrue (is_member_within n (length all) s who role p) ↔ Member s who role p
-    member_decides all bound p =
+    member_decides same all bound p =
         let enough : length (map to.Group all) ≡ length all = length-map all to.Group in (
           λ e. to_member p
               (least.within_sound Principal direct_member next_member (length all) p (sym (member_as_search (length all) p) ∙ e)),
           λ h. member_as_search (length all) p ∙ subst (λ (k : ℕ). member_search k p ≡ true) enough
-              (least.within_complete Principal direct_member next_member same_principal principal_same principal_itself
+              (least.within_complete Principal direct_member next_member (eq_by_cmp principal_cmp) (λ p q. (same p q).0) (λ p. (same p p).1 refl)
               (map to.Group all) from p (from_member p h)),
         )
       where
@@ -281,12 +256,12 @@ below_agrees t a b =
     (length-map t.roles role_id)
     (below_decides (structure_of t).parent b (map role_id t.roles) (some_parent t) a)
 
-pub member_agrees : (t : Tenant) (u : User) (p : Principal) → IsTrue (is_member t u p) ↔ IsMember t u p
+pub member_agrees : SamePrincipals → (t : Tenant) (u : User) (p : Principal) → IsTrue (is_member t u p) ↔ IsMember t u p
 unfolding is_member is_below
-member_agrees t u p =
+member_agrees same t u p =
     subst (λ (k : ℕ). IsTrue (is_member_within (suc (length t.roles)) k (structure_of t) u.id u.role p) ↔ IsMember t u p)
     (length-map t.groups group_id)
-    (member_decides (suc (length t.roles)) (structure_of t) u.id u.role (below_agrees t) (map group_id t.groups) (some_members t) p)
+    (member_decides (suc (length t.roles)) (structure_of t) u.id u.role (below_agrees t) same (map group_id t.groups) (some_members t) p)
 
 pub above_agrees : (t : Tenant) (u x : User) → IsTrue (is_above t u x) ↔ IsAbove t u x
 above_agrees t u x = at x.role u.role
@@ -297,16 +272,16 @@ above_agrees t u x = at x.role u.role
     at (Some a) None = (λ e. absurd cc, λ h. absurd h)
     at (Some a) (Some b) = below_agrees t a b
 
-pub reaches_agrees : (t : Tenant) (p : Principal) (u : User) → IsTrue (reaches t p u) ↔ Reaches t p u
+pub reaches_agrees : SamePrincipals → (t : Tenant) (p : Principal) (u : User) → IsTrue (reaches t p u) ↔ Reaches t p u
 unfolding reaches
-reaches_agrees t p u = (to_it, from_it)
+reaches_agrees same t p u = (to_it, from_it)
   where
     to_it : IsTrue (reaches t p u) → Reaches t p u
     to_it e = elim (or_cases (is_member t u p) (list_any (λ x. is_above t u x && is_member t x p) t.users) e) [
-      | inl h ↦ inl ((member_agrees t u p).0 h)
+      | inl h ↦ inl ((member_agrees same t u p).0 h)
       | inr h ↦ let r = among_any (λ x. is_above t u x && is_member t x p) t.users h in
           let b = both (is_above t u r.0) (is_member t r.0 p) r.2 in
-          inr (r.0, r.1, (above_agrees t u r.0).0 b.0, (member_agrees t r.0 p).0 b.1)
+          inr (r.0, r.1, (above_agrees t u r.0).0 b.0, (member_agrees same t r.0 p).0 b.1)
     ]
       where
         both : (a b : Bool) → (a && b) ≡ true → (a ≡ true) × (b ≡ true)
@@ -314,11 +289,11 @@ reaches_agrees t p u = (to_it, from_it)
         both false b h = absurd cc
 
     from_it : Reaches t p u → IsTrue (reaches t p u)
-    from_it (inl h) = or_left (is_member t u p) (list_any (λ x. is_above t u x && is_member t x p) t.users) ((member_agrees t u p).1 h)
+    from_it (inl h) = or_left (is_member t u p) (list_any (λ x. is_above t u x && is_member t x p) t.users) ((member_agrees same t u p).1 h)
     from_it (inr (x, has, above, member)) =
         or_right (is_member t u p) (list_any (λ x. is_above t u x && is_member t x p) t.users)
         (any_among (λ x. is_above t u x && is_member t x p) x t.users has
-        (joined (is_above t u x) (is_member t x p) ((above_agrees t u x).1 above) ((member_agrees t x p).1 member)))
+        (joined (is_above t u x) (is_member t x p) ((above_agrees t u x).1 above) ((member_agrees same t x p).1 member)))
       where
         joined : (a b : Bool) → a ≡ true → b ≡ true → (a && b) ≡ true
         joined true b p q = q

@@ -17,3 +17,5 @@ mod Administering
 mod Rising
 mod JobUsers
 mod Refusing
+mod NewSound
+mod Switching

@@ -51,6 +51,7 @@ pub mod Metadata
 pub mod NewFields
 pub mod Retyping
 pub mod Jobs
+pub mod Steps
 pub mod Tests
 pub mod Asking
 pub mod RowsJson

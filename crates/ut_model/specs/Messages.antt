@@ -4,7 +4,7 @@ use Rattle.std.specs.Fmt.{decimal}
 use Rattle.ut_value.specs.Id.{print18}
 use Rattle.ut_model.specs.declared.refusal.Refusal.{Refusal}
 use Rattle.ut_model.specs.declared.refusal.Refusal.TheVariants as refusal
-use Rattle.ut_model.specs.Limits.{body_limit, deletion_limit, input_limit, limit_name, limit_number, reply_limit}
+use Rattle.ut_model.specs.Limits.{body_limit, deletion_limit, input_limit, limit_name, limit_number, name_limit, reply_limit, secret_least, secret_most}
 
 -- the message, in UTF-8
 abbrev pub message_of : Refusal → List ℕ
@@ -48,6 +48,6 @@ message_of refusal.InputTooLarge = codes "over " ++ (decimal input_limit ++ code
 message_of (refusal.CsvRefused row) = codes "row " ++ decimal row
 message_of (refusal.HeadingRefused cell) = encode_utf8_all cell
 message_of refusal.SubqueryNotExported = codes "subqueries aren't exported"
-message_of refusal.NameRefused = codes "1 to 80 characters"
-message_of refusal.SecretRefused = codes "16 to 64 letters or digits"
+message_of refusal.NameRefused = codes "1 to " ++ (decimal name_limit ++ codes " characters")
+message_of refusal.SecretRefused = decimal secret_least ++ (codes " to " ++ (decimal secret_most ++ codes " letters or digits"))
 message_of (refusal.NotBuilt what) = encode_utf8_all what

@@ -2,17 +2,18 @@
 use Rattle.std.specs.Prelude.{ℕ, ◌+◌, Bool, true, ◌&&◌, nat_le, if◌then◌else◌, List, [], ◌∷◌, ◌++◌, length, Option, Some, None, Result, Ok, Err}
 use Rattle.std.specs.List.{list_all}
 use Rattle.ut_value.specs.Id.{is_digit62, made}
+use Rattle.ut_value.specs.Numerals.{is_within}
 use Rattle.ut_model.specs.declared.limit.Limit.TheVariants as limit
 use Rattle.ut_model.specs.declared.refusal.Refusal.{Refusal}
 use Rattle.ut_model.specs.declared.refusal.Refusal.TheVariants.{LimitExceeded, NameRefused, SecretRefused}
-use Rattle.ut_model.specs.Limits.{limit_number}
+use Rattle.ut_model.specs.Limits.{limit_number, secret_least, secret_most}
 use Rattle.ut_model.specs.Sound.{is_name}
 use Rattle.ut_model.specs.Tenant.{Tenant, User}
 use Rattle.ut_model.specs.World.{World, user_prefix}
 
 -- a secret: 16 to 64 ASCII letters and digits
 unfoldable pub is_secret : List ℕ → Bool
-is_secret secret = list_all is_digit62 secret && (nat_le 16 (length secret) && nat_le (length secret) 64)
+is_secret secret = list_all is_digit62 secret && is_within secret_least secret_most (length secret)
 
 -- the id of an organisation's first user, which is made of number 0
 abbrev pub first_user : List ℕ

@@ -16,7 +16,7 @@ ghost use Rattle.ut_model.specs.Ordered.{IdsDiffer, before, in_order};
 ghost use Rattle.ut_model.specs.Paths.{Asked};
 ghost use Rattle.ut_model.specs.Tenant.{Tenant, User};
 
-use ut_value::order_laws;
+use ut_value::{order_laws, principal_laws};
 
 /// What is computed of roles, members and whom a principal reaches is the least relation, circles of groups or not. The call
 /// does nothing.
@@ -29,7 +29,9 @@ pub fn access_laws()
     ensures above { (t : Tenant) (u x : User) → IsTrue (is_above t u x) ↔ IsAbove t u x }
     ensures member { (t : Tenant) (u : User) (p : Principal) → IsTrue (is_member t u p) ↔ IsMember t u p }
     ensures reaches { (t : Tenant) (p : Principal) (u : User) → IsTrue (reaches t p u) ↔ Reaches t p u }
-{}
+{
+    principal_laws();
+}
 
 /// What NOT, AND and OR mean on a record, by the conditions within them. The call does nothing.
 pub fn condition_laws()

@@ -21,6 +21,7 @@ mod message;
 mod metadata_bodies;
 mod name_forms;
 mod people_bodies;
+mod premises;
 mod query_rows;
 mod reading;
 mod record;
@@ -43,12 +44,18 @@ pub use crate::ids::{first_user_id, org_id, org_number};
 pub use crate::job_rows::{limit_rows, retype_rows, stuck_retype_rows};
 pub use crate::laws::{model_rows, name_laws};
 pub use crate::level_rows::{hierarchy_rows, rule_rows, share_rows};
-pub use crate::limit::{BODY_LIMIT, DELETION_LIMIT, INPUT_LIMIT, Limit, REPLY_LIMIT, STEM_LIMIT};
+pub use crate::limit::{
+    BODY_LIMIT, DELETION_LIMIT, FORMULA_LIMIT, INPUT_LIMIT, Limit, NAME_LIMIT, REPLY_LIMIT,
+    SECRET_LEAST, SECRET_MOST, STEM_LIMIT,
+};
 pub use crate::metadata_bodies::{NewField, NewMaster, NewObject, NewValidationRule, SpelledType};
-pub use crate::name_forms::{is_child_name, is_custom_name, is_stem, same_name};
+pub use crate::name_forms::{is_child_name, is_custom_name, is_name, is_stem, same_name};
 pub use crate::people_bodies::{NewUser, PrincipalKind, Spelled};
+pub use crate::premises::law_rows;
 pub use crate::query_rows::{condition_rows, path_rows, sorted_rows};
-pub use crate::reading::{administrator_laws, object_laws, record_laws, refusal_laws};
+pub use crate::reading::{
+    administrator_laws, object_laws, organisation_laws, record_laws, refusal_laws,
+};
 pub use crate::record::Record;
 pub use crate::record_bodies::{Assignment, Given};
 pub use crate::record_rows::{delete_rows, found_rows, number_rows, upsert_rows, validation_rows};
@@ -65,4 +72,4 @@ pub use crate::request_rows::{
 pub use crate::route::Route;
 pub use crate::routed::Routed;
 pub use crate::sharing_bodies::{NewShare, NewSharingRule, SpelledSource};
-pub use crate::steps::{answering_laws, step_rows, tenant_laws};
+pub use crate::steps::{answering_laws, change_laws, step_rows, tenant_laws};

@@ -7,7 +7,10 @@ ghost use Rattle.ut_model.specs.Limits.{limit_name, limit_number};
 ghost use Rattle.ut_model.specs.Messages.{message_of};
 ghost use Rattle.ut_value.specs.Id.{print18};
 
-use crate::limit::{BODY_LIMIT, DELETION_LIMIT, INPUT_LIMIT, Limit, REPLY_LIMIT};
+use crate::limit::{
+    BODY_LIMIT, DELETION_LIMIT, INPUT_LIMIT, Limit, NAME_LIMIT, REPLY_LIMIT, SECRET_LEAST,
+    SECRET_MOST,
+};
 use crate::refusal::Refusal;
 use std::alloc::{AllocError, Global};
 use ut_value::{Id, Text, Value, print_value};
@@ -64,6 +67,13 @@ fn counted(alloc: Global, before: &str, number: usize, behind: &str) -> Result<S
     ensures { IfOk result (λ s. string_bytes s ≡ before.now ++ (decimal number ++ behind.now)) }
 {
     format!(in alloc; "{before}{number}{behind}")
+}
+
+// Two numbers, and words behind them.
+fn between(alloc: Global, least: usize, most: usize, behind: &str) -> Result<String, AllocError>
+    ensures { IfOk result (λ s. string_bytes s ≡ decimal least ++ (codes " to " ++ (decimal most ++ behind.now))) }
+{
+    format!(in alloc; "{least} to {most}{behind}")
 }
 
 fn limit_message(alloc: Global, limit: Limit) -> Result<String, AllocError>
@@ -135,8 +145,10 @@ impl Refusal {
             Refusal::CsvRefused { row } => format!(in alloc; "row {row}"),
             Refusal::HeadingRefused { cell } => String::from_str(alloc, cell.as_str()),
             Refusal::SubqueryNotExported => String::from_str(alloc, "subqueries aren't exported"),
-            Refusal::NameRefused => String::from_str(alloc, "1 to 80 characters"),
-            Refusal::SecretRefused => String::from_str(alloc, "16 to 64 letters or digits"),
+            Refusal::NameRefused => counted(alloc, "1 to ", NAME_LIMIT, " characters"),
+            Refusal::SecretRefused => {
+                between(alloc, SECRET_LEAST, SECRET_MOST, " letters or digits")
+            }
             Refusal::NotBuilt { what } => String::from_str(alloc, what.as_str()),
         }
     }

@@ -1,11 +1,14 @@
 //! The forms of new names, and which names are one.
 
-ghost use Rattle.std.specs.Prelude.{◌≡◌};
+ghost use Rattle.std.specs.Prelude.{◌≡◌, ◌&&◌, nat_le};
 ghost use Rattle.std.specs.Str.{chars};
 ghost use Rattle.ut_model.specs.Fields.{same_name};
+ghost use Rattle.ut_model.specs.Limits.{name_limit};
 ghost use Rattle.ut_model.specs.Names as form;
+ghost use Rattle.ut_model.specs.SoundPeople.{is_name};
 
-use crate::limit::STEM_LIMIT;
+use crate::limit::{NAME_LIMIT, STEM_LIMIT};
+use ut_value::character_count;
 
 /// Whether two names are one, whatever the case of their ASCII letters.
 pub fn same_name(a: &str, b: &str) -> bool
@@ -59,6 +62,20 @@ fn is_stem_with(ending: &[u8], bytes: &[u8]) -> bool
 {
     let (stem, rest) = bytes.split_at(bytes.len().saturating_sub(3));
     is_stem_of(stem) && rest == ending
+}
+
+// Whether a name may have so many characters.
+fn is_name_length(count: usize) -> bool
+    ensures { result ≡ (nat_le 1 count && nat_le count name_limit) }
+{
+    1 <= count && count <= NAME_LIMIT
+}
+
+/// Whether it is the name of an organisation or of people, or the message of a validation rule: 1 to 80 characters.
+pub fn is_name(name: &str) -> bool
+    ensures { result ≡ is_name (chars name.now) }
+{
+    is_name_length(character_count(name))
 }
 
 /// Whether it is a stem, as the name of a rule is: 1 to 40 letters, digits and `_`, a letter first; no two `_` in a row, and

@@ -1,6 +1,6 @@
 //! What holds of objects and records that are found, and of requests that are refused, for the layers above.
 
-ghost use Rattle.std.specs.Prelude.{◌≡◌, ℕ, List, [], true, Err, Some};
+ghost use Rattle.std.specs.Prelude.{◌≡◌, ℕ, IsTrue, List, [], length, true, Err, Some};
 ghost use Rattle.std.specs.List.Sorted.{IsStrictlySortedBy};
 ghost use Rattle.ut_value.specs.declared.sharing.Level.TheVariants.{Full};
 ghost use Rattle.ut_model.specs.declared.record.Record.{Record};
@@ -8,11 +8,12 @@ ghost use Rattle.ut_model.specs.declared.refusal.Refusal.{Refusal};
 ghost use Rattle.ut_model.specs.Levels.{level};
 ghost use Rattle.ut_model.specs.Membership.{Has};
 ghost use Rattle.ut_model.specs.Objects.{Numbered, object_named, object_numbered, records_of};
+ghost use Rattle.ut_model.specs.Organisations.{fresh};
 ghost use Rattle.ut_model.specs.Ordered.{before, by_id, in_order};
 ghost use Rattle.ut_model.specs.Paths.{Asked};
 ghost use Rattle.ut_model.specs.Requests.{Request, verdict_on};
 ghost use Rattle.ut_model.specs.Rows.{readable_of};
-ghost use Rattle.ut_model.specs.Sound.{IsSound};
+ghost use Rattle.ut_model.specs.Sound.{IsSound, is_name};
 ghost use Rattle.ut_model.specs.Tenant.{Tenant, User};
 
 /// The object that is named is the one with its number. The call does nothing.
@@ -35,4 +36,9 @@ pub fn refusal_laws()
 pub fn administrator_laws()
     ensures level { (t : Tenant) (u : User) (r : Record) → IsSound t → u.admin ≡ true → Has t.records r → level t u r ≡ Full }
     ensures readable { (a : Asked) (n : ℕ) → IsSound a.tenant → a.user.admin ≡ true → readable_of a n ≡ records_of a.tenant n }
+{}
+
+/// A new organisation is sound, if its name has the form of a name and the digest the length of one. The call does nothing.
+pub fn organisation_laws()
+    ensures fresh { (name digest : List ℕ) → IsTrue (is_name name) → length digest ≡ 32 → IsSound (fresh name digest) }
 {}

@@ -1,6 +1,6 @@
 //! What holds of the step of the world, for the layers above.
 
-ghost use Rattle.std.specs.Prelude.{◌≡◌, ◌≢◌, ℕ, List, ◌∷◌, [], IsSome, Option, Some, None, Ok, codes};
+ghost use Rattle.std.specs.Prelude.{◌≡◌, ◌≢◌, ◌≤◌, ℕ, suc, List, ◌∷◌, [], IsSome, Option, Some, None, Ok, codes, length};
 ghost use Rattle.sha2.specs.Sha256.{sha256};
 ghost use Rattle.ut_model.specs.declared.caller.Caller.{Caller};
 ghost use Rattle.ut_model.specs.declared.refusal.Refusal.TheVariants as refusal;
@@ -9,11 +9,14 @@ ghost use Rattle.ut_model.specs.declared.route.Route.{Route};
 ghost use Rattle.ut_model.specs.declared.route.Route.TheVariants as route;
 ghost use Rattle.ut_model.specs.declared.routed.Routed.TheVariants.{To, NotFound, NotAllowed};
 ghost use Rattle.ut_model.specs.Organisations.{with_org};
-ghost use Rattle.ut_model.specs.Jobs.{job_step};
+ghost use Rattle.ut_model.specs.Jobs.{job_step, switched};
 ghost use Rattle.ut_model.specs.Routing.{routed};
 ghost use Rattle.ut_model.specs.Callers.{IsUser};
+ghost use Rattle.ut_model.specs.Objects.{records_of};
+ghost use Rattle.ut_model.specs.Sound.{IsSound};
 ghost use Rattle.ut_model.specs.Step.{Answering, Message, caller_by, in_org, org_named, query_text, refusal_reply, step_by};
-ghost use Rattle.ut_model.specs.Tenant.{Tenant, User};
+ghost use Rattle.ut_model.specs.Steps.{IsBegun, copy_steps, steps};
+ghost use Rattle.ut_model.specs.Tenant.{Job, Tenant, User};
 ghost use Rattle.ut_model.specs.Whole.{Sent, own_replies, replies_by, replies_for};
 ghost use Rattle.ut_model.specs.World.{World, tenant_at, with_tenant};
 
@@ -51,6 +54,15 @@ pub fn tenant_laws()
 
     // A step leaves the users.
     ensures users { (t : Tenant) → (job_step t).users ≡ t.users }
+{}
+
+/// The step at which the change of a field's type comes, where no request comes between: over n records that all take the new
+/// type, the objects are as they were for the first n / 100 steps, rounded up, and the next step is the switch. The call does nothing.
+pub fn change_laws()
+    ensures copied { (t : Tenant) (j : Job) → IsSound t → t.job ≡ Some j → IsBegun t j
+        → (n : ℕ) → n ≤ copy_steps (length (records_of t j.object)) → (steps n t).objects ≡ t.objects }
+    ensures switched { (t : Tenant) (j : Job) → IsSound t → t.job ≡ Some j → IsBegun t j
+        → (steps (suc (copy_steps (length (records_of t j.object)))) t).objects ≡ (switched j t).objects }
 {}
 
 /// Routes and steps of the world, worked by hand. The call does nothing.

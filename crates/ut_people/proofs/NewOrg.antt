@@ -1,11 +1,9 @@
 -- The rows of a new organisation, and that tables with them stand for the world with it.
-use Rattle.std.proofs.Common.{◌≡◌, ℕ, ◌+◌, ◌^◌, ◌<◌, Bool, true, false, ◌&&◌, ◌||◌, cond, eqb, IsTrue, List, [], ◌∷◌, ◌++◌, length, Option, Some, None, refl, sym, ap, ◌∙◌, arith, length-append}
-use Rattle.std.specs.Prelude.{is_some}
+use Rattle.std.proofs.Common.{◌≡◌, ℕ, ◌+◌, ◌^◌, ◌<◌, Bool, true, false, ◌&&◌, cond, eqb, IsTrue, List, [], ◌∷◌, ◌++◌, length, Option, Some, None, refl, sym, ap, ◌∙◌, arith, length-append}
 use Rattle.std.specs.Option.{option_map}
 use Rattle.std.specs.FinMap as map
 use Rattle.std.specs.Str.{bytes_eq}
 use Rattle.std.proofs.lemmas.Bool.{eqb-true}
-use Rattle.std.proofs.lemmas.Slice.Eq.{bytes_eq-Decides}
 use Rattle.ut_value.specs.Id.{is_id}
 use Rattle.ut_keeper.specs.Tables.{Tables}
 use Rattle.ut_keys.specs.Forms.{row_bytes}
@@ -15,10 +13,7 @@ use Rattle.ut_keys.specs.Rows.{version_form, org_form, user_form}
 use Rattle.ut_model.specs.declared.limit.Limit.TheVariants as limit
 use Rattle.ut_model.specs.Limits.{limit_number}
 use Rattle.ut_model.specs.Organisations.{administrator, first_user, fresh, with_org}
-use Rattle.ut_model.specs.Known.{known, names_any}
-use Rattle.ut_model.specs.Membership.{Below, one_step, more_steps}
 use Rattle.ut_model.specs.Sound.{IsSound, is_name}
-use Rattle.ut_model.specs.SoundPeople.{parent_in}
 use Rattle.ut_model.specs.Tenant.{Tenant}
 use Rattle.ut_model.specs.World.{World}
 use Rattle.ut_people.specs.People.{with_rows}
@@ -89,34 +84,9 @@ module _ (n : ℕ) (name digest : List ℕ) (rows : Key → Option (List ℕ)) (
 
 -- ---- the new tenant
 
-fresh_sound : (name digest : List ℕ) → IsTrue (is_name name) → length digest ≡ 32 → IsSound (fresh name digest)
-fresh_sound name digest good size = record {
-  name = good;
-  counter = omega arith;
-  numbers = λ i j hi hj e. one i hi ∙ sym (one j hj);
-  users = record { each = (record { id = (0, omega arith, refl); name = good; digest = size; role = tt }, tt); rise = tt; few = omega arith };
-  roles = record { each = tt; rise = tt; few = omega arith; no_cycle = λ a h. no_step a a h };
-  groups = record { each = tt; rise = tt; few = omega arith };
-  metadata = record { objects = tt; names = refl; few = omega arith };
-  records = record { each = tt; rise = tt; unique = λ n place o f there at unique r s hr. absurd hr; few = omega arith; few_of = λ n. omega arith };
-  rules = record { each = tt; rise = tt; numbers = λ r s hr. absurd hr; few = omega arith; few_drawn = omega arith };
-  shares = record { each = tt; rise = tt; few = λ id. omega arith };
-  job = tt;
-  formulas = record { validations = refl; criteria = refl; unnamed = tt };
-}
-  where
-    -- there is one id
-    one : (i : List ℕ) → IsTrue (names_any (known (fresh name digest)) i) → i ≡ first_user
-    one i h = (bytes_eq-Decides i first_user).0 (only (bytes_eq i first_user) h)
-      where
-        only : (b : Bool) → (is_some (cond b (Some (administrator name digest)) None) || false) ≡ true → b ≡ true
-        only true e = refl
-        only false e = e
-
-    -- no role has a parent
-    no_step : (a b : List ℕ) → Below (parent_in []) a b → ⊥
-    no_step a b (one_step e) = absurd cc
-    no_step a b (more_steps e h) = absurd cc
+-- what `ut_model` says of a new organisation
+abbrev pub FreshSound : Type 0
+FreshSound = (name digest : List ℕ) → IsTrue (is_name name) → length digest ≡ 32 → IsSound (fresh name digest)
 
 -- it has no fields and no change of one
 fresh_fits : (name digest : List ℕ) → FitsPlan no_slots (fresh name digest)
@@ -154,9 +124,9 @@ rows_stand puts same past id m w name digest few p s =
     let agree : (k : Key) → with_three n name digest before k ≡ after k = λ k. rows_are n name digest before (λ q e. past p w q e) k ∙ ap (λ (l : ℕ). with_row Version (Some (version_row l)) own k) counted in
     same all_tables (with_rows n name digest m) (with_three n name digest before) after (λ k _. agree k) (puts_three puts m before n name digest (omega (arith, few)) id s.rows)
 
-pub org_stands : PutsRows → SameRows → NonePast → RowsStand → IsTrue (is_id first_user) → (m : Tables) (w : World) (name digest : List ℕ) → Stands m w → length w < limit_number limit.Organisations → IsTrue (is_name name) → length digest ≡ 32
+pub org_stands : FreshSound → PutsRows → SameRows → NonePast → RowsStand → IsTrue (is_id first_user) → (m : Tables) (w : World) (name digest : List ℕ) → Stands m w → length w < limit_number limit.Organisations → IsTrue (is_name name) → length digest ≡ 32
     → Stands (with_rows (length w + 1) name digest m) (with_org w name digest)
-org_stands puts same past stands id m w name digest (p, s) few good size = (
+org_stands fresh_sound puts same past stands id m w name digest (p, s) few good size = (
   opened (with_plan (length w + 1) no_slots p),
   stands p m (with_rows (length w + 1) name digest m) w (fresh name digest) no_slots s few (fresh_sound name digest good size) (fresh_fits name digest) (rows_stand puts same past id m w name digest few p s),
 )

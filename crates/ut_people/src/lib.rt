@@ -9,5 +9,5 @@ mod forms;
 mod org;
 
 pub use crate::admission::caller;
-pub use crate::forms::{is_name, is_secret};
+pub use crate::forms::is_secret;
 pub use crate::org::add_org;

@@ -16,7 +16,7 @@ use crate::admission::digest_of;
 use std::alloc::{AllocError, Global};
 use ut_keeper::{Draft, Keeper, draft_laws};
 use ut_keys::{OrgRow, StoreFail, UserRow, VersionRow, put, table_laws};
-use ut_model::{Limit, Refusal, first_user_id, name_laws};
+use ut_model::{Limit, Refusal, first_user_id, name_laws, organisation_laws};
 use ut_stands::{EditFail, KNOWN_VERSION, stands_laws};
 use ut_value::{Text, id_laws};
 
@@ -112,6 +112,7 @@ pub fn add_org<K: Keeper>(
     draft_laws::<K>();
     table_laws();
     stands_laws();
+    organisation_laws();
     id_laws();
     if u64::from(organisations) >= Limit::Organisations.number() {
         return Err(EditFail::Refused(Refusal::LimitExceeded {

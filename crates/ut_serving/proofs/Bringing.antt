@@ -1,5 +1,6 @@
 -- A keeper that falls while the connections of a door are served.
 use Rattle.std.proofs.Common.{◌≡◌, ◌⊎◌, inl, inr, ℕ, true, false, IsTrue, List, [], ◌∷◌, ◌++◌, Option, Some, None, Ok, Err, refl, sym, ap, subst, ◌∙◌, append_assoc, append-nil}
+use Rattle.std.specs.List.{AllByRecursion}
 use Rattle.ut_io.specs.Doors.{DoorState, Nexts, brought, has_next, input_of, output_of, output_so_far, outputs}
 use Rattle.ut_io.specs.declared.traits.IoFail.{IoFail}
 use Rattle.ut_keeper.specs.State.{KeeperState, Steps}
@@ -7,10 +8,10 @@ use Rattle.ut_keeper.specs.Tables.{Tables}
 use Rattle.ut_model.specs.World.{World}
 use Rattle.ut_stands.specs.Stands.{Stands}
 use Rattle.ut_serving.specs.Connections.{inputs_of, outputs_of}
-use Rattle.ut_serving.specs.Falls.{Falls, FallsBringing, Fell, OutputsGrow}
+use Rattle.ut_serving.specs.Falls.{Falls, FallsBringing, Fell, IsUndoneBehind, OutputsUndone, WritesUndone}
 use Rattle.ut_serving.specs.Present.{PresentKeeps}
 use Rattle.ut_serving.proofs.Brought.{Gone, inputs_more, outputs_more, served_more, on_next, last_output}
-use Rattle.ut_serving.proofs.Fallen.{either, falls_less}
+use Rattle.ut_serving.proofs.Fallen.{all_more, either, falls_less}
 
 -- ---- the next one
 
@@ -40,6 +41,7 @@ module _ (w : World) (moments : List ℕ) (new : KeeperState) where
       more = [];
       outputs_are = output_last d input rest b keeps;
       falls = falls;
+      undone = tt;
     },
   )
 
@@ -53,28 +55,35 @@ module _ (w : World) (moments : List ℕ) (new : KeeperState) where
       let m = on_next d held true (subst (λ (o : Option DoorState). Nexts {E = IoFail} o held (Ok true)) e n) in
       by_coming d held2 d.coming refl m.0 (subst (FallsOver held2) m.1 (keeps, falls))
 
--- ---- outputs only grow
+-- ---- outputs that acknowledge nothing
 
-pub grown_by_failure : (told held : Option DoorState) (f : IoFail) → Nexts told held (Err f) → OutputsGrow told held
-grown_by_failure told None f n d e = absurd (subst (λ (o : Option DoorState). Nexts o None (Err f)) e n)
-grown_by_failure told (Some b) f n d e = (b, refl, [], ap outputs (subst (λ (o : Option DoorState). Nexts o (Some b) (Err f)) e n) ∙ sym (append-nil (outputs d)))
+pub undone_by_failure : (told held : Option DoorState) (f : IoFail) → Nexts told held (Err f) → OutputsUndone told held
+undone_by_failure told None f n d e = absurd (subst (λ (o : Option DoorState). Nexts o None (Err f)) e n)
+undone_by_failure told (Some b) f n d e = (b, refl, [], tt, ap outputs (subst (λ (o : Option DoorState). Nexts o (Some b) (Err f)) e n) ∙ sym (append-nil (outputs d)))
 
-pub grown_by_none : (told held : Option DoorState) → Nexts {E = IoFail} told held (Ok false) → OutputsGrow told held
-grown_by_none told held n d e = let m = on_next d held false (subst (λ (o : Option DoorState). Nexts {E = IoFail} o held (Ok false)) e n) in none d.coming m.0 m.1
+pub undone_by_none : (told held : Option DoorState) → Nexts {E = IoFail} told held (Ok false) → OutputsUndone told held
+undone_by_none told held n d e = let m = on_next d held false (subst (λ (o : Option DoorState). Nexts {E = IoFail} o held (Ok false)) e n) in none d.coming m.0 m.1
   where
-    none : (xs : List (List ℕ)) → false ≡ has_next xs → held ≡ Some (brought xs (outputs d)) → (b : DoorState) × (held ≡ Some b) × (more : List (List ℕ)) × (outputs b ≡ outputs d ++ more)
-    none [] f h = (brought [] (outputs d), h, [], sym (append-nil (outputs d)))
+    none : (xs : List (List ℕ)) → false ≡ has_next xs → held ≡ Some (brought xs (outputs d)) → (b : DoorState) × (held ≡ Some b) × (more : List (List ℕ)) × AllByRecursion (IsUndoneBehind []) more × (outputs b ≡ outputs d ++ more)
+    none [] f h = (brought [] (outputs d), h, [], tt, sym (append-nil (outputs d)))
     none (input ∷ rest) f h = absurd cc
 
-pub grown_by_one : (told held held2 : Option DoorState) → Nexts {E = IoFail} told held (Ok true) → PresentKeeps held held2 → OutputsGrow told held2
-grown_by_one told held held2 n keeps d e =
+pub undone_by_one : (told held held2 : Option DoorState) → Nexts {E = IoFail} told held (Ok true) → PresentKeeps held held2 → WritesUndone false (output_of held) (output_of held2) → OutputsUndone told held2
+undone_by_one told held held2 n keeps wrote d e =
     let m = on_next d held true (subst (λ (o : Option DoorState). Nexts {E = IoFail} o held (Ok true)) e n) in
-    one d.coming m.0 held2 (subst (λ (o : Option DoorState). PresentKeeps o held2) m.1 keeps)
+    one d.coming m.0 held2 (subst (λ (o : Option DoorState). PresentKeeps o held2) m.1 keeps) (subst (λ (o : Option DoorState). WritesUndone false (output_of o) (output_of held2)) m.1 wrote)
   where
-    one : (xs : List (List ℕ)) → true ≡ has_next xs → (o : Option DoorState) → PresentKeeps (Some (brought xs (outputs d))) o → (b : DoorState) × (o ≡ Some b) × (more : List (List ℕ)) × (outputs b ≡ outputs d ++ more)
-    one [] t o k = absurd cc
-    one (input ∷ rest) t None k = absurd k
-    one (input ∷ rest) t (Some b) k = (b, refl, output_so_far b.present ∷ [], output_last d input rest b k)
+    one : (xs : List (List ℕ)) → true ≡ has_next xs → (o : Option DoorState) → PresentKeeps (Some (brought xs (outputs d))) o → WritesUndone false (output_of (Some (brought xs (outputs d)))) (output_of o)
+        → (b : DoorState) × (o ≡ Some b) × (more : List (List ℕ)) × AllByRecursion (IsUndoneBehind []) more × (outputs b ≡ outputs d ++ more)
+    one [] t o k u = absurd cc
+    one (input ∷ rest) t None k u = absurd k
+    one (input ∷ rest) t (Some b) k u = (
+      b,
+      refl,
+      output_so_far b.present ∷ [],
+      ((u.texts, u.undone, u.rest, ap (λ o. o ++ u.rest) u.output ∙ u.front), tt),
+      output_last d input rest b k,
+    )
 
 -- ---- one connection after the other
 
@@ -102,13 +111,14 @@ module _ (w : World) (moments : List ℕ) (d : DoorState) (first mid new : Keepe
           outputs_are = s.outputs_are ∙ ap (λ (xs : List (List ℕ)). xs ++ (outputs_of s.served ++ s.output ∷ s.more)) h.outputs_are ∙ append_assoc (outputs d) (outputs_of cs) (outputs_of s.served ++ s.output ∷ s.more)
               ∙ ap (λ (xs : List (List ℕ)). outputs d ++ xs) (sym (append_assoc (outputs_of cs) (outputs_of s.served) (s.output ∷ s.more)) ∙ ap (λ (xs : List (List ℕ)). xs ++ s.output ∷ s.more) (sym (outputs_more cs s.served)));
           falls = s.falls;
+          undone = s.undone;
         },
       )
 
   -- before this one
-  before_it : ((t : Tables) → new.may_leave t → mid.may_leave t) → OutputsGrow held held2 → FallsBringing w moments d held mid → FallsBringing w moments d held2 new
-  before_it less grows (e, same, s) =
-      let (f, here, more, is) = grows e same in (
+  before_it : ((t : Tables) → new.may_leave t → mid.may_leave t) → OutputsUndone held held2 → FallsBringing w moments d held mid → FallsBringing w moments d held2 new
+  before_it less undone (e, same, s) =
+      let (f, here, more, are, is) = undone e same in (
         f,
         here,
         record {
@@ -124,13 +134,14 @@ module _ (w : World) (moments : List ℕ) (d : DoorState) (first mid new : Keepe
           outputs_are = is ∙ ap (λ (xs : List (List ℕ)). xs ++ more) s.outputs_are ∙ append_assoc (outputs d) (outputs_of s.served ++ s.output ∷ s.more) more
               ∙ ap (λ (xs : List (List ℕ)). outputs d ++ xs) (append_assoc (outputs_of s.served) (s.output ∷ s.more) more);
           falls = falls_less s.between s.later s.input (Some []) (Some s.output) mid new less s.falls;
+          undone = all_more (IsUndoneBehind []) s.more more s.undone are;
         },
       )
 
   pub fell_on : (n before now : ℕ) → Steps mid new → Fell first new → (IsTrue mid.trusted → Gone w moments d n coming held before now first mid) → (mid.trusted ≡ false → FallsBringing w moments d held mid)
-      → FallsNext mid new coming held held2 → OutputsGrow held held2 → FallsBringing w moments d held2 new
-  fell_on n before now steps (tells, stands, fell, clean) gone fallen next grows = by (either mid.trusted)
+      → FallsNext mid new coming held held2 → (mid.trusted ≡ false → IsTrue new.is_clean → OutputsUndone held held2) → FallsBringing w moments d held2 new
+  fell_on n before now steps (tells, stands, fell, clean) gone fallen next undone = by (either mid.trusted)
     where
       by : (mid.trusted ≡ true) ⊎ (mid.trusted ≡ false) → FallsBringing w moments d held2 new
       by (inl open_) = in_later n before now open_ fell clean (gone open_) next
-      by (inr shut) = before_it (λ t left. steps.shut shut clean t left) grows (fallen shut)
+      by (inr shut) = before_it (λ t left. steps.shut shut clean t left) (undone shut clean) (fallen shut)

@@ -1,5 +1,7 @@
 -- A keeper that falls while a connection is served: the request in which it did, and the turns after that.
-use Rattle.std.proofs.Common.{◌≡◌, ◌⊎◌, inl, inr, ℕ, Bool, true, false, ◌||◌, eqb, IsTrue, List, [], ◌++◌, map, take, Option, Some, Result, Ok, Err, refl, sym, ap, subst, ◌∙◌, append_assoc, append-nil}
+use Rattle.std.proofs.Common.{◌≡◌, ◌⊎◌, inl, inr, ℕ, Bool, true, false, ◌||◌, eqb, IsTrue, List, [], ◌∷◌, ◌++◌, map, take, drop, Option, Some, Result, Ok, Err, refl, sym, ap, subst, ◌∙◌, append_assoc, append-nil, take-append-drop}
+use Rattle.std.specs.Prelude.{is_ok}
+use Rattle.std.specs.List.{AllByRecursion}
 use Rattle.std.specs.Io.KnownBytes.{Appends, prepend_known}
 use Rattle.std.specs.Io.KnownBytes as known
 use Rattle.std.proofs.KnownBytes.{Appends-trans}
@@ -9,7 +11,7 @@ use Rattle.ut_http.specs.Reply.{reply_to, store_failed, no_memory}
 use Rattle.ut_http.specs.declared.fail.HttpFail.{HttpFail}
 use Rattle.ut_http.specs.declared.message.HttpMessage.{HttpMessage}
 use Rattle.ut_io.specs.Moments.{IsFirstMoment}
-use Rattle.ut_keeper.specs.State.{IsSettled, KeeperState, StaysAfter, Steps}
+use Rattle.ut_keeper.specs.State.{IsSettled, KeeperState, Steps, TrustedAfter}
 use Rattle.ut_keeper.specs.Tables.{Tables}
 use Rattle.ut_step.specs.Built.{step}
 use Rattle.ut_model.specs.World.{World}
@@ -19,34 +21,81 @@ use Rattle.ut_serving.specs.declared.request.Answer.TheVariants.{Made, Damaged, 
 use Rattle.ut_serving.specs.declared.wire.LineFail.{LineFail}
 use Rattle.ut_serving.specs.declared.wire.LineFail.TheVariants.{Read, Write}
 use Rattle.ut_serving.specs.Answers.{IsFixed, IsMade, bytes_in}
-use Rattle.ut_serving.specs.Connections.{Place, Follows, begins, joined}
+use Rattle.ut_serving.specs.Connections.{Over, Place, Follows, at_memory, at_refusal, begins, joined, last_words}
 use Rattle.ut_serving.specs.Exchanges.{Exchange, reply_in}
-use Rattle.ut_serving.specs.Falls.{Falls, FallsAt, FallsIn, FallsOn, Fell, Grows, IsUndone, MayLeave, WroteIn}
+use Rattle.ut_serving.specs.Falls.{Falls, FallsAt, FallsIn, FallsOn, Fell, IsUndone, IsUndoneText, MayLeave, WritesUndone, WroteIn}
 use Rattle.ut_serving.specs.Requests.{message_in}
 use Rattle.ut_serving.specs.Turning.{IsHere, RefusesWith, Wrote, over_if_written}
-use Rattle.ut_serving.proofs.Goes.{Goes}
+use Rattle.ut_serving.proofs.Goes.{Goes, joined_more}
 use Rattle.ut_serving.proofs.Turned.{appends_then, item_at, nothing}
 
 -- a call that doesn't use the keeper
 pub not_fell : (k : KeeperState) → Fell k k → ⊥
 not_fell k (tells, stands, fell, clean) = absurd (cc (stands, fell))
 
--- ---- what is written only grows
+-- ---- texts that acknowledge nothing
 
-pub wrote_grows : (before after : Option (List ℕ)) (text : List ℕ) (s : Result (Unit {0}) LineFail) → Wrote before after text s → Grows before after
-wrote_grows before after text (Ok done) h = (text, h)
-wrote_grows before after text (Err Write) (n, within, h) = (take n text, h)
-wrote_grows before after text (Err Read) h = absurd h
+pub all_more : {X : Type 0} (P : X → Type 0) (xs ys : List X) → AllByRecursion P xs → AllByRecursion P ys → AllByRecursion P (xs ++ ys)
+all_more P [] ys h k = k
+all_more P (x ∷ xs) ys h k = (h.0, all_more P xs ys h.1 k)
 
-pub refusal_grows : (e : HttpFail) (before after : Option (List ℕ)) (s : Result (Unit {0}) LineFail) → RefusesWith e before after s → Grows before after
-refusal_grows e before after s (inl h) = wrote_grows before after _ s h
-refusal_grows e before after s (inr h) = wrote_grows before after _ s h
+-- nothing was written
+pub undone_none : (full : Bool) (before after : Option (List ℕ)) → known.Keeps before after → WritesUndone full before after
+undone_none full before after h = record { texts = []; undone = tt; out = []; rest = []; front = refl; is_full = λ _. refl; output = nothing before after h }
 
-pub grows_then : (before mid after : Option (List ℕ)) → known.Keeps before mid → Grows mid after → Grows before after
-grows_then before mid after h (out, app) = (out, appends_then before mid after out h app)
+pub undone_later : (full : Bool) (before mid after : Option (List ℕ)) → known.Keeps before mid → WritesUndone full mid after → WritesUndone full before after
+undone_later full before mid after h u = record { texts = u.texts; undone = u.undone; out = u.out; rest = u.rest; front = u.front; is_full = u.is_full; output = appends_then before mid after u.out h u.output }
 
-pub grows_none : (before after : Option (List ℕ)) → known.Keeps before after → Grows before after
-grows_none before after h = ([], nothing before after h)
+-- whether it is whole isn't said
+pub undone_front : (full : Bool) (before after : Option (List ℕ)) → WritesUndone full before after → WritesUndone false before after
+undone_front full before after u = record { texts = u.texts; undone = u.undone; out = u.out; rest = u.rest; front = u.front; is_full = λ no. absurd cc; output = u.output }
+
+-- one such text
+pub undone_wrote : (before after : Option (List ℕ)) (text : List ℕ) (s : Result (Unit {0}) LineFail) → IsUndoneText text → Wrote before after text s → WritesUndone (is_ok s) before after
+undone_wrote before after text (Ok done) is h = record { texts = text ∷ []; undone = (is, tt); out = text; rest = []; front = refl; is_full = λ _. refl; output = h }
+undone_wrote before after text (Err Write) is (n, within, h) = record {
+  texts = text ∷ [];
+  undone = (is, tt);
+  out = take n text;
+  rest = drop n text;
+  front = take-append-drop n text ∙ sym (append-nil text);
+  is_full = λ no. absurd cc;
+  output = h;
+}
+undone_wrote before after text (Err Read) is h = absurd h
+
+pub undone_words : (over : Over) (before after : Option (List ℕ)) (text : List ℕ) (s : Result (Unit {0}) LineFail) → last_words over ≡ text ∷ [] → Wrote before after text s → WritesUndone (is_ok s) before after
+undone_words over before after text s is h = undone_wrote before after text s (inr (over, is)) h
+
+pub undone_refusal : (e : HttpFail) (before after : Option (List ℕ)) (s : Result (Unit {0}) LineFail) → RefusesWith e before after s → WritesUndone (is_ok s) before after
+undone_refusal e before after s (inl h) = undone_words (at_refusal e) before after _ s refl h
+undone_refusal e before after s (inr h) = undone_words at_memory before after _ s refl h
+
+pub undone_over : (before after : Option (List ℕ)) (over : Bool) (s : Result (Unit {0}) LineFail) → WritesUndone (is_ok s) before after → WritesUndone (is_ok (over_if_written over s)) before after
+undone_over before after over (Ok done) u = u
+undone_over before after over (Err e) u = u
+
+-- some after others, which were written whole
+pub undone_then : (full : Bool) (before mid after : Option (List ℕ)) → WritesUndone true before mid → WritesUndone full mid after → WritesUndone full before after
+undone_then full before mid after u v =
+    let all : u.out ≡ joined u.texts = sym (append-nil u.out) ∙ ap (λ r. u.out ++ r) (sym (u.is_full refl)) ∙ u.front in
+    record {
+      texts = u.texts ++ v.texts;
+      undone = all_more IsUndoneText u.texts v.texts u.undone v.undone;
+      out = u.out ++ v.out;
+      rest = v.rest;
+      front = append_assoc u.out v.out v.rest ∙ ap (λ o. u.out ++ o) v.front ∙ ap (λ o. o ++ joined v.texts) all ∙ sym (joined_more u.texts v.texts);
+      is_full = v.is_full;
+      output = Appends-trans before mid after u.out v.out u.output v.output;
+    }
+
+-- a keeper that isn't trusted stays so
+pub stays_shut : (old new : KeeperState) → Steps old new → old.trusted ≡ false → new.trusted ≡ false
+stays_shut old new steps shut = by new.trusted refl
+  where
+    by : (b : Bool) → new.trusted ≡ b → new.trusted ≡ false
+    by true is = let open_ = steps.stood is in absurd (cc (open_, shut))
+    by false is = is
 
 -- ---- the request in which it falls
 
@@ -65,7 +114,7 @@ left_at w m now old new settled s h t left = elim (h t left) [
 ]
 
 pub fell_on : (w : World) (m : HttpMessage) (now : ℕ) (moments : List ℕ) (old new : KeeperState) (coming before after : Option (List ℕ)) (a : Answer) (s : Result (Unit {0}) LineFail)
-    → IsSettled old → Fell old new → Stands old.tables w → coming ≡ Some moments → IsFirstMoment coming now → (IsMade a → StaysAfter true old new) → IsFixed m a
+    → IsSettled old → Fell old new → Stands old.tables w → coming ≡ Some moments → IsFirstMoment coming now → (IsMade a → TrustedAfter true new) → IsFixed m a
     → (old.tells → IsTrue old.trusted → IsTrue new.is_clean → (v : World) → Stands old.tables v → (t : Tables) → new.may_leave t → old.may_leave t ⊎ Stands t (step v (message_in m) now).1)
     → Wrote before after (bytes_in m.method a) s → FallsOn w m moments new before after s
 fell_on w m now moments old new coming before after a s settled (tells, stands, fell, clean) is e first made fixed crash wrote = (
@@ -73,9 +122,15 @@ fell_on w m now moments old new coming before after a s settled (tells, stands, 
   subst (λ (c : Option (List ℕ)). IsFirstMoment c now) e first,
   left_at w m now old new settled is (crash tells stands clean w is),
   bytes_in m.method a,
-  undone_text m a (λ is_made. absurd (cc (made is_made stands refl clean, fell))) fixed,
+  undone_text m a (λ is_made. absurd (cc (made is_made refl clean, fell))) fixed,
   wrote,
 )
+
+-- the reply of a keeper that fell before
+pub undone_reply : (m : HttpMessage) (old new : KeeperState) (before after : Option (List ℕ)) (a : Answer) (s : Result (Unit {0}) LineFail)
+    → Steps old new → (IsMade a → TrustedAfter true new) → IsFixed m a → Wrote before after (bytes_in m.method a) s → old.trusted ≡ false → IsTrue new.is_clean → WritesUndone (is_ok s) before after
+undone_reply m old new before after a s steps made fixed wrote shut clean =
+    undone_wrote before after (bytes_in m.method a) s (inl (m.method, m.close, undone_text m a (λ is_made. let open_ = steps.stood (made is_made refl clean) in absurd (cc (open_, shut))) fixed)) wrote
 
 wrote_in : (before mid after : Option (List ℕ)) (text : List ℕ) (close : Bool) (s : Result (Unit {0}) LineFail) → known.Keeps before mid → Wrote mid after text s → WroteIn before after text (over_if_written close s)
 wrote_in before mid after text close (Ok done) h k = appends_then before mid after text h k
@@ -117,9 +172,9 @@ falls_less w moments input before after mid new less f = record {
 }
 
 module _ (w : World) (moments input : List ℕ) (old : KeeperState) (before : Option (List ℕ)) where
-  -- it fell, and the reply was written whole
+  -- it fell, and all texts from the request on were written whole
   abbrev pub Fallen : KeeperState → Option (List ℕ) → Type 0
-  Fallen new after = (f : Falls w moments input before after new) × (more : List ℕ) × (f.out ≡ f.text ++ more)
+  Fallen new after = (f : Falls w moments input before after new) × (texts : List (List ℕ)) × AllByRecursion IsUndoneText texts × (f.out ≡ f.text ++ joined texts)
 
   abbrev pub FallenBy : KeeperState → Option (List ℕ) → Result Bool LineFail → Type 0
   FallenBy new after (Ok over) = Fallen new after
@@ -140,10 +195,11 @@ module _ (w : World) (moments input : List ℕ) (old : KeeperState) (before : Op
       text = text;
       undone = undone;
       out = text;
-      goes_out = inl ([], sym (append-nil text));
+      goes_out = ([], tt, [], refl);
       output = Appends-trans before after after2 (joined (map reply_in xs)) text wrote app;
     },
     [],
+    tt,
     sym (append-nil text),
   )
   fallen_at new after after2 p xs follows wrote (Err Write) (at, text, undone, (n, within, app)) = record {
@@ -154,40 +210,41 @@ module _ (w : World) (moments input : List ℕ) (old : KeeperState) (before : Op
     text = text;
     undone = undone;
     out = take n text;
-    goes_out = inr (n, within, refl);
+    goes_out = ([], tt, drop n text, take-append-drop n text ∙ sym (append-nil text));
     output = Appends-trans before after after2 (joined (map reply_in xs)) (take n text) wrote app;
   }
   fallen_at new after after2 p xs follows wrote (Err Read) (at, text, undone, h) = absurd h
 
-  fallen_later : (mid new : KeeperState) (after after2 : Option (List ℕ)) → ((t : Tables) → new.may_leave t → mid.may_leave t) → Grows after after2 → Fallen mid after → Fallen new after2
-  fallen_later mid new after after2 less (out, app) (f, more, e) = (
-    record {
-      answered = f.answered;
-      place = f.place;
-      follows = f.follows;
-      at = at_less f.place mid new less f.at;
-      text = f.text;
-      undone = f.undone;
-      out = f.out ++ out;
-      goes_out = inl (more ++ out, ap (λ (o : List ℕ). o ++ out) e ∙ append_assoc f.text more out);
-      output = subst (λ (o : List ℕ). Appends before after2 o) (append_assoc (joined (map reply_in f.answered)) f.out out) (Appends-trans before after after2 (joined (map reply_in f.answered) ++ f.out) out f.output app);
-    },
-    more ++ out,
-    ap (λ (o : List ℕ). o ++ out) e ∙ append_assoc f.text more out,
-  )
-
-  by_result : (new : KeeperState) (after : Option (List ℕ)) (r : Result Bool LineFail) → Fallen new after → FallenBy new after r
-  by_result new after (Ok over) f = f
-  by_result new after (Err e) f = f.0
+  fallen_later : (mid new : KeeperState) (after after2 : Option (List ℕ)) → ((t : Tables) → new.may_leave t → mid.may_leave t) → (r : Result Bool LineFail) → WritesUndone (is_ok r) after after2 → Fallen mid after → FallenBy new after2 r
+  fallen_later mid new after after2 less r u (f, texts, undone, all) =
+      let are = all_more IsUndoneText texts u.texts undone u.undone in
+      let front : (f.out ++ u.out) ++ u.rest ≡ f.text ++ joined (texts ++ u.texts) =
+      append_assoc f.out u.out u.rest ∙ ap (λ o. f.out ++ o) u.front ∙ ap (λ o. o ++ joined u.texts) all ∙ append_assoc f.text (joined texts) (joined u.texts) ∙ ap (λ o. f.text ++ o) (sym (joined_more texts u.texts)) in
+      let falls : Falls w moments input before after2 new = record {
+        answered = f.answered;
+        place = f.place;
+        follows = f.follows;
+        at = at_less f.place mid new less f.at;
+        text = f.text;
+        undone = f.undone;
+        out = f.out ++ u.out;
+        goes_out = (texts ++ u.texts, are, u.rest, front);
+        output = subst (λ (o : List ℕ). Appends before after2 o) (append_assoc (joined (map reply_in f.answered)) f.out u.out) (Appends-trans before after after2 (joined (map reply_in f.answered) ++ f.out) u.out f.output u.output);
+      } in
+      by r falls (λ full. (falls, texts ++ u.texts, are, sym (append-nil (f.out ++ u.out)) ∙ ap (λ o. (f.out ++ u.out) ++ o) (sym full) ∙ front)) u.is_full
+    where
+      by : (r : Result Bool LineFail) → Falls w moments input before after2 new → (u.rest ≡ [] → Fallen new after2) → (IsTrue (is_ok r) → u.rest ≡ []) → FallenBy new after2 r
+      by (Ok over) falls fallen full = fallen (full refl)
+      by (Err e) falls fallen full = falls
 
   -- it fell in this turn, or before
   pub fallen_on : (mid new : KeeperState) (coming left after after2 : Option (List ℕ)) (n : ℕ) (r : Result Bool LineFail) → Steps mid new → Fell old new
       → (IsTrue mid.trusted → Goes w moments input old before mid coming left after n) → (mid.trusted ≡ false → Fallen mid after)
-      → FallsFrom mid new coming left after after2 (eqb n 999) r → Grows after after2 → FallenBy new after2 r
-  fallen_on mid new coming left after after2 n r steps (tells, stands, fell, clean) goes fallen falls grows = by (either mid.trusted)
+      → FallsFrom mid new coming left after after2 (eqb n 999) r → (mid.trusted ≡ false → IsTrue new.is_clean → WritesUndone (is_ok r) after after2) → FallenBy new after2 r
+  fallen_on mid new coming left after after2 n r steps (tells, stands, fell, clean) goes fallen falls undone = by (either mid.trusted)
     where
       by : (mid.trusted ≡ true) ⊎ (mid.trusted ≡ false) → FallenBy new after2 r
-      by (inr shut) = by_result new after2 r (fallen_later mid new after after2 (λ t left. steps.shut shut clean t left) grows (fallen shut))
+      by (inr shut) = fallen_later mid new after after2 (λ t left. steps.shut shut clean t left) r (undone shut clean) (fallen shut)
       by (inl open_) =
           let (p, xs, follows, kept, here, going, count, few, wrote) = goes open_ in
           let at = kept.tables open_ in

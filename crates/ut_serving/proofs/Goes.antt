@@ -22,7 +22,7 @@ follows_more : (p q r : Place) (xs : List Exchange) (x : Exchange) → Follows p
 follows_more p q r [] x e h = (r, subst (λ (y : Place). IsAnswered y x r) e h, refl)
 follows_more p q r (y ∷ xs) x (next, a, f) h = (next, a, follows_more next q r xs x f h)
 
-joined_more : (ts us : List (List ℕ)) → joined (ts ++ us) ≡ joined ts ++ joined us
+pub joined_more : (ts us : List (List ℕ)) → joined (ts ++ us) ≡ joined ts ++ joined us
 joined_more [] us = refl
 joined_more (t ∷ ts) us = ap (λ o. t ++ o) (joined_more ts us) ∙ sym (append_assoc t (joined ts) (joined us))
 

@@ -4,7 +4,7 @@ use Rattle.std.specs.Prelude.{IsErrOf, OnErr, is_ok, nat_lt}
 use Rattle.ut_value.specs.Causes.{Rose}
 use Rattle.ut_http.specs.declared.message.HttpMessage.{HttpMessage}
 use Rattle.ut_http.specs.Reply.{reply_to, store_failed, no_memory}
-use Rattle.ut_keeper.specs.State.{KeeperCause, KeeperState, Shows, StaysAfter, Steps, Tells}
+use Rattle.ut_keeper.specs.State.{KeeperCause, KeeperState, Quiet, Shows, Steps, Tells, TrustedAfter}
 use Rattle.ut_keys.specs.declared.fail.StoreFail.{StoreFail}
 use Rattle.ut_keys.specs.declared.fail.StoreFail.TheVariants.{Keeper, Memory}
 use Rattle.ut_model.specs.Callers.{Named}
@@ -78,11 +78,20 @@ kept_by (Some n) m close now old new a h told made = by (nat_lt n.org (2 ^ 32)) 
     by true lo = not_made old new a ((h.0 (lower lo)).kept told) made
     by false hi = (h.1 (upper hi)).kept told
 
-pub acknowledged_by : (old new : KeeperState) (a : Answer) → StaysAfter (is_ok (outcome_of a)) old new → IsMade a → StaysAfter true old new
-acknowledged_by old new (Made bytes) h made = h
-acknowledged_by old new (Damaged bytes) h made = absurd made
-acknowledged_by old new (Unavailable close) h made = absurd made
-acknowledged_by old new (OutOfMemory close) h made = absurd made
+pub acknowledged_by : (new : KeeperState) (a : Answer) → TrustedAfter (is_ok (outcome_of a)) new → IsMade a → TrustedAfter true new
+acknowledged_by new (Made bytes) h made = h
+acknowledged_by new (Damaged bytes) h made = absurd made
+acknowledged_by new (Unavailable close) h made = absurd made
+acknowledged_by new (OutOfMemory close) h made = absurd made
+
+pub quiet_by : (old new : KeeperState) (a : Answer) → Quiet old new (IsErrOf (outcome_of a) Keeper) → Quiet old new (IsUnavailable a)
+quiet_by old new a h none = h (λ failed. none (fallen a failed))
+  where
+    fallen : (a : Answer) → IsErrOf (outcome_of a) Keeper → IsUnavailable a
+    fallen (Made bytes) f = absurd cc
+    fallen (Damaged bytes) f = absurd cc
+    fallen (Unavailable close) f = tt
+    fallen (OutOfMemory close) f = absurd cc
 
 pub cause_by : (old new : KeeperState) (a : Answer) → KeeperCause old new (IsErrOf (outcome_of a) Keeper) → KeeperCause old new (IsUnavailable a)
 cause_by old new a h = record { rose = λ failed. h.rose (fallen a failed); never = λ sure failed. h.never sure (fallen a failed) }

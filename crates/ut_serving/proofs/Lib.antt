@@ -1,6 +1,7 @@
 pub mod Kept
 pub mod Judging
 pub mod Messages
+pub mod Asked
 pub mod Worlds
 pub mod Leading
 pub mod Turned

@@ -1,10 +1,10 @@
 -- One message over a keeper: judged over a draft, which is then ended.
-use Rattle.std.proofs.Common.{◌≡◌, ◌⊎◌, inl, inr, ℕ, ◌+◌, ◌≤◌, Bool, IsTrue, List, Option, Some, None, Result, Ok, Err, refl, sym, ap, subst, ◌∙◌, arith}
+use Rattle.std.proofs.Common.{◌≡◌, ◌⊎◌, inl, inr, ℕ, ◌+◌, ◌≤◌, Bool, true, IsTrue, List, Option, Some, None, Result, Ok, Err, refl, sym, ap, subst, ◌∙◌, arith}
 use Rattle.std.specs.Prelude.{IfErr, IfOk, IsErrOf, is_ok, length}
 use Rattle.ut_keeper.specs.Draft.{ChangesNothing, DraftWorks, Held, count_of, removals_of}
 use Rattle.ut_keeper.specs.Laid.{removals}
 use Rattle.ut_keeper.proofs.Calls.{steps_on}
-use Rattle.ut_keeper.specs.State.{KeeperCause, KeeperState, Shows, StaysAfter, Steps, Tells, data_table}
+use Rattle.ut_keeper.specs.State.{KeeperCause, KeeperState, Quiet, Shows, StaysAfter, Steps, Tells, TrustedAfter, data_table}
 use Rattle.ut_keeper.specs.Tables.{Tables}
 use Rattle.ut_keys.specs.declared.fail.StoreFail.{StoreFail}
 use Rattle.ut_keys.specs.declared.fail.StoreFail.TheVariants.{Damaged, Keeper, Memory}
@@ -122,6 +122,18 @@ module _ {K : Type 0} (state : K → KeeperState) (d e : Held K) (new : KeeperSt
       by (Err f) (Ok y) first then stopped done = absurd cc
       by (Err f) (Err h) first then stopped done = absurd cc
 
+  -- a reply is made only while the keeper is trusted, if the draft began so
+  trusted_by : TrustedAfter true (state d.keeper.now) → StaysAfter (is_ok j) (state d.keeper.now) (state e.keeper.now) → (IsTrue (is_ok j) → StaysAfter (is_ok r) (state e.keeper.now) new) → IfErr j (λ f. r ≡ Err f)
+      → Steps (state d.keeper.now) (state e.keeper.now) → Steps (state e.keeper.now) new → TrustedAfter (is_ok r) new
+  trusted_by before first then stopped one two done clean = stays_by first then stopped two (before refl (one.was_clean (two.was_clean clean))) done clean
+
+  quiet_by : Quiet (state d.keeper.now) (state e.keeper.now) (IsErrOf j Keeper) → Quiet (state e.keeper.now) new (FailsAtCommit j r) → IfErr j (λ f. r ≡ Err f) → Quiet (state d.keeper.now) new (IsErrOf r Keeper)
+  quiet_by first later stopped none = by j first later stopped
+    where
+      by : (j : Returned) → Quiet (state d.keeper.now) (state e.keeper.now) (IsErrOf j Keeper) → Quiet (state e.keeper.now) new (FailsAtCommit j r) → IfErr j (λ f. r ≡ Err f) → new.faults ≡ (state d.keeper.now).faults
+      by (Ok x) first later stopped = later none ∙ first (λ fell. cc)
+      by (Err f) first later stopped = later (λ none. none) ∙ first (λ fell. none (let is : f ≡ Keeper = cc in stopped ∙ ap (λ e. Err e) is))
+
   cause_by : KeeperCause (state d.keeper.now) (state e.keeper.now) (IsErrOf j Keeper) → KeeperCause (state e.keeper.now) new (FailsAtCommit j r) → IfErr j (λ f. r ≡ Err f) → Steps (state d.keeper.now) (state e.keeper.now) → Steps (state e.keeper.now) new
       → KeeperCause (state d.keeper.now) new (IsErrOf r Keeper)
   cause_by first later stopped before after = by j r first later stopped
@@ -142,11 +154,12 @@ module _ {K : Type 0} (state : K → KeeperState) (d e : Held K) (new : KeeperSt
 
   -- what the request keeps of the keeper
   pub asks_by : ChangesNothing d → DraftWorks state request_changes request_gone (shown_most state d) d e → StaysAfter (is_ok j) (state d.keeper.now) (state e.keeper.now)
-      → KeeperCause (state d.keeper.now) (state e.keeper.now) (IsErrOf j Keeper) → Finishes j (count_of e) (state e.keeper.now) new r → Asks (state d.keeper.now) new r
-  asks_by empty works stays cause finishes = record {
+      → KeeperCause (state d.keeper.now) (state e.keeper.now) (IsErrOf j Keeper) → Quiet (state d.keeper.now) (state e.keeper.now) (IsErrOf j Keeper) → Finishes j (count_of e) (state e.keeper.now) new r → TrustedAfter true (state d.keeper.now) → Asks (state d.keeper.now) new r
+  asks_by empty works stays cause quiet finishes before = record {
     steps = steps_on (state d.keeper.now) (state e.keeper.now) new works.reads.steps finishes.steps;
-    stays = stays_by stays finishes.stays finishes.stopped finishes.steps;
+    trusted = trusted_by before stays finishes.stays finishes.stopped works.reads.steps finishes.steps;
     cause = cause_by cause finishes.cause finishes.stopped works.reads.steps finishes.steps;
+    quiet = quiet_by quiet finishes.quiet finishes.stopped;
     written = let few : count_of e ≤ count_of d + request_changes = works.changes in let none : count_of d ≡ 0 = ap length empty in omega (arith, few, none, finishes.written, works.reads.written);
     shown = λ told.
         let most = works.shows (told.0, finishes.steps.stood told.1) in

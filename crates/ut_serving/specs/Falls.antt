@@ -1,8 +1,9 @@
--- A keeper that falls, which is trusted no more: in which request of the connections that are served, and what a crash leaves
--- from then on. Source: J. Gray and A. Reuter, "Transaction Processing: Concepts and Techniques" (1993), of durability and of
+-- A keeper that falls, which is trusted no more: in which request of the connections that are served, that nothing from it on is
+-- acknowledged, and what a crash leaves from then on. Source: J. Gray and A. Reuter, "Transaction Processing: Concepts and Techniques" (1993), of durability and of
 -- the one request whose outcome is in doubt.
-use Rattle.std.specs.Prelude.{◌≡◌, ◌⊎◌, ℕ, ◌≤◌, Bool, false, ◌||◌, ◌==◌, IsTrue, List, [], ◌∷◌, ◌++◌, length, map, take, Option, Some, Result, Ok, Err}
+use Rattle.std.specs.Prelude.{◌≡◌, ◌⊎◌, ℕ, Bool, false, ◌||◌, ◌==◌, IsTrue, List, [], ◌∷◌, ◌++◌, map, Option, Some, Result, Ok, Err}
 use Rattle.std.specs.Io.KnownBytes.{Appends}
+use Rattle.std.specs.List.{AllByRecursion}
 use Rattle.ut_http.specs.declared.message.HttpMessage.{HttpMessage}
 use Rattle.ut_http.specs.Item.{whole, IsItem}
 use Rattle.ut_http.specs.Reply.{reply_to, store_failed, no_memory}
@@ -16,7 +17,7 @@ use Rattle.ut_step.specs.Built.{step}
 use Rattle.ut_model.specs.Step.{Message}
 use Rattle.ut_model.specs.World.{World}
 use Rattle.ut_stands.specs.Stands.{Stands}
-use Rattle.ut_serving.specs.Connections.{Connection, Place, AreServed, Follows, begins, inputs_of, joined, outputs_of}
+use Rattle.ut_serving.specs.Connections.{Connection, Over, Place, AreServed, Follows, begins, inputs_of, joined, last_words, outputs_of}
 use Rattle.ut_serving.specs.Exchanges.{Exchange, reply_in}
 use Rattle.ut_serving.specs.Requests.{message_in}
 use Rattle.ut_serving.specs.Turning.{Wrote}
@@ -36,6 +37,20 @@ abbrev pub IsUndone : (method : List ℕ) → (close : Bool) → List ℕ → Ty
 IsUndone method close text =
     (text ≡ reply_to method 503 store_failed close)
     ⊎ ((text ≡ reply_to method 507 no_memory close) ⊎ (text ≡ reply_to method 500 damaged_body close))
+
+-- a text that acknowledges nothing: such a reply, or the last words of a connection
+abbrev pub IsUndoneText : List ℕ → Type 0
+IsUndoneText text = ((method : List ℕ) × (close : Bool) × IsUndone method close text) ⊎ ((over : Over) × (last_words over ≡ text ∷ []))
+
+-- texts that acknowledge nothing were written, one after the other: all whole, or a front of them
+pub record WritesUndone (full : Bool) (before after : Option (List ℕ)) : Type 0 where
+  pub texts : List (List ℕ)
+  pub undone : AllByRecursion IsUndoneText texts
+  pub out : List ℕ
+  pub rest : List ℕ
+  pub front : out ++ rest ≡ joined texts
+  pub is_full : IsTrue full → rest ≡ []
+  pub output : Appends before after out
 
 -- ---- one request
 
@@ -70,9 +85,9 @@ FallsIn p new before after result = (at : FallsAt p new) × (text : List ℕ) ×
 
 -- ---- a connection
 
--- what was written from the request on: the reply and more, or a prefix of the reply
-abbrev pub BeginsWith : List ℕ → List ℕ → Type 0
-BeginsWith text out = ((more : List ℕ) × (out ≡ text ++ more)) ⊎ ((n : ℕ) × (n ≤ length text) × (out ≡ take n text))
+-- what was written is a front of this text and of texts behind it that acknowledge nothing
+abbrev pub IsUndoneBehind : List ℕ → List ℕ → Type 0
+IsUndoneBehind text out = (texts : List (List ℕ)) × AllByRecursion IsUndoneText texts × (rest : List ℕ) × (out ++ rest ≡ text ++ joined texts)
 
 -- the keeper fell while a connection was served
 pub record Falls (w : World) (moments input : List ℕ) (before after : Option (List ℕ)) (new : KeeperState) : Type 0 where
@@ -84,9 +99,9 @@ pub record Falls (w : World) (moments input : List ℕ) (before after : Option (
   pub at : FallsAt place new
   pub text : List ℕ
   pub undone : IsUndone at.request.method (closes place new at) text
-  -- the replies before it were written, and then this one
+  -- the replies before it were written, then this one, and behind it nothing that acknowledges anything
   pub out : List ℕ
-  pub goes_out : BeginsWith text out
+  pub goes_out : IsUndoneBehind text out
   pub output : Appends before after (joined (map reply_in answered) ++ out)
 
 -- ---- the connections of a door
@@ -106,17 +121,13 @@ pub record FallsServing (w : World) (moments : List ℕ) (d e : DoorState) (new 
   pub more : List (List ℕ)
   pub outputs_are : outputs e ≡ outputs d ++ (outputs_of served ++ output ∷ more)
   pub falls : Falls between later input (Some []) (Some output) new
+  -- and no connection after it was told that anything is done
+  pub undone : AllByRecursion (IsUndoneBehind []) more
 
 -- the same of a door that tells what it holds
 abbrev pub FallsBringing : World → List ℕ → DoorState → Option DoorState → KeeperState → Type 0
 FallsBringing w moments d held new = (e : DoorState) × (held ≡ Some e) × FallsServing w moments d e new
 
--- ---- what only grows
-
--- some text was appended, where the output is told
-abbrev pub Grows : Option (List ℕ) → Option (List ℕ) → Type 0
-Grows before after = (out : List ℕ) × Appends before after out
-
--- a door that tells what it holds still does, and has further outputs behind those that it had
-abbrev pub OutputsGrow : Option DoorState → Option DoorState → Type 0
-OutputsGrow old new = (d : DoorState) → old ≡ Some d → (e : DoorState) × (new ≡ Some e) × (more : List (List ℕ)) × (outputs e ≡ outputs d ++ more)
+-- a door that tells what it holds still does, and behind the outputs that it had it has such as acknowledge nothing
+abbrev pub OutputsUndone : Option DoorState → Option DoorState → Type 0
+OutputsUndone old new = (d : DoorState) → old ≡ Some d → (e : DoorState) × (new ≡ Some e) × (more : List (List ℕ)) × AllByRecursion (IsUndoneBehind []) more × (outputs e ≡ outputs d ++ more)

@@ -1,8 +1,8 @@
 -- What one message comes to in the organisation that its key names, over any tables: those of others may be damaged.
-use Rattle.std.specs.Prelude.{◌≡◌, ◌<◌, ◌≤◌, ◌+◌, ◌^◌, ℕ, Bool, IfOk, IsErrOf, IsTrue, List, Option, Some, None, Result, Ok, Err, is_ok}
+use Rattle.std.specs.Prelude.{◌≡◌, ◌≢◌, ◌<◌, ◌≤◌, ◌+◌, ◌^◌, ℕ, Bool, IfErr, IfOk, IsErrOf, IsTrue, List, Option, Some, None, Result, Ok, Err, is_ok}
 use Rattle.ut_http.specs.declared.message.HttpMessage.{HttpMessage}
 use Rattle.ut_http.specs.Reply.{reply_to}
-use Rattle.ut_keeper.specs.State.{KeeperCause, KeeperState, LeavesNoMore, Shows, ShowsMost, StaysAfter, Steps, Tells}
+use Rattle.ut_keeper.specs.State.{KeeperCause, KeeperState, LeavesNoMore, Quiet, Reads, Shows, ShowsMost, Steps, Tells, TrustedAfter, data_table}
 use Rattle.ut_keeper.specs.Tables.{Tables}
 use Rattle.ut_keys.specs.declared.fail.StoreFail.{StoreFail}
 use Rattle.ut_keys.specs.declared.fail.StoreFail.TheVariants.{Damaged, Keeper, Memory}
@@ -104,10 +104,20 @@ Replies m close old new (Err e) = Unit {0}
 
 -- ---- the keeper
 
--- what a request keeps of a keeper: few rows are written, and few are shown
+-- what is asked before a message: rows are read, and if that was done the keeper is still trusted, as long as it is clean
+pub record AsksFirst (old new : KeeperState) (result : Result (Unit {0}) StoreFail) : Type 0 where
+  pub reads : Reads old new
+  pub shown : new.shown data_table ≡ old.shown data_table
+  pub trusted : TrustedAfter (is_ok result) new
+  pub undamaged : IfErr result (λ e. e ≢ Damaged)
+  pub cause : KeeperCause old new (IsErrOf result Keeper)
+  pub quiet : Quiet old new (IsErrOf result Keeper)
+
+-- what a request keeps of a keeper: a reply is made only while it is trusted, few rows are written, and few are shown
 pub record Asks {X : Type 0} (old new : KeeperState) (result : Result X StoreFail) : Type 0 where
   pub steps : Steps old new
-  pub stays : StaysAfter (is_ok result) old new
+  pub trusted : TrustedAfter (is_ok result) new
   pub cause : KeeperCause old new (IsErrOf result Keeper)
+  pub quiet : Quiet old new (IsErrOf result Keeper)
   pub written : new.written ≤ old.written + request_changes
   pub shown : Tells old new → ShowsMost request_shown old new

@@ -1,13 +1,13 @@
 //! The connections of a door, served one after the other.
 
-ghost use Rattle.std.specs.Prelude.{◌≡◌, ◌<◌, ◌≤◌, IsErr, ℕ, List, Some};
+ghost use Rattle.std.specs.Prelude.{◌≡◌, ◌<◌, ◌≤◌, false, IsErr, IsTrue, ℕ, List, Some};
 ghost use Rattle.ut_io.specs.Doors.{DoorState};
 ghost use Rattle.ut_value.specs.Causes.{Cause};
 ghost use Rattle.ut_keeper.specs.State.{Steps, Tells};
 ghost use Rattle.ut_model.specs.World.{World};
 ghost use Rattle.ut_stands.specs.Stands.{Stands};
 ghost use Rattle.ut_serving.specs.Doors.{BringsTo, ManyEnds, NextEnds};
-ghost use Rattle.ut_serving.specs.Falls.{FallsBringing, Fell, OutputsGrow};
+ghost use Rattle.ut_serving.specs.Falls.{FallsBringing, Fell, OutputsUndone};
 ghost use Rattle.ut_serving.specs.Leads.{LeadsFrom};
 
 use crate::lines::connection;
@@ -33,7 +33,9 @@ fn serve_next<K: Keeper, D: Door, C: Clock>(
         → (w : World) (d : DoorState) (moments : List ℕ) → Stands (K.state keeper.old).tables w
         → D.held door.old ≡ Some d → C.coming clock.old ≡ Some moments
         → FallsBringing w moments d (D.held door.new) (K.state keeper.new) }
-    ensures grows { OutputsGrow (D.held door.old) (D.held door.new) }
+    // Of a keeper that fell before.
+    ensures undone { (K.state keeper.old).trusted ≡ false → IsTrue (K.state keeper.new).is_clean
+        → OutputsUndone (D.held door.old) (D.held door.new) }
     ensures leads { LeadsFrom (K.state keeper.old) (K.state keeper.new) }
     ensures steps { Steps (K.state keeper.old) (K.state keeper.new) }
     ensures cause { Cause (D.faults door.old) (D.faults door.new) (IsErr result) }

@@ -1,6 +1,6 @@
 //! One connection, served to its end.
 
-ghost use Rattle.std.specs.Prelude.{◌≡◌, ◌⊎◌, ◌<◌, ◌≤◌, ◌==◌, [], false, length, IfOk, IsErrOf, ℕ, List, Ok, Some};
+ghost use Rattle.std.specs.Prelude.{◌≡◌, ◌⊎◌, ◌<◌, ◌≤◌, ◌==◌, [], false, is_ok, length, IfOk, IsErrOf, IsTrue, ℕ, List, Ok, Some};
 ghost use Rattle.std.specs.Io.KnownBytes.{Keeps, prepend_known};
 ghost use Rattle.ut_value.specs.Causes.{Cause};
 ghost use Rattle.ut_http.specs.Item.{IsItem, whole};
@@ -11,7 +11,7 @@ ghost use Rattle.ut_model.specs.World.{World};
 ghost use Rattle.ut_stands.specs.Stands.{Stands};
 ghost use Rattle.ut_serving.specs.Answers.{bytes_in};
 ghost use Rattle.ut_serving.specs.Connections.{Place};
-ghost use Rattle.ut_serving.specs.Falls.{Falls, FallsIn, FallsOn, Fell, Grows};
+ghost use Rattle.ut_serving.specs.Falls.{Falls, FallsIn, FallsOn, Fell, WritesUndone};
 ghost use Rattle.ut_serving.specs.Leads.{LeadsFrom};
 ghost use Rattle.ut_serving.specs.Turning.{IsHere, RefusesWith, RepliesTo, Serves, Turns, Wrote, over_if_written};
 ghost use Rattle.ut_serving.specs.declared.wire.LineFail.TheVariants.{Read, Write};
@@ -88,7 +88,9 @@ fn reply<K: Keeper, W: Wire, C: Clock>(
     ensures falls { Fell (K.state keeper.old) (K.state keeper.new)
         → (w : World) (moments : List ℕ) → Stands (K.state keeper.old).tables w → C.coming clock.old ≡ Some moments
         → FallsOn w message.now moments (K.state keeper.new) (W.output wire.old) (W.output wire.new) result }
-    ensures grows { Grows (W.output wire.old) (W.output wire.new) }
+    // Of a keeper that fell before.
+    ensures undone { (K.state keeper.old).trusted ≡ false → IsTrue (K.state keeper.new).is_clean
+        → WritesUndone (is_ok result) (W.output wire.old) (W.output wire.new) }
     ensures leads { LeadsFrom (K.state keeper.old) (K.state keeper.new) }
     ensures steps { Steps (K.state keeper.old) (K.state keeper.new) }
     ensures unread { Keeps (W.input wire.old) (W.input wire.new) }
@@ -138,7 +140,9 @@ fn turn<K: Keeper, W: Wire, C: Clock>(
         → Keeps (W.input wire.old) (W.input wire.new) }
     ensures read_ahead { result ≡ Ok false
         → Keeps (W.input wire.old) (W.input wire.new) ⊎ (length buffer.new < read_limit) }
-    ensures grows { Grows (W.output wire.old) (W.output wire.new) }
+    // Of a keeper that fell before.
+    ensures undone { (K.state keeper.old).trusted ≡ false → IsTrue (K.state keeper.new).is_clean
+        → WritesUndone (is_ok result) (W.output wire.old) (W.output wire.new) }
     ensures leads { LeadsFrom (K.state keeper.old) (K.state keeper.new) }
     ensures steps { Steps (K.state keeper.old) (K.state keeper.new) }
     ensures stays { W.stays wire.old wire.new }
@@ -177,6 +181,9 @@ fn turns<K: Keeper, W: Wire, C: Clock>(
         → (w : World) (moments input : List ℕ) → Stands (K.state keeper.old).tables w
         → C.coming clock.old ≡ Some moments → prepend_known buffer.old (W.input wire.old) ≡ Some input
         → Falls w moments input (W.output wire.old) (W.output wire.new) (K.state keeper.new) }
+    // Of a keeper that fell before.
+    ensures undone { (K.state keeper.old).trusted ≡ false → IsTrue (K.state keeper.new).is_clean
+        → WritesUndone false (W.output wire.old) (W.output wire.new) }
     ensures leads { LeadsFrom (K.state keeper.old) (K.state keeper.new) }
     ensures steps { Steps (K.state keeper.old) (K.state keeper.new) }
     ensures stays { W.stays wire.old wire.new }
@@ -221,6 +228,9 @@ pub fn connection<K: Keeper, W: Wire, C: Clock>(
         → (w : World) (moments input : List ℕ) → Stands (K.state keeper.old).tables w
         → C.coming clock.old ≡ Some moments → W.input wire.old ≡ Some input
         → Falls w moments input (W.output wire.old) (W.output wire.new) (K.state keeper.new) }
+    // Of a keeper that fell before.
+    ensures undone { (K.state keeper.old).trusted ≡ false → IsTrue (K.state keeper.new).is_clean
+        → WritesUndone false (W.output wire.old) (W.output wire.new) }
     ensures leads { LeadsFrom (K.state keeper.old) (K.state keeper.new) }
     ensures steps { Steps (K.state keeper.old) (K.state keeper.new) }
     ensures stays { W.stays wire.old wire.new }

@@ -2,7 +2,7 @@
 
 ghost use Rattle.std.specs.Prelude.{◌≡◌, ◌+◌, ◌⊎◌, IsTrue, true};
 ghost use Rattle.ut_keeper.specs.Draft.{DraftTells, removals_of, tables_of};
-ghost use Rattle.ut_keeper.specs.State.{KeeperCause, Shows, StaysAfter, Steps, Tells, data_table};
+ghost use Rattle.ut_keeper.specs.State.{KeeperCause, Quiet, Shows, Steps, Tells, TrustedAfter, data_table};
 ghost use Rattle.ut_keeper.specs.Tables.{Tables};
 ghost use Rattle.ut_model.specs.Step.{key_in};
 ghost use Rattle.ut_model.specs.World.{World};
@@ -13,7 +13,7 @@ ghost use Rattle.ut_stands.specs.Stands.{Stands};
 ghost use Rattle.ut_step.specs.Built.{step};
 ghost use Rattle.ut_step.specs.Own.{request_changes, request_gone, request_shown};
 ghost use Rattle.ut_serving.specs.Leads.{LeadsFrom};
-ghost use Rattle.ut_serving.specs.Own.{Asks, DoesMessage, JudgesCaller, JudgesMessage, JudgesReply, JudgesUnnamed, Replies};
+ghost use Rattle.ut_serving.specs.Own.{Asks, AsksFirst, DoesMessage, JudgesCaller, JudgesMessage, JudgesReply, JudgesUnnamed, Replies};
 ghost use Rattle.ut_serving.specs.Requests.{message_in};
 
 use crate::replies::{damaged_bytes, judged_bytes, refusal_bytes_to};
@@ -131,7 +131,37 @@ fn judge<K: Keeper>(
     }
 }
 
-// A request done whole, or not at all.
+// A request done whole, or not at all, over a keeper that is asked by a draft alone.
+fn answer_drafted<K: Keeper>(
+    alloc: Global,
+    routes: &Routes,
+    keeper: &mut K,
+    message: &HttpMessage,
+    now: u64,
+) -> Result<Bytes, StoreFail>
+    ensures does { DoesMessage message.now now (K.state keeper.old) (K.state keeper.new) result }
+    ensures form { Replies (message_in message.now) message.now.close (K.state keeper.old) (K.state keeper.new) result }
+    ensures asks { TrustedAfter true (K.state keeper.old) → Asks (K.state keeper.old) (K.state keeper.new) result }
+{
+    draft_laws::<K>();
+    ended_laws::<Judged<Bytes>, K>();
+    let mut draft = Draft::new(alloc, keeper);
+    let judged = judge(alloc, routes, &mut draft, message, now);
+    finish(alloc, draft, judged)
+}
+
+// Asks the keeper itself, for the row of the version: one that isn't trusted any more fails.
+fn ask_first<K: Keeper>(alloc: Global, keeper: &mut K) -> Result<(), StoreFail>
+    ensures { AsksFirst (K.state keeper.old) (K.state keeper.new) result }
+{
+    let asked = keeper.get(alloc, 0, &[]);
+    match asked {
+        Ok(_row) => Ok(()),
+        Err(fail) => Err(StoreFail::from(fail)),
+    }
+}
+
+// A request done whole, or not at all. The draft may need nothing of the keeper, so the keeper is asked first.
 fn answer_within<K: Keeper>(
     alloc: Global,
     routes: &Routes,
@@ -143,11 +173,10 @@ fn answer_within<K: Keeper>(
     ensures form { Replies (message_in message.now) message.now.close (K.state keeper.old) (K.state keeper.new) result }
     ensures asks { Asks (K.state keeper.old) (K.state keeper.new) result }
 {
-    draft_laws::<K>();
-    ended_laws::<Judged<Bytes>, K>();
-    let mut draft = Draft::new(alloc, keeper);
-    let judged = judge(alloc, routes, &mut draft, message, now);
-    finish(alloc, draft, judged)
+    match ask_first(alloc, keeper) {
+        Ok(()) => answer_drafted(alloc, routes, keeper, message, now),
+        Err(fail) => Err(fail),
+    }
 }
 
 // The answer to one request, by what it comes to over any tables.
@@ -215,10 +244,13 @@ pub fn answer_message<K: Keeper>(
         → (w : World) → Stands (K.state keeper.old).tables w → (m : Tables) → (K.state keeper.new).may_leave m
         → (K.state keeper.old).may_leave m ⊎ Stands m (step w (message_in message.now) now).1 }
 
-    // A reply that the definition of a step makes is given by a keeper that is still trusted.
-    ensures acknowledged { IsMade result → StaysAfter true (K.state keeper.old) (K.state keeper.new) }
+    // A reply that the definition of a step makes is given by a keeper that is still trusted, and by none that fell before.
+    ensures acknowledged { IsMade result → TrustedAfter true (K.state keeper.new) }
     ensures steps { Steps (K.state keeper.old) (K.state keeper.new) }
+
+    // 503 is answered exactly if the keeper counted a fault, unless its count is at its last value.
     ensures cause { KeeperCause (K.state keeper.old) (K.state keeper.new) (IsUnavailable result) }
+    ensures quiet { Quiet (K.state keeper.old) (K.state keeper.new) (IsUnavailable result) }
 {
     local_laws();
     step_laws();

@@ -17,13 +17,11 @@ use Rattle.ut_json.specs.declared.tree.Json.TheOpen.{Json-F}
 use Rattle.ut_json.specs.declared.tree.Json.TheVariants as j
 use Rattle.ut_json.specs.declared.tree.Member.{Member, out-Member}
 use Rattle.ut_json.specs.declared.tree.Num.{Num}
-use Rattle.ut_json.proofs.Shrinks.{bind_some}
-use Rattle.ut_json.proofs.Values.{text_told}
 use Rattle.ut_model.specs.Cases.{in_case}
 use Rattle.ut_model.specs.Given.{json_text}
 use Rattle.ut_model.specs.Members.{Body, body_in, members_in, object_in}
 use Rattle.ut_sound.specs.Fit.{SpellsCharacters}
-use Rattle.ut_sound.proofs.FormsFit.{some_is}
+use Rattle.ut_sound.proofs.FormsFit.{bound, some_is}
 
 -- a text of characters
 abbrev Told : List ℕ → Type 0
@@ -244,13 +242,18 @@ text_good : (cs : List ℕ) (v : Json) → Told cs → IsText cs v → Good v
 text_good cs v h p = (element_keeps (Value depth) (value_keeps depth) cs v [] h p).0
 
 -- ---- bodies
-pub body_spells : (body : List ℕ) → SpellsCharacters body
+
+-- what `json_laws` says of a value that is read
+abbrev pub ReadAsSpelled : Type 0
+ReadAsSpelled = (cs : List ℕ) (v : Json) → json_in cs ≡ Some v → IsText cs v
+
+pub body_spells : ReadAsSpelled → (body : List ℕ) → SpellsCharacters body
 unfolding body_in
-body_spells body b e = by (is_utf8 body) refl e
+body_spells spelled body b e = by (is_utf8 body) refl e
   where
     by : (t : Bool) → is_utf8 body ≡ t → cond t (json_in (chars body) >>= object_in) None ≡ Some b → texts b ≡ true
     by true w e =
-        let v = bind_some (json_in (chars body)) object_in b e in
-        let good = text_good (chars body) v.0 (scalars-chars body (IsUtf8-from_is_utf8 body w)) (text_told (chars body) v.0 v.1) in
+        let v = bound (json_in (chars body)) object_in b e in
+        let good = text_good (chars body) v.0 (scalars-chars body (IsUtf8-from_is_utf8 body w)) (spelled (chars body) v.0 v.1) in
         subst (λ (o : Option Body). in_case o true texts ≡ true) v.2 good.1
     by false w e = absurd cc

@@ -26,7 +26,7 @@ use Rattle.ut_model.specs.Requests.{Request, adds_group, adds_role, asks, cancel
 use Rattle.ut_model.specs.Sound.{IsSound}
 use Rattle.ut_model.specs.Step.{query_text}
 use Rattle.ut_sound.specs.Fit.{IsFit, is_spelled}
-use Rattle.ut_sound.proofs.BodyTexts.{body_spells}
+use Rattle.ut_sound.proofs.BodyTexts.{ReadAsSpelled, body_spells}
 use Rattle.ut_sound.proofs.FormsFit.{access_fits, bound, field_fits, mapped, object_fits, retype_fits, rule_fits, share_fits, some_is, validation_fits, where_is}
 use Rattle.ut_sound.proofs.SoundParts.{parts}
 use Rattle.ut_sound.proofs.GivenFits.{ReadLaw, key_fits, spelled_fits}
@@ -59,13 +59,13 @@ given_spelled (m ∷ b) h = by (all_scalars (json_text m.1)) (not (bytes_eq m.0 
     by true false w h more = more h
     by false keep w h more = absurd cc
 
-assigned : (bytes : List ℕ) (b : Body) (given : List Assignment) → body_in bytes ≡ Some b → assignments b ≡ Some given → list_all (λ (x : Assignment). is_spelled x.given) given ≡ true
+assigned : ReadAsSpelled → (bytes : List ℕ) (b : Body) (given : List Assignment) → body_in bytes ≡ Some b → assignments b ≡ Some given → list_all (λ (x : Assignment). is_spelled x.given) given ≡ true
 unfolding assignments
-assigned bytes b given w e = by (texts_differ (map lower (member_names b))) e
+assigned spelled bytes b given w e = by (texts_differ (map lower (member_names b))) e
   where
     by : (c : Bool) → cond c (Some (map (λ (m : List ℕ × Json). record { field = m.0; given = gives.Json m.1 }) (filter (λ (m : List ℕ × Json). not (bytes_eq m.0 (codes "attributes"))) b))) None ≡ Some given
         → list_all (λ (x : Assignment). is_spelled x.given) given ≡ true
-    by true e = subst (λ (z : List Assignment). list_all (λ (x : Assignment). is_spelled x.given) z ≡ true) (some_is _ given e) (given_spelled b (body_spells bytes b w))
+    by true e = subst (λ (z : List Assignment). list_all (λ (x : Assignment). is_spelled x.given) z ≡ true) (some_is _ given e) (given_spelled b (body_spells spelled bytes b w))
     by false e = absurd cc
 
 -- the value in the path of an upsert is of characters
@@ -131,17 +131,17 @@ by_form : (a : Asked) (bytes : List ℕ) (form : Body → Option Request) (x : R
 by_form a bytes form x fits e = let b = of_body bytes form x e in fits b.0 x b.2
 
 -- the same of a form that also asks that texts are of characters
-by_spelled : (a : Asked) (bytes : List ℕ) (form : Body → Option Request) (x : Request) → ((b : Body) (y : Request) → AreSpelled b → form b ≡ Some y → IsFit a y) → by_body bytes form ≡ Ok x → IsFit a x
-by_spelled a bytes form x fits e = let b = of_body bytes form x e in fits b.0 x (body_spells bytes b.0 b.1) b.2
+by_spelled : ReadAsSpelled → (a : Asked) (bytes : List ℕ) (form : Body → Option Request) (x : Request) → ((b : Body) (y : Request) → AreSpelled b → form b ≡ Some y → IsFit a y) → by_body bytes form ≡ Ok x → IsFit a x
+by_spelled spelled a bytes form x fits e = let b = of_body bytes form x e in fits b.0 x (body_spells spelled bytes b.0 b.1) b.2
 
-module _ (law : ReadLaw) (a : Asked) (body : List ℕ) (x : Request) (sound : IsSound a.tenant) where
+module _ (law : ReadLaw) (spelled : ReadAsSpelled) (a : Asked) (body : List ℕ) (x : Request) (sound : IsSound a.tenant) where
   -- a form of what is given
   by_given : (make : List Assignment → Request) → ((given : List Assignment) → list_all (λ (x : Assignment). is_spelled x.given) given ≡ true → IsFit a (make given))
       → by_body body (λ b. option_map make (assignments b)) ≡ Ok x → IsFit a x
   by_given make fits e =
       let b = of_body body (λ b. option_map make (assignments b)) x e in
       let given = mapped (assignments b.0) make x b.2 in
-      subst (IsFit a) given.2 (fits given.0 (assigned body b.0 given.0 b.1 given.1))
+      subst (IsFit a) given.2 (fits given.0 (assigned spelled body b.0 given.0 b.1 given.1))
 
   pub request_fits : (r : Route) → request_of r body ≡ Ok x → IsFit a x
   unfolding request_of
@@ -156,8 +156,8 @@ module _ (law : ReadLaw) (a : Asked) (body : List ℕ) (x : Request) (sound : Is
   request_fits route.AddObject e = by_form a body object_request x (object_fits a) e
   request_fits (route.SetObject object) e = by_form a body (access_request object) x (access_fits a object) e
   request_fits route.AddField e = by_form a body field_request x (field_fits a) e
-  request_fits route.AddValidationRule e = by_spelled a body validation_request x (validation_fits a) e
-  request_fits route.AddSharingRule e = by_spelled a body sharing_rule_request x (rule_fits a) e
+  request_fits route.AddValidationRule e = by_spelled spelled a body validation_request x (validation_fits a) e
+  request_fits route.AddSharingRule e = by_spelled spelled a body sharing_rule_request x (rule_fits a) e
   request_fits (route.RemoveSharingRule name) e = subst (IsFit a) (request_is (removes_sharing_rule name) x e) tt
   request_fits route.AddUser e = by_form a body user_request x (user_fits a) e
   request_fits (route.SetUser id) e = by_form a body (user_role_request id) x (user_role_fits a id) e

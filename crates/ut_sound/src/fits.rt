@@ -13,6 +13,7 @@ ghost use Rattle.ut_model.specs.Sound.{IsSound};
 ghost use Rattle.ut_model.specs.Tenant.{Object};
 ghost use Rattle.ut_sound.specs.Fit.{IsFit, OfObjects, ReadsWell, ReadsWellByKey, SpellsCharacters, is_spelled};
 
+use ut_json::json_laws;
 use ut_value::value_laws;
 
 /// What is given in JSON, in texts of characters, is read as values of its fields' types, and so is the key of an upsert. In
@@ -24,6 +25,7 @@ pub fn fit_laws()
         → OfObjects a (λ o. ReadsWellByKey a key text o given) }
     ensures spelled { (body : List ℕ) → SpellsCharacters body }
 {
+    json_laws();
     value_laws();
 }
 
@@ -32,5 +34,6 @@ pub fn requests_fit()
     ensures request { (a : Asked) (r : Route) (body : List ℕ) (x : Request) → IsSound a.tenant
         → request_of r body ≡ Ok x → IsFit a x }
 {
+    json_laws();
     value_laws();
 }

@@ -12,6 +12,7 @@ mod numbers;
 mod objects;
 mod people;
 mod records;
+mod rows;
 mod sharing;
 mod verdicts;
 
@@ -23,5 +24,6 @@ pub use crate::numbers::number_laws;
 pub use crate::objects::objects_sound;
 pub use crate::people::people_sound;
 pub use crate::records::records_sound;
+pub use crate::rows::sound_rows;
 pub use crate::sharing::sharing_sound;
 pub use crate::verdicts::verdicts_sound;

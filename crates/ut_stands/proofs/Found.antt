@@ -8,7 +8,7 @@ use Rattle.std.specs.FinMap.{IsAntisymmetric}
 use Rattle.std.specs.Str.{bytes_eq}
 use Rattle.std.proofs.lemmas.Slice.Eq.{bytes_eq-Decides}
 use Rattle.ut_parts.specs.Shapes.{FitsIn, Val}
-use Rattle.ut_keeper.specs.State.{KeeperCause, KeeperState, StaysAfter}
+use Rattle.ut_keeper.specs.State.{KeeperCause, KeeperState, Quiet, StaysAfter}
 use Rattle.ut_keeper.specs.Tables.{Tables, place_cmp}
 use Rattle.ut_keys.specs.declared.fail.StoreFail.{StoreFail}
 use Rattle.ut_keys.specs.declared.fail.StoreFail.TheVariants.{Keeper, Memory, Damaged}
@@ -118,6 +118,15 @@ stays_so old new (Ok x) h = h
 stays_so old new (Err Damaged) h = h
 stays_so old new (Err Keeper) h = h
 stays_so old new (Err Memory) h = h
+
+pub quiet_so : {X : Type 0} (old new : KeeperState) (r : Result X StoreFail) → Quiet old new (HasFallen (ended r)) → Quiet old new (IsErrOf r Keeper)
+quiet_so {X = X} old new r h none = h (λ f. none (fallen r f))
+  where
+    fallen : (r : Result X StoreFail) → HasFallen (ended r) → IsErrOf r Keeper
+    fallen (Ok x) f = absurd f
+    fallen (Err Damaged) f = absurd f
+    fallen (Err Keeper) f = refl
+    fallen (Err Memory) f = absurd f
 
 pub cause_so : {X : Type 0} (old new : KeeperState) (r : Result X StoreFail) → KeeperCause old new (HasFallen (ended r)) → KeeperCause old new (IsErrOf r Keeper)
 cause_so {X = X} old new r h = record { rose = λ failed. h.rose (fallen r failed); never = λ sure failed. h.never sure (fallen r failed) }

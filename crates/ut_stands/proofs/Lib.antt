@@ -7,6 +7,7 @@ pub mod Users
 pub mod Parts
 pub mod Spelled
 pub mod Found
+pub mod Called
 pub mod Places
 pub mod Standing
 pub mod Edited
@@ -14,6 +15,7 @@ pub mod Listed
 pub mod Pages
 pub mod Numbered
 pub mod MetadataRows
+pub mod RuleRows
 pub mod MetadataLists
 pub mod LayoutReads
 pub mod Organisations

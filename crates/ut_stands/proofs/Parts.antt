@@ -116,21 +116,12 @@ appended same p m after w t q s few sound fits holds = record {
 
 -- ---- another tenant in place of an organisation's
 
-put_found : (w : World) (n : ℕ) (t u : Tenant) → tenant_at w n ≡ Some t → tenant_at (with_tenant w n u) n ≡ Some u
-put_found w zero t u e = absurd cc
-put_found [] (suc n) t u e = absurd cc
-put_found (x ∷ w) (suc zero) t u e = refl
-put_found (x ∷ w) (suc (suc n)) t u e = put_found w (suc n) t u e
+-- what `tenant_laws` says of it: it is found at its place, the others at theirs
+abbrev pub FoundAgain : Type 0
+FoundAgain = (w : World) (n : ℕ) (t u : Tenant) → tenant_at w n ≡ Some t → tenant_at (with_tenant w n u) n ≡ Some u
 
-put_other : (w : World) (n m : ℕ) (u : Tenant) → (m ≡ n → ⊥) → tenant_at (with_tenant w n u) m ≡ tenant_at w m
-put_other w zero m u apart = refl
-put_other [] (suc n) m u apart = refl
-put_other (x ∷ w) (suc zero) zero u apart = refl
-put_other (x ∷ w) (suc zero) (suc zero) u apart = absurd (apart refl)
-put_other (x ∷ w) (suc zero) (suc (suc m)) u apart = refl
-put_other (x ∷ w) (suc (suc n)) zero u apart = refl
-put_other (x ∷ w) (suc (suc n)) (suc zero) u apart = refl
-put_other (x ∷ w) (suc (suc n)) (suc (suc m)) u apart = put_other w (suc n) (suc m) u (λ e. apart (ap suc e))
+abbrev pub LeavesOthers : Type 0
+LeavesOthers = (w : World) (n m : ℕ) (u : Tenant) → (m ≡ n → ⊥) → tenant_at (with_tenant w n u) m ≡ tenant_at w m
 
 length-put : (w : World) (n : ℕ) (u : Tenant) → length (with_tenant w n u) ≡ length w
 length-put w zero u = refl
@@ -148,7 +139,7 @@ all_put P [] (suc n) u h p = h
 all_put P (x ∷ w) (suc zero) u h p = (p, h.1)
 all_put P (x ∷ w) (suc (suc n)) u h p = (h.0, all_put P w (suc n) u h.1 p)
 
-module _ (p : Plan) (w : World) (n : ℕ) (t u : Tenant) (q : OrgPlan) (at : tenant_at w n ≡ Some t) where
+module _ (put_found : FoundAgain) (put_other : LeavesOthers) (p : Plan) (w : World) (n : ℕ) (t u : Tenant) (q : OrgPlan) (at : tenant_at w n ≡ Some t) where
   put_here : (m : ℕ) → m ≡ n → tenant_at (with_tenant w n u) m ≡ Some u
   put_here m e = subst (λ (j : ℕ). tenant_at (with_tenant w n u) j ≡ Some u) (sym e) (put_found w n t u at)
 
@@ -169,11 +160,11 @@ module _ (p : Plan) (w : World) (n : ℕ) (t u : Tenant) (q : OrgPlan) (at : ten
       (λ here. subst (FitsPlan q) (some_is u v (sym (put_here m (eqb-true m n here)) ∙ e)) fits)
       (λ there. plans m v (sym (put_other w n m u (eqb-false m n there)) ∙ e))
 
-pub changed : SameRows → (p : Plan) (m after : Tables) (w : World) (n : ℕ) (t u : Tenant) (q : OrgPlan) → StandsBy p m w → tenant_at w n ≡ Some t → IsSound u → FitsPlan q u
+pub changed : FoundAgain → LeavesOthers → SameRows → (p : Plan) (m after : Tables) (w : World) (n : ℕ) (t u : Tenant) (q : OrgPlan) → StandsBy p m w → tenant_at w n ≡ Some t → IsSound u → FitsPlan q u
     → Holds all_tables after (rows_with n q u (row_at p w)) → StandsBy (with_plan n q p) after (with_tenant w n u)
-changed same p m after w n t u q s at sound fits holds = record {
+changed found other same p m after w n t u q s at sound fits holds = record {
   world = record { few = subst (λ (l : ℕ). l ≤ limit_number limit.Organisations) (sym (length-put w n u)) s.world.few; tenants = all_put IsSound w n u s.world.tenants sound };
-  plans = put_plans p w n t u q at s.plans fits;
+  plans = put_plans found other p w n t u q at s.plans fits;
   opened = λ e. ap (λ (v : World). with_tenant v n u) (s.opened e) ∙ put_none n u;
-  rows = same all_tables after (rows_with n q u (row_at p w)) (row_at (with_plan n q p) (with_tenant w n u)) (λ k f. put_rows p w n t u q at k) holds;
+  rows = same all_tables after (rows_with n q u (row_at p w)) (row_at (with_plan n q p) (with_tenant w n u)) (λ k f. put_rows found other p w n t u q at k) holds;
 }

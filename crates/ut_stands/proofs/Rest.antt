@@ -1,20 +1,24 @@
 -- The rows that stay where an object, a field or another access comes: all but those of the objects and fields that are told.
-use Rattle.std.proofs.Common.{◌≡◌, ℕ, zero, suc, ◌≤◌, Bool, true, false, ◌&&◌, cond, eqb, IsTrue, List, [], ◌∷◌, ◌++◌, map, length, Option, Some, None, refl, sym, ap, ◌∙◌, subst, arith}
-use Rattle.std.specs.Prelude.{filter, if◌then◌else◌, slice_get}
+use Rattle.std.proofs.Common.{◌≡◌, ℕ, zero, suc, ◌≤◌, Bool, true, false, ◌&&◌, cond, eqb, is_lt, IsTrue, List, [], ◌∷◌, ◌++◌, map, length, Option, Some, None, refl, sym, ap, ◌∙◌, subst, arith}
+use Rattle.std.specs.Prelude.{bytes_eq, filter, if◌then◌else◌, slice_get}
 use Rattle.std.specs.Option.{option_and_then, option_map}
 use Rattle.std.proofs.lemmas.Bool.{eqb-true}
+use Rattle.std.proofs.lemmas.Slice.Eq.{bytes_eq-Decides}
 use Rattle.ut_keys.specs.Forms.{row_bytes}
 use Rattle.ut_keys.specs.Keys.{Key, Version, Org, Object, Field, Job, User, Role, Group, Validation, Sharing, Data, Index, Unique, Relation, Owner, Share, Grant}
 use Rattle.ut_keys.specs.Rows.{field_form, job_form}
 use Rattle.ut_model.specs.declared.record.Record.{Record}
 use Rattle.ut_model.specs.NewFields.{with_field}
+use Rattle.ut_model.specs.Ordered.{put_in}
+use Rattle.ut_model.specs.RuleFormulas.{name_cmp}
+use Rattle.ut_model.specs.ValidationRules.{with_validation_rule}
 use Rattle.ut_model.specs.Objects.{change_at, is_of, object_numbered, records_of, with_object_changed}
 use Rattle.ut_model.specs.Sound.{IsSound}
 use Rattle.ut_model.specs.Tenant as model
 use Rattle.ut_model.specs.Tenant.{Tenant}
-use Rattle.ut_stands.specs.Metadata.{field_of, job_of, named_so}
+use Rattle.ut_stands.specs.Metadata.{field_of, job_of, lower_bytes, named_so}
 use Rattle.ut_stands.specs.Plan.{OrgPlan}
-use Rattle.ut_stands.specs.Records.{is_field_key, is_free, is_object_key, is_org_key, suits_flags, with_slot}
+use Rattle.ut_stands.specs.Records.{is_field_key, is_free, is_object_key, is_org_key, is_rule_key, rule_at, suits_flags, with_slot}
 use Rattle.ut_stands.specs.Stands.{row_in}
 use Rattle.ut_stands.proofs.Lookups.{get_past, get_push, mapped_length, pick, some_is}
 use Rattle.ut_stands.proofs.Placed.{changed_rows, get_changed, object_rows, placed, there_same}
@@ -52,31 +56,64 @@ job_row : (slots : ℕ → ℕ → ℕ) (p : OrgPlan) (org : ℕ) (job : Option 
 job_row slots p org None = refl
 job_row slots p org (Some j) = rw (there_same slots p j j.phase j.outcome) refl
 
--- ---- another access
+-- ---- an object that is changed but for its fields
 
-module _ (p : OrgPlan) (t : Tenant) (n : ℕ) (a : Access) (sound : IsSound t) where
-  abbrev set : model.Object → model.Object
-  set x = record x { access = a }
+-- another access changes no rule
+pub rule_of_access : (n : ℕ) (a : Access) (k : Key) (o : model.Object) → rule_at n k (record o { access = a }) ≡ rule_at n k o
+rule_of_access n a (Validation org m name) o = refl
+rule_of_access n a _ o = refl
 
-  pub access_rest : (k : Key) → is_object_key n k ≡ false → row_in p (with_object_changed n set t) k ≡ row_in p t k
+-- texts that differ, the other way round
+apart_too : (a b : List ℕ) → bytes_eq a b ≡ false → bytes_eq b a ≡ false
+apart_too a b e = pick (bytes_eq b a) (λ x. x ≡ false) (λ h. absurd (clash (sym ((bytes_eq-Decides a b).1 (sym ((bytes_eq-Decides b a).0 h))) ∙ e))) (λ _. refl)
+  where
+    clash : true ≡ false → ⊥
+    clash e = cc
+
+-- one rule more changes no other
+other_rule : (key : List ℕ) (r : model.ValidationRule) (rules : List model.ValidationRule) → bytes_eq (lower_bytes r.name) key ≡ false
+    → named_so (λ x. x.name) (put_in (λ a b. name_cmp a.name b.name) r rules) key ≡ named_so (λ x. x.name) rules key
+other_rule key r [] apart = rw apart refl
+other_rule key r (x ∷ rules) apart =
+    pick (is_lt (name_cmp r.name x.name)) (λ b. named_so (λ x. x.name) (cond b (r ∷ x ∷ rules) (x ∷ put_in (λ a b. name_cmp a.name b.name) r rules)) key ≡ named_so (λ x. x.name) (x ∷ rules) key)
+    (λ _. rw apart refl)
+    (λ _. ap (λ (z : Option model.ValidationRule). cond (bytes_eq (lower_bytes x.name) key) (Some x) z) (other_rule key r rules apart))
+
+pub rule_of_more : (n : ℕ) (r : model.ValidationRule) (k : Key) (o : model.Object) → is_rule_key n (lower_bytes r.name) k ≡ false → rule_at n k (with_validation_rule r o) ≡ rule_at n k o
+rule_of_more n r (Validation org m name) o e =
+    pick (eqb m n) (λ b. (b && bytes_eq name (lower_bytes r.name)) ≡ false → cond b (named_so (λ x. x.name) (with_validation_rule r o).validation_rules name) None ≡ cond b (named_so (λ x. x.name) o.validation_rules name) None)
+    (λ _ apart. other_rule name r o.validation_rules (apart_too name (lower_bytes r.name) apart))
+    (λ _ _. refl)
+    e
+rule_of_more n r _ o e = refl
+
+module _ (p : OrgPlan) (t : Tenant) (n : ℕ) (set : model.Object → model.Object) (sound : IsSound t) (same : (o : model.Object) → (set o).fields ≡ o.fields) where
+  same_rule : (org m : ℕ) (name : List ℕ) → ((o : model.Object) → rule_at n (Validation org m name) (set o) ≡ rule_at n (Validation org m name) o) → (x : model.Object) → eqb m n ≡ true
+      → named_so (λ r. r.name) (set x).validation_rules name ≡ named_so (λ r. r.name) x.validation_rules name
+  same_rule org m name rules x is =
+      subst (λ (b : Bool). cond b (named_so (λ r. r.name) (set x).validation_rules name) None ≡ cond b (named_so (λ r. r.name) x.validation_rules name) None) is (rules x)
+
+  pub described_rest : (k : Key) → ((o : model.Object) → rule_at n k (set o) ≡ rule_at n k o) → is_object_key n k ≡ false → row_in p (with_object_changed n set t) k ≡ row_in p t k
   unfolding row_in
-  access_rest Version e = refl
-  access_rest (Org org) e = rw (length_changed n set t.objects) refl
-  access_rest (Object org m) e = rw (elsewhere n set t.objects m e) refl
-  access_rest (Field org m g) e = ap (option_map (λ f. row_bytes field_form (field_of org p m g f))) (through (λ (x : model.Object). slice_get x.fields g) n set t.objects m (λ x at is. refl))
-  access_rest (Job org) e = refl
-  access_rest (User org id) e = refl
-  access_rest (Role org id) e = refl
-  access_rest (Group org id) e = refl
-  access_rest (Validation org m name) e = ap (option_map _) (through (λ (x : model.Object). named_so (λ r. r.name) x.validation_rules name) n set t.objects m (λ x at is. refl))
-  access_rest (Sharing org name) e = refl
-  access_rest (Data org m id) e = changed_rows p t n set m sound (λ o. refl) (Data org m id) refl
-  access_rest (Index org m slot value id) e = changed_rows p t n set m sound (λ o. refl) (Index org m slot value id) refl
-  access_rest (Unique org m slot value) e = changed_rows p t n set m sound (λ o. refl) (Unique org m slot value) refl
-  access_rest (Relation org m slot target id) e = changed_rows p t n set m sound (λ o. refl) (Relation org m slot target id) refl
-  access_rest (Owner org m owner id) e = refl
-  access_rest (Share org id to) e = refl
-  access_rest (Grant org to m id cause) e = refl
+  described_rest Version rules e = refl
+  described_rest (Org org) rules e = rw (length_changed n set t.objects) refl
+  described_rest (Object org m) rules e = rw (elsewhere n set t.objects m e) refl
+  described_rest (Field org m g) rules e =
+      ap (option_map (λ f. row_bytes field_form (field_of org p m g f))) (through (λ (x : model.Object). slice_get x.fields g) n set t.objects m (λ x at is. ap (λ (fs : List model.Field). slice_get fs g) (same x)))
+  described_rest (Job org) rules e = refl
+  described_rest (User org id) rules e = refl
+  described_rest (Role org id) rules e = refl
+  described_rest (Group org id) rules e = refl
+  described_rest (Validation org m name) rules e =
+      ap (option_map _) (through (λ (x : model.Object). named_so (λ r. r.name) x.validation_rules name) n set t.objects m (λ x at is. same_rule org m name rules x is))
+  described_rest (Sharing org name) rules e = refl
+  described_rest (Data org m id) rules e = changed_rows p t n set m sound same (Data org m id) refl
+  described_rest (Index org m slot value id) rules e = changed_rows p t n set m sound same (Index org m slot value id) refl
+  described_rest (Unique org m slot value) rules e = changed_rows p t n set m sound same (Unique org m slot value) refl
+  described_rest (Relation org m slot target id) rules e = changed_rows p t n set m sound same (Relation org m slot target id) refl
+  described_rest (Owner org m owner id) rules e = refl
+  described_rest (Share org id to) rules e = refl
+  described_rest (Grant org to m id cause) rules e = refl
 
 -- ---- one more object
 

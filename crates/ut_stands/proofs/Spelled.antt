@@ -6,11 +6,14 @@ use Rattle.std.specs.Char.{encode_utf8}
 use Rattle.std.specs.Str.{all_scalars, bytes_eq}
 use Rattle.std.proofs.lemmas.Bool.Decides.{nat_tests}
 use Rattle.std.proofs.lemmas.Slice.Eq.{bytes_eq-Decides}
-use Rattle.std.proofs.lemmas.Str.{length-encode, len_utf8_bounds}
+use Rattle.std.proofs.lemmas.Str.{encode_ascii, length-encode, len_utf8_bounds}
+use Rattle.std.proofs.lemmas.Str.Ascii.{lowercase_ascii}
 use Rattle.std.proofs.lemmas.List.{take-append-drop}
+use Rattle.ut_value.specs.Bytes.{IsBytes}
 use Rattle.ut_value.specs.Digits.{digits}
 use Rattle.ut_value.specs.Id.{digit62, is_digit62, is_id}
 use Rattle.ut_value.specs.Numerals.{is_within}
+use Rattle.ut_value.specs.Texts.{lower}
 use Rattle.ut_value.specs.Types.{is_choice, is_reference, is_type}
 use Rattle.ut_value.specs.declared.value.FieldType.{FieldType}
 use Rattle.ut_value.specs.declared.value.FieldType.TheVariants as type
@@ -21,6 +24,7 @@ use Rattle.ut_model.specs.Names.{begins_with_letter, in_stem, is_child_name, is_
 use Rattle.ut_model.specs.Objects.{record_prefix}
 use Rattle.ut_model.specs.Relationships.{target_of}
 use Rattle.ut_model.specs.SoundSharing.{IsCursor}
+use Rattle.ut_stands.specs.Metadata.{lower_bytes}
 use Rattle.ut_stands.proofs.Names.{MakesIds, drawn_is_id}
 
 pub both : (a b : Bool) → (a && b) ≡ true → (a ≡ true) × (b ≡ true)
@@ -41,7 +45,7 @@ four_each : (cs : List ℕ) → length (encode_utf8_all cs) ≤ 4 * length cs
 four_each [] = omega arith
 four_each (c ∷ cs) = omega (arith, four_each cs, length-append (encode_utf8 c) (encode_utf8_all cs), length-encode c, (len_utf8_bounds c).1)
 
-pub short_fits : (cs : List ℕ) → length cs ≤ 1000 → all_scalars cs ≡ true → FitsText cs
+pub short_fits : (cs : List ℕ) → length cs ≤ 4000 → all_scalars cs ≡ true → FitsText cs
 short_fits cs short scalars = (omega (arith, four_each cs, short), scalars)
 
 abbrev AreAscii : List ℕ → Type 0
@@ -71,12 +75,35 @@ stem_ascii (c ∷ d ∷ cs) h =
     let p = both (is_digit62 c || (is_underscore c && is_digit62 d)) (in_stem (d ∷ cs)) h in
     (stem_low c d p.0, stem_ascii (d ∷ cs) p.1)
 
-stem_is : (cs : List ℕ) → is_stem cs ≡ true → (length cs ≤ 40) × AreAscii cs
+pub stem_is : (cs : List ℕ) → is_stem cs ≡ true → (length cs ≤ 40) × AreAscii cs
 unfolding is_stem
 stem_is cs h =
     let p = both (is_within 1 40 (length cs)) (begins_with_letter cs && in_stem cs) h in
     let q = both (begins_with_letter cs) (in_stem cs) p.1 in
     ((within 1 40 (length cs) p.0).1, stem_ascii cs q.1)
+
+-- a stem in lower case is its own bytes
+ascii_lower : (cs : List ℕ) → AreAscii cs → AreAscii (lower cs)
+ascii_lower [] h = tt
+ascii_lower (c ∷ cs) h = (lowercase_ascii c h.0, ascii_lower cs h.1)
+
+ascii_encoded : (cs : List ℕ) → AreAscii cs → encode_utf8_all cs ≡ cs
+ascii_encoded [] h = refl
+ascii_encoded (c ∷ cs) h = rw (encode_ascii c h.0, ascii_encoded cs h.1) refl
+
+ascii_bytes : (cs : List ℕ) → AreAscii cs → IsBytes cs
+ascii_bytes [] h i = omega arith
+ascii_bytes (c ∷ cs) h zero = let low : c < 128 = h.0 in omega arith
+ascii_bytes (c ∷ cs) h (suc i) = ascii_bytes cs h.1 i
+
+pub stem_encoded : (cs : List ℕ) → is_stem cs ≡ true → lower_bytes cs ≡ lower cs
+stem_encoded cs h = ascii_encoded (lower cs) (ascii_lower cs (stem_is cs h).1)
+
+pub stem_bytes : (cs : List ℕ) → is_stem cs ≡ true → IsBytes (lower_bytes cs)
+stem_bytes cs h = subst IsBytes (sym (stem_encoded cs h)) (ascii_bytes (lower cs) (ascii_lower cs (stem_is cs h).1))
+
+pub stem_fits : (cs : List ℕ) → is_stem cs ≡ true → FitsText cs
+stem_fits cs h = let s = stem_is cs h in short_fits cs (omega (arith, s.0)) (ascii_scalars cs s.1)
 
 -- a stem and an ending of three characters
 ended : (cs ending : List ℕ) → length ending ≡ 3 → AreAscii ending → is_stem (take (length cs - 3) cs) ≡ true → bytes_eq (drop (length cs - 3) cs) ending ≡ true → FitsText cs
@@ -87,7 +114,7 @@ ended cs ending three low stem end =
     let whole : front ++ back ≡ cs = take-append-drop (length cs - 3) cs in
     let s = stem_is front stem in
     let low_back : AreAscii back = subst AreAscii (sym is) low in
-    let size : length cs ≤ 1000 = omega (arith, s.0, sym (length-append front back) ∙ ap length whole, ap length is, three) in
+    let size : length cs ≤ 4000 = omega (arith, s.0, sym (length-append front back) ∙ ap length whole, ap length is, three) in
     short_fits cs size (ascii_scalars cs (subst AreAscii whole (ascii_append front back s.1 low_back)))
 
 pub custom_fits : (cs : List ℕ) → IsTrue (is_custom_name cs) → FitsText cs

@@ -15,7 +15,7 @@ use Rattle.ut_stands.specs.Plan.{FitsPlan, OrgPlan, Plan, with_plan}
 use Rattle.ut_stands.specs.Stands.{StandsBy, org_of_key, row_at, row_in, rows_with}
 use Rattle.ut_stands.proofs.Found.{owned_at, sound_tenant}
 use Rattle.ut_stands.proofs.Lookups.{pick}
-use Rattle.ut_stands.proofs.Parts.{SameRows, changed}
+use Rattle.ut_stands.proofs.Parts.{FoundAgain, LeavesOthers, SameRows, changed}
 use Rattle.ut_stands.specs.Local.{KeepsOthers, StandsIn, is_own, is_place_of, part_of, rows_alone}
 use Rattle.ut_stands.proofs.Places.{PrefixLaws, part_at, place_is}
 
@@ -103,6 +103,6 @@ module _ (laws : PrefixLaws) (exact : IsAntisymmetric place_cmp) (p : Plan) (m a
       (λ other _. at_other laws exact p m after w n q ln s (Some u) s_in others k f other)
       refl
 
-  pub whole : SameRows → tenant_at w n ≡ Some t → StandsBy (with_plan n q p) after (with_tenant w n u)
-  whole same at =
-      changed same p m after w n t u q s at s_in.sound s_in.plan (record { at = at_all; only = λ place row _ e. only_all laws exact p m after w n q ln s (Some u) s_in others place row e })
+  pub whole : FoundAgain → LeavesOthers → SameRows → tenant_at w n ≡ Some t → StandsBy (with_plan n q p) after (with_tenant w n u)
+  whole found other same at =
+      changed found other same p m after w n t u q s at s_in.sound s_in.plan (record { at = at_all; only = λ place row _ e. only_all laws exact p m after w n q ln s (Some u) s_in others place row e })

@@ -1,7 +1,7 @@
 -- What every call over a draft keeps, whatever it answers, as one relation.
 use Rattle.std.specs.Prelude.{ℕ, Bool, true, false, Result, Ok, Err}
 use Rattle.ut_keeper.specs.Draft.{DraftReads, DraftWorks, Held}
-use Rattle.ut_keeper.specs.State.{KeeperCause, KeeperState, StaysAfter}
+use Rattle.ut_keeper.specs.State.{KeeperCause, KeeperState, Quiet, StaysAfter}
 use Rattle.ut_keys.specs.declared.fail.StoreFail.{StoreFail}
 use Rattle.ut_keys.specs.declared.fail.StoreFail.TheVariants.{Damaged, Keeper, Memory}
 use Rattle.ut_stands.specs.declared.fail.EditFail.{EditFail}
@@ -46,14 +46,16 @@ HasFallen stopped = ⊥
 
 module _ {K : Type 0} (state : K → KeeperState) where
   -- a call that reads, to which at most so many data rows are shown: if it was done the keeper is still trusted, and the keeper's
-  -- failure has its cause
+  -- failure has its cause: the count of faults stays the same in every other call
   pub record Calls (shown : ℕ) (e : Ending) (old new : Held K) : Type 0 where
     pub reads : DraftReads state shown old new
     pub stays : StaysAfter (is_done e) (state old.keeper.now) (state new.keeper.now)
     pub cause : KeeperCause (state old.keeper.now) (state new.keeper.now) (HasFallen e)
+    pub quiet : Quiet (state old.keeper.now) (state new.keeper.now) (HasFallen e)
 
   -- a call that changes at most so many places more, and removes at most so many data rows more
   pub record Makes (most gone shown : ℕ) (e : Ending) (old new : Held K) : Type 0 where
     pub works : DraftWorks state most gone shown old new
     pub stays : StaysAfter (is_done e) (state old.keeper.now) (state new.keeper.now)
     pub cause : KeeperCause (state old.keeper.now) (state new.keeper.now) (HasFallen e)
+    pub quiet : Quiet (state old.keeper.now) (state new.keeper.now) (HasFallen e)

@@ -8,17 +8,18 @@ use Rattle.ut_keeper.specs.Tables.{Tables}
 use Rattle.ut_keys.specs.declared.fail.StoreFail.{StoreFail}
 use Rattle.ut_keys.specs.declared.object.ObjectRow.{ObjectRow}
 use Rattle.ut_keys.specs.declared.org.OrgRow.{OrgRow}
+use Rattle.ut_keys.specs.declared.validation.ValidationRow.{ValidationRow}
 use Rattle.ut_keys.specs.declared.fail.StoreFail.TheVariants.{Keeper, Memory, Damaged}
 use Rattle.ut_model.specs.declared.record.Record.{Record}
 use Rattle.ut_model.specs.Cases.{in_case}
 use Rattle.ut_model.specs.Jobs.{is_past}
-use Rattle.ut_model.specs.Objects.{Numbered, is_of, numbered, object_named, object_numbered, record_at, records_of}
+use Rattle.ut_model.specs.Objects.{Numbered, numbered, object_named, object_numbered, records_of}
 use Rattle.ut_model.specs.Tenant.{Field, Job, Tenant}
 use Rattle.ut_stands.specs.declared.layout.FieldPlace.{FieldPlace}
 use Rattle.ut_stands.specs.declared.layout.JobPlace.{JobPlace}
 use Rattle.ut_stands.specs.declared.layout.Layout.{Layout}
 use Rattle.ut_stands.specs.Local.{StandsIn}
-use Rattle.ut_stands.specs.Metadata.{org_of, row_of_object}
+use Rattle.ut_stands.specs.Metadata.{named_so, org_of, row_of_object, validation_of}
 use Rattle.ut_stands.specs.Plan.{OrgPlan, type_there}
 
 -- ---- layouts
@@ -78,13 +79,14 @@ own_row org q t = option_map (org_of org) t
 abbrev pub own_object_row : (org object : ℕ) → OrgPlan → Option Tenant → Option ObjectRow
 own_object_row org n q t = option_and_then (λ u. option_map (row_of_object org u n) (object_numbered u n)) t
 
+-- the row of the validation rule of an object that has this name in lower case
+abbrev pub own_rule_row : (org object : ℕ) → (lower_name : List ℕ) → OrgPlan → Option Tenant → Option ValidationRow
+own_rule_row org n lower_name q t =
+    option_and_then (λ u. option_map (validation_of org n) (option_and_then (λ o. named_so (λ r. r.name) o.validation_rules lower_name) (object_numbered u n))) t
+
 -- ---- records
 
--- of one organisation: the record with this id, if it is of the object
-unfoldable pub record_in : (object : ℕ) → List ℕ → Tenant → Option Record
-record_in n id t = option_and_then (λ r. if is_of n r then Some r else None) (record_at t id)
-
--- at most so many records of the object in the order of their ids: the first, or those after an id
+-- of one organisation: at most so many records of the object in the order of their ids: the first, or those after an id
 unfoldable pub records_after : (object : ℕ) → Option (List ℕ) → (limit : ℕ) → Tenant → List Record
 records_after n after limit t = take limit (filter (λ r. is_past after r.id) (records_of t n))
 

@@ -1,7 +1,7 @@
 -- Operations by their definitions, over a draft and over a keeper: on the world for which tables stand, or on one organisation.
 use Rattle.std.specs.Prelude.{◌≡◌, ◌≢◌, ◌⊎◌, ◌<◌, ◌≤◌, ℕ, ◌+◌, IfErr, IfOk, IsErrOf, IsTrue, OnErr, Option, Result, Ok, Err, Some, is_ok}
 use Rattle.ut_keeper.specs.Draft.{DraftReads, Held, count_of}
-use Rattle.ut_keeper.specs.State.{KeeperCause, KeeperState, Shows, StaysAfter, Steps, Tells}
+use Rattle.ut_keeper.specs.State.{KeeperCause, KeeperState, Quiet, Shows, StaysAfter, Steps, Tells}
 use Rattle.ut_keeper.specs.Tables.{Tables}
 use Rattle.ut_keys.specs.declared.fail.StoreFail.{StoreFail}
 use Rattle.ut_keys.specs.declared.fail.StoreFail.TheVariants.{Damaged, Keeper, Memory}
@@ -103,6 +103,7 @@ pub record Finishes {X : Type 0} (judged : Result (Judged X) StoreFail) (count :
   pub steps : Steps old new
   pub stays : IsTrue (is_ok judged) → StaysAfter (is_ok result) old new
   pub cause : KeeperCause old new (FailsAtCommit judged result)
+  pub quiet : Quiet old new (FailsAtCommit judged result)
   pub written : new.written ≤ old.written + count
   pub unwritten : (IsChange judged → ⊥) → new.written ≡ old.written
   pub shown : new.shown ≡ old.shown

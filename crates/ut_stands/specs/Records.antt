@@ -1,15 +1,16 @@
 -- The rows of an object's records, and when records are kept in the same rows though plan and tenant change.
 -- Source: as in Entries: indexes, unique values and relationships are rows beside those of the records.
-use Rattle.std.specs.Prelude.{◌≡◌, ℕ, Bool, true, false, not, ◌&&◌, ◌==◌, if◌then◌else◌, List, Option, Some, None, is_none}
+use Rattle.std.specs.Prelude.{◌≡◌, ℕ, Bool, true, false, not, ◌&&◌, ◌==◌, if◌then◌else◌, List, bytes_eq, Option, Some, None, is_none}
 use Rattle.std.specs.List.{list_any}
 use Rattle.ut_formula.specs.Meaning.{value_at}
-use Rattle.ut_keys.specs.Keys.{Key, Org, Object, Field, Data, Index, Unique, Relation}
+use Rattle.ut_keys.specs.Keys.{Key, Org, Object, Field, Validation, Data, Index, Unique, Relation}
 use Rattle.ut_model.specs.Cases.{in_case}
 use Rattle.ut_model.specs.Retyping.{job_is_done}
 use Rattle.ut_model.specs.SoundMetadata.{implies}
 use Rattle.ut_model.specs.Tenant as model
 use Rattle.ut_model.specs.Tenant.{Job}
 use Rattle.ut_stands.specs.Entries.{Entry, entry_text, is_indexed, is_reference_to, is_unique, name_text, slot_field}
+use Rattle.ut_stands.specs.Metadata.{named_so}
 use Rattle.ut_stands.specs.declared.layout.Layout.{Layout}
 use Rattle.ut_stands.specs.Plan.{OrgPlan}
 use Rattle.ut_stands.specs.Stands.{Kept}
@@ -35,6 +36,16 @@ is_object_key n _ = false
 abbrev pub is_field_key : (object field : ℕ) → Key → Bool
 is_field_key n f (Field org m g) = (m == n) && (g == f)
 is_field_key n f _ = false
+
+-- the key of the validation rule of an object that has this name in lower case
+abbrev pub is_rule_key : (object : ℕ) → List ℕ → Key → Bool
+is_rule_key n lower_name (Validation org m key) = (m == n) && bytes_eq key lower_name
+is_rule_key n lower_name _ = false
+
+-- the validation rule of the object with this number that a key is of, if the object has it
+abbrev pub rule_at : (object : ℕ) → Key → model.Object → Option model.ValidationRule
+rule_at n (Validation org m name) o = if m == n then named_so (λ r. r.name) o.validation_rules name else None
+rule_at n _ o = None
 
 -- ---- the same rows
 

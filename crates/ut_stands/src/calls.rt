@@ -1,6 +1,6 @@
 ghost use Rattle.std.specs.Prelude.{◌≡◌, ◌≤◌, ◌+◌, ℕ, IsErrOf, Result, is_ok};
 ghost use Rattle.ut_keeper.specs.Draft.{DraftTells, Held, tables_of};
-ghost use Rattle.ut_keeper.specs.State.{KeeperCause, StaysAfter};
+ghost use Rattle.ut_keeper.specs.State.{KeeperCause, Quiet, StaysAfter};
 ghost use Rattle.ut_keys.specs.declared.fail.StoreFail.{StoreFail};
 ghost use Rattle.ut_keys.specs.declared.fail.StoreFail.TheVariants.{Keeper};
 ghost use Rattle.ut_stands.specs.Calls.{Calls, Ending, HasFallen, Makes, done, ended, fell, is_done};
@@ -46,4 +46,6 @@ pub fn ended_laws<X, K: Keeper>()
         → StaysAfter (is_ok result) (K.state old) (K.state new) }
     ensures cause { (old new : K) (result : Result X StoreFail) → KeeperCause (K.state old) (K.state new) (HasFallen (ended result))
         → KeeperCause (K.state old) (K.state new) (IsErrOf result Keeper) }
+    ensures quiet { (old new : K) (result : Result X StoreFail) → Quiet (K.state old) (K.state new) (HasFallen (ended result))
+        → Quiet (K.state old) (K.state new) (IsErrOf result Keeper) }
 {}

@@ -1,7 +1,8 @@
 //! What it means that tables stand for a world, and the reads and writes of typed rows that all operations share.
 //!
-//! It depends on `ut_model` and `ut_keys`. Its contract: what is read of tables that stand for a world is what the world
-//! has there, and tables with the rows of a new or changed organisation stand for the world with it.
+//! It depends on `ut_model` and `ut_keys`. Its contract: what is read of an organisation whose rows stand for a tenant is what
+//! the tenant has there, whatever the rows of others are; and tables with the rows of a new or changed organisation stand for the
+//! world with it.
 #![tactic(auto)]
 
 mod calls;
@@ -28,4 +29,4 @@ pub use crate::local::local_laws;
 pub use crate::opening::{KNOWN_VERSION, open_tables};
 pub use crate::reads::user;
 pub use crate::records::{metadata_laws, record_laws, slot_laws};
-pub use crate::rows::{object_row, object_there, org_row, org_there};
+pub use crate::rows::{object_row, object_there, org_row, org_there, rule_row};

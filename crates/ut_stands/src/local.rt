@@ -14,6 +14,7 @@ ghost use Rattle.ut_stands.specs.Stands.{StandsBy, org_of_key, row_in};
 
 use ut_keeper::{key_laws, walk_laws};
 use ut_keys::table_laws;
+use ut_model::tenant_laws;
 
 /// The laws of one organisation's rows, whatever the rows of others are. The call does nothing.
 pub fn local_laws()
@@ -56,4 +57,5 @@ pub fn local_laws()
     key_laws();
     walk_laws();
     table_laws();
+    tenant_laws();
 }

@@ -5,13 +5,15 @@ ghost use Rattle.ut_keeper.specs.Draft.{DraftTells, tables_of};
 ghost use Rattle.ut_keys.specs.Forms.{FitsForm};
 ghost use Rattle.ut_keys.specs.Rows.{object_form, org_form};
 ghost use Rattle.ut_stands.specs.Calls.{Calls, ended};
-ghost use Rattle.ut_stands.specs.Layouts.{own_object_row, own_row};
+ghost use Rattle.ut_stands.specs.Layouts.{own_object_row, own_row, own_rule_row};
 ghost use Rattle.ut_stands.specs.Local.{FindsIn, FindsThere};
+ghost use Rattle.ut_value.specs.Bytes.{IsBytes};
 
 use std::alloc::Global;
 use ut_keeper::{Draft, Keeper, key_laws};
-use ut_keys::{ObjectRow, OrgRow, StoreFail, row_at, row_laws, table_laws};
+use ut_keys::{Mark, ObjectRow, OrgRow, StoreFail, ValidationRow, row_at, row_laws, table_laws};
 use ut_model::name_laws;
+use ut_value::Bytes;
 
 /// The row of the organisation with this number, if there is one.
 ///
@@ -58,6 +60,31 @@ pub fn object_row<K: Keeper>(
     table_laws();
     row_laws::<ObjectRow>();
     row_at(alloc, draft, &(org, object))
+}
+
+/// The row of the validation rule of an object that has this name in lower case, if there is one.
+///
+/// # Errors
+///
+/// `Keeper` if the keeper failed, `Memory` if out of memory, `Damaged` never if the organisation's rows stand for a tenant or
+/// for none.
+pub fn rule_row<K: Keeper>(
+    alloc: Global,
+    draft: &mut Draft<'_, K>,
+    org: u32,
+    object: u16,
+    lower_name: Bytes,
+) -> Result<Option<ValidationRow>, StoreFail>
+    requires { IsBytes lower_name }
+    ensures finds { DraftTells K.state draft.old draft.new
+        → FindsIn org (own_rule_row org object lower_name) (tables_of K.state draft.old) result }
+    ensures calls { Calls K.state 0 (ended result) draft.old draft.new }
+{
+    key_laws();
+    table_laws();
+    row_laws::<ValidationRow>();
+    name_laws();
+    row_at(alloc, draft, &(org, (Mark::<0>, (object, lower_name))))
 }
 
 /// The row of the organisation with this number, which has to be there.

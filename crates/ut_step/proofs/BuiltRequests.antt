@@ -4,8 +4,7 @@ use Rattle.std.specs.Prelude.{Result, Ok, Err}
 use Rattle.ut_model.specs.declared.refusal.Refusal.{Refusal}
 use Rattle.ut_model.specs.declared.refusal.Refusal.TheVariants.{NotBuilt}
 use Rattle.ut_model.specs.declared.route.Route.{Route}
-use Rattle.ut_model.specs.declared.route.Route.TheVariants as route
-use Rattle.ut_step.specs.Built.{built_request, needs_index, when_built}
+use Rattle.ut_step.specs.Built.{built_request, is_built, needs_index, when_built}
 use Rattle.ut_model.specs.RequestOf.{request_of}
 use Rattle.ut_model.specs.Requests.{Request}
 use Rattle.std.specs.Prelude.{codes}
@@ -19,8 +18,8 @@ read_so (Err r) x e = absurd cc
 read_so (Ok y) x e = ap (λ q. Ok q) (by_flag (needs_index y) (NotBuilt (codes "flag")) y x e)
 
 pub built : (r : Route) (body : List ℕ) (x : Request) → built_request r body ≡ Ok x → request_of r body ≡ Ok x
-unfolding request_of
-built route.AddObject body x e = read_so (request_of route.AddObject body) x e
-built (route.SetObject object) body x e = read_so (request_of (route.SetObject object) body) x e
-built route.AddField body x e = read_so (request_of route.AddField body) x e
-built _ body x e = absurd cc
+built r body x e = by (is_built r) e
+  where
+    by : (b : Bool) → cond b (when_built (request_of r body)) (Err (NotBuilt (codes "route"))) ≡ Ok x → request_of r body ≡ Ok x
+    by true e = read_so (request_of r body) x e
+    by false e = absurd cc

@@ -31,6 +31,7 @@ abbrev pub is_built : Route → Bool
 is_built route.AddObject = true
 is_built (route.SetObject object) = true
 is_built route.AddField = true
+is_built route.AddValidationRule = true
 is_built _ = false
 
 -- a field that is unique or indexed needs rows that aren't written yet

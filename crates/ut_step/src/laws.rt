@@ -63,6 +63,9 @@ pub fn step_rows()
     ensures no_object { step acme (asks_by (codes "q=SELECT+Id,Name+FROM+Deal__c")) 0
         ≡ (refusal_reply (refusal.InvalidType (codes "Deal__c")), acme) }
 
+    // What `whole_laws` takes as given can be met.
+    ensures built { NoJobs acme × IsBuilt acme (asks_by (codes "q=SELECT+Id,Name+FROM+Deal__c")) 0 }
+
     // A word of the language is no name; other queries aren't built.
     ensures no_query { step acme (asks_by (codes "q=SELECT+Id,Name+FROM+Limit")) 0
         ≡ (refusal_reply (refusal.MalformedQuery 20), acme) }

@@ -1,6 +1,6 @@
 //! Another default access of an object.
 
-ghost use Rattle.std.specs.Prelude.{◌≡◌, Some, not};
+ghost use Rattle.std.specs.Prelude.{◌≡◌, IsTrue, Some, not};
 ghost use Rattle.std.specs.Str.{chars};
 ghost use Rattle.ut_keeper.specs.Draft.{DraftTells, tables_of};
 ghost use Rattle.ut_meta.specs.Judging.{AcceptsOn};
@@ -58,7 +58,7 @@ impl Edit for SetAccess<'_> {
 
     ghost planned = { λ e q t next. next ≡ q };
 
-    ghost is_fit = { λ e. not (by_parent e.access) };
+    ghost fits = { λ e a. IsTrue (not (by_parent e.access)) };
 
     ghost most = { 1 };
 

@@ -1,6 +1,6 @@
 //! New fields.
 
-ghost use Rattle.std.specs.Prelude.{◌<◌, ◌≡◌, ◌≢◌, ℕ, IfErr, IfOk, IfSome, Ok, Option};
+ghost use Rattle.std.specs.Prelude.{◌<◌, ◌≡◌, ◌≢◌, ℕ, IfErr, IfOk, IfSome, IsTrue, Ok, Option};
 ghost use Rattle.ut_edits.specs.Rows.{AreSpelled};
 ghost use Rattle.ut_keys.specs.declared.fail.StoreFail.TheVariants.{Keeper, Memory};
 ghost use Rattle.ut_keys.specs.Forms.{FitsForm};
@@ -169,7 +169,7 @@ impl Edit for AddField<'_> {
 
     ghost planned = { λ e. FieldPlanned e.new.now };
 
-    ghost is_fit = { λ e. is_fit_field e.new.now };
+    ghost fits = { λ e a. IsTrue (is_fit_field e.new.now) };
 
     ghost most = { 2 };
 

@@ -1,6 +1,6 @@
 //! New objects.
 
-ghost use Rattle.std.specs.Prelude.{◌++◌, ◌≡◌, ◌≢◌, IfErr, IfOk, IfSome, OnOk, length, map};
+ghost use Rattle.std.specs.Prelude.{◌++◌, ◌≡◌, ◌≢◌, IfErr, IfOk, IfSome, IsTrue, OnOk, length, map};
 ghost use Rattle.ut_edits.specs.Rows.{AreSpelled, spelled};
 ghost use Rattle.ut_keys.specs.declared.fail.StoreFail.TheVariants.{Keeper, Memory};
 ghost use Rattle.ut_keys.specs.Forms.{FitsForm};
@@ -174,7 +174,7 @@ impl Edit for AddObject<'_> {
 
     ghost planned = { λ e q t next. next ≡ with_slot (length t.objects) 0 0 q };
 
-    ghost is_fit = { λ e. is_fit_object e.new.now };
+    ghost fits = { λ e a. IsTrue (is_fit_object e.new.now) };
 
     ghost most = { 3 };
 

@@ -3,8 +3,8 @@ use Rattle.std.specs.Str.{chars}
 use Rattle.ut_keeper.specs.Draft.{tables_of}
 use Rattle.ut_step.specs.Built.{built_request}
 use Rattle.ut_model.specs.Metadata.{set_access}
-use Rattle.ut_model.specs.Requests.{adds_field, adds_object, sets_object}
-use Rattle.ut_model.specs.declared.route.Route.TheVariants.{AddField, AddObject, SetObject}
+use Rattle.ut_model.specs.Requests.{adds_field, adds_object, adds_validation_rule, sets_object}
+use Rattle.ut_model.specs.declared.route.Route.TheVariants.{AddField, AddObject, AddValidationRule, SetObject}
 use Rattle.ut_admin.proofs.Asked.{edits_asked, edits_none, edits_unbuilt, fit, none_drafts, returned}
 use Rattle.ut_admin.proofs.edits.edit.Goals as goal
 
@@ -72,10 +72,19 @@ returns-in_ok-new-in-AddField-clause-what g c told =
     edits_asked c.args.org c.args.route.now AddField body (adds_field new) _ _ _ (tables_of g.K.Keeper.state c.args.draft.now) (tables_of g.K.Keeper.state c.make_edit-in-AddField.new.draft) c.make_edit-in-AddField.result c.in-AddField.is asked (λ a. refl)
     (λ a. c.refusal_laws.ensures.refused a (adds_field new)) (λ a sound. fit c.requests_fit.ensures.request a AddField body (adds_field new) sound asked) (c.make_edit-in-AddField.ensures.what told)
 
+pub returns-in_ok-new-in-AddValidationRule-clause-what :
+    goal.returns-in_ok-new-in-AddValidationRule-clause-what
+returns-in_ok-new-in-AddValidationRule-clause-what g c told =
+    let new = c.in_ok-new-in-AddValidationRule.new in
+    let body = c.args.body.now in
+    let asked = c.in_ok-new-in-AddValidationRule.ensures in
+    edits_asked c.args.org c.args.route.now AddValidationRule body (adds_validation_rule new) _ _ _ (tables_of g.K.Keeper.state c.args.draft.now) (tables_of g.K.Keeper.state c.make_edit-in-AddValidationRule.new.draft) c.make_edit-in-AddValidationRule.result c.in-AddValidationRule.is asked (λ a. refl)
+    (λ a. c.refusal_laws.ensures.refused a (adds_validation_rule new)) (λ a sound. fit c.requests_fit.ensures.request a AddValidationRule body (adds_validation_rule new) sound asked) (c.make_edit-in-AddValidationRule.ensures.what told)
+
 -- ---- another route
 
 pub returns-in_ok-from_str-in_default-clause-what : goal.returns-in_ok-from_str-in_default-clause-what
 unfolding chars
 returns-in_ok-from_str-in_default-clause-what g c told =
     edits_unbuilt c.args.org c.args.route.now c.args.body.now c.in_ok-from_str-in_default.field-0 (tables_of g.K.Keeper.state c.args.draft.now) c.in_default.not-AddObject
-    (λ object. c.in_default.not-SetObject object) c.in_default.not-AddField c.in_ok-from_str-in_default.ensures
+    (λ object. c.in_default.not-SetObject object) c.in_default.not-AddField c.in_default.not-AddValidationRule c.in_ok-from_str-in_default.ensures

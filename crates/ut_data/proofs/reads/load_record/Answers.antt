@@ -6,9 +6,10 @@ use Rattle.ut_keys.specs.Reads.{ReadsAs}
 use Rattle.ut_keys.specs.Rows.{data_form}
 use Rattle.ut_parts.specs.Shapes.{FitsIn}
 use Rattle.ut_data.specs.inner.Found.{found_from}
-use Rattle.ut_data.proofs.Ended.{calls_of, found_is_made, made_calls}
+use Rattle.ut_data.proofs.Ended.{found_is_made, made_calls}
 use Rattle.ut_data.proofs.Loading.{record_finds}
 use Rattle.ut_data.proofs.Standing.{Laws}
+use Rattle.ut_stands.proofs.Called.{calls_of}
 use Rattle.ut_data.proofs.reads.load_record.Goals as goal
 
 pub row_at-row-requires : goal.row_at-row-requires
@@ -19,7 +20,7 @@ returns-clause-finds g c told =
     let m = tables_of g.K.Keeper.state c.args.draft.now in
     let laws : Laws = record { read = c.data_laws.ensures.read; fits = c.data_laws.ensures.fits } in
     let reads = subst (λ (k : ℕ × (ℕ × List ℕ)). ReadsAs data_form k (map.get m (spell (Data k.0 k.1.0 k.1.1))) c.row_at-row.result) c.key_of-key.ensures.is (c.row_at-row.ensures.row told) in
-    record_finds c.row_laws.ensures.found c.key_laws.ensures.exact c.local_laws.ensures.own laws m c.args.layout.now c.args.id.now c.key_of-key.ensures.fits c.row_at-row.result c.record_found.result reads c.record_found.ensures
+    record_finds c.row_laws.ensures.found c.key_laws.ensures.exact c.local_laws.ensures.own laws m c.args.layout.now c.args.id.now c.key_of-key.ensures.fits c.row_at-row.result c.record_found.result reads c.record_found.ensures.found
 
 pub returns-clause-calls : goal.returns-clause-calls
 returns-clause-calls g c =
@@ -28,5 +29,5 @@ returns-clause-calls g c =
     let b = c.row_at-row.new.draft in
     let l = c.args.layout.now in
     let row = c.row_at-row.result in
-    made_calls state 1 a b row (found_from l row) c.record_found.result (found_is_made l row) c.record_found.ensures
-    (calls_of state 1 a b row c.row_at-row.ensures.reads c.row_at-row.ensures.stays c.row_at-row.ensures.cause)
+    made_calls state 1 a b row (found_from l row) c.record_found.result (found_is_made l row) c.record_found.ensures.found c.record_found.ensures.failed
+    (calls_of state 1 a b row c.row_at-row.ensures.reads c.row_at-row.ensures.stays c.row_at-row.ensures.cause c.row_at-row.ensures.quiet)

@@ -32,7 +32,7 @@ returns-clause-finds g c told =
     let fits = c.rows_after-rows.ensures.fits in
     let from = subst (λ (o : Option (List ℕ)). ListsAs data_form (take c.args.limit (rows_to m 7 (start_of (prefix_of l.org l.object) o) (raised (prefix_of l.org l.object)))) rows) (mapped (key_at l.org l.object) (λ (id : Bor Id). id.now) c.args.after) (c.rows_after-rows.ensures.rows told) in
     walk_finds walk m l (option_map {T = Bor Id} {U = Id} (λ id. id.now) c.args.after) c.args.limit fits.0.0 fits.0.1
-    (some_mapped (λ (i : List ℕ). IsTrue (is_id i)) (λ (id : Bor Id). id.now) c.args.after fits.1) rows from c.records_found.result c.records_found.ensures
+    (some_mapped (λ (i : List ℕ). IsTrue (is_id i)) (λ (id : Bor Id). id.now) c.args.after fits.1) rows from c.records_found.result c.records_found.ensures.listed
 
 pub returns-clause-calls : goal.returns-clause-calls
 returns-clause-calls g c =
@@ -48,5 +48,5 @@ returns-clause-calls g c =
     (λ told. let few : seen c.args.limit rows ≤ c.args.limit = few_seen c.args.limit _ rows (c.rows_after-rows.ensures.rows told) in omega (arith, few))
     calls.reads
     in
-    let whole : Calls state most (ended rows) a b = record { reads = reads; stays = calls.stays; cause = calls.cause } in
-    made_calls state most a b rows (listed_from l rows) c.records_found.result (listed_is_made l rows) c.records_found.ensures whole
+    let whole : Calls state most (ended rows) a b = record { reads = reads; stays = calls.stays; cause = calls.cause; quiet = calls.quiet } in
+    made_calls state most a b rows (listed_from l rows) c.records_found.result (listed_is_made l rows) c.records_found.ensures.listed c.records_found.ensures.failed whole

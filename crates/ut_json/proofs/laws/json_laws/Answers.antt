@@ -1,4 +1,5 @@
 use Rattle.ut_json.proofs.Plain.{plain_printed}
+use Rattle.ut_json.proofs.Values.{text_told}
 use Rattle.ut_json.proofs.Written.{number_printed, text_printed}
 use Rattle.ut_json.proofs.Wholes.{whole_printed}
 use Rattle.ut_json.proofs.laws.json_laws.Goals as goal
@@ -14,3 +15,6 @@ returns-clause-texts c = text_printed
 
 pub returns-clause-values : goal.returns-clause-values
 returns-clause-values c = whole_printed
+
+pub returns-clause-spelled : goal.returns-clause-spelled
+returns-clause-spelled c = text_told

@@ -7,6 +7,6 @@ returns c =
       depth = λ parent all a b leads. below_decides parent b all leads a;
       below = below_agrees;
       above = above_agrees;
-      member = member_agrees;
-      reaches = reaches_agrees;
+      member = member_agrees c.principal_laws.ensures.same;
+      reaches = reaches_agrees c.principal_laws.ensures.same;
     }

@@ -20,6 +20,6 @@ returns-in-Ok-clause-adds g c told w s counted =
     let rows : after ≡ with_rows (count + 1) name digest before = c.in-Ok.ensures.ok ∙ ap (λ (x : List ℕ). with_rows (count + 1) name x before) c.digest_of.ensures.value in
     let few : length w < limit_number limit.Organisations = omega (arith, counted, c.if-from-number.false, c.from.ensures, c.number.ensures) in
     let stands =
-    org_stands c.table_laws.ensures.put c.table_laws.ensures.same c.stands_laws.ensures.past c.stands_laws.ensures.appended (c.id_laws.ensures.made user_prefix 0 refl refl) before w name digest
+    org_stands c.organisation_laws.ensures.fresh c.table_laws.ensures.put c.table_laws.ensures.same c.stands_laws.ensures.past c.stands_laws.ensures.appended (c.id_laws.ensures.made user_prefix 0 refl refl) before w name digest
     s few c.requires.name (ap length (sym c.digest_of.ensures.value) ∙ c.digest_of.ensures.size) in
     added before after w name digest count (sym counted) few stands rows

@@ -42,7 +42,7 @@ loop-served-preserved g c =
           bringing.fell_on w moments d (state c.args.keeper.now) (state c.loop-served.keeper) (state c.serve_next.new.keeper) (coming c.loop-served.clock) (held c.loop-served.door) (held c.serve_next.new.door)
           c.loop-served._served (lines_of c.args.door.now) (lines_of c.loop-served.door) c.serve_next.ensures.steps fell
           (λ stands. c.loop-served.invariant.goes (fell.0, stands) w d moments s e asked) (λ shut. c.loop-served.invariant.fallen (fell.0, fell.1, shut, c.serve_next.ensures.steps.was_clean fell.3) w d moments s e asked)
-          c.serve_next.ensures.falls c.serve_next.ensures.grows;
+          c.serve_next.ensures.falls c.serve_next.ensures.undone;
     }
 
 pub returns-in_err-serve_next-clause-leads : goal.returns-in_err-serve_next-clause-leads
@@ -93,7 +93,7 @@ returns-in_err-serve_next-clause-falls g c fell w d moments s e asked =
     bringing.fell_on w moments d (state c.args.keeper.now) (state c.loop-served.keeper) (state c.serve_next.new.keeper) (coming c.loop-served.clock) (held c.loop-served.door) (held c.serve_next.new.door)
     c.loop-served._served (lines_of c.args.door.now) (lines_of c.loop-served.door) c.serve_next.ensures.steps fell
     (λ stands. c.loop-served.invariant.goes (fell.0, stands) w d moments s e asked) (λ shut. c.loop-served.invariant.fallen (fell.0, fell.1, shut, c.serve_next.ensures.steps.was_clean fell.3) w d moments s e asked)
-    c.serve_next.ensures.falls c.serve_next.ensures.grows
+    c.serve_next.ensures.falls c.serve_next.ensures.undone
 
 pub returns-then-not-branch-clause-falls : goal.returns-then-not-branch-clause-falls
 returns-then-not-branch-clause-falls g c fell w d moments s e asked =
@@ -104,7 +104,7 @@ returns-then-not-branch-clause-falls g c fell w d moments s e asked =
     bringing.fell_on w moments d (state c.args.keeper.now) (state c.loop-served.keeper) (state c.serve_next.new.keeper) (coming c.loop-served.clock) (held c.loop-served.door) (held c.serve_next.new.door)
     c.loop-served._served (lines_of c.args.door.now) (lines_of c.loop-served.door) c.serve_next.ensures.steps fell
     (λ stands. c.loop-served.invariant.goes (fell.0, stands) w d moments s e asked) (λ shut. c.loop-served.invariant.fallen (fell.0, fell.1, shut, c.serve_next.ensures.steps.was_clean fell.3) w d moments s e asked)
-    c.serve_next.ensures.falls c.serve_next.ensures.grows
+    c.serve_next.ensures.falls c.serve_next.ensures.undone
 
 pub returns-clause-falls : goal.returns-clause-falls
 returns-clause-falls g c fell w d moments s e asked = c.loop-served.invariant.fallen fell w d moments s e asked

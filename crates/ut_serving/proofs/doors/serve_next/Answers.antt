@@ -3,8 +3,8 @@ use Rattle.std.proofs.lemmas.Result.{err_from_is_err_and}
 use Rattle.ut_io.specs.Doors.{Nexts}
 use Rattle.ut_io.specs.declared.traits.IoFail.{IoFail}
 use Rattle.ut_serving.specs.Doors.{BringsTo, NextEnds}
-use Rattle.ut_serving.specs.Falls.{FallsBringing, OutputsGrow}
-use Rattle.ut_serving.proofs.Bringing.{grown_by_failure, grown_by_none, grown_by_one, next_fell}
+use Rattle.ut_serving.specs.Falls.{FallsBringing, OutputsUndone}
+use Rattle.ut_serving.proofs.Bringing.{next_fell, undone_by_failure, undone_by_none, undone_by_one}
 use Rattle.ut_serving.proofs.Fallen.{not_fell}
 use Rattle.ut_serving.proofs.Brought.{next_true, next_false, next_failed, rose_by, later_by}
 use Rattle.ut_serving.proofs.doors.serve_next.Goals as goal
@@ -75,21 +75,21 @@ returns-clause-falls g c fell w d moments s e asked =
     (λ input i. connection.ensures.falls fell w moments input s asked i) in
     subst (λ x. FallsBringing w moments d (held x) new) (search rules) brings
 
-pub returns-in_err-next-clause-grows : goal.returns-in_err-next-clause-grows
-returns-in_err-next-clause-grows g c = grown_by_failure (g.D.Door.held c.args.door.now) (g.D.Door.held c.next.new.self) _ c.in_err-next.ensures.next
+pub returns-in_err-next-clause-undone : goal.returns-in_err-next-clause-undone
+returns-in_err-next-clause-undone g c shut clean = undone_by_failure (g.D.Door.held c.args.door.now) (g.D.Door.held c.next.new.self) _ c.in_err-next.ensures.next
 
-pub returns-then-not-branch-clause-grows : goal.returns-then-not-branch-clause-grows
-returns-then-not-branch-clause-grows g c = grown_by_none (g.D.Door.held c.args.door.now) (g.D.Door.held c.next.new.self) (rw c.if-not-branch.true at c.in_ok-next.ensures.next)
+pub returns-then-not-branch-clause-undone : goal.returns-then-not-branch-clause-undone
+returns-then-not-branch-clause-undone g c shut clean = undone_by_none (g.D.Door.held c.args.door.now) (g.D.Door.held c.next.new.self) (rw c.if-not-branch.true at c.in_ok-next.ensures.next)
 
-pub returns-clause-grows : goal.returns-clause-grows
-returns-clause-grows g c =
+pub returns-clause-undone : goal.returns-clause-undone
+returns-clause-undone g c shut clean =
     let held = g.D.Door.held in
     let connection = c.connection-ended in
     let first = c.args.door.now in
     let begun = c.new-wire.result.door.now in
     let over = connection.new.wire.door.now in
-    let grows : OutputsGrow (held first) (held over) =
-    grown_by_one (held first) (held begun) (held over)
+    let undone : OutputsUndone (held first) (held over) =
+    undone_by_one (held first) (held begun) (held over)
     (subst (λ x. Nexts {E = IoFail} (held first) (held x) (Ok true)) (sym c.new-wire.ensures.held) (rw c.if-not-branch.false at c.in_ok-next.ensures.next))
-    connection.ensures.stays.1 in
-    subst (λ x. OutputsGrow (held first) (held x)) (search rules) grows
+    connection.ensures.stays.1 (connection.ensures.undone shut clean) in
+    subst (λ x. OutputsUndone (held first) (held x)) (search rules) undone

@@ -1,4 +1,7 @@
-use Rattle.ut_serving.proofs.Fallen.{not_fell}
+use Rattle.std.proofs.Common.{true, refl}
+use Rattle.ut_http.specs.Reply.{no_memory, reply}
+use Rattle.ut_serving.specs.Connections.{at_memory}
+use Rattle.ut_serving.proofs.Fallen.{not_fell, undone_front, undone_words}
 use Rattle.ut_serving.proofs.Goes.{fresh, at_once}
 use Rattle.ut_serving.proofs.lines.connection.Goals as goal
 
@@ -14,3 +17,9 @@ returns-in-Ok-clause-falls g c fell w moments input s e i = c.turns.ensures.fall
 
 pub returns-in-Err-clause-falls : goal.returns-in-Err-clause-falls
 returns-in-Err-clause-falls g c fell w moments input s e i = absurd (not_fell (g.K.Keeper.state c.args.keeper.now) fell)
+
+pub returns-in-Err-clause-undone : goal.returns-in-Err-clause-undone
+returns-in-Err-clause-undone g c shut clean =
+    let output = g.W.Wire.output in
+    undone_front _ (output c.args.wire.now) (output c.write_text.new.wire)
+    (undone_words at_memory (output c.args.wire.now) (output c.write_text.new.wire) (reply 507 no_memory true) c.write_text.result refl (rw c.out_of_memory.ensures at c.write_text.ensures.wrote))

@@ -1,5 +1,5 @@
 use Rattle.ut_serving.specs.Answers.{bytes_in}
-use Rattle.ut_serving.proofs.Fallen.{fell_on, wrote_grows}
+use Rattle.ut_serving.proofs.Fallen.{fell_on, undone_reply}
 use Rattle.ut_serving.proofs.Turned.{replied}
 use Rattle.ut_serving.proofs.lines.reply.Goals as goal
 
@@ -17,5 +17,9 @@ returns-clause-falls g c fell w moments s e =
     (g.W.Wire.output c.args.wire.now) (g.W.Wire.output c.write_answer.new.wire) answer.result c.write_answer.result
     (g.met.K.Keeper.settled c.args.keeper.now fell.0 fell.1) fell s e c.now-now.ensures.first answer.ensures.acknowledged answer.ensures.form.0 answer.ensures.crash c.write_answer.ensures.wrote
 
-pub returns-clause-grows : goal.returns-clause-grows
-returns-clause-grows g c = wrote_grows (g.W.Wire.output c.args.wire.now) (g.W.Wire.output c.write_answer.new.wire) (bytes_in c.args.message.now.method c.answer_message-answer.result) c.write_answer.result c.write_answer.ensures.wrote
+pub returns-clause-undone : goal.returns-clause-undone
+returns-clause-undone g c shut clean =
+    let state = g.K.Keeper.state in
+    let answer = c.answer_message-answer in
+    undone_reply c.args.message.now (state c.args.keeper.now) (state answer.new.keeper) (g.W.Wire.output c.args.wire.now) (g.W.Wire.output c.write_answer.new.wire) answer.result c.write_answer.result
+    answer.ensures.steps answer.ensures.acknowledged answer.ensures.form.0 c.write_answer.ensures.wrote shut clean

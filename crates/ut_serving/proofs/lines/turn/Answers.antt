@@ -1,7 +1,10 @@
-use Rattle.std.proofs.Common.{◌≡◌, ◌||◌, ◌∙◌, rules, ap, inl, inr, subst, ℕ, Bool, true, false, List, Option, Some, None, Ok}
+use Rattle.std.proofs.Common.{◌≡◌, ◌||◌, ◌∙◌, rules, ap, inl, inr, refl, subst, ℕ, Bool, true, false, List, Option, Some, None, Ok}
 use Rattle.std.specs.Io.KnownBytes.{prepend_known}
 use Rattle.std.specs.Io.KnownBytes as known
-use Rattle.ut_serving.proofs.Fallen.{fell_turn, grows_none, grows_then, not_fell, refusal_grows, wrote_grows}
+use Rattle.ut_http.specs.Reply as http
+use Rattle.ut_http.specs.Reply.{no_memory}
+use Rattle.ut_serving.specs.Connections.{at_memory}
+use Rattle.ut_serving.proofs.Fallen.{fell_turn, not_fell, undone_later, undone_none, undone_over, undone_refusal, undone_words}
 use Rattle.ut_serving.proofs.Turned.{message_turn, end_turn, cut_turn, read_turn, memory_turn, refused_turn, refused_between}
 use Rattle.ut_serving.proofs.lines.turn.Goals.{then-message, else-message}
 use Rattle.ut_serving.proofs.lines.turn.Goals as goal
@@ -36,8 +39,11 @@ returns-after-message-clause-falls g c fell p s here going full =
     c.next.new.buffer (g.W.Wire.input c.next.new.self) (g.W.Wire.output c.args.wire.now) (g.W.Wire.output c.next.new.self) (g.W.Wire.output c.reply.new.wire) c.reply.result
     e full (rw c.in-Ok-Message.field-0-is at c.in-Ok-Message.ensures.answer) c.next.ensures.unwritten (c.reply.ensures.falls fell p.world p.moments s here.0))
 
-pub returns-after-message-clause-grows : goal.returns-after-message-clause-grows
-returns-after-message-clause-grows g c = grows_then (g.W.Wire.output c.args.wire.now) (g.W.Wire.output c.next.new.self) (g.W.Wire.output c.reply.new.wire) c.next.ensures.unwritten c.reply.ensures.grows
+pub returns-after-message-clause-undone : goal.returns-after-message-clause-undone
+returns-after-message-clause-undone g c shut clean =
+    let output = g.W.Wire.output in
+    rw c.over_if_written.ensures (undone_over (output c.args.wire.now) (output c.reply.new.wire) c.if-message.close c.reply.result
+    (undone_later _ (output c.args.wire.now) (output c.next.new.self) (output c.reply.new.wire) c.next.ensures.unwritten (c.reply.ensures.undone shut clean)))
 
 pub returns-in-Ok-End-clause-turns : goal.returns-in-Ok-End-clause-turns
 returns-in-Ok-End-clause-turns g c told p s here going full =
@@ -72,20 +78,20 @@ returns-in-Err-clause-turns g c told p s here going full =
 pub returns-in-Ok-End-clause-falls : goal.returns-in-Ok-End-clause-falls
 returns-in-Ok-End-clause-falls g c fell p s here going full = absurd (not_fell (g.K.Keeper.state c.args.keeper.now) fell)
 
-pub returns-in-Ok-End-clause-grows : goal.returns-in-Ok-End-clause-grows
-returns-in-Ok-End-clause-grows g c = grows_none (g.W.Wire.output c.args.wire.now) (g.W.Wire.output c.next.new.self) c.next.ensures.unwritten
+pub returns-in-Ok-End-clause-undone : goal.returns-in-Ok-End-clause-undone
+returns-in-Ok-End-clause-undone g c shut clean = undone_none _ (g.W.Wire.output c.args.wire.now) (g.W.Wire.output c.next.new.self) c.next.ensures.unwritten
 
 pub returns-in-Ok-Cut-clause-falls : goal.returns-in-Ok-Cut-clause-falls
 returns-in-Ok-Cut-clause-falls g c fell p s here going full = absurd (not_fell (g.K.Keeper.state c.args.keeper.now) fell)
 
-pub returns-in-Ok-Cut-clause-grows : goal.returns-in-Ok-Cut-clause-grows
-returns-in-Ok-Cut-clause-grows g c = grows_none (g.W.Wire.output c.args.wire.now) (g.W.Wire.output c.next.new.self) c.next.ensures.unwritten
+pub returns-in-Ok-Cut-clause-undone : goal.returns-in-Ok-Cut-clause-undone
+returns-in-Ok-Cut-clause-undone g c shut clean = undone_none _ (g.W.Wire.output c.args.wire.now) (g.W.Wire.output c.next.new.self) c.next.ensures.unwritten
 
 pub returns-in-Err-Failed-clause-falls : goal.returns-in-Err-Failed-clause-falls
 returns-in-Err-Failed-clause-falls g c fell p s here going full = absurd (not_fell (g.K.Keeper.state c.args.keeper.now) fell)
 
-pub returns-in-Err-Failed-clause-grows : goal.returns-in-Err-Failed-clause-grows
-returns-in-Err-Failed-clause-grows g c = grows_none (g.W.Wire.output c.args.wire.now) (g.W.Wire.output c.next.new.self) c.next.ensures.unwritten
+pub returns-in-Err-Failed-clause-undone : goal.returns-in-Err-Failed-clause-undone
+returns-in-Err-Failed-clause-undone g c shut clean = undone_none _ (g.W.Wire.output c.args.wire.now) (g.W.Wire.output c.next.new.self) c.next.ensures.unwritten
 
 pub returns-in-Err-Memory-clause-falls : goal.returns-in-Err-Memory-clause-falls
 returns-in-Err-Memory-clause-falls g c fell p s here going full = absurd (not_fell (g.K.Keeper.state c.args.keeper.now) fell)
@@ -93,15 +99,19 @@ returns-in-Err-Memory-clause-falls g c fell p s here going full = absurd (not_fe
 pub returns-in-Err-clause-falls : goal.returns-in-Err-clause-falls
 returns-in-Err-clause-falls g c fell p s here going full = absurd (not_fell (g.K.Keeper.state c.args.keeper.now) fell)
 
-pub returns-in-Err-Memory-clause-grows : goal.returns-in-Err-Memory-clause-grows
-returns-in-Err-Memory-clause-grows g c =
+pub returns-in-Err-Memory-clause-undone : goal.returns-in-Err-Memory-clause-undone
+returns-in-Err-Memory-clause-undone g c shut clean =
     let output = g.W.Wire.output in
-    grows_then (output c.args.wire.now) (output c.next.new.self) (output c.write_text.new.wire) c.next.ensures.unwritten (wrote_grows (output c.next.new.self) (output c.write_text.new.wire) _ c.write_text.result c.write_text.ensures.wrote)
+    rw c.over_if_written-in-Err-Memory.ensures (undone_over (output c.args.wire.now) (output c.write_text.new.wire) true c.write_text.result
+    (undone_later _ (output c.args.wire.now) (output c.next.new.self) (output c.write_text.new.wire) c.next.ensures.unwritten
+    (undone_words at_memory (output c.next.new.self) (output c.write_text.new.wire) (http.reply 507 no_memory true) c.write_text.result refl (rw c.out_of_memory.ensures at c.write_text.ensures.wrote))))
 
-pub returns-in-Err-clause-grows : goal.returns-in-Err-clause-grows
-returns-in-Err-clause-grows g c =
+pub returns-in-Err-clause-undone : goal.returns-in-Err-clause-undone
+returns-in-Err-clause-undone g c shut clean =
     let output = g.W.Wire.output in
-    grows_then (output c.args.wire.now) (output c.next.new.self) (output c.refuse.new.wire) c.next.ensures.unwritten (refusal_grows c.in-Err.fail (output c.next.new.self) (output c.refuse.new.wire) c.refuse.result c.refuse.ensures.refuses)
+    rw c.over_if_written-in-Err.ensures (undone_over (output c.args.wire.now) (output c.refuse.new.wire) true c.refuse.result
+    (undone_later _ (output c.args.wire.now) (output c.next.new.self) (output c.refuse.new.wire) c.next.ensures.unwritten
+    (undone_refusal c.in-Err.fail (output c.next.new.self) (output c.refuse.new.wire) c.refuse.result c.refuse.ensures.refuses)))
 
 -- ---- what is read before a reply
 

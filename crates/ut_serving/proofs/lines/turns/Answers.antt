@@ -1,8 +1,9 @@
 use Rattle.std.proofs.Common.{arith, true, false, Ok, Err}
 use Rattle.std.specs.Io.KnownBytes.{prepend_known}
+use Rattle.std.proofs.KnownBytes.{Keeps-refl}
 use Rattle.std.proofs.lemmas.Result.{err_from_is_err_and}
 use Rattle.ut_keeper.proofs.Calls.{steps_same, steps_on}
-use Rattle.ut_serving.proofs.Fallen.{fallen_on, not_fell}
+use Rattle.ut_serving.proofs.Fallen.{fallen_on, not_fell, stays_shut, undone_front, undone_none, undone_then}
 use Rattle.ut_serving.proofs.Goes.{start, go_on, ends}
 use Rattle.ut_serving.proofs.Leading.{led_same, led_then}
 use Rattle.ut_serving.proofs.lines.turns.Goals as goal
@@ -16,6 +17,7 @@ loop-count-init g c = record {
   writes = omega arith;
   goes = λ told w moments input s e i. start w moments input (g.K.Keeper.state c.args.keeper.now) (g.W.Wire.output c.args.wire.now) (g.C.Clock.coming c.args.clock.now) (prepend_known c.args.buffer.now (g.W.Wire.input c.args.wire.now)) told.0 s e i;
   fallen = λ fell w moments input s e i. absurd (not_fell (g.K.Keeper.state c.args.keeper.now) fell);
+  undone = λ shut clean. undone_none true (g.W.Wire.output c.args.wire.now) (g.W.Wire.output c.args.wire.now) (Keeps-refl (g.W.Wire.output c.args.wire.now));
 }
 
 pub loop-count-preserved : goal.loop-count-preserved
@@ -39,7 +41,10 @@ loop-count-preserved g c =
           fallen_on w moments input (state c.args.keeper.now) (g.W.Wire.output c.args.wire.now) (state c.loop-count.keeper) (state c.turn.new.keeper)
           (coming c.loop-count.clock) (prepend_known c.loop-count.buffer (g.W.Wire.input c.loop-count.wire)) (g.W.Wire.output c.loop-count.wire) (g.W.Wire.output c.turn.new.wire) c.loop-count.count (Ok false) c.turn.ensures.steps fell
           (λ stands. c.loop-count.invariant.goes (fell.0, stands) w moments input s e i) (λ shut. c.loop-count.invariant.fallen (fell.0, fell.1, shut, c.turn.ensures.steps.was_clean fell.3) w moments input s e i)
-          c.in_ok-turn.ensures.falls c.turn.ensures.grows;
+          c.in_ok-turn.ensures.falls c.in_ok-turn.ensures.undone;
+      undone = λ shut clean.
+          undone_then true (g.W.Wire.output c.args.wire.now) (g.W.Wire.output c.loop-count.wire) (g.W.Wire.output c.turn.new.wire) (c.loop-count.invariant.undone shut (c.turn.ensures.steps.was_clean clean))
+          (c.in_ok-turn.ensures.undone (stays_shut (state c.args.keeper.now) (state c.loop-count.keeper) c.loop-count.invariant.steps shut) clean);
     }
 
 pub returns-in_err-turn-clause-leads : goal.returns-in_err-turn-clause-leads
@@ -84,7 +89,7 @@ returns-in_err-turn-clause-falls g c fell w moments input s e i =
     fallen_on w moments input (state c.args.keeper.now) (g.W.Wire.output c.args.wire.now) (state c.loop-count.keeper) (state c.turn.new.keeper)
     (coming c.loop-count.clock) (prepend_known c.loop-count.buffer (g.W.Wire.input c.loop-count.wire)) (g.W.Wire.output c.loop-count.wire) (g.W.Wire.output c.turn.new.wire) c.loop-count.count (Err _) c.turn.ensures.steps fell
     (λ stands. c.loop-count.invariant.goes (fell.0, stands) w moments input s e i) (λ shut. c.loop-count.invariant.fallen (fell.0, fell.1, shut, c.turn.ensures.steps.was_clean fell.3) w moments input s e i)
-    c.in_err-turn.ensures.falls c.turn.ensures.grows
+    c.in_err-turn.ensures.falls c.in_err-turn.ensures.undone
 
 pub returns-then-branch-clause-falls : goal.returns-then-branch-clause-falls
 returns-then-branch-clause-falls g c fell w moments input s e i =
@@ -93,8 +98,25 @@ returns-then-branch-clause-falls g c fell w moments input s e i =
     let f = fallen_on w moments input (state c.args.keeper.now) (g.W.Wire.output c.args.wire.now) (state c.loop-count.keeper) (state c.turn.new.keeper)
     (coming c.loop-count.clock) (prepend_known c.loop-count.buffer (g.W.Wire.input c.loop-count.wire)) (g.W.Wire.output c.loop-count.wire) (g.W.Wire.output c.turn.new.wire) c.loop-count.count (Ok true) c.turn.ensures.steps fell
     (λ stands. c.loop-count.invariant.goes (fell.0, stands) w moments input s e i) (λ shut. c.loop-count.invariant.fallen (fell.0, fell.1, shut, c.turn.ensures.steps.was_clean fell.3) w moments input s e i)
-    c.in_ok-turn.ensures.falls c.turn.ensures.grows in
+    c.in_ok-turn.ensures.falls c.in_ok-turn.ensures.undone in
     f.0
 
 pub returns-clause-falls : goal.returns-clause-falls
 returns-clause-falls g c fell w moments input s e i = (c.loop-count.invariant.fallen fell w moments input s e i).0
+
+pub returns-in_err-turn-clause-undone : goal.returns-in_err-turn-clause-undone
+returns-in_err-turn-clause-undone g c shut clean =
+    let state = g.K.Keeper.state in
+    undone_then false (g.W.Wire.output c.args.wire.now) (g.W.Wire.output c.loop-count.wire) (g.W.Wire.output c.turn.new.wire) (c.loop-count.invariant.undone shut (c.turn.ensures.steps.was_clean clean))
+    (c.in_err-turn.ensures.undone (stays_shut (state c.args.keeper.now) (state c.loop-count.keeper) c.loop-count.invariant.steps shut) clean)
+
+pub returns-then-branch-clause-undone : goal.returns-then-branch-clause-undone
+returns-then-branch-clause-undone g c shut clean =
+    let state = g.K.Keeper.state in
+    let output = g.W.Wire.output in
+    undone_front true (output c.args.wire.now) (output c.turn.new.wire)
+    (undone_then true (output c.args.wire.now) (output c.loop-count.wire) (output c.turn.new.wire) (c.loop-count.invariant.undone shut (c.turn.ensures.steps.was_clean clean))
+    (c.in_ok-turn.ensures.undone (stays_shut (state c.args.keeper.now) (state c.loop-count.keeper) c.loop-count.invariant.steps shut) clean))
+
+pub returns-clause-undone : goal.returns-clause-undone
+returns-clause-undone g c shut clean = undone_front true (g.W.Wire.output c.args.wire.now) (g.W.Wire.output c.loop-count.wire) (c.loop-count.invariant.undone shut clean)

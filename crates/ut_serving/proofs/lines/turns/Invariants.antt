@@ -1,10 +1,10 @@
-use Rattle.std.proofs.Common.{◌≡◌, ◌≤◌, ℕ, List, Some}
+use Rattle.std.proofs.Common.{◌≡◌, ◌≤◌, ℕ, false, true, IsTrue, List, Some}
 use Rattle.std.specs.Io.KnownBytes.{prepend_known}
 use Rattle.ut_keeper.specs.State.{Steps, Tells}
 use Rattle.ut_model.specs.World.{World}
 use Rattle.ut_stands.specs.Stands.{Stands}
 use Rattle.ut_serving.specs.Leads.{LeadsFrom}
-use Rattle.ut_serving.specs.Falls.{Fell}
+use Rattle.ut_serving.specs.Falls.{Fell, WritesUndone}
 use Rattle.ut_serving.proofs.Fallen.{Fallen}
 use Rattle.ut_serving.proofs.Goes.{Goes}
 use Rattle.ut_serving.proofs.lines.turns.Given as goal
@@ -25,4 +25,5 @@ invariant-loop-count g l =
           → Goes w moments input (state l.fn.keeper) (output_of l.fn.wire) (state l.keeper) (coming l.clock) (prepend_known l.buffer (input_of l.wire)) (output_of l.wire) l.count;
       fallen : Fell (state l.fn.keeper) (state l.keeper) → (w : World) (moments input : List ℕ) → Stands (state l.fn.keeper).tables w → coming l.fn.clock ≡ Some moments → prepend_known l.fn.buffer (input_of l.fn.wire) ≡ Some input
           → Fallen w moments input (state l.fn.keeper) (output_of l.fn.wire) (state l.keeper) (output_of l.wire);
+      undone : (state l.fn.keeper).trusted ≡ false → IsTrue (state l.keeper).is_clean → WritesUndone true (output_of l.fn.wire) (output_of l.wire);
     }

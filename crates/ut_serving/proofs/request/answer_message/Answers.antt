@@ -2,7 +2,7 @@ use Rattle.std.proofs.Common.{refl}
 use Rattle.ut_model.specs.Step.{key_in}
 use Rattle.ut_serving.specs.Answers.{outcome_of}
 use Rattle.ut_serving.specs.Requests.{does, message_in}
-use Rattle.ut_serving.proofs.Kept.{acknowledged_by, answered_by, cause_by, kept_by, undamaged_by}
+use Rattle.ut_serving.proofs.Kept.{acknowledged_by, answered_by, cause_by, kept_by, quiet_by, undamaged_by}
 use Rattle.ut_serving.proofs.Leading.{led_by_request}
 use Rattle.ut_serving.proofs.Worlds.{WorldLaws, by_world, crash_world}
 use Rattle.ut_serving.proofs.request.answer_message.Goals as goal
@@ -56,9 +56,14 @@ returns-clause-leads g c =
 pub returns-clause-acknowledged : goal.returns-clause-acknowledged
 returns-clause-acknowledged g c made =
     let state = g.K.Keeper.state in
-    acknowledged_by (state c.args.keeper.now) (state c.answer_own.new.keeper) c.answer_own.result c.answer_own.ensures.asks.stays made
+    acknowledged_by (state c.answer_own.new.keeper) c.answer_own.result c.answer_own.ensures.asks.trusted made
 
 pub returns-clause-cause : goal.returns-clause-cause
 returns-clause-cause g c =
     let state = g.K.Keeper.state in
     cause_by (state c.args.keeper.now) (state c.answer_own.new.keeper) c.answer_own.result c.answer_own.ensures.asks.cause
+
+pub returns-clause-quiet : goal.returns-clause-quiet
+returns-clause-quiet g c =
+    let state = g.K.Keeper.state in
+    quiet_by (state c.args.keeper.now) (state c.answer_own.new.keeper) c.answer_own.result c.answer_own.ensures.asks.quiet

@@ -1,56 +1,48 @@
-use Rattle.std.proofs.Common.{rules, ◌∙◌, subst}
-use Rattle.ut_keeper.specs.Draft.{DraftTells, tables_of}
-use Rattle.ut_keeper.specs.Tables.{Tables}
+use Rattle.std.proofs.Common.{subst}
 use Rattle.ut_model.specs.Step.{key_in}
-use Rattle.ut_stands.proofs.Ended.{empty_tables, moved, told_draft, unchanged}
-use Rattle.ut_step.specs.Own.{request_changes, request_gone}
-use Rattle.ut_serving.specs.Own.{Asks, DoesMessage, JudgesMessage, Replies}
+use Rattle.ut_serving.specs.Own.{AsksFirst}
 use Rattle.ut_serving.specs.Requests.{message_in}
-use Rattle.ut_serving.proofs.Messages.{asks_by, does_by, replies_by, shown_most}
+use Rattle.ut_serving.proofs.Asked as asked
 use Rattle.ut_serving.proofs.request.answer_within.Goals as goal
 
-pub returns-clause-does : goal.returns-clause-does
-returns-clause-does g c =
+pub returns-in-Ok-clause-does : goal.returns-in-Ok-clause-does
+returns-in-Ok-clause-does g c =
     let state = g.K.Keeper.state in
-    let d = c.new-draft.result in
-    let e = c.judge-judged.new.draft in
+    let old = state c.args.keeper.now in
+    let mid = state c.ask_first.new.keeper in
+    let first = subst (AsksFirst old mid) c.in-Ok.is c.ask_first.ensures in
     let m = c.args.message.now in
-    let j = c.judge-judged.result in
-    let empty = c.new-draft.ensures.empty in
-    let makes = c.judge-judged.ensures.drafts.makes in
-    let shown = shown_most state d in
-    moved (λ x y. DoesMessage m c.args.now (state x) (state y) c.finish.result) d.keeper.now c.finish.new.draft.0 c.args.keeper.now _ c.new-draft.ensures.same (search rules)
-    (does_by (state d.keeper.now) (state c.finish.new.draft.0) (DraftTells state d e) (tables_of state e) j c.finish.result
-    (record {
-      drafts = λ told. told_draft state d e (state c.finish.new.draft.0) told c.finish.ensures.finishes.steps;
-      ends = λ told. c.finish.ensures.ends d request_changes request_gone shown empty makes.works told;
-      crash = λ tells trusted clean left may. c.finish.ensures.crash d request_changes request_gone shown empty makes.works (c.ended_laws.ensures.stays d.keeper.now e.keeper.now j makes.stays) tells trusted clean left may;
-    })
-    (key_in (message_in m)) (message_in m) m.close c.args.now
-    (λ told. subst (λ (t : Tables). JudgesMessage m c.args.now t (tables_of state e) j) (empty_tables state d empty) (c.judge-judged.ensures.what told)))
+    asked.does_after old mid first (state c.answer_drafted.new.keeper) (c.answer_drafted.ensures.asks first.trusted).steps
+    (key_in (message_in m)) (message_in m) m.close c.args.now c.answer_drafted.result c.answer_drafted.ensures.does
 
-pub returns-clause-form : goal.returns-clause-form
-returns-clause-form g c =
+pub returns-in-Err-clause-does : goal.returns-in-Err-clause-does
+returns-in-Err-clause-does g c =
     let state = g.K.Keeper.state in
-    let d = c.new-draft.result in
-    let e = c.judge-judged.new.draft in
+    let old = state c.args.keeper.now in
+    let mid = state c.ask_first.new.keeper in
     let m = c.args.message.now in
-    let j = c.judge-judged.result in
-    let new = state c.finish.new.draft.0 in
-    let makes = c.judge-judged.ensures.drafts.makes in
-    moved (λ x y. Replies (message_in m) m.close (state x) (state y) c.finish.result) d.keeper.now c.finish.new.draft.0 c.args.keeper.now _ c.new-draft.ensures.same (search rules)
-    (replies_by (message_in m) m.close (state d.keeper.now) new j c.finish.result c.judge-judged.ensures.form c.finish.ensures.finishes.returned
-    (λ quiet. (
-      (λ told. unchanged (state d.keeper.now).tables (tables_of state e) new j c.finish.result (c.finish.ensures.ends d request_changes request_gone (shown_most state d) c.new-draft.ensures.empty makes.works told) quiet),
-      c.finish.ensures.finishes.unwritten quiet ∙ makes.works.reads.written,
-    )))
+    asked.does_none old mid c.in-Err.fail (subst (AsksFirst old mid) c.in-Err.is c.ask_first.ensures) (key_in (message_in m)) (message_in m) m.close c.args.now
 
-pub returns-clause-asks : goal.returns-clause-asks
-returns-clause-asks g c =
+pub returns-in-Ok-clause-form : goal.returns-in-Ok-clause-form
+returns-in-Ok-clause-form g c =
     let state = g.K.Keeper.state in
-    let d = c.new-draft.result in
-    let e = c.judge-judged.new.draft in
-    let j = c.judge-judged.result in
-    let makes = c.judge-judged.ensures.drafts.makes in
-    moved (λ x y. Asks (state x) (state y) c.finish.result) d.keeper.now c.finish.new.draft.0 c.args.keeper.now _ c.new-draft.ensures.same (search rules)
-    (asks_by state d e (state c.finish.new.draft.0) j c.finish.result c.new-draft.ensures.empty makes.works (c.ended_laws.ensures.stays d.keeper.now e.keeper.now j makes.stays) (c.ended_laws.ensures.cause d.keeper.now e.keeper.now j makes.cause) c.finish.ensures.finishes)
+    let old = state c.args.keeper.now in
+    let mid = state c.ask_first.new.keeper in
+    let first = subst (AsksFirst old mid) c.in-Ok.is c.ask_first.ensures in
+    let m = c.args.message.now in
+    asked.replies_after old mid first (state c.answer_drafted.new.keeper) (c.answer_drafted.ensures.asks first.trusted).steps (message_in m) m.close c.answer_drafted.result c.answer_drafted.ensures.form
+
+pub returns-in-Ok-clause-asks : goal.returns-in-Ok-clause-asks
+returns-in-Ok-clause-asks g c =
+    let state = g.K.Keeper.state in
+    let old = state c.args.keeper.now in
+    let mid = state c.ask_first.new.keeper in
+    let first = subst (AsksFirst old mid) c.in-Ok.is c.ask_first.ensures in
+    asked.asks_after old mid first (state c.answer_drafted.new.keeper) c.answer_drafted.result (c.answer_drafted.ensures.asks first.trusted)
+
+pub returns-in-Err-clause-asks : goal.returns-in-Err-clause-asks
+returns-in-Err-clause-asks g c =
+    let state = g.K.Keeper.state in
+    let old = state c.args.keeper.now in
+    let mid = state c.ask_first.new.keeper in
+    asked.asks_none old mid c.in-Err.fail (subst (AsksFirst old mid) c.in-Err.is c.ask_first.ensures)

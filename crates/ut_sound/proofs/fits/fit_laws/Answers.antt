@@ -10,4 +10,4 @@ pub returns-clause-key : goal.returns-clause-key
 returns-clause-key c = λ a key text given s. key_fits c.value_laws.ensures.read a key text given (parts s)
 
 pub returns-clause-spelled : goal.returns-clause-spelled
-returns-clause-spelled c = body_spells
+returns-clause-spelled c = body_spells c.json_laws.ensures.spelled

@@ -4,6 +4,7 @@ use Rattle.ut_keys.specs.Rows.{object_form}
 use Rattle.ut_stands.proofs.LayoutReads.{objects_read}
 use Rattle.ut_stands.proofs.MetadataLists.{KeyLaws}
 use Rattle.ut_stands.proofs.Pages.{PageLaws}
+use Rattle.ut_stands.proofs.Called.{calls_of}
 use Rattle.ut_stands.proofs.layout_reads.objects_of.Goals as goal
 
 pub returns-clause-finds : goal.returns-clause-finds
@@ -17,3 +18,8 @@ returns-clause-finds g c told =
     } in
     let pages : PageLaws object_form = record { kept = c.listing_laws.ensures.kept; page = c.listing_laws.ensures.page } in
     objects_read keys c.local_laws.ensures.listed pages m c.args.org (omega arith) c.page_under.result (c.page_under.ensures.rows told)
+
+pub returns-clause-calls : goal.returns-clause-calls
+returns-clause-calls g c =
+    let read = c.page_under.ensures in
+    calls_of g.K.Keeper.state 0 c.args.draft.now c.page_under.new.draft c.page_under.result read.reads read.stays read.cause read.quiet

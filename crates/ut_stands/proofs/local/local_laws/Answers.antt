@@ -18,7 +18,7 @@ returns-clause-each c =
 pub returns-clause-whole : goal.returns-clause-whole
 returns-clause-whole c p m after w n t u q ln s at s_in others =
     let laws : PrefixLaws = record { interval = c.key_laws.ensures.interval; unbounded = c.key_laws.ensures.unbounded; bytes = c.table_laws.ensures.bytes } in
-    standing.whole laws c.key_laws.ensures.exact p m after w n t u q ln s s_in others c.table_laws.ensures.same at
+    standing.whole laws c.key_laws.ensures.exact p m after w n t u q ln s s_in others c.tenant_laws.ensures.put c.tenant_laws.ensures.others c.table_laws.ensures.same at
 
 pub returns-clause-nobody : goal.returns-clause-nobody
 returns-clause-nobody c p m after w n q ln s at s_in others =

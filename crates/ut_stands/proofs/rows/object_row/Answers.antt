@@ -6,6 +6,7 @@ use Rattle.ut_keys.specs.Rows.{object_form}
 use Rattle.ut_stands.proofs.Found.{key_found, row_finds}
 use Rattle.ut_stands.proofs.MetadataRows.{object_is_row, object_there}
 use Rattle.ut_stands.proofs.Places.{PrefixLaws}
+use Rattle.ut_stands.proofs.Called.{calls_of}
 use Rattle.ut_stands.proofs.rows.object_row.Goals as goal
 
 pub returns-clause-finds : goal.returns-clause-finds
@@ -17,3 +18,8 @@ returns-clause-finds g c told =
       row_finds laws c.key_laws.ensures.exact object_form org (omega arith) (org, n) (object_there org n) (object_is_row org n (omega arith) (omega arith)) c.row_laws.ensures.found m c.row_at.result (c.row_at.ensures.row told),
       key_found object_form (org, n) (map.get m (spell (Object org n))) c.row_at.result (c.row_at.ensures.row told),
     )
+
+pub returns-clause-calls : goal.returns-clause-calls
+returns-clause-calls g c =
+    let read = c.row_at.ensures in
+    calls_of g.K.Keeper.state 0 c.args.draft.now c.row_at.new.draft c.row_at.result read.reads read.stays read.cause read.quiet

@@ -6,6 +6,7 @@ use Rattle.ut_keys.specs.Rows.{org_form}
 use Rattle.ut_stands.proofs.Found.{key_found}
 use Rattle.ut_stands.proofs.Organisations.{org_finds}
 use Rattle.ut_stands.proofs.Places.{PrefixLaws}
+use Rattle.ut_stands.proofs.Called.{calls_of}
 use Rattle.ut_stands.proofs.rows.org_row.Goals as goal
 
 pub returns-clause-finds : goal.returns-clause-finds
@@ -15,3 +16,8 @@ returns-clause-finds g c told =
       org_finds c.name_laws.ensures.text c.name_laws.ensures.short laws c.key_laws.ensures.exact c.row_laws.ensures.found m c.args.org (omega arith) c.row_at.result (c.row_at.ensures.row told),
       key_found org_form c.args.org (map.get m (spell (Org c.args.org))) c.row_at.result (c.row_at.ensures.row told),
     )
+
+pub returns-clause-calls : goal.returns-clause-calls
+returns-clause-calls g c =
+    let read = c.row_at.ensures in
+    calls_of g.K.Keeper.state 0 c.args.draft.now c.row_at.new.draft c.row_at.result read.reads read.stays read.cause read.quiet

@@ -1,4 +1,4 @@
-use Rattle.std.proofs.Common.{true, refl, ◌∙◌}
+use Rattle.std.proofs.Common.{◌≡◌, ℕ, Some, true, refl, sym, ap, arith, ◌∙◌}
 use Rattle.std.specs.Prelude.{codes}
 use Rattle.std.specs.Str.{is_utf8}
 use Rattle.std.specs.Str.Lossy.{utf8_lossy, utf8_valid_len}
@@ -9,11 +9,14 @@ use Rattle.ut_soql_grammar.proofs.Computing.{reading_queries}
 use Rattle.ut_value.specs.Digits.{digits}
 use Rattle.ut_value.specs.Id.{id_in, made, number62, number_in}
 use Rattle.ut_model.specs.declared.caller.Caller.{Caller}
+use Rattle.ut_model.specs.declared.refusal.Refusal.TheVariants.{InvalidType}
+use Rattle.ut_model.specs.declared.reply.Reply.{Reply}
 use Rattle.ut_model.specs.Callers.{Named, cut}
 use Rattle.ut_model.specs.Objects.{object_named}
 use Rattle.ut_model.specs.Organisations.{administrator, fresh}
 use Rattle.ut_model.specs.Routing.{lines, routed}
-use Rattle.ut_model.specs.Step.{query_text}
+use Rattle.ut_model.specs.Step.{Answering, Message, caller_by, in_org, query_text, refusal_reply, step_by}
+use Rattle.ut_model.specs.World.{World}
 use Rattle.ut_model.proofs.Called.{found, itself}
 use Rattle.ut_step.specs.Built.{answered, step}
 use Rattle.ut_step.specs.Worked.{acme, asks_by}
@@ -29,12 +32,27 @@ pub returns-clause-no_key : goal.returns-clause-no_key
 unfolding step
 returns-clause-no_key c = refl
 
-pub returns-clause-no_object : goal.returns-clause-no_object
+-- what `answering_laws` says of a caller's message
+abbrev AnswersCalled : Type 0
+AnswersCalled =
+    (answers : Answering) (w : World) (m : Message) (now : ℕ) (c : Caller) → caller_by w m ≡ Some c
+    → step_by answers w m now ≡ in_org w c.org (answers c m now)
+
+no_deals : AnswersCalled → step acme (asks_by (codes "q=SELECT+Id,Name+FROM+Deal__c")) 0 ≡ (refusal_reply (InvalidType (codes "Deal__c")), acme)
 unfolding who named step reading_queries object_named cut id_in number_in number62 made digits routed lines split query_text raw_pairs utf8_lossy percent_decode utf8_valid_len is_utf8
-returns-clause-no_object c =
+no_deals called =
     let m = asks_by (codes "q=SELECT+Id,Name+FROM+Deal__c") in
-    c.answering_laws.ensures.called answered acme m 0 who (found acme (codes "00D000000000001!005000000000000AAA!abc!d") named (fresh (codes "Acme") (sha256 (codes "abc!d"))) (administrator (codes "Acme") (sha256 (codes "abc!d"))) refl refl refl (itself (sha256 (codes "abc!d"))))
+    called answered acme m 0 who (found acme (codes "00D000000000001!005000000000000AAA!abc!d") named (fresh (codes "Acme") (sha256 (codes "abc!d"))) (administrator (codes "Acme") (sha256 (codes "abc!d"))) refl refl refl (itself (sha256 (codes "abc!d"))))
     ∙ refl
+
+pub returns-clause-no_object : goal.returns-clause-no_object
+returns-clause-no_object c = no_deals c.answering_laws.ensures.called
+
+pub returns-clause-built : goal.returns-clause-built
+returns-clause-built c = ((refl, tt), λ e. other (sym e ∙ ap (λ (x : Reply × World). x.0.status) (no_deals c.answering_laws.ensures.called)))
+  where
+    other : ◌≡◌ {A = ℕ} 501 400 → ⊥
+    other e = omega arith
 
 pub returns-clause-no_query : goal.returns-clause-no_query
 unfolding who named step reading_queries object_named cut id_in number_in number62 made digits routed lines split query_text raw_pairs utf8_lossy percent_decode utf8_valid_len is_utf8

@@ -22,6 +22,10 @@ pub returns-in-Field : goal.returns-in-Field
 unfolding chars
 returns-in-Field c = rw c.in-Field.is refl
 
+pub returns-in-Formula : goal.returns-in-Formula
+unfolding chars
+returns-in-Formula c = rw c.in-Formula.is refl
+
 pub returns-in-Indexed : goal.returns-in-Indexed
 unfolding chars
 returns-in-Indexed c = rw c.in-Indexed.is refl
@@ -37,6 +41,10 @@ returns-in-Length c = rw c.in-Length.is refl
 pub returns-in-Master : goal.returns-in-Master
 unfolding chars
 returns-in-Master c = rw c.in-Master.is refl
+
+pub returns-in-Message : goal.returns-in-Message
+unfolding chars
+returns-in-Message c = rw c.in-Message.is refl
 
 pub returns-in-Name : goal.returns-in-Name
 unfolding chars

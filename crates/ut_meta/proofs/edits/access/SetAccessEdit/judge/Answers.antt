@@ -1,4 +1,4 @@
-use Rattle.std.proofs.Common.{[], ◌∷◌, ℕ, Some, ap, arith}
+use Rattle.std.proofs.Common.{[], ◌∷◌, ℕ, Some, refl, ap, arith}
 use Rattle.std.specs.Str.{chars}
 use Rattle.ut_edits.specs.Rows.{change_to}
 use Rattle.ut_edits.proofs.Judged.{done_so, passed_on}
@@ -7,6 +7,7 @@ use Rattle.ut_keeper.specs.Draft.{tables_of}
 use Rattle.ut_keys.specs.Rows.{object_form}
 use Rattle.ut_model.specs.Metadata.{set_access}
 use Rattle.ut_model.specs.Paths.{Asked}
+use Rattle.ut_model.specs.Tenant.{Object}
 use Rattle.ut_stands.specs.Fails.{of_store}
 use Rattle.ut_stands.specs.Layouts.{own_object_row}
 use Rattle.ut_stands.specs.Metadata.{access_of}
@@ -55,5 +56,5 @@ returns-clause-what g c told =
     (put_is_in object_form org next (access_fits row e.access c.in_ok-row.ensures.fits) (ap (λ (k : ℕ × ℕ). Some k.0) (c.in_ok-row.ensures.finds reads.then).1), tt)
     (λ q a s f.
     let on = accepted_on a.tenant name (set_access a.tenant name e.access) c.object_to_set.result n (c.object_to_set.ensures.accepts reads.first q a.tenant e.access s) c.in_ok-object.was in
-    access_takes c.metadata_laws.ensures.access c.slot_laws.ensures.described c.metadata_laws.ensures.object_fits c.objects_sound.ensures.set_access org a.tenant name e.access row q (omega arith)
+    access_takes (λ p t n access k sound e. c.metadata_laws.ensures.described p t n (λ (o : Object). record o { access = access }) k sound (λ o. refl) (c.metadata_laws.ensures.accessed n access k) e) c.slot_laws.ensures.described c.metadata_laws.ensures.object_fits c.objects_sound.ensures.set_access org a.tenant name e.access row q (omega arith)
     s.plan s.sound (not_by e.access f) on.0 (row_read org a.tenant name n m q s on.1 c.object_there.result row found c.in_ok-row.was))

@@ -1,0 +1,75 @@
+-- What a new validation rule is judged by, and the rows that it changes: that of its object, and its own. No public contract
+-- reaches these words.
+-- Source: C. D. Weissman and S. Bobrowski, "The Design of the Force.com Multitenant Internet Application Development
+-- Platform" (SIGMOD 2009): rules are rows of tables too.
+use Rattle.std.specs.Prelude.{◌≡◌, ◌&&◌, ℕ, ◌+◌, suc, Bool, false, IsTrue, List, [], ◌∷◌, length, map, Option, Some, None, Result, Ok, Err}
+use Rattle.std.specs.List.{list_any}
+use Rattle.ut_edits.specs.Edits.{FailsBy}
+use Rattle.ut_edits.specs.Rows.{change_to}
+use Rattle.ut_formula.specs.declared.formula.Formula.{Formula}
+use Rattle.ut_keys.specs.declared.object.ObjectRow.{ObjectRow}
+use Rattle.ut_keys.specs.Forms.{FitsForm}
+use Rattle.ut_keys.specs.Rows.{object_form, validation_form}
+use Rattle.ut_model.specs.declared.refusal.Refusal.TheVariants.{JobBusy}
+use Rattle.ut_model.specs.Cases.{in_case}
+use Rattle.ut_model.specs.Fields.{same_name}
+use Rattle.ut_model.specs.Names.{is_stem}
+use Rattle.ut_model.specs.Objects.{Numbered}
+use Rattle.ut_model.specs.RuleFormulas.{is_copy, names_field}
+use Rattle.ut_model.specs.Rules.{Rule, refuse_if}
+use Rattle.ut_model.specs.Tenant.{Tenant}
+use Rattle.ut_model.specs.declared.metadata_bodies.NewValidationRule.{NewValidationRule}
+use Rattle.ut_model.specs.ValidationRules.{add_validation_rule}
+use Rattle.ut_model.specs.ValidationRules as model
+use Rattle.ut_parts.specs.Plain.{FitsText}
+use Rattle.ut_stands.specs.Changes.{Change}
+use Rattle.ut_stands.specs.declared.fail.EditFail.{EditFail}
+use Rattle.ut_stands.specs.declared.layout.JobPlace.{JobPlace}
+use Rattle.ut_stands.specs.declared.layout.Layout.{Layout}
+use Rattle.ut_stands.specs.Layouts.{layout_of}
+use Rattle.ut_stands.specs.Metadata.{validation_of}
+use Rattle.ut_stands.specs.Plan.{OrgPlan}
+use Rattle.ut_meta.specs.declared.edits.validation.NewRuleRows.{NewRuleRows}
+use Rattle.ut_meta.specs.inner.Rows.{HasRow}
+use Rattle.ut_meta.specs.Judging.{verdict_refusal}
+
+-- ---- judging
+
+-- JOB_BUSY: a formula names the field of a change of its object that copies
+abbrev pub busy_by : Option JobPlace → Result Formula ℕ → Rule
+busy_by job formula = in_case job None (λ j. refuse_if (is_copy j.phase && names_field (suc j.field) formula) JobBusy)
+
+-- the layout is that of the object, it is told whether one of its rules has the name, and there are so many rules
+pub record IsRuled (t : Tenant) (o : Numbered) (l : Layout) (is_taken : Bool) (rules : ℕ) (b : NewValidationRule) : Type 0 where
+  pub layout : (org : ℕ) × (q : OrgPlan) × (l ≡ layout_of org q t o)
+  pub taken : IsTrue (is_stem b.name) → is_taken ≡ list_any (same_name b.name) (map (λ r. r.name) o.object.validation_rules)
+  pub count : rules ≡ length o.object.validation_rules
+
+-- the row of the object that is to have the rule, where the verdict doesn't refuse; or why there is none
+abbrev pub AcceptsRule : (org : ℕ) → Tenant → NewValidationRule → Result ObjectRow EditFail → Type 0
+AcceptsRule org t b (Ok row) = (None ≡ verdict_refusal (add_validation_rule t b)) × HasRow org t b.object row
+AcceptsRule org t b (Err e) = FailsBy (add_validation_rule t b) e
+
+-- ---- the rows
+
+-- by the row of the object: with one rule more, and that of the rule
+abbrev pub rows_by : ObjectRow → NewValidationRule → NewRuleRows
+rows_by object b =
+    record {
+      object = record object { validation_rules = object.validation_rules + 1 };
+      rule = validation_of object.org object.object (model.validation_of b);
+    }
+
+-- a row can have the texts of the rule
+pub record IsSpelledRule (b : NewValidationRule) : Type 0 where
+  pub name : FitsText b.name
+  pub formula : FitsText b.formula
+  pub message : FitsText b.message
+
+-- they have spellings
+pub record FitRuleRows (r : NewRuleRows) : Type 0 where
+  pub object : FitsForm object_form r.object
+  pub rule : FitsForm validation_form r.rule
+
+abbrev pub changes_of : NewRuleRows → List Change
+changes_of r = change_to object_form r.object ∷ change_to validation_form r.rule ∷ []

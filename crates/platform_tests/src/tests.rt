@@ -69,17 +69,16 @@ fn statuses_of(alloc: Global, shown: &str) -> Result<String, AllocError> {
 }
 
 // The call of the keeper that fails, and the status and replies of `answer`. The organisation takes the first four calls
-// of the keeper, the opening the next two, and each message two: it asks first, and then for its caller.
+// of the keeper, the opening the next two, and each message one, for its caller; before the first, and behind one that failed,
+// the keeper itself is asked.
 const ANSWERED: &str = "\
 5;72
 6;72
 7;0 503 404 404
 8;0 503 404 404
 9;0 404 503 404
-10;0 404 503 404
-11;0 404 404 503
-12;0 404 404 503
-13;0 404 404 404
+10;0 404 404 503
+11;0 404 404 404
 ";
 
 // Whether three messages are answered as a line says.

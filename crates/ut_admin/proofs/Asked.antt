@@ -190,7 +190,7 @@ pub record CallLaws {K : Type 0} (state : K → KeeperState) : Type 0 where
 
 module _ {K : Type 0} (state : K → KeeperState) (laws : CallLaws state) where
   -- an edit changes at most as many rows as a request may
-  pub drafts_most : (most gone : ℕ) (result : Result (Unit {0}) EditFail) (a b : Held K) → most ≤ request_changes → gone ≤ request_gone → DraftsEdit state most gone result a b → DraftsEdit state request_changes request_gone result a b
+  pub drafts_most : (most gone : ℕ) (result : Result (Unit {0}) EditFail) (a b : Held K) → most ≤ request_changes → gone ≤ request_gone → DraftsEdit state most gone 0 result a b → DraftsEdit state request_changes request_gone 0 result a b
   drafts_most most gone result a b few none h = record {
     makes = laws.most most gone 0 request_changes request_gone 0 (ended_edit result) a b few none (λ _. omega arith) h.makes;
     some = h.some;
@@ -201,17 +201,17 @@ module _ {K : Type 0} (state : K → KeeperState) (laws : CallLaws state) where
   none_made e a stood = laws.most 0 0 0 request_changes request_gone 0 e a a (omega arith) (omega arith) (λ _. omega arith) (laws.makes 0 e a a (laws.weaker 0 e a a stood (laws.none ended_done a refl)))
 
   -- a refusal, or out of memory, before the draft was touched
-  pub refused_drafts : (r : Refusal) (a : Held K) → DraftsEdit {X = Unit {0}} state request_changes request_gone (Err (Refused r)) a a
+  pub refused_drafts : (r : Refusal) (a : Held K) → DraftsEdit {X = Unit {0}} state request_changes request_gone 0 (Err (Refused r)) a a
   refused_drafts r a = record { makes = none_made ended_done a (λ e. cc); some = tt; refused = λ _. (laws.none ended_done a refl).reads }
 
-  pub memory_drafts : (a : Held K) → DraftsEdit {X = Unit {0}} state request_changes request_gone (Err (Store Memory)) a a
+  pub memory_drafts : (a : Held K) → DraftsEdit {X = Unit {0}} state request_changes request_gone 0 (Err (Store Memory)) a a
   memory_drafts a = record { makes = none_made stopped a (λ e. cc); some = tt; refused = λ r. absurd r }
 
   pub none_drafts : {X : Type 0} (make : X → Request) (request : Result Request Refusal) (fail : EditFail) (result : Result (Unit {0}) EditFail) (a : Held K) → result ≡ Err fail
-      → Asks make request (Err fail) → DraftsEdit state request_changes request_gone result a a
-  none_drafts make request (Refused r) result a is e = subst (λ (q : Result (Unit {0}) EditFail). DraftsEdit state request_changes request_gone q a a) (sym is) (refused_drafts r a)
+      → Asks make request (Err fail) → DraftsEdit state request_changes request_gone 0 result a a
+  none_drafts make request (Refused r) result a is e = subst (λ (q : Result (Unit {0}) EditFail). DraftsEdit state request_changes request_gone 0 q a a) (sym is) (refused_drafts r a)
   none_drafts make request (Store f) result a is e =
-      subst (λ (q : Result (Unit {0}) EditFail). DraftsEdit state request_changes request_gone q a a) (sym (is ∙ ap (λ x. Err (Store x)) e)) (memory_drafts a)
+      subst (λ (q : Result (Unit {0}) EditFail). DraftsEdit state request_changes request_gone 0 q a a) (sym (is ∙ ap (λ x. Err (Store x)) e)) (memory_drafts a)
 
 -- what the exit of a `?` returns
 pub returned : {X E : Type 0} (r : Result X E) (e : E) → IsErr r × IsErrAnd r (λ x. x ≡ e) → r ≡ Err e

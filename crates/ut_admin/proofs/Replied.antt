@@ -86,7 +86,7 @@ module _ {K : Type 0} (state : K → KeeperState) (most gone : ℕ) (old new : H
       not_fallen (Err (Refused r)) judged f = f
       not_fallen (Err (Store e)) judged f = judged
 
-  pub drafts : (edit : Edit) (result : Returned) → IsReply edit result → DraftsEdit state most gone edit old new → Drafts state most gone 0 result old new
+  pub drafts : (edit : Edit) (result : Returned) → IsReply edit result → DraftsEdit state most gone 0 edit old new → Drafts state most gone 0 result old new
   drafts edit result is h = by_reply (λ r. Drafts state most gone 0 r old new) edit result is
       (record {
         makes = subst (λ (e : Ending). Makes state most gone 0 e old new) (sym (ended_so edit)) h.makes;

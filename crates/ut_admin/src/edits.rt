@@ -33,7 +33,7 @@ pub(crate) fn edit<K: Keeper>(
     ensures what { DraftTells K.state draft.old draft.new
         → EditsFrom org (λ a. verdict_or a (built_request route.now body.now)) (tables_of K.state draft.old)
         (tables_of K.state draft.new) result }
-    ensures makes { DraftsEdit K.state request_changes request_gone result draft.old draft.new }
+    ensures makes { DraftsEdit K.state request_changes request_gone 0 result draft.old draft.new }
 {
     call_laws::<K>();
     requests_fit();

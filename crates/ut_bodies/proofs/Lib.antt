@@ -1,2 +1,4 @@
 pub mod Binds
+pub mod Folded
 pub mod Spellings
+pub mod Taken

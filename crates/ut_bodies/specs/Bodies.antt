@@ -1,9 +1,15 @@
 -- What the bytes of a body say.
 use Rattle.std.specs.Prelude.{ℕ, List, Option}
+use Rattle.std.specs.Option.{option_map}
 use Rattle.ut_json.specs.Reading.{◌>>=◌}
-use Rattle.ut_model.specs.Members.{Body, body_in}
+use Rattle.ut_model.specs.declared.record_bodies.Assignment.{Assignment}
+use Rattle.ut_model.specs.Members.{Body, assignments, body_in}
 use Rattle.ut_model.specs.Requests.{Request}
 
 -- the request that a form gives for the members of the body
 abbrev pub request_in : (form : Body → Option Request) → (bytes : List ℕ) → Option Request
 request_in form bytes = body_in bytes >>= form
+
+-- the request that is made of the values which a body gives to fields
+abbrev pub values_request : (make : List Assignment → Request) → Body → Option Request
+values_request make b = option_map make (assignments b)

@@ -1,4 +1,5 @@
 -- Words of private functions' contracts alone.
+pub mod Given
 pub mod Kinds
 pub mod Names
 pub mod Outcomes

@@ -10,6 +10,7 @@ mod fields;
 mod members;
 mod name;
 mod objects;
+mod records;
 mod rules;
 mod table;
 mod types;
@@ -17,4 +18,5 @@ mod values;
 
 pub use crate::fields::new_field;
 pub use crate::objects::{new_access, new_object};
+pub use crate::records::field_values;
 pub use crate::rules::new_validation_rule;

@@ -1,15 +1,17 @@
 //! Members of an object, found by their names.
 
-ghost use Rattle.std.specs.Prelude.{◌≡◌, ◌++◌, ◌&&◌, bytes_eq};
+ghost use Rattle.std.specs.Prelude.{◌≡◌, ◌++◌, ◌&&◌, IfOk, bytes_eq, encode_utf8_all, map, string_bytes};
 ghost use Rattle.std.specs.List.{list_all, list_any};
 ghost use Rattle.std.specs.Option.{option_copied};
 ghost use Rattle.std.specs.Str.{chars};
-ghost use Rattle.ut_value.specs.Texts.{texts_differ};
+ghost use Rattle.ut_value.specs.Texts.{lower, texts_differ};
 ghost use Rattle.ut_model.specs.Members.{entry_named, is_one_of, member_names};
 ghost use Rattle.ut_bodies.specs.inner.Names.{names_of};
 ghost use Rattle.ut_bodies.specs.inner.Spelled.{body_of};
 
 use crate::name::Name;
+use std::alloc::{AllocError, Global};
+use std::collections::BTreeSet;
 use ut_json::{Json, Member};
 use ut_value::{Text, is_text};
 
@@ -93,4 +95,34 @@ pub(crate) fn are_formed(members: &[Member], needed: &[Name], optional: &[Name])
 {
     // Of known names alone one soon comes again, so that `differ` takes few steps.
     are_among(members, needed, optional) && differ(members) && are_there(members, needed)
+}
+
+// A name with its ASCII letters in lower case.
+fn lower_name(alloc: Global, name: &Text) -> Result<String, AllocError>
+    ensures { IfOk result (λ string. string_bytes string ≡ encode_utf8_all (lower name.now)) }
+{
+    let mut string = String::new(alloc);
+    'characters: for c in name.as_str().chars() {
+        string.push(c.to_ascii_lowercase())?;
+    }
+    Ok(string)
+}
+
+/// Whether no two have the same name, whatever the case of its ASCII letters. It takes time n log n, and memory as the names.
+///
+/// # Errors
+///
+/// When out of memory.
+pub(crate) fn differ_in_any_case(alloc: Global, members: &[Member]) -> Result<bool, AllocError>
+    ensures { IfOk result (λ differ. differ ≡ texts_differ (map lower (member_names (body_of members.now)))) }
+{
+    let mut names = BTreeSet::new(alloc);
+    let mut rest = members;
+    'members: while let Some((member, more)) = rest.split_first() {
+        if !names.insert(lower_name(alloc, &member.name)?)? {
+            return Ok(false);
+        }
+        rest = more;
+    }
+    Ok(true)
 }

@@ -1,5 +1,5 @@
 -- How a call ended whose answer is made of what a call before it read.
-use Rattle.std.proofs.Common.{◌≡◌, ℕ, List, Option, Some, None, sym, refl, subst, inl, inr}
+use Rattle.std.proofs.Common.{◌≡◌, ℕ, List, Option, Some, None, sym, subst, inl, inr}
 use Rattle.std.specs.Prelude.{IfErr, Result, Ok, Err, Vec}
 use Rattle.ut_value.specs.Causes.{GivesOr}
 use Rattle.ut_keeper.specs.Draft.{Held}

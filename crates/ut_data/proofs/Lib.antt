@@ -12,6 +12,7 @@ pub mod RecordFits
 pub mod Ended
 pub mod Standing
 pub mod Loading
+pub mod Having
 pub mod Rising
 pub mod Listed
 pub mod Walking

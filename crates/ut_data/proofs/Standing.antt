@@ -97,7 +97,7 @@ row_kept org n p t o id is = by (record_at t id)
         (λ _. refl)
         (λ _. refl))
 
-found_id : (rs : List Record) (id : List ℕ) (r : Record) → having_id (λ r. r.id) rs id ≡ Some r → (r.id ≡ id) × Has rs r
+pub found_id : (rs : List Record) (id : List ℕ) (r : Record) → having_id (λ r. r.id) rs id ≡ Some r → (r.id ≡ id) × Has rs r
 found_id [] id r e = absurd cc
 found_id (x ∷ rs) id r e =
     pick (bytes_eq id x.id) (λ b. bytes_eq id x.id ≡ b → cond b (Some x) (having_id (λ r. r.id) rs id) ≡ Some r → (r.id ≡ id) × Has (x ∷ rs) r)
@@ -127,11 +127,16 @@ found_of t n id r (Some s) e h =
 pub own_row : (org n : ℕ) (q : OrgPlan) (t : Tenant) (id : List ℕ) → rows_alone org q (Some t) (Data org n id) ≡ row_in q t (Data org n id)
 own_row org n q t id = ap (λ b. cond b (row_in q t (Data org n id)) None) (eqb_same org)
 
+-- whether they are a tenant's, or none
+pub at_place : IsAntisymmetric place_cmp → OwnPlaces → (org n : ℕ) (q : OrgPlan) (t : Option Tenant) (m : Tables) (id : List ℕ) → org < 2 ^ 32 → FitsKey (Data org n id) → StandsIn org q m t
+    → map.get m (spell (Data org n id)) ≡ rows_alone org q t (Data org n id)
+at_place exact own org n q t m id lo key s =
+    let k = Data org n id in
+    sym (part_at exact org m (spell k) ∙ ap (λ b. cond b (map.get m (spell k)) None) (own org k lo key ∙ eqb_same org)) ∙ s.rows.at k key
+
 at_key : IsAntisymmetric place_cmp → OwnPlaces → (org n : ℕ) (q : OrgPlan) (t : Tenant) (m : Tables) (id : List ℕ) → org < 2 ^ 32 → FitsKey (Data org n id) → StandsIn org q m (Some t)
     → map.get m (spell (Data org n id)) ≡ row_in q t (Data org n id)
-at_key exact own org n q t m id lo key s =
-    let k = Data org n id in
-    sym (part_at exact org m (spell k) ∙ ap (λ b. cond b (map.get m (spell k)) None) (own org k lo key ∙ eqb_same org)) ∙ s.rows.at k key ∙ own_row org n q t id
+at_key exact own org n q t m id lo key s = at_place exact own org n q (Some t) m id lo key s ∙ own_row org n q t id
 
 -- ---- what is there
 

@@ -1,21 +1,19 @@
-ghost use Rattle.std.specs.Prelude.{◌≡◌, ◌<◌, ◌^◌, ℕ, IsTrue, Some, None, true};
+ghost use Rattle.std.specs.Prelude.{◌≡◌, ◌<◌, ◌^◌, ℕ, IsTrue, Some, None};
 ghost use Rattle.std.specs.List.{list_all};
 ghost use Rattle.ut_data.specs.Decoding.{has_types, kinds_in, record_from};
 ghost use Rattle.ut_data.specs.Encoding.{row_from};
 ghost use Rattle.ut_keys.specs.Forms.{FitsForm};
 ghost use Rattle.ut_keys.specs.Rows.{data_form};
 ghost use Rattle.ut_model.specs.declared.record.Record.{Record};
-ghost use Rattle.ut_model.specs.Jobs.{is_past};
 ghost use Rattle.ut_model.specs.Membership.{Has};
 ghost use Rattle.ut_model.specs.Objects.{Numbered, is_of, object_numbered};
 ghost use Rattle.ut_model.specs.Sound.{IsSound};
 ghost use Rattle.ut_model.specs.SoundRecords.{kinds_of};
 ghost use Rattle.ut_model.specs.Tenant.{Job, Object, Tenant};
-ghost use Rattle.ut_stands.specs.Entries.{data_of, slot_entry};
-ghost use Rattle.ut_stands.specs.Layouts.{job_on, layout_of};
+ghost use Rattle.ut_stands.specs.Entries.{data_of, job_value, slot_entry};
+ghost use Rattle.ut_stands.specs.Layouts.{layout_of};
 ghost use Rattle.ut_stands.specs.Plan.{FitsPlan, OrgPlan};
 ghost use Rattle.ut_value.specs.Printing.{is_printable};
-ghost use Rattle.ut_value.specs.declared.job.Phase.TheVariants as phase;
 
 use ut_value::{id_laws, value_laws};
 
@@ -26,15 +24,17 @@ pub fn data_laws()
         → IsSound t → FitsPlan p t → object_numbered t n ≡ Some o → Has t.records r → IsTrue (is_of n r)
         → record_from (layout_of org p t (record { number = n; object = o })) (data_of org n r (slot_entry p t.job n o r)) ≡ Some r }
 
-    // While no field's type is changed, the row that is made of a record is the one that tables have of it.
-    ensures written { (org n : ℕ) (p : OrgPlan) (t : Tenant) (o : Object) (r : Record)
-        → job_on p t n ≡ None → IsTrue (list_all is_printable r.values)
+    // Where a change of the object has no value for the record, the row that is made of it is the one that tables have of it. So
+    // it is while no type of the object's fields is changed, and of a new record, which is past the cursor while values are copied.
+    ensures made { (org n : ℕ) (p : OrgPlan) (t : Tenant) (o : Object) (r : Record)
+        → ((j : Job) → t.job ≡ Some j → j.object ≡ n → job_value p j j.phase r ≡ None)
+        → IsTrue (list_all is_printable r.values)
         → row_from (layout_of org p t (record { number = n; object = o })) r None ≡ data_of org n r (slot_entry p t.job n o r) }
 
-    // So it is where a change is under way that hasn't come to the record or clears what is left, if another row of the record
-    // says what is in the other slots.
+    // Where a change of the object has the same for two records, the row that is made of the one over the other's is the one that
+    // tables have of it. So it is of a record whose values change, but for that of the change's field once it was copied.
     ensures rewritten { (org n : ℕ) (p : OrgPlan) (t : Tenant) (o : Object) (q r : Record)
-        → q.id ≡ r.id → ((j : Job) → t.job ≡ Some j → j.object ≡ n → j.phase ≡ phase.Copy → is_past j.cursor r.id ≡ true)
+        → ((j : Job) → t.job ≡ Some j → j.object ≡ n → job_value p j j.phase q ≡ job_value p j j.phase r)
         → IsTrue (list_all is_printable r.values)
         → row_from (layout_of org p t (record { number = n; object = o })) r (Some (data_of org n q (slot_entry p t.job n o q)))
         ≡ data_of org n r (slot_entry p t.job n o r) }

@@ -1,23 +1,27 @@
 //! Reads of records.
 
-ghost use Rattle.std.specs.Prelude.{◌≡◌, ◌+◌, ◌++◌, Err, IfErr, IfSome, IsTrue, take};
-ghost use Rattle.std.specs.Option.{option_map};
-ghost use Rattle.ut_data.specs.Decoding.{each_from, has_types, record_from};
+ghost use Rattle.std.specs.Prelude.{◌≡◌, ◌+◌, ◌++◌, Err, IfErr, IfOk, IfSome, IsErrOf, IsTrue, is_ok, is_some, take};
+ghost use Rattle.std.specs.FinMap as map;
+ghost use Rattle.std.specs.List.{list_all};
+ghost use Rattle.std.specs.Option.{option_and_then, option_map};
+ghost use Rattle.ut_data.specs.Decoding.{each_from, has_types, kinds_in, record_from};
 ghost use Rattle.ut_data.specs.inner.Found.{found_from, listed_from};
-ghost use Rattle.ut_keeper.specs.Draft.{DraftTells, removals_of, tables_of};
+ghost use Rattle.ut_keeper.specs.Draft.{DraftReads, DraftTells, removals_of, state_of, tables_of};
 ghost use Rattle.ut_keeper.specs.Prefixes.{raised};
-ghost use Rattle.ut_keeper.specs.State.{seen};
-ghost use Rattle.ut_keys.specs.declared.fail.StoreFail.TheVariants.{Memory};
-ghost use Rattle.ut_keys.specs.Keys.{record_key};
+ghost use Rattle.ut_keeper.specs.State.{KeeperCause, Quiet, StaysAfter, seen};
+ghost use Rattle.ut_keys.specs.declared.fail.StoreFail.TheVariants.{Damaged, Keeper, Memory};
+ghost use Rattle.ut_keys.specs.Keys.{Data, record_key, spell};
 ghost use Rattle.ut_keys.specs.Listings.{rows_to, start_of};
 ghost use Rattle.ut_keys.specs.Reads.{ListsAs};
 ghost use Rattle.ut_keys.specs.Rows.{data_form};
 ghost use Rattle.ut_model.specs.Rights.{record_of_object};
+ghost use Rattle.ut_model.specs.SoundRecords.{all_valid};
 ghost use Rattle.ut_parts.specs.Plain.{number16, number32};
 ghost use Rattle.ut_parts.specs.Gives.{Gives, GivesBy};
 ghost use Rattle.ut_parts.specs.Shapes.{Both, FitsIn, Number16, Number32, spelled};
 ghost use Rattle.ut_stands.specs.Calls.{Calls, ended};
 ghost use Rattle.ut_stands.specs.Layouts.{FindsOf, records_after};
+ghost use Rattle.ut_stands.specs.Local.{FindsIn};
 ghost use Rattle.ut_value.specs.Causes.{GivesOr};
 ghost use Rattle.ut_value.specs.Id.{is_id};
 
@@ -25,7 +29,10 @@ use crate::decoding::{has_types, record_of, record_within};
 use crate::laws::data_laws;
 use std::alloc::Global;
 use ut_keeper::{Draft, Keeper, draft_laws, key_laws, walk_laws};
-use ut_keys::{DataRow, StoreFail, listing_laws, page_under, row_at, row_laws, table_laws};
+use ut_keys::{
+    DataRow, RowForm, StoreFail, listing_laws, page_under, row_at, row_laws, spelling_of,
+    table_laws,
+};
 use ut_model::Record;
 use ut_parts::{CodecFail, shape_laws};
 use ut_stands::{Layout, local_laws};
@@ -41,6 +48,49 @@ fn key_of(org: u32, object: u16, id: &Id) -> (u32, (u16, Id))
     (org, (object, *id))
 }
 
+// Whether there is a row of a record's key.
+fn has_row<K: Keeper>(
+    alloc: Global,
+    draft: &mut Draft<'_, K>,
+    key: &(u32, (u16, Id)),
+) -> Result<bool, StoreFail>
+    requires { FitsIn record_key key.now }
+    ensures there { DraftTells K.state draft.old draft.new
+        → IfOk result (λ there. there ≡ is_some (map.get (tables_of K.state draft.old) (spell (Data key.now.0 key.now.1.0 key.now.1.1)))) }
+    ensures whole { IsErrOf result Damaged → ⊥ }
+    ensures reads { DraftReads K.state 1 draft.old draft.new }
+    ensures stays { StaysAfter (is_ok result) (state_of K.state draft.old) (state_of K.state draft.new) }
+    ensures cause { KeeperCause (state_of K.state draft.old) (state_of K.state draft.new) (IsErrOf result Keeper) }
+    ensures quiet { Quiet (state_of K.state draft.old) (state_of K.state draft.new) (IsErrOf result Keeper) }
+{
+    shape_laws();
+    let key = spelling_of(alloc, key)?;
+    let row = draft.get(alloc, DataRow::table(), key.as_slice())?;
+    Ok(row.is_some())
+}
+
+/// Whether the object with this number has a record with this id. Its row isn't read.
+///
+/// # Errors
+///
+/// `Keeper` if the keeper failed, `Memory` if out of memory, `Damaged` never.
+pub fn has_record<K: Keeper>(
+    alloc: Global,
+    draft: &mut Draft<'_, K>,
+    org: u32,
+    object: u16,
+    id: &Id,
+) -> Result<bool, StoreFail>
+    ensures finds { DraftTells K.state draft.old draft.new
+        → FindsIn org (λ q t. is_some (option_and_then (λ u. record_of_object u object id.now) t)) (tables_of K.state draft.old) result }
+    ensures calls { Calls K.state 1 (ended result) draft.old draft.new }
+{
+    key_laws();
+    local_laws();
+    let key = key_of(org, object, id);
+    has_row(alloc, draft, &key)
+}
+
 // The record of a row that was read, if there is one.
 fn record_found(
     alloc: Global,
@@ -48,6 +98,7 @@ fn record_found(
     row: Result<Option<DataRow>, StoreFail>,
 ) -> Result<Option<Record>, StoreFail>
     ensures found { GivesOr Memory (found_from layout.now row) result }
+    ensures valid { IfOk result (λ found. IfSome found (λ r. IsTrue (all_valid (kinds_in layout.now.fields) r.values))) }
     ensures failed { IfErr row (λ e. result ≡ Err e) }
 {
     match row {
@@ -74,6 +125,8 @@ pub fn load_record<K: Keeper>(
 ) -> Result<Option<Record>, StoreFail>
     ensures finds { DraftTells K.state draft.old draft.new
         → FindsOf layout.now (λ t. record_of_object t layout.now.object id.now) (tables_of K.state draft.old) result }
+    // Its values are valid, whatever the tables hold.
+    ensures valid { IfOk result (λ found. IfSome found (λ r. IsTrue (all_valid (kinds_in layout.now.fields) r.values))) }
     ensures calls { Calls K.state 1 (ended result) draft.old draft.new }
 {
     key_laws();
@@ -92,7 +145,8 @@ fn records_within(
     rows: &[DataRow],
 ) -> Result<Vec<Record>, CodecFail>
     requires { IsTrue (has_types layout.now) }
-    ensures { GivesBy (λ rs. rs.items) result (each_from (record_from layout.now) rows.now) }
+    ensures gives { GivesBy (λ rs. rs.items) result (each_from (record_from layout.now) rows.now) }
+    ensures valid { IfOk result (λ rs. IsTrue (list_all (λ r. all_valid (kinds_in layout.now.fields) r.values) rs.items)) }
 {
     let mut records = Vec::new(alloc);
     for row in rows {
@@ -106,7 +160,8 @@ fn records_within(
 }
 
 fn records_of(alloc: Global, layout: &Layout, rows: &[DataRow]) -> Result<Items<Record>, CodecFail>
-    ensures { Gives result (each_from (record_from layout.now) rows.now) }
+    ensures gives { Gives result (each_from (record_from layout.now) rows.now) }
+    ensures valid { IfOk result (λ rs. IsTrue (list_all (λ r. all_valid (kinds_in layout.now.fields) r.values) rs)) }
 {
     if rows.is_empty() {
         return Ok(Items::new(alloc));
@@ -127,6 +182,7 @@ fn records_found(
     rows: Result<Vec<DataRow>, StoreFail>,
 ) -> Result<Items<Record>, StoreFail>
     ensures listed { GivesOr Memory (listed_from layout.now rows) result }
+    ensures valid { IfOk result (λ rs. IsTrue (list_all (λ r. all_valid (kinds_in layout.now.fields) r.values) rs)) }
     ensures failed { IfErr rows (λ e. result ≡ Err e) }
 {
     match rows {
@@ -179,6 +235,8 @@ pub fn walk<K: Keeper>(
     ensures finds { DraftTells K.state draft.old draft.new
         → FindsOf layout.now (records_after layout.now.object (option_map (λ id. id.now) after.entry) limit)
         (tables_of K.state draft.old) result }
+    // The values of each are valid, whatever the tables hold.
+    ensures valid { IfOk result (λ rs. IsTrue (list_all (λ r. all_valid (kinds_in layout.now.fields) r.values) rs)) }
     ensures calls { Calls K.state (limit + removals_of K.state 7 draft.old) (ended result) draft.old draft.new }
 {
     listing_laws::<DataRow>();

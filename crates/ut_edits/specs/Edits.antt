@@ -80,8 +80,9 @@ pub record MakesEdit {X : Type 0} (org : ℕ) (verdict : Asked → Verdict) (ans
   pub edited : (q : OrgPlan) (a : Asked) → StandsIn org q m (Some a.tenant) → fits a → EditsAt org (verdict a) answered (planned q a.tenant) after result
 
 module _ {K X : Type 0} (state : K → KeeperState) where
-  -- what it leaves of a draft: its changes are at most so many; there are some if it is done, and none if it is refused
-  pub record DraftsEdit (most gone : ℕ) (result : Result X EditFail) (old new : Held K) : Type 0 where
-    pub makes : Makes state most gone 0 (ended_edit result) old new
+  -- what it leaves of a draft: its changes and what it is shown are at most so many; there are some if it is done, and none if it
+  -- is refused
+  pub record DraftsEdit (most gone shown : ℕ) (result : Result X EditFail) (old new : Held K) : Type 0 where
+    pub makes : Makes state most gone shown (ended_edit result) old new
     pub some : OnOk result (0 < count_of new)
-    pub refused : IfErr result (λ e. IsRefusal e → DraftReads state 0 old new)
+    pub refused : IfErr result (λ e. IsRefusal e → DraftReads state shown old new)

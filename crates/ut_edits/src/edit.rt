@@ -57,10 +57,12 @@ pub trait Edit {
     /// What it asks for has its form, for who asks.
     ghost fits: { Self → Asked → Type 0 };
 
-    /// How many rows it changes at most, and how many data rows it removes at most.
+    /// How many rows it changes at most, and how many data rows it removes and is shown at most.
     ghost most: { ℕ };
 
     ghost gone: { ℕ };
+
+    ghost shown: { ℕ };
 
     /// Judges the edit: what it answers, and the changes that make it. Nothing is changed yet.
     ///
@@ -77,7 +79,7 @@ pub trait Edit {
         ensures what { DraftTells K.state draft.old draft.new
             → Decides org (verdict self.now) answered (planned self.now) (fits self.now) (tables_of K.state draft.old) result }
         ensures few { IfOk result (λ x. AreFew most gone x.changes.items) }
-        ensures calls { Calls K.state 0 (ended_edit result) draft.old draft.new };
+        ensures calls { Calls K.state shown (ended_edit result) draft.old draft.new };
 }
 
 /// Makes an edit, and returns what it answers.
@@ -94,7 +96,7 @@ pub fn make_edit<E: Edit, K: Keeper>(
     ensures what { DraftTells K.state draft.old draft.new
         → MakesEdit org (E.verdict edit.now) E.answered (E.planned edit.now) (E.fits edit.now) (tables_of K.state draft.old)
         (tables_of K.state draft.new) result }
-    ensures makes { DraftsEdit K.state E.most E.gone result draft.old draft.new }
+    ensures makes { DraftsEdit K.state E.most E.gone E.shown result draft.old draft.new }
 {
     draft_laws::<K>();
     call_laws::<K>();

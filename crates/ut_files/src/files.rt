@@ -28,7 +28,7 @@ pub fn open_file<S: Start>(rt: HostRuntime, path: &str, start: S) -> Result<File
             if let Some(left) = left {
                 drop(left.into_files());
             }
-            Err(unopened_by(&error))
+            Err(unopened_by(error))
         }
     }
 }

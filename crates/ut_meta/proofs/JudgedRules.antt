@@ -23,9 +23,9 @@ use Rattle.ut_model.specs.ValidationRules.{new_validation_rule_rules}
 use Rattle.ut_stands.specs.declared.layout.Layout.{Layout}
 use Rattle.ut_stands.specs.Layouts.{job_on, job_place, layout_of}
 use Rattle.ut_stands.specs.Plan.{OrgPlan}
-use Rattle.ut_meta.specs.inner.Relations.{numbered_in}
+use Rattle.ut_rules.specs.Objects.{object_of_layout}
+use Rattle.ut_rules.proofs.Objects.{fields_back}
 use Rattle.ut_meta.specs.inner.RuleRows.{IsRuled, busy_by}
-use Rattle.ut_meta.proofs.Layouts.{fields_back}
 
 pick : (b : Bool) (P : Bool → Type 0) → (b ≡ true → P true) → (b ≡ false → P false) → P b
 pick true P f g = f refl
@@ -54,10 +54,10 @@ unfolding formula_of reads_text
 formula_same o p text e =
     ap (λ (fs : List Field). cond (nat_lt formula_limit (length text)) (Err 0) (ok_or (formula_in false (formula_fields fs) text) (place_in false (formula_fields fs) text (byte_len text)))) e
 
-formula_is : (org : ℕ) (q : OrgPlan) (t : Tenant) (o : Numbered) (l : Layout) (text : List ℕ) → l ≡ layout_of org q t o → formula_of (numbered_in l).object false text ≡ formula_of o.object false text
+formula_is : (org : ℕ) (q : OrgPlan) (t : Tenant) (o : Numbered) (l : Layout) (text : List ℕ) → l ≡ layout_of org q t o → formula_of (object_of_layout l) false text ≡ formula_of o.object false text
 formula_is org q t o l text is =
-    ap (λ (l : Layout). formula_of (numbered_in l).object false text) is
-    ∙ formula_same (numbered_in (layout_of org q t o)).object o.object text (fields_back q o.number 0 o.object.fields)
+    ap (λ (l : Layout). formula_of (object_of_layout l) false text) is
+    ∙ formula_same (object_of_layout (layout_of org q t o)) o.object text (fields_back q o.number 0 o.object.fields)
 
 busy_is : (q : OrgPlan) (t : Tenant) (n : ℕ) (f : Result Formula ℕ) → busy_by (job_on q t n) f ≡ busy t n f
 busy_is q t n f = by t.job
@@ -84,7 +84,7 @@ module _ (t : Tenant) (o : Numbered) (l : Layout) (is_taken : Bool) (rules : ℕ
   formula = formula_of o.object false b.formula
 
   abbrev seen : Result Formula ℕ
-  seen = formula_of (numbered_in l).object false b.formula
+  seen = formula_of (object_of_layout l) false b.formula
 
   abbrev named : Rule
   named = first_refusal (bad_name is_stem b.name ∷ refuse_if is_taken (NameTaken b.name) ∷ [])

@@ -17,14 +17,10 @@ use Rattle.ut_stands.specs.Plan.{OrgPlan}
 use Rattle.ut_stands.specs.declared.layout.FieldPlace.{FieldPlace}
 use Rattle.ut_stands.specs.declared.layout.Layout.{Layout}
 use Rattle.ut_meta.specs.Judging.{AreLayouts, layouts_in}
-use Rattle.ut_meta.specs.inner.Relations.{field_of_place, gives, has_child, is_master_of, layout_by_name, layout_gives, master_among, master_object, names_among, numbered_in, references_in}
+use Rattle.ut_rules.specs.Objects.{field_of_place, numbered_in}
+use Rattle.ut_rules.proofs.Objects.{fields_back}
+use Rattle.ut_meta.specs.inner.Relations.{gives, has_child, is_master_of, layout_by_name, layout_gives, master_among, master_object, names_among, references_in}
 use Rattle.ut_meta.proofs.Lists.{any_joined, any_of_passed, any_of_some, any_same, found_mapped, joined_mapped, joined_same, or_none, or_pairs, pick}
-
--- ---- fields
-
-pub fields_back : (p : OrgPlan) (n k : ℕ) (fs : List Field) → map field_of_place (map (place_of p n) (enumerate_from k fs)) ≡ fs
-fields_back p n k [] = refl
-fields_back p n k (f ∷ fs) = ap (λ (x : List Field). f ∷ x) (fields_back p n (k + 1) fs)
 
 -- ---- objects
 

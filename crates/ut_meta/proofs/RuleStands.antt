@@ -1,6 +1,6 @@
 -- A new validation rule takes the row of its object to the one with a rule more, and puts its own.
-use Rattle.std.proofs.Common.{◌≡◌, ◌∙◌, ◌⊎◌, inl, inr, ℕ, ◌+◌, suc, ◌<◌, ◌≤◌, ◌^◌, Bool, true, false, not, ◌&&◌, cond, eqb, is_lt, IsTrue, List, [], ◌∷◌, length, map, Option, Some, None, refl, sym, ap, subst, arith}
-use Rattle.std.specs.Prelude.{Err, IfErr, IsErrAnd, Ok, Result, is_some}
+use Rattle.std.proofs.Common.{◌≡◌, ◌∙◌, inl, inr, ℕ, ◌+◌, ◌<◌, ◌≤◌, ◌^◌, Bool, true, false, not, cond, is_lt, IsTrue, List, [], ◌∷◌, length, map, Option, Some, None, refl, sym, ap, subst, arith}
+use Rattle.std.specs.Prelude.{Err, IsErrAnd, Ok, Result, is_some}
 use Rattle.std.specs.List.{AllByRecursion, enumerate_from, list_any}
 use Rattle.std.specs.Option.{option_and_then, option_map}
 use Rattle.ut_edits.proofs.Reading.{SameTables, TellsFirst, TellsThen, TwoReads, two_reads}
@@ -10,15 +10,14 @@ use Rattle.ut_keeper.specs.Draft.{DraftTells, Held}
 use Rattle.ut_keeper.specs.State.{KeeperState}
 use Rattle.ut_keeper.specs.Tables.{Tables}
 use Rattle.ut_keys.specs.declared.fail.StoreFail.{StoreFail}
-use Rattle.ut_keys.specs.declared.fail.StoreFail.TheVariants.{Damaged}
 use Rattle.ut_keys.specs.declared.object.ObjectRow.{ObjectRow}
 use Rattle.ut_keys.specs.declared.validation.ValidationRow.{ValidationRow}
 use Rattle.ut_keys.specs.Forms.{FitsForm, row_bytes}
 use Rattle.ut_keys.specs.Keys as key
-use Rattle.ut_keys.specs.Keys.{Key, key_eq}
+use Rattle.ut_keys.specs.Keys.{Key}
 use Rattle.ut_keys.specs.Rows.{object_form, validation_form}
 use Rattle.ut_model.specs.declared.refusal.Refusal.{Refusal}
-use Rattle.ut_model.specs.declared.refusal.Refusal.TheVariants.{InvalidName, InvalidType, NameTaken}
+use Rattle.ut_model.specs.declared.refusal.Refusal.TheVariants.{InvalidName, NameTaken}
 use Rattle.ut_model.specs.Fields.{same_name}
 use Rattle.ut_model.specs.Membership.{Has}
 use Rattle.ut_model.specs.Names.{is_stem}
@@ -35,7 +34,6 @@ use Rattle.ut_model.specs.Verdict.{Verdict, accept, done, unless}
 use Rattle.ut_sound.specs.Fit.{is_fit_validation}
 use Rattle.ut_stands.specs.Calls.{Calls, Ending, ended_by, ended_edit}
 use Rattle.ut_stands.specs.declared.fail.EditFail.{EditFail}
-use Rattle.ut_stands.specs.declared.fail.EditFail.TheVariants.{Refused, Store}
 use Rattle.ut_stands.specs.declared.layout.Layout.{Layout}
 use Rattle.ut_stands.specs.Fails.{of_store}
 use Rattle.ut_stands.specs.Layouts.{layout_of, own_layout_named, own_rule_row, place_of}
@@ -43,14 +41,14 @@ use Rattle.ut_stands.specs.Local.{FindsIn, IsIn, StandsIn}
 use Rattle.ut_stands.specs.Metadata.{lower_bytes, named_so, row_of_object, validation_of}
 use Rattle.ut_stands.specs.Plan.{FitsPlan, OrgPlan}
 use Rattle.ut_stands.specs.Records.{is_object_key, is_rule_key, rule_at}
-use Rattle.ut_stands.specs.Stands.{org_of_key, row_in}
+use Rattle.ut_stands.specs.Stands.{row_in}
 use Rattle.ut_meta.specs.inner.Rows.{HasRow}
-use Rattle.ut_meta.specs.inner.RuleRows.{AcceptsRule, FitRuleRows, IsRuled, IsSpelledRule, changes_of, rows_by}
+use Rattle.ut_meta.specs.inner.RuleRows.{AcceptsRule, FitRuleRows, IsRead, IsRuled, IsSpelledRule, ReadsFor, changes_of, rows_by}
 use Rattle.ut_meta.specs.declared.edits.validation.NewRuleRows.{NewRuleRows}
+use Rattle.ut_meta.specs.declared.edits.validation.ReadObject.{ReadObject}
 use Rattle.ut_meta.specs.Judging.{NamesLayout, verdict_refusal}
 use Rattle.ut_meta.proofs.AccessEdits.{DescribedFits, ObjectFits, SamePlan, get_changed, own_row}
 use Rattle.ut_meta.proofs.Editing.{beside, named_at, other_object, other_rule, some_is, unrefused}
-use Rattle.ut_meta.proofs.JudgedRules.{two_pass}
 use Rattle.ut_meta.proofs.FieldStands.{sound_object}
 use Rattle.ut_meta.proofs.Putting.{put_is_in, put_is_of}
 
@@ -110,9 +108,6 @@ has_put r (x ∷ rules) = by (is_lt (name_cmp r.name x.name)) (has_put r rules)
 ruled_by : (t : Tenant) (b : NewValidationRule) (o : Numbered) → object_named t b.object ≡ Some o
     → add_validation_rule t b ≡ unless (first_refusal (new_validation_rule_rules t o b)) t (accept done (with_object_changed o.number (with_validation_rule (model.validation_of b)) t))
 ruled_by t b o there = rw there refl
-
-pub no_object : (t : Tenant) (b : NewValidationRule) (r : Refusal) → object_named t b.object ≡ None → r ≡ InvalidType b.object → (add_validation_rule t b).answer ≡ Err r
-no_object t b r none is = rw none (ap Err (sym is))
 
 pub rule_refused : (t : Tenant) (b : NewValidationRule) (o : Numbered) (r : Refusal) → object_named t b.object ≡ Some o → Some r ≡ first_refusal (new_validation_rule_rules t o b) → (add_validation_rule t b).answer ≡ Err r
 rule_refused t b o r there e = ap (λ (v : Verdict). v.answer) (ruled_by t b o there) ∙ by (first_refusal (new_validation_rule_rules t o b)) e
@@ -179,19 +174,20 @@ layout_absent org q t m asked name r found same h was is s =
         present : ◌≡◌ {A = Option Layout} None (Some (layout_of org q t o)) → ⊥
         present e = cc
 
-pub layout_failed : (org : ℕ) (q : OrgPlan) (t : Tenant) (b : NewValidationRule) (r : Result Layout EditFail) (e : EditFail) → NamesLayout org q t b.object r → r ≡ Err e → FailsBy (add_validation_rule t b) e
-layout_failed org q t b r e h was = by e (subst (NamesLayout org q t b.object) was h)
-  where
-    by : (e : EditFail) → NamesLayout org q t b.object (Err e) → FailsBy (add_validation_rule t b) e
-    by (Refused r) h = no_object t b r h.0 h.1
-    by (Store f) h = h
-
 pub layout_is : (org : ℕ) (q : OrgPlan) (t : Tenant) (name : List ℕ) (r : Result Layout EditFail) (l : Layout) → NamesLayout org q t name r → r ≡ Ok l → (o : Numbered) × (object_named t name ≡ Some o) × (l ≡ layout_of org q t o)
 layout_is org q t name r l h was = subst (NamesLayout org q t name) was h
+
+pub unread : (org : ℕ) (t : Tenant) (b : NewValidationRule) (e : EditFail) (r : Result ReadObject EditFail) → IsErrAnd r (λ y. y ≡ e) → FailsBy (add_validation_rule t b) e → ReadsFor org t b r
+unread org t b e (Ok object) passed h = absurd passed
+unread org t b e (Err y) passed h = subst (FailsBy (add_validation_rule t b)) (sym passed) h
 
 pub passed_on : (org : ℕ) (t : Tenant) (b : NewValidationRule) (e : EditFail) (r : Result ObjectRow EditFail) → IsErrAnd r (λ y. y ≡ e) → FailsBy (add_validation_rule t b) e → AcceptsRule org t b r
 passed_on org t b e (Ok row) passed h = absurd passed
 passed_on org t b e (Err y) passed h = subst (FailsBy (add_validation_rule t b)) (sym passed) h
+
+-- what the call found that reads
+pub read_so : (org : ℕ) (t : Tenant) (b : NewValidationRule) (r : Result ReadObject EditFail) (object : ReadObject) → ReadsFor org t b r → r ≡ Ok object → IsRead org t b object
+read_so org t b r object h was = subst (ReadsFor org t b) was h
 
 -- whether a rule has the name
 pub found_so : RuleFound → (org : ℕ) (q : OrgPlan) (t : Tenant) (name : List ℕ) (n : ℕ) (o : Numbered) (m : Tables) (lower : List ℕ) (r : Result (Option ValidationRow) StoreFail) (found : Option ValidationRow)
@@ -224,10 +220,14 @@ length_fields q n k [] = refl
 length_fields q n k (f ∷ fs) = omega (arith, length_fields q n (k + 1) fs)
 
 -- a layout has few fields
-pub few_fields : (org : ℕ) (q : OrgPlan) (t : Tenant) (name : List ℕ) (o : Numbered) (l : Layout) → IsSound t → object_named t name ≡ Some o → l ≡ layout_of org q t o → length l.fields ≤ 40
+few_fields : (org : ℕ) (q : OrgPlan) (t : Tenant) (name : List ℕ) (o : Numbered) (l : Layout) → IsSound t → object_named t name ≡ Some o → l ≡ layout_of org q t o → length l.fields ≤ 40
 few_fields org q t name o l s there is =
     let few = (sound_object t o.number o.object s (named_at t name o there)).few_fields in
     subst (λ (l : Layout). length l.fields ≤ 40) (sym is) (subst (λ (n : ℕ). n ≤ 40) (sym (length_fields q o.number 0 o.object.fields)) few)
+
+-- and so has the one that was read
+pub few_read : (org : ℕ) (t : Tenant) (b : NewValidationRule) (object : ReadObject) → IsSound t → IsRead org t b object → length object.layout.fields ≤ 40
+few_read org t b object s is = few_fields is.ruled.layout.0 is.ruled.layout.1 t b.object is.numbered object.layout s is.there is.ruled.layout.2
 
 -- ---- what is changed
 

@@ -5,7 +5,6 @@
 #![tactic(auto)]
 
 mod edits;
-mod formulas;
 mod judging;
 mod members;
 mod references;

@@ -7,6 +7,7 @@ ghost use Rattle.ut_meta.specs.Judging.{AreLayouts};
 ghost use Rattle.ut_meta.specs.inner.Relations as inner;
 ghost use Rattle.ut_model.specs.Metadata.{detail_level, masters_above};
 ghost use Rattle.ut_model.specs.Tenant.{Tenant};
+ghost use Rattle.ut_rules.specs.Objects.{field_of_place};
 
 use crate::references::{is_master, parent_name, target_of};
 use std::alloc::{AllocError, Global};
@@ -48,7 +49,7 @@ fn gives(
     object: u16,
     field: &FieldPlace,
 ) -> Result<bool, AllocError>
-    ensures { IfOk result (λ b. b ≡ inner.gives number (chars name.now) object (inner.field_of_place field.now)) }
+    ensures { IfOk result (λ b. b ≡ inner.gives number (chars name.now) object (field_of_place field.now)) }
 {
     let Some(target) = target_of(&field.kind) else {
         return Ok(false);
@@ -68,7 +69,7 @@ fn any_gives(
     object: u16,
     fields: &[FieldPlace],
 ) -> Result<bool, AllocError>
-    ensures { IfOk result (λ b. b ≡ list_any (λ f. inner.gives number (chars name.now) object (inner.field_of_place f)) fields.now) }
+    ensures { IfOk result (λ b. b ≡ list_any (λ f. inner.gives number (chars name.now) object (field_of_place f)) fields.now) }
 {
     match fields.split_first() {
         None => Ok(false),

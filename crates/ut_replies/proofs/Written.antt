@@ -18,7 +18,11 @@ use Rattle.ut_json.specs.declared.writer.Mark.{Mark}
 use Rattle.ut_json.specs.declared.writer.Mark.TheVariants.{OpenList, CloseList, OpenObject, CloseObject, Comma, Colon}
 use Rattle.ut_value.specs.Id.{print18}
 use Rattle.ut_model.specs.declared.record.Record.{Record}
+use Rattle.ut_model.specs.Paths.{Asked}
+use Rattle.ut_model.specs.Replies.{made_members, reply_of}
 use Rattle.ut_model.specs.RowsJson.{list_json, member_json, object_json, rows_json, url, value_json}
+use Rattle.ut_model.specs.Verdict.{made_new}
+use Rattle.ut_model.specs.declared.reply.Reply.{Reply}
 use Rattle.ut_replies.specs.Names.{name_attributes, name_in, name_row}
 
 -- one piece behind another
@@ -185,3 +189,24 @@ no_rows w object (r ∷ rs) none = absurd (no_length (length rs) none)
 pub no_more : (w object all : List ℕ) (rest : List Record) → length rest ≡ 0 → w ++ encode_utf8_all (flat_map (λ r. 44 ∷ name_row object r) rest) ≡ all → w ≡ all
 no_more w object all [] none h = sym (append-nil w) ∙ h
 no_more w object all (r ∷ rs) none h = absurd (no_length (length rs) none)
+
+-- ---- what was made
+pub no_errors_written : (w0 w1 w2 w3 : List ℕ) → w1 ≡ w0 ++ encode_utf8_all (printed_text (chars (codes "errors")) ++ codes ":") → w2 ≡ w1 ++ encode_utf8_all (91 ∷ [])
+    → w3 ≡ w2 ++ encode_utf8_all (93 ∷ []) → w3 ≡ w0 ++ encode_utf8_all (member_json (codes "errors") (list_json []))
+unfolding chars
+no_errors_written w0 w1 w2 w3 e1 e2 e3 = member w0 w1 w3 (codes "errors") (list_json []) e1 (in_list w1 w2 w2 w3 [] e2 (sym (append-nil w2)) e3)
+
+pub made_written : (w0 w1 w2 w3 w4 w5 w6 w7 id text : List ℕ) → text ≡ print18 id → w1 ≡ w0 ++ encode_utf8_all (123 ∷ [])
+    → w2 ≡ w1 ++ encode_utf8_all (member_json (chars (codes "id")) (printed_text text)) → w3 ≡ w2 ++ encode_utf8_all (44 ∷ [])
+    → w4 ≡ w3 ++ encode_utf8_all (member_json (chars (codes "success")) (printed_truth true)) → w5 ≡ w4 ++ encode_utf8_all (44 ∷ [])
+    → w6 ≡ w5 ++ encode_utf8_all (member_json (codes "errors") (list_json [])) → w7 ≡ w6 ++ encode_utf8_all (125 ∷ [])
+    → w7 ≡ w0 ++ encode_utf8_all (object_json (made_members id))
+unfolding chars
+made_written w0 w1 w2 w3 w4 w5 w6 w7 id text is e1 e2 e3 e4 e5 e6 e7 =
+    of_three w0 w1 w2 w3 w4 w5 w6 w7 (member_json (codes "id") (printed_text (print18 id))) (member_json (codes "success") (printed_truth true)) (member_json (codes "errors") (list_json []))
+    e1 (e2 ∙ ap (λ t. w1 ++ encode_utf8_all (member_json (codes "id") (printed_text t))) is) e3 e4 e5 e6 e7
+
+pub made_reply : (w0 w1 body id : List ℕ) → w0 ≡ [] → w1 ≡ w0 ++ encode_utf8_all (object_json (made_members id)) → body ≡ w1
+    → (a : Asked) → reply_of a (Ok (made_new id)) ≡ record { status = 201; body = body }
+made_reply w0 w1 body id none e same a =
+    ap (λ (b : List ℕ). record { status = 201; body = b }) (sym (same ∙ e ∙ ap (λ w. w ++ encode_utf8_all (object_json (made_members id))) none))

@@ -1,13 +1,15 @@
-//! The bodies of replies that have rows of a query, in JSON.
+//! The bodies of replies in JSON: of rows of a query, and of what was made.
 //!
 //! It depends on `ut_json`, which writes JSON, and on the definitions of `ut_model`. Its contract: `names_body` returns the
 //! bytes of the rows `SELECT Id, Name` that the definition `rows_json` gives, or it is out of memory; and for an administrator
-//! of a sound organisation those are the rows of that query.
+//! of a sound organisation those are the rows of that query. `made_body` returns the body of the reply 201 that `reply_of` gives.
 #![tactic(auto)]
 
 mod laws;
+mod made;
 mod names;
 mod parts;
 
 pub use crate::laws::names_laws;
+pub use crate::made::made_body;
 pub use crate::names::names_body;

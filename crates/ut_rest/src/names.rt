@@ -5,7 +5,7 @@ ghost use Rattle.std.specs.Str.{chars};
 ghost use Rattle.ut_grammar.specs.Place.{UnlessMemory};
 ghost use Rattle.ut_keeper.specs.Draft.{DraftTells, removals_of, tables_of};
 ghost use Rattle.ut_keeper.specs.State.{data_table};
-ghost use Rattle.ut_model.specs.declared.refusal.Refusal.TheVariants.{NotBuilt};
+ghost use Rattle.ut_model.specs.declared.refusal.Refusal.TheVariants.{MalformedQuery, NotBuilt};
 ghost use Rattle.ut_model.specs.Asking.{ask, asks_for_names};
 ghost use Rattle.ut_model.specs.Paths.{Asked};
 ghost use Rattle.ut_model.specs.Step.{query_text};
@@ -112,6 +112,14 @@ fn refuse_query(alloc: Global) -> Result<Reply, StoreFail>
     }
 }
 
+// A text that spells no query is refused, with the byte at which the token begins that can't be there.
+fn refuse_malformed(alloc: Global, place: usize) -> Result<Reply, StoreFail>
+    ensures value { Refuses (MalformedQuery place) result }
+    ensures form { IfOk result IsReadReply }
+{
+    refuse(alloc, Refusal::MalformedQuery { place })
+}
+
 // Answers a query that was read.
 fn answer_read<K: Keeper>(
     alloc: Global,
@@ -155,7 +163,7 @@ pub(crate) fn answer_query<K: Keeper>(
     call_laws::<K>();
     match query_in(alloc, pairs) {
         Ok(query) => answer_read(alloc, draft, caller, query),
-        Err(ParseFail::Malformed(place)) => refuse(alloc, Refusal::MalformedQuery { place }),
+        Err(ParseFail::Malformed(place)) => refuse_malformed(alloc, place),
         Err(ParseFail::Memory) => Err(StoreFail::Memory),
     }
 }

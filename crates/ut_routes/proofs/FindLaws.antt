@@ -41,8 +41,8 @@ module _ {K : Type 0} where
   clear_of-past_text a s p [] e h = refl
   clear_of-past_text a s p (([], k) ∷ r) e h = clear_of-past_text a s p r e h
   clear_of-past_text a s p ((text t ∷ q, k) ∷ r) e h =
-      let h2 = both (clear_of (text a ∷ p) (text t ∷ q)) (clear_of_all (text a ∷ p) r) h in
-      by (clear_of-past_text a s p r e h2.1) h2.0 (same_text t s) refl
+      let halves = both (clear_of (text a ∷ p) (text t ∷ q)) (clear_of_all (text a ∷ p) r) h in
+      by (clear_of-past_text a s p r e halves.1) halves.0 (same_text t s) refl
     where
       by : clear_of_all p (past_text s r) ≡ true → clear_of (text a ∷ p) (text t ∷ q) ≡ true
           → (v : Bool) → same_text t s ≡ v → clear_of_all p (cond v ((q, k) ∷ past_text s r) (past_text s r)) ≡ true
@@ -55,15 +55,15 @@ module _ {K : Type 0} where
   clear_of-past_param p (([], k) ∷ r) h = clear_of-past_param p r h
   clear_of-past_param p ((text t ∷ q, k) ∷ r) h = cc
   clear_of-past_param p ((param ∷ q, k) ∷ r) h =
-      let h2 = both (clear_of p q) (clear_of_all (param ∷ p) r) h in
-      rw h2.0 (clear_of-past_param p r h2.1)
+      let halves = both (clear_of p q) (clear_of_all (param ∷ p) r) h in
+      rw halves.0 (clear_of-past_param p r halves.1)
 
   all_clear-past_text : (s : List ℕ) (ls : List (PatternOf K)) → all_clear ls ≡ true → all_clear (past_text s ls) ≡ true
   all_clear-past_text s [] h = refl
   all_clear-past_text s (([], k) ∷ r) h = all_clear-past_text s r (both (clear_of_all [] r) (all_clear r) h).1
   all_clear-past_text s ((text t ∷ q, k) ∷ r) h =
-      let h2 = both (clear_of_all (text t ∷ q) r) (all_clear r) h in
-      by (all_clear-past_text s r h2.1) h2.0 (same_text t s) refl
+      let halves = both (clear_of_all (text t ∷ q) r) (all_clear r) h in
+      by (all_clear-past_text s r halves.1) halves.0 (same_text t s) refl
     where
       by : all_clear (past_text s r) ≡ true → clear_of_all (text t ∷ q) r ≡ true
           → (v : Bool) → same_text t s ≡ v → all_clear (cond v ((q, k) ∷ past_text s r) (past_text s r)) ≡ true
@@ -76,8 +76,8 @@ module _ {K : Type 0} where
   all_clear-past_param (([], k) ∷ r) h = all_clear-past_param r (both (clear_of_all [] r) (all_clear r) h).1
   all_clear-past_param ((text t ∷ q, k) ∷ r) h = all_clear-past_param r (both (clear_of_all (text t ∷ q) r) (all_clear r) h).1
   all_clear-past_param ((param ∷ q, k) ∷ r) h =
-      let h2 = both (clear_of_all (param ∷ q) r) (all_clear r) h in
-      rw (clear_of-past_param q r h2.0) (all_clear-past_param r h2.1)
+      let halves = both (clear_of_all (param ∷ q) r) (all_clear r) h in
+      rw (clear_of-past_param q r halves.0) (all_clear-past_param r halves.1)
 
   find-ends_here : (ls : List (PatternOf K)) → ends_here ls ≡ find ls []
   find-ends_here [] = refl
@@ -102,8 +102,8 @@ module _ {K : Type 0} where
       by more false w e = more
   find-split [] ss ((param ∷ q, k) ∷ r) h = find-split [] ss r (both (clear_of_all (param ∷ q) r) (all_clear r) h).1
   find-split (c ∷ s) ss ((param ∷ q, k) ∷ r) h =
-      let h2 = both (clear_of_all (param ∷ q) r) (all_clear r) h in
-      by h2.0 (find-split (c ∷ s) ss r h2.1) (is_some (path_parts q ss)) refl
+      let halves = both (clear_of_all (param ∷ q) r) (all_clear r) h in
+      by halves.0 (find-split (c ∷ s) ss r halves.1) (is_some (path_parts q ss)) refl
       ∙ ap (λ v. cond v (Some k) (find r ((c ∷ s) ∷ ss))) (sym (some_with c s (path_parts q ss)))
     where
       by : clear_of_all (param ∷ q) r ≡ true

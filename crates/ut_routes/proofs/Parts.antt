@@ -63,11 +63,11 @@ wild-literal (x ∷ t) r len token at p h =
     ∙ ap (λ n. wild_from r len (token + suc (length t)) n) (omega arith)
 
 -- the walk goes by what is behind the literals
-walk-same : (pattern spelled path : List ℕ) (names : List (ℕ × ℕ)) (token at token2 at2 : ℕ)
-    → wild_from (drop token pattern) (length path) token at ≡ wild_from (drop token2 pattern) (length path) token2 at2
-    → walk pattern spelled path names token at ≡ walk pattern spelled path names token2 at2
-walk-same pattern spelled path [] token at token2 at2 e = refl
-walk-same pattern spelled path (name ∷ rest) token at token2 at2 e =
+walk-same : (pattern spelled path : List ℕ) (names : List (ℕ × ℕ)) (token at later_token later_at : ℕ)
+    → wild_from (drop token pattern) (length path) token at ≡ wild_from (drop later_token pattern) (length path) later_token later_at
+    → walk pattern spelled path names token at ≡ walk pattern spelled path names later_token later_at
+walk-same pattern spelled path [] token at later_token later_at e = refl
+walk-same pattern spelled path (name ∷ rest) token at later_token later_at e =
     ap (λ w. (part_of spelled name.0 name.1, part_of path w.1 (wild_stop pattern w.0 path w.1))
     ∷ walk pattern spelled path rest (after_token w.0) (wild_stop pattern w.0 path w.1)) e
 
@@ -82,28 +82,28 @@ stop-at : (ps : List Piece) (s : List ℕ) (ss : List (List ℕ)) (pattern path 
     → drop token pattern ≡ param_token ∷ tokens ps → token + length (param_token ∷ tokens ps) ≡ length pattern
     → drop (token + 1) pattern ≡ tokens ps → drop at path ≡ s ++ slashed ss → at + length (s ++ slashed ss) ≡ length path
     → wild_stop pattern token path at ≡ at + length s
-stop-at [] s [] pattern path token at p fit P Q P2 R S =
-    let l = length-both s [] in
-    stop-by pattern path token at false (below token (length pattern) (omega (arith, Q))) (get-front token pattern param_token [] P) (not-below (token + 1) (length pattern) (omega (arith, Q)))
-    ∙ omega (arith, S, l)
-stop-at [] s (s2 ∷ ss) pattern path token at p fit P Q P2 R S = cc
-stop-at (x ∷ ps) s [] pattern path token at p fit P Q P2 R S = cc
-stop-at (x ∷ ps) s (s2 ∷ ss) pattern path token at p fit P Q P2 R S =
+stop-at [] s [] pattern path token at p fits pattern_rest pattern_length pattern_after path_rest path_length =
+    let lengths = length-both s [] in
+    stop-by pattern path token at false (below token (length pattern) (omega (arith, pattern_length))) (get-front token pattern param_token [] pattern_rest) (not-below (token + 1) (length pattern) (omega (arith, pattern_length)))
+    ∙ omega (arith, path_length, lengths)
+stop-at [] s (after ∷ ss) pattern path token at p fits pattern_rest pattern_length pattern_after path_rest path_length = cc
+stop-at (x ∷ ps) s [] pattern path token at p fits pattern_rest pattern_length pattern_after path_rest path_length = cc
+stop-at (x ∷ ps) s (after ∷ ss) pattern path token at p fits pattern_rest pattern_length pattern_after path_rest path_length =
     let tail = piece_tokens x ++ tokens ps in
-    let q : length pattern ≡ token + suc (suc (length tail)) = sym Q in
+    let q : length pattern ≡ token + suc (suc (length tail)) = sym pattern_length in
     let seg : length (segment (drop at path)) ≡ suc (length s) =
-    ap (λ l. length (segment l)) R ∙ ap length (segment-slash s (s2 ++ slashed ss) p) ∙ length-more s in
-    let one : length (segment (drop (token + 1) pattern)) ≡ 1 = ap (λ l. length (segment l)) P2 in
-    stop-by pattern path token at true (below token (length pattern) (omega (arith, q))) (get-front token pattern param_token (tokens (x ∷ ps)) P) (below (token + 1) (length pattern) (omega (arith, q)))
+    ap (λ l. length (segment l)) path_rest ∙ ap length (segment-slash s (after ++ slashed ss) p) ∙ length-more s in
+    let one : length (segment (drop (token + 1) pattern)) ≡ 1 = ap (λ l. length (segment l)) pattern_after in
+    stop-by pattern path token at true (below token (length pattern) (omega (arith, q))) (get-front token pattern param_token (tokens (x ∷ ps)) pattern_rest) (below (token + 1) (length pattern) (omega (arith, q)))
     ∙ omega (arith, seg, one)
 
 part-at : (s r path : List ℕ) (at : ℕ) → drop at path ≡ s ++ r → at + length (s ++ r) ≡ length path → part_of path at (at + length s) ≡ s
-part-at s r path at R S =
-    let l = length-both s r in
+part-at s r path at path_rest path_length =
+    let lengths = length-both s r in
     ap (λ v. cond (v && leb (at + length s) (length path)) (take (at + length s - at) (drop at path)) []) (within at (at + length s) (omega arith))
-    ∙ ap (λ v. cond v (take (at + length s - at) (drop at path)) []) (within (at + length s) (length path) (omega (arith, l, S)))
+    ∙ ap (λ v. cond v (take (at + length s - at) (drop at path)) []) (within (at + length s) (length path) (omega (arith, lengths, path_length)))
     ∙ ap (λ n. take n (drop at path)) (omega arith)
-    ∙ ap (take (length s)) R
+    ∙ ap (take (length s)) path_rest
     ∙ take-front s r
 
 is_true : (v : Bool) (m : Option (List (List ℕ))) → is_some (cond v m None) ≡ true → v ≡ true
@@ -117,56 +117,56 @@ pub parts-walk : (ps : List Piece) (ss : List (List ℕ)) (names : List (ℕ × 
     → drop token pattern ≡ tokens ps → token + length (tokens ps) ≡ length pattern
     → drop at path ≡ slashed ss → at + length (slashed ss) ≡ length path
     → Some (map (λ p. p.1) (walk pattern spelled path names token at)) ≡ path_parts ps ss
-parts-walk [] [] [] pattern spelled path token at p q fit n big P Q R S = refl
-parts-walk [] [] (name ∷ names) pattern spelled path token at p q fit n big P Q R S = absurd (omega (arith, n))
-parts-walk [] (s ∷ ss) names pattern spelled path token at p q fit n big P Q R S = cc
-parts-walk (x ∷ ps) [] names pattern spelled path token at p q fit n big P Q R S = by x fit
+parts-walk [] [] [] pattern spelled path token at plain_pattern plain_segments fits as_many is_short pattern_rest pattern_length path_rest path_length = refl
+parts-walk [] [] (name ∷ names) pattern spelled path token at plain_pattern plain_segments fits as_many is_short pattern_rest pattern_length path_rest path_length = absurd (omega (arith, as_many))
+parts-walk [] (s ∷ ss) names pattern spelled path token at plain_pattern plain_segments fits as_many is_short pattern_rest pattern_length path_rest path_length = cc
+parts-walk (x ∷ ps) [] names pattern spelled path token at plain_pattern plain_segments fits as_many is_short pattern_rest pattern_length path_rest path_length = by x fits
   where
     by : (x : Piece) → is_some (path_parts (x ∷ ps) []) ≡ true → Some (map (λ p. p.1) (walk pattern spelled path names token at)) ≡ path_parts (x ∷ ps) []
     by x f = cc
-parts-walk (text t ∷ ps) (s ∷ ss) names pattern spelled path token at p q fit n big P Q R S =
-    let e : same_text t s ≡ true = is_true (same_text t s) (path_parts ps ss) fit in
-    let fit2 : is_some (path_parts ps ss) ≡ true = sym (ap (λ v. is_some (cond v (path_parts ps ss) None)) e) ∙ fit in
+parts-walk (text t ∷ ps) (s ∷ ss) names pattern spelled path token at plain_pattern plain_segments fits as_many is_short pattern_rest pattern_length path_rest path_length =
+    let e : same_text t s ≡ true = is_true (same_text t s) (path_parts ps ss) fits in
+    let rest_fits : is_some (path_parts ps ss) ≡ true = sym (ap (λ v. is_some (cond v (path_parts ps ss) None)) e) ∙ fits in
     let same : t ≡ s = (bytes_decides t s).0 e in
-    let R1 : drop at path ≡ 47 ∷ (t ++ slashed ss) = R ∙ ap (λ l. 47 ∷ (l ++ slashed ss)) (sym same) in
-    let S1 : at + suc (length (t ++ slashed ss)) ≡ length path = ap (λ l. at + suc (length (l ++ slashed ss))) same ∙ S in
-    let lp = length-both t (tokens ps) in
-    let ls = length-both t (slashed ss) in
-    let P2 : drop (token + suc (length t)) pattern ≡ tokens ps =
-    drop-more token (suc (length t)) pattern ∙ ap (drop (suc (length t))) P ∙ drop-front t (tokens ps) in
-    let R2 : drop (at + suc (length t)) path ≡ slashed ss =
-    drop-more at (suc (length t)) path ∙ ap (drop (suc (length t))) R1 ∙ drop-front t (slashed ss) in
-    let W =
-    ap (λ r. wild_from r (length path) token at) P
-    ∙ wild-slash (t ++ tokens ps) (length path) token at (omega (arith, S1))
-    ∙ wild-literal t (tokens ps) (length path) (token + 1) (at + 1) p.0 (omega (arith, S1, ls))
+    let path_by_pattern : drop at path ≡ 47 ∷ (t ++ slashed ss) = path_rest ∙ ap (λ l. 47 ∷ (l ++ slashed ss)) (sym same) in
+    let length_by_pattern : at + suc (length (t ++ slashed ss)) ≡ length path = ap (λ l. at + suc (length (l ++ slashed ss))) same ∙ path_length in
+    let pattern_lengths = length-both t (tokens ps) in
+    let path_lengths = length-both t (slashed ss) in
+    let pattern_after : drop (token + suc (length t)) pattern ≡ tokens ps =
+    drop-more token (suc (length t)) pattern ∙ ap (drop (suc (length t))) pattern_rest ∙ drop-front t (tokens ps) in
+    let path_after : drop (at + suc (length t)) path ≡ slashed ss =
+    drop-more at (suc (length t)) path ∙ ap (drop (suc (length t))) path_by_pattern ∙ drop-front t (slashed ss) in
+    let passed =
+    ap (λ r. wild_from r (length path) token at) pattern_rest
+    ∙ wild-slash (t ++ tokens ps) (length path) token at (omega (arith, length_by_pattern))
+    ∙ wild-literal t (tokens ps) (length path) (token + 1) (at + 1) plain_pattern.0 (omega (arith, length_by_pattern, path_lengths))
     ∙ ap (λ k. wild_from (tokens ps) (length path) k ((at + 1) + length t)) (omega arith)
     ∙ ap (λ k. wild_from (tokens ps) (length path) (token + suc (length t)) k) (omega arith)
-    ∙ ap (λ r. wild_from r (length path) (token + suc (length t)) (at + suc (length t))) (sym P2) in
-    ap (λ l. Some (map (λ p. p.1) l)) (walk-same pattern spelled path names token at (token + suc (length t)) (at + suc (length t)) W)
-    ∙ parts-walk ps ss names pattern spelled path (token + suc (length t)) (at + suc (length t)) p.1 q.1 fit2 n big P2 (omega (arith, Q, lp)) R2 (omega (arith, S1, ls))
+    ∙ ap (λ r. wild_from r (length path) (token + suc (length t)) (at + suc (length t))) (sym pattern_after) in
+    ap (λ l. Some (map (λ p. p.1) l)) (walk-same pattern spelled path names token at (token + suc (length t)) (at + suc (length t)) passed)
+    ∙ parts-walk ps ss names pattern spelled path (token + suc (length t)) (at + suc (length t)) plain_pattern.1 plain_segments.1 rest_fits as_many is_short pattern_after (omega (arith, pattern_length, pattern_lengths)) path_after (omega (arith, length_by_pattern, path_lengths))
     ∙ sym (ap (λ v. cond v (path_parts ps ss) None) e)
-parts-walk (param ∷ ps) ([] ∷ ss) names pattern spelled path token at p q fit n big P Q R S = cc
-parts-walk (param ∷ ps) ((c ∷ s) ∷ ss) [] pattern spelled path token at p q fit n big P Q R S = absurd (omega (arith, n))
-parts-walk (param ∷ ps) ((c ∷ s) ∷ ss) (name ∷ names) pattern spelled path token at p q fit n big P Q R S =
-    let seg = c ∷ s in
-    let fit2 : is_some (path_parts ps ss) ≡ true = sym (some_with (path_parts ps ss)) ∙ fit in
-    let ls = length-both seg (slashed ss) in
-    let P1 : drop (token + 1) pattern ≡ param_token ∷ tokens ps = drop-more token 1 pattern ∙ ap (drop 1) P in
-    let P2 : drop ((token + 1) + 1) pattern ≡ tokens ps = drop-more (token + 1) 1 pattern ∙ ap (drop 1) P1 in
-    let R1 : drop (at + 1) path ≡ seg ++ slashed ss = drop-more at 1 path ∙ ap (drop 1) R in
-    let S1 : (at + 1) + length (seg ++ slashed ss) ≡ length path = omega (arith, S) in
-    let R2 : drop ((at + 1) + length seg) path ≡ slashed ss =
-    drop-more (at + 1) (length seg) path ∙ ap (drop (length seg)) R1 ∙ drop-front seg (slashed ss) in
-    let W : wild_from (drop token pattern) (length path) token at ≡ (token + 1, at + 1) =
-    ap (λ r. wild_from r (length path) token at) P ∙ wild-slash (param_token ∷ tokens ps) (length path) token at (omega (arith, S)) in
-    let stop = stop-at ps seg ss pattern path (token + 1) (at + 1) q.0 fit2 P1 (omega (arith, Q)) P2 R1 S1 in
-    let after : after_token (token + 1) ≡ (token + 1) + 1 = omega (arith, Q, big) in
-    ap (λ w. Some (part_of path w.1 (wild_stop pattern w.0 path w.1) ∷ map (λ p. p.1) (walk pattern spelled path names (after_token w.0) (wild_stop pattern w.0 path w.1)))) W
+parts-walk (param ∷ ps) ([] ∷ ss) names pattern spelled path token at plain_pattern plain_segments fits as_many is_short pattern_rest pattern_length path_rest path_length = cc
+parts-walk (param ∷ ps) ((c ∷ s) ∷ ss) [] pattern spelled path token at plain_pattern plain_segments fits as_many is_short pattern_rest pattern_length path_rest path_length = absurd (omega (arith, as_many))
+parts-walk (param ∷ ps) ((c ∷ s) ∷ ss) (name ∷ names) pattern spelled path token at plain_pattern plain_segments fits as_many is_short pattern_rest pattern_length path_rest path_length =
+    let segment_here = c ∷ s in
+    let rest_fits : is_some (path_parts ps ss) ≡ true = sym (some_with (path_parts ps ss)) ∙ fits in
+    let path_lengths = length-both segment_here (slashed ss) in
+    let pattern_at_token : drop (token + 1) pattern ≡ param_token ∷ tokens ps = drop-more token 1 pattern ∙ ap (drop 1) pattern_rest in
+    let pattern_after : drop ((token + 1) + 1) pattern ≡ tokens ps = drop-more (token + 1) 1 pattern ∙ ap (drop 1) pattern_at_token in
+    let path_at_segment : drop (at + 1) path ≡ segment_here ++ slashed ss = drop-more at 1 path ∙ ap (drop 1) path_rest in
+    let length_at_segment : (at + 1) + length (segment_here ++ slashed ss) ≡ length path = omega (arith, path_length) in
+    let path_after : drop ((at + 1) + length segment_here) path ≡ slashed ss =
+    drop-more (at + 1) (length segment_here) path ∙ ap (drop (length segment_here)) path_at_segment ∙ drop-front segment_here (slashed ss) in
+    let passed : wild_from (drop token pattern) (length path) token at ≡ (token + 1, at + 1) =
+    ap (λ r. wild_from r (length path) token at) pattern_rest ∙ wild-slash (param_token ∷ tokens ps) (length path) token at (omega (arith, path_length)) in
+    let stop = stop-at ps segment_here ss pattern path (token + 1) (at + 1) plain_segments.0 rest_fits pattern_at_token (omega (arith, pattern_length)) pattern_after path_at_segment length_at_segment in
+    let after : after_token (token + 1) ≡ (token + 1) + 1 = omega (arith, pattern_length, is_short) in
+    ap (λ w. Some (part_of path w.1 (wild_stop pattern w.0 path w.1) ∷ map (λ p. p.1) (walk pattern spelled path names (after_token w.0) (wild_stop pattern w.0 path w.1)))) passed
     ∙ ap (λ st. Some (part_of path (at + 1) st ∷ map (λ p. p.1) (walk pattern spelled path names (after_token (token + 1)) st))) stop
-    ∙ ap (λ k. Some (part_of path (at + 1) ((at + 1) + length seg) ∷ map (λ p. p.1) (walk pattern spelled path names k ((at + 1) + length seg)))) after
-    ∙ ap (λ x. Some (x ∷ map (λ p. p.1) (walk pattern spelled path names ((token + 1) + 1) ((at + 1) + length seg)))) (part-at seg (slashed ss) path (at + 1) R1 S1)
-    ∙ ap (with_part seg) (parts-walk ps ss names pattern spelled path ((token + 1) + 1) ((at + 1) + length seg) p q.1 fit2 (omega (arith, n)) big P2 (omega (arith, Q)) R2 (omega (arith, S1, ls)))
+    ∙ ap (λ k. Some (part_of path (at + 1) ((at + 1) + length segment_here) ∷ map (λ p. p.1) (walk pattern spelled path names k ((at + 1) + length segment_here)))) after
+    ∙ ap (λ x. Some (x ∷ map (λ p. p.1) (walk pattern spelled path names ((token + 1) + 1) ((at + 1) + length segment_here)))) (part-at segment_here (slashed ss) path (at + 1) path_at_segment length_at_segment)
+    ∙ ap (with_part segment_here) (parts-walk ps ss names pattern spelled path ((token + 1) + 1) ((at + 1) + length segment_here) plain_pattern plain_segments.1 rest_fits (omega (arith, as_many)) is_short pattern_after (omega (arith, pattern_length)) path_after (omega (arith, length_at_segment, path_lengths)))
   where
     some_with : (m : Option (List (List ℕ))) → is_some (with_part (c ∷ s) m) ≡ is_some m
     some_with None = refl

@@ -23,8 +23,8 @@ pieces-same [] [] h = refl
 pieces-same [] (y ∷ q) h = cc
 pieces-same (x ∷ p) [] h = cc
 pieces-same (text a ∷ p) (text b ∷ q) h =
-    let h2 = both (same_text a b) (same_pieces p q) h in
-    ap (λ t. text t ∷ p) ((bytes_decides a b).0 h2.0) ∙ ap (λ r. text b ∷ r) (pieces-same p q h2.1)
+    let halves = both (same_text a b) (same_pieces p q) h in
+    ap (λ t. text t ∷ p) ((bytes_decides a b).0 halves.0) ∙ ap (λ r. text b ∷ r) (pieces-same p q halves.1)
 pieces-same (text a ∷ p) (param ∷ q) h = cc
 pieces-same (param ∷ p) (text b ∷ q) h = cc
 pieces-same (param ∷ p) (param ∷ q) h = ap (λ r. param ∷ r) (pieces-same p q h)
@@ -40,8 +40,8 @@ pub find-passes : {K : Type 0} (test : K → Bool) (table : List (PatternOf K)) 
     → list_all (λ l. test l.1) table ≡ true → find table path ≡ Some k → test k ≡ true
 find-passes test [] path k t e = cc
 find-passes {K} test ((ps, x) ∷ rest) path k t e =
-    let t2 = both (test x) (list_all (λ l. test l.1) rest) t in
-    by (λ f. find-passes test rest path k t2.1 f) t2.0 (is_some (path_parts ps path)) e
+    let halves = both (test x) (list_all (λ l. test l.1) rest) t in
+    by (λ f. find-passes test rest path k halves.1 f) halves.0 (is_some (path_parts ps path)) e
   where
     by : (find rest path ≡ Some k → test k ≡ true) → test x ≡ true → (v : Bool) → cond v (Some x) (find rest path) ≡ Some k → test k ≡ true
     by more h true g =
@@ -60,14 +60,14 @@ module _ {V : Type 0} where
   found : (ps : List Piece) (r : RouteOf V) (path : List (List ℕ)) → is_some (path_parts ps path) ≡ true → IsPlainPattern ps
       → is_route_of ps r ≡ true → IsFound ps r path
   found ps r path f p t =
-      let t2 = both (same_text r.pattern (tokens ps)) ((length r.names == arity ps) && ltb (length (tokens ps)) 18446744073709551615) t in
-      let t3 = both (length r.names == arity ps) (ltb (length (tokens ps)) 18446744073709551615) t2.1 in
+      let halves = both (same_text r.pattern (tokens ps)) ((length r.names == arity ps) && ltb (length (tokens ps)) 18446744073709551615) t in
+      let inner = both (length r.names == arity ps) (ltb (length (tokens ps)) 18446744073709551615) halves.1 in
       record {
         fits = f;
         plain = p;
-        pattern = (bytes_decides r.pattern (tokens ps)).0 t2.0;
-        names = same-number (length r.names) (arity ps) t3.0;
-        short = below (length (tokens ps)) 18446744073709551615 t3.1;
+        pattern = (bytes_decides r.pattern (tokens ps)).0 halves.0;
+        names = same-number (length r.names) (arity ps) inner.0;
+        short = below (length (tokens ps)) 18446744073709551615 inner.1;
       }
 
   -- what is found has the pattern of its value
@@ -75,9 +75,9 @@ module _ {V : Type 0} where
       → are_routes of table ≡ true → find table path ≡ Some r → IsFound (of r.value) r path
   find-route of [] path r a t e = cc
   find-route of ((ps, x) ∷ rest) path r a t e =
-      let t2 = both (same_pieces (of x.value) ps && is_route_of ps x) (are_routes of rest) t in
-      let t3 = both (same_pieces (of x.value) ps) (is_route_of ps x) t2.0 in
-      by (λ f. find-route of rest path r a.1 t2.1 f) (pieces-same (of x.value) ps t3.0) t3.1 (is_some (path_parts ps path)) refl e
+      let halves = both (same_pieces (of x.value) ps && is_route_of ps x) (are_routes of rest) t in
+      let inner = both (same_pieces (of x.value) ps) (is_route_of ps x) halves.0 in
+      by (λ f. find-route of rest path r a.1 halves.1 f) (pieces-same (of x.value) ps inner.0) inner.1 (is_some (path_parts ps path)) refl e
     where
       by : (find rest path ≡ Some r → IsFound (of r.value) r path) → of x.value ≡ ps → is_route_of ps x ≡ true
           → (v : Bool) → is_some (path_parts ps path) ≡ v → cond v (Some x) (find rest path) ≡ Some r → IsFound (of r.value) r path

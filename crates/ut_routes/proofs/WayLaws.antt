@@ -30,9 +30,9 @@ same-path_parts [] (y ∷ q) path h = cc
 same-path_parts (x ∷ p) [] path h = cc
 same-path_parts (text a ∷ p) (text b ∷ q) [] h = refl
 same-path_parts (text a ∷ p) (text b ∷ q) (s ∷ ss) h =
-    let h2 = both (same_text a b) (same_pieces p q) h in
-    let e : a ≡ b = (bytes_decides a b).0 h2.0 in
-    ap (λ t. cond (same_text t s) (path_parts q ss) None) (sym e) ∙ ap (λ m. cond (same_text a s) m None) (same-path_parts p q ss h2.1)
+    let halves = both (same_text a b) (same_pieces p q) h in
+    let e : a ≡ b = (bytes_decides a b).0 halves.0 in
+    ap (λ t. cond (same_text t s) (path_parts q ss) None) (sym e) ∙ ap (λ m. cond (same_text a s) m None) (same-path_parts p q ss halves.1)
 same-path_parts (text a ∷ p) (param ∷ q) path h = cc
 same-path_parts (param ∷ p) (text b ∷ q) path h = cc
 same-path_parts (param ∷ p) (param ∷ q) [] h = refl
@@ -79,8 +79,8 @@ module _ {R : Type 0} where
       → first_by_path method path ls ≡ first_by_pattern method parts p ls
   lines-answer method path parts p [] d f = refl
   lines-answer method path parts p ((m, (q, made)) ∷ r) d f =
-      let d2 = both (cond (same_pieces p q) true (never_both p q)) (decides p r) d in
-      by (lines-answer method path parts p r d2.1 f) (same_pieces p q) refl d2.0
+      let halves = both (cond (same_pieces p q) true (never_both p q)) (decides p r) d in
+      by (lines-answer method path parts p r halves.1 f) (same_pieces p q) refl halves.0
     where
       by : first_by_path method path r ≡ first_by_pattern method parts p r → (v : Bool) → same_pieces p q ≡ v → cond v true (never_both p q) ≡ true
           → or_way (by_method (bytes_eq method m) (option_map made (path_parts q path))) (first_by_path method path r)
@@ -97,8 +97,8 @@ module _ {R : Type 0} where
       → any_by_path path ls ≡ any_by_pattern p ls
   lines-path path parts p [] d f = refl
   lines-path path parts p ((m, (q, made)) ∷ r) d f =
-      let d2 = both (cond (same_pieces p q) true (never_both p q)) (decides p r) d in
-      by (lines-path path parts p r d2.1 f) (same_pieces p q) refl d2.0
+      let halves = both (cond (same_pieces p q) true (never_both p q)) (decides p r) d in
+      by (lines-path path parts p r halves.1 f) (same_pieces p q) refl halves.0
     where
       by : any_by_path path r ≡ any_by_pattern p r → (v : Bool) → same_pieces p q ≡ v → cond v true (never_both p q) ≡ true
           → (is_some (path_parts q path) || any_by_path path r) ≡ cond v true (any_by_pattern p r)
@@ -111,8 +111,8 @@ module _ {K : Type 0} where
       → is_some (path_parts (f k) path) ≡ true
   find-path_parts f [] path k a e = cc
   find-path_parts f ((ps, x) ∷ r) path k a e =
-      let a2 = both (same_pieces (f x) ps) (agrees f r) a in
-      by (λ g. find-path_parts f r path k a2.1 g) a2.0 (is_some (path_parts ps path)) refl e
+      let halves = both (same_pieces (f x) ps) (agrees f r) a in
+      by (λ g. find-path_parts f r path k halves.1 g) halves.0 (is_some (path_parts ps path)) refl e
     where
       by : (find r path ≡ Some k → is_some (path_parts (f k) path) ≡ true) → same_pieces (f x) ps ≡ true → (v : Bool) → is_some (path_parts ps path) ≡ v
           → cond v (Some x) (find r path) ≡ Some k → is_some (path_parts (f k) path) ≡ true

@@ -1,8 +1,8 @@
 -- A message over a keeper that was asked first: what it comes to is the same as over the keeper before.
-use Rattle.std.proofs.Common.{◌≡◌, inl, inr, ℕ, Bool, IsTrue, List, Option, Some, None, Result, Ok, Err, refl, sym, ap, subst, ◌∙◌, arith}
+use Rattle.std.proofs.Common.{◌≡◌, inl, inr, ℕ, Bool, true, IsTrue, List, Option, Some, None, Result, Ok, Err, refl, sym, ap, subst, ◌∙◌, arith}
 use Rattle.std.specs.Prelude.{IsErrOf, OnErr, is_ok}
 use Rattle.std.specs.FinMap as map
-use Rattle.ut_keeper.proofs.Calls.{steps_on}
+use Rattle.ut_keeper.proofs.Calls.{reads_same, steps_on}
 use Rattle.ut_keeper.specs.State.{KeeperCause, KeeperState, Quiet, Reads, Shows, Steps, Tells, TrustedAfter, data_table, more_shown, shown_by_get}
 use Rattle.ut_keeper.specs.Tables.{Tables}
 use Rattle.ut_keeper.specs.declared.keeper.KeepFail.{KeepFail}
@@ -21,6 +21,17 @@ use Rattle.ut_stands.specs.declared.judged.Judged.TheVariants.{Changed, Same}
 use Rattle.ut_serving.specs.Own.{Asks, AsksFirst, DoesBy, DoesUnnamed, KeepsIfSame, Replies, own_does}
 
 -- ---- asking
+
+-- a keeper that is known to be trusted isn't asked
+pub asked_none : (old : KeeperState) → TrustedAfter true old → AsksFirst old old (Ok tt)
+asked_none old trusted = record {
+  reads = reads_same old;
+  shown = refl;
+  trusted = λ done. trusted refl;
+  undamaged = tt;
+  cause = record { rose = λ failed. absurd cc; never = λ sure failed. cc };
+  quiet = λ none. refl;
+}
 
 module _ {X : Type 0} (old new : KeeperState) (r : Result (Option X) KeepFail) (reads : Reads old new) (shown : new.shown ≡ more_shown 0 (shown_by_get r) old.shown)
     (trusted : TrustedAfter (is_ok r) new) (cause : KeeperCause old new (IsErrOf r Failed)) (quiet : Quiet old new (IsErrOf r Failed)) where

@@ -17,7 +17,7 @@ use Rattle.ut_serving.specs.declared.request.Answer.TheVariants.{Made, Damaged, 
 use Rattle.ut_serving.specs.Own.{Asks, DoesBy}
 use Rattle.ut_serving.specs.Requests.{does, message_in}
 use Rattle.ut_serving.specs.Exchanges.{Exchange, done, store, memory, LeavesBehind, stores}
-use Rattle.ut_serving.specs.Answers.{Answers, IsDamaged, IsFixed, IsMade, IsUnavailable, bytes_in, outcome_of}
+use Rattle.ut_serving.specs.Answers.{Answers, IsDamaged, IsFixed, IsMade, IsUnavailable, bytes_in, is_made, outcome_of}
 use Rattle.ut_serving.proofs.Worlds.{lower, upper}
 
 stores_more : (xs ys : List Exchange) → stores (xs ++ ys) ≡ stores xs + stores ys
@@ -83,6 +83,17 @@ acknowledged_by new (Made bytes) h made = h
 acknowledged_by new (Damaged bytes) h made = absurd made
 acknowledged_by new (Unavailable close) h made = absurd made
 acknowledged_by new (OutOfMemory close) h made = absurd made
+
+never : (b : Bool) → b ≡ false → IsTrue b → ⊥
+never true is holds = absurd cc
+never false is holds = absurd cc
+
+-- an answer that was made leaves a keeper of which it is known
+pub sure_by : (new : KeeperState) (a : Answer) → (IsMade a → TrustedAfter true new) → (b : Bool) → b ≡ is_made a → IsTrue b → TrustedAfter true new
+sure_by new (Made bytes) h b is holds = h tt
+sure_by new (Damaged bytes) h b is holds = absurd (never b is holds)
+sure_by new (Unavailable close) h b is holds = absurd (never b is holds)
+sure_by new (OutOfMemory close) h b is holds = absurd (never b is holds)
 
 pub quiet_by : (old new : KeeperState) (a : Answer) → Quiet old new (IsErrOf (outcome_of a) Keeper) → Quiet old new (IsUnavailable a)
 quiet_by old new a h none = h (λ failed. none (fallen a failed))

@@ -1,5 +1,5 @@
 -- Answers: the bytes that an answer to one request holds, and what one request does.
-use Rattle.std.specs.Prelude.{◌≡◌, ℕ, List, [], ◌∷◌, Result, Ok, Err}
+use Rattle.std.specs.Prelude.{◌≡◌, ℕ, Bool, true, false, List, [], ◌∷◌, Result, Ok, Err}
 use Rattle.ut_http.specs.declared.message.HttpMessage.{HttpMessage}
 use Rattle.ut_http.specs.Reply.{reply_to, store_failed, no_memory}
 use Rattle.ut_keeper.specs.State.{KeeperState}
@@ -38,6 +38,13 @@ IsMade (Made bytes) = Unit {0}
 IsMade (Damaged bytes) = ⊥
 IsMade (Unavailable close) = ⊥
 IsMade (OutOfMemory close) = ⊥
+
+-- the same as a truth value
+abbrev pub is_made : Answer → Bool
+is_made (Made bytes) = true
+is_made (Damaged bytes) = false
+is_made (Unavailable close) = false
+is_made (OutOfMemory close) = false
 
 abbrev pub IsDamaged : Answer → Type 0
 IsDamaged (Made bytes) = ⊥

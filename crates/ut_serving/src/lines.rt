@@ -1,12 +1,12 @@
 //! One connection, served to its end.
 
-ghost use Rattle.std.specs.Prelude.{◌≡◌, ◌⊎◌, ◌<◌, ◌≤◌, ◌==◌, [], false, is_ok, length, IfOk, IsErrOf, IsTrue, ℕ, List, Ok, Some};
+ghost use Rattle.std.specs.Prelude.{◌≡◌, ◌⊎◌, ◌<◌, ◌≤◌, ◌==◌, [], false, is_ok, length, IfOk, IsErrOf, IsTrue, ℕ, List, Ok, Some, true};
 ghost use Rattle.std.specs.Io.KnownBytes.{Keeps, prepend_known};
 ghost use Rattle.ut_value.specs.Causes.{Cause};
 ghost use Rattle.ut_http.specs.Item.{IsItem, whole};
 ghost use Rattle.ut_http.specs.Reads.{read_limit};
 ghost use Rattle.ut_http.specs.declared.message.HttpMessage.{HttpMessage};
-ghost use Rattle.ut_keeper.specs.State.{Steps, Tells};
+ghost use Rattle.ut_keeper.specs.State.{Steps, Tells, TrustedAfter};
 ghost use Rattle.ut_model.specs.World.{World};
 ghost use Rattle.ut_stands.specs.Stands.{Stands};
 ghost use Rattle.ut_serving.specs.Answers.{bytes_in};
@@ -72,7 +72,7 @@ fn refuse<W: Wire>(alloc: Global, wire: &mut W, fail: HttpFail) -> Result<(), Li
     }
 }
 
-// Answers a message, and writes the reply.
+// Answers a message, and writes the reply. It tells whether the keeper is known to be trusted.
 fn reply<K: Keeper, W: Wire, C: Clock>(
     alloc: Global,
     routes: &Routes,
@@ -80,7 +80,10 @@ fn reply<K: Keeper, W: Wire, C: Clock>(
     wire: &mut W,
     clock: &mut C,
     message: &HttpMessage,
+    is_sure: &mut bool,
 ) -> Result<(), LineFail>
+    requires { IsTrue is_sure.now → TrustedAfter true (K.state keeper.now) }
+    ensures sure { IsTrue is_sure.new → TrustedAfter true (K.state keeper.new) }
     ensures replies { Tells (K.state keeper.old) (K.state keeper.new)
         → (w : World) (moments : List ℕ) → Stands (K.state keeper.old).tables w → C.coming clock.old ≡ Some moments
         → RepliesTo w message.now moments (K.state keeper.old) (K.state keeper.new) (C.coming clock.new)
@@ -99,7 +102,8 @@ fn reply<K: Keeper, W: Wire, C: Clock>(
     ensures writes { Cause (W.write_faults wire.old) (W.write_faults wire.new) (IsErrOf result Write) }
 {
     let now = clock.now();
-    let answer = answer_message(alloc, routes, keeper, message, now);
+    let answer = answer_message(alloc, routes, keeper, message, now, *is_sure);
+    *is_sure = answer.is_made();
     write_answer(wire, &message.method, &answer)
 }
 
@@ -121,8 +125,11 @@ fn turn<K: Keeper, W: Wire, C: Clock>(
     wire: &mut W,
     clock: &mut C,
     buffer: &mut Buffer,
+    is_sure: &mut bool,
     last: bool,
 ) -> Result<bool, LineFail>
+    requires { IsTrue is_sure.now → TrustedAfter true (K.state keeper.now) }
+    ensures sure { IsTrue is_sure.new → TrustedAfter true (K.state keeper.new) }
     ensures turns { Tells (K.state keeper.old) (K.state keeper.new)
         → (p : Place) → Stands (K.state keeper.old).tables p.world
         → IsHere p (C.coming clock.old) (prepend_known buffer.old (W.input wire.old))
@@ -153,7 +160,10 @@ fn turn<K: Keeper, W: Wire, C: Clock>(
         Ok(Next::Message(message)) => {
             let close = message.close || last;
             let message = HttpMessage { close, ..message };
-            over_if_written(reply(alloc, routes, keeper, wire, clock, &message), close)
+            over_if_written(
+                reply(alloc, routes, keeper, wire, clock, &message, is_sure),
+                close,
+            )
         }
         Ok(Next::End) => Ok(true),
         Ok(Next::Cut) => Ok(true),
@@ -190,8 +200,20 @@ fn turns<K: Keeper, W: Wire, C: Clock>(
     ensures reads { Cause (W.read_faults wire.old) (W.read_faults wire.new) (IsErrOf result Read) }
     ensures writes { Cause (W.write_faults wire.old) (W.write_faults wire.new) (IsErrOf result Write) }
 {
+    // The keeper is asked before the first message, and before each behind one that wasn't answered.
+    let mut is_sure = false;
     for count in 0..1000u32 {
-        if turn(alloc, routes, keeper, wire, clock, buffer, count == 999)? {
+        let last = count == 999;
+        if turn(
+            alloc,
+            routes,
+            keeper,
+            wire,
+            clock,
+            buffer,
+            &mut is_sure,
+            last,
+        )? {
             return Ok(());
         }
     }

@@ -47,7 +47,16 @@ pub enum Answer {
     },
 }
 
-ghost use Rattle.ut_serving.specs.Answers.{Answers, IsDamaged, IsFixed, IsMade, IsUnavailable, bytes_in, outcome_of};
+ghost use Rattle.ut_serving.specs.Answers.{Answers, IsDamaged, IsFixed, IsMade, IsUnavailable, bytes_in, is_made, outcome_of};
+
+impl Answer {
+    /// Whether it was made by the definition of a step: then the keeper is trusted still.
+    pub fn is_made(&self) -> bool
+        ensures { result ≡ is_made self.now }
+    {
+        matches!(self, Answer::Made(_))
+    }
+}
 
 // The caller whom a message's key names, if its secret is right.
 fn caller_of<K: Keeper>(
@@ -150,10 +159,15 @@ fn answer_drafted<K: Keeper>(
     finish(alloc, draft, judged)
 }
 
-// Asks the keeper itself, for the row of the version: one that isn't trusted any more fails.
-fn ask_first<K: Keeper>(alloc: Global, keeper: &mut K) -> Result<(), StoreFail>
+// Asks the keeper itself, for the row of the version: one that isn't trusted any more fails. One that is known to be trusted
+// isn't asked.
+fn ask_first<K: Keeper>(alloc: Global, keeper: &mut K, is_sure: bool) -> Result<(), StoreFail>
+    requires { IsTrue is_sure → TrustedAfter true (K.state keeper.now) }
     ensures { AsksFirst (K.state keeper.old) (K.state keeper.new) result }
 {
+    if is_sure {
+        return Ok(());
+    }
     let asked = keeper.get(alloc, 0, &[]);
     match asked {
         Ok(_row) => Ok(()),
@@ -161,19 +175,22 @@ fn ask_first<K: Keeper>(alloc: Global, keeper: &mut K) -> Result<(), StoreFail>
     }
 }
 
-// A request done whole, or not at all. The draft may need nothing of the keeper, so the keeper is asked first.
+// A request done whole, or not at all. The draft may need nothing of the keeper, so one that isn't known to be trusted is asked
+// first.
 fn answer_within<K: Keeper>(
     alloc: Global,
     routes: &Routes,
     keeper: &mut K,
     message: &HttpMessage,
     now: u64,
+    is_sure: bool,
 ) -> Result<Bytes, StoreFail>
+    requires { IsTrue is_sure → TrustedAfter true (K.state keeper.now) }
     ensures does { DoesMessage message.now now (K.state keeper.old) (K.state keeper.new) result }
     ensures form { Replies (message_in message.now) message.now.close (K.state keeper.old) (K.state keeper.new) result }
     ensures asks { Asks (K.state keeper.old) (K.state keeper.new) result }
 {
-    match ask_first(alloc, keeper) {
+    match ask_first(alloc, keeper, is_sure) {
         Ok(()) => answer_drafted(alloc, routes, keeper, message, now),
         Err(fail) => Err(fail),
     }
@@ -186,13 +203,15 @@ fn answer_own<K: Keeper>(
     keeper: &mut K,
     message: &HttpMessage,
     now: u64,
+    is_sure: bool,
 ) -> Answer
+    requires { IsTrue is_sure → TrustedAfter true (K.state keeper.now) }
     ensures does { DoesMessage message.now now (K.state keeper.old) (K.state keeper.new) (outcome_of result) }
     ensures form { IsFixed message.now result
         × Replies (message_in message.now) message.now.close (K.state keeper.old) (K.state keeper.new) (outcome_of result) }
     ensures asks { Asks (K.state keeper.old) (K.state keeper.new) (outcome_of result) }
 {
-    match answer_within(alloc, routes, keeper, message, now) {
+    match answer_within(alloc, routes, keeper, message, now, is_sure) {
         Ok(reply) => Answer::Made(reply),
         Err(StoreFail::Keeper) => Answer::Unavailable {
             close: message.close,
@@ -211,13 +230,17 @@ fn answer_own<K: Keeper>(
 
 /// Answers one request. A failure of the store, damaged tables and being out of memory are answered too: nothing is
 /// changed then, though after a failure of the store a crash may still leave the request done whole.
+///
+/// A keeper that isn't known to be trusted is asked for a row first. `is_sure` says that it is known.
 pub fn answer_message<K: Keeper>(
     alloc: Global,
     routes: &Routes,
     keeper: &mut K,
     message: &HttpMessage,
     now: u64,
+    is_sure: bool,
 ) -> Answer
+    requires { IsTrue is_sure → TrustedAfter true (K.state keeper.now) }
     // Whatever the rows of other organisations are: what the message comes to in the organisation that its key names. Of others no
     // row changes.
     ensures does { DoesMessage message.now now (K.state keeper.old) (K.state keeper.new) (outcome_of result) }
@@ -254,5 +277,5 @@ pub fn answer_message<K: Keeper>(
 {
     local_laws();
     step_laws();
-    answer_own(alloc, routes, keeper, message, now)
+    answer_own(alloc, routes, keeper, message, now, is_sure)
 }

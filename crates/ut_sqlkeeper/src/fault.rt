@@ -53,8 +53,8 @@ impl fmt::Display for DatabaseFault {
 
 impl std::error::Error for DatabaseFault {}
 
-/// What an error is for a user.
-pub(crate) fn fault_of(error: Error) -> DatabaseFault {
+/// What an error is for a user. Out of memory is `Unknown`: such a call doesn't say whether the database is still open.
+pub fn fault_of(error: Error) -> DatabaseFault {
     match error {
         Error::SqliteFailure(ErrorCode::CannotOpen) => DatabaseFault::CannotOpen,
         Error::SqliteFailure(ErrorCode::DatabaseBusy) => DatabaseFault::Busy,

@@ -11,7 +11,7 @@
 //! # Example
 //!
 //! ```
-//! let mut keeper = SqlKeeper::new(OnPath::new(rt, path));
+//! let mut keeper = SqlKeeper::new(InMemory {});
 //! if keeper.open(alloc).is_err() {
 //!     if let Some(fault) = keeper.last_fault() {
 //!         println!(rt; "{fault}")?;
@@ -28,6 +28,6 @@ mod refusing;
 mod statements;
 
 pub use crate::connected::Connected;
-pub use crate::fault::DatabaseFault;
+pub use crate::fault::{DatabaseFault, fault_of};
 pub use crate::keeper::SqlKeeper;
 pub use crate::opener::{InMemory, OnPath, Opener, Ready};

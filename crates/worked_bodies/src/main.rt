@@ -10,6 +10,7 @@ mod line;
 mod names;
 mod refusals;
 mod tables;
+mod values;
 
 use crate::line::decoded;
 use std::alloc::{AllocError, Global};
@@ -45,6 +46,7 @@ fn bytes_call(alloc: Global, call: &str, bytes: &[u8]) -> Result<Option<String>,
         "object" => bodies::object(alloc, bytes).map(Some),
         "access" => bodies::access(alloc, bytes).map(Some),
         "field" => bodies::field(alloc, bytes).map(Some),
+        "values" => values::values(alloc, bytes).map(Some),
         _ => Ok(None),
     }
 }
@@ -57,6 +59,7 @@ fn text_call(alloc: Global, call: &str, text: &str) -> Result<String, AllocError
         "damaged-body" => refusals::damaged(alloc),
         "csv-memory" => tables::memory(alloc),
         "rows" => names::body(alloc, text),
+        "made" => names::made(alloc, text),
         _ => String::from_str(alloc, "no such call"),
     }
 }

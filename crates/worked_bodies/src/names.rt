@@ -1,10 +1,10 @@
-//! Bodies of rows with ids and names.
+//! Bodies of rows with ids and names, and of what was made.
 
 use crate::line::first_of;
 use crate::refusals::text_of;
 use std::alloc::{AllocError, Global};
 use ut_model::Record;
-use ut_replies::names_body;
+use ut_replies::{made_body, names_body};
 use ut_value::{Id, Items, Text, Value};
 
 // A record of this number, which has a name alone.
@@ -46,4 +46,12 @@ pub(crate) fn body(alloc: Global, arguments: &str) -> Result<String, AllocError>
     let (object, rest) = first_of(arguments);
     let records = records_in(alloc, rest)?;
     text_of(alloc, &names_body(alloc, object, records.as_slice())?)
+}
+
+/// The body of the reply to what made a record with this id, in 15 or 18 characters.
+pub(crate) fn made(alloc: Global, id: &str) -> Result<String, AllocError> {
+    match Id::read(id) {
+        Ok(id) => text_of(alloc, &made_body(alloc, &id)?),
+        Err(_) => String::from_str(alloc, "no id"),
+    }
 }

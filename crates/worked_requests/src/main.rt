@@ -53,6 +53,7 @@ fn answer(
         "layout-named" => layouts::named(alloc, keeper, arguments),
         "layouts" => layouts::all(alloc, keeper, arguments),
         "load" => records::load(alloc, keeper, arguments),
+        "has" => records::has(alloc, keeper, arguments),
         "walk" => records::after(alloc, keeper, arguments),
         "row-of" => records::row(alloc, keeper, arguments),
         "route" => Ok(routes::found(alloc, arguments)?),

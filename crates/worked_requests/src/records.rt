@@ -9,7 +9,7 @@ ghost use Rattle.ut_model.specs.SoundRecords.{all_valid};
 
 use crate::line::{bytes, first_of};
 use std::alloc::{AllocError, Global};
-use ut_data::{has_types, load_record, record_within, row_of, walk};
+use ut_data::{has_record, has_types, load_record, record_within, row_of, walk};
 use ut_keeper::{Draft, MemoryKeeper};
 use ut_keys::{DataRow, RowForm, StoreFail};
 use ut_model::Record;
@@ -129,6 +129,16 @@ pub(crate) fn load(
     };
     let found = load_record(alloc, &mut draft, &layout, &id)?;
     Ok(shown_or_none(alloc, found)?)
+}
+
+/// Whether there is a record with an id.
+pub(crate) fn has(alloc: Global, keeper: &mut MemoryKeeper, id: &str) -> Result<String, StoreFail> {
+    let Some(id) = Id::from_bytes(id.as_bytes()) else {
+        return Ok(String::from_str(alloc, "no id")?);
+    };
+    let mut draft = Draft::new(alloc, keeper);
+    let there = has_record(alloc, &mut draft, 1, 0, &id)?;
+    Ok(String::from_str(alloc, if there { "yes" } else { "no" })?)
 }
 
 // Each record with its id before it.

@@ -4,29 +4,17 @@ use Rattle.std.specs.List.{find, flat_map, list_any}
 use Rattle.std.specs.Option.{option_map}
 use Rattle.ut_model.specs.Cases.{in_case}
 use Rattle.ut_model.specs.Fields.{is_master, same_name}
-use Rattle.ut_model.specs.Objects.{Numbered}
 use Rattle.ut_model.specs.Retyping.{job_is_done}
 use Rattle.ut_model.specs.Relationships.{Reference, parent_name, references_of, target_of}
 use Rattle.ut_model.specs.Tenant.{Field}
 use Rattle.ut_model.specs.declared.metadata_bodies.SpelledType.{SpelledType}
 use Rattle.ut_model.specs.declared.metadata_bodies.SpelledType.TheVariants.{Plain, LookupTo}
+use Rattle.ut_rules.specs.Objects.{field_of_place, numbered_in}
 use Rattle.ut_stands.specs.declared.layout.FieldPlace.{FieldPlace}
 use Rattle.ut_stands.specs.declared.layout.JobPlace.{JobPlace}
 use Rattle.ut_stands.specs.declared.layout.Layout.{Layout}
 
 -- ---- objects
-
-abbrev pub field_of_place : FieldPlace → Field
-field_of_place f =
-    record { name = f.name; kind = f.kind; required = f.required; unique = f.unique; indexed = f.indexed; child = f.child }
-
--- an object without its validation rules
-abbrev pub numbered_in : Layout → Numbered
-numbered_in l =
-    record {
-      number = l.object;
-      object = record { name = l.name; access = l.access; fields = map field_of_place l.fields; validation_rules = [] };
-    }
 
 abbrev pub references_in : List Layout → List Reference
 references_in layouts = flat_map (λ l. references_of (numbered_in l)) layouts

@@ -14,7 +14,7 @@ use Rattle.ut_model.specs.declared.refusal.Refusal.TheVariants.{JobBusy}
 use Rattle.ut_model.specs.Cases.{in_case}
 use Rattle.ut_model.specs.Fields.{same_name}
 use Rattle.ut_model.specs.Names.{is_stem}
-use Rattle.ut_model.specs.Objects.{Numbered}
+use Rattle.ut_model.specs.Objects.{Numbered, object_named}
 use Rattle.ut_model.specs.RuleFormulas.{is_copy, names_field}
 use Rattle.ut_model.specs.Rules.{Rule, refuse_if}
 use Rattle.ut_model.specs.Tenant.{Tenant}
@@ -30,6 +30,7 @@ use Rattle.ut_stands.specs.Layouts.{layout_of}
 use Rattle.ut_stands.specs.Metadata.{validation_of}
 use Rattle.ut_stands.specs.Plan.{OrgPlan}
 use Rattle.ut_meta.specs.declared.edits.validation.NewRuleRows.{NewRuleRows}
+use Rattle.ut_meta.specs.declared.edits.validation.ReadObject.{ReadObject}
 use Rattle.ut_meta.specs.inner.Rows.{HasRow}
 use Rattle.ut_meta.specs.Judging.{verdict_refusal}
 
@@ -44,6 +45,18 @@ pub record IsRuled (t : Tenant) (o : Numbered) (l : Layout) (is_taken : Bool) (r
   pub layout : (org : ℕ) × (q : OrgPlan) × (l ≡ layout_of org q t o)
   pub taken : IsTrue (is_stem b.name) → is_taken ≡ list_any (same_name b.name) (map (λ r. r.name) o.object.validation_rules)
   pub count : rules ≡ length o.object.validation_rules
+
+-- what was read of the object that is to have the rule is the object's
+pub record IsRead (org : ℕ) (t : Tenant) (b : NewValidationRule) (r : ReadObject) : Type 0 where
+  pub numbered : Numbered
+  pub there : object_named t b.object ≡ Some numbered
+  pub ruled : IsRuled t numbered r.layout r.is_taken r.row.validation_rules b
+  pub row : HasRow org t b.object r.row
+
+-- what was read is the object's, where there is such an object; or why nothing was
+abbrev pub ReadsFor : (org : ℕ) → Tenant → NewValidationRule → Result ReadObject EditFail → Type 0
+ReadsFor org t b (Ok r) = IsRead org t b r
+ReadsFor org t b (Err e) = FailsBy (add_validation_rule t b) e
 
 -- the row of the object that is to have the rule, where the verdict doesn't refuse; or why there is none
 abbrev pub AcceptsRule : (org : ℕ) → Tenant → NewValidationRule → Result ObjectRow EditFail → Type 0

@@ -64,6 +64,8 @@ impl Edit for SetAccess<'_> {
 
     ghost gone = { 0 };
 
+    ghost shown = { 0 };
+
     fn judge<K: Keeper>(
         &self,
         alloc: Global,

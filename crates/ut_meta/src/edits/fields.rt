@@ -175,6 +175,8 @@ impl Edit for AddField<'_> {
 
     ghost gone = { 0 };
 
+    ghost shown = { 0 };
+
     fn judge<K: Keeper>(
         &self,
         alloc: Global,

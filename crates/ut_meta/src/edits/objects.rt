@@ -180,6 +180,8 @@ impl Edit for AddObject<'_> {
 
     ghost gone = { 0 };
 
+    ghost shown = { 0 };
+
     fn judge<K: Keeper>(
         &self,
         alloc: Global,

@@ -7,7 +7,7 @@ ghost use Rattle.ut_keeper.specs.Draft.{DraftTells, tables_of};
 ghost use Rattle.ut_keys.specs.declared.fail.StoreFail.TheVariants.{Keeper, Memory};
 ghost use Rattle.ut_keys.specs.Forms.{FitsForm};
 ghost use Rattle.ut_keys.specs.Rows.{object_form};
-ghost use Rattle.ut_meta.specs.inner.RuleRows.{AcceptsRule, FitRuleRows, IsSpelledRule, changes_of, rows_by};
+ghost use Rattle.ut_meta.specs.inner.RuleRows.{AcceptsRule, FitRuleRows, IsSpelledRule, ReadsFor, changes_of, rows_by};
 ghost use Rattle.ut_meta.specs.Judging.{NamesLayout};
 ghost use Rattle.ut_model.specs.Tenant.{Tenant};
 ghost use Rattle.ut_model.specs.ValidationRules.{add_validation_rule};
@@ -34,6 +34,15 @@ use ut_stands::{
     EditFail, Layout, call_laws, layout_named, metadata_laws, object_there, rule_row, slot_laws,
 };
 use ut_value::{Bytes, Text};
+
+// What a new validation rule is judged by, as it was read: of the object that is to have it.
+#[derive(Drop)]
+struct ReadObject {
+    layout: Layout,
+    // Whether one of its rules has the name.
+    is_taken: bool,
+    row: ObjectRow,
+}
 
 // The rows that a new validation rule changes.
 #[derive(Drop)]
@@ -82,6 +91,32 @@ fn layout_there<K: Keeper>(
     }
 }
 
+// What a new rule of the object is judged by, which is read.
+fn read_object<K: Keeper>(
+    alloc: Global,
+    draft: &mut Draft<'_, K>,
+    org: u32,
+    new: &NewValidationRule,
+) -> Result<ReadObject, EditFail>
+    ensures reads { DraftTells K.state draft.old draft.new
+        → (q : OrgPlan) (t : Tenant) → StandsIn org q (tables_of K.state draft.old) (Some t) → ReadsFor org t new.now result }
+    ensures own { DraftTells K.state draft.old draft.new → IfOk result (λ object. object.row.org ≡ org) }
+    ensures fits { IfOk result (λ object. FitsForm object_form object.row) }
+    ensures calls { Calls K.state 0 (ended_edit result) draft.old draft.new }
+{
+    call_laws::<K>();
+    metadata_laws();
+    let layout = layout_there(alloc, draft, org, &new.object)?;
+    let name = lower_bytes(alloc, new.name.as_str())?;
+    let is_taken = rule_row(alloc, draft, org, layout.object, name)?.is_some();
+    let row = object_there(alloc, draft, org, layout.object)?;
+    Ok(ReadObject {
+        layout,
+        is_taken,
+        row,
+    })
+}
+
 // The row of the object that is to have the rule, if the rule isn't refused.
 fn object_to_rule<K: Keeper>(
     alloc: Global,
@@ -96,13 +131,10 @@ fn object_to_rule<K: Keeper>(
     ensures calls { Calls K.state 0 (ended_edit result) draft.old draft.new }
 {
     call_laws::<K>();
-    metadata_laws();
-    let layout = layout_there(alloc, draft, org, &new.object)?;
-    let name = lower_bytes(alloc, new.name.as_str())?;
-    let is_taken = rule_row(alloc, draft, org, layout.object, name)?.is_some();
-    let row = object_there(alloc, draft, org, layout.object)?;
-    match judge_rule(alloc, &layout, is_taken, row.validation_rules, new)? {
-        None => Ok(row),
+    let object = read_object(alloc, draft, org, new)?;
+    let rules = object.row.validation_rules;
+    match judge_rule(alloc, &object.layout, object.is_taken, rules, new)? {
+        None => Ok(object.row),
         Some(refusal) => Err(EditFail::Refused(refusal)),
     }
 }
@@ -178,6 +210,8 @@ impl Edit for AddValidationRule<'_> {
     ghost most = { 2 };
 
     ghost gone = { 0 };
+
+    ghost shown = { 0 };
 
     fn judge<K: Keeper>(
         &self,

@@ -3,7 +3,6 @@
 ghost use Rattle.std.specs.Prelude.{◌≡◌, ◌∷◌, [], ◌≢◌, ◌≤◌, IfErr, IfOk, Ok, false, length};
 ghost use Rattle.std.specs.Str.{chars};
 ghost use Rattle.ut_keys.specs.declared.fail.StoreFail.TheVariants.{Keeper, Memory};
-ghost use Rattle.ut_meta.specs.inner.Relations.{numbered_in};
 ghost use Rattle.ut_meta.specs.inner.RuleRows.{IsRuled, busy_by};
 ghost use Rattle.ut_model.specs.Names.{bad_name, is_stem};
 ghost use Rattle.ut_model.specs.Objects.{Numbered};
@@ -12,14 +11,15 @@ ghost use Rattle.ut_model.specs.Rules.{first_refusal, refuse_if};
 ghost use Rattle.ut_model.specs.declared.refusal.Refusal.TheVariants.{NameTaken};
 ghost use Rattle.ut_model.specs.Tenant.{Tenant};
 ghost use Rattle.ut_model.specs.ValidationRules.{new_validation_rule_rules};
+ghost use Rattle.ut_rules.specs.Objects.{object_of_layout};
 
-use crate::formulas::{names_field, read_formula};
 use crate::rules::{bad_name, name_taken, over_limit};
 use std::alloc::{AllocError, Global};
 use ut_formula::Formula;
 use ut_grammar::ParseFail;
 use ut_keys::StoreFail;
 use ut_model::{Limit, NewValidationRule, Refusal, is_stem};
+use ut_rules::{names_field, read_formula};
 use ut_stands::{JobPlace, Layout};
 use ut_value::Phase;
 
@@ -72,8 +72,8 @@ fn busy(
 // Why the formula of a new rule is refused, if it is.
 fn bad_formula(alloc: Global, layout: &Layout, text: &str) -> Result<Option<Refusal>, AllocError>
     requires { length layout.now.fields ≤ 40 }
-    ensures { IfOk result (λ rule. rule ≡ first_refusal (malformed (formula_of (numbered_in layout.now).object false (chars text.now))
-        ∷ busy_by layout.now.job (formula_of (numbered_in layout.now).object false (chars text.now)) ∷ [])) }
+    ensures { IfOk result (λ rule. rule ≡ first_refusal (malformed (formula_of (object_of_layout layout.now) false (chars text.now))
+        ∷ busy_by layout.now.job (formula_of (object_of_layout layout.now) false (chars text.now)) ∷ [])) }
 {
     match read_formula(alloc, layout, text) {
         Ok(formula) => busy(alloc, &layout.job, &formula),

@@ -18,8 +18,9 @@ returns-clause-what g c told =
     let b = c.judge.new.draft in
     let d = c.make_changes.new.draft in
     let laws = c.local_laws.ensures in
+    let shown = g.E.Edit.shown in
     let first = c.draft_laws.ensures.told_first _ _ 0 a b d c.make_changes.ensures.works told in
-    let same = c.draft_laws.ensures.tables 0 a b c.judge.ensures.calls.reads first in
+    let same = c.draft_laws.ensures.tables shown a b c.judge.ensures.calls.reads first in
     edit_made laws.edited laws.kept c.args.org (omega arith) (tables_of state a) (tables_of state d) g.E.Edit.answered (g.E.Edit.planned c.args.edit.now) (g.E.Edit.verdict c.args.edit.now) (g.E.Edit.fits c.args.edit.now)
     c.judge.result c.in_ok-decided.decided c.in_ok-decided.was (c.judge.ensures.what first)
     (c.in_ok-make_changes.ensures.ok ∙ ap (after c.in_ok-decided.decided.changes.items) same)

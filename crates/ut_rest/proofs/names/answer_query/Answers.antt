@@ -17,6 +17,6 @@ returns-in-Ok-clause-what g c told p a s asking =
 
 pub returns-in-Err-Malformed-clause-what : goal.returns-in-Err-Malformed-clause-what
 returns-in-Err-Malformed-clause-what g c told p a s asking =
-    subst (λ (q : Result Query ℕ). AnswersBy a (query_verdict a q) c.refuse.result)
+    subst (λ (q : Result Query ℕ). AnswersBy a (query_verdict a q) c.refuse_malformed.result)
     (sym (subst (λ (r : Result Query ParseFail). UnlessMemory r (λ read. reads_query (query_text c.args.pairs.now) ≡ read)) (c.in-Err-Malformed.is ∙ ap Err c.in-Err-Malformed.field-0-is) c.query_in.ensures))
-    (refused_so a (MalformedQuery c.in-Err-Malformed.place) c.refuse.result c.refuse.ensures.value)
+    (refused_so a (MalformedQuery c.in-Err-Malformed.place) c.refuse_malformed.result c.refuse_malformed.ensures.value)

@@ -1,7 +1,12 @@
 use Rattle.ut_serving.specs.Answers.{bytes_in}
 use Rattle.ut_serving.proofs.Fallen.{fell_on, undone_reply}
+use Rattle.ut_serving.proofs.Kept.{sure_by}
 use Rattle.ut_serving.proofs.Turned.{replied}
 use Rattle.ut_serving.proofs.lines.reply.Goals as goal
+
+pub returns-clause-sure : goal.returns-clause-sure
+returns-clause-sure g c holds =
+    sure_by (g.K.Keeper.state c.answer_message-answer.new.keeper) c.answer_message-answer.result c.answer_message-answer.ensures.acknowledged c.is_made.result c.is_made.ensures holds
 
 pub returns-clause-replies : goal.returns-clause-replies
 returns-clause-replies g c told w moments s e =

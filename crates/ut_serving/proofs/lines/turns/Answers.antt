@@ -10,6 +10,7 @@ use Rattle.ut_serving.proofs.lines.turns.Goals as goal
 
 pub loop-count-init : goal.loop-count-init
 loop-count-init g c = record {
+  sure = λ holds. absurd cc;
   steps = steps_same (g.K.Keeper.state c.args.keeper.now);
   leads = led_same (g.K.Keeper.state c.args.keeper.now);
   stays = g.met.W.Wire.stays_refl c.args.wire.now;
@@ -27,6 +28,7 @@ loop-count-preserved g c =
     let reads = c.turn.ensures.reads.later in
     let writes = c.turn.ensures.writes.later in
     record {
+      sure = c.turn.ensures.sure;
       steps = steps_on (state c.args.keeper.now) (state c.loop-count.keeper) (state c.turn.new.keeper) c.loop-count.invariant.steps c.turn.ensures.steps;
       leads = led_then (state c.args.keeper.now) (state c.loop-count.keeper) (state c.turn.new.keeper) c.loop-count.invariant.leads c.turn.ensures.steps c.turn.ensures.leads;
       stays = g.met.W.Wire.stays_trans c.args.wire.now c.loop-count.wire c.turn.new.wire c.loop-count.invariant.stays c.turn.ensures.stays;

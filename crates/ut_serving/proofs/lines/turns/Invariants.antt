@@ -1,6 +1,6 @@
 use Rattle.std.proofs.Common.{◌≡◌, ◌≤◌, ℕ, false, true, IsTrue, List, Some}
 use Rattle.std.specs.Io.KnownBytes.{prepend_known}
-use Rattle.ut_keeper.specs.State.{Steps, Tells}
+use Rattle.ut_keeper.specs.State.{Steps, Tells, TrustedAfter}
 use Rattle.ut_model.specs.World.{World}
 use Rattle.ut_stands.specs.Stands.{Stands}
 use Rattle.ut_serving.specs.Leads.{LeadsFrom}
@@ -16,6 +16,7 @@ invariant-loop-count g l =
     let input_of = g.W.Wire.input in
     let output_of = g.W.Wire.output in
     record {
+      sure : IsTrue l.is_sure → TrustedAfter true (state l.keeper);
       steps : Steps (state l.fn.keeper) (state l.keeper);
       leads : LeadsFrom (state l.fn.keeper) (state l.keeper);
       stays : g.W.Wire.stays l.fn.wire l.wire;

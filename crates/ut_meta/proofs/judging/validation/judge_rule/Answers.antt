@@ -1,5 +1,5 @@
 use Rattle.std.proofs.Common.{◌≡◌, ◌∙◌, ℕ, ◌+◌, ◌∷◌, [], List, false, Some, None, refl, sym, ap}
-use Rattle.ut_meta.specs.inner.Relations.{numbered_in}
+use Rattle.ut_rules.specs.Objects.{object_of_layout}
 use Rattle.ut_meta.specs.inner.RuleRows.{busy_by}
 use Rattle.ut_model.specs.declared.limit.Limit.TheVariants as limit
 use Rattle.ut_model.specs.RuleFormulas.{formula_of, malformed}
@@ -9,14 +9,14 @@ use Rattle.ut_meta.proofs.judging.validation.judge_rule.Goals as goal
 
 pub returns-in-Some-2-clause-judged : goal.returns-in-Some-2-clause-judged
 returns-in-Some-2-clause-judged c = λ t o h.
-    let formed = ap (λ (text : List ℕ). first_refusal (malformed (formula_of (numbered_in c.args.layout.now).object false text) ∷ busy_by c.args.layout.now.job (formula_of (numbered_in c.args.layout.now).object false text) ∷ [])) c.as_str.ensures.characters in
+    let formed = ap (λ (text : List ℕ). first_refusal (malformed (formula_of (object_of_layout c.args.layout.now) false text) ∷ busy_by c.args.layout.now.job (formula_of (object_of_layout c.args.layout.now) false text) ∷ [])) c.as_str.ensures.characters in
     formula_refused t o c.args.layout.now c.args.is_taken c.args.rules c.args.new.now h c.in-Some-2.refusal
     (sym c.in_ok-refusal.ensures ∙ c.in_default.is)
     (sym formed ∙ sym c.in_ok-refusal-2.ensures ∙ c.in-Some-2.is)
 
 pub returns-clause-judged : goal.returns-clause-judged
 returns-clause-judged c = λ t o h.
-    let formed = ap (λ (text : List ℕ). first_refusal (malformed (formula_of (numbered_in c.args.layout.now).object false text) ∷ busy_by c.args.layout.now.job (formula_of (numbered_in c.args.layout.now).object false text) ∷ [])) c.as_str.ensures.characters in
+    let formed = ap (λ (text : List ℕ). first_refusal (malformed (formula_of (object_of_layout c.args.layout.now) false text) ∷ busy_by c.args.layout.now.job (formula_of (object_of_layout c.args.layout.now) false text) ∷ [])) c.as_str.ensures.characters in
     c.over_limit.ensures
     ∙ ap (λ (n : ℕ). over_limit ((limit.ValidationRulesPerObject, n + 1) ∷ [])) c.from.ensures
     ∙ count_decides t o c.args.layout.now c.args.is_taken c.args.rules c.args.new.now h

@@ -1,0 +1,10 @@
+pub mod Names
+pub mod Refused
+pub mod Spelled
+pub mod Valid
+pub mod Found
+pub mod Judging
+pub mod Owners
+pub mod Made
+pub mod Overs
+pub mod Ended

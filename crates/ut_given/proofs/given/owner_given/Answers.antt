@@ -1,0 +1,22 @@
+use Rattle.std.proofs.Common.{◌≡◌, ℕ, List, Option, Result, refl, sym, subst}
+use Rattle.ut_model.specs.Edits.{given_owner, given_to}
+use Rattle.ut_model.specs.Fields.{column, its_owner, of_type, owner_columns}
+use Rattle.ut_value.specs.declared.value.FieldType.TheVariants as type
+use Rattle.ut_value.specs.declared.value.OnDelete.TheVariants.{Clear}
+use Rattle.ut_rules.specs.Objects.{object_of_layout}
+use Rattle.ut_given.specs.declared.unread.Unread.{Unread}
+use Rattle.ut_given.specs.inner.Read.{ValueOrRefusal, ReadsGiven, refused_among}
+use Rattle.ut_given.proofs.Names.{owner_text}
+use Rattle.ut_given.proofs.Owners.{detail_owner, own_owner}
+use Rattle.ut_given.proofs.given.owner_given.Goals as goal
+
+pub returns-then-is_detail : goal.returns-then-is_detail
+returns-then-is_detail c plain t = detail_owner t (object_of_layout c.args.layout.now) c.args.given.now (sym c.if-is_detail.ensures)
+
+pub returns-else-is_detail : goal.returns-else-is_detail
+returns-else-is_detail c plain t =
+    let o = object_of_layout c.args.layout.now in
+    let given = c.args.given.now in
+    let read = subst (λ (name : List ℕ). ReadsGiven (given_to t given (column name (of_type (type.Lookup 0 Clear)) its_owner)) c.value_to.result) owner_text (c.value_to.ensures.value refl plain t its_owner) in
+    subst (λ (r : Result (Option (List ℕ)) Unread). ValueOrRefusal (refused_among t given (owner_columns o)) (λ owner. owner ≡ given_owner t o given) r) (sym c.owner_in.ensures)
+    (own_owner t o given plain (sym c.if-is_detail.ensures) c.value_to.result read)

@@ -1,0 +1,20 @@
+use Rattle.ut_given.proofs.Spelled.{empty_alike, fields_alike, kinds_alike, record_alike, required_alike, values_alike}
+use Rattle.ut_given.proofs.laws.given_laws.Goals as goal
+
+pub returns-clause-bad_fields : goal.returns-clause-bad_fields
+returns-clause-bad_fields c org p t o given = fields_alike org p t o given
+
+pub returns-clause-bad_value : goal.returns-clause-bad_value
+returns-clause-bad_value c org p t o given = values_alike org p t o given
+
+pub returns-clause-with_given : goal.returns-clause-with_given
+returns-clause-with_given c org p a o given old = record_alike org p a o given old
+
+pub returns-clause-required_missing : goal.returns-clause-required_missing
+returns-clause-required_missing c org p t o new = required_alike org p t o new
+
+pub returns-clause-empty_record : goal.returns-clause-empty_record
+returns-clause-empty_record c org p a o = empty_alike org p a o
+
+pub returns-clause-kinds : goal.returns-clause-kinds
+returns-clause-kinds c org p t o = kinds_alike org p t o

@@ -1,0 +1,4 @@
+-- Words of private functions.
+pub mod Columns
+pub mod Fields
+pub mod Read

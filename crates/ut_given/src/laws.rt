@@ -1,0 +1,32 @@
+//! What holds of the objects that layouts spell.
+
+ghost use Rattle.std.specs.Prelude.{◌≡◌, ℕ, List, None};
+ghost use Rattle.ut_rules.specs.Objects.{numbered_in, object_of_layout};
+ghost use Rattle.ut_model.specs.declared.record.Record.{Record};
+ghost use Rattle.ut_model.specs.declared.record_bodies.Assignment.{Assignment};
+ghost use Rattle.ut_model.specs.Creates.{empty_record};
+ghost use Rattle.ut_model.specs.Edits.{bad_value, required_missing, with_given};
+ghost use Rattle.ut_model.specs.Keys.{bad_fields};
+ghost use Rattle.ut_model.specs.Objects.{Numbered};
+ghost use Rattle.ut_model.specs.Paths.{Asked};
+ghost use Rattle.ut_model.specs.SoundRecords.{kinds_of};
+ghost use Rattle.ut_model.specs.Tenant.{Tenant};
+ghost use Rattle.ut_stands.specs.Layouts.{layout_of};
+ghost use Rattle.ut_stands.specs.Plan.{OrgPlan};
+
+/// An object and the one that its layout spells: names, values and required fields are judged alike, and records are made alike,
+/// whatever the object's validation rules are. The call does nothing.
+pub fn given_laws()
+    ensures bad_fields { (org : ℕ) (p : OrgPlan) (t : Tenant) (o : Numbered) (given : List Assignment)
+        → bad_fields t o.object None given ≡ bad_fields t (object_of_layout (layout_of org p t o)) None given }
+    ensures bad_value { (org : ℕ) (p : OrgPlan) (t : Tenant) (o : Numbered) (given : List Assignment)
+        → bad_value t o.object given ≡ bad_value t (object_of_layout (layout_of org p t o)) given }
+    ensures with_given { (org : ℕ) (p : OrgPlan) (a : Asked) (o : Numbered) (given : List Assignment) (old : Record)
+        → with_given a o.object given old ≡ with_given a (object_of_layout (layout_of org p a.tenant o)) given old }
+    ensures required_missing { (org : ℕ) (p : OrgPlan) (t : Tenant) (o : Numbered) (new : Record)
+        → required_missing o.object new ≡ required_missing (object_of_layout (layout_of org p t o)) new }
+    ensures empty_record { (org : ℕ) (p : OrgPlan) (a : Asked) (o : Numbered)
+        → empty_record a o ≡ empty_record a (numbered_in (layout_of org p a.tenant o)) }
+    ensures kinds { (org : ℕ) (p : OrgPlan) (t : Tenant) (o : Numbered)
+        → kinds_of o.object ≡ kinds_of (object_of_layout (layout_of org p t o)) }
+{}

@@ -1,0 +1,20 @@
+//! What a body gives to the fields of a record, judged by the layout of the record's object.
+//!
+//! It depends on `ut_stands` for layouts and on `ut_model` for the definitions; it reads no table. Its contract: what it refuses,
+//! and the values and the records that it returns, are those of the definitions of edits, for the object that the layout spells.
+#![tactic(auto)]
+
+mod columns;
+mod creating;
+mod given;
+mod json;
+mod laws;
+mod reading;
+mod required;
+mod unread;
+
+pub use crate::columns::bad_fields;
+pub use crate::creating::empty_record;
+pub use crate::given::{GivenValues, read_given, with_given};
+pub use crate::laws::given_laws;
+pub use crate::required::required_missing;

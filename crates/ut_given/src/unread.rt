@@ -1,0 +1,33 @@
+use std::alloc::{AllocError, AllocFailed};
+use ut_model::Refusal;
+
+/// Why a value wasn't read.
+#[derive(Drop)]
+pub(crate) enum Unread {
+    /// It is refused.
+    Refused(Refusal),
+    /// Out of memory.
+    Memory,
+}
+
+impl From<AllocError> for Unread {
+    ghost use Rattle.std.specs.Prelude.{◌≡◌};
+    ghost use Rattle.ut_given.specs.declared.unread.Unread.TheVariants.{Memory};
+
+    ghost from_gives = { λ _ e. e ≡ Memory };
+
+    fn from(_: AllocError) -> Unread {
+        Unread::Memory
+    }
+}
+
+impl<T: Drop> From<AllocFailed<T>> for Unread {
+    ghost use Rattle.std.specs.Prelude.{◌≡◌};
+    ghost use Rattle.ut_given.specs.declared.unread.Unread.TheVariants.{Memory};
+
+    ghost from_gives = { λ _ e. e ≡ Memory };
+
+    fn from(_: AllocFailed<T>) -> Unread {
+        Unread::Memory
+    }
+}

@@ -1,0 +1,6 @@
+use Rattle.ut_pivot.proofs.Few.{made_few, made_gone, slot_few, slot_gone}
+use Rattle.ut_pivot.proofs.NewRecord.{made_is}
+use Rattle.ut_pivot.proofs.laws.pivot_laws.Goals as goal
+
+pub returns : goal.returns
+returns c = record { made = made_is c.data_laws.ensures.made; few = made_few; gone = made_gone; slot_few = slot_few; slot_gone = slot_gone }

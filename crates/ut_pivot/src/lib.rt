@@ -1,0 +1,17 @@
+//! The rows of a record and of its values, as changes: index rows, unique rows, and rows of references.
+//!
+//! It depends on `ut_edits` for changes of rows, and on `ut_data` for the row of a record. Its contract: the changes that are
+//! added to a list are exactly the rows that differ where a record comes, changes or goes.
+#![tactic(auto)]
+
+mod keys;
+mod laws;
+mod made;
+mod rows;
+mod slot;
+mod turning;
+
+pub use crate::laws::pivot_laws;
+pub use crate::made::new_record_changes;
+pub use crate::slot::RecordSlot;
+pub use crate::turning::turn_value;

@@ -1,0 +1,104 @@
+//! The rows of a new record.
+
+ghost use Rattle.std.specs.Prelude.{◌≡◌, ◌++◌, ◌<◌, IfSome, IsTrue, None, OnOk, length, map};
+ghost use Rattle.std.specs.List.{AllByRecursion};
+ghost use Rattle.ut_data.specs.Decoding.{has_types, kinds_in};
+ghost use Rattle.ut_data.specs.Encoding.{field_of_slot};
+ghost use Rattle.ut_edits.specs.Rows.{spelled};
+ghost use Rattle.ut_keys.specs.Keys.{FitsKey};
+ghost use Rattle.ut_model.specs.SoundRecords.{all_valid};
+ghost use Rattle.ut_pivot.specs.Changed.{slot_changes};
+ghost use Rattle.ut_pivot.specs.Made.{layout_entry, made_changes, values_made};
+
+use crate::slot::RecordSlot;
+use crate::turning::turn_value;
+use std::alloc::{AllocError, Global};
+use ut_data::row_of;
+use ut_edits::put_row;
+use ut_keeper::Change;
+use ut_model::Record;
+use ut_stands::{FieldPlace, Layout};
+
+// How many slots a record has.
+const SLOT_COUNT: u8 = 48;
+
+// The number of the field with this slot.
+fn field_of_slot(fields: &[FieldPlace], slot: u8) -> Option<usize>
+    ensures place { result ≡ field_of_slot fields.now slot }
+    ensures below { IfSome result (λ number. number < length fields.now) }
+{
+    for (number, field) in fields.iter().enumerate() {
+        if field.slot == slot {
+            return Some(number);
+        }
+    }
+    None
+}
+
+// The rows of what a new record has in a slot.
+fn put_value(
+    alloc: Global,
+    layout: &Layout,
+    item: &Record,
+    slot: u8,
+    changes: &mut Vec<Change>,
+) -> Result<(), AllocError>
+    ensures changes { OnOk result (changes.new.items ≡ changes.old.items ++ map spelled
+        (slot_changes layout.now.org layout.now.object item.now.id None (layout_entry layout.now item.now slot) slot)) }
+    ensures fits { OnOk result (AllByRecursion (λ c. FitsKey c.0)
+        (slot_changes layout.now.org layout.now.object item.now.id None (layout_entry layout.now item.now slot) slot)) }
+{
+    let fields = layout.fields.as_slice();
+    let Some(number) = field_of_slot(fields, slot) else {
+        return Ok(());
+    };
+    let Some(value) = item.values.as_slice().get(number + 1) else {
+        // No value is null, which has no rows.
+        return Ok(());
+    };
+    let at = RecordSlot {
+        org: layout.org,
+        object: layout.object,
+        id: item.id,
+        slot,
+    };
+    turn_value(alloc, changes, &at, &fields[number], None, Some(value))
+}
+
+// The rows of what a new record has in its slots.
+fn put_values(
+    alloc: Global,
+    layout: &Layout,
+    item: &Record,
+    changes: &mut Vec<Change>,
+) -> Result<(), AllocError>
+    ensures changes { OnOk result (changes.new.items ≡ changes.old.items ++ map spelled (values_made layout.now item.now 48)) }
+    ensures fits { OnOk result (AllByRecursion (λ c. FitsKey c.0) (values_made layout.now item.now 48)) }
+{
+    for slot in 0..SLOT_COUNT {
+        put_value(alloc, layout, item, slot, changes)?;
+    }
+    Ok(())
+}
+
+/// Changes that put the rows of a new record: its own, and those of its values. It reads nothing.
+///
+/// # Errors
+///
+/// If out of memory.
+pub fn new_record_changes(
+    alloc: Global,
+    layout: &Layout,
+    item: &Record,
+    changes: &mut Vec<Change>,
+) -> Result<(), AllocError>
+    requires types { IsTrue (has_types layout.now) }
+    requires values { IsTrue (all_valid (kinds_in layout.now.fields) item.now.values) }
+    ensures changes { OnOk result (changes.new.items ≡ changes.old.items ++ map spelled (made_changes layout.now item.now)) }
+    // Their keys have spellings.
+    ensures fits { OnOk result (AllByRecursion (λ c. FitsKey c.0) (made_changes layout.now item.now)) }
+{
+    let row = row_of(alloc, layout, item, None)?;
+    put_row(alloc, changes, &row)?;
+    put_values(alloc, layout, item, changes)
+}

@@ -1,0 +1,4 @@
+pub mod Facts
+pub mod Counting
+pub mod Sharing
+pub mod Taking

@@ -1,0 +1,71 @@
+ghost use Rattle.std.specs.Prelude.{◌≡◌, ◌<◌, ◌^◌, ◌-◌, ℕ, List, None, Some, true};
+ghost use Rattle.std.specs.List.{AllByRecursion};
+ghost use Rattle.std.specs.Prelude.{◌∷◌, []};
+ghost use Rattle.ut_edits.specs.Edits.{Takes};
+ghost use Rattle.ut_keys.specs.Keys.{FitsKey};
+ghost use Rattle.ut_model.specs.Creates.{create, create_rules, with_record};
+ghost use Rattle.ut_model.specs.declared.record_bodies.Assignment.{Assignment};
+ghost use Rattle.ut_model.specs.Edits.{with_given};
+ghost use Rattle.ut_model.specs.Objects.{Numbered, is_of, object_named, object_numbered};
+ghost use Rattle.ut_model.specs.Paths.{Asked};
+ghost use Rattle.ut_model.specs.Rules.{first_refusal};
+ghost use Rattle.ut_model.specs.Sound.{IsSound};
+ghost use Rattle.ut_model.specs.Tenant.{Tenant};
+ghost use Rattle.ut_model.specs.Updates.{update, update_on, update_rules, with_changed};
+ghost use Rattle.ut_model.specs.Verdict.{done, made_new};
+ghost use Rattle.ut_model.specs.declared.record.Record.{Record};
+ghost use Rattle.ut_records.specs.Creating.{PlansNew, counts_with, created_changes, new_record};
+ghost use Rattle.ut_records.specs.Updating.{PlansSame, shares_gone, updated_changes};
+ghost use Rattle.ut_sound.specs.Fit.{IsCaller, OfObjects, ReadsWell};
+ghost use Rattle.ut_stands.specs.Plan.{FitsPlan, OrgPlan};
+ghost use Rattle.ut_touched.specs.Touched.{AreCounts, fresh_plan, touched_changes};
+
+use ut_sound::records_sound;
+use ut_touched::touched_laws;
+use ut_value::principal_laws;
+
+/// The laws of a new record's rows. The call does nothing.
+pub fn create_laws()
+    // The rows of the organisation and of its object count it, and no other row counts it or shares it.
+    ensures counted { (org : ℕ) (q : OrgPlan) (t : Tenant) (o : Numbered) (r : Record) → org < 2 ^ 32 → IsSound t
+        → object_numbered t o.number ≡ Some o.object → is_of o.number r ≡ true
+        → AreCounts org q (fresh_plan r.id q) t (with_record r t) (counts_with org t o r) }
+
+    // Where no rule refuses it, its changes take the organisation's rows to those of the tenant that the create leaves.
+    ensures takes { (org : ℕ) (q : OrgPlan) (a : Asked) (name : List ℕ) (o : Numbered) (given : List Assignment)
+        → org < 2 ^ 32 → IsSound a.tenant → FitsPlan q a.tenant → IsCaller a → OfObjects a (λ x. ReadsWell a x given)
+        → object_named a.tenant name ≡ Some o → object_numbered a.tenant o.number ≡ Some o.object
+        → is_of o.number (new_record a o given) ≡ true
+        → None ≡ first_refusal (create_rules a o None given (new_record a o given))
+        → AllByRecursion (λ c. FitsKey c.0) (touched_changes org q (fresh_plan (new_record a o given).id q) a.tenant
+        (with_record (new_record a o given) a.tenant) ((new_record a o given).id ∷ []))
+        → Takes org q a.tenant (create a name given) (made_new (new_record a o given).id) PlansNew
+        (created_changes org q a.tenant o (new_record a o given)) }
+{
+    touched_laws();
+    records_sound();
+}
+
+/// The laws of the rows of a record whose values change. The call does nothing.
+pub fn update_laws()
+    // The rows of its manual shares go if it gets another owner, and no other row that counts it or shares it differs.
+    ensures counted { (org : ℕ) (q : OrgPlan) (t : Tenant) (old new : Record)
+        → AllByRecursion (λ c. FitsKey c.0) (shares_gone org t old new)
+        → AreCounts org q q t (with_changed old new t) (shares_gone org t old new) }
+
+    // Where the key names the record and no rule refuses it, its changes take the organisation's rows to those of the tenant that
+    // the update leaves.
+    ensures takes { (org : ℕ) (q : OrgPlan) (a : Asked) (name key : List ℕ) (o : Numbered) (given : List Assignment) (old : Record)
+        → IsSound a.tenant → FitsPlan q a.tenant → IsCaller a → OfObjects a (λ x. ReadsWell a x given)
+        → update a name key given ≡ update_on a o None given old
+        → None ≡ first_refusal (update_rules a o None given old (with_given a o.object given old))
+        → AllByRecursion (λ c. FitsKey c.0) (shares_gone org a.tenant old (with_given a o.object given old))
+        → AllByRecursion (λ c. FitsKey c.0)
+        (touched_changes org q q a.tenant (with_changed old (with_given a o.object given old) a.tenant) (old.id ∷ []))
+        → Takes org q a.tenant (update a name key given) done PlansSame
+        (updated_changes org q a.tenant old (with_given a o.object given old)) }
+{
+    touched_laws();
+    records_sound();
+    principal_laws();
+}

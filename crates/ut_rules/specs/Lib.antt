@@ -1,0 +1,4 @@
+pub mod Objects
+pub mod Rows
+pub mod Failing
+pub mod inner

@@ -1,0 +1,12 @@
+pub mod Turned
+pub mod Records
+pub mod Same
+pub mod Touching
+pub mod Uniques
+pub mod Puts
+pub mod Rest
+pub mod Edits
+pub mod Plans
+pub mod Single
+pub mod Keeping
+pub mod Deleting

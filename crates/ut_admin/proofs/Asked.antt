@@ -1,11 +1,11 @@
 -- The requests that bodies ask for, and the edits of these.
-use Rattle.std.proofs.Common.{◌≡◌, ◌≤◌, ℕ, Bool, true, false, cond, IsTrue, List, refl, sym, ap, subst, ◌∙◌, arith, Option, Some, None, Result, Ok, Err}
-use Rattle.std.specs.Prelude.{IfOk, IsErr, IsErrAnd, not, codes}
+use Rattle.std.proofs.Common.{◌≡◌, ◌≤◌, ℕ, Bool, true, false, cond, IsTrue, List, refl, sym, ap, subst, ◌∙◌, arith, ◌<◌, Option, Some, None, Result, Ok, Err}
+use Rattle.std.specs.Prelude.{IfErr, IfOk, IsErr, IsErrAnd, OnOk, not, codes}
 use Rattle.std.specs.Option.{option_map}
 use Rattle.std.specs.declared.alloc.AllocError.{AllocError}
-use Rattle.ut_bodies.specs.Bodies.{request_in}
-use Rattle.ut_edits.specs.Edits.{DraftsEdit, EditsAt, MakesEdit, Planned}
-use Rattle.ut_keeper.specs.Draft.{DraftTells, Held}
+use Rattle.ut_bodies.specs.Bodies.{request_in, values_request}
+use Rattle.ut_edits.specs.Edits.{DraftsEdit, EditsAt, MakesEdit, OthersStay, Planned}
+use Rattle.ut_keeper.specs.Draft.{DraftReads, DraftTells, Held, count_of}
 use Rattle.ut_keeper.specs.State.{KeeperState}
 use Rattle.ut_keeper.specs.Tables.{Tables}
 use Rattle.ut_keys.specs.declared.fail.StoreFail.TheVariants.{Damaged, Memory}
@@ -13,26 +13,29 @@ use Rattle.ut_value.specs.declared.sharing.Access.{Access}
 use Rattle.ut_model.specs.declared.metadata_bodies.NewField.{NewField}
 use Rattle.ut_model.specs.declared.metadata_bodies.NewObject.{NewObject}
 use Rattle.ut_model.specs.declared.metadata_bodies.NewValidationRule.{NewValidationRule}
+use Rattle.ut_model.specs.declared.record_bodies.Assignment.{Assignment}
 use Rattle.ut_model.specs.declared.refusal.Refusal.{Refusal}
 use Rattle.ut_model.specs.declared.refusal.Refusal.TheVariants.{NotBuilt}
 use Rattle.ut_model.specs.declared.route.Route.{Route}
-use Rattle.ut_model.specs.declared.route.Route.TheVariants.{AddField, AddObject, AddValidationRule, SetObject}
+use Rattle.ut_model.specs.declared.route.Route.TheVariants.{AddField, AddObject, AddValidationRule, Create, SetObject}
 use Rattle.ut_step.specs.Built.{built_request, is_built, needs_index, when_built}
-use Rattle.ut_step.specs.Own.{request_changes, request_gone}
+use Rattle.ut_step.specs.Own.{edit_shown, request_changes, request_gone}
 use Rattle.ut_model.specs.Forms.{access_request, field_request, object_request, validation_request}
 use Rattle.ut_model.specs.Paths.{Asked}
 use Rattle.ut_model.specs.RequestOf.{request_of, request_or, verdict_or}
-use Rattle.ut_model.specs.Requests.{Request, adds_field, adds_object, adds_validation_rule, sets_object, verdict_on}
+use Rattle.ut_model.specs.Requests.{Request, adds_field, adds_object, adds_validation_rule, creates, sets_object, verdict_on}
 use Rattle.ut_model.specs.Sound.{IsSound}
 use Rattle.ut_model.specs.Tenant.{Tenant}
-use Rattle.ut_model.specs.Verdict.{Verdict, done}
+use Rattle.ut_model.specs.Verdict.{Done, Verdict}
 use Rattle.ut_sound.specs.Fit.{IsFit}
 use Rattle.ut_stands.specs.Calls.{Calls, Ending, Makes, ended_edit, fell, stopped}
 use Rattle.ut_stands.specs.Calls.{done as ended_done}
 use Rattle.ut_stands.specs.Plan.{OrgPlan}
 use Rattle.ut_stands.specs.declared.fail.EditFail.{EditFail}
 use Rattle.ut_stands.specs.declared.fail.EditFail.TheVariants.{Refused, Store}
-use Rattle.ut_admin.specs.inner.Edits.{Asks, EditsFrom, EditsTo, KeepsRefused, form_of}
+use Rattle.ut_stands.specs.Fails.{IsRefusal}
+use Rattle.ut_admin.specs.declared.answer.Answer.{Answer}
+use Rattle.ut_admin.specs.inner.Edits.{Asks, EditsFrom, EditsTo, IsAnswerTo, KeepsRefused, answer_of, form_of, seen}
 
 -- what `ut_sound` says of requests that are read
 abbrev pub RequestsFit : Type 0
@@ -79,6 +82,21 @@ asks_access object body read e =
     asks_built (sets_object object) (request_or (request_in (access_request object) body)) (form_of read) (λ x. refl)
     (asks_form (sets_object object) read (request_in (access_request object) body) (of_object read body e object))
 
+-- the values of a record, with which any request may be made
+of_values : (read : Result (Option (List Assignment)) AllocError) (body : List ℕ) (make : List Assignment → Request)
+    → IfOk read (λ values. (make : List Assignment → Request) → option_map make values ≡ request_in (values_request make) body)
+    → IfOk read (λ values. option_map make values ≡ request_in (values_request make) body)
+of_values (Ok x) body make e = e make
+of_values (Err x) body make e = e
+
+pub asks_values : (object body : List ℕ) (read : Result (Option (List Assignment)) AllocError)
+    → IfOk read (λ values. (make : List Assignment → Request) → option_map make values ≡ request_in (values_request make) body)
+    → Asks (creates object) (built_request (Create object) body) (form_of read)
+unfolding request_of
+asks_values object body read e =
+    asks_built (creates object) (request_or (request_in (values_request (creates object)) body)) (form_of read) (λ x. refl)
+    (asks_form (creates object) read (request_in (values_request (creates object)) body) (of_values read body (creates object) e))
+
 -- the field's flags are looked at once the body was of its form
 pub asks_field : (body : List ℕ) (read : Result (Option NewField) AllocError) → IfOk read (λ x. option_map adds_field x ≡ request_in field_request body)
     → Asks adds_field (request_of AddField body) (form_of read)
@@ -121,22 +139,30 @@ not_so false h = refl
 
 -- ---- edits
 
-edits_to : (org : ℕ) (t : Tenant) (v : Verdict) (planned : OrgPlan → Type 0) (after : Tables) (result : Result (Unit {0}) EditFail) → KeepsRefused t v → EditsAt org v (λ x. done) planned after result → EditsTo org t v after result
-edits_to org t v planned after (Ok x) kept e = (e.0, (e.1.0, e.1.2))
-edits_to org t v planned after (Err (Refused r)) kept e = (e, kept r e)
-edits_to org t v planned after (Err (Store f)) kept e = e
+-- an edit of which the answer is seen by view, and is what the verdict calls it
+module _ {X : Type 0} (view : X → Answer) (answered : X → Done) (same_answer : (x : X) → answer_of (view x) ≡ answered x) where
+  edits_to : (org : ℕ) (t : Tenant) (v : Verdict) (planned : OrgPlan → Type 0) (after : Tables) (edit : Result X EditFail) → KeepsRefused t v → EditsAt org v answered planned after edit → EditsTo org t v after (seen view edit)
+  edits_to org t v planned after (Ok x) kept e = (e.0 ∙ ap (λ d. Ok d) (sym (same_answer x)), (e.1.0, e.1.2))
+  edits_to org t v planned after (Err (Refused r)) kept e = (e, kept r e)
+  edits_to org t v planned after (Err (Store f)) kept e = e
 
--- the edit of the request that the route and the body ask for
-pub edits_asked : (org : ℕ) (r s : Route) (body : List ℕ) (x : Request) (verdict : Asked → Verdict) (planned : Planned) (fits : Asked → Type 0) (m after : Tables) (result : Result (Unit {0}) EditFail) → r ≡ s → built_request s body ≡ Ok x
-    → ((a : Asked) → verdict a ≡ verdict_on a x) → ((a : Asked) → KeepsRefused a.tenant (verdict_on a x)) → ((a : Asked) → IsSound a.tenant → fits a) → MakesEdit org verdict (λ y. done) planned fits m after result
-    → EditsFrom org (λ a. verdict_or a (built_request r body)) m after result
-edits_asked org r s body x verdict planned fits m after result route e same kept fit h = record {
-  others = h.others;
-  edited = λ q a stands.
-      let is : verdict_or a (built_request r body) ≡ verdict_on a x = ap (λ y. verdict_or a (built_request y body)) route ∙ ap (verdict_or a) e in
-      subst (λ v. EditsTo org a.tenant v after result) (same a ∙ sym is)
-      (edits_to org a.tenant (verdict a) (planned q a.tenant) after result (subst (KeepsRefused a.tenant) (sym (same a)) (kept a)) (h.edited q a stands (fit a stands.sound)));
-}
+  others_seen : (org : ℕ) (m after : Tables) (edit : Result X EditFail) → OthersStay org m after edit → OthersStay org m after (seen view edit)
+  others_seen org m after (Ok x) stay = stay
+  others_seen org m after (Err e) stay = stay
+
+  -- the edit of the request that the route and the body ask for
+  pub edits_asked : (org : ℕ) (asks : Asked → Type 0) (r s : Route) (body : List ℕ) (x : Request) (verdict : Asked → Verdict) (planned : Planned) (fits : Asked → Type 0) (m after : Tables) (edit : Result X EditFail) (result : Result Answer EditFail)
+      → r ≡ s → built_request s body ≡ Ok x → result ≡ seen view edit
+      → ((a : Asked) → verdict a ≡ verdict_on a x) → ((a : Asked) → KeepsRefused a.tenant (verdict_on a x)) → ((a : Asked) → IsSound a.tenant → asks a → fits a) → MakesEdit org verdict answered planned fits m after edit
+      → EditsFrom org asks (λ a. verdict_or a (built_request r body)) m after result
+  edits_asked org asks r s body x verdict planned fits m after edit result route e is same kept fit h =
+      subst (λ q. EditsFrom org asks (λ a. verdict_or a (built_request r body)) m after q) (sym is) (record {
+        others = others_seen org m after edit h.others;
+        edited = λ q a stands asking.
+            let so : verdict_or a (built_request r body) ≡ verdict_on a x = ap (λ y. verdict_or a (built_request y body)) route ∙ ap (verdict_or a) e in
+            subst (λ v. EditsTo org a.tenant v after (seen view edit)) (same a ∙ sym so)
+            (edits_to org a.tenant (verdict a) (planned q a.tenant) after edit (subst (KeepsRefused a.tenant) (sym (same a)) (kept a)) (h.edited q a stands (fit a stands.sound asking)));
+      })
 
 -- no edit, where the body asks for none
 none_asked : {X : Type 0} (make : X → Request) (org : ℕ) (a : Asked) (request : Result Request Refusal) (fail : EditFail) (after : Tables) → Asks make request (Err fail)
@@ -147,37 +173,59 @@ none_asked make org a request (Store f) after e = λ damaged. apart (sym e ∙ d
     apart : Memory ≡ Damaged → ⊥
     apart d = cc
 
-pub edits_none : {X : Type 0} (make : X → Request) (org : ℕ) (r s : Route) (body : List ℕ) (fail : EditFail) (m : Tables) (result : Result (Unit {0}) EditFail) → r ≡ s
-    → result ≡ Err fail → Asks make (built_request s body) (Err fail) → EditsFrom org (λ a. verdict_or a (built_request r body)) m m result
-edits_none make org r s body fail m result route is e =
-    subst (λ q. EditsFrom org (λ a. verdict_or a (built_request r body)) m m q) (sym is) (record {
+pub edits_none : {X : Type 0} (make : X → Request) (org : ℕ) (asks : Asked → Type 0) (r s : Route) (body : List ℕ) (fail : EditFail) (m : Tables) (result : Result Answer EditFail) → r ≡ s
+    → result ≡ Err fail → Asks make (built_request s body) (Err fail) → EditsFrom org asks (λ a. verdict_or a (built_request r body)) m m result
+edits_none make org asks r s body fail m result route is e =
+    subst (λ q. EditsFrom org asks (λ a. verdict_or a (built_request r body)) m m q) (sym is) (record {
       others = tt;
-      edited = λ q a stands. subst (λ y. EditsTo org a.tenant (verdict_or a (built_request y body)) m (Err fail)) (sym route) (none_asked make org a (built_request s body) fail m e);
+      edited = λ q a stands asking. subst (λ y. EditsTo org a.tenant (verdict_or a (built_request y body)) m (Err fail)) (sym route) (none_asked make org a (built_request s body) fail m e);
     })
 
 -- no edit of another route
-not_built : (r : Route) → (r ≡ AddObject → ⊥) → ((object : List ℕ) → r ≡ SetObject object → ⊥) → (r ≡ AddField → ⊥) → (r ≡ AddValidationRule → ⊥) → is_built r ≡ false
-not_built AddObject no_object no_access no_field no_rule = absurd (no_object refl)
-not_built (SetObject object) no_object no_access no_field no_rule = absurd (no_access object refl)
-not_built AddField no_object no_access no_field no_rule = absurd (no_field refl)
-not_built AddValidationRule no_object no_access no_field no_rule = absurd (no_rule refl)
-not_built _ no_object no_access no_field no_rule = refl
+pub record IsOther (r : Route) : Type 0 where
+  pub no_record : (object : List ℕ) → r ≡ Create object → ⊥
+  pub no_object : r ≡ AddObject → ⊥
+  pub no_access : (object : List ℕ) → r ≡ SetObject object → ⊥
+  pub no_field : r ≡ AddField → ⊥
+  pub no_rule : r ≡ AddValidationRule → ⊥
 
-pub edits_unbuilt : (org : ℕ) (r : Route) (body what : List ℕ) (m : Tables) → (r ≡ AddObject → ⊥) → ((object : List ℕ) → r ≡ SetObject object → ⊥) → (r ≡ AddField → ⊥) → (r ≡ AddValidationRule → ⊥)
-    → what ≡ codes "route" → EditsFrom org (λ a. verdict_or a (built_request r body)) m m (Err (Refused (NotBuilt what)))
-edits_unbuilt org r body what m no_object no_access no_field no_rule is =
-    let unbuilt = ap (λ b. cond b (when_built (request_of r body)) (Err (NotBuilt (codes "route")))) (not_built r no_object no_access no_field no_rule) in
+not_built : (r : Route) → IsOther r → is_built r ≡ false
+not_built (Create object) other = absurd (other.no_record object refl)
+not_built AddObject other = absurd (other.no_object refl)
+not_built (SetObject object) other = absurd (other.no_access object refl)
+not_built AddField other = absurd (other.no_field refl)
+not_built AddValidationRule other = absurd (other.no_rule refl)
+not_built _ other = refl
+
+pub edits_unbuilt : (org : ℕ) (asks : Asked → Type 0) (r : Route) (body what : List ℕ) (m : Tables) → IsOther r → what ≡ codes "route"
+    → EditsFrom org asks (λ a. verdict_or a (built_request r body)) m m (Err (Refused (NotBuilt what)))
+edits_unbuilt org asks r body what m other is =
+    let unbuilt = ap (λ b. cond b (when_built (request_of r body)) (Err (NotBuilt (codes "route")))) (not_built r other) in
     record {
       others = tt;
-      edited = λ q a stands. subst (λ y. EditsTo org a.tenant (verdict_or a y) m (Err (Refused (NotBuilt what)))) (sym unbuilt) (ap (λ t. Err (NotBuilt t)) (sym is), refl);
+      edited = λ q a stands asking. subst (λ y. EditsTo org a.tenant (verdict_or a y) m (Err (Refused (NotBuilt what)))) (sym unbuilt) (ap (λ t. Err (NotBuilt t)) (sym is), refl);
     }
 
 -- out of memory
-pub edits_memory : (org : ℕ) (verdict : Asked → Verdict) (m : Tables) → EditsFrom org verdict m m (Err (Store Memory))
-edits_memory org verdict m = record { others = tt; edited = λ q a stands damaged. apart damaged }
+pub edits_memory : (org : ℕ) (asks : Asked → Type 0) (verdict : Asked → Verdict) (m : Tables) → EditsFrom org asks verdict m m (Err (Store Memory))
+edits_memory org asks verdict m = record { others = tt; edited = λ q a stands asking damaged. apart damaged }
   where
     apart : Memory ≡ Damaged → ⊥
     apart d = cc
+
+-- ---- the form of an answer
+
+form_of_seen : {X : Type 0} (view : X → Answer) (r : Route) (edit : Result X EditFail) → ((x : X) → IsAnswerTo r (view x)) → IfOk (seen view edit) (IsAnswerTo r)
+form_of_seen view r (Ok x) all = all x
+form_of_seen view r (Err e) all = tt
+
+pub answers_so : {X : Type 0} (view : X → Answer) (r s : Route) (edit : Result X EditFail) (result : Result Answer EditFail) → r ≡ s → result ≡ seen view edit → ((x : X) → IsAnswerTo s (view x))
+    → IfOk result (IsAnswerTo r)
+answers_so view r s edit result route is all =
+    subst (λ q. IfOk result (IsAnswerTo q)) (sym route) (subst (λ q. IfOk q (IsAnswerTo s)) (sym is) (form_of_seen view s edit all))
+
+pub answers_none : (r : Route) (fail : EditFail) (result : Result Answer EditFail) → result ≡ Err fail → IfOk result (IsAnswerTo r)
+answers_none r fail result is = subst (λ q. IfOk q (IsAnswerTo r)) (sym is) tt
 
 -- ---- what is left of the draft
 
@@ -189,29 +237,47 @@ pub record CallLaws {K : Type 0} (state : K → KeeperState) : Type 0 where
   pub most : (most gone shown more taken larger : ℕ) (e : Ending) (a b : Held K) → most ≤ more → gone ≤ taken → (DraftTells state a b → shown ≤ larger) → Makes state most gone shown e a b → Makes state more taken larger e a b
 
 module _ {K : Type 0} (state : K → KeeperState) (laws : CallLaws state) where
-  -- an edit changes at most as many rows as a request may
-  pub drafts_most : (most gone : ℕ) (result : Result (Unit {0}) EditFail) (a b : Held K) → most ≤ request_changes → gone ≤ request_gone → DraftsEdit state most gone 0 result a b → DraftsEdit state request_changes request_gone 0 result a b
-  drafts_most most gone result a b few none h = record {
-    makes = laws.most most gone 0 request_changes request_gone 0 (ended_edit result) a b few none (λ _. omega arith) h.makes;
-    some = h.some;
-    refused = h.refused;
-  }
+  none_made : (e : Ending) (a : Held K) → (e ≡ fell → ⊥) → Makes state request_changes request_gone edit_shown e a a
+  none_made e a stood = laws.most 0 0 0 request_changes request_gone edit_shown e a a (omega arith) (omega arith) (λ _. omega arith) (laws.makes 0 e a a (laws.weaker 0 e a a stood (laws.none ended_done a refl)))
 
-  none_made : (e : Ending) (a : Held K) → (e ≡ fell → ⊥) → Makes state request_changes request_gone 0 e a a
-  none_made e a stood = laws.most 0 0 0 request_changes request_gone 0 e a a (omega arith) (omega arith) (λ _. omega arith) (laws.makes 0 e a a (laws.weaker 0 e a a stood (laws.none ended_done a refl)))
+  wider : (shown : ℕ) (a b : Held K) → shown ≤ edit_shown → DraftReads state shown a b → DraftReads state edit_shown a b
+  wider shown a b few h = record { same_reference = h.same_reference; changes = h.changes; reads = h.reads; shows = λ told. let e = h.shows told in omega (arith, e, few) }
 
   -- a refusal, or out of memory, before the draft was touched
-  pub refused_drafts : (r : Refusal) (a : Held K) → DraftsEdit {X = Unit {0}} state request_changes request_gone 0 (Err (Refused r)) a a
-  refused_drafts r a = record { makes = none_made ended_done a (λ e. cc); some = tt; refused = λ _. (laws.none ended_done a refl).reads }
+  pub refused_drafts : (r : Refusal) (a : Held K) → DraftsEdit {X = Answer} state request_changes request_gone edit_shown (Err (Refused r)) a a
+  refused_drafts r a = record { makes = none_made ended_done a (λ e. cc); some = tt; refused = λ _. wider 0 a a (omega arith) (laws.none ended_done a refl).reads }
 
-  pub memory_drafts : (a : Held K) → DraftsEdit {X = Unit {0}} state request_changes request_gone 0 (Err (Store Memory)) a a
+  pub memory_drafts : (a : Held K) → DraftsEdit {X = Answer} state request_changes request_gone edit_shown (Err (Store Memory)) a a
   memory_drafts a = record { makes = none_made stopped a (λ e. cc); some = tt; refused = λ r. absurd r }
 
-  pub none_drafts : {X : Type 0} (make : X → Request) (request : Result Request Refusal) (fail : EditFail) (result : Result (Unit {0}) EditFail) (a : Held K) → result ≡ Err fail
-      → Asks make request (Err fail) → DraftsEdit state request_changes request_gone 0 result a a
-  none_drafts make request (Refused r) result a is e = subst (λ (q : Result (Unit {0}) EditFail). DraftsEdit state request_changes request_gone 0 q a a) (sym is) (refused_drafts r a)
+  pub none_drafts : {X : Type 0} (make : X → Request) (request : Result Request Refusal) (fail : EditFail) (result : Result Answer EditFail) (a : Held K) → result ≡ Err fail
+      → Asks make request (Err fail) → DraftsEdit state request_changes request_gone edit_shown result a a
+  none_drafts make request (Refused r) result a is e = subst (λ (q : Result Answer EditFail). DraftsEdit state request_changes request_gone edit_shown q a a) (sym is) (refused_drafts r a)
   none_drafts make request (Store f) result a is e =
-      subst (λ (q : Result (Unit {0}) EditFail). DraftsEdit state request_changes request_gone 0 q a a) (sym (is ∙ ap (λ x. Err (Store x)) e)) (memory_drafts a)
+      subst (λ (q : Result Answer EditFail). DraftsEdit state request_changes request_gone edit_shown q a a) (sym (is ∙ ap (λ x. Err (Store x)) e)) (memory_drafts a)
+
+  module _ {X : Type 0} (view : X → Answer) (most gone shown : ℕ) (a b : Held K) where
+    ended_so : (edit : Result X EditFail) → ended_edit (seen view edit) ≡ ended_edit edit
+    ended_so (Ok x) = refl
+    ended_so (Err (Refused r)) = refl
+    ended_so (Err (Store f)) = refl
+
+    some_so : (edit : Result X EditFail) → OnOk edit (0 < count_of b) → OnOk (seen view edit) (0 < count_of b)
+    some_so (Ok x) h = h
+    some_so (Err e) h = h
+
+    refused_so : (edit : Result X EditFail) → shown ≤ edit_shown → IfErr edit (λ e. IsRefusal e → DraftReads state shown a b) → IfErr (seen view edit) (λ e. IsRefusal e → DraftReads state edit_shown a b)
+    refused_so (Ok x) few h = tt
+    refused_so (Err e) few h = λ refusal. wider shown a b few (h refusal)
+
+    -- an edit changes at most as many rows as a request may, and few are shown to it
+    pub drafts_seen : (edit : Result X EditFail) (result : Result Answer EditFail) → result ≡ seen view edit → most ≤ request_changes → gone ≤ request_gone → shown ≤ edit_shown → DraftsEdit state most gone shown edit a b
+        → DraftsEdit state request_changes request_gone edit_shown result a b
+    drafts_seen edit result is few none seldom h = subst (λ (q : Result Answer EditFail). DraftsEdit state request_changes request_gone edit_shown q a b) (sym is) (record {
+      makes = subst (λ (e : Ending). Makes state request_changes request_gone edit_shown e a b) (sym (ended_so edit)) (laws.most most gone shown request_changes request_gone edit_shown (ended_edit edit) a b few none (λ _. seldom) h.makes);
+      some = some_so edit h.some;
+      refused = refused_so edit seldom h.refused;
+    })
 
 -- what the exit of a `?` returns
 pub returned : {X E : Type 0} (r : Result X E) (e : E) → IsErr r × IsErrAnd r (λ x. x ≡ e) → r ≡ Err e

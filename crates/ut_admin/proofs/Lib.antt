@@ -1,2 +1,4 @@
 mod Asked
+mod Creating
 mod Replied
+mod Values

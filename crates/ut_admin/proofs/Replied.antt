@@ -1,6 +1,7 @@
 -- What a reply says of the edit that it is made for.
-use Rattle.std.proofs.Common.{◌≡◌, ◌⊎◌, ◌<◌, inl, inr, ℕ, IsTrue, sym, ap, subst, refl, Result, Ok, Err}
-use Rattle.std.specs.Prelude.{IfErr, OnOk}
+use Rattle.std.proofs.Common.{◌≡◌, ◌⊎◌, ◌<◌, inl, inr, ℕ, IsTrue, sym, ap, subst, refl, ◌∙◌, List, [], ◌∷◌, Result, Ok, Err}
+use Rattle.std.specs.Char.{encode_utf8}
+use Rattle.std.specs.Prelude.{IfErr, IfOk, OnOk}
 use Rattle.ut_edits.specs.Edits.{DraftsEdit, OthersStay}
 use Rattle.ut_keeper.specs.Draft.{DraftReads, Held, count_of}
 use Rattle.ut_keeper.specs.State.{KeeperState}
@@ -8,33 +9,44 @@ use Rattle.ut_keeper.specs.Tables.{Tables}
 use Rattle.ut_keys.specs.declared.fail.StoreFail.{StoreFail}
 use Rattle.ut_keys.specs.declared.fail.StoreFail.TheVariants.{Memory}
 use Rattle.ut_model.specs.declared.reply.Reply.{Reply}
+use Rattle.ut_model.specs.declared.route.Route.{Route}
+use Rattle.ut_model.specs.declared.route.Route.TheVariants.{Create}
 use Rattle.ut_model.specs.Paths.{Asked}
 use Rattle.ut_model.specs.Replies.{reply_of}
 use Rattle.ut_model.specs.Verdict.{Verdict}
 use Rattle.ut_stands.specs.Calls.{Ending, HasFallen, Makes, ended, ended_edit, is_done, stopped}
-use Rattle.ut_stands.specs.Fails.{IsRefusal}
+use Rattle.ut_stands.specs.Fails.{IsRefusal, is_judged}
 use Rattle.ut_stands.specs.Local.{KeepsOthers}
 use Rattle.ut_stands.specs.Operations.{Drafts, IsChange, IsSame, RepliesAt, Responds}
 use Rattle.ut_stands.specs.declared.fail.EditFail.{EditFail}
 use Rattle.ut_stands.specs.declared.fail.EditFail.TheVariants.{Refused, Store}
 use Rattle.ut_stands.specs.declared.judged.Judged.{Judged}
-use Rattle.ut_admin.specs.inner.Edits.{EditsFrom, EditsTo, reply_to}
+use Rattle.ut_stands.specs.declared.judged.Judged.TheVariants.{Changed, Same}
+use Rattle.ut_admin.specs.Administration.{IsChangeReply, IsEditReply}
+use Rattle.ut_admin.specs.declared.answer.Answer.{Answer}
+use Rattle.ut_admin.specs.declared.answer.Answer.TheVariants as answer
+use Rattle.ut_admin.specs.inner.Edits.{EditsFrom, EditsTo, IsAnswerTo, answer_of, reply_made, reply_to}
 
 abbrev Edit : Type 0
-Edit = Result (Unit {0}) EditFail
+Edit = Result Answer EditFail
 
 abbrev Returned : Type 0
 Returned = Result (Judged Reply) StoreFail
 
 abbrev pub IsReply : Edit → Returned → Type 0
-IsReply edit result = (result ≡ reply_to edit) ⊎ ((result ≡ Err Memory) × IfErr edit IsRefusal)
+IsReply edit result = (result ≡ reply_to edit) ⊎ ((result ≡ Err Memory) × IsTrue (is_judged edit))
 
-by_reply : (P : Returned → Type 0) (edit : Edit) (result : Returned) → IsReply edit result → P (reply_to edit) → (IfErr edit IsRefusal → P (Err Memory)) → P result
+by_reply : (P : Returned → Type 0) (edit : Edit) (result : Returned) → IsReply edit result → P (reply_to edit) → (IsTrue (is_judged edit) → P (Err Memory)) → P result
 by_reply P edit result (inl e) replied none = subst P (sym e) replied
 by_reply P edit result (inr e) replied none = subst P (sym e.0) (none e.1)
 
+-- the verdict's reply to an answer is the same to all who ask
+made_is : (a : Asked) (x : Answer) → reply_made x ≡ reply_of a (Ok (answer_of x))
+made_is a answer.Done = refl
+made_is a (answer.Made id) = refl
+
 replies : (org : ℕ) (a : Asked) (v : Verdict) (after : Tables) (edit : Edit) → EditsTo org a.tenant v after edit → RepliesAt org a v after (reply_to edit)
-replies org a v after (Ok x) e = (ap (reply_of a) (sym e.0), e.1)
+replies org a v after (Ok x) e = (made_is a x ∙ ap (reply_of a) (sym e.0), e.1)
 replies org a v after (Err (Refused r)) e = (ap (reply_of a) (sym e.0), e.1)
 replies org a v after (Err (Store f)) e = e
 
@@ -44,12 +56,33 @@ others org m after (Err (Refused r)) stay change = absurd change
 others org m after (Err (Store f)) stay change = absurd change
 
 -- the reply to a request by the edit that was made for it
-pub responds : (org : ℕ) (verdict : Asked → Verdict) (m after : Tables) (edit : Edit) (result : Returned) → IsReply edit result → EditsFrom org verdict m after edit
-    → Responds org (λ a. Unit {0}) verdict m after result
-responds org verdict m after edit result is e = record {
+pub responds : (org : ℕ) (asks : Asked → Type 0) (verdict : Asked → Verdict) (m after : Tables) (edit : Edit) (result : Returned) → IsReply edit result → EditsFrom org asks verdict m after edit
+    → Responds org asks verdict m after result
+responds org asks verdict m after edit result is e = record {
   others = by_reply (λ r. IsChange r → KeepsOthers org m after) edit result is (others org m after edit e.others) (λ judged none. absurd none);
-  replied = λ q a stands asking. by_reply (RepliesAt org a (verdict a) after) edit result is (replies org a (verdict a) after edit (e.edited q a stands)) (λ judged same. cc);
+  replied = λ q a stands asking. by_reply (RepliesAt org a (verdict a) after) edit result is (replies org a (verdict a) after edit (e.edited q a stands asking)) (λ judged same. cc);
 }
+
+-- ---- the form of a reply
+
+IsSomeText : List ℕ → Type 0
+IsSomeText [] = ⊥
+IsSomeText (c ∷ cs) = Unit {0}
+
+made_some : (id : List ℕ) → IsSomeText (reply_made (answer.Made id)).body
+unfolding IsSomeText encode_utf8
+made_some id = tt
+
+none_made : IsSomeText [] → ⊥
+unfolding IsSomeText
+none_made h = h
+
+-- of a change
+pub change_form : (route : Route) (x : Answer) → IsAnswerTo route x → IsChangeReply route (reply_made x)
+change_form (Create object) answer.Done h = absurd h
+change_form (Create object) (answer.Made id) h = (refl, λ e. none_made (subst IsSomeText e (made_some id)))
+change_form _ answer.Done h = (refl, refl)
+change_form _ (answer.Made id) h = absurd h
 
 -- ---- what is left of the draft
 
@@ -68,9 +101,9 @@ ended_so (Ok x) = refl
 ended_so (Err (Refused r)) = refl
 ended_so (Err (Store f)) = refl
 
-module _ {K : Type 0} (state : K → KeeperState) (most gone : ℕ) (old new : Held K) where
+module _ {K : Type 0} (state : K → KeeperState) (most gone shown : ℕ) (old new : Held K) where
   -- out of memory for the reply to an edit that was judged
-  stopped_after : (edit : Edit) → IfErr edit IsRefusal → Makes state most gone 0 (ended_edit edit) old new → Makes state most gone 0 stopped old new
+  stopped_after : (edit : Edit) → IsTrue (is_judged edit) → Makes state most gone shown (ended_edit edit) old new → Makes state most gone shown stopped old new
   stopped_after edit judged h = record {
     works = h.works;
     stays = λ trusted done. absurd (not_done done);
@@ -81,16 +114,16 @@ module _ {K : Type 0} (state : K → KeeperState) (most gone : ℕ) (old new : H
       not_done : IsTrue (is_done stopped) → ⊥
       not_done d = cc
 
-      not_fallen : (edit : Edit) → IfErr edit IsRefusal → HasFallen (ended_edit edit) → ⊥
+      not_fallen : (edit : Edit) → IsTrue (is_judged edit) → HasFallen (ended_edit edit) → ⊥
       not_fallen (Ok x) judged f = f
       not_fallen (Err (Refused r)) judged f = f
-      not_fallen (Err (Store e)) judged f = judged
+      not_fallen (Err (Store e)) judged f = absurd cc
 
-  pub drafts : (edit : Edit) (result : Returned) → IsReply edit result → DraftsEdit state most gone 0 edit old new → Drafts state most gone 0 result old new
-  drafts edit result is h = by_reply (λ r. Drafts state most gone 0 r old new) edit result is
+  pub drafts : (edit : Edit) (result : Returned) → IsReply edit result → DraftsEdit state most gone shown edit old new → Drafts state most gone shown result old new
+  drafts edit result is h = by_reply (λ r. Drafts state most gone shown r old new) edit result is
       (record {
-        makes = subst (λ (e : Ending). Makes state most gone 0 e old new) (sym (ended_so edit)) h.makes;
+        makes = subst (λ (e : Ending). Makes state most gone shown e old new) (sym (ended_so edit)) h.makes;
         changing = changes (0 < count_of new) edit h.some;
-        same = same_if (DraftReads state 0 old new) edit h.refused;
+        same = same_if (DraftReads state shown old new) edit h.refused;
       })
       (λ judged. record { makes = stopped_after edit judged h.makes; changing = λ none. absurd none; same = λ none. absurd none })

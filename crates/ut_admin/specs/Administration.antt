@@ -1,12 +1,26 @@
--- What is returned to an administrator's request.
--- Source of a reply without a body: RFC 9110, 15.3.5.
-use Rattle.std.specs.Prelude.{◌≡◌, [], IsTrue}
+-- An administrator who asks, and what is returned to the request.
+-- Source of the statuses: RFC 9110, 15.3.2 and 15.3.5, of 201 and 204.
+use Rattle.std.specs.Prelude.{◌≡◌, ◌≢◌, ℕ, [], true, IsTrue}
+use Rattle.ut_model.specs.declared.caller.Caller.{Caller}
 use Rattle.ut_model.specs.declared.reply.Reply.{Reply}
+use Rattle.ut_model.specs.declared.route.Route.{Route}
+use Rattle.ut_model.specs.declared.route.Route.TheVariants.{Create}
+use Rattle.ut_model.specs.Paths.{Asked}
 use Rattle.ut_model.specs.Refusals.{is_refusal_status}
 use Rattle.ut_stands.specs.declared.judged.Judged.{Judged}
 use Rattle.ut_stands.specs.declared.judged.Judged.TheVariants.{Changed, Same}
+use Rattle.ut_step.specs.Own.{IsAsking}
 
--- a change is answered by 204 without a body, and all else is refused
-abbrev pub IsEditReply : Judged Reply → Type 0
-IsEditReply (Same r) = IsTrue (is_refusal_status r.status)
-IsEditReply (Changed r) = (r.status ≡ 204) × (r.body ≡ [])
+-- the caller is the one who asks at this moment, and administers the organisation
+abbrev pub Administers : Caller → (now : ℕ) → Asked → Type 0
+Administers c now a = IsAsking c now a × (a.user.admin ≡ true)
+
+-- the reply to a change: of a new record 201 with a body, and of all else 204 without one
+abbrev pub IsChangeReply : Route → Reply → Type 0
+IsChangeReply (Create object) r = (r.status ≡ 201) × (r.body ≢ [])
+IsChangeReply _ r = (r.status ≡ 204) × (r.body ≡ [])
+
+-- what goes with no change refuses
+abbrev pub IsEditReply : Route → Judged Reply → Type 0
+IsEditReply route (Same r) = IsTrue (is_refusal_status r.status)
+IsEditReply route (Changed r) = IsChangeReply route r

@@ -1,17 +1,18 @@
 //! What the bodies of administrators' requests ask for.
 
-ghost use Rattle.std.specs.Prelude.{◌≡◌, List, ℕ};
+ghost use Rattle.std.specs.Prelude.{◌≡◌, IfOk, List, ℕ};
 ghost use Rattle.ut_admin.specs.inner.Edits.{Asks, form_of};
+ghost use Rattle.ut_given.specs.Given.{IsInJson};
+ghost use Rattle.ut_model.specs.Requests.{adds_field, adds_object, adds_validation_rule, creates, sets_object};
+ghost use Rattle.ut_model.specs.declared.route.Route.TheVariants.{AddField, AddObject, AddValidationRule, Create, SetObject};
 ghost use Rattle.ut_step.specs.Built.{built_request, needs_index};
-ghost use Rattle.ut_model.specs.Requests.{adds_field, adds_object, adds_validation_rule, sets_object};
-ghost use Rattle.ut_model.specs.declared.route.Route.TheVariants.{AddField, AddObject, AddValidationRule, SetObject};
 
 use std::alloc::{AllocError, Global};
-use ut_bodies::{new_access, new_field, new_object, new_validation_rule};
+use ut_bodies::{field_values, new_access, new_field, new_object, new_validation_rule};
 use ut_keys::StoreFail;
-use ut_model::{NewField, NewObject, NewValidationRule, Refusal};
+use ut_model::{Assignment, NewField, NewObject, NewValidationRule, Refusal};
 use ut_stands::EditFail;
-use ut_value::{Access, Text};
+use ut_value::{Access, Items, Text};
 
 // What was read, where a body that isn't of its form is refused.
 fn form_of<T>(read: Result<Option<T>, AllocError>) -> Result<T, EditFail>
@@ -22,6 +23,18 @@ fn form_of<T>(read: Result<Option<T>, AllocError>) -> Result<T, EditFail>
         Ok(None) => Err(EditFail::Refused(Refusal::BodyForm)),
         Err(_) => Err(EditFail::Store(StoreFail::Memory)),
     }
+}
+
+/// The values that a body gives to the fields of a new record, all in JSON.
+///
+/// # Errors
+///
+/// `Refused` with `BodyForm` if the body isn't of that form; `Store` with `Memory` if out of memory.
+pub(crate) fn values_in(alloc: Global, body: &[u8]) -> Result<Items<Assignment>, EditFail>
+    ensures what { (object : List ℕ) → Asks (creates object) (built_request (Create object) body.now) result }
+    ensures json { IfOk result IsInJson }
+{
+    form_of(field_values(alloc, body))
 }
 
 /// The object that a body asks for.
@@ -57,7 +70,7 @@ pub(crate) fn rule_in(alloc: Global, body: &[u8]) -> Result<NewValidationRule, E
     form_of(new_validation_rule(alloc, body))
 }
 
-// Whether rows are needed that aren't written yet.
+// Whether the field is unique or indexed: such fields aren't built yet.
 fn needs_index(new: &NewField) -> bool
     ensures { result ≡ needs_index (adds_field new.now) }
 {

@@ -1,12 +1,14 @@
-//! An administrator's requests on objects, fields and validation rules, from the route and the body to the reply.
+//! An administrator's requests on objects, fields, validation rules and records, from the route and the body to the reply.
 //!
-//! It depends on `ut_bodies` for what bodies say and on `ut_meta` for the edits. Its contract: over tables in which the
-//! organisation's rows stand for a tenant the reply is that of the request's verdict, and its rows then stand for what the
-//! verdict leaves.
+//! It depends on `ut_bodies` for what bodies say, on `ut_meta` and `ut_records` for the edits, and on `ut_replies` for what was
+//! made. Its contract: over tables in which the organisation's rows stand for a tenant of which the caller is an administrator the
+//! reply is that of the request's verdict, and its rows then stand for what the verdict leaves.
 #![tactic(auto)]
 
+mod answer;
 mod bodies;
 mod edits;
+mod records;
 mod replies;
 mod requests;
 

@@ -1,26 +1,48 @@
 //! The replies to edits.
 
-ghost use Rattle.std.specs.Prelude.{◌≡◌, ◌⊎◌, [], Err, IfErr, IfOk};
+ghost use Rattle.std.specs.Prelude.{◌≡◌, ◌⊎◌, Err, IfOk, IsTrue};
 ghost use Rattle.ut_admin.specs.Administration.{IsEditReply};
-ghost use Rattle.ut_admin.specs.inner.Edits.{reply_to};
+ghost use Rattle.ut_admin.specs.inner.Edits.{IsAnswerTo, reply_made, reply_to};
 ghost use Rattle.ut_keys.specs.declared.fail.StoreFail.TheVariants.{Memory};
-ghost use Rattle.ut_model.specs.Replies.{json_reply};
-ghost use Rattle.ut_stands.specs.Fails.{IsRefusal};
+ghost use Rattle.ut_model.specs.declared.route.Route.{Route};
+ghost use Rattle.ut_stands.specs.Fails.{is_judged};
 
+use crate::answer::Answer;
 use http::StatusCode;
-use std::alloc::Global;
+use std::alloc::{AllocError, Global};
 use ut_keys::StoreFail;
 use ut_model::Reply;
+use ut_replies::made_body;
 use ut_stands::{EditFail, Judged};
-use ut_value::Bytes;
+use ut_value::{Bytes, Id};
 
 // The reply that it is done.
 fn done_reply(alloc: Global) -> Reply
-    ensures { result ≡ json_reply 204 [] }
+    ensures { result ≡ reply_made (Answer.Done) }
 {
     Reply {
         status: StatusCode::NO_CONTENT,
         body: Bytes::from_vec(Vec::new(alloc)),
+    }
+}
+
+// The reply that has the id of what is new.
+fn made_reply(alloc: Global, id: &Id) -> Result<Reply, AllocError>
+    ensures { IfOk result (λ r. r ≡ reply_made (Answer.Made id.now)) }
+{
+    Ok(Reply {
+        status: StatusCode::CREATED,
+        body: made_body(alloc, id)?,
+    })
+}
+
+// The reply to an edit that was made.
+fn answered(alloc: Global, answer: &Answer) -> Result<Reply, AllocError>
+    ensures { IfOk result (λ r. r ≡ reply_made answer.now) }
+{
+    match answer {
+        Answer::Done => Ok(done_reply(alloc)),
+        Answer::Made(id) => made_reply(alloc, id),
     }
 }
 
@@ -31,13 +53,16 @@ fn done_reply(alloc: Global) -> Reply
 /// What the work on the tables stopped at, and `Memory` if out of memory.
 pub(crate) fn reply_to(
     alloc: Global,
-    edit: Result<(), EditFail>,
+    edit: Result<Answer, EditFail>,
 ) -> Result<Judged<Reply>, StoreFail>
-    ensures value { (result ≡ reply_to edit) ⊎ ((result ≡ Err Memory) × IfErr edit IsRefusal) }
-    ensures form { IfOk result IsEditReply }
+    ensures value { (result ≡ reply_to edit) ⊎ ((result ≡ Err Memory) × IsTrue (is_judged edit)) }
+    ensures form { (route : Route) → IfOk edit (IsAnswerTo route) → IfOk result (IsEditReply route) }
 {
     match edit {
-        Ok(()) => Ok(Judged::Changed(done_reply(alloc))),
+        Ok(answer) => match answered(alloc, &answer) {
+            Ok(reply) => Ok(Judged::Changed(reply)),
+            Err(_) => Err(StoreFail::Memory),
+        },
         Err(EditFail::Refused(refusal)) => match refusal.reply(alloc) {
             Ok(reply) => Ok(Judged::Same(reply)),
             Err(_) => Err(StoreFail::Memory),

@@ -1,40 +1,44 @@
 //! An administrator's request over a draft.
 
-ghost use Rattle.std.specs.Prelude.{IfOk};
-ghost use Rattle.ut_admin.specs.Administration.{IsEditReply};
+ghost use Rattle.std.specs.Prelude.{IfOk, IsTrue, pos};
+ghost use Rattle.ut_admin.specs.Administration.{Administers, IsEditReply};
 ghost use Rattle.ut_keeper.specs.Draft.{DraftTells, tables_of};
-ghost use Rattle.ut_step.specs.Built.{built_request};
-ghost use Rattle.ut_step.specs.Own.{request_changes, request_gone};
 ghost use Rattle.ut_model.specs.RequestOf.{verdict_or};
 ghost use Rattle.ut_stands.specs.Operations.{Drafts, Responds};
+ghost use Rattle.ut_step.specs.Built.{built_request};
+ghost use Rattle.ut_step.specs.Own.{edit_shown, request_changes, request_gone};
+ghost use Rattle.ut_value.specs.Dates.{is_moment};
 
 use crate::edits::edit;
 use crate::replies::reply_to;
 use std::alloc::Global;
 use ut_keeper::{Draft, Keeper};
 use ut_keys::StoreFail;
-use ut_model::{Reply, Route};
+use ut_model::{Caller, Reply, Route};
 use ut_stands::Judged;
 
-/// Judges a request of administration on this organisation, and makes its reply: 204 if the draft holds the change that it asks
-/// for, and a refusal if it changes nothing.
+/// Judges an administrator's request at this moment, and makes its reply: if the draft holds the change that it asks for, 201 with
+/// the id of a new record, or else 204; and a refusal if it changes nothing.
 ///
 /// # Errors
 ///
-/// `Keeper` if the keeper failed, `Memory` if out of memory, `Damaged` never if the organisation's rows stand for a tenant.
+/// `Keeper` if the keeper failed, `Memory` if out of memory, `Damaged` never if the rows of the caller's organisation stand for a
+/// tenant of which the caller is an administrator.
 pub fn administer<K: Keeper>(
     alloc: Global,
     draft: &mut Draft<'_, K>,
-    org: u32,
+    caller: &Caller,
+    now: u64,
     route: &Route,
     body: &[u8],
 ) -> Result<Judged<Reply>, StoreFail>
+    requires { IsTrue (is_moment (pos now)) }
     ensures what { DraftTells K.state draft.old draft.new
-        → Responds org (λ a. Unit {0}) (λ a. verdict_or a (built_request route.now body.now)) (tables_of K.state draft.old)
-        (tables_of K.state draft.new) result }
-    ensures form { IfOk result IsEditReply }
-    ensures drafts { Drafts K.state request_changes request_gone 0 result draft.old draft.new }
+        → Responds caller.now.org (Administers caller.now now) (λ a. verdict_or a (built_request route.now body.now))
+        (tables_of K.state draft.old) (tables_of K.state draft.new) result }
+    ensures form { IfOk result (IsEditReply route.now) }
+    ensures drafts { Drafts K.state request_changes request_gone edit_shown result draft.old draft.new }
 {
-    let edited = edit(alloc, draft, org, route, body);
+    let edited = edit(alloc, draft, caller, now, route, body);
     reply_to(alloc, edited)
 }

@@ -1,3 +1,4 @@
 pub mod Making
 pub mod Judged
 pub mod Reading
+pub mod Named

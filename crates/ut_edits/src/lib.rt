@@ -8,7 +8,9 @@
 mod changes;
 mod decided;
 mod edit;
+mod naming;
 
 pub use crate::changes::{make_changes, put_row, remove_row};
 pub use crate::decided::Decided;
 pub use crate::edit::{Edit, make_edit, one_row};
+pub use crate::naming::{invalid_type, layout_there, over_limit};

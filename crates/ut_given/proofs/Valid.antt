@@ -1,15 +1,16 @@
 -- Values that are valid for a type.
-use Rattle.std.proofs.Common.{◌≡◌, ℕ, zero, suc, IsTrue, List, [], ◌∷◌, ◌++◌, map, length, drop, append_assoc, Result, Ok, Err, IfOk, refl, sym, subst, ◌∙◌, add-one}
+use Rattle.std.proofs.Common.{◌≡◌, ℕ, zero, suc, IsTrue, true, List, [], ◌∷◌, ◌++◌, map, length, drop, append_assoc, Result, Ok, Err, IfOk, refl, sym, subst, ◌∙◌, add-one}
 use Rattle.std.proofs.lemmas.List.{append-nil, length-append}
 use Rattle.std.specs.Str.{all_scalars}
 use Rattle.ut_value.specs.Causes.{GivesOr}
-use Rattle.ut_value.specs.Reading.{read_value}
+use Rattle.ut_value.specs.Reading.{empty_value, read_value}
 use Rattle.ut_value.specs.Values.{valid}
 use Rattle.ut_value.specs.declared.fail.ValueFail.{ValueFail}
 use Rattle.ut_value.specs.declared.fail.ValueFail.TheVariants.{Memory}
 use Rattle.ut_value.specs.declared.value.FieldType.{FieldType}
 use Rattle.ut_value.specs.declared.value.FieldType.TheVariants as type
 use Rattle.ut_value.specs.declared.value.Value.{Value}
+use Rattle.ut_value.specs.declared.value.Value.TheVariants.{Null}
 use Rattle.ut_formula.specs.Meaning.{value_at}
 use Rattle.ut_model.specs.Limits.{name_limit}
 use Rattle.ut_model.specs.SoundRecords.{all_valid}
@@ -70,3 +71,19 @@ pub valid_last : (fields : List FieldPlace) (old values : List Value) → ValidS
     → IsTrue (all_valid (type.Text name_limit ∷ kinds_among fields) values)
 valid_last fields old values so =
     subst (λ (vs : List Value). IsTrue (all_valid (type.Text name_limit ∷ kinds_among fields) vs)) (append-nil values) (so.whole [] refl)
+
+-- ---- nothing is given
+
+nothing_valid : (kind : FieldType) → valid kind (empty_value kind) ≡ true
+nothing_valid (type.Text most) = refl
+nothing_valid (type.Number digits decimals) = refl
+nothing_valid type.Checkbox = refl
+nothing_valid type.Day = refl
+nothing_valid type.Moment = refl
+nothing_valid (type.Picklist values) = refl
+nothing_valid (type.Lookup object on_delete) = refl
+nothing_valid (type.Master object) = refl
+
+pub empty_valid : (fields : List FieldPlace) → IsTrue (all_valid (type.Text name_limit ∷ kinds_among fields) (Null ∷ map (λ f. empty_value f.kind) (map field_of_place fields)))
+empty_valid [] = refl
+empty_valid (f ∷ fields) = rw (nothing_valid f.kind) (empty_valid fields)

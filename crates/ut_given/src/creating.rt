@@ -1,12 +1,13 @@
 //! New records to which nothing is given.
 
-ghost use Rattle.std.specs.Prelude.{◌≡◌, ◌∷◌, if◌then◌else◌, IfOk, Some, None, map};
+ghost use Rattle.std.specs.Prelude.{◌≡◌, ◌∷◌, if◌then◌else◌, IfOk, IsTrue, Some, None, map};
 ghost use Rattle.ut_rules.specs.Objects.{field_of_place, numbered_in, object_of_layout};
 ghost use Rattle.ut_model.specs.Creates.{empty_record};
 ghost use Rattle.ut_given.specs.inner.Fields.{new_record};
 ghost use Rattle.ut_model.specs.Fields.{is_detail};
 ghost use Rattle.ut_model.specs.Objects.{record_prefix};
 ghost use Rattle.ut_model.specs.Paths.{Asked};
+ghost use Rattle.ut_model.specs.SoundRecords.{all_valid, kinds_of};
 ghost use Rattle.ut_value.specs.Id.{made};
 ghost use Rattle.ut_value.specs.Reading.{empty_value};
 ghost use Rattle.ut_value.specs.declared.value.Value.TheVariants.{Null};
@@ -65,8 +66,9 @@ pub fn empty_record(
     user: Id,
     now: i64,
 ) -> Result<Record, AllocError>
-    ensures { IfOk result (λ r. (a : Asked) → a.user.id ≡ user → a.now ≡ now → id ≡ made (record_prefix layout.now.object) a.tenant.counter
+    ensures same { IfOk result (λ r. (a : Asked) → a.user.id ≡ user → a.now ≡ now → id ≡ made (record_prefix layout.now.object) a.tenant.counter
         → r ≡ empty_record a (numbered_in layout.now)) }
+    ensures valid { IfOk result (λ r. IsTrue (all_valid (kinds_of (object_of_layout layout.now)) r.values)) }
 {
     let values = empty_values(alloc, layout.fields.as_slice())?;
     Ok(new_record(id, new_owner(layout, user), now, values))

@@ -206,8 +206,9 @@ pub fn read_given(
 /// The record with what a body gives in place of what it had, modified at this moment.
 #[tactic(auto, using(crate::proofs::Made::made_given))]
 pub fn with_given(old: Record, given: GivenValues, now: i64) -> Record
-    ensures { (a : Asked) (l : Layout) (body : List Assignment) → a.now ≡ now → GivesValues l body old (Ok given)
+    ensures same { (a : Asked) (l : Layout) (body : List Assignment) → a.now ≡ now → GivesValues l body old (Ok given)
         → result ≡ with_given a (object_of_layout l) body old }
+    ensures values { result.values ≡ given.values }
 {
     Record {
         id: old.id,

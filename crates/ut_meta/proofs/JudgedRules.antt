@@ -1,7 +1,6 @@
 -- Why a new validation rule is refused: by the layout of its object as by the object.
-use Rattle.std.proofs.Common.{◌≡◌, ◌∙◌, ℕ, ◌+◌, suc, Bool, true, false, not, ◌&&◌, eqb, cond, IsTrue, List, [], ◌∷◌, length, map, Option, Some, None, refl, sym, ap}
-use Rattle.std.specs.Prelude.{Result, Ok, Err, nat_lt}
-use Rattle.std.specs.List.{enumerate_from, list_any}
+use Rattle.std.proofs.Common.{◌≡◌, ◌∙◌, ℕ, ◌+◌, suc, Bool, true, false, not, ◌&&◌, eqb, cond, List, [], ◌∷◌, length, map, Option, Some, None, refl, sym, ap}
+use Rattle.std.specs.Prelude.{Result, Err, nat_lt}
 use Rattle.std.specs.Option.{ok_or, option_and_then}
 use Rattle.ut_formula.specs.declared.formula.Formula.{Formula}
 use Rattle.ut_formula_grammar.specs.Spelling.{formula_in, place_in}
@@ -10,7 +9,6 @@ use Rattle.ut_model.specs.declared.limit.Limit.TheVariants as limit
 use Rattle.ut_model.specs.declared.refusal.Refusal.{Refusal}
 use Rattle.ut_model.specs.declared.refusal.Refusal.TheVariants.{InvalidName, JobBusy, NameTaken}
 use Rattle.ut_model.specs.Cases.{in_case}
-use Rattle.ut_model.specs.Fields.{same_name}
 use Rattle.ut_model.specs.FormulaTexts.{formula_fields, reads_text}
 use Rattle.ut_model.specs.Limits.{formula_limit}
 use Rattle.ut_model.specs.Names.{bad_name, is_stem, taken}

@@ -12,7 +12,7 @@ use Rattle.ut_model.specs.Relationships.{Reference, master_of_object, parent_nam
 use Rattle.ut_model.specs.Tenant.{Field, Object, Tenant}
 use Rattle.ut_value.specs.declared.value.FieldType.{FieldType}
 use Rattle.ut_value.specs.declared.value.FieldType.TheVariants as type
-use Rattle.ut_stands.specs.Layouts.{layout_of, place_of}
+use Rattle.ut_stands.specs.Layouts.{layout_of}
 use Rattle.ut_stands.specs.Plan.{OrgPlan}
 use Rattle.ut_stands.specs.declared.layout.FieldPlace.{FieldPlace}
 use Rattle.ut_stands.specs.declared.layout.Layout.{Layout}

@@ -5,6 +5,7 @@ use Rattle.std.specs.List.{AllByRecursion, enumerate_from, list_any}
 use Rattle.std.specs.Option.{option_and_then, option_map}
 use Rattle.ut_edits.proofs.Reading.{SameTables, TellsFirst, TellsThen, TwoReads, two_reads}
 use Rattle.ut_edits.specs.Edits.{FailsBy, Takes}
+use Rattle.ut_edits.specs.Naming.{NamesLayout}
 use Rattle.ut_edits.specs.Rows.{change_to}
 use Rattle.ut_keeper.specs.Draft.{DraftTells, Held}
 use Rattle.ut_keeper.specs.State.{KeeperState}
@@ -36,7 +37,7 @@ use Rattle.ut_stands.specs.Calls.{Calls, Ending, ended_by, ended_edit}
 use Rattle.ut_stands.specs.declared.fail.EditFail.{EditFail}
 use Rattle.ut_stands.specs.declared.layout.Layout.{Layout}
 use Rattle.ut_stands.specs.Fails.{of_store}
-use Rattle.ut_stands.specs.Layouts.{layout_of, own_layout_named, own_rule_row, place_of}
+use Rattle.ut_stands.specs.Layouts.{layout_of, own_rule_row, place_of}
 use Rattle.ut_stands.specs.Local.{FindsIn, IsIn, StandsIn}
 use Rattle.ut_stands.specs.Metadata.{lower_bytes, named_so, row_of_object, validation_of}
 use Rattle.ut_stands.specs.Plan.{FitsPlan, OrgPlan}
@@ -46,7 +47,7 @@ use Rattle.ut_meta.specs.inner.Rows.{HasRow}
 use Rattle.ut_meta.specs.inner.RuleRows.{AcceptsRule, FitRuleRows, IsRead, IsRuled, IsSpelledRule, ReadsFor, changes_of, rows_by}
 use Rattle.ut_meta.specs.declared.edits.validation.NewRuleRows.{NewRuleRows}
 use Rattle.ut_meta.specs.declared.edits.validation.ReadObject.{ReadObject}
-use Rattle.ut_meta.specs.Judging.{NamesLayout, verdict_refusal}
+use Rattle.ut_meta.specs.Judging.{verdict_refusal}
 use Rattle.ut_meta.proofs.AccessEdits.{DescribedFits, ObjectFits, SamePlan, get_changed, own_row}
 use Rattle.ut_meta.proofs.Editing.{beside, named_at, other_object, other_rule, some_is, unrefused}
 use Rattle.ut_meta.proofs.FieldStands.{sound_object}
@@ -143,36 +144,6 @@ module _ {K : Type 0} (state : K → KeeperState) (a b : Held K) where
   passed_calls {X = X} (Err y) e passed h = subst (λ (z : EditFail). Calls state 0 (ended_edit {X = X} (Err z)) a b) (sym passed) h
 
 -- ---- what was read
-
--- the layout of the object with the name, which is asked for in other words
-pub layout_present : (org : ℕ) (q : OrgPlan) (t : Tenant) (m : Tables) (asked name : List ℕ) (r : Result (Option Layout) StoreFail) (found : Option Layout) (l : Layout)
-    → asked ≡ name → FindsIn org (own_layout_named org asked) m r → r ≡ Ok found → found ≡ Some l → StandsIn org q m (Some t) → (o : Numbered) × (object_named t name ≡ Some o) × (l ≡ layout_of org q t o)
-unfolding own_layout_named
-layout_present org q t m asked name r found l same h was is s =
-    by (object_named t name) refl
-    (sym is ∙ subst (FindsIn org (own_layout_named org asked) m) was h q (Some t) s ∙ ap (λ (x : List ℕ). option_map (layout_of org q t) (object_named t x)) same)
-  where
-    by : (x : Option Numbered) → object_named t name ≡ x → Some l ≡ option_map (layout_of org q t) (object_named t name) → (o : Numbered) × (object_named t name ≡ Some o) × (l ≡ layout_of org q t o)
-    by None e h = absurd (absent (h ∙ ap (option_map (layout_of org q t)) e))
-      where
-        absent : ◌≡◌ {A = Option Layout} (Some l) None → ⊥
-        absent e = cc
-    by (Some o) e h = (o, e, some_is l (layout_of org q t o) (h ∙ ap (option_map (layout_of org q t)) e))
-
--- there is none
-pub layout_absent : (org : ℕ) (q : OrgPlan) (t : Tenant) (m : Tables) (asked name : List ℕ) (r : Result (Option Layout) StoreFail) (found : Option Layout)
-    → asked ≡ name → FindsIn org (own_layout_named org asked) m r → r ≡ Ok found → found ≡ None → StandsIn org q m (Some t) → object_named t name ≡ None
-unfolding own_layout_named
-layout_absent org q t m asked name r found same h was is s =
-    by (object_named t name) refl
-    (sym is ∙ subst (FindsIn org (own_layout_named org asked) m) was h q (Some t) s ∙ ap (λ (x : List ℕ). option_map (layout_of org q t) (object_named t x)) same)
-  where
-    by : (x : Option Numbered) → object_named t name ≡ x → None ≡ option_map (layout_of org q t) (object_named t name) → object_named t name ≡ None
-    by None e h = e
-    by (Some o) e h = absurd (present (h ∙ ap (option_map (layout_of org q t)) e))
-      where
-        present : ◌≡◌ {A = Option Layout} None (Some (layout_of org q t o)) → ⊥
-        present e = cc
 
 pub layout_is : (org : ℕ) (q : OrgPlan) (t : Tenant) (name : List ℕ) (r : Result Layout EditFail) (l : Layout) → NamesLayout org q t name r → r ≡ Ok l → (o : Numbered) × (object_named t name ≡ Some o) × (l ≡ layout_of org q t o)
 layout_is org q t name r l h was = subst (NamesLayout org q t name) was h

@@ -1,5 +1,5 @@
 -- The names of rules in lower case.
-use Rattle.std.proofs.Common.{◌≡◌, ◌∙◌, ℕ, ◌+◌, ◌<◌, List, [], ◌∷◌, ◌++◌, length, map, take, get_or, refl, sym, ap, subst, append-nil, add-one, take-suc}
+use Rattle.std.proofs.Common.{◌≡◌, ◌∙◌, ℕ, ◌+◌, ◌<◌, List, [], ◌∷◌, ◌++◌, length, take, get_or, refl, sym, ap, subst, append-nil, add-one, take-suc}
 use Rattle.std.specs.Prelude.{Err, IfOk, Ok, Result, encode_utf8_all}
 use Rattle.std.specs.Char.{encode_utf8, to_ascii_lowercase}
 use Rattle.std.proofs.lemmas.List.{map-append}

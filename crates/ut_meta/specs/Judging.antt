@@ -1,17 +1,14 @@
 -- What an edit of metadata is judged by: the layouts of an organisation's objects.
 -- Source: Salesforce, "Custom Object" and "Custom Field", as in the definitions of new objects and fields.
-use Rattle.std.specs.Prelude.{◌≡◌, ◌≢◌, ℕ, List, map, Option, Some, None, Result, Ok, Err}
+use Rattle.std.specs.Prelude.{◌≡◌, ℕ, List, map, Option, Some, None, Result, Ok, Err}
 use Rattle.std.specs.Option.{option_map}
 use Rattle.ut_edits.specs.Edits.{FailsBy}
-use Rattle.ut_keys.specs.declared.fail.StoreFail.TheVariants.{Damaged}
 use Rattle.ut_model.specs.Objects.{Numbered, numbered, object_named}
 use Rattle.ut_model.specs.Rules.{Rule}
 use Rattle.ut_model.specs.Tenant.{Tenant}
 use Rattle.ut_model.specs.Verdict.{Done, Verdict}
 use Rattle.ut_model.specs.declared.refusal.Refusal.{Refusal}
-use Rattle.ut_model.specs.declared.refusal.Refusal.TheVariants.{InvalidType}
 use Rattle.ut_stands.specs.declared.fail.EditFail.{EditFail}
-use Rattle.ut_stands.specs.declared.fail.EditFail.TheVariants.{Refused, Store}
 use Rattle.ut_stands.specs.Layouts.{layout_of}
 use Rattle.ut_stands.specs.Plan.{OrgPlan}
 use Rattle.ut_stands.specs.declared.layout.Layout.{Layout}
@@ -29,12 +26,6 @@ AreLayouts t layouts = (org : ℕ) × (p : OrgPlan) × (layouts ≡ layouts_in o
 -- the layout is that of the object with this name, if there is one
 abbrev pub IsNamedLayout : Tenant → (name : List ℕ) → Option Layout → Type 0
 IsNamedLayout t name layout = (org : ℕ) × (p : OrgPlan) × (layout ≡ option_map (layout_of org p t) (object_named t name))
-
--- the layout of the object with this name; or INVALID_TYPE where there is none, or why the work on the tables stopped
-abbrev pub NamesLayout : (org : ℕ) → OrgPlan → Tenant → (name : List ℕ) → Result Layout EditFail → Type 0
-NamesLayout org q t name (Ok layout) = (o : Numbered) × (object_named t name ≡ Some o) × (layout ≡ layout_of org q t o)
-NamesLayout org q t name (Err (Refused r)) = (object_named t name ≡ None) × (r ≡ InvalidType name)
-NamesLayout org q t name (Err (Store e)) = e ≢ Damaged
 
 -- ---- refusals
 

@@ -1,11 +1,11 @@
-//! The rules that names and counts are judged by.
+//! The rules that names are judged by.
 
-ghost use Rattle.std.specs.Prelude.{◌≡◌, ◌∷◌, [], IfOk, not};
-ghost use Rattle.ut_model.specs.Rules.{over_limit, refuse_if};
-ghost use Rattle.ut_model.specs.declared.refusal.Refusal.TheVariants.{InvalidName, InvalidType, NameTaken};
+ghost use Rattle.std.specs.Prelude.{◌≡◌, IfOk, not};
+ghost use Rattle.ut_model.specs.Rules.{refuse_if};
+ghost use Rattle.ut_model.specs.declared.refusal.Refusal.TheVariants.{InvalidName, NameTaken};
 
 use std::alloc::{AllocError, Global};
-use ut_model::{Limit, Refusal};
+use ut_model::Refusal;
 use ut_value::Text;
 
 /// That the name isn't of its form, if it isn't good.
@@ -38,28 +38,4 @@ pub fn name_taken(alloc: Global, is_taken: bool, name: &Text) -> Result<Option<R
     Ok(Some(Refusal::NameTaken {
         name: name.copy(alloc)?,
     }))
-}
-
-/// That there is no object with this name, or that it doesn't suit.
-///
-/// # Errors
-///
-/// When out of memory.
-pub fn invalid_type(alloc: Global, name: &Text) -> Result<Refusal, AllocError>
-    ensures { IfOk result (λ refusal. refusal ≡ InvalidType name.now) }
-{
-    Ok(Refusal::InvalidType {
-        name: name.copy(alloc)?,
-    })
-}
-
-/// That a count passes its limit.
-pub fn over_limit(limit: Limit, count: u64) -> Option<Refusal>
-    ensures { result ≡ over_limit ((limit, count) ∷ []) }
-{
-    if limit.number() < count {
-        Some(Refusal::LimitExceeded { limit })
-    } else {
-        None
-    }
 }

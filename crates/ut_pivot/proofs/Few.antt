@@ -1,15 +1,16 @@
 -- How many changes there are, and that none of them removes a record's row.
-use Rattle.std.proofs.Common.{◌≡◌, ℕ, zero, suc, ◌+◌, ◌*◌, ◌≤◌, Bool, cond, List, [], ◌∷◌, ◌++◌, length, map, Option, Some, None, refl, sym, ap, subst, ◌∙◌, arith, length-append}
+use Rattle.std.proofs.Common.{◌≡◌, ℕ, zero, suc, ◌+◌, ◌*◌, ◌≤◌, cond, List, [], ◌∷◌, ◌++◌, length, map, Option, Some, None, refl, ap, ◌∙◌, arith, length-append}
 use Rattle.std.specs.Prelude.{bytes_eq}
-use Rattle.ut_edits.specs.Rows.{gone_by, gone_of, spelled}
+use Rattle.ut_edits.specs.Rows.{gone_of, spelled}
 use Rattle.ut_keeper.specs.State.{data_rows}
-use Rattle.ut_keeper.specs.declared.keeper.Change.{Change as Spelled}
+use Rattle.ut_keys.specs.declared.data.DataRow.{DataRow}
 use Rattle.ut_keys.specs.Keys.{Index, Key, Relation, Unique, spell}
 use Rattle.ut_model.specs.declared.record.Record.{Record}
 use Rattle.ut_pivot.specs.Changed.{index_key, reference_key, slot_changes, row_turned, unique_key}
 use Rattle.ut_pivot.specs.Made.{layout_entry, made_changes, values_made}
+use Rattle.ut_pivot.specs.Turned.{turned_changes, turned_entry, values_turned}
 use Rattle.ut_pivot.proofs.Cases.{pick}
-use Rattle.ut_pivot.proofs.Turned.{map_both}
+use Rattle.ut_pivot.proofs.TurnedValues.{turned_more}
 use Rattle.ut_pivot.proofs.Values.{values_more}
 use Rattle.ut_stands.specs.Changes.{Change}
 use Rattle.ut_stands.specs.Entries.{Entry}
@@ -115,3 +116,42 @@ made_few l r = let e = values_few l r 48 in omega (arith, e)
 pub made_gone : (l : Layout) (r : Record) → gone_of (map spelled (made_changes l r)) ≡ 0
 unfolding made_changes
 made_gone l r = let e = values_gone l r 48 in omega (arith, e)
+
+-- ---- a record whose values change
+
+abbrev turned_slot : Layout → Record → Record → ℕ → List Change
+turned_slot l old new s = slot_changes l.org l.object new.id (turned_entry l old s) (turned_entry l new s) s
+
+turned_next : (l : Layout) (old new : Record) (k : ℕ) → values_turned l old new (suc k) ≡ values_turned l old new k ++ turned_slot l old new k
+turned_next l old new k = let e : suc k ≡ k + 1 = omega arith in ap (values_turned l old new) e ∙ turned_more l old new k
+
+none_turned : (l : Layout) (old new : Record) → values_turned l old new zero ≡ []
+unfolding values_turned
+none_turned l old new = refl
+
+turned_values_few : (l : Layout) (old new : Record) (slots : ℕ) → length (values_turned l old new slots) ≤ 6 * slots
+turned_values_few l old new zero = let e = ap length (none_turned l old new) in omega (arith, e)
+turned_values_few l old new (suc k) =
+    let e = ap length (turned_next l old new k) in
+    omega (
+      arith,
+      e,
+      length-append (values_turned l old new k) (turned_slot l old new k),
+      slot_few l.org l.object new.id (turned_entry l old k) (turned_entry l new k) k,
+      turned_values_few l old new k,
+    )
+
+turned_values_gone : (l : Layout) (old new : Record) (slots : ℕ) → gone_of (map spelled (values_turned l old new slots)) ≡ 0
+turned_values_gone l old new zero = ap (λ (cs : List Change). gone_of (map spelled cs)) (none_turned l old new)
+turned_values_gone l old new (suc k) =
+    ap (λ (cs : List Change). gone_of (map spelled cs)) (turned_next l old new k)
+    ∙ none_of_both (values_turned l old new k) (turned_slot l old new k) (turned_values_gone l old new k)
+    (slot_gone l.org l.object new.id (turned_entry l old k) (turned_entry l new k) k)
+
+pub changed_few : (l : Layout) (kept : DataRow) (old new : Record) → length (turned_changes l kept old new) ≤ 289
+unfolding turned_changes
+changed_few l kept old new = let e = turned_values_few l old new 48 in omega (arith, e)
+
+pub changed_gone : (l : Layout) (kept : DataRow) (old new : Record) → gone_of (map spelled (turned_changes l kept old new)) ≡ 0
+unfolding turned_changes
+changed_gone l kept old new = let e = turned_values_gone l old new 48 in omega (arith, e)

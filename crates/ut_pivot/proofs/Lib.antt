@@ -1,6 +1,11 @@
 pub mod Cases
+pub mod Converting
+pub mod CopiedEntries
+pub mod CopiedText
 pub mod Few
 pub mod NewRecord
 pub mod SlotEntries
 pub mod Turned
+pub mod TurnedRecord
+pub mod TurnedValues
 pub mod Values

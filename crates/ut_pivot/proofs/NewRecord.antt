@@ -1,5 +1,5 @@
 -- What is put of a new record is what differs where it comes.
-use Rattle.std.proofs.Common.{◌≡◌, ℕ, suc, true, cond, IsTrue, List, [], ◌∷◌, ◌++◌, Option, Some, None, refl, sym, ap, ap₂, ◌∙◌}
+use Rattle.std.proofs.Common.{◌≡◌, ℕ, suc, cond, IsTrue, List, [], ◌∷◌, ◌++◌, Option, Some, None, refl, sym, ap, ap₂, ◌∙◌}
 use Rattle.std.specs.List.{flat_map, list_all, range_with_len}
 use Rattle.std.specs.Option.{option_and_then, option_map}
 use Rattle.ut_data.specs.Encoding.{row_from}
@@ -19,7 +19,7 @@ use Rattle.ut_stands.specs.Changes.{Change}
 use Rattle.ut_stands.specs.Entries.{Entry, data_of, field_entry, job_value, other_entry, slot_entry, slot_field}
 use Rattle.ut_stands.specs.Layouts.{layout_of, place_of}
 use Rattle.ut_stands.specs.Plan.{OrgPlan, slot_count}
-use Rattle.ut_stands.specs.Stands.{Kept, kept_at, kept_in}
+use Rattle.ut_stands.specs.Stands.{kept_at, kept_in}
 use Rattle.ut_stands.specs.declared.layout.FieldPlace.{FieldPlace}
 use Rattle.ut_value.specs.Printing.{is_printable}
 
@@ -36,11 +36,11 @@ entry_same org n p t o r s none = ap (option_map of_place) (found_same p n s 0 o
     by None = sym (nothing_there p n o r s t.job none)
     by (Some f) = refl
 
-flat_same : {A : Type 0} (f g : ℕ → List A) → ((s : ℕ) → f s ≡ g s) → (ss : List ℕ) → flat_map f ss ≡ flat_map g ss
+pub flat_same : {A : Type 0} (f g : ℕ → List A) → ((s : ℕ) → f s ≡ g s) → (ss : List ℕ) → flat_map f ss ≡ flat_map g ss
 flat_same f g h [] = refl
 flat_same f g h (s ∷ ss) = ap₂ (λ x y. x ++ y) (h s) (flat_same f g h ss)
 
-kept_is : (p : OrgPlan) (t : Tenant) (n : ℕ) (o : Object) (r : Record) → IsTrue (is_of n r) → record_at t r.id ≡ Some r → object_numbered t n ≡ Some o → kept_at p t n r.id ≡ Some (kept_in p t n o r)
+pub kept_is : (p : OrgPlan) (t : Tenant) (n : ℕ) (o : Object) (r : Record) → IsTrue (is_of n r) → record_at t r.id ≡ Some r → object_numbered t n ≡ Some o → kept_at p t n r.id ≡ Some (kept_in p t n o r)
 unfolding kept_at
 kept_is p t n o r of at here =
     ap (option_and_then (λ (x : Record). cond (is_of n x) (option_map (λ o. kept_in p t n o x) (object_numbered t n)) None)) at

@@ -35,7 +35,7 @@ then_these xs ys before middle after m a =
 
 -- ---- rows that are turned
 
-turned_nothing : (make : List ℕ → Key) (row : List ℕ) (old new : Option (List ℕ)) → option_eq bytes_eq old new ≡ true → row_turned make row old new ≡ []
+pub turned_nothing : (make : List ℕ → Key) (row : List ℕ) (old new : Option (List ℕ)) → option_eq bytes_eq old new ≡ true → row_turned make row old new ≡ []
 turned_nothing make row None None e = refl
 turned_nothing make row None (Some b) e = absurd cc
 turned_nothing make row (Some a) None e = absurd cc

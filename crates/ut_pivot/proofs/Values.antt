@@ -16,7 +16,7 @@ use Rattle.ut_keys.specs.Rows.{data_form}
 use Rattle.ut_model.specs.declared.record.Record.{Record}
 use Rattle.ut_pivot.specs.Changed.{slot_changes}
 use Rattle.ut_pivot.specs.Made.{entry_of, layout_entry, made_changes, values_made}
-use Rattle.ut_pivot.proofs.Turned.{all_both, append_nothing, map_both, then_these}
+use Rattle.ut_pivot.proofs.Turned.{all_both, append_nothing, then_these}
 use Rattle.ut_stands.specs.Changes.{Change}
 use Rattle.ut_stands.specs.Entries.{Entry}
 use Rattle.ut_stands.specs.declared.layout.FieldPlace.{FieldPlace}
@@ -81,7 +81,7 @@ at_is (x ∷ fs) (suc n) f lt e = at_is fs n f (omega (arith, lt)) e
 abbrev of_slot : Layout → Record → ℕ → List Change
 of_slot l r s = slot_changes l.org l.object r.id None (layout_entry l r s) s
 
-range_more : (a n j : ℕ) → a + n ≡ j → range_with_len a (n + 1) ≡ range_with_len a n ++ j ∷ []
+pub range_more : (a n j : ℕ) → a + n ≡ j → range_with_len a (n + 1) ≡ range_with_len a n ++ j ∷ []
 range_more a zero j e = let same : a ≡ j = omega (arith, e) in ap (λ (i : ℕ). i ∷ []) same
 range_more a (suc n) j e =
     let many : suc n + 1 ≡ suc (n + 1) = omega arith in

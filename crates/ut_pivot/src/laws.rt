@@ -1,12 +1,15 @@
 ghost use Rattle.std.specs.Prelude.{◌≡◌, ◌≤◌, ℕ, IsTrue, List, None, Option, Some, length, map};
 ghost use Rattle.std.specs.List.{list_all};
 ghost use Rattle.ut_edits.specs.Rows.{gone_of, spelled};
+ghost use Rattle.ut_keys.specs.declared.data.DataRow.{DataRow};
 ghost use Rattle.ut_model.specs.declared.record.Record.{Record};
 ghost use Rattle.ut_model.specs.Objects.{is_of, object_numbered, record_at};
+ghost use Rattle.ut_model.specs.Sound.{IsSound};
 ghost use Rattle.ut_model.specs.Tenant.{Job, Object, Tenant};
 ghost use Rattle.ut_pivot.specs.Changed.{record_changes, slot_changes};
 ghost use Rattle.ut_pivot.specs.Made.{made_changes};
-ghost use Rattle.ut_stands.specs.Entries.{Entry, job_value};
+ghost use Rattle.ut_pivot.specs.Turned.{converts, turned_changes};
+ghost use Rattle.ut_stands.specs.Entries.{Entry, data_of, job_value, slot_entry};
 ghost use Rattle.ut_stands.specs.Layouts.{layout_of};
 ghost use Rattle.ut_stands.specs.Plan.{OrgPlan};
 ghost use Rattle.ut_stands.specs.Stands.{kept_at};
@@ -24,7 +27,25 @@ pub fn pivot_laws()
         → IsTrue (list_all is_printable r.values) → IsTrue (is_of n r) → record_at t r.id ≡ Some r → object_numbered t n ≡ Some o
         → made_changes (layout_of org p t (record { number = n; object = o })) r ≡ record_changes org n r.id None (kept_at p t n r.id) }
 
-    // They are at most 145, and remove no record's row.
+    // The changes of a record whose values change are those of all rows that differ, where one tenant has it with the old values,
+    // another with the new ones, and both have the same objects and the same change of a type. What else they have may differ,
+    // and so may the record's owner and moments.
+    ensures turned { (org n : ℕ) (p : OrgPlan) (t u : Tenant) (o : Object) (old new : Record)
+        → u.objects ≡ t.objects → u.job ≡ t.job → new.id ≡ old.id
+        → IsTrue (list_all is_printable new.values) → IsTrue (is_of n new)
+        → record_at t old.id ≡ Some old → record_at u new.id ≡ Some new → object_numbered t n ≡ Some o
+        → turned_changes (layout_of org p t (record { number = n; object = o })) (data_of org n old (slot_entry p t.job n o old)) old new
+        ≡ record_changes org n new.id (kept_at p t n new.id) (kept_at p u n new.id) }
+
+    // They are at most 289, and remove no record's row.
+    ensures turned_few { (l : Layout) (kept : DataRow) (old new : Record) → length (turned_changes l kept old new) ≤ 289 }
+    ensures turned_gone { (l : Layout) (kept : DataRow) (old new : Record) → gone_of (map spelled (turned_changes l kept old new)) ≡ 0 }
+
+    // The layout of a sound object converts what is copied.
+    ensures converting { (org n : ℕ) (p : OrgPlan) (t : Tenant) (o : Object) → IsSound t → object_numbered t n ≡ Some o
+        → IsTrue (converts (layout_of org p t (record { number = n; object = o }))) }
+
+    // Those of a new record are at most 145, and remove none either.
     ensures few { (l : Layout) (r : Record) → length (made_changes l r) ≤ 145 }
     ensures gone { (l : Layout) (r : Record) → gone_of (map spelled (made_changes l r)) ≡ 0 }
 

@@ -4,6 +4,8 @@
 //! added to a list are exactly the rows that differ where a record comes, changes or goes.
 #![tactic(auto)]
 
+mod changed;
+mod copied;
 mod keys;
 mod laws;
 mod made;
@@ -11,6 +13,8 @@ mod rows;
 mod slot;
 mod turning;
 
+pub use crate::changed::changed_record_changes;
+pub use crate::copied::converts;
 pub use crate::laws::pivot_laws;
 pub use crate::made::new_record_changes;
 pub use crate::slot::RecordSlot;

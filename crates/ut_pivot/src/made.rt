@@ -19,11 +19,11 @@ use ut_keeper::Change;
 use ut_model::Record;
 use ut_stands::{FieldPlace, Layout};
 
-// How many slots a record has.
-const SLOT_COUNT: u8 = 48;
+/// How many slots a record has.
+pub(crate) const SLOT_COUNT: u8 = 48;
 
-// The number of the field with this slot.
-fn field_of_slot(fields: &[FieldPlace], slot: u8) -> Option<usize>
+/// The number of the field with this slot.
+pub(crate) fn field_of_slot(fields: &[FieldPlace], slot: u8) -> Option<usize>
     ensures place { result ≡ field_of_slot fields.now slot }
     ensures below { IfSome result (λ number. number < length fields.now) }
 {

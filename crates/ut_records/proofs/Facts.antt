@@ -7,12 +7,8 @@ pub pick : (b : Bool) (P : Bool → Type 0) → (b ≡ true → P true) → (b �
 pick true P f g = f refl
 pick false P f g = g refl
 
-pub some_is : (x y : ℕ) → ◌≡◌ {A = Option ℕ} (Some x) (Some y) → x ≡ y
-some_is x y e = ap (λ (o : Option ℕ). by o) e
-  where
-    by : Option ℕ → ℕ
-    by (Some z) = z
-    by None = x
+pub some_is : {A : Type 0} (x y : A) → ◌≡◌ {A = Option A} (Some x) (Some y) → x ≡ y
+some_is x y e = cc
 
 pub eqb_same : (n : ℕ) → eqb n n ≡ true
 eqb_same n = pick (eqb n n) (λ b. b ≡ true) (λ h. refl) (λ h. absurd (eqb-false n n h refl))

@@ -2,3 +2,12 @@ pub mod Facts
 pub mod Counting
 pub mod Sharing
 pub mod Taking
+pub mod Spelled
+pub mod Numbers
+pub mod Rows
+pub mod Accepting
+pub mod Judging
+pub mod OtherRules
+pub mod Objects
+pub mod Proposing
+pub mod Creates

@@ -1,5 +1,5 @@
 -- A new record as changes of rows: those of the organisation and of its object, which count it, and those of its own.
-use Rattle.std.specs.Prelude.{◌≡◌, ℕ, List, [], ◌∷◌, ◌++◌, Some}
+use Rattle.std.specs.Prelude.{◌≡◌, ℕ, true, List, [], ◌∷◌, ◌++◌, Some, ℤ}
 use Rattle.ut_edits.specs.Rows.{change_to}
 use Rattle.ut_keys.specs.Rows.{object_form, org_form}
 use Rattle.ut_model.specs.Creates.{empty_record, with_record}
@@ -9,14 +9,29 @@ use Rattle.ut_model.specs.Objects.{Numbered}
 use Rattle.ut_model.specs.Paths.{Asked}
 use Rattle.ut_model.specs.Tenant.{Tenant}
 use Rattle.ut_model.specs.declared.record.Record.{Record}
+use Rattle.ut_sound.specs.Fit.{IsCaller, OfObjects, ReadsWell}
 use Rattle.ut_stands.specs.Changes.{Change}
 use Rattle.ut_stands.specs.Metadata.{org_of, row_of_object}
 use Rattle.ut_stands.specs.Plan.{OrgPlan}
 use Rattle.ut_touched.specs.Touched.{fresh_plan, touched_changes}
 
+-- ---- who gives values to a record
+
+-- who asks is an administrator with this id, at this moment of the calendar, and what is given is read as values of the fields' types
+pub record IsGiving (id : List ℕ) (moment : ℤ) (given : List Assignment) (a : Asked) : Type 0 where
+  pub admin : a.user.admin ≡ true
+  pub user : a.user.id ≡ id
+  pub caller : IsCaller a
+  pub now : a.now ≡ moment
+  pub reads : OfObjects a (λ o. ReadsWell a o given)
+
+-- ---- the record
+
 -- the record that a create makes
 abbrev pub new_record : Asked → Numbered → List Assignment → Record
 new_record a o given = with_given a o.object given (empty_record a o)
+
+-- ---- its rows
 
 -- the rows of the organisation and of the object, once the record is counted
 abbrev pub counts_with : (org : ℕ) → Tenant → Numbered → Record → List Change

@@ -1,2 +1,3 @@
 pub mod Creating
 pub mod Updating
+pub mod inner

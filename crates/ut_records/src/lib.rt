@@ -1,8 +1,15 @@
-//! Edits of records: so far the laws of the rows of a record that comes or changes.
+//! Edits of records: new ones so far, and the laws of the rows of a record that comes or changes.
 //!
-//! It depends on `ut_touched` for the rows that differ, and on `ut_sound` for the tenant that a create leaves.
+//! It depends on `ut_touched` for the rows that differ, on `ut_given`, `ut_rules` and `ut_others` for the rules, on `ut_pivot` for
+//! the rows of a record, and on `ut_sound` for the tenant that a create leaves. Its contract is that of `Edit`: a create is judged
+//! by its verdict, and its changes take the organisation's rows to those of what the verdict leaves.
 #![tactic(auto)]
 
+mod create;
+mod creating;
 mod laws;
+mod object;
+mod others;
 
+pub use crate::create::Create;
 pub use crate::laws::{create_laws, update_laws};

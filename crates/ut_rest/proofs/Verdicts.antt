@@ -1,43 +1,97 @@
 -- What a route's request comes to for who asks.
-use Rattle.std.proofs.Common.{◌≡◌, ◌∙◌, ℕ, true, false, ◌&&◌, List, refl, sym, ap, subst}
-use Rattle.std.specs.Prelude.{Result, not, if◌then◌else◌}
+use Rattle.std.proofs.Common.{◌≡◌, ◌∙◌, ◌≤◌, ℕ, Bool, true, false, ◌&&◌, List, inl, inr, refl, sym, ap, subst, arith}
+use Rattle.std.specs.Prelude.{Result, Ok, Err, IfOk, codes, not, if◌then◌else◌}
+use Rattle.ut_admin.specs.Administration.{Administers, IsEditReply}
+use Rattle.ut_keeper.specs.Draft.{DraftReads, Held}
+use Rattle.ut_keeper.specs.State.{KeeperState}
 use Rattle.ut_keeper.specs.Tables.{Tables}
 use Rattle.ut_keys.specs.declared.fail.StoreFail.{StoreFail}
 use Rattle.ut_model.specs.declared.caller.Caller.{Caller}
-use Rattle.ut_model.specs.declared.refusal.Refusal.TheVariants.{AdminRequired}
+use Rattle.ut_model.specs.declared.refusal.Refusal.TheVariants.{AdminRequired, NotBuilt}
 use Rattle.ut_model.specs.declared.reply.Reply.{Reply}
 use Rattle.ut_model.specs.declared.route.Route.{Route}
-use Rattle.ut_model.specs.declared.route.Route.TheVariants.{Query}
+use Rattle.ut_model.specs.declared.route.Route.TheVariants.{Create, Query}
 use Rattle.ut_model.specs.declared.routed.Routed.TheVariants.{To}
 use Rattle.ut_model.specs.Paths.{Asked}
 use Rattle.ut_model.specs.RequestOf.{verdict_or}
 use Rattle.ut_model.specs.Routing.{is_administration}
 use Rattle.ut_model.specs.Verdict.{Verdict, refuse}
-use Rattle.ut_stands.specs.Operations.{RepliesAt, Responds}
+use Rattle.ut_stands.specs.Calls.{ended}
+use Rattle.ut_stands.specs.Operations.{Drafts, RepliesAt, Responds}
 use Rattle.ut_stands.specs.declared.judged.Judged.{Judged}
+use Rattle.ut_stands.specs.declared.judged.Judged.TheVariants.{Changed, Same}
 use Rattle.ut_step.specs.Built.{built_request, built_verdict, verdict_to}
-use Rattle.ut_step.specs.Own.{IsAsking}
+use Rattle.ut_step.specs.Own.{IsAsking, edit_shown, request_changes, request_gone}
+use Rattle.ut_rest.specs.Forms.{IsDoneReply, IsRequestReply, MayChange}
+use Rattle.ut_rest.proofs.Responses.{MostOf}
 
-lacks : (r : Route) (body : List ℕ) (a : Asked) (c : Caller) → IsAsking c a → verdict_to a body (To r) ≡ (if is_administration r && not c.admin then refuse a.tenant AdminRequired else built_verdict a r body)
-lacks r body a c asking = ap (λ b. if is_administration r && not b then refuse a.tenant AdminRequired else built_verdict a r body) asking.admin
+abbrev NoQuery : Route → Type 0
+NoQuery r = (pairs : List ℕ) → r ≡ Query pairs → ⊥
 
--- the caller is no administrator, and has to be one
-pub administrator_lacks : (r : Route) (body : List ℕ) (a : Asked) (c : Caller) → IsAsking c a → (is_administration r && not c.admin) ≡ true → verdict_to a body (To r) ≡ refuse a.tenant AdminRequired
-administrator_lacks r body a c asking e = lacks r body a c asking ∙ ap (λ b. if b then refuse a.tenant AdminRequired else built_verdict a r body) e
+module _ (r : Route) (body : List ℕ) (c : Caller) (now : ℕ) where
+  lacks : (a : Asked) → IsAsking c now a → verdict_to a body (To r) ≡ (if is_administration r && not c.admin then refuse a.tenant AdminRequired else built_verdict a r body)
+  lacks a asking = ap (λ b. if is_administration r && not b then refuse a.tenant AdminRequired else built_verdict a r body) asking.admin
 
--- the request itself
-pub request_verdict : (r : Route) (body : List ℕ) (a : Asked) (c : Caller) → IsAsking c a → (is_administration r && not c.admin) ≡ false → verdict_to a body (To r) ≡ built_verdict a r body
-request_verdict r body a c asking e = lacks r body a c asking ∙ ap (λ b. if b then refuse a.tenant AdminRequired else built_verdict a r body) e
+  -- the caller is no administrator, and has to be one
+  pub administrator_lacks : (a : Asked) → IsAsking c now a → (is_administration r && not c.admin) ≡ true → verdict_to a body (To r) ≡ refuse a.tenant AdminRequired
+  administrator_lacks a asking e = lacks a asking ∙ ap (λ b. if b then refuse a.tenant AdminRequired else built_verdict a r body) e
 
-no_query : (r : Route) (body : List ℕ) (a : Asked) → ((pairs : List ℕ) → r ≡ Query pairs → ⊥) → built_verdict a r body ≡ verdict_or a (built_request r body)
-no_query (Query pairs) body a other = absurd (other pairs refl)
-no_query _ body a other = refl
+  -- the request itself
+  request_verdict : (a : Asked) → IsAsking c now a → (is_administration r && not c.admin) ≡ false → verdict_to a body (To r) ≡ built_verdict a r body
+  request_verdict a asking e = lacks a asking ∙ ap (λ b. if b then refuse a.tenant AdminRequired else built_verdict a r body) e
 
--- an administrator's request
-pub administered : (org : ℕ) (r : Route) (body : List ℕ) (c : Caller) (m after : Tables) (result : Result (Judged Reply) StoreFail) → ((pairs : List ℕ) → r ≡ Query pairs → ⊥) → (is_administration r && not c.admin) ≡ false
-    → Responds org (λ a. Unit {0}) (λ a. verdict_or a (built_request r body)) m after result → Responds org (IsAsking c) (λ a. verdict_to a body (To r)) m after result
-administered org r body c m after result other may h = record {
-  others = h.others;
-  replied = λ p a s asking.
-      subst (λ (v : Verdict). RepliesAt org a v after result) (sym (request_verdict r body a c asking may ∙ no_query r body a other)) (h.replied p a s tt);
+judged_by : (r : Route) (body : List ℕ) (a : Asked) → NoQuery r
+    → built_verdict a r body ≡ (if a.user.admin then verdict_or a (built_request r body) else refuse a.tenant (NotBuilt (codes "route")))
+judged_by (Query pairs) body a other = absurd (other pairs refl)
+judged_by _ body a other = refl
+
+module _ (r : Route) (body : List ℕ) (c : Caller) (now : ℕ) (other : NoQuery r) (may : (is_administration r && not c.admin) ≡ false) where
+  by_caller : (a : Asked) → IsAsking c now a → (admin : Bool) → c.admin ≡ admin
+      → verdict_to a body (To r) ≡ (if admin then verdict_or a (built_request r body) else refuse a.tenant (NotBuilt (codes "route")))
+  by_caller a asking admin is =
+      request_verdict r body c now a asking may ∙ judged_by r body a other
+      ∙ ap (λ b. if b then verdict_or a (built_request r body) else refuse a.tenant (NotBuilt (codes "route"))) (asking.admin ∙ is)
+
+  -- of who is no administrator, it isn't built
+  pub unbuilt : c.admin ≡ false → (a : Asked) → IsAsking c now a → verdict_to a body (To r) ≡ refuse a.tenant (NotBuilt (codes "route"))
+  unbuilt is a asking = by_caller a asking false is
+
+  -- an administrator's request
+  pub administered : (org : ℕ) (m after : Tables) (result : Result (Judged Reply) StoreFail) → c.admin ≡ true
+      → Responds org (Administers c now) (λ a. verdict_or a (built_request r body)) m after result → Responds org (IsAsking c now) (λ a. verdict_to a body (To r)) m after result
+  administered org m after result is h = record {
+    others = h.others;
+    replied = λ p a s asking.
+        subst (λ (v : Verdict). RepliesAt org a v after result) (sym (by_caller a asking true is)) (h.replied p a s (asking, asking.admin ∙ is));
+  }
+
+-- ---- the form of the reply to an administrator
+
+may_change : (r : Route) → NoQuery r → MayChange (To r)
+may_change (Query pairs) other = absurd (other pairs refl)
+may_change _ other = tt
+
+change_form : (r : Route) (reply : Reply) → IsEditReply r (Changed reply) → IsDoneReply reply
+change_form (Create object) reply h = inr (inr h.0)
+change_form _ reply h = inl h
+
+judged_form : (r : Route) (j : Judged Reply) → NoQuery r → IsEditReply r j → IsRequestReply (To r) j
+judged_form r (Same reply) other h = inl h
+judged_form r (Changed reply) other h = (may_change r other, change_form r reply h)
+
+pub administered_form : (r : Route) (result : Result (Judged Reply) StoreFail) → NoQuery r → IfOk result (IsEditReply r) → IfOk result (IsRequestReply (To r))
+administered_form r (Ok j) other h = judged_form r j other h
+administered_form r (Err e) other h = tt
+
+-- ---- and what it leaves of the draft
+
+pub administered_drafts : {K : Type 0} (state : K → KeeperState) → MostOf state → (larger : ℕ) (result : Result (Judged Reply) StoreFail) (a b : Held K) → edit_shown ≤ larger
+    → Drafts state request_changes request_gone edit_shown result a b → Drafts state request_changes request_gone larger result a b
+administered_drafts state most larger result a b few h = record {
+  makes = most request_changes request_gone edit_shown request_changes request_gone larger (ended result) a b (omega arith) (omega arith) (λ _. few) h.makes;
+  changing = h.changing;
+  same = λ is. wider (h.same is);
 }
+  where
+    wider : DraftReads state edit_shown a b → DraftReads state larger a b
+    wider d = record { same_reference = d.same_reference; changes = d.changes; reads = d.reads; shows = λ told. let e = d.shows told in omega (arith, e, few) }

@@ -1,11 +1,11 @@
 //! The query for the ids and names of an object's records.
 
-ghost use Rattle.std.specs.Prelude.{◌≡◌, ◌+◌, IfOk, None, Ok, Some, codes, true};
+ghost use Rattle.std.specs.Prelude.{◌≡◌, ◌+◌, IfOk, None, Ok, Some, true};
 ghost use Rattle.std.specs.Str.{chars};
 ghost use Rattle.ut_grammar.specs.Place.{UnlessMemory};
 ghost use Rattle.ut_keeper.specs.Draft.{DraftTells, removals_of, tables_of};
 ghost use Rattle.ut_keeper.specs.State.{data_table};
-ghost use Rattle.ut_model.specs.declared.refusal.Refusal.TheVariants.{MalformedQuery, NotBuilt};
+ghost use Rattle.ut_model.specs.declared.refusal.Refusal.TheVariants.{MalformedQuery};
 ghost use Rattle.ut_model.specs.Asking.{ask, asks_for_names};
 ghost use Rattle.ut_model.specs.Paths.{Asked};
 ghost use Rattle.ut_model.specs.Step.{query_text};
@@ -18,11 +18,11 @@ ghost use Rattle.ut_stands.specs.Layouts.{FindsOf, records_after};
 ghost use Rattle.ut_stands.specs.Local.{StandsIn};
 ghost use Rattle.ut_stands.specs.Plan.{OrgPlan};
 ghost use Rattle.ut_step.specs.Built.{query_verdict};
-ghost use Rattle.ut_step.specs.Own.{IsAsking, request_shown};
+ghost use Rattle.ut_step.specs.Own.{request_shown};
 
 use crate::asking::asks_for_names;
 use crate::query::query_text;
-use crate::replies::{refuse, unless_too_large};
+use crate::replies::{refuse, refuse_unbuilt, unless_too_large};
 use http::StatusCode;
 use std::alloc::{AllocError, Global};
 use ut_data::walk;
@@ -101,17 +101,6 @@ fn query_in(alloc: Global, pairs: &Text) -> Result<Query, ParseFail>
     parse(alloc, text.as_str())
 }
 
-// Queries for anything else, and of who is no administrator, aren't built.
-fn refuse_query(alloc: Global) -> Result<Reply, StoreFail>
-    ensures value { Refuses (NotBuilt (codes "query")) result }
-    ensures form { IfOk result IsReadReply }
-{
-    match Text::from_str(alloc, "query") {
-        Ok(what) => refuse(alloc, Refusal::NotBuilt { what }),
-        Err(_) => Err(StoreFail::Memory),
-    }
-}
-
 // A text that spells no query is refused, with the byte at which the token begins that can't be there.
 fn refuse_malformed(alloc: Global, place: usize) -> Result<Reply, StoreFail>
     ensures value { Refuses (MalformedQuery place) result }
@@ -120,7 +109,7 @@ fn refuse_malformed(alloc: Global, place: usize) -> Result<Reply, StoreFail>
     refuse(alloc, Refusal::MalformedQuery { place })
 }
 
-// Answers a query that was read.
+// Answers a query that was read. Queries for anything else, and of who is no administrator, aren't built.
 fn answer_read<K: Keeper>(
     alloc: Global,
     draft: &mut Draft<'_, K>,
@@ -129,7 +118,7 @@ fn answer_read<K: Keeper>(
 ) -> Result<Reply, StoreFail>
     ensures what { DraftTells K.state draft.old draft.new
         → (p : OrgPlan) (a : Asked) → StandsIn caller.now.org p (tables_of K.state draft.old) (Some a.tenant)
-        → IsAsking caller.now a → AnswersBy a (query_verdict a (Ok query)) result }
+        → a.user.admin ≡ caller.now.admin → AnswersBy a (query_verdict a (Ok query)) result }
     ensures form { IfOk result IsReadReply }
     ensures calls { Calls K.state (request_shown + removals_of K.state data_table draft.old) (ended result) draft.old draft.new }
 {
@@ -138,7 +127,7 @@ fn answer_read<K: Keeper>(
         let tail = query.tail;
         answer_names(alloc, draft, caller.org, tail.from)
     } else {
-        refuse_query(alloc)
+        refuse_unbuilt(alloc, "query")
     }
 }
 
@@ -156,7 +145,7 @@ pub(crate) fn answer_query<K: Keeper>(
 ) -> Result<Reply, StoreFail>
     ensures what { DraftTells K.state draft.old draft.new
         → (p : OrgPlan) (a : Asked) → StandsIn caller.now.org p (tables_of K.state draft.old) (Some a.tenant)
-        → IsAsking caller.now a → AnswersBy a (query_verdict a (reads_query (query_text pairs.now))) result }
+        → a.user.admin ≡ caller.now.admin → AnswersBy a (query_verdict a (reads_query (query_text pairs.now))) result }
     ensures form { IfOk result IsReadReply }
     ensures calls { Calls K.state (request_shown + removals_of K.state data_table draft.old) (ended result) draft.old draft.new }
 {

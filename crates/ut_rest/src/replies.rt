@@ -1,6 +1,8 @@
 //! Replies that go with no change.
 
 ghost use Rattle.std.specs.Prelude.{◌≡◌, IfOk};
+ghost use Rattle.std.specs.Str.{chars};
+ghost use Rattle.ut_model.specs.declared.refusal.Refusal.TheVariants.{NotBuilt};
 ghost use Rattle.ut_model.specs.Replies.{unless_too_large};
 ghost use Rattle.ut_rest.specs.Forms.{IsReadReply};
 ghost use Rattle.ut_rest.specs.inner.Answers.{Refuses, unchanged};
@@ -9,6 +11,7 @@ use std::alloc::{AllocError, Global};
 use ut_keys::StoreFail;
 use ut_model::{Refusal, Reply};
 use ut_stands::Judged;
+use ut_value::Text;
 
 // The most bytes that the body of a reply with rows may have.
 const MOST_BYTES: usize = 16_777_216;
@@ -24,6 +27,21 @@ pub(crate) fn refuse(alloc: Global, refusal: Refusal) -> Result<Reply, StoreFail
 {
     match refusal.reply(alloc) {
         Ok(reply) => Ok(reply),
+        Err(_) => Err(StoreFail::Memory),
+    }
+}
+
+/// The reply that what is called so isn't built.
+///
+/// # Errors
+///
+/// `Memory` if out of memory.
+pub(crate) fn refuse_unbuilt(alloc: Global, what: &str) -> Result<Reply, StoreFail>
+    ensures value { Refuses (NotBuilt (chars what.now)) result }
+    ensures form { IfOk result IsReadReply }
+{
+    match Text::from_str(alloc, what) {
+        Ok(what) => refuse(alloc, Refusal::NotBuilt { what }),
         Err(_) => Err(StoreFail::Memory),
     }
 }

@@ -1,6 +1,6 @@
 //! What a caller's request is answered.
 
-ghost use Rattle.std.specs.Prelude.{◌≡◌, ◌&&◌, ◌+◌, IfOk, not};
+ghost use Rattle.std.specs.Prelude.{◌≡◌, ◌&&◌, ◌+◌, IfOk, IsTrue, not, pos};
 ghost use Rattle.std.specs.Str.{chars};
 ghost use Rattle.ut_keeper.specs.Draft.{DraftTells, removals_of, tables_of};
 ghost use Rattle.ut_keeper.specs.State.{data_table};
@@ -10,9 +10,10 @@ ghost use Rattle.ut_rest.specs.Forms.{IsRequestReply};
 ghost use Rattle.ut_stands.specs.Operations.{Drafts, Responds};
 ghost use Rattle.ut_step.specs.Built.{verdict_to};
 ghost use Rattle.ut_step.specs.Own.{IsAsking, request_changes, request_gone, request_shown};
+ghost use Rattle.ut_value.specs.Dates.{is_moment};
 
 use crate::names::answer_query;
-use crate::replies::{refuse, unchanged};
+use crate::replies::{refuse, refuse_unbuilt, unchanged};
 use crate::routes::Routes;
 use http::Method;
 use std::alloc::Global;
@@ -34,11 +35,13 @@ fn answer<K: Keeper>(
     alloc: Global,
     draft: &mut Draft<'_, K>,
     caller: &Caller,
+    now: u64,
     route: &Route,
     body: &[u8],
 ) -> Result<Judged<Reply>, StoreFail>
+    requires { IsTrue (is_moment (pos now)) }
     ensures what { DraftTells K.state draft.old draft.new
-        → Responds caller.now.org (IsAsking caller.now) (λ a. verdict_to a body.now (To route.now)) (tables_of K.state draft.old)
+        → Responds caller.now.org (IsAsking caller.now now) (λ a. verdict_to a body.now (To route.now)) (tables_of K.state draft.old)
         (tables_of K.state draft.new) result }
     ensures form { IfOk result (IsRequestReply (To route.now)) }
     ensures drafts { Drafts K.state request_changes request_gone (request_shown + removals_of K.state data_table draft.old) result
@@ -50,12 +53,18 @@ fn answer<K: Keeper>(
     }
     match route {
         Route::Query { pairs } => unchanged(answer_query(alloc, draft, caller, pairs)),
-        _ => administer(alloc, draft, caller.org, route, body),
+        _ => {
+            if caller.admin {
+                administer(alloc, draft, caller, now, route, body)
+            } else {
+                unchanged(refuse_unbuilt(alloc, "route"))
+            }
+        }
     }
 }
 
-/// Judges a caller's request over the draft, and makes its reply: if the draft holds the change that it asks for, 204 without a
-/// body, or 200 or 201 with one; rows or a refusal if it changes nothing.
+/// Judges a caller's request at this moment over the draft, and makes its reply: if the draft holds the change that it asks for, 204
+/// without a body, or 200 or 201 with one; rows or a refusal if it changes nothing.
 ///
 /// # Errors
 ///
@@ -66,13 +75,14 @@ pub fn respond<K: Keeper>(
     routes: &Routes,
     draft: &mut Draft<'_, K>,
     caller: &Caller,
+    now: u64,
     method: &Method,
     target: &str,
     body: &[u8],
 ) -> Result<Judged<Reply>, StoreFail>
-    // At any moment: no request that is built looks at the time.
+    requires { IsTrue (is_moment (pos now)) }
     ensures what { DraftTells K.state draft.old draft.new
-        → Responds caller.now.org (IsAsking caller.now) (λ a. verdict_to a body.now (routed method.now (chars target.now)))
+        → Responds caller.now.org (IsAsking caller.now now) (λ a. verdict_to a body.now (routed method.now (chars target.now)))
         (tables_of K.state draft.old) (tables_of K.state draft.new) result }
     ensures form { IfOk result (IsRequestReply (routed method.now (chars target.now))) }
     ensures drafts { Drafts K.state request_changes request_gone (request_shown + removals_of K.state data_table draft.old) result
@@ -80,7 +90,7 @@ pub fn respond<K: Keeper>(
 {
     call_laws::<K>();
     match routes.route(alloc, method, target) {
-        Ok(Routed::To(route)) => answer(alloc, draft, caller, &route, body),
+        Ok(Routed::To(route)) => answer(alloc, draft, caller, now, &route, body),
         Ok(Routed::NotFound) => unchanged(refuse(alloc, Refusal::NotFound)),
         Ok(Routed::NotAllowed) => unchanged(refuse(alloc, Refusal::MethodNotAllowed)),
         Err(_) => Err(StoreFail::Memory),

@@ -55,13 +55,13 @@ module _ (c : Caller) (m : Message) (close : Bool) (now : ℕ) (before after : T
   verdict a = verdict_to a m.body (routed m.method m.target)
 
   -- what answers the caller is what answers the user
-  answered_is : (t : Tenant) (u : User) → IsAsking c (asking t now u) → answered c m now t ≡ (reply_of (asking t now u) (verdict (asking t now u)).answer, (verdict (asking t now u)).tenant)
+  answered_is : (t : Tenant) (u : User) → IsAsking c now (asking t now u) → answered c m now t ≡ (reply_of (asking t now u) (verdict (asking t now u)).answer, (verdict (asking t now u)).tenant)
   answered_is t u h = ap (λ o. in_case o (refused InvalidSession t) (λ u. answer_built (asking t now u) m)) h.user
 
   abbrev does_to : Tenant → Option Tenant → List ℕ × Option Tenant
   does_to t s = (bytes_of m close (answered c m now t).0, Some (answered c m now t).1)
 
-  replied : (t : Tenant) (u : User) → IsAsking c (asking t now u) → (j : Judged Reply) → RepliesAt c.org (asking t now u) (verdict (asking t now u)) after (Ok j) → Judges (StandsFor c.org) (does_to t) (Some t) after (Ok (in_bytes m.method close j))
+  replied : (t : Tenant) (u : User) → IsAsking c now (asking t now u) → (j : Judged Reply) → RepliesAt c.org (asking t now u) (verdict (asking t now u)) after (Ok j) → Judges (StandsFor c.org) (does_to t) (Some t) after (Ok (in_bytes m.method close j))
   replied t u asks (Same r) h =
       let is = answered_is t u asks in (
         ap (bytes_of m close) (h.0 ∙ sym (ap (λ (s : Reply × Tenant). s.0) is)),
@@ -77,13 +77,13 @@ module _ (c : Caller) (m : Message) (close : Bool) (now : ℕ) (before after : T
   change_of (Same r) h = h
   change_of (Changed r) h = h
 
-  pub caller_judged : (j : Judged Reply) (r : Returned) → IsBytes m.method close j r → Responds c.org (IsAsking c) verdict before after (Ok j) → JudgesCaller c m close now before after r
+  pub caller_judged : (j : Judged Reply) (r : Returned) → IsBytes m.method close j r → Responds c.org (IsAsking c now) verdict before after (Ok j) → JudgesCaller c m close now before after r
   caller_judged j r is h = record {
     others = by_bytes (λ x. IsChange x → KeepsOthers c.org before after) m.method close j r is (λ change. h.others (change_of j change)) (λ none. absurd none);
     judged = λ q t u s asks. by_bytes (Judges (StandsFor c.org) (does_to t) (Some t) after) m.method close j r is (replied t u asks j (h.replied q (asking t now u) s asks)) (λ d. cc);
   }
 
-  pub caller_failed : (e : StoreFail) → Responds c.org (IsAsking c) verdict before after (Err e) → JudgesCaller c m close now before after (Err e)
+  pub caller_failed : (e : StoreFail) → Responds c.org (IsAsking c now) verdict before after (Err e) → JudgesCaller c m close now before after (Err e)
   caller_failed e h = record { others = λ none. absurd none; judged = λ q t u s asks. h.replied q (asking t now u) s asks }
 
 -- the reply is of its form
@@ -122,10 +122,11 @@ has_id (x ∷ xs) i u e = by (bytes_eq i x.id) refl (has_id xs i u)
         first e = cc
     by false same rest = rest (sym (ap (λ b. if b then Some x else user_at xs i) same) ∙ e)
 
-asks_so : (n : Named) (t : Tenant) (c : Caller) (now : ℕ) (h : Admits n t c) → IsAsking c (asking t now h.user)
+asks_so : (n : Named) (t : Tenant) (c : Caller) (now : ℕ) (h : Admits n t c) → IsAsking c now (asking t now h.user)
 asks_so n t c now h = record {
   user = subst (λ (i : List ℕ). user_at t.users i ≡ Some h.user) (has_id t.users n.user h.user h.there ∙ sym (ap (λ (x : Caller). x.user) h.same)) h.there;
   admin = sym (ap (λ (x : Caller). x.admin) h.same);
+  now = refl;
 }
 
 module _ (n : Named) (m : Message) (close : Bool) (now : ℕ) (before after : Tables) where

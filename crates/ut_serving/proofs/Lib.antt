@@ -11,3 +11,4 @@ pub mod Fallen
 pub mod Bringing
 pub mod Isolated
 mod Forms
+pub mod Moments

@@ -36,7 +36,7 @@ own_does n m close now t = (bytes_of m close (own_step n m now t).0, (own_step n
 -- a caller's message, judged over these tables, of which those came
 pub record JudgesCaller (c : Caller) (m : Message) (close : Bool) (now : ℕ) (before after : Tables) (result : Result (Judged (List ℕ)) StoreFail) : Type 0 where
   pub others : IsChange result → KeepsOthers c.org before after
-  pub judged : (q : OrgPlan) (t : Tenant) (u : User) → StandsIn c.org q before (Some t) → IsAsking c (asking t now u)
+  pub judged : (q : OrgPlan) (t : Tenant) (u : User) → StandsIn c.org q before (Some t) → IsAsking c now (asking t now u)
       → Judges (StandsFor c.org) (λ s. (bytes_of m close (answered c m now t).0, Some (answered c m now t).1)) (Some t) after result
 
 -- a message whose key names these

@@ -73,6 +73,7 @@ fn refuse<W: Wire>(alloc: Global, wire: &mut W, fail: HttpFail) -> Result<(), Li
 }
 
 // Answers a message, and writes the reply. It tells whether the keeper is known to be trusted.
+#[tactic(auto, using(crate::proofs::Moments::is_clocked))]
 fn reply<K: Keeper, W: Wire, C: Clock>(
     alloc: Global,
     routes: &Routes,

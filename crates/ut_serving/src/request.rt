@@ -1,6 +1,6 @@
 //! One request: who calls, what is answered, and the keeper after it.
 
-ghost use Rattle.std.specs.Prelude.{◌≡◌, ◌+◌, ◌⊎◌, IsTrue, true};
+ghost use Rattle.std.specs.Prelude.{◌≡◌, ◌+◌, ◌⊎◌, IsTrue, pos, true};
 ghost use Rattle.ut_keeper.specs.Draft.{DraftTells, removals_of, tables_of};
 ghost use Rattle.ut_keeper.specs.State.{KeeperCause, Quiet, Shows, Steps, Tells, TrustedAfter, data_table};
 ghost use Rattle.ut_keeper.specs.Tables.{Tables};
@@ -12,6 +12,7 @@ ghost use Rattle.ut_stands.specs.Operations.{Drafts};
 ghost use Rattle.ut_stands.specs.Stands.{Stands};
 ghost use Rattle.ut_step.specs.Built.{step};
 ghost use Rattle.ut_step.specs.Own.{request_changes, request_gone, request_shown};
+ghost use Rattle.ut_value.specs.Dates.{is_moment};
 ghost use Rattle.ut_serving.specs.Leads.{LeadsFrom};
 ghost use Rattle.ut_serving.specs.Own.{Asks, AsksFirst, DoesMessage, JudgesCaller, JudgesMessage, JudgesReply, JudgesUnnamed, Replies};
 ghost use Rattle.ut_serving.specs.Requests.{message_in};
@@ -84,6 +85,7 @@ fn judge_called<K: Keeper>(
     message: &HttpMessage,
     now: u64,
 ) -> Result<Judged<Bytes>, StoreFail>
+    requires { IsTrue (is_moment (pos now)) }
     ensures what { DraftTells K.state draft.old draft.new
         → JudgesCaller caller.now (message_in message.now) message.now.close now (tables_of K.state draft.old)
         (tables_of K.state draft.new) result }
@@ -97,6 +99,7 @@ fn judge_called<K: Keeper>(
         routes,
         draft,
         caller,
+        now,
         &message.method,
         message.target.as_str(),
         message.body.as_slice(),
@@ -125,6 +128,7 @@ fn judge<K: Keeper>(
     message: &HttpMessage,
     now: u64,
 ) -> Result<Judged<Bytes>, StoreFail>
+    requires { IsTrue (is_moment (pos now)) }
     ensures what { DraftTells K.state draft.old draft.new
         → JudgesMessage message.now now (tables_of K.state draft.old) (tables_of K.state draft.new) result }
     ensures form { JudgesReply (message_in message.now) message.now.close result }
@@ -148,6 +152,7 @@ fn answer_drafted<K: Keeper>(
     message: &HttpMessage,
     now: u64,
 ) -> Result<Bytes, StoreFail>
+    requires { IsTrue (is_moment (pos now)) }
     ensures does { DoesMessage message.now now (K.state keeper.old) (K.state keeper.new) result }
     ensures form { Replies (message_in message.now) message.now.close (K.state keeper.old) (K.state keeper.new) result }
     ensures asks { TrustedAfter true (K.state keeper.old) → Asks (K.state keeper.old) (K.state keeper.new) result }
@@ -185,7 +190,8 @@ fn answer_within<K: Keeper>(
     now: u64,
     is_sure: bool,
 ) -> Result<Bytes, StoreFail>
-    requires { IsTrue is_sure → TrustedAfter true (K.state keeper.now) }
+    requires sure { IsTrue is_sure → TrustedAfter true (K.state keeper.now) }
+    requires moment { IsTrue (is_moment (pos now)) }
     ensures does { DoesMessage message.now now (K.state keeper.old) (K.state keeper.new) result }
     ensures form { Replies (message_in message.now) message.now.close (K.state keeper.old) (K.state keeper.new) result }
     ensures asks { Asks (K.state keeper.old) (K.state keeper.new) result }
@@ -205,7 +211,8 @@ fn answer_own<K: Keeper>(
     now: u64,
     is_sure: bool,
 ) -> Answer
-    requires { IsTrue is_sure → TrustedAfter true (K.state keeper.now) }
+    requires sure { IsTrue is_sure → TrustedAfter true (K.state keeper.now) }
+    requires moment { IsTrue (is_moment (pos now)) }
     ensures does { DoesMessage message.now now (K.state keeper.old) (K.state keeper.new) (outcome_of result) }
     ensures form { IsFixed message.now result
         × Replies (message_in message.now) message.now.close (K.state keeper.old) (K.state keeper.new) (outcome_of result) }
@@ -240,7 +247,8 @@ pub fn answer_message<K: Keeper>(
     now: u64,
     is_sure: bool,
 ) -> Answer
-    requires { IsTrue is_sure → TrustedAfter true (K.state keeper.now) }
+    requires sure { IsTrue is_sure → TrustedAfter true (K.state keeper.now) }
+    requires moment { IsTrue (is_moment (pos now)) }
     // Whatever the rows of other organisations are: what the message comes to in the organisation that its key names. Of others no
     // row changes.
     ensures does { DoesMessage message.now now (K.state keeper.old) (K.state keeper.new) (outcome_of result) }

@@ -1,5 +1,5 @@
 -- The step of the world by the routes that are built: the replies that are made, and what becomes of the world. What is built has
--- the verdicts of the whole step (Whole); a request of any other route, and what needs rows that aren't written yet, is refused
+-- the verdicts of the whole step (Whole); a request of any other route, and a new field that is unique or indexed, is refused
 -- with NOT_BUILT.
 -- Source of the query: Salesforce, REST API, "Query". What is built is this product's own.
 use Rattle.std.specs.Prelude.{ℕ, pos, Bool, true, false, not, ◌&&◌, ◌||◌, if◌then◌else◌, List, codes, Result, Ok, Err}
@@ -26,20 +26,21 @@ use Rattle.ut_model.specs.World.{World, user_at}
 
 -- ---- requests of administrators
 
--- the routes of administration that are built
+-- the routes that are built, of administrators
 abbrev pub is_built : Route → Bool
+is_built (route.Create object) = true
 is_built route.AddObject = true
 is_built (route.SetObject object) = true
 is_built route.AddField = true
 is_built route.AddValidationRule = true
 is_built _ = false
 
--- a field that is unique or indexed needs rows that aren't written yet
+-- no field that is unique or indexed is built yet
 abbrev pub needs_index : Request → Bool
 needs_index (adds_field b) = b.unique || b.indexed
 needs_index _ = false
 
--- NOT_BUILT, where such rows are needed
+-- NOT_BUILT, where one is asked for
 abbrev pub when_built : Result Request Refusal → Result Request Refusal
 when_built (Err refusal) = Err refusal
 when_built (Ok request) = if needs_index request then Err (refusal.NotBuilt (codes "flag")) else Ok request
@@ -58,10 +59,10 @@ query_verdict a (Ok q) =
 
 -- ---- a caller's message
 
--- what a request comes to
+-- what a request comes to: of who is no administrator none but a query is judged, as no other is built
 abbrev pub built_verdict : Asked → Route → (body : List ℕ) → Verdict
 built_verdict a (route.Query pairs) body = query_verdict a (reads_query (query_text pairs))
-built_verdict a r body = verdict_or a (built_request r body)
+built_verdict a r body = if a.user.admin then verdict_or a (built_request r body) else refuse a.tenant (refusal.NotBuilt (codes "route"))
 
 -- no such path, another method, no administrator; then the request itself
 abbrev pub verdict_to : Asked → (body : List ℕ) → Routed → Verdict

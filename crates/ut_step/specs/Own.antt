@@ -1,5 +1,5 @@
 -- A step of one organisation: who asks there, what a message with a key comes to, and how much a request may do.
-use Rattle.std.specs.Prelude.{◌≡◌, ℕ, Option, Some, None}
+use Rattle.std.specs.Prelude.{◌≡◌, ℕ, pos, Option, Some, None}
 use Rattle.ut_model.specs.declared.caller.Caller.{Caller}
 use Rattle.ut_model.specs.declared.limit.Limit.TheVariants as limit
 use Rattle.ut_model.specs.declared.refusal.Refusal.TheVariants as refusal
@@ -12,10 +12,11 @@ use Rattle.ut_model.specs.Tenant.{Tenant}
 use Rattle.ut_model.specs.World.{user_at}
 use Rattle.ut_step.specs.Built.{answered}
 
--- the caller is the one who asks
-pub record IsAsking (c : Caller) (a : Asked) : Type 0 where
+-- the caller is the one who asks, at this moment
+pub record IsAsking (c : Caller) (moment : ℕ) (a : Asked) : Type 0 where
   pub user : user_at a.tenant.users c.user ≡ Some a.user
   pub admin : a.user.admin ≡ c.admin
+  pub now : a.now ≡ pos moment
 
 -- what a message whose key names these comes to, where the organisation is this tenant or isn't there, and what becomes of it
 abbrev pub own_step : Named → Message → (now : ℕ) → Option Tenant → Reply × Option Tenant
@@ -24,10 +25,14 @@ own_step n m now (Some t) = ((answer_in answered n m now t).0, Some (answer_in a
 
 -- the most rows that a request changes, the most data rows that it removes, and the most data rows that are shown to it
 abbrev pub request_changes : ℕ
-request_changes = 3
+request_changes = 147
 
 abbrev pub request_gone : ℕ
 request_gone = 0
 
 abbrev pub request_shown : ℕ
 request_shown = limit_number limit.RecordsPerObject
+
+-- the most data rows that are shown to an edit: the record of each reference that is given
+abbrev pub edit_shown : ℕ
+edit_shown = limit_number limit.FieldsPerObject

@@ -1,13 +1,24 @@
-//! Requests of administration on organisation 1.
+//! Requests of the first administrator of organisation 1.
 
 use crate::line::first_of;
 use std::alloc::{AllocError, Global};
 use ut_admin::administer;
 use ut_keeper::{Draft, MemoryKeeper};
 use ut_keys::StoreFail;
-use ut_model::{Reply, Route};
+use ut_model::{Caller, Reply, Route, first_user_id};
 use ut_stands::Judged;
 use ut_value::Text;
+
+// 2023-11-14T22:13:20Z.
+const NOW: u64 = 1_700_000_000;
+
+fn administrator() -> Caller {
+    Caller {
+        org: 1,
+        user: first_user_id(),
+        admin: true,
+    }
+}
 
 // A request is made whole, or changes nothing.
 fn reply_to(
@@ -17,7 +28,14 @@ fn reply_to(
     body: &str,
 ) -> Result<Reply, StoreFail> {
     let mut draft = Draft::new(alloc, keeper);
-    match administer(alloc, &mut draft, 1, route, body.as_bytes())? {
+    match administer(
+        alloc,
+        &mut draft,
+        &administrator(),
+        NOW,
+        route,
+        body.as_bytes(),
+    )? {
         Judged::Changed(reply) => {
             draft.commit(alloc)?;
             Ok(reply)
@@ -44,8 +62,8 @@ fn shown_reply(
     Ok(shown(alloc, &reply)?)
 }
 
-/// The status and the body of the reply to a request: of a new object, field or role its body, and of another default access
-/// the object and the body.
+/// The status and the body of the reply to a request: of a new object, field or role its body, and of another default access and of
+/// a new record the object and the body.
 pub(crate) fn answer(
     alloc: Global,
     keeper: &mut MemoryKeeper,
@@ -60,6 +78,11 @@ pub(crate) fn answer(
             let (object, body) = first_of(arguments);
             let object = Text::from_str(alloc, object)?;
             shown_reply(alloc, keeper, &Route::SetObject { object }, body)
+        }
+        "create" => {
+            let (object, body) = first_of(arguments);
+            let object = Text::from_str(alloc, object)?;
+            shown_reply(alloc, keeper, &Route::Create { object }, body)
         }
         _ => Ok(String::from_str(alloc, "no such call")?),
     }

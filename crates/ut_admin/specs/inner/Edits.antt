@@ -8,18 +8,25 @@ use Rattle.ut_keys.specs.declared.fail.StoreFail.TheVariants.{Damaged, Memory}
 use Rattle.ut_model.specs.declared.refusal.Refusal.{Refusal}
 use Rattle.ut_model.specs.declared.refusal.Refusal.TheVariants.{BodyForm}
 use Rattle.ut_model.specs.declared.reply.Reply.{Reply}
+use Rattle.ut_model.specs.declared.route.Route.{Route}
+use Rattle.ut_model.specs.declared.route.Route.TheVariants.{Create}
 use Rattle.ut_model.specs.Paths.{Asked}
-use Rattle.ut_model.specs.Replies.{json_reply}
+use Rattle.ut_model.specs.Replies.{json_reply, made_members}
 use Rattle.ut_model.specs.Requests.{Request}
+use Rattle.ut_model.specs.RowsJson.{object_json}
 use Rattle.ut_model.specs.Step.{refusal_reply}
 use Rattle.ut_model.specs.Tenant.{Tenant}
-use Rattle.ut_model.specs.Verdict.{Verdict, done}
+use Rattle.ut_model.specs.Verdict.{Done, Verdict, done, made_new}
 use Rattle.ut_stands.specs.Local.{StandsFor, StandsIn}
 use Rattle.ut_stands.specs.Plan.{OrgPlan}
 use Rattle.ut_stands.specs.declared.fail.EditFail.{EditFail}
 use Rattle.ut_stands.specs.declared.fail.EditFail.TheVariants.{Refused, Store}
 use Rattle.ut_stands.specs.declared.judged.Judged.{Judged}
 use Rattle.ut_stands.specs.declared.judged.Judged.TheVariants.{Changed, Same}
+use Rattle.ut_admin.specs.declared.answer.Answer.{Answer}
+use Rattle.ut_admin.specs.declared.answer.Answer.TheVariants as answer
+
+-- ---- bodies
 
 -- a body that isn't of its form is refused
 abbrev pub form_of : {X : Type 0} → Result (Option X) AllocError → Result X EditFail
@@ -37,19 +44,48 @@ Asks make request (Err (Store e)) = e ≡ Memory
 abbrev pub KeepsRefused : Tenant → Verdict → Type 0
 KeepsRefused t v = (r : Refusal) → v.answer ≡ Err r → v.tenant ≡ t
 
+-- ---- answers
+
+-- an answer, as the verdict calls it
+abbrev pub answer_of : Answer → Done
+answer_of answer.Done = done
+answer_of (answer.Made id) = made_new id
+
+-- what an edit answers, seen by view; or why it isn't made
+abbrev pub seen : {X : Type 0} → (X → Answer) → Result X EditFail → Result Answer EditFail
+seen view (Ok x) = Ok (view x)
+seen view (Err e) = Err e
+
+-- an answer to a request of this route: a new record has an id
+abbrev pub IsAnswerTo : Route → Answer → Type 0
+IsAnswerTo (Create object) answer.Done = ⊥
+IsAnswerTo (Create object) (answer.Made id) = Unit {0}
+IsAnswerTo _ answer.Done = Unit {0}
+IsAnswerTo _ (answer.Made id) = ⊥
+
+-- ---- edits
+
 -- an edit of the organisation with this number by its verdict, which changes nothing where it refuses
-abbrev pub EditsTo : (org : ℕ) → Tenant → Verdict → Tables → Result (Unit {0}) EditFail → Type 0
-EditsTo org t v after (Ok x) = (v.answer ≡ Ok done) × StandsFor org after (Some v.tenant)
+abbrev pub EditsTo : (org : ℕ) → Tenant → Verdict → Tables → Result Answer EditFail → Type 0
+EditsTo org t v after (Ok x) = (v.answer ≡ Ok (answer_of x)) × StandsFor org after (Some v.tenant)
 EditsTo org t v after (Err (Refused r)) = (v.answer ≡ Err r) × (v.tenant ≡ t)
 EditsTo org t v after (Err (Store e)) = e ≢ Damaged
 
--- the same over these tables, of which those came: whatever they have, no row of others changes
-pub record EditsFrom (org : ℕ) (verdict : Asked → Verdict) (m after : Tables) (result : Result (Unit {0}) EditFail) : Type 0 where
+-- the same over these tables, of which those came: whatever they have, no row of others changes; and it is so for such a one as
+-- asks
+pub record EditsFrom (org : ℕ) (asks : Asked → Type 0) (verdict : Asked → Verdict) (m after : Tables) (result : Result Answer EditFail) : Type 0 where
   pub others : OthersStay org m after result
-  pub edited : (q : OrgPlan) (a : Asked) → StandsIn org q m (Some a.tenant) → EditsTo org a.tenant (verdict a) after result
+  pub edited : (q : OrgPlan) (a : Asked) → StandsIn org q m (Some a.tenant) → asks a → EditsTo org a.tenant (verdict a) after result
 
--- the reply to an edit: 204, the refusal, or none where the work on the tables stopped
-abbrev pub reply_to : Result (Unit {0}) EditFail → Result (Judged Reply) StoreFail
-reply_to (Ok x) = Ok (Changed (json_reply 204 []))
+-- ---- replies
+
+-- the reply that an edit was made: 204, or 201 with the id of what is new
+abbrev pub reply_made : Answer → Reply
+reply_made answer.Done = json_reply 204 []
+reply_made (answer.Made id) = json_reply 201 (object_json (made_members id))
+
+-- the reply to an edit: of its answer, the refusal, or none where the work on the tables stopped
+abbrev pub reply_to : Result Answer EditFail → Result (Judged Reply) StoreFail
+reply_to (Ok x) = Ok (Changed (reply_made x))
 reply_to (Err (Refused r)) = Ok (Same (refusal_reply r))
 reply_to (Err (Store e)) = Err e

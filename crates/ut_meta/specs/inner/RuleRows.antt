@@ -2,7 +2,7 @@
 -- reaches these words.
 -- Source: C. D. Weissman and S. Bobrowski, "The Design of the Force.com Multitenant Internet Application Development
 -- Platform" (SIGMOD 2009): rules are rows of tables too.
-use Rattle.std.specs.Prelude.{◌≡◌, ◌&&◌, ℕ, ◌+◌, suc, Bool, false, IsTrue, List, [], ◌∷◌, length, map, Option, Some, None, Result, Ok, Err}
+use Rattle.std.specs.Prelude.{◌≡◌, ◌&&◌, ℕ, ◌+◌, suc, Bool, IsTrue, List, [], ◌∷◌, length, map, Option, Some, None, Result, Ok, Err}
 use Rattle.std.specs.List.{list_any}
 use Rattle.ut_edits.specs.Edits.{FailsBy}
 use Rattle.ut_edits.specs.Rows.{change_to}

@@ -8,7 +8,6 @@ ghost use Rattle.ut_keys.specs.declared.fail.StoreFail.TheVariants.{Keeper, Memo
 ghost use Rattle.ut_keys.specs.Forms.{FitsForm};
 ghost use Rattle.ut_keys.specs.Rows.{object_form};
 ghost use Rattle.ut_meta.specs.inner.RuleRows.{AcceptsRule, FitRuleRows, IsSpelledRule, ReadsFor, changes_of, rows_by};
-ghost use Rattle.ut_meta.specs.Judging.{NamesLayout};
 ghost use Rattle.ut_model.specs.Tenant.{Tenant};
 ghost use Rattle.ut_model.specs.ValidationRules.{add_validation_rule};
 ghost use Rattle.ut_model.specs.Verdict.{Verdict, done};
@@ -22,17 +21,14 @@ ghost use Rattle.ut_stands.specs.Plan.{OrgPlan};
 
 use crate::edits::copies::copy_of_text;
 use crate::judging::judge_rule;
-use crate::rules::invalid_type;
 use std::alloc::{AllocError, Global};
-use ut_edits::{Decided, Edit, put_row};
+use ut_edits::{Decided, Edit, layout_there, put_row};
 use ut_grammar::characters;
 use ut_keeper::{Draft, Keeper};
 use ut_keys::{ObjectRow, StoreFail, ValidationRow};
 use ut_model::NewValidationRule;
 use ut_sound::objects_sound;
-use ut_stands::{
-    EditFail, Layout, call_laws, layout_named, metadata_laws, object_there, rule_row, slot_laws,
-};
+use ut_stands::{EditFail, Layout, call_laws, metadata_laws, object_there, rule_row, slot_laws};
 use ut_value::{Bytes, Text};
 
 // What a new validation rule is judged by, as it was read: of the object that is to have it.
@@ -71,24 +67,6 @@ fn lower_bytes(alloc: Global, name: &str) -> Result<Bytes, AllocError>
         lower.push(c.to_ascii_lowercase())?;
     }
     bytes_of(alloc, lower.as_str())
-}
-
-// The layout of the object with this name, without which nothing is edited.
-fn layout_there<K: Keeper>(
-    alloc: Global,
-    draft: &mut Draft<'_, K>,
-    org: u32,
-    name: &Text,
-) -> Result<Layout, EditFail>
-    ensures names { DraftTells K.state draft.old draft.new
-        → (q : OrgPlan) (t : Tenant) → StandsIn org q (tables_of K.state draft.old) (Some t) → NamesLayout org q t name.now result }
-    ensures calls { Calls K.state 0 (ended_edit result) draft.old draft.new }
-{
-    call_laws::<K>();
-    match layout_named(alloc, draft, org, name.as_str())? {
-        Some(layout) => Ok(layout),
-        None => Err(EditFail::Refused(invalid_type(alloc, name)?)),
-    }
 }
 
 // What a new rule of the object is judged by, which is read.

@@ -11,8 +11,8 @@ ghost use Rattle.ut_stands.specs.Calls.{ended_edit, fell};
 ghost use Rattle.ut_value.specs.declared.sharing.Access.{Access};
 
 use crate::references::is_master;
-use crate::rules::invalid_type;
 use std::alloc::Global;
+use ut_edits::invalid_type;
 use ut_model::Refusal;
 use ut_stands::{EditFail, FieldPlace, Layout};
 use ut_value::Text;

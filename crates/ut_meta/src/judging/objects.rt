@@ -14,8 +14,9 @@ ghost use Rattle.ut_model.specs.Tenant.{Tenant};
 
 use crate::members::{RulesByMember, in_body_order, is_member};
 use crate::relations::{detail_level, layout_named, relationship_taken};
-use crate::rules::{bad_name, invalid_type, name_taken, over_limit};
+use crate::rules::{bad_name, name_taken};
 use std::alloc::{AllocError, Global};
+use ut_edits::{invalid_type, over_limit};
 use ut_model::{Limit, NewMaster, NewObject, Refusal, is_child_name, is_custom_name, same_name};
 use ut_stands::Layout;
 use ut_value::Text;

@@ -13,8 +13,9 @@ ghost use Rattle.ut_model.specs.Tenant.{Tenant};
 ghost use Rattle.ut_model.specs.ValidationRules.{new_validation_rule_rules};
 ghost use Rattle.ut_rules.specs.Objects.{object_of_layout};
 
-use crate::rules::{bad_name, name_taken, over_limit};
+use crate::rules::{bad_name, name_taken};
 use std::alloc::{AllocError, Global};
+use ut_edits::over_limit;
 use ut_formula::Formula;
 use ut_grammar::ParseFail;
 use ut_keys::StoreFail;

@@ -1,90 +1,175 @@
-use Rattle.std.proofs.Common.{List, ℕ, ap, refl}
+use Rattle.std.proofs.Common.{List, ℕ, ap, arith, refl}
 use Rattle.std.specs.Str.{chars}
 use Rattle.ut_keeper.specs.Draft.{tables_of}
 use Rattle.ut_step.specs.Built.{built_request}
 use Rattle.ut_model.specs.Metadata.{set_access}
 use Rattle.ut_model.specs.Requests.{adds_field, adds_object, adds_validation_rule, sets_object}
+use Rattle.ut_model.specs.Verdict.{done}
 use Rattle.ut_model.specs.declared.route.Route.TheVariants.{AddField, AddObject, AddValidationRule, SetObject}
-use Rattle.ut_admin.proofs.Asked.{edits_asked, edits_none, edits_unbuilt, fit, none_drafts, returned}
+use Rattle.ut_admin.specs.Administration.{Administers}
+use Rattle.ut_admin.specs.declared.answer.Answer.TheVariants as answer
+use Rattle.ut_admin.proofs.Asked.{answers_none, answers_so, drafts_seen, edits_asked, edits_none, edits_unbuilt, fit, none_drafts, returned}
 use Rattle.ut_admin.proofs.edits.edit.Goals as goal
 
 -- ---- no edit
 
 pub returns-in_err-new-in-AddObject-clause-what : goal.returns-in_err-new-in-AddObject-clause-what
 returns-in_err-new-in-AddObject-clause-what g c told =
-    edits_none adds_object c.args.org c.args.route.now AddObject c.args.body.now c.in_err-new-in-AddObject.field-0.0 (tables_of g.K.Keeper.state c.args.draft.now) c.from_residual.result c.in-AddObject.is
-    (returned c.from_residual.result c.in_err-new-in-AddObject.field-0.0 c.from_residual.ensures) c.in_err-new-in-AddObject.ensures
+    let caller = c.args.caller.now in
+    let fail = c.in_err-new-in-AddObject.field-0.0 in
+    edits_none adds_object caller.org (Administers caller c.args.now) c.args.route.now AddObject c.args.body.now fail (tables_of g.K.Keeper.state c.args.draft.now) c.from_residual.result c.in-AddObject.is
+    (returned c.from_residual.result fail c.from_residual.ensures) c.in_err-new-in-AddObject.ensures
+
+pub returns-in_err-new-in-AddObject-clause-form : goal.returns-in_err-new-in-AddObject-clause-form
+returns-in_err-new-in-AddObject-clause-form g c = answers_none c.args.route.now c.in_err-new-in-AddObject.field-0.0 c.from_residual.result (returned c.from_residual.result c.in_err-new-in-AddObject.field-0.0 c.from_residual.ensures)
 
 pub returns-in_err-new-in-AddObject-clause-makes : goal.returns-in_err-new-in-AddObject-clause-makes
 returns-in_err-new-in-AddObject-clause-makes g c =
     let laws = c.call_laws.ensures in
-    none_drafts g.K.Keeper.state (record { weaker = laws.weaker; none = laws.none; makes = laws.makes; most = laws.most }) adds_object (built_request AddObject c.args.body.now) c.in_err-new-in-AddObject.field-0.0 c.from_residual.result c.args.draft.now
-    (returned c.from_residual.result c.in_err-new-in-AddObject.field-0.0 c.from_residual.ensures) c.in_err-new-in-AddObject.ensures
+    let fail = c.in_err-new-in-AddObject.field-0.0 in
+    none_drafts g.K.Keeper.state (record { weaker = laws.weaker; none = laws.none; makes = laws.makes; most = laws.most }) adds_object (built_request AddObject c.args.body.now) fail c.from_residual.result c.args.draft.now
+    (returned c.from_residual.result fail c.from_residual.ensures) c.in_err-new-in-AddObject.ensures
 
-pub returns-in_err-access-in-SetObject-clause-what :
-    goal.returns-in_err-access-in-SetObject-clause-what
+pub returns-in_err-access-in-SetObject-clause-what : goal.returns-in_err-access-in-SetObject-clause-what
 returns-in_err-access-in-SetObject-clause-what g c told =
     let object = c.in-SetObject.object in
+    let caller = c.args.caller.now in
     let fail = c.in_err-access-in-SetObject.field-0.0 in
-    let result = c.from_residual-in_err-access-in-SetObject.result in
-    edits_none (sets_object object) c.args.org c.args.route.now (SetObject object) c.args.body.now fail (tables_of g.K.Keeper.state c.args.draft.now) result c.in-SetObject.is
-    (returned result fail c.from_residual-in_err-access-in-SetObject.ensures) (c.in_err-access-in-SetObject.ensures object)
+    edits_none (sets_object object) caller.org (Administers caller c.args.now) c.args.route.now (SetObject object) c.args.body.now fail (tables_of g.K.Keeper.state c.args.draft.now) c.from_residual-in_err-access-in-SetObject.result c.in-SetObject.is
+    (returned c.from_residual-in_err-access-in-SetObject.result fail c.from_residual-in_err-access-in-SetObject.ensures) (c.in_err-access-in-SetObject.ensures object)
 
-pub returns-in_err-access-in-SetObject-clause-makes :
-    goal.returns-in_err-access-in-SetObject-clause-makes
+pub returns-in_err-access-in-SetObject-clause-form : goal.returns-in_err-access-in-SetObject-clause-form
+returns-in_err-access-in-SetObject-clause-form g c = answers_none c.args.route.now c.in_err-access-in-SetObject.field-0.0 c.from_residual-in_err-access-in-SetObject.result (returned c.from_residual-in_err-access-in-SetObject.result c.in_err-access-in-SetObject.field-0.0 c.from_residual-in_err-access-in-SetObject.ensures)
+
+pub returns-in_err-access-in-SetObject-clause-makes : goal.returns-in_err-access-in-SetObject-clause-makes
 returns-in_err-access-in-SetObject-clause-makes g c =
-    let laws = c.call_laws.ensures in
     let object = c.in-SetObject.object in
+    let laws = c.call_laws.ensures in
     let fail = c.in_err-access-in-SetObject.field-0.0 in
-    let result = c.from_residual-in_err-access-in-SetObject.result in
-    none_drafts g.K.Keeper.state (record { weaker = laws.weaker; none = laws.none; makes = laws.makes; most = laws.most }) (sets_object object) (built_request (SetObject object) c.args.body.now) fail result c.args.draft.now
-    (returned result fail c.from_residual-in_err-access-in-SetObject.ensures) (c.in_err-access-in-SetObject.ensures object)
+    none_drafts g.K.Keeper.state (record { weaker = laws.weaker; none = laws.none; makes = laws.makes; most = laws.most }) (sets_object object) (built_request (SetObject object) c.args.body.now) fail c.from_residual-in_err-access-in-SetObject.result c.args.draft.now
+    (returned c.from_residual-in_err-access-in-SetObject.result fail c.from_residual-in_err-access-in-SetObject.ensures) (c.in_err-access-in-SetObject.ensures object)
+
+pub returns-in_err-new-in-AddField-clause-what : goal.returns-in_err-new-in-AddField-clause-what
+returns-in_err-new-in-AddField-clause-what g c told =
+    let caller = c.args.caller.now in
+    let fail = c.in_err-new-in-AddField.field-0.0 in
+    edits_none adds_field caller.org (Administers caller c.args.now) c.args.route.now AddField c.args.body.now fail (tables_of g.K.Keeper.state c.args.draft.now) c.from_residual-in_err-new-in-AddField.result c.in-AddField.is
+    (returned c.from_residual-in_err-new-in-AddField.result fail c.from_residual-in_err-new-in-AddField.ensures) c.in_err-new-in-AddField.ensures
+
+pub returns-in_err-new-in-AddField-clause-form : goal.returns-in_err-new-in-AddField-clause-form
+returns-in_err-new-in-AddField-clause-form g c = answers_none c.args.route.now c.in_err-new-in-AddField.field-0.0 c.from_residual-in_err-new-in-AddField.result (returned c.from_residual-in_err-new-in-AddField.result c.in_err-new-in-AddField.field-0.0 c.from_residual-in_err-new-in-AddField.ensures)
+
+pub returns-in_err-new-in-AddField-clause-makes : goal.returns-in_err-new-in-AddField-clause-makes
+returns-in_err-new-in-AddField-clause-makes g c =
+    let laws = c.call_laws.ensures in
+    let fail = c.in_err-new-in-AddField.field-0.0 in
+    none_drafts g.K.Keeper.state (record { weaker = laws.weaker; none = laws.none; makes = laws.makes; most = laws.most }) adds_field (built_request AddField c.args.body.now) fail c.from_residual-in_err-new-in-AddField.result c.args.draft.now
+    (returned c.from_residual-in_err-new-in-AddField.result fail c.from_residual-in_err-new-in-AddField.ensures) c.in_err-new-in-AddField.ensures
+
+pub returns-in_err-new-in-AddValidationRule-clause-what : goal.returns-in_err-new-in-AddValidationRule-clause-what
+returns-in_err-new-in-AddValidationRule-clause-what g c told =
+    let caller = c.args.caller.now in
+    let fail = c.in_err-new-in-AddValidationRule.field-0.0 in
+    edits_none adds_validation_rule caller.org (Administers caller c.args.now) c.args.route.now AddValidationRule c.args.body.now fail (tables_of g.K.Keeper.state c.args.draft.now) c.from_residual-in_err-new-in-AddValidationRule.result c.in-AddValidationRule.is
+    (returned c.from_residual-in_err-new-in-AddValidationRule.result fail c.from_residual-in_err-new-in-AddValidationRule.ensures) c.in_err-new-in-AddValidationRule.ensures
+
+pub returns-in_err-new-in-AddValidationRule-clause-form : goal.returns-in_err-new-in-AddValidationRule-clause-form
+returns-in_err-new-in-AddValidationRule-clause-form g c = answers_none c.args.route.now c.in_err-new-in-AddValidationRule.field-0.0 c.from_residual-in_err-new-in-AddValidationRule.result (returned c.from_residual-in_err-new-in-AddValidationRule.result c.in_err-new-in-AddValidationRule.field-0.0 c.from_residual-in_err-new-in-AddValidationRule.ensures)
+
+pub returns-in_err-new-in-AddValidationRule-clause-makes : goal.returns-in_err-new-in-AddValidationRule-clause-makes
+returns-in_err-new-in-AddValidationRule-clause-makes g c =
+    let laws = c.call_laws.ensures in
+    let fail = c.in_err-new-in-AddValidationRule.field-0.0 in
+    none_drafts g.K.Keeper.state (record { weaker = laws.weaker; none = laws.none; makes = laws.makes; most = laws.most }) adds_validation_rule (built_request AddValidationRule c.args.body.now) fail c.from_residual-in_err-new-in-AddValidationRule.result c.args.draft.now
+    (returned c.from_residual-in_err-new-in-AddValidationRule.result fail c.from_residual-in_err-new-in-AddValidationRule.ensures) c.in_err-new-in-AddValidationRule.ensures
 
 -- ---- edits
 
 pub returns-in_ok-new-in-AddObject-clause-what : goal.returns-in_ok-new-in-AddObject-clause-what
 returns-in_ok-new-in-AddObject-clause-what g c told =
-    let new = c.in_ok-new-in-AddObject.new in
+    let caller = c.args.caller.now in
     let body = c.args.body.now in
+    let new = c.in_ok-new-in-AddObject.new in
     let asked = c.in_ok-new-in-AddObject.ensures in
-    edits_asked c.args.org c.args.route.now AddObject body (adds_object new) _ _ _ (tables_of g.K.Keeper.state c.args.draft.now) (tables_of g.K.Keeper.state c.make_edit.new.draft) c.make_edit.result c.in-AddObject.is asked (λ a. refl)
-    (λ a. c.refusal_laws.ensures.refused a (adds_object new)) (λ a sound. fit c.requests_fit.ensures.request a AddObject body (adds_object new) sound asked) (c.make_edit.ensures.what told)
+    edits_asked (λ _. answer.Done) (λ _. done) (λ _. refl) caller.org (Administers caller c.args.now) c.args.route.now AddObject body (adds_object new) _ _ _ (tables_of g.K.Keeper.state c.args.draft.now) (tables_of g.K.Keeper.state c.make_edit.new.draft) c.make_edit.result c.done.result
+    c.in-AddObject.is asked c.done.ensures (λ a. refl) (λ a. c.refusal_laws.ensures.refused a (adds_object new)) (λ a sound _. fit c.requests_fit.ensures.request a AddObject body (adds_object new) sound asked) (c.make_edit.ensures.what told)
 
-pub returns-in_ok-access-in-SetObject-clause-what :
-    goal.returns-in_ok-access-in-SetObject-clause-what
+pub returns-in_ok-new-in-AddObject-clause-form : goal.returns-in_ok-new-in-AddObject-clause-form
+returns-in_ok-new-in-AddObject-clause-form g c = answers_so (λ _. answer.Done) c.args.route.now AddObject c.make_edit.result c.done.result c.in-AddObject.is c.done.ensures (λ _. tt)
+
+pub returns-in_ok-new-in-AddObject-clause-makes : goal.returns-in_ok-new-in-AddObject-clause-makes
+returns-in_ok-new-in-AddObject-clause-makes g c =
+    let laws = c.call_laws.ensures in
+    drafts_seen g.K.Keeper.state (record { weaker = laws.weaker; none = laws.none; makes = laws.makes; most = laws.most }) (λ _. answer.Done) _ _ _ c.args.draft.now c.make_edit.new.draft c.make_edit.result c.done.result c.done.ensures
+    (omega arith) (omega arith) (omega arith) c.make_edit.ensures.makes
+
+pub returns-in_ok-access-in-SetObject-clause-what : goal.returns-in_ok-access-in-SetObject-clause-what
 returns-in_ok-access-in-SetObject-clause-what g c told =
+    let caller = c.args.caller.now in
+    let body = c.args.body.now in
     let object = c.in-SetObject.object in
     let access = c.in_ok-access-in-SetObject.access in
-    let body = c.args.body.now in
-    let before = tables_of g.K.Keeper.state c.args.draft.now in
-    let after = tables_of g.K.Keeper.state c.make_edit-in-SetObject.new.draft in
     let asked = c.in_ok-access-in-SetObject.ensures object in
-    edits_asked c.args.org c.args.route.now (SetObject object) body (sets_object object access) _ _ _ before after c.make_edit-in-SetObject.result c.in-SetObject.is asked
-    (λ a. ap (λ (name : List ℕ). set_access a.tenant name access) c.as_str-object.ensures.characters)
-    (λ a. c.refusal_laws.ensures.refused a (sets_object object access)) (λ a sound. fit c.requests_fit.ensures.request a (SetObject object) body (sets_object object access) sound asked)
-    (c.make_edit-in-SetObject.ensures.what told)
+    edits_asked (λ _. answer.Done) (λ _. done) (λ _. refl) caller.org (Administers caller c.args.now) c.args.route.now (SetObject object) body (sets_object object access) _ _ _ (tables_of g.K.Keeper.state c.args.draft.now) (tables_of g.K.Keeper.state c.make_edit-in-SetObject.new.draft) c.make_edit-in-SetObject.result c.done-in-SetObject.result
+    c.in-SetObject.is asked c.done-in-SetObject.ensures (λ a. ap (λ (name : List ℕ). set_access a.tenant name access) c.as_str-object.ensures.characters) (λ a. c.refusal_laws.ensures.refused a (sets_object object access)) (λ a sound _. fit c.requests_fit.ensures.request a (SetObject object) body (sets_object object access) sound asked) (c.make_edit-in-SetObject.ensures.what told)
+
+pub returns-in_ok-access-in-SetObject-clause-form : goal.returns-in_ok-access-in-SetObject-clause-form
+returns-in_ok-access-in-SetObject-clause-form g c = answers_so (λ _. answer.Done) c.args.route.now (SetObject c.in-SetObject.object) c.make_edit-in-SetObject.result c.done-in-SetObject.result c.in-SetObject.is c.done-in-SetObject.ensures (λ _. tt)
+
+pub returns-in_ok-access-in-SetObject-clause-makes : goal.returns-in_ok-access-in-SetObject-clause-makes
+returns-in_ok-access-in-SetObject-clause-makes g c =
+    let laws = c.call_laws.ensures in
+    drafts_seen g.K.Keeper.state (record { weaker = laws.weaker; none = laws.none; makes = laws.makes; most = laws.most }) (λ _. answer.Done) _ _ _ c.args.draft.now c.make_edit-in-SetObject.new.draft c.make_edit-in-SetObject.result c.done-in-SetObject.result c.done-in-SetObject.ensures
+    (omega arith) (omega arith) (omega arith) c.make_edit-in-SetObject.ensures.makes
 
 pub returns-in_ok-new-in-AddField-clause-what : goal.returns-in_ok-new-in-AddField-clause-what
 returns-in_ok-new-in-AddField-clause-what g c told =
+    let caller = c.args.caller.now in
+    let body = c.args.body.now in
     let new = c.in_ok-new-in-AddField.new in
-    let body = c.args.body.now in
     let asked = c.in_ok-new-in-AddField.ensures in
-    edits_asked c.args.org c.args.route.now AddField body (adds_field new) _ _ _ (tables_of g.K.Keeper.state c.args.draft.now) (tables_of g.K.Keeper.state c.make_edit-in-AddField.new.draft) c.make_edit-in-AddField.result c.in-AddField.is asked (λ a. refl)
-    (λ a. c.refusal_laws.ensures.refused a (adds_field new)) (λ a sound. fit c.requests_fit.ensures.request a AddField body (adds_field new) sound asked) (c.make_edit-in-AddField.ensures.what told)
+    edits_asked (λ _. answer.Done) (λ _. done) (λ _. refl) caller.org (Administers caller c.args.now) c.args.route.now AddField body (adds_field new) _ _ _ (tables_of g.K.Keeper.state c.args.draft.now) (tables_of g.K.Keeper.state c.make_edit-in-AddField.new.draft) c.make_edit-in-AddField.result c.done-in-AddField.result
+    c.in-AddField.is asked c.done-in-AddField.ensures (λ a. refl) (λ a. c.refusal_laws.ensures.refused a (adds_field new)) (λ a sound _. fit c.requests_fit.ensures.request a AddField body (adds_field new) sound asked) (c.make_edit-in-AddField.ensures.what told)
 
-pub returns-in_ok-new-in-AddValidationRule-clause-what :
-    goal.returns-in_ok-new-in-AddValidationRule-clause-what
+pub returns-in_ok-new-in-AddField-clause-form : goal.returns-in_ok-new-in-AddField-clause-form
+returns-in_ok-new-in-AddField-clause-form g c = answers_so (λ _. answer.Done) c.args.route.now AddField c.make_edit-in-AddField.result c.done-in-AddField.result c.in-AddField.is c.done-in-AddField.ensures (λ _. tt)
+
+pub returns-in_ok-new-in-AddField-clause-makes : goal.returns-in_ok-new-in-AddField-clause-makes
+returns-in_ok-new-in-AddField-clause-makes g c =
+    let laws = c.call_laws.ensures in
+    drafts_seen g.K.Keeper.state (record { weaker = laws.weaker; none = laws.none; makes = laws.makes; most = laws.most }) (λ _. answer.Done) _ _ _ c.args.draft.now c.make_edit-in-AddField.new.draft c.make_edit-in-AddField.result c.done-in-AddField.result c.done-in-AddField.ensures
+    (omega arith) (omega arith) (omega arith) c.make_edit-in-AddField.ensures.makes
+
+pub returns-in_ok-new-in-AddValidationRule-clause-what : goal.returns-in_ok-new-in-AddValidationRule-clause-what
 returns-in_ok-new-in-AddValidationRule-clause-what g c told =
-    let new = c.in_ok-new-in-AddValidationRule.new in
+    let caller = c.args.caller.now in
     let body = c.args.body.now in
+    let new = c.in_ok-new-in-AddValidationRule.new in
     let asked = c.in_ok-new-in-AddValidationRule.ensures in
-    edits_asked c.args.org c.args.route.now AddValidationRule body (adds_validation_rule new) _ _ _ (tables_of g.K.Keeper.state c.args.draft.now) (tables_of g.K.Keeper.state c.make_edit-in-AddValidationRule.new.draft) c.make_edit-in-AddValidationRule.result c.in-AddValidationRule.is asked (λ a. refl)
-    (λ a. c.refusal_laws.ensures.refused a (adds_validation_rule new)) (λ a sound. fit c.requests_fit.ensures.request a AddValidationRule body (adds_validation_rule new) sound asked) (c.make_edit-in-AddValidationRule.ensures.what told)
+    edits_asked (λ _. answer.Done) (λ _. done) (λ _. refl) caller.org (Administers caller c.args.now) c.args.route.now AddValidationRule body (adds_validation_rule new) _ _ _ (tables_of g.K.Keeper.state c.args.draft.now) (tables_of g.K.Keeper.state c.make_edit-in-AddValidationRule.new.draft) c.make_edit-in-AddValidationRule.result c.done-in-AddValidationRule.result
+    c.in-AddValidationRule.is asked c.done-in-AddValidationRule.ensures (λ a. refl) (λ a. c.refusal_laws.ensures.refused a (adds_validation_rule new)) (λ a sound _. fit c.requests_fit.ensures.request a AddValidationRule body (adds_validation_rule new) sound asked) (c.make_edit-in-AddValidationRule.ensures.what told)
+
+pub returns-in_ok-new-in-AddValidationRule-clause-form : goal.returns-in_ok-new-in-AddValidationRule-clause-form
+returns-in_ok-new-in-AddValidationRule-clause-form g c = answers_so (λ _. answer.Done) c.args.route.now AddValidationRule c.make_edit-in-AddValidationRule.result c.done-in-AddValidationRule.result c.in-AddValidationRule.is c.done-in-AddValidationRule.ensures (λ _. tt)
+
+pub returns-in_ok-new-in-AddValidationRule-clause-makes : goal.returns-in_ok-new-in-AddValidationRule-clause-makes
+returns-in_ok-new-in-AddValidationRule-clause-makes g c =
+    let laws = c.call_laws.ensures in
+    drafts_seen g.K.Keeper.state (record { weaker = laws.weaker; none = laws.none; makes = laws.makes; most = laws.most }) (λ _. answer.Done) _ _ _ c.args.draft.now c.make_edit-in-AddValidationRule.new.draft c.make_edit-in-AddValidationRule.result c.done-in-AddValidationRule.result c.done-in-AddValidationRule.ensures
+    (omega arith) (omega arith) (omega arith) c.make_edit-in-AddValidationRule.ensures.makes
 
 -- ---- another route
 
 pub returns-in_ok-from_str-in_default-clause-what : goal.returns-in_ok-from_str-in_default-clause-what
 unfolding chars
 returns-in_ok-from_str-in_default-clause-what g c told =
-    edits_unbuilt c.args.org c.args.route.now c.args.body.now c.in_ok-from_str-in_default.field-0 (tables_of g.K.Keeper.state c.args.draft.now) c.in_default.not-AddObject
-    (λ object. c.in_default.not-SetObject object) c.in_default.not-AddField c.in_default.not-AddValidationRule c.in_ok-from_str-in_default.ensures
+    let caller = c.args.caller.now in
+    edits_unbuilt caller.org (Administers caller c.args.now) c.args.route.now c.args.body.now c.in_ok-from_str-in_default.field-0 (tables_of g.K.Keeper.state c.args.draft.now)
+    (record {
+      no_record = λ object. c.in_default.not-Create object;
+      no_object = c.in_default.not-AddObject;
+      no_access = λ object. c.in_default.not-SetObject object;
+      no_field = c.in_default.not-AddField;
+      no_rule = c.in_default.not-AddValidationRule;
+    })
+    c.in_ok-from_str-in_default.ensures

@@ -1,15 +1,20 @@
 use Rattle.ut_keeper.specs.Draft.{tables_of}
 use Rattle.ut_step.specs.Built.{built_request}
-use Rattle.ut_step.specs.Own.{request_changes, request_gone}
+use Rattle.ut_step.specs.Own.{edit_shown, request_changes, request_gone}
 use Rattle.ut_model.specs.RequestOf.{verdict_or}
+use Rattle.ut_admin.specs.Administration.{Administers}
 use Rattle.ut_admin.proofs.Replied as replied
 use Rattle.ut_admin.proofs.requests.administer.Goals as goal
 
 pub returns-clause-what : goal.returns-clause-what
 returns-clause-what g c told =
-    replied.responds c.args.org (λ a. verdict_or a (built_request c.args.route.now c.args.body.now)) (tables_of g.K.Keeper.state c.args.draft.now) (tables_of g.K.Keeper.state c.edit-edited.new.draft) c.edit-edited.result c.reply_to.result
+    let caller = c.args.caller.now in
+    replied.responds caller.org (Administers caller c.args.now) (λ a. verdict_or a (built_request c.args.route.now c.args.body.now)) (tables_of g.K.Keeper.state c.args.draft.now) (tables_of g.K.Keeper.state c.edit-edited.new.draft) c.edit-edited.result c.reply_to.result
     c.reply_to.ensures.value (c.edit-edited.ensures.what told)
+
+pub returns-clause-form : goal.returns-clause-form
+returns-clause-form g c = c.reply_to.ensures.form c.args.route.now c.edit-edited.ensures.form
 
 pub returns-clause-drafts : goal.returns-clause-drafts
 returns-clause-drafts g c =
-    replied.drafts g.K.Keeper.state request_changes request_gone c.args.draft.now c.edit-edited.new.draft c.edit-edited.result c.reply_to.result c.reply_to.ensures.value c.edit-edited.ensures.makes
+    replied.drafts g.K.Keeper.state request_changes request_gone edit_shown c.args.draft.now c.edit-edited.new.draft c.edit-edited.result c.reply_to.result c.reply_to.ensures.value c.edit-edited.ensures.makes

@@ -1,6 +1,18 @@
-use Rattle.ut_pivot.proofs.Few.{made_few, made_gone, slot_few, slot_gone}
+use Rattle.ut_pivot.proofs.Converting.{converting}
+use Rattle.ut_pivot.proofs.Few.{changed_few, changed_gone, made_few, made_gone, slot_few, slot_gone}
 use Rattle.ut_pivot.proofs.NewRecord.{made_is}
+use Rattle.ut_pivot.proofs.TurnedRecord.{turned_is}
 use Rattle.ut_pivot.proofs.laws.pivot_laws.Goals as goal
 
 pub returns : goal.returns
-returns c = record { made = made_is c.data_laws.ensures.made; few = made_few; gone = made_gone; slot_few = slot_few; slot_gone = slot_gone }
+returns c = record {
+  made = made_is c.data_laws.ensures.made;
+  turned = turned_is c.data_laws.ensures.rewritten;
+  turned_few = changed_few;
+  turned_gone = changed_gone;
+  converting = converting;
+  few = made_few;
+  gone = made_gone;
+  slot_few = slot_few;
+  slot_gone = slot_gone;
+}

@@ -1,4 +1,4 @@
-use Rattle.std.proofs.Common.{[], rules}
+use Rattle.std.proofs.Common.{rules}
 use Rattle.std.proofs.lemmas.Result.{on_ok_weaker}
 use Rattle.ut_keys.specs.Keys.{Unique}
 use Rattle.ut_pivot.proofs.Turned.{turned_apart, turned_unique_fits}

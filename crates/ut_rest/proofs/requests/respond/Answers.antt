@@ -18,7 +18,7 @@ pub returns-in-Ok-To-clause-what : goal.returns-in-Ok-To-clause-what
 returns-in-Ok-To-clause-what g c told =
     let state = g.K.Keeper.state in
     let caller = c.args.caller.now in
-    subst (λ (r : Routed). Responds caller.org (IsAsking caller) (λ a. verdict_to a c.args.body.now r) (tables_of state c.args.draft.now) (tables_of state c.answer.new.draft) c.answer.result)
+    subst (λ (r : Routed). Responds caller.org (IsAsking caller c.args.now) (λ a. verdict_to a c.args.body.now r) (tables_of state c.args.draft.now) (tables_of state c.answer.new.draft) c.answer.result)
     (sym c.in-Ok-To.field-0-is ∙ c.in-Ok-To.ensures) (c.answer.ensures.what told)
 
 pub returns-in-Ok-To-clause-form : goal.returns-in-Ok-To-clause-form
@@ -30,9 +30,9 @@ pub returns-in-Ok-NotFound-clause-what : goal.returns-in-Ok-NotFound-clause-what
 returns-in-Ok-NotFound-clause-what g c told =
     let m = tables_of g.K.Keeper.state c.args.draft.now in
     let caller = c.args.caller.now in
-    subst (λ (r : Routed). Responds caller.org (IsAsking caller) (λ a. verdict_to a c.args.body.now r) m m c.unchanged.result)
+    subst (λ (r : Routed). Responds caller.org (IsAsking caller c.args.now) (λ a. verdict_to a c.args.body.now r) m m c.unchanged.result)
     (sym c.in-Ok-NotFound.field-0-is ∙ c.in-Ok-NotFound.ensures)
-    (read_responds caller.org (IsAsking caller) _ m m c.refuse.result c.unchanged.result c.unchanged.ensures
+    (read_responds caller.org (IsAsking caller c.args.now) _ m m c.refuse.result c.unchanged.result c.unchanged.ensures
     (λ p a s asking. refused_so a refusal.NotFound c.refuse.result c.refuse.ensures.value))
 
 pub returns-in-Ok-NotFound-clause-form : goal.returns-in-Ok-NotFound-clause-form
@@ -52,9 +52,9 @@ pub returns-in-Ok-NotAllowed-clause-what : goal.returns-in-Ok-NotAllowed-clause-
 returns-in-Ok-NotAllowed-clause-what g c told =
     let m = tables_of g.K.Keeper.state c.args.draft.now in
     let caller = c.args.caller.now in
-    subst (λ (r : Routed). Responds caller.org (IsAsking caller) (λ a. verdict_to a c.args.body.now r) m m c.unchanged-in-Ok-NotAllowed.result)
+    subst (λ (r : Routed). Responds caller.org (IsAsking caller c.args.now) (λ a. verdict_to a c.args.body.now r) m m c.unchanged-in-Ok-NotAllowed.result)
     (sym c.in-Ok-NotAllowed.field-0-is ∙ c.in-Ok-NotAllowed.ensures)
-    (read_responds caller.org (IsAsking caller) _ m m c.refuse-in-Ok-NotAllowed.result c.unchanged-in-Ok-NotAllowed.result c.unchanged-in-Ok-NotAllowed.ensures
+    (read_responds caller.org (IsAsking caller c.args.now) _ m m c.refuse-in-Ok-NotAllowed.result c.unchanged-in-Ok-NotAllowed.result c.unchanged-in-Ok-NotAllowed.ensures
     (λ p a s asking. refused_so a refusal.MethodNotAllowed c.refuse-in-Ok-NotAllowed.result c.refuse-in-Ok-NotAllowed.ensures.value))
 
 pub returns-in-Ok-NotAllowed-clause-form : goal.returns-in-Ok-NotAllowed-clause-form

@@ -1,9 +1,9 @@
-use Rattle.std.proofs.Common.{◌≡◌, ◌∙◌, ℕ, ◌+◌, ◌∷◌, [], List, false, Some, None, refl, sym, ap}
+use Rattle.std.proofs.Common.{◌∙◌, ℕ, ◌+◌, ◌∷◌, [], List, false, sym, ap}
 use Rattle.ut_rules.specs.Objects.{object_of_layout}
 use Rattle.ut_meta.specs.inner.RuleRows.{busy_by}
 use Rattle.ut_model.specs.declared.limit.Limit.TheVariants as limit
 use Rattle.ut_model.specs.RuleFormulas.{formula_of, malformed}
-use Rattle.ut_model.specs.Rules.{Rule, first_refusal, over_limit}
+use Rattle.ut_model.specs.Rules.{first_refusal, over_limit}
 use Rattle.ut_meta.proofs.JudgedRules.{count_decides, formula_refused}
 use Rattle.ut_meta.proofs.judging.validation.judge_rule.Goals as goal
 

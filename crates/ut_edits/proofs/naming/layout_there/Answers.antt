@@ -1,7 +1,7 @@
 use Rattle.std.specs.Str.{chars}
 use Rattle.ut_keeper.specs.Draft.{tables_of}
-use Rattle.ut_meta.proofs.RuleStands.{layout_absent, layout_present}
-use Rattle.ut_meta.proofs.edits.validation.layout_there.Goals as goal
+use Rattle.ut_edits.proofs.Named.{layout_absent, layout_present}
+use Rattle.ut_edits.proofs.naming.layout_there.Goals as goal
 
 pub returns-in-Some-clause-names : goal.returns-in-Some-clause-names
 returns-in-Some-clause-names g c told q t s =

@@ -1,0 +1,42 @@
+-- What is asked for by a new record has its form, for an administrator who asks.
+use Rattle.std.proofs.Common.{◌≡◌, ℕ, Bool, true, false, IsTrue, List, [], ◌∷◌, Some, refl, sym, ap, subst, ◌∙◌, ℤ, pos}
+use Rattle.std.proofs.lemmas.Slice.Eq.{bytes_eq-Decides}
+use Rattle.std.specs.Prelude.{if◌then◌else◌, is_some}
+use Rattle.std.specs.Str.{bytes_eq}
+use Rattle.ut_admin.specs.Administration.{Administers}
+use Rattle.ut_model.specs.declared.caller.Caller.{Caller}
+use Rattle.ut_model.specs.declared.record_bodies.Assignment.{Assignment}
+use Rattle.ut_model.specs.Paths.{Asked}
+use Rattle.ut_model.specs.Requests.{creates}
+use Rattle.ut_model.specs.Tenant.{User}
+use Rattle.ut_model.specs.World.{user_at}
+use Rattle.ut_records.specs.Creating.{IsGiving}
+use Rattle.ut_sound.specs.Fit.{IsFit, OfObjects, ReadsWell}
+use Rattle.ut_value.specs.Dates.{is_moment}
+
+-- who is found by an id has it
+has_id : (users : List User) (i : List ℕ) (u : User) → user_at users i ≡ Some u → i ≡ u.id
+has_id [] i u e = absurd cc
+has_id (x ∷ xs) i u e = by (bytes_eq i x.id) refl (has_id xs i u)
+  where
+    by : (b : Bool) → bytes_eq i x.id ≡ b → (user_at xs i ≡ Some u → i ≡ u.id) → i ≡ u.id
+    by true same rest =
+        let is : x ≡ u = first (sym (ap (λ b. if b then Some x else user_at xs i) same) ∙ e) in
+        (bytes_eq-Decides i x.id).0 same ∙ ap (λ (y : User). y.id) is
+      where
+        first : Some x ≡ Some u → x ≡ u
+        first e = cc
+    by false same rest = rest (sym (ap (λ b. if b then Some x else user_at xs i) same) ∙ e)
+
+-- the moment and the values, as the edit has them
+pub giving : (c : Caller) (n : ℕ) (now : ℤ) (object : List ℕ) (given spelled : List Assignment) (a : Asked) → now ≡ pos n → IsTrue (is_moment (pos n)) → spelled ≡ given
+    → IsFit a (creates object given) → Administers c n a → IsGiving c.user now spelled a
+giving c n now object given spelled a at moment is fit h =
+    let id : a.user.id ≡ c.user = sym (has_id a.tenant.users c.user a.user h.0.user) in
+    record {
+      admin = h.1;
+      user = id;
+      caller = (subst (λ (i : List ℕ). IsTrue (is_some (user_at a.tenant.users i))) (sym id) (ap is_some h.0.user), subst (λ (z : ℤ). IsTrue (is_moment z)) (sym h.0.now) moment);
+      now = h.0.now ∙ sym at;
+      reads = subst (λ (g : List Assignment). OfObjects a (λ x. ReadsWell a x g)) (sym is) fit;
+    }

@@ -1,0 +1,4 @@
+pub mod Searching
+pub mod UniqueRows
+pub mod Clashing
+pub mod References

@@ -1,0 +1,30 @@
+use Rattle.std.proofs.Common.{List, ℕ, arith, refl, subst}
+use Rattle.ut_keeper.specs.Draft.{tables_of}
+use Rattle.ut_keys.specs.declared.fail.StoreFail.TheVariants.{Memory}
+use Rattle.ut_stands.specs.Calls.{done}
+use Rattle.ut_value.specs.Causes.{GivesOr}
+use Rattle.ut_data.proofs.Ended.{made_calls}
+use Rattle.ut_others.specs.inner.Targets.{refused_unless}
+use Rattle.ut_others.proofs.References.{nothing_found, reference_found, refused_is_made, wider}
+use Rattle.ut_others.proofs.targets.bad_reference.Goals as goal
+
+pub returns-in-None-clause-finds : goal.returns-in-None-clause-finds
+returns-in-None-clause-finds g c told =
+    nothing_found c.args.layout.now (tables_of g.K.Keeper.state c.args.draft.now) c.args.position c.args.field.now c.args.old.now c.args.new.now c.looked_for.result c.looked_for.ensures c.in-None.is
+
+pub returns-in-None-clause-calls : goal.returns-in-None-clause-calls
+returns-in-None-clause-calls g c =
+    let a = c.args.draft.now in
+    wider g.K.Keeper.state c.draft_laws.ensures.reads_most 0 1 (omega arith) done a a (c.call_laws.ensures.none done a refl)
+
+pub returns-in-Some-clause-finds : goal.returns-in-Some-clause-finds
+returns-in-Some-clause-finds g c told =
+    let there = c.has_record-there.result in
+    reference_found c.args.layout.now (tables_of g.K.Keeper.state c.args.draft.now) c.args.position c.args.field.now c.args.old.now c.args.new.now c.looked_for.result c.looked_for.ensures c.administrator_laws.ensures.level
+    c.in-Some.object c.in-Some.id c.in-Some.is there (c.has_record-there.ensures.finds told) c.refused_unless.result
+    (subst (λ (name : List ℕ). GivesOr Memory (refused_unless name there) c.refused_unless.result) c.as_str.ensures.characters c.refused_unless.ensures.refused)
+
+pub returns-in-Some-clause-calls : goal.returns-in-Some-clause-calls
+returns-in-Some-clause-calls g c =
+    let there = c.has_record-there.result in
+    made_calls g.K.Keeper.state 1 c.args.draft.now c.has_record-there.new.draft there _ c.refused_unless.result (refused_is_made _ there) c.refused_unless.ensures.refused c.refused_unless.ensures.failed c.has_record-there.ensures.calls

@@ -1,0 +1,170 @@
+-- A create is accepted where none of its rules refuses it, and refused by the first that does.
+use Rattle.std.proofs.Common.{◌≡◌, ◌∙◌, inl, inr, ℕ, ◌+◌, Bool, true, false, not, cond, IsTrue, List, [], ◌∷◌, ◌++◌, Option, Some, None, refl, sym, ap, subst, bytes_eq}
+use Rattle.std.specs.Prelude.{Result, Ok, Err, IsErrAnd, length}
+use Rattle.std.specs.Option.{option_and_then}
+use Rattle.ut_edits.specs.Edits.{FailsBy}
+use Rattle.ut_keys.specs.declared.object.ObjectRow.{ObjectRow}
+use Rattle.ut_keys.specs.declared.org.OrgRow.{OrgRow}
+use Rattle.ut_model.specs.Cases.{in_case}
+use Rattle.ut_model.specs.Creates.{create, create_rules, empty_record, master_denied, with_record}
+use Rattle.ut_model.specs.declared.limit.Limit.TheVariants as limit
+use Rattle.ut_model.specs.declared.record.Record.{Record}
+use Rattle.ut_model.specs.declared.record_bodies.Assignment.{Assignment}
+use Rattle.ut_model.specs.declared.refusal.Refusal.{Refusal}
+use Rattle.ut_model.specs.declared.refusal.Refusal.TheVariants.{InsufficientAccess, InvalidType}
+use Rattle.ut_model.specs.Edits.{bad_target, bad_value, duplicate, required_missing, validation_failed, with_given}
+use Rattle.ut_model.specs.Fields.{column_named}
+use Rattle.ut_model.specs.Keys.{bad_fields}
+use Rattle.ut_model.specs.Levels.{at_least, level}
+use Rattle.ut_model.specs.Membership.{Has}
+use Rattle.ut_model.specs.Objects.{Numbered, object_named, object_numbered, record_at, records_of}
+use Rattle.ut_model.specs.Paths.{Asked}
+use Rattle.ut_model.specs.Relationships.{Reference, master_of_object, named_id, named_record}
+use Rattle.ut_model.specs.Rights.{denied}
+use Rattle.ut_model.specs.Rules.{Rule, first_refusal, over_limit, refuse_if}
+use Rattle.ut_model.specs.Sound.{IsSound}
+use Rattle.ut_model.specs.Tenant.{Object, Tenant, User}
+use Rattle.ut_model.specs.Verdict.{Verdict, accept, made_new, refuse, unless}
+use Rattle.ut_model.specs.World.{having_id}
+use Rattle.ut_rules.specs.Failing.{rule_failed}
+use Rattle.ut_rules.specs.Objects.{numbered_in}
+use Rattle.ut_stands.specs.declared.fail.EditFail.{EditFail}
+use Rattle.ut_stands.specs.declared.fail.EditFail.TheVariants.{Refused, Store}
+use Rattle.ut_stands.specs.declared.layout.Layout.{Layout}
+use Rattle.ut_stands.specs.Layouts.{layout_of}
+use Rattle.ut_stands.specs.Metadata.{org_of}
+use Rattle.ut_stands.specs.Plan.{OrgPlan}
+use Rattle.ut_value.specs.declared.sharing.Level.{Level}
+use Rattle.ut_value.specs.declared.sharing.Level.TheVariants.{Edit, Full}
+use Rattle.ut_records.specs.Creating.{new_record}
+use Rattle.ut_records.specs.declared.object.ReadObject.{ReadObject}
+use Rattle.ut_records.specs.inner.Judged.{Admits, Lacks, Proposes, admit_rules, given_rules, limit_rule, others_rules, own_rules}
+use Rattle.ut_records.specs.inner.Object.{IsRead, Reads}
+use Rattle.ut_records.proofs.Facts.{pick, some_is}
+use Rattle.ut_records.proofs.Spelled.{plain, spelled}
+
+-- ---- the first refusal
+
+pub first_then : (xs ys : List Rule) → None ≡ first_refusal xs → first_refusal (xs ++ ys) ≡ first_refusal ys
+first_then [] ys e = refl
+first_then (Some r ∷ xs) ys e = absurd cc
+first_then (None ∷ xs) ys e = first_then xs ys e
+
+pub first_stays : (r : Refusal) (xs ys : List Rule) → Some r ≡ first_refusal xs → Some r ≡ first_refusal (xs ++ ys)
+first_stays r [] ys e = absurd cc
+first_stays r (Some x ∷ xs) ys e = e
+first_stays r (None ∷ xs) ys e = first_stays r xs ys e
+
+pub passed_over : (first second : Rule) (rest : List Rule) → second ≡ None → first_refusal (first ∷ second ∷ rest) ≡ first_refusal (first ∷ rest)
+passed_over (Some r) second rest e = refl
+passed_over None second rest e = ap (λ (x : Rule). first_refusal (x ∷ rest)) e
+
+-- ---- the master of a detail, for an administrator
+
+-- what `ut_model` says of an administrator's level
+abbrev pub HasAll : Type 0
+HasAll = (t : Tenant) (u : User) (r : Record) → IsSound t → u.admin ≡ true → Has t.records r → level t u r ≡ Full
+
+found_has : (i : List ℕ) (rs : List Record) (r : Record) → having_id (λ (x : Record). x.id) rs i ≡ Some r → Has rs r
+found_has i [] r e = absurd cc
+found_has i (x ∷ rs) r e =
+    pick (bytes_eq i x.id) (λ b. cond b (Some x) (having_id (λ (y : Record). y.id) rs i) ≡ Some r → Has (x ∷ rs) r)
+    (λ _ h. inl (sym (record_is x r h))) (λ _ h. inr (found_has i rs r h)) e
+  where
+    record_is : (x y : Record) → ◌≡◌ {A = Option Record} (Some x) (Some y) → x ≡ y
+    record_is x y e = cc
+
+not_denied : HasAll → (a : Asked) → IsSound a.tenant → a.user.admin ≡ true → (i : Option (List ℕ)) → in_case (option_and_then (record_at a.tenant) i) None (denied a Edit) ≡ None
+not_denied all a sound admin None = refl
+not_denied all a sound admin (Some i) = by (record_at a.tenant i) refl
+  where
+    by : (found : Option Record) → record_at a.tenant i ≡ found → in_case found None (denied a Edit) ≡ None
+    by None e = refl
+    by (Some r) e = ap (λ (l : Level). refuse_if (not (at_least Edit l)) InsufficientAccess) (all a.tenant a.user r sound admin (found_has i a.tenant.records r e))
+
+pub master_free : HasAll → (a : Asked) (o : Numbered) (new : Record) → IsSound a.tenant → a.user.admin ≡ true → master_denied a o new ≡ None
+master_free all a o new sound admin = by (master_of_object a.tenant.objects o.number)
+  where
+    by : (f : Option Reference) → in_case f None (λ f. in_case (named_record a.tenant f new) None (denied a Edit)) ≡ None
+    by None = refl
+    by (Some f) = not_denied all a sound admin (named_id f new)
+
+-- ---- the rules of a create
+
+-- those on what is given, over the object that a layout spells
+given_plain : (a : Asked) (o : Numbered) (given : List Assignment) (r : Result Record EditFail) → Proposes a (plain o) given r → Proposes a o given r
+unfolding column_named
+given_plain a o given (Ok r) h = h
+given_plain a o given (Err (Refused x)) h = h
+given_plain a o given (Err (Store e)) h = h
+
+pub proposed_of : (org : ℕ) (q : OrgPlan) (a : Asked) (o : Numbered) (l : Layout) (given : List Assignment) (r : Result Record EditFail) → l ≡ layout_of org q a.tenant o → Proposes a (numbered_in l) given r → Proposes a o given r
+proposed_of org q a o l given r is h =
+    given_plain a o given r (subst (λ (x : Numbered). Proposes a x given r) (ap numbered_in is ∙ spelled org q a.tenant o) h)
+
+-- those behind them
+abbrev pub behind : Asked → Numbered → (new : Record) → List Rule
+behind a o new =
+    bad_target a o (empty_record a o) new ∷ validation_failed a o.object new None ∷ duplicate a o new
+    ∷ over_limit ((limit.RecordsPerObject, length (records_of a.tenant o.number) + 1) ∷ (limit.Records, length a.tenant.records + 1) ∷ (limit.Ids, a.tenant.counter + 1) ∷ []) ∷ []
+
+abbrev all_behind : Asked → Numbered → Numbered → (new : Record) → Rule → List Rule
+all_behind a o p new own =
+    bad_target a p (empty_record a p) new ∷ own ∷ duplicate a p new
+    ∷ over_limit ((limit.RecordsPerObject, length (records_of a.tenant o.number) + 1) ∷ (limit.Records, length a.tenant.records + 1) ∷ (limit.Ids, a.tenant.counter + 1) ∷ []) ∷ []
+
+behind_plain : (a : Asked) (o : Numbered) (new : Record) → all_behind a o (plain o) new (validation_failed a o.object new None) ≡ behind a o new
+behind_plain a o new = refl
+
+pub admit_behind : (org : ℕ) (q : OrgPlan) (a : Asked) (name : List ℕ) (x : ReadObject) (new : Record) (is : IsRead org q a.tenant name x) → object_numbered a.tenant is.numbered.number ≡ Some is.numbered.object
+    → admit_rules a x new ≡ behind a is.numbered new
+admit_behind org q a name x new is there =
+    let o = is.numbered in
+    ap (λ (l : Layout). others_rules l (empty_record a (numbered_in l)) new a ++ limit_rule x.row x.object ∷ []) is.layout
+    ∙ (ap (λ (p : Numbered). others_with p (limit_rule x.row x.object)) (spelled org q a.tenant o)
+    ∙ (ap (λ (row : OrgRow). others_with (plain o) (limit_rule row x.object)) is.row
+    ∙ (ap (λ (row : ObjectRow). others_with (plain o) (limit_rule (org_of org a.tenant) row)) is.object
+    ∙ (ap (λ (found : Option Object). all_behind a o (plain o) new (in_case found None (λ v. validation_failed a v new None))) there
+    ∙ behind_plain a o new))))
+  where
+    others_with : Numbered → Rule → List Rule
+    others_with p last = bad_target a p (empty_record a p) new ∷ rule_failed a is.numbered.number new None a.tenant ∷ duplicate a p new ∷ last ∷ []
+
+module _ (a : Asked) (o : Numbered) (given : List Assignment) (new : Record) where
+  abbrev more_rules : List Rule
+  more_rules = bad_target a o (empty_record a o) new ∷ master_denied a o new ∷ validation_failed a o.object new None ∷ duplicate a o new
+      ∷ over_limit ((limit.RecordsPerObject, length (records_of a.tenant o.number) + 1) ∷ (limit.Records, length a.tenant.records + 1) ∷ (limit.Ids, a.tenant.counter + 1) ∷ []) ∷ []
+
+  more_is : master_denied a o new ≡ None → first_refusal more_rules ≡ first_refusal (behind a o new)
+  more_is free = passed_over (bad_target a o (empty_record a o) new) (master_denied a o new) _ free
+
+  pub free_of : master_denied a o new ≡ None → None ≡ first_refusal (given_rules a.tenant o.object given new) → None ≡ first_refusal (behind a o new) → None ≡ first_refusal (create_rules a o None given new)
+  free_of free first then = then ∙ sym (more_is free) ∙ sym (first_then (given_rules a.tenant o.object given new) more_rules first)
+
+  pub given_refused : (r : Refusal) → Some r ≡ first_refusal (given_rules a.tenant o.object given new) → Some r ≡ first_refusal (create_rules a o None given new)
+  given_refused r e = first_stays r (given_rules a.tenant o.object given new) more_rules e
+
+  pub behind_refused : (r : Refusal) → master_denied a o new ≡ None → None ≡ first_refusal (given_rules a.tenant o.object given new) → Some r ≡ first_refusal (behind a o new) → Some r ≡ first_refusal (create_rules a o None given new)
+  behind_refused r free first e = e ∙ sym (more_is free) ∙ sym (first_then (given_rules a.tenant o.object given new) more_rules first)
+
+-- ---- the verdict
+
+some_refusal : (x y : Refusal) → ◌≡◌ {A = Rule} (Some x) (Some y) → x ≡ y
+some_refusal x y e = cc
+
+pub refused_so : (a : Asked) (name : List ℕ) (o : Numbered) (given : List Assignment) (r : Refusal) → object_named a.tenant name ≡ Some o → Some r ≡ first_refusal (create_rules a o None given (new_record a o given))
+    → (create a name given).answer ≡ Err r
+refused_so a name o given r there e = ap (λ (v : Verdict). v.answer) (by name there) ∙ unless_refused (first_refusal (create_rules a o None given (new_record a o given))) e
+  where
+    it : Verdict
+    it = accept (made_new (new_record a o given).id) (with_record (new_record a o given) a.tenant)
+
+    by : (name : List ℕ) → object_named a.tenant name ≡ Some o → create a name given ≡ unless (first_refusal (create_rules a o None given (new_record a o given))) a.tenant it
+    by name there = rw there refl
+
+    unless_refused : (rule : Rule) → Some r ≡ rule → (unless rule a.tenant it).answer ≡ Err r
+    unless_refused None e = absurd cc
+    unless_refused (Some x) e = ap Err (sym (some_refusal r x e))
+
+pub unnamed_so : (a : Asked) (name : List ℕ) (given : List Assignment) (r : Refusal) → object_named a.tenant name ≡ None → r ≡ InvalidType name → (create a name given).answer ≡ Err r
+unnamed_so a name given r none is = rw (none, is) refl

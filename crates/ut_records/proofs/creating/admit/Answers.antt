@@ -1,0 +1,20 @@
+use Rattle.std.proofs.Common.{◌≡◌, ◌∙◌, ap, sym, w64}
+use Rattle.std.proofs.lemmas.Int.{to_z-of_z}
+use Rattle.std.specs.Option.{option_or}
+use Rattle.ut_model.specs.declared.record.Record.{Record}
+use Rattle.ut_model.specs.Creates.{empty_record}
+use Rattle.ut_model.specs.Rules.{Rule, first_refusal}
+use Rattle.ut_rules.specs.Objects.{numbered_in}
+use Rattle.ut_records.specs.inner.Judged.{limit_rule, others_rules}
+use Rattle.ut_records.proofs.Judging.{refused_first}
+use Rattle.ut_records.proofs.creating.admit.Goals as goal
+
+pub returns-clause-admits : goal.returns-clause-admits
+returns-clause-admits g c told q a s its admin user now id =
+    let x = c.args.object.now in
+    let l = x.layout in
+    let new = c.args.new.now in
+    let empty = c.in_ok-empty.ensures.same a user (now ∙ sym (to_z-of_z w64 c.args.now c.ranges.now)) id in
+    refused_first (others_rules l (empty_record a (numbered_in l)) new a) c.in_ok-others.others (limit_rule x.row x.object) c.in-Some.refusal
+    (c.in_ok-others.ensures.finds told q a s its admin ∙ ap (λ (r : Record). first_refusal (others_rules l r new a)) empty)
+    (ap (option_or c.in_ok-others.others) (sym c.over_limits.ensures) ∙ sym c.or.ensures ∙ c.in-Some.is)

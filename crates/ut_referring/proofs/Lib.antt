@@ -1,0 +1,4 @@
+pub mod Rows
+pub mod Ordered
+pub mod Listed
+pub mod Finding

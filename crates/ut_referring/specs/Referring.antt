@@ -1,0 +1,18 @@
+-- The records of an object that refer to a record by one of its fields.
+use Rattle.std.specs.Prelude.{ℕ, ◌+◌, Bool, false, List, bytes_eq, filter, map, take, Option}
+use Rattle.ut_formula.specs.Meaning.{value_at}
+use Rattle.ut_model.specs.declared.record.Record.{Record}
+use Rattle.ut_model.specs.Cases.{in_case}
+use Rattle.ut_model.specs.Fields.{ref_of}
+use Rattle.ut_model.specs.Jobs.{is_past}
+use Rattle.ut_model.specs.Objects.{records_of}
+use Rattle.ut_model.specs.Tenant.{Tenant}
+
+-- the record has this id in the field with this number: the values begin with the name
+abbrev pub refers_by : (number : ℕ) → (target : List ℕ) → Record → Bool
+refers_by number target r = in_case (ref_of (value_at r.values (number + 1))) false (bytes_eq target)
+
+-- the ids of at most so many of these, in their order: the first, or those after an id
+unfoldable pub referring_after : (object number : ℕ) → (target : List ℕ) → Option (List ℕ) → (limit : ℕ) → Tenant → List (List ℕ)
+referring_after n number target after limit t =
+    map (λ r. r.id) (take limit (filter (λ r. is_past after r.id) (filter (refers_by number target) (records_of t n))))

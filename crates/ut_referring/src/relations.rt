@@ -1,0 +1,130 @@
+//! Records by what they refer to.
+
+ghost use Rattle.std.specs.Prelude.{◌≡◌, ◌<◌, Err, IfErr, IfOk, IfSome, IsTrue, length, take};
+ghost use Rattle.std.specs.Option.{option_map};
+ghost use Rattle.ut_keeper.specs.Draft.{DraftTells, tables_of};
+ghost use Rattle.ut_keeper.specs.Prefixes.{raised};
+ghost use Rattle.ut_keys.specs.declared.fail.StoreFail.TheVariants.{Memory};
+ghost use Rattle.ut_keys.specs.Keys.{slot_key};
+ghost use Rattle.ut_keys.specs.Listings.{rows_to, start_of};
+ghost use Rattle.ut_keys.specs.Reads.{ListsAs};
+ghost use Rattle.ut_keys.specs.Rows.{relation_form};
+ghost use Rattle.ut_parts.specs.Shapes.{Both, FitsIn, Identity};
+ghost use Rattle.ut_referring.specs.Referring.{referring_after};
+ghost use Rattle.ut_referring.specs.inner.Rows.{FitsFront, front_bytes, ids_from, ids_in, key_at, parts_at};
+ghost use Rattle.ut_stands.specs.Calls.{Calls, ended};
+ghost use Rattle.ut_stands.specs.Layouts.{FindsOf};
+ghost use Rattle.ut_value.specs.Causes.{GivesOr};
+ghost use Rattle.ut_value.specs.Id.{is_id};
+
+use std::alloc::{AllocError, Global};
+use ut_keeper::{Draft, Keeper, walk_laws};
+use ut_keys::{RelationRow, StoreFail, listing_laws, page_under, table_laws};
+use ut_parts::shape_laws;
+use ut_stands::{Layout, local_laws};
+use ut_value::{Id, Items, id_laws};
+
+// What the keys of the rows of references to a record begin with, in a slot of an object.
+fn front_of(org: u32, object: u16, slot: u8, target: &Id) -> (u32, (u16, (u8, Id)))
+    ensures is { result ≡ (org, (object, (slot, target.now))) }
+    ensures fits { FitsFront (org, (object, (slot, target.now))) }
+{
+    // That these are an id's characters.
+    let _ = target.as_bytes();
+    (org, (object, (slot, *target)))
+}
+
+// The key of the row of one of them.
+fn key_of(front: &(u32, (u16, (u8, Id))), id: &Id) -> (u32, (u16, (u8, (Id, Id))))
+    requires { FitsFront front.now }
+    ensures is { result ≡ parts_at front.now id.now }
+    ensures fits { FitsIn (slot_key (Both Identity Identity)) (parts_at front.now id.now) }
+{
+    let _ = id.as_bytes();
+    let (org, (object, (slot, target))) = *front;
+    (org, (object, (slot, (target, *id))))
+}
+
+// At most so many of these rows, in the order of their keys: the first, or those after a record's.
+fn rows_after<K: Keeper>(
+    alloc: Global,
+    draft: &mut Draft<'_, K>,
+    front: &(u32, (u16, (u8, Id))),
+    after: Option<&Id>,
+    limit: usize,
+) -> Result<Vec<RelationRow>, StoreFail>
+    requires { FitsFront front.now }
+    ensures rows { DraftTells K.state draft.old draft.new
+        → ListsAs relation_form (take limit (rows_to (tables_of K.state draft.old) 10
+        (start_of (front_bytes front.now) (option_map (λ id. key_at front.now id.now) after.entry)) (raised (front_bytes front.now)))) result }
+    ensures ids { IfSome after.entry (λ id. IsTrue (is_id id.now)) }
+    ensures calls { Calls K.state 0 (ended result) draft.old draft.new }
+{
+    match after {
+        None => page_under(alloc, draft, front, None, limit),
+        Some(id) => {
+            let key = key_of(front, id);
+            page_under(alloc, draft, front, Some(&key), limit)
+        }
+    }
+}
+
+// The ids of the records whose rows these are.
+fn ids_of(alloc: Global, rows: &[RelationRow]) -> Result<Items<Id>, AllocError>
+    ensures { IfOk result (λ ids. ids ≡ ids_in rows.now) }
+{
+    let mut ids = Vec::new(alloc);
+    for row in rows {
+        ids.push(row.id)?;
+    }
+    Ok(Items::from_vec(ids))
+}
+
+// The same of the rows that were read.
+fn ids_found(
+    alloc: Global,
+    rows: Result<Vec<RelationRow>, StoreFail>,
+) -> Result<Items<Id>, StoreFail>
+    ensures found { GivesOr Memory (ids_from rows) result }
+    ensures failed { IfErr rows (λ e. result ≡ Err e) }
+{
+    match rows {
+        Ok(rows) => Ok(ids_of(alloc, rows.as_slice())?),
+        Err(fail) => Err(fail),
+    }
+}
+
+/// The ids of at most `limit` records of the layout's object that refer to a record by the field with this number, in their
+/// order: the first, or those after an id.
+///
+/// # Errors
+///
+/// `Keeper` if the keeper failed, `Memory` if out of memory, `Damaged` never if the organisation's rows stand for a tenant whose
+/// layout it is.
+pub fn referring<K: Keeper>(
+    alloc: Global,
+    draft: &mut Draft<'_, K>,
+    layout: &Layout,
+    number: usize,
+    target: &Id,
+    after: Option<&Id>,
+    limit: usize,
+) -> Result<Items<Id>, StoreFail>
+    requires field { number < length layout.now.fields }
+    ensures finds { DraftTells K.state draft.old draft.new
+        → FindsOf layout.now (referring_after layout.now.object number target.now (option_map (λ id. id.now) after.entry) limit)
+        (tables_of K.state draft.old) result }
+    ensures calls { Calls K.state 0 (ended result) draft.old draft.new }
+{
+    listing_laws::<RelationRow>();
+    table_laws();
+    shape_laws();
+    walk_laws();
+    id_laws();
+    local_laws();
+    let fields = layout.fields.as_slice();
+    let field = &fields[number];
+    let front = front_of(layout.org, layout.object, field.slot, target);
+    let rows = rows_after(alloc, draft, &front, after, limit);
+    ids_found(alloc, rows)
+}

@@ -17,13 +17,13 @@ use Rattle.ut_model.specs.declared.record_bodies.Assignment.{Assignment}
 use Rattle.ut_model.specs.declared.refusal.Refusal.{Refusal}
 use Rattle.ut_model.specs.declared.refusal.Refusal.TheVariants.{NotBuilt}
 use Rattle.ut_model.specs.declared.route.Route.{Route}
-use Rattle.ut_model.specs.declared.route.Route.TheVariants.{AddField, AddObject, AddValidationRule, Create, SetObject}
+use Rattle.ut_model.specs.declared.route.Route.TheVariants.{AddField, AddObject, AddValidationRule, Create, SetObject, Update}
 use Rattle.ut_step.specs.Built.{built_request, is_built, needs_index, when_built}
 use Rattle.ut_step.specs.Own.{edit_shown, request_changes, request_gone}
 use Rattle.ut_model.specs.Forms.{access_request, field_request, object_request, validation_request}
 use Rattle.ut_model.specs.Paths.{Asked}
 use Rattle.ut_model.specs.RequestOf.{request_of, request_or, verdict_or}
-use Rattle.ut_model.specs.Requests.{Request, adds_field, adds_object, adds_validation_rule, creates, sets_object, verdict_on}
+use Rattle.ut_model.specs.Requests.{Request, adds_field, adds_object, adds_validation_rule, creates, sets_object, updates, verdict_on}
 use Rattle.ut_model.specs.Sound.{IsSound}
 use Rattle.ut_model.specs.Tenant.{Tenant}
 use Rattle.ut_model.specs.Verdict.{Done, Verdict}
@@ -89,13 +89,24 @@ of_values : (read : Result (Option (List Assignment)) AllocError) (body : List �
 of_values (Ok x) body make e = e make
 of_values (Err x) body make e = e
 
-pub asks_values : (object body : List ℕ) (read : Result (Option (List Assignment)) AllocError)
+asks_values : (make : List Assignment → Request) → ((x : List Assignment) → needs_index (make x) ≡ false) → (body : List ℕ) (read : Result (Option (List Assignment)) AllocError)
+    → IfOk read (λ values. (make : List Assignment → Request) → option_map make values ≡ request_in (values_request make) body)
+    → Asks make (when_built (request_or (request_in (values_request make) body))) (form_of read)
+asks_values make plain body read e =
+    asks_built make (request_or (request_in (values_request make) body)) (form_of read) plain
+    (asks_form make read (request_in (values_request make) body) (of_values read body make e))
+
+pub asks_new : (object body : List ℕ) (read : Result (Option (List Assignment)) AllocError)
     → IfOk read (λ values. (make : List Assignment → Request) → option_map make values ≡ request_in (values_request make) body)
     → Asks (creates object) (built_request (Create object) body) (form_of read)
 unfolding request_of
-asks_values object body read e =
-    asks_built (creates object) (request_or (request_in (values_request (creates object)) body)) (form_of read) (λ x. refl)
-    (asks_form (creates object) read (request_in (values_request (creates object)) body) (of_values read body (creates object) e))
+asks_new object body read e = asks_values (creates object) (λ x. refl) body read e
+
+pub asks_other : (object key body : List ℕ) (read : Result (Option (List Assignment)) AllocError)
+    → IfOk read (λ values. (make : List Assignment → Request) → option_map make values ≡ request_in (values_request make) body)
+    → Asks (updates object key) (built_request (Update object key) body) (form_of read)
+unfolding request_of
+asks_other object key body read e = asks_values (updates object key) (λ x. refl) body read e
 
 -- the field's flags are looked at once the body was of its form
 pub asks_field : (body : List ℕ) (read : Result (Option NewField) AllocError) → IfOk read (λ x. option_map adds_field x ≡ request_in field_request body)
@@ -184,6 +195,7 @@ edits_none make org asks r s body fail m result route is e =
 -- no edit of another route
 pub record IsOther (r : Route) : Type 0 where
   pub no_record : (object : List ℕ) → r ≡ Create object → ⊥
+  pub no_change : (object key : List ℕ) → r ≡ Update object key → ⊥
   pub no_object : r ≡ AddObject → ⊥
   pub no_access : (object : List ℕ) → r ≡ SetObject object → ⊥
   pub no_field : r ≡ AddField → ⊥
@@ -191,6 +203,7 @@ pub record IsOther (r : Route) : Type 0 where
 
 not_built : (r : Route) → IsOther r → is_built r ≡ false
 not_built (Create object) other = absurd (other.no_record object refl)
+not_built (Update object key) other = absurd (other.no_change object key refl)
 not_built AddObject other = absurd (other.no_object refl)
 not_built (SetObject object) other = absurd (other.no_access object refl)
 not_built AddField other = absurd (other.no_field refl)

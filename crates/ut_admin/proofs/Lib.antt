@@ -1,4 +1,4 @@
 mod Asked
-mod Creating
+mod Giving
 mod Replied
 mod Values

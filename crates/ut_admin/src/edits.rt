@@ -12,7 +12,7 @@ ghost use Rattle.ut_value.specs.Dates.{is_moment};
 
 use crate::answer::{Answer, done};
 use crate::bodies::{access_in, field_in, object_in, rule_in};
-use crate::records::new_record;
+use crate::records::{changed_record, new_record};
 use std::alloc::Global;
 use ut_edits::make_edit;
 use ut_keeper::{Draft, Keeper};
@@ -49,6 +49,9 @@ pub(crate) fn edit<K: Keeper>(
     let org = caller.org;
     match route {
         Route::Create { object } => new_record(alloc, draft, caller, now, object, body),
+        Route::Update { object, key } => {
+            changed_record(alloc, draft, caller, now, object, key, body)
+        }
         Route::AddObject => {
             let new = object_in(alloc, body)?;
             done(make_edit(alloc, draft, org, &AddObject { new: &new }))

@@ -1,6 +1,6 @@
 //! The edits of records that administrators' requests ask for.
 
-ghost use Rattle.std.specs.Prelude.{IfOk, IsTrue, pos};
+ghost use Rattle.std.specs.Prelude.{◌≡◌, IfOk, IsTrue, pos};
 ghost use Rattle.ut_admin.specs.Administration.{Administers};
 ghost use Rattle.ut_admin.specs.inner.Edits.{EditsFrom, IsAnswerTo};
 ghost use Rattle.ut_edits.specs.Edits.{DraftsEdit};
@@ -11,16 +11,24 @@ ghost use Rattle.ut_step.specs.Built.{built_request};
 ghost use Rattle.ut_step.specs.Own.{edit_shown, request_changes, request_gone};
 ghost use Rattle.ut_value.specs.Dates.{is_moment};
 
-use crate::answer::{Answer, made};
+use crate::answer::{Answer, done, made};
 use crate::bodies::values_in;
 use std::alloc::Global;
 use ut_edits::make_edit;
 use ut_keeper::{Draft, Keeper};
 use ut_model::{Caller, refusal_laws};
-use ut_records::Create;
+use ut_records::{Create, Update};
 use ut_sound::requests_fit;
 use ut_stands::{EditFail, call_laws};
 use ut_value::Text;
+
+// A moment of the calendar, as edits have it.
+fn moment(now: u64) -> i64
+    requires { IsTrue (is_moment (pos now)) }
+    ensures { result ≡ pos now }
+{
+    now as i64
+}
 
 /// Makes a record of the object with this name, by a body.
 ///
@@ -49,9 +57,46 @@ pub(crate) fn new_record<K: Keeper>(
     let values = values_in(alloc, body)?;
     let create = Create {
         user: caller.user,
-        now: now as i64,
+        now: moment(now),
         object,
         given: values.as_slice(),
     };
     made(make_edit(alloc, draft, caller.org, &create))
+}
+
+/// Gives a record of the object with this name other values, by a body. The record is named by its id.
+///
+/// # Errors
+///
+/// `Refused` if the body isn't of its form, or as the edit is; nothing is then changed. `Store` with `Keeper` if the keeper failed,
+/// `Memory` if out of memory.
+pub(crate) fn changed_record<K: Keeper>(
+    alloc: Global,
+    draft: &mut Draft<'_, K>,
+    caller: &Caller,
+    now: u64,
+    object: &Text,
+    key: &Text,
+    body: &[u8],
+) -> Result<Answer, EditFail>
+    requires { IsTrue (is_moment (pos now)) }
+    ensures what { DraftTells K.state draft.old draft.new
+        → EditsFrom caller.now.org (Administers caller.now now)
+        (λ a. verdict_or a (built_request (route.Update object.now key.now) body.now)) (tables_of K.state draft.old)
+        (tables_of K.state draft.new) result }
+    ensures form { IfOk result (IsAnswerTo (route.Update object.now key.now)) }
+    ensures makes { DraftsEdit K.state request_changes request_gone edit_shown result draft.old draft.new }
+{
+    call_laws::<K>();
+    requests_fit();
+    refusal_laws();
+    let values = values_in(alloc, body)?;
+    let update = Update {
+        user: caller.user,
+        now: moment(now),
+        object,
+        key,
+        given: values.as_slice(),
+    };
+    done(make_edit(alloc, draft, caller.org, &update))
 }

@@ -38,7 +38,7 @@ pub fn converts(layout: &Layout) -> bool
 }
 
 /// Whether a change copies values, and has come to this record.
-pub(crate) fn is_copied(job: &JobPlace, id: &Id) -> bool
+pub fn is_copied(job: &JobPlace, id: &Id) -> bool
     ensures { result ≡ is_copied job.now.phase job.now.cursor id.now }
 {
     match (job.phase, job.cursor) {
@@ -72,7 +72,7 @@ fn converted(
 /// # Errors
 ///
 /// If out of memory.
-pub(crate) fn copied_value(
+pub fn copied_value(
     alloc: Global,
     job: &JobPlace,
     field: &FieldPlace,

@@ -14,7 +14,7 @@ mod slot;
 mod turning;
 
 pub use crate::changed::changed_record_changes;
-pub use crate::copied::converts;
+pub use crate::copied::{converts, copied_value, is_copied};
 pub use crate::laws::pivot_laws;
 pub use crate::made::new_record_changes;
 pub use crate::slot::RecordSlot;

@@ -80,7 +80,7 @@ and_both : (a b : Bool) → (a && b) ≡ true → (a ≡ true) × (b ≡ true)
 and_both true b e = (refl, e)
 and_both false b e = absurd cc
 
-all_printable : Printable → (kinds : List FieldType) (vs : List Value) → IsTrue (all_valid kinds vs) → IsTrue (list_all is_printable vs)
+pub all_printable : Printable → (kinds : List FieldType) (vs : List Value) → IsTrue (all_valid kinds vs) → IsTrue (list_all is_printable vs)
 all_printable print [] [] h = refl
 all_printable print [] (v ∷ vs) h = absurd cc
 all_printable print (k ∷ kinds) [] h = absurd cc

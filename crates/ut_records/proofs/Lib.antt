@@ -11,3 +11,13 @@ pub mod OtherRules
 pub mod Objects
 pub mod Proposing
 pub mod Creates
+pub mod Stays
+pub mod AlteredRules
+pub mod Naming
+pub mod Accepted
+pub mod AlteredChanges
+pub mod Keeping
+pub mod Among
+pub mod ListedShares
+pub mod EndedShares
+pub mod Updates

@@ -90,7 +90,7 @@ object_counted org n t o r of = ap (λ (m : ℕ). counting m) (sym (count_put n 
 
 -- ---- the id names nothing yet, and then the record
 
-turned : (a b : List ℕ) → bytes_eq a b ≡ false → bytes_eq b a ≡ false
+pub turned : (a b : List ℕ) → bytes_eq a b ≡ false → bytes_eq b a ≡ false
 turned a b e = pick (bytes_eq b a) (λ x. x ≡ false) (λ h. absurd (true_false (sym (ap (λ (z : List ℕ). bytes_eq a z) ((bytes_decides b a).0 h) ∙ same_text a) ∙ e))) (λ h. refl)
 
 none_named : (i : List ℕ) (rs : List Record) → ((y : Record) → Has rs y → bytes_eq y.id i ≡ false) → having_id (λ (y : Record). y.id) rs i ≡ None

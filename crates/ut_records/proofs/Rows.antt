@@ -10,6 +10,8 @@ use Rattle.ut_edits.specs.Rows as rows
 use Rattle.ut_edits.specs.declared.decided.Decided.{Decided}
 use Rattle.ut_keeper.specs.declared.keeper.Change.{Change as Spelled}
 use Rattle.ut_keys.specs.Keys.{Data, FitsKey, Index, Key, Relation, Unique}
+use Rattle.ut_keys.specs.declared.data.DataRow.{DataRow}
+use Rattle.ut_keys.specs.declared.share.ShareRow.{ShareRow}
 use Rattle.ut_keys.specs.Rows.{object_form, org_form}
 use Rattle.ut_model.specs.Creates.{with_record}
 use Rattle.ut_model.specs.declared.record.Record.{Record}
@@ -17,6 +19,7 @@ use Rattle.ut_model.specs.Objects.{Numbered, is_of, object_number, object_number
 use Rattle.ut_model.specs.Tenant.{Job, Object, Tenant}
 use Rattle.ut_pivot.specs.Changed.{index_key, record_changes, reference_key, row_turned, slot_changes, unique_key}
 use Rattle.ut_pivot.specs.Made.{layout_entry, made_changes, values_made}
+use Rattle.ut_pivot.specs.Turned.{turned_changes, turned_entry, values_turned}
 use Rattle.ut_stands.specs.Changes.{Change}
 use Rattle.ut_stands.specs.declared.fail.EditFail.{EditFail}
 use Rattle.ut_stands.specs.Entries.{Entry, job_value}
@@ -36,7 +39,10 @@ use Rattle.ut_value.specs.declared.value.FieldType.{FieldType}
 use Rattle.ut_value.specs.Printing.{is_printable}
 use Rattle.ut_records.specs.Creating.{counts_with, created_changes}
 use Rattle.ut_records.specs.declared.creating.Accepted.{Accepted}
+use Rattle.ut_records.specs.declared.updating.Altered.{Altered}
+use Rattle.ut_records.specs.inner.Ended.{shares_removed}
 use Rattle.ut_records.specs.inner.Judged.{HaveKeys, changes_of}
+use Rattle.ut_records.specs.inner.Updated.{altered_changes}
 use Rattle.ut_records.specs.inner.Object.{IsOwn, object_with, row_with}
 use Rattle.ut_records.proofs.Facts.{pick, some_is}
 use Rattle.ut_records.proofs.Numbers.{named, object_counted, row_counted, unnamed}
@@ -143,6 +149,24 @@ are_in org x own keys =
         subst (λ (n : ℕ). AllByRecursion (λ (c : Change). org_of_key c.0 ≡ Some n) (made_changes x.object.layout x.new)) own.layout (own_made x.object.layout x.new),
       ),
     )
+
+own_turned_changes : (l : Layout) (kept : DataRow) (old new : Record) → AreOwn l.org (turned_changes l kept old new)
+unfolding turned_changes values_turned
+own_turned_changes l kept old new =
+    (refl, own_flat l.org (λ s. slot_changes l.org l.object new.id (turned_entry l old s) (turned_entry l new s) s) (range_with_len 0 slot_count) (λ s. own_slot l.org l.object new.id (turned_entry l old s) (turned_entry l new s) s))
+
+own_removed : (org : ℕ) (id : List ℕ) (us : List ShareRow) → AreOwn org (shares_removed org id us)
+own_removed org id [] = tt
+own_removed org id (u ∷ us) = (refl, own_removed org id us)
+
+pub altered_in : (org : ℕ) (x : Altered) → x.named.layout.org ≡ org → HaveKeys (altered_changes x) → AllByRecursion (IsIn org) (altered_changes x)
+altered_in org x own keys =
+    let l = x.named.layout in
+    let removed = shares_removed l.org x.new.id x.shares in
+    let changed = turned_changes l x.named.kept.row x.named.kept.item x.new in
+    all_in org (altered_changes x) keys
+    (subst (λ (n : ℕ). AreOwn n (removed ++ changed)) own
+    (own_both l.org removed changed (own_removed l.org x.new.id x.shares) (own_turned_changes l x.named.kept.row x.named.kept.item x.new)))
 
 -- ---- they are few
 

@@ -64,7 +64,7 @@ first_equal Equal b e = (refl, e)
 first_equal Greater b e = absurd cc
 
 module _ (same : SamePrincipals) where
-  one_place : (x s : Share) → same_share x s ≡ true → (x.item ≡ s.item) × (x.to ≡ s.to)
+  pub one_place : (x s : Share) → same_share x s ≡ true → (x.item ≡ s.item) × (x.to ≡ s.to)
   one_place x s e =
       let p = first_equal (slice_cmp nat_cmp x.item s.item) (principal_cmp x.to s.to) e in
       ((bytes_decides x.item s.item).0 (texts_ties x.item s.item ∙ p.0), (same x.to s.to).0 p.1)

@@ -46,7 +46,11 @@ pub(crate) struct Accepted {
 }
 
 // The record, unless a required field is null.
-fn unless_missing(alloc: Global, layout: &Layout, new: Record) -> Result<Record, EditFail>
+pub(crate) fn unless_missing(
+    alloc: Global,
+    layout: &Layout,
+    new: Record,
+) -> Result<Record, EditFail>
     ensures { Lacks (object_of_layout layout.now) new result }
 {
     match required_missing(alloc, layout, &new)? {

@@ -2,3 +2,4 @@ pub mod Rows
 pub mod Ordered
 pub mod Listed
 pub mod Finding
+pub mod Fronts

@@ -16,3 +16,7 @@ refers_by number target r = in_case (ref_of (value_at r.values (number + 1))) fa
 unfoldable pub referring_after : (object number : ℕ) → (target : List ℕ) → Option (List ℕ) → (limit : ℕ) → Tenant → List (List ℕ)
 referring_after n number target after limit t =
     map (λ r. r.id) (take limit (filter (λ r. is_past after r.id) (filter (refers_by number target) (records_of t n))))
+
+-- the ids of all of them
+unfoldable pub all_referring : (object number : ℕ) → (target : List ℕ) → Tenant → List (List ℕ)
+all_referring n number target t = map (λ r. r.id) (filter (refers_by number target) (records_of t n))

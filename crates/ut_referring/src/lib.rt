@@ -6,4 +6,4 @@
 
 mod relations;
 
-pub use crate::relations::referring;
+pub use crate::relations::{all_referring, referring};

@@ -10,7 +10,7 @@ ghost use Rattle.ut_keys.specs.Listings.{rows_to, start_of};
 ghost use Rattle.ut_keys.specs.Reads.{ListsAs};
 ghost use Rattle.ut_keys.specs.Rows.{relation_form};
 ghost use Rattle.ut_parts.specs.Shapes.{Both, FitsIn, Identity};
-ghost use Rattle.ut_referring.specs.Referring.{referring_after};
+ghost use Rattle.ut_referring.specs.Referring.{all_referring, referring_after};
 ghost use Rattle.ut_referring.specs.inner.Rows.{FitsFront, front_bytes, ids_from, ids_in, key_at, parts_at};
 ghost use Rattle.ut_stands.specs.Calls.{Calls, ended};
 ghost use Rattle.ut_stands.specs.Layouts.{FindsOf};
@@ -18,11 +18,14 @@ ghost use Rattle.ut_value.specs.Causes.{GivesOr};
 ghost use Rattle.ut_value.specs.Id.{is_id};
 
 use std::alloc::{AllocError, Global};
-use ut_keeper::{Draft, Keeper, walk_laws};
+use ut_keeper::{Draft, Keeper, draft_laws, walk_laws};
 use ut_keys::{RelationRow, StoreFail, listing_laws, page_under, table_laws};
 use ut_parts::shape_laws;
-use ut_stands::{Layout, local_laws};
+use ut_stands::{Layout, call_laws, local_laws};
 use ut_value::{Id, Items, id_laws};
+
+// How many records are asked for at once.
+const PAGE: usize = 200;
 
 // What the keys of the rows of references to a record begin with, in a slot of an object.
 fn front_of(org: u32, object: u16, slot: u8, target: &Id) -> (u32, (u16, (u8, Id)))
@@ -127,4 +130,35 @@ pub fn referring<K: Keeper>(
     let front = front_of(layout.org, layout.object, field.slot, target);
     let rows = rows_after(alloc, draft, &front, after, limit);
     ids_found(alloc, rows)
+}
+
+/// The ids of all records of the layout's object that refer to a record by the field with this number, in their order.
+///
+/// # Errors
+///
+/// As `referring`.
+pub fn all_referring<K: Keeper>(
+    alloc: Global,
+    draft: &mut Draft<'_, K>,
+    layout: &Layout,
+    number: usize,
+    target: &Id,
+) -> Result<Items<Id>, StoreFail>
+    requires field { number < length layout.now.fields }
+    ensures finds { DraftTells K.state draft.old draft.new
+        → FindsOf layout.now (all_referring layout.now.object number target.now) (tables_of K.state draft.old) result }
+    ensures calls { Calls K.state 0 (ended result) draft.old draft.new }
+{
+    draft_laws::<K>();
+    call_laws::<K>();
+    let mut all = Vec::new(alloc);
+    'pages: for _ in 0..u64::MAX {
+        let ids = referring(alloc, draft, layout, number, target, all.last(), PAGE)?;
+        if ids.as_slice().is_empty() {
+            return Ok(Items::from_vec(all));
+        }
+        all.extend_from_slice(ids.as_slice())?;
+    }
+    // Not reached before memory is full.
+    Err(StoreFail::Memory)
 }

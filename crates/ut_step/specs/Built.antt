@@ -29,6 +29,7 @@ use Rattle.ut_model.specs.World.{World, user_at}
 -- the routes that are built, of administrators
 abbrev pub is_built : Route → Bool
 is_built (route.Create object) = true
+is_built (route.Update object key) = true
 is_built route.AddObject = true
 is_built (route.SetObject object) = true
 is_built route.AddField = true

@@ -1,5 +1,5 @@
 -- A step of one organisation: who asks there, what a message with a key comes to, and how much a request may do.
-use Rattle.std.specs.Prelude.{◌≡◌, ℕ, pos, Option, Some, None}
+use Rattle.std.specs.Prelude.{◌≡◌, ℕ, ◌+◌, pos, Option, Some, None}
 use Rattle.ut_model.specs.declared.caller.Caller.{Caller}
 use Rattle.ut_model.specs.declared.limit.Limit.TheVariants as limit
 use Rattle.ut_model.specs.declared.refusal.Refusal.TheVariants as refusal
@@ -25,7 +25,7 @@ own_step n m now (Some t) = ((answer_in answered n m now t).0, Some (answer_in a
 
 -- the most rows that a request changes, the most data rows that it removes, and the most data rows that are shown to it
 abbrev pub request_changes : ℕ
-request_changes = 147
+request_changes = 389
 
 abbrev pub request_gone : ℕ
 request_gone = 0
@@ -33,6 +33,6 @@ request_gone = 0
 abbrev pub request_shown : ℕ
 request_shown = limit_number limit.RecordsPerObject
 
--- the most data rows that are shown to an edit: the record of each reference that is given
+-- the most data rows that are shown to an edit: the record that it changes, and the record of each reference that is given
 abbrev pub edit_shown : ℕ
-edit_shown = limit_number limit.FieldsPerObject
+edit_shown = limit_number limit.FieldsPerObject + 1

@@ -62,8 +62,8 @@ fn shown_reply(
     Ok(shown(alloc, &reply)?)
 }
 
-/// The status and the body of the reply to a request: of a new object, field or role its body, and of another default access and of
-/// a new record the object and the body.
+/// The status and the body of the reply to a request: of a new object, field or role its body, of another default access and of a
+/// new record the object and the body, and of other values for a record the object, the record's id and the body.
 pub(crate) fn answer(
     alloc: Global,
     keeper: &mut MemoryKeeper,
@@ -83,6 +83,13 @@ pub(crate) fn answer(
             let (object, body) = first_of(arguments);
             let object = Text::from_str(alloc, object)?;
             shown_reply(alloc, keeper, &Route::Create { object }, body)
+        }
+        "update" => {
+            let (object, rest) = first_of(arguments);
+            let (key, body) = first_of(rest);
+            let object = Text::from_str(alloc, object)?;
+            let key = Text::from_str(alloc, key)?;
+            shown_reply(alloc, keeper, &Route::Update { object, key }, body)
         }
         _ => Ok(String::from_str(alloc, "no such call")?),
     }

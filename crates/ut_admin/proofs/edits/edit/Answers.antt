@@ -167,6 +167,7 @@ returns-in_ok-from_str-in_default-clause-what g c told =
     edits_unbuilt caller.org (Administers caller c.args.now) c.args.route.now c.args.body.now c.in_ok-from_str-in_default.field-0 (tables_of g.K.Keeper.state c.args.draft.now)
     (record {
       no_record = λ object. c.in_default.not-Create object;
+      no_change = λ object key. c.in_default.not-Update object key;
       no_object = c.in_default.not-AddObject;
       no_access = λ object. c.in_default.not-SetObject object;
       no_field = c.in_default.not-AddField;

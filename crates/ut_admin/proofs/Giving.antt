@@ -1,4 +1,4 @@
--- What is asked for by a new record has its form, for an administrator who asks.
+-- What is given to the fields of a record has its form, for an administrator who asks.
 use Rattle.std.proofs.Common.{◌≡◌, ℕ, Bool, true, false, IsTrue, List, [], ◌∷◌, Some, refl, sym, ap, subst, ◌∙◌, ℤ, pos}
 use Rattle.std.proofs.lemmas.Slice.Eq.{bytes_eq-Decides}
 use Rattle.std.specs.Prelude.{if◌then◌else◌, is_some}
@@ -7,11 +7,10 @@ use Rattle.ut_admin.specs.Administration.{Administers}
 use Rattle.ut_model.specs.declared.caller.Caller.{Caller}
 use Rattle.ut_model.specs.declared.record_bodies.Assignment.{Assignment}
 use Rattle.ut_model.specs.Paths.{Asked}
-use Rattle.ut_model.specs.Requests.{creates}
 use Rattle.ut_model.specs.Tenant.{User}
 use Rattle.ut_model.specs.World.{user_at}
 use Rattle.ut_records.specs.Creating.{IsGiving}
-use Rattle.ut_sound.specs.Fit.{IsFit, OfObjects, ReadsWell}
+use Rattle.ut_sound.specs.Fit.{OfObjects, ReadsWell}
 use Rattle.ut_value.specs.Dates.{is_moment}
 
 -- who is found by an id has it
@@ -29,9 +28,9 @@ has_id (x ∷ xs) i u e = by (bytes_eq i x.id) refl (has_id xs i u)
     by false same rest = rest (sym (ap (λ b. if b then Some x else user_at xs i) same) ∙ e)
 
 -- the moment and the values, as the edit has them
-pub giving : (c : Caller) (n : ℕ) (now : ℤ) (object : List ℕ) (given spelled : List Assignment) (a : Asked) → now ≡ pos n → IsTrue (is_moment (pos n)) → spelled ≡ given
-    → IsFit a (creates object given) → Administers c n a → IsGiving c.user now spelled a
-giving c n now object given spelled a at moment is fit h =
+pub giving : (c : Caller) (n : ℕ) (now : ℤ) (given spelled : List Assignment) (a : Asked) → now ≡ pos n → IsTrue (is_moment (pos n)) → spelled ≡ given
+    → OfObjects a (λ o. ReadsWell a o given) → Administers c n a → IsGiving c.user now spelled a
+giving c n now given spelled a at moment is fit h =
     let id : a.user.id ≡ c.user = sym (has_id a.tenant.users c.user a.user h.0.user) in
     record {
       admin = h.1;

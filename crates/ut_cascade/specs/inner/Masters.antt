@@ -1,0 +1,46 @@
+-- The objects that have a Master field, and the records that refer by it. No public contract reaches these words.
+use Rattle.std.specs.Prelude.{◌≡◌, ℕ, Bool, List, [], Option, Some, Result, Ok, Err}
+use Rattle.std.specs.Cmp.Lexicographic.{slice_cmp}
+use Rattle.std.specs.List.{AllByRecursion, enumerate_from, find, flat_map, list_any}
+use Rattle.std.specs.List.Sorted.{IsStrictlySortedBy}
+use Rattle.std.specs.Option.{option_map}
+use Rattle.std.specs.Ordering.{is_eq, nat_cmp}
+use Rattle.ut_keeper.specs.Tables.{Tables}
+use Rattle.ut_keys.specs.declared.fail.StoreFail.{StoreFail}
+use Rattle.ut_keys.specs.declared.fail.StoreFail.TheVariants.{Damaged, Keeper, Memory}
+use Rattle.ut_model.specs.Cases.{in_case}
+use Rattle.ut_model.specs.Fields.{is_master}
+use Rattle.ut_model.specs.Tenant.{Tenant}
+use Rattle.ut_referring.specs.Referring.{all_referring}
+use Rattle.ut_stands.specs.declared.layout.FieldPlace.{FieldPlace}
+use Rattle.ut_stands.specs.declared.layout.Layout.{Layout}
+use Rattle.ut_stands.specs.Layouts.{IsLayout}
+use Rattle.ut_stands.specs.Local.{StandsIn}
+use Rattle.ut_stands.specs.Plan.{OrgPlan}
+
+-- the number of the first field that is a Master, where the first of all has this number
+abbrev pub master_from : ℕ → List FieldPlace → Option ℕ
+master_from k fields = option_map (λ f. f.0) (find (λ (f : ℕ × FieldPlace). is_master f.1.kind) (enumerate_from k fields))
+
+-- the ids of an object's records whose masters are among those with these ids, one master after another
+abbrev pub details_in : Layout → (ids : List (List ℕ)) → Tenant → List (List ℕ)
+details_in l ids t = in_case (master_from 0 l.fields) [] (λ k. flat_map (λ id. all_referring l.object k id t) ids)
+
+-- these are layouts of one organisation
+abbrev pub AreLayouts : (org : ℕ) → OrgPlan → Tenant → List Layout → Type 0
+AreLayouts org q t layouts = AllByRecursion (λ (l : Layout). (l.org ≡ org) × IsLayout q t l) layouts
+
+-- what is found is what each tenant has for which the organisation's rows stand and of which these are layouts
+abbrev pub FindsBy : {X : Type 0} → (org : ℕ) → List Layout → (Tenant → X) → Tables → Result X StoreFail → Type 0
+FindsBy org layouts value m (Ok x) = (q : OrgPlan) (t : Tenant) → StandsIn org q m (Some t) → AreLayouts org q t layouts → x ≡ value t
+FindsBy org layouts value m (Err Damaged) = (q : OrgPlan) (t : Tenant) → StandsIn org q m (Some t) → AreLayouts org q t layouts → ⊥
+FindsBy org layouts value m (Err Keeper) = Unit {0}
+FindsBy org layouts value m (Err Memory) = Unit {0}
+
+-- an id is among these
+abbrev pub is_among : List (List ℕ) → List ℕ → Bool
+is_among ids id = list_any (λ i. is_eq (slice_cmp nat_cmp id i)) ids
+
+-- each of these once, in their order
+abbrev pub IsInOrder : (these : List (List ℕ)) → List (List ℕ) → Type 0
+IsInOrder these ids = ((id : List ℕ) → is_among ids id ≡ is_among these id) × IsStrictlySortedBy (slice_cmp nat_cmp) ids

@@ -1,0 +1,220 @@
+-- The changes of an update that is accepted take the organisation's rows to those of the tenant that it leaves.
+use Rattle.std.proofs.Common.{◌≡◌, ◌∙◌, ℕ, ◌+◌, ◌<◌, ◌≤◌, Bool, true, false, cond, IsTrue, List, [], ◌∷◌, ◌++◌, length, map, Option, Some, None, refl, sym, ap, subst, arith, bytes_eq}
+use Rattle.std.specs.Prelude.{Result, Ok, Err, IfOk}
+use Rattle.std.specs.List.{AllByRecursion, list_all}
+use Rattle.std.specs.Option.{option_and_then}
+use Rattle.std.proofs.lemmas.Bool.{eqb-true}
+use Rattle.std.proofs.lemmas.List.{append-nil}
+use Rattle.ut_data.proofs.Standing.{Found, found_of}
+use Rattle.ut_data.specs.Decoding.{kinds_in}
+use Rattle.ut_edits.specs.Edits.{Takes}
+use Rattle.ut_edits.specs.Rows.{AreFew, AreSpelled, gone_of}
+use Rattle.ut_edits.specs.Rows as rows
+use Rattle.ut_edits.specs.declared.decided.Decided.{Decided}
+use Rattle.ut_keeper.specs.declared.keeper.Change.{Change as Spelled}
+use Rattle.ut_keys.specs.declared.data.DataRow.{DataRow}
+use Rattle.ut_keys.specs.declared.share.ShareRow.{ShareRow}
+use Rattle.ut_keys.specs.Keys.{FitsKey}
+use Rattle.ut_model.specs.declared.record.Record.{Record}
+use Rattle.ut_model.specs.declared.record_bodies.Assignment.{Assignment}
+use Rattle.ut_model.specs.Edits.{with_given}
+use Rattle.ut_model.specs.Objects.{Numbered, is_of, object_number, object_numbered, record_at}
+use Rattle.ut_model.specs.Paths.{Asked}
+use Rattle.ut_model.specs.Rights.{record_of_object}
+use Rattle.ut_model.specs.Rules.{first_refusal}
+use Rattle.ut_model.specs.Sound.{IsSound}
+use Rattle.ut_model.specs.SoundRecords.{all_valid}
+use Rattle.ut_model.specs.Tenant.{Object, Tenant}
+use Rattle.ut_model.specs.Updates.{update, update_on, update_rules, with_changed}
+use Rattle.ut_model.specs.Verdict.{done}
+use Rattle.ut_model.specs.World.{having_id}
+use Rattle.ut_pivot.specs.Changed.{record_changes}
+use Rattle.ut_pivot.specs.Turned.{turned_changes}
+use Rattle.ut_sound.specs.Fit.{IsCaller, OfObjects, ReadsWell}
+use Rattle.ut_stands.specs.Changes.{Change}
+use Rattle.ut_stands.specs.declared.fail.EditFail.{EditFail}
+use Rattle.ut_stands.specs.declared.layout.Layout.{Layout}
+use Rattle.ut_stands.specs.Entries.{data_of, slot_entry}
+use Rattle.ut_stands.specs.Layouts.{layout_of}
+use Rattle.ut_stands.specs.Local.{IsIn}
+use Rattle.ut_stands.specs.Plan.{FitsPlan, OrgPlan}
+use Rattle.ut_stands.specs.Stands.{kept_at}
+use Rattle.ut_touched.specs.Touched.{touched_changes}
+use Rattle.ut_value.specs.Printing.{is_printable}
+use Rattle.ut_records.specs.declared.updating.Altered.{Altered}
+use Rattle.ut_records.specs.inner.Ended.{shares_removed}
+use Rattle.ut_records.specs.inner.Judged.{HaveKeys}
+use Rattle.ut_records.specs.inner.Kept.{IsKept}
+use Rattle.ut_records.specs.inner.Named.{IsNamed}
+use Rattle.ut_records.specs.inner.Updated.{IsAltered, altered_changes}
+use Rattle.ut_records.specs.Updating.{PlansSame, shares_gone, updated_changes}
+use Rattle.ut_records.proofs.Creates.{Printable, all_printable}
+use Rattle.ut_records.proofs.Facts.{pick, same_text, some_is}
+use Rattle.ut_records.proofs.Numbers.{turned}
+use Rattle.ut_records.proofs.Objects.{Named}
+
+-- ---- the record is the one that its id names, before and after
+
+at_found : (n : ℕ) (x : Option Record) (r : Record) → option_and_then (λ (y : Record). cond (is_of n y) (Some y) None) x ≡ Some r → x ≡ Some r
+at_found n None r e = absurd cc
+at_found n (Some s) r e = pick (is_of n s) (λ b. cond b (Some s) None ≡ Some r → ◌≡◌ {A = Option Record} (Some s) (Some r)) (λ _ h. h) (λ _ h. absurd cc) e
+
+abbrev named_in : List Record → List ℕ → Option Record
+named_in rs id = having_id (λ (y : Record). y.id) rs id
+
+changed_itself : (old r : Record) (rs : List Record) → named_in rs r.id ≡ Some old → named_in (map (λ (y : Record). cond (bytes_eq y.id r.id) r y) rs) r.id ≡ Some r
+changed_itself old r [] e = absurd cc
+changed_itself old r (x ∷ rs) e =
+    pick (bytes_eq x.id r.id) (λ b. named_in (cond b r x ∷ map (λ (y : Record). cond (bytes_eq y.id r.id) r y) rs) r.id ≡ Some r)
+    (λ _. rw (same_text r.id) refl)
+    (λ apart.
+    let other = turned x.id r.id apart in
+    rw other (changed_itself old r rs (subst (λ (b : Bool). cond b (Some x) (named_in rs r.id) ≡ Some old) other e)))
+
+-- ---- what other crates say
+
+abbrev RowsTurned : Type 0
+RowsTurned = (org n : ℕ) (p : OrgPlan) (t u : Tenant) (o : Object) (old new : Record) → u.objects ≡ t.objects → u.job ≡ t.job → new.id ≡ old.id
+    → IsTrue (list_all is_printable new.values) → IsTrue (is_of n new) → record_at t old.id ≡ Some old → record_at u new.id ≡ Some new → object_numbered t n ≡ Some o
+    → turned_changes (layout_of org p t (record { number = n; object = o })) (data_of org n old (slot_entry p t.job n o old)) old new
+    ≡ record_changes org n new.id (kept_at p t n new.id) (kept_at p u n new.id)
+
+pub record UpdateLaws : Type 0 where
+  pub takes : (org : ℕ) (q : OrgPlan) (a : Asked) (name key : List ℕ) (o : Numbered) (given : List Assignment) (old : Record)
+      → IsSound a.tenant → FitsPlan q a.tenant → IsCaller a → OfObjects a (λ x. ReadsWell a x given)
+      → update a name key given ≡ update_on a o None given old
+      → None ≡ first_refusal (update_rules a o None given old (with_given a o.object given old))
+      → AllByRecursion (λ (c : Change). FitsKey c.0) (shares_gone org a.tenant old (with_given a o.object given old))
+      → AllByRecursion (λ (c : Change). FitsKey c.0) (touched_changes org q q a.tenant (with_changed old (with_given a o.object given old) a.tenant) (old.id ∷ []))
+      → Takes org q a.tenant (update a name key given) done PlansSame (updated_changes org q a.tenant old (with_given a o.object given old))
+  pub named : Named
+  pub rows : RowsTurned
+  pub printable : Printable
+
+-- ---- the changes
+
+keys_first : (xs ys : List Change) → HaveKeys (xs ++ ys) → HaveKeys xs
+keys_first [] ys h = tt
+keys_first (x ∷ xs) ys h = (h.0, keys_first xs ys h.1)
+
+keys_second : (xs ys : List Change) → HaveKeys (xs ++ ys) → HaveKeys ys
+keys_second [] ys h = h
+keys_second (x ∷ xs) ys h = keys_second xs ys h.1
+
+module _ (laws : UpdateLaws) (org : ℕ) (q : OrgPlan) (a : Asked) (name key : List ℕ) (given : List Assignment) (sound : IsSound a.tenant) (x : Altered) (is : IsAltered org q a name key given x) where
+  abbrev o : Numbered
+  o = is.named.numbered
+
+  abbrev t : Tenant
+  t = a.tenant
+
+  abbrev l : Layout
+  l = x.named.layout
+
+  abbrev old : Record
+  old = x.named.kept.item
+
+  abbrev r : Record
+  r = with_given a o.object given old
+
+  there : object_numbered t o.number ≡ Some o.object
+  there = laws.named t name o is.named.there
+
+  kept : IsKept q t l is.named.id x.named.kept
+  kept = is.named.kept
+
+  found : record_of_object t o.number is.named.id ≡ Some old
+  found = ap (λ (l : Layout). record_of_object t l.object is.named.id) (sym is.named.layout) ∙ kept.is
+
+  its : Found t o.number is.named.id old
+  its = found_of t o.number is.named.id old (record_at t is.named.id) refl found
+
+  before : record_at t old.id ≡ Some old
+  before = ap (record_at t) its.same ∙ at_found o.number (record_at t is.named.id) old found
+
+  after : record_at (with_changed old r t) r.id ≡ Some r
+  after = changed_itself old r t.records before
+
+  same_object : kept.object ≡ o.object
+  same_object = some_is kept.object o.object (sym kept.there ∙ (ap (λ (l : Layout). object_numbered t l.object) is.named.layout ∙ there))
+
+  row_is : x.named.kept.row ≡ data_of org o.number old (slot_entry q t.job o.number o.object old)
+  row_is =
+      kept.row
+      ∙ (ap (λ (l : Layout). data_of l.org l.object old (slot_entry q t.job l.object kept.object old)) is.named.layout
+      ∙ ap (λ (object : Object). data_of org o.number old (slot_entry q t.job o.number object old)) same_object)
+
+  number : o.number ≡ object_number r.id
+  number = sym (eqb-true (object_number r.id) o.number its.of)
+
+  module _ (printable : IsTrue (list_all is_printable r.values)) where
+    touched_is : turned_changes (layout_of org q t o) (data_of org o.number old (slot_entry q t.job o.number o.object old)) old r ≡ touched_changes org q q t (with_changed old r t) (r.id ∷ [])
+    touched_is =
+        let u = with_changed old r t in
+        laws.rows org o.number q t u o.object old r refl refl refl printable its.of before after there
+        ∙ (ap (λ (m : ℕ). record_changes org m r.id (kept_at q t m r.id) (kept_at q u m r.id)) number
+        ∙ sym (append-nil (record_changes org (object_number r.id) r.id (kept_at q t (object_number r.id) r.id) (kept_at q u (object_number r.id) r.id))))
+
+    turned_are : turned_changes l x.named.kept.row old x.new ≡ touched_changes org q q t (with_changed old r t) (r.id ∷ [])
+    turned_are =
+        ap (λ (l : Layout). turned_changes l x.named.kept.row old x.new) is.named.layout
+        ∙ (ap (λ (row : DataRow). turned_changes (layout_of org q t o) row old x.new) row_is
+        ∙ (ap (λ (z : Record). turned_changes (layout_of org q t o) (data_of org o.number old (slot_entry q t.job o.number o.object old)) old z) is.new
+        ∙ touched_is))
+
+    shares_are : shares_removed l.org x.new.id x.shares ≡ shares_gone org t old r
+    shares_are =
+        ap (λ (l : Layout). shares_removed l.org x.new.id x.shares) is.named.layout
+        ∙ (is.shares ∙ ap (λ (z : Record). shares_gone org t old z) is.new)
+
+    changes_are : altered_changes x ≡ updated_changes org q t old r
+    changes_are =
+        ap (λ (cs : List Change). cs ++ turned_changes l x.named.kept.row old x.new) shares_are
+        ∙ ap (λ (cs : List Change). shares_gone org t old r ++ cs) turned_are
+
+  pub update_taken : IsTrue (all_valid (kinds_in x.named.layout.fields) x.new.values) → FitsPlan q t → IsCaller a → OfObjects a (λ y. ReadsWell a y given) → HaveKeys (altered_changes x)
+      → Takes org q t (update a name key given) done PlansSame (altered_changes x)
+  update_taken values plan caller reads keys =
+      let printable = subst (λ (z : Record). IsTrue (list_all is_printable z.values)) is.new (all_printable laws.printable (kinds_in x.named.layout.fields) x.new.values values) in
+      let free = subst (λ (z : Record). None ≡ first_refusal (update_rules a o None given old z)) is.new is.free in
+      let are = changes_are printable in
+      let fit = subst HaveKeys are keys in
+      let gone = shares_gone org t old r in
+      let touched = touched_changes org q q t (with_changed old r t) (r.id ∷ []) in
+      subst (λ (cs : List Change). Takes org q t (update a name key given) done PlansSame cs) (sym are)
+      (laws.takes org q a name key o given old sound plan caller reads is.verdict free (keys_first gone touched fit) (keys_second gone touched fit))
+
+-- ---- they are few
+
+module _ (few : (l : Layout) (kept : DataRow) (old new : Record) → length (turned_changes l kept old new) ≤ 289) (gone : (l : Layout) (kept : DataRow) (old new : Record) → gone_of (map rows.spelled (turned_changes l kept old new)) ≡ 0) where
+  length_both : (xs ys : List Change) → length (map rows.spelled (xs ++ ys)) ≡ length xs + length ys
+  length_both [] [] = refl
+  length_both [] (y ∷ ys) = let e = length_both [] ys in omega (arith, e)
+  length_both (x ∷ xs) ys = let e = length_both xs ys in omega (arith, e)
+
+  some_removed : (org : ℕ) (id : List ℕ) (us : List ShareRow) → length (shares_removed org id us) ≡ length us
+  some_removed org id [] = refl
+  some_removed org id (u ∷ us) = let e = some_removed org id us in omega (arith, e)
+
+  none_gone : (org : ℕ) (id : List ℕ) (us : List ShareRow) (ys : List Change) → gone_of (map rows.spelled (shares_removed org id us ++ ys)) ≡ gone_of (map rows.spelled ys)
+  none_gone org id [] ys = refl
+  none_gone org id (u ∷ us) ys = let e = none_gone org id us ys in omega (arith, e)
+
+  head : (l : Layout) (kept : DataRow) (old new : Record) → 0 < length (turned_changes l kept old new)
+  unfolding turned_changes
+  head l kept old new = omega arith
+
+  are_few : (x : Altered) (items : List Spelled) → length x.shares ≤ 100 → AreSpelled (altered_changes x) items → AreFew 389 0 items
+  are_few x items short is =
+      let l = x.named.layout in
+      let ys = turned_changes l x.named.kept.row x.named.kept.item x.new in
+      let both = length_both (shares_removed l.org x.new.id x.shares) ys in
+      let shares = some_removed l.org x.new.id x.shares in
+      let most = few l x.named.kept.row x.named.kept.item x.new in
+      let some = head l x.named.kept.row x.named.kept.item x.new in
+      let none = none_gone l.org x.new.id x.shares ys ∙ gone l x.named.kept.row x.named.kept.item x.new in
+      subst (AreFew 389 0) (sym is) (record { some = omega (arith, both, some); most = omega (arith, both, shares, most, short); gone = omega (arith, none) })
+
+  pub altered_few : (x : Altered) (result : Result (Decided (Unit {0})) EditFail) → length x.shares ≤ 100 → IfOk result (λ y. AreSpelled (altered_changes x) y.changes.items) → IfOk result (λ y. AreFew 389 0 y.changes.items)
+  altered_few x (Ok y) short made = are_few x y.changes.items short made
+  altered_few x (Err e) short made = tt

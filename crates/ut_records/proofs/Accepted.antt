@@ -1,7 +1,6 @@
 -- An update is accepted where none of its rules refuses it, and refused by the first that does.
-use Rattle.std.proofs.Common.{◌≡◌, ◌∙◌, ℕ, Bool, true, false, not, cond, IsTrue, List, [], ◌∷◌, ◌++◌, Option, Some, None, refl, sym, ap, subst}
+use Rattle.std.proofs.Common.{◌≡◌, ◌∙◌, ℕ, true, not, cond, List, [], ◌∷◌, ◌++◌, Option, Some, None, refl, sym, ap, subst}
 use Rattle.std.specs.Prelude.{Result, Ok, Err, IsErrAnd}
-use Rattle.ut_data.proofs.Standing.{found_of}
 use Rattle.ut_edits.specs.Edits.{FailsBy}
 use Rattle.ut_keeper.specs.Draft.{Held}
 use Rattle.ut_keeper.specs.State.{KeeperState}
@@ -10,48 +9,41 @@ use Rattle.ut_model.specs.Cases.{in_case}
 use Rattle.ut_model.specs.declared.record.Record.{Record}
 use Rattle.ut_model.specs.declared.record_bodies.Assignment.{Assignment}
 use Rattle.ut_model.specs.declared.refusal.Refusal.{Refusal}
-use Rattle.ut_model.specs.declared.refusal.Refusal.TheVariants.{InsufficientAccess, InvalidType}
+use Rattle.ut_model.specs.declared.refusal.Refusal.TheVariants.{InsufficientAccess}
 use Rattle.ut_model.specs.Edits.{bad_target, bad_value, duplicate, required_missing, same_owner, validation_failed, with_given}
-use Rattle.ut_model.specs.Fields.{column_named}
 use Rattle.ut_model.specs.Keys.{bad_fields}
-use Rattle.ut_model.specs.Levels.{at_least, level}
-use Rattle.ut_model.specs.Objects.{Numbered, object_numbered, record_at}
+use Rattle.ut_model.specs.Levels.{at_least}
+use Rattle.ut_model.specs.Objects.{Numbered, object_numbered}
 use Rattle.ut_model.specs.Paths.{Asked}
-use Rattle.ut_model.specs.Rights.{denied, on_named, record_of_object}
+use Rattle.ut_model.specs.Rights.{denied}
 use Rattle.ut_model.specs.Rules.{Rule, first_refusal, refuse_if}
 use Rattle.ut_model.specs.Sound.{IsSound}
 use Rattle.ut_model.specs.Tenant.{Object}
 use Rattle.ut_model.specs.Updates.{master_changed, owner_denied, retype_conflict, update, update_on, update_rules, with_changed}
-use Rattle.ut_model.specs.Verdict.{Verdict, accept, done, refuse, unless}
+use Rattle.ut_model.specs.Verdict.{Verdict, accept, done, unless}
 use Rattle.ut_rules.specs.Failing.{rule_failed}
-use Rattle.ut_rules.specs.Objects.{numbered_in, object_of_layout}
+use Rattle.ut_rules.specs.Objects.{object_of_layout}
 use Rattle.ut_stands.specs.Calls.{Calls, ended_edit}
 use Rattle.ut_stands.specs.declared.fail.EditFail.{EditFail}
 use Rattle.ut_stands.specs.declared.fail.EditFail.TheVariants.{Refused, Store}
 use Rattle.ut_stands.specs.declared.layout.Layout.{Layout}
-use Rattle.ut_stands.specs.Layouts.{layout_of}
 use Rattle.ut_stands.specs.Plan.{OrgPlan}
 use Rattle.ut_value.specs.declared.sharing.Level.{Level}
 use Rattle.ut_value.specs.declared.sharing.Level.TheVariants.{Edit, Full}
 use Rattle.ut_records.specs.declared.updating.Altered.{Altered}
-use Rattle.ut_records.specs.declared.updating.Named.{Named}
-use Rattle.ut_records.specs.inner.Altered.{AdmitsAltered, Alters, altered_rules}
+use Rattle.ut_named.specs.declared.named.Named.{Named}
+use Rattle.ut_records.specs.inner.Altered.{AdmitsAltered, altered_rules}
 use Rattle.ut_records.specs.inner.Ended.{EndsShares}
-use Rattle.ut_records.specs.inner.Judged.{given_rules}
-use Rattle.ut_records.specs.inner.Named.{FindsNamed, IsNamed}
+use Rattle.ut_records.specs.inner.Giving.{Alters, given_rules}
+use Rattle.ut_named.specs.Named.{FindsNamed, IsNamed}
 use Rattle.ut_records.specs.inner.Updated.{IsAltered, Updates}
-use Rattle.ut_records.proofs.Accepting.{HasAll, first_stays, first_then}
-use Rattle.ut_records.proofs.Facts.{pick}
-use Rattle.ut_records.proofs.Naming.{comes_to}
-use Rattle.ut_records.proofs.Spelled.{plain, spelled}
+use Rattle.ut_records.proofs.Accepting.{first_stays, first_then}
+use Rattle.ut_records.proofs.GivenRules.{alters_there}
+use Rattle.ut_named.proofs.Facts.{pick}
+use Rattle.ut_named.proofs.Naming.{HasAll, named_found, named_verdict}
+use Rattle.ut_named.proofs.Spelled.{plain, spelled}
 
 -- ---- rules over the object that a layout spells
-
-alters_plain : (a : Asked) (o : Numbered) (given : List Assignment) (old : Record) (r : Result Record EditFail) → Alters a (plain o).object given old r → Alters a o.object given old r
-unfolding column_named
-alters_plain a o given old (Ok r) h = h
-alters_plain a o given old (Err (Refused x)) h = h
-alters_plain a o given old (Err (Store e)) h = h
 
 abbrev behind : Asked → Numbered → Rule → (old new : Record) → List Rule
 behind a o own old new = bad_target a o old new ∷ master_changed a.tenant o old new ∷ retype_conflict a.tenant o new ∷ own ∷ duplicate a o new ∷ []
@@ -74,7 +66,7 @@ module _ (org : ℕ) (q : OrgPlan) (a : Asked) (name key : List ℕ) (given : Li
 
   -- no such record is found
   pub not_named : (r : Result Named EditFail) (e : EditFail) → FindsNamed org q a name key r → r ≡ Err e → FailsBy (update a name key given) e
-  not_named r e h was = subst (FindsNamed org q a name key) was h (λ o. update_on a o None given)
+  not_named r e h was = subst (FindsNamed org q a name key) was h Edit (λ o. update_on a o None given)
 
   pub named_so_too : (r : Result Named EditFail) (x : Named) → FindsNamed org q a name key r → r ≡ Ok x → IsNamed org q a.tenant name key x
   named_so_too r x h was = subst (FindsNamed org q a name key) was h
@@ -89,19 +81,14 @@ module _ (org : ℕ) (q : OrgPlan) (a : Asked) (name key : List ℕ) (given : Li
     abbrev altered : Record
     altered = with_given a o.object given old
 
-    found : record_of_object a.tenant o.number is.id ≡ Some old
-    found = ap (λ (l : Layout). record_of_object a.tenant l.object is.id) (sym is.layout) ∙ is.kept.is
-
     comes : update a name key given ≡ update_on a o None given old
-    comes =
-        ap (λ (at : Option Numbered). in_case at (refuse a.tenant (InvalidType name)) (λ o. on_named a o key Edit (update_on a o None given))) is.there
-        ∙ comes_to a o key (update_on a o None given) all sound admin is.id old is.spelled found
+    comes = named_verdict org q a name key x is all sound admin Edit (λ o. update_on a o None given)
 
     -- an administrator may give it another owner
     owner_free : (new : Record) → owner_denied a old new ≡ None
     owner_free new =
         pick (same_owner old new) (λ b. cond b None (denied a Full old) ≡ None) (λ _. refl)
-        (λ _. ap (λ (l : Level). refuse_if (not (at_least Full l)) InsufficientAccess) (all a.tenant a.user old sound admin (found_of a.tenant o.number is.id old (record_at a.tenant is.id) refl found).has))
+        (λ _. ap (λ (l : Level). refuse_if (not (at_least Full l)) InsufficientAccess) (all a.tenant a.user old sound admin (named_found org q a name key x is).has))
 
     behind_is : (new : Record) → altered_rules x.layout old new a ≡ behind a o (validation_failed a o.object new (Some old)) old new
     behind_is new =
@@ -125,7 +112,7 @@ module _ (org : ℕ) (q : OrgPlan) (a : Asked) (name key : List ℕ) (given : Li
         by (Some y) e = let same : y ≡ r = cc in ap Err same
 
     alters_of : (r : Result Record EditFail) → Alters a (object_of_layout x.layout) given old r → Alters a o.object given old r
-    alters_of r h = alters_plain a o given old r (subst (λ (p : Numbered). Alters a p.object given old r) (ap numbered_in is.layout ∙ spelled org q a.tenant o) h)
+    alters_of r h = alters_there org q a o x.layout given old r is.layout h
 
     pub unaltered : (r : Result Record EditFail) (e : EditFail) → Alters a (object_of_layout x.layout) given old r → r ≡ Err e → FailsBy (update a name key given) e
     unaltered r e h was = by e (subst (Alters a o.object given old) was (alters_of r h))

@@ -1,8 +1,7 @@
 -- A create is accepted where none of its rules refuses it, and refused by the first that does.
-use Rattle.std.proofs.Common.{◌≡◌, ◌∙◌, inl, inr, ℕ, ◌+◌, Bool, true, false, not, cond, IsTrue, List, [], ◌∷◌, ◌++◌, Option, Some, None, refl, sym, ap, subst, bytes_eq}
-use Rattle.std.specs.Prelude.{Result, Ok, Err, IsErrAnd, length}
+use Rattle.std.proofs.Common.{◌≡◌, ◌∙◌, inl, inr, ℕ, ◌+◌, true, not, cond, List, [], ◌∷◌, ◌++◌, Option, Some, None, refl, sym, ap, subst, bytes_eq}
+use Rattle.std.specs.Prelude.{Result, Err, length}
 use Rattle.std.specs.Option.{option_and_then}
-use Rattle.ut_edits.specs.Edits.{FailsBy}
 use Rattle.ut_keys.specs.declared.object.ObjectRow.{ObjectRow}
 use Rattle.ut_keys.specs.declared.org.OrgRow.{OrgRow}
 use Rattle.ut_model.specs.Cases.{in_case}
@@ -11,11 +10,9 @@ use Rattle.ut_model.specs.declared.limit.Limit.TheVariants as limit
 use Rattle.ut_model.specs.declared.record.Record.{Record}
 use Rattle.ut_model.specs.declared.record_bodies.Assignment.{Assignment}
 use Rattle.ut_model.specs.declared.refusal.Refusal.{Refusal}
-use Rattle.ut_model.specs.declared.refusal.Refusal.TheVariants.{InsufficientAccess, InvalidType}
-use Rattle.ut_model.specs.Edits.{bad_target, bad_value, duplicate, required_missing, validation_failed, with_given}
-use Rattle.ut_model.specs.Fields.{column_named}
-use Rattle.ut_model.specs.Keys.{bad_fields}
-use Rattle.ut_model.specs.Levels.{at_least, level}
+use Rattle.ut_model.specs.declared.refusal.Refusal.TheVariants.{InsufficientAccess}
+use Rattle.ut_model.specs.Edits.{bad_target, duplicate, validation_failed}
+use Rattle.ut_model.specs.Levels.{at_least}
 use Rattle.ut_model.specs.Membership.{Has}
 use Rattle.ut_model.specs.Objects.{Numbered, object_named, object_numbered, record_at, records_of}
 use Rattle.ut_model.specs.Paths.{Asked}
@@ -23,25 +20,27 @@ use Rattle.ut_model.specs.Relationships.{Reference, master_of_object, named_id, 
 use Rattle.ut_model.specs.Rights.{denied}
 use Rattle.ut_model.specs.Rules.{Rule, first_refusal, over_limit, refuse_if}
 use Rattle.ut_model.specs.Sound.{IsSound}
-use Rattle.ut_model.specs.Tenant.{Object, Tenant, User}
-use Rattle.ut_model.specs.Verdict.{Verdict, accept, made_new, refuse, unless}
+use Rattle.ut_model.specs.Tenant.{Object}
+use Rattle.ut_model.specs.Verdict.{Verdict, accept, made_new, unless}
 use Rattle.ut_model.specs.World.{having_id}
+use Rattle.ut_named.proofs.Naming.{HasAll}
 use Rattle.ut_rules.specs.Failing.{rule_failed}
-use Rattle.ut_rules.specs.Objects.{numbered_in}
+use Rattle.ut_rules.specs.Objects.{numbered_in, object_of_layout}
 use Rattle.ut_stands.specs.declared.fail.EditFail.{EditFail}
-use Rattle.ut_stands.specs.declared.fail.EditFail.TheVariants.{Refused, Store}
 use Rattle.ut_stands.specs.declared.layout.Layout.{Layout}
 use Rattle.ut_stands.specs.Layouts.{layout_of}
 use Rattle.ut_stands.specs.Metadata.{org_of}
 use Rattle.ut_stands.specs.Plan.{OrgPlan}
 use Rattle.ut_value.specs.declared.sharing.Level.{Level}
-use Rattle.ut_value.specs.declared.sharing.Level.TheVariants.{Edit, Full}
+use Rattle.ut_value.specs.declared.sharing.Level.TheVariants.{Edit}
 use Rattle.ut_records.specs.Creating.{new_record}
 use Rattle.ut_records.specs.declared.object.ReadObject.{ReadObject}
-use Rattle.ut_records.specs.inner.Judged.{Admits, Lacks, Proposes, admit_rules, given_rules, limit_rule, others_rules, own_rules}
-use Rattle.ut_records.specs.inner.Object.{IsRead, Reads}
-use Rattle.ut_records.proofs.Facts.{pick, some_is}
-use Rattle.ut_records.proofs.Spelled.{plain, spelled}
+use Rattle.ut_records.specs.inner.Judged.{admit_rules, limit_rule, others_rules}
+use Rattle.ut_records.specs.inner.Giving.{Alters, given_rules}
+use Rattle.ut_records.proofs.GivenRules.{alters_there}
+use Rattle.ut_records.specs.inner.Object.{IsRead}
+use Rattle.ut_named.proofs.Facts.{pick}
+use Rattle.ut_named.proofs.Spelled.{plain, spelled}
 
 -- ---- the first refusal
 
@@ -60,10 +59,6 @@ passed_over (Some r) second rest e = refl
 passed_over None second rest e = ap (λ (x : Rule). first_refusal (x ∷ rest)) e
 
 -- ---- the master of a detail, for an administrator
-
--- what `ut_model` says of an administrator's level
-abbrev pub HasAll : Type 0
-HasAll = (t : Tenant) (u : User) (r : Record) → IsSound t → u.admin ≡ true → Has t.records r → level t u r ≡ Full
 
 found_has : (i : List ℕ) (rs : List Record) (r : Record) → having_id (λ (x : Record). x.id) rs i ≡ Some r → Has rs r
 found_has i [] r e = absurd cc
@@ -92,15 +87,11 @@ master_free all a o new sound admin = by (master_of_object a.tenant.objects o.nu
 -- ---- the rules of a create
 
 -- those on what is given, over the object that a layout spells
-given_plain : (a : Asked) (o : Numbered) (given : List Assignment) (r : Result Record EditFail) → Proposes a (plain o) given r → Proposes a o given r
-unfolding column_named
-given_plain a o given (Ok r) h = h
-given_plain a o given (Err (Refused x)) h = h
-given_plain a o given (Err (Store e)) h = h
-
-pub proposed_of : (org : ℕ) (q : OrgPlan) (a : Asked) (o : Numbered) (l : Layout) (given : List Assignment) (r : Result Record EditFail) → l ≡ layout_of org q a.tenant o → Proposes a (numbered_in l) given r → Proposes a o given r
+pub proposed_of : (org : ℕ) (q : OrgPlan) (a : Asked) (o : Numbered) (l : Layout) (given : List Assignment) (r : Result Record EditFail) → l ≡ layout_of org q a.tenant o
+    → Alters a (object_of_layout l) given (empty_record a (numbered_in l)) r → Alters a o.object given (empty_record a o) r
 proposed_of org q a o l given r is h =
-    given_plain a o given r (subst (λ (x : Numbered). Proposes a x given r) (ap numbered_in is ∙ spelled org q a.tenant o) h)
+    let same : empty_record a (numbered_in l) ≡ empty_record a o = ap (λ (p : Numbered). empty_record a p) (ap numbered_in is ∙ spelled org q a.tenant o) in
+    alters_there org q a o l given (empty_record a o) r is (subst (λ (old : Record). Alters a (object_of_layout l) given old r) same h)
 
 -- those behind them
 abbrev pub behind : Asked → Numbered → (new : Record) → List Rule
@@ -165,6 +156,3 @@ refused_so a name o given r there e = ap (λ (v : Verdict). v.answer) (by name t
     unless_refused : (rule : Rule) → Some r ≡ rule → (unless rule a.tenant it).answer ≡ Err r
     unless_refused None e = absurd cc
     unless_refused (Some x) e = ap Err (sym (some_refusal r x e))
-
-pub unnamed_so : (a : Asked) (name : List ℕ) (given : List Assignment) (r : Refusal) → object_named a.tenant name ≡ None → r ≡ InvalidType name → (create a name given).answer ≡ Err r
-unnamed_so a name given r none is = rw (none, is) refl

@@ -1,6 +1,5 @@
 -- The changes of an update, those of its shares and those of the record.
-use Rattle.std.proofs.Common.{◌≡◌, ◌∙◌, List, [], ◌∷◌, ◌++◌, map, refl, sym, ap}
-use Rattle.std.specs.List.{AllByRecursion}
+use Rattle.std.proofs.Common.{◌≡◌, ◌∙◌, List, [], ◌∷◌, ◌++◌, map, refl, ap}
 use Rattle.ut_edits.specs.Rows.{AreSpelled, spelled}
 use Rattle.ut_keeper.specs.declared.keeper.Change.{Change as Spelled}
 use Rattle.ut_stands.specs.Changes.{Change}

@@ -1,6 +1,6 @@
 -- Which rows count a record that comes.
-use Rattle.std.proofs.Common.{◌≡◌, ◌∙◌, ◌⊎◌, inl, inr, ℕ, ◌+◌, suc, ◌<◌, ◌≤◌, ◌^◌, Bool, true, false, not, ◌&&◌, ◌||◌, cond, eqb, is_lt, IsTrue, List, [], ◌∷◌, length, map, Option, Some, None, refl, sym, ap, subst, arith}
-use Rattle.std.specs.Prelude.{filter, slice_get}
+use Rattle.std.proofs.Common.{◌≡◌, ◌∙◌, ℕ, suc, ◌<◌, ◌^◌, Bool, true, false, ◌&&◌, cond, eqb, is_lt, List, [], ◌∷◌, length, Option, Some, None, refl, sym, ap, subst, arith}
+use Rattle.std.specs.Prelude.{filter}
 use Rattle.std.specs.Option.{option_map}
 use Rattle.std.specs.Ordering.{nat_cmp}
 use Rattle.std.specs.Cmp.Lexicographic.{slice_cmp}
@@ -17,8 +17,8 @@ use Rattle.ut_model.specs.Sound.{IsSound}
 use Rattle.ut_model.specs.Tenant.{Object, Tenant}
 use Rattle.ut_model.specs.declared.record.Record.{Record}
 use Rattle.ut_records.specs.Creating.{counts_with}
-use Rattle.ut_records.proofs.Facts.{both_false, eqb_same, or_false, pick, some_is, true_false}
-use Rattle.ut_stands.specs.Changes.{Change, is_changed}
+use Rattle.ut_named.proofs.Facts.{both_false, eqb_same, or_false, pick, some_is, true_false}
+use Rattle.ut_stands.specs.Changes.{is_changed}
 use Rattle.ut_stands.specs.Metadata.{row_of_object}
 use Rattle.ut_stands.specs.Plan.{OrgPlan}
 use Rattle.ut_stands.specs.Stands.{org_of_key, row_in}

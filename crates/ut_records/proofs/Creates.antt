@@ -1,5 +1,5 @@
 -- The changes of a create that is accepted take the organisation's rows to those of the tenant that it leaves.
-use Rattle.std.proofs.Common.{◌≡◌, ◌∙◌, inl, inr, ℕ, ◌+◌, ◌<◌, ◌≤◌, ◌^◌, Bool, true, false, ◌&&◌, IsTrue, List, [], ◌∷◌, ◌++◌, Option, Some, None, refl, sym, ap, subst, arith, bytes_eq}
+use Rattle.std.proofs.Common.{◌≡◌, ◌∙◌, ℕ, ◌<◌, ◌^◌, Bool, true, false, ◌&&◌, IsTrue, List, [], ◌∷◌, Some, None, refl, sym, ap, subst, bytes_eq}
 use Rattle.std.specs.Prelude.{Err, IfErr, IfOk, Ok, OnOk, Result, slice_get}
 use Rattle.std.specs.List.{AllByRecursion, list_all}
 use Rattle.ut_data.specs.Decoding.{kinds_in}
@@ -43,15 +43,13 @@ use Rattle.ut_value.specs.declared.value.Value.{Value}
 use Rattle.ut_value.specs.Id.{made}
 use Rattle.ut_value.specs.Printing.{is_printable}
 use Rattle.ut_value.specs.Values.{valid}
-use Rattle.ut_records.specs.Creating.{IsGiving, PlansNew, created_changes, new_record}
+use Rattle.ut_records.specs.Creating.{PlansNew, created_changes, new_record}
 use Rattle.ut_records.specs.declared.creating.Accepted.{Accepted}
-use Rattle.ut_records.specs.declared.object.ReadObject.{ReadObject}
 use Rattle.ut_records.specs.inner.Judged.{HaveKeys, IsAccepted, changes_of}
-use Rattle.ut_records.specs.inner.Object.{IsRead, object_with, row_with}
-use Rattle.ut_records.proofs.Facts.{pick}
+use Rattle.ut_records.specs.inner.Object.{object_with, row_with}
 use Rattle.ut_records.proofs.Judging.{small_number}
 use Rattle.ut_records.proofs.Numbers.{IdOrder, named, new_is_of, no_value, object_counted, past, row_counted, unnamed}
-use Rattle.ut_records.proofs.Objects.{Named}
+use Rattle.ut_named.proofs.Objects.{Named}
 use Rattle.ut_records.proofs.Rows.{RowsMade, touched_is}
 
 -- ---- an edit that is decided, where its changes are right if there are any

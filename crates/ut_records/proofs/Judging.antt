@@ -1,67 +1,31 @@
 -- What judging a create finds.
-use Rattle.std.proofs.Common.{◌≡◌, ◌∙◌, ℕ, suc, zero, ◌+◌, ◌<◌, ◌≤◌, ◌^◌, true, IsTrue, List, [], ◌∷◌, length, map, Option, Some, None, ◌++◌, refl, sym, ap, subst, arith}
-use Rattle.std.specs.Prelude.{Result, Ok, Err, IsErrAnd, slice_get}
-use Rattle.std.specs.List.{AllByRecursion, enumerate_from}
+use Rattle.std.proofs.Common.{◌≡◌, ◌∙◌, ℕ, ◌<◌, List, [], ◌∷◌, length, Some, None, ◌++◌, sym, ap, subst, arith}
+use Rattle.std.specs.Prelude.{Result, Ok, Err, IsErrAnd}
 use Rattle.std.proofs.lemmas.Option.{slice_get_within}
 use Rattle.std.specs.Option.{option_or}
-use Rattle.ut_data.specs.Decoding.{has_types}
 use Rattle.ut_edits.specs.Edits.{FailsBy}
 use Rattle.ut_keeper.specs.Draft.{Held}
 use Rattle.ut_keeper.specs.State.{KeeperState}
-use Rattle.ut_model.specs.Creates.{create, create_rules, master_denied}
+use Rattle.ut_model.specs.Creates.{create, create_rules, empty_record, master_denied}
 use Rattle.ut_model.specs.declared.record.Record.{Record}
 use Rattle.ut_model.specs.declared.record_bodies.Assignment.{Assignment}
-use Rattle.ut_model.specs.Objects.{Numbered, numbered, object_named, object_numbered}
+use Rattle.ut_model.specs.Objects.{Numbered, object_numbered}
 use Rattle.ut_model.specs.Paths.{Asked}
 use Rattle.ut_model.specs.Rules.{Rule, first_refusal}
 use Rattle.ut_model.specs.declared.refusal.Refusal.{Refusal}
 use Rattle.ut_model.specs.Sound.{IsSound}
-use Rattle.ut_model.specs.SoundMetadata.{IsSoundObject}
-use Rattle.ut_model.specs.Tenant.{Field, Object, Tenant}
+use Rattle.ut_model.specs.Tenant.{Tenant}
 use Rattle.ut_stands.specs.Calls.{Calls, ended_edit}
 use Rattle.ut_stands.specs.declared.fail.EditFail.{EditFail}
 use Rattle.ut_stands.specs.declared.fail.EditFail.TheVariants.{Refused, Store}
-use Rattle.ut_stands.specs.declared.layout.Layout.{Layout}
-use Rattle.ut_stands.specs.Layouts.{layout_of, place_of}
 use Rattle.ut_stands.specs.Plan.{OrgPlan}
 use Rattle.ut_records.specs.Creating.{new_record}
 use Rattle.ut_records.specs.declared.creating.Accepted.{Accepted}
 use Rattle.ut_records.specs.declared.object.ReadObject.{ReadObject}
-use Rattle.ut_records.specs.inner.Judged.{Accepts, Admits, Proposes, admit_rules, given_rules}
-use Rattle.ut_records.specs.inner.Object.{IsRead, IsUsable, Reads}
-use Rattle.ut_records.proofs.Facts.{some_is}
-use Rattle.ut_records.proofs.Accepting.{behind, behind_refused, first_stays, first_then, free_of, given_refused, refused_so, unnamed_so}
-
--- ---- the layout of an object
-
-abbrev pair : ℕ × Object → Numbered
-pair o = record { number = o.0; object = o.1 }
-
-numbered_all : (P : Numbered → Type 0) (k : ℕ) (os : List Object) (i : ℕ) (o : Object) → AllByRecursion P (map pair (enumerate_from k os)) → slice_get os i ≡ Some o → P (record { number = k + i; object = o })
-numbered_all P k [] i o h e = absurd cc
-numbered_all P k (x ∷ os) zero o h e =
-    subst (λ (n : ℕ). P (record { number = n; object = o })) (omega arith) (subst (λ (y : Object). P (record { number = k; object = y })) (some_is x o e) h.0)
-numbered_all P k (x ∷ os) (suc i) o h e =
-    subst (λ (n : ℕ). P (record { number = n; object = o })) (omega arith) (numbered_all P (k + 1) os i o h.1 e)
-
-sound_object : (t : Tenant) (n : ℕ) (o : Object) → IsSound t → object_numbered t n ≡ Some o → IsSoundObject t.objects (record { number = n; object = o })
-sound_object t n o s e =
-    subst (λ (k : ℕ). IsSoundObject t.objects (record { number = k; object = o })) (omega arith) (numbered_all (IsSoundObject t.objects) 0 t.objects n o s.metadata.objects e)
-
-as_many : (p : OrgPlan) (n k : ℕ) (fs : List Field) → length (map (place_of p n) (enumerate_from k fs)) ≡ length fs
-as_many p n k [] = refl
-as_many p n k (f ∷ fs) = ap suc (as_many p n (k + 1) fs)
-
--- what `ut_data` says of an object's types
-abbrev pub Typed : Type 0
-Typed = (org n : ℕ) (p : OrgPlan) (t : Tenant) (o : Object) → IsSound t → object_numbered t n ≡ Some o → IsTrue (has_types (layout_of org p t (record { number = n; object = o })))
-
-pub usable : Typed → (org : ℕ) (q : OrgPlan) (t : Tenant) (o : Numbered) (l : Layout) → IsSound t → object_numbered t o.number ≡ Some o.object → l ≡ layout_of org q t o → IsUsable l
-usable typed org q t o l sound there is =
-    subst IsUsable (sym is) (record {
-      few = omega (arith, as_many q o.number 0 o.object.fields, (sound_object t o.number o.object sound there).few_fields);
-      types = typed org o.number q t o.object sound there;
-    })
+use Rattle.ut_records.specs.inner.Judged.{Accepts, Admits, admit_rules}
+use Rattle.ut_records.specs.inner.Giving.{Alters, given_rules}
+use Rattle.ut_records.specs.inner.Object.{IsRead, Reads}
+use Rattle.ut_records.proofs.Accepting.{behind, behind_refused, first_stays, first_then, free_of, given_refused, refused_so}
 
 -- an object's number is one of so few
 pub small_number : (t : Tenant) (o : Numbered) → IsSound t → object_numbered t o.number ≡ Some o.object → o.number < 3844
@@ -77,13 +41,6 @@ module _ (org : ℕ) (q : OrgPlan) (a : Asked) (name : List ℕ) (given : List A
   passed e (Ok x) is h = absurd is
   passed e (Err y) is h = subst (FailsBy (create a name given)) (sym is) h
 
-  pub unread : (r : Result ReadObject EditFail) (e : EditFail) → Reads org q a.tenant name r → r ≡ Err e → FailsBy (create a name given) e
-  unread r e h was = by e (subst (Reads org q a.tenant name) was h)
-    where
-      by : (e : EditFail) → Reads org q a.tenant name (Err e) → FailsBy (create a name given) e
-      by (Refused x) h = unnamed_so a name given x h.0 h.1
-      by (Store f) h = h
-
   pub read_so : (r : Result ReadObject EditFail) (x : ReadObject) → Reads org q a.tenant name r → r ≡ Ok x → IsRead org q a.tenant name x
   read_so r x h was = subst (Reads org q a.tenant name) was h
 
@@ -91,10 +48,10 @@ module _ (org : ℕ) (q : OrgPlan) (a : Asked) (name : List ℕ) (given : List A
     abbrev o : Numbered
     o = is.numbered
 
-    pub unproposed : (r : Result Record EditFail) (e : EditFail) → Proposes a o given r → r ≡ Err e → FailsBy (create a name given) e
-    unproposed r e h was = by e (subst (Proposes a o given) was h)
+    pub unproposed : (r : Result Record EditFail) (e : EditFail) → Alters a o.object given (empty_record a o) r → r ≡ Err e → FailsBy (create a name given) e
+    unproposed r e h was = by e (subst (Alters a o.object given (empty_record a o)) was h)
       where
-        by : (e : EditFail) → Proposes a o given (Err e) → FailsBy (create a name given) e
+        by : (e : EditFail) → Alters a o.object given (empty_record a o) (Err e) → FailsBy (create a name given) e
         by (Refused y) h = refused_so a name o given y is.there (given_refused a o given (new_record a o given) y h)
         by (Store f) h = h
 

@@ -1,9 +1,8 @@
 -- The id of a new record, and the rows that count it.
-use Rattle.std.proofs.Common.{◌≡◌, ◌∙◌, inl, inr, ℕ, suc, ◌+◌, ◌-◌, ◌/◌, ◌%◌, ◌*◌, ◌<◌, ◌≤◌, ◌^◌, Bool, true, false, ◌&&◌, cond, eqb, is_lt, IsTrue, List, [], ◌∷◌, length, Option, Some, None, refl, sym, ap, ap₂, subst, arith, div-one, bytes_eq, Ordering, nat_cmp}
-use Rattle.std.specs.Prelude.{filter, IfSome}
+use Rattle.std.proofs.Common.{◌≡◌, ◌∙◌, inl, inr, ℕ, ◌+◌, ◌/◌, ◌%◌, ◌*◌, ◌<◌, ◌≤◌, ◌^◌, Bool, true, false, cond, eqb, is_lt, List, [], ◌∷◌, length, Option, Some, None, refl, sym, ap, ap₂, arith, div-one, bytes_eq, Ordering, nat_cmp}
+use Rattle.std.specs.Prelude.{filter}
 use Rattle.std.specs.Cmp.Lexicographic.{bytes_decides, slice_cmp}
 use Rattle.std.specs.declared.cmp.Ordering.TheVariants.{Less}
-use Rattle.std.proofs.lemmas.Bool.{eqb-true}
 use Rattle.std.proofs.lemmas.Bool.Decides.{nat_tests}
 use Rattle.ut_keys.specs.declared.object.ObjectRow.{ObjectRow}
 use Rattle.ut_keys.specs.declared.org.OrgRow.{OrgRow}
@@ -11,7 +10,7 @@ use Rattle.ut_model.specs.Creates.{with_record}
 use Rattle.ut_model.specs.declared.record.Record.{Record}
 use Rattle.ut_model.specs.Jobs.{is_past}
 use Rattle.ut_model.specs.Membership.{Has}
-use Rattle.ut_model.specs.Objects.{is_of, object_number, record_at, record_prefix, records_of}
+use Rattle.ut_model.specs.Objects.{is_of, object_number, record_at, record_prefix}
 use Rattle.ut_model.specs.Ordered.{put_in}
 use Rattle.ut_model.specs.SoundSharing.{IsCursor}
 use Rattle.ut_model.specs.Tenant.{Job, Object, Tenant}
@@ -25,7 +24,7 @@ use Rattle.ut_value.specs.declared.job.Phase.TheVariants as phase
 use Rattle.ut_value.specs.Digits.{digits}
 use Rattle.ut_value.specs.Id.{digit62, made, number62, value62}
 use Rattle.ut_records.specs.inner.Object.{object_with, row_with}
-use Rattle.ut_records.proofs.Facts.{eqb_same, pick, same_text, true_false}
+use Rattle.ut_named.proofs.Facts.{eqb_same, pick, same_text, true_false}
 
 -- ---- the object of a record's id
 

@@ -1,39 +1,27 @@
 -- The object that was read.
-use Rattle.std.proofs.Common.{◌≡◌, ◌≢◌, ◌∙◌, ℕ, List, Option, Some, None, refl, sym, ap, subst}
+use Rattle.std.proofs.Common.{◌≡◌, ◌≢◌, ◌∙◌, ℕ, List, Some, sym, ap, subst}
 use Rattle.std.specs.Prelude.{Result, Ok, Err, IsErrAnd}
 use Rattle.std.specs.Option.{option_map}
 use Rattle.ut_edits.proofs.Reading.{not_missed}
-use Rattle.ut_edits.specs.Naming.{NamesLayout}
 use Rattle.ut_keeper.specs.Tables.{Tables}
 use Rattle.ut_keys.specs.declared.fail.StoreFail.{StoreFail}
 use Rattle.ut_keys.specs.declared.fail.StoreFail.TheVariants.{Damaged}
 use Rattle.ut_keys.specs.declared.object.ObjectRow.{ObjectRow}
 use Rattle.ut_keys.specs.declared.org.OrgRow.{OrgRow}
 use Rattle.ut_model.specs.declared.refusal.Refusal.TheVariants.{NotFound}
-use Rattle.ut_model.specs.Objects.{Numbered, object_named, object_numbered}
-use Rattle.ut_model.specs.Tenant.{Object, Tenant}
+use Rattle.ut_model.specs.Tenant.{Tenant}
 use Rattle.ut_model.specs.Verdict.{refuse}
+use Rattle.ut_named.proofs.Objects.{IsOn, Named}
 use Rattle.ut_stands.specs.declared.fail.EditFail.{EditFail}
-use Rattle.ut_stands.specs.declared.fail.EditFail.TheVariants.{Refused, Store}
 use Rattle.ut_stands.specs.declared.layout.Layout.{Layout}
 use Rattle.ut_stands.specs.Fails.{of_store}
-use Rattle.ut_stands.specs.Layouts.{layout_of, own_object_row, own_row}
+use Rattle.ut_stands.specs.Layouts.{own_object_row, own_row}
 use Rattle.ut_stands.specs.Local.{FindsThere, StandsIn}
 use Rattle.ut_stands.specs.Metadata.{org_of, row_of_object}
 use Rattle.ut_stands.specs.Plan.{OrgPlan}
 use Rattle.ut_records.specs.declared.object.ReadObject.{ReadObject}
 use Rattle.ut_records.specs.inner.Object.{IsRead, Reads}
-use Rattle.ut_records.proofs.Facts.{some_is}
-
--- what `ut_model` says of an object that is named
-abbrev pub Named : Type 0
-Named = (t : Tenant) (name : List ℕ) (o : Numbered) → object_named t name ≡ Some o → object_numbered t o.number ≡ Some o.object
-
-abbrev pub IsOn : (org : ℕ) → OrgPlan → Tenant → (name : List ℕ) → Layout → Type 0
-IsOn org q t name l = (o : Numbered) × (object_named t name ≡ Some o) × (l ≡ layout_of org q t o)
-
-pub named_so : (org : ℕ) (q : OrgPlan) (t : Tenant) (name : List ℕ) (r : Result Layout EditFail) (l : Layout) → NamesLayout org q t name r → r ≡ Ok l → IsOn org q t name l
-named_so org q t name r l h was = subst (NamesLayout org q t name) was h
+use Rattle.ut_named.proofs.Facts.{some_is}
 
 pub read_failed : (org : ℕ) (q : OrgPlan) (t : Tenant) (name : List ℕ) (e : StoreFail) (out : Result ReadObject EditFail) → IsErrAnd out (λ y. y ≡ of_store e) → e ≢ Damaged → Reads org q t name out
 read_failed org q t name e (Ok x) passed h = absurd passed

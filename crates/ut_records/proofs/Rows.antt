@@ -1,5 +1,5 @@
 -- The rows of a new record are those of all that differ where it comes.
-use Rattle.std.proofs.Common.{◌≡◌, ◌∙◌, ℕ, ◌+◌, ◌<◌, ◌≤◌, ◌^◌, Bool, true, false, cond, eqb, IsTrue, List, [], ◌∷◌, ◌++◌, length, map, Option, Some, None, refl, sym, ap, ap₂, subst, arith, bytes_eq}
+use Rattle.std.proofs.Common.{◌≡◌, ◌∙◌, ℕ, ◌≤◌, true, cond, eqb, IsTrue, List, [], ◌∷◌, ◌++◌, length, map, Option, Some, None, refl, sym, ap, subst, arith, bytes_eq}
 use Rattle.std.specs.Prelude.{Result, Ok, Err, IfOk}
 use Rattle.std.specs.List.{AllByRecursion, flat_map, list_all, range_with_len}
 use Rattle.std.specs.Option.{option_and_then, option_map}
@@ -9,10 +9,9 @@ use Rattle.ut_edits.specs.Rows.{AreFew, AreSpelled, change_to, gone_of}
 use Rattle.ut_edits.specs.Rows as rows
 use Rattle.ut_edits.specs.declared.decided.Decided.{Decided}
 use Rattle.ut_keeper.specs.declared.keeper.Change.{Change as Spelled}
-use Rattle.ut_keys.specs.Keys.{Data, FitsKey, Index, Key, Relation, Unique}
+use Rattle.ut_keys.specs.Keys.{Index, Key, Relation, Unique}
 use Rattle.ut_keys.specs.declared.data.DataRow.{DataRow}
 use Rattle.ut_keys.specs.declared.share.ShareRow.{ShareRow}
-use Rattle.ut_keys.specs.Rows.{object_form, org_form}
 use Rattle.ut_model.specs.Creates.{with_record}
 use Rattle.ut_model.specs.declared.record.Record.{Record}
 use Rattle.ut_model.specs.Objects.{Numbered, is_of, object_number, object_numbered, record_at}
@@ -25,8 +24,7 @@ use Rattle.ut_stands.specs.declared.fail.EditFail.{EditFail}
 use Rattle.ut_stands.specs.Entries.{Entry, job_value}
 use Rattle.ut_stands.specs.Layouts.{job_place, layout_of}
 use Rattle.ut_stands.specs.Local.{IsIn}
-use Rattle.ut_stands.specs.Metadata.{org_of, row_of_object}
-use Rattle.ut_stands.specs.Plan.{OrgPlan, slot_count, slot_type, type_there}
+use Rattle.ut_stands.specs.Plan.{OrgPlan, slot_count, slot_type}
 use Rattle.ut_stands.specs.Stands.{Kept, kept_at, kept_in, org_of_key}
 use Rattle.ut_stands.specs.declared.layout.JobPlace.{JobPlace}
 use Rattle.ut_stands.specs.declared.layout.Layout.{Layout}
@@ -37,15 +35,13 @@ use Rattle.ut_value.specs.declared.job.Phase.{Phase}
 use Rattle.ut_value.specs.declared.job.Phase.TheVariants as phase
 use Rattle.ut_value.specs.declared.value.FieldType.{FieldType}
 use Rattle.ut_value.specs.Printing.{is_printable}
-use Rattle.ut_records.specs.Creating.{counts_with, created_changes}
 use Rattle.ut_records.specs.declared.creating.Accepted.{Accepted}
 use Rattle.ut_records.specs.declared.updating.Altered.{Altered}
-use Rattle.ut_records.specs.inner.Ended.{shares_removed}
+use Rattle.ut_named.specs.Shares.{shares_removed}
 use Rattle.ut_records.specs.inner.Judged.{HaveKeys, changes_of}
 use Rattle.ut_records.specs.inner.Updated.{altered_changes}
-use Rattle.ut_records.specs.inner.Object.{IsOwn, object_with, row_with}
-use Rattle.ut_records.proofs.Facts.{pick, some_is}
-use Rattle.ut_records.proofs.Numbers.{named, object_counted, row_counted, unnamed}
+use Rattle.ut_records.specs.inner.Object.{IsOwn}
+use Rattle.ut_named.proofs.Facts.{pick}
 
 -- ---- the layout stays
 

@@ -1,37 +1,30 @@
 -- Which rows count or share a record whose values change.
-use Rattle.std.proofs.Common.{◌≡◌, ◌∙◌, ℕ, suc, Bool, true, false, not, ◌&&◌, ◌||◌, cond, eqb, IsTrue, List, [], ◌∷◌, length, map, Option, Some, None, refl, sym, ap, subst}
-use Rattle.std.specs.Prelude.{◌↔◌, bytes_eq, filter}
-use Rattle.std.specs.List.{AllByRecursion, find, list_any}
+use Rattle.std.proofs.Common.{◌≡◌, ◌∙◌, ℕ, suc, Bool, true, false, not, ◌&&◌, cond, eqb, List, [], ◌∷◌, length, map, Option, Some, None, refl, sym, ap, subst}
+use Rattle.std.specs.Prelude.{bytes_eq, filter}
+use Rattle.std.specs.List.{AllByRecursion, find}
 use Rattle.std.specs.Option.{option_map}
-use Rattle.std.specs.Ordering.{eq_by_cmp, is_eq, nat_cmp, ordering_then}
-use Rattle.std.specs.Cmp.Lexicographic.{bytes_decides, slice_cmp, texts_ties}
-use Rattle.std.specs.declared.cmp.Ordering.{Ordering}
-use Rattle.std.specs.declared.cmp.Ordering.TheVariants.{Less, Equal, Greater}
+use Rattle.std.specs.Cmp.Lexicographic.{bytes_decides}
 use Rattle.ut_keys.specs.Forms.{row_bytes}
 use Rattle.ut_keys.specs.Keys as key
 use Rattle.ut_keys.specs.Keys.{FitsKey, Key, key_eq}
-use Rattle.ut_keys.specs.Rows.{object_form, org_form, share_form}
+use Rattle.ut_keys.specs.Rows.{object_form, share_form}
 use Rattle.ut_parts.specs.Composed.{principal}
 use Rattle.ut_model.specs.Edits.{same_owner}
 use Rattle.ut_model.specs.Objects.{is_of, object_number, object_numbered, records_of}
-use Rattle.ut_model.specs.Shares.{same_share, share_cmp, shares_of}
+use Rattle.ut_model.specs.Shares.{same_share, shares_of}
 use Rattle.ut_model.specs.Tenant.{Object, Share, Tenant}
 use Rattle.ut_model.specs.Updates.{with_changed}
 use Rattle.ut_model.specs.declared.record.Record.{Record}
+use Rattle.ut_named.proofs.SharePlaces.{SamePrincipals, one_place}
 use Rattle.ut_records.specs.Updating.{shares_gone}
-use Rattle.ut_records.proofs.Facts.{eqb_same, not_both, or_false, pick, same_text, some_is}
+use Rattle.ut_named.proofs.Facts.{eqb_same, not_both, or_false, pick, same_text, some_is}
 use Rattle.ut_stands.specs.Changes.{Change, IsOf, is_changed}
-use Rattle.ut_stands.specs.Metadata.{org_of, row_of_object, row_of_share}
+use Rattle.ut_stands.specs.Metadata.{row_of_object, row_of_share}
 use Rattle.ut_stands.specs.Plan.{OrgPlan}
-use Rattle.ut_stands.specs.Stands.{org_of_key, row_in, share_at}
+use Rattle.ut_stands.specs.Stands.{org_of_key, row_in}
 use Rattle.ut_touched.specs.Touched.{AreCounts, is_counted}
-use Rattle.ut_value.specs.Principals.{principal_cmp}
 use Rattle.ut_value.specs.declared.sharing.Level.TheVariants.{Read}
 use Rattle.ut_value.specs.declared.sharing.Principal.{Principal}
-
--- what `ut_value` says of principals
-abbrev pub SamePrincipals : Type 0
-SamePrincipals = (p q : Principal) → IsTrue (eq_by_cmp principal_cmp p q) ↔ (p ≡ q)
 
 -- ---- records with other values
 
@@ -58,17 +51,7 @@ as_many_of n new (r ∷ rs) =
 
 -- ---- shares of a record
 
-first_equal : (a b : Ordering) → is_eq (ordering_then a b) ≡ true → (is_eq a ≡ true) × (is_eq b ≡ true)
-first_equal Less b e = absurd cc
-first_equal Equal b e = (refl, e)
-first_equal Greater b e = absurd cc
-
 module _ (same : SamePrincipals) where
-  pub one_place : (x s : Share) → same_share x s ≡ true → (x.item ≡ s.item) × (x.to ≡ s.to)
-  one_place x s e =
-      let p = first_equal (slice_cmp nat_cmp x.item s.item) (principal_cmp x.to s.to) e in
-      ((bytes_decides x.item s.item).0 (texts_ties x.item s.item ∙ p.0), (same x.to s.to).0 p.1)
-
   -- no share of the record is found any more
   none_found : (id : List ℕ) (x : Share) (shares : List Share) → bytes_eq x.item id ≡ true → find (same_share x) (filter (λ (s : Share). not (bytes_eq s.item id)) shares) ≡ None
   none_found id x [] of = refl
@@ -76,7 +59,7 @@ module _ (same : SamePrincipals) where
       pick (bytes_eq s.item id) (λ b. find (same_share x) (cond (not b) (s ∷ filter (λ (s : Share). not (bytes_eq s.item id)) shares) (filter (λ (s : Share). not (bytes_eq s.item id)) shares)) ≡ None)
       (λ h. none_found id x shares of)
       (λ h. pick (same_share x s) (λ b. cond b (Some s) (find (same_share x) (filter (λ (s : Share). not (bytes_eq s.item id)) shares)) ≡ None)
-      (λ e. absurd (not_both (bytes_eq s.item id) (subst (λ (i : List ℕ). bytes_eq i id ≡ true) (one_place x s e).0 of) h))
+      (λ e. absurd (not_both (bytes_eq s.item id) (subst (λ (i : List ℕ). bytes_eq i id ≡ true) (one_place same x s e).0 of) h))
       (λ e. none_found id x shares of))
 
   -- a share whose row isn't among those that go is found as before
@@ -95,7 +78,7 @@ module _ (same : SamePrincipals) where
     where
       one_key : (org : ℕ) (x s : Share) → same_share x s ≡ true → key_eq (key.Share org x.item x.to) (key.Share org s.item s.to) ≡ true
       one_key org x s is =
-          let p = one_place x s is in
+          let p = one_place same x s is in
           subst (λ (i : List ℕ). key_eq (key.Share org x.item x.to) (key.Share org i s.to) ≡ true) p.0
           (subst (λ (to : Principal). key_eq (key.Share org x.item x.to) (key.Share org x.item to) ≡ true) p.1
           (ap (λ (b : Bool). b && (bytes_eq x.item x.item && bytes_eq (principal x.to) (principal x.to))) (eqb_same org)

@@ -1,30 +1,27 @@
 -- What a record keeps, by the layout of its object, is what the definition of an update says.
-use Rattle.std.proofs.Common.{◌≡◌, ◌∙◌, ℕ, suc, zero, ◌+◌, Bool, true, false, not, ◌&&◌, cond, eqb, IsTrue, List, [], ◌∷◌, ◌++◌, map, find, is_none, Option, Some, None, refl, sym, ap, subst, arith}
-use Rattle.std.specs.Prelude.{Result, Ok, Err, slice_get}
+use Rattle.std.proofs.Common.{◌≡◌, ◌∙◌, ℕ, suc, zero, ◌+◌, Bool, true, false, not, ◌&&◌, cond, eqb, List, [], ◌∷◌, ◌++◌, map, find, is_none, Option, Some, None, refl, sym, ap, subst, arith}
+use Rattle.std.specs.Prelude.{Ok, slice_get}
 use Rattle.std.specs.List.{enumerate_from, flat_map}
 use Rattle.std.specs.Option.{option_and_then}
 use Rattle.std.proofs.lemmas.Bool.{eqb-true}
 use Rattle.ut_data.proofs.Standing.{IsOf, layout_is}
 use Rattle.ut_formula.specs.Meaning.{value_at}
 use Rattle.ut_keeper.specs.Tables.{Tables}
-use Rattle.ut_keys.specs.declared.fail.StoreFail.{StoreFail}
-use Rattle.ut_keys.specs.declared.fail.StoreFail.TheVariants.{Damaged, Keeper, Memory}
 use Rattle.ut_model.specs.Cases.{in_case}
 use Rattle.ut_model.specs.Fields.{is_master}
-use Rattle.ut_model.specs.Objects.{Numbered, numbered, object_numbered}
+use Rattle.ut_model.specs.Objects.{Numbered, object_numbered}
 use Rattle.ut_model.specs.Paths.{Asked}
 use Rattle.ut_model.specs.Relationships.{Reference, master_of_object, reference_at, references_of}
 use Rattle.ut_model.specs.Rules.{Rule, first_refusal, refuse_if}
 use Rattle.ut_model.specs.Tenant.{Field, Job, Object, Tenant}
-use Rattle.ut_model.specs.Updates.{conflicts, is_copied, master_changed, retype_conflict}
+use Rattle.ut_model.specs.Updates.{is_copied, master_changed, retype_conflict}
 use Rattle.ut_model.specs.declared.record.Record.{Record}
 use Rattle.ut_model.specs.declared.refusal.Refusal.TheVariants as refusal
 use Rattle.ut_others.specs.Judged.{FindsRule}
 use Rattle.ut_records.specs.inner.Staying.{conflict_in, master_moved, staying_rules}
-use Rattle.ut_records.proofs.Facts.{eqb_same, pick, some_is}
+use Rattle.ut_named.proofs.Facts.{eqb_same, pick, some_is}
 use Rattle.ut_rules.specs.Objects.{field_of_place, numbered_in}
-use Rattle.ut_stands.specs.Layouts.{IsLayout, job_on, job_place, layout_of, place_of}
-use Rattle.ut_stands.specs.Local.{StandsIn}
+use Rattle.ut_stands.specs.Layouts.{IsLayout, job_place, layout_of, place_of}
 use Rattle.ut_stands.specs.Plan.{OrgPlan, slot_type}
 use Rattle.ut_stands.specs.declared.layout.FieldPlace.{FieldPlace}
 use Rattle.ut_stands.specs.declared.layout.JobPlace.{JobPlace}

@@ -1,6 +1,6 @@
 -- The changes of an edit of records take the organisation's rows to those of the tenant that its verdict leaves.
-use Rattle.std.proofs.Common.{◌≡◌, ◌∙◌, ℕ, ◌<◌, ◌^◌, true, false, List, [], ◌∷◌, Option, Some, None, refl, sym, ap, subst}
-use Rattle.std.specs.Prelude.{◌++◌, Ok}
+use Rattle.std.proofs.Common.{◌≡◌, ◌∙◌, ℕ, ◌<◌, ◌^◌, true, false, List, [], ◌∷◌, Some, None, refl, sym, subst}
+use Rattle.std.specs.Prelude.{◌++◌}
 use Rattle.std.specs.List.{AllByRecursion}
 use Rattle.ut_edits.specs.Edits.{Planned, Takes}
 use Rattle.ut_keys.specs.Keys.{FitsKey, Key}
@@ -23,6 +23,7 @@ use Rattle.ut_touched.specs.Touched.{AreCounts, HasSoundRows, IsTouched, NoneTak
 use Rattle.ut_records.specs.Creating.{PlansNew, counts_with, created_changes, new_record}
 use Rattle.ut_records.specs.Updating.{PlansSame, shares_gone, updated_changes}
 use Rattle.ut_records.proofs.Counting.{counted}
+use Rattle.ut_named.proofs.SharePlaces.{SamePrincipals}
 use Rattle.ut_records.proofs.Sharing as sharing
 
 -- what `ut_touched` says of what is touched, and `ut_sound` of the tenants that edits leave
@@ -98,7 +99,7 @@ create_takes laws sound org q a name o given lo good fits caller reads named the
 
 -- ---- an update
 
-pub update_takes : TouchedLaws → UpdateSound → sharing.SamePrincipals → (org : ℕ) (q : OrgPlan) (a : Asked) (name text : List ℕ) (o : Numbered) (given : List Assignment) (old : Record)
+pub update_takes : TouchedLaws → UpdateSound → SamePrincipals → (org : ℕ) (q : OrgPlan) (a : Asked) (name text : List ℕ) (o : Numbered) (given : List Assignment) (old : Record)
     → IsSound a.tenant → FitsPlan q a.tenant → IsCaller a → OfObjects a (λ x. ReadsWell a x given)
     → update a name text given ≡ update_on a o None given old
     → None ≡ first_refusal (update_rules a o None given old (with_given a o.object given old))

@@ -1,11 +1,10 @@
 -- The changes of an update that is accepted take the organisation's rows to those of the tenant that it leaves.
-use Rattle.std.proofs.Common.{◌≡◌, ◌∙◌, ℕ, ◌+◌, ◌<◌, ◌≤◌, Bool, true, false, cond, IsTrue, List, [], ◌∷◌, ◌++◌, length, map, Option, Some, None, refl, sym, ap, subst, arith, bytes_eq}
+use Rattle.std.proofs.Common.{◌≡◌, ◌∙◌, ℕ, ◌+◌, ◌<◌, ◌≤◌, Bool, cond, IsTrue, List, [], ◌∷◌, ◌++◌, length, map, Option, Some, None, refl, sym, ap, subst, arith, bytes_eq}
 use Rattle.std.specs.Prelude.{Result, Ok, Err, IfOk}
 use Rattle.std.specs.List.{AllByRecursion, list_all}
-use Rattle.std.specs.Option.{option_and_then}
 use Rattle.std.proofs.lemmas.Bool.{eqb-true}
 use Rattle.std.proofs.lemmas.List.{append-nil}
-use Rattle.ut_data.proofs.Standing.{Found, found_of}
+use Rattle.ut_data.proofs.Standing.{Found}
 use Rattle.ut_data.specs.Decoding.{kinds_in}
 use Rattle.ut_edits.specs.Edits.{Takes}
 use Rattle.ut_edits.specs.Rows.{AreFew, AreSpelled, gone_of}
@@ -20,7 +19,6 @@ use Rattle.ut_model.specs.declared.record_bodies.Assignment.{Assignment}
 use Rattle.ut_model.specs.Edits.{with_given}
 use Rattle.ut_model.specs.Objects.{Numbered, is_of, object_number, object_numbered, record_at}
 use Rattle.ut_model.specs.Paths.{Asked}
-use Rattle.ut_model.specs.Rights.{record_of_object}
 use Rattle.ut_model.specs.Rules.{first_refusal}
 use Rattle.ut_model.specs.Sound.{IsSound}
 use Rattle.ut_model.specs.SoundRecords.{all_valid}
@@ -36,28 +34,23 @@ use Rattle.ut_stands.specs.declared.fail.EditFail.{EditFail}
 use Rattle.ut_stands.specs.declared.layout.Layout.{Layout}
 use Rattle.ut_stands.specs.Entries.{data_of, slot_entry}
 use Rattle.ut_stands.specs.Layouts.{layout_of}
-use Rattle.ut_stands.specs.Local.{IsIn}
 use Rattle.ut_stands.specs.Plan.{FitsPlan, OrgPlan}
 use Rattle.ut_stands.specs.Stands.{kept_at}
 use Rattle.ut_touched.specs.Touched.{touched_changes}
 use Rattle.ut_value.specs.Printing.{is_printable}
 use Rattle.ut_records.specs.declared.updating.Altered.{Altered}
-use Rattle.ut_records.specs.inner.Ended.{shares_removed}
+use Rattle.ut_named.specs.Shares.{shares_removed}
 use Rattle.ut_records.specs.inner.Judged.{HaveKeys}
-use Rattle.ut_records.specs.inner.Kept.{IsKept}
-use Rattle.ut_records.specs.inner.Named.{IsNamed}
+use Rattle.ut_named.specs.Kept.{IsKept}
 use Rattle.ut_records.specs.inner.Updated.{IsAltered, altered_changes}
 use Rattle.ut_records.specs.Updating.{PlansSame, shares_gone, updated_changes}
 use Rattle.ut_records.proofs.Creates.{Printable, all_printable}
-use Rattle.ut_records.proofs.Facts.{pick, same_text, some_is}
+use Rattle.ut_named.proofs.Naming.{named_found, named_there}
+use Rattle.ut_named.proofs.Facts.{pick, same_text, some_is}
 use Rattle.ut_records.proofs.Numbers.{turned}
-use Rattle.ut_records.proofs.Objects.{Named}
+use Rattle.ut_named.proofs.Objects.{Named}
 
 -- ---- the record is the one that its id names, before and after
-
-at_found : (n : ℕ) (x : Option Record) (r : Record) → option_and_then (λ (y : Record). cond (is_of n y) (Some y) None) x ≡ Some r → x ≡ Some r
-at_found n None r e = absurd cc
-at_found n (Some s) r e = pick (is_of n s) (λ b. cond b (Some s) None ≡ Some r → ◌≡◌ {A = Option Record} (Some s) (Some r)) (λ _ h. h) (λ _ h. absurd cc) e
 
 abbrev named_in : List Record → List ℕ → Option Record
 named_in rs id = having_id (λ (y : Record). y.id) rs id
@@ -123,14 +116,11 @@ module _ (laws : UpdateLaws) (org : ℕ) (q : OrgPlan) (a : Asked) (name key : L
   kept : IsKept q t l is.named.id x.named.kept
   kept = is.named.kept
 
-  found : record_of_object t o.number is.named.id ≡ Some old
-  found = ap (λ (l : Layout). record_of_object t l.object is.named.id) (sym is.named.layout) ∙ kept.is
-
   its : Found t o.number is.named.id old
-  its = found_of t o.number is.named.id old (record_at t is.named.id) refl found
+  its = named_found org q a name key x.named is.named
 
   before : record_at t old.id ≡ Some old
-  before = ap (record_at t) its.same ∙ at_found o.number (record_at t is.named.id) old found
+  before = named_there org q a name key x.named is.named
 
   after : record_at (with_changed old r t) r.id ≡ Some r
   after = changed_itself old r t.records before

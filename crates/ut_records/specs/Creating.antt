@@ -1,5 +1,5 @@
 -- A new record as changes of rows: those of the organisation and of its object, which count it, and those of its own.
-use Rattle.std.specs.Prelude.{◌≡◌, ℕ, true, List, [], ◌∷◌, ◌++◌, Some, ℤ}
+use Rattle.std.specs.Prelude.{◌≡◌, ℕ, true, List, [], ◌∷◌, ◌++◌, ℤ}
 use Rattle.ut_edits.specs.Rows.{change_to}
 use Rattle.ut_keys.specs.Rows.{object_form, org_form}
 use Rattle.ut_model.specs.Creates.{empty_record, with_record}

@@ -7,42 +7,19 @@ ghost use Rattle.ut_model.specs.Rules.{first_refusal};
 ghost use Rattle.ut_model.specs.SoundRecords.{all_valid};
 ghost use Rattle.ut_others.specs.Judged.{FindsRule};
 ghost use Rattle.ut_pivot.specs.Turned.{converts};
-ghost use Rattle.ut_records.specs.inner.Altered.{altered_rules, kept_rules, own_rules};
+ghost use Rattle.ut_records.specs.inner.Altered.{altered_rules, kept_rules};
 ghost use Rattle.ut_stands.specs.Calls.{Calls, ended};
 
+use crate::others::refused_by_own;
 use crate::staying::refused_by_old;
 use std::alloc::Global;
 use ut_keeper::{Draft, Keeper, draft_laws};
 use ut_keys::StoreFail;
 use ut_model::{Record, Refusal};
-use ut_others::{bad_target, duplicate};
-use ut_rules::failed_rule;
+use ut_others::bad_target;
 use ut_stands::{Layout, call_laws};
 
-// The refusal of the first of the object's own rules and of those on unique values.
-fn refused_by_own<K: Keeper>(
-    alloc: Global,
-    draft: &mut Draft<'_, K>,
-    layout: &Layout,
-    old: &Record,
-    new: &Record,
-) -> Result<Option<Refusal>, StoreFail>
-    requires types { IsTrue (has_types layout.now) }
-    requires values { IsTrue (all_valid (kinds_in layout.now.fields) new.now.values) }
-    ensures finds { DraftTells K.state draft.old draft.new
-        → FindsRule layout.now (λ a. first_refusal (own_rules layout.now old.now new.now a)) (tables_of K.state draft.old) result }
-    ensures calls { Calls K.state 0 (ended result) draft.old draft.new }
-{
-    draft_laws::<K>();
-    call_laws::<K>();
-    match failed_rule(alloc, draft, layout, new, Some(old)) {
-        Ok(None) => duplicate(alloc, draft, layout, new),
-        Ok(Some(refusal)) => Ok(Some(refusal)),
-        Err(fail) => Err(fail),
-    }
-}
-
-// The same behind the rules on what the record keeps.
+// The refusal of the first of these rules: on what the record keeps, the object's own, on unique values.
 fn refused_by_kept<K: Keeper>(
     alloc: Global,
     draft: &mut Draft<'_, K>,
@@ -59,7 +36,7 @@ fn refused_by_kept<K: Keeper>(
 {
     call_laws::<K>();
     match refused_by_old(alloc, layout, old, new) {
-        Ok(None) => refused_by_own(alloc, draft, layout, old, new),
+        Ok(None) => refused_by_own(alloc, draft, layout, Some(old), new),
         Ok(Some(refusal)) => Ok(Some(refusal)),
         Err(fail) => Err(fail),
     }

@@ -6,14 +6,16 @@ ghost use Rattle.ut_edits.specs.Rows.{AreSpelled};
 ghost use Rattle.ut_given.specs.Given.{IsInJson};
 ghost use Rattle.ut_keeper.specs.Draft.{DraftTells, tables_of};
 ghost use Rattle.ut_keys.specs.declared.fail.StoreFail.TheVariants.{Keeper, Memory};
-ghost use Rattle.ut_model.specs.Creates.{create};
+ghost use Rattle.ut_model.specs.Creates.{create, empty_record};
 ghost use Rattle.ut_model.specs.Objects.{record_prefix};
 ghost use Rattle.ut_model.specs.Paths.{Asked};
 ghost use Rattle.ut_model.specs.SoundRecords.{all_valid};
 ghost use Rattle.ut_model.specs.Verdict.{made_new};
+ghost use Rattle.ut_named.specs.Usable.{IsUsable};
 ghost use Rattle.ut_records.specs.Creating.{IsGiving, PlansNew};
-ghost use Rattle.ut_records.specs.inner.Judged.{Accepts, Admits, FitsRows, HaveKeys, Lacks, Proposes, changes_of, limit_rule};
-ghost use Rattle.ut_records.specs.inner.Object.{HasForms, HasRoom, IsOwn, IsUsable, counted};
+ghost use Rattle.ut_records.specs.inner.Giving.{Alters};
+ghost use Rattle.ut_records.specs.inner.Judged.{Accepts, Admits, FitsRows, HaveKeys, changes_of, limit_rule};
+ghost use Rattle.ut_records.specs.inner.Object.{HasForms, HasRoom, IsOwn, counted};
 ghost use Rattle.ut_rules.specs.Objects.{numbered_in, object_of_layout};
 ghost use Rattle.ut_stands.specs.Calls.{Calls, ended_edit};
 ghost use Rattle.ut_stands.specs.Fails.{of_store};
@@ -23,16 +25,18 @@ ghost use Rattle.ut_stands.specs.Plan.{OrgPlan};
 ghost use Rattle.ut_value.specs.Id.{made};
 
 use crate::create::Create;
+use crate::giving::altered_record;
 use crate::laws::create_laws;
-use crate::object::{ReadObject, is_usable, read_object};
+use crate::object::{ReadObject, read_object};
 use crate::others::refused_by_others;
 use std::alloc::Global;
 use ut_data::data_laws;
 use ut_edits::{Decided, Edit, over_limit, put_row};
-use ut_given::{bad_fields, empty_record, numbered_id, read_given, required_missing, with_given};
+use ut_given::{empty_record, numbered_id};
 use ut_keeper::{Draft, Keeper, draft_laws};
 use ut_keys::StoreFail;
 use ut_model::{Assignment, Limit, Record, Refusal, administrator_laws, object_laws};
+use ut_named::is_usable;
 use ut_pivot::{new_record_changes, pivot_laws};
 use ut_sound::number_laws;
 use ut_stands::{EditFail, Layout, call_laws};
@@ -43,20 +47,6 @@ use ut_value::{Id, Text, id_laws, value_laws};
 pub(crate) struct Accepted {
     pub object: ReadObject,
     pub new: Record,
-}
-
-// The record, unless a required field is null.
-pub(crate) fn unless_missing(
-    alloc: Global,
-    layout: &Layout,
-    new: Record,
-) -> Result<Record, EditFail>
-    ensures { Lacks (object_of_layout layout.now) new result }
-{
-    match required_missing(alloc, layout, &new)? {
-        None => Ok(new),
-        Some(refusal) => Err(EditFail::Refused(refusal)),
-    }
 }
 
 // The record with this id, unless what is given is refused.
@@ -71,18 +61,12 @@ fn made_record(
     requires usable { IsUsable layout.now }
     requires json { IsInJson given.now }
     ensures proposes { (a : Asked) → a.user.id ≡ user → a.now ≡ now → id ≡ made (record_prefix layout.now.object) a.tenant.counter
-        → Proposes a (numbered_in layout.now) given.now result }
+        → Alters a (object_of_layout layout.now) given.now (empty_record a (numbered_in layout.now)) result }
     ensures valid { IfOk result (λ r. IsTrue (all_valid (kinds_in layout.now.fields) r.values)) }
     ensures cause { IfErr result (λ e. e ≢ of_store Keeper) }
 {
-    if let Some(refusal) = bad_fields(alloc, layout, given)? {
-        return Err(EditFail::Refused(refusal));
-    }
     let empty = empty_record(alloc, layout, id, user, now)?;
-    match read_given(alloc, layout, given, &empty)? {
-        Ok(values) => unless_missing(alloc, layout, with_given(empty, values, now)),
-        Err(refusal) => Err(EditFail::Refused(refusal)),
-    }
+    altered_record(alloc, layout, empty, now, given)
 }
 
 // The next record of the object, unless what is given is refused.
@@ -95,7 +79,8 @@ fn proposed(
 ) -> Result<Record, EditFail>
     requires { IsInJson given.now }
     ensures proposes { (a : Asked) → a.user.id ≡ user → a.now ≡ now → object.now.row.counter ≡ a.tenant.counter
-        → a.tenant.counter < 10 ^ 15 → IsUsable object.now.layout → Proposes a (numbered_in object.now.layout) given.now result }
+        → a.tenant.counter < 10 ^ 15 → IsUsable object.now.layout
+        → Alters a (object_of_layout object.now.layout) given.now (empty_record a (numbered_in object.now.layout)) result }
     ensures usable { OnOk result (IsUsable object.now.layout × (object.now.row.counter < 10 ^ 15)) }
     ensures valid { IfOk result (λ r. IsTrue (all_valid (kinds_in object.now.layout.fields) r.values)) }
     ensures cause { IfErr result (λ e. e ≢ of_store Keeper) }

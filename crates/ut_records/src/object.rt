@@ -1,7 +1,6 @@
 //! The object whose record is edited, as the tables have it.
 
-ghost use Rattle.std.specs.Prelude.{◌≡◌, ◌&&◌, IfOk, IsTrue, nat_le, length};
-ghost use Rattle.ut_data.specs.Decoding.{has_types};
+ghost use Rattle.std.specs.Prelude.{IfOk, Some};
 ghost use Rattle.ut_keeper.specs.Draft.{DraftTells, tables_of};
 ghost use Rattle.ut_model.specs.Tenant.{Tenant};
 ghost use Rattle.ut_records.specs.inner.Object.{HasForms, IsOwn, Reads};
@@ -10,16 +9,12 @@ ghost use Rattle.ut_stands.specs.Local.{StandsIn};
 ghost use Rattle.ut_stands.specs.Plan.{OrgPlan};
 
 use std::alloc::Global;
-use ut_data::has_types;
 use ut_edits::layout_there;
 use ut_keeper::{Draft, Keeper, draft_laws};
 use ut_keys::{ObjectRow, OrgRow};
 use ut_model::object_laws;
 use ut_stands::{EditFail, Layout, call_laws, object_there, org_there};
 use ut_value::Text;
-
-// The most custom fields of an object.
-const MOST_FIELDS: usize = 40;
 
 /// An object's layout, and the rows that count its records.
 #[derive(Drop)]
@@ -29,13 +24,6 @@ pub(crate) struct ReadObject {
     pub row: OrgRow,
     /// The object's.
     pub object: ObjectRow,
-}
-
-/// Whether a layout has as few fields as an object may have, of types within their bounds.
-pub(crate) fn is_usable(layout: &Layout) -> bool
-    ensures { result ≡ (nat_le (length layout.now.fields) 40 && has_types layout.now) }
-{
-    layout.fields.as_slice().len() <= MOST_FIELDS && has_types(layout)
 }
 
 /// The object with this name.

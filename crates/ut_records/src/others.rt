@@ -1,6 +1,7 @@
 //! The rules of an edit that look for other records, and the object's own.
 
 ghost use Rattle.std.specs.Prelude.{◌≡◌, IfOk, IsTrue, length};
+ghost use Rattle.std.specs.Option.{option_map};
 ghost use Rattle.ut_data.specs.Decoding.{has_types, kinds_in};
 ghost use Rattle.ut_keeper.specs.Draft.{DraftTells, tables_of};
 ghost use Rattle.ut_model.specs.Rules.{first_refusal};
@@ -17,22 +18,30 @@ use ut_others::{bad_target, duplicate};
 use ut_rules::failed_rule;
 use ut_stands::{Layout, call_laws};
 
-// The refusal of the first of the object's own rules and of those on unique values.
-fn refused_by_own<K: Keeper>(
+/// The refusal of the first of the object's own rules, which are told what the record was unless it is new, and of those on unique
+/// values.
+///
+/// # Errors
+///
+/// `Keeper` if the keeper failed, `Memory` if out of memory, `Damaged` never if the organisation's rows stand for a tenant whose
+/// layout it is.
+pub(crate) fn refused_by_own<K: Keeper>(
     alloc: Global,
     draft: &mut Draft<'_, K>,
     layout: &Layout,
+    old: Option<&Record>,
     new: &Record,
 ) -> Result<Option<Refusal>, StoreFail>
     requires types { IsTrue (has_types layout.now) }
     requires values { IsTrue (all_valid (kinds_in layout.now.fields) new.now.values) }
     ensures finds { DraftTells K.state draft.old draft.new
-        → FindsRule layout.now (λ a. first_refusal (own_rules layout.now new.now a)) (tables_of K.state draft.old) result }
+        → FindsRule layout.now (λ a. first_refusal (own_rules layout.now (option_map (λ r. r.now) old.entry) new.now a))
+        (tables_of K.state draft.old) result }
     ensures calls { Calls K.state 0 (ended result) draft.old draft.new }
 {
     draft_laws::<K>();
     call_laws::<K>();
-    match failed_rule(alloc, draft, layout, new, None) {
+    match failed_rule(alloc, draft, layout, new, old) {
         Ok(None) => duplicate(alloc, draft, layout, new),
         Ok(Some(refusal)) => Ok(Some(refusal)),
         Err(fail) => Err(fail),
@@ -62,7 +71,7 @@ pub(crate) fn refused_by_others<K: Keeper>(
     draft_laws::<K>();
     call_laws::<K>();
     match bad_target(alloc, draft, layout, old, new) {
-        Ok(None) => refused_by_own(alloc, draft, layout, new),
+        Ok(None) => refused_by_own(alloc, draft, layout, None, new),
         Ok(Some(refusal)) => Ok(Some(refusal)),
         Err(fail) => Err(fail),
     }

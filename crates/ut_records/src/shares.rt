@@ -1,96 +1,20 @@
-//! The manual shares of a record, which end where it gets another owner.
+//! The manual shares of a record that end where it gets another owner.
 
-ghost use Rattle.std.specs.Prelude.{◌≡◌, ◌≤◌, ◌++◌, ◌∷◌, [], IfOk, None, OnOk, Some, length, map, take};
-ghost use Rattle.std.specs.List.{AllByRecursion};
-ghost use Rattle.ut_edits.specs.Rows.{spelled};
+ghost use Rattle.std.specs.Prelude.{◌≤◌, IfOk, Some, length};
 ghost use Rattle.ut_keeper.specs.Draft.{DraftTells, tables_of};
-ghost use Rattle.ut_keeper.specs.Prefixes.{raised};
-ghost use Rattle.ut_keys.specs.Keys.{FitsKey, Share};
-ghost use Rattle.ut_keys.specs.Listings.{rows_to};
-ghost use Rattle.ut_keys.specs.Reads.{ListsAs};
-ghost use Rattle.ut_keys.specs.Rows.{share_form};
 ghost use Rattle.ut_model.specs.Tenant.{Tenant};
-ghost use Rattle.ut_parts.specs.Plain.{number32, number8};
-ghost use Rattle.ut_parts.specs.Shapes.{Both, FitsIn, Identity, Number32};
-ghost use Rattle.ut_records.specs.inner.Ended.{EndsShares, ListsShares, shares_removed};
-ghost use Rattle.ut_rules.specs.inner.Pages.{at_most};
+ghost use Rattle.ut_records.specs.inner.Ended.{EndsShares};
 ghost use Rattle.ut_stands.specs.Calls.{Calls, ended};
 ghost use Rattle.ut_stands.specs.Local.{StandsIn};
 ghost use Rattle.ut_stands.specs.Plan.{OrgPlan};
 
-use std::alloc::{AllocError, Global};
-use ut_edits::remove_row;
-use ut_keeper::{Change, Draft, Keeper};
-use ut_keys::{Mark, ShareRow, StoreFail, listing_laws, page_under, table_laws};
+use std::alloc::Global;
+use ut_keeper::{Draft, Keeper};
+use ut_keys::{ShareRow, StoreFail};
 use ut_model::Record;
-use ut_parts::shape_laws;
-use ut_stands::{call_laws, local_laws};
-use ut_value::{Id, Items, Principal, id_laws, principal_laws};
-
-// The most manual shares of a record.
-const MOST_SHARES: usize = 100;
-
-// The rows that were read, unless they are more than a record may have.
-fn at_most_all(rows: Result<Vec<ShareRow>, StoreFail>) -> Result<Items<ShareRow>, StoreFail>
-    ensures { result ≡ at_most 100 rows }
-{
-    match rows {
-        Ok(rows) => {
-            if rows.len() <= MOST_SHARES {
-                Ok(Items::from_vec(rows))
-            } else {
-                Err(StoreFail::Damaged)
-            }
-        }
-        Err(fail) => Err(fail),
-    }
-}
-
-// The rows of a record's shares, in the order of their keys, and one more than it may have.
-fn page_of<K: Keeper>(
-    alloc: Global,
-    draft: &mut Draft<'_, K>,
-    org: u32,
-    id: &Id,
-) -> Result<Vec<ShareRow>, StoreFail>
-    ensures rows { DraftTells K.state draft.old draft.new
-        → ListsAs share_form (take 101 (rows_to (tables_of K.state draft.old) 12
-        (number32 org ++ (number8 0 ++ id.now)) (raised (number32 org ++ (number8 0 ++ id.now))))) result }
-    ensures fits { FitsIn (Both Number32 Identity) (org, id.now) }
-    ensures calls { Calls K.state 0 (ended result) draft.old draft.new }
-{
-    // That these are an id's characters.
-    let _ = id.as_bytes();
-    page_under(
-        alloc,
-        draft,
-        &(org, (Mark::<0>, *id)),
-        None,
-        MOST_SHARES + 1,
-    )
-}
-
-// The rows of a record's manual shares.
-fn shares_of<K: Keeper>(
-    alloc: Global,
-    draft: &mut Draft<'_, K>,
-    org: u32,
-    id: &Id,
-) -> Result<Items<ShareRow>, StoreFail>
-    ensures lists { DraftTells K.state draft.old draft.new
-        → (q : OrgPlan) (t : Tenant) → StandsIn org q (tables_of K.state draft.old) (Some t) → ListsShares org t id.now result }
-    ensures few { IfOk result (λ rows. length rows ≤ 100) }
-    ensures calls { Calls K.state 0 (ended result) draft.old draft.new }
-{
-    listing_laws::<ShareRow>();
-    table_laws();
-    shape_laws();
-    local_laws();
-    id_laws();
-    principal_laws();
-    call_laws::<K>();
-    at_most_all(page_of(alloc, draft, org, id))
-}
+use ut_named::shares_of;
+use ut_stands::call_laws;
+use ut_value::Items;
 
 /// The rows of the manual shares that end with an edit of a record: all of its, if it gets another owner.
 ///
@@ -105,7 +29,8 @@ pub(crate) fn ended_shares<K: Keeper>(
     new: &Record,
 ) -> Result<Items<ShareRow>, StoreFail>
     ensures ends { DraftTells K.state draft.old draft.new
-        → (q : OrgPlan) (t : Tenant) → StandsIn org q (tables_of K.state draft.old) (Some t) → EndsShares org t old.now new.now result }
+        → (q : OrgPlan) (t : Tenant) → StandsIn org q (tables_of K.state draft.old) (Some t)
+        → EndsShares org t old.now new.now result }
     ensures few { IfOk result (λ rows. length rows ≤ 100) }
     ensures calls { Calls K.state 0 (ended result) draft.old draft.new }
 {
@@ -115,43 +40,4 @@ pub(crate) fn ended_shares<K: Keeper>(
     } else {
         shares_of(alloc, draft, org, &new.id)
     }
-}
-
-// One change more: no share of a record with this principal.
-fn remove_share(
-    alloc: Global,
-    org: u32,
-    id: &Id,
-    to: Principal,
-    changes: &mut Vec<Change>,
-) -> Result<(), AllocError>
-    ensures changes { OnOk result (changes.new.items ≡ changes.old.items ++ spelled (Share org id.now to, None) ∷ []) }
-    ensures fits { FitsKey (Share org id.now to) }
-{
-    // That these are the characters of ids.
-    let _ = id.as_bytes();
-    let _ = to.id().as_bytes();
-    remove_row::<ShareRow>(alloc, changes, &(org, (Mark::<0>, (*id, to))))
-}
-
-/// Changes that remove these rows of a record's shares.
-///
-/// # Errors
-///
-/// If out of memory.
-pub(crate) fn remove_shares(
-    alloc: Global,
-    org: u32,
-    id: &Id,
-    rows: &[ShareRow],
-    changes: &mut Vec<Change>,
-) -> Result<(), AllocError>
-    ensures changes { OnOk result (changes.new.items ≡ changes.old.items ++ map spelled (shares_removed org id.now rows.now)) }
-    // Their keys have spellings.
-    ensures fits { OnOk result (AllByRecursion (λ c. FitsKey c.0) (shares_removed org id.now rows.now)) }
-{
-    for row in rows {
-        remove_share(alloc, org, id, row.to, changes)?;
-    }
-    Ok(())
 }

@@ -1,28 +1,22 @@
 //! Other values for records.
 
-ghost use Rattle.std.specs.Prelude.{◌≡◌, ◌≢◌, ◌≤◌, ◌&&◌, ℕ, List, IfErr, IfOk, IsTrue, OnOk, Some, length, nat_le, true};
-ghost use Rattle.ut_data.specs.Decoding.{has_types, kinds_in};
+ghost use Rattle.std.specs.Prelude.{◌≡◌, ◌≢◌, ◌≤◌, ℕ, List, IfErr, IfOk, IsTrue, OnOk, Some, length, true};
+ghost use Rattle.ut_data.specs.Decoding.{kinds_in};
+ghost use Rattle.ut_edits.specs.Rows.{AreSpelled};
 ghost use Rattle.ut_given.specs.Given.{IsInJson};
 ghost use Rattle.ut_keeper.specs.Draft.{DraftTells, tables_of};
 ghost use Rattle.ut_keys.specs.declared.fail.StoreFail.TheVariants.{Keeper, Memory};
-ghost use Rattle.ut_keys.specs.Forms.{FitsForm};
-ghost use Rattle.ut_keys.specs.Rows.{data_form};
-ghost use Rattle.ut_edits.specs.Naming.{NamesLayout};
 ghost use Rattle.ut_model.specs.Paths.{Asked};
 ghost use Rattle.ut_model.specs.SoundRecords.{all_valid};
-ghost use Rattle.ut_model.specs.Tenant.{Tenant};
 ghost use Rattle.ut_model.specs.Updates.{update};
 ghost use Rattle.ut_model.specs.Verdict.{done};
+ghost use Rattle.ut_named.specs.Usable.{IsUsable};
 ghost use Rattle.ut_pivot.specs.Turned.{converts};
-ghost use Rattle.ut_records.specs.inner.Altered.{AdmitsAltered, Alters, NamesRecord, SpellsId, record_or_none};
-ghost use Rattle.ut_records.specs.inner.Named.{FindsNamed, FitsNamed};
 ghost use Rattle.ut_records.specs.Creating.{IsGiving};
-ghost use Rattle.ut_records.specs.inner.Object.{IsUsable};
+ghost use Rattle.ut_records.specs.inner.Altered.{AdmitsAltered};
+ghost use Rattle.ut_records.specs.inner.Judged.{HaveKeys};
 ghost use Rattle.ut_records.specs.inner.Updated.{FitsAltered, Updates, altered_changes};
 ghost use Rattle.ut_records.specs.Updating.{PlansSame};
-ghost use Rattle.ut_records.specs.inner.Judged.{HaveKeys};
-ghost use Rattle.ut_edits.specs.Rows.{AreSpelled};
-ghost use Rattle.ut_rules.specs.Objects.{numbered_in, object_of_layout};
 ghost use Rattle.ut_stands.specs.Calls.{Calls, ended_edit};
 ghost use Rattle.ut_stands.specs.Fails.{of_store};
 ghost use Rattle.ut_stands.specs.Layouts.{IsLayout};
@@ -30,29 +24,19 @@ ghost use Rattle.ut_stands.specs.Local.{StandsIn};
 ghost use Rattle.ut_stands.specs.Plan.{OrgPlan};
 
 use crate::altering::refused_altered;
-use crate::creating::unless_missing;
-use crate::kept::{KeptRecord, kept_record};
+use crate::giving::altered_record;
 use crate::laws::update_laws;
-use crate::object::is_usable;
-use crate::shares::{ended_shares, remove_shares};
+use crate::shares::ended_shares;
 use crate::update::Update;
 use std::alloc::{AllocError, Global};
-use ut_data::data_laws;
-use ut_edits::{Decided, Edit, layout_there};
-use ut_given::{bad_fields, read_given, with_given};
+use ut_edits::{Decided, Edit};
 use ut_keeper::{Draft, Keeper, draft_laws};
-use ut_keys::{ShareRow, StoreFail};
+use ut_keys::ShareRow;
 use ut_model::{Assignment, Record, Refusal, administrator_laws, object_laws};
-use ut_pivot::{changed_record_changes, converts, pivot_laws};
+use ut_named::{Named, find_named, remove_shares};
+use ut_pivot::{changed_record_changes, pivot_laws};
 use ut_stands::{EditFail, Layout, call_laws};
-use ut_value::{Id, Items, Text, Value, id_in, value_laws};
-
-/// The object and the record that an update names.
-#[derive(Drop)]
-pub(crate) struct Named {
-    pub layout: Layout,
-    pub kept: KeptRecord,
-}
+use ut_value::{Items, Text, Value, value_laws};
 
 /// A record with other values that no rule refuses, and the rows of its shares that end.
 #[derive(Drop)]
@@ -62,7 +46,7 @@ pub(crate) struct Altered {
     pub shares: Items<ShareRow>,
 }
 
-// ---- what is given
+// ---- copies
 
 // Copies of values.
 fn copies(alloc: Global, values: &[Value]) -> Result<Items<Value>, AllocError>
@@ -87,134 +71,6 @@ fn record_copy(alloc: Global, item: &Record) -> Result<Record, AllocError>
         modified: item.modified,
         values,
     })
-}
-
-// The record with other values, unless what is given is refused.
-fn altered_record(
-    alloc: Global,
-    layout: &Layout,
-    old: &Record,
-    now: i64,
-    given: &[Assignment],
-) -> Result<Record, EditFail>
-    requires usable { IsUsable layout.now }
-    requires json { IsInJson given.now }
-    requires values { IsTrue (all_valid (kinds_in layout.now.fields) old.now.values) }
-    ensures alters { (a : Asked) → a.now ≡ now → Alters a (object_of_layout layout.now) given.now old.now result }
-    ensures valid { IfOk result (λ r. IsTrue (all_valid (kinds_in layout.now.fields) r.values)) }
-    ensures cause { IfErr result (λ e. e ≢ of_store Keeper) }
-{
-    if let Some(refusal) = bad_fields(alloc, layout, given)? {
-        return Err(EditFail::Refused(refusal));
-    }
-    let copy = record_copy(alloc, old)?;
-    match read_given(alloc, layout, given, &copy)? {
-        Ok(values) => unless_missing(alloc, layout, with_given(copy, values, now)),
-        Err(refusal) => Err(EditFail::Refused(refusal)),
-    }
-}
-
-// ---- the object and the record
-
-// Whether a layout can be used, and converts what a change of a field's type copies.
-fn is_ready(layout: &Layout) -> bool
-    ensures { result ≡ ((nat_le (length layout.now.fields) 40 && has_types layout.now) && converts layout.now) }
-{
-    is_usable(layout) && converts(layout)
-}
-
-// The layout of the object with this name, which converts what a change of a field's type copies.
-fn usable_layout<K: Keeper>(
-    alloc: Global,
-    draft: &mut Draft<'_, K>,
-    org: u32,
-    name: &Text,
-) -> Result<Layout, EditFail>
-    ensures names { DraftTells K.state draft.old draft.new
-        → (q : OrgPlan) (t : Tenant) → StandsIn org q (tables_of K.state draft.old) (Some t) → NamesLayout org q t name.now result }
-    ensures own { IfOk result (λ l. l.org ≡ org) }
-    ensures usable { IfOk result (λ l. IsUsable l × IsTrue (converts l)) }
-    ensures calls { Calls K.state 0 (ended_edit result) draft.old draft.new }
-{
-    call_laws::<K>();
-    object_laws();
-    data_laws();
-    pivot_laws();
-    let mut layout = layout_there(alloc, draft, org, name)?;
-    // As it is already, whatever the tables have.
-    layout.org = org;
-    if is_ready(&layout) {
-        Ok(layout)
-    } else {
-        Err(EditFail::Store(StoreFail::Damaged))
-    }
-}
-
-// The id that a text spells.
-fn spelled_id(alloc: Global, text: &Text) -> Result<Id, EditFail>
-    ensures { SpellsId text.now result }
-{
-    match id_in(text.as_str()) {
-        Some(id) => Ok(id),
-        None => {
-            let text = text.copy(alloc)?;
-            Err(EditFail::Refused(Refusal::MalformedId { text }))
-        }
-    }
-}
-
-// What was found, without which nothing is changed.
-fn record_or_none(found: Result<Option<KeptRecord>, StoreFail>) -> Result<KeptRecord, EditFail>
-    ensures { result ≡ record_or_none found }
-{
-    match found {
-        Ok(Some(kept)) => Ok(kept),
-        Ok(None) => Err(EditFail::Refused(Refusal::NotFound)),
-        Err(fail) => Err(EditFail::Store(fail)),
-    }
-}
-
-// The record of an object that a text names.
-fn named_record<K: Keeper>(
-    alloc: Global,
-    draft: &mut Draft<'_, K>,
-    layout: &Layout,
-    key: &Text,
-) -> Result<KeptRecord, EditFail>
-    ensures names { DraftTells K.state draft.old draft.new
-        → (q : OrgPlan) (t : Tenant) → StandsIn layout.now.org q (tables_of K.state draft.old) (Some t) → IsLayout q t layout.now
-        → NamesRecord q t layout.now key.now result }
-    ensures fits { IfOk result (λ k. FitsForm data_form k.row) }
-    ensures valid { IfOk result (λ k. IsTrue (all_valid (kinds_in layout.now.fields) k.item.values)) }
-    ensures calls { Calls K.state 1 (ended_edit result) draft.old draft.new }
-{
-    call_laws::<K>();
-    match spelled_id(alloc, key) {
-        Ok(id) => record_or_none(kept_record(alloc, draft, layout, &id)),
-        Err(fail) => Err(fail),
-    }
-}
-
-// The object with this name, and its record that a text names.
-fn find_named<K: Keeper>(
-    alloc: Global,
-    draft: &mut Draft<'_, K>,
-    org: u32,
-    name: &Text,
-    key: &Text,
-) -> Result<Named, EditFail>
-    ensures finds { DraftTells K.state draft.old draft.new
-        → (q : OrgPlan) (a : Asked) → StandsIn org q (tables_of K.state draft.old) (Some a.tenant) → FindsNamed org q a name.now key.now result }
-    ensures own { IfOk result (λ x. x.layout.org ≡ org) }
-    ensures fits { IfOk result FitsNamed }
-    ensures calls { Calls K.state 1 (ended_edit result) draft.old draft.new }
-{
-    draft_laws::<K>();
-    call_laws::<K>();
-    object_laws();
-    let layout = usable_layout(alloc, draft, org, name)?;
-    let kept = named_record(alloc, draft, &layout, key)?;
-    Ok(Named { layout, kept })
 }
 
 // ---- rules
@@ -268,7 +124,8 @@ fn accept_update<K: Keeper>(
     object_laws();
     administrator_laws();
     let named = find_named(alloc, draft, org, name, key)?;
-    let new = altered_record(alloc, &named.layout, &named.kept.item, now, given)?;
+    let copy = record_copy(alloc, &named.kept.item)?;
+    let new = altered_record(alloc, &named.layout, copy, now, given)?;
     let shares = admit(alloc, draft, &named.layout, &named.kept.item, &new)?;
     Ok(Altered { named, new, shares })
 }

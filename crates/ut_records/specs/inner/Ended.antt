@@ -1,24 +1,12 @@
 -- The manual shares that end where a record gets another owner.
-use Rattle.std.specs.Prelude.{◌≡◌, ◌≢◌, ℕ, List, map, None, Result, Ok, Err}
-use Rattle.ut_keys.specs.Keys.{Share}
+use Rattle.std.specs.Prelude.{◌≡◌, ◌≢◌, ℕ, List, Result, Ok, Err}
 use Rattle.ut_keys.specs.declared.fail.StoreFail.{StoreFail}
 use Rattle.ut_keys.specs.declared.fail.StoreFail.TheVariants.{Damaged}
 use Rattle.ut_keys.specs.declared.share.ShareRow.{ShareRow}
-use Rattle.ut_model.specs.Shares.{shares_of}
 use Rattle.ut_model.specs.Tenant.{Tenant}
 use Rattle.ut_model.specs.declared.record.Record.{Record}
+use Rattle.ut_named.specs.Shares.{shares_removed}
 use Rattle.ut_records.specs.Updating.{shares_gone}
-use Rattle.ut_stands.specs.Changes.{Change}
-use Rattle.ut_stands.specs.Metadata.{row_of_share}
-
--- these are the rows of a record's manual shares, or why the work on the tables stopped
-abbrev pub ListsShares : (org : ℕ) → Tenant → (id : List ℕ) → Result (List ShareRow) StoreFail → Type 0
-ListsShares org t id (Ok rows) = rows ≡ map (row_of_share org) (shares_of id t.shares)
-ListsShares org t id (Err e) = e ≢ Damaged
-
--- the changes that remove such rows of the record with this id
-abbrev pub shares_removed : (org : ℕ) → (id : List ℕ) → List ShareRow → List Change
-shares_removed org id rows = map (λ u. (Share org id u.to, None)) rows
 
 -- the rows of those that end, or why the work on the tables stopped
 abbrev pub EndsShares : (org : ℕ) → Tenant → (old new : Record) → Result (List ShareRow) StoreFail → Type 0

@@ -1,10 +1,10 @@
--- A create, judged: by what is given, by other records and rules, and by limits.
-use Rattle.std.specs.Prelude.{◌≡◌, ◌≢◌, ℕ, ◌+◌, List, [], ◌∷◌, ◌++◌, None, Some, Result, Ok, Err, IsTrue, Option}
+-- A create, judged: by other records and rules, and by limits.
+use Rattle.std.specs.Prelude.{◌≡◌, ◌≢◌, ℕ, ◌+◌, List, [], ◌∷◌, ◌++◌, Option, None, Some, Result, Ok, Err, IsTrue}
 use Rattle.std.specs.List.{AllByRecursion}
 use Rattle.ut_data.specs.Decoding.{kinds_in}
 use Rattle.ut_edits.specs.Edits.{FailsBy}
 use Rattle.ut_edits.specs.Rows.{change_to}
-use Rattle.ut_keys.specs.declared.fail.StoreFail.TheVariants.{Damaged, Memory}
+use Rattle.ut_keys.specs.declared.fail.StoreFail.TheVariants.{Damaged}
 use Rattle.ut_keys.specs.declared.object.ObjectRow.{ObjectRow}
 use Rattle.ut_keys.specs.declared.org.OrgRow.{OrgRow}
 use Rattle.ut_keys.specs.Keys.{FitsKey}
@@ -13,13 +13,11 @@ use Rattle.ut_model.specs.Creates.{create, create_rules, empty_record}
 use Rattle.ut_model.specs.declared.limit.Limit.TheVariants as limit
 use Rattle.ut_model.specs.declared.record.Record.{Record}
 use Rattle.ut_model.specs.declared.record_bodies.Assignment.{Assignment}
-use Rattle.ut_model.specs.Edits.{bad_target, bad_value, duplicate, required_missing}
-use Rattle.ut_model.specs.Keys.{bad_fields}
-use Rattle.ut_model.specs.Objects.{Numbered}
+use Rattle.ut_model.specs.Edits.{bad_target, duplicate}
 use Rattle.ut_model.specs.Paths.{Asked}
 use Rattle.ut_model.specs.Rules.{Rule, first_refusal, over_limit}
 use Rattle.ut_model.specs.SoundRecords.{all_valid}
-use Rattle.ut_model.specs.Tenant.{Object, Tenant}
+use Rattle.ut_named.specs.Usable.{IsUsable}
 use Rattle.ut_pivot.specs.Made.{made_changes}
 use Rattle.ut_rules.specs.Failing.{rule_failed}
 use Rattle.ut_rules.specs.Objects.{numbered_in}
@@ -31,33 +29,17 @@ use Rattle.ut_stands.specs.Plan.{OrgPlan}
 use Rattle.ut_records.specs.Creating.{new_record}
 use Rattle.ut_records.specs.declared.creating.Accepted.{Accepted}
 use Rattle.ut_records.specs.declared.object.ReadObject.{ReadObject}
-use Rattle.ut_records.specs.inner.Object.{HasForms, HasRoom, IsRead, IsUsable, object_with, row_with}
+use Rattle.ut_records.specs.inner.Object.{HasForms, HasRoom, IsRead, object_with, row_with}
 
 -- ---- rules
 
--- those on what is given
-abbrev pub given_rules : Tenant → Object → List Assignment → (new : Record) → List Rule
-given_rules t o given new = bad_fields t o None given ∷ bad_value t o given ∷ required_missing o new ∷ []
-
--- none of them refuses the record that a create makes, which is this; or the refusal of the first
-abbrev pub Proposes : Asked → Numbered → List Assignment → Result Record EditFail → Type 0
-Proposes a o given (Ok r) = (None ≡ first_refusal (given_rules a.tenant o.object given (new_record a o given))) × (r ≡ new_record a o given)
-Proposes a o given (Err (Refused x)) = Some x ≡ first_refusal (given_rules a.tenant o.object given (new_record a o given))
-Proposes a o given (Err (Store e)) = e ≢ Damaged
-
--- no required field is null, or the refusal of the first that is
-abbrev pub Lacks : Object → (new : Record) → Result Record EditFail → Type 0
-Lacks o new (Ok r) = (None ≡ required_missing o new) × (r ≡ new)
-Lacks o new (Err (Refused x)) = Some x ≡ required_missing o new
-Lacks o new (Err (Store e)) = e ≡ Memory
-
--- the object's own, and that on unique values
-abbrev pub own_rules : Layout → (new : Record) → Asked → List Rule
-own_rules l new a = rule_failed a l.object new None a.tenant ∷ duplicate a (numbered_in l) new ∷ []
+-- the object's own, told what the record was unless it is new, and that on unique values
+abbrev pub own_rules : Layout → (old : Option Record) → (new : Record) → Asked → List Rule
+own_rules l old new a = rule_failed a l.object new old a.tenant ∷ duplicate a (numbered_in l) new ∷ []
 
 -- the same behind that on what the record refers to
 abbrev pub others_rules : Layout → (old new : Record) → Asked → List Rule
-others_rules l old new a = bad_target a (numbered_in l) old new ∷ own_rules l new a
+others_rules l old new a = bad_target a (numbered_in l) old new ∷ own_rules l None new a
 
 -- the limits of what is counted
 abbrev pub limit_rule : OrgRow → ObjectRow → Rule
@@ -96,7 +78,8 @@ pub record FitsRows (x : Accepted) : Type 0 where
 -- ---- changes
 
 abbrev pub changes_of : Accepted → List Change
-changes_of x = change_to org_form (row_with x.object.row) ∷ change_to object_form (object_with x.object.object) ∷ made_changes x.object.layout x.new
+changes_of x =
+    change_to org_form (row_with x.object.row) ∷ change_to object_form (object_with x.object.object) ∷ made_changes x.object.layout x.new
 
 -- their keys have spellings
 abbrev pub HaveKeys : List Change → Type 0

@@ -1,6 +1,5 @@
 -- The object whose record is edited, as it was read: its layout, and the rows that count its records.
-use Rattle.std.specs.Prelude.{◌≡◌, ◌≢◌, ℕ, ◌+◌, ◌-◌, ◌<◌, ◌≤◌, ◌^◌, List, None, Some, Result, Ok, Err, IsTrue, length}
-use Rattle.ut_data.specs.Decoding.{has_types}
+use Rattle.std.specs.Prelude.{◌≡◌, ◌≢◌, ℕ, ◌+◌, ◌-◌, ◌<◌, ◌^◌, List, None, Some, Result, Ok, Err}
 use Rattle.ut_keys.specs.declared.fail.StoreFail.TheVariants.{Damaged}
 use Rattle.ut_keys.specs.declared.object.ObjectRow.{ObjectRow}
 use Rattle.ut_keys.specs.declared.org.OrgRow.{OrgRow}
@@ -11,7 +10,6 @@ use Rattle.ut_model.specs.Objects.{Numbered, object_named}
 use Rattle.ut_model.specs.Tenant.{Tenant}
 use Rattle.ut_stands.specs.declared.fail.EditFail.{EditFail}
 use Rattle.ut_stands.specs.declared.fail.EditFail.TheVariants.{Refused, Store}
-use Rattle.ut_stands.specs.declared.layout.Layout.{Layout}
 use Rattle.ut_stands.specs.Layouts.{layout_of}
 use Rattle.ut_stands.specs.Metadata.{org_of, row_of_object}
 use Rattle.ut_stands.specs.Plan.{OrgPlan}
@@ -51,11 +49,6 @@ pub record HasRoom (x : ReadObject) : Type 0 where
   pub number : x.row.counter < 10 ^ 15 - 1
   pub records : x.row.records < 50000
   pub of_object : x.object.records < 20000
-
--- the layout has as few fields as an object may have, of types within their bounds
-pub record IsUsable (l : Layout) : Type 0 where
-  pub few : length l.fields ≤ 40
-  pub types : IsTrue (has_types l)
 
 -- the rows that count one record more
 abbrev pub row_with : OrgRow → OrgRow

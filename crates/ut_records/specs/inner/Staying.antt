@@ -1,5 +1,5 @@
 -- What a record keeps when its values change, by the layout of its object.
-use Rattle.std.specs.Prelude.{ℕ, suc, not, ◌&&◌, List, [], ◌∷◌, None, is_none, slice_get}
+use Rattle.std.specs.Prelude.{suc, not, ◌&&◌, List, [], ◌∷◌, None, is_none, slice_get}
 use Rattle.std.specs.List.{enumerate_from, find}
 use Rattle.ut_formula.specs.Meaning.{value_at}
 use Rattle.ut_model.specs.Cases.{in_case}
@@ -24,7 +24,8 @@ master_moved l old new =
 abbrev pub conflict_in : Layout → (new : Record) → Rule
 conflict_in l new =
     in_case l.job None (λ j. in_case (slice_get l.fields j.field) None (λ f.
-    refuse_if (is_copied j.phase j.cursor new.id && is_none (convert j.kind (value_at new.values (suc j.field)))) (refusal.RetypeConflict f.name)))
+    refuse_if (is_copied j.phase j.cursor new.id && is_none (convert j.kind (value_at new.values (suc j.field))))
+    (refusal.RetypeConflict f.name)))
 
 -- the rules on both, as the definition of an update has them
 abbrev pub staying_rules : Layout → (old new : Record) → Asked → List Rule

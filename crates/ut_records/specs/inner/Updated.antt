@@ -8,10 +8,11 @@ use Rattle.ut_model.specs.Rules.{first_refusal}
 use Rattle.ut_model.specs.SoundRecords.{all_valid}
 use Rattle.ut_model.specs.Updates.{update, update_on, update_rules}
 use Rattle.ut_model.specs.declared.record_bodies.Assignment.{Assignment}
+use Rattle.ut_named.specs.Named.{FitsNamed, IsNamed}
+use Rattle.ut_named.specs.Shares.{shares_removed}
 use Rattle.ut_pivot.specs.Turned.{turned_changes}
 use Rattle.ut_records.specs.declared.updating.Altered.{Altered}
-use Rattle.ut_records.specs.inner.Ended.{EndsShares, shares_removed}
-use Rattle.ut_records.specs.inner.Named.{FitsNamed, IsNamed}
+use Rattle.ut_records.specs.inner.Ended.{EndsShares}
 use Rattle.ut_stands.specs.Changes.{Change}
 use Rattle.ut_stands.specs.Plan.{OrgPlan}
 use Rattle.ut_stands.specs.declared.fail.EditFail.{EditFail}
@@ -37,4 +38,6 @@ pub record FitsAltered (x : Altered) : Type 0 where
 
 -- the changes that it makes
 abbrev pub altered_changes : Altered → List Change
-altered_changes x = shares_removed x.named.layout.org x.new.id x.shares ++ turned_changes x.named.layout x.named.kept.row x.named.kept.item x.new
+altered_changes x =
+    shares_removed x.named.layout.org x.new.id x.shares
+    ++ turned_changes x.named.layout x.named.kept.row x.named.kept.item x.new

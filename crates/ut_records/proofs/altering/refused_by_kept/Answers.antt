@@ -1,4 +1,4 @@
-use Rattle.std.proofs.Common.{◌≡◌, Option, Some, None, subst}
+use Rattle.std.proofs.Common.{subst}
 use Rattle.std.specs.Prelude.{Ok}
 use Rattle.ut_keeper.specs.Draft.{tables_of}
 use Rattle.ut_model.specs.Rules.{Rule, first_refusal}

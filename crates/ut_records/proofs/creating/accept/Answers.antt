@@ -1,21 +1,22 @@
-use Rattle.std.proofs.Common.{◌≡◌, ◌∙◌, ◌<◌, ◌^◌, ℕ, List, Some, ap, arith, subst, sym, w64}
+use Rattle.std.proofs.Common.{◌≡◌, ◌∙◌, ◌<◌, ◌^◌, ℕ, Some, ap, arith, subst, sym, w64}
 use Rattle.std.proofs.lemmas.Int.{to_z-of_z}
-use Rattle.std.specs.Prelude.{Err, Ok, Result}
+use Rattle.std.specs.Prelude.{Err}
 use Rattle.ut_keeper.specs.Draft.{tables_of}
 use Rattle.ut_keeper.specs.Tables.{Tables}
 use Rattle.ut_keys.specs.declared.org.OrgRow.{OrgRow}
 use Rattle.ut_model.specs.declared.record.Record.{Record}
+use Rattle.ut_model.specs.Creates.{empty_record}
 use Rattle.ut_model.specs.Objects.{record_prefix}
 use Rattle.ut_stands.specs.Calls.{ended_edit}
-use Rattle.ut_stands.specs.declared.fail.EditFail.{EditFail}
 use Rattle.ut_stands.specs.declared.layout.Layout.{Layout}
 use Rattle.ut_stands.specs.Layouts.{IsLayout}
 use Rattle.ut_stands.specs.Local.{StandsIn}
 use Rattle.ut_value.specs.Id.{made}
-use Rattle.ut_records.specs.inner.Judged.{Proposes}
+use Rattle.ut_records.specs.inner.Giving.{Alters}
 use Rattle.ut_records.proofs.Accepting.{admit_behind, master_free, proposed_of}
-use Rattle.ut_records.proofs.Judging.{admitted, passed, passed_calls, read_so, unadmitted, unproposed, usable}
-use Rattle.ut_records.proofs.Spelled.{its_layout}
+use Rattle.ut_named.proofs.Ready.{usable}
+use Rattle.ut_records.proofs.Judging.{admitted, passed, passed_calls, read_so, unadmitted, unproposed}
+use Rattle.ut_named.proofs.Spelled.{its_layout}
 use Rattle.ut_records.proofs.creating.accept.Goals as goal
 
 pub returns-in_err-new-clause-accepts : goal.returns-in_err-new-clause-accepts
@@ -49,7 +50,7 @@ returns-in_err-admit-clause-accepts g c told q a s f =
     let low : a.tenant.counter < 10 ^ 15 = omega (arith, s.sound.counter) in
     let proposes = proposed_of org q a o x.layout given c.proposed.result is.layout
     (c.proposed.ensures.proposes a f.user now (ap (λ (r : OrgRow). r.counter) is.row) low (usable c.data_laws.ensures.typed org q a.tenant o x.layout s.sound there is.layout)) in
-    let so = subst (Proposes a o given) c.in_ok-new.was proposes in
+    let so = subst (Alters a o.object given (empty_record a o)) c.in_ok-new.was proposes in
     let stands = subst (λ (n : ℕ). StandsIn n q (tables_of state c.read_object.new.draft) (Some a.tenant)) (sym (ap (λ (l : Layout). l.org) is.layout))
     (subst (λ (m : Tables). StandsIn org q m (Some a.tenant)) (sym tells.2) s) in
     let its = subst (IsLayout q a.tenant) (sym is.layout) (its_layout org q a.tenant o there) in
@@ -80,7 +81,7 @@ returns-clause-accepts g c told q a s f =
     let low : a.tenant.counter < 10 ^ 15 = omega (arith, s.sound.counter) in
     let proposes = proposed_of org q a o x.layout given c.proposed.result is.layout
     (c.proposed.ensures.proposes a f.user now (ap (λ (r : OrgRow). r.counter) is.row) low (usable c.data_laws.ensures.typed org q a.tenant o x.layout s.sound there is.layout)) in
-    let so = subst (Proposes a o given) c.in_ok-new.was proposes in
+    let so = subst (Alters a o.object given (empty_record a o)) c.in_ok-new.was proposes in
     let stands = subst (λ (n : ℕ). StandsIn n q (tables_of state c.read_object.new.draft) (Some a.tenant)) (sym (ap (λ (l : Layout). l.org) is.layout))
     (subst (λ (m : Tables). StandsIn org q m (Some a.tenant)) (sym tells.2) s) in
     let its = subst (IsLayout q a.tenant) (sym is.layout) (its_layout org q a.tenant o there) in

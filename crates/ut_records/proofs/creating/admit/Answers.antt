@@ -1,9 +1,9 @@
-use Rattle.std.proofs.Common.{◌≡◌, ◌∙◌, ap, sym, w64}
+use Rattle.std.proofs.Common.{◌∙◌, ap, sym, w64}
 use Rattle.std.proofs.lemmas.Int.{to_z-of_z}
 use Rattle.std.specs.Option.{option_or}
 use Rattle.ut_model.specs.declared.record.Record.{Record}
 use Rattle.ut_model.specs.Creates.{empty_record}
-use Rattle.ut_model.specs.Rules.{Rule, first_refusal}
+use Rattle.ut_model.specs.Rules.{first_refusal}
 use Rattle.ut_rules.specs.Objects.{numbered_in}
 use Rattle.ut_records.specs.inner.Judged.{limit_rule, others_rules}
 use Rattle.ut_records.proofs.Judging.{refused_first}

@@ -3,7 +3,8 @@ use Rattle.ut_keeper.specs.Draft.{tables_of}
 use Rattle.ut_keeper.specs.Tables.{Tables}
 use Rattle.ut_stands.specs.Layouts.{own_object_row, own_row}
 use Rattle.ut_stands.specs.Local.{FindsThere}
-use Rattle.ut_records.proofs.Objects.{is_read, missed, named_so, read_failed}
+use Rattle.ut_named.proofs.Objects.{named_so}
+use Rattle.ut_records.proofs.Objects.{is_read, missed, read_failed}
 use Rattle.ut_records.proofs.object.read_object.Goals as goal
 
 pub returns-in_err-object-clause-reads : goal.returns-in_err-object-clause-reads

@@ -1,6 +1,11 @@
+use Rattle.std.proofs.Common.{Bor, Option}
+use Rattle.std.specs.Option.{option_map}
 use Rattle.ut_keeper.specs.Draft.{tables_of}
+use Rattle.ut_model.specs.declared.record.Record.{Record}
 use Rattle.ut_records.proofs.OtherRules.{own_failed}
 use Rattle.ut_records.proofs.others.refused_by_own.Goals as goal
 
 pub returns-in-Err-clause-finds : goal.returns-in-Err-clause-finds
-returns-in-Err-clause-finds g c told = own_failed c.args.layout.now c.args.new.now (tables_of g.K.Keeper.state c.args.draft.now) c.in-Err.fail (c.in-Err.ensures.finds told)
+returns-in-Err-clause-finds g c told =
+    let old : Option Record = option_map {T = Bor Record} {U = Record} (λ r. r.now) c.args.old in
+    own_failed c.args.layout.now old c.args.new.now (tables_of g.K.Keeper.state c.args.draft.now) c.in-Err.fail (c.in-Err.ensures.finds told)

@@ -1,15 +1,18 @@
-use Rattle.std.proofs.Common.{◌≡◌, ◌∙◌, ℕ, List, Some, ap, subst, sym, w64}
+use Rattle.std.proofs.Common.{◌∙◌, ℕ, List, Some, ap, subst, sym, w64}
 use Rattle.std.proofs.lemmas.Int.{to_z-of_z}
 use Rattle.std.specs.Prelude.{Err}
 use Rattle.ut_keeper.specs.Draft.{tables_of}
 use Rattle.ut_keeper.specs.Tables.{Tables}
+use Rattle.ut_model.specs.declared.record.Record.{Record}
+use Rattle.ut_rules.specs.Objects.{object_of_layout}
+use Rattle.ut_records.specs.inner.Giving.{Alters}
 use Rattle.ut_keys.specs.declared.share.ShareRow.{ShareRow}
 use Rattle.ut_stands.specs.Calls.{done, ended_edit}
 use Rattle.ut_stands.specs.declared.layout.Layout.{Layout}
 use Rattle.ut_stands.specs.Layouts.{IsLayout}
 use Rattle.ut_stands.specs.Local.{StandsIn}
 use Rattle.ut_records.proofs.Accepted.{accepted, altered_calls, named_so_too, not_named, unadmitted_too, unaltered, update_passed}
-use Rattle.ut_records.proofs.Spelled.{its_layout}
+use Rattle.ut_named.proofs.Spelled.{its_layout}
 use Rattle.ut_records.proofs.updating.accept_update.Goals as goal
 
 pub returns-in_err-named-clause-accepts : goal.returns-in_err-named-clause-accepts
@@ -34,7 +37,7 @@ returns-in_err-new-clause-accepts g c told q a user s f =
     let e = c.in_err-new.field-0.0 in
     update_passed org q a name key given e c.from_residual-in_err-new.result c.from_residual-in_err-new.ensures.1
     (unaltered org q a name key given x is c.administrator_laws.ensures.level s.sound f.admin there c.altered_record.result e
-    (c.altered_record.ensures.alters a (f.now ∙ sym (to_z-of_z w64 c.args.now c.ranges.now))) c.in_err-new.was)
+    (subst (λ (r : Record). Alters a (object_of_layout x.layout) given r c.altered_record.result) c.in_ok-copy.ensures (c.altered_record.ensures.alters a (f.now ∙ sym (to_z-of_z w64 c.args.now c.ranges.now)))) c.in_err-new.was)
 
 pub returns-in_err-shares-clause-accepts : goal.returns-in_err-shares-clause-accepts
 returns-in_err-shares-clause-accepts g c told q a user s f =
@@ -50,7 +53,7 @@ returns-in_err-shares-clause-accepts g c told q a user s f =
     let there = c.object_laws.ensures.named a.tenant name is.numbered is.there in
     let its = subst (IsLayout q a.tenant) (sym is.layout) (its_layout org q a.tenant is.numbered there) in
     let stands = subst (λ (n : ℕ). StandsIn n q (tables_of state b) (Some a.tenant)) (sym (ap (λ (l : Layout). l.org) is.layout)) (subst (λ (m : Tables). StandsIn org q m (Some a.tenant)) (sym tells.2) s) in
-    let alters = c.altered_record.ensures.alters a (f.now ∙ sym (to_z-of_z w64 c.args.now c.ranges.now)) in
+    let alters = subst (λ (r : Record). Alters a (object_of_layout x.layout) given r c.altered_record.result) c.in_ok-copy.ensures (c.altered_record.ensures.alters a (f.now ∙ sym (to_z-of_z w64 c.args.now c.ranges.now))) in
     let e = c.in_err-shares.field-0.0 in
     update_passed org q a name key given e c.from_residual-in_err-shares.result c.from_residual-in_err-shares.ensures.1
     (unadmitted_too org q a name key given x is c.administrator_laws.ensures.level s.sound f.admin there c.altered_record.result c.in_ok-new.new alters c.in_ok-new.was c.admit.result e
@@ -76,7 +79,7 @@ returns-clause-accepts g c told q a user s f =
     let there = c.object_laws.ensures.named a.tenant name is.numbered is.there in
     let its = subst (IsLayout q a.tenant) (sym is.layout) (its_layout org q a.tenant is.numbered there) in
     let stands = subst (λ (n : ℕ). StandsIn n q (tables_of state b) (Some a.tenant)) (sym (ap (λ (l : Layout). l.org) is.layout)) (subst (λ (m : Tables). StandsIn org q m (Some a.tenant)) (sym tells.2) s) in
-    let alters = c.altered_record.ensures.alters a (f.now ∙ sym (to_z-of_z w64 c.args.now c.ranges.now)) in
+    let alters = subst (λ (r : Record). Alters a (object_of_layout x.layout) given r c.altered_record.result) c.in_ok-copy.ensures (c.altered_record.ensures.alters a (f.now ∙ sym (to_z-of_z w64 c.args.now c.ranges.now))) in
     accepted org q a name key given x is c.administrator_laws.ensures.level s.sound f.admin there c.altered_record.result c.in_ok-new.new alters c.in_ok-new.was c.admit.result c.in_ok-shares.shares
     (c.admit.ensures.admits tells.1 q a stands its f.admin) c.in_ok-shares.was
 

@@ -1,9 +1,9 @@
-use Rattle.std.proofs.Common.{◌≡◌, ◌∙◌, List, [], ◌++◌, ap, map, subst}
+use Rattle.std.proofs.Common.{◌≡◌, ◌∙◌, List, ◌++◌, ap, map, subst}
 use Rattle.ut_edits.specs.Rows.{spelled}
 use Rattle.ut_keeper.specs.declared.keeper.Change.{Change as Spelled}
 use Rattle.ut_keys.specs.declared.share.ShareRow.{ShareRow}
 use Rattle.ut_pivot.specs.Turned.{turned_changes}
-use Rattle.ut_records.specs.inner.Ended.{shares_removed}
+use Rattle.ut_named.specs.Shares.{shares_removed}
 use Rattle.ut_records.specs.inner.Judged.{HaveKeys}
 use Rattle.ut_records.proofs.AlteredChanges.{keys_both, made_both}
 use Rattle.ut_records.proofs.updating.decided_update.Goals as goal

@@ -1,16 +1,11 @@
 use Rattle.std.proofs.Common.{List, arith, rules, subst, sym, w64, ℕ}
 use Rattle.std.proofs.lemmas.Int.{to_z-of_z}
 use Rattle.std.specs.Prelude.{FitsSigned, ℤ}
-use Rattle.std.specs.List.{AllByRecursion}
-use Rattle.ut_edits.specs.Edits.{Takes}
 use Rattle.ut_keeper.specs.Draft.{tables_of}
 use Rattle.ut_model.specs.Creates.{create}
 use Rattle.ut_model.specs.Paths.{Asked}
 use Rattle.ut_model.specs.Verdict.{made_new}
-use Rattle.ut_stands.specs.declared.fail.EditFail.{EditFail}
-use Rattle.ut_stands.specs.Local.{IsIn}
 use Rattle.ut_records.specs.Creating.{IsGiving, PlansNew}
-use Rattle.ut_records.specs.declared.creating.Accepted.{Accepted}
 use Rattle.ut_records.specs.inner.Judged.{Accepts, HaveKeys, changes_of}
 use Rattle.ut_records.proofs.Creates.{CreateLaws, create_taken, decided_so, on_ok}
 use Rattle.ut_records.proofs.Rows.{are_in, decided_few}

@@ -1,4 +1,4 @@
-use Rattle.std.proofs.Common.{◌≡◌, refl, List, arith, rules, subst, sym, w64, ℕ}
+use Rattle.std.proofs.Common.{◌≡◌, refl, rules, subst, sym, w64}
 use Rattle.std.proofs.lemmas.Int.{to_z-of_z}
 use Rattle.std.specs.Prelude.{Err, FitsSigned, IfOk, Ok, Result, ℤ}
 use Rattle.ut_edits.specs.declared.decided.Decided.{Decided}

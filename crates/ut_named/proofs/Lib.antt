@@ -1,0 +1,10 @@
+pub mod Facts
+pub mod Spelled
+pub mod Objects
+pub mod Ready
+pub mod Naming
+pub mod Keeping
+pub mod Among
+pub mod SharePlaces
+pub mod ListedShares
+pub mod PagedShares

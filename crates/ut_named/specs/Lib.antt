@@ -1,0 +1,4 @@
+pub mod Usable
+pub mod Kept
+pub mod Named
+pub mod Shares

@@ -1,0 +1,78 @@
+-- The object and the record that a request names.
+use Rattle.std.specs.Prelude.{◌≡◌, ◌≢◌, ℕ, List, Option, None, Some, Result, Ok, Err, IsTrue}
+use Rattle.ut_data.specs.Decoding.{kinds_in}
+use Rattle.ut_edits.specs.Edits.{FailsBy}
+use Rattle.ut_keys.specs.Forms.{FitsForm}
+use Rattle.ut_keys.specs.Rows.{data_form}
+use Rattle.ut_keys.specs.declared.fail.StoreFail.{StoreFail}
+use Rattle.ut_keys.specs.declared.fail.StoreFail.TheVariants.{Damaged, Memory}
+use Rattle.ut_model.specs.Objects.{Numbered, object_named}
+use Rattle.ut_model.specs.Paths.{Asked}
+use Rattle.ut_model.specs.Rights.{on_named, record_of_object}
+use Rattle.ut_model.specs.SoundRecords.{all_valid}
+use Rattle.ut_model.specs.Tenant.{Tenant}
+use Rattle.ut_model.specs.Verdict.{Verdict, on_object}
+use Rattle.ut_model.specs.declared.record.Record.{Record}
+use Rattle.ut_model.specs.declared.refusal.Refusal.{Refusal}
+use Rattle.ut_model.specs.declared.refusal.Refusal.TheVariants.{MalformedId, NotFound}
+use Rattle.ut_named.specs.declared.kept.KeptRecord.{KeptRecord}
+use Rattle.ut_named.specs.declared.named.Named.{Named}
+use Rattle.ut_named.specs.Kept.{IsKept}
+use Rattle.ut_named.specs.Usable.{IsUsable}
+use Rattle.ut_pivot.specs.Turned.{converts}
+use Rattle.ut_stands.specs.Layouts.{layout_of}
+use Rattle.ut_stands.specs.Plan.{OrgPlan}
+use Rattle.ut_stands.specs.declared.fail.EditFail.{EditFail}
+use Rattle.ut_stands.specs.declared.fail.EditFail.TheVariants.{Refused, Store}
+use Rattle.ut_stands.specs.declared.layout.Layout.{Layout}
+use Rattle.ut_value.specs.Id.{id_in}
+use Rattle.ut_value.specs.declared.sharing.Level.{Level}
+
+-- ---- the record
+
+-- the id that a text spells, or MALFORMED_ID
+abbrev pub SpellsId : (text : List ℕ) → Result (List ℕ) EditFail → Type 0
+SpellsId text (Ok id) = id_in text ≡ Some id
+SpellsId text (Err (Refused r)) = (id_in text ≡ None) × (r ≡ MalformedId text)
+SpellsId text (Err (Store e)) = e ≡ Memory
+
+-- the record that was found, or NOT_FOUND
+abbrev pub record_or_none : Result (Option KeptRecord) StoreFail → Result KeptRecord EditFail
+record_or_none (Ok (Some k)) = Ok k
+record_or_none (Ok None) = Err (Refused NotFound)
+record_or_none (Err e) = Err (Store e)
+
+-- why a text names no record of the object
+abbrev pub NamesNone : Tenant → Layout → (text : List ℕ) → Option (List ℕ) → Refusal → Type 0
+NamesNone t l text None r = r ≡ MalformedId text
+NamesNone t l text (Some id) r = (record_of_object t l.object id ≡ None) × (r ≡ NotFound)
+
+-- the object's record that a text names, or why there is none
+abbrev pub NamesRecord : OrgPlan → Tenant → Layout → (text : List ℕ) → Result KeptRecord EditFail → Type 0
+NamesRecord q t l text (Ok k) = (id : List ℕ) × (id_in text ≡ Some id) × IsKept q t l id k
+NamesRecord q t l text (Err (Refused r)) = NamesNone t l text (id_in text) r
+NamesRecord q t l text (Err (Store e)) = e ≢ Damaged
+
+-- ---- the object and the record
+
+-- these are the object with this name in this tenant and the record that the key names
+pub record IsNamed (org : ℕ) (q : OrgPlan) (t : Tenant) (name key : List ℕ) (x : Named) : Type 0 where
+  pub numbered : Numbered
+  pub there : object_named t name ≡ Some numbered
+  pub layout : x.layout ≡ layout_of org q t numbered
+  pub id : List ℕ
+  pub spelled : id_in key ≡ Some id
+  pub kept : IsKept q t x.layout id x.kept
+
+-- the same, or why a request on that record fails, whatever it is and whatever level it needs
+abbrev pub FindsNamed : (org : ℕ) → OrgPlan → Asked → (name key : List ℕ) → Result Named EditFail → Type 0
+FindsNamed org q a name key (Ok x) = IsNamed org q a.tenant name key x
+FindsNamed org q a name key (Err e) =
+    (least : Level) (verdict : Numbered → Record → Verdict) → FailsBy (on_object a.tenant name (λ o. on_named a o key least (verdict o))) e
+
+-- whatever the tables have, what its rows are made of fits
+pub record FitsNamed (x : Named) : Type 0 where
+  pub usable : IsUsable x.layout
+  pub converting : IsTrue (converts x.layout)
+  pub row : FitsForm data_form x.kept.row
+  pub values : IsTrue (all_valid (kinds_in x.layout.fields) x.kept.item.values)

@@ -1,0 +1,9 @@
+-- Layouts by which records can be read and changed.
+use Rattle.std.specs.Prelude.{◌≤◌, IsTrue, length}
+use Rattle.ut_data.specs.Decoding.{has_types}
+use Rattle.ut_stands.specs.declared.layout.Layout.{Layout}
+
+-- the layout has as few fields as an object may have, of types within their bounds
+pub record IsUsable (l : Layout) : Type 0 where
+  pub few : length l.fields ≤ 40
+  pub types : IsTrue (has_types l)

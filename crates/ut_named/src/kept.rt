@@ -1,0 +1,94 @@
+//! A record, and the row that it has.
+
+ghost use Rattle.std.specs.Prelude.{◌≡◌, Err, IfErr, IfOk, IfSome, IsTrue, Some};
+ghost use Rattle.ut_data.specs.Decoding.{kinds_in};
+ghost use Rattle.ut_keeper.specs.Draft.{DraftTells, tables_of};
+ghost use Rattle.ut_keys.specs.declared.fail.StoreFail.TheVariants.{Memory};
+ghost use Rattle.ut_keys.specs.Forms.{FitsForm};
+ghost use Rattle.ut_keys.specs.Keys.{record_key};
+ghost use Rattle.ut_keys.specs.Rows.{data_form};
+ghost use Rattle.ut_model.specs.SoundRecords.{all_valid};
+ghost use Rattle.ut_model.specs.Tenant.{Tenant};
+ghost use Rattle.ut_named.specs.Kept.{Keeps, kept_from};
+ghost use Rattle.ut_parts.specs.Shapes.{FitsIn};
+ghost use Rattle.ut_stands.specs.Calls.{Calls, ended};
+ghost use Rattle.ut_stands.specs.Layouts.{IsLayout};
+ghost use Rattle.ut_stands.specs.Local.{StandsIn};
+ghost use Rattle.ut_stands.specs.Plan.{OrgPlan};
+ghost use Rattle.ut_value.specs.Causes.{GivesOr};
+
+use std::alloc::Global;
+use ut_data::{data_laws, record_of};
+use ut_keeper::{Draft, Keeper, key_laws};
+use ut_keys::{DataRow, StoreFail, row_at, row_laws};
+use ut_model::Record;
+use ut_stands::{Layout, local_laws};
+use ut_value::Id;
+
+/// A record, and its row.
+#[derive(Drop)]
+pub struct KeptRecord {
+    pub row: DataRow,
+    pub item: Record,
+}
+
+// The key of a record's row.
+fn key_of(org: u32, object: u16, id: &Id) -> (u32, (u16, Id))
+    ensures is { result ≡ (org, (object, id.now)) }
+    ensures fits { FitsIn record_key (org, (object, id.now)) }
+{
+    // That these are an id's characters.
+    let _ = id.as_bytes();
+    (org, (object, *id))
+}
+
+// The record of a row that was read, if there is one, and the row.
+fn record_with_row(
+    alloc: Global,
+    layout: &Layout,
+    row: Result<Option<DataRow>, StoreFail>,
+) -> Result<Option<KeptRecord>, StoreFail>
+    requires { IfOk row (λ found. IfSome found (FitsForm data_form)) }
+    ensures kept { GivesOr Memory (kept_from layout.now row) result }
+    ensures fits { IfOk result (λ found. IfSome found (λ k. FitsForm data_form k.row)) }
+    ensures valid { IfOk result (λ found. IfSome found (λ k. IsTrue (all_valid (kinds_in layout.now.fields) k.item.values))) }
+    ensures failed { IfErr row (λ e. result ≡ Err e) }
+{
+    match row {
+        Ok(None) => Ok(None),
+        Ok(Some(row)) => match record_of(alloc, layout, &row) {
+            Ok(item) => Ok(Some(KeptRecord { row, item })),
+            Err(fail) => Err(StoreFail::from(fail)),
+        },
+        Err(fail) => Err(fail),
+    }
+}
+
+/// The record of an object that has this id, if there is one, and its row.
+///
+/// # Errors
+///
+/// `Keeper` if the keeper failed, `Memory` if out of memory, `Damaged` never if the organisation's rows stand for a tenant whose
+/// layout it is.
+pub fn kept_record<K: Keeper>(
+    alloc: Global,
+    draft: &mut Draft<'_, K>,
+    layout: &Layout,
+    id: &Id,
+) -> Result<Option<KeptRecord>, StoreFail>
+    ensures keeps { DraftTells K.state draft.old draft.new
+        → (q : OrgPlan) (t : Tenant) → StandsIn layout.now.org q (tables_of K.state draft.old) (Some t) → IsLayout q t layout.now
+        → Keeps q t layout.now id.now result }
+    // Whatever the tables have, the row has a spelling, and the values are valid.
+    ensures fits { IfOk result (λ found. IfSome found (λ k. FitsForm data_form k.row)) }
+    ensures valid { IfOk result (λ found. IfSome found (λ k. IsTrue (all_valid (kinds_in layout.now.fields) k.item.values))) }
+    ensures calls { Calls K.state 1 (ended result) draft.old draft.new }
+{
+    key_laws();
+    row_laws::<DataRow>();
+    local_laws();
+    data_laws();
+    let key = key_of(layout.org, layout.object, id);
+    let row = row_at::<DataRow, K>(alloc, draft, &key);
+    record_with_row(alloc, layout, row)
+}

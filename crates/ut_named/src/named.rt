@@ -1,0 +1,138 @@
+//! The object and the record that a request names.
+
+ghost use Rattle.std.specs.Prelude.{◌≡◌, IfOk, IsTrue, Some};
+ghost use Rattle.ut_data.specs.Decoding.{kinds_in};
+ghost use Rattle.ut_edits.specs.Naming.{NamesLayout};
+ghost use Rattle.ut_keeper.specs.Draft.{DraftTells, tables_of};
+ghost use Rattle.ut_keys.specs.Forms.{FitsForm};
+ghost use Rattle.ut_keys.specs.Rows.{data_form};
+ghost use Rattle.ut_model.specs.Paths.{Asked};
+ghost use Rattle.ut_model.specs.SoundRecords.{all_valid};
+ghost use Rattle.ut_model.specs.Tenant.{Tenant};
+ghost use Rattle.ut_named.specs.Named.{FindsNamed, FitsNamed, NamesRecord, SpellsId, record_or_none};
+ghost use Rattle.ut_named.specs.Usable.{IsUsable};
+ghost use Rattle.ut_pivot.specs.Turned.{converts};
+ghost use Rattle.ut_stands.specs.Calls.{Calls, ended_edit};
+ghost use Rattle.ut_stands.specs.Layouts.{IsLayout};
+ghost use Rattle.ut_stands.specs.Local.{StandsIn};
+ghost use Rattle.ut_stands.specs.Plan.{OrgPlan};
+
+use crate::kept::{KeptRecord, kept_record};
+use crate::usable::is_ready;
+use std::alloc::Global;
+use ut_data::data_laws;
+use ut_edits::layout_there;
+use ut_keeper::{Draft, Keeper, draft_laws};
+use ut_keys::StoreFail;
+use ut_model::{Refusal, object_laws};
+use ut_pivot::pivot_laws;
+use ut_stands::{EditFail, Layout, call_laws};
+use ut_value::{Id, Text, id_in};
+
+/// The object and the record that a request names.
+#[derive(Drop)]
+pub struct Named {
+    pub layout: Layout,
+    pub kept: KeptRecord,
+}
+
+// The layout of the object with this name, which converts what a change of a field's type copies.
+fn usable_layout<K: Keeper>(
+    alloc: Global,
+    draft: &mut Draft<'_, K>,
+    org: u32,
+    name: &Text,
+) -> Result<Layout, EditFail>
+    ensures names { DraftTells K.state draft.old draft.new
+        → (q : OrgPlan) (t : Tenant) → StandsIn org q (tables_of K.state draft.old) (Some t) → NamesLayout org q t name.now result }
+    ensures own { IfOk result (λ l. l.org ≡ org) }
+    ensures usable { IfOk result (λ l. IsUsable l × IsTrue (converts l)) }
+    ensures calls { Calls K.state 0 (ended_edit result) draft.old draft.new }
+{
+    call_laws::<K>();
+    object_laws();
+    data_laws();
+    pivot_laws();
+    let mut layout = layout_there(alloc, draft, org, name)?;
+    // As it is already, whatever the tables have.
+    layout.org = org;
+    if is_ready(&layout) {
+        Ok(layout)
+    } else {
+        Err(EditFail::Store(StoreFail::Damaged))
+    }
+}
+
+// The id that a text spells.
+fn spelled_id(alloc: Global, text: &Text) -> Result<Id, EditFail>
+    ensures { SpellsId text.now result }
+{
+    match id_in(text.as_str()) {
+        Some(id) => Ok(id),
+        None => {
+            let text = text.copy(alloc)?;
+            Err(EditFail::Refused(Refusal::MalformedId { text }))
+        }
+    }
+}
+
+// The record that was found, or a refusal where there is none.
+fn record_or_none(found: Result<Option<KeptRecord>, StoreFail>) -> Result<KeptRecord, EditFail>
+    ensures { result ≡ record_or_none found }
+{
+    match found {
+        Ok(Some(kept)) => Ok(kept),
+        Ok(None) => Err(EditFail::Refused(Refusal::NotFound)),
+        Err(fail) => Err(EditFail::Store(fail)),
+    }
+}
+
+// The record of an object that a text names.
+fn named_record<K: Keeper>(
+    alloc: Global,
+    draft: &mut Draft<'_, K>,
+    layout: &Layout,
+    key: &Text,
+) -> Result<KeptRecord, EditFail>
+    ensures names { DraftTells K.state draft.old draft.new
+        → (q : OrgPlan) (t : Tenant) → StandsIn layout.now.org q (tables_of K.state draft.old) (Some t) → IsLayout q t layout.now
+        → NamesRecord q t layout.now key.now result }
+    ensures fits { IfOk result (λ k. FitsForm data_form k.row) }
+    ensures valid { IfOk result (λ k. IsTrue (all_valid (kinds_in layout.now.fields) k.item.values)) }
+    ensures calls { Calls K.state 1 (ended_edit result) draft.old draft.new }
+{
+    call_laws::<K>();
+    match spelled_id(alloc, key) {
+        Ok(id) => record_or_none(kept_record(alloc, draft, layout, &id)),
+        Err(fail) => Err(fail),
+    }
+}
+
+/// The object with this name, and its record that a text names.
+///
+/// # Errors
+///
+/// `Refused` with `InvalidType` if there is no such object, `MalformedId` if the text spells no id, `NotFound` if the object has no
+/// record with that id. `Store` with `Keeper` if the keeper failed, `Memory` if out of memory, `Damaged` never if the organisation's
+/// rows stand for a tenant.
+pub fn find_named<K: Keeper>(
+    alloc: Global,
+    draft: &mut Draft<'_, K>,
+    org: u32,
+    name: &Text,
+    key: &Text,
+) -> Result<Named, EditFail>
+    ensures finds { DraftTells K.state draft.old draft.new
+        → (q : OrgPlan) (a : Asked) → StandsIn org q (tables_of K.state draft.old) (Some a.tenant)
+        → FindsNamed org q a name.now key.now result }
+    ensures own { IfOk result (λ x. x.layout.org ≡ org) }
+    ensures fits { IfOk result FitsNamed }
+    ensures calls { Calls K.state 1 (ended_edit result) draft.old draft.new }
+{
+    draft_laws::<K>();
+    call_laws::<K>();
+    object_laws();
+    let layout = usable_layout(alloc, draft, org, name)?;
+    let kept = named_record(alloc, draft, &layout, key)?;
+    Ok(Named { layout, kept })
+}

@@ -1,0 +1,29 @@
+-- What is given to a record, judged: to a new one, to which nothing was given, or to one that has values.
+use Rattle.std.specs.Prelude.{◌≡◌, ◌≢◌, List, [], ◌∷◌, None, Some, Result, Ok, Err}
+use Rattle.ut_keys.specs.declared.fail.StoreFail.TheVariants.{Damaged, Memory}
+use Rattle.ut_model.specs.Edits.{bad_value, required_missing, with_given}
+use Rattle.ut_model.specs.Keys.{bad_fields}
+use Rattle.ut_model.specs.Paths.{Asked}
+use Rattle.ut_model.specs.Rules.{Rule, first_refusal}
+use Rattle.ut_model.specs.Tenant.{Object, Tenant}
+use Rattle.ut_model.specs.declared.record.Record.{Record}
+use Rattle.ut_model.specs.declared.record_bodies.Assignment.{Assignment}
+use Rattle.ut_stands.specs.declared.fail.EditFail.{EditFail}
+use Rattle.ut_stands.specs.declared.fail.EditFail.TheVariants.{Refused, Store}
+
+-- the rules on what is given
+abbrev pub given_rules : Tenant → Object → List Assignment → (new : Record) → List Rule
+given_rules t o given new = bad_fields t o None given ∷ bad_value t o given ∷ required_missing o new ∷ []
+
+-- no required field is null, or the refusal of the first that is
+abbrev pub Lacks : Object → (new : Record) → Result Record EditFail → Type 0
+Lacks o new (Ok r) = (None ≡ required_missing o new) × (r ≡ new)
+Lacks o new (Err (Refused x)) = Some x ≡ required_missing o new
+Lacks o new (Err (Store e)) = e ≡ Memory
+
+-- none of the rules refuses what the record is with what is given, which is this; or the refusal of the first
+abbrev pub Alters : Asked → Object → List Assignment → (old : Record) → Result Record EditFail → Type 0
+Alters a o given old (Ok r) =
+    (None ≡ first_refusal (given_rules a.tenant o given (with_given a o given old))) × (r ≡ with_given a o given old)
+Alters a o given old (Err (Refused x)) = Some x ≡ first_refusal (given_rules a.tenant o given (with_given a o given old))
+Alters a o given old (Err (Store e)) = e ≢ Damaged

@@ -52,14 +52,14 @@ any_has {X = X} p (y ∷ ys) e = by (or_either (p y) (list_any p ys) e) (any_has
     by (inl so) rest = (y, inl refl, so)
     by (inr more) rest = let (x, h, so) = rest more in (x, inr h, so)
 
-has_append : {X : Type 0} (xs ys : List X) (x : X) → Has xs x ⊎ Has ys x → Has (xs ++ ys) x
+pub has_append : {X : Type 0} (xs ys : List X) (x : X) → Has xs x ⊎ Has ys x → Has (xs ++ ys) x
 has_append [] ys x (inl h) = absurd h
 has_append [] ys x (inr h) = h
 has_append (z ∷ xs) ys x (inl (inl e)) = inl e
 has_append (z ∷ xs) ys x (inl (inr h)) = inr (has_append xs ys x (inl h))
 has_append (z ∷ xs) ys x (inr h) = inr (has_append xs ys x (inr h))
 
-append_has : {X : Type 0} (xs ys : List X) (x : X) → Has (xs ++ ys) x → Has xs x ⊎ Has ys x
+pub append_has : {X : Type 0} (xs ys : List X) (x : X) → Has (xs ++ ys) x → Has xs x ⊎ Has ys x
 append_has [] ys x h = inr h
 append_has (z ∷ xs) ys x (inl e) = inl (inl e)
 append_has {X = X} (z ∷ xs) ys x (inr h) = by (append_has xs ys x h)
@@ -99,7 +99,7 @@ among_has ids i e =
     let (j, h, so) = any_has (λ j. is_eq (slice_cmp nat_cmp i j)) ids e in
     subst (λ (k : List ℕ). Has ids k) (sym (cmp_eq i j so)) h
 
-same_bool : (a b : Bool) → (a ≡ true → b ≡ true) → (b ≡ true → a ≡ true) → a ≡ b
+pub same_bool : (a b : Bool) → (a ≡ true → b ≡ true) → (b ≡ true → a ≡ true) → a ≡ b
 same_bool true b f g = sym (f refl)
 same_bool false true f g = g refl
 same_bool false false f g = refl

@@ -1,11 +1,12 @@
 -- The records whose masters are among some are those that the model's details are.
-use Rattle.std.proofs.Common.{◌≡◌, ℕ, zero, suc, ◌+◌, ◌-◌, true, false, eqb, List, [], ◌∷◌, ◌++◌, map, Option, Some, None, refl, sym, ap, subst, ◌∙◌, arith, bytes_eq}
-use Rattle.std.specs.Prelude.{IsErr, IsErrAnd, Result, Ok, Err, slice_get}
+use Rattle.std.proofs.Common.{◌≡◌, ℕ, zero, suc, ◌+◌, ◌-◌, true, false, not, eqb, List, [], ◌∷◌, ◌++◌, map, Option, Some, None, refl, sym, ap, subst, ◌∙◌, arith, bytes_eq}
+use Rattle.std.specs.Prelude.{◌==◌, IsErr, IsErrAnd, Result, Ok, Err, slice_get}
 use Rattle.std.specs.Cmp.Lexicographic.{slice_cmp}
 use Rattle.std.specs.List.{filter, flat_map}
 use Rattle.std.specs.List.Sorted.{IsStrictlySortedBy}
 use Rattle.std.specs.Ordering.{nat_cmp}
 use Rattle.std.proofs.lemmas.Bool.{eqb-true}
+use Rattle.std.proofs.lemmas.Slice.Eq.{bytes_eq-Decides}
 use Rattle.ut_formula.specs.Meaning.{value_at}
 use Rattle.ut_keeper.specs.Tables.{Tables}
 use Rattle.ut_keys.specs.declared.fail.StoreFail.{StoreFail}
@@ -13,21 +14,29 @@ use Rattle.ut_keys.specs.declared.fail.StoreFail.TheVariants.{Keeper, Memory, Da
 use Rattle.ut_model.specs.declared.record.Record.{Record}
 use Rattle.ut_model.specs.Cases.{in_case}
 use Rattle.ut_model.specs.Deletes.{and_details, details_of, has_id}
-use Rattle.ut_model.specs.Fields.{ref_of}
+use Rattle.ut_model.specs.Fields.{is_master, ref_of}
+use Rattle.ut_model.specs.Known.{item_of, known}
 use Rattle.ut_model.specs.Membership.{Has}
 use Rattle.ut_model.specs.Objects.{is_of, numbered, object_number, records_of}
+use Rattle.ut_model.specs.Relationships.{references_of}
 use Rattle.ut_model.specs.Sound.{IsSound}
-use Rattle.ut_model.specs.Tenant.{Object, Tenant}
+use Rattle.ut_model.specs.Tenant.{Field, Object, Tenant}
 use Rattle.ut_stands.specs.declared.layout.Layout.{Layout}
 use Rattle.ut_stands.specs.Layouts.{layout_of, own_layouts}
 use Rattle.ut_stands.specs.Plan.{OrgPlan}
-use Rattle.ut_data.proofs.Lists.{eqb_same, of_each}
+use Rattle.ut_data.proofs.Lists.{and_right, eqb_same, of_each}
 use Rattle.ut_data.proofs.Rising.{filter_has, has_filter, rise_filter}
 use Rattle.ut_referring.specs.Referring.{all_referring, refers_by}
 use Rattle.ut_cascade.specs.Cascade.{FindsWith}
-use Rattle.ut_cascade.specs.inner.Masters.{FindsBy, details_in, is_among, master_from}
+use Rattle.ut_cascade.specs.inner.Masters.{FindsBy, details_in, ids_of, is_among, master_from, nameable, target_at}
 use Rattle.ut_cascade.proofs.Among.{has_any, any_has, has_flat, flat_has, has_id_of, id_of_has, has_among, among_has, same_sorted, ids_sorted, record_ids}
-use Rattle.ut_cascade.proofs.Objects.{named, is_detail, detail_is, all_is, has_made, made_has, layouts_are}
+use Rattle.ut_cascade.proofs.Holders.{sound_reference}
+use Rattle.ut_cascade.proofs.Objects.{named, is_detail, detail_is, all_is, first_master, has_made, made_has, layouts_are}
+
+-- those that a field can name are of these
+named_among : (ids : List (List ℕ)) (j : List ℕ) (m : Option ℕ) → Has (in_case m [] (λ object. ids_of object ids)) j → Has ids j
+named_among ids j None h = absurd h
+named_among ids j (Some object) h = (has_filter (λ (j : List ℕ). object_number j == object) ids j h).0
 
 module _ (org : ℕ) (q : OrgPlan) (t : Tenant) (sound : IsSound t) (layouts : List Layout) (are : own_layouts org q (Some t) ≡ layouts) (rs : List Record) where
   abbrev ids : List (List ℕ)
@@ -57,15 +66,27 @@ module _ (org : ℕ) (q : OrgPlan) (t : Tenant) (sound : IsSound t) (layouts : L
   unfolding all_referring
   all_of n k j = refl
 
+  -- what a reference names is a record of its target
+  names_target : (n k : ℕ) (o : Object) → slice_get t.objects n ≡ Some o → (target : ℕ) (f : Field)
+      → Has (references_of (record { number = n; object = o })) (record { object = n; position = k + 1; field = f; target = target })
+      → (x : Record) → Has t.records x → is_of n x ≡ true → (j : List ℕ) → refers_by k j x ≡ true → (object_number j == target) ≡ true
+  names_target n k o there target f own x here of j refers =
+      by (ref_of (value_at x.values (k + 1))) refers (sound_reference t sound n k o there target f own x here of)
+    where
+      by : (m : Option (List ℕ)) → in_case m false (bytes_eq j) ≡ true → in_case m (not (is_master f.kind)) (item_of (known t) target) ≡ true → (object_number j == target) ≡ true
+      by None e right = absurd cc
+      by (Some i) e right = ap (λ (z : List ℕ). object_number z == target) ((bytes_eq-Decides j i).0 e) ∙ and_right ((known t).item i) (object_number i == target) right
+
   -- by the layout of an object
   module _ (n : ℕ) (o : Object) (there : slice_get t.objects n ≡ Some o) where
     abbrev l : Layout
     l = layout_of org q t (record { number = n; object = o })
 
-    onward_from : (i : List ℕ) (m : Option ℕ) → master_from 0 l.fields ≡ m → Has (in_case m [] (λ k. flat_map (λ j. all_referring n k j t) ids)) i → Has (record_ids (details_of t rs)) i
+    onward_from : (i : List ℕ) (m : Option ℕ) → master_from 0 l.fields ≡ m → Has (in_case m [] (λ k. flat_map (λ j. all_referring n k j t) (nameable l.fields k ids))) i → Has (record_ids (details_of t rs)) i
     onward_from i None is h = absurd h
     onward_from i (Some k) is h =
-        let (j, hj, hi) = flat_has (λ (j : List ℕ). all_referring n k j t) ids i h in
+        let (j, named_j, hi) = flat_has (λ (j : List ℕ). all_referring n k j t) (nameable l.fields k ids) i h in
+        let hj = named_among ids j (target_at l.fields k) named_j in
         let (x, hx, same) = id_of_has (filter (refers_by k j) (records_of t n)) i (subst (λ (zs : List (List ℕ)). Has zs i) (all_of n k j) hi) in
         let (its, refers) = has_filter (refers_by k j) (records_of t n) x hx in
         let (here, of) = has_filter (is_of n) t.records x its in
@@ -73,12 +94,15 @@ module _ (org : ℕ) (q : OrgPlan) (t : Tenant) (sound : IsSound t) (layouts : L
         subst (λ (z : List ℕ). Has (record_ids (details_of t rs)) z) (sym same) (has_id_of (details_of t rs) x (filter_has (is_detail org q t rs) t.records x here tested))
 
     backward_from : (x : Record) → Has t.records x → object_number x.id ≡ n → (m : Option ℕ) → master_from 0 l.fields ≡ m → in_case m false (λ k. named org q t rs x (k + 1)) ≡ true
-        → Has (in_case m [] (λ k. flat_map (λ j. all_referring n k j t) ids)) x.id
+        → Has (in_case m [] (λ k. flat_map (λ j. all_referring n k j t) (nameable l.fields k ids))) x.id
     backward_from x here of None is e = absurd cc
     backward_from x here of (Some k) is e =
         let (j, hj, refers) = one_refers x k e in
+        let master = first_master q n k o.fields is in
+        let target = names_target n k o there master.target master.field master.own x here (ap (λ (m : ℕ). eqb m n) of ∙ eqb_same n) j refers in
+        let named_j = subst (λ (m : Option ℕ). Has (in_case m [] (λ object. ids_of object ids)) j) (sym master.at) (filter_has (λ (j : List ℕ). object_number j == master.target) ids j hj target) in
         let its = filter_has (is_of n) t.records x here (ap (λ (m : ℕ). eqb m n) of ∙ eqb_same n) in
-        has_flat (λ (j : List ℕ). all_referring n k j t) ids j x.id hj
+        has_flat (λ (j : List ℕ). all_referring n k j t) (nameable l.fields k ids) j x.id named_j
         (subst (λ (zs : List (List ℕ)). Has zs x.id) (sym (all_of n k j)) (has_id_of (filter (refers_by k j) (records_of t n)) x (filter_has (refers_by k j) (records_of t n) x its refers)))
 
   onward : (i : List ℕ) → Has (flat_map (λ l. details_in l ids t) layouts) i → Has (record_ids (details_of t rs)) i

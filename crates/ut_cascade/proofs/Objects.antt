@@ -1,5 +1,5 @@
 -- An object's first Master field, in the model and in its layout, and the layouts of all objects.
-use Rattle.std.proofs.Common.{◌≡◌, ℕ, zero, suc, ◌+◌, ◌<◌, Bool, false, ◌&&◌, cond, eqb, List, [], ◌∷◌, ◌++◌, map, Option, Some, None, refl, sym, ap, subst, ◌∙◌, inl, inr, arith}
+use Rattle.std.proofs.Common.{◌≡◌, ℕ, zero, suc, ◌+◌, ◌<◌, Bool, true, false, ◌&&◌, cond, eqb, List, [], ◌∷◌, ◌++◌, map, Option, Some, None, refl, sym, ap, subst, ◌∙◌, inl, inr, arith}
 use Rattle.std.specs.Prelude.{◌==◌, ◌⊎◌, slice_get}
 use Rattle.std.specs.List.{enumerate_from, find, flat_map}
 use Rattle.std.specs.Option.{option_map}
@@ -19,7 +19,8 @@ use Rattle.ut_stands.specs.declared.layout.Layout.{Layout}
 use Rattle.ut_stands.specs.Layouts.{IsLayout, layout_of, own_layout, own_layouts, place_of}
 use Rattle.ut_stands.specs.Plan.{OrgPlan}
 use Rattle.ut_data.proofs.Lists.{eqb_same, pick, some_is}
-use Rattle.ut_cascade.specs.inner.Masters.{AreLayouts, master_from}
+use Rattle.ut_cascade.specs.inner.Masters.{AreLayouts, master_from, target_at}
+use Rattle.ut_cascade.proofs.Among.{has_append}
 
 -- objects with their numbers, where the first has this one
 abbrev from : ℕ → List Object → List Numbered
@@ -101,6 +102,79 @@ module _ (n : ℕ) where
           ≡ option_map (λ m. m + 1) (option_map (λ g. g.0) (cond b (Some (k, place_of q n (j, f))) (find (λ g. is_master g.1.kind) (enumerate_from (k + 1) (map (place_of q n) (enumerate_from (j + 1) fs)))))))
           (λ _. refl)
           (λ _. rest))
+
+masters : (k : FieldType) → is_master k ≡ true → (target : ℕ) × (target_of k ≡ Some target)
+masters (type.Master o) e = (o, refl)
+masters (type.Lookup o d) e = absurd cc
+masters type.Checkbox e = absurd cc
+masters type.Day e = absurd cc
+masters type.Moment e = absurd cc
+masters (type.Text m) e = absurd cc
+masters (type.Number d e) h = absurd cc
+masters (type.Picklist vs) e = absurd cc
+
+module _ (q : OrgPlan) (n : ℕ) where
+  -- the field that is a Master, the i-th of these, and the object to which it refers
+  pub record MasterAt (k i : ℕ) (fs : List Field) : Type 0 where
+    pub field : Field
+    pub target : ℕ
+    pub at : target_at (map (place_of q n) (enumerate_from k fs)) i ≡ Some target
+    pub own : Has (flat_map (reference_at n) (enumerate_from (k + 1) fs)) (record { object = n; position = k + i + 1; field = field; target = target })
+
+  later : (k i : ℕ) (f : Field) (fs : List Field) → MasterAt (k + 1) i fs → MasterAt k (suc i) (f ∷ fs)
+  later k i f fs m =
+      let same : k + 1 + i ≡ k + suc i = omega arith in
+      record {
+        field = m.field;
+        target = m.target;
+        at = m.at;
+        own = has_append (reference_at n (k + 1, f)) (flat_map (reference_at n) (enumerate_from (k + 1 + 1) fs)) (record { object = n; position = k + suc i + 1; field = m.field; target = m.target })
+            (inr (subst (λ (p : ℕ). Has (flat_map (reference_at n) (enumerate_from (k + 1 + 1) fs)) (record { object = n; position = p + 1; field = m.field; target = m.target })) same m.own));
+      }
+
+  here : (k : ℕ) (f : Field) (fs : List Field) → is_master f.kind ≡ true → MasterAt k 0 (f ∷ fs)
+  here k f fs e =
+      let (target, is) = masters f.kind e in
+      let it : Reference = record { object = n; position = k + 1; field = f; target = target } in
+      let same : k ≡ k + 0 = omega arith in
+      record {
+        field = f;
+        target = target;
+        at = is;
+        own = subst (λ (p : ℕ). Has (flat_map (reference_at n) (enumerate_from (k + 1) (f ∷ fs))) (record { object = n; position = p + 1; field = f; target = target })) same
+            (has_append (reference_at n (k + 1, f)) (flat_map (reference_at n) (enumerate_from (k + 1 + 1) fs)) it
+            (inl (subst (λ (m : Option ℕ). Has (in_case m [] (λ target. record { object = n; position = k + 1; field = f; target = target } ∷ [])) it) (sym is) (inl refl))));
+      }
+
+  masters_from : (k m : ℕ) (fs : List Field) → master_from k (map (place_of q n) (enumerate_from k fs)) ≡ Some m → (i : ℕ) × (k + i ≡ m) × MasterAt k i fs
+  masters_from k m [] e = absurd cc
+  masters_from k m (f ∷ fs) e = by (is_master f.kind) refl e (masters_from (k + 1) m fs)
+    where
+      by : (b : Bool) → is_master f.kind ≡ b
+          → option_map (λ g. g.0) (cond b (Some (k, place_of q n (k, f))) (find (λ g. is_master g.1.kind) (enumerate_from (k + 1) (map (place_of q n) (enumerate_from (k + 1) fs))))) ≡ Some m
+          → (master_from (k + 1) (map (place_of q n) (enumerate_from (k + 1) fs)) ≡ Some m → (i : ℕ) × (k + 1 + i ≡ m) × MasterAt (k + 1) i fs)
+          → (i : ℕ) × (k + i ≡ m) × MasterAt k i (f ∷ fs)
+      by true is e more = let same : k ≡ m = cc in let zero_more : k + 0 ≡ m = omega (arith, same) in (0, zero_more, here k f fs is)
+      by false is e more = let (i, at, found) = more e in let same : k + suc i ≡ m = omega (arith, at) in (suc i, same, later k i f fs found)
+
+  -- an object's first Master field
+  pub record IsMaster (m : ℕ) (fs : List Field) : Type 0 where
+    pub field : Field
+    pub target : ℕ
+    pub at : target_at (map (place_of q n) (enumerate_from 0 fs)) m ≡ Some target
+    pub own : Has (flat_map (reference_at n) (enumerate_from 1 fs)) (record { object = n; position = m + 1; field = field; target = target })
+
+  pub first_master : (m : ℕ) (fs : List Field) → master_from 0 (map (place_of q n) (enumerate_from 0 fs)) ≡ Some m → IsMaster m fs
+  first_master m fs e =
+      let (i, at, found) = masters_from 0 m fs e in
+      let same : 0 + i ≡ m = at in
+      let is : i ≡ m = omega (arith, at) in
+      record {
+        field = found.field;
+        target = found.target;
+        at = subst (λ (j : ℕ). target_at (map (place_of q n) (enumerate_from 0 fs)) j ≡ Some found.target) is found.at;
+        own = subst (λ (j : ℕ). Has (flat_map (reference_at n) (enumerate_from 1 fs)) (record { object = n; position = j + 1; field = found.field; target = found.target })) same found.own;
+      }
 
 -- what the model says of a record's master, by the layout of its object
 module _ (org : ℕ) (q : OrgPlan) (t : Tenant) (rs : List Record) where

@@ -1,2 +1,3 @@
 pub mod Cascade
+pub mod Deletion
 pub mod inner

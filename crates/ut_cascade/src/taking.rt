@@ -6,7 +6,7 @@ ghost use Rattle.std.specs.Cmp.Lexicographic.{slice_cmp};
 ghost use Rattle.std.specs.List.{flat_map};
 ghost use Rattle.std.specs.Ordering.{nat_cmp};
 ghost use Rattle.ut_cascade.specs.Cascade.{FindsWith};
-ghost use Rattle.ut_cascade.specs.inner.Masters.{FindsBy, IsInOrder, details_in, master_from};
+ghost use Rattle.ut_cascade.specs.inner.Masters.{FindsBy, IsInOrder, details_in, master_from, nameable};
 ghost use Rattle.ut_keeper.specs.Draft.{DraftTells, tables_of};
 ghost use Rattle.ut_model.specs.Deletes.{details_of};
 ghost use Rattle.ut_model.specs.Fields.{is_master};
@@ -14,6 +14,7 @@ ghost use Rattle.ut_referring.specs.Referring.{all_referring};
 ghost use Rattle.ut_stands.specs.Calls.{Calls, ended};
 ghost use Rattle.ut_stands.specs.Layouts.{FindsOf};
 
+use crate::object::{object_number, target_of};
 use std::alloc::{AllocError, Global};
 use std::collections::BTreeSet;
 use ut_keeper::{Draft, Keeper, draft_laws};
@@ -49,7 +50,7 @@ fn master_number(fields: &[FieldPlace]) -> Option<usize>
 }
 
 // The ids of the records of an object that refer by the field with this number to one of these.
-fn referring_to<K: Keeper>(
+pub(crate) fn referring_to<K: Keeper>(
     alloc: Global,
     draft: &mut Draft<'_, K>,
     layout: &Layout,
@@ -73,6 +74,26 @@ fn referring_to<K: Keeper>(
     Ok(Items::from_vec(all))
 }
 
+// Those of these that the field with this number can name.
+fn nameable(
+    alloc: Global,
+    fields: &[FieldPlace],
+    number: usize,
+    ids: &[Id],
+) -> Result<Vec<Id>, AllocError>
+    requires { number < length fields.now }
+    ensures { IfOk result (λ those. those.items ≡ nameable fields.now number ids.now) }
+{
+    match target_of(&fields[number].kind) {
+        None => Ok(Vec::new(alloc)),
+        Some(object) => ids
+            .iter()
+            .copied()
+            .filter(|id| object_number(id) == object)
+            .collect(alloc),
+    }
+}
+
 // The ids of the records of an object whose masters are among these.
 fn details_in<K: Keeper>(
     alloc: Global,
@@ -85,9 +106,13 @@ fn details_in<K: Keeper>(
     ensures calls { Calls K.state 0 (ended result) draft.old draft.new }
 {
     call_laws::<K>();
-    match master_number(layout.fields.as_slice()) {
+    let fields = layout.fields.as_slice();
+    match master_number(fields) {
         None => Ok(Items::new(alloc)),
-        Some(number) => referring_to(alloc, draft, layout, number, ids),
+        Some(number) => {
+            let masters = nameable(alloc, fields, number, ids)?;
+            referring_to(alloc, draft, layout, number, masters.as_slice())
+        }
     }
 }
 
@@ -116,21 +141,21 @@ fn details_by<K: Keeper>(
 }
 
 // Each of these once.
-fn set_of(alloc: Global, ids: &[Id]) -> Result<BTreeSet<Id>, AllocError>
+pub(crate) fn set_of(alloc: Global, ids: &[Id]) -> Result<BTreeSet<Id>, AllocError>
     ensures { IfOk result (IsFromIterResult (slice_cmp nat_cmp) ids.now) }
 {
     ids.iter().copied().collect(alloc)
 }
 
 // What is in a set, in its order.
-fn listed(alloc: Global, ids: BTreeSet<Id>) -> Result<Vec<Id>, AllocError>
+pub(crate) fn listed(alloc: Global, ids: BTreeSet<Id>) -> Result<Vec<Id>, AllocError>
     ensures { IfOk result (λ all. all.items ≡ ids.keys) }
 {
     ids.into_iter().collect(alloc)
 }
 
 // Each of these once, in their order.
-fn in_order(alloc: Global, ids: &[Id]) -> Result<Items<Id>, AllocError>
+pub(crate) fn in_order(alloc: Global, ids: &[Id]) -> Result<Items<Id>, AllocError>
     ensures { IfOk result (IsInOrder ids.now) }
 {
     let set = set_of(alloc, ids)?;

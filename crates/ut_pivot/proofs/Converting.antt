@@ -35,7 +35,7 @@ sound_converts p n m j f h = by j.phase
     by phase.Clear = refl
     by phase.Done = refl
 
-the_field : (t : Tenant) (n : ℕ) (o : Object) (j : Job) → object_numbered t n ≡ Some o → j.object ≡ n → job_field t.objects j ≡ slice_get o.fields j.field
+pub the_field : (t : Tenant) (n : ℕ) (o : Object) (j : Job) → object_numbered t n ≡ Some o → j.object ≡ n → job_field t.objects j ≡ slice_get o.fields j.field
 the_field t n o j here at =
     ap (λ (i : ℕ). option_and_then (λ (o : Object). slice_get o.fields j.field) (slice_get t.objects i)) at ∙ ap (option_and_then (λ (o : Object). slice_get o.fields j.field)) here
 

@@ -51,7 +51,7 @@ turned_about false c x y e = rw e refl
 abbrev value_in : OrgPlan → Job → Record → Phase → Option Value
 value_in p j r ph = cond (is_copied ph j.cursor r.id) (convert (slot_type p j ph j.outcome) (value_at r.values (suc j.field))) None
 
-copied_is : (p : OrgPlan) (j : Job) (r : Record) → j.phase ≡ phase.Copy → copied_value (job_place p j) r ≡ job_value p j j.phase r
+pub copied_is : (p : OrgPlan) (j : Job) (r : Record) → j.phase ≡ phase.Copy → copied_value (job_place p j) r ≡ job_value p j j.phase r
 copied_is p j r e =
     subst (λ (ph : Phase). value_in p j r ph ≡ job_value p j ph r) (sym e)
     (turned_about (is_copied phase.Copy j.cursor r.id) (is_past j.cursor r.id) (convert j.to (value_at r.values (suc j.field))) None (past_is j.cursor r.id))
@@ -77,7 +77,7 @@ copies phase.Done cursor id e = absurd cc
 
 -- ---- as entries
 
-field_there : (p : OrgPlan) (n : ℕ) (f : FieldPlace → Option Entry) (g : Field → Option Entry) → ((i : ℕ) (x : Field) → f (place_of p n (i, x)) ≡ g x)
+pub field_there : (p : OrgPlan) (n : ℕ) (f : FieldPlace → Option Entry) (g : Field → Option Entry) → ((i : ℕ) (x : Field) → f (place_of p n (i, x)) ≡ g x)
     → (k i : ℕ) (fs : List Field) → option_and_then f (slice_get (map (place_of p n) (enumerate_from k fs)) i) ≡ option_and_then g (slice_get fs i)
 field_there p n f g h k i [] = refl
 field_there p n f g h k zero (x ∷ fs) = h k x
@@ -86,7 +86,7 @@ field_there p n f g h k (suc i) (x ∷ fs) = field_there p n f g h (k + 1) i fs
 abbrev layout : (org n : ℕ) → OrgPlan → Tenant → Object → Layout
 layout org n p t o = layout_of org p t (record { number = n; object = o })
 
-abbrev job_there : OrgPlan → Job → Object → Record → Option Entry
+abbrev pub job_there : OrgPlan → Job → Object → Record → Option Entry
 job_there p j o r = option_and_then (job_entry p j r) (slice_get o.fields j.field)
 
 pub there_is : (org n : ℕ) (p : OrgPlan) (t : Tenant) (o : Object) (j : Job) (r : Record) → j.phase ≡ phase.Copy → copied_there (layout_of org p t (record { number = n; object = o })) (job_place p j) r ≡ option_and_then (job_entry p j r) (slice_get o.fields j.field)
@@ -114,7 +114,7 @@ entries_stay p j o q r e = by (slice_get o.fields j.field)
 
 -- ---- what stays has no rows that differ
 
-same_key : (k : Option (List ℕ)) → option_eq bytes_eq k k ≡ true
+pub same_key : (k : Option (List ℕ)) → option_eq bytes_eq k k ≡ true
 same_key None = refl
 same_key (Some k) = (bytes_eq-Decides k k).1 refl
 

@@ -1,6 +1,8 @@
--- How many changes there are, and that none of them removes a record's row.
-use Rattle.std.proofs.Common.{◌≡◌, ℕ, zero, suc, ◌+◌, ◌*◌, ◌≤◌, cond, List, [], ◌∷◌, ◌++◌, length, map, Option, Some, None, refl, ap, ◌∙◌, arith, length-append}
+-- How many changes there are, and how many of them remove a record's row: none, but for the one of a record that goes.
+use Rattle.std.proofs.Common.{◌≡◌, ℕ, ◌+◌, ◌*◌, ◌≤◌, cond, List, [], ◌∷◌, ◌++◌, length, map, Option, Some, None, refl, arith, length-append}
 use Rattle.std.specs.Prelude.{bytes_eq}
+use Rattle.std.specs.List.{flat_map, range_with_len}
+use Rattle.std.proofs.Math.Nat.{suc-mul}
 use Rattle.ut_edits.specs.Rows.{gone_of, spelled}
 use Rattle.ut_keeper.specs.State.{data_rows}
 use Rattle.ut_keys.specs.declared.data.DataRow.{DataRow}
@@ -8,17 +10,16 @@ use Rattle.ut_keys.specs.Keys.{Index, Key, Relation, Unique, spell}
 use Rattle.ut_model.specs.declared.record.Record.{Record}
 use Rattle.ut_pivot.specs.Changed.{index_key, reference_key, slot_changes, row_turned, unique_key}
 use Rattle.ut_pivot.specs.Made.{layout_entry, made_changes, values_made}
+use Rattle.ut_pivot.specs.Removed.{removed_changes, removed_entry, values_removed}
 use Rattle.ut_pivot.specs.Turned.{turned_changes, turned_entry, values_turned}
 use Rattle.ut_pivot.proofs.Cases.{pick}
-use Rattle.ut_pivot.proofs.TurnedValues.{turned_more}
-use Rattle.ut_pivot.proofs.Values.{values_more}
 use Rattle.ut_stands.specs.Changes.{Change}
 use Rattle.ut_stands.specs.Entries.{Entry}
 use Rattle.ut_stands.specs.declared.layout.Layout.{Layout}
 
 -- ---- one table
 
-turned_few : (make : List ℕ → Key) (row : List ℕ) (old new : Option (List ℕ)) → length (row_turned make row old new) ≤ 2
+pub turned_few : (make : List ℕ → Key) (row : List ℕ) (old new : Option (List ℕ)) → length (row_turned make row old new) ≤ 2
 turned_few make row None None = omega arith
 turned_few make row None (Some b) = omega arith
 turned_few make row (Some a) None = omega arith
@@ -27,6 +28,10 @@ turned_few make row (Some a) (Some b) = pick (bytes_eq a b) (λ x. length (cond 
 come_few : (make : List ℕ → Key) (row : List ℕ) (new : Option (List ℕ)) → length (row_turned make row None new) ≤ 1
 come_few make row None = omega arith
 come_few make row (Some b) = omega arith
+
+pub go_few : (make : List ℕ → Key) (row : List ℕ) (old : Option (List ℕ)) → length (row_turned make row old None) ≤ 1
+go_few make row None = omega arith
+go_few make row (Some a) = omega arith
 
 abbrev GoesNowhere : (List ℕ → Key) → Type 0
 GoesNowhere make = (k : List ℕ) → data_rows (spell (make k)).0 1 ≡ 0
@@ -85,73 +90,75 @@ slot_come_few org n id f s =
       come_few (λ k. Relation org n s k id) [] (reference_key f),
     )
 
+slot_go_few : (org n : ℕ) (id : List ℕ) (e : Option Entry) (s : ℕ) → length (slot_changes org n id e None s) ≤ 3
+slot_go_few org n id e s =
+    let index = row_turned (λ k. Index org n s k id) [] (index_key e) None in
+    let unique = row_turned (λ k. Unique org n s k) id (unique_key e) None in
+    let reference = row_turned (λ k. Relation org n s k id) [] (reference_key e) None in
+    omega (
+      arith,
+      length-append index (unique ++ reference),
+      length-append unique reference,
+      go_few (λ k. Index org n s k id) [] (index_key e),
+      go_few (λ k. Unique org n s k) id (unique_key e),
+      go_few (λ k. Relation org n s k id) [] (reference_key e),
+    )
+
+-- ---- all slots
+
+pub flat_few : (most : ℕ) (f : ℕ → List Change) → ((s : ℕ) → length (f s) ≤ most) → (ss : List ℕ) → length (flat_map f ss) ≤ length ss * most
+flat_few most f few [] = omega arith
+flat_few most f few (s ∷ ss) = omega (arith, suc-mul (length ss) most, length-append (f s) (flat_map f ss), few s, flat_few most f few ss)
+
+flat_gone : (f : ℕ → List Change) → ((s : ℕ) → gone_of (map spelled (f s)) ≡ 0) → (ss : List ℕ) → gone_of (map spelled (flat_map f ss)) ≡ 0
+flat_gone f none [] = refl
+flat_gone f none (s ∷ ss) = none_of_both (f s) (flat_map f ss) (none s) (flat_gone f none ss)
+
 -- ---- a new record
 
-abbrev of_slot : Layout → Record → ℕ → List Change
-of_slot l r s = slot_changes l.org l.object r.id None (layout_entry l r s) s
-
-values_next : (l : Layout) (r : Record) (k : ℕ) → values_made l r (suc k) ≡ values_made l r k ++ of_slot l r k
-values_next l r k = let e : suc k ≡ k + 1 = omega arith in ap (values_made l r) e ∙ values_more l r k
-
-no_values : (l : Layout) (r : Record) → values_made l r zero ≡ []
-unfolding values_made
-no_values l r = refl
-
-values_few : (l : Layout) (r : Record) (slots : ℕ) → length (values_made l r slots) ≤ 3 * slots
-values_few l r zero = let e = ap length (no_values l r) in omega (arith, e)
-values_few l r (suc k) =
-    let e = ap length (values_next l r k) in
-    omega (arith, e, length-append (values_made l r k) (of_slot l r k), slot_come_few l.org l.object r.id (layout_entry l r k) k, values_few l r k)
-
-values_gone : (l : Layout) (r : Record) (slots : ℕ) → gone_of (map spelled (values_made l r slots)) ≡ 0
-values_gone l r zero = ap (λ (cs : List Change). gone_of (map spelled cs)) (no_values l r)
-values_gone l r (suc k) =
-    ap (λ (cs : List Change). gone_of (map spelled cs)) (values_next l r k)
-    ∙ none_of_both (values_made l r k) (of_slot l r k) (values_gone l r k) (slot_gone l.org l.object r.id None (layout_entry l r k) k)
+abbrev made_slot : Layout → Record → ℕ → List Change
+made_slot l r s = slot_changes l.org l.object r.id None (layout_entry l r s) s
 
 pub made_few : (l : Layout) (r : Record) → length (made_changes l r) ≤ 145
-unfolding made_changes
-made_few l r = let e = values_few l r 48 in omega (arith, e)
+unfolding made_changes values_made
+made_few l r =
+    let few : length (values_made l r 48) ≤ 144 = flat_few 3 (made_slot l r) (λ s. slot_come_few l.org l.object r.id (layout_entry l r s) s) (range_with_len 0 48) in
+    omega (arith, few)
 
 pub made_gone : (l : Layout) (r : Record) → gone_of (map spelled (made_changes l r)) ≡ 0
-unfolding made_changes
-made_gone l r = let e = values_gone l r 48 in omega (arith, e)
+unfolding made_changes values_made
+made_gone l r = let none = flat_gone (made_slot l r) (λ s. slot_gone l.org l.object r.id None (layout_entry l r s) s) (range_with_len 0 48) in omega (arith, none)
 
 -- ---- a record whose values change
 
 abbrev turned_slot : Layout → Record → Record → ℕ → List Change
 turned_slot l old new s = slot_changes l.org l.object new.id (turned_entry l old s) (turned_entry l new s) s
 
-turned_next : (l : Layout) (old new : Record) (k : ℕ) → values_turned l old new (suc k) ≡ values_turned l old new k ++ turned_slot l old new k
-turned_next l old new k = let e : suc k ≡ k + 1 = omega arith in ap (values_turned l old new) e ∙ turned_more l old new k
-
-none_turned : (l : Layout) (old new : Record) → values_turned l old new zero ≡ []
-unfolding values_turned
-none_turned l old new = refl
-
-turned_values_few : (l : Layout) (old new : Record) (slots : ℕ) → length (values_turned l old new slots) ≤ 6 * slots
-turned_values_few l old new zero = let e = ap length (none_turned l old new) in omega (arith, e)
-turned_values_few l old new (suc k) =
-    let e = ap length (turned_next l old new k) in
-    omega (
-      arith,
-      e,
-      length-append (values_turned l old new k) (turned_slot l old new k),
-      slot_few l.org l.object new.id (turned_entry l old k) (turned_entry l new k) k,
-      turned_values_few l old new k,
-    )
-
-turned_values_gone : (l : Layout) (old new : Record) (slots : ℕ) → gone_of (map spelled (values_turned l old new slots)) ≡ 0
-turned_values_gone l old new zero = ap (λ (cs : List Change). gone_of (map spelled cs)) (none_turned l old new)
-turned_values_gone l old new (suc k) =
-    ap (λ (cs : List Change). gone_of (map spelled cs)) (turned_next l old new k)
-    ∙ none_of_both (values_turned l old new k) (turned_slot l old new k) (turned_values_gone l old new k)
-    (slot_gone l.org l.object new.id (turned_entry l old k) (turned_entry l new k) k)
-
 pub changed_few : (l : Layout) (kept : DataRow) (old new : Record) → length (turned_changes l kept old new) ≤ 289
-unfolding turned_changes
-changed_few l kept old new = let e = turned_values_few l old new 48 in omega (arith, e)
+unfolding turned_changes values_turned
+changed_few l kept old new =
+    let few : length (values_turned l old new 48) ≤ 288 = flat_few 6 (turned_slot l old new) (λ s. slot_few l.org l.object new.id (turned_entry l old s) (turned_entry l new s) s) (range_with_len 0 48) in
+    omega (arith, few)
 
 pub changed_gone : (l : Layout) (kept : DataRow) (old new : Record) → gone_of (map spelled (turned_changes l kept old new)) ≡ 0
-unfolding turned_changes
-changed_gone l kept old new = let e = turned_values_gone l old new 48 in omega (arith, e)
+unfolding turned_changes values_turned
+changed_gone l kept old new =
+    let none = flat_gone (turned_slot l old new) (λ s. slot_gone l.org l.object new.id (turned_entry l old s) (turned_entry l new s) s) (range_with_len 0 48) in
+    omega (arith, none)
+
+-- ---- a record that goes
+
+abbrev removed_slot : Layout → DataRow → Record → ℕ → List Change
+removed_slot l kept old s = slot_changes l.org l.object old.id (removed_entry l kept old s) None s
+
+pub removed_few : (l : Layout) (kept : DataRow) (old : Record) → length (removed_changes l kept old) ≤ 145
+unfolding removed_changes values_removed
+removed_few l kept old =
+    let few : length (values_removed l kept old 48) ≤ 144 = flat_few 3 (removed_slot l kept old) (λ s. slot_go_few l.org l.object old.id (removed_entry l kept old s) s) (range_with_len 0 48) in
+    omega (arith, few)
+
+pub removed_gone : (l : Layout) (kept : DataRow) (old : Record) → gone_of (map spelled (removed_changes l kept old)) ≤ 1
+unfolding removed_changes values_removed
+removed_gone l kept old =
+    let none = flat_gone (removed_slot l kept old) (λ s. slot_gone l.org l.object old.id (removed_entry l kept old s) None s) (range_with_len 0 48) in
+    omega (arith, none)

@@ -1,9 +1,12 @@
 pub mod Cases
+pub mod Cleared
 pub mod Converting
 pub mod CopiedEntries
 pub mod CopiedText
 pub mod Few
 pub mod NewRecord
+pub mod RemovedRecord
+pub mod RemovedValues
 pub mod SlotEntries
 pub mod Turned
 pub mod TurnedRecord

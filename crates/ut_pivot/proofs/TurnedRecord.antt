@@ -73,11 +73,11 @@ no_field org n p t o s e = by (slot_field p n o.fields s) (sym (number_same p n 
     by None h = refl
     by (Some f) h = absurd cc
 
-beside_is : (p : OrgPlan) (t : Tenant) (n : ℕ) (o : Object) (r : Record) (s : ℕ) → slot_field p n o.fields s ≡ None → slot_entry p t.job n o r s ≡ other_entry p t.job n o r s
+pub beside_is : (p : OrgPlan) (t : Tenant) (n : ℕ) (o : Object) (r : Record) (s : ℕ) → slot_field p n o.fields s ≡ None → slot_entry p t.job n o r s ≡ other_entry p t.job n o r s
 unfolding slot_entry
 beside_is p t n o r s none = ap (λ (x : Option (ℕ × Field)). in_case x (other_entry p t.job n o r s) (λ f. Some (field_entry r f))) none
 
-text_there : (entries : ℕ → Option Entry) (s : ℕ) → s < slot_count → slice_index_or (slots_of entries) s None ≡ entry_text (entries s)
+pub text_there : (entries : ℕ → Option Entry) (s : ℕ) → s < slot_count → slice_index_or (slots_of entries) s None ≡ entry_text (entries s)
 unfolding slots_of
 text_there entries s lt = get_or-map-range_with_len (λ i. entry_text (entries i)) 0 slot_count s s None lt (omega arith)
 

@@ -1,10 +1,9 @@
 -- The rows of a record whose values change, one slot after the other.
-use Rattle.std.proofs.Common.{◌≡◌, ◌≢◌, ℕ, zero, suc, ◌+◌, Bool, true, false, cond, eqb, List, [], ◌∷◌, ◌++◌, Option, Some, None, Bor, refl, sym, ap, ap₂, subst, ◌∙◌, arith, map}
+use Rattle.std.proofs.Common.{◌≡◌, ◌≢◌, ℕ, zero, suc, ◌+◌, Bool, true, false, cond, eqb, List, [], ◌∷◌, ◌++◌, Option, Some, None, Bor, refl, sym, ap, ap₂, subst, ◌∙◌, map}
 use Rattle.std.specs.Prelude.{slice_get}
-use Rattle.std.specs.List.{AllByRecursion, enumerate_from, find, flat_map, range_with_len}
+use Rattle.std.specs.List.{AllByRecursion, enumerate_from, find}
 use Rattle.std.specs.Option.{option_and_then, option_copied, option_map}
 use Rattle.std.proofs.lemmas.Bool.{eq-eqb, eqb-true}
-use Rattle.std.proofs.lemmas.Grind.{flat_map-append}
 use Rattle.ut_data.specs.Decoding.{has_types, kinds_in}
 use Rattle.ut_data.specs.Encoding.{field_of_slot}
 use Rattle.ut_data.proofs.RowFits.{typed_at, valid_at}
@@ -23,7 +22,7 @@ use Rattle.ut_pivot.specs.Made.{entry_of, layout_entry}
 use Rattle.ut_pivot.specs.Turned.{converts, converts_to, copied_entry, copied_of, copied_there, copied_value, turned_changes, turned_entry, turned_row, values_turned}
 use Rattle.ut_pivot.proofs.Cases.{and_right, some_is}
 use Rattle.ut_pivot.proofs.Turned.{all_both, append_nothing, then_these}
-use Rattle.ut_pivot.proofs.Values.{AllFit, entry_is, range_more}
+use Rattle.ut_pivot.proofs.Values.{AllFit, entry_is, slots_more}
 use Rattle.ut_stands.specs.Changes.{Change}
 use Rattle.ut_stands.specs.Entries.{Entry}
 use Rattle.ut_stands.specs.declared.layout.FieldPlace.{FieldPlace}
@@ -31,6 +30,7 @@ use Rattle.ut_stands.specs.declared.layout.JobPlace.{JobPlace}
 use Rattle.ut_stands.specs.declared.layout.Layout.{Layout}
 use Rattle.ut_value.specs.Types.{is_type}
 use Rattle.ut_value.specs.Values.{valid}
+use Rattle.ut_value.specs.declared.value.FieldType.{FieldType}
 use Rattle.ut_value.specs.declared.value.FieldType.TheVariants as type
 use Rattle.ut_value.specs.declared.value.Value.{Value}
 use Rattle.ut_value.specs.declared.value.Value.TheVariants as value
@@ -51,27 +51,24 @@ value_missing (x ∷ vs) zero e = absurd cc
 value_missing (x ∷ vs) (suc i) e = value_missing vs i e
 
 -- what an entry is found by
-record SameKeys (e f : Option Entry) : Type 0 where
-  index : index_key e ≡ index_key f
-  unique : unique_key e ≡ unique_key f
-  reference : reference_key e ≡ reference_key f
+pub record SameKeys (e f : Option Entry) : Type 0 where
+  pub index : index_key e ≡ index_key f
+  pub unique : unique_key e ≡ unique_key f
+  pub reference : reference_key e ≡ reference_key f
 
-null_keys : (f : FieldPlace) → SameKeys None (Some (entry_of f value.Null))
-null_keys f = by f.indexed f.unique
-  where
-    by : (i u : Bool) → SameKeys None (Some (record { kind = f.kind; value = value.Null; indexed = i; unique = u }))
-    by true true = record { index = refl; unique = refl; reference = refl }
-    by true _ = record { index = refl; unique = refl; reference = refl }
-    by _ true = record { index = refl; unique = refl; reference = refl }
-    by _ _ = record { index = refl; unique = refl; reference = refl }
+pub null_keys : (kind : FieldType) (indexed unique : Bool) → SameKeys None (Some (record { kind = kind; value = value.Null; indexed = indexed; unique = unique }))
+null_keys kind true true = record { index = refl; unique = refl; reference = refl }
+null_keys kind true false = record { index = refl; unique = refl; reference = refl }
+null_keys kind false true = record { index = refl; unique = refl; reference = refl }
+null_keys kind false false = record { index = refl; unique = refl; reference = refl }
 
 -- ---- the entry of a field by what `get` gives of the values
 
-abbrev given : FieldPlace → Option (Bor Value) → Option Entry
+abbrev pub given : FieldPlace → Option (Bor Value) → Option Entry
 given f x = option_map {T = Bor Value} {U = Entry} (λ v. entry_of f v.now) x
 
-given_keys : (f : FieldPlace) (vs : List Value) (i : ℕ) (x : Option (Bor Value)) → option_copied x ≡ slice_get vs i → SameKeys (given f x) (Some (entry_of f (value_at vs i)))
-given_keys f vs i None e = subst (λ (v : Value). SameKeys None (Some (entry_of f v))) (sym (value_missing vs i (sym e))) (null_keys f)
+pub given_keys : (f : FieldPlace) (vs : List Value) (i : ℕ) (x : Option (Bor Value)) → option_copied x ≡ slice_get vs i → SameKeys (given f x) (Some (entry_of f (value_at vs i)))
+given_keys f vs i None e = subst (λ (v : Value). SameKeys None (Some (entry_of f v))) (sym (value_missing vs i (sym e))) (null_keys f.kind f.indexed f.unique)
 given_keys f vs i (Some v) e =
     let same = value_there vs i v.now (sym e) in
     record {
@@ -81,7 +78,7 @@ given_keys f vs i (Some v) e =
     }
 
 -- rows are turned by what entries are found by
-keys_turn : (org n : ℕ) (id : List ℕ) (e f g h : Option Entry) (s : ℕ) → SameKeys e f → SameKeys g h → slot_changes org n id e g s ≡ slot_changes org n id f h s
+pub keys_turn : (org n : ℕ) (id : List ℕ) (e f g h : Option Entry) (s : ℕ) → SameKeys e f → SameKeys g h → slot_changes org n id e g s ≡ slot_changes org n id f h s
 keys_turn org n id e f g h s a b =
     ap₂ (λ (x y : List Change). x ++ y)
     (ap₂ (row_turned (λ k. Index org n s k id) []) a.index b.index)
@@ -101,7 +98,7 @@ field_turns l old new s number f x y place at before after =
     (entry_is l new s number f (value_at new.values (number + 1)) place at refl))
 
 -- a copied value is of the change's type, by which no row is found
-copied_keys : (j : JobPlace) (f : FieldPlace) (x : Option (Bor Value)) (v : Option Value) → option_copied x ≡ v
+pub copied_keys : (j : JobPlace) (f : FieldPlace) (x : Option (Bor Value)) (v : Option Value) → option_copied x ≡ v
     → SameKeys (given f x) (option_map {U = Entry} (λ (v : Value). record { kind = j.kind; value = v; indexed = f.indexed; unique = f.unique }) v)
 copied_keys j f None v e = subst (λ (v : Option Value). SameKeys None (option_map {U = Entry} (λ (v : Value). record { kind = j.kind; value = v; indexed = f.indexed; unique = f.unique }) v)) e (record { index = refl; unique = refl; reference = refl })
 copied_keys j f (Some w) v e =
@@ -184,14 +181,7 @@ of_slot l old new s = slot_changes l.org l.object new.id (turned_entry l old s) 
 
 pub turned_more : (l : Layout) (old new : Record) (slots : ℕ) → values_turned l old new (slots + 1) ≡ values_turned l old new slots ++ slot_changes l.org l.object new.id (turned_entry l old slots) (turned_entry l new slots) slots
 unfolding values_turned
-turned_more l old new slots =
-    ap (flat_map (of_slot l old new)) (range_more 0 slots slots (omega arith))
-    ∙ flat_map-append (of_slot l old new) (range_with_len 0 slots) (slots ∷ [])
-    ∙ ap (λ (cs : List Change). flat_map (of_slot l old new) (range_with_len 0 slots) ++ cs) (append_none (of_slot l old new slots))
-  where
-    append_none : (xs : List Change) → xs ++ [] ≡ xs
-    append_none [] = refl
-    append_none (x ∷ xs) = ap (λ (cs : List Change). x ∷ cs) (append_none xs)
+turned_more l old new slots = slots_more (of_slot l old new) slots
 
 pub turned_go_on : (l : Layout) (old new : Record) (slot : ℕ) (start before after : List Spelled) → before ≡ start ++ map spelled (values_turned l old new slot)
     → after ≡ before ++ map spelled (slot_changes l.org l.object new.id (turned_entry l old slot) (turned_entry l new slot) slot) → after ≡ start ++ map spelled (values_turned l old new (slot + 1))

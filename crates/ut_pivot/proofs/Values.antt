@@ -87,16 +87,20 @@ range_more a (suc n) j e =
     let many : suc n + 1 ≡ suc (n + 1) = omega arith in
     ap (range_with_len a) many ∙ ap (λ (is : List ℕ). a ∷ is) (range_more (a + 1) n j (omega (arith, e)))
 
-pub values_more : (l : Layout) (r : Record) (slots : ℕ) → values_made l r (slots + 1) ≡ values_made l r slots ++ slot_changes l.org l.object r.id None (layout_entry l r slots) slots
-unfolding values_made
-values_more l r slots =
-    ap (flat_map (of_slot l r)) (range_more 0 slots slots (omega arith))
-    ∙ flat_map-append (of_slot l r) (range_with_len 0 slots) (slots ∷ [])
-    ∙ ap (λ (cs : List Change). flat_map (of_slot l r) (range_with_len 0 slots) ++ cs) (append_none (of_slot l r slots))
+-- one slot more
+pub slots_more : (f : ℕ → List Change) (slots : ℕ) → flat_map f (range_with_len 0 (slots + 1)) ≡ flat_map f (range_with_len 0 slots) ++ f slots
+slots_more f slots =
+    ap (flat_map f) (range_more 0 slots slots (omega arith))
+    ∙ flat_map-append f (range_with_len 0 slots) (slots ∷ [])
+    ∙ ap (λ (cs : List Change). flat_map f (range_with_len 0 slots) ++ cs) (append_none (f slots))
   where
     append_none : (xs : List Change) → xs ++ [] ≡ xs
     append_none [] = refl
     append_none (x ∷ xs) = ap (λ (cs : List Change). x ∷ cs) (append_none xs)
+
+pub values_more : (l : Layout) (r : Record) (slots : ℕ) → values_made l r (slots + 1) ≡ values_made l r slots ++ slot_changes l.org l.object r.id None (layout_entry l r slots) slots
+unfolding values_made
+values_more l r slots = slots_more (of_slot l r) slots
 
 pub values_go_on : (l : Layout) (r : Record) (slot : ℕ) (start before after : List Spelled) → before ≡ start ++ map spelled (values_made l r slot)
     → after ≡ before ++ map spelled (slot_changes l.org l.object r.id None (layout_entry l r slot) slot) → after ≡ start ++ map spelled (values_made l r (slot + 1))

@@ -1,6 +1,7 @@
-ghost use Rattle.std.specs.Prelude.{◌≡◌, ◌≤◌, ℕ, IsTrue, List, None, Option, Some, length, map};
+ghost use Rattle.std.specs.Prelude.{◌≡◌, ◌⊎◌, ◌≤◌, ℕ, IsTrue, List, None, Option, Some, length, map};
 ghost use Rattle.std.specs.List.{list_all};
 ghost use Rattle.ut_edits.specs.Rows.{gone_of, spelled};
+ghost use Rattle.ut_formula.specs.Meaning.{value_at};
 ghost use Rattle.ut_keys.specs.declared.data.DataRow.{DataRow};
 ghost use Rattle.ut_model.specs.declared.record.Record.{Record};
 ghost use Rattle.ut_model.specs.Objects.{is_of, object_numbered, record_at};
@@ -8,15 +9,18 @@ ghost use Rattle.ut_model.specs.Sound.{IsSound};
 ghost use Rattle.ut_model.specs.Tenant.{Job, Object, Tenant};
 ghost use Rattle.ut_pivot.specs.Changed.{record_changes, slot_changes};
 ghost use Rattle.ut_pivot.specs.Made.{made_changes};
+ghost use Rattle.ut_pivot.specs.Removed.{removed_changes};
 ghost use Rattle.ut_pivot.specs.Turned.{converts, turned_changes};
 ghost use Rattle.ut_stands.specs.Entries.{Entry, data_of, job_value, slot_entry};
 ghost use Rattle.ut_stands.specs.Layouts.{layout_of};
-ghost use Rattle.ut_stands.specs.Plan.{OrgPlan};
+ghost use Rattle.ut_stands.specs.Plan.{FitsPlan, OrgPlan};
 ghost use Rattle.ut_stands.specs.Stands.{kept_at};
 ghost use Rattle.ut_stands.specs.declared.layout.Layout.{Layout};
 ghost use Rattle.ut_value.specs.Printing.{is_printable};
+ghost use Rattle.ut_value.specs.declared.value.Value.TheVariants as value;
 
 use ut_data::data_laws;
+use ut_value::value_laws;
 
 /// The laws of the rows of a record and of its values. The call does nothing.
 pub fn pivot_laws()
@@ -41,6 +45,21 @@ pub fn pivot_laws()
     ensures turned_few { (l : Layout) (kept : DataRow) (old new : Record) → length (turned_changes l kept old new) ≤ 289 }
     ensures turned_gone { (l : Layout) (kept : DataRow) (old new : Record) → gone_of (map spelled (turned_changes l kept old new)) ≡ 0 }
 
+    // Where values of a record become null and no other changes, the changes are at most so many.
+    ensures cleared_few { (l : Layout) (kept : DataRow) (old new : Record) → new.id ≡ old.id
+        → ((k : ℕ) → (value_at new.values k ≡ value.Null) ⊎ (value_at new.values k ≡ value_at old.values k))
+        → length (turned_changes l kept old new) ≤ 245 }
+
+    // The changes that remove a record's rows are those of all rows that differ where one tenant has it and another has it no more.
+    ensures removed { (org n : ℕ) (p : OrgPlan) (t u : Tenant) (o : Object) (old : Record) → IsSound t → FitsPlan p t
+        → IsTrue (is_of n old) → record_at t old.id ≡ Some old → record_at u old.id ≡ None → object_numbered t n ≡ Some o
+        → removed_changes (layout_of org p t (record { number = n; object = o })) (data_of org n old (slot_entry p t.job n o old)) old
+        ≡ record_changes org n old.id (kept_at p t n old.id) (kept_at p u n old.id) }
+
+    // They are at most 145, and remove one record's row.
+    ensures removed_few { (l : Layout) (kept : DataRow) (old : Record) → length (removed_changes l kept old) ≤ 145 }
+    ensures removed_gone { (l : Layout) (kept : DataRow) (old : Record) → gone_of (map spelled (removed_changes l kept old)) ≤ 1 }
+
     // The layout of a sound object converts what is copied.
     ensures converting { (org n : ℕ) (p : OrgPlan) (t : Tenant) (o : Object) → IsSound t → object_numbered t n ≡ Some o
         → IsTrue (converts (layout_of org p t (record { number = n; object = o }))) }
@@ -56,4 +75,5 @@ pub fn pivot_laws()
         → gone_of (map spelled (slot_changes org object id old new slot)) ≡ 0 }
 {
     data_laws();
+    value_laws();
 }

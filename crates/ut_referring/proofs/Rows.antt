@@ -41,7 +41,8 @@ abbrev pub row_for : (number : ℕ) → (target : List ℕ) → Record → Optio
 row_for number target r = cond (refers_by number target r) (Some []) None
 
 module _ (q : OrgPlan) (t : Tenant) (l : Layout) (one : IsOf q t l) (plan : FitsPlan q t) (number : ℕ) (f : FieldPlace) (at : slice_get l.fields number ≡ Some f) (target : List ℕ) where
-  its : (g : Field) × (slice_get one.object.fields number ≡ Some g) × (place_of q l.object (number, g) ≡ f)
+  -- the field with this place
+  pub its : (g : Field) × (slice_get one.object.fields number ≡ Some g) × (place_of q l.object (number, g) ≡ f)
   its = field_at q l.object 0 one.object.fields number number f (omega arith) (subst (λ (k : Layout). slice_get k.fields number ≡ Some f) (sym one.made) at)
 
   -- in the slot is the value of this field, and no other

@@ -27,8 +27,8 @@ use ut_value::{Id, Items, id_laws};
 // How many records are asked for at once.
 const PAGE: usize = 200;
 
-// What the keys of the rows of references to a record begin with, in a slot of an object.
-fn front_of(org: u32, object: u16, slot: u8, target: &Id) -> (u32, (u16, (u8, Id)))
+/// What the keys of the rows of references to a record begin with, in a slot of an object.
+pub(crate) fn front_of(org: u32, object: u16, slot: u8, target: &Id) -> (u32, (u16, (u8, Id)))
     ensures is { result ≡ (org, (object, (slot, target.now))) }
     ensures fits { FitsFront (org, (object, (slot, target.now))) }
 {
@@ -37,8 +37,8 @@ fn front_of(org: u32, object: u16, slot: u8, target: &Id) -> (u32, (u16, (u8, Id
     (org, (object, (slot, *target)))
 }
 
-// The key of the row of one of them.
-fn key_of(front: &(u32, (u16, (u8, Id))), id: &Id) -> (u32, (u16, (u8, (Id, Id))))
+/// The key of the row of one of them.
+pub(crate) fn key_of(front: &(u32, (u16, (u8, Id))), id: &Id) -> (u32, (u16, (u8, (Id, Id))))
     requires { FitsFront front.now }
     ensures is { result ≡ parts_at front.now id.now }
     ensures fits { FitsIn (slot_key (Both Identity Identity)) (parts_at front.now id.now) }

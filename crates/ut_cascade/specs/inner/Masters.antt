@@ -1,17 +1,20 @@
 -- The objects that have a Master field, and the records that refer by it. No public contract reaches these words.
-use Rattle.std.specs.Prelude.{◌≡◌, ℕ, Bool, List, [], Option, Some, Result, Ok, Err}
+use Rattle.std.specs.Prelude.{◌≡◌, ◌==◌, ℕ, List, [], filter, Option, Some, Result, Ok, Err, slice_get}
 use Rattle.std.specs.Cmp.Lexicographic.{slice_cmp}
-use Rattle.std.specs.List.{AllByRecursion, enumerate_from, find, flat_map, list_any}
+use Rattle.std.specs.List.{AllByRecursion, enumerate_from, find, flat_map}
 use Rattle.std.specs.List.Sorted.{IsStrictlySortedBy}
-use Rattle.std.specs.Option.{option_map}
-use Rattle.std.specs.Ordering.{is_eq, nat_cmp}
+use Rattle.std.specs.Option.{option_and_then, option_map}
+use Rattle.std.specs.Ordering.{nat_cmp}
 use Rattle.ut_keeper.specs.Tables.{Tables}
 use Rattle.ut_keys.specs.declared.fail.StoreFail.{StoreFail}
 use Rattle.ut_keys.specs.declared.fail.StoreFail.TheVariants.{Damaged, Keeper, Memory}
 use Rattle.ut_model.specs.Cases.{in_case}
 use Rattle.ut_model.specs.Fields.{is_master}
+use Rattle.ut_model.specs.Objects.{object_number}
+use Rattle.ut_model.specs.Relationships.{target_of}
 use Rattle.ut_model.specs.Tenant.{Tenant}
 use Rattle.ut_referring.specs.Referring.{all_referring}
+pub use Rattle.ut_referring.specs.Referring.{is_among}
 use Rattle.ut_stands.specs.declared.layout.FieldPlace.{FieldPlace}
 use Rattle.ut_stands.specs.declared.layout.Layout.{Layout}
 use Rattle.ut_stands.specs.Layouts.{IsLayout}
@@ -22,9 +25,21 @@ use Rattle.ut_stands.specs.Plan.{OrgPlan}
 abbrev pub master_from : ℕ → List FieldPlace → Option ℕ
 master_from k fields = option_map (λ f. f.0) (find (λ (f : ℕ × FieldPlace). is_master f.1.kind) (enumerate_from k fields))
 
+-- the object to which the field with this number refers
+abbrev pub target_at : List FieldPlace → (number : ℕ) → Option ℕ
+target_at fields k = option_and_then (λ (f : FieldPlace). target_of f.kind) (slice_get fields k)
+
+-- the ids of an object's records among these
+abbrev pub ids_of : (object : ℕ) → List (List ℕ) → List (List ℕ)
+ids_of n ids = filter (λ id. object_number id == n) ids
+
+-- those that the field with this number can name
+abbrev pub nameable : List FieldPlace → (number : ℕ) → (ids : List (List ℕ)) → List (List ℕ)
+nameable fields k ids = in_case (target_at fields k) [] (λ object. ids_of object ids)
+
 -- the ids of an object's records whose masters are among those with these ids, one master after another
 abbrev pub details_in : Layout → (ids : List (List ℕ)) → Tenant → List (List ℕ)
-details_in l ids t = in_case (master_from 0 l.fields) [] (λ k. flat_map (λ id. all_referring l.object k id t) ids)
+details_in l ids t = in_case (master_from 0 l.fields) [] (λ k. flat_map (λ id. all_referring l.object k id t) (nameable l.fields k ids))
 
 -- these are layouts of one organisation
 abbrev pub AreLayouts : (org : ℕ) → OrgPlan → Tenant → List Layout → Type 0
@@ -36,10 +51,6 @@ FindsBy org layouts value m (Ok x) = (q : OrgPlan) (t : Tenant) → StandsIn org
 FindsBy org layouts value m (Err Damaged) = (q : OrgPlan) (t : Tenant) → StandsIn org q m (Some t) → AreLayouts org q t layouts → ⊥
 FindsBy org layouts value m (Err Keeper) = Unit {0}
 FindsBy org layouts value m (Err Memory) = Unit {0}
-
--- an id is among these
-abbrev pub is_among : List (List ℕ) → List ℕ → Bool
-is_among ids id = list_any (λ i. is_eq (slice_cmp nat_cmp id i)) ids
 
 -- each of these once, in their order
 abbrev pub IsInOrder : (these : List (List ℕ)) → List (List ℕ) → Type 0

@@ -1,6 +1,8 @@
+use Rattle.ut_pivot.proofs.Cleared.{cleared_few}
 use Rattle.ut_pivot.proofs.Converting.{converting}
-use Rattle.ut_pivot.proofs.Few.{changed_few, changed_gone, made_few, made_gone, slot_few, slot_gone}
+use Rattle.ut_pivot.proofs.Few.{changed_few, changed_gone, made_few, made_gone, removed_few, removed_gone, slot_few, slot_gone}
 use Rattle.ut_pivot.proofs.NewRecord.{made_is}
+use Rattle.ut_pivot.proofs.RemovedRecord.{removed_is}
 use Rattle.ut_pivot.proofs.TurnedRecord.{turned_is}
 use Rattle.ut_pivot.proofs.laws.pivot_laws.Goals as goal
 
@@ -10,6 +12,10 @@ returns c = record {
   turned = turned_is c.data_laws.ensures.rewritten;
   turned_few = changed_few;
   turned_gone = changed_gone;
+  cleared_few = cleared_few;
+  removed = removed_is c.value_laws.ensures.printed;
+  removed_few = removed_few;
+  removed_gone = removed_gone;
   converting = converting;
   few = made_few;
   gone = made_gone;

@@ -1,0 +1,95 @@
+//! What the deletion of a record comes to.
+
+ghost use Rattle.std.specs.Prelude.{◌≡◌, ◌≤◌, ◌+◌, ℕ, IfOk, Some, length};
+ghost use Rattle.ut_cascade.specs.Deletion.{DeletesWith};
+ghost use Rattle.ut_cascade.specs.inner.Holding.{JudgesBy};
+ghost use Rattle.ut_keeper.specs.Draft.{DraftTells, tables_of};
+ghost use Rattle.ut_model.specs.declared.record.Record.{Record};
+ghost use Rattle.ut_model.specs.Objects.{record_at};
+ghost use Rattle.ut_model.specs.Tenant.{Tenant};
+ghost use Rattle.ut_stands.specs.Calls.{Calls, ended_edit};
+ghost use Rattle.ut_stands.specs.Layouts.{own_layouts};
+ghost use Rattle.ut_stands.specs.Local.{StandsIn};
+ghost use Rattle.ut_stands.specs.Plan.{OrgPlan};
+
+use crate::clearing::losing_lookups;
+use crate::levels::cascade;
+use crate::restricting::restricted_by;
+use crate::taking::{in_order, listed, set_of};
+use std::alloc::Global;
+use std::collections::BTreeSet;
+use ut_keeper::{Draft, Keeper, draft_laws};
+use ut_model::Refusal;
+use ut_stands::{EditFail, Layout, call_laws};
+use ut_value::{Id, Items};
+
+/// What goes with a record, and what loses a lookup.
+#[derive(Drop)]
+pub struct Deletion {
+    /// The ids of the records that go, each once and in their order.
+    pub gone: Items<Id>,
+    /// The ids of the records that lose a lookup, in their order.
+    pub cleared: Items<Id>,
+}
+
+// So many records may go and be cleared together.
+const MOST: usize = 1000;
+
+// The ids of the records that lose a lookup where these go, in their order; so many records have these ids.
+fn judge<K: Keeper>(
+    alloc: Global,
+    draft: &mut Draft<'_, K>,
+    org: u32,
+    layouts: &[Layout],
+    count: usize,
+    gone: &BTreeSet<Id>,
+) -> Result<Items<Id>, EditFail>
+    ensures judges { DraftTells K.state draft.old draft.new
+        → JudgesBy org layouts.now count gone.now.keys (tables_of K.state draft.old) result }
+    ensures few { IfOk result (λ cleared. count + length cleared ≤ 1000) }
+    ensures calls { Calls K.state 0 (ended_edit result) draft.old draft.new }
+{
+    draft_laws::<K>();
+    call_laws::<K>();
+    if let Some(refusal) = restricted_by(alloc, draft, org, layouts, gone)? {
+        return Err(EditFail::Refused(refusal));
+    }
+    if count > MOST {
+        return Err(EditFail::Refused(Refusal::CascadeTooLarge));
+    }
+    let found = losing_lookups(alloc, draft, org, layouts, gone)?;
+    let cleared = in_order(alloc, found.as_slice())?;
+    if cleared.len() > MOST - count {
+        return Err(EditFail::Refused(Refusal::CascadeTooLarge));
+    }
+    Ok(cleared)
+}
+
+/// What the deletion of a record comes to, by the layouts of all objects. It only reads.
+///
+/// # Errors
+///
+/// `Refused` with `DeleteFailed` if a record that stays holds one that goes, and with `CascadeTooLarge` if too many would go or be
+/// cleared. `Store` with `Keeper` if the keeper failed, `Memory` if out of memory, `Damaged` never if the organisation's rows stand
+/// for a tenant whose layouts these are.
+pub fn deletion_of<K: Keeper>(
+    alloc: Global,
+    draft: &mut Draft<'_, K>,
+    org: u32,
+    layouts: &[Layout],
+    id: &Id,
+) -> Result<Deletion, EditFail>
+    ensures deletes { DraftTells K.state draft.old draft.new
+        → (q : OrgPlan) (t : Tenant) (r : Record) → StandsIn org q (tables_of K.state draft.old) (Some t)
+        → own_layouts org q (Some t) ≡ layouts.now → record_at t r.id ≡ Some r → r.id ≡ id.now → DeletesWith t r result }
+    ensures few { IfOk result (λ d. length d.gone + length d.cleared ≤ 1000) }
+    ensures calls { Calls K.state 0 (ended_edit result) draft.old draft.new }
+{
+    draft_laws::<K>();
+    call_laws::<K>();
+    let all = cascade(alloc, draft, org, layouts, id)?;
+    let gone = set_of(alloc, all.as_slice())?;
+    let cleared = judge(alloc, draft, org, layouts, all.len(), &gone)?;
+    let gone = Items::from_vec(listed(alloc, gone)?);
+    Ok(Deletion { gone, cleared })
+}

@@ -1,6 +1,6 @@
 -- The requests that bodies ask for, and the edits of these.
-use Rattle.std.proofs.Common.{◌≡◌, ◌≤◌, ℕ, Bool, true, false, cond, IsTrue, List, refl, sym, ap, subst, ◌∙◌, arith, ◌<◌, Option, Some, None, Result, Ok, Err}
-use Rattle.std.specs.Prelude.{IfErr, IfOk, IsErr, IsErrAnd, OnOk, not, codes}
+use Rattle.std.proofs.Common.{◌≡◌, ◌≤◌, ℕ, Bool, true, false, cond, List, refl, sym, ap, subst, ◌∙◌, arith, ◌<◌, Option, Some, None, Result, Ok, Err}
+use Rattle.std.specs.Prelude.{IfErr, IfOk, IsErr, IsErrAnd, OnOk, codes}
 use Rattle.std.specs.Option.{option_map}
 use Rattle.std.specs.declared.alloc.AllocError.{AllocError}
 use Rattle.ut_bodies.specs.Bodies.{request_in, values_request}
@@ -17,13 +17,13 @@ use Rattle.ut_model.specs.declared.record_bodies.Assignment.{Assignment}
 use Rattle.ut_model.specs.declared.refusal.Refusal.{Refusal}
 use Rattle.ut_model.specs.declared.refusal.Refusal.TheVariants.{NotBuilt}
 use Rattle.ut_model.specs.declared.route.Route.{Route}
-use Rattle.ut_model.specs.declared.route.Route.TheVariants.{AddField, AddObject, AddValidationRule, Create, SetObject, Update}
-use Rattle.ut_step.specs.Built.{built_request, is_built, needs_index, when_built}
+use Rattle.ut_model.specs.declared.route.Route.TheVariants.{AddField, AddObject, AddValidationRule, Create, Delete, SetObject, Update}
+use Rattle.ut_step.specs.Built.{built_request, is_built}
 use Rattle.ut_step.specs.Own.{edit_shown, request_changes, request_gone}
 use Rattle.ut_model.specs.Forms.{access_request, field_request, object_request, validation_request}
 use Rattle.ut_model.specs.Paths.{Asked}
 use Rattle.ut_model.specs.RequestOf.{request_of, request_or, verdict_or}
-use Rattle.ut_model.specs.Requests.{Request, adds_field, adds_object, adds_validation_rule, creates, sets_object, updates, verdict_on}
+use Rattle.ut_model.specs.Requests.{Request, adds_field, adds_object, adds_validation_rule, creates, deletes, sets_object, updates, verdict_on}
 use Rattle.ut_model.specs.Sound.{IsSound}
 use Rattle.ut_model.specs.Tenant.{Tenant}
 use Rattle.ut_model.specs.Verdict.{Done, Verdict}
@@ -50,24 +50,20 @@ asks_form make (Ok (Some x)) request e = ap request_or (sym e)
 asks_form make (Ok None) request e = ap request_or (sym e)
 asks_form make (Err x) request e = refl
 
--- of a request that needs no index nothing is unbuilt
-asks_built : {X : Type 0} (make : X → Request) (request : Result Request Refusal) (result : Result X EditFail) → ((x : X) → needs_index (make x) ≡ false) → Asks make request result
-    → Asks make (when_built request) result
-asks_built make request (Ok x) plain e = ap when_built e ∙ ap (λ b. cond b (Err (NotBuilt (codes "flag"))) (Ok (make x))) (plain x)
-asks_built make request (Err (Refused r)) plain e = ap when_built e
-asks_built make request (Err (Store f)) plain e = e
-
 pub asks_object : (body : List ℕ) (read : Result (Option NewObject) AllocError) → IfOk read (λ x. option_map adds_object x ≡ request_in object_request body)
     → Asks adds_object (built_request AddObject body) (form_of read)
 unfolding request_of
-asks_object body read e =
-    asks_built adds_object (request_or (request_in object_request body)) (form_of read) (λ x. refl) (asks_form adds_object read (request_in object_request body) e)
+asks_object body read e = asks_form adds_object read (request_in object_request body) e
 
 pub asks_rule : (body : List ℕ) (read : Result (Option NewValidationRule) AllocError) → IfOk read (λ x. option_map adds_validation_rule x ≡ request_in validation_request body)
     → Asks adds_validation_rule (built_request AddValidationRule body) (form_of read)
 unfolding request_of
-asks_rule body read e =
-    asks_built adds_validation_rule (request_or (request_in validation_request body)) (form_of read) (λ x. refl) (asks_form adds_validation_rule read (request_in validation_request body) e)
+asks_rule body read e = asks_form adds_validation_rule read (request_in validation_request body) e
+
+pub asks_field : (body : List ℕ) (read : Result (Option NewField) AllocError) → IfOk read (λ x. option_map adds_field x ≡ request_in field_request body)
+    → Asks adds_field (built_request AddField body) (form_of read)
+unfolding request_of
+asks_field body read e = asks_form adds_field read (request_in field_request body) e
 
 of_object : (read : Result (Option Access) AllocError) (body : List ℕ) → IfOk read (λ x. (object : List ℕ) → option_map (sets_object object) x ≡ request_in (access_request object) body)
     → (object : List ℕ) → IfOk read (λ x. option_map (sets_object object) x ≡ request_in (access_request object) body)
@@ -78,9 +74,7 @@ pub asks_access : (object body : List ℕ) (read : Result (Option Access) AllocE
     → IfOk read (λ x. (object : List ℕ) → option_map (sets_object object) x ≡ request_in (access_request object) body)
     → Asks (sets_object object) (built_request (SetObject object) body) (form_of read)
 unfolding request_of
-asks_access object body read e =
-    asks_built (sets_object object) (request_or (request_in (access_request object) body)) (form_of read) (λ x. refl)
-    (asks_form (sets_object object) read (request_in (access_request object) body) (of_object read body e object))
+asks_access object body read e = asks_form (sets_object object) read (request_in (access_request object) body) (of_object read body e object)
 
 -- the values of a record, with which any request may be made
 of_values : (read : Result (Option (List Assignment)) AllocError) (body : List ℕ) (make : List Assignment → Request)
@@ -89,64 +83,36 @@ of_values : (read : Result (Option (List Assignment)) AllocError) (body : List �
 of_values (Ok x) body make e = e make
 of_values (Err x) body make e = e
 
-asks_values : (make : List Assignment → Request) → ((x : List Assignment) → needs_index (make x) ≡ false) → (body : List ℕ) (read : Result (Option (List Assignment)) AllocError)
+asks_values : (make : List Assignment → Request) (body : List ℕ) (read : Result (Option (List Assignment)) AllocError)
     → IfOk read (λ values. (make : List Assignment → Request) → option_map make values ≡ request_in (values_request make) body)
-    → Asks make (when_built (request_or (request_in (values_request make) body))) (form_of read)
-asks_values make plain body read e =
-    asks_built make (request_or (request_in (values_request make) body)) (form_of read) plain
-    (asks_form make read (request_in (values_request make) body) (of_values read body make e))
+    → Asks make (request_or (request_in (values_request make) body)) (form_of read)
+asks_values make body read e = asks_form make read (request_in (values_request make) body) (of_values read body make e)
 
 pub asks_new : (object body : List ℕ) (read : Result (Option (List Assignment)) AllocError)
     → IfOk read (λ values. (make : List Assignment → Request) → option_map make values ≡ request_in (values_request make) body)
     → Asks (creates object) (built_request (Create object) body) (form_of read)
 unfolding request_of
-asks_new object body read e = asks_values (creates object) (λ x. refl) body read e
+asks_new object body read e = asks_values (creates object) body read e
 
 pub asks_other : (object key body : List ℕ) (read : Result (Option (List Assignment)) AllocError)
     → IfOk read (λ values. (make : List Assignment → Request) → option_map make values ≡ request_in (values_request make) body)
     → Asks (updates object key) (built_request (Update object key) body) (form_of read)
 unfolding request_of
-asks_other object key body read e = asks_values (updates object key) (λ x. refl) body read e
+asks_other object key body read e = asks_values (updates object key) body read e
 
--- the field's flags are looked at once the body was of its form
-pub asks_field : (body : List ℕ) (read : Result (Option NewField) AllocError) → IfOk read (λ x. option_map adds_field x ≡ request_in field_request body)
-    → Asks adds_field (request_of AddField body) (form_of read)
+-- a deletion has no body
+pub asks_no_more : (object key body : List ℕ) → built_request (Delete object key) body ≡ Ok (deletes object key)
 unfolding request_of
-asks_field body read e = asks_form adds_field read (request_in field_request body) e
-
-pub built_field : (body : List ℕ) (new : NewField) → Asks adds_field (request_of AddField body) (Ok new) → needs_index (adds_field new) ≡ false
-    → Asks adds_field (built_request AddField body) (Ok new)
-built_field body new e plain = ap when_built e ∙ ap (λ b. cond b (Err (NotBuilt (codes "flag"))) (Ok (adds_field new))) plain
-
-pub unbuilt_field : (body : List ℕ) (new : NewField) → Asks adds_field (request_of AddField body) (Ok new) → needs_index (adds_field new) ≡ true
-    → built_request AddField body ≡ Err (NotBuilt (codes "flag"))
-unbuilt_field body new e flagged = ap when_built e ∙ ap (λ b. cond b (Err (NotBuilt (codes "flag"))) (Ok (adds_field new))) flagged
-
-pub refused_field : (body : List ℕ) (fail : EditFail) → Asks adds_field (request_of AddField body) (Err fail) → Asks adds_field (built_request AddField body) (Err fail)
-refused_field body (Refused r) e = ap when_built e
-refused_field body (Store f) e = e
+asks_no_more object key body = refl
 
 -- ---- a request that is read is fit
-
-by_flag : (b : Bool) (r : Refusal) (y x : Request) → cond b (Err r) (Ok y) ≡ Ok x → y ≡ x
-by_flag true r y x e = absurd cc
-by_flag false r y x e = cc
-
-read_so : (request : Result Request Refusal) (x : Request) → when_built request ≡ Ok x → request ≡ Ok x
-read_so (Err r) x e = absurd cc
-read_so (Ok y) x e = ap (λ q. Ok q) (by_flag (needs_index y) (NotBuilt (codes "flag")) y x e)
 
 by_built : (b : Bool) (request : Result Request Refusal) (r : Refusal) (x : Request) → cond b request (Err r) ≡ Ok x → request ≡ Ok x
 by_built true request r x e = e
 by_built false request r x e = absurd cc
 
 pub fit : RequestsFit → (a : Asked) (r : Route) (body : List ℕ) (x : Request) → IsSound a.tenant → built_request r body ≡ Ok x → IsFit a x
-fit fits a r body x sound e =
-    fits a r body x sound (read_so (request_of r body) x (by_built (is_built r) (when_built (request_of r body)) (NotBuilt (codes "route")) x e))
-
-pub not_so : (b : Bool) → IsTrue (not b) → b ≡ false
-not_so true h = absurd cc
-not_so false h = refl
+fit fits a r body x sound e = fits a r body x sound (by_built (is_built r) (request_of r body) (NotBuilt (codes "route")) x e)
 
 -- ---- edits
 
@@ -196,6 +162,7 @@ edits_none make org asks r s body fail m result route is e =
 pub record IsOther (r : Route) : Type 0 where
   pub no_record : (object : List ℕ) → r ≡ Create object → ⊥
   pub no_change : (object key : List ℕ) → r ≡ Update object key → ⊥
+  pub no_deletion : (object key : List ℕ) → r ≡ Delete object key → ⊥
   pub no_object : r ≡ AddObject → ⊥
   pub no_access : (object : List ℕ) → r ≡ SetObject object → ⊥
   pub no_field : r ≡ AddField → ⊥
@@ -204,6 +171,7 @@ pub record IsOther (r : Route) : Type 0 where
 not_built : (r : Route) → IsOther r → is_built r ≡ false
 not_built (Create object) other = absurd (other.no_record object refl)
 not_built (Update object key) other = absurd (other.no_change object key refl)
+not_built (Delete object key) other = absurd (other.no_deletion object key refl)
 not_built AddObject other = absurd (other.no_object refl)
 not_built (SetObject object) other = absurd (other.no_access object refl)
 not_built AddField other = absurd (other.no_field refl)
@@ -213,7 +181,7 @@ not_built _ other = refl
 pub edits_unbuilt : (org : ℕ) (asks : Asked → Type 0) (r : Route) (body what : List ℕ) (m : Tables) → IsOther r → what ≡ codes "route"
     → EditsFrom org asks (λ a. verdict_or a (built_request r body)) m m (Err (Refused (NotBuilt what)))
 edits_unbuilt org asks r body what m other is =
-    let unbuilt = ap (λ b. cond b (when_built (request_of r body)) (Err (NotBuilt (codes "route")))) (not_built r other) in
+    let unbuilt = ap (λ b. cond b (request_of r body) (Err (NotBuilt (codes "route")))) (not_built r other) in
     record {
       others = tt;
       edited = λ q a stands asking. subst (λ y. EditsTo org a.tenant (verdict_or a y) m (Err (Refused (NotBuilt what)))) (sym unbuilt) (ap (λ t. Err (NotBuilt t)) (sym is), refl);

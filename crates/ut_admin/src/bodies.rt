@@ -5,14 +5,14 @@ ghost use Rattle.ut_admin.specs.inner.Edits.{Asks, form_of};
 ghost use Rattle.ut_given.specs.Given.{IsInJson};
 ghost use Rattle.ut_model.specs.Requests.{adds_field, adds_object, adds_validation_rule, creates, sets_object, updates};
 ghost use Rattle.ut_model.specs.declared.route.Route.TheVariants.{AddField, AddObject, AddValidationRule, Create, SetObject, Update};
-ghost use Rattle.ut_step.specs.Built.{built_request, needs_index};
+ghost use Rattle.ut_step.specs.Built.{built_request};
 
 use std::alloc::{AllocError, Global};
 use ut_bodies::{field_values, new_access, new_field, new_object, new_validation_rule};
 use ut_keys::StoreFail;
 use ut_model::{Assignment, NewField, NewObject, NewValidationRule, Refusal};
 use ut_stands::EditFail;
-use ut_value::{Access, Items, Text};
+use ut_value::{Access, Items};
 
 // What was read, where a body that isn't of its form is refused.
 fn form_of<T>(read: Result<Option<T>, AllocError>) -> Result<T, EditFail>
@@ -71,27 +71,13 @@ pub(crate) fn rule_in(alloc: Global, body: &[u8]) -> Result<NewValidationRule, E
     form_of(new_validation_rule(alloc, body))
 }
 
-// Whether the field is unique or indexed: such fields aren't built yet.
-fn needs_index(new: &NewField) -> bool
-    ensures { result ≡ needs_index (adds_field new.now) }
-{
-    new.unique || new.indexed
-}
-
 /// The field that a body asks for.
 ///
 /// # Errors
 ///
-/// `Refused` with `BodyForm` if the body isn't of that form, and with `NotBuilt` if it asks for a field that is unique or
-/// indexed; `Store` with `Memory` if out of memory.
+/// `Refused` with `BodyForm` if the body isn't of that form; `Store` with `Memory` if out of memory.
 pub(crate) fn field_in(alloc: Global, body: &[u8]) -> Result<NewField, EditFail>
     ensures { Asks adds_field (built_request AddField body.now) result }
 {
-    let new = form_of(new_field(alloc, body))?;
-    if needs_index(&new) {
-        return Err(EditFail::Refused(Refusal::NotBuilt {
-            what: Text::from_str(alloc, "flag")?,
-        }));
-    }
-    Ok(new)
+    form_of(new_field(alloc, body))
 }

@@ -12,7 +12,7 @@ ghost use Rattle.ut_value.specs.Dates.{is_moment};
 
 use crate::answer::{Answer, done};
 use crate::bodies::{access_in, field_in, object_in, rule_in};
-use crate::records::{changed_record, new_record};
+use crate::records::{changed_record, deleted_record, new_record};
 use std::alloc::Global;
 use ut_edits::make_edit;
 use ut_keeper::{Draft, Keeper};
@@ -52,6 +52,7 @@ pub(crate) fn edit<K: Keeper>(
         Route::Update { object, key } => {
             changed_record(alloc, draft, caller, now, object, key, body)
         }
+        Route::Delete { object, key } => deleted_record(alloc, draft, caller, now, object, key),
         Route::AddObject => {
             let new = object_in(alloc, body)?;
             done(make_edit(alloc, draft, org, &AddObject { new: &new }))

@@ -1,6 +1,6 @@
 //! The edits of records that administrators' requests ask for.
 
-ghost use Rattle.std.specs.Prelude.{◌≡◌, IfOk, IsTrue, pos};
+ghost use Rattle.std.specs.Prelude.{◌≡◌, IfOk, IsTrue, List, pos, ℕ};
 ghost use Rattle.ut_admin.specs.Administration.{Administers};
 ghost use Rattle.ut_admin.specs.inner.Edits.{EditsFrom, IsAnswerTo};
 ghost use Rattle.ut_edits.specs.Edits.{DraftsEdit};
@@ -14,6 +14,7 @@ ghost use Rattle.ut_value.specs.Dates.{is_moment};
 use crate::answer::{Answer, done, made};
 use crate::bodies::values_in;
 use std::alloc::Global;
+use ut_deletes::Delete;
 use ut_edits::make_edit;
 use ut_keeper::{Draft, Keeper};
 use ut_model::{Caller, refusal_laws};
@@ -99,4 +100,36 @@ pub(crate) fn changed_record<K: Keeper>(
         given: values.as_slice(),
     };
     done(make_edit(alloc, draft, caller.org, &update))
+}
+
+/// Deletes a record of the object with this name, with all that goes with it. The record is named by its id. Of the request no
+/// body is looked at.
+///
+/// # Errors
+///
+/// `Refused` as the edit is; nothing is then changed. `Store` with `Keeper` if the keeper failed, `Memory` if out of memory.
+pub(crate) fn deleted_record<K: Keeper>(
+    alloc: Global,
+    draft: &mut Draft<'_, K>,
+    caller: &Caller,
+    now: u64,
+    object: &Text,
+    key: &Text,
+) -> Result<Answer, EditFail>
+    requires { IsTrue (is_moment (pos now)) }
+    ensures what { DraftTells K.state draft.old draft.new
+        → (body : List ℕ) → EditsFrom caller.now.org (Administers caller.now now)
+        (λ a. verdict_or a (built_request (route.Delete object.now key.now) body)) (tables_of K.state draft.old)
+        (tables_of K.state draft.new) result }
+    ensures form { IfOk result (IsAnswerTo (route.Delete object.now key.now)) }
+    ensures makes { DraftsEdit K.state request_changes request_gone edit_shown result draft.old draft.new }
+{
+    call_laws::<K>();
+    refusal_laws();
+    let delete = Delete {
+        now: moment(now),
+        object,
+        key,
+    };
+    done(make_edit(alloc, draft, caller.org, &delete))
 }

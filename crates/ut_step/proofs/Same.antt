@@ -17,14 +17,14 @@ use Rattle.ut_model.specs.Jobs.{job_step, step_in}
 use Rattle.ut_model.specs.Paths.{Asked}
 use Rattle.ut_model.specs.Replies.{reply_of}
 use Rattle.ut_model.specs.RequestOf.{answer_to, query_or, request_of, verdict_at, verdict_or}
-use Rattle.ut_model.specs.Requests.{Request, verdict_on}
+use Rattle.ut_model.specs.Requests.{Request}
 use Rattle.ut_model.specs.Routing.{is_administration, routed}
 use Rattle.ut_model.specs.Step.{Message, answer_in, if_called, in_key, in_tenant, key_in, query_text, refused}
 use Rattle.ut_model.specs.Tenant.{Job, Tenant, User}
 use Rattle.ut_model.specs.Verdict.{Verdict, refuse}
 use Rattle.ut_model.specs.Whole.{answered_whole}
 use Rattle.ut_model.specs.World.{World, tenant_at, user_at, with_tenant}
-use Rattle.ut_step.specs.Built.{answer_built, answered, asking, built_request, background, built_verdict, is_built, needs_index, query_verdict, step, stepped, verdict_to, when_built}
+use Rattle.ut_step.specs.Built.{answer_built, answered, asking, built_request, background, built_verdict, is_built, query_verdict, step, stepped, verdict_to}
 use Rattle.ut_soql_grammar.specs.Spelling.{reads_query}
 use Rattle.ut_step.specs.Whole.{IsBuilt, NoJobs, whole_step}
 
@@ -52,18 +52,9 @@ module _ (a : Asked) (body : List ℕ) where
   same_request : (r : Route) → IsAllowed (verdict_or a (built_request r body)) → verdict_or a (built_request r body) ≡ verdict_or a (request_of r body)
   same_request r ok = by (is_built r) (request_of r body) ok
     where
-      flag : (b : Bool) (x : Request) → IsAllowed (verdict_or a (cond b (Err (refusal.NotBuilt (codes "flag"))) (Ok x)))
-          → verdict_or a (cond b (Err (refusal.NotBuilt (codes "flag"))) (Ok x)) ≡ verdict_on a x
-      flag true x ok = absurd (ok refl)
-      flag false x ok = refl
-
-      made : (q : Result Request Refusal) → IsAllowed (verdict_or a (when_built q)) → verdict_or a (when_built q) ≡ verdict_or a q
-      made (Err r) ok = refl
-      made (Ok x) ok = flag (needs_index x) x ok
-
-      by : (b : Bool) (q : Result Request Refusal) → IsAllowed (verdict_or a (cond b (when_built q) (Err (refusal.NotBuilt (codes "route")))))
-          → verdict_or a (cond b (when_built q) (Err (refusal.NotBuilt (codes "route")))) ≡ verdict_or a q
-      by true q ok = made q ok
+      by : (b : Bool) (q : Result Request Refusal) → IsAllowed (verdict_or a (cond b q (Err (refusal.NotBuilt (codes "route")))))
+          → verdict_or a (cond b q (Err (refusal.NotBuilt (codes "route")))) ≡ verdict_or a q
+      by true q ok = refl
       by false q ok = absurd (ok refl)
 
   same_query : (q : Result Query ℕ) → IsAllowed (query_verdict a q) → query_verdict a q ≡ verdict_or a (query_or q)

@@ -1,8 +1,7 @@
 -- The step of the world by the routes that are built: the replies that are made, and what becomes of the world. What is built has
--- the verdicts of the whole step (Whole); a request of any other route, and a new field that is unique or indexed, is refused
--- with NOT_BUILT.
+-- the verdicts of the whole step (Whole); a request of any other route is refused with NOT_BUILT.
 -- Source of the query: Salesforce, REST API, "Query". What is built is this product's own.
-use Rattle.std.specs.Prelude.{ℕ, pos, Bool, true, false, not, ◌&&◌, ◌||◌, if◌then◌else◌, List, codes, Result, Ok, Err}
+use Rattle.std.specs.Prelude.{ℕ, pos, Bool, true, false, not, ◌&&◌, if◌then◌else◌, List, codes, Result, Ok, Err}
 use Rattle.ut_query.specs.declared.query.Query.{Query}
 use Rattle.ut_soql_grammar.specs.Spelling.{reads_query}
 use Rattle.ut_model.specs.declared.refusal.Refusal.{Refusal}
@@ -17,7 +16,7 @@ use Rattle.ut_model.specs.Cases.{in_case}
 use Rattle.ut_model.specs.Paths.{Asked}
 use Rattle.ut_model.specs.Replies.{reply_of}
 use Rattle.ut_model.specs.RequestOf.{request_of, verdict_or}
-use Rattle.ut_model.specs.Requests.{Request, adds_field, asks, verdict_on}
+use Rattle.ut_model.specs.Requests.{Request, asks, verdict_on}
 use Rattle.ut_model.specs.Routing.{is_administration, routed}
 use Rattle.ut_model.specs.Step.{Answering, Message, query_text, refused, step_by}
 use Rattle.ut_model.specs.Tenant.{Tenant, User}
@@ -30,25 +29,16 @@ use Rattle.ut_model.specs.World.{World, user_at}
 abbrev pub is_built : Route → Bool
 is_built (route.Create object) = true
 is_built (route.Update object key) = true
+is_built (route.Delete object key) = true
 is_built route.AddObject = true
 is_built (route.SetObject object) = true
 is_built route.AddField = true
 is_built route.AddValidationRule = true
 is_built _ = false
 
--- no field that is unique or indexed is built yet
-abbrev pub needs_index : Request → Bool
-needs_index (adds_field b) = b.unique || b.indexed
-needs_index _ = false
-
--- NOT_BUILT, where one is asked for
-abbrev pub when_built : Result Request Refusal → Result Request Refusal
-when_built (Err refusal) = Err refusal
-when_built (Ok request) = if needs_index request then Err (refusal.NotBuilt (codes "flag")) else Ok request
-
--- the request that a route and a body make; its form is judged first, and then whether it is built
+-- the request that a route and a body make, where the route is built; of any other the body isn't looked at
 abbrev pub built_request : Route → (body : List ℕ) → Result Request Refusal
-built_request r body = if is_built r then when_built (request_of r body) else Err (refusal.NotBuilt (codes "route"))
+built_request r body = if is_built r then request_of r body else Err (refusal.NotBuilt (codes "route"))
 
 -- ---- queries
 

@@ -5,7 +5,7 @@ use Rattle.ut_model.specs.declared.limit.Limit.TheVariants as limit
 use Rattle.ut_model.specs.declared.refusal.Refusal.TheVariants as refusal
 use Rattle.ut_model.specs.declared.reply.Reply.{Reply}
 use Rattle.ut_model.specs.Callers.{Named}
-use Rattle.ut_model.specs.Limits.{limit_number}
+use Rattle.ut_model.specs.Limits.{deletion_limit, limit_number}
 use Rattle.ut_model.specs.Paths.{Asked}
 use Rattle.ut_model.specs.Step.{Message, answer_in, refusal_reply}
 use Rattle.ut_model.specs.Tenant.{Tenant}
@@ -23,16 +23,19 @@ abbrev pub own_step : Named → Message → (now : ℕ) → Option Tenant → Re
 own_step n m now None = (refusal_reply refusal.InvalidSession, None)
 own_step n m now (Some t) = ((answer_in answered n m now t).0, Some (answer_in answered n m now t).1)
 
--- the most rows that a request changes, the most data rows that it removes, and the most data rows that are shown to it
+-- the most rows that a request changes. A deletion changes the most: the rows of the organisation and of its objects, which count
+-- the records, and of each record that goes its rows and those of its manual shares
 abbrev pub request_changes : ℕ
-request_changes = 389
+request_changes = 245101
 
+-- the most data rows that a request removes: those of the records that go with one
 abbrev pub request_gone : ℕ
-request_gone = 0
+request_gone = deletion_limit
 
+-- the most data rows that are shown to a request
 abbrev pub request_shown : ℕ
 request_shown = limit_number limit.RecordsPerObject
 
--- the most data rows that are shown to an edit: the record that it changes, and the record of each reference that is given
+-- the most data rows that are shown to an edit: the record that a deletion names, and each that it removes or clears
 abbrev pub edit_shown : ℕ
-edit_shown = limit_number limit.FieldsPerObject + 1
+edit_shown = deletion_limit + 1

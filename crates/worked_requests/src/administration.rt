@@ -62,8 +62,18 @@ fn shown_reply(
     Ok(shown(alloc, &reply)?)
 }
 
+// The object and the id of the record with which arguments begin, and those behind them.
+fn record_in(alloc: Global, arguments: &str) -> Result<(Text, Text, &str), AllocError> {
+    let (object, rest) = first_of(arguments);
+    let (key, rest) = first_of(rest);
+    let object = Text::from_str(alloc, object)?;
+    let key = Text::from_str(alloc, key)?;
+    Ok((object, key, rest))
+}
+
 /// The status and the body of the reply to a request: of a new object, field or role its body, of another default access and of a
-/// new record the object and the body, and of other values for a record the object, the record's id and the body.
+/// new record the object and the body, of other values for a record the object, the record's id and the body, and of its deletion
+/// the object, the record's id, and a body if it has one.
 pub(crate) fn answer(
     alloc: Global,
     keeper: &mut MemoryKeeper,
@@ -85,11 +95,12 @@ pub(crate) fn answer(
             shown_reply(alloc, keeper, &Route::Create { object }, body)
         }
         "update" => {
-            let (object, rest) = first_of(arguments);
-            let (key, body) = first_of(rest);
-            let object = Text::from_str(alloc, object)?;
-            let key = Text::from_str(alloc, key)?;
+            let (object, key, body) = record_in(alloc, arguments)?;
             shown_reply(alloc, keeper, &Route::Update { object, key }, body)
+        }
+        "delete" => {
+            let (object, key, body) = record_in(alloc, arguments)?;
+            shown_reply(alloc, keeper, &Route::Delete { object, key }, body)
         }
         _ => Ok(String::from_str(alloc, "no such call")?),
     }

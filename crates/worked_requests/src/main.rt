@@ -49,6 +49,7 @@ fn answer(
 ) -> Result<String, StoreFail> {
     match call {
         "put" => rows::put(alloc, keeper, arguments),
+        "rows" => rows::under(alloc, keeper, arguments),
         "layout-at" => layouts::at(alloc, keeper, arguments),
         "layout-named" => layouts::named(alloc, keeper, arguments),
         "layouts" => layouts::all(alloc, keeper, arguments),

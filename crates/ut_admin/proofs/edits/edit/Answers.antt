@@ -1,13 +1,15 @@
-use Rattle.std.proofs.Common.{List, ℕ, ap, arith, refl}
+use Rattle.std.proofs.Common.{List, ℕ, ap, arith, refl, subst, sym}
 use Rattle.std.specs.Str.{chars}
 use Rattle.ut_keeper.specs.Draft.{tables_of}
 use Rattle.ut_step.specs.Built.{built_request}
 use Rattle.ut_model.specs.Metadata.{set_access}
+use Rattle.ut_model.specs.RequestOf.{verdict_or}
 use Rattle.ut_model.specs.Requests.{adds_field, adds_object, adds_validation_rule, sets_object}
 use Rattle.ut_model.specs.Verdict.{done}
 use Rattle.ut_model.specs.declared.route.Route.TheVariants.{AddField, AddObject, AddValidationRule, SetObject}
 use Rattle.ut_admin.specs.Administration.{Administers}
 use Rattle.ut_admin.specs.declared.answer.Answer.TheVariants as answer
+use Rattle.ut_admin.specs.inner.Edits.{EditsFrom}
 use Rattle.ut_admin.proofs.Asked.{answers_none, answers_so, drafts_seen, edits_asked, edits_none, edits_unbuilt, fit, none_drafts, returned}
 use Rattle.ut_admin.proofs.edits.edit.Goals as goal
 
@@ -84,6 +86,16 @@ returns-in_err-new-in-AddValidationRule-clause-makes g c =
     (returned c.from_residual-in_err-new-in-AddValidationRule.result fail c.from_residual-in_err-new-in-AddValidationRule.ensures) c.in_err-new-in-AddValidationRule.ensures
 
 -- ---- edits
+
+-- of a deletion no body is looked at
+pub returns-in-Delete-clause-what : goal.returns-in-Delete-clause-what
+returns-in-Delete-clause-what g c told =
+    let caller = c.args.caller.now in
+    let body = c.args.body.now in
+    let before = tables_of g.K.Keeper.state c.args.draft.now in
+    let after = tables_of g.K.Keeper.state c.deleted_record.new.draft in
+    subst (λ r. EditsFrom caller.org (Administers caller c.args.now) (λ a. verdict_or a (built_request r body)) before after c.deleted_record.result) (sym c.in-Delete.is)
+    (c.deleted_record.ensures.what told body)
 
 pub returns-in_ok-new-in-AddObject-clause-what : goal.returns-in_ok-new-in-AddObject-clause-what
 returns-in_ok-new-in-AddObject-clause-what g c told =
@@ -168,6 +180,7 @@ returns-in_ok-from_str-in_default-clause-what g c told =
     (record {
       no_record = λ object. c.in_default.not-Create object;
       no_change = λ object key. c.in_default.not-Update object key;
+      no_deletion = λ object key. c.in_default.not-Delete object key;
       no_object = c.in_default.not-AddObject;
       no_access = λ object. c.in_default.not-SetObject object;
       no_field = c.in_default.not-AddField;

@@ -1,0 +1,44 @@
+-- A deletion that is judged: what it comes to, by what was found on the way.
+use Rattle.std.proofs.Common.{◌≡◌, ◌∙◌, ℕ, true, List, refl, sym, ap, subst}
+use Rattle.std.specs.Prelude.{IsErrAnd, Result, Ok, Err}
+use Rattle.ut_cascade.specs.Deletion.{DeletesWith}
+use Rattle.ut_deletes.specs.declared.deleting.Doomed.{Doomed}
+use Rattle.ut_deletes.specs.inner.Doomed.{Dooms, FindsTarget, IsTarget}
+use Rattle.ut_edits.specs.Edits.{FailsBy}
+use Rattle.ut_model.specs.declared.record.Record.{Record}
+use Rattle.ut_model.specs.Deletes.{cascade, delete, delete_record, without}
+use Rattle.ut_model.specs.Paths.{Asked}
+use Rattle.ut_model.specs.Rules.{Rule}
+use Rattle.ut_model.specs.Sound.{IsSound}
+use Rattle.ut_model.specs.Verdict.{Verdict, accept, done, unless}
+use Rattle.ut_named.proofs.Naming.{HasAll, named_there, named_verdict}
+use Rattle.ut_named.specs.declared.named.Named.{Named}
+use Rattle.ut_named.specs.Named.{FindsNamed, IsNamed}
+use Rattle.ut_stands.specs.declared.fail.EditFail.{EditFail}
+use Rattle.ut_stands.specs.declared.fail.EditFail.TheVariants.{Refused, Store}
+use Rattle.ut_stands.specs.Plan.{OrgPlan}
+use Rattle.ut_value.specs.declared.sharing.Level.TheVariants.{Full}
+
+-- ---- the record that is named
+
+pub target_of : (org : ℕ) (q : OrgPlan) (a : Asked) (name key : List ℕ) (x : Named) → HasAll → IsSound a.tenant → a.user.admin ≡ true → IsNamed org q a.tenant name key x → IsTarget a name key x.kept.item.id
+target_of org q a name key x all sound admin is =
+    record { item = x.kept.item; is = refl; there = named_there org q a name key x is; verdict = named_verdict org q a name key x is all sound admin Full (λ o. delete_record a) }
+
+pub no_target : (org : ℕ) (q : OrgPlan) (a : Asked) (name key : List ℕ) (e : EditFail) (out : Result (List ℕ) EditFail) → FindsNamed org q a name key (Err e) → IsErrAnd out (λ y. y ≡ e) → FindsTarget a name key out
+no_target org q a name key e (Ok x) h is = absurd is
+no_target org q a name key e (Err y) h is = subst (FailsBy (delete a name key)) (sym is) (h Full (λ o. delete_record a))
+
+-- ---- what its deletion comes to
+
+pub failed : (org : ℕ) (q : OrgPlan) (a : Asked) (name key : List ℕ) (e : EditFail) (out : Result Doomed EditFail) → FailsBy (delete a name key) e → IsErrAnd out (λ y. y ≡ e) → Dooms org q a name key out
+failed org q a name key e (Ok x) h is = absurd is
+failed org q a name key e (Err y) h is = subst (FailsBy (delete a name key)) (sym is) h
+
+-- the first rule that refuses it is its refusal
+pub refused_by : (a : Asked) (name key : List ℕ) (item : Record) → delete a name key ≡ delete_record a item → (e : EditFail) → DeletesWith a.tenant item (Err e) → FailsBy (delete a name key) e
+refused_by a name key item is (Refused x) h =
+    let gone = cascade a.tenant item in
+    ap (λ (v : Verdict). v.answer) is
+    ∙ ap (λ (r : Rule). (unless r a.tenant (accept done (without a.now gone a.tenant))).answer) (sym h)
+refused_by a name key item is (Store f) h = h

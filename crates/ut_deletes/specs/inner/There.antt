@@ -1,0 +1,22 @@
+-- The record that has an id which a record is known to have, and its row.
+use Rattle.std.specs.Prelude.{◌≡◌, ℕ, List, None, Some, Option, Result, Ok, Err}
+use Rattle.ut_keys.specs.declared.fail.StoreFail.{StoreFail}
+use Rattle.ut_keys.specs.declared.fail.StoreFail.TheVariants.{Damaged}
+use Rattle.ut_model.specs.Rights.{record_of_object}
+use Rattle.ut_model.specs.Tenant.{Tenant}
+use Rattle.ut_named.specs.declared.kept.KeptRecord.{KeptRecord}
+use Rattle.ut_named.specs.Kept.{IsKept}
+use Rattle.ut_stands.specs.declared.layout.Layout.{Layout}
+use Rattle.ut_stands.specs.Plan.{OrgPlan}
+
+-- what was found; that nothing was is damage
+abbrev pub found_there : Result (Option KeptRecord) StoreFail → Result KeptRecord StoreFail
+found_there (Ok (Some k)) = Ok k
+found_there (Ok None) = Err Damaged
+found_there (Err e) = Err e
+
+-- it is the object's record with this id in this tenant, and its row; or why the work on the tables stopped, which is damage only
+-- if there is no such record
+abbrev pub FindsThere : OrgPlan → Tenant → Layout → (id : List ℕ) → Result KeptRecord StoreFail → Type 0
+FindsThere q t l id (Ok k) = IsKept q t l id k
+FindsThere q t l id (Err e) = e ≡ Damaged → record_of_object t l.object id ≡ None

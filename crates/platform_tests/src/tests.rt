@@ -6,9 +6,8 @@ use ut_keeper::MemoryKeeper;
 
 const ADD: &str = "org-add|Acme|abcdefghijklmnop";
 
-// A message of the first organisation's user, for a target that isn't there.
-const MESSAGE: &str =
-    "GET /x HTTP/1.1\r\nAuthorization: Bearer 00D000000000001EAA!005000000000000AAA!abcdefghijklmnop\r\n\r\n";
+// The key of the first organisation's user.
+const KEY: &str = "00D000000000001EAA!005000000000000AAA!abcdefghijklmnop";
 
 // The status of a run with ample room, a blank, and what was written, as a text.
 fn ran_on(
@@ -58,40 +57,114 @@ fn adds_with_a_failing_keeper(rt: HostRuntime) -> Result<(), Fail> {
     Ok(())
 }
 
-// The status of a run, a blank, and the status of each reply, each with a blank behind it.
-fn statuses_of(alloc: Global, shown: &str) -> Result<String, AllocError> {
-    let mut statuses = String::new(alloc);
-    for piece in shown.split("HTTP/1.1 ") {
-        statuses.push_str(piece.split(' ').next().unwrap_or(""))?;
-        statuses.push_str(" ")?;
+// The status of a reply, and behind it the id of what it made, if it made something.
+fn shown_reply(alloc: Global, reply: &str) -> Result<String, AllocError> {
+    let status = reply.split(' ').next().unwrap_or("");
+    match reply.split_once("{\"id\":\"") {
+        None => String::from_str(alloc, status),
+        Some((_, rest)) => {
+            let id = rest.split('"').next().unwrap_or("");
+            format!(in alloc; "{status}:{id}")
+        }
     }
-    Ok(statuses)
 }
 
-// The call of the keeper that fails, and the status and replies of `answer`. The organisation takes the first four calls
-// of the keeper, the opening the next two, and each message one, for its caller; before the first, and behind one that failed,
-// the keeper itself is asked.
+// The status of a run, a blank, and what is shown of each reply, each with a blank behind it.
+fn replies_of(alloc: Global, shown: &str) -> Result<String, AllocError> {
+    let mut replies = String::new(alloc);
+    for piece in shown.split("HTTP/1.1 ") {
+        replies.push_str(shown_reply(alloc, piece)?.as_str())?;
+        replies.push_str(" ")?;
+    }
+    Ok(replies)
+}
+
+// The message of the first organisation's user that a word stands for: another object, a record, another name for it, and its end.
+fn message_of(alloc: Global, word: &str) -> Result<String, AllocError> {
+    let (line, body) = match word {
+        "object" => (
+            "POST /admin/objects",
+            "{\"name\":\"Deal__c\",\"access\":\"Private\"}",
+        ),
+        "create" => (
+            "POST /services/data/v59.0/sobjects/Deal__c",
+            "{\"Name\":\"x\"}",
+        ),
+        "update" => (
+            "PATCH /services/data/v59.0/sobjects/Deal__c/a00000000000001",
+            "{\"Name\":\"y\"}",
+        ),
+        "delete" => (
+            "DELETE /services/data/v59.0/sobjects/Deal__c/a00000000000001",
+            "",
+        ),
+        _ => ("GET /x", ""),
+    };
+    let length = body.len();
+    format!(in alloc;
+        "{line} HTTP/1.1\r\nAuthorization: Bearer {KEY}\r\nContent-Length: {length}\r\n\r\n{body}"
+    )
+}
+
+// The call of the keeper that fails, the messages, and the status and replies of `answer`. The organisation takes the first four
+// calls of the keeper, the opening the next two, and each message that reads nothing else one, for its caller; before the first, and
+// behind one that failed, the keeper itself is asked. Of a new record each of its eight calls fails in turn, and of its end each of its
+// thirteen: the same message afterwards does what the first would have done, and a record that wasn't made drew no number.
 const ANSWERED: &str = "\
-5;72
-6;72
-7;0 503 404 404
-8;0 503 404 404
-9;0 404 503 404
-10;0 404 404 503
-11;0 404 404 404
+5;none none none;72
+6;none none none;72
+7;none none none;0 503 404 404
+8;none none none;0 503 404 404
+9;none none none;0 404 503 404
+10;none none none;0 404 404 503
+11;none none none;0 404 404 404
+12;object create create;0 503 400 400
+13;object create create;0 204 503 201:a00000000000001AAA
+14;object create create;0 204 503 201:a00000000000001AAA
+15;object create create;0 204 503 201:a00000000000001AAA
+16;object create create;0 204 503 201:a00000000000001AAA
+17;object create create;0 204 503 201:a00000000000001AAA
+18;object create create;0 204 503 201:a00000000000001AAA
+19;object create create;0 204 503 201:a00000000000001AAA
+20;object create create;0 204 503 201:a00000000000001AAA
+21;object create create;0 204 201:a00000000000001AAA 503
+21;object create update delete;0 204 201:a00000000000001AAA 503 204
+22;object create update delete;0 204 201:a00000000000001AAA 503 204
+23;object create update delete;0 204 201:a00000000000001AAA 503 204
+24;object create update delete;0 204 201:a00000000000001AAA 503 204
+25;object create update delete;0 204 201:a00000000000001AAA 503 204
+26;object create update delete;0 204 201:a00000000000001AAA 503 204
+27;object create update delete;0 204 201:a00000000000001AAA 503 204
+28;object create update delete delete;0 204 201:a00000000000001AAA 204 503 204
+29;object create update delete delete;0 204 201:a00000000000001AAA 204 503 204
+30;object create update delete delete;0 204 201:a00000000000001AAA 204 503 204
+31;object create update delete delete;0 204 201:a00000000000001AAA 204 503 204
+32;object create update delete delete;0 204 201:a00000000000001AAA 204 503 204
+33;object create update delete delete;0 204 201:a00000000000001AAA 204 503 204
+34;object create update delete delete;0 204 201:a00000000000001AAA 204 503 204
+35;object create update delete delete;0 204 201:a00000000000001AAA 204 503 204
+36;object create update delete delete;0 204 201:a00000000000001AAA 204 503 204
+37;object create update delete delete;0 204 201:a00000000000001AAA 204 503 204
+38;object create update delete delete;0 204 201:a00000000000001AAA 204 503 204
+39;object create update delete delete;0 204 201:a00000000000001AAA 204 503 204
+40;object create update delete delete;0 204 201:a00000000000001AAA 204 503 204
+41;object create update delete delete;0 204 201:a00000000000001AAA 204 204 503
+46;object create update delete delete;0 204 201:a00000000000001AAA 204 204 404
 ";
 
-// Whether three messages are answered as a line says.
+// Whether messages are answered as a line says.
 fn answers_so(alloc: Global, line: &str) -> Result<bool, Fail> {
-    let (failing, wanted) = line.split_once(';').unwrap_or(("", ""));
-    let mut keeper = MemoryKeeper::new(alloc, &[failing.parse()?])?;
+    let mut cells = line.split(';');
+    let failing = cells.next().unwrap_or("").parse()?;
+    let mut keeper = MemoryKeeper::new(alloc, &[failing])?;
     let _ = ran_on(alloc, &mut keeper, ADD, b"")?;
     let mut input = String::new(alloc);
-    for _ in 0..3u32 {
-        input.push_str(MESSAGE)?;
+    for word in cells.next().unwrap_or("").split(' ') {
+        input.push_str(message_of(alloc, word)?.as_str())?;
     }
     let shown = ran_on(alloc, &mut keeper, "answer", input.as_str().as_bytes())?;
-    Ok(statuses_of(alloc, shown.as_str())?.as_str().trim_end() == wanted)
+    let replies = replies_of(alloc, shown.as_str())?;
+    Ok(Some(replies.as_str().trim_end()) == cells.next())
 }
 
 #[test]

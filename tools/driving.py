@@ -10,6 +10,7 @@ import socket
 import subprocess
 import sys
 from pathlib import Path
+from urllib.parse import quote
 
 TOP = Path(__file__).resolve().parent.parent
 CARMUGUUR = TOP / "crates/carmuguur/out/carmuguur"
@@ -88,6 +89,11 @@ def new_record(owner, values):
 
 def other_values(owner, record, values):
     return message("PATCH", f"{SOBJECTS}/{owner}/{record}", values)
+
+
+def upsert(owner, field, value, values):
+    """Values for the record that has this value in a unique field, or for a new one."""
+    return message("PATCH", f"{SOBJECTS}/{owner}/{field}/{quote(value, safe='')}", values)
 
 
 def deletion(owner, record):

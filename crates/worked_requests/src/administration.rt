@@ -62,7 +62,7 @@ fn shown_reply(
     Ok(shown(alloc, &reply)?)
 }
 
-// The object and the id of the record with which arguments begin, and those behind them.
+// The object with which arguments begin, the id or the unique field behind it, and the other arguments.
 fn record_in(alloc: Global, arguments: &str) -> Result<(Text, Text, &str), AllocError> {
     let (object, rest) = first_of(arguments);
     let (key, rest) = first_of(rest);
@@ -72,8 +72,8 @@ fn record_in(alloc: Global, arguments: &str) -> Result<(Text, Text, &str), Alloc
 }
 
 /// The status and the body of the reply to a request: of a new object, field or role its body, of another default access and of a
-/// new record the object and the body, of other values for a record the object, the record's id and the body, and of its deletion
-/// the object, the record's id, and a body if it has one.
+/// new record the object and the body, of other values for a record the object, the record's id and the body, of an upsert the
+/// object, the unique field, the value and the body, and of a deletion the object, the record's id, and a body if it has one.
 pub(crate) fn answer(
     alloc: Global,
     keeper: &mut MemoryKeeper,
@@ -97,6 +97,12 @@ pub(crate) fn answer(
         "update" => {
             let (object, key, body) = record_in(alloc, arguments)?;
             shown_reply(alloc, keeper, &Route::Update { object, key }, body)
+        }
+        "upsert" => {
+            let (object, key, rest) = record_in(alloc, arguments)?;
+            let (value, body) = first_of(rest);
+            let value = Text::from_str(alloc, value)?;
+            shown_reply(alloc, keeper, &Route::Upsert { object, key, value }, body)
         }
         "delete" => {
             let (object, key, body) = record_in(alloc, arguments)?;

@@ -20,9 +20,3 @@ gives_ended l given old read (Ok (Ok x)) same judged =
 gives_ended l given old read (Ok (Err refusal)) same judged =
     subst (λ (y : Result GivenValues Unread). (t : Tenant) → ValueOrRefusal (bad_value t (object_of_layout l) given) (IsGiven t (object_of_layout l) given old) y) same judged
 gives_ended l given old read (Err e) same judged = tt
-
-pub valid_ended : {E : Type 0} (P : GivenValues → Type 0) (read : Result GivenValues Unread) (r : Result (Result GivenValues Refusal) E)
-    → IfOk r (λ x. read ≡ as_unread x) → IfOk read P → IfOk r (λ x. IfOk x P)
-valid_ended P read (Ok (Ok x)) same h = subst (λ (y : Result GivenValues Unread). IfOk y P) same h
-valid_ended P read (Ok (Err refusal)) same h = tt
-valid_ended P read (Err e) same h = tt

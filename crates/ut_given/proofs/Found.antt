@@ -1,16 +1,9 @@
 -- What passes a test of all, if it is found among them.
-use Rattle.std.proofs.Common.{◌≡◌, ℕ, Bool, true, false, ◌&&◌, IsTrue, List, [], ◌∷◌, Option, Some, Result, refl, cond, ap, sym, subst}
+use Rattle.std.proofs.Common.{◌≡◌, ℕ, Bool, true, false, ◌&&◌, IsTrue, List, [], ◌∷◌, Option, Some, refl, cond, sym, subst}
 use Rattle.std.specs.List.{find, list_all}
 use Rattle.std.specs.Prelude.{IfSome}
-use Rattle.std.specs.Option.{option_map}
-use Rattle.ut_value.specs.declared.value.Value.{Value}
 use Rattle.ut_model.specs.declared.record_bodies.Assignment.{Assignment}
-use Rattle.ut_model.specs.Edits.{given_to}
-use Rattle.ut_model.specs.Fields.{Column, same_name}
-use Rattle.ut_model.specs.Given.{read_given}
-use Rattle.ut_model.specs.Tenant.{Tenant}
-use Rattle.ut_given.specs.declared.unread.Unread.{Unread}
-use Rattle.ut_given.specs.inner.Read.{Reads, ReadsGiven}
+use Rattle.ut_model.specs.Fields.{same_name}
 
 pub and_left : (a b : Bool) → IsTrue (a && b) → IsTrue a
 and_left true b h = refl
@@ -34,7 +27,3 @@ pub first_passes : (test : Assignment → Bool) (given : List Assignment) (name 
     → IsTrue (list_all test given) → Some x ≡ find (λ y. same_name y.field name) given → IsTrue (test x)
 first_passes test given name x all is =
     subst (λ (found : Option Assignment). IfSome found (λ y. IsTrue (test y))) (sym is) (found_passes test (λ y. same_name y.field name) given all)
-
-pub first_given : (t : Tenant) (given : List Assignment) (c : Column) (x : Assignment) (r : Result Value Unread)
-    → Some x ≡ find (λ y. same_name y.field c.name) given → Reads (read_given t c x.given) r → ReadsGiven (given_to t given c) (Some r)
-first_given t given c x r is reads = (read_given t c x.given, ap (option_map (λ (y : Assignment). read_given t c y.given)) (sym is), reads)

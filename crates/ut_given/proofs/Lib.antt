@@ -1,8 +1,11 @@
 pub mod Names
 pub mod Refused
+pub mod BadMembers
 pub mod Spelled
 pub mod Valid
 pub mod Found
+pub mod Keys
+pub mod Uniques
 pub mod Judging
 pub mod Owners
 pub mod Made

@@ -1,8 +1,6 @@
 -- What is made of what was read of a field.
-use Rattle.std.proofs.Common.{◌≡◌, Option, Some, None, Result, Ok, Err, IfOk, IsTrue, MatchResult, refl, sym, subst, ◌∙◌, ap}
-use Rattle.ut_value.specs.declared.value.FieldType.{FieldType}
+use Rattle.std.proofs.Common.{◌≡◌, Option, Some, None, Result, Ok, Err, MatchResult, refl, ◌∙◌, ap}
 use Rattle.ut_value.specs.declared.value.Value.{Value}
-use Rattle.ut_value.specs.Values.{valid}
 use Rattle.ut_model.specs.Given.{ReadOr}
 use Rattle.ut_given.specs.declared.unread.Unread.{Unread}
 use Rattle.ut_given.specs.declared.unread.Unread.TheVariants.{Refused, Memory}
@@ -18,8 +16,3 @@ pub none_judged : (g : Option ReadOr) (old : Value) (r : Result Value Unread)
 none_judged g old (Ok v) none same = rw none (refl, same)
 none_judged g old (Err Memory) none same = tt
 none_judged g old (Err (Refused refusal)) none same = absurd cc
-
-pub none_valid : (kind : FieldType) (old : Value) (r : Result Value Unread)
-    → MatchResult r (λ v. v ≡ old) (λ e. e ≡ Memory) → IsTrue (valid kind old) → IfOk r (λ v. IsTrue (valid kind v))
-none_valid kind old (Ok v) same h = subst (λ (x : Value). IsTrue (valid kind x)) (sym same) h
-none_valid kind old (Err e) same h = tt

@@ -1,5 +1,5 @@
--- A name that is refused, by the names that an object has.
-use Rattle.std.proofs.Common.{◌≡◌, ℕ, ◌+◌, Bool, true, false, not, ◌&&◌, ◌||◌, if◌then◌else◌, cond, List, [], ◌∷◌, ◌++◌, map, Option, Some, None, refl, sym, ap, ◌∙◌}
+-- The field with a name, by the names that an object has.
+use Rattle.std.proofs.Common.{◌≡◌, ℕ, ◌+◌, Bool, true, false, not, ◌&&◌, if◌then◌else◌, cond, List, [], ◌∷◌, ◌++◌, map, Option, Some, None, refl, sym, ap, ◌∙◌}
 use Rattle.std.specs.Prelude.{codes}
 use Rattle.std.specs.List.{enumerate_from, find}
 use Rattle.std.specs.Option.{option_map}
@@ -8,13 +8,14 @@ use Rattle.ut_model.specs.Cases.{in_case}
 use Rattle.ut_model.specs.Edits.{bad_field, is_writable}
 use Rattle.ut_model.specs.Fields.{Column, its_created, its_id, its_modified, of_ids, writable_columns, column, column_named, custom_columns, is_detail, name_column, of_type, owner_column, owner_columns, same_name, value_site}
 use Rattle.ut_model.specs.declared.record_bodies.Assignment.{Assignment}
-use Rattle.ut_model.specs.Rules.{first_refusal, refuse_if}
-use Rattle.ut_model.specs.Keys.{bad_fields, other_key}
-use Rattle.ut_model.specs.Tenant.{Field, Object, Tenant}
+use Rattle.ut_model.specs.Rules.{refuse_if}
+use Rattle.ut_model.specs.Tenant.{Field, Object}
+use Rattle.ut_model.specs.Upserts.{declared_name}
 use Rattle.ut_value.specs.declared.value.FieldType.TheVariants as type
 use Rattle.ut_model.specs.declared.refusal.Refusal.TheVariants as refusal
-use Rattle.ut_given.proofs.Names.{created_text, id_text, modified_text}
-use Rattle.ut_given.specs.inner.Columns.{bad_name, has_named, has_writable, unwritable}
+use Rattle.ut_stands.specs.declared.layout.FieldPlace.{FieldPlace}
+use Rattle.ut_rules.specs.Objects.{field_of_place}
+use Rattle.ut_given.specs.inner.Columns.{Seen, bad_name, custom_seen, seen, unwritable, writable_named}
 
 abbrev id : Column
 id = column (codes "Id") of_ids its_id
@@ -25,78 +26,136 @@ created = column (codes "CreatedDate") (of_type type.Moment) its_created
 abbrev modified : Column
 modified = column (codes "LastModifiedDate") (of_type type.Moment) its_modified
 
--- what is made of the column with this name among these
-abbrev among : List ℕ → List Column → Option (List ℕ)
-among name cs = in_case (find (λ c. same_name c.name name) cs) (Some name) unwritable
+-- the column with this name among these
+abbrev among : List ℕ → List Column → Option Seen
+among name cs = option_map seen (find (λ c. same_name c.name name) cs)
 
 abbrev custom : ℕ × Field → Column
 custom f = column f.1.name (of_type f.1.kind) (value_site f.0)
 
-one_more : (name : List ℕ) (c : Column) (cs : List Column) → among name (c ∷ cs) ≡ cond (same_name c.name name) (unwritable c) (among name cs)
+one_more : (name : List ℕ) (c : Column) (cs : List Column) → among name (c ∷ cs) ≡ cond (same_name c.name name) (Some (seen c)) (among name cs)
 one_more name c cs = by (same_name c.name name) (find (λ d. same_name d.name name) cs)
   where
-    by : (b : Bool) (rest : Option Column) → in_case (cond b (Some c) rest) (Some name) unwritable ≡ cond b (unwritable c) (in_case rest (Some name) unwritable)
+    by : (b : Bool) (rest : Option Column) → option_map seen (cond b (Some c) rest) ≡ cond b (Some (seen c)) (option_map seen rest)
     by true rest = refl
     by false rest = refl
 
-either : {X : Type 0} (a b : Bool) (x y : X) → cond a x (cond b x y) ≡ cond (a || b) x y
-either true b x y = refl
-either false b x y = refl
+one_custom : (name : List ℕ) (f : Field) (fs : List Field) → cond {A = Option Seen} (same_name f.name name) (Some (f.name, true)) (custom_seen fs name) ≡ custom_seen (f ∷ fs) name
+one_custom name f fs = by (same_name f.name name) (find (λ g. same_name g.name name) fs)
+  where
+    by : (b : Bool) (rest : Option Field) → cond {A = Option Seen} b (Some (f.name, true)) (option_map (λ g. (g.name, true)) rest) ≡ option_map (λ g. (g.name, true)) (cond b (Some f) rest)
+    by true rest = refl
+    by false rest = refl
 
-among_custom : (name : List ℕ) (k : ℕ) (fs : List Field) → among name (map custom (enumerate_from k fs)) ≡ cond (has_named name fs) None (Some name)
+among_custom : (name : List ℕ) (k : ℕ) (fs : List Field) → among name (map custom (enumerate_from k fs)) ≡ custom_seen fs name
 among_custom name k [] = refl
 among_custom name k (f ∷ fs) =
     one_more name (custom (k, f)) (map custom (enumerate_from (k + 1) fs))
-    ∙ ap (cond (same_name f.name name) None) (among_custom name (k + 1) fs)
-    ∙ either (same_name f.name name) (has_named name fs) None (Some name)
+    ∙ ap (cond {A = Option Seen} (same_name f.name name) (Some (f.name, true))) (among_custom name (k + 1) fs)
+    ∙ one_custom name f fs
 
 -- behind the name: the owner, where there is one, and the custom fields
 among_own : (name : List ℕ) (detail : Bool) (fs : List Field)
     → among name ((if detail then [] else owner_column ∷ []) ++ map custom (enumerate_from 1 fs))
-    ≡ cond ((same_name (codes "OwnerId") name && not detail) || has_named name fs) None (Some name)
-among_own name true fs = among_custom name 1 fs ∙ ap (λ (b : Bool). cond (b || has_named name fs) None (Some name)) (never (same_name (codes "OwnerId") name))
+    ≡ cond {A = Option Seen} (same_name (codes "OwnerId") name && not detail) (Some (codes "OwnerId", true)) (custom_seen fs name)
+among_own name true fs = among_custom name 1 fs ∙ never (same_name (codes "OwnerId") name) (custom_seen fs name)
   where
-    never : (b : Bool) → false ≡ (b && false)
-    never true = refl
-    never false = refl
+    never : (b : Bool) (rest : Option Seen) → rest ≡ cond {A = Option Seen} (b && false) (Some (codes "OwnerId", true)) rest
+    never true rest = refl
+    never false rest = refl
 among_own name false fs =
     one_more name owner_column (map custom (enumerate_from 1 fs))
-    ∙ ap (cond (same_name (codes "OwnerId") name) None) (among_custom name 1 fs)
-    ∙ either (same_name (codes "OwnerId") name) (has_named name fs) None (Some name)
-    ∙ ap (λ (b : Bool). cond (b || has_named name fs) None (Some name)) (always (same_name (codes "OwnerId") name))
+    ∙ ap (cond {A = Option Seen} (same_name (codes "OwnerId") name) (Some (codes "OwnerId", true))) (among_custom name 1 fs)
+    ∙ always (same_name (codes "OwnerId") name) (custom_seen fs name)
   where
-    always : (b : Bool) → b ≡ (b && true)
-    always true = refl
-    always false = refl
+    always : (b : Bool) (rest : Option Seen) → cond {A = Option Seen} b (Some (codes "OwnerId", true)) rest ≡ cond {A = Option Seen} (b && true) (Some (codes "OwnerId", true)) rest
+    always true rest = refl
+    always false rest = refl
 
-among_writable : (name : List ℕ) (o : Object) → among name (writable_columns o) ≡ cond (has_writable o name) None (Some name)
+among_writable : (name : List ℕ) (o : Object) → among name (writable_columns o) ≡ writable_named o name
 among_writable name o =
     one_more name name_column (owner_columns o ++ custom_columns o)
-    ∙ ap (cond (same_name (codes "Name") name) None) (among_own name (is_detail o) o.fields)
-    ∙ either (same_name (codes "Name") name) ((same_name (codes "OwnerId") name && not (is_detail o)) || has_named name o.fields) None (Some name)
+    ∙ ap (cond {A = Option Seen} (same_name (codes "Name") name) (Some (codes "Name", true))) (among_own name (is_detail o) o.fields)
 
-pub bad_name_is : (o : Object) (name : List ℕ) → bad_name o name
-    ≡ cond (same_name (codes "Id") name) (Some (codes "Id"))
-    (cond (same_name (codes "CreatedDate") name) (Some (codes "CreatedDate"))
-    (cond (same_name (codes "LastModifiedDate") name) (Some (codes "LastModifiedDate"))
-    (cond (has_writable o name) None (Some name))))
-unfolding column_named
-bad_name_is o name =
+abbrev pub id_name : List ℕ
+id_name = chars (codes "Id")
+
+abbrev pub created_name : List ℕ
+created_name = chars (codes "CreatedDate")
+
+abbrev pub modified_name : List ℕ
+modified_name = chars (codes "LastModifiedDate")
+
+column_is : (o : Object) (name : List ℕ) → option_map seen (column_named o name)
+    ≡ cond {A = Option Seen} (same_name id_name name) (Some (id_name, false))
+    (cond {A = Option Seen} (same_name created_name name) (Some (created_name, false))
+    (cond {A = Option Seen} (same_name modified_name name) (Some (modified_name, false))
+    (writable_named o name)))
+unfolding column_named chars
+column_is o name =
     one_more name id (created ∷ modified ∷ writable_columns o)
-    ∙ ap (cond (same_name (codes "Id") name) (Some (codes "Id")))
+    ∙ ap (cond {A = Option Seen} (same_name (codes "Id") name) (Some (codes "Id", false)))
     (one_more name created (modified ∷ writable_columns o)
-    ∙ ap (cond (same_name (codes "CreatedDate") name) (Some (codes "CreatedDate")))
+    ∙ ap (cond {A = Option Seen} (same_name (codes "CreatedDate") name) (Some (codes "CreatedDate", false)))
     (one_more name modified (writable_columns o)
-    ∙ ap (cond (same_name (codes "LastModifiedDate") name) (Some (codes "LastModifiedDate"))) (among_writable name o)))
+    ∙ ap (cond {A = Option Seen} (same_name (codes "LastModifiedDate") name) (Some (codes "LastModifiedDate", false))) (among_writable name o)))
 
--- a name that is no field's
-pub unknown_bad : (o : Object) (name : List ℕ) → false ≡ same_name (chars (codes "Id")) name → false ≡ same_name (chars (codes "CreatedDate")) name
-    → false ≡ same_name (chars (codes "LastModifiedDate")) name → false ≡ has_writable o name → Some name ≡ bad_name o name
-unknown_bad o name i c m w =
-    let i' : same_name (codes "Id") name ≡ false = ap (λ x. same_name x name) (sym id_text) ∙ sym i in
-    let c' : same_name (codes "CreatedDate") name ≡ false = ap (λ x. same_name x name) (sym created_text) ∙ sym c in
-    let m' : same_name (codes "LastModifiedDate") name ≡ false = ap (λ x. same_name x name) (sym modified_text) ∙ sym m in
-    rw (bad_name_is o name, i', c', m', sym w) refl
+-- the same by cases
+pub id_column : (o : Object) (name : List ℕ) (s : Seen) → true ≡ same_name id_name name → s ≡ (id_name, false) → Some s ≡ option_map seen (column_named o name)
+id_column o name s i is = rw (column_is o name, ← i, is) refl
+
+pub created_column : (o : Object) (name : List ℕ) (s : Seen) → false ≡ same_name id_name name → true ≡ same_name created_name name
+    → s ≡ (created_name, false) → Some s ≡ option_map seen (column_named o name)
+created_column o name s i c is = rw (column_is o name, ← i, ← c, is) refl
+
+pub modified_column : (o : Object) (name : List ℕ) (s : Seen) → false ≡ same_name id_name name → false ≡ same_name created_name name → true ≡ same_name modified_name name
+    → s ≡ (modified_name, false) → Some s ≡ option_map seen (column_named o name)
+modified_column o name s i c m is = rw (column_is o name, ← i, ← c, ← m, is) refl
+
+pub other_column : (o : Object) (name : List ℕ) (r : Option Seen) → false ≡ same_name id_name name → false ≡ same_name created_name name → false ≡ same_name modified_name name
+    → r ≡ writable_named o name → r ≡ option_map seen (column_named o name)
+other_column o name r i c m is = rw (column_is o name, ← i, ← c, ← m) is
+
+-- the first place with this name
+place_seen : (fields : List FieldPlace) (name : List ℕ)
+    → custom_seen (map field_of_place fields) name ≡ option_map (λ f. (f.name, true)) (find (λ f. same_name f.name name) fields)
+place_seen [] name = refl
+place_seen (f ∷ fields) name =
+    sym (one_custom name (field_of_place f) (map field_of_place fields))
+    ∙ ap (cond {A = Option Seen} (same_name f.name name) (Some (f.name, true))) (place_seen fields name)
+    ∙ by (same_name f.name name) (find (λ g. same_name g.name name) fields)
+  where
+    by : (b : Bool) (rest : Option FieldPlace) → cond {A = Option Seen} b (Some (f.name, true)) (option_map (λ g. (g.name, true)) rest) ≡ option_map (λ g. (g.name, true)) (cond b (Some f) rest)
+    by true rest = refl
+    by false rest = refl
+
+-- so the field that was found is seen
+pub seen_there : (fields slice : List FieldPlace) (name : List ℕ) (f : FieldPlace) (n : List ℕ) (s : Seen)
+    → slice ≡ fields → Some f ≡ find (λ g. same_name g.name name) slice → n ≡ f.name → s ≡ (n, true) → Some s ≡ custom_seen (map field_of_place fields) name
+seen_there fields slice name f n s same found named is = rw (place_seen fields name, ← same, ← found, is, named) refl
+
+pub unseen : (fields slice : List FieldPlace) (name : List ℕ)
+    → slice ≡ fields → None ≡ find (λ g. same_name g.name name) slice → None ≡ custom_seen (map field_of_place fields) name
+unseen fields slice name same none = rw (place_seen fields name, ← same, ← none) refl
+
+-- ---- what is made of the field with a name
+
+-- the name that is refused
+pub bad_name_is : (o : Object) (name : List ℕ)
+    → bad_name o name ≡ in_case (option_map seen (column_named o name)) (Some name) (λ s. if s.1 then None else Some s.0)
+bad_name_is o name = by (column_named o name)
+  where
+    by : (found : Option Column) → in_case found (Some name) unwritable ≡ in_case (option_map seen found) (Some name) (λ s. if s.1 then None else Some s.0)
+    by None = refl
+    by (Some c) = refl
+
+-- the declared name
+pub declared_is : (o : Object) (name : List ℕ) → declared_name o name ≡ in_case (option_map seen (column_named o name)) name (λ s. s.0)
+declared_is o name = by (column_named o name)
+  where
+    by : (found : Option Column) → in_case found name (λ c. c.name) ≡ in_case (option_map seen found) name (λ s. s.0)
+    by None = refl
+    by (Some c) = refl
 
 -- a field is refused under the name that is
 pub bad_field_is : (o : Object) (x : Assignment) → bad_field o x ≡ option_map (λ n. refusal.InvalidField n) (bad_name o x.field)
@@ -110,13 +169,3 @@ bad_field_is o x = of_found (column_named o x.field)
         ≡ option_map (λ n. refusal.InvalidField n) (in_case found (Some x.field) unwritable)
     of_found None = refl
     of_found (Some c) = of_writable (is_writable c.at) c.name
-
--- one more name of a body
-pub bad_fields_more : (t : Tenant) (o : Object) (x : Assignment) (xs : List Assignment)
-    → bad_fields t o None (x ∷ xs) ≡ in_case (bad_name o x.field) (bad_fields t o None xs) (λ n. Some (refusal.InvalidField n))
-bad_fields_more t o x xs = rw (bad_field_is o x) (of_name (bad_name o x.field))
-  where
-    of_name : (bad : Option (List ℕ)) → first_refusal (first_refusal (option_map (λ n. refusal.InvalidField n) bad ∷ None ∷ []) ∷ map (λ y. first_refusal (bad_field o y ∷ other_key t None y ∷ [])) xs)
-        ≡ in_case bad (bad_fields t o None xs) (λ n. Some (refusal.InvalidField n))
-    of_name None = refl
-    of_name (Some n) = refl

@@ -1,12 +1,13 @@
 -- The fields of the object that a layout spells.
-use Rattle.std.proofs.Common.{◌≡◌, ℕ, ◌+◌, Bool, ◌||◌, List, [], ◌∷◌, map, None, refl, sym, ap, ◌∙◌}
+use Rattle.std.proofs.Common.{◌≡◌, ℕ, ◌+◌, Bool, ◌||◌, List, [], ◌∷◌, map, Option, refl, sym, ap, ◌∙◌}
 use Rattle.std.specs.List.{enumerate_from, list_any}
 use Rattle.ut_model.specs.declared.record.Record.{Record}
 use Rattle.ut_model.specs.declared.record_bodies.Assignment.{Assignment}
 use Rattle.ut_model.specs.Creates.{empty_record}
 use Rattle.ut_model.specs.Edits.{bad_value, required_missing, with_given}
-use Rattle.ut_model.specs.Fields.{column_named, is_detail, is_master, same_name}
-use Rattle.ut_model.specs.Keys.{bad_fields}
+use Rattle.ut_model.specs.Fields.{column_named, is_detail, is_master}
+use Rattle.ut_model.specs.Keys.{Key, bad_fields}
+use Rattle.ut_model.specs.Upserts.{declared_name, unique_named}
 use Rattle.ut_model.specs.Objects.{Numbered}
 use Rattle.ut_model.specs.Paths.{Asked}
 use Rattle.ut_model.specs.SoundRecords.{kinds_of}
@@ -15,7 +16,6 @@ use Rattle.ut_stands.specs.Layouts.{layout_of, place_of}
 use Rattle.ut_stands.specs.Plan.{OrgPlan}
 use Rattle.ut_stands.specs.declared.layout.Layout.{Layout}
 use Rattle.ut_rules.specs.Objects.{field_of_place, numbered_in, object_of_layout}
-use Rattle.ut_given.specs.inner.Columns.{has_named}
 
 pub any_map : {X Y : Type 0} (test : Y → Bool) (make : X → Y) (xs : List X) → list_any test (map make xs) ≡ list_any (λ x. test (make x)) xs
 any_map test make [] = refl
@@ -23,9 +23,6 @@ any_map test make (x ∷ xs) = ap (λ (b : Bool). test (make x) || b) (any_map t
 
 pub detail_is : (l : Layout) → is_detail (object_of_layout l) ≡ list_any (λ f. is_master f.kind) l.fields
 detail_is l = any_map (λ f. is_master f.kind) field_of_place l.fields
-
-pub named_is : (l : Layout) (name : List ℕ) → has_named name (object_of_layout l).fields ≡ list_any (λ f. same_name f.name name) l.fields
-named_is l name = any_map (λ f. same_name f.name name) field_of_place l.fields
 
 -- ---- the layout of an object
 
@@ -44,13 +41,25 @@ object_same : (org : ℕ) (p : OrgPlan) (t : Tenant) (o : Numbered) → object_o
 object_same org p t o =
     ap (with_fields o.object) (fields_same p o.number 0 o.object.fields)
 
-plain_fields : (t : Tenant) (o : Object) (given : List Assignment) → bad_fields t o None given ≡ bad_fields t (plain_object o) None given
+plain_fields : (t : Tenant) (o : Object) (key : Option Key) (given : List Assignment) → bad_fields t o key given ≡ bad_fields t (plain_object o) key given
 unfolding column_named
-plain_fields t o given = refl
+plain_fields t o key given = refl
 
-pub fields_alike : (org : ℕ) (p : OrgPlan) (t : Tenant) (o : Numbered) (given : List Assignment)
-    → bad_fields t o.object None given ≡ bad_fields t (object_of_layout (layout_of org p t o)) None given
-fields_alike org p t o given = plain_fields t o.object given ∙ ap (λ (x : Object). bad_fields t x None given) (sym (object_same org p t o))
+pub fields_alike : (org : ℕ) (p : OrgPlan) (t : Tenant) (o : Numbered) (key : Option Key) (given : List Assignment)
+    → bad_fields t o.object key given ≡ bad_fields t (object_of_layout (layout_of org p t o)) key given
+fields_alike org p t o key given = plain_fields t o.object key given ∙ ap (λ (x : Object). bad_fields t x key given) (sym (object_same org p t o))
+
+pub unique_alike : (org : ℕ) (p : OrgPlan) (t : Tenant) (o : Numbered) (name : List ℕ)
+    → unique_named o.object name ≡ unique_named (object_of_layout (layout_of org p t o)) name
+unique_alike org p t o name = ap (λ (x : Object). unique_named x name) (sym (object_same org p t o))
+
+plain_name : (o : Object) (name : List ℕ) → declared_name o name ≡ declared_name (plain_object o) name
+unfolding column_named
+plain_name o name = refl
+
+pub declared_alike : (org : ℕ) (p : OrgPlan) (t : Tenant) (o : Numbered) (name : List ℕ)
+    → declared_name o.object name ≡ declared_name (object_of_layout (layout_of org p t o)) name
+declared_alike org p t o name = plain_name o.object name ∙ ap (λ (x : Object). declared_name x name) (sym (object_same org p t o))
 
 pub values_alike : (org : ℕ) (p : OrgPlan) (t : Tenant) (o : Numbered) (given : List Assignment)
     → bad_value t o.object given ≡ bad_value t (object_of_layout (layout_of org p t o)) given

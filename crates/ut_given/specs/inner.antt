@@ -1,4 +1,5 @@
 -- Words of private functions.
 pub mod Columns
 pub mod Fields
+pub mod Keys
 pub mod Read

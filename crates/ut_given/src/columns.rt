@@ -1,19 +1,23 @@
-//! The names of a body: fields that the object doesn't have, or that can't be given.
+//! The fields of an object by their names, with those that every object has.
 
-ghost use Rattle.std.specs.Prelude.{◌≡◌, IfOk, None};
-ghost use Rattle.std.specs.List.{list_any};
+ghost use Rattle.std.specs.Prelude.{◌≡◌, true, false};
+ghost use Rattle.std.specs.List.{find, list_any};
 ghost use Rattle.std.specs.Option.{option_map};
 ghost use Rattle.std.specs.Str.{chars};
 ghost use Rattle.ut_rules.specs.Objects.{object_of_layout};
-ghost use Rattle.ut_given.specs.inner.Columns.{bad_name, has_named, has_writable};
-ghost use Rattle.ut_model.specs.Fields.{is_detail, is_master, same_name};
-ghost use Rattle.ut_model.specs.Keys.{bad_fields};
-ghost use Rattle.ut_model.specs.Tenant.{Tenant};
+ghost use Rattle.ut_given.specs.inner.Columns.{custom_seen, seen, shown, writable_named};
+ghost use Rattle.ut_model.specs.Fields.{column_named, is_detail, is_master, same_name};
 
-use std::alloc::{AllocError, Global};
-use ut_model::{Assignment, Refusal, same_name};
+use ut_model::same_name;
 use ut_stands::{FieldPlace, Layout};
-use ut_value::{FieldType, Text};
+use ut_value::FieldType;
+
+/// A field's name as it is declared, and whether an edit may give it.
+#[derive(Drop)]
+pub(crate) struct Column<'a> {
+    pub name: &'a str,
+    pub is_writable: bool,
+}
 
 /// Whether a type is the reference of a detail to its master.
 pub(crate) fn is_master(kind: &FieldType) -> bool
@@ -36,69 +40,70 @@ pub(crate) fn is_detail(layout: &Layout) -> bool
     has_master(layout.fields.as_slice())
 }
 
-fn is_among(fields: &[FieldPlace], name: &str) -> bool
-    ensures { result ≡ list_any (λ f. same_name f.name (chars name.now)) fields.now }
+// The first of these fields that has the name.
+fn place_named<'a>(fields: &'a [FieldPlace], name: &str) -> Option<&'a FieldPlace>
+    ensures { option_map (λ f. f.now) result ≡ find (λ f. same_name f.name (chars name.now)) fields.now }
 {
     fields
         .iter()
-        .any(|field| same_name(field.name.as_str(), name))
+        .find(|field| same_name(field.name.as_str(), name))
 }
 
-// Whether a custom field has this name.
-#[tactic(auto, using(crate::proofs::Spelled::named_is))]
-fn has_field(layout: &Layout, name: &str) -> bool
-    ensures { result ≡ has_named (chars name.now) (object_of_layout layout.now).fields }
+// A field that an edit may give.
+fn writable(name: &str) -> Column<'_>
+    ensures { shown result ≡ (chars name.now, true) }
 {
-    is_among(layout.fields.as_slice(), name)
+    Column {
+        name,
+        is_writable: true,
+    }
 }
 
-// Whether a field that can be given has this name.
+// A field that no edit gives.
+fn unwritable(name: &str) -> Column<'_>
+    ensures { shown result ≡ (chars name.now, false) }
+{
+    Column {
+        name,
+        is_writable: false,
+    }
+}
+
+// The custom field with this name.
+fn custom_named<'a>(layout: &'a Layout, name: &str) -> Option<Column<'a>>
+    ensures { option_map shown result ≡ custom_seen (object_of_layout layout.now).fields (chars name.now) }
+{
+    match place_named(layout.fields.as_slice(), name) {
+        None => None,
+        Some(field) => Some(writable(field.name.as_str())),
+    }
+}
+
+// The field with this name among those that an edit may give.
 #[tactic(auto, using(crate::proofs::Names::name_text, crate::proofs::Names::owner_text))]
-fn is_writable(layout: &Layout, name: &str) -> bool
-    ensures { result ≡ has_writable (object_of_layout layout.now) (chars name.now) }
+fn writable_named<'a>(layout: &'a Layout, name: &str) -> Option<Column<'a>>
+    ensures { option_map shown result ≡ writable_named (object_of_layout layout.now) (chars name.now) }
 {
-    same_name("Name", name)
-        || same_name("OwnerId", name) && !is_detail(layout)
-        || has_field(layout, name)
+    if same_name("Name", name) {
+        Some(writable("Name"))
+    } else if same_name("OwnerId", name) && !is_detail(layout) {
+        Some(writable("OwnerId"))
+    } else {
+        custom_named(layout, name)
+    }
 }
 
-// The name that is refused, as declared or else as given.
-#[tactic(auto, using(crate::proofs::Refused::bad_name_is, crate::proofs::Names::id_text, crate::proofs::Names::created_text, crate::proofs::Names::modified_text))]
-fn bad_name<'a>(layout: &Layout, name: &'a str) -> Option<&'a str>
-    ensures { option_map (λ bad. chars bad.now) result ≡ bad_name (object_of_layout layout.now) (chars name.now) }
+/// The field with this name, whatever the case of its letters, if the object has one.
+pub(crate) fn column_named<'a>(layout: &'a Layout, name: &str) -> Option<Column<'a>>
+    ensures { option_map shown result ≡ option_map seen (column_named (object_of_layout layout.now) (chars name.now)) }
 {
     if same_name("Id", name) {
-        Some("Id")
+        Some(unwritable("Id"))
     } else if same_name("CreatedDate", name) {
-        Some("CreatedDate")
+        Some(unwritable("CreatedDate"))
     } else if same_name("LastModifiedDate", name) {
-        Some("LastModifiedDate")
-    } else if is_writable(layout, name) {
-        None
+        Some(unwritable("LastModifiedDate"))
     } else {
-        Some(name)
+        writable_named(layout, name)
     }
-}
-
-/// INVALID_FIELD: the first name of a body that the object doesn't have, or whose field can't be given, if there is one.
-///
-/// # Errors
-///
-/// When out of memory.
-pub fn bad_fields(
-    alloc: Global,
-    layout: &Layout,
-    given: &[Assignment],
-) -> Result<Option<Refusal>, AllocError>
-    ensures { IfOk result (λ r. (t : Tenant) → r ≡ bad_fields t (object_of_layout layout.now) None given.now) }
-{
-    let mut rest = given;
-    'names: while let Some((first, more)) = rest.split_first() {
-        if let Some(bad) = bad_name(layout, first.field.as_str()) {
-            let name = Text::from_str(alloc, bad)?;
-            return Ok(Some(Refusal::InvalidField { name }));
-        }
-        rest = more;
-    }
-    Ok(None)
 }

@@ -66,7 +66,8 @@ pub fn empty_record(
     user: Id,
     now: i64,
 ) -> Result<Record, AllocError>
-    ensures same { IfOk result (λ r. (a : Asked) → a.user.id ≡ user → a.now ≡ now → id ≡ made (record_prefix layout.now.object) a.tenant.counter
+    ensures same { IfOk result (λ r. (a : Asked) → a.user.id ≡ user → a.now ≡ now
+        → id ≡ made (record_prefix layout.now.object) a.tenant.counter
         → r ≡ empty_record a (numbered_in layout.now)) }
     ensures valid { IfOk result (λ r. IsTrue (all_valid (kinds_of (object_of_layout layout.now)) r.values)) }
 {

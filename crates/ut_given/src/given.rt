@@ -3,28 +3,25 @@
 ghost use Rattle.std.specs.Prelude.{◌≡◌, List, ◌∷◌, IfOk, IsTrue, Ok, map};
 ghost use Rattle.std.specs.List.{list_all};
 ghost use Rattle.ut_formula.specs.Meaning.{value_at};
-ghost use Rattle.ut_given.specs.Given.{GivesValues, IsGiven, IsInJson, FindNone};
+ghost use Rattle.ut_given.specs.Given.{FindNone, GivesValues, IsGiven, IsPlain, all_given};
 ghost use Rattle.ut_data.specs.Decoding.{has_types};
-ghost use Rattle.ut_rules.specs.Objects.{field_of_place, object_of_layout};
+ghost use Rattle.ut_rules.specs.Objects.{object_of_layout};
 ghost use Rattle.ut_given.specs.inner.Fields.{column_at, columns_from};
-ghost use Rattle.ut_given.specs.inner.Read.{ValueOrRefusal, JudgesValue, as_unread, owner_in, refused_among, value_over};
+ghost use Rattle.ut_given.specs.inner.Read.{ValueOrRefusal, JudgesValue, owner_in, refused_among, value_over};
 ghost use Rattle.ut_model.specs.Edits.{bad_value, given_owner, given_to, with_given};
 ghost use Rattle.ut_model.specs.Fields.{name_column, owner_columns, ref_of};
-ghost use Rattle.ut_model.specs.Limits.{name_limit};
 ghost use Rattle.ut_model.specs.declared.record_bodies.Assignment.{Assignment};
 ghost use Rattle.ut_model.specs.Paths.{Asked};
-ghost use Rattle.ut_model.specs.SoundRecords.{all_valid, kinds_of};
 ghost use Rattle.ut_model.specs.Tenant.{Tenant};
 ghost use Rattle.ut_stands.specs.declared.layout.Layout.{Layout};
-ghost use Rattle.ut_value.specs.declared.value.FieldType.TheVariants as type;
 ghost use Rattle.ut_value.specs.Types.{is_type};
-ghost use Rattle.ut_value.specs.Values.{valid};
 
 use crate::columns::is_detail;
+use crate::key::AllGiven;
 use crate::reading::{value_over, value_to};
-use crate::unread::Unread;
+use crate::unread::{Unread, ended};
 use std::alloc::{AllocError, Global};
-use ut_model::{Assignment, Record, Refusal};
+use ut_model::{Record, Refusal};
 use ut_stands::{FieldPlace, Layout};
 use ut_value::{FieldType, Id, Items, OnDelete, Value};
 
@@ -59,10 +56,10 @@ fn owner_in(read: Option<Result<Value, Unread>>) -> Result<Option<Id>, Unread>
 }
 
 // The owner that is given, if one is. Its id is read as that of a lookup is.
-fn owner_given(alloc: Global, layout: &Layout, given: &[Assignment]) -> Result<Option<Id>, Unread>
-    ensures { FindNone given.now → (t : Tenant)
-        → ValueOrRefusal (refused_among t given.now (owner_columns (object_of_layout layout.now)))
-        (λ owner. owner ≡ given_owner t (object_of_layout layout.now) given.now) result }
+fn owner_given(alloc: Global, layout: &Layout, given: &AllGiven<'_>) -> Result<Option<Id>, Unread>
+    ensures { FindNone given.now.body.now → (t : Tenant)
+        → ValueOrRefusal (refused_among t (all_given given.now) (owner_columns (object_of_layout layout.now)))
+        (λ owner. owner ≡ given_owner t (object_of_layout layout.now) (all_given given.now)) result }
 {
     if is_detail(layout) {
         Ok(None)
@@ -80,11 +77,9 @@ fn owner_given(alloc: Global, layout: &Layout, given: &[Assignment]) -> Result<O
 }
 
 // The value of the name, over what the record had.
-fn name_over(alloc: Global, given: &[Assignment], old: &Record) -> Result<Value, Unread>
-    ensures value { FindNone given.now → (t : Tenant)
-        → JudgesValue (given_to t given.now name_column) (value_at old.now.values 0) result }
-    ensures valid { IsInJson given.now → IsTrue (valid (type.Text name_limit) (value_at old.now.values 0))
-        → IfOk result (λ value. IsTrue (valid (type.Text name_limit) value)) }
+fn name_over(alloc: Global, given: &AllGiven<'_>, old: &Record) -> Result<Value, Unread>
+    ensures { FindNone given.now.body.now → (t : Tenant)
+        → JudgesValue (given_to t (all_given given.now) name_column) (value_at old.now.values 0) result }
 {
     value_over(alloc, given, "Name", &FieldType::Text(80), old, 0)
 }
@@ -93,14 +88,12 @@ fn name_over(alloc: Global, given: &[Assignment], old: &Record) -> Result<Value,
 fn field_over(
     alloc: Global,
     field: &FieldPlace,
-    given: &[Assignment],
+    given: &AllGiven<'_>,
     old: &Record,
     position: usize,
 ) -> Result<Value, Unread>
-    ensures value { IsTrue (is_type field.now.kind) → FindNone given.now → (t : Tenant)
-        → JudgesValue (given_to t given.now (column_at position field.now)) (value_at old.now.values position) result }
-    ensures valid { IsInJson given.now → IsTrue (valid field.now.kind (value_at old.now.values position))
-        → IfOk result (λ value. IsTrue (valid field.now.kind value)) }
+    ensures { IsTrue (is_type field.now.kind) → FindNone given.now.body.now → (t : Tenant)
+        → JudgesValue (given_to t (all_given given.now) (column_at position field.now)) (value_at old.now.values position) result }
 {
     value_over(
         alloc,
@@ -113,20 +106,17 @@ fn field_over(
 }
 
 // The value of the name, and behind it those of these fields, over what the record had.
-#[tactic(auto, using(crate::proofs::Judging::judged_first, crate::proofs::Judging::judged_last, crate::proofs::Valid::valid_first, crate::proofs::Valid::valid_last))]
+#[tactic(auto, using(crate::proofs::Judging::judged_first, crate::proofs::Judging::judged_last))]
 fn values_over(
     alloc: Global,
     fields: &[FieldPlace],
-    given: &[Assignment],
+    given: &AllGiven<'_>,
     old: &Record,
     name: Value,
 ) -> Result<Vec<Value>, Unread>
-    ensures value { IsTrue (list_all (λ f. is_type f.kind) fields.now) → FindNone given.now → (t : Tenant)
-        → ValueOrRefusal (refused_among t given.now (columns_from 1 fields.now))
-        (λ vs. vs.items ≡ name ∷ map (value_over t given.now old.now) (columns_from 1 fields.now)) result }
-    ensures valid { IsInJson given.now → IsTrue (valid (type.Text name_limit) name)
-        → IsTrue (all_valid (type.Text name_limit ∷ map (λ f. f.kind) (map field_of_place fields.now)) old.now.values)
-        → IfOk result (λ vs. IsTrue (all_valid (type.Text name_limit ∷ map (λ f. f.kind) (map field_of_place fields.now)) vs.items)) }
+    ensures { IsTrue (list_all (λ f. is_type f.kind) fields.now) → FindNone given.now.body.now → (t : Tenant)
+        → ValueOrRefusal (refused_among t (all_given given.now) (columns_from 1 fields.now))
+        (λ vs. vs.items ≡ name ∷ map (value_over t (all_given given.now) old.now) (columns_from 1 fields.now)) result }
 {
     let mut values = Vec::new(alloc);
     values.push(name)?;
@@ -145,13 +135,12 @@ fn values_over(
 fn read_all(
     alloc: Global,
     layout: &Layout,
-    given: &[Assignment],
+    given: &AllGiven<'_>,
     old: &Record,
 ) -> Result<GivenValues, Unread>
-    ensures value { IsTrue (has_types layout.now) → FindNone given.now → (t : Tenant)
-        → ValueOrRefusal (bad_value t (object_of_layout layout.now) given.now) (IsGiven t (object_of_layout layout.now) given.now old.now) result }
-    ensures valid { IsInJson given.now → IsTrue (all_valid (kinds_of (object_of_layout layout.now)) old.now.values)
-        → IfOk result (λ x. IsTrue (all_valid (kinds_of (object_of_layout layout.now)) x.values)) }
+    ensures { IsTrue (has_types layout.now) → FindNone given.now.body.now → (t : Tenant)
+        → ValueOrRefusal (bad_value t (object_of_layout layout.now) (all_given given.now))
+        (IsGiven t (object_of_layout layout.now) (all_given given.now) old.now) result }
 {
     let name = match name_over(alloc, given, old) {
         Ok(name) => name,
@@ -170,19 +159,8 @@ fn read_all(
     }
 }
 
-// What was read, where there was memory.
-fn ended(read: Result<GivenValues, Unread>) -> Result<Result<GivenValues, Refusal>, AllocError>
-    ensures { IfOk result (λ r. read ≡ as_unread r) }
-{
-    match read {
-        Ok(values) => Ok(Ok(values)),
-        Err(Unread::Refused(refusal)) => Ok(Err(refusal)),
-        Err(Unread::Memory) => Err(AllocError),
-    }
-}
-
-/// The values that a body gives to a record of an object, over what the record had, and the owner if one is given; or why the
-/// first value that is refused is, in the order of the object's fields. Each is read once.
+/// The values that are given to a record of an object, over what the record had, and the owner if one is given; or why the first
+/// value that is refused is, in the order of the object's fields. Each is read once.
 ///
 /// What is said of it is said of bodies in which nothing finds a record: there a value that does is refused as of a wrong type.
 /// The types of the object's fields are within their bounds, as those of every organisation are.
@@ -193,12 +171,10 @@ fn ended(read: Result<GivenValues, Unread>) -> Result<Result<GivenValues, Refusa
 pub fn read_given(
     alloc: Global,
     layout: &Layout,
-    given: &[Assignment],
+    given: &AllGiven<'_>,
     old: &Record,
 ) -> Result<Result<GivenValues, Refusal>, AllocError>
-    ensures value { IsTrue (has_types layout.now) → FindNone given.now → IfOk result (GivesValues layout.now given.now old.now) }
-    ensures valid { IsInJson given.now → IsTrue (all_valid (kinds_of (object_of_layout layout.now)) old.now.values)
-        → IfOk result (λ r. IfOk r (λ x. IsTrue (all_valid (kinds_of (object_of_layout layout.now)) x.values))) }
+    ensures { IsTrue (has_types layout.now) → IsPlain given.now → IfOk result (GivesValues layout.now (all_given given.now) old.now) }
 {
     ended(read_all(alloc, layout, given, old))
 }

@@ -1,12 +1,13 @@
 //! What holds of the objects that layouts spell.
 
-ghost use Rattle.std.specs.Prelude.{◌≡◌, ℕ, List, None};
+ghost use Rattle.std.specs.Prelude.{◌≡◌, ℕ, List, Option};
 ghost use Rattle.ut_rules.specs.Objects.{numbered_in, object_of_layout};
 ghost use Rattle.ut_model.specs.declared.record.Record.{Record};
 ghost use Rattle.ut_model.specs.declared.record_bodies.Assignment.{Assignment};
 ghost use Rattle.ut_model.specs.Creates.{empty_record};
 ghost use Rattle.ut_model.specs.Edits.{bad_value, required_missing, with_given};
-ghost use Rattle.ut_model.specs.Keys.{bad_fields};
+ghost use Rattle.ut_model.specs.Keys.{Key, bad_fields};
+ghost use Rattle.ut_model.specs.Upserts.{declared_name, unique_named};
 ghost use Rattle.ut_model.specs.Objects.{Numbered};
 ghost use Rattle.ut_model.specs.Paths.{Asked};
 ghost use Rattle.ut_model.specs.SoundRecords.{kinds_of};
@@ -17,8 +18,12 @@ ghost use Rattle.ut_stands.specs.Plan.{OrgPlan};
 /// An object and the one that its layout spells: names, values and required fields are judged alike, and records are made alike,
 /// whatever the object's validation rules are. The call does nothing.
 pub fn given_laws()
-    ensures bad_fields { (org : ℕ) (p : OrgPlan) (t : Tenant) (o : Numbered) (given : List Assignment)
-        → bad_fields t o.object None given ≡ bad_fields t (object_of_layout (layout_of org p t o)) None given }
+    ensures unique_named { (org : ℕ) (p : OrgPlan) (t : Tenant) (o : Numbered) (name : List ℕ)
+        → unique_named o.object name ≡ unique_named (object_of_layout (layout_of org p t o)) name }
+    ensures declared_name { (org : ℕ) (p : OrgPlan) (t : Tenant) (o : Numbered) (name : List ℕ)
+        → declared_name o.object name ≡ declared_name (object_of_layout (layout_of org p t o)) name }
+    ensures bad_fields { (org : ℕ) (p : OrgPlan) (t : Tenant) (o : Numbered) (key : Option Key) (given : List Assignment)
+        → bad_fields t o.object key given ≡ bad_fields t (object_of_layout (layout_of org p t o)) key given }
     ensures bad_value { (org : ℕ) (p : OrgPlan) (t : Tenant) (o : Numbered) (given : List Assignment)
         → bad_value t o.object given ≡ bad_value t (object_of_layout (layout_of org p t o)) given }
     ensures with_given { (org : ℕ) (p : OrgPlan) (a : Asked) (o : Numbered) (given : List Assignment) (old : Record)

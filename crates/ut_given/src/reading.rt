@@ -1,50 +1,56 @@
 //! What is given to a field, read.
 
-ghost use Rattle.std.specs.Prelude.{◌≡◌, IfOk, IfSome, IsTrue, MatchResult};
+ghost use Rattle.std.specs.Prelude.{◌≡◌, [], IsTrue, MatchResult};
 ghost use Rattle.std.specs.List.{find};
 ghost use Rattle.std.specs.Option.{option_map};
 ghost use Rattle.std.specs.Str.{chars};
 ghost use Rattle.ut_formula.specs.Meaning.{value_at};
-ghost use Rattle.ut_given.specs.Given.{IsInJson, FindNone, finds_none, is_json};
+ghost use Rattle.ut_given.specs.Given.{FindNone, all_given, finds_none, key_in};
 ghost use Rattle.ut_given.specs.declared.unread.Unread.TheVariants.{Memory};
 ghost use Rattle.ut_given.specs.inner.Read.{JudgesValue, Reads, ReadsGiven};
 ghost use Rattle.ut_model.specs.Edits.{given_to};
 ghost use Rattle.ut_model.specs.Fields.{Site, column, of_type, same_name};
 ghost use Rattle.ut_model.specs.Given.{read_given};
+ghost use Rattle.ut_model.specs.Keys.{with_key};
 ghost use Rattle.ut_model.specs.Tenant.{Tenant};
 ghost use Rattle.ut_value.specs.Types.{is_type};
-ghost use Rattle.ut_value.specs.Values.{valid};
+ghost use Rattle.ut_value.specs.declared.value.FieldType.{FieldType};
 
 use crate::json::value_in_json;
+use crate::key::{AllGiven, UpsertKey};
+use crate::texts::wrong_type;
 use crate::unread::Unread;
 use std::alloc::Global;
-use ut_model::{Assignment, Given, Record, Refusal, same_name};
-use ut_value::{FieldType, Text, Value, is_type};
+use ut_model::{Assignment, Given, Record, same_name};
+use ut_value::{FieldType, Value, is_type};
 
-// That a value is of another type than its field.
-fn wrong_type(alloc: Global, name: &str) -> Unread {
-    match Text::from_str(alloc, name) {
-        Ok(field) => Unread::Refused(Refusal::WrongType { field }),
-        Err(_) => Unread::Memory,
-    }
+// A copy of a value that needs no reading.
+fn copy_of(alloc: Global, value: &Value) -> Result<Value, Unread>
+    ensures { MatchResult result (λ copy. copy ≡ value.now) (λ e. e ≡ Memory) }
+{
+    Ok(value.copy(alloc)?)
 }
 
-// The value of what is given to a field with this name and type. What finds a record is refused here.
-fn read_given(alloc: Global, name: &str, kind: &FieldType, given: &Given) -> Result<Value, Unread>
-    ensures value { IsTrue (is_type kind.now) → IsTrue (finds_none given.now) → (t : Tenant) (at : Site)
+/// The value of what is given to a field with this name and type. What finds a record is refused here.
+pub(crate) fn read_given(
+    alloc: Global,
+    name: &str,
+    kind: &FieldType,
+    given: &Given,
+) -> Result<Value, Unread>
+    ensures { IsTrue (is_type kind.now) → IsTrue (finds_none given.now) → (t : Tenant) (at : Site)
         → Reads (read_given t (column (chars name.now) (of_type kind.now) at) given.now) result }
-    ensures valid { IsTrue (is_json given.now) → IfOk result (λ value. IsTrue (valid kind.now value)) }
 {
     match given {
-        Given::Read(value) => Ok(value.copy(alloc)?),
+        Given::Read(value) => copy_of(alloc, value),
         Given::Json(json) => {
             if is_type(kind) {
                 value_in_json(alloc, name, kind, json)
             } else {
-                Err(wrong_type(alloc, name))
+                Err(Unread::Refused(wrong_type(alloc, name)?))
             }
         }
-        Given::Find { .. } => Err(wrong_type(alloc, name)),
+        Given::Find { .. } => Err(Unread::Refused(wrong_type(alloc, name)?)),
     }
 }
 
@@ -55,19 +61,35 @@ fn assignment_to<'a>(given: &'a [Assignment], name: &str) -> Option<&'a Assignme
     given.iter().find(|x| same_name(x.field.as_str(), name))
 }
 
-/// What is read of what is given to the field with this name and type, if anything is.
+// What the key gives to the field with this name, if the key is that field's.
+fn key_to(alloc: Global, key: &Option<UpsertKey<'_>>, name: &str) -> Option<Result<Value, Unread>>
+    ensures { (t : Tenant) (kind : FieldType) (at : Site)
+        → ReadsGiven (given_to t (with_key (option_map key_in key.now) []) (column (chars name.now) (of_type kind) at)) result }
+{
+    match key {
+        None => None,
+        Some(key) => {
+            if same_name(key.field.name.as_str(), name) {
+                Some(copy_of(alloc, key.value))
+            } else {
+                None
+            }
+        }
+    }
+}
+
+/// What is read of what is given to the field with this name and type, if anything is: by the body, or else by the key.
 pub(crate) fn value_to(
     alloc: Global,
-    given: &[Assignment],
+    given: &AllGiven<'_>,
     name: &str,
     kind: &FieldType,
 ) -> Option<Result<Value, Unread>>
-    ensures value { IsTrue (is_type kind.now) → FindNone given.now → (t : Tenant) (at : Site)
-        → ReadsGiven (given_to t given.now (column (chars name.now) (of_type kind.now) at)) result }
-    ensures valid { IsInJson given.now → IfSome result (λ read. IfOk read (λ value. IsTrue (valid kind.now value))) }
+    ensures { IsTrue (is_type kind.now) → FindNone given.now.body.now → (t : Tenant) (at : Site)
+        → ReadsGiven (given_to t (all_given given.now) (column (chars name.now) (of_type kind.now) at)) result }
 {
-    match assignment_to(given, name) {
-        None => None,
+    match assignment_to(given.body, name) {
+        None => key_to(alloc, &given.key, name),
         Some(assignment) => Some(read_given(alloc, name, kind, &assignment.given)),
     }
 }
@@ -78,23 +100,22 @@ fn old_value(alloc: Global, old: &Record, position: usize) -> Result<Value, Unre
 {
     match old.values.as_slice().get(position) {
         None => Ok(Value::Null),
-        Some(value) => Ok(value.copy(alloc)?),
+        Some(value) => copy_of(alloc, value),
     }
 }
 
 /// The value of the field with this name and type: what is given, or else what the record had at its position.
 pub(crate) fn value_over(
     alloc: Global,
-    given: &[Assignment],
+    given: &AllGiven<'_>,
     name: &str,
     kind: &FieldType,
     old: &Record,
     position: usize,
 ) -> Result<Value, Unread>
-    ensures value { IsTrue (is_type kind.now) → FindNone given.now → (t : Tenant) (at : Site)
-        → JudgesValue (given_to t given.now (column (chars name.now) (of_type kind.now) at)) (value_at old.now.values position) result }
-    ensures valid { IsInJson given.now → IsTrue (valid kind.now (value_at old.now.values position))
-        → IfOk result (λ value. IsTrue (valid kind.now value)) }
+    ensures { IsTrue (is_type kind.now) → FindNone given.now.body.now → (t : Tenant) (at : Site)
+        → JudgesValue (given_to t (all_given given.now) (column (chars name.now) (of_type kind.now) at))
+        (value_at old.now.values position) result }
 {
     match value_to(alloc, given, name, kind) {
         Some(read) => read,

@@ -1,3 +1,8 @@
+//! Why a value wasn't read.
+
+ghost use Rattle.std.specs.Prelude.{◌≡◌, IfOk};
+ghost use Rattle.ut_given.specs.inner.Read.{as_unread};
+
 use std::alloc::{AllocError, AllocFailed};
 use ut_model::Refusal;
 
@@ -29,5 +34,16 @@ impl<T: Drop> From<AllocFailed<T>> for Unread {
 
     fn from(_: AllocFailed<T>) -> Unread {
         Unread::Memory
+    }
+}
+
+/// What was read, or its refusal, where there was memory.
+pub(crate) fn ended<X: Drop>(read: Result<X, Unread>) -> Result<Result<X, Refusal>, AllocError>
+    ensures { IfOk result (λ r. read ≡ as_unread r) }
+{
+    match read {
+        Ok(value) => Ok(Ok(value)),
+        Err(Unread::Refused(refusal)) => Ok(Err(refusal)),
+        Err(Unread::Memory) => Err(AllocError),
     }
 }

@@ -3,6 +3,7 @@ use Rattle.std.proofs.Common.{◌≡◌, ℕ, suc, zero, ◌+◌, ◌≤◌, Boo
 use Rattle.std.specs.Prelude.{slice_get}
 use Rattle.std.specs.List.{AllByRecursion, enumerate_from}
 use Rattle.std.proofs.lemmas.Bool.Decides.{nat_tests}
+use Rattle.ut_data.proofs.Lists.{and_left, and_right}
 use Rattle.ut_data.specs.Decoding.{has_types}
 use Rattle.ut_model.specs.Objects.{Numbered, object_numbered}
 use Rattle.ut_model.specs.Sound.{IsSound}
@@ -10,7 +11,7 @@ use Rattle.ut_model.specs.SoundMetadata.{IsSoundObject}
 use Rattle.ut_model.specs.Tenant.{Field, Object, Tenant}
 use Rattle.ut_named.proofs.Facts.{some_is}
 use Rattle.ut_named.proofs.Objects.{IsOn, Named}
-use Rattle.ut_named.specs.Usable.{IsUsable}
+use Rattle.ut_named.specs.Usable.{IsReady, IsUsable}
 use Rattle.ut_pivot.specs.Turned.{converts}
 use Rattle.ut_stands.specs.declared.layout.Layout.{Layout}
 use Rattle.ut_stands.specs.Layouts.{layout_of, place_of}
@@ -54,6 +55,19 @@ usable typed org q t o l sound there is =
       few = omega (arith, as_many q o.number 0 o.object.fields, (sound_object t o.number o.object sound there).few_fields);
       types = typed org o.number q t o.object sound there;
     })
+
+-- what passes the test is ready
+pub ready_so : (org : ℕ) (l : Layout) → l.org ≡ org → ((nat_le (length l.fields) 40 && has_types l) && converts l) ≡ true → IsReady org l
+ready_so org l own h =
+    let can = and_left (nat_le (length l.fields) 40 && has_types l) (converts l) h in
+    record {
+      own = own;
+      usable = record { few = few (length l.fields) (and_left (nat_le (length l.fields) 40) (has_types l) can); types = and_right (nat_le (length l.fields) 40) (has_types l) can };
+      converting = and_right (nat_le (length l.fields) 40 && has_types l) (converts l) h;
+    }
+  where
+    few : (n : ℕ) → nat_le n 40 ≡ true → n ≤ 40
+    few n h = grind (arith, nat_tests)
 
 pub ready_there : Typed → ConvertsThere → Named → (org : ℕ) (q : OrgPlan) (t : Tenant) (name : List ℕ) (l : Layout) → IsSound t → IsOn org q t name l
     → ((nat_le (length l.fields) 40 && has_types l) && converts l) ≡ false → ⊥

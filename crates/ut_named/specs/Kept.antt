@@ -1,12 +1,15 @@
 -- A record of an object, as it was read with its row.
-use Rattle.std.specs.Prelude.{◌≡◌, ◌≢◌, List, ℕ, Option, Some, None, Result, Ok, Err}
-use Rattle.ut_data.specs.Decoding.{record_from}
+use Rattle.std.specs.Prelude.{◌≡◌, ◌≢◌, List, ℕ, Option, Some, None, Result, Ok, Err, IsTrue}
+use Rattle.ut_data.specs.Decoding.{kinds_in, record_from}
+use Rattle.ut_keys.specs.Forms.{FitsForm}
+use Rattle.ut_keys.specs.Rows.{data_form}
 use Rattle.ut_keys.specs.declared.data.DataRow.{DataRow}
 use Rattle.ut_keys.specs.declared.fail.StoreFail.{StoreFail}
 use Rattle.ut_keys.specs.declared.fail.StoreFail.TheVariants.{Damaged}
 use Rattle.ut_model.specs.Cases.{in_case}
 use Rattle.ut_model.specs.Objects.{object_numbered}
 use Rattle.ut_model.specs.Rights.{record_of_object}
+use Rattle.ut_model.specs.SoundRecords.{all_valid}
 use Rattle.ut_model.specs.Tenant.{Object, Tenant}
 use Rattle.ut_named.specs.declared.kept.KeptRecord.{KeptRecord}
 use Rattle.ut_stands.specs.Entries.{data_of, slot_entry}
@@ -31,3 +34,8 @@ abbrev pub Keeps : OrgPlan → Tenant → Layout → (id : List ℕ) → Result 
 Keeps q t l id (Ok None) = record_of_object t l.object id ≡ None
 Keeps q t l id (Ok (Some k)) = IsKept q t l id k
 Keeps q t l id (Err e) = e ≢ Damaged
+
+-- whatever the tables have, its row has a spelling, and its values are valid
+pub record FitsKept (l : Layout) (k : KeptRecord) : Type 0 where
+  pub row : FitsForm data_form k.row
+  pub values : IsTrue (all_valid (kinds_in l.fields) k.item.values)

@@ -1,15 +1,11 @@
 -- The object and the record that a request names.
-use Rattle.std.specs.Prelude.{◌≡◌, ◌≢◌, ℕ, List, Option, None, Some, Result, Ok, Err, IsTrue}
-use Rattle.ut_data.specs.Decoding.{kinds_in}
+use Rattle.std.specs.Prelude.{◌≡◌, ◌≢◌, ℕ, List, Option, None, Some, Result, Ok, Err}
 use Rattle.ut_edits.specs.Edits.{FailsBy}
-use Rattle.ut_keys.specs.Forms.{FitsForm}
-use Rattle.ut_keys.specs.Rows.{data_form}
 use Rattle.ut_keys.specs.declared.fail.StoreFail.{StoreFail}
 use Rattle.ut_keys.specs.declared.fail.StoreFail.TheVariants.{Damaged, Memory}
 use Rattle.ut_model.specs.Objects.{Numbered, object_named}
 use Rattle.ut_model.specs.Paths.{Asked}
 use Rattle.ut_model.specs.Rights.{on_named, record_of_object}
-use Rattle.ut_model.specs.SoundRecords.{all_valid}
 use Rattle.ut_model.specs.Tenant.{Tenant}
 use Rattle.ut_model.specs.Verdict.{Verdict, on_object}
 use Rattle.ut_model.specs.declared.record.Record.{Record}
@@ -17,9 +13,8 @@ use Rattle.ut_model.specs.declared.refusal.Refusal.{Refusal}
 use Rattle.ut_model.specs.declared.refusal.Refusal.TheVariants.{MalformedId, NotFound}
 use Rattle.ut_named.specs.declared.kept.KeptRecord.{KeptRecord}
 use Rattle.ut_named.specs.declared.named.Named.{Named}
-use Rattle.ut_named.specs.Kept.{IsKept}
-use Rattle.ut_named.specs.Usable.{IsUsable}
-use Rattle.ut_pivot.specs.Turned.{converts}
+use Rattle.ut_named.specs.Kept.{FitsKept, IsKept}
+use Rattle.ut_named.specs.Usable.{IsReady}
 use Rattle.ut_stands.specs.Layouts.{layout_of}
 use Rattle.ut_stands.specs.Plan.{OrgPlan}
 use Rattle.ut_stands.specs.declared.fail.EditFail.{EditFail}
@@ -70,9 +65,8 @@ FindsNamed org q a name key (Ok x) = IsNamed org q a.tenant name key x
 FindsNamed org q a name key (Err e) =
     (least : Level) (verdict : Numbered → Record → Verdict) → FailsBy (on_object a.tenant name (λ o. on_named a o key least (verdict o))) e
 
--- whatever the tables have, what its rows are made of fits
-pub record FitsNamed (x : Named) : Type 0 where
-  pub usable : IsUsable x.layout
-  pub converting : IsTrue (converts x.layout)
-  pub row : FitsForm data_form x.kept.row
-  pub values : IsTrue (all_valid (kinds_in x.layout.fields) x.kept.item.values)
+-- whatever the tables have, the object is one of the organisation with this number that can be changed, and what the record's rows
+-- are made of fits
+pub record FitsNamed (org : ℕ) (x : Named) : Type 0 where
+  pub ready : IsReady org x.layout
+  pub kept : FitsKept x.layout x.kept

@@ -1,15 +1,13 @@
 //! A record, and the row that it has.
 
-ghost use Rattle.std.specs.Prelude.{◌≡◌, Err, IfErr, IfOk, IfSome, IsTrue, Some};
-ghost use Rattle.ut_data.specs.Decoding.{kinds_in};
+ghost use Rattle.std.specs.Prelude.{◌≡◌, Err, IfErr, IfOk, IfSome, Some};
 ghost use Rattle.ut_keeper.specs.Draft.{DraftTells, tables_of};
 ghost use Rattle.ut_keys.specs.declared.fail.StoreFail.TheVariants.{Memory};
 ghost use Rattle.ut_keys.specs.Forms.{FitsForm};
 ghost use Rattle.ut_keys.specs.Keys.{record_key};
 ghost use Rattle.ut_keys.specs.Rows.{data_form};
-ghost use Rattle.ut_model.specs.SoundRecords.{all_valid};
 ghost use Rattle.ut_model.specs.Tenant.{Tenant};
-ghost use Rattle.ut_named.specs.Kept.{Keeps, kept_from};
+ghost use Rattle.ut_named.specs.Kept.{FitsKept, Keeps, kept_from};
 ghost use Rattle.ut_parts.specs.Shapes.{FitsIn};
 ghost use Rattle.ut_stands.specs.Calls.{Calls, ended};
 ghost use Rattle.ut_stands.specs.Layouts.{IsLayout};
@@ -50,8 +48,7 @@ fn record_with_row(
 ) -> Result<Option<KeptRecord>, StoreFail>
     requires { IfOk row (λ found. IfSome found (FitsForm data_form)) }
     ensures kept { GivesOr Memory (kept_from layout.now row) result }
-    ensures fits { IfOk result (λ found. IfSome found (λ k. FitsForm data_form k.row)) }
-    ensures valid { IfOk result (λ found. IfSome found (λ k. IsTrue (all_valid (kinds_in layout.now.fields) k.item.values))) }
+    ensures form { IfOk result (λ found. IfSome found (FitsKept layout.now)) }
     ensures failed { IfErr row (λ e. result ≡ Err e) }
 {
     match row {
@@ -79,9 +76,7 @@ pub fn kept_record<K: Keeper>(
     ensures keeps { DraftTells K.state draft.old draft.new
         → (q : OrgPlan) (t : Tenant) → StandsIn layout.now.org q (tables_of K.state draft.old) (Some t) → IsLayout q t layout.now
         → Keeps q t layout.now id.now result }
-    // Whatever the tables have, the row has a spelling, and the values are valid.
-    ensures fits { IfOk result (λ found. IfSome found (λ k. FitsForm data_form k.row)) }
-    ensures valid { IfOk result (λ found. IfSome found (λ k. IsTrue (all_valid (kinds_in layout.now.fields) k.item.values))) }
+    ensures form { IfOk result (λ found. IfSome found (FitsKept layout.now)) }
     ensures calls { Calls K.state 1 (ended result) draft.old draft.new }
 {
     key_laws();

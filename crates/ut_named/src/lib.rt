@@ -11,6 +11,6 @@ mod shares;
 mod usable;
 
 pub use crate::kept::{KeptRecord, kept_record};
-pub use crate::named::{Named, find_named};
+pub use crate::named::{Named, find_named, ready_layout};
 pub use crate::shares::{remove_shares, shares_of};
 pub use crate::usable::{is_ready, is_usable};

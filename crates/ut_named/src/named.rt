@@ -1,17 +1,13 @@
 //! The object and the record that a request names.
 
-ghost use Rattle.std.specs.Prelude.{◌≡◌, IfOk, IsTrue, Some};
-ghost use Rattle.ut_data.specs.Decoding.{kinds_in};
+ghost use Rattle.std.specs.Prelude.{◌≡◌, IfOk, Some};
 ghost use Rattle.ut_edits.specs.Naming.{NamesLayout};
 ghost use Rattle.ut_keeper.specs.Draft.{DraftTells, tables_of};
-ghost use Rattle.ut_keys.specs.Forms.{FitsForm};
-ghost use Rattle.ut_keys.specs.Rows.{data_form};
 ghost use Rattle.ut_model.specs.Paths.{Asked};
-ghost use Rattle.ut_model.specs.SoundRecords.{all_valid};
 ghost use Rattle.ut_model.specs.Tenant.{Tenant};
+ghost use Rattle.ut_named.specs.Kept.{FitsKept};
 ghost use Rattle.ut_named.specs.Named.{FindsNamed, FitsNamed, NamesRecord, SpellsId, record_or_none};
-ghost use Rattle.ut_named.specs.Usable.{IsUsable};
-ghost use Rattle.ut_pivot.specs.Turned.{converts};
+ghost use Rattle.ut_named.specs.Usable.{IsReady};
 ghost use Rattle.ut_stands.specs.Calls.{Calls, ended_edit};
 ghost use Rattle.ut_stands.specs.Layouts.{IsLayout};
 ghost use Rattle.ut_stands.specs.Local.{StandsIn};
@@ -36,8 +32,13 @@ pub struct Named {
     pub kept: KeptRecord,
 }
 
-// The layout of the object with this name, which converts what a change of a field's type copies.
-fn usable_layout<K: Keeper>(
+/// The layout of the object with this name, by which records can be read and changed.
+///
+/// # Errors
+///
+/// `Refused` with `InvalidType` if there is no such object. `Store` with `Keeper` if the keeper failed, `Memory` if out of memory,
+/// `Damaged` never if the organisation's rows stand for a tenant.
+pub fn ready_layout<K: Keeper>(
     alloc: Global,
     draft: &mut Draft<'_, K>,
     org: u32,
@@ -45,8 +46,7 @@ fn usable_layout<K: Keeper>(
 ) -> Result<Layout, EditFail>
     ensures names { DraftTells K.state draft.old draft.new
         → (q : OrgPlan) (t : Tenant) → StandsIn org q (tables_of K.state draft.old) (Some t) → NamesLayout org q t name.now result }
-    ensures own { IfOk result (λ l. l.org ≡ org) }
-    ensures usable { IfOk result (λ l. IsUsable l × IsTrue (converts l)) }
+    ensures form { IfOk result (IsReady org) }
     ensures calls { Calls K.state 0 (ended_edit result) draft.old draft.new }
 {
     call_laws::<K>();
@@ -97,8 +97,7 @@ fn named_record<K: Keeper>(
     ensures names { DraftTells K.state draft.old draft.new
         → (q : OrgPlan) (t : Tenant) → StandsIn layout.now.org q (tables_of K.state draft.old) (Some t) → IsLayout q t layout.now
         → NamesRecord q t layout.now key.now result }
-    ensures fits { IfOk result (λ k. FitsForm data_form k.row) }
-    ensures valid { IfOk result (λ k. IsTrue (all_valid (kinds_in layout.now.fields) k.item.values)) }
+    ensures form { IfOk result (FitsKept layout.now) }
     ensures calls { Calls K.state 1 (ended_edit result) draft.old draft.new }
 {
     call_laws::<K>();
@@ -125,14 +124,13 @@ pub fn find_named<K: Keeper>(
     ensures finds { DraftTells K.state draft.old draft.new
         → (q : OrgPlan) (a : Asked) → StandsIn org q (tables_of K.state draft.old) (Some a.tenant)
         → FindsNamed org q a name.now key.now result }
-    ensures own { IfOk result (λ x. x.layout.org ≡ org) }
-    ensures fits { IfOk result FitsNamed }
+    ensures form { IfOk result (FitsNamed org) }
     ensures calls { Calls K.state 1 (ended_edit result) draft.old draft.new }
 {
     draft_laws::<K>();
     call_laws::<K>();
     object_laws();
-    let layout = usable_layout(alloc, draft, org, name)?;
+    let layout = ready_layout(alloc, draft, org, name)?;
     let kept = named_record(alloc, draft, &layout, key)?;
     Ok(Named { layout, kept })
 }

@@ -1,6 +1,6 @@
 -- What is written, piece by piece.
-use Rattle.std.proofs.Common.{◌≡◌, ℕ, suc, ◌<◌, ◌*◌, ◌/◌, ◌%◌, ◌^◌, List, [], ◌∷◌, ◌++◌, length, map, true, refl, sym, ap, ◌∙◌, append_assoc, append-nil, lit<, arith, to_z, of_z}
-use Rattle.std.specs.Prelude.{codes, ℤ, pos, Result, Ok, Err, OnOk}
+use Rattle.std.proofs.Common.{◌≡◌, ℕ, suc, ◌<◌, ◌*◌, ◌/◌, ◌%◌, ◌^◌, List, [], ◌∷◌, ◌++◌, length, map, true, refl, sym, ap, ◌∙◌, append_assoc, append-nil, lit<, arith, to_z, of_z, Bool}
+use Rattle.std.specs.Prelude.{codes, if◌then◌else◌, ℤ, pos, Result, Ok, Err, OnOk}
 use Rattle.std.specs.Char.{encode_utf8}
 use Rattle.std.specs.List.{flat_map}
 use Rattle.std.specs.Fmt.{decimal}
@@ -19,10 +19,10 @@ use Rattle.ut_json.specs.declared.writer.Mark.TheVariants.{OpenList, CloseList, 
 use Rattle.ut_value.specs.Id.{print18}
 use Rattle.ut_model.specs.declared.record.Record.{Record}
 use Rattle.ut_model.specs.Paths.{Asked}
-use Rattle.ut_model.specs.Replies.{made_members, reply_of}
+use Rattle.ut_model.specs.Replies.{id_json, made_members, reply_of}
 use Rattle.ut_model.specs.RowsJson.{list_json, member_json, object_json, rows_json, url, value_json}
-use Rattle.ut_model.specs.Verdict.{made_new}
-use Rattle.ut_model.specs.declared.reply.Reply.{Reply}
+use Rattle.ut_model.specs.Verdict.{made_new, upserted}
+use Rattle.ut_replies.specs.inner.Parts.{upserted_members}
 use Rattle.ut_replies.specs.Names.{name_attributes, name_in, name_row}
 
 -- one piece behind another
@@ -54,18 +54,34 @@ of_two w0 w1 w2 w3 w4 w5 a b e1 e2 e3 e4 e5 =
     let second = after w0 w3 w4 ((123 ∷ a) ++ 44 ∷ []) b first e4 in
     after w0 w4 w5 (123 ∷ (a ++ 44 ∷ b)) (125 ∷ []) (second ∙ ap (λ t. w0 ++ encode_utf8_all t) (append_assoc (123 ∷ a) (44 ∷ []) b)) e5
 
--- three of them
+-- members in their braces
+pub in_object : (w0 w1 w2 w3 : List ℕ) (members : List (List ℕ)) → w1 ≡ w0 ++ encode_utf8_all (123 ∷ []) → w2 ≡ w1 ++ encode_utf8_all (joined members) → w3 ≡ w2 ++ encode_utf8_all (125 ∷ [])
+    → w3 ≡ w0 ++ encode_utf8_all (object_json members)
+in_object w0 w1 w2 w3 members e1 e2 e3 =
+    after w0 w2 w3 (codes "{" ++ joined members) (125 ∷ []) (after w0 w1 w2 (123 ∷ []) (joined members) e1 e2) e3
+
+-- three of them, with commas between them
+pub three : (w0 w1 w2 w3 w4 w5 a b c : List ℕ) → w1 ≡ w0 ++ encode_utf8_all a → w2 ≡ w1 ++ encode_utf8_all (44 ∷ []) → w3 ≡ w2 ++ encode_utf8_all b
+    → w4 ≡ w3 ++ encode_utf8_all (44 ∷ []) → w5 ≡ w4 ++ encode_utf8_all c → w5 ≡ w0 ++ encode_utf8_all (joined (a ∷ b ∷ c ∷ []))
+three w0 w1 w2 w3 w4 w5 a b c e1 e2 e3 e4 e5 =
+    let first = after w0 w1 w2 a (44 ∷ []) e1 e2 in
+    let second = after w0 w2 w3 (a ++ 44 ∷ []) b first e3 ∙ ap (λ t. w0 ++ encode_utf8_all t) (append_assoc a (44 ∷ []) b) in
+    let comma = after w0 w3 w4 (a ++ 44 ∷ b) (44 ∷ []) second e4 in
+    let third = after w0 w4 w5 ((a ++ 44 ∷ b) ++ 44 ∷ []) c comma e5 in
+    let shape : ((a ++ 44 ∷ b) ++ 44 ∷ []) ++ c ≡ a ++ 44 ∷ (b ++ 44 ∷ c) = append_assoc (a ++ 44 ∷ b) (44 ∷ []) c ∙ append_assoc a (44 ∷ b) (44 ∷ c) in
+    third ∙ ap (λ t. w0 ++ encode_utf8_all t) shape
+
+-- three of them in their braces
 pub of_three : (w0 w1 w2 w3 w4 w5 w6 w7 a b c : List ℕ) → w1 ≡ w0 ++ encode_utf8_all (123 ∷ []) → w2 ≡ w1 ++ encode_utf8_all a → w3 ≡ w2 ++ encode_utf8_all (44 ∷ [])
     → w4 ≡ w3 ++ encode_utf8_all b → w5 ≡ w4 ++ encode_utf8_all (44 ∷ []) → w6 ≡ w5 ++ encode_utf8_all c → w7 ≡ w6 ++ encode_utf8_all (125 ∷ [])
     → w7 ≡ w0 ++ encode_utf8_all (object_json (a ∷ b ∷ c ∷ []))
 of_three w0 w1 w2 w3 w4 w5 w6 w7 a b c e1 e2 e3 e4 e5 e6 e7 =
-    let first = after w0 w2 w3 (123 ∷ a) (44 ∷ []) (after w0 w1 w2 (123 ∷ []) a e1 e2) e3 in
-    let second = after w0 w3 w4 ((123 ∷ a) ++ 44 ∷ []) b first e4 ∙ ap (λ t. w0 ++ encode_utf8_all t) (append_assoc (123 ∷ a) (44 ∷ []) b) in
-    let comma = after w0 w4 w5 (123 ∷ (a ++ 44 ∷ b)) (44 ∷ []) second e5 in
-    let third = after w0 w5 w6 ((123 ∷ (a ++ 44 ∷ b)) ++ 44 ∷ []) c comma e6 in
-    let shape : ((123 ∷ (a ++ 44 ∷ b)) ++ 44 ∷ []) ++ c ≡ 123 ∷ (a ++ 44 ∷ (b ++ 44 ∷ c)) =
-    append_assoc (123 ∷ (a ++ 44 ∷ b)) (44 ∷ []) c ∙ append_assoc (123 ∷ a) (44 ∷ b) (44 ∷ c) in
-    after w0 w6 w7 (123 ∷ (a ++ 44 ∷ (b ++ 44 ∷ c))) (125 ∷ []) (third ∙ ap (λ t. w0 ++ encode_utf8_all t) shape) e7
+    in_object w0 w1 w6 w7 (a ∷ b ∷ c ∷ []) e1 (three w1 w2 w3 w4 w5 w6 a b c e2 e3 e4 e5 e6) e7
+
+-- one more behind a comma
+joined_behind : (a : List ℕ) (members : List (List ℕ)) (b : List ℕ) → joined (a ∷ members) ++ 44 ∷ b ≡ joined (a ∷ (members ++ b ∷ []))
+joined_behind a [] b = refl
+joined_behind a (c ∷ cs) b = append_assoc a (44 ∷ joined (c ∷ cs)) (44 ∷ b) ∙ ap (λ t. a ++ 44 ∷ t) (joined_behind c cs b)
 
 -- a member whose value is written behind its name
 pub member : (w0 w1 w2 name v : List ℕ) → w1 ≡ w0 ++ encode_utf8_all (printed_text name ++ codes ":") → w2 ≡ w1 ++ encode_utf8_all v → w2 ≡ w0 ++ encode_utf8_all (member_json name v)
@@ -196,15 +212,31 @@ pub no_errors_written : (w0 w1 w2 w3 : List ℕ) → w1 ≡ w0 ++ encode_utf8_al
 unfolding chars
 no_errors_written w0 w1 w2 w3 e1 e2 e3 = member w0 w1 w3 (codes "errors") (list_json []) e1 (in_list w1 w2 w2 w3 [] e2 (sym (append-nil w2)) e3)
 
-pub made_written : (w0 w1 w2 w3 w4 w5 w6 w7 id text : List ℕ) → text ≡ print18 id → w1 ≡ w0 ++ encode_utf8_all (123 ∷ [])
-    → w2 ≡ w1 ++ encode_utf8_all (member_json (chars (codes "id")) (printed_text text)) → w3 ≡ w2 ++ encode_utf8_all (44 ∷ [])
-    → w4 ≡ w3 ++ encode_utf8_all (member_json (chars (codes "success")) (printed_truth true)) → w5 ≡ w4 ++ encode_utf8_all (44 ∷ [])
-    → w6 ≡ w5 ++ encode_utf8_all (member_json (codes "errors") (list_json [])) → w7 ≡ w6 ++ encode_utf8_all (125 ∷ [])
-    → w7 ≡ w0 ++ encode_utf8_all (object_json (made_members id))
+pub made_written : (w0 w1 w2 w3 w4 w5 id text : List ℕ) → text ≡ print18 id
+    → w1 ≡ w0 ++ encode_utf8_all (member_json (chars (codes "id")) (printed_text text)) → w2 ≡ w1 ++ encode_utf8_all (44 ∷ [])
+    → w3 ≡ w2 ++ encode_utf8_all (member_json (chars (codes "success")) (printed_truth true)) → w4 ≡ w3 ++ encode_utf8_all (44 ∷ [])
+    → w5 ≡ w4 ++ encode_utf8_all (member_json (codes "errors") (list_json [])) → w5 ≡ w0 ++ encode_utf8_all (joined (made_members id))
 unfolding chars
-made_written w0 w1 w2 w3 w4 w5 w6 w7 id text is e1 e2 e3 e4 e5 e6 e7 =
-    of_three w0 w1 w2 w3 w4 w5 w6 w7 (member_json (codes "id") (printed_text (print18 id))) (member_json (codes "success") (printed_truth true)) (member_json (codes "errors") (list_json []))
-    e1 (e2 ∙ ap (λ t. w1 ++ encode_utf8_all (member_json (codes "id") (printed_text t))) is) e3 e4 e5 e6 e7
+made_written w0 w1 w2 w3 w4 w5 id text is e1 e2 e3 e4 e5 =
+    three w0 w1 w2 w3 w4 w5 (member_json (codes "id") (printed_text (print18 id))) (member_json (codes "success") (printed_truth true)) (member_json (codes "errors") (list_json []))
+    (e1 ∙ ap (λ t. w0 ++ encode_utf8_all (member_json (codes "id") (printed_text t))) is) e2 e3 e4 e5
+
+pub upserted_written : (w0 w1 w2 w3 w4 w5 id : List ℕ) (created : Bool) → w1 ≡ w0 ++ encode_utf8_all (123 ∷ []) → w2 ≡ w1 ++ encode_utf8_all (joined (made_members id))
+    → w3 ≡ w2 ++ encode_utf8_all (44 ∷ []) → w4 ≡ w3 ++ encode_utf8_all (member_json (chars (codes "created")) (printed_truth created)) → w5 ≡ w4 ++ encode_utf8_all (125 ∷ [])
+    → w5 ≡ w0 ++ encode_utf8_all (object_json (upserted_members id created))
+unfolding chars
+upserted_written w0 w1 w2 w3 w4 w5 id created e1 e2 e3 e4 e5 =
+    let m = member_json (codes "created") (printed_truth created) in
+    let comma = after w1 w2 w3 (joined (made_members id)) (44 ∷ []) e2 e3 in
+    let last = after w1 w3 w4 (joined (made_members id) ++ 44 ∷ []) m comma e4 in
+    let shape : (joined (made_members id) ++ 44 ∷ []) ++ m ≡ joined (upserted_members id created) =
+    append_assoc (joined (made_members id)) (44 ∷ []) m ∙ joined_behind (member_json (codes "id") (id_json id)) (member_json (codes "success") (printed_truth true) ∷ member_json (codes "errors") (list_json []) ∷ []) m in
+    in_object w0 w1 w4 w5 (upserted_members id created) e1 (last ∙ ap (λ t. w1 ++ encode_utf8_all t) shape) e5
+
+pub upserted_reply : (w0 w1 body id : List ℕ) (created : Bool) → w0 ≡ [] → w1 ≡ w0 ++ encode_utf8_all (object_json (upserted_members id created)) → body ≡ w1
+    → (a : Asked) → reply_of a (Ok (upserted id created)) ≡ record { status = if created then 201 else 200; body = body }
+upserted_reply w0 w1 body id created none e same a =
+    ap (λ (b : List ℕ). record { status = if created then 201 else 200; body = b }) (sym (same ∙ e ∙ ap (λ w. w ++ encode_utf8_all (object_json (upserted_members id created))) none))
 
 pub made_reply : (w0 w1 body id : List ℕ) → w0 ≡ [] → w1 ≡ w0 ++ encode_utf8_all (object_json (made_members id)) → body ≡ w1
     → (a : Asked) → reply_of a (Ok (made_new id)) ≡ record { status = 201; body = body }

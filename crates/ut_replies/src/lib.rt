@@ -2,7 +2,8 @@
 //!
 //! It depends on `ut_json`, which writes JSON, and on the definitions of `ut_model`. Its contract: `names_body` returns the
 //! bytes of the rows `SELECT Id, Name` that the definition `rows_json` gives, or it is out of memory; and for an administrator
-//! of a sound organisation those are the rows of that query. `made_body` returns the body of the reply 201 that `reply_of` gives.
+//! of a sound organisation those are the rows of that query. `made_body` and `upserted_body` return the body of the reply that
+//! `reply_of` gives.
 #![tactic(auto)]
 
 mod laws;
@@ -11,5 +12,5 @@ mod names;
 mod parts;
 
 pub use crate::laws::names_laws;
-pub use crate::made::made_body;
+pub use crate::made::{made_body, upserted_body};
 pub use crate::names::names_body;

@@ -30,6 +30,7 @@ abbrev pub is_built : Route → Bool
 is_built (route.Create object) = true
 is_built (route.Update object key) = true
 is_built (route.Delete object key) = true
+is_built (route.Upsert object key value) = true
 is_built route.AddObject = true
 is_built (route.SetObject object) = true
 is_built route.AddField = true

@@ -60,6 +60,7 @@ fn text_call(alloc: Global, call: &str, text: &str) -> Result<String, AllocError
         "csv-memory" => tables::memory(alloc),
         "rows" => names::body(alloc, text),
         "made" => names::made(alloc, text),
+        "upserted" => names::upserted(alloc, text),
         _ => String::from_str(alloc, "no such call"),
     }
 }

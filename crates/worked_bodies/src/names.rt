@@ -1,10 +1,10 @@
-//! Bodies of rows with ids and names, and of what was made.
+//! Bodies of rows with ids and names, and of what was made or found.
 
 use crate::line::first_of;
 use crate::refusals::text_of;
 use std::alloc::{AllocError, Global};
 use ut_model::Record;
-use ut_replies::{made_body, names_body};
+use ut_replies::{made_body, names_body, upserted_body};
 use ut_value::{Id, Items, Text, Value};
 
 // A record of this number, which has a name alone.
@@ -52,6 +52,15 @@ pub(crate) fn body(alloc: Global, arguments: &str) -> Result<String, AllocError>
 pub(crate) fn made(alloc: Global, id: &str) -> Result<String, AllocError> {
     match Id::read(id) {
         Ok(id) => text_of(alloc, &made_body(alloc, &id)?),
+        Err(_) => String::from_str(alloc, "no id"),
+    }
+}
+
+/// The body of the reply to an upsert of the record with this id, in 15 or 18 characters, which is new if `new` is behind it.
+pub(crate) fn upserted(alloc: Global, arguments: &str) -> Result<String, AllocError> {
+    let (id, created) = first_of(arguments);
+    match Id::read(id) {
+        Ok(id) => text_of(alloc, &upserted_body(alloc, &id, created == "new")?),
         Err(_) => String::from_str(alloc, "no id"),
     }
 }

@@ -1,23 +1,40 @@
--- The names that can't be given.
-use Rattle.std.specs.Prelude.{ℕ, Bool, not, ◌&&◌, ◌||◌, if◌then◌else◌, List, codes, Option, Some, None}
-use Rattle.std.specs.List.{list_any}
+-- Fields by their names, and the names that can't be given.
+use Rattle.std.specs.Prelude.{ℕ, Bool, true, not, ◌&&◌, if◌then◌else◌, List, codes, Option, Some, None}
+use Rattle.std.specs.List.{find}
+use Rattle.std.specs.Option.{option_map}
+use Rattle.std.specs.Str.{chars}
 use Rattle.ut_model.specs.Cases.{in_case}
 use Rattle.ut_model.specs.Edits.{is_writable}
-use Rattle.ut_model.specs.Fields.{Column, column_named, is_detail, same_name}
+use Rattle.ut_model.specs.Fields.{column_named, is_detail, same_name}
+use Rattle.ut_model.specs.Fields as model
 use Rattle.ut_model.specs.Tenant.{Field, Object}
+use Rattle.ut_given.specs.declared.columns.Column.{Column}
+
+-- a field's name as declared, and whether an edit may give it
+abbrev pub Seen : Type 0
+Seen = List ℕ × Bool
+
+abbrev pub seen : model.Column → Seen
+seen c = (c.name, is_writable c.at)
+
+abbrev pub shown : Column → Seen
+shown c = (chars c.name.now, c.is_writable)
+
+-- the custom field with this name
+abbrev pub custom_seen : List Field → (name : List ℕ) → Option Seen
+custom_seen fields name = option_map (λ f. (f.name, true)) (find (λ f. same_name f.name name) fields)
+
+-- the field with this name among those that an edit may give
+abbrev pub writable_named : Object → (name : List ℕ) → Option Seen
+writable_named o name =
+    if same_name (codes "Name") name then Some (codes "Name", true)
+    else if same_name (codes "OwnerId") name && not (is_detail o) then Some (codes "OwnerId", true)
+    else custom_seen o.fields name
 
 -- the declared name of a field that can't be given
-abbrev pub unwritable : Column → Option (List ℕ)
+abbrev pub unwritable : model.Column → Option (List ℕ)
 unwritable c = if is_writable c.at then None else Some c.name
 
 -- the name that is refused, as declared or else as given
 abbrev pub bad_name : Object → List ℕ → Option (List ℕ)
 bad_name o name = in_case (column_named o name) (Some name) unwritable
-
--- one of the fields has this name
-abbrev pub has_named : List ℕ → List Field → Bool
-has_named name fields = list_any (λ f. same_name f.name name) fields
-
--- one that can be given has this name
-abbrev pub has_writable : Object → List ℕ → Bool
-has_writable o name = same_name (codes "Name") name || ((same_name (codes "OwnerId") name && not (is_detail o)) || has_named name o.fields)

@@ -10,7 +10,6 @@ use Rattle.ut_model.specs.Given.{ReadOr}
 use Rattle.ut_model.specs.Rules.{Rule, first_of}
 use Rattle.ut_model.specs.Tenant.{Tenant}
 use Rattle.ut_model.specs.declared.refusal.Refusal.{Refusal}
-use Rattle.ut_given.specs.declared.given.GivenValues.{GivenValues}
 use Rattle.ut_given.specs.declared.unread.Unread.{Unread}
 use Rattle.ut_given.specs.declared.unread.Unread.TheVariants.{Refused, Memory}
 
@@ -57,7 +56,7 @@ value_over t given old c = value_or (value_in c.at old) (given_to t given c)
 abbrev pub refused_among : Tenant → List Assignment → List Column → Rule
 refused_among t given cs = first_of (λ c. refused (given_to t given c)) cs
 
--- values or a refusal, where there was memory
-abbrev pub as_unread : Result GivenValues Refusal → Result GivenValues Unread
+-- what was read or its refusal, where there was memory
+abbrev pub as_unread : {X : Type 0} → Result X Refusal → Result X Unread
 as_unread (Ok x) = Ok x
 as_unread (Err refusal) = Err (Refused refusal)

@@ -5,18 +5,20 @@ use Rattle.ut_value.specs.declared.value.FieldType.TheVariants as type
 use Rattle.ut_value.specs.declared.value.OnDelete.TheVariants.{Clear}
 use Rattle.ut_rules.specs.Objects.{object_of_layout}
 use Rattle.ut_given.specs.declared.unread.Unread.{Unread}
+use Rattle.ut_given.specs.Given.{all_given, key_of}
 use Rattle.ut_given.specs.inner.Read.{ValueOrRefusal, ReadsGiven, refused_among}
 use Rattle.ut_given.proofs.Names.{owner_text}
+use Rattle.ut_given.proofs.Keys.{key_plain}
 use Rattle.ut_given.proofs.Owners.{detail_owner, own_owner}
 use Rattle.ut_given.proofs.given.owner_given.Goals as goal
 
 pub returns-then-is_detail : goal.returns-then-is_detail
-returns-then-is_detail c plain t = detail_owner t (object_of_layout c.args.layout.now) c.args.given.now (sym c.if-is_detail.ensures)
+returns-then-is_detail c plain t = detail_owner t (object_of_layout c.args.layout.now) (all_given c.args.given.now) (sym c.if-is_detail.ensures)
 
 pub returns-else-is_detail : goal.returns-else-is_detail
 returns-else-is_detail c plain t =
     let o = object_of_layout c.args.layout.now in
-    let given = c.args.given.now in
-    let read = subst (λ (name : List ℕ). ReadsGiven (given_to t given (column name (of_type (type.Lookup 0 Clear)) its_owner)) c.value_to.result) owner_text (c.value_to.ensures.value refl plain t its_owner) in
+    let given = all_given c.args.given.now in
+    let read = subst (λ (name : List ℕ). ReadsGiven (given_to t given (column name (of_type (type.Lookup 0 Clear)) its_owner)) c.value_to.result) owner_text (c.value_to.ensures refl plain t its_owner) in
     subst (λ (r : Result (Option (List ℕ)) Unread). ValueOrRefusal (refused_among t given (owner_columns o)) (λ owner. owner ≡ given_owner t o given) r) (sym c.owner_in.ensures)
-    (own_owner t o given plain (sym c.if-is_detail.ensures) c.value_to.result read)
+    (own_owner t o given (key_plain (key_of c.args.given.now) c.args.given.now.body.now plain) (sym c.if-is_detail.ensures) c.value_to.result read)

@@ -5,29 +5,30 @@ use Rattle.ut_stands.specs.declared.layout.FieldPlace.{FieldPlace}
 use Rattle.ut_value.specs.declared.value.Value.{Value}
 use Rattle.ut_value.specs.Types.{is_type}
 use Rattle.ut_rules.specs.Objects.{object_of_layout}
+use Rattle.ut_given.specs.Given.{all_given}
 use Rattle.ut_given.specs.inner.Fields.{columns_from}
 use Rattle.ut_given.specs.inner.Read.{refused_among, value_over}
 use Rattle.ut_given.proofs.Judging.{error_of_fields, fields_judged, name_stops, owner_stops}
 use Rattle.ut_given.proofs.given.read_all.Goals as goal
 
-pub returns-in-Err-clause-value : goal.returns-in-Err-clause-value
-returns-in-Err-clause-value c types plain t =
-    name_stops t (object_of_layout c.args.layout.now) c.args.given.now c.in-Err.unread (c.in-Err.ensures.value plain t)
+pub returns-in-Err : goal.returns-in-Err
+returns-in-Err c types plain t =
+    name_stops t (object_of_layout c.args.layout.now) (all_given c.args.given.now) c.in-Err.unread (c.in-Err.ensures plain t)
 
-pub returns-in-Err-owner_given-clause-value : goal.returns-in-Err-owner_given-clause-value
-returns-in-Err-owner_given-clause-value c types plain t =
-    owner_stops t (object_of_layout c.args.layout.now) c.args.given.now c.in-Err-owner_given.unread
-    (c.in-Ok.ensures.value plain t).0 (c.in-Err-owner_given.ensures plain t)
+pub returns-in-Err-owner_given : goal.returns-in-Err-owner_given
+returns-in-Err-owner_given c types plain t =
+    owner_stops t (object_of_layout c.args.layout.now) (all_given c.args.given.now) c.in-Err-owner_given.unread
+    (c.in-Ok.ensures plain t).0 (c.in-Err-owner_given.ensures plain t)
 
-pub returns-in-Ok-values_over-clause-value : goal.returns-in-Ok-values_over-clause-value
-returns-in-Ok-values_over-clause-value c types plain t =
+pub returns-in-Ok-values_over : goal.returns-in-Ok-values_over
+returns-in-Ok-values_over c types plain t =
     let o = object_of_layout c.args.layout.now in
-    let given = c.args.given.now in
+    let given = all_given c.args.given.now in
     let old = c.args.old.now in
-    let name = c.in-Ok.ensures.value plain t in
+    let name = c.in-Ok.ensures plain t in
     let owner = c.in-Ok-owner_given.ensures plain t in
     let typed = subst (λ (fs : List FieldPlace). IsTrue (list_all (λ f. is_type f.kind) fs)) (sym c.as_slice.ensures) types in
-    let read = c.in-Ok-values_over.ensures.value typed plain t in
+    let read = c.in-Ok-values_over.ensures typed plain t in
     let rules = subst (λ (fs : List FieldPlace). refused_among t given (columns_from 1 fs) ≡ None) c.as_slice.ensures read.0 in
     let items : c.from_vec.result ≡ c.in-Ok-values_over.values.items = search in (
       fields_judged t o given name.0 owner.0 ∙ rules,
@@ -39,10 +40,10 @@ returns-in-Ok-values_over-clause-value c types plain t =
       },
     )
 
-pub returns-in-Err-values_over-clause-value : goal.returns-in-Err-values_over-clause-value
-returns-in-Err-values_over-clause-value c types plain t =
+pub returns-in-Err-values_over : goal.returns-in-Err-values_over
+returns-in-Err-values_over c types plain t =
     let o = object_of_layout c.args.layout.now in
-    let given = c.args.given.now in
+    let given = all_given c.args.given.now in
     let typed = subst (λ (fs : List FieldPlace). IsTrue (list_all (λ f. is_type f.kind) fs)) (sym c.as_slice.ensures) types in
     error_of_fields t o given c.as_slice.result.now c.in-Err-values_over.unread (ap (λ (fs : List FieldPlace). columns_from 1 fs) c.as_slice.ensures)
-    (c.in-Ok.ensures.value plain t).0 (c.in-Ok-owner_given.ensures plain t).0 (c.in-Err-values_over.ensures.value typed plain t)
+    (c.in-Ok.ensures plain t).0 (c.in-Ok-owner_given.ensures plain t).0 (c.in-Err-values_over.ensures typed plain t)

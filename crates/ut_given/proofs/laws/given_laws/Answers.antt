@@ -1,8 +1,14 @@
-use Rattle.ut_given.proofs.Spelled.{empty_alike, fields_alike, kinds_alike, record_alike, required_alike, values_alike}
+use Rattle.ut_given.proofs.Spelled.{declared_alike, empty_alike, fields_alike, kinds_alike, record_alike, required_alike, unique_alike, values_alike}
 use Rattle.ut_given.proofs.laws.given_laws.Goals as goal
 
 pub returns-clause-bad_fields : goal.returns-clause-bad_fields
-returns-clause-bad_fields c org p t o given = fields_alike org p t o given
+returns-clause-bad_fields c org p t o key given = fields_alike org p t o key given
+
+pub returns-clause-unique_named : goal.returns-clause-unique_named
+returns-clause-unique_named c org p t o name = unique_alike org p t o name
+
+pub returns-clause-declared_name : goal.returns-clause-declared_name
+returns-clause-declared_name c org p t o name = declared_alike org p t o name
 
 pub returns-clause-bad_value : goal.returns-clause-bad_value
 returns-clause-bad_value c org p t o given = values_alike org p t o given

@@ -1,11 +1,8 @@
-use Rattle.std.proofs.Common.{◌∙◌}
-use Rattle.std.specs.Str.{chars}
-use Rattle.ut_replies.proofs.Written.{made_written, on_ok}
+use Rattle.ut_model.specs.Replies.{made_members}
+use Rattle.ut_replies.proofs.Written.{in_object, on_ok}
 use Rattle.ut_replies.proofs.made.write_made.Goals as goal
 
 pub returns : goal.returns
 returns c =
-    on_ok c.write_mark-4.result _ _
-    (made_written c.args.writer.now c.write_mark.new.writer c.write_text_member.new.writer c.write_mark-2.new.writer c.write_truth_member.new.writer c.write_mark-3.new.writer c.write_no_errors.new.writer c.write_mark-4.new.writer
-    c.args.id.now (chars c.as_str.result.now) (c.as_str.ensures.characters ∙ c.in_ok-id.ensures)
-    c.in_ok-write_mark.ensures c.in_ok-write_text_member.ensures c.in_ok-write_mark-2.ensures c.in_ok-write_truth_member.ensures c.in_ok-write_mark-3.ensures c.in_ok-write_no_errors.ensures) c.write_mark-4.ensures
+    on_ok c.write_mark-2.result _ _
+    (in_object c.args.writer.now c.write_mark.new.writer c.write_members.new.writer c.write_mark-2.new.writer (made_members c.args.id.now) c.in_ok-write_mark.ensures c.in_ok-write_members.ensures) c.write_mark-2.ensures

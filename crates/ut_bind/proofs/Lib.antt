@@ -1,0 +1,14 @@
+pub mod Bound
+pub mod Clean
+pub mod Joined
+pub mod Flatness
+pub mod Judged
+pub mod Leaves
+pub mod Lists
+pub mod Found
+pub mod Records
+pub mod Planned
+pub mod Refusing
+pub mod Selected
+pub mod Tests
+pub mod Within

@@ -1,0 +1,47 @@
+-- The conditions within another, as a row and as a list.
+use Rattle.std.proofs.Common.{◌≡◌, Bool, true, false, not, ◌&&◌, ◌||◌, List, refl, ap, ◌∙◌}
+use Rattle.std.specs.List.{list_all, list_any}
+use Rattle.std.specs.Prelude.{Result, Ok, Err, IfOk}
+use mathlib.Core.Former.{Count}
+use denote.Hole.Carrier.{hidden}
+use Rattle.ut_bind.specs.declared.check.Check.{Check, Not, And, Or, And', Or', Row_of-Check, end_of-Check, more_of-Check, items-the_row-Check, items_hidden-the_row-Check-1}
+use Rattle.ut_bind.specs.declared.check.Check.TheBlock.{hidden-the_row-Check-0}
+use Rattle.ut_model.specs.declared.record.Record.{Record}
+use Rattle.ut_bind.specs.Checks.{all_checks, check_holds, some_checks}
+
+and_true : (b : Bool) → (b && true) ≡ b
+and_true true = refl
+and_true false = refl
+
+abbrev row_of : Check → (n : Count) × Row_of-Check n
+row_of (And' _ row) = (_, row)
+row_of (Or' _ row) = (_, row)
+row_of _ = (_, end_of-Check)
+
+module _ (r : Record) where
+  all_in_row : (n : _) (row : Row_of-Check n) → all_checks r row ≡ list_all (check_holds r) (items-the_row-Check n row)
+  all_in_row n end_of-Check = refl
+  all_in_row n (more_of-Check part rest) = ap (λ b. check_holds r part && b) (all_in_row _ rest)
+
+  some_in_row : (n : _) (row : Row_of-Check n) → some_checks r row ≡ list_any (check_holds r) (items-the_row-Check n row)
+  some_in_row n end_of-Check = refl
+  some_in_row n (more_of-Check part rest) = ap (λ b. check_holds r part || b) (some_in_row _ rest)
+
+  pub holds_not : (c : Check) → check_holds r (Not c) ≡ not (check_holds r c)
+  unfolding hidden-the_row-Check-0 hidden
+  holds_not c = ap not (and_true (check_holds r c))
+
+  pub holds_and : (cs : List Check) → check_holds r (And cs) ≡ list_all (check_holds r) cs
+  holds_and cs =
+      let row = row_of (And cs) in
+      all_in_row row.0 row.1 ∙ ap (list_all (check_holds r)) (items_hidden-the_row-Check-1 cs)
+
+  pub holds_or : (cs : List Check) → check_holds r (Or cs) ≡ list_any (check_holds r) cs
+  holds_or cs =
+      let row = row_of (Or cs) in
+      some_in_row row.0 row.1 ∙ ap (list_any (check_holds r)) (items_hidden-the_row-Check-1 cs)
+
+-- one fact of what was returned for another
+pub if_ok : {A E : Type 0} {P Q : A → Type 0} (r : Result A E) → ((x : A) → P x → Q x) → IfOk r P → IfOk r Q
+if_ok (Ok x) f h = f x h
+if_ok (Err e) f h = h

@@ -1,0 +1,10 @@
+use Rattle.std.proofs.Common.{◌≡◌, drop}
+use Rattle.std.specs.List.{list_all, list_any}
+use Rattle.ut_bind.specs.Checks.{check_holds}
+use Rattle.ut_bind.proofs.truth.+truth.Given as goal
+
+abbrev pub invariant-all_hold-loop-check : goal.invariant-all_hold-loop-check
+invariant-all_hold-loop-check l = list_all (check_holds l.item) l.checks ≡ list_all (check_holds l.item) (drop l.check-index l.checks)
+
+abbrev pub invariant-some_hold-loop-check : goal.invariant-some_hold-loop-check
+invariant-some_hold-loop-check l = list_any (check_holds l.item) l.checks ≡ list_any (check_holds l.item) (drop l.check-index l.checks)

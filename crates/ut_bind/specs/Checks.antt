@@ -1,0 +1,96 @@
+-- Whether a condition whose names are places holds on a record.
+-- Source: as in Conditions of the model, with names looked up once.
+use Rattle.std.specs.Prelude.{Bool, true, false, not, ◌&&◌, ◌||◌, if◌then◌else◌, Option, Some, None}
+use Rattle.std.specs.Bool.{beq}
+use Rattle.std.specs.List.{list_any}
+use Rattle.std.specs.declared.cmp.Ordering.{Ordering}
+use Rattle.std.specs.Ordering.{is_eq, is_lt, is_le, is_gt, is_ge}
+use Rattle.ut_value.specs.Values.{cmp}
+use Rattle.ut_value.specs.declared.value.Value.{Value}
+use Rattle.ut_value.specs.declared.value.Value.TheVariants as value
+use Rattle.ut_query.specs.declared.query.Op.{Op}
+use Rattle.ut_query.specs.declared.query.Op.TheVariants as op
+use Rattle.ut_model.specs.declared.record.Record.{Record}
+use Rattle.ut_model.specs.Conditions.{as_day, is_like}
+use Rattle.ut_model.specs.Fields as model
+use Rattle.ut_model.specs.Fields.{its_id, its_owner, its_created, its_modified, value_site, is_null, value_in}
+use Rattle.ut_bind.specs.declared.values.HeldValue.{HeldValue}
+use Rattle.ut_bind.specs.declared.values.HeldValue.TheVariants.{Made, There}
+use Rattle.ut_bind.specs.declared.check.Site.{Site}
+use Rattle.ut_bind.specs.declared.check.Site.TheVariants as site
+use Rattle.ut_bind.specs.declared.check.Operand.{Operand}
+use Rattle.ut_bind.specs.declared.check.Operand.TheVariants.{Plain, Clock}
+use Rattle.ut_bind.specs.declared.check.Check.{Check, Test, Like, In, Not', And', Or', Row_of-Check, end_of-Check, more_of-Check}
+
+abbrev pub site_of : Site → model.Site
+site_of site.Id = its_id
+site_of site.Owner = its_owner
+site_of site.Created = its_created
+site_of site.Modified = its_modified
+site_of (site.Value position) = value_site position
+
+-- the value of a record, whether it was made or is there
+abbrev pub held_value : HeldValue → Value
+held_value (Made v) = v
+held_value (There v) = v.now
+
+-- ---- comparisons
+
+-- what is meant, and a value beside it
+abbrev pub meant_of : Operand → Value
+meant_of (Plain v) = v
+meant_of (Clock day) = value.Day day
+
+abbrev pub beside : Operand → Value → Value
+beside (Plain w) v = v
+beside (Clock day) v = as_day v
+
+-- an operator holds of an order
+abbrev pub is_so : Op → Ordering → Bool
+is_so op.Equal o = is_eq o
+is_so op.NotEqual o = not (is_eq o)
+is_so op.Less o = is_lt o
+is_so op.LessEqual o = is_le o
+is_so op.Greater o = is_gt o
+is_so op.GreaterEqual o = is_ge o
+
+-- an operator may hold of null
+abbrev pub takes_null : Op → Bool
+takes_null op.Equal = true
+takes_null op.NotEqual = true
+takes_null _ = false
+
+abbrev pub passes_with : Op → Value → Operand → Bool
+passes_with o v x =
+    if not (takes_null o) && (is_null v || is_null (meant_of x)) then false else is_so o (cmp (beside x v) (meant_of x))
+
+-- ---- conditions
+
+-- a test of a value
+abbrev pub tested : Check → Value → Bool
+tested (Test site o with) v = passes_with o v with
+tested (Like site pattern) v = is_like pattern.parts v
+tested (In site negated with) v = not (beq (list_any (passes_with op.Equal v) with) negated)
+tested _ v = false
+
+abbrev mutual
+  pub check_holds : Record → Check → Bool
+  check_holds r (Test site o with) = tested (Test site o with) (value_in (site_of site) r)
+  check_holds r (Like site pattern) = tested (Like site pattern) (value_in (site_of site) r)
+  check_holds r (In site negated with) = tested (In site negated with) (value_in (site_of site) r)
+  check_holds r (Not' shape part) = not (all_checks r part)
+  check_holds r (And' shape parts) = all_checks r parts
+  check_holds r (Or' shape parts) = some_checks r parts
+
+  pub all_checks : {m : _} → Record → Row_of-Check m → Bool
+  all_checks r end_of-Check = true
+  all_checks r (more_of-Check part rest) = check_holds r part && all_checks r rest
+
+  pub some_checks : {m : _} → Record → Row_of-Check m → Bool
+  some_checks r end_of-Check = false
+  some_checks r (more_of-Check part rest) = check_holds r part || some_checks r rest
+
+-- the condition holds, if there is one
+abbrev pub takes : Option Check → Record → Bool
+takes None r = true
+takes (Some check) r = check_holds r check

@@ -1,0 +1,4 @@
+pub mod Checks
+pub mod Flat
+pub mod Plans
+pub mod inner

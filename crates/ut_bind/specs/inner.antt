@@ -1,0 +1,4 @@
+-- Words of private functions.
+pub mod Binding
+pub mod Columns
+pub mod Rules

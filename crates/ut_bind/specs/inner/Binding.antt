@@ -1,0 +1,101 @@
+-- What names and literals become by a layout, and what is known of a record where they mean the same.
+use Rattle.std.specs.Prelude.{◌≡◌, ℕ, true, if◌then◌else◌, List, [], ◌∷◌, Some, None, ℤ, pos, negsuc, ◌+ℤ◌}
+use Rattle.std.specs.Option.{unwrap_or}
+use Rattle.ut_value.specs.Id.{id_in}
+use Rattle.ut_value.specs.Printing.{day_of_moment}
+use Rattle.ut_value.specs.declared.value.Value.{Value}
+use Rattle.ut_value.specs.declared.value.Value.TheVariants as value
+use Rattle.ut_formula.specs.Meaning.{text_value}
+use Rattle.ut_query.specs.declared.query.Item.{Item}
+use Rattle.ut_query.specs.declared.query.Item.TheVariants as item
+use Rattle.ut_query.specs.declared.query.Literal.{Literal}
+use Rattle.ut_query.specs.declared.query.Literal.TheVariants as literal
+use Rattle.ut_query.specs.declared.query.OrderKey.{OrderKey}
+use Rattle.ut_query.specs.declared.query.Query.{Query}
+use Rattle.ut_model.specs.declared.record.Record.{Record}
+use Rattle.ut_model.specs.Asking.{literals_of, text_no_id}
+use Rattle.ut_model.specs.Cases.{in_case}
+use Rattle.ut_model.specs.Fields.{as_ref, value_in}
+use Rattle.ut_model.specs.Paths.{Asked, field_value}
+use Rattle.ut_model.specs.RowsJson.{field_name}
+use Rattle.ut_model.specs.Rules.{first_of}
+use Rattle.ut_model.specs.Tests.{Tested, way_suits}
+use Rattle.ut_stands.specs.declared.layout.Layout.{Layout}
+use Rattle.ut_bind.specs.declared.check.Operand.{Operand}
+use Rattle.ut_bind.specs.declared.check.Operand.TheVariants.{Plain, Clock}
+use Rattle.ut_bind.specs.declared.check.Site.{Site}
+use Rattle.ut_bind.specs.declared.check.Site.TheVariants as site
+use Rattle.ut_bind.specs.declared.columns.Column.{Column}
+use Rattle.ut_bind.specs.declared.columns.Family.{Family}
+use Rattle.ut_bind.specs.declared.columns.Family.TheVariants as family
+use Rattle.ut_bind.specs.declared.plan.Shown.{Shown}
+use Rattle.ut_bind.specs.declared.plan.SortKey.{SortKey}
+use Rattle.ut_bind.specs.Checks.{site_of}
+use Rattle.ut_bind.specs.inner.Columns.{column, column_in, name_at}
+use Rattle.ut_bind.specs.inner.Rules.{column_of, is_ids, suits_in}
+
+-- ---- what is compared with
+
+abbrev pub text_operand : Family → List ℕ → Value
+text_operand f text = if is_ids f then as_ref (id_in text) else text_value text
+
+abbrev pub operand_of : ℤ → Family → Literal → Operand
+operand_of day f literal.Null = Plain value.Null
+operand_of day f (literal.Text text) = Plain (text_operand f text)
+operand_of day f (literal.Num count) = Plain (value.Num count)
+operand_of day f (literal.Bool truth) = Plain (value.Bool truth)
+operand_of day f (literal.Day other) = Plain (value.Day other)
+operand_of day f (literal.Moment second) = Plain (value.Moment second)
+operand_of day f literal.Today = Clock (day +ℤ pos 0)
+operand_of day f literal.Yesterday = Clock (day +ℤ negsuc 0)
+operand_of day f literal.Tomorrow = Clock (day +ℤ pos 1)
+
+-- ---- places
+
+-- the field of a path, and else the id
+abbrev pub bound_column : Layout → List (List ℕ) → Column
+bound_column l names = in_case (column_of l names) (column family.Ids site.Id) (λ c. c)
+
+abbrev pub item_site : Layout → Item → Site
+item_site l (item.Path p) = (bound_column l p.names).site
+item_site l (item.Child paths tail) = site.Id
+
+abbrev pub shown_of : Layout → Item → Shown
+shown_of l x = record { name = name_at l (item_site l x); site = item_site l x }
+
+abbrev pub sort_key : Layout → OrderKey → SortKey
+sort_key l k = record { site = (bound_column l k.path.names).site; descending = k.descending; nulls_last = k.nulls_last }
+
+abbrev pub skip_of : Query → ℕ
+skip_of q = unwrap_or q.offset 0
+
+-- ---- records
+
+-- a value that a field of this family may have: an id or null where it holds ids, and else no id
+abbrev pub Fits : Family → Value → Type 0
+Fits family.Ids (value.Ref id) = Unit {0}
+Fits family.Ids value.Null = Unit {0}
+Fits family.Ids _ = ⊥
+Fits _ (value.Ref id) = ⊥
+Fits _ _ = Unit {0}
+
+-- the field with a name, by the layout, is the one that the record has
+pub record IsFound (a : Asked) (l : Layout) (r : Record) (name : List ℕ) (c : Column) : Type 0 where
+  pub value : field_value a.tenant r name ≡ value_in (site_of c.site) r
+  pub fits : Fits c.family (value_in (site_of c.site) r)
+  pub declared : field_name a r name ≡ name_at l c.site
+
+-- what is asked is by this layout and on this day, of this record
+pub record Knows (a : Asked) (l : Layout) (day : ℤ) (r : Record) : Type 0 where
+  pub today : day ≡ day_of_moment a.now
+  pub found : (name : List ℕ) (c : Column) → column_in l name ≡ Some c → IsFound a l r name c
+
+-- ---- tests that nothing refuses
+
+pub record IsClean (l : Layout) (x : Tested) : Type 0 where
+  pub column : Column
+  pub name : List ℕ
+  pub own : x.names ≡ name ∷ []
+  pub there : column_in l name ≡ Some column
+  pub suits : way_suits (suits_in column.family) x.way ≡ true
+  pub ids : is_ids column.family ≡ true → first_of text_no_id (literals_of x.way) ≡ None

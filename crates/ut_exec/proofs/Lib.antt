@@ -1,0 +1,4 @@
+pub mod Offering
+pub mod Paging
+pub mod Turning
+pub mod Working

@@ -1,0 +1,4 @@
+pub mod Fails
+pub mod Windows
+pub mod Written
+pub mod inner

@@ -1,0 +1,57 @@
+-- What is written, and what is shown for it.
+use Rattle.std.specs.Prelude.{◌≡◌, ℕ, ◌+◌, ◌*◌, ◌<◌, ◌≤◌, Bool, List, ◌++◌, length, filter, Option, Some, Result, Ok, Err}
+use Rattle.std.specs.List.{flat_map}
+use Rattle.ut_keeper.specs.Tables.{Tables}
+use Rattle.ut_keys.specs.declared.fail.StoreFail.TheVariants.{Damaged, Keeper, Memory}
+use Rattle.ut_model.specs.declared.limit.Limit.TheVariants.{RecordsPerObject}
+use Rattle.ut_model.specs.declared.record.Record.{Record}
+use Rattle.ut_model.specs.Limits.{limit_number}
+use Rattle.ut_model.specs.Objects.{records_of}
+use Rattle.ut_model.specs.Tenant.{Tenant}
+use Rattle.ut_stands.specs.declared.layout.Layout.{Layout}
+use Rattle.ut_stands.specs.Calls.{Ending, done, fell, stopped}
+use Rattle.ut_stands.specs.Layouts.{IsLayout}
+use Rattle.ut_stands.specs.Local.{StandsIn}
+use Rattle.ut_stands.specs.Plan.{OrgPlan}
+use Rattle.ut_exec.specs.declared.fail.ExecFail.{ExecFail}
+use Rattle.ut_exec.specs.declared.fail.ExecFail.TheVariants.{Store, TooLarge}
+use Rattle.ut_exec.specs.declared.window.Window.{Window}
+use Rattle.ut_exec.specs.Windows.{in_window}
+
+-- so it is of each tenant for which the organisation's rows stand and whose layout it is
+abbrev pub InTenants : Layout → Tables → (Tenant → Type 0) → Type 0
+InTenants l m P = (q : OrgPlan) (t : Tenant) → StandsIn l.org q m (Some t) → IsLayout q t l → P t
+
+-- the rows of an object without ORDER BY: the records that are kept, in the order of their ids
+abbrev pub rows_kept : Window → (Record → Bool) → (object : ℕ) → Tenant → List Record
+rows_kept w keep n t = in_window w (filter keep (records_of t n))
+
+-- all of these rows were appended, and there was room for them
+pub record AppendsRows (row : Record → List ℕ) (room : ℕ) (rows : List Record) (old new : List ℕ) (count : ℕ) : Type 0 where
+  pub counted : count ≡ length rows
+  pub appended : new ≡ old ++ flat_map row rows
+  pub fits : length (flat_map row rows) ≤ room
+
+-- the rows of each such tenant were written, or there is no room for them; its rows are never damaged
+abbrev pub WritesRows : Layout → (Tenant → List Record) → (Record → List ℕ) → (room : ℕ) → (old new : List ℕ) → Tables → Result ℕ ExecFail → Type 0
+WritesRows l rows row room old new m (Ok count) = InTenants l m (λ t. AppendsRows row room (rows t) old new count)
+WritesRows l rows row room old new m (Err TooLarge) = InTenants l m (λ t. room < length (flat_map row (rows t)))
+WritesRows l rows row room old new m (Err (Store Damaged)) = InTenants l m (λ t. ⊥)
+WritesRows l rows row room old new m (Err (Store Keeper)) = Unit {0}
+WritesRows l rows row room old new m (Err (Store Memory)) = Unit {0}
+
+-- ---- data rows that are shown
+
+-- so it is of a call that was done
+abbrev pub IfDone : Ending → Type 0 → Type 0
+IfDone done P = P
+IfDone fell P = Unit {0}
+IfDone stopped P = Unit {0}
+
+-- in at most 80 pages: each record of an object once, of which there are so many at most, and in each page as many rows more as
+-- the draft removes
+abbrev pub shown_for : (records removed : ℕ) → ℕ
+shown_for records removed = records + 80 * removed
+
+abbrev pub most_shown : (removed : ℕ) → ℕ
+most_shown removed = shown_for (limit_number RecordsPerObject) removed

@@ -1,0 +1,48 @@
+-- The rows of an object's records, page by page.
+use Rattle.std.specs.Prelude.{◌≡◌, ℕ, ◌-◌, ◌*◌, ◌≤◌, nat_lt, if◌then◌else◌, List, ◌++◌, filter, length, slice_get, Option, Some, Result, Ok, Err, Vec}
+use Rattle.ut_keeper.specs.Tables.{Tables}
+use Rattle.ut_keys.specs.declared.data.DataRow.{DataRow}
+use Rattle.ut_keys.specs.declared.fail.StoreFail.{StoreFail}
+use Rattle.ut_keys.specs.declared.fail.StoreFail.TheVariants.{Damaged, Keeper, Memory}
+use Rattle.ut_data.specs.Decoding.{each_from, record_from}
+use Rattle.ut_model.specs.declared.record.Record.{Record}
+use Rattle.ut_model.specs.Cases.{in_case}
+use Rattle.ut_model.specs.Jobs.{is_past}
+use Rattle.ut_model.specs.Objects.{records_of}
+use Rattle.ut_stands.specs.declared.layout.Layout.{Layout}
+use Rattle.ut_stands.specs.Layouts.{records_after}
+use Rattle.ut_exec.specs.declared.pages.Pages.{Pages}
+use Rattle.ut_exec.specs.Written.{InTenants}
+
+-- the records after an id
+abbrev pub beyond : Option (List ℕ) → List Record → List Record
+beyond after rs = filter (λ r. is_past after r.id) rs
+
+-- so many rows at most were found: those of the records after an id
+abbrev pub FindsPage : {A : Type 0} → Layout → (after : Option (List ℕ)) → Tables → Result (Vec DataRow A) StoreFail → Type 0
+FindsPage l after m (Ok rows) = (length rows.items ≤ 250) × InTenants l m (λ t. each_from (record_from l) rows.items ≡ Some (records_after l.object after 250 t))
+FindsPage l after m (Err Damaged) = InTenants l m (λ t. ⊥)
+FindsPage l after m (Err Keeper) = Unit {0}
+FindsPage l after m (Err Memory) = Unit {0}
+
+-- the id of the last of these rows, or what was before
+abbrev pub last_of : Option (List ℕ) → List DataRow → Option (List ℕ)
+last_of before rows = in_case (slice_get rows (length rows - 1)) before (λ row. Some row.id)
+
+-- for how many pages reading goes on after these rows: for none behind a page that isn't full
+abbrev pub pages_left : ℕ → List DataRow → ℕ
+pages_left left rows = if nat_lt (length rows) 250 then 0 else left - 1
+
+-- these rows are a page of these records, whose ids rise; if so many pages were enough before, they are enough after it
+pub record Turns (l : Layout) (rs : List Record) (old new : Pages) (rows : List DataRow) : Type 0 where
+  pub page : List Record
+  pub read : each_from (record_from l) rows ≡ Some page
+  pub on : page ++ beyond new.after rs ≡ beyond old.after rs
+  pub enough : length (beyond old.after rs) ≤ 250 * old.left → length (beyond new.after rs) ≤ 250 * new.left
+
+-- a page was read
+abbrev pub ReadsPage : {A : Type 0} → Layout → (old new : Pages) → Tables → Result (Vec DataRow A) StoreFail → Type 0
+ReadsPage l old new m (Ok rows) = (length rows.items ≤ 250) × InTenants l m (λ t. Turns l (records_of t l.object) old new rows.items)
+ReadsPage l old new m (Err Damaged) = InTenants l m (λ t. ⊥)
+ReadsPage l old new m (Err Keeper) = Unit {0}
+ReadsPage l old new m (Err Memory) = Unit {0}

@@ -1,0 +1,65 @@
+//! Rows without ORDER BY: written as they come.
+
+ghost use Rattle.ut_stands.specs.Calls.{Calls};
+ghost use Rattle.ut_exec.specs.Fails.{ended_exec};
+ghost use Rattle.ut_exec.specs.Written.{IfDone, InTenants, WritesRows, most_shown, rows_kept, shown_for};
+ghost use Rattle.ut_keeper.specs.Draft.{DraftTells, removals_of, state_of, tables_of};
+ghost use Rattle.ut_keeper.specs.State.{ShowsMost};
+ghost use Rattle.ut_model.specs.Objects.{records_of};
+ghost use Rattle.std.specs.Prelude.{length};
+
+use crate::asked::{Keeps, RowForm};
+use crate::fail::ExecFail;
+use crate::offers::{Progress, offer_records};
+use crate::pages::{first_pages, next_page};
+use crate::window::Window;
+use std::alloc::Global;
+use ut_data::{data_laws, has_types};
+use ut_keeper::{Draft, Keeper, draft_laws};
+use ut_keys::StoreFail;
+use ut_stands::{Layout, call_laws};
+
+/// Appends the rows of an object's records that are kept, in the order of their ids, as far as the window takes them, and returns
+/// how many they are. It has one page of rows in memory, and reads none behind the last row.
+///
+/// # Errors
+///
+/// `TooLarge` if the rows have more bytes than there is room for; `Keeper` if the keeper failed, `Memory` if out of memory,
+/// `Damaged` never if the organisation's rows stand for a tenant whose layout it is. What was appended before is still there.
+pub fn write_rows<K: Keeper, P: Keeps, W: RowForm>(
+    alloc: Global,
+    draft: &mut Draft<'_, K>,
+    layout: &Layout,
+    keeps: &P,
+    form: &W,
+    window: Window,
+    room: usize,
+    out: &mut Vec<u8>,
+) -> Result<usize, ExecFail>
+    ensures what { DraftTells K.state draft.old draft.new
+        → WritesRows layout.now (rows_kept window (P.keep keeps.now) layout.now.object) (W.written form.now) room
+        out.old.items out.new.items (tables_of K.state draft.old) result }
+    // Each record is shown once, as long as the draft removes none.
+    ensures shown { DraftTells K.state draft.old draft.new
+        → IfDone (ended_exec result) (InTenants layout.now (tables_of K.state draft.old) (λ t.
+        ShowsMost (shown_for (length (records_of t layout.now.object)) (removals_of K.state 7 draft.old)) (state_of K.state draft.old) (state_of K.state draft.new))) }
+    ensures calls { Calls K.state (most_shown (removals_of K.state 7 draft.old)) (ended_exec result) draft.old draft.new }
+{
+    draft_laws::<K>();
+    call_laws::<K>();
+    data_laws();
+    if !has_types(layout) {
+        return Err(ExecFail::Store(StoreFail::Damaged));
+    }
+    let mut progress = Progress {
+        window,
+        room,
+        count: 0,
+    };
+    let mut pages = first_pages();
+    'pages: while pages.left > 0 && !progress.window.is_over() {
+        let rows = next_page(alloc, draft, layout, &mut pages)?;
+        offer_records(alloc, layout, keeps, form, rows.as_slice(), &mut progress, out)?;
+    }
+    Ok(progress.count)
+}

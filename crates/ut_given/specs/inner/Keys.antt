@@ -1,0 +1,23 @@
+-- The key of an upsert, and the members of a body that are about it.
+use Rattle.std.specs.Prelude.{◌≡◌, Bool, not, ◌&&◌, [], ◌∷◌, Option, Some, IsTrue}
+use Rattle.ut_model.specs.declared.record_bodies.Assignment.{Assignment}
+use Rattle.ut_model.specs.Edits.{bad_field}
+use Rattle.ut_model.specs.Fields.{same_name}
+use Rattle.ut_model.specs.Given.{read_given}
+use Rattle.ut_model.specs.Keys.{Key, other_key, reads_as}
+use Rattle.ut_model.specs.Rules.{Rule, first_refusal}
+use Rattle.ut_model.specs.Tenant.{Object, Tenant}
+use Rattle.ut_given.specs.Given.{has_key_type}
+use Rattle.ut_given.specs.declared.key.UpsertKey.{UpsertKey}
+
+-- the key's type is a type
+abbrev pub PlainKey : Option UpsertKey → Type 0
+PlainKey key = (k : UpsertKey) → key ≡ Some k → IsTrue (has_key_type k)
+
+-- this gives the key another value
+abbrev pub has_other : Tenant → Key → Assignment → Bool
+has_other t key x = same_name x.field key.column.name && not (reads_as key.value (read_given t key.column x.given))
+
+-- a member of a body is refused for its name, or for what it gives the key
+abbrev pub bad_member : Tenant → Object → Option Key → Assignment → Rule
+bad_member t o key x = first_refusal (bad_field o x ∷ other_key t key x ∷ [])

@@ -11,7 +11,7 @@ use Rattle.ut_model.specs.Tests.{Tested, Way, way_suits}
 use Rattle.ut_stands.specs.declared.layout.Layout.{Layout}
 use Rattle.ut_bind.specs.declared.rules.Rule.TheVariants as rule
 use Rattle.ut_bind.specs.declared.columns.Column.{Column}
-use Rattle.ut_bind.specs.Flat.{is_flat_test, has_one_name}
+use Rattle.ut_step.specs.Flat.{is_flat_test, has_one_name}
 use Rattle.ut_bind.specs.inner.Binding.{IsClean}
 use Rattle.ut_bind.specs.inner.Columns.{column_in}
 use Rattle.ut_bind.proofs.Lists.{and_left, and_right}

@@ -6,7 +6,7 @@ use Rattle.std.proofs.lemmas.List.Folds.{list_all-append}
 use Rattle.ut_query.specs.declared.query.Cond.{Cond}
 use Rattle.ut_query.specs.declared.query.Query.{Query}
 use Rattle.ut_model.specs.Tests.{Tested, tests, tests_of}
-use Rattle.ut_bind.specs.Flat.{has_one_name, is_flat, is_flat_item, is_flat_test}
+use Rattle.ut_step.specs.Flat.{has_one_name, is_flat, is_flat_item, is_flat_test}
 use Rattle.ut_bind.proofs.Lists.{and_left, and_right}
 
 pub record AreFlat (q : Query) : Type 0 where

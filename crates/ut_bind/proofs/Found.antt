@@ -19,7 +19,7 @@ use Rattle.ut_model.specs.RowsJson.{RowJson, attributes, item_member, object_jso
 use Rattle.ut_model.specs.Tests.{tests}
 use Rattle.ut_bind.specs.declared.plan.Plan.{Plan}
 use Rattle.ut_bind.specs.Checks.{takes}
-use Rattle.ut_bind.specs.Flat.{has_one_name, is_flat, is_flat_item, is_flat_test}
+use Rattle.ut_step.specs.Flat.{has_one_name, is_flat, is_flat_item, is_flat_test}
 use Rattle.ut_bind.specs.Plans.{Means, by_keys, planned, selected_value, shown_json, shown_value}
 use Rattle.ut_bind.proofs.Flatness.{parts_of}
 use Rattle.ut_bind.proofs.Judged.{map_twice}

@@ -22,7 +22,7 @@ use Rattle.ut_stands.specs.Plan.{OrgPlan}
 use Rattle.ut_stands.specs.declared.layout.Layout.{Layout}
 use Rattle.ut_bind.specs.declared.columns.Column.{Column}
 use Rattle.ut_bind.specs.declared.rules.Rule.TheVariants as rule
-use Rattle.ut_bind.specs.Flat.{is_flat, is_flat_item, is_flat_test, has_one_name}
+use Rattle.ut_step.specs.Flat.{is_flat, is_flat_item, is_flat_test, has_one_name}
 use Rattle.ut_bind.specs.inner.Columns.{column_in, family_of, placed}
 use Rattle.ut_bind.specs.inner.Rules.{is_ids, is_named, item_rule, items_rule, key_rule, no_field, query_rule, rule_in, suits_in}
 use Rattle.ut_bind.proofs.Flatness.{parts_of}

@@ -29,7 +29,7 @@ use Rattle.ut_stands.specs.declared.layout.Layout.{Layout}
 use Rattle.ut_bind.specs.declared.plan.Plan.{Plan}
 use Rattle.ut_bind.specs.declared.rules.Rule.TheVariants as rule
 use Rattle.ut_bind.specs.Checks.{site_of, takes}
-use Rattle.ut_bind.specs.Flat.{is_flat, is_flat_item, is_flat_test, has_one_name}
+use Rattle.ut_step.specs.Flat.{is_flat, is_flat_item, is_flat_test, has_one_name}
 use Rattle.ut_bind.specs.Plans.{Means, ShownValue, selected_value, by_keys, shown_value, values_by}
 use Rattle.ut_bind.specs.inner.Binding.{IsClean, IsFound, Knows, bound_column, shown_of, sort_key}
 use Rattle.ut_bind.specs.inner.Rules.{item_rule, items_rule, key_rule, names_rule, no_field, own_name, query_rule, rule_in, selected_rule}

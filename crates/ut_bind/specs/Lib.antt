@@ -1,4 +1,3 @@
 pub mod Checks
-pub mod Flat
 pub mod Plans
 pub mod inner

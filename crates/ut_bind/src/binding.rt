@@ -8,7 +8,7 @@ ghost use Rattle.ut_model.specs.Sound.{IsSound};
 ghost use Rattle.ut_stands.specs.Layouts.{IsLayout};
 ghost use Rattle.ut_stands.specs.Plan.{OrgPlan};
 ghost use Rattle.ut_value.specs.Printing.{day_of_moment};
-ghost use Rattle.ut_bind.specs.Flat.{is_flat};
+ghost use Rattle.ut_step.specs.Flat.{is_flat};
 ghost use Rattle.ut_bind.specs.Plans.{Means};
 ghost use Rattle.ut_bind.specs.inner.Binding as spec;
 

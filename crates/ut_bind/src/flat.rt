@@ -3,7 +3,7 @@
 ghost use Rattle.std.specs.Prelude.{◌≡◌};
 ghost use Rattle.std.specs.List.{flat_map, list_all};
 ghost use Rattle.ut_model.specs.Tests.{tests, tests_of};
-ghost use Rattle.ut_bind.specs.Flat as spec;
+ghost use Rattle.ut_step.specs.Flat as spec;
 
 use ut_query::{Cond, Item, OrderKey, Path, Query};
 

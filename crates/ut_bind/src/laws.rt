@@ -9,7 +9,7 @@ ghost use Rattle.ut_model.specs.Paths.{Asked};
 ghost use Rattle.ut_model.specs.Rows.{found, readable_of};
 ghost use Rattle.ut_model.specs.RowsJson.{attributes, object_json, row_json};
 ghost use Rattle.ut_bind.specs.declared.plan.Plan.{Plan};
-ghost use Rattle.ut_bind.specs.Flat.{is_flat};
+ghost use Rattle.ut_step.specs.Flat.{is_flat};
 ghost use Rattle.ut_bind.specs.Plans.{Means, planned, shown_json, shown_value};
 
 /// What a query finds is what its plan finds among the object's records, if the user may read all of them, and a row in JSON has

@@ -8,7 +8,7 @@ ghost use Rattle.ut_model.specs.Rules.{first_of, first_refusal};
 ghost use Rattle.ut_model.specs.Tenant.{Tenant};
 ghost use Rattle.ut_stands.specs.Layouts.{IsLayout};
 ghost use Rattle.ut_stands.specs.Plan.{OrgPlan};
-ghost use Rattle.ut_bind.specs.Flat.{is_flat};
+ghost use Rattle.ut_step.specs.Flat.{is_flat};
 ghost use Rattle.ut_bind.specs.inner.Rules as spec;
 
 use crate::columns::column_in;

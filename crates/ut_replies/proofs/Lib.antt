@@ -2,3 +2,4 @@ pub mod Written
 pub mod Lists
 pub mod Spelled
 pub mod Found
+pub mod Bodies

@@ -10,7 +10,9 @@ mod laws;
 mod made;
 mod names;
 mod parts;
+mod rows;
 
 pub use crate::laws::names_laws;
 pub use crate::made::{made_body, upserted_body};
 pub use crate::names::names_body;
+pub use crate::rows::{rows_body, write_row_end, write_row_start, write_shown};

@@ -17,8 +17,8 @@ use ut_json::{Mark, Writer};
 use ut_model::Record;
 use ut_value::{Bytes, Id, Value};
 
-// The first member of a row.
-fn write_attributes(
+/// The first member of a row.
+pub(crate) fn write_attributes(
     alloc: Global,
     writer: &mut Writer,
     object: &str,

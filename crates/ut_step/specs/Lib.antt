@@ -1,3 +1,4 @@
+pub mod Flat
 pub mod Built
 pub mod Whole
 pub mod Worked

@@ -2,7 +2,7 @@ use Rattle.std.proofs.Common.{◌∙◌, ◌<◌, length, sym, ap, arith, flat_m
 use Rattle.std.specs.List.{list_all}
 use Rattle.ut_query.specs.declared.query.Cond.{Cond}
 use Rattle.ut_model.specs.Tests.{tests_of}
-use Rattle.ut_bind.specs.Flat.{is_flat_test}
+use Rattle.ut_step.specs.Flat.{is_flat_test}
 use Rattle.ut_bind.proofs.Flatness.{goes_on, stops}
 use Rattle.ut_bind.proofs.Tests.{tests_and, tests_not, tests_or}
 use Rattle.ut_bind.proofs.flat.+flatness.Goals as goal

@@ -1,7 +1,7 @@
 use Rattle.std.proofs.Common.{◌≡◌, drop, flat_map}
 use Rattle.std.specs.List.{list_all}
 use Rattle.ut_model.specs.Tests.{tests_of}
-use Rattle.ut_bind.specs.Flat.{is_flat_test}
+use Rattle.ut_step.specs.Flat.{is_flat_test}
 use Rattle.ut_bind.proofs.flat.+flatness.Given as goal
 
 abbrev pub invariant-are_flat_conditions-loop-cond : goal.invariant-are_flat_conditions-loop-cond

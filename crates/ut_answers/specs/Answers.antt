@@ -1,0 +1,48 @@
+-- Answers that change nothing.
+-- Source of the status: RFC 9110, 15.3.1, of 200.
+use Rattle.std.specs.Prelude.{◌≡◌, ◌≢◌, ◌⊎◌, [], true, IsTrue, Some, Result, Ok, Err, ℤ}
+use Rattle.ut_keeper.specs.Tables.{Tables}
+use Rattle.ut_keys.specs.declared.fail.StoreFail.{StoreFail}
+use Rattle.ut_keys.specs.declared.fail.StoreFail.TheVariants.{Damaged, Memory}
+use Rattle.ut_query.specs.declared.query.Query.{Query}
+use Rattle.ut_model.specs.Asking.{ask}
+use Rattle.ut_model.specs.Objects.{Numbered, object_named}
+use Rattle.ut_model.specs.Paths.{Asked}
+use Rattle.ut_model.specs.Refusals.{is_refusal_status}
+use Rattle.ut_model.specs.Replies.{reply_of}
+use Rattle.ut_model.specs.Step.{refusal_reply}
+use Rattle.ut_model.specs.Verdict.{Verdict}
+use Rattle.ut_model.specs.declared.refusal.Refusal.{Refusal}
+use Rattle.ut_model.specs.declared.reply.Reply.{Reply}
+use Rattle.ut_step.specs.Flat.{is_flat}
+use Rattle.ut_stands.specs.Layouts.{layout_of}
+use Rattle.ut_stands.specs.Local.{StandsIn}
+use Rattle.ut_stands.specs.Plan.{OrgPlan}
+use Rattle.ut_stands.specs.declared.layout.Layout.{Layout}
+
+-- a reply that goes with no change: it refuses, or it is of 200
+abbrev pub IsReadReply : Reply → Type 0
+IsReadReply r = IsTrue (is_refusal_status r.status) ⊎ (r.status ≡ 200)
+
+-- a refusal; or it is out of memory
+abbrev pub Refuses : Refusal → Result Reply StoreFail → Type 0
+Refuses refusal (Ok r) = r ≡ refusal_reply refusal
+Refuses refusal (Err e) = e ≡ Memory
+
+-- the reply is by the verdict, which leaves the organisation as it was
+abbrev pub AnswersBy : Asked → Verdict → Result Reply StoreFail → Type 0
+AnswersBy a v (Ok r) = (r ≡ reply_of a v.answer) × (v.tenant ≡ a.tenant)
+AnswersBy a v (Err e) = e ≢ Damaged
+
+-- who asks at this moment, in a tenant for which the organisation's rows stand and whose object this is, is an administrator
+pub record IsAskedOf (l : Layout) (moment : ℤ) (q : Query) (m : Tables) (p : OrgPlan) (a : Asked) : Type 0 where
+  pub stands : StandsIn l.org p m (Some a.tenant)
+  pub object : Numbered
+  pub named : object_named a.tenant q.tail.from ≡ Some object
+  pub its : l ≡ layout_of l.org p a.tenant object
+  pub admin : a.user.admin ≡ true
+  pub now : a.now ≡ moment
+
+-- the reply to a flat query of this object, without ORDER BY
+abbrev pub AnswersFlat : Layout → (moment : ℤ) → Query → Tables → Result Reply StoreFail → Type 0
+AnswersFlat l moment q m result = (p : OrgPlan) (a : Asked) → IsAskedOf l moment q m p a → is_flat q ≡ true → q.tail.order ≡ [] → AnswersBy a (ask a q) result

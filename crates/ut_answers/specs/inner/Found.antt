@@ -1,0 +1,27 @@
+-- The rows of a plan.
+use Rattle.std.specs.Prelude.{◌≡◌, ◌≢◌, map, Result, Ok, Err}
+use Rattle.ut_keeper.specs.Tables.{Tables}
+use Rattle.ut_keys.specs.declared.fail.StoreFail.{StoreFail}
+use Rattle.ut_keys.specs.declared.fail.StoreFail.TheVariants.{Damaged}
+use Rattle.ut_model.specs.Replies.{json_reply, unless_too_large}
+use Rattle.ut_model.specs.RowsJson.{rows_json}
+use Rattle.ut_model.specs.Tenant.{Tenant}
+use Rattle.ut_model.specs.declared.reply.Reply.{Reply}
+use Rattle.ut_bind.specs.Checks.{takes}
+use Rattle.ut_bind.specs.declared.plan.Plan.{Plan}
+use Rattle.ut_exec.specs.Written.{InTenants, rows_kept}
+use Rattle.ut_exec.specs.declared.window.Window.{Window}
+use Rattle.ut_stands.specs.declared.layout.Layout.{Layout}
+use Rattle.ut_answers.specs.inner.Rows.{row_text}
+
+abbrev pub window_of : Plan → Window
+window_of p = record { skip = p.skip; most = p.most }
+
+-- the reply that has the rows which a plan takes of a tenant's records
+abbrev pub plan_reply : Layout → Plan → Tenant → Reply
+plan_reply l p t = unless_too_large (json_reply 200 (rows_json (map (row_text l.name p.shown) (rows_kept (window_of p) (takes p.check) l.object t))))
+
+-- it is this of each tenant for which the organisation's rows stand and whose layout it is
+abbrev pub AnswersPlan : Layout → Plan → Tables → Result Reply StoreFail → Type 0
+AnswersPlan l p m (Ok r) = InTenants l m (λ t. r ≡ plan_reply l p t)
+AnswersPlan l p m (Err e) = InTenants l m (λ t. e ≢ Damaged)

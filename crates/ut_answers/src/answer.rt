@@ -1,0 +1,126 @@
+//! The reply to a flat query.
+
+ghost use Rattle.std.specs.Prelude.{◌≡◌, ℕ, List, IfErr, IfOk, length};
+ghost use Rattle.std.specs.Str.{encode_utf8_all};
+ghost use Rattle.ut_answers.specs.Answers.{AnswersFlat, IsReadReply, Refuses};
+ghost use Rattle.ut_answers.specs.inner.Found.{AnswersPlan};
+ghost use Rattle.ut_exec.specs.Written.{most_shown};
+ghost use Rattle.ut_keeper.specs.Draft.{DraftTells, removals_of, tables_of};
+ghost use Rattle.ut_keys.specs.declared.fail.StoreFail.TheVariants.{Memory};
+ghost use Rattle.ut_model.specs.Replies.{json_reply, unless_too_large};
+ghost use Rattle.ut_model.specs.RowsJson.{rows_json};
+ghost use Rattle.ut_replies.specs.Rows.{behind_commas};
+ghost use Rattle.ut_stands.specs.Calls.{Calls, ended};
+
+use crate::rows::JsonRows;
+use crate::test::Holding;
+use http::StatusCode;
+use std::alloc::{AllocError, Global};
+use ut_bind::{Plan, bind, query_refusal};
+use ut_data::data_laws;
+use ut_exec::{ExecFail, Window, write_rows};
+use ut_keeper::{Draft, Keeper};
+use ut_keys::StoreFail;
+use ut_model::{REPLY_LIMIT, Refusal, Reply, administrator_laws, object_laws, record_laws};
+use ut_query::Query;
+use ut_replies::rows_body;
+use ut_stands::{Layout, call_laws};
+use ut_value::day_of_moment;
+
+// The reply that refuses so.
+fn refuse(alloc: Global, refusal: Refusal) -> Result<Reply, StoreFail>
+    ensures value { Refuses refusal result }
+    ensures form { IfOk result IsReadReply }
+{
+    match refusal.reply(alloc) {
+        Ok(reply) => Ok(reply),
+        Err(_) => Err(StoreFail::Memory),
+    }
+}
+
+// The reply that has these rows, unless it is too large.
+fn rows_reply(alloc: Global, count: usize, rows: &[u8]) -> Result<Reply, AllocError>
+    ensures value { IfOk result (λ r. (texts : List (List ℕ)) → count ≡ length texts → rows.now ≡ encode_utf8_all (behind_commas texts)
+        → r ≡ unless_too_large (json_reply 200 (rows_json texts))) }
+    ensures form { IfOk result IsReadReply }
+{
+    let body = rows_body(alloc, count, rows)?;
+    if body.as_slice().len() > REPLY_LIMIT {
+        Refusal::ReplyTooLarge.reply(alloc)
+    } else {
+        Ok(Reply {
+            status: StatusCode::OK,
+            body,
+        })
+    }
+}
+
+// The reply that has the rows of a plan.
+fn answer_plan<K: Keeper>(
+    alloc: Global,
+    draft: &mut Draft<'_, K>,
+    layout: &Layout,
+    plan: &Plan,
+) -> Result<Reply, StoreFail>
+    ensures what { DraftTells K.state draft.old draft.new → AnswersPlan layout.now plan.now (tables_of K.state draft.old) result }
+    ensures form { IfOk result IsReadReply }
+    ensures calls { Calls K.state (most_shown (removals_of K.state 7 draft.old)) (ended result) draft.old draft.new }
+{
+    call_laws::<K>();
+    let keeps = Holding { check: &plan.check };
+    let form = JsonRows {
+        object: &layout.name,
+        shown: plan.shown.as_slice(),
+    };
+    let window = Window {
+        skip: plan.skip,
+        most: plan.most,
+    };
+    let mut rows = Vec::new(alloc);
+    match write_rows(
+        alloc,
+        draft,
+        layout,
+        &keeps,
+        &form,
+        window,
+        REPLY_LIMIT,
+        &mut rows,
+    ) {
+        Ok(count) => match rows_reply(alloc, count, rows.as_slice()) {
+            Ok(reply) => Ok(reply),
+            Err(_) => Err(StoreFail::Memory),
+        },
+        Err(ExecFail::TooLarge) => refuse(alloc, Refusal::ReplyTooLarge),
+        Err(ExecFail::Store(fail)) => Err(fail),
+    }
+}
+
+/// The reply to a query over one object, of an administrator who asks at this moment, in seconds from 1970-01-01T00:00:00Z.
+///
+/// # Errors
+///
+/// `Keeper` if the keeper failed, `Memory` if out of memory, `Damaged` never if the organisation's rows stand for a tenant whose
+/// layout it is.
+pub fn answer_flat<K: Keeper>(
+    alloc: Global,
+    draft: &mut Draft<'_, K>,
+    layout: &Layout,
+    now: i64,
+    query: &Query,
+) -> Result<Reply, StoreFail>
+    ensures what { DraftTells K.state draft.old draft.new → AnswersFlat layout.now now query.now (tables_of K.state draft.old) result }
+    ensures form { IfOk result IsReadReply }
+    ensures calls { Calls K.state (most_shown (removals_of K.state 7 draft.old)) (ended result) draft.old draft.new }
+{
+    call_laws::<K>();
+    administrator_laws();
+    data_laws();
+    object_laws();
+    record_laws();
+    if let Some(refusal) = query_refusal(alloc, layout, query)? {
+        return refuse(alloc, refusal);
+    }
+    let plan = bind(alloc, layout, day_of_moment(now), query)?;
+    answer_plan(alloc, draft, layout, &plan)
+}

@@ -1,0 +1,22 @@
+//! Which records are rows.
+
+ghost use Rattle.ut_bind.specs.Checks.{takes};
+
+use std::alloc::{AllocError, Global};
+use ut_bind::{Check, check_holds};
+use ut_exec::Keeps;
+use ut_model::Record;
+
+/// Records on which a condition holds, if there is one.
+#[derive(Drop)]
+pub(crate) struct Holding<'a> {
+    pub check: &'a Option<Check>,
+}
+
+impl Keeps for Holding<'_> {
+    ghost keep = { λ h r. takes h.check.now r };
+
+    fn keeps(&self, alloc: Global, item: &Record) -> Result<bool, AllocError> {
+        check_holds(alloc, self.check, item)
+    }
+}

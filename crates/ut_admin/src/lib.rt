@@ -12,4 +12,5 @@ mod records;
 mod replies;
 mod requests;
 
+pub use crate::records::moment;
 pub use crate::requests::administer;

@@ -45,7 +45,7 @@ use Rattle.ut_model.specs.declared.record.Record.{Record}
 use Rattle.ut_model.specs.declared.refusal.Refusal.{Refusal}
 use Rattle.ut_model.specs.declared.refusal.Refusal.TheVariants.{InvalidType, ReplyTooLarge}
 use Rattle.ut_bind.specs.Checks.{site_of, takes}
-use Rattle.ut_step.specs.Flat.{is_flat, is_flat_item, is_flat_test, is_name}
+use Rattle.ut_step.specs.Flat.{is_flat, is_flat_item, is_flat_test, has_one_name}
 use Rattle.ut_model.specs.Tests.{tests}
 use Rattle.ut_bind.specs.Plans.{Means, Member, asked_member, member}
 use Rattle.ut_bind.specs.declared.plan.Plan.{Plan}
@@ -143,7 +143,7 @@ module _ (t : Tenant) (r : Record) (sound : IsSound t) (has : Has t.records r) (
 -- ---- the members of a row
 
 module _ (write : RowJson) (a : Asked) (r : Record) (all : List Item) where
-  path_one : (selected_before : List Item) (names : List (List ℕ)) → is_name names ≡ true
+  path_one : (selected_before : List Item) (names : List (List ℕ)) → has_one_name names ≡ true
       → path_member write a r all selected_before names ≡ member_json (field_name a r (spelled_path names)) (value_json (field_value a.tenant r (spelled_path names))) ∷ []
   path_one selected_before [] e = absurd cc
   path_one selected_before (name ∷ []) e = refl
@@ -167,7 +167,7 @@ flat_items : (q : Query) → is_flat q ≡ true → list_all is_flat_item q.sele
 flat_items q flat =
     let items = list_all is_flat_item q.select in
     let condition = list_all is_flat_test (tests q.tail.condition) in
-    left items condition (left (items && condition) (list_all (λ (k : OrderKey). is_name k.path.names) q.tail.order) flat)
+    left items condition (left (items && condition) (list_all (λ (k : OrderKey). has_one_name k.path.names) q.tail.order) flat)
 
 -- ---- what the model's laws say
 

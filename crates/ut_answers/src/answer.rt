@@ -27,8 +27,12 @@ use ut_replies::rows_body;
 use ut_stands::{Layout, call_laws};
 use ut_value::day_of_moment;
 
-// The reply that refuses so.
-fn refuse(alloc: Global, refusal: Refusal) -> Result<Reply, StoreFail>
+/// The reply that refuses so.
+///
+/// # Errors
+///
+/// `Memory` if out of memory.
+pub fn refuse(alloc: Global, refusal: Refusal) -> Result<Reply, StoreFail>
     ensures value { Refuses refusal result }
     ensures form { IfOk result IsReadReply }
 {

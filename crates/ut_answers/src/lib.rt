@@ -9,4 +9,4 @@ mod answer;
 mod rows;
 mod test;
 
-pub use crate::answer::answer_flat;
+pub use crate::answer::{answer_flat, refuse};

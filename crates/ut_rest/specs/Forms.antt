@@ -2,16 +2,13 @@
 -- Source: RFC 9110, 15.3.1, 15.3.2 and 15.3.5, of 200, 201 and 204.
 use Rattle.std.specs.Prelude.{◌≡◌, ◌⊎◌, [], IsTrue}
 use Rattle.ut_model.specs.declared.reply.Reply.{Reply}
+pub use Rattle.ut_answers.specs.Answers.{IsReadReply}
 use Rattle.ut_model.specs.declared.route.Route.TheVariants.{Query}
 use Rattle.ut_model.specs.declared.routed.Routed.{Routed}
 use Rattle.ut_model.specs.declared.routed.Routed.TheVariants.{To, NotFound, NotAllowed}
 use Rattle.ut_model.specs.Refusals.{is_refusal_status}
 use Rattle.ut_stands.specs.declared.judged.Judged.{Judged}
 use Rattle.ut_stands.specs.declared.judged.Judged.TheVariants.{Changed, Same}
-
--- a reply that goes with no change: it refuses, or it is of 200
-abbrev pub IsReadReply : Reply → Type 0
-IsReadReply r = IsTrue (is_refusal_status r.status) ⊎ (r.status ≡ 200)
 
 -- a reply that goes with a change: 204 without a body, or 200 or 201 with one
 abbrev pub IsDoneReply : Reply → Type 0

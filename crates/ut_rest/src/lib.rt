@@ -9,11 +9,10 @@
 //! string, or they are out of memory.
 #![tactic(auto)]
 
-mod asking;
 mod kind;
 mod methods;
-mod names;
 mod place;
+mod queries;
 mod query;
 mod replies;
 mod requests;

@@ -13,24 +13,6 @@ use ut_model::{Refusal, Reply};
 use ut_stands::Judged;
 use ut_value::Text;
 
-// The most bytes that the body of a reply with rows may have.
-const MOST_BYTES: usize = 16_777_216;
-
-/// The reply that refuses so.
-///
-/// # Errors
-///
-/// `Memory` if out of memory.
-pub(crate) fn refuse(alloc: Global, refusal: Refusal) -> Result<Reply, StoreFail>
-    ensures value { Refuses refusal result }
-    ensures form { IfOk result IsReadReply }
-{
-    match refusal.reply(alloc) {
-        Ok(reply) => Ok(reply),
-        Err(_) => Err(StoreFail::Memory),
-    }
-}
-
 /// The reply that what is called so isn't built.
 ///
 /// # Errors
@@ -53,21 +35,5 @@ pub(crate) fn unchanged(read: Result<Reply, StoreFail>) -> Result<Judged<Reply>,
     match read {
         Ok(reply) => Ok(Judged::Same(reply)),
         Err(fail) => Err(fail),
-    }
-}
-
-/// A reply with rows, or the refusal that it is too large.
-///
-/// # Errors
-///
-/// When out of memory.
-pub(crate) fn unless_too_large(alloc: Global, reply: Reply) -> Result<Reply, AllocError>
-    ensures value { IfOk result (λ r. r ≡ unless_too_large reply) }
-    ensures form { IsReadReply reply → IfOk result IsReadReply }
-{
-    if reply.body.as_slice().len() > MOST_BYTES {
-        Refusal::ReplyTooLarge.reply(alloc)
-    } else {
-        Ok(reply)
     }
 }

@@ -9,15 +9,16 @@ ghost use Rattle.ut_model.specs.Routing.{is_administration, routed};
 ghost use Rattle.ut_rest.specs.Forms.{IsRequestReply};
 ghost use Rattle.ut_stands.specs.Operations.{Drafts, Responds};
 ghost use Rattle.ut_step.specs.Built.{verdict_to};
-ghost use Rattle.ut_step.specs.Own.{IsAsking, request_changes, request_gone, request_shown};
+ghost use Rattle.ut_step.specs.Own.{IsAsking, request_changes, request_gone, shown_beside};
 ghost use Rattle.ut_value.specs.Dates.{is_moment};
 
-use crate::names::answer_query;
-use crate::replies::{refuse, refuse_unbuilt, unchanged};
+use crate::queries::answer_query;
+use crate::replies::{refuse_unbuilt, unchanged};
 use crate::routes::Routes;
 use http::Method;
 use std::alloc::Global;
 use ut_admin::administer;
+use ut_answers::refuse;
 use ut_keeper::{Draft, Keeper};
 use ut_keys::StoreFail;
 use ut_model::{Caller, Refusal, Reply, Route, Routed};
@@ -44,7 +45,7 @@ fn answer<K: Keeper>(
         → Responds caller.now.org (IsAsking caller.now now) (λ a. verdict_to a body.now (To route.now)) (tables_of K.state draft.old)
         (tables_of K.state draft.new) result }
     ensures form { IfOk result (IsRequestReply (To route.now)) }
-    ensures drafts { Drafts K.state request_changes request_gone (request_shown + removals_of K.state data_table draft.old) result
+    ensures drafts { Drafts K.state request_changes request_gone (shown_beside (removals_of K.state data_table draft.old)) result
         draft.old draft.new }
 {
     call_laws::<K>();
@@ -52,7 +53,7 @@ fn answer<K: Keeper>(
         return unchanged(refuse(alloc, Refusal::AdminRequired));
     }
     match route {
-        Route::Query { pairs } => unchanged(answer_query(alloc, draft, caller, pairs)),
+        Route::Query { pairs } => unchanged(answer_query(alloc, draft, caller, now, pairs)),
         _ => {
             if caller.admin {
                 administer(alloc, draft, caller, now, route, body)
@@ -85,7 +86,7 @@ pub fn respond<K: Keeper>(
         → Responds caller.now.org (IsAsking caller.now now) (λ a. verdict_to a body.now (routed method.now (chars target.now)))
         (tables_of K.state draft.old) (tables_of K.state draft.new) result }
     ensures form { IfOk result (IsRequestReply (routed method.now (chars target.now))) }
-    ensures drafts { Drafts K.state request_changes request_gone (request_shown + removals_of K.state data_table draft.old) result
+    ensures drafts { Drafts K.state request_changes request_gone (shown_beside (removals_of K.state data_table draft.old)) result
         draft.old draft.new }
 {
     call_laws::<K>();

@@ -1,5 +1,5 @@
 -- A step of one organisation: who asks there, what a message with a key comes to, and how much a request may do.
-use Rattle.std.specs.Prelude.{◌≡◌, ℕ, ◌+◌, pos, Option, Some, None}
+use Rattle.std.specs.Prelude.{◌≡◌, ℕ, ◌+◌, ◌*◌, pos, Option, Some, None}
 use Rattle.ut_model.specs.declared.caller.Caller.{Caller}
 use Rattle.ut_model.specs.declared.limit.Limit.TheVariants as limit
 use Rattle.ut_model.specs.declared.refusal.Refusal.TheVariants as refusal
@@ -35,6 +35,11 @@ request_gone = deletion_limit
 -- the most data rows that are shown to a request
 abbrev pub request_shown : ℕ
 request_shown = limit_number limit.RecordsPerObject
+
+-- the same over a draft that removes so many: a query reads an object's records in at most 80 pages, and the removed ones may be
+-- among those of each
+abbrev pub shown_beside : (removed : ℕ) → ℕ
+shown_beside removed = request_shown + 80 * removed
 
 -- the most data rows that are shown to an edit: the record that a deletion names, and each that it removes or clears
 abbrev pub edit_shown : ℕ

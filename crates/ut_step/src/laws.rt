@@ -5,13 +5,13 @@ ghost use Rattle.std.specs.Option.{option_map};
 ghost use Rattle.ut_model.specs.declared.caller.Caller.{Caller};
 ghost use Rattle.ut_model.specs.declared.refusal.Refusal.TheVariants as refusal;
 ghost use Rattle.ut_model.specs.declared.route.Route.{Route};
-ghost use Rattle.ut_model.specs.Asking.{asks_for_names};
 ghost use Rattle.ut_model.specs.Callers.{IsUser};
 ghost use Rattle.ut_model.specs.RequestOf.{request_of};
 ghost use Rattle.ut_model.specs.Requests.{Request};
 ghost use Rattle.ut_model.specs.Step.{Message, caller_by, in_org, org_named, refusal_reply};
 ghost use Rattle.ut_model.specs.Tenant.{Tenant, User};
 ghost use Rattle.ut_model.specs.World.{World, tenant_at, with_tenant};
+ghost use Rattle.ut_step.specs.Flat.{is_flat};
 ghost use Rattle.ut_step.specs.Built.{answer_built, answered, asking, built_request, step};
 ghost use Rattle.ut_soql_grammar.specs.Spelling.{query_in};
 ghost use Rattle.ut_step.specs.Whole.{IsBuilt, NoJobs, whole_step};
@@ -66,24 +66,25 @@ pub fn step_rows()
     // What `whole_laws` takes as given can be met.
     ensures built { NoJobs acme × IsBuilt acme (asks_by (codes "q=SELECT+Id,Name+FROM+Deal__c")) 0 }
 
-    // A word of the language is no name; other queries aren't built.
+    // A word of the language is no name; of queries those with paths or ORDER BY aren't built.
     ensures no_query { step acme (asks_by (codes "q=SELECT+Id,Name+FROM+Limit")) 0
         ≡ (refusal_reply (refusal.MalformedQuery 20), acme) }
-    ensures other_query { step acme (asks_by (codes "q=SELECT+Id+FROM+Deal__c")) 0
-        ≡ (refusal_reply (refusal.NotBuilt (codes "query")), acme) }
+    ensures with_path { step acme (asks_by (codes "q=SELECT+Id,Up__r.Name+FROM+Deal__c")) 0
+        ≡ (refusal_reply (refusal.NotBuilt (codes "paths")), acme) }
+    ensures with_order { step acme (asks_by (codes "q=SELECT+Id+FROM+Deal__c+ORDER+BY+Id")) 0
+        ≡ (refusal_reply (refusal.NotBuilt (codes "order")), acme) }
 {
     answering_laws();
 }
 
-/// Which queries are for ids and names, worked by hand. The call does nothing.
+/// Which queries are flat, worked by hand. The call does nothing.
 pub fn query_rows()
-    ensures named { option_map asks_for_names (query_in (codes "select id, NAME from deal__C")) ≡ Some true }
-    ensures turned { option_map asks_for_names (query_in (codes "SELECT Name, Id FROM Deal__c")) ≡ Some false }
-    ensures one { option_map asks_for_names (query_in (codes "SELECT Id FROM Deal__c")) ≡ Some false }
-    ensures path { option_map asks_for_names (query_in (codes "SELECT Id, Account__r.Name FROM Deal__c")) ≡ Some false }
-    ensures test { option_map asks_for_names (query_in (codes "SELECT Id, Name FROM Deal__c WHERE Name = NULL")) ≡ Some false }
-    ensures order { option_map asks_for_names (query_in (codes "SELECT Id, Name FROM Deal__c ORDER BY Name")) ≡ Some false }
-    ensures limit { option_map asks_for_names (query_in (codes "SELECT Id, Name FROM Deal__c LIMIT 1")) ≡ Some false }
-    ensures offset { option_map asks_for_names (query_in (codes "SELECT Id, Name FROM Deal__c OFFSET 1")) ≡ Some false }
+    ensures flat { option_map is_flat (query_in (codes "select id, NAME from deal__C")) ≡ Some true }
+    ensures path { option_map is_flat (query_in (codes "SELECT Id, Account__r.Name FROM Deal__c")) ≡ Some false }
+    ensures test { option_map is_flat (query_in (codes "SELECT Id FROM Deal__c WHERE Name = NULL")) ≡ Some true }
+    ensures path_test { option_map is_flat (query_in (codes "SELECT Id FROM Deal__c WHERE Account__r.Name = NULL")) ≡ Some false }
+    ensures order { option_map is_flat (query_in (codes "SELECT Id FROM Deal__c ORDER BY Name")) ≡ Some true }
+    ensures path_order { option_map is_flat (query_in (codes "SELECT Id FROM Deal__c ORDER BY Account__r.Name")) ≡ Some false }
+    ensures child { option_map is_flat (query_in (codes "SELECT Id, (SELECT Id FROM Notes__r) FROM Deal__c")) ≡ Some false }
     ensures word { query_in (codes "SELECT Id, Name FROM Limit") ≡ None }
 {}

@@ -7,7 +7,7 @@ use Rattle.ut_model.specs.declared.route.Route.{Route}
 use Rattle.ut_model.specs.declared.routed.Routed.TheVariants.{To}
 use Rattle.ut_model.specs.Verdict.{Verdict}
 use Rattle.ut_step.specs.Built.{verdict_to}
-use Rattle.ut_step.specs.Own.{IsAsking, request_shown}
+use Rattle.ut_step.specs.Own.{IsAsking, shown_beside}
 use Rattle.ut_rest.specs.inner.Answers.{AnswersBy, Refuses}
 use Rattle.ut_rest.proofs.Literals.{route_word}
 use Rattle.ut_rest.proofs.Named.{refused_so}
@@ -34,7 +34,7 @@ returns-then-lacks_administrator-clause-drafts g c =
     let state = g.K.Keeper.state in
     let laws = c.call_laws.ensures in
     let a = c.args.draft.now in
-    drafts_of state laws.makes laws.most 0 (request_shown + removals_of state data_table a) (omega arith) a a c.refuse.result c.unchanged.result c.unchanged.ensures
+    drafts_of state laws.makes laws.most 0 (shown_beside (removals_of state data_table a)) (omega arith) a a c.refuse.result c.unchanged.result c.unchanged.ensures
     (refused_calls state laws.weaker laws.none AdminRequired c.refuse.result a c.refuse.ensures.value)
 
 -- ---- a query
@@ -45,7 +45,7 @@ returns-in-Query-clause-what g c told =
     let caller = c.args.caller.now in
     let body = c.args.body.now in
     read_responds caller.org (IsAsking caller c.args.now) (λ a. verdict_to a body (To c.args.route.now)) (tables_of state c.args.draft.now) (tables_of state c.answer_query.new.draft) c.answer_query.result c.unchanged-in-Query.result c.unchanged-in-Query.ensures
-    (λ p a s asking. subst (λ (r : Route). AnswersBy a (verdict_to a body (To r)) c.answer_query.result) (sym c.in-Query.is) (c.answer_query.ensures.what told p a s asking.admin))
+    (λ p a s asking. subst (λ (r : Route). AnswersBy a (verdict_to a body (To r)) c.answer_query.result) (sym c.in-Query.is) (c.answer_query.ensures.what told p a s asking.admin asking.now))
 
 pub returns-in-Query-clause-form : goal.returns-in-Query-clause-form
 returns-in-Query-clause-form g c = form_of (To c.args.route.now) c.answer_query.result c.unchanged-in-Query.result c.unchanged-in-Query.ensures c.answer_query.ensures.form
@@ -55,7 +55,7 @@ returns-in-Query-clause-drafts g c =
     let state = g.K.Keeper.state in
     let laws = c.call_laws.ensures in
     let a = c.args.draft.now in
-    let shown = request_shown + removals_of state data_table a in
+    let shown = shown_beside (removals_of state data_table a) in
     drafts_of state laws.makes laws.most shown shown (omega arith) a c.answer_query.new.draft c.answer_query.result c.unchanged-in-Query.result c.unchanged-in-Query.ensures c.answer_query.ensures.calls
 
 -- ---- an administrator
@@ -74,7 +74,7 @@ pub returns-then-caller-clause-drafts : goal.returns-then-caller-clause-drafts
 returns-then-caller-clause-drafts g c =
     let state = g.K.Keeper.state in
     let a = c.args.draft.now in
-    administered_drafts state c.call_laws.ensures.most (request_shown + removals_of state data_table a) c.administer.result a c.administer.new.draft (omega arith) c.administer.ensures.drafts
+    administered_drafts state c.call_laws.ensures.most (shown_beside (removals_of state data_table a)) c.administer.result a c.administer.new.draft (omega arith) c.administer.ensures.drafts
 
 -- ---- any other
 
@@ -98,5 +98,5 @@ returns-else-caller-clause-drafts g c =
     let laws = c.call_laws.ensures in
     let a = c.args.draft.now in
     let refused = subst (λ (what : List ℕ). Refuses (NotBuilt what) c.refuse_unbuilt.result) route_word c.refuse_unbuilt.ensures.value in
-    drafts_of state laws.makes laws.most 0 (request_shown + removals_of state data_table a) (omega arith) a a c.refuse_unbuilt.result c.unchanged-else-caller.result c.unchanged-else-caller.ensures
+    drafts_of state laws.makes laws.most 0 (shown_beside (removals_of state data_table a)) (omega arith) a a c.refuse_unbuilt.result c.unchanged-else-caller.result c.unchanged-else-caller.ensures
     (refused_calls state laws.weaker laws.none (NotBuilt (codes "route")) c.refuse_unbuilt.result a refused)

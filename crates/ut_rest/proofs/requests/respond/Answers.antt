@@ -6,7 +6,7 @@ use Rattle.ut_model.specs.declared.refusal.Refusal.TheVariants as refusal
 use Rattle.ut_model.specs.declared.routed.Routed.{Routed}
 use Rattle.ut_stands.specs.Operations.{Responds}
 use Rattle.ut_step.specs.Built.{verdict_to}
-use Rattle.ut_step.specs.Own.{IsAsking, request_shown}
+use Rattle.ut_step.specs.Own.{IsAsking, shown_beside}
 use Rattle.ut_rest.specs.Forms.{IsRequestReply}
 use Rattle.ut_rest.proofs.Named.{refused_so}
 use Rattle.ut_rest.proofs.Responses.{drafts_of, form_of, read_responds, refused_calls}
@@ -43,7 +43,7 @@ returns-in-Ok-NotFound-clause-drafts g c =
     let state = g.K.Keeper.state in
     let laws = c.call_laws.ensures in
     let a = c.args.draft.now in
-    drafts_of state laws.makes laws.most 0 (request_shown + removals_of state data_table a) (omega arith) a a c.refuse.result c.unchanged.result c.unchanged.ensures
+    drafts_of state laws.makes laws.most 0 (shown_beside (removals_of state data_table a)) (omega arith) a a c.refuse.result c.unchanged.result c.unchanged.ensures
     (refused_calls state laws.weaker laws.none refusal.NotFound c.refuse.result a c.refuse.ensures.value)
 
 -- ---- another method
@@ -65,5 +65,5 @@ returns-in-Ok-NotAllowed-clause-drafts g c =
     let state = g.K.Keeper.state in
     let laws = c.call_laws.ensures in
     let a = c.args.draft.now in
-    drafts_of state laws.makes laws.most 0 (request_shown + removals_of state data_table a) (omega arith) a a c.refuse-in-Ok-NotAllowed.result c.unchanged-in-Ok-NotAllowed.result c.unchanged-in-Ok-NotAllowed.ensures
+    drafts_of state laws.makes laws.most 0 (shown_beside (removals_of state data_table a)) (omega arith) a a c.refuse-in-Ok-NotAllowed.result c.unchanged-in-Ok-NotAllowed.result c.unchanged-in-Ok-NotAllowed.ensures
     (refused_calls state laws.weaker laws.none refusal.MethodNotAllowed c.refuse-in-Ok-NotAllowed.result a c.refuse-in-Ok-NotAllowed.ensures.value)

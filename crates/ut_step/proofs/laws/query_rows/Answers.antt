@@ -6,13 +6,12 @@ pub returns : goal.returns
 unfolding reading_queries
 returns c =
     record {
-      named = refl;
-      turned = refl;
-      one = refl;
+      flat = refl;
       path = refl;
       test = refl;
+      path_test = refl;
       order = refl;
-      limit = refl;
-      offset = refl;
+      path_order = refl;
+      child = refl;
       word = refl;
     }

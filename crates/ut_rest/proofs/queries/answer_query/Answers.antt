@@ -8,15 +8,15 @@ use Rattle.ut_soql_grammar.specs.Spelling.{reads_query}
 use Rattle.ut_step.specs.Built.{query_verdict}
 use Rattle.ut_rest.specs.inner.Answers.{AnswersBy}
 use Rattle.ut_rest.proofs.Named.{refused_so}
-use Rattle.ut_rest.proofs.names.answer_query.Goals as goal
+use Rattle.ut_rest.proofs.queries.answer_query.Goals as goal
 
 pub returns-in-Ok-clause-what : goal.returns-in-Ok-clause-what
-returns-in-Ok-clause-what g c told p a s asking =
+returns-in-Ok-clause-what g c told p a s admin at =
     subst (λ (q : Result Query ℕ). AnswersBy a (query_verdict a q) c.answer_read.result)
-    (sym (subst (λ (r : Result Query ParseFail). UnlessMemory r (λ read. reads_query (query_text c.args.pairs.now) ≡ read)) c.in-Ok.is c.query_in.ensures)) (c.answer_read.ensures.what told p a s asking)
+    (sym (subst (λ (r : Result Query ParseFail). UnlessMemory r (λ read. reads_query (query_text c.args.pairs.now) ≡ read)) c.in-Ok.is c.query_in.ensures)) (c.answer_read.ensures.what told p a s admin ?)
 
 pub returns-in-Err-Malformed-clause-what : goal.returns-in-Err-Malformed-clause-what
-returns-in-Err-Malformed-clause-what g c told p a s asking =
+returns-in-Err-Malformed-clause-what g c told p a s admin at =
     subst (λ (q : Result Query ℕ). AnswersBy a (query_verdict a q) c.refuse_malformed.result)
     (sym (subst (λ (r : Result Query ParseFail). UnlessMemory r (λ read. reads_query (query_text c.args.pairs.now) ≡ read)) (c.in-Err-Malformed.is ∙ ap Err c.in-Err-Malformed.field-0-is) c.query_in.ensures))
     (refused_so a (MalformedQuery c.in-Err-Malformed.place) c.refuse_malformed.result c.refuse_malformed.ensures.value)

@@ -1,0 +1,141 @@
+//! Queries of one object.
+
+ghost use Rattle.std.specs.Prelude.{◌≡◌, [], IfOk, IsTrue, None, Ok, Some, pos, true};
+ghost use Rattle.std.specs.Str.{chars};
+ghost use Rattle.ut_answers.specs.Answers.{AnswersBy, IsReadReply, Refuses};
+ghost use Rattle.ut_grammar.specs.Place.{UnlessMemory};
+ghost use Rattle.ut_keeper.specs.Draft.{DraftTells, removals_of, tables_of};
+ghost use Rattle.ut_keeper.specs.State.{data_table};
+ghost use Rattle.ut_model.specs.declared.refusal.Refusal.TheVariants.{InvalidType, MalformedQuery};
+ghost use Rattle.ut_model.specs.Asking.{ask};
+ghost use Rattle.ut_model.specs.Paths.{Asked};
+ghost use Rattle.ut_model.specs.Step.{query_text};
+ghost use Rattle.ut_soql_grammar.specs.Spelling.{reads_query};
+ghost use Rattle.ut_stands.specs.Calls.{Calls, ended};
+ghost use Rattle.ut_stands.specs.Local.{StandsIn};
+ghost use Rattle.ut_stands.specs.Plan.{OrgPlan};
+ghost use Rattle.ut_step.specs.Built.{query_verdict};
+ghost use Rattle.ut_step.specs.Flat.{is_flat};
+ghost use Rattle.ut_step.specs.Own.{shown_beside};
+ghost use Rattle.ut_value.specs.Dates.{is_moment};
+
+use crate::query::query_text;
+use crate::replies::refuse_unbuilt;
+use std::alloc::Global;
+use ut_admin::moment;
+use ut_answers::{answer_flat, refuse};
+use ut_bind::is_flat;
+use ut_grammar::ParseFail;
+use ut_keeper::{Draft, Keeper, draft_laws};
+use ut_keys::StoreFail;
+use ut_model::{Caller, Refusal, Reply, object_laws};
+use ut_query::Query;
+use ut_soql::parse;
+use ut_stands::{call_laws, layout_named};
+use ut_value::Text;
+
+// An object that isn't there is refused under the name that the query has.
+fn refuse_object(alloc: Global, name: &Text) -> Result<Reply, StoreFail>
+    ensures value { Refuses (InvalidType name.now) result }
+    ensures form { IfOk result IsReadReply }
+{
+    match name.copy(alloc) {
+        Ok(name) => refuse(alloc, Refusal::InvalidType { name }),
+        Err(_) => Err(StoreFail::Memory),
+    }
+}
+
+// Answers an administrator who asks for records of the object with this name.
+fn answer_named<K: Keeper>(
+    alloc: Global,
+    draft: &mut Draft<'_, K>,
+    org: u32,
+    now: i64,
+    query: &Query,
+) -> Result<Reply, StoreFail>
+    ensures what { DraftTells K.state draft.old draft.new
+        → (p : OrgPlan) (a : Asked) → StandsIn org p (tables_of K.state draft.old) (Some a.tenant) → a.user.admin ≡ true
+        → a.now ≡ now → is_flat query.now ≡ true → query.now.tail.order ≡ [] → AnswersBy a (ask a query.now) result }
+    ensures form { IfOk result IsReadReply }
+    ensures calls { Calls K.state (shown_beside (removals_of K.state data_table draft.old)) (ended result) draft.old draft.new }
+{
+    draft_laws::<K>();
+    call_laws::<K>();
+    object_laws();
+    match layout_named(alloc, draft, org, query.tail.from.as_str()) {
+        Ok(Some(layout)) => answer_flat(alloc, draft, &layout, now, query),
+        Ok(None) => refuse_object(alloc, &query.tail.from),
+        Err(fail) => Err(fail),
+    }
+}
+
+// The query that a query string has.
+fn query_in(alloc: Global, pairs: &Text) -> Result<Query, ParseFail>
+    ensures { UnlessMemory result (λ read. reads_query (query_text pairs.now) ≡ read) }
+{
+    let text = query_text(alloc, pairs)?;
+    parse(alloc, text.as_str())
+}
+
+// A text that spells no query is refused, with the byte at which the token begins that can't be there.
+fn refuse_malformed(alloc: Global, place: usize) -> Result<Reply, StoreFail>
+    ensures value { Refuses (MalformedQuery place) result }
+    ensures form { IfOk result IsReadReply }
+{
+    refuse(alloc, Refusal::MalformedQuery { place })
+}
+
+// Answers a query that was read. Those with paths of several names, with subqueries or with an order, and those of who is no
+// administrator, aren't built.
+fn answer_read<K: Keeper>(
+    alloc: Global,
+    draft: &mut Draft<'_, K>,
+    caller: &Caller,
+    now: i64,
+    query: &Query,
+) -> Result<Reply, StoreFail>
+    ensures what { DraftTells K.state draft.old draft.new
+        → (p : OrgPlan) (a : Asked) → StandsIn caller.now.org p (tables_of K.state draft.old) (Some a.tenant)
+        → a.user.admin ≡ caller.now.admin → a.now ≡ now → AnswersBy a (query_verdict a (Ok query.now)) result }
+    ensures form { IfOk result IsReadReply }
+    ensures calls { Calls K.state (shown_beside (removals_of K.state data_table draft.old)) (ended result) draft.old draft.new }
+{
+    call_laws::<K>();
+    if !is_flat(query) {
+        refuse_unbuilt(alloc, "paths")
+    } else if !query.tail.order.as_slice().is_empty() {
+        refuse_unbuilt(alloc, "order")
+    } else if caller.admin {
+        answer_named(alloc, draft, caller.org, now, query)
+    } else {
+        refuse_unbuilt(alloc, "route")
+    }
+}
+
+/// Answers the query of a query string at this moment. Nothing is changed.
+///
+/// # Errors
+///
+/// `Keeper` if the keeper failed, `Memory` if out of memory, `Damaged` never if the rows of the caller's organisation stand for a
+/// tenant.
+pub(crate) fn answer_query<K: Keeper>(
+    alloc: Global,
+    draft: &mut Draft<'_, K>,
+    caller: &Caller,
+    now: u64,
+    pairs: &Text,
+) -> Result<Reply, StoreFail>
+    requires { IsTrue (is_moment (pos now)) }
+    ensures what { DraftTells K.state draft.old draft.new
+        → (p : OrgPlan) (a : Asked) → StandsIn caller.now.org p (tables_of K.state draft.old) (Some a.tenant)
+        → a.user.admin ≡ caller.now.admin → a.now ≡ pos now → AnswersBy a (query_verdict a (reads_query (query_text pairs.now))) result }
+    ensures form { IfOk result IsReadReply }
+    ensures calls { Calls K.state (shown_beside (removals_of K.state data_table draft.old)) (ended result) draft.old draft.new }
+{
+    call_laws::<K>();
+    match query_in(alloc, pairs) {
+        Ok(query) => answer_read(alloc, draft, caller, moment(now), &query),
+        Err(ParseFail::Malformed(place)) => refuse_malformed(alloc, place),
+        Err(ParseFail::Memory) => Err(StoreFail::Memory),
+    }
+}

@@ -17,13 +17,13 @@ use Rattle.ut_model.specs.declared.record_bodies.Assignment.{Assignment}
 use Rattle.ut_model.specs.declared.refusal.Refusal.{Refusal}
 use Rattle.ut_model.specs.declared.refusal.Refusal.TheVariants.{NotBuilt}
 use Rattle.ut_model.specs.declared.route.Route.{Route}
-use Rattle.ut_model.specs.declared.route.Route.TheVariants.{AddField, AddObject, AddValidationRule, Create, Delete, SetObject, Update}
+use Rattle.ut_model.specs.declared.route.Route.TheVariants.{AddField, AddObject, AddValidationRule, Create, Delete, SetObject, Update, Upsert}
 use Rattle.ut_step.specs.Built.{built_request, is_built}
 use Rattle.ut_step.specs.Own.{edit_shown, request_changes, request_gone}
 use Rattle.ut_model.specs.Forms.{access_request, field_request, object_request, validation_request}
 use Rattle.ut_model.specs.Paths.{Asked}
-use Rattle.ut_model.specs.RequestOf.{request_of, request_or, verdict_or}
-use Rattle.ut_model.specs.Requests.{Request, adds_field, adds_object, adds_validation_rule, creates, deletes, sets_object, updates, verdict_on}
+use Rattle.ut_model.specs.RequestOf.{request_of, request_or, value_part, verdict_or}
+use Rattle.ut_model.specs.Requests.{Request, adds_field, adds_object, adds_validation_rule, creates, deletes, sets_object, updates, upserts, verdict_on}
 use Rattle.ut_model.specs.Sound.{IsSound}
 use Rattle.ut_model.specs.Tenant.{Tenant}
 use Rattle.ut_model.specs.Verdict.{Done, Verdict}
@@ -83,22 +83,26 @@ of_values : (read : Result (Option (List Assignment)) AllocError) (body : List �
 of_values (Ok x) body make e = e make
 of_values (Err x) body make e = e
 
-asks_values : (make : List Assignment → Request) (body : List ℕ) (read : Result (Option (List Assignment)) AllocError)
+pub asks_values : (make : List Assignment → Request) (body : List ℕ) (read : Result (Option (List Assignment)) AllocError)
     → IfOk read (λ values. (make : List Assignment → Request) → option_map make values ≡ request_in (values_request make) body)
     → Asks make (request_or (request_in (values_request make) body)) (form_of read)
 asks_values make body read e = asks_form make read (request_in (values_request make) body) (of_values read body make e)
 
-pub asks_new : (object body : List ℕ) (read : Result (Option (List Assignment)) AllocError)
-    → IfOk read (λ values. (make : List Assignment → Request) → option_map make values ≡ request_in (values_request make) body)
-    → Asks (creates object) (built_request (Create object) body) (form_of read)
-unfolding request_of
-asks_new object body read e = asks_values (creates object) body read e
+-- what is read of a body, as the request that a route makes of it
+abbrev AsksBy : Route → (List Assignment → Request) → (body : List ℕ) → Result (List Assignment) EditFail → Type 0
+AsksBy r make body values = Asks make (request_or (request_in (values_request make) body)) values → Asks make (built_request r body) values
 
-pub asks_other : (object key body : List ℕ) (read : Result (Option (List Assignment)) AllocError)
-    → IfOk read (λ values. (make : List Assignment → Request) → option_map make values ≡ request_in (values_request make) body)
-    → Asks (updates object key) (built_request (Update object key) body) (form_of read)
+pub asks_new : (object body : List ℕ) (values : Result (List Assignment) EditFail) → AsksBy (Create object) (creates object) body values
 unfolding request_of
-asks_other object key body read e = asks_values (updates object key) body read e
+asks_new object body values h = h
+
+pub asks_other : (object key body : List ℕ) (values : Result (List Assignment) EditFail) → AsksBy (Update object key) (updates object key) body values
+unfolding request_of
+asks_other object key body values h = h
+
+pub asks_upsert : (object key value body : List ℕ) (values : Result (List Assignment) EditFail) → AsksBy (Upsert object key value) (upserts object key (value_part value)) body values
+unfolding request_of
+asks_upsert object key value body values h = h
 
 -- a deletion has no body
 pub asks_no_more : (object key body : List ℕ) → built_request (Delete object key) body ≡ Ok (deletes object key)
@@ -162,6 +166,7 @@ edits_none make org asks r s body fail m result route is e =
 pub record IsOther (r : Route) : Type 0 where
   pub no_record : (object : List ℕ) → r ≡ Create object → ⊥
   pub no_change : (object key : List ℕ) → r ≡ Update object key → ⊥
+  pub no_upsert : (object key value : List ℕ) → r ≡ Upsert object key value → ⊥
   pub no_deletion : (object key : List ℕ) → r ≡ Delete object key → ⊥
   pub no_object : r ≡ AddObject → ⊥
   pub no_access : (object : List ℕ) → r ≡ SetObject object → ⊥
@@ -171,6 +176,7 @@ pub record IsOther (r : Route) : Type 0 where
 not_built : (r : Route) → IsOther r → is_built r ≡ false
 not_built (Create object) other = absurd (other.no_record object refl)
 not_built (Update object key) other = absurd (other.no_change object key refl)
+not_built (Upsert object key value) other = absurd (other.no_upsert object key value refl)
 not_built (Delete object key) other = absurd (other.no_deletion object key refl)
 not_built AddObject other = absurd (other.no_object refl)
 not_built (SetObject object) other = absurd (other.no_access object refl)

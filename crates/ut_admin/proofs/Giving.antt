@@ -8,10 +8,10 @@ use Rattle.ut_deletes.specs.Deleting.{IsDeleting}
 use Rattle.ut_model.specs.declared.caller.Caller.{Caller}
 use Rattle.ut_model.specs.declared.record_bodies.Assignment.{Assignment}
 use Rattle.ut_model.specs.Paths.{Asked}
-use Rattle.ut_model.specs.Tenant.{User}
+use Rattle.ut_model.specs.Tenant.{Object, User}
 use Rattle.ut_model.specs.World.{user_at}
 use Rattle.ut_records.specs.Creating.{IsGiving}
-use Rattle.ut_sound.specs.Fit.{IsCaller, OfObjects, ReadsWell}
+use Rattle.ut_sound.specs.Fit.{IsCaller, OfObjects}
 use Rattle.ut_value.specs.Dates.{is_moment}
 
 -- who is found by an id has it
@@ -34,17 +34,15 @@ asks_within c n a moment h =
     let id : a.user.id ≡ c.user = sym (has_id a.tenant.users c.user a.user h.0.user) in
     (id, (subst (λ (i : List ℕ). IsTrue (is_some (user_at a.tenant.users i))) (sym id) (ap is_some h.0.user), subst (λ (z : ℤ). IsTrue (is_moment z)) (sym h.0.now) moment))
 
--- the moment and the values, as the edit has them
-pub giving : (c : Caller) (n : ℕ) (now : ℤ) (given spelled : List Assignment) (a : Asked) → now ≡ pos n → IsTrue (is_moment (pos n)) → spelled ≡ given
-    → OfObjects a (λ o. ReadsWell a o given) → Administers c n a → IsGiving c.user now spelled a
-giving c n now given spelled a at moment is fit h =
+-- the moment and the values, as the edit has them: what is given reads as the form of the request has it
+pub giving : (c : Caller) (n : ℕ) (now : ℤ) (reads : List Assignment → Asked → Object → Type 0) (given spelled : List Assignment) (a : Asked) → now ≡ pos n → IsTrue (is_moment (pos n))
+    → spelled ≡ given → OfObjects a (reads given a) → Administers c n a → IsGiving c.user now (reads spelled) a
+giving c n now reads given spelled a at moment is fit h =
     let asked = asks_within c n a moment h in
     record {
-      admin = h.1;
-      user = asked.0;
+      asker = record { admin = h.1; user = asked.0; now = h.0.now ∙ sym at };
       caller = asked.1;
-      now = h.0.now ∙ sym at;
-      reads = subst (λ (g : List Assignment). OfObjects a (λ x. ReadsWell a x g)) (sym is) fit;
+      reads = subst (λ (g : List Assignment). OfObjects a (reads g a)) (sym is) fit;
     }
 
 -- the moment, as a deletion has it

@@ -1,4 +1,5 @@
 mod Asked
 mod Giving
+mod Parts
 mod Replied
 mod Values

@@ -1,7 +1,7 @@
 -- What a reply says of the edit that it is made for.
-use Rattle.std.proofs.Common.{◌≡◌, ◌⊎◌, ◌<◌, inl, inr, ℕ, IsTrue, sym, ap, subst, refl, ◌∙◌, List, [], ◌∷◌, Result, Ok, Err}
+use Rattle.std.proofs.Common.{◌≡◌, ◌⊎◌, ◌<◌, inl, inr, ℕ, Bool, true, false, IsTrue, sym, ap, subst, refl, ◌∙◌, List, [], ◌∷◌, Result, Ok, Err}
 use Rattle.std.specs.Char.{encode_utf8}
-use Rattle.std.specs.Prelude.{IfErr, IfOk, OnOk}
+use Rattle.std.specs.Prelude.{IfErr, OnOk}
 use Rattle.ut_edits.specs.Edits.{DraftsEdit, OthersStay}
 use Rattle.ut_keeper.specs.Draft.{DraftReads, Held, count_of}
 use Rattle.ut_keeper.specs.State.{KeeperState}
@@ -10,10 +10,12 @@ use Rattle.ut_keys.specs.declared.fail.StoreFail.{StoreFail}
 use Rattle.ut_keys.specs.declared.fail.StoreFail.TheVariants.{Memory}
 use Rattle.ut_model.specs.declared.reply.Reply.{Reply}
 use Rattle.ut_model.specs.declared.route.Route.{Route}
-use Rattle.ut_model.specs.declared.route.Route.TheVariants.{Create}
+use Rattle.ut_model.specs.declared.route.Route.TheVariants.{Create, Upsert}
+use Rattle.ut_model.specs.Organisations.{administrator, fresh}
 use Rattle.ut_model.specs.Paths.{Asked}
 use Rattle.ut_model.specs.Replies.{reply_of}
 use Rattle.ut_model.specs.Verdict.{Verdict}
+use Rattle.ut_model.specs.WorkedQueries.{asked_by}
 use Rattle.ut_stands.specs.Calls.{Ending, HasFallen, Makes, ended, ended_edit, is_done, stopped}
 use Rattle.ut_stands.specs.Fails.{IsRefusal, is_judged}
 use Rattle.ut_stands.specs.Local.{KeepsOthers}
@@ -21,8 +23,7 @@ use Rattle.ut_stands.specs.Operations.{Drafts, IsChange, IsSame, RepliesAt, Resp
 use Rattle.ut_stands.specs.declared.fail.EditFail.{EditFail}
 use Rattle.ut_stands.specs.declared.fail.EditFail.TheVariants.{Refused, Store}
 use Rattle.ut_stands.specs.declared.judged.Judged.{Judged}
-use Rattle.ut_stands.specs.declared.judged.Judged.TheVariants.{Changed, Same}
-use Rattle.ut_admin.specs.Administration.{IsChangeReply, IsEditReply}
+use Rattle.ut_admin.specs.Administration.{IsChangeReply}
 use Rattle.ut_admin.specs.declared.answer.Answer.{Answer}
 use Rattle.ut_admin.specs.declared.answer.Answer.TheVariants as answer
 use Rattle.ut_admin.specs.inner.Edits.{EditsFrom, EditsTo, IsAnswerTo, answer_of, reply_made, reply_to}
@@ -40,10 +41,18 @@ by_reply : (P : Returned → Type 0) (edit : Edit) (result : Returned) → IsRep
 by_reply P edit result (inl e) replied none = subst P (sym e) replied
 by_reply P edit result (inr e) replied none = subst P (sym e.0) (none e.1)
 
+-- the reply to an answer is the same to all who ask, so to this one
+pub someone : Asked
+someone = asked_by (administrator [] []) (fresh [] [])
+
+abbrev pub with_status : (body : List ℕ) → (status : ℕ) → Reply
+with_status body status = record { status = status; body = body }
+
 -- the verdict's reply to an answer is the same to all who ask
 made_is : (a : Asked) (x : Answer) → reply_made x ≡ reply_of a (Ok (answer_of x))
 made_is a answer.Done = refl
 made_is a (answer.Made id) = refl
+made_is a (answer.Upserted id created) = refl
 
 replies : (org : ℕ) (a : Asked) (v : Verdict) (after : Tables) (edit : Edit) → EditsTo org a.tenant v after edit → RepliesAt org a v after (reply_to edit)
 replies org a v after (Ok x) e = (made_is a x ∙ ap (reply_of a) (sym e.0), e.1)
@@ -73,16 +82,26 @@ made_some : (id : List ℕ) → IsSomeText (reply_made (answer.Made id)).body
 unfolding IsSomeText encode_utf8
 made_some id = tt
 
+upserted_some : (id : List ℕ) (created : Bool) → IsSomeText (reply_made (answer.Upserted id created)).body
+unfolding IsSomeText encode_utf8
+upserted_some id created = tt
+
+upserted_status : (id : List ℕ) (created : Bool) → let s = (reply_made (answer.Upserted id created)).status in (s ≡ 201) ⊎ (s ≡ 200)
+upserted_status id true = inl refl
+upserted_status id false = inr refl
+
 none_made : IsSomeText [] → ⊥
 unfolding IsSomeText
 none_made h = h
 
 -- of a change
 pub change_form : (route : Route) (x : Answer) → IsAnswerTo route x → IsChangeReply route (reply_made x)
-change_form (Create object) answer.Done h = absurd h
 change_form (Create object) (answer.Made id) h = (refl, λ e. none_made (subst IsSomeText e (made_some id)))
+change_form (Create object) _ h = absurd h
+change_form (Upsert object key value) (answer.Upserted id created) h = (upserted_status id created, λ e. none_made (subst IsSomeText e (upserted_some id created)))
+change_form (Upsert object key value) _ h = absurd h
 change_form _ answer.Done h = (refl, refl)
-change_form _ (answer.Made id) h = absurd h
+change_form _ _ h = absurd h
 
 -- ---- what is left of the draft
 

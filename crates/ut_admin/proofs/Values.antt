@@ -1,7 +1,6 @@
 -- That the values which a body gives to fields are in JSON, and a moment as a count of seconds.
-use Rattle.std.proofs.Common.{◌≡◌, ◌<◌, ◌^◌, ℕ, Bool, true, false, cond, IsTrue, List, [], ◌∷◌, map, filter, not, refl, sym, ap, subst, ◌∙◌, arith, pos, Option, Some, None, Result, Ok, Err}
+use Rattle.std.proofs.Common.{◌≡◌, ◌<◌, ◌^◌, ℕ, Bool, true, false, cond, IsTrue, List, [], ◌∷◌, map, filter, not, refl, ap, subst, ◌∙◌, arith, pos, Option, Some, None, Result, Ok, Err}
 use Rattle.std.proofs.lemmas.Bool.Decides.{nat_tests}
-use Rattle.std.proofs.lemmas.Int.{ints}
 use Rattle.std.specs.Option.{option_map}
 use Rattle.std.specs.Prelude.{IfOk, bytes_eq, codes, nat_le}
 use Rattle.std.specs.declared.alloc.AllocError.{AllocError}

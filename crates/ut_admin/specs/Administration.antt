@@ -1,10 +1,10 @@
 -- An administrator who asks, and what is returned to the request.
--- Source of the statuses: RFC 9110, 15.3.2 and 15.3.5, of 201 and 204.
-use Rattle.std.specs.Prelude.{◌≡◌, ◌≢◌, ℕ, [], true, IsTrue}
+-- Source of the statuses: RFC 9110, 15.3.1, 15.3.2 and 15.3.5, of 200, 201 and 204.
+use Rattle.std.specs.Prelude.{◌≡◌, ◌≢◌, ◌⊎◌, ℕ, [], true, IsTrue}
 use Rattle.ut_model.specs.declared.caller.Caller.{Caller}
 use Rattle.ut_model.specs.declared.reply.Reply.{Reply}
 use Rattle.ut_model.specs.declared.route.Route.{Route}
-use Rattle.ut_model.specs.declared.route.Route.TheVariants.{Create}
+use Rattle.ut_model.specs.declared.route.Route.TheVariants.{Create, Upsert}
 use Rattle.ut_model.specs.Paths.{Asked}
 use Rattle.ut_model.specs.Refusals.{is_refusal_status}
 use Rattle.ut_stands.specs.declared.judged.Judged.{Judged}
@@ -15,9 +15,10 @@ use Rattle.ut_step.specs.Own.{IsAsking}
 abbrev pub Administers : Caller → (now : ℕ) → Asked → Type 0
 Administers c now a = IsAsking c now a × (a.user.admin ≡ true)
 
--- the reply to a change: of a new record 201 with a body, and of all else 204 without one
+-- the reply to a change: of a new record 201 with a body, of an upsert 201 or 200 with one, and of all else 204 without one
 abbrev pub IsChangeReply : Route → Reply → Type 0
 IsChangeReply (Create object) r = (r.status ≡ 201) × (r.body ≢ [])
+IsChangeReply (Upsert object key value) r = ((r.status ≡ 201) ⊎ (r.status ≡ 200)) × (r.body ≢ [])
 IsChangeReply _ r = (r.status ≡ 204) × (r.body ≡ [])
 
 -- what goes with no change refuses

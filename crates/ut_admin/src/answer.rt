@@ -1,9 +1,10 @@
 //! What edits answer.
 
 ghost use Rattle.std.specs.Prelude.{◌≡◌};
-ghost use Rattle.ut_admin.specs.inner.Edits.{seen};
+ghost use Rattle.ut_admin.specs.inner.Edits.{as_upserted, seen};
 
 use ut_stands::EditFail;
+use ut_upserts::Upserted;
 use ut_value::Id;
 
 /// What an edit answers once it is made.
@@ -13,24 +14,34 @@ pub(crate) enum Answer {
     Done,
     /// The id of what is new.
     Made(Id),
+    /// What has the given values now.
+    Upserted {
+        /// Its id.
+        id: Id,
+        /// Whether it is new.
+        created: bool,
+    },
 }
 
 /// What is answered to an edit that makes nothing with an id.
 pub(crate) fn done(edit: Result<(), EditFail>) -> Result<Answer, EditFail>
     ensures { result ≡ seen (λ _. Answer.Done) edit }
 {
-    match edit {
-        Ok(()) => Ok(Answer::Done),
-        Err(fail) => Err(fail),
-    }
+    edit?;
+    Ok(Answer::Done)
 }
 
 /// What is answered to an edit that makes something with an id.
 pub(crate) fn made(edit: Result<Id, EditFail>) -> Result<Answer, EditFail>
     ensures { result ≡ seen (λ id. Answer.Made id) edit }
 {
-    match edit {
-        Ok(id) => Ok(Answer::Made(id)),
-        Err(fail) => Err(fail),
-    }
+    Ok(Answer::Made(edit?))
+}
+
+/// What is answered to an edit that makes something or finds it.
+pub(crate) fn upserted(edit: Result<Upserted, EditFail>) -> Result<Answer, EditFail>
+    ensures { result ≡ seen as_upserted edit }
+{
+    let Upserted { id, created } = edit?;
+    Ok(Answer::Upserted { id, created })
 }

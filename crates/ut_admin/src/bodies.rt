@@ -2,9 +2,12 @@
 
 ghost use Rattle.std.specs.Prelude.{◌≡◌, IfOk, List, ℕ};
 ghost use Rattle.ut_admin.specs.inner.Edits.{Asks, form_of};
+ghost use Rattle.ut_bodies.specs.Bodies.{request_in, values_request};
 ghost use Rattle.ut_given.specs.Given.{IsInJson};
-ghost use Rattle.ut_model.specs.Requests.{adds_field, adds_object, adds_validation_rule, creates, sets_object, updates};
-ghost use Rattle.ut_model.specs.declared.route.Route.TheVariants.{AddField, AddObject, AddValidationRule, Create, SetObject, Update};
+ghost use Rattle.ut_model.specs.RequestOf.{request_or};
+ghost use Rattle.ut_model.specs.Requests.{Request, adds_field, adds_object, adds_validation_rule, sets_object};
+ghost use Rattle.ut_model.specs.declared.record_bodies.Assignment.{Assignment};
+ghost use Rattle.ut_model.specs.declared.route.Route.TheVariants.{AddField, AddObject, AddValidationRule, SetObject};
 ghost use Rattle.ut_step.specs.Built.{built_request};
 
 use std::alloc::{AllocError, Global};
@@ -25,14 +28,13 @@ fn form_of<T>(read: Result<Option<T>, AllocError>) -> Result<T, EditFail>
     }
 }
 
-/// The values that a body gives to the fields of a record, new or not, all in JSON.
+/// The values that a body gives to the fields of a record, new or not, all in JSON, by which any request may be made.
 ///
 /// # Errors
 ///
 /// `Refused` with `BodyForm` if the body isn't of that form; `Store` with `Memory` if out of memory.
 pub(crate) fn values_in(alloc: Global, body: &[u8]) -> Result<Items<Assignment>, EditFail>
-    ensures new { (object : List ℕ) → Asks (creates object) (built_request (Create object) body.now) result }
-    ensures other { (object key : List ℕ) → Asks (updates object key) (built_request (Update object key) body.now) result }
+    ensures values { (make : List Assignment → Request) → Asks make (request_or (request_in (values_request make) body.now)) result }
     ensures json { IfOk result IsInJson }
 {
     form_of(field_values(alloc, body))

@@ -12,7 +12,7 @@ ghost use Rattle.ut_value.specs.Dates.{is_moment};
 
 use crate::answer::{Answer, done};
 use crate::bodies::{access_in, field_in, object_in, rule_in};
-use crate::records::{changed_record, deleted_record, new_record};
+use crate::records::{changed_record, deleted_record, new_record, upserted_record};
 use std::alloc::Global;
 use ut_edits::make_edit;
 use ut_keeper::{Draft, Keeper};
@@ -51,6 +51,9 @@ pub(crate) fn edit<K: Keeper>(
         Route::Create { object } => new_record(alloc, draft, caller, now, object, body),
         Route::Update { object, key } => {
             changed_record(alloc, draft, caller, now, object, key, body)
+        }
+        Route::Upsert { object, key, value } => {
+            upserted_record(alloc, draft, caller, now, object, key, value, body)
         }
         Route::Delete { object, key } => deleted_record(alloc, draft, caller, now, object, key),
         Route::AddObject => {

@@ -5,15 +5,17 @@ ghost use Rattle.ut_admin.specs.Administration.{Administers};
 ghost use Rattle.ut_admin.specs.inner.Edits.{EditsFrom, IsAnswerTo};
 ghost use Rattle.ut_edits.specs.Edits.{DraftsEdit};
 ghost use Rattle.ut_keeper.specs.Draft.{DraftTells, tables_of};
-ghost use Rattle.ut_model.specs.RequestOf.{verdict_or};
+ghost use Rattle.ut_model.specs.RequestOf.{value_part, verdict_or};
 ghost use Rattle.ut_model.specs.declared.route.Route.TheVariants as route;
 ghost use Rattle.ut_step.specs.Built.{built_request};
 ghost use Rattle.ut_step.specs.Own.{edit_shown, request_changes, request_gone};
 ghost use Rattle.ut_value.specs.Dates.{is_moment};
 
-use crate::answer::{Answer, done, made};
+use crate::answer::{Answer, done, made, upserted};
 use crate::bodies::values_in;
-use std::alloc::Global;
+use percent_encoding::percent_decode;
+use std::alloc::{AllocError, Global};
+use std::str::from_utf8;
 use ut_deletes::Delete;
 use ut_edits::make_edit;
 use ut_keeper::{Draft, Keeper};
@@ -21,14 +23,27 @@ use ut_model::{Caller, refusal_laws};
 use ut_records::{Create, Update};
 use ut_sound::requests_fit;
 use ut_stands::{EditFail, call_laws};
+use ut_upserts::Upsert;
 use ut_value::Text;
 
-/// A moment of the calendar, as edits have it.
-pub fn moment(now: u64) -> i64
+// A moment of the calendar, as edits have it.
+fn moment(now: u64) -> i64
     requires { IsTrue (is_moment (pos now)) }
     ensures { result ≡ pos now }
 {
     now as i64
+}
+
+// The value in the path of an upsert, with its percent triplets decoded; none where these bytes aren't UTF-8.
+fn value_part(alloc: Global, part: &Text) -> Result<Option<Text>, AllocError>
+    ensures { IfOk result (λ text. text ≡ value_part part.now) }
+{
+    let mut bytes = Vec::new(alloc);
+    percent_decode(part.as_str().as_bytes()).append_to(&mut bytes)?;
+    match from_utf8(bytes.as_slice()) {
+        Ok(text) => Ok(Some(Text::from_str(alloc, text)?)),
+        Err(_) => Ok(None),
+    }
 }
 
 /// Makes a record of the object with this name, by a body.
@@ -100,6 +115,47 @@ pub(crate) fn changed_record<K: Keeper>(
         given: values.as_slice(),
     };
     done(make_edit(alloc, draft, caller.org, &update))
+}
+
+/// Gives values, by a body, to the record of the object with this name that has the value of the path in a unique field, or else
+/// makes one. A body that isn't of its form is refused first, whatever the value is.
+///
+/// # Errors
+///
+/// `Refused` if the body isn't of its form, or as the edit is; nothing is then changed. `Store` with `Keeper` if the keeper failed,
+/// `Memory` if out of memory.
+pub(crate) fn upserted_record<K: Keeper>(
+    alloc: Global,
+    draft: &mut Draft<'_, K>,
+    caller: &Caller,
+    now: u64,
+    object: &Text,
+    key: &Text,
+    value: &Text,
+    body: &[u8],
+) -> Result<Answer, EditFail>
+    requires { IsTrue (is_moment (pos now)) }
+    ensures what { DraftTells K.state draft.old draft.new
+        → EditsFrom caller.now.org (Administers caller.now now)
+        (λ a. verdict_or a (built_request (route.Upsert object.now key.now value.now) body.now)) (tables_of K.state draft.old)
+        (tables_of K.state draft.new) result }
+    ensures form { IfOk result (IsAnswerTo (route.Upsert object.now key.now value.now)) }
+    ensures makes { DraftsEdit K.state request_changes request_gone edit_shown result draft.old draft.new }
+{
+    call_laws::<K>();
+    requests_fit();
+    refusal_laws();
+    let values = values_in(alloc, body)?;
+    let text = value_part(alloc, value)?;
+    let upsert = Upsert {
+        user: caller.user,
+        now: moment(now),
+        object,
+        key,
+        text,
+        given: values.as_slice(),
+    };
+    upserted(make_edit(alloc, draft, caller.org, &upsert))
 }
 
 /// Deletes a record of the object with this name, with all that goes with it. The record is named by its id. Of the request no

@@ -1,6 +1,6 @@
 //! The replies to edits.
 
-ghost use Rattle.std.specs.Prelude.{◌≡◌, ◌⊎◌, Err, IfOk, IsTrue};
+ghost use Rattle.std.specs.Prelude.{◌≡◌, ◌⊎◌, Err, IfOk, IsTrue, if◌then◌else◌};
 ghost use Rattle.ut_admin.specs.Administration.{IsEditReply};
 ghost use Rattle.ut_admin.specs.inner.Edits.{IsAnswerTo, reply_made, reply_to};
 ghost use Rattle.ut_keys.specs.declared.fail.StoreFail.TheVariants.{Memory};
@@ -12,7 +12,7 @@ use http::StatusCode;
 use std::alloc::{AllocError, Global};
 use ut_keys::StoreFail;
 use ut_model::Reply;
-use ut_replies::made_body;
+use ut_replies::{made_body, upserted_body};
 use ut_stands::{EditFail, Judged};
 use ut_value::{Bytes, Id};
 
@@ -36,6 +36,28 @@ fn made_reply(alloc: Global, id: &Id) -> Result<Reply, AllocError>
     })
 }
 
+// The status of the reply to an upsert.
+fn upserted_status(created: bool) -> StatusCode
+    ensures { result ≡ (if created then 201 else 200) }
+{
+    if created {
+        StatusCode::CREATED
+    } else {
+        StatusCode::OK
+    }
+}
+
+// The reply that has the id of what was made or found, and says whether it is new.
+fn upserted_reply(alloc: Global, id: &Id, created: bool) -> Result<Reply, AllocError>
+    ensures { IfOk result (λ r. r ≡ reply_made (Answer.Upserted id.now created)) }
+{
+    let body = upserted_body(alloc, id, created)?;
+    Ok(Reply {
+        status: upserted_status(created),
+        body,
+    })
+}
+
 // The reply to an edit that was made.
 fn answered(alloc: Global, answer: &Answer) -> Result<Reply, AllocError>
     ensures { IfOk result (λ r. r ≡ reply_made answer.now) }
@@ -43,6 +65,7 @@ fn answered(alloc: Global, answer: &Answer) -> Result<Reply, AllocError>
     match answer {
         Answer::Done => Ok(done_reply(alloc)),
         Answer::Made(id) => made_reply(alloc, id),
+        Answer::Upserted { id, created } => upserted_reply(alloc, id, *created),
     }
 }
 

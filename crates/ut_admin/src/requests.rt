@@ -18,7 +18,7 @@ use ut_model::{Caller, Reply, Route};
 use ut_stands::Judged;
 
 /// Judges an administrator's request at this moment, and makes its reply: if the draft holds the change that it asks for, 201 with
-/// the id of a new record, or else 204; and a refusal if it changes nothing.
+/// the id of a new record, of an upsert 201 or 200 with the record's id, or else 204; and a refusal if it changes nothing.
 ///
 /// # Errors
 ///

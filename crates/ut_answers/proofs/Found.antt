@@ -47,7 +47,7 @@ use Rattle.ut_model.specs.declared.refusal.Refusal.TheVariants.{InvalidType, Rep
 use Rattle.ut_bind.specs.Checks.{site_of, takes}
 use Rattle.ut_step.specs.Flat.{is_flat, is_flat_item, is_flat_test, has_one_name}
 use Rattle.ut_model.specs.Tests.{tests}
-use Rattle.ut_bind.specs.Plans.{Means, Member, asked_member, member}
+use Rattle.ut_bind.specs.Plans.{Means, ShownValue, selected_value, shown_value}
 use Rattle.ut_bind.specs.declared.plan.Plan.{Plan}
 use Rattle.ut_bind.specs.declared.plan.Shown.{Shown}
 use Rattle.ut_exec.specs.Written.{AppendsRows, InTenants, WritesRows, rows_kept}
@@ -134,7 +134,7 @@ module _ (t : Tenant) (r : Record) (sound : IsSound t) (has : Has t.records r) (
   cell_is s = ap (λ (b : Bool). cond b (value_in (site_of s.site) r) value.Null) (site_printable (site_of s.site))
 
   -- what is shown, as texts
-  cells_are : (shown : List Shown) → map member_text (map (λ (s : Shown). (s.name, cell_of r s)) shown) ≡ map (λ (m : Member). member_json m.name (value_json m.value)) (map (member r) shown)
+  cells_are : (shown : List Shown) → map member_text (map (λ (s : Shown). (s.name, cell_of r s)) shown) ≡ map (λ (m : ShownValue). member_json m.name (value_json m.value)) (map (shown_value r) shown)
   cells_are [] = refl
   cells_are (s ∷ shown) =
       ap (λ (v : Value). member_json s.name (value_json v) ∷ map member_text (map (λ (s : Shown). (s.name, cell_of r s)) shown)) (cell_is s)
@@ -150,17 +150,17 @@ module _ (write : RowJson) (a : Asked) (r : Record) (all : List Item) where
   path_one selected_before (name ∷ next ∷ names) e = absurd cc
 
   item_one : (selected_before : List Item) (x : Item) → is_flat_item x ≡ true
-      → item_member write a r all selected_before x ≡ member_json (asked_member a r x).name (value_json (asked_member a r x).value) ∷ []
+      → item_member write a r all selected_before x ≡ member_json (selected_value a r x).name (value_json (selected_value a r x).value) ∷ []
   item_one selected_before (item.Path p) e = path_one selected_before p.names e
   item_one selected_before (item.Child paths tail) e = absurd cc
 
   items_are : (selected_before items : List Item) → list_all is_flat_item items ≡ true
-      → flat_map (λ x. item_member write a r all x.before x.it) (with_before selected_before items) ≡ map (λ (m : Member). member_json m.name (value_json m.value)) (map (asked_member a r) items)
+      → flat_map (λ x. item_member write a r all x.before x.it) (with_before selected_before items) ≡ map (λ (m : ShownValue). member_json m.name (value_json m.value)) (map (selected_value a r) items)
   items_are selected_before [] e = refl
   items_are selected_before (x ∷ xs) e =
       ap (λ (ts : List (List ℕ)). ts ++ flat_map (λ x. item_member write a r all x.before x.it) (with_before (x ∷ selected_before) xs))
       (item_one selected_before x (left (is_flat_item x) (list_all is_flat_item xs) e))
-      ∙ ap (λ (ts : List (List ℕ)). member_json (asked_member a r x).name (value_json (asked_member a r x).value) ∷ ts)
+      ∙ ap (λ (ts : List (List ℕ)). member_json (selected_value a r x).name (value_json (selected_value a r x).value) ∷ ts)
       (items_are (x ∷ selected_before) xs (right (is_flat_item x) (list_all is_flat_item xs) e))
 
 flat_items : (q : Query) → is_flat q ≡ true → list_all is_flat_item q.select ≡ true
@@ -210,7 +210,7 @@ module _ (laws : Laws) (a : Asked) (q : Query) (o : Numbered) (named : object_na
         let at : object_of_record a.tenant r ≡ Some o.object = ap (slice_get a.tenant.objects) (eqb-true (object_number r.id) o.number h.1) ∙ laws.named a.tenant q.tail.from o named in
         let called : object_name a r ≡ o.object.name = ap (λ (x : Option Object). in_case x [] (λ v. v.name)) at in
         let selected = flat_items q flat in
-        let texts = map (λ (m : Member). member_json m.name (value_json m.value)) in
+        let texts = map (λ (m : ShownValue). member_json m.name (value_json m.value)) in
         ap (λ (ts : List (List ℕ)). object_json (name_attributes o.object.name r.id ∷ ts))
         (cells_are a.tenant r sound h.0 laws.printable plan.shown ∙ ap texts (means.shown r m) ∙ sym (items_are (row_within 6 a) a r q.select [] q.select selected))
         ∙ ap (λ (name : List ℕ). object_json (name_attributes name r.id ∷ flat_map (λ x. item_member (row_within 6 a) a r q.select x.before x.it) (with_before [] q.select))) (sym called)

@@ -1,5 +1,5 @@
 -- A plan that means a query finds what the query finds, and shows what its rows have in JSON.
-use Rattle.std.proofs.Common.{◌≡◌, ℕ, Bool, true, false, ◌&&◌, cond, List, [], ◌∷◌, ◌++◌, map, filter, drop, Option, Some, refl, sym, ap, ◌∙◌, inl, inr, ◌⊎◌, flat_map}
+use Rattle.std.proofs.Common.{◌≡◌, ℕ, Bool, true, false, cond, List, [], ◌∷◌, ◌++◌, map, filter, drop, Option, Some, refl, sym, ap, ◌∙◌, inl, inr, ◌⊎◌, flat_map}
 use Rattle.std.specs.List.{list_all}
 use Rattle.std.specs.Option.{unwrap_or}
 use Rattle.std.specs.declared.cmp.Ordering.{Ordering}
@@ -16,10 +16,9 @@ use Rattle.ut_model.specs.Ordered.{before, in_order, put_in}
 use Rattle.ut_model.specs.Paths.{Asked}
 use Rattle.ut_model.specs.Rows.{chosen, found, limited, readable_of}
 use Rattle.ut_model.specs.RowsJson.{RowJson, attributes, item_member, object_json, row_json, row_within}
-use Rattle.ut_model.specs.Tests.{tests}
 use Rattle.ut_bind.specs.declared.plan.Plan.{Plan}
 use Rattle.ut_bind.specs.Checks.{takes}
-use Rattle.ut_step.specs.Flat.{has_one_name, is_flat, is_flat_item, is_flat_test}
+use Rattle.ut_step.specs.Flat.{has_one_name, is_flat, is_flat_item}
 use Rattle.ut_bind.specs.Plans.{Means, by_keys, planned, selected_value, shown_json, shown_value}
 use Rattle.ut_bind.proofs.Flatness.{parts_of}
 use Rattle.ut_bind.proofs.Judged.{map_twice}

@@ -15,7 +15,7 @@ use Rattle.ut_query.specs.declared.query.Op.TheVariants as op
 use Rattle.ut_model.specs.Asking.{text_no_id}
 use Rattle.ut_model.specs.Conditions.{compares, passes, text_beside}
 use Rattle.ut_model.specs.Fields.{as_ref, is_null}
-use Rattle.ut_model.specs.Rules.{Rule, first_of, first_refusal, refuse_if}
+use Rattle.ut_model.specs.Rules.{first_of, refuse_if}
 use Rattle.ut_model.specs.declared.refusal.Refusal.TheVariants.{MalformedId}
 use Rattle.ut_bind.specs.inner.Binding.{Fits, operand_of, text_operand}
 use Rattle.ut_bind.specs.inner.Rules.{is_ids}

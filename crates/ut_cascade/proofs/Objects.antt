@@ -19,7 +19,7 @@ use Rattle.ut_stands.specs.declared.layout.Layout.{Layout}
 use Rattle.ut_stands.specs.Layouts.{IsLayout, layout_of, own_layout, own_layouts, place_of}
 use Rattle.ut_stands.specs.Plan.{OrgPlan}
 use Rattle.ut_data.proofs.Lists.{eqb_same, pick, some_is}
-use Rattle.ut_cascade.specs.inner.Masters.{AreLayouts, master_from, target_at}
+use Rattle.ut_cascade.specs.inner.Masters.{AreItsLayouts, master_from, target_at}
 use Rattle.ut_cascade.proofs.Among.{has_append}
 
 -- objects with their numbers, where the first has this one
@@ -211,7 +211,7 @@ module _ (org : ℕ) (q : OrgPlan) (t : Tenant) where
   own_is n o e = rw e refl
 
   each_layout : (k : ℕ) (os : List Object) → ((i : ℕ) (o : Object) → slice_get os i ≡ Some o → slice_get t.objects (k + i) ≡ Some o)
-      → AreLayouts org q t (map made (from k os))
+      → AreItsLayouts org q t (map made (from k os))
   each_layout k [] h = tt
   each_layout k (o ∷ os) h =
       let here : slice_get t.objects k ≡ Some o = subst (λ (m : ℕ). slice_get t.objects m ≡ Some o) (omega arith) (h 0 o refl) in
@@ -221,8 +221,8 @@ module _ (org : ℕ) (q : OrgPlan) (t : Tenant) where
   unfolding own_layouts
   all_is = refl
 
-  pub layouts_are : (ls : List Layout) → own_layouts org q (Some t) ≡ ls → AreLayouts org q t ls
-  layouts_are ls e = subst (AreLayouts org q t) (sym all_is ∙ e) (each_layout 0 t.objects (λ i o h. let same : i ≡ 0 + i = omega arith in subst (λ (m : ℕ). slice_get t.objects m ≡ Some o) same h))
+  pub layouts_are : (ls : List Layout) → own_layouts org q (Some t) ≡ ls → AreItsLayouts org q t ls
+  layouts_are ls e = subst (AreItsLayouts org q t) (sym all_is ∙ e) (each_layout 0 t.objects (λ i o h. let same : i ≡ 0 + i = omega arith in subst (λ (m : ℕ). slice_get t.objects m ≡ Some o) same h))
 
   -- the layout of an object is among them, and each is that of an object
   pub has_made : (k i : ℕ) (os : List Object) (n : ℕ) (o : Object) → k + i ≡ n → slice_get os i ≡ Some o → Has (map made (from k os)) (made (record { number = n; object = o }))

@@ -23,6 +23,9 @@ deletion_rules t gone = restricted_by t gone ∷ too_many t gone ∷ []
 -- no rule refuses that these go with the record and that these are cleared; or the refusal of the first that does, or why the work
 -- on the tables stopped
 abbrev pub DeletesWith : Tenant → Record → Result Deletion EditFail → Type 0
-DeletesWith t r (Ok d) = (None ≡ first_refusal (deletion_rules t (cascade t r))) × (d.gone ≡ gone_ids t (cascade t r)) × (d.cleared ≡ cleared_ids t (cascade t r))
+DeletesWith t r (Ok d) =
+    (None ≡ first_refusal (deletion_rules t (cascade t r)))
+    × (d.gone ≡ gone_ids t (cascade t r))
+    × (d.cleared ≡ cleared_ids t (cascade t r))
 DeletesWith t r (Err (Refused x)) = Some x ≡ first_refusal (deletion_rules t (cascade t r))
 DeletesWith t r (Err (Store e)) = e ≢ Damaged

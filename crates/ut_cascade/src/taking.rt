@@ -59,7 +59,8 @@ pub(crate) fn referring_to<K: Keeper>(
 ) -> Result<Items<Id>, StoreFail>
     requires field { number < length layout.now.fields }
     ensures finds { DraftTells K.state draft.old draft.new
-        → FindsOf layout.now (λ t. flat_map (λ id. all_referring layout.now.object number id t) ids.now) (tables_of K.state draft.old) result }
+        → FindsOf layout.now (λ t. flat_map (λ id. all_referring layout.now.object number id t) ids.now)
+        (tables_of K.state draft.old) result }
     ensures calls { Calls K.state 0 (ended result) draft.old draft.new }
 {
     draft_laws::<K>();

@@ -1,5 +1,5 @@
 -- Changes that are added to a list, one call after another.
-use Rattle.std.proofs.Common.{◌≡◌, ◌∙◌, ℕ, ◌+◌, ◌<◌, ◌≤◌, List, [], ◌∷◌, ◌++◌, length, map, refl, sym, ap, subst, arith}
+use Rattle.std.proofs.Common.{◌≡◌, ◌∙◌, ℕ, ◌+◌, ◌*◌, ◌<◌, ◌≤◌, List, [], ◌∷◌, ◌++◌, length, map, refl, sym, ap, subst, arith}
 use Rattle.std.specs.Prelude.{OnOk, Result, Ok, Err}
 use Rattle.std.specs.List.{AllByRecursion}
 use Rattle.std.proofs.lemmas.List.{append-nil}
@@ -10,7 +10,7 @@ use Rattle.ut_keys.specs.declared.fail.StoreFail.{StoreFail}
 use Rattle.ut_keys.specs.Keys.{FitsKey}
 use Rattle.ut_stands.specs.Changes.{Change}
 use Rattle.ut_stands.specs.Local.{IsIn}
-use Rattle.ut_deletes.specs.inner.Adding.{Adds, AddsThese}
+use Rattle.ut_deletes.specs.inner.Adding.{Adds, AddsThese, Clears}
 
 -- ---- lists
 
@@ -37,6 +37,12 @@ all_both P (x ∷ xs) ys a b = (a.0, all_both P xs ys a.1 b)
 pub keys_of : (org : ℕ) (xs : List Change) → AllByRecursion (IsIn org) xs → AllByRecursion (λ (c : Change). FitsKey c.0) xs
 keys_of org [] h = tt
 keys_of org (x ∷ xs) h = (h.0.0, keys_of org xs h.1)
+
+-- a list grows by what is behind it
+pub longer_by : (old : List Spelled) (cs : List Change) → length (old ++ map rows.spelled cs) ≡ length old + length cs
+longer_by [] [] = refl
+longer_by [] (c ∷ cs) = let e = longer_by [] cs in omega (arith, e)
+longer_by (x ∷ old) cs = let e = longer_by old cs in omega (arith, e)
 
 -- one list behind another
 pub added_both : (old mid new : List Spelled) (xs ys : List Change) → mid ≡ old ++ map rows.spelled xs → new ≡ mid ++ map rows.spelled ys → new ≡ old ++ map rows.spelled (xs ++ ys)
@@ -73,6 +79,20 @@ module _ (org : ℕ) where
       let few_a = a.few in
       let gone_a = a.gone in
       record { changes = a.changes; are = a.are; own = a.own; few = omega (arith, wide, few_a); gone = omega (arith, same, gone_a) }
+
+  -- ---- of records that lose a lookup
+
+  pub clears_none : (xs : List Spelled) → Clears org 0 xs xs
+  clears_none xs = record { adds = adds_none xs; each = omega arith }
+
+  pub clears_more : (n : ℕ) (old mid new : List Spelled) → Clears org n old mid → Clears org 1 mid new → Clears org (n + 1) old new
+  clears_more n old mid new a b =
+      let first = a.each in
+      let then = b.each in
+      record {
+        adds = adds_wider (245 * n + 245) (0 + 0) (245 * (n + 1)) 0 old new (omega arith) (omega arith) (adds_then (245 * n) 0 245 0 old mid new a.adds b.adds);
+        each = omega (arith, first, then);
+      }
 
 -- ---- these
 

@@ -16,7 +16,7 @@ use Rattle.ut_stands.specs.Changes.{Change}
 use Rattle.ut_stands.specs.Plan.{OrgPlan}
 use Rattle.ut_touched.specs.Touched.{HasEach, changes_at, touched_changes}
 use Rattle.ut_deletes.specs.Deleting.{counts_less, deleted_changes, shares_ended}
-use Rattle.ut_deletes.specs.inner.Adding.{Adds, AddsThese}
+use Rattle.ut_deletes.specs.inner.Adding.{Adds, AddsThese, Clears}
 use Rattle.ut_deletes.proofs.Adding.{adds_then, adds_wider, longer, these_then}
 
 -- ---- lists
@@ -100,9 +100,9 @@ module _ (org : ℕ) where
         adds_wider org (objects + 1 + 100 * gone + 145 * gone) (0 + gone) (101 + 245 * gone) gone old new (omega (arith, few)) (omega arith) all,
       )
 
-  pub deleted_few : (gone cleared : ℕ) (old mid new : List Spelled) → gone + cleared ≤ 1000 → (0 < length mid) × Adds org (101 + 245 * gone) gone old mid → Adds org (245 * cleared) 0 mid new
+  pub deleted_few : (gone cleared : ℕ) (old mid new : List Spelled) → gone + cleared ≤ 1000 → (0 < length mid) × Adds org (101 + 245 * gone) gone old mid → Clears org cleared mid new
       → (0 < length new) × Adds org 245101 gone old new
   deleted_few gone cleared old mid new few a b = (
-    longer org (245 * cleared) 0 mid new b a.0,
-    adds_wider org (101 + 245 * gone + 245 * cleared) (gone + 0) 245101 gone old new (omega (arith, few)) (omega arith) (adds_then org (101 + 245 * gone) gone (245 * cleared) 0 old mid new a.1 b),
+    longer org (245 * cleared) 0 mid new b.adds a.0,
+    adds_wider org (101 + 245 * gone + 245 * cleared) (gone + 0) 245101 gone old new (omega (arith, few)) (omega arith) (adds_then org (101 + 245 * gone) gone (245 * cleared) 0 old mid new a.1 b.adds),
   )

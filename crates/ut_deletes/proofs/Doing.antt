@@ -3,10 +3,10 @@ use Rattle.std.proofs.Common.{◌≡◌, ◌∙◌, ℕ, zero, suc, ◌+◌, ◌
 use Rattle.std.specs.Prelude.{Result, Ok, Err, is_some}
 use Rattle.std.specs.List.{AllByRecursion, flat_map}
 use Rattle.std.proofs.lemmas.List.{append-nil, take_more}
-use Rattle.ut_deletes.proofs.Adding.{these_then}
+use Rattle.ut_deletes.proofs.Adding.{longer_by, these_then}
 use Rattle.ut_deletes.proofs.Without.{gone_at}
 use Rattle.ut_deletes.proofs.OwnRows.{HaveKeys, removed_in, turned_in}
-use Rattle.ut_deletes.specs.inner.Adding.{Adds, AddsThese}
+use Rattle.ut_deletes.specs.inner.Adding.{Adds, AddsThese, Clears}
 use Rattle.ut_pivot.specs.Removed.{removed_changes}
 use Rattle.ut_edits.specs.Rows.{gone_of}
 use Rattle.ut_edits.specs.Rows as rows
@@ -62,9 +62,20 @@ pub removed_adds : ((l : Layout) (kept : DataRow) (old : Record) → length (rem
     → (l : Layout) (kept : DataRow) (r : Record) (old new : List Spelled) → new ≡ old ++ map rows.spelled (removed_changes l kept r) → HaveKeys (removed_changes l kept r) → Adds l.org 145 1 old new
 removed_adds few gone l kept r old new are keys = record { changes = removed_changes l kept r; are = are; own = removed_in l kept r keys; few = few l kept r; gone = just_one l kept r (gone l kept r) }
 
-pub turned_adds : (l : Layout) (kept : DataRow) (r s : Record) → length (turned_changes l kept r s) ≤ 245 → gone_of (map rows.spelled (turned_changes l kept r s)) ≡ 0
-    → (old new : List Spelled) → new ≡ old ++ map rows.spelled (turned_changes l kept r s) → HaveKeys (turned_changes l kept r s) → Adds l.org 245 0 old new
-turned_adds l kept r s few gone old new are keys = record { changes = turned_changes l kept r s; are = are; own = turned_in l kept r s keys; few = few; gone = omega (arith, gone) }
+-- the row of the record itself is written
+some_turned : (l : Layout) (kept : DataRow) (r s : Record) → 1 ≤ length (turned_changes l kept r s)
+unfolding turned_changes
+some_turned l kept r s = omega arith
+
+pub turned_clears : (l : Layout) (kept : DataRow) (r s : Record) → length (turned_changes l kept r s) ≤ 245 → gone_of (map rows.spelled (turned_changes l kept r s)) ≡ 0
+    → (old new : List Spelled) → new ≡ old ++ map rows.spelled (turned_changes l kept r s) → HaveKeys (turned_changes l kept r s) → Clears l.org 1 old new
+turned_clears l kept r s few gone old new are keys =
+    let many = longer_by old (turned_changes l kept r s) in
+    let some = some_turned l kept r s in
+    record {
+      adds = record { changes = turned_changes l kept r s; are = are; own = turned_in l kept r s keys; few = few; gone = omega (arith, gone) };
+      each = subst (λ (xs : List Spelled). length old + 1 ≤ length xs) (sym are) (omega (arith, many, some));
+    }
 
 -- ---- one more of a list
 

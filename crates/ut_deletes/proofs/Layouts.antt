@@ -13,8 +13,7 @@ use Rattle.ut_model.specs.Rights.{record_of_object}
 use Rattle.ut_model.specs.Sound.{IsSound}
 use Rattle.ut_model.specs.SoundRecords.{IsSoundRecord}
 use Rattle.ut_model.specs.Tenant.{Object, Tenant}
-use Rattle.ut_named.specs.Usable.{IsUsable}
-use Rattle.ut_pivot.specs.Turned.{converts}
+use Rattle.ut_named.specs.Usable.{IsReady}
 use Rattle.ut_stands.specs.declared.layout.Layout.{Layout}
 use Rattle.ut_stands.specs.Layouts.{IsLayout, layout_of, own_layout, own_layouts}
 use Rattle.ut_stands.specs.Plan.{OrgPlan}
@@ -51,15 +50,9 @@ its_layout org q t n o there = ap (λ (x : Option Object). option_map (layout_of
 
 -- ---- a layout that is ready
 
-pub record IsReady (org : ℕ) (l : Layout) : Type 0 where
-  pub own : l.org ≡ org
-  pub usable : IsUsable l
-  pub converting : IsTrue (converts l)
-
 pub ready_at : (org : ℕ) (ls : List Layout) (n : ℕ) (l : Layout) → AreReady org ls → slice_get ls n ≡ Some l → IsReady org l
 ready_at org [] n l h e = absurd cc
-ready_at org (x ∷ ls) zero l h e =
-    subst (IsReady org) (some_is x l e) (record { own = h.0.0; usable = h.0.1; converting = h.0.2 })
+ready_at org (x ∷ ls) zero l h e = subst (IsReady org) (some_is x l e) h.0
 ready_at org (x ∷ ls) (suc n) l h e = ready_at org ls n l h.1 e
 
 -- ---- the record with an id

@@ -1,5 +1,5 @@
 -- The layouts of all objects of a sound tenant can be used.
-use Rattle.std.proofs.Common.{◌≡◌, ◌∙◌, ℕ, ◌+◌, ◌≤◌, Bool, true, false, ◌&&◌, eqb, IsTrue, List, [], ◌∷◌, length, map, Some, refl, sym, subst, arith, nat_le}
+use Rattle.std.proofs.Common.{◌≡◌, ◌∙◌, ℕ, ◌+◌, ◌≤◌, Bool, true, false, ◌&&◌, eqb, List, [], ◌∷◌, length, map, Some, refl, sym, subst, arith, nat_le}
 use Rattle.std.specs.Prelude.{◌==◌}
 use Rattle.std.specs.List.{enumerate_from, list_all}
 use Rattle.std.proofs.lemmas.Bool.{eqb-true}
@@ -9,8 +9,8 @@ use Rattle.ut_data.specs.Decoding.{has_types}
 use Rattle.ut_model.specs.Objects.{Numbered, numbered}
 use Rattle.ut_model.specs.Sound.{IsSound}
 use Rattle.ut_model.specs.Tenant.{Object, Tenant}
-use Rattle.ut_named.proofs.Ready.{ConvertsThere, Typed, usable}
-use Rattle.ut_named.specs.Usable.{IsUsable}
+use Rattle.ut_named.proofs.Ready.{ConvertsThere, Typed, ready_so, usable}
+use Rattle.ut_named.specs.Usable.{IsReady}
 use Rattle.ut_pivot.specs.Turned.{converts}
 use Rattle.ut_stands.specs.declared.layout.Layout.{Layout}
 use Rattle.ut_stands.specs.Layouts.{layout_of, own_layouts}
@@ -23,9 +23,6 @@ use Rattle.ut_deletes.proofs.CountRows.{all_are, are_objects}
 abbrev is_one : ℕ → Layout → Bool
 is_one org l = (l.org == org) && ((nat_le (length l.fields) 40 && has_types l) && converts l)
 
-few_fields : (n : ℕ) → nat_le n 40 ≡ true → n ≤ 40
-few_fields n h = grind (arith, nat_tests)
-
 few_objects : (n : ℕ) → nat_le n 100 ≡ true → n ≤ 100
 few_objects n h = grind (arith, nat_tests)
 
@@ -35,14 +32,10 @@ true_both false b x y = absurd cc
 
 -- ---- what passes the test can be used
 
-one_ready : (org : ℕ) (l : Layout) → is_one org l ≡ true → (l.org ≡ org) × IsUsable l × IsTrue (converts l)
+one_ready : (org : ℕ) (l : Layout) → is_one org l ≡ true → IsReady org l
 one_ready org l h =
-    let can = and_right (l.org == org) ((nat_le (length l.fields) 40 && has_types l) && converts l) h in
-    let fields = and_left (nat_le (length l.fields) 40 && has_types l) (converts l) can in (
-      eqb-true l.org org (and_left (l.org == org) ((nat_le (length l.fields) 40 && has_types l) && converts l) h),
-      record { few = few_fields (length l.fields) (and_left (nat_le (length l.fields) 40) (has_types l) fields); types = and_right (nat_le (length l.fields) 40) (has_types l) fields },
-      and_right (nat_le (length l.fields) 40 && has_types l) (converts l) can,
-    )
+    let can = (nat_le (length l.fields) 40 && has_types l) && converts l in
+    ready_so org l (eqb-true l.org org (and_left (l.org == org) can h)) (and_right (l.org == org) can h)
 
 each_ready : (org : ℕ) (ls : List Layout) → list_all (is_one org) ls ≡ true → AreReady org ls
 each_ready org [] h = tt

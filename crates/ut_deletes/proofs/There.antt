@@ -11,10 +11,10 @@ use Rattle.ut_named.specs.Kept.{IsKept, Keeps}
 use Rattle.ut_stands.specs.Calls.{Calls, Ending, done, ended, ended_by, fell, stopped}
 use Rattle.ut_stands.specs.declared.layout.Layout.{Layout}
 use Rattle.ut_stands.specs.Plan.{OrgPlan}
-use Rattle.ut_deletes.specs.inner.There.{FindsThere, found_there}
+use Rattle.ut_deletes.specs.inner.There.{FindsKept, found_there}
 
 -- what is read at the id's key is what has to be there
-pub finds_there : (q : OrgPlan) (t : Tenant) (l : Layout) (id : List ℕ) (r : Result (Option KeptRecord) StoreFail) → Keeps q t l id r → FindsThere q t l id (found_there r)
+pub finds_there : (q : OrgPlan) (t : Tenant) (l : Layout) (id : List ℕ) (r : Result (Option KeptRecord) StoreFail) → Keeps q t l id r → FindsKept q t l id (found_there r)
 finds_there q t l id (Ok None) h = λ _. h
 finds_there q t l id (Ok (Some k)) h = h
 finds_there q t l id (Err e) h = λ damaged. absurd (h damaged)
@@ -38,5 +38,5 @@ module _ {K : Type 0} (state : K → KeeperState) (weaker : (shown : ℕ) (e : E
   calls_out (Err e) failed calls = subst (λ (z : StoreFail). Calls state shown (ended_by z) a b) (sym failed) (weaker shown stopped a b (λ e. absurd cc) calls)
 
 -- it was found
-pub found_kept : (q : OrgPlan) (t : Tenant) (l : Layout) (id : List ℕ) (r : Result KeptRecord StoreFail) (k : KeptRecord) → FindsThere q t l id r → r ≡ Ok k → IsKept q t l id k
-found_kept q t l id r k finds was = subst (FindsThere q t l id) was finds
+pub found_kept : (q : OrgPlan) (t : Tenant) (l : Layout) (id : List ℕ) (r : Result KeptRecord StoreFail) (k : KeptRecord) → FindsKept q t l id r → r ≡ Ok k → IsKept q t l id k
+found_kept q t l id r k finds was = subst (FindsKept q t l id) was finds

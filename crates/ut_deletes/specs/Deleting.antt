@@ -36,12 +36,15 @@ count_among n ids = length (filter (λ i. object_number i == n) ids)
 abbrev pub object_less : (org : ℕ) → Tenant → (ids : List (List ℕ)) → Numbered → List Change
 object_less org t ids o =
     if count_among o.number ids == 0 then []
-    else change_to object_form (record (row_of_object org t o.number o.object) { records = length (records_of t o.number) - count_among o.number ids }) ∷ []
+    else change_to object_form (record (row_of_object org t o.number o.object) {
+      records = length (records_of t o.number) - count_among o.number ids;
+    }) ∷ []
 
 -- the rows that count records, once those with these ids are counted no more
 abbrev pub counts_less : (org : ℕ) → Tenant → (ids : List (List ℕ)) → List Change
 counts_less org t ids =
-    change_to org_form (record (org_of org t) { records = length t.records - length ids }) ∷ flat_map (object_less org t ids) (numbered t.objects)
+    change_to org_form (record (org_of org t) { records = length t.records - length ids })
+    ∷ flat_map (object_less org t ids) (numbered t.objects)
 
 -- the rows of the manual shares of records with these ids, which end
 abbrev pub shares_ended : (org : ℕ) → Tenant → (ids : List (List ℕ)) → List Change

@@ -1,9 +1,9 @@
 //! The rows of records that lose a lookup.
 
-ghost use Rattle.std.specs.Prelude.{◌≡◌, ◌*◌, ℕ, ℤ, IfOk, IsTrue, List, OnOk, Some, length, map, true};
+ghost use Rattle.std.specs.Prelude.{◌≡◌, ℕ, ℤ, IfOk, IsTrue, List, OnOk, Some, length, map, true};
 ghost use Rattle.std.specs.List.{AllByRecursion, enumerate_from};
 ghost use Rattle.ut_data.specs.Decoding.{kinds_in};
-ghost use Rattle.ut_deletes.specs.inner.Adding.{Adds, AddsThese, AreReady};
+ghost use Rattle.ut_deletes.specs.inner.Adding.{AddsThese, AreReady, Clears};
 ghost use Rattle.ut_deletes.specs.inner.Clearing.{cleared_in, is_lost, names_one, value_left};
 ghost use Rattle.ut_keeper.specs.Draft.{DraftTells, tables_of};
 ghost use Rattle.ut_model.specs.declared.record.Record.{Record};
@@ -138,7 +138,7 @@ fn clear_by<K: Keeper>(
         → IsLayout q t layout.now → record_of_object t layout.now.object id.now ≡ Some r → u.objects ≡ t.objects → u.job ≡ t.job
         → record_at u id.now ≡ Some (cleared_in layout.now now gone.now r)
         → AddsThese (changes_at layout.now.org q q t u id.now) changes.old.items changes.new.items result }
-    ensures own { OnOk result (Adds layout.now.org 245 0 changes.old.items changes.new.items) }
+    ensures own { OnOk result (Clears layout.now.org 1 changes.old.items changes.new.items) }
     ensures calls { Calls K.state 1 (ended result) draft.old draft.new }
 {
     pivot_laws();
@@ -167,7 +167,7 @@ fn clear_record<K: Keeper>(
         → own_layouts org q (Some t) ≡ layouts.now → ((i : List ℕ) → has gone.now i ≡ has_id rs i)
         → record_at t id.now ≡ Some r → loses_lookup t rs r ≡ true
         → AddsThese (changes_at org q q t (without now rs t) id.now) changes.old.items changes.new.items result }
-    ensures own { OnOk result (Adds org 245 0 changes.old.items changes.new.items) }
+    ensures own { OnOk result (Clears org 1 changes.old.items changes.new.items) }
     ensures calls { Calls K.state 1 (ended result) draft.old draft.new }
 {
     call_laws::<K>();
@@ -199,7 +199,7 @@ pub(crate) fn clear_records<K: Keeper>(
         → own_layouts org q (Some t) ≡ layouts.now → ((i : List ℕ) → has gone.now i ≡ has_id rs i)
         → AllByRecursion (λ i. (r : Record) × (record_at t i ≡ Some r) × (loses_lookup t rs r ≡ true)) ids.now
         → AddsThese (touched_changes org q q t (without now rs t) ids.now) changes.old.items changes.new.items result }
-    ensures own { OnOk result (Adds org (245 * length ids.now) 0 changes.old.items changes.new.items) }
+    ensures own { OnOk result (Clears org (length ids.now) changes.old.items changes.new.items) }
     ensures calls { Calls K.state (length ids.now) (ended result) draft.old draft.new }
 {
     draft_laws::<K>();

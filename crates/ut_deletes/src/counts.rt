@@ -90,7 +90,8 @@ fn count_object<K: Keeper>(
     changes: &mut Vec<Change>,
 ) -> Result<(), StoreFail>
     ensures adds { DraftTells K.state draft.old draft.new
-        → (q : OrgPlan) (t : Tenant) (o : Object) → StandsIn org q (tables_of K.state draft.old) (Some t) → object_numbered t object ≡ Some o
+        → (q : OrgPlan) (t : Tenant) (o : Object) → StandsIn org q (tables_of K.state draft.old) (Some t)
+        → object_numbered t object ≡ Some o
         → AddsThese (object_less org t ids.now (record { number = object; object = o })) changes.old.items changes.new.items result }
     ensures own { OnOk result (Adds org 1 0 changes.old.items changes.new.items) }
     ensures calls { Calls K.state 0 (ended result) draft.old draft.new }

@@ -1,15 +1,12 @@
 //! The object and the row of a record with an id.
 
-ghost use Rattle.std.specs.Prelude.{◌≡◌, IfOk, IsTrue, Some, slice_get};
+ghost use Rattle.std.specs.Prelude.{◌≡◌, IfOk, Some, slice_get};
 ghost use Rattle.std.specs.Option.{option_copied};
-ghost use Rattle.ut_data.specs.Decoding.{kinds_in};
-ghost use Rattle.ut_deletes.specs.inner.There.{FindsThere, found_there};
+ghost use Rattle.ut_deletes.specs.inner.There.{FindsKept, found_there};
 ghost use Rattle.ut_keeper.specs.Draft.{DraftTells, tables_of};
-ghost use Rattle.ut_keys.specs.Forms.{FitsForm};
-ghost use Rattle.ut_keys.specs.Rows.{data_form};
 ghost use Rattle.ut_model.specs.Objects.{object_number};
-ghost use Rattle.ut_model.specs.SoundRecords.{all_valid};
 ghost use Rattle.ut_model.specs.Tenant.{Tenant};
+ghost use Rattle.ut_named.specs.Kept.{FitsKept};
 ghost use Rattle.ut_stands.specs.Calls.{Calls, ended};
 ghost use Rattle.ut_stands.specs.Layouts.{IsLayout};
 ghost use Rattle.ut_stands.specs.Local.{StandsIn};
@@ -55,9 +52,8 @@ pub(crate) fn record_there<K: Keeper>(
 ) -> Result<KeptRecord, StoreFail>
     ensures finds { DraftTells K.state draft.old draft.new
         → (q : OrgPlan) (t : Tenant) → StandsIn layout.now.org q (tables_of K.state draft.old) (Some t) → IsLayout q t layout.now
-        → FindsThere q t layout.now id.now result }
-    ensures fits { IfOk result (λ k. FitsForm data_form k.row) }
-    ensures valid { IfOk result (λ k. IsTrue (all_valid (kinds_in layout.now.fields) k.item.values)) }
+        → FindsKept q t layout.now id.now result }
+    ensures form { IfOk result (FitsKept layout.now) }
     ensures calls { Calls K.state 1 (ended result) draft.old draft.new }
 {
     call_laws::<K>();

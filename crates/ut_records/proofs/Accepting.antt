@@ -5,7 +5,7 @@ use Rattle.std.specs.Option.{option_and_then}
 use Rattle.ut_keys.specs.declared.object.ObjectRow.{ObjectRow}
 use Rattle.ut_keys.specs.declared.org.OrgRow.{OrgRow}
 use Rattle.ut_model.specs.Cases.{in_case}
-use Rattle.ut_model.specs.Creates.{create, create_rules, empty_record, master_denied, with_record}
+use Rattle.ut_model.specs.Creates.{create_on, create_rules, empty_record, master_denied, with_record}
 use Rattle.ut_model.specs.declared.limit.Limit.TheVariants as limit
 use Rattle.ut_model.specs.declared.record.Record.{Record}
 use Rattle.ut_model.specs.declared.record_bodies.Assignment.{Assignment}
@@ -14,33 +14,35 @@ use Rattle.ut_model.specs.declared.refusal.Refusal.TheVariants.{InsufficientAcce
 use Rattle.ut_model.specs.Edits.{bad_target, duplicate, validation_failed}
 use Rattle.ut_model.specs.Levels.{at_least}
 use Rattle.ut_model.specs.Membership.{Has}
-use Rattle.ut_model.specs.Objects.{Numbered, object_named, object_numbered, record_at, records_of}
+use Rattle.ut_model.specs.Keys.{Key, with_key}
+use Rattle.ut_model.specs.Objects.{Numbered, record_at, records_of}
 use Rattle.ut_model.specs.Paths.{Asked}
 use Rattle.ut_model.specs.Relationships.{Reference, master_of_object, named_id, named_record}
 use Rattle.ut_model.specs.Rights.{denied}
 use Rattle.ut_model.specs.Rules.{Rule, first_refusal, over_limit, refuse_if}
 use Rattle.ut_model.specs.Sound.{IsSound}
-use Rattle.ut_model.specs.Tenant.{Object}
-use Rattle.ut_model.specs.Verdict.{Verdict, accept, made_new, unless}
+use Rattle.ut_model.specs.Tenant.{Object, Tenant}
+use Rattle.ut_model.specs.Verdict.{Verdict, accept, made_new, unless, upserted}
 use Rattle.ut_model.specs.World.{having_id}
 use Rattle.ut_named.proofs.Naming.{HasAll}
 use Rattle.ut_rules.specs.Failing.{rule_failed}
 use Rattle.ut_rules.specs.Objects.{numbered_in, object_of_layout}
 use Rattle.ut_stands.specs.declared.fail.EditFail.{EditFail}
 use Rattle.ut_stands.specs.declared.layout.Layout.{Layout}
-use Rattle.ut_stands.specs.Layouts.{layout_of}
+use Rattle.ut_stands.specs.Layouts.{IsLayout, layout_of}
 use Rattle.ut_stands.specs.Metadata.{org_of}
 use Rattle.ut_stands.specs.Plan.{OrgPlan}
 use Rattle.ut_value.specs.declared.sharing.Level.{Level}
 use Rattle.ut_value.specs.declared.sharing.Level.TheVariants.{Edit}
-use Rattle.ut_records.specs.Creating.{new_record}
-use Rattle.ut_records.specs.declared.object.ReadObject.{ReadObject}
+use Rattle.ut_records.specs.Creating.{IsObject, new_record}
+use Rattle.ut_records.specs.declared.object.Counts.{Counts}
 use Rattle.ut_records.specs.inner.Judged.{admit_rules, limit_rule, others_rules}
 use Rattle.ut_records.specs.inner.Giving.{Alters, given_rules}
 use Rattle.ut_records.proofs.GivenRules.{alters_there}
-use Rattle.ut_records.specs.inner.Object.{IsRead}
+use Rattle.ut_records.specs.inner.Object.{AreOf}
 use Rattle.ut_named.proofs.Facts.{pick}
-use Rattle.ut_named.proofs.Spelled.{plain, spelled}
+use Rattle.ut_named.proofs.Objects.{IsOn, Named}
+use Rattle.ut_named.proofs.Spelled.{its_layout, plain, spelled}
 
 -- ---- the first refusal
 
@@ -84,14 +86,27 @@ master_free all a o new sound admin = by (master_of_object a.tenant.objects o.nu
     by None = refl
     by (Some f) = not_denied all a sound admin (named_id f new)
 
+-- ---- the object
+
+-- the layout is its layout
+pub object_layout : (org : ℕ) (q : OrgPlan) (t : Tenant) (o : Numbered) (l : Layout) → IsObject org q t o l → IsLayout q t l
+object_layout org q t o l at = subst (IsLayout q t) (sym at.layout) (its_layout org q t o at.there)
+
+-- the one that a layout was found by
+pub object_at : Named → (org : ℕ) (q : OrgPlan) (t : Tenant) (name : List ℕ) (l : Layout) → l.org ≡ org → (on : IsOn org q t name l) → IsObject l.org q t on.0 l
+object_at named org q t name l own on = record {
+  there = named t name on.0 on.1;
+  layout = subst (λ (n : ℕ). l ≡ layout_of n q t on.0) (sym own) on.2;
+}
+
 -- ---- the rules of a create
 
 -- those on what is given, over the object that a layout spells
-pub proposed_of : (org : ℕ) (q : OrgPlan) (a : Asked) (o : Numbered) (l : Layout) (given : List Assignment) (r : Result Record EditFail) → l ≡ layout_of org q a.tenant o
-    → Alters a (object_of_layout l) given (empty_record a (numbered_in l)) r → Alters a o.object given (empty_record a o) r
-proposed_of org q a o l given r is h =
+pub proposed_of : (org : ℕ) (q : OrgPlan) (a : Asked) (o : Numbered) (l : Layout) (key : Option Key) (given : List Assignment) (r : Result Record EditFail) → l ≡ layout_of org q a.tenant o
+    → Alters a (object_of_layout l) key given (empty_record a (numbered_in l)) r → Alters a o.object key given (empty_record a o) r
+proposed_of org q a o l key given r is h =
     let same : empty_record a (numbered_in l) ≡ empty_record a o = ap (λ (p : Numbered). empty_record a p) (ap numbered_in is ∙ spelled org q a.tenant o) in
-    alters_there org q a o l given (empty_record a o) r is (subst (λ (old : Record). Alters a (object_of_layout l) given old r) same h)
+    alters_there org q a o l key given (empty_record a o) r is (subst (λ (old : Record). Alters a (object_of_layout l) key given old r) same h)
 
 -- those behind them
 abbrev pub behind : Asked → Numbered → (new : Record) → List Rule
@@ -107,21 +122,20 @@ all_behind a o p new own =
 behind_plain : (a : Asked) (o : Numbered) (new : Record) → all_behind a o (plain o) new (validation_failed a o.object new None) ≡ behind a o new
 behind_plain a o new = refl
 
-pub admit_behind : (org : ℕ) (q : OrgPlan) (a : Asked) (name : List ℕ) (x : ReadObject) (new : Record) (is : IsRead org q a.tenant name x) → object_numbered a.tenant is.numbered.number ≡ Some is.numbered.object
-    → admit_rules a x new ≡ behind a is.numbered new
-admit_behind org q a name x new is there =
-    let o = is.numbered in
-    ap (λ (l : Layout). others_rules l (empty_record a (numbered_in l)) new a ++ limit_rule x.row x.object ∷ []) is.layout
+pub admit_behind : (org : ℕ) (q : OrgPlan) (a : Asked) (o : Numbered) (l : Layout) (x : Counts) (new : Record) → IsObject org q a.tenant o l → AreOf org a.tenant o x
+    → admit_rules a l x new ≡ behind a o new
+admit_behind org q a o l x new at are =
+    ap (λ (l : Layout). others_rules l (empty_record a (numbered_in l)) new a ++ limit_rule x.row x.object ∷ []) at.layout
     ∙ (ap (λ (p : Numbered). others_with p (limit_rule x.row x.object)) (spelled org q a.tenant o)
-    ∙ (ap (λ (row : OrgRow). others_with (plain o) (limit_rule row x.object)) is.row
-    ∙ (ap (λ (row : ObjectRow). others_with (plain o) (limit_rule (org_of org a.tenant) row)) is.object
-    ∙ (ap (λ (found : Option Object). all_behind a o (plain o) new (in_case found None (λ v. validation_failed a v new None))) there
+    ∙ (ap (λ (row : OrgRow). others_with (plain o) (limit_rule row x.object)) are.row
+    ∙ (ap (λ (row : ObjectRow). others_with (plain o) (limit_rule (org_of org a.tenant) row)) are.object
+    ∙ (ap (λ (found : Option Object). all_behind a o (plain o) new (in_case found None (λ v. validation_failed a v new None))) at.there
     ∙ behind_plain a o new))))
   where
     others_with : Numbered → Rule → List Rule
-    others_with p last = bad_target a p (empty_record a p) new ∷ rule_failed a is.numbered.number new None a.tenant ∷ duplicate a p new ∷ last ∷ []
+    others_with p last = bad_target a p (empty_record a p) new ∷ rule_failed a o.number new None a.tenant ∷ duplicate a p new ∷ last ∷ []
 
-module _ (a : Asked) (o : Numbered) (given : List Assignment) (new : Record) where
+module _ (a : Asked) (o : Numbered) (key : Option Key) (given : List Assignment) (new : Record) where
   abbrev more_rules : List Rule
   more_rules = bad_target a o (empty_record a o) new ∷ master_denied a o new ∷ validation_failed a o.object new None ∷ duplicate a o new
       ∷ over_limit ((limit.RecordsPerObject, length (records_of a.tenant o.number) + 1) ∷ (limit.Records, length a.tenant.records + 1) ∷ (limit.Ids, a.tenant.counter + 1) ∷ []) ∷ []
@@ -129,30 +143,24 @@ module _ (a : Asked) (o : Numbered) (given : List Assignment) (new : Record) whe
   more_is : master_denied a o new ≡ None → first_refusal more_rules ≡ first_refusal (behind a o new)
   more_is free = passed_over (bad_target a o (empty_record a o) new) (master_denied a o new) _ free
 
-  pub free_of : master_denied a o new ≡ None → None ≡ first_refusal (given_rules a.tenant o.object given new) → None ≡ first_refusal (behind a o new) → None ≡ first_refusal (create_rules a o None given new)
-  free_of free first then = then ∙ sym (more_is free) ∙ sym (first_then (given_rules a.tenant o.object given new) more_rules first)
+  pub free_of : master_denied a o new ≡ None → None ≡ first_refusal (given_rules a.tenant o.object key given new) → None ≡ first_refusal (behind a o new) → None ≡ first_refusal (create_rules a o key given new)
+  free_of free first then = then ∙ sym (more_is free) ∙ sym (first_then (given_rules a.tenant o.object key given new) more_rules first)
 
-  pub given_refused : (r : Refusal) → Some r ≡ first_refusal (given_rules a.tenant o.object given new) → Some r ≡ first_refusal (create_rules a o None given new)
-  given_refused r e = first_stays r (given_rules a.tenant o.object given new) more_rules e
+  pub given_refused : (r : Refusal) → Some r ≡ first_refusal (given_rules a.tenant o.object key given new) → Some r ≡ first_refusal (create_rules a o key given new)
+  given_refused r e = first_stays r (given_rules a.tenant o.object key given new) more_rules e
 
-  pub behind_refused : (r : Refusal) → master_denied a o new ≡ None → None ≡ first_refusal (given_rules a.tenant o.object given new) → Some r ≡ first_refusal (behind a o new) → Some r ≡ first_refusal (create_rules a o None given new)
-  behind_refused r free first e = e ∙ sym (more_is free) ∙ sym (first_then (given_rules a.tenant o.object given new) more_rules first)
+  pub behind_refused : (r : Refusal) → master_denied a o new ≡ None → None ≡ first_refusal (given_rules a.tenant o.object key given new) → Some r ≡ first_refusal (behind a o new) → Some r ≡ first_refusal (create_rules a o key given new)
+  behind_refused r free first e = e ∙ sym (more_is free) ∙ sym (first_then (given_rules a.tenant o.object key given new) more_rules first)
 
 -- ---- the verdict
 
-some_refusal : (x y : Refusal) → ◌≡◌ {A = Rule} (Some x) (Some y) → x ≡ y
-some_refusal x y e = cc
+-- a rule that refuses, and what is answered if none does
+pub refused_by : (r : Refusal) (rule : Rule) (t : Tenant) (it : Verdict) → Some r ≡ rule → (unless rule t it).answer ≡ Err r
+refused_by r None t it e = absurd cc
+refused_by r (Some x) t it e = let same : x ≡ r = cc in ap Err same
 
-pub refused_so : (a : Asked) (name : List ℕ) (o : Numbered) (given : List Assignment) (r : Refusal) → object_named a.tenant name ≡ Some o → Some r ≡ first_refusal (create_rules a o None given (new_record a o given))
-    → (create a name given).answer ≡ Err r
-refused_so a name o given r there e = ap (λ (v : Verdict). v.answer) (by name there) ∙ unless_refused (first_refusal (create_rules a o None given (new_record a o given))) e
-  where
-    it : Verdict
-    it = accept (made_new (new_record a o given).id) (with_record (new_record a o given) a.tenant)
-
-    by : (name : List ℕ) → object_named a.tenant name ≡ Some o → create a name given ≡ unless (first_refusal (create_rules a o None given (new_record a o given))) a.tenant it
-    by name there = rw there refl
-
-    unless_refused : (rule : Rule) → Some r ≡ rule → (unless rule a.tenant it).answer ≡ Err r
-    unless_refused None e = absurd cc
-    unless_refused (Some x) e = ap Err (sym (some_refusal r x e))
+pub refused_so : (a : Asked) (o : Numbered) (key : Option Key) (given : List Assignment) (r : Refusal) → Some r ≡ first_refusal (create_rules a o key given (new_record a o (with_key key given)))
+    → (create_on a o key given).answer ≡ Err r
+refused_so a o key given r e =
+    let new : Record = new_record a o (with_key key given) in
+    refused_by r (first_refusal (create_rules a o key given new)) a.tenant (accept (in_case key (made_new new.id) (λ k. upserted new.id true)) (with_record new a.tenant)) e

@@ -1,21 +1,21 @@
 -- The changes of a create that is accepted take the organisation's rows to those of the tenant that it leaves.
-use Rattle.std.proofs.Common.{◌≡◌, ◌∙◌, ℕ, ◌<◌, ◌^◌, Bool, true, false, ◌&&◌, IsTrue, List, [], ◌∷◌, Some, None, refl, sym, ap, subst, bytes_eq}
-use Rattle.std.specs.Prelude.{Err, IfErr, IfOk, Ok, OnOk, Result, slice_get}
+use Rattle.std.proofs.Common.{◌≡◌, ◌∙◌, ℕ, ◌<◌, ◌^◌, Bool, true, false, ◌&&◌, IsTrue, List, [], ◌∷◌, Option, Some, None, refl, sym, ap, subst, bytes_eq}
+use Rattle.std.specs.Prelude.{Err, IfErr, IfOk, IsErrAnd, Ok, OnOk, Result, slice_get}
 use Rattle.std.specs.List.{AllByRecursion, list_all}
 use Rattle.ut_data.specs.Decoding.{kinds_in}
-use Rattle.ut_edits.proofs.Judged.{made_so}
 use Rattle.ut_edits.specs.declared.decided.Decided.{Decided}
-use Rattle.ut_edits.specs.Edits.{Decides, Planned, Takes}
+use Rattle.ut_edits.specs.Edits.{ChangesIn, DecidesTo, FailsBy, Planned, Takes}
+use Rattle.ut_edits.specs.Naming.{NamesLayout}
 use Rattle.ut_edits.specs.Rows.{AreSpelled, change_to}
-use Rattle.ut_keeper.specs.Tables.{Tables}
 use Rattle.ut_keys.specs.declared.fail.StoreFail.TheVariants.{Damaged, Memory}
 use Rattle.ut_keys.specs.declared.object.ObjectRow.{ObjectRow}
 use Rattle.ut_keys.specs.declared.org.OrgRow.{OrgRow}
 use Rattle.ut_keys.specs.Keys.{FitsKey}
 use Rattle.ut_keys.specs.Rows.{object_form, org_form}
-use Rattle.ut_model.specs.Creates.{create, create_rules, with_record}
+use Rattle.ut_model.specs.Creates.{create, create_on, create_rules, with_record}
 use Rattle.ut_model.specs.declared.record.Record.{Record}
 use Rattle.ut_model.specs.declared.record_bodies.Assignment.{Assignment}
+use Rattle.ut_model.specs.Keys.{Key, with_key}
 use Rattle.ut_model.specs.Membership.{Has}
 use Rattle.ut_model.specs.Objects.{Numbered, is_of, object_named, object_numbered, record_prefix}
 use Rattle.ut_model.specs.Paths.{Asked}
@@ -25,16 +25,16 @@ use Rattle.ut_model.specs.SoundJob.{HasSoundJob}
 use Rattle.ut_model.specs.SoundRecords.{all_valid}
 use Rattle.ut_model.specs.SoundSharing.{IsCursor}
 use Rattle.ut_model.specs.Tenant.{Job, Object, Tenant}
-use Rattle.ut_model.specs.Verdict.{Done, Verdict, made_new}
+use Rattle.ut_model.specs.Verdict.{Done, Verdict}
 use Rattle.ut_pivot.specs.Made.{made_changes}
-use Rattle.ut_sound.specs.Fit.{IsCaller, OfObjects, ReadsWell}
 use Rattle.ut_stands.specs.Changes.{Change}
 use Rattle.ut_stands.specs.declared.fail.EditFail.{EditFail}
+use Rattle.ut_stands.specs.declared.fail.EditFail.TheVariants.{Refused, Store}
 use Rattle.ut_stands.specs.declared.layout.Layout.{Layout}
 use Rattle.ut_stands.specs.Entries.{job_value}
 use Rattle.ut_stands.specs.Fails.{of_store}
 use Rattle.ut_stands.specs.Layouts.{layout_of}
-use Rattle.ut_stands.specs.Local.{IsIn, StandsIn}
+use Rattle.ut_stands.specs.Local.{IsIn}
 use Rattle.ut_stands.specs.Metadata.{org_of, row_of_object}
 use Rattle.ut_stands.specs.Plan.{FitsPlan, OrgPlan}
 use Rattle.ut_touched.specs.Touched.{fresh_plan, touched_changes}
@@ -43,27 +43,44 @@ use Rattle.ut_value.specs.declared.value.Value.{Value}
 use Rattle.ut_value.specs.Id.{made}
 use Rattle.ut_value.specs.Printing.{is_printable}
 use Rattle.ut_value.specs.Values.{valid}
-use Rattle.ut_records.specs.Creating.{PlansNew, created_changes, new_record}
+use Rattle.ut_records.specs.Creating.{IsObject, PlansNew, answered_new, created_changes, new_record}
 use Rattle.ut_records.specs.declared.creating.Accepted.{Accepted}
 use Rattle.ut_records.specs.inner.Judged.{HaveKeys, IsAccepted, changes_of}
 use Rattle.ut_records.specs.inner.Object.{object_with, row_with}
 use Rattle.ut_records.proofs.Judging.{small_number}
 use Rattle.ut_records.proofs.Numbers.{IdOrder, named, new_is_of, no_value, object_counted, past, row_counted, unnamed}
-use Rattle.ut_named.proofs.Objects.{Named}
 use Rattle.ut_records.proofs.Rows.{RowsMade, touched_is}
 
 -- ---- an edit that is decided, where its changes are right if there are any
 
-module _ {X : Type 0} {answered : X → Done} (org : ℕ) (verdict : Asked → Verdict) (planned : Planned) (fits : Asked → Type 0) (m : Tables) where
-  pub decided_so : (answer : X) (changes : List Change) (result : Result (Decided X) EditFail) → IfOk result (λ x. x.answer ≡ answer) → IfOk result (λ x. AreSpelled changes x.changes.items) → IfErr result (λ e. e ≡ of_store Memory)
-      → OnOk result (AllByRecursion (IsIn org) changes) → OnOk result ((q : OrgPlan) (a : Asked) → StandsIn org q m (Some a.tenant) → fits a → Takes org q a.tenant (verdict a) (answered answer) planned changes)
-      → Decides org verdict answered planned fits m result
-  decided_so answer changes (Ok x) same made cause are takes = made_so org verdict planned fits m answer changes (Ok x) same made cause are takes
-  decided_so answer changes (Err e) same made cause are takes =
-      subst (λ (z : EditFail). Decides {X = X} org verdict answered planned fits m (Err z)) (sym cause) (record { own = tt; decided = λ q a s f d. absurd (apart d) })
+module _ {X : Type 0} (org : ℕ) (changes : List Change) where
+  pub decided_in : (result : Result (Decided X) EditFail) → IfOk result (λ x. AreSpelled changes x.changes.items) → OnOk result (AllByRecursion (IsIn org) changes) → ChangesIn org result
+  decided_in (Ok x) written are = (changes, written, are)
+  decided_in (Err e) written are = tt
+
+  pub decided_to : (answered : X → Done) (q : OrgPlan) (t : Tenant) (v : Verdict) (planned : Planned) (answer : X) (result : Result (Decided X) EditFail) → IfOk result (λ x. x.answer ≡ answer)
+      → IfOk result (λ x. AreSpelled changes x.changes.items) → IfErr result (λ e. e ≡ of_store Memory) → OnOk result (Takes org q t v (answered answer) planned changes) → DecidesTo org q t v answered planned result
+  decided_to answered q t v planned answer (Ok x) same written cause takes = (changes, written, subst (λ (y : X). Takes org q t v (answered y) planned changes) (sym same) takes)
+  decided_to answered q t v planned answer (Err e) same written cause takes = subst (FailsBy v) (sym cause) (λ d. absurd (apart d))
     where
       apart : Memory ≡ Damaged → ⊥
       apart d = cc
+
+-- one that isn't decided
+module _ {X : Type 0} (org : ℕ) (e : EditFail) where
+  pub failed_in : (result : Result (Decided X) EditFail) → IsErrAnd result (λ y. y ≡ e) → ChangesIn org result
+  failed_in (Ok x) is = absurd is
+  failed_in (Err y) is = tt
+
+  pub failed_to : (answered : X → Done) (q : OrgPlan) (t : Tenant) (v : Verdict) (planned : Planned) (result : Result (Decided X) EditFail) → IsErrAnd result (λ y. y ≡ e) → FailsBy v e → DecidesTo org q t v answered planned result
+  failed_to answered q t v planned (Ok x) is h = absurd is
+  failed_to answered q t v planned (Err y) is h = subst (FailsBy v) (sym is) h
+
+-- what is decided is as the verdict of a request that is the same
+pub decides_same : {X : Type 0} (answered : X → Done) (org n : ℕ) (q : OrgPlan) (t : Tenant) (v w : Verdict) (planned : Planned) (result : Result (Decided X) EditFail) → n ≡ org → w ≡ v
+    → DecidesTo n q t v answered planned result → DecidesTo org q t w answered planned result
+decides_same answered org n q t v w planned result here same h =
+    subst (λ (m : ℕ). DecidesTo m q t w answered planned result) here (subst (λ (x : Verdict). DecidesTo n q t x answered planned result) (sym same) h)
 
 pub on_ok : {X : Type 0} (P Q : Type 0) (result : Result X EditFail) → OnOk result P → (P → Q) → OnOk result Q
 on_ok P Q (Ok x) h f = f h
@@ -89,33 +106,26 @@ all_printable print (k ∷ kinds) (v ∷ vs) h =
 
 -- what the laws of other crates say
 pub record CreateLaws : Type 0 where
-  pub takes : (org : ℕ) (q : OrgPlan) (a : Asked) (name : List ℕ) (o : Numbered) (given : List Assignment)
-      → org < 2 ^ 32 → IsSound a.tenant → FitsPlan q a.tenant → IsCaller a → OfObjects a (λ x. ReadsWell a x given)
-      → object_named a.tenant name ≡ Some o → object_numbered a.tenant o.number ≡ Some o.object → is_of o.number (new_record a o given) ≡ true
-      → None ≡ first_refusal (create_rules a o None given (new_record a o given))
-      → AllByRecursion (λ (c : Change). FitsKey c.0) (touched_changes org q (fresh_plan (new_record a o given).id q) a.tenant (with_record (new_record a o given) a.tenant) ((new_record a o given).id ∷ []))
-      → Takes org q a.tenant (create a name given) (made_new (new_record a o given).id) PlansNew (created_changes org q a.tenant o (new_record a o given))
-  pub named : Named
+  pub takes : (org : ℕ) (q : OrgPlan) (a : Asked) (o : Numbered) (key : Option Key) (given : List Assignment)
+      → org < 2 ^ 32 → IsSound a.tenant → FitsPlan q a.tenant → IsSound (create_on a o key given).tenant
+      → object_numbered a.tenant o.number ≡ Some o.object → is_of o.number (new_record a o (with_key key given)) ≡ true
+      → None ≡ first_refusal (create_rules a o key given (new_record a o (with_key key given)))
+      → AllByRecursion (λ (c : Change). FitsKey c.0) (touched_changes org q (fresh_plan (new_record a o (with_key key given)).id q) a.tenant (with_record (new_record a o (with_key key given)) a.tenant) ((new_record a o (with_key key given)).id ∷ []))
+      → Takes org q a.tenant (create_on a o key given) (answered_new key (new_record a o (with_key key given)).id) PlansNew (created_changes org q a.tenant o (new_record a o (with_key key given)))
   pub rows : RowsMade
   pub fresh : (t : Tenant) (n : ℕ) (o : Object) → IsSound t → slice_get t.objects n ≡ Some o → (y : Record) → Has t.records y → bytes_eq y.id (made (record_prefix n) t.counter) ≡ false
   pub order : IdOrder
   pub printable : Printable
 
-module _ (laws : CreateLaws) (org : ℕ) (q : OrgPlan) (a : Asked) (name : List ℕ) (given : List Assignment) (sound : IsSound a.tenant) (x : Accepted) (is : IsAccepted org q a name given x) where
-  abbrev o : Numbered
-  o = is.read.numbered
-
+module _ (laws : CreateLaws) (org : ℕ) (q : OrgPlan) (a : Asked) (o : Numbered) (l : Layout) (key : Option Key) (given : List Assignment) (sound : IsSound a.tenant) (at : IsObject org q a.tenant o l) (x : Accepted) (is : IsAccepted org a o key given x) where
   abbrev t : Tenant
   t = a.tenant
 
   abbrev r : Record
-  r = new_record a o given
-
-  there : object_numbered t o.number ≡ Some o.object
-  there = laws.named t name o is.read.there
+  r = new_record a o (with_key key given)
 
   of : is_of o.number r ≡ true
-  of = new_is_of o.number t.counter r (small_number t o sound there) refl
+  of = new_is_of o.number t.counter r (small_number t o sound at.there) refl
 
   none : (j : Job) → t.job ≡ Some j → j.object ≡ o.number → job_value (fresh_plan r.id q) j j.phase r ≡ None
   none j has on =
@@ -123,26 +133,38 @@ module _ (laws : CreateLaws) (org : ℕ) (q : OrgPlan) (a : Asked) (name : List 
       (past laws.order t.counter o.number j.cursor r.id sound.counter
       (subst (λ (n : ℕ). IsCursor t.counter n j.cursor) on (subst (HasSoundJob t.counter t.objects t.records) has sound.job).cursor) refl)
 
-  module _ (values : IsTrue (all_valid (kinds_in x.object.layout.fields) x.new.values)) where
+  module _ (values : IsTrue (all_valid (kinds_in l.fields) x.new.values)) where
     printable : IsTrue (list_all is_printable r.values)
-    printable = subst (λ (z : Record). IsTrue (list_all is_printable z.values)) is.new (all_printable laws.printable (kinds_in x.object.layout.fields) x.new.values values)
+    printable = subst (λ (z : Record). IsTrue (list_all is_printable z.values)) is.new (all_printable laws.printable (kinds_in l.fields) x.new.values values)
 
-    pub changes_are : changes_of x ≡ created_changes org q t o r
+    changes_are : changes_of l x ≡ created_changes org q t o r
     changes_are =
-        ap (λ (row : OrgRow). change_to org_form (row_with row) ∷ change_to object_form (object_with x.object.object) ∷ made_changes x.object.layout x.new) is.read.row
-        ∙ (ap (λ (object : ObjectRow). change_to org_form (row_with (org_of org t)) ∷ change_to object_form (object_with object) ∷ made_changes x.object.layout x.new) is.read.object
-        ∙ (ap (λ (l : Layout). change_to org_form (row_with (org_of org t)) ∷ change_to object_form (object_with (row_of_object org t o.number o.object)) ∷ made_changes l x.new) is.read.layout
+        ap (λ (row : OrgRow). change_to org_form (row_with row) ∷ change_to object_form (object_with x.counts.object) ∷ made_changes l x.new) is.counts.row
+        ∙ (ap (λ (object : ObjectRow). change_to org_form (row_with (org_of org t)) ∷ change_to object_form (object_with object) ∷ made_changes l x.new) is.counts.object
+        ∙ (ap (λ (l : Layout). change_to org_form (row_with (org_of org t)) ∷ change_to object_form (object_with (row_of_object org t o.number o.object)) ∷ made_changes l x.new) at.layout
         ∙ (ap (λ (z : Record). change_to org_form (row_with (org_of org t)) ∷ change_to object_form (object_with (row_of_object org t o.number o.object)) ∷ made_changes (layout_of org q t o) z) is.new
         ∙ (ap (λ (row : OrgRow). change_to org_form row ∷ change_to object_form (object_with (row_of_object org t o.number o.object)) ∷ made_changes (layout_of org q t o) r) (row_counted org t r)
         ∙ (ap (λ (object : ObjectRow). change_to org_form (org_of org (with_record r t)) ∷ change_to object_form object ∷ made_changes (layout_of org q t o) r) (object_counted org o.number t o.object r of)
         ∙ ap (λ (more : List Change). change_to org_form (org_of org (with_record r t)) ∷ change_to object_form (row_of_object org (with_record r t) o.number o.object) ∷ more)
-        (touched_is laws.rows org q t o r none printable of (unnamed t r (laws.fresh t o.number o.object sound there)) (named t r (laws.fresh t o.number o.object sound there)) there))))))
+        (touched_is laws.rows org q t o r none printable of (unnamed t r (laws.fresh t o.number o.object sound at.there)) (named t r (laws.fresh t o.number o.object sound at.there)) at.there))))))
 
-    pub create_taken : org < 2 ^ 32 → FitsPlan q t → IsCaller a → OfObjects a (λ y. ReadsWell a y given) → HaveKeys (changes_of x)
-        → Takes org q t (create a name given) (made_new x.new.id) PlansNew (changes_of x)
-    create_taken low plan caller reads keys =
-        let free = subst (λ (z : Record). None ≡ first_refusal (create_rules a o None given z)) is.new is.free in
+    pub create_taken : org < 2 ^ 32 → FitsPlan q t → IsSound (create_on a o key given).tenant → HaveKeys (changes_of l x)
+        → Takes org q t (create_on a o key given) (answered_new key x.new.id) PlansNew (changes_of l x)
+    create_taken low plan leaves keys =
+        let free = subst (λ (z : Record). None ≡ first_refusal (create_rules a o key given z)) is.new is.free in
         let fit = subst HaveKeys changes_are keys in
-        subst (λ (z : Record). Takes org q t (create a name given) (made_new z.id) PlansNew (changes_of x)) (sym is.new)
-        (subst (λ (cs : List Change). Takes org q t (create a name given) (made_new r.id) PlansNew cs) (sym changes_are)
-        (laws.takes org q a name o given low sound plan caller reads is.read.there there of free fit.1.1))
+        subst (λ (z : Record). Takes org q t (create_on a o key given) (answered_new key z.id) PlansNew (changes_of l x)) (sym is.new)
+        (subst (λ (cs : List Change). Takes org q t (create_on a o key given) (answered_new key r.id) PlansNew cs) (sym changes_are)
+        (laws.takes org q a o key given low sound plan leaves at.there of free fit.1.1))
+
+-- ---- a request that names the object
+
+pub create_named : (a : Asked) (name : List ℕ) (o : Numbered) (given : List Assignment) → object_named a.tenant name ≡ Some o → create a name given ≡ create_on a o None given
+create_named a name o given there = rw there refl
+
+pub create_unnamed : (org : ℕ) (q : OrgPlan) (a : Asked) (name : List ℕ) (given : List Assignment) (r : Result Layout EditFail) (e : EditFail) → NamesLayout org q a.tenant name r → r ≡ Err e → FailsBy (create a name given) e
+create_unnamed org q a name given r e h was = by e (subst (NamesLayout org q a.tenant name) was h)
+  where
+    by : (e : EditFail) → NamesLayout org q a.tenant name (Err e) → FailsBy (create a name given) e
+    by (Refused r) h = let none = h.0 in rw (none, h.1) refl
+    by (Store f) h = h

@@ -1,23 +1,26 @@
 -- What is given to a record, judged.
 use Rattle.std.proofs.Common.{◌≡◌, ◌∙◌, ℕ, Bool, true, false, ◌&&◌, IsTrue, List, [], ◌∷◌, map, Option, Some, None, refl, sym, ap, subst}
-use Rattle.std.specs.Prelude.{Result, Ok, Err, IfOk}
+use Rattle.std.specs.Prelude.{Result, Ok, Err}
 use Rattle.std.specs.List.{list_all}
 use Rattle.ut_data.specs.Decoding.{kinds_in}
-use Rattle.ut_given.specs.Given.{FindNone, IsInJson, finds_none, is_json}
+use Rattle.ut_given.specs.declared.key.AllGiven.{AllGiven}
+use Rattle.ut_given.specs.declared.key.UpsertKey.{UpsertKey}
+use Rattle.ut_given.specs.Given.{FindNone, IsInJson, IsPlain, finds_none, is_json}
 use Rattle.ut_model.specs.declared.record.Record.{Record}
 use Rattle.ut_model.specs.declared.record_bodies.Assignment.{Assignment}
 use Rattle.ut_model.specs.declared.record_bodies.Given.{Given}
 use Rattle.ut_model.specs.declared.record_bodies.Given.TheVariants as gives
 use Rattle.ut_model.specs.declared.refusal.Refusal.{Refusal}
-use Rattle.ut_model.specs.Edits.{bad_value, required_missing, with_given}
+use Rattle.ut_model.specs.Edits.{bad_value, required_missing}
 use Rattle.ut_model.specs.Fields.{column_named}
-use Rattle.ut_model.specs.Keys.{bad_fields}
+use Rattle.ut_model.specs.Keys.{Key, bad_fields, with_key}
 use Rattle.ut_model.specs.Objects.{Numbered}
 use Rattle.ut_model.specs.Paths.{Asked}
 use Rattle.ut_model.specs.Rules.{Rule, first_refusal}
 use Rattle.ut_model.specs.SoundRecords.{all_valid, kinds_of}
 use Rattle.ut_model.specs.Tenant.{Object}
 use Rattle.ut_rules.specs.Objects.{field_of_place, numbered_in, object_of_layout}
+use Rattle.ut_sound.specs.Fit.{ReadsWell}
 use Rattle.ut_stands.specs.declared.fail.EditFail.{EditFail}
 use Rattle.ut_stands.specs.declared.fail.EditFail.TheVariants.{Refused, Store}
 use Rattle.ut_stands.specs.declared.layout.FieldPlace.{FieldPlace}
@@ -27,7 +30,7 @@ use Rattle.ut_stands.specs.Plan.{OrgPlan}
 use Rattle.ut_value.specs.declared.value.FieldType.{FieldType}
 use Rattle.ut_value.specs.declared.value.FieldType.TheVariants as type
 use Rattle.ut_named.proofs.Spelled.{plain, spelled}
-use Rattle.ut_records.specs.inner.Giving.{Alters, Lacks, given_rules}
+use Rattle.ut_records.specs.inner.Giving.{Alters, Lacks, altered, given_rules}
 
 -- ---- what is in JSON finds no record
 
@@ -40,9 +43,16 @@ both : (a b : Bool) → IsTrue (a && b) → IsTrue a × IsTrue b
 both true b h = (refl, h)
 both false b h = absurd cc
 
-pub finds_nothing : (given : List Assignment) → IsInJson given → FindNone given
+finds_nothing : (given : List Assignment) → IsInJson given → FindNone given
 finds_nothing [] h = refl
 finds_nothing (x ∷ given) h = let p = both (is_json x.given) (list_all (λ y. is_json y.given) given) h in rw (one_json x.given p.0) (finds_nothing given p.1)
+
+-- and so it is plain, without the key of an upsert
+pub is_plain : (x : AllGiven) → x.key ≡ None → IsInJson x.body.now → IsPlain x
+is_plain x none h = record { finds = finds_nothing x.body.now h; key = λ k is. absurd (no_key k (sym none ∙ is)) }
+  where
+    no_key : (k : UpsertKey) → ◌≡◌ {A = Option UpsertKey} None (Some k) → ⊥
+    no_key k e = absurd cc
 
 -- ---- the types of a record's values
 
@@ -76,44 +86,53 @@ given_none None None (Some x) e v h = absurd cc
 given_none None (Some y) missing e v h = absurd cc
 given_none (Some x) value missing e v h = absurd cc
 
-module _ (a : Asked) (l : Layout) (given : List Assignment) (old : Record) (fields : None ≡ bad_fields a.tenant (object_of_layout l) None given) where
+module _ (a : Asked) (l : Layout) (key : Option Key) (given : List Assignment) (old : Record) (fields : None ≡ bad_fields a.tenant (object_of_layout l) key given) where
   abbrev it : Object
   it = object_of_layout l
 
-  abbrev altered : Record
-  altered = with_given a it given old
+  abbrev all : List Assignment
+  all = with_key key given
 
-  pub value_refused : (r : Refusal) → bad_value a.tenant it given ≡ Some r → Some r ≡ first_refusal (given_rules a.tenant it given altered)
-  value_refused r e = given_value (bad_fields a.tenant it None given) (bad_value a.tenant it given) (required_missing it altered) r fields e
+  abbrev then : Record
+  then = altered a it key given old
+
+  pub value_refused : (r : Refusal) → bad_value a.tenant it all ≡ Some r → Some r ≡ first_refusal (given_rules a.tenant it key given then)
+  value_refused r e = given_value (bad_fields a.tenant it key given) (bad_value a.tenant it all) (required_missing it then) r fields e
 
   -- the values are read, and the record is made of them
-  pub alters_so : bad_value a.tenant it given ≡ None → (made : Record) → made ≡ altered → (r : Result Record EditFail) → Lacks it made r → Alters a it given old r
+  alters_so : bad_value a.tenant it all ≡ None → (made : Record) → made ≡ then → (r : Result Record EditFail) → Lacks it made r → Alters a it key given old r
   alters_so values made is (Ok x) h =
-      (given_none (bad_fields a.tenant it None given) (bad_value a.tenant it given) (required_missing it altered) fields values (subst (λ (z : Record). None ≡ required_missing it z) is h.0), h.1 ∙ is)
+      (given_none (bad_fields a.tenant it key given) (bad_value a.tenant it all) (required_missing it then) fields values (subst (λ (z : Record). None ≡ required_missing it z) is h.0), h.1 ∙ is)
   alters_so values made is (Err (Refused x)) h =
-      given_missing (bad_fields a.tenant it None given) (bad_value a.tenant it given) (required_missing it altered) x fields values (subst (λ (z : Record). Some x ≡ required_missing it z) is h)
+      given_missing (bad_fields a.tenant it key given) (bad_value a.tenant it all) (required_missing it then) x fields values (subst (λ (z : Record). Some x ≡ required_missing it z) is h)
   alters_so values made is (Err (Store e)) h = λ d. absurd cc
+
+  -- they are valid, where they are read well
+  pub alters_well : bad_value a.tenant it all ≡ None → (made : Record) → made ≡ then → IsTrue (all_valid (kinds_in l.fields) old.values) → ReadsWell a it all
+      → (r : Result Record EditFail) → (IsTrue (all_valid (kinds_in l.fields) made.values) → Lacks it made r) → Alters a it key given old r
+  alters_well values made is valid well r lacks = alters_so values made is r (lacks (subst (λ (z : Record). IsTrue (all_valid (kinds_in l.fields) z.values)) (sym is) (stay valid)))
+    where
+      stay : IsTrue (all_valid (kinds_in l.fields) old.values) → IsTrue (all_valid (kinds_in l.fields) then.values)
+      stay h =
+          subst (λ (kinds : List FieldType). IsTrue (all_valid kinds then.values)) (kinds_same l)
+          (well values old (subst (λ (kinds : List FieldType). IsTrue (all_valid kinds old.values)) (sym (kinds_same l)) h))
 
 -- ---- the object that a layout spells
 
-alters_plain : (a : Asked) (o : Numbered) (given : List Assignment) (old : Record) (r : Result Record EditFail) → Alters a (plain o).object given old r → Alters a o.object given old r
+alters_plain : (a : Asked) (o : Numbered) (key : Option Key) (given : List Assignment) (old : Record) (r : Result Record EditFail) → Alters a (plain o).object key given old r → Alters a o.object key given old r
 unfolding column_named
-alters_plain a o given old (Ok r) h = h
-alters_plain a o given old (Err (Refused x)) h = h
-alters_plain a o given old (Err (Store e)) h = h
+alters_plain a o key given old (Ok r) h = h
+alters_plain a o key given old (Err (Refused x)) h = h
+alters_plain a o key given old (Err (Store e)) h = h
 
-pub alters_there : (org : ℕ) (q : OrgPlan) (a : Asked) (o : Numbered) (l : Layout) (given : List Assignment) (old : Record) (r : Result Record EditFail) → l ≡ layout_of org q a.tenant o
-    → Alters a (object_of_layout l) given old r → Alters a o.object given old r
-alters_there org q a o l given old r is h = alters_plain a o given old r (subst (λ (p : Numbered). Alters a p.object given old r) (ap numbered_in is ∙ spelled org q a.tenant o) h)
+pub alters_there : (org : ℕ) (q : OrgPlan) (a : Asked) (o : Numbered) (l : Layout) (key : Option Key) (given : List Assignment) (old : Record) (r : Result Record EditFail) → l ≡ layout_of org q a.tenant o
+    → Alters a (object_of_layout l) key given old r → Alters a o.object key given old r
+alters_there org q a o l key given old r is h = alters_plain a o key given old r (subst (λ (p : Numbered). Alters a p.object key given old r) (ap numbered_in is ∙ spelled org q a.tenant o) h)
 
--- ---- valid values
+reads_plain : (a : Asked) (o : Numbered) (given : List Assignment) → ReadsWell a o.object given → ReadsWell a (plain o).object given
+unfolding column_named
+reads_plain a o given h = h
 
-pub made_valid : (l : Layout) (made : Record) (r : Result Record EditFail) → IsTrue (all_valid (kinds_of (object_of_layout l)) made.values) → Lacks (object_of_layout l) made r
-    → IfOk r (λ x. IsTrue (all_valid (kinds_in l.fields) x.values))
-made_valid l made (Ok x) valid h =
-    subst (λ (kinds : List FieldType). IsTrue (all_valid kinds x.values)) (kinds_same l)
-    (subst (λ (z : Record). IsTrue (all_valid (kinds_of (object_of_layout l)) z.values)) (sym h.1) valid)
-made_valid l made (Err e) valid h = tt
-
-pub at_ok : {A : Type 0} (P : A → Type 0) (r : Result A Refusal) (x : A) → r ≡ Ok x → IfOk r P → P x
-at_ok {A = A} P r x is h = subst (λ (z : Result A Refusal). IfOk z P) is h
+-- what is read well in an object is so in the one that its layout spells
+pub reads_there : (org : ℕ) (q : OrgPlan) (a : Asked) (o : Numbered) (l : Layout) (given : List Assignment) → l ≡ layout_of org q a.tenant o → ReadsWell a o.object given → ReadsWell a (object_of_layout l) given
+reads_there org q a o l given is h = subst (λ (p : Numbered). ReadsWell a p.object given) (sym (ap numbered_in is ∙ spelled org q a.tenant o)) (reads_plain a o given h)

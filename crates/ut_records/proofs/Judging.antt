@@ -1,14 +1,16 @@
 -- What judging a create finds.
-use Rattle.std.proofs.Common.{◌≡◌, ◌∙◌, ℕ, ◌<◌, List, [], ◌∷◌, length, Some, None, ◌++◌, sym, ap, subst, arith}
+use Rattle.std.proofs.Common.{◌≡◌, ◌∙◌, ℕ, ◌<◌, List, [], ◌∷◌, length, Option, Some, None, ◌++◌, sym, ap, subst, arith}
 use Rattle.std.specs.Prelude.{Result, Ok, Err, IsErrAnd}
 use Rattle.std.proofs.lemmas.Option.{slice_get_within}
 use Rattle.std.specs.Option.{option_or}
 use Rattle.ut_edits.specs.Edits.{FailsBy}
 use Rattle.ut_keeper.specs.Draft.{Held}
 use Rattle.ut_keeper.specs.State.{KeeperState}
-use Rattle.ut_model.specs.Creates.{create, create_rules, empty_record, master_denied}
+use Rattle.ut_keys.specs.declared.fail.StoreFail.{StoreFail}
+use Rattle.ut_model.specs.Creates.{create_on, create_rules, empty_record, master_denied}
 use Rattle.ut_model.specs.declared.record.Record.{Record}
 use Rattle.ut_model.specs.declared.record_bodies.Assignment.{Assignment}
+use Rattle.ut_model.specs.Keys.{Key, with_key}
 use Rattle.ut_model.specs.Objects.{Numbered, object_numbered}
 use Rattle.ut_model.specs.Paths.{Asked}
 use Rattle.ut_model.specs.Rules.{Rule, first_refusal}
@@ -18,13 +20,14 @@ use Rattle.ut_model.specs.Tenant.{Tenant}
 use Rattle.ut_stands.specs.Calls.{Calls, ended_edit}
 use Rattle.ut_stands.specs.declared.fail.EditFail.{EditFail}
 use Rattle.ut_stands.specs.declared.fail.EditFail.TheVariants.{Refused, Store}
-use Rattle.ut_stands.specs.Plan.{OrgPlan}
+use Rattle.ut_stands.specs.declared.layout.Layout.{Layout}
+use Rattle.ut_stands.specs.Fails.{of_store}
 use Rattle.ut_records.specs.Creating.{new_record}
 use Rattle.ut_records.specs.declared.creating.Accepted.{Accepted}
-use Rattle.ut_records.specs.declared.object.ReadObject.{ReadObject}
+use Rattle.ut_records.specs.declared.object.Counts.{Counts}
 use Rattle.ut_records.specs.inner.Judged.{Accepts, Admits, admit_rules}
 use Rattle.ut_records.specs.inner.Giving.{Alters, given_rules}
-use Rattle.ut_records.specs.inner.Object.{IsRead, Reads}
+use Rattle.ut_records.specs.inner.Object.{AreOf, ReadsCounts}
 use Rattle.ut_records.proofs.Accepting.{behind, behind_refused, first_stays, first_then, free_of, given_refused, refused_so}
 
 -- an object's number is one of so few
@@ -35,44 +38,43 @@ small_number t o sound there =
 
 -- ---- what fails
 
-module _ (org : ℕ) (q : OrgPlan) (a : Asked) (name : List ℕ) (given : List Assignment) where
+module _ (org : ℕ) (a : Asked) (o : Numbered) (key : Option Key) (given : List Assignment) where
   -- it is passed on
-  pub passed : (e : EditFail) (out : Result Accepted EditFail) → IsErrAnd out (λ y. y ≡ e) → FailsBy (create a name given) e → Accepts org q a name given out
+  pub passed : (e : EditFail) (out : Result Accepted EditFail) → IsErrAnd out (λ y. y ≡ e) → FailsBy (create_on a o key given) e → Accepts org a o key given out
   passed e (Ok x) is h = absurd is
-  passed e (Err y) is h = subst (FailsBy (create a name given)) (sym is) h
+  passed e (Err y) is h = subst (FailsBy (create_on a o key given)) (sym is) h
 
-  pub read_so : (r : Result ReadObject EditFail) (x : ReadObject) → Reads org q a.tenant name r → r ≡ Ok x → IsRead org q a.tenant name x
-  read_so r x h was = subst (Reads org q a.tenant name) was h
+  pub unread : (r : Result Counts StoreFail) (e : StoreFail) (out : Result Accepted EditFail) → ReadsCounts org a.tenant o r → r ≡ Err e → IsErrAnd out (λ y. y ≡ of_store e) → Accepts org a o key given out
+  unread r e out h was is = passed (of_store e) out is (subst (ReadsCounts org a.tenant o) was h)
 
-  module _ (x : ReadObject) (is : IsRead org q a.tenant name x) where
-    abbrev o : Numbered
-    o = is.numbered
+  pub read_so : (r : Result Counts StoreFail) (x : Counts) → ReadsCounts org a.tenant o r → r ≡ Ok x → AreOf org a.tenant o x
+  read_so r x h was = subst (ReadsCounts org a.tenant o) was h
 
-    pub unproposed : (r : Result Record EditFail) (e : EditFail) → Alters a o.object given (empty_record a o) r → r ≡ Err e → FailsBy (create a name given) e
-    unproposed r e h was = by e (subst (Alters a o.object given (empty_record a o)) was h)
+  pub unproposed : (r : Result Record EditFail) (e : EditFail) → Alters a o.object key given (empty_record a o) r → r ≡ Err e → FailsBy (create_on a o key given) e
+  unproposed r e h was = by e (subst (Alters a o.object key given (empty_record a o)) was h)
+    where
+      by : (e : EditFail) → Alters a o.object key given (empty_record a o) (Err e) → FailsBy (create_on a o key given) e
+      by (Refused y) h = refused_so a o key given y (given_refused a o key given (new_record a o (with_key key given)) y h)
+      by (Store f) h = h
+
+  -- the record that no rule on what is given refuses
+  module _ (l : Layout) (x : Counts) (new : Record) (proposed : (None ≡ first_refusal (given_rules a.tenant o.object key given (new_record a o (with_key key given)))) × (new ≡ new_record a o (with_key key given))) (master : (r : Record) → master_denied a o r ≡ None)
+      (rules : admit_rules a l x new ≡ behind a o new) where
+    free : None ≡ first_refusal (given_rules a.tenant o.object key given new)
+    free = subst (λ (r : Record). None ≡ first_refusal (given_rules a.tenant o.object key given r)) (sym proposed.1) proposed.0
+
+    pub unadmitted : (r : Result (Unit {0}) EditFail) (e : EditFail) → Admits a l x new r → r ≡ Err e → FailsBy (create_on a o key given) e
+    unadmitted r e h was = by e (subst (Admits a l x new) was h)
       where
-        by : (e : EditFail) → Alters a o.object given (empty_record a o) (Err e) → FailsBy (create a name given) e
-        by (Refused y) h = refused_so a name o given y is.there (given_refused a o given (new_record a o given) y h)
+        by : (e : EditFail) → Admits a l x new (Err e) → FailsBy (create_on a o key given) e
+        by (Refused y) h =
+            refused_so a o key given y
+            (subst (λ (r : Record). Some y ≡ first_refusal (create_rules a o key given r)) proposed.1
+            (behind_refused a o key given new y (master new) free (h ∙ ap first_refusal rules)))
         by (Store f) h = h
 
-    -- the record that no rule on what is given refuses
-    module _ (new : Record) (proposed : (None ≡ first_refusal (given_rules a.tenant o.object given (new_record a o given))) × (new ≡ new_record a o given)) (master : (r : Record) → master_denied a o r ≡ None)
-        (rules : admit_rules a x new ≡ behind a o new) where
-      free : None ≡ first_refusal (given_rules a.tenant o.object given new)
-      free = subst (λ (r : Record). None ≡ first_refusal (given_rules a.tenant o.object given r)) (sym proposed.1) proposed.0
-
-      pub unadmitted : (r : Result (Unit {0}) EditFail) (e : EditFail) → Admits a x new r → r ≡ Err e → FailsBy (create a name given) e
-      unadmitted r e h was = by e (subst (Admits a x new) was h)
-        where
-          by : (e : EditFail) → Admits a x new (Err e) → FailsBy (create a name given) e
-          by (Refused y) h =
-              refused_so a name o given y is.there
-              (subst (λ (r : Record). Some y ≡ first_refusal (create_rules a o None given r)) proposed.1
-              (behind_refused a o given new y (master new) free (h ∙ ap first_refusal rules)))
-          by (Store f) h = h
-
-      pub admitted : (r : Result (Unit {0}) EditFail) (done : Unit {0}) → Admits a x new r → r ≡ Ok done → None ≡ first_refusal (create_rules a o None given new)
-      admitted r done h was = free_of a o given new (master new) free (subst (Admits a x new) was h ∙ ap first_refusal rules)
+    pub admitted : (r : Result (Unit {0}) EditFail) (done : Unit {0}) → Admits a l x new r → r ≡ Ok done → None ≡ first_refusal (create_rules a o key given new)
+    admitted r done h was = free_of a o key given new (master new) free (subst (Admits a l x new) was h ∙ ap first_refusal rules)
 
 -- of the refusals of some rules and of one more, the first
 pub refused_first : (rules : List Rule) (others more : Rule) (r : Refusal) → others ≡ first_refusal rules → option_or others more ≡ Some r → Some r ≡ first_refusal (rules ++ more ∷ [])

@@ -37,10 +37,11 @@ use Rattle.ut_value.specs.declared.value.FieldType.{FieldType}
 use Rattle.ut_value.specs.Printing.{is_printable}
 use Rattle.ut_records.specs.declared.creating.Accepted.{Accepted}
 use Rattle.ut_records.specs.declared.updating.Altered.{Altered}
+use Rattle.ut_named.specs.declared.kept.KeptRecord.{KeptRecord}
 use Rattle.ut_named.specs.Shares.{shares_removed}
 use Rattle.ut_records.specs.inner.Judged.{HaveKeys, changes_of}
 use Rattle.ut_records.specs.inner.Updated.{altered_changes}
-use Rattle.ut_records.specs.inner.Object.{IsOwn}
+use Rattle.ut_records.specs.inner.Object.{FitsCounts}
 use Rattle.ut_named.proofs.Facts.{pick}
 
 -- ---- the layout stays
@@ -136,15 +137,8 @@ own_made l r = (refl, own_flat l.org (λ s. slot_changes l.org l.object r.id Non
 abbrev some_org : ℕ → Option ℕ
 some_org n = Some n
 
-pub are_in : (org : ℕ) (x : Accepted) → IsOwn org x.object → HaveKeys (changes_of x) → AllByRecursion (IsIn org) (changes_of x)
-are_in org x own keys =
-    all_in org (changes_of x) keys (
-      ap some_org own.row,
-      (
-        ap some_org own.object,
-        subst (λ (n : ℕ). AllByRecursion (λ (c : Change). org_of_key c.0 ≡ Some n) (made_changes x.object.layout x.new)) own.layout (own_made x.object.layout x.new),
-      ),
-    )
+pub are_in : (l : Layout) (x : Accepted) → FitsCounts l.org x.counts → HaveKeys (changes_of l x) → AllByRecursion (IsIn l.org) (changes_of l x)
+are_in l x own keys = all_in l.org (changes_of l x) keys (ap some_org own.row, (ap some_org own.object, own_made l x.new))
 
 own_turned_changes : (l : Layout) (kept : DataRow) (old new : Record) → AreOwn l.org (turned_changes l kept old new)
 unfolding turned_changes values_turned
@@ -155,14 +149,10 @@ own_removed : (org : ℕ) (id : List ℕ) (us : List ShareRow) → AreOwn org (s
 own_removed org id [] = tt
 own_removed org id (u ∷ us) = (refl, own_removed org id us)
 
-pub altered_in : (org : ℕ) (x : Altered) → x.named.layout.org ≡ org → HaveKeys (altered_changes x) → AllByRecursion (IsIn org) (altered_changes x)
-altered_in org x own keys =
-    let l = x.named.layout in
-    let removed = shares_removed l.org x.new.id x.shares in
-    let changed = turned_changes l x.named.kept.row x.named.kept.item x.new in
-    all_in org (altered_changes x) keys
-    (subst (λ (n : ℕ). AreOwn n (removed ++ changed)) own
-    (own_both l.org removed changed (own_removed l.org x.new.id x.shares) (own_turned_changes l x.named.kept.row x.named.kept.item x.new)))
+pub altered_in : (l : Layout) (kept : KeptRecord) (x : Altered) → HaveKeys (altered_changes l kept x) → AllByRecursion (IsIn l.org) (altered_changes l kept x)
+altered_in l kept x keys =
+    all_in l.org (altered_changes l kept x) keys
+    (own_both l.org (shares_removed l.org x.new.id x.shares) (turned_changes l kept.row kept.item x.new) (own_removed l.org x.new.id x.shares) (own_turned_changes l kept.row kept.item x.new))
 
 -- ---- they are few
 
@@ -171,13 +161,13 @@ module _ (few : (l : Layout) (r : Record) → length (made_changes l r) ≤ 145)
   length_map [] = refl
   length_map (c ∷ cs) = let e = length_map cs in omega (arith, e)
 
-  pub are_few : (x : Accepted) (items : List Spelled) → AreSpelled (changes_of x) items → AreFew 147 0 items
-  are_few x items is =
-      let many = length_map (made_changes x.object.layout x.new) in
-      let most = few x.object.layout x.new in
-      let none = gone x.object.layout x.new in
+  are_few : (l : Layout) (x : Accepted) (items : List Spelled) → AreSpelled (changes_of l x) items → AreFew 147 0 items
+  are_few l x items is =
+      let many = length_map (made_changes l x.new) in
+      let most = few l x.new in
+      let none = gone l x.new in
       subst (AreFew 147 0) (sym is) (record { some = omega arith; most = omega (arith, many, most); gone = omega (arith, none) })
 
-  pub decided_few : (x : Accepted) (result : Result (Decided (List ℕ)) EditFail) → IfOk result (λ y. AreSpelled (changes_of x) y.changes.items) → IfOk result (λ y. AreFew 147 0 y.changes.items)
-  decided_few x (Ok y) made = are_few x y.changes.items made
-  decided_few x (Err e) made = tt
+  pub decided_few : (l : Layout) (x : Accepted) (result : Result (Decided (List ℕ)) EditFail) → IfOk result (λ y. AreSpelled (changes_of l x) y.changes.items) → IfOk result (λ y. AreFew 147 0 y.changes.items)
+  decided_few l x (Ok y) made = are_few l x y.changes.items made
+  decided_few l x (Err e) made = tt

@@ -1,32 +1,32 @@
 -- The changes of an edit of records take the organisation's rows to those of the tenant that its verdict leaves.
-use Rattle.std.proofs.Common.{◌≡◌, ◌∙◌, ℕ, ◌<◌, ◌^◌, true, false, List, [], ◌∷◌, Some, None, refl, sym, subst}
+use Rattle.std.proofs.Common.{◌≡◌, ℕ, ◌<◌, ◌^◌, true, false, List, [], ◌∷◌, Option, Some, None, refl, sym, subst}
 use Rattle.std.specs.Prelude.{◌++◌}
 use Rattle.std.specs.List.{AllByRecursion}
 use Rattle.ut_edits.specs.Edits.{Planned, Takes}
 use Rattle.ut_keys.specs.Keys.{FitsKey, Key}
-use Rattle.ut_model.specs.Creates.{create, create_rules, with_record}
+use Rattle.ut_model.specs.Creates.{create_on, create_rules, with_record}
 use Rattle.ut_model.specs.declared.record_bodies.Assignment.{Assignment}
 use Rattle.ut_model.specs.declared.record.Record.{Record}
 use Rattle.ut_model.specs.Edits.{with_given}
-use Rattle.ut_model.specs.Objects.{Numbered, is_of, object_named, object_numbered}
+use Rattle.ut_model.specs.Keys.{Key as UpsertKey, with_key}
+use Rattle.ut_model.specs.Objects.{Numbered, is_of, object_numbered}
 use Rattle.ut_model.specs.Paths.{Asked}
 use Rattle.ut_model.specs.Rules.{Rule, first_refusal}
 use Rattle.ut_model.specs.Sound.{IsSound}
 use Rattle.ut_model.specs.Tenant.{Tenant}
-use Rattle.ut_model.specs.Updates.{update, update_on, update_rules, with_changed}
-use Rattle.ut_model.specs.Verdict.{Done, Verdict, accept, done, made_new, unless}
-use Rattle.ut_sound.specs.Fit.{IsCaller, OfObjects, ReadsWell}
+use Rattle.ut_model.specs.Updates.{update_on, update_rules, with_changed}
+use Rattle.ut_model.specs.Verdict.{Done, Verdict, accept, unless}
 use Rattle.ut_stands.specs.Changes.{Change, IsOf, is_changed}
 use Rattle.ut_stands.specs.Plan.{FitsPlan, OrgPlan}
 use Rattle.ut_stands.specs.Stands.{org_of_key, row_in}
 use Rattle.ut_touched.specs.Touched.{AreCounts, HasSoundRows, IsTouched, NoneTakes, fresh_plan, touched_changes}
-use Rattle.ut_records.specs.Creating.{PlansNew, counts_with, created_changes, new_record}
-use Rattle.ut_records.specs.Updating.{PlansSame, shares_gone, updated_changes}
+use Rattle.ut_records.specs.Creating.{PlansNew, answered_new, counts_with, created_changes, new_record}
+use Rattle.ut_records.specs.Updating.{PlansSame, answered_changed, shares_gone, updated_changes}
 use Rattle.ut_records.proofs.Counting.{counted}
 use Rattle.ut_named.proofs.SharePlaces.{SamePrincipals}
 use Rattle.ut_records.proofs.Sharing as sharing
 
--- what `ut_touched` says of what is touched, and `ut_sound` of the tenants that edits leave
+-- what `ut_touched` says of what is touched
 abbrev pub Are : Type 0
 Are = (org : ℕ) (p q : OrgPlan) (t u : Tenant) (ids : List (List ℕ)) (counts : List Change)
     → IsTouched p q t u ids → HasSoundRows p t → HasSoundRows q u → NoneTakes p q t u ids → AreCounts org p q t u counts
@@ -46,14 +46,6 @@ pub record TouchedLaws : Type 0 where
   pub single : (p q : OrgPlan) (t u : Tenant) (id : List ℕ) → IsTouched p q t u (id ∷ []) → HasSoundRows p t → NoneTakes p q t u (id ∷ [])
   pub fresh : (p : OrgPlan) (t : Tenant) (r : Record) → FitsPlan p t → FitsPlan (fresh_plan r.id p) (with_record r t)
   pub same : (p : OrgPlan) (t u : Tenant) (ids : List (List ℕ)) → IsTouched p p t u ids → FitsPlan p t → FitsPlan p u
-
-abbrev pub CreateSound : Type 0
-CreateSound = (a : Asked) (object : List ℕ) (given : List Assignment) → IsCaller a → OfObjects a (λ o. ReadsWell a o given)
-    → IsSound a.tenant → IsSound (create a object given).tenant
-
-abbrev pub UpdateSound : Type 0
-UpdateSound = (a : Asked) (object key : List ℕ) (given : List Assignment) → IsCaller a → OfObjects a (λ o. ReadsWell a o given)
-    → IsSound a.tenant → IsSound (update a object key given).tenant
 
 -- a verdict that no rule refuses
 free_verdict : (rule : Rule) (t : Tenant) (it : Verdict) → None ≡ rule → unless rule t it ≡ it
@@ -80,35 +72,28 @@ module _ (laws : TouchedLaws) (org : ℕ) (q p : OrgPlan) (t u : Tenant) (id : L
 
 -- ---- a create
 
-pub create_takes : TouchedLaws → CreateSound → (org : ℕ) (q : OrgPlan) (a : Asked) (name : List ℕ) (o : Numbered) (given : List Assignment)
-    → org < 2 ^ 32 → IsSound a.tenant → FitsPlan q a.tenant → IsCaller a → OfObjects a (λ x. ReadsWell a x given)
-    → object_named a.tenant name ≡ Some o → object_numbered a.tenant o.number ≡ Some o.object → is_of o.number (new_record a o given) ≡ true
-    → None ≡ first_refusal (create_rules a o None given (new_record a o given))
-    → AllByRecursion (λ (c : Change). FitsKey c.0) (touched_changes org q (fresh_plan (new_record a o given).id q) a.tenant (with_record (new_record a o given) a.tenant) ((new_record a o given).id ∷ []))
-    → Takes org q a.tenant (create a name given) (made_new (new_record a o given).id) PlansNew (created_changes org q a.tenant o (new_record a o given))
-create_takes laws sound org q a name o given lo good fits caller reads named there of free keys =
-    let r : Record = new_record a o given in
+pub create_takes : TouchedLaws → (org : ℕ) (q : OrgPlan) (a : Asked) (o : Numbered) (key : Option UpsertKey) (given : List Assignment)
+    → org < 2 ^ 32 → IsSound a.tenant → FitsPlan q a.tenant → IsSound (create_on a o key given).tenant
+    → object_numbered a.tenant o.number ≡ Some o.object → is_of o.number (new_record a o (with_key key given)) ≡ true
+    → None ≡ first_refusal (create_rules a o key given (new_record a o (with_key key given)))
+    → AllByRecursion (λ (c : Change). FitsKey c.0) (touched_changes org q (fresh_plan (new_record a o (with_key key given)).id q) a.tenant (with_record (new_record a o (with_key key given)) a.tenant) ((new_record a o (with_key key given)).id ∷ []))
+    → Takes org q a.tenant (create_on a o key given) (answered_new key (new_record a o (with_key key given)).id) PlansNew (created_changes org q a.tenant o (new_record a o (with_key key given)))
+create_takes laws org q a o key given lo good fits sound there of free keys =
+    let r : Record = new_record a o (with_key key given) in
     taken laws org q (fresh_plan r.id q) a.tenant (with_record r a.tenant) r.id (counts_with org a.tenant o r) (laws.created q a.tenant r) good fits (laws.fresh q a.tenant r fits) (counted org q a.tenant o r of lo good there) keys
-    (create a name given) (made_new r.id) PlansNew (by name named ∙ free_verdict (first_refusal (create_rules a o None given r)) a.tenant it free) (sound a name given caller reads good) (r.id, refl)
-  where
-    it : Verdict
-    it = accept (made_new (new_record a o given).id) (with_record (new_record a o given) a.tenant)
-
-    by : (name : List ℕ) → object_named a.tenant name ≡ Some o → create a name given ≡ unless (first_refusal (create_rules a o None given (new_record a o given))) a.tenant it
-    by name there = rw there refl
+    (create_on a o key given) (answered_new key r.id) PlansNew (free_verdict (first_refusal (create_rules a o key given r)) a.tenant (accept (answered_new key r.id) (with_record r a.tenant)) free) sound (r.id, refl)
 
 -- ---- an update
 
-pub update_takes : TouchedLaws → UpdateSound → SamePrincipals → (org : ℕ) (q : OrgPlan) (a : Asked) (name text : List ℕ) (o : Numbered) (given : List Assignment) (old : Record)
-    → IsSound a.tenant → FitsPlan q a.tenant → IsCaller a → OfObjects a (λ x. ReadsWell a x given)
-    → update a name text given ≡ update_on a o None given old
-    → None ≡ first_refusal (update_rules a o None given old (with_given a o.object given old))
-    → AllByRecursion (λ (c : Change). FitsKey c.0) (shares_gone org a.tenant old (with_given a o.object given old))
-    → AllByRecursion (λ (c : Change). FitsKey c.0) (touched_changes org q q a.tenant (with_changed old (with_given a o.object given old) a.tenant) (old.id ∷ []))
-    → Takes org q a.tenant (update a name text given) done PlansSame (updated_changes org q a.tenant old (with_given a o.object given old))
-update_takes laws sound same org q a name text o given old good fits caller reads found free shares keys =
-    let new : Record = with_given a o.object given old in
+pub update_takes : TouchedLaws → SamePrincipals → (org : ℕ) (q : OrgPlan) (a : Asked) (o : Numbered) (key : Option UpsertKey) (given : List Assignment) (old : Record)
+    → IsSound a.tenant → FitsPlan q a.tenant → IsSound (update_on a o key given old).tenant
+    → None ≡ first_refusal (update_rules a o key given old (with_given a o.object (with_key key given) old))
+    → AllByRecursion (λ (c : Change). FitsKey c.0) (shares_gone org a.tenant old (with_given a o.object (with_key key given) old))
+    → AllByRecursion (λ (c : Change). FitsKey c.0) (touched_changes org q q a.tenant (with_changed old (with_given a o.object (with_key key given) old) a.tenant) (old.id ∷ []))
+    → Takes org q a.tenant (update_on a o key given old) (answered_changed key old.id) PlansSame (updated_changes org q a.tenant old (with_given a o.object (with_key key given) old))
+update_takes laws same org q a o key given old good fits sound free shares keys =
+    let new : Record = with_given a o.object (with_key key given) old in
     let touched = laws.changed q a.tenant old new refl in
     taken laws org q q a.tenant (with_changed old new a.tenant) old.id (shares_gone org a.tenant old new) touched good fits (laws.same q a.tenant (with_changed old new a.tenant) (old.id ∷ []) touched fits)
     (sharing.counted same org q a.tenant old new shares) keys
-    (update a name text given) done PlansSame (found ∙ free_verdict (first_refusal (update_rules a o None given old new)) a.tenant (accept done (with_changed old new a.tenant)) free) (sound a name text given caller reads good) refl
+    (update_on a o key given old) (answered_changed key old.id) PlansSame (free_verdict (first_refusal (update_rules a o key given old new)) a.tenant (accept (answered_changed key old.id) (with_changed old new a.tenant)) free) sound refl

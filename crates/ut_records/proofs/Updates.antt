@@ -2,9 +2,10 @@
 use Rattle.std.proofs.Common.{◌≡◌, ◌∙◌, ℕ, ◌+◌, ◌<◌, ◌≤◌, Bool, cond, IsTrue, List, [], ◌∷◌, ◌++◌, length, map, Option, Some, None, refl, sym, ap, subst, arith, bytes_eq}
 use Rattle.std.specs.Prelude.{Result, Ok, Err, IfOk}
 use Rattle.std.specs.List.{AllByRecursion, list_all}
+use Rattle.std.specs.Option.{option_and_then}
 use Rattle.std.proofs.lemmas.Bool.{eqb-true}
 use Rattle.std.proofs.lemmas.List.{append-nil}
-use Rattle.ut_data.proofs.Standing.{Found}
+use Rattle.ut_data.proofs.Standing.{Found, found_of}
 use Rattle.ut_data.specs.Decoding.{kinds_in}
 use Rattle.ut_edits.specs.Edits.{Takes}
 use Rattle.ut_edits.specs.Rows.{AreFew, AreSpelled, gone_of}
@@ -16,19 +17,18 @@ use Rattle.ut_keys.specs.declared.share.ShareRow.{ShareRow}
 use Rattle.ut_keys.specs.Keys.{FitsKey}
 use Rattle.ut_model.specs.declared.record.Record.{Record}
 use Rattle.ut_model.specs.declared.record_bodies.Assignment.{Assignment}
-use Rattle.ut_model.specs.Edits.{with_given}
+use Rattle.ut_model.specs.Keys.{Key}
 use Rattle.ut_model.specs.Objects.{Numbered, is_of, object_number, object_numbered, record_at}
 use Rattle.ut_model.specs.Paths.{Asked}
+use Rattle.ut_model.specs.Rights.{record_of_object}
 use Rattle.ut_model.specs.Rules.{first_refusal}
 use Rattle.ut_model.specs.Sound.{IsSound}
 use Rattle.ut_model.specs.SoundRecords.{all_valid}
 use Rattle.ut_model.specs.Tenant.{Object, Tenant}
-use Rattle.ut_model.specs.Updates.{update, update_on, update_rules, with_changed}
-use Rattle.ut_model.specs.Verdict.{done}
+use Rattle.ut_model.specs.Updates.{update_on, update_rules, with_changed}
 use Rattle.ut_model.specs.World.{having_id}
 use Rattle.ut_pivot.specs.Changed.{record_changes}
 use Rattle.ut_pivot.specs.Turned.{turned_changes}
-use Rattle.ut_sound.specs.Fit.{IsCaller, OfObjects, ReadsWell}
 use Rattle.ut_stands.specs.Changes.{Change}
 use Rattle.ut_stands.specs.declared.fail.EditFail.{EditFail}
 use Rattle.ut_stands.specs.declared.layout.Layout.{Layout}
@@ -38,17 +38,18 @@ use Rattle.ut_stands.specs.Plan.{FitsPlan, OrgPlan}
 use Rattle.ut_stands.specs.Stands.{kept_at}
 use Rattle.ut_touched.specs.Touched.{touched_changes}
 use Rattle.ut_value.specs.Printing.{is_printable}
+use Rattle.ut_records.specs.Creating.{IsObject}
 use Rattle.ut_records.specs.declared.updating.Altered.{Altered}
+use Rattle.ut_named.specs.declared.kept.KeptRecord.{KeptRecord}
 use Rattle.ut_named.specs.Shares.{shares_removed}
 use Rattle.ut_records.specs.inner.Judged.{HaveKeys}
 use Rattle.ut_named.specs.Kept.{IsKept}
+use Rattle.ut_records.specs.inner.Giving.{altered}
 use Rattle.ut_records.specs.inner.Updated.{IsAltered, altered_changes}
-use Rattle.ut_records.specs.Updating.{PlansSame, shares_gone, updated_changes}
+use Rattle.ut_records.specs.Updating.{PlansSame, answered_changed, shares_gone, updated_changes}
 use Rattle.ut_records.proofs.Creates.{Printable, all_printable}
-use Rattle.ut_named.proofs.Naming.{named_found, named_there}
 use Rattle.ut_named.proofs.Facts.{pick, same_text, some_is}
 use Rattle.ut_records.proofs.Numbers.{turned}
-use Rattle.ut_named.proofs.Objects.{Named}
 
 -- ---- the record is the one that its id names, before and after
 
@@ -73,16 +74,24 @@ RowsTurned = (org n : ℕ) (p : OrgPlan) (t u : Tenant) (o : Object) (old new : 
     ≡ record_changes org n new.id (kept_at p t n new.id) (kept_at p u n new.id)
 
 pub record UpdateLaws : Type 0 where
-  pub takes : (org : ℕ) (q : OrgPlan) (a : Asked) (name key : List ℕ) (o : Numbered) (given : List Assignment) (old : Record)
-      → IsSound a.tenant → FitsPlan q a.tenant → IsCaller a → OfObjects a (λ x. ReadsWell a x given)
-      → update a name key given ≡ update_on a o None given old
-      → None ≡ first_refusal (update_rules a o None given old (with_given a o.object given old))
-      → AllByRecursion (λ (c : Change). FitsKey c.0) (shares_gone org a.tenant old (with_given a o.object given old))
-      → AllByRecursion (λ (c : Change). FitsKey c.0) (touched_changes org q q a.tenant (with_changed old (with_given a o.object given old) a.tenant) (old.id ∷ []))
-      → Takes org q a.tenant (update a name key given) done PlansSame (updated_changes org q a.tenant old (with_given a o.object given old))
-  pub named : Named
+  pub takes : (org : ℕ) (q : OrgPlan) (a : Asked) (o : Numbered) (key : Option Key) (given : List Assignment) (old : Record)
+      → IsSound a.tenant → FitsPlan q a.tenant → IsSound (update_on a o key given old).tenant
+      → None ≡ first_refusal (update_rules a o key given old (altered a o.object key given old))
+      → AllByRecursion (λ (c : Change). FitsKey c.0) (shares_gone org a.tenant old (altered a o.object key given old))
+      → AllByRecursion (λ (c : Change). FitsKey c.0) (touched_changes org q q a.tenant (with_changed old (altered a o.object key given old) a.tenant) (old.id ∷ []))
+      → Takes org q a.tenant (update_on a o key given old) (answered_changed key old.id) PlansSame (updated_changes org q a.tenant old (altered a o.object key given old))
   pub rows : RowsTurned
   pub printable : Printable
+
+-- ---- the record that is kept
+
+found_there : (n : ℕ) (x : Option Record) (r : Record) → option_and_then (λ (y : Record). cond (is_of n y) (Some y) None) x ≡ Some r → x ≡ Some r
+found_there n None r e = absurd cc
+found_there n (Some s) r e = pick (is_of n s) (λ b. cond b (Some s) None ≡ Some r → ◌≡◌ {A = Option Record} (Some s) (Some r)) (λ _ h. h) (λ _ h. absurd cc) e
+
+-- it has that id, is one of the tenant's, and is of the object
+pub kept_found : (org : ℕ) (q : OrgPlan) (t : Tenant) (o : Numbered) (l : Layout) (id : List ℕ) (k : KeptRecord) → IsObject org q t o l → IsKept q t l id k → Found t o.number id k.item
+kept_found org q t o l id k at kept = found_of t o.number id k.item (record_at t id) refl (ap (λ (l : Layout). record_of_object t l.object id) (sym at.layout) ∙ kept.is)
 
 -- ---- the changes
 
@@ -94,44 +103,35 @@ keys_second : (xs ys : List Change) → HaveKeys (xs ++ ys) → HaveKeys ys
 keys_second [] ys h = h
 keys_second (x ∷ xs) ys h = keys_second xs ys h.1
 
-module _ (laws : UpdateLaws) (org : ℕ) (q : OrgPlan) (a : Asked) (name key : List ℕ) (given : List Assignment) (sound : IsSound a.tenant) (x : Altered) (is : IsAltered org q a name key given x) where
-  abbrev o : Numbered
-  o = is.named.numbered
-
+module _ (laws : UpdateLaws) (q : OrgPlan) (a : Asked) (o : Numbered) (l : Layout) (key : Option Key) (given : List Assignment) (sound : IsSound a.tenant) (at : IsObject l.org q a.tenant o l) (id : List ℕ) (k : KeptRecord) (kept : IsKept q a.tenant l id k) (x : Altered) (is : IsAltered l.org a o key given k.item x) where
   abbrev t : Tenant
   t = a.tenant
 
-  abbrev l : Layout
-  l = x.named.layout
+  abbrev org : ℕ
+  org = l.org
 
   abbrev old : Record
-  old = x.named.kept.item
+  old = k.item
 
   abbrev r : Record
-  r = with_given a o.object given old
+  r = altered a o.object key given old
 
-  there : object_numbered t o.number ≡ Some o.object
-  there = laws.named t name o is.named.there
-
-  kept : IsKept q t l is.named.id x.named.kept
-  kept = is.named.kept
-
-  its : Found t o.number is.named.id old
-  its = named_found org q a name key x.named is.named
+  its : Found t o.number id old
+  its = kept_found org q t o l id k at kept
 
   before : record_at t old.id ≡ Some old
-  before = named_there org q a name key x.named is.named
+  before = ap (record_at t) its.same ∙ found_there o.number (record_at t id) old (ap (λ (l : Layout). record_of_object t l.object id) (sym at.layout) ∙ kept.is)
 
   after : record_at (with_changed old r t) r.id ≡ Some r
   after = changed_itself old r t.records before
 
   same_object : kept.object ≡ o.object
-  same_object = some_is kept.object o.object (sym kept.there ∙ (ap (λ (l : Layout). object_numbered t l.object) is.named.layout ∙ there))
+  same_object = some_is kept.object o.object (sym kept.there ∙ (ap (λ (l : Layout). object_numbered t l.object) at.layout ∙ at.there))
 
-  row_is : x.named.kept.row ≡ data_of org o.number old (slot_entry q t.job o.number o.object old)
+  row_is : k.row ≡ data_of org o.number old (slot_entry q t.job o.number o.object old)
   row_is =
       kept.row
-      ∙ (ap (λ (l : Layout). data_of l.org l.object old (slot_entry q t.job l.object kept.object old)) is.named.layout
+      ∙ (ap (λ (l : Layout). data_of org l.object old (slot_entry q t.job l.object kept.object old)) at.layout
       ∙ ap (λ (object : Object). data_of org o.number old (slot_entry q t.job o.number object old)) same_object)
 
   number : o.number ≡ object_number r.id
@@ -141,38 +141,36 @@ module _ (laws : UpdateLaws) (org : ℕ) (q : OrgPlan) (a : Asked) (name key : L
     touched_is : turned_changes (layout_of org q t o) (data_of org o.number old (slot_entry q t.job o.number o.object old)) old r ≡ touched_changes org q q t (with_changed old r t) (r.id ∷ [])
     touched_is =
         let u = with_changed old r t in
-        laws.rows org o.number q t u o.object old r refl refl refl printable its.of before after there
+        laws.rows org o.number q t u o.object old r refl refl refl printable its.of before after at.there
         ∙ (ap (λ (m : ℕ). record_changes org m r.id (kept_at q t m r.id) (kept_at q u m r.id)) number
         ∙ sym (append-nil (record_changes org (object_number r.id) r.id (kept_at q t (object_number r.id) r.id) (kept_at q u (object_number r.id) r.id))))
 
-    turned_are : turned_changes l x.named.kept.row old x.new ≡ touched_changes org q q t (with_changed old r t) (r.id ∷ [])
+    turned_are : turned_changes l k.row old x.new ≡ touched_changes org q q t (with_changed old r t) (r.id ∷ [])
     turned_are =
-        ap (λ (l : Layout). turned_changes l x.named.kept.row old x.new) is.named.layout
+        ap (λ (l : Layout). turned_changes l k.row old x.new) at.layout
         ∙ (ap (λ (row : DataRow). turned_changes (layout_of org q t o) row old x.new) row_is
         ∙ (ap (λ (z : Record). turned_changes (layout_of org q t o) (data_of org o.number old (slot_entry q t.job o.number o.object old)) old z) is.new
         ∙ touched_is))
 
-    shares_are : shares_removed l.org x.new.id x.shares ≡ shares_gone org t old r
-    shares_are =
-        ap (λ (l : Layout). shares_removed l.org x.new.id x.shares) is.named.layout
-        ∙ (is.shares ∙ ap (λ (z : Record). shares_gone org t old z) is.new)
+    shares_are : shares_removed org x.new.id x.shares ≡ shares_gone org t old r
+    shares_are = is.shares ∙ ap (λ (z : Record). shares_gone org t old z) is.new
 
-    changes_are : altered_changes x ≡ updated_changes org q t old r
+    changes_are : altered_changes l k x ≡ updated_changes org q t old r
     changes_are =
-        ap (λ (cs : List Change). cs ++ turned_changes l x.named.kept.row old x.new) shares_are
+        ap (λ (cs : List Change). cs ++ turned_changes l k.row old x.new) shares_are
         ∙ ap (λ (cs : List Change). shares_gone org t old r ++ cs) turned_are
 
-  pub update_taken : IsTrue (all_valid (kinds_in x.named.layout.fields) x.new.values) → FitsPlan q t → IsCaller a → OfObjects a (λ y. ReadsWell a y given) → HaveKeys (altered_changes x)
-      → Takes org q t (update a name key given) done PlansSame (altered_changes x)
-  update_taken values plan caller reads keys =
-      let printable = subst (λ (z : Record). IsTrue (list_all is_printable z.values)) is.new (all_printable laws.printable (kinds_in x.named.layout.fields) x.new.values values) in
-      let free = subst (λ (z : Record). None ≡ first_refusal (update_rules a o None given old z)) is.new is.free in
+  pub update_taken : IsTrue (all_valid (kinds_in l.fields) x.new.values) → FitsPlan q t → IsSound (update_on a o key given old).tenant → HaveKeys (altered_changes l k x)
+      → Takes org q t (update_on a o key given old) (answered_changed key old.id) PlansSame (altered_changes l k x)
+  update_taken values plan leaves keys =
+      let printable = subst (λ (z : Record). IsTrue (list_all is_printable z.values)) is.new (all_printable laws.printable (kinds_in l.fields) x.new.values values) in
+      let free = subst (λ (z : Record). None ≡ first_refusal (update_rules a o key given old z)) is.new is.free in
       let are = changes_are printable in
       let fit = subst HaveKeys are keys in
       let gone = shares_gone org t old r in
       let touched = touched_changes org q q t (with_changed old r t) (r.id ∷ []) in
-      subst (λ (cs : List Change). Takes org q t (update a name key given) done PlansSame cs) (sym are)
-      (laws.takes org q a name key o given old sound plan caller reads is.verdict free (keys_first gone touched fit) (keys_second gone touched fit))
+      subst (λ (cs : List Change). Takes org q t (update_on a o key given old) (answered_changed key old.id) PlansSame cs) (sym are)
+      (laws.takes org q a o key given old sound plan leaves free (keys_first gone touched fit) (keys_second gone touched fit))
 
 -- ---- they are few
 
@@ -194,17 +192,16 @@ module _ (few : (l : Layout) (kept : DataRow) (old new : Record) → length (tur
   unfolding turned_changes
   head l kept old new = omega arith
 
-  are_few : (x : Altered) (items : List Spelled) → length x.shares ≤ 100 → AreSpelled (altered_changes x) items → AreFew 389 0 items
-  are_few x items short is =
-      let l = x.named.layout in
-      let ys = turned_changes l x.named.kept.row x.named.kept.item x.new in
+  are_few : (l : Layout) (k : KeptRecord) (x : Altered) (items : List Spelled) → length x.shares ≤ 100 → AreSpelled (altered_changes l k x) items → AreFew 389 0 items
+  are_few l k x items short is =
+      let ys = turned_changes l k.row k.item x.new in
       let both = length_both (shares_removed l.org x.new.id x.shares) ys in
       let shares = some_removed l.org x.new.id x.shares in
-      let most = few l x.named.kept.row x.named.kept.item x.new in
-      let some = head l x.named.kept.row x.named.kept.item x.new in
-      let none = none_gone l.org x.new.id x.shares ys ∙ gone l x.named.kept.row x.named.kept.item x.new in
+      let most = few l k.row k.item x.new in
+      let some = head l k.row k.item x.new in
+      let none = none_gone l.org x.new.id x.shares ys ∙ gone l k.row k.item x.new in
       subst (AreFew 389 0) (sym is) (record { some = omega (arith, both, some); most = omega (arith, both, shares, most, short); gone = omega (arith, none) })
 
-  pub altered_few : (x : Altered) (result : Result (Decided (Unit {0})) EditFail) → length x.shares ≤ 100 → IfOk result (λ y. AreSpelled (altered_changes x) y.changes.items) → IfOk result (λ y. AreFew 389 0 y.changes.items)
-  altered_few x (Ok y) short made = are_few x y.changes.items short made
-  altered_few x (Err e) short made = tt
+  pub altered_few : (l : Layout) (k : KeptRecord) (x : Altered) (result : Result (Decided (Unit {0})) EditFail) → length x.shares ≤ 100 → IfOk result (λ y. AreSpelled (altered_changes l k x) y.changes.items) → IfOk result (λ y. AreFew 389 0 y.changes.items)
+  altered_few l k x (Ok y) short made = are_few l k x y.changes.items short made
+  altered_few l k x (Err e) short made = tt

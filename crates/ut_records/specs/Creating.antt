@@ -1,29 +1,53 @@
 -- A new record as changes of rows: those of the organisation and of its object, which count it, and those of its own.
-use Rattle.std.specs.Prelude.{◌≡◌, ℕ, true, List, [], ◌∷◌, ◌++◌, ℤ}
+use Rattle.std.specs.Prelude.{◌≡◌, ℕ, true, List, [], ◌∷◌, ◌++◌, Option, Some, Result, ℤ}
+use Rattle.ut_edits.specs.Edits.{ChangesIn, DecidesTo}
 use Rattle.ut_edits.specs.Rows.{change_to}
+use Rattle.ut_edits.specs.declared.decided.Decided.{Decided}
+use Rattle.ut_given.specs.Given.{all_given, key_of}
+use Rattle.ut_given.specs.declared.key.AllGiven.{AllGiven}
+use Rattle.ut_keeper.specs.Tables.{Tables}
 use Rattle.ut_keys.specs.Rows.{object_form, org_form}
-use Rattle.ut_model.specs.Creates.{empty_record, with_record}
+use Rattle.ut_model.specs.Cases.{in_case}
+use Rattle.ut_model.specs.Creates.{create_on, empty_record, with_record}
 use Rattle.ut_model.specs.Edits.{with_given}
 use Rattle.ut_model.specs.declared.record_bodies.Assignment.{Assignment}
-use Rattle.ut_model.specs.Objects.{Numbered}
+use Rattle.ut_model.specs.Keys.{Key}
+use Rattle.ut_model.specs.Objects.{Numbered, object_numbered}
 use Rattle.ut_model.specs.Paths.{Asked}
-use Rattle.ut_model.specs.Tenant.{Tenant}
+use Rattle.ut_model.specs.Sound.{IsSound}
+use Rattle.ut_model.specs.Tenant.{Object, Tenant}
+use Rattle.ut_model.specs.Verdict.{Done, made_new, upserted}
 use Rattle.ut_model.specs.declared.record.Record.{Record}
 use Rattle.ut_sound.specs.Fit.{IsCaller, OfObjects, ReadsWell}
 use Rattle.ut_stands.specs.Changes.{Change}
+use Rattle.ut_stands.specs.Layouts.{layout_of}
+use Rattle.ut_stands.specs.Local.{StandsIn}
 use Rattle.ut_stands.specs.Metadata.{org_of, row_of_object}
 use Rattle.ut_stands.specs.Plan.{OrgPlan}
+use Rattle.ut_stands.specs.declared.fail.EditFail.{EditFail}
+use Rattle.ut_stands.specs.declared.layout.Layout.{Layout}
 use Rattle.ut_touched.specs.Touched.{fresh_plan, touched_changes}
 
 -- ---- who gives values to a record
 
--- who asks is an administrator with this id, at this moment of the calendar, and what is given is read as values of the fields' types
-pub record IsGiving (id : List ℕ) (moment : ℤ) (given : List Assignment) (a : Asked) : Type 0 where
+-- who asks is an administrator with this id, at this moment
+pub record IsAsker (id : List ℕ) (moment : ℤ) (a : Asked) : Type 0 where
   pub admin : a.user.admin ≡ true
   pub user : a.user.id ≡ id
-  pub caller : IsCaller a
   pub now : a.now ≡ moment
-  pub reads : OfObjects a (λ o. ReadsWell a o given)
+
+-- the same, a user of the organisation at a moment of the calendar, and what is given reads so in each object
+pub record IsGiving (id : List ℕ) (moment : ℤ) (well : Asked → Object → Type 0) (a : Asked) : Type 0 where
+  pub asker : IsAsker id moment a
+  pub caller : IsCaller a
+  pub reads : OfObjects a (well a)
+
+-- ---- the object
+
+-- it is the object with this layout, in an organisation
+pub record IsObject (org : ℕ) (q : OrgPlan) (t : Tenant) (o : Numbered) (l : Layout) : Type 0 where
+  pub there : object_numbered t o.number ≡ Some o.object
+  pub layout : l ≡ layout_of org q t o
 
 -- ---- the record
 
@@ -45,3 +69,18 @@ created_changes org q t o r = counts_with org t o r ++ touched_changes org q (fr
 -- how the rows are kept then: nothing was left of the new id
 abbrev pub PlansNew : OrgPlan → Tenant → OrgPlan → Type 0
 PlansNew q t next = (id : List ℕ) × (next ≡ fresh_plan id q)
+
+-- ---- a create, decided
+
+-- the answer to a create, or to an upsert with a key
+abbrev pub answered_new : Option Key → (id : List ℕ) → Done
+answered_new key id = in_case key (made_new id) (λ k. upserted id true)
+
+-- over these tables, whatever they have, only rows of the organisation are changed; and where these stand for the tenant of who
+-- asks, and valid values stay valid with what is given, it comes to the verdict
+pub record DecidesNew (l : Layout) (user : List ℕ) (now : ℤ) (given : AllGiven) (m : Tables)
+    (result : Result (Decided (List ℕ)) EditFail) : Type 0 where
+  pub own : ChangesIn l.org result
+  pub decided : (q : OrgPlan) (a : Asked) (o : Numbered) → StandsIn l.org q m (Some a.tenant) → IsObject l.org q a.tenant o l
+      → IsAsker user now a → ReadsWell a o.object (all_given given) → IsSound (create_on a o (key_of given) given.body.now).tenant
+      → DecidesTo l.org q a.tenant (create_on a o (key_of given) given.body.now) (answered_new (key_of given)) PlansNew result

@@ -1,13 +1,31 @@
 -- A record with other values as changes of rows: its own, and those of its manual shares, which end where it gets another owner.
-use Rattle.std.specs.Prelude.{◌≡◌, ℕ, if◌then◌else◌, List, [], ◌∷◌, ◌++◌, map, None}
+use Rattle.std.specs.Prelude.{◌≡◌, ℕ, true, false, if◌then◌else◌, List, [], ◌∷◌, ◌++◌, map, Option, None, Some, Result, ℤ}
+use Rattle.ut_edits.specs.Edits.{ChangesIn, DecidesTo}
+use Rattle.ut_edits.specs.declared.decided.Decided.{Decided}
+use Rattle.ut_given.specs.Given.{all_given, key_of}
+use Rattle.ut_given.specs.declared.key.AllGiven.{AllGiven}
+use Rattle.ut_keeper.specs.Tables.{Tables}
 use Rattle.ut_keys.specs.Keys.{Share}
+use Rattle.ut_model.specs.Cases.{in_case}
 use Rattle.ut_model.specs.Edits.{same_owner}
+use Rattle.ut_model.specs.Keys.{Key}
+use Rattle.ut_model.specs.Objects.{Numbered}
+use Rattle.ut_model.specs.Paths.{Asked}
 use Rattle.ut_model.specs.Shares.{shares_of}
+use Rattle.ut_model.specs.Sound.{IsSound}
 use Rattle.ut_model.specs.Tenant.{Tenant}
-use Rattle.ut_model.specs.Updates.{with_changed}
+use Rattle.ut_model.specs.Updates.{update_on, with_changed}
+use Rattle.ut_model.specs.Verdict.{Done, done, upserted}
 use Rattle.ut_model.specs.declared.record.Record.{Record}
+use Rattle.ut_named.specs.Kept.{IsKept}
+use Rattle.ut_named.specs.declared.kept.KeptRecord.{KeptRecord}
+use Rattle.ut_sound.specs.Fit.{ReadsWell}
 use Rattle.ut_stands.specs.Changes.{Change}
+use Rattle.ut_stands.specs.Local.{StandsIn}
 use Rattle.ut_stands.specs.Plan.{OrgPlan}
+use Rattle.ut_stands.specs.declared.fail.EditFail.{EditFail}
+use Rattle.ut_stands.specs.declared.layout.Layout.{Layout}
+use Rattle.ut_records.specs.Creating.{IsObject}
 use Rattle.ut_touched.specs.Touched.{touched_changes}
 
 -- the rows of the shares that end
@@ -21,3 +39,20 @@ updated_changes org q t old new = shares_gone org t old new ++ touched_changes o
 -- how the rows are kept then: as before
 abbrev pub PlansSame : OrgPlan → Tenant → OrgPlan → Type 0
 PlansSame q t next = next ≡ q
+
+-- ---- an update, decided
+
+-- the answer to an update, or to an upsert with a key
+abbrev pub answered_changed : Option Key → (id : List ℕ) → Done
+answered_changed key id = in_case key done (λ k. upserted id false)
+
+-- over these tables, whatever they have, only rows of the organisation are changed; and where these stand for the tenant of who
+-- asks, whose record it is, and valid values stay valid with what is given, it comes to the verdict
+pub record DecidesChanged (l : Layout) (now : ℤ) (given : AllGiven) (kept : KeptRecord) (m : Tables)
+    (result : Result (Decided (Unit {0})) EditFail) : Type 0 where
+  pub own : ChangesIn l.org result
+  pub decided : (q : OrgPlan) (a : Asked) (o : Numbered) (id : List ℕ) → StandsIn l.org q m (Some a.tenant)
+      → IsObject l.org q a.tenant o l → IsKept q a.tenant l id kept → a.user.admin ≡ true → a.now ≡ now
+      → ReadsWell a o.object (all_given given) → IsSound (update_on a o (key_of given) given.body.now kept.item).tenant
+      → DecidesTo l.org q a.tenant (update_on a o (key_of given) given.body.now kept.item)
+      (λ _. answered_changed (key_of given) kept.item.id) PlansSame result

@@ -1,27 +1,67 @@
 //! What is given to a record, judged: to a new one, to which nothing was given, or to one that has values.
 
-ghost use Rattle.std.specs.Prelude.{◌≡◌, ◌≢◌, IfErr, IfOk, IsTrue};
-ghost use Rattle.ut_data.specs.Decoding.{kinds_in};
-ghost use Rattle.ut_given.specs.Given.{IsInJson};
+ghost use Rattle.std.specs.Prelude.{◌≡◌, ◌≢◌, IfErr, IfOk, IsTrue, map};
+ghost use Rattle.std.specs.List.{list_all};
+ghost use Rattle.ut_data.specs.Decoding.{has_types, kinds_in};
+ghost use Rattle.ut_given.specs.Given.{IsPlain, all_given, key_of};
 ghost use Rattle.ut_keys.specs.declared.fail.StoreFail.TheVariants.{Keeper};
 ghost use Rattle.ut_model.specs.Paths.{Asked};
 ghost use Rattle.ut_model.specs.SoundRecords.{all_valid};
 ghost use Rattle.ut_named.specs.Usable.{IsUsable};
 ghost use Rattle.ut_records.specs.inner.Giving.{Alters, Lacks};
 ghost use Rattle.ut_rules.specs.Objects.{object_of_layout};
+ghost use Rattle.ut_sound.specs.Fit.{ReadsWell};
 ghost use Rattle.ut_stands.specs.Fails.{of_store};
+ghost use Rattle.ut_value.specs.Types.{is_type};
 
 use std::alloc::Global;
-use ut_given::{bad_fields, read_given, required_missing, with_given};
-use ut_model::{Assignment, Record};
-use ut_stands::{EditFail, Layout};
+use ut_given::{AllGiven, bad_fields, read_given, required_missing, with_given};
+use ut_keys::StoreFail;
+use ut_model::Record;
+use ut_stands::{EditFail, FieldPlace, Layout};
+use ut_value::{FieldType, Value, check_value};
 
-// The record, unless a required field is null.
+// The most characters of a record's name.
+const MOST_IN_NAME: u8 = 80;
+
+// Whether there is one valid value for each of these fields.
+fn are_valid(fields: &[FieldPlace], values: &[Value]) -> bool
+    requires { IsTrue (list_all (λ f. is_type f.kind) fields.now) }
+    ensures { result ≡ all_valid (map (λ f. f.kind) fields.now) values.now }
+{
+    match (fields.split_first(), values.split_first()) {
+        (None, None) => true,
+        (Some((field, fields)), Some((value, values))) => {
+            check_value(&field.kind, value).is_ok() && are_valid(fields, values)
+        }
+        _ => false,
+    }
+}
+
+// Whether a record has a valid name, and one valid value for each of the fields.
+fn has_valid_values(layout: &Layout, item: &Record) -> bool
+    requires { IsTrue (has_types layout.now) }
+    ensures { result ≡ all_valid (kinds_in layout.now.fields) item.now.values }
+{
+    match item.values.as_slice().split_first() {
+        None => false,
+        Some((name, values)) => {
+            check_value(&FieldType::Text(MOST_IN_NAME), name).is_ok()
+                && are_valid(layout.fields.as_slice(), values)
+        }
+    }
+}
+
+// The record, unless a required field is null. A value that isn't valid is damage, which isn't found where bodies are read well.
 fn unless_missing(alloc: Global, layout: &Layout, new: Record) -> Result<Record, EditFail>
-    ensures { Lacks (object_of_layout layout.now) new result }
+    requires { IsTrue (has_types layout.now) }
+    ensures lacks { IsTrue (all_valid (kinds_in layout.now.fields) new.values) → Lacks (object_of_layout layout.now) new result }
+    ensures valid { IfOk result (λ r. IsTrue (all_valid (kinds_in layout.now.fields) r.values)) }
+    ensures cause { IfErr result (λ e. e ≢ of_store Keeper) }
 {
     match required_missing(alloc, layout, &new)? {
-        None => Ok(new),
+        None if has_valid_values(layout, &new) => Ok(new),
+        None => Err(EditFail::Store(StoreFail::Damaged)),
         Some(refusal) => Err(EditFail::Refused(refusal)),
     }
 }
@@ -30,18 +70,20 @@ fn unless_missing(alloc: Global, layout: &Layout, new: Record) -> Result<Record,
 ///
 /// # Errors
 ///
-/// `Refused` by the first rule on names, values and required fields that refuses it. `Store` with `Memory` if out of memory.
+/// `Refused` by the first rule on names, values and required fields that refuses it. `Store` with `Memory` if out of memory, with
+/// `Damaged` never if valid values stay valid with what is given.
 pub(crate) fn altered_record(
     alloc: Global,
     layout: &Layout,
     old: Record,
     now: i64,
-    given: &[Assignment],
+    given: &AllGiven<'_>,
 ) -> Result<Record, EditFail>
     requires usable { IsUsable layout.now }
-    requires json { IsInJson given.now }
+    requires plain { IsPlain given.now }
     requires values { IsTrue (all_valid (kinds_in layout.now.fields) old.values) }
-    ensures alters { (a : Asked) → a.now ≡ now → Alters a (object_of_layout layout.now) given.now old result }
+    ensures alters { (a : Asked) → a.now ≡ now → ReadsWell a (object_of_layout layout.now) (all_given given.now)
+        → Alters a (object_of_layout layout.now) (key_of given.now) given.now.body.now old result }
     ensures valid { IfOk result (λ r. IsTrue (all_valid (kinds_in layout.now.fields) r.values)) }
     ensures cause { IfErr result (λ e. e ≢ of_store Keeper) }
 {

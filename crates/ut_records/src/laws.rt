@@ -1,26 +1,25 @@
-ghost use Rattle.std.specs.Prelude.{◌≡◌, ◌<◌, ◌^◌, ◌-◌, ℕ, List, None, Some, true};
+//! The laws of the rows of a record that comes or changes.
+
+ghost use Rattle.std.specs.Prelude.{◌≡◌, ◌<◌, ◌^◌, ◌∷◌, [], ℕ, List, None, Option, Some, true};
 ghost use Rattle.std.specs.List.{AllByRecursion};
-ghost use Rattle.std.specs.Prelude.{◌∷◌, []};
 ghost use Rattle.ut_edits.specs.Edits.{Takes};
 ghost use Rattle.ut_keys.specs.Keys.{FitsKey};
-ghost use Rattle.ut_model.specs.Creates.{create, create_rules, with_record};
+ghost use Rattle.ut_model.specs.Creates.{create_on, create_rules, with_record};
 ghost use Rattle.ut_model.specs.declared.record_bodies.Assignment.{Assignment};
 ghost use Rattle.ut_model.specs.Edits.{with_given};
-ghost use Rattle.ut_model.specs.Objects.{Numbered, is_of, object_named, object_numbered};
+ghost use Rattle.ut_model.specs.Keys.{Key, with_key};
+ghost use Rattle.ut_model.specs.Objects.{Numbered, is_of, object_numbered};
 ghost use Rattle.ut_model.specs.Paths.{Asked};
 ghost use Rattle.ut_model.specs.Rules.{first_refusal};
 ghost use Rattle.ut_model.specs.Sound.{IsSound};
 ghost use Rattle.ut_model.specs.Tenant.{Tenant};
-ghost use Rattle.ut_model.specs.Updates.{update, update_on, update_rules, with_changed};
-ghost use Rattle.ut_model.specs.Verdict.{done, made_new};
+ghost use Rattle.ut_model.specs.Updates.{update_on, update_rules, with_changed};
 ghost use Rattle.ut_model.specs.declared.record.Record.{Record};
-ghost use Rattle.ut_records.specs.Creating.{PlansNew, counts_with, created_changes, new_record};
-ghost use Rattle.ut_records.specs.Updating.{PlansSame, shares_gone, updated_changes};
-ghost use Rattle.ut_sound.specs.Fit.{IsCaller, OfObjects, ReadsWell};
+ghost use Rattle.ut_records.specs.Creating.{PlansNew, answered_new, counts_with, created_changes, new_record};
+ghost use Rattle.ut_records.specs.Updating.{PlansSame, answered_changed, shares_gone, updated_changes};
 ghost use Rattle.ut_stands.specs.Plan.{FitsPlan, OrgPlan};
 ghost use Rattle.ut_touched.specs.Touched.{AreCounts, fresh_plan, touched_changes};
 
-use ut_sound::records_sound;
 use ut_touched::touched_laws;
 use ut_value::principal_laws;
 
@@ -32,18 +31,17 @@ pub fn create_laws()
         → AreCounts org q (fresh_plan r.id q) t (with_record r t) (counts_with org t o r) }
 
     // Where no rule refuses it, its changes take the organisation's rows to those of the tenant that the create leaves.
-    ensures takes { (org : ℕ) (q : OrgPlan) (a : Asked) (name : List ℕ) (o : Numbered) (given : List Assignment)
-        → org < 2 ^ 32 → IsSound a.tenant → FitsPlan q a.tenant → IsCaller a → OfObjects a (λ x. ReadsWell a x given)
-        → object_named a.tenant name ≡ Some o → object_numbered a.tenant o.number ≡ Some o.object
-        → is_of o.number (new_record a o given) ≡ true
-        → None ≡ first_refusal (create_rules a o None given (new_record a o given))
-        → AllByRecursion (λ c. FitsKey c.0) (touched_changes org q (fresh_plan (new_record a o given).id q) a.tenant
-        (with_record (new_record a o given) a.tenant) ((new_record a o given).id ∷ []))
-        → Takes org q a.tenant (create a name given) (made_new (new_record a o given).id) PlansNew
-        (created_changes org q a.tenant o (new_record a o given)) }
+    ensures takes { (org : ℕ) (q : OrgPlan) (a : Asked) (o : Numbered) (key : Option Key) (given : List Assignment)
+        → org < 2 ^ 32 → IsSound a.tenant → FitsPlan q a.tenant → IsSound (create_on a o key given).tenant
+        → object_numbered a.tenant o.number ≡ Some o.object
+        → is_of o.number (new_record a o (with_key key given)) ≡ true
+        → None ≡ first_refusal (create_rules a o key given (new_record a o (with_key key given)))
+        → AllByRecursion (λ c. FitsKey c.0) (touched_changes org q (fresh_plan (new_record a o (with_key key given)).id q) a.tenant
+        (with_record (new_record a o (with_key key given)) a.tenant) ((new_record a o (with_key key given)).id ∷ []))
+        → Takes org q a.tenant (create_on a o key given) (answered_new key (new_record a o (with_key key given)).id) PlansNew
+        (created_changes org q a.tenant o (new_record a o (with_key key given))) }
 {
     touched_laws();
-    records_sound();
 }
 
 /// The laws of the rows of a record whose values change. The call does nothing.
@@ -53,19 +51,16 @@ pub fn update_laws()
         → AllByRecursion (λ c. FitsKey c.0) (shares_gone org t old new)
         → AreCounts org q q t (with_changed old new t) (shares_gone org t old new) }
 
-    // Where the key names the record and no rule refuses it, its changes take the organisation's rows to those of the tenant that
-    // the update leaves.
-    ensures takes { (org : ℕ) (q : OrgPlan) (a : Asked) (name key : List ℕ) (o : Numbered) (given : List Assignment) (old : Record)
-        → IsSound a.tenant → FitsPlan q a.tenant → IsCaller a → OfObjects a (λ x. ReadsWell a x given)
-        → update a name key given ≡ update_on a o None given old
-        → None ≡ first_refusal (update_rules a o None given old (with_given a o.object given old))
-        → AllByRecursion (λ c. FitsKey c.0) (shares_gone org a.tenant old (with_given a o.object given old))
+    // Where no rule refuses it, its changes take the organisation's rows to those of the tenant that the update leaves.
+    ensures takes { (org : ℕ) (q : OrgPlan) (a : Asked) (o : Numbered) (key : Option Key) (given : List Assignment) (old : Record)
+        → IsSound a.tenant → FitsPlan q a.tenant → IsSound (update_on a o key given old).tenant
+        → None ≡ first_refusal (update_rules a o key given old (with_given a o.object (with_key key given) old))
+        → AllByRecursion (λ c. FitsKey c.0) (shares_gone org a.tenant old (with_given a o.object (with_key key given) old))
         → AllByRecursion (λ c. FitsKey c.0)
-        (touched_changes org q q a.tenant (with_changed old (with_given a o.object given old) a.tenant) (old.id ∷ []))
-        → Takes org q a.tenant (update a name key given) done PlansSame
-        (updated_changes org q a.tenant old (with_given a o.object given old)) }
+        (touched_changes org q q a.tenant (with_changed old (with_given a o.object (with_key key given) old) a.tenant) (old.id ∷ []))
+        → Takes org q a.tenant (update_on a o key given old) (answered_changed key old.id) PlansSame
+        (updated_changes org q a.tenant old (with_given a o.object (with_key key given) old)) }
 {
     touched_laws();
-    records_sound();
     principal_laws();
 }

@@ -19,5 +19,7 @@ mod update;
 mod updating;
 
 pub use crate::create::Create;
+pub use crate::creating::decide_create;
 pub use crate::laws::{create_laws, update_laws};
 pub use crate::update::Update;
+pub use crate::updating::decide_update;

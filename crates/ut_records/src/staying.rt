@@ -121,7 +121,8 @@ fn moved_or_conflict(
     requires types { IsTrue (has_types layout.now) }
     requires converts { IsTrue (converts layout.now) }
     requires values { IsTrue (all_valid (kinds_in layout.now.fields) new.now.values) }
-    ensures { IfOk result (λ rule. rule ≡ first_refusal (master_moved layout.now old.now new.now ∷ conflict_in layout.now new.now ∷ [])) }
+    ensures { IfOk result (λ rule. rule
+        ≡ first_refusal (master_moved layout.now old.now new.now ∷ conflict_in layout.now new.now ∷ [])) }
 {
     match master_moved(alloc, layout, old, new)? {
         None => conflict(alloc, layout, new),

@@ -1,22 +1,25 @@
 //! Other values for records.
 
-ghost use Rattle.std.specs.Prelude.{◌≡◌, ◌≢◌, ◌≤◌, ℕ, List, IfErr, IfOk, IsTrue, OnOk, Some, length, true};
+ghost use Rattle.std.specs.Prelude.{◌≡◌, ◌≤◌, IfErr, IfOk, IsTrue, List, OnOk, Some, length, true, ℕ};
 ghost use Rattle.ut_data.specs.Decoding.{kinds_in};
-ghost use Rattle.ut_edits.specs.Rows.{AreSpelled};
-ghost use Rattle.ut_given.specs.Given.{IsInJson};
+ghost use Rattle.ut_edits.specs.Rows.{AreFew, AreSpelled};
+ghost use Rattle.ut_given.specs.Given.{IsPlain, all_given, key_of};
 ghost use Rattle.ut_keeper.specs.Draft.{DraftTells, tables_of};
-ghost use Rattle.ut_keys.specs.declared.fail.StoreFail.TheVariants.{Keeper, Memory};
+ghost use Rattle.ut_keys.specs.declared.fail.StoreFail.TheVariants.{Memory};
+ghost use Rattle.ut_model.specs.Objects.{Numbered};
 ghost use Rattle.ut_model.specs.Paths.{Asked};
 ghost use Rattle.ut_model.specs.SoundRecords.{all_valid};
 ghost use Rattle.ut_model.specs.Updates.{update};
 ghost use Rattle.ut_model.specs.Verdict.{done};
-ghost use Rattle.ut_named.specs.Usable.{IsUsable};
+ghost use Rattle.ut_named.specs.Kept.{FitsKept, IsKept};
+ghost use Rattle.ut_named.specs.Usable.{IsReady, IsUsable};
 ghost use Rattle.ut_pivot.specs.Turned.{converts};
-ghost use Rattle.ut_records.specs.Creating.{IsGiving};
+ghost use Rattle.ut_records.specs.Creating.{IsGiving, IsObject};
 ghost use Rattle.ut_records.specs.inner.Altered.{AdmitsAltered};
 ghost use Rattle.ut_records.specs.inner.Judged.{HaveKeys};
 ghost use Rattle.ut_records.specs.inner.Updated.{FitsAltered, Updates, altered_changes};
-ghost use Rattle.ut_records.specs.Updating.{PlansSame};
+ghost use Rattle.ut_records.specs.Updating.{DecidesChanged, PlansSame};
+ghost use Rattle.ut_sound.specs.Fit.{ReadsWell};
 ghost use Rattle.ut_stands.specs.Calls.{Calls, ended_edit};
 ghost use Rattle.ut_stands.specs.Fails.{of_store};
 ghost use Rattle.ut_stands.specs.Layouts.{IsLayout};
@@ -30,18 +33,19 @@ use crate::shares::ended_shares;
 use crate::update::Update;
 use std::alloc::{AllocError, Global};
 use ut_edits::{Decided, Edit};
+use ut_given::AllGiven;
 use ut_keeper::{Draft, Keeper, draft_laws};
 use ut_keys::ShareRow;
-use ut_model::{Assignment, Record, Refusal, administrator_laws, object_laws};
-use ut_named::{Named, find_named, remove_shares};
+use ut_model::{Record, Refusal, administrator_laws, object_laws};
+use ut_named::{KeptRecord, find_named, remove_shares};
 use ut_pivot::{changed_record_changes, pivot_laws};
+use ut_sound::records_sound;
 use ut_stands::{EditFail, Layout, call_laws};
-use ut_value::{Items, Text, Value, value_laws};
+use ut_value::{Items, Value, value_laws};
 
 /// A record with other values that no rule refuses, and the rows of its shares that end.
 #[derive(Drop)]
 pub(crate) struct Altered {
-    pub named: Named,
     pub new: Record,
     pub shares: Items<ShareRow>,
 }
@@ -105,40 +109,44 @@ fn admit<K: Keeper>(
 fn accept_update<K: Keeper>(
     alloc: Global,
     draft: &mut Draft<'_, K>,
-    org: u32,
-    name: &Text,
-    key: &Text,
+    layout: &Layout,
+    kept: &KeptRecord,
     now: i64,
-    given: &[Assignment],
+    given: &AllGiven<'_>,
 ) -> Result<Altered, EditFail>
-    requires { IsInJson given.now }
+    requires ready { IsReady layout.now.org layout.now }
+    requires kept { FitsKept layout.now kept.now }
+    requires plain { IsPlain given.now }
     ensures accepts { DraftTells K.state draft.old draft.new
-        → (q : OrgPlan) (a : Asked) (user : List ℕ) → StandsIn org q (tables_of K.state draft.old) (Some a.tenant)
-        → IsGiving user now given.now a → Updates org q a name.now key.now given.now result }
-    ensures own { IfOk result (λ x. x.named.layout.org ≡ org) }
-    ensures fits { IfOk result FitsAltered }
-    ensures calls { Calls K.state 41 (ended_edit result) draft.old draft.new }
+        → (q : OrgPlan) (a : Asked) (o : Numbered) (id : List ℕ)
+        → StandsIn layout.now.org q (tables_of K.state draft.old) (Some a.tenant) → IsObject layout.now.org q a.tenant o layout.now
+        → IsKept q a.tenant layout.now id kept.now → a.user.admin ≡ true → a.now ≡ now → ReadsWell a o.object (all_given given.now)
+        → Updates layout.now.org a o (key_of given.now) given.now.body.now kept.now.item result }
+    ensures form { IfOk result (FitsAltered layout.now) }
+    ensures calls { Calls K.state 40 (ended_edit result) draft.old draft.new }
 {
-    draft_laws::<K>();
     call_laws::<K>();
-    object_laws();
     administrator_laws();
-    let named = find_named(alloc, draft, org, name, key)?;
-    let copy = record_copy(alloc, &named.kept.item)?;
-    let new = altered_record(alloc, &named.layout, copy, now, given)?;
-    let shares = admit(alloc, draft, &named.layout, &named.kept.item, &new)?;
-    Ok(Altered { named, new, shares })
+    let copy = record_copy(alloc, &kept.item)?;
+    let new = altered_record(alloc, layout, copy, now, given)?;
+    let shares = admit(alloc, draft, layout, &kept.item, &new)?;
+    Ok(Altered { new, shares })
 }
 
 // The edit, decided: it removes the rows of the shares that end, and turns those of the record.
-fn decided_update(alloc: Global, altered: Altered) -> Result<Decided<()>, EditFail>
-    requires { FitsAltered altered }
-    ensures made { IfOk result (λ x. AreSpelled (altered_changes altered) x.changes.items) }
-    ensures keys { OnOk result (HaveKeys (altered_changes altered)) }
+fn decided_update(
+    alloc: Global,
+    layout: &Layout,
+    kept: &KeptRecord,
+    altered: Altered,
+) -> Result<Decided<()>, EditFail>
+    requires ready { IsReady layout.now.org layout.now }
+    requires kept { FitsKept layout.now kept.now }
+    requires fits { FitsAltered layout.now altered }
+    ensures made { IfOk result (λ x. AreSpelled (altered_changes layout.now kept.now altered) x.changes.items) }
+    ensures keys { OnOk result (HaveKeys (altered_changes layout.now kept.now altered)) }
     ensures cause { IfErr result (λ e. e ≡ of_store Memory) }
 {
-    let kept = altered.named.kept;
-    let layout = altered.named.layout;
     let new = altered.new;
     let mut changes = Vec::new(alloc);
     remove_shares(
@@ -148,11 +156,41 @@ fn decided_update(alloc: Global, altered: Altered) -> Result<Decided<()>, EditFa
         altered.shares.as_slice(),
         &mut changes,
     )?;
-    changed_record_changes(alloc, &layout, &kept.row, &kept.item, &new, &mut changes)?;
+    changed_record_changes(alloc, layout, &kept.row, &kept.item, &new, &mut changes)?;
     Ok(Decided {
         answer: (),
         changes,
     })
+}
+
+/// Judges other values for a record of an object, given at this moment: the changes that make them.
+///
+/// # Errors
+///
+/// `Refused` as the verdict of an update says, or of an upsert with a key that the record has. `Store` with `Keeper` if the keeper
+/// failed, `Memory` if out of memory, `Damaged` never if the organisation's rows stand for a tenant whose layout and record these are.
+pub fn decide_update<K: Keeper>(
+    alloc: Global,
+    draft: &mut Draft<'_, K>,
+    layout: &Layout,
+    kept: KeptRecord,
+    now: i64,
+    given: &AllGiven<'_>,
+) -> Result<Decided<()>, EditFail>
+    requires ready { IsReady layout.now.org layout.now }
+    requires kept { FitsKept layout.now kept }
+    requires plain { IsPlain given.now }
+    ensures what { DraftTells K.state draft.old draft.new
+        → DecidesChanged layout.now now given.now kept (tables_of K.state draft.old) result }
+    ensures few { IfOk result (λ x. AreFew 389 0 x.changes.items) }
+    ensures calls { Calls K.state 40 (ended_edit result) draft.old draft.new }
+{
+    call_laws::<K>();
+    value_laws();
+    pivot_laws();
+    update_laws();
+    let altered = accept_update(alloc, draft, layout, &kept, now, given)?;
+    decided_update(alloc, layout, &kept, altered)
 }
 
 impl Edit for Update<'_> {
@@ -164,7 +202,7 @@ impl Edit for Update<'_> {
 
     ghost planned = { λ e q t next. PlansSame q t next };
 
-    ghost fits = { λ e a. IsGiving e.user e.now e.given.now a };
+    ghost fits = { λ e a. IsGiving e.user e.now (λ b o. ReadsWell b o e.given.now) a };
 
     ghost most = { 389 };
 
@@ -178,20 +216,17 @@ impl Edit for Update<'_> {
         draft: &mut Draft<'_, K>,
         org: u32,
     ) -> Result<Decided<()>, EditFail> {
+        draft_laws::<K>();
         call_laws::<K>();
         object_laws();
-        value_laws();
-        pivot_laws();
-        update_laws();
-        let altered = accept_update(
-            alloc,
-            draft,
-            org,
-            self.object,
-            self.key,
-            self.now,
-            self.given,
-        )?;
-        decided_update(alloc, altered)
+        administrator_laws();
+        records_sound();
+        let named = find_named(alloc, draft, org, self.object, self.key)?;
+        let layout = named.layout;
+        let given = AllGiven {
+            body: self.given,
+            key: None,
+        };
+        decide_update(alloc, draft, &layout, named.kept, self.now, &given)
     }
 }

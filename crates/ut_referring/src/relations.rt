@@ -59,7 +59,8 @@ fn rows_after<K: Keeper>(
     requires { FitsFront front.now }
     ensures rows { DraftTells K.state draft.old draft.new
         → ListsAs relation_form (take limit (rows_to (tables_of K.state draft.old) 10
-        (start_of (front_bytes front.now) (option_map (λ id. key_at front.now id.now) after.entry)) (raised (front_bytes front.now)))) result }
+        (start_of (front_bytes front.now) (option_map (λ id. key_at front.now id.now) after.entry))
+        (raised (front_bytes front.now)))) result }
     ensures ids { IfSome after.entry (λ id. IsTrue (is_id id.now)) }
     ensures calls { Calls K.state 0 (ended result) draft.old draft.new }
 {

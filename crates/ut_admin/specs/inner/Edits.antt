@@ -1,7 +1,8 @@
 -- An edit between the bytes of its body and its reply.
-use Rattle.std.specs.Prelude.{◌≡◌, ◌≢◌, ℕ, [], Option, Some, None, Result, Ok, Err}
+use Rattle.std.specs.Prelude.{◌≡◌, ◌≢◌, ℕ, [], ◌∷◌, ◌++◌, codes, if◌then◌else◌, Option, Some, None, Result, Ok, Err}
 use Rattle.std.specs.declared.alloc.AllocError.{AllocError}
 use Rattle.ut_edits.specs.Edits.{OthersStay}
+use Rattle.ut_json.specs.Printing.{printed_truth}
 use Rattle.ut_keeper.specs.Tables.{Tables}
 use Rattle.ut_keys.specs.declared.fail.StoreFail.{StoreFail}
 use Rattle.ut_keys.specs.declared.fail.StoreFail.TheVariants.{Damaged, Memory}
@@ -9,20 +10,21 @@ use Rattle.ut_model.specs.declared.refusal.Refusal.{Refusal}
 use Rattle.ut_model.specs.declared.refusal.Refusal.TheVariants.{BodyForm}
 use Rattle.ut_model.specs.declared.reply.Reply.{Reply}
 use Rattle.ut_model.specs.declared.route.Route.{Route}
-use Rattle.ut_model.specs.declared.route.Route.TheVariants.{Create}
+use Rattle.ut_model.specs.declared.route.Route.TheVariants.{Create, Upsert}
 use Rattle.ut_model.specs.Paths.{Asked}
 use Rattle.ut_model.specs.Replies.{json_reply, made_members}
 use Rattle.ut_model.specs.Requests.{Request}
-use Rattle.ut_model.specs.RowsJson.{object_json}
+use Rattle.ut_model.specs.RowsJson.{member_json, object_json}
 use Rattle.ut_model.specs.Step.{refusal_reply}
 use Rattle.ut_model.specs.Tenant.{Tenant}
-use Rattle.ut_model.specs.Verdict.{Done, Verdict, done, made_new}
+use Rattle.ut_model.specs.Verdict.{Done, Verdict, done, made_new, upserted}
 use Rattle.ut_stands.specs.Local.{StandsFor, StandsIn}
 use Rattle.ut_stands.specs.Plan.{OrgPlan}
 use Rattle.ut_stands.specs.declared.fail.EditFail.{EditFail}
 use Rattle.ut_stands.specs.declared.fail.EditFail.TheVariants.{Refused, Store}
 use Rattle.ut_stands.specs.declared.judged.Judged.{Judged}
 use Rattle.ut_stands.specs.declared.judged.Judged.TheVariants.{Changed, Same}
+use Rattle.ut_upserts.specs.declared.upsert.Upserted.{Upserted}
 use Rattle.ut_admin.specs.declared.answer.Answer.{Answer}
 use Rattle.ut_admin.specs.declared.answer.Answer.TheVariants as answer
 
@@ -50,18 +52,25 @@ KeepsRefused t v = (r : Refusal) → v.answer ≡ Err r → v.tenant ≡ t
 abbrev pub answer_of : Answer → Done
 answer_of answer.Done = done
 answer_of (answer.Made id) = made_new id
+answer_of (answer.Upserted id created) = upserted id created
+
+-- what an upsert answers, as an answer
+abbrev pub as_upserted : Upserted → Answer
+as_upserted x = answer.Upserted x.id x.created
 
 -- what an edit answers, seen by view; or why it isn't made
 abbrev pub seen : {X : Type 0} → (X → Answer) → Result X EditFail → Result Answer EditFail
 seen view (Ok x) = Ok (view x)
 seen view (Err e) = Err e
 
--- an answer to a request of this route: a new record has an id
+-- an answer to a request of this route: a new record has an id, and what is upserted has one and is new or not
 abbrev pub IsAnswerTo : Route → Answer → Type 0
-IsAnswerTo (Create object) answer.Done = ⊥
 IsAnswerTo (Create object) (answer.Made id) = Unit {0}
+IsAnswerTo (Create object) _ = ⊥
+IsAnswerTo (Upsert object key value) (answer.Upserted id created) = Unit {0}
+IsAnswerTo (Upsert object key value) _ = ⊥
 IsAnswerTo _ answer.Done = Unit {0}
-IsAnswerTo _ (answer.Made id) = ⊥
+IsAnswerTo _ _ = ⊥
 
 -- ---- edits
 
@@ -79,10 +88,12 @@ pub record EditsFrom (org : ℕ) (asks : Asked → Type 0) (verdict : Asked → 
 
 -- ---- replies
 
--- the reply that an edit was made: 204, or 201 with the id of what is new
+-- the reply that an edit was made: 204, or 201 with the id of what is new; of an upsert 201 or 200 with the id, and whether it is new
 abbrev pub reply_made : Answer → Reply
 reply_made answer.Done = json_reply 204 []
 reply_made (answer.Made id) = json_reply 201 (object_json (made_members id))
+reply_made (answer.Upserted id created) =
+    json_reply (if created then 201 else 200) (object_json (made_members id ++ member_json (codes "created") (printed_truth created) ∷ []))
 
 -- the reply to an edit: of its answer, the refusal, or none where the work on the tables stopped
 abbrev pub reply_to : Result Answer EditFail → Result (Judged Reply) StoreFail

@@ -42,13 +42,13 @@ abbrev pub details_in : Layout → (ids : List (List ℕ)) → Tenant → List (
 details_in l ids t = in_case (master_from 0 l.fields) [] (λ k. flat_map (λ id. all_referring l.object k id t) (nameable l.fields k ids))
 
 -- these are layouts of one organisation
-abbrev pub AreLayouts : (org : ℕ) → OrgPlan → Tenant → List Layout → Type 0
-AreLayouts org q t layouts = AllByRecursion (λ (l : Layout). (l.org ≡ org) × IsLayout q t l) layouts
+abbrev pub AreItsLayouts : (org : ℕ) → OrgPlan → Tenant → List Layout → Type 0
+AreItsLayouts org q t layouts = AllByRecursion (λ (l : Layout). (l.org ≡ org) × IsLayout q t l) layouts
 
 -- what is found is what each tenant has for which the organisation's rows stand and of which these are layouts
 abbrev pub FindsBy : {X : Type 0} → (org : ℕ) → List Layout → (Tenant → X) → Tables → Result X StoreFail → Type 0
-FindsBy org layouts value m (Ok x) = (q : OrgPlan) (t : Tenant) → StandsIn org q m (Some t) → AreLayouts org q t layouts → x ≡ value t
-FindsBy org layouts value m (Err Damaged) = (q : OrgPlan) (t : Tenant) → StandsIn org q m (Some t) → AreLayouts org q t layouts → ⊥
+FindsBy org layouts value m (Ok x) = (q : OrgPlan) (t : Tenant) → StandsIn org q m (Some t) → AreItsLayouts org q t layouts → x ≡ value t
+FindsBy org layouts value m (Err Damaged) = (q : OrgPlan) (t : Tenant) → StandsIn org q m (Some t) → AreItsLayouts org q t layouts → ⊥
 FindsBy org layouts value m (Err Keeper) = Unit {0}
 FindsBy org layouts value m (Err Memory) = Unit {0}
 

@@ -17,6 +17,6 @@ found_there (Err e) = Err e
 
 -- it is the object's record with this id in this tenant, and its row; or why the work on the tables stopped, which is damage only
 -- if there is no such record
-abbrev pub FindsThere : OrgPlan → Tenant → Layout → (id : List ℕ) → Result KeptRecord StoreFail → Type 0
-FindsThere q t l id (Ok k) = IsKept q t l id k
-FindsThere q t l id (Err e) = e ≡ Damaged → record_of_object t l.object id ≡ None
+abbrev pub FindsKept : OrgPlan → Tenant → Layout → (id : List ℕ) → Result KeptRecord StoreFail → Type 0
+FindsKept q t l id (Ok k) = IsKept q t l id k
+FindsKept q t l id (Err e) = e ≡ Damaged → record_of_object t l.object id ≡ None

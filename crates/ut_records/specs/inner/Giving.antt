@@ -1,8 +1,8 @@
 -- What is given to a record, judged: to a new one, to which nothing was given, or to one that has values.
-use Rattle.std.specs.Prelude.{◌≡◌, ◌≢◌, List, [], ◌∷◌, None, Some, Result, Ok, Err}
+use Rattle.std.specs.Prelude.{◌≡◌, ◌≢◌, List, [], ◌∷◌, Option, None, Some, Result, Ok, Err}
 use Rattle.ut_keys.specs.declared.fail.StoreFail.TheVariants.{Damaged, Memory}
 use Rattle.ut_model.specs.Edits.{bad_value, required_missing, with_given}
-use Rattle.ut_model.specs.Keys.{bad_fields}
+use Rattle.ut_model.specs.Keys.{Key, bad_fields, with_key}
 use Rattle.ut_model.specs.Paths.{Asked}
 use Rattle.ut_model.specs.Rules.{Rule, first_refusal}
 use Rattle.ut_model.specs.Tenant.{Object, Tenant}
@@ -12,8 +12,8 @@ use Rattle.ut_stands.specs.declared.fail.EditFail.{EditFail}
 use Rattle.ut_stands.specs.declared.fail.EditFail.TheVariants.{Refused, Store}
 
 -- the rules on what is given
-abbrev pub given_rules : Tenant → Object → List Assignment → (new : Record) → List Rule
-given_rules t o given new = bad_fields t o None given ∷ bad_value t o given ∷ required_missing o new ∷ []
+abbrev pub given_rules : Tenant → Object → Option Key → List Assignment → (new : Record) → List Rule
+given_rules t o key given new = bad_fields t o key given ∷ bad_value t o (with_key key given) ∷ required_missing o new ∷ []
 
 -- no required field is null, or the refusal of the first that is
 abbrev pub Lacks : Object → (new : Record) → Result Record EditFail → Type 0
@@ -21,9 +21,13 @@ Lacks o new (Ok r) = (None ≡ required_missing o new) × (r ≡ new)
 Lacks o new (Err (Refused x)) = Some x ≡ required_missing o new
 Lacks o new (Err (Store e)) = e ≡ Memory
 
+-- the record with what is given, and with the key of an upsert if it is one
+abbrev pub altered : Asked → Object → Option Key → List Assignment → (old : Record) → Record
+altered a o key given old = with_given a o (with_key key given) old
+
 -- none of the rules refuses what the record is with what is given, which is this; or the refusal of the first
-abbrev pub Alters : Asked → Object → List Assignment → (old : Record) → Result Record EditFail → Type 0
-Alters a o given old (Ok r) =
-    (None ≡ first_refusal (given_rules a.tenant o given (with_given a o given old))) × (r ≡ with_given a o given old)
-Alters a o given old (Err (Refused x)) = Some x ≡ first_refusal (given_rules a.tenant o given (with_given a o given old))
-Alters a o given old (Err (Store e)) = e ≢ Damaged
+abbrev pub Alters : Asked → Object → Option Key → List Assignment → (old : Record) → Result Record EditFail → Type 0
+Alters a o key given old (Ok r) =
+    (None ≡ first_refusal (given_rules a.tenant o key given (altered a o key given old))) × (r ≡ altered a o key given old)
+Alters a o key given old (Err (Refused x)) = Some x ≡ first_refusal (given_rules a.tenant o key given (altered a o key given old))
+Alters a o key given old (Err (Store e)) = e ≢ Damaged

@@ -180,6 +180,7 @@ returns-in_ok-from_str-in_default-clause-what g c told =
     (record {
       no_record = λ object. c.in_default.not-Create object;
       no_change = λ object key. c.in_default.not-Update object key;
+      no_upsert = λ object key value. c.in_default.not-Upsert object key value;
       no_deletion = λ object key. c.in_default.not-Delete object key;
       no_object = c.in_default.not-AddObject;
       no_access = λ object. c.in_default.not-SetObject object;

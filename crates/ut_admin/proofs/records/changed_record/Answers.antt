@@ -1,6 +1,6 @@
 use Rattle.std.proofs.Common.{◌≡◌, ◌∙◌, List, ap, arith, of_z, pos, refl, rules, subst, sym, to_z, w64}
 use Rattle.std.proofs.lemmas.Int.{to_z-of_z}
-use Rattle.std.specs.Prelude.{FitsSigned}
+use Rattle.std.specs.Prelude.{Err, FitsSigned, Ok}
 use Rattle.ut_given.specs.Given.{IsInJson}
 use Rattle.ut_keeper.specs.Draft.{tables_of}
 use Rattle.ut_step.specs.Built.{built_request}
@@ -9,9 +9,10 @@ use Rattle.ut_model.specs.Requests.{updates}
 use Rattle.ut_model.specs.Verdict.{done}
 use Rattle.ut_model.specs.declared.record_bodies.Assignment.{Assignment}
 use Rattle.ut_model.specs.declared.route.Route.TheVariants.{Update}
+use Rattle.ut_sound.specs.Fit.{ReadsWell}
 use Rattle.ut_admin.specs.Administration.{Administers}
 use Rattle.ut_admin.specs.declared.answer.Answer.TheVariants as answer
-use Rattle.ut_admin.proofs.Asked.{answers_none, answers_so, drafts_seen, edits_asked, edits_none, fit, none_drafts, returned}
+use Rattle.ut_admin.proofs.Asked.{answers_none, answers_so, asks_other, drafts_seen, edits_asked, edits_none, fit, none_drafts, returned}
 use Rattle.ut_admin.proofs.Giving.{giving}
 use Rattle.ut_admin.proofs.records.changed_record.Goals as goal
 
@@ -24,7 +25,7 @@ returns-in_err-values-clause-what g c told =
     let key = c.args.key.now in
     let fail = c.in_err-values.field-0.0 in
     edits_none (updates object key) caller.org (Administers caller c.args.now) (Update object key) (Update object key) c.args.body.now fail (tables_of g.K.Keeper.state c.args.draft.now) c.from_residual.result refl
-    (returned c.from_residual.result fail c.from_residual.ensures) (c.in_err-values.ensures.other object key)
+    (returned c.from_residual.result fail c.from_residual.ensures) (asks_other object key c.args.body.now (Err fail) (c.in_err-values.ensures.values (updates object key)))
 
 pub returns-in_err-values-clause-form : goal.returns-in_err-values-clause-form
 returns-in_err-values-clause-form g c = answers_none (Update c.args.object.now c.args.key.now) c.in_err-values.field-0.0 c.from_residual.result (returned c.from_residual.result c.in_err-values.field-0.0 c.from_residual.ensures)
@@ -36,7 +37,7 @@ returns-in_err-values-clause-makes g c =
     let key = c.args.key.now in
     let fail = c.in_err-values.field-0.0 in
     none_drafts g.K.Keeper.state (record { weaker = laws.weaker; none = laws.none; makes = laws.makes; most = laws.most }) (updates object key) (built_request (Update object key) c.args.body.now) fail c.from_residual.result c.args.draft.now
-    (returned c.from_residual.result fail c.from_residual.ensures) (c.in_err-values.ensures.other object key)
+    (returned c.from_residual.result fail c.from_residual.ensures) (asks_other object key c.args.body.now (Err fail) (c.in_err-values.ensures.values (updates object key)))
 
 -- ---- the edit
 
@@ -50,14 +51,14 @@ returns-clause-what g c told =
     let key = c.args.key.now in
     let body = c.args.body.now in
     let given = c.in_ok-values.values in
-    let asked = c.in_ok-values.ensures.other object key in
+    let asked = asks_other object key body (Ok given) (c.in_ok-values.ensures.values (updates object key)) in
     let small : FitsSigned w64 c.moment.result = search rules in
     let at : to_z w64 (of_z w64 c.moment.result) ≡ pos c.args.now = to_z-of_z w64 c.moment.result small ∙ c.moment.ensures in
     edits_asked (λ _. answer.Done) (λ _. done) (λ _. refl) caller.org (Administers caller c.args.now) (Update object key) (Update object key) body (updates object key given) _ _ _ (tables_of g.K.Keeper.state c.args.draft.now) (tables_of g.K.Keeper.state c.make_edit.new.draft) c.make_edit.result c.done.result
     refl asked c.done.ensures
     (λ a. ap (λ (values : List Assignment). update a object key values) c.as_slice.ensures)
     (λ a. c.refusal_laws.ensures.refused a (updates object key given))
-    (λ a sound asking. giving caller c.args.now _ given c.as_slice.result.now a at c.requires c.as_slice.ensures (fit c.requests_fit.ensures.request a (Update object key) body (updates object key given) sound asked) asking)
+    (λ a sound asking. giving caller c.args.now _ (λ g b o. ReadsWell b o g) given c.as_slice.result.now a at c.requires c.as_slice.ensures (fit c.requests_fit.ensures.request a (Update object key) body (updates object key given) sound asked) asking)
     (c.make_edit.ensures.what told)
 
 pub returns-clause-form : goal.returns-clause-form

@@ -1,6 +1,6 @@
 use Rattle.std.proofs.Common.{◌≡◌, ◌∙◌, List, ap, arith, of_z, pos, refl, rules, subst, sym, to_z, w64}
 use Rattle.std.proofs.lemmas.Int.{to_z-of_z}
-use Rattle.std.specs.Prelude.{FitsSigned}
+use Rattle.std.specs.Prelude.{Err, FitsSigned, Ok}
 use Rattle.ut_given.specs.Given.{IsInJson}
 use Rattle.ut_keeper.specs.Draft.{tables_of}
 use Rattle.ut_step.specs.Built.{built_request}
@@ -9,9 +9,10 @@ use Rattle.ut_model.specs.Requests.{creates}
 use Rattle.ut_model.specs.Verdict.{made_new}
 use Rattle.ut_model.specs.declared.record_bodies.Assignment.{Assignment}
 use Rattle.ut_model.specs.declared.route.Route.TheVariants.{Create}
+use Rattle.ut_sound.specs.Fit.{ReadsWell}
 use Rattle.ut_admin.specs.Administration.{Administers}
 use Rattle.ut_admin.specs.declared.answer.Answer.TheVariants as answer
-use Rattle.ut_admin.proofs.Asked.{answers_none, answers_so, drafts_seen, edits_asked, edits_none, fit, none_drafts, returned}
+use Rattle.ut_admin.proofs.Asked.{answers_none, answers_so, asks_new, drafts_seen, edits_asked, edits_none, fit, none_drafts, returned}
 use Rattle.ut_admin.proofs.Giving.{giving}
 use Rattle.ut_admin.proofs.records.new_record.Goals as goal
 
@@ -23,7 +24,7 @@ returns-in_err-values-clause-what g c told =
     let object = c.args.object.now in
     let fail = c.in_err-values.field-0.0 in
     edits_none (creates object) caller.org (Administers caller c.args.now) (Create object) (Create object) c.args.body.now fail (tables_of g.K.Keeper.state c.args.draft.now) c.from_residual.result refl
-    (returned c.from_residual.result fail c.from_residual.ensures) (c.in_err-values.ensures.new object)
+    (returned c.from_residual.result fail c.from_residual.ensures) (asks_new object c.args.body.now (Err fail) (c.in_err-values.ensures.values (creates object)))
 
 pub returns-in_err-values-clause-form : goal.returns-in_err-values-clause-form
 returns-in_err-values-clause-form g c = answers_none (Create c.args.object.now) c.in_err-values.field-0.0 c.from_residual.result (returned c.from_residual.result c.in_err-values.field-0.0 c.from_residual.ensures)
@@ -34,7 +35,7 @@ returns-in_err-values-clause-makes g c =
     let object = c.args.object.now in
     let fail = c.in_err-values.field-0.0 in
     none_drafts g.K.Keeper.state (record { weaker = laws.weaker; none = laws.none; makes = laws.makes; most = laws.most }) (creates object) (built_request (Create object) c.args.body.now) fail c.from_residual.result c.args.draft.now
-    (returned c.from_residual.result fail c.from_residual.ensures) (c.in_err-values.ensures.new object)
+    (returned c.from_residual.result fail c.from_residual.ensures) (asks_new object c.args.body.now (Err fail) (c.in_err-values.ensures.values (creates object)))
 
 -- ---- the edit
 
@@ -47,14 +48,14 @@ returns-clause-what g c told =
     let object = c.args.object.now in
     let body = c.args.body.now in
     let given = c.in_ok-values.values in
-    let asked = c.in_ok-values.ensures.new object in
+    let asked = asks_new object body (Ok given) (c.in_ok-values.ensures.values (creates object)) in
     let small : FitsSigned w64 c.moment.result = search rules in
     let at : to_z w64 (of_z w64 c.moment.result) ≡ pos c.args.now = to_z-of_z w64 c.moment.result small ∙ c.moment.ensures in
     edits_asked (λ id. answer.Made id) (λ id. made_new id) (λ _. refl) caller.org (Administers caller c.args.now) (Create object) (Create object) body (creates object given) _ _ _ (tables_of g.K.Keeper.state c.args.draft.now) (tables_of g.K.Keeper.state c.make_edit.new.draft) c.make_edit.result c.made.result
     refl asked c.made.ensures
     (λ a. ap (λ (values : List Assignment). create a object values) c.as_slice.ensures)
     (λ a. c.refusal_laws.ensures.refused a (creates object given))
-    (λ a sound asking. giving caller c.args.now _ given c.as_slice.result.now a at c.requires c.as_slice.ensures (fit c.requests_fit.ensures.request a (Create object) body (creates object given) sound asked) asking)
+    (λ a sound asking. giving caller c.args.now _ (λ g b o. ReadsWell b o g) given c.as_slice.result.now a at c.requires c.as_slice.ensures (fit c.requests_fit.ensures.request a (Create object) body (creates object given) sound asked) asking)
     (c.make_edit.ensures.what told)
 
 pub returns-clause-form : goal.returns-clause-form

@@ -5,14 +5,14 @@ use Rattle.ut_stands.specs.Calls.{Calls, done}
 use Rattle.ut_stands.specs.Local.{StandsIn}
 use Rattle.ut_stands.specs.Plan.{OrgPlan}
 use Rattle.ut_cascade.specs.inner.Holding.{cleared_of}
-use Rattle.ut_cascade.specs.inner.Masters.{AreLayouts}
+use Rattle.ut_cascade.specs.inner.Masters.{AreItsLayouts}
 use Rattle.ut_cascade.proofs.clearing.losing_lookups.Given as goal
 
 abbrev pub invariant-layouts : goal.invariant-layouts
 invariant-layouts g l = record {
   calls : Calls g.K.Keeper.state 0 done l.fn.draft l.draft;
-  found : DraftTells g.K.Keeper.state l.fn.draft l.draft → (q : OrgPlan) (t : Tenant) → StandsIn l.fn.org q (tables_of g.K.Keeper.state l.fn.draft) (Some t) → AreLayouts l.fn.org q t l.fn.layouts
-      → AreLayouts l.fn.org q t l.rest × (l.all.items ++ cleared_of l.rest l.fn.gone.keys t ≡ cleared_of l.fn.layouts l.fn.gone.keys t);
+  found : DraftTells g.K.Keeper.state l.fn.draft l.draft → (q : OrgPlan) (t : Tenant) → StandsIn l.fn.org q (tables_of g.K.Keeper.state l.fn.draft) (Some t) → AreItsLayouts l.fn.org q t l.fn.layouts
+      → AreItsLayouts l.fn.org q t l.rest × (l.all.items ++ cleared_of l.rest l.fn.gone.keys t ≡ cleared_of l.fn.layouts l.fn.gone.keys t);
 }
 
 abbrev pub decreases-layouts : goal.decreases-layouts

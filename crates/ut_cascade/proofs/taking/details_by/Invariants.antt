@@ -5,14 +5,14 @@ use Rattle.ut_model.specs.Tenant.{Tenant}
 use Rattle.ut_stands.specs.Calls.{Calls, done}
 use Rattle.ut_stands.specs.Local.{StandsIn}
 use Rattle.ut_stands.specs.Plan.{OrgPlan}
-use Rattle.ut_cascade.specs.inner.Masters.{AreLayouts, details_in}
+use Rattle.ut_cascade.specs.inner.Masters.{AreItsLayouts, details_in}
 use Rattle.ut_cascade.proofs.taking.details_by.Given as goal
 
 abbrev pub invariant-layouts : goal.invariant-layouts
 invariant-layouts g l = record {
   calls : Calls g.K.Keeper.state 0 done l.fn.draft l.draft;
-  found : DraftTells g.K.Keeper.state l.fn.draft l.draft → (q : OrgPlan) (t : Tenant) → StandsIn l.fn.org q (tables_of g.K.Keeper.state l.fn.draft) (Some t) → AreLayouts l.fn.org q t l.fn.layouts
-      → AreLayouts l.fn.org q t l.rest × (l.all.items ++ flat_map (λ x. details_in x l.fn.ids t) l.rest ≡ flat_map (λ x. details_in x l.fn.ids t) l.fn.layouts);
+  found : DraftTells g.K.Keeper.state l.fn.draft l.draft → (q : OrgPlan) (t : Tenant) → StandsIn l.fn.org q (tables_of g.K.Keeper.state l.fn.draft) (Some t) → AreItsLayouts l.fn.org q t l.fn.layouts
+      → AreItsLayouts l.fn.org q t l.rest × (l.all.items ++ flat_map (λ x. details_in x l.fn.ids t) l.rest ≡ flat_map (λ x. details_in x l.fn.ids t) l.fn.layouts);
 }
 
 abbrev pub decreases-layouts : goal.decreases-layouts

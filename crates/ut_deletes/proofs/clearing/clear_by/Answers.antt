@@ -11,7 +11,7 @@ use Rattle.ut_value.specs.declared.value.Value.TheVariants as value
 use Rattle.ut_deletes.specs.inner.Adding.{AddsThese}
 use Rattle.ut_deletes.specs.inner.Clearing.{cleared_in}
 use Rattle.ut_deletes.proofs.Cleared.{all_printable, left_or_null}
-use Rattle.ut_deletes.proofs.Doing.{turned_adds}
+use Rattle.ut_deletes.proofs.Doing.{turned_clears}
 use Rattle.ut_deletes.proofs.RecordRows.{turned_are}
 use Rattle.ut_deletes.proofs.There.{calls_out, found_kept}
 use Rattle.ut_deletes.proofs.clearing.clear_by.Goals as goal
@@ -40,7 +40,7 @@ returns-clause-own g c =
     let laws = c.pivot_laws.ensures in
     let ensures = c.in_ok-changed_record_changes.ensures in
     let left = subst (λ (x : Record). (j : ℕ) → (value_at x.values j ≡ value.Null) ⊎ (value_at x.values j ≡ value_at k.item.values j)) (sym is) (left_or_null l c.args.now c.args.gone.now k.item) in
-    turned_adds l k.row k.item new (laws.cleared_few l k.row k.item new (ap (λ (x : Record). x.id) is) left) (laws.turned_gone l k.row k.item new) c.args.changes.now.items c.changed_record_changes.new.changes.items ensures.changes ensures.fits
+    turned_clears l k.row k.item new (laws.cleared_few l k.row k.item new (ap (λ (x : Record). x.id) is) left) (laws.turned_gone l k.row k.item new) c.args.changes.now.items c.changed_record_changes.new.changes.items ensures.changes ensures.fits
 
 pub returns-in_err-changed_record_changes-clause-calls : goal.returns-in_err-changed_record_changes-clause-calls
 returns-in_err-changed_record_changes-clause-calls g c =

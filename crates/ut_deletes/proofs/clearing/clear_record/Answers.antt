@@ -9,7 +9,7 @@ use Rattle.ut_model.specs.Objects.{object_number, record_at}
 use Rattle.ut_stands.specs.declared.layout.Layout.{Layout}
 use Rattle.ut_stands.specs.Local.{StandsIn}
 use Rattle.ut_touched.specs.Touched.{changes_at}
-use Rattle.ut_deletes.specs.inner.Adding.{Adds, AddsThese}
+use Rattle.ut_deletes.specs.inner.Adding.{AddsThese, Clears}
 use Rattle.ut_deletes.specs.inner.Clearing.{cleared_in}
 use Rattle.ut_deletes.proofs.Cleared.{cleared_is}
 use Rattle.ut_deletes.proofs.Layouts.{laid, ready_at, unplaced}
@@ -38,7 +38,7 @@ returns-in-Some-clause-own g c =
     let l = c.in-Some.layout.now in
     let placed : slice_get c.args.layouts.now (object_number c.args.id.now) ≡ Some l = sym c.layout_for.ensures ∙ ap option_copied c.in-Some.is in
     let ready = ready_at c.args.org c.args.layouts.now (object_number c.args.id.now) l c.requires.ready placed in
-    subst (λ (n : ℕ). OnOk c.clear_by.result (Adds n 245 0 c.args.changes.now.items c.clear_by.new.changes.items)) ready.own c.clear_by.ensures.own
+    subst (λ (n : ℕ). OnOk c.clear_by.result (Clears n 1 c.args.changes.now.items c.clear_by.new.changes.items)) ready.own c.clear_by.ensures.own
 
 pub returns-in-None-clause-adds : goal.returns-in-None-clause-adds
 returns-in-None-clause-adds g c told q t rs r s are same at loses =

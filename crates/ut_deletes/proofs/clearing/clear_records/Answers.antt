@@ -1,4 +1,4 @@
-use Rattle.std.proofs.Common.{◌+◌, ◌*◌, List, ℕ, Some, arith, subst, sym, take, w64}
+use Rattle.std.proofs.Common.{◌+◌, List, ℕ, Some, subst, sym, take, w64}
 use Rattle.std.specs.Prelude.{Ok, ℤ}
 use Rattle.std.proofs.lemmas.Int.{to_z-of_z}
 use Rattle.std.proofs.lemmas.List.{take_all}
@@ -9,7 +9,7 @@ use Rattle.ut_stands.specs.Calls.{done}
 use Rattle.ut_stands.specs.Local.{StandsIn}
 use Rattle.ut_touched.specs.Touched.{changes_at, touched_changes}
 use Rattle.ut_deletes.specs.inner.Adding.{AddsThese}
-use Rattle.ut_deletes.proofs.Adding.{adds_then, adds_wider}
+use Rattle.ut_deletes.proofs.Adding.{clears_more}
 use Rattle.ut_deletes.proofs.Doing.{LosesOne, at_place, one_more, failed_so}
 use Rattle.ut_deletes.proofs.clearing.clear_records.Goals as goal
 
@@ -29,7 +29,7 @@ loop-id-preserved g c =
     let next = c.in_ok-clear_record.ensures in
     record {
       calls = c.call_laws.ensures.then n 1 done a b d before.calls next.calls;
-      own = adds_wider org (245 * n + 245) (0 + 0) (245 * (n + 1)) 0 old new (omega arith) (omega arith) (adds_then org (245 * n) 0 245 0 old mid new before.own next.own);
+      own = clears_more org n old mid new before.own next.own;
       adds = λ told q t rs s are same lose.
           let tells = c.draft_laws.ensures.both n 1 a b d before.calls.reads next.calls.reads told in
           let stands = subst (λ (m : Tables). StandsIn org q m (Some t)) (sym tells.2) s in

@@ -1,4 +1,4 @@
-use Rattle.std.proofs.Common.{◌≡◌, ◌*◌, ℕ, List, Some, take}
+use Rattle.std.proofs.Common.{◌≡◌, ℕ, List, Some, take}
 use Rattle.std.specs.Prelude.{Ok}
 use Rattle.std.specs.List.{AllByRecursion}
 use Rattle.ut_keeper.specs.Draft.{DraftTells, tables_of}
@@ -10,14 +10,14 @@ use Rattle.ut_stands.specs.Layouts.{own_layouts}
 use Rattle.ut_stands.specs.Local.{StandsIn}
 use Rattle.ut_stands.specs.Plan.{OrgPlan}
 use Rattle.ut_touched.specs.Touched.{has, touched_changes}
-use Rattle.ut_deletes.specs.inner.Adding.{Adds, AddsThese}
+use Rattle.ut_deletes.specs.inner.Adding.{AddsThese, Clears}
 use Rattle.ut_deletes.proofs.Doing.{LosesOne}
 use Rattle.ut_deletes.proofs.clearing.clear_records.Given as goal
 
 abbrev pub invariant-loop-id : goal.invariant-loop-id
 invariant-loop-id g l = record {
   calls : Calls g.K.Keeper.state l.id-index done l.fn.draft l.draft;
-  own : Adds l.org (245 * l.id-index) 0 l.fn.changes.items l.changes.items;
+  own : Clears l.org l.id-index l.fn.changes.items l.changes.items;
   adds : DraftTells g.K.Keeper.state l.fn.draft l.draft → (q : OrgPlan) (t : Tenant) (rs : List Record) → StandsIn l.org q (tables_of g.K.Keeper.state l.fn.draft) (Some t) → own_layouts l.org q (Some t) ≡ l.layouts
       → ((i : List ℕ) → has l.gone i ≡ has_id rs i) → AllByRecursion (LosesOne t rs) l.ids
       → AddsThese {X = Unit {0}} (touched_changes l.org q q t (without l.now rs t) (take l.id-index l.ids)) l.fn.changes.items l.changes.items (Ok tt);

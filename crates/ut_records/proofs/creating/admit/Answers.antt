@@ -11,8 +11,8 @@ use Rattle.ut_records.proofs.creating.admit.Goals as goal
 
 pub returns-clause-admits : goal.returns-clause-admits
 returns-clause-admits g c told q a s its admin user now id =
-    let x = c.args.object.now in
-    let l = x.layout in
+    let x = c.args.counts.now in
+    let l = c.args.layout.now in
     let new = c.args.new.now in
     let empty = c.in_ok-empty.ensures.same a user (now ∙ sym (to_z-of_z w64 c.args.now c.ranges.now)) id in
     refused_first (others_rules l (empty_record a (numbered_in l)) new a) c.in_ok-others.others (limit_rule x.row x.object) c.in-Some.refusal

@@ -1,5 +1,6 @@
 use Rattle.std.proofs.Common.{◌∙◌, IsTrue, List, subst, sym, w64}
 use Rattle.std.proofs.lemmas.Int.{to_z-of_z}
+use Rattle.ut_given.specs.Given.{key_of}
 use Rattle.ut_model.specs.declared.record.Record.{Record}
 use Rattle.ut_model.specs.SoundRecords.{all_valid}
 use Rattle.ut_rules.specs.Objects.{object_of_layout}
@@ -13,6 +14,7 @@ altered_record-requires-clause-values c =
     subst (λ (kinds : List FieldType). IsTrue (all_valid kinds c.in_ok-empty.empty.values)) (kinds_same c.args.layout.now) c.in_ok-empty.ensures.valid
 
 pub returns-clause-proposes : goal.returns-clause-proposes
-returns-clause-proposes c a user now id =
+returns-clause-proposes c a user now id well =
     let at = now ∙ sym (to_z-of_z w64 c.args.now c.ranges.now) in
-    subst (λ (old : Record). Alters a (object_of_layout c.args.layout.now) c.args.given.now old c.altered_record.result) (c.in_ok-empty.ensures.same a user at id) (c.altered_record.ensures.alters a at)
+    let given = c.args.given.now in
+    subst (λ (old : Record). Alters a (object_of_layout c.args.layout.now) (key_of given) given.body.now old c.altered_record.result) (c.in_ok-empty.ensures.same a user at id) (c.altered_record.ensures.alters a at well)

@@ -5,8 +5,8 @@ use Rattle.ut_records.proofs.laws.create_laws.Goals as goal
 pub returns : goal.returns
 returns c = record {
   counted = λ org q t o r lo s there of. counted org q t o r of lo s there;
-  takes = λ org q a name o given lo good fits caller reads named there of free keys.
+  takes = λ org q a o key given lo good fits sound there of free keys.
       let laws = c.touched_laws.ensures in
       create_takes (record { are = laws.are; rest = laws.rest; created = laws.created; changed = laws.changed; kept = laws.kept; single = laws.single; fresh = laws.fresh; same = laws.same })
-      c.records_sound.ensures.create org q a name o given lo good fits caller reads named there of free keys;
+      org q a o key given lo good fits sound there of free keys;
 }

@@ -5,8 +5,8 @@ use Rattle.ut_records.proofs.laws.update_laws.Goals as goal
 pub returns : goal.returns
 returns c = record {
   counted = λ org q t old new keys. counted c.principal_laws.ensures.same org q t old new keys;
-  takes = λ org q a name text o given old good fits caller reads found free shares keys.
+  takes = λ org q a o key given old good fits sound free shares keys.
       let laws = c.touched_laws.ensures in
       update_takes (record { are = laws.are; rest = laws.rest; created = laws.created; changed = laws.changed; kept = laws.kept; single = laws.single; fresh = laws.fresh; same = laws.same })
-      c.records_sound.ensures.update c.principal_laws.ensures.same org q a name text o given old good fits caller reads found free shares keys;
+      c.principal_laws.ensures.same org q a o key given old good fits sound free shares keys;
 }

@@ -11,17 +11,19 @@ use Rattle.ut_records.proofs.updating.decided_update.Goals as goal
 pub returns-clause-made : goal.returns-clause-made
 returns-clause-made c =
     let x = c.args.altered in
-    let l = x.named.layout in
+    let k = c.args.kept.now in
+    let l = c.args.layout.now in
     let first : c.remove_shares.new.changes.items ≡ map spelled (shares_removed l.org x.new.id x.shares) =
     c.in_ok-remove_shares.ensures.changes
     ∙ ap (λ (cs : List Spelled). cs ++ map spelled (shares_removed l.org x.new.id c.as_slice.result.now)) c.new-changes.ensures.items
     ∙ ap (λ (us : List ShareRow). map spelled (shares_removed l.org x.new.id us)) c.as_slice.ensures in
-    made_both (shares_removed l.org x.new.id x.shares) (turned_changes l x.named.kept.row x.named.kept.item x.new)
+    made_both (shares_removed l.org x.new.id x.shares) (turned_changes l k.row k.item x.new)
     c.remove_shares.new.changes.items c.changed_record_changes.new.changes.items first c.in_ok-changed_record_changes.ensures.changes
 
 pub returns-clause-keys : goal.returns-clause-keys
 returns-clause-keys c =
     let x = c.args.altered in
-    let l = x.named.layout in
-    keys_both (shares_removed l.org x.new.id x.shares) (turned_changes l x.named.kept.row x.named.kept.item x.new)
+    let k = c.args.kept.now in
+    let l = c.args.layout.now in
+    keys_both (shares_removed l.org x.new.id x.shares) (turned_changes l k.row k.item x.new)
     (subst (λ (us : List ShareRow). HaveKeys (shares_removed l.org x.new.id us)) c.as_slice.ensures c.in_ok-remove_shares.ensures.fits) c.in_ok-changed_record_changes.ensures.fits

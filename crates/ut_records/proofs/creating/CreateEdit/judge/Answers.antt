@@ -1,15 +1,25 @@
-use Rattle.std.proofs.Common.{List, arith, rules, subst, sym, w64, ℕ}
+use Rattle.std.proofs.Common.{◌≡◌, List, Some, None, refl, rules, subst, sym, w64, ℕ}
 use Rattle.std.proofs.lemmas.Int.{to_z-of_z}
 use Rattle.std.specs.Prelude.{FitsSigned, ℤ}
+use Rattle.ut_edits.proofs.Judged.{passed_on}
+use Rattle.ut_edits.specs.Edits.{ChangesIn}
 use Rattle.ut_keeper.specs.Draft.{tables_of}
-use Rattle.ut_model.specs.Creates.{create}
+use Rattle.ut_keeper.specs.Tables.{Tables}
+use Rattle.ut_model.specs.Creates.{create, create_on}
 use Rattle.ut_model.specs.Paths.{Asked}
-use Rattle.ut_model.specs.Verdict.{made_new}
-use Rattle.ut_records.specs.Creating.{IsGiving, PlansNew}
-use Rattle.ut_records.specs.inner.Judged.{Accepts, HaveKeys, changes_of}
-use Rattle.ut_records.proofs.Creates.{CreateLaws, create_taken, decided_so, on_ok}
-use Rattle.ut_records.proofs.Rows.{are_in, decided_few}
+use Rattle.ut_model.specs.Sound.{IsSound}
+use Rattle.ut_model.specs.Verdict.{Verdict, made_new}
+use Rattle.ut_named.proofs.Objects.{named_so}
+use Rattle.ut_sound.specs.Fit.{ReadsWell}
+use Rattle.ut_stands.specs.Local.{StandsIn}
+use Rattle.ut_records.specs.Creating.{IsAsker, IsGiving, PlansNew}
+use Rattle.ut_records.proofs.Accepting.{object_at}
+use Rattle.ut_records.proofs.Creates.{create_named, create_unnamed, decides_same}
+use Rattle.ut_records.proofs.GivenRules.{is_plain}
 use Rattle.ut_records.proofs.creating.CreateEdit.judge.Goals as goal
+
+pub decide_create-requires-clause-plain : goal.decide_create-requires-clause-plain
+decide_create-requires-clause-plain g c = is_plain _ refl c.args.self.now.in_json
 
 pub returns-clause-what : goal.returns-clause-what
 returns-clause-what g c told =
@@ -18,14 +28,30 @@ returns-clause-what g c told =
     let e = c.args.self.now in
     let name = e.object.now in
     let given = e.given.now in
-    let x = c.in_ok-accepted.accepted in
+    let l = c.in_ok-layout.layout in
+    let b = c.ready_layout.new.draft in
     let small : FitsSigned w64 e.now = search rules in
-    let laws : CreateLaws = record { takes = c.create_laws.ensures.takes; named = c.object_laws.ensures.named; rows = c.pivot_laws.ensures.made; fresh = c.number_laws.ensures.fresh; order = c.id_laws.ensures.ordered; printable = c.value_laws.ensures.printable } in
-    decided_so {answered = λ (id : List ℕ). made_new id} org (λ (a : Asked). create a name given) PlansNew (IsGiving e.user e.now given) (tables_of state c.args.draft.now) x.new.id (changes_of x) c.decided.result
-    c.decided.ensures.answers c.decided.ensures.made c.decided.ensures.cause
-    (on_ok (HaveKeys (changes_of x)) _ c.decided.result c.decided.ensures.keys (λ keys. are_in org x (c.in_ok-accepted.ensures.own told) keys))
-    (on_ok (HaveKeys (changes_of x)) _ c.decided.result c.decided.ensures.keys (λ keys q a s f.
-    create_taken laws org q a name given s.sound x (subst (Accepts org q a name given) c.in_ok-accepted.was (c.accept.ensures.accepts told q a s (subst (λ (z : ℤ). IsGiving e.user z given a) (sym (to_z-of_z w64 e.now small)) f))) c.in_ok-accepted.ensures.fits.values (omega arith) s.plan f.caller f.reads keys))
+    let own : l.org ≡ org = c.in_ok-layout.ensures.form.own in
+    let tells = c.draft_laws.ensures.both 0 40 c.args.draft.now b c.decide_create.new.draft c.ready_layout.ensures.calls.reads c.decide_create.ensures.calls.reads told in
+    let decides = c.decide_create.ensures.what tells.1 in
+    record {
+      own = subst (λ (n : ℕ). ChangesIn n c.decide_create.result) own decides.own;
+      decided = λ q a s f.
+          let on = named_so org q a.tenant name c.ready_layout.result l (c.ready_layout.ensures.names tells.0 q a.tenant s) c.in_ok-layout.was in
+          let o = on.0 in
+          let at = object_at c.object_laws.ensures.named org q a.tenant name l own on in
+          let same = create_named a name o given on.1 in
+          let stands = subst (λ (n : ℕ). StandsIn n q (tables_of state b) (Some a.tenant)) (sym own) (subst (λ (m : Tables). StandsIn org q m (Some a.tenant)) (sym tells.2) s) in
+          decides_same (λ (id : List ℕ). made_new id) org l.org q a.tenant (create_on a o None given) (create a name given) PlansNew c.decide_create.result own same
+          (decides.decided q a o stands at (subst (λ (z : ℤ). IsAsker e.user z a) (sym (to_z-of_z w64 e.now small)) f.asker) (f.reads o.number o.object at.there)
+          (subst (λ (v : Verdict). IsSound v.tenant) same (c.records_sound.ensures.create a name given f.caller f.reads s.sound)));
+    }
 
-pub returns-clause-few : goal.returns-clause-few
-returns-clause-few g c = decided_few c.pivot_laws.ensures.few c.pivot_laws.ensures.gone c.in_ok-accepted.accepted c.decided.result c.decided.ensures.made
+pub returns-in_err-layout-clause-what : goal.returns-in_err-layout-clause-what
+returns-in_err-layout-clause-what g c told =
+    let org = c.args.org in
+    let e = c.args.self.now in
+    let name = e.object.now in
+    let given = e.given.now in
+    passed_on {answered = λ (id : List ℕ). made_new id} org (λ (a : Asked). create a name given) PlansNew (IsGiving e.user e.now (λ b o. ReadsWell b o given)) (tables_of g.K.Keeper.state c.args.draft.now) c.in_err-layout.field-0.0 c.from_residual.result c.from_residual.ensures.1
+    (λ q a s f. create_unnamed org q a name given c.ready_layout.result c.in_err-layout.field-0.0 (c.ready_layout.ensures.names told q a.tenant s) c.in_err-layout.was)

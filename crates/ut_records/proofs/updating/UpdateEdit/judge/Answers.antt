@@ -1,25 +1,29 @@
-use Rattle.std.proofs.Common.{◌≡◌, refl, rules, subst, sym, w64}
+use Rattle.std.proofs.Common.{◌≡◌, ◌∙◌, None, Some, refl, rules, subst, sym, w64, ℕ}
 use Rattle.std.proofs.lemmas.Int.{to_z-of_z}
-use Rattle.std.specs.Prelude.{Err, FitsSigned, IfOk, Ok, Result, ℤ}
-use Rattle.ut_edits.specs.declared.decided.Decided.{Decided}
-use Rattle.ut_stands.specs.declared.fail.EditFail.{EditFail}
+use Rattle.std.specs.Prelude.{FitsSigned}
 use Rattle.ut_edits.proofs.Judged.{passed_on}
+use Rattle.ut_edits.specs.Edits.{ChangesIn}
 use Rattle.ut_keeper.specs.Draft.{tables_of}
+use Rattle.ut_keeper.specs.Tables.{Tables}
 use Rattle.ut_model.specs.Paths.{Asked}
-use Rattle.ut_model.specs.Updates.{update}
-use Rattle.ut_model.specs.Verdict.{done}
+use Rattle.ut_model.specs.Sound.{IsSound}
+use Rattle.ut_model.specs.Updates.{update, update_on}
+use Rattle.ut_model.specs.Verdict.{Verdict, done}
+use Rattle.ut_named.proofs.Naming.{named_verdict}
+use Rattle.ut_named.specs.Named.{FindsNamed}
+use Rattle.ut_sound.specs.Fit.{ReadsWell}
+use Rattle.ut_stands.specs.Calls.{ended_edit}
+use Rattle.ut_stands.specs.Local.{StandsIn}
+use Rattle.ut_value.specs.declared.sharing.Level.TheVariants.{Edit}
 use Rattle.ut_records.specs.Creating.{IsGiving}
-use Rattle.ut_records.specs.inner.Judged.{HaveKeys}
-use Rattle.ut_records.specs.inner.Updated.{Updates, altered_changes}
 use Rattle.ut_records.specs.Updating.{PlansSame}
-use Rattle.ut_records.proofs.Creates.{decided_so, on_ok}
-use Rattle.ut_records.proofs.Rows.{altered_in}
-use Rattle.ut_records.proofs.Updates.{UpdateLaws, altered_few, update_taken}
+use Rattle.ut_records.proofs.Accepting.{object_at}
+use Rattle.ut_records.proofs.Creates.{decides_same}
+use Rattle.ut_records.proofs.GivenRules.{is_plain}
 use Rattle.ut_records.proofs.updating.UpdateEdit.judge.Goals as goal
 
-answers : (result : Result (Decided (Unit {0})) EditFail) → IfOk result (λ x. x.answer ≡ tt)
-answers (Ok x) = refl
-answers (Err e) = tt
+pub decide_update-requires-clause-plain : goal.decide_update-requires-clause-plain
+decide_update-requires-clause-plain g c = is_plain _ refl c.args.self.now.in_json
 
 pub returns-clause-what : goal.returns-clause-what
 returns-clause-what g c told =
@@ -29,25 +33,36 @@ returns-clause-what g c told =
     let name = e.object.now in
     let key = e.key.now in
     let given = e.given.now in
-    let x = c.in_ok-altered.altered in
+    let x = c.in_ok-named.named in
+    let l = x.layout in
+    let b = c.find_named.new.draft in
     let small : FitsSigned w64 e.now = search rules in
-    let laws : UpdateLaws = record { takes = c.update_laws.ensures.takes; named = c.object_laws.ensures.named; rows = c.pivot_laws.ensures.turned; printable = c.value_laws.ensures.printable } in
-    decided_so {answered = λ (u : Unit {0}). done} org (λ (a : Asked). update a name key given) PlansSame (IsGiving e.user e.now given) (tables_of state c.args.draft.now) tt (altered_changes x) c.decided_update.result
-    (answers c.decided_update.result) c.decided_update.ensures.made c.decided_update.ensures.cause
-    (on_ok (HaveKeys (altered_changes x)) _ c.decided_update.result c.decided_update.ensures.keys (λ keys. altered_in org x c.in_ok-altered.ensures.own keys))
-    (on_ok (HaveKeys (altered_changes x)) _ c.decided_update.result c.decided_update.ensures.keys (λ keys q a s f.
-    update_taken laws org q a name key given s.sound x (subst (Updates org q a name key given) c.in_ok-altered.was (c.accept_update.ensures.accepts told q a e.user s (subst (λ (z : ℤ). IsGiving e.user z given a) (sym (to_z-of_z w64 e.now small)) f))) c.in_ok-altered.ensures.fits.values s.plan f.caller f.reads keys))
+    let own : l.org ≡ org = c.in_ok-named.ensures.form.ready.own in
+    let tells = c.draft_laws.ensures.both 1 40 c.args.draft.now b c.decide_update.new.draft c.find_named.ensures.calls.reads c.decide_update.ensures.calls.reads told in
+    let decides = c.decide_update.ensures.what tells.1 in
+    record {
+      own = subst (λ (n : ℕ). ChangesIn n c.decide_update.result) own decides.own;
+      decided = λ q a s f.
+          let is = subst (FindsNamed org q a name key) c.in_ok-named.was (c.find_named.ensures.finds tells.0 q a s) in
+          let o = is.numbered in
+          let at = object_at c.object_laws.ensures.named org q a.tenant name l own (o, is.there, is.layout) in
+          let same = named_verdict org q a name key x is c.administrator_laws.ensures.level s.sound f.asker.admin Edit (λ o. update_on a o None given) in
+          let stands = subst (λ (n : ℕ). StandsIn n q (tables_of state b) (Some a.tenant)) (sym own) (subst (λ (m : Tables). StandsIn org q m (Some a.tenant)) (sym tells.2) s) in
+          decides_same (λ (u : Unit {0}). done) org l.org q a.tenant (update_on a o None given x.kept.item) (update a name key given) PlansSame c.decide_update.result own same
+          (decides.decided q a o is.id stands at is.kept f.asker.admin (f.asker.now ∙ sym (to_z-of_z w64 e.now small)) (f.reads o.number o.object at.there)
+          (subst (λ (v : Verdict). IsSound v.tenant) same (c.records_sound.ensures.update a name key given f.caller f.reads s.sound)));
+    }
 
-pub returns-clause-few : goal.returns-clause-few
-returns-clause-few g c = altered_few c.pivot_laws.ensures.turned_few c.pivot_laws.ensures.turned_gone c.in_ok-altered.altered c.decided_update.result c.in_ok-altered.ensures.fits.few c.decided_update.ensures.made
-
-pub returns-in_err-altered-clause-what : goal.returns-in_err-altered-clause-what
-returns-in_err-altered-clause-what g c told =
+pub returns-in_err-named-clause-what : goal.returns-in_err-named-clause-what
+returns-in_err-named-clause-what g c told =
     let org = c.args.org in
     let e = c.args.self.now in
     let name = e.object.now in
     let key = e.key.now in
     let given = e.given.now in
-    let small : FitsSigned w64 e.now = search rules in
-    passed_on {answered = λ (u : Unit {0}). done} org (λ (a : Asked). update a name key given) PlansSame (IsGiving e.user e.now given) (tables_of g.K.Keeper.state c.args.draft.now) c.in_err-altered.field-0.0 c.from_residual.result c.from_residual.ensures.1
-    (λ q a s f. subst (Updates org q a name key given) c.in_err-altered.was (c.accept_update.ensures.accepts told q a e.user s (subst (λ (z : ℤ). IsGiving e.user z given a) (sym (to_z-of_z w64 e.now small)) f)))
+    passed_on {answered = λ (u : Unit {0}). done} org (λ (a : Asked). update a name key given) PlansSame (IsGiving e.user e.now (λ b o. ReadsWell b o given)) (tables_of g.K.Keeper.state c.args.draft.now) c.in_err-named.field-0.0 c.from_residual.result c.from_residual.ensures.1
+    (λ q a s f. subst (FindsNamed org q a name key) c.in_err-named.was (c.find_named.ensures.finds told q a s) Edit (λ o. update_on a o None given))
+
+pub returns-clause-calls : goal.returns-clause-calls
+returns-clause-calls g c =
+    c.call_laws.ensures.then 1 40 (ended_edit c.decide_update.result) c.args.draft.now c.find_named.new.draft c.decide_update.new.draft c.in_ok-named.ensures.calls c.decide_update.ensures.calls

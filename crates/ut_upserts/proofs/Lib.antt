@@ -1,0 +1,5 @@
+pub mod Keys
+pub mod There
+pub mod Plain
+pub mod Deciding
+pub mod Judging

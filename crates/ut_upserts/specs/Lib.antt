@@ -1,0 +1,2 @@
+pub mod Upserting
+pub mod inner

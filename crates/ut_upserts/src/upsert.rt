@@ -1,0 +1,34 @@
+ghost use Rattle.ut_given.specs.Given.{IsInJson};
+
+use ut_model::Assignment;
+use ut_value::{Id, Text};
+
+/// What an upsert answers: the record's id, and whether it was made.
+#[derive(Drop)]
+pub struct Upserted {
+    pub id: Id,
+    pub created: bool,
+}
+
+/// Gives the record that has a value in a unique field other values, or makes one with it. It answers the record's id, and whether it
+/// was made.
+///
+/// It is refused with the refusal of the first rule that refuses it: by the object, by the unique field, by its value, and then as an
+/// update of the record that has the value, or as a create where none has it. What is given includes the value: the body may give
+/// that field the same value again, and no other.
+#[derive(Drop)]
+pub struct Upsert<'a> {
+    /// The administrator who asks, and who owns a record that is made unless another owner is given.
+    pub user: Id,
+    /// When it is asked, in seconds from 1970-01-01T00:00:00Z.
+    pub now: i64,
+    /// The object's name.
+    pub object: &'a Text,
+    /// The unique field's name.
+    pub key: &'a Text,
+    /// The value as a text; none if what was given is no text.
+    pub text: Option<Text>,
+    /// What is given to the record's fields.
+    pub given: &'a [Assignment],
+    pub ghost in_json: { IsInJson given.now },
+}

@@ -1,0 +1,163 @@
+//! Upserts, judged and made.
+
+ghost use Rattle.std.specs.Prelude.{◌≡◌, ◌<◌, IfOk, IfSome, length};
+ghost use Rattle.ut_edits.specs.Rows.{AreFew};
+ghost use Rattle.ut_given.specs.Given.{IsInJson, IsPlain};
+ghost use Rattle.ut_keeper.specs.Draft.{DraftTells, tables_of};
+ghost use Rattle.ut_model.specs.Upserts.{upsert};
+ghost use Rattle.ut_model.specs.Verdict.{upserted};
+ghost use Rattle.ut_named.specs.Kept.{FitsKept};
+ghost use Rattle.ut_named.specs.Usable.{IsReady};
+ghost use Rattle.ut_others.specs.Uniques.{HasUnique};
+ghost use Rattle.ut_records.specs.Creating.{IsGiving};
+ghost use Rattle.ut_sound.specs.Fit.{ReadsWellByKey};
+ghost use Rattle.ut_stands.specs.Calls.{Calls, ended_edit};
+ghost use Rattle.ut_upserts.specs.Upserting.{PlansEither};
+ghost use Rattle.ut_upserts.specs.inner.Deciding.{DecidesByKey, DecidesGiven, changed, made};
+
+use crate::finding::{FoundKey, found_key, found_record};
+use crate::upsert::{Upsert, Upserted};
+use std::alloc::Global;
+use ut_edits::{Decided, Edit};
+use ut_given::{AllGiven, UpsertKey, given_laws};
+use ut_keeper::{Draft, Keeper, draft_laws};
+use ut_model::{Assignment, administrator_laws, object_laws};
+use ut_named::{KeptRecord, ready_layout};
+use ut_records::{decide_create, decide_update};
+use ut_sound::records_sound;
+use ut_stands::{EditFail, Layout, call_laws};
+use ut_value::Id;
+
+// What an upsert comes to that makes a record.
+fn made(decided: Result<Decided<Id>, EditFail>) -> Result<Decided<Upserted>, EditFail>
+    ensures { result ≡ made decided }
+{
+    let Decided {
+        answer: id,
+        changes,
+    } = decided?;
+    let created = true;
+    Ok(Decided {
+        answer: Upserted { id, created },
+        changes,
+    })
+}
+
+// What an upsert comes to that changes the record with this id.
+fn changed(id: Id, decided: Result<Decided<()>, EditFail>) -> Result<Decided<Upserted>, EditFail>
+    ensures { result ≡ changed id decided }
+{
+    let changes = decided?.changes;
+    let created = false;
+    Ok(Decided {
+        answer: Upserted { id, created },
+        changes,
+    })
+}
+
+fn id_of(kept: &KeptRecord) -> Id
+    ensures { result ≡ kept.now.item.id }
+{
+    kept.item.id
+}
+
+// Judges what is given to the record that has the key's value, if there is one, and else to a new one.
+fn decide_given<K: Keeper>(
+    alloc: Global,
+    draft: &mut Draft<'_, K>,
+    layout: &Layout,
+    kept: Option<KeptRecord>,
+    user: Id,
+    now: i64,
+    given: &AllGiven<'_>,
+) -> Result<Decided<Upserted>, EditFail>
+    requires ready { IsReady layout.now.org layout.now }
+    requires kept { IfSome kept (FitsKept layout.now) }
+    requires plain { IsPlain given.now }
+    ensures what { DraftTells K.state draft.old draft.new
+        → DecidesGiven layout.now user now given.now kept (tables_of K.state draft.old) result }
+    ensures few { IfOk result (λ x. AreFew 389 0 x.changes.items) }
+    ensures calls { Calls K.state 40 (ended_edit result) draft.old draft.new }
+{
+    match kept {
+        None => made(decide_create(alloc, draft, layout, user, now, given)),
+        Some(kept) => {
+            let id = id_of(&kept);
+            let decided = decide_update(alloc, draft, layout, kept, now, given);
+            changed(id, decided)
+        }
+    }
+}
+
+// Judges an upsert by its object, its unique field and the value.
+fn decide_by_key<'x, K: Keeper>(
+    alloc: Global,
+    draft: &mut Draft<'_, K>,
+    layout: &'x Layout,
+    user: Id,
+    now: i64,
+    body: &'x [Assignment],
+    key: &'x FoundKey,
+) -> Result<Decided<Upserted>, EditFail>
+    requires ready { IsReady layout.now.org layout.now }
+    requires field { key.now.number < length layout.now.fields }
+    requires unique { HasUnique layout.now key.now.number key.now.value }
+    requires json { IsInJson body.now }
+    ensures what { DraftTells K.state draft.old draft.new
+        → DecidesByKey layout.now user now body.now key.now (tables_of K.state draft.old) result }
+    ensures few { IfOk result (λ x. AreFew 389 0 x.changes.items) }
+    ensures calls { Calls K.state 41 (ended_edit result) draft.old draft.new }
+{
+    draft_laws::<K>();
+    call_laws::<K>();
+    administrator_laws();
+    let kept = found_record(alloc, draft, layout, key)?;
+    let number = key.number;
+    let value = &key.value;
+    let fields = layout.fields.as_slice();
+    let field = &fields[number];
+    let key = UpsertKey {
+        number,
+        field,
+        value,
+    };
+    let given = AllGiven {
+        body,
+        key: Some(key),
+    };
+    decide_given(alloc, draft, layout, kept, user, now, &given)
+}
+
+impl Edit for Upsert<'_> {
+    type Answer = Upserted;
+
+    ghost verdict = { λ e a. upsert a e.object.now e.key.now e.text e.given.now };
+
+    ghost answered = { λ x. upserted x.id x.created };
+
+    ghost planned = { λ e q t next. PlansEither q t next };
+
+    ghost fits = { λ e a. IsGiving e.user e.now (λ b o. ReadsWellByKey b e.key.now e.text o e.given.now) a };
+
+    ghost most = { 389 };
+
+    ghost gone = { 0 };
+
+    ghost shown = { 41 };
+
+    fn judge<K: Keeper>(
+        &self,
+        alloc: Global,
+        draft: &mut Draft<'_, K>,
+        org: u32,
+    ) -> Result<Decided<Upserted>, EditFail> {
+        draft_laws::<K>();
+        call_laws::<K>();
+        object_laws();
+        given_laws();
+        records_sound();
+        let layout = ready_layout(alloc, draft, org, self.object)?;
+        let key = found_key(alloc, &layout, self.key, self.text.as_ref())?;
+        decide_by_key(alloc, draft, &layout, self.user, self.now, self.given, &key)
+    }
+}

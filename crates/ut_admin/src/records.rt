@@ -26,8 +26,8 @@ use ut_stands::{EditFail, call_laws};
 use ut_upserts::Upsert;
 use ut_value::Text;
 
-// A moment of the calendar, as edits have it.
-fn moment(now: u64) -> i64
+/// A moment of the calendar, as edits have it.
+pub fn moment(now: u64) -> i64
     requires { IsTrue (is_moment (pos now)) }
     ensures { result ≡ pos now }
 {

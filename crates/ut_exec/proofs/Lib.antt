@@ -1,4 +1,6 @@
 pub mod Offering
 pub mod Paging
+pub mod Unique
+pub mod Sorting
 pub mod Turning
 pub mod Working

@@ -1,10 +1,9 @@
 -- Rows that are offered one after the other.
-use Rattle.std.proofs.Common.{◌≡◌, ◌∙◌, ℕ, zero, suc, ◌+◌, ◌<◌, ◌≤◌, Bool, true, false, cond, List, [], ◌∷◌, ◌++◌, Option, Some, None, refl, sym, ap, subst, arith, append_assoc, append-nil, length, drop, filter}
+use Rattle.std.proofs.Common.{◌≡◌, ◌∙◌, ℕ, zero, suc, ◌+◌, ◌<◌, ◌≤◌, Bool, true, cond, List, [], ◌∷◌, ◌++◌, Option, Some, None, refl, sym, ap, subst, arith, append_assoc, append-nil, length, drop}
 use Rattle.std.specs.Prelude.{IsErrAnd, Result, Ok, Err}
 use Rattle.std.specs.List.{flat_map}
 use Rattle.std.proofs.lemmas.Grind.{flat_map-append}
 use Rattle.std.proofs.lemmas.List.{length-append}
-use Rattle.std.proofs.lemmas.List.Elements.{filter-append}
 use Rattle.ut_keys.specs.declared.fail.StoreFail.TheVariants.{Damaged, Keeper, Memory}
 use Rattle.ut_data.specs.Decoding.{each_from}
 use Rattle.ut_model.specs.declared.record.Record.{Record}
@@ -99,11 +98,11 @@ module _ (row : Record → List ℕ) where
         record {
           written = g.written ++ h.written;
           appended = h.appended ∙ ap (λ (bytes : List ℕ). bytes ++ flat_map row h.written) g.appended
-          ∙ append_assoc old (flat_map row g.written) (flat_map row h.written) ∙ ap (λ (bytes : List ℕ). old ++ bytes) (sym both);
+              ∙ append_assoc old (flat_map row g.written) (flat_map row h.written) ∙ ap (λ (bytes : List ℕ). old ++ bytes) (sym both);
           counted = omega (arith, h.counted, g.counted, length-append g.written h.written);
           fits = omega (arith, h.fits, g.fits, long);
           rest = λ rest. append_assoc g.written h.written (in_window c.window rest) ∙ ap (λ (rs : List Record). g.written ++ rs) (h.rest rest)
-          ∙ g.rest (ys ++ rest) ∙ ap (in_window a.window) (sym (append_assoc xs ys rest));
+              ∙ g.rest (ys ++ rest) ∙ ap (in_window a.window) (sym (append_assoc xs ys rest));
         }
 
     -- no further row is taken
@@ -114,15 +113,15 @@ module _ (row : Record → List ℕ) where
       counted = g.counted;
       fits = g.fits;
       rest = λ rest. ap (λ (rs : List Record). g.written ++ rs) (over_takes_none b.window rest over ∙ sym (over_takes_none b.window (ys ++ rest) over))
-      ∙ g.rest (ys ++ rest) ∙ ap (in_window a.window) (sym (append_assoc xs ys rest));
+          ∙ g.rest (ys ++ rest) ∙ ap (in_window a.window) (sym (append_assoc xs ys rest));
     }
 
     overflows_on : (ys : List Record) → Overflows row b ys → Overflows row a (xs ++ ys)
     overflows_on ys h rest =
         let all : g.written ++ in_window b.window (ys ++ rest) ≡ in_window a.window ((xs ++ ys) ++ rest) = g.rest (ys ++ rest) ∙ ap (in_window a.window) (sym (append_assoc xs ys rest)) in
         let long : length (flat_map row g.written) + length (flat_map row (in_window b.window (ys ++ rest))) ≡ length (flat_map row (in_window a.window ((xs ++ ys) ++ rest))) =
-            sym (length-append (flat_map row g.written) (flat_map row (in_window b.window (ys ++ rest))))
-            ∙ ap length (sym (flat_map-append row g.written (in_window b.window (ys ++ rest)))) ∙ ap (λ (rs : List Record). length (flat_map row rs)) all in
+        sym (length-append (flat_map row g.written) (flat_map row (in_window b.window (ys ++ rest))))
+        ∙ ap length (sym (flat_map-append row g.written (in_window b.window (ys ++ rest)))) ∙ ap (λ (rs : List Record). length (flat_map row rs)) all in
         let more : b.room < length (flat_map row (in_window b.window (ys ++ rest))) = h rest in
         omega (arith, long, more, g.fits)
 
@@ -136,55 +135,58 @@ module _ (row : Record → List ℕ) where
     stops c new ys zs (Store Keeper) h = h
     stops c new ys zs (Store Memory) h = tt
 
--- ---- the rows of a page
+-- ---- a list, one after the other
 
--- of these rows some are offered
-pub record Through (A : Type 0) (make : A → Option Record) (keep : Record → Bool) (row : Record → List ℕ) (a b : Progress) (old new : List ℕ) (left : List A) (page : List Record) : Type 0 where
+-- of these some are still left, and of what was made of the others something holds
+pub record Through (A : Type 0) (make : A → Option Record) (Q : List Record → Type 0) (left : List A) (page : List Record) : Type 0 where
   pub seen : List Record
   pub coming : List Record
   pub read : each_from make left ≡ Some coming
   pub split : seen ++ coming ≡ page
-  pub goes : Goes row a b old new (filter keep seen)
+  pub does : Q seen
 
-module _ {A : Type 0} (make : A → Option Record) (keep : Record → Bool) (row : Record → List ℕ) where
-  pub through_first : (p : Progress) (out : List ℕ) (rows : List A) (page : List Record) → each_from make rows ≡ Some page → Through A make keep row p p out out rows page
-  through_first p out rows page e = record { seen = []; coming = page; read = e; split = refl; goes = goes_none row p out }
+module _ {A : Type 0} (make : A → Option Record) where
+  pub through_first : (Q : List Record → Type 0) (rows : List A) (page : List Record) → each_from make rows ≡ Some page → Q [] → Through A make Q rows page
+  through_first Q rows page e first = record { seen = []; coming = page; read = e; split = refl; does = first }
 
-  module _ (a b : Progress) (old mid : List ℕ) (x : A) (more : List A) (page : List Record) (t : Through A make keep row a b old mid (x ∷ more) page) where
-    next : Each make x more t.coming
-    next = each_cons make x more t.coming t.read
+  pub through_next : (Q R : List Record → Type 0) (x : A) (more : List A) (page : List Record) → Through A make Q (x ∷ more) page → ((seen : List Record) (r : Record) → make x ≡ Some r → Q seen → R (seen ++ r ∷ [])) → Through A make R more page
+  through_next Q R x more page t step =
+      let n = each_cons make x more t.coming t.read in
+      record {
+        seen = t.seen ++ n.first ∷ [];
+        coming = n.others;
+        read = n.rest;
+        split = append_assoc t.seen (n.first ∷ []) n.others ∙ ap (λ (rs : List Record). t.seen ++ rs) (sym n.is) ∙ t.split;
+        does = step t.seen n.first n.made t.does;
+      }
 
-    pub made_first : (r : Record) × (make x ≡ Some r)
-    made_first = (next.first, next.made)
-
-    all : filter keep page ≡ filter keep t.seen ++ (filter keep (next.first ∷ []) ++ filter keep next.others)
-    all = ap (filter keep) (sym t.split ∙ ap (λ (rs : List Record). t.seen ++ rs) next.is) ∙ filter-append keep t.seen (next.first ∷ next.others)
-        ∙ ap (λ (rs : List Record). filter keep t.seen ++ rs) (filter-append keep (next.first ∷ []) next.others)
-
-    pub through_next : (c : Progress) (new : List ℕ) → ((r : Record) → make x ≡ Some r → Goes row b c mid new (filter keep (r ∷ []))) → Through A make keep row a c old new more page
-    through_next c new goes = record {
-      seen = t.seen ++ next.first ∷ [];
-      coming = next.others;
-      read = next.rest;
-      split = append_assoc t.seen (next.first ∷ []) next.others ∙ ap (λ (rs : List Record). t.seen ++ rs) (sym next.is) ∙ t.split;
-      goes = subst (λ (rs : List Record). Goes row a c old new rs) (sym (filter-append keep t.seen (next.first ∷ [])))
-          (goes_on row a b old mid (filter keep t.seen) t.goes c new (filter keep (next.first ∷ [])) (goes next.first next.made));
-    }
-
-    pub through_over : is_over b.window ≡ true → Goes row a b old mid (filter keep page)
-    through_over over =
-        subst (λ (rs : List Record). Goes row a b old mid rs) (sym all)
-        (goes_over row a b old mid (filter keep t.seen) t.goes (filter keep (next.first ∷ []) ++ filter keep next.others) over)
-
-    pub through_stops : (c : Progress) (new : List ℕ) (e : ExecFail) → ((r : Record) → make x ≡ Some r → Offered row b c mid new (filter keep (r ∷ [])) (Err e)) → Offered row a c old new (filter keep page) (Err e)
-    through_stops c new e h =
-        subst (λ (rs : List Record). Offered row a c old new rs (Err e)) (sym all)
-        (stops row a b old mid (filter keep t.seen) t.goes c new (filter keep (next.first ∷ [])) (filter keep next.others) e (h next.first next.made))
-
-  pub through_all : (a b : Progress) (old new : List ℕ) (page : List Record) → Through A make keep row a b old new [] page → Goes row a b old new (filter keep page)
-  through_all a b old new page t =
+  pub through_all : (Q : List Record → Type 0) (page : List Record) → Through A make Q [] page → Q page
+  through_all Q page t =
       let is : t.seen ≡ page = sym (append-nil t.seen) ∙ ap (λ (rs : List Record). t.seen ++ rs) (sym (each_none make t.coming t.read)) ∙ t.split in
-      subst (λ (rs : List Record). Goes row a b old new (filter keep rs)) is t.goes
+      subst Q is t.does
+
+  -- ---- of which those that are picked are offered
+
+  module _ (pick : List Record → List Record) (splits : (xs ys : List Record) → pick (xs ++ ys) ≡ pick xs ++ pick ys) (row : Record → List ℕ) where
+    abbrev pub Offers : (a b : Progress) → (old new : List ℕ) → List Record → Type 0
+    Offers a b old new seen = Goes row a b old new (pick seen)
+
+    pub offers_more : (a b c : Progress) (old mid new : List ℕ) (xs ys : List Record) → Offers a b old mid xs → Goes row b c mid new (pick ys) → Offers a c old new (xs ++ ys)
+    offers_more a b c old mid new xs ys g h = subst (λ (rs : List Record). Goes row a c old new rs) (sym (splits xs ys)) (goes_on row a b old mid (pick xs) g c new (pick ys) h)
+
+    module _ (a b : Progress) (old mid : List ℕ) (x : A) (more : List A) (page : List Record) (t : Through A make (Offers a b old mid) (x ∷ more) page) where
+      pub offered_over : is_over b.window ≡ true → Goes row a b old mid (pick page)
+      offered_over over =
+          subst (λ (rs : List Record). Goes row a b old mid rs) (sym (splits t.seen t.coming) ∙ ap pick t.split) (goes_over row a b old mid (pick t.seen) t.does (pick t.coming) over)
+
+      pub offered_stops : (c : Progress) (new : List ℕ) (e : ExecFail) → ((r : Record) → make x ≡ Some r → Offered row b c mid new (pick (r ∷ [])) (Err e)) → Offered row a c old new (pick page) (Err e)
+      offered_stops c new e h =
+          let n = each_cons make x more t.coming t.read in
+          let all : pick page ≡ pick t.seen ++ (pick (n.first ∷ []) ++ pick n.others) =
+          ap pick (sym t.split ∙ ap (λ (rs : List Record). t.seen ++ rs) n.is) ∙ splits t.seen (n.first ∷ n.others)
+          ∙ ap (λ (rs : List Record). pick t.seen ++ rs) (splits (n.first ∷ []) n.others) in
+          subst (λ (rs : List Record). Offered row a c old new rs (Err e)) (sym all)
+          (stops row a b old mid (pick t.seen) t.does c new (pick (n.first ∷ [])) (pick n.others) e (h n.first n.made))
 
 -- ---- all rows
 

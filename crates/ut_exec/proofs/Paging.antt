@@ -1,5 +1,5 @@
 -- A walk in pages passes each record once.
-use Rattle.std.proofs.Common.{◌≡◌, inl, inr, ℕ, zero, suc, ◌+◌, ◌-◌, ◌<◌, ◌≤◌, Bool, true, false, cond, List, [], ◌∷◌, ◌++◌, Option, Some, None, filter, take, drop, length, refl, sym, ap, ◌∙◌, subst, true≢false, arith, append_assoc, take-append-drop}
+use Rattle.std.proofs.Common.{◌≡◌, inl, inr, ℕ, suc, ◌-◌, Bool, true, false, cond, List, [], ◌∷◌, ◌++◌, Option, Some, None, filter, take, drop, length, refl, sym, ap, ◌∙◌, subst, true≢false, arith, append_assoc, take-append-drop}
 use Rattle.std.specs.List.{slice_get, AllByRecursion}
 use Rattle.std.specs.declared.cmp.Ordering.{Ordering}
 use Rattle.std.specs.declared.cmp.Ordering.TheVariants.{Less, Equal, Greater}

@@ -1,5 +1,5 @@
 -- What a page of an object's rows gives.
-use Rattle.std.proofs.Common.{◌≡◌, ◌∙◌, inl, inr, ℕ, zero, suc, ◌+◌, ◌-◌, ◌*◌, ◌<◌, ◌≤◌, Bool, true, false, cond, List, [], ◌∷◌, ◌++◌, Option, Some, None, refl, sym, ap, subst, arith, length, take, filter}
+use Rattle.std.proofs.Common.{◌≡◌, ◌∙◌, inr, ℕ, suc, ◌+◌, ◌-◌, ◌*◌, ◌<◌, ◌≤◌, Bool, true, false, cond, List, [], ◌∷◌, ◌++◌, Option, Some, None, refl, sym, ap, arith, length, take}
 use Rattle.std.specs.Prelude.{Result, Ok, Err, Vec, min, nat_lt, option_copied, slice_get}
 use Rattle.std.specs.Option.{option_map}
 use Rattle.std.specs.Borrow.{Bor}
@@ -24,7 +24,7 @@ use Rattle.ut_stands.specs.Layouts.{FindsOf, records_after}
 use Rattle.ut_exec.specs.declared.pages.Pages.{Pages}
 use Rattle.ut_exec.specs.Written.{InTenants}
 use Rattle.ut_exec.specs.inner.Reading.{FindsPage, ReadsPage, Turns, beyond, last_of, pages_left}
-use Rattle.ut_exec.proofs.Offering.{Each, each_cons, each_none}
+use Rattle.ut_exec.proofs.Offering.{each_cons, each_none}
 use Rattle.ut_exec.proofs.Paging.{Ascends, page_on}
 
 -- ---- lists of which something is made
@@ -152,8 +152,11 @@ finds_page l m after (Err Memory) finds few = tt
 
 pub reads_page : {A : Type 0} (l : Layout) (m : Tables) (a b : Pages) → ((t : Tenant) (n : ℕ) → IsSound t → Ascends (records_of t n)) → 0 < a.left → (rows : Result (Vec DataRow A) StoreFail)
     → FindsPage l a.after m rows → ((v : Vec DataRow A) → rows ≡ Ok v → (b.after ≡ last_of a.after v.items) × (b.left ≡ pages_left a.left v.items)) → ReadsPage l a b m rows
-reads_page l m a b up some (Ok v) found turned = (found.0, λ q t s h.
-    turns l (records_of t l.object) a b v.items (up t l.object s.sound) some (found.1 q t s h ∙ ap Some (after_is l.object a.after 250 t)) (turned v refl).0 (turned v refl).1)
+reads_page l m a b up some (Ok v) found turned = (
+  found.0,
+  λ q t s h.
+      turns l (records_of t l.object) a b v.items (up t l.object s.sound) some (found.1 q t s h ∙ ap Some (after_is l.object a.after 250 t)) (turned v refl).0 (turned v refl).1,
+)
 reads_page l m a b up some (Err Damaged) found turned = found
 reads_page l m a b up some (Err Keeper) found turned = tt
 reads_page l m a b up some (Err Memory) found turned = tt

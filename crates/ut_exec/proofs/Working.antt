@@ -1,5 +1,5 @@
 -- An object's records, page after page.
-use Rattle.std.proofs.Common.{◌≡◌, ◌∙◌, ℕ, zero, suc, ◌+◌, ◌*◌, ◌<◌, ◌≤◌, Bool, true, false, List, [], ◌∷◌, ◌++◌, Option, Some, None, refl, sym, ap, subst, arith, append_assoc, append-nil, length, filter}
+use Rattle.std.proofs.Common.{◌≡◌, ◌∙◌, ℕ, suc, ◌+◌, ◌*◌, ◌<◌, ◌≤◌, Bool, true, false, List, [], ◌++◌, Some, None, refl, sym, ap, subst, arith, append_assoc, append-nil, length, filter}
 use Rattle.std.specs.Prelude.{Result, Ok, Err, Vec}
 use Rattle.std.specs.List.{flat_map}
 use Rattle.std.proofs.Math.Nat.{mul-le-mul_right, suc-mul}
@@ -19,7 +19,7 @@ use Rattle.ut_model.specs.Objects.{object_numbered, records_of}
 use Rattle.ut_model.specs.Sound.{IsSound}
 use Rattle.ut_model.specs.Tenant.{Object, Tenant}
 use Rattle.ut_stands.specs.declared.layout.Layout.{Layout}
-use Rattle.ut_stands.specs.Calls.{Calls, Ending, done, ended, ended_by, fell, stopped}
+use Rattle.ut_stands.specs.Calls.{Calls, Ending, done, ended_by, fell, stopped}
 use Rattle.ut_stands.specs.Layouts.{layout_of}
 use Rattle.ut_stands.specs.Local.{StandsIn}
 use Rattle.ut_stands.specs.Plan.{OrgPlan}
@@ -32,7 +32,7 @@ use Rattle.ut_exec.specs.Fails.{ended_exec}
 use Rattle.ut_exec.specs.Windows.{in_window, is_over}
 use Rattle.ut_exec.specs.Written.{AppendsRows, IfDone, InTenants, WritesRows, most_shown, rows_kept, shown_for}
 use Rattle.ut_exec.specs.inner.Offers.{Goes, Offered}
-use Rattle.ut_exec.specs.inner.Reading.{ReadsPage, Turns, beyond}
+use Rattle.ut_exec.specs.inner.Reading.{ReadsPage, beyond}
 use Rattle.ut_exec.proofs.Offering.{all_written, empty_of, goes_on, none_taken, over_takes_none, stops}
 use Rattle.ut_exec.proofs.Paging.{beyond_none}
 use Rattle.ut_exec.proofs.Turning.{each_length}
@@ -56,14 +56,6 @@ has_no_types typed l m none = λ q t s h.
     let one = layout_is q t l h in
     let yes : has_types l ≡ true = subst (λ (k : Layout). has_types k ≡ true) one.made (typed l.org l.object q t one.object s.sound one.there) in
     absurd cc
-
--- what isn't the keeper's failure
-pub not_fallen : {X : Type 0} (r : Result X ExecFail) → (r ≡ Err (Store Keeper) → ⊥) → ended_exec r ≡ fell → ⊥
-not_fallen (Ok x) own e = absurd cc
-not_fallen (Err TooLarge) own e = absurd cc
-not_fallen (Err (Store Keeper)) own e = own refl
-not_fallen (Err (Store Memory)) own e = absurd cc
-not_fallen (Err (Store Damaged)) own e = absurd cc
 
 module _ {K : Type 0} (state : K → KeeperState) where
   abbrev pub TellsBoth : Type 0
@@ -158,17 +150,6 @@ module _ {K : Type 0} (state : K → KeeperState) where
             quiet = all.quiet;
           }
 
-      pub failed_what : (A : Type 0) (turned : Pages) (rows : (Tenant → List Record)) (row : Record → List ℕ) (room : ℕ) (old new : List ℕ)
-          → (DraftTells state b c → ReadsPage {A = A} l pages turned (tables_of state b) (Err e)) → DraftTells state a c → WritesRows l rows row room old new (tables_of state a) (Err (Store e))
-      failed_what A turned rows row room old new page told = by e page
-        where
-          by : (f : StoreFail) → (DraftTells state b c → ReadsPage {A = A} l pages turned (tables_of state b) (Err f)) → WritesRows l rows row room old new (tables_of state a) (Err (Store f))
-          by Damaged page = λ q t s h.
-              let tell = tells _ _ a b c u.calls.reads calls.reads told in
-              page tell.1 q t (subst (λ (m : Tables). StandsIn l.org q m (Some t)) (sym tell.2) s) h
-          by Keeper page = tt
-          by Memory page = tt
-
   module _ (l : Layout) (Q : List Record → Type 0) (pages : Pages) (a b : Held K) (u : UnderWay l Q pages a b) where
     turned_few : u.turns * removed a ≤ 80 * removed a
     turned_few = mul-le-mul_right (removed a) (omega (arith, u.count))
@@ -247,6 +228,21 @@ module _ {K : Type 0} (state : K → KeeperState) where
           let whole = all_written row start p old new (filter keep r.seen) (filter keep rest) r.does (over rest r.enough) in
           let is : filter keep r.seen ++ filter keep rest ≡ filter keep (records_of t l.object) = sym (filter-append keep r.seen rest) ∙ ap (filter keep) r.split in
           subst (λ (rs : List Record). AppendsRows row room (in_window w rs) old new p.count) is (record { counted = whole.counted ∙ omega arith; appended = whole.appended; fits = whole.fits })
+
+    -- of all rows that were to be offered
+
+    module _ (m : Tables) (chosen : Tenant → List Record) (xs : List Record) (are : InTenants l m (λ t. xs ≡ chosen t)) where
+      pub what_offered : (p : Progress) (new : List ℕ) → Goes row start p old new xs → WritesRows l (λ t. in_window w (chosen t)) row room old new m (Ok p.count)
+      what_offered p new g = λ q t s h.
+          let whole = all_written row start p old new xs [] g (none_taken p.window) in
+          subst (λ (rs : List Record). AppendsRows row room (in_window w rs) old new p.count) (append-nil xs ∙ are q t s h)
+          (record { counted = whole.counted ∙ omega arith; appended = whole.appended; fits = whole.fits })
+
+      pub what_failed : (p : Progress) (new : List ℕ) (e : ExecFail) → Offered row start p old new xs (Err e) → WritesRows l (λ t. in_window w (chosen t)) row room old new m (Err e)
+      what_failed p new TooLarge h = λ q t s here. subst (λ (rs : List Record). room < length (flat_map row (in_window w rs))) (append-nil xs ∙ are q t s here) (h [])
+      what_failed p new (Store Damaged) h = λ q t s here. h
+      what_failed p new (Store Keeper) h = tt
+      what_failed p new (Store Memory) h = tt
 
   pub over_ends : (keep : Record → Bool) (p : Progress) (pages : Pages) → is_over p.window ≡ true → (rest : List Record) → length rest ≤ 250 * pages.left → in_window p.window (filter keep rest) ≡ []
   over_ends keep p pages over rest h = over_takes_none p.window (filter keep rest) over

@@ -1,4 +1,5 @@
 pub mod Fails
+pub mod Ranks
 pub mod Windows
 pub mod Written
 pub mod inner

@@ -1,12 +1,16 @@
 -- What is written, and what is shown for it.
-use Rattle.std.specs.Prelude.{◌≡◌, ℕ, ◌+◌, ◌*◌, ◌<◌, ◌≤◌, Bool, List, ◌++◌, length, filter, Option, Some, Result, Ok, Err}
+use Rattle.std.specs.Prelude.{◌≡◌, ℕ, ◌+◌, ◌*◌, ◌<◌, ◌≤◌, Bool, List, ◌++◌, length, filter, Some, Result, Ok, Err}
 use Rattle.std.specs.List.{flat_map}
+use Rattle.std.specs.declared.cmp.Ordering.{Ordering}
+use Rattle.ut_keeper.specs.Draft.{DraftTells, Held, removals_of, state_of, tables_of}
+use Rattle.ut_keeper.specs.State.{KeeperState, ShowsMost, data_table}
 use Rattle.ut_keeper.specs.Tables.{Tables}
 use Rattle.ut_keys.specs.declared.fail.StoreFail.TheVariants.{Damaged, Keeper, Memory}
 use Rattle.ut_model.specs.declared.limit.Limit.TheVariants.{RecordsPerObject}
 use Rattle.ut_model.specs.declared.record.Record.{Record}
 use Rattle.ut_model.specs.Limits.{limit_number}
 use Rattle.ut_model.specs.Objects.{records_of}
+use Rattle.ut_model.specs.Ordered.{in_order}
 use Rattle.ut_model.specs.Tenant.{Tenant}
 use Rattle.ut_stands.specs.declared.layout.Layout.{Layout}
 use Rattle.ut_stands.specs.Calls.{Ending, done, fell, stopped}
@@ -26,6 +30,10 @@ InTenants l m P = (q : OrgPlan) (t : Tenant) → StandsIn l.org q m (Some t) →
 abbrev pub rows_kept : Window → (Record → Bool) → (object : ℕ) → Tenant → List Record
 rows_kept w keep n t = in_window w (filter keep (records_of t n))
 
+-- the same with ORDER BY
+abbrev pub rows_sorted : Window → (Record → Record → Ordering) → (Record → Bool) → (object : ℕ) → Tenant → List Record
+rows_sorted w order keep n t = in_window w (in_order order (filter keep (records_of t n)))
+
 -- all of these rows were appended, and there was room for them
 pub record AppendsRows (row : Record → List ℕ) (room : ℕ) (rows : List Record) (old new : List ℕ) (count : ℕ) : Type 0 where
   pub counted : count ≡ length rows
@@ -33,7 +41,8 @@ pub record AppendsRows (row : Record → List ℕ) (room : ℕ) (rows : List Rec
   pub fits : length (flat_map row rows) ≤ room
 
 -- the rows of each such tenant were written, or there is no room for them; its rows are never damaged
-abbrev pub WritesRows : Layout → (Tenant → List Record) → (Record → List ℕ) → (room : ℕ) → (old new : List ℕ) → Tables → Result ℕ ExecFail → Type 0
+abbrev pub WritesRows : Layout → (Tenant → List Record) → (Record → List ℕ) → (room : ℕ) → (old new : List ℕ) → Tables
+    → Result ℕ ExecFail → Type 0
 WritesRows l rows row room old new m (Ok count) = InTenants l m (λ t. AppendsRows row room (rows t) old new count)
 WritesRows l rows row room old new m (Err TooLarge) = InTenants l m (λ t. room < length (flat_map row (rows t)))
 WritesRows l rows row room old new m (Err (Store Damaged)) = InTenants l m (λ t. ⊥)
@@ -55,3 +64,11 @@ shown_for records removed = records + 80 * removed
 
 abbrev pub most_shown : (removed : ℕ) → ℕ
 most_shown removed = shown_for (limit_number RecordsPerObject) removed
+
+-- if a call was done, it showed each record of the object once at most
+module _ {K : Type 0} (state : K → KeeperState) where
+  abbrev pub ShowsRecords : Layout → Ending → (old new : Held K) → Type 0
+  ShowsRecords l e old new =
+      DraftTells state old new
+      → IfDone e (InTenants l (tables_of state old) (λ t.
+      ShowsMost (shown_for (length (records_of t l.object)) (removals_of state data_table old)) (state_of state old) (state_of state new)))

@@ -10,10 +10,14 @@ mod asked;
 mod fail;
 mod offers;
 mod pages;
+mod ranked;
 mod rows;
+mod sorted;
 mod window;
 
 pub use crate::asked::{Keeps, RowForm};
 pub use crate::fail::ExecFail;
+pub use crate::ranked::Ranks;
 pub use crate::rows::write_rows;
+pub use crate::sorted::write_sorted_rows;
 pub use crate::window::Window;

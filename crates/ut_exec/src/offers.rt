@@ -57,8 +57,12 @@ fn one_more(count: usize) -> Result<usize, ExecFail>
     }
 }
 
-// A row, which is written if the window admits it.
-fn offer_row<W: RowForm>(
+/// A row, which is written if the window admits it.
+///
+/// # Errors
+///
+/// `TooLarge` if there is no room for it, `Memory` if out of memory.
+pub(crate) fn offer_row<W: RowForm>(
     alloc: Global,
     form: &W,
     item: &Record,

@@ -1,12 +1,9 @@
 //! Rows without ORDER BY: written as they come.
 
-ghost use Rattle.ut_stands.specs.Calls.{Calls};
 ghost use Rattle.ut_exec.specs.Fails.{ended_exec};
-ghost use Rattle.ut_exec.specs.Written.{IfDone, InTenants, WritesRows, most_shown, rows_kept, shown_for};
-ghost use Rattle.ut_keeper.specs.Draft.{DraftTells, removals_of, state_of, tables_of};
-ghost use Rattle.ut_keeper.specs.State.{ShowsMost};
-ghost use Rattle.ut_model.specs.Objects.{records_of};
-ghost use Rattle.std.specs.Prelude.{length};
+ghost use Rattle.ut_exec.specs.Written.{ShowsRecords, WritesRows, most_shown, rows_kept};
+ghost use Rattle.ut_keeper.specs.Draft.{DraftTells, removals_of, tables_of};
+ghost use Rattle.ut_stands.specs.Calls.{Calls};
 
 use crate::asked::{Keeps, RowForm};
 use crate::fail::ExecFail;
@@ -40,9 +37,7 @@ pub fn write_rows<K: Keeper, P: Keeps, W: RowForm>(
         → WritesRows layout.now (rows_kept window (P.keep keeps.now) layout.now.object) (W.written form.now) room
         out.old.items out.new.items (tables_of K.state draft.old) result }
     // Each record is shown once, as long as the draft removes none.
-    ensures shown { DraftTells K.state draft.old draft.new
-        → IfDone (ended_exec result) (InTenants layout.now (tables_of K.state draft.old) (λ t.
-        ShowsMost (shown_for (length (records_of t layout.now.object)) (removals_of K.state 7 draft.old)) (state_of K.state draft.old) (state_of K.state draft.new))) }
+    ensures shown { ShowsRecords K.state layout.now (ended_exec result) draft.old draft.new }
     ensures calls { Calls K.state (most_shown (removals_of K.state 7 draft.old)) (ended_exec result) draft.old draft.new }
 {
     draft_laws::<K>();
@@ -59,7 +54,15 @@ pub fn write_rows<K: Keeper, P: Keeps, W: RowForm>(
     let mut pages = first_pages();
     'pages: while pages.left > 0 && !progress.window.is_over() {
         let rows = next_page(alloc, draft, layout, &mut pages)?;
-        offer_records(alloc, layout, keeps, form, rows.as_slice(), &mut progress, out)?;
+        offer_records(
+            alloc,
+            layout,
+            keeps,
+            form,
+            rows.as_slice(),
+            &mut progress,
+            out,
+        )?;
     }
     Ok(progress.count)
 }

@@ -1,5 +1,6 @@
 -- The body of rows: what comes before them, the rows, and what comes behind.
-use Rattle.std.proofs.Common.{◌≡◌, ◌∙◌, ℕ, List, [], ◌∷◌, ◌++◌, length, drop, true, refl, sym, ap, append_assoc, append-nil}
+use Rattle.std.proofs.Common.{◌≡◌, ◌∙◌, ◌≤◌, ◌+◌, ◌-◌, ℕ, List, [], ◌∷◌, ◌++◌, length, drop, true, refl, sym, ap, append_assoc, append-nil, arith}
+use Rattle.std.proofs.lemmas.List.{length-append, length-drop}
 use Rattle.std.specs.Prelude.{codes}
 use Rattle.std.specs.Char.{encode_utf8}
 use Rattle.std.specs.Fmt.{decimal}
@@ -90,3 +91,18 @@ front_written w0 w1 w2 w3 w4 w5 w6 w7 n e1 e2 e3 e4 e5 e6 e7 =
     let rest = after w2 w3 w7 (44 ∷ []) (b ++ 44 ∷ (r ++ codes "[")) e3 second in
     let first = after w1 w2 w7 a (44 ∷ (b ++ 44 ∷ (r ++ codes "["))) e2 rest in
     after w0 w1 w7 (123 ∷ []) (a ++ 44 ∷ (b ++ 44 ∷ (r ++ codes "["))) e1 first
+
+-- ---- the rows are no longer than the body
+
+sizes : (front rows body : List ℕ) → body ≡ (front ++ drop 1 rows) ++ codes "]}" → length rows ≤ length body
+sizes front rows body is =
+    let all : length body ≡ length (front ++ drop 1 rows) + length (codes "]}") = ap length is ∙ length-append (front ++ drop 1 rows) (codes "]}") in
+    let both : length (front ++ drop 1 rows) ≡ length front + length (drop 1 rows) = length-append front (drop 1 rows) in
+    let dropped : length (drop 1 rows) ≡ length rows - 1 = length-drop 1 rows in
+    omega (arith, all, both, dropped)
+
+pub longer : (texts : List (List ℕ)) → length (encode_utf8_all (behind_commas texts)) ≤ length (encode_utf8_all (rows_json texts))
+longer texts =
+    let front = encode_utf8_all (rows_front (length texts)) in
+    let rows = encode_utf8_all (behind_commas texts) in
+    sizes front rows (encode_utf8_all (rows_json texts)) (sym (body_of_rows front rows ((front ++ drop 1 rows) ++ codes "]}") (length texts) texts refl refl refl refl))

@@ -88,7 +88,7 @@ pub record EditsFrom (org : ℕ) (asks : Asked → Type 0) (verdict : Asked → 
 
 -- ---- replies
 
--- the reply that an edit was made: 204, or 201 with the id of what is new; of an upsert 201 or 200 with the id, and whether it is new
+-- the reply that an edit was made: 204, or 201 with the id of what is new; of an upsert 201 or 200, with the id and whether it is new
 abbrev pub reply_made : Answer → Reply
 reply_made answer.Done = json_reply 204 []
 reply_made (answer.Made id) = json_reply 201 (object_json (made_members id))

@@ -20,7 +20,9 @@ beyond after rs = filter (λ r. is_past after r.id) rs
 
 -- so many rows at most were found: those of the records after an id
 abbrev pub FindsPage : {A : Type 0} → Layout → (after : Option (List ℕ)) → Tables → Result (Vec DataRow A) StoreFail → Type 0
-FindsPage l after m (Ok rows) = (length rows.items ≤ 250) × InTenants l m (λ t. each_from (record_from l) rows.items ≡ Some (records_after l.object after 250 t))
+FindsPage l after m (Ok rows) =
+    (length rows.items ≤ 250)
+    × InTenants l m (λ t. each_from (record_from l) rows.items ≡ Some (records_after l.object after 250 t))
 FindsPage l after m (Err Damaged) = InTenants l m (λ t. ⊥)
 FindsPage l after m (Err Keeper) = Unit {0}
 FindsPage l after m (Err Memory) = Unit {0}

@@ -42,17 +42,19 @@ changed id (Err e) = Err e
 -- ---- decided
 
 -- what is given is judged as a create where there is no such record, and else as its update
-abbrev pub DecidesGiven : Layout → (user : List ℕ) → (now : ℤ) → AllGiven → Option KeptRecord → Tables → Result (Decided Upserted) EditFail → Type 0
+abbrev pub DecidesGiven : Layout → (user : List ℕ) → (now : ℤ) → AllGiven → Option KeptRecord → Tables
+    → Result (Decided Upserted) EditFail → Type 0
 DecidesGiven l user now given None m result = (r : Result (Decided (List ℕ)) EditFail) × DecidesNew l user now given m r × (result ≡ made r)
 DecidesGiven l user now given (Some k) m result =
     (r : Result (Decided (Unit {0})) EditFail) × DecidesChanged l now given k m r × (result ≡ changed k.item.id r)
 
 -- over these tables, whatever they have, only rows of the organisation are changed; and where these stand for the tenant of who
 -- asks, and valid values stay valid with what is given, it comes to the verdict
-pub record DecidesByKey (l : Layout) (user : List ℕ) (now : ℤ) (body : List Assignment) (k : FoundKey) (m : Tables) (result : Result (Decided Upserted) EditFail) : Type 0 where
+pub record DecidesByKey (l : Layout) (user : List ℕ) (now : ℤ) (body : List Assignment) (k : FoundKey) (m : Tables)
+    (result : Result (Decided Upserted) EditFail) : Type 0 where
   pub own : ChangesIn l.org result
-  pub decided : (q : OrgPlan) (a : Asked) (o : Numbered) (f : FieldPlace) → StandsIn l.org q m (Some a.tenant) → IsObject l.org q a.tenant o l
-      → IsAsker user now a → slice_get l.fields k.number ≡ Some f
+  pub decided : (q : OrgPlan) (a : Asked) (o : Numbered) (f : FieldPlace) → StandsIn l.org q m (Some a.tenant)
+      → IsObject l.org q a.tenant o l → IsAsker user now a → slice_get l.fields k.number ≡ Some f
       → ReadsWell a o.object (with_key (Some (key_of (numbered_field k f) k.value)) body)
       → IsSound (upsert_by a o body (numbered_field k f) k.value).tenant
       → DecidesTo l.org q a.tenant (upsert_by a o body (numbered_field k f) k.value) answered_upsert PlansEither result

@@ -56,7 +56,8 @@ pub record IsKey (l : Layout) (name : List ℕ) (text : Option (List ℕ)) (k : 
 -- the same, or why an upsert fails, whatever it would come to
 abbrev pub FindsKey : Layout → (name : List ℕ) → (text : Option (List ℕ)) → Result FoundKey EditFail → Type 0
 FindsKey l name text (Ok k) = IsKey l name text k
-FindsKey l name text (Err e) = (t : Tenant) (verdict : ℕ × Field → Value → Verdict) → FailsBy (on_key t (object_of_layout l) name text verdict) e
+FindsKey l name text (Err e) =
+    (t : Tenant) (verdict : ℕ × Field → Value → Verdict) → FailsBy (on_key t (object_of_layout l) name text verdict) e
 
 -- ---- the record
 

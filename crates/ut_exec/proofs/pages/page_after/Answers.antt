@@ -1,4 +1,4 @@
-use Rattle.std.proofs.Common.{◌+◌, ◌≤◌, ℕ, Bor, IsTrue, List, Option, subst, arith, take}
+use Rattle.std.proofs.Common.{ℕ, Bor, IsTrue, List, Option, subst, take}
 use Rattle.std.specs.Option.{option_map}
 use Rattle.ut_keeper.specs.Draft.{tables_of}
 use Rattle.ut_keeper.specs.Prefixes.{raised}

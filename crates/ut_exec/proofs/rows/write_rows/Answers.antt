@@ -1,7 +1,6 @@
-use Rattle.std.proofs.Common.{◌≡◌, ◌∙◌, ℕ, List, ◌++◌, Err, ap, filter, refl, sym, subst}
+use Rattle.std.proofs.Common.{◌∙◌, ap, filter, refl, sym, subst}
 use Rattle.ut_data.specs.Decoding.{each_from, record_from}
 use Rattle.ut_keeper.specs.Draft.{tables_of}
-use Rattle.ut_model.specs.declared.record.Record.{Record}
 use Rattle.ut_stands.specs.Calls.{done}
 use Rattle.ut_exec.specs.declared.offers.Progress.{Progress}
 use Rattle.ut_exec.specs.declared.pages.Pages.{Pages}
@@ -9,7 +8,7 @@ use Rattle.ut_exec.specs.Fails.{ended_exec}
 use Rattle.ut_exec.specs.Written.{WritesRows, rows_kept}
 use Rattle.ut_exec.specs.inner.Offers.{Offered}
 use Rattle.ut_exec.proofs.Offering.{goes_none, returned}
-use Rattle.ut_exec.proofs.Working.{Offers, Stopped, UnderWay, any_calls, any_shown, begins, has_no_types, not_fallen, offers_more, over_ends, read_ends, stops_at, turn, what_stopped, what_written}
+use Rattle.ut_exec.proofs.Working.{Offers, Stopped, UnderWay, any_shown, begins, has_no_types, offers_more, over_ends, read_ends, stops_at, turn, what_stopped, what_written}
 use Rattle.ut_exec.proofs.rows.write_rows.Goals as goal
 
 pub returns-then-not-has_types-clause-what : goal.returns-then-not-has_types-clause-what
@@ -44,9 +43,9 @@ returns-in_err-offer_records-clause-what g c told =
     let fail = c.in_err-offer_records.field-0.0 in
     let rows = c.in_ok-rows.rows in
     let u = turn state c.draft_laws.ensures.both c.call_laws.ensures.then l (Offers state l keep row w room old p c.pages.out.items) c.pages.pages a c.pages.draft c.pages.invariant
-        c.next_page.new.pages c.next_page.new.draft rows c.in_ok-rows.ensures.calls c.in_ok-rows.ensures.page c.in_ok-rows.ensures.less (Stopped state l keep row w room old new out fail)
-        (λ seen page read goes. stops_at state l keep row w room old p new c.pages.out.items out fail seen page goes
-        (subst (Offered row p new c.pages.out.items out (filter keep page)) c.in_err-offer_records.was (c.offer_records.ensures.offered page (ap (each_from (record_from l)) c.as_slice.ensures.value ∙ read)))) in
+    c.next_page.new.pages c.next_page.new.draft rows c.in_ok-rows.ensures.calls c.in_ok-rows.ensures.page c.in_ok-rows.ensures.less (Stopped state l keep row w room old new out fail)
+    (λ seen page read goes. stops_at state l keep row w room old p new c.pages.out.items out fail seen page goes
+    (subst (Offered row p new c.pages.out.items out (filter keep page)) c.in_err-offer_records.was (c.offer_records.ensures.offered page (ap (each_from (record_from l)) c.as_slice.ensures.value ∙ read)))) in
     subst (WritesRows l (rows_kept w keep l.object) row room old out (tables_of state a)) (sym (returned c.from_residual-in_err-offer_records.result fail c.from_residual-in_err-offer_records.ensures.1))
     (what_stopped state l keep row w room old c.next_page.new.pages a c.next_page.new.draft told new out fail u)
 
@@ -58,7 +57,7 @@ returns-in_err-offer_records-clause-shown g c told =
     let keep = g.P.Keeps.keep c.args.keeps.now in
     let row = g.W.RowForm.written c.args.form.now in
     let u = turn state c.draft_laws.ensures.both c.call_laws.ensures.then l (Offers state l keep row c.args.window c.args.room c.args.out.now.items c.pages.progress c.pages.out.items) c.pages.pages a c.pages.draft c.pages.invariant
-        c.next_page.new.pages c.next_page.new.draft c.in_ok-rows.rows c.in_ok-rows.ensures.calls c.in_ok-rows.ensures.page c.in_ok-rows.ensures.less (λ seen. Unit {0}) (λ seen page read goes. tt) in
+    c.next_page.new.pages c.next_page.new.draft c.in_ok-rows.rows c.in_ok-rows.ensures.calls c.in_ok-rows.ensures.page c.in_ok-rows.ensures.less (λ seen. Unit {0}) (λ seen page read goes. tt) in
     any_shown state l (λ seen. Unit {0}) c.next_page.new.pages a c.next_page.new.draft u told (ended_exec c.from_residual-in_err-offer_records.result)
 
 pub pages-preserved : goal.pages-preserved

@@ -8,6 +8,7 @@ ghost use Rattle.ut_rest.specs.Forms.{IsReadReply};
 ghost use Rattle.ut_rest.specs.inner.Answers.{Refuses, unchanged};
 
 use std::alloc::{AllocError, Global};
+use ut_answers::refuse;
 use ut_keys::StoreFail;
 use ut_model::{Refusal, Reply};
 use ut_stands::Judged;

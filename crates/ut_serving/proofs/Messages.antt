@@ -15,7 +15,7 @@ use Rattle.ut_stands.specs.Local.{KeepsOthers, StandsFor}
 use Rattle.ut_stands.specs.Operations.{DoesIn, Ends, FailsAtCommit, Finishes, IsChange, Judges, Returns}
 use Rattle.ut_stands.specs.declared.judged.Judged.{Judged}
 use Rattle.ut_stands.specs.declared.judged.Judged.TheVariants.{Changed, Same}
-use Rattle.ut_step.specs.Own.{request_changes, request_gone, request_shown}
+use Rattle.ut_step.specs.Own.{request_changes, request_gone, shown_beside}
 use Rattle.ut_stands.proofs.Ended.{done, kept_if_failed, others_stay, unchanged}
 use Rattle.ut_serving.specs.Own.{Asks, DoesBy, DoesUnnamed, JudgesBy, JudgesNamed, JudgesReply, JudgesUnnamed, KeepsIfSame, Replies, judged_bytes, own_does, unnamed_bytes}
 use Rattle.ut_serving.specs.Requests.{in_bytes}
@@ -110,7 +110,7 @@ module _ (m : Message) (close : Bool) (old new : KeeperState) where
 
 -- the data rows that may be shown over a draft
 abbrev pub shown_most : {K : Type 0} → (K → KeeperState) → Held K → ℕ
-shown_most state d = request_shown + removals_of state data_table d
+shown_most state d = shown_beside (removals_of state data_table d)
 
 module _ {K : Type 0} (state : K → KeeperState) (d e : Held K) (new : KeeperState) (j : Returned) (r : Result (List ℕ) StoreFail) where
   stays_by : StaysAfter (is_ok j) (state d.keeper.now) (state e.keeper.now) → (IsTrue (is_ok j) → StaysAfter (is_ok r) (state e.keeper.now) new) → IfErr j (λ f. r ≡ Err f) → Steps (state e.keeper.now) new

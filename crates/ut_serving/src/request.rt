@@ -11,7 +11,7 @@ ghost use Rattle.ut_stands.specs.Calls.{Calls, ended};
 ghost use Rattle.ut_stands.specs.Operations.{Drafts};
 ghost use Rattle.ut_stands.specs.Stands.{Stands};
 ghost use Rattle.ut_step.specs.Built.{step};
-ghost use Rattle.ut_step.specs.Own.{request_changes, request_gone, request_shown};
+ghost use Rattle.ut_step.specs.Own.{request_changes, request_gone, shown_beside};
 ghost use Rattle.ut_value.specs.Dates.{is_moment};
 ghost use Rattle.ut_serving.specs.Leads.{LeadsFrom};
 ghost use Rattle.ut_serving.specs.Own.{Asks, AsksFirst, DoesMessage, JudgesCaller, JudgesMessage, JudgesReply, JudgesUnnamed, Replies};
@@ -90,7 +90,7 @@ fn judge_called<K: Keeper>(
         → JudgesCaller caller.now (message_in message.now) message.now.close now (tables_of K.state draft.old)
         (tables_of K.state draft.new) result }
     ensures form { JudgesReply (message_in message.now) message.now.close result }
-    ensures drafts { Drafts K.state request_changes request_gone (request_shown + removals_of K.state data_table draft.old) result
+    ensures drafts { Drafts K.state request_changes request_gone (shown_beside (removals_of K.state data_table draft.old)) result
         draft.old draft.new }
 {
     call_laws::<K>();
@@ -132,7 +132,7 @@ fn judge<K: Keeper>(
     ensures what { DraftTells K.state draft.old draft.new
         → JudgesMessage message.now now (tables_of K.state draft.old) (tables_of K.state draft.new) result }
     ensures form { JudgesReply (message_in message.now) message.now.close result }
-    ensures drafts { Drafts K.state request_changes request_gone (request_shown + removals_of K.state data_table draft.old) result
+    ensures drafts { Drafts K.state request_changes request_gone (shown_beside (removals_of K.state data_table draft.old)) result
         draft.old draft.new }
 {
     draft_laws::<K>();

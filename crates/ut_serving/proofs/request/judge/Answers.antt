@@ -5,7 +5,7 @@ use Rattle.ut_keeper.specs.Tables.{Tables}
 use Rattle.ut_model.specs.Step.{key_in}
 use Rattle.ut_people.specs.People.{FindsCaller}
 use Rattle.ut_stands.specs.Calls.{ended}
-use Rattle.ut_step.specs.Own.{request_changes, request_gone, request_shown}
+use Rattle.ut_step.specs.Own.{request_changes, request_gone, shown_beside}
 use Rattle.ut_serving.specs.Own.{JudgesCaller}
 use Rattle.ut_serving.specs.Requests.{message_in}
 use Rattle.ut_serving.proofs.Judging.{judged_called, judged_uncalled}
@@ -21,7 +21,7 @@ returns-in-Ok-Some-clause-what g c told =
     let caller = c.in-Ok-Some.caller in
     let calls = c.caller_of.ensures.calls in
     let e = ended c.caller_of.result in
-    let first = c.draft_laws.ensures.told_first request_changes request_gone (request_shown + removals_of state data_table b) a b d c.judge_called.ensures.drafts.makes.works told in
+    let first = c.draft_laws.ensures.told_first request_changes request_gone (shown_beside (removals_of state data_table b)) a b d c.judge_called.ensures.drafts.makes.works told in
     let later = c.call_laws.ensures.told_then 0 e a b d calls first told in
     let same = c.call_laws.ensures.tables 0 e a b calls first in
     let judged = subst (λ (t : Tables). JudgesCaller caller m c.args.message.now.close c.args.now t (tables_of state d) c.judge_called.result) same (c.judge_called.ensures.what later) in

@@ -14,7 +14,7 @@ use Rattle.ut_exec.specs.declared.fail.ExecFail.TheVariants.{Store, TooLarge}
 use Rattle.ut_exec.specs.declared.offers.Progress.{Progress}
 use Rattle.ut_exec.specs.declared.window.Window.{Window}
 use Rattle.ut_exec.specs.Windows.{in_window, is_none_left, is_over}
-use Rattle.ut_exec.specs.inner.Offers.{Goes, Offered, Overflows}
+use Rattle.ut_exec.specs.inner.Offers.{WritesTaken, Offered, Overflows}
 
 pub empty_of : {X : Type 0} (xs : List X) → length xs ≤ 0 → xs ≡ []
 empty_of [] h = refl
@@ -73,14 +73,14 @@ none_taken w = ap (limited w.most) (none_dropped w.skip) ∙ by w.most
 -- ---- one after the other
 
 module _ (row : Record → List ℕ) where
-  pub goes_none : (p : Progress) (out : List ℕ) → Goes row p p out out []
+  pub goes_none : (p : Progress) (out : List ℕ) → WritesTaken row p p out out []
   goes_none p out = record { written = []; appended = sym (append-nil out); counted = omega arith; fits = omega arith; rest = λ rest. refl }
 
   -- a row that is admitted, and written
   pub goes_one : (p : Progress) (w : Window) (room count : ℕ) (r : Record) (old new : List ℕ) (b : Bool)
       → ((x : Record) (rest : List Record) → in_window p.window (x ∷ rest) ≡ cond b (x ∷ in_window w rest) (in_window w rest)) → b ≡ true
       → new ≡ old ++ row r → room + length (row r) ≡ p.room → count ≡ p.count + 1
-      → Goes row p (record { window = w; room = room; count = count }) old new (r ∷ [])
+      → WritesTaken row p (record { window = w; room = room; count = count }) old new (r ∷ [])
   goes_one p w room count r old new b admits taken appended fits counted = record {
     written = r ∷ [];
     appended = appended ∙ ap (λ (bytes : List ℕ). old ++ bytes) (sym (append-nil (row r)));
@@ -89,9 +89,9 @@ module _ (row : Record → List ℕ) where
     rest = λ rest. sym (admits r rest ∙ ap (λ b. cond b (r ∷ in_window w rest) (in_window w rest)) taken);
   }
 
-  module _ (a b : Progress) (old mid : List ℕ) (xs : List Record) (g : Goes row a b old mid xs) where
+  module _ (a b : Progress) (old mid : List ℕ) (xs : List Record) (g : WritesTaken row a b old mid xs) where
     -- further rows
-    pub goes_on : (c : Progress) (new : List ℕ) (ys : List Record) → Goes row b c mid new ys → Goes row a c old new (xs ++ ys)
+    pub goes_on : (c : Progress) (new : List ℕ) (ys : List Record) → WritesTaken row b c mid new ys → WritesTaken row a c old new (xs ++ ys)
     goes_on c new ys h =
         let both = flat_map-append row g.written h.written in
         let long = ap length both ∙ length-append (flat_map row g.written) (flat_map row h.written) in
@@ -106,7 +106,7 @@ module _ (row : Record → List ℕ) where
         }
 
     -- no further row is taken
-    pub goes_over : (ys : List Record) → is_over b.window ≡ true → Goes row a b old mid (xs ++ ys)
+    pub goes_over : (ys : List Record) → is_over b.window ≡ true → WritesTaken row a b old mid (xs ++ ys)
     goes_over ys over = record {
       written = g.written;
       appended = g.appended;
@@ -169,15 +169,15 @@ module _ {A : Type 0} (make : A → Option Record) where
 
   module _ (pick : List Record → List Record) (splits : (xs ys : List Record) → pick (xs ++ ys) ≡ pick xs ++ pick ys) (row : Record → List ℕ) where
     abbrev pub Offers : (a b : Progress) → (old new : List ℕ) → List Record → Type 0
-    Offers a b old new seen = Goes row a b old new (pick seen)
+    Offers a b old new seen = WritesTaken row a b old new (pick seen)
 
-    pub offers_more : (a b c : Progress) (old mid new : List ℕ) (xs ys : List Record) → Offers a b old mid xs → Goes row b c mid new (pick ys) → Offers a c old new (xs ++ ys)
-    offers_more a b c old mid new xs ys g h = subst (λ (rs : List Record). Goes row a c old new rs) (sym (splits xs ys)) (goes_on row a b old mid (pick xs) g c new (pick ys) h)
+    pub offers_more : (a b c : Progress) (old mid new : List ℕ) (xs ys : List Record) → Offers a b old mid xs → WritesTaken row b c mid new (pick ys) → Offers a c old new (xs ++ ys)
+    offers_more a b c old mid new xs ys g h = subst (λ (rs : List Record). WritesTaken row a c old new rs) (sym (splits xs ys)) (goes_on row a b old mid (pick xs) g c new (pick ys) h)
 
     module _ (a b : Progress) (old mid : List ℕ) (x : A) (more : List A) (page : List Record) (t : Through A make (Offers a b old mid) (x ∷ more) page) where
-      pub offered_over : is_over b.window ≡ true → Goes row a b old mid (pick page)
+      pub offered_over : is_over b.window ≡ true → WritesTaken row a b old mid (pick page)
       offered_over over =
-          subst (λ (rs : List Record). Goes row a b old mid rs) (sym (splits t.seen t.coming) ∙ ap pick t.split) (goes_over row a b old mid (pick t.seen) t.does (pick t.coming) over)
+          subst (λ (rs : List Record). WritesTaken row a b old mid rs) (sym (splits t.seen t.coming) ∙ ap pick t.split) (goes_over row a b old mid (pick t.seen) t.does (pick t.coming) over)
 
       pub offered_stops : (c : Progress) (new : List ℕ) (e : ExecFail) → ((r : Record) → make x ≡ Some r → Offered row b c mid new (pick (r ∷ [])) (Err e)) → Offered row a c old new (pick page) (Err e)
       offered_stops c new e h =
@@ -196,7 +196,7 @@ pub record AllWritten (row : Record → List ℕ) (a b : Progress) (old new : Li
   pub appended : new ≡ old ++ flat_map row rows
   pub fits : length (flat_map row rows) ≤ a.room
 
-pub all_written : (row : Record → List ℕ) (a b : Progress) (old new : List ℕ) (xs rest : List Record) → Goes row a b old new xs → in_window b.window rest ≡ [] → AllWritten row a b old new (in_window a.window (xs ++ rest))
+pub all_written : (row : Record → List ℕ) (a b : Progress) (old new : List ℕ) (xs rest : List Record) → WritesTaken row a b old new xs → in_window b.window rest ≡ [] → AllWritten row a b old new (in_window a.window (xs ++ rest))
 all_written row a b old new xs rest g none =
     let is : g.written ≡ in_window a.window (xs ++ rest) = sym (append-nil g.written) ∙ ap (λ (rs : List Record). g.written ++ rs) (sym none) ∙ g.rest rest in
     subst (AllWritten row a b old new) is (record { counted = g.counted; appended = g.appended; fits = omega (arith, g.fits) })

@@ -23,7 +23,7 @@ use Rattle.ut_stands.specs.declared.layout.Layout.{Layout}
 use Rattle.ut_stands.specs.Layouts.{FindsOf, records_after}
 use Rattle.ut_exec.specs.declared.pages.Pages.{Pages}
 use Rattle.ut_exec.specs.Written.{InTenants}
-use Rattle.ut_exec.specs.inner.Reading.{FindsPage, ReadsPage, Turns, beyond, last_of, pages_left}
+use Rattle.ut_exec.specs.inner.Reading.{FindsPage, ReadsPage, ReadsOn, beyond, last_of, pages_left}
 use Rattle.ut_exec.proofs.Offering.{each_cons, each_none}
 use Rattle.ut_exec.proofs.Paging.{Ascends, page_on}
 
@@ -120,7 +120,7 @@ module _ (l : Layout) (rs : List Record) (a b : Pages) (rows : List DataRow) (up
               let is : to ≡ from - 1 = left ∙ ap (λ (t : Bool). cond t 0 (from - 1)) e in
               omega (arith, full, is)
 
-  pub turns : Turns l rs a b rows
+  pub turns : ReadsOn l rs a b rows
   turns = record { page = page; read = read; on = on; enough = enough }
 
 -- ---- what was read

@@ -31,7 +31,7 @@ use Rattle.ut_exec.specs.declared.window.Window.{Window}
 use Rattle.ut_exec.specs.Fails.{ended_exec}
 use Rattle.ut_exec.specs.Windows.{in_window, is_over}
 use Rattle.ut_exec.specs.Written.{AppendsRows, IfDone, InTenants, WritesRows, most_shown, rows_kept, shown_for}
-use Rattle.ut_exec.specs.inner.Offers.{Goes, Offered}
+use Rattle.ut_exec.specs.inner.Offers.{WritesTaken, Offered}
 use Rattle.ut_exec.specs.inner.Reading.{ReadsPage, beyond}
 use Rattle.ut_exec.proofs.Offering.{all_written, empty_of, goes_on, none_taken, over_takes_none, stops}
 use Rattle.ut_exec.proofs.Paging.{beyond_none}
@@ -187,15 +187,15 @@ module _ {K : Type 0} (state : K → KeeperState) where
 
     -- those that are kept were offered
     abbrev pub Offers : Progress → (new : List ℕ) → List Record → Type 0
-    Offers p new seen = Goes row start p old new (filter keep seen)
+    Offers p new seen = WritesTaken row start p old new (filter keep seen)
 
     -- it stopped at one of these, whatever follows them
     abbrev pub Stopped : Progress → (new : List ℕ) → ExecFail → List Record → Type 0
     Stopped p new e seen = (rest : List Record) → Offered row start p old new (filter keep seen ++ rest) (Err e)
 
-    pub offers_more : (p c : Progress) (mid new : List ℕ) (seen page : List Record) → Offers p mid seen → Goes row p c mid new (filter keep page) → Offers c new (seen ++ page)
+    pub offers_more : (p c : Progress) (mid new : List ℕ) (seen page : List Record) → Offers p mid seen → WritesTaken row p c mid new (filter keep page) → Offers c new (seen ++ page)
     offers_more p c mid new seen page g h =
-        subst (λ (rs : List Record). Goes row start c old new rs) (sym (filter-append keep seen page)) (goes_on row start p old mid (filter keep seen) g c new (filter keep page) h)
+        subst (λ (rs : List Record). WritesTaken row start c old new rs) (sym (filter-append keep seen page)) (goes_on row start p old mid (filter keep seen) g c new (filter keep page) h)
 
     pub stops_at : (p c : Progress) (mid new : List ℕ) (e : ExecFail) (seen page : List Record) → Offers p mid seen → Offered row p c mid new (filter keep page) (Err e) → Stopped c new e (seen ++ page)
     stops_at p c mid new e seen page g h = λ rest.
@@ -232,7 +232,7 @@ module _ {K : Type 0} (state : K → KeeperState) where
     -- of all rows that were to be offered
 
     module _ (m : Tables) (chosen : Tenant → List Record) (xs : List Record) (are : InTenants l m (λ t. xs ≡ chosen t)) where
-      pub what_offered : (p : Progress) (new : List ℕ) → Goes row start p old new xs → WritesRows l (λ t. in_window w (chosen t)) row room old new m (Ok p.count)
+      pub what_offered : (p : Progress) (new : List ℕ) → WritesTaken row start p old new xs → WritesRows l (λ t. in_window w (chosen t)) row room old new m (Ok p.count)
       what_offered p new g = λ q t s h.
           let whole = all_written row start p old new xs [] g (none_taken p.window) in
           subst (λ (rs : List Record). AppendsRows row room (in_window w rs) old new p.count) (append-nil xs ∙ are q t s h)

@@ -39,7 +39,7 @@ use Rattle.ut_records.specs.declared.object.Counts.{Counts}
 use Rattle.ut_records.specs.inner.Judged.{admit_rules, limit_rule, others_rules}
 use Rattle.ut_records.specs.inner.Giving.{Alters, given_rules}
 use Rattle.ut_records.proofs.GivenRules.{alters_there}
-use Rattle.ut_records.specs.inner.Object.{AreOf}
+use Rattle.ut_records.specs.inner.Object.{CountsOf}
 use Rattle.ut_named.proofs.Facts.{pick}
 use Rattle.ut_named.proofs.Objects.{IsOn, Named}
 use Rattle.ut_named.proofs.Spelled.{its_layout, plain, spelled}
@@ -122,7 +122,7 @@ all_behind a o p new own =
 behind_plain : (a : Asked) (o : Numbered) (new : Record) → all_behind a o (plain o) new (validation_failed a o.object new None) ≡ behind a o new
 behind_plain a o new = refl
 
-pub admit_behind : (org : ℕ) (q : OrgPlan) (a : Asked) (o : Numbered) (l : Layout) (x : Counts) (new : Record) → IsObject org q a.tenant o l → AreOf org a.tenant o x
+pub admit_behind : (org : ℕ) (q : OrgPlan) (a : Asked) (o : Numbered) (l : Layout) (x : Counts) (new : Record) → IsObject org q a.tenant o l → CountsOf org a.tenant o x
     → admit_rules a l x new ≡ behind a o new
 admit_behind org q a o l x new at are =
     ap (λ (l : Layout). others_rules l (empty_record a (numbered_in l)) new a ++ limit_rule x.row x.object ∷ []) at.layout

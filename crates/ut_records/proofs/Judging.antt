@@ -27,7 +27,7 @@ use Rattle.ut_records.specs.declared.creating.Accepted.{Accepted}
 use Rattle.ut_records.specs.declared.object.Counts.{Counts}
 use Rattle.ut_records.specs.inner.Judged.{Accepts, Admits, admit_rules}
 use Rattle.ut_records.specs.inner.Giving.{Alters, given_rules}
-use Rattle.ut_records.specs.inner.Object.{AreOf, ReadsCounts}
+use Rattle.ut_records.specs.inner.Object.{CountsOf, ReadsCounts}
 use Rattle.ut_records.proofs.Accepting.{behind, behind_refused, first_stays, first_then, free_of, given_refused, refused_so}
 
 -- an object's number is one of so few
@@ -47,7 +47,7 @@ module _ (org : ℕ) (a : Asked) (o : Numbered) (key : Option Key) (given : List
   pub unread : (r : Result Counts StoreFail) (e : StoreFail) (out : Result Accepted EditFail) → ReadsCounts org a.tenant o r → r ≡ Err e → IsErrAnd out (λ y. y ≡ of_store e) → Accepts org a o key given out
   unread r e out h was is = passed (of_store e) out is (subst (ReadsCounts org a.tenant o) was h)
 
-  pub read_so : (r : Result Counts StoreFail) (x : Counts) → ReadsCounts org a.tenant o r → r ≡ Ok x → AreOf org a.tenant o x
+  pub read_so : (r : Result Counts StoreFail) (x : Counts) → ReadsCounts org a.tenant o r → r ≡ Ok x → CountsOf org a.tenant o x
   read_so r x h was = subst (ReadsCounts org a.tenant o) was h
 
   pub unproposed : (r : Result Record EditFail) (e : EditFail) → Alters a o.object key given (empty_record a o) r → r ≡ Err e → FailsBy (create_on a o key given) e

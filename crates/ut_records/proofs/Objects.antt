@@ -20,7 +20,7 @@ use Rattle.ut_stands.specs.Metadata.{org_of, row_of_object}
 use Rattle.ut_stands.specs.Plan.{OrgPlan}
 use Rattle.ut_records.specs.Creating.{IsObject}
 use Rattle.ut_records.specs.declared.object.Counts.{Counts}
-use Rattle.ut_records.specs.inner.Object.{AreOf, ReadsCounts}
+use Rattle.ut_records.specs.inner.Object.{CountsOf, ReadsCounts}
 
 pub read_failed : (org : ℕ) (t : Tenant) (o : Numbered) (e : StoreFail) (out : Result Counts StoreFail) → IsErrAnd out (λ y. y ≡ e) → e ≢ Damaged → ReadsCounts org t o out
 read_failed org t o e (Ok x) passed h = absurd passed
@@ -37,7 +37,7 @@ module _ (org : ℕ) (q : OrgPlan) (t : Tenant) (o : Numbered) (m : Tables) (s :
   unseen r e found was = not_missed org q m t (refuse t NotFound) r e was s (own_row org) (org_of org t) refl found
 
   pub are_of : (rows : Result OrgRow StoreFail) (row : OrgRow) (objects : Result ObjectRow StoreFail) (object : ObjectRow) → FindsThere org (own_row org) m rows → rows ≡ Ok row
-      → FindsThere org (own_object_row org l.object) m objects → objects ≡ Ok object → AreOf org t o (record { row = record row { org = org }; object = record object { org = org } })
+      → FindsThere org (own_object_row org l.object) m objects → objects ≡ Ok object → CountsOf org t o (record { row = record row { org = org }; object = record object { org = org } })
   are_of rows row objects object found was seen is = record {
     row = ap (λ (x : OrgRow). record x { org = org }) (some_is row (org_of org t) (subst (FindsThere org (own_row org) m) was found q (Some t) s));
     object = ap (λ (x : ObjectRow). record x { org = org }) (some_is object (row_of_object org t o.number o.object) (subst (FindsThere org (own_object_row org l.object) m) is seen q (Some t) s ∙ its_row));

@@ -52,7 +52,7 @@ fn has_valid_values(layout: &Layout, item: &Record) -> bool
     }
 }
 
-// The record, unless a required field is null. A value that isn't valid is damage, which isn't found where bodies are read well.
+// The record, unless a required field is null; or `Damaged` if a value isn't valid for its field's type.
 fn unless_missing(alloc: Global, layout: &Layout, new: Record) -> Result<Record, EditFail>
     requires { IsTrue (has_types layout.now) }
     ensures lacks { IsTrue (all_valid (kinds_in layout.now.fields) new.values) → Lacks (object_of_layout layout.now) new result }

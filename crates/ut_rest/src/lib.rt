@@ -9,10 +9,11 @@
 //! string, or they are out of memory.
 #![tactic(auto)]
 
+mod asking;
 mod kind;
 mod methods;
 mod place;
-mod queries;
+
 mod query;
 mod replies;
 mod requests;

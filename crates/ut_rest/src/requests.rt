@@ -12,7 +12,7 @@ ghost use Rattle.ut_step.specs.Built.{verdict_to};
 ghost use Rattle.ut_step.specs.Own.{IsAsking, request_changes, request_gone, shown_beside};
 ghost use Rattle.ut_value.specs.Dates.{is_moment};
 
-use crate::queries::answer_query;
+use crate::asking::answer_query;
 use crate::replies::{refuse_unbuilt, unchanged};
 use crate::routes::Routes;
 use http::Method;

@@ -18,7 +18,7 @@ Appends bytes room old new (Err (Store Memory)) = Unit {0}
 
 module _ (row : Record → List ℕ) where
   -- of the rows that were offered these were written; with those that are still to be taken they are all that were to be
-  pub record Goes (from to : Progress) (old new : List ℕ) (offered : List Record) : Type 0 where
+  pub record WritesTaken (from to : Progress) (old new : List ℕ) (offered : List Record) : Type 0 where
     pub written : List Record
     pub appended : new ≡ old ++ flat_map row written
     pub counted : to.count ≡ from.count + length written
@@ -30,7 +30,7 @@ module _ (row : Record → List ℕ) where
   Overflows from offered = (rest : List Record) → from.room < length (flat_map row (in_window from.window (offered ++ rest)))
 
   abbrev pub Offered : (from to : Progress) → (old new : List ℕ) → (offered : List Record) → Result (Unit {0}) ExecFail → Type 0
-  Offered from to old new offered (Ok x) = Goes from to old new offered
+  Offered from to old new offered (Ok x) = WritesTaken from to old new offered
   Offered from to old new offered (Err TooLarge) = Overflows from offered
   Offered from to old new offered (Err (Store Damaged)) = ⊥
   Offered from to old new offered (Err (Store Keeper)) = ⊥

@@ -36,7 +36,7 @@ abbrev pub pages_left : ℕ → List DataRow → ℕ
 pages_left left rows = if nat_lt (length rows) 250 then 0 else left - 1
 
 -- these rows are a page of these records, whose ids rise; if so many pages were enough before, they are enough after it
-pub record Turns (l : Layout) (rs : List Record) (old new : Pages) (rows : List DataRow) : Type 0 where
+pub record ReadsOn (l : Layout) (rs : List Record) (old new : Pages) (rows : List DataRow) : Type 0 where
   pub page : List Record
   pub read : each_from (record_from l) rows ≡ Some page
   pub on : page ++ beyond new.after rs ≡ beyond old.after rs
@@ -44,7 +44,7 @@ pub record Turns (l : Layout) (rs : List Record) (old new : Pages) (rows : List 
 
 -- a page was read
 abbrev pub ReadsPage : {A : Type 0} → Layout → (old new : Pages) → Tables → Result (Vec DataRow A) StoreFail → Type 0
-ReadsPage l old new m (Ok rows) = (length rows.items ≤ 250) × InTenants l m (λ t. Turns l (records_of t l.object) old new rows.items)
+ReadsPage l old new m (Ok rows) = (length rows.items ≤ 250) × InTenants l m (λ t. ReadsOn l (records_of t l.object) old new rows.items)
 ReadsPage l old new m (Err Damaged) = InTenants l m (λ t. ⊥)
 ReadsPage l old new m (Err Keeper) = Unit {0}
 ReadsPage l old new m (Err Memory) = Unit {0}

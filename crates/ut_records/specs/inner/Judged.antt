@@ -29,7 +29,7 @@ use Rattle.ut_stands.specs.declared.layout.Layout.{Layout}
 use Rattle.ut_records.specs.Creating.{new_record}
 use Rattle.ut_records.specs.declared.creating.Accepted.{Accepted}
 use Rattle.ut_records.specs.declared.object.Counts.{Counts}
-use Rattle.ut_records.specs.inner.Object.{AreOf, FitsCounts, HasRoom, object_with, row_with}
+use Rattle.ut_records.specs.inner.Object.{CountsOf, FitsCounts, HasRoom, object_with, row_with}
 
 -- ---- rules
 
@@ -60,7 +60,7 @@ Admits a l x new (Err (Store e)) = e ≢ Damaged
 
 -- the record that a create makes, which no rule refuses
 pub record IsAccepted (org : ℕ) (a : Asked) (o : Numbered) (key : Option Key) (given : List Assignment) (x : Accepted) : Type 0 where
-  pub counts : AreOf org a.tenant o x.counts
+  pub counts : CountsOf org a.tenant o x.counts
   pub new : x.new ≡ new_record a o (with_key key given)
   pub free : None ≡ first_refusal (create_rules a o key given x.new)
 

@@ -14,13 +14,13 @@ use Rattle.ut_records.specs.declared.object.Counts.{Counts}
 -- ---- what was read
 
 -- they are those of this object in this tenant
-pub record AreOf (org : ℕ) (t : Tenant) (o : Numbered) (x : Counts) : Type 0 where
+pub record CountsOf (org : ℕ) (t : Tenant) (o : Numbered) (x : Counts) : Type 0 where
   pub row : x.row ≡ org_of org t
   pub object : x.object ≡ row_of_object org t o.number o.object
 
 -- the same, or why the work on the tables stopped
 abbrev pub ReadsCounts : (org : ℕ) → Tenant → Numbered → Result Counts StoreFail → Type 0
-ReadsCounts org t o (Ok x) = AreOf org t o x
+ReadsCounts org t o (Ok x) = CountsOf org t o x
 ReadsCounts org t o (Err e) = e ≢ Damaged
 
 -- they have spellings

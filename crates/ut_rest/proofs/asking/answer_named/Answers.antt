@@ -11,7 +11,7 @@ use Rattle.ut_stands.specs.Layouts.{own_layout_named}
 use Rattle.ut_stands.specs.Local.{FindsIn, StandsIn}
 use Rattle.ut_step.specs.Own.{shown_beside}
 use Rattle.ut_rest.proofs.Named.{asked_of, found_by, nothing_answered, search_failed}
-use Rattle.ut_rest.proofs.queries.answer_named.Goals as goal
+use Rattle.ut_rest.proofs.asking.answer_named.Goals as goal
 
 pub returns-in-Ok-Some-clause-what : goal.returns-in-Ok-Some-clause-what
 returns-in-Ok-Some-clause-what g c told p a s admin now flat none =

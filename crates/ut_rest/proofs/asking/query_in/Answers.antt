@@ -1,7 +1,7 @@
 use Rattle.std.proofs.Common.{◌≡◌, ℕ, List, subst, ◌∙◌}
 use Rattle.ut_grammar.specs.Place.{UnlessMemory}
 use Rattle.ut_soql_grammar.specs.Spelling.{reads_query}
-use Rattle.ut_rest.proofs.queries.query_in.Goals as goal
+use Rattle.ut_rest.proofs.asking.query_in.Goals as goal
 
 pub returns : goal.returns
 returns c =

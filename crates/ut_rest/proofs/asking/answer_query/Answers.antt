@@ -8,7 +8,7 @@ use Rattle.ut_soql_grammar.specs.Spelling.{reads_query}
 use Rattle.ut_step.specs.Built.{query_verdict}
 use Rattle.ut_rest.specs.inner.Answers.{AnswersBy}
 use Rattle.ut_rest.proofs.Named.{refused_so}
-use Rattle.ut_rest.proofs.queries.answer_query.Goals as goal
+use Rattle.ut_rest.proofs.asking.answer_query.Goals as goal
 
 pub returns-in-Ok-clause-what : goal.returns-in-Ok-clause-what
 returns-in-Ok-clause-what g c told p a s admin at =

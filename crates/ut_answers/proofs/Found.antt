@@ -1,77 +1,73 @@
 -- What a plan finds is what its query finds.
-use Rattle.std.proofs.Common.{◌≡◌, ◌∙◌, ◌<◌, ◌≤◌, arith, length, subst, Result, Ok, Err, inl, inr, ℕ, zero, suc, Bool, true, false, ◌&&◌, cond, IsTrue, List, [], ◌∷◌, ◌++◌, map, filter, take, drop, Option, Some, None, refl, sym, ap, slice_get}
+use Rattle.std.proofs.Common.{◌≡◌, ◌∙◌, ◌<◌, ◌≤◌, arith, length, subst, Result, Ok, Err, inl, inr, ℕ, zero, suc, Bool, true, false, cond, IsTrue, List, [], ◌∷◌, ◌++◌, map, filter, take, drop, Option, Some, None, refl, sym, ap, slice_get}
 use Rattle.std.proofs.lemmas.Bool.{eqb-true}
-use Rattle.std.specs.Prelude.{nat_lt, unwrap_or, ℤ}
-use Rattle.std.specs.Option.{option_map}
-use Rattle.std.specs.Str.{encode_utf8_all}
 use Rattle.std.proofs.lemmas.Bool.Decides.{nat_tests}
 use Rattle.std.proofs.lemmas.List.{length-map}
 use Rattle.std.proofs.lemmas.Str.{encodes-append}
-use Rattle.ut_keeper.specs.Tables.{Tables}
-use Rattle.ut_keys.specs.declared.fail.StoreFail.{StoreFail}
-use Rattle.ut_keys.specs.declared.fail.StoreFail.TheVariants.{Damaged, Memory}
-use Rattle.std.specs.declared.cmp.Ordering.TheVariants.{Less}
+use Rattle.std.specs.Prelude.{◌⊎◌, nat_lt, ℤ}
+use Rattle.std.specs.Option.{option_map}
+use Rattle.std.specs.Ordering.{is_lt}
+use Rattle.std.specs.Str.{encode_utf8_all}
 use Rattle.std.specs.List.{AllByRecursion, flat_map, list_all}
 use Rattle.std.specs.List.Sorted.{IsStrictlySortedBy}
+use Rattle.std.specs.declared.cmp.Ordering.{Ordering}
+use Rattle.std.specs.declared.cmp.Ordering.TheVariants.{Less}
+use Rattle.ut_keeper.specs.Tables.{Tables}
+use Rattle.ut_keys.specs.declared.fail.StoreFail.{StoreFail}
+use Rattle.ut_keys.specs.declared.fail.StoreFail.TheVariants.{Damaged, Keeper, Memory}
 use Rattle.ut_value.specs.Printing.{is_printable}
 use Rattle.ut_value.specs.declared.value.Value.{Value}
 use Rattle.ut_value.specs.declared.value.Value.TheVariants as value
 use Rattle.ut_formula.specs.Meaning.{value_at}
-use Rattle.ut_query.specs.declared.query.Item.{Item}
-use Rattle.ut_query.specs.declared.query.Item.TheVariants as item
-use Rattle.ut_query.specs.declared.query.OrderKey.{OrderKey}
 use Rattle.ut_query.specs.declared.query.Query.{Query}
-use Rattle.ut_model.specs.Asking.{ask, query_rules, spelled_path}
-use Rattle.ut_model.specs.Cases.{in_case, with_before}
-use Rattle.ut_model.specs.Conditions.{satisfies}
+use Rattle.ut_model.specs.Asking.{ask, query_rules}
+use Rattle.ut_model.specs.Cases.{in_case}
 use Rattle.ut_model.specs.Fields.{Site, value_in, its_id, its_owner, its_created, its_modified, value_site}
 use Rattle.ut_model.specs.Known.{known}
+use Rattle.ut_model.specs.Limits.{reply_limit}
 use Rattle.ut_model.specs.Membership.{Has}
 use Rattle.ut_model.specs.Objects.{Numbered, is_of, object_named, object_number, object_numbered, object_of_record, records_of}
-use Rattle.ut_model.specs.Ordered.{before, by_id, in_order}
-use Rattle.ut_model.specs.Paths.{Asked, field_value}
-use Rattle.ut_model.specs.Rows.{chosen, found, limited, readable_of}
-use Rattle.ut_model.specs.Limits.{reply_limit}
+use Rattle.ut_model.specs.Ordered.{before, by_id, in_order, put_in}
+use Rattle.ut_model.specs.Paths.{Asked}
 use Rattle.ut_model.specs.Replies.{json_reply, reply_of, unless_too_large}
-use Rattle.ut_model.specs.Step.{refusal_reply}
-use Rattle.ut_model.specs.declared.reply.Reply.{Reply}
-use Rattle.ut_model.specs.RowsJson.{RowJson, found_json, rows_json, field_name, item_member, member_json, object_json, object_name, path_member, row_json, row_within, value_json}
+use Rattle.ut_model.specs.Rows.{found, limited, readable_of}
+use Rattle.ut_model.specs.RowsJson.{attributes, found_json, rows_json, member_json, object_json, object_name, row_json, value_json}
 use Rattle.ut_model.specs.Rules.{Rule, first_refusal}
 use Rattle.ut_model.specs.Sound.{IsSound}
 use Rattle.ut_model.specs.SoundRecords.{IsSoundRecord}
+use Rattle.ut_model.specs.Step.{refusal_reply}
 use Rattle.ut_model.specs.Tenant.{Object, Tenant}
 use Rattle.ut_model.specs.Verdict.{Verdict, accept, judged, refuse, rows_of, unless}
 use Rattle.ut_model.specs.declared.record.Record.{Record}
 use Rattle.ut_model.specs.declared.refusal.Refusal.{Refusal}
 use Rattle.ut_model.specs.declared.refusal.Refusal.TheVariants.{InvalidType, ReplyTooLarge}
+use Rattle.ut_model.specs.declared.reply.Reply.{Reply}
 use Rattle.ut_bind.specs.Checks.{site_of, takes}
-use Rattle.ut_step.specs.Flat.{is_flat, is_flat_item, is_flat_test, has_one_name}
-use Rattle.ut_model.specs.Tests.{tests}
-use Rattle.ut_bind.specs.Plans.{Means, ShownValue, selected_value, shown_value}
+use Rattle.ut_bind.specs.Plans.{Means, by_keys, planned, shown_json, shown_value}
 use Rattle.ut_bind.specs.declared.plan.Plan.{Plan}
 use Rattle.ut_bind.specs.declared.plan.Shown.{Shown}
-use Rattle.ut_exec.specs.Written.{AppendsRows, InTenants, WritesRows, rows_kept}
+use Rattle.ut_bind.specs.declared.plan.SortKey.{SortKey}
+use Rattle.ut_step.specs.Flat.{is_flat}
+use Rattle.ut_exec.specs.Ranks.{by_rank}
+use Rattle.ut_exec.specs.Written.{AppendsRows, InTenants, WritesRows, rows_kept, rows_sorted}
 use Rattle.ut_exec.specs.declared.fail.ExecFail.{ExecFail}
-use Rattle.ut_exec.specs.declared.fail.ExecFail.TheVariants.{TooLarge}
+use Rattle.ut_exec.specs.declared.fail.ExecFail.TheVariants.{Store, TooLarge}
+use Rattle.ut_exec.specs.declared.window.Window.{Window}
 use Rattle.ut_replies.specs.Names.{name_attributes}
 use Rattle.ut_replies.specs.Rows.{behind_commas}
 use Rattle.ut_replies.proofs.Bodies.{longer}
+use Rattle.ut_replies.proofs.Lists.{all_at, kept_from, left, right, same_map}
 use Rattle.ut_stands.specs.Layouts.{IsLayout, layout_of, own_layout}
 use Rattle.ut_stands.specs.Plan.{OrgPlan}
 use Rattle.ut_stands.specs.declared.layout.Layout.{Layout}
-use Rattle.ut_replies.proofs.Lists.{all_at, kept_from, left, right, same_map}
 use Rattle.ut_answers.specs.Answers.{AnswersBy, IsAskedOf, Refuses}
-use Rattle.ut_answers.specs.inner.Found.{AnswersPlan, plan_reply, window_of}
+use Rattle.ut_answers.specs.Ranks.{rank_by, rank_cmp}
+use Rattle.ut_answers.specs.inner.Found.{AnswersPlan, plan_reply, plan_rows, rows_by, window_of}
 use Rattle.ut_answers.specs.inner.Rows.{cell_of, row_text}
+use Rattle.ut_answers.proofs.Ranking.{in_order_alike, rank_is_order}
 use Rattle.ut_answers.proofs.Written.{member_text}
 
 -- ---- lists
-
-kept_alike : (p q : Record → Bool) (rs : List Record) → ((r : Record) → Has rs r → p r ≡ q r) → filter p rs ≡ filter q rs
-kept_alike p q [] h = refl
-kept_alike p q (r ∷ rs) h =
-    ap (λ (b : Bool). cond b (r ∷ filter p rs) (filter p rs)) (h r (inl refl))
-    ∙ ap (λ (xs : List Record). cond (q r) (r ∷ xs) xs) (kept_alike p q rs (λ x m. h x (inr m)))
 
 all_kept : (P : Record → Type 0) (p : Record → Bool) (rs : List Record) → AllByRecursion P rs → AllByRecursion P (filter p rs)
 all_kept P p [] h = tt
@@ -105,6 +101,30 @@ has_limited : (most : Option ℕ) (rs : List Record) (r : Record) → Has (limit
 has_limited None rs r m = m
 has_limited (Some n) rs r m = has_taken n rs r m
 
+has_put : (f : Record → Record → Ordering) (x : Record) (rs : List Record) (r : Record) → Has (put_in f x rs) r → (r ≡ x) ⊎ Has rs r
+has_put f x [] r (inl e) = inl e
+has_put f x [] r (inr m) = absurd m
+has_put f x (y ∷ rs) r m = by (is_lt (f x y)) (has_put f x rs r) m
+  where
+    along : (r ≡ x) ⊎ Has rs r → (r ≡ x) ⊎ Has (y ∷ rs) r
+    along (inl e) = inl e
+    along (inr k) = inr (inr k)
+
+    by : (b : Bool) → (Has (put_in f x rs) r → (r ≡ x) ⊎ Has rs r) → Has (cond b (x ∷ y ∷ rs) (y ∷ put_in f x rs)) r → (r ≡ x) ⊎ Has (y ∷ rs) r
+    by true more (inl e) = inl e
+    by true more (inr k) = inr k
+    by false more (inl e) = inr (inl e)
+    by false more (inr k) = along (more k)
+
+has_ordered : (f : Record → Record → Ordering) (rs : List Record) (r : Record) → Has (in_order f rs) r → Has rs r
+unfolding in_order
+has_ordered f [] r m = absurd m
+has_ordered f (x ∷ rs) r m = along (has_put f x (in_order f rs) r m) (has_ordered f rs r)
+  where
+    along : (r ≡ x) ⊎ Has (in_order f rs) r → (Has (in_order f rs) r → Has rs r) → Has (x ∷ rs) r
+    along (inl e) more = inl e
+    along (inr k) more = inr (more k)
+
 -- ---- the values of a record can be printed
 
 printable_at : (vs : List Value) (n : ℕ) → list_all is_printable vs ≡ true → is_printable (value_at vs n) ≡ true
@@ -134,42 +154,13 @@ module _ (t : Tenant) (r : Record) (sound : IsSound t) (has : Has t.records r) (
   cell_is s = ap (λ (b : Bool). cond b (value_in (site_of s.site) r) value.Null) (site_printable (site_of s.site))
 
   -- what is shown, as texts
-  cells_are : (shown : List Shown) → map member_text (map (λ (s : Shown). (s.name, cell_of r s)) shown) ≡ map (λ (m : ShownValue). member_json m.name (value_json m.value)) (map (shown_value r) shown)
+  cells_are : (shown : List Shown) → map member_text (map (λ (s : Shown). (s.name, cell_of r s)) shown) ≡ map (λ (s : Shown). shown_json (shown_value r s)) shown
   cells_are [] = refl
   cells_are (s ∷ shown) =
       ap (λ (v : Value). member_json s.name (value_json v) ∷ map member_text (map (λ (s : Shown). (s.name, cell_of r s)) shown)) (cell_is s)
-      ∙ ap (λ (ts : List (List ℕ)). member_json s.name (value_json (value_in (site_of s.site) r)) ∷ ts) (cells_are shown)
+      ∙ ap (λ (ts : List (List ℕ)). shown_json (shown_value r s) ∷ ts) (cells_are shown)
 
--- ---- the members of a row
-
-module _ (write : RowJson) (a : Asked) (r : Record) (all : List Item) where
-  path_one : (selected_before : List Item) (names : List (List ℕ)) → has_one_name names ≡ true
-      → path_member write a r all selected_before names ≡ member_json (field_name a r (spelled_path names)) (value_json (field_value a.tenant r (spelled_path names))) ∷ []
-  path_one selected_before [] e = absurd cc
-  path_one selected_before (name ∷ []) e = refl
-  path_one selected_before (name ∷ next ∷ names) e = absurd cc
-
-  item_one : (selected_before : List Item) (x : Item) → is_flat_item x ≡ true
-      → item_member write a r all selected_before x ≡ member_json (selected_value a r x).name (value_json (selected_value a r x).value) ∷ []
-  item_one selected_before (item.Path p) e = path_one selected_before p.names e
-  item_one selected_before (item.Child paths tail) e = absurd cc
-
-  items_are : (selected_before items : List Item) → list_all is_flat_item items ≡ true
-      → flat_map (λ x. item_member write a r all x.before x.it) (with_before selected_before items) ≡ map (λ (m : ShownValue). member_json m.name (value_json m.value)) (map (selected_value a r) items)
-  items_are selected_before [] e = refl
-  items_are selected_before (x ∷ xs) e =
-      ap (λ (ts : List (List ℕ)). ts ++ flat_map (λ x. item_member write a r all x.before x.it) (with_before (x ∷ selected_before) xs))
-      (item_one selected_before x (left (is_flat_item x) (list_all is_flat_item xs) e))
-      ∙ ap (λ (ts : List (List ℕ)). member_json (selected_value a r x).name (value_json (selected_value a r x).value) ∷ ts)
-      (items_are (x ∷ selected_before) xs (right (is_flat_item x) (list_all is_flat_item xs) e))
-
-flat_items : (q : Query) → is_flat q ≡ true → list_all is_flat_item q.select ≡ true
-flat_items q flat =
-    let items = list_all is_flat_item q.select in
-    let condition = list_all is_flat_test (tests q.tail.condition) in
-    left items condition (left (items && condition) (list_all (λ (k : OrderKey). has_one_name k.path.names) q.tail.order) flat)
-
--- ---- what the model's laws say
+-- ---- what other crates' laws say
 
 pub record Laws : Type 0 where
   pub readable : (a : Asked) (n : ℕ) → IsSound a.tenant → a.user.admin ≡ true → readable_of a n ≡ records_of a.tenant n
@@ -177,6 +168,10 @@ pub record Laws : Type 0 where
   pub already : (a : Asked) (rs : List Record) → IsStrictlySortedBy by_id rs → in_order (before a []) rs ≡ rs
   pub named : (t : Tenant) (name : List ℕ) (o : Numbered) → object_named t name ≡ Some o → object_numbered t o.number ≡ Some o.object
   pub printable : Printable
+  pub found : (a : Asked) (q : Query) (o : Numbered) (p : Plan) → object_named a.tenant q.tail.from ≡ Some o → readable_of a o.number ≡ records_of a.tenant o.number → Means a o.number q p
+      → planned p (records_of a.tenant o.number) ≡ found a q
+  pub row : (a : Asked) (n : ℕ) (q : Query) (p : Plan) (r : Record) → is_flat q ≡ true → Means a n q p → Has (records_of a.tenant n) r
+      → row_json a r q.select ≡ object_json (attributes a r ∷ map (λ s. shown_json (shown_value r s)) p.shown)
 
 module _ (laws : Laws) (a : Asked) (q : Query) (o : Numbered) (named : object_named a.tenant q.tail.from ≡ Some o) (sound : IsSound a.tenant) (admin : a.user.admin ≡ true) where
   abbrev rs : List Record
@@ -185,22 +180,18 @@ module _ (laws : Laws) (a : Asked) (q : Query) (o : Numbered) (named : object_na
   -- ---- which records
 
   module _ (plan : Plan) (means : Means a o.number q plan) where
-    abbrev rows : List Record
-    rows = rows_kept (window_of plan) (takes plan.check) o.number a.tenant
+    abbrev kept : List Record
+    kept = filter (takes plan.check) rs
 
-    pub unordered : q.tail.order ≡ [] → rows ≡ found a q
-    unfolding found
-    unordered none =
-        ap (λ (xs : List Record). limited plan.most (drop plan.skip xs)) (kept_alike (takes plan.check) (satisfies a q.tail.condition) rs means.rows)
-        ∙ ap (λ (xs : List Record). limited plan.most (drop plan.skip xs)) (sym (laws.already a (filter (satisfies a q.tail.condition) rs) (kept_rise (satisfies a q.tail.condition) rs (laws.rise a.tenant o.number sound))))
-        ∙ ap (λ (ks : List OrderKey). limited plan.most (drop plan.skip (in_order (before a ks) (filter (satisfies a q.tail.condition) rs)))) (sym none)
-        ∙ ap (λ (n : Option ℕ). limited n (drop plan.skip (in_order (before a q.tail.order) (filter (satisfies a q.tail.condition) rs)))) means.most
-        ∙ ap (λ (n : ℕ). limited q.tail.limit (drop n (in_order (before a q.tail.order) (filter (satisfies a q.tail.condition) rs)))) means.skip
-        ∙ ap (chosen a q.tail (unwrap_or q.offset 0)) (sym (laws.readable a o.number sound admin))
-        ∙ ap (λ (x : Option Numbered). in_case x [] (λ o. chosen a q.tail (unwrap_or q.offset 0) (readable_of a o.number))) (sym named)
+    ordered : (ks : List SortKey) → rows_by ks (window_of plan) (takes plan.check) o.number a.tenant ≡ limited plan.most (drop plan.skip (in_order (by_keys ks) kept))
+    ordered [] = ap (λ (xs : List Record). limited plan.most (drop plan.skip xs)) (sym (laws.already a kept (kept_rise (takes plan.check) rs (laws.rise a.tenant o.number sound))))
+    ordered (k ∷ ks) = refl
 
-    has_row : (r : Record) → Has rows r → Has rs r
-    has_row r m = (kept_from (takes plan.check) rs r (has_dropped plan.skip (filter (takes plan.check) rs) r (has_limited plan.most (drop plan.skip (filter (takes plan.check) rs)) r m))).0
+    pub rows_found : plan_rows plan o.number a.tenant ≡ found a q
+    rows_found = ordered plan.order ∙ laws.found a q o plan named (laws.readable a o.number sound admin) means
+
+    has_row : (ks : List SortKey) (r : Record) → Has (limited plan.most (drop plan.skip (in_order (by_keys ks) kept))) r → Has rs r
+    has_row ks r m = (kept_from (takes plan.check) rs r (has_ordered (by_keys ks) kept r (has_dropped plan.skip (in_order (by_keys ks) kept) r (has_limited plan.most (drop plan.skip (in_order (by_keys ks) kept)) r m)))).0
 
     -- ---- a row
 
@@ -209,14 +200,14 @@ module _ (laws : Laws) (a : Asked) (q : Query) (o : Numbered) (named : object_na
         let h = kept_from (is_of o.number) a.tenant.records r m in
         let at : object_of_record a.tenant r ≡ Some o.object = ap (slice_get a.tenant.objects) (eqb-true (object_number r.id) o.number h.1) ∙ laws.named a.tenant q.tail.from o named in
         let called : object_name a r ≡ o.object.name = ap (λ (x : Option Object). in_case x [] (λ v. v.name)) at in
-        let selected = flat_items q flat in
-        let texts = map (λ (m : ShownValue). member_json m.name (value_json m.value)) in
-        ap (λ (ts : List (List ℕ)). object_json (name_attributes o.object.name r.id ∷ ts))
-        (cells_are a.tenant r sound h.0 laws.printable plan.shown ∙ ap texts (means.shown r m) ∙ sym (items_are (row_within 6 a) a r q.select [] q.select selected))
-        ∙ ap (λ (name : List ℕ). object_json (name_attributes name r.id ∷ flat_map (λ x. item_member (row_within 6 a) a r q.select x.before x.it) (with_before [] q.select))) (sym called)
+        ap (λ (ts : List (List ℕ)). object_json (name_attributes o.object.name r.id ∷ ts)) (cells_are a.tenant r sound h.0 laws.printable plan.shown)
+        ∙ ap (λ (name : List ℕ). object_json (name_attributes name r.id ∷ map (λ (s : Shown). shown_json (shown_value r s)) plan.shown)) (sym called)
+        ∙ sym (laws.row a o.number q plan r flat means m)
 
-    pub texts_are : is_flat q ≡ true → map (row_text o.object.name plan.shown) rows ≡ map (λ r. row_json a r q.select) rows
-    texts_are flat = same_map (row_text o.object.name plan.shown) (λ r. row_json a r q.select) rows (λ r m. row_is flat r (has_row r m))
+    pub texts_are : is_flat q ≡ true → map (row_text o.object.name plan.shown) (plan_rows plan o.number a.tenant) ≡ map (λ r. row_json a r q.select) (plan_rows plan o.number a.tenant)
+    texts_are flat =
+        same_map (row_text o.object.name plan.shown) (λ r. row_json a r q.select) (plan_rows plan o.number a.tenant)
+        (λ r m. row_is flat r (has_row plan.order r (subst (λ (xs : List Record). Has xs r) (ordered plan.order) m)))
 
   -- ---- the verdict
 
@@ -233,21 +224,36 @@ module _ (laws : Laws) (a : Asked) (q : Query) (o : Numbered) (named : object_na
 
 -- ---- the reply
 
-row_bytes : (f : Record → List ℕ) (rs : List Record) → flat_map (λ r. encode_utf8_all (44 ∷ f r)) rs ≡ encode_utf8_all (behind_commas (map f rs))
-row_bytes f [] = refl
-row_bytes f (r ∷ rs) =
-    ap (λ (t : List ℕ). encode_utf8_all (44 ∷ f r) ++ t) (row_bytes f rs) ∙ sym (encodes-append (44 ∷ f r) (behind_commas (map f rs)))
+bytes_of_rows : (f : Record → List ℕ) (rs : List Record) → flat_map (λ r. encode_utf8_all (44 ∷ f r)) rs ≡ encode_utf8_all (behind_commas (map f rs))
+bytes_of_rows f [] = refl
+bytes_of_rows f (r ∷ rs) =
+    ap (λ (t : List ℕ). encode_utf8_all (44 ∷ f r) ++ t) (bytes_of_rows f rs) ∙ sym (encodes-append (44 ∷ f r) (behind_commas (map f rs)))
+
+-- rows that are written for one list are written for another that is the same
+module _ (l : Layout) (row : Record → List ℕ) (room : ℕ) (old new : List ℕ) (m : Tables) (one other : Tenant → List Record) (same : (t : Tenant) → one t ≡ other t) where
+  pub written_alike : (r : Result ℕ ExecFail) → WritesRows l one row room old new m r → WritesRows l other row room old new m r
+  written_alike (Ok count) h = λ q t s i. subst (λ (xs : List Record). AppendsRows row room xs old new count) (same t) (h q t s i)
+  written_alike (Err TooLarge) h = λ q t s i. subst (λ (xs : List Record). room < length (flat_map row xs)) (same t) (h q t s i)
+  written_alike (Err (Store Damaged)) h = h
+  written_alike (Err (Store Keeper)) h = tt
+  written_alike (Err (Store Memory)) h = tt
+
+-- with some keys
+pub in_keys : (keys : List SortKey) (w : Window) (keep : Record → Bool) (n : ℕ) → (length keys ≡ 0 → ⊥) → (t : Tenant) → rows_sorted w (by_rank rank_cmp (rank_by keys)) keep n t ≡ rows_by keys w keep n t
+in_keys [] w keep n some t = absurd (some refl)
+in_keys (k ∷ ks) w keep n some t =
+    ap (λ (xs : List Record). limited w.most (drop w.skip xs)) (in_order_alike (by_rank rank_cmp (rank_by (k ∷ ks))) (by_keys (k ∷ ks)) (rank_is_order (k ∷ ks)) (filter keep (records_of t n)))
 
 -- these rows were written
 pub rows_so : (l : Layout) (p : Plan) (t : Tenant) (shown : List Shown) (reply : Reply) (old out rows : List ℕ) (count room : ℕ) → shown ≡ p.shown → old ≡ []
-    → AppendsRows (λ r. encode_utf8_all (44 ∷ row_text l.name shown r)) room (rows_kept (window_of p) (takes p.check) l.object t) old out count
+    → AppendsRows (λ r. encode_utf8_all (44 ∷ row_text l.name shown r)) room (plan_rows p l.object t) old out count
     → rows ≡ out
     → ((texts : List (List ℕ)) → count ≡ length texts → rows ≡ encode_utf8_all (behind_commas texts) → reply ≡ unless_too_large (json_reply 200 (rows_json texts)))
     → reply ≡ plan_reply l p t
 rows_so l p t shown reply old out rows count room so empty appends same makes =
-    let found = rows_kept (window_of p) (takes p.check) l.object t in
+    let found = plan_rows p l.object t in
     makes (map (row_text l.name shown) found) (appends.counted ∙ sym (length-map found (row_text l.name shown)))
-    (same ∙ appends.appended ∙ ap (λ (w : List ℕ). w ++ flat_map (λ r. encode_utf8_all (44 ∷ row_text l.name shown r)) found) empty ∙ row_bytes (row_text l.name shown) found)
+    (same ∙ appends.appended ∙ ap (λ (w : List ℕ). w ++ flat_map (λ r. encode_utf8_all (44 ∷ row_text l.name shown r)) found) empty ∙ bytes_of_rows (row_text l.name shown) found)
     ∙ ap (λ (xs : List Shown). unless_too_large (json_reply 200 (rows_json (map (row_text l.name xs) found)))) so
 
 limit_passed : (n m : ℕ) → reply_limit < n → n ≤ m → nat_lt reply_limit m ≡ true
@@ -255,25 +261,26 @@ limit_passed n m a b = grind (arith, nat_tests)
 
 -- they are too large
 too_large : (l : Layout) (p : Plan) (t : Tenant)
-    → reply_limit < length (flat_map (λ r. encode_utf8_all (44 ∷ row_text l.name p.shown r)) (rows_kept (window_of p) (takes p.check) l.object t))
+    → reply_limit < length (flat_map (λ r. encode_utf8_all (44 ∷ row_text l.name p.shown r)) (plan_rows p l.object t))
     → plan_reply l p t ≡ refusal_reply ReplyTooLarge
 too_large l p t over =
-    let found = rows_kept (window_of p) (takes p.check) l.object t in
+    let found = plan_rows p l.object t in
     let texts = map (row_text l.name p.shown) found in
-    let more : reply_limit < length (encode_utf8_all (behind_commas texts)) = subst (λ (bytes : List ℕ). reply_limit < length bytes) (row_bytes (row_text l.name p.shown) found) over in
+    let more : reply_limit < length (encode_utf8_all (behind_commas texts)) = subst (λ (bytes : List ℕ). reply_limit < length bytes) (bytes_of_rows (row_text l.name p.shown) found) over in
     ap (λ (b : Bool). cond b (refusal_reply ReplyTooLarge) (json_reply 200 (rows_json texts)))
     (limit_passed (length (encode_utf8_all (behind_commas texts))) (length (encode_utf8_all (rows_json texts))) more (longer texts))
 
 pub too_large_so : (l : Layout) (p : Plan) (m : Tables) (shown : List Shown) (r : Result Reply StoreFail) → shown ≡ p.shown → Refuses ReplyTooLarge r
-    → InTenants l m (λ t. reply_limit < length (flat_map (λ r. encode_utf8_all (44 ∷ row_text l.name shown r)) (rows_kept (window_of p) (takes p.check) l.object t)))
+    → InTenants l m (λ t. reply_limit < length (flat_map (λ r. encode_utf8_all (44 ∷ row_text l.name shown r)) (plan_rows p l.object t)))
     → AnswersPlan l p m r
 too_large_so l p m shown (Ok r) so is over = λ q t s i.
-    is ∙ sym (too_large l p t (subst (λ (xs : List Shown). reply_limit < length (flat_map (λ r. encode_utf8_all (44 ∷ row_text l.name xs r)) (rows_kept (window_of p) (takes p.check) l.object t))) so (over q t s i)))
+    is ∙ sym (too_large l p t (subst (λ (xs : List Shown). reply_limit < length (flat_map (λ r. encode_utf8_all (44 ∷ row_text l.name xs r)) (plan_rows p l.object t))) so (over q t s i)))
 too_large_so l p m shown (Err e) so is over = λ q t s i. λ d. apart (sym is ∙ d)
   where
     apart : Memory ≡ Damaged → ⊥
     apart d = cc
 
+-- what was written is so however the bytes of a row are spelled
 pub written_so : (l : Layout) (rows : Tenant → List Record) (row : Record → List ℕ) (room : ℕ) (old new : List ℕ) (m : Tables) (r : Result ℕ ExecFail) → r ≡ Err TooLarge
     → WritesRows l rows row room old new m r → InTenants l m (λ t. room < length (flat_map row (rows t)))
 written_so l rows row room old new m r is h = subst (WritesRows l rows row room old new m) is h
@@ -304,7 +311,7 @@ module _ (laws : Laws) (l : Layout) (moment : ℤ) (q : Query) (m : Tables) (p :
       let at : first_refusal (query_rules a.tenant asked.object.number q) ≡ Some why = ap (λ (n : ℕ). first_refusal (query_rules a.tenant n q)) (sym number) ∙ sym e in
       subst (λ (v : Verdict). AnswersBy a v result) (sym (refused laws a q asked.object asked.named asked.stands.sound asked.admin why at)) (refused_so a why result is)
 
-  module _ (plan : Plan) (means : Means a l.object q plan) (free : first_refusal (query_rules a.tenant l.object q) ≡ None) (flat : is_flat q ≡ true) (none : q.tail.order ≡ []) where
+  module _ (plan : Plan) (means : Means a l.object q plan) (free : first_refusal (query_rules a.tenant l.object q) ≡ None) (flat : is_flat q ≡ true) where
     o : Numbered
     o = asked.object
 
@@ -314,11 +321,11 @@ module _ (laws : Laws) (l : Layout) (moment : ℤ) (q : Query) (m : Tables) (p :
     reply_is : plan_reply l plan a.tenant ≡ unless_too_large (json_reply 200 (found_json a q))
     unfolding found_json
     reply_is =
-        let rows = rows_kept (window_of plan) (takes plan.check) asked.object.number a.tenant in
+        let rows = plan_rows plan asked.object.number a.tenant in
         ap (λ (x : Layout). plan_reply x plan a.tenant) asked.its
         ∙ ap (λ (ts : List (List ℕ)). unless_too_large (json_reply 200 (rows_json ts)))
         (texts_are laws a q asked.object asked.named asked.stands.sound asked.admin plan by_number flat
-        ∙ ap (map (λ r. row_json a r q.select)) (unordered laws a q asked.object asked.named asked.stands.sound asked.admin plan by_number none))
+        ∙ ap (map (λ r. row_json a r q.select)) (rows_found laws a q asked.object asked.named asked.stands.sound asked.admin plan by_number))
 
     verdict_is : ask a q ≡ accept (rows_of q) a.tenant
     verdict_is = accepted laws a q asked.object asked.named asked.stands.sound asked.admin (ap (λ (n : ℕ). first_refusal (query_rules a.tenant n q)) (sym number) ∙ free)

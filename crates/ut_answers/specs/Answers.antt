@@ -1,6 +1,6 @@
 -- Answers that change nothing.
 -- Source of the status: RFC 9110, 15.3.1, of 200.
-use Rattle.std.specs.Prelude.{◌≡◌, ◌≢◌, ◌⊎◌, [], true, IsTrue, Some, Result, Ok, Err, ℤ}
+use Rattle.std.specs.Prelude.{◌≡◌, ◌≢◌, ◌⊎◌, true, IsTrue, Some, Result, Ok, Err, ℤ}
 use Rattle.ut_keeper.specs.Tables.{Tables}
 use Rattle.ut_keys.specs.declared.fail.StoreFail.{StoreFail}
 use Rattle.ut_keys.specs.declared.fail.StoreFail.TheVariants.{Damaged, Memory}
@@ -43,6 +43,6 @@ pub record IsAskedOf (l : Layout) (moment : ℤ) (q : Query) (m : Tables) (p : O
   pub admin : a.user.admin ≡ true
   pub now : a.now ≡ moment
 
--- the reply to a flat query of this object, without ORDER BY
+-- the reply to a flat query of this object
 abbrev pub AnswersFlat : Layout → (moment : ℤ) → Query → Tables → Result Reply StoreFail → Type 0
-AnswersFlat l moment q m result = (p : OrgPlan) (a : Asked) → IsAskedOf l moment q m p a → is_flat q ≡ true → q.tail.order ≡ [] → AnswersBy a (ask a q) result
+AnswersFlat l moment q m result = (p : OrgPlan) (a : Asked) → IsAskedOf l moment q m p a → is_flat q ≡ true → AnswersBy a (ask a q) result

@@ -3,22 +3,25 @@
 ghost use Rattle.std.specs.Prelude.{◌≡◌, ℕ, List, IfErr, IfOk, length};
 ghost use Rattle.std.specs.Str.{encode_utf8_all};
 ghost use Rattle.ut_answers.specs.Answers.{AnswersFlat, IsReadReply, Refuses};
-ghost use Rattle.ut_answers.specs.inner.Found.{AnswersPlan};
-ghost use Rattle.ut_exec.specs.Written.{most_shown};
+ghost use Rattle.ut_answers.specs.inner.Found.{AnswersPlan, row_bytes, plan_rows};
+ghost use Rattle.ut_exec.specs.Fails.{ended_exec};
+ghost use Rattle.ut_exec.specs.Written.{WritesRows, most_shown};
 ghost use Rattle.ut_keeper.specs.Draft.{DraftTells, removals_of, tables_of};
 ghost use Rattle.ut_keys.specs.declared.fail.StoreFail.TheVariants.{Memory};
+ghost use Rattle.ut_model.specs.Limits.{reply_limit};
 ghost use Rattle.ut_model.specs.Replies.{json_reply, unless_too_large};
 ghost use Rattle.ut_model.specs.RowsJson.{rows_json};
 ghost use Rattle.ut_replies.specs.Rows.{behind_commas};
 ghost use Rattle.ut_stands.specs.Calls.{Calls, ended};
 
+use crate::ranks::ByKeys;
 use crate::rows::JsonRows;
 use crate::test::Holding;
 use http::StatusCode;
 use std::alloc::{AllocError, Global};
-use ut_bind::{Plan, bind, query_refusal};
+use ut_bind::{Plan, bind, plan_laws, query_refusal};
 use ut_data::data_laws;
-use ut_exec::{ExecFail, Window, write_rows};
+use ut_exec::{ExecFail, Window, write_rows, write_sorted_rows};
 use ut_keeper::{Draft, Keeper};
 use ut_keys::StoreFail;
 use ut_model::{REPLY_LIMIT, Refusal, Reply, administrator_laws, object_laws, record_laws};
@@ -59,6 +62,45 @@ fn rows_reply(alloc: Global, count: usize, rows: &[u8]) -> Result<Reply, AllocEr
     }
 }
 
+// Appends the rows of a plan, and returns how many they are.
+fn write_planned<K: Keeper>(
+    alloc: Global,
+    draft: &mut Draft<'_, K>,
+    layout: &Layout,
+    plan: &Plan,
+    form: &JsonRows<'_>,
+    out: &mut Vec<u8>,
+) -> Result<usize, ExecFail>
+    ensures what { DraftTells K.state draft.old draft.new
+        → WritesRows layout.now (plan_rows plan.now layout.now.object) (row_bytes form.now) reply_limit out.old.items out.new.items
+        (tables_of K.state draft.old) result }
+    ensures calls { Calls K.state (most_shown (removals_of K.state 7 draft.old)) (ended_exec result) draft.old draft.new }
+{
+    call_laws::<K>();
+    let keeps = Holding { check: &plan.check };
+    let keys = plan.order.as_slice();
+    let window = Window {
+        skip: plan.skip,
+        most: plan.most,
+    };
+    if keys.is_empty() {
+        write_rows(alloc, draft, layout, &keeps, form, window, REPLY_LIMIT, out)
+    } else {
+        let ranks = ByKeys { keys };
+        write_sorted_rows(
+            alloc,
+            draft,
+            layout,
+            &keeps,
+            &ranks,
+            form,
+            window,
+            REPLY_LIMIT,
+            out,
+        )
+    }
+}
+
 // The reply that has the rows of a plan.
 fn answer_plan<K: Keeper>(
     alloc: Global,
@@ -71,26 +113,12 @@ fn answer_plan<K: Keeper>(
     ensures calls { Calls K.state (most_shown (removals_of K.state 7 draft.old)) (ended result) draft.old draft.new }
 {
     call_laws::<K>();
-    let keeps = Holding { check: &plan.check };
     let form = JsonRows {
         object: &layout.name,
         shown: plan.shown.as_slice(),
     };
-    let window = Window {
-        skip: plan.skip,
-        most: plan.most,
-    };
     let mut rows = Vec::new(alloc);
-    match write_rows(
-        alloc,
-        draft,
-        layout,
-        &keeps,
-        &form,
-        window,
-        REPLY_LIMIT,
-        &mut rows,
-    ) {
+    match write_planned(alloc, draft, layout, plan, &form, &mut rows) {
         Ok(count) => match rows_reply(alloc, count, rows.as_slice()) {
             Ok(reply) => Ok(reply),
             Err(_) => Err(StoreFail::Memory),
@@ -121,6 +149,7 @@ pub fn answer_flat<K: Keeper>(
     administrator_laws();
     data_laws();
     object_laws();
+    plan_laws();
     record_laws();
     if let Some(refusal) = query_refusal(alloc, layout, query)? {
         return refuse(alloc, refusal);

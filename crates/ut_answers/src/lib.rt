@@ -6,6 +6,7 @@
 #![tactic(auto)]
 
 mod answer;
+mod ranks;
 mod rows;
 mod test;
 

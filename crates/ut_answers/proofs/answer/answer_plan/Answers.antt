@@ -5,9 +5,10 @@ use Rattle.ut_answers.proofs.answer.answer_plan.Goals as goal
 
 pub returns-in-Ok-rows_reply-clause-what : goal.returns-in-Ok-rows_reply-clause-what
 returns-in-Ok-rows_reply-clause-what g c told q t s i =
-    rows_so c.args.layout.now c.args.plan.now t c.as_slice.result.now c.in-Ok-rows_reply.reply c.new-rows.result.items c.write_rows.new.out.items c.as_slice-in-Ok.result.now c.in-Ok.count _
+    rows_so c.args.layout.now c.args.plan.now t c.as_slice.result.now c.in-Ok-rows_reply.reply c.new-rows.result.items c.write_planned.new.out.items c.as_slice-in-Ok.result.now c.in-Ok.count _
     c.as_slice.ensures c.new-rows.ensures.items (c.in-Ok.ensures.what told q t s i) c.as_slice-in-Ok.ensures.value c.in-Ok-rows_reply.ensures.value
 
 pub returns-in-Err-TooLarge-clause-what : goal.returns-in-Err-TooLarge-clause-what
 returns-in-Err-TooLarge-clause-what g c told =
-    too_large_so c.args.layout.now c.args.plan.now (tables_of g.K.Keeper.state c.args.draft.now) c.as_slice.result.now c.refuse.result c.as_slice.ensures c.refuse.ensures.value (written_so c.args.layout.now _ _ _ _ _ (tables_of g.K.Keeper.state c.args.draft.now) c.write_rows.result (c.in-Err-TooLarge.is ∙ ap Err c.in-Err-TooLarge.field-0-is) (c.write_rows.ensures.what told))
+    too_large_so c.args.layout.now c.args.plan.now (tables_of g.K.Keeper.state c.args.draft.now) c.as_slice.result.now c.refuse.result c.as_slice.ensures c.refuse.ensures.value
+    (written_so c.args.layout.now _ _ _ _ _ (tables_of g.K.Keeper.state c.args.draft.now) c.write_planned.result (c.in-Err-TooLarge.is ∙ ap Err c.in-Err-TooLarge.field-0-is) (c.write_planned.ensures.what told))

@@ -1,0 +1,185 @@
+//! What rows are ordered by.
+
+ghost use Rattle.std.specs.Cmp.{eq_by_cmp_equiv, partial_equiv_from_equiv, partial_order_from_agreeing_total};
+ghost use Rattle.std.specs.Ordering.{eq_by_cmp};
+ghost use Rattle.std.specs.Prelude.{◌≡◌, IfOk, Some, map, refl};
+ghost use Rattle.ut_answers.specs.Ranks.{part_cmp, part_in, part_of, parts_total, rank_by, rank_cmp, rank_total, side_of};
+ghost use Rattle.ut_bind.specs.Checks.{site_of};
+ghost use Rattle.ut_model.specs.Fields.{value_in};
+
+use std::alloc::{AllocError, Global};
+use std::cmp::Ordering;
+use ut_bind::{HeldValue, Site, SortKey, value_at};
+use ut_exec::Ranks;
+use ut_model::Record;
+use ut_value::{Items, Value, order};
+
+/// What is compared of a record by one key: the nulls that come first, values that rise or fall, the nulls that come last.
+#[derive(Drop)]
+pub(crate) enum Part {
+    First,
+    Up(Value),
+    Down(Value),
+    Last,
+}
+
+/// What is compared of a record by all keys.
+#[derive(Drop)]
+pub(crate) struct Rank {
+    pub parts: Items<Part>,
+}
+
+impl Part {
+    fn side(&self) -> u8
+        ensures { result ≡ side_of self.now }
+    {
+        match self {
+            Part::First => 0,
+            Part::Up(_) => 1,
+            Part::Down(_) => 2,
+            Part::Last => 3,
+        }
+    }
+}
+
+impl PartialEq for Part {
+    ghost eq = { eq_by_cmp part_cmp };
+
+    ghost laws = { partial_equiv_from_equiv (eq_by_cmp_equiv parts_total) };
+
+    fn eq(&self, other: &Part) -> bool {
+        self.cmp(other).is_eq()
+    }
+}
+
+impl Eq for Part {
+    ghost laws = { eq_by_cmp_equiv parts_total };
+}
+
+impl PartialOrd for Part {
+    ghost partial_cmp = { λ x y. Some (part_cmp x y) };
+
+    ghost laws = { partial_order_from_agreeing_total part_cmp parts_total (λ x y. refl) (λ x y. refl) };
+
+    fn partial_cmp(&self, other: &Part) -> Option<Ordering> {
+        Some(self.cmp(other))
+    }
+}
+
+impl Ord for Part {
+    ghost cmp = { part_cmp };
+
+    ghost total = { parts_total };
+
+    ghost matches_partial_cmp = { λ x y. refl };
+
+    ghost matches_eq = { λ x y. refl };
+
+    fn cmp(&self, other: &Part) -> Ordering {
+        match (self, other) {
+            (Part::Up(own), Part::Up(others)) => order(own, others),
+            (Part::Down(own), Part::Down(others)) => order(others, own),
+            _ => self.side().cmp(&other.side()),
+        }
+    }
+}
+
+impl PartialEq for Rank {
+    ghost eq = { eq_by_cmp rank_cmp };
+
+    ghost laws = { partial_equiv_from_equiv (eq_by_cmp_equiv rank_total) };
+
+    fn eq(&self, other: &Rank) -> bool {
+        self.cmp(other).is_eq()
+    }
+}
+
+impl Eq for Rank {
+    ghost laws = { eq_by_cmp_equiv rank_total };
+}
+
+impl PartialOrd for Rank {
+    ghost partial_cmp = { λ x y. Some (rank_cmp x y) };
+
+    ghost laws = { partial_order_from_agreeing_total rank_cmp rank_total (λ x y. refl) (λ x y. refl) };
+
+    fn partial_cmp(&self, other: &Rank) -> Option<Ordering> {
+        Some(self.cmp(other))
+    }
+}
+
+impl Ord for Rank {
+    ghost cmp = { rank_cmp };
+
+    ghost total = { rank_total };
+
+    ghost matches_partial_cmp = { λ x y. refl };
+
+    ghost matches_eq = { λ x y. refl };
+
+    fn cmp(&self, other: &Rank) -> Ordering {
+        self.parts.as_slice().cmp(other.parts.as_slice())
+    }
+}
+
+// A copy of the value that a record has at a site.
+fn value_of(alloc: Global, item: &Record, site: Site) -> Result<Value, AllocError>
+    ensures { IfOk result (λ v. v ≡ value_in (site_of site) item.now) }
+{
+    match value_at(item, site) {
+        HeldValue::Made(value) => Ok(value),
+        HeldValue::There(value) => value.copy(alloc),
+    }
+}
+
+// What a key compares of a value.
+fn part_of(key: &SortKey, value: Value) -> Part
+    ensures { result ≡ part_of key.now value }
+{
+    match value {
+        Value::Null => {
+            if key.nulls_last {
+                Part::Last
+            } else {
+                Part::First
+            }
+        }
+        value => {
+            if key.descending {
+                Part::Down(value)
+            } else {
+                Part::Up(value)
+            }
+        }
+    }
+}
+
+fn parts_of(alloc: Global, keys: &[SortKey], item: &Record) -> Result<Vec<Part>, AllocError>
+    ensures { IfOk result (λ parts. parts.items ≡ map (part_in item.now) keys.now) }
+{
+    let mut parts = Vec::new(alloc);
+    for key in keys {
+        let value = value_of(alloc, item, key.site)?;
+        parts.push(part_of(key, value))?;
+    }
+    Ok(parts)
+}
+
+/// By the keys of a plan.
+#[derive(Drop)]
+pub(crate) struct ByKeys<'a> {
+    pub keys: &'a [SortKey],
+}
+
+impl Ranks for ByKeys<'_> {
+    type Rank = Rank;
+
+    ghost ranked = { λ by r. rank_by by.keys.now r };
+
+    fn rank_of(&self, alloc: Global, item: &Record) -> Result<Rank, AllocError> {
+        let parts = parts_of(alloc, self.keys, item)?;
+        Ok(Rank {
+            parts: Items::from_vec(parts),
+        })
+    }
+}

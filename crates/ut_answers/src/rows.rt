@@ -8,7 +8,7 @@ ghost use Rattle.ut_model.specs.RowsJson.{member_json, value_json};
 ghost use Rattle.ut_value.specs.Printing.{is_printable};
 
 use std::alloc::{AllocError, Global};
-use ut_bind::{Shown, Site};
+use ut_bind::{HeldValue, Shown, value_at};
 use ut_exec::RowForm;
 use ut_json::Writer;
 use ut_model::Record;
@@ -51,18 +51,9 @@ fn write_cell(
     ensures { OnOk result (writer.new ≡ writer.old ++ encode_utf8_all (44 ∷ cell_json item.now shown.now)) }
 {
     let name = shown.name.as_str();
-    match shown.site {
-        Site::Id => write_member(alloc, writer, name, &Value::Ref(item.id)),
-        Site::Owner => match item.owner {
-            Some(owner) => write_member(alloc, writer, name, &Value::Ref(owner)),
-            None => write_member(alloc, writer, name, &Value::Null),
-        },
-        Site::Created => write_member(alloc, writer, name, &Value::Moment(item.created)),
-        Site::Modified => write_member(alloc, writer, name, &Value::Moment(item.modified)),
-        Site::Value(position) => match item.values.as_slice().get(usize::from(position)) {
-            Some(value) => write_member(alloc, writer, name, value),
-            None => write_member(alloc, writer, name, &Value::Null),
-        },
+    match value_at(item, shown.site) {
+        HeldValue::Made(value) => write_member(alloc, writer, name, &value),
+        HeldValue::There(value) => write_member(alloc, writer, name, value),
     }
 }
 

@@ -10,7 +10,3 @@ paths_word = refl
 pub route_word : chars (codes "route") ≡ codes "route"
 unfolding chars
 route_word = refl
-
-pub order_word : chars (codes "order") ≡ codes "order"
-unfolding chars
-order_word = refl

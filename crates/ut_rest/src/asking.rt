@@ -1,6 +1,6 @@
 //! Queries of one object.
 
-ghost use Rattle.std.specs.Prelude.{◌≡◌, [], IfOk, IsTrue, None, Ok, Some, pos, true};
+ghost use Rattle.std.specs.Prelude.{◌≡◌, IfOk, IsTrue, None, Ok, Some, pos, true};
 ghost use Rattle.std.specs.Str.{chars};
 ghost use Rattle.ut_answers.specs.Answers.{AnswersBy, IsReadReply, Refuses};
 ghost use Rattle.ut_grammar.specs.Place.{UnlessMemory};
@@ -55,7 +55,7 @@ fn answer_named<K: Keeper>(
 ) -> Result<Reply, StoreFail>
     ensures what { DraftTells K.state draft.old draft.new
         → (p : OrgPlan) (a : Asked) → StandsIn org p (tables_of K.state draft.old) (Some a.tenant) → a.user.admin ≡ true
-        → a.now ≡ now → is_flat query.now ≡ true → query.now.tail.order ≡ [] → AnswersBy a (ask a query.now) result }
+        → a.now ≡ now → is_flat query.now ≡ true → AnswersBy a (ask a query.now) result }
     ensures form { IfOk result IsReadReply }
     ensures calls { Calls K.state (shown_beside (removals_of K.state data_table draft.old)) (ended result) draft.old draft.new }
 {
@@ -85,8 +85,8 @@ fn refuse_malformed(alloc: Global, place: usize) -> Result<Reply, StoreFail>
     refuse(alloc, Refusal::MalformedQuery { place })
 }
 
-// Answers a query that was read. Those with paths of several names, with subqueries or with an order, and those of who is no
-// administrator, aren't built.
+// Answers a query that was read. Those with paths of several names or with subqueries, and those of who is no administrator, aren't
+// built.
 fn answer_read<K: Keeper>(
     alloc: Global,
     draft: &mut Draft<'_, K>,
@@ -103,8 +103,6 @@ fn answer_read<K: Keeper>(
     call_laws::<K>();
     if !is_flat(query) {
         refuse_unbuilt(alloc, "paths")
-    } else if !query.tail.order.as_slice().is_empty() {
-        refuse_unbuilt(alloc, "order")
     } else if caller.admin {
         answer_named(alloc, draft, caller.org, now, query)
     } else {

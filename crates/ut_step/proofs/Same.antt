@@ -10,7 +10,6 @@ use Rattle.ut_model.specs.declared.route.Route.{Route}
 use Rattle.ut_model.specs.declared.route.Route.TheVariants as route
 use Rattle.ut_model.specs.declared.routed.Routed.{Routed}
 use Rattle.ut_model.specs.declared.routed.Routed.TheVariants.{To, NotFound, NotAllowed}
-use Rattle.ut_model.specs.Asking.{no_order}
 use Rattle.ut_step.specs.Flat.{is_flat}
 use Rattle.ut_model.specs.Callers.{Named, caller_of}
 use Rattle.ut_model.specs.Cases.{in_case}
@@ -25,7 +24,7 @@ use Rattle.ut_model.specs.Tenant.{Job, Tenant, User}
 use Rattle.ut_model.specs.Verdict.{Verdict, refuse}
 use Rattle.ut_model.specs.Whole.{answered_whole}
 use Rattle.ut_model.specs.World.{World, tenant_at, user_at, with_tenant}
-use Rattle.ut_step.specs.Built.{answer_built, answered, asking, built_request, background, built_verdict, flat_verdict, is_built, query_verdict, step, stepped, verdict_to}
+use Rattle.ut_step.specs.Built.{answer_built, answered, asking, built_request, background, built_verdict, is_built, query_verdict, step, stepped, verdict_to}
 use Rattle.ut_soql_grammar.specs.Spelling.{reads_query}
 use Rattle.ut_step.specs.Whole.{IsBuilt, NoJobs, whole_step}
 
@@ -62,19 +61,14 @@ module _ (a : Asked) (body : List ℕ) where
   same_query (Err place) ok = refl
   same_query (Ok q) ok = flat (is_flat q) ok
     where
-      none : (b : Bool) → IsAllowed (cond b (verdict_or a (query_or (Ok q))) (refuse a.tenant (refusal.NotBuilt (codes "route"))))
+      by : (b : Bool) → IsAllowed (cond b (verdict_or a (query_or (Ok q))) (refuse a.tenant (refusal.NotBuilt (codes "route"))))
           → cond b (verdict_or a (query_or (Ok q))) (refuse a.tenant (refusal.NotBuilt (codes "route"))) ≡ verdict_or a (query_or (Ok q))
-      none true ok = refl
-      none false ok = absurd (ok refl)
+      by true ok = refl
+      by false ok = absurd (ok refl)
 
-      order : (b : Bool) → IsAllowed (cond b (cond a.user.admin (verdict_or a (query_or (Ok q))) (refuse a.tenant (refusal.NotBuilt (codes "route")))) (refuse a.tenant (refusal.NotBuilt (codes "order"))))
-          → cond b (cond a.user.admin (verdict_or a (query_or (Ok q))) (refuse a.tenant (refusal.NotBuilt (codes "route")))) (refuse a.tenant (refusal.NotBuilt (codes "order"))) ≡ verdict_or a (query_or (Ok q))
-      order true ok = none a.user.admin ok
-      order false ok = absurd (ok refl)
-
-      flat : (b : Bool) → IsAllowed (cond b (flat_verdict a q) (refuse a.tenant (refusal.NotBuilt (codes "paths"))))
-          → cond b (flat_verdict a q) (refuse a.tenant (refusal.NotBuilt (codes "paths"))) ≡ verdict_or a (query_or (Ok q))
-      flat true ok = order (no_order q.tail.order) ok
+      flat : (b : Bool) → IsAllowed (cond b (cond a.user.admin (verdict_or a (query_or (Ok q))) (refuse a.tenant (refusal.NotBuilt (codes "route")))) (refuse a.tenant (refusal.NotBuilt (codes "paths"))))
+          → cond b (cond a.user.admin (verdict_or a (query_or (Ok q))) (refuse a.tenant (refusal.NotBuilt (codes "route")))) (refuse a.tenant (refusal.NotBuilt (codes "paths"))) ≡ verdict_or a (query_or (Ok q))
+      flat true ok = by a.user.admin ok
       flat false ok = absurd (ok refl)
 
   -- of an administrator; any other's isn't built

@@ -11,7 +11,6 @@ use Rattle.ut_model.specs.declared.route.Route.{Route}
 use Rattle.ut_model.specs.declared.route.Route.TheVariants as route
 use Rattle.ut_model.specs.declared.routed.Routed.{Routed}
 use Rattle.ut_model.specs.declared.routed.Routed.TheVariants.{To, NotFound, NotAllowed}
-use Rattle.ut_model.specs.Asking.{no_order}
 use Rattle.ut_model.specs.Cases.{in_case}
 use Rattle.ut_model.specs.Paths.{Asked}
 use Rattle.ut_model.specs.Replies.{reply_of}
@@ -44,16 +43,13 @@ built_request r body = if is_built r then request_of r body else Err (refusal.No
 
 -- ---- queries
 
--- of queries those over one object without ORDER BY are built, of administrators
-abbrev pub flat_verdict : Asked → Query → Verdict
-flat_verdict a q =
-    if no_order q.tail.order
-    then (if a.user.admin then verdict_on a (asks q) else refuse a.tenant (refusal.NotBuilt (codes "route")))
-    else refuse a.tenant (refusal.NotBuilt (codes "order"))
-
+-- of queries those over one object are built, of administrators
 abbrev pub query_verdict : Asked → Result Query ℕ → Verdict
 query_verdict a (Err place) = refuse a.tenant (refusal.MalformedQuery place)
-query_verdict a (Ok q) = if is_flat q then flat_verdict a q else refuse a.tenant (refusal.NotBuilt (codes "paths"))
+query_verdict a (Ok q) =
+    if is_flat q
+    then (if a.user.admin then verdict_on a (asks q) else refuse a.tenant (refusal.NotBuilt (codes "route")))
+    else refuse a.tenant (refusal.NotBuilt (codes "paths"))
 
 -- ---- a caller's message
 

@@ -66,13 +66,11 @@ pub fn step_rows()
     // What `whole_laws` takes as given can be met.
     ensures built { NoJobs acme × IsBuilt acme (asks_by (codes "q=SELECT+Id,Name+FROM+Deal__c")) 0 }
 
-    // A word of the language is no name; of queries those with paths or ORDER BY aren't built.
+    // A word of the language is no name; of queries those with paths aren't built.
     ensures no_query { step acme (asks_by (codes "q=SELECT+Id,Name+FROM+Limit")) 0
         ≡ (refusal_reply (refusal.MalformedQuery 20), acme) }
     ensures with_path { step acme (asks_by (codes "q=SELECT+Id,Up__r.Name+FROM+Deal__c")) 0
         ≡ (refusal_reply (refusal.NotBuilt (codes "paths")), acme) }
-    ensures with_order { step acme (asks_by (codes "q=SELECT+Id+FROM+Deal__c+ORDER+BY+Id")) 0
-        ≡ (refusal_reply (refusal.NotBuilt (codes "order")), acme) }
 {
     answering_laws();
 }

@@ -14,7 +14,7 @@ use Rattle.ut_rest.proofs.Named.{asked_of, found_by, nothing_answered, search_fa
 use Rattle.ut_rest.proofs.asking.answer_named.Goals as goal
 
 pub returns-in-Ok-Some-clause-what : goal.returns-in-Ok-Some-clause-what
-returns-in-Ok-Some-clause-what g c told p a s admin now flat none =
+returns-in-Ok-Some-clause-what g c told p a s admin now flat =
     let state = g.K.Keeper.state in
     let x = c.args.draft.now in
     let b = c.layout_named.new.draft in
@@ -27,7 +27,7 @@ returns-in-Ok-Some-clause-what g c told p a s admin now flat none =
     c.answer_flat.ensures.what tell.1 p a
     (asked_of c.args.org _ q (tables_of state b) p a l (subst (λ (t : Tables). StandsIn c.args.org p t (Some a.tenant)) (sym tell.2) s)
     (subst (λ (t : Tables). FindsIn c.args.org (own_layout_named c.args.org q.tail.from) t (Ok (Some l))) (sym tell.2) there) admin (now ∙ sym (to_z-of_z w64 c.args.now c.ranges.now)))
-    flat none
+    flat
 
 pub returns-in-Ok-Some-clause-calls : goal.returns-in-Ok-Some-clause-calls
 returns-in-Ok-Some-clause-calls g c =
@@ -43,14 +43,14 @@ returns-in-Ok-Some-clause-calls g c =
     (c.call_laws.ensures.then 0 (shown_beside between) (ended c.answer_flat.result) x b d (subst (λ r. Calls state 0 (ended r) x b) c.in-Ok-Some.is c.layout_named.ensures.calls) c.answer_flat.ensures.calls)
 
 pub returns-in-Ok-None-clause-what : goal.returns-in-Ok-None-clause-what
-returns-in-Ok-None-clause-what g c told p a s admin now flat none =
+returns-in-Ok-None-clause-what g c told p a s admin now flat =
     let m = tables_of g.K.Keeper.state c.args.draft.now in
     let q = c.args.query.now in
     let there = found_by c.args.org m _ q.tail.from c.layout_named.result None c.as_str.ensures.characters (c.in-Ok-None.is ∙ ap Ok c.in-Ok-None.field-0-is) (c.layout_named.ensures.finds told) in
     nothing_answered c.args.org a q p m c.refuse_object.result s there c.refuse_object.ensures.value
 
 pub returns-in-Err-clause-what : goal.returns-in-Err-clause-what
-returns-in-Err-clause-what g c told p a s admin now flat none =
+returns-in-Err-clause-what g c told p a s admin now flat =
     let m = tables_of g.K.Keeper.state c.args.draft.now in
     let value = own_layout_named c.args.org (chars c.as_str.result.now) in
     search_failed c.args.org value a (ask a c.args.query.now) p m c.in-Err.fail s (subst (FindsIn c.args.org value m) c.in-Err.is (c.layout_named.ensures.finds told))

@@ -67,10 +67,3 @@ returns-clause-with_path c =
     let m = asks_by (codes "q=SELECT+Id,Up__r.Name+FROM+Deal__c") in
     c.answering_laws.ensures.called answered acme m 0 who (found acme (codes "00D000000000001!005000000000000AAA!abc!d") named (fresh (codes "Acme") (sha256 (codes "abc!d"))) (administrator (codes "Acme") (sha256 (codes "abc!d"))) refl refl refl (itself (sha256 (codes "abc!d"))))
     ∙ refl
-
-pub returns-clause-with_order : goal.returns-clause-with_order
-unfolding who named step reading_queries object_named cut id_in number_in number62 made digits routed lines split query_text raw_pairs utf8_lossy percent_decode utf8_valid_len is_utf8
-returns-clause-with_order c =
-    let m = asks_by (codes "q=SELECT+Id+FROM+Deal__c+ORDER+BY+Id") in
-    c.answering_laws.ensures.called answered acme m 0 who (found acme (codes "00D000000000001!005000000000000AAA!abc!d") named (fresh (codes "Acme") (sha256 (codes "abc!d"))) (administrator (codes "Acme") (sha256 (codes "abc!d"))) refl refl refl (itself (sha256 (codes "abc!d"))))
-    ∙ refl

@@ -1,28 +1,30 @@
 -- The records of an object that is found by its name, and the reply that has them.
-use Rattle.std.proofs.Common.{◌≡◌, ℕ, true, List, [], ◌∷◌, map, filter, take, Option, Some, None, Result, Ok, Err, refl, sym, ap, subst, ◌∙◌}
-use Rattle.std.specs.Prelude.{ℤ}
+use Rattle.std.proofs.Common.{◌≡◌, ℕ, Bool, true, false, if◌then◌else◌, List, Option, Some, None, Result, Ok, Err, refl, sym, ap, subst, ◌∙◌}
+use Rattle.std.specs.Prelude.{ℤ, codes}
+use Rattle.std.specs.Str.{chars}
 use Rattle.std.specs.Option.{option_map}
 use Rattle.ut_keeper.specs.Tables.{Tables}
 use Rattle.ut_keys.specs.declared.fail.StoreFail.{StoreFail}
 use Rattle.ut_keys.specs.declared.fail.StoreFail.TheVariants.{Damaged, Keeper, Memory}
 use Rattle.ut_query.specs.declared.query.Query.{Query}
-use Rattle.ut_model.specs.declared.record.Record.{Record}
 use Rattle.ut_model.specs.declared.refusal.Refusal.{Refusal}
-use Rattle.ut_model.specs.declared.refusal.Refusal.TheVariants.{InvalidType}
+use Rattle.ut_model.specs.declared.refusal.Refusal.TheVariants.{InvalidType, NotBuilt}
 use Rattle.ut_model.specs.declared.reply.Reply.{Reply}
 use Rattle.ut_model.specs.Asking.{ask, query_rules}
 use Rattle.ut_model.specs.Cases.{in_case}
-use Rattle.ut_model.specs.Objects.{Numbered, object_named, object_numbered, records_of}
+use Rattle.ut_model.specs.Objects.{Numbered, object_named, object_numbered}
 use Rattle.ut_model.specs.Paths.{Asked}
-use Rattle.ut_model.specs.Replies.{json_reply, reply_of, unless_too_large}
-use Rattle.ut_model.specs.Sound.{IsSound}
+use Rattle.ut_model.specs.Requests.{asks, verdict_on}
 use Rattle.ut_model.specs.Tenant.{Object, Tenant}
 use Rattle.ut_model.specs.Verdict.{Verdict, accept, judged, refuse, rows_of}
 use Rattle.ut_answers.specs.Answers.{AnswersBy, IsAskedOf, Refuses}
 use Rattle.ut_stands.specs.declared.layout.Layout.{Layout}
-use Rattle.ut_stands.specs.Layouts.{FindsOf, IsLayout, layout_of, own_layout, own_layout_named, records_after}
+use Rattle.ut_stands.specs.Layouts.{IsLayout, layout_of, own_layout, own_layout_named}
 use Rattle.ut_stands.specs.Local.{FindsIn, StandsIn}
 use Rattle.ut_stands.specs.Plan.{OrgPlan}
+use Rattle.ut_step.specs.Built.{query_verdict}
+use Rattle.ut_step.specs.Flat.{is_flat}
+use Rattle.ut_rest.proofs.Literals.{paths_word, route_word}
 
 abbrev pub NamedAt : Type 0
 NamedAt = (t : Tenant) (name : List ℕ) (o : Numbered) → object_named t name ≡ Some o → object_numbered t o.number ≡ Some o.object
@@ -100,3 +102,26 @@ pub search_failed : (org : ℕ) (value : OrgPlan → Option Tenant → Option La
 search_failed org value a v p m Damaged s finds = absurd (finds p (Some a.tenant) s)
 search_failed org value a v p m Keeper s finds = λ e. absurd cc
 search_failed org value a v p m Memory s finds = λ e. absurd cc
+
+-- ---- queries that aren't built
+
+flat_verdict : Asked → Query → Verdict
+flat_verdict a q = if a.user.admin then verdict_on a (asks q) else refuse a.tenant (NotBuilt (codes "route"))
+
+-- over several objects
+pub paths_unbuilt : (a : Asked) (q : Query) (result : Result Reply StoreFail) → is_flat q ≡ false → Refuses (NotBuilt (chars (codes "paths"))) result → AnswersBy a (query_verdict a (Ok q)) result
+unfolding flat_verdict
+paths_unbuilt a q result several refused =
+    let why = NotBuilt (codes "paths") in
+    let verdict : query_verdict a (Ok q) ≡ refuse a.tenant why = ap (λ (flat : Bool). if flat then flat_verdict a q else refuse a.tenant why) several in
+    subst (λ (v : Verdict). AnswersBy a v result) (sym verdict) (refused_so a why result (subst (λ (what : List ℕ). Refuses (NotBuilt what) result) paths_word refused))
+
+-- by who is no administrator
+pub callers_unbuilt : (a : Asked) (q : Query) (result : Result Reply StoreFail) → is_flat q ≡ true → a.user.admin ≡ false → Refuses (NotBuilt (chars (codes "route"))) result
+    → AnswersBy a (query_verdict a (Ok q)) result
+unfolding flat_verdict
+callers_unbuilt a q result flat caller refused =
+    let why = NotBuilt (codes "route") in
+    let one : query_verdict a (Ok q) ≡ flat_verdict a q = ap (λ (x : Bool). if x then flat_verdict a q else refuse a.tenant (NotBuilt (codes "paths"))) flat in
+    let verdict : flat_verdict a q ≡ refuse a.tenant why = ap (λ (x : Bool). if x then verdict_on a (asks q) else refuse a.tenant why) caller in
+    subst (λ (v : Verdict). AnswersBy a v result) (sym (one ∙ verdict)) (refused_so a why result (subst (λ (what : List ℕ). Refuses (NotBuilt what) result) route_word refused))

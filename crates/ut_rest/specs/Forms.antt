@@ -1,12 +1,11 @@
 -- The forms of replies to callers' requests.
 -- Source: RFC 9110, 15.3.1, 15.3.2 and 15.3.5, of 200, 201 and 204.
-use Rattle.std.specs.Prelude.{◌≡◌, ◌⊎◌, [], IsTrue}
+use Rattle.std.specs.Prelude.{◌≡◌, ◌⊎◌, []}
 use Rattle.ut_model.specs.declared.reply.Reply.{Reply}
 pub use Rattle.ut_answers.specs.Answers.{IsReadReply}
 use Rattle.ut_model.specs.declared.route.Route.TheVariants.{Query}
 use Rattle.ut_model.specs.declared.routed.Routed.{Routed}
 use Rattle.ut_model.specs.declared.routed.Routed.TheVariants.{To, NotFound, NotAllowed}
-use Rattle.ut_model.specs.Refusals.{is_refusal_status}
 use Rattle.ut_stands.specs.declared.judged.Judged.{Judged}
 use Rattle.ut_stands.specs.declared.judged.Judged.TheVariants.{Changed, Same}
 

@@ -13,7 +13,6 @@ mod asking;
 mod kind;
 mod methods;
 mod place;
-
 mod query;
 mod replies;
 mod requests;

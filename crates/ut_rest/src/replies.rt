@@ -3,11 +3,10 @@
 ghost use Rattle.std.specs.Prelude.{◌≡◌, IfOk};
 ghost use Rattle.std.specs.Str.{chars};
 ghost use Rattle.ut_model.specs.declared.refusal.Refusal.TheVariants.{NotBuilt};
-ghost use Rattle.ut_model.specs.Replies.{unless_too_large};
 ghost use Rattle.ut_rest.specs.Forms.{IsReadReply};
 ghost use Rattle.ut_rest.specs.inner.Answers.{Refuses, unchanged};
 
-use std::alloc::{AllocError, Global};
+use std::alloc::Global;
 use ut_answers::refuse;
 use ut_keys::StoreFail;
 use ut_model::{Refusal, Reply};

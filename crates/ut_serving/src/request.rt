@@ -1,6 +1,6 @@
 //! One request: who calls, what is answered, and the keeper after it.
 
-ghost use Rattle.std.specs.Prelude.{◌≡◌, ◌+◌, ◌⊎◌, IsTrue, pos, true};
+ghost use Rattle.std.specs.Prelude.{◌≡◌, ◌⊎◌, IsTrue, pos, true};
 ghost use Rattle.ut_keeper.specs.Draft.{DraftTells, removals_of, tables_of};
 ghost use Rattle.ut_keeper.specs.State.{KeeperCause, Quiet, Shows, Steps, Tells, TrustedAfter, data_table};
 ghost use Rattle.ut_keeper.specs.Tables.{Tables};

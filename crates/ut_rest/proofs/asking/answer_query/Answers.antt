@@ -1,4 +1,6 @@
-use Rattle.std.proofs.Common.{◌≡◌, ℕ, Result, Err, ap, subst, sym, ◌∙◌}
+use Rattle.std.proofs.Common.{◌≡◌, ℕ, Result, Err, ap, of_z, pos, rules, subst, sym, to_z, w64, ◌∙◌}
+use Rattle.std.proofs.lemmas.Int.{to_z-of_z}
+use Rattle.std.specs.Prelude.{FitsSigned}
 use Rattle.ut_grammar.specs.Place.{UnlessMemory}
 use Rattle.ut_grammar.specs.declared.fail.ParseFail.{ParseFail}
 use Rattle.ut_query.specs.declared.query.Query.{Query}
@@ -12,8 +14,10 @@ use Rattle.ut_rest.proofs.asking.answer_query.Goals as goal
 
 pub returns-in-Ok-clause-what : goal.returns-in-Ok-clause-what
 returns-in-Ok-clause-what g c told p a s admin at =
+    let small : FitsSigned w64 c.moment.result = search rules in
+    let now : to_z w64 (of_z w64 c.moment.result) ≡ pos c.args.now = to_z-of_z w64 c.moment.result small ∙ c.moment.ensures in
     subst (λ (q : Result Query ℕ). AnswersBy a (query_verdict a q) c.answer_read.result)
-    (sym (subst (λ (r : Result Query ParseFail). UnlessMemory r (λ read. reads_query (query_text c.args.pairs.now) ≡ read)) c.in-Ok.is c.query_in.ensures)) (c.answer_read.ensures.what told p a s admin ?)
+    (sym (subst (λ (r : Result Query ParseFail). UnlessMemory r (λ read. reads_query (query_text c.args.pairs.now) ≡ read)) c.in-Ok.is c.query_in.ensures)) (c.answer_read.ensures.what told p a s admin (at ∙ sym now))
 
 pub returns-in-Err-Malformed-clause-what : goal.returns-in-Err-Malformed-clause-what
 returns-in-Err-Malformed-clause-what g c told p a s admin at =

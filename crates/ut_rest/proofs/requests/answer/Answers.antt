@@ -1,4 +1,4 @@
-use Rattle.std.proofs.Common.{◌∙◌, ◌+◌, ℕ, List, sym, subst, arith}
+use Rattle.std.proofs.Common.{◌∙◌, ℕ, List, sym, subst, arith}
 use Rattle.std.specs.Prelude.{codes}
 use Rattle.ut_keeper.specs.Draft.{removals_of, tables_of}
 use Rattle.ut_keeper.specs.State.{data_table}

@@ -37,11 +37,11 @@ try 'carmuguur acme.db 0 org-add Bolt abcdefghijklmnop'
 printf '\nThe rows of a CSV text, with an id each.\n'
 try "carmuguur - 0 csvq 'SELECT Id, Name FROM Row__c' < capitals.csv"
 
-printf '\nA refusal is a line on standard output, with status 65: no other query is served as yet.\n'
-try "carmuguur - 0 csvq 'SELECT Id, Name, Country FROM Row__c' < capitals.csv"
+printf '\nA refusal is a line on standard output, with status 65: the heading has no such name.\n'
+try "carmuguur - 0 csvq 'SELECT Id, Name, Country__c FROM Row__c' < capitals.csv"
 
 printf '\nSo keep a file only where the status is 0. This one goes:\n'
-try "carmuguur - 0 csvq 'SELECT Country FROM Row__c' < capitals.csv > refused.csv || rm refused.csv"
+try "carmuguur - 0 csvq 'SELECT Country__c FROM Row__c' < capitals.csv > refused.csv || rm refused.csv"
 
 printf '\nAnd this one stays:\n'
 try "carmuguur - 0 csvq 'SELECT Id, Name FROM Row__c' < capitals.csv > answer.csv || rm answer.csv"

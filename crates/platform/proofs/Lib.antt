@@ -1,11 +1,6 @@
-pub mod Cells
 pub mod Counts
 pub mod Ends
 pub mod Judging
-pub mod Keeping
-pub mod Lines
-pub mod Pages
-pub mod ReadBack
 pub mod Runs
 pub mod OfCsvq
 pub mod OfOrgAdd

@@ -1,14 +1,22 @@
 -- The promise of `run` for `csvq`.
-use Rattle.std.proofs.Common.{◌≡◌, inl, inr, ℕ, true, false, List, Result, Ok, Err, refl, sym, ap, subst, ◌∙◌, arith}
-use Rattle.std.specs.Prelude.{IfOk, IsErrOf}
+use Rattle.std.proofs.Common.{◌≡◌, ◌≤◌, ◌<◌, length, inl, inr, ℕ, true, false, IsTrue, List, [], ◌∷◌, Option, Some, Result, Ok, Err, pos, refl, sym, ap, subst, ◌∙◌, arith}
+use Rattle.std.proofs.lemmas.Bool.Decides.{nat_tests}
+use Rattle.std.specs.Prelude.{IfOk, IfSome, IsErrOf, nat_le}
 use Rattle.std.specs.Io.KnownBytes.{IsAtEnd}
 use Rattle.ut_value.specs.Causes.{Cause}
-use Rattle.ut_io.specs.Moments.{AskedOnce}
+use Rattle.ut_value.specs.Dates.{is_moment}
+use Rattle.ut_io.specs.Moments.{AskedOnce, IsFirstMoment, last_moment}
 use Rattle.ut_keeper.specs.State.{KeeperState, Shows}
 use Rattle.ut_model.specs.World.{World}
-use Rattle.ut_query.specs.Asking.{asks_for_rows}
 use Rattle.ut_serving.specs.Falls.{Fell}
 use Rattle.platform.specs.Commands.{Command, csvq, has_status, may_write, printed, prints}
+use Rattle.platform.specs.Csvq.{first_moment, is_read, outcome_page, reads_input, rows_printed}
+use Rattle.platform.specs.Printed.{refused}
+use Rattle.ut_csvq.specs.Outcomes.{input_outcome, query_in, query_outcome}
+use Rattle.ut_csvq.proofs.Turns.{too_large}
+use Rattle.ut_model.specs.declared.refusal.Refusal.{Refusal}
+use Rattle.ut_model.specs.declared.refusal.Refusal.TheVariants.{InputTooLarge}
+use Rattle.ut_query.specs.declared.query.Query.{Query}
 use Rattle.platform.specs.Deeds.{Prints}
 use Rattle.platform.specs.Promise.{Causes, Promise}
 use Rattle.platform.specs.Run.{IsTold, status_in}
@@ -17,6 +25,22 @@ use Rattle.platform.specs.Stops.{IsKnownStatus, csvq_end, is_done}
 use Rattle.platform.specs.declared.printing.CsvqStop.{CsvqStop}
 use Rattle.platform.specs.declared.printing.CsvqStop.TheVariants as csvq_stop
 use Rattle.platform.proofs.Runs.{caused, not_own, quiet, true_isnt_false, untouched}
+
+-- what a clock returns is a moment of the calendar
+pub is_clocked : (n : ℕ) → n ≤ last_moment → IsTrue (is_moment (pos n))
+is_clocked n h = within n h
+  where
+    within : (n : ℕ) → n ≤ 253402300799 → nat_le n 253402300799 ≡ true
+    within n h = grind (arith, nat_tests)
+
+-- and it is the first of the moments that are told
+pub told_first : (coming : Option (List ℕ)) (now : ℕ) (moments : List ℕ) → IsFirstMoment coming now → IsTold true coming moments → now ≡ first_moment moments
+told_first coming now moments first (inl e) = absurd (true_isnt_false e)
+told_first coming now moments first (inr e) = by moments (subst (λ (c : Option (List ℕ)). IsFirstMoment c now) e first)
+  where
+    by : (ms : List ℕ) → IsFirstMoment (Some ms) now → now ≡ first_moment ms
+    by [] h = absurd h
+    by (m ∷ ms) h = h
 
 module _ (query : List ℕ) where
   abbrev This : Command
@@ -73,11 +97,11 @@ module _ (query : List ℕ) (a b : Seen) (r : Result ℕ CsvqStop) (status : ℕ
   stood : Fell a.keeper b.keeper → ⊥
   stood fell = true_isnt_false (sym fell.1 ∙ (ap (λ (k : KeeperState). k.trusted) (sym keeper) ∙ fell.2))
 
-  pub csvq_promise : ((w : World) (bytes moments : List ℕ) → IsTold (asks_for_rows query) a.left bytes → Prints w (printed (csvq query) w bytes moments) a.written b.written (csvq_end r) w)
+  pub csvq_promise : ((w : World) (bytes moments : List ℕ) → IsTold (reads_input query) a.left bytes → IsTold true a.coming moments → Prints w (printed (csvq query) w bytes moments) a.written b.written (csvq_end r) w)
       → IfOk r (λ s. s ≡ 0 → IsAtEnd b.left) → AskedOnce a.coming b.coming
       → Cause a.read_faults b.read_faults (IsErrOf r csvq_stop.SourceFailed) → Cause a.write_faults b.write_faults (IsErrOf r csvq_stop.SinkFailed) → Promise (This query) a b status
   csvq_promise does whole asked source sink = record {
-    does = λ w world. (csvq_end r, same, λ bytes moments told dated. (w, does w bytes moments told, tt));
+    does = λ w world. (csvq_end r, same, λ bytes moments told dated. (w, does w bytes moments told dated, tt));
     leads = λ serving. absurd (true_isnt_false (sym serving));
     fell = λ fell w s. absurd (stood fell);
     kept = λ told none. subst (λ (k : KeeperState). Shows k a.keeper.tables) (sym keeper) (told.0, refl);
@@ -85,3 +109,32 @@ module _ (query : List ℕ) (a b : Seen) (r : Result ℕ CsvqStop) (status : ℕ
     causes = causes source sink;
     reads = λ serving. record { whole = λ used. read_whole (IsAtEnd b.left) r status whole same; asked = asked };
   }
+
+-- ---- a query that is read
+
+-- of such a query it comes to what its input does
+pub read_so : (query bytes : List ℕ) (now : ℕ) (read : Result Query Refusal) → read ≡ query_in query → (q : Query) → read ≡ Ok q
+    → outcome_page (input_outcome q (pos now) bytes) ≡ rows_printed query bytes now
+read_so query bytes now read e q is = ap (λ (r : Result Query Refusal). outcome_page (query_outcome r (pos now) bytes)) (sym is ∙ e)
+
+pub refused_so : (query bytes : List ℕ) (now : ℕ) (read : Result Query Refusal) → read ≡ query_in query → (why : Refusal) → read ≡ Err why
+    → refused why ≡ rows_printed query bytes now
+refused_so query bytes now read e why is = ap (λ (r : Result Query Refusal). outcome_page (query_outcome r (pos now) bytes)) (sym is ∙ e)
+
+pub is_read_so : (query : List ℕ) (read : Result Query Refusal) → read ≡ query_in query → (q : Query) → read ≡ Ok q → reads_input query ≡ true
+is_read_so query read e q is = ap is_read (sym e ∙ is)
+
+pub all_told : (query : List ℕ) (left : Option (List ℕ)) (bytes : List ℕ) → reads_input query ≡ true → IsTold (reads_input query) left bytes → left ≡ Some bytes
+all_told query left bytes reads (inl e) = absurd (true_isnt_false (sym reads ∙ e))
+all_told query left bytes reads (inr e) = e
+
+-- the bytes that are read are those that are told
+pub read_all_so : (bytes all : List ℕ) (left : Option (List ℕ)) → IfSome left (λ x. bytes ≡ x) → left ≡ Some all → bytes ≡ all
+read_all_so bytes all left whole e = subst (λ (l : Option (List ℕ)). IfSome l (λ x. bytes ≡ x)) e whole
+
+-- an input that is too long
+pub too_long_so : (q : Query) (now : ℕ) (bytes : List ℕ) (left : Option (List ℕ)) → IfSome left (λ all. 67108864 < length all) → left ≡ Some bytes
+    → refused InputTooLarge ≡ outcome_page (input_outcome q (pos now) bytes)
+too_long_so q now bytes left long e =
+    let h = subst (λ (l : Option (List ℕ)). IfSome l (λ all. 67108864 < length all)) e long in
+    ap outcome_page (too_large q now bytes h)

@@ -7,8 +7,7 @@ use Rattle.std.specs.Str.{byte, bytes_eq}
 use Rattle.std.specs.Str.Parse.{digits_value}
 use Rattle.ut_value.specs.Numerals.{is_within}
 use Rattle.ut_model.specs.World.{World}
-use Rattle.ut_query.specs.Asking.{asks_for_rows}
-use Rattle.platform.specs.Csvq.{rows_printed}
+use Rattle.platform.specs.Csvq.{first_moment, reads_input, rows_printed}
 use Rattle.platform.specs.Deeds.{Printed, one_deed}
 use Rattle.platform.specs.OrgAdd.{org_printed, org_world}
 
@@ -109,10 +108,10 @@ opening_stops = 71 ∷ 72 ∷ 76 ∷ 77 ∷ []
 abbrev pub uses : Printing → Uses
 uses (csvq query) = record {
   keeper = false;
-  source = asks_for_rows query;
+  source = reads_input query;
   door = false;
   clock = once;
-  dated = false;
+  dated = true;
   statuses = 0 ∷ 65 ∷ 71 ∷ 73 ∷ 74 ∷ [];
   changes = [];
   writes = 0 ∷ 65 ∷ 73 ∷ [];
@@ -210,5 +209,5 @@ used_by (Some command) status = used_so (uses_of command) (may_write command sta
 -- ---- what each prints, given the world of the tables, the bytes of its input, and the moments that the clock will tell
 
 abbrev pub printed : Printing → World → List ℕ → List ℕ → Printed
-printed (csvq query) w bytes moments = one_deed (rows_printed query bytes) w
+printed (csvq query) w bytes moments = one_deed (rows_printed query bytes (first_moment moments)) w
 printed (org_add name secret) w bytes moments = one_deed (org_printed w name secret) (org_world w name secret)

@@ -8,6 +8,5 @@ pub mod Serving
 pub mod Run
 pub mod Falling
 pub mod Promise
-pub mod Kept
 pub mod Words
 pub mod Stops

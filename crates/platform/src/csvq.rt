@@ -1,56 +1,22 @@
 //! The command `csvq`.
 
-ghost use Rattle.std.specs.Prelude.{◌≡◌, ◌≢◌, ◌≤◌, ◌⊎◌, length, IfErr, IfOk, IsErrOf, false, List, ℕ};
+ghost use Rattle.std.specs.Prelude.{◌≡◌, ◌++◌, IfOk, IsErrOf, IsTrue, List, Some, codes, false, pos, string_bytes, true, ℕ};
+ghost use Rattle.std.specs.Fmt.{decimal};
 ghost use Rattle.std.specs.Io.KnownBytes.{IsAtEnd};
-ghost use Rattle.ut_value.specs.Causes.{Cause};
-ghost use Rattle.platform.specs.Csvq.{answer, input_limit, refusal, rows_in, rows_printed};
+ghost use Rattle.platform.specs.Csvq.{outcome_page, reads_input, refused_row, rows_printed};
 ghost use Rattle.platform.specs.Run.{IsTold};
 ghost use Rattle.platform.specs.declared.csvq.InputFail.TheVariants.{Failed, Memory};
-ghost use Rattle.ut_query.specs.Asking.{asks_for_rows};
+ghost use Rattle.ut_csvq.specs.Outcomes.{input_outcome};
+ghost use Rattle.ut_step.specs.Flat.{is_flat};
+ghost use Rattle.ut_value.specs.Causes.{Cause};
+ghost use Rattle.ut_value.specs.Dates.{is_moment};
 
-mod kept;
-mod rows;
-mod text;
-
-use crate::csvq::kept::kept_rows;
-use crate::csvq::rows::{RECORDS, is_table};
-use crate::csvq::text::text_of;
-use crate::page::{Page, page_of_refusal};
+use crate::page::{Page, page_of_refusal, refusal_line};
 use std::alloc::{AllocError, Global};
+use ut_csvq::{INPUT_LIMIT, Outcome, answer_input, query_of};
 use ut_io::{ReadFail, Source, read_all};
 use ut_model::Refusal;
-use ut_query::asks_for_rows;
-use ut_table::{TableFail, read_table};
-use ut_value::Text;
-
-// The most bytes of an input.
-const INPUT_LIMIT: usize = 67_108_864;
-
-// The page that says that something isn't built yet.
-fn refusal(alloc: Global, what: &str) -> Result<Page, AllocError>
-    ensures { IfOk result (λ p. p ≡ refusal what.now) }
-{
-    let what = Text::from_str(alloc, what)?;
-    page_of_refusal(alloc, &Refusal::NotBuilt { what })
-}
-
-// The page of an input that is short enough.
-fn input_page(alloc: Global, bytes: &[u8]) -> Result<Page, AllocError>
-    requires { length bytes.now ≤ input_limit }
-    ensures { IfOk result (λ p. p ≡ answer (rows_in bytes.now)) }
-{
-    match read_table(alloc, bytes, RECORDS) {
-        Ok(records) => {
-            if !is_table(&records) {
-                return refusal(alloc, "input");
-            }
-            let rows = kept_rows(alloc, &records[1..])?;
-            Ok(Page::done(text_of(alloc, &rows)?))
-        }
-        Err(TableFail::Refused { .. }) => refusal(alloc, "input"),
-        Err(TableFail::Memory) => Err(AllocError),
-    }
-}
+use ut_query::Query;
 
 /// Why the page of `csvq` wasn't made.
 #[derive(Clone, Copy, Debug, PartialEq, Eq)]
@@ -69,25 +35,75 @@ impl From<AllocError> for InputFail {
     }
 }
 
-/// The page of `csvq` with this query over the source's bytes. A query that isn't served reads nothing.
-pub(crate) fn page_of<S: Source>(
+// What is said of a row whose record is refused.
+fn row_message(alloc: Global, row: u64, message: &str) -> Result<String, AllocError>
+    ensures { IfOk result (λ text. string_bytes text ≡ codes "row " ++ (decimal row ++ (codes ": " ++ message.now))) }
+{
+    format!(in alloc; "row {row}: {message}")
+}
+
+// The page that says why the record of a row is refused.
+fn page_of_row(alloc: Global, row: u64, refusal: &Refusal) -> Result<Page, AllocError>
+    ensures { IfOk result (λ p. p ≡ refused_row row refusal.now) }
+{
+    let message = refusal.message(alloc)?;
+    let message = row_message(alloc, row, message.as_str())?;
+    let text = refusal_line(alloc, refusal.code(), message.as_str())?;
+    Ok(Page::refused(text.into_bytes()))
+}
+
+fn page_of_outcome(alloc: Global, outcome: Outcome) -> Result<Page, AllocError>
+    ensures { IfOk result (λ p. p ≡ outcome_page outcome) }
+{
+    match outcome {
+        Outcome::Rows(text) => Ok(Page::done(text.into_vec())),
+        Outcome::Refused(refusal) => page_of_refusal(alloc, &refusal),
+        Outcome::RefusedIn(row, refusal) => page_of_row(alloc, row, &refusal),
+    }
+}
+
+// The page of a query over one object.
+fn page_of_query<S: Source>(
     alloc: Global,
-    query: &str,
+    query: &Query,
+    now: u64,
     source: &mut S,
 ) -> Result<Page, InputFail>
-    ensures page { IfOk result (λ p. (bytes : List ℕ) → IsTold (asks_for_rows query.now) (S.left source.old) bytes → p ≡ rows_printed query.now bytes) }
-    ensures unread { asks_for_rows query.now ≡ false → source.new ≡ source.old }
+    requires moment { IsTrue (is_moment (pos now)) }
+    requires flat { is_flat query.now ≡ true }
+    ensures page { IfOk result (λ p. (bytes : List ℕ) → S.left source.old ≡ Some bytes → p ≡ outcome_page (input_outcome query.now (pos now) bytes)) }
     ensures whole { IfOk result (λ p. p.status ≡ 0 → IsAtEnd (S.left source.new)) }
     ensures stays { S.stays source.old source.new }
     ensures cause { Cause (S.faults source.old) (S.faults source.new) (IsErrOf result Failed) }
 {
-    if !asks_for_rows(alloc, query)? {
-        return Ok(refusal(alloc, "query")?);
-    }
     match read_all(alloc, source, INPUT_LIMIT) {
-        Ok(bytes) => Ok(input_page(alloc, bytes.as_slice())?),
-        Err(ReadFail::TooLong) => Ok(refusal(alloc, "input")?),
+        Ok(bytes) => {
+            let outcome = answer_input(alloc, query, now, bytes.as_slice())?;
+            Ok(page_of_outcome(alloc, outcome)?)
+        }
+        Err(ReadFail::TooLong) => Ok(page_of_refusal(alloc, &Refusal::InputTooLarge)?),
         Err(ReadFail::Failed) => Err(InputFail::Failed),
         Err(ReadFail::Memory) => Err(InputFail::Memory),
+    }
+}
+
+/// The page of `csvq` with this query over the source's bytes, asked at this moment. A query that is refused before its input is
+/// looked at reads nothing.
+pub(crate) fn page_of<S: Source>(
+    alloc: Global,
+    query: &str,
+    now: u64,
+    source: &mut S,
+) -> Result<Page, InputFail>
+    requires { IsTrue (is_moment (pos now)) }
+    ensures page { IfOk result (λ p. (bytes : List ℕ) → IsTold (reads_input query.now) (S.left source.old) bytes → p ≡ rows_printed query.now bytes now) }
+    ensures unread { reads_input query.now ≡ false → source.new ≡ source.old }
+    ensures whole { IfOk result (λ p. p.status ≡ 0 → IsAtEnd (S.left source.new)) }
+    ensures stays { S.stays source.old source.new }
+    ensures cause { Cause (S.faults source.old) (S.faults source.new) (IsErrOf result Failed) }
+{
+    match query_of(alloc, query)? {
+        Ok(query) => page_of_query(alloc, &query, now, source),
+        Err(refusal) => Ok(page_of_refusal(alloc, &refusal)?),
     }
 }

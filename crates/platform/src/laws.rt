@@ -11,20 +11,12 @@ ghost use Rattle.platform.specs.Run.{VersionEnds};
 
 use ut_stands::stands_laws;
 
-/// What commands print, worked by hand. Of `csvq`: rows, a name in quotes, no row, a heading and a query that are refused.
+/// What commands print, worked by hand. Of `csvq`: a query that ends early; `csvq_rows` of `ut_csvq` has more.
 /// Of `org-add`: the first organisation, the second, a name and a
 /// secret that are refused, which leave the world as it is.
 pub fn printed_rows()
-    ensures rows { printed (csvq (codes "SELECT Id, Name FROM Row__c")) [] (codes "Name\nAda\nBob\n") []
-        ≡ one_deed (record { text = codes "Id,Name\na00000000000001AAA,Ada\na00000000000002AAA,Bob\n"; status = 0 }) [] }
-    ensures quoted { printed (csvq (codes "select id,name from row__c")) [] (codes "Name\n\"a,b\"\n") []
-        ≡ one_deed (record { text = codes "Id,Name\na00000000000001AAA,\"a,b\"\n"; status = 0 }) [] }
-    ensures none { printed (csvq (codes "SELECT Id, Name FROM Row__c")) [] (codes "Name\n") []
-        ≡ one_deed (record { text = codes "Id,Name\n"; status = 0 }) [] }
-    ensures heading { printed (csvq (codes "SELECT Id, Name FROM Row__c")) [] (codes "Nome\n") []
-        ≡ one_deed (record { text = codes "refused: NOT_BUILT: input\n"; status = 65 }) [] }
-    ensures query { printed (csvq (codes "SELECT Id FROM Row__c")) [] (codes "Name\n") []
-        ≡ one_deed (record { text = codes "refused: NOT_BUILT: query\n"; status = 65 }) [] }
+    ensures spelled { printed (csvq (codes "SELECT Id FROM ")) [] (codes "Name\n") []
+        ≡ one_deed (record { text = codes "refused: MALFORMED_QUERY: unexpected token at 15\n"; status = 65 }) [] }
     ensures first { printed (org_add (codes "Acme") (codes "abcdefghijklmnop")) [] [] []
         ≡ one_deed (record { text = codes "00D000000000001EAA 005000000000000AAA\n"; status = 0 }) (with_org [] (codes "Acme") (sha256 (codes "abcdefghijklmnop"))) }
     ensures second { printed (org_add (codes "Bolt") (codes "abcdefghijklmnop")) (with_org [] (codes "Acme") []) [] []

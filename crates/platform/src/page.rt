@@ -62,7 +62,8 @@ pub(crate) fn page_of_refusal(alloc: Global, refusal: &Refusal) -> Result<Page, 
     Ok(Page::refused(text.into_bytes()))
 }
 
-fn refusal_line(alloc: Global, code: &str, message: &str) -> Result<String, AllocError>
+/// The line of a refusal with this code.
+pub(crate) fn refusal_line(alloc: Global, code: &str, message: &str) -> Result<String, AllocError>
     ensures { IfOk result (λ text. string_bytes text ≡ refused_line code.now message.now) }
 {
     format!(in alloc; "refused: {code}: {message}\n")

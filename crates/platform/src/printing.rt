@@ -1,14 +1,15 @@
 //! The commands that print: each makes its page first, and writes it then.
 
-ghost use Rattle.std.specs.Prelude.{◌≡◌, ◌⊎◌, List, ℕ, IsErr, IsTrue, IfOk, IsErrOf, false, is_ok};
+ghost use Rattle.std.specs.Prelude.{◌≡◌, ◌⊎◌, List, ℕ, IsErr, IsTrue, IfOk, IsErrOf, false, is_ok, pos};
 ghost use Rattle.std.specs.Io.KnownBytes.{IsAtEnd};
 ghost use Rattle.ut_value.specs.Causes.{Cause};
+ghost use Rattle.ut_value.specs.Dates.{is_moment};
 ghost use Rattle.ut_keeper.specs.State.{KeeperCause, Shows, TrustedAfter, Steps, Tells};
 ghost use Rattle.ut_keeper.specs.Tables.{Tables};
 ghost use Rattle.ut_model.specs.World.{World};
-ghost use Rattle.ut_query.specs.Asking.{asks_for_rows};
 ghost use Rattle.ut_stands.specs.Stands.{Stands};
 ghost use Rattle.platform.specs.Commands.{csvq, org_add, printed};
+ghost use Rattle.platform.specs.Csvq.{first_moment, reads_input};
 ghost use Rattle.platform.specs.Deeds.{Prints, one_deed};
 ghost use Rattle.platform.specs.OrgAdd.{org_does};
 ghost use Rattle.platform.specs.Run.{IsTold, KeepsWorld, status_in};
@@ -153,16 +154,18 @@ fn write_page<W: Sink>(sink: &mut W, page: &Page) -> Result<u8, IoFail>
     }
 }
 
-/// Answers a query over the CSV text of the source.
+/// Answers a query over the CSV text of the source, asked at this moment.
 pub(crate) fn print_csvq<S: Source, W: Sink>(
     alloc: Global,
     query: &str,
+    now: u64,
     source: &mut S,
     sink: &mut W,
 ) -> Result<u8, CsvqStop>
-    ensures prints { (w : World) (bytes moments : List ℕ) → IsTold (asks_for_rows query.now) (S.left source.old) bytes
+    requires { IsTrue (is_moment (pos now)) }
+    ensures prints { (w : World) (bytes moments : List ℕ) → IsTold (reads_input query.now) (S.left source.old) bytes → now ≡ first_moment moments
         → Prints w (printed (csvq query.now) w bytes moments) (W.written sink.old) (W.written sink.new) (csvq_end result) w }
-    ensures unread { asks_for_rows query.now ≡ false → source.new ≡ source.old }
+    ensures unread { reads_input query.now ≡ false → source.new ≡ source.old }
     ensures unwritten { is_done (csvq_end result) ≡ false → sink.new ≡ sink.old }
     ensures whole { IfOk result (λ status. status ≡ 0 → IsAtEnd (S.left source.new)) }
     ensures status { IsKnownStatus result }
@@ -171,7 +174,7 @@ pub(crate) fn print_csvq<S: Source, W: Sink>(
     ensures source_stays { S.stays source.old source.new }
     ensures sink_stays { W.stays sink.old sink.new }
 {
-    let page = page_of(alloc, query, source)?;
+    let page = page_of(alloc, query, now, source)?;
     Ok(write_page(sink, &page)?)
 }
 

@@ -27,7 +27,7 @@ fn status_of(ended: Result<u8, Stop>) -> u8
 ///
 /// | Words | What is done |
 /// |---|---|
-/// | `csvq QUERY` | reads a CSV text from the source, and writes its rows with their ids |
+/// | `csvq QUERY` | reads a CSV text from the source, and writes what a query finds in it |
 /// | `org-add NAME SECRET` | makes an organisation, and writes its id and its administrator's |
 /// | `answer` | answers the HTTP messages of one connection, which come from the source, to the sink |
 /// | `serve COUNT` | answers the HTTP messages of the first COUNT connections of the door, or of all that come |
@@ -75,8 +75,8 @@ pub fn run<K: Keeper, D: Door, S: Source, W: Sink, C: Clock>(
     stands_laws();
     match read_words(words) {
         Words::Csvq(query) => {
-            let _now = clock.now();
-            csvq_status(print_csvq(alloc, query, source, sink))
+            let now = clock.now();
+            csvq_status(print_csvq(alloc, query, now, source, sink))
         }
         Words::OrgAdd(name, secret) => {
             store_status(print_org_add(alloc, name, secret, keeper, sink))

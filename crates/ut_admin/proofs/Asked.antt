@@ -1,9 +1,12 @@
 -- The requests that bodies ask for, and the edits of these.
 use Rattle.std.proofs.Common.{◌≡◌, ◌≤◌, ℕ, Bool, true, false, cond, List, refl, sym, ap, subst, ◌∙◌, arith, ◌<◌, Option, Some, None, Result, Ok, Err}
-use Rattle.std.specs.Prelude.{IfErr, IfOk, IsErr, IsErrAnd, OnOk, codes}
+use Rattle.std.specs.Prelude.{IfErr, IfOk, IfSome, IsErr, IsErrAnd, IsTrue, OnOk, codes}
 use Rattle.std.specs.Option.{option_map}
 use Rattle.std.specs.declared.alloc.AllocError.{AllocError}
-use Rattle.ut_bodies.specs.Bodies.{request_in, values_request}
+use Rattle.ut_bodies.specs.Bodies.{adds_new_role, request_in, sets_role_parent, sets_user_role, values_request}
+use Rattle.ut_bodies.specs.declared.people.NewRole.{NewRole}
+use Rattle.ut_bodies.specs.declared.people.RoleParent.{RoleParent}
+use Rattle.ut_bodies.specs.declared.people.UserRole.{UserRole}
 use Rattle.ut_edits.specs.Edits.{DraftsEdit, EditsAt, MakesEdit, OthersStay, Planned}
 use Rattle.ut_keeper.specs.Draft.{DraftReads, DraftTells, Held, count_of}
 use Rattle.ut_keeper.specs.State.{KeeperState}
@@ -14,16 +17,21 @@ use Rattle.ut_model.specs.declared.metadata_bodies.NewField.{NewField}
 use Rattle.ut_model.specs.declared.metadata_bodies.NewObject.{NewObject}
 use Rattle.ut_model.specs.declared.metadata_bodies.NewValidationRule.{NewValidationRule}
 use Rattle.ut_model.specs.declared.record_bodies.Assignment.{Assignment}
+use Rattle.ut_model.specs.declared.people_bodies.NewUser.{NewUser}
 use Rattle.ut_model.specs.declared.refusal.Refusal.{Refusal}
 use Rattle.ut_model.specs.declared.refusal.Refusal.TheVariants.{NotBuilt}
 use Rattle.ut_model.specs.declared.route.Route.{Route}
-use Rattle.ut_model.specs.declared.route.Route.TheVariants.{AddField, AddObject, AddValidationRule, Create, Delete, SetObject, Update, Upsert}
+use Rattle.ut_model.specs.declared.route.Route.TheVariants.{AddField, AddGroup, AddObject, AddRole, AddUser, AddValidationRule, Create, Delete, SetGroup, SetObject, SetRole, SetUser, Update, Upsert}
 use Rattle.ut_step.specs.Built.{built_request, is_built}
 use Rattle.ut_step.specs.Own.{edit_shown, request_changes, request_gone}
 use Rattle.ut_model.specs.Forms.{access_request, field_request, object_request, validation_request}
+use Rattle.ut_model.specs.Members.{Body}
+use Rattle.ut_model.specs.Organisations.{is_secret}
 use Rattle.ut_model.specs.Paths.{Asked}
+use Rattle.ut_model.specs.PeopleForms.{group_request, members_request, role_parent_request, role_request, user_request, user_role_request}
+use Rattle.ut_model.specs.declared.people_bodies.Spelled.{Spelled}
 use Rattle.ut_model.specs.RequestOf.{request_of, request_or, value_part, verdict_or}
-use Rattle.ut_model.specs.Requests.{Request, adds_field, adds_object, adds_validation_rule, creates, deletes, sets_object, updates, upserts, verdict_on}
+use Rattle.ut_model.specs.Requests.{Request, adds_field, adds_group, adds_object, adds_user, adds_validation_rule, creates, deletes, sets_group, sets_object, updates, upserts, verdict_on}
 use Rattle.ut_model.specs.Sound.{IsSound}
 use Rattle.ut_model.specs.Tenant.{Tenant}
 use Rattle.ut_model.specs.Verdict.{Done, Verdict}
@@ -35,7 +43,7 @@ use Rattle.ut_stands.specs.declared.fail.EditFail.{EditFail}
 use Rattle.ut_stands.specs.declared.fail.EditFail.TheVariants.{Refused, Store}
 use Rattle.ut_stands.specs.Fails.{IsRefusal}
 use Rattle.ut_admin.specs.declared.answer.Answer.{Answer}
-use Rattle.ut_admin.specs.inner.Edits.{Asks, EditsFrom, EditsTo, IsAnswerTo, KeepsRefused, answer_of, form_of, seen}
+use Rattle.ut_admin.specs.inner.Edits.{Anyone, Asks, EditsFrom, EditsTo, IsAnswerTo, KeepsRefused, answer_of, form_of, seen}
 
 -- what `ut_sound` says of requests that are read
 abbrev pub RequestsFit : Type 0
@@ -65,16 +73,55 @@ pub asks_field : (body : List ℕ) (read : Result (Option NewField) AllocError) 
 unfolding request_of
 asks_field body read e = asks_form adds_field read (request_in field_request body) e
 
-of_object : (read : Result (Option Access) AllocError) (body : List ℕ) → IfOk read (λ x. (object : List ℕ) → option_map (sets_object object) x ≡ request_in (access_request object) body)
-    → (object : List ℕ) → IfOk read (λ x. option_map (sets_object object) x ≡ request_in (access_request object) body)
-of_object (Ok x) body e object = e object
-of_object (Err x) body e object = e
+-- the same of a body by which something is changed that the path names
+of_path : {X : Type 0} (make : List ℕ → X → Request) (form : List ℕ → Body → Option Request) (read : Result (Option X) AllocError) (body : List ℕ)
+    → IfOk read (λ x. (name : List ℕ) → option_map (make name) x ≡ request_in (form name) body) → (name : List ℕ) → IfOk read (λ x. option_map (make name) x ≡ request_in (form name) body)
+of_path make form (Ok x) body e name = e name
+of_path make form (Err x) body e name = e
 
 pub asks_access : (object body : List ℕ) (read : Result (Option Access) AllocError)
     → IfOk read (λ x. (object : List ℕ) → option_map (sets_object object) x ≡ request_in (access_request object) body)
     → Asks (sets_object object) (built_request (SetObject object) body) (form_of read)
 unfolding request_of
-asks_access object body read e = asks_form (sets_object object) read (request_in (access_request object) body) (of_object read body e object)
+asks_access object body read e = asks_form (sets_object object) read (request_in (access_request object) body) (of_path sets_object access_request read body e object)
+
+pub asks_user : (body : List ℕ) (read : Result (Option NewUser) AllocError) → IfOk read (λ x. option_map adds_user x ≡ request_in user_request body)
+    → Asks adds_user (built_request AddUser body) (form_of read)
+unfolding request_of
+asks_user body read e = asks_form adds_user read (request_in user_request body) e
+
+pub has_secret : (read : Result (Option NewUser) AllocError) → IfOk read (λ x. IfSome x (λ user. IsTrue (is_secret user.secret))) → IfOk (form_of read) (λ user. IsTrue (is_secret user.secret))
+has_secret (Ok (Some user)) h = h
+has_secret (Ok None) h = tt
+has_secret (Err e) h = tt
+
+pub asks_user_role : (user body : List ℕ) (read : Result (Option UserRole) AllocError)
+    → IfOk read (λ x. (user : List ℕ) → option_map (sets_user_role user) x ≡ request_in (user_role_request user) body)
+    → Asks (sets_user_role user) (built_request (SetUser user) body) (form_of read)
+unfolding request_of
+asks_user_role user body read e = asks_form (sets_user_role user) read (request_in (user_role_request user) body) (of_path sets_user_role user_role_request read body e user)
+
+pub asks_role : (body : List ℕ) (read : Result (Option NewRole) AllocError) → IfOk read (λ x. option_map adds_new_role x ≡ request_in role_request body)
+    → Asks adds_new_role (built_request AddRole body) (form_of read)
+unfolding request_of
+asks_role body read e = asks_form adds_new_role read (request_in role_request body) e
+
+pub asks_parent : (role body : List ℕ) (read : Result (Option RoleParent) AllocError)
+    → IfOk read (λ x. (role : List ℕ) → option_map (sets_role_parent role) x ≡ request_in (role_parent_request role) body)
+    → Asks (sets_role_parent role) (built_request (SetRole role) body) (form_of read)
+unfolding request_of
+asks_parent role body read e = asks_form (sets_role_parent role) read (request_in (role_parent_request role) body) (of_path sets_role_parent role_parent_request read body e role)
+
+pub asks_group : (body : List ℕ) (read : Result (Option (List ℕ)) AllocError) → IfOk read (λ x. option_map adds_group x ≡ request_in group_request body)
+    → Asks adds_group (built_request AddGroup body) (form_of read)
+unfolding request_of
+asks_group body read e = asks_form adds_group read (request_in group_request body) e
+
+pub asks_members : (group body : List ℕ) (read : Result (Option (List Spelled)) AllocError)
+    → IfOk read (λ x. (group : List ℕ) → option_map (sets_group group) x ≡ request_in (members_request group) body)
+    → Asks (sets_group group) (built_request (SetGroup group) body) (form_of read)
+unfolding request_of
+asks_members group body read e = asks_form (sets_group group) read (request_in (members_request group) body) (of_path sets_group members_request read body e group)
 
 -- the values of a record, with which any request may be made
 of_values : (read : Result (Option (List Assignment)) AllocError) (body : List ℕ) (make : List Assignment → Request)
@@ -145,6 +192,14 @@ module _ {X : Type 0} (view : X → Answer) (answered : X → Done) (same_answer
             (edits_to org a.tenant (verdict a) (planned q a.tenant) after edit (subst (KeepsRefused a.tenant) (sym (same a)) (kept a)) (h.edited q a stands (fit a stands.sound asking)));
       })
 
+-- an edit for anyone, as one of the request of that route for those who ask so
+pub edits_asked_so : (org : ℕ) (asks : Asked → Type 0) (r s : Route) (body : List ℕ) (m after : Tables) (result : Result Answer EditFail) → r ≡ s
+    → EditsFrom org Anyone (λ a. verdict_or a (built_request s body)) m after result → EditsFrom org asks (λ a. verdict_or a (built_request r body)) m after result
+edits_asked_so org asks r s body m after result route h = record {
+  others = h.others;
+  edited = λ q a stands asking. subst (λ y. EditsTo org a.tenant (verdict_or a (built_request y body)) after result) (sym route) (h.edited q a stands tt);
+}
+
 -- no edit, where the body asks for none
 none_asked : {X : Type 0} (make : X → Request) (org : ℕ) (a : Asked) (request : Result Request Refusal) (fail : EditFail) (after : Tables) → Asks make request (Err fail)
     → EditsTo org a.tenant (verdict_or a request) after (Err fail)
@@ -172,6 +227,12 @@ pub record IsOther (r : Route) : Type 0 where
   pub no_access : (object : List ℕ) → r ≡ SetObject object → ⊥
   pub no_field : r ≡ AddField → ⊥
   pub no_rule : r ≡ AddValidationRule → ⊥
+  pub no_user : r ≡ AddUser → ⊥
+  pub no_user_role : (user : List ℕ) → r ≡ SetUser user → ⊥
+  pub no_role : r ≡ AddRole → ⊥
+  pub no_parent : (role : List ℕ) → r ≡ SetRole role → ⊥
+  pub no_group : r ≡ AddGroup → ⊥
+  pub no_members : (group : List ℕ) → r ≡ SetGroup group → ⊥
 
 not_built : (r : Route) → IsOther r → is_built r ≡ false
 not_built (Create object) other = absurd (other.no_record object refl)
@@ -182,6 +243,12 @@ not_built AddObject other = absurd (other.no_object refl)
 not_built (SetObject object) other = absurd (other.no_access object refl)
 not_built AddField other = absurd (other.no_field refl)
 not_built AddValidationRule other = absurd (other.no_rule refl)
+not_built AddUser other = absurd (other.no_user refl)
+not_built (SetUser user) other = absurd (other.no_user_role user refl)
+not_built AddRole other = absurd (other.no_role refl)
+not_built (SetRole role) other = absurd (other.no_parent role refl)
+not_built AddGroup other = absurd (other.no_group refl)
+not_built (SetGroup group) other = absurd (other.no_members group refl)
 not_built _ other = refl
 
 pub edits_unbuilt : (org : ℕ) (asks : Asked → Type 0) (r : Route) (body what : List ℕ) (m : Tables) → IsOther r → what ≡ codes "route"

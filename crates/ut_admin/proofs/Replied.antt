@@ -10,7 +10,7 @@ use Rattle.ut_keys.specs.declared.fail.StoreFail.{StoreFail}
 use Rattle.ut_keys.specs.declared.fail.StoreFail.TheVariants.{Memory}
 use Rattle.ut_model.specs.declared.reply.Reply.{Reply}
 use Rattle.ut_model.specs.declared.route.Route.{Route}
-use Rattle.ut_model.specs.declared.route.Route.TheVariants.{Create, Upsert}
+use Rattle.ut_model.specs.declared.route.Route.TheVariants.{AddGroup, AddRole, AddUser, Create, Upsert}
 use Rattle.ut_model.specs.Organisations.{administrator, fresh}
 use Rattle.ut_model.specs.Paths.{Asked}
 use Rattle.ut_model.specs.Replies.{reply_of}
@@ -100,6 +100,12 @@ change_form (Create object) (answer.Made id) h = (refl, λ e. none_made (subst I
 change_form (Create object) _ h = absurd h
 change_form (Upsert object key value) (answer.Upserted id created) h = (upserted_status id created, λ e. none_made (subst IsSomeText e (upserted_some id created)))
 change_form (Upsert object key value) _ h = absurd h
+change_form AddUser (answer.Made id) h = (refl, λ e. none_made (subst IsSomeText e (made_some id)))
+change_form AddUser _ h = absurd h
+change_form AddRole (answer.Made id) h = (refl, λ e. none_made (subst IsSomeText e (made_some id)))
+change_form AddRole _ h = absurd h
+change_form AddGroup (answer.Made id) h = (refl, λ e. none_made (subst IsSomeText e (made_some id)))
+change_form AddGroup _ h = absurd h
 change_form _ answer.Done h = (refl, refl)
 change_form _ _ h = absurd h
 

@@ -4,7 +4,7 @@ use Rattle.std.specs.Prelude.{◌≡◌, ◌≢◌, ◌⊎◌, ℕ, [], true, Is
 use Rattle.ut_model.specs.declared.caller.Caller.{Caller}
 use Rattle.ut_model.specs.declared.reply.Reply.{Reply}
 use Rattle.ut_model.specs.declared.route.Route.{Route}
-use Rattle.ut_model.specs.declared.route.Route.TheVariants.{Create, Upsert}
+use Rattle.ut_model.specs.declared.route.Route.TheVariants.{AddGroup, AddRole, AddUser, Create, Upsert}
 use Rattle.ut_model.specs.Paths.{Asked}
 use Rattle.ut_model.specs.Refusals.{is_refusal_status}
 use Rattle.ut_stands.specs.declared.judged.Judged.{Judged}
@@ -15,10 +15,14 @@ use Rattle.ut_step.specs.Own.{IsAsking}
 abbrev pub Administers : Caller → (now : ℕ) → Asked → Type 0
 Administers c now a = IsAsking c now a × (a.user.admin ≡ true)
 
--- the reply to a change: of a new record 201 with a body, of an upsert 201 or 200 with one, and of all else 204 without one
+-- the reply to a change: of a new record, user, role or group 201 with a body, of an upsert 201 or 200 with one, and of all else
+-- 204 without one
 abbrev pub IsChangeReply : Route → Reply → Type 0
 IsChangeReply (Create object) r = (r.status ≡ 201) × (r.body ≢ [])
 IsChangeReply (Upsert object key value) r = ((r.status ≡ 201) ⊎ (r.status ≡ 200)) × (r.body ≢ [])
+IsChangeReply AddUser r = (r.status ≡ 201) × (r.body ≢ [])
+IsChangeReply AddRole r = (r.status ≡ 201) × (r.body ≢ [])
+IsChangeReply AddGroup r = (r.status ≡ 201) × (r.body ≢ [])
 IsChangeReply _ r = (r.status ≡ 204) × (r.body ≡ [])
 
 -- what goes with no change refuses

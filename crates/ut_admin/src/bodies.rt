@@ -1,21 +1,27 @@
 //! What the bodies of administrators' requests ask for.
 
-ghost use Rattle.std.specs.Prelude.{◌≡◌, IfOk, List, ℕ};
+ghost use Rattle.std.specs.Prelude.{◌≡◌, IfOk, IsTrue, List, ℕ};
 ghost use Rattle.ut_admin.specs.inner.Edits.{Asks, form_of};
-ghost use Rattle.ut_bodies.specs.Bodies.{request_in, values_request};
+ghost use Rattle.ut_bodies.specs.Bodies.{adds_new_role, request_in, sets_role_parent, sets_user_role, values_request};
 ghost use Rattle.ut_given.specs.Given.{IsInJson};
+ghost use Rattle.ut_model.specs.Organisations.{is_secret};
 ghost use Rattle.ut_model.specs.RequestOf.{request_or};
 ghost use Rattle.ut_model.specs.Requests.{Request, adds_field, adds_object, adds_validation_rule, sets_object};
+ghost use Rattle.ut_model.specs.Requests.{adds_group, adds_user, sets_group};
 ghost use Rattle.ut_model.specs.declared.record_bodies.Assignment.{Assignment};
 ghost use Rattle.ut_model.specs.declared.route.Route.TheVariants.{AddField, AddObject, AddValidationRule, SetObject};
+ghost use Rattle.ut_model.specs.declared.route.Route.TheVariants.{AddGroup, AddRole, AddUser, SetGroup, SetRole, SetUser};
 ghost use Rattle.ut_step.specs.Built.{built_request};
 
 use std::alloc::{AllocError, Global};
-use ut_bodies::{field_values, new_access, new_field, new_object, new_validation_rule};
+use ut_bodies::{
+    NewRole, RoleParent, UserRole, field_values, group_members, new_access, new_field, new_group,
+    new_object, new_role, new_user, new_validation_rule, parent_of_role, role_of_user,
+};
 use ut_keys::StoreFail;
-use ut_model::{Assignment, NewField, NewObject, NewValidationRule, Refusal};
+use ut_model::{Assignment, NewField, NewObject, NewUser, NewValidationRule, Refusal, Spelled};
 use ut_stands::EditFail;
-use ut_value::{Access, Items};
+use ut_value::{Access, Items, Text};
 
 // What was read, where a body that isn't of its form is refused.
 fn form_of<T>(read: Result<Option<T>, AllocError>) -> Result<T, EditFail>
@@ -82,4 +88,71 @@ pub(crate) fn field_in(alloc: Global, body: &[u8]) -> Result<NewField, EditFail>
     ensures { Asks adds_field (built_request AddField body.now) result }
 {
     form_of(new_field(alloc, body))
+}
+
+/// The user that a body asks for, whose secret is one.
+///
+/// # Errors
+///
+/// `Refused` with `BodyForm` if the body isn't of that form; `Store` with `Memory` if out of memory.
+pub(crate) fn user_in(alloc: Global, body: &[u8]) -> Result<NewUser, EditFail>
+    ensures asks { Asks adds_user (built_request AddUser body.now) result }
+    ensures secret { IfOk result (λ new. IsTrue (is_secret new.secret)) }
+{
+    form_of(new_user(alloc, body))
+}
+
+/// The role that a body asks for a user to have.
+///
+/// # Errors
+///
+/// `Refused` with `BodyForm` if the body isn't of that form; `Store` with `Memory` if out of memory.
+pub(crate) fn user_role_in(alloc: Global, body: &[u8]) -> Result<UserRole, EditFail>
+    ensures { (user : List ℕ) → Asks (sets_user_role user) (built_request (SetUser user) body.now) result }
+{
+    form_of(role_of_user(alloc, body))
+}
+
+/// The role that a body asks for.
+///
+/// # Errors
+///
+/// `Refused` with `BodyForm` if the body isn't of that form; `Store` with `Memory` if out of memory.
+pub(crate) fn role_in(alloc: Global, body: &[u8]) -> Result<NewRole, EditFail>
+    ensures { Asks adds_new_role (built_request AddRole body.now) result }
+{
+    form_of(new_role(alloc, body))
+}
+
+/// The parent that a body asks for a role to have.
+///
+/// # Errors
+///
+/// `Refused` with `BodyForm` if the body isn't of that form; `Store` with `Memory` if out of memory.
+pub(crate) fn parent_in(alloc: Global, body: &[u8]) -> Result<RoleParent, EditFail>
+    ensures { (role : List ℕ) → Asks (sets_role_parent role) (built_request (SetRole role) body.now) result }
+{
+    form_of(parent_of_role(alloc, body))
+}
+
+/// The name of the group that a body asks for.
+///
+/// # Errors
+///
+/// `Refused` with `BodyForm` if the body isn't of that form; `Store` with `Memory` if out of memory.
+pub(crate) fn group_in(alloc: Global, body: &[u8]) -> Result<Text, EditFail>
+    ensures { Asks adds_group (built_request AddGroup body.now) result }
+{
+    form_of(new_group(alloc, body))
+}
+
+/// The members that a body asks for a group to have.
+///
+/// # Errors
+///
+/// `Refused` with `BodyForm` if the body isn't of that form; `Store` with `Memory` if out of memory.
+pub(crate) fn members_in(alloc: Global, body: &[u8]) -> Result<Items<Spelled>, EditFail>
+    ensures { (group : List ℕ) → Asks (sets_group group) (built_request (SetGroup group) body.now) result }
+{
+    form_of(group_members(alloc, body))
 }

@@ -12,6 +12,7 @@ ghost use Rattle.ut_value.specs.Dates.{is_moment};
 
 use crate::answer::{Answer, done};
 use crate::bodies::{access_in, field_in, object_in, rule_in};
+use crate::people::{changed_group, changed_role, changed_user, new_group, new_role, new_user};
 use crate::records::{changed_record, deleted_record, new_record, upserted_record};
 use std::alloc::Global;
 use ut_edits::make_edit;
@@ -73,6 +74,12 @@ pub(crate) fn edit<K: Keeper>(
             let new = rule_in(alloc, body)?;
             done(make_edit(alloc, draft, org, &AddValidationRule { new: &new }))
         }
+        Route::AddUser => new_user(alloc, draft, org, body),
+        Route::SetUser { id } => changed_user(alloc, draft, org, id, body),
+        Route::AddRole => new_role(alloc, draft, org, body),
+        Route::SetRole { id } => changed_role(alloc, draft, org, id, body),
+        Route::AddGroup => new_group(alloc, draft, org, body),
+        Route::SetGroup { id } => changed_group(alloc, draft, org, id, body),
         // No other route is built.
         _ => Err(EditFail::Refused(Refusal::NotBuilt {
             what: Text::from_str(alloc, "route")?,

@@ -1,13 +1,15 @@
-//! An administrator's requests on objects, fields, validation rules and records, from the route and the body to the reply.
+//! An administrator's requests on objects, fields, validation rules, records and people, from the route and the body to the reply.
 //!
-//! It depends on `ut_bodies` for what bodies say, on `ut_meta`, `ut_records`, `ut_upserts` and `ut_deletes` for the edits, and on
-//! `ut_replies` for what was made or upserted. Its contract: over tables in which the organisation's rows stand for a tenant of which
-//! the caller is an administrator the reply is that of the request's verdict, and its rows then stand for what the verdict leaves.
+//! It depends on `ut_bodies` for what bodies say, on `ut_meta`, `ut_records`, `ut_upserts`, `ut_deletes` and `ut_people` for the
+//! edits, and on `ut_replies` for what was made or upserted. Its contract: over tables in which the organisation's rows stand for a
+//! tenant of which the caller is an administrator the reply is that of the request's verdict, and its rows then stand for what the
+//! verdict leaves.
 #![tactic(auto)]
 
 mod answer;
 mod bodies;
 mod edits;
+mod people;
 mod records;
 mod replies;
 mod requests;

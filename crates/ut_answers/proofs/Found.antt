@@ -49,7 +49,8 @@ use Rattle.ut_bind.specs.declared.plan.Shown.{Shown}
 use Rattle.ut_bind.specs.declared.plan.SortKey.{SortKey}
 use Rattle.ut_step.specs.Flat.{is_flat}
 use Rattle.ut_exec.specs.Ranks.{by_rank}
-use Rattle.ut_exec.specs.Written.{AppendsRows, InTenants, WritesRows, rows_kept, rows_sorted}
+use Rattle.ut_exec.specs.Fails.{ended_exec}
+use Rattle.ut_exec.specs.Written.{AppendsRows, IfDone, InTenants, WritesRows, rows_sorted}
 use Rattle.ut_exec.specs.declared.fail.ExecFail.{ExecFail}
 use Rattle.ut_exec.specs.declared.fail.ExecFail.TheVariants.{Store, TooLarge}
 use Rattle.ut_exec.specs.declared.window.Window.{Window}
@@ -57,12 +58,14 @@ use Rattle.ut_replies.specs.Names.{name_attributes}
 use Rattle.ut_replies.specs.Rows.{behind_commas}
 use Rattle.ut_replies.proofs.Bodies.{longer}
 use Rattle.ut_replies.proofs.Lists.{all_at, kept_from, left, right, same_map}
+use Rattle.ut_stands.specs.Calls.{Ending, done, fell, stopped}
 use Rattle.ut_stands.specs.Layouts.{IsLayout, layout_of, own_layout}
 use Rattle.ut_stands.specs.Plan.{OrgPlan}
 use Rattle.ut_stands.specs.declared.layout.Layout.{Layout}
 use Rattle.ut_answers.specs.Answers.{AnswersBy, IsAskedOf, Refuses}
 use Rattle.ut_answers.specs.Ranks.{rank_by, rank_cmp}
-use Rattle.ut_answers.specs.inner.Found.{AnswersPlan, plan_reply, plan_rows, rows_by, window_of}
+use Rattle.ut_answers.specs.Planned.{plan_rows, rows_by, window_of}
+use Rattle.ut_answers.specs.inner.Found.{AnswersPlan, plan_reply}
 use Rattle.ut_answers.specs.inner.Rows.{cell_of, row_text}
 use Rattle.ut_answers.proofs.Ranking.{in_order_alike, rank_is_order}
 use Rattle.ut_answers.proofs.Written.{member_text}
@@ -150,7 +153,7 @@ module _ (t : Tenant) (r : Record) (sound : IsSound t) (has : Has t.records r) (
   site_printable its_modified = it.modified
   site_printable (value_site n) = printable_at r.values n (printable t r sound has)
 
-  cell_is : (s : Shown) → cell_of r s ≡ value_in (site_of s.site) r
+  pub cell_is : (s : Shown) → cell_of r s ≡ value_in (site_of s.site) r
   cell_is s = ap (λ (b : Bool). cond b (value_in (site_of s.site) r) value.Null) (site_printable (site_of s.site))
 
   -- what is shown, as texts
@@ -183,14 +186,14 @@ module _ (laws : Laws) (a : Asked) (q : Query) (o : Numbered) (named : object_na
     abbrev kept : List Record
     kept = filter (takes plan.check) rs
 
-    ordered : (ks : List SortKey) → rows_by ks (window_of plan) (takes plan.check) o.number a.tenant ≡ limited plan.most (drop plan.skip (in_order (by_keys ks) kept))
+    pub ordered : (ks : List SortKey) → rows_by ks (window_of plan) (takes plan.check) o.number a.tenant ≡ limited plan.most (drop plan.skip (in_order (by_keys ks) kept))
     ordered [] = ap (λ (xs : List Record). limited plan.most (drop plan.skip xs)) (sym (laws.already a kept (kept_rise (takes plan.check) rs (laws.rise a.tenant o.number sound))))
     ordered (k ∷ ks) = refl
 
     pub rows_found : plan_rows plan o.number a.tenant ≡ found a q
     rows_found = ordered plan.order ∙ laws.found a q o plan named (laws.readable a o.number sound admin) means
 
-    has_row : (ks : List SortKey) (r : Record) → Has (limited plan.most (drop plan.skip (in_order (by_keys ks) kept))) r → Has rs r
+    pub has_row : (ks : List SortKey) (r : Record) → Has (limited plan.most (drop plan.skip (in_order (by_keys ks) kept))) r → Has rs r
     has_row ks r m = (kept_from (takes plan.check) rs r (has_ordered (by_keys ks) kept r (has_dropped plan.skip (in_order (by_keys ks) kept) r (has_limited plan.most (drop plan.skip (in_order (by_keys ks) kept)) r m)))).0
 
     -- ---- a row
@@ -293,7 +296,7 @@ refused_so a why (Err f) e = λ d. apart (sym e ∙ d)
     apart : Memory ≡ Damaged → ⊥
     apart d = cc
 
-is_layout : ((t : Tenant) (name : List ℕ) (o : Numbered) → object_named t name ≡ Some o → object_numbered t o.number ≡ Some o.object)
+pub is_layout : ((t : Tenant) (name : List ℕ) (o : Numbered) → object_named t name ≡ Some o → object_numbered t o.number ≡ Some o.object)
     → (org : ℕ) (name : List ℕ) (p : OrgPlan) (t : Tenant) (o : Numbered) → object_named t name ≡ Some o → IsLayout p t (layout_of org p t o)
 unfolding own_layout
 is_layout named_at org name p t o there =
@@ -333,3 +336,15 @@ module _ (laws : Laws) (l : Layout) (moment : ℤ) (q : Query) (m : Tables) (p :
     pub plan_answers : (result : Result Reply StoreFail) → AnswersPlan l plan m result → AnswersBy a (ask a q) result
     plan_answers (Ok r) answers = (answers p a.tenant asked.stands its_layout ∙ reply_is ∙ ap (λ (v : Verdict). reply_of a v.answer) (sym verdict_is), ap (λ (v : Verdict). v.tenant) verdict_is)
     plan_answers (Err e) answers = answers p a.tenant asked.stands its_layout
+
+-- ---- what was shown
+
+-- it is so, whether the call was done or not
+pub so_if_done : (e : Ending) (P : Type 0) → P → IfDone e P
+so_if_done done P p = p
+so_if_done fell P p = tt
+so_if_done stopped P p = tt
+
+-- rows that are too large were all looked at
+pub shown_so : (r : Result ℕ ExecFail) (e : Ending) (P : Type 0) → r ≡ Err TooLarge → IfDone (ended_exec r) P → IfDone e P
+shown_so r e P is h = so_if_done e P (subst (λ (x : Result ℕ ExecFail). IfDone (ended_exec x) P) is h)

@@ -16,7 +16,6 @@ use Rattle.ut_bind.specs.Plans.{by_keys, values_by}
 use Rattle.ut_bind.specs.declared.plan.SortKey.{SortKey}
 use Rattle.ut_exec.specs.Ranks.{by_rank}
 use Rattle.ut_answers.specs.Ranks.{part_cmp, part_in, part_of, rank_by, rank_cmp}
-use Rattle.ut_answers.specs.declared.ranks.Part.{Part}
 use Rattle.ut_answers.specs.declared.ranks.Part.TheVariants.{First, Up, Down, Last}
 
 then_end : (o : Ordering) → ordering_then o Equal ≡ o

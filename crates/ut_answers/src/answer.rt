@@ -3,12 +3,12 @@
 ghost use Rattle.std.specs.Prelude.{◌≡◌, ℕ, List, IfErr, IfOk, length};
 ghost use Rattle.std.specs.Str.{encode_utf8_all};
 ghost use Rattle.ut_answers.specs.Answers.{AnswersFlat, IsReadReply, Refuses};
-ghost use Rattle.ut_answers.specs.inner.Found.{AnswersPlan, row_bytes, plan_rows};
+ghost use Rattle.ut_answers.specs.Planned.{plan_rows};
+ghost use Rattle.ut_answers.specs.inner.Found.{AnswersPlan};
 ghost use Rattle.ut_exec.specs.Fails.{ended_exec};
-ghost use Rattle.ut_exec.specs.Written.{WritesRows, most_shown};
+ghost use Rattle.ut_exec.specs.Written.{ShowsRecords, WritesRows, most_shown};
 ghost use Rattle.ut_keeper.specs.Draft.{DraftTells, removals_of, tables_of};
 ghost use Rattle.ut_keys.specs.declared.fail.StoreFail.TheVariants.{Memory};
-ghost use Rattle.ut_model.specs.Limits.{reply_limit};
 ghost use Rattle.ut_model.specs.Replies.{json_reply, unless_too_large};
 ghost use Rattle.ut_model.specs.RowsJson.{rows_json};
 ghost use Rattle.ut_replies.specs.Rows.{behind_commas};
@@ -21,7 +21,7 @@ use http::StatusCode;
 use std::alloc::{AllocError, Global};
 use ut_bind::{Plan, bind, plan_laws, query_refusal};
 use ut_data::data_laws;
-use ut_exec::{ExecFail, Window, write_rows, write_sorted_rows};
+use ut_exec::{ExecFail, RowForm, Window, write_rows, write_sorted_rows};
 use ut_keeper::{Draft, Keeper};
 use ut_keys::StoreFail;
 use ut_model::{REPLY_LIMIT, Refusal, Reply, administrator_laws, object_laws, record_laws};
@@ -62,18 +62,26 @@ fn rows_reply(alloc: Global, count: usize, rows: &[u8]) -> Result<Reply, AllocEr
     }
 }
 
-// Appends the rows of a plan, and returns how many they are.
-fn write_planned<K: Keeper>(
+/// Appends the rows of a plan in this form, and returns how many they are.
+///
+/// # Errors
+///
+/// `TooLarge` exactly if they have more bytes than there is room for. `Store` with `Keeper` if the keeper failed, with `Memory` if out
+/// of memory, with `Damaged` never if the organisation's rows stand for a tenant whose layout it is. Some rows may then have been
+/// appended.
+pub fn write_planned<K: Keeper, W: RowForm>(
     alloc: Global,
     draft: &mut Draft<'_, K>,
     layout: &Layout,
     plan: &Plan,
-    form: &JsonRows<'_>,
+    form: &W,
+    room: usize,
     out: &mut Vec<u8>,
 ) -> Result<usize, ExecFail>
     ensures what { DraftTells K.state draft.old draft.new
-        → WritesRows layout.now (plan_rows plan.now layout.now.object) (row_bytes form.now) reply_limit out.old.items out.new.items
+        → WritesRows layout.now (plan_rows plan.now layout.now.object) (W.written form.now) room out.old.items out.new.items
         (tables_of K.state draft.old) result }
+    ensures shown { ShowsRecords K.state layout.now (ended_exec result) draft.old draft.new }
     ensures calls { Calls K.state (most_shown (removals_of K.state 7 draft.old)) (ended_exec result) draft.old draft.new }
 {
     call_laws::<K>();
@@ -84,19 +92,11 @@ fn write_planned<K: Keeper>(
         most: plan.most,
     };
     if keys.is_empty() {
-        write_rows(alloc, draft, layout, &keeps, form, window, REPLY_LIMIT, out)
+        write_rows(alloc, draft, layout, &keeps, form, window, room, out)
     } else {
         let ranks = ByKeys { keys };
         write_sorted_rows(
-            alloc,
-            draft,
-            layout,
-            &keeps,
-            &ranks,
-            form,
-            window,
-            REPLY_LIMIT,
-            out,
+            alloc, draft, layout, &keeps, &ranks, form, window, room, out,
         )
     }
 }
@@ -110,6 +110,7 @@ fn answer_plan<K: Keeper>(
 ) -> Result<Reply, StoreFail>
     ensures what { DraftTells K.state draft.old draft.new → AnswersPlan layout.now plan.now (tables_of K.state draft.old) result }
     ensures form { IfOk result IsReadReply }
+    ensures shown { ShowsRecords K.state layout.now (ended result) draft.old draft.new }
     ensures calls { Calls K.state (most_shown (removals_of K.state 7 draft.old)) (ended result) draft.old draft.new }
 {
     call_laws::<K>();
@@ -118,7 +119,7 @@ fn answer_plan<K: Keeper>(
         shown: plan.shown.as_slice(),
     };
     let mut rows = Vec::new(alloc);
-    match write_planned(alloc, draft, layout, plan, &form, &mut rows) {
+    match write_planned(alloc, draft, layout, plan, &form, REPLY_LIMIT, &mut rows) {
         Ok(count) => match rows_reply(alloc, count, rows.as_slice()) {
             Ok(reply) => Ok(reply),
             Err(_) => Err(StoreFail::Memory),
@@ -143,6 +144,8 @@ pub fn answer_flat<K: Keeper>(
 ) -> Result<Reply, StoreFail>
     ensures what { DraftTells K.state draft.old draft.new → AnswersFlat layout.now now query.now (tables_of K.state draft.old) result }
     ensures form { IfOk result IsReadReply }
+    // Each record of the object is shown once at most, as long as the draft removes none.
+    ensures shown { ShowsRecords K.state layout.now (ended result) draft.old draft.new }
     ensures calls { Calls K.state (most_shown (removals_of K.state 7 draft.old)) (ended result) draft.old draft.new }
 {
     call_laws::<K>();

@@ -10,4 +10,5 @@ mod ranks;
 mod rows;
 mod test;
 
-pub use crate::answer::{answer_flat, refuse};
+pub use crate::answer::{answer_flat, refuse, write_planned};
+pub use crate::rows::is_printable;

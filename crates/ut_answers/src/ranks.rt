@@ -2,16 +2,16 @@
 
 ghost use Rattle.std.specs.Cmp.{eq_by_cmp_equiv, partial_equiv_from_equiv, partial_order_from_agreeing_total};
 ghost use Rattle.std.specs.Ordering.{eq_by_cmp};
-ghost use Rattle.std.specs.Prelude.{◌≡◌, IfOk, Some, map, refl};
+ghost use Rattle.std.specs.Prelude.{◌≡◌, Some, map, refl};
 ghost use Rattle.ut_answers.specs.Ranks.{part_cmp, part_in, part_of, parts_total, rank_by, rank_cmp, rank_total, side_of};
-ghost use Rattle.ut_bind.specs.Checks.{site_of};
-ghost use Rattle.ut_model.specs.Fields.{value_in};
+ghost use Rattle.ut_bind.specs.Given.{GivesBy};
+ghost use Rattle.ut_model.specs.declared.record.Record.{Record};
 
-use std::alloc::{AllocError, Global};
+use std::alloc::Global;
 use std::cmp::Ordering;
-use ut_bind::{HeldValue, Site, SortKey, value_at};
-use ut_exec::Ranks;
-use ut_model::Record;
+use ut_bind::{HasValues, SortKey};
+use ut_exec::{Ranks, SeenRecord};
+use ut_parts::CodecFail;
 use ut_value::{Items, Value, order};
 
 /// What is compared of a record by one key: the nulls that come first, values that rise or fall, the nulls that come last.
@@ -122,16 +122,6 @@ impl Ord for Rank {
     }
 }
 
-// A copy of the value that a record has at a site.
-fn value_of(alloc: Global, item: &Record, site: Site) -> Result<Value, AllocError>
-    ensures { IfOk result (λ v. v ≡ value_in (site_of site) item.now) }
-{
-    match value_at(item, site) {
-        HeldValue::Made(value) => Ok(value),
-        HeldValue::There(value) => value.copy(alloc),
-    }
-}
-
 // What a key compares of a value.
 fn part_of(key: &SortKey, value: Value) -> Part
     ensures { result ≡ part_of key.now value }
@@ -154,12 +144,12 @@ fn part_of(key: &SortKey, value: Value) -> Part
     }
 }
 
-fn parts_of(alloc: Global, keys: &[SortKey], item: &Record) -> Result<Vec<Part>, AllocError>
-    ensures { IfOk result (λ parts. parts.items ≡ map (part_in item.now) keys.now) }
+fn parts_of<V: HasValues>(alloc: Global, keys: &[SortKey], item: &V) -> Result<Vec<Part>, CodecFail>
+    ensures { (r : Record) → V.its_record item.now ≡ Some r → GivesBy (λ parts. parts.items) (map (part_in r) keys.now) result }
 {
     let mut parts = Vec::new(alloc);
     for key in keys {
-        let value = value_of(alloc, item, key.site)?;
+        let value = item.value_at(alloc, key.site)?;
         parts.push(part_of(key, value))?;
     }
     Ok(parts)
@@ -176,7 +166,7 @@ impl Ranks for ByKeys<'_> {
 
     ghost ranked = { λ by r. rank_by by.keys.now r };
 
-    fn rank_of(&self, alloc: Global, item: &Record) -> Result<Rank, AllocError> {
+    fn rank_of(&self, alloc: Global, item: &SeenRecord<'_>) -> Result<Rank, CodecFail> {
         let parts = parts_of(alloc, self.keys, item)?;
         Ok(Rank {
             parts: Items::from_vec(parts),

@@ -1,21 +1,24 @@
 //! Rows in JSON.
 
-ghost use Rattle.std.specs.Prelude.{◌≡◌, ◌++◌, ◌∷◌, OnOk};
+ghost use Rattle.std.specs.Prelude.{◌≡◌, ◌++◌, ◌∷◌, OnOk, Some};
 ghost use Rattle.std.specs.List.{flat_map};
 ghost use Rattle.std.specs.Str.{chars, encode_utf8_all};
 ghost use Rattle.ut_answers.specs.inner.Rows.{cell_json, or_null, row_text};
+ghost use Rattle.ut_exec.specs.Written.{Puts};
+ghost use Rattle.ut_model.specs.declared.record.Record.{Record};
 ghost use Rattle.ut_model.specs.RowsJson.{member_json, value_json};
 ghost use Rattle.ut_value.specs.Printing.{is_printable};
 
 use std::alloc::{AllocError, Global};
-use ut_bind::{HeldValue, Shown, value_at};
-use ut_exec::RowForm;
+use ut_bind::{HasValues, Shown};
+use ut_exec::{RowForm, SeenRecord};
 use ut_json::Writer;
-use ut_model::Record;
+use ut_parts::CodecFail;
 use ut_replies::{write_row_end, write_row_start, write_shown};
 use ut_value::{FieldType, Text, Value, check_value};
 
-fn is_printable(value: &Value) -> bool
+/// Whether a value has a text: days and moments have one in the years 0001 to 9999.
+pub fn is_printable(value: &Value) -> bool
     ensures { result ≡ is_printable value.now }
 {
     match value {
@@ -42,29 +45,29 @@ fn write_member(
 }
 
 // What is shown of a record.
-fn write_cell(
+fn write_cell<V: HasValues>(
     alloc: Global,
     writer: &mut Writer,
     shown: &Shown,
-    item: &Record,
-) -> Result<(), AllocError>
-    ensures { OnOk result (writer.new ≡ writer.old ++ encode_utf8_all (44 ∷ cell_json item.now shown.now)) }
+    item: &V,
+) -> Result<(), CodecFail>
+    ensures { (r : Record) → V.its_record item.now ≡ Some r
+        → Puts (encode_utf8_all (44 ∷ cell_json r shown.now)) writer.old writer.new result }
 {
-    let name = shown.name.as_str();
-    match value_at(item, shown.site) {
-        HeldValue::Made(value) => write_member(alloc, writer, name, &value),
-        HeldValue::There(value) => write_member(alloc, writer, name, value),
-    }
+    let value = item.value_at(alloc, shown.site)?;
+    write_member(alloc, writer, shown.name.as_str(), &value)?;
+    Ok(())
 }
 
 // All that is shown of a record.
-fn write_cells(
+fn write_cells<V: HasValues>(
     alloc: Global,
     writer: &mut Writer,
     shown: &[Shown],
-    item: &Record,
-) -> Result<(), AllocError>
-    ensures { OnOk result (writer.new ≡ writer.old ++ encode_utf8_all (flat_map (λ s. 44 ∷ cell_json item.now s) shown.now)) }
+    item: &V,
+) -> Result<(), CodecFail>
+    ensures { (r : Record) → V.its_record item.now ≡ Some r
+        → Puts (encode_utf8_all (flat_map (λ s. 44 ∷ cell_json r s) shown.now)) writer.old writer.new result }
 {
     let mut rest = shown;
     'shown: while let Some((first, more)) = rest.split_first() {
@@ -85,11 +88,17 @@ pub(crate) struct JsonRows<'a> {
 impl RowForm for JsonRows<'_> {
     ghost written = { λ f r. encode_utf8_all (44 ∷ row_text f.object.now f.shown.now r) };
 
-    fn write(&self, alloc: Global, item: &Record, out: &mut Vec<u8>) -> Result<(), AllocError> {
+    fn write(
+        &self,
+        alloc: Global,
+        item: &SeenRecord<'_>,
+        out: &mut Vec<u8>,
+    ) -> Result<(), CodecFail> {
         let mut writer = Writer::new(alloc);
-        write_row_start(alloc, &mut writer, self.object.as_str(), &item.id)?;
+        write_row_start(alloc, &mut writer, self.object.as_str(), &item.id())?;
         write_cells(alloc, &mut writer, self.shown, item)?;
         write_row_end(alloc, &mut writer)?;
-        out.extend_from_slice(writer.finish().as_slice())
+        out.extend_from_slice(writer.finish().as_slice())?;
+        Ok(())
     }
 }

@@ -2,10 +2,10 @@
 
 ghost use Rattle.ut_bind.specs.Checks.{takes};
 
-use std::alloc::{AllocError, Global};
+use std::alloc::Global;
 use ut_bind::{Check, check_holds};
-use ut_exec::Keeps;
-use ut_model::Record;
+use ut_exec::{Keeps, SeenRecord};
+use ut_parts::CodecFail;
 
 /// Records on which a condition holds, if there is one.
 #[derive(Drop)]
@@ -16,7 +16,7 @@ pub(crate) struct Holding<'a> {
 impl Keeps for Holding<'_> {
     ghost keep = { λ h r. takes h.check.now r };
 
-    fn keeps(&self, alloc: Global, item: &Record) -> Result<bool, AllocError> {
+    fn keeps(&self, alloc: Global, item: &SeenRecord<'_>) -> Result<bool, CodecFail> {
         check_holds(alloc, self.check, item)
     }
 }

@@ -2,12 +2,15 @@
 use Rattle.std.proofs.Common.{◌≡◌, Bool, true, false, not, ◌&&◌, ◌||◌, List, refl, ap, ◌∙◌}
 use Rattle.std.specs.List.{list_all, list_any}
 use Rattle.std.specs.Prelude.{Result, Ok, Err, IfOk}
+use Rattle.ut_parts.specs.declared.fail.CodecFail.{CodecFail}
+use Rattle.ut_parts.specs.declared.fail.CodecFail.TheVariants.{Damaged, Memory}
 use mathlib.Core.Former.{Count}
 use denote.Hole.Carrier.{hidden}
 use Rattle.ut_bind.specs.declared.check.Check.{Check, Not, And, Or, And', Or', Row_of-Check, end_of-Check, more_of-Check, items-the_row-Check, items_hidden-the_row-Check-1}
 use Rattle.ut_bind.specs.declared.check.Check.TheBlock.{hidden-the_row-Check-0}
 use Rattle.ut_model.specs.declared.record.Record.{Record}
 use Rattle.ut_bind.specs.Checks.{all_checks, check_holds, some_checks}
+use Rattle.ut_bind.specs.Given.{GivesJust}
 
 and_true : (b : Bool) → (b && true) ≡ b
 and_true true = refl
@@ -40,6 +43,12 @@ module _ (r : Record) where
   holds_or cs =
       let row = row_of (Or cs) in
       some_in_row row.0 row.1 ∙ ap (list_any (check_holds r)) (items_hidden-the_row-Check-1 cs)
+
+-- one thing that is given for another that is the same
+pub gives_so : {X : Type 0} {x y : X} (result : Result X CodecFail) → x ≡ y → GivesJust x result → GivesJust y result
+gives_so (Ok z) e g = g ∙ e
+gives_so (Err Damaged) e g = g
+gives_so (Err Memory) e g = tt
 
 -- one fact of what was returned for another
 pub if_ok : {A E : Type 0} {P Q : A → Type 0} (r : Result A E) → ((x : A) → P x → Q x) → IfOk r P → IfOk r Q

@@ -1,3 +1,4 @@
 pub mod Checks
+pub mod Given
 pub mod Plans
 pub mod inner

@@ -25,4 +25,4 @@ pub use crate::laws::plan_laws;
 pub use crate::plan::{Plan, Shown, SortKey};
 pub use crate::refusals::query_refusal;
 pub use crate::truth::check_holds;
-pub use crate::values::{HeldValue, value_at};
+pub use crate::values::{HasValues, HeldValue, value_at};

@@ -1,6 +1,6 @@
 //! Whether a condition whose names are places holds on a record.
 
-ghost use Rattle.std.specs.Prelude.{◌≡◌, IfOk};
+ghost use Rattle.std.specs.Prelude.{◌≡◌, IfOk, Some};
 ghost use Rattle.std.specs.List.{list_all, list_any};
 ghost use Rattle.ut_model.specs.Conditions.{as_day, is_like};
 ghost use Rattle.ut_model.specs.Fields.{is_null, value_in};
@@ -8,12 +8,14 @@ ghost use Rattle.ut_value.specs.Values.{cmp};
 ghost use Rattle.ut_value.specs.declared.value.Value.TheVariants as its;
 ghost use Rattle.ut_query.specs.declared.query.Op.TheVariants as op;
 ghost use Rattle.ut_bind.specs.Checks as spec;
+ghost use Rattle.ut_bind.specs.Given.{GivesJust};
+ghost use Rattle.ut_model.specs.declared.record.Record.{Record};
 
 use crate::check::{Check, Operand, Site};
-use crate::values::{HeldValue, value_at};
+use crate::values::HasValues;
 use std::alloc::{AllocError, Global};
 use std::cmp::Ordering;
-use ut_model::Record;
+use ut_parts::CodecFail;
 use ut_query::{LikePattern, Op, like};
 use ut_value::{Value, day_of_moment, order};
 
@@ -128,18 +130,21 @@ fn test_value(alloc: Global, value: &Value, check: &Check) -> Result<bool, Alloc
     }
 }
 
-fn test_at(alloc: Global, item: &Record, site: Site, check: &Check) -> Result<bool, AllocError>
-    ensures { IfOk result (λ x. x ≡ spec.tested check.now (value_in (spec.site_of site) item.now)) }
+fn test_at<V: HasValues>(
+    alloc: Global,
+    item: &V,
+    site: Site,
+    check: &Check,
+) -> Result<bool, CodecFail>
+    ensures { (r : Record) → V.its_record item.now ≡ Some r → GivesJust (spec.tested check.now (value_in (spec.site_of site) r)) result }
 {
-    match value_at(item, site) {
-        HeldValue::Made(value) => test_value(alloc, &value, check),
-        HeldValue::There(value) => test_value(alloc, value, check),
-    }
+    let value = item.value_at(alloc, site)?;
+    Ok(test_value(alloc, &value, check)?)
 }
 
 #[cycle(truth)]
-fn holds(alloc: Global, check: &Check, item: &Record) -> Result<bool, AllocError>
-    ensures { IfOk result (λ x. x ≡ spec.check_holds item.now check.now) }
+fn holds<V: HasValues>(alloc: Global, check: &Check, item: &V) -> Result<bool, CodecFail>
+    ensures { (r : Record) → V.its_record item.now ≡ Some r → GivesJust (spec.check_holds r check.now) result }
 {
     match check {
         Check::Test { site, .. } | Check::Like { site, .. } | Check::In { site, .. } => {
@@ -152,8 +157,8 @@ fn holds(alloc: Global, check: &Check, item: &Record) -> Result<bool, AllocError
 }
 
 #[cycle(truth)]
-fn all_hold(alloc: Global, checks: &[Check], item: &Record) -> Result<bool, AllocError>
-    ensures { IfOk result (λ x. x ≡ list_all (spec.check_holds item.now) checks.now) }
+fn all_hold<V: HasValues>(alloc: Global, checks: &[Check], item: &V) -> Result<bool, CodecFail>
+    ensures { (r : Record) → V.its_record item.now ≡ Some r → GivesJust (list_all (spec.check_holds r) checks.now) result }
 {
     for check in checks {
         if !holds(alloc, check, item)? {
@@ -164,8 +169,8 @@ fn all_hold(alloc: Global, checks: &[Check], item: &Record) -> Result<bool, Allo
 }
 
 #[cycle(truth)]
-fn some_hold(alloc: Global, checks: &[Check], item: &Record) -> Result<bool, AllocError>
-    ensures { IfOk result (λ x. x ≡ list_any (spec.check_holds item.now) checks.now) }
+fn some_hold<V: HasValues>(alloc: Global, checks: &[Check], item: &V) -> Result<bool, CodecFail>
+    ensures { (r : Record) → V.its_record item.now ≡ Some r → GivesJust (list_any (spec.check_holds r) checks.now) result }
 {
     for check in checks {
         if holds(alloc, check, item)? {
@@ -175,13 +180,17 @@ fn some_hold(alloc: Global, checks: &[Check], item: &Record) -> Result<bool, All
     Ok(false)
 }
 
-/// Whether a plan's condition, if there is one, holds on a record.
+/// Whether a plan's condition, if there is one, holds on a record. A value is made for each test that is made.
 ///
 /// # Errors
 ///
-/// When out of memory.
-pub fn check_holds(alloc: Global, check: &Option<Check>, item: &Record) -> Result<bool, AllocError>
-    ensures { IfOk result (λ x. x ≡ spec.takes check.now item.now) }
+/// `Memory` if out of memory, `Damaged` never if there is a record.
+pub fn check_holds<V: HasValues>(
+    alloc: Global,
+    check: &Option<Check>,
+    item: &V,
+) -> Result<bool, CodecFail>
+    ensures { (r : Record) → V.its_record item.now ≡ Some r → GivesJust (spec.takes check.now r) result }
 {
     match check {
         Some(check) => holds(alloc, check, item),

@@ -1,11 +1,15 @@
-//! The value that a record has at a site.
+//! The values of a record, one by one.
 
-ghost use Rattle.std.specs.Prelude.{◌≡◌};
+ghost use Rattle.std.specs.Prelude.{◌≡◌, Option, Some};
 ghost use Rattle.ut_model.specs.Fields.{as_ref, value_in};
 ghost use Rattle.ut_bind.specs.Checks.{held_value, site_of};
+ghost use Rattle.ut_bind.specs.Given.{GivesJust};
+ghost use Rattle.ut_model.specs.declared.record.Record.{Record};
 
 use crate::check::Site;
+use std::alloc::Global;
 use ut_model::Record;
+use ut_parts::CodecFail;
 use ut_value::{Id, Value};
 
 /// A value of a record.
@@ -40,4 +44,18 @@ pub fn value_at(item: &Record, site: Site) -> HeldValue<'_>
             None => HeldValue::Made(Value::Null),
         },
     }
+}
+
+/// What has the values of a record. A value is made when it is asked for.
+pub trait HasValues {
+    // The record, unless it is damaged.
+    ghost its_record: { Self → Option Record };
+
+    /// The value that the record has at a site.
+    ///
+    /// # Errors
+    ///
+    /// `Memory` if out of memory, `Damaged` never if there is a record.
+    fn value_at(&self, alloc: Global, site: Site) -> Result<Value, CodecFail>
+        ensures { (r : Record) → its_record self.now ≡ Some r → GivesJust (value_in (site_of site) r) result };
 }

@@ -1,4 +1,6 @@
 pub mod Binds
+pub mod Cuts
 pub mod Folded
+pub mod Identities
 pub mod Spellings
 pub mod Taken

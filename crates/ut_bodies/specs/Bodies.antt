@@ -4,7 +4,10 @@ use Rattle.std.specs.Option.{option_map}
 use Rattle.ut_json.specs.Reading.{◌>>=◌}
 use Rattle.ut_model.specs.declared.record_bodies.Assignment.{Assignment}
 use Rattle.ut_model.specs.Members.{Body, assignments, body_in}
-use Rattle.ut_model.specs.Requests.{Request}
+use Rattle.ut_model.specs.Requests.{Request, adds_role, sets_role, sets_user}
+use Rattle.ut_bodies.specs.declared.people.NewRole.{NewRole}
+use Rattle.ut_bodies.specs.declared.people.RoleParent.{RoleParent}
+use Rattle.ut_bodies.specs.declared.people.UserRole.{UserRole}
 
 -- the request that a form gives for the members of the body
 abbrev pub request_in : (form : Body → Option Request) → (bytes : List ℕ) → Option Request
@@ -13,3 +16,13 @@ request_in form bytes = body_in bytes >>= form
 -- the request that is made of the values which a body gives to fields
 abbrev pub values_request : (make : List Assignment → Request) → Body → Option Request
 values_request make b = option_map make (assignments b)
+
+-- the requests that are made of what bodies say of roles, and of the roles of users
+abbrev pub adds_new_role : NewRole → Request
+adds_new_role new = adds_role new.name new.parent
+
+abbrev pub sets_role_parent : (role : List ℕ) → RoleParent → Request
+sets_role_parent role new = sets_role role new.parent
+
+abbrev pub sets_user_role : (user : List ℕ) → UserRole → Request
+sets_user_role user new = sets_user user new.role

@@ -13,7 +13,9 @@ use crate::fail::BodyFail;
 use crate::members::{are_formed, entry};
 use crate::name::Name;
 use crate::table::entry_named;
-use crate::values::{as_list, as_object, as_text, as_truth, as_whole, into_members};
+use crate::values::{
+    as_list, as_object, as_text, as_text_or_null, as_truth, as_whole, into_members,
+};
 use std::alloc::{AllocError, Global};
 use ut_json::{Json, JsonFail, Member, read};
 use ut_value::{Items, Text};
@@ -95,6 +97,13 @@ impl<'a> Body<'a> {
         as_text(self.value(name)?).ok_or(BodyFail::Form)
     }
 
+    /// A text, or none of null.
+    pub(crate) fn text_or_null(&self, name: Name) -> Result<Option<&'a Text>, BodyFail>
+        ensures { Gives option_copied result (model.text_or_null_in (said self.now) (name_of name)) }
+    {
+        as_text_or_null(self.value(name)?).ok_or(BodyFail::Form)
+    }
+
     /// What a table has under the text of a member.
     pub(crate) fn table_entry<T: Copy>(
         &self,
@@ -104,6 +113,12 @@ impl<'a> Body<'a> {
         ensures { Gives (λ x. x) result (choice_member (said self.now) (name_of name) (table_of table.now)) }
     {
         entry_named(table, self.text(name)?).ok_or(BodyFail::Form)
+    }
+
+    pub(crate) fn truth(&self, name: Name) -> Result<bool, BodyFail>
+        ensures { Gives (λ truth. truth) result (model.truth_in (said self.now) (name_of name)) }
+    {
+        as_truth(self.value(name)?).ok_or(BodyFail::Form)
     }
 
     /// A truth value, which is false if the member isn't there.

@@ -10,6 +10,8 @@ mod fields;
 mod members;
 mod name;
 mod objects;
+mod people;
+mod principals;
 mod records;
 mod rules;
 mod table;
@@ -18,5 +20,9 @@ mod values;
 
 pub use crate::fields::new_field;
 pub use crate::objects::{new_access, new_object};
+pub use crate::people::{
+    NewRole, RoleParent, UserRole, new_group, new_role, new_user, parent_of_role, role_of_user,
+};
+pub use crate::principals::group_members;
 pub use crate::records::field_values;
 pub use crate::rules::new_validation_rule;

@@ -3,7 +3,7 @@
 ghost use Rattle.std.specs.Prelude.{◌≡◌};
 ghost use Rattle.std.specs.Option.{option_copied, option_map};
 ghost use Rattle.ut_json.specs.declared.tree.Json.{out-Json};
-ghost use Rattle.ut_model.specs.Members.{as_text, as_truth, as_whole, list_by, object_in};
+ghost use Rattle.ut_model.specs.Members.{as_text, as_text_or_null, as_truth, as_whole, list_by, object_in};
 ghost use Rattle.ut_bodies.specs.inner.Spelled.{body_of};
 
 use ut_json::{Json, Member, Num};
@@ -17,6 +17,17 @@ pub(crate) fn as_text(json: &Json) -> Option<&Text>
 {
     match json {
         Json::Text(text) => Some(text),
+        _ => None,
+    }
+}
+
+/// A text, or none of null.
+pub(crate) fn as_text_or_null(json: &Json) -> Option<Option<&Text>>
+    ensures { option_map option_copied result ≡ as_text_or_null json.now }
+{
+    match json {
+        Json::Text(text) => Some(Some(text)),
+        Json::Null => Some(None),
         _ => None,
     }
 }

@@ -34,7 +34,7 @@ pub record Each {X Y : Type 0} (make : X → Option Y) (x : X) (xs : List X) (ys
   pub made : make x ≡ Some first
   pub rest : each_from make xs ≡ Some others
 
-some_inner : {X : Type 0} (x y : X) → ◌≡◌ {A = Option X} (Some x) (Some y) → x ≡ y
+pub some_inner : {X : Type 0} (x y : X) → ◌≡◌ {A = Option X} (Some x) (Some y) → x ≡ y
 some_inner x y e = cc
 
 pub each_cons : {X Y : Type 0} (make : X → Option Y) (x : X) (xs : List X) (ys : List Y) → each_from make (x ∷ xs) ≡ Some ys → Each make x xs ys

@@ -1,29 +1,30 @@
 -- What a page of an object's rows gives.
-use Rattle.std.proofs.Common.{◌≡◌, ◌∙◌, inr, ℕ, suc, ◌+◌, ◌-◌, ◌*◌, ◌<◌, ◌≤◌, Bool, true, false, cond, List, [], ◌∷◌, ◌++◌, Option, Some, None, refl, sym, ap, arith, length, take}
+use Rattle.std.proofs.Common.{◌≡◌, ◌∙◌, ℕ, suc, ◌+◌, ◌-◌, ◌*◌, ◌<◌, ◌≤◌, Bool, true, false, cond, List, [], ◌∷◌, ◌++◌, Option, Some, None, refl, sym, ap, arith, length, take}
 use Rattle.std.specs.Prelude.{Result, Ok, Err, Vec, min, nat_lt, option_copied, slice_get}
 use Rattle.std.specs.Option.{option_map}
 use Rattle.std.specs.Borrow.{Bor}
 use Rattle.std.proofs.lemmas.List.{length-append, length-take}
 use Rattle.std.proofs.lemmas.Bool.Decides.{nat_tests}
-use Rattle.ut_value.specs.Causes.{GivesOr}
 use Rattle.ut_value.specs.declared.value.Value.{Value}
-use Rattle.ut_keeper.specs.State.{seen}
+use Rattle.ut_keeper.specs.declared.keeper.KeptRow.{KeptRow}
 use Rattle.ut_keeper.specs.Tables.{Tables}
 use Rattle.ut_keys.specs.declared.data.DataRow.{DataRow}
+use Rattle.ut_keys.specs.Forms.{read_row}
+use Rattle.ut_keys.specs.Rows.{data_form}
 use Rattle.ut_keys.specs.declared.fail.StoreFail.{StoreFail}
 use Rattle.ut_keys.specs.declared.fail.StoreFail.TheVariants.{Damaged, Keeper, Memory}
 use Rattle.ut_data.specs.Decoding.{all_from, each_from, has_types, record_from}
-use Rattle.ut_data.specs.inner.Found.{listed_from}
 use Rattle.ut_model.specs.declared.record.Record.{Record}
 use Rattle.ut_model.specs.Cases.{in_case}
 use Rattle.ut_model.specs.Objects.{records_of}
 use Rattle.ut_model.specs.Sound.{IsSound}
 use Rattle.ut_model.specs.Tenant.{Tenant}
+use Rattle.ut_parts.specs.Plain.{◌>>=◌}
 use Rattle.ut_stands.specs.declared.layout.Layout.{Layout}
-use Rattle.ut_stands.specs.Layouts.{FindsOf, records_after}
+use Rattle.ut_stands.specs.Layouts.{records_after}
 use Rattle.ut_exec.specs.declared.pages.Pages.{Pages}
-use Rattle.ut_exec.specs.Written.{InTenants}
-use Rattle.ut_exec.specs.inner.Reading.{FindsPage, ReadsPage, ReadsOn, beyond, last_of, pages_left}
+use Rattle.ut_exec.specs.Seen.{kept_record}
+use Rattle.ut_exec.specs.inner.Reading.{FindsPage, ReadsPage, ReadsOn, beyond, id_in, last_of, pages_left}
 use Rattle.ut_exec.proofs.Offering.{each_cons, each_none}
 use Rattle.ut_exec.proofs.Paging.{Ascends, page_on}
 
@@ -81,32 +82,40 @@ id_of_row l row r e = by (has_types l) (all_from row l.fields) e
     by true None e = absurd cc
     by false vs e = absurd cc
 
+-- so has the record of a row that is kept
+id_of_kept : (l : Layout) (row : KeptRow) (r : Record) → kept_record l row ≡ Some r → id_in row ≡ Some r.id
+id_of_kept l row r e = by (read_row data_form row.key row.row) e
+  where
+    by : (o : Option DataRow) → (o >>= record_from l) ≡ Some r → option_map (λ (d : DataRow). d.id) o ≡ Some r.id
+    by None e = absurd cc
+    by (Some d) e = ap Some (sym (id_of_row l d r e))
+
 -- ---- a page
 
-module _ (l : Layout) (rs : List Record) (a b : Pages) (rows : List DataRow) (up : Ascends rs) (some : 0 < a.left)
-    (read : each_from (record_from l) rows ≡ Some (take 250 (beyond a.after rs))) (behind : b.after ≡ last_of a.after rows) (left : b.left ≡ pages_left a.left rows) where
+module _ (l : Layout) (rs : List Record) (a b : Pages) (rows : List KeptRow) (up : Ascends rs) (some : 0 < a.left)
+    (read : each_from (kept_record l) rows ≡ Some (take 250 (beyond a.after rs))) (behind : b.after ≡ last_of a.after rows) (left : b.left ≡ pages_left a.left rows) where
   abbrev page : List Record
   page = take 250 (beyond a.after rs)
 
   on : page ++ beyond b.after rs ≡ beyond a.after rs
   on = by (slice_get rows (length rows - 1)) refl
     where
-      by : (o : Option DataRow) → slice_get rows (length rows - 1) ≡ o → page ++ beyond b.after rs ≡ beyond a.after rs
+      by : (o : Option KeptRow) → slice_get rows (length rows - 1) ≡ o → page ++ beyond b.after rs ≡ beyond a.after rs
       by None e =
-          let empty : page ≡ [] = each_none (record_from l) page (ap (each_from (record_from l)) (sym (none_last rows e)) ∙ read) in
-          let same : b.after ≡ a.after = behind ∙ ap (λ (o : Option DataRow). in_case o a.after (λ row. Some row.id)) e in
+          let empty : page ≡ [] = each_none (kept_record l) page (ap (each_from (kept_record l)) (sym (none_last rows e)) ∙ read) in
+          let same : b.after ≡ a.after = behind ∙ ap (λ (o : Option KeptRow). in_case o a.after id_in) e in
           ap (λ (p : List Record). p ++ beyond b.after rs) empty ∙ ap (λ (after : Option (List ℕ)). beyond after rs) same
       by (Some row) e =
-          let end = each_last (record_from l) rows page row read e in
+          let end = each_last (kept_record l) rows page row read e in
           let same : b.after ≡ Some end.last.id =
-          behind ∙ ap (λ (o : Option DataRow). in_case o a.after (λ row. Some row.id)) e ∙ ap Some (sym (id_of_row l row end.last end.made)) in
+          behind ∙ ap (λ (o : Option KeptRow). in_case o a.after id_in) e ∙ id_of_kept l row end.last end.made in
           ap (λ (after : Option (List ℕ)). page ++ beyond after rs) same ∙ page_on rs a.after 250 page end.last up refl end.at
 
   enough : length (beyond a.after rs) ≤ 250 * a.left → length (beyond b.after rs) ≤ 250 * b.left
   enough h =
       let both : length page + length (beyond b.after rs) ≡ length (beyond a.after rs) = sym (length-append page (beyond b.after rs)) ∙ ap length on in
       fits (length rows) (length page) (length (beyond a.after rs)) (length (beyond b.after rs)) a.left b.left
-      (each_length (record_from l) rows page read) both (length-take 250 (beyond a.after rs)) some left h
+      (each_length (kept_record l) rows page read) both (length-take 250 (beyond a.after rs)) some left h
     where
       fits : (rows page all rest from to : ℕ) → page ≡ rows → page + rest ≡ all → page ≡ min 250 all → 0 < from → to ≡ cond (nat_lt rows 250) 0 (from - 1) → all ≤ 250 * from → rest ≤ 250 * to
       fits rows page all rest from to same both few some left h = by (nat_lt rows 250) refl
@@ -129,29 +138,8 @@ after_is : (n : ℕ) (after : Option (List ℕ)) (limit : ℕ) (t : Tenant) → 
 unfolding records_after
 after_is n after limit t = refl
 
-abbrev listed : Option (List Record) → Result (List Record) StoreFail
-listed o = in_case o (Err Damaged) (λ rs. Ok rs)
-
-module _ {A : Type 0} (l : Layout) (m : Tables) (value : Tenant → List Record) where
-  abbrev pub Finds : Result (Vec DataRow A) StoreFail → Type 0
-  Finds rows = (result : Result (List Record) StoreFail) → GivesOr Memory (listed_from l rows) result → FindsOf l value m result
-
-  page_of : (v : Vec DataRow A) → Finds (Ok v) → InTenants l m (λ t. each_from (record_from l) v.items ≡ Some (value t))
-  page_of v finds = by (each_from (record_from l) v.items) refl
-    where
-      by : (o : Option (List Record)) → each_from (record_from l) v.items ≡ o → InTenants l m (λ t. o ≡ Some (value t))
-      by (Some rs) e = λ q t s h. ap Some (finds (Ok rs) (ap listed e) q t s h)
-      by None e = λ q t s h. absurd (finds (Err Damaged) (inr (ap listed e)) q t s h)
-
-pub finds_page : {A : Type 0} (l : Layout) (m : Tables) (after : Option (List ℕ)) (rows : Result (Vec DataRow A) StoreFail)
-    → Finds l m (records_after l.object after 250) rows → seen 250 rows ≤ 250 → FindsPage l after m rows
-finds_page l m after (Ok v) finds few = (few, page_of l m (records_after l.object after 250) v finds)
-finds_page l m after (Err Damaged) finds few = finds (Err Damaged) (inr refl)
-finds_page l m after (Err Keeper) finds few = tt
-finds_page l m after (Err Memory) finds few = tt
-
-pub reads_page : {A : Type 0} (l : Layout) (m : Tables) (a b : Pages) → ((t : Tenant) (n : ℕ) → IsSound t → Ascends (records_of t n)) → 0 < a.left → (rows : Result (Vec DataRow A) StoreFail)
-    → FindsPage l a.after m rows → ((v : Vec DataRow A) → rows ≡ Ok v → (b.after ≡ last_of a.after v.items) × (b.left ≡ pages_left a.left v.items)) → ReadsPage l a b m rows
+pub reads_page : {A : Type 0} (l : Layout) (m : Tables) (a b : Pages) → ((t : Tenant) (n : ℕ) → IsSound t → Ascends (records_of t n)) → 0 < a.left → (rows : Result (Vec KeptRow A) StoreFail)
+    → FindsPage l a.after m rows → ((v : Vec KeptRow A) → rows ≡ Ok v → (b.after ≡ last_of a.after v.items) × (b.left ≡ pages_left a.left v.items)) → ReadsPage l a b m rows
 reads_page l m a b up some (Ok v) found turned = (
   found.0,
   λ q t s h.
@@ -167,5 +155,5 @@ pub copied_same : {X : Type 0} (read : Option (Bor X)) (last : Option X) → opt
 copied_same None last e = e
 copied_same (Some x) last e = e
 
-pub ok_items : {A : Type 0} (v w : Vec DataRow A) → ◌≡◌ {A = Result (Vec DataRow A) StoreFail} (Ok v) (Ok w) → v.items ≡ w.items
+pub ok_items : {A : Type 0} (v w : Vec KeptRow A) → ◌≡◌ {A = Result (Vec KeptRow A) StoreFail} (Ok v) (Ok w) → v.items ≡ w.items
 ok_items v w e = let same : v ≡ w = cc in ap (λ x. x.items) same

@@ -1,6 +1,6 @@
 -- An object's records, page after page.
 use Rattle.std.proofs.Common.{◌≡◌, ◌∙◌, ℕ, suc, ◌+◌, ◌*◌, ◌<◌, ◌≤◌, Bool, true, false, List, [], ◌++◌, Some, None, refl, sym, ap, subst, arith, append_assoc, append-nil, length, filter}
-use Rattle.std.specs.Prelude.{Result, Ok, Err, Vec}
+use Rattle.std.specs.Prelude.{Ok, Err, Vec}
 use Rattle.std.specs.List.{flat_map}
 use Rattle.std.proofs.Math.Nat.{mul-le-mul_right, suc-mul}
 use Rattle.std.proofs.lemmas.List.{length-append}
@@ -9,10 +9,10 @@ use Rattle.ut_keeper.specs.Draft.{DraftReads, DraftTells, Held, removals_of, sta
 use Rattle.ut_keeper.specs.Laid.{removals}
 use Rattle.ut_keeper.specs.State.{KeeperState, ShowsMost}
 use Rattle.ut_keeper.specs.Tables.{Tables}
-use Rattle.ut_keys.specs.declared.data.DataRow.{DataRow}
+use Rattle.ut_keeper.specs.declared.keeper.KeptRow.{KeptRow}
 use Rattle.ut_keys.specs.declared.fail.StoreFail.{StoreFail}
 use Rattle.ut_keys.specs.declared.fail.StoreFail.TheVariants.{Damaged, Keeper, Memory}
-use Rattle.ut_data.specs.Decoding.{each_from, has_types, record_from}
+use Rattle.ut_data.specs.Decoding.{each_from, has_types}
 use Rattle.ut_data.proofs.Standing.{layout_is}
 use Rattle.ut_model.specs.declared.record.Record.{Record}
 use Rattle.ut_model.specs.Objects.{object_numbered, records_of}
@@ -28,7 +28,7 @@ use Rattle.ut_exec.specs.declared.fail.ExecFail.TheVariants.{Store, TooLarge}
 use Rattle.ut_exec.specs.declared.offers.Progress.{Progress}
 use Rattle.ut_exec.specs.declared.pages.Pages.{Pages}
 use Rattle.ut_exec.specs.declared.window.Window.{Window}
-use Rattle.ut_exec.specs.Fails.{ended_exec}
+use Rattle.ut_exec.specs.Seen.{kept_record}
 use Rattle.ut_exec.specs.Windows.{in_window, is_over}
 use Rattle.ut_exec.specs.Written.{AppendsRows, IfDone, InTenants, WritesRows, most_shown, rows_kept, shown_for}
 use Rattle.ut_exec.specs.inner.Offers.{WritesTaken, Offered}
@@ -104,9 +104,9 @@ module _ {K : Type 0} (state : K → KeeperState) where
     same_removed = ap (removals 7) u.calls.reads.changes
 
     -- one page more
-    module _ {A : Type 0} (turned : Pages) (c : Held K) (v : Vec DataRow A) (calls : Calls state (length v.items + removals_of state 7 b) done b c)
+    module _ {A : Type 0} (turned : Pages) (c : Held K) (v : Vec KeptRow A) (calls : Calls state (length v.items + removals_of state 7 b) done b c)
         (page : DraftTells state b c → ReadsPage l pages turned (tables_of state b) (Ok v)) (less : turned.left < pages.left) where
-      pub turn : (R : List Record → Type 0) → ((seen page : List Record) → each_from (record_from l) v.items ≡ Some page → Q seen → R (seen ++ page)) → UnderWay l R turned a c
+      pub turn : (R : List Record → Type 0) → ((seen page : List Record) → each_from (kept_record l) v.items ≡ Some page → Q seen → R (seen ++ page)) → UnderWay l R turned a c
       turn R step =
           let one : suc u.turns * removed a ≡ u.turns * removed a + removed a = suc-mul u.turns (removed a) in
           let many : (u.shown + u.turns * removed a) + (length v.items + removed b) ≡ (u.shown + length v.items) + suc u.turns * removed a = omega (arith, one, same_removed) in
@@ -127,7 +127,7 @@ module _ {K : Type 0} (state : K → KeeperState) where
                 record {
                   seen = r.seen ++ p.page;
                   split = append_assoc r.seen p.page (beyond turned.after (records_of t l.object)) ∙ ap (λ (rs : List Record). r.seen ++ rs) p.on ∙ r.split;
-                  many = length-append r.seen p.page ∙ ap (λ (n : ℕ). n + length p.page) r.many ∙ ap (λ (n : ℕ). u.shown + n) (each_length (record_from l) v.items p.page p.read);
+                  many = length-append r.seen p.page ∙ ap (λ (n : ℕ). n + length p.page) r.many ∙ ap (λ (n : ℕ). u.shown + n) (each_length (kept_record l) v.items p.page p.read);
                   enough = p.enough r.enough;
                   does = step r.seen p.page p.read r.does;
                 };
@@ -231,16 +231,16 @@ module _ {K : Type 0} (state : K → KeeperState) where
 
     -- of all rows that were to be offered
 
-    module _ (m : Tables) (chosen : Tenant → List Record) (xs : List Record) (are : InTenants l m (λ t. xs ≡ chosen t)) where
-      pub what_offered : (p : Progress) (new : List ℕ) → WritesTaken row start p old new xs → WritesRows l (λ t. in_window w (chosen t)) row room old new m (Ok p.count)
+    module _ (m : Tables) (chosen : Tenant → List Record) where
+      pub what_offered : (p : Progress) (new : List ℕ) → InTenants l m (λ t. WritesTaken row start p old new (chosen t)) → WritesRows l (λ t. in_window w (chosen t)) row room old new m (Ok p.count)
       what_offered p new g = λ q t s h.
-          let whole = all_written row start p old new xs [] g (none_taken p.window) in
-          subst (λ (rs : List Record). AppendsRows row room (in_window w rs) old new p.count) (append-nil xs ∙ are q t s h)
+          let whole = all_written row start p old new (chosen t) [] (g q t s h) (none_taken p.window) in
+          subst (λ (rs : List Record). AppendsRows row room (in_window w rs) old new p.count) (append-nil (chosen t))
           (record { counted = whole.counted ∙ omega arith; appended = whole.appended; fits = whole.fits })
 
-      pub what_failed : (p : Progress) (new : List ℕ) (e : ExecFail) → Offered row start p old new xs (Err e) → WritesRows l (λ t. in_window w (chosen t)) row room old new m (Err e)
-      what_failed p new TooLarge h = λ q t s here. subst (λ (rs : List Record). room < length (flat_map row (in_window w rs))) (append-nil xs ∙ are q t s here) (h [])
-      what_failed p new (Store Damaged) h = λ q t s here. h
+      pub what_failed : (p : Progress) (new : List ℕ) (e : ExecFail) → InTenants l m (λ t. Offered row start p old new (chosen t) (Err e)) → WritesRows l (λ t. in_window w (chosen t)) row room old new m (Err e)
+      what_failed p new TooLarge h = λ q t s here. subst (λ (rs : List Record). room < length (flat_map row (in_window w rs))) (append-nil (chosen t)) (h q t s here [])
+      what_failed p new (Store Damaged) h = h
       what_failed p new (Store Keeper) h = tt
       what_failed p new (Store Memory) h = tt
 

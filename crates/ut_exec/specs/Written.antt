@@ -17,10 +17,18 @@ use Rattle.ut_stands.specs.Calls.{Ending, done, fell, stopped}
 use Rattle.ut_stands.specs.Layouts.{IsLayout}
 use Rattle.ut_stands.specs.Local.{StandsIn}
 use Rattle.ut_stands.specs.Plan.{OrgPlan}
+use Rattle.ut_parts.specs.declared.fail.CodecFail.{CodecFail}
+use Rattle.ut_parts.specs.declared.fail.CodecFail.TheVariants as codec
 use Rattle.ut_exec.specs.declared.fail.ExecFail.{ExecFail}
 use Rattle.ut_exec.specs.declared.fail.ExecFail.TheVariants.{Store, TooLarge}
 use Rattle.ut_exec.specs.declared.window.Window.{Window}
 use Rattle.ut_exec.specs.Windows.{in_window}
+
+-- these bytes were appended, or it is out of memory
+abbrev pub Puts : (bytes : List ℕ) → (old new : List ℕ) → Result (Unit {0}) CodecFail → Type 0
+Puts bytes old new (Ok x) = new ≡ old ++ bytes
+Puts bytes old new (Err codec.Damaged) = ⊥
+Puts bytes old new (Err codec.Memory) = Unit {0}
 
 -- so it is of each tenant for which the organisation's rows stand and whose layout it is
 abbrev pub InTenants : Layout → Tables → (Tenant → Type 0) → Type 0

@@ -1,10 +1,14 @@
 //! Which records are rows, and how a row is written.
 
-ghost use Rattle.std.specs.Prelude.{◌≡◌, ◌++◌, Bool, IfOk, List, OnOk, ℕ};
+ghost use Rattle.std.specs.Prelude.{◌≡◌, Bool, List, Some, ℕ};
+ghost use Rattle.ut_bind.specs.Given.{GivesJust};
+ghost use Rattle.ut_exec.specs.Seen.{seen_record};
+ghost use Rattle.ut_exec.specs.Written.{Puts};
 ghost use Rattle.ut_model.specs.declared.record.Record.{Record};
 
-use std::alloc::{AllocError, Global};
-use ut_model::Record;
+use crate::seen::SeenRecord;
+use std::alloc::Global;
+use ut_parts::CodecFail;
 
 /// A test of records.
 pub trait Keeps {
@@ -15,9 +19,9 @@ pub trait Keeps {
     ///
     /// # Errors
     ///
-    /// If out of memory.
-    fn keeps(&self, alloc: Global, item: &Record) -> Result<bool, AllocError>
-        ensures { IfOk result (λ b. b ≡ keep self.now item.now) };
+    /// `Memory` if out of memory, `Damaged` never if the row spells a record.
+    fn keeps(&self, alloc: Global, item: &SeenRecord<'_>) -> Result<bool, CodecFail>
+        ensures { (r : Record) → seen_record item.now ≡ Some r → GivesJust (keep self.now r) result };
 }
 
 /// A form of rows.
@@ -29,7 +33,12 @@ pub trait RowForm {
     ///
     /// # Errors
     ///
-    /// If out of memory.
-    fn write(&self, alloc: Global, item: &Record, out: &mut Vec<u8>) -> Result<(), AllocError>
-        ensures { OnOk result (out.new.items ≡ out.old.items ++ written self.now item.now) };
+    /// `Memory` if out of memory, `Damaged` never if the row spells a record.
+    fn write(
+        &self,
+        alloc: Global,
+        item: &SeenRecord<'_>,
+        out: &mut Vec<u8>,
+    ) -> Result<(), CodecFail>
+        ensures { (r : Record) → seen_record item.now ≡ Some r → Puts (written self.now r) out.old.items out.new.items result };
 }

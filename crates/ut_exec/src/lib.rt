@@ -12,6 +12,7 @@ mod offers;
 mod pages;
 mod ranked;
 mod rows;
+mod seen;
 mod sorted;
 mod window;
 
@@ -19,5 +20,6 @@ pub use crate::asked::{Keeps, RowForm};
 pub use crate::fail::ExecFail;
 pub use crate::ranked::Ranks;
 pub use crate::rows::write_rows;
+pub use crate::seen::SeenRecord;
 pub use crate::sorted::write_sorted_rows;
 pub use crate::window::Window;

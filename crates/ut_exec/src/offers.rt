@@ -1,18 +1,19 @@
 //! Records offered one after the other, of which some are written.
 
-ghost use Rattle.std.specs.Prelude.{◌≡◌, ◌+◌, ◌∷◌, ◌++◌, ◌<◌, [], Err, IfOk, IsTrue, List, Some, filter, length};
-ghost use Rattle.ut_data.specs.Decoding.{each_from, has_types, record_from};
+ghost use Rattle.std.specs.Prelude.{◌≡◌, ◌+◌, ◌∷◌, [], Err, IfOk, IsTrue, List, Some, filter};
+ghost use Rattle.ut_data.specs.Decoding.{each_from, has_types};
+ghost use Rattle.ut_exec.specs.Seen.{kept_record, seen_record};
 ghost use Rattle.ut_exec.specs.inner.Offers.{Appends, Offered};
 ghost use Rattle.ut_keys.specs.declared.fail.StoreFail.TheVariants.{Keeper, Memory};
 ghost use Rattle.ut_model.specs.declared.record.Record.{Record};
 
 use crate::asked::{Keeps, RowForm};
 use crate::fail::ExecFail;
+use crate::seen::SeenRecord;
 use crate::window::Window;
 use std::alloc::Global;
-use ut_data::record_within;
-use ut_keys::{DataRow, StoreFail};
-use ut_model::Record;
+use ut_keeper::KeptRow;
+use ut_keys::StoreFail;
 use ut_stands::Layout;
 
 /// How far rows were written.
@@ -30,15 +31,16 @@ pub(crate) struct Progress {
 fn append_row<W: RowForm>(
     alloc: Global,
     form: &W,
-    item: &Record,
+    item: &SeenRecord<'_>,
     room: usize,
     out: &mut Vec<u8>,
 ) -> Result<usize, ExecFail>
-    ensures { Appends (W.written form.now item.now) room out.old.items out.new.items result }
+    ensures appends { (r : Record) → seen_record item.now ≡ Some r → Appends (W.written form.now r) room out.old.items out.new.items result }
+    ensures keeper { result ≡ Err (ExecFail.Store Keeper) → ⊥ }
 {
     let before = out.len();
     form.write(alloc, item, out)?;
-    let size = out.len() - before;
+    let size = out.len().saturating_sub(before);
     if size <= room {
         Ok(room - size)
     } else {
@@ -61,15 +63,17 @@ fn one_more(count: usize) -> Result<usize, ExecFail>
 ///
 /// # Errors
 ///
-/// `TooLarge` if there is no room for it, `Memory` if out of memory.
+/// `TooLarge` if there is no room for it, `Memory` if out of memory, `Damaged` never if the row spells a record.
 pub(crate) fn offer_row<W: RowForm>(
     alloc: Global,
     form: &W,
-    item: &Record,
+    item: &SeenRecord<'_>,
     progress: &mut Progress,
     out: &mut Vec<u8>,
 ) -> Result<(), ExecFail>
-    ensures { Offered (W.written form.now) progress.old progress.new out.old.items out.new.items (item.now ∷ []) result }
+    ensures offered { (r : Record) → seen_record item.now ≡ Some r
+        → Offered (W.written form.now) progress.old progress.new out.old.items out.new.items (r ∷ []) result }
+    ensures keeper { result ≡ Err (ExecFail.Store Keeper) → ⊥ }
 {
     if progress.window.admits() {
         progress.room = append_row(alloc, form, item, progress.room, out)?;
@@ -84,16 +88,16 @@ fn offer_record<P: Keeps, W: RowForm>(
     layout: &Layout,
     keeps: &P,
     form: &W,
-    row: &DataRow,
+    row: &KeptRow,
     progress: &mut Progress,
     out: &mut Vec<u8>,
 ) -> Result<(), ExecFail>
     requires { IsTrue (has_types layout.now) }
-    ensures offered { (r : Record) → record_from layout.now row.now ≡ Some r
+    ensures offered { (r : Record) → kept_record layout.now row.now ≡ Some r
         → Offered (W.written form.now) progress.old progress.new out.old.items out.new.items (filter (P.keep keeps.now) (r ∷ [])) result }
     ensures keeper { result ≡ Err (ExecFail.Store Keeper) → ⊥ }
 {
-    let item = record_within(alloc, layout, row)?;
+    let item = SeenRecord::of(layout, row)?;
     if keeps.keeps(alloc, &item)? {
         offer_row(alloc, form, &item, progress, out)
     } else {
@@ -101,7 +105,7 @@ fn offer_record<P: Keeps, W: RowForm>(
     }
 }
 
-/// The records of rows, of which those are offered that are kept. Once no row is taken any more, no further record is made.
+/// The records of rows, of which those are offered that are kept. Once no row is taken any more, no further record is seen.
 ///
 /// # Errors
 ///
@@ -111,12 +115,12 @@ pub(crate) fn offer_records<P: Keeps, W: RowForm>(
     layout: &Layout,
     keeps: &P,
     form: &W,
-    rows: &[DataRow],
+    rows: &[KeptRow],
     progress: &mut Progress,
     out: &mut Vec<u8>,
 ) -> Result<(), ExecFail>
     requires { IsTrue (has_types layout.now) }
-    ensures offered { (page : List Record) → each_from (record_from layout.now) rows.now ≡ Some page
+    ensures offered { (page : List Record) → each_from (kept_record layout.now) rows.now ≡ Some page
         → Offered (W.written form.now) progress.old progress.new out.old.items out.new.items (filter (P.keep keeps.now) page) result }
     ensures keeper { result ≡ Err (ExecFail.Store Keeper) → ⊥ }
 {

@@ -1,28 +1,30 @@
 //! The rows of an object's records, page by page.
 
-ghost use Rattle.std.specs.Prelude.{◌≡◌, ◌+◌, ◌++◌, ◌<◌, IfOk, IfSome, IsTrue, take};
+ghost use Rattle.std.specs.Prelude.{◌≡◌, ◌+◌, ◌++◌, ◌<◌, IfOk, IfSome, IsTrue, length, take};
 ghost use Rattle.std.specs.Option.{option_map};
-ghost use Rattle.ut_exec.specs.inner.Reading.{FindsPage, ReadsPage, last_of, pages_left};
+ghost use Rattle.ut_exec.specs.inner.Reading.{FindsPage, KeepsPage, ReadsPage, id_in, last_of, pages_left};
 ghost use Rattle.ut_keeper.specs.Draft.{DraftTells, removals_of, tables_of};
 ghost use Rattle.ut_keeper.specs.Prefixes.{raised};
 ghost use Rattle.ut_keeper.specs.State.{seen};
 ghost use Rattle.ut_keys.specs.Keys.{record_key};
 ghost use Rattle.ut_keys.specs.Listings.{rows_to, start_of};
-ghost use Rattle.ut_keys.specs.Reads.{ListsAs};
-ghost use Rattle.ut_keys.specs.Rows.{data_form};
 ghost use Rattle.ut_parts.specs.Plain.{number16, number32};
 ghost use Rattle.ut_parts.specs.Shapes.{Both, FitsIn, Number16, Number32, spelled};
 ghost use Rattle.ut_stands.specs.Calls.{Calls, ended};
 ghost use Rattle.ut_value.specs.Id.{is_id};
 
-use std::alloc::Global;
+use std::alloc::{AllocError, Global};
 use ut_data::data_laws;
-use ut_keeper::{Draft, Keeper, walk_laws};
-use ut_keys::{DataRow, StoreFail, listing_laws, page_under, table_laws};
+use ut_keeper::{Draft, Keeper, KeptRow, next_key, prefix_ends, walk_laws};
+use ut_keys::{DataRow, StoreFail, listing_laws, table_laws};
 use ut_model::record_laws;
-use ut_parts::shape_laws;
+use ut_parts::{shape_laws, spelling_of};
 use ut_stands::{Layout, local_laws};
-use ut_value::{Id, id_laws};
+use ut_value::{Bytes, Id, id_laws};
+use ut_view::RowView;
+
+// The table of data rows.
+const DATA: u8 = 7;
 
 // How many rows are read at a time.
 const PAGE: usize = 250;
@@ -59,6 +61,34 @@ fn key_of(org: u32, object: u16, id: &Id) -> (u32, (u16, Id))
     (org, (object, *id))
 }
 
+// Where a page begins: at the first key of an object, or above a record's.
+fn start(
+    alloc: Global,
+    org: u32,
+    object: u16,
+    first: Bytes,
+    after: Option<&Id>,
+) -> Result<Bytes, AllocError>
+    ensures { IfOk result (λ b. b ≡ start_of first (option_map (λ id. spelled record_key (org, (object, id.now))) after.entry)) }
+{
+    match after {
+        None => Ok(first),
+        Some(id) => {
+            let key = key_of(org, object, id);
+            next_key(alloc, spelling_of(alloc, &key)?.as_slice())
+        }
+    }
+}
+
+// That what is after is an id.
+fn is_after_id(after: Option<&Id>)
+    ensures { IfSome after.entry (λ id. IsTrue (is_id id.now)) }
+{
+    if let Some(id) = after {
+        let _ = id.as_bytes();
+    }
+}
+
 // A page of an object's rows, in the order of their keys: the first, or those after an id's.
 fn rows_after<K: Keeper>(
     alloc: Global,
@@ -66,21 +96,20 @@ fn rows_after<K: Keeper>(
     org: u32,
     object: u16,
     after: Option<&Id>,
-) -> Result<Vec<DataRow>, StoreFail>
+) -> Result<Vec<KeptRow>, StoreFail>
     ensures rows { DraftTells K.state draft.old draft.new
-        → ListsAs data_form (take 250 (rows_to (tables_of K.state draft.old) 7
+        → KeepsPage (take 250 (rows_to (tables_of K.state draft.old) 7
         (start_of (number32 org ++ number16 object) (option_map (λ id. spelled record_key (org, (object, id.now))) after.entry))
         (raised (number32 org ++ number16 object)))) result }
-    ensures fits { FitsIn (Both Number32 Number16) (org, object) × IfSome after.entry (λ id. IsTrue (is_id id.now)) }
+    ensures fits { FitsIn (Both Number32 Number16) (org, object) }
     ensures calls { Calls K.state (seen 250 result + removals_of K.state 7 draft.old) (ended result) draft.old draft.new }
 {
-    match after {
-        None => page_under(alloc, draft, &(org, object), None, PAGE),
-        Some(id) => {
-            let key = key_of(org, object, id);
-            page_under(alloc, draft, &(org, object), Some(&key), PAGE)
-        }
-    }
+    let prefix = spelling_of(alloc, &(org, object))?;
+    let Some((from, below)) = prefix_ends(alloc, prefix.as_slice())? else {
+        return Ok(Vec::new(alloc));
+    };
+    let from = start(alloc, org, object, from, after)?;
+    Ok(draft.scan(alloc, DATA, from.as_slice(), below.as_slice(), PAGE)?)
 }
 
 // A page of the rows of a layout's object: the first, or the rows after an id's.
@@ -89,7 +118,7 @@ fn page_after<K: Keeper>(
     draft: &mut Draft<'_, K>,
     layout: &Layout,
     after: Option<&Id>,
-) -> Result<Vec<DataRow>, StoreFail>
+) -> Result<Vec<KeptRow>, StoreFail>
     ensures page { DraftTells K.state draft.old draft.new
         → FindsPage layout.now (option_map (λ id. id.now) after.entry) (tables_of K.state draft.old) result }
     ensures calls { Calls K.state (seen 250 result + removals_of K.state 7 draft.old) (ended result) draft.old draft.new }
@@ -101,21 +130,32 @@ fn page_after<K: Keeper>(
     id_laws();
     local_laws();
     data_laws();
+    is_after_id(after);
     rows_after(alloc, draft, layout.org, layout.object, after)
 }
 
+// The id of a row's record, if it is a row.
+fn id_of(row: &KeptRow) -> Option<Id>
+    ensures { result ≡ id_in row.now }
+{
+    match RowView::of(row.key.as_slice(), row.row.as_slice()) {
+        Some(row) => Some(row.id()),
+        None => None,
+    }
+}
+
 // The id of the last of these rows, or what was before.
-fn last_of(before: Option<Id>, rows: &[DataRow]) -> Option<Id>
+fn last_of(before: Option<Id>, rows: &[KeptRow]) -> Option<Id>
     ensures { result ≡ last_of before rows.now }
 {
     match rows.last() {
-        Some(row) => Some(row.id),
+        Some(row) => id_of(row),
         None => before,
     }
 }
 
 // For how many pages reading goes on after these rows: for none behind a page that isn't full.
-fn pages_left(left: usize, rows: &[DataRow]) -> usize
+fn pages_left(left: usize, rows: &[KeptRow]) -> usize
     requires { 0 < left }
     ensures { result ≡ pages_left left rows.now }
 {
@@ -133,7 +173,7 @@ pub(crate) fn next_page<K: Keeper>(
     draft: &mut Draft<'_, K>,
     layout: &Layout,
     pages: &mut Pages,
-) -> Result<Vec<DataRow>, StoreFail>
+) -> Result<Vec<KeptRow>, StoreFail>
     requires { 0 < pages.old.left }
     ensures page { DraftTells K.state draft.old draft.new
         → ReadsPage layout.now pages.old pages.new (tables_of K.state draft.old) result }

@@ -2,13 +2,18 @@
 
 ghost use Rattle.std.specs.Cmp.{eq_by_cmp_equiv, partial_equiv_from_equiv, partial_order_from_agreeing_total};
 ghost use Rattle.std.specs.Ordering.{eq_by_cmp};
-ghost use Rattle.std.specs.Prelude.{◌≡◌, IfOk, Some, refl};
+ghost use Rattle.std.specs.Prelude.{◌≡◌, Some, refl};
+ghost use Rattle.ut_bind.specs.Given.{GivesJust};
 ghost use Rattle.ut_exec.specs.Ranks.{ranked_cmp, ranked_total};
+ghost use Rattle.ut_exec.specs.Seen.{seen_record};
 ghost use Rattle.ut_model.specs.declared.record.Record.{Record};
 
-use std::alloc::{AllocError, Global};
+use crate::seen::SeenRecord;
+use std::alloc::Global;
 use std::cmp::Ordering;
-use ut_model::Record;
+use ut_keeper::KeptRow;
+use ut_parts::CodecFail;
+use ut_value::Id;
 
 /// By what rows are ordered. Records with ranks that tie are in the order of their ids.
 pub trait Ranks {
@@ -22,18 +27,20 @@ pub trait Ranks {
     ///
     /// # Errors
     ///
-    /// If out of memory.
-    fn rank_of(&self, alloc: Global, item: &Record) -> Result<Self::Rank, AllocError>
-        ensures { IfOk result (λ rank. rank ≡ ranked self.now item.now) };
+    /// `Memory` if out of memory, `Damaged` never if the row spells a record.
+    fn rank_of(&self, alloc: Global, item: &SeenRecord<'_>) -> Result<Self::Rank, CodecFail>
+        ensures { (r : Record) → seen_record item.now ≡ Some r → GivesJust (ranked self.now r) result };
 }
 
-/// A record with its rank.
+/// A record's row with its rank.
 #[derive(Drop)]
 pub(crate) struct Ranked<R> {
-    /// By this it is ordered, and then by its id.
+    /// By this it is ordered.
     pub rank: R,
-    /// The record.
-    pub item: Record,
+    /// And then by its id.
+    pub id: Id,
+    /// The row.
+    pub kept: KeptRow,
 }
 
 impl<R: Ord> PartialEq for Ranked<R> {
@@ -72,6 +79,6 @@ impl<R: Ord> Ord for Ranked<R> {
     fn cmp(&self, other: &Ranked<R>) -> Ordering {
         self.rank
             .cmp(&other.rank)
-            .then(self.item.id.as_bytes().cmp(other.item.id.as_bytes()))
+            .then(self.id.as_bytes().cmp(other.id.as_bytes()))
     }
 }

@@ -1,13 +1,15 @@
 //! Rows with ORDER BY: gathered, sorted, and written.
 
-ghost use Rattle.std.specs.Prelude.{◌≡◌, ◌∷◌, [], List, IsTrue, Some, filter, map};
-ghost use Rattle.ut_data.specs.Decoding.{each_from, has_types, record_from};
+ghost use Rattle.std.specs.Prelude.{◌≡◌, ◌∷◌, [], Err, List, IsTrue, Some, filter};
+ghost use Rattle.ut_data.specs.Decoding.{each_from, has_types};
 ghost use Rattle.ut_exec.specs.Fails.{ended_exec};
-ghost use Rattle.ut_exec.specs.Ranks.{by_rank, with_rank};
+ghost use Rattle.ut_exec.specs.Ranks.{by_rank};
+ghost use Rattle.ut_exec.specs.Seen.{kept_record};
 ghost use Rattle.ut_exec.specs.Written.{ShowsRecords, WritesRows, most_shown, rows_sorted};
-ghost use Rattle.ut_exec.specs.inner.Gathering.{FindsAll, Gathers, SortsRanked};
+ghost use Rattle.ut_exec.specs.inner.Gathering.{FindsAll, Gathers, RanksKept, SortsRanked, ranked_record};
 ghost use Rattle.ut_exec.specs.inner.Offers.{Offered};
 ghost use Rattle.ut_keeper.specs.Draft.{DraftTells, removals_of, tables_of};
+ghost use Rattle.ut_keys.specs.declared.fail.StoreFail.TheVariants.{Keeper};
 ghost use Rattle.ut_model.specs.declared.record.Record.{Record};
 ghost use Rattle.ut_model.specs.Objects.{records_of};
 ghost use Rattle.ut_stands.specs.Calls.{Calls, ended};
@@ -17,58 +19,80 @@ use crate::fail::ExecFail;
 use crate::offers::{Progress, offer_row};
 use crate::pages::{first_pages, next_page};
 use crate::ranked::{Ranked, Ranks};
+use crate::seen::SeenRecord;
 use crate::window::Window;
 use std::alloc::Global;
-use ut_data::{data_laws, has_types, record_within};
-use ut_keeper::{Draft, Keeper, draft_laws};
-use ut_keys::{DataRow, StoreFail};
-use ut_model::{Record, record_laws};
+use ut_data::{data_laws, has_types};
+use ut_keeper::{Draft, Keeper, KeptRow, draft_laws};
+use ut_keys::StoreFail;
+use ut_model::record_laws;
 use ut_parts::CodecFail;
 use ut_stands::{Layout, call_laws};
+use ut_value::Id;
 
-// The record of a row, which is put behind the others with its rank if it is kept.
-fn gather_record<P: Keeps, R: Ranks>(
+// The rank and the id of a row's record, if it is kept.
+fn rank_kept<P: Keeps, R: Ranks>(
     alloc: Global,
     layout: &Layout,
     keeps: &P,
     ranks: &R,
-    row: &DataRow,
-    gathered: &mut Vec<Ranked<R::Rank>>,
-) -> Result<(), CodecFail>
+    row: &KeptRow,
+) -> Result<Option<(R::Rank, Id)>, CodecFail>
     requires { IsTrue (has_types layout.now) }
-    ensures { (r : Record) → record_from layout.now row.now ≡ Some r
-        → Gathers (with_rank (R.ranked ranks.now)) gathered.old.items gathered.new.items (filter (P.keep keeps.now) (r ∷ [])) result }
+    ensures { (r : Record) → kept_record layout.now row.now ≡ Some r → RanksKept (P.keep keeps.now) (R.ranked ranks.now) r result }
 {
-    let item = record_within(alloc, layout, row)?;
+    let item = SeenRecord::of(layout, row)?;
     if keeps.keeps(alloc, &item)? {
         let rank = ranks.rank_of(alloc, &item)?;
-        gathered.push(Ranked { rank, item })?;
+        Ok(Some((rank, item.id())))
+    } else {
+        Ok(None)
     }
-    Ok(())
 }
 
-// The records of rows, of which those are put behind the others that are kept.
-fn gather_records<P: Keeps, R: Ranks>(
+// A row, which is put behind the others with its rank if its record is kept.
+fn gather_row<P: Keeps, R: Ranks>(
     alloc: Global,
     layout: &Layout,
     keeps: &P,
     ranks: &R,
-    rows: &[DataRow],
+    row: KeptRow,
     gathered: &mut Vec<Ranked<R::Rank>>,
 ) -> Result<(), CodecFail>
     requires { IsTrue (has_types layout.now) }
-    ensures { (page : List Record) → each_from (record_from layout.now) rows.now ≡ Some page
-        → Gathers (with_rank (R.ranked ranks.now)) gathered.old.items gathered.new.items (filter (P.keep keeps.now) page) result }
+    ensures { (r : Record) → kept_record layout.now row ≡ Some r
+        → Gathers layout.now (R.ranked ranks.now) gathered.old.items gathered.new.items (filter (P.keep keeps.now) (r ∷ [])) result }
 {
-    let mut left = rows;
-    'rows: while let Some((row, more)) = left.split_first() {
-        gather_record(alloc, layout, keeps, ranks, row, gathered)?;
-        left = more;
+    if let Some((rank, id)) = rank_kept(alloc, layout, keeps, ranks, &row)? {
+        gathered.push(Ranked {
+            rank,
+            id,
+            kept: row,
+        })?;
     }
     Ok(())
 }
 
-// All records of an object that are kept, with their ranks.
+// Rows, of which those are put behind the others whose records are kept.
+fn gather_rows<P: Keeps, R: Ranks>(
+    alloc: Global,
+    layout: &Layout,
+    keeps: &P,
+    ranks: &R,
+    rows: Vec<KeptRow>,
+    gathered: &mut Vec<Ranked<R::Rank>>,
+) -> Result<(), CodecFail>
+    requires { IsTrue (has_types layout.now) }
+    ensures { (page : List Record) → each_from (kept_record layout.now) rows.items ≡ Some page
+        → Gathers layout.now (R.ranked ranks.now) gathered.old.items gathered.new.items (filter (P.keep keeps.now) page) result }
+{
+    for row in rows {
+        gather_row(alloc, layout, keeps, ranks, row, gathered)?;
+    }
+    Ok(())
+}
+
+// The rows of all records of an object that are kept, with their ranks.
 fn gather_all<K: Keeper, P: Keeps, R: Ranks>(
     alloc: Global,
     draft: &mut Draft<'_, K>,
@@ -76,57 +100,76 @@ fn gather_all<K: Keeper, P: Keeps, R: Ranks>(
     keeps: &P,
     ranks: &R,
 ) -> Result<Vec<Ranked<R::Rank>>, StoreFail>
+    requires { IsTrue (has_types layout.now) }
     ensures what { DraftTells K.state draft.old draft.new
-        → FindsAll layout.now (λ t. map (with_rank (R.ranked ranks.now)) (filter (P.keep keeps.now) (records_of t layout.now.object)))
+        → FindsAll layout.now (R.ranked ranks.now) (λ t. filter (P.keep keeps.now) (records_of t layout.now.object))
         (tables_of K.state draft.old) result }
     ensures shown { ShowsRecords K.state layout.now (ended result) draft.old draft.new }
     ensures calls { Calls K.state (most_shown (removals_of K.state 7 draft.old)) (ended result) draft.old draft.new }
 {
     draft_laws::<K>();
     call_laws::<K>();
-    data_laws();
-    if !has_types(layout) {
-        return Err(StoreFail::Damaged);
-    }
     let mut gathered = Vec::new(alloc);
     let mut pages = first_pages();
     'pages: while pages.left > 0 {
         let rows = next_page(alloc, draft, layout, &mut pages)?;
-        gather_records(alloc, layout, keeps, ranks, rows.as_slice(), &mut gathered)?;
+        gather_rows(alloc, layout, keeps, ranks, rows, &mut gathered)?;
     }
     Ok(gathered)
 }
 
-// Puts records, no two of which have one id, in order.
+// Puts rows, no two of which have one id, in order.
 fn put_in_order<T: Ord>(gathered: &mut Vec<Ranked<T>>)
     ensures { SortsRanked T.cmp gathered.old.items gathered.new.items }
 {
     gathered.sort_unstable();
 }
 
-// Records, which are offered one after the other.
+// The record of a row, which is offered.
+fn offer_kept<W: RowForm>(
+    alloc: Global,
+    layout: &Layout,
+    form: &W,
+    row: &KeptRow,
+    progress: &mut Progress,
+    out: &mut Vec<u8>,
+) -> Result<(), ExecFail>
+    requires { IsTrue (has_types layout.now) }
+    ensures offered { (r : Record) → kept_record layout.now row.now ≡ Some r
+        → Offered (W.written form.now) progress.old progress.new out.old.items out.new.items (r ∷ []) result }
+    ensures keeper { result ≡ Err (ExecFail.Store Keeper) → ⊥ }
+{
+    let item = SeenRecord::of(layout, row)?;
+    offer_row(alloc, form, &item, progress, out)
+}
+
+// Rows, whose records are offered one after the other.
 fn offer_sorted<T: Drop, W: RowForm>(
     alloc: Global,
+    layout: &Layout,
     form: &W,
     sorted: &[Ranked<T>],
     progress: &mut Progress,
     out: &mut Vec<u8>,
 ) -> Result<(), ExecFail>
-    ensures { Offered (W.written form.now) progress.old progress.new out.old.items out.new.items (map (λ r. r.item) sorted.now) result }
+    requires { IsTrue (has_types layout.now) }
+    ensures offered { (page : List Record) → each_from (ranked_record layout.now) sorted.now ≡ Some page
+        → Offered (W.written form.now) progress.old progress.new out.old.items out.new.items page result }
+    ensures keeper { result ≡ Err (ExecFail.Store Keeper) → ⊥ }
 {
     let mut left = sorted;
     'rows: while let Some((row, more)) = left.split_first() {
         if progress.window.is_over() {
             return Ok(());
         }
-        offer_row(alloc, form, &row.item, progress, out)?;
+        offer_kept(alloc, layout, form, &row.kept, progress, out)?;
         left = more;
     }
     Ok(())
 }
 
 /// Appends the rows of an object's records that are kept, in the order of their ranks and then of their ids, as far as the window
-/// takes them, and returns how many they are. It has all records that are kept in memory.
+/// takes them, and returns how many they are. It has the rows of all records that are kept in memory.
 ///
 /// # Errors
 ///
@@ -155,6 +198,10 @@ pub fn write_sorted_rows<K: Keeper, P: Keeps, R: Ranks, W: RowForm>(
     if window.is_over() {
         return Ok(0);
     }
+    data_laws();
+    if !has_types(layout) {
+        return Err(ExecFail::Store(StoreFail::Damaged));
+    }
     let mut gathered = gather_all(alloc, draft, layout, keeps, ranks)?;
     put_in_order(&mut gathered);
     let mut progress = Progress {
@@ -162,6 +209,6 @@ pub fn write_sorted_rows<K: Keeper, P: Keeps, R: Ranks, W: RowForm>(
         room,
         count: 0,
     };
-    offer_sorted(alloc, form, gathered.as_slice(), &mut progress, out)?;
+    offer_sorted(alloc, layout, form, gathered.as_slice(), &mut progress, out)?;
     Ok(progress.count)
 }

@@ -2,3 +2,14 @@ pub mod Found
 pub mod Counted
 pub mod NewOrg
 pub mod Adding
+pub mod Judging
+pub mod Putting
+pub mod Joining
+pub mod Changing
+pub mod NewOnes
+pub mod Deciding
+pub mod Hierarchy
+pub mod ChangedOnes
+pub mod Members
+pub mod Drawing
+pub mod Ids

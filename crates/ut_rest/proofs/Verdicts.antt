@@ -10,7 +10,7 @@ use Rattle.ut_model.specs.declared.caller.Caller.{Caller}
 use Rattle.ut_model.specs.declared.refusal.Refusal.TheVariants.{AdminRequired, NotBuilt}
 use Rattle.ut_model.specs.declared.reply.Reply.{Reply}
 use Rattle.ut_model.specs.declared.route.Route.{Route}
-use Rattle.ut_model.specs.declared.route.Route.TheVariants.{Create, Query, Upsert}
+use Rattle.ut_model.specs.declared.route.Route.TheVariants.{AddGroup, AddRole, AddUser, Create, Query, Upsert}
 use Rattle.ut_model.specs.declared.routed.Routed.TheVariants.{To}
 use Rattle.ut_model.specs.Paths.{Asked}
 use Rattle.ut_model.specs.RequestOf.{verdict_or}
@@ -75,6 +75,9 @@ change_form : (r : Route) (reply : Reply) → IsEditReply r (Changed reply) → 
 change_form (Create object) reply h = inr (inr h.0)
 change_form (Upsert object key value) reply (inl e, some) = inr (inr e)
 change_form (Upsert object key value) reply (inr e, some) = inr (inl e)
+change_form AddUser reply h = inr (inr h.0)
+change_form AddRole reply h = inr (inr h.0)
+change_form AddGroup reply h = inr (inr h.0)
 change_form _ reply h = inl h
 
 judged_form : (r : Route) (j : Judged Reply) → NoQuery r → IsEditReply r j → IsRequestReply (To r) j

@@ -35,6 +35,12 @@ is_built route.AddObject = true
 is_built (route.SetObject object) = true
 is_built route.AddField = true
 is_built route.AddValidationRule = true
+is_built route.AddUser = true
+is_built (route.SetUser user) = true
+is_built route.AddRole = true
+is_built (route.SetRole role) = true
+is_built route.AddGroup = true
+is_built (route.SetGroup group) = true
 is_built _ = false
 
 -- the request that a route and a body make, where the route is built; of any other the body isn't looked at

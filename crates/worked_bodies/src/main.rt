@@ -8,6 +8,7 @@
 mod bodies;
 mod line;
 mod names;
+mod people;
 mod refusals;
 mod tables;
 mod values;
@@ -38,6 +39,19 @@ impl From<io::Error> for Stop {
     }
 }
 
+// What a call on the body of a user, a role or a group returns.
+fn people_call(alloc: Global, call: &str, bytes: &[u8]) -> Result<Option<String>, AllocError> {
+    match call {
+        "user" => people::user(alloc, bytes).map(Some),
+        "user-role" => people::user_role(alloc, bytes).map(Some),
+        "role" => people::role(alloc, bytes).map(Some),
+        "role-parent" => people::parent(alloc, bytes).map(Some),
+        "group" => people::group(alloc, bytes).map(Some),
+        "members" => people::members(alloc, bytes).map(Some),
+        _ => Ok(None),
+    }
+}
+
 // What a call on bytes returns.
 fn bytes_call(alloc: Global, call: &str, bytes: &[u8]) -> Result<Option<String>, AllocError> {
     match call {
@@ -47,7 +61,7 @@ fn bytes_call(alloc: Global, call: &str, bytes: &[u8]) -> Result<Option<String>,
         "access" => bodies::access(alloc, bytes).map(Some),
         "field" => bodies::field(alloc, bytes).map(Some),
         "values" => values::values(alloc, bytes).map(Some),
-        _ => Ok(None),
+        _ => people_call(alloc, call, bytes),
     }
 }
 

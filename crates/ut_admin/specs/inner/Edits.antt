@@ -10,7 +10,7 @@ use Rattle.ut_model.specs.declared.refusal.Refusal.{Refusal}
 use Rattle.ut_model.specs.declared.refusal.Refusal.TheVariants.{BodyForm}
 use Rattle.ut_model.specs.declared.reply.Reply.{Reply}
 use Rattle.ut_model.specs.declared.route.Route.{Route}
-use Rattle.ut_model.specs.declared.route.Route.TheVariants.{Create, Upsert}
+use Rattle.ut_model.specs.declared.route.Route.TheVariants.{AddGroup, AddRole, AddUser, Create, Upsert}
 use Rattle.ut_model.specs.Paths.{Asked}
 use Rattle.ut_model.specs.Replies.{json_reply, made_members}
 use Rattle.ut_model.specs.Requests.{Request}
@@ -63,12 +63,18 @@ abbrev pub seen : {X : Type 0} → (X → Answer) → Result X EditFail → Resu
 seen view (Ok x) = Ok (view x)
 seen view (Err e) = Err e
 
--- an answer to a request of this route: a new record has an id, and what is upserted has one and is new or not
+-- an answer to a request of this route: a new record, user, role or group has an id, and what is upserted has one and is new or not
 abbrev pub IsAnswerTo : Route → Answer → Type 0
 IsAnswerTo (Create object) (answer.Made id) = Unit {0}
 IsAnswerTo (Create object) _ = ⊥
 IsAnswerTo (Upsert object key value) (answer.Upserted id created) = Unit {0}
 IsAnswerTo (Upsert object key value) _ = ⊥
+IsAnswerTo AddUser (answer.Made id) = Unit {0}
+IsAnswerTo AddUser _ = ⊥
+IsAnswerTo AddRole (answer.Made id) = Unit {0}
+IsAnswerTo AddRole _ = ⊥
+IsAnswerTo AddGroup (answer.Made id) = Unit {0}
+IsAnswerTo AddGroup _ = ⊥
 IsAnswerTo _ answer.Done = Unit {0}
 IsAnswerTo _ _ = ⊥
 
@@ -85,6 +91,10 @@ EditsTo org t v after (Err (Store e)) = e ≢ Damaged
 pub record EditsFrom (org : ℕ) (asks : Asked → Type 0) (verdict : Asked → Verdict) (m after : Tables) (result : Result Answer EditFail) : Type 0 where
   pub others : OthersStay org m after result
   pub edited : (q : OrgPlan) (a : Asked) → StandsIn org q m (Some a.tenant) → asks a → EditsTo org a.tenant (verdict a) after result
+
+-- whoever asks, and whenever
+abbrev pub Anyone : Asked → Type 0
+Anyone a = Unit {0}
 
 -- ---- replies
 

@@ -3,8 +3,10 @@ use Rattle.std.specs.Prelude.{ℕ, List, Option, map}
 use Rattle.std.specs.Borrow.{Bor}
 use Rattle.std.specs.Str.{chars}
 use Rattle.ut_json.specs.Reading.{◌>>=◌}
+use Rattle.ut_json.specs.declared.tree.Json.{Json}
 use Rattle.ut_json.specs.declared.tree.Member.{Member, out-Member}
-use Rattle.ut_model.specs.Members.{Body, all_there, as_text, entry_named, list_in, object_in, text_in}
+use Rattle.ut_model.specs.Members.{Body, all_there, as_text, entry_named, list_in, object_in, principal_in, text_in}
+use Rattle.ut_model.specs.declared.people_bodies.Spelled.{Spelled}
 
 -- the members of an object
 abbrev pub body_of : List Member → Body
@@ -25,3 +27,7 @@ texts_in b name = list_in b name >>= λ items. all_there (map as_text items)
 -- a member that is an object
 abbrev pub member_object : Body → (name : List ℕ) → Option Body
 member_object b name = entry_named b name >>= object_in
+
+-- the principal that a value spells
+abbrev pub as_principal : Json → Option Spelled
+as_principal v = as_text v >>= principal_in

@@ -1,10 +1,14 @@
 -- The rows of an object's records, page by page.
+use Rattle.std.specs.Option.{option_map}
 use Rattle.std.specs.Prelude.{◌≡◌, ℕ, ◌-◌, ◌*◌, ◌≤◌, nat_lt, if◌then◌else◌, List, ◌++◌, filter, length, slice_get, Option, Some, Result, Ok, Err, Vec}
+use Rattle.ut_keeper.specs.declared.keeper.KeptRow.{KeptRow}
 use Rattle.ut_keeper.specs.Tables.{Tables}
 use Rattle.ut_keys.specs.declared.data.DataRow.{DataRow}
+use Rattle.ut_keys.specs.Forms.{read_row}
+use Rattle.ut_keys.specs.Rows.{data_form}
 use Rattle.ut_keys.specs.declared.fail.StoreFail.{StoreFail}
 use Rattle.ut_keys.specs.declared.fail.StoreFail.TheVariants.{Damaged, Keeper, Memory}
-use Rattle.ut_data.specs.Decoding.{each_from, record_from}
+use Rattle.ut_data.specs.Decoding.{each_from}
 use Rattle.ut_model.specs.declared.record.Record.{Record}
 use Rattle.ut_model.specs.Cases.{in_case}
 use Rattle.ut_model.specs.Jobs.{is_past}
@@ -12,38 +16,50 @@ use Rattle.ut_model.specs.Objects.{records_of}
 use Rattle.ut_stands.specs.declared.layout.Layout.{Layout}
 use Rattle.ut_stands.specs.Layouts.{records_after}
 use Rattle.ut_exec.specs.declared.pages.Pages.{Pages}
+use Rattle.ut_exec.specs.Seen.{kept_record}
 use Rattle.ut_exec.specs.Written.{InTenants}
 
 -- the records after an id
 abbrev pub beyond : Option (List ℕ) → List Record → List Record
 beyond after rs = filter (λ r. is_past after r.id) rs
 
+-- these rows were read
+abbrev pub KeepsPage : {A : Type 0} → List KeptRow → Result (Vec KeptRow A) StoreFail → Type 0
+KeepsPage kept (Ok rows) = rows.items ≡ kept
+KeepsPage kept (Err Damaged) = ⊥
+KeepsPage kept (Err Keeper) = Unit {0}
+KeepsPage kept (Err Memory) = Unit {0}
+
 -- so many rows at most were found: those of the records after an id
-abbrev pub FindsPage : {A : Type 0} → Layout → (after : Option (List ℕ)) → Tables → Result (Vec DataRow A) StoreFail → Type 0
+abbrev pub FindsPage : {A : Type 0} → Layout → (after : Option (List ℕ)) → Tables → Result (Vec KeptRow A) StoreFail → Type 0
 FindsPage l after m (Ok rows) =
     (length rows.items ≤ 250)
-    × InTenants l m (λ t. each_from (record_from l) rows.items ≡ Some (records_after l.object after 250 t))
+    × InTenants l m (λ t. each_from (kept_record l) rows.items ≡ Some (records_after l.object after 250 t))
 FindsPage l after m (Err Damaged) = InTenants l m (λ t. ⊥)
 FindsPage l after m (Err Keeper) = Unit {0}
 FindsPage l after m (Err Memory) = Unit {0}
 
+-- the id of the record of a row, if it is a row
+abbrev pub id_in : KeptRow → Option (List ℕ)
+id_in row = option_map (λ (d : DataRow). d.id) (read_row data_form row.key row.row)
+
 -- the id of the last of these rows, or what was before
-abbrev pub last_of : Option (List ℕ) → List DataRow → Option (List ℕ)
-last_of before rows = in_case (slice_get rows (length rows - 1)) before (λ row. Some row.id)
+abbrev pub last_of : Option (List ℕ) → List KeptRow → Option (List ℕ)
+last_of before rows = in_case (slice_get rows (length rows - 1)) before id_in
 
 -- for how many pages reading goes on after these rows: for none behind a page that isn't full
-abbrev pub pages_left : ℕ → List DataRow → ℕ
+abbrev pub pages_left : ℕ → List KeptRow → ℕ
 pages_left left rows = if nat_lt (length rows) 250 then 0 else left - 1
 
 -- these rows are a page of these records, whose ids rise; if so many pages were enough before, they are enough after it
-pub record ReadsOn (l : Layout) (rs : List Record) (old new : Pages) (rows : List DataRow) : Type 0 where
+pub record ReadsOn (l : Layout) (rs : List Record) (old new : Pages) (rows : List KeptRow) : Type 0 where
   pub page : List Record
-  pub read : each_from (record_from l) rows ≡ Some page
+  pub read : each_from (kept_record l) rows ≡ Some page
   pub on : page ++ beyond new.after rs ≡ beyond old.after rs
   pub enough : length (beyond old.after rs) ≤ 250 * old.left → length (beyond new.after rs) ≤ 250 * new.left
 
 -- a page was read
-abbrev pub ReadsPage : {A : Type 0} → Layout → (old new : Pages) → Tables → Result (Vec DataRow A) StoreFail → Type 0
+abbrev pub ReadsPage : {A : Type 0} → Layout → (old new : Pages) → Tables → Result (Vec KeptRow A) StoreFail → Type 0
 ReadsPage l old new m (Ok rows) = (length rows.items ≤ 250) × InTenants l m (λ t. ReadsOn l (records_of t l.object) old new rows.items)
 ReadsPage l old new m (Err Damaged) = InTenants l m (λ t. ⊥)
 ReadsPage l old new m (Err Keeper) = Unit {0}

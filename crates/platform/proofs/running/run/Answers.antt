@@ -10,6 +10,9 @@ use Rattle.platform.proofs.running.run.Goals as goal
 
 -- ---- `csvq`
 
+pub print_csvq-requires : goal.print_csvq-requires
+print_csvq-requires g c = by_csvq.is_clocked c.now-now.result c.now-now.ensures.bound
+
 pub returns-in-Csvq-clause-status : goal.returns-in-Csvq-clause-status
 returns-in-Csvq-clause-status g c =
     let query = c.in-Csvq.query.now in
@@ -24,7 +27,8 @@ returns-in-Csvq-clause-promise g c =
     let a : Seen = record { keeper = g.K.Keeper.state c.args.keeper.now; door = g.D.Door.held c.args.door.now; door_faults = g.D.Door.faults c.args.door.now; line_faults = g.D.Door.line_faults c.args.door.now; left = g.S.Source.left c.args.source.now; read_faults = g.S.Source.faults c.args.source.now; written = g.W.Sink.written c.args.sink.now; write_faults = g.W.Sink.faults c.args.sink.now; coming = g.C.Clock.coming c.args.clock.now } in
     let b : Seen = record { keeper = g.K.Keeper.state c.args.keeper.now; door = g.D.Door.held c.args.door.now; door_faults = g.D.Door.faults c.args.door.now; line_faults = g.D.Door.line_faults c.args.door.now; left = g.S.Source.left c.print_csvq.new.source; read_faults = g.S.Source.faults c.print_csvq.new.source; written = g.W.Sink.written c.print_csvq.new.sink; write_faults = g.W.Sink.faults c.print_csvq.new.sink; coming = g.C.Clock.coming c.now-now.new.self } in
     of_words _ (prints (csvq query)) a b status c.in-Csvq.ensures
-    (by_csvq.csvq_promise query a b c.print_csvq.result status it.status c.csvq_status.ensures refl refl refl it.prints it.whole c.now-now.ensures.asked it.source_cause it.sink_cause)
+    (by_csvq.csvq_promise query a b c.print_csvq.result status it.status c.csvq_status.ensures refl refl refl
+    (λ w bytes moments told dated. it.prints w bytes moments told (by_csvq.told_first (g.C.Clock.coming c.args.clock.now) c.now-now.result moments c.now-now.ensures.first dated)) it.whole c.now-now.ensures.asked it.source_cause it.sink_cause)
 
 pub returns-in-Csvq-clause-unused : goal.returns-in-Csvq-clause-unused
 returns-in-Csvq-clause-unused g c =

@@ -6,11 +6,11 @@ use Rattle.ut_model.specs.Metadata.{set_access}
 use Rattle.ut_model.specs.RequestOf.{verdict_or}
 use Rattle.ut_model.specs.Requests.{adds_field, adds_object, adds_validation_rule, sets_object}
 use Rattle.ut_model.specs.Verdict.{done}
-use Rattle.ut_model.specs.declared.route.Route.TheVariants.{AddField, AddObject, AddValidationRule, SetObject}
+use Rattle.ut_model.specs.declared.route.Route.TheVariants.{AddField, AddGroup, AddObject, AddRole, AddUser, AddValidationRule, SetGroup, SetObject, SetRole, SetUser}
 use Rattle.ut_admin.specs.Administration.{Administers}
 use Rattle.ut_admin.specs.declared.answer.Answer.TheVariants as answer
 use Rattle.ut_admin.specs.inner.Edits.{EditsFrom}
-use Rattle.ut_admin.proofs.Asked.{answers_none, answers_so, drafts_seen, edits_asked, edits_none, edits_unbuilt, fit, none_drafts, returned}
+use Rattle.ut_admin.proofs.Asked.{answers_none, answers_so, drafts_seen, edits_asked, edits_asked_so, edits_none, edits_unbuilt, fit, none_drafts, returned}
 use Rattle.ut_admin.proofs.edits.edit.Goals as goal
 
 -- ---- no edit
@@ -170,6 +170,44 @@ returns-in_ok-new-in-AddValidationRule-clause-makes g c =
     drafts_seen g.K.Keeper.state (record { weaker = laws.weaker; none = laws.none; makes = laws.makes; most = laws.most }) (λ _. answer.Done) _ _ _ c.args.draft.now c.make_edit-in-AddValidationRule.new.draft c.make_edit-in-AddValidationRule.result c.done-in-AddValidationRule.result c.done-in-AddValidationRule.ensures
     (omega arith) (omega arith) (omega arith) c.make_edit-in-AddValidationRule.ensures.makes
 
+-- ---- people
+
+pub returns-in-AddUser-clause-what : goal.returns-in-AddUser-clause-what
+returns-in-AddUser-clause-what g c told =
+    let caller = c.args.caller.now in
+    edits_asked_so caller.org (Administers caller c.args.now) c.args.route.now AddUser c.args.body.now (tables_of g.K.Keeper.state c.args.draft.now) (tables_of g.K.Keeper.state c.new_user.new.draft) c.new_user.result
+    c.in-AddUser.is (c.new_user.ensures.what told)
+
+pub returns-in-SetUser-clause-what : goal.returns-in-SetUser-clause-what
+returns-in-SetUser-clause-what g c told =
+    let caller = c.args.caller.now in
+    edits_asked_so caller.org (Administers caller c.args.now) c.args.route.now (SetUser c.in-SetUser.id) c.args.body.now (tables_of g.K.Keeper.state c.args.draft.now) (tables_of g.K.Keeper.state c.changed_user.new.draft) c.changed_user.result
+    c.in-SetUser.is (c.changed_user.ensures.what told)
+
+pub returns-in-AddRole-clause-what : goal.returns-in-AddRole-clause-what
+returns-in-AddRole-clause-what g c told =
+    let caller = c.args.caller.now in
+    edits_asked_so caller.org (Administers caller c.args.now) c.args.route.now AddRole c.args.body.now (tables_of g.K.Keeper.state c.args.draft.now) (tables_of g.K.Keeper.state c.new_role.new.draft) c.new_role.result
+    c.in-AddRole.is (c.new_role.ensures.what told)
+
+pub returns-in-SetRole-clause-what : goal.returns-in-SetRole-clause-what
+returns-in-SetRole-clause-what g c told =
+    let caller = c.args.caller.now in
+    edits_asked_so caller.org (Administers caller c.args.now) c.args.route.now (SetRole c.in-SetRole.id) c.args.body.now (tables_of g.K.Keeper.state c.args.draft.now) (tables_of g.K.Keeper.state c.changed_role.new.draft) c.changed_role.result
+    c.in-SetRole.is (c.changed_role.ensures.what told)
+
+pub returns-in-AddGroup-clause-what : goal.returns-in-AddGroup-clause-what
+returns-in-AddGroup-clause-what g c told =
+    let caller = c.args.caller.now in
+    edits_asked_so caller.org (Administers caller c.args.now) c.args.route.now AddGroup c.args.body.now (tables_of g.K.Keeper.state c.args.draft.now) (tables_of g.K.Keeper.state c.new_group.new.draft) c.new_group.result
+    c.in-AddGroup.is (c.new_group.ensures.what told)
+
+pub returns-in-SetGroup-clause-what : goal.returns-in-SetGroup-clause-what
+returns-in-SetGroup-clause-what g c told =
+    let caller = c.args.caller.now in
+    edits_asked_so caller.org (Administers caller c.args.now) c.args.route.now (SetGroup c.in-SetGroup.id) c.args.body.now (tables_of g.K.Keeper.state c.args.draft.now) (tables_of g.K.Keeper.state c.changed_group.new.draft) c.changed_group.result
+    c.in-SetGroup.is (c.changed_group.ensures.what told)
+
 -- ---- another route
 
 pub returns-in_ok-from_str-in_default-clause-what : goal.returns-in_ok-from_str-in_default-clause-what
@@ -186,5 +224,11 @@ returns-in_ok-from_str-in_default-clause-what g c told =
       no_access = λ object. c.in_default.not-SetObject object;
       no_field = c.in_default.not-AddField;
       no_rule = c.in_default.not-AddValidationRule;
+      no_user = c.in_default.not-AddUser;
+      no_user_role = λ user. c.in_default.not-SetUser user;
+      no_role = c.in_default.not-AddRole;
+      no_parent = λ role. c.in_default.not-SetRole role;
+      no_group = c.in_default.not-AddGroup;
+      no_members = λ group. c.in_default.not-SetGroup group;
     })
     c.in_ok-from_str-in_default.ensures

@@ -1,8 +1,13 @@
-use Rattle.std.proofs.Common.{◌≡◌, ◌∙◌, None, Option, Some, ap, of_z, refl, rules, sym, to_z, w64}
+use Rattle.std.proofs.Common.{◌≡◌, ◌∙◌, None, Option, Some, ap, arith, length, of_z, refl, rules, sym, to_z, w64}
 use Rattle.std.proofs.lemmas.Int.{to_z-of_z}
 use Rattle.std.specs.Prelude.{FitsSigned}
 use Rattle.ut_value.specs.Printing.{day_of_moment}
-use Rattle.ut_answers.proofs.Found.{Laws, its_layout, plan_answers, query_refused}
+use Rattle.ut_keeper.specs.Draft.{removals_of, state_of, tables_of}
+use Rattle.ut_keeper.specs.State.{ShowsMost}
+use Rattle.ut_model.specs.Objects.{records_of}
+use Rattle.ut_stands.specs.Calls.{ended}
+use Rattle.ut_exec.specs.Written.{InTenants, shown_for}
+use Rattle.ut_answers.proofs.Found.{Laws, its_layout, plan_answers, query_refused, so_if_done}
 use Rattle.ut_answers.proofs.answer.answer_flat.Goals as goal
 
 nothing_there : {A : Type 0} (x : Option A) → ((y : A) → x ≡ Some y → ⊥) → x ≡ None
@@ -24,3 +29,13 @@ returns-clause-what g c told p a asked flat =
     let free = sym (c.in_ok-refusal.ensures flat p a.tenant its) ∙ nothing_there c.in_ok-refusal.field-0 c.in_default.not-Some in
     plan_answers laws c.args.layout.now _ c.args.query.now _ p a asked c.in_ok-plan.plan
     (c.in_ok-plan.ensures p a its asked.stands.sound day flat free) free flat c.answer_plan.result (c.answer_plan.ensures.what told)
+
+-- a query that is refused is shown no record
+pub returns-in-Some-clause-shown : goal.returns-in-Some-clause-shown
+returns-in-Some-clause-shown g c told =
+    let state = g.K.Keeper.state in
+    let l = c.args.layout.now in
+    let a = c.args.draft.now in
+    so_if_done (ended c.refuse.result)
+    (InTenants l (tables_of state a) (λ t. ShowsMost (shown_for (length (records_of t l.object)) (removals_of state 7 a)) (state_of state a) (state_of state a)))
+    (λ q t s h. omega arith)

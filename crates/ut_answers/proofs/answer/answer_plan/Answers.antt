@@ -1,6 +1,10 @@
-use Rattle.std.proofs.Common.{◌∙◌, Err, ap}
-use Rattle.ut_keeper.specs.Draft.{tables_of}
-use Rattle.ut_answers.proofs.Found.{rows_so, too_large_so, written_so}
+use Rattle.std.proofs.Common.{◌∙◌, Err, ap, length}
+use Rattle.ut_keeper.specs.Draft.{removals_of, state_of, tables_of}
+use Rattle.ut_keeper.specs.State.{ShowsMost}
+use Rattle.ut_model.specs.Objects.{records_of}
+use Rattle.ut_stands.specs.Calls.{ended}
+use Rattle.ut_exec.specs.Written.{InTenants, shown_for}
+use Rattle.ut_answers.proofs.Found.{rows_so, shown_so, too_large_so, written_so}
 use Rattle.ut_answers.proofs.answer.answer_plan.Goals as goal
 
 pub returns-in-Ok-rows_reply-clause-what : goal.returns-in-Ok-rows_reply-clause-what
@@ -12,3 +16,13 @@ pub returns-in-Err-TooLarge-clause-what : goal.returns-in-Err-TooLarge-clause-wh
 returns-in-Err-TooLarge-clause-what g c told =
     too_large_so c.args.layout.now c.args.plan.now (tables_of g.K.Keeper.state c.args.draft.now) c.as_slice.result.now c.refuse.result c.as_slice.ensures c.refuse.ensures.value
     (written_so c.args.layout.now _ _ _ _ _ (tables_of g.K.Keeper.state c.args.draft.now) c.write_planned.result (c.in-Err-TooLarge.is ∙ ap Err c.in-Err-TooLarge.field-0-is) (c.write_planned.ensures.what told))
+
+pub returns-in-Err-TooLarge-clause-shown : goal.returns-in-Err-TooLarge-clause-shown
+returns-in-Err-TooLarge-clause-shown g c told =
+    let state = g.K.Keeper.state in
+    let l = c.args.layout.now in
+    let a = c.args.draft.now in
+    let b = c.write_planned.new.draft in
+    shown_so c.write_planned.result (ended c.refuse.result)
+    (InTenants l (tables_of state a) (λ t. ShowsMost (shown_for (length (records_of t l.object)) (removals_of state 7 a)) (state_of state a) (state_of state b)))
+    (c.in-Err-TooLarge.is ∙ ap Err c.in-Err-TooLarge.field-0-is) (c.write_planned.ensures.shown told)

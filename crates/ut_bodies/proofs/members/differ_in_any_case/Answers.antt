@@ -1,6 +1,6 @@
 use Rattle.std.proofs.Common.{◌∙◌, List, ap, map, sym}
 use Rattle.ut_json.specs.declared.tree.Member.{Member}
-use Rattle.ut_value.specs.Texts.{lower, texts_differ}
+use Rattle.ut_value.specs.Texts.{lower}
 use Rattle.ut_model.specs.Members.{member_names}
 use Rattle.ut_bodies.specs.inner.Spelled.{body_of}
 use Rattle.ut_bodies.proofs.Folded.{are_new, none_seen, one_seen}

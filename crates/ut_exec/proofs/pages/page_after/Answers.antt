@@ -1,15 +1,14 @@
-use Rattle.std.proofs.Common.{ℕ, Bor, IsTrue, List, Option, subst, take}
+use Rattle.std.proofs.Common.{ℕ, Bor, IsTrue, List, Option, arith, refl, subst, take}
 use Rattle.std.specs.Option.{option_map}
 use Rattle.ut_keeper.specs.Draft.{tables_of}
 use Rattle.ut_keeper.specs.Prefixes.{raised}
 use Rattle.ut_keys.specs.Listings.{rows_to, start_of}
-use Rattle.ut_keys.specs.Reads.{ListsAs}
-use Rattle.ut_keys.specs.Rows.{data_form}
 use Rattle.ut_value.specs.Id.{is_id}
 use Rattle.ut_value.specs.declared.id.Id.{Id}
 use Rattle.ut_data.proofs.Listed.{key_at, prefix_of}
-use Rattle.ut_data.proofs.Walking.{WalkLaws, few_seen, mapped, some_mapped, walk_finds}
-use Rattle.ut_exec.proofs.Turning.{finds_page}
+use Rattle.ut_data.proofs.Walking.{WalkLaws, mapped, some_mapped}
+use Rattle.ut_exec.specs.inner.Reading.{KeepsPage}
+use Rattle.ut_exec.proofs.Keeping.{page_found}
 use Rattle.ut_exec.proofs.pages.page_after.Goals as goal
 
 pub returns-clause-page : goal.returns-clause-page
@@ -28,6 +27,6 @@ returns-clause-page g c told =
     let rows = c.rows_after.result in
     let fits = c.rows_after.ensures.fits in
     let after = option_map {T = Bor Id} {U = Id} (λ id. id.now) c.args.after in
-    let from = subst (λ (o : Option (List ℕ)). ListsAs data_form (take 250 (rows_to m 7 (start_of (prefix_of l.org l.object) o) (raised (prefix_of l.org l.object)))) rows) (mapped (key_at l.org l.object) (λ (id : Bor Id). id.now) c.args.after) (c.rows_after.ensures.rows told) in
-    let ids = some_mapped (λ (i : List ℕ). IsTrue (is_id i)) (λ (id : Bor Id). id.now) c.args.after fits.1 in
-    finds_page l m after rows (λ result given. walk_finds walk m l after 250 fits.0.0 fits.0.1 ids rows from result given) (few_seen 250 _ rows (c.rows_after.ensures.rows told))
+    let from = subst (λ (o : Option (List ℕ)). KeepsPage (take 250 (rows_to m 7 (start_of (prefix_of l.org l.object) o) (raised (prefix_of l.org l.object)))) rows) (mapped (key_at l.org l.object) (λ (id : Bor Id). id.now) c.args.after) (c.rows_after.ensures.rows told) in
+    let ids = some_mapped (λ (i : List ℕ). IsTrue (is_id i)) (λ (id : Bor Id). id.now) c.args.after c.is_after_id.ensures in
+    page_found walk c.shape_laws.ensures.again m l after 250 fits.0 fits.1 ids (omega arith) rows refl from

@@ -1,5 +1,6 @@
 use Rattle.std.proofs.Common.{◌∙◌, ap, filter, refl, sym, subst}
-use Rattle.ut_data.specs.Decoding.{each_from, record_from}
+use Rattle.ut_data.specs.Decoding.{each_from}
+use Rattle.ut_exec.specs.Seen.{kept_record}
 use Rattle.ut_keeper.specs.Draft.{tables_of}
 use Rattle.ut_stands.specs.Calls.{done}
 use Rattle.ut_exec.specs.declared.offers.Progress.{Progress}
@@ -45,7 +46,7 @@ returns-in_err-offer_records-clause-what g c told =
     let u = turn state c.draft_laws.ensures.both c.call_laws.ensures.then l (Offers state l keep row w room old p c.pages.out.items) c.pages.pages a c.pages.draft c.pages.invariant
     c.next_page.new.pages c.next_page.new.draft rows c.in_ok-rows.ensures.calls c.in_ok-rows.ensures.page c.in_ok-rows.ensures.less (Stopped state l keep row w room old new out fail)
     (λ seen page read goes. stops_at state l keep row w room old p new c.pages.out.items out fail seen page goes
-    (subst (Offered row p new c.pages.out.items out (filter keep page)) c.in_err-offer_records.was (c.offer_records.ensures.offered page (ap (each_from (record_from l)) c.as_slice.ensures.value ∙ read)))) in
+    (subst (Offered row p new c.pages.out.items out (filter keep page)) c.in_err-offer_records.was (c.offer_records.ensures.offered page (ap (each_from (kept_record l)) c.as_slice.ensures.value ∙ read)))) in
     subst (WritesRows l (rows_kept w keep l.object) row room old out (tables_of state a)) (sym (returned c.from_residual-in_err-offer_records.result fail c.from_residual-in_err-offer_records.ensures.1))
     (what_stopped state l keep row w room old c.next_page.new.pages a c.next_page.new.draft told new out fail u)
 
@@ -75,7 +76,7 @@ pages-preserved g c =
     turn state c.draft_laws.ensures.both c.call_laws.ensures.then l (Offers state l keep row w room old p c.pages.out.items) c.pages.pages c.args.draft.now c.pages.draft c.pages.invariant
     c.next_page.new.pages c.next_page.new.draft c.in_ok-rows.rows c.in_ok-rows.ensures.calls c.in_ok-rows.ensures.page c.in_ok-rows.ensures.less (Offers state l keep row w room old new out)
     (λ seen page read goes. offers_more state l keep row w room old p new c.pages.out.items out seen page goes
-    (c.in_ok-offer_records.ensures.offered page (ap (each_from (record_from l)) c.as_slice.ensures.value ∙ read)))
+    (c.in_ok-offer_records.ensures.offered page (ap (each_from (kept_record l)) c.as_slice.ensures.value ∙ read)))
 
 pub returns-else-not-is_over-clause-what : goal.returns-else-not-is_over-clause-what
 returns-else-not-is_over-clause-what g c told =

@@ -6,6 +6,10 @@ pub returns-in-Access : goal.returns-in-Access
 unfolding chars
 returns-in-Access c = rw c.in-Access.is refl
 
+pub returns-in-Admin : goal.returns-in-Admin
+unfolding chars
+returns-in-Admin c = rw c.in-Admin.is refl
+
 pub returns-in-Child : goal.returns-in-Child
 unfolding chars
 returns-in-Child c = rw c.in-Child.is refl
@@ -42,6 +46,10 @@ pub returns-in-Master : goal.returns-in-Master
 unfolding chars
 returns-in-Master c = rw c.in-Master.is refl
 
+pub returns-in-Members : goal.returns-in-Members
+unfolding chars
+returns-in-Members c = rw c.in-Members.is refl
+
 pub returns-in-Message : goal.returns-in-Message
 unfolding chars
 returns-in-Message c = rw c.in-Message.is refl
@@ -65,6 +73,14 @@ returns-in-Parent c = rw c.in-Parent.is refl
 pub returns-in-Required : goal.returns-in-Required
 unfolding chars
 returns-in-Required c = rw c.in-Required.is refl
+
+pub returns-in-Role : goal.returns-in-Role
+unfolding chars
+returns-in-Role c = rw c.in-Role.is refl
+
+pub returns-in-Secret : goal.returns-in-Secret
+unfolding chars
+returns-in-Secret c = rw c.in-Secret.is refl
 
 pub returns-in-Type : goal.returns-in-Type
 unfolding chars

@@ -1,0 +1,83 @@
+-- What an input comes to, by how far its organisation was made.
+use Rattle.std.proofs.Common.{◌≡◌, ◌∙◌, ◌≤◌, ◌<◌, arith, ℕ, Bool, true, false, cond, List, [], ◌∷◌, length, map, take, Option, Some, None, Result, Ok, Err, nat_le, refl, sym, ap, subst, pos}
+use Rattle.std.proofs.lemmas.Bool.Decides.{nat_tests}
+use Rattle.csv.specs.Records.{Row, fields_of}
+use Rattle.ut_keeper.specs.Draft.{Held, tables_of}
+use Rattle.ut_keeper.specs.Laid.{laid}
+use Rattle.ut_keeper.specs.Memory.{InMemory, memory_state}
+use Rattle.ut_keeper.specs.Tables.{Tables, no_rows}
+use Rattle.ut_query.specs.declared.query.Query.{Query}
+use Rattle.ut_table.specs.Place.{TellsPlace}
+use Rattle.ut_table.specs.Table.{first_refused, table_of}
+use Rattle.ut_table.specs.declared.fail.TableFail.{TableFail}
+use Rattle.ut_table.specs.declared.fail.TableFail.TheVariants as table
+use Rattle.ut_model.specs.Cases.{in_case}
+use Rattle.ut_model.specs.Limits.{input_limit}
+use Rattle.ut_model.specs.Metadata.{add_object}
+use Rattle.ut_model.specs.Paths.{Asked}
+use Rattle.ut_model.specs.declared.refusal.Refusal.{Refusal}
+use Rattle.ut_model.specs.declared.refusal.Refusal.TheVariants.{CsvRefused, InputTooLarge}
+use Rattle.ut_csvq.specs.Organisation.{asker, new_rows, past, refusal_of, with_columns}
+use Rattle.ut_csvq.specs.Outcomes.{columns_outcome, input_outcome, table_outcome}
+use Rattle.ut_csvq.specs.declared.outcome.Outcome.{Outcome}
+use Rattle.ut_csvq.specs.declared.outcome.Outcome.TheVariants.{Refused}
+use Rattle.ut_csvq.specs.inner.Making.{Goes, IsMade}
+use Rattle.ut_csvq.proofs.Cutting.{cut_table}
+
+module _ {X : Type 0} (now : ℕ) (m : Tables) where
+  pub goes_wrong : (r : Result Asked X) (y : X) → Goes now m r (Ok (Some y)) → r ≡ Err y
+  goes_wrong (Ok b) y h = absurd h
+  goes_wrong (Err x) y h = ap Err (sym h)
+
+  pub goes_well : (r : Result Asked X) → Goes now m r (Ok None) → (b : Asked) × (r ≡ Ok b) × IsMade now m b
+  goes_well (Ok b) h = (b, refl, h)
+  goes_well (Err x) h = absurd h
+
+module _ (q : Query) (now : ℕ) (heading : List (List ℕ)) (rows : List (List (List ℕ))) where
+  -- what it comes to by the verdict on the object
+  pub by_object : (refused : Option Refusal) → refusal_of (add_object (asker (pos now)).tenant new_rows).answer ≡ refused
+      → in_case refused (columns_outcome q heading rows (with_columns false (past (asker (pos now)) (add_object (asker (pos now)).tenant new_rows)) heading)) Refused
+      ≡ table_outcome q (pos now) (heading ∷ rows)
+  by_object refused e =
+      sym (ap (λ (x : Option Refusal). in_case x (columns_outcome q heading rows (with_columns false (past (asker (pos now)) (add_object (asker (pos now)).tenant new_rows)) heading)) Refused) e)
+
+pub no_record : (q : Query) (now : ℕ) (records : List Row) → length records ≡ 0 → Refused (CsvRefused 0) ≡ table_outcome q (pos now) (map fields_of records)
+no_record q now [] e = refl
+no_record q now (r ∷ rs) e = absurd (omega arith)
+
+-- a draft without changes over tables without rows
+pub no_tables : (d : Held InMemory) (k : InMemory) → d.changes.entries ≡ [] → d.keeper.now ≡ k → k.tables ≡ no_rows → tables_of memory_state d ≡ no_rows
+no_tables d k empty same none = ap (λ es. laid es d.keeper.now.tables) empty ∙ ap (λ (x : InMemory). x.tables) same ∙ none
+
+-- ---- the bytes of an input
+
+pub told_row : (bytes : List ℕ) (fail : TableFail) (row line column : ℕ) → fail ≡ table.Refused row line column → TellsPlace bytes fail → first_refused bytes ≡ Some row
+told_row bytes fail row line column is told = by (subst (TellsPlace bytes) is told)
+  where
+    by : TellsPlace bytes (table.Refused row line column) → first_refused bytes ≡ Some row
+    by h = h.refused
+
+module _ (q : Query) (now : ℕ) (bytes : List ℕ) where
+  abbrev by_length : Bool → Outcome
+  by_length small = cond small (in_case (first_refused bytes) (table_outcome q (pos now) (table_of bytes)) (λ row. Refused (CsvRefused row))) (Refused InputTooLarge)
+
+  small_so : length bytes ≤ input_limit → nat_le (length bytes) input_limit ≡ true
+  small_so h = grind (arith, nat_tests)
+
+  large_so : input_limit < length bytes → nat_le (length bytes) input_limit ≡ false
+  large_so h = grind (arith, nat_tests)
+
+  pub too_large : input_limit < length bytes → Refused InputTooLarge ≡ input_outcome q (pos now) bytes
+  too_large h = sym (ap by_length (large_so h))
+
+  by_record : length bytes ≤ input_limit → (refused : Option ℕ) → first_refused bytes ≡ refused
+      → input_outcome q (pos now) bytes ≡ in_case refused (table_outcome q (pos now) (table_of bytes)) (λ row. Refused (CsvRefused row))
+  by_record h refused e =
+      ap by_length (small_so h) ∙ ap (λ (x : Option ℕ). in_case x (table_outcome q (pos now) (table_of bytes)) (λ row. Refused (CsvRefused row))) e
+
+  pub record_refused : length bytes ≤ input_limit → (row : ℕ) → first_refused bytes ≡ Some row → Refused (CsvRefused row) ≡ input_outcome q (pos now) bytes
+  record_refused h row e = sym (by_record h (Some row) e)
+
+  pub table_answered : length bytes ≤ input_limit → first_refused bytes ≡ None → (records : List (List (List ℕ))) → records ≡ take 50002 (table_of bytes)
+      → table_outcome q (pos now) records ≡ input_outcome q (pos now) bytes
+  table_answered h e records is = ap (table_outcome q (pos now)) is ∙ cut_table q (pos now) (table_of bytes) ∙ sym (by_record h None e)

@@ -1,0 +1,4 @@
+pub mod Organisation
+pub mod Lines
+pub mod Outcomes
+pub mod inner

@@ -1,0 +1,71 @@
+-- What a query over a CSV text comes to.
+-- Sources: of the texts `ut_soql_grammar` and `ut_table`, of the rest the definitions of the model.
+use Rattle.std.specs.Prelude.{ℕ, false, nat_le, if◌then◌else◌, List, [], ◌∷◌, length, codes, Result, Ok, Err, ℤ}
+use Rattle.std.specs.Str.{chars}
+use Rattle.ut_query.specs.declared.query.Query.{Query}
+use Rattle.ut_soql_grammar.specs.Spelling.{reads_query}
+use Rattle.ut_table.specs.Table.{first_refused, table_of}
+use Rattle.ut_model.specs.declared.refusal.Refusal.{Refusal}
+use Rattle.ut_model.specs.declared.refusal.Refusal.TheVariants.{CsvRefused, HeadingRefused, InputTooLarge, MalformedQuery, NotBuilt}
+use Rattle.ut_model.specs.Asking.{ask}
+use Rattle.ut_model.specs.Cases.{in_case}
+use Rattle.ut_model.specs.Limits.{input_limit}
+use Rattle.ut_model.specs.Metadata.{add_object}
+use Rattle.ut_model.specs.Paths.{Asked}
+use Rattle.ut_step.specs.Flat.{is_flat}
+use Rattle.ut_csvq.specs.Lines.{lines_found}
+use Rattle.ut_csvq.specs.Organisation.{asker, new_rows, refusal_of, unless_refused, with_columns, with_rows}
+use Rattle.ut_csvq.specs.declared.outcome.Outcome.{Outcome}
+use Rattle.ut_csvq.specs.declared.outcome.Outcome.TheVariants.{Rows, Refused, RefusedIn}
+
+-- ---- the query
+
+-- of queries those over one object are built
+abbrev pub if_flat : Query → Result Query Refusal
+if_flat q = if is_flat q then Ok q else Err (NotBuilt (chars (codes "paths")))
+
+abbrev pub query_read : Result Query ℕ → Result Query Refusal
+query_read (Ok q) = if_flat q
+query_read (Err place) = Err (MalformedQuery place)
+
+-- the query that a text is, or why it is refused
+abbrev pub query_in : (text : List ℕ) → Result Query Refusal
+query_in text = query_read (reads_query text)
+
+-- ---- the input, once the query is read
+
+-- the query, once the records are made
+abbrev pub asked_outcome : Query → Asked → Outcome
+asked_outcome q a = in_case (refusal_of (ask a q).answer) (Rows (lines_found a q)) Refused
+
+abbrev pub rows_outcome : Query → Result Asked (ℕ × Refusal) → Outcome
+rows_outcome q (Ok a) = asked_outcome q a
+rows_outcome q (Err why) = RefusedIn why.0 why.1
+
+-- the rows, once the columns are made
+abbrev pub columns_outcome : Query → (heading : List (List ℕ)) → (rows : List (List (List ℕ))) → Result Asked (List ℕ) → Outcome
+columns_outcome q heading rows (Ok a) = rows_outcome q (with_rows heading 1 a rows)
+columns_outcome q heading rows (Err cell) = Refused (HeadingRefused cell)
+
+-- a heading and rows, at this moment
+abbrev pub table_outcome : Query → ℤ → List (List (List ℕ)) → Outcome
+table_outcome q now [] = Refused (CsvRefused 0)
+table_outcome q now (heading ∷ rows) =
+    unless_refused (asker now) (add_object (asker now).tenant new_rows) Refused (λ a. columns_outcome q heading rows (with_columns false a heading))
+
+-- the bytes of an input
+abbrev pub input_outcome : Query → ℤ → (bytes : List ℕ) → Outcome
+input_outcome q now bytes =
+    if nat_le (length bytes) input_limit
+    then in_case (first_refused bytes) (table_outcome q now (table_of bytes)) (λ row. Refused (CsvRefused row))
+    else Refused InputTooLarge
+
+-- ---- both
+
+abbrev pub query_outcome : Result Query Refusal → ℤ → (bytes : List ℕ) → Outcome
+query_outcome (Ok q) now bytes = input_outcome q now bytes
+query_outcome (Err why) now bytes = Refused why
+
+-- what the query of a text comes to over the bytes of an input, asked at this moment
+abbrev pub outcome_of : (text : List ℕ) → ℤ → (bytes : List ℕ) → Outcome
+outcome_of text now bytes = query_outcome (query_in text) now bytes

@@ -1,0 +1,69 @@
+//! The lines of records.
+
+ghost use Rattle.std.specs.Prelude.{◌≡◌, IfOk, Some, map};
+ghost use Rattle.ut_answers.specs.inner.Rows.{cell_of, or_null};
+ghost use Rattle.ut_bind.specs.Given.{GivesBy, GivesJust};
+ghost use Rattle.ut_csvq.specs.inner.Names.{shown_line};
+ghost use Rattle.ut_model.specs.declared.record.Record.{Record};
+ghost use Rattle.ut_value.specs.Printing.{print_value};
+
+use crate::line::line_of;
+use std::alloc::{AllocError, Global};
+use ut_answers::is_printable;
+use ut_bind::{HasValues, Shown};
+use ut_exec::{RowForm, SeenRecord};
+use ut_parts::CodecFail;
+use ut_value::{Text, Value, print_value};
+
+// A value that can be printed, or nothing.
+fn print_cell(alloc: Global, value: &Value) -> Result<Text, AllocError>
+    ensures { IfOk result (λ text. text ≡ print_value (or_null value.now)) }
+{
+    if is_printable(value) {
+        print_value(alloc, value)
+    } else {
+        print_value(alloc, &Value::Null)
+    }
+}
+
+// What is shown of a record.
+fn cell_of<V: HasValues>(alloc: Global, shown: &Shown, item: &V) -> Result<Text, CodecFail>
+    ensures { (r : Record) → V.its_record item.now ≡ Some r → GivesJust (print_value (cell_of r shown.now)) result }
+{
+    let value = item.value_at(alloc, shown.site)?;
+    Ok(print_cell(alloc, &value)?)
+}
+
+// All that is shown of a record.
+fn cells_of<V: HasValues>(alloc: Global, shown: &[Shown], item: &V) -> Result<Vec<Text>, CodecFail>
+    ensures { (r : Record) → V.its_record item.now ≡ Some r
+        → GivesBy (λ cells. cells.items) (map (λ s. print_value (cell_of r s)) shown.now) result }
+{
+    let mut cells = Vec::new(alloc);
+    for place in shown {
+        cells.push(cell_of(alloc, place, item)?)?;
+    }
+    Ok(cells)
+}
+
+/// A line for each record.
+#[derive(Drop)]
+pub(crate) struct CsvLines<'a> {
+    pub shown: &'a [Shown],
+}
+
+impl RowForm for CsvLines<'_> {
+    ghost written = { λ f r. shown_line f.shown.now r };
+
+    fn write(
+        &self,
+        alloc: Global,
+        item: &SeenRecord<'_>,
+        out: &mut Vec<u8>,
+    ) -> Result<(), CodecFail> {
+        let cells = cells_of(alloc, self.shown, item)?;
+        let text = line_of(alloc, cells.as_slice())?;
+        out.extend_from_slice(text.as_slice())?;
+        Ok(())
+    }
+}

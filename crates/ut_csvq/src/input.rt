@@ -1,0 +1,147 @@
+//! A query over the bytes of an input.
+
+ghost use Rattle.std.specs.Prelude.{◌≡◌, [], ◌∷◌, IfOk, IsTrue, false, map, pos, true};
+ghost use Rattle.csv.specs.Records.{fields_of};
+ghost use Rattle.ut_csvq.specs.Organisation.{with_columns, with_rows};
+ghost use Rattle.ut_csvq.specs.Outcomes.{columns_outcome, input_outcome, rows_outcome, table_outcome};
+ghost use Rattle.ut_csvq.specs.inner.Making.{IsMade};
+ghost use Rattle.ut_keeper.specs.Draft.{tables_of};
+ghost use Rattle.ut_keeper.specs.Memory.{memory_state};
+ghost use Rattle.ut_model.specs.Paths.{Asked};
+ghost use Rattle.ut_stands.specs.Stands.{Stands};
+ghost use Rattle.ut_step.specs.Flat.{is_flat};
+ghost use Rattle.ut_value.specs.Dates.{is_moment};
+
+use crate::answer::answer;
+use crate::columns::make_columns;
+use crate::organisation::{make_object, make_org};
+use crate::outcome::Outcome;
+use crate::rows::make_rows;
+use csv::StringRecord;
+use std::alloc::{AllocError, Global};
+use ut_keeper::{Draft, MemoryKeeper};
+use ut_keys::StoreFail;
+use ut_model::Refusal;
+use ut_query::Query;
+use ut_stands::stands_laws;
+use ut_table::{TableFail, read_table};
+
+/// The most bytes of an input.
+pub const INPUT_LIMIT: usize = 67_108_864;
+
+// The most records of an input that are kept: the heading, and one row more than an organisation has records.
+const RECORDS: usize = 50_002;
+
+// The rows, and the answer once they are made.
+fn answer_rows(
+    alloc: Global,
+    draft: &mut Draft<'_, MemoryKeeper>,
+    query: &Query,
+    now: u64,
+    heading: &StringRecord,
+    rows: &[StringRecord],
+) -> Result<Outcome, StoreFail>
+    requires { IsTrue (is_moment (pos now)) }
+    ensures { is_flat query.now ≡ true → (a : Asked) → IsMade now (tables_of memory_state draft.old) a
+        → IfOk result (λ outcome. outcome ≡ rows_outcome query.now (with_rows (fields_of heading.now) 1 a (map fields_of rows.now))) }
+{
+    let refused = make_rows(alloc, draft, now, heading, rows)?;
+    match refused {
+        Some(why) => {
+            let (row, refusal) = why;
+            Ok(Outcome::RefusedIn(row, refusal))
+        }
+        None => answer(alloc, draft, now, query),
+    }
+}
+
+// The heading and its rows.
+fn answer_columns(
+    alloc: Global,
+    draft: &mut Draft<'_, MemoryKeeper>,
+    query: &Query,
+    now: u64,
+    heading: &StringRecord,
+    rows: &[StringRecord],
+) -> Result<Outcome, StoreFail>
+    requires { IsTrue (is_moment (pos now)) }
+    ensures { is_flat query.now ≡ true → (a : Asked) → IsMade now (tables_of memory_state draft.old) a
+        → IfOk result (λ outcome. outcome
+        ≡ columns_outcome query.now (fields_of heading.now) (map fields_of rows.now) (with_columns false a (fields_of heading.now))) }
+{
+    let refused = make_columns(alloc, draft, heading)?;
+    match refused {
+        Some(cell) => Ok(Outcome::Refused(Refusal::HeadingRefused { cell })),
+        None => answer_rows(alloc, draft, query, now, heading, rows),
+    }
+}
+
+// The organisation, its object, the heading and its rows.
+fn answer_made(
+    alloc: Global,
+    draft: &mut Draft<'_, MemoryKeeper>,
+    query: &Query,
+    now: u64,
+    heading: &StringRecord,
+    rows: &[StringRecord],
+) -> Result<Outcome, StoreFail>
+    requires { IsTrue (is_moment (pos now)) }
+    ensures { is_flat query.now ≡ true → Stands (tables_of memory_state draft.old) []
+        → IfOk result (λ outcome. outcome ≡ table_outcome query.now (pos now) (fields_of heading.now ∷ map fields_of rows.now)) }
+{
+    make_org(alloc, draft)?;
+    let refused = make_object(alloc, draft)?;
+    match refused {
+        Some(refusal) => Ok(Outcome::Refused(refusal)),
+        None => answer_columns(alloc, draft, query, now, heading, rows),
+    }
+}
+
+// A heading and rows, in tables of their own.
+fn answer_records(
+    alloc: Global,
+    query: &Query,
+    now: u64,
+    records: &[StringRecord],
+) -> Result<Outcome, AllocError>
+    requires { IsTrue (is_moment (pos now)) }
+    ensures { is_flat query.now ≡ true
+        → IfOk result (λ outcome. outcome ≡ table_outcome query.now (pos now) (map fields_of records.now)) }
+{
+    stands_laws();
+    let Some((heading, rows)) = records.split_first() else {
+        return Ok(Outcome::Refused(Refusal::CsvRefused { row: 0 }));
+    };
+    let mut keeper = MemoryKeeper::new(alloc, &[])?;
+    let mut draft = Draft::new(alloc, &mut keeper);
+    match answer_made(alloc, &mut draft, query, now, heading, rows) {
+        Ok(outcome) => Ok(outcome),
+        // No call of this keeper fails, and its tables stand for what was made.
+        Err(_) => Err(AllocError),
+    }
+}
+
+/// What a query over one object comes to over the bytes of an input, asked at this moment, in seconds from 1970-01-01T00:00:00Z.
+///
+/// # Errors
+///
+/// If out of memory.
+pub fn answer_input(
+    alloc: Global,
+    query: &Query,
+    now: u64,
+    bytes: &[u8],
+) -> Result<Outcome, AllocError>
+    requires moment { IsTrue (is_moment (pos now)) }
+    requires flat { is_flat query.now ≡ true }
+    ensures { IfOk result (λ outcome. outcome ≡ input_outcome query.now (pos now) bytes.now) }
+{
+    if bytes.len() > INPUT_LIMIT {
+        return Ok(Outcome::Refused(Refusal::InputTooLarge));
+    }
+    match read_table(alloc, bytes, RECORDS) {
+        Ok(records) => answer_records(alloc, query, now, records.as_slice()),
+        Err(TableFail::Refused { row, .. }) => Ok(Outcome::Refused(Refusal::CsvRefused { row })),
+        Err(TableFail::Memory) => Err(AllocError),
+    }
+}

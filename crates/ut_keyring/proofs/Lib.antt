@@ -1,0 +1,7 @@
+pub mod Spreading
+pub mod Found
+pub mod Edges
+pub mod Meaning
+pub mod Choosing
+pub mod Reaching
+pub mod Looping

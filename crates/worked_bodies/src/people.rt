@@ -1,0 +1,100 @@
+//! Bodies of users, roles and groups, and what each says; `none` if it isn't of its form.
+
+use std::alloc::{AllocError, Global};
+use ut_bodies::{group_members, new_group, new_role, new_user, parent_of_role, role_of_user};
+use ut_model::{NewUser, PrincipalKind, Spelled};
+use ut_value::Text;
+
+// The text of an id, or `-`.
+fn id_or_none(id: &Option<Text>) -> &str {
+    match id {
+        Some(text) => text.as_str(),
+        None => "-",
+    }
+}
+
+fn shown_user(alloc: Global, new: &NewUser) -> Result<String, AllocError> {
+    let name = new.name.as_str();
+    let secret = new.secret.as_str();
+    let role = id_or_none(&new.role);
+    let admin = if new.admin { " admin" } else { "" };
+    format!(in alloc; "{name} {secret} {role}{admin}")
+}
+
+/// A new user: the name, the secret, the role, and whether it administers.
+pub(crate) fn user(alloc: Global, body: &[u8]) -> Result<String, AllocError> {
+    match new_user(alloc, body)? {
+        Some(new) => shown_user(alloc, &new),
+        None => String::from_str(alloc, "none"),
+    }
+}
+
+/// Another role of a user.
+pub(crate) fn user_role(alloc: Global, body: &[u8]) -> Result<String, AllocError> {
+    match role_of_user(alloc, body)? {
+        Some(new) => String::from_str(alloc, id_or_none(&new.role)),
+        None => String::from_str(alloc, "none"),
+    }
+}
+
+/// A new role: the name, and the parent.
+pub(crate) fn role(alloc: Global, body: &[u8]) -> Result<String, AllocError> {
+    match new_role(alloc, body)? {
+        Some(new) => {
+            let name = new.name.as_str();
+            let parent = id_or_none(&new.parent);
+            format!(in alloc; "{name} {parent}")
+        }
+        None => String::from_str(alloc, "none"),
+    }
+}
+
+/// Another parent of a role.
+pub(crate) fn parent(alloc: Global, body: &[u8]) -> Result<String, AllocError> {
+    match parent_of_role(alloc, body)? {
+        Some(new) => String::from_str(alloc, id_or_none(&new.parent)),
+        None => String::from_str(alloc, "none"),
+    }
+}
+
+/// The name of a new group, between two `"`.
+pub(crate) fn group(alloc: Global, body: &[u8]) -> Result<String, AllocError> {
+    match new_group(alloc, body)? {
+        Some(name) => {
+            let name = name.as_str();
+            format!(in alloc; "\"{name}\"")
+        }
+        None => String::from_str(alloc, "none"),
+    }
+}
+
+fn kind_word(kind: PrincipalKind) -> &'static str {
+    match kind {
+        PrincipalKind::User => "user",
+        PrincipalKind::Role => "role",
+        PrincipalKind::Subordinates => "subordinates",
+        PrincipalKind::Group => "group",
+    }
+}
+
+fn shown_members(alloc: Global, members: &[Spelled]) -> Result<String, AllocError> {
+    let mut out = String::from_str(alloc, "[")?;
+    for (at, member) in members.iter().enumerate() {
+        if at > 0 {
+            out.push_str(", ")?;
+        }
+        out.push_str(kind_word(member.kind))?;
+        out.push_str(" ")?;
+        out.push_str(member.text.as_str())?;
+    }
+    out.push_str("]")?;
+    Ok(out)
+}
+
+/// The members of a group: of each the kind, and the text of its id.
+pub(crate) fn members(alloc: Global, body: &[u8]) -> Result<String, AllocError> {
+    match group_members(alloc, body)? {
+        Some(members) => shown_members(alloc, members.as_slice()),
+        None => String::from_str(alloc, "none"),
+    }
+}

@@ -18,20 +18,22 @@ use Rattle.ut_model.specs.declared.metadata_bodies.NewObject.{NewObject}
 use Rattle.ut_model.specs.declared.metadata_bodies.NewValidationRule.{NewValidationRule}
 use Rattle.ut_model.specs.declared.record_bodies.Assignment.{Assignment}
 use Rattle.ut_model.specs.declared.people_bodies.NewUser.{NewUser}
+use Rattle.ut_model.specs.declared.sharing_bodies.NewShare.{NewShare}
+use Rattle.ut_model.specs.declared.sharing_bodies.NewSharingRule.{NewSharingRule}
 use Rattle.ut_model.specs.declared.refusal.Refusal.{Refusal}
 use Rattle.ut_model.specs.declared.refusal.Refusal.TheVariants.{NotBuilt}
 use Rattle.ut_model.specs.declared.route.Route.{Route}
-use Rattle.ut_model.specs.declared.route.Route.TheVariants.{AddField, AddGroup, AddObject, AddRole, AddUser, AddValidationRule, Create, Delete, SetGroup, SetObject, SetRole, SetUser, Update, Upsert}
+use Rattle.ut_model.specs.declared.route.Route.TheVariants.{AddField, AddGroup, AddObject, AddRole, AddSharingRule, AddUser, AddValidationRule, Create, Delete, RemoveSharingRule, SetGroup, SetObject, SetRole, SetUser, Share, Unshare, Update, Upsert}
 use Rattle.ut_step.specs.Built.{built_request, is_built}
 use Rattle.ut_step.specs.Own.{edit_shown, request_changes, request_gone}
-use Rattle.ut_model.specs.Forms.{access_request, field_request, object_request, validation_request}
-use Rattle.ut_model.specs.Members.{Body}
+use Rattle.ut_model.specs.Forms.{access_request, field_request, object_request, share_request, sharing_rule_request, validation_request}
+use Rattle.ut_model.specs.Members.{Body, principal_in}
 use Rattle.ut_model.specs.Organisations.{is_secret}
 use Rattle.ut_model.specs.Paths.{Asked}
 use Rattle.ut_model.specs.PeopleForms.{group_request, members_request, role_parent_request, role_request, user_request, user_role_request}
 use Rattle.ut_model.specs.declared.people_bodies.Spelled.{Spelled}
 use Rattle.ut_model.specs.RequestOf.{request_of, request_or, value_part, verdict_or}
-use Rattle.ut_model.specs.Requests.{Request, adds_field, adds_group, adds_object, adds_user, adds_validation_rule, creates, deletes, sets_group, sets_object, updates, upserts, verdict_on}
+use Rattle.ut_model.specs.Requests.{Request, adds_field, adds_group, adds_object, adds_sharing_rule, adds_user, adds_validation_rule, creates, deletes, removes_sharing_rule, sets_group, sets_object, shares, unshares, updates, upserts, verdict_on}
 use Rattle.ut_model.specs.Sound.{IsSound}
 use Rattle.ut_model.specs.Tenant.{Tenant}
 use Rattle.ut_model.specs.Verdict.{Done, Verdict}
@@ -43,7 +45,7 @@ use Rattle.ut_stands.specs.declared.fail.EditFail.{EditFail}
 use Rattle.ut_stands.specs.declared.fail.EditFail.TheVariants.{Refused, Store}
 use Rattle.ut_stands.specs.Fails.{IsRefusal}
 use Rattle.ut_admin.specs.declared.answer.Answer.{Answer}
-use Rattle.ut_admin.specs.inner.Edits.{Anyone, Asks, EditsFrom, EditsTo, IsAnswerTo, KeepsRefused, answer_of, form_of, seen}
+use Rattle.ut_admin.specs.inner.Edits.{Asks, EditsFrom, EditsTo, IsAnswerTo, KeepsRefused, answer_of, form_of, seen}
 
 -- what `ut_sound` says of requests that are read
 abbrev pub RequestsFit : Type 0
@@ -67,6 +69,16 @@ pub asks_rule : (body : List ℕ) (read : Result (Option NewValidationRule) Allo
     → Asks adds_validation_rule (built_request AddValidationRule body) (form_of read)
 unfolding request_of
 asks_rule body read e = asks_form adds_validation_rule read (request_in validation_request body) e
+
+pub asks_share : (body : List ℕ) (read : Result (Option NewShare) AllocError) → IfOk read (λ x. option_map shares x ≡ request_in share_request body)
+    → Asks shares (built_request Share body) (form_of read)
+unfolding request_of
+asks_share body read e = asks_form shares read (request_in share_request body) e
+
+pub asks_sharing_rule : (body : List ℕ) (read : Result (Option NewSharingRule) AllocError) → IfOk read (λ x. option_map adds_sharing_rule x ≡ request_in sharing_rule_request body)
+    → Asks adds_sharing_rule (built_request AddSharingRule body) (form_of read)
+unfolding request_of
+asks_sharing_rule body read e = asks_form adds_sharing_rule read (request_in sharing_rule_request body) e
 
 pub asks_field : (body : List ℕ) (read : Result (Option NewField) AllocError) → IfOk read (λ x. option_map adds_field x ≡ request_in field_request body)
     → Asks adds_field (built_request AddField body) (form_of read)
@@ -156,6 +168,15 @@ pub asks_no_more : (object key body : List ℕ) → built_request (Delete object
 unfolding request_of
 asks_no_more object key body = refl
 
+-- nor have the ends of a share and of a sharing rule
+pub asks_no_share : (item part body : List ℕ) → built_request (Unshare item part) body ≡ Ok (unshares item part (principal_in part))
+unfolding request_of
+asks_no_share item part body = refl
+
+pub asks_no_rule : (name body : List ℕ) → built_request (RemoveSharingRule name) body ≡ Ok (removes_sharing_rule name)
+unfolding request_of
+asks_no_rule name body = refl
+
 -- ---- a request that is read is fit
 
 by_built : (b : Bool) (request : Result Request Refusal) (r : Refusal) (x : Request) → cond b request (Err r) ≡ Ok x → request ≡ Ok x
@@ -192,12 +213,12 @@ module _ {X : Type 0} (view : X → Answer) (answered : X → Done) (same_answer
             (edits_to org a.tenant (verdict a) (planned q a.tenant) after edit (subst (KeepsRefused a.tenant) (sym (same a)) (kept a)) (h.edited q a stands (fit a stands.sound asking)));
       })
 
--- an edit for anyone, as one of the request of that route for those who ask so
-pub edits_asked_so : (org : ℕ) (asks : Asked → Type 0) (r s : Route) (body : List ℕ) (m after : Tables) (result : Result Answer EditFail) → r ≡ s
-    → EditsFrom org Anyone (λ a. verdict_or a (built_request s body)) m after result → EditsFrom org asks (λ a. verdict_or a (built_request r body)) m after result
-edits_asked_so org asks r s body m after result route h = record {
+-- an edit for some, as one of the request of that route for those who ask so and are among them
+pub edits_asked_so : (org : ℕ) (some asks : Asked → Type 0) → ((a : Asked) → asks a → some a) → (r s : Route) (body : List ℕ) (m after : Tables) (result : Result Answer EditFail) → r ≡ s
+    → EditsFrom org some (λ a. verdict_or a (built_request s body)) m after result → EditsFrom org asks (λ a. verdict_or a (built_request r body)) m after result
+edits_asked_so org some asks among r s body m after result route h = record {
   others = h.others;
-  edited = λ q a stands asking. subst (λ y. EditsTo org a.tenant (verdict_or a (built_request y body)) after result) (sym route) (h.edited q a stands tt);
+  edited = λ q a stands asking. subst (λ y. EditsTo org a.tenant (verdict_or a (built_request y body)) after result) (sym route) (h.edited q a stands (among a asking));
 }
 
 -- no edit, where the body asks for none
@@ -227,6 +248,10 @@ pub record IsOther (r : Route) : Type 0 where
   pub no_access : (object : List ℕ) → r ≡ SetObject object → ⊥
   pub no_field : r ≡ AddField → ⊥
   pub no_rule : r ≡ AddValidationRule → ⊥
+  pub no_share : r ≡ Share → ⊥
+  pub no_end : (item to : List ℕ) → r ≡ Unshare item to → ⊥
+  pub no_sharing_rule : r ≡ AddSharingRule → ⊥
+  pub no_removal : (name : List ℕ) → r ≡ RemoveSharingRule name → ⊥
   pub no_user : r ≡ AddUser → ⊥
   pub no_user_role : (user : List ℕ) → r ≡ SetUser user → ⊥
   pub no_role : r ≡ AddRole → ⊥
@@ -243,6 +268,10 @@ not_built AddObject other = absurd (other.no_object refl)
 not_built (SetObject object) other = absurd (other.no_access object refl)
 not_built AddField other = absurd (other.no_field refl)
 not_built AddValidationRule other = absurd (other.no_rule refl)
+not_built Share other = absurd (other.no_share refl)
+not_built (Unshare item to) other = absurd (other.no_end item to refl)
+not_built AddSharingRule other = absurd (other.no_sharing_rule refl)
+not_built (RemoveSharingRule name) other = absurd (other.no_removal name refl)
 not_built AddUser other = absurd (other.no_user refl)
 not_built (SetUser user) other = absurd (other.no_user_role user refl)
 not_built AddRole other = absurd (other.no_role refl)

@@ -1,9 +1,9 @@
--- What is given to the fields of a record has its form, for an administrator who asks; and who deletes one is an administrator.
+-- What is given to the fields of a record has its form, for who asks; and so does a deletion.
 use Rattle.std.proofs.Common.{◌≡◌, ℕ, Bool, true, false, IsTrue, List, [], ◌∷◌, Some, refl, sym, ap, subst, ◌∙◌, ℤ, pos}
 use Rattle.std.proofs.lemmas.Slice.Eq.{bytes_eq-Decides}
 use Rattle.std.specs.Prelude.{if◌then◌else◌, is_some}
 use Rattle.std.specs.Str.{bytes_eq}
-use Rattle.ut_admin.specs.Administration.{Administers}
+use Rattle.ut_admin.specs.Administration.{AsksWith}
 use Rattle.ut_deletes.specs.Deleting.{IsDeleting}
 use Rattle.ut_model.specs.declared.caller.Caller.{Caller}
 use Rattle.ut_model.specs.declared.record_bodies.Assignment.{Assignment}
@@ -11,6 +11,7 @@ use Rattle.ut_model.specs.Paths.{Asked}
 use Rattle.ut_model.specs.Tenant.{Object, User}
 use Rattle.ut_model.specs.World.{user_at}
 use Rattle.ut_records.specs.Creating.{IsGiving}
+use Rattle.ut_rights.specs.Rights.{Whose}
 use Rattle.ut_sound.specs.Fit.{IsCaller, OfObjects}
 use Rattle.ut_value.specs.Dates.{is_moment}
 
@@ -29,22 +30,22 @@ has_id (x ∷ xs) i u e = by (bytes_eq i x.id) refl (has_id xs i u)
     by false same rest = rest (sym (ap (λ b. if b then Some x else user_at xs i) same) ∙ e)
 
 -- who asks is a user, at a moment of the calendar
-asks_within : (c : Caller) (n : ℕ) (a : Asked) → IsTrue (is_moment (pos n)) → Administers c n a → (a.user.id ≡ c.user) × IsCaller a
-asks_within c n a moment h =
+asks_within : (whose : Whose) (c : Caller) (n : ℕ) (a : Asked) → IsTrue (is_moment (pos n)) → AsksWith whose c n a → (a.user.id ≡ c.user) × IsCaller a
+asks_within whose c n a moment h =
     let id : a.user.id ≡ c.user = sym (has_id a.tenant.users c.user a.user h.0.user) in
     (id, (subst (λ (i : List ℕ). IsTrue (is_some (user_at a.tenant.users i))) (sym id) (ap is_some h.0.user), subst (λ (z : ℤ). IsTrue (is_moment z)) (sym h.0.now) moment))
 
 -- the moment and the values, as the edit has them: what is given reads as the form of the request has it
-pub giving : (c : Caller) (n : ℕ) (now : ℤ) (reads : List Assignment → Asked → Object → Type 0) (given spelled : List Assignment) (a : Asked) → now ≡ pos n → IsTrue (is_moment (pos n))
-    → spelled ≡ given → OfObjects a (reads given a) → Administers c n a → IsGiving c.user now (reads spelled) a
-giving c n now reads given spelled a at moment is fit h =
-    let asked = asks_within c n a moment h in
+pub giving : (whose : Whose) (c : Caller) (n : ℕ) (now : ℤ) (reads : List Assignment → Asked → Object → Type 0) (given spelled : List Assignment) (a : Asked) → now ≡ pos n → IsTrue (is_moment (pos n))
+    → spelled ≡ given → OfObjects a (reads given a) → AsksWith whose c n a → IsGiving whose c.user now (reads spelled) a
+giving whose c n now reads given spelled a at moment is fit h =
+    let asked = asks_within whose c n a moment h in
     record {
-      asker = record { admin = h.1; user = asked.0; now = h.0.now ∙ sym at };
+      asker = record { rights = h.1; user = asked.0; now = h.0.now ∙ sym at };
       caller = asked.1;
       reads = subst (λ (g : List Assignment). OfObjects a (reads g a)) (sym is) fit;
     }
 
 -- the moment, as a deletion has it
-pub deleting : (c : Caller) (n : ℕ) (now : ℤ) (a : Asked) → now ≡ pos n → IsTrue (is_moment (pos n)) → Administers c n a → IsDeleting now a
-deleting c n now a at moment h = record { admin = h.1; caller = (asks_within c n a moment h).1; now = h.0.now ∙ sym at }
+pub deleting : (whose : Whose) (c : Caller) (n : ℕ) (now : ℤ) (a : Asked) → now ≡ pos n → IsTrue (is_moment (pos n)) → AsksWith whose c n a → IsDeleting whose now a
+deleting whose c n now a at moment h = record { rights = h.1; caller = (asks_within whose c n a moment h).1; now = h.0.now ∙ sym at }

@@ -1,19 +1,20 @@
--- An administrator who asks, and what is returned to the request.
+-- A user who asks, and what is returned to the request.
 -- Source of the statuses: RFC 9110, 15.3.1, 15.3.2 and 15.3.5, of 200, 201 and 204.
-use Rattle.std.specs.Prelude.{◌≡◌, ◌≢◌, ◌⊎◌, ℕ, [], true, IsTrue}
+use Rattle.std.specs.Prelude.{◌≡◌, ◌≢◌, ◌⊎◌, ℕ, [], IsTrue}
 use Rattle.ut_model.specs.declared.caller.Caller.{Caller}
 use Rattle.ut_model.specs.declared.reply.Reply.{Reply}
 use Rattle.ut_model.specs.declared.route.Route.{Route}
 use Rattle.ut_model.specs.declared.route.Route.TheVariants.{AddGroup, AddRole, AddUser, Create, Upsert}
 use Rattle.ut_model.specs.Paths.{Asked}
 use Rattle.ut_model.specs.Refusals.{is_refusal_status}
+use Rattle.ut_rights.specs.Rights.{Whose}
 use Rattle.ut_stands.specs.declared.judged.Judged.{Judged}
 use Rattle.ut_stands.specs.declared.judged.Judged.TheVariants.{Changed, Same}
 use Rattle.ut_step.specs.Own.{IsAsking}
 
--- the caller is the one who asks at this moment, and administers the organisation
-abbrev pub Administers : Caller → (now : ℕ) → Asked → Type 0
-Administers c now a = IsAsking c now a × (a.user.admin ≡ true)
+-- the caller is the one who asks at this moment, and these are the rights of that user
+abbrev pub AsksWith : Whose → Caller → (now : ℕ) → Asked → Type 0
+AsksWith whose c now a = IsAsking c now a × whose a.tenant a.user
 
 -- the reply to a change: of a new record, user, role or group 201 with a body, of an upsert 201 or 200 with one, and of all else
 -- 204 without one

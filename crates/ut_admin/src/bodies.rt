@@ -1,4 +1,4 @@
-//! What the bodies of administrators' requests ask for.
+//! What the bodies of requests ask for.
 
 ghost use Rattle.std.specs.Prelude.{◌≡◌, IfOk, IsTrue, List, ℕ};
 ghost use Rattle.ut_admin.specs.inner.Edits.{Asks, form_of};
@@ -6,20 +6,24 @@ ghost use Rattle.ut_bodies.specs.Bodies.{adds_new_role, request_in, sets_role_pa
 ghost use Rattle.ut_given.specs.Given.{IsInJson};
 ghost use Rattle.ut_model.specs.Organisations.{is_secret};
 ghost use Rattle.ut_model.specs.RequestOf.{request_or};
-ghost use Rattle.ut_model.specs.Requests.{Request, adds_field, adds_object, adds_validation_rule, sets_object};
+ghost use Rattle.ut_model.specs.Requests.{Request, adds_field, adds_object, adds_sharing_rule, adds_validation_rule, sets_object, shares};
 ghost use Rattle.ut_model.specs.Requests.{adds_group, adds_user, sets_group};
 ghost use Rattle.ut_model.specs.declared.record_bodies.Assignment.{Assignment};
-ghost use Rattle.ut_model.specs.declared.route.Route.TheVariants.{AddField, AddObject, AddValidationRule, SetObject};
+ghost use Rattle.ut_model.specs.declared.route.Route.TheVariants.{AddField, AddObject, AddSharingRule, AddValidationRule, SetObject, Share};
 ghost use Rattle.ut_model.specs.declared.route.Route.TheVariants.{AddGroup, AddRole, AddUser, SetGroup, SetRole, SetUser};
 ghost use Rattle.ut_step.specs.Built.{built_request};
 
 use std::alloc::{AllocError, Global};
 use ut_bodies::{
     NewRole, RoleParent, UserRole, field_values, group_members, new_access, new_field, new_group,
-    new_object, new_role, new_user, new_validation_rule, parent_of_role, role_of_user,
+    new_object, new_role, new_share, new_sharing_rule, new_user, new_validation_rule,
+    parent_of_role, role_of_user,
 };
 use ut_keys::StoreFail;
-use ut_model::{Assignment, NewField, NewObject, NewUser, NewValidationRule, Refusal, Spelled};
+use ut_model::{
+    Assignment, NewField, NewObject, NewShare, NewSharingRule, NewUser, NewValidationRule, Refusal,
+    Spelled,
+};
 use ut_stands::EditFail;
 use ut_value::{Access, Items, Text};
 
@@ -155,4 +159,26 @@ pub(crate) fn members_in(alloc: Global, body: &[u8]) -> Result<Items<Spelled>, E
     ensures { (group : List ℕ) → Asks (sets_group group) (built_request (SetGroup group) body.now) result }
 {
     form_of(group_members(alloc, body))
+}
+
+/// The manual share that a body asks for.
+///
+/// # Errors
+///
+/// `Refused` with `BodyForm` if the body isn't of that form; `Store` with `Memory` if out of memory.
+pub(crate) fn share_in(alloc: Global, body: &[u8]) -> Result<NewShare, EditFail>
+    ensures { Asks shares (built_request Share body.now) result }
+{
+    form_of(new_share(alloc, body))
+}
+
+/// The sharing rule that a body asks for.
+///
+/// # Errors
+///
+/// `Refused` with `BodyForm` if the body isn't of that form; `Store` with `Memory` if out of memory.
+pub(crate) fn sharing_rule_in(alloc: Global, body: &[u8]) -> Result<NewSharingRule, EditFail>
+    ensures { Asks adds_sharing_rule (built_request AddSharingRule body.now) result }
+{
+    form_of(new_sharing_rule(alloc, body))
 }

@@ -1,7 +1,7 @@
-//! The edits that administrators' requests ask for.
+//! The edits that requests ask for.
 
 ghost use Rattle.std.specs.Prelude.{IfOk, IsTrue, pos};
-ghost use Rattle.ut_admin.specs.Administration.{Administers};
+ghost use Rattle.ut_admin.specs.Administration.{AsksWith};
 ghost use Rattle.ut_admin.specs.inner.Edits.{EditsFrom, IsAnswerTo};
 ghost use Rattle.ut_edits.specs.Edits.{DraftsEdit};
 ghost use Rattle.ut_keeper.specs.Draft.{DraftTells, tables_of};
@@ -14,24 +14,27 @@ use crate::answer::{Answer, done};
 use crate::bodies::{access_in, field_in, object_in, rule_in};
 use crate::people::{changed_group, changed_role, changed_user, new_group, new_role, new_user};
 use crate::records::{changed_record, deleted_record, new_record, upserted_record};
+use crate::sharing::{new_sharing_rule, removed_sharing_rule, shared_record, unshared_record};
 use std::alloc::Global;
 use ut_edits::make_edit;
 use ut_keeper::{Draft, Keeper};
 use ut_meta::{AddField, AddObject, AddValidationRule, SetAccess};
 use ut_model::{Caller, Refusal, Route, refusal_laws};
+use ut_rights::Rights;
 use ut_sound::requests_fit;
 use ut_stands::{EditFail, call_laws};
 use ut_value::Text;
 
-/// The edit that an administrator asks for by a route and a body.
+/// The edit that a route and a body ask for, judged by the rights of who asks.
 ///
 /// # Errors
 ///
 /// `Refused` if the route isn't built, if the body isn't of its form, or as the edit is; nothing is then changed. `Store` with
 /// `Keeper` if the keeper failed, `Memory` if out of memory.
-pub(crate) fn edit<K: Keeper>(
+pub(crate) fn edit<K: Keeper, R: Rights>(
     alloc: Global,
     draft: &mut Draft<'_, K>,
+    rights: &R,
     caller: &Caller,
     now: u64,
     route: &Route,
@@ -39,7 +42,7 @@ pub(crate) fn edit<K: Keeper>(
 ) -> Result<Answer, EditFail>
     requires { IsTrue (is_moment (pos now)) }
     ensures what { DraftTells K.state draft.old draft.new
-        → EditsFrom caller.now.org (Administers caller.now now) (λ a. verdict_or a (built_request route.now body.now))
+        → EditsFrom caller.now.org (AsksWith (R.whose rights.now) caller.now now) (λ a. verdict_or a (built_request route.now body.now))
         (tables_of K.state draft.old) (tables_of K.state draft.new) result }
     ensures form { IfOk result (IsAnswerTo route.now) }
     ensures makes { DraftsEdit K.state request_changes request_gone edit_shown result draft.old draft.new }
@@ -49,14 +52,16 @@ pub(crate) fn edit<K: Keeper>(
     refusal_laws();
     let org = caller.org;
     match route {
-        Route::Create { object } => new_record(alloc, draft, caller, now, object, body),
+        Route::Create { object } => new_record(alloc, draft, rights, caller, now, object, body),
         Route::Update { object, key } => {
-            changed_record(alloc, draft, caller, now, object, key, body)
+            changed_record(alloc, draft, rights, caller, now, object, key, body)
         }
         Route::Upsert { object, key, value } => {
-            upserted_record(alloc, draft, caller, now, object, key, value, body)
+            upserted_record(alloc, draft, rights, caller, now, object, key, value, body)
         }
-        Route::Delete { object, key } => deleted_record(alloc, draft, caller, now, object, key),
+        Route::Delete { object, key } => deleted_record(
+            alloc, draft, rights, caller, now, object, key,
+        ),
         Route::AddObject => {
             let new = object_in(alloc, body)?;
             done(make_edit(alloc, draft, org, &AddObject { new: &new }))
@@ -70,6 +75,10 @@ pub(crate) fn edit<K: Keeper>(
             let new = field_in(alloc, body)?;
             done(make_edit(alloc, draft, org, &AddField { new: &new }))
         }
+        Route::Share => shared_record(alloc, draft, rights, org, body),
+        Route::Unshare { item, to } => unshared_record(alloc, draft, rights, org, item, to),
+        Route::AddSharingRule => new_sharing_rule(alloc, draft, org, body),
+        Route::RemoveSharingRule { name } => removed_sharing_rule(alloc, draft, org, name),
         Route::AddValidationRule => {
             let new = rule_in(alloc, body)?;
             done(make_edit(alloc, draft, org, &AddValidationRule { new: &new }))

@@ -1,9 +1,9 @@
-//! An administrator's requests on objects, fields, validation rules, records and people, from the route and the body to the reply.
+//! Requests for edits, of objects, fields, rules, records, shares and people, from the route and the body to the reply.
 //!
-//! It depends on `ut_bodies` for what bodies say, on `ut_meta`, `ut_records`, `ut_upserts`, `ut_deletes` and `ut_people` for the
-//! edits, and on `ut_replies` for what was made or upserted. Its contract: over tables in which the organisation's rows stand for a
-//! tenant of which the caller is an administrator the reply is that of the request's verdict, and its rows then stand for what the
-//! verdict leaves.
+//! It depends on `ut_bodies` for what bodies say, on `ut_rights` for what who asks may do, on `ut_meta`, `ut_records`, `ut_upserts`,
+//! `ut_deletes`, `ut_sharing`, `ut_shares` and `ut_people` for the edits, and on `ut_replies` for what was made or upserted. Its
+//! contract: over tables in which the organisation's rows stand for a tenant of whose user, the caller, these are the rights, the
+//! reply is that of the request's verdict, and its rows then stand for what the verdict leaves.
 #![tactic(auto)]
 
 mod answer;
@@ -13,6 +13,7 @@ mod people;
 mod records;
 mod replies;
 mod requests;
+mod sharing;
 
 pub use crate::records::moment;
 pub use crate::requests::administer;

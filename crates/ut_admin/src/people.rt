@@ -1,4 +1,4 @@
-//! The edits of users, roles and groups that administrators' requests ask for.
+//! The edits of users, roles and groups that requests ask for.
 
 ghost use Rattle.std.specs.Prelude.{◌≡◌, IfOk};
 ghost use Rattle.std.specs.Option.{option_copied};

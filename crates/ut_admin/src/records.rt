@@ -1,7 +1,7 @@
-//! The edits of records that administrators' requests ask for.
+//! The edits of records that requests ask for.
 
 ghost use Rattle.std.specs.Prelude.{◌≡◌, IfOk, IsTrue, List, pos, ℕ};
-ghost use Rattle.ut_admin.specs.Administration.{Administers};
+ghost use Rattle.ut_admin.specs.Administration.{AsksWith};
 ghost use Rattle.ut_admin.specs.inner.Edits.{EditsFrom, IsAnswerTo};
 ghost use Rattle.ut_edits.specs.Edits.{DraftsEdit};
 ghost use Rattle.ut_keeper.specs.Draft.{DraftTells, tables_of};
@@ -21,6 +21,7 @@ use ut_edits::make_edit;
 use ut_keeper::{Draft, Keeper};
 use ut_model::{Caller, refusal_laws};
 use ut_records::{Create, Update};
+use ut_rights::Rights;
 use ut_sound::requests_fit;
 use ut_stands::{EditFail, call_laws};
 use ut_upserts::Upsert;
@@ -52,9 +53,10 @@ fn value_part(alloc: Global, part: &Text) -> Result<Option<Text>, AllocError>
 ///
 /// `Refused` if the body isn't of its form, or as the edit is; nothing is then changed. `Store` with `Keeper` if the keeper failed,
 /// `Memory` if out of memory.
-pub(crate) fn new_record<K: Keeper>(
+pub(crate) fn new_record<K: Keeper, R: Rights>(
     alloc: Global,
     draft: &mut Draft<'_, K>,
+    rights: &R,
     caller: &Caller,
     now: u64,
     object: &Text,
@@ -62,7 +64,7 @@ pub(crate) fn new_record<K: Keeper>(
 ) -> Result<Answer, EditFail>
     requires { IsTrue (is_moment (pos now)) }
     ensures what { DraftTells K.state draft.old draft.new
-        → EditsFrom caller.now.org (Administers caller.now now) (λ a. verdict_or a (built_request (route.Create object.now) body.now))
+        → EditsFrom caller.now.org (AsksWith (R.whose rights.now) caller.now now) (λ a. verdict_or a (built_request (route.Create object.now) body.now))
         (tables_of K.state draft.old) (tables_of K.state draft.new) result }
     ensures form { IfOk result (IsAnswerTo (route.Create object.now)) }
     ensures makes { DraftsEdit K.state request_changes request_gone edit_shown result draft.old draft.new }
@@ -72,6 +74,7 @@ pub(crate) fn new_record<K: Keeper>(
     refusal_laws();
     let values = values_in(alloc, body)?;
     let create = Create {
+        rights,
         user: caller.user,
         now: moment(now),
         object,
@@ -86,9 +89,10 @@ pub(crate) fn new_record<K: Keeper>(
 ///
 /// `Refused` if the body isn't of its form, or as the edit is; nothing is then changed. `Store` with `Keeper` if the keeper failed,
 /// `Memory` if out of memory.
-pub(crate) fn changed_record<K: Keeper>(
+pub(crate) fn changed_record<K: Keeper, R: Rights>(
     alloc: Global,
     draft: &mut Draft<'_, K>,
+    rights: &R,
     caller: &Caller,
     now: u64,
     object: &Text,
@@ -97,7 +101,7 @@ pub(crate) fn changed_record<K: Keeper>(
 ) -> Result<Answer, EditFail>
     requires { IsTrue (is_moment (pos now)) }
     ensures what { DraftTells K.state draft.old draft.new
-        → EditsFrom caller.now.org (Administers caller.now now)
+        → EditsFrom caller.now.org (AsksWith (R.whose rights.now) caller.now now)
         (λ a. verdict_or a (built_request (route.Update object.now key.now) body.now)) (tables_of K.state draft.old)
         (tables_of K.state draft.new) result }
     ensures form { IfOk result (IsAnswerTo (route.Update object.now key.now)) }
@@ -108,6 +112,7 @@ pub(crate) fn changed_record<K: Keeper>(
     refusal_laws();
     let values = values_in(alloc, body)?;
     let update = Update {
+        rights,
         user: caller.user,
         now: moment(now),
         object,
@@ -124,9 +129,10 @@ pub(crate) fn changed_record<K: Keeper>(
 ///
 /// `Refused` if the body isn't of its form, or as the edit is; nothing is then changed. `Store` with `Keeper` if the keeper failed,
 /// `Memory` if out of memory.
-pub(crate) fn upserted_record<K: Keeper>(
+pub(crate) fn upserted_record<K: Keeper, R: Rights>(
     alloc: Global,
     draft: &mut Draft<'_, K>,
+    rights: &R,
     caller: &Caller,
     now: u64,
     object: &Text,
@@ -136,7 +142,7 @@ pub(crate) fn upserted_record<K: Keeper>(
 ) -> Result<Answer, EditFail>
     requires { IsTrue (is_moment (pos now)) }
     ensures what { DraftTells K.state draft.old draft.new
-        → EditsFrom caller.now.org (Administers caller.now now)
+        → EditsFrom caller.now.org (AsksWith (R.whose rights.now) caller.now now)
         (λ a. verdict_or a (built_request (route.Upsert object.now key.now value.now) body.now)) (tables_of K.state draft.old)
         (tables_of K.state draft.new) result }
     ensures form { IfOk result (IsAnswerTo (route.Upsert object.now key.now value.now)) }
@@ -148,6 +154,7 @@ pub(crate) fn upserted_record<K: Keeper>(
     let values = values_in(alloc, body)?;
     let text = value_part(alloc, value)?;
     let upsert = Upsert {
+        rights,
         user: caller.user,
         now: moment(now),
         object,
@@ -164,9 +171,10 @@ pub(crate) fn upserted_record<K: Keeper>(
 /// # Errors
 ///
 /// `Refused` as the edit is; nothing is then changed. `Store` with `Keeper` if the keeper failed, `Memory` if out of memory.
-pub(crate) fn deleted_record<K: Keeper>(
+pub(crate) fn deleted_record<K: Keeper, R: Rights>(
     alloc: Global,
     draft: &mut Draft<'_, K>,
+    rights: &R,
     caller: &Caller,
     now: u64,
     object: &Text,
@@ -174,7 +182,7 @@ pub(crate) fn deleted_record<K: Keeper>(
 ) -> Result<Answer, EditFail>
     requires { IsTrue (is_moment (pos now)) }
     ensures what { DraftTells K.state draft.old draft.new
-        → (body : List ℕ) → EditsFrom caller.now.org (Administers caller.now now)
+        → (body : List ℕ) → EditsFrom caller.now.org (AsksWith (R.whose rights.now) caller.now now)
         (λ a. verdict_or a (built_request (route.Delete object.now key.now) body)) (tables_of K.state draft.old)
         (tables_of K.state draft.new) result }
     ensures form { IfOk result (IsAnswerTo (route.Delete object.now key.now)) }
@@ -183,6 +191,7 @@ pub(crate) fn deleted_record<K: Keeper>(
     call_laws::<K>();
     refusal_laws();
     let delete = Delete {
+        rights,
         now: moment(now),
         object,
         key,

@@ -1,7 +1,7 @@
-//! An administrator's request over a draft.
+//! A request for an edit over a draft.
 
 ghost use Rattle.std.specs.Prelude.{IfOk, IsTrue, pos};
-ghost use Rattle.ut_admin.specs.Administration.{Administers, IsEditReply};
+ghost use Rattle.ut_admin.specs.Administration.{AsksWith, IsEditReply};
 ghost use Rattle.ut_keeper.specs.Draft.{DraftTells, tables_of};
 ghost use Rattle.ut_model.specs.RequestOf.{verdict_or};
 ghost use Rattle.ut_stands.specs.Operations.{Drafts, Responds};
@@ -15,18 +15,20 @@ use std::alloc::Global;
 use ut_keeper::{Draft, Keeper};
 use ut_keys::StoreFail;
 use ut_model::{Caller, Reply, Route};
+use ut_rights::Rights;
 use ut_stands::Judged;
 
-/// Judges an administrator's request at this moment, and makes its reply: if the draft holds the change that it asks for, 201 with
+/// Judges a request at this moment by the rights of who asks, and makes its reply: if the draft holds the change that it asks for, 201 with
 /// the id of a new record, of an upsert 201 or 200 with the record's id, or else 204; and a refusal if it changes nothing.
 ///
 /// # Errors
 ///
 /// `Keeper` if the keeper failed, `Memory` if out of memory, `Damaged` never if the rows of the caller's organisation stand for a
-/// tenant of which the caller is an administrator.
-pub fn administer<K: Keeper>(
+/// tenant of whose user, the caller, these are the rights.
+pub fn administer<K: Keeper, R: Rights>(
     alloc: Global,
     draft: &mut Draft<'_, K>,
+    rights: &R,
     caller: &Caller,
     now: u64,
     route: &Route,
@@ -34,11 +36,11 @@ pub fn administer<K: Keeper>(
 ) -> Result<Judged<Reply>, StoreFail>
     requires { IsTrue (is_moment (pos now)) }
     ensures what { DraftTells K.state draft.old draft.new
-        → Responds caller.now.org (Administers caller.now now) (λ a. verdict_or a (built_request route.now body.now))
+        → Responds caller.now.org (AsksWith (R.whose rights.now) caller.now now) (λ a. verdict_or a (built_request route.now body.now))
         (tables_of K.state draft.old) (tables_of K.state draft.new) result }
     ensures form { IfOk result (IsEditReply route.now) }
     ensures drafts { Drafts K.state request_changes request_gone edit_shown result draft.old draft.new }
 {
-    let edited = edit(alloc, draft, caller, now, route, body);
+    let edited = edit(alloc, draft, rights, caller, now, route, body);
     reply_to(alloc, edited)
 }

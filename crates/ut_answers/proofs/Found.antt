@@ -4,8 +4,8 @@ use Rattle.std.proofs.lemmas.Bool.{eqb-true}
 use Rattle.std.proofs.lemmas.Bool.Decides.{nat_tests}
 use Rattle.std.proofs.lemmas.List.{length-map}
 use Rattle.std.proofs.lemmas.Str.{encodes-append}
-use Rattle.std.specs.Prelude.{◌⊎◌, nat_lt, ℤ}
-use Rattle.std.specs.Option.{option_map}
+use Rattle.std.specs.Prelude.{◌==◌, ◌⊎◌, nat_lt, ℤ}
+use Rattle.std.specs.Option.{option_map, unwrap_or}
 use Rattle.std.specs.Ordering.{is_lt}
 use Rattle.std.specs.Str.{encode_utf8_all}
 use Rattle.std.specs.List.{AllByRecursion, flat_map, list_all}
@@ -22,21 +22,23 @@ use Rattle.ut_formula.specs.Meaning.{value_at}
 use Rattle.ut_query.specs.declared.query.Query.{Query}
 use Rattle.ut_model.specs.Asking.{ask, query_rules}
 use Rattle.ut_model.specs.Cases.{in_case}
+use Rattle.ut_model.specs.Conditions.{satisfies}
 use Rattle.ut_model.specs.Fields.{Site, value_in, its_id, its_owner, its_created, its_modified, value_site}
 use Rattle.ut_model.specs.Known.{known}
+use Rattle.ut_model.specs.Levels.{can_read, readable}
 use Rattle.ut_model.specs.Limits.{reply_limit}
 use Rattle.ut_model.specs.Membership.{Has}
 use Rattle.ut_model.specs.Objects.{Numbered, is_of, object_named, object_number, object_numbered, object_of_record, records_of}
 use Rattle.ut_model.specs.Ordered.{before, by_id, in_order, put_in}
 use Rattle.ut_model.specs.Paths.{Asked}
 use Rattle.ut_model.specs.Replies.{json_reply, reply_of, unless_too_large}
-use Rattle.ut_model.specs.Rows.{found, limited, readable_of}
+use Rattle.ut_model.specs.Rows.{chosen, found, limited, readable_of}
 use Rattle.ut_model.specs.RowsJson.{attributes, found_json, rows_json, member_json, object_json, object_name, row_json, value_json}
 use Rattle.ut_model.specs.Rules.{Rule, first_refusal}
 use Rattle.ut_model.specs.Sound.{IsSound}
 use Rattle.ut_model.specs.SoundRecords.{IsSoundRecord}
 use Rattle.ut_model.specs.Step.{refusal_reply}
-use Rattle.ut_model.specs.Tenant.{Object, Tenant}
+use Rattle.ut_model.specs.Tenant.{Object, Tenant, User}
 use Rattle.ut_model.specs.Verdict.{Verdict, accept, judged, refuse, rows_of, unless}
 use Rattle.ut_model.specs.declared.record.Record.{Record}
 use Rattle.ut_model.specs.declared.refusal.Refusal.{Refusal}
@@ -47,10 +49,11 @@ use Rattle.ut_bind.specs.Plans.{Means, by_keys, planned, shown_json, shown_value
 use Rattle.ut_bind.specs.declared.plan.Plan.{Plan}
 use Rattle.ut_bind.specs.declared.plan.Shown.{Shown}
 use Rattle.ut_bind.specs.declared.plan.SortKey.{SortKey}
+use Rattle.ut_rights.specs.Rights.{Whose}
 use Rattle.ut_step.specs.Flat.{is_flat}
 use Rattle.ut_exec.specs.Ranks.{by_rank}
 use Rattle.ut_exec.specs.Fails.{ended_exec}
-use Rattle.ut_exec.specs.Written.{AppendsRows, IfDone, InTenants, WritesRows, rows_sorted}
+use Rattle.ut_exec.specs.Written.{AppendsRows, IfDone, InTenants, WritesRows, rows_kept, rows_sorted}
 use Rattle.ut_exec.specs.declared.fail.ExecFail.{ExecFail}
 use Rattle.ut_exec.specs.declared.fail.ExecFail.TheVariants.{Store, TooLarge}
 use Rattle.ut_exec.specs.declared.window.Window.{Window}
@@ -67,7 +70,7 @@ use Rattle.ut_answers.specs.Ranks.{rank_by, rank_cmp}
 use Rattle.ut_answers.specs.Planned.{plan_rows, rows_by, window_of}
 use Rattle.ut_answers.specs.inner.Found.{AnswersPlan, plan_reply}
 use Rattle.ut_answers.specs.inner.Rows.{cell_of, row_text}
-use Rattle.ut_answers.proofs.Ranking.{in_order_alike, rank_is_order}
+use Rattle.ut_answers.proofs.Ranking.{rank_is_order}
 use Rattle.ut_answers.proofs.Written.{member_text}
 
 -- ---- lists
@@ -88,6 +91,11 @@ kept_rise p (r ∷ rs) h = by (p r) (kept_rise p rs h.1)
     by : (b : Bool) → IsStrictlySortedBy by_id (filter p rs) → IsStrictlySortedBy by_id (cond b (r ∷ filter p rs) (filter p rs))
     by true rest = (all_kept (λ s. by_id r s ≡ Less) p rs h.0, rest)
     by false rest = rest
+
+kept_alike : (f g : Record → Bool) (rs : List Record) → ((r : Record) → Has rs r → f r ≡ g r) → filter f rs ≡ filter g rs
+kept_alike f g [] e = refl
+kept_alike f g (r ∷ rs) e =
+    ap (λ (b : Bool). cond b (r ∷ filter f rs) (filter f rs)) (e r (inl refl)) ∙ ap (λ (xs : List Record). cond (g r) (r ∷ xs) xs) (kept_alike f g rs (λ x h. e x (inr h)))
 
 has_taken : (n : ℕ) (rs : List Record) (r : Record) → Has (take n rs) r → Has rs r
 has_taken zero rs r m = absurd m
@@ -128,6 +136,20 @@ has_ordered f (x ∷ rs) r m = along (has_put f x (in_order f rs) r m) (has_orde
     along (inl e) more = inl e
     along (inr k) more = inr (more k)
 
+-- two orders that agree on the elements of a list
+put_there : (f g : Record → Record → Ordering) (x : Record) (rs : List Record) → ((r : Record) → Has rs r → f x r ≡ g x r) → put_in f x rs ≡ put_in g x rs
+put_there f g x [] e = refl
+put_there f g x (y ∷ rs) e =
+    ap (λ (o : Ordering). cond (is_lt o) (x ∷ y ∷ rs) (y ∷ put_in f x rs)) (e y (inl refl))
+    ∙ ap (λ (xs : List Record). cond (is_lt (g x y)) (x ∷ y ∷ rs) (y ∷ xs)) (put_there f g x rs (λ r h. e r (inr h)))
+
+in_order_there : (f g : Record → Record → Ordering) (rs : List Record) → ((r s : Record) → Has rs r → Has rs s → f r s ≡ g r s) → in_order f rs ≡ in_order g rs
+unfolding in_order
+in_order_there f g [] e = refl
+in_order_there f g (x ∷ rs) e =
+    put_there f g x (in_order f rs) (λ r h. e x r (inl refl) (inr (has_ordered f rs r h)))
+    ∙ ap (put_in g x) (in_order_there f g rs (λ r s h i. e r s (inr h) (inr i)))
+
 -- ---- the values of a record can be printed
 
 printable_at : (vs : List Value) (n : ℕ) → list_all is_printable vs ≡ true → is_printable (value_at vs n) ≡ true
@@ -166,19 +188,44 @@ module _ (t : Tenant) (r : Record) (sound : IsSound t) (has : Has t.records r) (
 -- ---- what other crates' laws say
 
 pub record Laws : Type 0 where
-  pub readable : (a : Asked) (n : ℕ) → IsSound a.tenant → a.user.admin ≡ true → readable_of a n ≡ records_of a.tenant n
   pub rise : (t : Tenant) (n : ℕ) → IsSound t → IsStrictlySortedBy by_id (records_of t n)
   pub already : (a : Asked) (rs : List Record) → IsStrictlySortedBy by_id rs → in_order (before a []) rs ≡ rs
   pub named : (t : Tenant) (name : List ℕ) (o : Numbered) → object_named t name ≡ Some o → object_numbered t o.number ≡ Some o.object
   pub printable : Printable
-  pub found : (a : Asked) (q : Query) (o : Numbered) (p : Plan) → object_named a.tenant q.tail.from ≡ Some o → readable_of a o.number ≡ records_of a.tenant o.number → Means a o.number q p
-      → planned p (records_of a.tenant o.number) ≡ found a q
   pub row : (a : Asked) (n : ℕ) (q : Query) (p : Plan) (r : Record) → is_flat q ≡ true → Means a n q p → Has (records_of a.tenant n) r
       → row_json a r q.select ≡ object_json (attributes a r ∷ map (λ s. shown_json (shown_value r s)) p.shown)
 
-module _ (laws : Laws) (a : Asked) (q : Query) (o : Numbered) (named : object_named a.tenant q.tail.from ≡ Some o) (sound : IsSound a.tenant) (admin : a.user.admin ≡ true) where
+-- ---- what a user may read
+
+readable_is : (a : Asked) (n : ℕ) → readable_of a n ≡ filter (can_read a.tenant a.user) (records_of a.tenant n)
+unfolding readable
+readable_is a n = refl
+
+read_has : (a : Asked) (n : ℕ) (r : Record) → Has (readable_of a n) r → Has (records_of a.tenant n) r
+read_has a n r m = (kept_from (can_read a.tenant a.user) (records_of a.tenant n) r (subst (λ (rs : List Record). Has rs r) (readable_is a n) m)).0
+
+read_rise : (a : Asked) (n : ℕ) → IsStrictlySortedBy by_id (records_of a.tenant n) → IsStrictlySortedBy by_id (readable_of a n)
+read_rise a n up = subst (IsStrictlySortedBy by_id) (sym (readable_is a n)) (kept_rise (can_read a.tenant a.user) (records_of a.tenant n) up)
+
+-- a plan finds among them what its query finds
+planned_so : (a : Asked) (q : Query) (o : Numbered) (p : Plan) → object_named a.tenant q.tail.from ≡ Some o → Means a o.number q p → planned p (readable_of a o.number) ≡ found a q
+unfolding found
+planned_so a q o p named means =
+    let rs = readable_of a o.number in
+    let those = filter (satisfies a q.tail.condition) rs in
+    let there = λ (r : Record) (h : Has those r). read_has a o.number r (kept_from (satisfies a q.tail.condition) rs r h).0 in
+    let offset = unwrap_or q.offset 0 in
+    ap (λ (xs : List Record). limited p.most (drop p.skip (in_order (by_keys p.order) xs)))
+    (kept_alike (takes p.check) (satisfies a q.tail.condition) rs (λ r h. means.rows r (read_has a o.number r h)))
+    ∙ ap (λ (xs : List Record). limited p.most (drop p.skip xs))
+    (in_order_there (by_keys p.order) (before a q.tail.order) those (λ r s h i. means.order r s (there r h) (there s i)))
+    ∙ ap (λ (n : ℕ). limited p.most (drop n (in_order (before a q.tail.order) those))) means.skip
+    ∙ ap (λ (most : Option ℕ). limited most (drop offset (in_order (before a q.tail.order) those))) means.most
+    ∙ ap (λ (x : Option Numbered). in_case x [] (λ (v : Numbered). chosen a q.tail offset (readable_of a v.number))) (sym named)
+
+module _ (laws : Laws) (a : Asked) (q : Query) (o : Numbered) (named : object_named a.tenant q.tail.from ≡ Some o) (sound : IsSound a.tenant) where
   abbrev rs : List Record
-  rs = records_of a.tenant o.number
+  rs = readable_of a o.number
 
   -- ---- which records
 
@@ -186,19 +233,23 @@ module _ (laws : Laws) (a : Asked) (q : Query) (o : Numbered) (named : object_na
     abbrev kept : List Record
     kept = filter (takes plan.check) rs
 
-    pub ordered : (ks : List SortKey) → rows_by ks (window_of plan) (takes plan.check) o.number a.tenant ≡ limited plan.most (drop plan.skip (in_order (by_keys ks) kept))
-    ordered [] = ap (λ (xs : List Record). limited plan.most (drop plan.skip xs)) (sym (laws.already a kept (kept_rise (takes plan.check) rs (laws.rise a.tenant o.number sound))))
+    pub ordered : (ks : List SortKey) → rows_by ks (window_of plan) (takes plan.check) o.number a.tenant a.user ≡ limited plan.most (drop plan.skip (in_order (by_keys ks) kept))
+    ordered [] =
+        ap (λ (xs : List Record). limited plan.most (drop plan.skip xs))
+        (sym (laws.already a kept (kept_rise (takes plan.check) rs (read_rise a o.number (laws.rise a.tenant o.number sound)))))
     ordered (k ∷ ks) = refl
 
-    pub rows_found : plan_rows plan o.number a.tenant ≡ found a q
-    rows_found = ordered plan.order ∙ laws.found a q o plan named (laws.readable a o.number sound admin) means
+    pub rows_found : plan_rows plan o.number a.tenant a.user ≡ found a q
+    rows_found = ordered plan.order ∙ planned_so a q o plan named means
 
-    pub has_row : (ks : List SortKey) (r : Record) → Has (limited plan.most (drop plan.skip (in_order (by_keys ks) kept))) r → Has rs r
-    has_row ks r m = (kept_from (takes plan.check) rs r (has_ordered (by_keys ks) kept r (has_dropped plan.skip (in_order (by_keys ks) kept) r (has_limited plan.most (drop plan.skip (in_order (by_keys ks) kept)) r m)))).0
+    pub has_row : (ks : List SortKey) (r : Record) → Has (limited plan.most (drop plan.skip (in_order (by_keys ks) kept))) r → Has (records_of a.tenant o.number) r
+    has_row ks r m =
+        let taken = has_dropped plan.skip (in_order (by_keys ks) kept) r (has_limited plan.most (drop plan.skip (in_order (by_keys ks) kept)) r m) in
+        read_has a o.number r (kept_from (takes plan.check) rs r (has_ordered (by_keys ks) kept r taken)).0
 
     -- ---- a row
 
-    row_is : is_flat q ≡ true → (r : Record) → Has rs r → row_text o.object.name plan.shown r ≡ row_json a r q.select
+    row_is : is_flat q ≡ true → (r : Record) → Has (records_of a.tenant o.number) r → row_text o.object.name plan.shown r ≡ row_json a r q.select
     row_is flat r m =
         let h = kept_from (is_of o.number) a.tenant.records r m in
         let at : object_of_record a.tenant r ≡ Some o.object = ap (slice_get a.tenant.objects) (eqb-true (object_number r.id) o.number h.1) ∙ laws.named a.tenant q.tail.from o named in
@@ -207,9 +258,9 @@ module _ (laws : Laws) (a : Asked) (q : Query) (o : Numbered) (named : object_na
         ∙ ap (λ (name : List ℕ). object_json (name_attributes name r.id ∷ map (λ (s : Shown). shown_json (shown_value r s)) plan.shown)) (sym called)
         ∙ sym (laws.row a o.number q plan r flat means m)
 
-    pub texts_are : is_flat q ≡ true → map (row_text o.object.name plan.shown) (plan_rows plan o.number a.tenant) ≡ map (λ r. row_json a r q.select) (plan_rows plan o.number a.tenant)
+    pub texts_are : is_flat q ≡ true → map (row_text o.object.name plan.shown) (plan_rows plan o.number a.tenant a.user) ≡ map (λ r. row_json a r q.select) (plan_rows plan o.number a.tenant a.user)
     texts_are flat =
-        same_map (row_text o.object.name plan.shown) (λ r. row_json a r q.select) (plan_rows plan o.number a.tenant)
+        same_map (row_text o.object.name plan.shown) (λ r. row_json a r q.select) (plan_rows plan o.number a.tenant a.user)
         (λ r m. row_is flat r (has_row plan.order r (subst (λ (xs : List Record). Has xs r) (ordered plan.order) m)))
 
   -- ---- the verdict
@@ -233,28 +284,37 @@ bytes_of_rows f (r ∷ rs) =
     ap (λ (t : List ℕ). encode_utf8_all (44 ∷ f r) ++ t) (bytes_of_rows f rs) ∙ sym (encodes-append (44 ∷ f r) (behind_commas (map f rs)))
 
 -- rows that are written for one list are written for another that is the same
-module _ (l : Layout) (row : Record → List ℕ) (room : ℕ) (old new : List ℕ) (m : Tables) (one other : Tenant → List Record) (same : (t : Tenant) → one t ≡ other t) where
-  pub written_alike : (r : Result ℕ ExecFail) → WritesRows l one row room old new m r → WritesRows l other row room old new m r
-  written_alike (Ok count) h = λ q t s i. subst (λ (xs : List Record). AppendsRows row room xs old new count) (same t) (h q t s i)
-  written_alike (Err TooLarge) h = λ q t s i. subst (λ (xs : List Record). room < length (flat_map row xs)) (same t) (h q t s i)
+module _ (l : Layout) (sees : Whose) (row : Record → List ℕ) (room : ℕ) (old new : List ℕ) (m : Tables) (one other : Tenant → User → List Record)
+    (same : (t : Tenant) (u : User) → one t u ≡ other t u) where
+  pub written_alike : (r : Result ℕ ExecFail) → WritesRows l sees one row room old new m r → WritesRows l sees other row room old new m r
+  written_alike (Ok count) h = λ q t u s i its. subst (λ (xs : List Record). AppendsRows row room xs old new count) (same t u) (h q t u s i its)
+  written_alike (Err TooLarge) h = λ q t u s i its. subst (λ (xs : List Record). room < length (flat_map row xs)) (same t u) (h q t u s i its)
   written_alike (Err (Store Damaged)) h = h
   written_alike (Err (Store Keeper)) h = tt
   written_alike (Err (Store Memory)) h = tt
 
+-- without keys
+pub in_no_keys : (keys : List SortKey) (w : Window) (keep : Record → Bool) (n : ℕ) → (length keys == 0) ≡ true → (t : Tenant) (u : User) → rows_kept w keep n t u ≡ rows_by keys w keep n t u
+in_no_keys [] w keep n none t u = refl
+in_no_keys (k ∷ ks) w keep n none t u =
+    let empty : length (k ∷ ks) ≡ 0 = eqb-true (length (k ∷ ks)) 0 none in
+    absurd (omega (arith, empty))
+
 -- with some keys
-pub in_keys : (keys : List SortKey) (w : Window) (keep : Record → Bool) (n : ℕ) → (length keys ≡ 0 → ⊥) → (t : Tenant) → rows_sorted w (by_rank rank_cmp (rank_by keys)) keep n t ≡ rows_by keys w keep n t
-in_keys [] w keep n some t = absurd (some refl)
-in_keys (k ∷ ks) w keep n some t =
-    ap (λ (xs : List Record). limited w.most (drop w.skip xs)) (in_order_alike (by_rank rank_cmp (rank_by (k ∷ ks))) (by_keys (k ∷ ks)) (rank_is_order (k ∷ ks)) (filter keep (records_of t n)))
+pub in_keys : (keys : List SortKey) (w : Window) (keep : Record → Bool) (n : ℕ) → (length keys ≡ 0 → ⊥) → (t : Tenant) (u : User)
+    → rows_sorted w (by_rank rank_cmp (rank_by keys)) keep n t u ≡ rows_by keys w keep n t u
+in_keys [] w keep n some t u = absurd (some refl)
+in_keys (k ∷ ks) w keep n some t u =
+    ap (λ (xs : List Record). limited w.most (drop w.skip xs)) (in_order_there (by_rank rank_cmp (rank_by (k ∷ ks))) (by_keys (k ∷ ks)) (filter keep (readable t u n)) (λ r s h i. rank_is_order (k ∷ ks) r s))
 
 -- these rows were written
-pub rows_so : (l : Layout) (p : Plan) (t : Tenant) (shown : List Shown) (reply : Reply) (old out rows : List ℕ) (count room : ℕ) → shown ≡ p.shown → old ≡ []
-    → AppendsRows (λ r. encode_utf8_all (44 ∷ row_text l.name shown r)) room (plan_rows p l.object t) old out count
+pub rows_so : (l : Layout) (p : Plan) (t : Tenant) (u : User) (shown : List Shown) (reply : Reply) (old out rows : List ℕ) (count room : ℕ) → shown ≡ p.shown → old ≡ []
+    → AppendsRows (λ r. encode_utf8_all (44 ∷ row_text l.name shown r)) room (plan_rows p l.object t u) old out count
     → rows ≡ out
     → ((texts : List (List ℕ)) → count ≡ length texts → rows ≡ encode_utf8_all (behind_commas texts) → reply ≡ unless_too_large (json_reply 200 (rows_json texts)))
-    → reply ≡ plan_reply l p t
-rows_so l p t shown reply old out rows count room so empty appends same makes =
-    let found = plan_rows p l.object t in
+    → reply ≡ plan_reply l p t u
+rows_so l p t u shown reply old out rows count room so empty appends same makes =
+    let found = plan_rows p l.object t u in
     makes (map (row_text l.name shown) found) (appends.counted ∙ sym (length-map found (row_text l.name shown)))
     (same ∙ appends.appended ∙ ap (λ (w : List ℕ). w ++ flat_map (λ r. encode_utf8_all (44 ∷ row_text l.name shown r)) found) empty ∙ bytes_of_rows (row_text l.name shown) found)
     ∙ ap (λ (xs : List Shown). unless_too_large (json_reply 200 (rows_json (map (row_text l.name xs) found)))) so
@@ -263,30 +323,31 @@ limit_passed : (n m : ℕ) → reply_limit < n → n ≤ m → nat_lt reply_limi
 limit_passed n m a b = grind (arith, nat_tests)
 
 -- they are too large
-too_large : (l : Layout) (p : Plan) (t : Tenant)
-    → reply_limit < length (flat_map (λ r. encode_utf8_all (44 ∷ row_text l.name p.shown r)) (plan_rows p l.object t))
-    → plan_reply l p t ≡ refusal_reply ReplyTooLarge
-too_large l p t over =
-    let found = plan_rows p l.object t in
+too_large : (l : Layout) (p : Plan) (t : Tenant) (u : User)
+    → reply_limit < length (flat_map (λ r. encode_utf8_all (44 ∷ row_text l.name p.shown r)) (plan_rows p l.object t u))
+    → plan_reply l p t u ≡ refusal_reply ReplyTooLarge
+too_large l p t u over =
+    let found = plan_rows p l.object t u in
     let texts = map (row_text l.name p.shown) found in
     let more : reply_limit < length (encode_utf8_all (behind_commas texts)) = subst (λ (bytes : List ℕ). reply_limit < length bytes) (bytes_of_rows (row_text l.name p.shown) found) over in
     ap (λ (b : Bool). cond b (refusal_reply ReplyTooLarge) (json_reply 200 (rows_json texts)))
     (limit_passed (length (encode_utf8_all (behind_commas texts))) (length (encode_utf8_all (rows_json texts))) more (longer texts))
 
-pub too_large_so : (l : Layout) (p : Plan) (m : Tables) (shown : List Shown) (r : Result Reply StoreFail) → shown ≡ p.shown → Refuses ReplyTooLarge r
-    → InTenants l m (λ t. reply_limit < length (flat_map (λ r. encode_utf8_all (44 ∷ row_text l.name shown r)) (plan_rows p l.object t)))
-    → AnswersPlan l p m r
-too_large_so l p m shown (Ok r) so is over = λ q t s i.
-    is ∙ sym (too_large l p t (subst (λ (xs : List Shown). reply_limit < length (flat_map (λ r. encode_utf8_all (44 ∷ row_text l.name xs r)) (plan_rows p l.object t))) so (over q t s i)))
-too_large_so l p m shown (Err e) so is over = λ q t s i. λ d. apart (sym is ∙ d)
+pub too_large_so : (l : Layout) (sees : Whose) (p : Plan) (m : Tables) (shown : List Shown) (r : Result Reply StoreFail) → shown ≡ p.shown → Refuses ReplyTooLarge r
+    → InTenants l sees m (λ t u. reply_limit < length (flat_map (λ r. encode_utf8_all (44 ∷ row_text l.name shown r)) (plan_rows p l.object t u)))
+    → AnswersPlan l sees p m r
+too_large_so l sees p m shown (Ok r) so is over = λ q t u s i its.
+    is ∙ sym (too_large l p t u
+    (subst (λ (xs : List Shown). reply_limit < length (flat_map (λ r. encode_utf8_all (44 ∷ row_text l.name xs r)) (plan_rows p l.object t u))) so (over q t u s i its)))
+too_large_so l sees p m shown (Err e) so is over = λ q t u s i its. λ d. apart (sym is ∙ d)
   where
     apart : Memory ≡ Damaged → ⊥
     apart d = cc
 
 -- what was written is so however the bytes of a row are spelled
-pub written_so : (l : Layout) (rows : Tenant → List Record) (row : Record → List ℕ) (room : ℕ) (old new : List ℕ) (m : Tables) (r : Result ℕ ExecFail) → r ≡ Err TooLarge
-    → WritesRows l rows row room old new m r → InTenants l m (λ t. room < length (flat_map row (rows t)))
-written_so l rows row room old new m r is h = subst (WritesRows l rows row room old new m) is h
+pub written_so : (l : Layout) (sees : Whose) (rows : Tenant → User → List Record) (row : Record → List ℕ) (room : ℕ) (old new : List ℕ) (m : Tables) (r : Result ℕ ExecFail) → r ≡ Err TooLarge
+    → WritesRows l sees rows row room old new m r → InTenants l sees m (λ t u. room < length (flat_map row (rows t u)))
+written_so l sees rows row room old new m r is h = subst (WritesRows l sees rows row room old new m) is h
 
 -- a refusal
 pub refused_so : (a : Asked) (why : Refusal) (result : Result Reply StoreFail) → Refuses why result → AnswersBy a (refuse a.tenant why) result
@@ -302,7 +363,7 @@ unfolding own_layout
 is_layout named_at org name p t o there =
     ap (λ (x : Option Object). option_map (layout_of org p t) (option_map (λ (y : Object). record { number = o.number; object = y }) x)) (named_at t name o there)
 
-module _ (laws : Laws) (l : Layout) (moment : ℤ) (q : Query) (m : Tables) (p : OrgPlan) (a : Asked) (asked : IsAskedOf l moment q m p a) where
+module _ (laws : Laws) (l : Layout) (sees : Whose) (moment : ℤ) (q : Query) (m : Tables) (p : OrgPlan) (a : Asked) (asked : IsAskedOf l sees moment q m p a) where
   pub its_layout : IsLayout p a.tenant l
   its_layout = subst (IsLayout p a.tenant) (sym asked.its) (is_layout laws.named l.org q.tail.from p a.tenant asked.object asked.named)
 
@@ -312,7 +373,7 @@ module _ (laws : Laws) (l : Layout) (moment : ℤ) (q : Query) (m : Tables) (p :
   pub query_refused : (why : Refusal) (result : Result Reply StoreFail) → Some why ≡ first_refusal (query_rules a.tenant l.object q) → Refuses why result → AnswersBy a (ask a q) result
   query_refused why result e is =
       let at : first_refusal (query_rules a.tenant asked.object.number q) ≡ Some why = ap (λ (n : ℕ). first_refusal (query_rules a.tenant n q)) (sym number) ∙ sym e in
-      subst (λ (v : Verdict). AnswersBy a v result) (sym (refused laws a q asked.object asked.named asked.stands.sound asked.admin why at)) (refused_so a why result is)
+      subst (λ (v : Verdict). AnswersBy a v result) (sym (refused laws a q asked.object asked.named asked.stands.sound why at)) (refused_so a why result is)
 
   module _ (plan : Plan) (means : Means a l.object q plan) (free : first_refusal (query_rules a.tenant l.object q) ≡ None) (flat : is_flat q ≡ true) where
     o : Numbered
@@ -321,21 +382,20 @@ module _ (laws : Laws) (l : Layout) (moment : ℤ) (q : Query) (m : Tables) (p :
     by_number : Means a asked.object.number q plan
     by_number = subst (λ (n : ℕ). Means a n q plan) number means
 
-    reply_is : plan_reply l plan a.tenant ≡ unless_too_large (json_reply 200 (found_json a q))
+    reply_is : plan_reply l plan a.tenant a.user ≡ unless_too_large (json_reply 200 (found_json a q))
     unfolding found_json
     reply_is =
-        let rows = plan_rows plan asked.object.number a.tenant in
-        ap (λ (x : Layout). plan_reply x plan a.tenant) asked.its
+        ap (λ (x : Layout). plan_reply x plan a.tenant a.user) asked.its
         ∙ ap (λ (ts : List (List ℕ)). unless_too_large (json_reply 200 (rows_json ts)))
-        (texts_are laws a q asked.object asked.named asked.stands.sound asked.admin plan by_number flat
-        ∙ ap (map (λ r. row_json a r q.select)) (rows_found laws a q asked.object asked.named asked.stands.sound asked.admin plan by_number))
+        (texts_are laws a q asked.object asked.named asked.stands.sound plan by_number flat
+        ∙ ap (map (λ r. row_json a r q.select)) (rows_found laws a q asked.object asked.named asked.stands.sound plan by_number))
 
     verdict_is : ask a q ≡ accept (rows_of q) a.tenant
-    verdict_is = accepted laws a q asked.object asked.named asked.stands.sound asked.admin (ap (λ (n : ℕ). first_refusal (query_rules a.tenant n q)) (sym number) ∙ free)
+    verdict_is = accepted laws a q asked.object asked.named asked.stands.sound (ap (λ (n : ℕ). first_refusal (query_rules a.tenant n q)) (sym number) ∙ free)
 
-    pub plan_answers : (result : Result Reply StoreFail) → AnswersPlan l plan m result → AnswersBy a (ask a q) result
-    plan_answers (Ok r) answers = (answers p a.tenant asked.stands its_layout ∙ reply_is ∙ ap (λ (v : Verdict). reply_of a v.answer) (sym verdict_is), ap (λ (v : Verdict). v.tenant) verdict_is)
-    plan_answers (Err e) answers = answers p a.tenant asked.stands its_layout
+    pub plan_answers : (result : Result Reply StoreFail) → AnswersPlan l sees plan m result → AnswersBy a (ask a q) result
+    plan_answers (Ok r) answers = (answers p a.tenant a.user asked.stands its_layout asked.sight ∙ reply_is ∙ ap (λ (v : Verdict). reply_of a v.answer) (sym verdict_is), ap (λ (v : Verdict). v.tenant) verdict_is)
+    plan_answers (Err e) answers = answers p a.tenant a.user asked.stands its_layout asked.sight
 
 -- ---- what was shown
 

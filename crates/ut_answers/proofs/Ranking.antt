@@ -1,7 +1,7 @@
 -- The order of ranks is that of the keys of a plan.
 use Rattle.std.proofs.Common.{◌≡◌, ◌∙◌, Bool, true, false, cond, List, [], ◌∷◌, map, refl, sym, ap}
 use Rattle.std.specs.Cmp.Lexicographic.{slice_cmp}
-use Rattle.std.specs.Ordering.{bool_cmp, is_lt, ordering_then}
+use Rattle.std.specs.Ordering.{bool_cmp, ordering_then}
 use Rattle.std.specs.declared.cmp.Ordering.{Ordering}
 use Rattle.std.specs.declared.cmp.Ordering.TheVariants.{Less, Equal, Greater}
 use Rattle.ut_value.proofs.ValueOrder.{values_total}
@@ -9,7 +9,7 @@ use Rattle.ut_value.specs.Values.{cmp}
 use Rattle.ut_value.specs.declared.value.Value.{Value}
 use Rattle.ut_value.specs.declared.value.Value.TheVariants as value
 use Rattle.ut_model.specs.Fields.{is_null, value_in}
-use Rattle.ut_model.specs.Ordered.{by_id, in_order, put_in, turned}
+use Rattle.ut_model.specs.Ordered.{by_id, turned}
 use Rattle.ut_model.specs.declared.record.Record.{Record}
 use Rattle.ut_bind.specs.Checks.{site_of}
 use Rattle.ut_bind.specs.Plans.{by_keys, values_by}
@@ -109,17 +109,3 @@ rank_is_order (k ∷ ks) r s =
     then_then (part_cmp (part_of k a) (part_of k b)) (slice_cmp part_cmp (map (part_in r) ks) (map (part_in s) ks)) (by_id r s)
     ∙ ap (λ (o : Ordering). ordering_then o (by_rank rank_cmp (rank_by ks) r s)) (part_is_key k a b)
     ∙ ap (ordering_then (values_by k a b)) (rank_is_order ks r s)
-
--- ---- lists in one order
-
-module _ (f g : Record → Record → Ordering) (same : (r s : Record) → f r s ≡ g r s) where
-  put_alike : (r : Record) (rs : List Record) → put_in f r rs ≡ put_in g r rs
-  put_alike r [] = refl
-  put_alike r (s ∷ rs) =
-      ap (λ (o : Ordering). cond (is_lt o) (r ∷ s ∷ rs) (s ∷ put_in f r rs)) (same r s)
-      ∙ ap (λ (xs : List Record). cond (is_lt (g r s)) (r ∷ s ∷ rs) (s ∷ xs)) (put_alike r rs)
-
-  pub in_order_alike : (rs : List Record) → in_order f rs ≡ in_order g rs
-  unfolding in_order
-  in_order_alike [] = refl
-  in_order_alike (r ∷ rs) = put_alike r (in_order f rs) ∙ ap (put_in g r) (in_order_alike rs)

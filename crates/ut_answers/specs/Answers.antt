@@ -14,6 +14,7 @@ use Rattle.ut_model.specs.Step.{refusal_reply}
 use Rattle.ut_model.specs.Verdict.{Verdict}
 use Rattle.ut_model.specs.declared.refusal.Refusal.{Refusal}
 use Rattle.ut_model.specs.declared.reply.Reply.{Reply}
+use Rattle.ut_rights.specs.Rights.{Whose}
 use Rattle.ut_step.specs.Flat.{is_flat}
 use Rattle.ut_stands.specs.Layouts.{layout_of}
 use Rattle.ut_stands.specs.Local.{StandsIn}
@@ -34,15 +35,16 @@ abbrev pub AnswersBy : Asked → Verdict → Result Reply StoreFail → Type 0
 AnswersBy a v (Ok r) = (r ≡ reply_of a v.answer) × (v.tenant ≡ a.tenant)
 AnswersBy a v (Err e) = e ≢ Damaged
 
--- who asks at this moment, in a tenant for which the organisation's rows stand and whose object this is, is an administrator
-pub record IsAskedOf (l : Layout) (moment : ℤ) (q : Query) (m : Tables) (p : OrgPlan) (a : Asked) : Type 0 where
+-- who asks at this moment, in a tenant for which the organisation's rows stand and whose object this is, sees so
+pub record IsAskedOf (l : Layout) (sees : Whose) (moment : ℤ) (q : Query) (m : Tables) (p : OrgPlan) (a : Asked) : Type 0 where
   pub stands : StandsIn l.org p m (Some a.tenant)
   pub object : Numbered
   pub named : object_named a.tenant q.tail.from ≡ Some object
   pub its : l ≡ layout_of l.org p a.tenant object
-  pub admin : a.user.admin ≡ true
+  pub sight : sees a.tenant a.user
   pub now : a.now ≡ moment
 
 -- the reply to a flat query of this object
-abbrev pub AnswersFlat : Layout → (moment : ℤ) → Query → Tables → Result Reply StoreFail → Type 0
-AnswersFlat l moment q m result = (p : OrgPlan) (a : Asked) → IsAskedOf l moment q m p a → is_flat q ≡ true → AnswersBy a (ask a q) result
+abbrev pub AnswersFlat : Layout → (sees : Whose) → (moment : ℤ) → Query → Tables → Result Reply StoreFail → Type 0
+AnswersFlat l sees moment q m result =
+    (p : OrgPlan) (a : Asked) → IsAskedOf l sees moment q m p a → is_flat q ≡ true → AnswersBy a (ask a q) result

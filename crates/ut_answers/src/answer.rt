@@ -24,9 +24,10 @@ use ut_data::data_laws;
 use ut_exec::{ExecFail, RowForm, Window, write_rows, write_sorted_rows};
 use ut_keeper::{Draft, Keeper};
 use ut_keys::StoreFail;
-use ut_model::{REPLY_LIMIT, Refusal, Reply, administrator_laws, object_laws, record_laws};
+use ut_model::{REPLY_LIMIT, Refusal, Reply, object_laws, record_laws};
 use ut_query::Query;
 use ut_replies::rows_body;
+use ut_rights::Sight;
 use ut_stands::{Layout, call_laws};
 use ut_value::day_of_moment;
 
@@ -62,27 +63,28 @@ fn rows_reply(alloc: Global, count: usize, rows: &[u8]) -> Result<Reply, AllocEr
     }
 }
 
-/// Appends the rows of a plan in this form, and returns how many they are.
+/// Appends the rows of a plan that may be read, in this form, and returns how many they are.
 ///
 /// # Errors
 ///
 /// `TooLarge` exactly if they have more bytes than there is room for. `Store` with `Keeper` if the keeper failed, with `Memory` if out
-/// of memory, with `Damaged` never if the organisation's rows stand for a tenant whose layout it is. Some rows may then have been
-/// appended.
-pub fn write_planned<K: Keeper, W: RowForm>(
+/// of memory, with `Damaged` never if the organisation's rows stand for a tenant whose layout it is and of whose user this is the
+/// sight. Some rows may then have been appended.
+pub fn write_planned<K: Keeper, S: Sight, W: RowForm>(
     alloc: Global,
     draft: &mut Draft<'_, K>,
     layout: &Layout,
+    sight: &S,
     plan: &Plan,
     form: &W,
     room: usize,
     out: &mut Vec<u8>,
 ) -> Result<usize, ExecFail>
     ensures what { DraftTells K.state draft.old draft.new
-        → WritesRows layout.now (plan_rows plan.now layout.now.object) (W.written form.now) room out.old.items out.new.items
-        (tables_of K.state draft.old) result }
-    ensures shown { ShowsRecords K.state layout.now (ended_exec result) draft.old draft.new }
-    ensures calls { Calls K.state (most_shown (removals_of K.state 7 draft.old)) (ended_exec result) draft.old draft.new }
+        → WritesRows layout.now (S.sees sight.now layout.now) (plan_rows plan.now layout.now.object) (W.written form.now) room
+        out.old.items out.new.items (tables_of K.state draft.old) result }
+    ensures shown { ShowsRecords K.state layout.now (S.sees sight.now layout.now) S.shown (ended_exec result) draft.old draft.new }
+    ensures calls { Calls K.state (most_shown S.shown (removals_of K.state 7 draft.old)) (ended_exec result) draft.old draft.new }
 {
     call_laws::<K>();
     let keeps = Holding { check: &plan.check };
@@ -92,26 +94,28 @@ pub fn write_planned<K: Keeper, W: RowForm>(
         most: plan.most,
     };
     if keys.is_empty() {
-        write_rows(alloc, draft, layout, &keeps, form, window, room, out)
+        write_rows(alloc, draft, layout, sight, &keeps, form, window, room, out)
     } else {
         let ranks = ByKeys { keys };
         write_sorted_rows(
-            alloc, draft, layout, &keeps, &ranks, form, window, room, out,
+            alloc, draft, layout, sight, &keeps, &ranks, form, window, room, out,
         )
     }
 }
 
 // The reply that has the rows of a plan.
-fn answer_plan<K: Keeper>(
+fn answer_plan<K: Keeper, S: Sight>(
     alloc: Global,
     draft: &mut Draft<'_, K>,
     layout: &Layout,
+    sight: &S,
     plan: &Plan,
 ) -> Result<Reply, StoreFail>
-    ensures what { DraftTells K.state draft.old draft.new → AnswersPlan layout.now plan.now (tables_of K.state draft.old) result }
+    ensures what { DraftTells K.state draft.old draft.new
+        → AnswersPlan layout.now (S.sees sight.now layout.now) plan.now (tables_of K.state draft.old) result }
     ensures form { IfOk result IsReadReply }
-    ensures shown { ShowsRecords K.state layout.now (ended result) draft.old draft.new }
-    ensures calls { Calls K.state (most_shown (removals_of K.state 7 draft.old)) (ended result) draft.old draft.new }
+    ensures shown { ShowsRecords K.state layout.now (S.sees sight.now layout.now) S.shown (ended result) draft.old draft.new }
+    ensures calls { Calls K.state (most_shown S.shown (removals_of K.state 7 draft.old)) (ended result) draft.old draft.new }
 {
     call_laws::<K>();
     let form = JsonRows {
@@ -119,7 +123,16 @@ fn answer_plan<K: Keeper>(
         shown: plan.shown.as_slice(),
     };
     let mut rows = Vec::new(alloc);
-    match write_planned(alloc, draft, layout, plan, &form, REPLY_LIMIT, &mut rows) {
+    match write_planned(
+        alloc,
+        draft,
+        layout,
+        sight,
+        plan,
+        &form,
+        REPLY_LIMIT,
+        &mut rows,
+    ) {
         Ok(count) => match rows_reply(alloc, count, rows.as_slice()) {
             Ok(reply) => Ok(reply),
             Err(_) => Err(StoreFail::Memory),
@@ -129,27 +142,28 @@ fn answer_plan<K: Keeper>(
     }
 }
 
-/// The reply to a query over one object, of an administrator who asks at this moment, in seconds from 1970-01-01T00:00:00Z.
+/// The reply to a query over one object, of a user with this sight who asks at this moment, in seconds from 1970-01-01T00:00:00Z.
 ///
 /// # Errors
 ///
 /// `Keeper` if the keeper failed, `Memory` if out of memory, `Damaged` never if the organisation's rows stand for a tenant whose
-/// layout it is.
-pub fn answer_flat<K: Keeper>(
+/// layout it is and of whose user this is the sight.
+pub fn answer_flat<K: Keeper, S: Sight>(
     alloc: Global,
     draft: &mut Draft<'_, K>,
     layout: &Layout,
+    sight: &S,
     now: i64,
     query: &Query,
 ) -> Result<Reply, StoreFail>
-    ensures what { DraftTells K.state draft.old draft.new → AnswersFlat layout.now now query.now (tables_of K.state draft.old) result }
+    ensures what { DraftTells K.state draft.old draft.new
+        → AnswersFlat layout.now (S.sees sight.now layout.now) now query.now (tables_of K.state draft.old) result }
     ensures form { IfOk result IsReadReply }
-    // Each record of the object is shown once at most, as long as the draft removes none.
-    ensures shown { ShowsRecords K.state layout.now (ended result) draft.old draft.new }
-    ensures calls { Calls K.state (most_shown (removals_of K.state 7 draft.old)) (ended result) draft.old draft.new }
+    // Each record of the object is shown once at most, with what tells whether it may be read, as long as the draft removes none.
+    ensures shown { ShowsRecords K.state layout.now (S.sees sight.now layout.now) S.shown (ended result) draft.old draft.new }
+    ensures calls { Calls K.state (most_shown S.shown (removals_of K.state 7 draft.old)) (ended result) draft.old draft.new }
 {
     call_laws::<K>();
-    administrator_laws();
     data_laws();
     object_laws();
     plan_laws();
@@ -158,5 +172,5 @@ pub fn answer_flat<K: Keeper>(
         return refuse(alloc, refusal);
     }
     let plan = bind(alloc, layout, day_of_moment(now), query)?;
-    answer_plan(alloc, draft, layout, &plan)
+    answer_plan(alloc, draft, layout, sight, &plan)
 }

@@ -1,8 +1,7 @@
 //! The reply to a query over one object: its refusal, or its rows in JSON.
 //!
 //! It depends on `ut_bind` for what the query's names mean, on `ut_exec` for the records, and on `ut_replies` for the bytes. Its
-//! contract: where the organisation's rows stand for a tenant of which the caller is an administrator, the reply is that of the
-//! query's verdict.
+//! contract: where the organisation's rows stand for a tenant of whose user the sight is, the reply is that of the query's verdict.
 #![tactic(auto)]
 
 mod answer;

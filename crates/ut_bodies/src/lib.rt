@@ -14,6 +14,7 @@ mod people;
 mod principals;
 mod records;
 mod rules;
+mod sharing;
 mod table;
 mod types;
 mod values;
@@ -23,6 +24,7 @@ pub use crate::objects::{new_access, new_object};
 pub use crate::people::{
     NewRole, RoleParent, UserRole, new_group, new_role, new_user, parent_of_role, role_of_user,
 };
-pub use crate::principals::group_members;
+pub use crate::principals::{group_members, spelled_principal};
 pub use crate::records::field_values;
 pub use crate::rules::new_validation_rule;
+pub use crate::sharing::{new_share, new_sharing_rule};

@@ -1,4 +1,4 @@
-//! What bodies say of the members of groups.
+//! Principals in bodies, and what bodies say of the members of groups.
 
 ghost use Rattle.std.specs.Prelude.{◌≡◌, ◌++◌, IfOk, List, MatchOption, OnOk, encode_utf8_all, false, map, string_bytes, true, ℕ};
 ghost use Rattle.std.specs.Option.{option_map, unwrap_or};
@@ -52,9 +52,9 @@ fn kind_named(name: &Text) -> Option<PrincipalKind>
     )
 }
 
-// The principal that a text spells.
+/// The principal that a text spells.
 #[tactic(auto, unfolding(ut_model::specs::Members::principal_in))]
-fn principal_in(alloc: Global, text: &Text) -> Result<Spelled, BodyFail>
+pub(crate) fn principal_in(alloc: Global, text: &Text) -> Result<Spelled, BodyFail>
     ensures { Gives (λ principal. principal) result (principal_in text.now) }
 {
     let (kind, id) = cut_at_colon(text).ok_or(BodyFail::Form)?;
@@ -65,8 +65,19 @@ fn principal_in(alloc: Global, text: &Text) -> Result<Spelled, BodyFail>
     })
 }
 
-// The principal that a value spells.
-fn as_principal(alloc: Global, json: &Json) -> Result<Spelled, BodyFail>
+/// The principal that a text spells, as `user:ID`; none if it has another form. Whether ID is an id isn't asked.
+///
+/// # Errors
+///
+/// When out of memory.
+pub fn spelled_principal(alloc: Global, text: &Text) -> Result<Option<Spelled>, AllocError>
+    ensures { IfOk result (λ principal. principal ≡ principal_in text.now) }
+{
+    or_none(principal_in(alloc, text))
+}
+
+/// The principal that a value spells.
+pub(crate) fn as_principal(alloc: Global, json: &Json) -> Result<Spelled, BodyFail>
     ensures { Gives (λ principal. principal) result (as_principal json.now) }
 {
     principal_in(alloc, as_text(json).ok_or(BodyFail::Form)?)

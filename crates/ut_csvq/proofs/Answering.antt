@@ -106,7 +106,7 @@ module _ (laws : Laws) (l : Layout) (q : Query) (now : ℕ) (m : Tables) (a : As
   pub refused_so : (why : Refusal) → Some why ≡ first_refusal (query_rules a.tenant l.object q) → Refused why ≡ asked_outcome q a
   refused_so why e =
       let at : first_refusal (query_rules a.tenant o.number q) ≡ Some why = ap (λ (n : ℕ). first_refusal (query_rules a.tenant n q)) (sym number) ∙ sym e in
-      ap (λ (v : Verdict). in_case (refusal_of v.answer) (Rows (lines_found a q)) Refused) (sym (refused laws a q o named sound admin why at))
+      ap (λ (v : Verdict). in_case (refusal_of v.answer) (Rows (lines_found a q)) Refused) (sym (refused laws a q o named sound why at))
 
   module _ (plan : Plan) (means : Means a l.object q plan) (free : first_refusal (query_rules a.tenant l.object q) ≡ None) (flat : is_flat q ≡ true) where
     by_number : Means a o.number q plan
@@ -117,20 +117,20 @@ module _ (laws : Laws) (l : Layout) (q : Query) (now : ℕ) (m : Tables) (a : As
         let has = (kept_from (is_of o.number) a.tenant.records r h).0 in
         ap line (cells_are a.tenant r sound has laws.printable plan.shown ∙ ap (map printed) (by_number.shown r h) ∙ selected_are a r q.select (flat_items q flat))
 
-    rows_are : flat_map (shown_line plan.shown) (plan_rows plan l.object a.tenant) ≡ flat_map (record_line a q) (found a q)
+    rows_are : flat_map (shown_line plan.shown) (plan_rows plan l.object a.tenant a.user) ≡ flat_map (record_line a q) (found a q)
     rows_are =
-        ap (λ (n : ℕ). flat_map (shown_line plan.shown) (plan_rows plan n a.tenant)) number
-        ∙ flat_same (shown_line plan.shown) (record_line a q) (plan_rows plan o.number a.tenant)
-        (λ r h. line_is r (has_row laws a q o named sound admin plan by_number plan.order r (subst (λ (xs : List Record). Has xs r) (ordered laws a q o named sound admin plan by_number plan.order) h)))
-        ∙ ap (flat_map (record_line a q)) (rows_found laws a q o named sound admin plan by_number)
+        ap (λ (n : ℕ). flat_map (shown_line plan.shown) (plan_rows plan n a.tenant a.user)) number
+        ∙ flat_same (shown_line plan.shown) (record_line a q) (plan_rows plan o.number a.tenant a.user)
+        (λ r h. line_is r (has_row laws a q o named sound plan by_number plan.order r (subst (λ (xs : List Record). Has xs r) (ordered laws a q o named sound plan by_number plan.order) h)))
+        ∙ ap (flat_map (record_line a q)) (rows_found laws a q o named sound plan by_number)
 
     pub found_so : (out new : List ℕ) → out ≡ line (map (λ x. declared_name l (item_name x)) q.select)
-        → InTenants l m (λ t. new ≡ out ++ flat_map (shown_line plan.shown) (plan_rows plan l.object t)) → Rows new ≡ asked_outcome q a
+        → InTenants l (λ t u. u.admin ≡ true) m (λ t u. new ≡ out ++ flat_map (shown_line plan.shown) (plan_rows plan l.object t u)) → Rows new ≡ asked_outcome q a
     unfolding lines_found
     found_so out new e written =
-        let verdict = accepted laws a q o named sound admin (ap (λ (n : ℕ). first_refusal (query_rules a.tenant n q)) (sym number) ∙ free) in
+        let verdict = accepted laws a q o named sound (ap (λ (n : ℕ). first_refusal (query_rules a.tenant n q)) (sym number) ∙ free) in
         let names : out ≡ line (selected_names a.tenant q) = e ∙ ap (λ (x : Layout). line (map (λ y. declared_name x (item_name y)) q.select)) is ∙ ap line (names_are 1 made.plan a.tenant o q named) in
-        ap Rows (written made.plan a.tenant stands its_layout ∙ ap (λ (t : List ℕ). t ++ flat_map (shown_line plan.shown) (plan_rows plan l.object a.tenant)) names
+        ap Rows (written made.plan a.tenant a.user stands its_layout admin ∙ ap (λ (t : List ℕ). t ++ flat_map (shown_line plan.shown) (plan_rows plan l.object a.tenant a.user)) names
         ∙ ap (λ (t : List ℕ). line (selected_names a.tenant q) ++ t) rows_are)
         ∙ ap (λ (v : Verdict). in_case (refusal_of v.answer) (Rows (lines_found a q)) Refused) (sym verdict)
 

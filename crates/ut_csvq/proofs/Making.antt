@@ -176,9 +176,9 @@ alone : (u : User) → is_some (user_at (u ∷ []) u.id) ≡ true
 alone u = ap (λ (b : Bool). is_some (cond b (Some u) None)) (same_id u.id)
 
 pub row_fits : (now : ℕ) (m : Tables) (a : Asked) (user : List ℕ) (moment : ℤ) (given : List Assignment) → IsMade now m a → user ≡ first_user → moment ≡ pos now
-    → IsTrue (is_moment (pos now)) → ((b : Asked) (o : Object) → ReadsWell b o given) → IsGiving user moment (λ b o. ReadsWell b o given) a
+    → IsTrue (is_moment (pos now)) → ((b : Asked) (o : Object) → ReadsWell b o given) → IsGiving (λ t u. u.admin ≡ true) user moment (λ b o. ReadsWell b o given) a
 row_fits now m a user moment given made is at calendar reads = record {
-  asker = record { admin = ap (λ (u : User). u.admin) made.user; user = ap (λ (u : User). u.id) made.user ∙ sym is; now = made.moment ∙ sym at };
+  asker = record { rights = ap (λ (u : User). u.admin) made.user; user = ap (λ (u : User). u.id) made.user ∙ sym is; now = made.moment ∙ sym at };
   caller = (
     ap (λ (us : List User). is_some (user_at us a.user.id)) made.users ∙ ap (λ (u : User). is_some (user_at (its_administrator ∷ []) u.id)) made.user ∙ alone its_administrator,
     subst (λ (z : ℤ). IsTrue (is_moment z)) (sym made.moment) calendar,

@@ -1,7 +1,7 @@
 //! The answer to the query, once the organisation is made.
 
 ghost use Rattle.std.specs.List.{flat_map};
-ghost use Rattle.std.specs.Prelude.{◌≡◌, ◌++◌, IfOk, IsTrue, OnOk, Some, map, pos, true, ℕ};
+ghost use Rattle.std.specs.Prelude.{◌≡◌, ◌++◌, IfOk, IsTrue, OnOk, Some, map, pos, true};
 ghost use Rattle.ut_answers.specs.Planned.{plan_rows};
 ghost use Rattle.ut_csvq.specs.Lines.{line};
 ghost use Rattle.ut_csvq.specs.Outcomes.{asked_outcome};
@@ -30,8 +30,9 @@ use ut_data::data_laws;
 use ut_exec::ExecFail;
 use ut_keeper::{Draft, MemoryKeeper};
 use ut_keys::StoreFail;
-use ut_model::{Refusal, administrator_laws, object_laws, record_laws};
+use ut_model::{Refusal, object_laws, record_laws};
 use ut_query::Query;
+use ut_rights::Administrator;
 use ut_stands::{Layout, call_laws, layout_named};
 use ut_value::{Bytes, day_of_moment};
 
@@ -44,7 +45,7 @@ fn names_line(alloc: Global, layout: &Layout, query: &Query) -> Result<Vec<u8>, 
     line_of(alloc, names.as_slice())
 }
 
-// The lines of a plan, behind that of the names.
+// The lines of a plan of an administrator, behind that of the names.
 fn plan_lines(
     alloc: Global,
     draft: &mut Draft<'_, MemoryKeeper>,
@@ -52,13 +53,22 @@ fn plan_lines(
     plan: &Plan,
     out: &mut Vec<u8>,
 ) -> Result<(), StoreFail>
-    ensures { OnOk result (InTenants layout.now (tables_of memory_state draft.old)
-        (λ t. out.new.items ≡ out.old.items ++ flat_map (shown_line plan.now.shown) (plan_rows plan.now layout.now.object t))) }
+    ensures { OnOk result (InTenants layout.now (λ t u. u.admin ≡ true) (tables_of memory_state draft.old)
+        (λ t u. out.new.items ≡ out.old.items ++ flat_map (shown_line plan.now.shown) (plan_rows plan.now layout.now.object t u))) }
 {
     let form = CsvLines {
         shown: plan.shown.as_slice(),
     };
-    match write_planned(alloc, draft, layout, plan, &form, usize::MAX, out) {
+    match write_planned(
+        alloc,
+        draft,
+        layout,
+        &Administrator,
+        plan,
+        &form,
+        usize::MAX,
+        out,
+    ) {
         Ok(_count) => Ok(()),
         // No memory holds so many bytes.
         Err(ExecFail::TooLarge) => Err(StoreFail::Memory),
@@ -79,7 +89,6 @@ fn answer_there(
         → object_named a.tenant query.now.tail.from ≡ Some o → layout.now ≡ layout_of 1 made.plan a.tenant o
         → IfOk result (λ outcome. outcome ≡ asked_outcome query.now a) }
 {
-    administrator_laws();
     data_laws();
     object_laws();
     plan_laws();

@@ -18,6 +18,7 @@ use ut_keeper::{Draft, MemoryKeeper};
 use ut_keys::StoreFail;
 use ut_model::{Refusal, first_user_id};
 use ut_records::Create;
+use ut_rights::Administrator;
 use ut_sound::fit_laws;
 use ut_value::Text;
 
@@ -46,6 +47,7 @@ fn make_row(
     fit_laws();
     let given = given_of(alloc, heading, row)?;
     let create = Create {
+        rights: &Administrator,
         user: first_user_id(),
         now: moment(now),
         object,

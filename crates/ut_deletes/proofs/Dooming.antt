@@ -1,5 +1,5 @@
 -- A deletion that is judged: what it comes to, by what was found on the way.
-use Rattle.std.proofs.Common.{◌≡◌, ◌∙◌, ℕ, true, List, refl, sym, ap, subst}
+use Rattle.std.proofs.Common.{◌≡◌, ◌∙◌, ℕ, List, refl, sym, ap, subst}
 use Rattle.std.specs.Prelude.{IsErrAnd, Result, Ok, Err}
 use Rattle.ut_cascade.specs.Deletion.{DeletesWith}
 use Rattle.ut_deletes.specs.declared.deleting.Doomed.{Doomed}
@@ -9,11 +9,10 @@ use Rattle.ut_model.specs.declared.record.Record.{Record}
 use Rattle.ut_model.specs.Deletes.{cascade, delete, delete_record, without}
 use Rattle.ut_model.specs.Paths.{Asked}
 use Rattle.ut_model.specs.Rules.{Rule}
-use Rattle.ut_model.specs.Sound.{IsSound}
 use Rattle.ut_model.specs.Verdict.{Verdict, accept, done, unless}
-use Rattle.ut_named.proofs.Naming.{HasAll, named_there, named_verdict}
+use Rattle.ut_named.proofs.Naming.{named_there, named_verdict}
 use Rattle.ut_named.specs.declared.named.Named.{Named}
-use Rattle.ut_named.specs.Named.{FindsNamed, IsNamed}
+use Rattle.ut_named.specs.Named.{FindsPermitted}
 use Rattle.ut_stands.specs.declared.fail.EditFail.{EditFail}
 use Rattle.ut_stands.specs.declared.fail.EditFail.TheVariants.{Refused, Store}
 use Rattle.ut_stands.specs.Plan.{OrgPlan}
@@ -21,13 +20,13 @@ use Rattle.ut_value.specs.declared.sharing.Level.TheVariants.{Full}
 
 -- ---- the record that is named
 
-pub target_of : (org : ℕ) (q : OrgPlan) (a : Asked) (name key : List ℕ) (x : Named) → HasAll → IsSound a.tenant → a.user.admin ≡ true → IsNamed org q a.tenant name key x → IsTarget a name key x.kept.item.id
-target_of org q a name key x all sound admin is =
-    record { item = x.kept.item; is = refl; there = named_there org q a name key x is; verdict = named_verdict org q a name key x is all sound admin Full (λ o. delete_record a) }
+pub target_of : (org : ℕ) (q : OrgPlan) (a : Asked) (name key : List ℕ) (x : Named) → FindsPermitted org q a name key Full (Ok x) → IsTarget a name key x.kept.item.id
+target_of org q a name key x (is, permitted) =
+    record { item = x.kept.item; is = refl; there = named_there org q a name key x is; verdict = named_verdict org q a name key x is Full permitted (λ o. delete_record a) }
 
-pub no_target : (org : ℕ) (q : OrgPlan) (a : Asked) (name key : List ℕ) (e : EditFail) (out : Result (List ℕ) EditFail) → FindsNamed org q a name key (Err e) → IsErrAnd out (λ y. y ≡ e) → FindsTarget a name key out
+pub no_target : (org : ℕ) (q : OrgPlan) (a : Asked) (name key : List ℕ) (e : EditFail) (out : Result (List ℕ) EditFail) → FindsPermitted org q a name key Full (Err e) → IsErrAnd out (λ y. y ≡ e) → FindsTarget a name key out
 no_target org q a name key e (Ok x) h is = absurd is
-no_target org q a name key e (Err y) h is = subst (FailsBy (delete a name key)) (sym is) (h Full (λ o. delete_record a))
+no_target org q a name key e (Err y) h is = subst (FailsBy (delete a name key)) (sym is) (h (λ o. delete_record a))
 
 -- ---- what its deletion comes to
 

@@ -25,6 +25,7 @@ use Rattle.ut_model.specs.Rules.{first_refusal}
 use Rattle.ut_model.specs.Sound.{IsSound}
 use Rattle.ut_model.specs.Tenant.{Tenant}
 use Rattle.ut_model.specs.Verdict.{done}
+use Rattle.ut_rights.specs.Rights.{Whose}
 use Rattle.ut_sound.specs.Fit.{IsCaller}
 use Rattle.ut_stands.specs.Changes.{Change}
 use Rattle.ut_stands.specs.Fails.{of_store}
@@ -61,9 +62,9 @@ module _ (org : ℕ) (now : ℤ) (name key : List ℕ) (x : Doomed) (result : Re
     not_made e was = subst (AddsThese (deleted_changes org q now a.tenant (cascade a.tenant is.item)) old new) was added
 
     -- what was added takes the rows to those of what the verdict leaves
-    pub made : DeleteTakes → org < 2 ^ 32 → IsDeleting now a → (y : Unit {0}) → result ≡ Ok y → old ≡ []
+    pub made : (whose : Whose) → DeleteTakes → org < 2 ^ 32 → IsDeleting whose now a → (y : Unit {0}) → result ≡ Ok y → old ≡ []
         → (changes : List Change) × AreSpelled changes new × Takes org q a.tenant (delete a name key) done PlansKept changes
-    made takes lo f y was none =
+    made whose takes lo f y was none =
         let t = a.tenant in
         let rs = cascade t is.item in
         let moment : now ≡ a.now = sym f.now in

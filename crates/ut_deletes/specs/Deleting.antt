@@ -1,6 +1,6 @@
 -- A deletion as changes of rows: those that count the records, those of their manual shares, and those of the records that go and of
 -- the records that lose a lookup.
-use Rattle.std.specs.Prelude.{◌≡◌, ◌-◌, ◌==◌, ℕ, ℤ, true, if◌then◌else◌, List, [], ◌∷◌, ◌++◌, length, map, filter, None}
+use Rattle.std.specs.Prelude.{◌≡◌, ◌-◌, ◌==◌, ℕ, ℤ, if◌then◌else◌, List, [], ◌∷◌, ◌++◌, length, map, filter, None}
 use Rattle.std.specs.List.{flat_map}
 use Rattle.ut_cascade.specs.Deletion.{cleared_ids, gone_ids}
 use Rattle.ut_edits.specs.Rows.{change_to}
@@ -12,6 +12,7 @@ use Rattle.ut_model.specs.Paths.{Asked}
 use Rattle.ut_model.specs.Shares.{shares_of}
 use Rattle.ut_model.specs.Tenant.{Tenant}
 use Rattle.ut_model.specs.declared.record.Record.{Record}
+use Rattle.ut_rights.specs.Rights.{Whose}
 use Rattle.ut_sound.specs.Fit.{IsCaller}
 use Rattle.ut_stands.specs.Changes.{Change}
 use Rattle.ut_stands.specs.Metadata.{org_of, row_of_object}
@@ -20,9 +21,9 @@ use Rattle.ut_touched.specs.Touched.{touched_changes}
 
 -- ---- who deletes
 
--- who asks is an administrator, at this moment of the calendar
-pub record IsDeleting (moment : ℤ) (a : Asked) : Type 0 where
-  pub admin : a.user.admin ≡ true
+-- the rights are those of who asks, at this moment of the calendar
+pub record IsDeleting (whose : Whose) (moment : ℤ) (a : Asked) : Type 0 where
+  pub rights : whose a.tenant a.user
   pub caller : IsCaller a
   pub now : a.now ≡ moment
 

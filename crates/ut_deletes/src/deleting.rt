@@ -1,6 +1,6 @@
 //! Deletions, judged and made.
 
-ghost use Rattle.std.specs.Prelude.{◌≡◌, ◌+◌, ◌*◌, ◌++◌, ◌<◌, ◌≤◌, ◌&&◌, ◌==◌, ℤ, IfOk, List, OnOk, Some, length, nat_le, true};
+ghost use Rattle.std.specs.Prelude.{◌≡◌, ◌+◌, ◌*◌, ◌++◌, ◌<◌, ◌≤◌, ◌&&◌, ◌==◌, ℤ, IfOk, List, OnOk, Some, length, nat_le};
 ghost use Rattle.std.specs.List.{list_all};
 ghost use Rattle.ut_cascade.specs.Deletion.{cleared_ids, gone_ids};
 ghost use Rattle.ut_data.specs.Decoding.{has_types};
@@ -33,12 +33,12 @@ use ut_data::data_laws;
 use ut_edits::{Decided, Edit};
 use ut_keeper::{Change, Draft, Keeper, draft_laws};
 use ut_keys::StoreFail;
-use ut_model::administrator_laws;
-use ut_named::{Named, find_named, is_ready};
+use ut_named::{Named, find_permitted, is_ready};
 use ut_pivot::pivot_laws;
+use ut_rights::Rights;
 use ut_stands::{EditFail, Layout, call_laws, layouts};
 use ut_touched::touched_laws;
-use ut_value::{Id, Items, Text};
+use ut_value::{Id, Items, Level, Text};
 
 // The most objects of an organisation.
 const MOST_OBJECTS: usize = 100;
@@ -97,42 +97,43 @@ fn id_of(named: &Named) -> Id
     named.kept.item.id
 }
 
-// The id of the record of an object that a text names.
-fn target<K: Keeper>(
+// The id of the record of an object that a text names, which the user may delete.
+fn target<K: Keeper, R: Rights>(
     alloc: Global,
     draft: &mut Draft<'_, K>,
+    rights: &R,
     org: u32,
     name: &Text,
     key: &Text,
 ) -> Result<Id, EditFail>
     ensures finds { DraftTells K.state draft.old draft.new
-        → (q : OrgPlan) (a : Asked) → StandsIn org q (tables_of K.state draft.old) (Some a.tenant) → a.user.admin ≡ true
+        → (q : OrgPlan) (a : Asked) → StandsIn org q (tables_of K.state draft.old) (Some a.tenant) → R.whose rights.now a.tenant a.user
         → FindsTarget a name.now key.now result }
-    ensures calls { Calls K.state 1 (ended_edit result) draft.old draft.new }
+    ensures calls { Calls K.state 5 (ended_edit result) draft.old draft.new }
 {
     call_laws::<K>();
-    administrator_laws();
-    let named = find_named(alloc, draft, org, name, key)?;
+    let named = find_permitted(alloc, draft, rights, org, name, key, Level::Full)?;
     Ok(id_of(&named))
 }
 
-// What goes with the record that a text names, if no rule refuses it.
-fn accept_delete<K: Keeper>(
+// What goes with the record that a text names, if the user may delete it and no rule refuses it.
+fn accept_delete<K: Keeper, R: Rights>(
     alloc: Global,
     draft: &mut Draft<'_, K>,
+    rights: &R,
     org: u32,
     name: &Text,
     key: &Text,
 ) -> Result<Doomed, EditFail>
     ensures accepts { DraftTells K.state draft.old draft.new
-        → (q : OrgPlan) (a : Asked) → StandsIn org q (tables_of K.state draft.old) (Some a.tenant) → a.user.admin ≡ true
+        → (q : OrgPlan) (a : Asked) → StandsIn org q (tables_of K.state draft.old) (Some a.tenant) → R.whose rights.now a.tenant a.user
         → Dooms org q a name.now key.now result }
     ensures fits { IfOk result (FitsDoomed org) }
-    ensures calls { Calls K.state 1 (ended_edit result) draft.old draft.new }
+    ensures calls { Calls K.state 5 (ended_edit result) draft.old draft.new }
 {
     draft_laws::<K>();
     call_laws::<K>();
-    let id = target(alloc, draft, org, name, key)?;
+    let id = target(alloc, draft, rights, org, name, key)?;
     let layouts = ready_layouts(alloc, draft, org)?;
     let deletion = deletion_of(alloc, draft, org, layouts.as_slice(), &id)?;
     Ok(Doomed { layouts, deletion })
@@ -197,7 +198,7 @@ fn add_changes<K: Keeper>(
     clear_records(alloc, draft, org, layouts, now, gone, cleared, changes)
 }
 
-impl Edit for Delete<'_> {
+impl<R: Rights> Edit for Delete<'_, R> {
     type Answer = ();
 
     ghost verdict = { λ e a. delete a e.object.now e.key.now };
@@ -206,13 +207,13 @@ impl Edit for Delete<'_> {
 
     ghost planned = { λ e q t next. PlansKept q t next };
 
-    ghost fits = { λ e a. IsDeleting e.now a };
+    ghost fits = { λ e a. IsDeleting (R.whose e.rights.now) e.now a };
 
     ghost most = { 245101 };
 
     ghost gone = { 1000 };
 
-    ghost shown = { 1001 };
+    ghost shown = { 1005 };
 
     fn judge<K: Keeper>(
         &self,
@@ -223,7 +224,7 @@ impl Edit for Delete<'_> {
         draft_laws::<K>();
         call_laws::<K>();
         delete_laws();
-        let doomed = accept_delete(alloc, draft, org, self.object, self.key)?;
+        let doomed = accept_delete(alloc, draft, self.rights, org, self.object, self.key)?;
         let mut changes = Vec::new(alloc);
         add_changes(alloc, draft, org, self.now, &doomed, &mut changes)?;
         Ok(Decided {

@@ -30,7 +30,7 @@ use Rattle.ut_data.proofs.RecordFits.{record_is_id}
 use Rattle.ut_data.proofs.Rising.{has_take}
 use Rattle.ut_data.proofs.Standing.{layout_is}
 use Rattle.ut_data.proofs.Walking.{WalkLaws}
-use Rattle.ut_exec.specs.Seen.{kept_record}
+use Rattle.ut_rights.specs.Rights.{kept_record}
 use Rattle.ut_exec.specs.inner.Reading.{FindsPage, KeepsPage}
 
 -- what is spelled is read again, as `shape_laws` says

@@ -5,4 +5,5 @@ pub mod Sorting
 pub mod Seeing
 pub mod Keeping
 pub mod Turning
+pub mod Permitting
 pub mod Working

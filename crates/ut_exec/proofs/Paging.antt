@@ -55,7 +55,7 @@ is_below Less h = refl
 is_below Equal h = absurd (true≢false (sym h))
 is_below Greater h = absurd (true≢false (sym h))
 
-middle_has : (front : List Record) (last : Record) (back : List Record) → Has (front ++ last ∷ back) last
+pub middle_has : (front : List Record) (last : Record) (back : List Record) → Has (front ++ last ∷ back) last
 middle_has [] last back = inl refl
 middle_has (x ∷ front) last back = inr (middle_has front last back)
 

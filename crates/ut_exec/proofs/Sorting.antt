@@ -1,6 +1,6 @@
 -- Records that are sorted by their ranks and then by their ids.
 use Rattle.std.proofs.Common.{◌≡◌, ◌∙◌, ℕ, Bool, true, false, cond, List, [], ◌∷◌, ◌++◌, Option, Some, None, refl, sym, ap, subst, append_assoc, append-nil, filter, map, is_eq}
-use Rattle.std.specs.Prelude.{Result, Err}
+use Rattle.std.specs.Prelude.{Result, Err, Vec}
 use Rattle.std.specs.List.{AllByRecursion, IsDistinct}
 use Rattle.std.specs.List.Sorted.{IsStrictlySortedBy}
 use Rattle.std.specs.Cmp.Lexicographic.{slice_cmp}
@@ -10,6 +10,7 @@ use Rattle.std.specs.declared.cmp.Ordering.TheVariants.{Less, Equal, Greater}
 use Rattle.std.proofs.lemmas.List.Kept.{IsStrictlySortedBy-filter}
 use Rattle.std.proofs.lemmas.List.{map-append}
 use Rattle.std.proofs.lemmas.List.Elements.{filter-append}
+use Rattle.ut_keeper.specs.Tables.{Tables}
 use Rattle.ut_keys.specs.Fails.{of_codec}
 use Rattle.ut_keys.specs.declared.fail.StoreFail.{StoreFail}
 use Rattle.ut_parts.specs.declared.fail.CodecFail.{CodecFail}
@@ -18,11 +19,14 @@ use Rattle.ut_stands.specs.Calls.{ended, fell, stopped}
 use Rattle.ut_data.specs.Decoding.{each_from}
 use Rattle.ut_model.specs.declared.record.Record.{Record}
 use Rattle.ut_model.specs.Ordered.{by_id, in_order, put_in}
+use Rattle.ut_model.specs.Tenant.{Tenant, User}
 use Rattle.ut_parts.specs.Plain.{◌>>=◌}
 use Rattle.ut_exec.specs.declared.ranked.Ranked.{Ranked}
+use Rattle.ut_rights.specs.Rights.{Whose}
 use Rattle.ut_stands.specs.declared.layout.Layout.{Layout}
 use Rattle.ut_exec.specs.Ranks.{by_rank, ranked_cmp}
-use Rattle.ut_exec.specs.inner.Gathering.{Gathers, GathersRows, Ranking, SortsRanked, ranked_record}
+use Rattle.ut_exec.specs.Written.{InTenants}
+use Rattle.ut_exec.specs.inner.Gathering.{FindsAll, Gathers, GathersRows, Ranking, SortsRanked, ranked_record}
 use Rattle.ut_exec.proofs.Offering.{some_inner}
 use Rattle.ut_exec.proofs.Paging.{Ascends}
 
@@ -148,3 +152,16 @@ module _ {X : Type 0} (l : Layout) (rank : Record → X) where
 pub codec_not_fallen : {A : Type 0} (r : Result A StoreFail) (e : CodecFail) → r ≡ Err (of_codec e) → ended r ≡ fell → ⊥
 codec_not_fallen r codec.Damaged is e = let same : ended r ≡ stopped = ap ended is in absurd cc
 codec_not_fallen r codec.Memory is e = let same : ended r ≡ stopped = ap ended is in absurd cc
+
+-- what stopped of itself, of rows that aren't damaged
+pub gathered_none : {X A : Type 0} (l : Layout) (sees : Whose) (rank : Record → X) (chosen : Tenant → User → List Record) (m : Tables) (r : Result (Vec (Ranked X) A) StoreFail) (e : CodecFail)
+    → r ≡ Err (of_codec e) → (e ≡ codec.Damaged → InTenants l sees m (λ t u. ⊥)) → FindsAll l sees rank chosen m r
+gathered_none {A = A} l sees rank chosen m r e is damaged = subst (FindsAll l sees rank chosen m) (sym is) (by e damaged)
+  where
+    by : (f : CodecFail) → (f ≡ codec.Damaged → InTenants l sees m (λ t u. ⊥)) → FindsAll {A = A} l sees rank chosen m (Err (of_codec f))
+    by codec.Damaged h = h refl
+    by codec.Memory h = tt
+
+pub gathers_undamaged : {X : Type 0} (l : Layout) (rank : Record → X) (old new : List (Ranked X)) (kept : List Record) (e : CodecFail) → e ≡ codec.Damaged → Gathers l rank old new kept (Err e) → ⊥
+gathers_undamaged l rank old new kept codec.Damaged is h = h
+gathers_undamaged l rank old new kept codec.Memory is h = absurd cc

@@ -23,7 +23,7 @@ use Rattle.ut_parts.specs.Plain.{◌>>=◌}
 use Rattle.ut_stands.specs.declared.layout.Layout.{Layout}
 use Rattle.ut_stands.specs.Layouts.{records_after}
 use Rattle.ut_exec.specs.declared.pages.Pages.{Pages}
-use Rattle.ut_exec.specs.Seen.{kept_record}
+use Rattle.ut_rights.specs.Rights.{kept_record}
 use Rattle.ut_exec.specs.inner.Reading.{FindsPage, ReadsPage, ReadsOn, beyond, id_in, last_of, pages_left}
 use Rattle.ut_exec.proofs.Offering.{each_cons, each_none}
 use Rattle.ut_exec.proofs.Paging.{Ascends, page_on}

@@ -8,10 +8,12 @@ use Rattle.ut_keeper.specs.Tables.{Tables}
 use Rattle.ut_keys.specs.declared.fail.StoreFail.TheVariants.{Damaged, Keeper, Memory}
 use Rattle.ut_model.specs.declared.limit.Limit.TheVariants.{RecordsPerObject}
 use Rattle.ut_model.specs.declared.record.Record.{Record}
+use Rattle.ut_model.specs.Levels.{readable}
 use Rattle.ut_model.specs.Limits.{limit_number}
 use Rattle.ut_model.specs.Objects.{records_of}
 use Rattle.ut_model.specs.Ordered.{in_order}
-use Rattle.ut_model.specs.Tenant.{Tenant}
+use Rattle.ut_model.specs.Tenant.{Tenant, User}
+use Rattle.ut_rights.specs.Rights.{Whose}
 use Rattle.ut_stands.specs.declared.layout.Layout.{Layout}
 use Rattle.ut_stands.specs.Calls.{Ending, done, fell, stopped}
 use Rattle.ut_stands.specs.Layouts.{IsLayout}
@@ -30,17 +32,17 @@ Puts bytes old new (Ok x) = new ≡ old ++ bytes
 Puts bytes old new (Err codec.Damaged) = ⊥
 Puts bytes old new (Err codec.Memory) = Unit {0}
 
--- so it is of each tenant for which the organisation's rows stand and whose layout it is
-abbrev pub InTenants : Layout → Tables → (Tenant → Type 0) → Type 0
-InTenants l m P = (q : OrgPlan) (t : Tenant) → StandsIn l.org q m (Some t) → IsLayout q t l → P t
+-- so it is of each user who sees so, of a tenant for which the organisation's rows stand and whose layout it is
+abbrev pub InTenants : Layout → (sees : Whose) → Tables → (Tenant → User → Type 0) → Type 0
+InTenants l sees m P = (q : OrgPlan) (t : Tenant) (u : User) → StandsIn l.org q m (Some t) → IsLayout q t l → sees t u → P t u
 
--- the rows of an object without ORDER BY: the records that are kept, in the order of their ids
-abbrev pub rows_kept : Window → (Record → Bool) → (object : ℕ) → Tenant → List Record
-rows_kept w keep n t = in_window w (filter keep (records_of t n))
+-- the rows of an object without ORDER BY: of the records that the user may read those that are kept, in the order of their ids
+abbrev pub rows_kept : Window → (Record → Bool) → (object : ℕ) → Tenant → User → List Record
+rows_kept w keep n t u = in_window w (filter keep (readable t u n))
 
 -- the same with ORDER BY
-abbrev pub rows_sorted : Window → (Record → Record → Ordering) → (Record → Bool) → (object : ℕ) → Tenant → List Record
-rows_sorted w order keep n t = in_window w (in_order order (filter keep (records_of t n)))
+abbrev pub rows_sorted : Window → (Record → Record → Ordering) → (Record → Bool) → (object : ℕ) → Tenant → User → List Record
+rows_sorted w order keep n t u = in_window w (in_order order (filter keep (readable t u n)))
 
 -- all of these rows were appended, and there was room for them
 pub record AppendsRows (row : Record → List ℕ) (room : ℕ) (rows : List Record) (old new : List ℕ) (count : ℕ) : Type 0 where
@@ -48,14 +50,14 @@ pub record AppendsRows (row : Record → List ℕ) (room : ℕ) (rows : List Rec
   pub appended : new ≡ old ++ flat_map row rows
   pub fits : length (flat_map row rows) ≤ room
 
--- the rows of each such tenant were written, or there is no room for them; its rows are never damaged
-abbrev pub WritesRows : Layout → (Tenant → List Record) → (Record → List ℕ) → (room : ℕ) → (old new : List ℕ) → Tables
+-- the rows of each such user were written, or there is no room for them; the tenant's rows are never damaged
+abbrev pub WritesRows : Layout → (sees : Whose) → (Tenant → User → List Record) → (Record → List ℕ) → (room : ℕ) → (old new : List ℕ) → Tables
     → Result ℕ ExecFail → Type 0
-WritesRows l rows row room old new m (Ok count) = InTenants l m (λ t. AppendsRows row room (rows t) old new count)
-WritesRows l rows row room old new m (Err TooLarge) = InTenants l m (λ t. room < length (flat_map row (rows t)))
-WritesRows l rows row room old new m (Err (Store Damaged)) = InTenants l m (λ t. ⊥)
-WritesRows l rows row room old new m (Err (Store Keeper)) = Unit {0}
-WritesRows l rows row room old new m (Err (Store Memory)) = Unit {0}
+WritesRows l sees rows row room old new m (Ok count) = InTenants l sees m (λ t u. AppendsRows row room (rows t u) old new count)
+WritesRows l sees rows row room old new m (Err TooLarge) = InTenants l sees m (λ t u. room < length (flat_map row (rows t u)))
+WritesRows l sees rows row room old new m (Err (Store Damaged)) = InTenants l sees m (λ t u. ⊥)
+WritesRows l sees rows row room old new m (Err (Store Keeper)) = Unit {0}
+WritesRows l sees rows row room old new m (Err (Store Memory)) = Unit {0}
 
 -- ---- data rows that are shown
 
@@ -65,18 +67,19 @@ IfDone done P = P
 IfDone fell P = Unit {0}
 IfDone stopped P = Unit {0}
 
--- in at most 80 pages: each record of an object once, of which there are so many at most, and in each page as many rows more as
+-- in at most 80 pages: each record of an object once, with what tells whether it may be read, and in each page as many rows more as
 -- the draft removes
-abbrev pub shown_for : (records removed : ℕ) → ℕ
-shown_for records removed = records + 80 * removed
+abbrev pub shown_for : (each records removed : ℕ) → ℕ
+shown_for each records removed = (1 + each) * records + 80 * removed
 
-abbrev pub most_shown : (removed : ℕ) → ℕ
-most_shown removed = shown_for (limit_number RecordsPerObject) removed
+-- an object has so many records at most
+abbrev pub most_shown : (each removed : ℕ) → ℕ
+most_shown each removed = shown_for each (limit_number RecordsPerObject) removed
 
 -- if a call was done, it showed each record of the object once at most
 module _ {K : Type 0} (state : K → KeeperState) where
-  abbrev pub ShowsRecords : Layout → Ending → (old new : Held K) → Type 0
-  ShowsRecords l e old new =
+  abbrev pub ShowsRecords : Layout → (sees : Whose) → (each : ℕ) → Ending → (old new : Held K) → Type 0
+  ShowsRecords l sees each e old new =
       DraftTells state old new
-      → IfDone e (InTenants l (tables_of state old) (λ t.
-      ShowsMost (shown_for (length (records_of t l.object)) (removals_of state data_table old)) (state_of state old) (state_of state new)))
+      → IfDone e (InTenants l sees (tables_of state old) (λ t u.
+      ShowsMost (shown_for each (length (records_of t l.object)) (removals_of state data_table old)) (state_of state old) (state_of state new)))

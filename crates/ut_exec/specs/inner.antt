@@ -1,3 +1,4 @@
 pub mod Gathering
 pub mod Offers
+pub mod Permitted
 pub mod Reading

@@ -10,6 +10,7 @@ mod asked;
 mod fail;
 mod offers;
 mod pages;
+mod permitted;
 mod ranked;
 mod rows;
 mod seen;

@@ -2,10 +2,11 @@
 
 ghost use Rattle.std.specs.Prelude.{◌≡◌, ◌+◌, ◌∷◌, [], Err, IfOk, IsTrue, List, Some, filter};
 ghost use Rattle.ut_data.specs.Decoding.{each_from, has_types};
-ghost use Rattle.ut_exec.specs.Seen.{kept_record, seen_record};
+ghost use Rattle.ut_exec.specs.Seen.{seen_record};
 ghost use Rattle.ut_exec.specs.inner.Offers.{Appends, Offered};
 ghost use Rattle.ut_keys.specs.declared.fail.StoreFail.TheVariants.{Keeper, Memory};
 ghost use Rattle.ut_model.specs.declared.record.Record.{Record};
+ghost use Rattle.ut_rights.specs.Rights.{kept_record};
 
 use crate::asked::{Keeps, RowForm};
 use crate::fail::ExecFail;

@@ -1,6 +1,6 @@
 //! The rows of an object's records, page by page.
 
-ghost use Rattle.std.specs.Prelude.{◌≡◌, ◌+◌, ◌++◌, ◌<◌, IfOk, IfSome, IsTrue, length, take};
+ghost use Rattle.std.specs.Prelude.{◌≡◌, ◌+◌, ◌++◌, ◌<◌, IfOk, IfSome, IsTrue, take};
 ghost use Rattle.std.specs.Option.{option_map};
 ghost use Rattle.ut_exec.specs.inner.Reading.{FindsPage, KeepsPage, ReadsPage, id_in, last_of, pages_left};
 ghost use Rattle.ut_keeper.specs.Draft.{DraftTells, removals_of, tables_of};

@@ -8,25 +8,29 @@ ghost use Rattle.ut_stands.specs.Calls.{Calls};
 use crate::asked::{Keeps, RowForm};
 use crate::fail::ExecFail;
 use crate::offers::{Progress, offer_records};
-use crate::pages::{first_pages, next_page};
+use crate::pages::first_pages;
+use crate::permitted::next_permitted;
 use crate::window::Window;
 use std::alloc::Global;
 use ut_data::{data_laws, has_types};
 use ut_keeper::{Draft, Keeper, draft_laws};
 use ut_keys::StoreFail;
+use ut_rights::Sight;
 use ut_stands::{Layout, call_laws};
 
-/// Appends the rows of an object's records that are kept, in the order of their ids, as far as the window takes them, and returns
-/// how many they are. It has one page of rows in memory, and reads none behind the last row.
+/// Appends the rows of an object's records that may be read and are kept, in the order of their ids, as far as the window takes them,
+/// and returns how many they are. It has one page of rows in memory, and reads none behind the last row.
 ///
 /// # Errors
 ///
 /// `TooLarge` if the rows have more bytes than there is room for; `Keeper` if the keeper failed, `Memory` if out of memory,
-/// `Damaged` never if the organisation's rows stand for a tenant whose layout it is. What was appended before is still there.
-pub fn write_rows<K: Keeper, P: Keeps, W: RowForm>(
+/// `Damaged` never if the organisation's rows stand for a tenant whose layout it is and of whose user this is the sight. What was
+/// appended before is still there.
+pub fn write_rows<K: Keeper, S: Sight, P: Keeps, W: RowForm>(
     alloc: Global,
     draft: &mut Draft<'_, K>,
     layout: &Layout,
+    sight: &S,
     keeps: &P,
     form: &W,
     window: Window,
@@ -34,11 +38,11 @@ pub fn write_rows<K: Keeper, P: Keeps, W: RowForm>(
     out: &mut Vec<u8>,
 ) -> Result<usize, ExecFail>
     ensures what { DraftTells K.state draft.old draft.new
-        → WritesRows layout.now (rows_kept window (P.keep keeps.now) layout.now.object) (W.written form.now) room
+        → WritesRows layout.now (S.sees sight.now layout.now) (rows_kept window (P.keep keeps.now) layout.now.object) (W.written form.now) room
         out.old.items out.new.items (tables_of K.state draft.old) result }
-    // Each record is shown once, as long as the draft removes none.
-    ensures shown { ShowsRecords K.state layout.now (ended_exec result) draft.old draft.new }
-    ensures calls { Calls K.state (most_shown (removals_of K.state 7 draft.old)) (ended_exec result) draft.old draft.new }
+    // Each record is shown once, with what tells whether it may be read, as long as the draft removes none.
+    ensures shown { ShowsRecords K.state layout.now (S.sees sight.now layout.now) S.shown (ended_exec result) draft.old draft.new }
+    ensures calls { Calls K.state (most_shown S.shown (removals_of K.state 7 draft.old)) (ended_exec result) draft.old draft.new }
 {
     draft_laws::<K>();
     call_laws::<K>();
@@ -53,7 +57,7 @@ pub fn write_rows<K: Keeper, P: Keeps, W: RowForm>(
     };
     let mut pages = first_pages();
     'pages: while pages.left > 0 && !progress.window.is_over() {
-        let rows = next_page(alloc, draft, layout, &mut pages)?;
+        let rows = next_permitted(alloc, draft, sight, layout, &mut pages)?;
         offer_records(
             alloc,
             layout,

@@ -59,7 +59,8 @@ fn read_text(alloc: Global, kind: &FieldType, text: Option<&str>) -> Result<Valu
 }
 
 impl<'a> SeenRecord<'a> {
-    ghost use Rattle.ut_exec.specs.Seen.{Sees, kept_record, seen_record};
+    ghost use Rattle.ut_exec.specs.Seen.{Sees, seen_record};
+    ghost use Rattle.ut_rights.specs.Rights.{kept_record};
 
     /// The record of a row that is kept, by the layout of its object, whose types are within their bounds. The row is read to its
     /// end; no value of it is.

@@ -4,20 +4,21 @@ ghost use Rattle.std.specs.Prelude.{◌≡◌, ◌∷◌, [], Err, List, IsTrue,
 ghost use Rattle.ut_data.specs.Decoding.{each_from, has_types};
 ghost use Rattle.ut_exec.specs.Fails.{ended_exec};
 ghost use Rattle.ut_exec.specs.Ranks.{by_rank};
-ghost use Rattle.ut_exec.specs.Seen.{kept_record};
 ghost use Rattle.ut_exec.specs.Written.{ShowsRecords, WritesRows, most_shown, rows_sorted};
 ghost use Rattle.ut_exec.specs.inner.Gathering.{FindsAll, Gathers, RanksKept, SortsRanked, ranked_record};
 ghost use Rattle.ut_exec.specs.inner.Offers.{Offered};
 ghost use Rattle.ut_keeper.specs.Draft.{DraftTells, removals_of, tables_of};
 ghost use Rattle.ut_keys.specs.declared.fail.StoreFail.TheVariants.{Keeper};
 ghost use Rattle.ut_model.specs.declared.record.Record.{Record};
-ghost use Rattle.ut_model.specs.Objects.{records_of};
+ghost use Rattle.ut_model.specs.Levels.{readable};
+ghost use Rattle.ut_rights.specs.Rights.{kept_record};
 ghost use Rattle.ut_stands.specs.Calls.{Calls, ended};
 
 use crate::asked::{Keeps, RowForm};
 use crate::fail::ExecFail;
 use crate::offers::{Progress, offer_row};
-use crate::pages::{first_pages, next_page};
+use crate::pages::first_pages;
+use crate::permitted::next_permitted;
 use crate::ranked::{Ranked, Ranks};
 use crate::seen::SeenRecord;
 use crate::window::Window;
@@ -27,6 +28,7 @@ use ut_keeper::{Draft, Keeper, KeptRow, draft_laws};
 use ut_keys::StoreFail;
 use ut_model::record_laws;
 use ut_parts::CodecFail;
+use ut_rights::Sight;
 use ut_stands::{Layout, call_laws};
 use ut_value::Id;
 
@@ -92,27 +94,28 @@ fn gather_rows<P: Keeps, R: Ranks>(
     Ok(())
 }
 
-// The rows of all records of an object that are kept, with their ranks.
-fn gather_all<K: Keeper, P: Keeps, R: Ranks>(
+// The rows of all records of an object that may be read and are kept, with their ranks.
+fn gather_all<K: Keeper, S: Sight, P: Keeps, R: Ranks>(
     alloc: Global,
     draft: &mut Draft<'_, K>,
     layout: &Layout,
+    sight: &S,
     keeps: &P,
     ranks: &R,
 ) -> Result<Vec<Ranked<R::Rank>>, StoreFail>
     requires { IsTrue (has_types layout.now) }
     ensures what { DraftTells K.state draft.old draft.new
-        → FindsAll layout.now (R.ranked ranks.now) (λ t. filter (P.keep keeps.now) (records_of t layout.now.object))
+        → FindsAll layout.now (S.sees sight.now layout.now) (R.ranked ranks.now) (λ t u. filter (P.keep keeps.now) (readable t u layout.now.object))
         (tables_of K.state draft.old) result }
-    ensures shown { ShowsRecords K.state layout.now (ended result) draft.old draft.new }
-    ensures calls { Calls K.state (most_shown (removals_of K.state 7 draft.old)) (ended result) draft.old draft.new }
+    ensures shown { ShowsRecords K.state layout.now (S.sees sight.now layout.now) S.shown (ended result) draft.old draft.new }
+    ensures calls { Calls K.state (most_shown S.shown (removals_of K.state 7 draft.old)) (ended result) draft.old draft.new }
 {
     draft_laws::<K>();
     call_laws::<K>();
     let mut gathered = Vec::new(alloc);
     let mut pages = first_pages();
     'pages: while pages.left > 0 {
-        let rows = next_page(alloc, draft, layout, &mut pages)?;
+        let rows = next_permitted(alloc, draft, sight, layout, &mut pages)?;
         gather_rows(alloc, layout, keeps, ranks, rows, &mut gathered)?;
     }
     Ok(gathered)
@@ -168,16 +171,17 @@ fn offer_sorted<T: Drop, W: RowForm>(
     Ok(())
 }
 
-/// Appends the rows of an object's records that are kept, in the order of their ranks and then of their ids, as far as the window
-/// takes them, and returns how many they are. It has the rows of all records that are kept in memory.
+/// Appends the rows of an object's records that may be read and are kept, in the order of their ranks and then of their ids, as far as
+/// the window takes them, and returns how many they are. It has all these rows in memory.
 ///
 /// # Errors
 ///
 /// As `write_rows`.
-pub fn write_sorted_rows<K: Keeper, P: Keeps, R: Ranks, W: RowForm>(
+pub fn write_sorted_rows<K: Keeper, S: Sight, P: Keeps, R: Ranks, W: RowForm>(
     alloc: Global,
     draft: &mut Draft<'_, K>,
     layout: &Layout,
+    sight: &S,
     keeps: &P,
     ranks: &R,
     form: &W,
@@ -186,11 +190,12 @@ pub fn write_sorted_rows<K: Keeper, P: Keeps, R: Ranks, W: RowForm>(
     out: &mut Vec<u8>,
 ) -> Result<usize, ExecFail>
     ensures what { DraftTells K.state draft.old draft.new
-        → WritesRows layout.now (rows_sorted window (by_rank R.Rank.cmp (R.ranked ranks.now)) (P.keep keeps.now) layout.now.object)
+        → WritesRows layout.now (S.sees sight.now layout.now)
+        (rows_sorted window (by_rank R.Rank.cmp (R.ranked ranks.now)) (P.keep keeps.now) layout.now.object)
         (W.written form.now) room out.old.items out.new.items (tables_of K.state draft.old) result }
-    // Each record is shown once, as long as the draft removes none.
-    ensures shown { ShowsRecords K.state layout.now (ended_exec result) draft.old draft.new }
-    ensures calls { Calls K.state (most_shown (removals_of K.state 7 draft.old)) (ended_exec result) draft.old draft.new }
+    // Each record is shown once, with what tells whether it may be read, as long as the draft removes none.
+    ensures shown { ShowsRecords K.state layout.now (S.sees sight.now layout.now) S.shown (ended_exec result) draft.old draft.new }
+    ensures calls { Calls K.state (most_shown S.shown (removals_of K.state 7 draft.old)) (ended_exec result) draft.old draft.new }
 {
     record_laws();
     draft_laws::<K>();
@@ -202,7 +207,7 @@ pub fn write_sorted_rows<K: Keeper, P: Keeps, R: Ranks, W: RowForm>(
     if !has_types(layout) {
         return Err(ExecFail::Store(StoreFail::Damaged));
     }
-    let mut gathered = gather_all(alloc, draft, layout, keeps, ranks)?;
+    let mut gathered = gather_all(alloc, draft, layout, sight, keeps, ranks)?;
     put_in_order(&mut gathered);
     let mut progress = Progress {
         window,

@@ -1,18 +1,19 @@
 -- The object and the record that a request names, found or not.
-use Rattle.std.proofs.Common.{◌≡◌, ◌∙◌, ℕ, Bool, true, not, cond, List, [], ◌∷◌, Option, Some, None, refl, sym, ap, subst}
-use Rattle.std.specs.Prelude.{Result, Ok, Err, IsErrAnd}
+use Rattle.std.proofs.Common.{◌≡◌, ◌∙◌, ℕ, Bool, true, false, not, cond, List, [], ◌∷◌, Option, Some, None, refl, sym, ap, subst}
+use Rattle.std.specs.Prelude.{IfOk, Result, Ok, Err, IsErrAnd}
 use Rattle.std.specs.Option.{option_and_then}
 use Rattle.ut_data.proofs.Standing.{Found, found_of}
 use Rattle.ut_edits.specs.Naming.{NamesLayout}
+use Rattle.ut_keeper.specs.Tables.{Tables}
+use Rattle.ut_keys.specs.declared.fail.StoreFail.{StoreFail}
+use Rattle.ut_keys.specs.declared.fail.StoreFail.TheVariants.{Damaged, Keeper, Memory}
 use Rattle.ut_model.specs.Cases.{in_case}
-use Rattle.ut_model.specs.Levels.{at_least, level}
-use Rattle.ut_model.specs.Membership.{Has}
+use Rattle.ut_model.specs.Levels.{at_least, can_read, level}
 use Rattle.ut_model.specs.Objects.{Numbered, is_of, object_named, record_at}
 use Rattle.ut_model.specs.Paths.{Asked}
 use Rattle.ut_model.specs.Rights.{denied, on_named, on_readable, record_of_object}
 use Rattle.ut_model.specs.Rules.{refuse_if}
-use Rattle.ut_model.specs.Sound.{IsSound}
-use Rattle.ut_model.specs.Tenant.{Tenant, User}
+use Rattle.ut_model.specs.Tenant.{Tenant}
 use Rattle.ut_model.specs.Verdict.{Verdict, judged, on_object, refuse}
 use Rattle.ut_model.specs.declared.record.Record.{Record}
 use Rattle.ut_model.specs.declared.refusal.Refusal.{Refusal}
@@ -20,27 +21,19 @@ use Rattle.ut_model.specs.declared.refusal.Refusal.TheVariants.{InsufficientAcce
 use Rattle.ut_named.specs.declared.kept.KeptRecord.{KeptRecord}
 use Rattle.ut_named.specs.declared.named.Named.{Named}
 use Rattle.ut_named.proofs.Facts.{pick}
-use Rattle.ut_named.specs.Named.{FindsNamed, IsNamed, NamesNone, NamesRecord}
+use Rattle.ut_named.specs.Named.{FindsNamed, FindsPermitted, FitsNamed, IsNamed, IsPermitted, NamesNone, NamesRecord}
+use Rattle.ut_named.specs.inner.Permitting.{permit}
 use Rattle.ut_named.proofs.Objects.{IsOn}
+use Rattle.ut_rights.specs.Rights.{FindsFor, Whose, level_there}
+use Rattle.ut_stands.specs.Calls.{done, ended, ended_edit}
+use Rattle.ut_stands.specs.Local.{StandsIn}
 use Rattle.ut_stands.specs.Plan.{OrgPlan}
 use Rattle.ut_stands.specs.declared.fail.EditFail.{EditFail}
 use Rattle.ut_stands.specs.declared.fail.EditFail.TheVariants.{Refused, Store}
 use Rattle.ut_stands.specs.declared.layout.Layout.{Layout}
 use Rattle.ut_value.specs.Id.{id_in}
 use Rattle.ut_value.specs.declared.sharing.Level.{Level}
-use Rattle.ut_value.specs.declared.sharing.Level.TheVariants.{Edit, Full, Nothing, Read}
-
--- ---- an administrator's level
-
--- what `ut_model` says of it
-abbrev pub HasAll : Type 0
-HasAll = (t : Tenant) (u : User) (r : Record) → IsSound t → u.admin ≡ true → Has t.records r → level t u r ≡ Full
-
-full_is_most : (least : Level) → at_least least Full ≡ true
-full_is_most Nothing = refl
-full_is_most Read = refl
-full_is_most Edit = refl
-full_is_most Full = refl
+use Rattle.ut_value.specs.declared.sharing.Level.TheVariants.{Nothing, Read}
 
 -- ---- the record of an object
 
@@ -51,15 +44,21 @@ module _ (a : Asked) (o : Numbered) (key : List ℕ) (least : Level) (verdict : 
   abbrev by_id : Option (List ℕ) → Verdict
   by_id id = in_case id (refuse a.tenant (MalformedId key)) (λ id. on (record_of_object a.tenant o.number id))
 
-  -- an administrator comes to the record
-  comes_to : HasAll → IsSound a.tenant → a.user.admin ≡ true → (id : List ℕ) (r : Record) → id_in key ≡ Some id → record_of_object a.tenant o.number id ≡ Some r
-      → on_named a o key least verdict ≡ verdict r
-  comes_to all sound admin id r is found =
-      let full = all a.tenant a.user r sound admin (found_of a.tenant o.number id r (record_at a.tenant id) refl found).has in
-      ap by_id is ∙ ap on found
-      ∙ ap (λ (l : Level). in_case (cond (at_least Read l) (Some r) None) (refuse a.tenant NotFound) (λ r. judged a.tenant (denied a least r ∷ []) (verdict r))) full
-      ∙ ap (λ (l : Level). judged a.tenant (refuse_if (not (at_least least l)) InsufficientAccess ∷ []) (verdict r)) full
-      ∙ ap (λ (b : Bool). judged a.tenant (refuse_if (not b) InsufficientAccess ∷ []) (verdict r)) (full_is_most least)
+  -- what it comes to on this record, by whether it may be read and whether the level is enough
+  abbrev by_level : Record → (readable allowed : Bool) → Verdict
+  by_level r false allowed = refuse a.tenant NotFound
+  by_level r true allowed = judged a.tenant (refuse_if (not allowed) InsufficientAccess ∷ []) (verdict r)
+
+  comes_to : (id : List ℕ) (r : Record) → id_in key ≡ Some id → record_of_object a.tenant o.number id ≡ Some r → (readable allowed : Bool)
+      → can_read a.tenant a.user r ≡ readable → at_least least (level a.tenant a.user r) ≡ allowed → on_named a o key least verdict ≡ by_level r readable allowed
+  comes_to id r is found readable allowed reads has = ap by_id is ∙ ap on found ∙ by readable reads
+    where
+      by : (b : Bool) → can_read a.tenant a.user r ≡ b
+          → in_case (cond (can_read a.tenant a.user r) (Some r) None) (refuse a.tenant NotFound) (λ r. judged a.tenant (denied a least r ∷ []) (verdict r)) ≡ by_level r b allowed
+      by true e =
+          ap (λ (b : Bool). in_case (cond b (Some r) None) (refuse a.tenant NotFound) (λ r. judged a.tenant (denied a least r ∷ []) (verdict r))) e
+          ∙ ap (λ (b : Bool). judged a.tenant (refuse_if (not b) InsufficientAccess ∷ []) (verdict r)) has
+      by false e = ap (λ (b : Bool). in_case (cond b (Some r) None) (refuse a.tenant NotFound) (λ r. judged a.tenant (denied a least r ∷ []) (verdict r))) e
 
   -- there is none
   comes_to_none : (x : Refusal) (l : Layout) → l.object ≡ o.number → NamesNone a.tenant l key (id_in key) x → (on_named a o key least verdict).answer ≡ Err x
@@ -116,6 +115,11 @@ at_found : (n : ℕ) (x : Option Record) (r : Record) → option_and_then (λ (y
 at_found n None r e = absurd cc
 at_found n (Some s) r e = pick (is_of n s) (λ b. cond b (Some s) None ≡ Some r → ◌≡◌ {A = Option Record} (Some s) (Some r)) (λ _ h. h) (λ _ h. absurd cc) e
 
+-- a level that isn't refused is enough
+is_allowed : (b : Bool) → refuse_if (not b) InsufficientAccess ≡ None → b ≡ true
+is_allowed true e = refl
+is_allowed false e = absurd cc
+
 -- what is named, once it is found
 module _ (org : ℕ) (q : OrgPlan) (a : Asked) (name key : List ℕ) (x : Named) (is : IsNamed org q a.tenant name key x) where
   named_of : record_of_object a.tenant is.numbered.number is.id ≡ Some x.kept.item
@@ -129,8 +133,62 @@ module _ (org : ℕ) (q : OrgPlan) (a : Asked) (name key : List ℕ) (x : Named)
   pub named_there : record_at a.tenant x.kept.item.id ≡ Some x.kept.item
   named_there = ap (record_at a.tenant) named_found.same ∙ at_found is.numbered.number (record_at a.tenant is.id) x.kept.item named_of
 
-  -- a request of an administrator comes to its verdict, whatever level it needs
-  pub named_verdict : HasAll → IsSound a.tenant → a.user.admin ≡ true → (least : Level) (verdict : Numbered → Record → Verdict)
+  -- what a request on it comes to, by whether it may be read and whether the level is enough
+  comes_to_named : (least : Level) (verdict : Numbered → Record → Verdict) (readable allowed : Bool) → can_read a.tenant a.user x.kept.item ≡ readable → at_least least (level a.tenant a.user x.kept.item) ≡ allowed
+      → on_object a.tenant name (λ o. on_named a o key least (verdict o)) ≡ by_level a is.numbered key least (verdict is.numbered) x.kept.item readable allowed
+  comes_to_named least verdict readable allowed reads has =
+      ap (on_found a name key least verdict) is.there ∙ comes_to a is.numbered key least (verdict is.numbered) is.id x.kept.item is.spelled named_of readable allowed reads has
+
+  -- a request comes to its verdict, where the user has the level that it needs
+  pub named_verdict : (least : Level) → IsPermitted a least x.kept.item → (verdict : Numbered → Record → Verdict)
       → on_object a.tenant name (λ o. on_named a o key least (verdict o)) ≡ verdict is.numbered x.kept.item
-  named_verdict all sound admin least verdict =
-      ap (on_found a name key least verdict) is.there ∙ comes_to a is.numbered key least (verdict is.numbered) all sound admin is.id x.kept.item is.spelled named_of
+  named_verdict least permitted verdict = comes_to_named least verdict true true permitted.readable (is_allowed (at_least least (level a.tenant a.user x.kept.item)) permitted.allowed)
+
+  -- the level on it, by its own id
+  level_named : level_there a.tenant a.user x.layout.object x.kept.item.id ≡ level a.tenant a.user x.kept.item
+  level_named = ap (λ (r : Option Record). in_case r Nothing (level a.tenant a.user)) (ap (record_of_object a.tenant x.layout.object) named_found.same ∙ is.kept.is)
+
+  -- it is found, if the level that was read is enough
+  pub permitted : (least : Level) (whose : Whose) (m : Tables) → StandsIn org q m (Some a.tenant) → whose a.tenant a.user → (read : Result Level StoreFail)
+      → FindsFor org whose (λ t u. level_there t u x.layout.object x.kept.item.id) m read → FindsPermitted org q a name key least (permit x least read)
+  permitted least whose m stands hers (Err Damaged) finds = absurd (finds q a.tenant a.user stands hers)
+  permitted least whose m stands hers (Err Keeper) finds = λ verdict e. absurd cc
+  permitted least whose m stands hers (Err Memory) finds = λ verdict e. absurd cc
+  permitted least whose m stands hers (Ok l) finds = by (at_least Read l) refl (at_least least l) refl
+    where
+      has : l ≡ level a.tenant a.user x.kept.item
+      has = finds q a.tenant a.user stands hers ∙ level_named
+
+      at : (needs : Level) (b : Bool) → at_least needs l ≡ b → at_least needs (level a.tenant a.user x.kept.item) ≡ b
+      at needs b e = subst (λ (k : Level). at_least needs k ≡ b) has e
+
+      by : (readable : Bool) → at_least Read l ≡ readable → (allowed : Bool) → at_least least l ≡ allowed
+          → FindsPermitted org q a name key least (cond readable (cond allowed (Ok x) (Err (Refused InsufficientAccess))) (Err (Refused NotFound)))
+      by true reads true enough = (is, record { readable = at Read true reads; allowed = ap (λ (b : Bool). refuse_if (not b) InsufficientAccess) (at least true enough) })
+      by true reads false enough = λ verdict. ap (λ (v : Verdict). v.answer) (comes_to_named least verdict true false (at Read true reads) (at least false enough))
+      by false reads allowed enough = λ verdict. ap (λ (v : Verdict). v.answer) (comes_to_named least verdict false allowed (at Read false reads) (at least allowed enough))
+
+-- how it ends is how the level's reading ended
+pub permit_ends : (x : Named) (least : Level) (read : Result Level StoreFail) → ended_edit (permit x least read) ≡ ended read
+permit_ends x least (Err e) = refl
+permit_ends x least (Ok l) = by (at_least Read l) (at_least least l)
+  where
+    by : (readable allowed : Bool) → ended_edit (cond readable (cond allowed (Ok x) (Err (Refused InsufficientAccess))) (Err (Refused NotFound))) ≡ done
+    by true true = refl
+    by true false = refl
+    by false allowed = refl
+
+pub permit_fits : (org : ℕ) (x : Named) (least : Level) (read : Result Level StoreFail) → FitsNamed org x → IfOk (permit x least read) (FitsNamed org)
+permit_fits org x least (Err e) fits = tt
+permit_fits org x least (Ok l) fits = by (at_least Read l) (at_least least l)
+  where
+    by : (readable allowed : Bool) → IfOk (cond readable (cond allowed (Ok x) (Err (Refused InsufficientAccess))) (Err (Refused NotFound))) (FitsNamed org)
+    by true true = fits
+    by true false = tt
+    by false allowed = tt
+
+-- why nothing was found is why nothing is permitted
+pub permitted_passed : (org : ℕ) (q : OrgPlan) (a : Asked) (name key : List ℕ) (least : Level) (e : EditFail) (out : Result Named EditFail)
+    → IsErrAnd out (λ y. y ≡ e) → FindsNamed org q a name key (Err e) → FindsPermitted org q a name key least out
+permitted_passed org q a name key least e (Ok x) is h = absurd is
+permitted_passed org q a name key least e (Err y) is h = subst (λ (z : EditFail). FindsPermitted org q a name key least (Err z)) (sym is) (h least)

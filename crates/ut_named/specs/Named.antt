@@ -1,11 +1,12 @@
 -- The object and the record that a request names.
-use Rattle.std.specs.Prelude.{◌≡◌, ◌≢◌, ℕ, List, Option, None, Some, Result, Ok, Err}
+use Rattle.std.specs.Prelude.{◌≡◌, ◌≢◌, ℕ, true, List, Option, None, Some, Result, Ok, Err}
 use Rattle.ut_edits.specs.Edits.{FailsBy}
 use Rattle.ut_keys.specs.declared.fail.StoreFail.{StoreFail}
 use Rattle.ut_keys.specs.declared.fail.StoreFail.TheVariants.{Damaged, Memory}
+use Rattle.ut_model.specs.Levels.{can_read}
 use Rattle.ut_model.specs.Objects.{Numbered, object_named}
 use Rattle.ut_model.specs.Paths.{Asked}
-use Rattle.ut_model.specs.Rights.{on_named, record_of_object}
+use Rattle.ut_model.specs.Rights.{denied, on_named, record_of_object}
 use Rattle.ut_model.specs.Tenant.{Tenant}
 use Rattle.ut_model.specs.Verdict.{Verdict, on_object}
 use Rattle.ut_model.specs.declared.record.Record.{Record}
@@ -65,7 +66,22 @@ FindsNamed org q a name key (Ok x) = IsNamed org q a.tenant name key x
 FindsNamed org q a name key (Err e) =
     (least : Level) (verdict : Numbered → Record → Verdict) → FailsBy (on_object a.tenant name (λ o. on_named a o key least (verdict o))) e
 
--- whatever the tables have, the object is one of the organisation with this number that can be changed, and what the record's rows
+-- ---- what the user may do with it
+
+-- the user may read the record, and has this level on it
+pub record IsPermitted (a : Asked) (least : Level) (r : Record) : Type 0 where
+  pub readable : can_read a.tenant a.user r ≡ true
+  pub allowed : denied a least r ≡ None
+
+-- these are the object and the record, on which the user has this level, or why a request that needs it fails there, whatever it is
+abbrev pub FindsPermitted : (org : ℕ) → OrgPlan → Asked → (name key : List ℕ) → (least : Level) → Result Named EditFail → Type 0
+FindsPermitted org q a name key least (Ok x) = IsNamed org q a.tenant name key x × IsPermitted a least x.kept.item
+FindsPermitted org q a name key least (Err e) =
+    (verdict : Numbered → Record → Verdict) → FailsBy (on_object a.tenant name (λ o. on_named a o key least (verdict o))) e
+
+-- ---- whatever the tables have
+
+-- the object is one of the organisation with this number that can be changed, and what the record's rows
 -- are made of fits
 pub record FitsNamed (org : ℕ) (x : Named) : Type 0 where
   pub ready : IsReady org x.layout

@@ -1,8 +1,9 @@
-//! The object and the record that a request names, the record's row, and the rows of its manual shares.
+//! The object and the record that a request names, what the user may do with it, the record's row, and the rows of its manual shares.
 //!
-//! It depends on `ut_edits` and `ut_data` for what the tables have, on `ut_pivot` for what a layout converts, and on `ut_rules` for
-//! the object that a layout spells. Its contract: over tables in which the organisation's rows stand for a tenant, `find_named` finds
-//! the object with a name and its record that a text names, or fails as a request on that record does, whatever level it needs.
+//! It depends on `ut_edits` and `ut_data` for what the tables have, on `ut_rights` for the user's level on a record, on `ut_pivot` for
+//! what a layout converts, and on `ut_rules` for the object that a layout spells. Its contract: over tables in which the organisation's
+//! rows stand for a tenant, `find_permitted` finds the object with a name and its record that a text names, on which the user has the
+//! level that a request needs, or fails as that request does; and `find_named` the same, whatever level it needs.
 #![tactic(auto)]
 
 mod kept;
@@ -11,6 +12,6 @@ mod shares;
 mod usable;
 
 pub use crate::kept::{KeptRecord, kept_record};
-pub use crate::named::{Named, find_named, ready_layout};
+pub use crate::named::{Named, find_named, find_permitted, ready_layout};
 pub use crate::shares::{remove_shares, shares_of};
 pub use crate::usable::{is_ready, is_usable};

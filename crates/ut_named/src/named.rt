@@ -6,8 +6,9 @@ ghost use Rattle.ut_keeper.specs.Draft.{DraftTells, tables_of};
 ghost use Rattle.ut_model.specs.Paths.{Asked};
 ghost use Rattle.ut_model.specs.Tenant.{Tenant};
 ghost use Rattle.ut_named.specs.Kept.{FitsKept};
-ghost use Rattle.ut_named.specs.Named.{FindsNamed, FitsNamed, NamesRecord, SpellsId, record_or_none};
+ghost use Rattle.ut_named.specs.Named.{FindsNamed, FindsPermitted, FitsNamed, NamesRecord, SpellsId, record_or_none};
 ghost use Rattle.ut_named.specs.Usable.{IsReady};
+ghost use Rattle.ut_named.specs.inner.Permitting.{permit};
 ghost use Rattle.ut_stands.specs.Calls.{Calls, ended_edit};
 ghost use Rattle.ut_stands.specs.Layouts.{IsLayout};
 ghost use Rattle.ut_stands.specs.Local.{StandsIn};
@@ -22,8 +23,9 @@ use ut_keeper::{Draft, Keeper, draft_laws};
 use ut_keys::StoreFail;
 use ut_model::{Refusal, object_laws};
 use ut_pivot::pivot_laws;
+use ut_rights::{Rights, at_least, below};
 use ut_stands::{EditFail, Layout, call_laws};
-use ut_value::{Id, Text, id_in};
+use ut_value::{Id, Level, Text, id_in};
 
 /// The object and the record that a request names.
 #[derive(Drop)]
@@ -133,4 +135,51 @@ pub fn find_named<K: Keeper>(
     let layout = ready_layout(alloc, draft, org, name)?;
     let kept = named_record(alloc, draft, &layout, key)?;
     Ok(Named { layout, kept })
+}
+
+// What was found, if it may be read and the level on it is enough.
+fn permit(named: Named, least: Level, level: Result<Level, StoreFail>) -> Result<Named, EditFail>
+    ensures { result ≡ permit named least level }
+{
+    match level {
+        Ok(level) => {
+            if !at_least(Level::Read, level) {
+                return Err(EditFail::Refused(Refusal::NotFound));
+            }
+            match below(least, level) {
+                Some(refusal) => Err(EditFail::Refused(refusal)),
+                None => Ok(named),
+            }
+        }
+        Err(fail) => Err(EditFail::Store(fail)),
+    }
+}
+
+/// The object with this name, and its record that a text names, on which the user has this level.
+///
+/// # Errors
+///
+/// `Refused` as by `find_named`, with `NotFound` also if the user may not read the record, and else with `InsufficientAccess` if the
+/// level is too low. `Store` with `Keeper` if the keeper failed, `Memory` if out of memory, `Damaged` never if the organisation's rows
+/// stand for a tenant of whose user the rights are.
+pub fn find_permitted<K: Keeper, R: Rights>(
+    alloc: Global,
+    draft: &mut Draft<'_, K>,
+    rights: &R,
+    org: u32,
+    name: &Text,
+    key: &Text,
+    least: Level,
+) -> Result<Named, EditFail>
+    ensures finds { DraftTells K.state draft.old draft.new
+        → (q : OrgPlan) (a : Asked) → StandsIn org q (tables_of K.state draft.old) (Some a.tenant) → R.whose rights.now a.tenant a.user
+        → FindsPermitted org q a name.now key.now least result }
+    ensures form { IfOk result (FitsNamed org) }
+    ensures calls { Calls K.state 5 (ended_edit result) draft.old draft.new }
+{
+    draft_laws::<K>();
+    call_laws::<K>();
+    let named = find_named(alloc, draft, org, name, key)?;
+    let level = rights.level_at(alloc, draft, org, named.layout.object, &named.kept.item.id);
+    permit(named, least, level)
 }

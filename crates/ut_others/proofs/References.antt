@@ -6,8 +6,6 @@ use Rattle.std.specs.Option.{option_and_then, option_eq}
 use Rattle.std.specs.Str.{chars}
 use Rattle.ut_value.specs.Causes.{GivesOr}
 use Rattle.ut_value.specs.Values.{ref_of, same_value}
-use Rattle.ut_value.specs.declared.sharing.Level.{Level}
-use Rattle.ut_value.specs.declared.sharing.Level.TheVariants.{Full, Read}
 use Rattle.ut_value.specs.declared.value.Value.{Value}
 use Rattle.ut_value.specs.declared.value.Value.TheVariants as value
 use Rattle.ut_formula.specs.Meaning.{value_at}
@@ -21,25 +19,21 @@ use Rattle.ut_model.specs.declared.refusal.Refusal.{Refusal}
 use Rattle.ut_model.specs.declared.refusal.Refusal.TheVariants.{InvalidReference}
 use Rattle.ut_model.specs.Cases.{in_case}
 use Rattle.ut_model.specs.Edits.{bad_owner, bad_reference, is_target, same_owner}
-use Rattle.ut_model.specs.Levels.{at_least, can_read, level}
-use Rattle.ut_model.specs.Membership.{Has}
 use Rattle.ut_model.specs.Paths.{Asked}
 use Rattle.ut_model.specs.Relationships.{reference_at, target_of}
-use Rattle.ut_model.specs.Rights.{record_of_object}
 use Rattle.ut_model.specs.Rules.{Rule, first_of, first_refusal, refuse_if}
-use Rattle.ut_model.specs.Objects.{record_at}
-use Rattle.ut_model.specs.Sound.{IsSound}
 use Rattle.ut_model.specs.Tenant.{Tenant, User}
 use Rattle.ut_model.specs.World.{user_at, users_in}
+use Rattle.ut_rights.specs.Rights.{FindsFor, Whose}
 use Rattle.ut_rules.specs.Objects.{field_of_place}
 use Rattle.ut_stands.specs.declared.layout.FieldPlace.{FieldPlace}
 use Rattle.ut_stands.specs.declared.layout.Layout.{Layout}
 use Rattle.ut_stands.specs.Calls.{Calls, Ending, done, ended}
-use Rattle.ut_stands.specs.Local.{FindsIn, StandsIn}
-use Rattle.ut_stands.specs.Plan.{OrgPlan}
+use Rattle.ut_stands.specs.Layouts.{FindsOf}
+use Rattle.ut_stands.specs.Local.{FindsIn}
 use Rattle.ut_data.proofs.Ended.{IsMadeOf}
-use Rattle.ut_data.proofs.Standing.{found_of}
 use Rattle.ut_others.specs.Judged.{FindsRule}
+use Rattle.ut_others.specs.inner.Reading.{readable_there}
 use Rattle.ut_others.specs.inner.Targets.{bad_at, bad_from, changed_id, looked_for, refused_unless}
 
 -- ---- a rule, and the next
@@ -57,28 +51,35 @@ both_of rule (x ∷ xs) ys = by (both_of rule xs ys) (rule x)
     by rest None = rest
     by rest (Some refusal) = refl
 
-module _ (l : Layout) (m : Tables) where
+module _ (l : Layout) (whose : Whose) (m : Tables) where
+  -- a rule that is the same whoever asks
+  pub found_by_all : (rule : Tenant → Rule) (r : Result Rule StoreFail) → FindsOf l rule m r → FindsRule l whose (λ a. rule a.tenant) m r
+  found_by_all rule (Ok found) h = λ q a s its who. h q a.tenant s its
+  found_by_all rule (Err Damaged) h = λ q a s its who. h q a.tenant s its
+  found_by_all rule (Err Keeper) h = tt
+  found_by_all rule (Err Memory) h = tt
+
   -- the same rule in other words
-  pub found_as : (one two : Asked → Rule) → ((a : Asked) → one a ≡ two a) → (r : Result Rule StoreFail) → FindsRule l one m r → FindsRule l two m r
-  found_as one two same (Ok found) h = λ q a s its admin. h q a s its admin ∙ same a
+  pub found_as : (one two : Asked → Rule) → ((a : Asked) → one a ≡ two a) → (r : Result Rule StoreFail) → FindsRule l whose one m r → FindsRule l whose two m r
+  found_as one two same (Ok found) h = λ q a s its who. h q a s its who ∙ same a
   found_as one two same (Err Damaged) h = h
   found_as one two same (Err Keeper) h = tt
   found_as one two same (Err Memory) h = tt
 
   -- the first refuses nothing, and so it is the second
-  pub found_then : (one two : Asked → Rule) (r : Result Rule StoreFail) → FindsRule l one m (Ok None) → FindsRule l two m r → FindsRule l (λ a. first_refusal (one a ∷ two a ∷ [])) m r
+  pub found_then : (one two : Asked → Rule) (r : Result Rule StoreFail) → FindsRule l whose one m (Ok None) → FindsRule l whose two m r → FindsRule l whose (λ a. first_refusal (one a ∷ two a ∷ [])) m r
   found_then one two (Ok found) none h =
-      λ q a s its admin. h q a s its admin ∙ alone (two a) ∙ ap (λ (x : Rule). first_refusal (x ∷ two a ∷ [])) (none q a s its admin)
+      λ q a s its who. h q a s its who ∙ alone (two a) ∙ ap (λ (x : Rule). first_refusal (x ∷ two a ∷ [])) (none q a s its who)
   found_then one two (Err Damaged) none h = h
   found_then one two (Err Keeper) none h = tt
   found_then one two (Err Memory) none h = tt
 
   -- the first refuses
-  pub found_first : (one two : Asked → Rule) (refusal : Refusal) → FindsRule l one m (Ok (Some refusal)) → FindsRule l (λ a. first_refusal (one a ∷ two a ∷ [])) m (Ok (Some refusal))
-  found_first one two refusal h = λ q a s its admin. ap (λ (x : Rule). first_refusal (x ∷ two a ∷ [])) (h q a s its admin)
+  pub found_first : (one two : Asked → Rule) (refusal : Refusal) → FindsRule l whose one m (Ok (Some refusal)) → FindsRule l whose (λ a. first_refusal (one a ∷ two a ∷ [])) m (Ok (Some refusal))
+  found_first one two refusal h = λ q a s its who. ap (λ (x : Rule). first_refusal (x ∷ two a ∷ [])) (h q a s its who)
 
   -- what failed before it came to the other
-  pub failed_first : (one two : Asked → Rule) (e : StoreFail) → FindsRule l one m (Err e) → FindsRule l two m (Err e)
+  pub failed_first : (one two : Asked → Rule) (e : StoreFail) → FindsRule l whose one m (Err e) → FindsRule l whose two m (Err e)
   failed_first one two Damaged h = h
   failed_first one two Keeper h = tt
   failed_first one two Memory h = tt
@@ -102,13 +103,13 @@ module _ {K : Type 0} (state : K → KeeperState) where
   wider most_of shown most few e a b h = record { reads = most_of shown most a b (λ told. few) h.reads; stays = h.stays; cause = h.cause; quiet = h.quiet }
 
   -- a call whose rule refuses nothing, and then another
-  module _ (l : Layout) (one two : Asked → Rule) (shown later : ℕ) (a b c : Held K) (first r : Result Rule StoreFail) (was : first ≡ Ok None) (calls : Calls state shown (ended first) a b) (then : Calls state later (ended r) b c) where
-    pub both_found : TellsBoth → DraftTells state a c → (DraftTells state a b → FindsRule l one (tables_of state a) first) → (DraftTells state b c → FindsRule l two (tables_of state b) r)
-        → FindsRule l (λ x. first_refusal (one x ∷ two x ∷ [])) (tables_of state a) r
+  module _ (l : Layout) (whose : Whose) (one two : Asked → Rule) (shown later : ℕ) (a b c : Held K) (first r : Result Rule StoreFail) (was : first ≡ Ok None) (calls : Calls state shown (ended first) a b) (then : Calls state later (ended r) b c) where
+    pub both_found : TellsBoth → DraftTells state a c → (DraftTells state a b → FindsRule l whose one (tables_of state a) first) → (DraftTells state b c → FindsRule l whose two (tables_of state b) r)
+        → FindsRule l whose (λ x. first_refusal (one x ∷ two x ∷ [])) (tables_of state a) r
     both_found tells told none found =
         let tell = tells shown later a b c calls.reads then.reads told in
-        found_then l (tables_of state a) one two r (subst (λ (x : Result Rule StoreFail). FindsRule l one (tables_of state a) x) was (none tell.0))
-        (subst (λ (m : Tables). FindsRule l two m r) tell.2 (found tell.1))
+        found_then l whose (tables_of state a) one two r (subst (λ (x : Result Rule StoreFail). FindsRule l whose one (tables_of state a) x) was (none tell.0))
+        (subst (λ (m : Tables). FindsRule l whose two m r) tell.2 (found tell.1))
 
     pub both_called : CallsThen → ReadsMost → (most : ℕ) → shown + later ≤ most → Calls state most (ended r) a c
     both_called calls_then most_of most few =
@@ -126,37 +127,19 @@ undamaged : (there : Result Bool StoreFail) (name : List ℕ) → refused_unless
 undamaged (Ok there) name e = absurd cc
 undamaged (Err fail) name e = let same : fail ≡ Damaged = cc in ap (λ (f : StoreFail). Err f) same
 
-module _ (l : Layout) (m : Tables) (name : List ℕ) (there_in : OrgPlan → Option Tenant → Bool) (test : Asked → Bool) where
+module _ (l : Layout) (whose : Whose) (m : Tables) (name : List ℕ) (test : Tenant → User → Bool) where
   -- the rule that refuses what isn't there
-  pub refused_found : ((q : OrgPlan) (a : Asked) → StandsIn l.org q m (Some a.tenant) → a.user.admin ≡ true → there_in q (Some a.tenant) ≡ test a)
-      → (there : Result Bool StoreFail) → FindsIn l.org there_in m there → (r : Result Rule StoreFail) → GivesOr Memory (refused_unless name there) r
-      → FindsRule l (λ a. refuse_if (not (test a)) (InvalidReference name)) m r
-  refused_found same (Ok there) h (Ok found) is =
+  pub refused_found : (there : Result Bool StoreFail) → FindsFor l.org whose test m there → (r : Result Rule StoreFail) → GivesOr Memory (refused_unless name there) r
+      → FindsRule l whose (λ a. refuse_if (not (test a.tenant a.user)) (InvalidReference name)) m r
+  refused_found (Ok there) h (Ok found) is =
       let made : refuse_if (not there) (InvalidReference name) ≡ found = cc in
-      λ q a s its admin. sym made ∙ ap (λ (b : Bool). refuse_if (not b) (InvalidReference name)) (h q (Some a.tenant) s ∙ same q a s admin)
-  refused_found same (Err fail) h (Ok found) is = absurd cc
-  refused_found same there h (Err Damaged) (inl e) = absurd cc
-  refused_found same there h (Err Damaged) (inr e) =
-      λ q a s its. (subst (λ (x : Result Bool StoreFail). FindsIn l.org there_in m x) (undamaged there name e) h) q (Some a.tenant) s
-  refused_found same there h (Err Keeper) is = tt
-  refused_found same there h (Err Memory) is = tt
-
--- ---- records
-
--- what `ut_model` says of administrators
-abbrev pub AdministratorsRead : Type 0
-AdministratorsRead = (t : Tenant) (u : User) (r : Record) → IsSound t → u.admin ≡ true → Has t.records r → level t u r ≡ Full
-
--- an administrator reads each record that is there
-pub target_is : AdministratorsRead → (a : Asked) → IsSound a.tenant → a.user.admin ≡ true → (object : ℕ) (id : List ℕ)
-    → is_some (record_of_object a.tenant object id) ≡ is_target a object id
-target_is reads a sound admin object id = by (record_of_object a.tenant object id) refl
-  where
-    by : (x : Option Record) → record_of_object a.tenant object id ≡ x → is_some x ≡ in_case x false (can_read a.tenant a.user)
-    by None e = refl
-    by (Some r) e =
-        let found = found_of a.tenant object id r (record_at a.tenant id) refl e in
-        ap (λ (x : Level). at_least Read x) (sym (reads a.tenant a.user r sound admin found.has))
+      λ q a s its who. sym made ∙ ap (λ (b : Bool). refuse_if (not b) (InvalidReference name)) (h q a.tenant a.user s who)
+  refused_found (Err fail) h (Ok found) is = absurd cc
+  refused_found there h (Err Damaged) (inl e) = absurd cc
+  refused_found there h (Err Damaged) (inr e) =
+      λ q a s its who. (subst (λ (x : Result Bool StoreFail). FindsFor l.org whose test m x) (undamaged there name e) h) q a.tenant a.user s who
+  refused_found there h (Err Keeper) is = tt
+  refused_found there h (Err Memory) is = tt
 
 -- ---- references
 
@@ -196,22 +179,21 @@ module _ (a : Asked) (n position : ℕ) (f : FieldPlace) (old new : Record) wher
       by None = refl
       by (Some object) = of_id object (ref_of (value_at new.values position))
 
-module _ (l : Layout) (m : Tables) (position : ℕ) (f : FieldPlace) (old new : Record) (looked : Option (ℕ × List ℕ)) (it : looked ≡ looked_for f.kind position old new) where
+module _ (l : Layout) (whose : Whose) (m : Tables) (position : ℕ) (f : FieldPlace) (old new : Record) (looked : Option (ℕ × List ℕ)) (it : looked ≡ looked_for f.kind position old new) where
   judged_so : (x : Option (ℕ × List ℕ)) → looked ≡ x → (a : Asked) → in_case x None (rule_on a l.object position f old new) ≡ bad_at l.object f position old new a
   judged_so x is a = ap (λ (y : Option (ℕ × List ℕ)). in_case y None (rule_on a l.object position f old new)) (sym is ∙ it) ∙ looked_for_is a l.object position f old new
 
   -- nothing is looked for
-  pub nothing_found : looked ≡ None → FindsRule l (bad_at l.object f position old new) m (Ok None)
-  nothing_found none = λ q a s its admin. judged_so None none a
+  pub nothing_found : looked ≡ None → FindsRule l whose (bad_at l.object f position old new) m (Ok None)
+  nothing_found none = λ q a s its who. judged_so None none a
 
   -- a record was looked for
-  pub reference_found : AdministratorsRead → (object : ℕ) (id : List ℕ) → looked ≡ Some (object, id)
-      → (there : Result Bool StoreFail) → FindsIn l.org (λ q t. is_some (option_and_then (λ u. record_of_object u object id) t)) m there
-      → (r : Result Rule StoreFail) → GivesOr Memory (refused_unless f.name there) r → FindsRule l (bad_at l.object f position old new) m r
-  reference_found reads object id is there h r given =
-      found_as l m (λ a. refuse_if (not (is_target a object id)) (InvalidReference f.name)) (bad_at l.object f position old new) (judged_so (Some (object, id)) is) r
-      (refused_found l m f.name (λ q t. is_some (option_and_then (λ u. record_of_object u object id) t)) (λ a. is_target a object id)
-      (λ q a s admin. target_is reads a s.sound admin object id) there h r given)
+  pub reference_found : (object : ℕ) (id : List ℕ) → looked ≡ Some (object, id)
+      → (there : Result Bool StoreFail) → FindsFor l.org whose (λ t u. readable_there t u object id) m there
+      → (r : Result Rule StoreFail) → GivesOr Memory (refused_unless f.name there) r → FindsRule l whose (bad_at l.object f position old new) m r
+  reference_found object id is there h r given =
+      found_as l whose m (λ a. refuse_if (not (is_target a object id)) (InvalidReference f.name)) (bad_at l.object f position old new) (judged_so (Some (object, id)) is) r
+      (refused_found l whose m f.name (λ t u. readable_there t u object id) there h r given)
 
 -- one field more
 pub more_fields : (a : Asked) (n position : ℕ) (f : FieldPlace) (fs : List FieldPlace) (old new : Record)
@@ -219,12 +201,12 @@ pub more_fields : (a : Asked) (n position : ℕ) (f : FieldPlace) (fs : List Fie
 more_fields a n position f fs old new =
     both_of (bad_reference a old new) (reference_at n (position, field_of_place f)) (flat_map (reference_at n) (enumerate_from (position + 1) (map field_of_place fs)))
 
-pub next_found : (l : Layout) (m : Tables) (position : ℕ) (fields : List FieldPlace) (f : FieldPlace) (fs : List FieldPlace) (old new : Record) (r : Result Rule StoreFail) → fields ≡ f ∷ fs
-    → FindsRule l (λ a. first_refusal (bad_at l.object f position old new a ∷ bad_from l.object fs (position + 1) old new a ∷ [])) m r
-    → FindsRule l (bad_from l.object fields position old new) m r
-next_found l m position fields f fs old new r are h =
-    subst (λ (gs : List FieldPlace). FindsRule l (bad_from l.object gs position old new) m r) (sym are)
-    (found_as l m (λ a. first_refusal (bad_at l.object f position old new a ∷ bad_from l.object fs (position + 1) old new a ∷ [])) (bad_from l.object (f ∷ fs) position old new)
+pub next_found : (l : Layout) (whose : Whose) (m : Tables) (position : ℕ) (fields : List FieldPlace) (f : FieldPlace) (fs : List FieldPlace) (old new : Record) (r : Result Rule StoreFail) → fields ≡ f ∷ fs
+    → FindsRule l whose (λ a. first_refusal (bad_at l.object f position old new a ∷ bad_from l.object fs (position + 1) old new a ∷ [])) m r
+    → FindsRule l whose (bad_from l.object fields position old new) m r
+next_found l whose m position fields f fs old new r are h =
+    subst (λ (gs : List FieldPlace). FindsRule l whose (bad_from l.object gs position old new) m r) (sym are)
+    (found_as l whose m (λ a. first_refusal (bad_at l.object f position old new a ∷ bad_from l.object fs (position + 1) old new a ∷ [])) (bad_from l.object (f ∷ fs) position old new)
     (λ a. more_fields a l.object position f fs old new) r h)
 
 -- ---- owners
@@ -235,16 +217,27 @@ owner_text = refl
 
 module _ (l : Layout) (m : Tables) (old new : Record) where
   -- the owner stays
-  pub owner_stays : same_owner old new ≡ true → FindsRule l (λ a. bad_owner a.tenant old new) m (Ok None)
+  pub owner_stays : same_owner old new ≡ true → FindsOf l (λ t. bad_owner t old new) m (Ok None)
   owner_stays same =
-      λ q a s its admin. ap (λ (b : Bool). refuse_if (not b && is_none (option_and_then (user_at a.tenant.users) new.owner)) (InvalidReference (codes "OwnerId"))) (sym same)
+      λ q t s its. ap (λ (b : Bool). refuse_if (not b && is_none (option_and_then (user_at t.users) new.owner)) (InvalidReference (codes "OwnerId"))) (sym same)
 
   -- a user was looked for
   pub owner_found : same_owner old new ≡ false
       → (there : Result Bool StoreFail) → FindsIn l.org (λ q t. is_some (option_and_then (user_at (users_in t)) new.owner)) m there
-      → (r : Result Rule StoreFail) → GivesOr Memory (refused_unless (chars (codes "OwnerId")) there) r → FindsRule l (λ a. bad_owner a.tenant old new) m r
-  owner_found other there h r given =
-      found_as l m (λ a. refuse_if (not (is_some (option_and_then (user_at a.tenant.users) new.owner))) (InvalidReference (codes "OwnerId"))) (λ a. bad_owner a.tenant old new)
-      (λ a. ap (λ (b : Bool). refuse_if (not b && is_none (option_and_then (user_at a.tenant.users) new.owner)) (InvalidReference (codes "OwnerId"))) (sym other)) r
-      (refused_found l m (codes "OwnerId") (λ q t. is_some (option_and_then (user_at (users_in t)) new.owner)) (λ a. is_some (option_and_then (user_at a.tenant.users) new.owner))
-      (λ q a s admin. refl) there h r (subst (λ (name : List ℕ). GivesOr Memory (refused_unless name there) r) owner_text given))
+      → (r : Result Rule StoreFail) → GivesOr Memory (refused_unless (chars (codes "OwnerId")) there) r → FindsOf l (λ t. bad_owner t old new) m r
+  owner_found other there h r given = by there h r (subst (λ (name : List ℕ). GivesOr Memory (refused_unless name there) r) owner_text given)
+    where
+      judged_as : (t : Tenant) → refuse_if (not (is_some (option_and_then (user_at t.users) new.owner))) (InvalidReference (codes "OwnerId")) ≡ bad_owner t old new
+      judged_as t = ap (λ (b : Bool). refuse_if (not b && is_none (option_and_then (user_at t.users) new.owner)) (InvalidReference (codes "OwnerId"))) (sym other)
+
+      by : (there : Result Bool StoreFail) → FindsIn l.org (λ q t. is_some (option_and_then (user_at (users_in t)) new.owner)) m there
+          → (r : Result Rule StoreFail) → GivesOr Memory (refused_unless (codes "OwnerId") there) r → FindsOf l (λ t. bad_owner t old new) m r
+      by (Ok there) h (Ok found) is =
+          let made : refuse_if (not there) (InvalidReference (codes "OwnerId")) ≡ found = cc in
+          λ q t s its. sym made ∙ ap (λ (b : Bool). refuse_if (not b) (InvalidReference (codes "OwnerId"))) (h q (Some t) s) ∙ judged_as t
+      by (Err fail) h (Ok found) is = absurd cc
+      by there h (Err Damaged) (inl e) = absurd cc
+      by there h (Err Damaged) (inr e) =
+          λ q t s its. (subst (λ (x : Result Bool StoreFail). FindsIn l.org (λ q t. is_some (option_and_then (user_at (users_in t)) new.owner)) m x) (undamaged there (codes "OwnerId") e) h) q (Some t) s
+      by there h (Err Keeper) is = tt
+      by there h (Err Memory) is = tt

@@ -1,3 +1,4 @@
 pub mod Judged
+pub mod References
 pub mod Uniques
 pub mod inner

@@ -1,3 +1,4 @@
 -- Words of private functions.
 pub mod Clashes
+pub mod Reading
 pub mod Targets

@@ -1,6 +1,6 @@
 //! References that are to lead to something.
 
-ghost use Rattle.std.specs.Prelude.{◌≡◌, ◌+◌, ◌≤◌, Err, IfErr, bytes_eq, is_some, length};
+ghost use Rattle.std.specs.Prelude.{◌≡◌, ◌+◌, ◌*◌, ◌≤◌, Err, IfErr, bytes_eq, is_some, length};
 ghost use Rattle.std.specs.Option.{option_and_then};
 ghost use Rattle.std.specs.Str.{chars};
 ghost use Rattle.ut_formula.specs.Meaning.{value_at};
@@ -10,18 +10,22 @@ ghost use Rattle.ut_model.specs.Edits.{bad_owner, bad_target, same_owner};
 ghost use Rattle.ut_model.specs.Relationships.{target_of};
 ghost use Rattle.ut_model.specs.World.{user_at, users_in};
 ghost use Rattle.ut_others.specs.Judged.{FindsRule};
+ghost use Rattle.ut_others.specs.References.{named_at};
 ghost use Rattle.ut_others.specs.inner.Targets.{bad_at, bad_from, changed_id, looked_for, refused_unless};
+ghost use Rattle.ut_rights.specs.Rights.{level_shown};
 ghost use Rattle.ut_rules.specs.Objects.{numbered_in};
 ghost use Rattle.ut_stands.specs.Calls.{Calls, ended};
+ghost use Rattle.ut_stands.specs.Layouts.{FindsOf};
 ghost use Rattle.ut_stands.specs.Local.{FindsIn};
 ghost use Rattle.ut_value.specs.Causes.{GivesOr};
 ghost use Rattle.ut_value.specs.Values.{ref_of};
 
+use crate::reading::is_readable;
 use std::alloc::Global;
-use ut_data::has_record;
 use ut_keeper::{Draft, Keeper, draft_laws};
 use ut_keys::StoreFail;
-use ut_model::{Record, Refusal, administrator_laws};
+use ut_model::{Record, Refusal};
+use ut_rights::Rights;
 use ut_stands::{FieldPlace, Layout, call_laws, user};
 use ut_value::{FieldType, Id, Text, Value};
 
@@ -55,7 +59,16 @@ fn id_at(whose: &Record, position: usize) -> Option<Id>
     }
 }
 
-// The same, unless it is the id to which the old record's refers.
+/// The object and the id to which a record's value at a position refers, by the type of its field.
+pub fn named_at(kind: &FieldType, position: usize, whose: &Record) -> Option<(u16, Id)>
+    ensures { result ≡ named_at kind.now position whose.now }
+{
+    let object = target_of(kind)?;
+    let id = id_at(whose, position)?;
+    Some((object, id))
+}
+
+// The id at a position, unless it is the id to which the old record's value refers.
 fn changed_id(position: usize, old: &Record, new: &Record) -> Option<Id>
     ensures { result ≡ changed_id position old.now new.now }
 {
@@ -95,10 +108,11 @@ fn refused_unless(
     }
 }
 
-// The refusal of a field's new value, if it is a reference that changes to what isn't there.
-fn bad_reference<K: Keeper>(
+// The refusal of a field's new value, if it is a reference that changes to what isn't there or can't be read.
+fn bad_reference<K: Keeper, R: Rights>(
     alloc: Global,
     draft: &mut Draft<'_, K>,
+    rights: &R,
     layout: &Layout,
     field: &FieldPlace,
     position: usize,
@@ -106,25 +120,26 @@ fn bad_reference<K: Keeper>(
     new: &Record,
 ) -> Result<Option<Refusal>, StoreFail>
     ensures finds { DraftTells K.state draft.old draft.new
-        → FindsRule layout.now (bad_at layout.now.object field.now position old.now new.now) (tables_of K.state draft.old) result }
-    ensures calls { Calls K.state 1 (ended result) draft.old draft.new }
+        → FindsRule layout.now (R.whose rights.now) (bad_at layout.now.object field.now position old.now new.now)
+        (tables_of K.state draft.old) result }
+    ensures calls { Calls K.state level_shown (ended result) draft.old draft.new }
 {
-    administrator_laws();
     draft_laws::<K>();
     call_laws::<K>();
     match &looked_for(&field.kind, position, old, new) {
         None => Ok(None),
         Some((object, id)) => {
-            let there = has_record(alloc, draft, layout.org, *object, id);
+            let there = is_readable(alloc, draft, rights, layout.org, *object, id);
             refused_unless(alloc, field.name.as_str(), there)
         }
     }
 }
 
 // The same of the first of these fields that is one, where the first of them is at this position.
-fn bad_references<K: Keeper>(
+fn bad_references<K: Keeper, R: Rights>(
     alloc: Global,
     draft: &mut Draft<'_, K>,
+    rights: &R,
     layout: &Layout,
     fields: &[FieldPlace],
     position: usize,
@@ -133,16 +148,17 @@ fn bad_references<K: Keeper>(
 ) -> Result<Option<Refusal>, StoreFail>
     requires { position + length fields.now ≤ usize.MAX }
     ensures finds { DraftTells K.state draft.old draft.new
-        → FindsRule layout.now (bad_from layout.now.object fields.now position old.now new.now) (tables_of K.state draft.old) result }
-    ensures calls { Calls K.state (length fields.now) (ended result) draft.old draft.new }
+        → FindsRule layout.now (R.whose rights.now) (bad_from layout.now.object fields.now position old.now new.now)
+        (tables_of K.state draft.old) result }
+    ensures calls { Calls K.state (level_shown * length fields.now) (ended result) draft.old draft.new }
 {
     draft_laws::<K>();
     call_laws::<K>();
     let Some((field, rest)) = fields.split_first() else {
         return Ok(None);
     };
-    match bad_reference(alloc, draft, layout, field, position, old, new) {
-        Ok(None) => bad_references(alloc, draft, layout, rest, position + 1, old, new),
+    match bad_reference(alloc, draft, rights, layout, field, position, old, new) {
+        Ok(None) => bad_references(alloc, draft, rights, layout, rest, position + 1, old, new),
         Ok(Some(refusal)) => Ok(Some(refusal)),
         Err(fail) => Err(fail),
     }
@@ -169,7 +185,7 @@ fn has_owner<K: Keeper>(
     }
 }
 
-// The refusal of the owner, if it changes to one that isn't there.
+// The refusal of the owner, if it changes to one that isn't there, whoever asks.
 fn bad_owner<K: Keeper>(
     alloc: Global,
     draft: &mut Draft<'_, K>,
@@ -178,7 +194,7 @@ fn bad_owner<K: Keeper>(
     new: &Record,
 ) -> Result<Option<Refusal>, StoreFail>
     ensures finds { DraftTells K.state draft.old draft.new
-        → FindsRule layout.now (λ a. bad_owner a.tenant old.now new.now) (tables_of K.state draft.old) result }
+        → FindsOf layout.now (λ t. bad_owner t old.now new.now) (tables_of K.state draft.old) result }
     ensures calls { Calls K.state 0 (ended result) draft.old draft.new }
 {
     call_laws::<K>();
@@ -190,27 +206,38 @@ fn bad_owner<K: Keeper>(
 }
 
 /// INVALID_CROSS_REFERENCE_KEY: the refusal of a record's owner, or else of the first of its references, in the order of the
-/// fields, that changes to what isn't there, if there is one. An administrator reads all that is there.
+/// fields, that changes to what isn't there, or can't be read by whose rights these are, if there is one.
 ///
 /// # Errors
 ///
 /// `Keeper` if the keeper failed, `Memory` if out of memory, `Damaged` never if the organisation's rows stand for a tenant whose
-/// layout it is.
-pub fn bad_target<K: Keeper>(
+/// layout it is and of whose user the rights are.
+pub fn bad_target<K: Keeper, R: Rights>(
     alloc: Global,
     draft: &mut Draft<'_, K>,
+    rights: &R,
     layout: &Layout,
     old: &Record,
     new: &Record,
 ) -> Result<Option<Refusal>, StoreFail>
     ensures finds { DraftTells K.state draft.old draft.new
-        → FindsRule layout.now (λ a. bad_target a (numbered_in layout.now) old.now new.now) (tables_of K.state draft.old) result }
-    ensures calls { Calls K.state (length layout.now.fields) (ended result) draft.old draft.new }
+        → FindsRule layout.now (R.whose rights.now) (λ a. bad_target a (numbered_in layout.now) old.now new.now)
+        (tables_of K.state draft.old) result }
+    ensures calls { Calls K.state (level_shown * length layout.now.fields) (ended result) draft.old draft.new }
 {
     draft_laws::<K>();
     call_laws::<K>();
     match bad_owner(alloc, draft, layout, old, new) {
-        Ok(None) => bad_references(alloc, draft, layout, layout.fields.as_slice(), 1, old, new),
+        Ok(None) => bad_references(
+            alloc,
+            draft,
+            rights,
+            layout,
+            layout.fields.as_slice(),
+            1,
+            old,
+            new,
+        ),
         Ok(Some(refusal)) => Ok(Some(refusal)),
         Err(fail) => Err(fail),
     }

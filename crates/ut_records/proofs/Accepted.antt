@@ -1,5 +1,5 @@
 -- An update is accepted where none of its rules refuses it, and refused by the first that does.
-use Rattle.std.proofs.Common.{◌≡◌, ◌∙◌, ℕ, true, not, cond, List, [], ◌∷◌, ◌++◌, Option, Some, None, refl, sym, ap, subst}
+use Rattle.std.proofs.Common.{◌≡◌, ◌∙◌, ℕ, List, [], ◌∷◌, ◌++◌, Option, Some, None, refl, sym, ap, subst}
 use Rattle.std.specs.Prelude.{Result, Ok, Err, IsErrAnd}
 use Rattle.ut_edits.specs.Edits.{FailsBy}
 use Rattle.ut_keeper.specs.Draft.{Held}
@@ -9,18 +9,13 @@ use Rattle.ut_model.specs.Cases.{in_case}
 use Rattle.ut_model.specs.declared.record.Record.{Record}
 use Rattle.ut_model.specs.declared.record_bodies.Assignment.{Assignment}
 use Rattle.ut_model.specs.declared.refusal.Refusal.{Refusal}
-use Rattle.ut_model.specs.declared.refusal.Refusal.TheVariants.{InsufficientAccess}
-use Rattle.ut_model.specs.Edits.{bad_target, bad_value, duplicate, required_missing, same_owner, validation_failed}
-use Rattle.ut_model.specs.Keys.{Key, bad_fields, with_key}
-use Rattle.ut_model.specs.Levels.{at_least}
-use Rattle.ut_model.specs.Membership.{Has}
+use Rattle.ut_model.specs.Edits.{bad_target, duplicate, validation_failed}
+use Rattle.ut_model.specs.Keys.{Key}
 use Rattle.ut_model.specs.Objects.{Numbered}
 use Rattle.ut_model.specs.Paths.{Asked}
-use Rattle.ut_model.specs.Rights.{denied}
-use Rattle.ut_model.specs.Rules.{Rule, first_refusal, refuse_if}
-use Rattle.ut_model.specs.Sound.{IsSound}
+use Rattle.ut_model.specs.Rules.{Rule, first_refusal}
 use Rattle.ut_model.specs.Tenant.{Object}
-use Rattle.ut_model.specs.Updates.{master_changed, owner_denied, retype_conflict, update_on, update_rules, with_changed}
+use Rattle.ut_model.specs.Updates.{master_changed, retype_conflict, update_on, update_rules, with_changed}
 use Rattle.ut_model.specs.Verdict.{accept}
 use Rattle.ut_rules.specs.Failing.{rule_failed}
 use Rattle.ut_rules.specs.Objects.{object_of_layout}
@@ -29,18 +24,14 @@ use Rattle.ut_stands.specs.declared.fail.EditFail.{EditFail}
 use Rattle.ut_stands.specs.declared.fail.EditFail.TheVariants.{Refused, Store}
 use Rattle.ut_stands.specs.declared.layout.Layout.{Layout}
 use Rattle.ut_stands.specs.Plan.{OrgPlan}
-use Rattle.ut_value.specs.declared.sharing.Level.{Level}
-use Rattle.ut_value.specs.declared.sharing.Level.TheVariants.{Full}
 use Rattle.ut_records.specs.declared.updating.Altered.{Altered}
 use Rattle.ut_records.specs.inner.Altered.{AdmitsAltered, altered_rules}
 use Rattle.ut_records.specs.Creating.{IsObject}
 use Rattle.ut_records.specs.Updating.{answered_changed}
-use Rattle.ut_records.specs.inner.Giving.{Alters, altered, given_rules}
+use Rattle.ut_records.specs.inner.Giving.{Changes, altered, changed_rules}
 use Rattle.ut_records.specs.inner.Updated.{IsAltered, Updates}
-use Rattle.ut_records.proofs.Accepting.{first_stays, first_then, refused_by}
-use Rattle.ut_records.proofs.GivenRules.{alters_there}
-use Rattle.ut_named.proofs.Facts.{pick}
-use Rattle.ut_named.proofs.Naming.{HasAll}
+use Rattle.ut_records.proofs.FirstRules.{first_stays, first_then, refused_by}
+use Rattle.ut_records.proofs.GivenRules.{changes_there}
 use Rattle.ut_named.proofs.Spelled.{plain, spelled}
 
 -- ---- rules over the object that a layout spells
@@ -51,29 +42,21 @@ behind a o own old new = bad_target a o old new ∷ master_changed a.tenant o ol
 behind_plain : (a : Asked) (o : Numbered) (own : Rule) (old new : Record) → behind a (plain o) own old new ≡ behind a o own old new
 behind_plain a o own old new = refl
 
-skip : (first second : Rule) (rest : List Rule) → first_refusal (first ∷ second ∷ None ∷ rest) ≡ first_refusal (first ∷ second ∷ rest)
-skip (Some x) second rest = refl
-skip None (Some x) rest = refl
-skip None None rest = refl
-
 -- ---- what judging finds
 
 module _ (a : Asked) (o : Numbered) (key : Option Key) (given : List Assignment) (old : Record) (l : Layout) where
   abbrev then : Record
   then = altered a o.object key given old
 
+  abbrev first_rules : (new : Record) → List Rule
+  first_rules new = changed_rules a o.object key given old new
+
   -- it is passed on
   pub update_passed : (e : EditFail) (out : Result Altered EditFail) → IsErrAnd out (λ y. y ≡ e) → FailsBy (update_on a o key given old) e → Updates l.org a o key given old out
   update_passed e (Ok x) is h = absurd is
   update_passed e (Err y) is h = subst (FailsBy (update_on a o key given old)) (sym is) h
 
-  module _ (q : OrgPlan) (at : IsObject l.org q a.tenant o l) (all : HasAll) (sound : IsSound a.tenant) (admin : a.user.admin ≡ true) (has : Has a.tenant.records old) where
-    -- an administrator may give it another owner
-    owner_free : (new : Record) → owner_denied a old new ≡ None
-    owner_free new =
-        pick (same_owner old new) (λ b. cond b None (denied a Full old) ≡ None) (λ _. refl)
-        (λ _. ap (λ (l : Level). refuse_if (not (at_least Full l)) InsufficientAccess) (all a.tenant a.user old sound admin has))
-
+  module _ (q : OrgPlan) (at : IsObject l.org q a.tenant o l) where
     behind_is : (new : Record) → altered_rules l old new a ≡ behind a o (validation_failed a o.object new (Some old)) old new
     behind_is new =
         ap (λ (l : Layout). altered_rules l old new a) at.layout
@@ -81,31 +64,28 @@ module _ (a : Asked) (o : Numbered) (key : Option Key) (given : List Assignment)
         ∙ (behind_plain a o (rule_failed a o.number new (Some old) a.tenant) old new
         ∙ ap (λ (at : Option Object). behind a o (in_case at None (λ v. validation_failed a v new (Some old))) old new) at.there))
 
-    rules_are : (new : Record) → first_refusal (update_rules a o key given old new) ≡ first_refusal (given_rules a.tenant o.object key given new ++ altered_rules l old new a)
-    rules_are new =
-        let all = with_key key given in
-        let rest = required_missing o.object new ∷ behind a o (validation_failed a o.object new (Some old)) old new in
-        ap (λ (r : Rule). first_refusal (bad_fields a.tenant o.object key given ∷ bad_value a.tenant o.object all ∷ r ∷ rest)) (owner_free new)
-        ∙ skip (bad_fields a.tenant o.object key given) (bad_value a.tenant o.object all) rest
-        ∙ ap (λ (rules : List Rule). first_refusal (given_rules a.tenant o.object key given new ++ rules)) (sym (behind_is new))
+    rules_are : (new : Record) → update_rules a o key given old new ≡ first_rules new ++ altered_rules l old new a
+    rules_are new = ap (λ (rules : List Rule). first_rules new ++ rules) (sym (behind_is new))
 
-    refused_so : (r : Refusal) → Some r ≡ first_refusal (given_rules a.tenant o.object key given then ++ altered_rules l old then a) → (update_on a o key given old).answer ≡ Err r
-    refused_so r h = refused_by r (first_refusal (update_rules a o key given old then)) a.tenant (accept (answered_changed key old.id) (with_changed old then a.tenant)) (h ∙ sym (rules_are then))
+    refused_so : (r : Refusal) → Some r ≡ first_refusal (first_rules then ++ altered_rules l old then a) → (update_on a o key given old).answer ≡ Err r
+    refused_so r h =
+        refused_by r (first_refusal (update_rules a o key given old then)) a.tenant (accept (answered_changed key old.id) (with_changed old then a.tenant))
+        (h ∙ sym (ap first_refusal (rules_are then)))
 
-    alters_of : (r : Result Record EditFail) → Alters a (object_of_layout l) key given old r → Alters a o.object key given old r
-    alters_of r h = alters_there l.org q a o l key given old r at.layout h
+    changes_of : (r : Result Record EditFail) → Changes a (object_of_layout l) key given old r → Changes a o.object key given old r
+    changes_of r h = changes_there l.org q a o l key given old r at.layout h
 
-    pub unaltered : (r : Result Record EditFail) (e : EditFail) → Alters a (object_of_layout l) key given old r → r ≡ Err e → FailsBy (update_on a o key given old) e
-    unaltered r e h was = by e (subst (Alters a o.object key given old) was (alters_of r h))
+    pub unaltered : (r : Result Record EditFail) (e : EditFail) → Changes a (object_of_layout l) key given old r → r ≡ Err e → FailsBy (update_on a o key given old) e
+    unaltered r e h was = by e (subst (Changes a o.object key given old) was (changes_of r h))
       where
-        by : (e : EditFail) → Alters a o.object key given old (Err e) → FailsBy (update_on a o key given old) e
-        by (Refused y) h = refused_so y (first_stays y (given_rules a.tenant o.object key given then) (altered_rules l old then a) h)
+        by : (e : EditFail) → Changes a o.object key given old (Err e) → FailsBy (update_on a o key given old) e
+        by (Refused y) h = refused_so y (first_stays y (first_rules then) (altered_rules l old then a) h)
         by (Store f) h = h
 
     -- the record that no rule on what is given refuses
-    module _ (made : Result Record EditFail) (new : Record) (alters : Alters a (object_of_layout l) key given old made) (was : made ≡ Ok new) where
-      so : (None ≡ first_refusal (given_rules a.tenant o.object key given then)) × (new ≡ then)
-      so = subst (Alters a o.object key given old) was (alters_of made alters)
+    module _ (made : Result Record EditFail) (new : Record) (changes : Changes a (object_of_layout l) key given old made) (was : made ≡ Ok new) where
+      so : (None ≡ first_refusal (first_rules then)) × (new ≡ then)
+      so = subst (Changes a o.object key given old) was (changes_of made changes)
 
       pub unadmitted_too : (r : Result (List ShareRow) EditFail) (e : EditFail) → AdmitsAltered a l old new r → r ≡ Err e → FailsBy (update_on a o key given old) e
       unadmitted_too r e h gave = by e (subst (AdmitsAltered a l old new) gave h)
@@ -113,7 +93,7 @@ module _ (a : Asked) (o : Numbered) (key : Option Key) (given : List Assignment)
           by : (e : EditFail) → AdmitsAltered a l old new (Err e) → FailsBy (update_on a o key given old) e
           by (Refused y) h =
               refused_so y (subst (λ (z : Record). Some y ≡ first_refusal (altered_rules l old z a)) so.1 h
-              ∙ sym (first_then (given_rules a.tenant o.object key given then) (altered_rules l old then a) so.0))
+              ∙ sym (first_then (first_rules then) (altered_rules l old then a) so.0))
           by (Store f) h = h
 
       pub accepted : (r : Result (List ShareRow) EditFail) (shares : List ShareRow) → AdmitsAltered a l old new r → r ≡ Ok shares → IsAltered l.org a o key given old (record { new = new; shares = shares })
@@ -122,8 +102,8 @@ module _ (a : Asked) (o : Numbered) (key : Option Key) (given : List Assignment)
           record {
             new = so.1;
             free = admits.0
-                ∙ sym (first_then (given_rules a.tenant o.object key given new) (altered_rules l old new a) (subst (λ (z : Record). None ≡ first_refusal (given_rules a.tenant o.object key given z)) (sym so.1) so.0))
-                ∙ sym (rules_are new);
+                ∙ sym (first_then (first_rules new) (altered_rules l old new a) (subst (λ (z : Record). None ≡ first_refusal (first_rules z)) (sym so.1) so.0))
+                ∙ sym (ap first_refusal (rules_are new));
             shares = admits.1;
           }
 

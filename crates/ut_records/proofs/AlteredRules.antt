@@ -8,20 +8,22 @@ use Rattle.ut_model.specs.declared.record.Record.{Record}
 use Rattle.ut_model.specs.declared.refusal.Refusal.{Refusal}
 use Rattle.ut_model.specs.Rules.{Rule, first_refusal}
 use Rattle.ut_others.specs.Judged.{FindsRule}
+use Rattle.ut_rights.specs.Rights.{Whose}
+use Rattle.ut_stands.specs.Layouts.{FindsOf}
 use Rattle.ut_stands.specs.declared.layout.Layout.{Layout}
 use Rattle.ut_records.specs.inner.Altered.{kept_rules}
 use Rattle.ut_records.specs.inner.Judged.{own_rules}
 use Rattle.ut_records.specs.inner.Staying.{staying_rules}
-use Rattle.ut_records.proofs.Accepting.{first_stays, first_then}
+use Rattle.ut_records.proofs.FirstRules.{first_stays, first_then}
 
-module _ (l : Layout) (old new : Record) (m : Tables) where
+module _ (l : Layout) (whose : Whose) (old new : Record) (m : Tables) where
   -- the rules on what the record keeps refuse nothing, and so it is those behind them
-  pub kept_then : (r : Result Rule StoreFail) → FindsRule l (λ a. first_refusal (staying_rules l old new a)) m (Ok None) → FindsRule l (λ a. first_refusal (own_rules l (Some old) new a)) m r
-      → FindsRule l (λ a. first_refusal (kept_rules l old new a)) m r
-  kept_then (Ok found) none h = λ q a s its admin. h q a s its admin ∙ sym (first_then (staying_rules l old new a) (own_rules l (Some old) new a) (none q a s its admin))
+  pub kept_then : (r : Result Rule StoreFail) → FindsOf l (λ t. first_refusal (staying_rules l old new t)) m (Ok None) → FindsRule l whose (λ a. first_refusal (own_rules l (Some old) new a)) m r
+      → FindsRule l whose (λ a. first_refusal (kept_rules l old new a)) m r
+  kept_then (Ok found) none h = λ q a s its who. h q a s its who ∙ sym (first_then (staying_rules l old new a.tenant) (own_rules l (Some old) new a) (none q a.tenant s its))
   kept_then (Err Damaged) none h = h
   kept_then (Err Keeper) none h = tt
   kept_then (Err Memory) none h = tt
 
-  pub kept_first : (refusal : Refusal) → FindsRule l (λ a. first_refusal (staying_rules l old new a)) m (Ok (Some refusal)) → FindsRule l (λ a. first_refusal (kept_rules l old new a)) m (Ok (Some refusal))
-  kept_first refusal h = λ q a s its admin. first_stays refusal (staying_rules l old new a) (own_rules l (Some old) new a) (h q a s its admin)
+  pub kept_first : (refusal : Refusal) → FindsOf l (λ t. first_refusal (staying_rules l old new t)) m (Ok (Some refusal)) → FindsRule l whose (λ a. first_refusal (kept_rules l old new a)) m (Ok (Some refusal))
+  kept_first refusal h = λ q a s its who. first_stays refusal (staying_rules l old new a.tenant) (own_rules l (Some old) new a) (h q a.tenant s its)

@@ -1,6 +1,6 @@
 -- What is given to a record, judged.
 use Rattle.std.proofs.Common.{◌≡◌, ◌∙◌, ℕ, Bool, true, false, ◌&&◌, IsTrue, List, [], ◌∷◌, map, Option, Some, None, refl, sym, ap, subst}
-use Rattle.std.specs.Prelude.{Result, Ok, Err}
+use Rattle.std.specs.Prelude.{Result, Ok, Err, IsErrAnd}
 use Rattle.std.specs.List.{list_all}
 use Rattle.ut_data.specs.Decoding.{kinds_in}
 use Rattle.ut_given.specs.declared.key.AllGiven.{AllGiven}
@@ -19,6 +19,7 @@ use Rattle.ut_model.specs.Paths.{Asked}
 use Rattle.ut_model.specs.Rules.{Rule, first_refusal}
 use Rattle.ut_model.specs.SoundRecords.{all_valid, kinds_of}
 use Rattle.ut_model.specs.Tenant.{Object}
+use Rattle.ut_model.specs.Updates.{owner_denied}
 use Rattle.ut_rules.specs.Objects.{field_of_place, numbered_in, object_of_layout}
 use Rattle.ut_sound.specs.Fit.{ReadsWell}
 use Rattle.ut_stands.specs.declared.fail.EditFail.{EditFail}
@@ -30,7 +31,8 @@ use Rattle.ut_stands.specs.Plan.{OrgPlan}
 use Rattle.ut_value.specs.declared.value.FieldType.{FieldType}
 use Rattle.ut_value.specs.declared.value.FieldType.TheVariants as type
 use Rattle.ut_named.proofs.Spelled.{plain, spelled}
-use Rattle.ut_records.specs.inner.Giving.{Alters, Lacks, altered, given_rules}
+use Rattle.ut_records.specs.inner.Giving.{Alters, Changes, Gives, Lacks, altered, changed_rules, given_rules, value_rules}
+use Rattle.ut_records.proofs.FirstRules.{first_passes, first_refuses, first_stays, first_then, none_behind, none_first}
 
 -- ---- what is in JSON finds no record
 
@@ -69,53 +71,99 @@ pub nothing_there : {A : Type 0} (x : Option A) → ((y : A) → x ≡ Some y �
 nothing_there None h = refl
 nothing_there (Some y) h = absurd (h y refl)
 
-given_value : (fields value missing : Rule) (r : Refusal) → None ≡ fields → value ≡ Some r → Some r ≡ first_refusal (fields ∷ value ∷ missing ∷ [])
-given_value None (Some x) missing r e h = sym h
-given_value None None missing r e h = absurd cc
-given_value (Some x) value missing r e h = absurd cc
+value_first : (fields value : Rule) (r : Refusal) → None ≡ fields → value ≡ Some r → Some r ≡ first_refusal (fields ∷ value ∷ [])
+value_first None (Some x) r e h = sym h
+value_first None None r e h = absurd cc
+value_first (Some x) value r e h = absurd cc
 
-given_missing : (fields value missing : Rule) (r : Refusal) → None ≡ fields → value ≡ None → Some r ≡ missing → Some r ≡ first_refusal (fields ∷ value ∷ missing ∷ [])
-given_missing None None (Some x) r e v h = h
-given_missing None None None r e v h = absurd cc
-given_missing None (Some y) missing r e v h = absurd cc
-given_missing (Some x) value missing r e v h = absurd cc
+none_given : (fields value : Rule) → None ≡ fields → value ≡ None → None ≡ first_refusal (fields ∷ value ∷ [])
+none_given None None e h = refl
+none_given None (Some x) e h = absurd cc
+none_given (Some x) value e h = absurd cc
 
-given_none : (fields value missing : Rule) → None ≡ fields → value ≡ None → None ≡ missing → None ≡ first_refusal (fields ∷ value ∷ missing ∷ [])
-given_none None None None e v h = refl
-given_none None None (Some x) e v h = absurd cc
-given_none None (Some y) missing e v h = absurd cc
-given_none (Some x) value missing e v h = absurd cc
+alone : (r : Rule) → r ≡ first_refusal (r ∷ [])
+alone None = refl
+alone (Some r) = refl
 
-module _ (a : Asked) (l : Layout) (key : Option Key) (given : List Assignment) (old : Record) (fields : None ≡ bad_fields a.tenant (object_of_layout l) key given) where
-  abbrev it : Object
-  it = object_of_layout l
+-- names, and then values
+module _ (a : Asked) (it : Object) (key : Option Key) (given : List Assignment) (old : Record) (fields : None ≡ bad_fields a.tenant it key given) where
+  pub value_refused : (r : Refusal) → bad_value a.tenant it (with_key key given) ≡ Some r → Some r ≡ first_refusal (value_rules a.tenant it key given)
+  value_refused r e = value_first (bad_fields a.tenant it key given) (bad_value a.tenant it (with_key key given)) r fields e
 
-  abbrev all : List Assignment
-  all = with_key key given
+  pub values_given : bad_value a.tenant it (with_key key given) ≡ None → (made : Record) → made ≡ altered a it key given old → Gives a it key given old (Ok made)
+  values_given none made is = (none_given (bad_fields a.tenant it key given) (bad_value a.tenant it (with_key key given)) fields none, is)
 
+-- what is given, and then required fields, with or without another owner
+module _ (a : Asked) (it : Object) (key : Option Key) (given : List Assignment) (old : Record) where
   abbrev then : Record
   then = altered a it key given old
 
-  pub value_refused : (r : Refusal) → bad_value a.tenant it all ≡ Some r → Some r ≡ first_refusal (given_rules a.tenant it key given then)
-  value_refused r e = given_value (bad_fields a.tenant it key given) (bad_value a.tenant it all) (required_missing it then) r fields e
+  abbrev values : List Rule
+  values = value_rules a.tenant it key given
 
-  -- the values are read, and the record is made of them
-  alters_so : bad_value a.tenant it all ≡ None → (made : Record) → made ≡ then → (r : Result Record EditFail) → Lacks it made r → Alters a it key given old r
-  alters_so values made is (Ok x) h =
-      (given_none (bad_fields a.tenant it key given) (bad_value a.tenant it all) (required_missing it then) fields values (subst (λ (z : Record). None ≡ required_missing it z) is h.0), h.1 ∙ is)
-  alters_so values made is (Err (Refused x)) h =
-      given_missing (bad_fields a.tenant it key given) (bad_value a.tenant it all) (required_missing it then) x fields values (subst (λ (z : Record). Some x ≡ required_missing it z) is h)
-  alters_so values made is (Err (Store e)) h = λ d. absurd cc
-
-  -- they are valid, where they are read well
-  pub alters_well : bad_value a.tenant it all ≡ None → (made : Record) → made ≡ then → IsTrue (all_valid (kinds_in l.fields) old.values) → ReadsWell a it all
-      → (r : Result Record EditFail) → (IsTrue (all_valid (kinds_in l.fields) made.values) → Lacks it made r) → Alters a it key given old r
-  alters_well values made is valid well r lacks = alters_so values made is r (lacks (subst (λ (z : Record). IsTrue (all_valid (kinds_in l.fields) z.values)) (sym is) (stay valid)))
+  pub ungiven : (r : Result Record EditFail) (e : EditFail) (out : Result Record EditFail) → Gives a it key given old r → r ≡ Err e → IsErrAnd out (λ y. y ≡ e) → Alters a it key given old out
+  ungiven r e out h was is = passed out is (by e (subst (Gives a it key given old) was h))
     where
-      stay : IsTrue (all_valid (kinds_in l.fields) old.values) → IsTrue (all_valid (kinds_in l.fields) then.values)
-      stay h =
-          subst (λ (kinds : List FieldType). IsTrue (all_valid kinds then.values)) (kinds_same l)
-          (well values old (subst (λ (kinds : List FieldType). IsTrue (all_valid kinds old.values)) (sym (kinds_same l)) h))
+      by : (e : EditFail) → Gives a it key given old (Err e) → Alters a it key given old (Err e)
+      by (Refused x) h = first_stays x values (required_missing it then ∷ []) h
+      by (Store f) h = h
+
+      passed : (out : Result Record EditFail) → IsErrAnd out (λ y. y ≡ e) → Alters a it key given old (Err e) → Alters a it key given old out
+      passed (Ok x) is h = absurd is
+      passed (Err y) is h = subst (λ (z : EditFail). Alters a it key given old (Err z)) (sym is) h
+
+  pub unchanged : (r : Result Record EditFail) (e : EditFail) (out : Result Record EditFail) → Gives a it key given old r → r ≡ Err e → IsErrAnd out (λ y. y ≡ e) → Changes a it key given old out
+  unchanged r e out h was is = passed out is (by e (subst (Gives a it key given old) was h))
+    where
+      by : (e : EditFail) → Gives a it key given old (Err e) → Changes a it key given old (Err e)
+      by (Refused x) h = first_stays x values (owner_denied a old then ∷ required_missing it then ∷ []) h
+      by (Store f) h = h
+
+      passed : (out : Result Record EditFail) → IsErrAnd out (λ y. y ≡ e) → Changes a it key given old (Err e) → Changes a it key given old out
+      passed (Ok x) is h = absurd is
+      passed (Err y) is h = subst (λ (z : EditFail). Changes a it key given old (Err z)) (sym is) h
+
+  -- the record with what is given
+  module _ (gives : Result Record EditFail) (made : Record) (h : Gives a it key given old gives) (was : gives ≡ Ok made) where
+    so : (None ≡ first_refusal values) × (made ≡ then)
+    so = subst (Gives a it key given old) was h
+
+    pub alters_so : (r : Result Record EditFail) → Lacks it made r → Alters a it key given old r
+    alters_so (Ok x) g =
+        (subst (λ (z : Record). None ≡ required_missing it z) so.1 g.0 ∙ alone (required_missing it then) ∙ sym (first_then values (required_missing it then ∷ []) so.0), g.1 ∙ so.1)
+    alters_so (Err (Refused x)) g =
+        subst (λ (z : Record). Some x ≡ required_missing it z) so.1 g ∙ alone (required_missing it then) ∙ sym (first_then values (required_missing it then ∷ []) so.0)
+    alters_so (Err (Store e)) g = λ d. absurd cc
+
+    -- another owner is refused
+    pub owner_refused : (x : Refusal) → Some x ≡ owner_denied a old made → Changes a it key given old (Err (Refused x))
+    owner_refused x g =
+        first_refuses x (owner_denied a old then) (required_missing it then ∷ []) (subst (λ (z : Record). Some x ≡ owner_denied a old z) so.1 g)
+        ∙ sym (first_then values (owner_denied a old then ∷ required_missing it then ∷ []) so.0)
+
+    pub changes_so : None ≡ owner_denied a old made → (r : Result Record EditFail) → Lacks it made r → Changes a it key given old r
+    changes_so free r g = by r (alters_so r g)
+      where
+        rest : first_refusal (changed_rules a it key given old then) ≡ first_refusal (given_rules a.tenant it key given then)
+        rest =
+            first_then values (owner_denied a old then ∷ required_missing it then ∷ []) so.0
+            ∙ first_passes (owner_denied a old then) (required_missing it then ∷ []) (subst (λ (z : Record). None ≡ owner_denied a old z) so.1 free)
+            ∙ sym (first_then values (required_missing it then ∷ []) so.0)
+
+        by : (r : Result Record EditFail) → Alters a it key given old r → Changes a it key given old r
+        by (Ok x) h = (h.0 ∙ sym rest, h.1)
+        by (Err (Refused x)) h = h ∙ sym rest
+        by (Err (Store e)) h = h
+
+-- valid values stay valid, where what is given is read well
+pub stays_valid : (a : Asked) (l : Layout) (key : Option Key) (given : List Assignment) (old : Record) → IsTrue (all_valid (kinds_in l.fields) old.values) → ReadsWell a (object_of_layout l) (with_key key given)
+    → (gives : Result Record EditFail) (made : Record) → Gives a (object_of_layout l) key given old gives → gives ≡ Ok made → IsTrue (all_valid (kinds_in l.fields) made.values)
+stays_valid a l key given old valid well gives made h was =
+    let (none, is) = subst (Gives a (object_of_layout l) key given old) was h in
+    let values = none_first (bad_value a.tenant (object_of_layout l) (with_key key given)) [] (none_behind (bad_fields a.tenant (object_of_layout l) key given) (bad_value a.tenant (object_of_layout l) (with_key key given) ∷ []) none) in
+    subst (λ (z : Record). IsTrue (all_valid (kinds_in l.fields) z.values)) (sym is)
+    (subst (λ (kinds : List FieldType). IsTrue (all_valid kinds (altered a (object_of_layout l) key given old).values)) (kinds_same l)
+    (well (sym values) old (subst (λ (kinds : List FieldType). IsTrue (all_valid kinds old.values)) (sym (kinds_same l)) valid)))
 
 -- ---- the object that a layout spells
 
@@ -128,6 +176,16 @@ alters_plain a o key given old (Err (Store e)) h = h
 pub alters_there : (org : ℕ) (q : OrgPlan) (a : Asked) (o : Numbered) (l : Layout) (key : Option Key) (given : List Assignment) (old : Record) (r : Result Record EditFail) → l ≡ layout_of org q a.tenant o
     → Alters a (object_of_layout l) key given old r → Alters a o.object key given old r
 alters_there org q a o l key given old r is h = alters_plain a o key given old r (subst (λ (p : Numbered). Alters a p.object key given old r) (ap numbered_in is ∙ spelled org q a.tenant o) h)
+
+changes_plain : (a : Asked) (o : Numbered) (key : Option Key) (given : List Assignment) (old : Record) (r : Result Record EditFail) → Changes a (plain o).object key given old r → Changes a o.object key given old r
+unfolding column_named
+changes_plain a o key given old (Ok r) h = h
+changes_plain a o key given old (Err (Refused x)) h = h
+changes_plain a o key given old (Err (Store e)) h = h
+
+pub changes_there : (org : ℕ) (q : OrgPlan) (a : Asked) (o : Numbered) (l : Layout) (key : Option Key) (given : List Assignment) (old : Record) (r : Result Record EditFail) → l ≡ layout_of org q a.tenant o
+    → Changes a (object_of_layout l) key given old r → Changes a o.object key given old r
+changes_there org q a o l key given old r is h = changes_plain a o key given old r (subst (λ (p : Numbered). Changes a p.object key given old r) (ap numbered_in is ∙ spelled org q a.tenant o) h)
 
 reads_plain : (a : Asked) (o : Numbered) (given : List Assignment) → ReadsWell a o.object given → ReadsWell a (plain o).object given
 unfolding column_named

@@ -1,5 +1,5 @@
 -- What judging a create finds.
-use Rattle.std.proofs.Common.{◌≡◌, ◌∙◌, ℕ, ◌<◌, List, [], ◌∷◌, length, Option, Some, None, ◌++◌, sym, ap, subst, arith}
+use Rattle.std.proofs.Common.{◌≡◌, ◌∙◌, ℕ, ◌<◌, List, [], ◌∷◌, length, Option, Some, None, ◌++◌, sym, subst, arith}
 use Rattle.std.specs.Prelude.{Result, Ok, Err, IsErrAnd}
 use Rattle.std.proofs.lemmas.Option.{slice_get_within}
 use Rattle.std.specs.Option.{option_or}
@@ -7,7 +7,7 @@ use Rattle.ut_edits.specs.Edits.{FailsBy}
 use Rattle.ut_keeper.specs.Draft.{Held}
 use Rattle.ut_keeper.specs.State.{KeeperState}
 use Rattle.ut_keys.specs.declared.fail.StoreFail.{StoreFail}
-use Rattle.ut_model.specs.Creates.{create_on, create_rules, empty_record, master_denied}
+use Rattle.ut_model.specs.Creates.{create_on, create_rules, empty_record}
 use Rattle.ut_model.specs.declared.record.Record.{Record}
 use Rattle.ut_model.specs.declared.record_bodies.Assignment.{Assignment}
 use Rattle.ut_model.specs.Keys.{Key, with_key}
@@ -28,7 +28,8 @@ use Rattle.ut_records.specs.declared.object.Counts.{Counts}
 use Rattle.ut_records.specs.inner.Judged.{Accepts, Admits, admit_rules}
 use Rattle.ut_records.specs.inner.Giving.{Alters, given_rules}
 use Rattle.ut_records.specs.inner.Object.{CountsOf, ReadsCounts}
-use Rattle.ut_records.proofs.Accepting.{behind, behind_refused, first_stays, first_then, free_of, given_refused, refused_so}
+use Rattle.ut_records.proofs.Accepting.{behind, behind_refused, free_of, given_refused, refused_so}
+use Rattle.ut_records.proofs.FirstRules.{first_stays, first_then}
 
 -- an object's number is one of so few
 pub small_number : (t : Tenant) (o : Numbered) → IsSound t → object_numbered t o.number ≡ Some o.object → o.number < 3844
@@ -58,8 +59,8 @@ module _ (org : ℕ) (a : Asked) (o : Numbered) (key : Option Key) (given : List
       by (Store f) h = h
 
   -- the record that no rule on what is given refuses
-  module _ (l : Layout) (x : Counts) (new : Record) (proposed : (None ≡ first_refusal (given_rules a.tenant o.object key given (new_record a o (with_key key given)))) × (new ≡ new_record a o (with_key key given))) (master : (r : Record) → master_denied a o r ≡ None)
-      (rules : admit_rules a l x new ≡ behind a o new) where
+  module _ (l : Layout) (x : Counts) (new : Record) (proposed : (None ≡ first_refusal (given_rules a.tenant o.object key given (new_record a o (with_key key given)))) × (new ≡ new_record a o (with_key key given)))
+      (rules : first_refusal (admit_rules a l x new) ≡ first_refusal (behind a o new)) where
     free : None ≡ first_refusal (given_rules a.tenant o.object key given new)
     free = subst (λ (r : Record). None ≡ first_refusal (given_rules a.tenant o.object key given r)) (sym proposed.1) proposed.0
 
@@ -70,11 +71,11 @@ module _ (org : ℕ) (a : Asked) (o : Numbered) (key : Option Key) (given : List
         by (Refused y) h =
             refused_so a o key given y
             (subst (λ (r : Record). Some y ≡ first_refusal (create_rules a o key given r)) proposed.1
-            (behind_refused a o key given new y (master new) free (h ∙ ap first_refusal rules)))
+            (behind_refused a o key given new y free (h ∙ rules)))
         by (Store f) h = h
 
     pub admitted : (r : Result (Unit {0}) EditFail) (done : Unit {0}) → Admits a l x new r → r ≡ Ok done → None ≡ first_refusal (create_rules a o key given new)
-    admitted r done h was = free_of a o key given new (master new) free (subst (Admits a l x new) was h ∙ ap first_refusal rules)
+    admitted r done h was = free_of a o key given new free (subst (Admits a l x new) was h ∙ rules)
 
 -- of the refusals of some rules and of one more, the first
 pub refused_first : (rules : List Rule) (others more : Rule) (r : Refusal) → others ≡ first_refusal rules → option_or others more ≡ Some r → Some r ≡ first_refusal (rules ++ more ∷ [])
@@ -84,6 +85,12 @@ refused_first rules None more r e is = by more is ∙ sym (first_then rules (mor
     by : (more : Rule) → more ≡ Some r → Some r ≡ first_refusal (more ∷ [])
     by (Some x) is = sym is
     by None is = absurd cc
+
+-- none of them refuses
+pub refused_none : (rules : List Rule) (others more : Rule) → others ≡ first_refusal rules → option_or others more ≡ None → None ≡ first_refusal (rules ++ more ∷ [])
+refused_none rules None None e is = sym (first_then rules (None ∷ []) e)
+refused_none rules None (Some x) e is = absurd cc
+refused_none rules (Some x) more e is = absurd cc
 
 module _ {K : Type 0} (state : K → KeeperState) (a b : Held K) where
   pub passed_calls : (most : ℕ) (e : EditFail) (out : Result Accepted EditFail) → IsErrAnd out (λ y. y ≡ e) → Calls state most (ended_edit {X = Unit {0}} (Err e)) a b → Calls state most (ended_edit out) a b

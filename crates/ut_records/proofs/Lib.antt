@@ -3,6 +3,9 @@ pub mod Sharing
 pub mod Taking
 pub mod Numbers
 pub mod Rows
+pub mod FirstRules
+pub mod LevelRules
+pub mod Masters
 pub mod Accepting
 pub mod Judging
 pub mod OtherRules

@@ -10,18 +10,16 @@ use Rattle.ut_keeper.specs.Tables.{Tables}
 use Rattle.ut_model.specs.Cases.{in_case}
 use Rattle.ut_model.specs.Fields.{is_master}
 use Rattle.ut_model.specs.Objects.{Numbered, object_numbered}
-use Rattle.ut_model.specs.Paths.{Asked}
 use Rattle.ut_model.specs.Relationships.{Reference, master_of_object, reference_at, references_of}
 use Rattle.ut_model.specs.Rules.{Rule, first_refusal, refuse_if}
 use Rattle.ut_model.specs.Tenant.{Field, Job, Object, Tenant}
 use Rattle.ut_model.specs.Updates.{is_copied, master_changed, retype_conflict}
 use Rattle.ut_model.specs.declared.record.Record.{Record}
 use Rattle.ut_model.specs.declared.refusal.Refusal.TheVariants as refusal
-use Rattle.ut_others.specs.Judged.{FindsRule}
 use Rattle.ut_records.specs.inner.Staying.{conflict_in, master_moved, staying_rules}
 use Rattle.ut_named.proofs.Facts.{eqb_same, pick, some_is}
 use Rattle.ut_rules.specs.Objects.{field_of_place, numbered_in}
-use Rattle.ut_stands.specs.Layouts.{IsLayout, job_place, layout_of, place_of}
+use Rattle.ut_stands.specs.Layouts.{FindsOf, IsLayout, job_place, layout_of, place_of}
 use Rattle.ut_stands.specs.Plan.{OrgPlan, slot_type}
 use Rattle.ut_stands.specs.declared.layout.FieldPlace.{FieldPlace}
 use Rattle.ut_stands.specs.declared.layout.JobPlace.{JobPlace}
@@ -47,7 +45,7 @@ found_later p (z ∷ xs) ys e =
     pick (p z) (λ b. cond b (Some z) (find p xs) ≡ None → cond b (Some z) (find p (xs ++ ys)) ≡ find p ys) (λ _ e. absurd cc) (λ _ e. found_later p xs ys e) e
 
 module _ (n : ℕ) where
-  abbrev masters : Reference → Bool
+  abbrev pub masters : Reference → Bool
   masters f = eqb f.object n && is_master f.field.kind
 
   -- the fields of another object refer to no master of this one's
@@ -66,10 +64,10 @@ module _ (n : ℕ) where
       by type.Moment rest = rest
       by (type.Picklist vs) rest = rest
 
-  abbrev pair : ℕ × Object → Numbered
+  abbrev pub pair : ℕ × Object → Numbered
   pair o = record { number = o.0; object = o.1 }
 
-  abbrev all_from : (k : ℕ) → List Object → List Reference
+  abbrev pub all_from : (k : ℕ) → List Object → List Reference
   all_from k os = flat_map references_of (map pair (enumerate_from k os))
 
   apart : (k i : ℕ) → n + (i + 1) ≡ k → eqb k n ≡ false
@@ -83,7 +81,7 @@ module _ (n : ℕ) where
       ∙ none_behind (k + 1) (i + 1) os (omega (arith, e))
 
   -- so the master is among the object's own
-  among_own : (k i : ℕ) (os : List Object) (o : Object) → k + i ≡ n → slice_get os i ≡ Some o → find masters (all_from k os) ≡ find masters (flat_map (reference_at n) (enumerate_from 1 o.fields))
+  pub among_own : (k i : ℕ) (os : List Object) (o : Object) → k + i ≡ n → slice_get os i ≡ Some o → find masters (all_from k os) ≡ find masters (flat_map (reference_at n) (enumerate_from 1 o.fields))
   among_own k i [] o e there = absurd cc
   among_own k zero (x ∷ os) o e there =
       let same : k ≡ n = omega (arith, e) in
@@ -200,19 +198,19 @@ conflict_is org q t n o new = by t.job
 
 -- ---- both, by the layout of the object in the tenant
 
-pub staying_is : (q : OrgPlan) (a : Asked) (l : Layout) (old new : Record) → IsLayout q a.tenant l
-    → first_refusal (master_moved l old new ∷ conflict_in l new ∷ []) ≡ first_refusal (staying_rules l old new a)
-staying_is q a l old new its =
-    let one = layout_is q a.tenant l its in
-    subst (λ (k : Layout). first_refusal (master_moved k old new ∷ conflict_in k new ∷ []) ≡ first_refusal (staying_rules k old new a)) one.made (same one)
+pub staying_is : (q : OrgPlan) (t : Tenant) (l : Layout) (old new : Record) → IsLayout q t l
+    → first_refusal (master_moved l old new ∷ conflict_in l new ∷ []) ≡ first_refusal (staying_rules l old new t)
+staying_is q t l old new its =
+    let one = layout_is q t l its in
+    subst (λ (k : Layout). first_refusal (master_moved k old new ∷ conflict_in k new ∷ []) ≡ first_refusal (staying_rules k old new t)) one.made (same one)
   where
-    same : (one : IsOf q a.tenant l) → first_refusal (master_moved (layout_of l.org q a.tenant (record { number = l.object; object = one.object })) old new ∷ conflict_in (layout_of l.org q a.tenant (record { number = l.object; object = one.object })) new ∷ [])
-        ≡ first_refusal (staying_rules (layout_of l.org q a.tenant (record { number = l.object; object = one.object })) old new a)
+    same : (one : IsOf q t l) → first_refusal (master_moved (layout_of l.org q t (record { number = l.object; object = one.object })) old new ∷ conflict_in (layout_of l.org q t (record { number = l.object; object = one.object })) new ∷ [])
+        ≡ first_refusal (staying_rules (layout_of l.org q t (record { number = l.object; object = one.object })) old new t)
     same one =
-        let k = layout_of l.org q a.tenant (record { number = l.object; object = one.object }) in
-        ap (λ (r : Rule). first_refusal (r ∷ conflict_in k new ∷ [])) (sym (moved_is l.org q a.tenant l.object one.object (numbered_in k) old new refl one.there))
-        ∙ ap (λ (r : Rule). first_refusal (master_changed a.tenant (numbered_in k) old new ∷ r ∷ [])) (sym (conflict_is l.org q a.tenant l.object one.object new))
+        let k = layout_of l.org q t (record { number = l.object; object = one.object }) in
+        ap (λ (r : Rule). first_refusal (r ∷ conflict_in k new ∷ [])) (sym (moved_is l.org q t l.object one.object (numbered_in k) old new refl one.there))
+        ∙ ap (λ (r : Rule). first_refusal (master_changed t (numbered_in k) old new ∷ r ∷ [])) (sym (conflict_is l.org q t l.object one.object new))
 
 pub staying_found : (l : Layout) (old new : Record) (rule : Rule) → rule ≡ first_refusal (master_moved l old new ∷ conflict_in l new ∷ [])
-    → (m : Tables) → FindsRule l (λ a. first_refusal (staying_rules l old new a)) m (Ok rule)
-staying_found l old new rule is m = λ q a s its admin. is ∙ staying_is q a l old new its
+    → (m : Tables) → FindsOf l (λ t. first_refusal (staying_rules l old new t)) m (Ok rule)
+staying_found l old new rule is m = λ q t s its. is ∙ staying_is q t l old new its

@@ -18,6 +18,7 @@ use Rattle.ut_model.specs.Sound.{IsSound}
 use Rattle.ut_model.specs.Tenant.{Object, Tenant}
 use Rattle.ut_model.specs.Verdict.{Done, made_new, upserted}
 use Rattle.ut_model.specs.declared.record.Record.{Record}
+use Rattle.ut_rights.specs.Rights.{Whose}
 use Rattle.ut_sound.specs.Fit.{IsCaller, OfObjects, ReadsWell}
 use Rattle.ut_stands.specs.Changes.{Change}
 use Rattle.ut_stands.specs.Layouts.{layout_of}
@@ -30,15 +31,15 @@ use Rattle.ut_touched.specs.Touched.{fresh_plan, touched_changes}
 
 -- ---- who gives values to a record
 
--- who asks is an administrator with this id, at this moment
-pub record IsAsker (id : List ℕ) (moment : ℤ) (a : Asked) : Type 0 where
-  pub admin : a.user.admin ≡ true
+-- who asks is the user with this id whose rights these are, at this moment
+pub record IsAsker (whose : Whose) (id : List ℕ) (moment : ℤ) (a : Asked) : Type 0 where
+  pub rights : whose a.tenant a.user
   pub user : a.user.id ≡ id
   pub now : a.now ≡ moment
 
 -- the same, a user of the organisation at a moment of the calendar, and what is given reads so in each object
-pub record IsGiving (id : List ℕ) (moment : ℤ) (well : Asked → Object → Type 0) (a : Asked) : Type 0 where
-  pub asker : IsAsker id moment a
+pub record IsGiving (whose : Whose) (id : List ℕ) (moment : ℤ) (well : Asked → Object → Type 0) (a : Asked) : Type 0 where
+  pub asker : IsAsker whose id moment a
   pub caller : IsCaller a
   pub reads : OfObjects a (well a)
 
@@ -77,10 +78,10 @@ abbrev pub answered_new : Option Key → (id : List ℕ) → Done
 answered_new key id = in_case key (made_new id) (λ k. upserted id true)
 
 -- over these tables, whatever they have, only rows of the organisation are changed; and where these stand for the tenant of who
--- asks, and valid values stay valid with what is given, it comes to the verdict
-pub record DecidesNew (l : Layout) (user : List ℕ) (now : ℤ) (given : AllGiven) (m : Tables)
+-- asks, whose rights these are, and valid values stay valid with what is given, it comes to the verdict
+pub record DecidesNew (l : Layout) (whose : Whose) (user : List ℕ) (now : ℤ) (given : AllGiven) (m : Tables)
     (result : Result (Decided (List ℕ)) EditFail) : Type 0 where
   pub own : ChangesIn l.org result
   pub decided : (q : OrgPlan) (a : Asked) (o : Numbered) → StandsIn l.org q m (Some a.tenant) → IsObject l.org q a.tenant o l
-      → IsAsker user now a → ReadsWell a o.object (all_given given) → IsSound (create_on a o (key_of given) given.body.now).tenant
+      → IsAsker whose user now a → ReadsWell a o.object (all_given given) → IsSound (create_on a o (key_of given) given.body.now).tenant
       → DecidesTo l.org q a.tenant (create_on a o (key_of given) given.body.now) (answered_new (key_of given)) PlansNew result

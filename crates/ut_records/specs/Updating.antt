@@ -1,5 +1,5 @@
 -- A record with other values as changes of rows: its own, and those of its manual shares, which end where it gets another owner.
-use Rattle.std.specs.Prelude.{◌≡◌, ℕ, true, false, if◌then◌else◌, List, [], ◌∷◌, ◌++◌, map, Option, None, Some, Result, ℤ}
+use Rattle.std.specs.Prelude.{◌≡◌, ℕ, false, if◌then◌else◌, List, [], ◌∷◌, ◌++◌, map, Option, None, Some, Result, ℤ}
 use Rattle.ut_edits.specs.Edits.{ChangesIn, DecidesTo}
 use Rattle.ut_edits.specs.declared.decided.Decided.{Decided}
 use Rattle.ut_given.specs.Given.{all_given, key_of}
@@ -19,6 +19,7 @@ use Rattle.ut_model.specs.Verdict.{Done, done, upserted}
 use Rattle.ut_model.specs.declared.record.Record.{Record}
 use Rattle.ut_named.specs.Kept.{IsKept}
 use Rattle.ut_named.specs.declared.kept.KeptRecord.{KeptRecord}
+use Rattle.ut_rights.specs.Rights.{Whose}
 use Rattle.ut_sound.specs.Fit.{ReadsWell}
 use Rattle.ut_stands.specs.Changes.{Change}
 use Rattle.ut_stands.specs.Local.{StandsIn}
@@ -47,12 +48,12 @@ abbrev pub answered_changed : Option Key → (id : List ℕ) → Done
 answered_changed key id = in_case key done (λ k. upserted id false)
 
 -- over these tables, whatever they have, only rows of the organisation are changed; and where these stand for the tenant of who
--- asks, whose record it is, and valid values stay valid with what is given, it comes to the verdict
-pub record DecidesChanged (l : Layout) (now : ℤ) (given : AllGiven) (kept : KeptRecord) (m : Tables)
+-- asks, whose rights and record these are, and valid values stay valid with what is given, it comes to the verdict
+pub record DecidesChanged (l : Layout) (whose : Whose) (now : ℤ) (given : AllGiven) (kept : KeptRecord) (m : Tables)
     (result : Result (Decided (Unit {0})) EditFail) : Type 0 where
   pub own : ChangesIn l.org result
   pub decided : (q : OrgPlan) (a : Asked) (o : Numbered) (id : List ℕ) → StandsIn l.org q m (Some a.tenant)
-      → IsObject l.org q a.tenant o l → IsKept q a.tenant l id kept → a.user.admin ≡ true → a.now ≡ now
+      → IsObject l.org q a.tenant o l → IsKept q a.tenant l id kept → whose a.tenant a.user → a.now ≡ now
       → ReadsWell a o.object (all_given given) → IsSound (update_on a o (key_of given) given.body.now kept.item).tenant
       → DecidesTo l.org q a.tenant (update_on a o (key_of given) given.body.now kept.item)
       (λ _. answered_changed (key_of given) kept.item.id) PlansSame result

@@ -1,6 +1,6 @@
 //! The rules of an update that look for other records, at what the record was, and the object's own.
 
-ghost use Rattle.std.specs.Prelude.{◌≡◌, IfOk, IsTrue, Some, length};
+ghost use Rattle.std.specs.Prelude.{◌≡◌, ◌+◌, ◌*◌, IfOk, IsTrue, Some, length};
 ghost use Rattle.ut_data.specs.Decoding.{has_types, kinds_in};
 ghost use Rattle.ut_keeper.specs.Draft.{DraftTells, tables_of};
 ghost use Rattle.ut_model.specs.Rules.{first_refusal};
@@ -8,6 +8,7 @@ ghost use Rattle.ut_model.specs.SoundRecords.{all_valid};
 ghost use Rattle.ut_others.specs.Judged.{FindsRule};
 ghost use Rattle.ut_pivot.specs.Turned.{converts};
 ghost use Rattle.ut_records.specs.inner.Altered.{altered_rules, kept_rules};
+ghost use Rattle.ut_rights.specs.Rights.{level_shown};
 ghost use Rattle.ut_stands.specs.Calls.{Calls, ended};
 
 use crate::others::refused_by_own;
@@ -17,12 +18,14 @@ use ut_keeper::{Draft, Keeper, draft_laws};
 use ut_keys::StoreFail;
 use ut_model::{Record, Refusal};
 use ut_others::bad_target;
+use ut_rights::Rights;
 use ut_stands::{Layout, call_laws};
 
 // The refusal of the first of these rules: on what the record keeps, the object's own, on unique values.
-fn refused_by_kept<K: Keeper>(
+fn refused_by_kept<K: Keeper, R: Rights>(
     alloc: Global,
     draft: &mut Draft<'_, K>,
+    rights: &R,
     layout: &Layout,
     old: &Record,
     new: &Record,
@@ -31,28 +34,30 @@ fn refused_by_kept<K: Keeper>(
     requires converts { IsTrue (converts layout.now) }
     requires values { IsTrue (all_valid (kinds_in layout.now.fields) new.now.values) }
     ensures finds { DraftTells K.state draft.old draft.new
-        → FindsRule layout.now (λ a. first_refusal (kept_rules layout.now old.now new.now a)) (tables_of K.state draft.old) result }
-    ensures calls { Calls K.state 0 (ended result) draft.old draft.new }
+        → FindsRule layout.now (R.whose rights.now) (λ a. first_refusal (kept_rules layout.now old.now new.now a))
+        (tables_of K.state draft.old) result }
+    ensures calls { Calls K.state level_shown (ended result) draft.old draft.new }
 {
     call_laws::<K>();
     match refused_by_old(alloc, layout, old, new) {
-        Ok(None) => refused_by_own(alloc, draft, layout, Some(old), new),
+        Ok(None) => refused_by_own(alloc, draft, rights, layout, Some(old), new),
         Ok(Some(refusal)) => Ok(Some(refusal)),
         Err(fail) => Err(fail),
     }
 }
 
-/// The refusal of the first of these rules that refuses a record's other values: that it refers to what isn't there, that its master
-/// changes, that a value doesn't convert though a change of its field's type has come to the record, that it fails one of the object's
+/// The refusal of the first of these rules that refuses a record's other values: that it refers to what isn't there or can't be
+/// read, that its master changes, that a value doesn't convert though a change of its field's type has come to the record, that it fails one of the object's
 /// validation rules, that another record has one of its unique values.
 ///
 /// # Errors
 ///
 /// `Keeper` if the keeper failed, `Memory` if out of memory, `Damaged` never if the organisation's rows stand for a tenant whose
-/// layout it is.
-pub(crate) fn refused_altered<K: Keeper>(
+/// layout it is and of whose user the rights are.
+pub(crate) fn refused_altered<K: Keeper, R: Rights>(
     alloc: Global,
     draft: &mut Draft<'_, K>,
+    rights: &R,
     layout: &Layout,
     old: &Record,
     new: &Record,
@@ -61,13 +66,14 @@ pub(crate) fn refused_altered<K: Keeper>(
     requires converts { IsTrue (converts layout.now) }
     requires values { IsTrue (all_valid (kinds_in layout.now.fields) new.now.values) }
     ensures finds { DraftTells K.state draft.old draft.new
-        → FindsRule layout.now (λ a. first_refusal (altered_rules layout.now old.now new.now a)) (tables_of K.state draft.old) result }
-    ensures calls { Calls K.state (length layout.now.fields) (ended result) draft.old draft.new }
+        → FindsRule layout.now (R.whose rights.now) (λ a. first_refusal (altered_rules layout.now old.now new.now a))
+        (tables_of K.state draft.old) result }
+    ensures calls { Calls K.state (level_shown * length layout.now.fields + level_shown) (ended result) draft.old draft.new }
 {
     draft_laws::<K>();
     call_laws::<K>();
-    match bad_target(alloc, draft, layout, old, new) {
-        Ok(None) => refused_by_kept(alloc, draft, layout, old, new),
+    match bad_target(alloc, draft, rights, layout, old, new) {
+        Ok(None) => refused_by_kept(alloc, draft, rights, layout, old, new),
         Ok(Some(refusal)) => Ok(Some(refusal)),
         Err(fail) => Err(fail),
     }

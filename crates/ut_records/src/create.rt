@@ -6,10 +6,12 @@ use ut_value::{Id, Text};
 /// Makes a record of the object with this name, whatever the case of its ASCII letters. It answers the record's id.
 ///
 /// It is refused with the refusal of the first rule that refuses it: by the object, by the names and the values that are given, by
-/// required fields, by what the record refers to, by the object's validation rules, by unique values and by limits.
+/// required fields, by what the record refers to, by its master, by the object's validation rules, by unique values and by limits.
 #[derive(Drop)]
-pub struct Create<'a> {
-    /// The administrator who asks, and who owns the record unless another owner is given.
+pub struct Create<'a, R> {
+    /// What who asks may do.
+    pub rights: &'a R,
+    /// Who asks, and owns the record unless another owner is given.
     pub user: Id,
     /// When it is asked, in seconds from 1970-01-01T00:00:00Z.
     pub now: i64,

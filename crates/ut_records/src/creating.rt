@@ -1,6 +1,6 @@
 //! New records.
 
-ghost use Rattle.std.specs.Prelude.{◌≡◌, ◌≢◌, ◌^◌, ◌<◌, IfErr, IfOk, IsTrue, OnOk, Some, true};
+ghost use Rattle.std.specs.Prelude.{◌≡◌, ◌≢◌, ◌^◌, ◌<◌, IfErr, IfOk, IsTrue, OnOk, Some};
 ghost use Rattle.ut_data.specs.Decoding.{kinds_in};
 ghost use Rattle.ut_edits.specs.Rows.{AreFew, AreSpelled};
 ghost use Rattle.ut_given.specs.Given.{IsPlain, all_given, key_of};
@@ -35,9 +35,10 @@ use ut_edits::{Decided, Edit, over_limit, put_row};
 use ut_given::{AllGiven, empty_record, numbered_id};
 use ut_keeper::{Draft, Keeper, draft_laws};
 use ut_keys::StoreFail;
-use ut_model::{Limit, Record, Refusal, administrator_laws, object_laws};
+use ut_model::{Limit, Record, Refusal, object_laws};
 use ut_named::ready_layout;
 use ut_pivot::{new_record_changes, pivot_laws};
+use ut_rights::Rights;
 use ut_sound::{number_laws, records_sound};
 use ut_stands::{EditFail, Layout, call_laws};
 use ut_value::{Id, id_laws, value_laws};
@@ -108,10 +109,11 @@ fn over_limits(counts: &Counts) -> Option<Refusal>
     .or(over_limit(Limit::Ids, counts.row.counter + 1))
 }
 
-// Refuses a new record by what it refers to, by the object's own rules, by unique values and by limits.
-fn admit<K: Keeper>(
+// Refuses a new record by what it refers to, by its master, by the object's own rules, by unique values and by limits.
+fn admit<K: Keeper, R: Rights>(
     alloc: Global,
     draft: &mut Draft<'_, K>,
+    rights: &R,
     layout: &Layout,
     counts: &Counts,
     new: &Record,
@@ -123,14 +125,14 @@ fn admit<K: Keeper>(
     requires values { IsTrue (all_valid (kinds_in layout.now.fields) new.now.values) }
     ensures admits { DraftTells K.state draft.old draft.new
         → (q : OrgPlan) (a : Asked) → StandsIn layout.now.org q (tables_of K.state draft.old) (Some a.tenant)
-        → IsLayout q a.tenant layout.now → a.user.admin ≡ true → a.user.id ≡ user → a.now ≡ now
+        → IsLayout q a.tenant layout.now → R.whose rights.now a.tenant a.user → a.user.id ≡ user → a.now ≡ now
         → new.now.id ≡ made (record_prefix layout.now.object) a.tenant.counter → Admits a layout.now counts.now new.now result }
     ensures room { OnOk result (HasRoom counts.now) }
-    ensures calls { Calls K.state 40 (ended_edit result) draft.old draft.new }
+    ensures calls { Calls K.state 168 (ended_edit result) draft.old draft.new }
 {
     call_laws::<K>();
     let empty = empty_record(alloc, layout, new.id, user, now)?;
-    let others = refused_by_others(alloc, draft, layout, &empty, new)?;
+    let others = refused_by_others(alloc, draft, rights, layout, &empty, new)?;
     match others.or(over_limits(counts)) {
         None => Ok(()),
         Some(refusal) => Err(EditFail::Refused(refusal)),
@@ -138,9 +140,10 @@ fn admit<K: Keeper>(
 }
 
 // The record that is to be, if no rule refuses it.
-fn accept<K: Keeper>(
+fn accept<K: Keeper, R: Rights>(
     alloc: Global,
     draft: &mut Draft<'_, K>,
+    rights: &R,
     layout: &Layout,
     user: Id,
     now: i64,
@@ -150,17 +153,16 @@ fn accept<K: Keeper>(
     requires plain { IsPlain given.now }
     ensures accepts { DraftTells K.state draft.old draft.new
         → (q : OrgPlan) (a : Asked) (o : Numbered) → StandsIn layout.now.org q (tables_of K.state draft.old) (Some a.tenant)
-        → IsObject layout.now.org q a.tenant o layout.now → IsAsker user now a → ReadsWell a o.object (all_given given.now)
-        → Accepts layout.now.org a o (key_of given.now) given.now.body.now result }
+        → IsObject layout.now.org q a.tenant o layout.now → IsAsker (R.whose rights.now) user now a
+        → ReadsWell a o.object (all_given given.now) → Accepts layout.now.org a o (key_of given.now) given.now.body.now result }
     ensures form { IfOk result (FitsRows layout.now) }
-    ensures calls { Calls K.state 40 (ended_edit result) draft.old draft.new }
+    ensures calls { Calls K.state 168 (ended_edit result) draft.old draft.new }
 {
     draft_laws::<K>();
     call_laws::<K>();
-    administrator_laws();
     let counts = read_counts(alloc, draft, layout)?;
     let new = proposed(alloc, layout, counts.row.counter, user, now, given)?;
-    admit(alloc, draft, layout, &counts, &new, user, now)?;
+    admit(alloc, draft, rights, layout, &counts, &new, user, now)?;
     Ok(Accepted { counts, new })
 }
 
@@ -199,15 +201,17 @@ fn decided(alloc: Global, layout: &Layout, accepted: Accepted) -> Result<Decided
     })
 }
 
-/// Judges a new record of an object, made by this user at this moment: its id and the changes that make it.
+/// Judges a new record of an object, made by this user, whose rights these are, at this moment: its id and the changes that make it.
 ///
 /// # Errors
 ///
 /// `Refused` as the verdict of a create says, or of an upsert with a key that no record has. `Store` with `Keeper` if the keeper
-/// failed, `Memory` if out of memory, `Damaged` never if the organisation's rows stand for a tenant whose layout it is.
-pub fn decide_create<K: Keeper>(
+/// failed, `Memory` if out of memory, `Damaged` never if the organisation's rows stand for a tenant whose layout it is and of whose
+/// user the rights are.
+pub fn decide_create<K: Keeper, R: Rights>(
     alloc: Global,
     draft: &mut Draft<'_, K>,
+    rights: &R,
     layout: &Layout,
     user: Id,
     now: i64,
@@ -216,9 +220,9 @@ pub fn decide_create<K: Keeper>(
     requires ready { IsReady layout.now.org layout.now }
     requires plain { IsPlain given.now }
     ensures what { DraftTells K.state draft.old draft.new
-        → DecidesNew layout.now user now given.now (tables_of K.state draft.old) result }
+        → DecidesNew layout.now (R.whose rights.now) user now given.now (tables_of K.state draft.old) result }
     ensures few { IfOk result (λ x. AreFew 147 0 x.changes.items) }
-    ensures calls { Calls K.state 40 (ended_edit result) draft.old draft.new }
+    ensures calls { Calls K.state 168 (ended_edit result) draft.old draft.new }
 {
     call_laws::<K>();
     number_laws();
@@ -226,11 +230,11 @@ pub fn decide_create<K: Keeper>(
     value_laws();
     pivot_laws();
     create_laws();
-    let accepted = accept(alloc, draft, layout, user, now, given)?;
+    let accepted = accept(alloc, draft, rights, layout, user, now, given)?;
     decided(alloc, layout, accepted)
 }
 
-impl Edit for Create<'_> {
+impl<R: Rights> Edit for Create<'_, R> {
     type Answer = Id;
 
     ghost verdict = { λ e a. create a e.object.now e.given.now };
@@ -239,13 +243,13 @@ impl Edit for Create<'_> {
 
     ghost planned = { λ e q t next. PlansNew q t next };
 
-    ghost fits = { λ e a. IsGiving e.user e.now (λ b o. ReadsWell b o e.given.now) a };
+    ghost fits = { λ e a. IsGiving (R.whose e.rights.now) e.user e.now (λ b o. ReadsWell b o e.given.now) a };
 
     ghost most = { 147 };
 
     ghost gone = { 0 };
 
-    ghost shown = { 40 };
+    ghost shown = { 168 };
 
     fn judge<K: Keeper>(
         &self,
@@ -262,6 +266,14 @@ impl Edit for Create<'_> {
             body: self.given,
             key: None,
         };
-        decide_create(alloc, draft, &layout, self.user, self.now, &given)
+        decide_create(
+            alloc,
+            draft,
+            self.rights,
+            &layout,
+            self.user,
+            self.now,
+            &given,
+        )
     }
 }

@@ -8,7 +8,7 @@ ghost use Rattle.ut_keys.specs.declared.fail.StoreFail.TheVariants.{Keeper};
 ghost use Rattle.ut_model.specs.Paths.{Asked};
 ghost use Rattle.ut_model.specs.SoundRecords.{all_valid};
 ghost use Rattle.ut_named.specs.Usable.{IsUsable};
-ghost use Rattle.ut_records.specs.inner.Giving.{Alters, Lacks};
+ghost use Rattle.ut_records.specs.inner.Giving.{Alters, Gives, Lacks};
 ghost use Rattle.ut_rules.specs.Objects.{object_of_layout};
 ghost use Rattle.ut_sound.specs.Fit.{ReadsWell};
 ghost use Rattle.ut_stands.specs.Fails.{of_store};
@@ -52,8 +52,12 @@ fn has_valid_values(layout: &Layout, item: &Record) -> bool
     }
 }
 
-// The record, unless a required field is null; or `Damaged` if a value isn't valid for its field's type.
-fn unless_missing(alloc: Global, layout: &Layout, new: Record) -> Result<Record, EditFail>
+/// The record, unless a required field is null; or `Damaged` if a value isn't valid for its field's type.
+pub(crate) fn unless_missing(
+    alloc: Global,
+    layout: &Layout,
+    new: Record,
+) -> Result<Record, EditFail>
     requires { IsTrue (has_types layout.now) }
     ensures lacks { IsTrue (all_valid (kinds_in layout.now.fields) new.values) → Lacks (object_of_layout layout.now) new result }
     ensures valid { IfOk result (λ r. IsTrue (all_valid (kinds_in layout.now.fields) r.values)) }
@@ -66,7 +70,33 @@ fn unless_missing(alloc: Global, layout: &Layout, new: Record) -> Result<Record,
     }
 }
 
-/// The record with what is given in place of what it had, unless what is given is refused.
+/// The record with what is given in place of what it had, unless a name or a value that is given is refused.
+///
+/// # Errors
+///
+/// `Refused` by the first rule on names and values that refuses it. `Store` with `Memory` if out of memory.
+pub(crate) fn given_record(
+    alloc: Global,
+    layout: &Layout,
+    old: Record,
+    now: i64,
+    given: &AllGiven<'_>,
+) -> Result<Record, EditFail>
+    requires usable { IsUsable layout.now }
+    requires plain { IsPlain given.now }
+    ensures gives { (a : Asked) → a.now ≡ now → Gives a (object_of_layout layout.now) (key_of given.now) given.now.body.now old result }
+    ensures cause { IfErr result (λ e. e ≢ of_store Keeper) }
+{
+    if let Some(refusal) = bad_fields(alloc, layout, given)? {
+        return Err(EditFail::Refused(refusal));
+    }
+    match read_given(alloc, layout, given, &old)? {
+        Ok(values) => Ok(with_given(old, values, now)),
+        Err(refusal) => Err(EditFail::Refused(refusal)),
+    }
+}
+
+/// The same, unless a required field is null then.
 ///
 /// # Errors
 ///
@@ -87,11 +117,6 @@ pub(crate) fn altered_record(
     ensures valid { IfOk result (λ r. IsTrue (all_valid (kinds_in layout.now.fields) r.values)) }
     ensures cause { IfErr result (λ e. e ≢ of_store Keeper) }
 {
-    if let Some(refusal) = bad_fields(alloc, layout, given)? {
-        return Err(EditFail::Refused(refusal));
-    }
-    match read_given(alloc, layout, given, &old)? {
-        Ok(values) => unless_missing(alloc, layout, with_given(old, values, now)),
-        Err(refusal) => Err(EditFail::Refused(refusal)),
-    }
+    let new = given_record(alloc, layout, old, now, given)?;
+    unless_missing(alloc, layout, new)
 }

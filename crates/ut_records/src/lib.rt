@@ -1,7 +1,7 @@
 //! Edits of records: new ones, and other values for one; and the laws of the rows of a record that comes or changes.
 //!
-//! It depends on `ut_named` for the record that is named, on `ut_given`, `ut_rules` and `ut_others` for the rules, on `ut_pivot` for
-//! the rows of a record, on `ut_touched` for the rows that differ, and on `ut_sound` for the tenant that an edit leaves. Its contract
+//! It depends on `ut_rights` for what who asks may do, on `ut_named` for the record that is named, on `ut_given`, `ut_rules` and
+//! `ut_others` for the rules, on `ut_pivot` for the rows of a record, on `ut_touched` for the rows that differ, and on `ut_sound` for the tenant that an edit leaves. Its contract
 //! is that of `Edit`: a create or an update is judged by its verdict, and its changes take the organisation's rows to those of what
 //! the verdict leaves. `decide_create` and `decide_update` are the same for an object, and a record, that were read before, also with the
 //! key of an upsert.
@@ -12,6 +12,7 @@ mod create;
 mod creating;
 mod giving;
 mod laws;
+mod levels;
 mod object;
 mod others;
 mod shares;

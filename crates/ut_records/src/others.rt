@@ -1,20 +1,23 @@
 //! The rules of an edit that look for other records, and the object's own.
 
-ghost use Rattle.std.specs.Prelude.{◌≡◌, IfOk, IsTrue, length};
+ghost use Rattle.std.specs.Prelude.{◌≡◌, ◌+◌, ◌*◌, IfOk, IsTrue, length};
 ghost use Rattle.std.specs.Option.{option_map};
 ghost use Rattle.ut_data.specs.Decoding.{has_types, kinds_in};
 ghost use Rattle.ut_keeper.specs.Draft.{DraftTells, tables_of};
 ghost use Rattle.ut_model.specs.Rules.{first_refusal};
 ghost use Rattle.ut_model.specs.SoundRecords.{all_valid};
 ghost use Rattle.ut_others.specs.Judged.{FindsRule};
-ghost use Rattle.ut_records.specs.inner.Judged.{others_rules, own_rules};
+ghost use Rattle.ut_records.specs.inner.Judged.{master_rules, others_rules, own_rules};
+ghost use Rattle.ut_rights.specs.Rights.{level_shown};
 ghost use Rattle.ut_stands.specs.Calls.{Calls, ended};
 
+use crate::levels::refused_by_master;
 use std::alloc::Global;
 use ut_keeper::{Draft, Keeper, draft_laws};
 use ut_keys::StoreFail;
 use ut_model::{Record, Refusal};
 use ut_others::{bad_target, duplicate};
+use ut_rights::Rights;
 use ut_rules::failed_rule;
 use ut_stands::{Layout, call_laws};
 
@@ -24,10 +27,11 @@ use ut_stands::{Layout, call_laws};
 /// # Errors
 ///
 /// `Keeper` if the keeper failed, `Memory` if out of memory, `Damaged` never if the organisation's rows stand for a tenant whose
-/// layout it is.
-pub(crate) fn refused_by_own<K: Keeper>(
+/// layout it is and of whose user the rights are.
+pub(crate) fn refused_by_own<K: Keeper, R: Rights>(
     alloc: Global,
     draft: &mut Draft<'_, K>,
+    rights: &R,
     layout: &Layout,
     old: Option<&Record>,
     new: &Record,
@@ -35,29 +39,54 @@ pub(crate) fn refused_by_own<K: Keeper>(
     requires types { IsTrue (has_types layout.now) }
     requires values { IsTrue (all_valid (kinds_in layout.now.fields) new.now.values) }
     ensures finds { DraftTells K.state draft.old draft.new
-        → FindsRule layout.now (λ a. first_refusal (own_rules layout.now (option_map (λ r. r.now) old.entry) new.now a))
-        (tables_of K.state draft.old) result }
-    ensures calls { Calls K.state 0 (ended result) draft.old draft.new }
+        → FindsRule layout.now (R.whose rights.now)
+        (λ a. first_refusal (own_rules layout.now (option_map (λ r. r.now) old.entry) new.now a)) (tables_of K.state draft.old) result }
+    ensures calls { Calls K.state level_shown (ended result) draft.old draft.new }
 {
     draft_laws::<K>();
     call_laws::<K>();
     match failed_rule(alloc, draft, layout, new, old) {
-        Ok(None) => duplicate(alloc, draft, layout, new),
+        Ok(None) => duplicate(alloc, draft, rights, layout, new),
         Ok(Some(refusal)) => Ok(Some(refusal)),
         Err(fail) => Err(fail),
     }
 }
 
-/// The refusal of the first of these rules that refuses a new record: that it refers to what isn't there, that it fails one of the
-/// object's validation rules, that another record has one of its unique values.
+// The same of a new record, behind the refusal by its master.
+fn refused_by_rights<K: Keeper, R: Rights>(
+    alloc: Global,
+    draft: &mut Draft<'_, K>,
+    rights: &R,
+    layout: &Layout,
+    new: &Record,
+) -> Result<Option<Refusal>, StoreFail>
+    requires types { IsTrue (has_types layout.now) }
+    requires values { IsTrue (all_valid (kinds_in layout.now.fields) new.now.values) }
+    ensures finds { DraftTells K.state draft.old draft.new
+        → FindsRule layout.now (R.whose rights.now) (λ a. first_refusal (master_rules layout.now new.now a))
+        (tables_of K.state draft.old) result }
+    ensures calls { Calls K.state 8 (ended result) draft.old draft.new }
+{
+    draft_laws::<K>();
+    call_laws::<K>();
+    match refused_by_master(alloc, draft, rights, layout, new) {
+        Ok(None) => refused_by_own(alloc, draft, rights, layout, None, new),
+        Ok(Some(refusal)) => Ok(Some(refusal)),
+        Err(fail) => Err(fail),
+    }
+}
+
+/// The refusal of the first of these rules that refuses a new record: that it refers to what isn't there or can't be read, that its
+/// master can't be edited, that it fails one of the object's validation rules, that another record has one of its unique values.
 ///
 /// # Errors
 ///
 /// `Keeper` if the keeper failed, `Memory` if out of memory, `Damaged` never if the organisation's rows stand for a tenant whose
-/// layout it is.
-pub(crate) fn refused_by_others<K: Keeper>(
+/// layout it is and of whose user the rights are.
+pub(crate) fn refused_by_others<K: Keeper, R: Rights>(
     alloc: Global,
     draft: &mut Draft<'_, K>,
+    rights: &R,
     layout: &Layout,
     old: &Record,
     new: &Record,
@@ -65,13 +94,14 @@ pub(crate) fn refused_by_others<K: Keeper>(
     requires types { IsTrue (has_types layout.now) }
     requires values { IsTrue (all_valid (kinds_in layout.now.fields) new.now.values) }
     ensures finds { DraftTells K.state draft.old draft.new
-        → FindsRule layout.now (λ a. first_refusal (others_rules layout.now old.now new.now a)) (tables_of K.state draft.old) result }
-    ensures calls { Calls K.state (length layout.now.fields) (ended result) draft.old draft.new }
+        → FindsRule layout.now (R.whose rights.now) (λ a. first_refusal (others_rules layout.now old.now new.now a))
+        (tables_of K.state draft.old) result }
+    ensures calls { Calls K.state (level_shown * length layout.now.fields + 8) (ended result) draft.old draft.new }
 {
     draft_laws::<K>();
     call_laws::<K>();
-    match bad_target(alloc, draft, layout, old, new) {
-        Ok(None) => refused_by_own(alloc, draft, layout, None, new),
+    match bad_target(alloc, draft, rights, layout, old, new) {
+        Ok(None) => refused_by_rights(alloc, draft, rights, layout, new),
         Ok(Some(refusal)) => Ok(Some(refusal)),
         Err(fail) => Err(fail),
     }

@@ -10,9 +10,9 @@ ghost use Rattle.ut_keys.specs.declared.fail.StoreFail.TheVariants.{Memory};
 ghost use Rattle.ut_model.specs.Fields.{is_master};
 ghost use Rattle.ut_model.specs.Rules.{first_refusal};
 ghost use Rattle.ut_model.specs.SoundRecords.{all_valid};
-ghost use Rattle.ut_others.specs.Judged.{FindsRule};
 ghost use Rattle.ut_pivot.specs.Turned.{converts};
 ghost use Rattle.ut_records.specs.inner.Staying.{conflict_in, master_moved, staying_rules};
+ghost use Rattle.ut_stands.specs.Layouts.{FindsOf};
 ghost use Rattle.ut_value.specs.Values.{same_value};
 ghost use Rattle.ut_value.specs.declared.value.Value.TheVariants.{Null};
 
@@ -23,8 +23,8 @@ use ut_pivot::{copied_value, is_copied};
 use ut_stands::{FieldPlace, Layout};
 use ut_value::{FieldType, Value, same_value};
 
-// The first of these fields that refers to a master, where the first of them is at this position.
-fn master_among(fields: &[FieldPlace], position: usize) -> Option<(usize, &FieldPlace)>
+/// The first of these fields that refers to a master, where the first of them is at this position.
+pub(crate) fn master_among(fields: &[FieldPlace], position: usize) -> Option<(usize, &FieldPlace)>
     requires { position + length fields.now ≤ usize.MAX }
     ensures { option_map (λ f. (f.0, f.1.now)) result ≡ find (λ f. is_master f.1.kind) (enumerate_from position fields.now) }
 {
@@ -145,7 +145,7 @@ pub(crate) fn refused_by_old(
     requires types { IsTrue (has_types layout.now) }
     requires converts { IsTrue (converts layout.now) }
     requires values { IsTrue (all_valid (kinds_in layout.now.fields) new.now.values) }
-    ensures finds { (m : Tables) → FindsRule layout.now (λ a. first_refusal (staying_rules layout.now old.now new.now a)) m result }
+    ensures finds { (m : Tables) → FindsOf layout.now (λ t. first_refusal (staying_rules layout.now old.now new.now t)) m result }
     ensures cause { IfErr result (λ e. e ≡ Memory) }
 {
     match moved_or_conflict(alloc, layout, old, new) {

@@ -1,6 +1,6 @@
 //! Other values for records.
 
-ghost use Rattle.std.specs.Prelude.{◌≡◌, ◌≤◌, IfErr, IfOk, IsTrue, List, OnOk, Some, length, true, ℕ};
+ghost use Rattle.std.specs.Prelude.{◌≡◌, ◌≤◌, IfErr, IfOk, IsTrue, List, OnOk, Some, length, ℕ};
 ghost use Rattle.ut_data.specs.Decoding.{kinds_in};
 ghost use Rattle.ut_edits.specs.Rows.{AreFew, AreSpelled};
 ghost use Rattle.ut_given.specs.Given.{IsPlain, all_given, key_of};
@@ -8,6 +8,7 @@ ghost use Rattle.ut_keeper.specs.Draft.{DraftTells, tables_of};
 ghost use Rattle.ut_keys.specs.declared.fail.StoreFail.TheVariants.{Memory};
 ghost use Rattle.ut_model.specs.Objects.{Numbered};
 ghost use Rattle.ut_model.specs.Paths.{Asked};
+ghost use Rattle.ut_model.specs.Rights.{record_of_object};
 ghost use Rattle.ut_model.specs.SoundRecords.{all_valid};
 ghost use Rattle.ut_model.specs.Updates.{update};
 ghost use Rattle.ut_model.specs.Verdict.{done};
@@ -16,9 +17,12 @@ ghost use Rattle.ut_named.specs.Usable.{IsReady, IsUsable};
 ghost use Rattle.ut_pivot.specs.Turned.{converts};
 ghost use Rattle.ut_records.specs.Creating.{IsGiving, IsObject};
 ghost use Rattle.ut_records.specs.inner.Altered.{AdmitsAltered};
+ghost use Rattle.ut_records.specs.inner.Giving.{Changes};
 ghost use Rattle.ut_records.specs.inner.Judged.{HaveKeys};
 ghost use Rattle.ut_records.specs.inner.Updated.{FitsAltered, Updates, altered_changes};
 ghost use Rattle.ut_records.specs.Updating.{DecidesChanged, PlansSame};
+ghost use Rattle.ut_rights.specs.Rights.{level_shown};
+ghost use Rattle.ut_rules.specs.Objects.{object_of_layout};
 ghost use Rattle.ut_sound.specs.Fit.{ReadsWell};
 ghost use Rattle.ut_stands.specs.Calls.{Calls, ended_edit};
 ghost use Rattle.ut_stands.specs.Fails.{of_store};
@@ -27,8 +31,9 @@ ghost use Rattle.ut_stands.specs.Local.{StandsIn};
 ghost use Rattle.ut_stands.specs.Plan.{OrgPlan};
 
 use crate::altering::refused_altered;
-use crate::giving::altered_record;
+use crate::giving::{given_record, unless_missing};
 use crate::laws::update_laws;
+use crate::levels::refused_owner;
 use crate::shares::ended_shares;
 use crate::update::Update;
 use std::alloc::{AllocError, Global};
@@ -36,12 +41,13 @@ use ut_edits::{Decided, Edit};
 use ut_given::AllGiven;
 use ut_keeper::{Draft, Keeper, draft_laws};
 use ut_keys::ShareRow;
-use ut_model::{Record, Refusal, administrator_laws, object_laws};
-use ut_named::{KeptRecord, find_named, remove_shares};
+use ut_model::{Record, Refusal, object_laws};
+use ut_named::{KeptRecord, find_permitted, remove_shares};
 use ut_pivot::{changed_record_changes, pivot_laws};
+use ut_rights::Rights;
 use ut_sound::records_sound;
 use ut_stands::{EditFail, Layout, call_laws};
-use ut_value::{Items, Value, value_laws};
+use ut_value::{Items, Level, Value, value_laws};
 
 /// A record with other values that no rule refuses, and the rows of its shares that end.
 #[derive(Drop)]
@@ -79,11 +85,44 @@ fn record_copy(alloc: Global, item: &Record) -> Result<Record, AllocError>
 
 // ---- rules
 
-// Refuses other values of a record by what it refers to, by what it keeps, by the object's own rules and by unique values; and
-// the rows of the shares that end where none of them does.
-fn admit<K: Keeper>(
+// The record with other values, unless a name or a value that is given is refused, another owner by who hasn't the record in full,
+// or a required field that is null then.
+fn changed_record<K: Keeper, R: Rights>(
     alloc: Global,
     draft: &mut Draft<'_, K>,
+    rights: &R,
+    layout: &Layout,
+    old: &Record,
+    now: i64,
+    given: &AllGiven<'_>,
+) -> Result<Record, EditFail>
+    requires usable { IsUsable layout.now }
+    requires plain { IsPlain given.now }
+    requires values { IsTrue (all_valid (kinds_in layout.now.fields) old.now.values) }
+    ensures changes { DraftTells K.state draft.old draft.new
+        → (q : OrgPlan) (a : Asked) → StandsIn layout.now.org q (tables_of K.state draft.old) (Some a.tenant)
+        → R.whose rights.now a.tenant a.user → record_of_object a.tenant layout.now.object old.now.id ≡ Some old.now → a.now ≡ now
+        → ReadsWell a (object_of_layout layout.now) (all_given given.now)
+        → Changes a (object_of_layout layout.now) (key_of given.now) given.now.body.now old.now result }
+    ensures valid { IfOk result (λ r. IsTrue (all_valid (kinds_in layout.now.fields) r.values)) }
+    ensures calls { Calls K.state level_shown (ended_edit result) draft.old draft.new }
+{
+    draft_laws::<K>();
+    call_laws::<K>();
+    let copy = record_copy(alloc, old)?;
+    let new = given_record(alloc, layout, copy, now, given)?;
+    match refused_owner(alloc, draft, rights, layout, old, &new)? {
+        None => unless_missing(alloc, layout, new),
+        Some(refusal) => Err(EditFail::Refused(refusal)),
+    }
+}
+
+// Refuses other values of a record by what it refers to, by what it keeps, by the object's own rules and by unique values; and
+// the rows of the shares that end where none of them does.
+fn admit<K: Keeper, R: Rights>(
+    alloc: Global,
+    draft: &mut Draft<'_, K>,
+    rights: &R,
     layout: &Layout,
     old: &Record,
     new: &Record,
@@ -93,12 +132,12 @@ fn admit<K: Keeper>(
     requires values { IsTrue (all_valid (kinds_in layout.now.fields) new.now.values) }
     ensures admits { DraftTells K.state draft.old draft.new
         → (q : OrgPlan) (a : Asked) → StandsIn layout.now.org q (tables_of K.state draft.old) (Some a.tenant)
-        → IsLayout q a.tenant layout.now → a.user.admin ≡ true → AdmitsAltered a layout.now old.now new.now result }
+        → IsLayout q a.tenant layout.now → R.whose rights.now a.tenant a.user → AdmitsAltered a layout.now old.now new.now result }
     ensures few { IfOk result (λ rows. length rows ≤ 100) }
-    ensures calls { Calls K.state 40 (ended_edit result) draft.old draft.new }
+    ensures calls { Calls K.state 164 (ended_edit result) draft.old draft.new }
 {
     call_laws::<K>();
-    let refused = refused_altered(alloc, draft, layout, old, new)?;
+    let refused = refused_altered(alloc, draft, rights, layout, old, new)?;
     match refused {
         None => Ok(ended_shares(alloc, draft, layout.org, old, new)?),
         Some(refusal) => Err(EditFail::Refused(refusal)),
@@ -106,9 +145,10 @@ fn admit<K: Keeper>(
 }
 
 // The record with other values, if no rule refuses it.
-fn accept_update<K: Keeper>(
+fn accept_update<K: Keeper, R: Rights>(
     alloc: Global,
     draft: &mut Draft<'_, K>,
+    rights: &R,
     layout: &Layout,
     kept: &KeptRecord,
     now: i64,
@@ -120,16 +160,16 @@ fn accept_update<K: Keeper>(
     ensures accepts { DraftTells K.state draft.old draft.new
         → (q : OrgPlan) (a : Asked) (o : Numbered) (id : List ℕ)
         → StandsIn layout.now.org q (tables_of K.state draft.old) (Some a.tenant) → IsObject layout.now.org q a.tenant o layout.now
-        → IsKept q a.tenant layout.now id kept.now → a.user.admin ≡ true → a.now ≡ now → ReadsWell a o.object (all_given given.now)
+        → IsKept q a.tenant layout.now id kept.now → R.whose rights.now a.tenant a.user → a.now ≡ now
+        → ReadsWell a o.object (all_given given.now)
         → Updates layout.now.org a o (key_of given.now) given.now.body.now kept.now.item result }
     ensures form { IfOk result (FitsAltered layout.now) }
-    ensures calls { Calls K.state 40 (ended_edit result) draft.old draft.new }
+    ensures calls { Calls K.state 168 (ended_edit result) draft.old draft.new }
 {
+    draft_laws::<K>();
     call_laws::<K>();
-    administrator_laws();
-    let copy = record_copy(alloc, &kept.item)?;
-    let new = altered_record(alloc, layout, copy, now, given)?;
-    let shares = admit(alloc, draft, layout, &kept.item, &new)?;
+    let new = changed_record(alloc, draft, rights, layout, &kept.item, now, given)?;
+    let shares = admit(alloc, draft, rights, layout, &kept.item, &new)?;
     Ok(Altered { new, shares })
 }
 
@@ -163,15 +203,18 @@ fn decided_update(
     })
 }
 
-/// Judges other values for a record of an object, given at this moment: the changes that make them.
+/// Judges other values for a record of an object, given at this moment by who may edit it and whose rights these are: the changes
+/// that make them.
 ///
 /// # Errors
 ///
 /// `Refused` as the verdict of an update says, or of an upsert with a key that the record has. `Store` with `Keeper` if the keeper
-/// failed, `Memory` if out of memory, `Damaged` never if the organisation's rows stand for a tenant whose layout and record these are.
-pub fn decide_update<K: Keeper>(
+/// failed, `Memory` if out of memory, `Damaged` never if the organisation's rows stand for a tenant whose layout and record these are
+/// and of whose user the rights are.
+pub fn decide_update<K: Keeper, R: Rights>(
     alloc: Global,
     draft: &mut Draft<'_, K>,
+    rights: &R,
     layout: &Layout,
     kept: KeptRecord,
     now: i64,
@@ -181,19 +224,19 @@ pub fn decide_update<K: Keeper>(
     requires kept { FitsKept layout.now kept }
     requires plain { IsPlain given.now }
     ensures what { DraftTells K.state draft.old draft.new
-        → DecidesChanged layout.now now given.now kept (tables_of K.state draft.old) result }
+        → DecidesChanged layout.now (R.whose rights.now) now given.now kept (tables_of K.state draft.old) result }
     ensures few { IfOk result (λ x. AreFew 389 0 x.changes.items) }
-    ensures calls { Calls K.state 40 (ended_edit result) draft.old draft.new }
+    ensures calls { Calls K.state 168 (ended_edit result) draft.old draft.new }
 {
     call_laws::<K>();
     value_laws();
     pivot_laws();
     update_laws();
-    let altered = accept_update(alloc, draft, layout, &kept, now, given)?;
+    let altered = accept_update(alloc, draft, rights, layout, &kept, now, given)?;
     decided_update(alloc, layout, &kept, altered)
 }
 
-impl Edit for Update<'_> {
+impl<R: Rights> Edit for Update<'_, R> {
     type Answer = ();
 
     ghost verdict = { λ e a. update a e.object.now e.key.now e.given.now };
@@ -202,13 +245,13 @@ impl Edit for Update<'_> {
 
     ghost planned = { λ e q t next. PlansSame q t next };
 
-    ghost fits = { λ e a. IsGiving e.user e.now (λ b o. ReadsWell b o e.given.now) a };
+    ghost fits = { λ e a. IsGiving (R.whose e.rights.now) e.user e.now (λ b o. ReadsWell b o e.given.now) a };
 
     ghost most = { 389 };
 
     ghost gone = { 0 };
 
-    ghost shown = { 41 };
+    ghost shown = { 173 };
 
     fn judge<K: Keeper>(
         &self,
@@ -219,14 +262,29 @@ impl Edit for Update<'_> {
         draft_laws::<K>();
         call_laws::<K>();
         object_laws();
-        administrator_laws();
         records_sound();
-        let named = find_named(alloc, draft, org, self.object, self.key)?;
+        let named = find_permitted(
+            alloc,
+            draft,
+            self.rights,
+            org,
+            self.object,
+            self.key,
+            Level::Edit,
+        )?;
         let layout = named.layout;
         let given = AllGiven {
             body: self.given,
             key: None,
         };
-        decide_update(alloc, draft, &layout, named.kept, self.now, &given)
+        decide_update(
+            alloc,
+            draft,
+            self.rights,
+            &layout,
+            named.kept,
+            self.now,
+            &given,
+        )
     }
 }

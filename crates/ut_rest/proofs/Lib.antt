@@ -8,3 +8,4 @@ pub mod Tables
 mod Responses
 mod Verdicts
 pub mod Ways
+mod Rights

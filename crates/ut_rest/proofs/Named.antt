@@ -7,6 +7,7 @@ use Rattle.ut_keeper.specs.Tables.{Tables}
 use Rattle.ut_keys.specs.declared.fail.StoreFail.{StoreFail}
 use Rattle.ut_keys.specs.declared.fail.StoreFail.TheVariants.{Damaged, Keeper, Memory}
 use Rattle.ut_query.specs.declared.query.Query.{Query}
+use Rattle.ut_model.specs.declared.caller.Caller.{Caller}
 use Rattle.ut_model.specs.declared.refusal.Refusal.{Refusal}
 use Rattle.ut_model.specs.declared.refusal.Refusal.TheVariants.{InvalidType, NotBuilt}
 use Rattle.ut_model.specs.declared.reply.Reply.{Reply}
@@ -18,13 +19,18 @@ use Rattle.ut_model.specs.Requests.{asks, verdict_on}
 use Rattle.ut_model.specs.Tenant.{Object, Tenant}
 use Rattle.ut_model.specs.Verdict.{Verdict, accept, judged, refuse, rows_of}
 use Rattle.ut_answers.specs.Answers.{AnswersBy, IsAskedOf, Refuses}
+use Rattle.ut_rights.specs.Rights.{Whose}
+use Rattle.ut_rest.specs.inner.Callers.{IsCallerAt, IsObjectOf}
+use Rattle.ut_grants.specs.Granting.{FindsRights, IsUserRights}
+use Rattle.ut_grants.specs.Sights.{FindsSight}
+use Rattle.ut_grants.specs.declared.rights.UserRights.{UserRights}
 use Rattle.ut_stands.specs.declared.layout.Layout.{Layout}
 use Rattle.ut_stands.specs.Layouts.{IsLayout, layout_of, own_layout, own_layout_named}
 use Rattle.ut_stands.specs.Local.{FindsIn, StandsIn}
 use Rattle.ut_stands.specs.Plan.{OrgPlan}
 use Rattle.ut_step.specs.Built.{query_verdict}
 use Rattle.ut_step.specs.Flat.{is_flat}
-use Rattle.ut_rest.proofs.Literals.{paths_word, route_word}
+use Rattle.ut_rest.proofs.Literals.{paths_word}
 
 abbrev pub NamedAt : Type 0
 NamedAt = (t : Tenant) (name : List ℕ) (o : Numbered) → object_named t name ≡ Some o → object_numbered t o.number ≡ Some o.object
@@ -67,10 +73,10 @@ is_layout named_at org name p t o there =
 
 -- ---- replies
 
--- the object whose layout was found, asked for by an administrator at this moment
-pub asked_of : (org : ℕ) (moment : ℤ) (q : Query) (m : Tables) (p : OrgPlan) (a : Asked) (l : Layout) → StandsIn org p m (Some a.tenant) → FindsIn org (own_layout_named org q.tail.from) m (Ok (Some l))
-    → a.user.admin ≡ true → a.now ≡ moment → IsAskedOf l moment q m p a
-asked_of org moment q m p a l s finds admin now =
+-- the object whose layout was found
+pub object_of : (org : ℕ) (q : Query) (m : Tables) (p : OrgPlan) (a : Asked) (l : Layout) → StandsIn org p m (Some a.tenant) → FindsIn org (own_layout_named org q.tail.from) m (Ok (Some l))
+    → IsObjectOf l q m p a
+object_of org q m p a l s finds =
     let f = one_named org p a.tenant q.tail.from l (finds p (Some a.tenant) s ∙ layout_there org q.tail.from p a.tenant) in
     let own : l.org ≡ org = ap (λ (x : Layout). x.org) f.same in
     record {
@@ -78,9 +84,25 @@ asked_of org moment q m p a l s finds admin now =
       object = f.object;
       named = f.there;
       its = f.same ∙ ap (λ (n : ℕ). layout_of n p a.tenant f.object) (sym own);
-      admin = admin;
-      now = now;
     }
+
+-- over the tables after a read
+pub object_later : (l : Layout) (q : Query) (m n : Tables) (p : OrgPlan) (a : Asked) → n ≡ m → IsObjectOf l q m p a → IsObjectOf l q n p a
+object_later l q m n p a same is = record { stands = subst (λ (x : Tables). StandsIn l.org p x (Some a.tenant)) (sym same) is.stands; object = is.object; named = is.named; its = is.its }
+
+-- its layout is the tenant's
+pub layout_there_is : NamedAt → (l : Layout) (q : Query) (m : Tables) (p : OrgPlan) (a : Asked) → IsObjectOf l q m p a → IsLayout p a.tenant l
+layout_there_is named_at l q m p a is = subst (IsLayout p a.tenant) (sym is.its) (is_layout named_at l.org q.tail.from p a.tenant is.object is.named)
+
+-- it is asked for at a moment by who sees so
+pub asked_by : (l : Layout) (sees : Whose) (moment : ℤ) (q : Query) (m n : Tables) (p : OrgPlan) (a : Asked) → n ≡ m → IsObjectOf l q m p a → sees a.tenant a.user → a.now ≡ moment
+    → IsAskedOf l sees moment q n p a
+asked_by l sees moment q m n p a same is sight now =
+    record { stands = subst (λ (x : Tables). StandsIn l.org p x (Some a.tenant)) (sym same) is.stands; object = is.object; named = is.named; its = is.its; sight = sight; now = now }
+
+-- the caller, at the same moment
+pub caller_at : (c : Caller) (moment other : ℤ) (a : Asked) → other ≡ moment → IsCallerAt c moment a → IsCallerAt c other a
+caller_at c moment other a same is = record { user = is.user; admin = is.admin; now = is.now ∙ sym same }
 
 -- a refusal
 pub refused_so : (a : Asked) (why : Refusal) (result : Result Reply StoreFail) → Refuses why result → AnswersBy a (refuse a.tenant why) result
@@ -103,25 +125,29 @@ search_failed org value a v p m Damaged s finds = absurd (finds p (Some a.tenant
 search_failed org value a v p m Keeper s finds = λ e. absurd cc
 search_failed org value a v p m Memory s finds = λ e. absurd cc
 
--- ---- queries that aren't built
+-- what stopped the reading of rights, and the making of a sight
+pub rights_failed : (org : ℕ) (id : List ℕ) (a : Asked) (v : Verdict) (p : OrgPlan) (m : Tables) (f : StoreFail) → StandsIn org p m (Some a.tenant) → FindsRights org id m (Err f) → AnswersBy a v (Err f)
+rights_failed org id a v p m Damaged s finds = absurd (finds p (Some a.tenant) s)
+rights_failed org id a v p m Keeper s finds = λ e. absurd cc
+rights_failed org id a v p m Memory s finds = λ e. absurd cc
 
-flat_verdict : Asked → Query → Verdict
-flat_verdict a q = if a.user.admin then verdict_on a (asks q) else refuse a.tenant (NotBuilt (codes "route"))
+pub sight_failed : (r : UserRights) (l : Layout) (a : Asked) (v : Verdict) (p : OrgPlan) (m : Tables) (f : StoreFail) → StandsIn l.org p m (Some a.tenant) → IsLayout p a.tenant l → IsUserRights a.tenant a.user r
+    → FindsSight r l m (Err f) → AnswersBy a v (Err f)
+sight_failed r l a v p m Damaged s its is finds = absurd (finds p a.tenant a.user s its is)
+sight_failed r l a v p m Keeper s its is finds = λ e. absurd cc
+sight_failed r l a v p m Memory s its is finds = λ e. absurd cc
+
+-- ---- queries that aren't built
 
 -- over several objects
 pub paths_unbuilt : (a : Asked) (q : Query) (result : Result Reply StoreFail) → is_flat q ≡ false → Refuses (NotBuilt (chars (codes "paths"))) result → AnswersBy a (query_verdict a (Ok q)) result
-unfolding flat_verdict
 paths_unbuilt a q result several refused =
     let why = NotBuilt (codes "paths") in
-    let verdict : query_verdict a (Ok q) ≡ refuse a.tenant why = ap (λ (flat : Bool). if flat then flat_verdict a q else refuse a.tenant why) several in
+    let verdict : query_verdict a (Ok q) ≡ refuse a.tenant why = ap (λ (flat : Bool). if flat then verdict_on a (asks q) else refuse a.tenant why) several in
     subst (λ (v : Verdict). AnswersBy a v result) (sym verdict) (refused_so a why result (subst (λ (what : List ℕ). Refuses (NotBuilt what) result) paths_word refused))
 
--- by who is no administrator
-pub callers_unbuilt : (a : Asked) (q : Query) (result : Result Reply StoreFail) → is_flat q ≡ true → a.user.admin ≡ false → Refuses (NotBuilt (chars (codes "route"))) result
-    → AnswersBy a (query_verdict a (Ok q)) result
-unfolding flat_verdict
-callers_unbuilt a q result flat caller refused =
-    let why = NotBuilt (codes "route") in
-    let one : query_verdict a (Ok q) ≡ flat_verdict a q = ap (λ (x : Bool). if x then flat_verdict a q else refuse a.tenant (NotBuilt (codes "paths"))) flat in
-    let verdict : flat_verdict a q ≡ refuse a.tenant why = ap (λ (x : Bool). if x then verdict_on a (asks q) else refuse a.tenant why) caller in
-    subst (λ (v : Verdict). AnswersBy a v result) (sym (one ∙ verdict)) (refused_so a why result (subst (λ (what : List ℕ). Refuses (NotBuilt what) result) route_word refused))
+-- over one
+pub flat_answered : (a : Asked) (q : Query) (result : Result Reply StoreFail) → is_flat q ≡ true → AnswersBy a (ask a q) result → AnswersBy a (query_verdict a (Ok q)) result
+flat_answered a q result flat h =
+    let verdict : query_verdict a (Ok q) ≡ ask a q = ap (λ (x : Bool). if x then verdict_on a (asks q) else refuse a.tenant (NotBuilt (codes "paths"))) flat in
+    subst (λ (v : Verdict). AnswersBy a v result) (sym verdict) h

@@ -1,13 +1,13 @@
 -- What a route's request comes to for who asks.
-use Rattle.std.proofs.Common.{◌≡◌, ◌∙◌, ◌≤◌, ℕ, Bool, true, false, ◌&&◌, List, inl, inr, refl, sym, ap, subst, arith}
-use Rattle.std.specs.Prelude.{Result, Ok, Err, IfOk, codes, not, if◌then◌else◌}
-use Rattle.ut_admin.specs.Administration.{Administers, IsEditReply}
+use Rattle.std.proofs.Common.{◌≡◌, ◌∙◌, ◌≤◌, ℕ, true, false, ◌&&◌, List, inl, inr, refl, sym, ap, subst, arith}
+use Rattle.std.specs.Prelude.{Result, Ok, Err, IfOk, not, if◌then◌else◌}
+use Rattle.ut_admin.specs.Administration.{IsEditReply}
 use Rattle.ut_keeper.specs.Draft.{DraftReads, Held}
 use Rattle.ut_keeper.specs.State.{KeeperState}
 use Rattle.ut_keeper.specs.Tables.{Tables}
 use Rattle.ut_keys.specs.declared.fail.StoreFail.{StoreFail}
 use Rattle.ut_model.specs.declared.caller.Caller.{Caller}
-use Rattle.ut_model.specs.declared.refusal.Refusal.TheVariants.{AdminRequired, NotBuilt}
+use Rattle.ut_model.specs.declared.refusal.Refusal.TheVariants.{AdminRequired}
 use Rattle.ut_model.specs.declared.reply.Reply.{Reply}
 use Rattle.ut_model.specs.declared.route.Route.{Route}
 use Rattle.ut_model.specs.declared.route.Route.TheVariants.{AddGroup, AddRole, AddUser, Create, Query, Upsert}
@@ -40,32 +40,23 @@ module _ (r : Route) (body : List ℕ) (c : Caller) (now : ℕ) where
   request_verdict : (a : Asked) → IsAsking c now a → (is_administration r && not c.admin) ≡ false → verdict_to a body (To r) ≡ built_verdict a r body
   request_verdict a asking e = lacks a asking ∙ ap (λ b. if b then refuse a.tenant AdminRequired else built_verdict a r body) e
 
-judged_by : (r : Route) (body : List ℕ) (a : Asked) → NoQuery r
-    → built_verdict a r body ≡ (if a.user.admin then verdict_or a (built_request r body) else refuse a.tenant (NotBuilt (codes "route")))
+judged_by : (r : Route) (body : List ℕ) (a : Asked) → NoQuery r → built_verdict a r body ≡ verdict_or a (built_request r body)
 judged_by (Query pairs) body a other = absurd (other pairs refl)
 judged_by _ body a other = refl
 
 module _ (r : Route) (body : List ℕ) (c : Caller) (now : ℕ) (other : NoQuery r) (may : (is_administration r && not c.admin) ≡ false) where
-  by_caller : (a : Asked) → IsAsking c now a → (admin : Bool) → c.admin ≡ admin
-      → verdict_to a body (To r) ≡ (if admin then verdict_or a (built_request r body) else refuse a.tenant (NotBuilt (codes "route")))
-  by_caller a asking admin is =
-      request_verdict r body c now a asking may ∙ judged_by r body a other
-      ∙ ap (λ b. if b then verdict_or a (built_request r body) else refuse a.tenant (NotBuilt (codes "route"))) (asking.admin ∙ is)
+  by_caller : (a : Asked) → IsAsking c now a → verdict_to a body (To r) ≡ verdict_or a (built_request r body)
+  by_caller a asking = request_verdict r body c now a asking may ∙ judged_by r body a other
 
-  -- of who is no administrator, it isn't built
-  pub unbuilt : c.admin ≡ false → (a : Asked) → IsAsking c now a → verdict_to a body (To r) ≡ refuse a.tenant (NotBuilt (codes "route"))
-  unbuilt is a asking = by_caller a asking false is
-
-  -- an administrator's request
-  pub administered : (org : ℕ) (m after : Tables) (result : Result (Judged Reply) StoreFail) → c.admin ≡ true
-      → Responds org (Administers c now) (λ a. verdict_or a (built_request r body)) m after result → Responds org (IsAsking c now) (λ a. verdict_to a body (To r)) m after result
-  administered org m after result is h = record {
+  -- a request for an edit
+  pub edited : (org : ℕ) (m after : Tables) (result : Result (Judged Reply) StoreFail)
+      → Responds org (IsAsking c now) (λ a. verdict_or a (built_request r body)) m after result → Responds org (IsAsking c now) (λ a. verdict_to a body (To r)) m after result
+  edited org m after result h = record {
     others = h.others;
-    replied = λ p a s asking.
-        subst (λ (v : Verdict). RepliesAt org a v after result) (sym (by_caller a asking true is)) (h.replied p a s (asking, asking.admin ∙ is));
+    replied = λ p a s asking. subst (λ (v : Verdict). RepliesAt org a v after result) (sym (by_caller a asking)) (h.replied p a s asking);
   }
 
--- ---- the form of the reply to an administrator
+-- ---- the form of the reply to an edit
 
 may_change : (r : Route) → NoQuery r → MayChange (To r)
 may_change (Query pairs) other = absurd (other pairs refl)

@@ -1,22 +1,24 @@
 //! Queries of one object.
 
-ghost use Rattle.std.specs.Prelude.{◌≡◌, IfOk, IsTrue, None, Ok, Some, pos, true};
+ghost use Rattle.std.specs.Prelude.{◌≡◌, IfOk, IsTrue, Ok, Some, pos, true};
 ghost use Rattle.std.specs.Str.{chars};
 ghost use Rattle.ut_answers.specs.Answers.{AnswersBy, IsReadReply, Refuses};
 ghost use Rattle.ut_grammar.specs.Place.{UnlessMemory};
+ghost use Rattle.ut_grants.specs.Granting.{IsUserRights};
 ghost use Rattle.ut_keeper.specs.Draft.{DraftTells, removals_of, tables_of};
 ghost use Rattle.ut_keeper.specs.State.{data_table};
 ghost use Rattle.ut_model.specs.declared.refusal.Refusal.TheVariants.{InvalidType, MalformedQuery};
 ghost use Rattle.ut_model.specs.Asking.{ask};
 ghost use Rattle.ut_model.specs.Paths.{Asked};
 ghost use Rattle.ut_model.specs.Step.{query_text};
+ghost use Rattle.ut_rest.specs.inner.Callers.{IsCallerAt, IsObjectOf};
 ghost use Rattle.ut_soql_grammar.specs.Spelling.{reads_query};
 ghost use Rattle.ut_stands.specs.Calls.{Calls, ended};
 ghost use Rattle.ut_stands.specs.Local.{StandsIn};
 ghost use Rattle.ut_stands.specs.Plan.{OrgPlan};
 ghost use Rattle.ut_step.specs.Built.{query_verdict};
 ghost use Rattle.ut_step.specs.Flat.{is_flat};
-ghost use Rattle.ut_step.specs.Own.{shown_beside};
+ghost use Rattle.ut_step.specs.Own.{IsAsking, shown_beside};
 ghost use Rattle.ut_value.specs.Dates.{is_moment};
 
 use crate::query::query_text;
@@ -26,12 +28,14 @@ use ut_admin::moment;
 use ut_answers::{answer_flat, refuse};
 use ut_bind::is_flat;
 use ut_grammar::ParseFail;
+use ut_grants::{UserRights, sight_of, user_rights};
 use ut_keeper::{Draft, Keeper, draft_laws};
 use ut_keys::StoreFail;
 use ut_model::{Caller, Refusal, Reply, object_laws};
 use ut_query::Query;
+use ut_rights::Administrator;
 use ut_soql::parse;
-use ut_stands::{call_laws, layout_named};
+use ut_stands::{Layout, call_laws, layout_named};
 use ut_value::Text;
 
 // An object that isn't there is refused under the name that the query has.
@@ -45,25 +49,75 @@ fn refuse_object(alloc: Global, name: &Text) -> Result<Reply, StoreFail>
     }
 }
 
-// Answers an administrator who asks for records of the object with this name.
-fn answer_named<K: Keeper>(
+// Answers a user with these rights who asks for records of an object.
+fn answer_user<K: Keeper>(
     alloc: Global,
     draft: &mut Draft<'_, K>,
-    org: u32,
+    rights: &UserRights,
+    layout: &Layout,
     now: i64,
     query: &Query,
 ) -> Result<Reply, StoreFail>
     ensures what { DraftTells K.state draft.old draft.new
-        → (p : OrgPlan) (a : Asked) → StandsIn org p (tables_of K.state draft.old) (Some a.tenant) → a.user.admin ≡ true
-        → a.now ≡ now → is_flat query.now ≡ true → AnswersBy a (ask a query.now) result }
+        → (p : OrgPlan) (a : Asked) → IsObjectOf layout.now query.now (tables_of K.state draft.old) p a
+        → IsUserRights a.tenant a.user rights.now → a.now ≡ now → is_flat query.now ≡ true → AnswersBy a (ask a query.now) result }
     ensures form { IfOk result IsReadReply }
     ensures calls { Calls K.state (shown_beside (removals_of K.state data_table draft.old)) (ended result) draft.old draft.new }
 {
     draft_laws::<K>();
     call_laws::<K>();
     object_laws();
-    match layout_named(alloc, draft, org, query.tail.from.as_str()) {
-        Ok(Some(layout)) => answer_flat(alloc, draft, &layout, now, query),
+    match sight_of(alloc, draft, rights, layout) {
+        Ok(sight) => answer_flat(alloc, draft, layout, &sight, now, query),
+        Err(fail) => Err(fail),
+    }
+}
+
+// Answers a caller who asks for records of an object, by what the caller sees of them.
+fn answer_object<K: Keeper>(
+    alloc: Global,
+    draft: &mut Draft<'_, K>,
+    caller: &Caller,
+    layout: &Layout,
+    now: i64,
+    query: &Query,
+) -> Result<Reply, StoreFail>
+    ensures what { DraftTells K.state draft.old draft.new
+        → (p : OrgPlan) (a : Asked) → IsObjectOf layout.now query.now (tables_of K.state draft.old) p a
+        → IsCallerAt caller.now now a → is_flat query.now ≡ true → AnswersBy a (ask a query.now) result }
+    ensures form { IfOk result IsReadReply }
+    ensures calls { Calls K.state (shown_beside (removals_of K.state data_table draft.old)) (ended result) draft.old draft.new }
+{
+    draft_laws::<K>();
+    call_laws::<K>();
+    if caller.admin {
+        return answer_flat(alloc, draft, layout, &Administrator, now, query);
+    }
+    match user_rights(alloc, draft, layout.org, &caller.user) {
+        Ok(rights) => answer_user(alloc, draft, &rights, layout, now, query),
+        Err(fail) => Err(fail),
+    }
+}
+
+// Answers a caller who asks for records of the object with this name.
+fn answer_named<K: Keeper>(
+    alloc: Global,
+    draft: &mut Draft<'_, K>,
+    caller: &Caller,
+    now: i64,
+    query: &Query,
+) -> Result<Reply, StoreFail>
+    ensures what { DraftTells K.state draft.old draft.new
+        → (p : OrgPlan) (a : Asked) → StandsIn caller.now.org p (tables_of K.state draft.old) (Some a.tenant) → IsCallerAt caller.now now a
+        → is_flat query.now ≡ true → AnswersBy a (ask a query.now) result }
+    ensures form { IfOk result IsReadReply }
+    ensures calls { Calls K.state (shown_beside (removals_of K.state data_table draft.old)) (ended result) draft.old draft.new }
+{
+    draft_laws::<K>();
+    call_laws::<K>();
+    object_laws();
+    match layout_named(alloc, draft, caller.org, query.tail.from.as_str()) {
+        Ok(Some(layout)) => answer_object(alloc, draft, caller, &layout, now, query),
         Ok(None) => refuse_object(alloc, &query.tail.from),
         Err(fail) => Err(fail),
     }
@@ -85,8 +139,7 @@ fn refuse_malformed(alloc: Global, place: usize) -> Result<Reply, StoreFail>
     refuse(alloc, Refusal::MalformedQuery { place })
 }
 
-// Answers a query that was read. Those with paths of several names or with subqueries, and those of who is no administrator, aren't
-// built.
+// Answers a query that was read. Those with paths of several names or with subqueries aren't built.
 fn answer_read<K: Keeper>(
     alloc: Global,
     draft: &mut Draft<'_, K>,
@@ -96,17 +149,15 @@ fn answer_read<K: Keeper>(
 ) -> Result<Reply, StoreFail>
     ensures what { DraftTells K.state draft.old draft.new
         → (p : OrgPlan) (a : Asked) → StandsIn caller.now.org p (tables_of K.state draft.old) (Some a.tenant)
-        → a.user.admin ≡ caller.now.admin → a.now ≡ now → AnswersBy a (query_verdict a (Ok query.now)) result }
+        → IsCallerAt caller.now now a → AnswersBy a (query_verdict a (Ok query.now)) result }
     ensures form { IfOk result IsReadReply }
     ensures calls { Calls K.state (shown_beside (removals_of K.state data_table draft.old)) (ended result) draft.old draft.new }
 {
     call_laws::<K>();
-    if !is_flat(query) {
-        refuse_unbuilt(alloc, "paths")
-    } else if caller.admin {
-        answer_named(alloc, draft, caller.org, now, query)
+    if is_flat(query) {
+        answer_named(alloc, draft, caller, now, query)
     } else {
-        refuse_unbuilt(alloc, "route")
+        refuse_unbuilt(alloc, "paths")
     }
 }
 
@@ -126,7 +177,7 @@ pub(crate) fn answer_query<K: Keeper>(
     requires { IsTrue (is_moment (pos now)) }
     ensures what { DraftTells K.state draft.old draft.new
         → (p : OrgPlan) (a : Asked) → StandsIn caller.now.org p (tables_of K.state draft.old) (Some a.tenant)
-        → a.user.admin ≡ caller.now.admin → a.now ≡ pos now → AnswersBy a (query_verdict a (reads_query (query_text pairs.now))) result }
+        → IsAsking caller.now now a → AnswersBy a (query_verdict a (reads_query (query_text pairs.now))) result }
     ensures form { IfOk result IsReadReply }
     ensures calls { Calls K.state (shown_beside (removals_of K.state data_table draft.old)) (ended result) draft.old draft.new }
 {

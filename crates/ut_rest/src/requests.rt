@@ -2,26 +2,30 @@
 
 ghost use Rattle.std.specs.Prelude.{◌≡◌, ◌&&◌, ◌+◌, IfOk, IsTrue, not, pos};
 ghost use Rattle.std.specs.Str.{chars};
+ghost use Rattle.ut_admin.specs.Administration.{IsEditReply};
 ghost use Rattle.ut_keeper.specs.Draft.{DraftTells, removals_of, tables_of};
 ghost use Rattle.ut_keeper.specs.State.{data_table};
 ghost use Rattle.ut_model.specs.declared.routed.Routed.TheVariants.{To};
+ghost use Rattle.ut_model.specs.RequestOf.{verdict_or};
 ghost use Rattle.ut_model.specs.Routing.{is_administration, routed};
 ghost use Rattle.ut_rest.specs.Forms.{IsRequestReply};
 ghost use Rattle.ut_stands.specs.Operations.{Drafts, Responds};
-ghost use Rattle.ut_step.specs.Built.{verdict_to};
-ghost use Rattle.ut_step.specs.Own.{IsAsking, request_changes, request_gone, shown_beside};
+ghost use Rattle.ut_step.specs.Built.{built_request, verdict_to};
+ghost use Rattle.ut_step.specs.Own.{IsAsking, edit_shown, request_changes, request_gone, shown_beside};
 ghost use Rattle.ut_value.specs.Dates.{is_moment};
 
 use crate::asking::answer_query;
-use crate::replies::{refuse_unbuilt, unchanged};
+use crate::replies::unchanged;
 use crate::routes::Routes;
 use http::Method;
 use std::alloc::Global;
 use ut_admin::administer;
 use ut_answers::refuse;
-use ut_keeper::{Draft, Keeper};
+use ut_grants::user_rights;
+use ut_keeper::{Draft, Keeper, draft_laws};
 use ut_keys::StoreFail;
 use ut_model::{Caller, Refusal, Reply, Route, Routed};
+use ut_rights::Administrator;
 use ut_stands::{Judged, call_laws};
 
 // Whether the request is for administrators, and its caller is none.
@@ -29,6 +33,33 @@ fn lacks_administrator(caller: &Caller, route: &Route) -> bool
     ensures { result ≡ (is_administration route.now && not caller.now.admin) }
 {
     route.is_administration() && !caller.admin
+}
+
+// Answers a request for an edit, by the rights of who asks.
+fn answer_edit<K: Keeper>(
+    alloc: Global,
+    draft: &mut Draft<'_, K>,
+    caller: &Caller,
+    now: u64,
+    route: &Route,
+    body: &[u8],
+) -> Result<Judged<Reply>, StoreFail>
+    requires { IsTrue (is_moment (pos now)) }
+    ensures what { DraftTells K.state draft.old draft.new
+        → Responds caller.now.org (IsAsking caller.now now) (λ a. verdict_or a (built_request route.now body.now))
+        (tables_of K.state draft.old) (tables_of K.state draft.new) result }
+    ensures form { IfOk result (IsEditReply route.now) }
+    ensures drafts { Drafts K.state request_changes request_gone edit_shown result draft.old draft.new }
+{
+    draft_laws::<K>();
+    call_laws::<K>();
+    if caller.admin {
+        return administer(alloc, draft, &Administrator, caller, now, route, body);
+    }
+    match user_rights(alloc, draft, caller.org, &caller.user) {
+        Ok(rights) => administer(alloc, draft, &rights, caller, now, route, body),
+        Err(fail) => Err(fail),
+    }
 }
 
 // Answers a request.
@@ -54,13 +85,7 @@ fn answer<K: Keeper>(
     }
     match route {
         Route::Query { pairs } => unchanged(answer_query(alloc, draft, caller, now, pairs)),
-        _ => {
-            if caller.admin {
-                administer(alloc, draft, caller, now, route, body)
-            } else {
-                unchanged(refuse_unbuilt(alloc, "route"))
-            }
-        }
+        _ => answer_edit(alloc, draft, caller, now, route, body),
     }
 }
 

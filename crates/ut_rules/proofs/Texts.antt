@@ -14,19 +14,19 @@ use Rattle.ut_model.specs.Limits.{formula_limit}
 use Rattle.ut_model.specs.RuleFormulas.{formula_of}
 use Rattle.ut_model.specs.Tenant.{Object}
 
-pub reads_so : (o : Object) (fields : List NamedField) (text : List ℕ) (r : Result Formula ParseFail) → IsUtf8 text → fields ≡ formula_fields o.fields
-    → UnlessMemory r (λ read. ok_or (formula_in false fields (chars text)) (place_in false fields (chars text) (length text)) ≡ read)
-    → UnlessMemory r (λ read. reads_text o false (chars text) ≡ read)
+pub reads_so : (criteria : Bool) (o : Object) (fields : List NamedField) (text : List ℕ) (r : Result Formula ParseFail) → IsUtf8 text → fields ≡ formula_fields o.fields
+    → UnlessMemory r (λ read. ok_or (formula_in criteria fields (chars text)) (place_in criteria fields (chars text) (length text)) ≡ read)
+    → UnlessMemory r (λ read. reads_text o criteria (chars text) ≡ read)
 unfolding reads_text
-reads_so o fields text r utf is h =
-    subst (λ (n : ℕ). UnlessMemory r (λ read. ok_or (formula_in false (formula_fields o.fields) (chars text)) (place_in false (formula_fields o.fields) (chars text) n) ≡ read)) (ap length (sym (encodes-chars text utf)))
-    (subst (λ (fs : List NamedField). UnlessMemory r (λ read. ok_or (formula_in false fs (chars text)) (place_in false fs (chars text) (length text)) ≡ read)) is h)
+reads_so criteria o fields text r utf is h =
+    subst (λ (n : ℕ). UnlessMemory r (λ read. ok_or (formula_in criteria (formula_fields o.fields) (chars text)) (place_in criteria (formula_fields o.fields) (chars text) n) ≡ read)) (ap length (sym (encodes-chars text utf)))
+    (subst (λ (fs : List NamedField). UnlessMemory r (λ read. ok_or (formula_in criteria fs (chars text)) (place_in criteria fs (chars text) (length text)) ≡ read)) is h)
 
-pub too_long : (o : Object) (text : List ℕ) → nat_lt formula_limit (length text) ≡ true → formula_of o false text ≡ Err 0
+pub too_long : (criteria : Bool) (o : Object) (text : List ℕ) → nat_lt formula_limit (length text) ≡ true → formula_of o criteria text ≡ Err 0
 unfolding formula_of
-too_long o text e = rw e refl
+too_long criteria o text e = rw e refl
 
-pub short_enough : (o : Object) (text : List ℕ) (r : Result Formula ParseFail) → nat_lt formula_limit (length text) ≡ false
-    → UnlessMemory r (λ read. reads_text o false text ≡ read) → UnlessMemory r (λ read. formula_of o false text ≡ read)
+pub short_enough : (criteria : Bool) (o : Object) (text : List ℕ) (r : Result Formula ParseFail) → nat_lt formula_limit (length text) ≡ false
+    → UnlessMemory r (λ read. reads_text o criteria text ≡ read) → UnlessMemory r (λ read. formula_of o criteria text ≡ read)
 unfolding formula_of
-short_enough o text r e h = subst (λ (b : Bool). UnlessMemory r (λ read. cond b (Err 0) (reads_text o false text) ≡ read)) (sym e) h
+short_enough criteria o text r e h = subst (λ (b : Bool). UnlessMemory r (λ read. cond b (Err 0) (reads_text o criteria text) ≡ read)) (sym e) h

@@ -74,7 +74,7 @@ fn text_holds(
     ensures { IfOk result (λ b. b ≡ read_holds (reads_text (object_of_layout layout.now) false (chars text.now))
         new.now.values (option_map (λ r. r.values) old.now)) }
 {
-    match read_text(alloc, layout, text) {
+    match read_text(alloc, layout, false, text) {
         Ok(formula) => match old {
             None => Ok(holds(&formula, new, None)),
             Some(old) => Ok(holds(&formula, new, Some(old))),

@@ -1,6 +1,6 @@
-//! The formulas of validation rules, read by the layouts of their objects.
+//! The formulas of validation rules and of criteria rules, read by the layouts of their objects.
 
-ghost use Rattle.std.specs.Prelude.{◌+◌, ◌≡◌, ◌≤◌, IfOk, Ok, false, length, map, nat_lt};
+ghost use Rattle.std.specs.Prelude.{◌+◌, ◌≡◌, ◌≤◌, IfOk, Ok, length, map, nat_lt};
 ghost use Rattle.std.specs.Str.{chars};
 ghost use Rattle.ut_grammar.specs.Place.{UnlessMemory};
 ghost use Rattle.ut_model.specs.FormulaTexts.{as_named, formula_fields, name_field, reads_text};
@@ -55,30 +55,45 @@ fn is_too_long(text: &str) -> bool
     character_count(text) > FORMULA_LIMIT
 }
 
-// The formula that a text spells, whatever its length.
-pub fn read_text(alloc: Global, layout: &Layout, text: &str) -> Result<Formula, ParseFail>
+/// The formula that a text spells over the fields of an object, whatever its length: in a criteria rule, or else in a validation
+/// rule, which may also ask what the record was.
+///
+/// # Errors
+///
+/// `Malformed` with its place if the text spells none; `Memory` if out of memory.
+pub fn read_text(
+    alloc: Global,
+    layout: &Layout,
+    criteria: bool,
+    text: &str,
+) -> Result<Formula, ParseFail>
     requires { length layout.now.fields ≤ 40 }
-    ensures { UnlessMemory result (λ read. reads_text (object_of_layout layout.now) false (chars text.now) ≡ read) }
+    ensures { UnlessMemory result (λ read. reads_text (object_of_layout layout.now) criteria (chars text.now) ≡ read) }
 {
     match formula_fields(alloc, layout.fields.as_slice()) {
-        Ok(fields) => parse(alloc, text, &fields, false),
+        Ok(fields) => parse(alloc, text, &fields, criteria),
         Err(_) => Err(ParseFail::Memory),
     }
 }
 
-/// The formula that the text of a validation rule spells over the fields of its object.
+/// The formula that the text of a criteria rule, or else of a validation rule, spells over the fields of its object.
 ///
 /// # Errors
 ///
 /// `Malformed` with its place if the text spells none, or 0 if it has too many characters; `Memory` if out of memory.
-pub fn read_formula(alloc: Global, layout: &Layout, text: &str) -> Result<Formula, ParseFail>
+pub fn read_formula(
+    alloc: Global,
+    layout: &Layout,
+    criteria: bool,
+    text: &str,
+) -> Result<Formula, ParseFail>
     requires { length layout.now.fields ≤ 40 }
-    ensures { UnlessMemory result (λ read. formula_of (object_of_layout layout.now) false (chars text.now) ≡ read) }
+    ensures { UnlessMemory result (λ read. formula_of (object_of_layout layout.now) criteria (chars text.now) ≡ read) }
 {
     if is_too_long(text) {
         Err(ParseFail::Malformed(0))
     } else {
-        read_text(alloc, layout, text)
+        read_text(alloc, layout, criteria, text)
     }
 }
 

@@ -10,5 +10,5 @@ mod formulas;
 mod rows;
 
 pub use crate::failing::failed_rule;
-pub use crate::formulas::{names_field, read_formula};
+pub use crate::formulas::{names_field, read_formula, read_text};
 pub use crate::rows::rules_of;

@@ -61,26 +61,15 @@ module _ (a : Asked) (body : List ℕ) where
   same_query (Err place) ok = refl
   same_query (Ok q) ok = flat (is_flat q) ok
     where
-      by : (b : Bool) → IsAllowed (cond b (verdict_or a (query_or (Ok q))) (refuse a.tenant (refusal.NotBuilt (codes "route"))))
-          → cond b (verdict_or a (query_or (Ok q))) (refuse a.tenant (refusal.NotBuilt (codes "route"))) ≡ verdict_or a (query_or (Ok q))
-      by true ok = refl
-      by false ok = absurd (ok refl)
-
-      flat : (b : Bool) → IsAllowed (cond b (cond a.user.admin (verdict_or a (query_or (Ok q))) (refuse a.tenant (refusal.NotBuilt (codes "route")))) (refuse a.tenant (refusal.NotBuilt (codes "paths"))))
-          → cond b (cond a.user.admin (verdict_or a (query_or (Ok q))) (refuse a.tenant (refusal.NotBuilt (codes "route")))) (refuse a.tenant (refusal.NotBuilt (codes "paths"))) ≡ verdict_or a (query_or (Ok q))
-      flat true ok = by a.user.admin ok
+      flat : (b : Bool) → IsAllowed (cond b (verdict_or a (query_or (Ok q))) (refuse a.tenant (refusal.NotBuilt (codes "paths"))))
+          → cond b (verdict_or a (query_or (Ok q))) (refuse a.tenant (refusal.NotBuilt (codes "paths"))) ≡ verdict_or a (query_or (Ok q))
+      flat true ok = refl
       flat false ok = absurd (ok refl)
-
-  -- of an administrator; any other's isn't built
-  same_judged : (r : Route) (admin : Bool) → IsAllowed (cond admin (verdict_or a (built_request r body)) (refuse a.tenant (refusal.NotBuilt (codes "route"))))
-      → cond admin (verdict_or a (built_request r body)) (refuse a.tenant (refusal.NotBuilt (codes "route"))) ≡ verdict_or a (request_of r body)
-  same_judged r true ok = same_request r ok
-  same_judged r false ok = absurd (ok refl)
 
   same_route : (r : Route) → IsAllowed (built_verdict a r body) → built_verdict a r body ≡ verdict_or a (request_of r body)
   unfolding request_of
   same_route (route.Query pairs) ok = same_query (reads_query (query_text pairs)) ok
-  same_route r ok = same_judged r a.user.admin ok
+  same_route r ok = same_request r ok
 
   same_verdict : (r : Routed) → IsAllowed (verdict_to a body r) → verdict_to a body r ≡ verdict_at a body r
   same_verdict NotFound ok = refl

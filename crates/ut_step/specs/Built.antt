@@ -23,18 +23,22 @@ use Rattle.ut_model.specs.Verdict.{Verdict, refuse}
 use Rattle.ut_model.specs.World.{World, user_at}
 use Rattle.ut_step.specs.Flat.{is_flat}
 
--- ---- requests of administrators
+-- ---- requests
 
--- the routes that are built, of administrators
+-- the routes that are built, beside queries
 abbrev pub is_built : Route → Bool
 is_built (route.Create object) = true
 is_built (route.Update object key) = true
 is_built (route.Delete object key) = true
 is_built (route.Upsert object key value) = true
+is_built route.Share = true
+is_built (route.Unshare item part) = true
 is_built route.AddObject = true
 is_built (route.SetObject object) = true
 is_built route.AddField = true
 is_built route.AddValidationRule = true
+is_built route.AddSharingRule = true
+is_built (route.RemoveSharingRule name) = true
 is_built route.AddUser = true
 is_built (route.SetUser user) = true
 is_built route.AddRole = true
@@ -49,20 +53,17 @@ built_request r body = if is_built r then request_of r body else Err (refusal.No
 
 -- ---- queries
 
--- of queries those over one object are built, of administrators
+-- of queries those over one object are built
 abbrev pub query_verdict : Asked → Result Query ℕ → Verdict
 query_verdict a (Err place) = refuse a.tenant (refusal.MalformedQuery place)
-query_verdict a (Ok q) =
-    if is_flat q
-    then (if a.user.admin then verdict_on a (asks q) else refuse a.tenant (refusal.NotBuilt (codes "route")))
-    else refuse a.tenant (refusal.NotBuilt (codes "paths"))
+query_verdict a (Ok q) = if is_flat q then verdict_on a (asks q) else refuse a.tenant (refusal.NotBuilt (codes "paths"))
 
 -- ---- a caller's message
 
--- what a request comes to: of who is no administrator none but a query is judged, as no other is built
+-- what a request comes to
 abbrev pub built_verdict : Asked → Route → (body : List ℕ) → Verdict
 built_verdict a (route.Query pairs) body = query_verdict a (reads_query (query_text pairs))
-built_verdict a r body = if a.user.admin then verdict_or a (built_request r body) else refuse a.tenant (refusal.NotBuilt (codes "route"))
+built_verdict a r body = verdict_or a (built_request r body)
 
 -- no such path, another method, no administrator; then the request itself
 abbrev pub verdict_to : Asked → (body : List ℕ) → Routed → Verdict

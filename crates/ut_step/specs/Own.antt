@@ -32,15 +32,17 @@ request_changes = 245101
 abbrev pub request_gone : ℕ
 request_gone = deletion_limit
 
--- the most data rows that are shown to a request
+-- the most data rows that are shown to a request: those of an object's records, and for each of them those of its masters, by which
+-- it is readable
 abbrev pub request_shown : ℕ
-request_shown = limit_number limit.RecordsPerObject
+request_shown = 4 * limit_number limit.RecordsPerObject
 
 -- the same over a draft that removes so many: a query reads an object's records in at most 80 pages, and the removed ones may be
 -- among those of each
 abbrev pub shown_beside : (removed : ℕ) → ℕ
 shown_beside removed = request_shown + 80 * removed
 
--- the most data rows that are shown to an edit: the record that a deletion names, and each that it removes or clears
+-- the most data rows that are shown to an edit: the record that a deletion names, the four that its level takes, and each that it
+-- removes or clears
 abbrev pub edit_shown : ℕ
-edit_shown = deletion_limit + 1
+edit_shown = deletion_limit + 5

@@ -1,5 +1,5 @@
 -- An upsert by its unique field and the value comes to an update of the record that has the value, or to a create where none has it.
-use Rattle.std.proofs.Common.{◌≡◌, ◌∙◌, ℕ, suc, true, not, List, [], ◌∷◌, Option, Some, None, sym, ap, subst, inl, inr}
+use Rattle.std.proofs.Common.{◌≡◌, ◌∙◌, ℕ, suc, Bool, true, false, not, List, [], ◌∷◌, Option, Some, None, refl, sym, ap, subst, inl, inr}
 use Rattle.std.specs.Prelude.{Result, Ok, Err, IsErrAnd, slice_get, ℤ}
 use Rattle.ut_data.proofs.Lists.{some_is}
 use Rattle.ut_edits.specs.Edits.{ChangesIn, DecidesTo, FailsBy, Planned, Takes}
@@ -8,15 +8,16 @@ use Rattle.ut_given.specs.Given as given_specs
 use Rattle.ut_given.specs.declared.key.AllGiven.{AllGiven}
 use Rattle.ut_keeper.specs.Tables.{Tables}
 use Rattle.ut_keys.specs.declared.fail.StoreFail.{StoreFail}
+use Rattle.ut_keys.specs.declared.fail.StoreFail.TheVariants.{Damaged, Keeper, Memory}
 use Rattle.ut_model.specs.Cases.{in_case}
 use Rattle.ut_model.specs.Creates.{create_on}
 use Rattle.ut_model.specs.Given.{record_by_value}
 use Rattle.ut_model.specs.Keys.{Key, with_key}
-use Rattle.ut_model.specs.Levels.{at_least}
+use Rattle.ut_model.specs.Levels.{at_least, level}
 use Rattle.ut_model.specs.Objects.{Numbered}
 use Rattle.ut_model.specs.Paths.{Asked}
 use Rattle.ut_model.specs.Rights.{denied}
-use Rattle.ut_model.specs.Rules.{refuse_if}
+use Rattle.ut_model.specs.Rules.{Rule, refuse_if}
 use Rattle.ut_model.specs.Sound.{IsSound}
 use Rattle.ut_model.specs.Tenant.{Field, Tenant}
 use Rattle.ut_model.specs.Updates.{update_on}
@@ -25,29 +26,30 @@ use Rattle.ut_model.specs.Verdict.{Done, Verdict, judged, upserted}
 use Rattle.ut_model.specs.declared.record.Record.{Record}
 use Rattle.ut_model.specs.declared.record_bodies.Assignment.{Assignment}
 use Rattle.ut_model.specs.declared.refusal.Refusal.TheVariants.{InsufficientAccess}
-use Rattle.ut_named.proofs.Naming.{HasAll}
 use Rattle.ut_named.proofs.Spelled.{its_layout}
 use Rattle.ut_named.specs.Kept.{IsKept}
 use Rattle.ut_named.specs.declared.kept.KeptRecord.{KeptRecord}
 use Rattle.ut_records.specs.Creating.{IsAsker, IsObject, PlansNew, answered_new}
 use Rattle.ut_records.specs.Updating.{PlansSame, answered_changed}
+use Rattle.ut_rights.specs.Rights.{FindsFor, Whose, level_there}
 use Rattle.ut_sound.specs.Fit.{ReadsWell, key_of}
+use Rattle.ut_stands.specs.Calls.{done, ended, ended_edit}
 use Rattle.ut_stands.specs.Changes.{Change}
 use Rattle.ut_stands.specs.Fails.{of_store}
 use Rattle.ut_stands.specs.Layouts.{IsLayout}
 use Rattle.ut_stands.specs.Local.{StandsIn}
 use Rattle.ut_stands.specs.Plan.{OrgPlan}
 use Rattle.ut_stands.specs.declared.fail.EditFail.{EditFail}
+use Rattle.ut_stands.specs.declared.fail.EditFail.TheVariants.{Refused}
 use Rattle.ut_stands.specs.declared.layout.FieldPlace.{FieldPlace}
 use Rattle.ut_stands.specs.declared.layout.Layout.{Layout}
-use Rattle.ut_upserts.proofs.There.{has_record}
 use Rattle.ut_upserts.specs.Upserting.{PlansEither}
 use Rattle.ut_upserts.specs.declared.finding.FoundKey.{FoundKey}
 use Rattle.ut_upserts.specs.declared.upsert.Upserted.{Upserted}
-use Rattle.ut_upserts.specs.inner.Deciding.{DecidesByKey, DecidesGiven, answered_upsert, changed, made}
+use Rattle.ut_upserts.specs.inner.Deciding.{Allows, DecidesAllowed, DecidesByKey, DecidesGiven, answered_upsert, changed, made, may_edit}
 use Rattle.ut_upserts.specs.inner.Finding.{FindsKept, numbered_field}
 use Rattle.ut_value.specs.declared.sharing.Level.{Level}
-use Rattle.ut_value.specs.declared.sharing.Level.TheVariants.{Edit}
+use Rattle.ut_value.specs.declared.sharing.Level.TheVariants.{Edit, Nothing}
 use Rattle.ut_value.specs.declared.value.Value.{Value}
 
 -- ---- the verdict, by the record that has the value
@@ -59,12 +61,9 @@ module _ (a : Asked) (o : Numbered) (body : List Assignment) (f : ℕ × Field) 
   comes_to_create : record_by_value a.tenant o.number f.0 v ≡ None → upsert_by a o body f v ≡ create_on a o (Some (key_of f v)) body
   comes_to_create e = ap by_record e
 
-  -- an administrator may edit it
-  comes_to_update : HasAll → IsSound a.tenant → a.user.admin ≡ true → (r : Record) → record_by_value a.tenant o.number f.0 v ≡ Some r → upsert_by a o body f v ≡ update_on a o (Some (key_of f v)) body r
-  comes_to_update all sound admin r e =
-      ap by_record e
-      ∙ ap (λ (l : Level). judged a.tenant (refuse_if (not (at_least Edit l)) InsufficientAccess ∷ []) (update_on a o (Some (key_of f v)) body r))
-      (all a.tenant a.user r sound admin (has_record a.tenant o.number f.0 v r e).0)
+  -- the user may edit it
+  comes_to_update : (r : Record) → denied a Edit r ≡ None → record_by_value a.tenant o.number f.0 v ≡ Some r → upsert_by a o body f v ≡ update_on a o (Some (key_of f v)) body r
+  comes_to_update r allowed e = ap by_record e ∙ ap (λ (d : Rule). judged a.tenant (d ∷ []) (update_on a o (Some (key_of f v)) body r)) allowed
 
 -- ---- the same changes, with the answer of an upsert
 
@@ -96,17 +95,17 @@ changed_in org id (Err e) h = tt
 -- ---- decided
 
 -- what `ut_records` says of a create, and of an update
-abbrev pub New : Layout → (user : List ℕ) → (now : ℤ) → Option Key → List Assignment → Tables → Result (Decided (List ℕ)) EditFail → Type 0
-New l user now key body m r = (q : OrgPlan) (a : Asked) (o : Numbered) → StandsIn l.org q m (Some a.tenant) → IsObject l.org q a.tenant o l → IsAsker user now a
+abbrev pub New : Layout → Whose → (user : List ℕ) → (now : ℤ) → Option Key → List Assignment → Tables → Result (Decided (List ℕ)) EditFail → Type 0
+New l whose user now key body m r = (q : OrgPlan) (a : Asked) (o : Numbered) → StandsIn l.org q m (Some a.tenant) → IsObject l.org q a.tenant o l → IsAsker whose user now a
     → ReadsWell a o.object (with_key key body) → IsSound (create_on a o key body).tenant → DecidesTo l.org q a.tenant (create_on a o key body) (answered_new key) PlansNew r
 
-abbrev pub Changed : Layout → (now : ℤ) → Option Key → List Assignment → KeptRecord → Tables → Result (Decided (Unit {0})) EditFail → Type 0
-Changed l now key body k m r = (q : OrgPlan) (a : Asked) (o : Numbered) (id : List ℕ) → StandsIn l.org q m (Some a.tenant) → IsObject l.org q a.tenant o l
-    → IsKept q a.tenant l id k → a.user.admin ≡ true → a.now ≡ now
+abbrev pub Changed : Layout → Whose → (now : ℤ) → Option Key → List Assignment → KeptRecord → Tables → Result (Decided (Unit {0})) EditFail → Type 0
+Changed l whose now key body k m r = (q : OrgPlan) (a : Asked) (o : Numbered) (id : List ℕ) → StandsIn l.org q m (Some a.tenant) → IsObject l.org q a.tenant o l
+    → IsKept q a.tenant l id k → whose a.tenant a.user → a.now ≡ now
     → ReadsWell a o.object (with_key key body) → IsSound (update_on a o key body k.item).tenant
     → DecidesTo l.org q a.tenant (update_on a o key body k.item) (λ (u : Unit {0}). answered_changed key k.item.id) PlansSame r
 
-module _ (l : Layout) (user : List ℕ) (now : ℤ) (body : List Assignment) (k : FoundKey) (m after : Tables) (field : FieldPlace) (at : slice_get l.fields k.number ≡ Some field) (stays : after ≡ m) where
+module _ (l : Layout) (whose : Whose) (user : List ℕ) (now : ℤ) (body : List Assignment) (k : FoundKey) (m after : Tables) (field : FieldPlace) (at : slice_get l.fields k.number ≡ Some field) (stays : after ≡ m) where
   abbrev its : ℕ × Field
   its = numbered_field k field
 
@@ -129,7 +128,7 @@ module _ (l : Layout) (user : List ℕ) (now : ℤ) (body : List Assignment) (k 
   value_there q a o x object h = subst (λ (n : ℕ). record_by_value a.tenant n (suc k.number) k.value ≡ x) (ap (λ (y : Layout). y.object) object.layout) h
 
   pub made_decides : ((q : OrgPlan) (t : Tenant) → StandsIn l.org q m (Some t) → IsLayout q t l → FindsKept q t l k.number k.value (Ok None))
-      → (r : Result (Decided (List ℕ)) EditFail) → ChangesIn l.org r → New l user now (Some key) body after r → DecidesByKey l user now body k m (made r)
+      → (r : Result (Decided (List ℕ)) EditFail) → ChangesIn l.org r → New l whose user now (Some key) body after r → DecidesByKey l whose user now body k m (made r)
   made_decides finds r own new = record {
     own = made_in l.org r own;
     decided = λ q a o f stands object asker there. of_field (made r) q a o f there (λ reads sound.
@@ -138,38 +137,95 @@ module _ (l : Layout) (user : List ℕ) (now : ℤ) (body : List Assignment) (k 
         (new q a o (subst (λ (x : Tables). StandsIn l.org q x (Some a.tenant)) (sym stays) stands) object asker reads (subst (λ (z : Verdict). IsSound z.tenant) is sound)));
   }
 
-  pub changed_decides : HasAll → (kept : KeptRecord) → ((q : OrgPlan) (t : Tenant) → StandsIn l.org q m (Some t) → IsLayout q t l → FindsKept q t l k.number k.value (Ok (Some kept)))
-      → (r : Result (Decided (Unit {0})) EditFail) → ChangesIn l.org r → Changed l now (Some key) body kept after r → DecidesByKey l user now body k m (changed kept.item.id r)
-  changed_decides all kept finds r own new = record {
+  pub changed_decides : (kept : KeptRecord) → Allows l whose kept m (Ok tt) → ((q : OrgPlan) (t : Tenant) → StandsIn l.org q m (Some t) → IsLayout q t l → FindsKept q t l k.number k.value (Ok (Some kept)))
+      → (r : Result (Decided (Unit {0})) EditFail) → ChangesIn l.org r → Changed l whose now (Some key) body kept after r → DecidesByKey l whose user now body k m (changed kept.item.id r)
+  changed_decides kept allows finds r own new = record {
     own = changed_in l.org kept.item.id r own;
     decided = λ q a o f stands object asker there. of_field (changed kept.item.id r) q a o f there (λ reads sound.
         let found = finds q a.tenant stands (layout_there q a o object) in
-        let is = comes_to_update a o body its k.value all stands.sound asker.admin kept.item (value_there q a o (Some kept.item) object found.0) in
+        let is = comes_to_update a o body its k.value kept.item (allows q a stands asker.rights found.1) (value_there q a o (Some kept.item) object found.0) in
         changed_to l.org q a.tenant (update_on a o (Some key) body kept.item) (upsert_by a o body its k.value) (sym is) key kept.item.id r
-        (new q a o kept.item.id (subst (λ (x : Tables). StandsIn l.org q x (Some a.tenant)) (sym stays) stands) object found.1 asker.admin asker.now reads (subst (λ (z : Verdict). IsSound z.tenant) is sound)));
+        (new q a o kept.item.id (subst (λ (x : Tables). StandsIn l.org q x (Some a.tenant)) (sym stays) stands) object found.1 asker.rights asker.now reads (subst (λ (z : Verdict). IsSound z.tenant) is sound)));
   }
 
+  -- the user may not edit it, or the work on the tables stopped
+  pub refused_decides : (kept : KeptRecord) (e : EditFail) → Allows l whose kept m (Err e) → ((q : OrgPlan) (t : Tenant) → StandsIn l.org q m (Some t) → IsLayout q t l → FindsKept q t l k.number k.value (Ok (Some kept)))
+      → DecidesByKey l whose user now body k m (Err e)
+  refused_decides kept e refuses finds = record {
+    own = tt;
+    decided = λ q a o f stands object asker there. of_field (Err e) q a o f there (λ reads sound.
+        let found = finds q a.tenant stands (layout_there q a o object) in
+        subst (λ (z : Verdict). FailsBy z e) (sym (ap (by_record a o body its k.value) (value_there q a o (Some kept.item) object found.0)))
+        (refuses q a (update_on a o (Some key) body kept.item) stands asker.rights found.1));
+  }
+
+  -- it is an update, where the user may edit it
+  pub edited_decides : (given : AllGiven) → given_specs.key_of given ≡ Some key → given.body.now ≡ body → (kept : KeptRecord) (allowed : Result (Unit {0}) EditFail) → Allows l whose kept m allowed
+      → ((q : OrgPlan) (t : Tenant) → StandsIn l.org q m (Some t) → IsLayout q t l → FindsKept q t l k.number k.value (Ok (Some kept)))
+      → (r : Result (Decided Upserted) EditFail) → DecidesAllowed l whose now given kept after allowed r → DecidesByKey l whose user now body k m r
+  edited_decides given key_is body_is kept (Ok x) allows finds r h =
+      subst (DecidesByKey l whose user now body k m) (sym h.2)
+      (changed_decides kept allows finds h.0 h.1.own
+      (subst (λ (b : List Assignment). Changed l whose now (Some key) b kept after h.0) body_is
+      (subst (λ (x : Option Key). Changed l whose now x given.body.now kept after h.0) key_is h.1.decided)))
+  edited_decides given key_is body_is kept (Err e) allows finds r h = subst (DecidesByKey l whose user now body k m) (sym h) (refused_decides kept e allows finds)
+
   -- so it is, by what is given
-  pub decides : HasAll → (given : AllGiven) → given_specs.key_of given ≡ Some key → given.body.now ≡ body → (kept : Option KeptRecord)
+  pub decides : (given : AllGiven) → given_specs.key_of given ≡ Some key → given.body.now ≡ body → (kept : Option KeptRecord)
       → ((q : OrgPlan) (t : Tenant) → StandsIn l.org q m (Some t) → IsLayout q t l → FindsKept q t l k.number k.value (Ok kept))
-      → (r : Result (Decided Upserted) EditFail) → DecidesGiven l user now given kept after r → DecidesByKey l user now body k m r
-  decides all given key_is body_is None finds r h =
-      subst (DecidesByKey l user now body k m) (sym h.2)
+      → (r : Result (Decided Upserted) EditFail) → DecidesGiven l whose user now given kept after r → DecidesByKey l whose user now body k m r
+  decides given key_is body_is None finds r h =
+      subst (DecidesByKey l whose user now body k m) (sym h.2)
       (made_decides finds h.0 h.1.own
-      (subst (λ (b : List Assignment). New l user now (Some key) b after h.0) body_is
-      (subst (λ (x : Option Key). New l user now x given.body.now after h.0) key_is h.1.decided)))
-  decides all given key_is body_is (Some kept) finds r h =
-      subst (DecidesByKey l user now body k m) (sym h.2)
-      (changed_decides all kept finds h.0 h.1.own
-      (subst (λ (b : List Assignment). Changed l now (Some key) b kept after h.0) body_is
-      (subst (λ (x : Option Key). Changed l now x given.body.now kept after h.0) key_is h.1.decided)))
+      (subst (λ (b : List Assignment). New l whose user now (Some key) b after h.0) body_is
+      (subst (λ (x : Option Key). New l whose user now x given.body.now after h.0) key_is h.1.decided)))
+  decides given key_is body_is (Some kept) finds r h =
+      edited_decides given key_is body_is kept h.0 (subst (λ (x : Tables). Allows l whose kept x h.0) stays h.1) finds r h.2
 
 -- the work on the tables stopped
-pub stopped : (l : Layout) (user : List ℕ) (now : ℤ) (body : List Assignment) (k : FoundKey) (m : Tables) (e : StoreFail) (out : Result (Decided Upserted) EditFail) → IsErrAnd out (λ y. y ≡ of_store e)
-    → ((q : OrgPlan) (t : Tenant) → StandsIn l.org q m (Some t) → IsLayout q t l → FindsKept q t l k.number k.value (Err e)) → DecidesByKey l user now body k m out
-stopped l user now body k m e (Ok x) is finds = absurd is
-stopped l user now body k m e (Err y) is finds =
-    subst (λ (z : EditFail). DecidesByKey l user now body k m (Err z)) (sym is) (record {
+pub stopped : (l : Layout) (whose : Whose) (user : List ℕ) (now : ℤ) (body : List Assignment) (k : FoundKey) (m : Tables) (e : StoreFail) (out : Result (Decided Upserted) EditFail) → IsErrAnd out (λ y. y ≡ of_store e)
+    → ((q : OrgPlan) (t : Tenant) → StandsIn l.org q m (Some t) → IsLayout q t l → FindsKept q t l k.number k.value (Err e)) → DecidesByKey l whose user now body k m out
+stopped l whose user now body k m e (Ok x) is finds = absurd is
+stopped l whose user now body k m e (Err y) is finds =
+    subst (λ (z : EditFail). DecidesByKey l whose user now body k m (Err z)) (sym is) (record {
       own = tt;
       decided = λ q a o f stands object asker there reads sound. finds q a.tenant stands (subst (IsLayout q a.tenant) (sym object.layout) (its_layout l.org q a.tenant o object.there));
     })
+
+-- ---- the level on the record
+
+-- by its own id
+level_kept : (q : OrgPlan) (a : Asked) (l : Layout) (k : KeptRecord) → IsKept q a.tenant l k.item.id k → level_there a.tenant a.user l.object k.item.id ≡ level a.tenant a.user k.item
+level_kept q a l k is = ap (λ (r : Option Record). in_case r Nothing (level a.tenant a.user)) is.is
+
+-- the level that was read says whether the user may edit it
+pub allows : (l : Layout) (whose : Whose) (k : KeptRecord) (m : Tables) (read : Result Level StoreFail) → FindsFor l.org whose (λ t u. level_there t u l.object k.item.id) m read → Allows l whose k m (may_edit read)
+allows l whose k m (Err Damaged) finds = λ q a verdict stands hers is. absurd (finds q a.tenant a.user stands hers)
+allows l whose k m (Err Keeper) finds = λ q a verdict stands hers is e. absurd cc
+allows l whose k m (Err Memory) finds = λ q a verdict stands hers is e. absurd cc
+allows l whose k m (Ok x) finds = by (at_least Edit x) (λ q a stands hers is. ap (at_least Edit) (finds q a.tenant a.user stands hers ∙ level_kept q a l k is))
+  where
+    by : (b : Bool) → ((q : OrgPlan) (a : Asked) → StandsIn l.org q m (Some a.tenant) → whose a.tenant a.user → IsKept q a.tenant l k.item.id k → b ≡ at_least Edit (level a.tenant a.user k.item))
+        → Allows l whose k m (in_case (refuse_if (not b) InsufficientAccess) (Ok tt) (λ r. Err (Refused r)))
+    by true same = λ q a stands hers is. ap (λ (b : Bool). refuse_if (not b) InsufficientAccess) (sym (same q a stands hers is))
+    by false same = λ q a verdict stands hers is. ap (λ (b : Bool). (judged a.tenant (refuse_if (not b) InsufficientAccess ∷ []) verdict).answer) (sym (same q a stands hers is))
+
+-- how it ends is how the level's reading ended
+pub edit_ends : (read : Result Level StoreFail) → ended_edit (may_edit read) ≡ ended read
+edit_ends (Err e) = refl
+edit_ends (Ok x) = by (at_least Edit x)
+  where
+    by : (b : Bool) → ended_edit {X = Unit {0}} (in_case (refuse_if (not b) InsufficientAccess) (Ok tt) (λ r. Err (Refused r))) ≡ done
+    by true = refl
+    by false = refl
+
+-- ---- how it ends
+
+-- as what is made of it
+pub made_ends : (r : Result (Decided (List ℕ)) EditFail) → ended_edit (made r) ≡ ended_edit r
+made_ends (Ok x) = refl
+made_ends (Err e) = refl
+
+pub changed_ends : (id : List ℕ) (r : Result (Decided (Unit {0})) EditFail) → ended_edit (changed id r) ≡ ended_edit r
+changed_ends id (Ok x) = refl
+changed_ends id (Err e) = refl

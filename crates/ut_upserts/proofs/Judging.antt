@@ -18,6 +18,7 @@ use Rattle.ut_model.specs.declared.record_bodies.Assignment.{Assignment}
 use Rattle.ut_model.specs.declared.refusal.Refusal.TheVariants.{InvalidField, InvalidType}
 use Rattle.ut_named.proofs.Objects.{IsOn, Named}
 use Rattle.ut_records.specs.Creating.{IsGiving, IsObject}
+use Rattle.ut_rights.specs.Rights.{Whose}
 use Rattle.ut_rules.specs.Objects.{object_of_layout}
 use Rattle.ut_sound.specs.Fit.{IsCaller, OfObjects, ReadsWell, ReadsWellByKey, key_of}
 use Rattle.ut_stands.specs.Layouts.{layout_of}
@@ -98,13 +99,13 @@ module _ (org : ℕ) (q : OrgPlan) (a : Asked) (name key : List ℕ) (text : Opt
 
 -- ---- judged
 
-module _ (laws : KeyLaws) (sound : UpsertSound) (named : Named) (org : ℕ) (e : Upsert) (m after : Tables) (l : Layout) (k : FoundKey) (own : l.org ≡ org) (stays : after ≡ m) where
+module _ {R : Type 0} (laws : KeyLaws) (sound : UpsertSound) (named : Named) (whose : Whose) (org : ℕ) (e : Upsert R) (m after : Tables) (l : Layout) (k : FoundKey) (own : l.org ≡ org) (stays : after ≡ m) where
   abbrev verdict_of : Asked → Verdict
   verdict_of a = upsert a e.object.now e.key.now e.text e.given.now
 
   pub upserts : ((q : OrgPlan) (t : Tenant) → StandsIn org q m (Some t) → IsOn org q t e.object.now l) → IsKey l e.key.now e.text k
-      → (result : Result (Decided Upserted) EditFail) → DecidesByKey l e.user e.now e.given.now k after result
-      → Decides org verdict_of answered_upsert PlansEither (IsGiving e.user e.now (λ b o. ReadsWellByKey b e.key.now e.text o e.given.now)) m result
+      → (result : Result (Decided Upserted) EditFail) → DecidesByKey l whose e.user e.now e.given.now k after result
+      → Decides org verdict_of answered_upsert PlansEither (IsGiving whose e.user e.now (λ b o. ReadsWellByKey b e.key.now e.text o e.given.now)) m result
   upserts names is result decides = record {
     own = subst (λ (n : ℕ). ChangesIn n result) own decides.own;
     decided = λ q a s f.

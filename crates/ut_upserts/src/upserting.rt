@@ -13,7 +13,7 @@ ghost use Rattle.ut_records.specs.Creating.{IsGiving};
 ghost use Rattle.ut_sound.specs.Fit.{ReadsWellByKey};
 ghost use Rattle.ut_stands.specs.Calls.{Calls, ended_edit};
 ghost use Rattle.ut_upserts.specs.Upserting.{PlansEither};
-ghost use Rattle.ut_upserts.specs.inner.Deciding.{DecidesByKey, DecidesGiven, changed, made};
+ghost use Rattle.ut_upserts.specs.inner.Deciding.{Allows, DecidesByKey, DecidesEdited, DecidesGiven, changed, made, may_edit};
 
 use crate::finding::{FoundKey, found_key, found_record};
 use crate::upsert::{Upsert, Upserted};
@@ -21,12 +21,14 @@ use std::alloc::Global;
 use ut_edits::{Decided, Edit};
 use ut_given::{AllGiven, UpsertKey, given_laws};
 use ut_keeper::{Draft, Keeper, draft_laws};
-use ut_model::{Assignment, administrator_laws, object_laws};
+use ut_keys::StoreFail;
+use ut_model::{Assignment, object_laws};
 use ut_named::{KeptRecord, ready_layout};
 use ut_records::{decide_create, decide_update};
+use ut_rights::{Rights, below};
 use ut_sound::records_sound;
 use ut_stands::{EditFail, Layout, call_laws};
-use ut_value::Id;
+use ut_value::{Id, Level};
 
 // What an upsert comes to that makes a record.
 fn made(decided: Result<Decided<Id>, EditFail>) -> Result<Decided<Upserted>, EditFail>
@@ -61,10 +63,70 @@ fn id_of(kept: &KeptRecord) -> Id
     kept.item.id
 }
 
-// Judges what is given to the record that has the key's value, if there is one, and else to a new one.
-fn decide_given<K: Keeper>(
+// Nothing, if the level is enough to edit a record.
+fn may_edit(level: Result<Level, StoreFail>) -> Result<(), EditFail>
+    ensures { result ≡ may_edit level }
+{
+    match level {
+        Ok(level) => match below(Level::Edit, level) {
+            None => Ok(()),
+            Some(refusal) => Err(EditFail::Refused(refusal)),
+        },
+        Err(fail) => Err(EditFail::Store(fail)),
+    }
+}
+
+// Nothing, if the user may edit this record.
+fn allowed<K: Keeper, R: Rights>(
     alloc: Global,
     draft: &mut Draft<'_, K>,
+    rights: &R,
+    layout: &Layout,
+    kept: &KeptRecord,
+) -> Result<(), EditFail>
+    ensures allows { DraftTells K.state draft.old draft.new
+        → Allows layout.now (R.whose rights.now) kept.now (tables_of K.state draft.old) result }
+    ensures calls { Calls K.state 4 (ended_edit result) draft.old draft.new }
+{
+    let level = rights.level_at(alloc, draft, layout.org, layout.object, &kept.item.id);
+    may_edit(level)
+}
+
+// Judges what is given to this record, if the user may edit it.
+fn decide_change<K: Keeper, R: Rights>(
+    alloc: Global,
+    draft: &mut Draft<'_, K>,
+    rights: &R,
+    layout: &Layout,
+    kept: KeptRecord,
+    now: i64,
+    given: &AllGiven<'_>,
+) -> Result<Decided<Upserted>, EditFail>
+    requires ready { IsReady layout.now.org layout.now }
+    requires kept { FitsKept layout.now kept }
+    requires plain { IsPlain given.now }
+    ensures what { DraftTells K.state draft.old draft.new
+        → DecidesEdited layout.now (R.whose rights.now) now given.now kept (tables_of K.state draft.old) result }
+    ensures few { IfOk result (λ x. AreFew 389 0 x.changes.items) }
+    ensures calls { Calls K.state 172 (ended_edit result) draft.old draft.new }
+{
+    draft_laws::<K>();
+    call_laws::<K>();
+    match allowed(alloc, draft, rights, layout, &kept) {
+        Ok(()) => {
+            let id = id_of(&kept);
+            let decided = decide_update(alloc, draft, rights, layout, kept, now, given);
+            changed(id, decided)
+        }
+        Err(fail) => Err(fail),
+    }
+}
+
+// Judges what is given to the record that has the key's value, if there is one, and else to a new one.
+fn decide_given<K: Keeper, R: Rights>(
+    alloc: Global,
+    draft: &mut Draft<'_, K>,
+    rights: &R,
     layout: &Layout,
     kept: Option<KeptRecord>,
     user: Id,
@@ -75,24 +137,22 @@ fn decide_given<K: Keeper>(
     requires kept { IfSome kept (FitsKept layout.now) }
     requires plain { IsPlain given.now }
     ensures what { DraftTells K.state draft.old draft.new
-        → DecidesGiven layout.now user now given.now kept (tables_of K.state draft.old) result }
+        → DecidesGiven layout.now (R.whose rights.now) user now given.now kept (tables_of K.state draft.old) result }
     ensures few { IfOk result (λ x. AreFew 389 0 x.changes.items) }
-    ensures calls { Calls K.state 40 (ended_edit result) draft.old draft.new }
+    ensures calls { Calls K.state 172 (ended_edit result) draft.old draft.new }
 {
+    draft_laws::<K>();
     match kept {
-        None => made(decide_create(alloc, draft, layout, user, now, given)),
-        Some(kept) => {
-            let id = id_of(&kept);
-            let decided = decide_update(alloc, draft, layout, kept, now, given);
-            changed(id, decided)
-        }
+        None => made(decide_create(alloc, draft, rights, layout, user, now, given)),
+        Some(kept) => decide_change(alloc, draft, rights, layout, kept, now, given),
     }
 }
 
 // Judges an upsert by its object, its unique field and the value.
-fn decide_by_key<'x, K: Keeper>(
+fn decide_by_key<'x, K: Keeper, R: Rights>(
     alloc: Global,
     draft: &mut Draft<'_, K>,
+    rights: &R,
     layout: &'x Layout,
     user: Id,
     now: i64,
@@ -104,13 +164,12 @@ fn decide_by_key<'x, K: Keeper>(
     requires unique { HasUnique layout.now key.now.number key.now.value }
     requires json { IsInJson body.now }
     ensures what { DraftTells K.state draft.old draft.new
-        → DecidesByKey layout.now user now body.now key.now (tables_of K.state draft.old) result }
+        → DecidesByKey layout.now (R.whose rights.now) user now body.now key.now (tables_of K.state draft.old) result }
     ensures few { IfOk result (λ x. AreFew 389 0 x.changes.items) }
-    ensures calls { Calls K.state 41 (ended_edit result) draft.old draft.new }
+    ensures calls { Calls K.state 173 (ended_edit result) draft.old draft.new }
 {
     draft_laws::<K>();
     call_laws::<K>();
-    administrator_laws();
     let kept = found_record(alloc, draft, layout, key)?;
     let number = key.number;
     let value = &key.value;
@@ -125,10 +184,10 @@ fn decide_by_key<'x, K: Keeper>(
         body,
         key: Some(key),
     };
-    decide_given(alloc, draft, layout, kept, user, now, &given)
+    decide_given(alloc, draft, rights, layout, kept, user, now, &given)
 }
 
-impl Edit for Upsert<'_> {
+impl<R: Rights> Edit for Upsert<'_, R> {
     type Answer = Upserted;
 
     ghost verdict = { λ e a. upsert a e.object.now e.key.now e.text e.given.now };
@@ -137,13 +196,13 @@ impl Edit for Upsert<'_> {
 
     ghost planned = { λ e q t next. PlansEither q t next };
 
-    ghost fits = { λ e a. IsGiving e.user e.now (λ b o. ReadsWellByKey b e.key.now e.text o e.given.now) a };
+    ghost fits = { λ e a. IsGiving (R.whose e.rights.now) e.user e.now (λ b o. ReadsWellByKey b e.key.now e.text o e.given.now) a };
 
     ghost most = { 389 };
 
     ghost gone = { 0 };
 
-    ghost shown = { 41 };
+    ghost shown = { 173 };
 
     fn judge<K: Keeper>(
         &self,
@@ -158,6 +217,15 @@ impl Edit for Upsert<'_> {
         records_sound();
         let layout = ready_layout(alloc, draft, org, self.object)?;
         let key = found_key(alloc, &layout, self.key, self.text.as_ref())?;
-        decide_by_key(alloc, draft, &layout, self.user, self.now, self.given, &key)
+        decide_by_key(
+            alloc,
+            draft,
+            self.rights,
+            &layout,
+            self.user,
+            self.now,
+            self.given,
+            &key,
+        )
     }
 }

@@ -10,6 +10,7 @@ mod line;
 mod names;
 mod people;
 mod refusals;
+mod sharing;
 mod tables;
 mod values;
 
@@ -39,6 +40,15 @@ impl From<io::Error> for Stop {
     }
 }
 
+// What a call on the body of a manual share or of a sharing rule returns.
+fn sharing_call(alloc: Global, call: &str, bytes: &[u8]) -> Result<Option<String>, AllocError> {
+    match call {
+        "share" => sharing::share(alloc, bytes).map(Some),
+        "sharing-rule" => sharing::sharing_rule(alloc, bytes).map(Some),
+        _ => Ok(None),
+    }
+}
+
 // What a call on the body of a user, a role or a group returns.
 fn people_call(alloc: Global, call: &str, bytes: &[u8]) -> Result<Option<String>, AllocError> {
     match call {
@@ -48,7 +58,7 @@ fn people_call(alloc: Global, call: &str, bytes: &[u8]) -> Result<Option<String>
         "role-parent" => people::parent(alloc, bytes).map(Some),
         "group" => people::group(alloc, bytes).map(Some),
         "members" => people::members(alloc, bytes).map(Some),
-        _ => Ok(None),
+        _ => sharing_call(alloc, call, bytes),
     }
 }
 
@@ -72,6 +82,7 @@ fn text_call(alloc: Global, call: &str, text: &str) -> Result<String, AllocError
         "refusal-body" => refusals::body(alloc, text),
         "damaged-body" => refusals::damaged(alloc),
         "csv-memory" => tables::memory(alloc),
+        "principal" => sharing::principal(alloc, text),
         "rows" => names::body(alloc, text),
         "made" => names::made(alloc, text),
         "upserted" => names::upserted(alloc, text),

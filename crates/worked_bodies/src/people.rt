@@ -77,15 +77,21 @@ fn kind_word(kind: PrincipalKind) -> &'static str {
     }
 }
 
+/// A principal as it is spelled: its kind, and the text of its id.
+pub(crate) fn spelled(alloc: Global, principal: &Spelled) -> Result<String, AllocError> {
+    let kind = kind_word(principal.kind);
+    let text = principal.text.as_str();
+    format!(in alloc; "{kind} {text}")
+}
+
 fn shown_members(alloc: Global, members: &[Spelled]) -> Result<String, AllocError> {
     let mut out = String::from_str(alloc, "[")?;
     for (at, member) in members.iter().enumerate() {
         if at > 0 {
             out.push_str(", ")?;
         }
-        out.push_str(kind_word(member.kind))?;
-        out.push_str(" ")?;
-        out.push_str(member.text.as_str())?;
+        let spelled = spelled(alloc, member)?;
+        out.push_str(&spelled)?;
     }
     out.push_str("]")?;
     Ok(out)

@@ -6,6 +6,7 @@ use ut_admin::administer;
 use ut_keeper::{Draft, MemoryKeeper};
 use ut_keys::StoreFail;
 use ut_model::{Caller, Reply, Route, first_user_id};
+use ut_rights::Administrator;
 use ut_stands::Judged;
 use ut_value::Text;
 
@@ -31,6 +32,7 @@ fn reply_to(
     match administer(
         alloc,
         &mut draft,
+        &Administrator,
         &administrator(),
         NOW,
         route,

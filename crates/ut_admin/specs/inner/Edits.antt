@@ -18,6 +18,7 @@ use Rattle.ut_model.specs.RowsJson.{member_json, object_json}
 use Rattle.ut_model.specs.Step.{refusal_reply}
 use Rattle.ut_model.specs.Tenant.{Tenant}
 use Rattle.ut_model.specs.Verdict.{Done, Verdict, done, made_new, upserted}
+use Rattle.ut_rights.specs.Rights.{Whose}
 use Rattle.ut_stands.specs.Local.{StandsFor, StandsIn}
 use Rattle.ut_stands.specs.Plan.{OrgPlan}
 use Rattle.ut_stands.specs.declared.fail.EditFail.{EditFail}
@@ -91,6 +92,10 @@ EditsTo org t v after (Err (Store e)) = e ≢ Damaged
 pub record EditsFrom (org : ℕ) (asks : Asked → Type 0) (verdict : Asked → Verdict) (m after : Tables) (result : Result Answer EditFail) : Type 0 where
   pub others : OthersStay org m after result
   pub edited : (q : OrgPlan) (a : Asked) → StandsIn org q m (Some a.tenant) → asks a → EditsTo org a.tenant (verdict a) after result
+
+-- who has these rights
+abbrev pub HasRights : Whose → Asked → Type 0
+HasRights whose a = whose a.tenant a.user
 
 -- whoever asks, and whenever
 abbrev pub Anyone : Asked → Type 0

@@ -31,3 +31,7 @@ member_object b name = entry_named b name >>= object_in
 -- the principal that a value spells
 abbrev pub as_principal : Json → Option Spelled
 as_principal v = as_text v >>= principal_in
+
+-- the principal that the text of a member spells
+abbrev pub principal_member : Body → (name : List ℕ) → Option Spelled
+principal_member b name = text_in b name >>= principal_in

@@ -10,11 +10,11 @@ use Rattle.ut_parts.specs.declared.fail.CodecFail.{CodecFail}
 use Rattle.ut_parts.specs.declared.fail.CodecFail.TheVariants as codec
 use Rattle.ut_model.specs.declared.record.Record.{Record}
 use Rattle.ut_model.specs.Ordered.{in_order}
-use Rattle.ut_model.specs.Tenant.{Tenant}
+use Rattle.ut_model.specs.Tenant.{Tenant, User}
+use Rattle.ut_rights.specs.Rights.{Whose, kept_record}
 use Rattle.ut_stands.specs.declared.layout.Layout.{Layout}
 use Rattle.ut_exec.specs.declared.ranked.Ranked.{Ranked}
 use Rattle.ut_exec.specs.Ranks.{ranked_cmp}
-use Rattle.ut_exec.specs.Seen.{kept_record}
 use Rattle.ut_exec.specs.Written.{InTenants}
 
 -- the rank and the id of a record, if it is kept
@@ -46,12 +46,13 @@ Gathers l rank old new kept (Ok x) = GathersRows l rank old new kept
 Gathers l rank old new kept (Err codec.Damaged) = ⊥
 Gathers l rank old new kept (Err codec.Memory) = Unit {0}
 
--- the rows of each tenant's records are found, and they are never damaged
-abbrev pub FindsAll : {X A : Type 0} → Layout → (Record → X) → (Tenant → List Record) → Tables → Result (Vec (Ranked X) A) StoreFail → Type 0
-FindsAll l rank chosen m (Ok found) = InTenants l m (λ t. GathersRows l rank [] found.items (chosen t))
-FindsAll l rank chosen m (Err Damaged) = InTenants l m (λ t. ⊥)
-FindsAll l rank chosen m (Err Keeper) = Unit {0}
-FindsAll l rank chosen m (Err Memory) = Unit {0}
+-- the rows of each user's records are found, and they are never damaged
+abbrev pub FindsAll : {X A : Type 0} → Layout → (sees : Whose) → (Record → X) → (Tenant → User → List Record) → Tables
+    → Result (Vec (Ranked X) A) StoreFail → Type 0
+FindsAll l sees rank chosen m (Ok found) = InTenants l sees m (λ t u. GathersRows l rank [] found.items (chosen t u))
+FindsAll l sees rank chosen m (Err Damaged) = InTenants l sees m (λ t u. ⊥)
+FindsAll l sees rank chosen m (Err Keeper) = Unit {0}
+FindsAll l sees rank chosen m (Err Memory) = Unit {0}
 
 -- rows of which no two tie were put in order
 abbrev pub SortsRanked : {X : Type 0} → (X → X → Ordering) → (old new : List (Ranked X)) → Type 0

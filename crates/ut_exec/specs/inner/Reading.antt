@@ -13,11 +13,17 @@ use Rattle.ut_model.specs.declared.record.Record.{Record}
 use Rattle.ut_model.specs.Cases.{in_case}
 use Rattle.ut_model.specs.Jobs.{is_past}
 use Rattle.ut_model.specs.Objects.{records_of}
+use Rattle.ut_model.specs.Tenant.{Tenant}
 use Rattle.ut_stands.specs.declared.layout.Layout.{Layout}
-use Rattle.ut_stands.specs.Layouts.{records_after}
+use Rattle.ut_stands.specs.Layouts.{IsLayout, records_after}
+use Rattle.ut_stands.specs.Local.{StandsIn}
+use Rattle.ut_stands.specs.Plan.{OrgPlan}
 use Rattle.ut_exec.specs.declared.pages.Pages.{Pages}
-use Rattle.ut_exec.specs.Seen.{kept_record}
-use Rattle.ut_exec.specs.Written.{InTenants}
+use Rattle.ut_rights.specs.Rights.{kept_record}
+
+-- so it is of each tenant for which the organisation's rows stand and whose layout it is
+abbrev pub OfTenants : Layout → Tables → (Tenant → Type 0) → Type 0
+OfTenants l m P = (q : OrgPlan) (t : Tenant) → StandsIn l.org q m (Some t) → IsLayout q t l → P t
 
 -- the records after an id
 abbrev pub beyond : Option (List ℕ) → List Record → List Record
@@ -34,8 +40,8 @@ KeepsPage kept (Err Memory) = Unit {0}
 abbrev pub FindsPage : {A : Type 0} → Layout → (after : Option (List ℕ)) → Tables → Result (Vec KeptRow A) StoreFail → Type 0
 FindsPage l after m (Ok rows) =
     (length rows.items ≤ 250)
-    × InTenants l m (λ t. each_from (kept_record l) rows.items ≡ Some (records_after l.object after 250 t))
-FindsPage l after m (Err Damaged) = InTenants l m (λ t. ⊥)
+    × OfTenants l m (λ t. each_from (kept_record l) rows.items ≡ Some (records_after l.object after 250 t))
+FindsPage l after m (Err Damaged) = OfTenants l m (λ t. ⊥)
 FindsPage l after m (Err Keeper) = Unit {0}
 FindsPage l after m (Err Memory) = Unit {0}
 
@@ -60,7 +66,7 @@ pub record ReadsOn (l : Layout) (rs : List Record) (old new : Pages) (rows : Lis
 
 -- a page was read
 abbrev pub ReadsPage : {A : Type 0} → Layout → (old new : Pages) → Tables → Result (Vec KeptRow A) StoreFail → Type 0
-ReadsPage l old new m (Ok rows) = (length rows.items ≤ 250) × InTenants l m (λ t. ReadsOn l (records_of t l.object) old new rows.items)
-ReadsPage l old new m (Err Damaged) = InTenants l m (λ t. ⊥)
+ReadsPage l old new m (Ok rows) = (length rows.items ≤ 250) × OfTenants l m (λ t. ReadsOn l (records_of t l.object) old new rows.items)
+ReadsPage l old new m (Err Damaged) = OfTenants l m (λ t. ⊥)
 ReadsPage l old new m (Err Keeper) = Unit {0}
 ReadsPage l old new m (Err Memory) = Unit {0}

@@ -76,7 +76,7 @@ fn bad_formula(alloc: Global, layout: &Layout, text: &str) -> Result<Option<Refu
     ensures { IfOk result (λ rule. rule ≡ first_refusal (malformed (formula_of (object_of_layout layout.now) false (chars text.now))
         ∷ busy_by layout.now.job (formula_of (object_of_layout layout.now) false (chars text.now)) ∷ [])) }
 {
-    match read_formula(alloc, layout, text) {
+    match read_formula(alloc, layout, false, text) {
         Ok(formula) => busy(alloc, &layout.job, &formula),
         Err(ParseFail::Malformed(place)) => Ok(Some(Refusal::MalformedFormula { place })),
         Err(ParseFail::Memory) => Err(AllocError),

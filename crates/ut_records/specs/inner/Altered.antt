@@ -16,7 +16,7 @@ use Rattle.ut_records.specs.inner.Staying.{staying_rules}
 
 -- the object's own and that on unique values, behind those on what the record keeps
 abbrev pub kept_rules : Layout → (old new : Record) → Asked → List Rule
-kept_rules l old new a = staying_rules l old new a ++ own_rules l (Some old) new a
+kept_rules l old new a = staying_rules l old new a.tenant ++ own_rules l (Some old) new a
 
 -- the same behind that on what the record refers to
 abbrev pub altered_rules : Layout → (old new : Record) → Asked → List Rule

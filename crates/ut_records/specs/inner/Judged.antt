@@ -29,6 +29,7 @@ use Rattle.ut_stands.specs.declared.layout.Layout.{Layout}
 use Rattle.ut_records.specs.Creating.{new_record}
 use Rattle.ut_records.specs.declared.creating.Accepted.{Accepted}
 use Rattle.ut_records.specs.declared.object.Counts.{Counts}
+use Rattle.ut_records.specs.inner.Levels.{below_master}
 use Rattle.ut_records.specs.inner.Object.{CountsOf, FitsCounts, HasRoom, object_with, row_with}
 
 -- ---- rules
@@ -37,9 +38,13 @@ use Rattle.ut_records.specs.inner.Object.{CountsOf, FitsCounts, HasRoom, object_
 abbrev pub own_rules : Layout → (old : Option Record) → (new : Record) → Asked → List Rule
 own_rules l old new a = rule_failed a l.object new old a.tenant ∷ duplicate a (numbered_in l) new ∷ []
 
+-- the same of a new record behind that on its master
+abbrev pub master_rules : Layout → (new : Record) → Asked → List Rule
+master_rules l new a = below_master l new a.tenant a.user ∷ own_rules l None new a
+
 -- the same behind that on what the record refers to
 abbrev pub others_rules : Layout → (old new : Record) → Asked → List Rule
-others_rules l old new a = bad_target a (numbered_in l) old new ∷ own_rules l None new a
+others_rules l old new a = bad_target a (numbered_in l) old new ∷ master_rules l new a
 
 -- the limits of what is counted
 abbrev pub limit_rule : OrgRow → ObjectRow → Rule

@@ -4,8 +4,8 @@ use Rattle.std.specs.List.{enumerate_from, find}
 use Rattle.ut_formula.specs.Meaning.{value_at}
 use Rattle.ut_model.specs.Cases.{in_case}
 use Rattle.ut_model.specs.Fields.{is_master}
-use Rattle.ut_model.specs.Paths.{Asked}
 use Rattle.ut_model.specs.Rules.{Rule, refuse_if}
+use Rattle.ut_model.specs.Tenant.{Tenant}
 use Rattle.ut_model.specs.Updates.{is_copied, master_changed, retype_conflict}
 use Rattle.ut_model.specs.declared.record.Record.{Record}
 use Rattle.ut_model.specs.declared.refusal.Refusal.TheVariants as refusal
@@ -28,5 +28,5 @@ conflict_in l new =
     (refusal.RetypeConflict f.name)))
 
 -- the rules on both, as the definition of an update has them
-abbrev pub staying_rules : Layout → (old new : Record) → Asked → List Rule
-staying_rules l old new a = master_changed a.tenant (numbered_in l) old new ∷ retype_conflict a.tenant (numbered_in l) new ∷ []
+abbrev pub staying_rules : Layout → (old new : Record) → Tenant → List Rule
+staying_rules l old new t = master_changed t (numbered_in l) old new ∷ retype_conflict t (numbered_in l) new ∷ []

@@ -6,10 +6,10 @@ use Rattle.ut_model.specs.Metadata.{set_access}
 use Rattle.ut_model.specs.RequestOf.{verdict_or}
 use Rattle.ut_model.specs.Requests.{adds_field, adds_object, adds_validation_rule, sets_object}
 use Rattle.ut_model.specs.Verdict.{done}
-use Rattle.ut_model.specs.declared.route.Route.TheVariants.{AddField, AddGroup, AddObject, AddRole, AddUser, AddValidationRule, SetGroup, SetObject, SetRole, SetUser}
-use Rattle.ut_admin.specs.Administration.{Administers}
+use Rattle.ut_model.specs.declared.route.Route.TheVariants.{AddField, AddGroup, AddObject, AddRole, AddSharingRule, AddUser, AddValidationRule, RemoveSharingRule, SetGroup, SetObject, SetRole, SetUser, Share, Unshare}
+use Rattle.ut_admin.specs.Administration.{AsksWith}
 use Rattle.ut_admin.specs.declared.answer.Answer.TheVariants as answer
-use Rattle.ut_admin.specs.inner.Edits.{EditsFrom}
+use Rattle.ut_admin.specs.inner.Edits.{Anyone, EditsFrom, HasRights}
 use Rattle.ut_admin.proofs.Asked.{answers_none, answers_so, drafts_seen, edits_asked, edits_asked_so, edits_none, edits_unbuilt, fit, none_drafts, returned}
 use Rattle.ut_admin.proofs.edits.edit.Goals as goal
 
@@ -19,7 +19,7 @@ pub returns-in_err-new-in-AddObject-clause-what : goal.returns-in_err-new-in-Add
 returns-in_err-new-in-AddObject-clause-what g c told =
     let caller = c.args.caller.now in
     let fail = c.in_err-new-in-AddObject.field-0.0 in
-    edits_none adds_object caller.org (Administers caller c.args.now) c.args.route.now AddObject c.args.body.now fail (tables_of g.K.Keeper.state c.args.draft.now) c.from_residual.result c.in-AddObject.is
+    edits_none adds_object caller.org (AsksWith (g.R.Rights.whose c.args.rights.now) caller c.args.now) c.args.route.now AddObject c.args.body.now fail (tables_of g.K.Keeper.state c.args.draft.now) c.from_residual.result c.in-AddObject.is
     (returned c.from_residual.result fail c.from_residual.ensures) c.in_err-new-in-AddObject.ensures
 
 pub returns-in_err-new-in-AddObject-clause-form : goal.returns-in_err-new-in-AddObject-clause-form
@@ -37,7 +37,7 @@ returns-in_err-access-in-SetObject-clause-what g c told =
     let object = c.in-SetObject.object in
     let caller = c.args.caller.now in
     let fail = c.in_err-access-in-SetObject.field-0.0 in
-    edits_none (sets_object object) caller.org (Administers caller c.args.now) c.args.route.now (SetObject object) c.args.body.now fail (tables_of g.K.Keeper.state c.args.draft.now) c.from_residual-in_err-access-in-SetObject.result c.in-SetObject.is
+    edits_none (sets_object object) caller.org (AsksWith (g.R.Rights.whose c.args.rights.now) caller c.args.now) c.args.route.now (SetObject object) c.args.body.now fail (tables_of g.K.Keeper.state c.args.draft.now) c.from_residual-in_err-access-in-SetObject.result c.in-SetObject.is
     (returned c.from_residual-in_err-access-in-SetObject.result fail c.from_residual-in_err-access-in-SetObject.ensures) (c.in_err-access-in-SetObject.ensures object)
 
 pub returns-in_err-access-in-SetObject-clause-form : goal.returns-in_err-access-in-SetObject-clause-form
@@ -55,7 +55,7 @@ pub returns-in_err-new-in-AddField-clause-what : goal.returns-in_err-new-in-AddF
 returns-in_err-new-in-AddField-clause-what g c told =
     let caller = c.args.caller.now in
     let fail = c.in_err-new-in-AddField.field-0.0 in
-    edits_none adds_field caller.org (Administers caller c.args.now) c.args.route.now AddField c.args.body.now fail (tables_of g.K.Keeper.state c.args.draft.now) c.from_residual-in_err-new-in-AddField.result c.in-AddField.is
+    edits_none adds_field caller.org (AsksWith (g.R.Rights.whose c.args.rights.now) caller c.args.now) c.args.route.now AddField c.args.body.now fail (tables_of g.K.Keeper.state c.args.draft.now) c.from_residual-in_err-new-in-AddField.result c.in-AddField.is
     (returned c.from_residual-in_err-new-in-AddField.result fail c.from_residual-in_err-new-in-AddField.ensures) c.in_err-new-in-AddField.ensures
 
 pub returns-in_err-new-in-AddField-clause-form : goal.returns-in_err-new-in-AddField-clause-form
@@ -72,7 +72,7 @@ pub returns-in_err-new-in-AddValidationRule-clause-what : goal.returns-in_err-ne
 returns-in_err-new-in-AddValidationRule-clause-what g c told =
     let caller = c.args.caller.now in
     let fail = c.in_err-new-in-AddValidationRule.field-0.0 in
-    edits_none adds_validation_rule caller.org (Administers caller c.args.now) c.args.route.now AddValidationRule c.args.body.now fail (tables_of g.K.Keeper.state c.args.draft.now) c.from_residual-in_err-new-in-AddValidationRule.result c.in-AddValidationRule.is
+    edits_none adds_validation_rule caller.org (AsksWith (g.R.Rights.whose c.args.rights.now) caller c.args.now) c.args.route.now AddValidationRule c.args.body.now fail (tables_of g.K.Keeper.state c.args.draft.now) c.from_residual-in_err-new-in-AddValidationRule.result c.in-AddValidationRule.is
     (returned c.from_residual-in_err-new-in-AddValidationRule.result fail c.from_residual-in_err-new-in-AddValidationRule.ensures) c.in_err-new-in-AddValidationRule.ensures
 
 pub returns-in_err-new-in-AddValidationRule-clause-form : goal.returns-in_err-new-in-AddValidationRule-clause-form
@@ -94,7 +94,7 @@ returns-in-Delete-clause-what g c told =
     let body = c.args.body.now in
     let before = tables_of g.K.Keeper.state c.args.draft.now in
     let after = tables_of g.K.Keeper.state c.deleted_record.new.draft in
-    subst (λ r. EditsFrom caller.org (Administers caller c.args.now) (λ a. verdict_or a (built_request r body)) before after c.deleted_record.result) (sym c.in-Delete.is)
+    subst (λ r. EditsFrom caller.org (AsksWith (g.R.Rights.whose c.args.rights.now) caller c.args.now) (λ a. verdict_or a (built_request r body)) before after c.deleted_record.result) (sym c.in-Delete.is)
     (c.deleted_record.ensures.what told body)
 
 pub returns-in_ok-new-in-AddObject-clause-what : goal.returns-in_ok-new-in-AddObject-clause-what
@@ -103,7 +103,7 @@ returns-in_ok-new-in-AddObject-clause-what g c told =
     let body = c.args.body.now in
     let new = c.in_ok-new-in-AddObject.new in
     let asked = c.in_ok-new-in-AddObject.ensures in
-    edits_asked (λ _. answer.Done) (λ _. done) (λ _. refl) caller.org (Administers caller c.args.now) c.args.route.now AddObject body (adds_object new) _ _ _ (tables_of g.K.Keeper.state c.args.draft.now) (tables_of g.K.Keeper.state c.make_edit.new.draft) c.make_edit.result c.done.result
+    edits_asked (λ _. answer.Done) (λ _. done) (λ _. refl) caller.org (AsksWith (g.R.Rights.whose c.args.rights.now) caller c.args.now) c.args.route.now AddObject body (adds_object new) _ _ _ (tables_of g.K.Keeper.state c.args.draft.now) (tables_of g.K.Keeper.state c.make_edit.new.draft) c.make_edit.result c.done.result
     c.in-AddObject.is asked c.done.ensures (λ a. refl) (λ a. c.refusal_laws.ensures.refused a (adds_object new)) (λ a sound _. fit c.requests_fit.ensures.request a AddObject body (adds_object new) sound asked) (c.make_edit.ensures.what told)
 
 pub returns-in_ok-new-in-AddObject-clause-form : goal.returns-in_ok-new-in-AddObject-clause-form
@@ -122,7 +122,7 @@ returns-in_ok-access-in-SetObject-clause-what g c told =
     let object = c.in-SetObject.object in
     let access = c.in_ok-access-in-SetObject.access in
     let asked = c.in_ok-access-in-SetObject.ensures object in
-    edits_asked (λ _. answer.Done) (λ _. done) (λ _. refl) caller.org (Administers caller c.args.now) c.args.route.now (SetObject object) body (sets_object object access) _ _ _ (tables_of g.K.Keeper.state c.args.draft.now) (tables_of g.K.Keeper.state c.make_edit-in-SetObject.new.draft) c.make_edit-in-SetObject.result c.done-in-SetObject.result
+    edits_asked (λ _. answer.Done) (λ _. done) (λ _. refl) caller.org (AsksWith (g.R.Rights.whose c.args.rights.now) caller c.args.now) c.args.route.now (SetObject object) body (sets_object object access) _ _ _ (tables_of g.K.Keeper.state c.args.draft.now) (tables_of g.K.Keeper.state c.make_edit-in-SetObject.new.draft) c.make_edit-in-SetObject.result c.done-in-SetObject.result
     c.in-SetObject.is asked c.done-in-SetObject.ensures (λ a. ap (λ (name : List ℕ). set_access a.tenant name access) c.as_str-object.ensures.characters) (λ a. c.refusal_laws.ensures.refused a (sets_object object access)) (λ a sound _. fit c.requests_fit.ensures.request a (SetObject object) body (sets_object object access) sound asked) (c.make_edit-in-SetObject.ensures.what told)
 
 pub returns-in_ok-access-in-SetObject-clause-form : goal.returns-in_ok-access-in-SetObject-clause-form
@@ -140,7 +140,7 @@ returns-in_ok-new-in-AddField-clause-what g c told =
     let body = c.args.body.now in
     let new = c.in_ok-new-in-AddField.new in
     let asked = c.in_ok-new-in-AddField.ensures in
-    edits_asked (λ _. answer.Done) (λ _. done) (λ _. refl) caller.org (Administers caller c.args.now) c.args.route.now AddField body (adds_field new) _ _ _ (tables_of g.K.Keeper.state c.args.draft.now) (tables_of g.K.Keeper.state c.make_edit-in-AddField.new.draft) c.make_edit-in-AddField.result c.done-in-AddField.result
+    edits_asked (λ _. answer.Done) (λ _. done) (λ _. refl) caller.org (AsksWith (g.R.Rights.whose c.args.rights.now) caller c.args.now) c.args.route.now AddField body (adds_field new) _ _ _ (tables_of g.K.Keeper.state c.args.draft.now) (tables_of g.K.Keeper.state c.make_edit-in-AddField.new.draft) c.make_edit-in-AddField.result c.done-in-AddField.result
     c.in-AddField.is asked c.done-in-AddField.ensures (λ a. refl) (λ a. c.refusal_laws.ensures.refused a (adds_field new)) (λ a sound _. fit c.requests_fit.ensures.request a AddField body (adds_field new) sound asked) (c.make_edit-in-AddField.ensures.what told)
 
 pub returns-in_ok-new-in-AddField-clause-form : goal.returns-in_ok-new-in-AddField-clause-form
@@ -158,7 +158,7 @@ returns-in_ok-new-in-AddValidationRule-clause-what g c told =
     let body = c.args.body.now in
     let new = c.in_ok-new-in-AddValidationRule.new in
     let asked = c.in_ok-new-in-AddValidationRule.ensures in
-    edits_asked (λ _. answer.Done) (λ _. done) (λ _. refl) caller.org (Administers caller c.args.now) c.args.route.now AddValidationRule body (adds_validation_rule new) _ _ _ (tables_of g.K.Keeper.state c.args.draft.now) (tables_of g.K.Keeper.state c.make_edit-in-AddValidationRule.new.draft) c.make_edit-in-AddValidationRule.result c.done-in-AddValidationRule.result
+    edits_asked (λ _. answer.Done) (λ _. done) (λ _. refl) caller.org (AsksWith (g.R.Rights.whose c.args.rights.now) caller c.args.now) c.args.route.now AddValidationRule body (adds_validation_rule new) _ _ _ (tables_of g.K.Keeper.state c.args.draft.now) (tables_of g.K.Keeper.state c.make_edit-in-AddValidationRule.new.draft) c.make_edit-in-AddValidationRule.result c.done-in-AddValidationRule.result
     c.in-AddValidationRule.is asked c.done-in-AddValidationRule.ensures (λ a. refl) (λ a. c.refusal_laws.ensures.refused a (adds_validation_rule new)) (λ a sound _. fit c.requests_fit.ensures.request a AddValidationRule body (adds_validation_rule new) sound asked) (c.make_edit-in-AddValidationRule.ensures.what told)
 
 pub returns-in_ok-new-in-AddValidationRule-clause-form : goal.returns-in_ok-new-in-AddValidationRule-clause-form
@@ -175,38 +175,64 @@ returns-in_ok-new-in-AddValidationRule-clause-makes g c =
 pub returns-in-AddUser-clause-what : goal.returns-in-AddUser-clause-what
 returns-in-AddUser-clause-what g c told =
     let caller = c.args.caller.now in
-    edits_asked_so caller.org (Administers caller c.args.now) c.args.route.now AddUser c.args.body.now (tables_of g.K.Keeper.state c.args.draft.now) (tables_of g.K.Keeper.state c.new_user.new.draft) c.new_user.result
+    edits_asked_so caller.org Anyone (AsksWith (g.R.Rights.whose c.args.rights.now) caller c.args.now) (λ a _. tt) c.args.route.now AddUser c.args.body.now (tables_of g.K.Keeper.state c.args.draft.now) (tables_of g.K.Keeper.state c.new_user.new.draft) c.new_user.result
     c.in-AddUser.is (c.new_user.ensures.what told)
 
 pub returns-in-SetUser-clause-what : goal.returns-in-SetUser-clause-what
 returns-in-SetUser-clause-what g c told =
     let caller = c.args.caller.now in
-    edits_asked_so caller.org (Administers caller c.args.now) c.args.route.now (SetUser c.in-SetUser.id) c.args.body.now (tables_of g.K.Keeper.state c.args.draft.now) (tables_of g.K.Keeper.state c.changed_user.new.draft) c.changed_user.result
+    edits_asked_so caller.org Anyone (AsksWith (g.R.Rights.whose c.args.rights.now) caller c.args.now) (λ a _. tt) c.args.route.now (SetUser c.in-SetUser.id) c.args.body.now (tables_of g.K.Keeper.state c.args.draft.now) (tables_of g.K.Keeper.state c.changed_user.new.draft) c.changed_user.result
     c.in-SetUser.is (c.changed_user.ensures.what told)
 
 pub returns-in-AddRole-clause-what : goal.returns-in-AddRole-clause-what
 returns-in-AddRole-clause-what g c told =
     let caller = c.args.caller.now in
-    edits_asked_so caller.org (Administers caller c.args.now) c.args.route.now AddRole c.args.body.now (tables_of g.K.Keeper.state c.args.draft.now) (tables_of g.K.Keeper.state c.new_role.new.draft) c.new_role.result
+    edits_asked_so caller.org Anyone (AsksWith (g.R.Rights.whose c.args.rights.now) caller c.args.now) (λ a _. tt) c.args.route.now AddRole c.args.body.now (tables_of g.K.Keeper.state c.args.draft.now) (tables_of g.K.Keeper.state c.new_role.new.draft) c.new_role.result
     c.in-AddRole.is (c.new_role.ensures.what told)
 
 pub returns-in-SetRole-clause-what : goal.returns-in-SetRole-clause-what
 returns-in-SetRole-clause-what g c told =
     let caller = c.args.caller.now in
-    edits_asked_so caller.org (Administers caller c.args.now) c.args.route.now (SetRole c.in-SetRole.id) c.args.body.now (tables_of g.K.Keeper.state c.args.draft.now) (tables_of g.K.Keeper.state c.changed_role.new.draft) c.changed_role.result
+    edits_asked_so caller.org Anyone (AsksWith (g.R.Rights.whose c.args.rights.now) caller c.args.now) (λ a _. tt) c.args.route.now (SetRole c.in-SetRole.id) c.args.body.now (tables_of g.K.Keeper.state c.args.draft.now) (tables_of g.K.Keeper.state c.changed_role.new.draft) c.changed_role.result
     c.in-SetRole.is (c.changed_role.ensures.what told)
 
 pub returns-in-AddGroup-clause-what : goal.returns-in-AddGroup-clause-what
 returns-in-AddGroup-clause-what g c told =
     let caller = c.args.caller.now in
-    edits_asked_so caller.org (Administers caller c.args.now) c.args.route.now AddGroup c.args.body.now (tables_of g.K.Keeper.state c.args.draft.now) (tables_of g.K.Keeper.state c.new_group.new.draft) c.new_group.result
+    edits_asked_so caller.org Anyone (AsksWith (g.R.Rights.whose c.args.rights.now) caller c.args.now) (λ a _. tt) c.args.route.now AddGroup c.args.body.now (tables_of g.K.Keeper.state c.args.draft.now) (tables_of g.K.Keeper.state c.new_group.new.draft) c.new_group.result
     c.in-AddGroup.is (c.new_group.ensures.what told)
 
 pub returns-in-SetGroup-clause-what : goal.returns-in-SetGroup-clause-what
 returns-in-SetGroup-clause-what g c told =
     let caller = c.args.caller.now in
-    edits_asked_so caller.org (Administers caller c.args.now) c.args.route.now (SetGroup c.in-SetGroup.id) c.args.body.now (tables_of g.K.Keeper.state c.args.draft.now) (tables_of g.K.Keeper.state c.changed_group.new.draft) c.changed_group.result
+    edits_asked_so caller.org Anyone (AsksWith (g.R.Rights.whose c.args.rights.now) caller c.args.now) (λ a _. tt) c.args.route.now (SetGroup c.in-SetGroup.id) c.args.body.now (tables_of g.K.Keeper.state c.args.draft.now) (tables_of g.K.Keeper.state c.changed_group.new.draft) c.changed_group.result
     c.in-SetGroup.is (c.changed_group.ensures.what told)
+
+-- ---- sharing
+
+pub returns-in-Share-clause-what : goal.returns-in-Share-clause-what
+returns-in-Share-clause-what g c told =
+    let caller = c.args.caller.now in
+    edits_asked_so caller.org (HasRights (g.R.Rights.whose c.args.rights.now)) (AsksWith (g.R.Rights.whose c.args.rights.now) caller c.args.now) (λ a asking. asking.1) c.args.route.now Share c.args.body.now (tables_of g.K.Keeper.state c.args.draft.now) (tables_of g.K.Keeper.state c.shared_record.new.draft) c.shared_record.result
+    c.in-Share.is (c.shared_record.ensures.what told)
+
+pub returns-in-Unshare-clause-what : goal.returns-in-Unshare-clause-what
+returns-in-Unshare-clause-what g c told =
+    let caller = c.args.caller.now in
+    edits_asked_so caller.org (HasRights (g.R.Rights.whose c.args.rights.now)) (AsksWith (g.R.Rights.whose c.args.rights.now) caller c.args.now) (λ a asking. asking.1) c.args.route.now (Unshare c.in-Unshare.item c.in-Unshare.to) c.args.body.now (tables_of g.K.Keeper.state c.args.draft.now) (tables_of g.K.Keeper.state c.unshared_record.new.draft) c.unshared_record.result
+    c.in-Unshare.is (c.unshared_record.ensures.what told c.args.body.now)
+
+pub returns-in-AddSharingRule-clause-what : goal.returns-in-AddSharingRule-clause-what
+returns-in-AddSharingRule-clause-what g c told =
+    let caller = c.args.caller.now in
+    edits_asked_so caller.org Anyone (AsksWith (g.R.Rights.whose c.args.rights.now) caller c.args.now) (λ a _. tt) c.args.route.now AddSharingRule c.args.body.now (tables_of g.K.Keeper.state c.args.draft.now) (tables_of g.K.Keeper.state c.new_sharing_rule.new.draft) c.new_sharing_rule.result
+    c.in-AddSharingRule.is (c.new_sharing_rule.ensures.what told)
+
+pub returns-in-RemoveSharingRule-clause-what : goal.returns-in-RemoveSharingRule-clause-what
+returns-in-RemoveSharingRule-clause-what g c told =
+    let caller = c.args.caller.now in
+    edits_asked_so caller.org Anyone (AsksWith (g.R.Rights.whose c.args.rights.now) caller c.args.now) (λ a _. tt) c.args.route.now (RemoveSharingRule c.in-RemoveSharingRule.name) c.args.body.now (tables_of g.K.Keeper.state c.args.draft.now) (tables_of g.K.Keeper.state c.removed_sharing_rule.new.draft) c.removed_sharing_rule.result
+    c.in-RemoveSharingRule.is (c.removed_sharing_rule.ensures.what told c.args.body.now)
 
 -- ---- another route
 
@@ -214,7 +240,7 @@ pub returns-in_ok-from_str-in_default-clause-what : goal.returns-in_ok-from_str-
 unfolding chars
 returns-in_ok-from_str-in_default-clause-what g c told =
     let caller = c.args.caller.now in
-    edits_unbuilt caller.org (Administers caller c.args.now) c.args.route.now c.args.body.now c.in_ok-from_str-in_default.field-0 (tables_of g.K.Keeper.state c.args.draft.now)
+    edits_unbuilt caller.org (AsksWith (g.R.Rights.whose c.args.rights.now) caller c.args.now) c.args.route.now c.args.body.now c.in_ok-from_str-in_default.field-0 (tables_of g.K.Keeper.state c.args.draft.now)
     (record {
       no_record = λ object. c.in_default.not-Create object;
       no_change = λ object key. c.in_default.not-Update object key;
@@ -224,6 +250,10 @@ returns-in_ok-from_str-in_default-clause-what g c told =
       no_access = λ object. c.in_default.not-SetObject object;
       no_field = c.in_default.not-AddField;
       no_rule = c.in_default.not-AddValidationRule;
+      no_share = c.in_default.not-Share;
+      no_end = λ item to. c.in_default.not-Unshare item to;
+      no_sharing_rule = c.in_default.not-AddSharingRule;
+      no_removal = λ name. c.in_default.not-RemoveSharingRule name;
       no_user = c.in_default.not-AddUser;
       no_user_role = λ user. c.in_default.not-SetUser user;
       no_role = c.in_default.not-AddRole;

@@ -5,7 +5,7 @@ use Rattle.ut_keeper.specs.Draft.{tables_of}
 use Rattle.ut_model.specs.Requests.{deletes}
 use Rattle.ut_model.specs.Verdict.{done}
 use Rattle.ut_model.specs.declared.route.Route.TheVariants.{Delete}
-use Rattle.ut_admin.specs.Administration.{Administers}
+use Rattle.ut_admin.specs.Administration.{AsksWith}
 use Rattle.ut_admin.specs.declared.answer.Answer.TheVariants as answer
 use Rattle.ut_admin.proofs.Asked.{answers_so, asks_no_more, drafts_seen, edits_asked}
 use Rattle.ut_admin.proofs.Giving.{deleting}
@@ -18,11 +18,11 @@ returns-clause-what g c told body =
     let key = c.args.key.now in
     let small : FitsSigned w64 c.moment.result = search rules in
     let at : to_z w64 (of_z w64 c.moment.result) ≡ pos c.args.now = to_z-of_z w64 c.moment.result small ∙ c.moment.ensures in
-    edits_asked (λ _. answer.Done) (λ _. done) (λ _. refl) caller.org (Administers caller c.args.now) (Delete object key) (Delete object key) body (deletes object key) _ _ _ (tables_of g.K.Keeper.state c.args.draft.now) (tables_of g.K.Keeper.state c.make_edit.new.draft) c.make_edit.result c.done.result
+    edits_asked (λ _. answer.Done) (λ _. done) (λ _. refl) caller.org (AsksWith (g.R.Rights.whose c.args.rights.now) caller c.args.now) (Delete object key) (Delete object key) body (deletes object key) _ _ _ (tables_of g.K.Keeper.state c.args.draft.now) (tables_of g.K.Keeper.state c.make_edit.new.draft) c.make_edit.result c.done.result
     refl (asks_no_more object key body) c.done.ensures
     (λ a. refl)
     (λ a. c.refusal_laws.ensures.refused a (deletes object key))
-    (λ a sound asking. deleting caller c.args.now _ a at c.requires asking)
+    (λ a sound asking. deleting (g.R.Rights.whose c.args.rights.now) caller c.args.now _ a at c.requires asking)
     (c.make_edit.ensures.what told)
 
 pub returns-clause-form : goal.returns-clause-form

@@ -10,7 +10,7 @@ use Rattle.ut_model.specs.Verdict.{made_new}
 use Rattle.ut_model.specs.declared.record_bodies.Assignment.{Assignment}
 use Rattle.ut_model.specs.declared.route.Route.TheVariants.{Create}
 use Rattle.ut_sound.specs.Fit.{ReadsWell}
-use Rattle.ut_admin.specs.Administration.{Administers}
+use Rattle.ut_admin.specs.Administration.{AsksWith}
 use Rattle.ut_admin.specs.declared.answer.Answer.TheVariants as answer
 use Rattle.ut_admin.proofs.Asked.{answers_none, answers_so, asks_new, drafts_seen, edits_asked, edits_none, fit, none_drafts, returned}
 use Rattle.ut_admin.proofs.Giving.{giving}
@@ -23,7 +23,7 @@ returns-in_err-values-clause-what g c told =
     let caller = c.args.caller.now in
     let object = c.args.object.now in
     let fail = c.in_err-values.field-0.0 in
-    edits_none (creates object) caller.org (Administers caller c.args.now) (Create object) (Create object) c.args.body.now fail (tables_of g.K.Keeper.state c.args.draft.now) c.from_residual.result refl
+    edits_none (creates object) caller.org (AsksWith (g.R.Rights.whose c.args.rights.now) caller c.args.now) (Create object) (Create object) c.args.body.now fail (tables_of g.K.Keeper.state c.args.draft.now) c.from_residual.result refl
     (returned c.from_residual.result fail c.from_residual.ensures) (asks_new object c.args.body.now (Err fail) (c.in_err-values.ensures.values (creates object)))
 
 pub returns-in_err-values-clause-form : goal.returns-in_err-values-clause-form
@@ -51,11 +51,11 @@ returns-clause-what g c told =
     let asked = asks_new object body (Ok given) (c.in_ok-values.ensures.values (creates object)) in
     let small : FitsSigned w64 c.moment.result = search rules in
     let at : to_z w64 (of_z w64 c.moment.result) ≡ pos c.args.now = to_z-of_z w64 c.moment.result small ∙ c.moment.ensures in
-    edits_asked (λ id. answer.Made id) (λ id. made_new id) (λ _. refl) caller.org (Administers caller c.args.now) (Create object) (Create object) body (creates object given) _ _ _ (tables_of g.K.Keeper.state c.args.draft.now) (tables_of g.K.Keeper.state c.make_edit.new.draft) c.make_edit.result c.made.result
+    edits_asked (λ id. answer.Made id) (λ id. made_new id) (λ _. refl) caller.org (AsksWith (g.R.Rights.whose c.args.rights.now) caller c.args.now) (Create object) (Create object) body (creates object given) _ _ _ (tables_of g.K.Keeper.state c.args.draft.now) (tables_of g.K.Keeper.state c.make_edit.new.draft) c.make_edit.result c.made.result
     refl asked c.made.ensures
     (λ a. ap (λ (values : List Assignment). create a object values) c.as_slice.ensures)
     (λ a. c.refusal_laws.ensures.refused a (creates object given))
-    (λ a sound asking. giving caller c.args.now _ (λ g b o. ReadsWell b o g) given c.as_slice.result.now a at c.requires c.as_slice.ensures (fit c.requests_fit.ensures.request a (Create object) body (creates object given) sound asked) asking)
+    (λ a sound asking. giving (g.R.Rights.whose c.args.rights.now) caller c.args.now _ (λ g b o. ReadsWell b o g) given c.as_slice.result.now a at c.requires c.as_slice.ensures (fit c.requests_fit.ensures.request a (Create object) body (creates object given) sound asked) asking)
     (c.make_edit.ensures.what told)
 
 pub returns-clause-form : goal.returns-clause-form

@@ -11,7 +11,7 @@ use Rattle.ut_model.specs.Verdict.{upserted}
 use Rattle.ut_model.specs.declared.record_bodies.Assignment.{Assignment}
 use Rattle.ut_model.specs.declared.route.Route.TheVariants.{Upsert}
 use Rattle.ut_sound.specs.Fit.{ReadsWellByKey}
-use Rattle.ut_admin.specs.Administration.{Administers}
+use Rattle.ut_admin.specs.Administration.{AsksWith}
 use Rattle.ut_admin.specs.inner.Edits.{as_upserted}
 use Rattle.ut_admin.proofs.Asked.{answers_none, answers_so, asks_upsert, drafts_seen, edits_asked, edits_none, fit, none_drafts, returned}
 use Rattle.ut_admin.proofs.Giving.{giving}
@@ -26,7 +26,7 @@ returns-in_err-values-clause-what g c told =
     let key = c.args.key.now in
     let value = c.args.value.now in
     let fail = c.in_err-values.field-0.0 in
-    edits_none (upserts object key (value_part value)) caller.org (Administers caller c.args.now) (Upsert object key value) (Upsert object key value) c.args.body.now fail (tables_of g.K.Keeper.state c.args.draft.now) c.from_residual.result refl
+    edits_none (upserts object key (value_part value)) caller.org (AsksWith (g.R.Rights.whose c.args.rights.now) caller c.args.now) (Upsert object key value) (Upsert object key value) c.args.body.now fail (tables_of g.K.Keeper.state c.args.draft.now) c.from_residual.result refl
     (returned c.from_residual.result fail c.from_residual.ensures) (asks_upsert object key value c.args.body.now (Err fail) (c.in_err-values.ensures.values (upserts object key (value_part value))))
 
 pub returns-in_err-values-clause-form : goal.returns-in_err-values-clause-form
@@ -59,11 +59,11 @@ returns-clause-what g c told =
     let asked = asks_upsert object key value body (Ok given) (c.in_ok-values.ensures.values (upserts object key (value_part value))) ∙ ap (λ (t : Option (List ℕ)). Ok (upserts object key t given)) (sym c.in_ok-text.ensures) in
     let small : FitsSigned w64 c.moment.result = search rules in
     let at : to_z w64 (of_z w64 c.moment.result) ≡ pos c.args.now = to_z-of_z w64 c.moment.result small ∙ c.moment.ensures in
-    edits_asked as_upserted (λ x. upserted x.id x.created) (λ _. refl) caller.org (Administers caller c.args.now) (Upsert object key value) (Upsert object key value) body (upserts object key text given) _ _ _ (tables_of g.K.Keeper.state c.args.draft.now) (tables_of g.K.Keeper.state c.make_edit.new.draft) c.make_edit.result c.upserted.result
+    edits_asked as_upserted (λ x. upserted x.id x.created) (λ _. refl) caller.org (AsksWith (g.R.Rights.whose c.args.rights.now) caller c.args.now) (Upsert object key value) (Upsert object key value) body (upserts object key text given) _ _ _ (tables_of g.K.Keeper.state c.args.draft.now) (tables_of g.K.Keeper.state c.make_edit.new.draft) c.make_edit.result c.upserted.result
     refl asked c.upserted.ensures
     (λ a. ap (λ (values : List Assignment). upsert a object key text values) c.as_slice.ensures)
     (λ a. c.refusal_laws.ensures.refused a (upserts object key text given))
-    (λ a sound asking. giving caller c.args.now _ (λ g b o. ReadsWellByKey b key text o g) given c.as_slice.result.now a at c.requires c.as_slice.ensures (fit c.requests_fit.ensures.request a (Upsert object key value) body (upserts object key text given) sound asked) asking)
+    (λ a sound asking. giving (g.R.Rights.whose c.args.rights.now) caller c.args.now _ (λ g b o. ReadsWellByKey b key text o g) given c.as_slice.result.now a at c.requires c.as_slice.ensures (fit c.requests_fit.ensures.request a (Upsert object key value) body (upserts object key text given) sound asked) asking)
     (c.make_edit.ensures.what told)
 
 pub returns-clause-form : goal.returns-clause-form

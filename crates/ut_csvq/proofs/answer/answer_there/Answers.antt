@@ -13,14 +13,14 @@ nothing_there (Some y) h = absurd (h y refl)
 
 pub returns-in-Some : goal.returns-in-Some
 returns-in-Some c flat a made o named is =
-    let laws : Laws = record { readable = c.administrator_laws.ensures.readable; rise = c.record_laws.ensures.rise; already = c.record_laws.ensures.already; named = c.object_laws.ensures.named; printable = c.data_laws.ensures.printable; found = c.plan_laws.ensures.found; row = c.plan_laws.ensures.row } in
+    let laws : Laws = record { rise = c.record_laws.ensures.rise; already = c.record_laws.ensures.already; named = c.object_laws.ensures.named; printable = c.data_laws.ensures.printable; row = c.plan_laws.ensures.row } in
     let its = its_layout laws c.args.layout.now c.args.query.now c.args.now _ a made o named is in
     refused_so laws c.args.layout.now c.args.query.now c.args.now _ a made o named is c.in-Some.refusal
     (sym c.in-Some.is ∙ c.in_ok-refusal.ensures flat made.plan a.tenant its)
 
 pub returns : goal.returns
 returns c flat a made o named is =
-    let laws : Laws = record { readable = c.administrator_laws.ensures.readable; rise = c.record_laws.ensures.rise; already = c.record_laws.ensures.already; named = c.object_laws.ensures.named; printable = c.data_laws.ensures.printable; found = c.plan_laws.ensures.found; row = c.plan_laws.ensures.row } in
+    let laws : Laws = record { rise = c.record_laws.ensures.rise; already = c.record_laws.ensures.already; named = c.object_laws.ensures.named; printable = c.data_laws.ensures.printable; row = c.plan_laws.ensures.row } in
     let its = its_layout laws c.args.layout.now c.args.query.now c.args.now _ a made o named is in
     let at : to_z w64 (of_z w64 c.moment.result) ≡ a.now =
     (let small : FitsSigned w64 c.moment.result = search rules in to_z-of_z w64 c.moment.result small) ∙ c.moment.ensures ∙ sym made.moment in

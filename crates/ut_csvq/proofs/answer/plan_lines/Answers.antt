@@ -6,6 +6,6 @@ use Rattle.ut_csvq.specs.inner.Names.{shown_line}
 use Rattle.ut_csvq.proofs.answer.plan_lines.Goals as goal
 
 pub returns-in-Ok : goal.returns-in-Ok
-returns-in-Ok c q t s i =
-    (c.in-Ok.ensures.what (tt, refl) q t s i).appended
-    ∙ ap (λ (shown : List Shown). c.args.out.now.items ++ flat_map (shown_line shown) (plan_rows c.args.plan.now c.args.layout.now.object t)) c.as_slice.ensures
+returns-in-Ok c q t u s i its =
+    (c.in-Ok.ensures.what (tt, refl) q t u s i its).appended
+    ∙ ap (λ (shown : List Shown). c.args.out.now.items ++ flat_map (shown_line shown) (plan_rows c.args.plan.now c.args.layout.now.object t u)) c.as_slice.ensures

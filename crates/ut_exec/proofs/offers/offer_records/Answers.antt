@@ -1,6 +1,6 @@
 use Rattle.std.proofs.Common.{◌≡◌, ◌∙◌, List, ◌∷◌, [], arith, filter, subst, sym}
 use Rattle.std.proofs.lemmas.List.Elements.{filter-append}
-use Rattle.ut_exec.specs.Seen.{kept_record}
+use Rattle.ut_rights.specs.Rights.{kept_record}
 use Rattle.ut_keeper.specs.declared.keeper.KeptRow.{KeptRow}
 use Rattle.ut_exec.specs.inner.Offers.{Offered}
 use Rattle.ut_exec.proofs.Offering.{Offers, Through, empty_of, goes_none, offered_over, offered_stops, offers_more, returned, through_all, through_first, through_next}

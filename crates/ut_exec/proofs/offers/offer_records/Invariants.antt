@@ -1,6 +1,6 @@
 use Rattle.std.proofs.Common.{◌≡◌, List, Some, filter, length}
 use Rattle.ut_data.specs.Decoding.{each_from}
-use Rattle.ut_exec.specs.Seen.{kept_record}
+use Rattle.ut_rights.specs.Rights.{kept_record}
 use Rattle.ut_keeper.specs.declared.keeper.KeptRow.{KeptRow}
 use Rattle.ut_model.specs.declared.record.Record.{Record}
 use Rattle.ut_exec.specs.inner.Offers.{WritesTaken}

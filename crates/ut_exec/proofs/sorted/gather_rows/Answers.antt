@@ -1,7 +1,7 @@
 use Rattle.std.proofs.Common.{◌≡◌, List, ◌∷◌, [], arith, filter, subst, sym}
 use Rattle.std.specs.Vec.Iter.{into_iter_items}
 use Rattle.ut_keeper.specs.declared.keeper.KeptRow.{KeptRow}
-use Rattle.ut_exec.specs.Seen.{kept_record}
+use Rattle.ut_rights.specs.Rights.{kept_record}
 use Rattle.ut_exec.specs.inner.Gathering.{Gathers, GathersRows}
 use Rattle.ut_exec.proofs.Offering.{Through, each_cons, empty_of, returned, through_all, through_first, through_next}
 use Rattle.ut_exec.proofs.Sorting.{gathers_failed, gathers_more, gathers_nothing}

@@ -3,7 +3,7 @@ use Rattle.std.specs.Vec.Iter.{into_iter_items}
 use Rattle.ut_data.specs.Decoding.{each_from}
 use Rattle.ut_keeper.specs.declared.keeper.KeptRow.{KeptRow}
 use Rattle.ut_model.specs.declared.record.Record.{Record}
-use Rattle.ut_exec.specs.Seen.{kept_record}
+use Rattle.ut_rights.specs.Rights.{kept_record}
 use Rattle.ut_exec.specs.inner.Gathering.{GathersRows}
 use Rattle.ut_exec.proofs.Offering.{Through}
 use Rattle.ut_exec.proofs.sorted.gather_rows.Given as goal

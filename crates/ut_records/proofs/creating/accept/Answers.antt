@@ -12,7 +12,7 @@ use Rattle.ut_stands.specs.declared.layout.Layout.{Layout}
 use Rattle.ut_stands.specs.Local.{StandsIn}
 use Rattle.ut_value.specs.Id.{made}
 use Rattle.ut_records.specs.inner.Giving.{Alters}
-use Rattle.ut_records.proofs.Accepting.{admit_behind, master_free, object_layout, proposed_of}
+use Rattle.ut_records.proofs.Accepting.{admit_behind, object_layout, proposed_of}
 use Rattle.ut_records.proofs.GivenRules.{reads_there}
 use Rattle.ut_records.proofs.Judging.{admitted, passed, passed_calls, read_so, unadmitted, unproposed, unread}
 use Rattle.ut_records.proofs.creating.accept.Goals as goal
@@ -46,7 +46,7 @@ returns-in_err-admit-clause-accepts g c told q a o s at f well =
     let key = key_of given in
     let x = c.in_ok-counts.counts in
     let new = c.in_ok-new.new in
-    let tells = c.draft_laws.ensures.both 0 40 c.args.draft.now c.read_counts.new.draft c.admit.new.draft c.read_counts.ensures.calls.reads c.admit.ensures.calls.reads told in
+    let tells = c.draft_laws.ensures.both 0 168 c.args.draft.now c.read_counts.new.draft c.admit.new.draft c.read_counts.ensures.calls.reads c.admit.ensures.calls.reads told in
     let are = read_so l.org a o key given.body.now c.read_counts.result x (c.read_counts.ensures.reads tells.0 q a.tenant o s at) c.in_ok-counts.was in
     let now = f.now ∙ sym (to_z-of_z w64 c.args.now c.ranges.now) in
     let low : a.tenant.counter < 10 ^ 15 = omega (arith, s.sound.counter) in
@@ -58,14 +58,14 @@ returns-in_err-admit-clause-accepts g c told q a o s at f well =
     let id : new.id ≡ made (record_prefix l.object) a.tenant.counter = ap (λ (r : Record). r.id) so.1 ∙ ap (λ (l : Layout). made (record_prefix l.object) a.tenant.counter) (sym at.layout) in
     let e = c.in_err-admit.field-0.0 in
     passed l.org a o key given.body.now e c.from_residual-in_err-admit.result c.from_residual-in_err-admit.ensures.1
-    (unadmitted l.org a o key given.body.now l x new so (λ r. master_free c.administrator_laws.ensures.level a o r s.sound f.admin) (admit_behind l.org q a o l x new at are) c.admit.result e
-    (c.admit.ensures.admits tells.1 q a stands its f.admin f.user now id) c.in_err-admit.was)
+    (unadmitted l.org a o key given.body.now l x new so (admit_behind l.org q a o l x new at are) c.admit.result e
+    (c.admit.ensures.admits tells.1 q a stands its f.rights f.user now id) c.in_err-admit.was)
 
 pub returns-in_err-admit-clause-calls : goal.returns-in_err-admit-clause-calls
 returns-in_err-admit-clause-calls g c =
     let e = c.in_err-admit.field-0.0 in
-    passed_calls g.K.Keeper.state c.args.draft.now c.admit.new.draft 40 e c.from_residual-in_err-admit.result c.from_residual-in_err-admit.ensures.1
-    (c.call_laws.ensures.then 0 40 (ended_edit {X = Unit {0}} (Err e)) c.args.draft.now c.read_counts.new.draft c.admit.new.draft c.in_ok-counts.ensures.calls c.in_err-admit.ensures.calls)
+    passed_calls g.K.Keeper.state c.args.draft.now c.admit.new.draft 168 e c.from_residual-in_err-admit.result c.from_residual-in_err-admit.ensures.1
+    (c.call_laws.ensures.then 0 168 (ended_edit {X = Unit {0}} (Err e)) c.args.draft.now c.read_counts.new.draft c.admit.new.draft c.in_ok-counts.ensures.calls c.in_err-admit.ensures.calls)
 
 pub returns-clause-accepts : goal.returns-clause-accepts
 returns-clause-accepts g c told q a o s at f well =
@@ -75,7 +75,7 @@ returns-clause-accepts g c told q a o s at f well =
     let key = key_of given in
     let x = c.in_ok-counts.counts in
     let new = c.in_ok-new.new in
-    let tells = c.draft_laws.ensures.both 0 40 c.args.draft.now c.read_counts.new.draft c.admit.new.draft c.read_counts.ensures.calls.reads c.admit.ensures.calls.reads told in
+    let tells = c.draft_laws.ensures.both 0 168 c.args.draft.now c.read_counts.new.draft c.admit.new.draft c.read_counts.ensures.calls.reads c.admit.ensures.calls.reads told in
     let are = read_so l.org a o key given.body.now c.read_counts.result x (c.read_counts.ensures.reads tells.0 q a.tenant o s at) c.in_ok-counts.was in
     let now = f.now ∙ sym (to_z-of_z w64 c.args.now c.ranges.now) in
     let low : a.tenant.counter < 10 ^ 15 = omega (arith, s.sound.counter) in
@@ -88,6 +88,6 @@ returns-clause-accepts g c told q a o s at f well =
     record {
       counts = are;
       new = so.1;
-      free = admitted l.org a o key given.body.now l x new so (λ r. master_free c.administrator_laws.ensures.level a o r s.sound f.admin) (admit_behind l.org q a o l x new at are) c.admit.result c.in_ok-admit.field-0
-          (c.admit.ensures.admits tells.1 q a stands its f.admin f.user now id) c.in_ok-admit.was;
+      free = admitted l.org a o key given.body.now l x new so (admit_behind l.org q a o l x new at are) c.admit.result c.in_ok-admit.field-0
+          (c.admit.ensures.admits tells.1 q a stands its f.rights f.user now id) c.in_ok-admit.was;
     }

@@ -6,15 +6,25 @@ use Rattle.ut_model.specs.Creates.{empty_record}
 use Rattle.ut_model.specs.Rules.{first_refusal}
 use Rattle.ut_rules.specs.Objects.{numbered_in}
 use Rattle.ut_records.specs.inner.Judged.{limit_rule, others_rules}
-use Rattle.ut_records.proofs.Judging.{refused_first}
+use Rattle.ut_records.proofs.Judging.{refused_first, refused_none}
 use Rattle.ut_records.proofs.creating.admit.Goals as goal
 
 pub returns-clause-admits : goal.returns-clause-admits
-returns-clause-admits g c told q a s its admin user now id =
+returns-clause-admits g c told q a s its who user now id =
     let x = c.args.counts.now in
     let l = c.args.layout.now in
     let new = c.args.new.now in
     let empty = c.in_ok-empty.ensures.same a user (now ∙ sym (to_z-of_z w64 c.args.now c.ranges.now)) id in
     refused_first (others_rules l (empty_record a (numbered_in l)) new a) c.in_ok-others.others (limit_rule x.row x.object) c.in-Some.refusal
-    (c.in_ok-others.ensures.finds told q a s its admin ∙ ap (λ (r : Record). first_refusal (others_rules l r new a)) empty)
+    (c.in_ok-others.ensures.finds told q a s its who ∙ ap (λ (r : Record). first_refusal (others_rules l r new a)) empty)
     (ap (option_or c.in_ok-others.others) (sym c.over_limits.ensures) ∙ sym c.or.ensures ∙ c.in-Some.is)
+
+pub returns-in-None-clause-admits : goal.returns-in-None-clause-admits
+returns-in-None-clause-admits g c told q a s its who user now id =
+    let x = c.args.counts.now in
+    let l = c.args.layout.now in
+    let new = c.args.new.now in
+    let empty = c.in_ok-empty.ensures.same a user (now ∙ sym (to_z-of_z w64 c.args.now c.ranges.now)) id in
+    refused_none (others_rules l (empty_record a (numbered_in l)) new a) c.in_ok-others.others (limit_rule x.row x.object)
+    (c.in_ok-others.ensures.finds told q a s its who ∙ ap (λ (r : Record). first_refusal (others_rules l r new a)) empty)
+    (ap (option_or c.in_ok-others.others) (sym c.over_limits.ensures) ∙ sym c.or.ensures ∙ c.in-None.is)

@@ -1,28 +1,23 @@
-use Rattle.std.proofs.Common.{◌≡◌, ◌∙◌, None, subst, sym, w64}
+use Rattle.std.proofs.Common.{◌∙◌, sym, w64}
 use Rattle.std.proofs.lemmas.Int.{to_z-of_z}
-use Rattle.std.specs.Prelude.{Err, Ok}
-use Rattle.ut_given.specs.Given.{GivesValues, all_given, key_of}
-use Rattle.ut_records.proofs.GivenRules.{alters_well, nothing_there, value_refused}
+use Rattle.ut_given.specs.Given.{key_of}
+use Rattle.ut_rules.specs.Objects.{object_of_layout}
+use Rattle.ut_records.proofs.GivenRules.{alters_so, stays_valid, ungiven}
 use Rattle.ut_records.proofs.giving.altered_record.Goals as goal
 
-pub returns-in-Ok-clause-alters : goal.returns-in-Ok-clause-alters
-returns-in-Ok-clause-alters c a now well =
-    let l = c.args.layout.now in
-    let old = c.args.old in
+pub returns-in_err-new-clause-alters : goal.returns-in_err-new-clause-alters
+returns-in_err-new-clause-alters c a now well =
     let given = c.args.given.now in
-    let fields : None ≡ c.in_ok-refusal.field-0 = sym (nothing_there c.in_ok-refusal.field-0 c.in_default.not-Some) in
-    let gives : GivesValues l (all_given given) old (Ok c.in-Ok.values) =
-    subst (GivesValues l (all_given given) old) c.in-Ok.is (c.in_ok-values.ensures c.requires.usable.types c.requires.plain) in
-    let at = now ∙ sym (to_z-of_z w64 c.args.now c.ranges.now) in
-    alters_well a l (key_of given) given.body.now old (fields ∙ c.in_ok-refusal.ensures c.requires.plain a.tenant) (gives a.tenant).0 c.with_given.result
-    (c.with_given.ensures.same a l (all_given given) at gives) c.requires.values well c.unless_missing.result c.unless_missing.ensures.lacks
+    ungiven a (object_of_layout c.args.layout.now) (key_of given) given.body.now c.args.old c.given_record.result c.in_err-new.field-0.0 c.from_residual.result
+    (c.given_record.ensures.gives a (now ∙ sym (to_z-of_z w64 c.args.now c.ranges.now))) c.in_err-new.was c.from_residual.ensures.1
 
-pub returns-in-Err-clause-alters : goal.returns-in-Err-clause-alters
-returns-in-Err-clause-alters c a now well =
+pub returns-clause-alters : goal.returns-clause-alters
+returns-clause-alters c a now well =
     let l = c.args.layout.now in
-    let given = c.args.given.now in
     let old = c.args.old in
-    let fields : None ≡ c.in_ok-refusal.field-0 = sym (nothing_there c.in_ok-refusal.field-0 c.in_default.not-Some) in
-    let gives : GivesValues l (all_given given) old (Err c.in-Err.refusal) =
-    subst (GivesValues l (all_given given) old) c.in-Err.is (c.in_ok-values.ensures c.requires.usable.types c.requires.plain) in
-    value_refused a l (key_of given) given.body.now old (fields ∙ c.in_ok-refusal.ensures c.requires.plain a.tenant) c.in-Err.refusal (gives a.tenant)
+    let given = c.args.given.now in
+    let key = key_of given in
+    let gives = c.given_record.ensures.gives a (now ∙ sym (to_z-of_z w64 c.args.now c.ranges.now)) in
+    let made = c.in_ok-new.new in
+    alters_so a (object_of_layout l) key given.body.now old c.given_record.result made gives c.in_ok-new.was c.unless_missing.result
+    (c.unless_missing.ensures.lacks (stays_valid a l key given.body.now old c.requires.values well c.given_record.result made gives c.in_ok-new.was))

@@ -8,4 +8,4 @@ use Rattle.ut_records.proofs.others.refused_by_own.Goals as goal
 pub returns-in-Err-clause-finds : goal.returns-in-Err-clause-finds
 returns-in-Err-clause-finds g c told =
     let old : Option Record = option_map {T = Bor Record} {U = Record} (λ r. r.now) c.args.old in
-    own_failed c.args.layout.now old c.args.new.now (tables_of g.K.Keeper.state c.args.draft.now) c.in-Err.fail (c.in-Err.ensures.finds told)
+    own_failed c.args.layout.now (g.R.Rights.whose c.args.rights.now) old c.args.new.now (tables_of g.K.Keeper.state c.args.draft.now) c.in-Err.fail (c.in-Err.ensures.finds told)

@@ -13,14 +13,14 @@ use Rattle.ut_rest.proofs.Named.{refused_so}
 use Rattle.ut_rest.proofs.asking.answer_query.Goals as goal
 
 pub returns-in-Ok-clause-what : goal.returns-in-Ok-clause-what
-returns-in-Ok-clause-what g c told p a s admin at =
+returns-in-Ok-clause-what g c told p a s asking =
     let small : FitsSigned w64 c.moment.result = search rules in
     let now : to_z w64 (of_z w64 c.moment.result) ≡ pos c.args.now = to_z-of_z w64 c.moment.result small ∙ c.moment.ensures in
     subst (λ (q : Result Query ℕ). AnswersBy a (query_verdict a q) c.answer_read.result)
-    (sym (subst (λ (r : Result Query ParseFail). UnlessMemory r (λ read. reads_query (query_text c.args.pairs.now) ≡ read)) c.in-Ok.is c.query_in.ensures)) (c.answer_read.ensures.what told p a s admin (at ∙ sym now))
+    (sym (subst (λ (r : Result Query ParseFail). UnlessMemory r (λ read. reads_query (query_text c.args.pairs.now) ≡ read)) c.in-Ok.is c.query_in.ensures)) (c.answer_read.ensures.what told p a s (record { user = asking.user; admin = asking.admin; now = asking.now ∙ sym now }))
 
 pub returns-in-Err-Malformed-clause-what : goal.returns-in-Err-Malformed-clause-what
-returns-in-Err-Malformed-clause-what g c told p a s admin at =
+returns-in-Err-Malformed-clause-what g c told p a s asking =
     subst (λ (q : Result Query ℕ). AnswersBy a (query_verdict a q) c.refuse_malformed.result)
     (sym (subst (λ (r : Result Query ParseFail). UnlessMemory r (λ read. reads_query (query_text c.args.pairs.now) ≡ read)) (c.in-Err-Malformed.is ∙ ap Err c.in-Err-Malformed.field-0-is) c.query_in.ensures))
     (refused_so a (MalformedQuery c.in-Err-Malformed.place) c.refuse_malformed.result c.refuse_malformed.ensures.value)

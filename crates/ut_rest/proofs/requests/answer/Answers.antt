@@ -1,18 +1,16 @@
-use Rattle.std.proofs.Common.{◌∙◌, ℕ, List, sym, subst, arith}
-use Rattle.std.specs.Prelude.{codes}
+use Rattle.std.proofs.Common.{◌∙◌, sym, subst, arith}
 use Rattle.ut_keeper.specs.Draft.{removals_of, tables_of}
 use Rattle.ut_keeper.specs.State.{data_table}
-use Rattle.ut_model.specs.declared.refusal.Refusal.TheVariants.{AdminRequired, NotBuilt}
+use Rattle.ut_model.specs.declared.refusal.Refusal.TheVariants.{AdminRequired}
 use Rattle.ut_model.specs.declared.route.Route.{Route}
 use Rattle.ut_model.specs.declared.routed.Routed.TheVariants.{To}
 use Rattle.ut_model.specs.Verdict.{Verdict}
 use Rattle.ut_step.specs.Built.{verdict_to}
 use Rattle.ut_step.specs.Own.{IsAsking, shown_beside}
-use Rattle.ut_rest.specs.inner.Answers.{AnswersBy, Refuses}
-use Rattle.ut_rest.proofs.Literals.{route_word}
+use Rattle.ut_rest.specs.inner.Answers.{AnswersBy}
 use Rattle.ut_rest.proofs.Named.{refused_so}
 use Rattle.ut_rest.proofs.Responses.{drafts_of, form_of, read_responds, refused_calls}
-use Rattle.ut_rest.proofs.Verdicts.{administered, administered_drafts, administered_form, administrator_lacks, unbuilt}
+use Rattle.ut_rest.proofs.Verdicts.{administered_drafts, administered_form, administrator_lacks, edited}
 use Rattle.ut_rest.proofs.requests.answer.Goals as goal
 
 -- ---- no administrator
@@ -45,7 +43,7 @@ returns-in-Query-clause-what g c told =
     let caller = c.args.caller.now in
     let body = c.args.body.now in
     read_responds caller.org (IsAsking caller c.args.now) (λ a. verdict_to a body (To c.args.route.now)) (tables_of state c.args.draft.now) (tables_of state c.answer_query.new.draft) c.answer_query.result c.unchanged-in-Query.result c.unchanged-in-Query.ensures
-    (λ p a s asking. subst (λ (r : Route). AnswersBy a (verdict_to a body (To r)) c.answer_query.result) (sym c.in-Query.is) (c.answer_query.ensures.what told p a s asking.admin asking.now))
+    (λ p a s asking. subst (λ (r : Route). AnswersBy a (verdict_to a body (To r)) c.answer_query.result) (sym c.in-Query.is) (c.answer_query.ensures.what told p a s asking))
 
 pub returns-in-Query-clause-form : goal.returns-in-Query-clause-form
 returns-in-Query-clause-form g c = form_of (To c.args.route.now) c.answer_query.result c.unchanged-in-Query.result c.unchanged-in-Query.ensures c.answer_query.ensures.form
@@ -58,45 +56,20 @@ returns-in-Query-clause-drafts g c =
     let shown = shown_beside (removals_of state data_table a) in
     drafts_of state laws.makes laws.most shown shown (omega arith) a c.answer_query.new.draft c.answer_query.result c.unchanged-in-Query.result c.unchanged-in-Query.ensures c.answer_query.ensures.calls
 
--- ---- an administrator
+-- ---- an edit
 
-pub returns-then-caller-clause-what : goal.returns-then-caller-clause-what
-returns-then-caller-clause-what g c told =
+pub returns-in_default-clause-what : goal.returns-in_default-clause-what
+returns-in_default-clause-what g c told =
     let state = g.K.Keeper.state in
     let caller = c.args.caller.now in
-    administered c.args.route.now c.args.body.now caller c.args.now (λ pairs. c.in_default.not-Query pairs) (sym c.lacks_administrator.ensures ∙ c.if-lacks_administrator.false)
-    caller.org (tables_of state c.args.draft.now) (tables_of state c.administer.new.draft) c.administer.result c.if-caller.true (c.administer.ensures.what told)
+    edited c.args.route.now c.args.body.now caller c.args.now (λ pairs. c.in_default.not-Query pairs) (sym c.lacks_administrator.ensures ∙ c.if-lacks_administrator.false)
+    caller.org (tables_of state c.args.draft.now) (tables_of state c.answer_edit.new.draft) c.answer_edit.result (c.answer_edit.ensures.what told)
 
-pub returns-then-caller-clause-form : goal.returns-then-caller-clause-form
-returns-then-caller-clause-form g c = administered_form c.args.route.now c.administer.result (λ pairs. c.in_default.not-Query pairs) c.administer.ensures.form
+pub returns-in_default-clause-form : goal.returns-in_default-clause-form
+returns-in_default-clause-form g c = administered_form c.args.route.now c.answer_edit.result (λ pairs. c.in_default.not-Query pairs) c.answer_edit.ensures.form
 
-pub returns-then-caller-clause-drafts : goal.returns-then-caller-clause-drafts
-returns-then-caller-clause-drafts g c =
+pub returns-in_default-clause-drafts : goal.returns-in_default-clause-drafts
+returns-in_default-clause-drafts g c =
     let state = g.K.Keeper.state in
     let a = c.args.draft.now in
-    administered_drafts state c.call_laws.ensures.most (shown_beside (removals_of state data_table a)) c.administer.result a c.administer.new.draft (omega arith) c.administer.ensures.drafts
-
--- ---- any other
-
-pub returns-else-caller-clause-what : goal.returns-else-caller-clause-what
-returns-else-caller-clause-what g c told =
-    let m = tables_of g.K.Keeper.state c.args.draft.now in
-    let caller = c.args.caller.now in
-    let route = c.args.route.now in
-    let body = c.args.body.now in
-    let refused = subst (λ (what : List ℕ). Refuses (NotBuilt what) c.refuse_unbuilt.result) route_word c.refuse_unbuilt.ensures.value in
-    read_responds caller.org (IsAsking caller c.args.now) (λ a. verdict_to a body (To route)) m m c.refuse_unbuilt.result c.unchanged-else-caller.result c.unchanged-else-caller.ensures
-    (λ p a s asking. subst (λ (v : Verdict). AnswersBy a v c.refuse_unbuilt.result)
-    (sym (unbuilt route body caller c.args.now (λ pairs. c.in_default.not-Query pairs) (sym c.lacks_administrator.ensures ∙ c.if-lacks_administrator.false) c.if-caller.false a asking)) (refused_so a (NotBuilt (codes "route")) c.refuse_unbuilt.result refused))
-
-pub returns-else-caller-clause-form : goal.returns-else-caller-clause-form
-returns-else-caller-clause-form g c = form_of (To c.args.route.now) c.refuse_unbuilt.result c.unchanged-else-caller.result c.unchanged-else-caller.ensures c.refuse_unbuilt.ensures.form
-
-pub returns-else-caller-clause-drafts : goal.returns-else-caller-clause-drafts
-returns-else-caller-clause-drafts g c =
-    let state = g.K.Keeper.state in
-    let laws = c.call_laws.ensures in
-    let a = c.args.draft.now in
-    let refused = subst (λ (what : List ℕ). Refuses (NotBuilt what) c.refuse_unbuilt.result) route_word c.refuse_unbuilt.ensures.value in
-    drafts_of state laws.makes laws.most 0 (shown_beside (removals_of state data_table a)) (omega arith) a a c.refuse_unbuilt.result c.unchanged-else-caller.result c.unchanged-else-caller.ensures
-    (refused_calls state laws.weaker laws.none (NotBuilt (codes "route")) c.refuse_unbuilt.result a refused)
+    administered_drafts state c.call_laws.ensures.most (shown_beside (removals_of state data_table a)) c.answer_edit.result a c.answer_edit.new.draft (omega arith) c.answer_edit.ensures.drafts

@@ -7,5 +7,5 @@ use Rattle.ut_rules.proofs.formulas.read_text.Goals as goal
 
 pub returns-in-Ok : goal.returns-in-Ok
 returns-in-Ok c =
-    reads_so (object_of_layout c.args.layout.now) c.in-Ok.fields.items c.args.text.now c.parse.result c.utf8.text
+    reads_so c.args.criteria (object_of_layout c.args.layout.now) c.in-Ok.fields.items c.args.text.now c.parse.result c.utf8.text
     (c.in-Ok.ensures ∙ ap (λ (fs : List FieldPlace). formula_fields (map field_of_place fs)) c.as_slice.ensures) c.parse.ensures.reads

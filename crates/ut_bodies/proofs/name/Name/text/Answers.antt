@@ -93,3 +93,19 @@ returns-in-Unique c = rw c.in-Unique.is refl
 pub returns-in-Values : goal.returns-in-Values
 unfolding chars
 returns-in-Values c = rw c.in-Values.is refl
+
+pub returns-in-From : goal.returns-in-From
+unfolding chars
+returns-in-From c = rw c.in-From.is refl
+
+pub returns-in-Level : goal.returns-in-Level
+unfolding chars
+returns-in-Level c = rw c.in-Level.is refl
+
+pub returns-in-Record : goal.returns-in-Record
+unfolding chars
+returns-in-Record c = rw c.in-Record.is refl
+
+pub returns-in-To : goal.returns-in-To
+unfolding chars
+returns-in-To c = rw c.in-To.is refl

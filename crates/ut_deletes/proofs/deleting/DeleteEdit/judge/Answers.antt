@@ -21,9 +21,9 @@ returns-in_err-add_changes-clause-what g c told =
     let key = e.key.now in
     let x = c.in_ok-doomed.doomed in
     let tell = c.draft_laws.ensures.both _ _ c.args.draft.now c.accept_delete.new.draft c.add_changes.new.draft c.accept_delete.ensures.calls.reads c.add_changes.ensures.calls.reads told in
-    passed_on {answered = λ (u : Unit {0}). done} org (λ (a : Asked). delete a name key) PlansKept (IsDeleting e.now) (tables_of g.K.Keeper.state c.args.draft.now) _ c.from_residual-in_err-add_changes.result c.from_residual-in_err-add_changes.ensures.1
+    passed_on {answered = λ (u : Unit {0}). done} org (λ (a : Asked). delete a name key) PlansKept (IsDeleting (g.R.Rights.whose e.rights.now) e.now) (tables_of g.K.Keeper.state c.args.draft.now) _ c.from_residual-in_err-add_changes.result c.from_residual-in_err-add_changes.ensures.1
     (λ q a s f. not_made org _ name key x c.add_changes.result c.new-changes.result.items c.add_changes.new.changes.items q a (tables_of g.K.Keeper.state c.accept_delete.new.draft) (subst (λ (m : Tables). StandsIn org q m (Some a.tenant)) (sym tell.2) s)
-    (subst (Dooms org q a name key) c.in_ok-doomed.was (c.accept_delete.ensures.accepts tell.0 q a s f.admin)) (c.add_changes.ensures.adds tell.1) _ c.in_err-add_changes.was)
+    (subst (Dooms org q a name key) c.in_ok-doomed.was (c.accept_delete.ensures.accepts tell.0 q a s f.rights)) (c.add_changes.ensures.adds tell.1) _ c.in_err-add_changes.was)
 
 pub returns-clause-what : goal.returns-clause-what
 returns-clause-what g c told =
@@ -41,7 +41,7 @@ returns-clause-what g c told =
     record {
       own = made_own org _ old new c.new-changes.ensures.items c.in_ok-add_changes.ensures.own.1;
       decided = λ q a s f. made org e.now name key x c.add_changes.result old new q a before (subst (λ (m : Tables). StandsIn org q m (Some a.tenant)) (sym tell.2) s)
-          (subst (Dooms org q a name key) c.in_ok-doomed.was (c.accept_delete.ensures.accepts tell.0 q a s f.admin)) adds c.delete_laws.ensures.takes (search rules) f c.in_ok-add_changes.field-0 c.in_ok-add_changes.was c.new-changes.ensures.items;
+          (subst (Dooms org q a name key) c.in_ok-doomed.was (c.accept_delete.ensures.accepts tell.0 q a s f.rights)) adds (g.R.Rights.whose e.rights.now) c.delete_laws.ensures.takes (search rules) f c.in_ok-add_changes.field-0 c.in_ok-add_changes.was c.new-changes.ensures.items;
     }
 
 pub returns-clause-few : goal.returns-clause-few

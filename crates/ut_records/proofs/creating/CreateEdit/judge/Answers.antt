@@ -32,7 +32,7 @@ returns-clause-what g c told =
     let b = c.ready_layout.new.draft in
     let small : FitsSigned w64 e.now = search rules in
     let own : l.org ≡ org = c.in_ok-layout.ensures.form.own in
-    let tells = c.draft_laws.ensures.both 0 40 c.args.draft.now b c.decide_create.new.draft c.ready_layout.ensures.calls.reads c.decide_create.ensures.calls.reads told in
+    let tells = c.draft_laws.ensures.both 0 168 c.args.draft.now b c.decide_create.new.draft c.ready_layout.ensures.calls.reads c.decide_create.ensures.calls.reads told in
     let decides = c.decide_create.ensures.what tells.1 in
     record {
       own = subst (λ (n : ℕ). ChangesIn n c.decide_create.result) own decides.own;
@@ -43,7 +43,7 @@ returns-clause-what g c told =
           let same = create_named a name o given on.1 in
           let stands = subst (λ (n : ℕ). StandsIn n q (tables_of state b) (Some a.tenant)) (sym own) (subst (λ (m : Tables). StandsIn org q m (Some a.tenant)) (sym tells.2) s) in
           decides_same (λ (id : List ℕ). made_new id) org l.org q a.tenant (create_on a o None given) (create a name given) PlansNew c.decide_create.result own same
-          (decides.decided q a o stands at (subst (λ (z : ℤ). IsAsker e.user z a) (sym (to_z-of_z w64 e.now small)) f.asker) (f.reads o.number o.object at.there)
+          (decides.decided q a o stands at (subst (λ (z : ℤ). IsAsker (g.R.Rights.whose e.rights.now) e.user z a) (sym (to_z-of_z w64 e.now small)) f.asker) (f.reads o.number o.object at.there)
           (subst (λ (v : Verdict). IsSound v.tenant) same (c.records_sound.ensures.create a name given f.caller f.reads s.sound)));
     }
 
@@ -53,5 +53,5 @@ returns-in_err-layout-clause-what g c told =
     let e = c.args.self.now in
     let name = e.object.now in
     let given = e.given.now in
-    passed_on {answered = λ (id : List ℕ). made_new id} org (λ (a : Asked). create a name given) PlansNew (IsGiving e.user e.now (λ b o. ReadsWell b o given)) (tables_of g.K.Keeper.state c.args.draft.now) c.in_err-layout.field-0.0 c.from_residual.result c.from_residual.ensures.1
+    passed_on {answered = λ (id : List ℕ). made_new id} org (λ (a : Asked). create a name given) PlansNew (IsGiving (g.R.Rights.whose e.rights.now) e.user e.now (λ b o. ReadsWell b o given)) (tables_of g.K.Keeper.state c.args.draft.now) c.in_err-layout.field-0.0 c.from_residual.result c.from_residual.ensures.1
     (λ q a s f. create_unnamed org q a name given c.ready_layout.result c.in_err-layout.field-0.0 (c.ready_layout.ensures.names told q a.tenant s) c.in_err-layout.was)

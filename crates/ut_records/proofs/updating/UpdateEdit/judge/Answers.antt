@@ -10,7 +10,7 @@ use Rattle.ut_model.specs.Sound.{IsSound}
 use Rattle.ut_model.specs.Updates.{update, update_on}
 use Rattle.ut_model.specs.Verdict.{Verdict, done}
 use Rattle.ut_named.proofs.Naming.{named_verdict}
-use Rattle.ut_named.specs.Named.{FindsNamed}
+use Rattle.ut_named.specs.Named.{FindsPermitted}
 use Rattle.ut_sound.specs.Fit.{ReadsWell}
 use Rattle.ut_stands.specs.Calls.{ended_edit}
 use Rattle.ut_stands.specs.Local.{StandsIn}
@@ -35,21 +35,21 @@ returns-clause-what g c told =
     let given = e.given.now in
     let x = c.in_ok-named.named in
     let l = x.layout in
-    let b = c.find_named.new.draft in
+    let b = c.find_permitted.new.draft in
     let small : FitsSigned w64 e.now = search rules in
     let own : l.org ≡ org = c.in_ok-named.ensures.form.ready.own in
-    let tells = c.draft_laws.ensures.both 1 40 c.args.draft.now b c.decide_update.new.draft c.find_named.ensures.calls.reads c.decide_update.ensures.calls.reads told in
+    let tells = c.draft_laws.ensures.both 5 168 c.args.draft.now b c.decide_update.new.draft c.find_permitted.ensures.calls.reads c.decide_update.ensures.calls.reads told in
     let decides = c.decide_update.ensures.what tells.1 in
     record {
       own = subst (λ (n : ℕ). ChangesIn n c.decide_update.result) own decides.own;
       decided = λ q a s f.
-          let is = subst (FindsNamed org q a name key) c.in_ok-named.was (c.find_named.ensures.finds tells.0 q a s) in
+          let (is, permitted) = subst (FindsPermitted org q a name key Edit) c.in_ok-named.was (c.find_permitted.ensures.finds tells.0 q a s f.asker.rights) in
           let o = is.numbered in
           let at = object_at c.object_laws.ensures.named org q a.tenant name l own (o, is.there, is.layout) in
-          let same = named_verdict org q a name key x is c.administrator_laws.ensures.level s.sound f.asker.admin Edit (λ o. update_on a o None given) in
+          let same = named_verdict org q a name key x is Edit permitted (λ o. update_on a o None given) in
           let stands = subst (λ (n : ℕ). StandsIn n q (tables_of state b) (Some a.tenant)) (sym own) (subst (λ (m : Tables). StandsIn org q m (Some a.tenant)) (sym tells.2) s) in
           decides_same (λ (u : Unit {0}). done) org l.org q a.tenant (update_on a o None given x.kept.item) (update a name key given) PlansSame c.decide_update.result own same
-          (decides.decided q a o is.id stands at is.kept f.asker.admin (f.asker.now ∙ sym (to_z-of_z w64 e.now small)) (f.reads o.number o.object at.there)
+          (decides.decided q a o is.id stands at is.kept f.asker.rights (f.asker.now ∙ sym (to_z-of_z w64 e.now small)) (f.reads o.number o.object at.there)
           (subst (λ (v : Verdict). IsSound v.tenant) same (c.records_sound.ensures.update a name key given f.caller f.reads s.sound)));
     }
 
@@ -60,9 +60,9 @@ returns-in_err-named-clause-what g c told =
     let name = e.object.now in
     let key = e.key.now in
     let given = e.given.now in
-    passed_on {answered = λ (u : Unit {0}). done} org (λ (a : Asked). update a name key given) PlansSame (IsGiving e.user e.now (λ b o. ReadsWell b o given)) (tables_of g.K.Keeper.state c.args.draft.now) c.in_err-named.field-0.0 c.from_residual.result c.from_residual.ensures.1
-    (λ q a s f. subst (FindsNamed org q a name key) c.in_err-named.was (c.find_named.ensures.finds told q a s) Edit (λ o. update_on a o None given))
+    passed_on {answered = λ (u : Unit {0}). done} org (λ (a : Asked). update a name key given) PlansSame (IsGiving (g.R.Rights.whose e.rights.now) e.user e.now (λ b o. ReadsWell b o given)) (tables_of g.K.Keeper.state c.args.draft.now) c.in_err-named.field-0.0 c.from_residual.result c.from_residual.ensures.1
+    (λ q a s f. subst (FindsPermitted org q a name key Edit) c.in_err-named.was (c.find_permitted.ensures.finds told q a s f.asker.rights) (λ o. update_on a o None given))
 
 pub returns-clause-calls : goal.returns-clause-calls
 returns-clause-calls g c =
-    c.call_laws.ensures.then 1 40 (ended_edit c.decide_update.result) c.args.draft.now c.find_named.new.draft c.decide_update.new.draft c.in_ok-named.ensures.calls c.decide_update.ensures.calls
+    c.call_laws.ensures.then 5 168 (ended_edit c.decide_update.result) c.args.draft.now c.find_permitted.new.draft c.decide_update.new.draft c.in_ok-named.ensures.calls c.decide_update.ensures.calls

@@ -1,0 +1,26 @@
+-- What is read of a user's keyring and of the organisation's rules are the user's rights.
+use Rattle.std.proofs.Common.{◌≡◌, ℕ, false, List, map, Some, sym, subst}
+use Rattle.ut_keyring.specs.Reading.{IsSharer}
+use Rattle.ut_model.specs.Sound.{IsSound}
+use Rattle.ut_model.specs.SoundPeople.{IsSoundUser}
+use Rattle.ut_model.specs.Known.{known}
+use Rattle.ut_model.specs.Tenant.{Tenant, User}
+use Rattle.ut_model.specs.World.{user_at, user_id}
+use Rattle.ut_stands.specs.Metadata.{sharing_of}
+use Rattle.ut_stands.proofs.Found.{found_with_id}
+use Rattle.ut_grants.specs.Granting.{IsUserRights}
+use Rattle.ut_grants.specs.declared.rights.UserRights.{UserRights}
+use Rattle.ut_grants.proofs.Masters.{having_has}
+
+pub rights_are : (org : ℕ) (i : List ℕ) (t : Tenant) (u : User) (r : UserRights) → r.org ≡ org → r.user ≡ i → IsSharer org i t r.sharer
+    → r.rules.items ≡ map (sharing_of org) t.sharing_rules → IsSound t → user_at t.users i ≡ Some u → u.admin ≡ false → IsUserRights t u r
+rights_are org i t u r at user sharer rules sound there plain =
+    let same : u.id ≡ i = (found_with_id user_id (IsSoundUser (known t)) t.users i u sound.users.each there).0 in
+    record {
+      user = subst (λ (j : List ℕ). r.user ≡ j) (sym same) user;
+      sharer = subst (λ (n : ℕ). IsSharer n u.id t r.sharer) (sym at) (subst (λ (j : List ℕ). IsSharer org j t r.sharer) (sym same) sharer);
+      rules = subst (λ (n : ℕ). r.rules.items ≡ map (sharing_of n) t.sharing_rules) (sym at) rules;
+      sound = sound;
+      there = having_has user_id t.users i u there;
+      plain = plain;
+    }

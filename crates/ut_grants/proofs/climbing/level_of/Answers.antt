@@ -1,0 +1,47 @@
+use Rattle.std.proofs.Common.{List, length, subst}
+use Rattle.std.specs.Prelude.{Ok, Err}
+use Rattle.ut_keeper.specs.Draft.{tables_of}
+use Rattle.ut_grants.specs.declared.steps.Step.{Step}
+use Rattle.ut_grants.specs.inner.Climbing.{IsLevelWithin, MakesOwn, MayClimb, MayJudge}
+use Rattle.ut_grants.specs.inner.Steps.{TellsWhere}
+use Rattle.ut_grants.proofs.Climbed.{judged, may_step}
+use Rattle.ut_grants.proofs.Judged.{judged_failed, makes}
+use Rattle.ut_grants.proofs.Stepping.{MayStep, failed}
+use Rattle.ut_grants.proofs.climbing.level_of.Goals as goal
+
+pub returns-in-Ok-own_at_end-clause-finds : goal.returns-in-Ok-own_at_end-clause-finds
+returns-in-Ok-own_at_end-clause-finds g c told =
+    let state = g.K.Keeper.state in
+    let a = c.args.draft.now in
+    let b = c.steps_from.new.draft in
+    let d = c.level_through.new.draft in
+    let l = c.args.layout.now in
+    let rights = c.args.rights.now in
+    let own = c.in-Ok-own_at_end.own in
+    let r = c.args.item.now in
+    let steps = c.in-Ok.steps.items in
+    let m = tables_of state a in
+    let tell = c.draft_laws.ensures.both 0 (length c.as_slice-in-Ok-own_at_end.result.now) a b d c.steps_from.ensures.calls.reads c.level_through.ensures.calls.reads told in
+    let led = c.in-Ok.ensures.finds tell.0 in
+    let made = subst (λ (ss : List Step). MakesOwn rights l ss (Ok own)) c.as_slice.ensures.value c.in-Ok-own_at_end.ensures in
+    judged m (tables_of state b) tell.2 rights own l r steps c.in-Ok.ensures.few led (MayJudge rights l r) (λ q t u may. may)
+    (λ q t u s may. made q t u (makes rights l steps m led q t u s may.granted may.layout))
+    c.level_through.result
+    (subst (λ (ss : List Step). TellsWhere l.org (MayClimb rights l.org own ss r) (IsLevelWithin (length ss) r) (tables_of state b) c.level_through.result) c.as_slice-in-Ok-own_at_end.ensures.value
+    (c.level_through.ensures.finds tell.1))
+
+pub returns-in-Ok-clause-finds : goal.returns-in-Ok-clause-finds
+returns-in-Ok-clause-finds g c told =
+    let m = tables_of g.K.Keeper.state c.args.draft.now in
+    let l = c.args.layout.now in
+    let rights = c.args.rights.now in
+    let fail = c.in-Err-own_at_end.fail in
+    let made = subst (λ (ss : List Step). MakesOwn rights l ss (Err fail)) c.as_slice.ensures.value c.in-Err-own_at_end.ensures in
+    judged_failed rights l c.in-Ok.steps.items m (c.in-Ok.ensures.finds told) c.args.item.now fail made c.from.result c.from.ensures
+
+pub returns-clause-finds : goal.returns-clause-finds
+returns-clause-finds g c told =
+    let m = tables_of g.K.Keeper.state c.args.draft.now in
+    let l = c.args.layout.now in
+    failed l.org l.org (MayStep l 3) (MayJudge c.args.rights.now l c.args.item.now) m m c.in-Err.fail
+    (λ q t u s may. (s, may_step q t u l may.granted.sound may.layout)) (c.in-Err.ensures.finds told)

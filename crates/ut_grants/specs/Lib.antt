@@ -1,0 +1,4 @@
+pub mod SharingRules
+pub mod Granting
+pub mod Sights
+pub mod inner

@@ -1,0 +1,45 @@
+-- What a user who doesn't administer sees of the records of one object.
+-- Source: Salesforce, "Record-Level Security": a detail's access is its master's.
+use Rattle.std.specs.Prelude.{◌≡◌, ℕ, zero, suc, List, Some, Result, Ok, Err}
+use Rattle.ut_keeper.specs.Tables.{Tables}
+use Rattle.ut_keys.specs.declared.fail.StoreFail.{StoreFail}
+use Rattle.ut_keys.specs.declared.fail.StoreFail.TheVariants.{Damaged, Keeper, Memory}
+use Rattle.ut_levels.specs.Own.{IsOwnLevels}
+use Rattle.ut_levels.specs.declared.knowing.OwnLevels.{OwnLevels}
+use Rattle.ut_model.specs.declared.limit.Limit.TheVariants as limit
+use Rattle.ut_model.specs.Cases.{in_case}
+use Rattle.ut_model.specs.Limits.{limit_number}
+use Rattle.ut_model.specs.Objects.{object_numbered}
+use Rattle.ut_model.specs.Relationships.{master_of_object}
+use Rattle.ut_model.specs.Tenant.{Object, Tenant, User}
+use Rattle.ut_stands.specs.declared.layout.Layout.{Layout}
+use Rattle.ut_stands.specs.Layouts.{IsLayout}
+use Rattle.ut_stands.specs.Local.{StandsIn}
+use Rattle.ut_stands.specs.Plan.{OrgPlan}
+use Rattle.ut_grants.specs.Granting.{IsUserRights}
+use Rattle.ut_grants.specs.declared.rights.UserRights.{UserRights}
+use Rattle.ut_grants.specs.declared.sight.UserSight.{UserSight}
+
+-- the object to whose records one comes from those of another, by at most so many masters
+abbrev pub topmost : ℕ → List Object → ℕ → ℕ
+topmost zero os n = n
+topmost (suc most) os n = in_case (master_of_object os n) n (λ f. topmost most os f.target)
+
+-- this is what is so of the user on all records of the object with this number, if there is one
+abbrev pub OwnAt : Tenant → User → (object : ℕ) → OwnLevels → Type 0
+OwnAt t u n own = (o : Object) → object_numbered t n ≡ Some o → IsOwnLevels t u n o own
+
+-- by these rights this is what the user sees of the records of the object with this number: the levels on its topmost masters are known
+pub record IsSight (t : Tenant) (u : User) (n : ℕ) (s : UserSight) : Type 0 where
+  pub rights : IsUserRights t u s.rights.now
+  pub own : OwnAt t u (topmost (limit_number limit.DetailLevels) t.objects n) s.own
+
+-- what is made is the sight by this layout of the user whose rights they are, of each tenant for which the organisation's rows stand and
+-- whose layout it is, and such are never damaged
+abbrev pub FindsSight : UserRights → Layout → Tables → Result UserSight StoreFail → Type 0
+FindsSight rights l m (Ok s) =
+    (q : OrgPlan) (t : Tenant) (u : User) → StandsIn l.org q m (Some t) → IsLayout q t l → IsUserRights t u rights → IsSight t u l.object s
+FindsSight rights l m (Err Damaged) =
+    (q : OrgPlan) (t : Tenant) (u : User) → StandsIn l.org q m (Some t) → IsLayout q t l → IsUserRights t u rights → ⊥
+FindsSight rights l m (Err Keeper) = Unit {0}
+FindsSight rights l m (Err Memory) = Unit {0}

@@ -1,0 +1,68 @@
+-- What is the same of a user's levels on all records of an object that is no detail: what every user has, and the sharing rules
+-- that reach the user.
+-- Source: Salesforce, "Record-Level Security", "Sharing Rules".
+use Rattle.std.specs.Prelude.{◌≡◌, ℕ, Bool, true, false, ◌&&◌, ◌==◌, if◌then◌else◌, filter_map, Option, Some, None, Result, Ok, Err}
+use Rattle.ut_value.specs.declared.job.RuleState.{RuleState}
+use Rattle.ut_value.specs.declared.sharing.Level.{Level}
+use Rattle.ut_value.specs.declared.sharing.Principal.{Principal}
+use Rattle.ut_value.specs.declared.sharing.RuleSource.{RuleSource}
+use Rattle.ut_value.specs.declared.sharing.RuleSource.TheVariants as source
+use Rattle.ut_formula.specs.declared.formula.Formula.{Formula}
+use Rattle.ut_model.specs.FormulaTexts.{reads_text}
+use Rattle.ut_model.specs.Levels.{acts, at_least, by_access}
+use Rattle.ut_model.specs.Membership.{Has, reaches}
+use Rattle.ut_model.specs.Sound.{IsSound}
+use Rattle.ut_model.specs.Tenant.{Object, SharingRule, Tenant, User}
+use Rattle.ut_stands.specs.Metadata.{source_part}
+use Rattle.ut_keyring.specs.Reading.{IsSharer}
+use Rattle.ut_keyring.specs.declared.reading.Sharer.{Sharer}
+use Rattle.ut_levels.specs.declared.knowing.Criterion.{Criterion}
+use Rattle.ut_levels.specs.declared.knowing.OwnLevels.{OwnLevels}
+use Rattle.ut_levels.specs.declared.knowing.OwnerRule.{OwnerRule}
+
+-- this is the keyring, with the people, of a user of a sound organisation with this number; the user is no administrator
+pub record IsSharerOf (org : ℕ) (t : Tenant) (u : User) (s : Sharer) : Type 0 where
+  pub sharer : IsSharer org u.id t s
+  pub sound : IsSound t
+  pub user : Has t.users u
+  pub plain : u.admin ≡ false
+
+-- the greater of two levels
+abbrev pub greater : Level → Level → Level
+greater a b = if at_least a b then b else a
+
+-- ---- sharing rules
+
+-- a rule in this state, of this object, that shares with this principal counts: it acts, is of the object with this number, and
+-- reaches the user
+abbrev pub counts : Tenant → User → (number : ℕ) → RuleState → (object : ℕ) → (to : Principal) → Bool
+counts t u n state object to = acts state && ((object == n) && reaches t to u)
+
+-- what an owner rule gives, and on the records of which owners
+abbrev pub owner_rule : Level → RuleSource → Option OwnerRule
+owner_rule level (source.Owner p) = Some (record { from = p; level = level })
+owner_rule level (source.Criteria text) = None
+
+-- what a criteria rule gives, and on which records, if its text spells a formula
+abbrev pub criterion_read : Level → Result Formula ℕ → Option Criterion
+criterion_read level (Ok formula) = Some (record { formula = formula; level = level })
+criterion_read level (Err place) = None
+
+abbrev pub spelled_criterion : Object → Level → RuleSource → Option Criterion
+spelled_criterion o level (source.Owner p) = None
+spelled_criterion o level (source.Criteria text) = criterion_read level (reads_text o true text)
+
+-- what the owner rules that count give, and the criteria rules that do
+abbrev pub owner_by : Tenant → User → (number : ℕ) → SharingRule → Option OwnerRule
+owner_by t u n r = if counts t u n r.state r.object r.to then owner_rule r.level (source_part r.source) else None
+
+abbrev pub criterion_by : Tenant → User → (number : ℕ) → Object → SharingRule → Option Criterion
+criterion_by t u n o r = if counts t u n r.state r.object r.to then spelled_criterion o r.level (source_part r.source) else None
+
+-- ---- all that is known
+
+-- this is so of the user on the records of the object that has this number
+pub record IsOwnLevels (t : Tenant) (u : User) (n : ℕ) (o : Object) (own : OwnLevels) : Type 0 where
+  pub base : own.base ≡ by_access o.access
+  pub criteria : own.criteria ≡ filter_map (criterion_by t u n o) t.sharing_rules
+  pub owners : own.owners ≡ filter_map (owner_by t u n) t.sharing_rules

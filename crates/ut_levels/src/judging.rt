@@ -1,0 +1,191 @@
+//! The level on a record.
+
+ghost use Rattle.std.specs.Prelude.{◌≡◌, ℕ, IfOk, Some, map};
+ghost use Rattle.ut_keyring.specs.Keyrings.{IsMembershipOf, IsUserAmong};
+ghost use Rattle.ut_model.specs.Levels.{greatest, own_level, owns};
+ghost use Rattle.ut_model.specs.Membership.{Has};
+ghost use Rattle.ut_model.specs.Objects.{object_number, object_of_record};
+ghost use Rattle.ut_model.specs.Shares.{shares_of};
+ghost use Rattle.ut_model.specs.Tenant.{Object, Tenant, User};
+ghost use Rattle.ut_levels.specs.Own.{IsOwnLevels, IsSharerOf};
+ghost use Rattle.ut_levels.specs.inner.Parts.{by_criterion, by_owner_rule, by_share, rules_on_owner};
+ghost use Rattle.ut_stands.specs.Metadata.{row_of_share};
+
+use crate::knowing::{Criterion, OwnLevels, OwnerRule};
+use crate::levels::greater;
+use std::alloc::{AllocError, Global};
+use ut_formula::{Record as Values, holds};
+use ut_keyring::{Membership, Sharer};
+use ut_keys::ShareRow;
+use ut_model::Record;
+use ut_value::{Id, Items, Level, Value};
+
+// Copies of values.
+fn copies(alloc: Global, values: &[Value]) -> Result<Items<Value>, AllocError>
+    ensures { IfOk result (λ copies. copies ≡ values.now) }
+{
+    let mut copies = Items::new(alloc);
+    for value in values {
+        copies.push(value.copy(alloc)?)?;
+    }
+    Ok(copies)
+}
+
+// A record's values, as formulas see them.
+fn values_of(alloc: Global, item: &Record) -> Result<Values, AllocError>
+    ensures { IfOk result (λ seen. seen.values ≡ item.now.values) }
+{
+    Ok(Values {
+        values: copies(alloc, item.values.as_slice())?,
+    })
+}
+
+// What a criteria rule gives on a record.
+fn by_criterion(criterion: &Criterion, values: &Values) -> Level
+    ensures { result ≡ by_criterion values.now.values criterion.now }
+{
+    if holds(&criterion.formula, values, None) {
+        criterion.level
+    } else {
+        Level::Nothing
+    }
+}
+
+// The greatest that these criteria rules give on a record.
+fn by_each_criterion(criteria: &[Criterion], values: &Values) -> Level
+    ensures { result ≡ greatest (map (by_criterion values.now.values) criteria.now) }
+{
+    match criteria.split_first() {
+        Some((first, rest)) => {
+            greater(by_criterion(first, values), by_each_criterion(rest, values))
+        }
+        None => Level::Nothing,
+    }
+}
+
+// The same, without a look at the record where there are no such rules.
+fn by_criteria(alloc: Global, criteria: &[Criterion], item: &Record) -> Result<Level, AllocError>
+    ensures { IfOk result (λ level. level ≡ greatest (map (by_criterion item.now.values) criteria.now)) }
+{
+    if criteria.is_empty() {
+        return Ok(Level::Nothing);
+    }
+    let values = values_of(alloc, item)?;
+    Ok(by_each_criterion(criteria, &values))
+}
+
+// What a share gives the user.
+fn by_share(sharer: &Sharer, share: &ShareRow) -> Level
+    ensures { (org : ℕ) (t : Tenant) (u : User) → IsSharerOf org t u sharer.now → result ≡ by_share t u share.now }
+{
+    if sharer.reaches(&share.to) {
+        share.level
+    } else {
+        Level::Nothing
+    }
+}
+
+// The greatest that these shares give the user.
+fn by_shares(sharer: &Sharer, shares: &[ShareRow]) -> Level
+    ensures { (org : ℕ) (t : Tenant) (u : User) → IsSharerOf org t u sharer.now → result ≡ greatest (map (by_share t u) shares.now) }
+{
+    match shares.split_first() {
+        Some((first, rest)) => greater(by_share(sharer, first), by_shares(sharer, rest)),
+        None => Level::Nothing,
+    }
+}
+
+// What an owner rule gives on the records of an owner.
+fn by_owner_rule(sharer: &Sharer, owner: &Membership, rule: &OwnerRule) -> Level
+    ensures { (org : ℕ) (t : Tenant) (x : User) → IsUserAmong org t x sharer.now.people → IsMembershipOf sharer.now.people x.id owner.now
+        → result ≡ by_owner_rule t x rule.now }
+{
+    if owner.is_member(&sharer.people, &rule.from) {
+        rule.level
+    } else {
+        Level::Nothing
+    }
+}
+
+// The greatest that these owner rules give on them.
+fn by_each_owner_rule(sharer: &Sharer, owner: &Membership, rules: &[OwnerRule]) -> Level
+    ensures { (org : ℕ) (t : Tenant) (x : User) → IsUserAmong org t x sharer.now.people → IsMembershipOf sharer.now.people x.id owner.now
+        → result ≡ greatest (map (by_owner_rule t x) rules.now) }
+{
+    match rules.split_first() {
+        Some((first, rest)) => greater(
+            by_owner_rule(sharer, owner, first),
+            by_each_owner_rule(sharer, owner, rest),
+        ),
+        None => Level::Nothing,
+    }
+}
+
+// The same by the owner's id, whose membership is made only where there are such rules.
+fn by_owner_rules(
+    alloc: Global,
+    sharer: &Sharer,
+    rules: &[OwnerRule],
+    owner: &Id,
+) -> Result<Level, AllocError>
+    ensures { IfOk result (λ level. (org : ℕ) (t : Tenant) (x : User) → IsUserAmong org t x sharer.now.people → x.id ≡ owner.now
+        → level ≡ greatest (map (by_owner_rule t x) rules.now)) }
+{
+    if rules.is_empty() {
+        return Ok(Level::Nothing);
+    }
+    let members = Membership::of(alloc, &sharer.people, owner)?;
+    Ok(by_each_owner_rule(sharer, &members, rules))
+}
+
+// The same by a record, which may have no owner.
+fn by_owner(
+    alloc: Global,
+    sharer: &Sharer,
+    rules: &[OwnerRule],
+    item: &Record,
+) -> Result<Level, AllocError>
+    ensures { IfOk result (λ level. (org : ℕ) (t : Tenant) (u : User) → IsSharerOf org t u sharer.now → Has t.records item.now
+        → level ≡ rules_on_owner t item.now rules.now) }
+{
+    match &item.owner {
+        Some(owner) => by_owner_rules(alloc, sharer, rules, owner),
+        None => Ok(Level::Nothing),
+    }
+}
+
+// Whether the record is the user's, or of a user below.
+fn owns(sharer: &Sharer, item: &Record) -> bool
+    ensures { (org : ℕ) (t : Tenant) (u : User) → IsSharerOf org t u sharer.now → result ≡ owns t u item.now }
+{
+    match &item.owner {
+        Some(owner) => sharer.owns(owner),
+        None => false,
+    }
+}
+
+/// The level of the user on a record of the object, by the user's keyring with the people, what is known of the object, and the
+/// record's shares.
+///
+/// # Errors
+///
+/// Where memory runs out.
+pub fn level_on(
+    alloc: Global,
+    sharer: &Sharer,
+    own: &OwnLevels,
+    item: &Record,
+    shares: &[ShareRow],
+) -> Result<Level, AllocError>
+    ensures { IfOk result (λ level. (org : ℕ) (t : Tenant) (u : User) (o : Object) → IsSharerOf org t u sharer.now → Has t.records item.now
+        → object_of_record t item.now ≡ Some o → IsOwnLevels t u (object_number item.now.id) o own.now
+        → shares.now ≡ map (row_of_share org) (shares_of item.now.id t.shares) → level ≡ own_level t u item.now) }
+{
+    if owns(sharer, item) {
+        return Ok(Level::Full);
+    }
+    let by_owner = by_owner(alloc, sharer, own.owners.as_slice(), item)?;
+    let by_criteria = by_criteria(alloc, own.criteria.as_slice(), item)?;
+    let by_shares = by_shares(sharer, shares);
+    Ok(greater(own.base, greater(by_owner, greater(by_criteria, by_shares))))
+}

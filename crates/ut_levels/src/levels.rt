@@ -1,0 +1,38 @@
+//! Levels in their order, and what is so of all records of an object.
+
+ghost use Rattle.std.specs.Prelude.{◌≡◌, Some, true};
+ghost use Rattle.ut_model.specs.declared.record.Record.{Record};
+ghost use Rattle.ut_model.specs.Levels.{at_least, own_level, rank};
+ghost use Rattle.ut_model.specs.Objects.{object_number, object_of_record};
+ghost use Rattle.ut_model.specs.Tenant.{Object, Tenant, User};
+ghost use Rattle.ut_value.specs.declared.sharing.Level.TheVariants.{Read};
+ghost use Rattle.ut_levels.specs.Own.{IsOwnLevels, greater};
+
+use crate::knowing::OwnLevels;
+use ut_value::Level;
+
+fn rank(level: Level) -> u8
+    ensures { result ≡ rank level }
+{
+    match level {
+        Level::Nothing => 0,
+        Level::Read => 1,
+        Level::Edit => 2,
+        Level::Full => 3,
+    }
+}
+
+/// The greater of two levels.
+pub fn greater(a: Level, b: Level) -> Level
+    ensures { result ≡ greater a b }
+{
+    if rank(a) <= rank(b) { b } else { a }
+}
+
+/// Whether every user may read all records of an object, whoever asks.
+pub fn is_readable_by_all(own: &OwnLevels) -> bool
+    ensures { (t : Tenant) (u : User) (o : Object) (r : Record) → result ≡ true → object_of_record t r ≡ Some o
+        → IsOwnLevels t u (object_number r.id) o own.now → at_least Read (own_level t u r) ≡ true }
+{
+    rank(Level::Read) <= rank(own.base)
+}

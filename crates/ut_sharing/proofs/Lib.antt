@@ -1,0 +1,11 @@
+pub mod SharingRows
+pub mod SharingFits
+pub mod RuleTexts
+pub mod RuleReads
+pub mod Putting
+pub mod RuleGone
+pub mod StepByStep
+pub mod InTurn
+pub mod SpelledOnes
+pub mod NewRules
+pub mod RuleComes

@@ -1,0 +1,4 @@
+pub mod Judging
+pub mod Rows
+pub mod Removing
+pub mod Adding

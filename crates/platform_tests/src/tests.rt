@@ -108,8 +108,9 @@ fn message_of(alloc: Global, word: &str) -> Result<String, AllocError> {
 
 // The call of the keeper that fails, the messages, and the status and replies of `answer`. The organisation takes the first four
 // calls of the keeper, the opening the next two, and each message that reads nothing else one, for its caller; before the first, and
-// behind one that failed, the keeper itself is asked. Of a new record each of its eight calls fails in turn, and of its end each of its
-// thirteen: the same message afterwards does what the first would have done, and a record that wasn't made drew no number.
+// behind one that failed, the keeper itself is asked. Of a new record each of its eight calls fails in turn, of its update each of
+// eight, and of its end each of fourteen: the same message afterwards does what the first would have done, and a record that wasn't
+// made drew no number.
 const ANSWERED: &str = "\
 5;none none none;72
 6;none none none;72
@@ -135,7 +136,7 @@ const ANSWERED: &str = "\
 25;object create update delete;0 204 201:a00000000000001AAA 503 204
 26;object create update delete;0 204 201:a00000000000001AAA 503 204
 27;object create update delete;0 204 201:a00000000000001AAA 503 204
-28;object create update delete delete;0 204 201:a00000000000001AAA 204 503 204
+28;object create update delete;0 204 201:a00000000000001AAA 503 204
 29;object create update delete delete;0 204 201:a00000000000001AAA 204 503 204
 30;object create update delete delete;0 204 201:a00000000000001AAA 204 503 204
 31;object create update delete delete;0 204 201:a00000000000001AAA 204 503 204
@@ -148,8 +149,10 @@ const ANSWERED: &str = "\
 38;object create update delete delete;0 204 201:a00000000000001AAA 204 503 204
 39;object create update delete delete;0 204 201:a00000000000001AAA 204 503 204
 40;object create update delete delete;0 204 201:a00000000000001AAA 204 503 204
-41;object create update delete delete;0 204 201:a00000000000001AAA 204 204 503
-46;object create update delete delete;0 204 201:a00000000000001AAA 204 204 404
+41;object create update delete delete;0 204 201:a00000000000001AAA 204 503 204
+42;object create update delete delete;0 204 201:a00000000000001AAA 204 503 204
+43;object create update delete delete;0 204 201:a00000000000001AAA 204 204 503
+48;object create update delete delete;0 204 201:a00000000000001AAA 204 204 404
 ";
 
 // Whether messages are answered as a line says.

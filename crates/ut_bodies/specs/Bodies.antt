@@ -4,10 +4,11 @@ use Rattle.std.specs.Option.{option_map}
 use Rattle.ut_json.specs.Reading.{◌>>=◌}
 use Rattle.ut_model.specs.declared.record_bodies.Assignment.{Assignment}
 use Rattle.ut_model.specs.Members.{Body, assignments, body_in}
-use Rattle.ut_model.specs.Requests.{Request, adds_role, sets_role, sets_user}
+use Rattle.ut_model.specs.Requests.{Request, adds_role, begins_retype, sets_role, sets_user}
 use Rattle.ut_bodies.specs.declared.people.NewRole.{NewRole}
 use Rattle.ut_bodies.specs.declared.people.RoleParent.{RoleParent}
 use Rattle.ut_bodies.specs.declared.people.UserRole.{UserRole}
+use Rattle.ut_bodies.specs.declared.retyping.NewRetype.{NewRetype}
 
 -- the request that a form gives for the members of the body
 abbrev pub request_in : (form : Body → Option Request) → (bytes : List ℕ) → Option Request
@@ -26,3 +27,7 @@ sets_role_parent role new = sets_role role new.parent
 
 abbrev pub sets_user_role : (user : List ℕ) → UserRole → Request
 sets_user_role user new = sets_user user new.role
+
+-- the request that is made of what a body says of the change of a field's type
+abbrev pub begins_new_retype : NewRetype → Request
+begins_new_retype new = begins_retype new.object new.field new.kind

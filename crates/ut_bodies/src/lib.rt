@@ -13,6 +13,7 @@ mod objects;
 mod people;
 mod principals;
 mod records;
+mod retyping;
 mod rules;
 mod sharing;
 mod table;
@@ -26,5 +27,6 @@ pub use crate::people::{
 };
 pub use crate::principals::{group_members, spelled_principal};
 pub use crate::records::field_values;
+pub use crate::retyping::{NewRetype, new_retype};
 pub use crate::rules::new_validation_rule;
 pub use crate::sharing::{new_share, new_sharing_rule};

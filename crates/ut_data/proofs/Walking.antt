@@ -17,10 +17,12 @@ use Rattle.ut_keys.specs.Listings.{rows_to, start_of}
 use Rattle.ut_keys.specs.Reads.{ListsAs}
 use Rattle.ut_keys.specs.Rows.{data_form}
 use Rattle.ut_model.specs.declared.record.Record.{Record}
+use Rattle.ut_model.specs.Cases.{in_case}
 use Rattle.ut_model.specs.Membership.{Has}
-use Rattle.ut_model.specs.Tenant.{Tenant}
+use Rattle.ut_model.specs.Tenant.{Object, Tenant}
 use Rattle.ut_parts.specs.Plain.{number16, number32}
 use Rattle.ut_stands.specs.declared.layout.Layout.{Layout}
+use Rattle.ut_stands.specs.Entries.{data_of, slot_entry}
 use Rattle.ut_stands.specs.Layouts.{FindsOf, IsLayout, records_after}
 use Rattle.ut_stands.specs.Local.{StandsIn, is_under, part_of, rows_alone}
 use Rattle.ut_stands.specs.Plan.{OrgPlan}
@@ -28,12 +30,13 @@ use Rattle.ut_stands.proofs.LayoutReads.{ListedIn}
 use Rattle.ut_stands.proofs.MetadataLists.{PrefixEnds}
 use Rattle.ut_stands.proofs.Pages.{GivesRows, PageLaws, page_gives}
 use Rattle.ut_data.specs.Decoding.{each_from, has_types, record_from}
+use Rattle.ut_data.specs.Rows.{FindsRows, rows_of_records}
 use Rattle.ut_data.specs.inner.Found.{listed_from}
 use Rattle.ut_data.proofs.Listed.{KeyLaws, begins_so, key_at, member, prefix_of, row_of, rows_listed, those}
 use Rattle.ut_data.proofs.Loading.{err_is, no_ok, ok_is}
 use Rattle.ut_data.proofs.RecordFits.{MakesIds, record_is_id}
 use Rattle.ut_data.proofs.Rising.{has_take}
-use Rattle.ut_data.proofs.Standing.{Laws, layout_is}
+use Rattle.ut_data.proofs.Standing.{Laws, layout_is, row_in_plan}
 
 -- the keys of an interval that begins with the organisation's number are under it, as `local_laws` says
 abbrev pub UnderNumber : Type 0
@@ -91,11 +94,12 @@ few_seen limit kept (Ok rows) e =
 few_seen limit kept (Err f) e = omega arith
 
 -- what is in the tables: the records, and that they are read
-record Walked (A : Type 0) (t : Tenant) (l : Layout) (after : Option (List ℕ)) (limit : ℕ) (rows : Result (Vec DataRow A) StoreFail) : Type 0 where
+record Walked (A : Type 0) (q : OrgPlan) (t : Tenant) (l : Layout) (after : Option (List ℕ)) (limit : ℕ) (rows : Result (Vec DataRow A) StoreFail) : Type 0 where
   listed : List Record
   is : records_after l.object after limit t ≡ listed
   row : Record → DataRow
   reads : each_from (record_from l) (map row listed) ≡ Some listed
+  are : map row listed ≡ rows_of_records q t l listed
   gives : GivesRows (map row listed) rows
 
 module _ {A : Type 0} (walk : WalkLaws) (m : Tables) (l : Layout) (after : Option (List ℕ)) (limit : ℕ) (lo : l.org < 2 ^ 32) (small : l.object < 2 ^ 16) (ha : IfSome after (λ j. IsTrue (is_id j))) (rows : Result (Vec DataRow A) StoreFail)
@@ -103,7 +107,7 @@ module _ {A : Type 0} (walk : WalkLaws) (m : Tables) (l : Layout) (after : Optio
   abbrev from : List ℕ
   from = start_of (prefix_of l.org l.object) (option_map (key_at l.org l.object) after)
 
-  walked : (q : OrgPlan) (t : Tenant) → StandsIn l.org q m (Some t) → IsLayout q t l → Walked A t l after limit rows
+  walked : (q : OrgPlan) (t : Tenant) → StandsIn l.org q m (Some t) → IsLayout q t l → Walked A q t l after limit rows
   walked q t s h =
       let one = layout_is q t l h in
       let ids : (r : Record) → Has t.records r → IsTrue (is_id r.id) = λ r has. record_is_id walk.makes t r s.sound has in
@@ -124,25 +128,37 @@ module _ {A : Type 0} (walk : WalkLaws) (m : Tables) (l : Layout) (after : Optio
             let (here, of, past) = member walk.laws walk.keys q t l one s.sound s.plan ids lo small after r (has_take limit all r has) in
             subst (λ (k : Layout). record_from k (row r) ≡ Some r) one.made
             (walk.laws.read l.org l.object q t one.object r s.sound s.plan one.there here of));
+        are = sym (ap (λ (o : Option Object). in_case o [] (λ o. map (row_in_plan l.org q t l.object o) (take limit all))) one.there);
         gives = subst (λ (us : List DataRow). GivesRows us rows) (take-map row limit all) (page_gives data_form walk.pages (part_of l.org m) (rows_alone l.org q (Some t)) s.rows from (Some above) (map row all) limit lists rows page);
       }
 
-  given : (t : Tenant) (k : Walked A t l after limit rows) (v : Vec DataRow A) → rows ≡ Ok v → v.items ≡ map k.row k.listed → listed_from l rows ≡ Ok k.listed
-  given t k v is same = rw (is, same, k.reads) refl
+  given : (q : OrgPlan) (t : Tenant) (k : Walked A q t l after limit rows) (v : Vec DataRow A) → rows ≡ Ok v → v.items ≡ map k.row k.listed → listed_from l rows ≡ Ok k.listed
+  given q t k v is same = rw (is, same, k.reads) refl
 
-  found_ok : (t : Tenant) (k : Walked A t l after limit rows) (x : List Record) → (r : Result (Vec DataRow A) StoreFail) → rows ≡ r → listed_from l r ≡ Ok x → x ≡ records_after l.object after limit t
-  found_ok t k x (Ok v) is g = ok_is x k.listed (sym g ∙ ap (listed_from l) (sym is) ∙ given t k v is (subst (GivesRows (map k.row k.listed)) is k.gives)) ∙ sym k.is
-  found_ok t k x (Err f) is g = absurd (no_ok x f g)
+  found_ok : (q : OrgPlan) (t : Tenant) (k : Walked A q t l after limit rows) (x : List Record) → (r : Result (Vec DataRow A) StoreFail) → rows ≡ r → listed_from l r ≡ Ok x → x ≡ records_after l.object after limit t
+  found_ok q t k x (Ok v) is g = ok_is x k.listed (sym g ∙ ap (listed_from l) (sym is) ∙ given q t k v is (subst (GivesRows (map k.row k.listed)) is k.gives)) ∙ sym k.is
+  found_ok q t k x (Err f) is g = absurd (no_ok x f g)
 
-  found_damaged : (t : Tenant) (k : Walked A t l after limit rows) → (r : Result (Vec DataRow A) StoreFail) → rows ≡ r → listed_from l r ≡ Err Damaged → ⊥
-  found_damaged t k (Ok v) is g = no_ok k.listed Damaged (sym g ∙ ap (listed_from l) (sym is) ∙ given t k v is (subst (GivesRows (map k.row k.listed)) is k.gives))
-  found_damaged t k (Err Damaged) is g = subst (GivesRows (map k.row k.listed)) is k.gives
-  found_damaged t k (Err Keeper) is g = absurd (cc (err_is Keeper Damaged g))
-  found_damaged t k (Err Memory) is g = absurd (cc (err_is Memory Damaged g))
+  found_damaged : (q : OrgPlan) (t : Tenant) (k : Walked A q t l after limit rows) → (r : Result (Vec DataRow A) StoreFail) → rows ≡ r → listed_from l r ≡ Err Damaged → ⊥
+  found_damaged q t k (Ok v) is g = no_ok k.listed Damaged (sym g ∙ ap (listed_from l) (sym is) ∙ given q t k v is (subst (GivesRows (map k.row k.listed)) is k.gives))
+  found_damaged q t k (Err Damaged) is g = subst (GivesRows (map k.row k.listed)) is k.gives
+  found_damaged q t k (Err Keeper) is g = absurd (cc (err_is Keeper Damaged g))
+  found_damaged q t k (Err Memory) is g = absurd (cc (err_is Memory Damaged g))
 
   pub walk_finds : (result : Result (List Record) StoreFail) → GivesOr Memory (listed_from l rows) result → FindsOf l (records_after l.object after limit) m result
-  walk_finds (Ok x) g = λ q t s h. found_ok t (walked q t s h) x rows refl g
+  walk_finds (Ok x) g = λ q t s h. found_ok q t (walked q t s h) x rows refl g
   walk_finds (Err Keeper) g = tt
   walk_finds (Err Memory) g = tt
   walk_finds (Err Damaged) (inl e) = absurd cc
-  walk_finds (Err Damaged) (inr g) = λ q t s h. found_damaged t (walked q t s h) rows refl g
+  walk_finds (Err Damaged) (inr g) = λ q t s h. found_damaged q t (walked q t s h) rows refl g
+
+  -- ---- the rows themselves
+
+  pub rows_found : FindsRows l (records_after l.object after limit) m rows
+  rows_found = by rows refl
+    where
+      by : (r : Result (Vec DataRow A) StoreFail) → rows ≡ r → FindsRows l (records_after l.object after limit) m r
+      by (Ok v) is = λ q t s h. let k = walked q t s h in subst (GivesRows (map k.row k.listed)) is k.gives ∙ k.are ∙ ap (rows_of_records q t l) (sym k.is)
+      by (Err Damaged) is = λ q t s h. let k = walked q t s h in subst (GivesRows (map k.row k.listed)) is k.gives
+      by (Err Keeper) is = tt
+      by (Err Memory) is = tt

@@ -13,4 +13,4 @@ mod reads;
 pub use crate::decoding::{has_types, record_of, record_within};
 pub use crate::encoding::row_of;
 pub use crate::laws::data_laws;
-pub use crate::reads::{has_record, load_record, walk};
+pub use crate::reads::{has_record, load_record, walk, walk_rows};

@@ -5,6 +5,7 @@ ghost use Rattle.std.specs.FinMap as map;
 ghost use Rattle.std.specs.List.{list_all};
 ghost use Rattle.std.specs.Option.{option_and_then, option_map};
 ghost use Rattle.ut_data.specs.Decoding.{each_from, has_types, kinds_in, record_from};
+ghost use Rattle.ut_data.specs.Rows.{FindsRows};
 ghost use Rattle.ut_data.specs.inner.Found.{found_from, listed_from};
 ghost use Rattle.ut_keeper.specs.Draft.{DraftReads, DraftTells, removals_of, state_of, tables_of};
 ghost use Rattle.ut_keeper.specs.Prefixes.{raised};
@@ -249,4 +250,32 @@ pub fn walk<K: Keeper>(
     data_laws();
     let rows = rows_after(alloc, draft, layout.org, layout.object, after, limit);
     records_found(alloc, layout, rows)
+}
+
+/// The rows of at most `limit` records of an object, in the order of their ids: the first, or those after an id.
+///
+/// # Errors
+///
+/// As `walk`.
+pub fn walk_rows<K: Keeper>(
+    alloc: Global,
+    draft: &mut Draft<'_, K>,
+    layout: &Layout,
+    after: Option<&Id>,
+    limit: usize,
+) -> Result<Vec<DataRow>, StoreFail>
+    ensures finds { DraftTells K.state draft.old draft.new
+        → FindsRows layout.now (records_after layout.now.object (option_map (λ id. id.now) after.entry) limit)
+        (tables_of K.state draft.old) result }
+    ensures calls { Calls K.state (limit + removals_of K.state 7 draft.old) (ended result) draft.old draft.new }
+{
+    listing_laws::<DataRow>();
+    table_laws();
+    shape_laws();
+    walk_laws();
+    draft_laws::<K>();
+    id_laws();
+    local_laws();
+    data_laws();
+    rows_after(alloc, draft, layout.org, layout.object, after, limit)
 }

@@ -1,12 +1,12 @@
 -- The level on a record by its masters is that of the definition.
-use Rattle.std.proofs.Common.{◌≡◌, ℕ, zero, suc, ◌≤◌, true, List, [], ◌∷◌, length, Option, Some, None, refl, sym, ap, subst, ◌∙◌, arith}
+use Rattle.std.proofs.Common.{◌≡◌, ℕ, zero, suc, ◌≤◌, true, false, List, [], ◌∷◌, length, Option, Some, None, refl, sym, ap, subst, ◌∙◌, arith}
 use Rattle.std.specs.Prelude.{Result, Ok, Err}
 use Rattle.std.specs.Option.{option_and_then}
 use Rattle.ut_formula.specs.Meaning.{value_at}
 use Rattle.ut_keeper.specs.Tables.{Tables}
 use Rattle.ut_keys.specs.declared.fail.StoreFail.{StoreFail}
 use Rattle.ut_keys.specs.declared.fail.StoreFail.TheVariants.{Damaged, Keeper, Memory}
-use Rattle.ut_levels.specs.declared.knowing.OwnLevels.{OwnLevels}
+use Rattle.ut_levels.specs.Own.{up_to}
 use Rattle.ut_model.specs.declared.record.Record.{Record}
 use Rattle.ut_model.specs.Cases.{in_case}
 use Rattle.ut_model.specs.Fields.{ref_of}
@@ -27,7 +27,7 @@ use Rattle.ut_stands.proofs.MetadataRows.{sound_object}
 use Rattle.ut_value.specs.declared.sharing.Level.{Level}
 use Rattle.ut_value.specs.declared.sharing.Level.TheVariants.{Nothing, Read, Edit, Full}
 use Rattle.ut_grants.specs.Sights.{OwnAt, topmost}
-use Rattle.ut_grants.specs.declared.rights.UserRights.{UserRights}
+use Rattle.ut_grants.specs.declared.sight.UserSight.{UserSight}
 use Rattle.ut_grants.specs.declared.steps.Step.{Step}
 use Rattle.ut_grants.specs.inner.Climbing.{IsLevel, IsLevelWithin, MayClimb, MayJudge, full_of, master_there}
 use Rattle.ut_grants.specs.inner.Steps.{Fact, Leads, TellsWhere, end_of}
@@ -59,9 +59,53 @@ ends_topmost q t org (suc k) n (s ∷ steps) few led =
     ∙ ap (topmost k t.objects) (sym led.0.target)
     ∙ ends_topmost q t org k s.layout.object steps (omega (arith, few)) led.1
 
+-- ---- a level as far as it is asked for
+
+-- what a detail has by its master's level, as far as it is asked for, is known by this one so far
+full_by : (asked x : Level) → up_to asked (full_for_edit x) ≡ up_to asked (full_for_edit (up_to asked x))
+full_by Nothing Nothing = refl
+full_by Nothing Read = refl
+full_by Nothing Edit = refl
+full_by Nothing Full = refl
+full_by Read Nothing = refl
+full_by Read Read = refl
+full_by Read Edit = refl
+full_by Read Full = refl
+full_by Edit Nothing = refl
+full_by Edit Read = refl
+full_by Edit Edit = refl
+full_by Edit Full = refl
+full_by Full Nothing = refl
+full_by Full Read = refl
+full_by Full Edit = refl
+full_by Full Full = refl
+
+full_as_far : (asked x y : Level) → up_to asked x ≡ up_to asked y → up_to asked (full_for_edit x) ≡ up_to asked (full_for_edit y)
+full_as_far asked x y e = full_by asked x ∙ ap (λ (z : Level). up_to asked (full_for_edit z)) e ∙ sym (full_by asked y)
+
+-- all of it
+all_of : (x : Level) → up_to Full x ≡ x
+all_of Nothing = refl
+all_of Read = refl
+all_of Edit = refl
+all_of Full = refl
+
+pub as_whole : (x y : Level) → up_to Full x ≡ up_to Full y → x ≡ y
+as_whole x y e = sym (all_of x) ∙ e ∙ all_of y
+
+-- whether it may be read
+read_by : (x : Level) → at_least Read x ≡ at_least Read (up_to Read x)
+read_by Nothing = refl
+read_by Read = refl
+read_by Edit = refl
+read_by Full = refl
+
+pub reads_alike : (x y : Level) → up_to Read x ≡ up_to Read y → at_least Read x ≡ at_least Read y
+reads_alike x y e = read_by x ∙ ap (at_least Read) e ∙ sym (read_by y)
+
 -- ---- one record after another
 
-module _ (rights : UserRights) (org : ℕ) (own : OwnLevels) (r : Record) where
+module _ (sight : UserSight) (asked : Level) (org : ℕ) (r : Record) where
   module _ (m : Tables) (step : Step) (rest : List Step) where
     -- its master, that is found
     record Climbed (t : Tenant) : Type 0 where
@@ -71,7 +115,7 @@ module _ (rights : UserRights) (org : ℕ) (own : OwnLevels) (r : Record) where
       number : object_number it.item.id ≡ step.layout.object
       there : master_there step r t ≡ Some it.item
 
-    climbed : (q : OrgPlan) (t : Tenant) (u : User) → MayClimb rights org own (step ∷ rest) r q t u → Climbed t
+    climbed : (q : OrgPlan) (t : Tenant) (u : User) → MayClimb sight org (step ∷ rest) r q t u → Climbed t
     climbed q t u may =
         let led = may.leads.0 in
         let f = led.reference in
@@ -88,11 +132,11 @@ module _ (rights : UserRights) (org : ℕ) (own : OwnLevels) (r : Record) where
               ∙ master_found t r f it;
         }
 
-    stands_there : (q : OrgPlan) (t : Tenant) (u : User) → StandsIn org q m (Some t) → MayClimb rights org own (step ∷ rest) r q t u → StandsIn step.layout.org q m (Some t)
+    stands_there : (q : OrgPlan) (t : Tenant) (u : User) → StandsIn org q m (Some t) → MayClimb sight org (step ∷ rest) r q t u → StandsIn step.layout.org q m (Some t)
     stands_there q t u s may = subst (λ (o : ℕ). StandsIn o q m (Some t)) (sym may.leads.0.own) s
 
     -- it is always there
-    unnamed : FindsOf step.layout (master_there step r) m (Ok None) → TellsWhere org (MayClimb rights org own (step ∷ rest) r) (IsLevelWithin (length (step ∷ rest)) r) m (Ok Nothing)
+    unnamed : FindsOf step.layout (master_there step r) m (Ok None) → TellsWhere org (MayClimb sight org (step ∷ rest) r) (IsLevelWithin asked (length (step ∷ rest)) r) m (Ok Nothing)
     unnamed found = λ q t u s may.
         let cl = climbed q t u may in
         absurd (clash (found q t (stands_there q t u s may) may.leads.0.layout ∙ cl.there))
@@ -101,10 +145,10 @@ module _ (rights : UserRights) (org : ℕ) (own : OwnLevels) (r : Record) where
         clash e = cc
 
     module _ (master : Record) (found : FindsOf step.layout (master_there step r) m (Ok (Some master))) where
-      same : (q : OrgPlan) (t : Tenant) (u : User) → StandsIn org q m (Some t) → (may : MayClimb rights org own (step ∷ rest) r q t u) → master ≡ (climbed q t u may).it.item
+      same : (q : OrgPlan) (t : Tenant) (u : User) → StandsIn org q m (Some t) → (may : MayClimb sight org (step ∷ rest) r q t u) → master ≡ (climbed q t u may).it.item
       same q t u s may = some_is master (climbed q t u may).it.item (found q t (stands_there q t u s may) may.leads.0.layout ∙ (climbed q t u may).there)
 
-      next : (q : OrgPlan) (t : Tenant) (u : User) → StandsIn org q m (Some t) → MayClimb rights org own (step ∷ rest) r q t u → MayClimb rights org own rest master q t u
+      next : (q : OrgPlan) (t : Tenant) (u : User) → StandsIn org q m (Some t) → MayClimb sight org (step ∷ rest) r q t u → MayClimb sight org rest master q t u
       next q t u s may =
           let cl = climbed q t u may in
           let is = same q t u s may in
@@ -113,19 +157,21 @@ module _ (rights : UserRights) (org : ℕ) (own : OwnLevels) (r : Record) where
             granted = may.granted;
             has = subst (λ (x : Record). Has t.records x) (sym is) cl.it.has;
             leads = subst (λ (n : ℕ). Leads q t org n rest) number may.leads.1;
-            own_end = subst (λ (n : ℕ). OwnAt t u (end_of n rest) own) number may.own_end;
+            own_end = subst (λ (n : ℕ). OwnAt t u (end_of n rest) sight.own) number may.own_end;
+            shares = may.shares;
           }
 
-      onto : (n : Tables) → n ≡ m → (y : Result Level StoreFail) → TellsWhere org (MayClimb rights org own rest master) (IsLevelWithin (length rest) master) n y
-          → TellsWhere org (MayClimb rights org own (step ∷ rest) r) (IsLevelWithin (length (step ∷ rest)) r) m (full_of y)
+      onto : (n : Tables) → n ≡ m → (y : Result Level StoreFail) → TellsWhere org (MayClimb sight org rest master) (IsLevelWithin asked (length rest) master) n y
+          → TellsWhere org (MayClimb sight org (step ∷ rest) r) (IsLevelWithin asked (length (step ∷ rest)) r) m (full_of y)
       onto n at (Ok y) h = λ q t u s may k few. up q t u s may k few
         where
-          up : (q : OrgPlan) (t : Tenant) (u : User) → StandsIn org q m (Some t) → MayClimb rights org own (step ∷ rest) r q t u → (k : ℕ) → suc (length rest) ≤ k → full_for_edit y ≡ level_within (suc k) t u r
+          up : (q : OrgPlan) (t : Tenant) (u : User) → StandsIn org q m (Some t) → MayClimb sight org (step ∷ rest) r q t u → (k : ℕ) → suc (length rest) ≤ k → up_to asked (full_for_edit y) ≡ up_to asked (level_within (suc k) t u r)
           up q t u s may zero few = absurd (omega (arith, few))
           up q t u s may (suc k) few =
               let cl = climbed q t u may in
-              let above : y ≡ level_within (suc k) t u master = h q t u (subst (λ (x : Tables). StandsIn org q x (Some t)) (sym at) s) (next q t u s may) k (omega (arith, few)) in
-              ap full_for_edit (above ∙ ap (level_within (suc k) t u) (same q t u s may)) ∙ sym (one_up t u r (suc k) cl.reference cl.it cl.first)
+              let above : up_to asked y ≡ up_to asked (level_within (suc k) t u master) = h q t u (subst (λ (x : Tables). StandsIn org q x (Some t)) (sym at) s) (next q t u s may) k (omega (arith, few)) in
+              full_as_far asked y (level_within (suc k) t u cl.it.item) (above ∙ ap (λ (x : Record). up_to asked (level_within (suc k) t u x)) (same q t u s may))
+              ∙ ap (up_to asked) (sym (one_up t u r (suc k) cl.reference cl.it cl.first))
       onto n at (Err Damaged) h = λ q t u s may. h q t u (subst (λ (x : Tables). StandsIn org q x (Some t)) (sym at) s) (next q t u s may)
       onto n at (Err Keeper) h = tt
       onto n at (Err Memory) h = tt
@@ -133,13 +179,13 @@ module _ (rights : UserRights) (org : ℕ) (own : OwnLevels) (r : Record) where
   -- the same of steps that are these
   module _ (m : Tables) (steps rest : List Step) (step : Step) (are : steps ≡ step ∷ rest) where
     abbrev Through : Result Level StoreFail → Type 0
-    Through x = TellsWhere org (MayClimb rights org own steps r) (IsLevelWithin (length steps) r) m x
+    Through x = TellsWhere org (MayClimb sight org steps r) (IsLevelWithin asked (length steps) r) m x
 
-    as_steps : (x : Result Level StoreFail) → TellsWhere org (MayClimb rights org own (step ∷ rest) r) (IsLevelWithin (length (step ∷ rest)) r) m x → Through x
-    as_steps x h = subst (λ (ss : List Step). TellsWhere org (MayClimb rights org own ss r) (IsLevelWithin (length ss) r) m x) (sym are) h
+    as_steps : (x : Result Level StoreFail) → TellsWhere org (MayClimb sight org (step ∷ rest) r) (IsLevelWithin asked (length (step ∷ rest)) r) m x → Through x
+    as_steps x h = subst (λ (ss : List Step). TellsWhere org (MayClimb sight org ss r) (IsLevelWithin asked (length ss) r) m x) (sym are) h
 
     pub through_master : (master : Record) → FindsOf step.layout (master_there step r) m (Ok (Some master)) → (n : Tables) → n ≡ m → (y : Result Level StoreFail)
-        → TellsWhere org (MayClimb rights org own rest master) (IsLevelWithin (length rest) master) n y → (out : Result Level StoreFail) → out ≡ full_of y → Through out
+        → TellsWhere org (MayClimb sight org rest master) (IsLevelWithin asked (length rest) master) n y → (out : Result Level StoreFail) → out ≡ full_of y → Through out
     through_master master found n at y h out is = subst Through (sym is) (as_steps (full_of y) (onto m step rest master found n at y h))
 
     pub through_unnamed : FindsOf step.layout (master_there step r) m (Ok None) → Through (Ok Nothing)
@@ -154,28 +200,30 @@ deep q t l sound is = let one = layout_is q t l is in (sound_object t l.object o
 pub may_step : (q : OrgPlan) (t : Tenant) (u : User) (l : Layout) → IsSound t → IsLayout q t l → MayStep l 3 q t u
 may_step q t u l sound is = (is, deep q t l sound is)
 
-module _ (m n : Tables) (same : n ≡ m) (rights : UserRights) (own : OwnLevels) (l : Layout) (r : Record) (steps : List Step) (few : length steps ≤ 3)
+module _ (m n : Tables) (same : n ≡ m) (sight : UserSight) (asked : Level) (l : Layout) (r : Record) (steps : List Step) (few : length steps ≤ 3)
     (led : (q : OrgPlan) (t : Tenant) (u : User) → StandsIn l.org q m (Some t) → MayStep l 3 q t u → Leads q t l.org l.object steps) where
-  leads : (q : OrgPlan) (t : Tenant) (u : User) → StandsIn l.org q m (Some t) → MayJudge rights l r q t u → Leads q t l.org l.object steps
+  leads : (q : OrgPlan) (t : Tenant) (u : User) → StandsIn l.org q m (Some t) → MayJudge sight.rights.now l r q t u → Leads q t l.org l.object steps
   leads q t u s may = led q t u s (may_step q t u l may.granted.sound may.layout)
 
-  module _ (Given : Fact) (may : (q : OrgPlan) (t : Tenant) (u : User) → Given q t u → MayJudge rights l r q t u)
-      (own_at : (q : OrgPlan) (t : Tenant) (u : User) → StandsIn l.org q m (Some t) → Given q t u → OwnAt t u (end_of l.object steps) own) where
-    climbs : (q : OrgPlan) (t : Tenant) (u : User) → StandsIn l.org q m (Some t) → Given q t u → MayClimb rights l.org own steps r q t u
+  module _ (Given : Fact) (may : (q : OrgPlan) (t : Tenant) (u : User) → Given q t u → MayJudge sight.rights.now l r q t u)
+      (own_at : (q : OrgPlan) (t : Tenant) (u : User) → StandsIn l.org q m (Some t) → Given q t u → OwnAt t u (end_of l.object steps) sight.own)
+      (shares : (q : OrgPlan) (t : Tenant) (u : User) → Given q t u → sight.shared ≡ false → t.shares ≡ []) where
+    climbs : (q : OrgPlan) (t : Tenant) (u : User) → StandsIn l.org q m (Some t) → Given q t u → MayClimb sight l.org steps r q t u
     climbs q t u s g =
         let it = may q t u g in
         record {
           granted = it.granted;
           has = it.has;
           leads = subst (λ (k : ℕ). Leads q t l.org k steps) (sym it.number) (leads q t u s it);
-          own_end = subst (λ (k : ℕ). OwnAt t u (end_of k steps) own) (sym it.number) (own_at q t u s g);
+          own_end = subst (λ (k : ℕ). OwnAt t u (end_of k steps) sight.own) (sym it.number) (own_at q t u s g);
+          shares = shares q t u g;
         }
 
     over : (q : OrgPlan) (t : Tenant) → StandsIn l.org q m (Some t) → StandsIn l.org q n (Some t)
     over q t s = subst (λ (x : Tables). StandsIn l.org q x (Some t)) (sym same) s
 
     -- what was found within so many steps is the level
-    pub judged : (y : Result Level StoreFail) → TellsWhere l.org (MayClimb rights l.org own steps r) (IsLevelWithin (length steps) r) n y → TellsWhere l.org Given (IsLevel r) m y
+    pub judged : (y : Result Level StoreFail) → TellsWhere l.org (MayClimb sight l.org steps r) (IsLevelWithin asked (length steps) r) n y → TellsWhere l.org Given (IsLevel asked r) m y
     unfolding level
     judged (Ok y) h = λ q t u s g. h q t u (over q t s) (climbs q t u s g) 3 few
     judged (Err Damaged) h = λ q t u s g. h q t u (over q t s) (climbs q t u s g)

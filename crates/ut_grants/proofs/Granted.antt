@@ -1,6 +1,7 @@
 -- What is read of a user's keyring and of the organisation's rules are the user's rights.
 use Rattle.std.proofs.Common.{◌≡◌, ℕ, false, List, map, Some, sym, subst}
 use Rattle.ut_keyring.specs.Reading.{IsSharer}
+use Rattle.ut_levels.specs.Own.{IsSharerOf}
 use Rattle.ut_model.specs.Sound.{IsSound}
 use Rattle.ut_model.specs.SoundPeople.{IsSoundUser}
 use Rattle.ut_model.specs.Known.{known}
@@ -24,3 +25,7 @@ rights_are org i t u r at user sharer rules sound there plain =
       there = having_has user_id t.users i u there;
       plain = plain;
     }
+
+-- by them, the user's keyring with the people
+pub sharer_of : (t : Tenant) (u : User) (r : UserRights) → IsUserRights t u r → IsSharerOf r.org t u r.sharer
+sharer_of t u r granted = record { sharer = granted.sharer; sound = granted.sound; user = granted.there; plain = granted.plain }

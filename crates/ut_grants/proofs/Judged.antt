@@ -10,7 +10,6 @@ use Rattle.ut_keeper.specs.declared.keeper.KeptRow.{KeptRow}
 use Rattle.ut_keys.specs.Fails.{of_codec}
 use Rattle.ut_keys.specs.declared.fail.StoreFail.{StoreFail}
 use Rattle.ut_keys.specs.declared.fail.StoreFail.TheVariants.{Damaged, Keeper, Memory}
-use Rattle.ut_keys.specs.declared.share.ShareRow.{ShareRow}
 use Rattle.ut_levels.specs.Own.{IsOwnLevels}
 use Rattle.ut_levels.specs.declared.knowing.OwnLevels.{OwnLevels}
 use Rattle.ut_model.specs.declared.record.Record.{Record}
@@ -29,24 +28,23 @@ use Rattle.ut_rights.specs.Rights.{FindsFor, TellsReadable, kept_record, level_t
 use Rattle.ut_stands.specs.declared.layout.Layout.{Layout}
 use Rattle.ut_stands.specs.Layouts.{FindsOf, IsLayout, own_layout, place_of}
 use Rattle.ut_stands.specs.Local.{FindsIn, StandsIn}
-use Rattle.ut_stands.specs.Metadata.{row_of_share}
 use Rattle.ut_stands.specs.Plan.{OrgPlan}
 use Rattle.ut_stands.proofs.Lookups.{some_is}
 use Rattle.ut_stands.proofs.MetadataRows.{sound_object}
 use Rattle.ut_stands.proofs.Placed.{no_records}
 use Rattle.ut_value.specs.declared.sharing.Level.{Level}
-use Rattle.ut_value.specs.declared.sharing.Level.TheVariants.{Nothing, Read}
+use Rattle.ut_value.specs.declared.sharing.Level.TheVariants.{Full, Nothing, Read}
 use Rattle.ut_grants.specs.Granting.{IsUserRights}
-use Rattle.ut_grants.specs.Sights.{FindsSight, IsSight, OwnAt, topmost}
+use Rattle.ut_grants.specs.Sights.{FindsSight, IsSight, OwnAt, has_any, has_shares, topmost}
 use Rattle.ut_grants.specs.declared.rights.UserRights.{UserRights}
 use Rattle.ut_grants.specs.declared.sight.UserSight.{UserSight}
 use Rattle.ut_grants.specs.declared.steps.Step.{Step}
-use Rattle.ut_grants.specs.inner.Climbing.{IsLevel, MakesOwn, MayJudge, MayMake, MaySee, share_in}
+use Rattle.ut_grants.specs.inner.Climbing.{IsLevel, MakesOwn, MayJudge, MayMake, MaySee}
 use Rattle.ut_grants.specs.inner.Judging.{MayLook, is_readable}
-use Rattle.ut_grants.specs.inner.Steps.{Leads, TellsWhere, end_of}
-use Rattle.ut_grants.proofs.Climbed.{deep, ends_topmost, may_step, readable_all}
+use Rattle.ut_grants.specs.inner.Steps.{Fact, Leads, TellsWhere, end_of}
+use Rattle.ut_grants.proofs.Climbed.{as_whole, deep, ends_topmost, may_step, readable_all, reads_alike}
 use Rattle.ut_grants.proofs.Layouts.{layout_is, none_is, read_is}
-use Rattle.ut_grants.proofs.SharingFits.{all_has}
+use Rattle.ut_sharing_rows.proofs.SharingFits.{all_has}
 use Rattle.ut_grants.proofs.Stepping.{FailsWhere, MayStep}
 
 -- ---- what a tenant's layout and records are
@@ -62,6 +60,10 @@ few_fields q t l sound is =
     let same : length l.fields ≡ length one.object.fields = ap (λ (k : Layout). length k.fields) (sym one.made) ∙ as_many q l.object 0 one.object.fields in
     omega (arith, few, same)
 
+-- what is so of all records of the object of the topmost masters
+abbrev pub IsTop : Layout → OwnLevels → Fact
+IsTop l own q t u = OwnAt t u (topmost 3 t.objects l.object) own
+
 -- the object of a record
 pub record HasObject (t : Tenant) (r : Record) : Type 0 where
   pub object : Object
@@ -71,10 +73,6 @@ pub object_is : (t : Tenant) (r : Record) → IsSound t → Has t.records r → 
 object_is t r sound has =
     let w = all_has (IsSoundRecord (known t) t.objects) t.records r sound.records.each has in
     record { object = w.object; there = w.there }
-
-pub shares_same : (n org : ℕ) (shares : List Share) → map (share_in n) (map (row_of_share org) shares) ≡ map (row_of_share n) shares
-shares_same n org [] = refl
-shares_same n org (s ∷ shares) = ap (λ (rows : List ShareRow). row_of_share n s ∷ rows) (shares_same n org shares)
 
 -- ---- the levels on the topmost object
 
@@ -94,25 +92,46 @@ module _ (rights : UserRights) (l : Layout) (steps : List Step) where
     makes q t u s granted is = record { granted = granted; layout = is; leads = led q t u s (may_step q t u l granted.sound is) }
 
     -- it isn't damaged for a tenant
-    pub judged_failed : (r : Record) (fail : CodecFail) → MakesOwn rights l steps (Err fail) → (e : StoreFail) → e ≡ of_codec fail → TellsWhere {X = Level} l.org (MayJudge rights l r) (IsLevel r) m (Err e)
-    judged_failed r codec.Damaged h e is = subst (λ (x : StoreFail). TellsWhere {X = Level} l.org (MayJudge rights l r) (IsLevel r) m (Err x)) (sym is) (λ q t u s may. h q t u (makes q t u s may.granted may.layout))
-    judged_failed r codec.Memory h e is = subst (λ (x : StoreFail). TellsWhere {X = Level} l.org (MayJudge rights l r) (IsLevel r) m (Err x)) (sym is) tt
+    pub judged_failed : (r : Record) (fail : CodecFail) → MakesOwn rights l steps (Err fail) → (e : StoreFail) → e ≡ of_codec fail → TellsWhere {X = Level} l.org (MayJudge rights l r) (IsLevel Full r) m (Err e)
+    judged_failed r codec.Damaged h e is = subst (λ (x : StoreFail). TellsWhere {X = Level} l.org (MayJudge rights l r) (IsLevel Full r) m (Err x)) (sym is) (λ q t u s may. h q t u (makes q t u s may.granted may.layout))
+    judged_failed r codec.Memory h e is = subst (λ (x : StoreFail). TellsWhere {X = Level} l.org (MayJudge rights l r) (IsLevel Full r) m (Err x)) (sym is) tt
 
-    pub sight_failed : (fail : CodecFail) → MakesOwn rights l steps (Err fail) → (e : StoreFail) → e ≡ of_codec fail → FindsSight rights l m (Err e)
-    sight_failed codec.Damaged h e is = subst (λ (x : StoreFail). FindsSight rights l m (Err x)) (sym is) (λ q t u s at granted. h q t u (makes q t u s granted at))
-    sight_failed codec.Memory h e is = subst (λ (x : StoreFail). FindsSight rights l m (Err x)) (sym is) tt
+    pub top_failed : (fail : CodecFail) → MakesOwn rights l steps (Err fail) → (e : StoreFail) → e ≡ of_codec fail → TellsWhere l.org (MayLook rights l) (IsTop l) m (Err e)
+    top_failed codec.Damaged h e is = subst (λ (x : StoreFail). TellsWhere l.org (MayLook rights l) (IsTop l) m (Err x)) (sym is) (λ q t u s may. h q t u (makes q t u s may.granted may.layout))
+    top_failed codec.Memory h e is = subst (λ (x : StoreFail). TellsWhere l.org (MayLook rights l) (IsTop l) m (Err x)) (sym is) tt
 
-    pub sight_is : (few : length steps ≤ 3) (own : OwnLevels) → MakesOwn rights l steps (Ok own) → (q : OrgPlan) (t : Tenant) (u : User) → StandsIn l.org q m (Some t) → IsLayout q t l → IsUserRights t u rights
-        → OwnAt t u (topmost 3 t.objects l.object) own
-    sight_is few own h q t u s at granted =
-        let may = makes q t u s granted at in
+    pub top_is : (few : length steps ≤ 3) (own : OwnLevels) → MakesOwn rights l steps (Ok own) → TellsWhere l.org (MayLook rights l) (IsTop l) m (Ok own)
+    top_is few own h q t u s look =
+        let may = makes q t u s look.granted look.layout in
         subst (λ (k : ℕ). OwnAt t u k own) (sym (ends_topmost q t l.org 3 l.object steps few may.leads)) (h q t u may)
 
--- no steps are read
-pub unsighted : (rights : UserRights) (l : Layout) (m : Tables) (e : StoreFail) → FailsWhere l.org (MayStep l 3) m e → FindsSight rights l m (Err e)
-unsighted rights l m Damaged h = λ q t u s at granted. h q t u s (may_step q t u l granted.sound at)
-unsighted rights l m Keeper h = tt
-unsighted rights l m Memory h = tt
+-- ---- what is seen
+
+module _ (rights : UserRights) (l : Layout) (m : Tables) where
+  -- what is so of all records wasn't found out
+  pub unsighted : (e : StoreFail) → FailsWhere l.org (MayLook rights l) m e → FindsSight rights l m (Err e)
+  unsighted Damaged h = λ q t u s at granted. h q t u s (record { granted = granted; layout = at })
+  unsighted Keeper h = tt
+  unsighted Memory h = tt
+
+  module _ (n : Tables) (same : n ≡ m) where
+    -- whether there are shares wasn't found out
+    pub unshared : (e : StoreFail) → FindsIn {X = Bool} l.org (λ q t. has_shares t) n (Err e) → FindsSight rights l m (Err e)
+    unshared Damaged h = λ q t u s at granted. h q (Some t) (subst (λ (x : Tables). StandsIn l.org q x (Some t)) (sym same) s)
+    unshared Keeper h = tt
+    unshared Memory h = tt
+
+    pub sighted : (sight : UserSight) → sight.rights.now ≡ rights → TellsWhere l.org (MayLook rights l) (IsTop l) m (Ok sight.own)
+        → FindsIn l.org (λ q t. has_shares t) n (Ok sight.shared) → FindsSight rights l m (Ok sight)
+    sighted sight are top shared = λ q t u s at granted. record {
+      rights = subst (IsUserRights t u) (sym are) granted;
+      own = top q t u s (record { granted = granted; layout = at });
+      shares = λ none. no_shares t.shares (sym (shared q (Some t) (subst (λ (x : Tables). StandsIn l.org q x (Some t)) (sym same) s)) ∙ none);
+    }
+      where
+        no_shares : (shares : List Share) → has_any shares ≡ false → shares ≡ []
+        no_shares [] e = refl
+        no_shares (s ∷ shares) e = absurd cc
 
 -- ---- by a row
 
@@ -139,7 +158,7 @@ module _ (m n : Tables) (same : n ≡ m) (l : Layout) (row : KeptRow) (s : UserS
   abbrev Sees : Tenant → User → Type 0
   Sees t u = IsSight t u l.object s
 
-  may_see : (q : OrgPlan) (t : Tenant) (u : User) (r : Record) → IsLayout q t l → Sees t u → Has (records_of t l.object) r → kept_record l row ≡ Some r → MaySee s.rights.now s.own l item q t u
+  may_see : (q : OrgPlan) (t : Tenant) (u : User) (r : Record) → IsLayout q t l → Sees t u → Has (records_of t l.object) r → kept_record l row ≡ Some r → MaySee s l item q t u
   may_see q t u r at sees among is =
       let it = of_layout q t u l r among in
       let one : r ≡ item = some_is r item (sym is ∙ spelled) in
@@ -151,20 +170,21 @@ module _ (m n : Tables) (same : n ≡ m) (l : Layout) (row : KeptRow) (s : UserS
           number = subst (λ (x : Record). object_number x.id ≡ l.object) one it.number;
         };
         own_top = sees.own;
+        shares = sees.shares;
       }
 
   over : (q : OrgPlan) (t : Tenant) → StandsIn l.org q m (Some t) → StandsIn l.org q n (Some t)
   over q t stands = subst (λ (x : Tables). StandsIn l.org q x (Some t)) (sym same) stands
 
-  by_level : (y : Result Level StoreFail) → TellsWhere l.org (MaySee s.rights.now s.own l item) (IsLevel item) n y → TellsReadable l Sees row m (is_readable y)
+  by_level : (y : Result Level StoreFail) → TellsWhere l.org (MaySee s l item) (IsLevel Read item) n y → TellsReadable l Sees row m (is_readable y)
   by_level (Ok y) h = λ q t u r stands at sees among is.
       let one : item ≡ r = some_is item r (sym spelled ∙ is) in
-      ap (at_least Read) (h q t u (over q t stands) (may_see q t u r at sees among is) ∙ ap (level t u) one)
+      reads_alike y (level t u item) (h q t u (over q t stands) (may_see q t u r at sees among is)) ∙ ap (λ (x : Record). can_read t u x) one
   by_level (Err Damaged) h = λ q t u r stands at sees among is. h q t u (over q t stands) (may_see q t u r at sees among is)
   by_level (Err Keeper) h = tt
   by_level (Err Memory) h = tt
 
-  pub seen : (y : Result Level StoreFail) → TellsWhere l.org (MaySee s.rights.now s.own l item) (IsLevel item) n y → (b : Result Bool StoreFail) → b ≡ is_readable y → TellsReadable l Sees row m b
+  pub seen : (y : Result Level StoreFail) → TellsWhere l.org (MaySee s l item) (IsLevel Read item) n y → (b : Result Bool StoreFail) → b ≡ is_readable y → TellsReadable l Sees row m b
   seen y h b is = subst (TellsReadable l Sees row m) (sym is) (by_level y h)
 
 -- ---- by an id
@@ -178,9 +198,9 @@ module _ (m n : Tables) (same : n ≡ m) (rights : UserRights) (l : Layout) (id 
       let it = found_of t l.object id item (record_at t id) refl (at_id q t u s may) in
       record { granted = may.granted; layout = may.layout; has = it.has; number = eqb-true (object_number item.id) l.object it.of }
 
-  pub looked : (y : Result Level StoreFail) → TellsWhere l.org (MayJudge rights l item) (IsLevel item) n y → TellsWhere l.org (MayLook rights l) (λ x q t u. x ≡ level_there t u l.object id) m y
+  pub looked : (y : Result Level StoreFail) → TellsWhere l.org (MayJudge rights l item) (IsLevel Full item) n y → TellsWhere l.org (MayLook rights l) (λ x q t u. x ≡ level_there t u l.object id) m y
   looked (Ok y) h = λ q t u s may.
-      h q t u (subst (λ (x : Tables). StandsIn l.org q x (Some t)) (sym same) s) (may_judge q t u s may)
+      as_whole y (level t u item) (h q t u (subst (λ (x : Tables). StandsIn l.org q x (Some t)) (sym same) s) (may_judge q t u s may))
       ∙ sym (ap (λ (o : Option Record). in_case o Nothing (level t u)) (at_id q t u s may))
   looked (Err Damaged) h = λ q t u s may. h q t u (subst (λ (x : Tables). StandsIn l.org q x (Some t)) (sym same) s) (may_judge q t u s may)
   looked (Err Keeper) h = tt

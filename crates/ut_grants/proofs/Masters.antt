@@ -30,7 +30,7 @@ use Rattle.ut_stands.proofs.MetadataRows.{sound_object}
 use Rattle.ut_grants.specs.declared.steps.MasterField.{MasterField}
 use Rattle.ut_grants.specs.inner.Steps.{master_from, master_target}
 use Rattle.ut_grants.proofs.Layouts.{IsOf, layout_is}
-use Rattle.ut_grants.proofs.SharingFits.{all_has}
+use Rattle.ut_sharing_rows.proofs.SharingFits.{all_has}
 
 -- ---- lists
 

@@ -1,4 +1,3 @@
-pub mod SharingRules
 pub mod Granting
 pub mod Sights
 pub mod inner

@@ -1,28 +1,33 @@
 //! The level on a record, by its masters.
 
-ghost use Rattle.std.specs.Prelude.{◌≡◌, ℕ, IfOk, [], length, map};
+ghost use Rattle.std.specs.Prelude.{◌≡◌, ℕ, [], false, length};
 ghost use Rattle.ut_formula.specs.Meaning.{value_at};
-ghost use Rattle.ut_grants.specs.Sights.{OwnAt, topmost};
-ghost use Rattle.ut_grants.specs.inner.Climbing.{IsLevel, IsLevelWithin, IsOwnLevel, MakesOwn, MayClimb, MayJudge, MaySee, full_of, master_there, share_in};
+ghost use Rattle.ut_grants.specs.inner.Climbing.{IsLevel, IsLevelWithin, IsOwnLevel, MakesOwn, MayClimb, MayJudge, MaySee, full_of, master_there};
 ghost use Rattle.ut_grants.specs.inner.Steps.{TellsWhere};
 ghost use Rattle.ut_keeper.specs.Draft.{DraftTells, tables_of};
 ghost use Rattle.ut_model.specs.Levels.{full_for_edit};
+ghost use Rattle.ut_model.specs.Tenant.{Tenant};
+ghost use Rattle.ut_named.specs.Shares.{ListsShares};
 ghost use Rattle.ut_stands.specs.Calls.{Calls, ended};
 ghost use Rattle.ut_stands.specs.Layouts.{FindsOf};
+ghost use Rattle.ut_stands.specs.Local.{StandsIn};
+ghost use Rattle.ut_stands.specs.Plan.{OrgPlan};
+ghost use Rattle.ut_value.specs.declared.sharing.Level.TheVariants.{Full};
 ghost use Rattle.ut_value.specs.Values.{ref_of};
 
 use crate::rights::UserRights;
+use crate::sight::UserSight;
 use crate::steps::{Step, steps_from};
-use std::alloc::{AllocError, Global};
+use std::alloc::Global;
 use ut_data::load_record;
 use ut_keeper::{Draft, Keeper, draft_laws};
 use ut_keys::{ShareRow, StoreFail};
-use ut_levels::{OwnLevels, level_on, own_levels};
+use ut_levels::{OwnLevels, is_settled, level_apart, level_with, own_levels};
 use ut_model::Record;
 use ut_named::shares_of;
 use ut_parts::CodecFail;
 use ut_stands::{Layout, call_laws};
-use ut_value::{Id, Level, Value};
+use ut_value::{Id, Items, Level, Value};
 
 // The most fields of an object.
 const MOST_FIELDS: usize = 40;
@@ -122,83 +127,92 @@ fn full_of(level: Result<Level, StoreFail>) -> Result<Level, StoreFail>
     }
 }
 
-// The same shares as rows of the organisation with this number.
-fn shares_in(alloc: Global, org: u32, shares: &[ShareRow]) -> Result<Vec<ShareRow>, AllocError>
-    ensures { IfOk result (λ rows. rows.items ≡ map (share_in org) shares.now) }
+// The shares of a record: none is read if the organisation has none.
+fn shares_on<K: Keeper>(
+    alloc: Global,
+    draft: &mut Draft<'_, K>,
+    org: u32,
+    shared: bool,
+    id: &Id,
+) -> Result<Items<ShareRow>, StoreFail>
+    ensures lists { DraftTells K.state draft.old draft.new
+        → (q : OrgPlan) (t : Tenant) → StandsIn org q (tables_of K.state draft.old) (Some t) → (shared ≡ false → t.shares ≡ [])
+        → ListsShares org t id.now result }
+    ensures calls { Calls K.state 0 (ended result) draft.old draft.new }
 {
-    shares
-        .iter()
-        .map(|share| ShareRow {
-            org,
-            id: share.id,
-            to: share.to,
-            level: share.level,
-        })
-        .collect(alloc)
+    call_laws::<K>();
+    if shared {
+        shares_of(alloc, draft, org, id)
+    } else {
+        Ok(Items::new(alloc))
+    }
 }
 
-// The level on a record that has no master.
+// The level on a record that has no master, as far as it is asked for. Its shares are read only where they may matter.
 fn own_level<K: Keeper>(
     alloc: Global,
     draft: &mut Draft<'_, K>,
     org: u32,
-    rights: &UserRights,
-    own: &OwnLevels,
+    sight: &UserSight<'_>,
+    asked: Level,
     item: &Record,
 ) -> Result<Level, StoreFail>
     ensures finds { DraftTells K.state draft.old draft.new
-        → TellsWhere org (MayClimb rights.now org own.now [] item.now) (IsOwnLevel item.now) (tables_of K.state draft.old) result }
+        → TellsWhere org (MayClimb sight.now org [] item.now) (IsOwnLevel asked item.now) (tables_of K.state draft.old) result }
     ensures calls { Calls K.state 0 (ended result) draft.old draft.new }
 {
     call_laws::<K>();
-    let shares = shares_of(alloc, draft, org, &item.id)?;
-    let rows = shares_in(alloc, rights.org, shares.as_slice())?;
-    Ok(level_on(alloc, &rights.sharer, own, item, rows.as_slice())?)
+    let apart = level_apart(alloc, &sight.rights.sharer, &sight.own, item)?;
+    if is_settled(asked, apart) {
+        return Ok(apart);
+    }
+    let shares = shares_on(alloc, draft, org, sight.shared, &item.id)?;
+    Ok(level_with(&sight.rights.sharer, apart, shares.as_slice()))
 }
 
-// The level on a record, by the steps to its topmost master, of whose object this is known.
+// The level on a record, as far as it is asked for, by the steps to its topmost master.
 fn level_through<K: Keeper>(
     alloc: Global,
     draft: &mut Draft<'_, K>,
     org: u32,
-    rights: &UserRights,
-    own: &OwnLevels,
+    sight: &UserSight<'_>,
+    asked: Level,
     steps: &[Step],
     item: &Record,
 ) -> Result<Level, StoreFail>
     ensures finds { DraftTells K.state draft.old draft.new
-        → TellsWhere org (MayClimb rights.now org own.now steps.now item.now) (IsLevelWithin (length steps.now) item.now)
+        → TellsWhere org (MayClimb sight.now org steps.now item.now) (IsLevelWithin asked (length steps.now) item.now)
         (tables_of K.state draft.old) result }
     ensures calls { Calls K.state (length steps.now) (ended result) draft.old draft.new }
 {
     draft_laws::<K>();
     call_laws::<K>();
     let Some((step, rest)) = steps.split_first() else {
-        return own_level(alloc, draft, org, rights, own, item);
+        return own_level(alloc, draft, org, sight, asked, item);
     };
     match master_of(alloc, draft, step, item) {
-        Ok(Some(master)) => full_of(level_through(alloc, draft, org, rights, own, rest, &master)),
+        Ok(Some(master)) => full_of(level_through(alloc, draft, org, sight, asked, rest, &master)),
         Ok(None) => Ok(Level::Nothing),
         Err(fail) => Err(fail),
     }
 }
 
-/// The level on a record by the layout of its object, where this is known of the object of its topmost masters.
+/// The level on a record by the layout of its object, as far as it is asked for, of a user who sees so.
 ///
 /// # Errors
 ///
 /// `Keeper` if the keeper failed, `Memory` if out of memory, `Damaged` never if the organisation's rows stand for a tenant whose
-/// layout and whose record it is, and of whose user the rights are.
+/// layout and whose record it is, and of whose user this is the sight.
 pub(crate) fn level_in<K: Keeper>(
     alloc: Global,
     draft: &mut Draft<'_, K>,
-    rights: &UserRights,
-    own: &OwnLevels,
+    sight: &UserSight<'_>,
+    asked: Level,
     layout: &Layout,
     item: &Record,
 ) -> Result<Level, StoreFail>
     ensures finds { DraftTells K.state draft.old draft.new
-        → TellsWhere layout.now.org (MaySee rights.now own.now layout.now item.now) (IsLevel item.now) (tables_of K.state draft.old) result }
+        → TellsWhere layout.now.org (MaySee sight.now layout.now item.now) (IsLevel asked item.now) (tables_of K.state draft.old) result }
     ensures calls { Calls K.state 3 (ended result) draft.old draft.new }
 {
     draft_laws::<K>();
@@ -208,8 +222,8 @@ pub(crate) fn level_in<K: Keeper>(
             alloc,
             draft,
             layout.org,
-            rights,
-            own,
+            sight,
+            asked,
             steps.as_slice(),
             item,
         ),
@@ -221,7 +235,8 @@ pub(crate) fn level_in<K: Keeper>(
 ///
 /// # Errors
 ///
-/// As `level_in`.
+/// `Keeper` if the keeper failed, `Memory` if out of memory, `Damaged` never if the organisation's rows stand for a tenant whose
+/// layout and whose record it is, and of whose user the rights are.
 pub(crate) fn level_of<K: Keeper>(
     alloc: Global,
     draft: &mut Draft<'_, K>,
@@ -230,22 +245,31 @@ pub(crate) fn level_of<K: Keeper>(
     item: &Record,
 ) -> Result<Level, StoreFail>
     ensures finds { DraftTells K.state draft.old draft.new
-        → TellsWhere layout.now.org (MayJudge rights.now layout.now item.now) (IsLevel item.now) (tables_of K.state draft.old) result }
+        → TellsWhere layout.now.org (MayJudge rights.now layout.now item.now) (IsLevel Full item.now) (tables_of K.state draft.old) result }
     ensures calls { Calls K.state 3 (ended result) draft.old draft.new }
 {
     draft_laws::<K>();
     call_laws::<K>();
     match steps_from(alloc, draft, layout, MOST_MASTERS) {
         Ok(steps) => match own_at_end(alloc, rights, layout, steps.as_slice()) {
-            Ok(own) => level_through(
-                alloc,
-                draft,
-                layout.org,
-                rights,
-                &own,
-                steps.as_slice(),
-                item,
-            ),
+            Ok(own) => {
+                // Whether there are shares is asked for one record alone.
+                let shared = true;
+                let sight = UserSight {
+                    rights,
+                    own,
+                    shared,
+                };
+                level_through(
+                    alloc,
+                    draft,
+                    layout.org,
+                    &sight,
+                    Level::Full,
+                    steps.as_slice(),
+                    item,
+                )
+            }
             Err(fail) => Err(StoreFail::from(fail)),
         },
         Err(fail) => Err(fail),

@@ -4,11 +4,11 @@ ghost use Rattle.ut_grants.specs.Granting.{FindsRights};
 ghost use Rattle.ut_keeper.specs.Draft.{DraftTells, tables_of};
 ghost use Rattle.ut_stands.specs.Calls.{Calls, ended};
 
-use crate::rules::sharing_rules_of;
 use std::alloc::Global;
 use ut_keeper::{Draft, Keeper, draft_laws};
 use ut_keyring::{Sharer, keyring_of};
 use ut_keys::{SharingRow, StoreFail};
+use ut_sharing_rows::sharing_rules_of;
 use ut_stands::call_laws;
 use ut_value::Id;
 

@@ -1,28 +1,35 @@
 //! What a user who doesn't administer sees of the records of one object, and the levels on records by their ids.
 
-ghost use Rattle.std.specs.Prelude.{◌≡◌};
+ghost use Rattle.std.specs.Prelude.{◌≡◌, Some, true};
 ghost use Rattle.ut_grants.specs.Granting.{IsUserRights};
-ghost use Rattle.ut_grants.specs.Sights.{FindsSight, IsSight};
+ghost use Rattle.ut_grants.specs.Sights.{FindsSight, IsSight, OwnAt, topmost};
 ghost use Rattle.ut_grants.specs.inner.Judging.{MayLook, is_readable};
 ghost use Rattle.ut_grants.specs.inner.Steps.{TellsWhere};
 ghost use Rattle.ut_keeper.specs.Draft.{DraftTells, tables_of};
+ghost use Rattle.ut_model.specs.declared.record.Record.{Record};
+ghost use Rattle.ut_model.specs.Levels.{own_level, owns};
+ghost use Rattle.ut_model.specs.Tenant.{Tenant, User};
 ghost use Rattle.ut_parts.specs.Gives.{Gives};
 ghost use Rattle.ut_rights.specs.Rights.{kept_record, level_there};
 ghost use Rattle.ut_stands.specs.Calls.{Calls, ended};
+ghost use Rattle.ut_stands.specs.declared.layout.Layout.{Layout};
+ghost use Rattle.ut_value.specs.declared.sharing.Level.TheVariants.{Full};
 
 use crate::climbing::{MOST_MASTERS, level_in, level_of, own_at_end};
 use crate::rights::UserRights;
+use crate::shares::has_shares;
 use crate::steps::steps_from;
 use std::alloc::Global;
 use ut_data::{load_record, record_of};
 use ut_keeper::{Draft, Keeper, KeptRow, draft_laws};
 use ut_keys::{DataRow, RowForm, StoreFail};
-use ut_levels::{OwnLevels, is_readable_by_all};
+use ut_levels::{OwnLevels, is_readable_by_all, owns};
 use ut_model::Record;
 use ut_parts::CodecFail;
 use ut_rights::{Rights, Sight, at_least};
 use ut_stands::{Layout, call_laws, layout_at};
 use ut_value::{Id, Level};
+use ut_view::RowView;
 
 /// What a user who doesn't administer sees of the records of one object.
 #[derive(Drop)]
@@ -31,6 +38,31 @@ pub struct UserSight<'a> {
     pub rights: &'a UserRights,
     /// What is so of all records of the object of the topmost masters.
     pub own: OwnLevels,
+    /// Whether the organisation may have manual shares: else no record's are read.
+    pub shared: bool,
+}
+
+// What is so of all records of the object of the topmost masters.
+fn own_top<K: Keeper>(
+    alloc: Global,
+    draft: &mut Draft<'_, K>,
+    rights: &UserRights,
+    layout: &Layout,
+) -> Result<OwnLevels, StoreFail>
+    ensures finds { DraftTells K.state draft.old draft.new
+        → TellsWhere layout.now.org (MayLook rights.now layout.now) (λ own q t u. OwnAt t u (topmost 3 t.objects layout.now.object) own)
+        (tables_of K.state draft.old) result }
+    ensures calls { Calls K.state 0 (ended result) draft.old draft.new }
+{
+    draft_laws::<K>();
+    call_laws::<K>();
+    match steps_from(alloc, draft, layout, MOST_MASTERS) {
+        Ok(steps) => match own_at_end(alloc, rights, layout, steps.as_slice()) {
+            Ok(own) => Ok(own),
+            Err(fail) => Err(StoreFail::from(fail)),
+        },
+        Err(fail) => Err(fail),
+    }
 }
 
 /// What the user with these rights sees of the records of an object.
@@ -51,10 +83,14 @@ pub fn sight_of<'a, K: Keeper>(
 {
     draft_laws::<K>();
     call_laws::<K>();
-    match steps_from(alloc, draft, layout, MOST_MASTERS) {
-        Ok(steps) => match own_at_end(alloc, rights, layout, steps.as_slice()) {
-            Ok(own) => Ok(UserSight { rights, own }),
-            Err(fail) => Err(StoreFail::from(fail)),
+    match own_top(alloc, draft, rights, layout) {
+        Ok(own) => match has_shares(alloc, draft, layout.org) {
+            Ok(shared) => Ok(UserSight {
+                rights,
+                own,
+                shared,
+            }),
+            Err(fail) => Err(fail),
         },
         Err(fail) => Err(fail),
     }
@@ -67,6 +103,19 @@ fn item_of(alloc: Global, layout: &Layout, row: &KeptRow) -> Result<Record, Code
     match DataRow::of_parts(alloc, row.key.as_slice(), row.row.as_slice()) {
         Ok(row) => record_of(alloc, layout, &row),
         Err(fail) => Err(fail),
+    }
+}
+
+// Whether the record of a row is the user's, or of a user below, by its owner alone.
+fn is_owned(rights: &UserRights, row: &KeptRow) -> bool
+    ensures value { (l : Layout) (r : Record) (t : Tenant) (u : User) → kept_record l row.now ≡ Some r → IsUserRights t u rights.now
+        → result ≡ owns t u r }
+    ensures full { (l : Layout) (r : Record) (t : Tenant) (u : User) → kept_record l row.now ≡ Some r → IsUserRights t u rights.now
+        → result ≡ true → own_level t u r ≡ Full }
+{
+    match RowView::of(row.key.as_slice(), row.row.as_slice()) {
+        Some(view) => owns(&rights.sharer, view.owner()),
+        None => false,
     }
 }
 
@@ -97,8 +146,11 @@ impl Sight for UserSight<'_> {
         if is_readable_by_all(&self.own) {
             return Ok(true);
         }
+        if is_owned(self.rights, row) {
+            return Ok(true);
+        }
         match item_of(alloc, layout, row) {
-            Ok(item) => is_readable(level_in(alloc, draft, self.rights, &self.own, layout, &item)),
+            Ok(item) => is_readable(level_in(alloc, draft, self, Level::Read, layout, &item)),
             Err(fail) => Err(StoreFail::from(fail)),
         }
     }

@@ -1,9 +1,10 @@
 -- The greater of levels.
-use Rattle.std.proofs.Common.{◌≡◌, ◌∙◌, true, List, [], ◌∷◌, ◌++◌, refl, sym, ap}
+use Rattle.std.proofs.Common.{◌≡◌, ◌∙◌, Bool, true, false, cond, nat_le, List, [], ◌∷◌, ◌++◌, refl, sym, ap, arith}
+use Rattle.std.proofs.lemmas.Bool.Decides.{nat_tests}
 use Rattle.ut_value.specs.declared.sharing.Level.{Level}
 use Rattle.ut_value.specs.declared.sharing.Level.TheVariants.{Nothing, Read, Edit, Full}
-use Rattle.ut_model.specs.Levels.{at_least, greatest}
-use Rattle.ut_levels.specs.Own.{greater}
+use Rattle.ut_model.specs.Levels.{at_least, greatest, rank}
+use Rattle.ut_levels.specs.Own.{greater, up_to}
 
 pub none_left : (a : Level) → greater Nothing a ≡ a
 none_left Nothing = refl
@@ -75,19 +76,24 @@ pub greatest_both : (xs ys : List Level) → greatest (xs ++ ys) ≡ greater (gr
 greatest_both [] ys = sym (none_left (greatest ys))
 greatest_both (x ∷ xs) ys = ap (greater x) (greatest_both xs ys) ∙ sym (in_turn x (greatest xs) (greatest ys))
 
--- ---- what may be read
+-- ---- what a greater level includes
+
+includes_left : (least a b : Level) → at_least least a ≡ true → at_least least (greater a b) ≡ true
+includes_left least a b e = by (at_least a b) refl
+  where
+    by : (more : Bool) → at_least a b ≡ more → at_least least (cond more b a) ≡ true
+    by false is = e
+    by true is = let low : nat_le (rank least) (rank a) ≡ true = e in let high : nat_le (rank a) (rank b) ≡ true = is in grind (arith, nat_tests)
 
 pub read_left : (a b : Level) → at_least Read a ≡ true → at_least Read (greater a b) ≡ true
-read_left Nothing b e = absurd cc
-read_left Full b e = ap (at_least Read) (full_left b)
-read_left Read Nothing e = refl
-read_left Read Read e = refl
-read_left Read Edit e = refl
-read_left Read Full e = refl
-read_left Edit Nothing e = refl
-read_left Edit Read e = refl
-read_left Edit Edit e = refl
-read_left Edit Full e = refl
+read_left a b e = includes_left Read a b e
 
 pub read_right : (a b : Level) → at_least Read b ≡ true → at_least Read (greater a b) ≡ true
 read_right a b e = ap (at_least Read) (same_order a b) ∙ read_left b a e
+
+-- as far as a level is asked for that the first includes, the second adds nothing
+pub settled_left : (asked a b : Level) → at_least asked a ≡ true → up_to asked a ≡ up_to asked (greater a b)
+settled_left asked a b e = as_asked a e ∙ sym (as_asked (greater a b) (includes_left asked a b e))
+  where
+    as_asked : (x : Level) → at_least asked x ≡ true → up_to asked x ≡ asked
+    as_asked x e = ap (λ (includes : Bool). cond includes asked x) e

@@ -1,16 +1,21 @@
 -- What is the same of a user's levels on all records of an object that is no detail: what every user has, and the sharing rules
 -- that reach the user.
 -- Source: Salesforce, "Record-Level Security", "Sharing Rules".
-use Rattle.std.specs.Prelude.{◌≡◌, ℕ, Bool, true, false, ◌&&◌, ◌==◌, if◌then◌else◌, filter_map, Option, Some, None, Result, Ok, Err}
+use Rattle.std.specs.Prelude.{◌≡◌, ℕ, Bool, true, false, ◌&&◌, ◌==◌, if◌then◌else◌, List, ◌∷◌, map, filter, filter_map, Option, Some, None, Result, Ok, Err}
 use Rattle.ut_value.specs.declared.job.RuleState.{RuleState}
+use Rattle.ut_value.specs.declared.sharing.Access.{Access}
 use Rattle.ut_value.specs.declared.sharing.Level.{Level}
+use Rattle.ut_value.specs.declared.sharing.Level.TheVariants.{Nothing, Read}
 use Rattle.ut_value.specs.declared.sharing.Principal.{Principal}
 use Rattle.ut_value.specs.declared.sharing.RuleSource.{RuleSource}
 use Rattle.ut_value.specs.declared.sharing.RuleSource.TheVariants as source
 use Rattle.ut_formula.specs.declared.formula.Formula.{Formula}
+use Rattle.ut_model.specs.declared.record.Record.{Record}
+use Rattle.ut_model.specs.Cases.{in_case}
 use Rattle.ut_model.specs.FormulaTexts.{reads_text}
-use Rattle.ut_model.specs.Levels.{acts, at_least, by_access}
+use Rattle.ut_model.specs.Levels.{Grant, acts, at_least, by_access, by_grant, by_owner, covers, greatest}
 use Rattle.ut_model.specs.Membership.{Has, reaches}
+use Rattle.ut_model.specs.Objects.{object_of_record}
 use Rattle.ut_model.specs.Sound.{IsSound}
 use Rattle.ut_model.specs.Tenant.{Object, SharingRule, Tenant, User}
 use Rattle.ut_stands.specs.Metadata.{source_part}
@@ -30,6 +35,26 @@ pub record IsSharerOf (org : ℕ) (t : Tenant) (u : User) (s : Sharer) : Type 0 
 -- the greater of two levels
 abbrev pub greater : Level → Level → Level
 greater a b = if at_least a b then b else a
+
+-- a level as far as it is asked for: no greater than the one that is asked
+abbrev pub up_to : (asked : Level) → Level → Level
+up_to asked level = if at_least asked level then asked else level
+
+-- every user may read the records of an object with this default access, whoever owns them
+abbrev pub is_open : Access → Bool
+is_open access = at_least Read (by_access access)
+
+-- ---- shares apart
+
+-- what the sharing rules that cover a record grant
+abbrev pub rule_grants : Tenant → Record → List Grant
+rule_grants t r = map (λ rule. record { to = rule.to; level = rule.level }) (filter (covers t r) t.sharing_rules)
+
+-- the level on a record that isn't a detail without its manual shares: by its owner and the role hierarchy, by the object's default
+-- access and by sharing rules
+unfoldable pub level_apart : Tenant → User → Record → Level
+level_apart t u r =
+    greatest (by_owner t u r ∷ in_case (object_of_record t r) Nothing (λ o. by_access o.access) ∷ map (by_grant t u) (rule_grants t r))
 
 -- ---- sharing rules
 

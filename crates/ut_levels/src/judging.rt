@@ -1,15 +1,17 @@
 //! The level on a record.
 
-ghost use Rattle.std.specs.Prelude.{◌≡◌, ℕ, IfOk, Some, map};
+ghost use Rattle.std.specs.Prelude.{◌≡◌, ℕ, IfOk, Some, map, true};
 ghost use Rattle.ut_keyring.specs.Keyrings.{IsMembershipOf, IsUserAmong};
 ghost use Rattle.ut_model.specs.Levels.{greatest, own_level, owns};
 ghost use Rattle.ut_model.specs.Membership.{Has};
 ghost use Rattle.ut_model.specs.Objects.{object_number, object_of_record};
 ghost use Rattle.ut_model.specs.Shares.{shares_of};
 ghost use Rattle.ut_model.specs.Tenant.{Object, Tenant, User};
-ghost use Rattle.ut_levels.specs.Own.{IsOwnLevels, IsSharerOf};
+ghost use Rattle.ut_model.specs.declared.record.Record.{Record};
+ghost use Rattle.ut_levels.specs.Own.{IsOwnLevels, IsSharerOf, level_apart};
 ghost use Rattle.ut_levels.specs.inner.Parts.{by_criterion, by_owner_rule, by_share, rules_on_owner};
 ghost use Rattle.ut_stands.specs.Metadata.{row_of_share};
+ghost use Rattle.ut_value.specs.declared.sharing.Level.TheVariants.{Full};
 
 use crate::knowing::{Criterion, OwnLevels, OwnerRule};
 use crate::levels::greater;
@@ -154,38 +156,46 @@ fn by_owner(
     }
 }
 
-// Whether the record is the user's, or of a user below.
-fn owns(sharer: &Sharer, item: &Record) -> bool
-    ensures { (org : ℕ) (t : Tenant) (u : User) → IsSharerOf org t u sharer.now → result ≡ owns t u item.now }
+/// Whether a record with this owner is the user's, or of a user below. Then the user has it in full.
+pub fn owns(sharer: &Sharer, owner: Option<Id>) -> bool
+    ensures value { (org : ℕ) (t : Tenant) (u : User) (r : Record) → IsSharerOf org t u sharer.now → r.owner ≡ owner → result ≡ owns t u r }
+    ensures full { (org : ℕ) (t : Tenant) (u : User) (r : Record) → IsSharerOf org t u sharer.now → r.owner ≡ owner → result ≡ true
+        → own_level t u r ≡ Full }
 {
-    match &item.owner {
-        Some(owner) => sharer.owns(owner),
+    match owner {
+        Some(owner) => sharer.owns(&owner),
         None => false,
     }
 }
 
-/// The level of the user on a record of the object, by the user's keyring with the people, what is known of the object, and the
-/// record's shares.
+/// The level of the user on a record of the object without its manual shares, by the user's keyring with the people and what is
+/// known of the object. The owner is looked at first.
 ///
 /// # Errors
 ///
 /// Where memory runs out.
-pub fn level_on(
+pub fn level_apart(
     alloc: Global,
     sharer: &Sharer,
     own: &OwnLevels,
     item: &Record,
-    shares: &[ShareRow],
 ) -> Result<Level, AllocError>
     ensures { IfOk result (λ level. (org : ℕ) (t : Tenant) (u : User) (o : Object) → IsSharerOf org t u sharer.now → Has t.records item.now
-        → object_of_record t item.now ≡ Some o → IsOwnLevels t u (object_number item.now.id) o own.now
-        → shares.now ≡ map (row_of_share org) (shares_of item.now.id t.shares) → level ≡ own_level t u item.now) }
+        → object_of_record t item.now ≡ Some o → IsOwnLevels t u (object_number item.now.id) o own.now → level ≡ level_apart t u item.now) }
 {
-    if owns(sharer, item) {
+    if owns(sharer, item.owner) {
         return Ok(Level::Full);
     }
     let by_owner = by_owner(alloc, sharer, own.owners.as_slice(), item)?;
     let by_criteria = by_criteria(alloc, own.criteria.as_slice(), item)?;
-    let by_shares = by_shares(sharer, shares);
-    Ok(greater(own.base, greater(by_owner, greater(by_criteria, by_shares))))
+    Ok(greater(own.base, greater(by_owner, by_criteria)))
+}
+
+/// The level of the user on a record, by the user's keyring with the people, the level without the record's shares, and the rows of
+/// these.
+pub fn level_with(sharer: &Sharer, apart: Level, shares: &[ShareRow]) -> Level
+    ensures { (org its : ℕ) (t : Tenant) (u : User) (r : Record) → IsSharerOf org t u sharer.now → apart ≡ level_apart t u r
+        → shares.now ≡ map (row_of_share its) (shares_of r.id t.shares) → result ≡ own_level t u r }
+{
+    greater(apart, by_shares(sharer, shares))
 }

@@ -49,8 +49,8 @@ pub struct OwnLevels {
     pub owners: Items<OwnerRule>,
 }
 
-// What every user has.
-fn by_access(access: Access) -> Level
+/// What every user has.
+pub(crate) fn by_access(access: Access) -> Level
     ensures { result ≡ by_access access }
 {
     match access {

@@ -10,6 +10,6 @@ mod judging;
 mod knowing;
 mod levels;
 
-pub use crate::judging::level_on;
+pub use crate::judging::{level_apart, level_with, owns};
 pub use crate::knowing::{Criterion, OwnLevels, OwnerRule, own_levels};
-pub use crate::levels::{greater, is_readable_by_all};
+pub use crate::levels::{greater, is_open, is_readable_by_all, is_settled};

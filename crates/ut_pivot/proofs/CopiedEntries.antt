@@ -33,7 +33,7 @@ use Rattle.ut_value.specs.declared.value.Value.{Value}
 -- ---- the cursor
 
 -- either a record was copied, or it is past the cursor
-past_is : (cursor : Option (List ℕ)) (id : List ℕ) → is_past cursor id ≡ not (is_copied phase.Copy cursor id)
+pub past_is : (cursor : Option (List ℕ)) (id : List ℕ) → is_past cursor id ≡ not (is_copied phase.Copy cursor id)
 past_is None id = refl
 past_is (Some c) id = ap is_lt (nat_list_cmp_total.antisymm c id) ∙ by (slice_cmp nat_cmp id c)
   where
@@ -118,7 +118,7 @@ pub same_key : (k : Option (List ℕ)) → option_eq bytes_eq k k ≡ true
 same_key None = refl
 same_key (Some k) = (bytes_eq-Decides k k).1 refl
 
-stays : (org n : ℕ) (id : List ℕ) (e : Option Entry) (s : ℕ) → slot_changes org n id e e s ≡ []
+pub stays : (org n : ℕ) (id : List ℕ) (e : Option Entry) (s : ℕ) → slot_changes org n id e e s ≡ []
 stays org n id e s =
     ap₂ (λ (x y : List Change). x ++ y)
     (turned_nothing (λ k. Index org n s k id) [] (index_key e) (index_key e) (same_key (index_key e)))

@@ -8,6 +8,7 @@ pub mod NewRecord
 pub mod RemovedRecord
 pub mod RemovedValues
 pub mod SlotEntries
+pub mod Stepped
 pub mod Turned
 pub mod TurnedRecord
 pub mod TurnedValues

@@ -18,7 +18,7 @@ use Rattle.ut_model.specs.Sound.{IsSound}
 use Rattle.ut_model.specs.SoundJob.{IsSoundChange, IsSoundJob, is_switched, job_field}
 use Rattle.ut_model.specs.Tenant.{Field, Job, Object, Tenant}
 use Rattle.ut_model.specs.Updates.{is_copied}
-use Rattle.ut_pivot.specs.Changed.{record_changes, slot_changes}
+use Rattle.ut_pivot.specs.Changed.{SameKeys, record_changes, slot_changes}
 use Rattle.ut_pivot.specs.Made.{entry_of}
 use Rattle.ut_pivot.specs.Removed.{beside_entry, beside_of, beside_there, beside_value, is_left, left_value, removed_changes, removed_entry, text_value, values_removed}
 use Rattle.ut_pivot.specs.Turned.{copied_value}
@@ -29,7 +29,7 @@ use Rattle.ut_pivot.proofs.NewRecord.{flat_same, kept_is}
 use Rattle.ut_pivot.proofs.RemovedValues.{keys_go}
 use Rattle.ut_pivot.proofs.SlotEntries.{found_same}
 use Rattle.ut_pivot.proofs.TurnedRecord.{beside_is, text_there}
-use Rattle.ut_pivot.proofs.TurnedValues.{SameKeys, null_keys}
+use Rattle.ut_pivot.proofs.TurnedValues.{null_keys}
 use Rattle.ut_stands.specs.Changes.{Change}
 use Rattle.ut_stands.specs.Entries.{Entry, data_of, entry_text, field_entry, job_entry, job_value, other_entry, slot_entry, slot_field, slot_text}
 use Rattle.ut_stands.specs.Layouts.{job_place, layout_of, place_of}
@@ -178,7 +178,7 @@ module _ (prints : PrintsBack) (org n : ℕ) (p : OrgPlan) (t : Tenant) (o : Obj
   abbrev beside : Job → Phase → Option Value
   beside j ph = cond (is_left ph j.cursor r.id) (left_value (job_place p j) kept) (copied_value (job_place p j) r)
 
-  beside_keys : (j : Job) (f : Field) → t.job ≡ Some j → eqb j.object n ≡ true → slot_field p n o.fields p.other ≡ None → slice_get o.fields j.field ≡ Some f
+  pub beside_keys : (j : Job) (f : Field) → t.job ≡ Some j → eqb j.object n ≡ true → slot_field p n o.fields p.other ≡ None → slice_get o.fields j.field ≡ Some f
       → SameKeys (mapped j f (beside_value (job_place p j) kept r)) (mapped j f (job_value p j j.phase r))
   beside_keys j f e at none there = by j.phase refl
     where

@@ -12,11 +12,11 @@ use Rattle.ut_keys.specs.declared.data.DataRow.{DataRow}
 use Rattle.ut_keys.specs.Keys.{Data, FitsKey}
 use Rattle.ut_model.specs.Cases.{in_case}
 use Rattle.ut_model.specs.declared.record.Record.{Record}
-use Rattle.ut_pivot.specs.Changed.{slot_changes}
+use Rattle.ut_pivot.specs.Changed.{SameKeys, slot_changes}
 use Rattle.ut_pivot.specs.Made.{entry_of, layout_entry}
 use Rattle.ut_pivot.specs.Removed.{beside_entry, beside_of, beside_there, beside_value, removed_changes, removed_entry, values_removed}
 use Rattle.ut_pivot.proofs.Turned.{all_both, append_nothing, then_these}
-use Rattle.ut_pivot.proofs.TurnedValues.{SameKeys, copied_keys, given, given_keys, keys_turn}
+use Rattle.ut_pivot.proofs.TurnedValues.{copied_keys, given, given_keys, keys_turn}
 use Rattle.ut_pivot.proofs.Values.{AllFit, entry_is, slots_more}
 use Rattle.ut_stands.specs.Changes.{Change}
 use Rattle.ut_stands.specs.Entries.{Entry}

@@ -24,7 +24,7 @@ found_same p n s k (f ∷ fs) =
     (λ _. refl)
     (λ _. found_same p n s (k + 1) fs)
 
-entry_none : (p : OrgPlan) (j : Job) (r : Record) → job_value p j j.phase r ≡ None → (x : Option Field) → option_and_then (job_entry p j r) x ≡ None
+pub entry_none : (p : OrgPlan) (j : Job) (r : Record) → job_value p j j.phase r ≡ None → (x : Option Field) → option_and_then (job_entry p j r) x ≡ None
 entry_none p j r e None = refl
 entry_none p j r e (Some f) = rw e refl
 

@@ -59,14 +59,14 @@ text_beside l r a b same s lt = by (field_of_slot l.fields s) refl
     by None e = same s lt e
     by (Some f) e = refl
 
-row_beside : (l : Layout) (r : Record) (a b : DataRow) → SameBeside l a b → row_from l r (Some a) ≡ row_from l r (Some b)
+pub row_beside : (l : Layout) (r : Record) (a b : DataRow) → SameBeside l a b → row_from l r (Some a) ≡ row_from l r (Some b)
 unfolding texts_of_slots
 row_beside l r a b same =
     rw (same_below (text_of_slot l r (Some a)) (text_of_slot l r (Some b)) 0 slot_count (λ s lt. text_beside l r a b same s (omega (arith, lt)))) refl
 
 -- ---- what the rows that tables have hold in slots of no field
 
-no_field : (org n : ℕ) (p : OrgPlan) (t : Tenant) (o : Object) (s : ℕ) → field_of_slot (layout_of org p t (record { number = n; object = o })).fields s ≡ None → slot_field p n o.fields s ≡ None
+pub no_field : (org n : ℕ) (p : OrgPlan) (t : Tenant) (o : Object) (s : ℕ) → field_of_slot (layout_of org p t (record { number = n; object = o })).fields s ≡ None → slot_field p n o.fields s ≡ None
 no_field org n p t o s e = by (slot_field p n o.fields s) (sym (number_same p n s 0 o.fields) ∙ e)
   where
     by : (x : Option (ℕ × Field)) → option_map (λ (f : ℕ × Field). f.0) x ≡ None → x ≡ None

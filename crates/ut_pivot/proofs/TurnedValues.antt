@@ -17,7 +17,7 @@ use Rattle.ut_keys.specs.Rows.{data_form}
 use Rattle.ut_model.specs.Cases.{in_case}
 use Rattle.ut_model.specs.SoundRecords.{all_valid}
 use Rattle.ut_model.specs.declared.record.Record.{Record}
-use Rattle.ut_pivot.specs.Changed.{index_key, reference_key, row_turned, slot_changes, unique_key}
+use Rattle.ut_pivot.specs.Changed.{SameKeys, index_key, reference_key, row_turned, slot_changes, unique_key}
 use Rattle.ut_pivot.specs.Made.{entry_of, layout_entry}
 use Rattle.ut_pivot.specs.Turned.{converts, converts_to, copied_entry, copied_of, copied_there, copied_value, turned_changes, turned_entry, turned_row, values_turned}
 use Rattle.ut_pivot.proofs.Cases.{and_right, some_is}
@@ -51,11 +51,6 @@ value_missing (x ∷ vs) zero e = absurd cc
 value_missing (x ∷ vs) (suc i) e = value_missing vs i e
 
 -- what an entry is found by
-pub record SameKeys (e f : Option Entry) : Type 0 where
-  pub index : index_key e ≡ index_key f
-  pub unique : unique_key e ≡ unique_key f
-  pub reference : reference_key e ≡ reference_key f
-
 pub null_keys : (kind : FieldType) (indexed unique : Bool) → SameKeys None (Some (record { kind = kind; value = value.Null; indexed = indexed; unique = unique }))
 null_keys kind true true = record { index = refl; unique = refl; reference = refl }
 null_keys kind true false = record { index = refl; unique = refl; reference = refl }

@@ -29,6 +29,12 @@ unique_key e = option_and_then (λ x. if x.unique && not (is_null x.value) then 
 abbrev pub reference_key : Option Entry → Option (List ℕ)
 reference_key e = option_and_then (λ x. ref_of x.value) e
 
+-- both are found by the same
+pub record SameKeys (e f : Option Entry) : Type 0 where
+  pub index : index_key e ≡ index_key f
+  pub unique : unique_key e ≡ unique_key f
+  pub reference : reference_key e ≡ reference_key f
+
 -- it is found by this
 abbrev pub is_at : Option (List ℕ) → List ℕ → Bool
 is_at None k = false

@@ -89,8 +89,13 @@ fn with_text(
     })
 }
 
-// The new row of a record, over the one that is kept.
-fn turned_row(
+/// The new row of a record, over the one that is kept: the texts of its fields in their slots, and in the slot of a change of a type
+/// what that has copied, if it has come to the record. The other slots hold what `kept` has there.
+///
+/// # Errors
+///
+/// If out of memory.
+pub fn turned_row(
     alloc: Global,
     layout: &Layout,
     kept: &DataRow,

@@ -1,17 +1,19 @@
-ghost use Rattle.std.specs.Prelude.{◌≡◌, ◌⊎◌, ◌≤◌, ℕ, IsTrue, List, None, Option, Some, length, map};
+ghost use Rattle.std.specs.Prelude.{◌≡◌, ◌⊎◌, ◌≤◌, ℕ, [], IsTrue, List, None, Option, Some, false, length, map};
 ghost use Rattle.std.specs.List.{list_all};
+ghost use Rattle.ut_data.specs.Encoding.{row_from};
 ghost use Rattle.ut_edits.specs.Rows.{gone_of, spelled};
 ghost use Rattle.ut_formula.specs.Meaning.{value_at};
 ghost use Rattle.ut_keys.specs.declared.data.DataRow.{DataRow};
 ghost use Rattle.ut_model.specs.declared.record.Record.{Record};
+ghost use Rattle.ut_model.specs.Jobs.{is_past};
 ghost use Rattle.ut_model.specs.Objects.{is_of, object_numbered, record_at};
 ghost use Rattle.ut_model.specs.Sound.{IsSound};
 ghost use Rattle.ut_model.specs.Tenant.{Job, Object, Tenant};
-ghost use Rattle.ut_pivot.specs.Changed.{record_changes, slot_changes};
+ghost use Rattle.ut_pivot.specs.Changed.{SameKeys, record_changes, slot_changes};
 ghost use Rattle.ut_pivot.specs.Made.{made_changes};
-ghost use Rattle.ut_pivot.specs.Removed.{removed_changes};
-ghost use Rattle.ut_pivot.specs.Turned.{converts, turned_changes};
-ghost use Rattle.ut_stands.specs.Entries.{Entry, data_of, job_value, slot_entry};
+ghost use Rattle.ut_pivot.specs.Removed.{beside_entry, removed_changes};
+ghost use Rattle.ut_pivot.specs.Turned.{converts, turned_changes, turned_row};
+ghost use Rattle.ut_stands.specs.Entries.{Entry, data_of, job_value, slot_entry, slot_field};
 ghost use Rattle.ut_stands.specs.Layouts.{layout_of};
 ghost use Rattle.ut_stands.specs.Plan.{FitsPlan, OrgPlan};
 ghost use Rattle.ut_stands.specs.Stands.{kept_at};
@@ -73,6 +75,30 @@ pub fn pivot_laws()
         → length (slot_changes org object id old new slot) ≤ 6 }
     ensures slot_gone { (org object : ℕ) (id : List ℕ) (old new : Option Entry) (slot : ℕ)
         → gone_of (map spelled (slot_changes org object id old new slot)) ≡ 0 }
+
+    // And there are none where a slot keeps what it has.
+    ensures slot_same { (org object : ℕ) (id : List ℕ) (entry : Option Entry) (slot : ℕ)
+        → slot_changes org object id entry entry slot ≡ [] }
+
+    // What a change of a type has of a record, as the layout and the row that is kept tell it, is found by the same as what is in
+    // the change's slot.
+    ensures beside { (org n : ℕ) (p : OrgPlan) (t : Tenant) (o : Object) (r : Record) (j : Job)
+        → IsSound t → FitsPlan p t → t.job ≡ Some j → j.object ≡ n → object_numbered t n ≡ Some o
+        → slot_field p n o.fields p.other ≡ None
+        → SameKeys (beside_entry (layout_of org p t (record { number = n; object = o })) (data_of org n r (slot_entry p t.job n o r)) r p.other)
+        (slot_entry p t.job n o r p.other) }
+
+    // Once the change has come to the record it is just that, whatever row was kept.
+    ensures come_entry { (org n : ℕ) (p : OrgPlan) (t : Tenant) (o : Object) (r : Record) (j : Job) (kept : DataRow)
+        → t.job ≡ Some j → j.object ≡ n → is_past j.cursor r.id ≡ false → slot_field p n o.fields p.other ≡ None
+        → beside_entry (layout_of org p t (record { number = n; object = o })) kept r p.other ≡ slot_entry p t.job n o r p.other }
+
+    // And the row that is made of it anew, with what the change has copied, is the one that tables have of it.
+    ensures come_row { (org n : ℕ) (p : OrgPlan) (t : Tenant) (o : Object) (r : Record) (j : Job)
+        → t.job ≡ Some j → j.object ≡ n → is_past j.cursor r.id ≡ false → IsTrue (list_all is_printable r.values)
+        → turned_row (layout_of org p t (record { number = n; object = o }))
+        (row_from (layout_of org p t (record { number = n; object = o })) r None) r
+        ≡ data_of org n r (slot_entry p t.job n o r) }
 {
     data_laws();
     value_laws();

@@ -14,10 +14,10 @@ mod rows;
 mod slot;
 mod turning;
 
-pub use crate::changed::changed_record_changes;
+pub use crate::changed::{changed_record_changes, turned_row};
 pub use crate::copied::{converts, copied_value, is_copied};
 pub use crate::laws::pivot_laws;
 pub use crate::made::new_record_changes;
-pub use crate::removed::removed_record_changes;
+pub use crate::removed::{beside_value, removed_record_changes};
 pub use crate::slot::RecordSlot;
 pub use crate::turning::turn_value;

@@ -65,8 +65,13 @@ fn left_value(alloc: Global, job: &JobPlace, kept: &DataRow) -> Result<Option<Va
     }
 }
 
-// What a change has of a record.
-fn beside_value(
+/// What a change has of a record beside its fields: what it has copied, or what it has left and not yet cleared. `kept` is the row that
+/// the record has, and `item` what it spells.
+///
+/// # Errors
+///
+/// If out of memory.
+pub fn beside_value(
     alloc: Global,
     job: &JobPlace,
     field: &FieldPlace,

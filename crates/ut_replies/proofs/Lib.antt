@@ -3,3 +3,4 @@ pub mod Lists
 pub mod Spelled
 pub mod Found
 pub mod Bodies
+mod Changing

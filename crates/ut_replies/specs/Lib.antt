@@ -1,4 +1,5 @@
 pub mod Names
 pub mod Rows
+pub mod States
 pub mod Written
 pub mod inner

@@ -1,2 +1,3 @@
 -- Words of private functions' contracts alone.
 pub mod Parts
+pub mod States

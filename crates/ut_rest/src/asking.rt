@@ -28,7 +28,7 @@ use ut_admin::moment;
 use ut_answers::{answer_flat, refuse};
 use ut_bind::is_flat;
 use ut_grammar::ParseFail;
-use ut_grants::{UserRights, sight_of, user_rights};
+use ut_grants::{Everyone, UserRights, all_may_read, sight_of, user_rights};
 use ut_keeper::{Draft, Keeper, draft_laws};
 use ut_keys::StoreFail;
 use ut_model::{Caller, Refusal, Reply, object_laws};
@@ -73,7 +73,8 @@ fn answer_user<K: Keeper>(
     }
 }
 
-// Answers a caller who asks for records of an object, by what the caller sees of them.
+// Answers a caller who asks for records of an object, by what the caller sees of them. People and rules are read only where they
+// matter.
 fn answer_object<K: Keeper>(
     alloc: Global,
     draft: &mut Draft<'_, K>,
@@ -92,6 +93,9 @@ fn answer_object<K: Keeper>(
     call_laws::<K>();
     if caller.admin {
         return answer_flat(alloc, draft, layout, &Administrator, now, query);
+    }
+    if all_may_read(layout) {
+        return answer_flat(alloc, draft, layout, &Everyone, now, query);
     }
     match user_rights(alloc, draft, layout.org, &caller.user) {
         Ok(rights) => answer_user(alloc, draft, &rights, layout, now, query),

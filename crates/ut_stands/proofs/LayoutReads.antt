@@ -22,8 +22,8 @@ use Rattle.ut_model.specs.Fields.{same_name}
 use Rattle.ut_model.specs.Objects.{Numbered, object_named, object_numbered}
 use Rattle.ut_model.specs.Tenant as model
 use Rattle.ut_model.specs.Tenant.{Tenant}
-use Rattle.ut_stands.specs.inner.LayoutRows.{ListsIn, change_row, field_rows, job_of_row, layout_by, layout_by_found, layouts_by, object_rows, place_of_row, places_in, row_named}
-use Rattle.ut_stands.specs.Layouts.{job_on, layout_of, own_layout, own_layout_named, own_layouts, place_of}
+use Rattle.ut_stands.specs.inner.LayoutRows.{ListsIn, field_rows, job_of_row, layout_by, layout_by_found, layouts_by, object_rows, place_of_row, places_in, row_named}
+use Rattle.ut_stands.specs.Layouts.{job_on, layout_of, own_change_row, own_layout, own_layout_named, own_layouts, place_of}
 use Rattle.ut_stands.specs.Local.{FindsIn, StandsIn, is_place_of, part_of, rows_alone}
 use Rattle.ut_stands.specs.Metadata.{field_of, job_of, row_of_object}
 use Rattle.ut_stands.specs.Plan.{OrgPlan}
@@ -128,13 +128,13 @@ places_found org n m rows places is h = λ q t s. is ∙ ap (map place_of_row) (
 
 -- ---- changes
 
-pub change_is : (org : ℕ) (q : OrgPlan) (t : Option Tenant) → option_and_then (job_there org q) t ≡ change_row org q t
-unfolding change_row
+pub change_is : (org : ℕ) (q : OrgPlan) (t : Option Tenant) → option_and_then (job_there org q) t ≡ own_change_row org q t
+unfolding own_change_row
 change_is org q None = refl
 change_is org q (Some t) = refl
 
-job_is : (org n : ℕ) (q : OrgPlan) (t : Tenant) → option_and_then (job_of_row n) (change_row org q (Some t)) ≡ job_on q t n
-unfolding change_row
+job_is : (org n : ℕ) (q : OrgPlan) (t : Tenant) → option_and_then (job_of_row n) (own_change_row org q (Some t)) ≡ job_on q t n
+unfolding own_change_row
 job_is org n q t = of_job t.job
   where
     of_job : (j : Option model.Job) → option_and_then (job_of_row n) (option_map (job_of org q) j) ≡ option_and_then (λ (j : model.Job). cond (eqb j.object n) (Some (record { field = j.field; kind = (job_of org q j).kind; twin = q.other; phase = j.phase; cursor = j.cursor })) None) j
@@ -144,7 +144,7 @@ job_is org n q t = of_job t.job
 -- ---- layouts
 
 -- the layout of an object by its row and that of the change
-by_row : (org : ℕ) (q : OrgPlan) (t : Tenant) (n : ℕ) (o : model.Object) → object_numbered t n ≡ Some o → layout_by org (row_of_object org t n o) (change_row org q (Some t)) q (Some t) ≡ layout_of org q t (record { number = n; object = o })
+by_row : (org : ℕ) (q : OrgPlan) (t : Tenant) (n : ℕ) (o : model.Object) → object_numbered t n ≡ Some o → layout_by org (row_of_object org t n o) (own_change_row org q (Some t)) q (Some t) ≡ layout_of org q t (record { number = n; object = o })
 unfolding places_in
 by_row org q t n o g =
     let fields : in_case (object_numbered t n) [] (λ o. map (place_of q n) (enumerate_from 0 o.fields)) ≡ map (place_of q n) (enumerate_from 0 o.fields) =
@@ -159,11 +159,11 @@ layout_found org r change m places job h is = λ q t s.
     let fields = h q t s in
     λ i. record { org = org; object = r.object; name = r.name; access = r.access.access; fields = fields i; job = is i }
 
-pub one_found : (org : ℕ) (r : ObjectRow) (change : Option JobRow) (m : Tables) (l : Layout) → FindsIn org (change_row org) m (Ok change) → FindsIn org (layout_by org r change) m (Ok l) → FindsIn org (layout_by_found org (Some r)) m (Ok (Some l))
+pub one_found : (org : ℕ) (r : ObjectRow) (change : Option JobRow) (m : Tables) (l : Layout) → FindsIn org (own_change_row org) m (Ok change) → FindsIn org (layout_by org r change) m (Ok l) → FindsIn org (layout_by_found org (Some r)) m (Ok (Some l))
 one_found org r change m l h g = λ q t s. ap Some (g q t s ∙ ap (λ (x : Option JobRow). layout_by org r x q t) (h q t s))
 
 abbrev layout_in : ℕ → OrgPlan → Option Tenant → ObjectRow → Layout
-layout_in org q t r = layout_by org r (change_row org q t) q t
+layout_in org q t r = layout_by org r (own_change_row org q t) q t
 
 layout_at_is : (org n : ℕ) (q : OrgPlan) (t : Option Tenant) → option_map (layout_in org q t) (option_and_then (object_there org n q) t) ≡ own_layout org n q t
 unfolding own_layout
@@ -241,7 +241,7 @@ layouts_are org q None = refl
 layouts_are org q (Some t) = all_from org q t 0 t.objects (are_all org q t)
 
 pub layouts_found : (org : ℕ) (m : Tables) (rows : List ObjectRow) (change : Option JobRow) (r : Result (List Layout) StoreFail)
-    → ((q : OrgPlan) (t : Option Tenant) → StandsIn org q m t → rows ≡ object_rows org q t) → FindsIn org (change_row org) m (Ok change) → FindsIn org (layouts_by org rows change) m r → FindsIn org (own_layouts org) m r
+    → ((q : OrgPlan) (t : Option Tenant) → StandsIn org q m t → rows ≡ object_rows org q t) → FindsIn org (own_change_row org) m (Ok change) → FindsIn org (layouts_by org rows change) m r → FindsIn org (own_layouts org) m r
 layouts_found org m rows change r h k g =
     again_in org (layouts_by org rows change) (own_layouts org) m r
     (λ q t s. ap (λ (x : Option JobRow). layouts_by org rows x q t) (k q t s) ∙ ap (map (layout_in org q t)) (h q t s) ∙ layouts_are org q t) g

@@ -6,6 +6,7 @@ use Rattle.std.specs.List.{enumerate_from}
 use Rattle.std.specs.Option.{option_and_then, option_map}
 use Rattle.ut_keeper.specs.Tables.{Tables}
 use Rattle.ut_keys.specs.declared.fail.StoreFail.{StoreFail}
+use Rattle.ut_keys.specs.declared.job.JobRow.{JobRow}
 use Rattle.ut_keys.specs.declared.object.ObjectRow.{ObjectRow}
 use Rattle.ut_keys.specs.declared.org.OrgRow.{OrgRow}
 use Rattle.ut_keys.specs.declared.validation.ValidationRow.{ValidationRow}
@@ -19,7 +20,7 @@ use Rattle.ut_stands.specs.declared.layout.FieldPlace.{FieldPlace}
 use Rattle.ut_stands.specs.declared.layout.JobPlace.{JobPlace}
 use Rattle.ut_stands.specs.declared.layout.Layout.{Layout}
 use Rattle.ut_stands.specs.Local.{StandsIn}
-use Rattle.ut_stands.specs.Metadata.{named_so, org_of, row_of_object, validation_of}
+use Rattle.ut_stands.specs.Metadata.{job_of, named_so, org_of, row_of_object, validation_of}
 use Rattle.ut_stands.specs.Plan.{OrgPlan, type_there}
 
 -- ---- layouts
@@ -78,6 +79,10 @@ own_row org q t = option_map (org_of org) t
 
 abbrev pub own_object_row : (org object : ℕ) → OrgPlan → Option Tenant → Option ObjectRow
 own_object_row org n q t = option_and_then (λ u. option_map (row_of_object org u n) (object_numbered u n)) t
+
+-- the row of its change of a field's type
+unfoldable pub own_change_row : (org : ℕ) → OrgPlan → Option Tenant → Option JobRow
+own_change_row org q t = option_and_then (λ u. option_map (job_of org q) u.job) t
 
 -- the row of the validation rule of an object that has this name in lower case
 abbrev pub own_rule_row : (org object : ℕ) → (lower_name : List ℕ) → OrgPlan → Option Tenant → Option ValidationRow

@@ -5,8 +5,8 @@ ghost use Rattle.std.specs.Option.{option_and_then};
 ghost use Rattle.std.specs.Str.{chars};
 ghost use Rattle.ut_keeper.specs.Draft.{DraftTells, tables_of};
 ghost use Rattle.ut_stands.specs.Calls.{Calls, ended};
-ghost use Rattle.ut_stands.specs.inner.LayoutRows.{ListsIn, change_row, job_of_row, layout_by, layout_by_found, layouts_by, object_rows, place_of_row, places_in, row_named};
-ghost use Rattle.ut_stands.specs.Layouts.{own_layout, own_layout_named, own_layouts};
+ghost use Rattle.ut_stands.specs.inner.LayoutRows.{ListsIn, job_of_row, layout_by, layout_by_found, layouts_by, object_rows, place_of_row, places_in, row_named};
+ghost use Rattle.ut_stands.specs.Layouts.{own_change_row, own_layout, own_layout_named, own_layouts};
 ghost use Rattle.ut_stands.specs.Local.{FindsIn};
 
 use crate::calls::call_laws;
@@ -64,14 +64,19 @@ fn fields_of<K: Keeper>(
     Ok(places_of(alloc, rows)?)
 }
 
-// The row of the change of a field's type, if one is made.
-fn change_row<K: Keeper>(
+/// The row of the change of a field's type, if the organisation ever made one.
+///
+/// # Errors
+///
+/// `Keeper` if the keeper failed, `Memory` if out of memory, `Damaged` never if the organisation's rows stand for a tenant or
+/// for none.
+pub fn change_row<K: Keeper>(
     alloc: Global,
     draft: &mut Draft<'_, K>,
     org: u32,
 ) -> Result<Option<JobRow>, StoreFail>
     ensures finds { DraftTells K.state draft.old draft.new
-        → FindsIn org (change_row org) (tables_of K.state draft.old) result }
+        → FindsIn org (own_change_row org) (tables_of K.state draft.old) result }
     ensures calls { Calls K.state 0 (ended result) draft.old draft.new }
 {
     key_laws();

@@ -24,7 +24,7 @@ pub use crate::fail::{EditFail, OpenFail};
 pub use crate::judged::Judged;
 pub use crate::laws::{change_rows, stands_laws, stands_rows};
 pub use crate::layout::{FieldPlace, JobPlace, Layout};
-pub use crate::layout_reads::{layout_at, layout_named, layouts};
+pub use crate::layout_reads::{change_row, layout_at, layout_named, layouts};
 pub use crate::local::local_laws;
 pub use crate::opening::{KNOWN_VERSION, open_tables};
 pub use crate::reads::user;

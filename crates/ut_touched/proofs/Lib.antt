@@ -10,3 +10,4 @@ pub mod Plans
 pub mod Single
 pub mod Keeping
 pub mod Deleting
+pub mod Unmoved

@@ -16,12 +16,11 @@ use Rattle.ut_stands.specs.Entries.{is_indexed, is_reference_to, is_unique, slot
 use Rattle.ut_stands.specs.Plan.{OrgPlan, slot_count}
 use Rattle.ut_stands.specs.Stands.{kept_at, org_of_key, row_in, unique_of}
 use Rattle.ut_touched.proofs.Records.{entry_of_kept, has_kept, is_found, kept_has, kept_is, no_kept, none_found}
-use Rattle.ut_touched.proofs.Same.{objects_same}
 use Rattle.ut_touched.proofs.Touching.{where_is}
 use Rattle.ut_touched.proofs.Turned.{all_append, all_flat, clash, indexed_at, reference_at, same_itself, turned_are, unique_is_at}
-use Rattle.ut_touched.specs.Touched.{HasSoundRows, IsTouched, NoneTakes, changes_at, has, touched_changes}
+use Rattle.ut_touched.specs.Touched.{HasSoundRows, IsAlike, NoneTakes, changes_at, has, touched_changes}
 
-module _ (org : ℕ) (p q : OrgPlan) (t u : Tenant) (ids : List (List ℕ)) (is : IsTouched p q t u ids) (kept_t : HasSoundRows p t) (kept_u : HasSoundRows q u) (none_takes : NoneTakes p q t u ids) where
+module _ (org : ℕ) (p q : OrgPlan) (t u : Tenant) (ids : List (List ℕ)) (is : IsAlike p q t u ids) (kept_t : HasSoundRows p t) (kept_u : HasSoundRows q u) (none_takes : NoneTakes p q t u ids) where
   abbrev P : Change → Type 0
   P c = (org_of_key c.0 ≡ Some org) × (row_in q u c.0 ≡ c.1)
 
@@ -34,7 +33,7 @@ module _ (org : ℕ) (p q : OrgPlan) (t u : Tenant) (ids : List (List ℕ)) (is 
   reference_row n s i k = where_is (is_reference_to k) refl s (kept_at q u n i) ∙ ap (λ b. cond {A = Option (List ℕ)} b (Some []) None) (reference_at k (kept_entry (kept_at q u n i) s))
 
   there : (n : ℕ) (x : Option model.Object) → object_numbered t n ≡ x → object_numbered u n ≡ x
-  there n x here = ap (λ (os : List model.Object). slice_get os n) (objects_same p q t u ids is) ∙ here
+  there n x here = ap (λ (os : List model.Object). slice_get os n) is.objects ∙ here
 
   -- the unique row of a key that a touched record had, or has
   holder_row : (n : ℕ) (o : model.Object) (s : ℕ) (i k : List ℕ) → has ids i ≡ true → object_numbered t n ≡ Some o
@@ -117,6 +116,9 @@ module _ (org : ℕ) (p q : OrgPlan) (t u : Tenant) (ids : List (List ℕ)) (is 
   with_keys [] a b = tt
   with_keys (c ∷ cs) a b = ((a.0, b.0.0, b.0.1), with_keys cs a.1 b.1)
 
+  pub touched_puts : AllByRecursion (λ c. FitsKey c.0) (touched_changes org p q t u ids) → AllByRecursion (IsOf org q u) (touched_changes org p q t u ids)
+  touched_puts keys = with_keys (touched_changes org p q t u ids) keys (puts ids (λ i h. h))
+
   pub all_puts : (counts : List Change) → AllByRecursion (IsOf org q u) counts → AllByRecursion (λ c. FitsKey c.0) (touched_changes org p q t u ids)
       → AllByRecursion (IsOf org q u) (counts ++ touched_changes org p q t u ids)
-  all_puts counts of keys = all_append (IsOf org q u) counts (touched_changes org p q t u ids) of (with_keys (touched_changes org p q t u ids) keys (puts ids (λ i h. h)))
+  all_puts counts of keys = all_append (IsOf org q u) counts (touched_changes org p q t u ids) of (touched_puts keys)

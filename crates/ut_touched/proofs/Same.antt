@@ -19,7 +19,7 @@ use Rattle.ut_stands.specs.Plan.{OrgPlan, slot_count, slot_type}
 use Rattle.ut_stands.specs.Stands.{Kept, kept_at, kept_in, row_in, row_where}
 use Rattle.ut_touched.proofs.Records.{named}
 use Rattle.ut_touched.proofs.Turned.{pick}
-use Rattle.ut_touched.specs.Touched.{IsTouched, has, with_content, with_left}
+use Rattle.ut_touched.specs.Touched.{IsAlike, IsTouched, SameKept, has, with_content, with_left}
 use Rattle.ut_value.specs.declared.job.Outcome.{Outcome}
 use Rattle.ut_value.specs.declared.job.Outcome.TheVariants as outcome
 use Rattle.ut_value.specs.declared.job.Phase.{Phase}
@@ -60,12 +60,7 @@ module _ (p : OrgPlan) (left : List ℕ → Option Value) where
   unfolding slot_entry
   entry_same job n o y s e = ap (λ x. in_case (slot_field p n o.fields s) x (λ f. Some (field_entry y f))) (other_same job n o y s e)
 
--- ---- two records, or none, that are the same in all slots
-
-abbrev pub SameKept : Option Kept → Option Kept → Type 0
-SameKept None None = Unit {0}
-SameKept (Some k) (Some l) = (k.item ≡ l.item) × ((s : ℕ) → k.entries s ≡ l.entries s)
-SameKept _ _ = ⊥
+-- ---- two records, or none, that are kept alike
 
 pub entries_same : (a b : Option Kept) (s : ℕ) → SameKept a b → kept_entry a s ≡ kept_entry b s
 entries_same None None s h = refl
@@ -178,3 +173,6 @@ module _ (p q : OrgPlan) (t u : Tenant) (ids : List (List ℕ)) (is : IsTouched 
       subst (λ (w : OrgPlan). row_in w u k ≡ row_in p t k) (sym is.plan)
       (subst (λ (v : Tenant). row_in (with_left q.left p) v k ≡ row_in p t k) (sym is.content)
       (steady_row p q.left t u.counter u.records u.shares k h))
+
+  pub alike : IsAlike p q t u ids
+  alike = record { objects = objects_same; others = other }

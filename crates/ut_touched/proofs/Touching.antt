@@ -15,9 +15,9 @@ use Rattle.ut_stands.specs.Entries.{Entry, is_indexed, is_reference_to}
 use Rattle.ut_stands.specs.Plan.{OrgPlan, slot_count}
 use Rattle.ut_stands.specs.Stands.{Kept, kept_at, kept_in, row_in, row_where}
 use Rattle.ut_pivot.specs.Changed.{data_row, index_key, kept_entry, record_changes, reference_key, slot_changes, row_turned, unique_key}
-use Rattle.ut_touched.proofs.Same.{data_same, other, where_same}
+use Rattle.ut_touched.proofs.Same.{data_same, where_same}
 use Rattle.ut_touched.proofs.Turned.{EqualKeys, clash, flat_unchanged, in_range, indexed_at, left_unchanged, or_left_false, or_right_false, pick, reference_at, right_unchanged, same_exact, turned_rest}
-use Rattle.ut_touched.specs.Touched.{AllLow, IsTouched, changes_at, has, touched_changes}
+use Rattle.ut_touched.specs.Touched.{AllLow, IsAlike, changes_at, has, touched_changes}
 
 -- what isn't changed isn't where one of the ids is touched
 at_one : (f : List ℕ → List Change) (k : Key) (ids : List (List ℕ)) (i : List ℕ) → is_changed (flat_map f ids) k ≡ false → has ids i ≡ true → is_changed (f i) k ≡ false
@@ -45,7 +45,7 @@ elsewhere p v n i e = by v.records
         (λ g. ap (λ b. cond b (option_map (λ o. kept_in p v n o r) (object_numbered v n)) None) (ap (λ x. eqb (object_number x) n) (sym (same_exact i r.id g)) ∙ e))
         (λ _. by rs)
 
-module _ (equal : EqualKeys) (org : ℕ) (p q : OrgPlan) (t u : Tenant) (ids : List (List ℕ)) (is : IsTouched p q t u ids) (low_t : AllLow p t) (low_u : AllLow q u) where
+module _ (equal : EqualKeys) (org : ℕ) (p q : OrgPlan) (t u : Tenant) (ids : List (List ℕ)) (is : IsAlike p q t u ids) (low_t : AllLow p t) (low_u : AllLow q u) where
   -- what is unchanged in a slot of a touched record
   pub unchanged_slot : (i : List ℕ) (k : Key) → has ids i ≡ true → is_changed (touched_changes org p q t u ids) k ≡ false → (s : ℕ) → s < slot_count
       → is_changed (slot_changes org (object_number i) i (kept_entry (kept_at p t (object_number i) i) s) (kept_entry (kept_at q u (object_number i) i) s) s) k ≡ false
@@ -110,7 +110,7 @@ module _ (equal : EqualKeys) (org : ℕ) (p q : OrgPlan) (t u : Tenant) (ids : L
       ∙ ap (λ b. cond {A = Option (List ℕ)} b (Some []) None) (sym (same h (eqb-true (object_number i) m g)))
       ∙ sym (where_is f none s (kept_at p t m i)))
       (λ g. ap (row_where f s) (elsewhere q u m i g) ∙ sym (ap (row_where f s) (elsewhere p t m i g))))
-      (λ h. where_same f s (kept_at q u m i) (kept_at p t m i) (other p q t u ids is m i h))
+      (λ h. where_same f s (kept_at q u m i) (kept_at p t m i) (is.others m i h))
 
   pub data_rest : (m : ℕ) (i : List ℕ) → is_changed (touched_changes org p q t u ids) (Data org m i) ≡ false → row_in q u (Data org m i) ≡ row_in p t (Data org m i)
   unfolding row_in
@@ -119,7 +119,7 @@ module _ (equal : EqualKeys) (org : ℕ) (p q : OrgPlan) (t u : Tenant) (ids : L
       (λ h. pick (eqb (object_number i) m) (λ b. data_row org m (kept_at q u m i) ≡ data_row org m (kept_at p t m i))
       (λ g. absurd (unchanged_data i h (subst (λ (n : ℕ). is_changed (touched_changes org p q t u ids) (Data org n i) ≡ false) (sym (eqb-true (object_number i) m g)) e)))
       (λ g. ap (data_row org m) (elsewhere q u m i g) ∙ sym (ap (data_row org m) (elsewhere p t m i g))))
-      (λ h. data_same org m (kept_at q u m i) (kept_at p t m i) (other p q t u ids is m i h))
+      (λ h. data_same org m (kept_at q u m i) (kept_at p t m i) (is.others m i h))
 
   pub index_rest : (m s : ℕ) (key i : List ℕ) → is_changed (touched_changes org p q t u ids) (Index org m s key i) ≡ false
       → row_in q u (Index org m s key i) ≡ row_in p t (Index org m s key i)

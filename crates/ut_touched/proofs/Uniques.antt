@@ -18,12 +18,12 @@ use Rattle.ut_stands.specs.Entries.{is_unique, slot_entry}
 use Rattle.ut_stands.specs.Plan.{OrgPlan}
 use Rattle.ut_stands.specs.Stands.{kept_at, row_in, unique_of}
 use Rattle.ut_touched.proofs.Records.{entry_of_kept, has_kept, is_found, kept_has, kept_is, none_found}
-use Rattle.ut_touched.proofs.Same.{entries_same, objects_same, other}
+use Rattle.ut_touched.proofs.Same.{entries_same}
 use Rattle.ut_touched.proofs.Touching.{by_slot, unchanged_slot}
 use Rattle.ut_touched.proofs.Turned.{EqualKeys, clash, left_unchanged, pick, right_unchanged, turned_rest, unique_is_at}
-use Rattle.ut_touched.specs.Touched.{HasSoundRows, IsTouched, has, touched_changes}
+use Rattle.ut_touched.specs.Touched.{HasSoundRows, IsAlike, has, touched_changes}
 
-module _ (equal : EqualKeys) (org : ℕ) (p q : OrgPlan) (t u : Tenant) (ids : List (List ℕ)) (is : IsTouched p q t u ids) (kept_t : HasSoundRows p t) (kept_u : HasSoundRows q u)
+module _ (equal : EqualKeys) (org : ℕ) (p q : OrgPlan) (t u : Tenant) (ids : List (List ℕ)) (is : IsAlike p q t u ids) (kept_t : HasSoundRows p t) (kept_u : HasSoundRows q u)
     (n s : ℕ) (key : List ℕ) (e : is_changed (touched_changes org p q t u ids) (Unique org n s key) ≡ false) where
   -- where a touched id is of the object, its entry has the key before exactly if it has it after
   touched_same : (i : List ℕ) → has ids i ≡ true → object_number i ≡ n → is_unique key (kept_entry (kept_at p t n i) s) ≡ is_unique key (kept_entry (kept_at q u n i) s)
@@ -43,14 +43,14 @@ module _ (equal : EqualKeys) (org : ℕ) (p q : OrgPlan) (t u : Tenant) (ids : L
   both_same i of =
       pick (has ids i) (λ b. is_unique key (kept_entry (kept_at p t n i) s) ≡ is_unique key (kept_entry (kept_at q u n i) s))
       (λ h. touched_same i h of)
-      (λ h. sym (ap (is_unique key) (entries_same (kept_at q u n i) (kept_at p t n i) s (other p q t u ids is n i h))))
+      (λ h. sym (ap (is_unique key) (entries_same (kept_at q u n i) (kept_at p t n i) s (is.others n i h))))
 
   row : Record → List ℕ
   row y = row_bytes unique_form (unique_of org n s key y)
 
   module _ (o : model.Object) (here : object_numbered t n ≡ Some o) where
     there : object_numbered u n ≡ Some o
-    there = ap (λ (os : List model.Object). slice_get os n) (objects_same p q t u ids is) ∙ here
+    there = ap (λ (os : List model.Object). slice_get os n) is.objects ∙ here
 
     has_t : Record → Bool
     has_t y = is_unique key (slot_entry p t.job n o y s)
@@ -114,7 +114,7 @@ module _ (equal : EqualKeys) (org : ℕ) (p q : OrgPlan) (t u : Tenant) (ids : L
   unfolding row_in
   no_object none =
       ap (λ (x : Option model.Object). option_map (λ y. row_bytes unique_form (unique_of org n s key y)) (option_and_then (λ o. find (λ y. is_unique key (slot_entry q u.job n o y s)) (records_of u n)) x))
-      (ap (λ (os : List model.Object). slice_get os n) (objects_same p q t u ids is) ∙ none)
+      (ap (λ (os : List model.Object). slice_get os n) is.objects ∙ none)
       ∙ sym (ap (λ (x : Option model.Object). option_map (λ y. row_bytes unique_form (unique_of org n s key y)) (option_and_then (λ o. find (λ y. is_unique key (slot_entry p t.job n o y s)) (records_of t n)) x)) none)
 
   pub unique_rest : row_in q u (Unique org n s key) ≡ row_in p t (Unique org n s key)

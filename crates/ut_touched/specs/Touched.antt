@@ -2,7 +2,7 @@
 -- its cascade.
 use Rattle.std.specs.Prelude.{◌≡◌, ℕ, ◌≤◌, Bool, true, false, if◌then◌else◌, List, ◌++◌, map, filter, Option, None, Some, bytes_eq}
 use Rattle.std.specs.List.{AllByRecursion, flat_map, list_any}
-use Rattle.ut_keys.specs.Keys.{Key, Object, Org, Share}
+use Rattle.ut_keys.specs.Keys.{Data, Index, Key, Object, Org, Relation, Share, Unique}
 use Rattle.ut_model.specs.declared.record.Record.{Record}
 use Rattle.ut_model.specs.Deletes.{loses_lookup}
 use Rattle.ut_model.specs.Membership.{Has}
@@ -13,7 +13,7 @@ use Rattle.ut_pivot.specs.Changed.{kept_entry, record_changes}
 use Rattle.ut_stands.specs.Changes.{Change, IsOf, is_changed}
 use Rattle.ut_stands.specs.Entries.{is_unique, slot_entry}
 use Rattle.ut_stands.specs.Plan.{OrgPlan, slot_count}
-use Rattle.ut_stands.specs.Stands.{kept_at, org_of_key, row_in}
+use Rattle.ut_stands.specs.Stands.{Kept, kept_at, org_of_key, row_in}
 use Rattle.ut_value.specs.declared.value.Value.{Value}
 
 -- ---- what is touched
@@ -40,6 +40,27 @@ pub record IsTouched (p q : OrgPlan) (t u : Tenant) (ids : List (List ℕ)) : Ty
   pub plan : q ≡ with_left q.left p
   pub records : (i : List ℕ) → has ids i ≡ false → record_at u i ≡ record_at t i
   pub left : (i : List ℕ) → has ids i ≡ false → q.left i ≡ p.left i
+
+-- ---- what is kept alike
+
+-- two records, or none, with the same in all slots
+abbrev pub SameKept : Option Kept → Option Kept → Type 0
+SameKept None None = Unit {0}
+SameKept (Some k) (Some l) = (k.item ≡ l.item) × ((s : ℕ) → k.entries s ≡ l.entries s)
+SameKept _ _ = ⊥
+
+-- the objects are the same, and the records that don't have one of these ids are kept alike
+pub record IsAlike (p q : OrgPlan) (t u : Tenant) (ids : List (List ℕ)) : Type 0 where
+  pub objects : u.objects ≡ t.objects
+  pub others : (n : ℕ) (i : List ℕ) → has ids i ≡ false → SameKept (kept_at q u n i) (kept_at p t n i)
+
+-- the key of a record, or of a value
+abbrev pub is_valued : Key → Bool
+is_valued (Data org n i) = true
+is_valued (Index org n s key i) = true
+is_valued (Unique org n s key) = true
+is_valued (Relation org n s target i) = true
+is_valued _ = false
 
 -- ---- the rows
 

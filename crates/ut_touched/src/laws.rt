@@ -1,4 +1,4 @@
-ghost use Rattle.std.specs.Prelude.{◌≡◌, ℕ, ℤ, List, ◌++◌, ◌∷◌, [], Some, false};
+ghost use Rattle.std.specs.Prelude.{◌≡◌, ℕ, ℤ, List, ◌++◌, ◌∷◌, [], Some, false, true};
 ghost use Rattle.std.specs.List.{AllByRecursion};
 ghost use Rattle.ut_keys.specs.Keys.{FitsKey, Key};
 ghost use Rattle.ut_model.specs.declared.record.Record.{Record};
@@ -10,7 +10,7 @@ ghost use Rattle.ut_model.specs.Updates.{with_changed};
 ghost use Rattle.ut_stands.specs.Changes.{Change, IsOf, is_changed};
 ghost use Rattle.ut_stands.specs.Plan.{FitsPlan, OrgPlan};
 ghost use Rattle.ut_stands.specs.Stands.{org_of_key, row_in};
-ghost use Rattle.ut_touched.specs.Touched.{AreCounts, HasSoundRows, IsTouched, NoneTakes, fresh_plan, touched_by, touched_changes};
+ghost use Rattle.ut_touched.specs.Touched.{AreCounts, HasSoundRows, IsAlike, IsTouched, NoneTakes, fresh_plan, is_valued, touched_by, touched_changes};
 
 use ut_keys::table_laws;
 use ut_value::{order_laws, value_laws};
@@ -29,6 +29,16 @@ pub fn touched_laws()
         → org_of_key k ≡ Some org → is_changed (counts ++ touched_changes org p q t u ids) k ≡ false
         → row_in q u k ≡ row_in p t k }
 
+    // The same of the rows of records and of values alone, where nothing else is known but that the objects are the same and that
+    // the records of other ids are kept alike.
+    ensures alike_are { (org : ℕ) (p q : OrgPlan) (t u : Tenant) (ids : List (List ℕ))
+        → IsAlike p q t u ids → HasSoundRows p t → HasSoundRows q u → NoneTakes p q t u ids
+        → AllByRecursion (λ c. FitsKey c.0) (touched_changes org p q t u ids)
+        → AllByRecursion (IsOf org q u) (touched_changes org p q t u ids) }
+    ensures alike_rest { (org : ℕ) (p q : OrgPlan) (t u : Tenant) (ids : List (List ℕ)) (k : Key)
+        → IsAlike p q t u ids → HasSoundRows p t → HasSoundRows q u → org_of_key k ≡ Some org → is_valued k ≡ true
+        → is_changed (touched_changes org p q t u ids) k ≡ false → row_in q u k ≡ row_in p t k }
+
     // What edits touch: a create the new record, an update the one that changes, a delete what goes and what loses a lookup.
     ensures created { (p : OrgPlan) (t : Tenant) (r : Record) → IsTouched p (fresh_plan r.id p) t (with_record r t) (r.id ∷ []) }
     ensures changed { (p : OrgPlan) (t : Tenant) (old new : Record) → old.id ≡ new.id
@@ -42,6 +52,11 @@ pub fn touched_laws()
         → NoneTakes p q t u (id ∷ []) }
     ensures deleted { (p : OrgPlan) (now : ℤ) (t : Tenant) (gone : List Record) → IsSound t → FitsPlan p t
         → NoneTakes p p t (without now gone t) (touched_by t gone) }
+
+    // Where no record changes, though the change of a type goes on, none takes a unique value from another either: what such a change
+    // has of records isn't unique.
+    ensures unmoved { (p : OrgPlan) (t u : Tenant) (ids : List (List ℕ)) → IsSound t → IsSound u → u.objects ≡ t.objects
+        → u.records ≡ t.records → NoneTakes p p t u ids }
 
     // A plan fits as long as objects and the change of a type stay.
     ensures fresh { (p : OrgPlan) (t : Tenant) (r : Record) → FitsPlan p t → FitsPlan (fresh_plan r.id p) (with_record r t) }

@@ -67,7 +67,8 @@ fn on_delete_name(on_delete: OnDelete) -> &'static str {
     }
 }
 
-fn shown_kind(alloc: Global, kind: &SpelledType) -> Result<String, AllocError> {
+/// A type as it is spelled: its kind, and what else it has.
+pub(crate) fn shown_kind(alloc: Global, kind: &SpelledType) -> Result<String, AllocError> {
     match kind {
         SpelledType::Plain(kind) => shown_type(alloc, kind),
         SpelledType::LookupTo {

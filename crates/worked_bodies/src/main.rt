@@ -10,6 +10,7 @@ mod line;
 mod names;
 mod people;
 mod refusals;
+mod retyping;
 mod sharing;
 mod tables;
 mod values;
@@ -40,11 +41,12 @@ impl From<io::Error> for Stop {
     }
 }
 
-// What a call on the body of a manual share or of a sharing rule returns.
+// What a call on the body of a manual share, of a sharing rule or of the change of a field's type returns.
 fn sharing_call(alloc: Global, call: &str, bytes: &[u8]) -> Result<Option<String>, AllocError> {
     match call {
         "share" => sharing::share(alloc, bytes).map(Some),
         "sharing-rule" => sharing::sharing_rule(alloc, bytes).map(Some),
+        "retype" => retyping::retype(alloc, bytes).map(Some),
         _ => Ok(None),
     }
 }
@@ -86,6 +88,7 @@ fn text_call(alloc: Global, call: &str, text: &str) -> Result<String, AllocError
         "rows" => names::body(alloc, text),
         "made" => names::made(alloc, text),
         "upserted" => names::upserted(alloc, text),
+        "state" => retyping::state(alloc, text),
         _ => String::from_str(alloc, "no such call"),
     }
 }

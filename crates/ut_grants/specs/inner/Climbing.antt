@@ -1,9 +1,9 @@
 -- The level on a record by what is read of its masters. No public contract reaches these words.
-use Rattle.std.specs.Prelude.{◌≡◌, ◌≤◌, ℕ, suc, List, Option, Result, Ok, Err}
+use Rattle.std.specs.Prelude.{◌≡◌, ◌≤◌, ℕ, suc, false, List, [], Option, Result, Ok, Err}
 use Rattle.std.specs.Option.{option_and_then}
 use Rattle.ut_formula.specs.Meaning.{value_at}
 use Rattle.ut_keys.specs.declared.fail.StoreFail.{StoreFail}
-use Rattle.ut_keys.specs.declared.share.ShareRow.{ShareRow}
+use Rattle.ut_levels.specs.Own.{up_to}
 use Rattle.ut_levels.specs.declared.knowing.OwnLevels.{OwnLevels}
 use Rattle.ut_model.specs.declared.limit.Limit.TheVariants as limit
 use Rattle.ut_model.specs.declared.record.Record.{Record}
@@ -23,6 +23,7 @@ use Rattle.ut_value.specs.declared.sharing.Level.{Level}
 use Rattle.ut_grants.specs.Granting.{IsUserRights}
 use Rattle.ut_grants.specs.Sights.{OwnAt, topmost}
 use Rattle.ut_grants.specs.declared.rights.UserRights.{UserRights}
+use Rattle.ut_grants.specs.declared.sight.UserSight.{UserSight}
 use Rattle.ut_grants.specs.declared.steps.Step.{Step}
 use Rattle.ut_grants.specs.inner.Steps.{Fact, Leads, end_of}
 
@@ -49,28 +50,26 @@ master_there s r t = option_and_then (record_of_object t s.layout.object) (ref_o
 
 -- ---- levels
 
--- the same share as a row of the organisation with this number
-abbrev pub share_in : (org : ℕ) → ShareRow → ShareRow
-share_in org s = record { org = org; id = s.id; to = s.to; level = s.level }
-
 -- who may edit a master has its details in full
 abbrev pub full_of : Result Level StoreFail → Result Level StoreFail
 full_of (Ok level) = Ok (full_for_edit level)
 full_of (Err e) = Err e
 
--- the rights are the user's, the record is the tenant's, the steps lead to its topmost master, and of that one's object this is known
-pub record MayClimb (rights : UserRights) (org : ℕ) (own : OwnLevels) (steps : List Step) (r : Record) (q : OrgPlan) (t : Tenant) (u : User) : Type 0 where
-  pub granted : IsUserRights t u rights
+-- the rights are the user's, the record is the tenant's, the steps lead to its topmost master, and what is known of that one's object and
+-- of shares is so
+pub record MayClimb (s : UserSight) (org : ℕ) (steps : List Step) (r : Record) (q : OrgPlan) (t : Tenant) (u : User) : Type 0 where
+  pub granted : IsUserRights t u s.rights.now
   pub has : Has t.records r
   pub leads : Leads q t org (object_number r.id) steps
-  pub own_end : OwnAt t u (end_of (object_number r.id) steps) own
+  pub own_end : OwnAt t u (end_of (object_number r.id) steps) s.own
+  pub shares : s.shared ≡ false → t.shares ≡ []
 
--- it is the level on the record, through at least so many masters
-abbrev pub IsLevelWithin : (steps : ℕ) → Record → Level → Fact
-IsLevelWithin n r x q t u = (k : ℕ) → n ≤ k → x ≡ level_within (suc k) t u r
+-- as far as it is asked for, it is the level on the record, through at least so many masters
+abbrev pub IsLevelWithin : (asked : Level) → (steps : ℕ) → Record → Level → Fact
+IsLevelWithin asked n r x q t u = (k : ℕ) → n ≤ k → up_to asked x ≡ up_to asked (level_within (suc k) t u r)
 
-abbrev pub IsOwnLevel : Record → Level → Fact
-IsOwnLevel r x q t u = x ≡ own_level t u r
+abbrev pub IsOwnLevel : (asked : Level) → Record → Level → Fact
+IsOwnLevel asked r x q t u = up_to asked x ≡ up_to asked (own_level t u r)
 
 -- the record is the tenant's, of the object whose layout is the tenant's too, and the rights are the user's
 pub record MayJudge (rights : UserRights) (l : Layout) (r : Record) (q : OrgPlan) (t : Tenant) (u : User) : Type 0 where
@@ -79,11 +78,12 @@ pub record MayJudge (rights : UserRights) (l : Layout) (r : Record) (q : OrgPlan
   pub has : Has t.records r
   pub number : object_number r.id ≡ l.object
 
--- the same, and this is known of the object of its topmost masters
-pub record MaySee (rights : UserRights) (own : OwnLevels) (l : Layout) (r : Record) (q : OrgPlan) (t : Tenant) (u : User) : Type 0 where
-  pub may : MayJudge rights l r q t u
-  pub own_top : OwnAt t u (topmost (limit_number limit.DetailLevels) t.objects l.object) own
+-- the same, and what is known of the object of its topmost masters and of shares is so
+pub record MaySee (s : UserSight) (l : Layout) (r : Record) (q : OrgPlan) (t : Tenant) (u : User) : Type 0 where
+  pub may : MayJudge s.rights.now l r q t u
+  pub own_top : OwnAt t u (topmost (limit_number limit.DetailLevels) t.objects l.object) s.own
+  pub shares : s.shared ≡ false → t.shares ≡ []
 
--- it is the level on the record
-abbrev pub IsLevel : Record → Level → Fact
-IsLevel r x q t u = x ≡ level t u r
+-- as far as it is asked for, it is the level on the record
+abbrev pub IsLevel : (asked : Level) → Record → Level → Fact
+IsLevel asked r x q t u = up_to asked x ≡ up_to asked (level t u r)

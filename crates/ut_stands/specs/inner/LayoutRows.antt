@@ -15,9 +15,9 @@ use Rattle.ut_model.specs.Tenant.{Field, Object, Tenant}
 use Rattle.ut_stands.specs.declared.layout.FieldPlace.{FieldPlace}
 use Rattle.ut_stands.specs.declared.layout.JobPlace.{JobPlace}
 use Rattle.ut_stands.specs.declared.layout.Layout.{Layout}
-use Rattle.ut_stands.specs.Layouts.{place_of}
+use Rattle.ut_stands.specs.Layouts.{own_change_row, place_of}
 use Rattle.ut_stands.specs.Local.{StandsIn}
-use Rattle.ut_stands.specs.Metadata.{field_of, job_of, row_of_object}
+use Rattle.ut_stands.specs.Metadata.{field_of, row_of_object}
 use Rattle.ut_stands.specs.Plan.{OrgPlan}
 
 -- a field's row as its place
@@ -59,10 +59,6 @@ field_rows org n q t =
 unfoldable pub places_in : (object : ℕ) → OrgPlan → Option Tenant → List FieldPlace
 places_in n q t = in_case t [] (λ u. in_case (object_numbered u n) [] (λ o. map (place_of q n) (enumerate_from 0 o.fields)))
 
--- the row of the change of a field's type
-unfoldable pub change_row : (org : ℕ) → OrgPlan → Option Tenant → Option JobRow
-change_row org q t = option_and_then (λ u. option_map (job_of org q) u.job) t
-
 -- rows that are read are what each tenant has there, or none, for which the organisation's rows stand, and such are never damaged
 abbrev pub ListsIn : {U A : Type 0} → (org : ℕ) → (OrgPlan → Option Tenant → List U) → Tables → Result (Vec U A) StoreFail → Type 0
 ListsIn n value m (Ok rows) = (q : OrgPlan) (t : Option Tenant) → StandsIn n q m t → rows.items ≡ value q t
@@ -84,7 +80,7 @@ layout_by org r change q t =
 
 -- the layout by the object's row, if there is one, and the layouts by several
 abbrev pub layout_by_found : (org : ℕ) → Option ObjectRow → OrgPlan → Option Tenant → Option Layout
-layout_by_found org row q t = option_map (λ r. layout_by org r (change_row org q t) q t) row
+layout_by_found org row q t = option_map (λ r. layout_by org r (own_change_row org q t) q t) row
 
 abbrev pub layouts_by : (org : ℕ) → List ObjectRow → Option JobRow → OrgPlan → Option Tenant → List Layout
 layouts_by org rows change q t = map (λ r. layout_by org r change q t) rows

@@ -19,7 +19,7 @@ returns-in-Ok-Some-clause-finds g t c told =
     let rest = c.in-Some.rest.now in
     let tell = c.draft_laws.ensures.both 1 (length rest) a b d c.master_of.ensures.calls.reads c.level_through.ensures.calls.reads told in
     let found = subst (λ (x : Option Record). FindsOf step.layout (master_there step r) m (Ok x)) c.in-Ok-Some.field-0-is (c.in-Ok-Some.ensures.finds tell.0) in
-    through_master c.args.rights.now c.args.org c.args.own.now r m c.args.steps.now rest step c.in-Some.ensures.cases.0 c.in-Ok-Some.master found (tables_of state b) tell.2
+    through_master c.args.sight.now c.args.asked c.args.org r m c.args.steps.now rest step c.in-Some.ensures.cases.0 c.in-Ok-Some.master found (tables_of state b) tell.2
     c.level_through.result (c.level_through.ensures.finds tell.1) c.full_of.result c.full_of.ensures
 
 pub returns-in-Ok-None-clause-finds : goal.returns-in-Ok-None-clause-finds
@@ -28,4 +28,4 @@ returns-in-Ok-None-clause-finds g t c told =
     let r = c.args.item.now in
     let step = c.in-Some.step.now in
     let found = subst (λ (x : Option Record). FindsOf step.layout (master_there step r) m (Ok x)) c.in-Ok-None.field-0-is (c.in-Ok-None.ensures.finds told) in
-    through_unnamed c.args.rights.now c.args.org c.args.own.now r m c.args.steps.now c.in-Some.rest.now step c.in-Some.ensures.cases.0 found
+    through_unnamed c.args.sight.now c.args.asked c.args.org r m c.args.steps.now c.in-Some.rest.now step c.in-Some.ensures.cases.0 found

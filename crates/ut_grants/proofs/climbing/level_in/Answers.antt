@@ -15,22 +15,23 @@ returns-in-Ok-clause-finds g c told =
     let b = c.steps_from.new.draft in
     let d = c.level_through.new.draft in
     let l = c.args.layout.now in
-    let own = c.args.own.now in
+    let sight = c.args.sight.now in
     let steps = c.as_slice.result.now in
     let value = sym c.as_slice.ensures.value in
     let tell = c.draft_laws.ensures.both 0 (length steps) a b d c.steps_from.ensures.calls.reads c.level_through.ensures.calls.reads told in
     let few : length steps ≤ 3 = subst (λ (ss : List Step). length ss ≤ 3) value c.in-Ok.ensures.few in
-    judged (tables_of state a) (tables_of state b) tell.2 c.args.rights.now own l c.args.item.now steps few
+    judged (tables_of state a) (tables_of state b) tell.2 sight c.args.asked l c.args.item.now steps few
     (λ q t u s may. subst (λ (ss : List Step). Leads q t l.org l.object ss) value (c.in-Ok.ensures.finds tell.0 q t u s may))
-    (MaySee c.args.rights.now own l c.args.item.now) (λ q t u may. may.may)
+    (MaySee sight l c.args.item.now) (λ q t u may. may.may)
     (λ q t u s may.
     let led = subst (λ (ss : List Step). Leads q t l.org l.object ss) value (c.in-Ok.ensures.finds tell.0 q t u s (may_step q t u l may.may.granted.sound may.may.layout)) in
-    subst (λ (k : ℕ). OwnAt t u k own) (ends_topmost q t l.org 3 l.object steps few led) may.own_top)
+    subst (λ (k : ℕ). OwnAt t u k sight.own) (ends_topmost q t l.org 3 l.object steps few led) may.own_top)
+    (λ q t u may. may.shares)
     c.level_through.result (c.level_through.ensures.finds tell.1)
 
 pub returns-in-Err-clause-finds : goal.returns-in-Err-clause-finds
 returns-in-Err-clause-finds g c told =
     let m = tables_of g.K.Keeper.state c.args.draft.now in
     let l = c.args.layout.now in
-    failed l.org l.org (MayStep l 3) (MaySee c.args.rights.now c.args.own.now l c.args.item.now) m m c.in-Err.fail
+    failed l.org l.org (MayStep l 3) (MaySee c.args.sight.now l c.args.item.now) m m c.in-Err.fail
     (λ q t u s may. (s, may_step q t u l may.may.granted.sound may.may.layout)) (c.in-Err.ensures.finds told)

@@ -1,6 +1,8 @@
-use Rattle.std.proofs.Common.{List, length, subst}
+use Rattle.std.proofs.Common.{◌≡◌, true, false, List, length, subst}
 use Rattle.std.specs.Prelude.{Ok, Err}
 use Rattle.ut_keeper.specs.Draft.{tables_of}
+use Rattle.ut_value.specs.declared.sharing.Level.TheVariants.{Full}
+use Rattle.ut_grants.specs.declared.sight.UserSight.{UserSight}
 use Rattle.ut_grants.specs.declared.steps.Step.{Step}
 use Rattle.ut_grants.specs.inner.Climbing.{IsLevelWithin, MakesOwn, MayClimb, MayJudge}
 use Rattle.ut_grants.specs.inner.Steps.{TellsWhere}
@@ -8,6 +10,9 @@ use Rattle.ut_grants.proofs.Climbed.{judged, may_step}
 use Rattle.ut_grants.proofs.Judged.{judged_failed, makes}
 use Rattle.ut_grants.proofs.Stepping.{MayStep, failed}
 use Rattle.ut_grants.proofs.climbing.level_of.Goals as goal
+
+always : true ≡ false → ⊥
+always e = cc
 
 pub returns-in-Ok-own_at_end-clause-finds : goal.returns-in-Ok-own_at_end-clause-finds
 returns-in-Ok-own_at_end-clause-finds g c told =
@@ -18,16 +23,18 @@ returns-in-Ok-own_at_end-clause-finds g c told =
     let l = c.args.layout.now in
     let rights = c.args.rights.now in
     let own = c.in-Ok-own_at_end.own in
+    let sight : UserSight = record { rights = c.args.rights; own = own; shared = true } in
     let r = c.args.item.now in
     let steps = c.in-Ok.steps.items in
     let m = tables_of state a in
     let tell = c.draft_laws.ensures.both 0 (length c.as_slice-in-Ok-own_at_end.result.now) a b d c.steps_from.ensures.calls.reads c.level_through.ensures.calls.reads told in
     let led = c.in-Ok.ensures.finds tell.0 in
     let made = subst (λ (ss : List Step). MakesOwn rights l ss (Ok own)) c.as_slice.ensures.value c.in-Ok-own_at_end.ensures in
-    judged m (tables_of state b) tell.2 rights own l r steps c.in-Ok.ensures.few led (MayJudge rights l r) (λ q t u may. may)
+    judged m (tables_of state b) tell.2 sight Full l r steps c.in-Ok.ensures.few led (MayJudge rights l r) (λ q t u may. may)
     (λ q t u s may. made q t u (makes rights l steps m led q t u s may.granted may.layout))
+    (λ q t u may e. absurd (always e))
     c.level_through.result
-    (subst (λ (ss : List Step). TellsWhere l.org (MayClimb rights l.org own ss r) (IsLevelWithin (length ss) r) (tables_of state b) c.level_through.result) c.as_slice-in-Ok-own_at_end.ensures.value
+    (subst (λ (ss : List Step). TellsWhere l.org (MayClimb sight l.org ss r) (IsLevelWithin Full (length ss) r) (tables_of state b) c.level_through.result) c.as_slice-in-Ok-own_at_end.ensures.value
     (c.level_through.ensures.finds tell.1))
 
 pub returns-in-Ok-clause-finds : goal.returns-in-Ok-clause-finds

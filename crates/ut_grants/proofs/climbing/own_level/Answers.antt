@@ -1,14 +1,24 @@
-use Rattle.std.proofs.Common.{ap, map, ◌∙◌}
-use Rattle.ut_model.specs.Shares.{shares_of}
-use Rattle.ut_grants.specs.inner.Climbing.{share_in}
-use Rattle.ut_grants.proofs.Judged.{object_is, shares_same}
+use Rattle.std.proofs.Common.{ap, ◌∙◌}
+use Rattle.ut_levels.specs.Own.{up_to}
+use Rattle.ut_grants.proofs.Granted.{sharer_of}
+use Rattle.ut_grants.proofs.Judged.{object_is}
 use Rattle.ut_grants.proofs.climbing.own_level.Goals as goal
+
+pub returns-then-is_settled-clause-finds : goal.returns-then-is_settled-clause-finds
+returns-then-is_settled-clause-finds g c told q t u s may =
+    let rights = c.args.sight.now.rights.now in
+    let r = c.args.item.now in
+    let o = object_is t r may.granted.sound may.has in
+    c.is_settled.ensures.settled t u r c.if-is_settled.true
+    (c.in_ok-apart.ensures rights.org t u o.object (sharer_of t u rights may.granted) may.has o.there (may.own_end o.object o.there))
 
 pub returns-clause-finds : goal.returns-clause-finds
 returns-clause-finds g c told q t u s may =
-    let n = c.args.rights.now.org in
+    let rights = c.args.sight.now.rights.now in
     let r = c.args.item.now in
-    let granted = may.granted in
-    let o = object_is t r granted.sound may.has in
-    c.in_ok-level_on.ensures n t u o.object (record { sharer = granted.sharer; sound = granted.sound; user = granted.there; plain = granted.plain }) may.has o.there (may.own_end o.object o.there)
-    (c.as_slice-2.ensures.value ∙ c.in_ok-rows.ensures ∙ ap (map (share_in n)) (c.as_slice.ensures ∙ c.in_ok-shares.ensures.lists told q t s) ∙ shares_same n c.args.org (shares_of r.id t.shares))
+    let o = object_is t r may.granted.sound may.has in
+    let sharer = sharer_of t u rights may.granted in
+    ap (up_to c.args.asked)
+    (c.level_with.ensures rights.org c.args.org t u r sharer
+    (c.in_ok-apart.ensures rights.org t u o.object sharer may.has o.there (may.own_end o.object o.there))
+    (c.as_slice.ensures ∙ c.in_ok-shares.ensures.lists told q t s may.shares))

@@ -1,4 +1,5 @@
 use Rattle.std.proofs.Common.{ap, arith, length, ◌∙◌}
+use Rattle.ut_grants.proofs.Granted.{sharer_of}
 use Rattle.ut_grants.proofs.Judged.{few_fields}
 use Rattle.ut_grants.proofs.climbing.own_of.Goals as goal
 
@@ -9,5 +10,5 @@ returns-then-as_slice-gt-MOST_FIELDS c q t u may =
 pub returns : goal.returns
 returns c q t u may o there =
     let r = c.args.rights.now in
-    c.in_ok-own_levels.ensures r.org q t u o (record { sharer = may.granted.sharer; sound = may.granted.sound; user = may.granted.there; plain = may.granted.plain })
+    c.in_ok-own_levels.ensures r.org q t u o (sharer_of t u r may.granted)
     (c.as_slice-2.ensures.value ∙ may.granted.rules) there may.layout

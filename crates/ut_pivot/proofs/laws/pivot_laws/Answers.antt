@@ -1,8 +1,10 @@
 use Rattle.ut_pivot.proofs.Cleared.{cleared_few}
 use Rattle.ut_pivot.proofs.Converting.{converting}
+use Rattle.ut_pivot.proofs.CopiedEntries.{stays}
 use Rattle.ut_pivot.proofs.Few.{changed_few, changed_gone, made_few, made_gone, removed_few, removed_gone, slot_few, slot_gone}
 use Rattle.ut_pivot.proofs.NewRecord.{made_is}
 use Rattle.ut_pivot.proofs.RemovedRecord.{removed_is}
+use Rattle.ut_pivot.proofs.Stepped.{beside, come_entry, come_row}
 use Rattle.ut_pivot.proofs.TurnedRecord.{turned_is}
 use Rattle.ut_pivot.proofs.laws.pivot_laws.Goals as goal
 
@@ -21,4 +23,8 @@ returns c = record {
   gone = made_gone;
   slot_few = slot_few;
   slot_gone = slot_gone;
+  slot_same = stays;
+  beside = beside c.value_laws.ensures.printed;
+  come_entry = come_entry;
+  come_row = come_row c.data_laws.ensures.rewritten;
 }

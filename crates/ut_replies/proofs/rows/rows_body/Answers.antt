@@ -1,4 +1,4 @@
-use Rattle.std.proofs.Common.{◌∙◌, ◌++◌, List, ap, drop, ℕ}
+use Rattle.std.proofs.Common.{◌∙◌, ◌++◌, List, ap, ℕ}
 use Rattle.std.specs.Prelude.{codes}
 use Rattle.std.specs.Str.{encode_utf8_all}
 use Rattle.ut_replies.specs.inner.Parts.{rows_front}

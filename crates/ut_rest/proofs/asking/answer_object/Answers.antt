@@ -25,6 +25,19 @@ returns-then-caller-clause-calls g c =
     let before = removals_of state data_table x in
     wider_calls state c.draft_laws.ensures.reads_most (most_shown 0 before) (shown_beside before) (ended c.answer_flat.result) x c.answer_flat.new.draft (omega arith) c.answer_flat.ensures.calls
 
+pub returns-then-all_may_read-clause-what : goal.returns-then-all_may_read-clause-what
+returns-then-all_may_read-clause-what g c told p a is caller flat =
+    let m = tables_of g.K.Keeper.state c.args.draft.now in
+    c.answer_flat-then-all_may_read.ensures.what told p a
+    (asked_by c.args.layout.now _ _ c.args.query.now m m p a refl is (sym c.all_may_read.ensures ∙ c.if-all_may_read.true) (caller.now ∙ sym (to_z-of_z w64 c.args.now c.ranges.now))) flat
+
+pub returns-then-all_may_read-clause-calls : goal.returns-then-all_may_read-clause-calls
+returns-then-all_may_read-clause-calls g c =
+    let state = g.K.Keeper.state in
+    let x = c.args.draft.now in
+    let before = removals_of state data_table x in
+    wider_calls state c.draft_laws.ensures.reads_most (most_shown 0 before) (shown_beside before) (ended c.answer_flat-then-all_may_read.result) x c.answer_flat-then-all_may_read.new.draft (omega arith) c.answer_flat-then-all_may_read.ensures.calls
+
 pub returns-in-Ok-clause-what : goal.returns-in-Ok-clause-what
 returns-in-Ok-clause-what g c told p a is caller flat =
     let state = g.K.Keeper.state in

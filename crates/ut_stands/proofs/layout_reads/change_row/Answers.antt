@@ -1,7 +1,7 @@
 use Rattle.std.proofs.Common.{arith}
 use Rattle.ut_keeper.specs.Draft.{tables_of}
 use Rattle.ut_keys.specs.Rows.{job_form}
-use Rattle.ut_stands.specs.inner.LayoutRows.{change_row}
+use Rattle.ut_stands.specs.Layouts.{own_change_row}
 use Rattle.ut_stands.proofs.Found.{found_same, row_finds, row_in_org}
 use Rattle.ut_stands.proofs.LayoutReads.{change_is}
 use Rattle.ut_stands.proofs.MetadataRows.{job_is_row, job_there}
@@ -14,7 +14,7 @@ returns-clause-finds g c told =
     let m = tables_of g.K.Keeper.state c.args.draft.now in
     let org = c.args.org in
     let laws : PrefixLaws = record { interval = c.key_laws.ensures.interval; unbounded = c.key_laws.ensures.unbounded; bytes = c.table_laws.ensures.bytes } in
-    found_same org (row_in_org (job_there org)) (change_row org) m c.row_at.result (change_is org)
+    found_same org (row_in_org (job_there org)) (own_change_row org) m c.row_at.result (change_is org)
     (row_finds laws c.key_laws.ensures.exact job_form org (omega arith) org (job_there org) (job_is_row c.id_laws.ensures.made org (omega arith)) c.row_laws.ensures.found m c.row_at.result (c.row_at.ensures.row told))
 
 pub returns-clause-calls : goal.returns-clause-calls

@@ -1,17 +1,25 @@
 use Rattle.ut_touched.proofs.Deleting.{deleted}
 use Rattle.ut_touched.proofs.Keeping.{kept}
 use Rattle.ut_touched.proofs.Plans as plans
-use Rattle.ut_touched.proofs.Puts.{all_puts}
-use Rattle.ut_touched.proofs.Rest.{rest}
+use Rattle.ut_touched.proofs.Puts.{all_puts, touched_puts}
+use Rattle.ut_touched.proofs.Rest.{rest, valued_rest}
+use Rattle.ut_touched.proofs.Same.{alike}
 use Rattle.ut_touched.proofs.Single.{single}
+use Rattle.ut_touched.proofs.Unmoved.{unmoved}
 use Rattle.ut_touched.proofs.Edits.{changed, created, taken}
 use Rattle.ut_touched.proofs.laws.touched_laws.Goals as goal
 
 pub returns-clause-are : goal.returns-clause-are
-returns-clause-are c org p q t u ids counts is kept_t kept_u none_takes counted keys = all_puts org p q t u ids is kept_t kept_u none_takes counts counted.of keys
+returns-clause-are c org p q t u ids counts is kept_t kept_u none_takes counted keys = all_puts org p q t u ids (alike p q t u ids is) kept_t kept_u none_takes counts counted.of keys
 
 pub returns-clause-rest : goal.returns-clause-rest
 returns-clause-rest c org p q t u ids counts k is kept_t kept_u counted own unchanged = rest c.table_laws.ensures.equal org p q t u ids counts is kept_t kept_u counted k own unchanged
+
+pub returns-clause-alike_are : goal.returns-clause-alike_are
+returns-clause-alike_are c org p q t u ids is kept_t kept_u none_takes keys = touched_puts org p q t u ids is kept_t kept_u none_takes keys
+
+pub returns-clause-alike_rest : goal.returns-clause-alike_rest
+returns-clause-alike_rest c org p q t u ids k is kept_t kept_u own valued unchanged = valued_rest c.table_laws.ensures.equal org p q t u ids is kept_t kept_u k own valued unchanged
 
 pub returns-clause-created : goal.returns-clause-created
 returns-clause-created c p t r = created p t r
@@ -36,3 +44,6 @@ returns-clause-kept c p t sound fits = kept c.value_laws.ensures.fits c.order_la
 
 pub returns-clause-deleted : goal.returns-clause-deleted
 returns-clause-deleted c p now t gone sound fits = deleted c.value_laws.ensures.fits c.order_laws.ensures.same p now t gone sound fits
+
+pub returns-clause-unmoved : goal.returns-clause-unmoved
+returns-clause-unmoved c p t u ids sound_t sound_u objects records = unmoved c.value_laws.ensures.fits c.order_laws.ensures.same p t u ids sound_t sound_u objects records

@@ -1,6 +1,7 @@
-use Rattle.std.proofs.Common.{refl}
+use Rattle.std.proofs.Common.{refl, sym, ◌∙◌}
 use Rattle.ut_keeper.specs.Draft.{tables_of}
 use Rattle.ut_grants.proofs.Judged.{all_seen, seen}
+use Rattle.ut_grants.proofs.Opened.{owned_seen}
 use Rattle.ut_grants.proofs.sight.UserSightSight.may_read.Goals as goal
 
 pub returns-then-is_readable_by_all-clause-tells : goal.returns-then-is_readable_by_all-clause-tells
@@ -8,6 +9,12 @@ returns-then-is_readable_by_all-clause-tells g c told q t u r stands at sees amo
     all_seen q t u c.args.layout.now r c.args.self.now.own
     (λ o x there known. c.is_readable_by_all.ensures t u o x c.if-is_readable_by_all.true there known)
     sees.rights.sound at sees.own among
+
+pub returns-then-is_owned-clause-tells : goal.returns-then-is_owned-clause-tells
+returns-then-is_owned-clause-tells g c told q t u r stands at sees among is =
+    let l = c.args.layout.now in
+    let owned = sym (c.is_owned.ensures.value l r t u is sees.rights) ∙ c.if-is_owned.true in
+    owned_seen q t u l r sees.rights.sound at among owned (c.is_owned.ensures.full l r t u is sees.rights c.if-is_owned.true)
 
 pub returns-in-Ok-clause-tells : goal.returns-in-Ok-clause-tells
 returns-in-Ok-clause-tells g c told =

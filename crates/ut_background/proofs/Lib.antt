@@ -1,0 +1,10 @@
+pub mod Types
+pub mod Facts
+pub mod ChangeRows
+pub mod Own
+pub mod Few
+pub mod Ready
+pub mod Takes
+pub mod PagesRead
+pub mod Decided
+pub mod Stepping

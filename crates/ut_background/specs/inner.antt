@@ -1,0 +1,4 @@
+-- Words of private functions.
+pub mod Deciding
+pub mod Pages
+pub mod Rows

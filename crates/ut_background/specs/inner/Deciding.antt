@@ -1,0 +1,102 @@
+-- Which rows a step writes, by what it read. A change whose rows no tables have that stand for a tenant isn't made a step of.
+use Rattle.std.specs.Prelude.{◌≡◌, ◌≢◌, ◌≤◌, ℕ, suc, Bool, not, ◌&&◌, ◌||◌, if◌then◌else◌, List, ◌++◌, length, is_none, Option, None, Some, IfSome, IsTrue, Result, Ok, Err, Vec, slice_get}
+use Rattle.std.specs.List.{AllByRecursion, find}
+use Rattle.ut_background.specs.inner.Rows.{done_row, failed_row, is_plain, moved_row, row_alone, switch_decided}
+use Rattle.ut_background.specs.Background.{IsUnderWay}
+use Rattle.ut_data.specs.Decoding.{each_from, has_types, record_from}
+use Rattle.ut_edits.specs.Edits.{Takes}
+use Rattle.ut_edits.specs.Rows.{AreSpelled}
+use Rattle.ut_formula.specs.Meaning.{value_at}
+use Rattle.ut_keeper.specs.declared.keeper.Change.{Change as Spelled}
+use Rattle.ut_keys.specs.declared.data.DataRow.{DataRow}
+use Rattle.ut_keys.specs.declared.fail.StoreFail.{StoreFail}
+use Rattle.ut_keys.specs.declared.fail.StoreFail.TheVariants.{Damaged}
+use Rattle.ut_keys.specs.declared.job.JobRow.{JobRow}
+use Rattle.ut_keys.specs.Keys.{FitsKey}
+use Rattle.ut_model.specs.Cases.{in_case}
+use Rattle.ut_model.specs.Jobs.{job_step, last_id}
+use Rattle.ut_model.specs.RuleFormulas.{is_copy}
+use Rattle.ut_model.specs.Tenant.{Tenant}
+use Rattle.ut_model.specs.Verdict.{accept, done}
+use Rattle.ut_model.specs.declared.record.Record.{Record}
+use Rattle.ut_parts.specs.Plain.{FitsText}
+use Rattle.ut_pivot.specs.Turned.{converts}
+use Rattle.ut_progress.specs.Progress.{page_changes}
+use Rattle.ut_stands.specs.Changes.{Change}
+use Rattle.ut_stands.specs.Plan.{OrgPlan}
+use Rattle.ut_stands.specs.declared.layout.FieldPlace.{FieldPlace}
+use Rattle.ut_stands.specs.declared.layout.Layout.{Layout}
+use Rattle.ut_switch.specs.Switch.{any_plan}
+use Rattle.ut_value.specs.Conversion.{convert, convertible}
+
+-- ---- what is asked of what was read
+
+-- the types of the change and of its field are such, the layout's records can be read and changed, and what is copied converts
+abbrev pub is_ready : JobRow → Layout → FieldPlace → Bool
+is_ready row l f =
+    (is_plain row.kind && is_plain f.kind) && ((has_types l && converts l) && (not (is_copy row.phase) || convertible f.kind row.kind))
+
+-- a record's value doesn't convert
+abbrev pub is_bad_by : JobRow → Record → Bool
+is_bad_by row r = is_none (convert row.kind (value_at r.values (suc row.field)))
+
+-- ---- what is decided
+
+-- the rows of a page's records, and that of the change, which comes to the last of them
+abbrev pub page_decided : (org : ℕ) → Layout → (cursor : Option (List ℕ)) → List DataRow → List Record → JobRow → List Change
+page_decided org l cursor rows rs row = page_changes l cursor rows rs ++ row_alone (moved_row org cursor row)
+
+-- of a change that copies, over some records: it fails at the first that doesn't convert
+abbrev pub copied : (org : ℕ) → Layout → (cursor : Option (List ℕ)) → List DataRow → List Record → JobRow → List Change
+copied org l cursor rows rs row =
+    in_case (find (is_bad_by row) rs) (page_decided org l cursor rows rs row) (λ r. row_alone (failed_row org r.id row))
+
+-- of a change that copies, and of one that clears
+abbrev pub copy_decided : (org : ℕ) → Layout → FieldPlace → List DataRow → List Record → JobRow → List Change
+copy_decided org l f rows rs row =
+    in_case (last_id rs) (switch_decided org f row) (λ last. copied org l (Some last) rows rs row)
+
+abbrev pub clear_decided : (org : ℕ) → Layout → FieldPlace → List DataRow → List Record → JobRow → List Change
+clear_decided org l f rows rs row =
+    in_case (last_id rs) (row_alone (done_row org f row)) (λ last. page_decided org l (Some last) rows rs row)
+
+abbrev pub decided : (org : ℕ) → Layout → FieldPlace → List DataRow → List Record → JobRow → List Change
+decided org l f rows rs row = if is_copy row.phase then copy_decided org l f rows rs row else clear_decided org l f rows rs row
+
+-- ---- by a page
+
+-- what a page has beside its row: the field, the records, and what is decided by them, at keys that have spellings
+pub record DecidesBy (org : ℕ) (row : JobRow) (l : Layout) (rows : List DataRow) (changes : List Spelled) : Type 0 where
+  pub field : FieldPlace
+  pub there : slice_get l.fields row.field ≡ Some field
+  pub items : List Record
+  pub read : each_from (record_from l) rows ≡ Some items
+  pub are : AreSpelled (decided org l field rows items row) changes
+  pub keys : AllByRecursion (λ (c : Change). FitsKey c.0) (decided org l field rows items row)
+  pub few : length (decided org l field rows items row) ≤ 201
+
+-- what a page of a tenant has
+pub record IsWhole (org : ℕ) (row : JobRow) (l : Layout) (rows : List DataRow) : Type 0 where
+  pub field : FieldPlace
+  pub there : slice_get l.fields row.field ≡ Some field
+  pub items : List Record
+  pub read : each_from (record_from l) rows ≡ Some items
+  pub ready : IsTrue (is_ready row l field)
+  pub name : FitsText field.name
+  pub child : IfSome field.child FitsText
+  pub few : length (decided org l field rows items row) ≤ 201
+
+-- ---- by a tenant
+
+-- the changes that take its rows to those after its step, or why the work on the tables stopped
+abbrev pub TakesStep : {A : Type 0} → (org : ℕ) → OrgPlan → Tenant → Result (Vec Spelled A) StoreFail → Type 0
+TakesStep org q t (Ok bytes) =
+    (changes : List Change) × AreSpelled changes bytes.items × Takes org q t (accept done (job_step t)) done any_plan changes
+TakesStep org q t (Err e) = e ≢ Damaged
+
+-- the same where there may be nothing to do
+abbrev pub DecidesStep : {A : Type 0} → (org : ℕ) → OrgPlan → Tenant → Result (Option (Vec Spelled A)) StoreFail → Type 0
+DecidesStep org q t (Ok None) = job_step t ≡ t
+DecidesStep org q t (Ok (Some bytes)) =
+    IsUnderWay t × ((changes : List Change) × AreSpelled changes bytes.items × Takes org q t (accept done (job_step t)) done any_plan changes)
+DecidesStep org q t (Err e) = e ≢ Damaged

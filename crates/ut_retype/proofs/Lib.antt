@@ -1,0 +1,10 @@
+pub mod Texts
+pub mod FieldNames
+pub mod StepByStep
+pub mod Uses
+pub mod Verdicts
+pub mod Busy
+pub mod Reading
+pub mod Read
+pub mod Begun
+pub mod Cancelled

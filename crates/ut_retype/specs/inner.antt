@@ -1,0 +1,6 @@
+pub mod Judging
+pub mod Columns
+pub mod Rules
+pub mod States
+pub mod Beginning
+pub mod Cancelling

@@ -1,0 +1,2 @@
+pub mod SharingFits
+pub mod SharingRows

@@ -107,20 +107,22 @@ fn message_of(alloc: Global, word: &str) -> Result<String, AllocError> {
 }
 
 // The call of the keeper that fails, the messages, and the status and replies of `answer`. The organisation takes the first four
-// calls of the keeper, the opening the next two, and each message that reads nothing else one, for its caller; before the first, and
-// behind one that failed, the keeper itself is asked. Of a new record each of its eight calls fails in turn, of its update each of
-// eight, and of its end each of fourteen: the same message afterwards does what the first would have done, and a record that wasn't
-// made drew no number.
+// calls of the keeper, the opening the next two, and each message that reads nothing else two, for its caller and for the change of
+// a field's type that may be under way; before the first, and behind one that failed, the keeper itself is asked. Of a new record
+// each of its nine calls fails in turn, of its update each of nine, and of its end each of fifteen: the same message afterwards does
+// what the first would have done, and a record that wasn't made drew no number.
 const ANSWERED: &str = "\
 5;none none none;72
 6;none none none;72
 7;none none none;0 503 404 404
 8;none none none;0 503 404 404
-9;none none none;0 404 503 404
-10;none none none;0 404 404 503
-11;none none none;0 404 404 404
-12;object create create;0 503 400 400
-13;object create create;0 204 503 201:a00000000000001AAA
+9;none none none;0 503 404 404
+10;none none none;0 404 503 404
+11;none none none;0 404 503 404
+12;none none none;0 404 404 503
+13;none none none;0 404 404 503
+14;none none none;0 404 404 404
+13;object create create;0 503 400 400
 14;object create create;0 204 503 201:a00000000000001AAA
 15;object create create;0 204 503 201:a00000000000001AAA
 16;object create create;0 204 503 201:a00000000000001AAA
@@ -128,18 +130,18 @@ const ANSWERED: &str = "\
 18;object create create;0 204 503 201:a00000000000001AAA
 19;object create create;0 204 503 201:a00000000000001AAA
 20;object create create;0 204 503 201:a00000000000001AAA
-21;object create create;0 204 201:a00000000000001AAA 503
-21;object create update delete;0 204 201:a00000000000001AAA 503 204
-22;object create update delete;0 204 201:a00000000000001AAA 503 204
+21;object create create;0 204 503 201:a00000000000001AAA
+22;object create create;0 204 503 201:a00000000000001AAA
+23;object create create;0 204 201:a00000000000001AAA 503
 23;object create update delete;0 204 201:a00000000000001AAA 503 204
 24;object create update delete;0 204 201:a00000000000001AAA 503 204
 25;object create update delete;0 204 201:a00000000000001AAA 503 204
 26;object create update delete;0 204 201:a00000000000001AAA 503 204
 27;object create update delete;0 204 201:a00000000000001AAA 503 204
 28;object create update delete;0 204 201:a00000000000001AAA 503 204
-29;object create update delete delete;0 204 201:a00000000000001AAA 204 503 204
-30;object create update delete delete;0 204 201:a00000000000001AAA 204 503 204
-31;object create update delete delete;0 204 201:a00000000000001AAA 204 503 204
+29;object create update delete;0 204 201:a00000000000001AAA 503 204
+30;object create update delete;0 204 201:a00000000000001AAA 503 204
+31;object create update delete;0 204 201:a00000000000001AAA 503 204
 32;object create update delete delete;0 204 201:a00000000000001AAA 204 503 204
 33;object create update delete delete;0 204 201:a00000000000001AAA 204 503 204
 34;object create update delete delete;0 204 201:a00000000000001AAA 204 503 204
@@ -151,8 +153,12 @@ const ANSWERED: &str = "\
 40;object create update delete delete;0 204 201:a00000000000001AAA 204 503 204
 41;object create update delete delete;0 204 201:a00000000000001AAA 204 503 204
 42;object create update delete delete;0 204 201:a00000000000001AAA 204 503 204
-43;object create update delete delete;0 204 201:a00000000000001AAA 204 204 503
-48;object create update delete delete;0 204 201:a00000000000001AAA 204 204 404
+43;object create update delete delete;0 204 201:a00000000000001AAA 204 503 204
+44;object create update delete delete;0 204 201:a00000000000001AAA 204 503 204
+45;object create update delete delete;0 204 201:a00000000000001AAA 204 503 204
+46;object create update delete delete;0 204 201:a00000000000001AAA 204 503 204
+47;object create update delete delete;0 204 201:a00000000000001AAA 204 204 503
+53;object create update delete delete;0 204 201:a00000000000001AAA 204 204 404
 ";
 
 // Whether messages are answered as a line says.

@@ -3,10 +3,11 @@ use Rattle.std.proofs.Common.{◌≡◌, ◌≤◌, ℕ, Bool, true, false, cond
 use Rattle.std.specs.Prelude.{IfErr, IfOk, IfSome, IsErr, IsErrAnd, IsTrue, OnOk, codes}
 use Rattle.std.specs.Option.{option_map}
 use Rattle.std.specs.declared.alloc.AllocError.{AllocError}
-use Rattle.ut_bodies.specs.Bodies.{adds_new_role, request_in, sets_role_parent, sets_user_role, values_request}
+use Rattle.ut_bodies.specs.Bodies.{adds_new_role, begins_new_retype, request_in, sets_role_parent, sets_user_role, values_request}
 use Rattle.ut_bodies.specs.declared.people.NewRole.{NewRole}
 use Rattle.ut_bodies.specs.declared.people.RoleParent.{RoleParent}
 use Rattle.ut_bodies.specs.declared.people.UserRole.{UserRole}
+use Rattle.ut_bodies.specs.declared.retyping.NewRetype.{NewRetype}
 use Rattle.ut_edits.specs.Edits.{DraftsEdit, EditsAt, MakesEdit, OthersStay, Planned}
 use Rattle.ut_keeper.specs.Draft.{DraftReads, DraftTells, Held, count_of}
 use Rattle.ut_keeper.specs.State.{KeeperState}
@@ -23,17 +24,17 @@ use Rattle.ut_model.specs.declared.sharing_bodies.NewSharingRule.{NewSharingRule
 use Rattle.ut_model.specs.declared.refusal.Refusal.{Refusal}
 use Rattle.ut_model.specs.declared.refusal.Refusal.TheVariants.{NotBuilt}
 use Rattle.ut_model.specs.declared.route.Route.{Route}
-use Rattle.ut_model.specs.declared.route.Route.TheVariants.{AddField, AddGroup, AddObject, AddRole, AddSharingRule, AddUser, AddValidationRule, Create, Delete, RemoveSharingRule, SetGroup, SetObject, SetRole, SetUser, Share, Unshare, Update, Upsert}
+use Rattle.ut_model.specs.declared.route.Route.TheVariants.{AddField, AddGroup, AddObject, AddRole, AddSharingRule, AddUser, AddValidationRule, BeginRetype, CancelRetype, Create, Delete, RemoveSharingRule, SetGroup, SetObject, SetRole, SetUser, Share, Unshare, Update, Upsert}
 use Rattle.ut_step.specs.Built.{built_request, is_built}
 use Rattle.ut_step.specs.Own.{edit_shown, request_changes, request_gone}
 use Rattle.ut_model.specs.Forms.{access_request, field_request, object_request, share_request, sharing_rule_request, validation_request}
 use Rattle.ut_model.specs.Members.{Body, principal_in}
 use Rattle.ut_model.specs.Organisations.{is_secret}
 use Rattle.ut_model.specs.Paths.{Asked}
-use Rattle.ut_model.specs.PeopleForms.{group_request, members_request, role_parent_request, role_request, user_request, user_role_request}
+use Rattle.ut_model.specs.PeopleForms.{group_request, members_request, retype_request, role_parent_request, role_request, user_request, user_role_request}
 use Rattle.ut_model.specs.declared.people_bodies.Spelled.{Spelled}
 use Rattle.ut_model.specs.RequestOf.{request_of, request_or, value_part, verdict_or}
-use Rattle.ut_model.specs.Requests.{Request, adds_field, adds_group, adds_object, adds_sharing_rule, adds_user, adds_validation_rule, creates, deletes, removes_sharing_rule, sets_group, sets_object, shares, unshares, updates, upserts, verdict_on}
+use Rattle.ut_model.specs.Requests.{Request, adds_field, adds_group, adds_object, adds_sharing_rule, adds_user, adds_validation_rule, cancels_retype, creates, deletes, removes_sharing_rule, sets_group, sets_object, shares, unshares, updates, upserts, verdict_on}
 use Rattle.ut_model.specs.Sound.{IsSound}
 use Rattle.ut_model.specs.Tenant.{Tenant}
 use Rattle.ut_model.specs.Verdict.{Done, Verdict}
@@ -84,6 +85,11 @@ pub asks_field : (body : List ℕ) (read : Result (Option NewField) AllocError) 
     → Asks adds_field (built_request AddField body) (form_of read)
 unfolding request_of
 asks_field body read e = asks_form adds_field read (request_in field_request body) e
+
+pub asks_retype : (body : List ℕ) (read : Result (Option NewRetype) AllocError) → IfOk read (λ x. option_map begins_new_retype x ≡ request_in retype_request body)
+    → Asks begins_new_retype (built_request BeginRetype body) (form_of read)
+unfolding request_of
+asks_retype body read e = asks_form begins_new_retype read (request_in retype_request body) e
 
 -- the same of a body by which something is changed that the path names
 of_path : {X : Type 0} (make : List ℕ → X → Request) (form : List ℕ → Body → Option Request) (read : Result (Option X) AllocError) (body : List ℕ)
@@ -167,6 +173,11 @@ asks_upsert object key value body values h = h
 pub asks_no_more : (object key body : List ℕ) → built_request (Delete object key) body ≡ Ok (deletes object key)
 unfolding request_of
 asks_no_more object key body = refl
+
+-- nor has what calls off the change of a field's type
+pub asks_cancel : (body : List ℕ) → built_request CancelRetype body ≡ Ok cancels_retype
+unfolding request_of
+asks_cancel body = refl
 
 -- nor have the ends of a share and of a sharing rule
 pub asks_no_share : (item part body : List ℕ) → built_request (Unshare item part) body ≡ Ok (unshares item part (principal_in part))
@@ -258,6 +269,8 @@ pub record IsOther (r : Route) : Type 0 where
   pub no_parent : (role : List ℕ) → r ≡ SetRole role → ⊥
   pub no_group : r ≡ AddGroup → ⊥
   pub no_members : (group : List ℕ) → r ≡ SetGroup group → ⊥
+  pub no_beginning : r ≡ BeginRetype → ⊥
+  pub no_calling_off : r ≡ CancelRetype → ⊥
 
 not_built : (r : Route) → IsOther r → is_built r ≡ false
 not_built (Create object) other = absurd (other.no_record object refl)
@@ -278,6 +291,8 @@ not_built AddRole other = absurd (other.no_role refl)
 not_built (SetRole role) other = absurd (other.no_parent role refl)
 not_built AddGroup other = absurd (other.no_group refl)
 not_built (SetGroup group) other = absurd (other.no_members group refl)
+not_built BeginRetype other = absurd (other.no_beginning refl)
+not_built CancelRetype other = absurd (other.no_calling_off refl)
 not_built _ other = refl
 
 pub edits_unbuilt : (org : ℕ) (asks : Asked → Type 0) (r : Route) (body what : List ℕ) (m : Tables) → IsOther r → what ≡ codes "route"

@@ -2,22 +2,22 @@
 
 ghost use Rattle.std.specs.Prelude.{◌≡◌, IfOk, IsTrue, List, ℕ};
 ghost use Rattle.ut_admin.specs.inner.Edits.{Asks, form_of};
-ghost use Rattle.ut_bodies.specs.Bodies.{adds_new_role, request_in, sets_role_parent, sets_user_role, values_request};
+ghost use Rattle.ut_bodies.specs.Bodies.{adds_new_role, begins_new_retype, request_in, sets_role_parent, sets_user_role, values_request};
 ghost use Rattle.ut_given.specs.Given.{IsInJson};
 ghost use Rattle.ut_model.specs.Organisations.{is_secret};
 ghost use Rattle.ut_model.specs.RequestOf.{request_or};
 ghost use Rattle.ut_model.specs.Requests.{Request, adds_field, adds_object, adds_sharing_rule, adds_validation_rule, sets_object, shares};
 ghost use Rattle.ut_model.specs.Requests.{adds_group, adds_user, sets_group};
 ghost use Rattle.ut_model.specs.declared.record_bodies.Assignment.{Assignment};
-ghost use Rattle.ut_model.specs.declared.route.Route.TheVariants.{AddField, AddObject, AddSharingRule, AddValidationRule, SetObject, Share};
+ghost use Rattle.ut_model.specs.declared.route.Route.TheVariants.{AddField, AddObject, AddSharingRule, AddValidationRule, BeginRetype, SetObject, Share};
 ghost use Rattle.ut_model.specs.declared.route.Route.TheVariants.{AddGroup, AddRole, AddUser, SetGroup, SetRole, SetUser};
 ghost use Rattle.ut_step.specs.Built.{built_request};
 
 use std::alloc::{AllocError, Global};
 use ut_bodies::{
-    NewRole, RoleParent, UserRole, field_values, group_members, new_access, new_field, new_group,
-    new_object, new_role, new_share, new_sharing_rule, new_user, new_validation_rule,
-    parent_of_role, role_of_user,
+    NewRetype, NewRole, RoleParent, UserRole, field_values, group_members, new_access, new_field,
+    new_group, new_object, new_retype, new_role, new_share, new_sharing_rule, new_user,
+    new_validation_rule, parent_of_role, role_of_user,
 };
 use ut_keys::StoreFail;
 use ut_model::{
@@ -181,4 +181,15 @@ pub(crate) fn sharing_rule_in(alloc: Global, body: &[u8]) -> Result<NewSharingRu
     ensures { Asks adds_sharing_rule (built_request AddSharingRule body.now) result }
 {
     form_of(new_sharing_rule(alloc, body))
+}
+
+/// The change of a field's type that a body asks for, whose type is within its bounds.
+///
+/// # Errors
+///
+/// `Refused` with `BodyForm` if the body isn't of that form; `Store` with `Memory` if out of memory.
+pub(crate) fn retype_in(alloc: Global, body: &[u8]) -> Result<NewRetype, EditFail>
+    ensures { Asks begins_new_retype (built_request BeginRetype body.now) result }
+{
+    form_of(new_retype(alloc, body))
 }

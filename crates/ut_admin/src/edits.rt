@@ -14,6 +14,7 @@ use crate::answer::{Answer, done};
 use crate::bodies::{access_in, field_in, object_in, rule_in};
 use crate::people::{changed_group, changed_role, changed_user, new_group, new_role, new_user};
 use crate::records::{changed_record, deleted_record, new_record, upserted_record};
+use crate::retyping::{begun_retype, cancelled_retype};
 use crate::sharing::{new_sharing_rule, removed_sharing_rule, shared_record, unshared_record};
 use std::alloc::Global;
 use ut_edits::make_edit;
@@ -29,7 +30,7 @@ use ut_value::Text;
 ///
 /// # Errors
 ///
-/// `Refused` if the route isn't built, if the body isn't of its form, or as the edit is; nothing is then changed. `Store` with
+/// `Refused` if the route asks for no edit, if the body isn't of its form, or as the edit is; nothing is then changed. `Store` with
 /// `Keeper` if the keeper failed, `Memory` if out of memory.
 pub(crate) fn edit<K: Keeper, R: Rights>(
     alloc: Global,
@@ -89,7 +90,9 @@ pub(crate) fn edit<K: Keeper, R: Rights>(
         Route::SetRole { id } => changed_role(alloc, draft, org, id, body),
         Route::AddGroup => new_group(alloc, draft, org, body),
         Route::SetGroup { id } => changed_group(alloc, draft, org, id, body),
-        // No other route is built.
+        Route::BeginRetype => begun_retype(alloc, draft, org, body),
+        Route::CancelRetype => cancelled_retype(alloc, draft, org),
+        // No other route asks for an edit.
         _ => Err(EditFail::Refused(Refusal::NotBuilt {
             what: Text::from_str(alloc, "route")?,
         })),

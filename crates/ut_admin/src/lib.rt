@@ -1,9 +1,9 @@
-//! Requests for edits, of objects, fields, rules, records, shares and people, from the route and the body to the reply.
+//! Requests for edits, of objects, fields and their types, rules, records, shares and people, from the route and the body to the reply.
 //!
 //! It depends on `ut_bodies` for what bodies say, on `ut_rights` for what who asks may do, on `ut_meta`, `ut_records`, `ut_upserts`,
-//! `ut_deletes`, `ut_sharing`, `ut_shares` and `ut_people` for the edits, and on `ut_replies` for what was made or upserted. Its
-//! contract: over tables in which the organisation's rows stand for a tenant of whose user, the caller, these are the rights, the
-//! reply is that of the request's verdict, and its rows then stand for what the verdict leaves.
+//! `ut_deletes`, `ut_sharing`, `ut_shares`, `ut_people` and `ut_retype` for the edits, and on `ut_replies` for what was made or
+//! upserted. Its contract: over tables in which the organisation's rows stand for a tenant of whose user, the caller, these are the
+//! rights, the reply is that of the request's verdict, and its rows then stand for what the verdict leaves.
 #![tactic(auto)]
 
 mod answer;
@@ -13,6 +13,7 @@ mod people;
 mod records;
 mod replies;
 mod requests;
+mod retyping;
 mod sharing;
 
 pub use crate::records::moment;

@@ -9,3 +9,4 @@ mod Responses
 mod Verdicts
 pub mod Ways
 mod Rights
+mod Changing

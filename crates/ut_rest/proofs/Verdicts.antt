@@ -10,10 +10,11 @@ use Rattle.ut_model.specs.declared.caller.Caller.{Caller}
 use Rattle.ut_model.specs.declared.refusal.Refusal.TheVariants.{AdminRequired}
 use Rattle.ut_model.specs.declared.reply.Reply.{Reply}
 use Rattle.ut_model.specs.declared.route.Route.{Route}
-use Rattle.ut_model.specs.declared.route.Route.TheVariants.{AddGroup, AddRole, AddUser, Create, Query, Upsert}
+use Rattle.ut_model.specs.declared.route.Route.TheVariants.{AddGroup, AddRole, AddUser, Create, GetRetype, Query, Upsert}
 use Rattle.ut_model.specs.declared.routed.Routed.TheVariants.{To}
 use Rattle.ut_model.specs.Paths.{Asked}
 use Rattle.ut_model.specs.RequestOf.{verdict_or}
+use Rattle.ut_model.specs.Retyping.{get_retype}
 use Rattle.ut_model.specs.Routing.{is_administration}
 use Rattle.ut_model.specs.Verdict.{Verdict, refuse}
 use Rattle.ut_stands.specs.Calls.{ended}
@@ -25,8 +26,10 @@ use Rattle.ut_step.specs.Own.{IsAsking, edit_shown, request_changes, request_gon
 use Rattle.ut_rest.specs.Forms.{IsDoneReply, IsRequestReply, MayChange}
 use Rattle.ut_rest.proofs.Responses.{MostOf}
 
-abbrev NoQuery : Route → Type 0
-NoQuery r = (pairs : List ℕ) → r ≡ Query pairs → ⊥
+-- it asks neither for records nor how far the change of a type is
+pub record IsOther (r : Route) : Type 0 where
+  pub no_query : (pairs : List ℕ) → r ≡ Query pairs → ⊥
+  pub no_state : r ≡ GetRetype → ⊥
 
 module _ (r : Route) (body : List ℕ) (c : Caller) (now : ℕ) where
   lacks : (a : Asked) → IsAsking c now a → verdict_to a body (To r) ≡ (if is_administration r && not c.admin then refuse a.tenant AdminRequired else built_verdict a r body)
@@ -40,11 +43,17 @@ module _ (r : Route) (body : List ℕ) (c : Caller) (now : ℕ) where
   request_verdict : (a : Asked) → IsAsking c now a → (is_administration r && not c.admin) ≡ false → verdict_to a body (To r) ≡ built_verdict a r body
   request_verdict a asking e = lacks a asking ∙ ap (λ b. if b then refuse a.tenant AdminRequired else built_verdict a r body) e
 
-judged_by : (r : Route) (body : List ℕ) (a : Asked) → NoQuery r → built_verdict a r body ≡ verdict_or a (built_request r body)
-judged_by (Query pairs) body a other = absurd (other pairs refl)
+-- one that asks how far the change of a type is
+pub state_asked : (r : Route) (body : List ℕ) (c : Caller) (now : ℕ) (a : Asked) → IsAsking c now a → r ≡ GetRetype → (is_administration r && not c.admin) ≡ false
+    → verdict_to a body (To r) ≡ get_retype a.tenant
+state_asked r body c now a asking is may = request_verdict r body c now a asking may ∙ ap (λ (x : Route). built_verdict a x body) is
+
+judged_by : (r : Route) (body : List ℕ) (a : Asked) → IsOther r → built_verdict a r body ≡ verdict_or a (built_request r body)
+judged_by (Query pairs) body a other = absurd (other.no_query pairs refl)
+judged_by GetRetype body a other = absurd (other.no_state refl)
 judged_by _ body a other = refl
 
-module _ (r : Route) (body : List ℕ) (c : Caller) (now : ℕ) (other : NoQuery r) (may : (is_administration r && not c.admin) ≡ false) where
+module _ (r : Route) (body : List ℕ) (c : Caller) (now : ℕ) (other : IsOther r) (may : (is_administration r && not c.admin) ≡ false) where
   by_caller : (a : Asked) → IsAsking c now a → verdict_to a body (To r) ≡ verdict_or a (built_request r body)
   by_caller a asking = request_verdict r body c now a asking may ∙ judged_by r body a other
 
@@ -58,8 +67,9 @@ module _ (r : Route) (body : List ℕ) (c : Caller) (now : ℕ) (other : NoQuery
 
 -- ---- the form of the reply to an edit
 
-may_change : (r : Route) → NoQuery r → MayChange (To r)
-may_change (Query pairs) other = absurd (other pairs refl)
+may_change : (r : Route) → IsOther r → MayChange (To r)
+may_change (Query pairs) other = absurd (other.no_query pairs refl)
+may_change GetRetype other = absurd (other.no_state refl)
 may_change _ other = tt
 
 change_form : (r : Route) (reply : Reply) → IsEditReply r (Changed reply) → IsDoneReply reply
@@ -71,11 +81,11 @@ change_form AddRole reply h = inr (inr h.0)
 change_form AddGroup reply h = inr (inr h.0)
 change_form _ reply h = inl h
 
-judged_form : (r : Route) (j : Judged Reply) → NoQuery r → IsEditReply r j → IsRequestReply (To r) j
+judged_form : (r : Route) (j : Judged Reply) → IsOther r → IsEditReply r j → IsRequestReply (To r) j
 judged_form r (Same reply) other h = inl h
 judged_form r (Changed reply) other h = (may_change r other, change_form r reply h)
 
-pub administered_form : (r : Route) (result : Result (Judged Reply) StoreFail) → NoQuery r → IfOk result (IsEditReply r) → IfOk result (IsRequestReply (To r))
+pub administered_form : (r : Route) (result : Result (Judged Reply) StoreFail) → IsOther r → IfOk result (IsEditReply r) → IfOk result (IsRequestReply (To r))
 administered_form r (Ok j) other h = judged_form r j other h
 administered_form r (Err e) other h = tt
 

@@ -3,7 +3,7 @@
 use Rattle.std.specs.Prelude.{◌≡◌, ◌⊎◌, []}
 use Rattle.ut_model.specs.declared.reply.Reply.{Reply}
 pub use Rattle.ut_answers.specs.Answers.{IsReadReply}
-use Rattle.ut_model.specs.declared.route.Route.TheVariants.{Query}
+use Rattle.ut_model.specs.declared.route.Route.TheVariants.{GetRetype, Query}
 use Rattle.ut_model.specs.declared.routed.Routed.{Routed}
 use Rattle.ut_model.specs.declared.routed.Routed.TheVariants.{To, NotFound, NotAllowed}
 use Rattle.ut_stands.specs.declared.judged.Judged.{Judged}
@@ -13,11 +13,13 @@ use Rattle.ut_stands.specs.declared.judged.Judged.TheVariants.{Changed, Same}
 abbrev pub IsDoneReply : Reply → Type 0
 IsDoneReply r = ((r.status ≡ 204) × (r.body ≡ [])) ⊎ ((r.status ≡ 200) ⊎ (r.status ≡ 201))
 
--- a request that may change something: no query, and none of no such path or method
+-- a request that may change something: neither a query nor one that asks how far the change of a type is, and none of no such path
+-- or method
 abbrev pub MayChange : Routed → Type 0
 MayChange NotFound = ⊥
 MayChange NotAllowed = ⊥
 MayChange (To (Query pairs)) = ⊥
+MayChange (To GetRetype) = ⊥
 MayChange (To _) = Unit {0}
 
 abbrev pub IsRequestReply : Routed → Judged Reply → Type 0

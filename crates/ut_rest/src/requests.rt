@@ -16,6 +16,7 @@ ghost use Rattle.ut_value.specs.Dates.{is_moment};
 
 use crate::asking::answer_query;
 use crate::replies::unchanged;
+use crate::retyping::answer_state;
 use crate::routes::Routes;
 use http::Method;
 use std::alloc::Global;
@@ -85,12 +86,13 @@ fn answer<K: Keeper>(
     }
     match route {
         Route::Query { pairs } => unchanged(answer_query(alloc, draft, caller, now, pairs)),
+        Route::GetRetype => unchanged(answer_state(alloc, draft, caller.org)),
         _ => answer_edit(alloc, draft, caller, now, route, body),
     }
 }
 
 /// Judges a caller's request at this moment over the draft, and makes its reply: if the draft holds the change that it asks for, 204
-/// without a body, or 200 or 201 with one; rows or a refusal if it changes nothing.
+/// without a body, or 200 or 201 with one; rows, how far the change of a field's type is, or a refusal if it changes nothing.
 ///
 /// # Errors
 ///

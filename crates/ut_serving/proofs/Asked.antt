@@ -1,5 +1,5 @@
 -- A message over a keeper that was asked first: what it comes to is the same as over the keeper before.
-use Rattle.std.proofs.Common.{◌≡◌, inl, inr, ℕ, Bool, true, IsTrue, List, Option, Some, None, Result, Ok, Err, refl, sym, ap, subst, ◌∙◌, arith}
+use Rattle.std.proofs.Common.{◌≡◌, ◌⊎◌, inl, inr, ℕ, Bool, true, IsTrue, List, Option, Some, None, Result, Ok, Err, refl, sym, ap, subst, ◌∙◌, arith}
 use Rattle.std.specs.Prelude.{IsErrOf, OnErr, is_ok}
 use Rattle.std.specs.FinMap as map
 use Rattle.ut_keeper.proofs.Calls.{reads_same, steps_on}
@@ -18,7 +18,7 @@ use Rattle.ut_stands.specs.Operations.{DoesIn}
 use Rattle.ut_model.specs.declared.reply.Reply.{Reply}
 use Rattle.ut_stands.specs.declared.judged.Judged.{Judged}
 use Rattle.ut_stands.specs.declared.judged.Judged.TheVariants.{Changed, Same}
-use Rattle.ut_serving.specs.Own.{Asks, AsksFirst, DoesBy, DoesUnnamed, KeepsIfSame, Replies, own_does}
+use Rattle.ut_serving.specs.Own.{Asks, AsksFirst, DoesBy, DoesUnnamed, IsStepped, KeepsIfSame, Replies, own_does}
 
 -- ---- asking
 
@@ -122,12 +122,17 @@ module _ (old mid : KeeperState) (first : AsksFirst old mid (Ok tt)) (new : Keep
   does_after steps None m close now r h = unnamed_after steps m close r h
   does_after steps (Some n) m close now r h = ((λ lo. named_after steps n.org (own_does n m close now) r (h.0 lo)), (λ hi. unnamed_after steps m close r (h.1 hi)))
 
-  same_after : Later → (j : Judged Reply) → KeepsIfSame j mid new → KeepsIfSame j old new
-  same_after steps (Same q) h = ((λ t. subst (Shows new) (same_tables steps t).1 (h.0 (told_later steps t))), h.1 ∙ first.reads.written)
-  same_after steps (Changed q) h = tt
+  same_after : Later → (m : Message) (j : Judged Reply) → KeepsIfSame m j mid new → KeepsIfSame m j old new
+  same_after steps m (Same q) h = record { written = let few = h.written in omega (arith, few, first.reads.written); kept = by h.kept }
+    where
+      by : ((Tells mid new → Shows new mid.tables) × (new.written ≡ mid.written)) ⊎ (Tells mid new → IsStepped m mid.tables)
+          → ((Tells old new → Shows new old.tables) × (new.written ≡ old.written)) ⊎ (Tells old new → IsStepped m old.tables)
+      by (inl k) = inl ((λ t. subst (Shows new) (same_tables steps t).1 (k.0 (told_later steps t))), k.1 ∙ first.reads.written)
+      by (inr k) = inr (λ t. subst (IsStepped m) (same_tables steps t).1 (k (told_later steps t)))
+  same_after steps m (Changed q) h = tt
 
   pub replies_after : Later → (m : Message) (close : Bool) (r : Result (List ℕ) StoreFail) → Replies m close mid new r → Replies m close old new r
-  replies_after steps m close (Ok bytes) (j, form, is, kept) = (j, form, is, same_after steps j kept)
+  replies_after steps m close (Ok bytes) (j, form, is, kept) = (j, form, is, same_after steps m j kept)
   replies_after steps m close (Err e) h = tt
 
   pub asks_after : {X : Type 0} (r : Result X StoreFail) → Asks mid new r → Asks old new r

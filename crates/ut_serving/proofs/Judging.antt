@@ -8,16 +8,12 @@ use Rattle.ut_keeper.specs.Tables.{Tables}
 use Rattle.ut_keys.specs.declared.fail.StoreFail.{StoreFail}
 use Rattle.ut_keys.specs.declared.fail.StoreFail.TheVariants.{Damaged, Keeper, Memory}
 use Rattle.ut_model.specs.declared.caller.Caller.{Caller}
-use Rattle.ut_model.specs.declared.refusal.Refusal.TheVariants.{InvalidSession}
 use Rattle.ut_model.specs.declared.reply.Reply.{Reply}
 use Rattle.ut_model.specs.Callers.{Named, admitted, caller_of}
-use Rattle.ut_model.specs.Cases.{in_case}
 use Rattle.ut_model.specs.Paths.{Asked}
-use Rattle.ut_model.specs.Replies.{reply_of}
 use Rattle.ut_model.specs.Routing.{routed}
-use Rattle.ut_model.specs.Step.{Message, if_called, refused}
+use Rattle.ut_model.specs.Step.{Message, if_called}
 use Rattle.ut_model.specs.Tenant.{Tenant, User}
-use Rattle.ut_model.specs.Verdict.{Verdict}
 use Rattle.ut_model.specs.World.{user_at}
 use Rattle.ut_people.specs.People.{FindsCaller, FindsNamed, caller_among}
 use Rattle.ut_rest.specs.Forms.{IsRequestReply}
@@ -26,10 +22,11 @@ use Rattle.ut_stands.specs.Operations.{IsChange, Judges, RepliesAt, Responds}
 use Rattle.ut_stands.specs.Plan.{OrgPlan}
 use Rattle.ut_stands.specs.declared.judged.Judged.{Judged}
 use Rattle.ut_stands.specs.declared.judged.Judged.TheVariants.{Changed, Same}
-use Rattle.ut_step.specs.Built.{answer_built, answered, asking, verdict_to}
+use Rattle.ut_step.specs.Built.{answered, asking}
 use Rattle.ut_step.specs.Own.{IsAsking}
-use Rattle.ut_serving.specs.Own.{JudgesBy, JudgesCaller, JudgesNamed, JudgesReply, JudgesUnnamed, bytes_of, own_does}
+use Rattle.ut_serving.specs.Own.{JudgesBy, JudgesCaller, JudgesNamed, JudgesUnnamed, bytes_of, own_does}
 use Rattle.ut_serving.specs.Requests.{in_bytes}
+use Rattle.ut_serving.specs.inner.Steps.{IsInForm, JudgesRequest, request_does, verdict_of}
 
 abbrev Returned : Type 0
 Returned = Result (Judged (List ℕ)) StoreFail
@@ -43,52 +40,34 @@ by_bytes P method close j r (inl is) given none = subst P (sym is) given
 by_bytes P method close j r (inr is) given none = subst P (sym is) none
 
 -- an operation that does the same to s
-same_does : {S X : Type 0} (stands : Tables → S → Type 0) (d e : S → X × S) (s : S) (after : Tables) (r : Result (Judged X) StoreFail) → d s ≡ e s → Judges stands d s after r → Judges stands e s after r
+pub same_does : {S X : Type 0} (stands : Tables → S → Type 0) (d e : S → X × S) (s : S) (after : Tables) (r : Result (Judged X) StoreFail) → d s ≡ e s → Judges stands d s after r → Judges stands e s after r
 same_does {S = S} {X = X} stands d e s after (Ok (Same x)) is h = subst (λ (y : X × S). (x ≡ y.0) × (y.1 ≡ s)) is h
 same_does {S = S} {X = X} stands d e s after (Ok (Changed x)) is h = subst (λ (y : X × S). (x ≡ y.0) × stands after y.1) is h
 same_does stands d e s after (Err f) is h = h
 
--- ---- a caller's message
+-- ---- a caller's request
 
 module _ (c : Caller) (m : Message) (close : Bool) (now : ℕ) (before after : Tables) where
-  abbrev verdict : Asked → Verdict
-  verdict a = verdict_to a m.body (routed m.method m.target)
-
-  -- what answers the caller is what answers the user
-  answered_is : (t : Tenant) (u : User) → IsAsking c now (asking t now u) → answered c m now t ≡ (reply_of (asking t now u) (verdict (asking t now u)).answer, (verdict (asking t now u)).tenant)
-  answered_is t u h = ap (λ o. in_case o (refused InvalidSession t) (λ u. answer_built (asking t now u) m)) h.user
-
-  abbrev does_to : Tenant → Option Tenant → List ℕ × Option Tenant
-  does_to t s = (bytes_of m close (answered c m now t).0, Some (answered c m now t).1)
-
-  replied : (t : Tenant) (u : User) → IsAsking c now (asking t now u) → (j : Judged Reply) → RepliesAt c.org (asking t now u) (verdict (asking t now u)) after (Ok j) → Judges (StandsFor c.org) (does_to t) (Some t) after (Ok (in_bytes m.method close j))
-  replied t u asks (Same r) h =
-      let is = answered_is t u asks in (
-        ap (bytes_of m close) (h.0 ∙ sym (ap (λ (s : Reply × Tenant). s.0) is)),
-        ap (λ (s : Reply × Tenant). Some s.1) is ∙ ap Some h.1,
-      )
-  replied t u asks (Changed r) h =
-      let is = answered_is t u asks in (
-        ap (bytes_of m close) (h.0 ∙ sym (ap (λ (s : Reply × Tenant). s.0) is)),
-        subst (λ (s : Tenant). StandsFor c.org after (Some s)) (sym (ap (λ (s : Reply × Tenant). s.1) is)) h.1,
-      )
+  replied : (a : Asked) (j : Judged Reply) → RepliesAt c.org a (verdict_of m a) after (Ok j) → Judges (StandsFor c.org) (request_does m close a) (Some a.tenant) after (Ok (in_bytes m.method close j))
+  replied a (Same r) h = (ap (bytes_of m close) h.0, ap Some h.1)
+  replied a (Changed r) h = (ap (bytes_of m close) h.0, h.1)
 
   change_of : (j : Judged Reply) → IsChange {X = List ℕ} (Ok (in_bytes m.method close j)) → IsChange (Ok j)
   change_of (Same r) h = h
   change_of (Changed r) h = h
 
-  pub caller_judged : (j : Judged Reply) (r : Returned) → IsBytes m.method close j r → Responds c.org (IsAsking c now) verdict before after (Ok j) → JudgesCaller c m close now before after r
-  caller_judged j r is h = record {
+  pub request_judged : (j : Judged Reply) (r : Returned) → IsBytes m.method close j r → Responds c.org (IsAsking c now) (verdict_of m) before after (Ok j) → JudgesRequest c m close now before after r
+  request_judged j r is h = record {
     others = by_bytes (λ x. IsChange x → KeepsOthers c.org before after) m.method close j r is (λ change. h.others (change_of j change)) (λ none. absurd none);
-    judged = λ q t u s asks. by_bytes (Judges (StandsFor c.org) (does_to t) (Some t) after) m.method close j r is (replied t u asks j (h.replied q (asking t now u) s asks)) (λ d. cc);
+    judged = λ q t u s asks. by_bytes (Judges (StandsFor c.org) (request_does m close (asking t now u)) (Some t) after) m.method close j r is (replied (asking t now u) j (h.replied q (asking t now u) s asks)) (λ d. cc);
   }
 
-  pub caller_failed : (e : StoreFail) → Responds c.org (IsAsking c now) verdict before after (Err e) → JudgesCaller c m close now before after (Err e)
-  caller_failed e h = record { others = λ none. absurd none; judged = λ q t u s asks. h.replied q (asking t now u) s asks }
+  pub request_failed : (e : StoreFail) → Responds c.org (IsAsking c now) (verdict_of m) before after (Err e) → JudgesRequest c m close now before after (Err e)
+  request_failed e h = record { others = λ none. absurd none; judged = λ q t u s asks. h.replied q (asking t now u) s asks }
 
 -- the reply is of its form
-pub reply_judged : (m : Message) (close : Bool) (j : Judged Reply) (r : Returned) → IsBytes m.method close j r → IsRequestReply (routed m.method m.target) j → JudgesReply m close r
-reply_judged m close j r is h = by_bytes (JudgesReply m close) m.method close j r is (j, h, refl) tt
+pub reply_judged : (m : Message) (close : Bool) (j : Judged Reply) (r : Returned) → IsBytes m.method close j r → IsRequestReply (routed m.method m.target) j → IsInForm m close r
+reply_judged m close j r is h = by_bytes (IsInForm m close) m.method close j r is (j, h, refl) tt
 
 -- ---- who calls
 

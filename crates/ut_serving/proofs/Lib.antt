@@ -1,5 +1,6 @@
 pub mod Kept
 pub mod Judging
+pub mod Stepping
 pub mod Messages
 pub mod Asked
 pub mod Worlds

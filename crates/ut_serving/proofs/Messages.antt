@@ -1,5 +1,5 @@
 -- One message over a keeper: judged over a draft, which is then ended.
-use Rattle.std.proofs.Common.{◌≡◌, ◌⊎◌, inl, inr, ℕ, ◌+◌, ◌≤◌, Bool, true, IsTrue, List, Option, Some, None, Result, Ok, Err, refl, sym, ap, subst, ◌∙◌, arith}
+use Rattle.std.proofs.Common.{◌≡◌, ◌⊎◌, inl, inr, ℕ, ◌+◌, ◌≤◌, Bool, true, false, IsTrue, List, Option, Some, None, Result, Ok, Err, refl, sym, ap, subst, ◌∙◌, arith}
 use Rattle.std.specs.Prelude.{IfErr, IfOk, IsErrOf, is_ok, length}
 use Rattle.ut_keeper.specs.Draft.{ChangesNothing, DraftWorks, Held, count_of, removals_of}
 use Rattle.ut_keeper.specs.Laid.{removals}
@@ -15,9 +15,9 @@ use Rattle.ut_stands.specs.Local.{KeepsOthers, StandsFor}
 use Rattle.ut_stands.specs.Operations.{DoesIn, Ends, FailsAtCommit, Finishes, IsChange, Judges, Returns}
 use Rattle.ut_stands.specs.declared.judged.Judged.{Judged}
 use Rattle.ut_stands.specs.declared.judged.Judged.TheVariants.{Changed, Same}
-use Rattle.ut_step.specs.Own.{request_changes, request_gone, shown_beside}
+use Rattle.ut_step.specs.Own.{request_gone}
 use Rattle.ut_stands.proofs.Ended.{done, kept_if_failed, others_stay, unchanged}
-use Rattle.ut_serving.specs.Own.{Asks, DoesBy, DoesUnnamed, JudgesBy, JudgesNamed, JudgesReply, JudgesUnnamed, KeepsIfSame, Replies, judged_bytes, own_does, unnamed_bytes}
+use Rattle.ut_serving.specs.Own.{Asks, DoesBy, DoesUnnamed, IsStepped, IsSmall, JudgesBy, JudgesNamed, JudgesReply, JudgesUnnamed, KeepsIfSame, Replies, after_step, judged_bytes, message_changes, message_shown_beside, own_does, unnamed_bytes}
 use Rattle.ut_serving.specs.Requests.{in_bytes}
 
 abbrev Returned : Type 0
@@ -87,30 +87,46 @@ module _ (old new : KeeperState) (told : Type 0) (drafted : Tables) (j : Returne
 -- ---- the reply
 
 module _ (m : Message) (close : Bool) (old new : KeeperState) where
-  same_bytes : (q : Judged Reply) (x : List ℕ) → Same x ≡ in_bytes m.method close q → (x ≡ judged_bytes m close q) × (KeepsIfSame q old new → KeepsIfSame q old new)
-  same_bytes (Same r) x e = (cc, λ k. k)
-  same_bytes (Changed r) x e = absurd cc
+  -- nothing was written, and the tables are what they were
+  abbrev AsItWas : Type 0
+  AsItWas = (Tells old new → Shows new old.tables) × (new.written ≡ old.written)
 
-  changed_bytes : (q : Judged Reply) (x : List ℕ) → Changed x ≡ in_bytes m.method close q → (x ≡ judged_bytes m close q) × KeepsIfSame q old new
-  changed_bytes (Same r) x e = absurd cc
-  changed_bytes (Changed r) x e = (cc, tt)
+  as_it_was : (q : Judged Reply) → AsItWas → KeepsIfSame m q old new
+  as_it_was (Same r) k = record { written = let same = k.1 in omega (arith, same); kept = inl k }
+  as_it_was (Changed r) k = tt
 
-  kept_same : (q : Judged Reply) → (Tells old new → Shows new old.tables) × (new.written ≡ old.written) → KeepsIfSame q old new
-  kept_same (Same r) k = k
-  kept_same (Changed r) k = tt
+  -- so many rows were written for a caller
+  small_step : (q : Judged Reply) (before after : ℕ) → before ≡ 0 → new.written ≤ old.written + after → IsSmall q before after → (Tells old new → IsStepped m old.tables) → KeepsIfSame m q old new
+  small_step (Same r) before after none written few called = record { written = omega (arith, none, written, few); kept = inr called }
+  small_step (Changed r) before after none written few called = tt
+
+  -- the bytes, and what goes with them
+  replied : (called : Type 0) (before after : ℕ) (made : Bool) (q : Judged Reply) (j : Judged (List ℕ)) (y : List ℕ) → after_step made (Ok (in_bytes m.method close q)) ≡ Ok j → Returns (Ok j) y
+      → (made ≡ true → Tells old new → IsStepped m old.tables) → IsSmall q before after → ((IsChange {X = List ℕ} (Ok j) → ⊥) → AsItWas) → before ≡ 0 → new.written ≤ old.written + after
+      → (y ≡ judged_bytes m close q) × KeepsIfSame m q old new
+  replied called before after false (Same r) (Same x) y is back caller few quiet none written = (back ∙ cc, as_it_was (Same r) (quiet (λ change. change)))
+  replied called before after false (Same r) (Changed x) y is back caller few quiet none written = absurd cc
+  replied called before after false (Changed r) (Same x) y is back caller few quiet none written = absurd cc
+  replied called before after false (Changed r) (Changed x) y is back caller few quiet none written = (back ∙ cc, tt)
+  replied called before after true (Same r) (Same x) y is back caller few quiet none written = absurd cc
+  replied called before after true (Same r) (Changed x) y is back caller few quiet none written = (back ∙ cc, small_step (Same r) before after none written few (caller refl))
+  replied called before after true (Changed r) (Same x) y is back caller few quiet none written = absurd cc
+  replied called before after true (Changed r) (Changed x) y is back caller few quiet none written = (back ∙ cc, tt)
 
   -- the reply that was judged, and what goes with it
-  pub replies_by : (j : Returned) (r : Result (List ℕ) StoreFail) → JudgesReply m close j → IfOk r (Returns j) → ((IsChange j → ⊥) → (Tells old new → Shows new old.tables) × (new.written ≡ old.written)) → Replies m close old new r
-  replies_by j (Err f) h k quiet = tt
-  replies_by (Ok (Same x)) (Ok y) (q, form, is) k quiet = (q, form, k ∙ (same_bytes q x is).0, kept_same q (quiet (λ c. c)))
-  replies_by (Ok (Changed x)) (Ok y) (q, form, is) k quiet = (q, form, k ∙ (changed_bytes q x is).0, (changed_bytes q x is).1)
-  replies_by (Err g) (Ok y) h k quiet = absurd k
+  pub replies_by : (called : Type 0) (before after : ℕ) (j : Returned) (r : Result (List ℕ) StoreFail) → JudgesReply m close called before after j → IfOk r (Returns j) → ((IsChange j → ⊥) → AsItWas)
+      → (called → Tells old new → IsStepped m old.tables) → before ≡ 0 → new.written ≤ old.written + after → Replies m close old new r
+  replies_by called before after j (Err f) h back quiet caller none written = tt
+  replies_by called before after (Ok j) (Ok y) h back quiet caller none written =
+      let k = replied called before after h.made h.reply j y h.judged back (λ is. caller (h.caller is)) h.small quiet none written in
+      (h.reply, h.form, k.0, k.1)
+  replies_by called before after (Err g) (Ok y) h back quiet caller none written = absurd back
 
 -- ---- the keeper
 
 -- the data rows that may be shown over a draft
 abbrev pub shown_most : {K : Type 0} → (K → KeeperState) → Held K → ℕ
-shown_most state d = shown_beside (removals_of state data_table d)
+shown_most state d = message_shown_beside (removals_of state data_table d)
 
 module _ {K : Type 0} (state : K → KeeperState) (d e : Held K) (new : KeeperState) (j : Returned) (r : Result (List ℕ) StoreFail) where
   stays_by : StaysAfter (is_ok j) (state d.keeper.now) (state e.keeper.now) → (IsTrue (is_ok j) → StaysAfter (is_ok r) (state e.keeper.now) new) → IfErr j (λ f. r ≡ Err f) → Steps (state e.keeper.now) new
@@ -153,14 +169,14 @@ module _ {K : Type 0} (state : K → KeeperState) (d e : Held K) (new : KeeperSt
           same f h e = cc
 
   -- what the request keeps of the keeper
-  pub asks_by : ChangesNothing d → DraftWorks state request_changes request_gone (shown_most state d) d e → StaysAfter (is_ok j) (state d.keeper.now) (state e.keeper.now)
+  pub asks_by : ChangesNothing d → DraftWorks state message_changes request_gone (shown_most state d) d e → StaysAfter (is_ok j) (state d.keeper.now) (state e.keeper.now)
       → KeeperCause (state d.keeper.now) (state e.keeper.now) (IsErrOf j Keeper) → Quiet (state d.keeper.now) (state e.keeper.now) (IsErrOf j Keeper) → Finishes j (count_of e) (state e.keeper.now) new r → TrustedAfter true (state d.keeper.now) → Asks (state d.keeper.now) new r
   asks_by empty works stays cause quiet finishes before = record {
     steps = steps_on (state d.keeper.now) (state e.keeper.now) new works.reads.steps finishes.steps;
     trusted = trusted_by before stays finishes.stays finishes.stopped works.reads.steps finishes.steps;
     cause = cause_by cause finishes.cause finishes.stopped works.reads.steps finishes.steps;
     quiet = quiet_by quiet finishes.quiet finishes.stopped;
-    written = let few : count_of e ≤ count_of d + request_changes = works.changes in let none : count_of d ≡ 0 = ap length empty in omega (arith, few, none, finishes.written, works.reads.written);
+    written = let few : count_of e ≤ count_of d + message_changes = works.changes in let none : count_of d ≡ 0 = ap length empty in omega (arith, few, none, finishes.written, works.reads.written);
     shown = λ told.
         let most = works.shows (told.0, finishes.steps.stood told.1) in
         let none : removals_of state data_table d ≡ 0 = ap (removals data_table) empty in

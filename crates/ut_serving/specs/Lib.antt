@@ -9,3 +9,4 @@ pub mod Turning
 pub mod Falls
 pub mod Doors
 pub mod Isolation
+pub mod inner

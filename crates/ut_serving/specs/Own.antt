@@ -1,5 +1,6 @@
 -- What one message comes to in the organisation that its key names, over any tables: those of others may be damaged.
-use Rattle.std.specs.Prelude.{◌≡◌, ◌≢◌, ◌<◌, ◌≤◌, ◌+◌, ◌^◌, ℕ, Bool, IfErr, IfOk, IsErrOf, IsTrue, List, Option, Some, None, Result, Ok, Err, is_ok}
+use Rattle.std.specs.Prelude.{◌≡◌, ◌≢◌, ◌⊎◌, ◌<◌, ◌≤◌, ◌+◌, ◌^◌, ℕ, Bool, true, false, IfErr, IfOk, IsErrOf, IsTrue, List, Option, Some, None, Result, Ok, Err, is_ok}
+use Rattle.ut_background.specs.Background.{IsUnderWay, step_changes, step_shown}
 use Rattle.ut_http.specs.declared.message.HttpMessage.{HttpMessage}
 use Rattle.ut_http.specs.Reply.{reply_to}
 use Rattle.ut_keeper.specs.State.{KeeperCause, KeeperState, LeavesNoMore, Quiet, Reads, Shows, ShowsMost, Steps, Tells, TrustedAfter, data_table}
@@ -13,6 +14,7 @@ use Rattle.ut_model.specs.Callers.{Named}
 use Rattle.ut_model.specs.Routing.{routed}
 use Rattle.ut_model.specs.Step.{Message, key_in, refusal_reply}
 use Rattle.ut_model.specs.Tenant.{Tenant, User}
+use Rattle.ut_people.specs.People.{FindsCaller}
 use Rattle.ut_rest.specs.Forms.{IsRequestReply}
 use Rattle.ut_stands.specs.declared.judged.Judged.{Judged}
 use Rattle.ut_stands.specs.declared.judged.Judged.TheVariants.{Changed, Same}
@@ -20,7 +22,7 @@ use Rattle.ut_stands.specs.Local.{KeepsOthers, StandsFor, StandsIn}
 use Rattle.ut_stands.specs.Operations.{DoesIn, IsChange, Judges}
 use Rattle.ut_stands.specs.Plan.{OrgPlan}
 use Rattle.ut_step.specs.Built.{answered, asking}
-use Rattle.ut_step.specs.Own.{IsAsking, own_step, request_changes, request_shown}
+use Rattle.ut_step.specs.Own.{IsAsking, own_step, request_changes, request_shown, shown_beside}
 use Rattle.ut_serving.specs.Requests.{in_bytes, message_in}
 
 -- the bytes of a reply to a message
@@ -80,26 +82,75 @@ JudgesMessage m now before after result = JudgesBy (key_in (message_in m)) (mess
 abbrev pub DoesMessage : HttpMessage → (now : ℕ) → (old new : KeeperState) → Result (List ℕ) StoreFail → Type 0
 DoesMessage m now old new result = DoesBy (key_in (message_in m)) (message_in m) m.close now old new result
 
+-- ---- a step before the request
+
+-- the most rows that are written for a message: those of a step of the change of a type that is under way, and of the request
+abbrev pub message_changes : ℕ
+message_changes = step_changes + request_changes
+
+-- the most data rows that are shown to a message
+abbrev pub message_shown : ℕ
+message_shown = step_shown + request_shown
+
+-- the same over a draft that removes so many, which may be among those that the step reads, too
+abbrev pub message_shown_beside : (removed : ℕ) → ℕ
+message_shown_beside removed = (step_shown + removed) + shown_beside removed
+
+-- what is judged once a step was made, or where there was none: what a step changed is to be made, whatever the request changes
+abbrev pub after_step : {X : Type 0} → (made : Bool) → Result (Judged X) StoreFail → Result (Judged X) StoreFail
+after_step false judged = judged
+after_step true (Ok (Same x)) = Ok (Changed x)
+after_step true (Ok (Changed x)) = Ok (Changed x)
+after_step true (Err e) = Err e
+
+-- where these rows of the organisation with this number stand for a tenant, a change of a type is under way there
+abbrev pub IsMoving : (org : ℕ) → Tables → Type 0
+IsMoving n before = (q : OrgPlan) (t : Tenant) → StandsIn n q before (Some t) → IsUnderWay t
+
+-- over these tables the message's key names a caller, by its secret, in whose organisation a step is made
+abbrev pub IsStepped : Message → Tables → Type 0
+IsStepped m before = (c : Caller) × FindsCaller (key_in m) before (Ok (Some c)) × IsMoving c.org before
+
 -- ---- replies, whatever the tables have
 
--- what was judged is a reply of the form of its route, in bytes
-abbrev pub JudgesReply : Message → (close : Bool) → Result (Judged (List ℕ)) StoreFail → Type 0
-JudgesReply m close (Ok j) = (r : Judged Reply) × IsRequestReply (routed m.method m.target) r × (j ≡ in_bytes m.method close r)
-JudgesReply m close (Err e) = Unit {0}
+-- small steps: where the request itself changes nothing, at most the rows of a step are changed
+abbrev pub IsSmall : Judged Reply → (before after : ℕ) → Type 0
+IsSmall (Same r) before after = after ≤ before + step_changes
+IsSmall (Changed r) before after = Unit {0}
 
--- the keeper is as it was, where the reply goes with no change
-abbrev pub KeepsIfSame : Judged Reply → (old new : KeeperState) → Type 0
-KeepsIfSame (Same r) old new = (Tells old new → Shows new old.tables) × (new.written ≡ old.written)
-KeepsIfSame (Changed r) old new = Unit {0}
+-- what was judged is a reply of the form of its route, in bytes, over a draft that had so many changes and then has so many. A
+-- step was made before at most where `called` holds
+pub record IsJudged (m : Message) (close : Bool) (called : Type 0) (before after : ℕ) (j : Judged (List ℕ)) : Type 0 where
+  pub made : Bool
+  pub reply : Judged Reply
+  pub form : IsRequestReply (routed m.method m.target) reply
+  pub judged : after_step made (Ok (in_bytes m.method close reply)) ≡ Ok j
+  pub caller : made ≡ true → called
+  pub small : IsSmall reply before after
+
+abbrev pub JudgesReply : Message → (close : Bool) → (called : Type 0) → (before after : ℕ) → Result (Judged (List ℕ)) StoreFail → Type 0
+JudgesReply m close called before after (Ok j) = IsJudged m close called before after j
+JudgesReply m close called before after (Err e) = Unit {0}
+
+-- the keeper after a request that itself changes nothing: at most the rows of a step are written, and none at all unless a caller
+-- asks in whose organisation, where its rows stand for a tenant, a change of a type is under way
+pub record SmallSteps (m : Message) (old new : KeeperState) : Type 0 where
+  pub written : new.written ≤ old.written + step_changes
+  pub kept : ((Tells old new → Shows new old.tables) × (new.written ≡ old.written)) ⊎ (Tells old new → IsStepped m old.tables)
+
+-- the keeper, where the reply goes with no change that the request makes
+abbrev pub KeepsIfSame : Message → Judged Reply → (old new : KeeperState) → Type 0
+KeepsIfSame m (Same r) old new = SmallSteps m old new
+KeepsIfSame m (Changed r) old new = Unit {0}
 
 abbrev pub judged_bytes : Message → (close : Bool) → Judged Reply → List ℕ
 judged_bytes m close (Same r) = bytes_of m close r
 judged_bytes m close (Changed r) = bytes_of m close r
 
--- the reply is of the form of its route: one that refuses, or that has what was read, goes with no change
+-- the reply is of the form of its route: one that refuses, or that has what was read, goes with no change that the request makes
 abbrev pub Replies : Message → (close : Bool) → (old new : KeeperState) → Result (List ℕ) StoreFail → Type 0
 Replies m close old new (Ok bytes) =
-    (r : Judged Reply) × IsRequestReply (routed m.method m.target) r × (bytes ≡ judged_bytes m close r) × KeepsIfSame r old new
+    (r : Judged Reply) × IsRequestReply (routed m.method m.target) r × (bytes ≡ judged_bytes m close r) × KeepsIfSame m r old new
 Replies m close old new (Err e) = Unit {0}
 
 -- ---- the keeper
@@ -113,11 +164,11 @@ pub record AsksFirst (old new : KeeperState) (result : Result (Unit {0}) StoreFa
   pub cause : KeeperCause old new (IsErrOf result Keeper)
   pub quiet : Quiet old new (IsErrOf result Keeper)
 
--- what a request keeps of a keeper: a reply is made only while it is trusted, few rows are written, and few are shown
+-- what a message keeps of a keeper: a reply is made only while it is trusted, few rows are written, and few are shown
 pub record Asks {X : Type 0} (old new : KeeperState) (result : Result X StoreFail) : Type 0 where
   pub steps : Steps old new
   pub trusted : TrustedAfter (is_ok result) new
   pub cause : KeeperCause old new (IsErrOf result Keeper)
   pub quiet : Quiet old new (IsErrOf result Keeper)
-  pub written : new.written ≤ old.written + request_changes
-  pub shown : Tells old new → ShowsMost request_shown old new
+  pub written : new.written ≤ old.written + message_changes
+  pub shown : Tells old new → ShowsMost message_shown old new

@@ -1,7 +1,7 @@
 //! One request: who calls, what is answered, and the keeper after it.
 
 ghost use Rattle.std.specs.Prelude.{◌≡◌, ◌⊎◌, IsTrue, pos, true};
-ghost use Rattle.ut_keeper.specs.Draft.{DraftTells, removals_of, tables_of};
+ghost use Rattle.ut_keeper.specs.Draft.{DraftTells, count_of, removals_of, tables_of};
 ghost use Rattle.ut_keeper.specs.State.{KeeperCause, Quiet, Shows, Steps, Tells, TrustedAfter, data_table};
 ghost use Rattle.ut_keeper.specs.Tables.{Tables};
 ghost use Rattle.ut_model.specs.Step.{key_in};
@@ -14,15 +14,16 @@ ghost use Rattle.ut_step.specs.Built.{step};
 ghost use Rattle.ut_step.specs.Own.{request_changes, request_gone, shown_beside};
 ghost use Rattle.ut_value.specs.Dates.{is_moment};
 ghost use Rattle.ut_serving.specs.Leads.{LeadsFrom};
-ghost use Rattle.ut_serving.specs.Own.{Asks, AsksFirst, DoesMessage, JudgesCaller, JudgesMessage, JudgesReply, JudgesUnnamed, Replies};
+ghost use Rattle.ut_serving.specs.Own.{Asks, AsksFirst, DoesMessage, IsMoving, IsStepped, JudgesCaller, JudgesMessage, JudgesReply, JudgesUnnamed, Replies, after_step, message_changes, message_shown_beside};
 ghost use Rattle.ut_serving.specs.Requests.{message_in};
+ghost use Rattle.ut_serving.specs.inner.Steps.{IsInForm, JudgesRequest};
 
 use crate::replies::{damaged_bytes, judged_bytes, refusal_bytes_to};
 use std::alloc::Global;
 use ut_http::HttpMessage;
 use ut_keeper::{Draft, Keeper, draft_laws};
 use ut_keys::StoreFail;
-use ut_model::{Caller, Refusal};
+use ut_model::{Caller, Refusal, tenant_laws};
 use ut_people::caller;
 use ut_rest::{Routes, respond};
 use ut_stands::{Judged, call_laws, ended_laws, finish, local_laws};
@@ -76,8 +77,8 @@ fn caller_of<K: Keeper>(
     }
 }
 
-// Judges what a caller's message asks for, and makes the bytes of its reply.
-fn judge_called<K: Keeper>(
+// Judges what a caller's message asks for, where no step is to be made before, and makes the bytes of its reply.
+fn judge_request<K: Keeper>(
     alloc: Global,
     routes: &Routes,
     draft: &mut Draft<'_, K>,
@@ -87,9 +88,9 @@ fn judge_called<K: Keeper>(
 ) -> Result<Judged<Bytes>, StoreFail>
     requires { IsTrue (is_moment (pos now)) }
     ensures what { DraftTells K.state draft.old draft.new
-        → JudgesCaller caller.now (message_in message.now) message.now.close now (tables_of K.state draft.old)
+        → JudgesRequest caller.now (message_in message.now) message.now.close now (tables_of K.state draft.old)
         (tables_of K.state draft.new) result }
-    ensures form { JudgesReply (message_in message.now) message.now.close result }
+    ensures form { IsInForm (message_in message.now) message.now.close result }
     ensures drafts { Drafts K.state request_changes request_gone (shown_beside (removals_of K.state data_table draft.old)) result
         draft.old draft.new }
 {
@@ -109,10 +110,58 @@ fn judge_called<K: Keeper>(
     }
 }
 
+// What a request comes to behind a step: what the step changed is to be made, whatever the request itself changes.
+fn after_step(
+    made: bool,
+    judged: Result<Judged<Bytes>, StoreFail>,
+) -> Result<Judged<Bytes>, StoreFail>
+    ensures { result ≡ after_step made judged }
+{
+    if !made {
+        return judged;
+    }
+    match judged {
+        Ok(Judged::Same(bytes) | Judged::Changed(bytes)) => Ok(Judged::Changed(bytes)),
+        Err(fail) => Err(fail),
+    }
+}
+
+// Makes the step of a change of a type that is under way in the caller's organisation, and then judges what the caller's message
+// asks for, over the same draft: so both are done, or neither.
+fn judge_called<K: Keeper>(
+    alloc: Global,
+    routes: &Routes,
+    draft: &mut Draft<'_, K>,
+    caller: &Caller,
+    message: &HttpMessage,
+    now: u64,
+) -> Result<Judged<Bytes>, StoreFail>
+    requires { IsTrue (is_moment (pos now)) }
+    ensures what { DraftTells K.state draft.old draft.new
+        → JudgesCaller caller.now (message_in message.now) message.now.close now (tables_of K.state draft.old)
+        (tables_of K.state draft.new) result }
+    ensures form { JudgesReply (message_in message.now) message.now.close
+        (DraftTells K.state draft.old draft.new → IsMoving caller.now.org (tables_of K.state draft.old))
+        (count_of draft.old) (count_of draft.new) result }
+    ensures drafts { Drafts K.state message_changes request_gone
+        (message_shown_beside (removals_of K.state data_table draft.old)) result draft.old draft.new }
+{
+    draft_laws::<K>();
+    call_laws::<K>();
+    tenant_laws();
+    match ut_background::step(alloc, draft, caller.org) {
+        Ok(made) => {
+            let judged = judge_request(alloc, routes, draft, caller, message, now);
+            after_step(made, judged)
+        }
+        Err(fail) => Err(fail),
+    }
+}
+
 // Refuses a message of no caller.
 fn refuse_uncalled(alloc: Global, message: &HttpMessage) -> Result<Judged<Bytes>, StoreFail>
     ensures what { JudgesUnnamed (message_in message.now) message.now.close result }
-    ensures form { JudgesReply (message_in message.now) message.now.close result }
+    ensures form { IsInForm (message_in message.now) message.now.close result }
 {
     match refusal_bytes_to(alloc, message, &Refusal::InvalidSession) {
         Ok(bytes) => Ok(Judged::Same(bytes)),
@@ -131,9 +180,11 @@ fn judge<K: Keeper>(
     requires { IsTrue (is_moment (pos now)) }
     ensures what { DraftTells K.state draft.old draft.new
         → JudgesMessage message.now now (tables_of K.state draft.old) (tables_of K.state draft.new) result }
-    ensures form { JudgesReply (message_in message.now) message.now.close result }
-    ensures drafts { Drafts K.state request_changes request_gone (shown_beside (removals_of K.state data_table draft.old)) result
-        draft.old draft.new }
+    ensures form { JudgesReply (message_in message.now) message.now.close
+        (DraftTells K.state draft.old draft.new → IsStepped (message_in message.now) (tables_of K.state draft.old))
+        (count_of draft.old) (count_of draft.new) result }
+    ensures drafts { Drafts K.state message_changes request_gone
+        (message_shown_beside (removals_of K.state data_table draft.old)) result draft.old draft.new }
 {
     draft_laws::<K>();
     call_laws::<K>();
@@ -253,8 +304,8 @@ pub fn answer_message<K: Keeper>(
     // row changes.
     ensures does { DoesMessage message.now now (K.state keeper.old) (K.state keeper.new) (outcome_of result) }
 
-    // Over any tables: the reply is of the form of its route, and a refusal or what was read leaves the keeper as it was. Few
-    // rows are written, and few are shown.
+    // Over any tables: the reply is of the form of its route. A refusal and a read write at most the rows of a step before them,
+    // and none if there is no caller. Few rows are written, and few are shown.
     ensures form { IsFixed message.now result
         × Replies (message_in message.now) message.now.close (K.state keeper.old) (K.state keeper.new) (outcome_of result) }
     ensures asks { Asks (K.state keeper.old) (K.state keeper.new) (outcome_of result) }

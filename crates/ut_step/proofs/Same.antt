@@ -1,5 +1,5 @@
 -- What is built is answered as the whole product answers it.
-use Rattle.std.proofs.Common.{◌≡◌, ℕ, zero, suc, Bool, true, false, not, ◌&&◌, cond, List, [], ◌∷◌, Option, Some, None, refl, sym, ap, subst, ◌∙◌}
+use Rattle.std.proofs.Common.{◌≡◌, ℕ, Bool, true, false, not, ◌&&◌, cond, List, Option, Some, None, refl, ap}
 use Rattle.std.specs.Prelude.{Result, Ok, Err, codes}
 use Rattle.ut_query.specs.declared.query.Query.{Query}
 use Rattle.ut_model.specs.declared.caller.Caller.{Caller}
@@ -13,34 +13,19 @@ use Rattle.ut_model.specs.declared.routed.Routed.TheVariants.{To, NotFound, NotA
 use Rattle.ut_step.specs.Flat.{is_flat}
 use Rattle.ut_model.specs.Callers.{Named, caller_of}
 use Rattle.ut_model.specs.Cases.{in_case}
-use Rattle.ut_model.specs.Jobs.{job_step, step_in}
 use Rattle.ut_model.specs.Paths.{Asked}
 use Rattle.ut_model.specs.Replies.{reply_of}
 use Rattle.ut_model.specs.RequestOf.{answer_to, query_or, request_of, verdict_at, verdict_or}
 use Rattle.ut_model.specs.Requests.{Request}
 use Rattle.ut_model.specs.Routing.{is_administration, routed}
 use Rattle.ut_model.specs.Step.{Message, answer_in, if_called, in_key, in_tenant, key_in, query_text, refused}
-use Rattle.ut_model.specs.Tenant.{Job, Tenant, User}
+use Rattle.ut_model.specs.Tenant.{Tenant, User}
 use Rattle.ut_model.specs.Verdict.{Verdict, refuse}
 use Rattle.ut_model.specs.Whole.{answered_whole}
 use Rattle.ut_model.specs.World.{World, tenant_at, user_at, with_tenant}
-use Rattle.ut_step.specs.Built.{answer_built, answered, asking, built_request, background, built_verdict, is_built, query_verdict, step, stepped, verdict_to}
+use Rattle.ut_step.specs.Built.{answer_built, answered, asking, built_request, built_verdict, is_built, query_verdict, step, stepped, verdict_to}
 use Rattle.ut_soql_grammar.specs.Spelling.{reads_query}
-use Rattle.ut_step.specs.Whole.{IsBuilt, NoJobs, whole_step}
-
--- an organisation without a job makes no step
-same_background : (t : Tenant) → t.job ≡ None → background t ≡ job_step t
-unfolding job_step
-same_background t e = sym (ap (λ (j : Option Job). in_case j t (λ j. step_in j.phase j t)) e)
-
-job_none : (w : World) (n : ℕ) (t : Tenant) → NoJobs w → tenant_at w n ≡ Some t → t.job ≡ None
-job_none w zero t none e = absurd cc
-job_none [] (suc n) t none e = absurd cc
-job_none (u ∷ w) (suc zero) t none e = subst (λ (x : Tenant). x.job ≡ None) (some_is u t e) none.0
-  where
-    some_is : (x y : Tenant) → ◌≡◌ {A = Option Tenant} (Some x) (Some y) → x ≡ y
-    some_is x y e = cc
-job_none (u ∷ w) (suc (suc n)) t none e = job_none w (suc n) t none.1 e
+use Rattle.ut_step.specs.Whole.{IsBuilt, whole_step}
 
 -- ---- a user's message
 
@@ -69,6 +54,7 @@ module _ (a : Asked) (body : List ℕ) where
   same_route : (r : Route) → IsAllowed (built_verdict a r body) → built_verdict a r body ≡ verdict_or a (request_of r body)
   unfolding request_of
   same_route (route.Query pairs) ok = same_query (reads_query (query_text pairs)) ok
+  same_route route.GetRetype ok = refl
   same_route r ok = same_request r ok
 
   same_verdict : (r : Routed) → IsAllowed (verdict_to a body r) → verdict_to a body r ≡ verdict_at a body r
@@ -81,32 +67,31 @@ module _ (a : Asked) (body : List ℕ) where
       by true ok = refl
       by false ok = same_route r ok
 
-same_answer : (a : Asked) (m : Message) → a.tenant.job ≡ None → ((answer_built a m).0.status ≡ 501 → ⊥) → answer_built a m ≡ answer_to a m
-same_answer a m none ok =
+same_answer : (a : Asked) (m : Message) → ((answer_built a m).0.status ≡ 501 → ⊥) → answer_built a m ≡ answer_to a m
+same_answer a m ok =
     let b : Asked = stepped a in
     ap (λ (v : Verdict). (reply_of b v.answer, v.tenant)) (same_verdict b m.body (routed m.method m.target) ok)
-    ∙ ap (λ (t : Tenant). let b : Asked = record a { tenant = t } in let v = verdict_at b m.body (routed m.method m.target) in (reply_of b v.answer, v.tenant)) (same_background a.tenant none)
 
 -- ---- the world
 
-pub same_step : (w : World) (m : Message) (now : ℕ) → NoJobs w → IsBuilt w m now → step w m now ≡ whole_step w m now
+pub same_step : (w : World) (m : Message) (now : ℕ) → IsBuilt w m now → step w m now ≡ whole_step w m now
 unfolding step whole_step
-same_step w m now none ok = by (key_in m) ok
+same_step w m now ok = by (key_in m) ok
   where
-    user : (t : Tenant) → t.job ≡ None → (o : Option User) → ((in_case o (refused refusal.InvalidSession t) (λ u. answer_built (asking t now u) m)).0.status ≡ 501 → ⊥)
+    user : (t : Tenant) (o : Option User) → ((in_case o (refused refusal.InvalidSession t) (λ u. answer_built (asking t now u) m)).0.status ≡ 501 → ⊥)
         → in_case o (refused refusal.InvalidSession t) (λ u. answer_built (asking t now u) m) ≡ in_case o (refused refusal.InvalidSession t) (λ u. answer_to (asking t now u) m)
-    user t e None ok = refl
-    user t e (Some u) ok = same_answer (asking t now u) m e ok
+    user t None ok = refl
+    user t (Some u) ok = same_answer (asking t now u) m ok
 
-    called : (t : Tenant) → t.job ≡ None → (c : Option Caller) → ((if_called answered m now c t).0.status ≡ 501 → ⊥) → if_called answered m now c t ≡ if_called answered_whole m now c t
-    called t e None ok = refl
-    called t e (Some c) ok = user t e (user_at t.users c.user) ok
+    called : (t : Tenant) (c : Option Caller) → ((if_called answered m now c t).0.status ≡ 501 → ⊥) → if_called answered m now c t ≡ if_called answered_whole m now c t
+    called t None ok = refl
+    called t (Some c) ok = user t (user_at t.users c.user) ok
 
-    here : (n : Named) (o : Option Tenant) → tenant_at w n.org ≡ o → ((in_tenant w n.org (answer_in answered n m now) o).0.status ≡ 501 → ⊥)
+    here : (n : Named) (o : Option Tenant) → ((in_tenant w n.org (answer_in answered n m now) o).0.status ≡ 501 → ⊥)
         → in_tenant w n.org (answer_in answered n m now) o ≡ in_tenant w n.org (answer_in answered_whole n m now) o
-    here n None e ok = refl
-    here n (Some t) e ok = ap (λ (r : Reply × Tenant). (r.0, with_tenant w n.org r.1)) (called t (job_none w n.org t none e) (caller_of n t) ok)
+    here n None ok = refl
+    here n (Some t) ok = ap (λ (r : Reply × Tenant). (r.0, with_tenant w n.org r.1)) (called t (caller_of n t) ok)
 
     by : (o : Option Named) → ((in_key answered w m now o).0.status ≡ 501 → ⊥) → in_key answered w m now o ≡ in_key answered_whole w m now o
     by None ok = refl
-    by (Some n) ok = here n (tenant_at w n.org) refl ok
+    by (Some n) ok = here n (tenant_at w n.org) ok

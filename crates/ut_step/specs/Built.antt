@@ -1,5 +1,5 @@
--- The step of the world by the routes that are built: the replies that are made, and what becomes of the world. What is built has
--- the verdicts of the whole step (Whole); a request of any other route is refused with NOT_BUILT.
+-- The step of the world by what is built: the replies that are made, and what becomes of the world. What is built has the verdicts
+-- of the whole step (Whole); a query of any other is refused with NOT_BUILT.
 -- Source of the query: Salesforce, REST API, "Query". What is built is this product's own.
 use Rattle.std.specs.Prelude.{ℕ, pos, Bool, true, false, not, ◌&&◌, if◌then◌else◌, List, codes, Result, Ok, Err}
 use Rattle.ut_query.specs.declared.query.Query.{Query}
@@ -12,10 +12,12 @@ use Rattle.ut_model.specs.declared.route.Route.TheVariants as route
 use Rattle.ut_model.specs.declared.routed.Routed.{Routed}
 use Rattle.ut_model.specs.declared.routed.Routed.TheVariants.{To, NotFound, NotAllowed}
 use Rattle.ut_model.specs.Cases.{in_case}
+use Rattle.ut_model.specs.Jobs.{job_step}
 use Rattle.ut_model.specs.Paths.{Asked}
 use Rattle.ut_model.specs.Replies.{reply_of}
 use Rattle.ut_model.specs.RequestOf.{request_of, verdict_or}
 use Rattle.ut_model.specs.Requests.{Request, asks, verdict_on}
+use Rattle.ut_model.specs.Retyping.{get_retype}
 use Rattle.ut_model.specs.Routing.{is_administration, routed}
 use Rattle.ut_model.specs.Step.{Answering, Message, query_text, refused, step_by}
 use Rattle.ut_model.specs.Tenant.{Tenant, User}
@@ -25,7 +27,7 @@ use Rattle.ut_step.specs.Flat.{is_flat}
 
 -- ---- requests
 
--- the routes that are built, beside queries
+-- the routes of edits that are built, all of them; those that read have verdicts of their own below
 abbrev pub is_built : Route → Bool
 is_built (route.Create object) = true
 is_built (route.Update object key) = true
@@ -45,9 +47,11 @@ is_built route.AddRole = true
 is_built (route.SetRole role) = true
 is_built route.AddGroup = true
 is_built (route.SetGroup group) = true
+is_built route.BeginRetype = true
+is_built route.CancelRetype = true
 is_built _ = false
 
--- the request that a route and a body make, where the route is built; of any other the body isn't looked at
+-- the request that a route and a body make, where the route is an edit's; of any other the body isn't looked at
 abbrev pub built_request : Route → (body : List ℕ) → Result Request Refusal
 built_request r body = if is_built r then request_of r body else Err (refusal.NotBuilt (codes "route"))
 
@@ -63,6 +67,7 @@ query_verdict a (Ok q) = if is_flat q then verdict_on a (asks q) else refuse a.t
 -- what a request comes to
 abbrev pub built_verdict : Asked → Route → (body : List ℕ) → Verdict
 built_verdict a (route.Query pairs) body = query_verdict a (reads_query (query_text pairs))
+built_verdict a route.GetRetype body = get_retype a.tenant
 built_verdict a r body = verdict_or a (built_request r body)
 
 -- no such path, another method, no administrator; then the request itself
@@ -75,9 +80,9 @@ verdict_to a body (To r) = if is_administration r && not a.user.admin then refus
 abbrev pub asking : Tenant → ℕ → User → Asked
 asking t now u = record { tenant = t; user = u; now = pos now }
 
--- what is done in the organisation before a request is judged. No step of a change of a type is made yet, as no request begins one
+-- what is done in the organisation before a request is judged: a step of the change of a field's type that is under way
 abbrev pub background : Tenant → Tenant
-background t = t
+background t = job_step t
 
 -- the same user, once that is done
 abbrev pub stepped : Asked → Asked

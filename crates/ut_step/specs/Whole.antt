@@ -1,7 +1,6 @@
 -- The step of the world by all routes, and where the step by those that are built is the same.
 -- Source: this product's own.
-use Rattle.std.specs.Prelude.{◌≡◌, ℕ, None}
-use Rattle.std.specs.List.{AllByRecursion}
+use Rattle.std.specs.Prelude.{◌≡◌, ℕ}
 use Rattle.ut_model.specs.declared.reply.Reply.{Reply}
 use Rattle.ut_model.specs.Step.{Message, step_by}
 use Rattle.ut_model.specs.Whole.{answered_whole}
@@ -13,10 +12,6 @@ unfoldable pub whole_step : World → Message → ℕ → Reply × World
 whole_step = step_by answered_whole
 
 -- ---- where the two steps are the same
-
--- no organisation changes a type
-abbrev pub NoJobs : World → Type 0
-NoJobs w = AllByRecursion (λ t. t.job ≡ None) w
 
 -- the answer isn't NOT_BUILT, which alone of a step's answers has this status
 abbrev pub IsBuilt : World → Message → ℕ → Type 0

@@ -14,7 +14,7 @@ ghost use Rattle.ut_model.specs.World.{World, tenant_at, with_tenant};
 ghost use Rattle.ut_step.specs.Flat.{is_flat};
 ghost use Rattle.ut_step.specs.Built.{answer_built, answered, asking, built_request, step};
 ghost use Rattle.ut_soql_grammar.specs.Spelling.{query_in};
-ghost use Rattle.ut_step.specs.Whole.{IsBuilt, NoJobs, whole_step};
+ghost use Rattle.ut_step.specs.Whole.{IsBuilt, whole_step};
 ghost use Rattle.ut_step.specs.Worked.{acme, asks_by};
 
 use ut_model::answering_laws;
@@ -51,9 +51,8 @@ pub fn step_laws()
 
 /// That what is built is the whole product, as far as it goes. The call does nothing.
 pub fn whole_laws()
-    // Where no organisation changes a type, what is built is answered as the whole product answers it.
-    ensures whole { (w : World) (m : Message) (now : ℕ) → NoJobs w → IsBuilt w m now
-        → step w m now ≡ whole_step w m now }
+    // What is built is answered as the whole product answers it.
+    ensures whole { (w : World) (m : Message) (now : ℕ) → IsBuilt w m now → step w m now ≡ whole_step w m now }
 {}
 
 /// Steps of the world, worked by hand. The call does nothing.
@@ -64,7 +63,7 @@ pub fn step_rows()
         ≡ (refusal_reply (refusal.InvalidType (codes "Deal__c")), acme) }
 
     // What `whole_laws` takes as given can be met.
-    ensures built { NoJobs acme × IsBuilt acme (asks_by (codes "q=SELECT+Id,Name+FROM+Deal__c")) 0 }
+    ensures built { IsBuilt acme (asks_by (codes "q=SELECT+Id,Name+FROM+Deal__c")) 0 }
 
     // A word of the language is no name; of queries those with paths aren't built.
     ensures no_query { step acme (asks_by (codes "q=SELECT+Id,Name+FROM+Limit")) 0

@@ -1,8 +1,8 @@
 //! The step of the world: by the routes that are built, and by all.
 //!
 //! It depends on `ut_model`, which has the verdicts, and on `ut_soql_grammar`, by which queries are read.
-//! Its contract: the step is a function of the organisation that the message's key names, and where no organisation changes a
-//! type, what is built is answered as the whole product answers it.
+//! Its contract: the step is a function of the organisation that the message's key names, and what is built is answered as the
+//! whole product answers it.
 #![tactic(auto)]
 
 mod laws;

@@ -73,9 +73,10 @@ fn record_in(alloc: Global, arguments: &str) -> Result<(Text, Text, &str), Alloc
     Ok((object, key, rest))
 }
 
-/// The status and the body of the reply to a request: of a new object, field or role its body, of another default access and of a
-/// new record the object and the body, of other values for a record the object, the record's id and the body, of an upsert the
-/// object, the unique field, the value and the body, and of a deletion the object, the record's id, and a body if it has one.
+/// The status and the body of the reply to a request: of a new object, field or role, and of the beginning or the calling off of the
+/// change of a field's type its body, of another default access and of a new record the object and the body, of other values for a
+/// record the object, the record's id and the body, of an upsert the object, the unique field, the value and the body, and of a
+/// deletion the object, the record's id, and a body if it has one.
 pub(crate) fn answer(
     alloc: Global,
     keeper: &mut MemoryKeeper,
@@ -86,6 +87,8 @@ pub(crate) fn answer(
         "object" => shown_reply(alloc, keeper, &Route::AddObject, arguments),
         "field" => shown_reply(alloc, keeper, &Route::AddField, arguments),
         "role" => shown_reply(alloc, keeper, &Route::AddRole, arguments),
+        "retype" => shown_reply(alloc, keeper, &Route::BeginRetype, arguments),
+        "cancel-retype" => shown_reply(alloc, keeper, &Route::CancelRetype, arguments),
         "access" => {
             let (object, body) = first_of(arguments);
             let object = Text::from_str(alloc, object)?;

@@ -6,7 +6,7 @@ use Rattle.ut_model.specs.Metadata.{set_access}
 use Rattle.ut_model.specs.RequestOf.{verdict_or}
 use Rattle.ut_model.specs.Requests.{adds_field, adds_object, adds_validation_rule, sets_object}
 use Rattle.ut_model.specs.Verdict.{done}
-use Rattle.ut_model.specs.declared.route.Route.TheVariants.{AddField, AddGroup, AddObject, AddRole, AddSharingRule, AddUser, AddValidationRule, RemoveSharingRule, SetGroup, SetObject, SetRole, SetUser, Share, Unshare}
+use Rattle.ut_model.specs.declared.route.Route.TheVariants.{AddField, AddGroup, AddObject, AddRole, AddSharingRule, AddUser, AddValidationRule, BeginRetype, CancelRetype, RemoveSharingRule, SetGroup, SetObject, SetRole, SetUser, Share, Unshare}
 use Rattle.ut_admin.specs.Administration.{AsksWith}
 use Rattle.ut_admin.specs.declared.answer.Answer.TheVariants as answer
 use Rattle.ut_admin.specs.inner.Edits.{Anyone, EditsFrom, HasRights}
@@ -234,6 +234,20 @@ returns-in-RemoveSharingRule-clause-what g c told =
     edits_asked_so caller.org Anyone (AsksWith (g.R.Rights.whose c.args.rights.now) caller c.args.now) (λ a _. tt) c.args.route.now (RemoveSharingRule c.in-RemoveSharingRule.name) c.args.body.now (tables_of g.K.Keeper.state c.args.draft.now) (tables_of g.K.Keeper.state c.removed_sharing_rule.new.draft) c.removed_sharing_rule.result
     c.in-RemoveSharingRule.is (c.removed_sharing_rule.ensures.what told c.args.body.now)
 
+-- ---- the change of a field's type
+
+pub returns-in-BeginRetype-clause-what : goal.returns-in-BeginRetype-clause-what
+returns-in-BeginRetype-clause-what g c told =
+    let caller = c.args.caller.now in
+    edits_asked_so caller.org Anyone (AsksWith (g.R.Rights.whose c.args.rights.now) caller c.args.now) (λ a _. tt) c.args.route.now BeginRetype c.args.body.now (tables_of g.K.Keeper.state c.args.draft.now) (tables_of g.K.Keeper.state c.begun_retype.new.draft) c.begun_retype.result
+    c.in-BeginRetype.is (c.begun_retype.ensures.what told)
+
+pub returns-in-CancelRetype-clause-what : goal.returns-in-CancelRetype-clause-what
+returns-in-CancelRetype-clause-what g c told =
+    let caller = c.args.caller.now in
+    edits_asked_so caller.org Anyone (AsksWith (g.R.Rights.whose c.args.rights.now) caller c.args.now) (λ a _. tt) c.args.route.now CancelRetype c.args.body.now (tables_of g.K.Keeper.state c.args.draft.now) (tables_of g.K.Keeper.state c.cancelled_retype.new.draft) c.cancelled_retype.result
+    c.in-CancelRetype.is (c.cancelled_retype.ensures.what told c.args.body.now)
+
 -- ---- another route
 
 pub returns-in_ok-from_str-in_default-clause-what : goal.returns-in_ok-from_str-in_default-clause-what
@@ -260,5 +274,7 @@ returns-in_ok-from_str-in_default-clause-what g c told =
       no_parent = λ role. c.in_default.not-SetRole role;
       no_group = c.in_default.not-AddGroup;
       no_members = λ group. c.in_default.not-SetGroup group;
+      no_beginning = c.in_default.not-BeginRetype;
+      no_calling_off = c.in_default.not-CancelRetype;
     })
     c.in_ok-from_str-in_default.ensures

@@ -10,7 +10,7 @@ use Rattle.ut_step.specs.Own.{IsAsking, shown_beside}
 use Rattle.ut_rest.specs.inner.Answers.{AnswersBy}
 use Rattle.ut_rest.proofs.Named.{refused_so}
 use Rattle.ut_rest.proofs.Responses.{drafts_of, form_of, read_responds, refused_calls}
-use Rattle.ut_rest.proofs.Verdicts.{administered_drafts, administered_form, administrator_lacks, edited}
+use Rattle.ut_rest.proofs.Verdicts.{administered_drafts, administered_form, administrator_lacks, edited, state_asked}
 use Rattle.ut_rest.proofs.requests.answer.Goals as goal
 
 -- ---- no administrator
@@ -56,17 +56,38 @@ returns-in-Query-clause-drafts g c =
     let shown = shown_beside (removals_of state data_table a) in
     drafts_of state laws.makes laws.most shown shown (omega arith) a c.answer_query.new.draft c.answer_query.result c.unchanged-in-Query.result c.unchanged-in-Query.ensures c.answer_query.ensures.calls
 
+-- ---- how far the change of a type is
+
+pub returns-in-GetRetype-clause-what : goal.returns-in-GetRetype-clause-what
+returns-in-GetRetype-clause-what g c told =
+    let state = g.K.Keeper.state in
+    let caller = c.args.caller.now in
+    let body = c.args.body.now in
+    read_responds caller.org (IsAsking caller c.args.now) (λ a. verdict_to a body (To c.args.route.now)) (tables_of state c.args.draft.now) (tables_of state c.answer_state.new.draft) c.answer_state.result c.unchanged-in-GetRetype.result c.unchanged-in-GetRetype.ensures
+    (λ p a s asking. subst (λ (v : Verdict). AnswersBy a v c.answer_state.result)
+    (sym (state_asked c.args.route.now body caller c.args.now a asking c.in-GetRetype.is (sym c.lacks_administrator.ensures ∙ c.if-lacks_administrator.false))) (c.answer_state.ensures.what told p a s))
+
+pub returns-in-GetRetype-clause-form : goal.returns-in-GetRetype-clause-form
+returns-in-GetRetype-clause-form g c = form_of (To c.args.route.now) c.answer_state.result c.unchanged-in-GetRetype.result c.unchanged-in-GetRetype.ensures c.answer_state.ensures.form
+
+pub returns-in-GetRetype-clause-drafts : goal.returns-in-GetRetype-clause-drafts
+returns-in-GetRetype-clause-drafts g c =
+    let state = g.K.Keeper.state in
+    let laws = c.call_laws.ensures in
+    let a = c.args.draft.now in
+    drafts_of state laws.makes laws.most 0 (shown_beside (removals_of state data_table a)) (omega arith) a c.answer_state.new.draft c.answer_state.result c.unchanged-in-GetRetype.result c.unchanged-in-GetRetype.ensures c.answer_state.ensures.calls
+
 -- ---- an edit
 
 pub returns-in_default-clause-what : goal.returns-in_default-clause-what
 returns-in_default-clause-what g c told =
     let state = g.K.Keeper.state in
     let caller = c.args.caller.now in
-    edited c.args.route.now c.args.body.now caller c.args.now (λ pairs. c.in_default.not-Query pairs) (sym c.lacks_administrator.ensures ∙ c.if-lacks_administrator.false)
+    edited c.args.route.now c.args.body.now caller c.args.now (record { no_query = λ pairs. c.in_default.not-Query pairs; no_state = c.in_default.not-GetRetype }) (sym c.lacks_administrator.ensures ∙ c.if-lacks_administrator.false)
     caller.org (tables_of state c.args.draft.now) (tables_of state c.answer_edit.new.draft) c.answer_edit.result (c.answer_edit.ensures.what told)
 
 pub returns-in_default-clause-form : goal.returns-in_default-clause-form
-returns-in_default-clause-form g c = administered_form c.args.route.now c.answer_edit.result (λ pairs. c.in_default.not-Query pairs) c.answer_edit.ensures.form
+returns-in_default-clause-form g c = administered_form c.args.route.now c.answer_edit.result (record { no_query = λ pairs. c.in_default.not-Query pairs; no_state = c.in_default.not-GetRetype }) c.answer_edit.ensures.form
 
 pub returns-in_default-clause-drafts : goal.returns-in_default-clause-drafts
 returns-in_default-clause-drafts g c =

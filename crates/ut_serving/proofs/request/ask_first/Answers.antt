@@ -1,4 +1,4 @@
-use Rattle.std.proofs.Common.{Err, ap, subst, sym}
+use Rattle.std.proofs.Common.{Err, subst, sym}
 use Rattle.ut_serving.specs.Own.{AsksFirst}
 use Rattle.ut_serving.proofs.Asked.{asked_done, asked_failed}
 use Rattle.ut_serving.proofs.request.ask_first.Goals as goal

@@ -1,5 +1,5 @@
 -- What is read of an object's masters: one step, and then those above it.
-use Rattle.std.proofs.Common.{◌≡◌, ℕ, suc, ◌+◌, ◌≤◌, List, ◌∷◌, add-one, Option, Some, None, sym, ap, subst, ◌∙◌, arith}
+use Rattle.std.proofs.Common.{◌≡◌, ℕ, suc, ◌+◌, ◌≤◌, List, ◌∷◌, add-one, Option, Some, None, refl, sym, ap, subst, ◌∙◌, arith}
 use Rattle.std.specs.Prelude.{Result, Ok, Err}
 use Rattle.ut_keeper.specs.Tables.{Tables}
 use Rattle.ut_keys.specs.declared.fail.StoreFail.{StoreFail}
@@ -15,7 +15,7 @@ use Rattle.ut_stands.specs.Local.{FindsIn, StandsIn}
 use Rattle.ut_stands.specs.Plan.{OrgPlan}
 use Rattle.ut_grants.specs.declared.steps.MasterField.{MasterField}
 use Rattle.ut_grants.specs.declared.steps.Step.{Step}
-use Rattle.ut_grants.specs.inner.Steps.{Fact, Leads, LeadsIfAny, LeadsTo, TellsWhere, master_from, step_to}
+use Rattle.ut_grants.specs.inner.Steps.{Fact, Leads, LeadsIfAny, LeadsTo, TellsWhere, master_from, most_above, step_to}
 use Rattle.ut_grants.proofs.Layouts.{none_is, read_is}
 use Rattle.ut_grants.proofs.Masters.{first_there, target_there}
 
@@ -55,6 +55,24 @@ module _ (m : Tables) (l : Layout) (x : MasterField) (some : Some x ≡ master_f
   pub stepped : (r : Result (Option Layout) StoreFail) → FindsIn l.org (own_layout l.org x.target) m r → (out : Result (Option Step) StoreFail) → out ≡ step_to x.position r
       → TellsWhere l.org (IsIts l) (LeadsFrom l) m out
   stepped r h out is = subst (TellsWhere l.org (IsIts l) (LeadsFrom l) m) (sym is) (by_read r h)
+
+-- ---- how many there are
+
+-- no more than there may be
+pub at_most : (most : ℕ) (l : Layout) → most_above most l ≤ most
+at_most most l = by (master_from 1 l.fields)
+  where
+    by : (f : Option MasterField) → in_case f 0 (λ f. most) ≤ most
+    by None = omega arith
+    by (Some f) = omega arith
+
+-- one more, where a field is a Master
+pub one_more : (most less n : ℕ) (l : Layout) (s : Step) → less + 1 ≡ most → n ≤ less → (master_from 1 l.fields ≡ None → Some s ≡ None) → suc n ≤ most_above most l
+one_more most less n l s e h none = by (master_from 1 l.fields) none
+  where
+    by : (f : Option MasterField) → (f ≡ None → Some s ≡ None) → suc n ≤ in_case f 0 (λ f. most)
+    by None none = let no = none refl in absurd cc
+    by (Some f) none = omega (arith, e, h)
 
 -- ---- one step after another
 

@@ -3,7 +3,7 @@
 ghost use Rattle.std.specs.Prelude.{◌≡◌, ℕ, [], false, length};
 ghost use Rattle.ut_formula.specs.Meaning.{value_at};
 ghost use Rattle.ut_grants.specs.inner.Climbing.{IsLevel, IsLevelWithin, IsOwnLevel, MakesOwn, MayClimb, MayJudge, MaySee, full_of, master_there};
-ghost use Rattle.ut_grants.specs.inner.Steps.{TellsWhere};
+ghost use Rattle.ut_grants.specs.inner.Steps.{TellsWhere, most_above};
 ghost use Rattle.ut_keeper.specs.Draft.{DraftTells, tables_of};
 ghost use Rattle.ut_model.specs.Levels.{full_for_edit};
 ghost use Rattle.ut_model.specs.Tenant.{Tenant};
@@ -155,18 +155,19 @@ fn own_level<K: Keeper>(
     org: u32,
     sight: &UserSight<'_>,
     asked: Level,
-    item: &Record,
+    item: Record,
 ) -> Result<Level, StoreFail>
     ensures finds { DraftTells K.state draft.old draft.new
-        → TellsWhere org (MayClimb sight.now org [] item.now) (IsOwnLevel asked item.now) (tables_of K.state draft.old) result }
+        → TellsWhere org (MayClimb sight.now org [] item) (IsOwnLevel asked item) (tables_of K.state draft.old) result }
     ensures calls { Calls K.state 0 (ended result) draft.old draft.new }
 {
     call_laws::<K>();
+    let id = item.id;
     let apart = level_apart(alloc, &sight.rights.sharer, &sight.own, item)?;
     if is_settled(asked, apart) {
         return Ok(apart);
     }
-    let shares = shares_on(alloc, draft, org, sight.shared, &item.id)?;
+    let shares = shares_on(alloc, draft, org, sight.shared, &id)?;
     Ok(level_with(&sight.rights.sharer, apart, shares.as_slice()))
 }
 
@@ -178,10 +179,10 @@ fn level_through<K: Keeper>(
     sight: &UserSight<'_>,
     asked: Level,
     steps: &[Step],
-    item: &Record,
+    item: Record,
 ) -> Result<Level, StoreFail>
     ensures finds { DraftTells K.state draft.old draft.new
-        → TellsWhere org (MayClimb sight.now org steps.now item.now) (IsLevelWithin asked (length steps.now) item.now)
+        → TellsWhere org (MayClimb sight.now org steps.now item) (IsLevelWithin asked (length steps.now) item)
         (tables_of K.state draft.old) result }
     ensures calls { Calls K.state (length steps.now) (ended result) draft.old draft.new }
 {
@@ -190,8 +191,8 @@ fn level_through<K: Keeper>(
     let Some((step, rest)) = steps.split_first() else {
         return own_level(alloc, draft, org, sight, asked, item);
     };
-    match master_of(alloc, draft, step, item) {
-        Ok(Some(master)) => full_of(level_through(alloc, draft, org, sight, asked, rest, &master)),
+    match master_of(alloc, draft, step, &item) {
+        Ok(Some(master)) => full_of(level_through(alloc, draft, org, sight, asked, rest, master)),
         Ok(None) => Ok(Level::Nothing),
         Err(fail) => Err(fail),
     }
@@ -209,10 +210,10 @@ pub(crate) fn level_in<K: Keeper>(
     sight: &UserSight<'_>,
     asked: Level,
     layout: &Layout,
-    item: &Record,
+    item: Record,
 ) -> Result<Level, StoreFail>
     ensures finds { DraftTells K.state draft.old draft.new
-        → TellsWhere layout.now.org (MaySee sight.now layout.now item.now) (IsLevel asked item.now) (tables_of K.state draft.old) result }
+        → TellsWhere layout.now.org (MaySee sight.now layout.now item) (IsLevel asked item) (tables_of K.state draft.old) result }
     ensures calls { Calls K.state 3 (ended result) draft.old draft.new }
 {
     draft_laws::<K>();
@@ -242,11 +243,11 @@ pub(crate) fn level_of<K: Keeper>(
     draft: &mut Draft<'_, K>,
     rights: &UserRights,
     layout: &Layout,
-    item: &Record,
+    item: Record,
 ) -> Result<Level, StoreFail>
     ensures finds { DraftTells K.state draft.old draft.new
-        → TellsWhere layout.now.org (MayJudge rights.now layout.now item.now) (IsLevel Full item.now) (tables_of K.state draft.old) result }
-    ensures calls { Calls K.state 3 (ended result) draft.old draft.new }
+        → TellsWhere layout.now.org (MayJudge rights.now layout.now item) (IsLevel Full item) (tables_of K.state draft.old) result }
+    ensures calls { Calls K.state (most_above 3 layout.now) (ended result) draft.old draft.new }
 {
     draft_laws::<K>();
     call_laws::<K>();

@@ -1,10 +1,10 @@
 //! What a user who doesn't administer sees of the records of one object, and the levels on records by their ids.
 
-ghost use Rattle.std.specs.Prelude.{◌≡◌, Some, true};
+ghost use Rattle.std.specs.Prelude.{◌≡◌, Some, suc, true};
 ghost use Rattle.ut_grants.specs.Granting.{IsUserRights};
 ghost use Rattle.ut_grants.specs.Sights.{FindsSight, IsSight, OwnAt, topmost};
 ghost use Rattle.ut_grants.specs.inner.Judging.{MayLook, is_readable};
-ghost use Rattle.ut_grants.specs.inner.Steps.{TellsWhere};
+ghost use Rattle.ut_grants.specs.inner.Steps.{TellsWhere, most_above};
 ghost use Rattle.ut_keeper.specs.Draft.{DraftTells, tables_of};
 ghost use Rattle.ut_model.specs.declared.record.Record.{Record};
 ghost use Rattle.ut_model.specs.Levels.{own_level, owns};
@@ -150,7 +150,7 @@ impl Sight for UserSight<'_> {
             return Ok(true);
         }
         match item_of(alloc, layout, row) {
-            Ok(item) => is_readable(level_in(alloc, draft, self, Level::Read, layout, &item)),
+            Ok(item) => is_readable(level_in(alloc, draft, self, Level::Read, layout, item)),
             Err(fail) => Err(StoreFail::from(fail)),
         }
     }
@@ -167,12 +167,12 @@ fn level_by<K: Keeper>(
     ensures finds { DraftTells K.state draft.old draft.new
         → TellsWhere layout.now.org (MayLook rights.now layout.now) (λ x q t u. x ≡ level_there t u layout.now.object id.now)
         (tables_of K.state draft.old) result }
-    ensures calls { Calls K.state 4 (ended result) draft.old draft.new }
+    ensures calls { Calls K.state (suc (most_above 3 layout.now)) (ended result) draft.old draft.new }
 {
     draft_laws::<K>();
     call_laws::<K>();
     match load_record(alloc, draft, layout, id) {
-        Ok(Some(item)) => level_of(alloc, draft, rights, layout, &item),
+        Ok(Some(item)) => level_of(alloc, draft, rights, layout, item),
         Ok(None) => Ok(Level::Nothing),
         Err(fail) => Err(fail),
     }

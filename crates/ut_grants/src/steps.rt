@@ -1,7 +1,7 @@
 //! The steps from an object's records to their masters.
 
-ghost use Rattle.std.specs.Prelude.{◌≡◌, ◌≤◌, ◌+◌, ◌∷◌, ℕ, IfOk, length};
-ghost use Rattle.ut_grants.specs.inner.Steps.{Leads, LeadsIfAny, TellsWhere, master_from, master_target, step_to};
+ghost use Rattle.std.specs.Prelude.{◌≡◌, ◌≤◌, ◌+◌, ◌∷◌, ℕ, IfOk, None, length};
+ghost use Rattle.ut_grants.specs.inner.Steps.{Leads, LeadsIfAny, TellsWhere, master_from, master_target, most_above, step_to};
 ghost use Rattle.ut_keeper.specs.Draft.{DraftTells, tables_of};
 ghost use Rattle.ut_model.specs.Metadata.{masters_above};
 ghost use Rattle.ut_stands.specs.Calls.{Calls, ended};
@@ -78,6 +78,7 @@ fn step_from<K: Keeper>(
     ensures finds { DraftTells K.state draft.old draft.new
         → TellsWhere layout.now.org (λ q t u. IsLayout q t layout.now) (λ x q t u. LeadsIfAny q t layout.now.org layout.now.object x)
         (tables_of K.state draft.old) result }
+    ensures none { master_from 1 layout.now.fields ≡ None → IfOk result (λ step. step ≡ None) }
     ensures calls { Calls K.state 0 (ended result) draft.old draft.new }
 {
     call_laws::<K>();
@@ -116,7 +117,7 @@ pub(crate) fn steps_from<K: Keeper>(
         (λ q t u. IsLayout q t layout.now × (masters_above (most + 1) t.objects layout.now.object ≤ most))
         (λ steps q t u. Leads q t layout.now.org layout.now.object steps.items)
         (tables_of K.state draft.old) result }
-    ensures few { IfOk result (λ steps. length steps.items ≤ most) }
+    ensures few { IfOk result (λ steps. length steps.items ≤ most_above most layout.now) }
     ensures calls { Calls K.state 0 (ended result) draft.old draft.new }
 {
     draft_laws::<K>();

@@ -20,27 +20,7 @@ use ut_formula::{Record as Values, holds};
 use ut_keyring::{Membership, Sharer};
 use ut_keys::ShareRow;
 use ut_model::Record;
-use ut_value::{Id, Items, Level, Value};
-
-// Copies of values.
-fn copies(alloc: Global, values: &[Value]) -> Result<Items<Value>, AllocError>
-    ensures { IfOk result (λ copies. copies ≡ values.now) }
-{
-    let mut copies = Items::new(alloc);
-    for value in values {
-        copies.push(value.copy(alloc)?)?;
-    }
-    Ok(copies)
-}
-
-// A record's values, as formulas see them.
-fn values_of(alloc: Global, item: &Record) -> Result<Values, AllocError>
-    ensures { IfOk result (λ seen. seen.values ≡ item.now.values) }
-{
-    Ok(Values {
-        values: copies(alloc, item.values.as_slice())?,
-    })
-}
+use ut_value::{Id, Level};
 
 // What a criteria rule gives on a record.
 fn by_criterion(criterion: &Criterion, values: &Values) -> Level
@@ -63,17 +43,6 @@ fn by_each_criterion(criteria: &[Criterion], values: &Values) -> Level
         }
         None => Level::Nothing,
     }
-}
-
-// The same, without a look at the record where there are no such rules.
-fn by_criteria(alloc: Global, criteria: &[Criterion], item: &Record) -> Result<Level, AllocError>
-    ensures { IfOk result (λ level. level ≡ greatest (map (by_criterion item.now.values) criteria.now)) }
-{
-    if criteria.is_empty() {
-        return Ok(Level::Nothing);
-    }
-    let values = values_of(alloc, item)?;
-    Ok(by_each_criterion(criteria, &values))
 }
 
 // What a share gives the user.
@@ -178,16 +147,19 @@ pub fn level_apart(
     alloc: Global,
     sharer: &Sharer,
     own: &OwnLevels,
-    item: &Record,
+    item: Record,
 ) -> Result<Level, AllocError>
-    ensures { IfOk result (λ level. (org : ℕ) (t : Tenant) (u : User) (o : Object) → IsSharerOf org t u sharer.now → Has t.records item.now
-        → object_of_record t item.now ≡ Some o → IsOwnLevels t u (object_number item.now.id) o own.now → level ≡ level_apart t u item.now) }
+    ensures { IfOk result (λ level. (org : ℕ) (t : Tenant) (u : User) (o : Object) → IsSharerOf org t u sharer.now → Has t.records item
+        → object_of_record t item ≡ Some o → IsOwnLevels t u (object_number item.id) o own.now → level ≡ level_apart t u item) }
 {
     if owns(sharer, item.owner) {
         return Ok(Level::Full);
     }
-    let by_owner = by_owner(alloc, sharer, own.owners.as_slice(), item)?;
-    let by_criteria = by_criteria(alloc, own.criteria.as_slice(), item)?;
+    let by_owner = by_owner(alloc, sharer, own.owners.as_slice(), &item)?;
+    let values = Values {
+        values: item.values,
+    };
+    let by_criteria = by_each_criterion(own.criteria.as_slice(), &values);
     Ok(greater(own.base, greater(by_owner, by_criteria)))
 }
 

@@ -29,6 +29,10 @@ master_from k [] = None
 master_from k (f ∷ fields) =
     in_case (master_target f.kind) (master_from (k + 1) fields) (λ target. Some (record { position = k; target = target }))
 
+-- the most masters above a record of this object, one above another, where there may be so many: none where no field is a Master
+abbrev pub most_above : ℕ → Layout → ℕ
+most_above most l = in_case (master_from 1 l.fields) 0 (λ f. most)
+
 -- ---- what is read of one organisation
 
 -- what is so of a tenant by a plan, and of one of its users

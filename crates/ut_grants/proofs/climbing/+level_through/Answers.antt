@@ -14,7 +14,7 @@ returns-in-Ok-Some-clause-finds g t c told =
     let b = c.master_of.new.draft in
     let d = c.level_through.new.draft in
     let m = tables_of state a in
-    let r = c.args.item.now in
+    let r = c.args.item in
     let step = c.in-Some.step.now in
     let rest = c.in-Some.rest.now in
     let tell = c.draft_laws.ensures.both 1 (length rest) a b d c.master_of.ensures.calls.reads c.level_through.ensures.calls.reads told in
@@ -25,7 +25,7 @@ returns-in-Ok-Some-clause-finds g t c told =
 pub returns-in-Ok-None-clause-finds : goal.returns-in-Ok-None-clause-finds
 returns-in-Ok-None-clause-finds g t c told =
     let m = tables_of g.K.Keeper.state c.args.draft.now in
-    let r = c.args.item.now in
+    let r = c.args.item in
     let step = c.in-Some.step.now in
     let found = subst (λ (x : Option Record). FindsOf step.layout (master_there step r) m (Ok x)) c.in-Ok-None.field-0-is (c.in-Ok-None.ensures.finds told) in
     through_unnamed c.args.sight.now c.args.asked c.args.org r m c.args.steps.now c.in-Some.rest.now step c.in-Some.ensures.cases.0 found

@@ -7,7 +7,7 @@ use Rattle.ut_grants.proofs.climbing.own_level.Goals as goal
 pub returns-then-is_settled-clause-finds : goal.returns-then-is_settled-clause-finds
 returns-then-is_settled-clause-finds g c told q t u s may =
     let rights = c.args.sight.now.rights.now in
-    let r = c.args.item.now in
+    let r = c.args.item in
     let o = object_is t r may.granted.sound may.has in
     c.is_settled.ensures.settled t u r c.if-is_settled.true
     (c.in_ok-apart.ensures rights.org t u o.object (sharer_of t u rights may.granted) may.has o.there (may.own_end o.object o.there))
@@ -15,7 +15,7 @@ returns-then-is_settled-clause-finds g c told q t u s may =
 pub returns-clause-finds : goal.returns-clause-finds
 returns-clause-finds g c told q t u s may =
     let rights = c.args.sight.now.rights.now in
-    let r = c.args.item.now in
+    let r = c.args.item in
     let o = object_is t r may.granted.sound may.has in
     let sharer = sharer_of t u rights may.granted in
     ap (up_to c.args.asked)

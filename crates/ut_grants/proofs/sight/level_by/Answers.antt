@@ -4,6 +4,7 @@ use Rattle.ut_keeper.specs.Draft.{tables_of}
 use Rattle.ut_model.specs.Rights.{record_of_object}
 use Rattle.ut_model.specs.declared.record.Record.{Record}
 use Rattle.ut_stands.specs.Layouts.{FindsOf}
+use Rattle.ut_grants.specs.inner.Steps.{most_above}
 use Rattle.ut_grants.proofs.Judged.{looked}
 use Rattle.ut_grants.proofs.sight.level_by.Goals as goal
 
@@ -16,6 +17,6 @@ returns-in-Ok-Some-clause-finds g c told =
     let m = tables_of state a in
     let l = c.args.layout.now in
     let id = c.args.id.now in
-    let tell = c.draft_laws.ensures.both 1 3 a b d c.load_record.ensures.calls.reads c.level_of.ensures.calls.reads told in
+    let tell = c.draft_laws.ensures.both 1 (most_above 3 l) a b d c.load_record.ensures.calls.reads c.level_of.ensures.calls.reads told in
     let found = subst (λ (x : Option Record). FindsOf l (λ t. record_of_object t l.object id) m (Ok x)) c.in-Ok-Some.field-0-is (c.in-Ok-Some.ensures.finds tell.0) in
     looked m (tables_of state b) tell.2 c.args.rights.now l id c.in-Ok-Some.item found c.level_of.result (c.level_of.ensures.finds tell.1)

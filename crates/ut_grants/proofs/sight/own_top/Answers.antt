@@ -1,4 +1,4 @@
-use Rattle.std.proofs.Common.{List, subst}
+use Rattle.std.proofs.Common.{◌≤◌, List, arith, length, subst}
 use Rattle.std.specs.Prelude.{Ok, Err}
 use Rattle.ut_keeper.specs.Draft.{tables_of}
 use Rattle.ut_grants.specs.declared.steps.Step.{Step}
@@ -6,7 +6,7 @@ use Rattle.ut_grants.specs.inner.Climbing.{MakesOwn}
 use Rattle.ut_grants.specs.inner.Judging.{MayLook}
 use Rattle.ut_grants.proofs.Climbed.{may_step}
 use Rattle.ut_grants.proofs.Judged.{top_failed, top_is}
-use Rattle.ut_grants.proofs.Stepping.{MayStep, failed}
+use Rattle.ut_grants.proofs.Stepping.{MayStep, at_most, failed}
 use Rattle.ut_grants.proofs.sight.own_top.Goals as goal
 
 pub returns-in-Ok-own_at_end-clause-finds : goal.returns-in-Ok-own_at_end-clause-finds
@@ -16,7 +16,8 @@ returns-in-Ok-own_at_end-clause-finds g c told =
     let rights = c.args.rights.now in
     let own = c.in-Ok-own_at_end.own in
     let made = subst (λ (ss : List Step). MakesOwn rights l ss (Ok own)) c.as_slice.ensures.value c.in-Ok-own_at_end.ensures in
-    top_is rights l c.in-Ok.steps.items m (c.in-Ok.ensures.finds told) c.in-Ok.ensures.few own made
+    let few : length c.in-Ok.steps.items ≤ 3 = omega (arith, c.in-Ok.ensures.few, at_most 3 l) in
+    top_is rights l c.in-Ok.steps.items m (c.in-Ok.ensures.finds told) few own made
 
 pub returns-in-Ok-clause-finds : goal.returns-in-Ok-clause-finds
 returns-in-Ok-clause-finds g c told =

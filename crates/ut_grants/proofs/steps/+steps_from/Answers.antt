@@ -1,10 +1,10 @@
-use Rattle.std.proofs.Common.{◌+◌, ◌-◌, ◌≡◌, List, Option, arith, subst, sym}
+use Rattle.std.proofs.Common.{◌+◌, ◌-◌, ◌≡◌, ◌≤◌, ◌∙◌, List, Option, arith, length, subst, sym}
 use Rattle.std.specs.Prelude.{Ok}
 use Rattle.ut_keeper.specs.Draft.{tables_of}
 use Rattle.ut_stands.specs.Layouts.{IsLayout}
 use Rattle.ut_grants.specs.declared.steps.Step.{Step}
-use Rattle.ut_grants.specs.inner.Steps.{Leads, LeadsIfAny, TellsWhere}
-use Rattle.ut_grants.proofs.Stepping.{MayStep, all_led, failed, onward}
+use Rattle.ut_grants.specs.inner.Steps.{Leads, LeadsIfAny, TellsWhere, most_above}
+use Rattle.ut_grants.proofs.Stepping.{MayStep, all_led, at_most, failed, one_more, onward}
 use Rattle.ut_grants.proofs.steps.+steps_from.Goals as goal
 
 pub returns-in-Ok-None-clause-finds : goal.returns-in-Ok-None-clause-finds
@@ -13,6 +13,16 @@ returns-in-Ok-None-clause-finds g t c told q w u s may =
     let l = c.args.layout.now in
     let none = subst (λ (x : Option Step). TellsWhere l.org (λ q t u. IsLayout q t l) (λ x q t u. LeadsIfAny q t l.org l.object x) m (Ok x)) c.in-Ok-None.field-0-is (c.in-Ok-None.ensures.finds told) in
     subst (λ (steps : List Step). Leads q w l.org l.object steps) (sym c.new.ensures.items) (none q w u s may.0)
+
+pub returns-in_ok-with_first-in-Ok-clause-few : goal.returns-in_ok-with_first-in-Ok-clause-few
+returns-in_ok-with_first-in-Ok-clause-few g t c =
+    let l = c.args.layout.now in
+    let step = c.in-Ok-Some.step in
+    let rest = c.in-Ok.rest.items in
+    let less : c.args.most - 1 + 1 ≡ c.args.most = omega (arith, c.if-most-eq0.false) in
+    let few : length rest ≤ c.args.most - 1 = omega (arith, c.in-Ok.ensures.few, at_most (c.args.most - 1) step.layout) in
+    subst (λ (steps : List Step). length steps ≤ most_above c.args.most l) (sym c.in_ok-with_first-in-Ok.ensures)
+    (one_more c.args.most (c.args.most - 1) (length rest) l step less few (λ none. sym c.in-Ok-Some.field-0-is ∙ c.in-Ok-Some.ensures.none none))
 
 pub returns-in_ok-with_first-in-Ok-clause-finds : goal.returns-in_ok-with_first-in-Ok-clause-finds
 returns-in_ok-with_first-in-Ok-clause-finds g t c told q w u s may =

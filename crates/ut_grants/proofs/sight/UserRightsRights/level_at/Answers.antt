@@ -1,9 +1,10 @@
-use Rattle.std.proofs.Common.{Option, refl, subst}
+use Rattle.std.proofs.Common.{Option, refl, subst, suc}
 use Rattle.std.specs.Prelude.{Ok}
 use Rattle.ut_keeper.specs.Draft.{tables_of}
 use Rattle.ut_stands.specs.Layouts.{own_layout}
 use Rattle.ut_stands.specs.Local.{FindsIn}
 use Rattle.ut_stands.specs.declared.layout.Layout.{Layout}
+use Rattle.ut_grants.specs.inner.Steps.{most_above}
 use Rattle.ut_grants.proofs.Judged.{found_by, none_by}
 use Rattle.ut_grants.proofs.sight.UserRightsRights.level_at.Goals as goal
 
@@ -16,7 +17,7 @@ returns-in-Ok-Some-clause-finds g c told =
     let m = tables_of state a in
     let org = c.args.org in
     let object = c.args.object in
-    let tell = c.draft_laws.ensures.both 0 4 a b d c.layout_at.ensures.calls.reads c.level_by.ensures.calls.reads told in
+    let tell = c.draft_laws.ensures.both 0 (suc (most_above 3 c.in-Ok-Some.layout)) a b d c.layout_at.ensures.calls.reads c.level_by.ensures.calls.reads told in
     let found = subst (λ (x : Option Layout). FindsIn org (own_layout org object) m (Ok x)) c.in-Ok-Some.field-0-is (c.in-Ok-Some.ensures.finds tell.0) in
     found_by m (tables_of state b) tell.2 c.args.self.now org object c.args.id.now c.in-Ok-Some.layout found c.level_by.result (c.level_by.ensures.finds tell.1)
 

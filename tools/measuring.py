@@ -3,7 +3,8 @@
 It is no script itself.
 
 InMemory: replay, a line of messages at a time, less what it costs to read such a line.
-ByAnswer: a connection of messages over a file. Of 1,000 the first isn't counted, so the start on the file isn't.
+ByAnswer: a connection of messages over a file. Of 1,000 the first isn't counted, and of fewer one of no caller before them, so the start on
+the file isn't.
 ByServe: a client that asks when it has the reply, over a file; the clock's is the median.
 """
 import json
@@ -117,7 +118,7 @@ class ByAnswer:
     def ask(self, messages, *statuses):
         first, rest = ([], messages) if len(messages) < MOST_MESSAGES else (messages[:1], messages[1:])
         with subprocess.Popen(self.words, stdin=subprocess.PIPE, stdout=subprocess.PIPE) as process:
-            begun = self.give(process, first or [message("GET", "/x")])
+            begun = self.give(process, first or [message("GET", "/x", key="none")])
             before = spent(process.pid)
             replies = self.give(process, rest)
             cost = spent(process.pid) - before

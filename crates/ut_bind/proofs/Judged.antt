@@ -1,4 +1,4 @@
--- A flat query is refused by the layout as by the model.
+-- A query is refused by layouts as by the model.
 use Rattle.std.proofs.Common.{◌≡◌, ℕ, Bool, true, false, not, ◌||◌, cond, List, [], ◌∷◌, ◌++◌, map, Option, Some, None, is_none, refl, sym, ap, ◌∙◌, flat_map}
 use Rattle.std.specs.List.{list_all, list_any}
 use Rattle.std.specs.Option.{option_and_then, option_map}
@@ -6,29 +6,32 @@ use Rattle.std.proofs.Math.Bool.{or-false, or_comm}
 use Rattle.std.proofs.lemmas.List.Folds.{list_any-append}
 use Rattle.ut_query.specs.declared.query.Item.{Item}
 use Rattle.ut_query.specs.declared.query.Item.TheVariants as item
+use Rattle.ut_query.specs.declared.query.Path.{Path}
 use Rattle.ut_query.specs.declared.query.Query.{Query}
+use Rattle.ut_query.specs.declared.query.Tail.{Tail}
 use Rattle.ut_value.specs.declared.value.FieldType.TheVariants as type
-use Rattle.ut_model.specs.declared.refusal.Refusal.{Refusal}
 use Rattle.ut_model.specs.declared.refusal.Refusal.TheVariants.{InvalidField, InvalidFilter}
-use Rattle.ut_model.specs.Asking.{all_tests, bad_item, bad_test, child_tests, item_name, literals_of, mentioned, path_column, query_rules, test_no_id, text_no_id, unknown_path}
+use Rattle.ut_model.specs.Asking.{all_tests, bad_child, bad_item, bad_path, bad_tail, bad_test, child_tests, item_name, literals_of, path_column, query_rules, spelled_path, test_no_id, text_no_id, unknown_path}
 use Rattle.ut_model.specs.Cases.{in_case, with_before}
 use Rattle.ut_model.specs.Fields as model
 use Rattle.ut_model.specs.Fields.{Content, column_named, of_ids, of_type, same_name}
 use Rattle.ut_model.specs.Rules.{Rule, first_of, first_refusal, refuse_if}
 use Rattle.ut_model.specs.Tenant.{Object, Tenant}
-use Rattle.ut_model.specs.Tests.{Tested, Way, holds_ids, suits_of, tests, way_suits}
+use Rattle.ut_model.specs.Tests.{Tested, holds_ids, suits_of, tests, way_suits}
 use Rattle.ut_stands.specs.Layouts.{IsLayout}
 use Rattle.ut_stands.specs.Plan.{OrgPlan}
 use Rattle.ut_stands.specs.declared.layout.Layout.{Layout}
 use Rattle.ut_bind.specs.declared.columns.Column.{Column}
+use Rattle.ut_bind.specs.declared.rules.Rule as own
 use Rattle.ut_bind.specs.declared.rules.Rule.TheVariants as rule
-use Rattle.ut_step.specs.Flat.{is_flat, is_flat_item, is_flat_test, has_one_name}
+use Rattle.ut_step.specs.Flat.{is_flat, is_flat_item, has_one_name}
 use Rattle.ut_bind.specs.inner.Columns.{column_in, family_of, placed}
-use Rattle.ut_bind.specs.inner.Rules.{is_ids, is_named, item_rule, items_rule, key_rule, no_field, query_rule, rule_in, suits_in}
+use Rattle.ut_bind.specs.inner.Rules.{all_tests_rule, child_tests_rule, each_rule, is_ids, item_rule, items_rule, key_rule, mentioned_in, no_field, no_id, no_suit, path_name, path_rule, paths_rule, query_rule, rule_in, suits_in, tail_rule}
+use Rattle.ut_bind.specs.inner.Ways.{path_column_in}
 use Rattle.ut_bind.proofs.Flatness.{parts_of}
 use Rattle.ut_bind.proofs.Joined.{column_is, object_there}
 use Rattle.ut_bind.proofs.Lists.{and_left, and_right}
-use Rattle.ut_bind.proofs.Tests.{one_rule}
+use Rattle.ut_bind.proofs.Tests.{first_later, first_there, one_rule}
 
 -- ---- what suits
 
@@ -56,11 +59,6 @@ ids_same (of_type (type.Master object)) = refl
 
 -- ---- refusals
 
-either : (a b : Bool) (r : Refusal) → refuse_if (a || b) r ≡ first_refusal (refuse_if a r ∷ refuse_if b r ∷ [])
-either true b r = refl
-either false true r = refl
-either false false r = refl
-
 -- rules within rules
 flattened : (r : Rule) (rs : List Rule) → first_refusal (r ∷ first_refusal rs ∷ []) ≡ first_refusal (r ∷ rs)
 flattened (Some q) rs = refl
@@ -84,124 +82,152 @@ pub map_twice : {X Y Z : Type 0} (f : Y → Z) (g : X → Y) (xs : List X) → m
 map_twice f g [] = refl
 map_twice f g (x ∷ xs) = ap (λ zs. f (g x) ∷ zs) (map_twice f g xs)
 
-module _ (t : Tenant) (n : ℕ) (l : Layout) (is : (name : List ℕ) → option_map placed (path_column t n (name ∷ [])) ≡ column_in l name) where
-  -- ---- tests and keys
-
-  unknown_same : (name : List ℕ) → no_field l name ≡ unknown_path t n (name ∷ [])
-  unknown_same name =
-      ap (λ o. refuse_if (is_none o) (InvalidField name)) (sym (is name))
-      ∙ ap (λ b. refuse_if b (InvalidField name)) (none_same (path_column t n (name ∷ [])))
-
-  path_same : (ns : List (List ℕ)) (way : Way) → has_one_name ns ≡ true → rule_in l rule.Name (record { names = ns; way = way }) ≡ unknown_path t n ns
-  path_same [] way e = absurd cc
-  path_same (name ∷ []) way e = unknown_same name
-  path_same (name ∷ more ∷ names) way e = absurd cc
-
-  key_same : (ns : List (List ℕ)) (descending last : Bool) → has_one_name ns ≡ true
-      → key_rule l (record { path = record { names = ns }; descending = descending; nulls_last = last }) ≡ unknown_path t n ns
-  key_same [] d z e = absurd cc
-  key_same (name ∷ []) d z e = unknown_same name
-  key_same (name ∷ more ∷ names) d z e = absurd cc
-
-  test_same : (ns : List (List ℕ)) (way : Way) → has_one_name ns ≡ true
-      → rule_in l rule.Suits (record { names = ns; way = way }) ≡ bad_test t (n, record { names = ns; way = way })
-  test_same [] way e = absurd cc
-  test_same (name ∷ []) way e =
-      let g = λ (c : Column). refuse_if (not (way_suits (suits_in c.family) way)) (InvalidFilter name) in
-      ap (λ o. in_case o None g) (sym (is name))
-      ∙ case_same (path_column t n (name ∷ [])) g (λ (m : model.Column). refuse_if (not (way_suits (suits_of m.content) way)) (InvalidFilter name))
-      (λ m. ap (λ s. refuse_if (not (way_suits s way)) (InvalidFilter name)) (suits_same m.content))
-  test_same (name ∷ more ∷ names) way e = absurd cc
-
-  id_same : (ns : List (List ℕ)) (way : Way) → has_one_name ns ≡ true
-      → rule_in l rule.Id (record { names = ns; way = way }) ≡ test_no_id t (n, record { names = ns; way = way })
-  id_same [] way e = absurd cc
-  id_same (name ∷ []) way e =
-      let g = λ (c : Column). cond (is_ids c.family) (first_of text_no_id (literals_of way)) None in
-      ap (λ o. in_case o None g) (sym (is name))
-      ∙ case_same (path_column t n (name ∷ [])) g (λ (m : model.Column). cond (holds_ids m.content) (first_of text_no_id (literals_of way)) None)
-      (λ m. ap (λ b. cond b (first_of text_no_id (literals_of way)) None) (ids_same m.content))
-  id_same (name ∷ more ∷ names) way e = absurd cc
-
-  -- ---- what is selected
-
-  named_same : (name : List ℕ) (x : Item) → is_flat_item x ≡ true → is_named name x ≡ same_name (item_name x) name
-  named_same name (item.Child paths tail) e = absurd cc
-  named_same name (item.Path p) e = by p.names e
-    where
-      by : (ns : List (List ℕ)) → has_one_name ns ≡ true → is_named name (item.Path (record { names = ns })) ≡ same_name (item_name (item.Path (record { names = ns }))) name
-      by [] e = absurd cc
-      by (own ∷ []) e = refl
-      by (own ∷ more ∷ names) e = absurd cc
-
-  -- an item that is selected behind these, and those nearest first
-  abbrev Mentions : List Item → List Item → Type 0
-  Mentions before nearest = (name : List ℕ) → list_any (is_named name) before ≡ list_any (λ x. same_name (item_name x) name) nearest
-
-  item_same : (before nearest : List Item) (x : Item) → is_flat_item x ≡ true → Mentions before nearest → item_rule l before x ≡ bad_item t n nearest x
-  item_same before nearest (item.Child paths tail) e same = absurd cc
-  item_same before nearest (item.Path p) e same = by p.names e
-    where
-      by : (ns : List (List ℕ)) → has_one_name ns ≡ true → item_rule l before (item.Path (record { names = ns })) ≡ bad_item t n nearest (item.Path (record { names = ns }))
-      by [] e = absurd cc
-      by (name ∷ []) e =
-          ap (λ b. refuse_if (is_none (column_in l name) || b) (InvalidField name)) (same name)
-          ∙ either (is_none (column_in l name)) (list_any (λ x. same_name (item_name x) name) nearest) (InvalidField name)
-          ∙ ap (λ r. first_refusal (r ∷ mentioned nearest name ∷ [])) (unknown_same name)
-      by (name ∷ more ∷ names) e = absurd cc
-
-  more_mentions : (before nearest : List Item) (x : Item) → is_flat_item x ≡ true → Mentions before nearest → Mentions (before ++ x ∷ []) (x ∷ nearest)
-  more_mentions before nearest x e same name =
-      list_any-append (is_named name) before (x ∷ [])
-      ∙ ap (λ b. b || (is_named name x || false)) (same name)
-      ∙ or_comm (list_any (λ x. same_name (item_name x) name) nearest) (is_named name x || false)
-      ∙ ap (λ b. b || list_any (λ x. same_name (item_name x) name) nearest) (or-false (is_named name x) ∙ named_same name x e)
-
-  items_same : (before nearest xs : List Item) → list_all is_flat_item xs ≡ true → Mentions before nearest
-      → items_rule l before xs ≡ first_of (λ x. bad_item t n x.before x.it) (with_before nearest xs)
-  unfolding items_rule
-  items_same before nearest [] e same = refl
-  items_same before nearest (x ∷ xs) e same =
-      let flat = and_left (is_flat_item x) (list_all is_flat_item xs) e in
-      ap (λ r. first_refusal (r ∷ items_rule l (before ++ x ∷ []) xs ∷ [])) (item_same before nearest x flat same)
-      ∙ ap (λ r. first_refusal (bad_item t n nearest x ∷ r ∷ []))
-      (items_same (before ++ x ∷ []) (x ∷ nearest) xs (and_right (is_flat_item x) (list_all is_flat_item xs) e) (more_mentions before nearest x flat same))
-      ∙ flattened (bad_item t n nearest x) (map (λ x. bad_item t n x.before x.it) (with_before (x ∷ nearest) xs))
-
-  -- ---- a query
-
-  no_children : (xs : List Item) → list_all is_flat_item xs ≡ true → flat_map (child_tests t n) xs ≡ []
-  no_children [] e = refl
-  no_children (item.Path p ∷ xs) e = no_children xs (and_right (has_one_name p.names) (list_all is_flat_item xs) e)
-  no_children (item.Child paths tail ∷ xs) e = absurd cc
-
-  -- a rule of tests
-  tests_same : (q : Query) (f : Tested → Rule) (g : ℕ × Tested → Rule) → list_all is_flat_item q.select ≡ true → list_all is_flat_test (tests q.tail.condition) ≡ true
-      → ((ns : List (List ℕ)) (way : Way) → has_one_name ns ≡ true → f (record { names = ns; way = way }) ≡ g (n, record { names = ns; way = way }))
-      → first_of f (tests q.tail.condition) ≡ first_of g (all_tests t n q)
-  tests_same q f g items flat e =
-      ap first_refusal (map_same f (λ x. g (n, x)) is_flat_test (tests q.tail.condition) flat (λ x h. e x.names x.way h))
-      ∙ ap first_refusal (sym (map_twice g (λ (x : Tested). (n, x)) (tests q.tail.condition)))
-      ∙ ap (λ (xs : List (ℕ × Tested)). first_of g (xs ++ map (λ x. (n, x)) (tests q.tail.condition))) (sym (no_children q.select items))
-
-  pub judged : (q : Query) → is_flat q ≡ true → query_rule l q ≡ first_refusal (query_rules t n q)
-  judged q flat =
-      let parts = parts_of q flat in
-      let names : first_of (rule_in l rule.Name) (tests q.tail.condition) ≡ first_of (λ x. unknown_path t n x.names) (tests q.tail.condition) =
-      ap first_refusal (map_same (rule_in l rule.Name) (λ x. unknown_path t n x.names) is_flat_test (tests q.tail.condition) parts.tested (λ x h. path_same x.names x.way h)) in
-      let keys : first_of (key_rule l) q.tail.order ≡ first_of (λ k. unknown_path t n k.path.names) q.tail.order =
-      ap first_refusal (map_same (key_rule l) (λ k. unknown_path t n k.path.names) (λ k. has_one_name k.path.names) q.tail.order parts.keys (λ k h. key_same k.path.names k.descending k.nulls_last h)) in
-      let selected = items_same [] [] q.select parts.items (λ name. refl) in
-      let suited = tests_same q (rule_in l rule.Suits) (bad_test t) parts.items parts.tested test_same in
-      let spelled = tests_same q (rule_in l rule.Id) (test_no_id t) parts.items parts.tested id_same in
-      ap (λ r. first_refusal (first_refusal (r ∷ first_of (rule_in l rule.Name) (tests q.tail.condition) ∷ first_of (key_rule l) q.tail.order ∷ []) ∷ first_of (rule_in l rule.Suits) (tests q.tail.condition) ∷ first_of (rule_in l rule.Id) (tests q.tail.condition) ∷ [])) selected
-      ∙ (rw (names, keys, suited, spelled) (ap (λ r. first_refusal (r ∷ first_of (bad_test t) (all_tests t n q) ∷ first_of (test_no_id t) (all_tests t n q) ∷ []))
-      (sym (flattened (first_of (λ x. bad_item t n x.before x.it) (with_before [] q.select)) (first_of (λ x. unknown_path t n x.names) (tests q.tail.condition) ∷ first_of (λ k. unknown_path t n k.path.names) q.tail.order ∷ [])))))
-
--- of each tenant whose layout it is
-pub refused_alike : (p : OrgPlan) (t : Tenant) (l : Layout) (q : Query) → is_flat q ≡ true → IsLayout p t l → query_rule l q ≡ first_refusal (query_rules t l.object q)
-refused_alike p t l q flat e =
+-- the field of one name
+pub own_column : (p : OrgPlan) (t : Tenant) (l : Layout) (name : List ℕ) → IsLayout p t l → option_map placed (path_column t l.object (name ∷ [])) ≡ column_in l name
+own_column p t l name e =
     let o = object_there p t l e in
-    judged t l.object l
-    (λ name. ap (λ (x : Option Object). option_map placed (option_and_then (λ o. column_named o name) x)) o.1 ∙ column_is p t l o.0 name o.2)
-    q flat
+    ap (λ (x : Option Object). option_map placed (option_and_then (λ o. column_named o name) x)) o.1 ∙ column_is p t l o.0 name o.2
+
+-- ---- lists of rules
+
+-- one list behind another
+first_joined : {X : Type 0} (f : X → Rule) (xs ys : List X) → first_refusal (first_of f xs ∷ first_of f ys ∷ []) ≡ first_of f (xs ++ ys)
+first_joined f xs ys = by (first_of f xs) refl
+  where
+    by : (o : Rule) → first_of f xs ≡ o → first_refusal (o ∷ first_of f ys ∷ []) ≡ first_of f (xs ++ ys)
+    by None e = one_rule (first_of f ys) ∙ sym (first_later f xs ys e)
+    by (Some r) e = sym (first_there f xs ys r e)
+
+first_within : {X Y : Type 0} (f : Y → Rule) (h : X → List Y) (xs : List X) → first_of (λ x. first_of f (h x)) xs ≡ first_of f (flat_map h xs)
+first_within f h [] = refl
+first_within f h (x ∷ xs) =
+    sym (flattened (first_of f (h x)) (map (λ x. first_of f (h x)) xs))
+    ∙ ap (λ r. first_refusal (first_of f (h x) ∷ r ∷ [])) (first_within f h xs)
+    ∙ first_joined f (h x) (flat_map h xs)
+
+-- names, in their order, and what has them, the nearest first
+module _ {X : Type 0} (name : X → List ℕ) where
+  abbrev pub Mentions : List (List ℕ) → List X → Type 0
+  Mentions before nearest = (n : List ℕ) → list_any (λ x. same_name x n) before ≡ list_any (λ x. same_name (name x) n) nearest
+
+  more_mentions : (before : List (List ℕ)) (nearest : List X) (x : X) → Mentions before nearest → Mentions (before ++ name x ∷ []) (x ∷ nearest)
+  more_mentions before nearest x same n =
+      list_any-append (λ x. same_name x n) before (name x ∷ [])
+      ∙ ap (λ b. b || (same_name (name x) n || false)) (same n)
+      ∙ or_comm (list_any (λ x. same_name (name x) n) nearest) (same_name (name x) n || false)
+      ∙ ap (λ b. b || list_any (λ x. same_name (name x) n) nearest) (or-false (same_name (name x) n))
+
+  each_same : (ok : X → Bool) (rule : List (List ℕ) → X → Rule) (model : List X → X → Rule)
+      → ((before : List (List ℕ)) (nearest : List X) (x : X) → ok x ≡ true → Mentions before nearest → rule before x ≡ model nearest x)
+      → (before : List (List ℕ)) (nearest xs : List X) → list_all ok xs ≡ true → Mentions before nearest
+      → each_rule name rule before xs ≡ first_of (λ x. model x.before x.it) (with_before nearest xs)
+  unfolding each_rule
+  each_same ok rule model one before nearest [] all same = refl
+  each_same ok rule model one before nearest (x ∷ xs) all same =
+      ap (λ r. first_refusal (r ∷ each_rule name rule (before ++ name x ∷ []) xs ∷ [])) (one before nearest x (and_left (ok x) (list_all ok xs) all) same)
+      ∙ ap (λ r. first_refusal (model nearest x ∷ r ∷ []))
+      (each_same ok rule model one (before ++ name x ∷ []) (x ∷ nearest) xs (and_right (ok x) (list_all ok xs) all) (more_mentions before nearest x same))
+      ∙ flattened (model nearest x) (map (λ x. model x.before x.it) (with_before (x ∷ nearest) xs))
+
+paths_named : (n : List ℕ) (paths : List Path) → list_any (λ p. same_name (path_name p) n) paths ≡ list_any (λ x. same_name (item_name x) n) (map item.Path paths)
+paths_named n [] = refl
+paths_named n (p ∷ paths) = ap (λ b. same_name (path_name p) n || b) (paths_named n paths)
+
+-- the model's rule of tests
+abbrev pub test_rule : Tenant → own.Rule → ℕ × Tested → Rule
+test_rule t rule.Name x = unknown_path t x.0 x.1.names
+test_rule t rule.Suits x = bad_test t x
+test_rule t rule.Id x = test_no_id t x
+
+-- ---- by a layout that finds the fields of these paths
+
+module _ (t : Tenant) (n : ℕ) (ls : List Layout) (l : Layout) (p : List (List ℕ) → Bool) (is : (ns : List (List ℕ)) → p ns ≡ true → option_map placed (path_column t n ns) ≡ path_column_in ls l ns) where
+  unknown_same : (ns : List (List ℕ)) → p ns ≡ true → no_field ls l ns ≡ unknown_path t n ns
+  unknown_same ns e =
+      ap (λ o. refuse_if (is_none o) (InvalidField (spelled_path ns))) (sym (is ns e))
+      ∙ ap (λ b. refuse_if b (InvalidField (spelled_path ns))) (none_same (path_column t n ns))
+
+  test_same : (r : own.Rule) (x : Tested) → p x.names ≡ true → rule_in ls l r x ≡ test_rule t r (n, x)
+  test_same rule.Name x e = unknown_same x.names e
+  test_same rule.Suits x e =
+      let g = λ (c : Column). no_suit c.family x.names x.way in
+      ap (λ o. in_case o None g) (sym (is x.names e))
+      ∙ case_same (path_column t n x.names) g (λ (m : model.Column). refuse_if (not (way_suits (suits_of m.content) x.way)) (InvalidFilter (spelled_path x.names)))
+      (λ m. ap (λ s. refuse_if (not (way_suits s x.way)) (InvalidFilter (spelled_path x.names))) (suits_same m.content))
+  test_same rule.Id x e =
+      let g = λ (c : Column). no_id c.family x.way in
+      ap (λ o. in_case o None g) (sym (is x.names e))
+      ∙ case_same (path_column t n x.names) g (λ (m : model.Column). cond (holds_ids m.content) (first_of text_no_id (literals_of x.way)) None)
+      (λ m. ap (λ b. cond b (first_of text_no_id (literals_of x.way)) None) (ids_same m.content))
+
+  pub tests_same : (r : own.Rule) (xs : List Tested) → list_all (λ x. p x.names) xs ≡ true → first_of (rule_in ls l r) xs ≡ first_of (test_rule t r) (map (λ (x : Tested). (n, x)) xs)
+  tests_same r xs all =
+      ap first_refusal (map_same (rule_in ls l r) (λ x. test_rule t r (n, x)) (λ x. p x.names) xs all (λ x e. test_same r x e))
+      ∙ ap first_refusal (sym (map_twice (test_rule t r) (λ (x : Tested). (n, x)) xs))
+
+  pub tail_same : (tail : Tail) → list_all (λ x. p x.names) (tests tail.condition) ≡ true → list_all (λ k. p k.path.names) tail.order ≡ true → tail_rule ls l tail ≡ bad_tail t n tail
+  tail_same tail tested keys =
+      ap (λ r. first_refusal (r ∷ first_of (key_rule ls l) tail.order ∷ []))
+      (ap first_refusal (map_same (rule_in ls l rule.Name) (λ x. unknown_path t n x.names) (λ x. p x.names) (tests tail.condition) tested (λ x e. unknown_same x.names e)))
+      ∙ ap (λ r. first_refusal (first_of (λ (x : Tested). unknown_path t n x.names) (tests tail.condition) ∷ r ∷ []))
+      (ap first_refusal (map_same (key_rule ls l) (λ k. unknown_path t n k.path.names) (λ k. p k.path.names) tail.order keys (λ k e. unknown_same k.path.names e)))
+
+  pub path_same : (before : List (List ℕ)) (nearest : List Item) (x : Path) → p x.names ≡ true → Mentions item_name before nearest → path_rule ls l before x ≡ bad_path t n nearest x
+  path_same before nearest x e same =
+      ap (λ r. first_refusal (r ∷ mentioned_in before (spelled_path x.names) ∷ [])) (unknown_same x.names e)
+      ∙ ap (λ b. first_refusal (unknown_path t n x.names ∷ refuse_if b (InvalidField (spelled_path x.names)) ∷ [])) (same (spelled_path x.names))
+
+  pub paths_same : (paths : List Path) → list_all (λ x. p x.names) paths ≡ true → paths_rule ls l [] paths ≡ first_of (λ x. bad_path t n (map item.Path x.before) x.it) (with_before [] paths)
+  paths_same paths all =
+      each_same path_name (λ x. p x.names) (path_rule ls l) (λ nearest x. bad_path t n (map item.Path nearest) x)
+      (λ before nearest x e same. path_same before (map item.Path nearest) x e (λ name. same name ∙ paths_named name nearest))
+      [] [] paths all (λ name. refl)
+
+  -- ---- a query whose items are such
+
+  module _ (fine : Item → Bool) (path_fine : (x : Path) → fine (item.Path x) ≡ true → p x.names ≡ true)
+      (child_same : (before : List (List ℕ)) (nearest : List Item) (paths : List Path) (tail : Tail) → fine (item.Child paths tail) ≡ true → Mentions item_name before nearest
+      → item_rule ls l before (item.Child paths tail) ≡ bad_child t n nearest paths tail)
+      (child_tests_same : (r : own.Rule) (paths : List Path) (tail : Tail) → fine (item.Child paths tail) ≡ true
+      → child_tests_rule ls l r (item.Child paths tail) ≡ first_of (test_rule t r) (child_tests t n (item.Child paths tail))) where
+    item_same : (before : List (List ℕ)) (nearest : List Item) (x : Item) → fine x ≡ true → Mentions item_name before nearest → item_rule ls l before x ≡ bad_item t n nearest x
+    item_same before nearest (item.Path x) e same = path_same before nearest x (path_fine x e) same
+    item_same before nearest (item.Child paths tail) e same = child_same before nearest paths tail e same
+
+    item_tests_same : (r : own.Rule) (x : Item) → fine x ≡ true → child_tests_rule ls l r x ≡ first_of (test_rule t r) (child_tests t n x)
+    item_tests_same r (item.Path x) e = refl
+    item_tests_same r (item.Child paths tail) e = child_tests_same r paths tail e
+
+    all_same : (r : own.Rule) (q : Query) → list_all fine q.select ≡ true → list_all (λ x. p x.names) (tests q.tail.condition) ≡ true → all_tests_rule ls l r q ≡ first_of (test_rule t r) (all_tests t n q)
+    all_same r q items tested =
+        ap (λ o. first_refusal (o ∷ first_of (rule_in ls l r) (tests q.tail.condition) ∷ []))
+        (ap first_refusal (map_same (child_tests_rule ls l r) (λ x. first_of (test_rule t r) (child_tests t n x)) fine q.select items (λ x e. item_tests_same r x e))
+        ∙ first_within (test_rule t r) (child_tests t n) q.select)
+        ∙ ap (λ o. first_refusal (first_of (test_rule t r) (flat_map (child_tests t n) q.select) ∷ o ∷ [])) (tests_same r (tests q.tail.condition) tested)
+        ∙ first_joined (test_rule t r) (flat_map (child_tests t n) q.select) (map (λ (x : Tested). (n, x)) (tests q.tail.condition))
+
+    pub judged : (q : Query) → list_all fine q.select ≡ true → list_all (λ x. p x.names) (tests q.tail.condition) ≡ true → list_all (λ k. p k.path.names) q.tail.order ≡ true
+        → query_rule ls l q ≡ first_refusal (query_rules t n q)
+    judged q items tested keys =
+        let selected : items_rule ls l [] q.select ≡ first_of (λ x. bad_item t n x.before x.it) (with_before [] q.select) =
+        each_same item_name fine (item_rule ls l) (bad_item t n) item_same [] [] q.select items (λ name. refl) in
+        ap (λ r. first_refusal (first_refusal (r ∷ tail_rule ls l q.tail ∷ []) ∷ all_tests_rule ls l rule.Suits q ∷ all_tests_rule ls l rule.Id q ∷ [])) selected
+        ∙ ap (λ r. first_refusal (first_refusal (first_of (λ x. bad_item t n x.before x.it) (with_before [] q.select) ∷ r ∷ []) ∷ all_tests_rule ls l rule.Suits q ∷ all_tests_rule ls l rule.Id q ∷ []))
+        (tail_same q.tail tested keys)
+        ∙ ap (λ r. first_refusal (first_refusal (first_of (λ x. bad_item t n x.before x.it) (with_before [] q.select) ∷ bad_tail t n q.tail ∷ []) ∷ r ∷ all_tests_rule ls l rule.Id q ∷ []))
+        (all_same rule.Suits q items tested)
+        ∙ ap (λ r. first_refusal (first_refusal (first_of (λ x. bad_item t n x.before x.it) (with_before [] q.select) ∷ bad_tail t n q.tail ∷ []) ∷ first_of (bad_test t) (all_tests t n q) ∷ r ∷ []))
+        (all_same rule.Id q items tested)
+
+-- ---- flat queries
+
+-- of each tenant whose layout it is, whatever the others are
+pub flat_alike : (p : OrgPlan) (t : Tenant) (ls : List Layout) (l : Layout) (q : Query) → is_flat q ≡ true → IsLayout p t l → query_rule ls l q ≡ first_refusal (query_rules t l.object q)
+flat_alike p t ls l q flat e =
+    let parts = parts_of q flat in
+    judged t l.object ls l has_one_name one is_flat_item (λ x h. h) (λ before nearest paths tail h same. absurd cc) (λ r paths tail h. absurd cc) q parts.items parts.tested parts.keys
+  where
+    one : (ns : List (List ℕ)) → has_one_name ns ≡ true → option_map placed (path_column t l.object ns) ≡ path_column_in ls l ns
+    one [] h = absurd cc
+    one (name ∷ []) h = own_column p t l name e
+    one (name ∷ next ∷ names) h = absurd cc

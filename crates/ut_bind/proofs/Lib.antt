@@ -8,7 +8,9 @@ pub mod Lists
 pub mod Found
 pub mod Records
 pub mod Planned
+pub mod Reaching
 pub mod Refusing
 pub mod Selected
+pub mod Spelled
 pub mod Tests
 pub mod Within

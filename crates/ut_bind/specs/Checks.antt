@@ -14,8 +14,6 @@ use Rattle.ut_model.specs.declared.record.Record.{Record}
 use Rattle.ut_model.specs.Conditions.{as_day, is_like}
 use Rattle.ut_model.specs.Fields as model
 use Rattle.ut_model.specs.Fields.{its_id, its_owner, its_created, its_modified, value_site, is_null, value_in}
-use Rattle.ut_bind.specs.declared.values.HeldValue.{HeldValue}
-use Rattle.ut_bind.specs.declared.values.HeldValue.TheVariants.{Made, There}
 use Rattle.ut_bind.specs.declared.check.Site.{Site}
 use Rattle.ut_bind.specs.declared.check.Site.TheVariants as site
 use Rattle.ut_bind.specs.declared.check.Operand.{Operand}
@@ -28,11 +26,6 @@ site_of site.Owner = its_owner
 site_of site.Created = its_created
 site_of site.Modified = its_modified
 site_of (site.Value position) = value_site position
-
--- the value of a record, whether it was made or is there
-abbrev pub held_value : HeldValue → Value
-held_value (Made v) = v
-held_value (There v) = v.now
 
 -- ---- comparisons
 

@@ -1,4 +1,5 @@
 pub mod Checks
 pub mod Given
 pub mod Plans
+pub mod Reaching
 pub mod inner

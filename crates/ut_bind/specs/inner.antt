@@ -2,3 +2,4 @@
 pub mod Binding
 pub mod Columns
 pub mod Rules
+pub mod Ways

@@ -1,172 +1,129 @@
-//! Why a flat query is refused: each rule is judged over its whole text before the next.
+//! Why a query is refused: each rule is judged over its whole text before the next.
 
-ghost use Rattle.std.specs.Prelude.{◌≡◌, ◌||◌, IfOk, [], option_map, true};
-ghost use Rattle.std.specs.List.{list_any};
-ghost use Rattle.std.specs.Str.{chars};
+ghost use Rattle.std.specs.Prelude.{◌≡◌, ℕ, [], IfOk};
 ghost use Rattle.ut_model.specs.Asking.{query_rules};
 ghost use Rattle.ut_model.specs.Rules.{first_of, first_refusal};
 ghost use Rattle.ut_model.specs.Tenant.{Tenant};
 ghost use Rattle.ut_stands.specs.Layouts.{IsLayout};
 ghost use Rattle.ut_stands.specs.Plan.{OrgPlan};
-ghost use Rattle.ut_step.specs.Flat.{is_flat};
+ghost use Rattle.ut_bind.specs.Reaching.{Reaches};
 ghost use Rattle.ut_bind.specs.inner.Rules as spec;
 
-use crate::columns::column_in;
-use crate::rules::{Rule, no_field, own_name, tests_refusal};
+use crate::items::items_refusal;
+use crate::paths::child_layout;
+use crate::rules::{Rule, tests_refusal};
+use crate::tails::tail_refusal;
 use std::alloc::{AllocError, Global};
-use ut_model::{Refusal, same_name};
-use ut_query::{Item, OrderKey, Query};
+use ut_model::Refusal;
+use ut_query::{Item, Query};
 use ut_stands::Layout;
-use ut_value::Text;
-
-// ---- what is selected
-
-fn item_name(item: &Item) -> Option<&Text>
-    ensures { option_map (λ t. t.now) result ≡ spec.own_item_name item.now }
-{
-    match item {
-        Item::Path(path) => own_name(path),
-        Item::Child { .. } => None,
-    }
-}
-
-fn is_named(item: &Item, name: &str) -> bool
-    ensures { result ≡ spec.is_named (chars name.now) item.now }
-{
-    match item_name(item) {
-        Some(own) => same_name(own.as_str(), name),
-        None => false,
-    }
-}
-
-fn is_mentioned(before: &[Item], name: &str) -> bool
-    ensures { result ≡ list_any (spec.is_named (chars name.now)) before.now }
-{
-    before.iter().any(|item| is_named(item, name))
-}
-
-// INVALID_FIELD: there is no field with this name, or it was selected before.
-fn name_refusal(
-    alloc: Global,
-    layout: &Layout,
-    before: &[Item],
-    name: &Text,
-) -> Result<Option<Refusal>, AllocError>
-    ensures { IfOk result (λ r. r ≡ spec.selected_rule layout.now before.now name.now) }
-{
-    if column_in(layout, name.as_str()).is_none() || is_mentioned(before, name.as_str()) {
-        let name = Text::from_str(alloc, name.as_str())?;
-        return Ok(Some(Refusal::InvalidField { name }));
-    }
-    Ok(None)
-}
-
-fn item_refusal(
-    alloc: Global,
-    layout: &Layout,
-    before: &[Item],
-    item: &Item,
-) -> Result<Option<Refusal>, AllocError>
-    ensures { IfOk result (λ r. r ≡ spec.item_rule layout.now before.now item.now) }
-{
-    match item_name(item) {
-        Some(name) => name_refusal(alloc, layout, before, name),
-        None => Ok(None),
-    }
-}
-
-// The first refusal of what is selected.
-fn items_refusal(
-    alloc: Global,
-    layout: &Layout,
-    items: &[Item],
-) -> Result<Option<Refusal>, AllocError>
-    ensures { IfOk result (λ r. r ≡ spec.items_rule layout.now [] items.now) }
-{
-    for (number, item) in items.iter().enumerate() {
-        if let Some(refusal) = item_refusal(alloc, layout, &items[..number], item)? {
-            return Ok(Some(refusal));
-        }
-    }
-    Ok(None)
-}
-
-// ---- what is ordered by
-
-fn key_refusal(
-    alloc: Global,
-    layout: &Layout,
-    key: &OrderKey,
-) -> Result<Option<Refusal>, AllocError>
-    ensures { IfOk result (λ r. r ≡ spec.key_rule layout.now key.now) }
-{
-    match own_name(&key.path) {
-        Some(name) => no_field(alloc, layout, name),
-        None => Ok(None),
-    }
-}
-
-fn keys_refusal(
-    alloc: Global,
-    layout: &Layout,
-    keys: &[OrderKey],
-) -> Result<Option<Refusal>, AllocError>
-    ensures { IfOk result (λ r. r ≡ first_of (spec.key_rule layout.now) keys.now) }
-{
-    for key in keys {
-        if let Some(refusal) = key_refusal(alloc, layout, key)? {
-            return Ok(Some(refusal));
-        }
-    }
-    Ok(None)
-}
-
-// ---- a query
 
 // INVALID_FIELD: what is selected, then what is tested, then what is ordered by.
 fn names_refusal(
     alloc: Global,
+    layouts: &[Layout],
     layout: &Layout,
     query: &Query,
 ) -> Result<Option<Refusal>, AllocError>
-    ensures { IfOk result (λ r. r ≡ spec.names_rule layout.now query.now) }
+    ensures { IfOk result (λ r. r ≡ spec.names_rule layouts.now layout.now query.now) }
 {
-    if let Some(refusal) = items_refusal(alloc, layout, query.select.as_slice())? {
+    if let Some(refusal) = items_refusal(alloc, layouts, layout, query.select.as_slice())? {
         return Ok(Some(refusal));
     }
-    if let Some(refusal) = tests_refusal(alloc, layout, Rule::Name, &query.tail.condition)? {
-        return Ok(Some(refusal));
-    }
-    keys_refusal(alloc, layout, query.tail.order.as_slice())
+    tail_refusal(alloc, layouts, layout, &query.tail)
 }
 
-// The first refusal of a query, by the layout alone.
-fn refusal_in(alloc: Global, layout: &Layout, query: &Query) -> Result<Option<Refusal>, AllocError>
-    ensures { IfOk result (λ r. r ≡ spec.query_rule layout.now query.now) }
+// Why a test of a child subquery is refused by a rule, if the item is one.
+fn child_tests_refusal(
+    alloc: Global,
+    layouts: &[Layout],
+    layout: &Layout,
+    rule: Rule,
+    item: &Item,
+) -> Result<Option<Refusal>, AllocError>
+    ensures { IfOk result (λ r. r ≡ spec.child_tests_rule layouts.now layout.now rule item.now) }
 {
-    if let Some(refusal) = names_refusal(alloc, layout, query)? {
-        return Ok(Some(refusal));
+    match item {
+        Item::Path(_) => Ok(None),
+        Item::Child { paths: _, tail } => match child_layout(layouts, layout, tail.from.as_str()) {
+            Some(child) => tests_refusal(alloc, layouts, child, rule, &tail.condition),
+            None => Ok(None),
+        },
     }
-    if let Some(refusal) = tests_refusal(alloc, layout, Rule::Suits, &query.tail.condition)? {
-        return Ok(Some(refusal));
-    }
-    tests_refusal(alloc, layout, Rule::Id, &query.tail.condition)
 }
 
-/// Why a flat query of the layout's object is refused: names that aren't there or are selected twice, then operators and literals
-/// that don't suit, then texts that aren't ids.
+// The first refusal of the tests of child subqueries.
+fn items_tests_refusal(
+    alloc: Global,
+    layouts: &[Layout],
+    layout: &Layout,
+    rule: Rule,
+    items: &[Item],
+) -> Result<Option<Refusal>, AllocError>
+    ensures { IfOk result (λ r. r ≡ first_of (spec.child_tests_rule layouts.now layout.now rule) items.now) }
+{
+    for item in items {
+        if let Some(refusal) = child_tests_refusal(alloc, layouts, layout, rule, item)? {
+            return Ok(Some(refusal));
+        }
+    }
+    Ok(None)
+}
+
+// The first refusal of all tests, those of child subqueries first.
+fn all_tests_refusal(
+    alloc: Global,
+    layouts: &[Layout],
+    layout: &Layout,
+    rule: Rule,
+    query: &Query,
+) -> Result<Option<Refusal>, AllocError>
+    ensures { IfOk result (λ r. r ≡ spec.all_tests_rule layouts.now layout.now rule query.now) }
+{
+    if let Some(refusal) = items_tests_refusal(
+        alloc,
+        layouts,
+        layout,
+        rule,
+        query.select.as_slice(),
+    )? {
+        return Ok(Some(refusal));
+    }
+    tests_refusal(alloc, layouts, layout, rule, &query.tail.condition)
+}
+
+// The first refusal of a query, by the layouts alone.
+fn refusal_in(
+    alloc: Global,
+    layouts: &[Layout],
+    layout: &Layout,
+    query: &Query,
+) -> Result<Option<Refusal>, AllocError>
+    ensures { IfOk result (λ r. r ≡ spec.query_rule layouts.now layout.now query.now) }
+{
+    if let Some(refusal) = names_refusal(alloc, layouts, layout, query)? {
+        return Ok(Some(refusal));
+    }
+    if let Some(refusal) = all_tests_refusal(alloc, layouts, layout, Rule::Suits, query)? {
+        return Ok(Some(refusal));
+    }
+    all_tests_refusal(alloc, layouts, layout, Rule::Id, query)
+}
+
+/// Why a query of the layout's object is refused, by the layouts of all objects: names that aren't there or are selected twice,
+/// then operators and literals that don't suit, then texts that aren't ids. Of a flat query no other layout is looked at.
 ///
 /// # Errors
 ///
 /// When out of memory.
 pub fn query_refusal(
     alloc: Global,
+    layouts: &[Layout],
     layout: &Layout,
     query: &Query,
 ) -> Result<Option<Refusal>, AllocError>
-    ensures { is_flat query.now ≡ true
-        → IfOk result (λ r. (q : OrgPlan) (t : Tenant) → IsLayout q t layout.now
-        → r ≡ first_refusal (query_rules t layout.now.object query.now)) }
+    ensures { IfOk result (λ r. (org : ℕ) (q : OrgPlan) (t : Tenant) → IsLayout q t layout.now
+        → Reaches org q t layouts.now query.now → r ≡ first_refusal (query_rules t layout.now.object query.now)) }
 {
-    refusal_in(alloc, layout, query)
+    refusal_in(alloc, layouts, layout, query)
 }

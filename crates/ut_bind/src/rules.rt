@@ -7,7 +7,8 @@ ghost use Rattle.ut_model.specs.Rules.{first_of};
 ghost use Rattle.ut_model.specs.Tests.{tests, tests_of};
 ghost use Rattle.ut_bind.specs.inner.Rules as spec;
 
-use crate::columns::column_in;
+use crate::columns::Family;
+use crate::paths::{path_column, spelled};
 use crate::suits::{Way, is_ids, way_suits};
 use std::alloc::{AllocError, Global};
 use ut_model::Refusal;
@@ -36,22 +37,24 @@ pub(crate) fn own_name(path: &Path) -> Option<&Text>
     }
 }
 
-/// INVALID_FIELD: there is no field with this name.
+/// INVALID_FIELD: the path leads to no field.
 ///
 /// # Errors
 ///
 /// When out of memory.
 pub(crate) fn no_field(
     alloc: Global,
+    layouts: &[Layout],
     layout: &Layout,
-    name: &Text,
+    path: &Path,
 ) -> Result<Option<Refusal>, AllocError>
-    ensures { IfOk result (λ r. r ≡ spec.no_field layout.now name.now) }
+    ensures { IfOk result (λ r. r ≡ spec.no_field layouts.now layout.now path.now.names) }
 {
-    match column_in(layout, name.as_str()) {
+    let names = path.names.as_slice();
+    match path_column(layouts, layout, names) {
         Some(_) => Ok(None),
         None => Ok(Some(Refusal::InvalidField {
-            name: Text::from_str(alloc, name.as_str())?,
+            name: spelled(alloc, names)?,
         })),
     }
 }
@@ -81,7 +84,7 @@ fn first_bad_id(alloc: Global, literals: &[Literal]) -> Result<Option<Refusal>, 
     Ok(None)
 }
 
-fn no_id(alloc: Global, way: Way) -> Result<Option<Refusal>, AllocError>
+fn first_of_way(alloc: Global, way: Way) -> Result<Option<Refusal>, AllocError>
     ensures { IfOk result (λ r. r ≡ first_of text_no_id (literals_of (spec.way_of way.entry))) }
 {
     match way {
@@ -91,56 +94,54 @@ fn no_id(alloc: Global, way: Way) -> Result<Option<Refusal>, AllocError>
     }
 }
 
-// Why a test of the field with this name is refused by a rule.
-fn named_refusal(
-    alloc: Global,
-    layout: &Layout,
-    rule: Rule,
-    name: &Text,
-    way: Way,
-) -> Result<Option<Refusal>, AllocError>
-    ensures { IfOk result (λ r. r ≡ spec.named_rule layout.now rule name.now (spec.way_of way.entry)) }
+// MALFORMED_ID: a text that is compared with ids isn't one.
+fn no_id(alloc: Global, family: Family, way: Way) -> Result<Option<Refusal>, AllocError>
+    ensures { IfOk result (λ r. r ≡ spec.no_id family (spec.way_of way.entry)) }
 {
-    match rule {
-        Rule::Name => no_field(alloc, layout, name),
-        Rule::Suits => match column_in(layout, name.as_str()) {
-            Some(column) => {
-                if way_suits(column.family, way) {
-                    Ok(None)
-                } else {
-                    Ok(Some(Refusal::InvalidFilter {
-                        path: Text::from_str(alloc, name.as_str())?,
-                    }))
-                }
-            }
-            None => Ok(None),
-        },
-        Rule::Id => match column_in(layout, name.as_str()) {
-            Some(column) => {
-                if is_ids(column.family) {
-                    no_id(alloc, way)
-                } else {
-                    Ok(None)
-                }
-            }
-            None => Ok(None),
-        },
+    if is_ids(family) {
+        return first_of_way(alloc, way);
     }
+    Ok(None)
 }
 
-// Why a test is refused by a rule, if its path has one name.
+// INVALID_QUERY_FILTER_OPERATOR: the operator or a literal doesn't suit a field.
+fn no_suit(
+    alloc: Global,
+    family: Family,
+    path: &Path,
+    way: Way,
+) -> Result<Option<Refusal>, AllocError>
+    ensures { IfOk result (λ r. r ≡ spec.no_suit family path.now.names (spec.way_of way.entry)) }
+{
+    if way_suits(family, way) {
+        return Ok(None);
+    }
+    Ok(Some(Refusal::InvalidFilter {
+        path: spelled(alloc, path.names.as_slice())?,
+    }))
+}
+
+// Why a test is refused by a rule.
 fn test_refusal(
     alloc: Global,
+    layouts: &[Layout],
     layout: &Layout,
     rule: Rule,
     path: &Path,
     way: Way,
 ) -> Result<Option<Refusal>, AllocError>
-    ensures { IfOk result (λ r. r ≡ spec.rule_in layout.now rule (spec.tested path.now (spec.way_of way.entry))) }
+    ensures { IfOk result (λ r. r ≡ spec.rule_in layouts.now layout.now rule (spec.tested path.now (spec.way_of way.entry))) }
 {
-    match own_name(path) {
-        Some(name) => named_refusal(alloc, layout, rule, name, way),
-        None => Ok(None),
+    match rule {
+        Rule::Name => no_field(alloc, layouts, layout, path),
+        Rule::Suits => match path_column(layouts, layout, path.names.as_slice()) {
+            Some(column) => no_suit(alloc, column.family, path, way),
+            None => Ok(None),
+        },
+        Rule::Id => match path_column(layouts, layout, path.names.as_slice()) {
+            Some(column) => no_id(alloc, column.family, way),
+            None => Ok(None),
+        },
     }
 }
 
@@ -148,25 +149,40 @@ fn test_refusal(
 #[cycle(refusals)]
 fn condition_refusal(
     alloc: Global,
+    layouts: &[Layout],
     layout: &Layout,
     rule: Rule,
     cond: &Cond,
 ) -> Result<Option<Refusal>, AllocError>
-    ensures { IfOk result (λ r. r ≡ first_of (spec.rule_in layout.now rule) (tests_of cond.now)) }
+    ensures { IfOk result (λ r. r ≡ first_of (spec.rule_in layouts.now layout.now rule) (tests_of cond.now)) }
 {
     match cond {
         Cond::Test { path, op, literal } => {
-            test_refusal(alloc, layout, rule, path, Way::By(*op, literal))
+            test_refusal(alloc, layouts, layout, rule, path, Way::By(*op, literal))
         }
-        Cond::Like { path, pattern: _ } => test_refusal(alloc, layout, rule, path, Way::Pattern),
+        Cond::Like { path, pattern: _ } => test_refusal(
+            alloc,
+            layouts,
+            layout,
+            rule,
+            path,
+            Way::Pattern,
+        ),
         Cond::In {
             path,
             negated: _,
             literals,
-        } => test_refusal(alloc, layout, rule, path, Way::Among(literals.as_slice())),
-        Cond::Not(part) => condition_refusal(alloc, layout, rule, part.get()),
-        Cond::And(parts) => refusal_among(alloc, layout, rule, parts.as_slice()),
-        Cond::Or(parts) => refusal_among(alloc, layout, rule, parts.as_slice()),
+        } => test_refusal(
+            alloc,
+            layouts,
+            layout,
+            rule,
+            path,
+            Way::Among(literals.as_slice()),
+        ),
+        Cond::Not(part) => condition_refusal(alloc, layouts, layout, rule, part.get()),
+        Cond::And(parts) => refusal_among(alloc, layouts, layout, rule, parts.as_slice()),
+        Cond::Or(parts) => refusal_among(alloc, layouts, layout, rule, parts.as_slice()),
     }
 }
 
@@ -174,14 +190,15 @@ fn condition_refusal(
 #[cycle(refusals)]
 fn refusal_among(
     alloc: Global,
+    layouts: &[Layout],
     layout: &Layout,
     rule: Rule,
     conds: &[Cond],
 ) -> Result<Option<Refusal>, AllocError>
-    ensures { IfOk result (λ r. r ≡ first_of (spec.rule_in layout.now rule) (flat_map tests_of conds.now)) }
+    ensures { IfOk result (λ r. r ≡ first_of (spec.rule_in layouts.now layout.now rule) (flat_map tests_of conds.now)) }
 {
     for cond in conds {
-        if let Some(refusal) = condition_refusal(alloc, layout, rule, cond)? {
+        if let Some(refusal) = condition_refusal(alloc, layouts, layout, rule, cond)? {
             return Ok(Some(refusal));
         }
     }
@@ -195,14 +212,15 @@ fn refusal_among(
 /// When out of memory.
 pub(crate) fn tests_refusal(
     alloc: Global,
+    layouts: &[Layout],
     layout: &Layout,
     rule: Rule,
     cond: &Option<Cond>,
 ) -> Result<Option<Refusal>, AllocError>
-    ensures { IfOk result (λ r. r ≡ first_of (spec.rule_in layout.now rule) (tests cond.now)) }
+    ensures { IfOk result (λ r. r ≡ first_of (spec.rule_in layouts.now layout.now rule) (tests cond.now)) }
 {
     match cond {
-        Some(cond) => condition_refusal(alloc, layout, rule, cond),
+        Some(cond) => condition_refusal(alloc, layouts, layout, rule, cond),
         None => Ok(None),
     }
 }

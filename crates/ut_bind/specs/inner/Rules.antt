@@ -1,5 +1,5 @@
--- Why a query is refused, by the layout of its object.
-use Rattle.std.specs.Prelude.{ℕ, Bool, true, false, not, ◌||◌, if◌then◌else◌, List, [], ◌∷◌, ◌++◌, Option, Some, None, is_none}
+-- Why a query is refused, by the layouts of all objects and that of its own.
+use Rattle.std.specs.Prelude.{ℕ, Bool, true, false, not, if◌then◌else◌, List, [], ◌∷◌, ◌++◌, Option, Some, None, is_none}
 use Rattle.std.specs.List.{list_any}
 use Rattle.std.specs.Option.{option_and_then}
 use Rattle.ut_query.specs.declared.query.Item.{Item}
@@ -7,8 +7,9 @@ use Rattle.ut_query.specs.declared.query.Item.TheVariants as item
 use Rattle.ut_query.specs.declared.query.OrderKey.{OrderKey}
 use Rattle.ut_query.specs.declared.query.Path.{Path}
 use Rattle.ut_query.specs.declared.query.Query.{Query}
+use Rattle.ut_query.specs.declared.query.Tail.{Tail}
 use Rattle.ut_model.specs.declared.refusal.Refusal.TheVariants.{InvalidField, InvalidFilter}
-use Rattle.ut_model.specs.Asking.{literals_of, text_no_id}
+use Rattle.ut_model.specs.Asking.{item_name, literals_of, spelled_path, text_no_id}
 use Rattle.ut_model.specs.Cases.{in_case}
 use Rattle.ut_model.specs.Fields.{same_name}
 use Rattle.ut_model.specs.Rules as model
@@ -23,6 +24,7 @@ use Rattle.ut_bind.specs.declared.rules.Rule.TheVariants as rule
 use Rattle.ut_bind.specs.declared.suits.Way as held
 use Rattle.ut_bind.specs.declared.suits.Way.TheVariants as ways
 use Rattle.ut_bind.specs.inner.Columns.{column_in}
+use Rattle.ut_bind.specs.inner.Ways.{child_layout, path_column_in}
 
 -- ---- tests
 
@@ -60,49 +62,74 @@ column_of l names = option_and_then (column_in l) (own_name names)
 
 -- ---- rules of tests
 
-abbrev pub no_field : Layout → List ℕ → model.Rule
-no_field l name = refuse_if (is_none (column_in l name)) (InvalidField name)
+abbrev pub no_field : List Layout → Layout → List (List ℕ) → model.Rule
+no_field ls l names = refuse_if (is_none (path_column_in ls l names)) (InvalidField (spelled_path names))
 
-abbrev pub named_rule : Layout → Rule → List ℕ → Way → model.Rule
-named_rule l rule.Name name way = no_field l name
-named_rule l rule.Suits name way =
-    in_case (column_in l name) None (λ c. refuse_if (not (way_suits (suits_in c.family) way)) (InvalidFilter name))
-named_rule l rule.Id name way =
-    in_case (column_in l name) None (λ c. if is_ids c.family then first_of text_no_id (literals_of way) else None)
+abbrev pub no_suit : Family → List (List ℕ) → Way → model.Rule
+no_suit f names way = refuse_if (not (way_suits (suits_in f) way)) (InvalidFilter (spelled_path names))
 
-abbrev pub rule_in : Layout → Rule → Tested → model.Rule
-rule_in l r x = in_case (own_name x.names) None (λ name. named_rule l r name x.way)
+abbrev pub no_id : Family → Way → model.Rule
+no_id f way = if is_ids f then first_of text_no_id (literals_of way) else None
+
+abbrev pub rule_in : List Layout → Layout → Rule → Tested → model.Rule
+rule_in ls l rule.Name x = no_field ls l x.names
+rule_in ls l rule.Suits x = in_case (path_column_in ls l x.names) None (λ c. no_suit c.family x.names x.way)
+rule_in ls l rule.Id x = in_case (path_column_in ls l x.names) None (λ c. no_id c.family x.way)
 
 -- ---- rules of what is selected and ordered by
 
-abbrev pub own_item_name : Item → Option (List ℕ)
-own_item_name (item.Path p) = own_name p.names
-own_item_name (item.Child paths tail) = None
+-- what is selected before has this name
+abbrev pub mentioned_in : (before : List (List ℕ)) → List ℕ → model.Rule
+mentioned_in before name = refuse_if (list_any (λ x. same_name x name) before) (InvalidField name)
 
-abbrev pub is_named : List ℕ → Item → Bool
-is_named name x = in_case (own_item_name x) false (λ own. same_name own name)
+abbrev pub path_rule : List Layout → Layout → (before : List (List ℕ)) → Path → model.Rule
+path_rule ls l before p = first_refusal (no_field ls l p.names ∷ mentioned_in before (spelled_path p.names) ∷ [])
 
-abbrev pub selected_rule : Layout → (before : List Item) → List ℕ → model.Rule
-selected_rule l before name = refuse_if (is_none (column_in l name) || list_any (is_named name) before) (InvalidField name)
+-- one rule for each of these in turn, beside the names of those before
+unfoldable pub each_rule : {X : Type 0} → (X → List ℕ) → (List (List ℕ) → X → model.Rule) → (before : List (List ℕ)) → List X → model.Rule
+each_rule name rule before [] = None
+each_rule name rule before (x ∷ xs) = first_refusal (rule before x ∷ each_rule name rule (before ++ name x ∷ []) xs ∷ [])
 
-abbrev pub item_rule : Layout → (before : List Item) → Item → model.Rule
-item_rule l before x = in_case (own_item_name x) None (selected_rule l before)
+abbrev pub path_name : Path → List ℕ
+path_name p = spelled_path p.names
 
-unfoldable pub items_rule : Layout → (before : List Item) → List Item → model.Rule
-items_rule l before [] = None
-items_rule l before (x ∷ xs) = first_refusal (item_rule l before x ∷ items_rule l (before ++ x ∷ []) xs ∷ [])
+abbrev pub paths_rule : List Layout → Layout → (before : List (List ℕ)) → List Path → model.Rule
+paths_rule ls l before paths = each_rule path_name (path_rule ls l) before paths
 
-abbrev pub key_rule : Layout → OrderKey → model.Rule
-key_rule l k = in_case (own_name k.path.names) None (no_field l)
+abbrev pub key_rule : List Layout → Layout → OrderKey → model.Rule
+key_rule ls l k = no_field ls l k.path.names
+
+abbrev pub tail_rule : List Layout → Layout → Tail → model.Rule
+tail_rule ls l tail = first_refusal (first_of (rule_in ls l rule.Name) (tests tail.condition) ∷ first_of (key_rule ls l) tail.order ∷ [])
+
+-- of a child subquery, by the layout of its object
+abbrev pub child_rule : List Layout → Layout → (before : List (List ℕ)) → List Path → Tail → model.Rule
+child_rule ls l before paths tail =
+    first_refusal (paths_rule ls l [] paths ∷ mentioned_in before tail.from ∷ tail_rule ls l tail ∷ [])
+
+abbrev pub item_rule : List Layout → Layout → (before : List (List ℕ)) → Item → model.Rule
+item_rule ls l before (item.Path p) = path_rule ls l before p
+item_rule ls l before (item.Child paths tail) =
+    in_case (child_layout ls l tail.from) (Some (InvalidField tail.from)) (λ c. child_rule ls c before paths tail)
+
+abbrev pub items_rule : List Layout → Layout → (before : List (List ℕ)) → List Item → model.Rule
+items_rule ls l before items = each_rule item_name (item_rule ls l) before items
 
 -- ---- a query
 
-abbrev pub names_rule : Layout → Query → model.Rule
-names_rule l q =
-    first_refusal
-    (items_rule l [] q.select ∷ first_of (rule_in l rule.Name) (tests q.tail.condition) ∷ first_of (key_rule l) q.tail.order ∷ [])
+abbrev pub names_rule : List Layout → Layout → Query → model.Rule
+names_rule ls l q = first_refusal (items_rule ls l [] q.select ∷ tail_rule ls l q.tail ∷ [])
 
-abbrev pub query_rule : Layout → Query → model.Rule
-query_rule l q =
-    first_refusal
-    (names_rule l q ∷ first_of (rule_in l rule.Suits) (tests q.tail.condition) ∷ first_of (rule_in l rule.Id) (tests q.tail.condition) ∷ [])
+-- the tests of a child subquery
+abbrev pub child_tests_rule : List Layout → Layout → Rule → Item → model.Rule
+child_tests_rule ls l r (item.Path p) = None
+child_tests_rule ls l r (item.Child paths tail) =
+    in_case (child_layout ls l tail.from) None (λ c. first_of (rule_in ls c r) (tests tail.condition))
+
+abbrev pub all_tests_rule : List Layout → Layout → Rule → Query → model.Rule
+all_tests_rule ls l r q =
+    first_refusal (first_of (child_tests_rule ls l r) q.select ∷ first_of (rule_in ls l r) (tests q.tail.condition) ∷ [])
+
+abbrev pub query_rule : List Layout → Layout → Query → model.Rule
+query_rule ls l q =
+    first_refusal (names_rule ls l q ∷ all_tests_rule ls l rule.Suits q ∷ all_tests_rule ls l rule.Id q ∷ [])

@@ -6,4 +6,4 @@ use Rattle.ut_bind.proofs.rules.+refusals.Given as goal
 
 abbrev pub invariant-refusal_among-loop-cond : goal.invariant-refusal_among-loop-cond
 invariant-refusal_among-loop-cond l =
-    first_of (rule_in l.layout l.rule) (flat_map tests_of l.conds) ≡ first_of (rule_in l.layout l.rule) (flat_map tests_of (drop l.cond-index l.conds))
+    first_of (rule_in l.layouts l.layout l.rule) (flat_map tests_of l.conds) ≡ first_of (rule_in l.layouts l.layout l.rule) (flat_map tests_of (drop l.cond-index l.conds))

@@ -1,0 +1,3 @@
+pub mod Branches
+pub mod ByLayout
+pub mod Ways

@@ -5,3 +5,5 @@ pub mod Sound
 pub mod ByLayout
 pub mod Ends
 pub mod Spelling
+pub mod Branching
+pub mod Places

@@ -1,12 +1,19 @@
--- The records of branches: the parents that a row needs, each once.
+-- The records of branches: the parents that a row needs, each once; and the place among them to which a path leads.
 -- Source: Salesforce, "SOQL and SOSL Reference", "Relationship Queries". That a parent which the user may not read is none is this
 -- product's own.
-use Rattle.std.specs.Prelude.{ℕ, List, [], ◌∷◌, ◌++◌, Option, Some, None, slice_get}
+use Rattle.std.specs.Prelude.{◌≡◌, ℕ, ◌<◌, List, [], ◌∷◌, ◌++◌, length, Option, Some, None, IfSome, slice_get}
 use Rattle.std.specs.Option.{option_and_then}
 use Rattle.ut_model.specs.declared.record.Record.{Record}
 use Rattle.ut_model.specs.Paths.{Asked, if_readable}
+use Rattle.ut_model.specs.Tenant.{Tenant}
+use Rattle.ut_stands.specs.Layouts.{IsLayout}
+use Rattle.ut_stands.specs.Plan.{OrgPlan}
 use Rattle.ut_ways.specs.declared.branches.Branch.{Branch}
-use Rattle.ut_ways.specs.Ways.{record_to}
+use Rattle.ut_ways.specs.declared.branches.Place.{Place}
+use Rattle.ut_ways.specs.declared.parents.ParentStep.{ParentStep}
+use Rattle.ut_ways.specs.Ways.{led_to, path_end, record_to}
+
+-- ---- records
 
 -- the record from which a step leads, where these are the records of the branches before: the row's own, or that of one of them
 abbrev pub record_above : Record → (before : List (Option Record)) → (above : Option ℕ) → Option Record
@@ -22,3 +29,40 @@ branch_record a r before b =
 abbrev pub branch_records : Asked → Record → (before : List (Option Record)) → List Branch → List (Option Record)
 branch_records a r before [] = before
 branch_records a r before (b ∷ branches) = branch_records a r (before ++ branch_record a r before b ∷ []) branches
+
+-- ---- branches
+
+-- the branch with this number is among these; where there is no number, it is the row's record
+abbrev pub IsAmong : List Branch → Option ℕ → Type 0
+IsAmong branches at = IfSome at (λ n. n < length branches)
+
+-- each leads from the row's record, or from that of a branch before it
+abbrev pub AreBranches : List Branch → Type 0
+AreBranches branches = (n : ℕ) (b : Branch) → slice_get branches n ≡ Some b → IfSome b.above (λ m. m < n)
+
+-- no two of them lead by the same step from the same record
+abbrev pub AreApart : List Branch → Type 0
+AreApart branches = (n m : ℕ) (b : Branch) → slice_get branches n ≡ Some b → slice_get branches m ≡ Some b → n ≡ m
+
+-- the old branches stay where they are, and those that are added are behind them
+pub record AddsBranches (old new : List Branch) : Type 0 where
+  pub more : List Branch
+  pub behind : new ≡ old ++ more
+  pub order : AreBranches new
+
+-- ---- places
+
+-- from the object with this number, names lead to this place
+pub record LeadTo (q : OrgPlan) (t : Tenant) (n : ℕ) (names : List (List ℕ)) (branches : List Branch) (p : Place) : Type 0 where
+  -- they spell these steps, and the place's layout is that of the object at their end
+  pub steps : List ParentStep
+  pub spelled : path_end t n names ≡ Some (steps, p.layout.now.object)
+  pub layout : IsLayout q t p.layout.now
+  -- from any row's record and for whoever asks, the steps lead to the record of the place's branch
+  pub among : IsAmong branches p.branch
+  pub reached : (a : Asked) (r : Record) → record_above r (branch_records a r [] branches) p.branch ≡ led_to a steps r
+
+-- what is found is the place to which they lead; nothing is found where they spell nothing
+abbrev pub FindsPlace : OrgPlan → Tenant → (object : ℕ) → (names : List (List ℕ)) → List Branch → Option Place → Type 0
+FindsPlace q t n names branches None = path_end t n names ≡ None
+FindsPlace q t n names branches (Some p) = LeadTo q t n names branches p

@@ -1,6 +1,20 @@
 //! The parents that a row needs, each once.
 
-use crate::parents::ParentStep;
+ghost use Rattle.std.specs.Prelude.{◌≡◌, ℕ, List, [], ◌++◌, Option, Some, IfOk, IfSome, IfNone, length, slice_get};
+ghost use Rattle.ut_model.specs.Paths.{Asked};
+ghost use Rattle.ut_model.specs.Sound.{IsSound};
+ghost use Rattle.ut_model.specs.Tenant.{Tenant};
+ghost use Rattle.ut_model.specs.declared.record.Record.{Record};
+ghost use Rattle.ut_stands.specs.Layouts.{IsLayout, own_layouts};
+ghost use Rattle.ut_stands.specs.Plan.{OrgPlan};
+ghost use Rattle.ut_ways.specs.declared.branches.Branch.{Branch};
+ghost use Rattle.ut_ways.specs.Branches.{AreApart, AreBranches, AddsBranches, FindsPlace, IsAmong, branch_records, record_above};
+
+use crate::parents::{ParentStep, parent_in};
+use crate::ways::layout_in;
+use std::alloc::AllocError;
+use ut_stands::Layout;
+use ut_value::Text;
 
 /// A parent of a row's record, or a parent's parent: by a step from the row's record, or from that of a branch before it.
 #[derive(Clone, Copy, Debug, PartialEq, Eq)]
@@ -10,3 +24,85 @@ pub struct Branch {
     /// The step.
     pub step: ParentStep,
 }
+
+/// Where a path leads.
+#[derive(Clone, Copy, Debug)]
+pub struct Place<'a> {
+    /// The number of the branch whose record has the path's last field; if there is none, the row's record has it.
+    pub branch: Option<usize>,
+    /// The layout of that record's object.
+    pub layout: &'a Layout,
+}
+
+// The number of the first of these branches that is this one.
+fn number_of(branches: &[Branch], branch: Branch) -> Option<usize>
+    ensures found { IfSome result (λ n. slice_get branches.now n ≡ Some branch) }
+    ensures missing { IfNone result ((n : ℕ) → slice_get branches.now n ≡ Some branch → ⊥) }
+{
+    branches.iter().position(|other| *other == branch)
+}
+
+// The number of this branch, which is added behind the others if it isn't among them.
+fn find_or_add(branches: &mut Vec<Branch>, branch: Branch) -> Result<usize, AllocError>
+    requires order { AreBranches branches.old.items }
+    requires above { IsAmong branches.old.items branch.above }
+    ensures there { IfOk result (λ n. slice_get branches.new.items n ≡ Some branch) }
+    ensures grows { AddsBranches branches.old.items branches.new.items }
+    ensures once { AreApart branches.old.items → AreApart branches.new.items }
+{
+    if let Some(number) = number_of(branches.as_slice(), branch) {
+        return Ok(number);
+    }
+    let number = branches.len();
+    branches.push(branch)?;
+    Ok(number)
+}
+
+/// The place to which names of parent relationships lead from an object, by the layouts of all objects. A branch that is there
+/// serves again; one that is lacking is added behind the others.
+///
+/// # Errors
+///
+/// When out of memory. The branches that were added until then stay.
+pub fn place_in<'a>(
+    layouts: &'a [Layout],
+    layout: &'a Layout,
+    names: &[Text],
+    branches: &mut Vec<Branch>,
+) -> Result<Option<Place<'a>>, AllocError>
+    requires order { AreBranches branches.old.items }
+    ensures finds { IfOk result (λ place. (org : ℕ) (q : OrgPlan) (t : Tenant) → layouts.now ≡ own_layouts org q (Some t)
+        → IsLayout q t layout.now → IsSound t → FindsPlace q t layout.now.object names.now branches.new.items place) }
+    // Whatever is returned.
+    ensures grows { AddsBranches branches.old.items branches.new.items }
+    ensures once { AreApart branches.old.items → AreApart branches.new.items }
+{
+    let mut at = None;
+    let mut end = layout;
+    'names: for name in names {
+        let Some(step) = parent_in(end, name.as_str()) else {
+            return Ok(None);
+        };
+        let Some(next) = layout_in(layouts, step.target) else {
+            return Ok(None);
+        };
+        let number = find_or_add(branches, Branch { above: at, step })?;
+        at = Some(number);
+        end = next;
+    }
+    Ok(Some(Place {
+        branch: at,
+        layout: end,
+    }))
+}
+
+/// The laws of branches. The call does nothing.
+pub fn branch_laws()
+    // Later branches don't change the records of those before.
+    ensures later { (a : Asked) (r : Record) (branches more : List Branch) (at : Option ℕ) → IsAmong branches at
+        → record_above r (branch_records a r [] (branches ++ more)) at ≡ record_above r (branch_records a r [] branches) at }
+
+    // There are as many records as branches.
+    ensures many { (a : Asked) (r : Record) (branches : List Branch)
+        → length (branch_records a r [] branches) ≡ length branches }
+{}

@@ -2,7 +2,8 @@
 //!
 //! It depends on `ut_stands` for layouts, and on `ut_model` for what they are of. Its contract: by the layouts of an
 //! organisation's objects it finds the steps that names of relationships spell, as the model has them, and what a path's field
-//! and a path's value are by its steps. It reads nothing.
+//! and a path's value are by its steps; and the branches by which the parents that paths need are read, each once a row. It
+//! reads nothing.
 #![tactic(auto)]
 
 mod branches;
@@ -13,7 +14,7 @@ mod parents;
 mod references;
 mod ways;
 
-pub use crate::branches::Branch;
+pub use crate::branches::{Branch, Place, branch_laws, place_in};
 pub use crate::children::{ChildStep, child_in};
 pub use crate::laws::way_laws;
 pub use crate::parents::{ParentStep, parent_in};

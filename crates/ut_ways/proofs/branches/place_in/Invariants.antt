@@ -1,0 +1,17 @@
+use Rattle.std.proofs.Common.{◌≡◌, ℕ, Some, drop}
+use Rattle.ut_model.specs.Sound.{IsSound}
+use Rattle.ut_model.specs.Tenant.{Tenant}
+use Rattle.ut_stands.specs.Layouts.{IsLayout, own_layouts}
+use Rattle.ut_stands.specs.Plan.{OrgPlan}
+use Rattle.ut_ways.specs.Branches.{AreApart, AddsBranches, IsAmong}
+use Rattle.ut_ways.proofs.Places.{HasReached}
+use Rattle.ut_ways.proofs.branches.place_in.Given as goal
+
+abbrev pub invariant-names : goal.invariant-names
+invariant-names l = record {
+  reached : (org : ℕ) (q : OrgPlan) (t : Tenant) → l.layouts ≡ own_layouts org q (Some t) → IsLayout q t l.layout → IsSound t
+      → HasReached q t l.layout.object l.names l.branches.items l.at l.end (drop l.name-index l.names);
+  among : IsAmong l.branches.items l.at;
+  grown : AddsBranches l.initial.branches.items l.branches.items;
+  once : AreApart l.initial.branches.items → AreApart l.branches.items;
+}

@@ -1,0 +1,4 @@
+pub mod Among
+pub mod Branching
+pub mod Paged
+pub mod Reading

@@ -1,0 +1,4 @@
+pub mod Branches
+pub mod Children
+pub mod Parents
+pub mod inner

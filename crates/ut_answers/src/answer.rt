@@ -168,7 +168,7 @@ pub fn answer_flat<K: Keeper, S: Sight>(
     object_laws();
     plan_laws();
     record_laws();
-    if let Some(refusal) = query_refusal(alloc, layout, query)? {
+    if let Some(refusal) = query_refusal(alloc, &[], layout, query)? {
         return refuse(alloc, refusal);
     }
     let plan = bind(alloc, layout, day_of_moment(now), query)?;

@@ -93,7 +93,7 @@ fn answer_there(
     object_laws();
     plan_laws();
     record_laws();
-    if let Some(refusal) = query_refusal(alloc, layout, query)? {
+    if let Some(refusal) = query_refusal(alloc, &[], layout, query)? {
         return Ok(Outcome::Refused(refusal));
     }
     let plan = bind(alloc, layout, day_of_moment(moment(now)), query)?;

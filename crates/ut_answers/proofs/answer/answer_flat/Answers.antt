@@ -1,4 +1,4 @@
-use Rattle.std.proofs.Common.{◌≡◌, ◌∙◌, None, Option, Some, ap, arith, length, of_z, refl, rules, sym, to_z, w64}
+use Rattle.std.proofs.Common.{◌≡◌, ◌∙◌, None, Option, Some, ap, arith, inl, length, of_z, refl, rules, sym, to_z, w64}
 use Rattle.std.proofs.lemmas.Int.{to_z-of_z}
 use Rattle.std.specs.Prelude.{FitsSigned}
 use Rattle.ut_value.specs.Printing.{day_of_moment}
@@ -18,7 +18,7 @@ pub returns-in-Some-clause-what : goal.returns-in-Some-clause-what
 returns-in-Some-clause-what g c told p a asked flat =
     let laws : Laws = record { rise = c.record_laws.ensures.rise; already = c.record_laws.ensures.already; named = c.object_laws.ensures.named; printable = c.data_laws.ensures.printable; row = c.plan_laws.ensures.row } in
     query_refused laws c.args.layout.now _ _ c.args.query.now _ p a asked c.in-Some.refusal c.refuse.result
-    (sym c.in-Some.is ∙ c.in_ok-refusal.ensures flat p a.tenant (its_layout laws c.args.layout.now _ _ c.args.query.now _ p a asked)) c.refuse.ensures.value
+    (sym c.in-Some.is ∙ c.in_ok-refusal.ensures 0 p a.tenant (its_layout laws c.args.layout.now _ _ c.args.query.now _ p a asked) (inl flat)) c.refuse.ensures.value
 
 pub returns-clause-what : goal.returns-clause-what
 returns-clause-what g c told p a asked flat =
@@ -26,7 +26,7 @@ returns-clause-what g c told p a asked flat =
     let its = its_layout laws c.args.layout.now _ _ c.args.query.now _ p a asked in
     let small : FitsSigned w64 c.day_of_moment.result = search rules in
     let day : to_z w64 (of_z w64 c.day_of_moment.result) ≡ day_of_moment a.now = to_z-of_z w64 c.day_of_moment.result small ∙ c.day_of_moment.ensures ∙ ap day_of_moment (to_z-of_z w64 c.args.now c.ranges.now ∙ sym asked.now) in
-    let free = sym (c.in_ok-refusal.ensures flat p a.tenant its) ∙ nothing_there c.in_ok-refusal.field-0 c.in_default.not-Some in
+    let free = sym (c.in_ok-refusal.ensures 0 p a.tenant its (inl flat)) ∙ nothing_there c.in_ok-refusal.field-0 c.in_default.not-Some in
     plan_answers laws c.args.layout.now _ _ c.args.query.now _ p a asked c.in_ok-plan.plan
     (c.in_ok-plan.ensures p a its asked.stands.sound day flat free) free flat c.answer_plan.result (c.answer_plan.ensures.what told)
 

@@ -26,11 +26,7 @@ use ut_value::{Id, Items};
 use ut_ways::{Branch, layout_in};
 
 // The id to which the value at a position refers, of a record whose values are given one by one.
-fn id_given<V: HasValues>(
-    alloc: Global,
-    item: &V,
-    position: usize,
-) -> Result<Option<Id>, CodecFail>
+fn id_given<V: HasValues>(alloc: Global, item: &V, position: usize) -> Result<Option<Id>, CodecFail>
     ensures { (r : Record) → V.its_record item.now ≡ Some r → length r.values ≤ 256
         → GivesJust (ref_of (value_at r.values position)) result }
 {
@@ -121,7 +117,15 @@ pub fn records_of_branches<K: Keeper, R: Rights, V: HasValues>(
     call_laws::<K>();
     let mut records = Items::new(alloc);
     for branch in branches {
-        let found = branch_of(alloc, draft, rights, layouts, *branch, item, records.as_slice())?;
+        let found = branch_of(
+            alloc,
+            draft,
+            rights,
+            layouts,
+            *branch,
+            item,
+            records.as_slice(),
+        )?;
         records.push(found)?;
     }
     Ok(records)

@@ -8,7 +8,7 @@ use Rattle.ut_background.proofs.PagesRead.{IsBusy, busy_is, idle}
 use Rattle.ut_background.proofs.Ready.{ConvertsThere, FieldFits, Typed, name_fits, ready}
 use Rattle.ut_background.proofs.Takes.{Does, StepLaws, layout_at, steps}
 use Rattle.ut_background.specs.Background.{IsUnderWay, StepsIn}
-use Rattle.ut_background.specs.inner.Deciding.{DecidesBy, DecidesStep, IsWhole, TakesStep, decided}
+use Rattle.ut_background.specs.inner.Deciding.{AreStep, DecidesBy, DecidesStep, IsWhole, TakesStep, decided}
 use Rattle.ut_background.specs.inner.Pages.{IsRead, busy_row, next_rows}
 use Rattle.ut_data.proofs.Lists.{some_is}
 use Rattle.ut_edits.proofs.Making.{EditedIn, KeptIn, after_spelled}
@@ -135,10 +135,10 @@ takes_failed {A = A} org q t r e was h = subst (TakesStep {A = A} org q t) was h
 abbrev pub Judged : {A : Type 0} → (org : ℕ) → Tables → Result (Option (Vec Spelled A)) StoreFail → Type 0
 Judged org m r = (q : OrgPlan) (t : Tenant) → StandsIn org q m (Some t) → DecidesStep org q t r
 
-pub steps_made : {A : Type 0} → EditedIn → KeptIn → (org : ℕ) → org < 2 ^ 32 → (m then : Tables) (r : Result (Option (Vec Spelled A)) StoreFail) (bytes : Vec Spelled A) → r ≡ Ok (Some bytes) → IfOk r (λ found. IfSome found (λ changes. AreOf org changes.items))
+pub steps_made : {A : Type 0} → EditedIn → KeptIn → (org : ℕ) → org < 2 ^ 32 → (m then : Tables) (r : Result (Option (Vec Spelled A)) StoreFail) (bytes : Vec Spelled A) → r ≡ Ok (Some bytes) → IfOk r (λ found. IfSome found (λ changes. AreStep org changes.items))
     → then ≡ after bytes.items m → Judged org m r → StepsIn org m then (Ok true)
-steps_made {A = A} edited kept org lo m then r bytes was own made h = record {
-  others = others_stay edited kept org lo m then bytes.items (subst (λ (x : Result (Option (Vec Spelled A)) StoreFail). IfOk x (λ found. IfSome found (λ changes. AreOf org changes.items))) was own) made;
+steps_made {A = A} edited kept org lo m then r bytes was form made h = record {
+  others = others_stay edited kept org lo m then bytes.items (subst (λ (x : Result (Option (Vec Spelled A)) StoreFail). IfOk x (λ found. IfSome found (λ changes. AreStep org changes.items))) was form).own made;
   stepped = λ q t s.
       let d = subst (DecidesStep {A = A} org q t) was (h q t s) in
       (d.0, stepped_to edited kept org lo m then q t bytes s d.1 made);

@@ -2,8 +2,7 @@
 
 ghost use Rattle.std.specs.Prelude.{◌≡◌, ◌+◌, IfErr, IfOk, IfSome, None, Ok, Some, false};
 ghost use Rattle.ut_background.specs.Background.{DraftsStep, StepsIn};
-ghost use Rattle.ut_background.specs.inner.Deciding.{DecidesStep, TakesStep};
-ghost use Rattle.ut_edits.specs.Rows.{AreFew, AreOf};
+ghost use Rattle.ut_background.specs.inner.Deciding.{AreStep, DecidesStep, ReadsStep, TakesStep};
 ghost use Rattle.ut_keeper.specs.Draft.{DraftReads, DraftTells, removals_of, tables_of};
 ghost use Rattle.ut_model.specs.Retyping.{job_is_done};
 ghost use Rattle.ut_model.specs.Tenant.{Job, Tenant};
@@ -35,8 +34,7 @@ fn changes_by<K: Keeper>(
     ensures takes { DraftTells K.state draft.old draft.new
         → (q : OrgPlan) (t : Tenant) (j : Job) → StandsIn org q (tables_of K.state draft.old) (Some t)
         → t.job ≡ Some j → job_is_done j.phase ≡ false → row ≡ job_of org q j → TakesStep org q t result }
-    ensures own { IfOk result (λ changes. AreOf org changes.items) }
-    ensures few { IfOk result (λ changes. AreFew 201 0 changes.items) }
+    ensures form { IfOk result (λ changes. AreStep org changes.items) }
     ensures calls { Calls K.state (100 + removals_of K.state 7 draft.old) (ended result) draft.old draft.new }
 {
     call_laws::<K>();
@@ -63,10 +61,8 @@ fn judge<K: Keeper>(
 ) -> Result<Option<Vec<Change>>, StoreFail>
     ensures decides { DraftTells K.state draft.old draft.new → (q : OrgPlan) (t : Tenant)
         → StandsIn org q (tables_of K.state draft.old) (Some t) → DecidesStep org q t result }
-    ensures own { IfOk result (λ found. IfSome found (λ changes. AreOf org changes.items)) }
-    ensures few { IfOk result (λ found. IfSome found (λ changes. AreFew 201 0 changes.items)) }
-    ensures calls { Calls K.state (100 + removals_of K.state 7 draft.old) (ended result) draft.old draft.new }
-    ensures same { result ≡ Ok None → DraftReads K.state 0 draft.old draft.new }
+    ensures form { IfOk result (λ found. IfSome found (λ changes. AreStep org changes.items)) }
+    ensures reads { ReadsStep K.state result draft.old draft.new }
 {
     draft_laws::<K>();
     call_laws::<K>();

@@ -1,12 +1,14 @@
 -- Which rows a step writes, by what it read. A change whose rows no tables have that stand for a tenant isn't made a step of.
-use Rattle.std.specs.Prelude.{◌≡◌, ◌≢◌, ◌≤◌, ℕ, suc, Bool, not, ◌&&◌, ◌||◌, if◌then◌else◌, List, ◌++◌, length, is_none, Option, None, Some, IfSome, IsTrue, Result, Ok, Err, Vec, slice_get}
+use Rattle.std.specs.Prelude.{◌≡◌, ◌≢◌, ◌≤◌, ℕ, ◌+◌, suc, Bool, not, ◌&&◌, ◌||◌, if◌then◌else◌, List, ◌++◌, length, is_none, Option, None, Some, IfSome, IsTrue, Result, Ok, Err, Vec, slice_get}
 use Rattle.std.specs.List.{AllByRecursion, find}
 use Rattle.ut_background.specs.inner.Rows.{done_row, failed_row, is_plain, moved_row, row_alone, switch_decided}
 use Rattle.ut_background.specs.Background.{IsUnderWay}
 use Rattle.ut_data.specs.Decoding.{each_from, has_types, record_from}
 use Rattle.ut_edits.specs.Edits.{Takes}
-use Rattle.ut_edits.specs.Rows.{AreSpelled}
+use Rattle.ut_edits.specs.Rows.{AreFew, AreOf, AreSpelled}
 use Rattle.ut_formula.specs.Meaning.{value_at}
+use Rattle.ut_keeper.specs.Draft.{DraftReads, Held, removals_of}
+use Rattle.ut_keeper.specs.State.{KeeperState, data_table}
 use Rattle.ut_keeper.specs.declared.keeper.Change.{Change as Spelled}
 use Rattle.ut_keys.specs.declared.data.DataRow.{DataRow}
 use Rattle.ut_keys.specs.declared.fail.StoreFail.{StoreFail}
@@ -22,6 +24,7 @@ use Rattle.ut_model.specs.declared.record.Record.{Record}
 use Rattle.ut_parts.specs.Plain.{FitsText}
 use Rattle.ut_pivot.specs.Turned.{converts}
 use Rattle.ut_progress.specs.Progress.{page_changes}
+use Rattle.ut_stands.specs.Calls.{Calls, ended}
 use Rattle.ut_stands.specs.Changes.{Change}
 use Rattle.ut_stands.specs.Plan.{OrgPlan}
 use Rattle.ut_stands.specs.declared.layout.FieldPlace.{FieldPlace}
@@ -98,5 +101,19 @@ TakesStep org q t (Err e) = e ≢ Damaged
 abbrev pub DecidesStep : {A : Type 0} → (org : ℕ) → OrgPlan → Tenant → Result (Option (Vec Spelled A)) StoreFail → Type 0
 DecidesStep org q t (Ok None) = job_step t ≡ t
 DecidesStep org q t (Ok (Some bytes)) =
-    IsUnderWay t × ((changes : List Change) × AreSpelled changes bytes.items × Takes org q t (accept done (job_step t)) done any_plan changes)
+    IsUnderWay t
+    × ((changes : List Change) × AreSpelled changes bytes.items × Takes org q t (accept done (job_step t)) done any_plan changes)
 DecidesStep org q t (Err e) = e ≢ Damaged
+
+-- ---- whatever the tables have
+
+-- some changes, no more than those of a step, at keys of the organisation
+pub record AreStep (org : ℕ) (changes : List Spelled) : Type 0 where
+  pub own : AreOf org changes
+  pub few : AreFew 201 0 changes
+
+module _ {K : Type 0} (state : K → KeeperState) where
+  -- what deciding on a step leaves of a draft: it only reads, and where there is no step to make it is shown no data row
+  pub record ReadsStep {A : Type 0} (result : Result (Option (Vec Spelled A)) StoreFail) (old new : Held K) : Type 0 where
+    pub calls : Calls state (100 + removals_of state data_table old) (ended result) old new
+    pub same : result ≡ Ok None → DraftReads state 0 old new

@@ -24,13 +24,14 @@ returns-in-Ok-changes_of-clause-takes g c told q t j s is busy its =
     let read = subst (FindsPage c.args.org q t j) c.in-Ok.is (c.page_of.ensures.finds told q t j s is busy its) in
     decided_takes laws c.args.org lo q t j s.sound s.plan page.row page.layout page.rows read c.in-Ok-changes_of.changes c.in-Ok-changes_of.ensures.made
 
-pub returns-in-Ok-changes_of-clause-own : goal.returns-in-Ok-changes_of-clause-own
-returns-in-Ok-changes_of-clause-own g c =
-    decided_own c.args.org c.in-Ok.page.row c.in-Ok.page.layout c.in-Ok.page.rows c.in-Ok-changes_of.changes.items c.in-Ok.ensures.own c.in-Ok-changes_of.ensures.made
-
-pub returns-in-Ok-changes_of-clause-few : goal.returns-in-Ok-changes_of-clause-few
-returns-in-Ok-changes_of-clause-few g c =
-    decided_few c.progress_laws.ensures.gone c.args.org c.in-Ok.page.row c.in-Ok.page.layout c.in-Ok.page.rows c.in-Ok-changes_of.changes.items c.in-Ok-changes_of.ensures.made
+pub returns-in-Ok-changes_of-clause-form : goal.returns-in-Ok-changes_of-clause-form
+returns-in-Ok-changes_of-clause-form g c =
+    let page = c.in-Ok.page in
+    let changes = c.in-Ok-changes_of.changes.items in
+    record {
+      own = decided_own c.args.org page.row page.layout page.rows changes c.in-Ok.ensures.own c.in-Ok-changes_of.ensures.made;
+      few = decided_few c.progress_laws.ensures.gone c.args.org page.row page.layout page.rows changes c.in-Ok-changes_of.ensures.made;
+    }
 
 pub returns-in-Err-changes_of-clause-takes : goal.returns-in-Err-changes_of-clause-takes
 returns-in-Err-changes_of-clause-takes g c told q t j s is busy its =

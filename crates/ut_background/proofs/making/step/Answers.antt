@@ -14,8 +14,8 @@ returns-in_ok-make_changes-in-Ok-Some-clause-what g c told =
     let laws = c.local_laws.ensures in
     let lo : c.args.org < 2 ^ 32 = omega arith in
     let first = c.draft_laws.ensures.told_first _ _ 0 a b d c.make_changes.ensures.works told in
-    let same = c.draft_laws.ensures.tables (100 + removals_of state 7 a) a b c.judge.ensures.calls.reads first in
+    let same = c.draft_laws.ensures.tables (100 + removals_of state 7 a) a b c.judge.ensures.reads.calls.reads first in
     let changes = c.in-Ok-Some.changes in
     steps_made laws.edited laws.kept c.args.org lo (tables_of state a) (tables_of state d) c.judge.result changes
-    (subst (λ x. c.judge.result ≡ Ok x) c.in-Ok-Some.field-0-is c.in-Ok-Some.is) c.judge.ensures.own
+    (subst (λ x. c.judge.result ≡ Ok x) c.in-Ok-Some.field-0-is c.in-Ok-Some.is) c.judge.ensures.form
     (c.in_ok-make_changes-in-Ok-Some.ensures.ok ∙ ap (after changes.items) same) (c.judge.ensures.decides first)

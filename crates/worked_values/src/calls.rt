@@ -1,5 +1,6 @@
 //! Which function a line calls.
 
+use crate::answer::Answer;
 use crate::documents::{json, written};
 use crate::forms::form;
 use crate::identities::{made_id, spelled_id};
@@ -12,55 +13,51 @@ use crate::streams::{adapters, clock, door, failures, sink, source, system_clock
 use crate::values::{conversion, day, moment, number};
 use std::io;
 
-/// The line with what its call gives, or as it is if it calls nothing.
+/// What the call of a line gives.
 ///
 /// # Errors
 ///
 /// If out of memory, or if a client of the door over TCP fails.
 pub fn answer(rt: &HostRuntime, line: &str) -> io::Result<String> {
     let alloc = rt.alloc();
-    if line.is_empty() || line.starts_with('#') {
-        return Ok(String::from_str(alloc, line)?);
-    }
     let cells: Vec<&str> = line.split('|').collect(alloc)?;
-    let found = match cells.as_slice() {
-        [name, arguments @ ..] => call(rt, name, arguments)?,
-        [] => String::new(alloc),
-    };
-    Ok(format!(in alloc; "{line} => {found}")?)
+    let mut answer = Answer::new(alloc);
+    if let [name, arguments @ ..] = cells.as_slice() {
+        call(rt, &mut answer, name, arguments)?;
+    }
+    Ok(answer.finish()?)
 }
 
-fn call(rt: &HostRuntime, name: &str, arguments: &[&str]) -> io::Result<String> {
-    let alloc = rt.alloc();
-    let found = match name {
-        "number" => number(alloc, arguments),
-        "day" => day(alloc, arguments),
-        "moment" => moment(alloc, arguments),
-        "convert" => conversion(alloc, arguments),
-        "id" => spelled_id(alloc, arguments),
-        "id of" => made_id(alloc, arguments),
-        "fold" => folding(alloc, arguments),
-        "order" => order_of(alloc, arguments),
-        "rising" => rising(alloc, arguments),
-        "messages" => messages(alloc, arguments),
-        "reply" => reply(alloc, arguments),
-        "table" | "row" | "read" => form(alloc, name, arguments),
-        "names" => names(alloc, arguments),
-        "type" => field_type(alloc, arguments),
-        "json" => json(alloc, arguments),
-        "written" => written(alloc, arguments),
-        "keeper" => keeper(alloc, arguments),
-        "key after" => key_after(alloc, arguments),
-        "prefix" => prefix(alloc, arguments),
-        "source" => source(alloc, arguments),
-        "sink" => sink(alloc, arguments),
-        "door" => door(alloc, arguments),
-        "tcp" => return tcp(rt),
-        "clock" => clock(alloc, arguments),
-        "system clock" => system_clock(rt),
-        "adapters" => adapters(alloc, arguments),
-        "failures" => failures(alloc),
-        _ => String::from_str(alloc, "no such call"),
-    };
-    Ok(found?)
+fn call(rt: &HostRuntime, answer: &mut Answer, name: &str, arguments: &[&str]) -> io::Result<()> {
+    match name {
+        "number" => number(answer, arguments),
+        "day" => day(answer, arguments),
+        "moment" => moment(answer, arguments),
+        "convert" => conversion(answer, arguments),
+        "id" => spelled_id(answer, arguments),
+        "id of" => made_id(answer, arguments),
+        "fold" => folding(answer, arguments),
+        "order" => order_of(answer, arguments),
+        "rising" => rising(answer, arguments),
+        "messages" => messages(answer, arguments),
+        "reply" => reply(answer, arguments),
+        "table" | "row" | "read" => form(answer, name, arguments),
+        "names" => names(answer, arguments),
+        "type" => field_type(answer, arguments),
+        "json" => json(answer, arguments),
+        "written" => written(answer, arguments),
+        "keeper" => keeper(answer, arguments),
+        "key after" => key_after(answer, arguments),
+        "prefix" => prefix(answer, arguments),
+        "source" => source(answer, arguments),
+        "sink" => sink(answer, arguments),
+        "door" => door(answer, arguments),
+        "tcp" => return tcp(rt, answer),
+        "clock" => clock(answer, arguments),
+        "system clock" => return Ok(system_clock(rt, answer)?),
+        "adapters" => adapters(answer, arguments),
+        "failures" => failures(answer),
+        _ => answer.push("no such call"),
+    }
+    Ok(())
 }

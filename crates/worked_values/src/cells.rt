@@ -1,8 +1,7 @@
 //! What the cells of a line say. In a cell of bytes `<0D0A>` is the two bytes 0D and 0A, and any other character is
 //! itself.
 
-use std::alloc::{AllocError, Global};
-use std::fmt::Write;
+use std::alloc::AllocError;
 
 /// The cell at a place, or the empty text.
 pub fn cell<'a>(cells: &[&'a str], place: usize) -> &'a str {
@@ -10,6 +9,11 @@ pub fn cell<'a>(cells: &[&'a str], place: usize) -> &'a str {
         Some(cell) => cell,
         None => "",
     }
+}
+
+/// The number in the cell at a place, or 0.
+pub fn count(cells: &[&str], place: usize) -> usize {
+    cell(cells, place).parse().unwrap_or(0)
 }
 
 fn digit(byte: u8) -> u8 {
@@ -20,88 +24,84 @@ fn digit(byte: u8) -> u8 {
     }
 }
 
-fn push_hex(bytes: &mut Vec<u8>, digits: &str) -> Result<(), AllocError> {
-    for pair in digits.as_bytes().chunks(2) {
-        if let [high, low] = pair {
-            bytes.push((digit(*high) << 4) | digit(*low))?;
+// Where in a cell a character is: among characters that are themselves, at the first digit of a byte, or at the second one
+// behind the first.
+#[derive(Clone, Copy)]
+enum Place {
+    Plain,
+    First,
+    Second(u8),
+}
+
+// The place behind a character, and the byte that ends with it.
+fn after(place: Place, byte: u8) -> (Place, Option<u8>) {
+    match (place, byte) {
+        (Place::Plain, b'<') => (Place::First, None),
+        (Place::Plain, _) => (Place::Plain, Some(byte)),
+        (_, b'>') => (Place::Plain, None),
+        (Place::First, _) => (Place::Second(digit(byte)), None),
+        (Place::Second(high), _) => (Place::First, Some((high << 4) | digit(byte))),
+    }
+}
+
+/// Appends the bytes of a cell.
+///
+/// # Errors
+///
+/// If out of memory.
+pub fn push_cell(bytes: &mut Vec<u8>, cell: &str) -> Result<(), AllocError> {
+    let mut place = Place::Plain;
+    for byte in cell.as_bytes() {
+        let (next, found) = after(place, *byte);
+        place = next;
+        if let Some(found) = found {
+            bytes.push(found)?;
         }
     }
     Ok(())
 }
 
-/// The bytes of a cell.
-///
-/// # Errors
-///
-/// If out of memory.
-pub fn bytes_in(alloc: Global, cell: &str) -> Result<Vec<u8>, AllocError> {
-    let mut bytes = Vec::new(alloc);
-    let (plain, rest) = cell.split_once('<').unwrap_or((cell, ""));
-    bytes.extend_from_slice(plain.as_bytes())?;
-    for piece in rest.split('<') {
-        let (digits, plain) = piece.split_once('>').unwrap_or((piece, ""));
-        push_hex(&mut bytes, digits)?;
-        bytes.extend_from_slice(plain.as_bytes())?;
+fn push_times(bytes: &mut Vec<u8>, cell: &str, times: u64) -> Result<(), AllocError> {
+    for _ in 0..times {
+        push_cell(bytes, cell)?;
     }
-    Ok(bytes)
+    Ok(())
 }
 
-/// The bytes of cells: of the first one; then by threes, a count, bytes that are there so often, and bytes that follow.
+/// Appends the bytes of cells: of the first one; then by threes, a count, bytes that are there so often, and bytes that
+/// follow.
 ///
 /// # Errors
 ///
 /// If out of memory.
-pub fn repeated_in(alloc: Global, cells: &[&str]) -> Result<Vec<u8>, AllocError> {
-    let mut bytes = bytes_in(alloc, cell(cells, 0))?;
-    for three in cells.get(1..).unwrap_or(&[]).chunks(3) {
-        let count: usize = cell(three, 0).parse().unwrap_or(0);
-        let piece = bytes_in(alloc, cell(three, 1))?;
-        for _ in 0..count {
-            bytes.extend_from_slice(piece.as_slice())?;
-        }
-        let last = bytes_in(alloc, cell(three, 2))?;
-        bytes.extend_from_slice(last.as_slice())?;
-    }
-    Ok(bytes)
-}
-
-/// The cell of these bytes, in which all but the signs of ASCII is in hex.
-///
-/// # Errors
-///
-/// If out of memory.
-pub fn cell_of(alloc: Global, bytes: &[u8]) -> Result<String, AllocError> {
-    let mut cell = String::new(alloc);
-    let mut is_hex = false;
-    for byte in bytes {
-        let is_plain = matches!(*byte, b' '..=b'~') && *byte != b'<';
-        if is_plain == is_hex {
-            cell.push_str(if is_hex { ">" } else { "<" })?;
-            is_hex = !is_hex;
-        }
-        if is_plain {
-            cell.push(char::from(*byte))?;
+pub fn push_repeated(bytes: &mut Vec<u8>, cells: &[&str]) -> Result<(), AllocError> {
+    let mut times = 1;
+    for (place, cell) in cells.iter().enumerate() {
+        if place % 3 == 1 {
+            times = cell.parse().unwrap_or(0);
         } else {
-            write!(cell, "{byte:02X}")?;
+            push_times(bytes, cell, times)?;
+            times = 1;
         }
     }
-    if is_hex {
-        cell.push_str(">")?;
-    }
-    Ok(cell)
+    Ok(())
 }
 
-/// The numbers of a cell, with `,` between two of them.
+/// Appends the numbers of a cell, with `,` between two of them.
 ///
 /// # Errors
 ///
 /// If out of memory.
-pub fn numbers_in(alloc: Global, cell: &str) -> Result<Vec<u64>, AllocError> {
-    let mut numbers = Vec::new(alloc);
+pub fn push_numbers(numbers: &mut Vec<u64>, cell: &str) -> Result<(), AllocError> {
     for number in cell.split(',') {
         if let Ok(number) = number.parse() {
             numbers.push(number)?;
         }
     }
-    Ok(numbers)
+    Ok(())
+}
+
+/// The word at a place of a text, with a space between two of them, or the empty text.
+pub fn word(text: &str, place: usize) -> &str {
+    text.split(' ').nth(place).unwrap_or("")
 }

@@ -1,231 +1,209 @@
 //! A keeper in memory, and drafts over it.
 
-use crate::cells::{bytes_in, cell, cell_of, numbers_in};
-use std::alloc::{AllocError, Global};
+use crate::answer::Answer;
+use crate::cells::{cell, word};
+use std::alloc::AllocError;
 use ut_keeper::{Draft, KeepFail, Keeper, KeptRow, MemoryKeeper, all_rows, next_key, prefix_ends};
 use ut_value::Bytes;
 
-// Appends what a step reads.
-fn push_found(found: &mut String, text: &str) -> Result<(), AllocError> {
-    if !found.is_empty() {
-        found.push_str("; ")?;
-    }
-    found.push_str(text)
+fn push_row(answer: &mut Answer, row: &KeptRow) {
+    answer.push_cell(row.key.as_slice());
+    answer.push("=");
+    answer.push_cell(row.row.as_slice());
 }
 
-fn push_row(alloc: Global, shown: &mut String, row: &KeptRow) -> Result<(), AllocError> {
-    if !shown.is_empty() {
-        shown.push_str(" ")?;
-    }
-    shown.push_str(cell_of(alloc, row.key.as_slice())?.as_str())?;
-    shown.push_str("=")?;
-    shown.push_str(cell_of(alloc, row.row.as_slice())?.as_str())
-}
-
-// Rows as `key=row`, or `none`.
-fn rows_shown(alloc: Global, rows: &[KeptRow]) -> Result<String, AllocError> {
-    if rows.is_empty() {
-        return String::from_str(alloc, "none");
-    }
-    let mut shown = String::new(alloc);
+// Appends each row behind a space, but the first.
+fn push_rows(answer: &mut Answer, rows: &[KeptRow]) {
+    let mut is_first = true;
     for row in rows {
-        push_row(alloc, &mut shown, row)?;
+        if !is_first {
+            answer.push(" ");
+        }
+        push_row(answer, row);
+        is_first = false;
     }
-    Ok(shown)
 }
 
-fn row_shown(alloc: Global, row: Option<Bytes>) -> Result<String, AllocError> {
+// Rows as `key=row`, or `none`, or how reading them failed.
+fn show_rows(answer: &mut Answer, rows: Result<Vec<KeptRow>, KeepFail>) {
+    match rows {
+        Ok(rows) if rows.is_empty() => answer.push("none"),
+        Ok(rows) => push_rows(answer, rows.as_slice()),
+        Err(fail) => answer.push_value(&fail),
+    }
+}
+
+// A row, or `none`, or how reading it failed.
+fn show_row(answer: &mut Answer, row: Result<Option<Bytes>, KeepFail>) {
     match row {
-        Some(row) => cell_of(alloc, row.as_slice()),
-        None => String::from_str(alloc, "none"),
+        Ok(Some(row)) => answer.push_cell(row.as_slice()),
+        Ok(None) => answer.push("none"),
+        Err(fail) => answer.push_value(&fail),
     }
 }
 
-fn put<K: Keeper>(
-    alloc: Global,
-    draft: &mut Draft<'_, K>,
-    words: &[&str],
-) -> Result<(), AllocError> {
-    let key = Bytes::from_vec(bytes_in(alloc, cell(words, 2))?);
-    let row = Bytes::from_vec(bytes_in(alloc, cell(words, 3))?);
-    draft.put(alloc, table_in(words), key, row)
+// How a change failed, if it did.
+fn show_failure(answer: &mut Answer, done: Result<(), KeepFail>) {
+    if let Err(fail) = done {
+        answer.separate("; ");
+        answer.push_value(&fail);
+    }
 }
 
-fn remove<K: Keeper>(
-    alloc: Global,
-    draft: &mut Draft<'_, K>,
-    words: &[&str],
-) -> Result<(), AllocError> {
-    let key = Bytes::from_vec(bytes_in(alloc, cell(words, 2))?);
-    draft.remove(alloc, table_in(words), key)
+fn table_in(step: &str) -> u8 {
+    word(step, 1).parse().unwrap_or(0)
 }
 
-fn get<K: Keeper>(
-    alloc: Global,
-    draft: &mut Draft<'_, K>,
-    words: &[&str],
-) -> Result<String, KeepFail> {
-    let key = bytes_in(alloc, cell(words, 2))?;
-    let row = draft.get(alloc, table_in(words), key.as_slice())?;
-    Ok(row_shown(alloc, row)?)
+fn put(answer: &mut Answer, draft: &mut Draft<'_, MemoryKeeper>, step: &str) {
+    let key = Bytes::from_vec(answer.bytes_in(word(step, 2)));
+    let row = Bytes::from_vec(answer.bytes_in(word(step, 3)));
+    let result = draft.put(answer.alloc(), table_in(step), key, row);
+    answer.note(result);
 }
 
-fn scan<K: Keeper>(
-    alloc: Global,
-    draft: &mut Draft<'_, K>,
-    words: &[&str],
-) -> Result<String, KeepFail> {
-    let from = bytes_in(alloc, cell(words, 2))?;
-    let below = bytes_in(alloc, cell(words, 3))?;
-    let limit = cell(words, 4).parse().unwrap_or(0);
+fn remove(answer: &mut Answer, draft: &mut Draft<'_, MemoryKeeper>, step: &str) {
+    let key = Bytes::from_vec(answer.bytes_in(word(step, 2)));
+    let result = draft.remove(answer.alloc(), table_in(step), key);
+    answer.note(result);
+}
+
+fn get(answer: &mut Answer, draft: &mut Draft<'_, MemoryKeeper>, step: &str) {
+    let key = answer.bytes_in(word(step, 2));
+    let row = draft.get(answer.alloc(), table_in(step), key.as_slice());
+    show_row(answer, row);
+}
+
+fn scan(answer: &mut Answer, draft: &mut Draft<'_, MemoryKeeper>, step: &str) {
+    let from = answer.bytes_in(word(step, 2));
+    let below = answer.bytes_in(word(step, 3));
+    let limit = word(step, 4).parse().unwrap_or(0);
     let rows = draft.scan(
-        alloc,
-        table_in(words),
+        answer.alloc(),
+        table_in(step),
         from.as_slice(),
         below.as_slice(),
         limit,
-    )?;
-    Ok(rows_shown(alloc, rows.as_slice())?)
+    );
+    show_rows(answer, rows);
 }
 
-fn walk<K: Keeper>(
-    alloc: Global,
-    draft: &mut Draft<'_, K>,
-    words: &[&str],
-) -> Result<String, KeepFail> {
-    let from = bytes_in(alloc, cell(words, 2))?;
-    let below = bytes_in(alloc, cell(words, 3))?;
-    let page: usize = cell(words, 4).parse().unwrap_or(1);
+fn walk(answer: &mut Answer, draft: &mut Draft<'_, MemoryKeeper>, step: &str) {
+    let from = answer.bytes_in(word(step, 2));
+    let below = answer.bytes_in(word(step, 3));
+    let page: usize = word(step, 4).parse().unwrap_or(1);
     let rows = all_rows(
-        alloc,
+        answer.alloc(),
         draft,
-        table_in(words),
+        table_in(step),
         from.as_slice(),
         below.as_slice(),
         page.max(1),
-    )?;
-    Ok(rows_shown(alloc, rows.as_slice())?)
+    );
+    show_rows(answer, rows);
 }
 
-fn table_in(words: &[&str]) -> u8 {
-    cell(words, 1).parse().unwrap_or(0)
-}
-
-// A step of a draft: what it reads, or nothing.
-fn step<K: Keeper>(
-    alloc: Global,
-    draft: &mut Draft<'_, K>,
-    words: &[&str],
-) -> Result<String, KeepFail> {
-    match cell(words, 0) {
-        "put" => put(alloc, draft, words)?,
-        "remove" => remove(alloc, draft, words)?,
-        "get" => return get(alloc, draft, words),
-        "scan" => return scan(alloc, draft, words),
-        "walk" => return walk(alloc, draft, words),
-        "len" => return Ok(format!(in alloc; "{}", draft.len())?),
-        _ => return Ok(String::from_str(alloc, "no such step")?),
+// A step that reads, whose result is shown.
+fn read_step(answer: &mut Answer, draft: &mut Draft<'_, MemoryKeeper>, step: &str) {
+    answer.separate("; ");
+    match word(step, 0) {
+        "get" => get(answer, draft, step),
+        "scan" => scan(answer, draft, step),
+        "walk" => walk(answer, draft, step),
+        "len" => answer.push_value(&draft.len()),
+        _ => answer.push("no such step"),
     }
-    Ok(String::new(alloc))
+}
+
+fn do_step(answer: &mut Answer, draft: &mut Draft<'_, MemoryKeeper>, step: &str) {
+    match word(step, 0) {
+        "put" => put(answer, draft, step),
+        "remove" => remove(answer, draft, step),
+        _ => read_step(answer, draft, step),
+    }
+}
+
+fn do_steps(answer: &mut Answer, draft: &mut Draft<'_, MemoryKeeper>, steps: &str) {
+    for step in steps.split(", ") {
+        do_step(answer, draft, step);
+    }
 }
 
 // The steps of one draft, which may end by `commit`.
-fn drafted<K: Keeper>(
-    alloc: Global,
-    keeper: &mut K,
-    steps: &str,
-    found: &mut String,
-) -> Result<(), KeepFail> {
-    let mut draft = Draft::new(alloc, keeper);
-    for words in steps.split(", ") {
-        if words == "commit" {
-            return draft.commit(alloc);
+fn do_draft(answer: &mut Answer, keeper: &mut MemoryKeeper, steps: &str) {
+    let mut draft = Draft::new(answer.alloc(), keeper);
+    match steps.split_once(", commit") {
+        Some((steps, _)) => {
+            do_steps(answer, &mut draft, steps);
+            let result = draft.commit(answer.alloc());
+            show_failure(answer, result);
         }
-        let words: Vec<&str> = words.split(' ').collect(alloc)?;
-        let text = step(alloc, &mut draft, words.as_slice())?;
-        if !text.is_empty() {
-            push_found(found, text.as_str())?;
-        }
+        None => do_steps(answer, &mut draft, steps),
     }
-    Ok(())
+}
+
+fn open(answer: &mut Answer, keeper: &mut MemoryKeeper) {
+    let result = keeper.open(answer.alloc());
+    show_failure(answer, result);
+}
+
+fn show_counts(answer: &mut Answer, keeper: &MemoryKeeper) {
+    answer.push_value(&keeper.shown(7));
+    answer.push(" and ");
+    answer.push_value(&keeper.shown(8));
 }
 
 // What is asked of a keeper in memory itself.
-fn asked(
-    alloc: Global,
-    keeper: &mut MemoryKeeper,
-    call: &str,
-    found: &mut String,
-) -> Result<(), KeepFail> {
+fn ask(answer: &mut Answer, keeper: &mut MemoryKeeper, call: &str) {
     match call {
-        "open" => keeper.open(alloc),
-        "shown" => {
-            let shown = format!(in alloc; "{} and {}", keeper.shown(7), keeper.shown(8))?;
-            Ok(push_found(found, shown.as_str())?)
-        }
-        "written" => {
-            let written = format!(in alloc; "{}", keeper.written())?;
-            Ok(push_found(found, written.as_str())?)
-        }
-        "faults" => {
-            let faults = format!(in alloc; "{}", keeper.faults())?;
-            Ok(push_found(found, faults.as_str())?)
-        }
-        steps => drafted(alloc, keeper, steps, found),
+        "open" => open(answer, keeper),
+        "shown" => show_counts(answer, keeper),
+        "written" => answer.push_value(&keeper.written()),
+        "faults" => answer.push_value(&keeper.faults()),
+        steps => do_draft(answer, keeper, steps),
+    }
+}
+
+// Appends what a call finds, or `done`.
+fn show_call(answer: &mut Answer, keeper: &mut MemoryKeeper, call: &str) {
+    let mut found = Answer::new(answer.alloc());
+    ask(&mut found, keeper, call);
+    answer.separate(" | ");
+    answer.push_other(&found, "done");
+}
+
+fn show_calls(answer: &mut Answer, keeper: &mut MemoryKeeper, calls: &[&str]) {
+    for call in calls {
+        show_call(answer, keeper, call);
     }
 }
 
 /// The numbers of the calls at which a keeper in memory fails, and what is done with it in turn: `open`, a count of it, or
 /// the steps of a draft, with `, ` between two of them. What each finds, or `done`, and how it fails.
-///
-/// # Errors
-///
-/// If out of memory.
-pub fn keeper(alloc: Global, cells: &[&str]) -> Result<String, AllocError> {
-    let failing = numbers_in(alloc, cell(cells, 0))?;
-    let mut keeper = MemoryKeeper::new(alloc, failing.as_slice())?;
-    let mut all = String::new(alloc);
-    for call in cells.get(1..).unwrap_or(&[]) {
-        let mut found = String::new(alloc);
-        if let Err(fail) = asked(alloc, &mut keeper, call, &mut found) {
-            push_found(&mut found, format!(in alloc; "{fail:?}")?.as_str())?;
-        }
-        if !all.is_empty() {
-            all.push_str(" | ")?;
-        }
-        all.push_str(if found.is_empty() {
-            "done"
-        } else {
-            found.as_str()
-        })?;
+pub fn keeper(answer: &mut Answer, cells: &[&str]) {
+    let failing = answer.numbers_in(cell(cells, 0));
+    match MemoryKeeper::new(answer.alloc(), failing.as_slice()) {
+        Ok(mut keeper) => show_calls(answer, &mut keeper, cells.get(1..).unwrap_or(&[])),
+        Err(AllocError) => answer.fail(),
     }
-    Ok(all)
 }
 
 /// A key: the next one.
-///
-/// # Errors
-///
-/// If out of memory.
-pub fn key_after(alloc: Global, cells: &[&str]) -> Result<String, AllocError> {
-    let key = bytes_in(alloc, cell(cells, 0))?;
-    let next = next_key(alloc, key.as_slice())?;
-    cell_of(alloc, next.as_slice())
+pub fn key_after(answer: &mut Answer, cells: &[&str]) {
+    let key = answer.bytes_in(cell(cells, 0));
+    let next = next_key(answer.alloc(), key.as_slice());
+    answer.push_bytes(next);
 }
 
 /// A prefix: it, and the first key above all that begin with it, or `none`.
-///
-/// # Errors
-///
-/// If out of memory.
-pub fn prefix(alloc: Global, cells: &[&str]) -> Result<String, AllocError> {
-    let prefix = bytes_in(alloc, cell(cells, 0))?;
-    match prefix_ends(alloc, prefix.as_slice())? {
-        Some((from, below)) => {
-            let from = cell_of(alloc, from.as_slice())?;
-            let below = cell_of(alloc, below.as_slice())?;
-            format!(in alloc; "{from} to {below}")
+pub fn prefix(answer: &mut Answer, cells: &[&str]) {
+    let prefix = answer.bytes_in(cell(cells, 0));
+    match prefix_ends(answer.alloc(), prefix.as_slice()) {
+        Ok(Some((from, below))) => {
+            answer.push_cell(from.as_slice());
+            answer.push(" to ");
+            answer.push_cell(below.as_slice());
         }
-        None => String::from_str(alloc, "none"),
+        Ok(None) => answer.push("none"),
+        Err(AllocError) => answer.fail(),
     }
 }

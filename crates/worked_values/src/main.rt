@@ -3,6 +3,7 @@
 //! written as it is.
 #![tactic(auto)]
 
+mod answer;
 mod calls;
 mod cells;
 mod documents;
@@ -23,8 +24,17 @@ use std::io;
 
 fn main(rt: HostRuntime) -> io::Result<()> {
     for line in rt.lines(rt.alloc()) {
-        let found = answer(&rt, line?.as_str())?;
-        println!(rt; "{found}")?;
+        write_line(&rt, line?.as_str())?;
+    }
+    Ok(())
+}
+
+fn write_line(rt: &HostRuntime, line: &str) -> io::Result<()> {
+    if line.is_empty() || line.starts_with('#') {
+        println!(rt; "{line}")?;
+    } else {
+        let found = answer(rt, line)?;
+        println!(rt; "{line} => {found}")?;
     }
     Ok(())
 }

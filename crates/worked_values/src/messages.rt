@@ -2,7 +2,8 @@
 
 ghost use Rattle.std.specs.Prelude.{None};
 
-use crate::cells::{bytes_in, cell, cell_of, repeated_in};
+use crate::answer::Answer;
+use crate::cells::cell;
 use http::{Method, StatusCode};
 use std::alloc::{AllocError, Global};
 use ut_http::{
@@ -69,111 +70,75 @@ impl Source for Pieces<'_> {
 }
 
 // Appends a message: its method and target, `~` and the bearer, `=` and the body, `!` if it closes the connection.
-fn push_message(
-    alloc: Global,
-    items: &mut String,
-    message: &HttpMessage,
-) -> Result<(), AllocError> {
-    items.push_str(message.method.as_str())?;
-    items.push_str(" ")?;
-    items.push_str(cell_of(alloc, message.target.as_str().as_bytes())?.as_str())?;
+fn push_message(items: &mut Answer, message: &HttpMessage) {
+    items.push(message.method.as_str());
+    items.push(" ");
+    items.push_cell(message.target.as_str().as_bytes());
     if let Some(bearer) = &message.bearer {
-        items.push_str(" ~")?;
-        items.push_str(cell_of(alloc, bearer.as_str().as_bytes())?.as_str())?;
+        items.push(" ~");
+        items.push_cell(bearer.as_str().as_bytes());
     }
-    push_body(alloc, items, message.body.as_slice())?;
-    items.push_str(if message.close { " !; " } else { "; " })
+    push_body(items, message.body.as_slice());
+    items.push(if message.close { " !; " } else { "; " });
 }
 
 // Appends a body, or the count of its bytes if they are many.
-fn push_body(alloc: Global, items: &mut String, body: &[u8]) -> Result<(), AllocError> {
+fn push_body(items: &mut Answer, body: &[u8]) {
     if body.len() > 100 {
-        items.push_str(format!(in alloc; " ={} bytes", body.len())?.as_str())
+        items.push(" =");
+        items.push_value(&body.len());
+        items.push(" bytes");
     } else if !body.is_empty() {
-        items.push_str(" =")?;
-        items.push_str(cell_of(alloc, body)?.as_str())
-    } else {
-        Ok(())
+        items.push(" =");
+        items.push_cell(body);
     }
 }
 
-// Appends the next item of a source, and returns whether another one is to come.
-fn push_next<S: Source>(
-    alloc: Global,
-    items: &mut String,
-    source: &mut S,
-    buffer: &mut Buffer,
-    failures: &mut u64,
-) -> Result<bool, AllocError> {
-    let item = match next_message(alloc, source, buffer) {
+// Appends an item that was read, counts a failure, and returns whether another item is to come.
+fn push_item(items: &mut Answer, item: Result<Next, HttpFail>, failures: &mut u64) -> bool {
+    match item {
         Ok(Next::Message(message)) => {
-            push_message(alloc, items, &message)?;
-            return Ok(true);
+            push_message(items, &message);
+            return true;
         }
         Err(HttpFail::Failed) => {
             *failures = failures.saturating_add(1);
-            return Ok(true);
+            return true;
         }
-        Ok(Next::End) => String::from_str(alloc, "End")?,
-        Ok(Next::Cut) => String::from_str(alloc, "Cut")?,
-        Err(fail) => format!(in alloc; "{fail:?}")?,
-    };
-    items.push_str(item.as_str())?;
-    Ok(false)
+        Ok(Next::End) => items.push("End"),
+        Ok(Next::Cut) => items.push("Cut"),
+        Err(fail) => items.push_value(&fail),
+    }
+    false
 }
 
-// The items of bytes that are cut so, in which a failed read loses nothing.
-fn items_of(alloc: Global, bytes: &[u8], cut: Cut) -> Result<String, AllocError> {
+// Appends the items of a source, at which a failed read loses nothing.
+fn push_items(items: &mut Answer, source: &mut Pieces<'_>, buffer: &mut Buffer) {
+    let mut failures = 0;
+    for _ in 0..100 {
+        let item = next_message(items.alloc(), source, buffer);
+        if !push_item(items, item, &mut failures) {
+            break;
+        }
+    }
+    if failures != source.faults {
+        items.push(", and failures are miscounted");
+    }
+}
+
+// The items of bytes that are cut so.
+fn items_of(alloc: Global, bytes: &[u8], cut: Cut) -> Answer {
+    let mut items = Answer::new(alloc);
     let mut source = Pieces {
         left: bytes,
         cut,
         faults: 0,
     };
-    let mut buffer = Buffer::new(alloc)?;
-    let mut items = String::new(alloc);
-    let mut failures = 0;
-    for _ in 0..100 {
-        if !push_next(alloc, &mut items, &mut source, &mut buffer, &mut failures)? {
-            break;
-        }
+    match Buffer::new(alloc) {
+        Ok(mut buffer) => push_items(&mut items, &mut source, &mut buffer),
+        Err(AllocError) => items.fail(),
     }
-    if failures != source.faults {
-        items.push_str(", and failures are miscounted")?;
-    }
-    Ok(items)
-}
-
-// Where bytes are cut that are too many to be cut everywhere.
-const PLACES: [usize; 8] = [1, 30, 4095, 4096, 4097, 16383, 16384, 16385];
-
-// Every cut of so many bytes: into single ones, in two at each place, and with each read failing in turn, if they aren't
-// too many for that.
-fn cuts_of(alloc: Global, count: usize) -> Result<Vec<Cut>, AllocError> {
-    let mut cuts = Vec::new(alloc);
-    cuts.push(Cut {
-        first: 0,
-        piece: if count > 17_000 { 1000 } else { 1 },
-        failing: 0,
-    })?;
-    if count < 1000 {
-        for first in 1..count {
-            cuts.push(cut_at(first))?;
-        }
-    } else {
-        for first in PLACES {
-            cuts.push(cut_at(first))?;
-        }
-    }
-    if count < 200 {
-        for failing in 1..30 {
-            cuts.push(Cut {
-                first: 0,
-                piece: 7,
-                failing,
-            })?;
-        }
-    }
-    Ok(cuts)
+    items
 }
 
 fn cut_at(first: usize) -> Cut {
@@ -184,42 +149,85 @@ fn cut_at(first: usize) -> Cut {
     }
 }
 
-/// Bytes: their items, which are the same however the bytes are cut.
-///
-/// # Errors
-///
-/// If out of memory.
-pub fn messages(alloc: Global, cells: &[&str]) -> Result<String, AllocError> {
-    let bytes = repeated_in(alloc, cells)?;
-    let whole = items_of(alloc, bytes.as_slice(), cut_at(0))?;
-    for cut in cuts_of(alloc, bytes.len())? {
-        let items = items_of(alloc, bytes.as_slice(), cut)?;
-        if items.as_str() != whole.as_str() {
-            return format!(in alloc; "{whole}, but {items} if cut at {}", cut.first);
+// Appends the items of bytes that are cut so, if they aren't those of the whole bytes.
+fn compare(answer: &mut Answer, bytes: &[u8], whole: &str, cut: Cut) {
+    let items = items_of(answer.alloc(), bytes, cut);
+    if items.as_str() != whole {
+        answer.push(", but ");
+        answer.push_other(&items, "");
+        answer.push(" if cut at ");
+        answer.push_value(&cut.first);
+    }
+}
+
+// Whether so many bytes are cut in two at a place: at each one, or at some if they are too many for that.
+fn is_cut_at(count: usize, place: usize) -> bool {
+    count < 1000 || matches!(place, 1 | 30 | 4095..=4097 | 16383..=16385)
+}
+
+// Bytes that are cut into small pieces, and in two.
+fn compare_cuts(answer: &mut Answer, bytes: &[u8], whole: &str) {
+    let small = Cut {
+        first: 0,
+        piece: if bytes.len() > 17_000 { 1000 } else { 1 },
+        failing: 0,
+    };
+    compare(answer, bytes, whole, small);
+    for place in 1..bytes.len() {
+        if is_cut_at(bytes.len(), place) {
+            compare(answer, bytes, whole, cut_at(place));
         }
     }
-    Ok(whole)
+}
+
+// Bytes of which each read in turn fails.
+fn compare_failures(answer: &mut Answer, bytes: &[u8], whole: &str) {
+    for failing in 1..30 {
+        let cut = Cut {
+            first: 0,
+            piece: 7,
+            failing,
+        };
+        compare(answer, bytes, whole, cut);
+    }
+}
+
+/// Bytes: their items, which are the same however the bytes are cut.
+pub fn messages(answer: &mut Answer, cells: &[&str]) {
+    let bytes = answer.repeated_in(cells);
+    let whole = items_of(answer.alloc(), bytes.as_slice(), cut_at(0));
+    answer.push_other(&whole, "");
+    compare_cuts(answer, bytes.as_slice(), whole.as_str());
+    if bytes.len() < 200 {
+        compare_failures(answer, bytes.as_slice(), whole.as_str());
+    }
+}
+
+fn method_in(alloc: Global, name: &str) -> Method {
+    match Method::from_bytes(alloc, name.as_bytes()) {
+        Ok(method) => method,
+        Err(_) => Method::GET,
+    }
+}
+
+fn push_reply_to(answer: &mut Answer, status: &str, method: &Method, body: &[u8], close: bool) {
+    let alloc = answer.alloc();
+    match status {
+        "204" => answer.push_bytes(reply_bytes(alloc, StatusCode::NO_CONTENT, b"", close)),
+        "401" => answer.push_bytes(reply_bytes(alloc, StatusCode::UNAUTHORIZED, body, close)),
+        "404" => {
+            let reply = reply_bytes_to(alloc, method, StatusCode::NOT_FOUND, body, close);
+            answer.push_bytes(reply);
+        }
+        "503" => answer.push_cell(unavailable_to(method, close)),
+        _ => answer.push_cell(out_of_memory(close)),
+    }
 }
 
 /// A status, a method (GET if there is none), a body, and `close` or nothing: the reply.
-///
-/// # Errors
-///
-/// If out of memory.
-pub fn reply(alloc: Global, cells: &[&str]) -> Result<String, AllocError> {
-    let method = match Method::from_bytes(alloc, cell(cells, 1).as_bytes()) {
-        Ok(method) => method,
-        Err(_) => Method::GET,
-    };
-    let body = bytes_in(alloc, cell(cells, 2))?;
-    let body = body.as_slice();
+pub fn reply(answer: &mut Answer, cells: &[&str]) {
+    let method = method_in(answer.alloc(), cell(cells, 1));
+    let body = answer.bytes_in(cell(cells, 2));
     let close = cell(cells, 3) == "close";
-    let bytes = match cell(cells, 0) {
-        "204" => reply_bytes(alloc, StatusCode::NO_CONTENT, b"", close)?,
-        "401" => reply_bytes(alloc, StatusCode::UNAUTHORIZED, body, close)?,
-        "404" => reply_bytes_to(alloc, &method, StatusCode::NOT_FOUND, body, close)?,
-        "503" => return cell_of(alloc, unavailable_to(&method, close)),
-        _ => return cell_of(alloc, out_of_memory(close)),
-    };
-    cell_of(alloc, bytes.as_slice())
+    push_reply_to(answer, cell(cells, 0), &method, body.as_slice(), close);
 }

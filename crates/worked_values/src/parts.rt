@@ -1,59 +1,57 @@
 //! The parts that choose among forms or names: each type of a field, and each name of one byte.
 
-use crate::cells::{bytes_in, cell};
-use crate::fields::Fields;
-use std::alloc::{AllocError, Global};
-use std::fmt::{Debug, Write};
+use crate::answer::Answer;
+use crate::cells::cell;
+use std::fmt::Debug;
 use ut_keys::{CodecFail, FieldFlags, ObjectAccess, Part};
 use ut_parts::whole_of;
 use ut_value::{FieldType, Level, OnDelete, Outcome, Phase, RuleState};
 
-// Each byte that is read as a part, and the part.
-fn parts_read<P: Part + Debug + Drop>(alloc: Global) -> Result<String, AllocError> {
-    let mut all = String::new(alloc);
-    for byte in 0..=255u8 {
-        match whole_of::<P>(alloc, &[byte]) {
-            Err(CodecFail::Damaged) => {}
-            Err(CodecFail::Memory) => return Err(AllocError),
-            Ok(part) => write!(all, "{byte} {part:?}, ")?,
+// Appends a byte and the part that it is read as, if it is.
+fn push_part<P: Part + Debug + Drop>(answer: &mut Answer, byte: u8) {
+    match whole_of::<P>(answer.alloc(), &[byte]) {
+        Ok(part) => {
+            answer.push_value(&byte);
+            answer.push(" ");
+            answer.push_value(&part);
+            answer.push(", ");
         }
+        Err(CodecFail::Damaged) => {}
+        Err(CodecFail::Memory) => answer.fail(),
     }
-    all.push_str("and no other byte")?;
-    Ok(all)
+}
+
+// Each byte that is read as a part, and the part.
+fn push_parts<P: Part + Debug + Drop>(answer: &mut Answer) {
+    for byte in 0..=255u8 {
+        push_part::<P>(answer, byte);
+    }
+    answer.push("and no other byte");
 }
 
 /// A part of one byte: all bytes that are read, and as what.
-///
-/// # Errors
-///
-/// If out of memory.
-pub fn names(alloc: Global, cells: &[&str]) -> Result<String, AllocError> {
+pub fn names(answer: &mut Answer, cells: &[&str]) {
     match cell(cells, 0) {
-        "access" => parts_read::<ObjectAccess>(alloc),
-        "level" => parts_read::<Level>(alloc),
-        "on delete" => parts_read::<OnDelete>(alloc),
-        "truth" => parts_read::<bool>(alloc),
-        "phase" => parts_read::<Phase>(alloc),
-        "outcome" => parts_read::<Outcome>(alloc),
-        "rule state" => parts_read::<RuleState>(alloc),
-        "flags" => parts_read::<FieldFlags>(alloc),
-        _ => String::from_str(alloc, "no such part"),
+        "access" => push_parts::<ObjectAccess>(answer),
+        "level" => push_parts::<Level>(answer),
+        "on delete" => push_parts::<OnDelete>(answer),
+        "truth" => push_parts::<bool>(answer),
+        "phase" => push_parts::<Phase>(answer),
+        "outcome" => push_parts::<Outcome>(answer),
+        "rule state" => push_parts::<RuleState>(answer),
+        "flags" => push_parts::<FieldFlags>(answer),
+        _ => answer.push("no such part"),
     }
 }
 
 /// Bytes that begin with the type of a field: the type, and how many bytes follow it.
-///
-/// # Errors
-///
-/// If out of memory.
-pub fn field_type(alloc: Global, cells: &[&str]) -> Result<String, AllocError> {
-    let bytes = bytes_in(alloc, cell(cells, 0))?;
-    let (kind, rest) = match FieldType::take(alloc, bytes.as_slice()) {
-        Ok(found) => found,
-        Err(fail) => return format!(in alloc; "{fail:?}"),
-    };
-    let mut fields = Fields::new(alloc);
-    fields.kind("type", &kind)?;
-    fields.bytes("then", rest)?;
-    Ok(fields.into_text())
+pub fn field_type(answer: &mut Answer, cells: &[&str]) {
+    let bytes = answer.bytes_in(cell(cells, 0));
+    match FieldType::take(answer.alloc(), bytes.as_slice()) {
+        Ok((kind, rest)) => {
+            answer.kind("type", &kind);
+            answer.bytes("then", rest);
+        }
+        Err(fail) => answer.push_value(&fail),
+    }
 }

@@ -1,7 +1,8 @@
 //! Sources, sinks, doors and clocks, and how they fail.
 
-use crate::cells::{bytes_in, cell, cell_of, numbers_in};
-use std::alloc::{AllocError, Global};
+use crate::answer::Answer;
+use crate::cells::{cell, count};
+use std::alloc::AllocError;
 use std::fmt::Debug;
 use ut_io::{
     Clock, Door, IoFail, Line, MemoryClock, MemoryDoor, MemorySink, MemorySource, ReadFail, Sink,
@@ -11,137 +12,158 @@ use ut_keeper::KeepFail;
 use ut_value::Bytes;
 
 /// Appends what a step came to.
-///
-/// # Errors
-///
-/// If out of memory.
-pub fn push_found<T: Debug>(alloc: Global, all: &mut String, found: &T) -> Result<(), AllocError> {
-    if !all.is_empty() {
-        all.push_str("; ")?;
-    }
-    all.push_str(format!(in alloc; "{found:?}")?.as_str())
+pub fn push_found<T: Debug>(answer: &mut Answer, found: &T) {
+    answer.separate("; ");
+    answer.push_value(found);
+}
+
+// Appends how many calls failed.
+fn push_faults(answer: &mut Answer, faults: u64) {
+    answer.push("; ");
+    answer.push_value(&faults);
+    answer.push(" failed");
+}
+
+// Appends how many bytes are read, or how reading them failed.
+fn push_read(answer: &mut Answer, found: Result<Bytes, ReadFail>) {
+    let count: Result<usize, ReadFail> = match found {
+        Ok(bytes) => Ok(bytes.as_slice().len()),
+        Err(fail) => Err(fail),
+    };
+    answer.push_value(&count);
+}
+
+fn show_source(answer: &mut Answer, source: &mut MemorySource, limit: usize) {
+    let found = read_all(answer.alloc(), source, limit);
+    push_read(answer, found);
+    answer.push("; ");
+    answer.push_value(&source.left().len());
+    answer.push(" left");
+    push_faults(answer, source.faults());
 }
 
 /// A limit, the calls that fail, and what a source has: how many bytes are read from it, how many are left, and how often
 /// it failed.
-///
-/// # Errors
-///
-/// If out of memory.
-pub fn source(alloc: Global, cells: &[&str]) -> Result<String, AllocError> {
-    let limit = cell(cells, 0).parse().unwrap_or(0);
-    let failing = numbers_in(alloc, cell(cells, 1))?;
-    let bytes = bytes_in(alloc, cell(cells, 2))?;
-    let mut source = MemorySource::new(alloc, bytes.as_slice(), failing.as_slice())?;
-    let found = match read_all(alloc, &mut source, limit) {
-        Ok(bytes) => Ok(bytes.as_slice().len()),
-        Err(fail) => Err(fail),
-    };
-    let left = source.left().len();
-    let faults = source.faults();
-    format!(in alloc; "{found:?}; {left} left; {faults} failed")
+pub fn source(answer: &mut Answer, cells: &[&str]) {
+    let failing = answer.numbers_in(cell(cells, 1));
+    let bytes = answer.bytes_in(cell(cells, 2));
+    match MemorySource::new(answer.alloc(), bytes.as_slice(), failing.as_slice()) {
+        Ok(mut source) => show_source(answer, &mut source, count(cells, 0)),
+        Err(AllocError) => answer.fail(),
+    }
+}
+
+fn write_piece(answer: &mut Answer, sink: &mut MemorySink, piece: &str) {
+    let result = write_all(sink, piece.as_bytes());
+    push_found(answer, &result);
+    answer.push(" ");
+    answer.push_cell(sink.written());
+}
+
+fn write_pieces(answer: &mut Answer, sink: &mut MemorySink, pieces: &[&str]) {
+    for piece in pieces {
+        write_piece(answer, sink, piece);
+    }
+    push_faults(answer, sink.faults());
 }
 
 /// The room of a sink, the calls that fail, and pieces: what writing each of them returns, all that is written then, and
 /// how often it failed.
-///
-/// # Errors
-///
-/// If out of memory.
-pub fn sink(alloc: Global, cells: &[&str]) -> Result<String, AllocError> {
-    let room = cell(cells, 0).parse().unwrap_or(0);
-    let failing = numbers_in(alloc, cell(cells, 1))?;
-    let mut sink = MemorySink::new(alloc, room, failing.as_slice())?;
-    let mut all = String::new(alloc);
-    for piece in cells.get(2..).unwrap_or(&[]) {
-        let result = write_all(&mut sink, piece.as_bytes());
-        push_found(alloc, &mut all, &result)?;
-        all.push_str(" ")?;
-        all.push_str(cell_of(alloc, sink.written())?.as_str())?;
+pub fn sink(answer: &mut Answer, cells: &[&str]) {
+    let failing = answer.numbers_in(cell(cells, 1));
+    match MemorySink::new(answer.alloc(), count(cells, 0), failing.as_slice()) {
+        Ok(mut sink) => write_pieces(answer, &mut sink, cells.get(2..).unwrap_or(&[])),
+        Err(AllocError) => answer.fail(),
     }
-    let faults = sink.faults();
-    format!(in alloc; "{all}; {faults} failed")
 }
 
-/// Does a step of a door, `open`, `next`, `read`, or `write` and a piece, and appends what it returns.
-///
-/// # Errors
-///
-/// If out of memory.
-pub fn door_step<D: Door>(
-    alloc: Global,
-    door: &mut D,
-    into: &mut [u8],
-    step: &str,
-    all: &mut String,
-) -> Result<(), AllocError> {
+fn door_step<D: Door>(answer: &mut Answer, door: &mut D, into: &mut [u8], step: &str) {
     let (name, piece) = step.split_once(' ').unwrap_or((step, ""));
     match name {
-        "open" => push_found(alloc, all, &door.open()),
-        "next" => push_found(alloc, all, &door.next()),
-        "read" => push_found(alloc, all, &Line::new(door).read(into)),
-        _ => push_found(alloc, all, &Line::new(door).write(piece.as_bytes())),
+        "open" => push_found(answer, &door.open()),
+        "next" => push_found(answer, &door.next()),
+        "read" => push_found(answer, &Line::new(door).read(into)),
+        _ => push_found(answer, &Line::new(door).write(piece.as_bytes())),
     }
 }
 
-fn connections_in(alloc: Global, cell: &str) -> Result<Vec<Bytes>, AllocError> {
-    let mut connections = Vec::new(alloc);
-    for input in cell.split(',') {
-        let input = Bytes::from_slice(alloc, input.as_bytes())?;
-        connections.push(input)?;
+/// Does steps of a door, `open`, `next`, `read`, or `write` and a piece, and appends what each returns.
+pub fn door_steps<D: Door>(answer: &mut Answer, door: &mut D, into: &mut [u8], steps: &[&str]) {
+    for step in steps {
+        door_step(answer, door, into, step);
     }
-    Ok(connections)
+}
+
+fn push_connection(answer: &mut Answer, connections: &mut Vec<Bytes>, input: &str) {
+    match Bytes::from_slice(answer.alloc(), input.as_bytes()) {
+        Ok(input) => answer.add(connections, input),
+        Err(AllocError) => answer.fail(),
+    }
+}
+
+fn connections_in(answer: &mut Answer, cell: &str) -> Vec<Bytes> {
+    let mut connections = Vec::new(answer.alloc());
+    for input in cell.split(',') {
+        push_connection(answer, &mut connections, input);
+    }
+    connections
 }
 
 // What was read last, each connection's output, and how often the door and its lines failed.
-fn door_ends(alloc: Global, door: &MemoryDoor, into: &[u8]) -> Result<String, AllocError> {
-    let mut ends = cell_of(alloc, into)?;
+fn push_ends(answer: &mut Answer, door: &MemoryDoor, into: &[u8]) {
+    answer.push("; ");
+    answer.push_cell(into);
     for output in door.outputs() {
-        ends.push_str("; ")?;
-        ends.push_str(cell_of(alloc, output.as_slice())?.as_str())?;
+        answer.push("; ");
+        answer.push_cell(output.as_slice());
     }
-    let faults = door.faults();
-    let line_faults = door.line_faults();
-    format!(in alloc; "{ends}; {faults} and {line_faults} failed")
+    answer.push("; ");
+    answer.push_value(&door.faults());
+    answer.push(" and ");
+    answer.push_value(&door.line_faults());
+    answer.push(" failed");
+}
+
+fn show_door(answer: &mut Answer, door: &mut MemoryDoor, steps: &[&str]) {
+    let mut into = [0; 9];
+    door_steps(answer, door, &mut into, steps);
+    push_ends(answer, door, &into);
 }
 
 /// The room of each output of a door, the calls that fail, the inputs of the connections, and steps: what each of them
 /// returns, then what is in the buffer, the outputs, and how often the door and its lines failed.
-///
-/// # Errors
-///
-/// If out of memory.
-pub fn door(alloc: Global, cells: &[&str]) -> Result<String, AllocError> {
-    let room = cell(cells, 0).parse().unwrap_or(0);
-    let failing = numbers_in(alloc, cell(cells, 1))?;
-    let inputs = connections_in(alloc, cell(cells, 2))?;
-    let mut door = MemoryDoor::new(alloc, inputs.as_slice(), room, failing.as_slice())?;
-    let mut into = [0; 9];
-    let mut all = String::new(alloc);
-    for step in cells.get(3..).unwrap_or(&[]) {
-        door_step(alloc, &mut door, &mut into, step, &mut all)?;
+pub fn door(answer: &mut Answer, cells: &[&str]) {
+    let alloc = answer.alloc();
+    let failing = answer.numbers_in(cell(cells, 1));
+    let inputs = connections_in(answer, cell(cells, 2));
+    match MemoryDoor::new(
+        alloc,
+        inputs.as_slice(),
+        count(cells, 0),
+        failing.as_slice(),
+    ) {
+        Ok(mut door) => show_door(answer, &mut door, cells.get(3..).unwrap_or(&[])),
+        Err(AllocError) => answer.fail(),
     }
-    let ends = door_ends(alloc, &door, &into)?;
-    format!(in alloc; "{all}; {ends}")
+}
+
+fn ask_clock(answer: &mut Answer, clock: &mut MemoryClock, times: usize) {
+    for _ in 0..times {
+        push_found(answer, &clock.now());
+    }
 }
 
 /// `3,5` for a clock with these two moments, or nothing for one with none, and how often it is asked: what it says.
-///
-/// # Errors
-///
-/// If out of memory.
-pub fn clock(alloc: Global, cells: &[&str]) -> Result<String, AllocError> {
-    let times: u64 = cell(cells, 1).parse().unwrap_or(0);
-    let mut clock = if cell(cells, 0) == "3,5" {
-        MemoryClock::new(alloc, &[3, 5])?
+pub fn clock(answer: &mut Answer, cells: &[&str]) {
+    let clock = if cell(cells, 0) == "3,5" {
+        MemoryClock::new(answer.alloc(), &[3, 5])
     } else {
-        MemoryClock::new(alloc, &[])?
+        MemoryClock::new(answer.alloc(), &[])
     };
-    let mut all = String::new(alloc);
-    for _ in 0..times {
-        push_found(alloc, &mut all, &clock.now())?;
+    match clock {
+        Ok(mut clock) => ask_clock(answer, &mut clock, count(cells, 1)),
+        Err(AllocError) => answer.fail(),
     }
-    Ok(all)
 }
 
 /// Whether the system's clock says a moment after the year 2020.
@@ -149,35 +171,35 @@ pub fn clock(alloc: Global, cells: &[&str]) -> Result<String, AllocError> {
 /// # Errors
 ///
 /// If out of memory.
-pub fn system_clock(rt: &HostRuntime) -> Result<String, AllocError> {
+pub fn system_clock(rt: &HostRuntime, answer: &mut Answer) -> Result<(), AllocError> {
     let mut clock = SystemClock::new(rt.clone()?);
-    let past = clock.now() > 1_600_000_000;
-    format!(in rt.alloc(); "{past}")
+    answer.push_value(&(clock.now() > 1_600_000_000));
+    Ok(())
+}
+
+fn push_read_cell(answer: &mut Answer, found: Result<Bytes, ReadFail>) {
+    match found {
+        Ok(found) => answer.push_cell(found.as_slice()),
+        Err(fail) => answer.push_value(&fail),
+    }
 }
 
 /// A text: what is read of it through the adapter of readers, and whether it is written through that of writers.
-///
-/// # Errors
-///
-/// If out of memory.
-pub fn adapters(alloc: Global, cells: &[&str]) -> Result<String, AllocError> {
+pub fn adapters(answer: &mut Answer, cells: &[&str]) {
     let bytes = cell(cells, 0).as_bytes();
-    let mut source = StdSource::new(bytes);
-    let found = match read_all(alloc, &mut source, bytes.len()) {
-        Ok(found) => cell_of(alloc, found.as_slice())?,
-        Err(fail) => format!(in alloc; "{fail}")?,
-    };
-    let mut sink = StdSink::new(Vec::new(alloc));
-    let result = write_all(&mut sink, bytes);
-    format!(in alloc; "{found}; {result:?}")
+    let found = read_all(answer.alloc(), &mut StdSource::new(bytes), bytes.len());
+    push_read_cell(answer, found);
+    let result = write_all(&mut StdSink::new(Vec::new(answer.alloc())), bytes);
+    push_found(answer, &result);
 }
 
 /// The texts of failures of streams and keepers.
-///
-/// # Errors
-///
-/// If out of memory.
-pub fn failures(alloc: Global) -> Result<String, AllocError> {
-    let streams = format!(in alloc; "{IoFail}; {}", ReadFail::TooLong)?;
-    format!(in alloc; "{streams}; {}; {}", KeepFail::Failed, KeepFail::Memory)
+pub fn failures(answer: &mut Answer) {
+    answer.push_shown(&IoFail);
+    answer.push("; ");
+    answer.push_shown(&ReadFail::TooLong);
+    answer.push("; ");
+    answer.push_shown(&KeepFail::Failed);
+    answer.push("; ");
+    answer.push_shown(&KeepFail::Memory);
 }

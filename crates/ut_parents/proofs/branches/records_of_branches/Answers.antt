@@ -1,10 +1,7 @@
-use Rattle.std.proofs.Common.{◌≡◌, ◌+◌, ◌*◌, List, Option, Some, drop, sym, subst, ◌∙◌, ℕ, arith}
-use Rattle.ut_keeper.specs.Draft.{tables_of}
+use Rattle.std.proofs.Common.{◌≡◌, ◌+◌, ◌*◌, Some, sym, subst, ℕ, arith}
 use Rattle.ut_keeper.specs.Tables.{Tables}
-use Rattle.ut_model.specs.declared.record.Record.{Record}
 use Rattle.ut_stands.specs.Calls.{Calls, done}
 use Rattle.ut_stands.specs.Local.{StandsIn}
-use Rattle.ut_ways.specs.Branches.{branch_records}
 use Rattle.ut_parents.proofs.Branching.{all_done, one_done}
 use Rattle.ut_parents.proofs.branches.records_of_branches.Goals as goal
 

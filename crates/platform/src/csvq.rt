@@ -1,13 +1,12 @@
 //! The command `csvq`.
 
-ghost use Rattle.std.specs.Prelude.{◌≡◌, ◌++◌, IfOk, IsErrOf, IsTrue, List, Some, codes, false, pos, string_bytes, true, ℕ};
+ghost use Rattle.std.specs.Prelude.{◌≡◌, ◌++◌, IfOk, IsErrOf, IsTrue, List, Some, codes, false, pos, string_bytes, ℕ};
 ghost use Rattle.std.specs.Fmt.{decimal};
 ghost use Rattle.std.specs.Io.KnownBytes.{IsAtEnd};
 ghost use Rattle.platform.specs.Csvq.{outcome_page, reads_input, refused_row, rows_printed};
 ghost use Rattle.platform.specs.Run.{IsTold};
 ghost use Rattle.platform.specs.declared.csvq.InputFail.TheVariants.{Failed, Memory};
 ghost use Rattle.ut_csvq.specs.Outcomes.{input_outcome};
-ghost use Rattle.ut_step.specs.Flat.{is_flat};
 ghost use Rattle.ut_value.specs.Causes.{Cause};
 ghost use Rattle.ut_value.specs.Dates.{is_moment};
 
@@ -62,15 +61,14 @@ fn page_of_outcome(alloc: Global, outcome: Outcome) -> Result<Page, AllocError>
     }
 }
 
-// The page of a query over one object.
+// The page of a query that was read.
 fn page_of_query<S: Source>(
     alloc: Global,
     query: &Query,
     now: u64,
     source: &mut S,
 ) -> Result<Page, InputFail>
-    requires moment { IsTrue (is_moment (pos now)) }
-    requires flat { is_flat query.now ≡ true }
+    requires { IsTrue (is_moment (pos now)) }
     ensures page { IfOk result (λ p. (bytes : List ℕ) → S.left source.old ≡ Some bytes → p ≡ outcome_page (input_outcome query.now (pos now) bytes)) }
     ensures whole { IfOk result (λ p. p.status ≡ 0 → IsAtEnd (S.left source.new)) }
     ensures stays { S.stays source.old source.new }

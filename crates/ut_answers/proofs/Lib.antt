@@ -1,3 +1,1 @@
-pub mod Written
 pub mod Found
-pub mod Ranking

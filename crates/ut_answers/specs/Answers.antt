@@ -1,6 +1,6 @@
 -- Answers that change nothing.
 -- Source of the status: RFC 9110, 15.3.1, of 200.
-use Rattle.std.specs.Prelude.{◌≡◌, ◌≢◌, ◌⊎◌, true, IsTrue, Some, Result, Ok, Err, ℤ}
+use Rattle.std.specs.Prelude.{◌≡◌, ◌≢◌, ◌⊎◌, List, true, IsTrue, Some, Result, Ok, Err, ℤ}
 use Rattle.ut_keeper.specs.Tables.{Tables}
 use Rattle.ut_keys.specs.declared.fail.StoreFail.{StoreFail}
 use Rattle.ut_keys.specs.declared.fail.StoreFail.TheVariants.{Damaged, Memory}
@@ -16,7 +16,7 @@ use Rattle.ut_model.specs.declared.refusal.Refusal.{Refusal}
 use Rattle.ut_model.specs.declared.reply.Reply.{Reply}
 use Rattle.ut_rights.specs.Rights.{Whose}
 use Rattle.ut_step.specs.Flat.{is_flat}
-use Rattle.ut_stands.specs.Layouts.{layout_of}
+use Rattle.ut_stands.specs.Layouts.{layout_of, own_layouts}
 use Rattle.ut_stands.specs.Local.{StandsIn}
 use Rattle.ut_stands.specs.Plan.{OrgPlan}
 use Rattle.ut_stands.specs.declared.layout.Layout.{Layout}
@@ -44,7 +44,18 @@ pub record IsAskedOf (l : Layout) (sees : Whose) (moment : ℤ) (q : Query) (m :
   pub sight : sees a.tenant a.user
   pub now : a.now ≡ moment
 
+-- the same over all layouts of the tenant, with these rights
+pub record IsAskedOver (layouts : List Layout) (l : Layout) (sees whose : Whose) (moment : ℤ) (q : Query) (m : Tables) (p : OrgPlan) (a : Asked) : Type 0 where
+  pub asked : IsAskedOf l sees moment q m p a
+  pub all : layouts ≡ own_layouts l.org p (Some a.tenant)
+  pub rights : whose a.tenant a.user
+
 -- the reply to a flat query of this object
 abbrev pub AnswersFlat : Layout → (sees : Whose) → (moment : ℤ) → Query → Tables → Result Reply StoreFail → Type 0
 AnswersFlat l sees moment q m result =
     (p : OrgPlan) (a : Asked) → IsAskedOf l sees moment q m p a → is_flat q ≡ true → AnswersBy a (ask a q) result
+
+-- the reply to any query of this object
+abbrev pub AnswersRelated : List Layout → Layout → (sees whose : Whose) → (moment : ℤ) → Query → Tables → Result Reply StoreFail → Type 0
+AnswersRelated layouts l sees whose moment q m result =
+    (p : OrgPlan) (a : Asked) → IsAskedOver layouts l sees whose moment q m p a → AnswersBy a (ask a q) result

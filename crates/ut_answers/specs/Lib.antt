@@ -1,4 +1,3 @@
 pub mod Answers
 pub mod Planned
-pub mod Ranks
 pub mod inner

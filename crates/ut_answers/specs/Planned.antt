@@ -1,21 +1,26 @@
--- The rows of a plan.
-use Rattle.std.specs.Prelude.{ℕ, Bool, List, [], ◌∷◌}
-use Rattle.ut_model.specs.Tenant.{Tenant, User}
+-- The rows of a choice, by the parents that are given for each record.
+use Rattle.std.specs.Prelude.{ℕ, Bool, List, [], ◌∷◌, Option}
+use Rattle.ut_model.specs.Paths.{Asked}
 use Rattle.ut_model.specs.declared.record.Record.{Record}
 use Rattle.ut_bind.specs.Checks.{takes}
 use Rattle.ut_bind.specs.Plans.{by_keys}
-use Rattle.ut_bind.specs.declared.plan.Plan.{Plan}
+use Rattle.ut_bind.specs.declared.plan.Choice.{Choice}
 use Rattle.ut_bind.specs.declared.plan.SortKey.{SortKey}
+use Rattle.ut_exec.specs.Relatives.{by_parents}
 use Rattle.ut_exec.specs.Written.{rows_kept, rows_sorted}
 use Rattle.ut_exec.specs.declared.window.Window.{Window}
 
-abbrev pub window_of : Plan → Window
-window_of p = record { skip = p.skip; most = p.most }
+-- the records of the parents of a record, as who asks may read them
+abbrev pub Parents : Type 0
+Parents = Asked → Record → List (Option Record)
 
--- the rows which a plan takes of the records that a user may read, in its order
-abbrev pub rows_by : List SortKey → Window → (Record → Bool) → (object : ℕ) → Tenant → User → List Record
-rows_by [] w keep n t u = rows_kept w keep n t u
-rows_by (k ∷ ks) w keep n t u = rows_sorted w (by_keys (k ∷ ks)) keep n t u
+abbrev pub window_of : Choice → Window
+window_of c = record { skip = c.skip; most = c.most }
 
-abbrev pub plan_rows : Plan → (object : ℕ) → Tenant → User → List Record
-plan_rows p n t u = rows_by p.order (window_of p) (takes p.check) n t u
+-- the rows which are taken of the records that a user may read, in the order of the keys
+abbrev pub rows_by : Parents → List SortKey → Window → (Asked → Record → Bool) → (object : ℕ) → Asked → List Record
+rows_by parents [] w keep n a = rows_kept w keep n a
+rows_by parents (k ∷ ks) w keep n a = rows_sorted w (λ a. by_keys (k ∷ ks) (parents a)) keep n a
+
+abbrev pub choice_rows : Parents → Choice → (object : ℕ) → Asked → List Record
+choice_rows parents c n a = rows_by parents c.order (window_of c) (by_parents parents (takes c.check)) n a

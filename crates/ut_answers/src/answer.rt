@@ -1,33 +1,37 @@
-//! The reply to a flat query.
+//! The reply to a query.
 
-ghost use Rattle.std.specs.Prelude.{◌≡◌, ℕ, List, IfErr, IfOk, length};
+ghost use Rattle.std.specs.Prelude.{◌≡◌, ◌+◌, ℕ, List, IfErr, IfOk, length};
 ghost use Rattle.std.specs.Str.{encode_utf8_all};
-ghost use Rattle.ut_answers.specs.Answers.{AnswersFlat, IsReadReply, Refuses};
-ghost use Rattle.ut_answers.specs.Planned.{plan_rows};
+ghost use Rattle.ut_answers.specs.Answers.{AnswersFlat, AnswersRelated, IsReadReply, Refuses};
+ghost use Rattle.ut_answers.specs.Planned.{choice_rows};
 ghost use Rattle.ut_answers.specs.inner.Found.{AnswersPlan};
 ghost use Rattle.ut_exec.specs.Fails.{ended_exec};
-ghost use Rattle.ut_exec.specs.Written.{ShowsRecords, WritesRows, most_shown};
+ghost use Rattle.ut_exec.specs.Relatives.{by_relatives};
+ghost use Rattle.ut_exec.specs.Written.{ShowsRecords, WritesRows, most_shown, seeing};
 ghost use Rattle.ut_keeper.specs.Draft.{DraftTells, removals_of, tables_of};
 ghost use Rattle.ut_keys.specs.declared.fail.StoreFail.TheVariants.{Memory};
 ghost use Rattle.ut_model.specs.Replies.{json_reply, unless_too_large};
 ghost use Rattle.ut_model.specs.RowsJson.{rows_json};
 ghost use Rattle.ut_replies.specs.Rows.{behind_commas};
 ghost use Rattle.ut_stands.specs.Calls.{Calls, ended};
+ghost use Rattle.ut_step.specs.Shown.{row_shown};
 
 use crate::ranks::ByKeys;
 use crate::rows::JsonRows;
 use crate::test::Holding;
 use http::StatusCode;
 use std::alloc::{AllocError, Global};
-use ut_bind::{Plan, bind, plan_laws, query_refusal};
+use ut_bind::{Choice, Plan, bind, plan_laws, query_refusal};
 use ut_data::data_laws;
-use ut_exec::{ExecFail, RowForm, Window, write_rows, write_sorted_rows};
-use ut_keeper::{Draft, Keeper};
+use ut_exec::{ExecFail, NoRelatives, Relatives, RowForm, Window, write_rows, write_sorted_rows};
+use ut_keeper::{Draft, Keeper, draft_laws};
 use ut_keys::StoreFail;
 use ut_model::{REPLY_LIMIT, Refusal, Reply, object_laws, record_laws};
 use ut_query::Query;
+use ut_ranks::rank_laws;
+use ut_relatives::PlanRelatives;
 use ut_replies::rows_body;
-use ut_rights::Sight;
+use ut_rights::{Rights, Sight};
 use ut_stands::{Layout, call_laws};
 use ut_value::day_of_moment;
 
@@ -63,59 +67,75 @@ fn rows_reply(alloc: Global, count: usize, rows: &[u8]) -> Result<Reply, AllocEr
     }
 }
 
-/// Appends the rows of a plan that may be read, in this form, and returns how many they are.
+/// Appends the rows of a choice that may be read, in this form, and returns how many they are.
 ///
 /// # Errors
 ///
 /// `TooLarge` exactly if they have more bytes than there is room for. `Store` with `Keeper` if the keeper failed, with `Memory` if out
-/// of memory, with `Damaged` never if the organisation's rows stand for a tenant whose layout it is and of whose user this is the
-/// sight. Some rows may then have been appended.
-pub fn write_planned<K: Keeper, S: Sight, W: RowForm>(
+/// of memory, with `Damaged` never if the organisation's rows stand for a tenant whose layout it is, of whose user this is the sight
+/// and whose relatives these are. Some rows may then have been appended.
+pub fn write_chosen<K: Keeper, S: Sight, L: Relatives, W: RowForm>(
     alloc: Global,
     draft: &mut Draft<'_, K>,
     layout: &Layout,
     sight: &S,
-    plan: &Plan,
+    relatives: &L,
+    choice: &Choice,
     form: &W,
     room: usize,
     out: &mut Vec<u8>,
 ) -> Result<usize, ExecFail>
     ensures what { DraftTells K.state draft.old draft.new
-        → WritesRows layout.now (S.sees sight.now layout.now) (plan_rows plan.now layout.now.object) (W.written form.now) room
+        → WritesRows layout.now (seeing (S.sees sight.now layout.now) (L.whose relatives.now layout.now.org))
+        (choice_rows (L.parents relatives.now) choice.now layout.now.object)
+        (by_relatives (L.parents relatives.now) (L.children relatives.now) (W.written form.now)) room
         out.old.items out.new.items (tables_of K.state draft.old) result }
-    ensures shown { ShowsRecords K.state layout.now (S.sees sight.now layout.now) S.shown (ended_exec result) draft.old draft.new }
-    ensures calls { Calls K.state (most_shown S.shown (removals_of K.state 7 draft.old)) (ended_exec result) draft.old draft.new }
+    ensures shown { ShowsRecords K.state layout.now (seeing (S.sees sight.now layout.now) (L.whose relatives.now layout.now.org))
+        (S.shown + L.parents_shown relatives.now + L.children_shown relatives.now) (ended_exec result) draft.old draft.new }
+    ensures calls { Calls K.state
+        (most_shown (S.shown + L.parents_shown relatives.now + L.children_shown relatives.now) (removals_of K.state 7 draft.old))
+        (ended_exec result) draft.old draft.new }
 {
     call_laws::<K>();
-    let keeps = Holding { check: &plan.check };
-    let keys = plan.order.as_slice();
+    rank_laws();
+    let keeps = Holding {
+        check: &choice.check,
+    };
+    let keys = choice.order.as_slice();
     let window = Window {
-        skip: plan.skip,
-        most: plan.most,
+        skip: choice.skip,
+        most: choice.most,
     };
     if keys.is_empty() {
-        write_rows(alloc, draft, layout, sight, &keeps, form, window, room, out)
+        write_rows(
+            alloc, draft, layout, sight, relatives, &keeps, form, window, room, out,
+        )
     } else {
         let ranks = ByKeys { keys };
         write_sorted_rows(
-            alloc, draft, layout, sight, &keeps, &ranks, form, window, room, out,
+            alloc, draft, layout, sight, relatives, &keeps, &ranks, form, window, room, out,
         )
     }
 }
 
 // The reply that has the rows of a plan.
-fn answer_plan<K: Keeper, S: Sight>(
+fn answer_plan<K: Keeper, S: Sight, L: Relatives>(
     alloc: Global,
     draft: &mut Draft<'_, K>,
     layout: &Layout,
     sight: &S,
+    relatives: &L,
     plan: &Plan,
 ) -> Result<Reply, StoreFail>
     ensures what { DraftTells K.state draft.old draft.new
-        → AnswersPlan layout.now (S.sees sight.now layout.now) plan.now (tables_of K.state draft.old) result }
+        → AnswersPlan layout.now (seeing (S.sees sight.now layout.now) (L.whose relatives.now layout.now.org))
+        (L.parents relatives.now) (L.children relatives.now) plan.now (tables_of K.state draft.old) result }
     ensures form { IfOk result IsReadReply }
-    ensures shown { ShowsRecords K.state layout.now (S.sees sight.now layout.now) S.shown (ended result) draft.old draft.new }
-    ensures calls { Calls K.state (most_shown S.shown (removals_of K.state 7 draft.old)) (ended result) draft.old draft.new }
+    ensures shown { ShowsRecords K.state layout.now (seeing (S.sees sight.now layout.now) (L.whose relatives.now layout.now.org))
+        (S.shown + L.parents_shown relatives.now + L.children_shown relatives.now) (ended result) draft.old draft.new }
+    ensures calls { Calls K.state
+        (most_shown (S.shown + L.parents_shown relatives.now + L.children_shown relatives.now) (removals_of K.state 7 draft.old))
+        (ended result) draft.old draft.new }
 {
     call_laws::<K>();
     let form = JsonRows {
@@ -123,12 +143,13 @@ fn answer_plan<K: Keeper, S: Sight>(
         shown: plan.shown.as_slice(),
     };
     let mut rows = Vec::new(alloc);
-    match write_planned(
+    match write_chosen(
         alloc,
         draft,
         layout,
         sight,
-        plan,
+        relatives,
+        &plan.choice,
         &form,
         REPLY_LIMIT,
         &mut rows,
@@ -160,7 +181,8 @@ pub fn answer_flat<K: Keeper, S: Sight>(
         → AnswersFlat layout.now (S.sees sight.now layout.now) now query.now (tables_of K.state draft.old) result }
     ensures form { IfOk result IsReadReply }
     // Each record of the object is shown once at most, with what tells whether it may be read, as long as the draft removes none.
-    ensures shown { ShowsRecords K.state layout.now (S.sees sight.now layout.now) S.shown (ended result) draft.old draft.new }
+    ensures shown { ShowsRecords K.state layout.now (λ q a. S.sees sight.now layout.now a.tenant a.user) S.shown (ended result)
+        draft.old draft.new }
     ensures calls { Calls K.state (most_shown S.shown (removals_of K.state 7 draft.old)) (ended result) draft.old draft.new }
 {
     call_laws::<K>();
@@ -171,6 +193,50 @@ pub fn answer_flat<K: Keeper, S: Sight>(
     if let Some(refusal) = query_refusal(alloc, &[], layout, query)? {
         return refuse(alloc, refusal);
     }
-    let plan = bind(alloc, layout, day_of_moment(now), query)?;
-    answer_plan(alloc, draft, layout, sight, &plan)
+    let plan = bind(alloc, &[], layout, day_of_moment(now), query)?;
+    answer_plan(alloc, draft, layout, sight, &NoRelatives, &plan)
+}
+
+/// The reply to any query, of a user with this sight and these rights who asks at this moment, in seconds from 1970-01-01T00:00:00Z.
+/// The layouts are those of all objects.
+///
+/// # Errors
+///
+/// `Keeper` if the keeper failed, `Memory` if out of memory, `Damaged` never if the organisation's rows stand for a tenant whose
+/// layouts these are and of whose user this is the sight and these are the rights.
+pub fn answer_related<K: Keeper, S: Sight, R: Rights>(
+    alloc: Global,
+    draft: &mut Draft<'_, K>,
+    layouts: &[Layout],
+    layout: &Layout,
+    sight: &S,
+    rights: &R,
+    now: i64,
+    query: &Query,
+) -> Result<Reply, StoreFail>
+    ensures what { DraftTells K.state draft.old draft.new
+        → AnswersRelated layouts.now layout.now (S.sees sight.now layout.now) (R.whose rights.now) now query.now
+        (tables_of K.state draft.old) result }
+    ensures form { IfOk result IsReadReply }
+    // Each record of the object is shown once at most, with what tells whether it may be read, its parents and its children.
+    ensures calls { Calls K.state (most_shown (S.shown + row_shown query.now) (removals_of K.state 7 draft.old)) (ended result)
+        draft.old draft.new }
+{
+    draft_laws::<K>();
+    call_laws::<K>();
+    data_laws();
+    object_laws();
+    plan_laws();
+    record_laws();
+    if let Some(refusal) = query_refusal(alloc, layouts, layout, query)? {
+        return refuse(alloc, refusal);
+    }
+    let plan = bind(alloc, layouts, layout, day_of_moment(now), query)?;
+    let relatives = PlanRelatives {
+        rights,
+        layouts,
+        branches: plan.choice.branches.as_slice(),
+        children: plan.children.as_slice(),
+    };
+    answer_plan(alloc, draft, layout, sight, &relatives, &plan)
 }

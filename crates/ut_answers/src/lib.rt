@@ -1,6 +1,7 @@
-//! The reply to a query over one object: its refusal, or its rows in JSON.
+//! The reply to a query: its refusal, or its rows in JSON.
 //!
-//! It depends on `ut_bind` for what the query's names mean, on `ut_exec` for the records, and on `ut_replies` for the bytes. Its
+//! It depends on `ut_bind` for what the query's names mean, on `ut_exec` for the records, on `ut_relatives` for those to which they are
+//! related, and on `ut_rows` for the bytes. Its
 //! contract: where the organisation's rows stand for a tenant of whose user the sight is, the reply is that of the query's verdict.
 #![tactic(auto)]
 
@@ -9,5 +10,4 @@ mod ranks;
 mod rows;
 mod test;
 
-pub use crate::answer::{answer_flat, refuse, write_planned};
-pub use crate::rows::is_printable;
+pub use crate::answer::{answer_flat, answer_related, refuse, write_chosen};

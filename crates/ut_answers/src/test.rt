@@ -5,6 +5,7 @@ ghost use Rattle.ut_bind.specs.Checks.{takes};
 use std::alloc::Global;
 use ut_bind::{Check, check_holds};
 use ut_exec::{Keeps, SeenRecord};
+use ut_model::Record;
 use ut_parts::CodecFail;
 
 /// Records on which a condition holds, if there is one.
@@ -14,9 +15,14 @@ pub(crate) struct Holding<'a> {
 }
 
 impl Keeps for Holding<'_> {
-    ghost keep = { λ h r. takes h.check.now r };
+    ghost keep = { λ h parents r. takes h.check.now parents r };
 
-    fn keeps(&self, alloc: Global, item: &SeenRecord<'_>) -> Result<bool, CodecFail> {
-        check_holds(alloc, self.check, item)
+    fn keeps(
+        &self,
+        alloc: Global,
+        item: &SeenRecord<'_>,
+        parents: &[Option<Record>],
+    ) -> Result<bool, CodecFail> {
+        check_holds(alloc, self.check, item, parents)
     }
 }

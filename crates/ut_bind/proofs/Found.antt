@@ -1,28 +1,23 @@
--- A plan that means a query finds what the query finds, and shows what its rows have in JSON.
-use Rattle.std.proofs.Common.{◌≡◌, ℕ, Bool, true, false, cond, List, [], ◌∷◌, ◌++◌, map, filter, drop, Option, Some, refl, sym, ap, ◌∙◌, inl, inr, ◌⊎◌, flat_map}
-use Rattle.std.specs.List.{list_all}
+-- A plan that means a query finds what the query finds.
+use Rattle.std.proofs.Common.{◌≡◌, ℕ, Bool, true, false, cond, List, [], ◌∷◌, filter, drop, Option, Some, refl, sym, ap, ◌∙◌, inl, inr, ◌⊎◌}
 use Rattle.std.specs.Option.{unwrap_or}
 use Rattle.std.specs.declared.cmp.Ordering.{Ordering}
 use Rattle.std.specs.Ordering.{is_lt}
-use Rattle.ut_query.specs.declared.query.Item.{Item}
-use Rattle.ut_query.specs.declared.query.Item.TheVariants as item
 use Rattle.ut_query.specs.declared.query.Query.{Query}
+use Rattle.ut_query.specs.declared.query.Tail.{Tail}
 use Rattle.ut_model.specs.declared.record.Record.{Record}
-use Rattle.ut_model.specs.Cases.{in_case, with_before}
+use Rattle.ut_model.specs.Cases.{in_case}
 use Rattle.ut_model.specs.Conditions.{satisfies}
+use Rattle.ut_model.specs.Levels.{can_read, readable}
 use Rattle.ut_model.specs.Membership.{Has}
 use Rattle.ut_model.specs.Objects.{Numbered, object_named, records_of}
 use Rattle.ut_model.specs.Ordered.{before, in_order, put_in}
 use Rattle.ut_model.specs.Paths.{Asked}
 use Rattle.ut_model.specs.Rows.{chosen, found, limited, readable_of}
-use Rattle.ut_model.specs.RowsJson.{RowJson, attributes, item_member, object_json, row_json, row_within}
+use Rattle.ut_bind.specs.declared.plan.Choice.{Choice}
 use Rattle.ut_bind.specs.declared.plan.Plan.{Plan}
-use Rattle.ut_bind.specs.Checks.{takes}
-use Rattle.ut_step.specs.Flat.{has_one_name, is_flat, is_flat_item}
-use Rattle.ut_bind.specs.Plans.{Means, by_keys, planned, selected_value, shown_json, shown_value}
-use Rattle.ut_bind.proofs.Flatness.{parts_of}
-use Rattle.ut_bind.proofs.Judged.{map_twice}
-use Rattle.ut_bind.proofs.Lists.{and_left, and_right, kept}
+use Rattle.ut_bind.specs.Plans.{Chooses, Means, by_keys, chosen_by, is_taken, parents_by}
+use Rattle.ut_bind.proofs.Lists.{kept}
 
 -- ---- two orders that agree on the elements of a list
 
@@ -42,7 +37,7 @@ put_has {X = X} order x (y ∷ ys) z h = by (is_lt (order x y)) h (λ h. put_has
         behind (inl e) = inl e
         behind (inr h) = inr (inr h)
 
-order_has : {X : Type 0} (order : X → X → Ordering) (xs : List X) (z : X) → Has (in_order order xs) z → Has xs z
+pub order_has : {X : Type 0} (order : X → X → Ordering) (xs : List X) (z : X) → Has (in_order order xs) z → Has xs z
 unfolding in_order
 order_has order [] z h = absurd h
 order_has order (x ∷ xs) z h = by (put_has order x (in_order order xs) z h) (λ h. order_has order xs z h)
@@ -69,51 +64,23 @@ filter_same f g [] e = refl
 filter_same f g (x ∷ xs) e =
     ap (λ b. cond b (x ∷ filter f xs) (filter f xs)) (e x (inl refl)) ∙ ap (λ ys. cond (g x) (x ∷ ys) ys) (filter_same f g xs (λ y h. e y (inr h)))
 
+-- ---- what is taken
+
+pub chosen_same : (a : Asked) (n : ℕ) (tail : Tail) (offset : ℕ) (c : Choice) → Chooses a n tail offset c → (rs : List Record) → ((r : Record) → Has rs r → Has (records_of a.tenant n) r)
+    → chosen_by a c rs ≡ chosen a tail offset rs
+chosen_same a n tail offset c m rs of =
+    let those = filter (satisfies a tail.condition) rs in
+    let there = λ (r : Record) (h : Has those r). of r (kept (satisfies a tail.condition) rs r h).0 in
+    ap (λ xs. limited c.most (drop c.skip (in_order (by_keys c.order (parents_by a c)) xs))) (filter_same (is_taken a c) (satisfies a tail.condition) rs (λ r h. m.rows r (of r h)))
+    ∙ ap (λ xs. limited c.most (drop c.skip xs)) (order_same (by_keys c.order (parents_by a c)) (before a tail.order) those (λ r s h i. m.order r s (there r h) (there s i)))
+    ∙ ap (λ k. limited c.most (drop k (in_order (before a tail.order) those))) m.skip
+    ∙ ap (λ k. limited k (drop offset (in_order (before a tail.order) those))) m.most
+
 -- ---- rows
 
-chosen_same : (a : Asked) (n : ℕ) (q : Query) (p : Plan) → Means a n q p → planned p (records_of a.tenant n) ≡ chosen a q.tail (unwrap_or q.offset 0) (records_of a.tenant n)
-chosen_same a n q p m =
-    let rs = records_of a.tenant n in
-    let those = filter (satisfies a q.tail.condition) rs in
-    let there = λ (r : Record) (h : Has those r). (kept (satisfies a q.tail.condition) rs r h).0 in
-    ap (λ xs. limited p.most (drop p.skip (in_order (by_keys p.order) xs))) (filter_same (takes p.check) (satisfies a q.tail.condition) rs m.rows)
-    ∙ ap (λ xs. limited p.most (drop p.skip xs)) (order_same (by_keys p.order) (before a q.tail.order) those (λ r s h i. m.order r s (there r h) (there s i)))
-    ∙ ap (λ k. limited p.most (drop k (in_order (before a q.tail.order) those))) m.skip
-    ∙ ap (λ k. limited k (drop (unwrap_or q.offset 0) (in_order (before a q.tail.order) those))) m.most
-
-pub found_is : (a : Asked) (q : Query) (o : Numbered) (p : Plan) → object_named a.tenant q.tail.from ≡ Some o → readable_of a o.number ≡ records_of a.tenant o.number → Means a o.number q p
-    → planned p (records_of a.tenant o.number) ≡ found a q
-unfolding found
-found_is a q o p named reads m =
-    chosen_same a o.number q p m
-    ∙ ap (chosen a q.tail (unwrap_or q.offset 0)) (sym reads)
+pub found_is : (a : Asked) (q : Query) (o : Numbered) (p : Plan) → object_named a.tenant q.tail.from ≡ Some o → Means a o.number q p
+    → chosen_by a p.choice (readable_of a o.number) ≡ found a q
+unfolding found readable
+found_is a q o p named m =
+    chosen_same a o.number q.tail (unwrap_or q.offset 0) p.choice m.chooses (readable_of a o.number) (λ r h. (kept (can_read a.tenant a.user) (records_of a.tenant o.number) r h).0)
     ∙ ap (λ (x : Option Numbered). in_case x [] (λ (o : Numbered). chosen a q.tail (unwrap_or q.offset 0) (readable_of a o.number))) (sym named)
-
--- ---- rows in JSON
-
-item_shown : (w : RowJson) (a : Asked) (r : Record) (selected nearest : List Item) (x : Item) (rest : List (List ℕ)) → is_flat_item x ≡ true
-    → item_member w a r selected nearest x ++ rest ≡ shown_json (selected_value a r x) ∷ rest
-item_shown w a r selected nearest (item.Child paths tail) rest e = absurd cc
-item_shown w a r selected nearest (item.Path p) rest e = by p.names e
-  where
-    by : (ns : List (List ℕ)) → has_one_name ns ≡ true → item_member w a r selected nearest (item.Path (record { names = ns })) ++ rest ≡ shown_json (selected_value a r (item.Path (record { names = ns }))) ∷ rest
-    by [] e = absurd cc
-    by (name ∷ []) e = refl
-    by (name ∷ more ∷ names) e = absurd cc
-
-items_shown : (w : RowJson) (a : Asked) (r : Record) (selected nearest xs : List Item) → list_all is_flat_item xs ≡ true
-    → flat_map (λ x. item_member w a r selected x.before x.it) (with_before nearest xs) ≡ map (λ x. shown_json (selected_value a r x)) xs
-items_shown w a r selected nearest [] e = refl
-items_shown w a r selected nearest (x ∷ xs) e =
-    item_shown w a r selected nearest x (flat_map (λ x. item_member w a r selected x.before x.it) (with_before (x ∷ nearest) xs)) (and_left (is_flat_item x) (list_all is_flat_item xs) e)
-    ∙ ap (λ ys. shown_json (selected_value a r x) ∷ ys) (items_shown w a r selected (x ∷ nearest) xs (and_right (is_flat_item x) (list_all is_flat_item xs) e))
-
-pub row_is : (a : Asked) (n : ℕ) (q : Query) (p : Plan) (r : Record) → is_flat q ≡ true → Means a n q p → Has (records_of a.tenant n) r
-    → row_json a r q.select ≡ object_json (attributes a r ∷ map (λ s. shown_json (shown_value r s)) p.shown)
-row_is a n q p r flat m h =
-    let parts = parts_of q flat in
-    ap (λ ms. object_json (attributes a r ∷ ms))
-    (items_shown (row_within 6 a) a r q.select [] q.select parts.items
-    ∙ sym (map_twice shown_json (selected_value a r) q.select)
-    ∙ ap (map shown_json) (sym (m.shown r h))
-    ∙ map_twice shown_json (shown_value r) p.shown)

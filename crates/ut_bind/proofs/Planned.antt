@@ -1,143 +1,179 @@
 -- The plan of a query that nothing refuses means the query.
-use Rattle.std.proofs.Common.{◌≡◌, ℕ, true, List, [], ◌∷◌, ◌++◌, map, None, refl, sym, ap, subst, ◌∙◌, ℤ}
-use Rattle.std.specs.List.{AllByRecursion, list_all}
+use Rattle.std.proofs.Common.{◌≡◌, ◌≤◌, ◌+◌, ◌-◌, ℕ, Bool, true, List, [], ◌∷◌, length, map, Option, None, refl, sym, ap, subst, ◌∙◌, arith, append-nil, zero-add, ℤ}
+use Rattle.std.specs.List.{AllByRecursion, list_all, sum_by}
 use Rattle.std.specs.Option.{unwrap_or}
-use Rattle.std.specs.Ordering.{ordering_then}
+use Rattle.std.proofs.lemmas.List.Sums.{sum_by-cons}
 use Rattle.ut_query.specs.declared.query.Item.{Item}
 use Rattle.ut_query.specs.declared.query.Item.TheVariants as item
 use Rattle.ut_query.specs.declared.query.OrderKey.{OrderKey}
 use Rattle.ut_query.specs.declared.query.Query.{Query}
 use Rattle.ut_value.specs.Printing.{day_of_moment}
 use Rattle.ut_model.specs.declared.record.Record.{Record}
-use Rattle.ut_model.specs.Asking.{item_name, query_rules, spelled_path}
-use Rattle.ut_model.specs.Conditions.{satisfies}
+use Rattle.ut_model.specs.Asking.{query_rules}
+use Rattle.ut_model.specs.Cases.{in_case}
 use Rattle.ut_model.specs.Fields.{value_in}
 use Rattle.ut_model.specs.Membership.{Has}
 use Rattle.ut_model.specs.Objects.{records_of}
-use Rattle.ut_model.specs.Ordered.{before}
-use Rattle.ut_model.specs.Paths.{Asked, path_value}
-use Rattle.ut_model.specs.RowsJson.{field_name}
-use Rattle.ut_model.specs.Rules.{first_of, first_refusal}
+use Rattle.ut_model.specs.Paths.{Asked}
+use Rattle.ut_model.specs.RowsJson.{field_name, object_json, object_name, row_json}
+use Rattle.ut_model.specs.Rules.{first_refusal}
 use Rattle.ut_model.specs.Sound.{IsSound}
-use Rattle.ut_model.specs.Tests.{tests}
+use Rattle.ut_model.specs.Tests.{Tested, tests}
 use Rattle.ut_stands.specs.Layouts.{IsLayout}
 use Rattle.ut_stands.specs.Plan.{OrgPlan}
 use Rattle.ut_stands.specs.declared.layout.Layout.{Layout}
+use Rattle.ut_step.specs.Flat.{has_one_name, is_flat, is_flat_item, is_flat_test}
+use Rattle.ut_step.specs.Shown.{item_children_shown, item_steps, path_steps, query_steps, tail_steps}
+use Rattle.ut_ways.specs.Branches.{AddsBranches}
+use Rattle.ut_ways.specs.declared.branches.Branch.{Branch}
+use Rattle.ut_bind.specs.declared.check.Site.TheVariants as site
+use Rattle.ut_bind.specs.declared.choosing.BoundTail.{BoundTail}
+use Rattle.ut_bind.specs.declared.columns.Column.{Column}
+use Rattle.ut_bind.specs.declared.plan.ChildPlan.{ChildPlan}
+use Rattle.ut_bind.specs.declared.plan.Member.TheVariants as member
 use Rattle.ut_bind.specs.declared.plan.Plan.{Plan}
-use Rattle.ut_bind.specs.declared.rules.Rule.{Rule}
-use Rattle.ut_bind.specs.declared.rules.Rule.TheVariants as rule
-use Rattle.ut_bind.specs.Checks.{site_of, takes}
-use Rattle.ut_step.specs.Flat.{is_flat, is_flat_item, is_flat_test, has_one_name}
-use Rattle.ut_bind.specs.Plans.{Means, ShownValue, selected_value, by_keys, shown_value, values_by}
-use Rattle.ut_bind.specs.inner.Binding.{IsClean, IsFound, Knows, bound_column, shown_of, sort_key}
-use Rattle.ut_bind.specs.inner.Rules.{all_tests_rule, child_tests_rule, each_rule, item_rule, items_rule, key_rule, mentioned_in, names_rule, no_field, query_rule, rule_in, tail_rule}
+use Rattle.ut_bind.specs.declared.plan.Shown.TheVariants as shown
+use Rattle.ut_bind.specs.declared.selecting.Selection.{Selection}
+use Rattle.ut_bind.specs.Checks.{site_of}
+use Rattle.ut_bind.specs.Plans.{Means, ShownValue, child_shown, children_by, parents_by, selected_value, shown_value}
+use Rattle.ut_bind.specs.Reaching.{Reaches}
+use Rattle.ut_bind.specs.Shown.{Shows, ShowsJson, row_text, type_and_address}
+use Rattle.ut_bind.specs.inner.Columns.{name_at}
+use Rattle.ut_bind.specs.inner.Members.{IsLed}
+use Rattle.ut_bind.specs.inner.Selecting.{BindsItems, ItemServes, own_shown}
+use Rattle.ut_bind.specs.inner.Spots.{IsOf, Setting, far_of}
+use Rattle.ut_bind.specs.inner.Tails.{BindsTail}
 use Rattle.ut_bind.proofs.Flatness.{parts_of}
-use Rattle.ut_bind.proofs.Bound.{place_there}
-use Rattle.ut_bind.proofs.Clean.{all_clean, first_none, is_there, rest_none}
-use Rattle.ut_bind.proofs.Judged.{flat_alike}
 use Rattle.ut_bind.proofs.Lists.{and_left, and_right}
+use Rattle.ut_bind.proofs.Reaching.{refused_alike}
 use Rattle.ut_bind.proofs.Records.{known_of}
+use Rattle.ut_bind.proofs.Serving.{query_serves}
+use Rattle.ut_bind.proofs.Tailed.{tail_chooses}
 
--- ---- paths
+-- ---- the values of fields
 
-module _ (a : Asked) (l : Layout) (day : ℤ) (r : Record) (k : Knows a l day r) where
-  found_at : (name : List ℕ) → no_field [] l (name ∷ []) ≡ None → IsFound a l r name (bound_column l (name ∷ []))
-  found_at name e =
-      let c = is_there l name e in
-      subst (IsFound a l r name) (sym (place_there l (name ∷ []) name c.0 refl c.1)) (k.found name c.0 c.1)
+module _ (s : Setting) (ls : List Layout) (l : Layout) (r : Record) (of_it : IsOf s l r) where
+  value_is : (ns : List (List ℕ)) → has_one_name ns ≡ true → IsLed s ls l (record { names = ns })
+      → shown_value [] r (own_shown l (item.Path (record { names = ns }))) ≡ selected_value s.asked r (item.Path (record { names = ns }))
+  value_is [] one led = absurd cc
+  value_is (name ∷ more ∷ names) one led = absurd cc
+  value_is (name ∷ []) one led =
+      let a = s.asked in
+      let c = led.column in
+      let f = (known_of s.plan a l (day_of_moment a.now) r of_it.laid of_it.sound refl of_it.has).found name c led.there in
+      let there : ShownValue = record { name = name_at l c.site; value = value_in (site_of c.site) r } in
+      ap
+      (λ (o : Option Column).
+      shown_value [] r
+      (shown.Member
+      (in_case o (member.Field name (record { branch = None; site = site.Id })) (λ (c : Column). member.Field (name_at l c.site) (record { branch = None; site = c.site })))))
+      led.there
+      ∙ ap (λ n. record there { name = n }) (sym f.declared)
+      ∙ ap (λ v. record there { name = field_name a r name; value = v }) (sym f.value)
 
-  value_by : (ns : List (List ℕ)) → has_one_name ns ≡ true → no_field [] l ns ≡ None → value_in (site_of (bound_column l ns).site) r ≡ path_value a r ns
-  value_by [] o e = absurd cc
-  value_by (name ∷ []) o e = sym (found_at name e).value
-  value_by (name ∷ more ∷ names) o e = absurd cc
+  item_is : (x : Item) → is_flat_item x ≡ true → ItemServes s ls l x → shown_value [] r (own_shown l x) ≡ selected_value s.asked r x
+  item_is (item.Path p) flat serve = value_is p.names flat serve
+  item_is (item.Child paths tail) flat serve = absurd cc
 
-  value_is : (ns : List (List ℕ)) → has_one_name ns ≡ true → no_field [] l ns ≡ None
-      → shown_value r (shown_of l (item.Path (record { names = ns }))) ≡ selected_value a r (item.Path (record { names = ns }))
-  value_is [] o e = absurd cc
-  value_is (name ∷ []) o e =
-      let f = found_at name e in
-      let there : ShownValue = shown_value r (shown_of l (item.Path (record { names = name ∷ [] }))) in
-      ap (λ n. record there { name = n }) (sym f.declared) ∙ ap (λ v. record there { name = field_name a r name; value = v }) (sym f.value)
-  value_is (name ∷ more ∷ names) o e = absurd cc
+  pub values_are : (xs : List Item) → list_all is_flat_item xs ≡ true → AllByRecursion (ItemServes s ls l) xs
+      → map (shown_value [] r) (map (own_shown l) xs) ≡ map (selected_value s.asked r) xs
+  values_are [] flat serve = refl
+  values_are (x ∷ xs) flat serve =
+      ap (λ v. v ∷ map (shown_value [] r) (map (own_shown l) xs)) (item_is x (and_left (is_flat_item x) (list_all is_flat_item xs) flat) serve.0)
+      ∙ ap (λ vs. selected_value s.asked r x ∷ vs) (values_are xs (and_right (is_flat_item x) (list_all is_flat_item xs) flat) serve.1)
 
-  -- ---- what is shown
+-- ---- a flat query has no steps
 
-  name_there : (before : List (List ℕ)) (x : Item) → is_flat_item x ≡ true → item_rule [] l before x ≡ None → shown_value r (shown_of l x) ≡ selected_value a r x
-  name_there before (item.Child paths tail) o e = absurd cc
-  name_there before (item.Path p) o e = value_is p.names o (first_none (no_field [] l p.names) (mentioned_in before (spelled_path p.names) ∷ []) e)
+no_steps : (names : List (List ℕ)) → has_one_name names ≡ true → length names - 1 ≡ 0
+no_steps [] one = absurd cc
+no_steps (name ∷ []) one = refl
+no_steps (name ∷ more ∷ names) one = absurd cc
 
-  pub values_are : (before : List (List ℕ)) (xs : List Item) → list_all is_flat_item xs ≡ true → items_rule [] l before xs ≡ None
-      → map (shown_value r) (map (shown_of l) xs) ≡ map (selected_value a r) xs
-  unfolding each_rule
-  values_are before [] o e = refl
-  values_are before (x ∷ xs) o e =
-      let behind = items_rule [] l (before ++ item_name x ∷ []) xs in
-      ap (λ m. m ∷ map (shown_value r) (map (shown_of l) xs))
-      (name_there before x (and_left (is_flat_item x) (list_all is_flat_item xs) o) (first_none (item_rule [] l before x) (behind ∷ []) e))
-      ∙ ap (λ ms. selected_value a r x ∷ ms)
-      (values_are (before ++ item_name x ∷ []) xs (and_right (is_flat_item x) (list_all is_flat_item xs) o)
-      (first_none behind [] (rest_none (item_rule [] l before x) (behind ∷ []) e)))
+item_no_steps : (x : Item) → is_flat_item x ≡ true → item_steps x ≡ 0
+item_no_steps (item.Path p) flat = no_steps p.names flat
+item_no_steps (item.Child paths tail) flat = absurd cc
 
--- ---- order
+none_of : {X : Type 0} (p : X → Bool) (f : X → ℕ) → ((x : X) → p x ≡ true → f x ≡ 0) → (xs : List X) → list_all p xs ≡ true → sum_by f xs ≡ 0
+none_of p f each [] all = refl
+none_of p f each (x ∷ xs) all =
+    sum_by-cons f x xs ∙ ap (λ n. n + sum_by f xs) (each x (and_left (p x) (list_all p xs) all)) ∙ zero-add (sum_by f xs) ∙ none_of p f each xs (and_right (p x) (list_all p xs) all)
 
-pub ordered : (a : Asked) (l : Layout) (day : ℤ) (r s : Record) → Knows a l day r → Knows a l day s → (keys : List OrderKey) → list_all (λ k. has_one_name k.path.names) keys ≡ true
-    → first_of (key_rule [] l) keys ≡ None → by_keys (map (sort_key l) keys) r s ≡ before a keys r s
-ordered a l day r s kr ks [] o e = refl
-ordered a l day r s kr ks (k ∷ keys) o e =
-    let own = and_left (has_one_name k.path.names) (list_all (λ k. has_one_name k.path.names) keys) o in
-    let there = first_none (key_rule [] l k) (map (key_rule [] l) keys) e in
-    let more = ordered a l day r s kr ks keys (and_right (has_one_name k.path.names) (list_all (λ k. has_one_name k.path.names) keys) o) (rest_none (key_rule [] l k) (map (key_rule [] l) keys) e) in
-    ap (λ v. ordering_then (values_by (sort_key l k) v (value_in (site_of (bound_column l k.path.names).site) s)) (by_keys (map (sort_key l) keys) r s)) (value_by a l day r kr k.path.names own there)
-    ∙ ap (λ v. ordering_then (values_by (sort_key l k) (path_value a r k.path.names) v) (by_keys (map (sort_key l) keys) r s)) (value_by a l day s ks k.path.names own there)
-    ∙ ap (λ o. ordering_then (values_by (sort_key l k) (path_value a r k.path.names) (path_value a s k.path.names)) o) more
+nothing : (a b c : ℕ) → a ≡ 0 → b ≡ 0 → c ≡ 0 → a + (b + c) ≡ 0
+nothing a b c x y z = omega (arith, x, y, z)
+
+flat_no_steps : (q : Query) → is_flat q ≡ true → query_steps q ≡ 0
+flat_no_steps q flat =
+    let parts = parts_of q flat in
+    let tested = λ (x : Tested). length x.names - 1 in
+    let ordered = λ (k : OrderKey). path_steps k.path in
+    let by_tests = none_of is_flat_test tested (λ x h. no_steps x.names h) (tests q.tail.condition) parts.tested in
+    let by_keys = none_of (λ (k : OrderKey). has_one_name k.path.names) ordered (λ k h. no_steps k.path.names h) q.tail.order parts.keys in
+    let by_items = none_of is_flat_item item_steps item_no_steps q.select parts.items in
+    nothing (sum_by item_steps q.select) (sum_by tested (tests q.tail.condition)) (sum_by ordered q.tail.order) by_items by_tests by_keys
+
+no_length : {X : Type 0} (xs : List X) → length xs ≤ 0 → xs ≡ []
+no_length [] le = refl
+no_length (x ∷ xs) le = absurd (omega (arith, le))
+
+within : (first mid new all items tail : ℕ) → first ≡ 0 → mid ≤ first + items → new ≤ mid + tail → all ≡ new → all ≤ items + tail
+within first mid new all items tail none one two same = omega (arith, none, one, two, same)
+
+-- what is selected is bound first, and the tail behind it
+pub few_branches : (q : Query) (first mid new bs : List Branch) → first ≡ [] → length mid ≤ length first + sum_by item_steps q.select
+    → length new ≤ length mid + tail_steps q.tail → bs ≡ new → length bs ≤ query_steps q
+few_branches q first mid new bs none items tail same =
+    within (length first) (length mid) (length new) (length bs) (sum_by item_steps q.select) (tail_steps q.tail) (ap length none) items tail (ap length same)
+
+pub no_branches : (q : Query) (bs : List Branch) → length bs ≤ query_steps q → is_flat q ≡ true → bs ≡ []
+no_branches q bs few flat = no_length bs (subst (λ n. length bs ≤ n) (flat_no_steps q flat) few)
+
+-- what is known of what is selected is of the query's own list
+pub few_of : (xs ys : List Item) (first mid : List Branch) (plans : List ChildPlan) → xs ≡ ys
+    → (length mid ≤ length first + sum_by item_steps xs) × (sum_by child_shown plans ≤ sum_by item_children_shown xs)
+    → (length mid ≤ length first + sum_by item_steps ys) × (sum_by child_shown plans ≤ sum_by item_children_shown ys)
+few_of xs ys first mid plans same few =
+    subst (λ (xs : List Item). (length mid ≤ length first + sum_by item_steps xs) × (sum_by child_shown plans ≤ sum_by item_children_shown xs)) same few
 
 -- ---- a query that nothing refuses
 
-record IsUnrefused (l : Layout) (q : Query) : Type 0 where
-  items : items_rule [] l [] q.select ≡ None
-  keys : first_of (key_rule [] l) q.tail.order ≡ None
-  tested : AllByRecursion (IsClean l) (tests q.tail.condition)
+-- what the plan of a query has: what is selected, bound first, and the tail, whose branches may be behind
+pub record IsPlan (ls : List Layout) (l : Layout) (day : ℤ) (q : Query) (mid new : List Branch) (sel : Selection) (b : BoundTail) (p : Plan) : Type 0 where
+  pub items : BindsItems ls l day q.select mid sel
+  pub own : list_all is_flat_item q.select ≡ true → (sel.shown ≡ map (own_shown l) q.select) × (sel.children ≡ [])
+  pub tail : BindsTail ls l day q.tail new b
+  pub adds : AddsBranches mid new
+  pub branches : p.choice.branches ≡ new
+  pub check : p.choice.check ≡ b.check
+  pub order : p.choice.order ≡ b.order
+  pub skip : p.choice.skip ≡ unwrap_or q.offset 0
+  pub most : p.choice.most ≡ q.tail.limit
+  pub shown : p.shown ≡ sel.shown
+  pub children : p.children ≡ sel.children
 
-unrefused : (l : Layout) (q : Query) → list_all is_flat_test (tests q.tail.condition) ≡ true → query_rule [] l q ≡ None → IsUnrefused l q
-unrefused l q flat e =
-    let ts = tests q.tail.condition in
-    let keys = first_of (key_rule [] l) q.tail.order in
-    let items = items_rule [] l [] q.select in
-    let names = names_rule [] l q in
-    let suited = all_tests_rule [] l rule.Suits q in
-    let spelled = all_tests_rule [] l rule.Id q in
-    let no_names = first_none names (suited ∷ spelled ∷ []) e in
-    let no_tail = first_none (tail_rule [] l q.tail) [] (rest_none items (tail_rule [] l q.tail ∷ []) no_names) in
-    let no_tests = rest_none names (suited ∷ spelled ∷ []) e in
-    record {
-      items = first_none items (tail_rule [] l q.tail ∷ []) no_names;
-      keys = first_none keys [] (rest_none (first_of (rule_in [] l rule.Name) ts) (keys ∷ []) no_tail);
-      tested = all_clean l ts flat (first_none (first_of (rule_in [] l rule.Name) ts) (keys ∷ []) no_tail)
-          (own_tests rule.Suits (first_none suited (spelled ∷ []) no_tests))
-          (own_tests rule.Id (first_none spelled [] (rest_none suited (spelled ∷ []) no_tests)));
-    }
-  where
-    own_tests : (r : Rule) → all_tests_rule [] l r q ≡ None → first_of (rule_in [] l r) (tests q.tail.condition) ≡ None
-    own_tests r e = first_none (first_of (rule_in [] l r) (tests q.tail.condition)) [] (rest_none (first_of (child_tests_rule [] l r) q.select) (first_of (rule_in [] l r) (tests q.tail.condition) ∷ []) e)
+module _ (ls : List Layout) (l : Layout) (day : ℤ) (q : Query) (mid new : List Branch) (sel : Selection) (b : BoundTail) (p : Plan) (is : IsPlan ls l day q mid new sel b p) where
+  module _ (s : Setting) (shows : Shows) (json : ShowsJson s.asked.tenant shows) (r : Record) (of_it : IsOf s l r) where
+    row_shown : day ≡ day_of_moment s.asked.now → AllByRecursion (ItemServes s ls l) q.select
+        → row_text shows (object_name s.asked r) p.shown (parents_by s.asked p.choice r) (map (children_by s.asked r) p.children) r ≡ row_json s.asked r q.select
+    row_shown today serve =
+        let a = s.asked in
+        let object = object_name a r in
+        ap (λ xs. row_text shows object xs (far_of s r p.choice.branches) (map (children_by a r) p.children) r) is.shown
+        ∙ ap (λ kids. row_text shows object sel.shown (far_of s r p.choice.branches) (map (children_by a r) kids) r) is.children
+        ∙ ap (λ (bs : List Branch). row_text shows object sel.shown (far_of s r bs) (map (children_by a r) sel.children) r) (is.branches ∙ is.adds.behind)
+        ∙ ap (λ texts. object_json (type_and_address object r.id ∷ texts)) (is.items s shows r today serve of_it json is.adds.more)
 
--- what the plan of a query has
-pub record IsPlan (l : Layout) (day : ℤ) (q : Query) (p : Plan) : Type 0 where
-  pub shown : p.shown ≡ map (shown_of l) q.select
-  pub check : AllByRecursion (IsClean l) (tests q.tail.condition) → (a : Asked) (r : Record) → Knows a l day r → takes p.check r ≡ satisfies a q.tail.condition r
-  pub order : p.order ≡ map (sort_key l) q.tail.order
-  pub skip : p.skip ≡ unwrap_or q.offset 0
-  pub most : p.most ≡ q.tail.limit
-
-pub means : (l : Layout) (day : ℤ) (q : Query) (p : Plan) → IsPlan l day q p → (plan : OrgPlan) (a : Asked) → IsLayout plan a.tenant l → IsSound a.tenant → day ≡ day_of_moment a.now
-    → is_flat q ≡ true → first_refusal (query_rules a.tenant l.object q) ≡ None → Means a l.object q p
-means l day q p is plan a laid sound today flat none =
-    let parts = parts_of q flat in
-    let free = unrefused l q parts.tested (flat_alike plan a.tenant [] l q flat laid ∙ none) in
-    let knows = λ (r : Record) (h : Has (records_of a.tenant l.object) r). known_of plan a l day r laid sound today h in
-    record {
-      rows = λ r h. is.check free.tested a r (knows r h);
-      order = λ r s h i. ap (λ ks. by_keys ks r s) is.order ∙ ordered a l day r s (knows r h) (knows s i) q.tail.order parts.keys free.keys;
-      shown = λ r h. ap (λ xs. map (shown_value r) xs) is.shown ∙ values_are a l day r (knows r h) [] q.select parts.items free.items;
-      skip = is.skip;
-      most = is.most;
-    }
+  pub means : (org : ℕ) (plan : OrgPlan) (a : Asked) → Reaches org plan a.tenant ls q → IsLayout plan a.tenant l → IsSound a.tenant → day ≡ day_of_moment a.now
+      → first_refusal (query_rules a.tenant l.object q) ≡ None → Means a l.object q p
+  means org plan a reach laid sound today none =
+      let s : Setting = record { org = org; plan = plan; asked = a } in
+      let serves = query_serves s ls l q reach (refused_alike org plan a.tenant ls l q laid reach ∙ none) in
+      let of_it : (r : Record) → Has (records_of a.tenant l.object) r → IsOf s l r = λ r h. record { laid = laid; sound = sound; has = h } in
+      record {
+        chooses = tail_chooses s ls l day q.tail new [] b (unwrap_or q.offset 0) p.choice is.tail serves.tail today laid sound
+            (is.branches ∙ sym (append-nil new)) is.check is.order is.skip is.most;
+        shown = λ shows json r h. row_shown s shows json r (of_it r h) today serves.items;
+        flat = λ flat r h.
+            let parts = parts_of q flat in
+            ap (λ xs. map (shown_value [] r) xs) (is.shown ∙ (is.own parts.items).0)
+            ∙ values_are s ls l r (of_it r h) q.select parts.items serves.items;
+      }

@@ -82,7 +82,7 @@ module _ (org : ℕ) (q : OrgPlan) (t : Tenant) (sound : IsSound t) (ls : List L
       by None = refl
       by (Some f) = numbered_layout org f.target q t ls all
 
-  column_same : (l : Layout) → IsLayout q t l → (ns : List (List ℕ)) → option_map placed (path_column t l.object ns) ≡ path_column_in ls l ns
+  pub column_same : (l : Layout) → IsLayout q t l → (ns : List (List ℕ)) → option_map placed (path_column t l.object ns) ≡ path_column_in ls l ns
   column_same l laid [] = refl
   column_same l laid (name ∷ []) = own_column q t l name laid
   column_same l laid (name ∷ next ∷ names) =

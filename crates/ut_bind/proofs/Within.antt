@@ -1,5 +1,5 @@
 -- The conditions within another, as a row and as a list.
-use Rattle.std.proofs.Common.{◌≡◌, Bool, true, false, not, ◌&&◌, ◌||◌, List, refl, ap, ◌∙◌}
+use Rattle.std.proofs.Common.{◌≡◌, Bool, true, false, not, ◌&&◌, ◌||◌, List, Option, refl, ap, ◌∙◌}
 use Rattle.std.specs.List.{list_all, list_any}
 use Rattle.std.specs.Prelude.{Result, Ok, Err, IfOk}
 use Rattle.ut_parts.specs.declared.fail.CodecFail.{CodecFail}
@@ -21,28 +21,28 @@ row_of (And' _ row) = (_, row)
 row_of (Or' _ row) = (_, row)
 row_of _ = (_, end_of-Check)
 
-module _ (r : Record) where
-  all_in_row : (n : _) (row : Row_of-Check n) → all_checks r row ≡ list_all (check_holds r) (items-the_row-Check n row)
+module _ (far : List (Option Record)) (r : Record) where
+  all_in_row : (n : _) (row : Row_of-Check n) → all_checks far r row ≡ list_all (check_holds far r) (items-the_row-Check n row)
   all_in_row n end_of-Check = refl
-  all_in_row n (more_of-Check part rest) = ap (λ b. check_holds r part && b) (all_in_row _ rest)
+  all_in_row n (more_of-Check part rest) = ap (λ b. check_holds far r part && b) (all_in_row _ rest)
 
-  some_in_row : (n : _) (row : Row_of-Check n) → some_checks r row ≡ list_any (check_holds r) (items-the_row-Check n row)
+  some_in_row : (n : _) (row : Row_of-Check n) → some_checks far r row ≡ list_any (check_holds far r) (items-the_row-Check n row)
   some_in_row n end_of-Check = refl
-  some_in_row n (more_of-Check part rest) = ap (λ b. check_holds r part || b) (some_in_row _ rest)
+  some_in_row n (more_of-Check part rest) = ap (λ b. check_holds far r part || b) (some_in_row _ rest)
 
-  pub holds_not : (c : Check) → check_holds r (Not c) ≡ not (check_holds r c)
+  pub holds_not : (c : Check) → check_holds far r (Not c) ≡ not (check_holds far r c)
   unfolding hidden-the_row-Check-0 hidden
-  holds_not c = ap not (and_true (check_holds r c))
+  holds_not c = ap not (and_true (check_holds far r c))
 
-  pub holds_and : (cs : List Check) → check_holds r (And cs) ≡ list_all (check_holds r) cs
+  pub holds_and : (cs : List Check) → check_holds far r (And cs) ≡ list_all (check_holds far r) cs
   holds_and cs =
       let row = row_of (And cs) in
-      all_in_row row.0 row.1 ∙ ap (list_all (check_holds r)) (items_hidden-the_row-Check-1 cs)
+      all_in_row row.0 row.1 ∙ ap (list_all (check_holds far r)) (items_hidden-the_row-Check-1 cs)
 
-  pub holds_or : (cs : List Check) → check_holds r (Or cs) ≡ list_any (check_holds r) cs
+  pub holds_or : (cs : List Check) → check_holds far r (Or cs) ≡ list_any (check_holds far r) cs
   holds_or cs =
       let row = row_of (Or cs) in
-      some_in_row row.0 row.1 ∙ ap (list_any (check_holds r)) (items_hidden-the_row-Check-1 cs)
+      some_in_row row.0 row.1 ∙ ap (list_any (check_holds far r)) (items_hidden-the_row-Check-1 cs)
 
 -- one thing that is given for another that is the same
 pub gives_so : {X : Type 0} {x y : X} (result : Result X CodecFail) → x ≡ y → GivesJust x result → GivesJust y result

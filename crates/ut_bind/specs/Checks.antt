@@ -1,6 +1,6 @@
--- Whether a condition whose names are places holds on a record.
+-- Whether a condition whose names are places holds on a record, beside the records of branches.
 -- Source: as in Conditions of the model, with names looked up once.
-use Rattle.std.specs.Prelude.{Bool, true, false, not, ◌&&◌, ◌||◌, if◌then◌else◌, Option, Some, None}
+use Rattle.std.specs.Prelude.{List, Bool, true, false, not, ◌&&◌, ◌||◌, if◌then◌else◌, Option, Some, None}
 use Rattle.std.specs.Bool.{beq}
 use Rattle.std.specs.List.{list_any}
 use Rattle.std.specs.declared.cmp.Ordering.{Ordering}
@@ -11,11 +11,14 @@ use Rattle.ut_value.specs.declared.value.Value.TheVariants as value
 use Rattle.ut_query.specs.declared.query.Op.{Op}
 use Rattle.ut_query.specs.declared.query.Op.TheVariants as op
 use Rattle.ut_model.specs.declared.record.Record.{Record}
+use Rattle.ut_model.specs.Cases.{in_case}
 use Rattle.ut_model.specs.Conditions.{as_day, is_like}
 use Rattle.ut_model.specs.Fields as model
 use Rattle.ut_model.specs.Fields.{its_id, its_owner, its_created, its_modified, value_site, is_null, value_in}
 use Rattle.ut_bind.specs.declared.check.Site.{Site}
 use Rattle.ut_bind.specs.declared.check.Site.TheVariants as site
+use Rattle.ut_bind.specs.declared.check.Spot.{Spot}
+use Rattle.ut_ways.specs.Branches.{record_above}
 use Rattle.ut_bind.specs.declared.check.Operand.{Operand}
 use Rattle.ut_bind.specs.declared.check.Operand.TheVariants.{Plain, Clock}
 use Rattle.ut_bind.specs.declared.check.Check.{Check, Test, Like, In, Not', And', Or', Row_of-Check, end_of-Check, more_of-Check}
@@ -26,6 +29,10 @@ site_of site.Owner = its_owner
 site_of site.Created = its_created
 site_of site.Modified = its_modified
 site_of (site.Value position) = value_site position
+
+-- the value that a row has at a spot, where these are the records of the branches; null where a branch has none
+abbrev pub spot_value : (far : List (Option Record)) → Record → Spot → Value
+spot_value far r s = in_case (record_above r far s.branch) value.Null (value_in (site_of s.site))
 
 -- ---- comparisons
 
@@ -61,29 +68,29 @@ passes_with o v x =
 
 -- a test of a value
 abbrev pub tested : Check → Value → Bool
-tested (Test site o with) v = passes_with o v with
-tested (Like site pattern) v = is_like pattern.parts v
-tested (In site negated with) v = not (beq (list_any (passes_with op.Equal v) with) negated)
+tested (Test spot o with) v = passes_with o v with
+tested (Like spot pattern) v = is_like pattern.parts v
+tested (In spot negated with) v = not (beq (list_any (passes_with op.Equal v) with) negated)
 tested _ v = false
 
 abbrev mutual
-  pub check_holds : Record → Check → Bool
-  check_holds r (Test site o with) = tested (Test site o with) (value_in (site_of site) r)
-  check_holds r (Like site pattern) = tested (Like site pattern) (value_in (site_of site) r)
-  check_holds r (In site negated with) = tested (In site negated with) (value_in (site_of site) r)
-  check_holds r (Not' shape part) = not (all_checks r part)
-  check_holds r (And' shape parts) = all_checks r parts
-  check_holds r (Or' shape parts) = some_checks r parts
+  pub check_holds : (far : List (Option Record)) → Record → Check → Bool
+  check_holds far r (Test spot o with) = tested (Test spot o with) (spot_value far r spot)
+  check_holds far r (Like spot pattern) = tested (Like spot pattern) (spot_value far r spot)
+  check_holds far r (In spot negated with) = tested (In spot negated with) (spot_value far r spot)
+  check_holds far r (Not' shape part) = not (all_checks far r part)
+  check_holds far r (And' shape parts) = all_checks far r parts
+  check_holds far r (Or' shape parts) = some_checks far r parts
 
-  pub all_checks : {m : _} → Record → Row_of-Check m → Bool
-  all_checks r end_of-Check = true
-  all_checks r (more_of-Check part rest) = check_holds r part && all_checks r rest
+  pub all_checks : {m : _} → (far : List (Option Record)) → Record → Row_of-Check m → Bool
+  all_checks far r end_of-Check = true
+  all_checks far r (more_of-Check part rest) = check_holds far r part && all_checks far r rest
 
-  pub some_checks : {m : _} → Record → Row_of-Check m → Bool
-  some_checks r end_of-Check = false
-  some_checks r (more_of-Check part rest) = check_holds r part || some_checks r rest
+  pub some_checks : {m : _} → (far : List (Option Record)) → Record → Row_of-Check m → Bool
+  some_checks far r end_of-Check = false
+  some_checks far r (more_of-Check part rest) = check_holds far r part || some_checks far r rest
 
 -- the condition holds, if there is one
-abbrev pub takes : Option Check → Record → Bool
-takes None r = true
-takes (Some check) r = check_holds r check
+abbrev pub takes : Option Check → (far : List (Option Record)) → Record → Bool
+takes None far r = true
+takes (Some check) far r = check_holds far r check

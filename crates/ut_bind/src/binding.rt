@@ -1,6 +1,6 @@
-//! Flat queries whose names become places.
+//! Queries whose names become places.
 
-ghost use Rattle.std.specs.Prelude.{◌≡◌, IfOk, None, map, option_map, true};
+ghost use Rattle.std.specs.Prelude.{◌≡◌, ℕ, IfOk, None, [], true};
 ghost use Rattle.ut_model.specs.Asking.{query_rules};
 ghost use Rattle.ut_model.specs.Paths.{Asked};
 ghost use Rattle.ut_model.specs.Rules.{first_refusal};
@@ -9,68 +9,17 @@ ghost use Rattle.ut_stands.specs.Layouts.{IsLayout};
 ghost use Rattle.ut_stands.specs.Plan.{OrgPlan};
 ghost use Rattle.ut_value.specs.Printing.{day_of_moment};
 ghost use Rattle.ut_step.specs.Flat.{is_flat};
-ghost use Rattle.ut_bind.specs.Plans.{Means};
+ghost use Rattle.ut_bind.specs.Plans.{IsFew, Means};
+ghost use Rattle.ut_bind.specs.Reaching.{Reaches};
 ghost use Rattle.ut_bind.specs.inner.Binding as spec;
 
-use crate::check::Site;
-use crate::columns::name_at;
-use crate::conditions::{bound_column, where_of};
-use crate::plan::{Plan, Shown, SortKey};
+use crate::choosing::bind_tail;
+use crate::plan::{Choice, Plan};
+use crate::selecting::bind_items;
 use std::alloc::{AllocError, Global};
-use ut_query::{Item, OrderKey, Query};
+use ut_query::Query;
 use ut_stands::Layout;
-use ut_value::{Items, Text};
-
-fn item_site(layout: &Layout, item: &Item) -> Site
-    ensures { result ≡ spec.item_site layout.now item.now }
-{
-    match item {
-        Item::Path(path) => bound_column(layout, path).site,
-        Item::Child { .. } => Site::Id,
-    }
-}
-
-fn shown_of(alloc: Global, layout: &Layout, item: &Item) -> Result<Shown, AllocError>
-    ensures { IfOk result (λ x. x ≡ spec.shown_of layout.now item.now) }
-{
-    let site = item_site(layout, item);
-    let name = Text::from_str(alloc, name_at(layout, site))?;
-    Ok(Shown { name, site })
-}
-
-fn all_shown(alloc: Global, layout: &Layout, items: &[Item]) -> Result<Items<Shown>, AllocError>
-    ensures { IfOk result (λ xs. xs ≡ map (spec.shown_of layout.now) items.now) }
-{
-    let mut shown = Vec::new(alloc);
-    for item in items {
-        shown.push(shown_of(alloc, layout, item)?)?;
-    }
-    Ok(Items::from_vec(shown))
-}
-
-fn sort_key(layout: &Layout, key: &OrderKey) -> SortKey
-    ensures { result ≡ spec.sort_key layout.now key.now }
-{
-    SortKey {
-        site: bound_column(layout, &key.path).site,
-        descending: key.descending,
-        nulls_last: key.nulls_last,
-    }
-}
-
-fn sort_keys(
-    alloc: Global,
-    layout: &Layout,
-    keys: &[OrderKey],
-) -> Result<Items<SortKey>, AllocError>
-    ensures { IfOk result (λ xs. xs ≡ map (spec.sort_key layout.now) keys.now) }
-{
-    let mut sorted = Vec::new(alloc);
-    for key in keys {
-        sorted.push(sort_key(layout, key))?;
-    }
-    Ok(Items::from_vec(sorted))
-}
+use ut_value::Items;
 
 fn skip_of(query: &Query) -> usize
     ensures { result ≡ spec.skip_of query.now }
@@ -90,24 +39,39 @@ fn most_of(query: &Query) -> Option<usize>
     }
 }
 
-/// The plan of a flat query of the layout's object, on this day. If nothing refuses the query, the plan means it.
+/// The plan of a query of the layout's object, on this day, by the layouts of all objects; of a flat query none of them is looked at.
+/// If nothing refuses the query, the plan means it. It has no more branches than the query has steps to parents, and a flat one none.
 ///
 /// # Errors
 ///
 /// When out of memory.
-pub fn bind(alloc: Global, layout: &Layout, day: i64, query: &Query) -> Result<Plan, AllocError>
-    ensures { IfOk result (λ plan. (q : OrgPlan) (a : Asked) → IsLayout q a.tenant layout.now → IsSound a.tenant → day ≡ day_of_moment a.now
-        → is_flat query.now ≡ true → first_refusal (query_rules a.tenant layout.now.object query.now) ≡ None
-        → Means a layout.now.object query.now plan) }
+pub fn bind(
+    alloc: Global,
+    layouts: &[Layout],
+    layout: &Layout,
+    day: i64,
+    query: &Query,
+) -> Result<Plan, AllocError>
+    ensures means { IfOk result (λ plan. (org : ℕ) (q : OrgPlan) (a : Asked) → Reaches org q a.tenant layouts.now query.now
+        → IsLayout q a.tenant layout.now → IsSound a.tenant → day ≡ day_of_moment a.now
+        → first_refusal (query_rules a.tenant layout.now.object query.now) ≡ None → Means a layout.now.object query.now plan) }
+    ensures few { IfOk result (λ plan. IsFew query.now plan) }
+    ensures flat { IfOk result (λ plan. is_flat query.now ≡ true → (plan.choice.branches ≡ []) × (plan.children ≡ [])) }
 {
-    let shown = all_shown(alloc, layout, query.select.as_slice())?;
-    let check = where_of(alloc, layout, day, &query.tail.condition)?;
-    let order = sort_keys(alloc, layout, query.tail.order.as_slice())?;
-    Ok(Plan {
-        shown,
-        check,
-        order,
+    let mut branches = Vec::new(alloc);
+    let items = query.select.as_slice();
+    let selection = bind_items(alloc, layouts, layout, day, items, &mut branches)?;
+    let tail = bind_tail(alloc, layouts, layout, day, &query.tail, &mut branches)?;
+    let choice = Choice {
+        branches: Items::from_vec(branches),
+        check: tail.check,
+        order: tail.order,
         skip: skip_of(query),
         most: most_of(query),
+    };
+    Ok(Plan {
+        shown: selection.shown,
+        choice,
+        children: selection.children,
     })
 }

@@ -18,6 +18,15 @@ pub enum Site {
     Value(u8),
 }
 
+/// Where a row has a value.
+#[derive(Clone, Copy, Debug)]
+pub struct Spot {
+    /// The number of the plan's branch whose record has the value; if there is none, the row's record has it.
+    pub branch: Option<usize>,
+    /// Where that record has it.
+    pub site: Site,
+}
+
 /// What a value is compared with.
 #[derive(Drop)]
 pub enum Operand {
@@ -33,7 +42,7 @@ pub enum Check {
     /// A comparison.
     Test {
         /// Where the value is.
-        site: Site,
+        spot: Spot,
         /// How it is compared.
         op: Op,
         /// With what.
@@ -42,14 +51,14 @@ pub enum Check {
     /// A text like a pattern.
     Like {
         /// Where the text is.
-        site: Site,
+        spot: Spot,
         /// The pattern.
         pattern: LikePattern,
     },
     /// One of some values, or none of them.
     In {
         /// Where the value is.
-        site: Site,
+        spot: Spot,
         /// Whether it is to be none of them.
         negated: bool,
         /// The values.

@@ -3,7 +3,7 @@
 ghost use Rattle.std.specs.Prelude.{◌≡◌, IfOk, Some};
 ghost use Rattle.std.specs.List.{list_all, list_any};
 ghost use Rattle.ut_model.specs.Conditions.{as_day, is_like};
-ghost use Rattle.ut_model.specs.Fields.{is_null, value_in};
+ghost use Rattle.ut_model.specs.Fields.{is_null};
 ghost use Rattle.ut_value.specs.Values.{cmp};
 ghost use Rattle.ut_value.specs.declared.value.Value.TheVariants as its;
 ghost use Rattle.ut_query.specs.declared.query.Op.TheVariants as op;
@@ -11,10 +11,11 @@ ghost use Rattle.ut_bind.specs.Checks as spec;
 ghost use Rattle.ut_bind.specs.Given.{GivesJust};
 ghost use Rattle.ut_model.specs.declared.record.Record.{Record};
 
-use crate::check::{Check, Operand, Site};
-use crate::values::HasValues;
+use crate::check::{Check, Operand, Spot};
+use crate::values::{HasValues, spot_value};
 use std::alloc::{AllocError, Global};
 use std::cmp::Ordering;
+use ut_model::Record;
 use ut_parts::CodecFail;
 use ut_query::{LikePattern, Op, like};
 use ut_value::{Value, day_of_moment, order};
@@ -119,10 +120,10 @@ fn test_value(alloc: Global, value: &Value, check: &Check) -> Result<bool, Alloc
     ensures { IfOk result (λ x. x ≡ spec.tested check.now value.now) }
 {
     match check {
-        Check::Test { site: _, op, with } => Ok(passes(*op, value, with)),
-        Check::Like { site: _, pattern } => is_like(alloc, pattern, value),
+        Check::Test { spot: _, op, with } => Ok(passes(*op, value, with)),
+        Check::Like { spot: _, pattern } => is_like(alloc, pattern, value),
         Check::In {
-            site: _,
+            spot: _,
             negated,
             with,
         } => Ok(is_among(value, with.as_slice()) != *negated),
@@ -133,35 +134,46 @@ fn test_value(alloc: Global, value: &Value, check: &Check) -> Result<bool, Alloc
 fn test_at<V: HasValues>(
     alloc: Global,
     item: &V,
-    site: Site,
+    far: &[Option<Record>],
+    spot: Spot,
     check: &Check,
 ) -> Result<bool, CodecFail>
-    ensures { (r : Record) → V.its_record item.now ≡ Some r → GivesJust (spec.tested check.now (value_in (spec.site_of site) r)) result }
+    ensures { (r : Record) → V.its_record item.now ≡ Some r → GivesJust (spec.tested check.now (spec.spot_value far.now r spot)) result }
 {
-    let value = item.value_at(alloc, site)?;
+    let value = spot_value(alloc, item, far, spot)?;
     Ok(test_value(alloc, &value, check)?)
 }
 
 #[cycle(truth)]
-fn holds<V: HasValues>(alloc: Global, check: &Check, item: &V) -> Result<bool, CodecFail>
-    ensures { (r : Record) → V.its_record item.now ≡ Some r → GivesJust (spec.check_holds r check.now) result }
+fn holds<V: HasValues>(
+    alloc: Global,
+    check: &Check,
+    item: &V,
+    far: &[Option<Record>],
+) -> Result<bool, CodecFail>
+    ensures { (r : Record) → V.its_record item.now ≡ Some r → GivesJust (spec.check_holds far.now r check.now) result }
 {
     match check {
-        Check::Test { site, .. } | Check::Like { site, .. } | Check::In { site, .. } => {
-            test_at(alloc, item, *site, check)
+        Check::Test { spot, .. } | Check::Like { spot, .. } | Check::In { spot, .. } => {
+            test_at(alloc, item, far, *spot, check)
         }
-        Check::Not(part) => Ok(!holds(alloc, part.get(), item)?),
-        Check::And(parts) => all_hold(alloc, parts.as_slice(), item),
-        Check::Or(parts) => some_hold(alloc, parts.as_slice(), item),
+        Check::Not(part) => Ok(!holds(alloc, part.get(), item, far)?),
+        Check::And(parts) => all_hold(alloc, parts.as_slice(), item, far),
+        Check::Or(parts) => some_hold(alloc, parts.as_slice(), item, far),
     }
 }
 
 #[cycle(truth)]
-fn all_hold<V: HasValues>(alloc: Global, checks: &[Check], item: &V) -> Result<bool, CodecFail>
-    ensures { (r : Record) → V.its_record item.now ≡ Some r → GivesJust (list_all (spec.check_holds r) checks.now) result }
+fn all_hold<V: HasValues>(
+    alloc: Global,
+    checks: &[Check],
+    item: &V,
+    far: &[Option<Record>],
+) -> Result<bool, CodecFail>
+    ensures { (r : Record) → V.its_record item.now ≡ Some r → GivesJust (list_all (spec.check_holds far.now r) checks.now) result }
 {
     for check in checks {
-        if !holds(alloc, check, item)? {
+        if !holds(alloc, check, item, far)? {
             return Ok(false);
         }
     }
@@ -169,18 +181,24 @@ fn all_hold<V: HasValues>(alloc: Global, checks: &[Check], item: &V) -> Result<b
 }
 
 #[cycle(truth)]
-fn some_hold<V: HasValues>(alloc: Global, checks: &[Check], item: &V) -> Result<bool, CodecFail>
-    ensures { (r : Record) → V.its_record item.now ≡ Some r → GivesJust (list_any (spec.check_holds r) checks.now) result }
+fn some_hold<V: HasValues>(
+    alloc: Global,
+    checks: &[Check],
+    item: &V,
+    far: &[Option<Record>],
+) -> Result<bool, CodecFail>
+    ensures { (r : Record) → V.its_record item.now ≡ Some r → GivesJust (list_any (spec.check_holds far.now r) checks.now) result }
 {
     for check in checks {
-        if holds(alloc, check, item)? {
+        if holds(alloc, check, item, far)? {
             return Ok(true);
         }
     }
     Ok(false)
 }
 
-/// Whether a plan's condition, if there is one, holds on a record. A value is made for each test that is made.
+/// Whether a plan's condition, if there is one, holds on a record, beside the records of the plan's branches. A value is made for each
+/// test that is made.
 ///
 /// # Errors
 ///
@@ -189,11 +207,12 @@ pub fn check_holds<V: HasValues>(
     alloc: Global,
     check: &Option<Check>,
     item: &V,
+    far: &[Option<Record>],
 ) -> Result<bool, CodecFail>
-    ensures { (r : Record) → V.its_record item.now ≡ Some r → GivesJust (spec.takes check.now r) result }
+    ensures { (r : Record) → V.its_record item.now ≡ Some r → GivesJust (spec.takes check.now far.now r) result }
 {
     match check {
-        Some(check) => holds(alloc, check, item),
+        Some(check) => holds(alloc, check, item, far),
         None => Ok(true),
     }
 }

@@ -1,18 +1,16 @@
 -- What a query over a CSV text comes to.
 -- Sources: of the texts `ut_soql_grammar` and `ut_table`, of the rest the definitions of the model.
-use Rattle.std.specs.Prelude.{ℕ, false, nat_le, if◌then◌else◌, List, [], ◌∷◌, length, codes, Result, Ok, Err, ℤ}
-use Rattle.std.specs.Str.{chars}
+use Rattle.std.specs.Prelude.{ℕ, false, nat_le, if◌then◌else◌, List, [], ◌∷◌, length, Result, Ok, Err, ℤ}
 use Rattle.ut_query.specs.declared.query.Query.{Query}
 use Rattle.ut_soql_grammar.specs.Spelling.{reads_query}
 use Rattle.ut_table.specs.Table.{first_refused, table_of}
 use Rattle.ut_model.specs.declared.refusal.Refusal.{Refusal}
-use Rattle.ut_model.specs.declared.refusal.Refusal.TheVariants.{CsvRefused, HeadingRefused, InputTooLarge, MalformedQuery, NotBuilt}
+use Rattle.ut_model.specs.declared.refusal.Refusal.TheVariants.{CsvRefused, HeadingRefused, InputTooLarge, MalformedQuery}
 use Rattle.ut_model.specs.Asking.{ask}
 use Rattle.ut_model.specs.Cases.{in_case}
 use Rattle.ut_model.specs.Limits.{input_limit}
 use Rattle.ut_model.specs.Metadata.{add_object}
 use Rattle.ut_model.specs.Paths.{Asked}
-use Rattle.ut_step.specs.Flat.{is_flat}
 use Rattle.ut_csvq.specs.Lines.{lines_found}
 use Rattle.ut_csvq.specs.Organisation.{asker, new_rows, refusal_of, unless_refused, with_columns, with_rows}
 use Rattle.ut_csvq.specs.declared.outcome.Outcome.{Outcome}
@@ -20,12 +18,8 @@ use Rattle.ut_csvq.specs.declared.outcome.Outcome.TheVariants.{Rows, Refused, Re
 
 -- ---- the query
 
--- of queries those over one object are built
-abbrev pub if_flat : Query → Result Query Refusal
-if_flat q = if is_flat q then Ok q else Err (NotBuilt (chars (codes "paths")))
-
 abbrev pub query_read : Result Query ℕ → Result Query Refusal
-query_read (Ok q) = if_flat q
+query_read (Ok q) = Ok q
 query_read (Err place) = Err (MalformedQuery place)
 
 -- the query that a text is, or why it is refused

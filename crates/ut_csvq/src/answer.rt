@@ -1,8 +1,9 @@
 //! The answer to the query, once the organisation is made.
 
 ghost use Rattle.std.specs.List.{flat_map};
-ghost use Rattle.std.specs.Prelude.{◌≡◌, ◌++◌, IfOk, IsTrue, OnOk, Some, map, pos, true};
-ghost use Rattle.ut_answers.specs.Planned.{plan_rows};
+ghost use Rattle.std.specs.Prelude.{◌≡◌, ◌++◌, [], IfOk, IsTrue, OnOk, Some, map, pos, true};
+ghost use Rattle.ut_answers.specs.Planned.{choice_rows};
+ghost use Rattle.ut_bind.specs.Reaching.{Reaches};
 ghost use Rattle.ut_csvq.specs.Lines.{line};
 ghost use Rattle.ut_csvq.specs.Outcomes.{asked_outcome};
 ghost use Rattle.ut_csvq.specs.inner.Making.{IsMade};
@@ -24,16 +25,16 @@ use crate::organisation::ORG;
 use crate::outcome::Outcome;
 use crate::rows::moment;
 use std::alloc::{AllocError, Global};
-use ut_answers::write_planned;
-use ut_bind::{Plan, bind, plan_laws, query_refusal};
+use ut_answers::write_chosen;
+use ut_bind::{Plan, bind, is_flat, plan_laws, query_refusal};
 use ut_data::data_laws;
-use ut_exec::ExecFail;
+use ut_exec::{ExecFail, NoRelatives};
 use ut_keeper::{Draft, MemoryKeeper};
 use ut_keys::StoreFail;
 use ut_model::{Refusal, object_laws, record_laws};
 use ut_query::Query;
 use ut_rights::Administrator;
-use ut_stands::{Layout, call_laws, layout_named};
+use ut_stands::{Layout, call_laws, layout_named, layouts};
 use ut_value::{Bytes, day_of_moment};
 
 // The line of the names that a query selects.
@@ -53,18 +54,19 @@ fn plan_lines(
     plan: &Plan,
     out: &mut Vec<u8>,
 ) -> Result<(), StoreFail>
-    ensures { OnOk result (InTenants layout.now (λ t u. u.admin ≡ true) (tables_of memory_state draft.old)
-        (λ t u. out.new.items ≡ out.old.items ++ flat_map (shown_line plan.now.shown) (plan_rows plan.now layout.now.object t u))) }
+    ensures { OnOk result (InTenants layout.now (λ q a. a.user.admin ≡ true) (tables_of memory_state draft.old)
+        (λ a. out.new.items ≡ out.old.items ++ flat_map (shown_line plan.now.shown) (choice_rows (λ b r. []) plan.now.choice layout.now.object a))) }
 {
     let form = CsvLines {
         shown: plan.shown.as_slice(),
     };
-    match write_planned(
+    match write_chosen(
         alloc,
         draft,
         layout,
         &Administrator,
-        plan,
+        &NoRelatives,
+        &plan.choice,
         &form,
         usize::MAX,
         out,
@@ -76,8 +78,39 @@ fn plan_lines(
     }
 }
 
-// The answer to a query of the layout's object.
+// The answer to a query of the layout's object, by the layouts of all objects or, where it is over one alone, by none.
 fn answer_there(
+    alloc: Global,
+    draft: &mut Draft<'_, MemoryKeeper>,
+    layouts: &[Layout],
+    layout: &Layout,
+    now: u64,
+    query: &Query,
+) -> Result<Outcome, StoreFail>
+    requires { IsTrue (is_moment (pos now)) }
+    ensures { (a : Asked) → (made : IsMade now (tables_of memory_state draft.old) a) → (o : Numbered)
+        → object_named a.tenant query.now.tail.from ≡ Some o → layout.now ≡ layout_of 1 made.plan a.tenant o
+        → Reaches 1 made.plan a.tenant layouts.now query.now → IfOk result (λ outcome. outcome ≡ asked_outcome query.now a) }
+{
+    data_laws();
+    object_laws();
+    plan_laws();
+    record_laws();
+    if let Some(refusal) = query_refusal(alloc, layouts, layout, query)? {
+        return Ok(Outcome::Refused(refusal));
+    }
+    // The one object has no relationships, so any other query was refused.
+    if !is_flat(query) {
+        return Err(StoreFail::Memory);
+    }
+    let plan = bind(alloc, layouts, layout, day_of_moment(moment(now)), query)?;
+    let mut text = names_line(alloc, layout, query)?;
+    plan_lines(alloc, draft, layout, &plan, &mut text)?;
+    Ok(Outcome::Rows(Bytes::from_vec(text)))
+}
+
+// The answer to a query of the layout's object.
+fn answer_over(
     alloc: Global,
     draft: &mut Draft<'_, MemoryKeeper>,
     layout: &Layout,
@@ -85,24 +118,19 @@ fn answer_there(
     query: &Query,
 ) -> Result<Outcome, StoreFail>
     requires { IsTrue (is_moment (pos now)) }
-    ensures { is_flat query.now ≡ true → (a : Asked) → (made : IsMade now (tables_of memory_state draft.old) a) → (o : Numbered)
+    ensures { (a : Asked) → (made : IsMade now (tables_of memory_state draft.old) a) → (o : Numbered)
         → object_named a.tenant query.now.tail.from ≡ Some o → layout.now ≡ layout_of 1 made.plan a.tenant o
         → IfOk result (λ outcome. outcome ≡ asked_outcome query.now a) }
 {
-    data_laws();
-    object_laws();
-    plan_laws();
-    record_laws();
-    if let Some(refusal) = query_refusal(alloc, &[], layout, query)? {
-        return Ok(Outcome::Refused(refusal));
+    call_laws::<MemoryKeeper>();
+    if is_flat(query) {
+        return answer_there(alloc, draft, &[], layout, now, query);
     }
-    let plan = bind(alloc, layout, day_of_moment(moment(now)), query)?;
-    let mut text = names_line(alloc, layout, query)?;
-    plan_lines(alloc, draft, layout, &plan, &mut text)?;
-    Ok(Outcome::Rows(Bytes::from_vec(text)))
+    let all = layouts(alloc, draft, ORG)?;
+    answer_there(alloc, draft, all.as_slice(), layout, now, query)
 }
 
-/// The answer to a query over one object, once the organisation is made.
+/// The answer to a query, once the organisation is made. The layouts of all objects are read only where the query isn't over one alone.
 ///
 /// # Errors
 ///
@@ -114,13 +142,13 @@ pub(crate) fn answer(
     query: &Query,
 ) -> Result<Outcome, StoreFail>
     requires { IsTrue (is_moment (pos now)) }
-    ensures { is_flat query.now ≡ true → (a : Asked) → IsMade now (tables_of memory_state draft.old) a
+    ensures { (a : Asked) → IsMade now (tables_of memory_state draft.old) a
         → IfOk result (λ outcome. outcome ≡ asked_outcome query.now a) }
 {
     call_laws::<MemoryKeeper>();
     let found = layout_named(alloc, draft, ORG, query.tail.from.as_str())?;
     match found {
-        Some(layout) => answer_there(alloc, draft, &layout, now, query),
+        Some(layout) => answer_over(alloc, draft, &layout, now, query),
         None => {
             let name = query.tail.from.copy(alloc)?;
             Ok(Outcome::Refused(Refusal::InvalidType { name }))

@@ -1,19 +1,21 @@
 //! The lines of records.
 
-ghost use Rattle.std.specs.Prelude.{◌≡◌, IfOk, Some, map};
-ghost use Rattle.ut_answers.specs.inner.Rows.{cell_of, or_null};
+ghost use Rattle.std.specs.Prelude.{◌≡◌, [], IfOk, Some, map};
 ghost use Rattle.ut_bind.specs.Given.{GivesBy, GivesJust};
-ghost use Rattle.ut_csvq.specs.inner.Names.{shown_line};
+ghost use Rattle.ut_csvq.specs.inner.Names.{cell_of, shown_line};
+ghost use Rattle.ut_bind.specs.Plans.{shown_value};
 ghost use Rattle.ut_model.specs.declared.record.Record.{Record};
+ghost use Rattle.ut_rows.specs.Shows.{or_null};
 ghost use Rattle.ut_value.specs.Printing.{print_value};
 
 use crate::line::line_of;
 use std::alloc::{AllocError, Global};
-use ut_answers::is_printable;
-use ut_bind::{HasValues, Shown};
+use ut_bind::{Child, HasValues, Member, Shown, spot_value};
 use ut_exec::{RowForm, SeenRecord};
+use ut_model::Record;
 use ut_parts::CodecFail;
-use ut_value::{Text, Value, print_value};
+use ut_rows::is_printable;
+use ut_value::{Items, Text, Value, print_value};
 
 // A value that can be printed, or nothing.
 fn print_cell(alloc: Global, value: &Value) -> Result<Text, AllocError>
@@ -26,11 +28,21 @@ fn print_cell(alloc: Global, value: &Value) -> Result<Text, AllocError>
     }
 }
 
+// The value that is shown of a record: none of a parent or of children.
+fn value_of<V: HasValues>(alloc: Global, shown: &Shown, item: &V) -> Result<Value, CodecFail>
+    ensures { (r : Record) → V.its_record item.now ≡ Some r → GivesJust (shown_value [] r shown.now).value result }
+{
+    match shown {
+        Shown::Member(Member::Field { spot, .. }) => spot_value(alloc, item, &[], *spot),
+        _ => Ok(Value::Null),
+    }
+}
+
 // What is shown of a record.
 fn cell_of<V: HasValues>(alloc: Global, shown: &Shown, item: &V) -> Result<Text, CodecFail>
     ensures { (r : Record) → V.its_record item.now ≡ Some r → GivesJust (print_value (cell_of r shown.now)) result }
 {
-    let value = item.value_at(alloc, shown.site)?;
+    let value = value_of(alloc, shown, item)?;
     Ok(print_cell(alloc, &value)?)
 }
 
@@ -53,12 +65,14 @@ pub(crate) struct CsvLines<'a> {
 }
 
 impl RowForm for CsvLines<'_> {
-    ghost written = { λ f r. shown_line f.shown.now r };
+    ghost written = { λ f parents children r. shown_line f.shown.now r };
 
     fn write(
         &self,
         alloc: Global,
         item: &SeenRecord<'_>,
+        _parents: &[Option<Record>],
+        _children: &[Items<Child>],
         out: &mut Vec<u8>,
     ) -> Result<(), CodecFail> {
         let cells = cells_of(alloc, self.shown, item)?;

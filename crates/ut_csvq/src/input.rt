@@ -1,6 +1,6 @@
 //! A query over the bytes of an input.
 
-ghost use Rattle.std.specs.Prelude.{◌≡◌, [], ◌∷◌, IfOk, IsTrue, false, map, pos, true};
+ghost use Rattle.std.specs.Prelude.{◌≡◌, [], ◌∷◌, IfOk, IsTrue, false, map, pos};
 ghost use Rattle.csv.specs.Records.{fields_of};
 ghost use Rattle.ut_csvq.specs.Organisation.{with_columns, with_rows};
 ghost use Rattle.ut_csvq.specs.Outcomes.{columns_outcome, input_outcome, rows_outcome, table_outcome};
@@ -9,7 +9,6 @@ ghost use Rattle.ut_keeper.specs.Draft.{tables_of};
 ghost use Rattle.ut_keeper.specs.Memory.{memory_state};
 ghost use Rattle.ut_model.specs.Paths.{Asked};
 ghost use Rattle.ut_stands.specs.Stands.{Stands};
-ghost use Rattle.ut_step.specs.Flat.{is_flat};
 ghost use Rattle.ut_value.specs.Dates.{is_moment};
 
 use crate::answer::answer;
@@ -42,7 +41,7 @@ fn answer_rows(
     rows: &[StringRecord],
 ) -> Result<Outcome, StoreFail>
     requires { IsTrue (is_moment (pos now)) }
-    ensures { is_flat query.now ≡ true → (a : Asked) → IsMade now (tables_of memory_state draft.old) a
+    ensures { (a : Asked) → IsMade now (tables_of memory_state draft.old) a
         → IfOk result (λ outcome. outcome ≡ rows_outcome query.now (with_rows (fields_of heading.now) 1 a (map fields_of rows.now))) }
 {
     let refused = make_rows(alloc, draft, now, heading, rows)?;
@@ -65,7 +64,7 @@ fn answer_columns(
     rows: &[StringRecord],
 ) -> Result<Outcome, StoreFail>
     requires { IsTrue (is_moment (pos now)) }
-    ensures { is_flat query.now ≡ true → (a : Asked) → IsMade now (tables_of memory_state draft.old) a
+    ensures { (a : Asked) → IsMade now (tables_of memory_state draft.old) a
         → IfOk result (λ outcome. outcome
         ≡ columns_outcome query.now (fields_of heading.now) (map fields_of rows.now) (with_columns false a (fields_of heading.now))) }
 {
@@ -86,7 +85,7 @@ fn answer_made(
     rows: &[StringRecord],
 ) -> Result<Outcome, StoreFail>
     requires { IsTrue (is_moment (pos now)) }
-    ensures { is_flat query.now ≡ true → Stands (tables_of memory_state draft.old) []
+    ensures { Stands (tables_of memory_state draft.old) []
         → IfOk result (λ outcome. outcome ≡ table_outcome query.now (pos now) (fields_of heading.now ∷ map fields_of rows.now)) }
 {
     make_org(alloc, draft)?;
@@ -105,8 +104,7 @@ fn answer_records(
     records: &[StringRecord],
 ) -> Result<Outcome, AllocError>
     requires { IsTrue (is_moment (pos now)) }
-    ensures { is_flat query.now ≡ true
-        → IfOk result (λ outcome. outcome ≡ table_outcome query.now (pos now) (map fields_of records.now)) }
+    ensures { IfOk result (λ outcome. outcome ≡ table_outcome query.now (pos now) (map fields_of records.now)) }
 {
     stands_laws();
     let Some((heading, rows)) = records.split_first() else {
@@ -121,7 +119,7 @@ fn answer_records(
     }
 }
 
-/// What a query over one object comes to over the bytes of an input, asked at this moment, in seconds from 1970-01-01T00:00:00Z.
+/// What a query comes to over the bytes of an input, asked at this moment, in seconds from 1970-01-01T00:00:00Z.
 ///
 /// # Errors
 ///
@@ -132,8 +130,7 @@ pub fn answer_input(
     now: u64,
     bytes: &[u8],
 ) -> Result<Outcome, AllocError>
-    requires moment { IsTrue (is_moment (pos now)) }
-    requires flat { is_flat query.now ≡ true }
+    requires { IsTrue (is_moment (pos now)) }
     ensures { IfOk result (λ outcome. outcome ≡ input_outcome query.now (pos now) bytes.now) }
 {
     if bytes.len() > INPUT_LIMIT {

@@ -5,5 +5,6 @@ pub mod Sorting
 pub mod Seeing
 pub mod Keeping
 pub mod Turning
+pub mod Passing
 pub mod Permitting
 pub mod Working

@@ -1,5 +1,5 @@
 -- Rows that are offered one after the other.
-use Rattle.std.proofs.Common.{◌≡◌, ◌∙◌, ℕ, zero, suc, ◌+◌, ◌<◌, ◌≤◌, Bool, true, cond, List, [], ◌∷◌, ◌++◌, Option, Some, None, refl, sym, ap, subst, arith, append_assoc, append-nil, length, drop}
+use Rattle.std.proofs.Common.{◌≡◌, ◌∙◌, ℕ, zero, suc, ◌+◌, ◌<◌, ◌≤◌, Bool, true, false, cond, List, [], ◌∷◌, ◌++◌, Option, Some, None, refl, sym, ap, subst, arith, append_assoc, append-nil, length, drop}
 use Rattle.std.specs.Prelude.{IsErrAnd, Result, Ok, Err}
 use Rattle.std.specs.List.{flat_map}
 use Rattle.std.proofs.lemmas.Grind.{flat_map-append}
@@ -14,7 +14,8 @@ use Rattle.ut_exec.specs.declared.fail.ExecFail.TheVariants.{Store, TooLarge}
 use Rattle.ut_exec.specs.declared.offers.Progress.{Progress}
 use Rattle.ut_exec.specs.declared.window.Window.{Window}
 use Rattle.ut_exec.specs.Windows.{in_window, is_none_left, is_over}
-use Rattle.ut_exec.specs.inner.Offers.{WritesTaken, Offered, Overflows}
+use Rattle.ut_exec.specs.Ranks.{EachOf}
+use Rattle.ut_exec.specs.inner.Offers.{WritesTaken, Offered, Overflows, Written}
 
 pub empty_of : {X : Type 0} (xs : List X) → length xs ≤ 0 → xs ≡ []
 empty_of [] h = refl
@@ -89,6 +90,35 @@ module _ (row : Record → List ℕ) where
     rest = λ rest. sym (admits r rest ∙ ap (λ b. cond b (r ∷ in_window w rest) (in_window w rest)) taken);
   }
 
+  -- a row that the window admitted
+  pub offers_one : (p : Progress) (w : Window) (r : Record) (old new : List ℕ) (b : Bool)
+      → ((x : Record) (rest : List Record) → in_window p.window (x ∷ rest) ≡ cond b (x ∷ in_window w rest) (in_window w rest)) → b ≡ true
+      → (to : Progress) (result : Result (Unit {0}) ExecFail) → Written (row r) (record { window = w; room = p.room; count = p.count }) to old new result
+      → Offered row p to old new (r ∷ []) result
+  offers_one p w r old new b admits taken to (Ok x) h =
+      subst (λ (v : Window). WritesTaken row p (record { window = v; room = to.room; count = to.count }) old new (r ∷ [])) (sym h.0)
+      (goes_one p w to.room to.count r old new b admits taken h.1 h.2 h.3)
+  offers_one p w r old new b admits taken to (Err TooLarge) h = λ rest.
+      let all : in_window p.window (r ∷ rest) ≡ r ∷ in_window w rest = admits r rest ∙ ap (λ b. cond b (r ∷ in_window w rest) (in_window w rest)) taken in
+      let long : length (flat_map row (in_window p.window (r ∷ rest))) ≡ length (row r) + length (flat_map row (in_window w rest)) =
+      ap (λ (rs : List Record). length (flat_map row rs)) all ∙ length-append (row r) (flat_map row (in_window w rest)) in
+      omega (arith, long, h)
+  offers_one p w r old new b admits taken to (Err (Store Damaged)) h = h
+  offers_one p w r old new b admits taken to (Err (Store Keeper)) h = tt
+  offers_one p w r old new b admits taken to (Err (Store Memory)) h = tt
+
+  -- a row that it didn't
+  pub offers_none : (p : Progress) (w : Window) (r : Record) (out : List ℕ) (b : Bool)
+      → ((x : Record) (rest : List Record) → in_window p.window (x ∷ rest) ≡ cond b (x ∷ in_window w rest) (in_window w rest)) → b ≡ false
+      → WritesTaken row p (record { window = w; room = p.room; count = p.count }) out out (r ∷ [])
+  offers_none p w r out b admits left = record {
+    written = [];
+    appended = sym (append-nil out);
+    counted = omega arith;
+    fits = omega arith;
+    rest = λ rest. sym (admits r rest ∙ ap (λ b. cond b (r ∷ in_window w rest) (in_window w rest)) left);
+  }
+
   module _ (a b : Progress) (old mid : List ℕ) (xs : List Record) (g : WritesTaken row a b old mid xs) where
     -- further rows
     pub goes_on : (c : Progress) (new : List ℕ) (ys : List Record) → WritesTaken row b c mid new ys → WritesTaken row a c old new (xs ++ ys)
@@ -132,61 +162,57 @@ module _ (row : Record → List ℕ) where
         (ap (λ (rs : List Record). rs ++ rest) (append_assoc xs ys zs))
         (subst (λ (rs : List Record). a.room < length (flat_map row (in_window a.window rs))) (sym (append_assoc (xs ++ ys) zs rest)) (overflows_on ys h (zs ++ rest)))
     stops c new ys zs (Store Damaged) h = h
-    stops c new ys zs (Store Keeper) h = h
+    stops c new ys zs (Store Keeper) h = tt
     stops c new ys zs (Store Memory) h = tt
 
--- ---- a list, one after the other
+-- ---- rows and their records
 
--- of these some are still left, and of what was made of the others something holds
-pub record Through (A : Type 0) (make : A → Option Record) (Q : List Record → Type 0) (left : List A) (page : List Record) : Type 0 where
-  pub seen : List Record
-  pub coming : List Record
-  pub read : each_from make left ≡ Some coming
-  pub split : seen ++ coming ≡ page
-  pub does : Q seen
+pub each_of_made : {X : Type 0} (make : X → Option Record) (xs : List X) (rs : List Record) → each_from make xs ≡ Some rs → EachOf (λ x r. make x ≡ Some r) xs rs
+each_of_made make [] [] e = tt
+each_of_made make [] (r ∷ rs) e = absurd cc
+each_of_made make (x ∷ xs) [] e = let n = each_cons make x xs [] e in let is : [] ≡ n.first ∷ n.others = n.is in absurd cc
+each_of_made make (x ∷ xs) (r ∷ rs) e =
+    let n = each_cons make x xs (r ∷ rs) e in
+    let first : n.first ≡ r = let is : r ∷ rs ≡ n.first ∷ n.others = n.is in cc in
+    let others : n.others ≡ rs = let is : r ∷ rs ≡ n.first ∷ n.others = n.is in cc in
+    (n.made ∙ ap Some first, each_of_made make xs rs (n.rest ∙ ap Some others))
 
-module _ {A : Type 0} (make : A → Option Record) where
-  pub through_first : (Q : List Record → Type 0) (rows : List A) (page : List Record) → each_from make rows ≡ Some page → Q [] → Through A make Q rows page
-  through_first Q rows page e first = record { seen = []; coming = page; read = e; split = refl; does = first }
+module _ {X : Type 0} (P : X → Record → Type 0) where
+  -- the record of the first of these, and those of the others
+  pub record Split (x : X) (xs : List X) (rs : List Record) : Type 0 where
+    pub first : Record
+    pub others : List Record
+    pub is : rs ≡ first ∷ others
+    pub made : P x first
+    pub rest : EachOf P xs others
 
-  pub through_next : (Q R : List Record → Type 0) (x : A) (more : List A) (page : List Record) → Through A make Q (x ∷ more) page → ((seen : List Record) (r : Record) → make x ≡ Some r → Q seen → R (seen ++ r ∷ [])) → Through A make R more page
+  pub each_split : (x : X) (xs : List X) (rs : List Record) → EachOf P (x ∷ xs) rs → Split x xs rs
+  each_split x xs [] e = absurd e
+  each_split x xs (r ∷ rs) e = record { first = r; others = rs; is = refl; made = e.0; rest = e.1 }
+
+  pub each_nothing : (rs : List Record) → EachOf P [] rs → rs ≡ []
+  each_nothing [] e = refl
+  each_nothing (r ∷ rs) e = absurd e
+
+  -- of these some are still left, and of the records of the others something holds
+  pub record Through (Q : List Record → Type 0) (left : List X) (page : List Record) : Type 0 where
+    pub seen : List Record
+    pub coming : List Record
+    pub read : EachOf P left coming
+    pub split : seen ++ coming ≡ page
+    pub does : Q seen
+
+  pub through_next : (Q R : List Record → Type 0) (x : X) (more : List X) (page : List Record) → Through Q (x ∷ more) page
+      → ((seen rest : List Record) (r : Record) → seen ++ r ∷ rest ≡ page → P x r → Q seen → R (seen ++ r ∷ [])) → Through R more page
   through_next Q R x more page t step =
-      let n = each_cons make x more t.coming t.read in
+      let n = each_split x more t.coming t.read in
       record {
         seen = t.seen ++ n.first ∷ [];
         coming = n.others;
         read = n.rest;
         split = append_assoc t.seen (n.first ∷ []) n.others ∙ ap (λ (rs : List Record). t.seen ++ rs) (sym n.is) ∙ t.split;
-        does = step t.seen n.first n.made t.does;
+        does = step t.seen n.others n.first (ap (λ (rs : List Record). t.seen ++ rs) (sym n.is) ∙ t.split) n.made t.does;
       }
-
-  pub through_all : (Q : List Record → Type 0) (page : List Record) → Through A make Q [] page → Q page
-  through_all Q page t =
-      let is : t.seen ≡ page = sym (append-nil t.seen) ∙ ap (λ (rs : List Record). t.seen ++ rs) (sym (each_none make t.coming t.read)) ∙ t.split in
-      subst Q is t.does
-
-  -- ---- of which those that are picked are offered
-
-  module _ (pick : List Record → List Record) (splits : (xs ys : List Record) → pick (xs ++ ys) ≡ pick xs ++ pick ys) (row : Record → List ℕ) where
-    abbrev pub Offers : (a b : Progress) → (old new : List ℕ) → List Record → Type 0
-    Offers a b old new seen = WritesTaken row a b old new (pick seen)
-
-    pub offers_more : (a b c : Progress) (old mid new : List ℕ) (xs ys : List Record) → Offers a b old mid xs → WritesTaken row b c mid new (pick ys) → Offers a c old new (xs ++ ys)
-    offers_more a b c old mid new xs ys g h = subst (λ (rs : List Record). WritesTaken row a c old new rs) (sym (splits xs ys)) (goes_on row a b old mid (pick xs) g c new (pick ys) h)
-
-    module _ (a b : Progress) (old mid : List ℕ) (x : A) (more : List A) (page : List Record) (t : Through A make (Offers a b old mid) (x ∷ more) page) where
-      pub offered_over : is_over b.window ≡ true → WritesTaken row a b old mid (pick page)
-      offered_over over =
-          subst (λ (rs : List Record). WritesTaken row a b old mid rs) (sym (splits t.seen t.coming) ∙ ap pick t.split) (goes_over row a b old mid (pick t.seen) t.does (pick t.coming) over)
-
-      pub offered_stops : (c : Progress) (new : List ℕ) (e : ExecFail) → ((r : Record) → make x ≡ Some r → Offered row b c mid new (pick (r ∷ [])) (Err e)) → Offered row a c old new (pick page) (Err e)
-      offered_stops c new e h =
-          let n = each_cons make x more t.coming t.read in
-          let all : pick page ≡ pick t.seen ++ (pick (n.first ∷ []) ++ pick n.others) =
-          ap pick (sym t.split ∙ ap (λ (rs : List Record). t.seen ++ rs) n.is) ∙ splits t.seen (n.first ∷ n.others)
-          ∙ ap (λ (rs : List Record). pick t.seen ++ rs) (splits (n.first ∷ []) n.others) in
-          subst (λ (rs : List Record). Offered row a c old new rs (Err e)) (sym all)
-          (stops row a b old mid (pick t.seen) t.does c new (pick (n.first ∷ [])) (pick n.others) e (h n.first n.made))
 
 -- ---- all rows
 

@@ -1,16 +1,15 @@
--- Of rows those whose records may be read.
-use Rattle.std.proofs.Common.{◌≡◌, ◌∙◌, ℕ, suc, ◌+◌, ◌*◌, ◌≤◌, Bool, true, false, cond, List, [], ◌∷◌, ◌++◌, Option, Some, refl, sym, ap, subst, inl, inr, arith, append-nil, length, filter}
-use Rattle.std.specs.Prelude.{Result, Ok, Err, Vec}
-use Rattle.std.proofs.Math.Nat.{add-mul, mul-le-mul_left, mul-suc}
+-- Of rows those whose records may be read and are kept.
+use Rattle.std.proofs.Common.{◌≡◌, ◌∙◌, ℕ, ◌+◌, ◌*◌, ◌≤◌, Bool, true, false, cond, List, [], ◌∷◌, ◌++◌, Option, Some, None, refl, sym, ap, subst, inl, inr, arith, length, filter}
+use Rattle.std.specs.Prelude.{OnOk, Result, Ok, Err, Vec}
+use Rattle.std.proofs.Math.Nat.{add-mul}
 use Rattle.std.proofs.lemmas.List.Elements.{filter-append}
 use Rattle.std.proofs.lemmas.List.Kept.{IsStrictlySortedBy-filter}
-use Rattle.ut_keeper.specs.Draft.{DraftReads, DraftTells, Held, removals_of, tables_of}
+use Rattle.ut_keeper.specs.Draft.{DraftTells, Held, removals_of, tables_of}
 use Rattle.ut_keeper.specs.State.{KeeperState}
 use Rattle.ut_keeper.specs.Tables.{Tables}
 use Rattle.ut_keeper.specs.declared.keeper.KeptRow.{KeptRow}
 use Rattle.ut_keys.specs.declared.fail.StoreFail.{StoreFail}
 use Rattle.ut_keys.specs.declared.fail.StoreFail.TheVariants.{Damaged, Keeper, Memory}
-use Rattle.ut_data.specs.Decoding.{each_from}
 use Rattle.ut_data.proofs.Rising.{has_filter}
 use Rattle.ut_model.specs.declared.record.Record.{Record}
 use Rattle.ut_model.specs.Jobs.{is_past}
@@ -18,39 +17,23 @@ use Rattle.ut_model.specs.Levels.{can_read, readable}
 use Rattle.ut_model.specs.Membership.{Has}
 use Rattle.ut_model.specs.Objects.{records_of}
 use Rattle.ut_model.specs.Ordered.{by_id}
+use Rattle.ut_model.specs.Paths.{Asked}
 use Rattle.ut_model.specs.Tenant.{Tenant, User}
-use Rattle.ut_parts.specs.Plain.{◌>>=◌}
-use Rattle.ut_rights.specs.Rights.{Whose, kept_record}
-use Rattle.ut_stands.specs.Calls.{Calls, Ending, done, ended, ended_by, fell}
+use Rattle.ut_rights.specs.Rights.{TellsReadable, Whose, kept_record}
+use Rattle.ut_stands.specs.Calls.{Calls, done, ended, ended_by, fell}
 use Rattle.ut_stands.specs.Local.{StandsIn}
 use Rattle.ut_stands.specs.declared.layout.Layout.{Layout}
 use Rattle.ut_exec.specs.declared.pages.Pages.{Pages}
-use Rattle.ut_exec.specs.Written.{InTenants}
-use Rattle.ut_exec.specs.inner.Permitted.{FindsPermitted, KeepsReadable, KeepsRow, OfPage, TurnsPage}
+use Rattle.ut_exec.specs.Ranks.{GathersRows}
+use Rattle.ut_exec.specs.Relatives.{Asking, FindsOfSeen}
+use Rattle.ut_exec.specs.inner.Judging.{IsOf, Judging, Spells, judged, judging, picked}
+use Rattle.ut_exec.specs.inner.Permitted.{AdmitsRow, AdmitsRows, FindsPicked, Gathered, GathersPicked, PutsBehind, TurnsPage}
 use Rattle.ut_exec.specs.inner.Reading.{ReadsPage, beyond}
-use Rattle.ut_exec.proofs.Offering.{Through, each_cons, each_none, some_inner, through_all, through_first, through_next}
-use Rattle.ut_exec.proofs.Paging.{Ascends, middle_has}
+use Rattle.ut_exec.proofs.Offering.{each_of_made}
+use Rattle.ut_exec.proofs.Paging.{Ascends}
+use Rattle.ut_exec.proofs.Passing.{CallsThen, Passing, ReadsMost, TellsBoth, shows_more, stops_here}
+use Rattle.ut_exec.proofs.Sorting.{gathers_more, gathers_nothing, gathers_row}
 use Rattle.ut_exec.proofs.Turning.{each_length}
-
--- ---- laws of the layers below
-
-module _ {K : Type 0} (state : K → KeeperState) where
-  abbrev pub TellsBoth : Type 0
-  TellsBoth = (shown later : ℕ) (a b c : Held K) → DraftReads state shown a b → DraftReads state later b c → DraftTells state a c
-      → DraftTells state a b × DraftTells state b c × (tables_of state b ≡ tables_of state a)
-
-  abbrev pub ReadsMost : Type 0
-  ReadsMost = (shown most : ℕ) (a b : Held K) → (DraftTells state a b → shown ≤ most) → DraftReads state shown a b → DraftReads state most a b
-
-  abbrev pub CallsThen : Type 0
-  CallsThen = (shown later : ℕ) (e : Ending) (a b c : Held K) → Calls state shown done a b → Calls state later e b c → Calls state (shown + later) e a c
-
-  abbrev pub Weaker : Type 0
-  Weaker = (shown : ℕ) (e : Ending) (a b : Held K) → (e ≡ fell → ⊥) → Calls state shown done a b → Calls state shown e a b
-
-  -- a call may be said to show more
-  pub shows_more : ReadsMost → (shown most : ℕ) (e : Ending) (a b : Held K) → (DraftTells state a b → shown ≤ most) → Calls state shown e a b → Calls state most e a b
-  shows_more most_of shown most e a b few calls = record { reads = most_of shown most a b few calls.reads; stays = calls.stays; cause = calls.cause; quiet = calls.quiet }
 
 -- ---- records that may be read
 
@@ -61,107 +44,126 @@ readable_is t u n = refl
 pub readable_rises : (t : Tenant) (u : User) (n : ℕ) → Ascends (records_of t n) → Ascends (readable t u n)
 readable_rises t u n up = subst Ascends (sym (readable_is t u n)) (IsStrictlySortedBy-filter by_id (can_read t u) (records_of t n) up)
 
--- ---- of which something is made
+-- ---- records that are picked
 
-each_append : {X Y : Type 0} (make : X → Option Y) (xs zs : List X) (ys ws : List Y) → each_from make xs ≡ Some ys → each_from make zs ≡ Some ws → each_from make (xs ++ zs) ≡ Some (ys ++ ws)
-each_append {Y = Y} make [] zs ys ws e f = f ∙ ap (λ (vs : List Y). Some (vs ++ ws)) (sym (each_none make ys e))
-each_append {Y = Y} make (x ∷ xs) zs ys ws e f =
-    let n = each_cons make x xs ys e in
-    ap (λ (o : Option Y). o >>= λ y. each_from make (xs ++ zs) >>= λ vs. Some (y ∷ vs)) n.made
-    ∙ ap (λ (o : Option (List Y)). o >>= λ vs. Some (n.first ∷ vs)) (each_append make xs zs n.others ws n.rest f)
-    ∙ ap (λ (vs : List Y). Some (vs ++ ws)) (sym n.is)
+module _ {R : Type 0} (j : Judging R) (w : Asked) where
+  pub picked_both : (xs ys : List Record) → picked j w (xs ++ ys) ≡ picked j w xs ++ picked j w ys
+  picked_both xs ys =
+      ap (filter (j.keep w)) (filter-append (can_read w.tenant w.user) xs ys)
+      ∙ filter-append (j.keep w) (filter (can_read w.tenant w.user) xs) (filter (can_read w.tenant w.user) ys)
 
-module _ (make : KeptRow → Option Record) (can : Record → Bool) where
-  -- one row more, whose record may be read or not
-  kept_one : (old new : List KeptRow) (seen : List Record) (row : KeptRow) (r : Record) → each_from make old ≡ Some (filter can seen) → make row ≡ Some r
-      → new ≡ cond (can r) (old ++ row ∷ []) old → each_from make new ≡ Some (filter can (seen ++ r ∷ []))
-  kept_one old new seen row r e made is = by (can r) refl is
-    where
-      both : (b : Bool) → can r ≡ b → filter can seen ++ cond b (r ∷ []) [] ≡ filter can (seen ++ r ∷ [])
-      both b same = ap (λ (c : Bool). filter can seen ++ cond c (r ∷ []) []) (sym same) ∙ sym (filter-append can seen (r ∷ []))
+  pub picked_has : (rs : List Record) (r : Record) → Has (picked j w rs) r → Has rs r
+  picked_has rs r h = (has_filter (can_read w.tenant w.user) rs r (has_filter (j.keep w) (filter (can_read w.tenant w.user) rs) r h).0).0
 
-      one : each_from make (row ∷ []) ≡ Some (r ∷ [])
-      one = ap (λ (o : Option Record). o >>= λ y. Some (y ∷ [])) made
+  picked_one : (r : Record) (b c : Bool) → can_read w.tenant w.user r ≡ b → j.keep w r ≡ c → picked j w (r ∷ []) ≡ cond b (cond c (r ∷ []) []) []
+  picked_one r true c can keep =
+      ap (λ (x : Bool). filter (j.keep w) (cond x (r ∷ []) [])) can ∙ ap (λ (x : Bool). cond x (r ∷ []) []) keep
+  picked_one r false c can keep = ap (λ (x : Bool). filter (j.keep w) (cond x (r ∷ []) [])) can
 
-      by : (b : Bool) → can r ≡ b → new ≡ cond b (old ++ row ∷ []) old → each_from make new ≡ Some (filter can (seen ++ r ∷ []))
-      by true same is = ap (each_from make) is ∙ each_append make old (row ∷ []) (filter can seen) (r ∷ []) e one ∙ ap Some (both true same)
-      by false same is = ap (each_from make) is ∙ e ∙ ap Some (sym (append-nil (filter can seen)) ∙ both false same)
+-- ---- one row
+
+module _ {R : Type 0} (l : Layout) (sees : Whose) (whose : Asking) (parents : Asked → Record → List (Option Record)) (keep : List (Option Record) → Record → Bool) (ranked : List (Option Record) → Record → R) where
+  abbrev pub j : Judging R
+  j = judging sees (whose l.org) parents keep ranked
+
+  module _ (m : Tables) (row : KeptRow) where
+    -- who asks may not read it
+    pub unreadable : (old : Gathered R) (b : Bool) → TellsReadable l sees row m (Ok b) → b ≡ false → AdmitsRow l j row old old m (Ok tt)
+    unreadable old b tells not = λ q w s h its r has made.
+        let can = sym (tells q w.tenant w.user r s h its.0 has made) ∙ not in
+        subst (GathersRows (IsOf l (j.parents w)) (j.rank w) old old) (sym (picked_one j w r false (j.keep w r) can refl)) (gathers_nothing (IsOf l (j.parents w)) (j.rank w) old)
+
+    pub sight_failed : (old new : Gathered R) (e : StoreFail) → TellsReadable l sees row m (Err e) → AdmitsRow l j row old new m (Err e)
+    sight_failed old new Damaged tells = λ q w s h its r has made. tells q w.tenant w.user r s h its.0 has made
+    sight_failed old new Keeper tells = tt
+    sight_failed old new Memory tells = tt
+
+    -- who asks may read it
+    module _ (tells : TellsReadable l sees row m (Ok true)) (n : Tables) (same : n ≡ m) where
+      abbrev Finds : Result (Option (R × (List ℕ × List (Option Record)))) StoreFail → Type 0
+      Finds = FindsOfSeen l whose (kept_record l row) (judged keep ranked parents) n
+
+      pub unkept : (old : Gathered R) → Finds (Ok None) → AdmitsRow l j row old old m (Ok tt)
+      unkept old finds = λ q w s h its r has made.
+          let here = subst (λ (x : Tables). StandsIn l.org q x (Some w.tenant)) (sym same) s in
+          let can = sym (tells q w.tenant w.user r s h its.0 has made) in
+          by w r can (j.keep w r) refl (finds q w r here h its.1 has made)
+        where
+          by : (w : Asked) (r : Record) → can_read w.tenant w.user r ≡ true → (b : Bool) → keep (parents w r) r ≡ b → None ≡ judged keep ranked parents w r
+              → GathersRows (IsOf l (j.parents w)) (j.rank w) old old (picked j w (r ∷ []))
+          by w r can true is e = absurd (apart (e ∙ ap (λ (x : Bool). cond x (Some (ranked (parents w r) r, (r.id, parents w r))) None) is))
+            where
+              apart : {Z : Type 0} {z : Z} → None ≡ Some z → ⊥
+              apart e = cc
+          by w r can false is e = subst (GathersRows (IsOf l (j.parents w)) (j.rank w) old old) (sym (picked_one j w r true false can is)) (gathers_nothing (IsOf l (j.parents w)) (j.rank w) old)
+
+      admitted : (old new : Gathered R) (k : R) (i : List ℕ) (far : List (Option Record)) → Finds (Ok (Some (k, (i, far))))
+          → new ≡ old ++ record { rank = k; id = i; kept = record { kept = row; parents = far } } ∷ [] → AdmitsRow l j row old new m (Ok tt)
+      admitted old new k i far finds pushed = λ q w s h its r has made.
+          let here = subst (λ (x : Tables). StandsIn l.org q x (Some w.tenant)) (sym same) s in
+          let can = sym (tells q w.tenant w.user r s h its.0 has made) in
+          by w r made can (j.keep w r) refl (finds q w r here h its.1 has made)
+        where
+          by : (w : Asked) (r : Record) → kept_record l row ≡ Some r → can_read w.tenant w.user r ≡ true → (b : Bool) → keep (parents w r) r ≡ b → Some (k, (i, far)) ≡ judged keep ranked parents w r
+              → GathersRows (IsOf l (j.parents w)) (j.rank w) old new (picked j w (r ∷ []))
+          by w r made can true is e =
+              let all : ◌≡◌ {A = Option (R × (List ℕ × List (Option Record)))} (Some (k, (i, far))) (Some (ranked (parents w r) r, (r.id, parents w r))) =
+              e ∙ ap (λ (x : Bool). cond x (Some (ranked (parents w r) r, (r.id, parents w r))) None) is in
+              let both : ◌≡◌ {A = R × (List ℕ × List (Option Record))} (k, (i, far)) (ranked (parents w r) r, (r.id, parents w r)) = cc in
+              subst (GathersRows (IsOf l (j.parents w)) (j.rank w) old new) (sym (picked_one j w r true true can is))
+              (gathers_row (IsOf l (j.parents w)) (j.rank w) old new (record { rank = k; id = i; kept = record { kept = row; parents = far } }) r
+              (record { spelled = made; beside = ap (λ (p : R × (List ℕ × List (Option Record))). p.1.1) both })
+              (ap (λ (p : R × (List ℕ × List (Option Record))). p.0) both) (ap (λ (p : R × (List ℕ × List (Option Record))). p.1.0) both) pushed)
+          by w r made can false is e = absurd (apart (sym (ap (λ (x : Bool). cond x (Some (ranked (parents w r) r, (r.id, parents w r))) None) is) ∙ sym e))
+            where
+              apart : {Z : Type 0} {z : Z} → None ≡ Some z → ⊥
+              apart e = cc
+
+      pub admitted_so : (old new : Gathered R) (found : R × (List ℕ × List (Option Record))) → Finds (Ok (Some found)) → (result : Result (Unit {0}) StoreFail)
+          → PutsBehind row found old new result → AdmitsRow l j row old new m result
+      admitted_so old new found finds (Ok x) pushed = admitted old new found.0 found.1.0 found.1.1 finds pushed
+      admitted_so old new found finds (Err Damaged) pushed = absurd pushed
+      admitted_so old new found finds (Err Keeper) pushed = tt
+      admitted_so old new found finds (Err Memory) pushed = tt
+
+      pub unjudged : (old new : Gathered R) (e : StoreFail) → Finds (Err e) → AdmitsRow l j row old new m (Err e)
+      unjudged old new Damaged finds = λ q w s h its r has made.
+          finds q w r (subst (λ (x : Tables). StandsIn l.org q x (Some w.tenant)) (sym same) s) h its.1 has made
+      unjudged old new Keeper finds = tt
+      unjudged old new Memory finds = tt
+
+-- what is out of memory alone doesn't end as the keeper's failure
+pub put_not_fallen : {R : Type 0} (row : KeptRow) (found : R × (List ℕ × List (Option Record))) (old new : Gathered R) (result : Result (Unit {0}) StoreFail)
+    → PutsBehind row found old new result → ended result ≡ fell → ⊥
+put_not_fallen row found old new (Ok x) h e = cc
+put_not_fallen row found old new (Err Damaged) h e = h
+put_not_fallen row found old new (Err Keeper) h e = h
+put_not_fallen row found old new (Err Memory) h e = cc
 
 -- ---- rows, one after the other
 
-module _ {K : Type 0} (state : K → KeeperState) (l : Layout) (sees : Whose) (each : ℕ) where
-  -- of the records of some of these rows those were kept that may be read, and these are left
-  abbrev pub Kept : (rows left kept : List KeptRow) → Tenant → User → Type 0
-  Kept rows left kept t u =
-      OfPage l rows (records_of t l.object) (λ page. Through KeptRow (kept_record l) (λ seen. each_from (kept_record l) kept ≡ Some (filter (can_read t u) seen)) left page)
+module _ {R K : Type 0} (state : K → KeeperState) (l : Layout) (j : Judging R) (each : ℕ) where
+  -- of some of these rows those were put behind the others that are picked, and these are left
+  pub record Admitting (rows left : List KeptRow) (old kept : Gathered R) (a b : Held K) : Type 0 where
+    pub way : Passing state l j.who (λ w. Spells l) each rows left (GathersPicked l j old kept) a b
+    pub sized : length kept + length left ≤ length old + length rows
 
-  -- of so many rows those were kept whose records may be read, and these are left
-  pub record Sifting (rows left kept : List KeptRow) (a b : Held K) : Type 0 where
-    pub count : ℕ
-    pub rest : count + length left ≡ length rows
-    pub calls : Calls state (each * count) done a b
-    pub keeps : DraftTells state a b → InTenants l sees (tables_of state a) (Kept rows left kept)
+  -- one row more
+  pub admits_more : (old kept new : Gathered R) (w : Asked) (r : Record) → GathersPicked l j kept new w (r ∷ []) → (seen : List Record) → GathersPicked l j old kept w seen → GathersPicked l j old new w (seen ++ r ∷ [])
+  admits_more old kept new w r one seen goes =
+      subst (GathersRows (IsOf l (j.parents w)) (j.rank w) old new) (sym (picked_both j w seen (r ∷ [])))
+      (gathers_more (IsOf l (j.parents w)) (j.rank w) old kept new (picked j w seen) (picked j w (r ∷ [])) goes one)
 
-  pub sifts_first : (rows : List KeptRow) (a : Held K) → Calls state 0 done a a → Sifting rows rows [] a a
-  sifts_first rows a none = record {
-    count = 0;
-    rest = omega arith;
-    calls = subst (λ (n : ℕ). Calls state n done a a) (omega arith) none;
-    keeps = λ told q t u s h its page e has. through_first (kept_record l) (λ seen. each_from (kept_record l) [] ≡ Some (filter (can_read t u) seen)) rows page e refl;
-  }
-
-  -- a row that was judged
-  module _ (tells : TellsBoth state) (then : CallsThen state) (rows more kept new : List KeptRow) (x : KeptRow) (a b c : Held K) (g : Sifting rows (x ∷ more) kept a b) where
-    pub sifts_next : Calls state each done b c → (DraftTells state b c → KeepsRow l sees x kept new (tables_of state b) (Ok tt)) → Sifting rows more new a c
-    sifts_next calls row = record {
-      count = suc g.count;
-      rest = omega (arith, g.rest);
-      calls = subst (λ (n : ℕ). Calls state n done a c) (sym (mul-suc each g.count)) (then _ _ done a b c g.calls calls);
-      keeps = λ told q t u s h its page e has.
-          let tell = tells _ _ a b c g.calls.reads calls.reads told in
-          let way = g.keeps tell.0 q t u s h its page e has in
-          let n = each_cons (kept_record l) x more way.coming way.read in
-          let inside : Has page n.first = subst (λ (rs : List Record). Has rs n.first) (ap (λ (rs : List Record). way.seen ++ rs) (sym n.is) ∙ way.split) (middle_has way.seen n.first n.others) in
-          let here = subst (λ (m : Tables). StandsIn l.org q m (Some t)) (sym tell.2) s in
-          through_next (kept_record l) (λ seen. each_from (kept_record l) kept ≡ Some (filter (can_read t u) seen)) (λ seen. each_from (kept_record l) new ≡ Some (filter (can_read t u) seen)) x more page way
-          (λ seen r made does.
-          let same : r ≡ n.first = some_inner r n.first (sym made ∙ n.made) in
-          kept_one (kept_record l) (can_read t u) kept new seen x r does made (row tell.1 q t u r here h its (has r (subst (Has page) (sym same) inside)) made));
-    }
-
-    module _ (most_of : ReadsMost state) (e : StoreFail) (calls : Calls state each (ended_by e) b c) where
-      pub sifting_failed_calls : Calls state (each * length rows) (ended_by e) a c
-      sifting_failed_calls =
-          let some : suc g.count ≤ length rows = omega (arith, g.rest) in
-          let few : each * suc g.count ≤ each * length rows = mul-le-mul_left each some in
-          shows_more state most_of (each * suc g.count) (each * length rows) (ended_by e) a c (λ told. few)
-          (subst (λ (n : ℕ). Calls state n (ended_by e) a c) (sym (mul-suc each g.count)) (then _ _ (ended_by e) a b c g.calls calls))
-
-      pub sifting_failed : {A : Type 0} (r : Result (Vec KeptRow A) StoreFail) → r ≡ Err e → (DraftTells state b c → KeepsRow l sees x kept new (tables_of state b) (Err e)) → DraftTells state a c
-          → KeepsReadable l sees rows (tables_of state a) r
-      sifting_failed {A = A} r is row told =
-          let tell = tells _ _ a b c g.calls.reads calls.reads told in
-          subst (KeepsReadable l sees rows (tables_of state a)) (sym is) (by tell.0 tell.2 e (row tell.1))
-        where
-          by : DraftTells state a b → tables_of state b ≡ tables_of state a → (f : StoreFail) → KeepsRow l sees x kept new (tables_of state b) (Err f)
-              → KeepsReadable {A = A} l sees rows (tables_of state a) (Err f)
-          by first same Damaged judged = λ q t u s h its page e has.
-              let way = g.keeps first q t u s h its page e has in
-              let n = each_cons (kept_record l) x more way.coming way.read in
-              let inside : Has page n.first = subst (λ (rs : List Record). Has rs n.first) (ap (λ (rs : List Record). way.seen ++ rs) (sym n.is) ∙ way.split) (middle_has way.seen n.first n.others) in
-              let here = subst (λ (m : Tables). StandsIn l.org q m (Some t)) (sym same) s in
-              judged q t u n.first here h its (has n.first inside) n.made
-          by first same Keeper judged = tt
-          by first same Memory judged = tt
-
-  module _ (rows kept : List KeptRow) (a b : Held K) (g : Sifting rows [] kept a b) where
-    pub sifted_calls : Calls state (each * length rows) done a b
-    sifted_calls = subst (λ (n : ℕ). Calls state (each * n) done a b) (omega (arith, g.rest)) g.calls
-
-    pub sifted : {A : Type 0} (v : Vec KeptRow A) → v.items ≡ kept → DraftTells state a b → KeepsReadable l sees rows (tables_of state a) (Ok v)
-    sifted v is told = λ q t u s h its page e has.
-        ap (each_from (kept_record l)) is
-        ∙ through_all (kept_record l) (λ seen. each_from (kept_record l) kept ≡ Some (filter (can_read t u) seen)) page (g.keeps told q t u s h its page e has)
+  -- it stopped at a row
+  module _ (tells : TellsBoth state) (then : CallsThen state) (rows more : List KeptRow) (old kept new : Gathered R) (x : KeptRow) (a b c : Held K)
+      (g : Passing state l j.who (λ w. Spells l) each rows (x ∷ more) (GathersPicked l j old kept) a b) where
+    pub admits_failed : (e : StoreFail) → Calls state each (ended_by e) b c → (DraftTells state b c → AdmitsRow l j x kept new (tables_of state b) (Err e)) → DraftTells state a c
+        → AdmitsRows l j rows old new (tables_of state a) (Err e)
+    admits_failed Damaged calls row told =
+        stops_here state l j.who (λ w. Spells l) each tells then rows more (GathersPicked l j old kept) x a b c g (ended_by Damaged) calls (λ w page. ⊥) told
+        (λ tell q w s h its r has made seen rest goes. row tell q w s h its r has made)
+    admits_failed Keeper calls row told = tt
+    admits_failed Memory calls row told = tt
 
 -- ---- a page
 
@@ -171,56 +173,60 @@ has_front (x ∷ xs) ys r (inl same) = inl same
 has_front (x ∷ xs) ys r (inr later) = inr (has_front xs ys r later)
 
 -- a page of the records after an id has none but them
-page_has : (rs page : List Record) (from to : Option (List ℕ)) → page ++ beyond to rs ≡ beyond from rs → (r : Record) → Has page r → Has rs r
+pub page_has : (rs page : List Record) (from to : Option (List ℕ)) → page ++ beyond to rs ≡ beyond from rs → (r : Record) → Has page r → Has rs r
 page_has rs page from to on r h =
     (has_filter (λ (x : Record). is_past from x.id) rs r (subst (λ (xs : List Record). Has xs r) on (has_front page (beyond to rs) r h))).0
 
-module _ {K : Type 0} (state : K → KeeperState) (l : Layout) (sees : Whose) (each : ℕ) (from to : Pages) where
+module _ {R K : Type 0} (l : Layout) (j : Judging R) (state : K → KeeperState) (each : ℕ) (from to : Pages) (old new : Gathered R) where
   module _ (tells : TellsBoth state) (then : CallsThen state) {A : Type 0} (v : Vec KeptRow A) (a b c : Held K)
       (calls : Calls state (length v.items + removals_of state 7 a) done a b) (page : DraftTells state a b → ReadsPage l from to (tables_of state a) (Ok v)) where
-    pub turns_page : (r : Result (Vec KeptRow A) StoreFail) → Calls state (each * length v.items) (ended r) b c → (DraftTells state b c → KeepsReadable l sees v.items (tables_of state b) r)
-        → TurnsPage state l sees each from to a c r
-    turns_page r judged keeps =
+    pub turns_page : (r : Result (Unit {0}) StoreFail) → Calls state (each * length v.items) (ended r) b c → OnOk r (length new ≤ length old + length v.items)
+        → (DraftTells state b c → AdmitsRows l j v.items old new (tables_of state b) r) → TurnsPage l j state each from to old new a c r
+    turns_page r judged sized keeps =
         let many : (length v.items + removals_of state 7 a) + each * length v.items ≡ (1 + each) * length v.items + removals_of state 7 a =
         omega (arith, add-mul 1 each (length v.items)) in
         record {
           count = length v.items;
           few = λ told. (page (tells _ _ a b c calls.reads judged.reads told).0).0;
+          sized = sized;
           calls = subst (λ (n : ℕ). Calls state n (ended r) a c) many (then _ _ (ended r) a b c calls judged);
           page = λ told.
               let tell = tells _ _ a b c calls.reads judged.reads told in
               by tell.0 tell.2 r (keeps tell.1);
         }
       where
-        by : DraftTells state a b → tables_of state b ≡ tables_of state a → (f : Result (Vec KeptRow A) StoreFail) → KeepsReadable l sees v.items (tables_of state b) f
-            → FindsPermitted l sees from to (length v.items) (tables_of state a) f
-        by told same (Ok kept) k = λ q t u s h its.
-            let p = (page told).1 q t s h in
+        by : DraftTells state a b → tables_of state b ≡ tables_of state a → (f : Result (Unit {0}) StoreFail) → AdmitsRows l j v.items old new (tables_of state b) f
+            → FindsPicked l j from to (length v.items) old new (tables_of state a) f
+        by told same (Ok x) k = λ q w s h its.
+            let p = (page told).1 q w.tenant s h in
             record {
               page = p.page;
               many = each_length (kept_record l) v.items p.page p.read;
-              read = k q t u (subst (λ (m : Tables). StandsIn l.org q m (Some t)) (sym same) s) h its p.page p.read (page_has (records_of t l.object) p.page from.after to.after p.on);
+              gathers = k q w (subst (λ (m : Tables). StandsIn l.org q m (Some w.tenant)) (sym same) s) h its p.page (each_of_made (kept_record l) v.items p.page p.read)
+                  (page_has (records_of w.tenant l.object) p.page from.after to.after p.on);
               on = p.on;
               enough = p.enough;
             }
-        by told same (Err Damaged) k = λ q t u s h its.
-            let p = (page told).1 q t s h in
-            k q t u (subst (λ (m : Tables). StandsIn l.org q m (Some t)) (sym same) s) h its p.page p.read (page_has (records_of t l.object) p.page from.after to.after p.on)
+        by told same (Err Damaged) k = λ q w s h its.
+            let p = (page told).1 q w.tenant s h in
+            k q w (subst (λ (m : Tables). StandsIn l.org q m (Some w.tenant)) (sym same) s) h its p.page (each_of_made (kept_record l) v.items p.page p.read)
+            (page_has (records_of w.tenant l.object) p.page from.after to.after p.on)
         by told same (Err Keeper) k = tt
         by told same (Err Memory) k = tt
 
   -- a page that wasn't read
-  pub page_failed : {A : Type 0} → ReadsMost state → (a b : Held K) (e : StoreFail) → Calls state (250 + removals_of state 7 a) (ended_by e) a b
-      → (DraftTells state a b → ReadsPage {A = A} l from to (tables_of state a) (Err e)) → TurnsPage state {A = A} l sees each from to a b (Err e)
-  page_failed {A = A} most_of a b e calls page =
+  pub page_failed : {A : Type 0} → ReadsMost state → (a b : Held K) (rows : Result (Vec KeptRow A) StoreFail) (e : StoreFail) → rows ≡ Err e → Calls state (250 + removals_of state 7 a) (ended_by e) a b
+      → (DraftTells state a b → ReadsPage l from to (tables_of state a) rows) → TurnsPage l j state each from to old new a b (Err e)
+  page_failed {A = A} most_of a b rows e is calls page =
       record {
         count = 250;
         few = λ told. omega arith;
+        sized = tt;
         calls = shows_more state most_of (250 + removals_of state 7 a) ((1 + each) * 250 + removals_of state 7 a) (ended_by e) a b (λ told. omega arith) calls;
-        page = λ told. by e (page told);
+        page = λ told. by e (subst (ReadsPage l from to (tables_of state a)) is (page told));
       }
     where
-      by : (f : StoreFail) → ReadsPage {A = A} l from to (tables_of state a) (Err f) → FindsPermitted {A = A} l sees from to 250 (tables_of state a) (Err f)
-      by Damaged h = λ q t u s i its. h q t s i
+      by : (f : StoreFail) → ReadsPage {A = A} l from to (tables_of state a) (Err f) → FindsPicked l j from to 250 old new (tables_of state a) (Err f)
+      by Damaged h = λ q w s i its. h q w.tenant s i
       by Keeper h = tt
       by Memory h = tt

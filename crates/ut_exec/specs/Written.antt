@@ -12,7 +12,7 @@ use Rattle.ut_model.specs.Levels.{readable}
 use Rattle.ut_model.specs.Limits.{limit_number}
 use Rattle.ut_model.specs.Objects.{records_of}
 use Rattle.ut_model.specs.Ordered.{in_order}
-use Rattle.ut_model.specs.Tenant.{Tenant, User}
+use Rattle.ut_model.specs.Paths.{Asked}
 use Rattle.ut_rights.specs.Rights.{Whose}
 use Rattle.ut_stands.specs.declared.layout.Layout.{Layout}
 use Rattle.ut_stands.specs.Calls.{Ending, done, fell, stopped}
@@ -32,17 +32,21 @@ Puts bytes old new (Ok x) = new ≡ old ++ bytes
 Puts bytes old new (Err codec.Damaged) = ⊥
 Puts bytes old new (Err codec.Memory) = Unit {0}
 
--- so it is of each user who sees so, of a tenant for which the organisation's rows stand and whose layout it is
-abbrev pub InTenants : Layout → (sees : Whose) → Tables → (Tenant → User → Type 0) → Type 0
-InTenants l sees m P = (q : OrgPlan) (t : Tenant) (u : User) → StandsIn l.org q m (Some t) → IsLayout q t l → sees t u → P t u
+-- who asks sees so, and has these relatives of records
+abbrev pub seeing : Whose → (OrgPlan → Asked → Type 0) → OrgPlan → Asked → Type 0
+seeing sees whose q a = sees a.tenant a.user × whose q a
 
--- the rows of an object without ORDER BY: of the records that the user may read those that are kept, in the order of their ids
-abbrev pub rows_kept : Window → (Record → Bool) → (object : ℕ) → Tenant → User → List Record
-rows_kept w keep n t u = in_window w (filter keep (readable t u n))
+-- so it is of whoever asks so, in a tenant for which the organisation's rows stand and whose layout it is
+abbrev pub InTenants : Layout → (who : OrgPlan → Asked → Type 0) → Tables → (Asked → Type 0) → Type 0
+InTenants l who m P = (q : OrgPlan) (a : Asked) → StandsIn l.org q m (Some a.tenant) → IsLayout q a.tenant l → who q a → P a
+
+-- the rows of an object without ORDER BY: of the records that who asks may read those that are kept, in the order of their ids
+abbrev pub rows_kept : Window → (Asked → Record → Bool) → (object : ℕ) → Asked → List Record
+rows_kept w keep n a = in_window w (filter (keep a) (readable a.tenant a.user n))
 
 -- the same with ORDER BY
-abbrev pub rows_sorted : Window → (Record → Record → Ordering) → (Record → Bool) → (object : ℕ) → Tenant → User → List Record
-rows_sorted w order keep n t u = in_window w (in_order order (filter keep (readable t u n)))
+abbrev pub rows_sorted : Window → (Asked → Record → Record → Ordering) → (Asked → Record → Bool) → (object : ℕ) → Asked → List Record
+rows_sorted w order keep n a = in_window w (in_order (order a) (filter (keep a) (readable a.tenant a.user n)))
 
 -- all of these rows were appended, and there was room for them
 pub record AppendsRows (row : Record → List ℕ) (room : ℕ) (rows : List Record) (old new : List ℕ) (count : ℕ) : Type 0 where
@@ -50,14 +54,14 @@ pub record AppendsRows (row : Record → List ℕ) (room : ℕ) (rows : List Rec
   pub appended : new ≡ old ++ flat_map row rows
   pub fits : length (flat_map row rows) ≤ room
 
--- the rows of each such user were written, or there is no room for them; the tenant's rows are never damaged
-abbrev pub WritesRows : Layout → (sees : Whose) → (Tenant → User → List Record) → (Record → List ℕ) → (room : ℕ) → (old new : List ℕ) → Tables
+-- the rows were written for whoever asks so, or there is no room for them; the tenant's rows are never damaged
+abbrev pub WritesRows : Layout → (who : OrgPlan → Asked → Type 0) → (Asked → List Record) → (Asked → Record → List ℕ) → (room : ℕ) → (old new : List ℕ) → Tables
     → Result ℕ ExecFail → Type 0
-WritesRows l sees rows row room old new m (Ok count) = InTenants l sees m (λ t u. AppendsRows row room (rows t u) old new count)
-WritesRows l sees rows row room old new m (Err TooLarge) = InTenants l sees m (λ t u. room < length (flat_map row (rows t u)))
-WritesRows l sees rows row room old new m (Err (Store Damaged)) = InTenants l sees m (λ t u. ⊥)
-WritesRows l sees rows row room old new m (Err (Store Keeper)) = Unit {0}
-WritesRows l sees rows row room old new m (Err (Store Memory)) = Unit {0}
+WritesRows l who rows row room old new m (Ok count) = InTenants l who m (λ a. AppendsRows (row a) room (rows a) old new count)
+WritesRows l who rows row room old new m (Err TooLarge) = InTenants l who m (λ a. room < length (flat_map (row a) (rows a)))
+WritesRows l who rows row room old new m (Err (Store Damaged)) = InTenants l who m (λ a. ⊥)
+WritesRows l who rows row room old new m (Err (Store Keeper)) = Unit {0}
+WritesRows l who rows row room old new m (Err (Store Memory)) = Unit {0}
 
 -- ---- data rows that are shown
 
@@ -67,8 +71,8 @@ IfDone done P = P
 IfDone fell P = Unit {0}
 IfDone stopped P = Unit {0}
 
--- in at most 80 pages: each record of an object once, with what tells whether it may be read, and in each page as many rows more as
--- the draft removes
+-- in at most 80 pages: each record of an object once, with what tells whether it may be read and with its relatives, and in each page as
+-- many rows more as the draft removes
 abbrev pub shown_for : (each records removed : ℕ) → ℕ
 shown_for each records removed = (1 + each) * records + 80 * removed
 
@@ -78,8 +82,8 @@ most_shown each removed = shown_for each (limit_number RecordsPerObject) removed
 
 -- if a call was done, it showed each record of the object once at most
 module _ {K : Type 0} (state : K → KeeperState) where
-  abbrev pub ShowsRecords : Layout → (sees : Whose) → (each : ℕ) → Ending → (old new : Held K) → Type 0
-  ShowsRecords l sees each e old new =
+  abbrev pub ShowsRecords : Layout → (who : OrgPlan → Asked → Type 0) → (each : ℕ) → Ending → (old new : Held K) → Type 0
+  ShowsRecords l who each e old new =
       DraftTells state old new
-      → IfDone e (InTenants l sees (tables_of state old) (λ t u.
-      ShowsMost (shown_for each (length (records_of t l.object)) (removals_of state data_table old)) (state_of state old) (state_of state new)))
+      → IfDone e (InTenants l who (tables_of state old) (λ a.
+      ShowsMost (shown_for each (length (records_of a.tenant l.object)) (removals_of state data_table old)) (state_of state old) (state_of state new)))

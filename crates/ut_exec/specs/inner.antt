@@ -1,4 +1,5 @@
 pub mod Gathering
+pub mod Judging
 pub mod Offers
 pub mod Permitted
 pub mod Reading

@@ -1,33 +1,42 @@
 //! Which records are rows, and how a row is written.
 
-ghost use Rattle.std.specs.Prelude.{◌≡◌, Bool, List, Some, ℕ};
+ghost use Rattle.std.specs.Prelude.{◌≡◌, Bool, List, Option, Some, ℕ};
 ghost use Rattle.ut_bind.specs.Given.{GivesJust};
+ghost use Rattle.ut_bind.specs.declared.plan.Child.{Child};
 ghost use Rattle.ut_exec.specs.Seen.{seen_record};
 ghost use Rattle.ut_exec.specs.Written.{Puts};
 ghost use Rattle.ut_model.specs.declared.record.Record.{Record};
 
 use crate::seen::SeenRecord;
 use std::alloc::Global;
+use ut_bind::Child;
+use ut_model::Record;
 use ut_parts::CodecFail;
+use ut_value::Items;
 
 /// A test of records.
 pub trait Keeps {
-    // Whether a record is a row.
-    ghost keep: { Self → Record → Bool };
+    // Whether a record is a row, by the records of its parents and by itself.
+    ghost keep: { Self → List (Option Record) → Record → Bool };
 
     /// Whether a record is a row.
     ///
     /// # Errors
     ///
     /// `Memory` if out of memory, `Damaged` never if the row spells a record.
-    fn keeps(&self, alloc: Global, item: &SeenRecord<'_>) -> Result<bool, CodecFail>
-        ensures { (r : Record) → seen_record item.now ≡ Some r → GivesJust (keep self.now r) result };
+    fn keeps(
+        &self,
+        alloc: Global,
+        item: &SeenRecord<'_>,
+        parents: &[Option<Record>],
+    ) -> Result<bool, CodecFail>
+        ensures { (r : Record) → seen_record item.now ≡ Some r → GivesJust (keep self.now parents.now r) result };
 }
 
 /// A form of rows.
 pub trait RowForm {
-    // The bytes of a record's row.
-    ghost written: { Self → Record → List ℕ };
+    // The bytes of a record's row, by the records of its parents, its children and itself.
+    ghost written: { Self → List (Option Record) → List (List Child) → Record → List ℕ };
 
     /// Appends the bytes of a record's row.
     ///
@@ -38,7 +47,10 @@ pub trait RowForm {
         &self,
         alloc: Global,
         item: &SeenRecord<'_>,
+        parents: &[Option<Record>],
+        children: &[Items<Child>],
         out: &mut Vec<u8>,
     ) -> Result<(), CodecFail>
-        ensures { (r : Record) → seen_record item.now ≡ Some r → Puts (written self.now r) out.old.items out.new.items result };
+        ensures { (r : Record) → seen_record item.now ≡ Some r
+            → Puts (written self.now parents.now children.now r) out.old.items out.new.items result };
 }

@@ -1,21 +1,31 @@
-//! Records offered one after the other, of which some are written.
+//! Rows offered one after the other, of which some are written.
 
-ghost use Rattle.std.specs.Prelude.{◌≡◌, ◌+◌, ◌∷◌, [], Err, IfOk, IsTrue, List, Some, filter};
-ghost use Rattle.ut_data.specs.Decoding.{each_from, has_types};
+ghost use Rattle.std.specs.Prelude.{◌≡◌, ◌+◌, ◌*◌, ◌∷◌, [], Err, IfOk, IsTrue, List, Some, length};
+ghost use Rattle.ut_data.specs.Decoding.{has_types};
+ghost use Rattle.ut_exec.specs.Fails.{ended_exec};
+ghost use Rattle.ut_exec.specs.Relatives.{by_relatives};
 ghost use Rattle.ut_exec.specs.Seen.{seen_record};
-ghost use Rattle.ut_exec.specs.inner.Offers.{Appends, Offered};
+ghost use Rattle.ut_exec.specs.inner.Judging.{IsOf, OfOne, OfRows};
+ghost use Rattle.ut_exec.specs.inner.Offers.{Appends, Offered, Written};
+ghost use Rattle.ut_keeper.specs.Draft.{DraftTells, tables_of};
 ghost use Rattle.ut_keys.specs.declared.fail.StoreFail.TheVariants.{Keeper, Memory};
 ghost use Rattle.ut_model.specs.declared.record.Record.{Record};
-ghost use Rattle.ut_rights.specs.Rights.{kept_record};
+ghost use Rattle.ut_stands.specs.Calls.{Calls};
 
-use crate::asked::{Keeps, RowForm};
+use crate::asked::RowForm;
+use crate::candidates::Candidate;
 use crate::fail::ExecFail;
+use crate::ranked::Ranked;
+use crate::relatives::Relatives;
 use crate::seen::SeenRecord;
 use crate::window::Window;
 use std::alloc::Global;
-use ut_keeper::KeptRow;
+use ut_bind::Child;
+use ut_keeper::{Draft, Keeper, draft_laws};
 use ut_keys::StoreFail;
-use ut_stands::Layout;
+use ut_model::Record;
+use ut_stands::{Layout, call_laws};
+use ut_value::Items;
 
 /// How far rows were written.
 #[derive(Clone, Copy)]
@@ -33,14 +43,17 @@ fn append_row<W: RowForm>(
     alloc: Global,
     form: &W,
     item: &SeenRecord<'_>,
+    parents: &[Option<Record>],
+    children: &[Items<Child>],
     room: usize,
     out: &mut Vec<u8>,
 ) -> Result<usize, ExecFail>
-    ensures appends { (r : Record) → seen_record item.now ≡ Some r → Appends (W.written form.now r) room out.old.items out.new.items result }
+    ensures appends { (r : Record) → seen_record item.now ≡ Some r
+        → Appends (W.written form.now parents.now children.now r) room out.old.items out.new.items result }
     ensures keeper { result ≡ Err (ExecFail.Store Keeper) → ⊥ }
 {
     let before = out.len();
-    form.write(alloc, item, out)?;
+    form.write(alloc, item, parents, children, out)?;
     let size = out.len().saturating_sub(before);
     if size <= room {
         Ok(room - size)
@@ -60,77 +73,121 @@ fn one_more(count: usize) -> Result<usize, ExecFail>
     }
 }
 
-/// A row, which is written if the window admits it.
-///
-/// # Errors
-///
-/// `TooLarge` if there is no room for it, `Memory` if out of memory, `Damaged` never if the row spells a record.
-pub(crate) fn offer_row<W: RowForm>(
+// A row that the window admitted, which is written.
+fn write_row<W: RowForm>(
     alloc: Global,
     form: &W,
     item: &SeenRecord<'_>,
+    parents: &[Option<Record>],
+    children: &[Items<Child>],
     progress: &mut Progress,
     out: &mut Vec<u8>,
 ) -> Result<(), ExecFail>
-    ensures offered { (r : Record) → seen_record item.now ≡ Some r
-        → Offered (W.written form.now) progress.old progress.new out.old.items out.new.items (r ∷ []) result }
+    ensures written { (r : Record) → seen_record item.now ≡ Some r
+        → Written (W.written form.now parents.now children.now r) progress.old progress.new out.old.items out.new.items result }
     ensures keeper { result ≡ Err (ExecFail.Store Keeper) → ⊥ }
 {
-    if progress.window.admits() {
-        progress.room = append_row(alloc, form, item, progress.room, out)?;
-        progress.count = one_more(progress.count)?;
-    }
+    progress.room = append_row(alloc, form, item, parents, children, progress.room, out)?;
+    progress.count = one_more(progress.count)?;
     Ok(())
 }
 
-// The record of a row, which is offered if it is kept.
-fn offer_record<P: Keeps, W: RowForm>(
+// A row of the window: its children are fetched, and it is written.
+fn take_row<K: Keeper, L: Relatives, W: RowForm>(
     alloc: Global,
+    draft: &mut Draft<'_, K>,
     layout: &Layout,
-    keeps: &P,
+    relatives: &L,
     form: &W,
-    row: &KeptRow,
+    row: &Candidate,
     progress: &mut Progress,
     out: &mut Vec<u8>,
 ) -> Result<(), ExecFail>
     requires { IsTrue (has_types layout.now) }
-    ensures offered { (r : Record) → kept_record layout.now row.now ≡ Some r
-        → Offered (W.written form.now) progress.old progress.new out.old.items out.new.items (filter (P.keep keeps.now) (r ∷ [])) result }
-    ensures keeper { result ≡ Err (ExecFail.Store Keeper) → ⊥ }
+    ensures written { DraftTells K.state draft.old draft.new
+        → OfOne layout.now (L.whose relatives.now layout.now.org) (λ a. IsOf layout.now (L.parents relatives.now a)) row.now
+        (tables_of K.state draft.old)
+        (λ a r. Written (by_relatives (L.parents relatives.now) (L.children relatives.now) (W.written form.now) a r)
+        progress.old progress.new out.old.items out.new.items result) }
+    ensures calls { Calls K.state (L.children_shown relatives.now) (ended_exec result) draft.old draft.new }
 {
-    let item = SeenRecord::of(layout, row)?;
-    if keeps.keeps(alloc, &item)? {
-        offer_row(alloc, form, &item, progress, out)
+    call_laws::<K>();
+    draft_laws::<K>();
+    let item = SeenRecord::of(layout, &row.kept)?;
+    let children = relatives.children_of(alloc, draft, layout, &item)?;
+    write_row(
+        alloc,
+        form,
+        &item,
+        row.parents.as_slice(),
+        children.as_slice(),
+        progress,
+        out,
+    )
+}
+
+// A row, which is written if the window admits it.
+fn offer_row<K: Keeper, L: Relatives, W: RowForm>(
+    alloc: Global,
+    draft: &mut Draft<'_, K>,
+    layout: &Layout,
+    relatives: &L,
+    form: &W,
+    row: &Candidate,
+    progress: &mut Progress,
+    out: &mut Vec<u8>,
+) -> Result<(), ExecFail>
+    requires { IsTrue (has_types layout.now) }
+    ensures offered { DraftTells K.state draft.old draft.new
+        → OfOne layout.now (L.whose relatives.now layout.now.org) (λ a. IsOf layout.now (L.parents relatives.now a)) row.now
+        (tables_of K.state draft.old)
+        (λ a r. Offered (by_relatives (L.parents relatives.now) (L.children relatives.now) (W.written form.now) a)
+        progress.old progress.new out.old.items out.new.items (r ∷ []) result) }
+    ensures calls { Calls K.state (L.children_shown relatives.now) (ended_exec result) draft.old draft.new }
+{
+    call_laws::<K>();
+    draft_laws::<K>();
+    if progress.window.admits() {
+        take_row(alloc, draft, layout, relatives, form, row, progress, out)
     } else {
         Ok(())
     }
 }
 
-/// The records of rows, of which those are offered that are kept. Once no row is taken any more, no further record is seen.
+/// Rows that are offered one after the other. Once no row is taken any more, no further one is looked at.
 ///
 /// # Errors
 ///
-/// `TooLarge` if the rows have more bytes than there is room for, `Damaged` if a row spells no record, `Memory` if out of memory.
-pub(crate) fn offer_records<P: Keeps, W: RowForm>(
+/// `TooLarge` if the rows have more bytes than there is room for, `Keeper` if the keeper failed, `Memory` if out of memory, `Damaged`
+/// never if the rows are of records of a tenant for which the organisation's rows stand and of whose user the relatives are.
+pub(crate) fn offer_rows<K: Keeper, L: Relatives, W: RowForm, T: Drop>(
     alloc: Global,
+    draft: &mut Draft<'_, K>,
     layout: &Layout,
-    keeps: &P,
+    relatives: &L,
     form: &W,
-    rows: &[KeptRow],
+    rows: &[Ranked<T, Candidate>],
     progress: &mut Progress,
     out: &mut Vec<u8>,
 ) -> Result<(), ExecFail>
     requires { IsTrue (has_types layout.now) }
-    ensures offered { (page : List Record) → each_from (kept_record layout.now) rows.now ≡ Some page
-        → Offered (W.written form.now) progress.old progress.new out.old.items out.new.items (filter (P.keep keeps.now) page) result }
-    ensures keeper { result ≡ Err (ExecFail.Store Keeper) → ⊥ }
+    ensures offered { DraftTells K.state draft.old draft.new
+        → OfRows layout.now (L.whose relatives.now layout.now.org) (λ a row. IsOf layout.now (L.parents relatives.now a) row.kept) rows.now
+        (tables_of K.state draft.old)
+        (λ a page. Offered (by_relatives (L.parents relatives.now) (L.children relatives.now) (W.written form.now) a)
+        progress.old progress.new out.old.items out.new.items page result) }
+    ensures calls { Calls K.state (L.children_shown relatives.now * length rows.now) (ended_exec result) draft.old draft.new }
 {
+    call_laws::<K>();
+    draft_laws::<K>();
     let mut left = rows;
     'rows: while let Some((row, more)) = left.split_first() {
         if progress.window.is_over() {
             return Ok(());
         }
-        offer_record(alloc, layout, keeps, form, row, progress, out)?;
+        offer_row(
+            alloc, draft, layout, relatives, form, &row.kept, progress, out,
+        )?;
         left = more;
     }
     Ok(())

@@ -1,15 +1,19 @@
 //! Rows without ORDER BY: written as they come.
 
+ghost use Rattle.std.specs.Prelude.{◌+◌};
 ghost use Rattle.ut_exec.specs.Fails.{ended_exec};
-ghost use Rattle.ut_exec.specs.Written.{ShowsRecords, WritesRows, most_shown, rows_kept};
+ghost use Rattle.ut_exec.specs.Relatives.{by_parents, by_relatives};
+ghost use Rattle.ut_exec.specs.Written.{ShowsRecords, WritesRows, most_shown, rows_kept, seeing};
 ghost use Rattle.ut_keeper.specs.Draft.{DraftTells, removals_of, tables_of};
 ghost use Rattle.ut_stands.specs.Calls.{Calls};
 
 use crate::asked::{Keeps, RowForm};
 use crate::fail::ExecFail;
-use crate::offers::{Progress, offer_records};
+use crate::offers::{Progress, offer_rows};
 use crate::pages::first_pages;
 use crate::permitted::next_permitted;
+use crate::ranked::Unranked;
+use crate::relatives::Relatives;
 use crate::window::Window;
 use std::alloc::Global;
 use ut_data::{data_laws, has_types};
@@ -24,13 +28,14 @@ use ut_stands::{Layout, call_laws};
 /// # Errors
 ///
 /// `TooLarge` if the rows have more bytes than there is room for; `Keeper` if the keeper failed, `Memory` if out of memory,
-/// `Damaged` never if the organisation's rows stand for a tenant whose layout it is and of whose user this is the sight. What was
-/// appended before is still there.
-pub fn write_rows<K: Keeper, S: Sight, P: Keeps, W: RowForm>(
+/// `Damaged` never if the organisation's rows stand for a tenant whose layout it is, of whose user this is the sight, and whose
+/// relatives these are. What was appended before is still there.
+pub fn write_rows<K: Keeper, S: Sight, L: Relatives, P: Keeps, W: RowForm>(
     alloc: Global,
     draft: &mut Draft<'_, K>,
     layout: &Layout,
     sight: &S,
+    relatives: &L,
     keeps: &P,
     form: &W,
     window: Window,
@@ -38,11 +43,16 @@ pub fn write_rows<K: Keeper, S: Sight, P: Keeps, W: RowForm>(
     out: &mut Vec<u8>,
 ) -> Result<usize, ExecFail>
     ensures what { DraftTells K.state draft.old draft.new
-        → WritesRows layout.now (S.sees sight.now layout.now) (rows_kept window (P.keep keeps.now) layout.now.object) (W.written form.now) room
+        → WritesRows layout.now (seeing (S.sees sight.now layout.now) (L.whose relatives.now layout.now.org))
+        (rows_kept window (by_parents (L.parents relatives.now) (P.keep keeps.now)) layout.now.object)
+        (by_relatives (L.parents relatives.now) (L.children relatives.now) (W.written form.now)) room
         out.old.items out.new.items (tables_of K.state draft.old) result }
-    // Each record is shown once, with what tells whether it may be read, as long as the draft removes none.
-    ensures shown { ShowsRecords K.state layout.now (S.sees sight.now layout.now) S.shown (ended_exec result) draft.old draft.new }
-    ensures calls { Calls K.state (most_shown S.shown (removals_of K.state 7 draft.old)) (ended_exec result) draft.old draft.new }
+    // Each record is shown once, with what tells whether it may be read and its relatives, as long as the draft removes none.
+    ensures shown { ShowsRecords K.state layout.now (seeing (S.sees sight.now layout.now) (L.whose relatives.now layout.now.org))
+        (S.shown + L.parents_shown relatives.now + L.children_shown relatives.now) (ended_exec result) draft.old draft.new }
+    ensures calls { Calls K.state
+        (most_shown (S.shown + L.parents_shown relatives.now + L.children_shown relatives.now) (removals_of K.state 7 draft.old))
+        (ended_exec result) draft.old draft.new }
 {
     draft_laws::<K>();
     call_laws::<K>();
@@ -57,11 +67,15 @@ pub fn write_rows<K: Keeper, S: Sight, P: Keeps, W: RowForm>(
     };
     let mut pages = first_pages();
     'pages: while pages.left > 0 && !progress.window.is_over() {
-        let rows = next_permitted(alloc, draft, sight, layout, &mut pages)?;
-        offer_records(
+        let mut rows = Vec::new(alloc);
+        next_permitted(
+            alloc, draft, layout, sight, relatives, keeps, &Unranked, &mut pages, &mut rows,
+        )?;
+        offer_rows(
             alloc,
+            draft,
             layout,
-            keeps,
+            relatives,
             form,
             rows.as_slice(),
             &mut progress,

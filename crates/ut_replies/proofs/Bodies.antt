@@ -9,12 +9,11 @@ use Rattle.std.proofs.lemmas.Str.{encodes-append}
 use Rattle.ut_json.specs.Printing.{printed_text, printed_truth}
 use Rattle.ut_json.specs.Whole.{joined}
 use Rattle.ut_model.specs.RowsJson.{member_json, rows_json}
-use Rattle.ut_replies.specs.Rows.{behind_commas}
-use Rattle.ut_replies.specs.inner.Parts.{rows_front}
+use Rattle.ut_replies.specs.Rows.{behind_commas, rows_front}
 use Rattle.ut_replies.proofs.Written.{after}
 
 -- texts with commas between them, of which the first comes without one
-commas : (text : List ℕ) (texts : List (List ℕ)) → text ++ behind_commas texts ≡ joined (text ∷ texts)
+pub commas : (text : List ℕ) (texts : List (List ℕ)) → text ++ behind_commas texts ≡ joined (text ∷ texts)
 commas text [] = append-nil text
 commas text (next ∷ texts) = ap (λ (t : List ℕ). text ++ 44 ∷ t) (commas next texts)
 
@@ -44,7 +43,7 @@ whole_is a b r rows =
     let first = append_assoc a (44 ∷ (b ++ 44 ∷ (r ++ (codes "[" ++ rows ++ codes "]")))) (codes "}") ∙ ap (λ (t : List ℕ). a ++ 44 ∷ t) second in
     ap (λ (t : List ℕ). codes "{" ++ t) first
 
-characters : (texts : List (List ℕ)) → rows_front (length texts) ++ (joined texts ++ codes "]}") ≡ rows_json texts
+pub characters : (texts : List (List ℕ)) → rows_front (length texts) ++ (joined texts ++ codes "]}") ≡ rows_json texts
 characters texts =
     let a = member_json (codes "totalSize") (decimal (length texts)) in
     let b = member_json (codes "done") (printed_truth true) in
@@ -71,11 +70,6 @@ body_of_rows front rows body n texts count before are is =
     ∙ ap encode_utf8_all (characters texts)
 
 -- ---- written piece by piece
-
-pub shown_written : (w0 w1 w2 w3 name v : List ℕ) → w1 ≡ w0 ++ encode_utf8_all (44 ∷ []) → w2 ≡ w1 ++ encode_utf8_all (printed_text name ++ codes ":") → w3 ≡ w2 ++ encode_utf8_all v
-    → w3 ≡ w0 ++ encode_utf8_all (44 ∷ member_json name v)
-shown_written w0 w1 w2 w3 name v e1 e2 e3 =
-    after w0 w2 w3 (44 ∷ (printed_text name ++ codes ":")) v (after w0 w1 w2 (44 ∷ []) (printed_text name ++ codes ":") e1 e2) e3
 
 pub front_written : (w0 w1 w2 w3 w4 w5 w6 w7 : List ℕ) (n : ℕ) → w1 ≡ w0 ++ encode_utf8_all (123 ∷ []) → w2 ≡ w1 ++ encode_utf8_all (member_json (chars (codes "totalSize")) (decimal n))
     → w3 ≡ w2 ++ encode_utf8_all (44 ∷ []) → w4 ≡ w3 ++ encode_utf8_all (member_json (chars (codes "done")) (printed_truth true)) → w5 ≡ w4 ++ encode_utf8_all (44 ∷ [])

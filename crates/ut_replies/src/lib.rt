@@ -16,5 +16,8 @@ mod states;
 pub use crate::laws::names_laws;
 pub use crate::made::{made_body, upserted_body};
 pub use crate::names::names_body;
-pub use crate::rows::{rows_body, write_row_end, write_row_start, write_shown};
+pub use crate::rows::{
+    rows_body, write_comma, write_member_start, write_null, write_record_start, write_row_end,
+    write_row_start, write_rows_end, write_rows_start, write_shown,
+};
 pub use crate::states::state_body;

@@ -1,12 +1,12 @@
 //! Rows of a query, from what is shown of each record.
 
-ghost use Rattle.std.specs.Prelude.{◌≡◌, ◌∷◌, [], List, ℕ, IfOk, IsTrue, drop, length};
+ghost use Rattle.std.specs.Prelude.{◌≡◌, ◌∷◌, ◌++◌, [], List, ℕ, IfOk, IsTrue, codes, drop, length};
 ghost use Rattle.std.specs.Str.{chars, encode_utf8_all};
+ghost use Rattle.ut_json.specs.Printing.{printed_null, printed_text};
 ghost use Rattle.ut_model.specs.RowsJson.{member_json, rows_json, value_json};
 ghost use Rattle.ut_replies.specs.Names.{name_attributes};
-ghost use Rattle.ut_replies.specs.Rows.{behind_commas};
+ghost use Rattle.ut_replies.specs.Rows.{behind_commas, rows_front};
 ghost use Rattle.ut_replies.specs.Written.{Wrote};
-ghost use Rattle.ut_replies.specs.inner.Parts.{rows_front};
 ghost use Rattle.ut_value.specs.Printing.{is_printable};
 
 use crate::names::write_attributes;
@@ -14,6 +14,45 @@ use crate::parts::{write_count_member, write_mark, write_name, write_text, write
 use std::alloc::{AllocError, Global};
 use ut_json::{Mark, Writer};
 use ut_value::{Bytes, Id, Value, print_value};
+
+/// The comma between rows.
+///
+/// # Errors
+///
+/// When out of memory.
+pub fn write_comma(alloc: Global, writer: &mut Writer) -> Result<(), AllocError>
+    ensures { Wrote result writer.old writer.new (44 ∷ []) }
+{
+    write_mark(alloc, writer, Mark::Comma)
+}
+
+/// `null`.
+///
+/// # Errors
+///
+/// When out of memory.
+pub fn write_null(alloc: Global, writer: &mut Writer) -> Result<(), AllocError>
+    ensures { Wrote result writer.old writer.new printed_null }
+{
+    writer.null(alloc)
+}
+
+/// Begins a record: its type and its address, from the name of its object and its id.
+///
+/// # Errors
+///
+/// When out of memory.
+pub fn write_record_start(
+    alloc: Global,
+    writer: &mut Writer,
+    object: &str,
+    id: &Id,
+) -> Result<(), AllocError>
+    ensures { Wrote result writer.old writer.new (123 ∷ name_attributes (chars object.now) id.now) }
+{
+    write_mark(alloc, writer, Mark::OpenObject)?;
+    write_attributes(alloc, writer, object, id)
+}
 
 /// Begins a row, behind a comma: its type and its address, from the name of its object and its id.
 ///
@@ -28,9 +67,8 @@ pub fn write_row_start(
 ) -> Result<(), AllocError>
     ensures { Wrote result writer.old writer.new (44 ∷ 123 ∷ name_attributes (chars object.now) id.now) }
 {
-    write_mark(alloc, writer, Mark::Comma)?;
-    write_mark(alloc, writer, Mark::OpenObject)?;
-    write_attributes(alloc, writer, object, id)
+    write_comma(alloc, writer)?;
+    write_record_start(alloc, writer, object, id)
 }
 
 // A value: numbers, truth values and null as such, and else a text.
@@ -50,6 +88,18 @@ fn write_value(alloc: Global, writer: &mut Writer, value: &Value) -> Result<(), 
     }
 }
 
+/// Begins a member of a row, behind a comma: its name, and the colon behind it.
+///
+/// # Errors
+///
+/// When out of memory.
+pub fn write_member_start(alloc: Global, writer: &mut Writer, name: &str) -> Result<(), AllocError>
+    ensures { Wrote result writer.old writer.new (44 ∷ (printed_text (chars name.now) ++ codes ":")) }
+{
+    write_comma(alloc, writer)?;
+    write_name(alloc, writer, name)
+}
+
 /// A member of a row, behind a comma: a name, and the value that is shown under it.
 ///
 /// # Errors
@@ -64,12 +114,11 @@ pub fn write_shown(
     requires { IsTrue (is_printable value.now) }
     ensures { Wrote result writer.old writer.new (44 ∷ member_json (chars name.now) (value_json value.now)) }
 {
-    write_mark(alloc, writer, Mark::Comma)?;
-    write_name(alloc, writer, name)?;
+    write_member_start(alloc, writer, name)?;
     write_value(alloc, writer, value)
 }
 
-/// Ends a row.
+/// Ends a row, or another record.
 ///
 /// # Errors
 ///
@@ -80,8 +129,12 @@ pub fn write_row_end(alloc: Global, writer: &mut Writer) -> Result<(), AllocErro
     write_mark(alloc, writer, Mark::CloseObject)
 }
 
-// What comes before the rows, of which there are so many.
-fn write_front(alloc: Global, writer: &mut Writer, count: usize) -> Result<(), AllocError>
+/// Begins rows, of which there are so many.
+///
+/// # Errors
+///
+/// When out of memory.
+pub fn write_rows_start(alloc: Global, writer: &mut Writer, count: usize) -> Result<(), AllocError>
     ensures { Wrote result writer.old writer.new (rows_front count) }
 {
     write_mark(alloc, writer, Mark::OpenObject)?;
@@ -91,6 +144,18 @@ fn write_front(alloc: Global, writer: &mut Writer, count: usize) -> Result<(), A
     write_mark(alloc, writer, Mark::Comma)?;
     write_name(alloc, writer, "records")?;
     write_mark(alloc, writer, Mark::OpenList)
+}
+
+/// Ends rows.
+///
+/// # Errors
+///
+/// When out of memory.
+pub fn write_rows_end(alloc: Global, writer: &mut Writer) -> Result<(), AllocError>
+    ensures { Wrote result writer.old writer.new (codes "]}") }
+{
+    write_mark(alloc, writer, Mark::CloseList)?;
+    write_mark(alloc, writer, Mark::CloseObject)
 }
 
 // These bytes without the first.
@@ -113,7 +178,7 @@ pub fn rows_body(alloc: Global, count: usize, rows: &[u8]) -> Result<Bytes, Allo
         → body ≡ encode_utf8_all (rows_json texts)) }
 {
     let mut front = Writer::new(alloc);
-    write_front(alloc, &mut front, count)?;
+    write_rows_start(alloc, &mut front, count)?;
     let mut body = front.finish().into_vec();
     body.extend_from_slice(without_first(rows))?;
     body.extend_from_slice(b"]}")?;

@@ -1,5 +1,4 @@
 pub mod Characters
-pub mod Literals
 pub mod Named
 pub mod Parts
 pub mod Queries

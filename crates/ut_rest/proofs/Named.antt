@@ -1,7 +1,6 @@
 -- The records of an object that is found by its name, and the reply that has them.
-use Rattle.std.proofs.Common.{◌≡◌, ℕ, Bool, true, false, if◌then◌else◌, List, Option, Some, None, Result, Ok, Err, refl, sym, ap, subst, ◌∙◌}
-use Rattle.std.specs.Prelude.{ℤ, codes}
-use Rattle.std.specs.Str.{chars}
+use Rattle.std.proofs.Common.{◌≡◌, ℕ, List, Option, Some, None, Result, Ok, Err, refl, sym, ap, subst, ◌∙◌}
+use Rattle.std.specs.Prelude.{ℤ}
 use Rattle.std.specs.Option.{option_map}
 use Rattle.ut_keeper.specs.Tables.{Tables}
 use Rattle.ut_keys.specs.declared.fail.StoreFail.{StoreFail}
@@ -9,28 +8,24 @@ use Rattle.ut_keys.specs.declared.fail.StoreFail.TheVariants.{Damaged, Keeper, M
 use Rattle.ut_query.specs.declared.query.Query.{Query}
 use Rattle.ut_model.specs.declared.caller.Caller.{Caller}
 use Rattle.ut_model.specs.declared.refusal.Refusal.{Refusal}
-use Rattle.ut_model.specs.declared.refusal.Refusal.TheVariants.{InvalidType, NotBuilt}
+use Rattle.ut_model.specs.declared.refusal.Refusal.TheVariants.{InvalidType}
 use Rattle.ut_model.specs.declared.reply.Reply.{Reply}
 use Rattle.ut_model.specs.Asking.{ask, query_rules}
 use Rattle.ut_model.specs.Cases.{in_case}
 use Rattle.ut_model.specs.Objects.{Numbered, object_named, object_numbered}
 use Rattle.ut_model.specs.Paths.{Asked}
-use Rattle.ut_model.specs.Requests.{asks, verdict_on}
 use Rattle.ut_model.specs.Tenant.{Object, Tenant}
 use Rattle.ut_model.specs.Verdict.{Verdict, accept, judged, refuse, rows_of}
-use Rattle.ut_answers.specs.Answers.{AnswersBy, IsAskedOf, Refuses}
+use Rattle.ut_answers.specs.Answers.{AnswersBy, IsAskedOf, IsAskedOver, Refuses}
 use Rattle.ut_rights.specs.Rights.{Whose}
 use Rattle.ut_rest.specs.inner.Callers.{IsCallerAt, IsObjectOf}
 use Rattle.ut_grants.specs.Granting.{FindsRights, IsUserRights}
 use Rattle.ut_grants.specs.Sights.{FindsSight}
 use Rattle.ut_grants.specs.declared.rights.UserRights.{UserRights}
 use Rattle.ut_stands.specs.declared.layout.Layout.{Layout}
-use Rattle.ut_stands.specs.Layouts.{IsLayout, layout_of, own_layout, own_layout_named}
+use Rattle.ut_stands.specs.Layouts.{IsLayout, layout_of, own_layout, own_layout_named, own_layouts}
 use Rattle.ut_stands.specs.Local.{FindsIn, StandsIn}
 use Rattle.ut_stands.specs.Plan.{OrgPlan}
-use Rattle.ut_step.specs.Built.{query_verdict}
-use Rattle.ut_step.specs.Flat.{is_flat}
-use Rattle.ut_rest.proofs.Literals.{paths_word}
 
 abbrev pub NamedAt : Type 0
 NamedAt = (t : Tenant) (name : List ℕ) (o : Numbered) → object_named t name ≡ Some o → object_numbered t o.number ≡ Some o.object
@@ -100,6 +95,11 @@ pub asked_by : (l : Layout) (sees : Whose) (moment : ℤ) (q : Query) (m n : Tab
 asked_by l sees moment q m n p a same is sight now =
     record { stands = subst (λ (x : Tables). StandsIn l.org p x (Some a.tenant)) (sym same) is.stands; object = is.object; named = is.named; its = is.its; sight = sight; now = now }
 
+-- and over all layouts of the tenant, with these rights
+pub asked_over : (l : Layout) (sees whose : Whose) (moment : ℤ) (q : Query) (m : Tables) (p : OrgPlan) (a : Asked) → IsAskedOf l sees moment q m p a → {ls : List Layout}
+    → ls ≡ own_layouts l.org p (Some a.tenant) → whose a.tenant a.user → IsAskedOver ls l sees whose moment q m p a
+asked_over l sees whose moment q m p a asked layouts rights = record { asked = asked; all = layouts; rights = rights }
+
 -- the caller, at the same moment
 pub caller_at : (c : Caller) (moment other : ℤ) (a : Asked) → other ≡ moment → IsCallerAt c moment a → IsCallerAt c other a
 caller_at c moment other a same is = record { user = is.user; admin = is.admin; now = is.now ∙ sym same }
@@ -120,7 +120,7 @@ nothing_answered org a q p m result s finds refused =
     subst (λ (v : Verdict). AnswersBy a v result) (sym verdict) (refused_so a (InvalidType q.tail.from) result refused)
 
 -- what stopped the search for it
-pub search_failed : (org : ℕ) (value : OrgPlan → Option Tenant → Option Layout) (a : Asked) (v : Verdict) (p : OrgPlan) (m : Tables) (f : StoreFail) → StandsIn org p m (Some a.tenant) → FindsIn org value m (Err f) → AnswersBy a v (Err f)
+pub search_failed : {X : Type 0} (org : ℕ) (value : OrgPlan → Option Tenant → X) (a : Asked) (v : Verdict) (p : OrgPlan) (m : Tables) (f : StoreFail) → StandsIn org p m (Some a.tenant) → FindsIn org value m (Err f) → AnswersBy a v (Err f)
 search_failed org value a v p m Damaged s finds = absurd (finds p (Some a.tenant) s)
 search_failed org value a v p m Keeper s finds = λ e. absurd cc
 search_failed org value a v p m Memory s finds = λ e. absurd cc
@@ -136,18 +136,3 @@ pub sight_failed : (r : UserRights) (l : Layout) (a : Asked) (v : Verdict) (p : 
 sight_failed r l a v p m Damaged s its is finds = absurd (finds p a.tenant a.user s its is)
 sight_failed r l a v p m Keeper s its is finds = λ e. absurd cc
 sight_failed r l a v p m Memory s its is finds = λ e. absurd cc
-
--- ---- queries that aren't built
-
--- over several objects
-pub paths_unbuilt : (a : Asked) (q : Query) (result : Result Reply StoreFail) → is_flat q ≡ false → Refuses (NotBuilt (chars (codes "paths"))) result → AnswersBy a (query_verdict a (Ok q)) result
-paths_unbuilt a q result several refused =
-    let why = NotBuilt (codes "paths") in
-    let verdict : query_verdict a (Ok q) ≡ refuse a.tenant why = ap (λ (flat : Bool). if flat then verdict_on a (asks q) else refuse a.tenant why) several in
-    subst (λ (v : Verdict). AnswersBy a v result) (sym verdict) (refused_so a why result (subst (λ (what : List ℕ). Refuses (NotBuilt what) result) paths_word refused))
-
--- over one
-pub flat_answered : (a : Asked) (q : Query) (result : Result Reply StoreFail) → is_flat q ≡ true → AnswersBy a (ask a q) result → AnswersBy a (query_verdict a (Ok q)) result
-flat_answered a q result flat h =
-    let verdict : query_verdict a (Ok q) ≡ ask a q = ap (λ (x : Bool). if x then verdict_on a (asks q) else refuse a.tenant (NotBuilt (codes "paths"))) flat in
-    subst (λ (v : Verdict). AnswersBy a v result) (sym verdict) h

@@ -1,4 +1,4 @@
-//! Queries of one object.
+//! Queries.
 
 ghost use Rattle.std.specs.Prelude.{◌≡◌, IfOk, IsTrue, Ok, Some, pos, true};
 ghost use Rattle.std.specs.Str.{chars};
@@ -14,18 +14,19 @@ ghost use Rattle.ut_model.specs.Step.{query_text};
 ghost use Rattle.ut_rest.specs.inner.Callers.{IsCallerAt, IsObjectOf};
 ghost use Rattle.ut_soql_grammar.specs.Spelling.{reads_query};
 ghost use Rattle.ut_stands.specs.Calls.{Calls, ended};
+ghost use Rattle.ut_stands.specs.Layouts.{own_layouts};
 ghost use Rattle.ut_stands.specs.Local.{StandsIn};
 ghost use Rattle.ut_stands.specs.Plan.{OrgPlan};
 ghost use Rattle.ut_step.specs.Built.{query_verdict};
 ghost use Rattle.ut_step.specs.Flat.{is_flat};
-ghost use Rattle.ut_step.specs.Own.{IsAsking, shown_beside};
+ghost use Rattle.ut_step.specs.Own.{IsAsking};
+ghost use Rattle.ut_step.specs.Shown.{further_to, shown_beside};
 ghost use Rattle.ut_value.specs.Dates.{is_moment};
 
 use crate::query::query_text;
-use crate::replies::refuse_unbuilt;
 use std::alloc::Global;
 use ut_admin::moment;
-use ut_answers::{answer_flat, refuse};
+use ut_answers::{answer_flat, answer_related, refuse};
 use ut_bind::is_flat;
 use ut_grammar::ParseFail;
 use ut_grants::{Everyone, UserRights, all_may_read, sight_of, user_rights};
@@ -35,7 +36,7 @@ use ut_model::{Caller, Refusal, Reply, object_laws};
 use ut_query::Query;
 use ut_rights::Administrator;
 use ut_soql::parse;
-use ut_stands::{Layout, call_laws, layout_named};
+use ut_stands::{Layout, call_laws, layout_named, layouts};
 use ut_value::Text;
 
 // An object that isn't there is refused under the name that the query has.
@@ -49,8 +50,8 @@ fn refuse_object(alloc: Global, name: &Text) -> Result<Reply, StoreFail>
     }
 }
 
-// Answers a user with these rights who asks for records of an object.
-fn answer_user<K: Keeper>(
+// Answers a user with these rights who asks for records of an object alone.
+fn answer_own_user<K: Keeper>(
     alloc: Global,
     draft: &mut Draft<'_, K>,
     rights: &UserRights,
@@ -62,7 +63,8 @@ fn answer_user<K: Keeper>(
         → (p : OrgPlan) (a : Asked) → IsObjectOf layout.now query.now (tables_of K.state draft.old) p a
         → IsUserRights a.tenant a.user rights.now → a.now ≡ now → is_flat query.now ≡ true → AnswersBy a (ask a query.now) result }
     ensures form { IfOk result IsReadReply }
-    ensures calls { Calls K.state (shown_beside (removals_of K.state data_table draft.old)) (ended result) draft.old draft.new }
+    ensures calls { Calls K.state (shown_beside (further_to (Ok query.now)) (removals_of K.state data_table draft.old)) (ended result)
+        draft.old draft.new }
 {
     draft_laws::<K>();
     call_laws::<K>();
@@ -73,9 +75,9 @@ fn answer_user<K: Keeper>(
     }
 }
 
-// Answers a caller who asks for records of an object, by what the caller sees of them. People and rules are read only where they
-// matter.
-fn answer_object<K: Keeper>(
+// Answers a caller who asks for records of an object alone, by what the caller sees of them. People and rules are read only where
+// they matter.
+fn answer_own<K: Keeper>(
     alloc: Global,
     draft: &mut Draft<'_, K>,
     caller: &Caller,
@@ -87,7 +89,8 @@ fn answer_object<K: Keeper>(
         → (p : OrgPlan) (a : Asked) → IsObjectOf layout.now query.now (tables_of K.state draft.old) p a
         → IsCallerAt caller.now now a → is_flat query.now ≡ true → AnswersBy a (ask a query.now) result }
     ensures form { IfOk result IsReadReply }
-    ensures calls { Calls K.state (shown_beside (removals_of K.state data_table draft.old)) (ended result) draft.old draft.new }
+    ensures calls { Calls K.state (shown_beside (further_to (Ok query.now)) (removals_of K.state data_table draft.old)) (ended result)
+        draft.old draft.new }
 {
     draft_laws::<K>();
     call_laws::<K>();
@@ -98,7 +101,99 @@ fn answer_object<K: Keeper>(
         return answer_flat(alloc, draft, layout, &Everyone, now, query);
     }
     match user_rights(alloc, draft, layout.org, &caller.user) {
-        Ok(rights) => answer_user(alloc, draft, &rights, layout, now, query),
+        Ok(rights) => answer_own_user(alloc, draft, &rights, layout, now, query),
+        Err(fail) => Err(fail),
+    }
+}
+
+// Answers a user with these rights who asks for records of an object, and for those to which they are related.
+fn answer_user<K: Keeper>(
+    alloc: Global,
+    draft: &mut Draft<'_, K>,
+    rights: &UserRights,
+    layouts: &[Layout],
+    layout: &Layout,
+    now: i64,
+    query: &Query,
+) -> Result<Reply, StoreFail>
+    ensures what { DraftTells K.state draft.old draft.new
+        → (p : OrgPlan) (a : Asked) → IsObjectOf layout.now query.now (tables_of K.state draft.old) p a
+        → layouts.now ≡ own_layouts layout.now.org p (Some a.tenant)
+        → IsUserRights a.tenant a.user rights.now → a.now ≡ now → AnswersBy a (ask a query.now) result }
+    ensures form { IfOk result IsReadReply }
+    ensures calls { Calls K.state (shown_beside (further_to (Ok query.now)) (removals_of K.state data_table draft.old)) (ended result)
+        draft.old draft.new }
+{
+    draft_laws::<K>();
+    call_laws::<K>();
+    object_laws();
+    match sight_of(alloc, draft, rights, layout) {
+        Ok(sight) => answer_related(alloc, draft, layouts, layout, &sight, rights, now, query),
+        Err(fail) => Err(fail),
+    }
+}
+
+// Answers a caller who asks for records of an object, and for those to which they are related, by what the caller sees of them.
+fn answer_over<K: Keeper>(
+    alloc: Global,
+    draft: &mut Draft<'_, K>,
+    caller: &Caller,
+    layouts: &[Layout],
+    layout: &Layout,
+    now: i64,
+    query: &Query,
+) -> Result<Reply, StoreFail>
+    ensures what { DraftTells K.state draft.old draft.new
+        → (p : OrgPlan) (a : Asked) → IsObjectOf layout.now query.now (tables_of K.state draft.old) p a
+        → layouts.now ≡ own_layouts layout.now.org p (Some a.tenant)
+        → IsCallerAt caller.now now a → AnswersBy a (ask a query.now) result }
+    ensures form { IfOk result IsReadReply }
+    ensures calls { Calls K.state (shown_beside (further_to (Ok query.now)) (removals_of K.state data_table draft.old)) (ended result)
+        draft.old draft.new }
+{
+    draft_laws::<K>();
+    call_laws::<K>();
+    if caller.admin {
+        return answer_related(
+            alloc,
+            draft,
+            layouts,
+            layout,
+            &Administrator,
+            &Administrator,
+            now,
+            query,
+        );
+    }
+    match user_rights(alloc, draft, layout.org, &caller.user) {
+        Ok(rights) => answer_user(alloc, draft, &rights, layouts, layout, now, query),
+        Err(fail) => Err(fail),
+    }
+}
+
+// Answers a caller who asks for records of an object. The layouts of the others are read only where the query goes to them.
+fn answer_object<K: Keeper>(
+    alloc: Global,
+    draft: &mut Draft<'_, K>,
+    caller: &Caller,
+    layout: &Layout,
+    now: i64,
+    query: &Query,
+) -> Result<Reply, StoreFail>
+    ensures what { DraftTells K.state draft.old draft.new
+        → (p : OrgPlan) (a : Asked) → IsObjectOf layout.now query.now (tables_of K.state draft.old) p a
+        → IsCallerAt caller.now now a → AnswersBy a (ask a query.now) result }
+    ensures form { IfOk result IsReadReply }
+    ensures calls { Calls K.state (shown_beside (further_to (Ok query.now)) (removals_of K.state data_table draft.old)) (ended result)
+        draft.old draft.new }
+{
+    draft_laws::<K>();
+    call_laws::<K>();
+    if is_flat(query) {
+        return answer_own(alloc, draft, caller, layout, now, query);
+    }
+    match layouts(alloc, draft, layout.org) {
+        Ok(layouts) => answer_over(alloc, draft, caller, layouts.as_slice(), layout, now, query),
         Err(fail) => Err(fail),
     }
 }
@@ -113,9 +208,10 @@ fn answer_named<K: Keeper>(
 ) -> Result<Reply, StoreFail>
     ensures what { DraftTells K.state draft.old draft.new
         → (p : OrgPlan) (a : Asked) → StandsIn caller.now.org p (tables_of K.state draft.old) (Some a.tenant) → IsCallerAt caller.now now a
-        → is_flat query.now ≡ true → AnswersBy a (ask a query.now) result }
+        → AnswersBy a (ask a query.now) result }
     ensures form { IfOk result IsReadReply }
-    ensures calls { Calls K.state (shown_beside (removals_of K.state data_table draft.old)) (ended result) draft.old draft.new }
+    ensures calls { Calls K.state (shown_beside (further_to (Ok query.now)) (removals_of K.state data_table draft.old)) (ended result)
+        draft.old draft.new }
 {
     draft_laws::<K>();
     call_laws::<K>();
@@ -143,28 +239,6 @@ fn refuse_malformed(alloc: Global, place: usize) -> Result<Reply, StoreFail>
     refuse(alloc, Refusal::MalformedQuery { place })
 }
 
-// Answers a query that was read. Those with paths of several names or with subqueries aren't built.
-fn answer_read<K: Keeper>(
-    alloc: Global,
-    draft: &mut Draft<'_, K>,
-    caller: &Caller,
-    now: i64,
-    query: &Query,
-) -> Result<Reply, StoreFail>
-    ensures what { DraftTells K.state draft.old draft.new
-        → (p : OrgPlan) (a : Asked) → StandsIn caller.now.org p (tables_of K.state draft.old) (Some a.tenant)
-        → IsCallerAt caller.now now a → AnswersBy a (query_verdict a (Ok query.now)) result }
-    ensures form { IfOk result IsReadReply }
-    ensures calls { Calls K.state (shown_beside (removals_of K.state data_table draft.old)) (ended result) draft.old draft.new }
-{
-    call_laws::<K>();
-    if is_flat(query) {
-        answer_named(alloc, draft, caller, now, query)
-    } else {
-        refuse_unbuilt(alloc, "paths")
-    }
-}
-
 /// Answers the query of a query string at this moment. Nothing is changed.
 ///
 /// # Errors
@@ -183,11 +257,12 @@ pub(crate) fn answer_query<K: Keeper>(
         → (p : OrgPlan) (a : Asked) → StandsIn caller.now.org p (tables_of K.state draft.old) (Some a.tenant)
         → IsAsking caller.now now a → AnswersBy a (query_verdict a (reads_query (query_text pairs.now))) result }
     ensures form { IfOk result IsReadReply }
-    ensures calls { Calls K.state (shown_beside (removals_of K.state data_table draft.old)) (ended result) draft.old draft.new }
+    ensures calls { Calls K.state (shown_beside (further_to (reads_query (query_text pairs.now))) (removals_of K.state data_table draft.old))
+        (ended result) draft.old draft.new }
 {
     call_laws::<K>();
     match query_in(alloc, pairs) {
-        Ok(query) => answer_read(alloc, draft, caller, moment(now), &query),
+        Ok(query) => answer_named(alloc, draft, caller, moment(now), &query),
         Err(ParseFail::Malformed(place)) => refuse_malformed(alloc, place),
         Err(ParseFail::Memory) => Err(StoreFail::Memory),
     }

@@ -11,7 +11,8 @@ ghost use Rattle.ut_model.specs.Routing.{is_administration, routed};
 ghost use Rattle.ut_rest.specs.Forms.{IsRequestReply};
 ghost use Rattle.ut_stands.specs.Operations.{Drafts, Responds};
 ghost use Rattle.ut_step.specs.Built.{built_request, verdict_to};
-ghost use Rattle.ut_step.specs.Own.{IsAsking, edit_shown, request_changes, request_gone, shown_beside};
+ghost use Rattle.ut_step.specs.Own.{IsAsking, edit_shown, request_changes, request_gone};
+ghost use Rattle.ut_step.specs.Shown.{further_shown, shown_beside};
 ghost use Rattle.ut_value.specs.Dates.{is_moment};
 
 use crate::asking::answer_query;
@@ -77,8 +78,8 @@ fn answer<K: Keeper>(
         → Responds caller.now.org (IsAsking caller.now now) (λ a. verdict_to a body.now (To route.now)) (tables_of K.state draft.old)
         (tables_of K.state draft.new) result }
     ensures form { IfOk result (IsRequestReply (To route.now)) }
-    ensures drafts { Drafts K.state request_changes request_gone (shown_beside (removals_of K.state data_table draft.old)) result
-        draft.old draft.new }
+    ensures drafts { Drafts K.state request_changes request_gone (shown_beside (further_shown (To route.now)) (removals_of K.state data_table draft.old))
+        result draft.old draft.new }
 {
     call_laws::<K>();
     if lacks_administrator(caller, route) {
@@ -113,7 +114,8 @@ pub fn respond<K: Keeper>(
         → Responds caller.now.org (IsAsking caller.now now) (λ a. verdict_to a body.now (routed method.now (chars target.now)))
         (tables_of K.state draft.old) (tables_of K.state draft.new) result }
     ensures form { IfOk result (IsRequestReply (routed method.now (chars target.now))) }
-    ensures drafts { Drafts K.state request_changes request_gone (shown_beside (removals_of K.state data_table draft.old)) result
+    ensures drafts { Drafts K.state request_changes request_gone
+        (shown_beside (further_shown (routed method.now (chars target.now))) (removals_of K.state data_table draft.old)) result
         draft.old draft.new }
 {
     call_laws::<K>();

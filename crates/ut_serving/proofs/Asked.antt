@@ -135,8 +135,8 @@ module _ (old mid : KeeperState) (first : AsksFirst old mid (Ok tt)) (new : Keep
   replies_after steps m close (Ok bytes) (j, form, is, kept) = (j, form, is, same_after steps m j kept)
   replies_after steps m close (Err e) h = tt
 
-  pub asks_after : {X : Type 0} (r : Result X StoreFail) → Asks mid new r → Asks old new r
-  asks_after r h = record {
+  pub asks_after : {X : Type 0} (m : Message) (r : Result X StoreFail) → Asks m mid new r → Asks m old new r
+  asks_after m r h = record {
     steps = steps_on old mid new first.reads.steps h.steps;
     trusted = h.trusted;
     cause = record {
@@ -174,8 +174,8 @@ module _ (old new : KeeperState) (e : StoreFail) (first : AsksFirst old new (Err
   fell_as : {X Y : Type 0} → ◌≡◌ {A = Result X StoreFail} (Err e) (Err Keeper) → ◌≡◌ {A = Result Y StoreFail} (Err e) (Err Keeper)
   fell_as failed = let is : e ≡ Keeper = cc in ap (λ f. Err f) is
 
-  pub asks_none : {X : Type 0} → Asks {X = X} old new (Err e)
-  asks_none = record {
+  pub asks_none : {X : Type 0} (m : Message) → Asks {X = X} m old new (Err e)
+  asks_none m = record {
     steps = first.reads.steps;
     trusted = λ done. absurd cc;
     cause = record { rose = λ failed. first.cause.rose (fell_as failed); never = λ sure failed. first.cause.never sure (fell_as failed) };

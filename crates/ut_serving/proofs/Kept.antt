@@ -49,7 +49,7 @@ module _ (w : World) (m : HttpMessage) (now : ℕ) (old new : KeeperState) where
   answered_memory e bytes steps h is = (memory, is, record { tables = λ _. h.1; faults = omega (arith, steps.counts) })
 
   -- an answer by how the request ended
-  pub answered_by : (a : Answer) → IsFixed m a → Asks old new (outcome_of a) → Does Stands (does (message_in m) m.close now) w new (outcome_of a) → Answers w m now old new (bytes_in m.method a)
+  pub answered_by : (a : Answer) → IsFixed m a → Asks (message_in m) old new (outcome_of a) → Does Stands (does (message_in m) m.close now) w new (outcome_of a) → Answers w m now old new (bytes_in m.method a)
   answered_by (Made bytes) form asks h = answered_done bytes asks.steps h
   answered_by (Damaged bytes) form asks h = absurd (h.0 refl)
   answered_by (Unavailable close) form asks h = answered_store Keeper (reply_to m.method 503 store_failed close) (asks.cause.rose refl) h (ap (reply_to m.method 503 store_failed) form)

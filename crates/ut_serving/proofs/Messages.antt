@@ -125,8 +125,8 @@ module _ (m : Message) (close : Bool) (old new : KeeperState) where
 -- ---- the keeper
 
 -- the data rows that may be shown over a draft
-abbrev pub shown_most : {K : Type 0} → (K → KeeperState) → Held K → ℕ
-shown_most state d = message_shown_beside (removals_of state data_table d)
+abbrev pub shown_most : {K : Type 0} → Message → (K → KeeperState) → Held K → ℕ
+shown_most m state d = message_shown_beside m (removals_of state data_table d)
 
 module _ {K : Type 0} (state : K → KeeperState) (d e : Held K) (new : KeeperState) (j : Returned) (r : Result (List ℕ) StoreFail) where
   stays_by : StaysAfter (is_ok j) (state d.keeper.now) (state e.keeper.now) → (IsTrue (is_ok j) → StaysAfter (is_ok r) (state e.keeper.now) new) → IfErr j (λ f. r ≡ Err f) → Steps (state e.keeper.now) new
@@ -169,9 +169,9 @@ module _ {K : Type 0} (state : K → KeeperState) (d e : Held K) (new : KeeperSt
           same f h e = cc
 
   -- what the request keeps of the keeper
-  pub asks_by : ChangesNothing d → DraftWorks state message_changes request_gone (shown_most state d) d e → StaysAfter (is_ok j) (state d.keeper.now) (state e.keeper.now)
-      → KeeperCause (state d.keeper.now) (state e.keeper.now) (IsErrOf j Keeper) → Quiet (state d.keeper.now) (state e.keeper.now) (IsErrOf j Keeper) → Finishes j (count_of e) (state e.keeper.now) new r → TrustedAfter true (state d.keeper.now) → Asks (state d.keeper.now) new r
-  asks_by empty works stays cause quiet finishes before = record {
+  pub asks_by : (m : Message) → ChangesNothing d → DraftWorks state message_changes request_gone (shown_most m state d) d e → StaysAfter (is_ok j) (state d.keeper.now) (state e.keeper.now)
+      → KeeperCause (state d.keeper.now) (state e.keeper.now) (IsErrOf j Keeper) → Quiet (state d.keeper.now) (state e.keeper.now) (IsErrOf j Keeper) → Finishes j (count_of e) (state e.keeper.now) new r → TrustedAfter true (state d.keeper.now) → Asks m (state d.keeper.now) new r
+  asks_by m empty works stays cause quiet finishes before = record {
     steps = steps_on (state d.keeper.now) (state e.keeper.now) new works.reads.steps finishes.steps;
     trusted = trusted_by before stays finishes.stays finishes.stopped works.reads.steps finishes.steps;
     cause = cause_by cause finishes.cause finishes.stopped works.reads.steps finishes.steps;

@@ -23,8 +23,9 @@ use Rattle.ut_stands.specs.Plan.{OrgPlan}
 use Rattle.ut_stands.specs.declared.judged.Judged.{Judged}
 use Rattle.ut_stands.specs.declared.judged.Judged.TheVariants.{Changed, Same}
 use Rattle.ut_step.specs.Built.{answer_built, answered, asking}
-use Rattle.ut_step.specs.Own.{IsAsking, request_changes, request_gone, shown_beside}
-use Rattle.ut_serving.specs.Own.{IsJudged, IsSmall, JudgesCaller, JudgesReply, after_step, bytes_of, message_changes, message_shown_beside}
+use Rattle.ut_step.specs.Own.{IsAsking, request_changes, request_gone}
+use Rattle.ut_step.specs.Shown.{shown_beside}
+use Rattle.ut_serving.specs.Own.{IsJudged, IsSmall, JudgesCaller, JudgesReply, after_step, bytes_of, message_changes, message_further, message_shown_beside}
 use Rattle.ut_serving.specs.Requests.{in_bytes}
 use Rattle.ut_serving.specs.inner.Steps.{IsInForm, JudgesRequest, request_does, verdict_of}
 use Rattle.ut_serving.proofs.Judging.{same_does}
@@ -139,11 +140,11 @@ some_made true (Ok (Same x)) mid after first then same change = subst (λ (n : �
 some_made true (Ok (Changed x)) mid after first then same change = then tt
 some_made true (Err e) mid after first then same change = absurd change
 
-module _ {K : Type 0} (state : K → KeeperState) (a b d : Held K) (made : Bool) (r : Returned) where
+module _ {K : Type 0} (state : K → KeeperState) (m : Message) (a b d : Held K) (made : Bool) (r : Returned) where
   abbrev Most : ℕ
-  Most = message_shown_beside (removals_of state data_table a)
+  Most = message_shown_beside m (removals_of state data_table a)
 
-  module _ (first : DraftsStep state (Ok made) a b) (second : Drafts state request_changes request_gone (shown_beside (removals_of state data_table b)) r b d) where
+  module _ (first : DraftsStep state (Ok made) a b) (second : Drafts state request_changes request_gone (shown_beside (message_further m) (removals_of state data_table b)) r b d) where
     -- unless the request changes something, the changes are those of the step
     pub same_count : IsSame r → count_of d ≡ count_of b
     same_count is = ap length (second.same is).changes
@@ -168,6 +169,6 @@ module _ {K : Type 0} (state : K → KeeperState) (a b d : Held K) (made : Bool)
     }
 
 -- a step that failed
-pub drafts_failed : {K : Type 0} (state : K → KeeperState) (a b : Held K) (e : StoreFail) → Makes state message_changes request_gone (message_shown_beside (removals_of state data_table a)) (ended {X = Bool} (Err e)) a b
-    → Drafts {X = List ℕ} state message_changes request_gone (message_shown_beside (removals_of state data_table a)) (Err e) a b
-drafts_failed state a b e makes = record { makes = makes; changing = λ none. absurd none; same = λ none. absurd none }
+pub drafts_failed : {K : Type 0} (state : K → KeeperState) (m : Message) (a b : Held K) (e : StoreFail) → Makes state message_changes request_gone (message_shown_beside m (removals_of state data_table a)) (ended {X = Bool} (Err e)) a b
+    → Drafts {X = List ℕ} state message_changes request_gone (message_shown_beside m (removals_of state data_table a)) (Err e) a b
+drafts_failed state m a b e makes = record { makes = makes; changing = λ none. absurd none; same = λ none. absurd none }

@@ -22,7 +22,8 @@ use Rattle.ut_stands.specs.Local.{KeepsOthers, StandsFor, StandsIn}
 use Rattle.ut_stands.specs.Operations.{DoesIn, IsChange, Judges}
 use Rattle.ut_stands.specs.Plan.{OrgPlan}
 use Rattle.ut_step.specs.Built.{answered, asking}
-use Rattle.ut_step.specs.Own.{IsAsking, own_step, request_changes, request_shown, shown_beside}
+use Rattle.ut_step.specs.Own.{IsAsking, own_step, request_changes}
+use Rattle.ut_step.specs.Shown.{further_shown, request_shown, shown_beside}
 use Rattle.ut_serving.specs.Requests.{in_bytes, message_in}
 
 -- the bytes of a reply to a message
@@ -88,13 +89,17 @@ DoesMessage m now old new result = DoesBy (key_in (message_in m)) (message_in m)
 abbrev pub message_changes : ℕ
 message_changes = step_changes + request_changes
 
+-- those that are shown for the parents and children of a query's rows
+abbrev pub message_further : Message → ℕ
+message_further m = further_shown (routed m.method m.target)
+
 -- the most data rows that are shown to a message
-abbrev pub message_shown : ℕ
-message_shown = step_shown + request_shown
+abbrev pub message_shown : Message → ℕ
+message_shown m = step_shown + (request_shown + message_further m)
 
 -- the same over a draft that removes so many, which may be among those that the step reads, too
-abbrev pub message_shown_beside : (removed : ℕ) → ℕ
-message_shown_beside removed = (step_shown + removed) + shown_beside removed
+abbrev pub message_shown_beside : Message → (removed : ℕ) → ℕ
+message_shown_beside m removed = (step_shown + removed) + shown_beside (message_further m) removed
 
 -- what is judged once a step was made, or where there was none: what a step changed is to be made, whatever the request changes
 abbrev pub after_step : {X : Type 0} → (made : Bool) → Result (Judged X) StoreFail → Result (Judged X) StoreFail
@@ -165,10 +170,10 @@ pub record AsksFirst (old new : KeeperState) (result : Result (Unit {0}) StoreFa
   pub quiet : Quiet old new (IsErrOf result Keeper)
 
 -- what a message keeps of a keeper: a reply is made only while it is trusted, few rows are written, and few are shown
-pub record Asks {X : Type 0} (old new : KeeperState) (result : Result X StoreFail) : Type 0 where
+pub record Asks {X : Type 0} (m : Message) (old new : KeeperState) (result : Result X StoreFail) : Type 0 where
   pub steps : Steps old new
   pub trusted : TrustedAfter (is_ok result) new
   pub cause : KeeperCause old new (IsErrOf result Keeper)
   pub quiet : Quiet old new (IsErrOf result Keeper)
   pub written : new.written ≤ old.written + message_changes
-  pub shown : Tells old new → ShowsMost message_shown old new
+  pub shown : Tells old new → ShowsMost (message_shown m) old new

@@ -11,10 +11,11 @@ ghost use Rattle.ut_stands.specs.Calls.{Calls, ended};
 ghost use Rattle.ut_stands.specs.Operations.{Drafts};
 ghost use Rattle.ut_stands.specs.Stands.{Stands};
 ghost use Rattle.ut_step.specs.Built.{step};
-ghost use Rattle.ut_step.specs.Own.{request_changes, request_gone, shown_beside};
+ghost use Rattle.ut_step.specs.Own.{request_changes, request_gone};
+ghost use Rattle.ut_step.specs.Shown.{shown_beside};
 ghost use Rattle.ut_value.specs.Dates.{is_moment};
 ghost use Rattle.ut_serving.specs.Leads.{LeadsFrom};
-ghost use Rattle.ut_serving.specs.Own.{Asks, AsksFirst, DoesMessage, IsMoving, IsStepped, JudgesCaller, JudgesMessage, JudgesReply, JudgesUnnamed, Replies, after_step, message_changes, message_shown_beside};
+ghost use Rattle.ut_serving.specs.Own.{Asks, AsksFirst, DoesMessage, IsMoving, IsStepped, JudgesCaller, JudgesMessage, JudgesReply, JudgesUnnamed, Replies, after_step, message_changes, message_further, message_shown_beside};
 ghost use Rattle.ut_serving.specs.Requests.{message_in};
 ghost use Rattle.ut_serving.specs.inner.Steps.{IsInForm, JudgesRequest};
 
@@ -91,7 +92,7 @@ fn judge_request<K: Keeper>(
         → JudgesRequest caller.now (message_in message.now) message.now.close now (tables_of K.state draft.old)
         (tables_of K.state draft.new) result }
     ensures form { IsInForm (message_in message.now) message.now.close result }
-    ensures drafts { Drafts K.state request_changes request_gone (shown_beside (removals_of K.state data_table draft.old)) result
+    ensures drafts { Drafts K.state request_changes request_gone (shown_beside (message_further (message_in message.now)) (removals_of K.state data_table draft.old)) result
         draft.old draft.new }
 {
     call_laws::<K>();
@@ -144,7 +145,7 @@ fn judge_called<K: Keeper>(
         (DraftTells K.state draft.old draft.new → IsMoving caller.now.org (tables_of K.state draft.old))
         (count_of draft.old) (count_of draft.new) result }
     ensures drafts { Drafts K.state message_changes request_gone
-        (message_shown_beside (removals_of K.state data_table draft.old)) result draft.old draft.new }
+        (message_shown_beside (message_in message.now) (removals_of K.state data_table draft.old)) result draft.old draft.new }
 {
     draft_laws::<K>();
     call_laws::<K>();
@@ -184,7 +185,7 @@ fn judge<K: Keeper>(
         (DraftTells K.state draft.old draft.new → IsStepped (message_in message.now) (tables_of K.state draft.old))
         (count_of draft.old) (count_of draft.new) result }
     ensures drafts { Drafts K.state message_changes request_gone
-        (message_shown_beside (removals_of K.state data_table draft.old)) result draft.old draft.new }
+        (message_shown_beside (message_in message.now) (removals_of K.state data_table draft.old)) result draft.old draft.new }
 {
     draft_laws::<K>();
     call_laws::<K>();
@@ -206,7 +207,7 @@ fn answer_drafted<K: Keeper>(
     requires { IsTrue (is_moment (pos now)) }
     ensures does { DoesMessage message.now now (K.state keeper.old) (K.state keeper.new) result }
     ensures form { Replies (message_in message.now) message.now.close (K.state keeper.old) (K.state keeper.new) result }
-    ensures asks { TrustedAfter true (K.state keeper.old) → Asks (K.state keeper.old) (K.state keeper.new) result }
+    ensures asks { TrustedAfter true (K.state keeper.old) → Asks (message_in message.now) (K.state keeper.old) (K.state keeper.new) result }
 {
     draft_laws::<K>();
     ended_laws::<Judged<Bytes>, K>();
@@ -245,7 +246,7 @@ fn answer_within<K: Keeper>(
     requires moment { IsTrue (is_moment (pos now)) }
     ensures does { DoesMessage message.now now (K.state keeper.old) (K.state keeper.new) result }
     ensures form { Replies (message_in message.now) message.now.close (K.state keeper.old) (K.state keeper.new) result }
-    ensures asks { Asks (K.state keeper.old) (K.state keeper.new) result }
+    ensures asks { Asks (message_in message.now) (K.state keeper.old) (K.state keeper.new) result }
 {
     match ask_first(alloc, keeper, is_sure) {
         Ok(()) => answer_drafted(alloc, routes, keeper, message, now),
@@ -267,7 +268,7 @@ fn answer_own<K: Keeper>(
     ensures does { DoesMessage message.now now (K.state keeper.old) (K.state keeper.new) (outcome_of result) }
     ensures form { IsFixed message.now result
         × Replies (message_in message.now) message.now.close (K.state keeper.old) (K.state keeper.new) (outcome_of result) }
-    ensures asks { Asks (K.state keeper.old) (K.state keeper.new) (outcome_of result) }
+    ensures asks { Asks (message_in message.now) (K.state keeper.old) (K.state keeper.new) (outcome_of result) }
 {
     match answer_within(alloc, routes, keeper, message, now, is_sure) {
         Ok(reply) => Answer::Made(reply),
@@ -308,7 +309,7 @@ pub fn answer_message<K: Keeper>(
     // and none if there is no caller. Few rows are written, and few are shown.
     ensures form { IsFixed message.now result
         × Replies (message_in message.now) message.now.close (K.state keeper.old) (K.state keeper.new) (outcome_of result) }
-    ensures asks { Asks (K.state keeper.old) (K.state keeper.new) (outcome_of result) }
+    ensures asks { Asks (message_in message.now) (K.state keeper.old) (K.state keeper.new) (outcome_of result) }
     ensures kept { Tells (K.state keeper.old) (K.state keeper.new) → (IsMade result → ⊥)
         → Shows (K.state keeper.new) (K.state keeper.old).tables }
 

@@ -1,5 +1,5 @@
--- The step of the world by what is built: the replies that are made, and what becomes of the world. What is built has the verdicts
--- of the whole step (Whole); a query of any other is refused with NOT_BUILT.
+-- The step of the world: the replies that are made, and what becomes of the world. It has the verdicts of the whole step (Whole), route
+-- by route.
 -- Source of the query: Salesforce, REST API, "Query". What is built is this product's own.
 use Rattle.std.specs.Prelude.{ℕ, pos, Bool, true, false, not, ◌&&◌, if◌then◌else◌, List, codes, Result, Ok, Err}
 use Rattle.ut_query.specs.declared.query.Query.{Query}
@@ -23,7 +23,6 @@ use Rattle.ut_model.specs.Step.{Answering, Message, query_text, refused, step_by
 use Rattle.ut_model.specs.Tenant.{Tenant, User}
 use Rattle.ut_model.specs.Verdict.{Verdict, refuse}
 use Rattle.ut_model.specs.World.{World, user_at}
-use Rattle.ut_step.specs.Flat.{is_flat}
 
 -- ---- requests
 
@@ -57,10 +56,9 @@ built_request r body = if is_built r then request_of r body else Err (refusal.No
 
 -- ---- queries
 
--- of queries those over one object are built
 abbrev pub query_verdict : Asked → Result Query ℕ → Verdict
 query_verdict a (Err place) = refuse a.tenant (refusal.MalformedQuery place)
-query_verdict a (Ok q) = if is_flat q then verdict_on a (asks q) else refuse a.tenant (refusal.NotBuilt (codes "paths"))
+query_verdict a (Ok q) = verdict_on a (asks q)
 
 -- ---- a caller's message
 

@@ -3,3 +3,4 @@ pub mod Built
 pub mod Whole
 pub mod Worked
 pub mod Own
+pub mod Shown

@@ -1,11 +1,10 @@
 -- A step of one organisation: who asks there, what a message with a key comes to, and how much a request may do.
-use Rattle.std.specs.Prelude.{◌≡◌, ℕ, ◌+◌, ◌*◌, pos, Option, Some, None}
+use Rattle.std.specs.Prelude.{◌≡◌, ℕ, ◌+◌, pos, Option, Some, None}
 use Rattle.ut_model.specs.declared.caller.Caller.{Caller}
-use Rattle.ut_model.specs.declared.limit.Limit.TheVariants as limit
 use Rattle.ut_model.specs.declared.refusal.Refusal.TheVariants as refusal
 use Rattle.ut_model.specs.declared.reply.Reply.{Reply}
 use Rattle.ut_model.specs.Callers.{Named}
-use Rattle.ut_model.specs.Limits.{deletion_limit, limit_number}
+use Rattle.ut_model.specs.Limits.{deletion_limit}
 use Rattle.ut_model.specs.Paths.{Asked}
 use Rattle.ut_model.specs.Step.{Message, answer_in, refusal_reply}
 use Rattle.ut_model.specs.Tenant.{Tenant}
@@ -31,16 +30,6 @@ request_changes = 245101
 -- the most data rows that a request removes: those of the records that go with one
 abbrev pub request_gone : ℕ
 request_gone = deletion_limit
-
--- the most data rows that are shown to a request: those of an object's records, and for each of them those of its masters, by which
--- it is readable
-abbrev pub request_shown : ℕ
-request_shown = 4 * limit_number limit.RecordsPerObject
-
--- the same over a draft that removes so many: a query reads an object's records in at most 80 pages, and the removed ones may be
--- among those of each
-abbrev pub shown_beside : (removed : ℕ) → ℕ
-shown_beside removed = request_shown + 80 * removed
 
 -- the most data rows that are shown to an edit: the record that a deletion names, the four that its level takes, and each that it
 -- removes or clears

@@ -14,7 +14,7 @@ ghost use Rattle.ut_model.specs.World.{World, tenant_at, with_tenant};
 ghost use Rattle.ut_step.specs.Flat.{is_flat};
 ghost use Rattle.ut_step.specs.Built.{answer_built, answered, asking, built_request, step};
 ghost use Rattle.ut_soql_grammar.specs.Spelling.{query_in};
-ghost use Rattle.ut_step.specs.Whole.{IsBuilt, whole_step};
+ghost use Rattle.ut_step.specs.Whole.{whole_step};
 ghost use Rattle.ut_step.specs.Worked.{acme, asks_by};
 
 use ut_model::answering_laws;
@@ -49,10 +49,10 @@ pub fn step_laws()
     answering_laws();
 }
 
-/// That what is built is the whole product, as far as it goes. The call does nothing.
+/// That what is built is the whole product. The call does nothing.
 pub fn whole_laws()
-    // What is built is answered as the whole product answers it.
-    ensures whole { (w : World) (m : Message) (now : ℕ) → IsBuilt w m now → step w m now ≡ whole_step w m now }
+    // A message is answered as the whole product answers it.
+    ensures whole { (w : World) (m : Message) (now : ℕ) → step w m now ≡ whole_step w m now }
 {}
 
 /// Steps of the world, worked by hand. The call does nothing.
@@ -62,14 +62,11 @@ pub fn step_rows()
     ensures no_object { step acme (asks_by (codes "q=SELECT+Id,Name+FROM+Deal__c")) 0
         ≡ (refusal_reply (refusal.InvalidType (codes "Deal__c")), acme) }
 
-    // What `whole_laws` takes as given can be met.
-    ensures built { IsBuilt acme (asks_by (codes "q=SELECT+Id,Name+FROM+Deal__c")) 0 }
-
-    // A word of the language is no name; of queries those with paths aren't built.
+    // A word of the language is no name; a query with a path is answered, too.
     ensures no_query { step acme (asks_by (codes "q=SELECT+Id,Name+FROM+Limit")) 0
         ≡ (refusal_reply (refusal.MalformedQuery 20), acme) }
     ensures with_path { step acme (asks_by (codes "q=SELECT+Id,Up__r.Name+FROM+Deal__c")) 0
-        ≡ (refusal_reply (refusal.NotBuilt (codes "paths")), acme) }
+        ≡ (refusal_reply (refusal.InvalidType (codes "Deal__c")), acme) }
 {
     answering_laws();
 }

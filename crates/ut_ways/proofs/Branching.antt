@@ -94,7 +94,7 @@ module _ (a : Asked) (r : Record) where
         ∙ ap (option_and_then (λ p. p)) (get_between (records xs) own it.0)
         ∙ ap (option_and_then (λ p. option_and_then (if_readable a) (record_to a.tenant b.step p))) (sym (records_stay xs (b ∷ ys) b.above among))
 
-  record_is : (bs : List Branch) (n : ℕ) (b : Branch) → AreBranches bs → slice_get bs n ≡ Some b → record_above r (records bs) (Some n) ≡ branch_record a r (records bs) b
+  pub record_is : (bs : List Branch) (n : ℕ) (b : Branch) → AreBranches bs → slice_get bs n ≡ Some b → record_above r (records bs) (Some n) ≡ branch_record a r (records bs) b
   record_is bs n b order at =
       let it = split_at bs n b at in
       let among : IsAmong it.before b.above = subst (λ (k : ℕ). IfSome b.above (λ m. m < k)) (sym it.number) (order n b at) in

@@ -7,3 +7,4 @@ pub mod Ends
 pub mod Spelling
 pub mod Branching
 pub mod Places
+pub mod Stepping

@@ -4,7 +4,10 @@
 use Rattle.std.specs.Prelude.{◌≡◌, ℕ, ◌<◌, List, [], ◌∷◌, ◌++◌, length, Option, Some, None, IfSome, slice_get}
 use Rattle.std.specs.Option.{option_and_then}
 use Rattle.ut_model.specs.declared.record.Record.{Record}
-use Rattle.ut_model.specs.Paths.{Asked, if_readable}
+use Rattle.ut_model.specs.Membership.{Has}
+use Rattle.ut_model.specs.Objects.{records_of}
+use Rattle.ut_model.specs.Paths.{Asked, if_readable, parent_of}
+use Rattle.ut_model.specs.Relationships.{Reference, parent_named}
 use Rattle.ut_model.specs.Tenant.{Tenant}
 use Rattle.ut_stands.specs.Layouts.{IsLayout}
 use Rattle.ut_stands.specs.Plan.{OrgPlan}
@@ -66,3 +69,38 @@ pub record LeadTo (q : OrgPlan) (t : Tenant) (n : ℕ) (names : List (List ℕ))
 abbrev pub FindsPlace : OrgPlan → Tenant → (object : ℕ) → (names : List (List ℕ)) → List Branch → Option Place → Type 0
 FindsPlace q t n names branches None = path_end t n names ≡ None
 FindsPlace q t n names branches (Some p) = LeadTo q t n names branches p
+
+-- ---- a step on
+
+-- the record of a place, for who asks and of this row's record
+abbrev pub place_record : Asked → Record → List Branch → Place → Option Record
+place_record a r branches p = record_above r (branch_records a r [] branches) p.branch
+
+-- from a place, the parent relationship with this name leads to that place
+pub record LeadsToParent (q : OrgPlan) (t : Tenant) (from : Place) (name : List ℕ) (branches : List Branch) (p : Place) : Type 0 where
+  -- it is there, and the place's layout is that of the object to whose records it leads
+  pub reference : Reference
+  pub named : parent_named t from.layout.now.object name ≡ Some reference
+  pub layout : IsLayout q t p.layout.now
+  pub target : p.layout.now.object ≡ reference.target
+  -- the place has a branch
+  pub number : ℕ
+  pub branch : p.branch ≡ Some number
+  pub among : IsAmong branches p.branch
+  -- of any row's record, for whoever asks and whatever branches follow: where there is no record, there is no parent
+  pub none :
+      (a : Asked) (r : Record) (more : List Branch) → a.tenant ≡ t
+      → place_record a r (branches ++ more) from ≡ None → place_record a r (branches ++ more) p ≡ None
+  -- where there is one, it is that one's parent, and of the place's object
+  pub parent :
+      (a : Asked) (r s : Record) (more : List Branch) → a.tenant ≡ t
+      → place_record a r (branches ++ more) from ≡ Some s → Has (records_of t from.layout.now.object) s
+      → place_record a r (branches ++ more) p ≡ parent_of a s name
+  pub found :
+      (a : Asked) (s x : Record) → a.tenant ≡ t → Has (records_of t from.layout.now.object) s
+      → parent_of a s name ≡ Some x → Has (records_of t p.layout.now.object) x
+
+-- what is found is the place to which it leads; nothing is found where there is no such relationship
+abbrev pub FindsParent : OrgPlan → Tenant → (from : Place) → (name : List ℕ) → List Branch → Option Place → Type 0
+FindsParent q t from name branches None = parent_named t from.layout.now.object name ≡ None
+FindsParent q t from name branches (Some p) = LeadsToParent q t from name branches p

@@ -1,6 +1,7 @@
 //! The parents that a row needs, each once.
 
-ghost use Rattle.std.specs.Prelude.{◌≡◌, ℕ, List, [], ◌++◌, Option, Some, IfOk, IfSome, IfNone, length, slice_get};
+ghost use Rattle.std.specs.Prelude.{◌≡◌, ℕ, ◌+◌, ◌≤◌, List, [], ◌++◌, Option, Some, IfOk, IfSome, IfNone, length, slice_get};
+ghost use Rattle.std.specs.Str.{chars};
 ghost use Rattle.ut_model.specs.Paths.{Asked};
 ghost use Rattle.ut_model.specs.Sound.{IsSound};
 ghost use Rattle.ut_model.specs.Tenant.{Tenant};
@@ -8,7 +9,8 @@ ghost use Rattle.ut_model.specs.declared.record.Record.{Record};
 ghost use Rattle.ut_stands.specs.Layouts.{IsLayout, own_layouts};
 ghost use Rattle.ut_stands.specs.Plan.{OrgPlan};
 ghost use Rattle.ut_ways.specs.declared.branches.Branch.{Branch};
-ghost use Rattle.ut_ways.specs.Branches.{AreApart, AreBranches, AddsBranches, FindsPlace, IsAmong, branch_records, record_above};
+ghost use Rattle.ut_ways.specs.Branches.{AreApart, AreBranches, AddsBranches, IsAmong, branch_records, record_above};
+ghost use Rattle.ut_ways.specs.Branches.{FindsParent, FindsPlace};
 
 use crate::parents::{ParentStep, parent_in};
 use crate::ways::layout_in;
@@ -49,6 +51,7 @@ fn find_or_add(branches: &mut Vec<Branch>, branch: Branch) -> Result<usize, Allo
     ensures there { IfOk result (λ n. slice_get branches.new.items n ≡ Some branch) }
     ensures grows { AddsBranches branches.old.items branches.new.items }
     ensures once { AreApart branches.old.items → AreApart branches.new.items }
+    ensures few { length branches.new.items ≤ length branches.old.items + 1 }
 {
     if let Some(number) = number_of(branches.as_slice(), branch) {
         return Ok(number);
@@ -56,6 +59,42 @@ fn find_or_add(branches: &mut Vec<Branch>, branch: Branch) -> Result<usize, Allo
     let number = branches.len();
     branches.push(branch)?;
     Ok(number)
+}
+
+/// The place to which the parent relationship with this name leads from a place, by the layouts of all objects. A branch that is
+/// there serves again; one that is lacking is added behind the others.
+///
+/// # Errors
+///
+/// When out of memory. No branch is added then.
+pub fn step_from<'a>(
+    layouts: &'a [Layout],
+    from: Place<'a>,
+    name: &str,
+    branches: &mut Vec<Branch>,
+) -> Result<Option<Place<'a>>, AllocError>
+    requires order { AreBranches branches.old.items }
+    requires above { IsAmong branches.old.items from.branch }
+    ensures finds { IfOk result (λ place. (org : ℕ) (q : OrgPlan) (t : Tenant) → layouts.now ≡ own_layouts org q (Some t)
+        → IsLayout q t from.entry.layout.now → IsSound t → FindsParent q t from.entry (chars name.now) branches.new.items place) }
+    ensures among { IfOk result (λ place. IfSome place (λ p. IsAmong branches.new.items p.branch)) }
+    // Whatever is returned.
+    ensures grows { AddsBranches branches.old.items branches.new.items }
+    ensures once { AreApart branches.old.items → AreApart branches.new.items }
+    ensures few { length branches.new.items ≤ length branches.old.items + 1 }
+{
+    let Some(step) = parent_in(from.layout, name) else {
+        return Ok(None);
+    };
+    let Some(layout) = layout_in(layouts, step.target) else {
+        return Ok(None);
+    };
+    let above = from.branch;
+    let number = find_or_add(branches, Branch { above, step })?;
+    Ok(Some(Place {
+        branch: Some(number),
+        layout,
+    }))
 }
 
 /// The place to which names of parent relationships lead from an object, by the layouts of all objects. A branch that is there
@@ -76,6 +115,7 @@ pub fn place_in<'a>(
     // Whatever is returned.
     ensures grows { AddsBranches branches.old.items branches.new.items }
     ensures once { AreApart branches.old.items → AreApart branches.new.items }
+    ensures few { length branches.new.items ≤ length branches.old.items + length names.now }
 {
     let mut at = None;
     let mut end = layout;

@@ -14,7 +14,7 @@ mod parents;
 mod references;
 mod ways;
 
-pub use crate::branches::{Branch, Place, branch_laws, place_in};
+pub use crate::branches::{Branch, Place, branch_laws, place_in, step_from};
 pub use crate::children::{ChildStep, child_in};
 pub use crate::laws::way_laws;
 pub use crate::parents::{ParentStep, parent_in};

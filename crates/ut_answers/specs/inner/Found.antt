@@ -1,24 +1,38 @@
 -- The reply that has the rows of a plan.
-use Rattle.std.specs.Prelude.{◌≡◌, ◌≢◌, map, Result, Ok, Err}
+use Rattle.std.specs.Prelude.{◌≡◌, ◌≢◌, ℕ, List, map, Result, Ok, Err}
 use Rattle.ut_keeper.specs.Tables.{Tables}
 use Rattle.ut_keys.specs.declared.fail.StoreFail.{StoreFail}
 use Rattle.ut_keys.specs.declared.fail.StoreFail.TheVariants.{Damaged}
+use Rattle.ut_model.specs.Paths.{Asked}
 use Rattle.ut_model.specs.Replies.{json_reply, unless_too_large}
 use Rattle.ut_model.specs.RowsJson.{rows_json}
-use Rattle.ut_model.specs.Tenant.{Tenant, User}
+use Rattle.ut_model.specs.declared.record.Record.{Record}
 use Rattle.ut_model.specs.declared.reply.Reply.{Reply}
+use Rattle.ut_bind.specs.Shown.{row_text}
+use Rattle.ut_bind.specs.declared.plan.Child.{Child}
 use Rattle.ut_bind.specs.declared.plan.Plan.{Plan}
+use Rattle.ut_bind.specs.declared.plan.Shown.{Shown}
+use Rattle.ut_exec.specs.Relatives.{by_relatives}
 use Rattle.ut_exec.specs.Written.{InTenants}
-use Rattle.ut_rights.specs.Rights.{Whose}
+use Rattle.ut_rows.specs.Shows.{shows}
+use Rattle.ut_stands.specs.Plan.{OrgPlan}
 use Rattle.ut_stands.specs.declared.layout.Layout.{Layout}
-use Rattle.ut_answers.specs.Planned.{plan_rows}
-use Rattle.ut_answers.specs.inner.Rows.{row_text}
+use Rattle.ut_answers.specs.Planned.{Parents, choice_rows}
 
--- the reply that has them
-abbrev pub plan_reply : Layout → Plan → Tenant → User → Reply
-plan_reply l p t u = unless_too_large (json_reply 200 (rows_json (map (row_text l.name p.shown) (plan_rows p l.object t u))))
+-- the children of a record that are found, as who asks may read them
+abbrev pub Children : Type 0
+Children = Asked → Record → List (List Child)
 
--- it is this of each user who sees so, of a tenant for which the organisation's rows stand and whose layout it is
-abbrev pub AnswersPlan : Layout → (sees : Whose) → Plan → Tables → Result Reply StoreFail → Type 0
-AnswersPlan l sees p m (Ok r) = InTenants l sees m (λ t u. r ≡ plan_reply l p t u)
-AnswersPlan l sees p m (Err e) = InTenants l sees m (λ t u. e ≢ Damaged)
+-- a row in JSON
+abbrev pub row_json_by : Parents → Children → (object : List ℕ) → List Shown → Asked → Record → List ℕ
+row_json_by parents children object shown = by_relatives parents children (row_text shows object shown)
+
+-- the reply that has the rows of a plan
+abbrev pub plan_reply : Parents → Children → Layout → Plan → Asked → Reply
+plan_reply parents children l p a =
+    unless_too_large (json_reply 200 (rows_json (map (row_json_by parents children l.name p.shown a) (choice_rows parents p.choice l.object a))))
+
+-- it is this of whoever asks so, in a tenant for which the organisation's rows stand and whose layout it is
+abbrev pub AnswersPlan : Layout → (who : OrgPlan → Asked → Type 0) → Parents → Children → Plan → Tables → Result Reply StoreFail → Type 0
+AnswersPlan l who parents children p m (Ok r) = InTenants l who m (λ a. r ≡ plan_reply parents children l p a)
+AnswersPlan l who parents children p m (Err e) = InTenants l who m (λ a. e ≢ Damaged)

@@ -1,38 +1,29 @@
--- What names and literals become by a layout, and what is known of a record where they mean the same.
-use Rattle.std.specs.Prelude.{◌≡◌, ℕ, true, if◌then◌else◌, List, [], ◌∷◌, Some, None, ℤ, pos, negsuc, ◌+ℤ◌}
-use Rattle.std.specs.Option.{unwrap_or}
+-- What literals become by a layout, and what is known of a record where they mean the same.
+use Rattle.std.specs.Prelude.{◌≡◌, ℕ, if◌then◌else◌, List, Option, Some, ℤ, pos, negsuc, ◌+ℤ◌, slice_get}
+use Rattle.std.specs.Option.{option_and_then, unwrap_or}
 use Rattle.ut_value.specs.Id.{id_in}
 use Rattle.ut_value.specs.Printing.{day_of_moment}
 use Rattle.ut_value.specs.declared.value.Value.{Value}
 use Rattle.ut_value.specs.declared.value.Value.TheVariants as value
 use Rattle.ut_formula.specs.Meaning.{text_value}
-use Rattle.ut_query.specs.declared.query.Item.{Item}
-use Rattle.ut_query.specs.declared.query.Item.TheVariants as item
 use Rattle.ut_query.specs.declared.query.Literal.{Literal}
 use Rattle.ut_query.specs.declared.query.Literal.TheVariants as literal
-use Rattle.ut_query.specs.declared.query.OrderKey.{OrderKey}
 use Rattle.ut_query.specs.declared.query.Query.{Query}
 use Rattle.ut_model.specs.declared.record.Record.{Record}
-use Rattle.ut_model.specs.Asking.{literals_of, text_no_id}
 use Rattle.ut_model.specs.Cases.{in_case}
 use Rattle.ut_model.specs.Fields.{as_ref, value_in}
 use Rattle.ut_model.specs.Paths.{Asked, field_value}
 use Rattle.ut_model.specs.RowsJson.{field_name}
-use Rattle.ut_model.specs.Rules.{first_of}
-use Rattle.ut_model.specs.Tests.{Tested, way_suits}
 use Rattle.ut_stands.specs.declared.layout.Layout.{Layout}
 use Rattle.ut_bind.specs.declared.check.Operand.{Operand}
 use Rattle.ut_bind.specs.declared.check.Operand.TheVariants.{Plain, Clock}
 use Rattle.ut_bind.specs.declared.check.Site.{Site}
-use Rattle.ut_bind.specs.declared.check.Site.TheVariants as site
 use Rattle.ut_bind.specs.declared.columns.Column.{Column}
 use Rattle.ut_bind.specs.declared.columns.Family.{Family}
 use Rattle.ut_bind.specs.declared.columns.Family.TheVariants as family
-use Rattle.ut_bind.specs.declared.plan.Shown.{Shown}
-use Rattle.ut_bind.specs.declared.plan.SortKey.{SortKey}
 use Rattle.ut_bind.specs.Checks.{site_of}
-use Rattle.ut_bind.specs.inner.Columns.{column, column_in, name_at}
-use Rattle.ut_bind.specs.inner.Rules.{column_of, is_ids, suits_in}
+use Rattle.ut_bind.specs.inner.Columns.{column_in, name_at}
+use Rattle.ut_bind.specs.inner.Rules.{is_ids}
 
 -- ---- what is compared with
 
@@ -52,19 +43,9 @@ operand_of day f literal.Tomorrow = Clock (day +ℤ pos 1)
 
 -- ---- places
 
--- the field of a path, and else the id
-abbrev pub bound_column : Layout → List (List ℕ) → Column
-bound_column l names = in_case (column_of l names) (column family.Ids site.Id) (λ c. c)
-
-abbrev pub item_site : Layout → Item → Site
-item_site l (item.Path p) = (bound_column l p.names).site
-item_site l (item.Child paths tail) = site.Id
-
-abbrev pub shown_of : Layout → Item → Shown
-shown_of l x = record { name = name_at l (item_site l x); site = item_site l x }
-
-abbrev pub sort_key : Layout → OrderKey → SortKey
-sort_key l k = record { site = (bound_column l k.path.names).site; descending = k.descending; nulls_last = k.nulls_last }
+-- what one of these records has at a site; null where there is none
+abbrev pub far_value : List (Option Record) → ℕ → Site → Value
+far_value far n s = in_case (option_and_then (λ p. p) (slice_get far n)) value.Null (value_in (site_of s))
 
 abbrev pub skip_of : Query → ℕ
 skip_of q = unwrap_or q.offset 0
@@ -89,13 +70,3 @@ pub record IsFound (a : Asked) (l : Layout) (r : Record) (name : List ℕ) (c : 
 pub record Knows (a : Asked) (l : Layout) (day : ℤ) (r : Record) : Type 0 where
   pub today : day ≡ day_of_moment a.now
   pub found : (name : List ℕ) (c : Column) → column_in l name ≡ Some c → IsFound a l r name c
-
--- ---- tests that nothing refuses
-
-pub record IsClean (l : Layout) (x : Tested) : Type 0 where
-  pub column : Column
-  pub name : List ℕ
-  pub own : x.names ≡ name ∷ []
-  pub there : column_in l name ≡ Some column
-  pub suits : way_suits (suits_in column.family) x.way ≡ true
-  pub ids : is_ids column.family ≡ true → first_of text_no_id (literals_of x.way) ≡ None

@@ -1,7 +1,6 @@
 -- Why a query is refused, by the layouts of all objects and that of its own.
 use Rattle.std.specs.Prelude.{ℕ, Bool, true, false, not, if◌then◌else◌, List, [], ◌∷◌, ◌++◌, Option, Some, None, is_none}
 use Rattle.std.specs.List.{list_any}
-use Rattle.std.specs.Option.{option_and_then}
 use Rattle.ut_query.specs.declared.query.Item.{Item}
 use Rattle.ut_query.specs.declared.query.Item.TheVariants as item
 use Rattle.ut_query.specs.declared.query.OrderKey.{OrderKey}
@@ -16,14 +15,12 @@ use Rattle.ut_model.specs.Rules as model
 use Rattle.ut_model.specs.Rules.{first_of, first_refusal, refuse_if}
 use Rattle.ut_model.specs.Tests.{Suits, Tested, Way, among, by, by_pattern, day_or_null, ids_suit, moment_or_null, number_or_null, suits, tests, text_or_null, truth_or_null, way_suits}
 use Rattle.ut_stands.specs.declared.layout.Layout.{Layout}
-use Rattle.ut_bind.specs.declared.columns.Column.{Column}
 use Rattle.ut_bind.specs.declared.columns.Family.{Family}
 use Rattle.ut_bind.specs.declared.columns.Family.TheVariants as family
 use Rattle.ut_bind.specs.declared.rules.Rule.{Rule}
 use Rattle.ut_bind.specs.declared.rules.Rule.TheVariants as rule
 use Rattle.ut_bind.specs.declared.suits.Way as held
 use Rattle.ut_bind.specs.declared.suits.Way.TheVariants as ways
-use Rattle.ut_bind.specs.inner.Columns.{column_in}
 use Rattle.ut_bind.specs.inner.Ways.{child_layout, path_column_in}
 
 -- ---- tests
@@ -56,9 +53,6 @@ is_ids _ = false
 abbrev pub own_name : List (List ℕ) → Option (List ℕ)
 own_name (name ∷ []) = Some name
 own_name _ = None
-
-abbrev pub column_of : Layout → List (List ℕ) → Option Column
-column_of l names = option_and_then (column_in l) (own_name names)
 
 -- ---- rules of tests
 

@@ -8,7 +8,9 @@ use Rattle.ut_model.specs.Fields.{is_master, same_name}
 use Rattle.ut_model.specs.declared.record.Record.{Record}
 use Rattle.ut_stands.specs.declared.layout.FieldPlace.{FieldPlace}
 use Rattle.ut_stands.specs.declared.layout.Layout.{Layout}
-use Rattle.ut_answers.specs.inner.Rows.{cell_of}
+use Rattle.ut_bind.specs.Plans.{shown_value}
+use Rattle.ut_rows.specs.Shows.{or_null}
+use Rattle.ut_value.specs.declared.value.Value.{Value}
 use Rattle.ut_csvq.specs.Lines.{line}
 
 -- the first of these fields' names that is the same, or the name itself
@@ -26,6 +28,10 @@ declared_name l name =
     else (if list_any (λ f. is_master f.kind) l.fields then custom_name l.fields name
     else (if same_name (chars (codes "OwnerId")) name then chars (codes "OwnerId")
     else custom_name l.fields name)))))
+
+-- a value that can be printed, of what a plan shows of a record
+abbrev pub cell_of : Record → Shown → Value
+cell_of r s = or_null (shown_value [] r s).value
 
 -- what a plan shows of a record
 abbrev pub shown_line : List Shown → Record → List ℕ

@@ -16,6 +16,15 @@ Appends bytes room old new (Err (Store Damaged)) = ⊥
 Appends bytes room old new (Err (Store Keeper)) = ⊥
 Appends bytes room old new (Err (Store Memory)) = Unit {0}
 
+-- a row that was admitted was written, or there is no room for it
+abbrev pub Written : (bytes : List ℕ) → (from to : Progress) → (old new : List ℕ) → Result (Unit {0}) ExecFail → Type 0
+Written bytes from to old new (Ok x) =
+    (to.window ≡ from.window) × (new ≡ old ++ bytes) × (to.room + length bytes ≡ from.room) × (to.count ≡ from.count + 1)
+Written bytes from to old new (Err TooLarge) = from.room < length bytes
+Written bytes from to old new (Err (Store Damaged)) = ⊥
+Written bytes from to old new (Err (Store Keeper)) = Unit {0}
+Written bytes from to old new (Err (Store Memory)) = Unit {0}
+
 module _ (row : Record → List ℕ) where
   -- of the rows that were offered these were written; with those that are still to be taken they are all that were to be
   pub record WritesTaken (from to : Progress) (old new : List ℕ) (offered : List Record) : Type 0 where
@@ -33,5 +42,5 @@ module _ (row : Record → List ℕ) where
   Offered from to old new offered (Ok x) = WritesTaken from to old new offered
   Offered from to old new offered (Err TooLarge) = Overflows from offered
   Offered from to old new offered (Err (Store Damaged)) = ⊥
-  Offered from to old new offered (Err (Store Keeper)) = ⊥
+  Offered from to old new offered (Err (Store Keeper)) = Unit {0}
   Offered from to old new offered (Err (Store Memory)) = Unit {0}

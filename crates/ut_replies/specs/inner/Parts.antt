@@ -1,7 +1,6 @@
 -- What is written.
-use Rattle.std.specs.Prelude.{ℕ, Bool, true, List, [], ◌∷◌, ◌++◌, codes}
-use Rattle.std.specs.Fmt.{decimal}
-use Rattle.ut_json.specs.Printing.{printed_text, printed_truth}
+use Rattle.std.specs.Prelude.{ℕ, Bool, List, [], ◌∷◌, ◌++◌, codes}
+use Rattle.ut_json.specs.Printing.{printed_truth}
 use Rattle.ut_model.specs.Replies.{made_members}
 use Rattle.ut_model.specs.RowsJson.{member_json}
 pub use Rattle.ut_replies.specs.Written.{Wrote}
@@ -9,9 +8,3 @@ pub use Rattle.ut_replies.specs.Written.{Wrote}
 -- the members of what was made, and whether it is new
 abbrev pub upserted_members : (id : List ℕ) → (created : Bool) → List (List ℕ)
 upserted_members id created = made_members id ++ member_json (codes "created") (printed_truth created) ∷ []
-
--- what comes before so many rows
-abbrev pub rows_front : ℕ → List ℕ
-rows_front count =
-    codes "{" ++ (member_json (codes "totalSize") (decimal count)
-    ++ (codes "," ++ (member_json (codes "done") (printed_truth true) ++ (codes "," ++ (printed_text (codes "records") ++ codes ":" ++ codes "[")))))

@@ -1,5 +1,5 @@
-use Rattle.ut_bind.proofs.Found.{found_is, row_is}
+use Rattle.ut_bind.proofs.Found.{found_is}
 use Rattle.ut_bind.proofs.laws.plan_laws.Goals as goal
 
 pub returns : goal.returns
-returns c = record { found = found_is; row = row_is }
+returns c = record { found = found_is }

@@ -24,19 +24,19 @@ module _ (p : OrgPlan) (t : Tenant) where
 
 pub returns-in-Some : goal.returns-in-Some
 unfolding own_layout_named
-returns-in-Some c flat a made =
+returns-in-Some c a made =
     let name : chars c.as_str.result.now ≡ c.args.query.now.tail.from = c.as_str.ensures.characters in
     let read = c.in_ok-found.ensures.finds (tt, refl) made.plan (Some a.tenant) made.stands in
     let at = found_at made.plan a.tenant (object_named a.tenant c.args.query.now.tail.from) c.in-Some.layout
     (sym c.in-Some.is ∙ read ∙ ap (λ (n : List ℕ). option_map (layout_of 1 made.plan a.tenant) (object_named a.tenant n)) name) in
     let same = c.call_laws.ensures.tables 0 _ c.args.draft.now c.layout_named.new.draft c.in_ok-found.ensures.calls (tt, refl) in
-    c.answer_there.ensures flat a
+    c.answer_over.ensures a
     (record { plan = made.plan; stands = subst (λ (m : Tables). StandsIn 1 made.plan m (Some a.tenant)) (sym same) made.stands; users = made.users; user = made.user; moment = made.moment })
     at.0 at.1 at.2
 
 pub returns-in_ok-name-in-None : goal.returns-in_ok-name-in-None
 unfolding own_layout_named
-returns-in_ok-name-in-None c flat a made =
+returns-in_ok-name-in-None c a made =
     let name : chars c.as_str.result.now ≡ c.args.query.now.tail.from = c.as_str.ensures.characters in
     let read = c.in_ok-found.ensures.finds (tt, refl) made.plan (Some a.tenant) made.stands in
     ap (λ (n : List ℕ). Refused (InvalidType n)) c.in_ok-name-in-None.ensures

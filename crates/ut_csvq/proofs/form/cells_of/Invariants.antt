@@ -1,5 +1,5 @@
 use Rattle.std.proofs.Common.{◌≡◌, ◌++◌, Some, drop, map}
-use Rattle.ut_answers.specs.inner.Rows.{cell_of}
+use Rattle.ut_csvq.specs.inner.Names.{cell_of}
 use Rattle.ut_model.specs.declared.record.Record.{Record}
 use Rattle.ut_value.specs.Printing.{print_value}
 use Rattle.ut_csvq.proofs.form.cells_of.Given as goal

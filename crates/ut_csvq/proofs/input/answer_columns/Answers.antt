@@ -11,7 +11,7 @@ use Rattle.ut_csvq.proofs.Turns.{goes_well, goes_wrong}
 use Rattle.ut_csvq.proofs.input.answer_columns.Goals as goal
 
 pub returns-in-Some : goal.returns-in-Some
-returns-in-Some c flat a made =
+returns-in-Some c a made =
     let m = tables_of memory_state c.make_columns.new.draft in
     let hs = fields_of c.args.heading.now in
     let r = with_columns false a hs in
@@ -19,10 +19,10 @@ returns-in-Some c flat a made =
     sym (ap (columns_outcome c.args.query.now hs (map fields_of c.args.rows.now)) (goes_wrong c.args.now m r _ h))
 
 pub returns-in-None : goal.returns-in-None
-returns-in-None c flat a made =
+returns-in-None c a made =
     let m = tables_of memory_state c.make_columns.new.draft in
     let hs = fields_of c.args.heading.now in
     let r = with_columns false a hs in
     let h = subst (λ (x : Option (List ℕ)). Goes c.args.now m r (Ok x)) c.in-None.is (c.in_ok-refused.ensures c.args.now a made) in
     let w = goes_well c.args.now m r h in
-    subst (λ (x : Result Asked (List ℕ)). IfOk c.answer_rows.result (λ o. o ≡ columns_outcome c.args.query.now hs (map fields_of c.args.rows.now) x)) (sym w.1) (c.answer_rows.ensures flat w.0 w.2)
+    subst (λ (x : Result Asked (List ℕ)). IfOk c.answer_rows.result (λ o. o ≡ columns_outcome c.args.query.now hs (map fields_of c.args.rows.now) x)) (sym w.1) (c.answer_rows.ensures w.0 w.2)

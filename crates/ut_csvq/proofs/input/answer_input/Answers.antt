@@ -14,7 +14,7 @@ returns-in-Ok c =
     subst (λ (x : Outcome). IfOk c.answer_records.result (λ o. o ≡ x))
     (ap (λ (rs : List Row). table_outcome c.args.query.now (pos c.args.now) (map fields_of rs)) c.as_slice.ensures.value
     ∙ table_answered c.args.query.now c.args.now c.args.bytes.now (omega arith) c.in-Ok.ensures.accepted _ c.in-Ok.ensures.records)
-    (c.answer_records.ensures c.requires.flat)
+    c.answer_records.ensures
 
 pub returns-in-Err-Refused : goal.returns-in-Err-Refused
 returns-in-Err-Refused c =

@@ -7,9 +7,9 @@ use Rattle.ut_csvq.proofs.Turns.{no_record, no_tables}
 use Rattle.ut_csvq.proofs.input.answer_records.Goals as goal
 
 pub returns-in_default : goal.returns-in_default
-returns-in_default c flat = no_record c.args.query.now c.args.now c.args.records.now c.in_default.ensures.cases
+returns-in_default c = no_record c.args.query.now c.args.now c.args.records.now c.in_default.ensures.cases
 
 pub returns-in-Ok : goal.returns-in-Ok
-returns-in-Ok c flat =
+returns-in-Ok c =
     let stands = subst (λ (m : Tables). Stands m []) (sym (no_tables c.new-draft.result _ c.new-draft.ensures.empty c.new-draft.ensures.same c.in_ok-keeper.ensures.no_rows)) c.stands_laws.ensures.empty in
-    c.in-Ok.ensures flat stands ∙ ap (λ (rs : List Row). table_outcome c.args.query.now (pos c.args.now) (map fields_of rs)) (sym c.in-Some.ensures.cases.0)
+    c.in-Ok.ensures stands ∙ ap (λ (rs : List Row). table_outcome c.args.query.now (pos c.args.now) (map fields_of rs)) (sym c.in-Some.ensures.cases.0)

@@ -12,16 +12,16 @@ use Rattle.ut_csvq.proofs.Turns.{goes_well, goes_wrong}
 use Rattle.ut_csvq.proofs.input.answer_rows.Goals as goal
 
 pub returns-in-Some : goal.returns-in-Some
-returns-in-Some c flat a made =
+returns-in-Some c a made =
     let m = tables_of memory_state c.make_rows.new.draft in
     let r = with_rows (fields_of c.args.heading.now) 1 a (map fields_of c.args.rows.now) in
     let h = subst (λ (x : Option (ℕ × Refusal)). Goes c.args.now m r (Ok x)) c.in-Some.is (c.in_ok-refused.ensures a made) in
     sym (ap (rows_outcome c.args.query.now) (goes_wrong c.args.now m r _ h))
 
 pub returns-in-None : goal.returns-in-None
-returns-in-None c flat a made =
+returns-in-None c a made =
     let m = tables_of memory_state c.make_rows.new.draft in
     let r = with_rows (fields_of c.args.heading.now) 1 a (map fields_of c.args.rows.now) in
     let h = subst (λ (x : Option (ℕ × Refusal)). Goes c.args.now m r (Ok x)) c.in-None.is (c.in_ok-refused.ensures a made) in
     let w = goes_well c.args.now m r h in
-    subst (λ (x : Result Asked (ℕ × Refusal)). IfOk c.answer.result (λ o. o ≡ rows_outcome c.args.query.now x)) (sym w.1) (c.answer.ensures flat w.0 w.2)
+    subst (λ (x : Result Asked (ℕ × Refusal)). IfOk c.answer.result (λ o. o ≡ rows_outcome c.args.query.now x)) (sym w.1) (c.answer.ensures w.0 w.2)

@@ -1,8 +1,16 @@
-use Rattle.ut_exec.proofs.Offering.{goes_one}
+use Rattle.ut_exec.specs.Relatives.{by_relatives}
+use Rattle.ut_exec.proofs.Offering.{offers_none, offers_one}
 use Rattle.ut_exec.proofs.offers.offer_row.Goals as goal
 
-pub returns-in_ok-progress-2-clause-offered : goal.returns-in_ok-progress-2-clause-offered
-returns-in_ok-progress-2-clause-offered g c r is =
-    let appended = c.in_ok-progress.ensures.appends r is in
-    goes_one (g.W.RowForm.written c.args.form.now) c.args.progress.now c.admits.new.self c.in_ok-progress.field-0 c.in_ok-progress-2.field-0 r c.args.out.now.items c.append_row.new.out.items
-    c.admits.result c.admits.ensures c.if-admits.true appended.0 appended.1 c.in_ok-progress-2.ensures.next
+pub returns-then-admits-clause-offered : goal.returns-then-admits-clause-offered
+returns-then-admits-clause-offered g c told q w s h its r has made =
+    let relatives = c.args.relatives.now in
+    let row = by_relatives (g.L.Relatives.parents relatives) (g.L.Relatives.children relatives) (g.W.RowForm.written c.args.form.now) in
+    offers_one (row w) c.args.progress.now c.admits.new.self r c.args.out.now.items c.take_row.new.out.items c.admits.result c.admits.ensures c.if-admits.true
+    c.take_row.new.progress c.take_row.result (c.take_row.ensures.written told q w s h its r has made)
+
+pub returns-else-admits-clause-offered : goal.returns-else-admits-clause-offered
+returns-else-admits-clause-offered g c told q w s h its r has made =
+    let relatives = c.args.relatives.now in
+    let row = by_relatives (g.L.Relatives.parents relatives) (g.L.Relatives.children relatives) (g.W.RowForm.written c.args.form.now) in
+    offers_none (row w) c.args.progress.now c.admits.new.self r c.args.out.now.items c.admits.result c.admits.ensures c.if-admits.false

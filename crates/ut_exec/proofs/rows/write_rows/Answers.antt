@@ -1,178 +1,435 @@
-use Rattle.std.proofs.Common.{◌∙◌, ap, filter, refl, sym, subst}
-use Rattle.ut_data.specs.Decoding.{each_from}
-use Rattle.ut_keeper.specs.Draft.{removals_of, tables_of}
-use Rattle.ut_rights.specs.Rights.{kept_record}
-use Rattle.ut_stands.specs.Calls.{Calls, done}
+use Rattle.std.proofs.Common.{◌≡◌, ◌∙◌, ◌+◌, ◌*◌, ◌≤◌, List, [], ap, arith, filter, length, refl, sym, subst}
+use Rattle.std.specs.Prelude.{Err}
+use Rattle.std.proofs.Math.Nat.{mul-le-mul_left}
+use Rattle.ut_keeper.specs.Draft.{DraftTells, removals_of, tables_of}
+use Rattle.ut_model.specs.declared.record.Record.{Record}
+use Rattle.ut_model.specs.Levels.{readable}
+use Rattle.ut_model.specs.Paths.{Asked}
+use Rattle.ut_stands.specs.Calls.{Calls, Ending, done}
+use Rattle.ut_exec.specs.declared.candidates.Candidate.{Candidate}
 use Rattle.ut_exec.specs.declared.fail.ExecFail.TheVariants.{Store}
 use Rattle.ut_exec.specs.declared.offers.Progress.{Progress}
 use Rattle.ut_exec.specs.declared.pages.Pages.{Pages}
+use Rattle.ut_exec.specs.declared.ranked.Ranked.{Ranked}
 use Rattle.ut_exec.specs.Fails.{ended_exec}
+use Rattle.ut_exec.specs.Relatives.{by_relatives}
 use Rattle.ut_exec.specs.Written.{WritesRows, most_shown, rows_kept}
-use Rattle.ut_exec.specs.inner.Offers.{Offered}
+use Rattle.ut_exec.specs.inner.Judging.{IsOf, OfRows, judging, unranked}
+use Rattle.ut_exec.specs.inner.Offers.{Offered, WritesTaken}
 use Rattle.ut_exec.proofs.Offering.{goes_none, returned}
-use Rattle.ut_exec.proofs.Working.{Offers, Stopped, UnderWay, all_shown, any_calls, any_shown, begins, exec_not_fallen, failed_calls, has_no_types, offers_more, over_ends, page_undamaged, read_ends, stops_at, turn, what_stopped, what_unread, what_written}
+use Rattle.ut_exec.proofs.Working.{Offers, Stopped, UnderWay, all_calls, any_shown, begins, failed_calls, has_no_types, offers_more, over_ends, page_undamaged, read_ends, stops_at, turn_offers, what_stopped, what_unread, what_written}
 use Rattle.ut_exec.proofs.rows.write_rows.Goals as goal
 
 pub returns-then-not-has_types-clause-what : goal.returns-then-not-has_types-clause-what
 returns-then-not-has_types-clause-what g c told =
-    let sees = g.S.Sight.sees c.args.sight.now c.args.layout.now in
-    has_no_types c.data_laws.ensures.typed c.args.layout.now sees (tables_of g.K.Keeper.state c.args.draft.now) (sym c.has_types.ensures ∙ c.if-not-has_types.true)
+    let state = g.K.Keeper.state in
+    let l = c.args.layout.now in
+    let a = c.args.draft.now in
+    let relatives = c.args.relatives.now in
+    let whose = g.L.Relatives.whose relatives l.org in
+    let parents = g.L.Relatives.parents relatives in
+    let j = judging (g.S.Sight.sees c.args.sight.now l) whose parents (g.P.Keeps.keep c.args.keeps.now) unranked in
+    let row = by_relatives parents (g.L.Relatives.children relatives) (g.W.RowForm.written c.args.form.now) in
+    let own = g.S.Sight.shown + g.L.Relatives.parents_shown relatives in
+    let kids = g.L.Relatives.children_shown relatives in
+    let w = c.args.window in
+    let room = c.args.room in
+    let old = c.args.out.now.items in
+    has_no_types c.data_laws.ensures.typed l j.who (tables_of state a) (sym c.has_types.ensures ∙ c.if-not-has_types.true)
 
 pub pages-init : goal.pages-init
 pages-init g c =
     let state = g.K.Keeper.state in
     let l = c.args.layout.now in
     let a = c.args.draft.now in
-    let sees = g.S.Sight.sees c.args.sight.now l in
-    let each = g.S.Sight.shown in
-    let keep = g.P.Keeps.keep c.args.keeps.now in
-    let row = g.W.RowForm.written c.args.form.now in
-    let old = c.args.out.now.items in
-    let first : Progress = record { window = c.args.window; room = c.args.room; count = 0 } in
-    let Q = Offers state keep row c.args.window c.args.room old first old in
-    subst (λ (pages : Pages). UnderWay state l sees each Q pages a a) (sym c.first_pages-pages.ensures) (begins state l sees each Q a (c.call_laws.ensures.none done a refl) (goes_none row first old))
-
--- a page that failed
-pub returns-in_err-rows-clause-what : goal.returns-in_err-rows-clause-what
-returns-in_err-rows-clause-what g c told =
-    let state = g.K.Keeper.state in
-    let l = c.args.layout.now in
-    let a = c.args.draft.now in
-    let sees = g.S.Sight.sees c.args.sight.now l in
-    let each = g.S.Sight.shown in
-    let keep = g.P.Keeps.keep c.args.keeps.now in
-    let row = g.W.RowForm.written c.args.form.now in
+    let relatives = c.args.relatives.now in
+    let whose = g.L.Relatives.whose relatives l.org in
+    let parents = g.L.Relatives.parents relatives in
+    let j = judging (g.S.Sight.sees c.args.sight.now l) whose parents (g.P.Keeps.keep c.args.keeps.now) unranked in
+    let row = by_relatives parents (g.L.Relatives.children relatives) (g.W.RowForm.written c.args.form.now) in
+    let own = g.S.Sight.shown + g.L.Relatives.parents_shown relatives in
+    let kids = g.L.Relatives.children_shown relatives in
     let w = c.args.window in
     let room = c.args.room in
     let old = c.args.out.now.items in
-    let out = c.pages.out.items in
-    let fail = c.in_err-rows.field-0.0 in
-    let b = c.next_permitted.new.draft in
-    subst (WritesRows l sees (rows_kept w keep l.object) row room old out (tables_of state a)) (sym (returned c.from_residual.result (Store fail) c.from_residual.ensures.1))
-    (what_unread state keep row w room old l sees each c.pages.pages a b told out fail
-    (page_undamaged state c.draft_laws.ensures.both c.call_laws.ensures.then l sees each (Offers state keep row w room old c.pages.progress out) c.pages.pages a c.pages.draft c.pages.invariant
-    c.pages-test.true c.next_permitted.new.pages b fail c.in_err-rows.ensures.turns told))
+    let first : Progress = record { window = w; room = room; count = 0 } in
+    let Q = Offers row w room old first old in
+    subst (λ (pages : Pages). UnderWay state l j (own + kids) Q pages 0 done a a) (sym c.first_pages-pages.ensures) (begins state l j (own + kids) Q a (c.call_laws.ensures.none done a refl) (λ x. goes_none (row x) first old))
 
-pub returns-in_err-rows-clause-calls : goal.returns-in_err-rows-clause-calls
-returns-in_err-rows-clause-calls g c =
+-- a page that failed
+pub returns-in_err-next_permitted-clause-what : goal.returns-in_err-next_permitted-clause-what
+returns-in_err-next_permitted-clause-what g c told =
     let state = g.K.Keeper.state in
     let l = c.args.layout.now in
     let a = c.args.draft.now in
-    let sees = g.S.Sight.sees c.args.sight.now l in
-    let each = g.S.Sight.shown in
-    let keep = g.P.Keeps.keep c.args.keeps.now in
-    let row = g.W.RowForm.written c.args.form.now in
-    let fail = c.in_err-rows.field-0.0 in
-    subst (λ r. Calls state (most_shown each (removals_of state 7 a)) (ended_exec r) a c.next_permitted.new.draft) (sym (returned c.from_residual.result (Store fail) c.from_residual.ensures.1))
-    (failed_calls state c.draft_laws.ensures.both c.call_laws.ensures.then l sees each (Offers state keep row c.args.window c.args.room c.args.out.now.items c.pages.progress c.pages.out.items) c.pages.pages a c.pages.draft c.pages.invariant
-    c.pages-test.true c.next_permitted.new.pages c.next_permitted.new.draft fail c.in_err-rows.ensures.turns c.draft_laws.ensures.reads_most)
-
-pub returns-in_err-offer_records-clause-what : goal.returns-in_err-offer_records-clause-what
-returns-in_err-offer_records-clause-what g c told =
-    let state = g.K.Keeper.state in
-    let l = c.args.layout.now in
-    let a = c.args.draft.now in
-    let sees = g.S.Sight.sees c.args.sight.now l in
-    let each = g.S.Sight.shown in
-    let keep = g.P.Keeps.keep c.args.keeps.now in
-    let row = g.W.RowForm.written c.args.form.now in
+    let relatives = c.args.relatives.now in
+    let whose = g.L.Relatives.whose relatives l.org in
+    let parents = g.L.Relatives.parents relatives in
+    let j = judging (g.S.Sight.sees c.args.sight.now l) whose parents (g.P.Keeps.keep c.args.keeps.now) unranked in
+    let row = by_relatives parents (g.L.Relatives.children relatives) (g.W.RowForm.written c.args.form.now) in
+    let own = g.S.Sight.shown + g.L.Relatives.parents_shown relatives in
+    let kids = g.L.Relatives.children_shown relatives in
     let w = c.args.window in
     let room = c.args.room in
     let old = c.args.out.now.items in
     let p = c.pages.progress in
-    let new = c.offer_records.new.progress in
-    let out = c.offer_records.new.out.items in
-    let fail = c.in_err-offer_records.field-0.0 in
-    let rows = c.in_ok-rows.rows in
-    let u = turn state c.draft_laws.ensures.both c.call_laws.ensures.then l sees each (Offers state keep row w room old p c.pages.out.items) c.pages.pages a c.pages.draft c.pages.invariant
-    c.next_permitted.new.pages c.next_permitted.new.draft rows c.in_ok-rows.ensures.turns c.in_ok-rows.ensures.less (Stopped state keep row w room old new out fail)
-    (λ seen page read goes. stops_at state keep row w room old p new c.pages.out.items out fail seen page goes
-    (subst (Offered row p new c.pages.out.items out (filter keep page)) c.in_err-offer_records.was (c.offer_records.ensures.offered page (ap (each_from (kept_record l)) c.as_slice.ensures.value ∙ read)))) in
-    subst (WritesRows l sees (rows_kept w keep l.object) row room old out (tables_of state a)) (sym (returned c.from_residual-in_err-offer_records.result fail c.from_residual-in_err-offer_records.ensures.1))
-    (what_stopped state keep row w room old l sees each c.next_permitted.new.pages a c.next_permitted.new.draft told new out fail u)
+    let mid = c.pages.out.items in
+    let Q = Offers row w room old p mid in
+    let laws = c.draft_laws.ensures in
+    let then = c.call_laws.ensures.then in
+    let turned = c.next_permitted.new.pages in
+    let b = c.next_permitted.new.draft in
+    let rows = c.next_permitted.new.kept.items in
+    let fail = c.in_err-next_permitted.field-0.0 in
+    subst (WritesRows l j.who (rows_kept w j.keep l.object) row room old mid (tables_of state a)) (sym (returned c.from_residual.result (Store fail) c.from_residual.ensures.1))
+    (what_unread row w room old l j.who (tables_of state a) (λ x. filter (j.keep x) (readable x.tenant x.user l.object)) mid fail
+    (page_undamaged state l j (own + kids) laws.both then laws.reads_most Q c.pages.pages 0 a c.pages.draft c.pages.invariant
+    own kids refl c.pages-test.true turned c.new-rows.result.items rows b fail c.in_err-next_permitted.ensures.turns told))
 
-pub returns-in_err-offer_records-clause-shown : goal.returns-in_err-offer_records-clause-shown
-returns-in_err-offer_records-clause-shown g c told =
+pub returns-in_err-next_permitted-clause-calls : goal.returns-in_err-next_permitted-clause-calls
+returns-in_err-next_permitted-clause-calls g c =
     let state = g.K.Keeper.state in
     let l = c.args.layout.now in
     let a = c.args.draft.now in
-    let sees = g.S.Sight.sees c.args.sight.now l in
-    let each = g.S.Sight.shown in
-    let keep = g.P.Keeps.keep c.args.keeps.now in
-    let row = g.W.RowForm.written c.args.form.now in
-    let u = turn state c.draft_laws.ensures.both c.call_laws.ensures.then l sees each (Offers state keep row c.args.window c.args.room c.args.out.now.items c.pages.progress c.pages.out.items) c.pages.pages a c.pages.draft c.pages.invariant
-    c.next_permitted.new.pages c.next_permitted.new.draft c.in_ok-rows.rows c.in_ok-rows.ensures.turns c.in_ok-rows.ensures.less (λ seen. Unit {0}) (λ seen page read goes. tt) in
-    any_shown state l sees each (λ seen. Unit {0}) c.next_permitted.new.pages a c.next_permitted.new.draft u told (ended_exec c.from_residual-in_err-offer_records.result)
+    let relatives = c.args.relatives.now in
+    let whose = g.L.Relatives.whose relatives l.org in
+    let parents = g.L.Relatives.parents relatives in
+    let j = judging (g.S.Sight.sees c.args.sight.now l) whose parents (g.P.Keeps.keep c.args.keeps.now) unranked in
+    let row = by_relatives parents (g.L.Relatives.children relatives) (g.W.RowForm.written c.args.form.now) in
+    let own = g.S.Sight.shown + g.L.Relatives.parents_shown relatives in
+    let kids = g.L.Relatives.children_shown relatives in
+    let w = c.args.window in
+    let room = c.args.room in
+    let old = c.args.out.now.items in
+    let p = c.pages.progress in
+    let mid = c.pages.out.items in
+    let Q = Offers row w room old p mid in
+    let laws = c.draft_laws.ensures in
+    let then = c.call_laws.ensures.then in
+    let turned = c.next_permitted.new.pages in
+    let b = c.next_permitted.new.draft in
+    let rows = c.next_permitted.new.kept.items in
+    let fail = c.in_err-next_permitted.field-0.0 in
+    subst (λ r. Calls state (most_shown (own + kids) (removals_of state 7 a)) (ended_exec r) a b) (sym (returned c.from_residual.result (Store fail) c.from_residual.ensures.1))
+    (failed_calls state l j (own + kids) laws.both then laws.reads_most Q c.pages.pages 0 a c.pages.draft c.pages.invariant
+    own kids refl c.pages-test.true turned c.new-rows.result.items rows b fail c.in_err-next_permitted.ensures.turns)
+
+pub returns-in_err-offer_rows-clause-what : goal.returns-in_err-offer_rows-clause-what
+returns-in_err-offer_rows-clause-what g c told =
+    let state = g.K.Keeper.state in
+    let l = c.args.layout.now in
+    let a = c.args.draft.now in
+    let relatives = c.args.relatives.now in
+    let whose = g.L.Relatives.whose relatives l.org in
+    let parents = g.L.Relatives.parents relatives in
+    let j = judging (g.S.Sight.sees c.args.sight.now l) whose parents (g.P.Keeps.keep c.args.keeps.now) unranked in
+    let row = by_relatives parents (g.L.Relatives.children relatives) (g.W.RowForm.written c.args.form.now) in
+    let own = g.S.Sight.shown + g.L.Relatives.parents_shown relatives in
+    let kids = g.L.Relatives.children_shown relatives in
+    let w = c.args.window in
+    let room = c.args.room in
+    let old = c.args.out.now.items in
+    let p = c.pages.progress in
+    let mid = c.pages.out.items in
+    let Q = Offers row w room old p mid in
+    let laws = c.draft_laws.ensures in
+    let then = c.call_laws.ensures.then in
+    let turned = c.next_permitted.new.pages in
+    let b = c.next_permitted.new.draft in
+    let rows = c.next_permitted.new.kept.items in
+    let d = c.offer_rows.new.draft in
+    let new = c.offer_rows.new.progress in
+    let out = c.offer_rows.new.out.items in
+    let page = c.in_ok-next_permitted.ensures.turns in
+    let none : c.new-rows.result.items ≡ [] = c.new-rows.ensures.items in
+    let few : kids * length rows ≤ kids * page.count = mul-le-mul_left kids (omega (arith, page.sized, ap length none)) in
+    let calls = subst (λ (slice : List (Ranked (Unit {0}) Candidate)). Calls state (kids * length slice) (ended_exec c.offer_rows.result) b d) c.as_slice.ensures.value c.offer_rows.ensures.calls in
+    let fail = c.in_err-offer_rows.field-0.0 in
+    let result = c.from_residual-in_err-offer_rows.result in
+    let is = returned result fail c.from_residual-in_err-offer_rows.ensures.1 in
+    let e = ended_exec c.offer_rows.result in
+    let same : e ≡ ended_exec result = ap ended_exec c.in_err-offer_rows.was ∙ sym (ap ended_exec is) in
+    let T = λ (x : Asked) (page : List Record). Offered (row x) p new mid out page (Err fail) in
+    let offers = λ (tell : DraftTells state b d).
+    subst (λ (slice : List (Ranked (Unit {0}) Candidate)). OfRows l whose (λ x (r : Ranked (Unit {0}) Candidate). IsOf l (parents x) r.kept) slice (tables_of state b) T)
+    c.as_slice.ensures.value (subst (λ r. OfRows l whose (λ x (r : Ranked (Unit {0}) Candidate). IsOf l (parents x) r.kept) c.as_slice.result.now (tables_of state b)
+    (λ x page. Offered (row x) p new mid out page r)) c.in_err-offer_rows.was (c.offer_rows.ensures.offered tell)) in
+    let P = Stopped row w room old new out fail in
+    let u =
+    turn_offers state l j (own + kids) laws.both then laws.reads_most Q c.pages.pages 0 a c.pages.draft c.pages.invariant
+    own kids refl turned c.new-rows.result.items rows b d page c.in_ok-next_permitted.ensures.less (kids * length rows) few e calls
+    whose (λ q x its. its.1) none T offers P
+    (λ x seen page goes stopped. stops_at row w room old p new mid out fail x seen page goes stopped) in
+    subst (WritesRows l j.who (rows_kept w j.keep l.object) row room old out (tables_of state a)) (sym is)
+    (what_stopped row w room old state l j (own + kids) turned a d told new out fail 0 e u)
+
+pub returns-in_err-offer_rows-clause-shown : goal.returns-in_err-offer_rows-clause-shown
+returns-in_err-offer_rows-clause-shown g c told =
+    let state = g.K.Keeper.state in
+    let l = c.args.layout.now in
+    let a = c.args.draft.now in
+    let relatives = c.args.relatives.now in
+    let whose = g.L.Relatives.whose relatives l.org in
+    let parents = g.L.Relatives.parents relatives in
+    let j = judging (g.S.Sight.sees c.args.sight.now l) whose parents (g.P.Keeps.keep c.args.keeps.now) unranked in
+    let row = by_relatives parents (g.L.Relatives.children relatives) (g.W.RowForm.written c.args.form.now) in
+    let own = g.S.Sight.shown + g.L.Relatives.parents_shown relatives in
+    let kids = g.L.Relatives.children_shown relatives in
+    let w = c.args.window in
+    let room = c.args.room in
+    let old = c.args.out.now.items in
+    let p = c.pages.progress in
+    let mid = c.pages.out.items in
+    let Q = Offers row w room old p mid in
+    let laws = c.draft_laws.ensures in
+    let then = c.call_laws.ensures.then in
+    let turned = c.next_permitted.new.pages in
+    let b = c.next_permitted.new.draft in
+    let rows = c.next_permitted.new.kept.items in
+    let d = c.offer_rows.new.draft in
+    let new = c.offer_rows.new.progress in
+    let out = c.offer_rows.new.out.items in
+    let page = c.in_ok-next_permitted.ensures.turns in
+    let none : c.new-rows.result.items ≡ [] = c.new-rows.ensures.items in
+    let few : kids * length rows ≤ kids * page.count = mul-le-mul_left kids (omega (arith, page.sized, ap length none)) in
+    let calls = subst (λ (slice : List (Ranked (Unit {0}) Candidate)). Calls state (kids * length slice) (ended_exec c.offer_rows.result) b d) c.as_slice.ensures.value c.offer_rows.ensures.calls in
+    let fail = c.in_err-offer_rows.field-0.0 in
+    let result = c.from_residual-in_err-offer_rows.result in
+    let is = returned result fail c.from_residual-in_err-offer_rows.ensures.1 in
+    let e = ended_exec c.offer_rows.result in
+    let same : e ≡ ended_exec result = ap ended_exec c.in_err-offer_rows.was ∙ sym (ap ended_exec is) in
+    let T = λ (x : Asked) (page : List Record). Offered (row x) p new mid out page (Err fail) in
+    let offers = λ (tell : DraftTells state b d).
+    subst (λ (slice : List (Ranked (Unit {0}) Candidate)). OfRows l whose (λ x (r : Ranked (Unit {0}) Candidate). IsOf l (parents x) r.kept) slice (tables_of state b) T)
+    c.as_slice.ensures.value (subst (λ r. OfRows l whose (λ x (r : Ranked (Unit {0}) Candidate). IsOf l (parents x) r.kept) c.as_slice.result.now (tables_of state b)
+    (λ x page. Offered (row x) p new mid out page r)) c.in_err-offer_rows.was (c.offer_rows.ensures.offered tell)) in
+    let P = Stopped row w room old new out fail in
+    let u =
+    turn_offers state l j (own + kids) laws.both then laws.reads_most Q c.pages.pages 0 a c.pages.draft c.pages.invariant
+    own kids refl turned c.new-rows.result.items rows b d page c.in_ok-next_permitted.ensures.less (kids * length rows) few e calls
+    whose (λ q x its. its.1) none T offers P
+    (λ x seen page goes stopped. stops_at row w room old p new mid out fail x seen page goes stopped) in
+    any_shown state l j (own + kids) P turned 0 e a d u told (ended_exec result)
+
+pub returns-in_err-offer_rows-clause-calls : goal.returns-in_err-offer_rows-clause-calls
+returns-in_err-offer_rows-clause-calls g c =
+    let state = g.K.Keeper.state in
+    let l = c.args.layout.now in
+    let a = c.args.draft.now in
+    let relatives = c.args.relatives.now in
+    let whose = g.L.Relatives.whose relatives l.org in
+    let parents = g.L.Relatives.parents relatives in
+    let j = judging (g.S.Sight.sees c.args.sight.now l) whose parents (g.P.Keeps.keep c.args.keeps.now) unranked in
+    let row = by_relatives parents (g.L.Relatives.children relatives) (g.W.RowForm.written c.args.form.now) in
+    let own = g.S.Sight.shown + g.L.Relatives.parents_shown relatives in
+    let kids = g.L.Relatives.children_shown relatives in
+    let w = c.args.window in
+    let room = c.args.room in
+    let old = c.args.out.now.items in
+    let p = c.pages.progress in
+    let mid = c.pages.out.items in
+    let Q = Offers row w room old p mid in
+    let laws = c.draft_laws.ensures in
+    let then = c.call_laws.ensures.then in
+    let turned = c.next_permitted.new.pages in
+    let b = c.next_permitted.new.draft in
+    let rows = c.next_permitted.new.kept.items in
+    let d = c.offer_rows.new.draft in
+    let new = c.offer_rows.new.progress in
+    let out = c.offer_rows.new.out.items in
+    let page = c.in_ok-next_permitted.ensures.turns in
+    let none : c.new-rows.result.items ≡ [] = c.new-rows.ensures.items in
+    let few : kids * length rows ≤ kids * page.count = mul-le-mul_left kids (omega (arith, page.sized, ap length none)) in
+    let calls = subst (λ (slice : List (Ranked (Unit {0}) Candidate)). Calls state (kids * length slice) (ended_exec c.offer_rows.result) b d) c.as_slice.ensures.value c.offer_rows.ensures.calls in
+    let fail = c.in_err-offer_rows.field-0.0 in
+    let result = c.from_residual-in_err-offer_rows.result in
+    let is = returned result fail c.from_residual-in_err-offer_rows.ensures.1 in
+    let e = ended_exec c.offer_rows.result in
+    let same : e ≡ ended_exec result = ap ended_exec c.in_err-offer_rows.was ∙ sym (ap ended_exec is) in
+    let T = λ (x : Asked) (page : List Record). Offered (row x) p new mid out page (Err fail) in
+    let offers = λ (tell : DraftTells state b d).
+    subst (λ (slice : List (Ranked (Unit {0}) Candidate)). OfRows l whose (λ x (r : Ranked (Unit {0}) Candidate). IsOf l (parents x) r.kept) slice (tables_of state b) T)
+    c.as_slice.ensures.value (subst (λ r. OfRows l whose (λ x (r : Ranked (Unit {0}) Candidate). IsOf l (parents x) r.kept) c.as_slice.result.now (tables_of state b)
+    (λ x page. Offered (row x) p new mid out page r)) c.in_err-offer_rows.was (c.offer_rows.ensures.offered tell)) in
+    let P = Stopped row w room old new out fail in
+    let u =
+    turn_offers state l j (own + kids) laws.both then laws.reads_most Q c.pages.pages 0 a c.pages.draft c.pages.invariant
+    own kids refl turned c.new-rows.result.items rows b d page c.in_ok-next_permitted.ensures.less (kids * length rows) few e calls
+    whose (λ q x its. its.1) none T offers P
+    (λ x seen page goes stopped. stops_at row w room old p new mid out fail x seen page goes stopped) in
+    subst (λ (x : Ending). Calls state (most_shown (own + kids) (removals_of state 7 a)) x a d) same
+    (all_calls state l j (own + kids) P turned 0 e a d u laws.reads_most)
 
 pub pages-preserved : goal.pages-preserved
 pages-preserved g c =
     let state = g.K.Keeper.state in
     let l = c.args.layout.now in
-    let sees = g.S.Sight.sees c.args.sight.now l in
-    let each = g.S.Sight.shown in
-    let keep = g.P.Keeps.keep c.args.keeps.now in
-    let row = g.W.RowForm.written c.args.form.now in
+    let a = c.args.draft.now in
+    let relatives = c.args.relatives.now in
+    let whose = g.L.Relatives.whose relatives l.org in
+    let parents = g.L.Relatives.parents relatives in
+    let j = judging (g.S.Sight.sees c.args.sight.now l) whose parents (g.P.Keeps.keep c.args.keeps.now) unranked in
+    let row = by_relatives parents (g.L.Relatives.children relatives) (g.W.RowForm.written c.args.form.now) in
+    let own = g.S.Sight.shown + g.L.Relatives.parents_shown relatives in
+    let kids = g.L.Relatives.children_shown relatives in
     let w = c.args.window in
     let room = c.args.room in
     let old = c.args.out.now.items in
     let p = c.pages.progress in
-    let new = c.offer_records.new.progress in
-    let out = c.offer_records.new.out.items in
-    turn state c.draft_laws.ensures.both c.call_laws.ensures.then l sees each (Offers state keep row w room old p c.pages.out.items) c.pages.pages c.args.draft.now c.pages.draft c.pages.invariant
-    c.next_permitted.new.pages c.next_permitted.new.draft c.in_ok-rows.rows c.in_ok-rows.ensures.turns c.in_ok-rows.ensures.less (Offers state keep row w room old new out)
-    (λ seen page read goes. offers_more state keep row w room old p new c.pages.out.items out seen page goes
-    (c.in_ok-offer_records.ensures.offered page (ap (each_from (kept_record l)) c.as_slice.ensures.value ∙ read)))
+    let mid = c.pages.out.items in
+    let Q = Offers row w room old p mid in
+    let laws = c.draft_laws.ensures in
+    let then = c.call_laws.ensures.then in
+    let turned = c.next_permitted.new.pages in
+    let b = c.next_permitted.new.draft in
+    let rows = c.next_permitted.new.kept.items in
+    let d = c.offer_rows.new.draft in
+    let new = c.offer_rows.new.progress in
+    let out = c.offer_rows.new.out.items in
+    let page = c.in_ok-next_permitted.ensures.turns in
+    let none : c.new-rows.result.items ≡ [] = c.new-rows.ensures.items in
+    let few : kids * length rows ≤ kids * page.count = mul-le-mul_left kids (omega (arith, page.sized, ap length none)) in
+    let calls = subst (λ (slice : List (Ranked (Unit {0}) Candidate)). Calls state (kids * length slice) done b d) c.as_slice.ensures.value c.in_ok-offer_rows.ensures.calls in
+    let T = λ (x : Asked) (page : List Record). WritesTaken (row x) p new mid out page in
+    let offers = λ (tell : DraftTells state b d).
+    subst (λ (slice : List (Ranked (Unit {0}) Candidate)). OfRows l whose (λ x (r : Ranked (Unit {0}) Candidate). IsOf l (parents x) r.kept) slice (tables_of state b) T)
+    c.as_slice.ensures.value (c.in_ok-offer_rows.ensures.offered tell) in
+    let P = Offers row w room old new out in
+    turn_offers state l j (own + kids) laws.both then laws.reads_most Q c.pages.pages 0 a c.pages.draft c.pages.invariant
+    own kids refl turned c.new-rows.result.items rows b d page c.in_ok-next_permitted.ensures.less (kids * length rows) few done calls
+    whose (λ q x its. its.1) none T offers P
+    (λ x seen page goes taken. offers_more row w room old p new mid out x seen page goes taken)
 
 pub returns-else-not-is_over-clause-what : goal.returns-else-not-is_over-clause-what
 returns-else-not-is_over-clause-what g c told =
     let state = g.K.Keeper.state in
     let l = c.args.layout.now in
-    let sees = g.S.Sight.sees c.args.sight.now l in
-    let keep = g.P.Keeps.keep c.args.keeps.now in
-    let row = g.W.RowForm.written c.args.form.now in
-    what_written state keep row c.args.window c.args.room c.args.out.now.items l sees g.S.Sight.shown c.pages.pages c.args.draft.now c.pages.draft told c.pages.progress c.pages.out.items c.pages.invariant
-    (over_ends state keep c.pages.progress c.pages.pages (sym c.is_over.ensures ∙ c.if-not-is_over.false))
+    let a = c.args.draft.now in
+    let relatives = c.args.relatives.now in
+    let whose = g.L.Relatives.whose relatives l.org in
+    let parents = g.L.Relatives.parents relatives in
+    let j = judging (g.S.Sight.sees c.args.sight.now l) whose parents (g.P.Keeps.keep c.args.keeps.now) unranked in
+    let row = by_relatives parents (g.L.Relatives.children relatives) (g.W.RowForm.written c.args.form.now) in
+    let own = g.S.Sight.shown + g.L.Relatives.parents_shown relatives in
+    let kids = g.L.Relatives.children_shown relatives in
+    let w = c.args.window in
+    let room = c.args.room in
+    let old = c.args.out.now.items in
+    let p = c.pages.progress in
+    let mid = c.pages.out.items in
+    let Q = Offers row w room old p mid in
+    let laws = c.draft_laws.ensures in
+    let then = c.call_laws.ensures.then in
+    what_written row w room old state l j (own + kids) c.pages.pages a c.pages.draft told p mid 0 done c.pages.invariant
+    (over_ends j p c.pages.pages (sym c.is_over.ensures ∙ c.if-not-is_over.false))
 
 pub returns-after-pages-clause-what : goal.returns-after-pages-clause-what
 returns-after-pages-clause-what g c told =
     let state = g.K.Keeper.state in
     let l = c.args.layout.now in
-    let sees = g.S.Sight.sees c.args.sight.now l in
-    let keep = g.P.Keeps.keep c.args.keeps.now in
-    let row = g.W.RowForm.written c.args.form.now in
-    what_written state keep row c.args.window c.args.room c.args.out.now.items l sees g.S.Sight.shown c.pages.pages c.args.draft.now c.pages.draft told c.pages.progress c.pages.out.items c.pages.invariant
-    (read_ends state keep c.pages.progress c.pages.pages c.pages-test.false)
-
-pub returns-in_err-offer_records-clause-calls : goal.returns-in_err-offer_records-clause-calls
-returns-in_err-offer_records-clause-calls g c =
-    let state = g.K.Keeper.state in
-    let l = c.args.layout.now in
     let a = c.args.draft.now in
-    let sees = g.S.Sight.sees c.args.sight.now l in
-    let each = g.S.Sight.shown in
-    let keep = g.P.Keeps.keep c.args.keeps.now in
-    let row = g.W.RowForm.written c.args.form.now in
-    let result = c.from_residual-in_err-offer_records.result in
-    let fail = c.in_err-offer_records.field-0.0 in
-    let u = turn state c.draft_laws.ensures.both c.call_laws.ensures.then l sees each (Offers state keep row c.args.window c.args.room c.args.out.now.items c.pages.progress c.pages.out.items) c.pages.pages a c.pages.draft c.pages.invariant
-    c.next_permitted.new.pages c.next_permitted.new.draft c.in_ok-rows.rows c.in_ok-rows.ensures.turns c.in_ok-rows.ensures.less (λ seen. Unit {0}) (λ seen page read goes. tt) in
-    any_calls state l sees each (λ seen. Unit {0}) c.next_permitted.new.pages a c.next_permitted.new.draft u c.draft_laws.ensures.reads_most c.call_laws.ensures.weaker (ended_exec result)
-    (exec_not_fallen result c.offer_records.result fail (returned result fail c.from_residual-in_err-offer_records.ensures.1) c.in_err-offer_records.was c.offer_records.ensures.keeper)
+    let relatives = c.args.relatives.now in
+    let whose = g.L.Relatives.whose relatives l.org in
+    let parents = g.L.Relatives.parents relatives in
+    let j = judging (g.S.Sight.sees c.args.sight.now l) whose parents (g.P.Keeps.keep c.args.keeps.now) unranked in
+    let row = by_relatives parents (g.L.Relatives.children relatives) (g.W.RowForm.written c.args.form.now) in
+    let own = g.S.Sight.shown + g.L.Relatives.parents_shown relatives in
+    let kids = g.L.Relatives.children_shown relatives in
+    let w = c.args.window in
+    let room = c.args.room in
+    let old = c.args.out.now.items in
+    let p = c.pages.progress in
+    let mid = c.pages.out.items in
+    let Q = Offers row w room old p mid in
+    let laws = c.draft_laws.ensures in
+    let then = c.call_laws.ensures.then in
+    what_written row w room old state l j (own + kids) c.pages.pages a c.pages.draft told p mid 0 done c.pages.invariant
+    (read_ends j p c.pages.pages c.pages-test.false)
 
 pub returns-else-not-is_over-clause-shown : goal.returns-else-not-is_over-clause-shown
 returns-else-not-is_over-clause-shown g c told =
     let state = g.K.Keeper.state in
     let l = c.args.layout.now in
-    let sees = g.S.Sight.sees c.args.sight.now l in
-    let keep = g.P.Keeps.keep c.args.keeps.now in
-    let row = g.W.RowForm.written c.args.form.now in
-    all_shown state l sees g.S.Sight.shown (Offers state keep row c.args.window c.args.room c.args.out.now.items c.pages.progress c.pages.out.items) c.pages.pages c.args.draft.now c.pages.draft c.pages.invariant told
+    let a = c.args.draft.now in
+    let relatives = c.args.relatives.now in
+    let whose = g.L.Relatives.whose relatives l.org in
+    let parents = g.L.Relatives.parents relatives in
+    let j = judging (g.S.Sight.sees c.args.sight.now l) whose parents (g.P.Keeps.keep c.args.keeps.now) unranked in
+    let row = by_relatives parents (g.L.Relatives.children relatives) (g.W.RowForm.written c.args.form.now) in
+    let own = g.S.Sight.shown + g.L.Relatives.parents_shown relatives in
+    let kids = g.L.Relatives.children_shown relatives in
+    let w = c.args.window in
+    let room = c.args.room in
+    let old = c.args.out.now.items in
+    let p = c.pages.progress in
+    let mid = c.pages.out.items in
+    let Q = Offers row w room old p mid in
+    let laws = c.draft_laws.ensures in
+    let then = c.call_laws.ensures.then in
+    any_shown state l j (own + kids) Q c.pages.pages 0 done a c.pages.draft c.pages.invariant told done
 
 pub returns-after-pages-clause-shown : goal.returns-after-pages-clause-shown
 returns-after-pages-clause-shown g c told =
     let state = g.K.Keeper.state in
     let l = c.args.layout.now in
-    let sees = g.S.Sight.sees c.args.sight.now l in
-    let keep = g.P.Keeps.keep c.args.keeps.now in
-    let row = g.W.RowForm.written c.args.form.now in
-    all_shown state l sees g.S.Sight.shown (Offers state keep row c.args.window c.args.room c.args.out.now.items c.pages.progress c.pages.out.items) c.pages.pages c.args.draft.now c.pages.draft c.pages.invariant told
+    let a = c.args.draft.now in
+    let relatives = c.args.relatives.now in
+    let whose = g.L.Relatives.whose relatives l.org in
+    let parents = g.L.Relatives.parents relatives in
+    let j = judging (g.S.Sight.sees c.args.sight.now l) whose parents (g.P.Keeps.keep c.args.keeps.now) unranked in
+    let row = by_relatives parents (g.L.Relatives.children relatives) (g.W.RowForm.written c.args.form.now) in
+    let own = g.S.Sight.shown + g.L.Relatives.parents_shown relatives in
+    let kids = g.L.Relatives.children_shown relatives in
+    let w = c.args.window in
+    let room = c.args.room in
+    let old = c.args.out.now.items in
+    let p = c.pages.progress in
+    let mid = c.pages.out.items in
+    let Q = Offers row w room old p mid in
+    let laws = c.draft_laws.ensures in
+    let then = c.call_laws.ensures.then in
+    any_shown state l j (own + kids) Q c.pages.pages 0 done a c.pages.draft c.pages.invariant told done
+
+pub returns-else-not-is_over-clause-calls : goal.returns-else-not-is_over-clause-calls
+returns-else-not-is_over-clause-calls g c =
+    let state = g.K.Keeper.state in
+    let l = c.args.layout.now in
+    let a = c.args.draft.now in
+    let relatives = c.args.relatives.now in
+    let whose = g.L.Relatives.whose relatives l.org in
+    let parents = g.L.Relatives.parents relatives in
+    let j = judging (g.S.Sight.sees c.args.sight.now l) whose parents (g.P.Keeps.keep c.args.keeps.now) unranked in
+    let row = by_relatives parents (g.L.Relatives.children relatives) (g.W.RowForm.written c.args.form.now) in
+    let own = g.S.Sight.shown + g.L.Relatives.parents_shown relatives in
+    let kids = g.L.Relatives.children_shown relatives in
+    let w = c.args.window in
+    let room = c.args.room in
+    let old = c.args.out.now.items in
+    let p = c.pages.progress in
+    let mid = c.pages.out.items in
+    let Q = Offers row w room old p mid in
+    let laws = c.draft_laws.ensures in
+    let then = c.call_laws.ensures.then in
+    all_calls state l j (own + kids) Q c.pages.pages 0 done a c.pages.draft c.pages.invariant laws.reads_most
+
+pub returns-after-pages-clause-calls : goal.returns-after-pages-clause-calls
+returns-after-pages-clause-calls g c =
+    let state = g.K.Keeper.state in
+    let l = c.args.layout.now in
+    let a = c.args.draft.now in
+    let relatives = c.args.relatives.now in
+    let whose = g.L.Relatives.whose relatives l.org in
+    let parents = g.L.Relatives.parents relatives in
+    let j = judging (g.S.Sight.sees c.args.sight.now l) whose parents (g.P.Keeps.keep c.args.keeps.now) unranked in
+    let row = by_relatives parents (g.L.Relatives.children relatives) (g.W.RowForm.written c.args.form.now) in
+    let own = g.S.Sight.shown + g.L.Relatives.parents_shown relatives in
+    let kids = g.L.Relatives.children_shown relatives in
+    let w = c.args.window in
+    let room = c.args.room in
+    let old = c.args.out.now.items in
+    let p = c.pages.progress in
+    let mid = c.pages.out.items in
+    let Q = Offers row w room old p mid in
+    let laws = c.draft_laws.ensures in
+    let then = c.call_laws.ensures.then in
+    all_calls state l j (own + kids) Q c.pages.pages 0 done a c.pages.draft c.pages.invariant laws.reads_most

@@ -1,10 +1,18 @@
+use Rattle.std.proofs.Common.{◌+◌}
+use Rattle.ut_stands.specs.Calls.{done}
+use Rattle.ut_exec.specs.Relatives.{by_relatives}
+use Rattle.ut_exec.specs.inner.Judging.{judging, unranked}
 use Rattle.ut_exec.proofs.Working.{Offers, UnderWay}
 use Rattle.ut_exec.proofs.rows.write_rows.Given as goal
 
 abbrev pub invariant-pages : goal.invariant-pages
 invariant-pages g l =
-    UnderWay g.K.Keeper.state l.layout (g.S.Sight.sees l.sight l.layout) g.S.Sight.shown
-    (Offers g.K.Keeper.state (g.P.Keeps.keep l.keeps) (g.W.RowForm.written l.form) l.fn.window l.room l.fn.out.items l.progress l.out.items) l.pages l.fn.draft l.draft
+    let parents = g.L.Relatives.parents l.relatives in
+    let row = by_relatives parents (g.L.Relatives.children l.relatives) (g.W.RowForm.written l.form) in
+    UnderWay g.K.Keeper.state l.layout
+    (judging (g.S.Sight.sees l.sight l.layout) (g.L.Relatives.whose l.relatives l.layout.org) parents (g.P.Keeps.keep l.keeps) unranked)
+    (g.S.Sight.shown + g.L.Relatives.parents_shown l.relatives + g.L.Relatives.children_shown l.relatives)
+    (Offers row l.fn.window l.room l.fn.out.items l.progress l.out.items) l.pages 0 done l.fn.draft l.draft
 
 abbrev pub decreases-pages : goal.decreases-pages
 decreases-pages g l = l.pages.left

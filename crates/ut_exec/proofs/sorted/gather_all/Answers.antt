@@ -1,15 +1,16 @@
-use Rattle.std.proofs.Common.{List, [], filter, refl, sym, subst}
-use Rattle.ut_keeper.specs.Draft.{removals_of, tables_of}
-use Rattle.ut_keys.specs.Fails.{of_codec}
-use Rattle.ut_model.specs.Levels.{readable}
-use Rattle.ut_stands.specs.Calls.{Calls, done, ended}
+use Rattle.std.proofs.Common.{◌≡◌, ◌+◌, List, [], None, arith, length, refl, sym, subst}
+use Rattle.ut_model.specs.declared.record.Record.{Record}
+use Rattle.ut_model.specs.Paths.{Asked}
+use Rattle.ut_stands.specs.Calls.{done}
+use Rattle.ut_exec.specs.declared.candidates.Candidate.{Candidate}
 use Rattle.ut_exec.specs.declared.pages.Pages.{Pages}
 use Rattle.ut_exec.specs.declared.ranked.Ranked.{Ranked}
-use Rattle.ut_exec.specs.inner.Gathering.{Gathers, GathersRows}
-use Rattle.ut_exec.specs.Written.{most_shown}
+use Rattle.ut_exec.specs.Ranks.{GathersRows}
+use Rattle.ut_exec.specs.inner.Gathering.{ReadsAll}
+use Rattle.ut_exec.specs.inner.Judging.{IsOf, judging, picked}
 use Rattle.ut_exec.proofs.Offering.{returned}
-use Rattle.ut_exec.proofs.Sorting.{codec_not_fallen, gathered_none, gathers_more, gathers_nothing, gathers_undamaged}
-use Rattle.ut_exec.proofs.Working.{UnderWay, all_read, all_shown, any_calls, begins, failed_calls, none_reached, turn}
+use Rattle.ut_exec.proofs.Sorting.{gathers_more, gathers_nothing}
+use Rattle.ut_exec.proofs.Working.{UnderWay, all_read, begins, failed_all, page_unfound, reads_all, turn}
 use Rattle.ut_exec.proofs.sorted.gather_all.Goals as goal
 
 pub pages-init : goal.pages-init
@@ -17,96 +18,111 @@ pages-init g c =
     let state = g.K.Keeper.state in
     let l = c.args.layout.now in
     let a = c.args.draft.now in
-    let sees = g.S.Sight.sees c.args.sight.now l in
-    let each = g.S.Sight.shown in
-    let keep = g.P.Keeps.keep c.args.keeps.now in
-    let rank = g.R.Ranks.ranked c.args.ranks.now in
+    let relatives = c.args.relatives.now in
+    let whose = g.L.Relatives.whose relatives l.org in
+    let parents = g.L.Relatives.parents relatives in
+    let j = judging (g.S.Sight.sees c.args.sight.now l) whose parents (g.P.Keeps.keep c.args.keeps.now) (g.R.Ranks.ranked c.args.ranks.now) in
+    let each = g.S.Sight.shown + g.L.Relatives.parents_shown relatives in
     let items = c.new-gathered.result.items in
-    subst (λ (pages : Pages). UnderWay state l sees each (λ seen. GathersRows l rank [] items (filter keep seen)) pages a a) (sym c.first_pages-pages.ensures)
-    (begins state l sees each (λ seen. GathersRows l rank [] items (filter keep seen)) a (c.call_laws.ensures.none done a refl)
-    (subst (λ (rows : List (Ranked g.row.R-Rank.Denot)). GathersRows l rank [] rows []) (sym c.new-gathered.ensures.items) (gathers_nothing l rank [])))
+    let none : items ≡ [] = c.new-gathered.ensures.items in
+    subst (λ (pages : Pages). UnderWay state l j each (λ (x : Asked) (rs : List Record). GathersRows (IsOf l (j.parents x)) (j.rank x) [] items rs) pages (length items) done a a) (sym c.first_pages-pages.ensures)
+    (subst (λ (xs : List (Ranked g.row.R-Rank.Denot Candidate)). UnderWay state l j each (λ (x : Asked) (rs : List Record). GathersRows (IsOf l (j.parents x)) (j.rank x) [] xs rs) (record { after = None; left = 80 }) (length xs) done a a) (sym none)
+    (begins state l j each (λ (x : Asked) (rs : List Record). GathersRows (IsOf l (j.parents x)) (j.rank x) [] [] rs) a (c.call_laws.ensures.none done a refl) (λ x. gathers_nothing (IsOf l (j.parents x)) (j.rank x) [])))
 
-pub returns-in_err-rows-clause-calls : goal.returns-in_err-rows-clause-calls
-returns-in_err-rows-clause-calls g c =
+pub returns-in_err-next_permitted-clause-what : goal.returns-in_err-next_permitted-clause-what
+returns-in_err-next_permitted-clause-what g c told =
     let state = g.K.Keeper.state in
     let l = c.args.layout.now in
     let a = c.args.draft.now in
-    let sees = g.S.Sight.sees c.args.sight.now l in
-    let each = g.S.Sight.shown in
-    let keep = g.P.Keeps.keep c.args.keeps.now in
-    let rank = g.R.Ranks.ranked c.args.ranks.now in
+    let relatives = c.args.relatives.now in
+    let whose = g.L.Relatives.whose relatives l.org in
+    let parents = g.L.Relatives.parents relatives in
+    let j = judging (g.S.Sight.sees c.args.sight.now l) whose parents (g.P.Keeps.keep c.args.keeps.now) (g.R.Ranks.ranked c.args.ranks.now) in
+    let each = g.S.Sight.shown + g.L.Relatives.parents_shown relatives in
     let items = c.pages.gathered.items in
-    let fail = c.in_err-rows.field-0.0 in
-    subst (λ r. Calls state (most_shown each (removals_of state 7 a)) (ended r) a c.next_permitted.new.draft) (sym (returned c.from_residual.result fail c.from_residual.ensures.1))
-    (failed_calls state c.draft_laws.ensures.both c.call_laws.ensures.then l sees each (λ seen. GathersRows l rank [] items (filter keep seen)) c.pages.pages a c.pages.draft c.pages.invariant
-    c.pages-test.true c.next_permitted.new.pages c.next_permitted.new.draft fail c.in_err-rows.ensures.turns c.draft_laws.ensures.reads_most)
+    let Q = λ (x : Asked) (rs : List Record). GathersRows (IsOf l (j.parents x)) (j.rank x) [] items rs in
+    let laws = c.draft_laws.ensures in
+    let then = c.call_laws.ensures.then in
+    let turned = c.next_permitted.new.pages in
+    let b = c.next_permitted.new.draft in
+    let new = c.next_permitted.new.kept.items in
+    let fail = c.in_err-next_permitted.field-0.0 in
+    page_unfound state l j each laws.both then laws.reads_most Q c.pages.pages (length items) a c.pages.draft c.pages.invariant
+    each 0 (omega arith) c.pages-test.true turned items new b fail c.in_err-next_permitted.ensures.turns told c.from_residual.result (returned c.from_residual.result fail c.from_residual.ensures.1)
 
-pub returns-in_err-gather_rows-clause-calls : goal.returns-in_err-gather_rows-clause-calls
-returns-in_err-gather_rows-clause-calls g c =
+pub returns-in_err-next_permitted-clause-reads : goal.returns-in_err-next_permitted-clause-reads
+returns-in_err-next_permitted-clause-reads g c =
     let state = g.K.Keeper.state in
     let l = c.args.layout.now in
     let a = c.args.draft.now in
-    let sees = g.S.Sight.sees c.args.sight.now l in
-    let each = g.S.Sight.shown in
-    let keep = g.P.Keeps.keep c.args.keeps.now in
-    let rank = g.R.Ranks.ranked c.args.ranks.now in
+    let relatives = c.args.relatives.now in
+    let whose = g.L.Relatives.whose relatives l.org in
+    let parents = g.L.Relatives.parents relatives in
+    let j = judging (g.S.Sight.sees c.args.sight.now l) whose parents (g.P.Keeps.keep c.args.keeps.now) (g.R.Ranks.ranked c.args.ranks.now) in
+    let each = g.S.Sight.shown + g.L.Relatives.parents_shown relatives in
     let items = c.pages.gathered.items in
-    let result = c.from_residual-in_err-gather_rows.result in
-    let fail = c.in_err-gather_rows.field-0.0 in
-    let u = turn state c.draft_laws.ensures.both c.call_laws.ensures.then l sees each (λ seen. GathersRows l rank [] items (filter keep seen)) c.pages.pages a c.pages.draft c.pages.invariant
-    c.next_permitted.new.pages c.next_permitted.new.draft c.in_ok-rows.rows c.in_ok-rows.ensures.turns c.in_ok-rows.ensures.less (λ seen. Unit {0}) (λ seen page read does. tt) in
-    any_calls state l sees each (λ seen. Unit {0}) c.next_permitted.new.pages a c.next_permitted.new.draft u c.draft_laws.ensures.reads_most c.call_laws.ensures.weaker (ended result)
-    (codec_not_fallen result fail (returned result (of_codec fail) c.from_residual-in_err-gather_rows.ensures.1))
+    let Q = λ (x : Asked) (rs : List Record). GathersRows (IsOf l (j.parents x)) (j.rank x) [] items rs in
+    let laws = c.draft_laws.ensures in
+    let then = c.call_laws.ensures.then in
+    let turned = c.next_permitted.new.pages in
+    let b = c.next_permitted.new.draft in
+    let new = c.next_permitted.new.kept.items in
+    let fail = c.in_err-next_permitted.field-0.0 in
+    subst (ReadsAll l j state each a b) (sym (returned c.from_residual.result fail c.from_residual.ensures.1))
+    (failed_all state l j each laws.both then laws.reads_most Q c.pages.pages (length items) a c.pages.draft c.pages.invariant
+    each 0 (omega arith) c.pages-test.true turned items new b fail c.in_err-next_permitted.ensures.turns)
 
 pub pages-preserved : goal.pages-preserved
 pages-preserved g c =
     let state = g.K.Keeper.state in
     let l = c.args.layout.now in
-    let sees = g.S.Sight.sees c.args.sight.now l in
-    let each = g.S.Sight.shown in
-    let keep = g.P.Keeps.keep c.args.keeps.now in
-    let rank = g.R.Ranks.ranked c.args.ranks.now in
-    let mid = c.pages.gathered.items in
-    let new = c.gather_rows.new.gathered.items in
-    turn state c.draft_laws.ensures.both c.call_laws.ensures.then l sees each (λ seen. GathersRows l rank [] mid (filter keep seen)) c.pages.pages c.args.draft.now c.pages.draft c.pages.invariant
-    c.next_permitted.new.pages c.next_permitted.new.draft c.in_ok-rows.rows c.in_ok-rows.ensures.turns c.in_ok-rows.ensures.less (λ seen. GathersRows l rank [] new (filter keep seen))
-    (λ seen page read does. gathers_more l rank keep [] mid new seen page does (c.in_ok-gather_rows.ensures page read))
-
-pub returns-in_err-gather_rows-clause-what : goal.returns-in_err-gather_rows-clause-what
-returns-in_err-gather_rows-clause-what g c told =
-    let state = g.K.Keeper.state in
-    let l = c.args.layout.now in
     let a = c.args.draft.now in
-    let sees = g.S.Sight.sees c.args.sight.now l in
-    let each = g.S.Sight.shown in
-    let keep = g.P.Keeps.keep c.args.keeps.now in
-    let rank = g.R.Ranks.ranked c.args.ranks.now in
-    let mid = c.pages.gathered.items in
-    let new = c.gather_rows.new.gathered.items in
+    let relatives = c.args.relatives.now in
+    let whose = g.L.Relatives.whose relatives l.org in
+    let parents = g.L.Relatives.parents relatives in
+    let j = judging (g.S.Sight.sees c.args.sight.now l) whose parents (g.P.Keeps.keep c.args.keeps.now) (g.R.Ranks.ranked c.args.ranks.now) in
+    let each = g.S.Sight.shown + g.L.Relatives.parents_shown relatives in
+    let items = c.pages.gathered.items in
+    let Q = λ (x : Asked) (rs : List Record). GathersRows (IsOf l (j.parents x)) (j.rank x) [] items rs in
+    let laws = c.draft_laws.ensures in
+    let then = c.call_laws.ensures.then in
+    let turned = c.next_permitted.new.pages in
     let b = c.next_permitted.new.draft in
-    let result = c.from_residual-in_err-gather_rows.result in
-    let fail = c.in_err-gather_rows.field-0.0 in
-    gathered_none l sees rank (λ t x. filter keep (readable t x l.object)) (tables_of state a) result fail (returned result (of_codec fail) c.from_residual-in_err-gather_rows.ensures.1) (λ damaged.
-    none_reached state l sees each c.next_permitted.new.pages a b
-    (turn state c.draft_laws.ensures.both c.call_laws.ensures.then l sees each (λ seen. GathersRows l rank [] mid (filter keep seen)) c.pages.pages a c.pages.draft c.pages.invariant
-    c.next_permitted.new.pages b c.in_ok-rows.rows c.in_ok-rows.ensures.turns c.in_ok-rows.ensures.less (λ seen. ⊥)
-    (λ seen page read does. gathers_undamaged l rank mid new (filter keep page) fail damaged
-    (subst (Gathers l rank mid new (filter keep page)) c.in_err-gather_rows.was (c.gather_rows.ensures page read)))) told)
+    let new = c.next_permitted.new.kept.items in
+    let page = c.in_ok-next_permitted.ensures.turns in
+    turn state l j each laws.both then laws.reads_most Q c.pages.pages (length items) a c.pages.draft c.pages.invariant
+    each 0 (omega arith) turned items new b b page c.in_ok-next_permitted.ensures.less 0 (omega arith) done (c.call_laws.ensures.none done b refl)
+    (λ (x : Asked) (rs : List Record). GathersRows (IsOf l (j.parents x)) (j.rank x) [] new rs) (length new) page.sized
+    (λ told q x s h its seen rows has gathers goes. gathers_more (IsOf l (j.parents x)) (j.rank x) [] items new seen (picked j x rows) goes gathers)
 
 pub returns-clause-what : goal.returns-clause-what
 returns-clause-what g c told =
     let state = g.K.Keeper.state in
     let l = c.args.layout.now in
-    let sees = g.S.Sight.sees c.args.sight.now l in
-    let keep = g.P.Keeps.keep c.args.keeps.now in
-    let rank = g.R.Ranks.ranked c.args.ranks.now in
-    all_read state l sees g.S.Sight.shown (λ seen. GathersRows l rank [] c.pages.gathered.items (filter keep seen)) c.pages.pages c.args.draft.now c.pages.draft c.pages.invariant c.pages-test.false told
+    let a = c.args.draft.now in
+    let relatives = c.args.relatives.now in
+    let whose = g.L.Relatives.whose relatives l.org in
+    let parents = g.L.Relatives.parents relatives in
+    let j = judging (g.S.Sight.sees c.args.sight.now l) whose parents (g.P.Keeps.keep c.args.keeps.now) (g.R.Ranks.ranked c.args.ranks.now) in
+    let each = g.S.Sight.shown + g.L.Relatives.parents_shown relatives in
+    let items = c.pages.gathered.items in
+    let Q = λ (x : Asked) (rs : List Record). GathersRows (IsOf l (j.parents x)) (j.rank x) [] items rs in
+    let laws = c.draft_laws.ensures in
+    let then = c.call_laws.ensures.then in
+    all_read state l j each Q c.pages.pages (length items) done a c.pages.draft c.pages.invariant c.pages-test.false told
 
-pub returns-clause-shown : goal.returns-clause-shown
-returns-clause-shown g c told =
+pub returns-clause-reads : goal.returns-clause-reads
+returns-clause-reads g c =
     let state = g.K.Keeper.state in
     let l = c.args.layout.now in
-    let sees = g.S.Sight.sees c.args.sight.now l in
-    let keep = g.P.Keeps.keep c.args.keeps.now in
-    let rank = g.R.Ranks.ranked c.args.ranks.now in
-    all_shown state l sees g.S.Sight.shown (λ seen. GathersRows l rank [] c.pages.gathered.items (filter keep seen)) c.pages.pages c.args.draft.now c.pages.draft c.pages.invariant told
+    let a = c.args.draft.now in
+    let relatives = c.args.relatives.now in
+    let whose = g.L.Relatives.whose relatives l.org in
+    let parents = g.L.Relatives.parents relatives in
+    let j = judging (g.S.Sight.sees c.args.sight.now l) whose parents (g.P.Keeps.keep c.args.keeps.now) (g.R.Ranks.ranked c.args.ranks.now) in
+    let each = g.S.Sight.shown + g.L.Relatives.parents_shown relatives in
+    let items = c.pages.gathered.items in
+    let Q = λ (x : Asked) (rs : List Record). GathersRows (IsOf l (j.parents x)) (j.rank x) [] items rs in
+    let laws = c.draft_laws.ensures in
+    let then = c.call_laws.ensures.then in
+    reads_all state l j each laws.reads_most Q c.pages.pages c.pages.gathered a c.pages.draft c.pages.invariant

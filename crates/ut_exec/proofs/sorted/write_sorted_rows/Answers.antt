@@ -1,65 +1,277 @@
-use Rattle.std.proofs.Common.{◌∙◌, List, ap, filter, subst, sym}
-use Rattle.ut_data.specs.Decoding.{each_from}
-use Rattle.ut_keeper.specs.Draft.{tables_of}
+use Rattle.std.proofs.Common.{◌≡◌, ◌∙◌, ◌+◌, ◌*◌, ◌≤◌, List, Some, ap, arith, filter, length, sym, subst}
+use Rattle.std.proofs.Math.Nat.{mul-le-mul_left}
+use Rattle.ut_keeper.specs.Draft.{removals_of, tables_of}
+use Rattle.ut_keeper.specs.Tables.{Tables}
 use Rattle.ut_model.specs.Levels.{readable}
 use Rattle.ut_model.specs.Ordered.{in_order}
-use Rattle.ut_model.specs.Tenant.{Tenant, User}
+use Rattle.ut_model.specs.Paths.{Asked}
+use Rattle.ut_stands.specs.Calls.{Calls, Ending, done}
+use Rattle.ut_stands.specs.Layouts.{IsLayout}
+use Rattle.ut_stands.specs.Local.{StandsIn}
+use Rattle.ut_stands.specs.Plan.{OrgPlan}
+use Rattle.ut_exec.specs.declared.candidates.Candidate.{Candidate}
+use Rattle.ut_exec.specs.declared.fail.ExecFail.TheVariants.{Store}
 use Rattle.ut_exec.specs.declared.offers.Progress.{Progress}
 use Rattle.ut_exec.specs.declared.ranked.Ranked.{Ranked}
-use Rattle.ut_exec.specs.Ranks.{by_rank}
-use Rattle.ut_exec.specs.Written.{WritesRows, rows_sorted}
-use Rattle.ut_exec.specs.inner.Gathering.{ranked_record}
+use Rattle.ut_exec.specs.Fails.{ended_exec}
+use Rattle.ut_exec.specs.Ranks.{EachOf, by_rank}
+use Rattle.ut_exec.specs.Relatives.{by_relatives}
+use Rattle.ut_exec.specs.Windows.{in_window}
+use Rattle.ut_exec.specs.Written.{WritesRows, most_shown}
+use Rattle.ut_exec.specs.inner.Judging.{IsOf, judging}
 use Rattle.ut_exec.specs.inner.Offers.{Offered}
 use Rattle.ut_exec.proofs.Offering.{returned}
-use Rattle.ut_exec.proofs.Permitting.{readable_rises}
-use Rattle.ut_exec.proofs.Sorting.{sorted_records}
-use Rattle.ut_exec.proofs.Working.{has_no_types, what_failed, what_offered}
+use Rattle.ut_exec.proofs.Working.{gathered_none, has_no_types, in_order_so, offered_calls, offered_shown, what_failed, what_offered}
 use Rattle.ut_exec.proofs.sorted.write_sorted_rows.Goals as goal
 
 pub returns-then-not-has_types-clause-what : goal.returns-then-not-has_types-clause-what
 returns-then-not-has_types-clause-what g c told =
-    let sees = g.S.Sight.sees c.args.sight.now c.args.layout.now in
-    has_no_types c.data_laws.ensures.typed c.args.layout.now sees (tables_of g.K.Keeper.state c.args.draft.now) (sym c.has_types.ensures ∙ c.if-not-has_types.true)
-
-pub returns-in_err-offer_sorted-clause-what : goal.returns-in_err-offer_sorted-clause-what
-returns-in_err-offer_sorted-clause-what g c told =
     let state = g.K.Keeper.state in
     let l = c.args.layout.now in
-    let m = tables_of state c.args.draft.now in
-    let sees = g.S.Sight.sees c.args.sight.now l in
-    let keep = g.P.Keeps.keep c.args.keeps.now in
-    let row = g.W.RowForm.written c.args.form.now in
-    let rank = g.R.Ranks.ranked c.args.ranks.now in
-    let order = by_rank g.R.Rank.Ord.cmp rank in
+    let a = c.args.draft.now in
+    let relatives = c.args.relatives.now in
+    let whose = g.L.Relatives.whose relatives l.org in
+    let parents = g.L.Relatives.parents relatives in
+    let j = judging (g.S.Sight.sees c.args.sight.now l) whose parents (g.P.Keeps.keep c.args.keeps.now) (g.R.Ranks.ranked c.args.ranks.now) in
+    let row = by_relatives parents (g.L.Relatives.children relatives) (g.W.RowForm.written c.args.form.now) in
+    let own = g.S.Sight.shown + g.L.Relatives.parents_shown relatives in
+    let kids = g.L.Relatives.children_shown relatives in
     let w = c.args.window in
     let room = c.args.room in
     let old = c.args.out.now.items in
-    let new = c.offer_sorted.new.progress in
-    let out = c.offer_sorted.new.out.items in
-    let fail = c.in_err-offer_sorted.field-0.0 in
+    has_no_types c.data_laws.ensures.typed l j.who (tables_of state a) (sym c.has_types.ensures ∙ c.if-not-has_types.true)
+
+pub returns-in_err-gathered-clause-calls : goal.returns-in_err-gathered-clause-calls
+returns-in_err-gathered-clause-calls g c =
+    let state = g.K.Keeper.state in
+    let l = c.args.layout.now in
+    let a = c.args.draft.now in
+    let relatives = c.args.relatives.now in
+    let whose = g.L.Relatives.whose relatives l.org in
+    let parents = g.L.Relatives.parents relatives in
+    let j = judging (g.S.Sight.sees c.args.sight.now l) whose parents (g.P.Keeps.keep c.args.keeps.now) (g.R.Ranks.ranked c.args.ranks.now) in
+    let row = by_relatives parents (g.L.Relatives.children relatives) (g.W.RowForm.written c.args.form.now) in
+    let own = g.S.Sight.shown + g.L.Relatives.parents_shown relatives in
+    let kids = g.L.Relatives.children_shown relatives in
+    let w = c.args.window in
+    let room = c.args.room in
+    let old = c.args.out.now.items in
+    let fail = c.in_err-gathered.field-0.0 in
+    subst (λ r. Calls state (most_shown (own + kids) (removals_of state 7 a)) (ended_exec r) a c.gather_all.new.draft) (sym (returned c.from_residual.result (Store fail) c.from_residual.ensures.1))
+    (gathered_none state l j own c.draft_laws.ensures.reads_most kids a c.gather_all.new.draft fail c.in_err-gathered.ensures.reads)
+
+pub returns-in_err-offer_rows-clause-what : goal.returns-in_err-offer_rows-clause-what
+returns-in_err-offer_rows-clause-what g c told =
+    let state = g.K.Keeper.state in
+    let l = c.args.layout.now in
+    let a = c.args.draft.now in
+    let relatives = c.args.relatives.now in
+    let whose = g.L.Relatives.whose relatives l.org in
+    let parents = g.L.Relatives.parents relatives in
+    let j = judging (g.S.Sight.sees c.args.sight.now l) whose parents (g.P.Keeps.keep c.args.keeps.now) (g.R.Ranks.ranked c.args.ranks.now) in
+    let row = by_relatives parents (g.L.Relatives.children relatives) (g.W.RowForm.written c.args.form.now) in
+    let own = g.S.Sight.shown + g.L.Relatives.parents_shown relatives in
+    let kids = g.L.Relatives.children_shown relatives in
+    let w = c.args.window in
+    let room = c.args.room in
+    let old = c.args.out.now.items in
+    let laws = c.draft_laws.ensures in
+    let then = c.call_laws.ensures.then in
+    let cmp = g.R.Rank.Ord.cmp in
+    let chosen = λ (x : Asked). in_order (by_rank cmp (j.rank x)) (filter (j.keep x) (readable x.tenant x.user l.object)) in
+    let gathered = c.in_ok-gathered.gathered in
+    let sorted = c.put_in_order.new.gathered.items in
+    let b = c.gather_all.new.draft in
+    let d = c.offer_rows.new.draft in
     let first : Progress = record { window = w; room = room; count = 0 } in
-    let chosen = λ (t : Tenant) (x : User). in_order order (filter keep (readable t x l.object)) in
-    subst (WritesRows l sees (rows_sorted w order keep l.object) row room old out m) (sym (returned c.from_residual-in_err-offer_sorted.result fail c.from_residual-in_err-offer_sorted.ensures.1))
-    (what_failed state keep row w room old l sees m chosen new out fail (λ q t x s h its.
-    subst (Offered row first new old out (chosen t x)) c.in_err-offer_sorted.was
-    (c.offer_sorted.ensures.offered (chosen t x)
-    (ap (λ (rows : List (Ranked g.row.R-Rank.Denot)). each_from (ranked_record l) rows) c.as_slice.ensures.value
-    ∙ sorted_records g.R.Rank.Ord.cmp l rank keep (readable t x l.object) c.in_ok-gathered.gathered.items c.put_in_order.new.gathered.items (readable_rises t x l.object (c.record_laws.ensures.rise t l.object s.sound))
-    (c.in_ok-gathered.ensures.what told q t x s h its) c.put_in_order.ensures))))
+    let new = c.offer_rows.new.progress in
+    let out = c.offer_rows.new.out.items in
+    let e = ended_exec c.offer_rows.result in
+    let reads = c.in_ok-gathered.ensures.reads in
+    let same_length : length c.as_slice.result.now ≡ length gathered.items = ap length c.as_slice.ensures.value ∙ c.put_in_order.ensures.long in
+    let few : kids * length c.as_slice.result.now ≤ kids * length gathered.items = mul-le-mul_left kids (omega (arith, same_length)) in
+    let tell = laws.both _ _ a b d reads.calls.reads c.offer_rows.ensures.calls.reads told in
+    let offered = λ (q : OrgPlan) (x : Asked) (s : StandsIn l.org q (tables_of state a) (Some x.tenant)) (h : IsLayout q x.tenant l) (its : j.who q x).
+    let its_order = in_order_so l j cmp g.met.R.Rank.Ord.total gathered.items sorted c.put_in_order.ensures.sorts x (c.record_laws.ensures.rise x.tenant l.object s.sound) (c.in_ok-gathered.ensures.what tell.0 q x s h its) in
+    c.offer_rows.ensures.offered tell.1 q x (subst (λ (m : Tables). StandsIn l.org q m (Some x.tenant)) (sym tell.2) s) h its.1 (chosen x)
+    (subst (λ (rows : List (Ranked g.row.R-Rank.Denot Candidate)). EachOf (λ (row : Ranked g.row.R-Rank.Denot Candidate) r. IsOf l (parents x) row.kept r) rows (chosen x)) (sym c.as_slice.ensures.value) its_order.each)
+    its_order.has in
+    let fail = c.in_err-offer_rows.field-0.0 in
+    let result = c.from_residual-in_err-offer_rows.result in
+    let is = returned result fail c.from_residual-in_err-offer_rows.ensures.1 in
+    let same : e ≡ ended_exec result = ap ended_exec c.in_err-offer_rows.was ∙ sym (ap ended_exec is) in
+    subst (WritesRows l j.who (λ x. in_window w (chosen x)) row room old out (tables_of state a)) (sym is)
+    (what_failed row w room old l j.who (tables_of state a) chosen new out fail (λ q x s h its.
+    subst (Offered (row x) first new old out (chosen x)) c.in_err-offer_rows.was (offered q x s h its)))
+
+pub returns-in_err-offer_rows-clause-calls : goal.returns-in_err-offer_rows-clause-calls
+returns-in_err-offer_rows-clause-calls g c =
+    let state = g.K.Keeper.state in
+    let l = c.args.layout.now in
+    let a = c.args.draft.now in
+    let relatives = c.args.relatives.now in
+    let whose = g.L.Relatives.whose relatives l.org in
+    let parents = g.L.Relatives.parents relatives in
+    let j = judging (g.S.Sight.sees c.args.sight.now l) whose parents (g.P.Keeps.keep c.args.keeps.now) (g.R.Ranks.ranked c.args.ranks.now) in
+    let row = by_relatives parents (g.L.Relatives.children relatives) (g.W.RowForm.written c.args.form.now) in
+    let own = g.S.Sight.shown + g.L.Relatives.parents_shown relatives in
+    let kids = g.L.Relatives.children_shown relatives in
+    let w = c.args.window in
+    let room = c.args.room in
+    let old = c.args.out.now.items in
+    let laws = c.draft_laws.ensures in
+    let then = c.call_laws.ensures.then in
+    let cmp = g.R.Rank.Ord.cmp in
+    let chosen = λ (x : Asked). in_order (by_rank cmp (j.rank x)) (filter (j.keep x) (readable x.tenant x.user l.object)) in
+    let gathered = c.in_ok-gathered.gathered in
+    let sorted = c.put_in_order.new.gathered.items in
+    let b = c.gather_all.new.draft in
+    let d = c.offer_rows.new.draft in
+    let first : Progress = record { window = w; room = room; count = 0 } in
+    let new = c.offer_rows.new.progress in
+    let out = c.offer_rows.new.out.items in
+    let e = ended_exec c.offer_rows.result in
+    let reads = c.in_ok-gathered.ensures.reads in
+    let same_length : length c.as_slice.result.now ≡ length gathered.items = ap length c.as_slice.ensures.value ∙ c.put_in_order.ensures.long in
+    let few : kids * length c.as_slice.result.now ≤ kids * length gathered.items = mul-le-mul_left kids (omega (arith, same_length)) in
+    let fail = c.in_err-offer_rows.field-0.0 in
+    let result = c.from_residual-in_err-offer_rows.result in
+    let is = returned result fail c.from_residual-in_err-offer_rows.ensures.1 in
+    let same : e ≡ ended_exec result = ap ended_exec c.in_err-offer_rows.was ∙ sym (ap ended_exec is) in
+    subst (λ (x : Ending). Calls state (most_shown (own + kids) (removals_of state 7 a)) x a d) same
+    (offered_calls state l j own laws.both then laws.reads_most kids gathered (kids * length c.as_slice.result.now) few e a b d reads c.offer_rows.ensures.calls)
+
+pub returns-in_err-offer_rows-clause-shown : goal.returns-in_err-offer_rows-clause-shown
+returns-in_err-offer_rows-clause-shown g c told =
+    let state = g.K.Keeper.state in
+    let l = c.args.layout.now in
+    let a = c.args.draft.now in
+    let relatives = c.args.relatives.now in
+    let whose = g.L.Relatives.whose relatives l.org in
+    let parents = g.L.Relatives.parents relatives in
+    let j = judging (g.S.Sight.sees c.args.sight.now l) whose parents (g.P.Keeps.keep c.args.keeps.now) (g.R.Ranks.ranked c.args.ranks.now) in
+    let row = by_relatives parents (g.L.Relatives.children relatives) (g.W.RowForm.written c.args.form.now) in
+    let own = g.S.Sight.shown + g.L.Relatives.parents_shown relatives in
+    let kids = g.L.Relatives.children_shown relatives in
+    let w = c.args.window in
+    let room = c.args.room in
+    let old = c.args.out.now.items in
+    let laws = c.draft_laws.ensures in
+    let then = c.call_laws.ensures.then in
+    let cmp = g.R.Rank.Ord.cmp in
+    let chosen = λ (x : Asked). in_order (by_rank cmp (j.rank x)) (filter (j.keep x) (readable x.tenant x.user l.object)) in
+    let gathered = c.in_ok-gathered.gathered in
+    let sorted = c.put_in_order.new.gathered.items in
+    let b = c.gather_all.new.draft in
+    let d = c.offer_rows.new.draft in
+    let first : Progress = record { window = w; room = room; count = 0 } in
+    let new = c.offer_rows.new.progress in
+    let out = c.offer_rows.new.out.items in
+    let e = ended_exec c.offer_rows.result in
+    let reads = c.in_ok-gathered.ensures.reads in
+    let same_length : length c.as_slice.result.now ≡ length gathered.items = ap length c.as_slice.ensures.value ∙ c.put_in_order.ensures.long in
+    let few : kids * length c.as_slice.result.now ≤ kids * length gathered.items = mul-le-mul_left kids (omega (arith, same_length)) in
+    offered_shown state l j own laws.both then laws.reads_most kids gathered (kids * length c.as_slice.result.now) few e a b d reads c.offer_rows.ensures.calls told
+    (ended_exec c.from_residual-in_err-offer_rows.result)
 
 pub returns-clause-what : goal.returns-clause-what
 returns-clause-what g c told =
     let state = g.K.Keeper.state in
     let l = c.args.layout.now in
-    let m = tables_of state c.args.draft.now in
-    let sees = g.S.Sight.sees c.args.sight.now l in
-    let keep = g.P.Keeps.keep c.args.keeps.now in
-    let row = g.W.RowForm.written c.args.form.now in
-    let rank = g.R.Ranks.ranked c.args.ranks.now in
-    let order = by_rank g.R.Rank.Ord.cmp rank in
-    let chosen = λ (t : Tenant) (x : User). in_order order (filter keep (readable t x l.object)) in
-    what_offered state keep row c.args.window c.args.room c.args.out.now.items l sees m chosen c.offer_sorted.new.progress c.offer_sorted.new.out.items (λ q t x s h its.
-    c.in_ok-offer_sorted.ensures.offered (chosen t x)
-    (ap (λ (rows : List (Ranked g.row.R-Rank.Denot)). each_from (ranked_record l) rows) c.as_slice.ensures.value
-    ∙ sorted_records g.R.Rank.Ord.cmp l rank keep (readable t x l.object) c.in_ok-gathered.gathered.items c.put_in_order.new.gathered.items (readable_rises t x l.object (c.record_laws.ensures.rise t l.object s.sound))
-    (c.in_ok-gathered.ensures.what told q t x s h its) c.put_in_order.ensures))
+    let a = c.args.draft.now in
+    let relatives = c.args.relatives.now in
+    let whose = g.L.Relatives.whose relatives l.org in
+    let parents = g.L.Relatives.parents relatives in
+    let j = judging (g.S.Sight.sees c.args.sight.now l) whose parents (g.P.Keeps.keep c.args.keeps.now) (g.R.Ranks.ranked c.args.ranks.now) in
+    let row = by_relatives parents (g.L.Relatives.children relatives) (g.W.RowForm.written c.args.form.now) in
+    let own = g.S.Sight.shown + g.L.Relatives.parents_shown relatives in
+    let kids = g.L.Relatives.children_shown relatives in
+    let w = c.args.window in
+    let room = c.args.room in
+    let old = c.args.out.now.items in
+    let laws = c.draft_laws.ensures in
+    let then = c.call_laws.ensures.then in
+    let cmp = g.R.Rank.Ord.cmp in
+    let chosen = λ (x : Asked). in_order (by_rank cmp (j.rank x)) (filter (j.keep x) (readable x.tenant x.user l.object)) in
+    let gathered = c.in_ok-gathered.gathered in
+    let sorted = c.put_in_order.new.gathered.items in
+    let b = c.gather_all.new.draft in
+    let d = c.offer_rows.new.draft in
+    let first : Progress = record { window = w; room = room; count = 0 } in
+    let new = c.offer_rows.new.progress in
+    let out = c.offer_rows.new.out.items in
+    let e = ended_exec c.offer_rows.result in
+    let reads = c.in_ok-gathered.ensures.reads in
+    let same_length : length c.as_slice.result.now ≡ length gathered.items = ap length c.as_slice.ensures.value ∙ c.put_in_order.ensures.long in
+    let few : kids * length c.as_slice.result.now ≤ kids * length gathered.items = mul-le-mul_left kids (omega (arith, same_length)) in
+    let tell = laws.both _ _ a b d reads.calls.reads c.offer_rows.ensures.calls.reads told in
+    let given = λ (q : OrgPlan) (x : Asked) (s : StandsIn l.org q (tables_of state a) (Some x.tenant)) (h : IsLayout q x.tenant l) (its : j.who q x).
+    let its_order = in_order_so l j cmp g.met.R.Rank.Ord.total gathered.items sorted c.put_in_order.ensures.sorts x (c.record_laws.ensures.rise x.tenant l.object s.sound) (c.in_ok-gathered.ensures.what tell.0 q x s h its) in
+    c.in_ok-offer_rows.ensures.offered tell.1 q x (subst (λ (m : Tables). StandsIn l.org q m (Some x.tenant)) (sym tell.2) s) h its.1 (chosen x)
+    (subst (λ (rows : List (Ranked g.row.R-Rank.Denot Candidate)). EachOf (λ (row : Ranked g.row.R-Rank.Denot Candidate) r. IsOf l (parents x) row.kept r) rows (chosen x)) (sym c.as_slice.ensures.value) its_order.each)
+    its_order.has in
+    what_offered row w room old l j.who (tables_of state a) chosen new out given
+
+pub returns-clause-calls : goal.returns-clause-calls
+returns-clause-calls g c =
+    let state = g.K.Keeper.state in
+    let l = c.args.layout.now in
+    let a = c.args.draft.now in
+    let relatives = c.args.relatives.now in
+    let whose = g.L.Relatives.whose relatives l.org in
+    let parents = g.L.Relatives.parents relatives in
+    let j = judging (g.S.Sight.sees c.args.sight.now l) whose parents (g.P.Keeps.keep c.args.keeps.now) (g.R.Ranks.ranked c.args.ranks.now) in
+    let row = by_relatives parents (g.L.Relatives.children relatives) (g.W.RowForm.written c.args.form.now) in
+    let own = g.S.Sight.shown + g.L.Relatives.parents_shown relatives in
+    let kids = g.L.Relatives.children_shown relatives in
+    let w = c.args.window in
+    let room = c.args.room in
+    let old = c.args.out.now.items in
+    let laws = c.draft_laws.ensures in
+    let then = c.call_laws.ensures.then in
+    let cmp = g.R.Rank.Ord.cmp in
+    let chosen = λ (x : Asked). in_order (by_rank cmp (j.rank x)) (filter (j.keep x) (readable x.tenant x.user l.object)) in
+    let gathered = c.in_ok-gathered.gathered in
+    let sorted = c.put_in_order.new.gathered.items in
+    let b = c.gather_all.new.draft in
+    let d = c.offer_rows.new.draft in
+    let first : Progress = record { window = w; room = room; count = 0 } in
+    let new = c.offer_rows.new.progress in
+    let out = c.offer_rows.new.out.items in
+    let e = ended_exec c.offer_rows.result in
+    let reads = c.in_ok-gathered.ensures.reads in
+    let same_length : length c.as_slice.result.now ≡ length gathered.items = ap length c.as_slice.ensures.value ∙ c.put_in_order.ensures.long in
+    let few : kids * length c.as_slice.result.now ≤ kids * length gathered.items = mul-le-mul_left kids (omega (arith, same_length)) in
+    offered_calls state l j own laws.both then laws.reads_most kids gathered (kids * length c.as_slice.result.now) few done a b d reads c.in_ok-offer_rows.ensures.calls
+
+pub returns-clause-shown : goal.returns-clause-shown
+returns-clause-shown g c told =
+    let state = g.K.Keeper.state in
+    let l = c.args.layout.now in
+    let a = c.args.draft.now in
+    let relatives = c.args.relatives.now in
+    let whose = g.L.Relatives.whose relatives l.org in
+    let parents = g.L.Relatives.parents relatives in
+    let j = judging (g.S.Sight.sees c.args.sight.now l) whose parents (g.P.Keeps.keep c.args.keeps.now) (g.R.Ranks.ranked c.args.ranks.now) in
+    let row = by_relatives parents (g.L.Relatives.children relatives) (g.W.RowForm.written c.args.form.now) in
+    let own = g.S.Sight.shown + g.L.Relatives.parents_shown relatives in
+    let kids = g.L.Relatives.children_shown relatives in
+    let w = c.args.window in
+    let room = c.args.room in
+    let old = c.args.out.now.items in
+    let laws = c.draft_laws.ensures in
+    let then = c.call_laws.ensures.then in
+    let cmp = g.R.Rank.Ord.cmp in
+    let chosen = λ (x : Asked). in_order (by_rank cmp (j.rank x)) (filter (j.keep x) (readable x.tenant x.user l.object)) in
+    let gathered = c.in_ok-gathered.gathered in
+    let sorted = c.put_in_order.new.gathered.items in
+    let b = c.gather_all.new.draft in
+    let d = c.offer_rows.new.draft in
+    let first : Progress = record { window = w; room = room; count = 0 } in
+    let new = c.offer_rows.new.progress in
+    let out = c.offer_rows.new.out.items in
+    let e = ended_exec c.offer_rows.result in
+    let reads = c.in_ok-gathered.ensures.reads in
+    let same_length : length c.as_slice.result.now ≡ length gathered.items = ap length c.as_slice.ensures.value ∙ c.put_in_order.ensures.long in
+    let few : kids * length c.as_slice.result.now ≤ kids * length gathered.items = mul-le-mul_left kids (omega (arith, same_length)) in
+    offered_shown state l j own laws.both then laws.reads_most kids gathered (kids * length c.as_slice.result.now) few done a b d reads c.in_ok-offer_rows.ensures.calls told done

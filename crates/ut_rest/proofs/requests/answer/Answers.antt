@@ -1,12 +1,14 @@
-use Rattle.std.proofs.Common.{◌∙◌, sym, subst, arith}
+use Rattle.std.proofs.Common.{◌∙◌, ap, sym, subst, arith}
 use Rattle.ut_keeper.specs.Draft.{removals_of, tables_of}
 use Rattle.ut_keeper.specs.State.{data_table}
 use Rattle.ut_model.specs.declared.refusal.Refusal.TheVariants.{AdminRequired}
 use Rattle.ut_model.specs.declared.route.Route.{Route}
+use Rattle.ut_model.specs.declared.route.Route.TheVariants.{Query}
 use Rattle.ut_model.specs.declared.routed.Routed.TheVariants.{To}
 use Rattle.ut_model.specs.Verdict.{Verdict}
 use Rattle.ut_step.specs.Built.{verdict_to}
-use Rattle.ut_step.specs.Own.{IsAsking, shown_beside}
+use Rattle.ut_step.specs.Own.{IsAsking}
+use Rattle.ut_step.specs.Shown.{further_shown, shown_beside}
 use Rattle.ut_rest.specs.inner.Answers.{AnswersBy}
 use Rattle.ut_rest.proofs.Named.{refused_so}
 use Rattle.ut_rest.proofs.Responses.{drafts_of, form_of, read_responds, refused_calls}
@@ -32,7 +34,7 @@ returns-then-lacks_administrator-clause-drafts g c =
     let state = g.K.Keeper.state in
     let laws = c.call_laws.ensures in
     let a = c.args.draft.now in
-    drafts_of state laws.makes laws.most 0 (shown_beside (removals_of state data_table a)) (omega arith) a a c.refuse.result c.unchanged.result c.unchanged.ensures
+    drafts_of state laws.makes laws.most 0 (shown_beside (further_shown (To c.args.route.now)) (removals_of state data_table a)) (omega arith) a a c.refuse.result c.unchanged.result c.unchanged.ensures
     (refused_calls state laws.weaker laws.none AdminRequired c.refuse.result a c.refuse.ensures.value)
 
 -- ---- a query
@@ -53,8 +55,10 @@ returns-in-Query-clause-drafts g c =
     let state = g.K.Keeper.state in
     let laws = c.call_laws.ensures in
     let a = c.args.draft.now in
-    let shown = shown_beside (removals_of state data_table a) in
-    drafts_of state laws.makes laws.most shown shown (omega arith) a c.answer_query.new.draft c.answer_query.result c.unchanged-in-Query.result c.unchanged-in-Query.ensures c.answer_query.ensures.calls
+    let further = ap (λ (r : Route). further_shown (To r)) c.in-Query.is in
+    let own = shown_beside (further_shown (To (Query c.in-Query.pairs))) (removals_of state data_table a) in
+    let shown = shown_beside (further_shown (To c.args.route.now)) (removals_of state data_table a) in
+    drafts_of state laws.makes laws.most own shown (omega (arith, further)) a c.answer_query.new.draft c.answer_query.result c.unchanged-in-Query.result c.unchanged-in-Query.ensures c.answer_query.ensures.calls
 
 -- ---- how far the change of a type is
 
@@ -75,7 +79,7 @@ returns-in-GetRetype-clause-drafts g c =
     let state = g.K.Keeper.state in
     let laws = c.call_laws.ensures in
     let a = c.args.draft.now in
-    drafts_of state laws.makes laws.most 0 (shown_beside (removals_of state data_table a)) (omega arith) a c.answer_state.new.draft c.answer_state.result c.unchanged-in-GetRetype.result c.unchanged-in-GetRetype.ensures c.answer_state.ensures.calls
+    drafts_of state laws.makes laws.most 0 (shown_beside (further_shown (To c.args.route.now)) (removals_of state data_table a)) (omega arith) a c.answer_state.new.draft c.answer_state.result c.unchanged-in-GetRetype.result c.unchanged-in-GetRetype.ensures c.answer_state.ensures.calls
 
 -- ---- an edit
 
@@ -93,4 +97,4 @@ pub returns-in_default-clause-drafts : goal.returns-in_default-clause-drafts
 returns-in_default-clause-drafts g c =
     let state = g.K.Keeper.state in
     let a = c.args.draft.now in
-    administered_drafts state c.call_laws.ensures.most (shown_beside (removals_of state data_table a)) c.answer_edit.result a c.answer_edit.new.draft (omega arith) c.answer_edit.ensures.drafts
+    administered_drafts state c.call_laws.ensures.most (shown_beside (further_shown (To c.args.route.now)) (removals_of state data_table a)) c.answer_edit.result a c.answer_edit.new.draft (omega arith) c.answer_edit.ensures.drafts

@@ -4,9 +4,12 @@ use Rattle.ut_keeper.specs.Draft.{removals_of, tables_of}
 use Rattle.ut_keeper.specs.State.{data_table}
 use Rattle.ut_model.specs.declared.refusal.Refusal.TheVariants as refusal
 use Rattle.ut_model.specs.declared.routed.Routed.{Routed}
-use Rattle.ut_stands.specs.Operations.{Responds}
+use Rattle.ut_stands.specs.Operations.{Drafts, Responds}
+use Rattle.std.specs.Str.{chars}
+use Rattle.ut_model.specs.Routing.{routed}
 use Rattle.ut_step.specs.Built.{verdict_to}
-use Rattle.ut_step.specs.Own.{IsAsking, shown_beside}
+use Rattle.ut_step.specs.Own.{IsAsking, request_changes, request_gone}
+use Rattle.ut_step.specs.Shown.{further_shown, shown_beside}
 use Rattle.ut_rest.specs.Forms.{IsRequestReply}
 use Rattle.ut_rest.proofs.Named.{refused_so}
 use Rattle.ut_rest.proofs.Responses.{drafts_of, form_of, read_responds, refused_calls}
@@ -23,6 +26,13 @@ returns-in-Ok-To-clause-what g c told =
 
 pub returns-in-Ok-To-clause-form : goal.returns-in-Ok-To-clause-form
 returns-in-Ok-To-clause-form g c = subst (λ (r : Routed). IfOk c.answer.result (IsRequestReply r)) (sym c.in-Ok-To.field-0-is ∙ c.in-Ok-To.ensures) c.answer.ensures.form
+
+pub returns-in-Ok-To-clause-drafts : goal.returns-in-Ok-To-clause-drafts
+returns-in-Ok-To-clause-drafts g c =
+    let state = g.K.Keeper.state in
+    let a = c.args.draft.now in
+    subst (λ (r : Routed). Drafts state request_changes request_gone (shown_beside (further_shown r) (removals_of state data_table a)) c.answer.result a c.answer.new.draft)
+    (sym c.in-Ok-To.field-0-is ∙ c.in-Ok-To.ensures) c.answer.ensures.drafts
 
 -- ---- no such path
 
@@ -43,7 +53,7 @@ returns-in-Ok-NotFound-clause-drafts g c =
     let state = g.K.Keeper.state in
     let laws = c.call_laws.ensures in
     let a = c.args.draft.now in
-    drafts_of state laws.makes laws.most 0 (shown_beside (removals_of state data_table a)) (omega arith) a a c.refuse.result c.unchanged.result c.unchanged.ensures
+    drafts_of state laws.makes laws.most 0 (shown_beside (further_shown (routed c.args.method.now (chars c.args.target.now))) (removals_of state data_table a)) (omega arith) a a c.refuse.result c.unchanged.result c.unchanged.ensures
     (refused_calls state laws.weaker laws.none refusal.NotFound c.refuse.result a c.refuse.ensures.value)
 
 -- ---- another method
@@ -65,5 +75,5 @@ returns-in-Ok-NotAllowed-clause-drafts g c =
     let state = g.K.Keeper.state in
     let laws = c.call_laws.ensures in
     let a = c.args.draft.now in
-    drafts_of state laws.makes laws.most 0 (shown_beside (removals_of state data_table a)) (omega arith) a a c.refuse-in-Ok-NotAllowed.result c.unchanged-in-Ok-NotAllowed.result c.unchanged-in-Ok-NotAllowed.ensures
+    drafts_of state laws.makes laws.most 0 (shown_beside (further_shown (routed c.args.method.now (chars c.args.target.now))) (removals_of state data_table a)) (omega arith) a a c.refuse-in-Ok-NotAllowed.result c.unchanged-in-Ok-NotAllowed.result c.unchanged-in-Ok-NotAllowed.ensures
     (refused_calls state laws.weaker laws.none refusal.MethodNotAllowed c.refuse-in-Ok-NotAllowed.result a c.refuse-in-Ok-NotAllowed.ensures.value)

@@ -1,4 +1,4 @@
-use Rattle.std.proofs.Common.{◌∙◌, None, Ok, Option, Result, Some, ap, subst}
+use Rattle.std.proofs.Common.{◌∙◌, Ok, Option, Result, ap, subst}
 use Rattle.ut_keeper.specs.Draft.{tables_of}
 use Rattle.ut_keys.specs.declared.fail.StoreFail.{StoreFail}
 use Rattle.ut_model.specs.Retyping.{get_retype}

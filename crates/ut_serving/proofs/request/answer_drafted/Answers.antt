@@ -20,7 +20,7 @@ returns-clause-does g c =
     let j = c.judge-judged.result in
     let empty = c.new-draft.ensures.empty in
     let makes = c.judge-judged.ensures.drafts.makes in
-    let shown = shown_most state d in
+    let shown = shown_most (message_in m) state d in
     moved (λ x y. DoesMessage m c.args.now (state x) (state y) c.finish.result) d.keeper.now c.finish.new.draft.0 c.args.keeper.now _ c.new-draft.ensures.same (search rules)
     (does_by (state d.keeper.now) (state c.finish.new.draft.0) (DraftTells state d e) (tables_of state e) j c.finish.result
     (record {
@@ -43,7 +43,7 @@ returns-clause-form g c =
     moved (λ x y. Replies (message_in m) m.close (state x) (state y) c.finish.result) d.keeper.now c.finish.new.draft.0 c.args.keeper.now _ c.new-draft.ensures.same (search rules)
     (replies_by (message_in m) m.close (state d.keeper.now) new (DraftTells state d e → IsStepped (message_in m) (tables_of state d)) (count_of d) (count_of e) j c.finish.result c.judge-judged.ensures.form c.finish.ensures.finishes.returned
     (λ quiet. (
-      (λ told. unchanged (state d.keeper.now).tables (tables_of state e) new j c.finish.result (c.finish.ensures.ends d message_changes request_gone (shown_most state d) c.new-draft.ensures.empty makes.works told) quiet),
+      (λ told. unchanged (state d.keeper.now).tables (tables_of state e) new j c.finish.result (c.finish.ensures.ends d message_changes request_gone (shown_most (message_in m) state d) c.new-draft.ensures.empty makes.works told) quiet),
       c.finish.ensures.finishes.unwritten quiet ∙ makes.works.reads.written,
     ))
     (λ called told. subst (IsStepped (message_in m)) (empty_tables state d c.new-draft.ensures.empty) (called (told_draft state d e new told c.finish.ensures.finishes.steps)))
@@ -57,5 +57,5 @@ returns-clause-asks g c =
     let e = c.judge-judged.new.draft in
     let j = c.judge-judged.result in
     let makes = c.judge-judged.ensures.drafts.makes in
-    moved (λ x y. TrustedAfter true (state x) → Asks (state x) (state y) c.finish.result) d.keeper.now c.finish.new.draft.0 c.args.keeper.now _ c.new-draft.ensures.same (search rules)
-    (asks_by state d e (state c.finish.new.draft.0) j c.finish.result c.new-draft.ensures.empty makes.works (c.ended_laws.ensures.stays d.keeper.now e.keeper.now j makes.stays) (c.ended_laws.ensures.cause d.keeper.now e.keeper.now j makes.cause) (c.ended_laws.ensures.quiet d.keeper.now e.keeper.now j makes.quiet) c.finish.ensures.finishes)
+    moved (λ x y. TrustedAfter true (state x) → Asks (message_in c.args.message.now) (state x) (state y) c.finish.result) d.keeper.now c.finish.new.draft.0 c.args.keeper.now _ c.new-draft.ensures.same (search rules)
+    (asks_by state d e (state c.finish.new.draft.0) j c.finish.result (message_in c.args.message.now) c.new-draft.ensures.empty makes.works (c.ended_laws.ensures.stays d.keeper.now e.keeper.now j makes.stays) (c.ended_laws.ensures.cause d.keeper.now e.keeper.now j makes.cause) (c.ended_laws.ensures.quiet d.keeper.now e.keeper.now j makes.quiet) c.finish.ensures.finishes)

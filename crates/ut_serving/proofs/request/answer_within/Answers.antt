@@ -38,11 +38,11 @@ returns-in-Ok-clause-asks g c =
     let old = state c.args.keeper.now in
     let mid = state c.ask_first.new.keeper in
     let first = subst (AsksFirst old mid) c.in-Ok.is c.ask_first.ensures in
-    asked.asks_after old mid first (state c.answer_drafted.new.keeper) c.answer_drafted.result (c.answer_drafted.ensures.asks first.trusted)
+    asked.asks_after old mid first (state c.answer_drafted.new.keeper) (message_in c.args.message.now) c.answer_drafted.result (c.answer_drafted.ensures.asks first.trusted)
 
 pub returns-in-Err-clause-asks : goal.returns-in-Err-clause-asks
 returns-in-Err-clause-asks g c =
     let state = g.K.Keeper.state in
     let old = state c.args.keeper.now in
     let mid = state c.ask_first.new.keeper in
-    asked.asks_none old mid c.in-Err.fail (subst (AsksFirst old mid) c.in-Err.is c.ask_first.ensures)
+    asked.asks_none old mid c.in-Err.fail (subst (AsksFirst old mid) c.in-Err.is c.ask_first.ensures) (message_in c.args.message.now)

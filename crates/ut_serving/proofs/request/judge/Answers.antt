@@ -23,7 +23,7 @@ returns-in-Ok-Some-clause-what g c told =
     let caller = c.in-Ok-Some.caller in
     let calls = c.caller_of.ensures.calls in
     let e = ended c.caller_of.result in
-    let first = c.draft_laws.ensures.told_first message_changes request_gone (message_shown_beside (removals_of state data_table b)) a b d c.judge_called.ensures.drafts.makes.works told in
+    let first = c.draft_laws.ensures.told_first message_changes request_gone (message_shown_beside (message_in c.args.message.now) (removals_of state data_table b)) a b d c.judge_called.ensures.drafts.makes.works told in
     let later = c.call_laws.ensures.told_then 0 e a b d calls first told in
     let same = c.call_laws.ensures.tables 0 e a b calls first in
     let judged = subst (λ (t : Tables). JudgesCaller caller m c.args.message.now.close c.args.now t (tables_of state d) c.judge_called.result) same (c.judge_called.ensures.what later) in
@@ -50,7 +50,7 @@ returns-in-Ok-Some-clause-form g c =
     let e = ended c.caller_of.result in
     form_more m c.args.message.now.close (DraftTells state b d → IsMoving caller.org (tables_of state b)) (DraftTells state a d → IsStepped m (tables_of state a)) (count_of a) (count_of b) (count_of d) c.judge_called.result (ap length calls.reads.changes)
     (λ moving told.
-    let first = c.draft_laws.ensures.told_first message_changes request_gone (message_shown_beside (removals_of state data_table b)) a b d c.judge_called.ensures.drafts.makes.works told in
+    let first = c.draft_laws.ensures.told_first message_changes request_gone (message_shown_beside (message_in c.args.message.now) (removals_of state data_table b)) a b d c.judge_called.ensures.drafts.makes.works told in
     let later = c.call_laws.ensures.told_then 0 e a b d calls first told in
     let same = c.call_laws.ensures.tables 0 e a b calls first in
     (caller, subst (FindsCaller (key_in m) (tables_of state a)) (c.in-Ok-Some.is ∙ ap Ok c.in-Ok-Some.field-0-is) (c.caller_of.ensures.finds first), subst (IsMoving caller.org) same (moving later)))

@@ -1,4 +1,4 @@
-use Rattle.std.proofs.Common.{◌≡◌, ℕ, Some, true, refl, sym, ap, arith, ◌∙◌}
+use Rattle.std.proofs.Common.{◌≡◌, ℕ, Some, true, refl, ◌∙◌}
 use Rattle.std.specs.Prelude.{codes}
 use Rattle.std.specs.Str.{is_utf8}
 use Rattle.std.specs.Str.Lossy.{utf8_lossy, utf8_valid_len}
@@ -10,7 +10,6 @@ use Rattle.ut_value.specs.Digits.{digits}
 use Rattle.ut_value.specs.Id.{id_in, made, number62, number_in}
 use Rattle.ut_model.specs.declared.caller.Caller.{Caller}
 use Rattle.ut_model.specs.declared.refusal.Refusal.TheVariants.{InvalidType}
-use Rattle.ut_model.specs.declared.reply.Reply.{Reply}
 use Rattle.ut_model.specs.Callers.{Named, cut}
 use Rattle.ut_model.specs.Jobs.{job_step}
 use Rattle.ut_model.specs.Objects.{object_named}
@@ -48,12 +47,6 @@ no_deals called =
 
 pub returns-clause-no_object : goal.returns-clause-no_object
 returns-clause-no_object c = no_deals c.answering_laws.ensures.called
-
-pub returns-clause-built : goal.returns-clause-built
-returns-clause-built c = λ e. other (sym e ∙ ap (λ (x : Reply × World). x.0.status) (no_deals c.answering_laws.ensures.called))
-  where
-    other : ◌≡◌ {A = ℕ} 501 400 → ⊥
-    other e = omega arith
 
 pub returns-clause-no_query : goal.returns-clause-no_query
 unfolding who named step job_step reading_queries object_named cut id_in number_in number62 made digits routed lines split query_text raw_pairs utf8_lossy percent_decode utf8_valid_len is_utf8

@@ -1,4 +1,4 @@
-use Rattle.std.proofs.Common.{◌∙◌, ℕ, ◌+◌, List, drop, ap, subst, sym}
+use Rattle.std.proofs.Common.{◌∙◌, ℕ, ◌+◌, List, drop, ap, arith, subst, sym}
 use Rattle.std.specs.Option.{option_copied, option_map}
 use Rattle.std.proofs.lemmas.Option.{slice_get_within}
 use Rattle.ut_model.specs.Relationships.{parent_named}
@@ -38,4 +38,5 @@ names-preserved c = record {
   among = slice_get_within c.find_or_add.new.branches.items c.in_ok-number.number _ c.in_ok-number.ensures.there;
   grown = added_twice _ _ _ c.names.invariant.grown c.find_or_add.ensures.grows;
   once = λ apart. c.find_or_add.ensures.once (c.names.invariant.once apart);
+  few = omega (arith, c.find_or_add.ensures.few, c.names.invariant.few);
 }

@@ -1,4 +1,4 @@
-use Rattle.std.proofs.Common.{◌≡◌, ℕ, Some, drop}
+use Rattle.std.proofs.Common.{◌≡◌, ℕ, ◌+◌, ◌≤◌, Some, drop, length}
 use Rattle.ut_model.specs.Sound.{IsSound}
 use Rattle.ut_model.specs.Tenant.{Tenant}
 use Rattle.ut_stands.specs.Layouts.{IsLayout, own_layouts}
@@ -14,4 +14,5 @@ invariant-names l = record {
   among : IsAmong l.branches.items l.at;
   grown : AddsBranches l.initial.branches.items l.branches.items;
   once : AreApart l.initial.branches.items → AreApart l.branches.items;
+  few : length l.branches.items ≤ length l.initial.branches.items + l.name-index;
 }

@@ -1,0 +1,5 @@
+pub mod Choosing
+pub mod Referring
+pub mod Relating
+pub mod Subqueries
+pub mod Taking

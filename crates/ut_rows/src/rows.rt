@@ -1,0 +1,90 @@
+//! Rows.
+
+ghost use Rattle.std.specs.Prelude.{◌≡◌, ◌∷◌, Some, map};
+ghost use Rattle.std.specs.Str.{chars, encode_utf8_all};
+ghost use Rattle.ut_bind.specs.Shown.{row_text, shown_text};
+ghost use Rattle.ut_model.specs.declared.record.Record.{Record};
+ghost use Rattle.ut_replies.specs.Rows.{behind_commas};
+ghost use Rattle.ut_rows.specs.Shows.{shows};
+ghost use Rattle.ut_rows.specs.Written.{Puts};
+
+use crate::children::{children_at, write_children};
+use crate::members::write_member;
+use std::alloc::Global;
+use ut_bind::{Child, HasValues, Shown};
+use ut_json::Writer;
+use ut_model::Record;
+use ut_parts::CodecFail;
+use ut_replies::{write_member_start, write_row_end, write_row_start};
+use ut_value::{Id, Items};
+
+// One of what a row shows, behind a comma.
+fn write_part<V: HasValues>(
+    alloc: Global,
+    writer: &mut Writer,
+    part: &Shown,
+    item: &V,
+    parents: &[Option<Record>],
+    children: &[Items<Child>],
+) -> Result<(), CodecFail>
+    ensures { (r : Record) → V.its_record item.now ≡ Some r
+        → Puts (encode_utf8_all (44 ∷ shown_text shows parents.now children.now r part.now)) writer.old writer.new result }
+{
+    match part {
+        Shown::Member(member) => write_member(alloc, writer, member, item, parents),
+        Shown::Children {
+            name,
+            number,
+            object,
+            members,
+        } => {
+            let found = children_at(children, *number);
+            write_member_start(alloc, writer, name.as_str())?;
+            write_children(alloc, writer, object.as_str(), members.as_slice(), found)
+        }
+    }
+}
+
+// All that a row shows, each behind a comma.
+fn write_parts<V: HasValues>(
+    alloc: Global,
+    writer: &mut Writer,
+    shown: &[Shown],
+    item: &V,
+    parents: &[Option<Record>],
+    children: &[Items<Child>],
+) -> Result<(), CodecFail>
+    ensures { (r : Record) → V.its_record item.now ≡ Some r
+        → Puts (encode_utf8_all (behind_commas (map (shown_text shows parents.now children.now r) shown.now)))
+        writer.old writer.new result }
+{
+    'shown: for part in shown {
+        write_part(alloc, writer, part, item, parents, children)?;
+    }
+    Ok(())
+}
+
+/// Writes a row, behind a comma: its type and its address, and what the plan shows of it.
+///
+/// # Errors
+///
+/// `Memory` if out of memory, `Damaged` never if the row has a record.
+pub fn write_row<V: HasValues>(
+    alloc: Global,
+    writer: &mut Writer,
+    object: &str,
+    shown: &[Shown],
+    id: &Id,
+    item: &V,
+    parents: &[Option<Record>],
+    children: &[Items<Child>],
+) -> Result<(), CodecFail>
+    ensures { (r : Record) → V.its_record item.now ≡ Some r → id.now ≡ r.id
+        → Puts (encode_utf8_all (44 ∷ row_text shows (chars object.now) shown.now parents.now children.now r))
+        writer.old writer.new result }
+{
+    write_row_start(alloc, writer, object, id)?;
+    write_parts(alloc, writer, shown, item, parents, children)?;
+    write_row_end(alloc, writer)?;
+    Ok(())
+}

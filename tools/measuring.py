@@ -12,13 +12,16 @@ import os
 import shutil
 import statistics
 import subprocess
+import sys
+import tempfile
 import threading
 import time
 from collections import namedtuple
 from itertools import cycle
 from pathlib import Path
+from urllib.parse import quote_plus
 
-from driving import MOST_MESSAGES, ORG_ADD, Served, answer_line, message, read_reply, replies_of
+from driving import MOST_MESSAGES, ORG_ADD, Served, answer, answer_line, make_organisation, message, read_reply, read_words, replies_of, require
 
 
 def check(replies, statuses):
@@ -171,3 +174,72 @@ def copied(file, to):
         if os.path.exists(f"{file}{suffix}"):
             shutil.copyfile(f"{file}{suffix}", f"{to}{suffix}")
     return to
+
+
+# ---- queries, each as SOQL and as SQL
+
+
+def query(spelled):
+    return message("GET", f"/services/data/v59.0/query?q={quote_plus(spelled)}")
+
+
+def cost_of_asking(asker, queries, count):
+    """The least cost of each query."""
+    costs = {name: lowest([asker.ask([query(spelled)], 200) for _ in range(count)]) for name, (spelled, _) in queries.items()}
+    asker.end()
+    return costs
+
+
+def cost_by_sqlite(opened, queries, count):
+    """The least cost of each query by SQLite, whose rows are objects of JSON, and how many it finds."""
+    costs, counts = {}, {}
+    for name, (_, spelled) in queries.items():
+        rounds = []
+        for _ in range(count):
+            start = spent_here()
+            rows = [row for row, in opened.execute(spelled)]
+            written = f'{{"totalSize":{len(rows)},"records":[{",".join(rows)}]}}'
+            rounds.append(spent_here() - start)
+        costs[name], counts[name] = lowest(rounds), json.loads(written)["totalSize"]
+    opened.close()
+    return costs, counts
+
+
+def require_counts(words, file, queries, counts):
+    """Ends the script if a query is answered by another number of records than SQLite finds."""
+    for name, (spelled, _) in queries.items():
+        (status, body), = answer(words.carmuguur, file, [query(spelled)])
+        found = json.loads(body)["totalSize"] if status == 200 else body
+        if found != counts[name]:
+            sys.exit(f"{name}: answered {found}, where SQLite finds {counts[name]}")
+
+
+def measure_queries(words, folder, queries, makings, opened_with_records):
+    """Shows what each query costs, once the first of these lists of messages has made the objects and the others the records, which the other makes of SQLite's tables."""
+    file = folder / "begun.db"
+    make_organisation(words.carmuguur, file)
+    in_memory = InMemory(words, None)
+    for messages in makings:
+        check(answer(words.carmuguur, file, messages), [204 if messages is makings[0] else 201])
+        in_memory.make(messages)
+    costs = {"InMemory": cost_of_asking(in_memory, queries, words.rounds)}
+    for asker in (ByAnswer, ByServe):
+        to = copied(file, folder / f"{asker.__name__}.db")
+        costs[asker.__name__] = cost_of_asking(asker(words, to), queries, words.rounds)
+    costs["SQLite in memory"], counts = cost_by_sqlite(opened_with_records(":memory:"), queries, words.rounds)
+    costs["SQLite over a file"], _ = cost_by_sqlite(opened_with_records(folder / "sqlite.db"), queries, words.rounds)
+    require_counts(words, file, queries, counts)
+    for name in queries:
+        shown = (f"{who} {of[name].clock * 1e3:.1f} ({of[name].processor * 1e3:.1f})" for who, of in costs.items())
+        print(f"{name}, {counts[name]} records: {', '.join(shown)}", flush=True)
+
+
+def run_queries(doc, queries, makings, opened_with_records):
+    """A script that measures queries."""
+    words = read_words(doc, (), rounds=9)
+    require(words.carmuguur)
+    require(words.replay)
+    show_time()
+    with tempfile.TemporaryDirectory(prefix="bench-") as folder:
+        measure_queries(words, Path(folder), queries, makings, opened_with_records)
+    show_time()

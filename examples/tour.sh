@@ -29,10 +29,10 @@ São Tomé
 END
 
 echo 'An organisation in a file, acme.db: its id and its administrator.'
-try "carmuguur acme.db 0 org-add 'Atlas & Co' abcdefghijklmnop"
+try "carmuguur acme.db 0 org-add 'Atlas & Co' \$(openssl rand -hex 24)"
 
 printf '\nThe next one has the next id. With - in place of the file all tables are in memory, and end with the run.\n'
-try 'carmuguur acme.db 0 org-add Bolt abcdefghijklmnop'
+try "carmuguur acme.db 0 org-add Bolt \$(openssl rand -hex 24)"
 
 printf '\nThe rows of a CSV text, with an id each.\n'
 try "carmuguur - 0 csvq 'SELECT Id, Name FROM Row__c' < capitals.csv"

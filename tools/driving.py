@@ -9,6 +9,7 @@ import re
 import socket
 import subprocess
 import sys
+import time
 from pathlib import Path
 from urllib.parse import quote
 
@@ -190,7 +191,7 @@ class Served:
         found = re.search(r"listening on 127\.0\.0\.1:(\d+)$", line)
         if not found:
             sys.exit(f"serve wrote {line!r}")
-        self.port, self.left, self.connection = int(found[1]), 0, None
+        self.port, self.left, self.connection, self.asked = int(found[1]), 0, None, 0.0
 
     def __enter__(self):
         return self
@@ -214,12 +215,14 @@ class Served:
         self.reader, self.left = self.connection.makefile("rb"), MOST_MESSAGES
 
     def ask(self, asked):
-        """The status and the body of the reply to one message. A connection has at most 1,000."""
-        if not self.left or not self.connection:
+        """The status and the body of the reply to one message. A connection has at most 1,000, and is closed when it was idle for 5 s."""
+        if not self.left or not self.connection or time.monotonic() - self.asked > 4:
             self.open()
         self.left -= 1
         self.connection.sendall(asked)
-        return read_reply(self.reader)
+        reply = read_reply(self.reader)
+        self.asked = time.monotonic()
+        return reply
 
 
 # ---- what held

@@ -22,7 +22,7 @@ use ut_sqlkeeper::{DatabaseFault, Ready, SqlKeeper};
 pub struct Ended {
     /// The process's status.
     pub status: u8,
-    /// Why the file failed, if it did.
+    /// Why the file couldn't be opened, if it couldn't. Later faults are said as they come.
     pub fault: Option<DatabaseFault>,
     /// The log was copied into the file, and both were closed.
     pub is_closed: bool,
@@ -82,10 +82,9 @@ pub fn run_in_file<B: Start, D: Door, S: Source, W: Sink, C: Clock>(
     match open_file(rt, path, start) {
         Ok(mut keeper) => {
             let status = run(rt.alloc(), words, &mut keeper, door, source, sink, clock);
-            let fault = keeper.last_fault();
             Ended {
                 status,
-                fault,
+                fault: None,
                 is_closed: close_file(keeper),
             }
         }

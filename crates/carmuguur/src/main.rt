@@ -5,8 +5,10 @@ ghost use Rattle.std.specs.Prelude.{◌≡◌, ◌⊎◌, ◌↔◌, IfOk, IsNon
 ghost use Rattle.platform.specs.Commands.{command_of, opens_in};
 ghost use Rattle.ut_usage.specs.Lines.{IsCommandLine};
 
+mod about;
 mod in_file;
 
+use crate::about::asked_text;
 use crate::in_file::run_in_file;
 use platform::{run, run_laws, uses_keeper};
 use std::alloc::AllocError;
@@ -14,7 +16,7 @@ use std::env;
 use std::io::ErrorKind;
 use std::process::ExitCode;
 use ut_files::Unknown;
-use ut_io::{StdSink, StdSource, SystemClock, TcpDoor};
+use ut_io::{StdSink, StdSource, StoppableDoor, SystemClock, TcpDoor};
 use ut_keeper::MemoryKeeper;
 use ut_usage::{CommandLine, Mistake, read_line};
 
@@ -22,6 +24,11 @@ use ut_usage::{CommandLine, Mistake, read_line};
 const NO_COMMAND: u8 = 64;
 
 const OUT_OF_MEMORY: u8 = 71;
+
+const NO_OUTPUT: u8 = 73;
+
+// The variable of the environment that is 1 where each reply of `serve` is to be said.
+const LOG: &str = "CARMUGUUR_LOG";
 
 // Why there are no words to run.
 enum NoWords {
@@ -48,6 +55,24 @@ fn all_words(rt: &HostRuntime) -> Result<Vec<String>, NoWords> {
     }
 }
 
+// Whether the environment asks that each reply be said.
+fn says_all(rt: &HostRuntime) -> bool {
+    match env::var(rt, LOG) {
+        Ok(value) => value.as_str() == "1",
+        Err(_) => false,
+    }
+}
+
+// The door at this port, which SIGINT and SIGTERM end.
+fn door_at(rt: HostRuntime, port: u16) -> StoppableDoor<HostRuntime> {
+    let door = TcpDoor::new(rt, port);
+    if says_all(&rt) {
+        StoppableDoor::new(door.saying_all())
+    } else {
+        StoppableDoor::new(door)
+    }
+}
+
 // Runs the command over tables in memory, which are empty.
 fn run_in_memory(rt: HostRuntime, port: u16, command: &[String]) -> Result<u8, AllocError>
     ensures { IfOk result (λ status. (status ≡ 64) ↔ (command_of (map string_bytes command.now) ≡ None)) }
@@ -55,7 +80,7 @@ fn run_in_memory(rt: HostRuntime, port: u16, command: &[String]) -> Result<u8, A
     // For the proof alone.
     run_laws();
     let mut keeper = MemoryKeeper::new(rt.alloc(), &[])?;
-    let mut door = TcpDoor::new(rt, port);
+    let mut door = door_at(rt, port);
     let mut source = StdSource::new(rt.stdin());
     let mut sink = StdSink::new(rt.stdout());
     let mut clock = SystemClock::new(rt);
@@ -70,14 +95,14 @@ fn run_in_memory(rt: HostRuntime, port: u16, command: &[String]) -> Result<u8, A
     ))
 }
 
-// Runs the command over the tables in a file. Why the file failed is said in a line of its own.
+// Runs the command over the tables in a file. Why it couldn't be opened is said in a line of its own.
 fn run_on_path(rt: HostRuntime, path: &str, port: u16, command: &[String]) -> u8
     requires { opens_in (command_of (map string_bytes command.now)) ≡ true }
     ensures { (result ≡ 64) ↔ (command_of (map string_bytes command.now) ≡ None) }
 {
     // For the proof alone.
     run_laws();
-    let mut door = TcpDoor::new(rt, port);
+    let mut door = door_at(rt, port);
     let mut source = StdSource::new(rt.stdin());
     let mut sink = StdSink::new(rt.stdout());
     let mut clock = SystemClock::new(rt);
@@ -116,7 +141,7 @@ fn explanation(status: u8) -> Option<&'static str>
         NO_COMMAND => Some("no command"),
         OUT_OF_MEMORY => Some("out of memory"),
         72 => Some("the store failed"),
-        73 => Some("standard output failed"),
+        NO_OUTPUT => Some("standard output failed"),
         74 => Some("standard input failed"),
         75 => Some("the port failed"),
         76 => Some("the store is damaged"),
@@ -148,9 +173,20 @@ fn do_words(rt: HostRuntime, words: &[String]) -> u8
     status
 }
 
+// Writes a text to standard output.
+fn say(rt: &HostRuntime, text: &str) -> u8 {
+    match println!(rt; "{text}") {
+        Ok(()) => 0,
+        Err(_) => NO_OUTPUT,
+    }
+}
+
 fn main(rt: HostRuntime) -> ExitCode {
     let status = match all_words(&rt) {
-        Ok(words) => do_words(rt, &words),
+        Ok(words) => match asked_text(&words) {
+            Some(text) => say(&rt, text),
+            None => do_words(rt, &words),
+        },
         Err(NoWords::NotText) => refuse(&rt, &Mistake::NotText),
         Err(NoWords::Memory) => {
             let _ = eprintln!(rt; "carmuguur: out of memory");

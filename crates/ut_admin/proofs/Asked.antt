@@ -1,6 +1,6 @@
 -- The requests that bodies ask for, and the edits of these.
-use Rattle.std.proofs.Common.{◌≡◌, ◌≤◌, ℕ, Bool, true, false, cond, List, refl, sym, ap, subst, ◌∙◌, arith, ◌<◌, Option, Some, None, Result, Ok, Err}
-use Rattle.std.specs.Prelude.{IfErr, IfOk, IfSome, IsErr, IsErrAnd, IsTrue, OnOk, codes}
+use Rattle.std.proofs.Common.{◌≡◌, ◌≤◌, ℕ, List, refl, sym, ap, subst, ◌∙◌, arith, ◌<◌, Option, Some, None, Result, Ok, Err}
+use Rattle.std.specs.Prelude.{IfErr, IfOk, IfSome, IsErr, IsErrAnd, IsTrue, OnOk}
 use Rattle.std.specs.Option.{option_map}
 use Rattle.std.specs.declared.alloc.AllocError.{AllocError}
 use Rattle.ut_bodies.specs.Bodies.{adds_new_role, begins_new_retype, request_in, sets_role_parent, sets_user_role, values_request}
@@ -22,10 +22,8 @@ use Rattle.ut_model.specs.declared.people_bodies.NewUser.{NewUser}
 use Rattle.ut_model.specs.declared.sharing_bodies.NewShare.{NewShare}
 use Rattle.ut_model.specs.declared.sharing_bodies.NewSharingRule.{NewSharingRule}
 use Rattle.ut_model.specs.declared.refusal.Refusal.{Refusal}
-use Rattle.ut_model.specs.declared.refusal.Refusal.TheVariants.{NotBuilt}
 use Rattle.ut_model.specs.declared.route.Route.{Route}
 use Rattle.ut_model.specs.declared.route.Route.TheVariants.{AddField, AddGroup, AddObject, AddRole, AddSharingRule, AddUser, AddValidationRule, BeginRetype, CancelRetype, Create, Delete, RemoveSharingRule, SetGroup, SetObject, SetRole, SetUser, Share, Unshare, Update, Upsert}
-use Rattle.ut_step.specs.Built.{built_request, is_built}
 use Rattle.ut_step.specs.Own.{edit_shown, request_changes, request_gone}
 use Rattle.ut_model.specs.Forms.{access_request, field_request, object_request, share_request, sharing_rule_request, validation_request}
 use Rattle.ut_model.specs.Members.{Body, principal_in}
@@ -62,32 +60,32 @@ asks_form make (Ok None) request e = ap request_or (sym e)
 asks_form make (Err x) request e = refl
 
 pub asks_object : (body : List ℕ) (read : Result (Option NewObject) AllocError) → IfOk read (λ x. option_map adds_object x ≡ request_in object_request body)
-    → Asks adds_object (built_request AddObject body) (form_of read)
+    → Asks adds_object (request_of AddObject body) (form_of read)
 unfolding request_of
 asks_object body read e = asks_form adds_object read (request_in object_request body) e
 
 pub asks_rule : (body : List ℕ) (read : Result (Option NewValidationRule) AllocError) → IfOk read (λ x. option_map adds_validation_rule x ≡ request_in validation_request body)
-    → Asks adds_validation_rule (built_request AddValidationRule body) (form_of read)
+    → Asks adds_validation_rule (request_of AddValidationRule body) (form_of read)
 unfolding request_of
 asks_rule body read e = asks_form adds_validation_rule read (request_in validation_request body) e
 
 pub asks_share : (body : List ℕ) (read : Result (Option NewShare) AllocError) → IfOk read (λ x. option_map shares x ≡ request_in share_request body)
-    → Asks shares (built_request Share body) (form_of read)
+    → Asks shares (request_of Share body) (form_of read)
 unfolding request_of
 asks_share body read e = asks_form shares read (request_in share_request body) e
 
 pub asks_sharing_rule : (body : List ℕ) (read : Result (Option NewSharingRule) AllocError) → IfOk read (λ x. option_map adds_sharing_rule x ≡ request_in sharing_rule_request body)
-    → Asks adds_sharing_rule (built_request AddSharingRule body) (form_of read)
+    → Asks adds_sharing_rule (request_of AddSharingRule body) (form_of read)
 unfolding request_of
 asks_sharing_rule body read e = asks_form adds_sharing_rule read (request_in sharing_rule_request body) e
 
 pub asks_field : (body : List ℕ) (read : Result (Option NewField) AllocError) → IfOk read (λ x. option_map adds_field x ≡ request_in field_request body)
-    → Asks adds_field (built_request AddField body) (form_of read)
+    → Asks adds_field (request_of AddField body) (form_of read)
 unfolding request_of
 asks_field body read e = asks_form adds_field read (request_in field_request body) e
 
 pub asks_retype : (body : List ℕ) (read : Result (Option NewRetype) AllocError) → IfOk read (λ x. option_map begins_new_retype x ≡ request_in retype_request body)
-    → Asks begins_new_retype (built_request BeginRetype body) (form_of read)
+    → Asks begins_new_retype (request_of BeginRetype body) (form_of read)
 unfolding request_of
 asks_retype body read e = asks_form begins_new_retype read (request_in retype_request body) e
 
@@ -99,12 +97,12 @@ of_path make form (Err x) body e name = e
 
 pub asks_access : (object body : List ℕ) (read : Result (Option Access) AllocError)
     → IfOk read (λ x. (object : List ℕ) → option_map (sets_object object) x ≡ request_in (access_request object) body)
-    → Asks (sets_object object) (built_request (SetObject object) body) (form_of read)
+    → Asks (sets_object object) (request_of (SetObject object) body) (form_of read)
 unfolding request_of
 asks_access object body read e = asks_form (sets_object object) read (request_in (access_request object) body) (of_path sets_object access_request read body e object)
 
 pub asks_user : (body : List ℕ) (read : Result (Option NewUser) AllocError) → IfOk read (λ x. option_map adds_user x ≡ request_in user_request body)
-    → Asks adds_user (built_request AddUser body) (form_of read)
+    → Asks adds_user (request_of AddUser body) (form_of read)
 unfolding request_of
 asks_user body read e = asks_form adds_user read (request_in user_request body) e
 
@@ -115,29 +113,29 @@ has_secret (Err e) h = tt
 
 pub asks_user_role : (user body : List ℕ) (read : Result (Option UserRole) AllocError)
     → IfOk read (λ x. (user : List ℕ) → option_map (sets_user_role user) x ≡ request_in (user_role_request user) body)
-    → Asks (sets_user_role user) (built_request (SetUser user) body) (form_of read)
+    → Asks (sets_user_role user) (request_of (SetUser user) body) (form_of read)
 unfolding request_of
 asks_user_role user body read e = asks_form (sets_user_role user) read (request_in (user_role_request user) body) (of_path sets_user_role user_role_request read body e user)
 
 pub asks_role : (body : List ℕ) (read : Result (Option NewRole) AllocError) → IfOk read (λ x. option_map adds_new_role x ≡ request_in role_request body)
-    → Asks adds_new_role (built_request AddRole body) (form_of read)
+    → Asks adds_new_role (request_of AddRole body) (form_of read)
 unfolding request_of
 asks_role body read e = asks_form adds_new_role read (request_in role_request body) e
 
 pub asks_parent : (role body : List ℕ) (read : Result (Option RoleParent) AllocError)
     → IfOk read (λ x. (role : List ℕ) → option_map (sets_role_parent role) x ≡ request_in (role_parent_request role) body)
-    → Asks (sets_role_parent role) (built_request (SetRole role) body) (form_of read)
+    → Asks (sets_role_parent role) (request_of (SetRole role) body) (form_of read)
 unfolding request_of
 asks_parent role body read e = asks_form (sets_role_parent role) read (request_in (role_parent_request role) body) (of_path sets_role_parent role_parent_request read body e role)
 
 pub asks_group : (body : List ℕ) (read : Result (Option (List ℕ)) AllocError) → IfOk read (λ x. option_map adds_group x ≡ request_in group_request body)
-    → Asks adds_group (built_request AddGroup body) (form_of read)
+    → Asks adds_group (request_of AddGroup body) (form_of read)
 unfolding request_of
 asks_group body read e = asks_form adds_group read (request_in group_request body) e
 
 pub asks_members : (group body : List ℕ) (read : Result (Option (List Spelled)) AllocError)
     → IfOk read (λ x. (group : List ℕ) → option_map (sets_group group) x ≡ request_in (members_request group) body)
-    → Asks (sets_group group) (built_request (SetGroup group) body) (form_of read)
+    → Asks (sets_group group) (request_of (SetGroup group) body) (form_of read)
 unfolding request_of
 asks_members group body read e = asks_form (sets_group group) read (request_in (members_request group) body) (of_path sets_group members_request read body e group)
 
@@ -155,7 +153,7 @@ asks_values make body read e = asks_form make read (request_in (values_request m
 
 -- what is read of a body, as the request that a route makes of it
 abbrev AsksBy : Route → (List Assignment → Request) → (body : List ℕ) → Result (List Assignment) EditFail → Type 0
-AsksBy r make body values = Asks make (request_or (request_in (values_request make) body)) values → Asks make (built_request r body) values
+AsksBy r make body values = Asks make (request_or (request_in (values_request make) body)) values → Asks make (request_of r body) values
 
 pub asks_new : (object body : List ℕ) (values : Result (List Assignment) EditFail) → AsksBy (Create object) (creates object) body values
 unfolding request_of
@@ -170,32 +168,28 @@ unfolding request_of
 asks_upsert object key value body values h = h
 
 -- a deletion has no body
-pub asks_no_more : (object key body : List ℕ) → built_request (Delete object key) body ≡ Ok (deletes object key)
+pub asks_no_more : (object key body : List ℕ) → request_of (Delete object key) body ≡ Ok (deletes object key)
 unfolding request_of
 asks_no_more object key body = refl
 
 -- nor has what calls off the change of a field's type
-pub asks_cancel : (body : List ℕ) → built_request CancelRetype body ≡ Ok cancels_retype
+pub asks_cancel : (body : List ℕ) → request_of CancelRetype body ≡ Ok cancels_retype
 unfolding request_of
 asks_cancel body = refl
 
 -- nor have the ends of a share and of a sharing rule
-pub asks_no_share : (item part body : List ℕ) → built_request (Unshare item part) body ≡ Ok (unshares item part (principal_in part))
+pub asks_no_share : (item part body : List ℕ) → request_of (Unshare item part) body ≡ Ok (unshares item part (principal_in part))
 unfolding request_of
 asks_no_share item part body = refl
 
-pub asks_no_rule : (name body : List ℕ) → built_request (RemoveSharingRule name) body ≡ Ok (removes_sharing_rule name)
+pub asks_no_rule : (name body : List ℕ) → request_of (RemoveSharingRule name) body ≡ Ok (removes_sharing_rule name)
 unfolding request_of
 asks_no_rule name body = refl
 
 -- ---- a request that is read is fit
 
-by_built : (b : Bool) (request : Result Request Refusal) (r : Refusal) (x : Request) → cond b request (Err r) ≡ Ok x → request ≡ Ok x
-by_built true request r x e = e
-by_built false request r x e = absurd cc
-
-pub fit : RequestsFit → (a : Asked) (r : Route) (body : List ℕ) (x : Request) → IsSound a.tenant → built_request r body ≡ Ok x → IsFit a x
-fit fits a r body x sound e = fits a r body x sound (by_built (is_built r) (request_of r body) (NotBuilt (codes "route")) x e)
+pub fit : RequestsFit → (a : Asked) (r : Route) (body : List ℕ) (x : Request) → IsSound a.tenant → request_of r body ≡ Ok x → IsFit a x
+fit fits a r body x sound e = fits a r body x sound e
 
 -- ---- edits
 
@@ -212,24 +206,24 @@ module _ {X : Type 0} (view : X → Answer) (answered : X → Done) (same_answer
 
   -- the edit of the request that the route and the body ask for
   pub edits_asked : (org : ℕ) (asks : Asked → Type 0) (r s : Route) (body : List ℕ) (x : Request) (verdict : Asked → Verdict) (planned : Planned) (fits : Asked → Type 0) (m after : Tables) (edit : Result X EditFail) (result : Result Answer EditFail)
-      → r ≡ s → built_request s body ≡ Ok x → result ≡ seen view edit
+      → r ≡ s → request_of s body ≡ Ok x → result ≡ seen view edit
       → ((a : Asked) → verdict a ≡ verdict_on a x) → ((a : Asked) → KeepsRefused a.tenant (verdict_on a x)) → ((a : Asked) → IsSound a.tenant → asks a → fits a) → MakesEdit org verdict answered planned fits m after edit
-      → EditsFrom org asks (λ a. verdict_or a (built_request r body)) m after result
+      → EditsFrom org asks (λ a. verdict_or a (request_of r body)) m after result
   edits_asked org asks r s body x verdict planned fits m after edit result route e is same kept fit h =
-      subst (λ q. EditsFrom org asks (λ a. verdict_or a (built_request r body)) m after q) (sym is) (record {
+      subst (λ q. EditsFrom org asks (λ a. verdict_or a (request_of r body)) m after q) (sym is) (record {
         others = others_seen org m after edit h.others;
         edited = λ q a stands asking.
-            let so : verdict_or a (built_request r body) ≡ verdict_on a x = ap (λ y. verdict_or a (built_request y body)) route ∙ ap (verdict_or a) e in
+            let so : verdict_or a (request_of r body) ≡ verdict_on a x = ap (λ y. verdict_or a (request_of y body)) route ∙ ap (verdict_or a) e in
             subst (λ v. EditsTo org a.tenant v after (seen view edit)) (same a ∙ sym so)
             (edits_to org a.tenant (verdict a) (planned q a.tenant) after edit (subst (KeepsRefused a.tenant) (sym (same a)) (kept a)) (h.edited q a stands (fit a stands.sound asking)));
       })
 
 -- an edit for some, as one of the request of that route for those who ask so and are among them
 pub edits_asked_so : (org : ℕ) (some asks : Asked → Type 0) → ((a : Asked) → asks a → some a) → (r s : Route) (body : List ℕ) (m after : Tables) (result : Result Answer EditFail) → r ≡ s
-    → EditsFrom org some (λ a. verdict_or a (built_request s body)) m after result → EditsFrom org asks (λ a. verdict_or a (built_request r body)) m after result
+    → EditsFrom org some (λ a. verdict_or a (request_of s body)) m after result → EditsFrom org asks (λ a. verdict_or a (request_of r body)) m after result
 edits_asked_so org some asks among r s body m after result route h = record {
   others = h.others;
-  edited = λ q a stands asking. subst (λ y. EditsTo org a.tenant (verdict_or a (built_request y body)) after result) (sym route) (h.edited q a stands (among a asking));
+  edited = λ q a stands asking. subst (λ y. EditsTo org a.tenant (verdict_or a (request_of y body)) after result) (sym route) (h.edited q a stands (among a asking));
 }
 
 -- no edit, where the body asks for none
@@ -242,67 +236,12 @@ none_asked make org a request (Store f) after e = λ damaged. apart (sym e ∙ d
     apart d = cc
 
 pub edits_none : {X : Type 0} (make : X → Request) (org : ℕ) (asks : Asked → Type 0) (r s : Route) (body : List ℕ) (fail : EditFail) (m : Tables) (result : Result Answer EditFail) → r ≡ s
-    → result ≡ Err fail → Asks make (built_request s body) (Err fail) → EditsFrom org asks (λ a. verdict_or a (built_request r body)) m m result
+    → result ≡ Err fail → Asks make (request_of s body) (Err fail) → EditsFrom org asks (λ a. verdict_or a (request_of r body)) m m result
 edits_none make org asks r s body fail m result route is e =
-    subst (λ q. EditsFrom org asks (λ a. verdict_or a (built_request r body)) m m q) (sym is) (record {
+    subst (λ q. EditsFrom org asks (λ a. verdict_or a (request_of r body)) m m q) (sym is) (record {
       others = tt;
-      edited = λ q a stands asking. subst (λ y. EditsTo org a.tenant (verdict_or a (built_request y body)) m (Err fail)) (sym route) (none_asked make org a (built_request s body) fail m e);
+      edited = λ q a stands asking. subst (λ y. EditsTo org a.tenant (verdict_or a (request_of y body)) m (Err fail)) (sym route) (none_asked make org a (request_of s body) fail m e);
     })
-
--- no edit of another route
-pub record IsOther (r : Route) : Type 0 where
-  pub no_record : (object : List ℕ) → r ≡ Create object → ⊥
-  pub no_change : (object key : List ℕ) → r ≡ Update object key → ⊥
-  pub no_upsert : (object key value : List ℕ) → r ≡ Upsert object key value → ⊥
-  pub no_deletion : (object key : List ℕ) → r ≡ Delete object key → ⊥
-  pub no_object : r ≡ AddObject → ⊥
-  pub no_access : (object : List ℕ) → r ≡ SetObject object → ⊥
-  pub no_field : r ≡ AddField → ⊥
-  pub no_rule : r ≡ AddValidationRule → ⊥
-  pub no_share : r ≡ Share → ⊥
-  pub no_end : (item to : List ℕ) → r ≡ Unshare item to → ⊥
-  pub no_sharing_rule : r ≡ AddSharingRule → ⊥
-  pub no_removal : (name : List ℕ) → r ≡ RemoveSharingRule name → ⊥
-  pub no_user : r ≡ AddUser → ⊥
-  pub no_user_role : (user : List ℕ) → r ≡ SetUser user → ⊥
-  pub no_role : r ≡ AddRole → ⊥
-  pub no_parent : (role : List ℕ) → r ≡ SetRole role → ⊥
-  pub no_group : r ≡ AddGroup → ⊥
-  pub no_members : (group : List ℕ) → r ≡ SetGroup group → ⊥
-  pub no_beginning : r ≡ BeginRetype → ⊥
-  pub no_calling_off : r ≡ CancelRetype → ⊥
-
-not_built : (r : Route) → IsOther r → is_built r ≡ false
-not_built (Create object) other = absurd (other.no_record object refl)
-not_built (Update object key) other = absurd (other.no_change object key refl)
-not_built (Upsert object key value) other = absurd (other.no_upsert object key value refl)
-not_built (Delete object key) other = absurd (other.no_deletion object key refl)
-not_built AddObject other = absurd (other.no_object refl)
-not_built (SetObject object) other = absurd (other.no_access object refl)
-not_built AddField other = absurd (other.no_field refl)
-not_built AddValidationRule other = absurd (other.no_rule refl)
-not_built Share other = absurd (other.no_share refl)
-not_built (Unshare item to) other = absurd (other.no_end item to refl)
-not_built AddSharingRule other = absurd (other.no_sharing_rule refl)
-not_built (RemoveSharingRule name) other = absurd (other.no_removal name refl)
-not_built AddUser other = absurd (other.no_user refl)
-not_built (SetUser user) other = absurd (other.no_user_role user refl)
-not_built AddRole other = absurd (other.no_role refl)
-not_built (SetRole role) other = absurd (other.no_parent role refl)
-not_built AddGroup other = absurd (other.no_group refl)
-not_built (SetGroup group) other = absurd (other.no_members group refl)
-not_built BeginRetype other = absurd (other.no_beginning refl)
-not_built CancelRetype other = absurd (other.no_calling_off refl)
-not_built _ other = refl
-
-pub edits_unbuilt : (org : ℕ) (asks : Asked → Type 0) (r : Route) (body what : List ℕ) (m : Tables) → IsOther r → what ≡ codes "route"
-    → EditsFrom org asks (λ a. verdict_or a (built_request r body)) m m (Err (Refused (NotBuilt what)))
-edits_unbuilt org asks r body what m other is =
-    let unbuilt = ap (λ b. cond b (request_of r body) (Err (NotBuilt (codes "route")))) (not_built r other) in
-    record {
-      others = tt;
-      edited = λ q a stands asking. subst (λ y. EditsTo org a.tenant (verdict_or a y) m (Err (Refused (NotBuilt what)))) (sym unbuilt) (ap (λ t. Err (NotBuilt t)) (sym is), refl);
-    }
 
 -- out of memory
 pub edits_memory : (org : ℕ) (asks : Asked → Type 0) (verdict : Asked → Verdict) (m : Tables) → EditsFrom org asks verdict m m (Err (Store Memory))

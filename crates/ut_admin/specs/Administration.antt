@@ -1,10 +1,10 @@
 -- A user who asks, and what is returned to the request.
 -- Source of the statuses: RFC 9110, 15.3.1, 15.3.2 and 15.3.5, of 200, 201 and 204.
-use Rattle.std.specs.Prelude.{◌≡◌, ◌≢◌, ◌⊎◌, ℕ, [], IsTrue}
+use Rattle.std.specs.Prelude.{◌≡◌, ◌≢◌, ◌⊎◌, ℕ, Bool, true, false, [], IsTrue}
 use Rattle.ut_model.specs.declared.caller.Caller.{Caller}
 use Rattle.ut_model.specs.declared.reply.Reply.{Reply}
 use Rattle.ut_model.specs.declared.route.Route.{Route}
-use Rattle.ut_model.specs.declared.route.Route.TheVariants.{AddGroup, AddRole, AddUser, Create, Upsert}
+use Rattle.ut_model.specs.declared.route.Route.TheVariants.{AddGroup, AddRole, AddUser, Create, GetRetype, Query, Upsert}
 use Rattle.ut_model.specs.Paths.{Asked}
 use Rattle.ut_model.specs.Refusals.{is_refusal_status}
 use Rattle.ut_rights.specs.Rights.{Whose}
@@ -15,6 +15,12 @@ use Rattle.ut_step.specs.Own.{IsAsking}
 -- the caller is the one who asks at this moment, and these are the rights of that user
 abbrev pub AsksWith : Whose → Caller → (now : ℕ) → Asked → Type 0
 AsksWith whose c now a = IsAsking c now a × whose a.tenant a.user
+
+-- the route asks for an edit: neither for records, nor how far the change of a field's type is
+abbrev pub is_edit : Route → Bool
+is_edit (Query pairs) = false
+is_edit GetRetype = false
+is_edit _ = true
 
 -- the reply to a change: of a new record, user, role or group 201 with a body, of an upsert 201 or 200 with one, and of all else
 -- 204 without one

@@ -5,13 +5,12 @@ ghost use Rattle.ut_admin.specs.inner.Edits.{Asks, form_of};
 ghost use Rattle.ut_bodies.specs.Bodies.{adds_new_role, begins_new_retype, request_in, sets_role_parent, sets_user_role, values_request};
 ghost use Rattle.ut_given.specs.Given.{IsInJson};
 ghost use Rattle.ut_model.specs.Organisations.{is_secret};
-ghost use Rattle.ut_model.specs.RequestOf.{request_or};
+ghost use Rattle.ut_model.specs.RequestOf.{request_of, request_or};
 ghost use Rattle.ut_model.specs.Requests.{Request, adds_field, adds_object, adds_sharing_rule, adds_validation_rule, sets_object, shares};
 ghost use Rattle.ut_model.specs.Requests.{adds_group, adds_user, sets_group};
 ghost use Rattle.ut_model.specs.declared.record_bodies.Assignment.{Assignment};
 ghost use Rattle.ut_model.specs.declared.route.Route.TheVariants.{AddField, AddObject, AddSharingRule, AddValidationRule, BeginRetype, SetObject, Share};
 ghost use Rattle.ut_model.specs.declared.route.Route.TheVariants.{AddGroup, AddRole, AddUser, SetGroup, SetRole, SetUser};
-ghost use Rattle.ut_step.specs.Built.{built_request};
 
 use std::alloc::{AllocError, Global};
 use ut_bodies::{
@@ -56,7 +55,7 @@ pub(crate) fn values_in(alloc: Global, body: &[u8]) -> Result<Items<Assignment>,
 ///
 /// `Refused` with `BodyForm` if the body isn't of that form; `Store` with `Memory` if out of memory.
 pub(crate) fn object_in(alloc: Global, body: &[u8]) -> Result<NewObject, EditFail>
-    ensures { Asks adds_object (built_request AddObject body.now) result }
+    ensures { Asks adds_object (request_of AddObject body.now) result }
 {
     form_of(new_object(alloc, body))
 }
@@ -67,7 +66,7 @@ pub(crate) fn object_in(alloc: Global, body: &[u8]) -> Result<NewObject, EditFai
 ///
 /// `Refused` with `BodyForm` if the body isn't of that form; `Store` with `Memory` if out of memory.
 pub(crate) fn access_in(alloc: Global, body: &[u8]) -> Result<Access, EditFail>
-    ensures { (object : List ℕ) → Asks (sets_object object) (built_request (SetObject object) body.now) result }
+    ensures { (object : List ℕ) → Asks (sets_object object) (request_of (SetObject object) body.now) result }
 {
     form_of(new_access(alloc, body))
 }
@@ -78,7 +77,7 @@ pub(crate) fn access_in(alloc: Global, body: &[u8]) -> Result<Access, EditFail>
 ///
 /// `Refused` with `BodyForm` if the body isn't of that form; `Store` with `Memory` if out of memory.
 pub(crate) fn rule_in(alloc: Global, body: &[u8]) -> Result<NewValidationRule, EditFail>
-    ensures { Asks adds_validation_rule (built_request AddValidationRule body.now) result }
+    ensures { Asks adds_validation_rule (request_of AddValidationRule body.now) result }
 {
     form_of(new_validation_rule(alloc, body))
 }
@@ -89,7 +88,7 @@ pub(crate) fn rule_in(alloc: Global, body: &[u8]) -> Result<NewValidationRule, E
 ///
 /// `Refused` with `BodyForm` if the body isn't of that form; `Store` with `Memory` if out of memory.
 pub(crate) fn field_in(alloc: Global, body: &[u8]) -> Result<NewField, EditFail>
-    ensures { Asks adds_field (built_request AddField body.now) result }
+    ensures { Asks adds_field (request_of AddField body.now) result }
 {
     form_of(new_field(alloc, body))
 }
@@ -100,7 +99,7 @@ pub(crate) fn field_in(alloc: Global, body: &[u8]) -> Result<NewField, EditFail>
 ///
 /// `Refused` with `BodyForm` if the body isn't of that form; `Store` with `Memory` if out of memory.
 pub(crate) fn user_in(alloc: Global, body: &[u8]) -> Result<NewUser, EditFail>
-    ensures asks { Asks adds_user (built_request AddUser body.now) result }
+    ensures asks { Asks adds_user (request_of AddUser body.now) result }
     ensures secret { IfOk result (λ new. IsTrue (is_secret new.secret)) }
 {
     form_of(new_user(alloc, body))
@@ -112,7 +111,7 @@ pub(crate) fn user_in(alloc: Global, body: &[u8]) -> Result<NewUser, EditFail>
 ///
 /// `Refused` with `BodyForm` if the body isn't of that form; `Store` with `Memory` if out of memory.
 pub(crate) fn user_role_in(alloc: Global, body: &[u8]) -> Result<UserRole, EditFail>
-    ensures { (user : List ℕ) → Asks (sets_user_role user) (built_request (SetUser user) body.now) result }
+    ensures { (user : List ℕ) → Asks (sets_user_role user) (request_of (SetUser user) body.now) result }
 {
     form_of(role_of_user(alloc, body))
 }
@@ -123,7 +122,7 @@ pub(crate) fn user_role_in(alloc: Global, body: &[u8]) -> Result<UserRole, EditF
 ///
 /// `Refused` with `BodyForm` if the body isn't of that form; `Store` with `Memory` if out of memory.
 pub(crate) fn role_in(alloc: Global, body: &[u8]) -> Result<NewRole, EditFail>
-    ensures { Asks adds_new_role (built_request AddRole body.now) result }
+    ensures { Asks adds_new_role (request_of AddRole body.now) result }
 {
     form_of(new_role(alloc, body))
 }
@@ -134,7 +133,7 @@ pub(crate) fn role_in(alloc: Global, body: &[u8]) -> Result<NewRole, EditFail>
 ///
 /// `Refused` with `BodyForm` if the body isn't of that form; `Store` with `Memory` if out of memory.
 pub(crate) fn parent_in(alloc: Global, body: &[u8]) -> Result<RoleParent, EditFail>
-    ensures { (role : List ℕ) → Asks (sets_role_parent role) (built_request (SetRole role) body.now) result }
+    ensures { (role : List ℕ) → Asks (sets_role_parent role) (request_of (SetRole role) body.now) result }
 {
     form_of(parent_of_role(alloc, body))
 }
@@ -145,7 +144,7 @@ pub(crate) fn parent_in(alloc: Global, body: &[u8]) -> Result<RoleParent, EditFa
 ///
 /// `Refused` with `BodyForm` if the body isn't of that form; `Store` with `Memory` if out of memory.
 pub(crate) fn group_in(alloc: Global, body: &[u8]) -> Result<Text, EditFail>
-    ensures { Asks adds_group (built_request AddGroup body.now) result }
+    ensures { Asks adds_group (request_of AddGroup body.now) result }
 {
     form_of(new_group(alloc, body))
 }
@@ -156,7 +155,7 @@ pub(crate) fn group_in(alloc: Global, body: &[u8]) -> Result<Text, EditFail>
 ///
 /// `Refused` with `BodyForm` if the body isn't of that form; `Store` with `Memory` if out of memory.
 pub(crate) fn members_in(alloc: Global, body: &[u8]) -> Result<Items<Spelled>, EditFail>
-    ensures { (group : List ℕ) → Asks (sets_group group) (built_request (SetGroup group) body.now) result }
+    ensures { (group : List ℕ) → Asks (sets_group group) (request_of (SetGroup group) body.now) result }
 {
     form_of(group_members(alloc, body))
 }
@@ -167,7 +166,7 @@ pub(crate) fn members_in(alloc: Global, body: &[u8]) -> Result<Items<Spelled>, E
 ///
 /// `Refused` with `BodyForm` if the body isn't of that form; `Store` with `Memory` if out of memory.
 pub(crate) fn share_in(alloc: Global, body: &[u8]) -> Result<NewShare, EditFail>
-    ensures { Asks shares (built_request Share body.now) result }
+    ensures { Asks shares (request_of Share body.now) result }
 {
     form_of(new_share(alloc, body))
 }
@@ -178,7 +177,7 @@ pub(crate) fn share_in(alloc: Global, body: &[u8]) -> Result<NewShare, EditFail>
 ///
 /// `Refused` with `BodyForm` if the body isn't of that form; `Store` with `Memory` if out of memory.
 pub(crate) fn sharing_rule_in(alloc: Global, body: &[u8]) -> Result<NewSharingRule, EditFail>
-    ensures { Asks adds_sharing_rule (built_request AddSharingRule body.now) result }
+    ensures { Asks adds_sharing_rule (request_of AddSharingRule body.now) result }
 {
     form_of(new_sharing_rule(alloc, body))
 }
@@ -189,7 +188,7 @@ pub(crate) fn sharing_rule_in(alloc: Global, body: &[u8]) -> Result<NewSharingRu
 ///
 /// `Refused` with `BodyForm` if the body isn't of that form; `Store` with `Memory` if out of memory.
 pub(crate) fn retype_in(alloc: Global, body: &[u8]) -> Result<NewRetype, EditFail>
-    ensures { Asks begins_new_retype (built_request BeginRetype body.now) result }
+    ensures { Asks begins_new_retype (request_of BeginRetype body.now) result }
 {
     form_of(new_retype(alloc, body))
 }

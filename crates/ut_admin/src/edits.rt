@@ -1,12 +1,11 @@
 //! The edits that requests ask for.
 
-ghost use Rattle.std.specs.Prelude.{IfOk, IsTrue, pos};
-ghost use Rattle.ut_admin.specs.Administration.{AsksWith};
+ghost use Rattle.std.specs.Prelude.{◌≡◌, IfOk, IsTrue, pos, true};
+ghost use Rattle.ut_admin.specs.Administration.{AsksWith, is_edit};
 ghost use Rattle.ut_admin.specs.inner.Edits.{EditsFrom, IsAnswerTo};
 ghost use Rattle.ut_edits.specs.Edits.{DraftsEdit};
 ghost use Rattle.ut_keeper.specs.Draft.{DraftTells, tables_of};
-ghost use Rattle.ut_model.specs.RequestOf.{verdict_or};
-ghost use Rattle.ut_step.specs.Built.{built_request};
+ghost use Rattle.ut_model.specs.RequestOf.{request_of, verdict_or};
 ghost use Rattle.ut_step.specs.Own.{edit_shown, request_changes, request_gone};
 ghost use Rattle.ut_value.specs.Dates.{is_moment};
 
@@ -20,17 +19,16 @@ use std::alloc::Global;
 use ut_edits::make_edit;
 use ut_keeper::{Draft, Keeper};
 use ut_meta::{AddField, AddObject, AddValidationRule, SetAccess};
-use ut_model::{Caller, Refusal, Route, refusal_laws};
+use ut_model::{Caller, Route, refusal_laws};
 use ut_rights::Rights;
 use ut_sound::requests_fit;
 use ut_stands::{EditFail, call_laws};
-use ut_value::Text;
 
 /// The edit that a route and a body ask for, judged by the rights of who asks.
 ///
 /// # Errors
 ///
-/// `Refused` if the route asks for no edit, if the body isn't of its form, or as the edit is; nothing is then changed. `Store` with
+/// `Refused` if the body isn't of its form, or as the edit is; nothing is then changed. `Store` with
 /// `Keeper` if the keeper failed, `Memory` if out of memory.
 pub(crate) fn edit<K: Keeper, R: Rights>(
     alloc: Global,
@@ -41,9 +39,10 @@ pub(crate) fn edit<K: Keeper, R: Rights>(
     route: &Route,
     body: &[u8],
 ) -> Result<Answer, EditFail>
-    requires { IsTrue (is_moment (pos now)) }
+    requires moment { IsTrue (is_moment (pos now)) }
+    requires asks { is_edit route.now ≡ true }
     ensures what { DraftTells K.state draft.old draft.new
-        → EditsFrom caller.now.org (AsksWith (R.whose rights.now) caller.now now) (λ a. verdict_or a (built_request route.now body.now))
+        → EditsFrom caller.now.org (AsksWith (R.whose rights.now) caller.now now) (λ a. verdict_or a (request_of route.now body.now))
         (tables_of K.state draft.old) (tables_of K.state draft.new) result }
     ensures form { IfOk result (IsAnswerTo route.now) }
     ensures makes { DraftsEdit K.state request_changes request_gone edit_shown result draft.old draft.new }
@@ -92,9 +91,6 @@ pub(crate) fn edit<K: Keeper, R: Rights>(
         Route::SetGroup { id } => changed_group(alloc, draft, org, id, body),
         Route::BeginRetype => begun_retype(alloc, draft, org, body),
         Route::CancelRetype => cancelled_retype(alloc, draft, org),
-        // No other route asks for an edit.
-        _ => Err(EditFail::Refused(Refusal::NotBuilt {
-            what: Text::from_str(alloc, "route")?,
-        })),
+        Route::Query { .. } | Route::GetRetype => unreachable!(),
     }
 }

@@ -5,9 +5,8 @@ ghost use Rattle.std.specs.Option.{option_copied};
 ghost use Rattle.ut_admin.specs.inner.Edits.{Anyone, EditsFrom, IsAnswerTo};
 ghost use Rattle.ut_edits.specs.Edits.{DraftsEdit};
 ghost use Rattle.ut_keeper.specs.Draft.{DraftTells, tables_of};
-ghost use Rattle.ut_model.specs.RequestOf.{verdict_or};
+ghost use Rattle.ut_model.specs.RequestOf.{request_of, verdict_or};
 ghost use Rattle.ut_model.specs.declared.route.Route.TheVariants as route;
-ghost use Rattle.ut_step.specs.Built.{built_request};
 ghost use Rattle.ut_step.specs.Own.{edit_shown, request_changes, request_gone};
 
 use crate::answer::{Answer, done, made};
@@ -34,7 +33,7 @@ pub(crate) fn new_user<K: Keeper>(
     body: &[u8],
 ) -> Result<Answer, EditFail>
     ensures what { DraftTells K.state draft.old draft.new
-        → EditsFrom org Anyone (λ a. verdict_or a (built_request route.AddUser body.now)) (tables_of K.state draft.old)
+        → EditsFrom org Anyone (λ a. verdict_or a (request_of route.AddUser body.now)) (tables_of K.state draft.old)
         (tables_of K.state draft.new) result }
     ensures form { IfOk result (IsAnswerTo route.AddUser) }
     ensures makes { DraftsEdit K.state request_changes request_gone edit_shown result draft.old draft.new }
@@ -71,7 +70,7 @@ pub(crate) fn changed_user<K: Keeper>(
     body: &[u8],
 ) -> Result<Answer, EditFail>
     ensures what { DraftTells K.state draft.old draft.new
-        → EditsFrom org Anyone (λ a. verdict_or a (built_request (route.SetUser user.now) body.now)) (tables_of K.state draft.old)
+        → EditsFrom org Anyone (λ a. verdict_or a (request_of (route.SetUser user.now) body.now)) (tables_of K.state draft.old)
         (tables_of K.state draft.new) result }
     ensures form { IfOk result (IsAnswerTo (route.SetUser user.now)) }
     ensures makes { DraftsEdit K.state request_changes request_gone edit_shown result draft.old draft.new }
@@ -96,7 +95,7 @@ pub(crate) fn new_role<K: Keeper>(
     body: &[u8],
 ) -> Result<Answer, EditFail>
     ensures what { DraftTells K.state draft.old draft.new
-        → EditsFrom org Anyone (λ a. verdict_or a (built_request route.AddRole body.now)) (tables_of K.state draft.old)
+        → EditsFrom org Anyone (λ a. verdict_or a (request_of route.AddRole body.now)) (tables_of K.state draft.old)
         (tables_of K.state draft.new) result }
     ensures form { IfOk result (IsAnswerTo route.AddRole) }
     ensures makes { DraftsEdit K.state request_changes request_gone edit_shown result draft.old draft.new }
@@ -136,7 +135,7 @@ pub(crate) fn changed_role<K: Keeper>(
     body: &[u8],
 ) -> Result<Answer, EditFail>
     ensures what { DraftTells K.state draft.old draft.new
-        → EditsFrom org Anyone (λ a. verdict_or a (built_request (route.SetRole role.now) body.now)) (tables_of K.state draft.old)
+        → EditsFrom org Anyone (λ a. verdict_or a (request_of (route.SetRole role.now) body.now)) (tables_of K.state draft.old)
         (tables_of K.state draft.new) result }
     ensures form { IfOk result (IsAnswerTo (route.SetRole role.now)) }
     ensures makes { DraftsEdit K.state request_changes request_gone edit_shown result draft.old draft.new }
@@ -161,7 +160,7 @@ pub(crate) fn new_group<K: Keeper>(
     body: &[u8],
 ) -> Result<Answer, EditFail>
     ensures what { DraftTells K.state draft.old draft.new
-        → EditsFrom org Anyone (λ a. verdict_or a (built_request route.AddGroup body.now)) (tables_of K.state draft.old)
+        → EditsFrom org Anyone (λ a. verdict_or a (request_of route.AddGroup body.now)) (tables_of K.state draft.old)
         (tables_of K.state draft.new) result }
     ensures form { IfOk result (IsAnswerTo route.AddGroup) }
     ensures makes { DraftsEdit K.state request_changes request_gone edit_shown result draft.old draft.new }
@@ -187,7 +186,7 @@ pub(crate) fn changed_group<K: Keeper>(
     body: &[u8],
 ) -> Result<Answer, EditFail>
     ensures what { DraftTells K.state draft.old draft.new
-        → EditsFrom org Anyone (λ a. verdict_or a (built_request (route.SetGroup group.now) body.now)) (tables_of K.state draft.old)
+        → EditsFrom org Anyone (λ a. verdict_or a (request_of (route.SetGroup group.now) body.now)) (tables_of K.state draft.old)
         (tables_of K.state draft.new) result }
     ensures form { IfOk result (IsAnswerTo (route.SetGroup group.now)) }
     ensures makes { DraftsEdit K.state request_changes request_gone edit_shown result draft.old draft.new }

@@ -5,9 +5,8 @@ ghost use Rattle.ut_admin.specs.Administration.{AsksWith};
 ghost use Rattle.ut_admin.specs.inner.Edits.{EditsFrom, IsAnswerTo};
 ghost use Rattle.ut_edits.specs.Edits.{DraftsEdit};
 ghost use Rattle.ut_keeper.specs.Draft.{DraftTells, tables_of};
-ghost use Rattle.ut_model.specs.RequestOf.{value_part, verdict_or};
+ghost use Rattle.ut_model.specs.RequestOf.{request_of, value_part, verdict_or};
 ghost use Rattle.ut_model.specs.declared.route.Route.TheVariants as route;
-ghost use Rattle.ut_step.specs.Built.{built_request};
 ghost use Rattle.ut_step.specs.Own.{edit_shown, request_changes, request_gone};
 ghost use Rattle.ut_value.specs.Dates.{is_moment};
 
@@ -64,7 +63,7 @@ pub(crate) fn new_record<K: Keeper, R: Rights>(
 ) -> Result<Answer, EditFail>
     requires { IsTrue (is_moment (pos now)) }
     ensures what { DraftTells K.state draft.old draft.new
-        → EditsFrom caller.now.org (AsksWith (R.whose rights.now) caller.now now) (λ a. verdict_or a (built_request (route.Create object.now) body.now))
+        → EditsFrom caller.now.org (AsksWith (R.whose rights.now) caller.now now) (λ a. verdict_or a (request_of (route.Create object.now) body.now))
         (tables_of K.state draft.old) (tables_of K.state draft.new) result }
     ensures form { IfOk result (IsAnswerTo (route.Create object.now)) }
     ensures makes { DraftsEdit K.state request_changes request_gone edit_shown result draft.old draft.new }
@@ -102,7 +101,7 @@ pub(crate) fn changed_record<K: Keeper, R: Rights>(
     requires { IsTrue (is_moment (pos now)) }
     ensures what { DraftTells K.state draft.old draft.new
         → EditsFrom caller.now.org (AsksWith (R.whose rights.now) caller.now now)
-        (λ a. verdict_or a (built_request (route.Update object.now key.now) body.now)) (tables_of K.state draft.old)
+        (λ a. verdict_or a (request_of (route.Update object.now key.now) body.now)) (tables_of K.state draft.old)
         (tables_of K.state draft.new) result }
     ensures form { IfOk result (IsAnswerTo (route.Update object.now key.now)) }
     ensures makes { DraftsEdit K.state request_changes request_gone edit_shown result draft.old draft.new }
@@ -143,7 +142,7 @@ pub(crate) fn upserted_record<K: Keeper, R: Rights>(
     requires { IsTrue (is_moment (pos now)) }
     ensures what { DraftTells K.state draft.old draft.new
         → EditsFrom caller.now.org (AsksWith (R.whose rights.now) caller.now now)
-        (λ a. verdict_or a (built_request (route.Upsert object.now key.now value.now) body.now)) (tables_of K.state draft.old)
+        (λ a. verdict_or a (request_of (route.Upsert object.now key.now value.now) body.now)) (tables_of K.state draft.old)
         (tables_of K.state draft.new) result }
     ensures form { IfOk result (IsAnswerTo (route.Upsert object.now key.now value.now)) }
     ensures makes { DraftsEdit K.state request_changes request_gone edit_shown result draft.old draft.new }
@@ -183,7 +182,7 @@ pub(crate) fn deleted_record<K: Keeper, R: Rights>(
     requires { IsTrue (is_moment (pos now)) }
     ensures what { DraftTells K.state draft.old draft.new
         → (body : List ℕ) → EditsFrom caller.now.org (AsksWith (R.whose rights.now) caller.now now)
-        (λ a. verdict_or a (built_request (route.Delete object.now key.now) body)) (tables_of K.state draft.old)
+        (λ a. verdict_or a (request_of (route.Delete object.now key.now) body)) (tables_of K.state draft.old)
         (tables_of K.state draft.new) result }
     ensures form { IfOk result (IsAnswerTo (route.Delete object.now key.now)) }
     ensures makes { DraftsEdit K.state request_changes request_gone edit_shown result draft.old draft.new }

@@ -1,11 +1,10 @@
 //! A request for an edit over a draft.
 
-ghost use Rattle.std.specs.Prelude.{IfOk, IsTrue, pos};
-ghost use Rattle.ut_admin.specs.Administration.{AsksWith, IsEditReply};
+ghost use Rattle.std.specs.Prelude.{◌≡◌, IfOk, IsTrue, pos, true};
+ghost use Rattle.ut_admin.specs.Administration.{AsksWith, IsEditReply, is_edit};
 ghost use Rattle.ut_keeper.specs.Draft.{DraftTells, tables_of};
-ghost use Rattle.ut_model.specs.RequestOf.{verdict_or};
+ghost use Rattle.ut_model.specs.RequestOf.{request_of, verdict_or};
 ghost use Rattle.ut_stands.specs.Operations.{Drafts, Responds};
-ghost use Rattle.ut_step.specs.Built.{built_request};
 ghost use Rattle.ut_step.specs.Own.{edit_shown, request_changes, request_gone};
 ghost use Rattle.ut_value.specs.Dates.{is_moment};
 
@@ -34,9 +33,10 @@ pub fn administer<K: Keeper, R: Rights>(
     route: &Route,
     body: &[u8],
 ) -> Result<Judged<Reply>, StoreFail>
-    requires { IsTrue (is_moment (pos now)) }
+    requires moment { IsTrue (is_moment (pos now)) }
+    requires asks { is_edit route.now ≡ true }
     ensures what { DraftTells K.state draft.old draft.new
-        → Responds caller.now.org (AsksWith (R.whose rights.now) caller.now now) (λ a. verdict_or a (built_request route.now body.now))
+        → Responds caller.now.org (AsksWith (R.whose rights.now) caller.now now) (λ a. verdict_or a (request_of route.now body.now))
         (tables_of K.state draft.old) (tables_of K.state draft.new) result }
     ensures form { IfOk result (IsEditReply route.now) }
     ensures drafts { Drafts K.state request_changes request_gone edit_shown result draft.old draft.new }

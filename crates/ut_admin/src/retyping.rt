@@ -4,9 +4,8 @@ ghost use Rattle.std.specs.Prelude.{IfOk, List, ℕ};
 ghost use Rattle.ut_admin.specs.inner.Edits.{Anyone, EditsFrom, IsAnswerTo};
 ghost use Rattle.ut_edits.specs.Edits.{DraftsEdit};
 ghost use Rattle.ut_keeper.specs.Draft.{DraftTells, tables_of};
-ghost use Rattle.ut_model.specs.RequestOf.{verdict_or};
+ghost use Rattle.ut_model.specs.RequestOf.{request_of, verdict_or};
 ghost use Rattle.ut_model.specs.declared.route.Route.TheVariants as route;
-ghost use Rattle.ut_step.specs.Built.{built_request};
 ghost use Rattle.ut_step.specs.Own.{edit_shown, request_changes, request_gone};
 
 use crate::answer::{Answer, done};
@@ -32,7 +31,7 @@ pub(crate) fn begun_retype<K: Keeper>(
     body: &[u8],
 ) -> Result<Answer, EditFail>
     ensures what { DraftTells K.state draft.old draft.new
-        → EditsFrom org Anyone (λ a. verdict_or a (built_request route.BeginRetype body.now)) (tables_of K.state draft.old)
+        → EditsFrom org Anyone (λ a. verdict_or a (request_of route.BeginRetype body.now)) (tables_of K.state draft.old)
         (tables_of K.state draft.new) result }
     ensures form { IfOk result (IsAnswerTo route.BeginRetype) }
     ensures makes { DraftsEdit K.state request_changes request_gone edit_shown result draft.old draft.new }
@@ -60,7 +59,7 @@ pub(crate) fn cancelled_retype<K: Keeper>(
     org: u32,
 ) -> Result<Answer, EditFail>
     ensures what { DraftTells K.state draft.old draft.new
-        → (body : List ℕ) → EditsFrom org Anyone (λ a. verdict_or a (built_request route.CancelRetype body))
+        → (body : List ℕ) → EditsFrom org Anyone (λ a. verdict_or a (request_of route.CancelRetype body))
         (tables_of K.state draft.old) (tables_of K.state draft.new) result }
     ensures form { IfOk result (IsAnswerTo route.CancelRetype) }
     ensures makes { DraftsEdit K.state request_changes request_gone edit_shown result draft.old draft.new }

@@ -5,9 +5,8 @@ ghost use Rattle.std.specs.Option.{option_copied};
 ghost use Rattle.ut_admin.specs.inner.Edits.{Anyone, EditsFrom, HasRights, IsAnswerTo};
 ghost use Rattle.ut_edits.specs.Edits.{DraftsEdit};
 ghost use Rattle.ut_keeper.specs.Draft.{DraftTells, tables_of};
-ghost use Rattle.ut_model.specs.RequestOf.{verdict_or};
+ghost use Rattle.ut_model.specs.RequestOf.{request_of, verdict_or};
 ghost use Rattle.ut_model.specs.declared.route.Route.TheVariants as route;
-ghost use Rattle.ut_step.specs.Built.{built_request};
 ghost use Rattle.ut_step.specs.Own.{edit_shown, request_changes, request_gone};
 
 use crate::answer::{Answer, done};
@@ -38,7 +37,7 @@ pub(crate) fn shared_record<K: Keeper, R: Rights>(
     body: &[u8],
 ) -> Result<Answer, EditFail>
     ensures what { DraftTells K.state draft.old draft.new
-        → EditsFrom org (HasRights (R.whose rights.now)) (λ a. verdict_or a (built_request route.Share body.now))
+        → EditsFrom org (HasRights (R.whose rights.now)) (λ a. verdict_or a (request_of route.Share body.now))
         (tables_of K.state draft.old) (tables_of K.state draft.new) result }
     ensures form { IfOk result (IsAnswerTo route.Share) }
     ensures makes { DraftsEdit K.state request_changes request_gone edit_shown result draft.old draft.new }
@@ -86,7 +85,7 @@ pub(crate) fn unshared_record<K: Keeper, R: Rights>(
 ) -> Result<Answer, EditFail>
     ensures what { DraftTells K.state draft.old draft.new
         → (body : List ℕ) → EditsFrom org (HasRights (R.whose rights.now))
-        (λ a. verdict_or a (built_request (route.Unshare item.now part.now) body)) (tables_of K.state draft.old)
+        (λ a. verdict_or a (request_of (route.Unshare item.now part.now) body)) (tables_of K.state draft.old)
         (tables_of K.state draft.new) result }
     ensures form { IfOk result (IsAnswerTo (route.Unshare item.now part.now)) }
     ensures makes { DraftsEdit K.state request_changes request_gone edit_shown result draft.old draft.new }
@@ -111,7 +110,7 @@ pub(crate) fn new_sharing_rule<K: Keeper>(
     body: &[u8],
 ) -> Result<Answer, EditFail>
     ensures what { DraftTells K.state draft.old draft.new
-        → EditsFrom org Anyone (λ a. verdict_or a (built_request route.AddSharingRule body.now)) (tables_of K.state draft.old)
+        → EditsFrom org Anyone (λ a. verdict_or a (request_of route.AddSharingRule body.now)) (tables_of K.state draft.old)
         (tables_of K.state draft.new) result }
     ensures form { IfOk result (IsAnswerTo route.AddSharingRule) }
     ensures makes { DraftsEdit K.state request_changes request_gone edit_shown result draft.old draft.new }
@@ -136,7 +135,7 @@ pub(crate) fn removed_sharing_rule<K: Keeper>(
     name: &Text,
 ) -> Result<Answer, EditFail>
     ensures what { DraftTells K.state draft.old draft.new
-        → (body : List ℕ) → EditsFrom org Anyone (λ a. verdict_or a (built_request (route.RemoveSharingRule name.now) body))
+        → (body : List ℕ) → EditsFrom org Anyone (λ a. verdict_or a (request_of (route.RemoveSharingRule name.now) body))
         (tables_of K.state draft.old) (tables_of K.state draft.new) result }
     ensures form { IfOk result (IsAnswerTo (route.RemoveSharingRule name.now)) }
     ensures makes { DraftsEdit K.state request_changes request_gone edit_shown result draft.old draft.new }

@@ -45,13 +45,13 @@ use Rattle.ut_model.specs.declared.record.Record.{Record}
 use Rattle.ut_model.specs.declared.refusal.Refusal.{Refusal}
 use Rattle.ut_model.specs.declared.refusal.Refusal.TheVariants.{InvalidType, ReplyTooLarge}
 use Rattle.ut_model.specs.declared.reply.Reply.{Reply}
-use Rattle.ut_bind.specs.Checks.{takes}
-use Rattle.ut_bind.specs.Plans.{Means, by_keys, children_by, chosen_by, is_taken, parents_by}
-use Rattle.ut_bind.specs.Shown.{ShowsJson, row_text}
-use Rattle.ut_bind.specs.declared.plan.Choice.{Choice}
-use Rattle.ut_bind.specs.declared.plan.Plan.{Plan}
-use Rattle.ut_bind.specs.declared.plan.Shown.{Shown}
-use Rattle.ut_bind.specs.declared.plan.SortKey.{SortKey}
+use Rattle.ut_plan.specs.Checks.{takes}
+use Rattle.ut_plan.specs.Plans.{Means, by_keys, children_by, chosen_by, is_taken, parents_by}
+use Rattle.ut_plan.specs.Shown.{ShowsJson, row_text}
+use Rattle.ut_plan.specs.declared.plan.Choice.{Choice}
+use Rattle.ut_plan.specs.declared.plan.Plan.{Plan}
+use Rattle.ut_plan.specs.declared.plan.Shown.{Shown}
+use Rattle.ut_plan.specs.declared.plan.SortKey.{SortKey}
 use Rattle.ut_ranks.specs.Ranks.{rank_by, rank_cmp}
 use Rattle.ut_rights.specs.Rights.{Whose}
 use Rattle.ut_rows.specs.Shows.{shows}

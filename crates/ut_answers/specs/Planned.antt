@@ -2,10 +2,10 @@
 use Rattle.std.specs.Prelude.{ℕ, Bool, List, [], ◌∷◌, Option}
 use Rattle.ut_model.specs.Paths.{Asked}
 use Rattle.ut_model.specs.declared.record.Record.{Record}
-use Rattle.ut_bind.specs.Checks.{takes}
-use Rattle.ut_bind.specs.Plans.{by_keys}
-use Rattle.ut_bind.specs.declared.plan.Choice.{Choice}
-use Rattle.ut_bind.specs.declared.plan.SortKey.{SortKey}
+use Rattle.ut_plan.specs.Checks.{takes}
+use Rattle.ut_plan.specs.Plans.{by_keys}
+use Rattle.ut_plan.specs.declared.plan.Choice.{Choice}
+use Rattle.ut_plan.specs.declared.plan.SortKey.{SortKey}
 use Rattle.ut_exec.specs.Relatives.{by_parents}
 use Rattle.ut_exec.specs.Written.{rows_kept, rows_sorted}
 use Rattle.ut_exec.specs.declared.window.Window.{Window}

@@ -3,10 +3,10 @@
 ghost use Rattle.ut_ranks.specs.Ranks.{rank_by};
 
 use std::alloc::Global;
-use ut_bind::SortKey;
 use ut_exec::{Ranks, SeenRecord};
 use ut_model::Record;
 use ut_parts::CodecFail;
+use ut_plan::SortKey;
 use ut_ranks::{Rank, rank_of};
 
 /// By the keys of a plan.

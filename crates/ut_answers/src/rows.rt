@@ -2,15 +2,15 @@
 
 ghost use Rattle.std.specs.Prelude.{◌∷◌};
 ghost use Rattle.std.specs.Str.{encode_utf8_all};
-ghost use Rattle.ut_bind.specs.Shown.{row_text};
+ghost use Rattle.ut_plan.specs.Shown.{row_text};
 ghost use Rattle.ut_rows.specs.Shows.{shows};
 
 use std::alloc::Global;
-use ut_bind::{Child, Shown};
 use ut_exec::{RowForm, SeenRecord};
 use ut_json::Writer;
 use ut_model::Record;
 use ut_parts::CodecFail;
+use ut_plan::{Child, Shown};
 use ut_rows::write_row;
 use ut_value::{Items, Text};
 

@@ -1,12 +1,12 @@
 //! Which records are rows.
 
-ghost use Rattle.ut_bind.specs.Checks.{takes};
+ghost use Rattle.ut_plan.specs.Checks.{takes};
 
 use std::alloc::Global;
-use ut_bind::{Check, check_holds};
 use ut_exec::{Keeps, SeenRecord};
 use ut_model::Record;
 use ut_parts::CodecFail;
+use ut_plan::{Check, check_holds};
 
 /// Records on which a condition holds, if there is one.
 #[derive(Drop)]

@@ -15,14 +15,14 @@ use Rattle.ut_stands.specs.declared.layout.Layout.{Layout}
 use Rattle.ut_ways.specs.Branches.{AddsBranches, IsAmong, LeadsToParent, record_above}
 use Rattle.ut_ways.specs.declared.branches.Branch.{Branch}
 use Rattle.ut_ways.specs.declared.branches.Place.{Place}
-use Rattle.ut_bind.specs.declared.columns.Column.{Column}
-use Rattle.ut_bind.specs.declared.plan.Member.{Member, Parent, End}
-use Rattle.ut_bind.specs.Shown.{Shows}
-use Rattle.ut_bind.specs.inner.Columns.{column_in, placed}
+use Rattle.ut_query_rules.specs.declared.columns.Column.{Column}
+use Rattle.ut_plan.specs.declared.plan.Member.{Member, Parent, End}
+use Rattle.ut_plan.specs.Shown.{Shows}
+use Rattle.ut_query_rules.specs.Columns.{column_in, placed}
 use Rattle.ut_bind.specs.inner.Members.{IsAt, Sees, ShowsParent, ShowsPath, ShowsPaths, declared_name, field_member, goes_behind, texts_of}
 use Rattle.ut_bind.specs.inner.Spots.{IsOf, Serve, Setting, far_of}
-use Rattle.ut_bind.specs.inner.Ways.{path_column_in}
-use Rattle.ut_bind.proofs.Reaching.{column_same}
+use Rattle.ut_query_rules.specs.Ways.{path_column_in}
+use Rattle.ut_query_rules.proofs.Reaching.{column_same}
 use Rattle.ut_bind.proofs.Showing.{all_led, any_item, declared_shown, end_shown, field_shown, no_clash, object_shown, parent_shown, several_serve}
 use Rattle.ut_bind.proofs.Tested.{behind_both}
 

@@ -7,8 +7,8 @@ use Rattle.std.specs.Int.{w64}
 use Rattle.ut_query.specs.declared.query.Cond.{Cond}
 use Rattle.ut_model.specs.declared.record.Record.{Record}
 use Rattle.ut_model.specs.Paths.{Asked}
-use Rattle.ut_bind.specs.declared.check.Check.{Check}
-use Rattle.ut_bind.specs.Checks.{check_holds}
+use Rattle.ut_plan.specs.declared.check.Check.{Check}
+use Rattle.ut_plan.specs.Checks.{check_holds}
 
 all_by : {X : Type 0} (p : X → Bool) (xs : List X) → list_all p xs ≡ list_all (λ (b : Bool). b) (map p xs)
 all_by p [] = refl

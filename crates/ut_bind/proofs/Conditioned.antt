@@ -16,18 +16,18 @@ use Rattle.ut_model.specs.Tests.{Tested, tests_of}
 use Rattle.ut_stands.specs.declared.layout.Layout.{Layout}
 use Rattle.ut_ways.specs.declared.branches.Branch.{Branch}
 use Rattle.ut_ways.specs.Branches.{AddsBranches}
-use Rattle.ut_bind.specs.declared.check.Check.{Check}
-use Rattle.ut_bind.specs.declared.check.Check.TheVariants as check
+use Rattle.ut_plan.specs.declared.check.Check.{Check}
+use Rattle.ut_plan.specs.declared.check.Check.TheVariants as check
 use Rattle.ut_bind.specs.declared.spots.Bound.{Bound}
-use Rattle.ut_bind.specs.Checks.{check_holds, passes_with, spot_value, tested}
+use Rattle.ut_plan.specs.Checks.{check_holds, passes_with, spot_value, tested}
 use Rattle.ut_bind.specs.inner.Binding.{operand_of}
 use Rattle.ut_bind.specs.inner.Ends.{Each}
 use Rattle.ut_bind.specs.inner.Spots.{Binds, IsFree, IsOf, Setting, far_of}
 use Rattle.ut_bind.specs.inner.Tails.{BindsCondition, BindsWhere}
 use Rattle.ut_bind.proofs.Bound.{all_bound, some_bound}
 use Rattle.ut_bind.proofs.Tested.{behind_both, far_in, far_like, far_test}
-use Rattle.ut_bind.proofs.Tests.{all_back, all_front, one_rule, tests_and, tests_not, tests_or}
-use Rattle.ut_bind.proofs.Within.{holds_and, holds_not, holds_or}
+use Rattle.ut_query_rules.proofs.Tests.{all_back, all_front, one_rule, tests_and, tests_not, tests_or}
+use Rattle.ut_plan.proofs.Within.{holds_and, holds_not, holds_or}
 
 module _ (ls : List Layout) (l : Layout) (day : ℤ) where
   -- ---- branches that are added

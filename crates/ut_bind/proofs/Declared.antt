@@ -18,9 +18,9 @@ use Rattle.ut_ways.specs.declared.parents.ParentStep.{ParentStep}
 use Rattle.ut_ways.specs.Ways.{parent_step}
 use Rattle.ut_ways.proofs.ByLayout.{layout_is, parent_by_layout}
 use Rattle.ut_ways.proofs.Owned.{parent_has}
-use Rattle.ut_bind.specs.inner.Columns.{custom_name}
+use Rattle.ut_query_rules.specs.Columns.{custom_name}
 use Rattle.ut_bind.specs.inner.Members.{declared_name}
-use Rattle.ut_bind.proofs.Lists.{at_number}
+use Rattle.ut_plan.proofs.Lists.{at_number}
 
 -- ---- texts
 

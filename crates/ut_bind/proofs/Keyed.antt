@@ -6,10 +6,10 @@ use Rattle.ut_query.specs.declared.query.OrderKey.{OrderKey}
 use Rattle.ut_model.specs.Paths.{path_value}
 use Rattle.ut_stands.specs.declared.layout.Layout.{Layout}
 use Rattle.ut_ways.specs.declared.branches.Branch.{Branch}
-use Rattle.ut_bind.specs.declared.plan.SortKey.{SortKey}
+use Rattle.ut_plan.specs.declared.plan.SortKey.{SortKey}
 use Rattle.ut_bind.specs.declared.spots.Bound.{Bound}
-use Rattle.ut_bind.specs.Checks.{spot_value}
-use Rattle.ut_bind.specs.Plans.{values_by}
+use Rattle.ut_plan.specs.Checks.{spot_value}
+use Rattle.ut_plan.specs.Plans.{values_by}
 use Rattle.ut_model.specs.Ordered.{key_cmp}
 use Rattle.ut_ways.specs.Branches.{AddsBranches, AreBranches}
 use Rattle.ut_ways.proofs.Branching.{added_twice}

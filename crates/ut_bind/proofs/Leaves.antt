@@ -18,13 +18,13 @@ use Rattle.ut_model.specs.Fields.{as_ref, is_null}
 use Rattle.ut_model.specs.Rules.{first_of, refuse_if}
 use Rattle.ut_model.specs.declared.refusal.Refusal.TheVariants.{MalformedId}
 use Rattle.ut_bind.specs.inner.Binding.{Fits, operand_of, text_operand}
-use Rattle.ut_bind.specs.inner.Rules.{is_ids}
-use Rattle.ut_bind.specs.Checks.{beside, is_so, meant_of, passes_with}
-use Rattle.ut_bind.specs.declared.check.Operand.{Operand}
-use Rattle.ut_bind.specs.declared.check.Operand.TheVariants.{Plain, Clock}
-use Rattle.ut_bind.specs.declared.columns.Family.{Family}
-use Rattle.ut_bind.specs.declared.columns.Family.TheVariants as family
-use Rattle.ut_bind.proofs.Clean.{first_none, rest_none}
+use Rattle.ut_query_rules.specs.Rules.{is_ids}
+use Rattle.ut_plan.specs.Checks.{beside, is_so, meant_of, passes_with}
+use Rattle.ut_plan.specs.declared.check.Operand.{Operand}
+use Rattle.ut_plan.specs.declared.check.Operand.TheVariants.{Plain, Clock}
+use Rattle.ut_query_rules.specs.declared.columns.Family.{Family}
+use Rattle.ut_query_rules.specs.declared.columns.Family.TheVariants as family
+use Rattle.ut_query_rules.proofs.Clean.{first_none, rest_none}
 
 -- ---- comparisons
 

@@ -19,19 +19,19 @@ use Rattle.ut_step.specs.Flat.{has_one_name, is_flat_item}
 use Rattle.ut_ways.specs.Branches.{AddsBranches, record_above}
 use Rattle.ut_ways.specs.declared.branches.Branch.{Branch}
 use Rattle.ut_ways.specs.declared.branches.Place.{Place}
-use Rattle.ut_bind.specs.declared.plan.Child.{Child}
-use Rattle.ut_bind.specs.declared.plan.ChildPlan.{ChildPlan}
-use Rattle.ut_bind.specs.declared.plan.Member.{Member}
-use Rattle.ut_bind.specs.declared.plan.Shown.{Shown}
-use Rattle.ut_bind.specs.declared.plan.Shown.TheVariants as shown
+use Rattle.ut_plan.specs.declared.plan.Child.{Child}
+use Rattle.ut_plan.specs.declared.plan.ChildPlan.{ChildPlan}
+use Rattle.ut_plan.specs.declared.plan.Member.{Member}
+use Rattle.ut_plan.specs.declared.plan.Shown.{Shown}
+use Rattle.ut_plan.specs.declared.plan.Shown.TheVariants as shown
 use Rattle.ut_bind.specs.declared.selecting.Selection.{Selection}
-use Rattle.ut_bind.specs.Plans.{children_by}
-use Rattle.ut_bind.specs.Shown.{Shows, ShowsJson, child_text, children_at, shown_text}
+use Rattle.ut_plan.specs.Plans.{children_by}
+use Rattle.ut_plan.specs.Shown.{Shows, ShowsJson, child_text, children_at, shown_text}
 use Rattle.ut_bind.specs.inner.Members.{IsLed, Sees, ShowsPath, field_member}
-use Rattle.ut_bind.specs.inner.Rules.{own_name}
+use Rattle.ut_query_rules.specs.Rules.{own_name}
 use Rattle.ut_bind.specs.inner.Selecting.{AddsChild, AddsItem, AddsPath, BindsItems, ItemServes, count_of, own_shown, paths_in}
 use Rattle.ut_bind.specs.inner.Spots.{IsOf, Setting, far_of}
-use Rattle.ut_bind.proofs.Lists.{and_left, and_right, some_is}
+use Rattle.ut_plan.proofs.Lists.{and_left, and_right, some_is}
 use Rattle.ut_bind.proofs.Tested.{behind_both}
 
 -- ---- paths among what is selected

@@ -23,21 +23,21 @@ use Rattle.ut_ways.specs.Branches.{AddsBranches, AreBranches, FindsPlace, LeadTo
 use Rattle.ut_ways.specs.Ways.{led_to, path_end}
 use Rattle.ut_ways.proofs.Branching.{records_stay}
 use Rattle.ut_ways.proofs.Ends.{EndsAt, end_column, ends_at}
-use Rattle.ut_bind.specs.declared.columns.Column.{Column}
-use Rattle.ut_bind.specs.declared.columns.Family.{Family}
-use Rattle.ut_bind.specs.declared.columns.Family.TheVariants as family
-use Rattle.ut_bind.specs.declared.check.Site.{Site}
+use Rattle.ut_query_rules.specs.declared.columns.Column.{Column}
+use Rattle.ut_query_rules.specs.declared.columns.Family.{Family}
+use Rattle.ut_query_rules.specs.declared.columns.Family.TheVariants as family
+use Rattle.ut_plan.specs.declared.check.Site.{Site}
 use Rattle.ut_bind.specs.declared.spots.Bound.{Bound}
-use Rattle.ut_bind.specs.Checks.{site_of, spot_value}
-use Rattle.ut_bind.specs.Plans.{shown_name}
+use Rattle.ut_plan.specs.Checks.{site_of, spot_value}
+use Rattle.ut_plan.specs.Plans.{shown_name}
 use Rattle.ut_bind.specs.inner.Binding.{Fits, IsFound}
-use Rattle.ut_bind.specs.inner.Columns.{column_in, placed}
-use Rattle.ut_bind.specs.inner.Rules.{own_name}
+use Rattle.ut_query_rules.specs.Columns.{column_in, placed}
+use Rattle.ut_query_rules.specs.Rules.{own_name}
 use Rattle.ut_bind.specs.inner.Spots.{Binds, IsBound, IsOf, Serve, Setting, bound_at, bound_name, far_of}
-use Rattle.ut_bind.specs.inner.Ways.{path_column_in}
-use Rattle.ut_bind.proofs.Judged.{own_column}
-use Rattle.ut_bind.proofs.Lists.{kept, some_is}
-use Rattle.ut_bind.proofs.Reaching.{column_same}
+use Rattle.ut_query_rules.specs.Ways.{path_column_in}
+use Rattle.ut_query_rules.proofs.Judged.{own_column}
+use Rattle.ut_plan.proofs.Lists.{kept, some_is}
+use Rattle.ut_query_rules.proofs.Reaching.{column_same}
 use Rattle.ut_bind.proofs.Records.{known_of}
 
 pub unchanged : (bs : List Branch) → AreBranches bs → AddsBranches bs bs

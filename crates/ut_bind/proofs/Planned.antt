@@ -26,26 +26,26 @@ use Rattle.ut_step.specs.Flat.{has_one_name, is_flat, is_flat_item, is_flat_test
 use Rattle.ut_step.specs.Shown.{item_children_shown, item_steps, path_steps, query_steps, tail_steps}
 use Rattle.ut_ways.specs.Branches.{AddsBranches}
 use Rattle.ut_ways.specs.declared.branches.Branch.{Branch}
-use Rattle.ut_bind.specs.declared.check.Site.TheVariants as site
+use Rattle.ut_plan.specs.declared.check.Site.TheVariants as site
 use Rattle.ut_bind.specs.declared.choosing.BoundTail.{BoundTail}
-use Rattle.ut_bind.specs.declared.columns.Column.{Column}
-use Rattle.ut_bind.specs.declared.plan.ChildPlan.{ChildPlan}
-use Rattle.ut_bind.specs.declared.plan.Member.TheVariants as member
-use Rattle.ut_bind.specs.declared.plan.Plan.{Plan}
-use Rattle.ut_bind.specs.declared.plan.Shown.TheVariants as shown
+use Rattle.ut_query_rules.specs.declared.columns.Column.{Column}
+use Rattle.ut_plan.specs.declared.plan.ChildPlan.{ChildPlan}
+use Rattle.ut_plan.specs.declared.plan.Member.TheVariants as member
+use Rattle.ut_plan.specs.declared.plan.Plan.{Plan}
+use Rattle.ut_plan.specs.declared.plan.Shown.TheVariants as shown
 use Rattle.ut_bind.specs.declared.selecting.Selection.{Selection}
-use Rattle.ut_bind.specs.Checks.{site_of}
-use Rattle.ut_bind.specs.Plans.{Means, ShownValue, child_shown, children_by, parents_by, selected_value, shown_value}
-use Rattle.ut_bind.specs.Reaching.{Reaches}
-use Rattle.ut_bind.specs.Shown.{Shows, ShowsJson, row_text, type_and_address}
-use Rattle.ut_bind.specs.inner.Columns.{name_at}
+use Rattle.ut_plan.specs.Checks.{site_of}
+use Rattle.ut_plan.specs.Plans.{Means, ShownValue, child_shown, children_by, parents_by, selected_value, shown_value}
+use Rattle.ut_query_rules.specs.Reaching.{Reaches}
+use Rattle.ut_plan.specs.Shown.{Shows, ShowsJson, row_text, type_and_address}
+use Rattle.ut_query_rules.specs.Columns.{name_at}
 use Rattle.ut_bind.specs.inner.Members.{IsLed}
 use Rattle.ut_bind.specs.inner.Selecting.{BindsItems, ItemServes, own_shown}
 use Rattle.ut_bind.specs.inner.Spots.{IsOf, Setting, far_of}
 use Rattle.ut_bind.specs.inner.Tails.{BindsTail}
-use Rattle.ut_bind.proofs.Flatness.{parts_of}
-use Rattle.ut_bind.proofs.Lists.{and_left, and_right}
-use Rattle.ut_bind.proofs.Reaching.{refused_alike}
+use Rattle.ut_query_rules.proofs.Flatness.{parts_of}
+use Rattle.ut_plan.proofs.Lists.{and_left, and_right}
+use Rattle.ut_query_rules.proofs.Reaching.{refused_alike}
 use Rattle.ut_bind.proofs.Records.{known_of}
 use Rattle.ut_bind.proofs.Serving.{query_serves}
 use Rattle.ut_bind.proofs.Tailed.{tail_chooses}

@@ -32,13 +32,13 @@ use Rattle.ut_stands.specs.Layouts.{IsLayout, place_of}
 use Rattle.ut_stands.specs.Plan.{OrgPlan}
 use Rattle.ut_stands.specs.declared.layout.FieldPlace.{FieldPlace}
 use Rattle.ut_stands.specs.declared.layout.Layout.{Layout}
-use Rattle.ut_bind.specs.declared.check.Site.TheVariants as site
-use Rattle.ut_bind.specs.declared.columns.Column.{Column}
-use Rattle.ut_bind.specs.Checks.{site_of}
+use Rattle.ut_plan.specs.declared.check.Site.TheVariants as site
+use Rattle.ut_query_rules.specs.declared.columns.Column.{Column}
+use Rattle.ut_plan.specs.Checks.{site_of}
 use Rattle.ut_bind.specs.inner.Binding.{Fits, IsFound, Knows}
-use Rattle.ut_bind.specs.inner.Columns.{column_in, custom_name, family_of, family_of_type, name_at, place_at, placed, value_place}
-use Rattle.ut_bind.proofs.Joined.{column_is, created_text, custom, id_text, layout_at, modified_text, name_text, object_there, owner_text}
-use Rattle.ut_bind.proofs.Lists.{all_numbered, and_left, and_right, at_number, kept, of_each, of_found, of_numbered, some_is}
+use Rattle.ut_query_rules.specs.Columns.{column_in, custom_name, family_of, family_of_type, name_at, place_at, placed, value_place}
+use Rattle.ut_query_rules.proofs.Joined.{column_is, created_text, custom, id_text, layout_at, modified_text, name_text, object_there, owner_text}
+use Rattle.ut_plan.proofs.Lists.{all_numbered, and_left, and_right, at_number, kept, of_each, of_found, of_numbered, some_is}
 
 -- ---- values
 

@@ -14,17 +14,17 @@ use Rattle.ut_model.specs.Tests.{tests}
 use Rattle.ut_step.specs.Flat.{is_flat_item}
 use Rattle.ut_stands.specs.Layouts.{own_layouts}
 use Rattle.ut_stands.specs.declared.layout.Layout.{Layout}
-use Rattle.ut_bind.specs.Reaching.{Reaches}
-use Rattle.ut_bind.specs.declared.rules.Rule.TheVariants as rule
+use Rattle.ut_query_rules.specs.Reaching.{Reaches}
+use Rattle.ut_query_rules.specs.declared.rules.Rule.TheVariants as rule
 use Rattle.ut_bind.specs.inner.Members.{IsLed}
-use Rattle.ut_bind.specs.inner.Rules.{all_tests_rule, child_rule, child_tests_rule, each_rule, item_rule, items_rule, mentioned_in, names_rule, no_field, path_name, path_rule, paths_rule, query_rule, rule_in, tail_rule}
+use Rattle.ut_query_rules.specs.Rules.{all_tests_rule, child_rule, child_tests_rule, each_rule, item_rule, items_rule, mentioned_in, names_rule, no_field, path_name, path_rule, paths_rule, query_rule, rule_in, tail_rule}
 use Rattle.ut_bind.specs.inner.Selecting.{ItemServes}
 use Rattle.ut_bind.specs.inner.Spots.{Serve, Setting}
 use Rattle.ut_bind.specs.inner.Tails.{TailServes}
-use Rattle.ut_bind.specs.inner.Ways.{child_layout, path_column_in}
-use Rattle.ut_bind.proofs.Clean.{first_none, not_refused, rest_none, some_column}
-use Rattle.ut_bind.proofs.Flatness.{parts_of}
-use Rattle.ut_bind.proofs.Lists.{and_left, and_right}
+use Rattle.ut_query_rules.specs.Ways.{child_layout, path_column_in}
+use Rattle.ut_query_rules.proofs.Clean.{first_none, not_refused, rest_none, some_column}
+use Rattle.ut_query_rules.proofs.Flatness.{parts_of}
+use Rattle.ut_plan.proofs.Lists.{and_left, and_right}
 use Rattle.ut_bind.proofs.Tailed.{IsFlatTail, tail_serves}
 
 module _ (s : Setting) (ls : List Layout) where

@@ -33,20 +33,20 @@ use Rattle.ut_ways.specs.Branches.{AddsBranches, LeadsToParent, record_above}
 use Rattle.ut_ways.specs.declared.branches.Branch.{Branch}
 use Rattle.ut_ways.specs.declared.branches.Place.{Place}
 use Rattle.ut_ways.proofs.ByLayout.{layout_is}
-use Rattle.ut_bind.specs.declared.check.Site.TheVariants as site
-use Rattle.ut_bind.specs.declared.columns.Column.{Column}
-use Rattle.ut_bind.specs.declared.plan.Member.{Member, Parent, End, Parent', Row_of-Member, end_of-Member, more_of-Member, items-the_row-Member, items_hidden-the_row-Member-0}
-use Rattle.ut_bind.specs.declared.plan.Member.TheVariants as member
-use Rattle.ut_bind.specs.Checks.{site_of}
-use Rattle.ut_bind.specs.Shown.{Shows, member_text, member_texts, type_and_address}
+use Rattle.ut_plan.specs.declared.check.Site.TheVariants as site
+use Rattle.ut_query_rules.specs.declared.columns.Column.{Column}
+use Rattle.ut_plan.specs.declared.plan.Member.{Member, Parent, End, Parent', Row_of-Member, end_of-Member, more_of-Member, items-the_row-Member, items_hidden-the_row-Member-0}
+use Rattle.ut_plan.specs.declared.plan.Member.TheVariants as member
+use Rattle.ut_plan.specs.Checks.{site_of}
+use Rattle.ut_plan.specs.Shown.{Shows, member_text, member_texts, type_and_address}
 use Rattle.ut_bind.specs.inner.Binding.{IsFound}
-use Rattle.ut_bind.specs.inner.Columns.{column_in, name_at, placed}
+use Rattle.ut_query_rules.specs.Columns.{column_in, name_at, placed}
 use Rattle.ut_bind.specs.inner.Members.{IsAt, IsLed, Sees, ShowsPath, ShowsPaths, declared_name, field_member, goes_behind, texts_of}
 use Rattle.ut_bind.specs.inner.Spots.{IsOf, Serve, Setting, far_of}
-use Rattle.ut_bind.specs.inner.Ways.{path_column_in}
+use Rattle.ut_query_rules.specs.Ways.{path_column_in}
 use Rattle.ut_bind.proofs.Declared.{declared_is}
-use Rattle.ut_bind.proofs.Lists.{kept, some_is}
-use Rattle.ut_bind.proofs.Reaching.{column_same}
+use Rattle.ut_plan.proofs.Lists.{kept, some_is}
+use Rattle.ut_query_rules.proofs.Reaching.{column_same}
 use Rattle.ut_bind.proofs.Records.{known_of}
 use Rattle.ut_bind.proofs.Tested.{behind_both}
 

@@ -35,19 +35,19 @@ use Rattle.ut_ways.specs.declared.branches.Place.{Place}
 use Rattle.ut_ways.specs.declared.children.ChildStep.{ChildStep}
 use Rattle.ut_ways.proofs.ByLayout.{child_by_layouts, layout_is, numbered_layout, read_is}
 use Rattle.ut_ways.proofs.Owned.{found_has, from, numbered_as}
-use Rattle.ut_bind.specs.declared.plan.Child.{Child}
-use Rattle.ut_bind.specs.declared.plan.Choice.{Choice}
-use Rattle.ut_bind.specs.declared.plan.Member.{Member}
+use Rattle.ut_plan.specs.declared.plan.Child.{Child}
+use Rattle.ut_plan.specs.declared.plan.Choice.{Choice}
+use Rattle.ut_plan.specs.declared.plan.Member.{Member}
 use Rattle.ut_bind.specs.declared.selecting.BoundChild.{BoundChild}
-use Rattle.ut_bind.specs.Plans.{Chooses, children_by, chosen_by, parents_by, refers_by}
-use Rattle.ut_bind.specs.Shown.{Shows, ShowsJson, child_text, member_text, type_and_address}
+use Rattle.ut_plan.specs.Plans.{Chooses, children_by, chosen_by, parents_by, refers_by}
+use Rattle.ut_plan.specs.Shown.{Shows, ShowsJson, child_text, member_text, type_and_address}
 use Rattle.ut_bind.specs.inner.Members.{IsLed, Sees, ShowsPaths}
 use Rattle.ut_bind.specs.inner.Selecting.{BindsChild, BindsFound, ChildServes, child_name}
 use Rattle.ut_bind.specs.inner.Spots.{IsOf, Setting, far_of}
 use Rattle.ut_bind.specs.inner.Tails.{TailServes}
-use Rattle.ut_bind.specs.inner.Ways.{child_layout, layout_at}
-use Rattle.ut_bind.proofs.Found.{chosen_same, order_has}
-use Rattle.ut_bind.proofs.Lists.{at_number, kept, some_is}
+use Rattle.ut_query_rules.specs.Ways.{child_layout, layout_at}
+use Rattle.ut_plan.proofs.Found.{chosen_same, order_has}
+use Rattle.ut_plan.proofs.Lists.{at_number, kept, some_is}
 use Rattle.ut_bind.proofs.Showing.{object_shown}
 use Rattle.ut_bind.proofs.Tailed.{tail_chooses}
 

@@ -20,20 +20,20 @@ use Rattle.ut_stands.specs.declared.layout.Layout.{Layout}
 use Rattle.ut_step.specs.Flat.{has_one_name, is_flat_test}
 use Rattle.ut_ways.specs.declared.branches.Branch.{Branch}
 use Rattle.ut_ways.specs.Branches.{AddsBranches}
-use Rattle.ut_bind.specs.declared.check.Check.{Check}
+use Rattle.ut_plan.specs.declared.check.Check.{Check}
 use Rattle.ut_bind.specs.declared.choosing.BoundTail.{BoundTail}
-use Rattle.ut_bind.specs.declared.plan.Choice.{Choice}
-use Rattle.ut_bind.specs.declared.plan.SortKey.{SortKey}
-use Rattle.ut_bind.specs.declared.rules.Rule.TheVariants as rule
-use Rattle.ut_bind.specs.Checks.{takes}
-use Rattle.ut_bind.specs.Plans.{Chooses, by_keys}
+use Rattle.ut_plan.specs.declared.plan.Choice.{Choice}
+use Rattle.ut_plan.specs.declared.plan.SortKey.{SortKey}
+use Rattle.ut_query_rules.specs.declared.rules.Rule.TheVariants as rule
+use Rattle.ut_plan.specs.Checks.{takes}
+use Rattle.ut_plan.specs.Plans.{Chooses, by_keys}
 use Rattle.ut_bind.specs.inner.Ends.{BindsKey, Each}
-use Rattle.ut_bind.specs.inner.Rules.{key_rule, rule_in, tail_rule}
+use Rattle.ut_query_rules.specs.Rules.{key_rule, rule_in, tail_rule}
 use Rattle.ut_bind.specs.inner.Spots.{IsOf, Serve, Setting, far_of}
 use Rattle.ut_bind.specs.inner.Tails.{BindsTail, BindsWhere, KeyServes, TailServes}
-use Rattle.ut_bind.specs.inner.Ways.{path_column_in}
-use Rattle.ut_bind.proofs.Clean.{first_none, not_refused, rest_none, some_column}
-use Rattle.ut_bind.proofs.Lists.{and_left, and_right}
+use Rattle.ut_query_rules.specs.Ways.{path_column_in}
+use Rattle.ut_query_rules.proofs.Clean.{first_none, not_refused, rest_none, some_column}
+use Rattle.ut_plan.proofs.Lists.{and_left, and_right}
 use Rattle.ut_bind.proofs.Tested.{all_free, behind_both}
 
 -- ---- keys

@@ -20,18 +20,18 @@ use Rattle.ut_stands.specs.declared.layout.Layout.{Layout}
 use Rattle.ut_step.specs.Flat.{has_one_name, is_flat_test}
 use Rattle.ut_ways.specs.Branches.{AddsBranches}
 use Rattle.ut_ways.specs.declared.branches.Branch.{Branch}
-use Rattle.ut_bind.specs.declared.columns.Column.{Column}
-use Rattle.ut_bind.specs.declared.columns.Family.{Family}
-use Rattle.ut_bind.specs.declared.rules.Rule.TheVariants as rule
+use Rattle.ut_query_rules.specs.declared.columns.Column.{Column}
+use Rattle.ut_query_rules.specs.declared.columns.Family.{Family}
+use Rattle.ut_query_rules.specs.declared.rules.Rule.TheVariants as rule
 use Rattle.ut_bind.specs.declared.spots.Bound.{Bound}
-use Rattle.ut_bind.specs.Checks.{passes_with, spot_value}
+use Rattle.ut_plan.specs.Checks.{passes_with, spot_value}
 use Rattle.ut_bind.specs.inner.Binding.{operand_of}
-use Rattle.ut_bind.specs.inner.Rules.{is_ids, rule_in}
+use Rattle.ut_query_rules.specs.Rules.{is_ids, rule_in}
 use Rattle.ut_bind.specs.inner.Spots.{IsBound, IsFree, Serve, Setting, far_of}
-use Rattle.ut_bind.specs.inner.Ways.{path_column_in}
-use Rattle.ut_bind.proofs.Clean.{first_none, not_refused, rest_none, some_column}
+use Rattle.ut_query_rules.specs.Ways.{path_column_in}
+use Rattle.ut_query_rules.proofs.Clean.{first_none, not_refused, rest_none, some_column}
 use Rattle.ut_bind.proofs.Leaves.{among_is, negated_is, passes_is}
-use Rattle.ut_bind.proofs.Lists.{and_left, and_right}
+use Rattle.ut_plan.proofs.Lists.{and_left, and_right}
 
 -- ---- branches that are added
 

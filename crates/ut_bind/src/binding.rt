@@ -9,14 +9,14 @@ ghost use Rattle.ut_stands.specs.Layouts.{IsLayout};
 ghost use Rattle.ut_stands.specs.Plan.{OrgPlan};
 ghost use Rattle.ut_value.specs.Printing.{day_of_moment};
 ghost use Rattle.ut_step.specs.Flat.{is_flat};
-ghost use Rattle.ut_bind.specs.Plans.{IsFew, Means};
-ghost use Rattle.ut_bind.specs.Reaching.{Reaches};
+ghost use Rattle.ut_plan.specs.Plans.{IsFew, Means};
+ghost use Rattle.ut_query_rules.specs.Reaching.{Reaches};
 ghost use Rattle.ut_bind.specs.inner.Binding as spec;
 
 use crate::choosing::bind_tail;
-use crate::plan::{Choice, Plan};
 use crate::selecting::bind_items;
 use std::alloc::{AllocError, Global};
+use ut_plan::{Choice, Plan};
 use ut_query::Query;
 use ut_stands::Layout;
 use ut_value::Items;

@@ -7,11 +7,11 @@ ghost use Rattle.ut_ways.specs.Branches.{AddsBranches, AreBranches};
 ghost use Rattle.ut_bind.specs.inner.Ends.{Each};
 ghost use Rattle.ut_bind.specs.inner.Tails as spec;
 
-use crate::check::Check;
 use crate::conditions::{operand_of, operands_of, pattern_of};
 use crate::spots::bind_path;
 use std::alloc::{AllocError, Global};
 use ut_model::condition_laws;
+use ut_plan::Check;
 use ut_query::Cond;
 use ut_stands::Layout;
 use ut_value::{Boxed, Items};

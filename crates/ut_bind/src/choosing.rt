@@ -6,10 +6,9 @@ ghost use Rattle.ut_ways.specs.Branches.{AddsBranches, AreBranches};
 ghost use Rattle.ut_bind.specs.inner.Tails as spec;
 
 use crate::branching::bind_where;
-use crate::check::Check;
 use crate::keys::bind_keys;
-use crate::plan::SortKey;
 use std::alloc::{AllocError, Global};
+use ut_plan::{Check, SortKey};
 use ut_query::Tail;
 use ut_stands::Layout;
 use ut_value::Items;

@@ -3,11 +3,10 @@
 ghost use Rattle.std.specs.Prelude.{◌≡◌, IfOk, map};
 ghost use Rattle.ut_bind.specs.inner.Binding as spec;
 
-use crate::check::Operand;
-use crate::columns::Family;
-use crate::suits::is_ids;
 use std::alloc::{AllocError, Global};
+use ut_plan::Operand;
 use ut_query::{LikePattern, Literal};
+use ut_query_rules::{Family, is_ids};
 use ut_value::{Items, Text, Value, character_count, id_in};
 
 // ---- what is compared with

@@ -6,9 +6,9 @@ ghost use Rattle.ut_step.specs.Shown.{path_steps};
 ghost use Rattle.ut_ways.specs.Branches.{AddsBranches, AreBranches};
 ghost use Rattle.ut_bind.specs.inner.Ends as spec;
 
-use crate::plan::SortKey;
 use crate::spots::bind_path;
 use std::alloc::{AllocError, Global};
+use ut_plan::SortKey;
 use ut_query::OrderKey;
 use ut_stands::Layout;
 use ut_value::Items;

@@ -4,15 +4,15 @@ ghost use Rattle.std.specs.Prelude.{◌≡◌, ◌+◌, ◌*◌, ◌≤◌, [], 
 ghost use Rattle.std.specs.List.{list_all, sum_by};
 ghost use Rattle.ut_step.specs.Flat.{is_flat_item};
 ghost use Rattle.ut_step.specs.Shown.{item_children_shown, item_steps, path_steps, related_shown, tail_steps};
-ghost use Rattle.ut_bind.specs.Plans.{child_shown};
+ghost use Rattle.ut_plan.specs.Plans.{child_shown};
 ghost use Rattle.ut_ways.specs.Branches.{AddsBranches, AreBranches};
 ghost use Rattle.ut_bind.specs.inner.Selecting as spec;
 
 use crate::choosing::bind_tail;
 use crate::counting::{check_steps, steps_of};
 use crate::members::{bind_member, bind_members, copy_names};
-use crate::plan::{ChildPlan, Choice, Member, Shown};
 use std::alloc::{AllocError, Global};
+use ut_plan::{ChildPlan, Choice, Member, Shown};
 use ut_query::{Item, Path, Tail};
 use ut_stands::Layout;
 use ut_value::{Items, Text};

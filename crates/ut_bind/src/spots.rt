@@ -5,11 +5,10 @@ ghost use Rattle.ut_step.specs.Flat.{has_one_name};
 ghost use Rattle.ut_ways.specs.Branches.{AddsBranches, AreBranches};
 ghost use Rattle.ut_bind.specs.inner.Spots as spec;
 
-use crate::check::{Site, Spot};
-use crate::columns::{Column, Family, column_in};
-use crate::rules::own_name;
 use std::alloc::AllocError;
+use ut_plan::{Site, Spot};
 use ut_query::Path;
+use ut_query_rules::{Column, Family, column_in, own_name};
 use ut_stands::Layout;
 use ut_value::Text;
 use ut_ways::{Branch, place_in};

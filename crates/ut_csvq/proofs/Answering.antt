@@ -23,17 +23,17 @@ use Rattle.ut_model.specs.Tenant.{Tenant, User}
 use Rattle.ut_model.specs.Verdict.{Verdict, accept, judged, refuse, rows_of}
 use Rattle.ut_step.specs.Flat.{has_one_name, is_flat, is_flat_item, is_flat_test}
 use Rattle.ut_model.specs.Tests.{tests}
-use Rattle.ut_bind.specs.Checks.{site_of, spot_value}
-use Rattle.ut_bind.specs.declared.check.Spot.{Spot}
-use Rattle.ut_bind.specs.declared.plan.Member.{Member, Field, Parent', End}
-use Rattle.ut_bind.specs.declared.plan.Shown.TheVariants as shown
+use Rattle.ut_plan.specs.Checks.{site_of, spot_value}
+use Rattle.ut_plan.specs.declared.check.Spot.{Spot}
+use Rattle.ut_plan.specs.declared.plan.Member.{Member, Field, Parent', End}
+use Rattle.ut_plan.specs.declared.plan.Shown.TheVariants as shown
 use Rattle.ut_rows.specs.Shows.{or_null}
 use Rattle.ut_ways.specs.Branches.{branch_records}
 use Rattle.ut_ways.specs.declared.branches.Branch.{Branch}
 use Rattle.ut_value.specs.declared.value.Value.TheVariants as value
-use Rattle.ut_bind.specs.Plans.{Means, selected_value, shown_value, ShownValue}
-use Rattle.ut_bind.specs.declared.plan.Plan.{Plan}
-use Rattle.ut_bind.specs.declared.plan.Shown.{Shown}
+use Rattle.ut_plan.specs.Plans.{Means, selected_value, shown_value, ShownValue}
+use Rattle.ut_plan.specs.declared.plan.Plan.{Plan}
+use Rattle.ut_plan.specs.declared.plan.Shown.{Shown}
 use Rattle.ut_exec.specs.Written.{InTenants}
 use Rattle.ut_replies.proofs.Lists.{kept_from, left, right}
 use Rattle.ut_stands.specs.Layouts.{IsLayout, layout_of}

@@ -1,19 +1,19 @@
 //! The lines of records.
 
 ghost use Rattle.std.specs.Prelude.{◌≡◌, [], IfOk, Some, map};
-ghost use Rattle.ut_bind.specs.Given.{GivesBy, GivesJust};
+ghost use Rattle.ut_plan.specs.Given.{GivesBy, GivesJust};
 ghost use Rattle.ut_csvq.specs.inner.Names.{cell_of, shown_line};
-ghost use Rattle.ut_bind.specs.Plans.{shown_value};
+ghost use Rattle.ut_plan.specs.Plans.{shown_value};
 ghost use Rattle.ut_model.specs.declared.record.Record.{Record};
 ghost use Rattle.ut_rows.specs.Shows.{or_null};
 ghost use Rattle.ut_value.specs.Printing.{print_value};
 
 use crate::line::line_of;
 use std::alloc::{AllocError, Global};
-use ut_bind::{Child, HasValues, Member, Shown, spot_value};
 use ut_exec::{RowForm, SeenRecord};
 use ut_model::Record;
 use ut_parts::CodecFail;
+use ut_plan::{Child, HasValues, Member, Shown, spot_value};
 use ut_rows::is_printable;
 use ut_value::{Items, Text, Value, print_value};
 

@@ -15,7 +15,7 @@ use Rattle.ut_model.specs.declared.record.Record.{Record}
 use Rattle.ut_stands.specs.declared.layout.FieldPlace.{FieldPlace}
 use Rattle.ut_stands.specs.declared.layout.Layout.{Layout}
 use Rattle.ut_view.specs.Slots.{slot_in}
-use Rattle.ut_bind.specs.Given.{GivesJust}
+use Rattle.ut_plan.specs.Given.{GivesJust}
 use Rattle.ut_data.specs.Decoding.{all_from, each_from, has_types, read_slot, record_from, value_from}
 use Rattle.ut_exec.proofs.Offering.{each_cons, each_none, some_inner}
 

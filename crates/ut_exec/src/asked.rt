@@ -1,17 +1,17 @@
 //! Which records are rows, and how a row is written.
 
 ghost use Rattle.std.specs.Prelude.{◌≡◌, Bool, List, Option, Some, ℕ};
-ghost use Rattle.ut_bind.specs.Given.{GivesJust};
-ghost use Rattle.ut_bind.specs.declared.plan.Child.{Child};
+ghost use Rattle.ut_plan.specs.Given.{GivesJust};
+ghost use Rattle.ut_plan.specs.declared.plan.Child.{Child};
 ghost use Rattle.ut_exec.specs.Seen.{seen_record};
 ghost use Rattle.ut_exec.specs.Written.{Puts};
 ghost use Rattle.ut_model.specs.declared.record.Record.{Record};
 
 use crate::seen::SeenRecord;
 use std::alloc::Global;
-use ut_bind::Child;
 use ut_model::Record;
 use ut_parts::CodecFail;
+use ut_plan::Child;
 use ut_value::Items;
 
 /// A test of records.

@@ -20,10 +20,10 @@ use crate::relatives::Relatives;
 use crate::seen::SeenRecord;
 use crate::window::Window;
 use std::alloc::Global;
-use ut_bind::Child;
 use ut_keeper::{Draft, Keeper, draft_laws};
 use ut_keys::StoreFail;
 use ut_model::Record;
+use ut_plan::Child;
 use ut_stands::{Layout, call_laws};
 use ut_value::Items;
 

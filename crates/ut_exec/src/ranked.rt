@@ -3,7 +3,7 @@
 ghost use Rattle.std.specs.Cmp.{eq_by_cmp_equiv, partial_equiv_from_equiv, partial_order_from_agreeing_total};
 ghost use Rattle.std.specs.Ordering.{eq_by_cmp};
 ghost use Rattle.std.specs.Prelude.{◌≡◌, List, Option, Some, refl};
-ghost use Rattle.ut_bind.specs.Given.{GivesJust};
+ghost use Rattle.ut_plan.specs.Given.{GivesJust};
 ghost use Rattle.ut_exec.specs.Ranks.{ranked_cmp, ranked_total};
 ghost use Rattle.ut_exec.specs.Seen.{seen_record};
 ghost use Rattle.ut_exec.specs.inner.Judging.{unranked};

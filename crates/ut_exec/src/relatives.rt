@@ -1,7 +1,7 @@
 //! The records to which a row's record is related.
 
 ghost use Rattle.std.specs.Prelude.{[], List, Option, ℕ};
-ghost use Rattle.ut_bind.specs.declared.plan.Child.{Child};
+ghost use Rattle.ut_plan.specs.declared.plan.Child.{Child};
 ghost use Rattle.ut_exec.specs.Relatives.{FindsOfSeen};
 ghost use Rattle.ut_exec.specs.Seen.{seen_record};
 ghost use Rattle.ut_keeper.specs.Draft.{DraftTells, tables_of};
@@ -12,10 +12,10 @@ ghost use Rattle.ut_stands.specs.Plan.{OrgPlan};
 
 use crate::seen::SeenRecord;
 use std::alloc::Global;
-use ut_bind::Child;
 use ut_keeper::{Draft, Keeper};
 use ut_keys::StoreFail;
 use ut_model::Record;
+use ut_plan::Child;
 use ut_stands::{Layout, call_laws};
 use ut_value::Items;
 

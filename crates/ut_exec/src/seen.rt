@@ -2,7 +2,7 @@
 
 ghost use Rattle.std.specs.Prelude.{◌≡◌, [], IsTrue, Some, option_map, unwrap_or};
 ghost use Rattle.std.specs.Str.{chars};
-ghost use Rattle.ut_bind.specs.Given.{GivesJust};
+ghost use Rattle.ut_plan.specs.Given.{GivesJust};
 ghost use Rattle.ut_data.specs.Decoding.{has_types, read_slot};
 ghost use Rattle.ut_formula.specs.Meaning.{value_at as value_of};
 ghost use Rattle.ut_model.specs.Fields.{as_ref};
@@ -11,9 +11,9 @@ ghost use Rattle.ut_parts.specs.Gives.{Gives};
 ghost use Rattle.ut_value.specs.Types.{is_type};
 
 use std::alloc::Global;
-use ut_bind::{HasValues, Site};
 use ut_keeper::KeptRow;
 use ut_parts::CodecFail;
+use ut_plan::{HasValues, Site};
 use ut_stands::Layout;
 use ut_value::{FieldType, Id, Value, ValueFail, read_value};
 use ut_view::RowView;

@@ -5,8 +5,8 @@ use Rattle.std.proofs.Math.Path.{fun_ext}
 use Rattle.std.specs.Coded.{Coded-set, coded_list}
 use Rattle.sqlite.specs.Tree.{Trees}
 use Rattle.sqlite.specs.Schema.{Schema}
-use Rattle.sqlite.specs.Effect.{Database}
-use Rattle.sqlite.specs.State.{State, Opens, IsLive, HasCleanDisk}
+use Rattle.sqlite.specs.Effect.{Database, IsDatabase}
+use Rattle.sqlite.specs.State.{State, Opens, IsLive, IsUnchanged, HasCleanDisk}
 use Rattle.sqlite.specs.Start.{FindsIn}
 use Rattle.sqlite.specs.Files.{HoldsDatabase, AreFoundIn, IsEmpty, image_of, file_state}
 use Rattle.sqlite.specs.Held.{Held}
@@ -27,6 +27,24 @@ use Rattle.ut_keeper.specs.Tables.{no_rows}
 use Rattle.ut_sqlkeeper.specs.Kept.{kept_schema, no_schema, map_in, IsReady}
 use Rattle.ut_files.specs.Files.{Finds, IsOwn, Keeps, LeavesIn}
 use Rattle.ut_files.proofs.Schemas.{one_schema, none_schema, empty_schema}
+
+-- what holds of an opened connection holds of it after a statement that changed nothing
+pub opens_on : (s t : State) → IsUnchanged s t → Opens s × IsLive s → Opens t × IsLive t
+opens_on s t same (opens, live) = (
+  record {
+    is_open = same.0.is_open;
+    clean = same.0.now_is ∙ opens.clean ∙ sym same.0.committed_is;
+    autocommit = same.0.mode ∙ opens.autocommit;
+    unmarked = same.2 ∙ opens.unmarked;
+    uncounted = (same.1.changes ∙ opens.uncounted.0, same.1.last_rowid ∙ opens.uncounted.1);
+  },
+  λ shown. (subst IsDatabase (sym same.0.now_is) (live opens.is_open).0, subst IsDatabase (sym same.0.committed_is) (live opens.is_open).1),
+)
+
+pub finds_on : (image : Image) (s t : State) → IsUnchanged s t → FindsIn image s → FindsIn image t
+finds_on image s t same found =
+    let trees : t.committed.trees ≡ s.committed.trees = ap (λ (d : Database). d.trees) same.0.committed_is in
+    record { holds = λ db held. trees ∙ found.holds db held; reads = subst (λ (db : Trees). AreFoundIn image db) (sym trees) found.reads }
 
 -- a connection that was opened over a database of this program is ready
 ready : (s : State) → Opens s → IsLive s → IsOwn s.committed.trees → IsReady s

@@ -1,34 +1,64 @@
 //! A keeper over the two files of a database.
 
 ghost use Rattle.std.specs.Prelude.{IfOk, IsTrue, true, ◌≡◌};
+ghost use Rattle.sqlite.specs.Files.{file_state};
+ghost use Rattle.sqlite.specs.State.{HasCleanDisk, IsUnchanged};
 ghost use Rattle.sqlite_wal.specs.Files.{image_at};
 ghost use Rattle.ut_files.specs.Files.{Copies, Finds, LeavesIn};
 
 use crate::unopened::{Unopened, unopened_by};
-use sqlite::{Connection, FileFrom, FileStore};
+use sqlite::{Connection, Error, ErrorCode, FileFrom, FileStore};
 use sqlite_disk::{Disk, Start};
 use std::rt::HostRuntime;
 use ut_keeper::Keeper;
-use ut_sqlkeeper::{Ready, SqlKeeper};
+use ut_sqlkeeper::{
+    DatabaseFault, Ready, SqlKeeper, fault_of, has_others, make_private, missing_log, remove_log,
+};
 
 /// A keeper of the tables in a file and its log, whose contents `S` stands for.
 pub type FileKeeper<S> = SqlKeeper<Ready<FileStore<FileFrom<S>>>>;
 
-/// Opens the file at the path, which is made if it's missing, with the log beside it. No clause ties `S` to the path.
+// Takes a connection whose database has no tables but the keeper's. Any other is closed and left as it is, without the log
+// that its opening made.
+fn own<D: Disk + Drop>(
+    rt: &HostRuntime,
+    conn: Connection<FileStore<D>>,
+    log: &Option<String>,
+) -> Result<Connection<FileStore<D>>, Unopened>
+    ensures { IfOk result (λ c. HasCleanDisk (file_state c)
+        → HasCleanDisk (file_state conn) × IsUnchanged (file_state conn) (file_state c)) }
+{
+    let mut conn = conn;
+    match has_others(&mut conn) {
+        Ok(false) => Ok(conn),
+        Ok(true) => {
+            remove_log(rt, log);
+            Err(Unopened::Fault(DatabaseFault::Foreign))
+        }
+        Err(Error::SqliteFailure(ErrorCode::OutOfMemory)) => Err(Unopened::Memory),
+        Err(error) => Err(Unopened::Fault(fault_of(error))),
+    }
+}
+
+/// Opens the file at the path, with the log beside it. If it's missing, it is made, for its owner alone to read and write.
+///
+/// No clause ties `S` to the path: it stands for what the file held before, which is nothing if it is made.
 ///
 /// # Errors
 ///
-/// Why it couldn't be opened.
+/// Why it couldn't be opened. A database that has any table but the keeper's is refused, and left as it is.
 pub fn open_file<S: Start>(rt: HostRuntime, path: &str, start: S) -> Result<FileKeeper<S>, Unopened>
     ensures { IfOk result (λ k. Finds (image_at S.Start) (⟦<SqlKeeper<Ready<FileStore<FileFrom<S>>>> as Keeper>⟧.state k)) }
 {
+    let made = make_private(&rt, path);
+    let log = missing_log(&rt, path);
     match Connection::open_from(&rt, path, false, start) {
-        Ok(conn) => Ok(SqlKeeper::adopt(conn)),
+        Ok(conn) => Ok(SqlKeeper::adopt_saying(rt, own(&rt, conn, &log)?)),
         Err((error, left)) => {
             if let Some(left) = left {
                 drop(left.into_files());
             }
-            Err(unopened_by(error))
+            Err(unopened_by(&rt, path, &made, error))
         }
     }
 }

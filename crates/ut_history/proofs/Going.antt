@@ -5,7 +5,6 @@ use Rattle.std.specs.Io.KnownBytes.{Appends}
 use Rattle.ut_io.specs.Doors.{DoorState, outputs}
 use Rattle.ut_keeper.specs.State.{IsSettled, KeeperState}
 use Rattle.ut_keeper.specs.Tables.{Tables}
-use Rattle.ut_step.specs.Built.{step}
 use Rattle.ut_model.specs.World.{World}
 use Rattle.ut_value.specs.Causes.{Rose, RoseBy}
 use Rattle.ut_serving.specs.Connections.{Connection, end_of, faulted, inputs_of, outputs_of}
@@ -23,6 +22,7 @@ use Rattle.platform.specs.declared.stop.Stop.{Stop}
 use Rattle.ut_history.specs.Calls.{seen}
 use Rattle.ut_history.specs.Histories.{Breaks, BreaksAnswers, BreaksServes, Fallen, Goes, Says, SaysAnswers, SaysServes, ServedSo}
 use Rattle.ut_history.specs.Runs.{Around}
+use Rattle.ut_step.specs.Step.{step}
 
 true_isnt_false : true ≡ false → ⊥
 true_isnt_false e = absurd cc

@@ -7,7 +7,6 @@ use Rattle.ut_http.specs.declared.message.HttpMessage.{HttpMessage}
 use Rattle.ut_http.specs.Item.{whole, IsItem}
 use Rattle.ut_io.specs.Doors.{DoorState, outputs}
 use Rattle.ut_io.specs.Moments.{IsFirstMoment}
-use Rattle.ut_step.specs.Built.{step}
 use Rattle.ut_model.specs.World.{World}
 use Rattle.ut_serving.specs.Connections.{Connection, Place, AreServed, Follows, begins, end_of, exchanges_of, faulted, inputs_of, joined, outputs_of}
 use Rattle.ut_serving.specs.Exchanges.{Exchange, reply_in, stores}
@@ -21,6 +20,7 @@ use Rattle.platform.specs.Run.{IsTold, status_in}
 use Rattle.platform.specs.Serving.{IsIsolated, IsOpening, ServeEnds, answer_end}
 use Rattle.platform.specs.declared.stop.Stop.{Stop}
 use Rattle.ut_history.specs.Runs.{Around, Run}
+use Rattle.ut_step.specs.Step.{step}
 
 -- ---- a run that was whole, from the world w to `end`
 

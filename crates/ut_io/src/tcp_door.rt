@@ -5,28 +5,40 @@ ghost use Rattle.ut_value.specs.Causes.{Cause};
 ghost use Rattle.ut_io.specs.Tcp.{TcpState};
 
 use crate::door::Door;
+use crate::reply_lines::say_reply;
 use crate::schedule::one_more;
 use crate::tcp_connection::TcpConnection;
+use crate::tcp_listener::Port;
 use crate::traits::IoFail;
+use std::fs::Files;
 use std::io;
+use std::io::ErrorKind;
 use std::marker::Model;
-use std::net::{Ipv4Addr, Net, SocketAddr, TcpListener, TcpStream};
+use std::net::{Net, SocketAddr, TcpListener, TcpStream};
+use std::time::Clock;
 
 /// A door over TCP on loopback, at 127.0.0.1. It tells nothing of its connections.
 ///
-/// - `open` listens, and says so in one line on standard error, as `carmuguur: listening on 127.0.0.1:8080`.
-/// - `next` waits for a client, for ever if none comes. It never returns false.
-/// - A read fails if nothing comes for 30 seconds, and a write if nothing is taken for 30 seconds. A write that is taken
-///   in part doesn't fail, so a whole piece may take twice as long to fail. A client that falls silent holds the door no
-///   longer than that. One that sends or takes a byte now and then may.
+/// - `open` listens, and says so in one line on standard error, as `carmuguur: listening on 127.0.0.1:8080`. The system
+///   lets as many clients wait as it may.
+/// - `next` waits for a client, for ever if none comes. It never returns false. A client for which the system has no
+///   handle waits, which is said once a minute.
+/// - A client is waited for 30 seconds in all in one request, from its first byte to the end of its reply. The program's own
+///   work doesn't count. Before the first byte of a request it is waited for 5 seconds; after the first reply, while another
+///   client waits, for 100 milliseconds. Then the read or the write fails. A request is what comes between two replies.
 /// - A connection ends at the next call of `next`, or where the door is dropped: what was written is sent, and then the
-///   end. What the client still sends is read and dropped, until it ends too or nothing comes for a second. After 1,024
+///   end. What the client still sends is read and dropped, until it ends too or was waited for a second in all. After 1,024
 ///   reads of at most 4,096 bytes the connection is closed all the same.
+/// - A reply of 500, 503 or 507 is said in a line on standard error as it begins, as `carmuguur: "GET /x HTTP/1.1" 503`. A
+///   reply begins with a piece that is written behind a whole one. Of the request's first line the first 80 bytes are
+///   said, or `-` if none came since the reply before.
 #[derive(Debug, Drop)]
 pub struct TcpDoor<R> {
     rt: R,
     port: u16,
-    listener: Option<TcpListener>,
+    // Every reply is said.
+    says_all: bool,
+    listener: Option<Port>,
     // The present connection.
     connection: Option<TcpConnection>,
     faults: u64,
@@ -48,12 +60,25 @@ impl<R> Model for TcpDoor<R> {
 fn listen<R: Net<Listener = TcpListener, Stream = TcpStream> + Eprint>(
     rt: &R,
     port: u16,
-) -> io::Result<TcpListener> {
-    let listener = TcpListener::bind(rt, (Ipv4Addr::LOCALHOST, port))?;
-    let address = listener.local_addr()?;
+) -> io::Result<Port> {
+    let listener = Port::listen(rt, port)?;
+    let address = listener.address()?;
     // A client can be served without the line.
     let _ = eprintln!(rt; "carmuguur: listening on {address}");
     Ok(listener)
+}
+
+// Says why a port of loopback failed.
+fn say_failed<R: Eprint>(rt: &R, port: u16, error: &io::Error) {
+    let _ = match error.kind() {
+        ErrorKind::AddrInUse => {
+            eprintln!(rt; "carmuguur: 127.0.0.1:{port}: another program listens there")
+        }
+        ErrorKind::PermissionDenied => {
+            eprintln!(rt; "carmuguur: 127.0.0.1:{port}: no permission to listen there")
+        }
+        _ => eprintln!(rt; "carmuguur: 127.0.0.1:{port}: {error}"),
+    };
 }
 
 impl<R> TcpDoor<R> {
@@ -64,10 +89,22 @@ impl<R> TcpDoor<R> {
         TcpDoor {
             rt,
             port,
+            says_all: false,
             listener: None,
             connection: None,
             faults: 0,
             line_faults: 0,
+        }
+    }
+
+    /// The same door, which says every reply: `carmuguur: 2011-04-26T12:00:00Z "GET /x HTTP/1.1" 200 65`, with the moment at
+    /// which it begins, and its bytes.
+    pub fn saying_all(self) -> TcpDoor<R>
+        ensures { result ≡ self }
+    {
+        TcpDoor {
+            says_all: true,
+            ..self
         }
     }
 
@@ -76,31 +113,8 @@ impl<R> TcpDoor<R> {
         ensures { IsSome result → self.now.listens ≡ true }
     {
         match &self.listener {
-            Some(listener) => listener.local_addr().ok(),
+            Some(listener) => listener.address().ok(),
             None => None,
-        }
-    }
-
-    // Waits for the next connection.
-    fn accept(&self) -> Result<TcpConnection, IoFail>
-        ensures { OnOk result (self.now.listens ≡ true) }
-    {
-        match &self.listener {
-            Some(listener) => TcpConnection::accept(listener).map_err(|_| IoFail),
-            None => Err(IoFail),
-        }
-    }
-
-    // Writes a prefix of a piece to the present connection, which isn't empty where the piece isn't.
-    fn put(&self, piece: &[u8]) -> Result<usize, IoFail>
-        ensures bound { WritesAtMost result piece.now }
-        ensures progress { IfOk result (λ n. 0 < length piece.now → 0 < n) }
-        ensures unconnected { self.now.connected ≡ false → 0 < length piece.now → IsErr result }
-    {
-        match &self.connection {
-            Some(connection) => connection.write(piece),
-            None if piece.is_empty() => Ok(0),
-            None => Err(IoFail),
         }
     }
 
@@ -123,7 +137,35 @@ impl<R> TcpDoor<R> {
     }
 }
 
-impl<R: Net<Listener = TcpListener, Stream = TcpStream> + Eprint> Door for TcpDoor<R> {
+impl<R: Clock + Eprint + Files + Alloc> TcpDoor<R> {
+    /// Ends the present connection, and waits for the next one, or until the program is told to end: it returns false then.
+    pub(crate) fn next_unless_told(&mut self) -> Result<bool, IoFail>
+        ensures found { IfOk result (λ found. self.new.connected ≡ found) }
+        ensures ended { IsErr result → self.new.connected ≡ false }
+        ensures unopened { self.old.listens ≡ false → IsErr result }
+        ensures listens { self.new.listens ≡ self.old.listens }
+        ensures line_faults { self.new.line_faults ≡ self.old.line_faults }
+        ensures cause { Cause self.old.faults self.new.faults (IsErr result) }
+    {
+        self.connection = None;
+        let Some(listener) = &mut self.listener else {
+            return Err(self.fault());
+        };
+        match listener.next_unless_told(&self.rt) {
+            Ok(Some(connection)) => {
+                self.connection = Some(connection);
+                Ok(true)
+            }
+            Ok(None) => Ok(false),
+            Err(error) => {
+                say_failed(&self.rt, self.port, &error);
+                Err(self.fault())
+            }
+        }
+    }
+}
+
+impl<R: Net<Listener = TcpListener, Stream = TcpStream> + Clock + Eprint> Door for TcpDoor<R> {
     ghost held = { λ _. None };
 
     ghost faults = { λ d. d.faults };
@@ -149,7 +191,10 @@ impl<R: Net<Listener = TcpListener, Stream = TcpStream> + Eprint> Door for TcpDo
                 self.listener = Some(listener);
                 Ok(())
             }
-            Err(_) => Err(self.fault()),
+            Err(error) => {
+                say_failed(&self.rt, self.port, &error);
+                Err(self.fault())
+            }
         }
     }
 
@@ -168,12 +213,18 @@ impl<R: Net<Listener = TcpListener, Stream = TcpStream> + Eprint> Door for TcpDo
         ensures cause { Cause self.old.faults self.new.faults (IsErr result) }
     {
         self.connection = None;
-        match self.accept() {
+        let Some(listener) = &mut self.listener else {
+            return Err(self.fault());
+        };
+        match listener.next(&self.rt) {
             Ok(connection) => {
                 self.connection = Some(connection);
                 Ok(true)
             }
-            Err(IoFail) => Err(self.fault()),
+            Err(error) => {
+                say_failed(&self.rt, self.port, &error);
+                Err(self.fault())
+            }
         }
     }
 
@@ -181,7 +232,7 @@ impl<R: Net<Listener = TcpListener, Stream = TcpStream> + Eprint> Door for TcpDo
     ///
     /// # Errors
     ///
-    /// If the connection fails, or if nothing comes for 30 seconds.
+    /// If the connection fails, or if nothing comes for as long as the client is waited for.
     fn read(&mut self, into: &mut [u8]) -> Result<usize, IoFail>
         ensures bound { ReadsAtMost result into.new }
         ensures unconnected { self.old.connected ≡ false → result ≡ Ok 0 }
@@ -189,10 +240,14 @@ impl<R: Net<Listener = TcpListener, Stream = TcpStream> + Eprint> Door for TcpDo
         ensures faults { self.new.faults ≡ self.old.faults }
         ensures cause { Cause self.old.line_faults self.new.line_faults (IsErr result) }
     {
-        let Some(connection) = &self.connection else {
+        let listener = match &self.listener {
+            Some(listener) => listener.descriptor(),
+            None => -1,
+        };
+        let Some(connection) = &mut self.connection else {
             return Ok(0);
         };
-        match connection.read(into) {
+        match connection.read(&self.rt, listener, into) {
             Ok(count) => Ok(count),
             Err(_) => Err(self.line_fault()),
         }
@@ -202,7 +257,8 @@ impl<R: Net<Listener = TcpListener, Stream = TcpStream> + Eprint> Door for TcpDo
     ///
     /// # Errors
     ///
-    /// If the piece isn't empty and there is no connection or nothing is taken for 30 seconds, or if the connection fails.
+    /// If the piece isn't empty and there is no connection, or nothing is taken for as long as the client is waited for; or
+    /// if the connection fails.
     fn write(&mut self, piece: &[u8]) -> Result<usize, IoFail>
         ensures bound { WritesAtMost result piece.now }
         ensures progress { IfOk result (λ n. 0 < length piece.now → 0 < n) }
@@ -211,7 +267,16 @@ impl<R: Net<Listener = TcpListener, Stream = TcpStream> + Eprint> Door for TcpDo
         ensures faults { self.new.faults ≡ self.old.faults }
         ensures cause { Cause self.old.line_faults self.new.line_faults (IsErr result) }
     {
-        match self.put(piece) {
+        let Some(connection) = &mut self.connection else {
+            if piece.is_empty() {
+                return Ok(0);
+            }
+            return Err(self.line_fault());
+        };
+        if let Some(request) = connection.request_of(piece) {
+            say_reply(&self.rt, request, piece, self.says_all);
+        }
+        match connection.write(&self.rt, piece) {
             Ok(count) => Ok(count),
             Err(_) => Err(self.line_fault()),
         }

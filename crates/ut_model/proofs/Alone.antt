@@ -5,7 +5,7 @@ use Rattle.std.proofs.lemmas.Bool.{eqb-true}
 use Rattle.std.proofs.lemmas.Bool.Decides.{Decides-eqb}
 use Rattle.ut_model.specs.declared.reply.Reply.{Reply}
 use Rattle.ut_model.specs.Step.{Answering, org_named, step_by}
-use Rattle.ut_model.specs.Whole.{Sent, is_from, is_org, own_replies, replies_by, replies_for}
+use Rattle.ut_model.specs.Answered.{Sent, is_from, is_org, own_replies, replies_by, replies_for}
 use Rattle.ut_model.specs.World.{World, tenant_at}
 use Rattle.ut_model.proofs.Stepped.{other_stays, own_alone}
 

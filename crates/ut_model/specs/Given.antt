@@ -1,7 +1,7 @@
 -- What an edit gives to fields, and the values that it is read as.
 -- Source: Salesforce, REST API, "Create a Record" and "Insert or Update (Upsert) a Record Using an External ID", of values in JSON
 -- and of parents that are found by a unique field. What suits which type is this product's own.
-use Rattle.std.specs.Prelude.{ℕ, suc, Bool, not, ◌&&◌, if◌then◌else◌, List, [], ◌∷◌, slice_get, Option, None, Result, Ok, Err}
+use Rattle.std.specs.Prelude.{ℕ, suc, Bool, not, ◌&&◌, if◌then◌else◌, List, [], ◌∷◌, codes, slice_get, Option, None, Result, Ok, Err}
 use Rattle.std.specs.List.{find}
 use Rattle.std.specs.Option.{option_and_then}
 use Rattle.ut_json.specs.declared.tree.Json.{Json}
@@ -96,9 +96,9 @@ has_value position v r = not (is_null v) && equal (value_at r.values position) v
 unfoldable pub record_by_value : Tenant → (object position : ℕ) → Value → Option Record
 record_by_value t object position v = find (has_value position v) (records_of t object)
 
--- what no id names: it isn't null, so it isn't missing, and it is no target
+-- an id that no record has: it isn't null, so it isn't missing, and it is no target
 abbrev pub no_record : Value
-no_record = value.Ref []
+no_record = value.Ref (codes "000000000000000")
 
 -- the reference to the record that was found, if one was
 abbrev pub reference_to : Option Record → Value

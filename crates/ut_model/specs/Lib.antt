@@ -69,4 +69,4 @@ pub mod WorkedRetypes
 pub mod WorkedLimits
 pub mod WorkedForms
 pub mod WorkedRefusals
-pub mod Whole
+pub mod Answered

@@ -1,5 +1,4 @@
--- The request that a route and a body make, and what a user's message comes to in the organisation. Built has the routes that
--- are built; this is the whole.
+-- The request that a route and a body make, and what a user's message comes to in the organisation.
 -- Source of percent triplets: RFC 3986, section 2.1. That a body which isn't of its form is refused first is this product's own.
 use Rattle.std.specs.Prelude.{ℕ, not, ◌&&◌, if◌then◌else◌, List, encode_utf8_all, Option, Some, None, Result, Ok, Err}
 use Rattle.std.specs.Option.{option_map}

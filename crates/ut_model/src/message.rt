@@ -149,7 +149,6 @@ impl Refusal {
             Refusal::SecretRefused => {
                 between(alloc, SECRET_LEAST, SECRET_MOST, " letters or digits")
             }
-            Refusal::NotBuilt { what } => String::from_str(alloc, what.as_str()),
         }
     }
 }

@@ -17,7 +17,7 @@ ghost use Rattle.ut_model.specs.Sound.{IsSound};
 ghost use Rattle.ut_model.specs.Step.{Answering, Message, caller_by, in_org, org_named, query_text, refusal_reply, step_by};
 ghost use Rattle.ut_model.specs.Steps.{IsBegun, copy_steps, steps};
 ghost use Rattle.ut_model.specs.Tenant.{Job, Tenant, User};
-ghost use Rattle.ut_model.specs.Whole.{Sent, own_replies, replies_by, replies_for};
+ghost use Rattle.ut_model.specs.Answered.{Sent, own_replies, replies_by, replies_for};
 ghost use Rattle.ut_model.specs.World.{World, tenant_at, with_tenant};
 
 /// The laws of a step of the world by whatever answers a caller's message: by all routes too. The call does nothing.

@@ -3,7 +3,7 @@ use Rattle.std.proofs.Common.{◌≡◌, ℕ, zero, suc, ◌+◌, ◌<◌, ◌�
 use Rattle.std.specs.Prelude.{Result, Ok, Err}
 use Rattle.std.specs.Option.{option_and_then}
 use Rattle.std.proofs.lemmas.List.{length-map}
-use Rattle.ut_bind.specs.Given.{GivesJust}
+use Rattle.ut_plan.specs.Given.{GivesJust}
 use Rattle.ut_data.proofs.Lists.{and_right, of_each}
 use Rattle.ut_data.proofs.Standing.{found_of}
 use Rattle.ut_formula.specs.Meaning.{value_at}

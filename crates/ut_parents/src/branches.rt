@@ -1,7 +1,7 @@
 //! The records of branches.
 
 ghost use Rattle.std.specs.Prelude.{◌≡◌, ◌≤◌, ◌*◌, [], Some, length};
-ghost use Rattle.ut_bind.specs.Given.{GivesJust};
+ghost use Rattle.ut_plan.specs.Given.{GivesJust};
 ghost use Rattle.ut_formula.specs.Meaning.{value_at};
 ghost use Rattle.ut_keeper.specs.Draft.{DraftTells, tables_of};
 ghost use Rattle.ut_model.specs.declared.record.Record.{Record};
@@ -15,11 +15,11 @@ ghost use Rattle.ut_ways.specs.Branches.{branch_record, branch_records};
 use crate::parents::{id_at, id_of};
 use crate::readable::readable_by_id;
 use std::alloc::Global;
-use ut_bind::{HasValues, Site};
 use ut_keeper::{Draft, Keeper, draft_laws};
 use ut_keys::StoreFail;
 use ut_model::Record;
 use ut_parts::CodecFail;
+use ut_plan::{HasValues, Site};
 use ut_rights::Rights;
 use ut_stands::{Layout, call_laws};
 use ut_value::{Id, Items};

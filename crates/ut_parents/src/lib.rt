@@ -1,7 +1,7 @@
 //! The record to which a record refers, those that refer to it, and the parents that a row needs, as who asks may read them.
 //!
 //! It depends on `ut_data` for records, on `ut_rights` for what who asks may read, on `ut_referring` for the ids of the records that
-//! refer to one, and for branches on `ut_ways`, and on `ut_bind` for the values of a row's record. Its contract: over tables in which
+//! refer to one, and for branches on `ut_ways`, and on `ut_plan` for the values of a row's record. Its contract: over tables in which
 //! an organisation's rows stand for a tenant it finds the parent of a record, a page of its children, and the records of branches, as
 //! the user of the tenant may read them whose rights are passed.
 #![tactic(auto)]

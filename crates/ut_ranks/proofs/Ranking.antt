@@ -11,9 +11,9 @@ use Rattle.ut_value.specs.declared.value.Value.TheVariants as value
 use Rattle.ut_model.specs.Fields.{is_null}
 use Rattle.ut_model.specs.Ordered.{by_id, turned}
 use Rattle.ut_model.specs.declared.record.Record.{Record}
-use Rattle.ut_bind.specs.Checks.{spot_value}
-use Rattle.ut_bind.specs.Plans.{Far, by_keys, values_by}
-use Rattle.ut_bind.specs.declared.plan.SortKey.{SortKey}
+use Rattle.ut_plan.specs.Checks.{spot_value}
+use Rattle.ut_plan.specs.Plans.{Far, by_keys, values_by}
+use Rattle.ut_plan.specs.declared.plan.SortKey.{SortKey}
 use Rattle.ut_ranks.specs.Ranks.{part_cmp, part_in, part_of, rank_by, rank_cmp}
 use Rattle.ut_ranks.specs.declared.ranks.Part.TheVariants.{First, Up, Down, Last}
 

@@ -10,8 +10,8 @@ use Rattle.ut_value.specs.declared.value.Value.{Value}
 use Rattle.ut_value.specs.declared.value.Value.TheVariants as value
 use Rattle.ut_model.specs.Fields.{is_null}
 use Rattle.ut_model.specs.declared.record.Record.{Record}
-use Rattle.ut_bind.specs.Checks.{spot_value}
-use Rattle.ut_bind.specs.declared.plan.SortKey.{SortKey}
+use Rattle.ut_plan.specs.Checks.{spot_value}
+use Rattle.ut_plan.specs.declared.plan.SortKey.{SortKey}
 use Rattle.ut_ranks.specs.declared.ranks.Part.{Part}
 use Rattle.ut_ranks.specs.declared.ranks.Part.TheVariants.{First, Up, Down, Last}
 use Rattle.ut_ranks.specs.declared.ranks.Rank.{Rank}

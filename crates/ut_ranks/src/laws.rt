@@ -2,8 +2,8 @@
 
 ghost use Rattle.std.specs.Ordering.{ordering_then};
 ghost use Rattle.std.specs.Prelude.{◌≡◌, List};
-ghost use Rattle.ut_bind.specs.Plans.{Far, by_keys};
-ghost use Rattle.ut_bind.specs.declared.plan.SortKey.{SortKey};
+ghost use Rattle.ut_plan.specs.Plans.{Far, by_keys};
+ghost use Rattle.ut_plan.specs.declared.plan.SortKey.{SortKey};
 ghost use Rattle.ut_model.specs.Ordered.{by_id};
 ghost use Rattle.ut_model.specs.declared.record.Record.{Record};
 ghost use Rattle.ut_ranks.specs.Ranks.{rank_by, rank_cmp};

@@ -1,6 +1,6 @@
 //! What rows are ordered by, made once a row.
 //!
-//! It depends on `ut_bind` for keys and for the values of a row. Its contract: the order of two ranks, and where they tie that of the
+//! It depends on `ut_plan` for keys and for the values of a row. Its contract: the order of two ranks, and where they tie that of the
 //! ids, is the order of the rows by the keys.
 #![tactic(auto)]
 

@@ -3,15 +3,15 @@
 ghost use Rattle.std.specs.Cmp.{eq_by_cmp_equiv, partial_equiv_from_equiv, partial_order_from_agreeing_total};
 ghost use Rattle.std.specs.Ordering.{eq_by_cmp};
 ghost use Rattle.std.specs.Prelude.{◌≡◌, Some, map, refl};
-ghost use Rattle.ut_bind.specs.Given.{GivesBy, GivesJust};
+ghost use Rattle.ut_plan.specs.Given.{GivesBy, GivesJust};
 ghost use Rattle.ut_model.specs.declared.record.Record.{Record};
 ghost use Rattle.ut_ranks.specs.Ranks.{part_cmp, part_in, part_of, parts_total, rank_by, rank_cmp, rank_total, side_of};
 
 use std::alloc::Global;
 use std::cmp::Ordering;
-use ut_bind::{HasValues, SortKey, spot_value};
 use ut_model::Record;
 use ut_parts::CodecFail;
+use ut_plan::{HasValues, SortKey, spot_value};
 use ut_value::{Items, Value, order};
 
 /// What is compared of a row by one key: the nulls that come first, values that rise or fall, the nulls that come last.

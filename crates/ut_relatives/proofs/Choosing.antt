@@ -7,10 +7,10 @@ use Rattle.std.specs.declared.cmp.Ordering.{Ordering}
 use Rattle.std.specs.declared.cmp.Ordering.TheVariants.{Less, Equal, Greater}
 use Rattle.std.proofs.lemmas.List.{drop-map, take-map}
 use Rattle.std.proofs.lemmas.List.Kept.{IsStrictlySortedBy-filter}
-use Rattle.ut_bind.specs.declared.plan.ChildPlan.{ChildPlan}
-use Rattle.ut_bind.specs.declared.plan.Choice.{Choice}
-use Rattle.ut_bind.specs.declared.plan.SortKey.{SortKey}
-use Rattle.ut_bind.specs.Plans.{Far, by_keys, children_by, is_taken, parents_by, refers_by}
+use Rattle.ut_plan.specs.declared.plan.ChildPlan.{ChildPlan}
+use Rattle.ut_plan.specs.declared.plan.Choice.{Choice}
+use Rattle.ut_plan.specs.declared.plan.SortKey.{SortKey}
+use Rattle.ut_plan.specs.Plans.{Far, by_keys, children_by, is_taken, parents_by, refers_by}
 use Rattle.ut_model.specs.declared.record.Record.{Record}
 use Rattle.ut_model.specs.Levels.{can_read, readable}
 use Rattle.ut_model.specs.Objects.{records_of}

@@ -21,7 +21,7 @@ use Rattle.ut_model.specs.Objects.{is_of, object_number, object_numbered, record
 use Rattle.ut_model.specs.Sound.{IsSound}
 use Rattle.ut_model.specs.SoundRecords.{IsSoundRecord, all_valid, kinds_of}
 use Rattle.ut_model.specs.Tenant.{Field, Object, Tenant, User}
-use Rattle.ut_bind.specs.Plans.{refers_by}
+use Rattle.ut_plan.specs.Plans.{refers_by}
 use Rattle.ut_rights.specs.Rights.{Whose}
 use Rattle.ut_stands.specs.declared.layout.Layout.{Layout}
 use Rattle.ut_stands.specs.Layouts.{IsLayout, own_layouts, place_of}

@@ -5,9 +5,9 @@ use Rattle.std.specs.List.{IsDistinct, filter}
 use Rattle.std.specs.List.Sorted.{IsStrictlySortedBy}
 use Rattle.std.specs.Ordering.{eq_by_cmp}
 use Rattle.std.proofs.Math.ListN.{drop_of_length-le}
-use Rattle.ut_bind.specs.declared.plan.Child.{Child}
-use Rattle.ut_bind.specs.declared.plan.ChildPlan.{ChildPlan}
-use Rattle.ut_bind.specs.Plans.{children_by}
+use Rattle.ut_plan.specs.declared.plan.Child.{Child}
+use Rattle.ut_plan.specs.declared.plan.ChildPlan.{ChildPlan}
+use Rattle.ut_plan.specs.Plans.{children_by}
 use Rattle.ut_data.proofs.Rising.{has_filter}
 use Rattle.ut_keeper.specs.Draft.{DraftReads, DraftTells, Held, tables_of}
 use Rattle.ut_keeper.specs.State.{KeeperState}
@@ -23,7 +23,7 @@ use Rattle.ut_model.specs.Paths.{Asked}
 use Rattle.ut_model.specs.Rows.{limited}
 use Rattle.ut_model.specs.Sound.{IsSound}
 use Rattle.ut_model.specs.Tenant.{Tenant}
-use Rattle.ut_bind.specs.Plans.{refers_by}
+use Rattle.ut_plan.specs.Plans.{refers_by}
 use Rattle.ut_ranks.specs.Ranks.{rank_cmp}
 use Rattle.ut_rights.specs.Rights.{Whose}
 use Rattle.ut_stands.specs.Calls.{Calls, Ending, done}

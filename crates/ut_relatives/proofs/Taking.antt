@@ -4,9 +4,9 @@ use Rattle.std.specs.Prelude.{IsErrAnd, Result, Ok, Err, Vec}
 use Rattle.std.specs.List.{filter}
 use Rattle.std.proofs.lemmas.List.{reverse-append}
 use Rattle.std.proofs.Math.Nat.{mul-le-mul_right, suc-mul, zero-mul}
-use Rattle.ut_bind.specs.declared.plan.Choice.{Choice}
-use Rattle.ut_bind.specs.Given.{GivesJust}
-use Rattle.ut_bind.specs.Plans.{is_taken, parents_by}
+use Rattle.ut_plan.specs.declared.plan.Choice.{Choice}
+use Rattle.ut_plan.specs.Given.{GivesJust}
+use Rattle.ut_plan.specs.Plans.{is_taken, parents_by}
 use Rattle.ut_keeper.specs.Draft.{DraftReads, DraftTells, Held, tables_of}
 use Rattle.ut_keeper.specs.State.{KeeperState}
 use Rattle.ut_keeper.specs.Tables.{Tables}

@@ -4,7 +4,7 @@ use Rattle.std.specs.Prelude.{◌≡◌, ℕ, ◌+◌, ◌*◌, List, [], ◌∷
 use Rattle.ut_keeper.specs.Tables.{Tables}
 use Rattle.ut_keys.specs.declared.fail.StoreFail.{StoreFail}
 use Rattle.ut_keys.specs.declared.fail.StoreFail.TheVariants.{Damaged, Keeper, Memory}
-use Rattle.ut_bind.specs.declared.plan.ChildPlan.{ChildPlan}
+use Rattle.ut_plan.specs.declared.plan.ChildPlan.{ChildPlan}
 use Rattle.ut_model.specs.declared.record.Record.{Record}
 use Rattle.ut_model.specs.Paths.{Asked}
 use Rattle.ut_parents.specs.Parents.{readable_shown}

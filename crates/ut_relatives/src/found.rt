@@ -1,7 +1,7 @@
 //! The children of records by the child subqueries of a plan.
 
 ghost use Rattle.std.specs.Prelude.{◌≡◌, map};
-ghost use Rattle.ut_bind.specs.Plans.{children_by};
+ghost use Rattle.ut_plan.specs.Plans.{children_by};
 ghost use Rattle.ut_keeper.specs.Draft.{DraftTells, tables_of};
 ghost use Rattle.ut_relatives.specs.Children.{FindsOfTarget, subqueries_shown, subquery_shown};
 ghost use Rattle.ut_stands.specs.Calls.{Calls, ended};
@@ -10,10 +10,10 @@ use crate::children::those_referring;
 use crate::ordered::chosen_children;
 use crate::taken::taken_children;
 use std::alloc::Global;
-use ut_bind::{Child, ChildPlan};
 use ut_keeper::{Draft, Keeper, draft_laws};
 use ut_keys::StoreFail;
 use ut_model::record_laws;
+use ut_plan::{Child, ChildPlan};
 use ut_ranks::rank_laws;
 use ut_rights::Rights;
 use ut_stands::{Layout, call_laws};

@@ -10,8 +10,8 @@ ghost use Rattle.ut_exec.specs.Ranks.{ranked_cmp};
 ghost use Rattle.ut_relatives.specs.inner.Taken.{kept_of};
 
 use std::alloc::{AllocError, Global};
-use ut_bind::Child;
 use ut_exec::{Ranked, put_in_order};
+use ut_plan::Child;
 use ut_ranks::Rank;
 use ut_value::Items;
 

@@ -1,7 +1,7 @@
 //! The relatives of a row by a plan.
 
 ghost use Rattle.std.specs.Prelude.{◌≡◌, ◌*◌, [], Some, length, map};
-ghost use Rattle.ut_bind.specs.Plans.{children_by};
+ghost use Rattle.ut_plan.specs.Plans.{children_by};
 ghost use Rattle.ut_parents.specs.Parents.{readable_shown};
 ghost use Rattle.ut_relatives.specs.Children.{subqueries_shown};
 ghost use Rattle.ut_stands.specs.Layouts.{own_layouts};
@@ -9,12 +9,12 @@ ghost use Rattle.ut_ways.specs.Branches.{branch_records};
 
 use crate::found::all_children;
 use std::alloc::Global;
-use ut_bind::{Child, ChildPlan};
 use ut_exec::{Relatives, SeenRecord};
 use ut_keeper::{Draft, Keeper};
 use ut_keys::StoreFail;
 use ut_model::Record;
 use ut_parents::records_of_branches;
+use ut_plan::{Child, ChildPlan};
 use ut_rights::Rights;
 use ut_stands::Layout;
 use ut_value::Items;

@@ -1,8 +1,8 @@
 //! Records that are taken as children, with their parents and their ranks.
 
 ghost use Rattle.std.specs.Prelude.{◌≡◌, ◌++◌, ◌*◌, OnOk, Some, length};
-ghost use Rattle.ut_bind.specs.Given.{GivesJust};
-ghost use Rattle.ut_bind.specs.Plans.{parents_by};
+ghost use Rattle.ut_plan.specs.Given.{GivesJust};
+ghost use Rattle.ut_plan.specs.Plans.{parents_by};
 ghost use Rattle.ut_keeper.specs.Draft.{DraftTells, tables_of};
 ghost use Rattle.ut_parents.specs.Branches.{FindsOfRow};
 ghost use Rattle.ut_parents.specs.Parents.{readable_shown};
@@ -10,13 +10,13 @@ ghost use Rattle.ut_relatives.specs.inner.Taken.{FindsTaken, all_taken, children
 ghost use Rattle.ut_stands.specs.Calls.{Calls, ended};
 
 use std::alloc::{AllocError, Global};
-use ut_bind::{Child, Choice, check_holds};
 use ut_exec::Ranked;
 use ut_keeper::{Draft, Keeper, draft_laws};
 use ut_keys::StoreFail;
 use ut_model::Record;
 use ut_parents::records_of_branches;
 use ut_parts::CodecFail;
+use ut_plan::{Child, Choice, check_holds};
 use ut_ranks::{Rank, rank_of};
 use ut_rights::Rights;
 use ut_stands::{Layout, call_laws};

@@ -1,7 +1,7 @@
 -- What a route's request comes to for who asks.
 use Rattle.std.proofs.Common.{◌≡◌, ◌∙◌, ◌≤◌, ℕ, true, false, ◌&&◌, List, inl, inr, refl, sym, ap, subst, arith}
 use Rattle.std.specs.Prelude.{Result, Ok, Err, IfOk, not, if◌then◌else◌}
-use Rattle.ut_admin.specs.Administration.{IsEditReply}
+use Rattle.ut_admin.specs.Administration.{IsEditReply, is_edit}
 use Rattle.ut_keeper.specs.Draft.{DraftReads, Held}
 use Rattle.ut_keeper.specs.State.{KeeperState}
 use Rattle.ut_keeper.specs.Tables.{Tables}
@@ -13,7 +13,7 @@ use Rattle.ut_model.specs.declared.route.Route.{Route}
 use Rattle.ut_model.specs.declared.route.Route.TheVariants.{AddGroup, AddRole, AddUser, Create, GetRetype, Query, Upsert}
 use Rattle.ut_model.specs.declared.routed.Routed.TheVariants.{To}
 use Rattle.ut_model.specs.Paths.{Asked}
-use Rattle.ut_model.specs.RequestOf.{verdict_or}
+use Rattle.ut_model.specs.RequestOf.{request_of, verdict_at, verdict_or}
 use Rattle.ut_model.specs.Retyping.{get_retype}
 use Rattle.ut_model.specs.Routing.{is_administration}
 use Rattle.ut_model.specs.Verdict.{Verdict, refuse}
@@ -21,7 +21,6 @@ use Rattle.ut_stands.specs.Calls.{ended}
 use Rattle.ut_stands.specs.Operations.{Drafts, RepliesAt, Responds}
 use Rattle.ut_stands.specs.declared.judged.Judged.{Judged}
 use Rattle.ut_stands.specs.declared.judged.Judged.TheVariants.{Changed, Same}
-use Rattle.ut_step.specs.Built.{built_request, built_verdict, verdict_to}
 use Rattle.ut_step.specs.Own.{IsAsking, edit_shown, request_changes, request_gone}
 use Rattle.ut_rest.specs.Forms.{IsDoneReply, IsRequestReply, MayChange}
 use Rattle.ut_rest.proofs.Responses.{MostOf}
@@ -32,38 +31,37 @@ pub record IsOther (r : Route) : Type 0 where
   pub no_state : r ≡ GetRetype → ⊥
 
 module _ (r : Route) (body : List ℕ) (c : Caller) (now : ℕ) where
-  lacks : (a : Asked) → IsAsking c now a → verdict_to a body (To r) ≡ (if is_administration r && not c.admin then refuse a.tenant AdminRequired else built_verdict a r body)
-  lacks a asking = ap (λ b. if is_administration r && not b then refuse a.tenant AdminRequired else built_verdict a r body) asking.admin
+  lacks : (a : Asked) → IsAsking c now a → verdict_at a body (To r) ≡ (if is_administration r && not c.admin then refuse a.tenant AdminRequired else verdict_or a (request_of r body))
+  lacks a asking = ap (λ b. if is_administration r && not b then refuse a.tenant AdminRequired else verdict_or a (request_of r body)) asking.admin
 
   -- the caller is no administrator, and has to be one
-  pub administrator_lacks : (a : Asked) → IsAsking c now a → (is_administration r && not c.admin) ≡ true → verdict_to a body (To r) ≡ refuse a.tenant AdminRequired
-  administrator_lacks a asking e = lacks a asking ∙ ap (λ b. if b then refuse a.tenant AdminRequired else built_verdict a r body) e
+  pub administrator_lacks : (a : Asked) → IsAsking c now a → (is_administration r && not c.admin) ≡ true → verdict_at a body (To r) ≡ refuse a.tenant AdminRequired
+  administrator_lacks a asking e = lacks a asking ∙ ap (λ b. if b then refuse a.tenant AdminRequired else verdict_or a (request_of r body)) e
 
   -- the request itself
-  request_verdict : (a : Asked) → IsAsking c now a → (is_administration r && not c.admin) ≡ false → verdict_to a body (To r) ≡ built_verdict a r body
-  request_verdict a asking e = lacks a asking ∙ ap (λ b. if b then refuse a.tenant AdminRequired else built_verdict a r body) e
+  request_verdict : (a : Asked) → IsAsking c now a → (is_administration r && not c.admin) ≡ false → verdict_at a body (To r) ≡ verdict_or a (request_of r body)
+  request_verdict a asking e = lacks a asking ∙ ap (λ b. if b then refuse a.tenant AdminRequired else verdict_or a (request_of r body)) e
 
 -- one that asks how far the change of a type is
 pub state_asked : (r : Route) (body : List ℕ) (c : Caller) (now : ℕ) (a : Asked) → IsAsking c now a → r ≡ GetRetype → (is_administration r && not c.admin) ≡ false
-    → verdict_to a body (To r) ≡ get_retype a.tenant
-state_asked r body c now a asking is may = request_verdict r body c now a asking may ∙ ap (λ (x : Route). built_verdict a x body) is
+    → verdict_at a body (To r) ≡ get_retype a.tenant
+unfolding request_of
+state_asked r body c now a asking is may = request_verdict r body c now a asking may ∙ ap (λ (x : Route). verdict_or a (request_of x body)) is
 
-judged_by : (r : Route) (body : List ℕ) (a : Asked) → IsOther r → built_verdict a r body ≡ verdict_or a (built_request r body)
-judged_by (Query pairs) body a other = absurd (other.no_query pairs refl)
-judged_by GetRetype body a other = absurd (other.no_state refl)
-judged_by _ body a other = refl
-
-module _ (r : Route) (body : List ℕ) (c : Caller) (now : ℕ) (other : IsOther r) (may : (is_administration r && not c.admin) ≡ false) where
-  by_caller : (a : Asked) → IsAsking c now a → verdict_to a body (To r) ≡ verdict_or a (built_request r body)
-  by_caller a asking = request_verdict r body c now a asking may ∙ judged_by r body a other
-
+module _ (r : Route) (body : List ℕ) (c : Caller) (now : ℕ) (may : (is_administration r && not c.admin) ≡ false) where
   -- a request for an edit
   pub edited : (org : ℕ) (m after : Tables) (result : Result (Judged Reply) StoreFail)
-      → Responds org (IsAsking c now) (λ a. verdict_or a (built_request r body)) m after result → Responds org (IsAsking c now) (λ a. verdict_to a body (To r)) m after result
+      → Responds org (IsAsking c now) (λ a. verdict_or a (request_of r body)) m after result → Responds org (IsAsking c now) (λ a. verdict_at a body (To r)) m after result
   edited org m after result h = record {
     others = h.others;
-    replied = λ p a s asking. subst (λ (v : Verdict). RepliesAt org a v after result) (sym (by_caller a asking)) (h.replied p a s asking);
+    replied = λ p a s asking. subst (λ (v : Verdict). RepliesAt org a v after result) (sym (request_verdict r body c now a asking may)) (h.replied p a s asking);
   }
+
+-- it asks for an edit
+pub edit_asked : (r : Route) → IsOther r → is_edit r ≡ true
+edit_asked (Query pairs) other = absurd (other.no_query pairs refl)
+edit_asked GetRetype other = absurd (other.no_state refl)
+edit_asked _ other = refl
 
 -- ---- the form of the reply to an edit
 

@@ -10,6 +10,7 @@ ghost use Rattle.ut_keeper.specs.State.{data_table};
 ghost use Rattle.ut_model.specs.declared.refusal.Refusal.TheVariants.{InvalidType, MalformedQuery};
 ghost use Rattle.ut_model.specs.Asking.{ask};
 ghost use Rattle.ut_model.specs.Paths.{Asked};
+ghost use Rattle.ut_model.specs.RequestOf.{query_or, verdict_or};
 ghost use Rattle.ut_model.specs.Step.{query_text};
 ghost use Rattle.ut_rest.specs.inner.Callers.{IsCallerAt, IsObjectOf};
 ghost use Rattle.ut_soql_grammar.specs.Spelling.{reads_query};
@@ -17,7 +18,6 @@ ghost use Rattle.ut_stands.specs.Calls.{Calls, ended};
 ghost use Rattle.ut_stands.specs.Layouts.{own_layouts};
 ghost use Rattle.ut_stands.specs.Local.{StandsIn};
 ghost use Rattle.ut_stands.specs.Plan.{OrgPlan};
-ghost use Rattle.ut_step.specs.Built.{query_verdict};
 ghost use Rattle.ut_step.specs.Flat.{is_flat};
 ghost use Rattle.ut_step.specs.Own.{IsAsking};
 ghost use Rattle.ut_step.specs.Shown.{further_to, shown_beside};
@@ -27,13 +27,13 @@ use crate::query::query_text;
 use std::alloc::Global;
 use ut_admin::moment;
 use ut_answers::{answer_flat, answer_related, refuse};
-use ut_bind::is_flat;
 use ut_grammar::ParseFail;
 use ut_grants::{Everyone, UserRights, all_may_read, sight_of, user_rights};
 use ut_keeper::{Draft, Keeper, draft_laws};
 use ut_keys::StoreFail;
 use ut_model::{Caller, Refusal, Reply, object_laws};
 use ut_query::Query;
+use ut_query_rules::is_flat;
 use ut_rights::Administrator;
 use ut_soql::parse;
 use ut_stands::{Layout, call_laws, layout_named, layouts};
@@ -255,7 +255,7 @@ pub(crate) fn answer_query<K: Keeper>(
     requires { IsTrue (is_moment (pos now)) }
     ensures what { DraftTells K.state draft.old draft.new
         → (p : OrgPlan) (a : Asked) → StandsIn caller.now.org p (tables_of K.state draft.old) (Some a.tenant)
-        → IsAsking caller.now now a → AnswersBy a (query_verdict a (reads_query (query_text pairs.now))) result }
+        → IsAsking caller.now now a → AnswersBy a (verdict_or a (query_or (reads_query (query_text pairs.now)))) result }
     ensures form { IfOk result IsReadReply }
     ensures calls { Calls K.state (shown_beside (further_to (reads_query (query_text pairs.now))) (removals_of K.state data_table draft.old))
         (ended result) draft.old draft.new }

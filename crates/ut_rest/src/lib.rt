@@ -4,7 +4,7 @@
 //! on `ut_stands`, `ut_data` and `ut_replies` for an object's records and their rows, on `ut_admin` for administration, on
 //! `ut_retype` for how far the change of a field's type is, on `matchit` for routes with the laws of `ut_routes`, and on
 //! `form_urlencoded` for query strings. Its contract: over tables in which the organisation's rows stand for a tenant,
-//! `respond` returns the reply of the definition `verdict_to`, and in the draft's tables they then stand for what the verdict leaves. `Routes::route` returns what the definition `routed` gives for
+//! `respond` returns the reply of the definition `verdict_at`, and in the draft's tables they then stand for what the verdict leaves. `Routes::route` returns what the definition `routed` gives for
 //! the method and the characters of the target, and `query_text` the text that the definition of that name finds in a query
 //! string, or they are out of memory.
 #![tactic(auto)]

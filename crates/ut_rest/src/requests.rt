@@ -1,16 +1,15 @@
 //! What a caller's request is answered.
 
-ghost use Rattle.std.specs.Prelude.{◌≡◌, ◌&&◌, ◌+◌, IfOk, IsTrue, not, pos};
+ghost use Rattle.std.specs.Prelude.{◌≡◌, ◌&&◌, ◌+◌, IfOk, IsTrue, not, pos, true};
 ghost use Rattle.std.specs.Str.{chars};
-ghost use Rattle.ut_admin.specs.Administration.{IsEditReply};
+ghost use Rattle.ut_admin.specs.Administration.{IsEditReply, is_edit};
 ghost use Rattle.ut_keeper.specs.Draft.{DraftTells, removals_of, tables_of};
 ghost use Rattle.ut_keeper.specs.State.{data_table};
 ghost use Rattle.ut_model.specs.declared.routed.Routed.TheVariants.{To};
-ghost use Rattle.ut_model.specs.RequestOf.{verdict_or};
+ghost use Rattle.ut_model.specs.RequestOf.{request_of, verdict_at, verdict_or};
 ghost use Rattle.ut_model.specs.Routing.{is_administration, routed};
 ghost use Rattle.ut_rest.specs.Forms.{IsRequestReply};
 ghost use Rattle.ut_stands.specs.Operations.{Drafts, Responds};
-ghost use Rattle.ut_step.specs.Built.{built_request, verdict_to};
 ghost use Rattle.ut_step.specs.Own.{IsAsking, edit_shown, request_changes, request_gone};
 ghost use Rattle.ut_step.specs.Shown.{further_shown, shown_beside};
 ghost use Rattle.ut_value.specs.Dates.{is_moment};
@@ -46,9 +45,10 @@ fn answer_edit<K: Keeper>(
     route: &Route,
     body: &[u8],
 ) -> Result<Judged<Reply>, StoreFail>
-    requires { IsTrue (is_moment (pos now)) }
+    requires moment { IsTrue (is_moment (pos now)) }
+    requires asks { is_edit route.now ≡ true }
     ensures what { DraftTells K.state draft.old draft.new
-        → Responds caller.now.org (IsAsking caller.now now) (λ a. verdict_or a (built_request route.now body.now))
+        → Responds caller.now.org (IsAsking caller.now now) (λ a. verdict_or a (request_of route.now body.now))
         (tables_of K.state draft.old) (tables_of K.state draft.new) result }
     ensures form { IfOk result (IsEditReply route.now) }
     ensures drafts { Drafts K.state request_changes request_gone edit_shown result draft.old draft.new }
@@ -75,7 +75,7 @@ fn answer<K: Keeper>(
 ) -> Result<Judged<Reply>, StoreFail>
     requires { IsTrue (is_moment (pos now)) }
     ensures what { DraftTells K.state draft.old draft.new
-        → Responds caller.now.org (IsAsking caller.now now) (λ a. verdict_to a body.now (To route.now)) (tables_of K.state draft.old)
+        → Responds caller.now.org (IsAsking caller.now now) (λ a. verdict_at a body.now (To route.now)) (tables_of K.state draft.old)
         (tables_of K.state draft.new) result }
     ensures form { IfOk result (IsRequestReply (To route.now)) }
     ensures drafts { Drafts K.state request_changes request_gone (shown_beside (further_shown (To route.now)) (removals_of K.state data_table draft.old))
@@ -111,7 +111,7 @@ pub fn respond<K: Keeper>(
 ) -> Result<Judged<Reply>, StoreFail>
     requires { IsTrue (is_moment (pos now)) }
     ensures what { DraftTells K.state draft.old draft.new
-        → Responds caller.now.org (IsAsking caller.now now) (λ a. verdict_to a body.now (routed method.now (chars target.now)))
+        → Responds caller.now.org (IsAsking caller.now now) (λ a. verdict_at a body.now (routed method.now (chars target.now)))
         (tables_of K.state draft.old) (tables_of K.state draft.new) result }
     ensures form { IfOk result (IsRequestReply (routed method.now (chars target.now))) }
     ensures drafts { Drafts K.state request_changes request_gone

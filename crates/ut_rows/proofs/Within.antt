@@ -7,8 +7,8 @@ use Rattle.ut_model.specs.Cases.{in_case}
 use Rattle.ut_model.specs.RowsJson.{member_json, object_json}
 use Rattle.ut_model.specs.declared.record.Record.{Record}
 use mathlib.Core.Former.{Count}
-use Rattle.ut_bind.specs.declared.plan.Member.{Member, Parent, Parent', Row_of-Member, end_of-Member, more_of-Member, items-the_row-Member, items_hidden-the_row-Member-0}
-use Rattle.ut_bind.specs.Shown.{Shows, member_text, member_texts, type_and_address}
+use Rattle.ut_plan.specs.declared.plan.Member.{Member, Parent, Parent', Row_of-Member, end_of-Member, more_of-Member, items-the_row-Member, items_hidden-the_row-Member-0}
+use Rattle.ut_plan.specs.Shown.{Shows, member_text, member_texts, type_and_address}
 use Rattle.ut_replies.specs.Names.{name_attributes}
 use Rattle.ut_replies.specs.Rows.{behind_commas}
 use Rattle.ut_replies.proofs.Written.{after}

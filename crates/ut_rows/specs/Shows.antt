@@ -4,7 +4,7 @@ use Rattle.ut_value.specs.Printing.{is_printable}
 use Rattle.ut_value.specs.declared.value.Value.{Value}
 use Rattle.ut_value.specs.declared.value.Value.TheVariants as value
 use Rattle.ut_model.specs.RowsJson.{value_json}
-use Rattle.ut_bind.specs.Shown.{Shows}
+use Rattle.ut_plan.specs.Shown.{Shows}
 
 -- a value that can be printed, as those of sound records can
 abbrev pub or_null : Value → Value

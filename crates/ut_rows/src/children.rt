@@ -2,7 +2,7 @@
 
 ghost use Rattle.std.specs.Prelude.{◌≡◌, map};
 ghost use Rattle.std.specs.Str.{chars, encode_utf8_all};
-ghost use Rattle.ut_bind.specs.Shown.{child_text, children_at};
+ghost use Rattle.ut_plan.specs.Shown.{child_text, children_at};
 ghost use Rattle.ut_json.specs.Whole.{joined};
 ghost use Rattle.ut_model.specs.RowsJson.{children_json};
 ghost use Rattle.ut_replies.specs.Rows.{behind_commas};
@@ -11,9 +11,9 @@ ghost use Rattle.ut_rows.specs.Written.{Puts};
 
 use crate::members::write_members;
 use std::alloc::Global;
-use ut_bind::{Child, Member};
 use ut_json::Writer;
 use ut_parts::CodecFail;
+use ut_plan::{Child, Member};
 use ut_replies::{
     write_comma, write_null, write_record_start, write_row_end, write_rows_end, write_rows_start,
 };

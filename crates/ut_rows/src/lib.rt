@@ -1,6 +1,6 @@
 //! Rows of a query in JSON, by the members of a plan.
 //!
-//! It depends on `ut_bind` for what a row shows, and on `ut_replies` for the bytes. Its contract: `write_row` writes the row that
+//! It depends on `ut_plan` for what a row shows, and on `ut_replies` for the bytes. Its contract: `write_row` writes the row that
 //! `row_text` gives of a row's record, of the records of its branches and of its children, behind a comma.
 #![tactic(auto)]
 

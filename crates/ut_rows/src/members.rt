@@ -3,7 +3,7 @@
 ghost use Rattle.std.specs.Prelude.{◌≡◌, ◌∷◌, Some, map};
 ghost use Rattle.std.specs.Option.{option_copied};
 ghost use Rattle.std.specs.Str.{chars, encode_utf8_all};
-ghost use Rattle.ut_bind.specs.Shown.{member_text};
+ghost use Rattle.ut_plan.specs.Shown.{member_text};
 ghost use Rattle.ut_model.specs.RowsJson.{member_json};
 ghost use Rattle.ut_model.specs.declared.record.Record.{Record};
 ghost use Rattle.ut_replies.specs.Rows.{behind_commas};
@@ -14,10 +14,10 @@ ghost use Rattle.ut_rows.specs.inner.Members.{end_text, record_at};
 
 use crate::values::write_field;
 use std::alloc::{AllocError, Global};
-use ut_bind::{HasValues, Member};
 use ut_json::Writer;
 use ut_model::Record;
 use ut_parts::CodecFail;
+use ut_plan::{HasValues, Member};
 use ut_replies::{write_member_start, write_null, write_record_start, write_row_end};
 
 // The record of a branch, if there is one.

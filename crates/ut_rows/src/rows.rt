@@ -2,7 +2,7 @@
 
 ghost use Rattle.std.specs.Prelude.{◌≡◌, ◌∷◌, Some, map};
 ghost use Rattle.std.specs.Str.{chars, encode_utf8_all};
-ghost use Rattle.ut_bind.specs.Shown.{row_text, shown_text};
+ghost use Rattle.ut_plan.specs.Shown.{row_text, shown_text};
 ghost use Rattle.ut_model.specs.declared.record.Record.{Record};
 ghost use Rattle.ut_replies.specs.Rows.{behind_commas};
 ghost use Rattle.ut_rows.specs.Shows.{shows};
@@ -11,10 +11,10 @@ ghost use Rattle.ut_rows.specs.Written.{Puts};
 use crate::children::{children_at, write_children};
 use crate::members::write_member;
 use std::alloc::Global;
-use ut_bind::{Child, HasValues, Shown};
 use ut_json::Writer;
 use ut_model::Record;
 use ut_parts::CodecFail;
+use ut_plan::{Child, HasValues, Shown};
 use ut_replies::{write_member_start, write_row_end, write_row_start};
 use ut_value::{Id, Items};
 

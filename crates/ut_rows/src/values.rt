@@ -2,7 +2,7 @@
 
 ghost use Rattle.std.specs.Prelude.{◌≡◌, ◌∷◌, Some};
 ghost use Rattle.std.specs.Str.{chars, encode_utf8_all};
-ghost use Rattle.ut_bind.specs.Checks.{spot_value};
+ghost use Rattle.ut_plan.specs.Checks.{spot_value};
 ghost use Rattle.ut_model.specs.RowsJson.{member_json};
 ghost use Rattle.ut_model.specs.declared.record.Record.{Record};
 ghost use Rattle.ut_replies.specs.Written.{Wrote};
@@ -11,10 +11,10 @@ ghost use Rattle.ut_rows.specs.Written.{Puts};
 ghost use Rattle.ut_value.specs.Printing.{is_printable};
 
 use std::alloc::{AllocError, Global};
-use ut_bind::{HasValues, Spot, spot_value};
 use ut_json::Writer;
 use ut_model::Record;
 use ut_parts::CodecFail;
+use ut_plan::{HasValues, Spot, spot_value};
 use ut_replies::write_shown;
 use ut_value::{FieldType, Value, check_value};
 

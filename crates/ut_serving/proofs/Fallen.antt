@@ -13,7 +13,6 @@ use Rattle.ut_http.specs.declared.message.HttpMessage.{HttpMessage}
 use Rattle.ut_io.specs.Moments.{IsFirstMoment}
 use Rattle.ut_keeper.specs.State.{IsSettled, KeeperState, Steps, TrustedAfter}
 use Rattle.ut_keeper.specs.Tables.{Tables}
-use Rattle.ut_step.specs.Built.{step}
 use Rattle.ut_model.specs.World.{World}
 use Rattle.ut_stands.specs.Stands.{Stands}
 use Rattle.ut_serving.specs.declared.request.Answer.{Answer}
@@ -28,6 +27,7 @@ use Rattle.ut_serving.specs.Requests.{message_in}
 use Rattle.ut_serving.specs.Turning.{IsHere, RefusesWith, Wrote, over_if_written}
 use Rattle.ut_serving.proofs.Goes.{Goes, joined_more}
 use Rattle.ut_serving.proofs.Turned.{appends_then, item_at, nothing}
+use Rattle.ut_step.specs.Step.{step}
 
 -- a call that doesn't use the keeper
 pub not_fell : (k : KeeperState) → Fell k k → ⊥

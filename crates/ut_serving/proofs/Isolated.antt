@@ -1,13 +1,13 @@
 -- Isolation, over the exchanges of connections.
 use Rattle.std.proofs.Common.{◌≡◌, ℕ, Bool, true, false, ◌&&◌, cond, eq-eqb, List, [], ◌∷◌, ◌++◌, Option, Some, None, refl, sym, ap, subst, ◌∙◌}
 use Rattle.ut_model.specs.declared.reply.Reply.{Reply}
-use Rattle.ut_step.specs.Built.{step}
 use Rattle.ut_model.specs.Step.{Message, org_named}
 use Rattle.ut_model.specs.World.{World, tenant_at}
 use Rattle.ut_serving.specs.Exchanges.{Exchange, Outcome, done, store, memory, world_by, world_after}
 use Rattle.ut_serving.specs.Connections.{Place, begins, Follows, Connection, AreServed, exchanges_of}
 use Rattle.ut_serving.specs.Isolation.{asked_of, counts, is_done, is_org, replies_of, replies_to}
 use Rattle.std.proofs.lemmas.Bool.{eqb-true}
+use Rattle.ut_step.specs.Step.{step}
 
 -- each request met the world that the one before it left
 abbrev Chained : World → List Exchange → World → Type 0

@@ -7,6 +7,7 @@ use Rattle.std.specs.Str.{bytes_eq}
 use Rattle.ut_keeper.specs.Tables.{Tables}
 use Rattle.ut_keys.specs.declared.fail.StoreFail.{StoreFail}
 use Rattle.ut_keys.specs.declared.fail.StoreFail.TheVariants.{Damaged, Keeper, Memory}
+use Rattle.ut_model.specs.Answered.{answered}
 use Rattle.ut_model.specs.declared.caller.Caller.{Caller}
 use Rattle.ut_model.specs.declared.reply.Reply.{Reply}
 use Rattle.ut_model.specs.Callers.{Named, admitted, caller_of}
@@ -22,8 +23,8 @@ use Rattle.ut_stands.specs.Operations.{IsChange, Judges, RepliesAt, Responds}
 use Rattle.ut_stands.specs.Plan.{OrgPlan}
 use Rattle.ut_stands.specs.declared.judged.Judged.{Judged}
 use Rattle.ut_stands.specs.declared.judged.Judged.TheVariants.{Changed, Same}
-use Rattle.ut_step.specs.Built.{answered, asking}
 use Rattle.ut_step.specs.Own.{IsAsking}
+use Rattle.ut_step.specs.Step.{asking}
 use Rattle.ut_serving.specs.Own.{JudgesBy, JudgesCaller, JudgesNamed, JudgesUnnamed, bytes_of, own_does}
 use Rattle.ut_serving.specs.Requests.{in_bytes}
 use Rattle.ut_serving.specs.inner.Steps.{IsInForm, JudgesRequest, request_does, verdict_of}

@@ -3,13 +3,13 @@ use Rattle.std.proofs.Common.{◌≡◌, ◌⊎◌, inl, inr, ℕ, Bool, true, f
 use Rattle.ut_keeper.specs.State.{KeeperState, LeavesNoMore, Shows, Steps, Tells}
 use Rattle.ut_keeper.specs.Tables.{Tables}
 use Rattle.ut_keys.specs.declared.fail.StoreFail.{StoreFail}
-use Rattle.ut_step.specs.Built.{step}
 use Rattle.ut_model.specs.Step.{Message}
 use Rattle.ut_model.specs.World.{World}
 use Rattle.ut_stands.specs.Operations.{Does}
 use Rattle.ut_stands.specs.Stands.{Stands}
 use Rattle.ut_serving.specs.Leads.{IsReached, Leads, LeadsFrom, StandsReached, led_to}
 use Rattle.ut_serving.specs.Requests.{does}
+use Rattle.ut_step.specs.Step.{step}
 
 led_more : (w : World) (ps qs : List (Message × ℕ)) → led_to (led_to w ps) qs ≡ led_to w (ps ++ qs)
 led_more w [] qs = refl

@@ -7,12 +7,14 @@ use Rattle.ut_keeper.specs.Draft.{DraftReads, DraftWorks, Held, count_of, remova
 use Rattle.ut_keeper.specs.State.{KeeperState, data_table}
 use Rattle.ut_keeper.specs.Tables.{Tables}
 use Rattle.ut_keys.specs.declared.fail.StoreFail.{StoreFail}
+use Rattle.ut_model.specs.Answered.{answered}
 use Rattle.ut_model.specs.declared.caller.Caller.{Caller}
 use Rattle.ut_model.specs.declared.refusal.Refusal.TheVariants.{InvalidSession}
 use Rattle.ut_model.specs.declared.reply.Reply.{Reply}
 use Rattle.ut_model.specs.Cases.{in_case}
 use Rattle.ut_model.specs.Jobs.{job_step}
 use Rattle.ut_model.specs.Replies.{reply_of}
+use Rattle.ut_model.specs.RequestOf.{answer_to}
 use Rattle.ut_model.specs.Step.{Message, refused}
 use Rattle.ut_model.specs.Tenant.{Tenant, User}
 use Rattle.ut_model.specs.World.{user_at}
@@ -22,9 +24,9 @@ use Rattle.ut_stands.specs.Operations.{Drafts, IsChange, IsSame, Judges}
 use Rattle.ut_stands.specs.Plan.{OrgPlan}
 use Rattle.ut_stands.specs.declared.judged.Judged.{Judged}
 use Rattle.ut_stands.specs.declared.judged.Judged.TheVariants.{Changed, Same}
-use Rattle.ut_step.specs.Built.{answer_built, answered, asking}
 use Rattle.ut_step.specs.Own.{IsAsking, request_changes, request_gone}
 use Rattle.ut_step.specs.Shown.{shown_beside}
+use Rattle.ut_step.specs.Step.{asking}
 use Rattle.ut_serving.specs.Own.{IsJudged, IsSmall, JudgesCaller, JudgesReply, after_step, bytes_of, message_changes, message_further, message_shown_beside}
 use Rattle.ut_serving.specs.Requests.{in_bytes}
 use Rattle.ut_serving.specs.inner.Steps.{IsInForm, JudgesRequest, request_does, verdict_of}
@@ -43,7 +45,7 @@ module _ (users_kept : (t : Tenant) → (job_step t).users ≡ t.users) (c : Cal
   -- what answers the caller is what answers the user after the step
   answered_is : (t : Tenant) (u : User) → IsAsking c now (asking t now u)
       → answered c m now t ≡ (reply_of (asking (job_step t) now u) (verdict_of m (asking (job_step t) now u)).answer, (verdict_of m (asking (job_step t) now u)).tenant)
-  answered_is t u h = ap (λ o. in_case o (refused InvalidSession t) (λ v. answer_built (asking t now v) m)) h.user
+  answered_is t u h = ap (λ o. in_case o (refused InvalidSession t) (λ v. answer_to (asking t now v) m)) h.user
 
   -- a caller's message as an operation
   abbrev does_to : Tenant → Option Tenant → List ℕ × Option Tenant

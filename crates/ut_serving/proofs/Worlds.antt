@@ -5,6 +5,7 @@ use Rattle.std.specs.Prelude.{nat_lt}
 use Rattle.ut_keeper.specs.State.{KeeperState, Tells}
 use Rattle.ut_keeper.specs.Tables.{Tables}
 use Rattle.ut_keys.specs.declared.fail.StoreFail.{StoreFail}
+use Rattle.ut_model.specs.Answered.{answered}
 use Rattle.ut_model.specs.declared.refusal.Refusal.TheVariants.{InvalidSession}
 use Rattle.ut_model.specs.declared.reply.Reply.{Reply}
 use Rattle.ut_model.specs.Callers.{Named}
@@ -15,8 +16,8 @@ use Rattle.ut_stands.specs.Local.{KeepsOthers, StandsFor, StandsIn}
 use Rattle.ut_stands.specs.Operations.{Does, DoesIn}
 use Rattle.ut_stands.specs.Plan.{OrgPlan, Plan, with_plan}
 use Rattle.ut_stands.specs.Stands.{Stands, StandsBy}
-use Rattle.ut_step.specs.Built.{answered, step}
 use Rattle.ut_step.specs.Own.{own_step}
+use Rattle.ut_step.specs.Step.{step}
 use Rattle.ut_serving.specs.Own.{DoesBy, DoesUnnamed, bytes_of, own_does, unnamed_bytes}
 use Rattle.ut_serving.specs.Requests.{does}
 

@@ -3,10 +3,10 @@ use Rattle.std.specs.Prelude.{ℕ, ◌+◌, ◌≤◌, Bool, IsTrue, List, [], �
 use Rattle.ut_value.specs.Causes.{up_to_last}
 use Rattle.ut_http.specs.Reply.{reply_to, store_failed, no_memory}
 use Rattle.ut_keeper.specs.State.{KeeperState}
-use Rattle.ut_step.specs.Built.{step}
 use Rattle.ut_model.specs.Step.{Message}
 use Rattle.ut_model.specs.World.{World}
 use Rattle.ut_stands.specs.Stands.{Stands}
+use Rattle.ut_step.specs.Step.{step}
 
 -- how a request comes out
 pub data Outcome : Type 0 where

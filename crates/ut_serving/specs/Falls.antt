@@ -13,7 +13,6 @@ use Rattle.ut_io.specs.Streams.{AppendsFront}
 use Rattle.ut_keeper.specs.State.{KeeperState}
 use Rattle.ut_keeper.specs.Tables.{Tables}
 use Rattle.ut_model.specs.Bodies.{damaged_body}
-use Rattle.ut_step.specs.Built.{step}
 use Rattle.ut_model.specs.Step.{Message}
 use Rattle.ut_model.specs.World.{World}
 use Rattle.ut_stands.specs.Stands.{Stands}
@@ -23,6 +22,7 @@ use Rattle.ut_serving.specs.Requests.{message_in}
 use Rattle.ut_serving.specs.Turning.{Wrote}
 use Rattle.ut_serving.specs.declared.wire.LineFail.{LineFail}
 use Rattle.ut_serving.specs.declared.wire.LineFail.TheVariants.{Read, Write}
+use Rattle.ut_step.specs.Step.{step}
 
 -- it told its tables and was trusted, and is trusted no more, though nothing that it told was wrong
 abbrev pub Fell : KeeperState → KeeperState → Type 0

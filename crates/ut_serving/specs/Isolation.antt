@@ -1,10 +1,10 @@
 -- Isolation: the replies to one organisation's requests, whatever others ask and whatever they hold.
 use Rattle.std.specs.Prelude.{ℕ, Bool, true, false, ◌&&◌, ◌==◌, if◌then◌else◌, List, [], ◌∷◌, Option, Some, None}
 use Rattle.ut_model.specs.declared.reply.Reply.{Reply}
-use Rattle.ut_step.specs.Built.{step}
 use Rattle.ut_model.specs.Step.{Message, org_named}
 use Rattle.ut_model.specs.World.{World}
 use Rattle.ut_serving.specs.Exchanges.{Exchange, Outcome, done, store, memory}
+use Rattle.ut_step.specs.Step.{step}
 
 abbrev pub is_done : Outcome → Bool
 is_done done = true

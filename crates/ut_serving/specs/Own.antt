@@ -7,6 +7,7 @@ use Rattle.ut_keeper.specs.State.{KeeperCause, KeeperState, LeavesNoMore, Quiet,
 use Rattle.ut_keeper.specs.Tables.{Tables}
 use Rattle.ut_keys.specs.declared.fail.StoreFail.{StoreFail}
 use Rattle.ut_keys.specs.declared.fail.StoreFail.TheVariants.{Damaged, Keeper, Memory}
+use Rattle.ut_model.specs.Answered.{answered}
 use Rattle.ut_model.specs.declared.caller.Caller.{Caller}
 use Rattle.ut_model.specs.declared.refusal.Refusal.TheVariants as refusal
 use Rattle.ut_model.specs.declared.reply.Reply.{Reply}
@@ -21,9 +22,9 @@ use Rattle.ut_stands.specs.declared.judged.Judged.TheVariants.{Changed, Same}
 use Rattle.ut_stands.specs.Local.{KeepsOthers, StandsFor, StandsIn}
 use Rattle.ut_stands.specs.Operations.{DoesIn, IsChange, Judges}
 use Rattle.ut_stands.specs.Plan.{OrgPlan}
-use Rattle.ut_step.specs.Built.{answered, asking}
 use Rattle.ut_step.specs.Own.{IsAsking, own_step, request_changes}
 use Rattle.ut_step.specs.Shown.{further_shown, request_shown, shown_beside}
+use Rattle.ut_step.specs.Step.{asking}
 use Rattle.ut_serving.specs.Requests.{in_bytes, message_in}
 
 -- the bytes of a reply to a message

@@ -12,7 +12,7 @@ use Rattle.ut_model.specs.RequestOf.{answer_to}
 use Rattle.ut_model.specs.Sound.{IsSound, IsWorld}
 use Rattle.ut_model.specs.Step.{Message, answer_in, if_called, in_key, in_tenant, key_in, refused, step_by}
 use Rattle.ut_model.specs.Tenant.{Tenant, User}
-use Rattle.ut_model.specs.Whole.{answered_whole}
+use Rattle.ut_model.specs.Answered.{answered}
 use Rattle.ut_model.specs.World.{World, having_id, tenant_at, user_at, user_id, with_tenant}
 use Rattle.ut_value.specs.Dates.{is_moment}
 use Rattle.ut_sound.specs.Fit.{IsCaller}
@@ -51,7 +51,7 @@ tenant_sound w zero t all e = absurd cc
 tenant_sound w (suc n) t all e = all_at IsSound t w all (at_has n w t e)
 
 pub world_sound : ((a : _) (m : Message) → IsCaller a → IsSound a.tenant → IsSound (answer_to a m).1)
-    → (w : World) (m : Message) (now : ℕ) → is_moment (pos now) ≡ true → IsWorld w → IsWorld (step_by answered_whole w m now).1
+    → (w : World) (m : Message) (now : ℕ) → is_moment (pos now) ≡ true → IsWorld w → IsWorld (step_by answered w m now).1
 world_sound law w m now moment s = by (key_in m)
   where
     user : (t : Tenant) → IsSound t → (c : Caller) (o : Option User) → user_at t.users c.user ≡ o
@@ -59,19 +59,19 @@ world_sound law w m now moment s = by (key_in m)
     user t h c None e = h
     user t h c (Some u) e = law (record { tenant = t; user = u; now = pos now }) m (found_self t.users c.user u e, moment) h
 
-    called : (t : Tenant) → IsSound t → (c : Option Caller) → IsSound (if_called answered_whole m now c t).1
+    called : (t : Tenant) → IsSound t → (c : Option Caller) → IsSound (if_called answered m now c t).1
     called t h None = h
     called t h (Some c) = user t h c (user_at t.users c.user) refl
 
-    here : (n : Named) (o : Option Tenant) → tenant_at w n.org ≡ o → IsWorld (in_tenant w n.org (answer_in answered_whole n m now) o).1
+    here : (n : Named) (o : Option Tenant) → tenant_at w n.org ≡ o → IsWorld (in_tenant w n.org (answer_in answered n m now) o).1
     here n None e = s
     here n (Some t) e =
-        let after = (answer_in answered_whole n m now t).1 in
+        let after = (answer_in answered n m now t).1 in
         record {
           few = subst (λ (k : ℕ). k ≤ limit_number limit.Organisations) (sym (put_length w n.org after)) s.few;
           tenants = put_sound w n.org after s.tenants (called t (tenant_sound w n.org t s.tenants e) (caller_of n t));
         }
 
-    by : (n : Option Named) → IsWorld (in_key answered_whole w m now n).1
+    by : (n : Option Named) → IsWorld (in_key answered w m now n).1
     by None = s
     by (Some n) = here n (tenant_at w n.org) refl

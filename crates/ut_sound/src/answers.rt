@@ -6,7 +6,7 @@ ghost use Rattle.ut_model.specs.Paths.{Asked};
 ghost use Rattle.ut_model.specs.RequestOf.{answer_to};
 ghost use Rattle.ut_model.specs.Sound.{IsSound, IsWorld};
 ghost use Rattle.ut_model.specs.Step.{Message, step_by};
-ghost use Rattle.ut_model.specs.Whole.{answered_whole};
+ghost use Rattle.ut_model.specs.Answered.{answered};
 ghost use Rattle.ut_model.specs.World.{World};
 ghost use Rattle.ut_sound.specs.Fit.{IsCaller};
 
@@ -27,7 +27,7 @@ pub fn answers_sound()
 /// What a step of the world leaves of sound organisations is sound, at a moment of the calendar. The call does nothing.
 pub fn world_sound()
     ensures step { (w : World) (m : Message) (now : ℕ) → IsTrue (is_moment (pos now))
-        → IsWorld w → IsWorld (step_by answered_whole w m now).1 }
+        → IsWorld w → IsWorld (step_by answered w m now).1 }
 {
     answers_sound();
 }

@@ -1,5 +1,5 @@
 -- What reading one row answers, and what it leaves.
-use Rattle.std.proofs.Common.{◌≡◌, ◌⊎◌, inl, inr, ℕ, List, [], ◌∷◌, false, Option, Some, None, slice_get, codes, Result, Ok, Err, IfOk, IfErr, OnOk, IsTrue, is_ok, true≢false, refl, sym, ap, subst, ◌∙◌}
+use Rattle.std.proofs.Common.{◌≡◌, ◌⊎◌, inl, inr, ℕ, List, [], ◌∷◌, false, Option, Some, None, slice_get, codes, Result, Ok, Err, IfOk, IfErr, OnOk, IsTrue, is_ok, true≢false, refl, sym, ap, subst, ◌∙◌, arith}
 use Rattle.sqlite.specs.declared.error.Error.{Error}
 use Rattle.sqlite.specs.Order.{Row, column, bytes}
 use Rattle.sqlite.specs.Tree.{Trees}
@@ -12,7 +12,7 @@ use Rattle.sqlite_schema.specs.declared.schema.Schema.{Schema}
 use Rattle.sqlite_schema.specs.declared.command.Returning.{Returning}
 use Rattle.sqlite_schema.specs.Rules.{Obeys}
 use Rattle.sqlite.specs.Listing.{understood, listing_schema}
-use Rattle.sqlite.specs.State.{State, IsUnchanged, IsRolledBack, Survives, Shown, FailsToQuery, FailsToShow, IsNotRun, RunsCommand, ShowsRows, IsStatement}
+use Rattle.sqlite.specs.State.{State, IsUnchanged, IsRolledBack, HasCleanDisk, Survives, Shown, FailsToQuery, FailsToShow, IsNotRun, RunsCommand, ShowsRows, IsStatement}
 use Rattle.sqlite.specs.Clock.{timed}
 use Rattle.sqlite_resolve.specs.declared.compiled.Compiled.{Compiled}
 use Rattle.sqlite.proofs.Callers.{reads_as}
@@ -138,6 +138,10 @@ module _ {A : Type 0} (rows_of : A → List Row) (sql : List ℕ) (params : Row)
   query_trusted (Ok x) ok = (shown_open sql params old new (rows_of x) ok).1
   query_trusted (Err e) ok = tt
 
+  pub query_unchanged : (r : Result A Error) → IsBare (first sql) → IfOk r (λ x. Shown sql params old new (rows_of x)) → OnOk r (IsUnchanged old new)
+  query_unchanged (Ok x) plain ok = shown_same sql params old new (rows_of x) plain ok
+  query_unchanged (Err e) plain ok = tt
+
 -- of a statement that is only compiled
 module _ {A : Type 0} (text_of : A → List ℕ) (sql : List ℕ) (old new : State) where
   pub prepare_harmless : (r : Result A Error) → IfOk r (λ s. (text_of s ≡ sql) × IsUnchanged old new) → IfErr r (λ e. (params : Row) → IsNotRun old new sql params e) → IsHarmless old new
@@ -177,3 +181,6 @@ stays_map old new stays it shown = let k = stays it shown in (k.0, ap (λ (d : D
 
 pub keeps : (old new : State) (P : Trees → Type 0) → Survives old new P → Keeps old new
 keeps old new P s = record { clean = s.clean }
+
+pub was_clean : (old new : State) (P : Trees → Type 0) → Survives old new P → HasCleanDisk new → HasCleanDisk old
+was_clean old new P it clean = omega (arith, it.clean, clean)

@@ -13,7 +13,7 @@ use Rattle.sqlite.specs.Listing.{understood, reads_listing, if_select, is_select
 use Rattle.sqlite.specs.Order.{Row}
 use Rattle.sqlite.specs.State.{State, Survives, CommitsShowing}
 use Rattle.sqlite.proofs.StateLemmas.{survives_weaker}
-use Rattle.ut_sqlkeeper.specs.Kept.{get_text, scan_text}
+use Rattle.ut_sqlkeeper.specs.Kept.{get_text, scan_text, others_text}
 
 -- the text, if it is one, has no RETURNING
 abbrev pub IsBare : Checked Parsed → Type 0
@@ -27,6 +27,10 @@ get_bare schema base = refl
 pub scan_bare : IsBare (first scan_text)
 unfolding everything
 scan_bare schema base = refl
+
+pub others_bare : IsBare (first others_text)
+unfolding everything
+others_bare schema base = refl
 
 then_ok : {A B : Type 0} (x : Checked A) (f : A → Checked B) (b : B) → and_then x f ≡ Ok b → (a : A) × (x ≡ Ok a) × (f a ≡ Ok b)
 then_ok (Ok a) f b is = (a, refl, is)

@@ -41,6 +41,10 @@ put_text = codes "INSERT INTO kept (t, k, r) VALUES (?1, ?2, ?3) ON CONFLICT (t,
 abbrev pub remove_text : List ℕ
 remove_text = codes "DELETE FROM kept WHERE t = ?1 AND k = ?2"
 
+-- the name of one object that isn't of the table
+abbrev pub others_text : List ℕ
+others_text = codes "SELECT name FROM sqlite_schema WHERE tbl_name <> 'kept' LIMIT 1"
+
 -- the table that `create_text` defines
 abbrev pub kept : Table
 kept = record {

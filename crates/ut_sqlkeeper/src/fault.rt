@@ -7,14 +7,14 @@ ghost use Rattle.ut_value.specs.Causes.{up_to_last, Rose};
 
 use sqlite::{Error, ErrorCode};
 use std::fmt;
+use std::rt::HostRuntime;
 use ut_keeper::KeepFail;
 
 /// Why a database refused a call, for a user to read.
 #[derive(Clone, Copy, Debug, PartialEq, Eq)]
 pub enum DatabaseFault {
-    /// The path can't be opened for reading and writing: its folder is missing or may not be written, the file may not be
-    /// read or written, it has a second name, it's a folder or a device, a rollback journal is beside it, or the path is
-    /// empty, `:memory:` or a URI. It is `ErrorCode::CannotOpen`.
+    /// The path can't be opened for reading and writing: for one of the causes below that have names, or since a rollback
+    /// journal is beside it, or the path is empty, `:memory:` or a URI. It is `ErrorCode::CannotOpen`.
     CannotOpen,
     /// Another program, or another keeper of this one, has the file open: `ErrorCode::DatabaseBusy`.
     Busy,
@@ -31,6 +31,18 @@ pub enum DatabaseFault {
     Unknown,
     /// The keeper isn't opened.
     NotOpened,
+    /// The database has tables that aren't this program's: `ErrorCode::NameTaken`.
+    Foreign,
+    /// The path leads through something that isn't there or is no folder.
+    NoFolder,
+    /// The path is a folder or a device, and no file.
+    NotAFile,
+    /// The path is a link that leads nowhere.
+    DeadLink,
+    /// The file has a second name.
+    SecondName,
+    /// The file, or its folder, may not be read and written.
+    NotPermitted,
     /// Anything else, such as a database with a table `kept` of another form.
     Other,
 }
@@ -46,7 +58,18 @@ impl fmt::Display for DatabaseFault {
             DatabaseFault::Closed => "an earlier fault has closed the database",
             DatabaseFault::Unknown => "out of memory, and the database may be closed",
             DatabaseFault::NotOpened => "the database isn't opened",
-            DatabaseFault::Other => "the database has other tables than this program's",
+            DatabaseFault::Foreign => {
+                "the database has other tables than this program's, and is left as it is"
+            }
+            DatabaseFault::NoFolder => "there is no such folder to make the file in",
+            DatabaseFault::NotAFile => "it is a folder or a device, and no file",
+            DatabaseFault::DeadLink => "it is a link that leads nowhere",
+            DatabaseFault::SecondName => "the file has a second name, a hard link",
+            DatabaseFault::NotPermitted => {
+                "no permission to read and write the file and to make files in its folder"
+            }
+            DatabaseFault::Other =>
+                "the table in the database has another form than this program's",
         })
     }
 }
@@ -65,6 +88,7 @@ pub fn fault_of(error: Error) -> DatabaseFault {
         Error::SqliteFailure(ErrorCode::SystemIoFailure) => DatabaseFault::Disk,
         Error::SqliteFailure(ErrorCode::Closed) => DatabaseFault::Closed,
         Error::SqliteFailure(ErrorCode::OutOfMemory) => DatabaseFault::Unknown,
+        Error::SqliteFailure(ErrorCode::NameTaken) => DatabaseFault::Foreign,
         _ => DatabaseFault::Other,
     }
 }
@@ -78,10 +102,12 @@ pub(crate) fn is_out_of_memory(error: &Error) -> bool
 }
 
 /// The calls that a keeper counted as failed: how many, and why the last one was. The count saturates.
-#[derive(Clone, Copy, Debug)]
+#[derive(Clone, Copy)]
 pub(crate) struct Refusals {
     count: u64,
     last: Option<DatabaseFault>,
+    // Where each fault is said as it is counted, if it is.
+    voice: Option<HostRuntime>,
 }
 
 impl Refusals {
@@ -93,6 +119,19 @@ impl Refusals {
         Refusals {
             count: 0,
             last: None,
+            voice: None,
+        }
+    }
+
+    /// No call failed. The fault of each that fails is said in a line on standard error.
+    pub(crate) fn saying(rt: HostRuntime) -> Refusals
+        ensures count { result.count ≡ 0 }
+        ensures last { result.last ≡ None }
+    {
+        Refusals {
+            count: 0,
+            last: None,
+            voice: Some(rt),
         }
     }
 
@@ -104,6 +143,9 @@ impl Refusals {
     {
         self.count = self.count.saturating_add(1);
         self.last = Some(fault);
+        if let Some(rt) = &self.voice {
+            let _ = eprintln!(rt; "carmuguur: the store: {fault}");
+        }
     }
 
     /// Counts a call that an error ended, unless it is out of memory.

@@ -9,6 +9,7 @@ use crate::fault::{DatabaseFault, Refusals};
 use crate::opener::{Opener, Ready};
 use sqlite::{Alter, Connection};
 use std::alloc::Global;
+use std::rt::HostRuntime;
 use ut_keeper::{Batch, KeepFail, Keeper, KeptRow};
 use ut_value::Bytes;
 
@@ -73,6 +74,23 @@ impl<S: Alter + Drop> SqlKeeper<Ready<S>> {
         SqlKeeper {
             opener: Ready::new(),
             connected: Some(Connected::resume(conn, Refusals::none())),
+            refusals: Refusals::none(),
+        }
+    }
+}
+
+impl<S: Alter + Drop> SqlKeeper<Ready<S>> {
+    /// As `adopt`. The keeper also says the fault of each call that fails in a line on standard error, as
+    /// `carmuguur: the store: the disk is full`.
+    pub fn adopt_saying(rt: HostRuntime, conn: Connection<S>) -> SqlKeeper<Ready<S>>
+        ensures over { IsOver S.Store conn (⟦<SqlKeeper<Ready<S>> as Keeper>⟧.state result) }
+        ensures faults { (⟦<SqlKeeper<Ready<S>> as Keeper>⟧.state result).faults ≡ 0 }
+        ensures shown { (table : ℕ) → (⟦<SqlKeeper<Ready<S>> as Keeper>⟧.state result).shown table ≡ 0 }
+        ensures written { (⟦<SqlKeeper<Ready<S>> as Keeper>⟧.state result).written ≡ 0 }
+    {
+        SqlKeeper {
+            opener: Ready::new(),
+            connected: Some(Connected::resume(conn, Refusals::saying(rt))),
             refusals: Refusals::none(),
         }
     }

@@ -20,6 +20,7 @@
 //! ```
 #![tactic(auto)]
 
+mod beside;
 mod connected;
 mod fault;
 mod keeper;
@@ -27,7 +28,9 @@ mod opener;
 mod refusing;
 mod statements;
 
+pub use crate::beside::{make_private, missing_log, remove_log};
 pub use crate::connected::Connected;
 pub use crate::fault::{DatabaseFault, fault_of};
 pub use crate::keeper::SqlKeeper;
 pub use crate::opener::{InMemory, OnPath, Opener, Ready};
+pub use crate::statements::has_others;

@@ -5,6 +5,8 @@ ghost use Rattle.sqlite.specs.State.{HasCleanDisk};
 ghost use Rattle.sqlite.specs.Held.{state};
 ghost use Rattle.ut_sqlkeeper.specs.Kept.{IsBlank};
 
+use crate::beside::{make_private, missing_log, remove_log};
+use crate::statements::has_others;
 use sqlite::{Alter, Connection, Error, ErrorCode, File, FileStore, MemStore};
 use std::alloc::Global;
 use std::marker::PhantomData;
@@ -47,9 +49,10 @@ impl Opener for InMemory {
     }
 }
 
-/// The database in the file at a path, which is made if it's missing.
+/// The database in the file at a path, which is made if it's missing, for its owner alone to read and write.
 ///
-/// What the file holds isn't told. Beside the file is its log, named with `-wal` at the end: keep the two together.
+/// What the file holds isn't told. A database that has any table but `kept` is refused, and left as it is. Beside the file
+/// is its log, named with `-wal` at the end: keep the two together.
 #[derive(Drop)]
 pub struct OnPath {
     rt: HostRuntime,
@@ -69,7 +72,17 @@ impl Opener for OnPath {
     ghost tells = { λ _. ⊥ };
 
     fn connect(&mut self, _alloc: Global) -> Result<Connection<FileStore<File>>, Error> {
-        Connection::open(&self.rt, self.path.as_str())
+        let _made = make_private(&self.rt, self.path.as_str());
+        let log = missing_log(&self.rt, self.path.as_str());
+        let mut conn = Connection::open(&self.rt, self.path.as_str())?;
+        match has_others(&mut conn) {
+            Ok(false) => Ok(conn),
+            Ok(true) => {
+                remove_log(&self.rt, &log);
+                Err(Error::SqliteFailure(ErrorCode::NameTaken))
+            }
+            Err(error) => Err(error),
+        }
     }
 }
 

@@ -204,6 +204,29 @@ fn make_changes<S: Alter>(conn: &mut Connection<S>, changes: &[Change]) -> Resul
     Ok(true)
 }
 
+// The name of an object that isn't of the table `kept`, if there is one: at most one row.
+fn other_names<S: Alter>(conn: &mut Connection<S>) -> Result<Vec<Row>, Error>
+    ensures unchanged { HasCleanDisk (state S.Store conn.new)
+        → OnOk result (IsUnchanged (state S.Store conn.old) (state S.Store conn.new)) }
+    ensures clean { HasCleanDisk (state S.Store conn.new) → HasCleanDisk (state S.Store conn.old) }
+{
+    conn.query_all(
+        "SELECT name FROM sqlite_schema WHERE tbl_name <> 'kept' LIMIT 1",
+        &[],
+    )
+}
+
+/// Whether the database has an object that isn't of the table `kept`, such as another table. It is `Ok` only if the
+/// connection is open, and nothing has changed then.
+pub fn has_others<S: Alter>(conn: &mut Connection<S>) -> Result<bool, Error>
+    ensures unchanged { HasCleanDisk (state S.Store conn.new)
+        → OnOk result (IsUnchanged (state S.Store conn.old) (state S.Store conn.new)) }
+    ensures clean { HasCleanDisk (state S.Store conn.new) → HasCleanDisk (state S.Store conn.old) }
+{
+    let others = other_names(conn)?;
+    Ok(!others.is_empty())
+}
+
 /// Finds whether the connection is open: `Ok` comes only if it is.
 pub(crate) fn check_open<S: Alter>(conn: &mut Connection<S>) -> Result<Statement, Error>
     ensures stays { HasCleanDisk (state S.Store conn.new)

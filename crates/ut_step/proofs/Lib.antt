@@ -1,3 +1,1 @@
 mod Answered
-mod BuiltRequests
-mod Same

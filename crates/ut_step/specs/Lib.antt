@@ -1,6 +1,5 @@
 pub mod Flat
-pub mod Built
-pub mod Whole
+pub mod Step
 pub mod Worked
 pub mod Own
 pub mod Shown

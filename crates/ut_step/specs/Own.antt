@@ -3,13 +3,13 @@ use Rattle.std.specs.Prelude.{◌≡◌, ℕ, ◌+◌, pos, Option, Some, None}
 use Rattle.ut_model.specs.declared.caller.Caller.{Caller}
 use Rattle.ut_model.specs.declared.refusal.Refusal.TheVariants as refusal
 use Rattle.ut_model.specs.declared.reply.Reply.{Reply}
+use Rattle.ut_model.specs.Answered.{answered}
 use Rattle.ut_model.specs.Callers.{Named}
 use Rattle.ut_model.specs.Limits.{deletion_limit}
 use Rattle.ut_model.specs.Paths.{Asked}
 use Rattle.ut_model.specs.Step.{Message, answer_in, refusal_reply}
 use Rattle.ut_model.specs.Tenant.{Tenant}
 use Rattle.ut_model.specs.World.{user_at}
-use Rattle.ut_step.specs.Built.{answered}
 
 -- the caller is the one who asks, at this moment
 pub record IsAsking (c : Caller) (moment : ℕ) (a : Asked) : Type 0 where

@@ -1,20 +1,18 @@
 //! What holds of the step of the world, for the layers above.
 
-ghost use Rattle.std.specs.Prelude.{◌≡◌, ℕ, List, [], Some, None, Ok, codes, true, false};
+ghost use Rattle.std.specs.Prelude.{◌≡◌, ℕ, [], Some, None, codes, true, false};
 ghost use Rattle.std.specs.Option.{option_map};
 ghost use Rattle.ut_model.specs.declared.caller.Caller.{Caller};
 ghost use Rattle.ut_model.specs.declared.refusal.Refusal.TheVariants as refusal;
-ghost use Rattle.ut_model.specs.declared.route.Route.{Route};
+ghost use Rattle.ut_model.specs.Answered.{answered};
 ghost use Rattle.ut_model.specs.Callers.{IsUser};
-ghost use Rattle.ut_model.specs.RequestOf.{request_of};
-ghost use Rattle.ut_model.specs.Requests.{Request};
+ghost use Rattle.ut_model.specs.RequestOf.{answer_to};
 ghost use Rattle.ut_model.specs.Step.{Message, caller_by, in_org, org_named, refusal_reply};
 ghost use Rattle.ut_model.specs.Tenant.{Tenant, User};
 ghost use Rattle.ut_model.specs.World.{World, tenant_at, with_tenant};
 ghost use Rattle.ut_step.specs.Flat.{is_flat};
-ghost use Rattle.ut_step.specs.Built.{answer_built, answered, asking, built_request, step};
+ghost use Rattle.ut_step.specs.Step.{asking, step};
 ghost use Rattle.ut_soql_grammar.specs.Spelling.{query_in};
-ghost use Rattle.ut_step.specs.Whole.{whole_step};
 ghost use Rattle.ut_step.specs.Worked.{acme, asks_by};
 
 use ut_model::answering_laws;
@@ -27,15 +25,11 @@ pub fn step_laws()
     ensures uncalled { (w : World) (m : Message) (now : ℕ) → caller_by w m ≡ None
         → step w m now ≡ (refusal_reply refusal.InvalidSession, w) }
 
-    // What is built is the request of the whole step.
-    ensures built { (r : Route) (body : List ℕ) (x : Request) → built_request r body ≡ Ok x
-        → request_of r body ≡ Ok x }
-
     // A caller is a user of an organisation, and the message is answered as this user's.
     ensures user { (w : World) (m : Message) (c : Caller) → caller_by w m ≡ Some c → (t : Tenant) × (u : User) × IsUser w c t u }
     ensures answered { (w : World) (m : Message) (now : ℕ) (c : Caller) (t : Tenant) (u : User) → IsUser w c t u
         → in_org w c.org (answered c m now)
-        ≡ ((answer_built (asking t now u) m).0, with_tenant w c.org (answer_built (asking t now u) m).1) }
+        ≡ ((answer_to (asking t now u) m).0, with_tenant w c.org (answer_to (asking t now u) m).1) }
 
     // The same organisation in its place is the same world.
     ensures same { (w : World) (org : ℕ) (t : Tenant) → tenant_at w org ≡ Some t → with_tenant w org t ≡ w }
@@ -48,12 +42,6 @@ pub fn step_laws()
 {
     answering_laws();
 }
-
-/// That what is built is the whole product. The call does nothing.
-pub fn whole_laws()
-    // A message is answered as the whole product answers it.
-    ensures whole { (w : World) (m : Message) (now : ℕ) → step w m now ≡ whole_step w m now }
-{}
 
 /// Steps of the world, worked by hand. The call does nothing.
 pub fn step_rows()

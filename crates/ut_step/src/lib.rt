@@ -1,10 +1,9 @@
-//! The step of the world: by the routes that are built, and by all.
+//! The step of the world.
 //!
 //! It depends on `ut_model`, which has the verdicts, and on `ut_soql_grammar`, by which queries are read.
-//! Its contract: the step is a function of the organisation that the message's key names, and what is built is answered as the
-//! whole product answers it.
+//! Its contract: the step is a function of the organisation that the message's key names, and no other organisation changes.
 #![tactic(auto)]
 
 mod laws;
 
-pub use crate::laws::{query_rows, step_laws, step_rows, whole_laws};
+pub use crate::laws::{query_rows, step_laws, step_rows};

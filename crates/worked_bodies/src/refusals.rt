@@ -22,7 +22,6 @@ fn refusal(name: &str, text: Text) -> Option<Refusal> {
             field: text,
             other: org_id(1),
         }),
-        "NotBuilt" => Some(Refusal::NotBuilt { what: text }),
         "JobBusy" => Some(Refusal::JobBusy),
         "RetypeUnsupported" => Some(Refusal::RetypeUnsupported { field: text }),
         _ => None,

@@ -1,5 +1,8 @@
 //! Requests of the first administrator of organisation 1.
 
+ghost use Rattle.std.specs.Prelude.{◌≡◌, true};
+ghost use Rattle.ut_admin.specs.Administration.{is_edit};
+
 use crate::line::first_of;
 use std::alloc::{AllocError, Global};
 use ut_admin::administer;
@@ -27,7 +30,9 @@ fn reply_to(
     keeper: &mut MemoryKeeper,
     route: &Route,
     body: &str,
-) -> Result<Reply, StoreFail> {
+) -> Result<Reply, StoreFail>
+    requires { is_edit route.now ≡ true }
+{
     let mut draft = Draft::new(alloc, keeper);
     match administer(
         alloc,
@@ -59,7 +64,9 @@ fn shown_reply(
     keeper: &mut MemoryKeeper,
     route: &Route,
     body: &str,
-) -> Result<String, StoreFail> {
+) -> Result<String, StoreFail>
+    requires { is_edit route.now ≡ true }
+{
     let reply = reply_to(alloc, keeper, route, body)?;
     Ok(shown(alloc, &reply)?)
 }

@@ -8,10 +8,10 @@ use Rattle.ut_model.specs.Replies.{json_reply, unless_too_large}
 use Rattle.ut_model.specs.RowsJson.{rows_json}
 use Rattle.ut_model.specs.declared.record.Record.{Record}
 use Rattle.ut_model.specs.declared.reply.Reply.{Reply}
-use Rattle.ut_bind.specs.Shown.{row_text}
-use Rattle.ut_bind.specs.declared.plan.Child.{Child}
-use Rattle.ut_bind.specs.declared.plan.Plan.{Plan}
-use Rattle.ut_bind.specs.declared.plan.Shown.{Shown}
+use Rattle.ut_plan.specs.Shown.{row_text}
+use Rattle.ut_plan.specs.declared.plan.Child.{Child}
+use Rattle.ut_plan.specs.declared.plan.Plan.{Plan}
+use Rattle.ut_plan.specs.declared.plan.Shown.{Shown}
 use Rattle.ut_exec.specs.Relatives.{by_relatives}
 use Rattle.ut_exec.specs.Written.{InTenants}
 use Rattle.ut_rows.specs.Shows.{shows}

@@ -1,6 +1,6 @@
 -- What literals become by a layout, and what is known of a record where they mean the same.
-use Rattle.std.specs.Prelude.{◌≡◌, ℕ, if◌then◌else◌, List, Option, Some, ℤ, pos, negsuc, ◌+ℤ◌, slice_get}
-use Rattle.std.specs.Option.{option_and_then, unwrap_or}
+use Rattle.std.specs.Prelude.{◌≡◌, ℕ, if◌then◌else◌, List, Some, ℤ, pos, negsuc, ◌+ℤ◌}
+use Rattle.std.specs.Option.{unwrap_or}
 use Rattle.ut_value.specs.Id.{id_in}
 use Rattle.ut_value.specs.Printing.{day_of_moment}
 use Rattle.ut_value.specs.declared.value.Value.{Value}
@@ -10,20 +10,18 @@ use Rattle.ut_query.specs.declared.query.Literal.{Literal}
 use Rattle.ut_query.specs.declared.query.Literal.TheVariants as literal
 use Rattle.ut_query.specs.declared.query.Query.{Query}
 use Rattle.ut_model.specs.declared.record.Record.{Record}
-use Rattle.ut_model.specs.Cases.{in_case}
 use Rattle.ut_model.specs.Fields.{as_ref, value_in}
 use Rattle.ut_model.specs.Paths.{Asked, field_value}
 use Rattle.ut_model.specs.RowsJson.{field_name}
 use Rattle.ut_stands.specs.declared.layout.Layout.{Layout}
-use Rattle.ut_bind.specs.declared.check.Operand.{Operand}
-use Rattle.ut_bind.specs.declared.check.Operand.TheVariants.{Plain, Clock}
-use Rattle.ut_bind.specs.declared.check.Site.{Site}
-use Rattle.ut_bind.specs.declared.columns.Column.{Column}
-use Rattle.ut_bind.specs.declared.columns.Family.{Family}
-use Rattle.ut_bind.specs.declared.columns.Family.TheVariants as family
-use Rattle.ut_bind.specs.Checks.{site_of}
-use Rattle.ut_bind.specs.inner.Columns.{column_in, name_at}
-use Rattle.ut_bind.specs.inner.Rules.{is_ids}
+use Rattle.ut_plan.specs.declared.check.Operand.{Operand}
+use Rattle.ut_plan.specs.declared.check.Operand.TheVariants.{Plain, Clock}
+use Rattle.ut_query_rules.specs.declared.columns.Column.{Column}
+use Rattle.ut_query_rules.specs.declared.columns.Family.{Family}
+use Rattle.ut_query_rules.specs.declared.columns.Family.TheVariants as family
+use Rattle.ut_plan.specs.Checks.{site_of}
+use Rattle.ut_query_rules.specs.Columns.{column_in, name_at}
+use Rattle.ut_query_rules.specs.Rules.{is_ids}
 
 -- ---- what is compared with
 
@@ -41,11 +39,7 @@ operand_of day f literal.Today = Clock (day +ℤ pos 0)
 operand_of day f literal.Yesterday = Clock (day +ℤ negsuc 0)
 operand_of day f literal.Tomorrow = Clock (day +ℤ pos 1)
 
--- ---- places
-
--- what one of these records has at a site; null where there is none
-abbrev pub far_value : List (Option Record) → ℕ → Site → Value
-far_value far n s = in_case (option_and_then (λ p. p) (slice_get far n)) value.Null (value_in (site_of s))
+-- ---- rows
 
 abbrev pub skip_of : Query → ℕ
 skip_of q = unwrap_or q.offset 0

@@ -6,12 +6,12 @@ use Rattle.ut_model.specs.Ordered.{key_cmp}
 use Rattle.ut_model.specs.Paths.{path_value}
 use Rattle.ut_stands.specs.declared.layout.Layout.{Layout}
 use Rattle.ut_ways.specs.declared.branches.Branch.{Branch}
-use Rattle.ut_bind.specs.declared.columns.Column.{Column}
-use Rattle.ut_bind.specs.declared.plan.SortKey.{SortKey}
-use Rattle.ut_bind.specs.Checks.{spot_value}
-use Rattle.ut_bind.specs.Plans.{values_by}
+use Rattle.ut_query_rules.specs.declared.columns.Column.{Column}
+use Rattle.ut_plan.specs.declared.plan.SortKey.{SortKey}
+use Rattle.ut_plan.specs.Checks.{spot_value}
+use Rattle.ut_plan.specs.Plans.{values_by}
 use Rattle.ut_bind.specs.inner.Spots.{IsOf, Serve, Setting, far_of}
-use Rattle.ut_bind.specs.inner.Ways.{path_column_in}
+use Rattle.ut_query_rules.specs.Ways.{path_column_in}
 
 -- whatever branches follow, the key orders two records as the query's does, if that leads to a field
 pub record BindsKey (ls : List Layout) (l : Layout) (branches : List Branch) (key : OrderKey) (k : SortKey) : Type 0 where

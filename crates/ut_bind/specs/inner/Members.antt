@@ -13,14 +13,14 @@ use Rattle.ut_ways.specs.Branches.{record_above}
 use Rattle.ut_ways.specs.ByLayout.{parent_from}
 use Rattle.ut_ways.specs.declared.branches.Branch.{Branch}
 use Rattle.ut_ways.specs.declared.branches.Place.{Place}
-use Rattle.ut_bind.specs.declared.check.Site.TheVariants as site
-use Rattle.ut_bind.specs.declared.columns.Column.{Column}
-use Rattle.ut_bind.specs.declared.plan.Member.{Member}
-use Rattle.ut_bind.specs.declared.plan.Member.TheVariants as member
-use Rattle.ut_bind.specs.Shown.{Shows, ShowsJson, member_text}
-use Rattle.ut_bind.specs.inner.Columns.{column_in, custom_name, name_at}
+use Rattle.ut_plan.specs.declared.check.Site.TheVariants as site
+use Rattle.ut_query_rules.specs.declared.columns.Column.{Column}
+use Rattle.ut_plan.specs.declared.plan.Member.{Member}
+use Rattle.ut_plan.specs.declared.plan.Member.TheVariants as member
+use Rattle.ut_plan.specs.Shown.{Shows, ShowsJson, member_text}
+use Rattle.ut_query_rules.specs.Columns.{column_in, custom_name, name_at}
 use Rattle.ut_bind.specs.inner.Spots.{IsOf, Serve, Setting, far_of}
-use Rattle.ut_bind.specs.inner.Ways.{path_column_in}
+use Rattle.ut_query_rules.specs.Ways.{path_column_in}
 
 -- ---- names
 

@@ -14,19 +14,19 @@ use Rattle.ut_stands.specs.declared.layout.Layout.{Layout}
 use Rattle.ut_step.specs.Flat.{has_one_name}
 use Rattle.ut_ways.specs.declared.branches.Branch.{Branch}
 use Rattle.ut_ways.specs.declared.children.ChildStep.{ChildStep}
-use Rattle.ut_bind.specs.declared.plan.Child.{Child}
-use Rattle.ut_bind.specs.declared.plan.ChildPlan.{ChildPlan}
-use Rattle.ut_bind.specs.declared.plan.Shown.{Shown}
-use Rattle.ut_bind.specs.declared.plan.Shown.TheVariants as shown
+use Rattle.ut_plan.specs.declared.plan.Child.{Child}
+use Rattle.ut_plan.specs.declared.plan.ChildPlan.{ChildPlan}
+use Rattle.ut_plan.specs.declared.plan.Shown.{Shown}
+use Rattle.ut_plan.specs.declared.plan.Shown.TheVariants as shown
 use Rattle.ut_bind.specs.declared.selecting.BoundChild.{BoundChild}
 use Rattle.ut_bind.specs.declared.selecting.Selection.{Selection}
-use Rattle.ut_bind.specs.Plans.{children_by}
-use Rattle.ut_bind.specs.Shown.{Shows, ShowsJson, child_text, member_text, shown_text}
+use Rattle.ut_plan.specs.Plans.{children_by}
+use Rattle.ut_plan.specs.Shown.{Shows, ShowsJson, child_text, member_text, shown_text}
 use Rattle.ut_bind.specs.inner.Members.{IsLed, Sees, field_member}
-use Rattle.ut_bind.specs.inner.Rules.{own_name}
+use Rattle.ut_query_rules.specs.Rules.{own_name}
 use Rattle.ut_bind.specs.inner.Spots.{IsOf, Setting, far_of}
 use Rattle.ut_bind.specs.inner.Tails.{BindsTail, TailServes}
-use Rattle.ut_bind.specs.inner.Ways.{child_layout}
+use Rattle.ut_query_rules.specs.Ways.{child_layout}
 
 -- ---- what nothing refuses
 

@@ -15,17 +15,17 @@ use Rattle.ut_stands.specs.declared.layout.Layout.{Layout}
 use Rattle.ut_step.specs.Flat.{has_one_name}
 use Rattle.ut_ways.specs.Branches.{branch_records}
 use Rattle.ut_ways.specs.declared.branches.Branch.{Branch}
-use Rattle.ut_bind.specs.declared.check.Site.{Site}
-use Rattle.ut_bind.specs.declared.check.Site.TheVariants as site
-use Rattle.ut_bind.specs.declared.columns.Column.{Column}
-use Rattle.ut_bind.specs.declared.columns.Family.TheVariants as family
+use Rattle.ut_plan.specs.declared.check.Site.{Site}
+use Rattle.ut_plan.specs.declared.check.Site.TheVariants as site
+use Rattle.ut_query_rules.specs.declared.columns.Column.{Column}
+use Rattle.ut_query_rules.specs.declared.columns.Family.TheVariants as family
 use Rattle.ut_bind.specs.declared.spots.Bound.{Bound}
-use Rattle.ut_bind.specs.Checks.{spot_value}
-use Rattle.ut_bind.specs.Plans.{shown_name}
+use Rattle.ut_plan.specs.Checks.{spot_value}
+use Rattle.ut_plan.specs.Plans.{shown_name}
 use Rattle.ut_bind.specs.inner.Binding.{Fits}
-use Rattle.ut_bind.specs.inner.Columns.{column, name_at}
-use Rattle.ut_bind.specs.inner.Rules.{is_ids}
-use Rattle.ut_bind.specs.inner.Ways.{path_column_in}
+use Rattle.ut_query_rules.specs.Columns.{column, name_at}
+use Rattle.ut_query_rules.specs.Rules.{is_ids}
+use Rattle.ut_query_rules.specs.Ways.{path_column_in}
 
 -- who asks, and of which organisation with which tables the layouts are
 pub record Setting : Type 0 where

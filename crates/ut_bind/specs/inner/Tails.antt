@@ -12,13 +12,13 @@ use Rattle.ut_model.specs.Tests as model
 use Rattle.ut_model.specs.Tests.{tests_of}
 use Rattle.ut_stands.specs.declared.layout.Layout.{Layout}
 use Rattle.ut_ways.specs.declared.branches.Branch.{Branch}
-use Rattle.ut_bind.specs.declared.check.Check.{Check}
+use Rattle.ut_plan.specs.declared.check.Check.{Check}
 use Rattle.ut_bind.specs.declared.choosing.BoundTail.{BoundTail}
-use Rattle.ut_bind.specs.declared.columns.Column.{Column}
-use Rattle.ut_bind.specs.Checks.{check_holds, takes}
-use Rattle.ut_bind.specs.Plans.{by_keys}
+use Rattle.ut_query_rules.specs.declared.columns.Column.{Column}
+use Rattle.ut_plan.specs.Checks.{check_holds, takes}
+use Rattle.ut_plan.specs.Plans.{by_keys}
 use Rattle.ut_bind.specs.inner.Spots.{IsFree, IsOf, Serve, Setting, far_of}
-use Rattle.ut_bind.specs.inner.Ways.{path_column_in}
+use Rattle.ut_query_rules.specs.Ways.{path_column_in}
 
 -- ---- conditions
 

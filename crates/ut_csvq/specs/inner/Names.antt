@@ -3,12 +3,12 @@ use Rattle.std.specs.Prelude.{ℕ, if◌then◌else◌, List, [], ◌∷◌, cod
 use Rattle.std.specs.List.{list_any}
 use Rattle.std.specs.Str.{chars}
 use Rattle.ut_value.specs.Printing.{print_value}
-use Rattle.ut_bind.specs.declared.plan.Shown.{Shown}
+use Rattle.ut_plan.specs.declared.plan.Shown.{Shown}
 use Rattle.ut_model.specs.Fields.{is_master, same_name}
 use Rattle.ut_model.specs.declared.record.Record.{Record}
 use Rattle.ut_stands.specs.declared.layout.FieldPlace.{FieldPlace}
 use Rattle.ut_stands.specs.declared.layout.Layout.{Layout}
-use Rattle.ut_bind.specs.Plans.{shown_value}
+use Rattle.ut_plan.specs.Plans.{shown_value}
 use Rattle.ut_rows.specs.Shows.{or_null}
 use Rattle.ut_value.specs.declared.value.Value.{Value}
 use Rattle.ut_csvq.specs.Lines.{line}

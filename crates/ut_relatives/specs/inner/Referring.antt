@@ -1,6 +1,6 @@
 -- The records that refer to a record, as who asks may read them. No public contract reaches these words.
 use Rattle.std.specs.Prelude.{ℕ, nat_lt, if◌then◌else◌, List, filter, length, Result, Ok, Err}
-use Rattle.ut_bind.specs.Plans.{refers_by}
+use Rattle.ut_plan.specs.Plans.{refers_by}
 use Rattle.ut_keys.specs.declared.fail.StoreFail.{StoreFail}
 use Rattle.ut_keys.specs.declared.fail.StoreFail.TheVariants.{Damaged}
 use Rattle.ut_model.specs.declared.record.Record.{Record}

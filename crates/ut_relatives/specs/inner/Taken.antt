@@ -1,9 +1,9 @@
 -- Records that are taken as children, with their ranks. No public contract reaches these words.
 use Rattle.std.specs.Prelude.{◌≡◌, if◌then◌else◌, List, [], ◌∷◌, filter, map, Option, Some, None, Result, Ok, Err, Vec}
-use Rattle.ut_bind.specs.declared.plan.Child.{Child}
-use Rattle.ut_bind.specs.declared.plan.Choice.{Choice}
-use Rattle.ut_bind.specs.Checks.{takes}
-use Rattle.ut_bind.specs.Plans.{is_taken, parents_by}
+use Rattle.ut_plan.specs.declared.plan.Child.{Child}
+use Rattle.ut_plan.specs.declared.plan.Choice.{Choice}
+use Rattle.ut_plan.specs.Checks.{takes}
+use Rattle.ut_plan.specs.Plans.{is_taken, parents_by}
 use Rattle.ut_keeper.specs.Tables.{Tables}
 use Rattle.ut_keys.specs.declared.fail.StoreFail.{StoreFail}
 use Rattle.ut_keys.specs.declared.fail.StoreFail.TheVariants.{Damaged, Keeper, Memory}

@@ -5,8 +5,8 @@ use Rattle.ut_json.specs.Printing.{printed_null}
 use Rattle.ut_model.specs.Cases.{in_case}
 use Rattle.ut_model.specs.RowsJson.{object_json}
 use Rattle.ut_model.specs.declared.record.Record.{Record}
-use Rattle.ut_bind.specs.Shown.{Shows, member_text, type_and_address}
-use Rattle.ut_bind.specs.declared.plan.Member.{Member}
+use Rattle.ut_plan.specs.Shown.{Shows, member_text, type_and_address}
+use Rattle.ut_plan.specs.declared.plan.Member.{Member}
 
 -- the record of a branch, if there is one
 abbrev pub record_at : (far : List (Option Record)) → ℕ → Option Record

@@ -6,6 +6,7 @@ use Rattle.ut_model.specs.declared.caller.Caller.{Caller}
 use Rattle.ut_model.specs.declared.reply.Reply.{Reply}
 use Rattle.ut_model.specs.Paths.{Asked}
 use Rattle.ut_model.specs.Replies.{reply_of}
+use Rattle.ut_model.specs.RequestOf.{verdict_at}
 use Rattle.ut_model.specs.Routing.{routed}
 use Rattle.ut_model.specs.Step.{Message}
 use Rattle.ut_model.specs.Tenant.{Tenant, User}
@@ -15,14 +16,14 @@ use Rattle.ut_stands.specs.declared.judged.Judged.{Judged}
 use Rattle.ut_stands.specs.Local.{KeepsOthers, StandsFor, StandsIn}
 use Rattle.ut_stands.specs.Operations.{IsChange, Judges}
 use Rattle.ut_stands.specs.Plan.{OrgPlan}
-use Rattle.ut_step.specs.Built.{asking, verdict_to}
 use Rattle.ut_step.specs.Own.{IsAsking}
+use Rattle.ut_step.specs.Step.{asking}
 use Rattle.ut_serving.specs.Own.{bytes_of}
 use Rattle.ut_serving.specs.Requests.{in_bytes}
 
 -- what a message comes to of one who asks in an organisation
 abbrev pub verdict_of : Message → Asked → Verdict
-verdict_of m a = verdict_to a m.body (routed m.method m.target)
+verdict_of m a = verdict_at a m.body (routed m.method m.target)
 
 -- the same as an operation: the bytes of the reply, and what becomes of the organisation
 abbrev pub request_does : Message → (close : Bool) → Asked → Option Tenant → List ℕ × Option Tenant

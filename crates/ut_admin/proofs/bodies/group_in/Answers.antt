@@ -1,7 +1,7 @@
 use Rattle.std.proofs.Common.{sym, subst}
+use Rattle.ut_model.specs.RequestOf.{request_of}
 use Rattle.ut_model.specs.Requests.{adds_group}
 use Rattle.ut_model.specs.declared.route.Route.TheVariants.{AddGroup}
-use Rattle.ut_step.specs.Built.{built_request}
 use Rattle.ut_admin.specs.inner.Edits.{Asks}
 use Rattle.ut_admin.proofs.Asked.{asks_group}
 use Rattle.ut_admin.proofs.bodies.group_in.Goals as goal
@@ -9,4 +9,4 @@ use Rattle.ut_admin.proofs.bodies.group_in.Goals as goal
 pub returns : goal.returns
 returns c =
     let body = c.args.body.now in
-    subst (λ r. Asks adds_group (built_request AddGroup body) r) (sym c.form_of.ensures) (asks_group body c.new_group.result c.new_group.ensures)
+    subst (λ r. Asks adds_group (request_of AddGroup body) r) (sym c.form_of.ensures) (asks_group body c.new_group.result c.new_group.ensures)

@@ -1,7 +1,7 @@
 use Rattle.std.proofs.Common.{sym, subst}
 use Rattle.ut_bodies.specs.Bodies.{begins_new_retype}
+use Rattle.ut_model.specs.RequestOf.{request_of}
 use Rattle.ut_model.specs.declared.route.Route.TheVariants.{BeginRetype}
-use Rattle.ut_step.specs.Built.{built_request}
 use Rattle.ut_admin.specs.inner.Edits.{Asks}
 use Rattle.ut_admin.proofs.Asked.{asks_retype}
 use Rattle.ut_admin.proofs.bodies.retype_in.Goals as goal
@@ -9,4 +9,4 @@ use Rattle.ut_admin.proofs.bodies.retype_in.Goals as goal
 pub returns : goal.returns
 returns c =
     let body = c.args.body.now in
-    subst (λ r. Asks begins_new_retype (built_request BeginRetype body) r) (sym c.form_of.ensures) (asks_retype body c.new_retype.result c.new_retype.ensures)
+    subst (λ r. Asks begins_new_retype (request_of BeginRetype body) r) (sym c.form_of.ensures) (asks_retype body c.new_retype.result c.new_retype.ensures)

@@ -1,7 +1,7 @@
 use Rattle.std.proofs.Common.{sym, subst}
 use Rattle.ut_bodies.specs.Bodies.{adds_new_role}
+use Rattle.ut_model.specs.RequestOf.{request_of}
 use Rattle.ut_model.specs.declared.route.Route.TheVariants.{AddRole}
-use Rattle.ut_step.specs.Built.{built_request}
 use Rattle.ut_admin.specs.inner.Edits.{Asks}
 use Rattle.ut_admin.proofs.Asked.{asks_role}
 use Rattle.ut_admin.proofs.bodies.role_in.Goals as goal
@@ -9,4 +9,4 @@ use Rattle.ut_admin.proofs.bodies.role_in.Goals as goal
 pub returns : goal.returns
 returns c =
     let body = c.args.body.now in
-    subst (λ r. Asks adds_new_role (built_request AddRole body) r) (sym c.form_of.ensures) (asks_role body c.new_role.result c.new_role.ensures)
+    subst (λ r. Asks adds_new_role (request_of AddRole body) r) (sym c.form_of.ensures) (asks_role body c.new_role.result c.new_role.ensures)

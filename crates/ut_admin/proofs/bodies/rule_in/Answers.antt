@@ -1,5 +1,5 @@
 use Rattle.std.proofs.Common.{sym, subst}
-use Rattle.ut_step.specs.Built.{built_request}
+use Rattle.ut_model.specs.RequestOf.{request_of}
 use Rattle.ut_model.specs.Requests.{adds_validation_rule}
 use Rattle.ut_model.specs.declared.route.Route.TheVariants.{AddValidationRule}
 use Rattle.ut_admin.specs.inner.Edits.{Asks}
@@ -9,4 +9,4 @@ use Rattle.ut_admin.proofs.bodies.rule_in.Goals as goal
 pub returns : goal.returns
 returns c =
     let body = c.args.body.now in
-    subst (λ r. Asks adds_validation_rule (built_request AddValidationRule body) r) (sym c.form_of.ensures) (asks_rule body c.new_validation_rule.result c.new_validation_rule.ensures)
+    subst (λ r. Asks adds_validation_rule (request_of AddValidationRule body) r) (sym c.form_of.ensures) (asks_rule body c.new_validation_rule.result c.new_validation_rule.ensures)

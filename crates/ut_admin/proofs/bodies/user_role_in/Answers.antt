@@ -1,7 +1,7 @@
 use Rattle.std.proofs.Common.{sym, subst}
 use Rattle.ut_bodies.specs.Bodies.{sets_user_role}
+use Rattle.ut_model.specs.RequestOf.{request_of}
 use Rattle.ut_model.specs.declared.route.Route.TheVariants.{SetUser}
-use Rattle.ut_step.specs.Built.{built_request}
 use Rattle.ut_admin.specs.inner.Edits.{Asks}
 use Rattle.ut_admin.proofs.Asked.{asks_user_role}
 use Rattle.ut_admin.proofs.bodies.user_role_in.Goals as goal
@@ -9,4 +9,4 @@ use Rattle.ut_admin.proofs.bodies.user_role_in.Goals as goal
 pub returns : goal.returns
 returns c user =
     let body = c.args.body.now in
-    subst (λ r. Asks (sets_user_role user) (built_request (SetUser user) body) r) (sym c.form_of.ensures) (asks_user_role user body c.role_of_user.result c.role_of_user.ensures)
+    subst (λ r. Asks (sets_user_role user) (request_of (SetUser user) body) r) (sym c.form_of.ensures) (asks_user_role user body c.role_of_user.result c.role_of_user.ensures)

@@ -1,16 +1,14 @@
 use Rattle.std.proofs.Common.{List, ℕ, ap, arith, refl, subst, sym}
-use Rattle.std.specs.Str.{chars}
 use Rattle.ut_keeper.specs.Draft.{tables_of}
-use Rattle.ut_step.specs.Built.{built_request}
 use Rattle.ut_model.specs.Metadata.{set_access}
-use Rattle.ut_model.specs.RequestOf.{verdict_or}
+use Rattle.ut_model.specs.RequestOf.{request_of, verdict_or}
 use Rattle.ut_model.specs.Requests.{adds_field, adds_object, adds_validation_rule, sets_object}
 use Rattle.ut_model.specs.Verdict.{done}
 use Rattle.ut_model.specs.declared.route.Route.TheVariants.{AddField, AddGroup, AddObject, AddRole, AddSharingRule, AddUser, AddValidationRule, BeginRetype, CancelRetype, RemoveSharingRule, SetGroup, SetObject, SetRole, SetUser, Share, Unshare}
 use Rattle.ut_admin.specs.Administration.{AsksWith}
 use Rattle.ut_admin.specs.declared.answer.Answer.TheVariants as answer
 use Rattle.ut_admin.specs.inner.Edits.{Anyone, EditsFrom, HasRights}
-use Rattle.ut_admin.proofs.Asked.{answers_none, answers_so, drafts_seen, edits_asked, edits_asked_so, edits_none, edits_unbuilt, fit, none_drafts, returned}
+use Rattle.ut_admin.proofs.Asked.{answers_none, answers_so, drafts_seen, edits_asked, edits_asked_so, edits_none, fit, none_drafts, returned}
 use Rattle.ut_admin.proofs.edits.edit.Goals as goal
 
 -- ---- no edit
@@ -29,7 +27,7 @@ pub returns-in_err-new-in-AddObject-clause-makes : goal.returns-in_err-new-in-Ad
 returns-in_err-new-in-AddObject-clause-makes g c =
     let laws = c.call_laws.ensures in
     let fail = c.in_err-new-in-AddObject.field-0.0 in
-    none_drafts g.K.Keeper.state (record { weaker = laws.weaker; none = laws.none; makes = laws.makes; most = laws.most }) adds_object (built_request AddObject c.args.body.now) fail c.from_residual.result c.args.draft.now
+    none_drafts g.K.Keeper.state (record { weaker = laws.weaker; none = laws.none; makes = laws.makes; most = laws.most }) adds_object (request_of AddObject c.args.body.now) fail c.from_residual.result c.args.draft.now
     (returned c.from_residual.result fail c.from_residual.ensures) c.in_err-new-in-AddObject.ensures
 
 pub returns-in_err-access-in-SetObject-clause-what : goal.returns-in_err-access-in-SetObject-clause-what
@@ -48,7 +46,7 @@ returns-in_err-access-in-SetObject-clause-makes g c =
     let object = c.in-SetObject.object in
     let laws = c.call_laws.ensures in
     let fail = c.in_err-access-in-SetObject.field-0.0 in
-    none_drafts g.K.Keeper.state (record { weaker = laws.weaker; none = laws.none; makes = laws.makes; most = laws.most }) (sets_object object) (built_request (SetObject object) c.args.body.now) fail c.from_residual-in_err-access-in-SetObject.result c.args.draft.now
+    none_drafts g.K.Keeper.state (record { weaker = laws.weaker; none = laws.none; makes = laws.makes; most = laws.most }) (sets_object object) (request_of (SetObject object) c.args.body.now) fail c.from_residual-in_err-access-in-SetObject.result c.args.draft.now
     (returned c.from_residual-in_err-access-in-SetObject.result fail c.from_residual-in_err-access-in-SetObject.ensures) (c.in_err-access-in-SetObject.ensures object)
 
 pub returns-in_err-new-in-AddField-clause-what : goal.returns-in_err-new-in-AddField-clause-what
@@ -65,7 +63,7 @@ pub returns-in_err-new-in-AddField-clause-makes : goal.returns-in_err-new-in-Add
 returns-in_err-new-in-AddField-clause-makes g c =
     let laws = c.call_laws.ensures in
     let fail = c.in_err-new-in-AddField.field-0.0 in
-    none_drafts g.K.Keeper.state (record { weaker = laws.weaker; none = laws.none; makes = laws.makes; most = laws.most }) adds_field (built_request AddField c.args.body.now) fail c.from_residual-in_err-new-in-AddField.result c.args.draft.now
+    none_drafts g.K.Keeper.state (record { weaker = laws.weaker; none = laws.none; makes = laws.makes; most = laws.most }) adds_field (request_of AddField c.args.body.now) fail c.from_residual-in_err-new-in-AddField.result c.args.draft.now
     (returned c.from_residual-in_err-new-in-AddField.result fail c.from_residual-in_err-new-in-AddField.ensures) c.in_err-new-in-AddField.ensures
 
 pub returns-in_err-new-in-AddValidationRule-clause-what : goal.returns-in_err-new-in-AddValidationRule-clause-what
@@ -82,7 +80,7 @@ pub returns-in_err-new-in-AddValidationRule-clause-makes : goal.returns-in_err-n
 returns-in_err-new-in-AddValidationRule-clause-makes g c =
     let laws = c.call_laws.ensures in
     let fail = c.in_err-new-in-AddValidationRule.field-0.0 in
-    none_drafts g.K.Keeper.state (record { weaker = laws.weaker; none = laws.none; makes = laws.makes; most = laws.most }) adds_validation_rule (built_request AddValidationRule c.args.body.now) fail c.from_residual-in_err-new-in-AddValidationRule.result c.args.draft.now
+    none_drafts g.K.Keeper.state (record { weaker = laws.weaker; none = laws.none; makes = laws.makes; most = laws.most }) adds_validation_rule (request_of AddValidationRule c.args.body.now) fail c.from_residual-in_err-new-in-AddValidationRule.result c.args.draft.now
     (returned c.from_residual-in_err-new-in-AddValidationRule.result fail c.from_residual-in_err-new-in-AddValidationRule.ensures) c.in_err-new-in-AddValidationRule.ensures
 
 -- ---- edits
@@ -94,7 +92,7 @@ returns-in-Delete-clause-what g c told =
     let body = c.args.body.now in
     let before = tables_of g.K.Keeper.state c.args.draft.now in
     let after = tables_of g.K.Keeper.state c.deleted_record.new.draft in
-    subst (λ r. EditsFrom caller.org (AsksWith (g.R.Rights.whose c.args.rights.now) caller c.args.now) (λ a. verdict_or a (built_request r body)) before after c.deleted_record.result) (sym c.in-Delete.is)
+    subst (λ r. EditsFrom caller.org (AsksWith (g.R.Rights.whose c.args.rights.now) caller c.args.now) (λ a. verdict_or a (request_of r body)) before after c.deleted_record.result) (sym c.in-Delete.is)
     (c.deleted_record.ensures.what told body)
 
 pub returns-in_ok-new-in-AddObject-clause-what : goal.returns-in_ok-new-in-AddObject-clause-what
@@ -247,34 +245,3 @@ returns-in-CancelRetype-clause-what g c told =
     let caller = c.args.caller.now in
     edits_asked_so caller.org Anyone (AsksWith (g.R.Rights.whose c.args.rights.now) caller c.args.now) (λ a _. tt) c.args.route.now CancelRetype c.args.body.now (tables_of g.K.Keeper.state c.args.draft.now) (tables_of g.K.Keeper.state c.cancelled_retype.new.draft) c.cancelled_retype.result
     c.in-CancelRetype.is (c.cancelled_retype.ensures.what told c.args.body.now)
-
--- ---- another route
-
-pub returns-in_ok-from_str-in_default-clause-what : goal.returns-in_ok-from_str-in_default-clause-what
-unfolding chars
-returns-in_ok-from_str-in_default-clause-what g c told =
-    let caller = c.args.caller.now in
-    edits_unbuilt caller.org (AsksWith (g.R.Rights.whose c.args.rights.now) caller c.args.now) c.args.route.now c.args.body.now c.in_ok-from_str-in_default.field-0 (tables_of g.K.Keeper.state c.args.draft.now)
-    (record {
-      no_record = λ object. c.in_default.not-Create object;
-      no_change = λ object key. c.in_default.not-Update object key;
-      no_upsert = λ object key value. c.in_default.not-Upsert object key value;
-      no_deletion = λ object key. c.in_default.not-Delete object key;
-      no_object = c.in_default.not-AddObject;
-      no_access = λ object. c.in_default.not-SetObject object;
-      no_field = c.in_default.not-AddField;
-      no_rule = c.in_default.not-AddValidationRule;
-      no_share = c.in_default.not-Share;
-      no_end = λ item to. c.in_default.not-Unshare item to;
-      no_sharing_rule = c.in_default.not-AddSharingRule;
-      no_removal = λ name. c.in_default.not-RemoveSharingRule name;
-      no_user = c.in_default.not-AddUser;
-      no_user_role = λ user. c.in_default.not-SetUser user;
-      no_role = c.in_default.not-AddRole;
-      no_parent = λ role. c.in_default.not-SetRole role;
-      no_group = c.in_default.not-AddGroup;
-      no_members = λ group. c.in_default.not-SetGroup group;
-      no_beginning = c.in_default.not-BeginRetype;
-      no_calling_off = c.in_default.not-CancelRetype;
-    })
-    c.in_ok-from_str-in_default.ensures

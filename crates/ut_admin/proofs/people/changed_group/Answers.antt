@@ -1,11 +1,11 @@
 use Rattle.std.proofs.Common.{List, arith, ap, refl}
 use Rattle.ut_keeper.specs.Draft.{tables_of}
 use Rattle.ut_model.specs.People.{set_group}
+use Rattle.ut_model.specs.RequestOf.{request_of}
 use Rattle.ut_model.specs.Requests.{sets_group}
 use Rattle.ut_model.specs.declared.people_bodies.Spelled.{Spelled}
 use Rattle.ut_model.specs.Verdict.{done}
 use Rattle.ut_model.specs.declared.route.Route.TheVariants.{SetGroup}
-use Rattle.ut_step.specs.Built.{built_request}
 use Rattle.ut_admin.specs.declared.answer.Answer.TheVariants as answer
 use Rattle.ut_admin.specs.inner.Edits.{Anyone}
 use Rattle.ut_admin.proofs.Asked.{answers_none, answers_so, drafts_seen, edits_asked, edits_none, none_drafts, returned}
@@ -27,7 +27,7 @@ pub returns-in_err-members-clause-makes : goal.returns-in_err-members-clause-mak
 returns-in_err-members-clause-makes g c =
     let laws = c.call_laws.ensures in
     let fail = c.in_err-members.field-0.0 in
-    none_drafts g.K.Keeper.state (record { weaker = laws.weaker; none = laws.none; makes = laws.makes; most = laws.most }) (sets_group c.args.group.now) (built_request (SetGroup c.args.group.now) c.args.body.now) fail c.from_residual.result c.args.draft.now
+    none_drafts g.K.Keeper.state (record { weaker = laws.weaker; none = laws.none; makes = laws.makes; most = laws.most }) (sets_group c.args.group.now) (request_of (SetGroup c.args.group.now) c.args.body.now) fail c.from_residual.result c.args.draft.now
     (returned c.from_residual.result fail c.from_residual.ensures) (c.in_err-members.ensures c.args.group.now)
 
 -- ---- the edit

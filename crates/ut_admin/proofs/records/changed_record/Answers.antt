@@ -3,7 +3,7 @@ use Rattle.std.proofs.lemmas.Int.{to_z-of_z}
 use Rattle.std.specs.Prelude.{Err, FitsSigned, Ok}
 use Rattle.ut_given.specs.Given.{IsInJson}
 use Rattle.ut_keeper.specs.Draft.{tables_of}
-use Rattle.ut_step.specs.Built.{built_request}
+use Rattle.ut_model.specs.RequestOf.{request_of}
 use Rattle.ut_model.specs.Updates.{update}
 use Rattle.ut_model.specs.Requests.{updates}
 use Rattle.ut_model.specs.Verdict.{done}
@@ -36,7 +36,7 @@ returns-in_err-values-clause-makes g c =
     let object = c.args.object.now in
     let key = c.args.key.now in
     let fail = c.in_err-values.field-0.0 in
-    none_drafts g.K.Keeper.state (record { weaker = laws.weaker; none = laws.none; makes = laws.makes; most = laws.most }) (updates object key) (built_request (Update object key) c.args.body.now) fail c.from_residual.result c.args.draft.now
+    none_drafts g.K.Keeper.state (record { weaker = laws.weaker; none = laws.none; makes = laws.makes; most = laws.most }) (updates object key) (request_of (Update object key) c.args.body.now) fail c.from_residual.result c.args.draft.now
     (returned c.from_residual.result fail c.from_residual.ensures) (asks_other object key c.args.body.now (Err fail) (c.in_err-values.ensures.values (updates object key)))
 
 -- ---- the edit

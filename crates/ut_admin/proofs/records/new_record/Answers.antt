@@ -3,8 +3,8 @@ use Rattle.std.proofs.lemmas.Int.{to_z-of_z}
 use Rattle.std.specs.Prelude.{Err, FitsSigned, Ok}
 use Rattle.ut_given.specs.Given.{IsInJson}
 use Rattle.ut_keeper.specs.Draft.{tables_of}
-use Rattle.ut_step.specs.Built.{built_request}
 use Rattle.ut_model.specs.Creates.{create}
+use Rattle.ut_model.specs.RequestOf.{request_of}
 use Rattle.ut_model.specs.Requests.{creates}
 use Rattle.ut_model.specs.Verdict.{made_new}
 use Rattle.ut_model.specs.declared.record_bodies.Assignment.{Assignment}
@@ -34,7 +34,7 @@ returns-in_err-values-clause-makes g c =
     let laws = c.call_laws.ensures in
     let object = c.args.object.now in
     let fail = c.in_err-values.field-0.0 in
-    none_drafts g.K.Keeper.state (record { weaker = laws.weaker; none = laws.none; makes = laws.makes; most = laws.most }) (creates object) (built_request (Create object) c.args.body.now) fail c.from_residual.result c.args.draft.now
+    none_drafts g.K.Keeper.state (record { weaker = laws.weaker; none = laws.none; makes = laws.makes; most = laws.most }) (creates object) (request_of (Create object) c.args.body.now) fail c.from_residual.result c.args.draft.now
     (returned c.from_residual.result fail c.from_residual.ensures) (asks_new object c.args.body.now (Err fail) (c.in_err-values.ensures.values (creates object)))
 
 -- ---- the edit

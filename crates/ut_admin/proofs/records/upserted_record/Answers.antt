@@ -3,9 +3,8 @@ use Rattle.std.proofs.lemmas.Int.{to_z-of_z}
 use Rattle.std.specs.Prelude.{Err, FitsSigned, Ok}
 use Rattle.ut_given.specs.Given.{IsInJson}
 use Rattle.ut_keeper.specs.Draft.{tables_of}
-use Rattle.ut_step.specs.Built.{built_request}
 use Rattle.ut_model.specs.Upserts.{upsert}
-use Rattle.ut_model.specs.RequestOf.{value_part}
+use Rattle.ut_model.specs.RequestOf.{request_of, value_part}
 use Rattle.ut_model.specs.Requests.{upserts}
 use Rattle.ut_model.specs.Verdict.{upserted}
 use Rattle.ut_model.specs.declared.record_bodies.Assignment.{Assignment}
@@ -39,7 +38,7 @@ returns-in_err-values-clause-makes g c =
     let key = c.args.key.now in
     let value = c.args.value.now in
     let fail = c.in_err-values.field-0.0 in
-    none_drafts g.K.Keeper.state (record { weaker = laws.weaker; none = laws.none; makes = laws.makes; most = laws.most }) (upserts object key (value_part value)) (built_request (Upsert object key value) c.args.body.now) fail c.from_residual.result c.args.draft.now
+    none_drafts g.K.Keeper.state (record { weaker = laws.weaker; none = laws.none; makes = laws.makes; most = laws.most }) (upserts object key (value_part value)) (request_of (Upsert object key value) c.args.body.now) fail c.from_residual.result c.args.draft.now
     (returned c.from_residual.result fail c.from_residual.ensures) (asks_upsert object key value c.args.body.now (Err fail) (c.in_err-values.ensures.values (upserts object key (value_part value))))
 
 -- ---- the edit

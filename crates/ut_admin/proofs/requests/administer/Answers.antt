@@ -1,7 +1,6 @@
 use Rattle.ut_keeper.specs.Draft.{tables_of}
-use Rattle.ut_step.specs.Built.{built_request}
 use Rattle.ut_step.specs.Own.{edit_shown, request_changes, request_gone}
-use Rattle.ut_model.specs.RequestOf.{verdict_or}
+use Rattle.ut_model.specs.RequestOf.{request_of, verdict_or}
 use Rattle.ut_admin.specs.Administration.{AsksWith}
 use Rattle.ut_admin.proofs.Replied as replied
 use Rattle.ut_admin.proofs.requests.administer.Goals as goal
@@ -9,7 +8,7 @@ use Rattle.ut_admin.proofs.requests.administer.Goals as goal
 pub returns-clause-what : goal.returns-clause-what
 returns-clause-what g c told =
     let caller = c.args.caller.now in
-    replied.responds caller.org (AsksWith (g.R.Rights.whose c.args.rights.now) caller c.args.now) (λ a. verdict_or a (built_request c.args.route.now c.args.body.now)) (tables_of g.K.Keeper.state c.args.draft.now) (tables_of g.K.Keeper.state c.edit-edited.new.draft) c.edit-edited.result c.reply_to.result
+    replied.responds caller.org (AsksWith (g.R.Rights.whose c.args.rights.now) caller c.args.now) (λ a. verdict_or a (request_of c.args.route.now c.args.body.now)) (tables_of g.K.Keeper.state c.args.draft.now) (tables_of g.K.Keeper.state c.edit-edited.new.draft) c.edit-edited.result c.reply_to.result
     c.reply_to.ensures.value (c.edit-edited.ensures.what told)
 
 pub returns-clause-form : goal.returns-clause-form

@@ -1,9 +1,9 @@
 use Rattle.std.proofs.Common.{arith, refl}
 use Rattle.ut_keeper.specs.Draft.{tables_of}
+use Rattle.ut_model.specs.RequestOf.{request_of}
 use Rattle.ut_model.specs.Requests.{shares}
 use Rattle.ut_model.specs.Verdict.{done}
 use Rattle.ut_model.specs.declared.route.Route.TheVariants.{Share}
-use Rattle.ut_step.specs.Built.{built_request}
 use Rattle.ut_admin.specs.declared.answer.Answer.TheVariants as answer
 use Rattle.ut_admin.specs.inner.Edits.{HasRights}
 use Rattle.ut_admin.proofs.Asked.{answers_none, answers_so, drafts_seen, edits_asked, edits_none, fit, none_drafts, returned}
@@ -24,7 +24,7 @@ pub returns-in_err-new-clause-makes : goal.returns-in_err-new-clause-makes
 returns-in_err-new-clause-makes g c =
     let laws = c.call_laws.ensures in
     let fail = c.in_err-new.field-0.0 in
-    none_drafts g.K.Keeper.state (record { weaker = laws.weaker; none = laws.none; makes = laws.makes; most = laws.most }) shares (built_request Share c.args.body.now) fail c.from_residual.result c.args.draft.now
+    none_drafts g.K.Keeper.state (record { weaker = laws.weaker; none = laws.none; makes = laws.makes; most = laws.most }) shares (request_of Share c.args.body.now) fail c.from_residual.result c.args.draft.now
     (returned c.from_residual.result fail c.from_residual.ensures) c.in_err-new.ensures
 
 -- ---- the edit

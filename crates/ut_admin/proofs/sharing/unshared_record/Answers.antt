@@ -8,11 +8,10 @@ use Rattle.ut_model.specs.Paths.{Asked}
 use Rattle.ut_model.specs.Requests.{unshares}
 use Rattle.ut_model.specs.Shares.{unshare}
 use Rattle.ut_model.specs.Verdict.{done}
-use Rattle.ut_model.specs.RequestOf.{verdict_or}
+use Rattle.ut_model.specs.RequestOf.{request_of, verdict_or}
 use Rattle.ut_model.specs.declared.route.Route.TheVariants.{Unshare}
 use Rattle.ut_stands.specs.declared.fail.EditFail.{EditFail}
 use Rattle.ut_stands.specs.declared.fail.EditFail.TheVariants.{Store}
-use Rattle.ut_step.specs.Built.{built_request}
 use Rattle.ut_step.specs.Own.{edit_shown, request_changes, request_gone}
 use Rattle.ut_admin.specs.declared.answer.Answer.{Answer}
 use Rattle.ut_admin.specs.declared.answer.Answer.TheVariants as answer
@@ -25,7 +24,7 @@ use Rattle.ut_admin.proofs.sharing.unshared_record.Goals as goal
 pub returns-in_err-to-clause-what : goal.returns-in_err-to-clause-what
 returns-in_err-to-clause-what g c told body =
     let m = tables_of g.K.Keeper.state c.args.draft.now in
-    let verdict = λ (a : Asked). verdict_or a (built_request (Unshare c.args.item.now c.args.part.now) body) in
+    let verdict = λ (a : Asked). verdict_or a (request_of (Unshare c.args.item.now c.args.part.now) body) in
     subst (λ q. EditsFrom c.args.org (HasRights (g.R.Rights.whose c.args.rights.now)) verdict m m q) (sym (returned c.from_residual.result (Store Memory) c.from_residual.ensures))
     (edits_memory c.args.org (HasRights (g.R.Rights.whose c.args.rights.now)) verdict m)
 

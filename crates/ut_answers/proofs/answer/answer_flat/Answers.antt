@@ -5,8 +5,8 @@ use Rattle.ut_value.specs.Printing.{day_of_moment}
 use Rattle.ut_keeper.specs.Draft.{removals_of}
 use Rattle.ut_model.specs.Paths.{Asked}
 use Rattle.ut_model.specs.declared.record.Record.{Record}
-use Rattle.ut_bind.specs.Plans.{children_by}
-use Rattle.ut_bind.specs.declared.plan.ChildPlan.{ChildPlan}
+use Rattle.ut_plan.specs.Plans.{children_by}
+use Rattle.ut_plan.specs.declared.plan.ChildPlan.{ChildPlan}
 use Rattle.ut_stands.specs.Calls.{Calls, ended}
 use Rattle.ut_ways.specs.Branches.{branch_records}
 use Rattle.ut_ways.specs.declared.branches.Branch.{Branch}

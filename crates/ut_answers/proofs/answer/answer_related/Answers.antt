@@ -7,8 +7,8 @@ use Rattle.ut_value.specs.Printing.{day_of_moment}
 use Rattle.ut_keeper.specs.Draft.{removals_of}
 use Rattle.ut_model.specs.Paths.{Asked}
 use Rattle.ut_model.specs.declared.record.Record.{Record}
-use Rattle.ut_bind.specs.Plans.{child_shown, children_by}
-use Rattle.ut_bind.specs.declared.plan.ChildPlan.{ChildPlan}
+use Rattle.ut_plan.specs.Plans.{child_shown, children_by}
+use Rattle.ut_plan.specs.declared.plan.ChildPlan.{ChildPlan}
 use Rattle.ut_stands.specs.Calls.{ended}
 use Rattle.ut_step.specs.Shown.{row_shown}
 use Rattle.ut_ways.specs.Branches.{branch_records}

@@ -1,8 +1,8 @@
 use Rattle.std.proofs.Common.{◌≡◌, ◌∙◌, false, List, ap, length, sym}
 use Rattle.std.specs.Prelude.{◌==◌}
 use Rattle.ut_keeper.specs.Draft.{tables_of}
-use Rattle.ut_bind.specs.Checks.{takes}
-use Rattle.ut_bind.specs.declared.plan.SortKey.{SortKey}
+use Rattle.ut_plan.specs.Checks.{takes}
+use Rattle.ut_plan.specs.declared.plan.SortKey.{SortKey}
 use Rattle.ut_exec.specs.Relatives.{by_parents}
 use Rattle.ut_answers.specs.Planned.{Parents, rows_by, window_of}
 use Rattle.ut_answers.proofs.Found.{in_keys, in_no_keys, written_alike}

@@ -2,11 +2,11 @@ use Rattle.std.proofs.Common.{◌≡◌, List, [], map, true, refl, subst, ℤ}
 use Rattle.std.specs.List.{list_all}
 use Rattle.ut_query.specs.declared.query.Item.{Item}
 use Rattle.ut_step.specs.Flat.{is_flat_item}
-use Rattle.ut_bind.specs.declared.plan.Plan.{Plan}
+use Rattle.ut_plan.specs.declared.plan.Plan.{Plan}
 use Rattle.ut_bind.specs.inner.Selecting.{BindsItems, own_shown}
 use Rattle.ut_bind.specs.inner.Tails.{BindsTail}
 use Rattle.ut_bind.proofs.Bound.{same_day}
-use Rattle.ut_bind.proofs.Flatness.{parts_of}
+use Rattle.ut_query_rules.proofs.Flatness.{parts_of}
 use Rattle.ut_bind.proofs.Planned.{few_branches, few_of, means, no_branches}
 use Rattle.ut_bind.proofs.binding.bind.Goals as goal
 

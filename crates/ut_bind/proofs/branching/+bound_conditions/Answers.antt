@@ -3,9 +3,9 @@ use Rattle.ut_query.specs.declared.query.Cond.{Cond}
 use Rattle.ut_query.specs.declared.query.Cond.TheVariants as cond
 use Rattle.ut_query.specs.declared.query.LikePattern.{LikePattern}
 use Rattle.ut_ways.proofs.Branching.{added_twice}
-use Rattle.ut_bind.specs.declared.check.Check.{Check}
-use Rattle.ut_bind.specs.declared.check.Check.TheVariants as check
-use Rattle.ut_bind.specs.declared.check.Operand.{Operand}
+use Rattle.ut_plan.specs.declared.check.Check.{Check}
+use Rattle.ut_plan.specs.declared.check.Check.TheVariants as check
+use Rattle.ut_plan.specs.declared.check.Operand.{Operand}
 use Rattle.ut_bind.specs.inner.Binding.{operand_of}
 use Rattle.ut_bind.specs.inner.Ends.{Each}
 use Rattle.ut_bind.specs.inner.Tails.{BindsCondition}

@@ -1,7 +1,7 @@
 use Rattle.std.proofs.Common.{◌<◌, arith, length, subst, sym, List}
 use Rattle.ut_query.specs.declared.query.OrderKey.{OrderKey}
 use Rattle.ut_step.specs.Shown.{path_steps}
-use Rattle.ut_bind.specs.declared.plan.SortKey.{SortKey}
+use Rattle.ut_plan.specs.declared.plan.SortKey.{SortKey}
 use Rattle.ut_bind.proofs.Counted.{few_more}
 use Rattle.ut_ways.proofs.Branching.{added_twice}
 use Rattle.ut_bind.specs.inner.Ends.{BindsKey, Each}

@@ -5,11 +5,11 @@ use Rattle.ut_query.specs.declared.query.Item.TheVariants as item
 use Rattle.ut_ways.specs.Branches.{FindsParent}
 use Rattle.ut_ways.specs.declared.branches.Place.{Place}
 use Rattle.ut_ways.proofs.Branching.{added_twice}
-use Rattle.ut_bind.specs.declared.plan.Member.{Member}
+use Rattle.ut_plan.specs.declared.plan.Member.{Member}
 use Rattle.ut_bind.specs.inner.Members.{ShowsParent, ShowsPath, ShowsPaths, goes_behind}
 use Rattle.ut_bind.proofs.Behind.{Two, begun_shown, end_is, first_shown, no_parent, one_less, one_name, one_name_shown, parent_is, still_among, two_names}
 use Rattle.ut_bind.proofs.Showing.{all_shown, listed, one_shown}
-use Rattle.ut_bind.proofs.Within.{if_ok}
+use Rattle.ut_plan.proofs.Within.{if_ok}
 use Rattle.ut_bind.proofs.members.+members.Goals.{bind_members-in-Some+in_ok-push, bind_members-in_default}
 use Rattle.ut_bind.proofs.members.+members.Goals as goal
 

@@ -6,11 +6,11 @@ use Rattle.ut_ways.specs.declared.branches.Branch.{Branch}
 use Rattle.ut_ways.specs.ByLayout.{child_of}
 use Rattle.ut_bind.specs.declared.selecting.BoundChild.{BoundChild}
 use Rattle.ut_bind.specs.inner.Selecting.{BindsChild, BindsFound}
-use Rattle.ut_bind.specs.inner.Ways.{layout_at}
+use Rattle.ut_query_rules.specs.Ways.{layout_at}
 use Rattle.ut_bind.proofs.Bound.{same_day}
 use Rattle.ut_bind.proofs.Owns.{any_ok}
 use Rattle.ut_bind.proofs.Subqueries.{child_bound, no_layout_bound, no_step_bound}
-use Rattle.ut_bind.proofs.Within.{if_ok}
+use Rattle.ut_plan.proofs.Within.{if_ok}
 use Rattle.ut_bind.proofs.selecting.bind_child.Goals as goal
 
 pub returns-in_default : goal.returns-in_default

@@ -1,5 +1,5 @@
 use Rattle.std.proofs.Common.{◌∙◌, ◌++◌, ◌∷◌, [], ℕ, ap, subst, ℤ}
-use Rattle.ut_bind.specs.declared.plan.Shown.TheVariants as shown
+use Rattle.ut_plan.specs.declared.plan.Shown.TheVariants as shown
 use Rattle.ut_bind.specs.inner.Selecting.{BindsChild}
 use Rattle.ut_bind.proofs.Bound.{same_day}
 use Rattle.ut_bind.proofs.Counted.{one_child}

@@ -3,12 +3,12 @@ use Rattle.std.proofs.lemmas.List.{at_drop_all, at_drop_more}
 use Rattle.std.proofs.lemmas.List.Sums.{sum_by-cons}
 use Rattle.std.specs.List.{sum_by}
 use Rattle.ut_step.specs.Shown.{item_children_shown, path_steps}
-use Rattle.ut_bind.specs.Plans.{child_shown}
+use Rattle.ut_plan.specs.Plans.{child_shown}
 use Rattle.ut_bind.proofs.Counted.{paths_steps}
 use Rattle.ut_query.specs.declared.query.Item.{Item}
 use Rattle.ut_ways.proofs.Branching.{added_twice}
-use Rattle.ut_bind.specs.declared.plan.ChildPlan.{ChildPlan}
-use Rattle.ut_bind.specs.declared.plan.Shown.{Shown}
+use Rattle.ut_plan.specs.declared.plan.ChildPlan.{ChildPlan}
+use Rattle.ut_plan.specs.declared.plan.Shown.{Shown}
 use Rattle.ut_bind.specs.inner.Selecting.{BindsItems, count_of, paths_in}
 use Rattle.ut_bind.proofs.Bound.{same_day}
 use Rattle.ut_bind.proofs.Picked.{AreCounted, SelectedSoFar, all_selected, count_next, item_next}

@@ -1,6 +1,6 @@
 use Rattle.std.proofs.Common.{◌∙◌, None, Option, refl, subst, sym}
 use Rattle.ut_ways.specs.declared.branches.Place.{Place}
-use Rattle.ut_bind.specs.declared.plan.Member.{Member}
+use Rattle.ut_plan.specs.declared.plan.Member.{Member}
 use Rattle.ut_bind.specs.inner.Members.{ShowsPath}
 use Rattle.ut_bind.proofs.Picked.{path_adds, path_adds_nothing}
 use Rattle.ut_bind.proofs.selecting.bind_path_item.Goals as goal

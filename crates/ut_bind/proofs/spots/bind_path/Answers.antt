@@ -1,11 +1,11 @@
 use Rattle.std.proofs.Common.{◌≡◌, ◌∙◌, ℕ, List, None, Option, ap, false, subst, sym}
 use Rattle.ut_step.specs.Flat.{has_one_name}
-use Rattle.ut_bind.specs.declared.columns.Column.{Column}
+use Rattle.ut_query_rules.specs.declared.columns.Column.{Column}
 use Rattle.ut_bind.specs.declared.spots.Bound.{Bound}
-use Rattle.ut_bind.specs.inner.Columns.{column_in}
+use Rattle.ut_query_rules.specs.Columns.{column_in}
 use Rattle.ut_bind.specs.inner.Spots.{Binds, IsBound, bound_at}
 use Rattle.ut_bind.proofs.Placing.{own_bound, several_names}
-use Rattle.ut_bind.proofs.Within.{if_ok}
+use Rattle.ut_plan.proofs.Within.{if_ok}
 use Rattle.ut_bind.proofs.spots.bind_path.Goals as goal
 
 pub returns-in-Some-clause-binds : goal.returns-in-Some-clause-binds

@@ -1,8 +1,8 @@
 use Rattle.std.proofs.Common.{◌∙◌, Option, ap, subst, sym}
 use Rattle.ut_ways.specs.declared.branches.Place.{Place}
 use Rattle.ut_ways.specs.Branches.{FindsPlace}
-use Rattle.ut_bind.specs.declared.columns.Column.{Column}
-use Rattle.ut_bind.specs.inner.Columns.{column_in}
+use Rattle.ut_query_rules.specs.declared.columns.Column.{Column}
+use Rattle.ut_query_rules.specs.Columns.{column_in}
 use Rattle.ut_bind.specs.inner.Spots.{IsBound, bound_at}
 use Rattle.ut_bind.proofs.Placing.{nowhere_bound, place_bound}
 use Rattle.ut_bind.proofs.spots.far_bound.Goals as goal

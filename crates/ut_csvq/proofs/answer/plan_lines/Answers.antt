@@ -1,6 +1,6 @@
 use Rattle.std.proofs.Common.{◌∙◌, ◌++◌, List, [], ap, refl}
 use Rattle.std.specs.List.{flat_map}
-use Rattle.ut_bind.specs.declared.plan.Shown.{Shown}
+use Rattle.ut_plan.specs.declared.plan.Shown.{Shown}
 use Rattle.ut_answers.specs.Planned.{choice_rows}
 use Rattle.ut_csvq.specs.inner.Names.{shown_line}
 use Rattle.ut_csvq.proofs.answer.plan_lines.Goals as goal

@@ -1,7 +1,7 @@
 use Rattle.std.proofs.Common.{subst}
 use Rattle.std.specs.Prelude.{Ok}
-use Rattle.ut_bind.specs.Plans.{children_by}
-use Rattle.ut_bind.specs.declared.plan.ChildPlan.{ChildPlan}
+use Rattle.ut_plan.specs.Plans.{children_by}
+use Rattle.ut_plan.specs.declared.plan.ChildPlan.{ChildPlan}
 use Rattle.ut_keeper.specs.Draft.{tables_of}
 use Rattle.ut_rights.specs.Rights.{Whose}
 use Rattle.ut_stands.specs.Calls.{Calls, done}

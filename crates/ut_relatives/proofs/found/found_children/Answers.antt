@@ -1,5 +1,5 @@
 use Rattle.std.proofs.Common.{subst, sym}
-use Rattle.ut_bind.specs.Plans.{children_by}
+use Rattle.ut_plan.specs.Plans.{children_by}
 use Rattle.ut_keeper.specs.Draft.{tables_of}
 use Rattle.ut_rights.specs.Rights.{Whose}
 use Rattle.ut_relatives.specs.Children.{FindsOfTarget}

@@ -1,6 +1,6 @@
 use Rattle.std.proofs.Common.{refl, subst, sym}
-use Rattle.ut_bind.specs.Checks.{takes}
-use Rattle.ut_bind.specs.Given.{GivesJust}
+use Rattle.ut_plan.specs.Checks.{takes}
+use Rattle.ut_plan.specs.Given.{GivesJust}
 use Rattle.ut_ranks.specs.Ranks.{rank_by}
 use Rattle.ut_relatives.specs.inner.Taken.{ranked_if}
 use Rattle.ut_relatives.proofs.Taking.{given_err, returned}

@@ -4,13 +4,13 @@ use Rattle.std.specs.Prelude.{FitsSigned}
 use Rattle.ut_grammar.specs.Place.{UnlessMemory}
 use Rattle.ut_grammar.specs.declared.fail.ParseFail.{ParseFail}
 use Rattle.ut_query.specs.declared.query.Query.{Query}
+use Rattle.ut_model.specs.RequestOf.{query_or, verdict_or}
 use Rattle.ut_model.specs.declared.refusal.Refusal.TheVariants.{MalformedQuery}
 use Rattle.ut_model.specs.Step.{query_text}
 use Rattle.ut_soql_grammar.specs.Spelling.{reads_query}
 use Rattle.ut_keeper.specs.Draft.{removals_of}
 use Rattle.ut_keeper.specs.State.{data_table}
 use Rattle.ut_stands.specs.Calls.{Calls, ended}
-use Rattle.ut_step.specs.Built.{query_verdict}
 use Rattle.ut_step.specs.Shown.{further_to, shown_beside}
 use Rattle.ut_rest.specs.inner.Answers.{AnswersBy}
 use Rattle.ut_rest.proofs.Named.{refused_so}
@@ -20,12 +20,12 @@ pub returns-in-Ok-clause-what : goal.returns-in-Ok-clause-what
 returns-in-Ok-clause-what g c told p a s asking =
     let small : FitsSigned w64 c.moment.result = search rules in
     let now : to_z w64 (of_z w64 c.moment.result) ≡ pos c.args.now = to_z-of_z w64 c.moment.result small ∙ c.moment.ensures in
-    subst (λ (q : Result Query ℕ). AnswersBy a (query_verdict a q) c.answer_named.result)
+    subst (λ (q : Result Query ℕ). AnswersBy a (verdict_or a (query_or q)) c.answer_named.result)
     (sym (subst (λ (r : Result Query ParseFail). UnlessMemory r (λ read. reads_query (query_text c.args.pairs.now) ≡ read)) c.in-Ok.is c.query_in.ensures)) (c.answer_named.ensures.what told p a s (record { user = asking.user; admin = asking.admin; now = asking.now ∙ sym now }))
 
 pub returns-in-Err-Malformed-clause-what : goal.returns-in-Err-Malformed-clause-what
 returns-in-Err-Malformed-clause-what g c told p a s asking =
-    subst (λ (q : Result Query ℕ). AnswersBy a (query_verdict a q) c.refuse_malformed.result)
+    subst (λ (q : Result Query ℕ). AnswersBy a (verdict_or a (query_or q)) c.refuse_malformed.result)
     (sym (subst (λ (r : Result Query ParseFail). UnlessMemory r (λ read. reads_query (query_text c.args.pairs.now) ≡ read)) (c.in-Err-Malformed.is ∙ ap Err c.in-Err-Malformed.field-0-is) c.query_in.ensures))
     (refused_so a (MalformedQuery c.in-Err-Malformed.place) c.refuse_malformed.result c.refuse_malformed.ensures.value)
 

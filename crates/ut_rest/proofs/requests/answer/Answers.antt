@@ -1,18 +1,18 @@
 use Rattle.std.proofs.Common.{◌∙◌, ap, sym, subst, arith}
 use Rattle.ut_keeper.specs.Draft.{removals_of, tables_of}
 use Rattle.ut_keeper.specs.State.{data_table}
+use Rattle.ut_model.specs.RequestOf.{request_of, verdict_at}
 use Rattle.ut_model.specs.declared.refusal.Refusal.TheVariants.{AdminRequired}
 use Rattle.ut_model.specs.declared.route.Route.{Route}
 use Rattle.ut_model.specs.declared.route.Route.TheVariants.{Query}
 use Rattle.ut_model.specs.declared.routed.Routed.TheVariants.{To}
 use Rattle.ut_model.specs.Verdict.{Verdict}
-use Rattle.ut_step.specs.Built.{verdict_to}
 use Rattle.ut_step.specs.Own.{IsAsking}
 use Rattle.ut_step.specs.Shown.{further_shown, shown_beside}
 use Rattle.ut_rest.specs.inner.Answers.{AnswersBy}
 use Rattle.ut_rest.proofs.Named.{refused_so}
 use Rattle.ut_rest.proofs.Responses.{drafts_of, form_of, read_responds, refused_calls}
-use Rattle.ut_rest.proofs.Verdicts.{administered_drafts, administered_form, administrator_lacks, edited, state_asked}
+use Rattle.ut_rest.proofs.Verdicts.{administered_drafts, administered_form, administrator_lacks, edit_asked, edited, state_asked}
 use Rattle.ut_rest.proofs.requests.answer.Goals as goal
 
 -- ---- no administrator
@@ -23,7 +23,7 @@ returns-then-lacks_administrator-clause-what g c told =
     let caller = c.args.caller.now in
     let route = c.args.route.now in
     let body = c.args.body.now in
-    read_responds caller.org (IsAsking caller c.args.now) (λ a. verdict_to a body (To route)) m m c.refuse.result c.unchanged.result c.unchanged.ensures
+    read_responds caller.org (IsAsking caller c.args.now) (λ a. verdict_at a body (To route)) m m c.refuse.result c.unchanged.result c.unchanged.ensures
     (λ p a s asking. subst (λ (v : Verdict). AnswersBy a v c.refuse.result) (sym (administrator_lacks route body caller c.args.now a asking (sym c.lacks_administrator.ensures ∙ c.if-lacks_administrator.true))) (refused_so a AdminRequired c.refuse.result c.refuse.ensures.value))
 
 pub returns-then-lacks_administrator-clause-form : goal.returns-then-lacks_administrator-clause-form
@@ -40,12 +40,13 @@ returns-then-lacks_administrator-clause-drafts g c =
 -- ---- a query
 
 pub returns-in-Query-clause-what : goal.returns-in-Query-clause-what
+unfolding request_of
 returns-in-Query-clause-what g c told =
     let state = g.K.Keeper.state in
     let caller = c.args.caller.now in
     let body = c.args.body.now in
-    read_responds caller.org (IsAsking caller c.args.now) (λ a. verdict_to a body (To c.args.route.now)) (tables_of state c.args.draft.now) (tables_of state c.answer_query.new.draft) c.answer_query.result c.unchanged-in-Query.result c.unchanged-in-Query.ensures
-    (λ p a s asking. subst (λ (r : Route). AnswersBy a (verdict_to a body (To r)) c.answer_query.result) (sym c.in-Query.is) (c.answer_query.ensures.what told p a s asking))
+    read_responds caller.org (IsAsking caller c.args.now) (λ a. verdict_at a body (To c.args.route.now)) (tables_of state c.args.draft.now) (tables_of state c.answer_query.new.draft) c.answer_query.result c.unchanged-in-Query.result c.unchanged-in-Query.ensures
+    (λ p a s asking. subst (λ (r : Route). AnswersBy a (verdict_at a body (To r)) c.answer_query.result) (sym c.in-Query.is) (c.answer_query.ensures.what told p a s asking))
 
 pub returns-in-Query-clause-form : goal.returns-in-Query-clause-form
 returns-in-Query-clause-form g c = form_of (To c.args.route.now) c.answer_query.result c.unchanged-in-Query.result c.unchanged-in-Query.ensures c.answer_query.ensures.form
@@ -67,7 +68,7 @@ returns-in-GetRetype-clause-what g c told =
     let state = g.K.Keeper.state in
     let caller = c.args.caller.now in
     let body = c.args.body.now in
-    read_responds caller.org (IsAsking caller c.args.now) (λ a. verdict_to a body (To c.args.route.now)) (tables_of state c.args.draft.now) (tables_of state c.answer_state.new.draft) c.answer_state.result c.unchanged-in-GetRetype.result c.unchanged-in-GetRetype.ensures
+    read_responds caller.org (IsAsking caller c.args.now) (λ a. verdict_at a body (To c.args.route.now)) (tables_of state c.args.draft.now) (tables_of state c.answer_state.new.draft) c.answer_state.result c.unchanged-in-GetRetype.result c.unchanged-in-GetRetype.ensures
     (λ p a s asking. subst (λ (v : Verdict). AnswersBy a v c.answer_state.result)
     (sym (state_asked c.args.route.now body caller c.args.now a asking c.in-GetRetype.is (sym c.lacks_administrator.ensures ∙ c.if-lacks_administrator.false))) (c.answer_state.ensures.what told p a s))
 
@@ -83,11 +84,14 @@ returns-in-GetRetype-clause-drafts g c =
 
 -- ---- an edit
 
+pub answer_edit-requires-clause-asks : goal.answer_edit-requires-clause-asks
+answer_edit-requires-clause-asks g c = edit_asked c.args.route.now (record { no_query = λ pairs. c.in_default.not-Query pairs; no_state = c.in_default.not-GetRetype })
+
 pub returns-in_default-clause-what : goal.returns-in_default-clause-what
 returns-in_default-clause-what g c told =
     let state = g.K.Keeper.state in
     let caller = c.args.caller.now in
-    edited c.args.route.now c.args.body.now caller c.args.now (record { no_query = λ pairs. c.in_default.not-Query pairs; no_state = c.in_default.not-GetRetype }) (sym c.lacks_administrator.ensures ∙ c.if-lacks_administrator.false)
+    edited c.args.route.now c.args.body.now caller c.args.now (sym c.lacks_administrator.ensures ∙ c.if-lacks_administrator.false)
     caller.org (tables_of state c.args.draft.now) (tables_of state c.answer_edit.new.draft) c.answer_edit.result (c.answer_edit.ensures.what told)
 
 pub returns-in_default-clause-form : goal.returns-in_default-clause-form

@@ -6,12 +6,11 @@ use Rattle.ut_keeper.specs.Draft.{tables_of}
 use Rattle.ut_keeper.specs.Tables.{Tables}
 use Rattle.ut_keys.specs.declared.fail.StoreFail.{StoreFail}
 use Rattle.ut_model.specs.Paths.{Asked}
-use Rattle.ut_model.specs.RequestOf.{verdict_or}
+use Rattle.ut_model.specs.RequestOf.{request_of, verdict_or}
 use Rattle.ut_model.specs.Verdict.{Verdict}
 use Rattle.ut_rights.specs.Rights.{Whose}
 use Rattle.ut_stands.specs.Calls.{Calls, ended}
 use Rattle.ut_stands.specs.Operations.{Responds}
-use Rattle.ut_step.specs.Built.{built_request}
 use Rattle.ut_step.specs.Own.{IsAsking, edit_shown, request_changes, request_gone}
 use Rattle.ut_rest.proofs.Rights.{after_rights, failed_drafts, from_rights, no_rights, with_rights}
 use Rattle.ut_rest.proofs.requests.answer_edit.Goals as goal
@@ -22,7 +21,7 @@ pub returns-then-caller-clause-what : goal.returns-then-caller-clause-what
 returns-then-caller-clause-what g c told =
     let state = g.K.Keeper.state in
     let caller = c.args.caller.now in
-    with_rights _ caller.org caller c.args.now (λ a. verdict_or a (built_request c.args.route.now c.args.body.now)) (tables_of state c.args.draft.now) (tables_of state c.administer.new.draft) c.administer.result
+    with_rights _ caller.org caller c.args.now (λ a. verdict_or a (request_of c.args.route.now c.args.body.now)) (tables_of state c.args.draft.now) (tables_of state c.administer.new.draft) c.administer.result
     (λ p a s asking. asking.admin ∙ c.if-caller.true) (c.administer.ensures.what told)
 
 -- ---- any other user
@@ -36,7 +35,7 @@ returns-in-Ok-clause-what g c told =
     let d = c.administer-in-Ok.new.draft in
     let calls = c.user_rights.ensures.calls in
     let e = ended c.user_rights.result in
-    let verdict : Asked → Verdict = λ a. verdict_or a (built_request c.args.route.now c.args.body.now) in
+    let verdict : Asked → Verdict = λ a. verdict_or a (request_of c.args.route.now c.args.body.now) in
     let first = c.draft_laws.ensures.told_first request_changes request_gone edit_shown a b d c.administer-in-Ok.ensures.drafts.makes.works told in
     let later = c.call_laws.ensures.told_then 0 e a b d calls first told in
     let same = c.call_laws.ensures.tables 0 e a b calls first in
@@ -59,7 +58,7 @@ returns-in-Err-clause-what g c told =
     let state = g.K.Keeper.state in
     let caller = c.args.caller.now in
     let m = tables_of state c.args.draft.now in
-    no_rights caller.org caller.user (IsAsking caller c.args.now) (λ a. verdict_or a (built_request c.args.route.now c.args.body.now)) m (tables_of state c.user_rights.new.draft) c.in-Err.fail
+    no_rights caller.org caller.user (IsAsking caller c.args.now) (λ a. verdict_or a (request_of c.args.route.now c.args.body.now)) m (tables_of state c.user_rights.new.draft) c.in-Err.fail
     (subst (λ (r : Result UserRights StoreFail). FindsRights caller.org caller.user m r) c.in-Err.is (c.user_rights.ensures.finds told))
 
 pub returns-in-Err-clause-drafts : goal.returns-in-Err-clause-drafts

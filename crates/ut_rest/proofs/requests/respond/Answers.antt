@@ -2,12 +2,12 @@ use Rattle.std.proofs.Common.{◌∙◌, sym, subst, arith}
 use Rattle.std.specs.Prelude.{IfOk}
 use Rattle.ut_keeper.specs.Draft.{removals_of, tables_of}
 use Rattle.ut_keeper.specs.State.{data_table}
+use Rattle.ut_model.specs.RequestOf.{verdict_at}
 use Rattle.ut_model.specs.declared.refusal.Refusal.TheVariants as refusal
 use Rattle.ut_model.specs.declared.routed.Routed.{Routed}
 use Rattle.ut_stands.specs.Operations.{Drafts, Responds}
 use Rattle.std.specs.Str.{chars}
 use Rattle.ut_model.specs.Routing.{routed}
-use Rattle.ut_step.specs.Built.{verdict_to}
 use Rattle.ut_step.specs.Own.{IsAsking, request_changes, request_gone}
 use Rattle.ut_step.specs.Shown.{further_shown, shown_beside}
 use Rattle.ut_rest.specs.Forms.{IsRequestReply}
@@ -21,7 +21,7 @@ pub returns-in-Ok-To-clause-what : goal.returns-in-Ok-To-clause-what
 returns-in-Ok-To-clause-what g c told =
     let state = g.K.Keeper.state in
     let caller = c.args.caller.now in
-    subst (λ (r : Routed). Responds caller.org (IsAsking caller c.args.now) (λ a. verdict_to a c.args.body.now r) (tables_of state c.args.draft.now) (tables_of state c.answer.new.draft) c.answer.result)
+    subst (λ (r : Routed). Responds caller.org (IsAsking caller c.args.now) (λ a. verdict_at a c.args.body.now r) (tables_of state c.args.draft.now) (tables_of state c.answer.new.draft) c.answer.result)
     (sym c.in-Ok-To.field-0-is ∙ c.in-Ok-To.ensures) (c.answer.ensures.what told)
 
 pub returns-in-Ok-To-clause-form : goal.returns-in-Ok-To-clause-form
@@ -40,7 +40,7 @@ pub returns-in-Ok-NotFound-clause-what : goal.returns-in-Ok-NotFound-clause-what
 returns-in-Ok-NotFound-clause-what g c told =
     let m = tables_of g.K.Keeper.state c.args.draft.now in
     let caller = c.args.caller.now in
-    subst (λ (r : Routed). Responds caller.org (IsAsking caller c.args.now) (λ a. verdict_to a c.args.body.now r) m m c.unchanged.result)
+    subst (λ (r : Routed). Responds caller.org (IsAsking caller c.args.now) (λ a. verdict_at a c.args.body.now r) m m c.unchanged.result)
     (sym c.in-Ok-NotFound.field-0-is ∙ c.in-Ok-NotFound.ensures)
     (read_responds caller.org (IsAsking caller c.args.now) _ m m c.refuse.result c.unchanged.result c.unchanged.ensures
     (λ p a s asking. refused_so a refusal.NotFound c.refuse.result c.refuse.ensures.value))
@@ -62,7 +62,7 @@ pub returns-in-Ok-NotAllowed-clause-what : goal.returns-in-Ok-NotAllowed-clause-
 returns-in-Ok-NotAllowed-clause-what g c told =
     let m = tables_of g.K.Keeper.state c.args.draft.now in
     let caller = c.args.caller.now in
-    subst (λ (r : Routed). Responds caller.org (IsAsking caller c.args.now) (λ a. verdict_to a c.args.body.now r) m m c.unchanged-in-Ok-NotAllowed.result)
+    subst (λ (r : Routed). Responds caller.org (IsAsking caller c.args.now) (λ a. verdict_at a c.args.body.now r) m m c.unchanged-in-Ok-NotAllowed.result)
     (sym c.in-Ok-NotAllowed.field-0-is ∙ c.in-Ok-NotAllowed.ensures)
     (read_responds caller.org (IsAsking caller c.args.now) _ m m c.refuse-in-Ok-NotAllowed.result c.unchanged-in-Ok-NotAllowed.result c.unchanged-in-Ok-NotAllowed.ensures
     (λ p a s asking. refused_so a refusal.MethodNotAllowed c.refuse-in-Ok-NotAllowed.result c.refuse-in-Ok-NotAllowed.ensures.value))

@@ -1,6 +1,6 @@
 use Rattle.std.proofs.Common.{[], ◌∷◌, ◌++◌, ◌∙◌, List, Option, ap, map, refl}
 use Rattle.std.specs.Str.{chars, encode_utf8_all}
-use Rattle.ut_bind.specs.Shown.{child_text, member_text}
+use Rattle.ut_plan.specs.Shown.{child_text, member_text}
 use Rattle.ut_model.specs.declared.record.Record.{Record}
 use Rattle.ut_replies.specs.Names.{name_attributes}
 use Rattle.ut_replies.specs.Rows.{behind_commas}

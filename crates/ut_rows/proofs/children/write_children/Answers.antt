@@ -1,6 +1,6 @@
 use Rattle.std.proofs.Common.{◌∙◌, sym}
 use Rattle.std.specs.Str.{chars}
-use Rattle.ut_bind.specs.Shown.{child_text}
+use Rattle.ut_plan.specs.Shown.{child_text}
 use Rattle.ut_rows.specs.Shows.{shows}
 use Rattle.ut_rows.proofs.Pieces.{some_children}
 use Rattle.ut_rows.proofs.children.write_children.Goals as goal

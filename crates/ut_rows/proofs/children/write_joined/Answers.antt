@@ -1,5 +1,5 @@
 use Rattle.std.specs.Str.{chars}
-use Rattle.ut_bind.specs.Shown.{child_text}
+use Rattle.ut_plan.specs.Shown.{child_text}
 use Rattle.ut_rows.specs.Shows.{shows}
 use Rattle.ut_rows.proofs.Pieces.{first_and_more, none_joined}
 use Rattle.ut_rows.proofs.children.write_joined.Goals as goal

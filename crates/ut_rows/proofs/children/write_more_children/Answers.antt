@@ -1,8 +1,8 @@
 use Rattle.std.proofs.Common.{◌+◌, [], ◌∷◌, ◌∙◌, ap, sym, drop, append-nil}
 use Rattle.std.specs.Str.{chars}
 use Rattle.std.proofs.lemmas.List.{at_drop_all, at_drop_more}
-use Rattle.ut_bind.specs.Shown.{child_text}
-use Rattle.ut_bind.specs.declared.plan.Child.{Child}
+use Rattle.ut_plan.specs.Shown.{child_text}
+use Rattle.ut_plan.specs.declared.plan.Child.{Child}
 use Rattle.ut_replies.proofs.Written.{after}
 use Rattle.ut_rows.specs.Shows.{shows}
 use Rattle.ut_rows.proofs.Pieces.{one_more, with_rest}

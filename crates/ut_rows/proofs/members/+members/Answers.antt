@@ -1,8 +1,8 @@
 use Rattle.std.proofs.Common.{◌+◌, ◌∷◌, ◌∙◌, ap, sym, drop, append-nil}
 use Rattle.std.specs.Option.{option_copied}
 use Rattle.std.proofs.lemmas.List.{at_drop_all, at_drop_more}
-use Rattle.ut_bind.specs.Shown.{member_text}
-use Rattle.ut_bind.specs.declared.plan.Member.{Member}
+use Rattle.ut_plan.specs.Shown.{member_text}
+use Rattle.ut_plan.specs.declared.plan.Member.{Member}
 use Rattle.ut_rows.specs.Shows.{shows}
 use Rattle.ut_rows.proofs.Pieces.{one_more, with_rest}
 use Rattle.ut_rows.proofs.Within.{nothing_there, null_written, parent_written}

@@ -1,5 +1,5 @@
 use Rattle.std.proofs.Common.{◌≡◌, Some, drop}
-use Rattle.ut_bind.specs.Shown.{member_text}
+use Rattle.ut_plan.specs.Shown.{member_text}
 use Rattle.ut_model.specs.declared.record.Record.{Record}
 use Rattle.ut_rows.specs.Shows.{shows}
 use Rattle.ut_rows.proofs.Pieces.{with_rest}

@@ -1,10 +1,10 @@
 use Rattle.std.proofs.Common.{◌∷◌, ◌++◌, ◌∙◌, List, ℕ, ap, map, sym}
 use Rattle.std.specs.Prelude.{codes}
 use Rattle.std.specs.Str.{chars}
-use Rattle.ut_bind.specs.Shown.{child_text, shown_text}
-use Rattle.ut_bind.specs.declared.plan.Child.{Child}
-use Rattle.ut_bind.specs.declared.plan.Member.{Member}
-use Rattle.ut_bind.specs.declared.plan.Shown.{Shown}
+use Rattle.ut_plan.specs.Shown.{child_text, shown_text}
+use Rattle.ut_plan.specs.declared.plan.Child.{Child}
+use Rattle.ut_plan.specs.declared.plan.Member.{Member}
+use Rattle.ut_plan.specs.declared.plan.Shown.{Shown}
 use Rattle.ut_json.specs.Printing.{printed_text}
 use Rattle.ut_model.specs.RowsJson.{children_json, member_json}
 use Rattle.ut_rows.specs.Shows.{shows}

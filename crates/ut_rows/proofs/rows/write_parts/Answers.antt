@@ -1,7 +1,7 @@
 use Rattle.std.proofs.Common.{◌+◌, ◌∷◌, ◌∙◌, ap, sym, drop, append-nil}
 use Rattle.std.proofs.lemmas.List.{at_drop_all, at_drop_more}
-use Rattle.ut_bind.specs.Shown.{shown_text}
-use Rattle.ut_bind.specs.declared.plan.Shown.{Shown}
+use Rattle.ut_plan.specs.Shown.{shown_text}
+use Rattle.ut_plan.specs.declared.plan.Shown.{Shown}
 use Rattle.ut_rows.specs.Shows.{shows}
 use Rattle.ut_rows.proofs.Pieces.{one_more, with_rest}
 use Rattle.ut_rows.proofs.rows.write_parts.Goals as goal

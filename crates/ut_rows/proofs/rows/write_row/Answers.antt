@@ -1,6 +1,6 @@
 use Rattle.std.proofs.Common.{[], ◌∷◌, ◌++◌, ◌∙◌, List, ℕ, ap, map}
 use Rattle.std.specs.Str.{chars, encode_utf8_all}
-use Rattle.ut_bind.specs.Shown.{shown_text}
+use Rattle.ut_plan.specs.Shown.{shown_text}
 use Rattle.ut_replies.specs.Names.{name_attributes}
 use Rattle.ut_rows.specs.Shows.{shows}
 use Rattle.ut_rows.proofs.Pieces.{record_written}

@@ -1,6 +1,6 @@
-use Rattle.ut_step.specs.Built.{answered, step}
+use Rattle.ut_model.specs.Answered.{answered}
+use Rattle.ut_step.specs.Step.{step}
 use Rattle.ut_step.proofs.Answered.{answered_in}
-use Rattle.ut_step.proofs.BuiltRequests.{built}
 use Rattle.ut_step.proofs.laws.step_laws.Goals as goal
 
 pub returns : goal.returns
@@ -8,7 +8,6 @@ unfolding step
 returns c = record {
   called = λ w m now caller e. c.answering_laws.ensures.called answered w m now caller e;
   uncalled = λ w m now e. c.answering_laws.ensures.uncalled answered w m now e;
-  built = λ r body x e. built r body x e;
   user = λ w m caller e. c.answering_laws.ensures.user w m caller e;
   answered = λ w m now caller t u is. answered_in w m now caller t u is;
   same = λ w org t e. c.answering_laws.ensures.same w org t e;

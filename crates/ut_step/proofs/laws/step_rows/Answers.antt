@@ -10,15 +10,17 @@ use Rattle.ut_value.specs.Digits.{digits}
 use Rattle.ut_value.specs.Id.{id_in, made, number62, number_in}
 use Rattle.ut_model.specs.declared.caller.Caller.{Caller}
 use Rattle.ut_model.specs.declared.refusal.Refusal.TheVariants.{InvalidType}
+use Rattle.ut_model.specs.Answered.{answered}
 use Rattle.ut_model.specs.Callers.{Named, cut}
 use Rattle.ut_model.specs.Jobs.{job_step}
 use Rattle.ut_model.specs.Objects.{object_named}
 use Rattle.ut_model.specs.Organisations.{administrator, fresh}
+use Rattle.ut_model.specs.RequestOf.{request_of}
 use Rattle.ut_model.specs.Routing.{lines, routed}
 use Rattle.ut_model.specs.Step.{Answering, Message, caller_by, in_org, query_text, refusal_reply, step_by}
 use Rattle.ut_model.specs.World.{World}
 use Rattle.ut_model.proofs.Called.{found, itself}
-use Rattle.ut_step.specs.Built.{answered, step}
+use Rattle.ut_step.specs.Step.{step}
 use Rattle.ut_step.specs.Worked.{acme, asks_by}
 use Rattle.ut_step.proofs.laws.step_rows.Goals as goal
 
@@ -39,7 +41,7 @@ AnswersCalled =
     → step_by answers w m now ≡ in_org w c.org (answers c m now)
 
 no_deals : AnswersCalled → step acme (asks_by (codes "q=SELECT+Id,Name+FROM+Deal__c")) 0 ≡ (refusal_reply (InvalidType (codes "Deal__c")), acme)
-unfolding who named step job_step reading_queries object_named cut id_in number_in number62 made digits routed lines split query_text raw_pairs utf8_lossy percent_decode utf8_valid_len is_utf8
+unfolding who named step request_of job_step reading_queries object_named cut id_in number_in number62 made digits routed lines split query_text raw_pairs utf8_lossy percent_decode utf8_valid_len is_utf8
 no_deals called =
     let m = asks_by (codes "q=SELECT+Id,Name+FROM+Deal__c") in
     called answered acme m 0 who (found acme (codes "00D000000000001!005000000000000AAA!abc!d") named (fresh (codes "Acme") (sha256 (codes "abc!d"))) (administrator (codes "Acme") (sha256 (codes "abc!d"))) refl refl refl (itself (sha256 (codes "abc!d"))))
@@ -49,14 +51,14 @@ pub returns-clause-no_object : goal.returns-clause-no_object
 returns-clause-no_object c = no_deals c.answering_laws.ensures.called
 
 pub returns-clause-no_query : goal.returns-clause-no_query
-unfolding who named step job_step reading_queries object_named cut id_in number_in number62 made digits routed lines split query_text raw_pairs utf8_lossy percent_decode utf8_valid_len is_utf8
+unfolding who named step request_of job_step reading_queries object_named cut id_in number_in number62 made digits routed lines split query_text raw_pairs utf8_lossy percent_decode utf8_valid_len is_utf8
 returns-clause-no_query c =
     let m = asks_by (codes "q=SELECT+Id,Name+FROM+Limit") in
     c.answering_laws.ensures.called answered acme m 0 who (found acme (codes "00D000000000001!005000000000000AAA!abc!d") named (fresh (codes "Acme") (sha256 (codes "abc!d"))) (administrator (codes "Acme") (sha256 (codes "abc!d"))) refl refl refl (itself (sha256 (codes "abc!d"))))
     ∙ refl
 
 pub returns-clause-with_path : goal.returns-clause-with_path
-unfolding who named step job_step reading_queries object_named cut id_in number_in number62 made digits routed lines split query_text raw_pairs utf8_lossy percent_decode utf8_valid_len is_utf8
+unfolding who named step request_of job_step reading_queries object_named cut id_in number_in number62 made digits routed lines split query_text raw_pairs utf8_lossy percent_decode utf8_valid_len is_utf8
 returns-clause-with_path c =
     let m = asks_by (codes "q=SELECT+Id,Up__r.Name+FROM+Deal__c") in
     c.answering_laws.ensures.called answered acme m 0 who (found acme (codes "00D000000000001!005000000000000AAA!abc!d") named (fresh (codes "Acme") (sha256 (codes "abc!d"))) (administrator (codes "Acme") (sha256 (codes "abc!d"))) refl refl refl (itself (sha256 (codes "abc!d"))))

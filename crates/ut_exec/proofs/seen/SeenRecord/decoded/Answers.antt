@@ -1,5 +1,5 @@
 use Rattle.std.proofs.Common.{◌≡◌, ◌∙◌, ◌-◌, ℕ, suc, List, Option, Some, None, ap, arith, subst, sym, slice_get}
-use Rattle.ut_bind.specs.Given.{GivesJust}
+use Rattle.ut_plan.specs.Given.{GivesJust}
 use Rattle.ut_data.specs.Decoding.{read_slot}
 use Rattle.ut_formula.specs.Meaning.{value_at}
 use Rattle.ut_parts.specs.Gives.{Gives}

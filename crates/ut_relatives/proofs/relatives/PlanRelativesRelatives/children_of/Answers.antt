@@ -1,5 +1,5 @@
 use Rattle.std.proofs.Common.{map}
-use Rattle.ut_bind.specs.Plans.{children_by}
+use Rattle.ut_plan.specs.Plans.{children_by}
 use Rattle.ut_exec.specs.Seen.{seen_record}
 use Rattle.ut_keeper.specs.Draft.{tables_of}
 use Rattle.ut_relatives.proofs.Relating.{target_seen}

@@ -1,0 +1,5 @@
+pub mod Checks
+pub mod Given
+pub mod Plans
+pub mod Shown
+pub mod inner

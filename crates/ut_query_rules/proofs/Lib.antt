@@ -1,0 +1,9 @@
+pub mod Clean
+pub mod Joined
+pub mod Flatness
+pub mod Judged
+pub mod Reaching
+pub mod Refusing
+pub mod Selected
+pub mod Spelled
+pub mod Tests

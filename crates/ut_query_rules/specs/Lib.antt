@@ -1,0 +1,4 @@
+pub mod Columns
+pub mod Reaching
+pub mod Rules
+pub mod Ways

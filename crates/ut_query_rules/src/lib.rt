@@ -1,0 +1,21 @@
+//! Why a query is refused, by layouts, and which fields its names lead to.
+//!
+//! It depends on `ut_query` for queries, on `ut_stands` for layouts, on `ut_ways` for relationships, on `ut_plan` for where records
+//! have values, and on `ut_model` and `ut_step` for the definitions; it reads no table. Its contract: a query is refused as the
+//! model's rules say.
+#![tactic(auto)]
+
+mod columns;
+mod flat;
+mod items;
+mod paths;
+mod refusals;
+mod rules;
+mod suits;
+mod tails;
+
+pub use crate::columns::{Column, Family, column_in, name_at};
+pub use crate::flat::is_flat;
+pub use crate::refusals::query_refusal;
+pub use crate::rules::{Rule, own_name};
+pub use crate::suits::is_ids;

@@ -9,8 +9,10 @@ PATH is where the tables are: - for memory, or a file. PORT is a number from 0 t
 Commands:
   csvq QUERY           answers a query over the CSV text on standard input
   org-add NAME SECRET  makes an organisation, and writes its id and its administrator's
+  export ORG USER SECRET QUERY
+                       writes the rows of a user's query as CSV; other users of the machine can see SECRET
   answer               answers the HTTP requests of one connection, from standard input to standard output
-  serve COUNT          answers the HTTP requests of the next COUNT connections at 127.0.0.1:PORT
+  serve [COUNT]        answers the HTTP requests of the next COUNT connections at 127.0.0.1:PORT, or of all
 
 With CARMUGUUR_LOG=1 in the environment serve says each reply in a line on standard error.
 

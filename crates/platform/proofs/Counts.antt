@@ -5,7 +5,7 @@ use Rattle.std.specs.Option.{option_map}
 use Rattle.std.specs.Char.{digit_value}
 use Rattle.std.specs.Str.{byte}
 use Rattle.std.specs.Str.Parse.{AllDigits, digits_value}
-use Rattle.platform.specs.Commands.{all_digits, command_of, count_in, is_counting, most_connections, serves}
+use Rattle.platform.specs.Commands.{all_digits, answers, command_of, count_in, export, is_counting, most_connections, prints, serves}
 use Rattle.ut_value.specs.Numerals.{is_within}
 use Rattle.platform.specs.Words.{IsCount}
 
@@ -79,3 +79,27 @@ serve_words {X} f (x ∷ y ∷ []) first second n two a b named k =
     let count : Some n ≡ count_in (f y) = k ∙ ap (λ (z : X). count_in (f z)) b in
     (positive (f y) n count, subst (λ (z : List ℕ). command_of (z ∷ f y ∷ []) ≡ Some (serves n)) (sym word) (sym (ap (option_map serves) count)))
 serve_words f (x ∷ y ∷ z ∷ zs) first second n two a b named k = absurd (omega (arith, two))
+
+-- the word `answer` alone
+pub answer_words : {X : Type 0} (f : X → List ℕ) (ws : List X) (first : X) → length ws ≡ 1 → first ≡ get_or ws 0 first → f first ≡ codes "answer" → command_of (map f ws) ≡ Some answers
+answer_words f [] first one a named = absurd (omega (arith, one))
+answer_words f (x ∷ []) first one a named = subst (λ (z : List ℕ). command_of (z ∷ []) ≡ Some answers) (sym (ap f (sym a) ∙ named)) refl
+answer_words f (x ∷ y ∷ zs) first one a named = absurd (omega (arith, one))
+
+-- words that are `export` and four more
+pub export_words : {X : Type 0} (f : X → List ℕ) (ws : List X) (a b c d e : X) (org user secret query : List ℕ) → length ws ≡ 5 → a ≡ get_or ws 0 a → b ≡ get_or ws 1 b → c ≡ get_or ws 2 c → d ≡ get_or ws 3 d → e ≡ get_or ws 4 e
+    → f a ≡ codes "export" → org ≡ f b → user ≡ f c → secret ≡ f d → query ≡ f e → command_of (map f ws) ≡ Some (prints (export org user secret query))
+export_words f [] a b c d e org user secret query five ha hb hc hd he named o u s q = absurd (omega (arith, five))
+export_words f (v ∷ []) a b c d e org user secret query five ha hb hc hd he named o u s q = absurd (omega (arith, five))
+export_words f (v ∷ w ∷ []) a b c d e org user secret query five ha hb hc hd he named o u s q = absurd (omega (arith, five))
+export_words f (v ∷ w ∷ x ∷ []) a b c d e org user secret query five ha hb hc hd he named o u s q = absurd (omega (arith, five))
+export_words f (v ∷ w ∷ x ∷ y ∷ []) a b c d e org user secret query five ha hb hc hd he named o u s q = absurd (omega (arith, five))
+export_words f (v ∷ w ∷ x ∷ y ∷ z ∷ []) a b c d e org user secret query five ha hb hc hd he named o u s q =
+    let is_org : f w ≡ org = ap f (sym hb) ∙ sym o in
+    let is_user : f x ≡ user = ap f (sym hc) ∙ sym u in
+    let is_secret : f y ≡ secret = ap f (sym hd) ∙ sym s in
+    let is_query : f z ≡ query = ap f (sym he) ∙ sym q in
+    subst (λ (n : List ℕ). command_of (n ∷ f w ∷ f x ∷ f y ∷ f z ∷ []) ≡ Some (prints (export org user secret query))) (sym (ap f (sym ha) ∙ named))
+    (ap (λ (n : List ℕ). Some (prints (export n (f x) (f y) (f z)))) is_org ∙ (ap (λ (n : List ℕ). Some (prints (export org n (f y) (f z)))) is_user
+    ∙ (ap (λ (n : List ℕ). Some (prints (export org user n (f z)))) is_secret ∙ ap (λ (n : List ℕ). Some (prints (export org user secret n))) is_query)))
+export_words f (v ∷ w ∷ x ∷ y ∷ z ∷ more ∷ others) a b c d e org user secret query five ha hb hc hd he named o u s q = absurd (omega (arith, five))

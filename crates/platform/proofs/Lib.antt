@@ -3,7 +3,8 @@ pub mod Ends
 pub mod Judging
 pub mod Runs
 pub mod OfCsvq
-pub mod OfOrgAdd
+pub mod OfExport
+pub mod OfTables
 pub mod OfServing
 pub mod Statuses
 mod Answering

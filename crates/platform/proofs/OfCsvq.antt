@@ -1,5 +1,5 @@
 -- The promise of `run` for `csvq`.
-use Rattle.std.proofs.Common.{◌≡◌, ◌≤◌, ◌<◌, length, inl, inr, ℕ, true, false, IsTrue, List, [], ◌∷◌, Option, Some, Result, Ok, Err, pos, refl, sym, ap, subst, ◌∙◌, arith}
+use Rattle.std.proofs.Common.{◌≡◌, ◌≤◌, ◌<◌, length, inl, inr, ℕ, true, false, IsTrue, List, [], ◌∷◌, Option, Some, None, Result, Ok, Err, pos, refl, sym, ap, subst, ◌∙◌, arith}
 use Rattle.std.proofs.lemmas.Bool.Decides.{nat_tests}
 use Rattle.std.specs.Prelude.{IfOk, IfSome, IsErrOf, nat_le}
 use Rattle.std.specs.Io.KnownBytes.{IsAtEnd}
@@ -19,7 +19,7 @@ use Rattle.ut_model.specs.declared.refusal.Refusal.TheVariants.{InputTooLarge}
 use Rattle.ut_query.specs.declared.query.Query.{Query}
 use Rattle.platform.specs.Deeds.{Prints}
 use Rattle.platform.specs.Promise.{Causes, Promise}
-use Rattle.platform.specs.Run.{IsTold, status_in}
+use Rattle.platform.specs.Run.{AreMoments, IsTold, status_in}
 use Rattle.platform.specs.Seen.{Seen}
 use Rattle.platform.specs.Stops.{IsKnownStatus, csvq_end, is_done}
 use Rattle.platform.specs.declared.printing.CsvqStop.{CsvqStop}
@@ -33,14 +33,16 @@ is_clocked n h = within n h
     within : (n : ℕ) → n ≤ 253402300799 → nat_le n 253402300799 ≡ true
     within n h = grind (arith, nat_tests)
 
--- and it is the first of the moments that are told
-pub told_first : (coming : Option (List ℕ)) (now : ℕ) (moments : List ℕ) → IsFirstMoment coming now → IsTold true coming moments → now ≡ first_moment moments
-told_first coming now moments first (inl e) = absurd (true_isnt_false e)
-told_first coming now moments first (inr e) = by moments (subst (λ (c : Option (List ℕ)). IsFirstMoment c now) e first)
-  where
-    by : (ms : List ℕ) → IsFirstMoment (Some ms) now → now ≡ first_moment ms
-    by [] h = absurd h
-    by (m ∷ ms) h = h
+-- the moments that are told, or else this one
+pub record Moments (coming : Option (List ℕ)) (now : ℕ) : Type 0 where
+  pub moments : List ℕ
+  pub are : AreMoments true coming moments
+  pub first : now ≡ first_moment moments
+
+pub moments_at : (coming : Option (List ℕ)) (now : ℕ) → IsFirstMoment coming now → Moments coming now
+moments_at None now first = record { moments = now ∷ []; are = inr tt; first = refl }
+moments_at (Some []) now first = absurd first
+moments_at (Some (m ∷ ms)) now first = record { moments = m ∷ ms; are = inr refl; first = first }
 
 module _ (query : List ℕ) where
   abbrev This : Command
@@ -97,11 +99,12 @@ module _ (query : List ℕ) (a b : Seen) (r : Result ℕ CsvqStop) (status : ℕ
   stood : Fell a.keeper b.keeper → ⊥
   stood fell = true_isnt_false (sym fell.1 ∙ (ap (λ (k : KeeperState). k.trusted) (sym keeper) ∙ fell.2))
 
-  pub csvq_promise : ((w : World) (bytes moments : List ℕ) → IsTold (reads_input query) a.left bytes → IsTold true a.coming moments → Prints w (printed (csvq query) w bytes moments) a.written b.written (csvq_end r) w)
+  pub csvq_promise : (now : ℕ) → IsFirstMoment a.coming now
+      → ((w : World) (bytes moments : List ℕ) → IsTold (reads_input query) a.left bytes → now ≡ first_moment moments → Prints w (printed (csvq query) w bytes moments) a.written b.written (csvq_end r) w)
       → IfOk r (λ s. s ≡ 0 → IsAtEnd b.left) → AskedOnce a.coming b.coming
       → Cause a.read_faults b.read_faults (IsErrOf r csvq_stop.SourceFailed) → Cause a.write_faults b.write_faults (IsErrOf r csvq_stop.SinkFailed) → Promise (This query) a b status
-  csvq_promise does whole asked source sink = record {
-    does = λ w world. (csvq_end r, same, λ bytes moments told dated. (w, does w bytes moments told dated, tt));
+  csvq_promise now first does whole asked source sink = record {
+    does = λ w world. (csvq_end r, same, λ bytes told. let m = moments_at a.coming now first in (m.moments, m.are, w, does w bytes m.moments told m.first, tt));
     leads = λ serving. absurd (true_isnt_false (sym serving));
     fell = λ fell w s. absurd (stood fell);
     kept = λ told none. subst (λ (k : KeeperState). Shows k a.keeper.tables) (sym keeper) (told.0, refl);

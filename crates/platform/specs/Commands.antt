@@ -1,5 +1,5 @@
 -- The commands, what each uses, and what each prints.
-use Rattle.std.specs.Prelude.{ℕ, Bool, true, false, not, ◌&&◌, ◌==◌, nat_le, if◌then◌else◌, List, [], ◌∷◌, Option, Some, None, codes}
+use Rattle.std.specs.Prelude.{ℕ, ◌-◌, ◌^◌, Bool, true, false, not, ◌&&◌, ◌==◌, nat_le, if◌then◌else◌, List, [], ◌∷◌, Option, Some, None, codes}
 use Rattle.std.specs.Char.{digit_value}
 use Rattle.std.specs.List.{list_any}
 use Rattle.std.specs.Option.{option_map}
@@ -9,6 +9,7 @@ use Rattle.ut_value.specs.Numerals.{is_within}
 use Rattle.ut_model.specs.World.{World}
 use Rattle.platform.specs.Csvq.{first_moment, reads_input, rows_printed}
 use Rattle.platform.specs.Deeds.{Printed, one_deed}
+use Rattle.platform.specs.Export.{export_does}
 use Rattle.platform.specs.OrgAdd.{org_printed, org_world}
 
 -- commands that print a text
@@ -17,6 +18,8 @@ pub data Printing : Type 0 where
   csvq : (query : List ℕ) → Printing
   -- a new organisation with this name and its administrator's secret
   org_add : (name secret : List ℕ) → Printing
+  -- the rows of a query of a user of an organisation, whose secret it is, as lines of CSV
+  export : (org user secret query : List ℕ) → Printing
 
 pub data Command : Type 0 where
   prints : Printing → Command
@@ -36,9 +39,9 @@ abbrev pub is_counting : List ℕ → Bool
 is_counting [] = false
 is_counting (c ∷ cs) = not (c == byte "0") && all_digits (c ∷ cs)
 
--- the most connections that one run serves
+-- the most connections that one run serves: as many as there are without a count
 abbrev pub most_connections : ℕ
-most_connections = 1000000
+most_connections = 2 ^ 64 - 1
 
 -- the count of connections that a word writes: from 1 to the most
 abbrev pub count_in : List ℕ → Option ℕ
@@ -52,17 +55,23 @@ abbrev pub org_add_of : List (List ℕ) → Option Command
 org_add_of (name ∷ secret ∷ []) = Some (prints (org_add name secret))
 org_add_of _ = None
 
+abbrev pub export_of : List (List ℕ) → Option Command
+export_of (org ∷ user ∷ secret ∷ query ∷ []) = Some (prints (export org user secret query))
+export_of _ = None
+
 abbrev pub answer_of : List (List ℕ) → Option Command
 answer_of [] = Some answers
 answer_of _ = None
 
 abbrev pub serve_of : List (List ℕ) → Option Command
+serve_of [] = Some (serves most_connections)
 serve_of (count ∷ []) = option_map serves (count_in count)
 serve_of _ = None
 
 -- the first word of each command, and the command that the words behind it make
 abbrev pub table : List (List ℕ × (List (List ℕ) → Option Command))
-table = (codes "csvq", csvq_of) ∷ (codes "org-add", org_add_of) ∷ (codes "answer", answer_of) ∷ (codes "serve", serve_of) ∷ []
+table =
+    (codes "csvq", csvq_of) ∷ (codes "org-add", org_add_of) ∷ (codes "export", export_of) ∷ (codes "answer", answer_of) ∷ (codes "serve", serve_of) ∷ []
 
 abbrev pub found_in : List (List ℕ × (List (List ℕ) → Option Command)) → List ℕ → List (List ℕ) → Option Command
 found_in [] word arguments = None
@@ -105,6 +114,25 @@ pub record Uses : Type 0 where
 abbrev pub opening_stops : List ℕ
 opening_stops = 71 ∷ 72 ∷ 76 ∷ 77 ∷ []
 
+-- of a command that makes a page of the tables: whether a refusal changes nothing, how often it asks the clock, and whether what it
+-- prints depends on the moment
+abbrev pub table_changes : (keeps : Bool) → List ℕ
+table_changes true = 0 ∷ 73 ∷ []
+table_changes false = 0 ∷ 65 ∷ 73 ∷ []
+
+abbrev pub table_uses : (keeps : Bool) → Asks → (dated : Bool) → Uses
+table_uses keeps clock dated = record {
+  keeper = true;
+  source = false;
+  door = false;
+  clock = clock;
+  dated = dated;
+  statuses = 0 ∷ 65 ∷ 71 ∷ 72 ∷ 73 ∷ 76 ∷ 77 ∷ [];
+  changes = table_changes keeps;
+  writes = 0 ∷ 65 ∷ 73 ∷ [];
+  openings = [];
+}
+
 abbrev pub uses : Printing → Uses
 uses (csvq query) = record {
   keeper = false;
@@ -117,17 +145,8 @@ uses (csvq query) = record {
   writes = 0 ∷ 65 ∷ 73 ∷ [];
   openings = [];
 }
-uses (org_add name secret) = record {
-  keeper = true;
-  source = false;
-  door = false;
-  clock = never;
-  dated = false;
-  statuses = 0 ∷ 65 ∷ 71 ∷ 72 ∷ 73 ∷ 76 ∷ 77 ∷ [];
-  changes = 0 ∷ 73 ∷ [];
-  writes = 0 ∷ 65 ∷ 73 ∷ [];
-  openings = [];
-}
+uses (org_add name secret) = table_uses true never false
+uses (export org user secret query) = table_uses false once true
 
 abbrev pub uses_of : Command → Uses
 uses_of (prints p) = uses p
@@ -211,3 +230,5 @@ used_by (Some command) status = used_so (uses_of command) (may_write command sta
 abbrev pub printed : Printing → World → List ℕ → List ℕ → Printed
 printed (csvq query) w bytes moments = one_deed (rows_printed query bytes (first_moment moments)) w
 printed (org_add name secret) w bytes moments = one_deed (org_printed w name secret) (org_world w name secret)
+printed (export org user secret query) w bytes moments =
+    let x = export_does org user secret query (first_moment moments) w in one_deed x.0 x.1

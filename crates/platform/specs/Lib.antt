@@ -2,6 +2,7 @@ pub mod Printed
 pub mod Csvq
 pub mod OrgAdd
 pub mod Deeds
+pub mod Export
 pub mod Commands
 pub mod Seen
 pub mod Serving

@@ -8,41 +8,40 @@ pub(crate) enum Words<'a> {
     Csvq(&'a str),
     /// `org-add NAME SECRET`
     OrgAdd(&'a str, &'a str),
+    /// `export ORG USER SECRET QUERY`
+    Export(&'a str, &'a str, &'a str, &'a str),
     /// `answer`
     Answer,
-    /// `serve COUNT`
-    Serve(u32),
+    /// `serve` with a COUNT, or with the most
+    Serve(u64),
     /// No command.
     Other,
 }
 
 ghost use Rattle.platform.specs.Words.{AreWords, IsCount};
 
-// The most connections that one run serves.
-const MOST_CONNECTIONS: u32 = 1_000_000;
-
 // The count of connections that a word writes. `parse` takes a plus and leading zeros too.
-fn read_count(word: &str) -> Option<u32>
+fn read_count(word: &str) -> Option<u64>
     ensures count { IsSome result ↔ IsCount word.now }
     ensures number { IfSome result (λ count. count ≡ digits_value 10 word.now) }
 {
     match word.as_bytes() {
         [b'+', ..] | [b'0', ..] => None,
-        _ => match word.parse::<u32>() {
-            Ok(count) if count >= 1 && count <= MOST_CONNECTIONS => Some(count),
+        _ => match word.parse::<u64>() {
+            Ok(count) if count >= 1 => Some(count),
             _ => None,
         },
     }
 }
 
 // The same, by the definition of the commands.
-fn count_of(word: &str) -> Option<u32>
+fn count_of(word: &str) -> Option<u64>
     ensures { result ≡ count_in word.now }
 {
     read_count(word)
 }
 
-/// Whether a word is a count of connections as `serve` takes it: from 1 to 1,000,000 in digits, without a leading zero.
+/// Whether a word is a count of connections as `serve` takes it: from 1 to 2^64 - 1 in digits, without a leading zero.
 pub fn is_count(word: &str) -> bool
     ensures { result ≡ is_some (count_in word.now) }
 {
@@ -52,19 +51,48 @@ pub fn is_count(word: &str) -> bool
 pub(crate) fn read_words(words: &[String]) -> Words<'_>
     ensures { AreWords result (command_of (map string_bytes words.now)) }
 {
-    if words.len() == 2 && words[0].as_bytes() == b"csvq".as_slice() {
-        Words::Csvq(words[1].as_str())
-    } else if words.len() == 3 && words[0].as_bytes() == b"org-add".as_slice() {
-        Words::OrgAdd(words[1].as_str(), words[2].as_str())
-    } else if words.len() == 1 && words[0].as_bytes() == b"answer".as_slice() {
-        Words::Answer
-    } else if words.len() == 2 && words[0].as_bytes() == b"serve".as_slice() {
-        match count_of(words[1].as_str()) {
-            Some(count) => Words::Serve(count),
-            None => Words::Other,
+    match words.len() {
+        1 => {
+            if words[0].as_bytes() == b"answer".as_slice() {
+                Words::Answer
+            } else if words[0].as_bytes() == b"serve".as_slice() {
+                Words::Serve(u64::MAX)
+            } else {
+                Words::Other
+            }
         }
-    } else {
-        Words::Other
+        2 => {
+            if words[0].as_bytes() == b"csvq".as_slice() {
+                Words::Csvq(words[1].as_str())
+            } else if words[0].as_bytes() == b"serve".as_slice() {
+                match count_of(words[1].as_str()) {
+                    Some(count) => Words::Serve(count),
+                    None => Words::Other,
+                }
+            } else {
+                Words::Other
+            }
+        }
+        3 => {
+            if words[0].as_bytes() == b"org-add".as_slice() {
+                Words::OrgAdd(words[1].as_str(), words[2].as_str())
+            } else {
+                Words::Other
+            }
+        }
+        5 => {
+            if words[0].as_bytes() == b"export".as_slice() {
+                Words::Export(
+                    words[1].as_str(),
+                    words[2].as_str(),
+                    words[3].as_str(),
+                    words[4].as_str(),
+                )
+            } else {
+                Words::Other
+            }
+        }
+        _ => Words::Other,
     }
 }
 
@@ -75,6 +103,7 @@ pub fn uses_keeper(words: &[String]) -> bool
     match read_words(words) {
         Words::Csvq(_) => false,
         Words::OrgAdd(_, _) => true,
+        Words::Export(_, _, _, _) => true,
         Words::Answer => true,
         Words::Serve(_) => true,
         Words::Other => false,

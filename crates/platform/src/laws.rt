@@ -28,12 +28,14 @@ pub fn printed_rows()
         ≡ one_deed (record { text = codes "refused: SECRET_REFUSED: 16 to 64 letters or digits\n"; status = 65 }) [] }
 {}
 
-/// What `serve` takes, worked by hand: counts from 1 to 1,000,000 in digits alone. The call does nothing.
+/// What `serve` takes, worked by hand: no count, which is the most, or one from 1 to 2^64 - 1 in digits alone. The call does nothing.
 pub fn serving_rows()
     ensures one { command_of (codes "serve" ∷ codes "1" ∷ []) ≡ Some (serves 1) }
-    ensures most { command_of (codes "serve" ∷ codes "1000000" ∷ []) ≡ Some (serves 1000000) }
+    ensures most { command_of (codes "serve" ∷ codes "18446744073709551615" ∷ []) ≡ Some (serves 18446744073709551615) }
+    ensures all { command_of (codes "serve" ∷ []) ≡ Some (serves 18446744073709551615) }
     ensures none { command_of (codes "serve" ∷ codes "0" ∷ []) ≡ None }
-    ensures many { command_of (codes "serve" ∷ codes "1000001" ∷ []) ≡ None }
+    ensures many { command_of (codes "serve" ∷ codes "18446744073709551616" ∷ []) ≡ None }
+    ensures two { command_of (codes "serve" ∷ codes "1" ∷ codes "2" ∷ []) ≡ None }
     ensures signed { command_of (codes "serve" ∷ codes "+1" ∷ []) ≡ None }
     ensures leading { command_of (codes "serve" ∷ codes "01" ∷ []) ≡ None }
     ensures empty { command_of (codes "serve" ∷ [] ∷ []) ≡ None }

@@ -7,6 +7,7 @@
 
 mod command;
 mod csvq;
+mod export;
 mod laws;
 mod org_add;
 mod page;
@@ -14,6 +15,7 @@ mod printing;
 mod running;
 mod serving;
 mod stop;
+mod tables;
 
 pub use crate::command::{is_count, uses_keeper};
 pub use crate::laws::{printed_rows, run_laws, serving_rows};

@@ -1,6 +1,6 @@
 //! The commands that print: each makes its page first, and writes it then.
 
-ghost use Rattle.std.specs.Prelude.{◌≡◌, ◌⊎◌, List, ℕ, IsErr, IsTrue, IfOk, IsErrOf, false, is_ok, pos};
+ghost use Rattle.std.specs.Prelude.{◌≡◌, ◌⊎◌, List, ℕ, IsErr, IsTrue, IfOk, IsErrOf, false, is_ok, pos, true};
 ghost use Rattle.std.specs.Io.KnownBytes.{IsAtEnd};
 ghost use Rattle.ut_value.specs.Causes.{Cause};
 ghost use Rattle.ut_value.specs.Dates.{is_moment};
@@ -8,19 +8,18 @@ ghost use Rattle.ut_keeper.specs.State.{KeeperCause, Shows, TrustedAfter, Steps,
 ghost use Rattle.ut_keeper.specs.Tables.{Tables};
 ghost use Rattle.ut_model.specs.World.{World};
 ghost use Rattle.ut_stands.specs.Stands.{Stands};
-ghost use Rattle.platform.specs.Commands.{csvq, org_add, printed};
+ghost use Rattle.platform.specs.Commands.{csvq, printed};
 ghost use Rattle.platform.specs.Csvq.{first_moment, reads_input};
 ghost use Rattle.platform.specs.Deeds.{Prints, one_deed};
-ghost use Rattle.platform.specs.OrgAdd.{org_does};
 ghost use Rattle.platform.specs.Run.{IsTold, KeepsWorld, status_in};
 ghost use Rattle.platform.specs.Stops.{IsKnownStatus, VersionStops, behind, csvq_end, csvq_stop_of, is_done, page_end, stop_of_csvq, stop_of_store, store_end, store_stop_of};
 ghost use Rattle.platform.specs.declared.printing.CsvqStop.TheVariants as csvq_stop;
 ghost use Rattle.platform.specs.declared.printing.StoreStop.TheVariants as store_stop;
 
 use crate::csvq::{InputFail, page_of};
-use crate::org_add::org_add_page;
 use crate::page::Page;
 use crate::stop::Stop;
+use crate::tables::{TableWork, page_of_tables};
 use std::alloc::Global;
 use ut_io::{IoFail, Sink, Source, write_all};
 use ut_keeper::Keeper;
@@ -178,29 +177,27 @@ pub(crate) fn print_csvq<S: Source, W: Sink>(
     Ok(write_page(sink, &page)?)
 }
 
-/// Adds an organisation to the tables of the keeper, and writes its line.
-pub(crate) fn print_org_add<K: Keeper, W: Sink>(
+/// Makes the page of a command of the tables of the keeper, with what the command changes, and writes it.
+pub(crate) fn print_tables<K: Keeper, W: Sink, P: TableWork>(
     alloc: Global,
-    name: &str,
-    secret: &str,
+    work: &P,
     keeper: &mut K,
     sink: &mut W,
 ) -> Result<u8, StoreStop>
     ensures prints { Tells (K.state keeper.old) (K.state keeper.new) → (w : World) → Stands (K.state keeper.old).tables w
-        → (bytes moments : List ℕ) → Prints w (printed (org_add name.now secret.now) w bytes moments)
-        (W.written sink.old) (W.written sink.new) (store_end result)
-        (behind w (org_does name.now secret.now w).1 (store_end result)) }
+        → Prints w (one_deed (P.does work.now w).0 (P.does work.now w).1) (W.written sink.old) (W.written sink.new) (store_end result)
+        (behind w (P.does work.now w).1 (store_end result)) }
     ensures keeps { Tells (K.state keeper.old) (K.state keeper.new) → (w : World) → Stands (K.state keeper.old).tables w
-        → KeepsWorld (behind w (org_does name.now secret.now w).1 (store_end result)) (K.state keeper.new) }
+        → KeepsWorld (behind w (P.does work.now w).1 (store_end result)) (K.state keeper.new) }
     ensures version { Tells (K.state keeper.old) (K.state keeper.new)
         → VersionStops (K.state keeper.old).tables (store_end result) }
     ensures kept { Tells (K.state keeper.old) (K.state keeper.new) → is_done (store_end result) ≡ false
         → Shows (K.state keeper.new) (K.state keeper.old).tables }
-    ensures refused { Tells (K.state keeper.old) (K.state keeper.new)
+    ensures refused { P.keeps ≡ true → Tells (K.state keeper.old) (K.state keeper.new)
         → IfOk result (λ status. status ≡ 65 → Shows (K.state keeper.new) (K.state keeper.old).tables) }
     ensures crash { (K.state keeper.old).tells → IsTrue (K.state keeper.old).trusted → IsTrue (K.state keeper.new).is_clean
         → (w : World) → Stands (K.state keeper.old).tables w → (m : Tables) → (K.state keeper.new).may_leave m
-        → (K.state keeper.old).may_leave m ⊎ Stands m (org_does name.now secret.now w).1 }
+        → (K.state keeper.old).may_leave m ⊎ Stands m (P.does work.now w).1 }
     ensures acknowledged { TrustedAfter (is_ok result) (K.state keeper.new) }
     ensures unwritten { is_done (store_end result) ≡ false → sink.new ≡ sink.old }
     ensures status { IsKnownStatus result }
@@ -209,6 +206,6 @@ pub(crate) fn print_org_add<K: Keeper, W: Sink>(
     ensures sink_cause { Cause (W.faults sink.old) (W.faults sink.new) (IsErrOf result store_stop.SinkFailed) }
     ensures sink_stays { W.stays sink.old sink.new }
 {
-    let page = org_add_page(alloc, keeper, name, secret)?;
+    let page = page_of_tables(alloc, keeper, work)?;
     Ok(write_page(sink, &page)?)
 }

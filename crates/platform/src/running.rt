@@ -5,7 +5,9 @@ ghost use Rattle.platform.specs.Run.{status_in};
 ghost use Rattle.platform.specs.Seen.{Seen};
 
 use crate::command::{Words, read_words};
-use crate::printing::{csvq_status, print_csvq, print_org_add, store_status};
+use crate::export::Exporting;
+use crate::org_add::OrgAdd;
+use crate::printing::{csvq_status, print_csvq, print_tables, store_status};
 use crate::serving::{serve_answer, serve_door};
 use crate::stop::Stop;
 use std::alloc::Global;
@@ -29,8 +31,9 @@ fn status_of(ended: Result<u8, Stop>) -> u8
 /// |---|---|
 /// | `csvq QUERY` | reads a CSV text from the source, and writes what a query finds in it |
 /// | `org-add NAME SECRET` | makes an organisation, and writes its id and its administrator's |
+/// | `export ORG USER SECRET QUERY` | writes the rows of a user's query as lines of CSV |
 /// | `answer` | answers the HTTP messages of one connection, which come from the source, to the sink |
-/// | `serve COUNT` | answers the HTTP messages of the first COUNT connections of the door, or of all that come |
+/// | `serve`, `serve COUNT` | answers the HTTP messages of the first COUNT connections of the door, or of all that come; without COUNT of the first 2^64 - 1 |
 ///
 /// | Status | When |
 /// |---|---|
@@ -79,7 +82,18 @@ pub fn run<K: Keeper, D: Door, S: Source, W: Sink, C: Clock>(
             csvq_status(print_csvq(alloc, query, now, source, sink))
         }
         Words::OrgAdd(name, secret) => {
-            store_status(print_org_add(alloc, name, secret, keeper, sink))
+            store_status(print_tables(alloc, &OrgAdd { name, secret }, keeper, sink))
+        }
+        Words::Export(org, user, secret, query) => {
+            let now = clock.now();
+            let work = Exporting {
+                org,
+                user,
+                secret,
+                query,
+                now,
+            };
+            store_status(print_tables(alloc, &work, keeper, sink))
         }
         Words::Answer => status_of(serve_answer(alloc, keeper, source, sink, clock)),
         Words::Serve(count) => status_of(serve_door(alloc, keeper, door, clock, count)),

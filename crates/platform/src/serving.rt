@@ -91,7 +91,7 @@ pub(crate) fn serve_door<K: Keeper, D: Door, C: Clock>(
     keeper: &mut K,
     door: &mut D,
     clock: &mut C,
-    count: u32,
+    count: u64,
 ) -> Result<u8, Stop>
     requires { 0 < count }
     ensures runs { Tells (K.state keeper.old) (K.state keeper.new) → (w : World) → Stands (K.state keeper.old).tables w

@@ -1,18 +1,22 @@
 -- What is given to the fields of a record has its form, for who asks; and so does a deletion.
-use Rattle.std.proofs.Common.{◌≡◌, ℕ, Bool, true, false, IsTrue, List, [], ◌∷◌, Some, refl, sym, ap, subst, ◌∙◌, ℤ, pos}
+use Rattle.std.proofs.Common.{◌≡◌, ℕ, Bool, true, false, IsTrue, List, [], ◌∷◌, Option, None, Some, refl, sym, ap, subst, ◌∙◌, ℤ, pos}
 use Rattle.std.proofs.lemmas.Slice.Eq.{bytes_eq-Decides}
 use Rattle.std.specs.Prelude.{if◌then◌else◌, is_some}
 use Rattle.std.specs.Str.{bytes_eq}
 use Rattle.ut_admin.specs.Administration.{AsksWith}
 use Rattle.ut_deletes.specs.Deleting.{IsDeleting}
+use Rattle.ut_given.specs.Given.{FindNone, Finds}
+use Rattle.ut_given.specs.declared.found.Found.{Found}
 use Rattle.ut_model.specs.declared.caller.Caller.{Caller}
 use Rattle.ut_model.specs.declared.record_bodies.Assignment.{Assignment}
 use Rattle.ut_model.specs.Paths.{Asked}
-use Rattle.ut_model.specs.Tenant.{Object, User}
+use Rattle.ut_model.specs.Keys.{Key}
+use Rattle.ut_model.specs.Tenant.{Object, Tenant, User}
 use Rattle.ut_model.specs.World.{user_at}
-use Rattle.ut_records.specs.Creating.{IsGiving}
+use Rattle.ut_records.specs.Creating.{IsGiving, ReadsFound}
 use Rattle.ut_rights.specs.Rights.{Whose}
-use Rattle.ut_sound.specs.Fit.{IsCaller, OfObjects}
+use Rattle.ut_sound.specs.Fit.{IsCaller, OfObjects, ReadsWell, ReadsWellByKey}
+use Rattle.ut_upserts.specs.Upserting.{ReadsFoundByKey}
 use Rattle.ut_value.specs.Dates.{is_moment}
 
 -- who is found by an id has it
@@ -45,6 +49,18 @@ giving whose c n now reads given spelled a at moment is fit h =
       caller = asked.1;
       reads = subst (λ (g : List Assignment). OfObjects a (reads g a)) (sym is) fit;
     }
+
+-- the same, where what finds a record finds one that is told
+abbrev FindsNone : Type 0
+FindsNone = (t : Tenant) (o : Object) (key : Option Key) (found : List Found) (body : List Assignment) → FindNone body → Finds t o key found body
+
+pub reads_found : {found : List Found} (law : FindsNone) (name : List ℕ) (given : List Assignment) (a : Asked) → FindNone given → OfObjects a (λ o. ReadsWell a o given)
+    → OfObjects a (ReadsFound name found given a)
+reads_found {found = found} law name given a none fit n o there = record { reads = fit n o there; finds = λ x named is. law a.tenant o None found given none }
+
+pub reads_found_by_key : {found : List Found} (law : FindsNone) (name key : List ℕ) (text : Option (List ℕ)) (given : List Assignment) (a : Asked) → FindNone given
+    → OfObjects a (λ o. ReadsWellByKey a key text o given) → OfObjects a (ReadsFoundByKey name key text found given a)
+reads_found_by_key {found = found} law name key text given a none fit n o there = record { reads = fit n o there; finds = λ x named is. law a.tenant o None found given none }
 
 -- the moment, as a deletion has it
 pub deleting : (whose : Whose) (c : Caller) (n : ℕ) (now : ℤ) (a : Asked) → now ≡ pos n → IsTrue (is_moment (pos n)) → AsksWith whose c n a → IsDeleting whose now a

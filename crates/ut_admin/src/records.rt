@@ -17,6 +17,7 @@ use std::alloc::{AllocError, Global};
 use std::str::from_utf8;
 use ut_deletes::Delete;
 use ut_edits::make_edit;
+use ut_given::given_laws;
 use ut_keeper::{Draft, Keeper};
 use ut_model::{Caller, refusal_laws};
 use ut_records::{Create, Update};
@@ -71,6 +72,7 @@ pub(crate) fn new_record<K: Keeper, R: Rights>(
     call_laws::<K>();
     requests_fit();
     refusal_laws();
+    given_laws();
     let values = values_in(alloc, body)?;
     let create = Create {
         rights,
@@ -78,6 +80,7 @@ pub(crate) fn new_record<K: Keeper, R: Rights>(
         now: moment(now),
         object,
         given: values.as_slice(),
+        found: &[],
     };
     made(make_edit(alloc, draft, caller.org, &create))
 }
@@ -150,6 +153,7 @@ pub(crate) fn upserted_record<K: Keeper, R: Rights>(
     call_laws::<K>();
     requests_fit();
     refusal_laws();
+    given_laws();
     let values = values_in(alloc, body)?;
     let text = value_part(alloc, value)?;
     let upsert = Upsert {
@@ -160,6 +164,7 @@ pub(crate) fn upserted_record<K: Keeper, R: Rights>(
         key,
         text,
         given: values.as_slice(),
+        found: &[],
     };
     upserted(make_edit(alloc, draft, caller.org, &upsert))
 }

@@ -1,21 +1,26 @@
 -- Answers that change nothing.
 -- Source of the status: RFC 9110, 15.3.1, of 200.
-use Rattle.std.specs.Prelude.{◌≡◌, ◌≢◌, ◌⊎◌, List, true, IsTrue, Some, Result, Ok, Err, ℤ}
+use Rattle.std.specs.Prelude.{◌≡◌, ◌≢◌, ◌⊎◌, ℕ, List, true, IsTrue, Some, None, Result, Ok, Err, ℤ}
+use Rattle.ut_exec.specs.Written.{ShowsRecords}
+use Rattle.ut_keeper.specs.Draft.{DraftReads, Held, tables_of}
+use Rattle.ut_keeper.specs.State.{KeeperState}
 use Rattle.ut_keeper.specs.Tables.{Tables}
 use Rattle.ut_keys.specs.declared.fail.StoreFail.{StoreFail}
 use Rattle.ut_keys.specs.declared.fail.StoreFail.TheVariants.{Damaged, Memory}
 use Rattle.ut_query.specs.declared.query.Query.{Query}
-use Rattle.ut_model.specs.Asking.{ask}
+use Rattle.ut_model.specs.Asking.{ask, query_rules}
 use Rattle.ut_model.specs.Objects.{Numbered, object_named}
 use Rattle.ut_model.specs.Paths.{Asked}
 use Rattle.ut_model.specs.Refusals.{is_refusal_status}
 use Rattle.ut_model.specs.Replies.{reply_of}
+use Rattle.ut_model.specs.Rules.{first_refusal}
 use Rattle.ut_model.specs.Step.{refusal_reply}
 use Rattle.ut_model.specs.Verdict.{Verdict}
 use Rattle.ut_model.specs.declared.refusal.Refusal.{Refusal}
 use Rattle.ut_model.specs.declared.reply.Reply.{Reply}
 use Rattle.ut_rights.specs.Rights.{Whose}
 use Rattle.ut_step.specs.Flat.{is_flat}
+use Rattle.ut_stands.specs.Calls.{Ending}
 use Rattle.ut_stands.specs.Layouts.{layout_of, own_layouts}
 use Rattle.ut_stands.specs.Local.{StandsIn}
 use Rattle.ut_stands.specs.Plan.{OrgPlan}
@@ -59,3 +64,13 @@ AnswersFlat l sees moment q m result =
 abbrev pub AnswersRelated : List Layout → Layout → (sees whose : Whose) → (moment : ℤ) → Query → Tables → Result Reply StoreFail → Type 0
 AnswersRelated layouts l sees whose moment q m result =
     (p : OrgPlan) (a : Asked) → IsAskedOver layouts l sees whose moment q m p a → AnswersBy a (ask a q) result
+
+module _ {K : Type 0} (state : K → KeeperState) where
+  -- of whoever asks so: if the query breaks a rule, no data row was shown
+  abbrev pub ReadsUnrefused : Layout → (asks : OrgPlan → Asked → Type 0) → Query → (old new : Held K) → Type 0
+  ReadsUnrefused l asks q old new = (p : OrgPlan) (a : Asked) → asks p a → first_refusal (query_rules a.tenant l.object q) ≢ None → DraftReads state 0 old new
+
+  -- what a flat query of this object was shown: each record once at most, and none if it is refused
+  pub record ShowsFlat (l : Layout) (sees : Whose) (moment : ℤ) (q : Query) (each : ℕ) (e : Ending) (old new : Held K) : Type 0 where
+    pub records : ShowsRecords state l (λ p a. sees a.tenant a.user) each e old new
+    pub refused : ReadsUnrefused l (λ p a. IsAskedOf l sees moment q (tables_of state old) p a × (is_flat q ≡ true)) q old new

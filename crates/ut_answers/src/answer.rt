@@ -1,17 +1,18 @@
 //! The reply to a query.
 
-ghost use Rattle.std.specs.Prelude.{◌≡◌, ◌+◌, ℕ, List, IfErr, IfOk, length};
+ghost use Rattle.std.specs.Prelude.{◌≡◌, ◌+◌, ℕ, List, [], IfErr, IfOk, length};
 ghost use Rattle.std.specs.Str.{encode_utf8_all};
-ghost use Rattle.ut_answers.specs.Answers.{AnswersFlat, AnswersRelated, IsReadReply, Refuses};
-ghost use Rattle.ut_answers.specs.Planned.{choice_rows};
+ghost use Rattle.ut_answers.specs.Answers.{AnswersFlat, AnswersRelated, IsAskedOver, IsReadReply, ReadsUnrefused, Refuses, ShowsFlat};
+ghost use Rattle.ut_answers.specs.Planned.{choice_rows, window_of};
 ghost use Rattle.ut_answers.specs.inner.Found.{AnswersPlan};
 ghost use Rattle.ut_exec.specs.Fails.{ended_exec};
-ghost use Rattle.ut_exec.specs.Relatives.{by_relatives};
-ghost use Rattle.ut_exec.specs.Written.{ShowsRecords, WritesRows, most_shown, seeing};
+ghost use Rattle.ut_exec.specs.Relatives.{by_parents, by_relatives};
+ghost use Rattle.ut_exec.specs.Written.{ShowsPages, ShowsRecords, WritesRows, most_shown, seeing};
 ghost use Rattle.ut_keeper.specs.Draft.{DraftTells, removals_of, tables_of};
 ghost use Rattle.ut_keys.specs.declared.fail.StoreFail.TheVariants.{Memory};
 ghost use Rattle.ut_model.specs.Replies.{json_reply, unless_too_large};
 ghost use Rattle.ut_model.specs.RowsJson.{rows_json};
+ghost use Rattle.ut_plan.specs.Checks.{takes};
 ghost use Rattle.ut_replies.specs.Rows.{behind_commas};
 ghost use Rattle.ut_stands.specs.Calls.{Calls, ended};
 ghost use Rattle.ut_step.specs.Shown.{row_shown};
@@ -97,6 +98,11 @@ pub fn write_chosen<K: Keeper, S: Sight, L: Relatives, W: RowForm>(
     ensures calls { Calls K.state
         (most_shown (S.shown + L.parents_shown relatives.now + L.children_shown relatives.now) (removals_of K.state 7 draft.old))
         (ended_exec result) draft.old draft.new }
+    // Without keys, no page is read behind the one with the last row that is taken.
+    ensures early { choice.now.order ≡ [] → ShowsPages K.state layout.now
+        (seeing (S.sees sight.now layout.now) (L.whose relatives.now layout.now.org)) (window_of choice.now)
+        (by_parents (L.parents relatives.now) (takes choice.now.check))
+        (S.shown + L.parents_shown relatives.now + L.children_shown relatives.now) (ended_exec result) draft.old draft.new }
 {
     call_laws::<K>();
     rank_laws();
@@ -182,9 +188,9 @@ pub fn answer_flat<K: Keeper, S: Sight>(
     ensures what { DraftTells K.state draft.old draft.new
         → AnswersFlat layout.now (S.sees sight.now layout.now) now query.now (tables_of K.state draft.old) result }
     ensures form { IfOk result IsReadReply }
-    // Each record of the object is shown once at most, with what tells whether it may be read, as long as the draft removes none.
-    ensures shown { ShowsRecords K.state layout.now (λ q a. S.sees sight.now layout.now a.tenant a.user) S.shown (ended result)
-        draft.old draft.new }
+    // Each record of the object is shown once at most, with what tells whether it may be read, as long as the draft removes none, and
+    // none if the query is refused.
+    ensures shown { ShowsFlat K.state layout.now (S.sees sight.now layout.now) now query.now S.shown (ended result) draft.old draft.new }
     ensures calls { Calls K.state (most_shown S.shown (removals_of K.state 7 draft.old)) (ended result) draft.old draft.new }
 {
     call_laws::<K>();
@@ -223,6 +229,9 @@ pub fn answer_related<K: Keeper, S: Sight, R: Rights>(
     // Each record of the object is shown once at most, with what tells whether it may be read, its parents and its children.
     ensures calls { Calls K.state (most_shown (S.shown + row_shown query.now) (removals_of K.state 7 draft.old)) (ended result)
         draft.old draft.new }
+    // A query that is refused is shown no data row.
+    ensures refused { ReadsUnrefused K.state layout.now (IsAskedOver layouts.now layout.now (S.sees sight.now layout.now)
+        (R.whose rights.now) now query.now (tables_of K.state draft.old)) query.now draft.old draft.new }
 {
     draft_laws::<K>();
     call_laws::<K>();

@@ -19,7 +19,8 @@ use Rattle.ut_query_rules.specs.declared.columns.Column.{Column}
 use Rattle.ut_plan.specs.declared.plan.Member.{Member, Parent, End}
 use Rattle.ut_plan.specs.Shown.{Shows}
 use Rattle.ut_query_rules.specs.Columns.{column_in, placed}
-use Rattle.ut_bind.specs.inner.Members.{IsAt, Sees, ShowsParent, ShowsPath, ShowsPaths, declared_name, field_member, goes_behind, texts_of}
+use Rattle.ut_bind.specs.Names.{relationship_name}
+use Rattle.ut_bind.specs.inner.Members.{IsAt, Sees, ShowsParent, ShowsPath, ShowsPaths, field_member, goes_behind, texts_of}
 use Rattle.ut_bind.specs.inner.Spots.{IsOf, Serve, Setting, far_of}
 use Rattle.ut_query_rules.specs.Ways.{path_column_in}
 use Rattle.ut_query_rules.proofs.Reaching.{column_same}
@@ -39,7 +40,7 @@ no_parent s shows ls from p paths name next names c sees all none there =
 
 module _ (s : Setting) (shows : Shows) (ls : List Layout) (from place : Place) (r p : Record) (name : List ℕ) (all : List Path) (first : List Branch)
     (lead : LeadsToParent s.plan s.asked.tenant from name first place) (sees : Sees s shows ls from.layout.now all p)
-    (declared : List ℕ) (branch : ℕ) (named : declared ≡ declared_name from.layout.now name) (numbered : branch ≡ unwrap_or place.branch 0) where
+    (declared : List ℕ) (branch : ℕ) (named : declared ≡ relationship_name from.layout.now name) (numbered : branch ≡ unwrap_or place.branch 0) where
   declared_so : declared ≡ parent_relationship s.asked p name
   declared_so = named ∙ declared_shown s from.layout.now p name lead.reference sees.own lead.named
 

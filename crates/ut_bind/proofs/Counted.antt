@@ -10,7 +10,7 @@ use Rattle.ut_model.specs.Tests.{Tested, tests_of}
 use Rattle.ut_step.specs.Shown.{item_steps, path_steps, related_shown}
 use Rattle.ut_plan.specs.Plans.{child_shown}
 use Rattle.ut_plan.specs.declared.plan.ChildPlan.{ChildPlan}
-use Rattle.ut_bind.specs.inner.Selecting.{paths_in}
+use Rattle.ut_bind.specs.Cells.{paths_in}
 use Rattle.ut_ways.specs.declared.branches.Branch.{Branch}
 use Rattle.ut_query_rules.proofs.Tests.{tests_and, tests_not, tests_or}
 

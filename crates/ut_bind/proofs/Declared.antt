@@ -19,7 +19,7 @@ use Rattle.ut_ways.specs.Ways.{parent_step}
 use Rattle.ut_ways.proofs.ByLayout.{layout_is, parent_by_layout}
 use Rattle.ut_ways.proofs.Owned.{parent_has}
 use Rattle.ut_query_rules.specs.Columns.{custom_name}
-use Rattle.ut_bind.specs.inner.Members.{declared_name}
+use Rattle.ut_bind.specs.Names.{relationship_name}
 use Rattle.ut_plan.proofs.Lists.{at_number}
 
 -- ---- texts
@@ -68,7 +68,7 @@ field_at n k (g ∷ fs) f h = by (target_of g.kind) h (field_at n (k + 1) fs f)
 
 -- by the layout of its object the name is the one of the reference's field
 pub declared_is : (q : OrgPlan) (t : Tenant) (l : Layout) (name : List ℕ) (f : Reference) → IsLayout q t l → parent_named t l.object name ≡ Some f
-    → declared_name l name ≡ parent_name f.field.name
+    → relationship_name l name ≡ parent_name f.field.name
 declared_is q t l name f laid is =
     let it = layout_is q t l laid in
     let at = field_at l.object 1 it.object.fields f (parent_has t l.object it.object name f it.there is) in

@@ -15,3 +15,4 @@ pub mod Subqueries
 pub mod Picked
 pub mod Owns
 pub mod Counted
+pub mod Celled

@@ -29,7 +29,8 @@ use Rattle.ut_plan.specs.Plans.{children_by}
 use Rattle.ut_plan.specs.Shown.{Shows, ShowsJson, child_text, children_at, shown_text}
 use Rattle.ut_bind.specs.inner.Members.{IsLed, Sees, ShowsPath, field_member}
 use Rattle.ut_query_rules.specs.Rules.{own_name}
-use Rattle.ut_bind.specs.inner.Selecting.{AddsChild, AddsItem, AddsPath, BindsItems, ItemServes, count_of, own_shown, paths_in}
+use Rattle.ut_bind.specs.Cells.{paths_in}
+use Rattle.ut_bind.specs.inner.Selecting.{AddsChild, AddsItem, AddsPath, BindsItems, ItemServes, count_of, own_shown}
 use Rattle.ut_bind.specs.inner.Spots.{IsOf, Setting, far_of}
 use Rattle.ut_plan.proofs.Lists.{and_left, and_right, some_is}
 use Rattle.ut_bind.proofs.Tested.{behind_both}
@@ -92,7 +93,7 @@ one_more (suc n) (z ∷ xs) ys x e =
     let it = one_more n xs ys x e in
     record { taken = ap (λ ws. z ∷ ws) it.taken; left = it.left; within = omega (arith, it.within) }
 
-led_in : (s : Setting) (ls : List Layout) (l : Layout) (items : List Item) → AllByRecursion (ItemServes s ls l) items → AllByRecursion (IsLed s ls l) (paths_in items)
+pub led_in : (s : Setting) (ls : List Layout) (l : Layout) (items : List Item) → AllByRecursion (ItemServes s ls l) items → AllByRecursion (IsLed s ls l) (paths_in items)
 led_in s ls l [] all = tt
 led_in s ls l (item.Path p ∷ items) all = (all.0, led_in s ls l items all.1)
 led_in s ls l (item.Child paths tail ∷ items) all = led_in s ls l items all.1

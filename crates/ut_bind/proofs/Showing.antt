@@ -41,7 +41,8 @@ use Rattle.ut_plan.specs.Checks.{site_of}
 use Rattle.ut_plan.specs.Shown.{Shows, member_text, member_texts, type_and_address}
 use Rattle.ut_bind.specs.inner.Binding.{IsFound}
 use Rattle.ut_query_rules.specs.Columns.{column_in, name_at, placed}
-use Rattle.ut_bind.specs.inner.Members.{IsAt, IsLed, Sees, ShowsPath, ShowsPaths, declared_name, field_member, goes_behind, texts_of}
+use Rattle.ut_bind.specs.Names.{relationship_name}
+use Rattle.ut_bind.specs.inner.Members.{IsAt, IsLed, Sees, ShowsPath, ShowsPaths, field_member, goes_behind, texts_of}
 use Rattle.ut_bind.specs.inner.Spots.{IsOf, Serve, Setting, far_of}
 use Rattle.ut_query_rules.specs.Ways.{path_column_in}
 use Rattle.ut_bind.proofs.Declared.{declared_is}
@@ -108,7 +109,7 @@ number_is : (s : Setting) (l : Layout) (p : Record) → IsOf s l p → object_nu
 number_is s l p is = eqb-true (object_number p.id) l.object (kept (is_of l.object) s.asked.tenant.records p is.has).1
 
 pub declared_shown : (s : Setting) (l : Layout) (p : Record) (name : List ℕ) (f : Reference) → IsOf s l p → parent_named s.asked.tenant l.object name ≡ Some f
-    → declared_name l name ≡ parent_relationship s.asked p name
+    → relationship_name l name ≡ parent_relationship s.asked p name
 declared_shown s l p name f is there =
     let t = s.asked.tenant in
     declared_is s.plan t l name f is.laid there

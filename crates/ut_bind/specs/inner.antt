@@ -1,5 +1,6 @@
 -- Words of private functions.
 pub mod Binding
+pub mod Cells
 pub mod Ends
 pub mod Members
 pub mod Selecting

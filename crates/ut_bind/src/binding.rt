@@ -21,7 +21,8 @@ use ut_query::Query;
 use ut_stands::Layout;
 use ut_value::Items;
 
-fn skip_of(query: &Query) -> usize
+/// How many rows a query leaves out first.
+pub(crate) fn skip_of(query: &Query) -> usize
     ensures { result ≡ spec.skip_of query.now }
 {
     match query.offset {
@@ -30,7 +31,8 @@ fn skip_of(query: &Query) -> usize
     }
 }
 
-fn most_of(query: &Query) -> Option<usize>
+/// How many rows a query takes at most.
+pub(crate) fn most_of(query: &Query) -> Option<usize>
     ensures { result ≡ query.now.tail.limit }
 {
     match query.tail.limit {

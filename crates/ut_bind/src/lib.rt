@@ -7,6 +7,7 @@
 
 mod binding;
 mod branching;
+mod cells;
 mod choosing;
 mod conditions;
 mod counting;
@@ -16,3 +17,5 @@ mod selecting;
 mod spots;
 
 pub use crate::binding::bind;
+pub use crate::cells::{CellPlan, bind_cells};
+pub use crate::members::relationship_name;

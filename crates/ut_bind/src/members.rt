@@ -8,6 +8,7 @@ ghost use Rattle.ut_model.specs.RowsJson.{behind_relationship};
 ghost use Rattle.ut_query.specs.declared.query.Item.TheVariants as item;
 ghost use Rattle.ut_ways.specs.Branches.{AddsBranches, AreBranches, IsAmong};
 ghost use Rattle.ut_query_rules.specs.Columns.{custom_name};
+ghost use Rattle.ut_bind.specs.Names.{relationship_name};
 ghost use Rattle.ut_bind.specs.inner.Members as spec;
 
 use std::alloc::{AllocError, Global};
@@ -46,9 +47,13 @@ fn field_name(fields: &[FieldPlace], position: usize) -> &str
     }
 }
 
-// The name of a parent relationship, as it is declared.
-fn declared_name(alloc: Global, layout: &Layout, name: &str) -> Result<Text, AllocError>
-    ensures { IfOk result (λ text. text ≡ spec.declared_name layout.now (chars name.now)) }
+/// The name of a parent relationship of a layout's object, as it is declared; one that isn't there stays as it is.
+///
+/// # Errors
+///
+/// When out of memory.
+pub fn relationship_name(alloc: Global, layout: &Layout, name: &str) -> Result<Text, AllocError>
+    ensures { IfOk result (λ text. text ≡ relationship_name layout.now (chars name.now)) }
 {
     match parent_in(layout, name) {
         Some(step) => parent_name(alloc, field_name(layout.fields.as_slice(), step.position)),
@@ -164,7 +169,7 @@ fn bind_parent(
     ensures shows { IfOk result (λ m. spec.ShowsParent layouts.now from.entry depth (chars name.now) all.now branches.new.items m) }
     ensures grows { AddsBranches branches.old.items branches.new.items }
 {
-    let declared = declared_name(alloc, from.layout, name)?;
+    let declared = relationship_name(alloc, from.layout, name)?;
     let Some(place) = step_from(layouts, from, name, branches)? else {
         return Ok(None);
     };

@@ -6,6 +6,7 @@ ghost use Rattle.ut_step.specs.Flat.{is_flat_item};
 ghost use Rattle.ut_step.specs.Shown.{item_children_shown, item_steps, path_steps, related_shown, tail_steps};
 ghost use Rattle.ut_plan.specs.Plans.{child_shown};
 ghost use Rattle.ut_ways.specs.Branches.{AddsBranches, AreBranches};
+ghost use Rattle.ut_bind.specs.Cells.{path_in, paths_in};
 ghost use Rattle.ut_bind.specs.inner.Selecting as spec;
 
 use crate::choosing::bind_tail;
@@ -157,7 +158,7 @@ pub(crate) struct Selection {
 
 // A copy of the path that this is, if it is one.
 fn path_of(alloc: Global, item: &Item) -> Result<Option<Path>, AllocError>
-    ensures { IfOk result (λ path. path ≡ spec.path_of item.now) }
+    ensures { IfOk result (λ path. path ≡ path_in item.now) }
 {
     match item {
         Item::Path(path) => Ok(Some(Path {
@@ -167,9 +168,13 @@ fn path_of(alloc: Global, item: &Item) -> Result<Option<Path>, AllocError>
     }
 }
 
-// Copies of the paths among these.
-fn paths_in(alloc: Global, items: &[Item]) -> Result<Items<Path>, AllocError>
-    ensures { IfOk result (λ paths. paths ≡ spec.paths_in items.now) }
+/// Copies of the paths among these.
+///
+/// # Errors
+///
+/// When out of memory.
+pub(crate) fn paths_in(alloc: Global, items: &[Item]) -> Result<Items<Path>, AllocError>
+    ensures { IfOk result (λ paths. paths ≡ paths_in items.now) }
 {
     let mut paths = Vec::new(alloc);
     for item in items {

@@ -1,6 +1,5 @@
 pub mod Cells
 pub mod Making
 pub mod Cutting
-pub mod Naming
 pub mod Answering
 pub mod Turns

@@ -6,13 +6,15 @@ use Rattle.std.specs.Prelude.{is_some}
 use Rattle.std.specs.Str.{bytes_eq}
 use Rattle.csv.specs.Records.{Row, fields_of}
 use Rattle.ut_keeper.specs.Tables.{Tables}
-use Rattle.ut_records.specs.Creating.{IsGiving}
+use Rattle.ut_given.specs.Given.{FindNone, Finds}
+use Rattle.ut_given.specs.declared.found.Found.{Found}
+use Rattle.ut_records.specs.Creating.{IsGiving, ReadsFound}
 use Rattle.ut_value.specs.Dates.{is_moment}
 use Rattle.std.specs.Str.{chars}
 use Rattle.ut_model.specs.Cases.{in_case}
 use Rattle.ut_model.specs.Creates.{create, create_on, create_rules, empty_record, with_record}
 use Rattle.ut_model.specs.Edits.{with_given}
-use Rattle.ut_model.specs.Keys.{with_key}
+use Rattle.ut_model.specs.Keys.{Key, with_key}
 use Rattle.ut_model.specs.Metadata.{add_object, object_rules}
 use Rattle.ut_model.specs.NewFields.{add_field, field_rules}
 use Rattle.ut_model.specs.Objects.{Numbered, object_named}
@@ -175,8 +177,16 @@ same_id id = (bytes_eq-Decides id id).1 refl
 alone : (u : User) → is_some (user_at (u ∷ []) u.id) ≡ true
 alone u = ap (λ (b : Bool). is_some (cond b (Some u) None)) (same_id u.id)
 
-pub row_fits : (now : ℕ) (m : Tables) (a : Asked) (user : List ℕ) (moment : ℤ) (given : List Assignment) → IsMade now m a → user ≡ first_user → moment ≡ pos now
-    → IsTrue (is_moment (pos now)) → ((b : Asked) (o : Object) → ReadsWell b o given) → IsGiving (λ t u. u.admin ≡ true) user moment (λ b o. ReadsWell b o given) a
+abbrev FindsNone : Type 0
+FindsNone = (t : Tenant) (o : Object) (key : Option Key) (found : List Found) (body : List Assignment) → FindNone body → Finds t o key found body
+
+-- nothing finds a record in what a row gives
+pub row_reads : {name : List ℕ} {found : List Found} (law : FindsNone) (given : List Assignment) → FindNone given → ((b : Asked) (o : Object) → ReadsWell b o given)
+    → (b : Asked) (o : Object) → ReadsFound name found given b o
+row_reads {found = found} law given none reads b o = record { reads = reads b o; finds = λ x named is. law b.tenant o None found given none }
+
+pub row_fits : {name : List ℕ} {found : List Found} (now : ℕ) (m : Tables) (a : Asked) (user : List ℕ) (moment : ℤ) (given : List Assignment) → IsMade now m a → user ≡ first_user → moment ≡ pos now
+    → IsTrue (is_moment (pos now)) → ((b : Asked) (o : Object) → ReadsFound name found given b o) → IsGiving (λ t u. u.admin ≡ true) user moment (ReadsFound name found given) a
 row_fits now m a user moment given made is at calendar reads = record {
   asker = record { rights = ap (λ (u : User). u.admin) made.user; user = ap (λ (u : User). u.id) made.user ∙ sym is; now = made.moment ∙ sym at };
   caller = (

@@ -1,4 +1,3 @@
 pub mod Organisation
-pub mod Lines
 pub mod Outcomes
 pub mod inner

@@ -11,7 +11,7 @@ use Rattle.ut_model.specs.Cases.{in_case}
 use Rattle.ut_model.specs.Limits.{input_limit}
 use Rattle.ut_model.specs.Metadata.{add_object}
 use Rattle.ut_model.specs.Paths.{Asked}
-use Rattle.ut_csvq.specs.Lines.{lines_found}
+use Rattle.ut_lines.specs.Lines.{lines_found}
 use Rattle.ut_csvq.specs.Organisation.{asker, new_rows, refusal_of, unless_refused, with_columns, with_rows}
 use Rattle.ut_csvq.specs.declared.outcome.Outcome.{Outcome}
 use Rattle.ut_csvq.specs.declared.outcome.Outcome.TheVariants.{Rows, Refused, RefusedIn}

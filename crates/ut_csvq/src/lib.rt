@@ -8,11 +8,8 @@
 
 mod answer;
 mod columns;
-mod form;
 mod given;
 mod input;
-mod line;
-mod names;
 mod organisation;
 mod outcome;
 mod query;

@@ -14,6 +14,7 @@ use crate::given::given_of;
 use crate::organisation::step;
 use csv::StringRecord;
 use std::alloc::Global;
+use ut_given::given_laws;
 use ut_keeper::{Draft, MemoryKeeper};
 use ut_keys::StoreFail;
 use ut_model::{Refusal, first_user_id};
@@ -45,6 +46,7 @@ fn make_row(
         → Steps now (tables_of memory_state draft.new) a (create a object_name (given_of (fields_of heading.now) (fields_of row.now))) result }
 {
     fit_laws();
+    given_laws();
     let given = given_of(alloc, heading, row)?;
     let create = Create {
         rights: &Administrator,
@@ -52,6 +54,7 @@ fn make_row(
         now: moment(now),
         object,
         given: given.as_slice(),
+        found: &[],
     };
     step(alloc, draft, &create)
 }

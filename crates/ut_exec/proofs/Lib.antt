@@ -1,6 +1,7 @@
 pub mod Offering
 pub mod Paging
 pub mod Unique
+pub mod Cutting
 pub mod Sorting
 pub mod Seeing
 pub mod Keeping

@@ -1,9 +1,9 @@
 -- Rows that are offered one after the other.
-use Rattle.std.proofs.Common.{◌≡◌, ◌∙◌, ℕ, zero, suc, ◌+◌, ◌<◌, ◌≤◌, Bool, true, false, cond, List, [], ◌∷◌, ◌++◌, Option, Some, None, refl, sym, ap, subst, arith, append_assoc, append-nil, length, drop}
-use Rattle.std.specs.Prelude.{IsErrAnd, Result, Ok, Err}
+use Rattle.std.proofs.Common.{◌≡◌, ◌∙◌, ℕ, zero, suc, ◌+◌, ◌<◌, ◌≤◌, Bool, true, false, cond, List, [], ◌∷◌, ◌++◌, Option, Some, None, refl, sym, ap, subst, arith, append_assoc, append-nil, length, drop, replicate, take}
+use Rattle.std.specs.Prelude.{IsErrAnd, Result, Ok, Err, pos}
 use Rattle.std.specs.List.{flat_map}
 use Rattle.std.proofs.lemmas.Grind.{flat_map-append}
-use Rattle.std.proofs.lemmas.List.{length-append}
+use Rattle.std.proofs.lemmas.List.{append_cancel_left, drop-append-le, length-append, length-drop, take-append-le, take-take}
 use Rattle.ut_keys.specs.declared.fail.StoreFail.TheVariants.{Damaged, Keeper, Memory}
 use Rattle.ut_data.specs.Decoding.{each_from}
 use Rattle.ut_model.specs.declared.record.Record.{Record}
@@ -13,7 +13,7 @@ use Rattle.ut_exec.specs.declared.fail.ExecFail.{ExecFail}
 use Rattle.ut_exec.specs.declared.fail.ExecFail.TheVariants.{Store, TooLarge}
 use Rattle.ut_exec.specs.declared.offers.Progress.{Progress}
 use Rattle.ut_exec.specs.declared.window.Window.{Window}
-use Rattle.ut_exec.specs.Windows.{in_window, is_none_left, is_over}
+use Rattle.ut_exec.specs.Windows.{HasAll, IsWanted, in_window, is_none_left, is_over}
 use Rattle.ut_exec.specs.Ranks.{EachOf}
 use Rattle.ut_exec.specs.inner.Offers.{WritesTaken, Offered, Overflows, Written}
 
@@ -70,6 +70,53 @@ none_taken w = ap (limited w.most) (none_dropped w.skip) ∙ by w.most
     by None = refl
     by (Some zero) = refl
     by (Some (suc n)) = refl
+
+-- rows behind those that have all that are taken are not taken
+pub all_taken : (w : Window) (xs ys : List Record) → HasAll w.skip w.most (length xs) → in_window w (xs ++ ys) ≡ in_window w xs
+all_taken w xs ys h = by w.most h
+  where
+    by : (most : Option ℕ) → HasAll w.skip most (length xs) → limited most (drop w.skip (xs ++ ys)) ≡ limited most (drop w.skip xs)
+    by None h = absurd h
+    by (Some zero) h = refl
+    by (Some (suc n)) h =
+        ap (take (suc n)) (drop-append-le w.skip xs ys (omega (arith, h)))
+        ∙ take-append-le (suc n) (drop w.skip xs) ys (omega (arith, h, length-drop w.skip xs))
+
+-- some row
+some_row : Record
+some_row = record { id = []; owner = None; created = pos 0; modified = pos 0; values = [] }
+
+-- a window that isn't over takes one of enough rows
+takes_some : (w : Window) → ((rows : List Record) → in_window w rows ≡ []) → is_over w ≡ true
+takes_some w none = by w.most (none (replicate (suc w.skip) some_row))
+  where
+    apart : (r : Record) (rs : List Record) → r ∷ rs ≡ [] → ⊥
+    apart r rs e = cc
+
+    one : (skip : ℕ) → (others : List Record) × (drop skip (replicate (suc skip) some_row) ≡ some_row ∷ others)
+    one zero = ([], refl)
+    one (suc skip) = one skip
+
+    by : (most : Option ℕ) → limited most (drop w.skip (replicate (suc w.skip) some_row)) ≡ [] → is_none_left most ≡ true
+    by None e = let x = one w.skip in absurd (apart some_row x.0 (sym x.1 ∙ e))
+    by (Some zero) e = refl
+    by (Some (suc n)) e = let x = one w.skip in absurd (apart some_row (take n x.0) (sym (ap (take (suc n)) x.1) ∙ e))
+
+-- of rows of which the first that are wanted are the same, the same are taken
+pub same_taken : (w : Window) (wanted : Option ℕ) (xs ys : List Record) → IsWanted w.skip w.most wanted → limited wanted xs ≡ limited wanted ys → in_window w xs ≡ in_window w ys
+same_taken w wanted xs ys is same = by w.most wanted is same
+  where
+    within : (skip most first : ℕ) (rows : List Record) → first ≡ skip + most → take most (drop skip (take first rows)) ≡ take most (drop skip rows)
+    within zero most first rows e = take-take most first rows (omega (arith, e))
+    within (suc skip) most zero rows e = absurd (omega (arith, e))
+    within (suc skip) most (suc first) [] e = refl
+    within (suc skip) most (suc first) (r ∷ rows) e = within skip most first rows (omega (arith, e))
+
+    by : (most first : Option ℕ) → IsWanted w.skip most first → limited first xs ≡ limited first ys → limited most (drop w.skip xs) ≡ limited most (drop w.skip ys)
+    by most None is same = ap (λ (rows : List Record). limited most (drop w.skip rows)) same
+    by None (Some n) is same = absurd is
+    by (Some m) (Some n) is same =
+        sym (within w.skip m n xs is) ∙ ap (λ (rows : List Record). take m (drop w.skip rows)) same ∙ within w.skip m n ys is
 
 -- ---- one after the other
 
@@ -145,6 +192,13 @@ module _ (row : Record → List ℕ) where
       rest = λ rest. ap (λ (rs : List Record). g.written ++ rs) (over_takes_none b.window rest over ∙ sym (over_takes_none b.window (ys ++ rest) over))
           ∙ g.rest (ys ++ rest) ∙ ap (in_window a.window) (sym (append_assoc xs ys rest));
     }
+
+    -- they have all rows that are taken, so no further one is
+    pub all_over : (seen more : List Record) → xs ≡ seen ++ more → HasAll a.window.skip a.window.most (length seen) → is_over b.window ≡ true
+    all_over seen more is enough = takes_some b.window (λ rest. append_cancel_left g.written (in_window b.window rest) [] (all rest ∙ sym (all []) ∙ ap (λ (rs : List Record). g.written ++ rs) (none_taken b.window)))
+      where
+        all : (ys : List Record) → g.written ++ in_window b.window ys ≡ in_window a.window seen
+        all ys = g.rest ys ∙ ap (λ (rs : List Record). in_window a.window (rs ++ ys)) is ∙ ap (in_window a.window) (append_assoc seen more ys) ∙ all_taken a.window seen (more ++ ys) enough
 
     overflows_on : (ys : List Record) → Overflows row b ys → Overflows row a (xs ++ ys)
     overflows_on ys h rest =

@@ -205,6 +205,7 @@ module _ {R K : Type 0} (l : Layout) (j : Judging R) (state : K → KeeperState)
               gathers = k q w (subst (λ (m : Tables). StandsIn l.org q m (Some w.tenant)) (sym same) s) h its p.page (each_of_made (kept_record l) v.items p.page p.read)
                   (page_has (records_of w.tenant l.object) p.page from.after to.after p.on);
               on = p.on;
+              full = p.full;
               enough = p.enough;
             }
         by told same (Err Damaged) k = λ q w s h its.

@@ -1,17 +1,18 @@
 -- Records that are sorted by their ranks and then by their ids.
-use Rattle.std.proofs.Common.{◌≡◌, ◌∙◌, ℕ, Bool, true, false, cond, List, [], ◌∷◌, ◌++◌, refl, sym, ap, subst, append_assoc, append-nil, map, is_eq}
+use Rattle.std.proofs.Common.{◌≡◌, ◌∙◌, ℕ, Bool, true, false, cond, List, [], ◌∷◌, ◌++◌, refl, sym, ap, subst, append_assoc, append-nil, map, take, is_eq}
 use Rattle.std.specs.List.{AllByRecursion, IsDistinct}
 use Rattle.std.specs.List.Sorted.{IsStrictlySortedBy}
 use Rattle.std.specs.Cmp.Lexicographic.{slice_cmp}
 use Rattle.std.specs.Ordering.{eq_by_cmp, is_lt, nat_cmp, ordering_then}
 use Rattle.std.specs.declared.cmp.Ordering.{Ordering}
 use Rattle.std.specs.declared.cmp.Ordering.TheVariants.{Less, Equal, Greater}
-use Rattle.std.proofs.lemmas.List.{map-append}
+use Rattle.std.proofs.lemmas.List.{map-append, take-map}
 use Rattle.ut_model.specs.declared.record.Record.{Record}
 use Rattle.ut_model.specs.Ordered.{by_id, in_order, put_in}
 use Rattle.ut_exec.specs.declared.ranked.Ranked.{Ranked}
 use Rattle.ut_exec.specs.Ranks.{EachOf, GathersRows, Ranking, SortsRanked, by_rank, ranked_cmp}
 use Rattle.ut_exec.proofs.Paging.{Ascends}
+use Rattle.ut_exec.proofs.Unique.{NoTies, all_has, has_all}
 
 -- ---- order through a function
 
@@ -66,22 +67,45 @@ module _ {R X : Type 0} (cmp : R → R → Ordering) (P : X → Record → Type 
   apart_then Equal b e = ap is_eq e
   apart_then Greater b e = refl
 
-  apart_all : (g : Row) (gs : List Row) → AllByRecursion (λ s. by_id g.its s ≡ Less) (map its_in gs) → AllByRecursion (λ y. eq_by_cmp (ranked_cmp cmp) g.row y ≡ false) (map row_in gs)
-  apart_all g [] all = tt
-  apart_all g (h ∷ gs) all = (ap is_eq (same_order g h) ∙ apart_then (cmp (rank g.its) (rank h.its)) (by_id g.its h.its) all.0, apart_all g gs all.1)
-
-  -- rows of records whose ids rise don't tie
-  apart : (gs : List Row) → Ascends (map its_in gs) → IsDistinct (eq_by_cmp (ranked_cmp cmp)) (map row_in gs)
+  -- records whose ids rise don't tie
+  pub ids_apart : (rs : List Record) → Ascends rs → NoTies (by_rank cmp rank) rs
   unfolding IsDistinct IsStrictlySortedBy
-  apart [] up = tt
-  apart (g ∷ gs) up = (apart_all g gs up.0, apart gs up.1)
+  ids_apart [] up = tt
+  ids_apart (r ∷ rs) up = (
+    has_all (λ (s : Record). eq_by_cmp (by_rank cmp rank) r s ≡ false) rs (λ s h. apart_then (cmp (rank r) (rank s)) (by_id r s) (all_has (λ (x : Record). by_id r x ≡ Less) rs up.0 s h)),
+    ids_apart rs up.1,
+  )
+
+  apart_all : (g : Row) (gs : List Row) → AllByRecursion (λ s. eq_by_cmp (by_rank cmp rank) g.its s ≡ false) (map its_in gs) → AllByRecursion (λ y. eq_by_cmp (ranked_cmp cmp) g.row y ≡ false) (map row_in gs)
+  apart_all g [] all = tt
+  apart_all g (h ∷ gs) all = (ap is_eq (same_order g h) ∙ all.0, apart_all g gs all.1)
+
+  -- rows of records that don't tie don't either
+  rows_apart : (gs : List Row) → NoTies (by_rank cmp rank) (map its_in gs) → IsDistinct (eq_by_cmp (ranked_cmp cmp)) (map row_in gs)
+  unfolding IsDistinct
+  rows_apart [] apart = tt
+  rows_apart (g ∷ gs) apart = (apart_all g gs apart.0, rows_apart gs apart.1)
+
+  pub gathered_apart : (records : List Record) (old : List (Ranked R X)) → NoTies (by_rank cmp rank) records → GathersRows P rank [] old records → IsDistinct (eq_by_cmp (ranked_cmp cmp)) old
+  gathered_apart records old apart g =
+      subst (λ (xs : List (Ranked R X)). IsDistinct (eq_by_cmp (ranked_cmp cmp)) xs) (sym g.behind) (rows_apart g.rows (subst (NoTies (by_rank cmp rank)) (sym g.are) apart))
+
+  -- the first of these rows in order are the rows of the first of their records in order
+  pub gathers_first : (k : ℕ) (records : List Record) (old new : List (Ranked R X)) → GathersRows P rank [] old records → new ≡ take k (in_order (ranked_cmp cmp) old)
+      → GathersRows P rank [] new (take k (in_order (by_rank cmp rank) records))
+  gathers_first k records old new g is = record {
+    rows = take k (in_order by_its g.rows);
+    behind = is ∙ ap (λ (xs : List (Ranked R X)). take k (in_order (ranked_cmp cmp) xs)) g.behind ∙ ap (take k) (in_order_map row_in (ranked_cmp cmp) by_its same_order g.rows)
+        ∙ take-map row_in k (in_order by_its g.rows);
+    are = sym (take-map its_in k (in_order by_its g.rows))
+        ∙ ap (take k) (sym (in_order_map its_in (by_rank cmp rank) by_its (λ a b. refl) g.rows) ∙ ap (in_order (by_rank cmp rank)) g.are);
+  }
 
   -- the records of the rows that were sorted are in order
-  pub sorted_records : (records : List Record) (old new : List (Ranked R X)) → Ascends records → GathersRows P rank [] old records → SortsRanked cmp old new
+  pub sorted_records : (records : List Record) (old new : List (Ranked R X)) → NoTies (by_rank cmp rank) records → GathersRows P rank [] old records → SortsRanked cmp old new
       → EachOf Carries new (in_order (by_rank cmp rank) records)
-  sorted_records records old new up g sorts =
-      let rise : Ascends (map its_in g.rows) = subst Ascends (sym g.are) up in
-      let differ = subst (λ (xs : List (Ranked R X)). IsDistinct (eq_by_cmp (ranked_cmp cmp)) xs) (sym g.behind) (apart g.rows rise) in
+  sorted_records records old new apart g sorts =
+      let differ = gathered_apart records old apart g in
       let in_turn : new ≡ map row_in (in_order by_its g.rows) =
       sorts differ ∙ ap (in_order (ranked_cmp cmp)) g.behind ∙ in_order_map row_in (ranked_cmp cmp) by_its same_order g.rows in
       let its : map its_in (in_order by_its g.rows) ≡ in_order (by_rank cmp rank) records =

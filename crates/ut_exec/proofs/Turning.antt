@@ -129,8 +129,17 @@ module _ (l : Layout) (rs : List Record) (a b : Pages) (rows : List KeptRow) (up
               let is : to ≡ from - 1 = left ∙ ap (λ (t : Bool). cond t 0 (from - 1)) e in
               omega (arith, full, is)
 
+  full : 0 < b.left → 250 ≤ length rows
+  full more = by (nat_lt (length rows) 250) refl
+    where
+      by : (t : Bool) → nat_lt (length rows) 250 ≡ t → 250 ≤ length rows
+      by true e =
+          let none : b.left ≡ 0 = left ∙ ap (λ (t : Bool). cond t 0 (a.left - 1)) e in
+          absurd (omega (arith, none, more))
+      by false e = grind (arith, nat_tests)
+
   pub turns : ReadsOn l rs a b rows
-  turns = record { page = page; read = read; on = on; enough = enough }
+  turns = record { page = page; read = read; on = on; full = full; enough = enough }
 
 -- ---- what was read
 

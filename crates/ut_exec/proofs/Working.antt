@@ -1,11 +1,11 @@
 -- An object's records, page after page.
-use Rattle.std.proofs.Common.{◌≡◌, ◌∙◌, ℕ, suc, ◌+◌, ◌*◌, ◌<◌, ◌≤◌, true, false, List, [], ◌++◌, Some, None, refl, sym, ap, subst, arith, append_assoc, append-nil, length, filter}
+use Rattle.std.proofs.Common.{◌≡◌, ◌∙◌, ℕ, suc, ◌+◌, ◌*◌, ◌<◌, ◌≤◌, true, false, List, Option, [], ◌++◌, Some, None, refl, sym, ap, subst, arith, true≢false, append_assoc, append-nil, drop, length, filter, take, take-append-drop}
 use Rattle.std.specs.Prelude.{Result, Ok, Err, Vec}
 use Rattle.std.specs.Cmp.{IsTotalOrder, on_total, then_total}
 use Rattle.std.specs.declared.cmp.Ordering.{Ordering}
 use Rattle.std.specs.List.{flat_map}
 use Rattle.std.proofs.Math.Nat.{add-mul, mul-add, mul-le-mul_left, mul-le-mul_right, suc-mul}
-use Rattle.std.proofs.lemmas.List.{length-append}
+use Rattle.std.proofs.lemmas.List.{length-append, take-append-le}
 use Rattle.std.proofs.lemmas.List.Kept.{IsStrictlySortedBy-filter}
 use Rattle.ut_keeper.specs.Draft.{DraftTells, Held, removals_of, state_of, tables_of}
 use Rattle.ut_keeper.specs.Laid.{removals}
@@ -21,6 +21,7 @@ use Rattle.ut_model.specs.Membership.{Has}
 use Rattle.ut_model.specs.Objects.{object_numbered, records_of}
 use Rattle.ut_model.specs.Ordered.{by_id, in_order}
 use Rattle.ut_model.specs.Paths.{Asked}
+use Rattle.ut_model.specs.Rows.{limited}
 use Rattle.ut_model.specs.Sound.{IsSound}
 use Rattle.ut_model.specs.Tenant.{Object, Tenant}
 use Rattle.ut_stands.specs.declared.layout.Layout.{Layout}
@@ -35,20 +36,21 @@ use Rattle.ut_exec.specs.declared.offers.Progress.{Progress}
 use Rattle.ut_exec.specs.declared.pages.Pages.{Pages}
 use Rattle.ut_exec.specs.declared.ranked.Ranked.{Ranked}
 use Rattle.ut_exec.specs.declared.window.Window.{Window}
-use Rattle.ut_exec.specs.Ranks.{EachOf, GathersRows, SortsRanked, by_rank}
-use Rattle.ut_exec.specs.Windows.{in_window, is_over}
-use Rattle.ut_exec.specs.Written.{AppendsRows, IfDone, InTenants, WritesRows, most_shown, rows_kept, shown_for}
-use Rattle.ut_exec.specs.inner.Gathering.{FindsAll, ReadsAll}
+use Rattle.ut_exec.specs.Ranks.{EachOf, SortsRanked, by_rank}
+use Rattle.ut_exec.specs.Windows.{HasAll, in_window, is_over}
+use Rattle.ut_exec.specs.Written.{AppendsRows, IfDone, InTenants, WritesRows, most_shown, rows_kept, shown_for, shown_in}
+use Rattle.ut_exec.specs.inner.Gathering.{FindsAll, GathersFirst, ReadsAll}
 use Rattle.ut_exec.specs.inner.Judging.{IsOf, Judging, OfRows, picked}
 use Rattle.ut_exec.specs.inner.Offers.{WritesTaken, Offered}
 use Rattle.ut_exec.specs.inner.Permitted.{FindsPicked, Gathered, GathersPicked, TurnsPage}
 use Rattle.ut_exec.specs.inner.Reading.{beyond}
-use Rattle.ut_exec.proofs.Offering.{all_written, empty_of, goes_on, none_taken, over_takes_none, stops}
+use Rattle.ut_exec.proofs.Cutting.{GathersApart}
+use Rattle.ut_exec.proofs.Offering.{all_over, all_written, empty_of, goes_on, none_taken, over_takes_none, stops}
 use Rattle.ut_exec.proofs.Paging.{Ascends, beyond_none, by_id_total}
 use Rattle.ut_exec.proofs.Passing.{CallsThen, ReadsMost, TellsBoth, shows_more}
 use Rattle.ut_exec.proofs.Permitting.{page_has, picked_both, picked_has, readable_is, readable_rises}
-use Rattle.ut_exec.proofs.Sorting.{gathered_each, sorted_records}
-use Rattle.ut_exec.proofs.Unique.{in_order_has}
+use Rattle.ut_exec.proofs.Sorting.{gathered_each, ids_apart, sorted_records}
+use Rattle.ut_exec.proofs.Unique.{NoTies, in_order_has}
 
 -- of these records so many were read, of those of them that are picked something holds, and there are pages enough for the others
 pub record Reached (pick : List Record → List Record) (rs : List Record) (pages : Pages) (count : ℕ) (Q : List Record → Type 0) : Type 0 where
@@ -70,22 +72,33 @@ has_no_types typed l who m none = λ q w s h its.
     let typed_so : has_types l ≡ true = subst (λ (k : Layout). has_types k ≡ true) one.made (typed l.org l.object q w.tenant one.object s.sound one.there) in
     absurd cc
 
+-- of those of which it holds the first are not enough
+abbrev pub NotYet : (Enough : List Record → Type 0) → (Asked → List Record → Type 0) → Type 0
+NotYet Enough Q = (w : Asked) (seen more : List Record) → Q w (seen ++ more) → Enough seen → ⊥
+
+-- what isn't among so many is beyond them
+beyond_turns : (turns n : ℕ) → (n ≤ turns → ⊥) → suc turns ≤ n
+beyond_turns turns n h = omega (arith, h)
+
 module _ {K : Type 0} (state : K → KeeperState) where
   abbrev removed : Held K → ℕ
   removed a = removals_of state 7 a
 
-  -- so many pages were read, at most so many rows are kept, and of the records so far that are picked something holds
-  pub record UnderWay {R : Type 0} (l : Layout) (j : Judging R) (each : ℕ) (Q : Asked → List Record → Type 0) (pages : Pages) (size : ℕ) (e : Ending) (a b : Held K) : Type 0 where
+  -- so many pages were read, each but the last a full one and none behind those whose records that are picked are enough; at most so many rows
+  -- are kept, and of the records so far that are picked something holds
+  pub record UnderWay {R : Type 0} (l : Layout) (j : Judging R) (each : ℕ) (Enough : List Record → Type 0) (Q : Asked → List Record → Type 0) (pages : Pages) (size : ℕ) (e : Ending) (a b : Held K) : Type 0 where
     pub records : ℕ
     pub turns : ℕ
     pub count : turns + pages.left ≤ 80
     pub sized : size ≤ records
     pub calls : Calls state ((1 + each) * records + turns * removals_of state 7 a) e a b
     pub few : DraftTells state a b → records ≤ 250 * turns
+    pub full : DraftTells state a b → InTenants l j.who (tables_of state a) (λ w. 0 < pages.left → 250 * turns ≤ records)
+    pub early : DraftTells state a b → InTenants l j.who (tables_of state a) (λ w. (n : ℕ) → Enough (picked j w (take (250 * n) (records_of w.tenant l.object))) → turns ≤ n)
     pub reached : DraftTells state a b → InTenants l j.who (tables_of state a) (λ w. Reached (picked j w) (records_of w.tenant l.object) pages records (Q w))
 
-  module _ {R : Type 0} (l : Layout) (j : Judging R) (each : ℕ) where
-    pub begins : (Q : Asked → List Record → Type 0) (a : Held K) → Calls state 0 done a a → ((w : Asked) → Q w []) → UnderWay l j each Q (record { after = None; left = 80 }) 0 done a a
+  module _ {R : Type 0} (l : Layout) (j : Judging R) (each : ℕ) {Enough : List Record → Type 0} where
+    pub begins : (Q : Asked → List Record → Type 0) (a : Held K) → Calls state 0 done a a → ((w : Asked) → Q w []) → UnderWay l j each Enough Q (record { after = None; left = 80 }) 0 done a a
     begins Q a none first = record {
       records = 0;
       turns = 0;
@@ -93,6 +106,8 @@ module _ {K : Type 0} (state : K → KeeperState) where
       sized = omega arith;
       calls = subst (λ (n : ℕ). Calls state n done a a) (omega arith) none;
       few = λ told. omega arith;
+      full = λ told q w s h its some. omega arith;
+      early = λ told q w s h its n enough. omega arith;
       reached = λ told q w s h its. record {
         seen = [];
         split = beyond_none (records_of w.tenant l.object);
@@ -102,7 +117,18 @@ module _ {K : Type 0} (state : K → KeeperState) where
       };
     }
 
-    module _ (tells : TellsBoth state) (then : CallsThen state) (most_of : ReadsMost state) (Q : Asked → List Record → Type 0) (pages : Pages) (size : ℕ) (a b : Held K) (u : UnderWay l j each Q pages size done a b) where
+    module _ (tells : TellsBoth state) (then : CallsThen state) (most_of : ReadsMost state) (Q : Asked → List Record → Type 0) (pages : Pages) (size : ℕ) (a b : Held K) (u : UnderWay l j each Enough Q pages size done a b) where
+      -- the records of full pages that were seen are the first ones, and what is enough of them is so of all that were seen
+      not_enough : (w : Asked) → Reached (picked j w) (records_of w.tenant l.object) pages u.records (Q w) → 250 * u.turns ≤ u.records
+          → (n : ℕ) → n ≤ u.turns → NotYet Enough Q → Enough (picked j w (take (250 * n) (records_of w.tenant l.object))) → ⊥
+      not_enough w r full n few not_yet enough =
+          let within : 250 * n ≤ length r.seen = omega (arith, full, few, r.many) in
+          let first : take (250 * n) (records_of w.tenant l.object) ≡ take (250 * n) r.seen =
+          ap (take (250 * n)) (sym r.split) ∙ take-append-le (250 * n) r.seen (beyond pages.after (records_of w.tenant l.object)) within in
+          let both : picked j w r.seen ≡ picked j w (take (250 * n) r.seen) ++ picked j w (drop (250 * n) r.seen) =
+          ap (picked j w) (sym (take-append-drop (250 * n) r.seen)) ∙ picked_both j w (take (250 * n) r.seen) (drop (250 * n) r.seen) in
+          not_yet w (picked j w (take (250 * n) r.seen)) (picked j w (drop (250 * n) r.seen)) (subst (Q w) both r.does) (subst (λ (rs : List Record). Enough (picked j w rs)) first enough)
+
       same_removed : removed b ≡ removed a
       same_removed = ap (removals 7) u.calls.reads.changes
 
@@ -120,10 +146,11 @@ module _ {K : Type 0} (state : K → KeeperState) where
         abbrev two_reads : Calls state (((1 + each) * u.records + u.turns * removed a) + ((1 + own) * page.count + removed b)) done a c
         two_reads = then _ _ done a b c u.calls page.calls
 
-        pub turn : (P : Asked → List Record → Type 0) (to : ℕ) → to ≤ size + page.count
+        -- as long as those seen are not enough
+        pub turn : NotYet Enough Q → (P : Asked → List Record → Type 0) (to : ℕ) → to ≤ size + page.count
             → (DraftTells state a d → InTenants l j.who (tables_of state a) (λ w. (seen page : List Record) → ((r : Record) → Has page r → Has (records_of w.tenant l.object) r)
-            → GathersPicked l j old new w page → Q w seen → P w (seen ++ picked j w page))) → UnderWay l j each P turned to e a d
-        turn P to fits step = record {
+            → GathersPicked l j old new w page → Q w seen → P w (seen ++ picked j w page))) → UnderWay l j each Enough P turned to e a d
+        turn not_yet P to fits step = record {
           records = u.records + page.count;
           turns = suc u.turns;
           count = omega (arith, u.count, less);
@@ -135,6 +162,18 @@ module _ {K : Type 0} (state : K → KeeperState) where
               let before : u.records ≤ 250 * u.turns = u.few tell.0 in
               let now : page.count ≤ 250 = page.few tell.1 in
               omega (arith, before, now);
+          full = λ told q w s h its some.
+              let first = tells _ _ a c d two_reads.reads later.reads told in
+              let tell = tells _ _ a b c u.calls.reads page.calls.reads first.0 in
+              let p = page.page tell.1 q w (subst (λ (m : Tables). StandsIn l.org q m (Some w.tenant)) (sym tell.2) s) h its in
+              let before : 250 * u.turns ≤ u.records = u.full tell.0 q w s h its (omega (arith, less)) in
+              let now : 250 ≤ page.count = p.full some in
+              omega (arith, before, now);
+          early = λ told q w s h its n enough.
+              let first = tells _ _ a c d two_reads.reads later.reads told in
+              let tell = tells _ _ a b c u.calls.reads page.calls.reads first.0 in
+              beyond_turns u.turns n (λ few.
+              not_enough w (u.reached tell.0 q w s h its) (u.full tell.0 q w s h its (omega (arith, less))) n few not_yet enough);
           reached = λ told q w s h its.
               let first = tells _ _ a c d two_reads.reads later.reads told in
               let tell = tells _ _ a b c u.calls.reads page.calls.reads first.0 in
@@ -151,10 +190,10 @@ module _ {K : Type 0} (state : K → KeeperState) where
         }
 
         -- whose rows are offered
-        pub turn_offers : (offering : OrgPlan → Asked → Type 0) → ((q : OrgPlan) (w : Asked) → j.who q w → offering q w) → old ≡ [] → (T : Asked → List Record → Type 0)
+        pub turn_offers : NotYet Enough Q → (offering : OrgPlan → Asked → Type 0) → ((q : OrgPlan) (w : Asked) → j.who q w → offering q w) → old ≡ [] → (T : Asked → List Record → Type 0)
             → (DraftTells state c d → OfRows l offering (λ w (x : Ranked R Candidate). IsOf l (j.parents w) x.kept) new (tables_of state c) T)
-            → (P : Asked → List Record → Type 0) → ((w : Asked) (seen page : List Record) → Q w seen → T w page → P w (seen ++ page)) → UnderWay l j each P turned 0 e a d
-        turn_offers offering its_own none T offers P joins = turn P 0 (omega arith) (λ told q w s h its seen rows has gathers goes.
+            → (P : Asked → List Record → Type 0) → ((w : Asked) (seen page : List Record) → Q w seen → T w page → P w (seen ++ page)) → UnderWay l j each Enough P turned 0 e a d
+        turn_offers not_yet offering its_own none T offers P joins = turn not_yet P 0 (omega arith) (λ told q w s h its seen rows has gathers goes.
             let first = tells _ _ a c d two_reads.reads later.reads told in
             let here = subst (λ (m : Tables). StandsIn l.org q m (Some w.tenant)) (sym first.2) s in
             let from_none = subst (λ (xs : Gathered R). GathersPicked l j xs new w rows) none gathers in
@@ -212,15 +251,15 @@ module _ {K : Type 0} (state : K → KeeperState) where
             let found = subst (λ (f : StoreFail). FindsPicked l j pages turned page.count old new (tables_of state b) (Err f)) is (page.page tell.1) in
             found q w (subst (λ (m : Tables). StandsIn l.org q m (Some w.tenant)) (sym tell.2) s) h its
 
-        pub page_unfound : {A : Type 0} → DraftTells state a c → (rows : Result (Vec (Ranked R Candidate) A) StoreFail) → rows ≡ Err e → FindsAll l j (tables_of state a) rows
-        page_unfound {A = A} told rows is = subst (FindsAll l j (tables_of state a)) (sym is) (by e (page_undamaged told))
+        pub page_unfound : {A : Type 0} (cmp : R → R → Ordering) (wanted : Option ℕ) → DraftTells state a c → (rows : Result (Vec (Ranked R Candidate) A) StoreFail) → rows ≡ Err e → FindsAll l j cmp wanted (tables_of state a) rows
+        page_unfound {A = A} cmp wanted told rows is = subst (FindsAll l j cmp wanted (tables_of state a)) (sym is) (by e (page_undamaged told))
           where
-            by : (f : StoreFail) → (f ≡ Damaged → InTenants l j.who (tables_of state a) (λ w. ⊥)) → FindsAll {A = A} l j (tables_of state a) (Err f)
+            by : (f : StoreFail) → (f ≡ Damaged → InTenants l j.who (tables_of state a) (λ w. ⊥)) → FindsAll {A = A} l j cmp wanted (tables_of state a) (Err f)
             by Damaged h = h refl
             by Keeper h = tt
             by Memory h = tt
 
-    module _ (Q : Asked → List Record → Type 0) (pages : Pages) (size : ℕ) (e : Ending) (a b : Held K) (u : UnderWay l j each Q pages size e a b) where
+    module _ (Q : Asked → List Record → Type 0) (pages : Pages) (size : ℕ) (e : Ending) (a b : Held K) (u : UnderWay l j each Enough Q pages size e a b) where
       turned_few : u.turns * removed a ≤ 80 * removed a
       turned_few = mul-le-mul_right (removed a) (omega (arith, u.count))
 
@@ -255,6 +294,20 @@ module _ {K : Type 0} (state : K → KeeperState) where
       any_shown told fell = tt
       any_shown told stopped = tt
 
+      -- no page was read behind those that are enough
+      pub any_early : DraftTells state a b → (f : Ending)
+          → IfDone f (InTenants l j.who (tables_of state a) (λ w. (n : ℕ) → Enough (picked j w (take (250 * n) (records_of w.tenant l.object)))
+          → ShowsMost (shown_in each n (removals_of state 7 a)) (state_of state a) (state_of state b)))
+      any_early told done = λ q w s h its n enough.
+          let last : u.turns ≤ n = u.early told q w s h its n enough in
+          let few : u.records ≤ 250 * u.turns = u.few told in
+          let all : (1 + each) * u.records ≤ (1 + each) * (250 * n) = mul-le-mul_left (1 + each) (omega (arith, last, few)) in
+          let gone : u.turns * removed a ≤ n * removed a = mul-le-mul_right (removed a) last in
+          let shows = u.calls.reads.shows told in
+          omega (arith, all, gone, shows)
+      any_early told fell = tt
+      any_early told stopped = tt
+
       -- all pages were read
       pub all_read : pages.left ≤ 0 → DraftTells state a b → InTenants l j.who (tables_of state a) (λ w. Q w (picked j w (records_of w.tenant l.object)))
       all_read none told = λ q w s h its.
@@ -264,7 +317,7 @@ module _ {K : Type 0} (state : K → KeeperState) where
           let whole : r.seen ≡ records_of w.tenant l.object = sym (append-nil r.seen) ∙ ap (λ (rs : List Record). r.seen ++ rs) (sym empty) ∙ r.split in
           subst (λ (rs : List Record). Q w (picked j w rs)) whole r.does
 
-    pub reads_all : {A : Type 0} → ReadsMost state → (Q : Asked → List Record → Type 0) (pages : Pages) (v : Vec (Ranked R Candidate) A) (a b : Held K) → UnderWay l j each Q pages (length v.items) done a b
+    pub reads_all : {A : Type 0} → ReadsMost state → (Q : Asked → List Record → Type 0) (pages : Pages) (v : Vec (Ranked R Candidate) A) (a b : Held K) → UnderWay l j each Enough Q pages (length v.items) done a b
         → ReadsAll l j state each a b (Ok v)
     reads_all most_of Q pages v a b u = record {
       records = u.records;
@@ -275,6 +328,7 @@ module _ {K : Type 0} (state : K → KeeperState) where
       sized = u.sized;
     }
 
+  module _ {R : Type 0} (l : Layout) (j : Judging R) (each : ℕ) where
     -- none were gathered
     pub gathered_none : {A : Type 0} → ReadsMost state → (kids : ℕ) (a b : Held K) (e : StoreFail) → ReadsAll {A = A} l j state each a b (Err e) → Calls state (most_shown (each + kids) (removals_of state 7 a)) (ended_by e) a b
     gathered_none most_of kids a b e g =
@@ -318,22 +372,55 @@ module _ {K : Type 0} (state : K → KeeperState) where
 
 -- ---- rows that are sorted
 
--- the rows that were sorted are those of the records that are picked, in order
-pub record InOrder {R : Type 0} (l : Layout) (j : Judging R) (cmp : R → R → Ordering) (x : Asked) (sorted : Gathered R) : Type 0 where
-  pub each : EachOf (λ (row : Ranked R Candidate) r. IsOf l (j.parents x) row.kept r) sorted (in_order (by_rank cmp (j.rank x)) (filter (j.keep x) (readable x.tenant x.user l.object)))
-  pub has : (r : Record) → Has (in_order (by_rank cmp (j.rank x)) (filter (j.keep x) (readable x.tenant x.user l.object))) r → Has (records_of x.tenant l.object) r
+-- the rows that were sorted are those of some of the records that are picked, in order, the first of which are the first of all
+pub record InOrder {R : Type 0} (l : Layout) (j : Judging R) (cmp : R → R → Ordering) (wanted : Option ℕ) (x : Asked) (sorted : Gathered R) : Type 0 where
+  pub rows : List Record
+  pub each : EachOf (λ (row : Ranked R Candidate) r. IsOf l (j.parents x) row.kept r) sorted rows
+  pub has : (r : Record) → Has rows r → Has (records_of x.tenant l.object) r
+  pub first : limited wanted rows ≡ limited wanted (in_order (by_rank cmp (j.rank x)) (filter (j.keep x) (readable x.tenant x.user l.object)))
 
-pub in_order_so : {R : Type 0} (l : Layout) (j : Judging R) (cmp : R → R → Ordering) → IsTotalOrder cmp → (old sorted : Gathered R) → SortsRanked cmp old sorted → (x : Asked) → Ascends (records_of x.tenant l.object)
-    → GathersPicked l j [] old x (records_of x.tenant l.object) → InOrder l j cmp x sorted
-in_order_so l j cmp total old sorted sorts x up gathers =
-    let rs = filter (j.keep x) (readable x.tenant x.user l.object) in
-    let same : picked j x (records_of x.tenant l.object) ≡ rs = ap (filter (j.keep x)) (sym (readable_is x.tenant x.user l.object)) in
-    let rise : Ascends rs = IsStrictlySortedBy-filter by_id (j.keep x) (readable x.tenant x.user l.object) (readable_rises x.tenant x.user l.object up) in
-    record {
-      each = sorted_records cmp (IsOf l (j.parents x)) (j.rank x) rs old sorted rise (subst (λ (ys : List Record). GathersRows (IsOf l (j.parents x)) (j.rank x) [] old ys) same gathers) sorts;
-      has = λ r h. picked_has j x (records_of x.tenant l.object) r
-          (subst (λ (ys : List Record). Has ys r) (sym same) (in_order_has (by_rank cmp (j.rank x)) (then_total (on_total (j.rank x) total) by_id_total) rs r h));
-    }
+module _ {R : Type 0} (l : Layout) (j : Judging R) (cmp : R → R → Ordering) (total : IsTotalOrder cmp) (wanted : Option ℕ) (x : Asked) where
+  abbrev its_order : Record → Record → Ordering
+  its_order = by_rank cmp (j.rank x)
+
+  abbrev its_total : IsTotalOrder its_order
+  its_total = then_total (on_total (j.rank x) total) by_id_total
+
+  -- what was gathered in all
+  pub gathered_all : (rows : Gathered R) → GathersApart cmp total (IsOf l (j.parents x)) (j.rank x) wanted rows (picked j x (records_of x.tenant l.object))
+      → NoTies its_order (picked j x (records_of x.tenant l.object)) → GathersFirst l j cmp wanted rows x (picked j x (records_of x.tenant l.object))
+  gathered_all rows goes apart =
+      let rs = picked j x (records_of x.tenant l.object) in
+      let g = goes apart in
+      let none : NoTies its_order (rs ++ []) = subst (NoTies its_order) (sym (append-nil rs)) apart in
+      record {
+        kept = g.kept;
+        rows = g.gathered;
+        has = g.ahead.has;
+        apart = subst (NoTies its_order) (append-nil g.kept) (g.ahead.apart [] none);
+        first = ap (λ (ys : List Record). limited wanted (in_order its_order ys)) (sym (append-nil g.kept)) ∙ g.ahead.first [] none
+            ∙ ap (λ (ys : List Record). limited wanted (in_order its_order ys)) (append-nil rs);
+      }
+
+  pub in_order_so : (old sorted : Gathered R) → SortsRanked cmp old sorted → Ascends (records_of x.tenant l.object)
+      → (NoTies its_order (picked j x (records_of x.tenant l.object)) → GathersFirst l j cmp wanted old x (picked j x (records_of x.tenant l.object))) → InOrder l j cmp wanted x sorted
+  in_order_so old sorted sorts up gathers =
+      let rs = picked j x (records_of x.tenant l.object) in
+      let same : rs ≡ filter (j.keep x) (readable x.tenant x.user l.object) = ap (filter (j.keep x)) (sym (readable_is x.tenant x.user l.object)) in
+      let rise : Ascends rs = subst Ascends (sym same) (IsStrictlySortedBy-filter by_id (j.keep x) (readable x.tenant x.user l.object) (readable_rises x.tenant x.user l.object up)) in
+      let g = gathers (ids_apart cmp (IsOf l (j.parents x)) (j.rank x) rs rise) in
+      record {
+        rows = in_order its_order g.kept;
+        each = sorted_records cmp (IsOf l (j.parents x)) (j.rank x) g.kept old sorted g.apart g.rows sorts;
+        has = λ r h. picked_has j x (records_of x.tenant l.object) r (g.has r (in_order_has its_order its_total g.kept r h));
+        first = g.first ∙ ap (λ (ys : List Record). limited wanted (in_order its_order ys)) same;
+      }
+
+-- so it is of rows of which the same are taken
+pub record Taken (w : Window) (chosen : List Record) (T : List Record → Type 0) : Type 0 where
+  pub rows : List Record
+  pub its : T rows
+  pub same : in_window w rows ≡ in_window w chosen
 
 -- ---- rows that are written as they come
 
@@ -359,11 +446,21 @@ module _ (row : Asked → Record → List ℕ) (w : Window) (room : ℕ) (old : 
   -- of all rows that were to be offered
 
   module _ (l : Layout) (who : OrgPlan → Asked → Type 0) (m : Tables) (chosen : Asked → List Record) where
-    pub what_offered : (p : Progress) (new : List ℕ) → InTenants l who m (λ a. WritesTaken (row a) start p old new (chosen a)) → WritesRows l who (λ a. in_window w (chosen a)) row room old new m (Ok p.count)
+    pub what_offered : (p : Progress) (new : List ℕ) → InTenants l who m (λ a. Taken w (chosen a) (WritesTaken (row a) start p old new)) → WritesRows l who (λ a. in_window w (chosen a)) row room old new m (Ok p.count)
     what_offered p new g = λ q a s h its.
-        let whole = all_written (row a) start p old new (chosen a) [] (g q a s h its) (none_taken p.window) in
-        subst (λ (rs : List Record). AppendsRows (row a) room (in_window w rs) old new p.count) (append-nil (chosen a))
+        let x = g q a s h its in
+        let whole = all_written (row a) start p old new x.rows [] x.its (none_taken p.window) in
+        subst (λ (rs : List Record). AppendsRows (row a) room rs old new p.count) (ap (in_window w) (append-nil x.rows) ∙ x.same)
         (record { counted = whole.counted ∙ omega arith; appended = whole.appended; fits = whole.fits })
+
+    -- it stopped at one of them
+    pub what_cut : (p : Progress) (new : List ℕ) (e : ExecFail) → InTenants l who m (λ a. Taken w (chosen a) (λ (rs : List Record). Offered (row a) start p old new rs (Err e))) → WritesRows l who (λ a. in_window w (chosen a)) row room old new m (Err e)
+    what_cut p new TooLarge h = λ q a s here its.
+        let x = h q a s here its in
+        subst (λ (rs : List Record). room < length (flat_map (row a) rs)) (ap (in_window w) (append-nil x.rows) ∙ x.same) (x.its [])
+    what_cut p new (Store Damaged) h = λ q a s here its. (h q a s here its).its
+    what_cut p new (Store Keeper) h = tt
+    what_cut p new (Store Memory) h = tt
 
     pub what_failed : (p : Progress) (new : List ℕ) (e : ExecFail) → InTenants l who m (λ a. Offered (row a) start p old new (chosen a) (Err e)) → WritesRows l who (λ a. in_window w (chosen a)) row room old new m (Err e)
     what_failed p new TooLarge h = λ q a s here its. subst (λ (rs : List Record). room < length (flat_map (row a) (in_window w rs))) (append-nil (chosen a)) (h q a s here its [])
@@ -387,7 +484,7 @@ module _ (row : Asked → Record → List ℕ) (w : Window) (room : ℕ) (old : 
     both_kept x seen rest split =
         sym (picked_both j x seen rest) ∙ ap (picked j x) split ∙ ap (filter (j.keep x)) (sym (readable_is x.tenant x.user l.object))
 
-    pub what_stopped : (p : Progress) (new : List ℕ) (e : ExecFail) (size : ℕ) (f : Ending) → UnderWay state l j each (Stopped p new e) pages size f a b
+    pub what_stopped : {Enough : List Record → Type 0} (p : Progress) (new : List ℕ) (e : ExecFail) (size : ℕ) (f : Ending) → UnderWay state l j each Enough (Stopped p new e) pages size f a b
         → WritesRows l j.who (rows_kept w j.keep l.object) row room old new (tables_of state a) (Err e)
     what_stopped p new e size f u =
         what_failed l j.who (tables_of state a) all_picked p new e (λ q x s h its.
@@ -395,7 +492,7 @@ module _ (row : Asked → Record → List ℕ) (w : Window) (room : ℕ) (old : 
         let rest = beyond pages.after (records_of x.tenant l.object) in
         subst (λ (rs : List Record). Offered (row x) start p old new rs (Err e)) (both_kept x r.seen rest r.split) (r.does (picked j x rest)))
 
-    pub what_written : (p : Progress) (new : List ℕ) (size : ℕ) (f : Ending) → UnderWay state l j each (Offers p new) pages size f a b
+    pub what_written : {Enough : List Record → Type 0} (p : Progress) (new : List ℕ) (size : ℕ) (f : Ending) → UnderWay state l j each Enough (Offers p new) pages size f a b
         → ((x : Asked) (rest : List Record) → length rest ≤ 250 * pages.left → in_window p.window (picked j x rest) ≡ [])
         → WritesRows l j.who (rows_kept w j.keep l.object) row room old new (tables_of state a) (Ok p.count)
     what_written p new size f u over = λ q x s h its.
@@ -404,6 +501,10 @@ module _ (row : Asked → Record → List ℕ) (w : Window) (room : ℕ) (old : 
         let whole = all_written (row x) start p old new (picked j x r.seen) (picked j x rest) r.does (over x rest r.enough) in
         subst (λ (rs : List Record). AppendsRows (row x) room (in_window w rs) old new p.count) (both_kept x r.seen rest r.split)
         (record { counted = whole.counted ∙ omega arith; appended = whole.appended; fits = whole.fits })
+
+  -- rows that have all that are taken are not offered while the window takes more
+  pub offers_few : (p : Progress) (new : List ℕ) → is_over p.window ≡ false → (a : Asked) (seen more : List Record) → Offers p new a (seen ++ more) → HasAll w.skip w.most (length seen) → ⊥
+  offers_few p new more_taken a seen more goes enough = true≢false (sym (all_over (row a) start p old new (seen ++ more) goes seen more refl enough) ∙ more_taken)
 
 module _ {R : Type 0} (j : Judging R) (p : Progress) (pages : Pages) where
   pub over_ends : is_over p.window ≡ true → (x : Asked) (rest : List Record) → length rest ≤ 250 * pages.left → in_window p.window (picked j x rest) ≡ []

@@ -1,8 +1,20 @@
 -- Rows without the first few, and at most so many.
-use Rattle.std.specs.Prelude.{ℕ, zero, suc, Bool, true, false, List, drop, Option, Some, None}
+use Rattle.std.specs.Prelude.{◌≡◌, ℕ, zero, suc, ◌+◌, ◌≤◌, Bool, true, false, List, drop, Option, Some, None}
 use Rattle.ut_model.specs.declared.record.Record.{Record}
 use Rattle.ut_model.specs.Rows.{limited}
 use Rattle.ut_exec.specs.declared.window.Window.{Window}
+
+-- so many rows have all that are taken: OFFSET and LIMIT together
+abbrev pub HasAll : (skip : ℕ) → (most : Option ℕ) → (count : ℕ) → Type 0
+HasAll skip None count = ⊥
+HasAll skip (Some zero) count = Unit {0}
+HasAll skip (Some (suc n)) count = skip + suc n ≤ count
+
+-- if so many rows are given, they are those that are left out first and those that are taken
+abbrev pub IsWanted : (skip : ℕ) → (most : Option ℕ) → Option ℕ → Type 0
+IsWanted skip most None = Unit {0}
+IsWanted skip None (Some n) = ⊥
+IsWanted skip (Some m) (Some n) = n ≡ skip + m
 
 -- no row more
 abbrev pub is_none_left : Option ℕ → Bool

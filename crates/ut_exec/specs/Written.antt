@@ -1,5 +1,5 @@
 -- What is written, and what is shown for it.
-use Rattle.std.specs.Prelude.{◌≡◌, ℕ, ◌+◌, ◌*◌, ◌<◌, ◌≤◌, Bool, List, ◌++◌, length, filter, Some, Result, Ok, Err}
+use Rattle.std.specs.Prelude.{◌≡◌, ℕ, ◌+◌, ◌*◌, ◌<◌, ◌≤◌, Bool, List, ◌++◌, length, filter, take, Some, Result, Ok, Err}
 use Rattle.std.specs.List.{flat_map}
 use Rattle.std.specs.declared.cmp.Ordering.{Ordering}
 use Rattle.ut_keeper.specs.Draft.{DraftTells, Held, removals_of, state_of, tables_of}
@@ -8,7 +8,7 @@ use Rattle.ut_keeper.specs.Tables.{Tables}
 use Rattle.ut_keys.specs.declared.fail.StoreFail.TheVariants.{Damaged, Keeper, Memory}
 use Rattle.ut_model.specs.declared.limit.Limit.TheVariants.{RecordsPerObject}
 use Rattle.ut_model.specs.declared.record.Record.{Record}
-use Rattle.ut_model.specs.Levels.{readable}
+use Rattle.ut_model.specs.Levels.{can_read, readable}
 use Rattle.ut_model.specs.Limits.{limit_number}
 use Rattle.ut_model.specs.Objects.{records_of}
 use Rattle.ut_model.specs.Ordered.{in_order}
@@ -24,7 +24,7 @@ use Rattle.ut_parts.specs.declared.fail.CodecFail.TheVariants as codec
 use Rattle.ut_exec.specs.declared.fail.ExecFail.{ExecFail}
 use Rattle.ut_exec.specs.declared.fail.ExecFail.TheVariants.{Store, TooLarge}
 use Rattle.ut_exec.specs.declared.window.Window.{Window}
-use Rattle.ut_exec.specs.Windows.{in_window}
+use Rattle.ut_exec.specs.Windows.{HasAll, in_window}
 
 -- these bytes were appended, or it is out of memory
 abbrev pub Puts : (bytes : List ℕ) → (old new : List ℕ) → Result (Unit {0}) CodecFail → Type 0
@@ -80,10 +80,30 @@ shown_for each records removed = (1 + each) * records + 80 * removed
 abbrev pub most_shown : (each removed : ℕ) → ℕ
 most_shown each removed = shown_for each (limit_number RecordsPerObject) removed
 
--- if a call was done, it showed each record of the object once at most
+-- a page has so many rows at most
+abbrev pub page_rows : ℕ
+page_rows = 250
+
+-- of an object's first records, in the order of their ids, as many as so many pages have, those that who asks may read and that are kept
+abbrev pub kept_of_pages : (pages : ℕ) → (Asked → Record → Bool) → (object : ℕ) → Asked → List Record
+kept_of_pages pages keep n a = filter (keep a) (filter (can_read a.tenant a.user) (take (page_rows * pages) (records_of a.tenant n)))
+
+-- in so many pages: each of their records once, with what tells whether it may be read and with its relatives, and in each page as many
+-- rows more as the draft removes
+abbrev pub shown_in : (each pages removed : ℕ) → ℕ
+shown_in each pages removed = (1 + each) * (page_rows * pages) + pages * removed
+
 module _ {K : Type 0} (state : K → KeeperState) where
+  -- if a call was done, it showed each record of the object once at most
   abbrev pub ShowsRecords : Layout → (who : OrgPlan → Asked → Type 0) → (each : ℕ) → Ending → (old new : Held K) → Type 0
   ShowsRecords l who each e old new =
       DraftTells state old new
       → IfDone e (InTenants l who (tables_of state old) (λ a.
       ShowsMost (shown_for each (length (records_of a.tenant l.object)) (removals_of state data_table old)) (state_of state old) (state_of state new)))
+
+  -- if a call was done and so many pages have all rows that are taken, it showed no record of a further page
+  abbrev pub ShowsPages : Layout → (who : OrgPlan → Asked → Type 0) → Window → (Asked → Record → Bool) → (each : ℕ) → Ending → (old new : Held K) → Type 0
+  ShowsPages l who w keep each e old new =
+      DraftTells state old new
+      → IfDone e (InTenants l who (tables_of state old) (λ a. (pages : ℕ) → HasAll w.skip w.most (length (kept_of_pages pages keep l.object a))
+      → ShowsMost (shown_in each pages (removals_of state data_table old)) (state_of state old) (state_of state new)))

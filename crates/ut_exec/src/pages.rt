@@ -26,8 +26,8 @@ use ut_view::RowView;
 // The table of data rows.
 const DATA: u8 = 7;
 
-// How many rows are read at a time.
-const PAGE: usize = 250;
+/// How many rows are read at a time.
+pub(crate) const PAGE: usize = 250;
 
 // As many pages have the most records that an object may have.
 const PAGES: usize = 80;

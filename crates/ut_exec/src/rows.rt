@@ -3,7 +3,7 @@
 ghost use Rattle.std.specs.Prelude.{◌+◌};
 ghost use Rattle.ut_exec.specs.Fails.{ended_exec};
 ghost use Rattle.ut_exec.specs.Relatives.{by_parents, by_relatives};
-ghost use Rattle.ut_exec.specs.Written.{ShowsRecords, WritesRows, most_shown, rows_kept, seeing};
+ghost use Rattle.ut_exec.specs.Written.{ShowsPages, ShowsRecords, WritesRows, most_shown, rows_kept, seeing};
 ghost use Rattle.ut_keeper.specs.Draft.{DraftTells, removals_of, tables_of};
 ghost use Rattle.ut_stands.specs.Calls.{Calls};
 
@@ -53,6 +53,10 @@ pub fn write_rows<K: Keeper, S: Sight, L: Relatives, P: Keeps, W: RowForm>(
     ensures calls { Calls K.state
         (most_shown (S.shown + L.parents_shown relatives.now + L.children_shown relatives.now) (removals_of K.state 7 draft.old))
         (ended_exec result) draft.old draft.new }
+    // No page is read behind the one with the last row that is taken.
+    ensures early { ShowsPages K.state layout.now (seeing (S.sees sight.now layout.now) (L.whose relatives.now layout.now.org))
+        window (by_parents (L.parents relatives.now) (P.keep keeps.now))
+        (S.shown + L.parents_shown relatives.now + L.children_shown relatives.now) (ended_exec result) draft.old draft.new }
 {
     draft_laws::<K>();
     call_laws::<K>();

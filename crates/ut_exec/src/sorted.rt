@@ -1,12 +1,12 @@
 //! Rows with ORDER BY: gathered, sorted, and written.
 
-ghost use Rattle.std.specs.Prelude.{◌≡◌, ◌+◌, IsTrue, length};
+ghost use Rattle.std.specs.Prelude.{◌≡◌, ◌≤◌, ◌+◌, IsTrue, length};
 ghost use Rattle.ut_data.specs.Decoding.{has_types};
 ghost use Rattle.ut_exec.specs.Fails.{ended_exec};
 ghost use Rattle.ut_exec.specs.Ranks.{SortsRanked, by_rank};
 ghost use Rattle.ut_exec.specs.Relatives.{by_parents, by_relatives};
 ghost use Rattle.ut_exec.specs.Written.{ShowsRecords, WritesRows, most_shown, rows_sorted, seeing};
-ghost use Rattle.ut_exec.specs.inner.Gathering.{FindsAll, ReadsAll};
+ghost use Rattle.ut_exec.specs.inner.Gathering.{CutsRows, FindsAll, ReadsAll};
 ghost use Rattle.ut_exec.specs.inner.Judging.{judging};
 ghost use Rattle.ut_keeper.specs.Draft.{DraftTells, removals_of, tables_of};
 ghost use Rattle.ut_stands.specs.Calls.{Calls};
@@ -15,7 +15,7 @@ use crate::asked::{Keeps, RowForm};
 use crate::candidates::Candidate;
 use crate::fail::ExecFail;
 use crate::offers::{Progress, offer_rows};
-use crate::pages::first_pages;
+use crate::pages::{PAGE, first_pages};
 use crate::permitted::next_permitted;
 use crate::ranked::{Ranked, Ranks};
 use crate::relatives::Relatives;
@@ -28,7 +28,21 @@ use ut_model::record_laws;
 use ut_rights::Sight;
 use ut_stands::{Layout, call_laws};
 
-// The rows of all records of an object that may be read and are kept, with the records of their parents and their ranks.
+// If only so many rows are wanted, and many more were gathered, puts these in order and drops the others.
+fn cut<R: Ord + Drop, X: Drop>(gathered: &mut Vec<Ranked<R, X>>, wanted: Option<usize>)
+    ensures cuts { CutsRows R.cmp wanted gathered.old.items gathered.new.items }
+    ensures long { length gathered.new.items ≤ length gathered.old.items }
+{
+    if let Some(most) = wanted {
+        if gathered.len() > PAGE && gathered.len() / 2 > most {
+            put_in_order(gathered);
+            gathered.truncate(most);
+        }
+    }
+}
+
+// The rows of all records of an object that may be read and are kept, with the records of their parents and their ranks; if only so many
+// are wanted, these at least, and as many more as a page has or twice as many.
 fn gather_all<K: Keeper, S: Sight, L: Relatives, P: Keeps, R: Ranks>(
     alloc: Global,
     draft: &mut Draft<'_, K>,
@@ -37,11 +51,12 @@ fn gather_all<K: Keeper, S: Sight, L: Relatives, P: Keeps, R: Ranks>(
     relatives: &L,
     keeps: &P,
     ranks: &R,
+    wanted: Option<usize>,
 ) -> Result<Vec<Ranked<R::Rank, Candidate>>, StoreFail>
     requires { IsTrue (has_types layout.now) }
     ensures what { DraftTells K.state draft.old draft.new
         → FindsAll layout.now (judging (S.sees sight.now layout.now) (L.whose relatives.now layout.now.org)
-        (L.parents relatives.now) (P.keep keeps.now) (R.ranked ranks.now)) (tables_of K.state draft.old) result }
+        (L.parents relatives.now) (P.keep keeps.now) (R.ranked ranks.now)) R.Rank.cmp wanted (tables_of K.state draft.old) result }
     ensures reads { ReadsAll layout.now (judging (S.sees sight.now layout.now) (L.whose relatives.now layout.now.org)
         (L.parents relatives.now) (P.keep keeps.now) (R.ranked ranks.now)) K.state
         (S.shown + L.parents_shown relatives.now) draft.old draft.new result }
@@ -62,6 +77,7 @@ fn gather_all<K: Keeper, S: Sight, L: Relatives, P: Keeps, R: Ranks>(
             &mut pages,
             &mut gathered,
         )?;
+        cut(&mut gathered, wanted);
     }
     Ok(gathered)
 }
@@ -75,7 +91,8 @@ pub fn put_in_order<R: Ord, X>(gathered: &mut Vec<Ranked<R, X>>)
 }
 
 /// Appends the rows of an object's records that may be read and are kept, in the order of their ranks and then of their ids, as far as
-/// the window takes them, and returns how many they are. It has all these rows in memory.
+/// the window takes them, and returns how many they are. It has all these rows in memory, or with LIMIT a
+/// page more than twice as many as OFFSET and LIMIT together, or two pages.
 ///
 /// # Errors
 ///
@@ -116,7 +133,16 @@ pub fn write_sorted_rows<K: Keeper, S: Sight, L: Relatives, P: Keeps, R: Ranks, 
     if !has_types(layout) {
         return Err(ExecFail::Store(StoreFail::Damaged));
     }
-    let mut gathered = gather_all(alloc, draft, layout, sight, relatives, keeps, ranks)?;
+    let mut gathered = gather_all(
+        alloc,
+        draft,
+        layout,
+        sight,
+        relatives,
+        keeps,
+        ranks,
+        window.wanted(),
+    )?;
     put_in_order(&mut gathered);
     let mut progress = Progress {
         window,

@@ -13,7 +13,7 @@ pub struct Window {
 }
 
 impl Window {
-    ghost use Rattle.ut_exec.specs.Windows.{in_window, is_over};
+    ghost use Rattle.ut_exec.specs.Windows.{IsWanted, in_window, is_over};
 
     /// Whether no row is taken any more.
     pub fn is_over(&self) -> bool
@@ -22,6 +22,16 @@ impl Window {
         match self.most {
             Some(most) => most == 0,
             None => false,
+        }
+    }
+
+    /// How many rows are left out or taken, if there is a LIMIT and so many can be counted.
+    pub(crate) fn wanted(&self) -> Option<usize>
+        ensures { IsWanted self.now.skip self.now.most result }
+    {
+        match self.most {
+            Some(most) => self.skip.checked_add(most),
+            None => None,
         }
     }
 

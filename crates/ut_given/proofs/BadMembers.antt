@@ -1,17 +1,24 @@
 -- The members of a body, judged one after another.
-use Rattle.std.proofs.Common.{◌≡◌, Bool, not, List, [], ◌∷◌, map, Option, Some, None, Result, Ok, Err, refl, ap, subst, sym, ◌∙◌}
+use Rattle.std.proofs.Common.{◌≡◌, inl, inr, ℕ, Bool, true, false, not, List, [], ◌∷◌, map, Option, Some, None, Result, Ok, Err, refl, ap, subst, sym, ◌∙◌}
+use Rattle.std.specs.Option.{option_map}
 use Rattle.ut_value.specs.declared.value.Value.{Value}
 use Rattle.ut_model.specs.declared.record_bodies.Assignment.{Assignment}
 use Rattle.ut_model.specs.declared.refusal.Refusal.{Refusal}
+use Rattle.ut_model.specs.declared.refusal.Refusal.TheVariants.{InvalidField}
 use Rattle.ut_model.specs.Cases.{in_case}
 use Rattle.ut_model.specs.Edits.{bad_field}
 use Rattle.ut_model.specs.Given.{ReadOr}
 use Rattle.ut_model.specs.Keys.{Key, bad_fields, other_key, reads_as}
-use Rattle.ut_model.specs.Rules.{Rule, first_refusal}
+use Rattle.ut_model.specs.Membership.{Has}
+use Rattle.ut_model.specs.Rules.{Rule, first_refusal, refuse_if}
 use Rattle.ut_model.specs.Tenant.{Object, Tenant}
+use Rattle.ut_given.specs.declared.key.AllGiven.{AllGiven}
 use Rattle.ut_given.specs.declared.unread.Unread.{Unread}
-use Rattle.ut_given.specs.inner.Keys.{bad_member}
+use Rattle.ut_given.specs.declared.key.UpsertKey.{UpsertKey}
+use Rattle.ut_given.specs.Given.{FindsAll, key_in, key_of}
+use Rattle.ut_given.specs.inner.Keys.{KnowsKeyOf, bad_member, has_other}
 use Rattle.ut_given.specs.inner.Read.{Reads, as_unread}
+use Rattle.ut_given.proofs.Known.{of_key}
 
 -- one more member of a body
 members_more : (t : Tenant) (o : Object) (key : Option Key) (x : Assignment) (xs : List Assignment)
@@ -53,3 +60,40 @@ member_other t o key x none = rw none (by (other_key t key x))
     by : (rule : Rule) → rule ≡ first_refusal (rule ∷ [])
     by None = refl
     by (Some refusal) = refl
+
+-- it gives the key another value
+pub key_refused : (t : Tenant) (key : Option UpsertKey) (k : UpsertKey) (x : Assignment) (name : List ℕ) → key ≡ Some k → has_other t (key_in k) x ≡ true → name ≡ k.field.now.name
+    → Some (InvalidField name) ≡ other_key t (option_map key_in key) x
+key_refused t key k x name is other named =
+    ap (λ (n : List ℕ). Some (InvalidField n)) named
+    ∙ sym (ap (λ (b : Bool). refuse_if b (InvalidField k.field.now.name)) other)
+    ∙ sym (ap (λ (y : Option UpsertKey). other_key t (option_map key_in y) x) is)
+
+-- or no other
+pub key_passes : (t : Tenant) (key : Option UpsertKey) (k : UpsertKey) (x : Assignment) → key ≡ Some k → has_other t (key_in k) x ≡ false → None ≡ other_key t (option_map key_in key) x
+key_passes t key k x is other =
+    sym (ap (λ (b : Bool). refuse_if b (InvalidField k.field.now.name)) other)
+    ∙ sym (ap (λ (y : Option UpsertKey). other_key t (option_map key_in y) x) is)
+
+-- ---- a body
+
+-- these are the members that are left, and none before them is refused
+pub record Passed (t : Tenant) (o : Object) (x : AllGiven) (rest : List Assignment) : Type 0 where
+  pub known : (member : Assignment) → Has rest member → KnowsKeyOf t x.found.now (key_of x) member
+  pub same : bad_fields t o (key_of x) x.body.now ≡ bad_fields t o (key_of x) rest
+
+pub passed_none : (t : Tenant) (o : Object) (x : AllGiven) → FindsAll t o x → Passed t o x x.body.now
+passed_none t o x finds = record { known = λ member has k is. finds k.column (of_key o (key_of x) k is) member has; same = refl }
+
+module _ (t : Tenant) (o : Object) (x : AllGiven) (first : Assignment) (more : List Assignment) (passed : Passed t o x (first ∷ more)) where
+  pub known_first : KnowsKeyOf t x.found.now (key_of x) first
+  known_first = passed.known first (inl refl)
+
+  pub passed_more : bad_member t o (key_of x) first ≡ None → Passed t o x more
+  passed_more none = record {
+    known = λ member has. passed.known member (inr has);
+    same = passed.same ∙ member_passes t o (key_of x) first more none;
+  }
+
+  pub passed_stops : (refusal : Refusal) → bad_member t o (key_of x) first ≡ Some refusal → Some refusal ≡ bad_fields t o (key_of x) x.body.now
+  passed_stops refusal some = member_stops t o (key_of x) first more refusal some ∙ sym passed.same

@@ -1,5 +1,5 @@
 -- Values that are judged one after another.
-use Rattle.std.proofs.Common.{◌≡◌, ℕ, ◌+◌, IsTrue, List, [], ◌∷◌, ◌++◌, map, length, append_assoc, Some, None, Ok, Err, refl, sym, ap, ◌∙◌}
+use Rattle.std.proofs.Common.{◌≡◌, inl, inr, ℕ, ◌+◌, IsTrue, List, [], ◌∷◌, ◌++◌, map, length, append_assoc, Some, None, Ok, Err, refl, sym, ap, subst, ◌∙◌}
 use Rattle.std.specs.List.{list_all}
 use Rattle.std.proofs.lemmas.List.{append-nil, length-append, map-append}
 use Rattle.ut_value.specs.Types.{is_type}
@@ -11,24 +11,35 @@ use Rattle.ut_model.specs.declared.refusal.Refusal.{Refusal}
 use Rattle.ut_model.specs.Cases.{in_case}
 use Rattle.ut_model.specs.Edits.{bad_value, given_to}
 use Rattle.ut_model.specs.Fields.{Column, custom_columns, name_column, owner_columns}
+use Rattle.ut_model.specs.Membership.{Has}
 use Rattle.ut_model.specs.Rules.{Rule, first_refusal}
 use Rattle.ut_model.specs.Tenant.{Object, Tenant}
 use Rattle.ut_stands.specs.declared.layout.FieldPlace.{FieldPlace}
+use Rattle.ut_given.specs.declared.key.AllGiven.{AllGiven}
 use Rattle.ut_given.specs.declared.unread.Unread.{Unread}
 use Rattle.ut_given.specs.declared.unread.Unread.TheVariants.{Refused, Memory}
+use Rattle.ut_given.specs.Given.{FindsFor, all_given}
 use Rattle.ut_given.specs.inner.Fields.{column_at, columns_from}
+use Rattle.ut_given.specs.inner.Found.{FindsAmong}
 use Rattle.ut_given.specs.inner.Read.{JudgesValue, Refuses, refused, refused_among, value_over}
-use Rattle.ut_given.proofs.Found.{and_left, and_right}
+use Rattle.ut_given.proofs.Searching.{and_left, and_right}
 
 -- these values were read, none of them refused, and those of the rest are still to be read
-pub record Judged (t : Tenant) (given : List Assignment) (old : Record) (fields : List FieldPlace) (name : Value) (rest : List FieldPlace) (read : List Value) : Type 0 where
+pub record Judged (t : Tenant) (x : AllGiven) (old : Record) (fields : List FieldPlace) (name : Value) (rest : List FieldPlace) (read : List Value) : Type 0 where
+  pub known : FindsAmong t x.found.now x.body.now (columns_from (length read) rest)
   pub types : IsTrue (list_all (λ f. is_type f.kind) rest)
-  pub rules : refused_among t given (columns_from 1 fields) ≡ refused_among t given (columns_from (length read) rest)
-  pub values : read ++ map (value_over t given old) (columns_from (length read) rest) ≡ name ∷ map (value_over t given old) (columns_from 1 fields)
+  pub rules : refused_among t (all_given x) (columns_from 1 fields) ≡ refused_among t (all_given x) (columns_from (length read) rest)
+  pub values : read ++ map (value_over t (all_given x) old) (columns_from (length read) rest) ≡ name ∷ map (value_over t (all_given x) old) (columns_from 1 fields)
 
-pub judged_first : (t : Tenant) (given : List Assignment) (old : Record) (fields : List FieldPlace) (name : Value)
-    → IsTrue (list_all (λ f. is_type f.kind) fields) → Judged t given old fields name fields (name ∷ [])
-judged_first t given old fields name types = record { types = types; rules = refl; values = refl }
+pub judged_first : (t : Tenant) (x : AllGiven) (old : Record) (fields : List FieldPlace) (name : Value)
+    → IsTrue (list_all (λ f. is_type f.kind) fields) → FindsAmong t x.found.now x.body.now (columns_from 1 fields) → Judged t x old fields name fields (name ∷ [])
+judged_first t x old fields name types known = record { known = known; types = types; rules = refl; values = refl }
+
+-- what is given to the next column, at its position
+pub known_at : (t : Tenant) (x : AllGiven) (old : Record) (fields : List FieldPlace) (name : Value) (f : FieldPlace) (more : List FieldPlace) (values : List Value) (position : ℕ) → length values ≡ position
+    → Judged t x old fields name (f ∷ more) values → FindsFor t x.found.now x.body.now (column_at position f)
+known_at t x old fields name f more values position is j =
+    subst (λ (k : ℕ). FindsFor t x.found.now x.body.now (column_at k f)) is (j.known (column_at (length values) f) (inl refl))
 
 pub type_here : (f : FieldPlace) (more : List FieldPlace) → IsTrue (list_all (λ f. is_type f.kind) (f ∷ more)) → IsTrue (is_type f.kind)
 type_here f more = and_left (is_type f.kind) (list_all (λ f. is_type f.kind) more)
@@ -39,35 +50,36 @@ passes rule rules none = rw none refl
 refuses : (rule : Rule) (rules : List Rule) (refusal : Refusal) → rule ≡ Some refusal → first_refusal (rule ∷ rules) ≡ Some refusal
 refuses rule rules refusal some = rw some refl
 
-pub judged_more : (t : Tenant) (given : List Assignment) (old : Record) (fields : List FieldPlace) (name : Value) (f : FieldPlace) (more : List FieldPlace) (values : List Value) (v : Value)
-    → Judged t given old fields name (f ∷ more) values
-    → JudgesValue (given_to t given (column_at (length values) f)) (value_at old.values (length values)) (Ok v)
-    → Judged t given old fields name more (values ++ v ∷ [])
-judged_more t given old fields name f more values v j (none, is) =
+pub judged_more : (t : Tenant) (x : AllGiven) (old : Record) (fields : List FieldPlace) (name : Value) (f : FieldPlace) (more : List FieldPlace) (values : List Value) (v : Value)
+    → Judged t x old fields name (f ∷ more) values
+    → JudgesValue (given_to t (all_given x) (column_at (length values) f)) (value_at old.values (length values)) (Ok v)
+    → Judged t x old fields name more (values ++ v ∷ [])
+judged_more t x old fields name f more values v j (none, is) =
     let count : length (values ++ v ∷ []) ≡ length values + 1 = length-append values (v ∷ []) in
-    let over = value_over t given old in
+    let over = value_over t (all_given x) old in
     record {
+      known = λ c has. j.known c (inr (subst (λ (k : ℕ). Has (columns_from k more) c) count has));
       types = and_right (is_type f.kind) (list_all (λ f. is_type f.kind) more) j.types;
-      rules = j.rules ∙ passes (refused (given_to t given (column_at (length values) f))) (map (λ c. refused (given_to t given c)) (columns_from (length values + 1) more)) none
-          ∙ ap (λ (k : ℕ). refused_among t given (columns_from k more)) (sym count);
+      rules = j.rules ∙ passes (refused (given_to t (all_given x) (column_at (length values) f))) (map (λ c. refused (given_to t (all_given x) c)) (columns_from (length values + 1) more)) none
+          ∙ ap (λ (k : ℕ). refused_among t (all_given x) (columns_from k more)) (sym count);
       values = append_assoc values (v ∷ []) (map over (columns_from (length (values ++ v ∷ [])) more))
           ∙ ap (λ (k : ℕ). values ++ v ∷ map over (columns_from k more)) count
           ∙ ap (λ (x : Value). values ++ x ∷ map over (columns_from (length values + 1) more)) is
           ∙ j.values;
     }
 
-pub judged_last : (t : Tenant) (given : List Assignment) (old : Record) (fields : List FieldPlace) (name : Value) (values : List Value)
-    → Judged t given old fields name [] values
-    → (refused_among t given (columns_from 1 fields) ≡ None) × (values ≡ name ∷ map (value_over t given old) (columns_from 1 fields))
-judged_last t given old fields name values j = (j.rules, sym (append-nil values) ∙ j.values)
+pub judged_last : (t : Tenant) (x : AllGiven) (old : Record) (fields : List FieldPlace) (name : Value) (values : List Value)
+    → Judged t x old fields name [] values
+    → (refused_among t (all_given x) (columns_from 1 fields) ≡ None) × (values ≡ name ∷ map (value_over t (all_given x) old) (columns_from 1 fields))
+judged_last t x old fields name values j = (j.rules, sym (append-nil values) ∙ j.values)
 
-pub judged_refused : (t : Tenant) (given : List Assignment) (old : Record) (fields : List FieldPlace) (name : Value) (f : FieldPlace) (more : List FieldPlace) (values : List Value) (e : Unread)
-    → Judged t given old fields name (f ∷ more) values
-    → JudgesValue (given_to t given (column_at (length values) f)) (value_at old.values (length values)) (Err e)
-    → Refuses (refused_among t given (columns_from 1 fields)) e
-judged_refused t given old fields name f more values (Refused refusal) j some =
-    j.rules ∙ refuses (refused (given_to t given (column_at (length values) f))) (map (λ c. refused (given_to t given c)) (columns_from (length values + 1) more)) refusal some
-judged_refused t given old fields name f more values Memory j some = tt
+pub judged_refused : (t : Tenant) (x : AllGiven) (old : Record) (fields : List FieldPlace) (name : Value) (f : FieldPlace) (more : List FieldPlace) (values : List Value) (e : Unread)
+    → Judged t x old fields name (f ∷ more) values
+    → JudgesValue (given_to t (all_given x) (column_at (length values) f)) (value_at old.values (length values)) (Err e)
+    → Refuses (refused_among t (all_given x) (columns_from 1 fields)) e
+judged_refused t x old fields name f more values (Refused refusal) j some =
+    j.rules ∙ refuses (refused (given_to t (all_given x) (column_at (length values) f))) (map (λ c. refused (given_to t (all_given x) c)) (columns_from (length values + 1) more)) refusal some
+judged_refused t x old fields name f more values Memory j some = tt
 
 -- ---- the name, the owner and the custom fields
 

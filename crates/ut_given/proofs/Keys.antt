@@ -1,20 +1,20 @@
 -- What is given with a key: it is looked for in the body first.
-use Rattle.std.proofs.Common.{◌≡◌, ℕ, true, IsTrue, List, [], ◌∷◌, ◌++◌, Option, Some, None, Result, Ok, Err, MatchResult, refl, sym, ap, ◌∙◌}
-use Rattle.std.specs.List.{find, list_all}
+use Rattle.std.proofs.Common.{◌≡◌, ◌⊎◌, inl, inr, ℕ, true, List, [], ◌∷◌, Option, Some, None, Result, Ok, Err, MatchResult, refl, sym, ap, ◌∙◌}
+use Rattle.std.specs.List.{find}
 use Rattle.std.specs.Option.{option_map, option_or}
 use Rattle.std.proofs.lemmas.List.Folds.{find-append}
 use Rattle.ut_value.specs.declared.value.Value.{Value}
 use Rattle.ut_model.specs.declared.record_bodies.Assignment.{Assignment}
+use Rattle.ut_model.specs.declared.record_bodies.Given.TheVariants as gives
 use Rattle.ut_model.specs.Edits.{given_to}
 use Rattle.ut_model.specs.Fields.{Column, same_name}
 use Rattle.ut_model.specs.Given.{read_given}
 use Rattle.ut_model.specs.Keys.{Key, with_key}
+use Rattle.ut_model.specs.Membership.{Has}
 use Rattle.ut_model.specs.Tenant.{Tenant}
-use Rattle.ut_given.specs.Given.{FindNone, finds_none}
 use Rattle.ut_given.specs.declared.unread.Unread.{Unread}
 use Rattle.ut_given.specs.declared.unread.Unread.TheVariants.{Refused, Memory}
 use Rattle.ut_given.specs.inner.Read.{Reads, ReadsGiven}
-use Rattle.ut_given.proofs.Found.{and_left, and_right}
 
 with_both : (key : Option Key) (given : List Assignment) (name : List ℕ) → find (λ x. same_name x.field name) (with_key key given)
     ≡ option_or (find (λ x. same_name x.field name) given) (find (λ x. same_name x.field name) (with_key key []))
@@ -54,13 +54,10 @@ key_gives t key c r same is = (Ok key.value, rw same refl, by r is)
     by (Err Memory) is = tt
     by (Err (Refused refusal)) is = absurd cc
 
-plain_more : (given : List Assignment) (x : Assignment) → IsTrue (finds_none x.given) → FindNone given → FindNone (given ++ x ∷ [])
-plain_more [] x none plain = rw none refl
-plain_more (y ∷ given) x none plain =
-    rw (and_left (finds_none y.given) (list_all (λ z. finds_none z.given) given) plain)
-    (plain_more given x none (and_right (finds_none y.given) (list_all (λ z. finds_none z.given) given) plain))
-
--- the key finds no record
-pub key_plain : (key : Option Key) (given : List Assignment) → FindNone given → FindNone (with_key key given)
-key_plain None given plain = plain
-key_plain (Some k) given plain = plain_more given _ refl plain
+-- what is given is in the body, or the key's value
+pub by_body_or_key : (key : Option Key) (body : List Assignment) (x : Assignment) → Has (with_key key body) x → (Has body x) ⊎ ((v : Value) × (x.given ≡ gives.Read v))
+by_body_or_key None body x has = inl has
+by_body_or_key (Some k) [] x (inl is) = inr (k.value, ap (λ (y : Assignment). y.given) is)
+by_body_or_key (Some k) [] x (inr has) = absurd has
+by_body_or_key (Some k) (y ∷ body) x (inl is) = inl (inl is)
+by_body_or_key (Some k) (y ∷ body) x (inr has) = elim (by_body_or_key (Some k) body x has) [ inl more ↦ inl (inr more) | inr value ↦ inr value ]

@@ -3,7 +3,9 @@ pub mod Refused
 pub mod BadMembers
 pub mod Spelled
 pub mod Valid
-pub mod Found
+pub mod Searching
+pub mod Known
+pub mod Differing
 pub mod Keys
 pub mod Uniques
 pub mod Judging

@@ -4,11 +4,11 @@ use Rattle.std.specs.Prelude.{ℤ}
 use Rattle.std.specs.Option.{option_or}
 use Rattle.ut_value.specs.declared.value.Value.{Value}
 use Rattle.ut_model.specs.declared.record.Record.{Record}
-use Rattle.ut_model.specs.declared.record_bodies.Assignment.{Assignment}
 use Rattle.ut_model.specs.Edits.{given_owner, with_given}
 use Rattle.ut_model.specs.Paths.{Asked}
 use Rattle.ut_stands.specs.declared.layout.Layout.{Layout}
-use Rattle.ut_given.specs.Given.{GivesValues}
+use Rattle.ut_given.specs.Given.{FindsAll, GivesValues, all_given}
+use Rattle.ut_given.specs.declared.key.AllGiven.{AllGiven}
 use Rattle.ut_rules.specs.Objects.{field_of_place, numbered_in, object_of_layout}
 use Rattle.ut_given.specs.inner.Fields.{new_record}
 use Rattle.ut_value.specs.Id.{made}
@@ -23,10 +23,12 @@ use Rattle.ut_given.specs.declared.given.GivenValues.{GivenValues}
 abbrev pub made_of : (old : Record) → Option (List ℕ) → ℤ → List Value → Record
 made_of old owner now values = record { id = old.id; owner = owner; created = old.created; modified = now; values = values }
 
-pub made_given : (a : Asked) (l : Layout) (body : List Assignment) (old : Record) (x : GivenValues) (now : ℤ)
-    → a.now ≡ now → GivesValues l body old (Ok x) → made_of old (option_or x.owner old.owner) now x.values ≡ with_given a (object_of_layout l) body old
-made_given a l body old x now same gives =
-    let given = (gives a.tenant).1 in
+pub made_given : (a : Asked) (l : Layout) (all : AllGiven) (old : Record) (x : GivenValues) (now : ℤ)
+    → a.now ≡ now → FindsAll a.tenant (object_of_layout l) all → GivesValues l all old (Ok x)
+    → made_of old (option_or x.owner old.owner) now x.values ≡ with_given a (object_of_layout l) (all_given all) old
+made_given a l all old x now same finds gives =
+    let body = all_given all in
+    let given = (gives a.tenant finds).1 in
     ap (λ (o : Option (List ℕ)). made_of old (option_or o old.owner) now x.values) given.owner
     ∙ ap (λ (m : ℤ). made_of old (option_or (given_owner a.tenant (object_of_layout l) body) old.owner) m x.values) (sym same)
     ∙ ap (λ (vs : List Value). made_of old (option_or (given_owner a.tenant (object_of_layout l) body) old.owner) a.now vs) given.values

@@ -1,6 +1,6 @@
 -- An owner's id is read as that of a lookup is.
-use Rattle.std.proofs.Common.{◌≡◌, ℕ, true, false, IsTrue, List, [], ◌∷◌, Option, Some, None, Result, Ok, Err, refl, sym, ap, subst, ◌∙◌}
-use Rattle.std.specs.Prelude.{IfSome, codes}
+use Rattle.std.proofs.Common.{◌≡◌, ◌⊎◌, inl, inr, ℕ, Bool, true, false, IsTrue, List, [], ◌∷◌, Option, Some, None, Result, Ok, Err, refl, sym, ap, subst, ◌∙◌}
+use Rattle.std.specs.Prelude.{codes}
 use Rattle.std.specs.List.{find}
 use Rattle.std.specs.Option.{option_map}
 use Rattle.ut_json.specs.declared.tree.Json.{Json}
@@ -21,13 +21,17 @@ use Rattle.ut_model.specs.declared.refusal.Refusal.{Refusal}
 use Rattle.ut_model.specs.Edits.{given_owner, given_to, value_or}
 use Rattle.ut_model.specs.Fields.{Column, column, is_detail, its_owner, of_ids, of_type, owner_column, owner_columns, ref_of, same_name}
 use Rattle.ut_model.specs.Given.{ReadOr, json_text, or_refusal, read_given, read_json, value_refusal}
+use Rattle.ut_model.specs.Keys.{Key, with_key}
+use Rattle.ut_model.specs.Membership.{Has}
 use Rattle.ut_model.specs.Rules.{first_refusal}
 use Rattle.ut_model.specs.Tenant.{Object, Tenant}
 use Rattle.ut_given.specs.declared.unread.Unread.{Unread}
 use Rattle.ut_given.specs.declared.unread.Unread.TheVariants.{Refused, Memory}
-use Rattle.ut_given.specs.Given.{FindNone, finds_none}
+use Rattle.ut_given.specs.declared.found.Found.{Found}
+use Rattle.ut_given.specs.Given.{FindsFor, IsKnown}
 use Rattle.ut_given.specs.inner.Read.{ValueOrRefusal, ReadsGiven, owner_in, refused, refused_among}
-use Rattle.ut_given.proofs.Found.{found_passes}
+use Rattle.ut_given.proofs.Searching.{found_has}
+use Rattle.ut_given.proofs.Keys.{by_body_or_key}
 
 abbrev lookup : FieldType
 lookup = type.Lookup 0 Clear
@@ -55,19 +59,41 @@ json_alike name (json.Number n) = refl
 json_alike name (json.Bool b) = refl
 json_alike name _ = refl
 
-read_alike : (t : Tenant) (g : Given) → IsTrue (finds_none g) → read_given t owner_column g ≡ read_given t owner_as_lookup g
-read_alike t (gives.Read v) none = refl
-read_alike t (gives.Json j) none = json_alike owner_column.name j
-read_alike t (gives.Find field text) none = absurd cc
+-- an owner refers to no object, so none is found
+no_target : (object : ℕ) → ◌≡◌ {A = Option ℕ} None (Some object) → ⊥
+no_target object is = cc
 
-pub given_alike : (t : Tenant) (given : List Assignment) → FindNone given → given_to t given owner_column ≡ given_to t given owner_as_lookup
-given_alike t given plain =
-    by (find (λ x. same_name x.field owner_column.name) given) (found_passes (λ x. finds_none x.given) (λ x. same_name x.field owner_column.name) given plain)
+read_alike : (t : Tenant) (found : List Found) (g : Given) → IsKnown t found owner_column g → read_given t owner_column g ≡ read_given t owner_as_lookup g
+read_alike t found (gives.Read v) known = refl
+read_alike t found (gives.Json j) known = json_alike owner_column.name j
+read_alike t found (gives.Find field text) known = absurd (no_target known.2.object known.2.target)
+
+known_alike : (t : Tenant) (found : List Found) (g : Given) → IsKnown t found owner_column g → IsKnown t found owner_as_lookup g
+known_alike t found (gives.Read v) known = tt
+known_alike t found (gives.Json j) known = tt
+known_alike t found (gives.Find field text) known = absurd (no_target known.2.object known.2.target)
+
+pub finds_alike : (t : Tenant) (found : List Found) (body : List Assignment) → FindsFor t found body owner_column → FindsFor t found body owner_as_lookup
+finds_alike t found body finds x has same = known_alike t found x.given (finds x has same)
+
+abbrev is_owner : Assignment → Bool
+is_owner x = same_name x.field owner_column.name
+
+given_alike : (t : Tenant) (found : List Found) (key : Option Key) (body : List Assignment) → FindsFor t found body owner_column
+    → given_to t (with_key key body) owner_column ≡ given_to t (with_key key body) owner_as_lookup
+given_alike t found key body finds = by (find is_owner (with_key key body)) refl
   where
-    by : (found : Option Assignment) → IfSome found (λ x. IsTrue (finds_none x.given))
-        → option_map (λ x. read_given t owner_column x.given) found ≡ option_map (λ x. read_given t owner_as_lookup x.given) found
-    by None none = refl
-    by (Some x) none = ap (λ (r : ReadOr). Some r) (read_alike t x.given none)
+    one : (x : Assignment) → (Has body x) ⊎ ((v : Value) × (x.given ≡ gives.Read v)) → IsTrue (is_owner x)
+        → read_given t owner_column x.given ≡ read_given t owner_as_lookup x.given
+    one x (inl has) same = read_alike t found x.given (finds x has same)
+    one x (inr (v, is)) same = ap (read_given t owner_column) is ∙ sym (ap (read_given t owner_as_lookup) is)
+
+    by : (first : Option Assignment) → find is_owner (with_key key body) ≡ first
+        → option_map (λ x. read_given t owner_column x.given) first ≡ option_map (λ x. read_given t owner_as_lookup x.given) first
+    by None is = refl
+    by (Some x) is =
+        let there = found_has is_owner (with_key key body) x is in
+        ap (λ (r : ReadOr). Some r) (one x (by_body_or_key key body x there.0) there.1)
 
 pub detail_owner : (t : Tenant) (o : Object) (given : List Assignment) → is_detail o ≡ true
     → (refused_among t given (owner_columns o) ≡ None) × (None ≡ given_owner t o given)
@@ -88,10 +114,11 @@ judged_owner g (Some (Ok v)) (read, is, reads) = rw (is ∙ ap (λ (x : ReadOr).
 judged_owner g (Some (Err (Refused refusal))) (read, is, reads) = rw (is ∙ ap (λ (x : ReadOr). Some x) reads) refl
 judged_owner g (Some (Err Memory)) reads = tt
 
-pub own_owner : (t : Tenant) (o : Object) (given : List Assignment) → FindNone given → is_detail o ≡ false
-    → (r : Option (Result Value Unread)) → ReadsGiven (given_to t given owner_as_lookup) r
-    → ValueOrRefusal (refused_among t given (owner_columns o)) (λ owner. owner ≡ given_owner t o given) (owner_in r)
-own_owner t o given plain own r reads =
+pub own_owner : (t : Tenant) (o : Object) (found : List Found) (key : Option Key) (body : List Assignment) → FindsFor t found body owner_column → is_detail o ≡ false
+    → (r : Option (Result Value Unread)) → ReadsGiven (given_to t (with_key key body) owner_as_lookup) r
+    → ValueOrRefusal (refused_among t (with_key key body) (owner_columns o)) (λ owner. owner ≡ given_owner t o (with_key key body)) (owner_in r)
+own_owner t o found key body finds own r reads =
+    let given = with_key key body in
     subst (λ (cs : List Column). ValueOrRefusal (refused_among t given cs) (λ owner. owner ≡ given_owner t o given) (owner_in r)) (sym (own_column o own))
     (subst (λ (x : Option (List ℕ)). ValueOrRefusal (refused_among t given (owner_column ∷ [])) (λ owner. owner ≡ x) (owner_in r)) (sym (own_given t o given own))
-    (judged_owner (given_to t given owner_column) r (subst (λ (g : Option ReadOr). ReadsGiven g r) (sym (given_alike t given plain)) reads)))
+    (judged_owner (given_to t given owner_column) r (subst (λ (g : Option ReadOr). ReadsGiven g r) (sym (given_alike t found key body finds)) reads)))

@@ -15,7 +15,8 @@ use Rattle.ut_value.specs.declared.value.FieldType.TheVariants as type
 use Rattle.ut_model.specs.declared.refusal.Refusal.TheVariants as refusal
 use Rattle.ut_stands.specs.declared.layout.FieldPlace.{FieldPlace}
 use Rattle.ut_rules.specs.Objects.{field_of_place}
-use Rattle.ut_given.specs.inner.Columns.{Seen, bad_name, custom_seen, seen, unwritable, writable_named}
+use Rattle.ut_given.specs.Columns.{Seen, seen}
+use Rattle.ut_given.specs.inner.Columns.{bad_name, custom_seen, unwritable, writable_named}
 
 abbrev id : Column
 id = column (codes "Id") of_ids its_id

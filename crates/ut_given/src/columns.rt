@@ -5,7 +5,8 @@ ghost use Rattle.std.specs.List.{find, list_any};
 ghost use Rattle.std.specs.Option.{option_map};
 ghost use Rattle.std.specs.Str.{chars};
 ghost use Rattle.ut_rules.specs.Objects.{object_of_layout};
-ghost use Rattle.ut_given.specs.inner.Columns.{custom_seen, seen, shown, writable_named};
+ghost use Rattle.ut_given.specs.Columns.{seen, shown};
+ghost use Rattle.ut_given.specs.inner.Columns.{custom_seen, writable_named};
 ghost use Rattle.ut_model.specs.Fields.{column_named, is_detail, is_master, same_name};
 
 use ut_model::same_name;
@@ -14,8 +15,10 @@ use ut_value::FieldType;
 
 /// A field's name as it is declared, and whether an edit may give it.
 #[derive(Drop)]
-pub(crate) struct Column<'a> {
+pub struct Column<'a> {
+    /// The name.
     pub name: &'a str,
+    /// Whether an edit may give it.
     pub is_writable: bool,
 }
 
@@ -94,7 +97,7 @@ fn writable_named<'a>(layout: &'a Layout, name: &str) -> Option<Column<'a>>
 }
 
 /// The field with this name, whatever the case of its letters, if the object has one.
-pub(crate) fn column_named<'a>(layout: &'a Layout, name: &str) -> Option<Column<'a>>
+pub fn column_named<'a>(layout: &'a Layout, name: &str) -> Option<Column<'a>>
     ensures { option_map shown result ≡ option_map seen (column_named (object_of_layout layout.now) (chars name.now)) }
 {
     if same_name("Id", name) {

@@ -1,16 +1,17 @@
 //! The values that a body gives to a record.
 
-ghost use Rattle.std.specs.Prelude.{◌≡◌, List, ◌∷◌, IfOk, IsTrue, Ok, map};
+ghost use Rattle.std.specs.Prelude.{◌≡◌, ◌∷◌, IfOk, IsTrue, Ok, map};
 ghost use Rattle.std.specs.List.{list_all};
 ghost use Rattle.ut_formula.specs.Meaning.{value_at};
-ghost use Rattle.ut_given.specs.Given.{FindNone, GivesValues, IsGiven, IsPlain, all_given};
+ghost use Rattle.ut_given.specs.Given.{FindsAll, FindsFor, GivesValues, IsGiven, all_given};
+ghost use Rattle.ut_given.specs.declared.key.AllGiven.{AllGiven};
 ghost use Rattle.ut_data.specs.Decoding.{has_types};
 ghost use Rattle.ut_rules.specs.Objects.{object_of_layout};
 ghost use Rattle.ut_given.specs.inner.Fields.{column_at, columns_from};
+ghost use Rattle.ut_given.specs.inner.Found.{FindsAmong};
 ghost use Rattle.ut_given.specs.inner.Read.{ValueOrRefusal, JudgesValue, owner_in, refused_among, value_over};
 ghost use Rattle.ut_model.specs.Edits.{bad_value, given_owner, given_to, with_given};
 ghost use Rattle.ut_model.specs.Fields.{name_column, owner_columns, ref_of};
-ghost use Rattle.ut_model.specs.declared.record_bodies.Assignment.{Assignment};
 ghost use Rattle.ut_model.specs.Paths.{Asked};
 ghost use Rattle.ut_model.specs.Tenant.{Tenant};
 ghost use Rattle.ut_stands.specs.declared.layout.Layout.{Layout};
@@ -57,7 +58,7 @@ fn owner_in(read: Option<Result<Value, Unread>>) -> Result<Option<Id>, Unread>
 
 // The owner that is given, if one is. Its id is read as that of a lookup is.
 fn owner_given(alloc: Global, layout: &Layout, given: &AllGiven<'_>) -> Result<Option<Id>, Unread>
-    ensures { FindNone given.now.body.now → (t : Tenant)
+    ensures { (t : Tenant) → FindsAll t (object_of_layout layout.now) given.now
         → ValueOrRefusal (refused_among t (all_given given.now) (owner_columns (object_of_layout layout.now)))
         (λ owner. owner ≡ given_owner t (object_of_layout layout.now) (all_given given.now)) result }
 {
@@ -78,7 +79,7 @@ fn owner_given(alloc: Global, layout: &Layout, given: &AllGiven<'_>) -> Result<O
 
 // The value of the name, over what the record had.
 fn name_over(alloc: Global, given: &AllGiven<'_>, old: &Record) -> Result<Value, Unread>
-    ensures { FindNone given.now.body.now → (t : Tenant)
+    ensures { (t : Tenant) → FindsFor t given.now.found.now given.now.body.now name_column
         → JudgesValue (given_to t (all_given given.now) name_column) (value_at old.now.values 0) result }
 {
     value_over(alloc, given, "Name", &FieldType::Text(80), old, 0)
@@ -92,7 +93,8 @@ fn field_over(
     old: &Record,
     position: usize,
 ) -> Result<Value, Unread>
-    ensures { IsTrue (is_type field.now.kind) → FindNone given.now.body.now → (t : Tenant)
+    ensures { IsTrue (is_type field.now.kind) → (t : Tenant)
+        → FindsFor t given.now.found.now given.now.body.now (column_at position field.now)
         → JudgesValue (given_to t (all_given given.now) (column_at position field.now)) (value_at old.now.values position) result }
 {
     value_over(
@@ -114,7 +116,8 @@ fn values_over(
     old: &Record,
     name: Value,
 ) -> Result<Vec<Value>, Unread>
-    ensures { IsTrue (list_all (λ f. is_type f.kind) fields.now) → FindNone given.now.body.now → (t : Tenant)
+    ensures { IsTrue (list_all (λ f. is_type f.kind) fields.now) → (t : Tenant)
+        → FindsAmong t given.now.found.now given.now.body.now (columns_from 1 fields.now)
         → ValueOrRefusal (refused_among t (all_given given.now) (columns_from 1 fields.now))
         (λ vs. vs.items ≡ name ∷ map (value_over t (all_given given.now) old.now) (columns_from 1 fields.now)) result }
 {
@@ -138,7 +141,7 @@ fn read_all(
     given: &AllGiven<'_>,
     old: &Record,
 ) -> Result<GivenValues, Unread>
-    ensures { IsTrue (has_types layout.now) → FindNone given.now.body.now → (t : Tenant)
+    ensures { IsTrue (has_types layout.now) → (t : Tenant) → FindsAll t (object_of_layout layout.now) given.now
         → ValueOrRefusal (bad_value t (object_of_layout layout.now) (all_given given.now))
         (IsGiven t (object_of_layout layout.now) (all_given given.now) old.now) result }
 {
@@ -162,8 +165,8 @@ fn read_all(
 /// The values that are given to a record of an object, over what the record had, and the owner if one is given; or why the first
 /// value that is refused is, in the order of the object's fields. Each is read once.
 ///
-/// What is said of it is said of bodies in which nothing finds a record: there a value that does is refused as of a wrong type.
-/// The types of the object's fields are within their bounds, as those of every organisation are.
+/// What is said of it is said of tenants in which what finds a record finds those that are told: where none is told it is refused
+/// as of a wrong type. The types of the object's fields are within their bounds, as those of every organisation are.
 ///
 /// # Errors
 ///
@@ -174,7 +177,7 @@ pub fn read_given(
     given: &AllGiven<'_>,
     old: &Record,
 ) -> Result<Result<GivenValues, Refusal>, AllocError>
-    ensures { IsTrue (has_types layout.now) → IsPlain given.now → IfOk result (GivesValues layout.now (all_given given.now) old.now) }
+    ensures { IsTrue (has_types layout.now) → IfOk result (GivesValues layout.now given.now old.now) }
 {
     ended(read_all(alloc, layout, given, old))
 }
@@ -182,8 +185,8 @@ pub fn read_given(
 /// The record with what a body gives in place of what it had, modified at this moment.
 #[tactic(auto, using(crate::proofs::Made::made_given))]
 pub fn with_given(old: Record, given: GivenValues, now: i64) -> Record
-    ensures same { (a : Asked) (l : Layout) (body : List Assignment) → a.now ≡ now → GivesValues l body old (Ok given)
-        → result ≡ with_given a (object_of_layout l) body old }
+    ensures same { (a : Asked) (l : Layout) (x : AllGiven) → a.now ≡ now → FindsAll a.tenant (object_of_layout l) x
+        → GivesValues l x old (Ok given) → result ≡ with_given a (object_of_layout l) (all_given x) old }
     ensures values { result.values ≡ given.values }
 {
     Record {

@@ -13,6 +13,7 @@ ghost use Rattle.ut_value.specs.Types.{is_type};
 ghost use Rattle.ut_value.specs.Values.{valid};
 
 use crate::columns::column_named;
+use crate::found::Found;
 use crate::texts::{or_refusal, read_text, wrong_type};
 use crate::unread::ended;
 use std::alloc::{AllocError, Global};
@@ -38,6 +39,8 @@ pub struct AllGiven<'a> {
     pub body: &'a [Assignment],
     /// The key.
     pub key: Option<UpsertKey<'a>>,
+    /// What was found for the references that the body gives by a unique field.
+    pub found: &'a [Found<'a>],
 }
 
 // Whether the field is unique and has this name.

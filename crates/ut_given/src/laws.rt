@@ -1,6 +1,8 @@
 //! What holds of the objects that layouts spell.
 
-ghost use Rattle.std.specs.Prelude.{◌≡◌, ℕ, List, Option};
+ghost use Rattle.std.specs.Prelude.{◌≡◌, ℕ, List, None, Option, Some};
+ghost use Rattle.ut_given.specs.Given.{FindNone, Finds, FindsNamed, IsInJson};
+ghost use Rattle.ut_given.specs.declared.found.Found.{Found};
 ghost use Rattle.ut_rules.specs.Objects.{numbered_in, object_of_layout};
 ghost use Rattle.ut_model.specs.declared.record.Record.{Record};
 ghost use Rattle.ut_model.specs.declared.record_bodies.Assignment.{Assignment};
@@ -8,15 +10,17 @@ ghost use Rattle.ut_model.specs.Creates.{empty_record};
 ghost use Rattle.ut_model.specs.Edits.{bad_value, required_missing, with_given};
 ghost use Rattle.ut_model.specs.Keys.{Key, bad_fields};
 ghost use Rattle.ut_model.specs.Upserts.{declared_name, unique_named};
-ghost use Rattle.ut_model.specs.Objects.{Numbered};
+ghost use Rattle.ut_model.specs.Objects.{Numbered, object_numbered};
 ghost use Rattle.ut_model.specs.Paths.{Asked};
+ghost use Rattle.ut_model.specs.Sound.{IsSound};
 ghost use Rattle.ut_model.specs.SoundRecords.{kinds_of};
-ghost use Rattle.ut_model.specs.Tenant.{Tenant};
+ghost use Rattle.ut_model.specs.Tenant.{Object, Tenant};
 ghost use Rattle.ut_stands.specs.Layouts.{layout_of};
 ghost use Rattle.ut_stands.specs.Plan.{OrgPlan};
 
 /// An object and the one that its layout spells: names, values and required fields are judged alike, and records are made alike,
-/// whatever the object's validation rules are. The call does nothing.
+/// whatever the object's validation rules are. And a body in which nothing finds a record, as one in JSON, finds those that are told,
+/// whatever is told; in a sound organisation one finds them if it does for the field with each name. The call does nothing.
 pub fn given_laws()
     ensures unique_named { (org : ℕ) (p : OrgPlan) (t : Tenant) (o : Numbered) (name : List ℕ)
         → unique_named o.object name ≡ unique_named (object_of_layout (layout_of org p t o)) name }
@@ -34,4 +38,10 @@ pub fn given_laws()
         → empty_record a o ≡ empty_record a (numbered_in (layout_of org p a.tenant o)) }
     ensures kinds { (org : ℕ) (p : OrgPlan) (t : Tenant) (o : Numbered)
         → kinds_of o.object ≡ kinds_of (object_of_layout (layout_of org p t o)) }
+    ensures finds { (t : Tenant) (o : Object) (key : Option Key) (found : List Found) (body : List Assignment)
+        → FindNone body → Finds t o key found body }
+    ensures named { (t : Tenant) (o : Numbered) (found : List Found) (body : List Assignment)
+        → IsSound t → object_numbered t o.number ≡ Some o.object → FindsNamed t o.object found body
+        → Finds t o.object None found body }
+    ensures json { (body : List Assignment) → IsInJson body → FindNone body }
 {}

@@ -6,6 +6,7 @@
 
 mod columns;
 mod creating;
+mod found;
 mod given;
 mod json;
 mod key;
@@ -17,7 +18,9 @@ mod required;
 mod texts;
 mod unread;
 
+pub use crate::columns::{Column, column_named};
 pub use crate::creating::empty_record;
+pub use crate::found::Found;
 pub use crate::given::{GivenValues, read_given, with_given};
 pub use crate::key::{AllGiven, UpsertKey, declared_name, key_value, unique_named};
 pub use crate::laws::given_laws;

@@ -4,15 +4,16 @@ ghost use Rattle.std.specs.Prelude.{◌≡◌, IfOk, IsTrue, not};
 ghost use Rattle.std.specs.Option.{option_map};
 ghost use Rattle.std.specs.Str.{chars};
 ghost use Rattle.ut_rules.specs.Objects.{object_of_layout};
-ghost use Rattle.ut_given.specs.Given.{IsPlain, finds_none, has_key_type, key_in, key_of};
+ghost use Rattle.ut_given.specs.Given.{FindsAll, IsKnown, IsPlain, has_key_type, key_in, key_of};
 ghost use Rattle.ut_given.specs.inner.Columns.{bad_name};
-ghost use Rattle.ut_given.specs.inner.Keys.{PlainKey, bad_member, has_other};
+ghost use Rattle.ut_given.specs.inner.Keys.{KnowsKey, KnowsKeyOf, PlainKey, bad_member, has_other};
 ghost use Rattle.ut_model.specs.Edits.{bad_field};
 ghost use Rattle.ut_model.specs.Given.{read_given};
 ghost use Rattle.ut_model.specs.Keys.{bad_fields, other_key, reads_as};
 ghost use Rattle.ut_model.specs.Tenant.{Tenant};
 
 use crate::columns::column_named;
+use crate::found::Found;
 use crate::key::{AllGiven, UpsertKey};
 use crate::reading::read_given;
 use crate::unread::ended;
@@ -65,22 +66,39 @@ fn reads_as(read: &Result<Value, Refusal>, value: &Value) -> bool
 }
 
 // Whether what is given reads as another value than the key's. What is refused does.
-fn is_other(alloc: Global, key: &UpsertKey<'_>, given: &Given) -> Result<bool, AllocError>
-    ensures { IsTrue (has_key_type key.now) → IsTrue (finds_none given.now) → IfOk result (λ other. (t : Tenant)
+fn is_other(
+    alloc: Global,
+    found: &[Found<'_>],
+    key: &UpsertKey<'_>,
+    given: &Given,
+) -> Result<bool, AllocError>
+    ensures { IsTrue (has_key_type key.now) → IfOk result (λ other. (t : Tenant)
+        → IsKnown t found.now (key_in key.now).column given.now
         → other ≡ not (reads_as key.now.value.now (read_given t (key_in key.now).column given.now))) }
 {
-    let given = read_given(alloc, key.field.name.as_str(), &key.field.kind, given);
+    let given = read_given(
+        alloc,
+        found,
+        key.field.name.as_str(),
+        &key.field.kind,
+        given,
+    );
     let read = ended(given)?;
     Ok(!reads_as(&read, key.value))
 }
 
 // Whether this gives the key another value.
-fn gives_other(alloc: Global, key: &UpsertKey<'_>, member: &Assignment) -> Result<bool, AllocError>
-    ensures { IsTrue (has_key_type key.now) → IsTrue (finds_none member.now.given) → IfOk result (λ other. (t : Tenant)
-        → other ≡ has_other t (key_in key.now) member.now) }
+fn gives_other(
+    alloc: Global,
+    found: &[Found<'_>],
+    key: &UpsertKey<'_>,
+    member: &Assignment,
+) -> Result<bool, AllocError>
+    ensures { IsTrue (has_key_type key.now) → IfOk result (λ other. (t : Tenant)
+        → KnowsKey t found.now (key_in key.now) member.now → other ≡ has_other t (key_in key.now) member.now) }
 {
     if same_name(member.field.as_str(), key.field.name.as_str()) {
-        is_other(alloc, key, &member.given)
+        is_other(alloc, found, key, &member.given)
     } else {
         Ok(false)
     }
@@ -89,16 +107,17 @@ fn gives_other(alloc: Global, key: &UpsertKey<'_>, member: &Assignment) -> Resul
 // The refusal of another value of the key, if this gives one.
 fn other_key(
     alloc: Global,
+    found: &[Found<'_>],
     key: &Option<UpsertKey<'_>>,
     member: &Assignment,
 ) -> Result<Option<Refusal>, AllocError>
-    ensures { PlainKey key.now → IsTrue (finds_none member.now.given) → IfOk result (λ r. (t : Tenant)
+    ensures { PlainKey key.now → IfOk result (λ r. (t : Tenant) → KnowsKeyOf t found.now (option_map key_in key.now) member.now
         → r ≡ other_key t (option_map key_in key.now) member.now) }
 {
     match key {
         None => Ok(None),
         Some(key) => {
-            if gives_other(alloc, key, member)? {
+            if gives_other(alloc, found, key, member)? {
                 let name = key.field.name.copy(alloc)?;
                 Ok(Some(Refusal::InvalidField { name }))
             } else {
@@ -112,15 +131,16 @@ fn other_key(
 fn bad_member(
     alloc: Global,
     layout: &Layout,
+    found: &[Found<'_>],
     key: &Option<UpsertKey<'_>>,
     member: &Assignment,
 ) -> Result<Option<Refusal>, AllocError>
-    ensures { PlainKey key.now → IsTrue (finds_none member.now.given) → IfOk result (λ r. (t : Tenant)
+    ensures { PlainKey key.now → IfOk result (λ r. (t : Tenant) → KnowsKeyOf t found.now (option_map key_in key.now) member.now
         → r ≡ bad_member t (object_of_layout layout.now) (option_map key_in key.now) member.now) }
 {
     match bad_field(alloc, layout, member)? {
         Some(refusal) => Ok(Some(refusal)),
-        None => other_key(alloc, key, member),
+        None => other_key(alloc, found, key, member),
     }
 }
 
@@ -135,12 +155,12 @@ pub fn bad_fields(
     layout: &Layout,
     given: &AllGiven<'_>,
 ) -> Result<Option<Refusal>, AllocError>
-    ensures { IsPlain given.now → IfOk result (λ r. (t : Tenant)
+    ensures { IsPlain given.now → IfOk result (λ r. (t : Tenant) → FindsAll t (object_of_layout layout.now) given.now
         → r ≡ bad_fields t (object_of_layout layout.now) (key_of given.now) given.now.body.now) }
 {
     let mut rest = given.body;
     'names: while let Some((first, more)) = rest.split_first() {
-        match bad_member(alloc, layout, &given.key, first)? {
+        match bad_member(alloc, layout, given.found, &given.key, first)? {
             Some(refusal) => return Ok(Some(refusal)),
             None => rest = more,
         }

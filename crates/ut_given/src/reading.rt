@@ -5,7 +5,7 @@ ghost use Rattle.std.specs.List.{find};
 ghost use Rattle.std.specs.Option.{option_map};
 ghost use Rattle.std.specs.Str.{chars};
 ghost use Rattle.ut_formula.specs.Meaning.{value_at};
-ghost use Rattle.ut_given.specs.Given.{FindNone, all_given, finds_none, key_in};
+ghost use Rattle.ut_given.specs.Given.{FindsFor, IsKnown, all_given, key_in};
 ghost use Rattle.ut_given.specs.declared.unread.Unread.TheVariants.{Memory};
 ghost use Rattle.ut_given.specs.inner.Read.{JudgesValue, Reads, ReadsGiven};
 ghost use Rattle.ut_model.specs.Edits.{given_to};
@@ -16,6 +16,7 @@ ghost use Rattle.ut_model.specs.Tenant.{Tenant};
 ghost use Rattle.ut_value.specs.Types.{is_type};
 ghost use Rattle.ut_value.specs.declared.value.FieldType.{FieldType};
 
+use crate::found::{Found, read_found};
 use crate::json::value_in_json;
 use crate::key::{AllGiven, UpsertKey};
 use crate::texts::wrong_type;
@@ -31,14 +32,16 @@ fn copy_of(alloc: Global, value: &Value) -> Result<Value, Unread>
     Ok(value.copy(alloc)?)
 }
 
-/// The value of what is given to a field with this name and type. What finds a record is refused here.
+/// The value of what is given to a field with this name and type.
 pub(crate) fn read_given(
     alloc: Global,
+    found: &[Found<'_>],
     name: &str,
     kind: &FieldType,
     given: &Given,
 ) -> Result<Value, Unread>
-    ensures { IsTrue (is_type kind.now) → IsTrue (finds_none given.now) → (t : Tenant) (at : Site)
+    ensures { IsTrue (is_type kind.now) → (t : Tenant) (at : Site)
+        → IsKnown t found.now (column (chars name.now) (of_type kind.now) at) given.now
         → Reads (read_given t (column (chars name.now) (of_type kind.now) at) given.now) result }
 {
     match given {
@@ -50,7 +53,7 @@ pub(crate) fn read_given(
                 Err(Unread::Refused(wrong_type(alloc, name)?))
             }
         }
-        Given::Find { .. } => Err(Unread::Refused(wrong_type(alloc, name)?)),
+        Given::Find { text, .. } => read_found(alloc, name, found, text.as_str()),
     }
 }
 
@@ -85,12 +88,13 @@ pub(crate) fn value_to(
     name: &str,
     kind: &FieldType,
 ) -> Option<Result<Value, Unread>>
-    ensures { IsTrue (is_type kind.now) → FindNone given.now.body.now → (t : Tenant) (at : Site)
+    ensures { IsTrue (is_type kind.now) → (t : Tenant) (at : Site)
+        → FindsFor t given.now.found.now given.now.body.now (column (chars name.now) (of_type kind.now) at)
         → ReadsGiven (given_to t (all_given given.now) (column (chars name.now) (of_type kind.now) at)) result }
 {
     match assignment_to(given.body, name) {
         None => key_to(alloc, &given.key, name),
-        Some(assignment) => Some(read_given(alloc, name, kind, &assignment.given)),
+        Some(assignment) => Some(read_given(alloc, given.found, name, kind, &assignment.given)),
     }
 }
 
@@ -113,7 +117,8 @@ pub(crate) fn value_over(
     old: &Record,
     position: usize,
 ) -> Result<Value, Unread>
-    ensures { IsTrue (is_type kind.now) → FindNone given.now.body.now → (t : Tenant) (at : Site)
+    ensures { IsTrue (is_type kind.now) → (t : Tenant) (at : Site)
+        → FindsFor t given.now.found.now given.now.body.now (column (chars name.now) (of_type kind.now) at)
         → JudgesValue (given_to t (all_given given.now) (column (chars name.now) (of_type kind.now) at))
         (value_at old.now.values position) result }
 {

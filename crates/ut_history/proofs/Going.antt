@@ -12,7 +12,7 @@ use Rattle.ut_serving.specs.Falls.{Falls, FallsBringing}
 use Rattle.ut_serving.specs.Leads.{IsReached, StandsReached}
 use Rattle.ut_serving.specs.Requests.{message_in}
 use Rattle.ut_stands.specs.Stands.{Stands}
-use Rattle.platform.specs.Commands.{Command, answers, csvq, org_add, prints, printed, serves, used_by, uses_of}
+use Rattle.platform.specs.Commands.{Command, answers, csvq, export, org_add, prints, printed, serves, used_by, uses_of}
 use Rattle.platform.specs.Deeds.{IsNext}
 use Rattle.platform.specs.Falling.{Doubts, FallsOpening}
 use Rattle.platform.specs.Promise.{IsStatus, Promise}
@@ -99,13 +99,17 @@ module _ (k l : KeeperState) (a b : Around) (status : ℕ) (w : World) (m : Tabl
         → (end : World) × Says command w end a b status × Stands m end
     whole (prints (csvq query)) p unused = (
       w,
-      (λ e. refl, λ bytes moments source dated. let h = p.does w (inl refl) in let q = h.2 bytes moments source dated in (h.0, h.1, q.0, q.1, refl)),
+      (λ e. refl, λ bytes source. let h = p.does w (inl refl) in let q = h.2 bytes source in (q.0, q.1, h.0, h.1, q.2, q.3, refl)),
       before (unused refl),
     )
     whole (prints (org_add name secret)) p unused =
         let h = p.does w (inr ((told, st), s)) in
-        let q = h.2 [] [] (inl refl) (inl refl) in
-        (q.0, (λ e. absurd (true_isnt_false e), λ bytes moments source dated. (h.0, h.1, q.0, q.1, refl)), after q.0 q.2)
+        let q = h.2 [] (inl refl) in
+        (q.2, (λ e. absurd (true_isnt_false e), λ bytes source. (q.0, q.1, h.0, h.1, q.2, q.3, refl)), after q.2 q.4)
+    whole (prints (export org user secret query)) p unused =
+        let h = p.does w (inr ((told, st), s)) in
+        let q = h.2 [] (inl refl) in
+        (q.2, (λ e. absurd (true_isnt_false e), λ bytes source. (q.0, q.1, h.0, h.1, q.2, q.3, refl)), after q.2 q.4)
     whole answers p unused = whole_answers p a.left a.coming refl refl
     whole (serves count) p unused = whole_serves count p a.door a.coming refl refl
 
@@ -193,6 +197,15 @@ module _ (k l : KeeperState) (a b : Around) (status : ℕ) (w : World) (m : Tabl
 
         by : Stands m w ⊎ ((end next : World) × IsNext w (printed (org_add name secret) w [] []) end next × Stands m next)
             → (end : World) × Breaks (prints (org_add name secret)) w end a b status × Stands m end
+        by (inl h) = (w, (refl, none, inl refl), h)
+        by (inr (from, next, is, h)) = (next, (refl, none, inr (from, is)), h)
+    breaks (prints (export org user secret query)) p unused = by ((doubts (prints (export org user secret query)) p).crash [] [] m left)
+      where
+        none : ((status ≡ 0) ⊎ (status ≡ 65)) → ⊥
+        none is = true_isnt_false (sym (p.causes.acknowledged refl refl is clean) ∙ fell)
+
+        by : Stands m w ⊎ ((end next : World) × IsNext w (printed (export org user secret query) w [] []) end next × Stands m next)
+            → (end : World) × Breaks (prints (export org user secret query)) w end a b status × Stands m end
         by (inl h) = (w, (refl, none, inl refl), h)
         by (inr (from, next, is, h)) = (next, (refl, none, inr (from, is)), h)
     breaks answers p unused = breaks_answers p a.left a.coming refl refl

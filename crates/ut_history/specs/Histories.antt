@@ -16,7 +16,7 @@ use Rattle.ut_serving.specs.Requests.{message_in}
 use Rattle.platform.specs.Commands.{Command, Printing, answers, is_opening, prints, printed, serves, uses}
 use Rattle.platform.specs.Deeds.{IsNext, Prints}
 use Rattle.platform.specs.Promise.{IsStatus}
-use Rattle.platform.specs.Run.{IsTold, status_in}
+use Rattle.platform.specs.Run.{AreMoments, IsTold, status_in}
 use Rattle.platform.specs.Serving.{IsIsolated, IsOpening, ServeEnds, answer_end}
 use Rattle.platform.specs.declared.stop.Stop.{Stop}
 use Rattle.ut_history.specs.Runs.{Around, Run}
@@ -28,8 +28,9 @@ use Rattle.ut_step.specs.Step.{step}
 abbrev pub SaysPrints : Printing → World → World → Around → Around → ℕ → Type 0
 SaysPrints p w end a b status =
     ((uses p).keeper ≡ false → end ≡ w)
-    × ((bytes moments : List ℕ) → IsTold (uses p).source a.left bytes → IsTold (uses p).dated a.coming moments
-    → (r : Result ℕ Stop) × (status ≡ status_in r) × (said : World) × Prints w (printed p w bytes moments) a.written b.written r said
+    × ((bytes : List ℕ) → IsTold (uses p).source a.left bytes
+    → (moments : List ℕ) × AreMoments (uses p).dated a.coming moments
+    × (r : Result ℕ Stop) × (status ≡ status_in r) × (said : World) × Prints w (printed p w bytes moments) a.written b.written r said
     × (end ≡ (if (uses p).keeper then said else w)))
 
 -- connections were served

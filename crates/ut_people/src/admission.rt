@@ -1,7 +1,7 @@
 ghost use Rattle.std.specs.Prelude.{◌≡◌, MatchOption, None, Some, length};
 ghost use Rattle.sha2.specs.Sha256.{sha256};
 ghost use Rattle.ut_keeper.specs.Draft.{DraftTells, tables_of};
-ghost use Rattle.ut_model.specs.Callers.{cut, named, named_ids};
+ghost use Rattle.ut_model.specs.Callers.{cut, named, named_by, named_ids};
 ghost use Rattle.ut_people.specs.People.{FindsCaller, admitted_row};
 ghost use Rattle.ut_stands.specs.Calls.{Calls, ended};
 
@@ -85,6 +85,30 @@ fn caller_with<K: Keeper>(
     }
 }
 
+/// The caller who is the user with this id in the organisation with this id, if the secret is the user's. Ids have 15 or 18 characters.
+///
+/// # Errors
+///
+/// As `caller`.
+pub fn caller_named<K: Keeper>(
+    alloc: Global,
+    draft: &mut Draft<'_, K>,
+    org: &str,
+    user: &str,
+    secret: &str,
+) -> Result<Option<Caller>, StoreFail>
+    ensures finds { DraftTells K.state draft.old draft.new
+        → FindsCaller (named_by org.now user.now secret.now) (tables_of K.state draft.old) result }
+    ensures calls { Calls K.state 0 (ended result) draft.old draft.new }
+{
+    draft_laws::<K>();
+    call_laws::<K>();
+    match named_ids(org, user) {
+        None => Ok(None),
+        Some((org, id)) => caller_with(alloc, draft, org, &id, secret),
+    }
+}
+
 /// The caller whom a key `ORG!USER!SECRET` names and whose secret it has. The key is cut at its first two `!`; ids have 15
 /// or 18 characters.
 ///
@@ -108,8 +132,5 @@ pub fn caller<K: Keeper>(
     let Some((id, secret)) = cut(rest) else {
         return Ok(None);
     };
-    match named_ids(org, id) {
-        None => Ok(None),
-        Some((org, id)) => caller_with(alloc, draft, org, &id, secret),
-    }
+    caller_named(alloc, draft, org, id, secret)
 }

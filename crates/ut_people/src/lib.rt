@@ -9,7 +9,7 @@ mod edits;
 mod forms;
 mod org;
 
-pub use crate::admission::caller;
+pub use crate::admission::{caller, caller_named};
 pub use crate::edits::{AddGroup, AddRole, AddUser, SetGroup, SetRole, SetUser};
 pub use crate::forms::is_secret;
 pub use crate::org::add_org;

@@ -1,15 +1,12 @@
 -- What is given to a record, judged.
-use Rattle.std.proofs.Common.{◌≡◌, ◌∙◌, ℕ, Bool, true, false, ◌&&◌, IsTrue, List, [], ◌∷◌, map, Option, Some, None, refl, sym, ap, subst}
+use Rattle.std.proofs.Common.{◌≡◌, ◌∙◌, ℕ, IsTrue, List, [], ◌∷◌, map, Option, Some, None, refl, sym, ap, subst}
 use Rattle.std.specs.Prelude.{Result, Ok, Err, IsErrAnd}
-use Rattle.std.specs.List.{list_all}
 use Rattle.ut_data.specs.Decoding.{kinds_in}
 use Rattle.ut_given.specs.declared.key.AllGiven.{AllGiven}
 use Rattle.ut_given.specs.declared.key.UpsertKey.{UpsertKey}
-use Rattle.ut_given.specs.Given.{FindNone, IsInJson, IsPlain, finds_none, is_json}
+use Rattle.ut_given.specs.Given.{FindsAll, IsPlain}
 use Rattle.ut_model.specs.declared.record.Record.{Record}
 use Rattle.ut_model.specs.declared.record_bodies.Assignment.{Assignment}
-use Rattle.ut_model.specs.declared.record_bodies.Given.{Given}
-use Rattle.ut_model.specs.declared.record_bodies.Given.TheVariants as gives
 use Rattle.ut_model.specs.declared.refusal.Refusal.{Refusal}
 use Rattle.ut_model.specs.Edits.{bad_value, required_missing}
 use Rattle.ut_model.specs.Fields.{column_named}
@@ -18,7 +15,7 @@ use Rattle.ut_model.specs.Objects.{Numbered}
 use Rattle.ut_model.specs.Paths.{Asked}
 use Rattle.ut_model.specs.Rules.{Rule, first_refusal}
 use Rattle.ut_model.specs.SoundRecords.{all_valid, kinds_of}
-use Rattle.ut_model.specs.Tenant.{Object}
+use Rattle.ut_model.specs.Tenant.{Object, Tenant}
 use Rattle.ut_model.specs.Updates.{owner_denied}
 use Rattle.ut_rules.specs.Objects.{field_of_place, numbered_in, object_of_layout}
 use Rattle.ut_sound.specs.Fit.{ReadsWell}
@@ -34,24 +31,9 @@ use Rattle.ut_named.proofs.Spelled.{plain, spelled}
 use Rattle.ut_records.specs.inner.Giving.{Alters, Changes, Gives, Lacks, altered, changed_rules, given_rules, value_rules}
 use Rattle.ut_records.proofs.FirstRules.{first_passes, first_refuses, first_stays, first_then, none_behind, none_first}
 
--- ---- what is in JSON finds no record
-
-one_json : (g : Given) → IsTrue (is_json g) → IsTrue (finds_none g)
-one_json (gives.Json j) h = refl
-one_json (gives.Read v) h = refl
-one_json (gives.Find field text) h = absurd cc
-
-both : (a b : Bool) → IsTrue (a && b) → IsTrue a × IsTrue b
-both true b h = (refl, h)
-both false b h = absurd cc
-
-finds_nothing : (given : List Assignment) → IsInJson given → FindNone given
-finds_nothing [] h = refl
-finds_nothing (x ∷ given) h = let p = both (is_json x.given) (list_all (λ y. is_json y.given) given) h in rw (one_json x.given p.0) (finds_nothing given p.1)
-
--- and so it is plain, without the key of an upsert
-pub is_plain : (x : AllGiven) → x.key ≡ None → IsInJson x.body.now → IsPlain x
-is_plain x none h = record { finds = finds_nothing x.body.now h; key = λ k is. absurd (no_key k (sym none ∙ is)) }
+-- what is given without the key of an upsert is plain
+pub is_plain : (x : AllGiven) → x.key ≡ None → IsPlain x
+is_plain x none = record { key = λ k is. absurd (no_key k (sym none ∙ is)) }
   where
     no_key : (k : UpsertKey) → ◌≡◌ {A = Option UpsertKey} None (Some k) → ⊥
     no_key k e = absurd cc
@@ -194,3 +176,10 @@ reads_plain a o given h = h
 -- what is read well in an object is so in the one that its layout spells
 pub reads_there : (org : ℕ) (q : OrgPlan) (a : Asked) (o : Numbered) (l : Layout) (given : List Assignment) → l ≡ layout_of org q a.tenant o → ReadsWell a o.object given → ReadsWell a (object_of_layout l) given
 reads_there org q a o l given is h = subst (λ (p : Numbered). ReadsWell a p.object given) (sym (ap numbered_in is ∙ spelled org q a.tenant o)) (reads_plain a o given h)
+
+finds_plain : (t : Tenant) (o : Numbered) (x : AllGiven) → FindsAll t o.object x → FindsAll t (plain o).object x
+finds_plain t o x h = h
+
+-- and what finds a record finds the same one
+pub finds_there : (org : ℕ) (q : OrgPlan) (t : Tenant) (o : Numbered) (l : Layout) (x : AllGiven) → l ≡ layout_of org q t o → FindsAll t o.object x → FindsAll t (object_of_layout l) x
+finds_there org q t o l x is h = subst (λ (p : Numbered). FindsAll t p.object x) (sym (ap numbered_in is ∙ spelled org q t o)) (finds_plain t o x h)

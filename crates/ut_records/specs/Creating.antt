@@ -1,9 +1,10 @@
 -- A new record as changes of rows: those of the organisation and of its object, which count it, and those of its own.
-use Rattle.std.specs.Prelude.{◌≡◌, ℕ, true, List, [], ◌∷◌, ◌++◌, Option, Some, Result, ℤ}
+use Rattle.std.specs.Prelude.{◌≡◌, ℕ, true, List, [], ◌∷◌, ◌++◌, Option, None, Some, Result, ℤ}
 use Rattle.ut_edits.specs.Edits.{ChangesIn, DecidesTo}
 use Rattle.ut_edits.specs.Rows.{change_to}
 use Rattle.ut_edits.specs.declared.decided.Decided.{Decided}
-use Rattle.ut_given.specs.Given.{all_given, key_of}
+use Rattle.ut_given.specs.Given.{Finds, FindsAll, all_given, key_of}
+use Rattle.ut_given.specs.declared.found.Found.{Found}
 use Rattle.ut_given.specs.declared.key.AllGiven.{AllGiven}
 use Rattle.ut_keeper.specs.Tables.{Tables}
 use Rattle.ut_keys.specs.Rows.{object_form, org_form}
@@ -12,7 +13,7 @@ use Rattle.ut_model.specs.Creates.{create_on, empty_record, with_record}
 use Rattle.ut_model.specs.Edits.{with_given}
 use Rattle.ut_model.specs.declared.record_bodies.Assignment.{Assignment}
 use Rattle.ut_model.specs.Keys.{Key}
-use Rattle.ut_model.specs.Objects.{Numbered, object_numbered}
+use Rattle.ut_model.specs.Objects.{Numbered, object_named, object_numbered}
 use Rattle.ut_model.specs.Paths.{Asked}
 use Rattle.ut_model.specs.Sound.{IsSound}
 use Rattle.ut_model.specs.Tenant.{Object, Tenant}
@@ -42,6 +43,11 @@ pub record IsGiving (whose : Whose) (id : List ℕ) (moment : ℤ) (well : Asked
   pub asker : IsAsker whose id moment a
   pub caller : IsCaller a
   pub reads : OfObjects a (well a)
+
+-- what is given reads well in an object, and if it is the one with this name, what finds a record finds one that is told
+pub record ReadsFound (name : List ℕ) (found : List Found) (given : List Assignment) (a : Asked) (o : Object) : Type 0 where
+  pub reads : ReadsWell a o given
+  pub finds : (x : Numbered) → object_named a.tenant name ≡ Some x → x.object ≡ o → Finds a.tenant o None found given
 
 -- ---- the object
 
@@ -78,10 +84,12 @@ abbrev pub answered_new : Option Key → (id : List ℕ) → Done
 answered_new key id = in_case key (made_new id) (λ k. upserted id true)
 
 -- over these tables, whatever they have, only rows of the organisation are changed; and where these stand for the tenant of who
--- asks, whose rights these are, and valid values stay valid with what is given, it comes to the verdict
+-- asks, whose rights these are, valid values stay valid with what is given, and what finds a record finds one that is told, it comes
+-- to the verdict
 pub record DecidesNew (l : Layout) (whose : Whose) (user : List ℕ) (now : ℤ) (given : AllGiven) (m : Tables)
     (result : Result (Decided (List ℕ)) EditFail) : Type 0 where
   pub own : ChangesIn l.org result
   pub decided : (q : OrgPlan) (a : Asked) (o : Numbered) → StandsIn l.org q m (Some a.tenant) → IsObject l.org q a.tenant o l
-      → IsAsker whose user now a → ReadsWell a o.object (all_given given) → IsSound (create_on a o (key_of given) given.body.now).tenant
+      → IsAsker whose user now a → ReadsWell a o.object (all_given given) → FindsAll a.tenant o.object given
+      → IsSound (create_on a o (key_of given) given.body.now).tenant
       → DecidesTo l.org q a.tenant (create_on a o (key_of given) given.body.now) (answered_new (key_of given)) PlansNew result

@@ -2,7 +2,7 @@
 use Rattle.std.specs.Prelude.{◌≡◌, ℕ, false, if◌then◌else◌, List, [], ◌∷◌, ◌++◌, map, Option, None, Some, Result, ℤ}
 use Rattle.ut_edits.specs.Edits.{ChangesIn, DecidesTo}
 use Rattle.ut_edits.specs.declared.decided.Decided.{Decided}
-use Rattle.ut_given.specs.Given.{all_given, key_of}
+use Rattle.ut_given.specs.Given.{FindsAll, all_given, key_of}
 use Rattle.ut_given.specs.declared.key.AllGiven.{AllGiven}
 use Rattle.ut_keeper.specs.Tables.{Tables}
 use Rattle.ut_keys.specs.Keys.{Share}
@@ -48,12 +48,13 @@ abbrev pub answered_changed : Option Key → (id : List ℕ) → Done
 answered_changed key id = in_case key done (λ k. upserted id false)
 
 -- over these tables, whatever they have, only rows of the organisation are changed; and where these stand for the tenant of who
--- asks, whose rights and record these are, and valid values stay valid with what is given, it comes to the verdict
+-- asks, whose rights and record these are, valid values stay valid with what is given, and what finds a record finds one that is told,
+-- it comes to the verdict
 pub record DecidesChanged (l : Layout) (whose : Whose) (now : ℤ) (given : AllGiven) (kept : KeptRecord) (m : Tables)
     (result : Result (Decided (Unit {0})) EditFail) : Type 0 where
   pub own : ChangesIn l.org result
   pub decided : (q : OrgPlan) (a : Asked) (o : Numbered) (id : List ℕ) → StandsIn l.org q m (Some a.tenant)
       → IsObject l.org q a.tenant o l → IsKept q a.tenant l id kept → whose a.tenant a.user → a.now ≡ now
-      → ReadsWell a o.object (all_given given) → IsSound (update_on a o (key_of given) given.body.now kept.item).tenant
+      → ReadsWell a o.object (all_given given) → FindsAll a.tenant o.object given → IsSound (update_on a o (key_of given) given.body.now kept.item).tenant
       → DecidesTo l.org q a.tenant (update_on a o (key_of given) given.body.now kept.item)
       (λ _. answered_changed (key_of given) kept.item.id) PlansSame result

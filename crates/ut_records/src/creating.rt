@@ -3,7 +3,7 @@
 ghost use Rattle.std.specs.Prelude.{◌≡◌, ◌≢◌, ◌^◌, ◌<◌, IfErr, IfOk, IsTrue, OnOk, Some};
 ghost use Rattle.ut_data.specs.Decoding.{kinds_in};
 ghost use Rattle.ut_edits.specs.Rows.{AreFew, AreSpelled};
-ghost use Rattle.ut_given.specs.Given.{IsPlain, all_given, key_of};
+ghost use Rattle.ut_given.specs.Given.{FindsAll, IsPlain, all_given, key_of};
 ghost use Rattle.ut_keeper.specs.Draft.{DraftTells, tables_of};
 ghost use Rattle.ut_keys.specs.declared.fail.StoreFail.TheVariants.{Keeper, Memory};
 ghost use Rattle.ut_model.specs.Creates.{create, empty_record};
@@ -12,7 +12,7 @@ ghost use Rattle.ut_model.specs.Paths.{Asked};
 ghost use Rattle.ut_model.specs.SoundRecords.{all_valid};
 ghost use Rattle.ut_model.specs.Verdict.{made_new};
 ghost use Rattle.ut_named.specs.Usable.{IsReady, IsUsable};
-ghost use Rattle.ut_records.specs.Creating.{DecidesNew, IsAsker, IsGiving, IsObject, PlansNew};
+ghost use Rattle.ut_records.specs.Creating.{DecidesNew, IsAsker, IsGiving, IsObject, PlansNew, ReadsFound};
 ghost use Rattle.ut_records.specs.inner.Giving.{Alters};
 ghost use Rattle.ut_records.specs.inner.Judged.{Accepts, Admits, FitsRows, HaveKeys, changes_of, limit_rule};
 ghost use Rattle.ut_records.specs.inner.Object.{HasForms, HasRoom, counted};
@@ -62,7 +62,7 @@ fn made_record(
     requires usable { IsUsable layout.now }
     requires plain { IsPlain given.now }
     ensures proposes { (a : Asked) → a.user.id ≡ user → a.now ≡ now → id ≡ made (record_prefix layout.now.object) a.tenant.counter
-        → ReadsWell a (object_of_layout layout.now) (all_given given.now)
+        → ReadsWell a (object_of_layout layout.now) (all_given given.now) → FindsAll a.tenant (object_of_layout layout.now) given.now
         → Alters a (object_of_layout layout.now) (key_of given.now) given.now.body.now
         (empty_record a (numbered_in layout.now)) result }
     ensures valid { IfOk result (λ r. IsTrue (all_valid (kinds_in layout.now.fields) r.values)) }
@@ -84,7 +84,7 @@ fn proposed(
     requires usable { IsUsable layout.now }
     requires plain { IsPlain given.now }
     ensures proposes { (a : Asked) → a.user.id ≡ user → a.now ≡ now → number ≡ a.tenant.counter → a.tenant.counter < 10 ^ 15
-        → ReadsWell a (object_of_layout layout.now) (all_given given.now)
+        → ReadsWell a (object_of_layout layout.now) (all_given given.now) → FindsAll a.tenant (object_of_layout layout.now) given.now
         → Alters a (object_of_layout layout.now) (key_of given.now) given.now.body.now
         (empty_record a (numbered_in layout.now)) result }
     ensures made { IfOk result (λ r. (number < 10 ^ 15) × IsTrue (all_valid (kinds_in layout.now.fields) r.values)) }
@@ -154,7 +154,8 @@ fn accept<K: Keeper, R: Rights>(
     ensures accepts { DraftTells K.state draft.old draft.new
         → (q : OrgPlan) (a : Asked) (o : Numbered) → StandsIn layout.now.org q (tables_of K.state draft.old) (Some a.tenant)
         → IsObject layout.now.org q a.tenant o layout.now → IsAsker (R.whose rights.now) user now a
-        → ReadsWell a o.object (all_given given.now) → Accepts layout.now.org a o (key_of given.now) given.now.body.now result }
+        → ReadsWell a o.object (all_given given.now) → FindsAll a.tenant o.object given.now
+        → Accepts layout.now.org a o (key_of given.now) given.now.body.now result }
     ensures form { IfOk result (FitsRows layout.now) }
     ensures calls { Calls K.state 168 (ended_edit result) draft.old draft.new }
 {
@@ -243,7 +244,7 @@ impl<R: Rights> Edit for Create<'_, R> {
 
     ghost planned = { λ e q t next. PlansNew q t next };
 
-    ghost fits = { λ e a. IsGiving (R.whose e.rights.now) e.user e.now (λ b o. ReadsWell b o e.given.now) a };
+    ghost fits = { λ e a. IsGiving (R.whose e.rights.now) e.user e.now (ReadsFound e.object.now e.found.now e.given.now) a };
 
     ghost most = { 147 };
 
@@ -265,6 +266,7 @@ impl<R: Rights> Edit for Create<'_, R> {
         let given = AllGiven {
             body: self.given,
             key: None,
+            found: self.found,
         };
         decide_create(
             alloc,

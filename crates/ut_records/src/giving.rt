@@ -3,7 +3,7 @@
 ghost use Rattle.std.specs.Prelude.{◌≡◌, ◌≢◌, IfErr, IfOk, IsTrue, map};
 ghost use Rattle.std.specs.List.{list_all};
 ghost use Rattle.ut_data.specs.Decoding.{has_types, kinds_in};
-ghost use Rattle.ut_given.specs.Given.{IsPlain, all_given, key_of};
+ghost use Rattle.ut_given.specs.Given.{FindsAll, IsPlain, all_given, key_of};
 ghost use Rattle.ut_keys.specs.declared.fail.StoreFail.TheVariants.{Keeper};
 ghost use Rattle.ut_model.specs.Paths.{Asked};
 ghost use Rattle.ut_model.specs.SoundRecords.{all_valid};
@@ -84,7 +84,8 @@ pub(crate) fn given_record(
 ) -> Result<Record, EditFail>
     requires usable { IsUsable layout.now }
     requires plain { IsPlain given.now }
-    ensures gives { (a : Asked) → a.now ≡ now → Gives a (object_of_layout layout.now) (key_of given.now) given.now.body.now old result }
+    ensures gives { (a : Asked) → a.now ≡ now → FindsAll a.tenant (object_of_layout layout.now) given.now
+        → Gives a (object_of_layout layout.now) (key_of given.now) given.now.body.now old result }
     ensures cause { IfErr result (λ e. e ≢ of_store Keeper) }
 {
     if let Some(refusal) = bad_fields(alloc, layout, given)? {
@@ -113,6 +114,7 @@ pub(crate) fn altered_record(
     requires plain { IsPlain given.now }
     requires values { IsTrue (all_valid (kinds_in layout.now.fields) old.values) }
     ensures alters { (a : Asked) → a.now ≡ now → ReadsWell a (object_of_layout layout.now) (all_given given.now)
+        → FindsAll a.tenant (object_of_layout layout.now) given.now
         → Alters a (object_of_layout layout.now) (key_of given.now) given.now.body.now old result }
     ensures valid { IfOk result (λ r. IsTrue (all_valid (kinds_in layout.now.fields) r.values)) }
     ensures cause { IfErr result (λ e. e ≢ of_store Keeper) }

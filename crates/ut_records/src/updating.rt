@@ -3,7 +3,7 @@
 ghost use Rattle.std.specs.Prelude.{◌≡◌, ◌≤◌, IfErr, IfOk, IsTrue, List, OnOk, Some, length, ℕ};
 ghost use Rattle.ut_data.specs.Decoding.{kinds_in};
 ghost use Rattle.ut_edits.specs.Rows.{AreFew, AreSpelled};
-ghost use Rattle.ut_given.specs.Given.{IsPlain, all_given, key_of};
+ghost use Rattle.ut_given.specs.Given.{FindsAll, IsPlain, all_given, key_of};
 ghost use Rattle.ut_keeper.specs.Draft.{DraftTells, tables_of};
 ghost use Rattle.ut_keys.specs.declared.fail.StoreFail.TheVariants.{Memory};
 ghost use Rattle.ut_model.specs.Objects.{Numbered};
@@ -38,7 +38,7 @@ use crate::shares::ended_shares;
 use crate::update::Update;
 use std::alloc::{AllocError, Global};
 use ut_edits::{Decided, Edit};
-use ut_given::AllGiven;
+use ut_given::{AllGiven, given_laws};
 use ut_keeper::{Draft, Keeper, draft_laws};
 use ut_keys::ShareRow;
 use ut_model::{Record, Refusal, object_laws};
@@ -102,7 +102,7 @@ fn changed_record<K: Keeper, R: Rights>(
     ensures changes { DraftTells K.state draft.old draft.new
         → (q : OrgPlan) (a : Asked) → StandsIn layout.now.org q (tables_of K.state draft.old) (Some a.tenant)
         → R.whose rights.now a.tenant a.user → record_of_object a.tenant layout.now.object old.now.id ≡ Some old.now → a.now ≡ now
-        → ReadsWell a (object_of_layout layout.now) (all_given given.now)
+        → ReadsWell a (object_of_layout layout.now) (all_given given.now) → FindsAll a.tenant (object_of_layout layout.now) given.now
         → Changes a (object_of_layout layout.now) (key_of given.now) given.now.body.now old.now result }
     ensures valid { IfOk result (λ r. IsTrue (all_valid (kinds_in layout.now.fields) r.values)) }
     ensures calls { Calls K.state level_shown (ended_edit result) draft.old draft.new }
@@ -161,7 +161,7 @@ fn accept_update<K: Keeper, R: Rights>(
         → (q : OrgPlan) (a : Asked) (o : Numbered) (id : List ℕ)
         → StandsIn layout.now.org q (tables_of K.state draft.old) (Some a.tenant) → IsObject layout.now.org q a.tenant o layout.now
         → IsKept q a.tenant layout.now id kept.now → R.whose rights.now a.tenant a.user → a.now ≡ now
-        → ReadsWell a o.object (all_given given.now)
+        → ReadsWell a o.object (all_given given.now) → FindsAll a.tenant o.object given.now
         → Updates layout.now.org a o (key_of given.now) given.now.body.now kept.now.item result }
     ensures form { IfOk result (FitsAltered layout.now) }
     ensures calls { Calls K.state 168 (ended_edit result) draft.old draft.new }
@@ -262,6 +262,7 @@ impl<R: Rights> Edit for Update<'_, R> {
         draft_laws::<K>();
         call_laws::<K>();
         object_laws();
+        given_laws();
         records_sound();
         let named = find_permitted(
             alloc,
@@ -276,6 +277,7 @@ impl<R: Rights> Edit for Update<'_, R> {
         let given = AllGiven {
             body: self.given,
             key: None,
+            found: &[],
         };
         decide_update(
             alloc,

@@ -23,7 +23,7 @@ use Rattle.ut_retype.specs.declared.state.ChangeState.{ChangeState}
 use Rattle.ut_stands.specs.Calls.{Calls, Ending, done, ended, ended_by, fell, stopped}
 use Rattle.ut_stands.specs.Local.{FindsIn, StandsIn}
 use Rattle.ut_stands.specs.Plan.{OrgPlan}
-use Rattle.ut_rest.proofs.Named.{refused_so}
+use Rattle.ut_rest.proofs.Refusing.{refused_so}
 
 -- how far it is in a tenant, if there ever was one
 abbrev pub state_there : OrgPlan → Option Tenant → Option ChangeState

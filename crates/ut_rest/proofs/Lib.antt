@@ -1,5 +1,5 @@
 pub mod Characters
-pub mod Named
+pub mod Refusing
 pub mod Parts
 pub mod Queries
 pub mod Finding

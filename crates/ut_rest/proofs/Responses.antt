@@ -77,8 +77,3 @@ pub refused_calls : {K : Type 0} (state : K → KeeperState) → ((shown : ℕ) 
     → (why : Refusal) (r : Result Reply StoreFail) (a : Held K) → Refuses why r → Calls state 0 (ended r) a a
 refused_calls state weaker none why (Ok r) a h = none done a refl
 refused_calls state weaker none why (Err e) a h = subst (λ (f : StoreFail). Calls state 0 (ended_by f) a a) (sym h) (weaker 0 stopped a a (λ e. cc) (none done a refl))
-
--- a bound may be wider
-pub wider_calls : {K : Type 0} (state : K → KeeperState) → ((shown most : ℕ) (a b : Held K) → (DraftTells state a b → shown ≤ most) → DraftReads state shown a b → DraftReads state most a b)
-    → (shown most : ℕ) (e : Ending) (a b : Held K) → shown ≤ most → Calls state shown e a b → Calls state most e a b
-wider_calls state wider shown most e a b few h = record { reads = wider shown most a b (λ _. few) h.reads; stays = h.stays; cause = h.cause; quiet = h.quiet }

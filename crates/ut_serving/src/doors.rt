@@ -55,7 +55,7 @@ fn serve<K: Keeper, D: Door, C: Clock>(
     keeper: &mut K,
     door: &mut D,
     clock: &mut C,
-    count: u32,
+    count: u64,
 ) -> Result<(), IoFail>
     ensures serves { Tells (K.state keeper.old) (K.state keeper.new)
         → (w : World) (d : DoorState) (moments : List ℕ) → Stands (K.state keeper.old).tables w
@@ -91,7 +91,7 @@ pub fn open_and_serve<K: Keeper, D: Door, C: Clock>(
     keeper: &mut K,
     door: &mut D,
     clock: &mut C,
-    count: u32,
+    count: u64,
 ) -> Result<(), IoFail>
     requires { 0 < count }
     ensures serves { Tells (K.state keeper.old) (K.state keeper.new)

@@ -5,6 +5,8 @@ use Rattle.ut_data.proofs.Lists.{some_is}
 use Rattle.ut_edits.specs.Edits.{ChangesIn, DecidesTo, FailsBy, Planned, Takes}
 use Rattle.ut_edits.specs.declared.decided.Decided.{Decided}
 use Rattle.ut_given.specs.Given as given_specs
+use Rattle.ut_given.specs.Given.{Finds}
+use Rattle.ut_given.specs.declared.found.Found.{Found}
 use Rattle.ut_given.specs.declared.key.AllGiven.{AllGiven}
 use Rattle.ut_keeper.specs.Tables.{Tables}
 use Rattle.ut_keys.specs.declared.fail.StoreFail.{StoreFail}
@@ -95,17 +97,17 @@ changed_in org id (Err e) h = tt
 -- ---- decided
 
 -- what `ut_records` says of a create, and of an update
-abbrev pub New : Layout → Whose → (user : List ℕ) → (now : ℤ) → Option Key → List Assignment → Tables → Result (Decided (List ℕ)) EditFail → Type 0
-New l whose user now key body m r = (q : OrgPlan) (a : Asked) (o : Numbered) → StandsIn l.org q m (Some a.tenant) → IsObject l.org q a.tenant o l → IsAsker whose user now a
-    → ReadsWell a o.object (with_key key body) → IsSound (create_on a o key body).tenant → DecidesTo l.org q a.tenant (create_on a o key body) (answered_new key) PlansNew r
+abbrev pub New : Layout → Whose → (user : List ℕ) → (now : ℤ) → Option Key → List Assignment → List Found → Tables → Result (Decided (List ℕ)) EditFail → Type 0
+New l whose user now key body found m r = (q : OrgPlan) (a : Asked) (o : Numbered) → StandsIn l.org q m (Some a.tenant) → IsObject l.org q a.tenant o l → IsAsker whose user now a
+    → ReadsWell a o.object (with_key key body) → Finds a.tenant o.object key found body → IsSound (create_on a o key body).tenant → DecidesTo l.org q a.tenant (create_on a o key body) (answered_new key) PlansNew r
 
-abbrev pub Changed : Layout → Whose → (now : ℤ) → Option Key → List Assignment → KeptRecord → Tables → Result (Decided (Unit {0})) EditFail → Type 0
-Changed l whose now key body k m r = (q : OrgPlan) (a : Asked) (o : Numbered) (id : List ℕ) → StandsIn l.org q m (Some a.tenant) → IsObject l.org q a.tenant o l
+abbrev pub Changed : Layout → Whose → (now : ℤ) → Option Key → List Assignment → List Found → KeptRecord → Tables → Result (Decided (Unit {0})) EditFail → Type 0
+Changed l whose now key body found k m r = (q : OrgPlan) (a : Asked) (o : Numbered) (id : List ℕ) → StandsIn l.org q m (Some a.tenant) → IsObject l.org q a.tenant o l
     → IsKept q a.tenant l id k → whose a.tenant a.user → a.now ≡ now
-    → ReadsWell a o.object (with_key key body) → IsSound (update_on a o key body k.item).tenant
+    → ReadsWell a o.object (with_key key body) → Finds a.tenant o.object key found body → IsSound (update_on a o key body k.item).tenant
     → DecidesTo l.org q a.tenant (update_on a o key body k.item) (λ (u : Unit {0}). answered_changed key k.item.id) PlansSame r
 
-module _ (l : Layout) (whose : Whose) (user : List ℕ) (now : ℤ) (body : List Assignment) (k : FoundKey) (m after : Tables) (field : FieldPlace) (at : slice_get l.fields k.number ≡ Some field) (stays : after ≡ m) where
+module _ (l : Layout) (whose : Whose) (user : List ℕ) (now : ℤ) (body : List Assignment) (found : List Found) (k : FoundKey) (m after : Tables) (field : FieldPlace) (at : slice_get l.fields k.number ≡ Some field) (stays : after ≡ m) where
   abbrev its : ℕ × Field
   its = numbered_field k field
 
@@ -114,6 +116,7 @@ module _ (l : Layout) (whose : Whose) (user : List ℕ) (now : ℤ) (body : List
 
   abbrev Decided_at : Result (Decided Upserted) EditFail → OrgPlan → Asked → Numbered → FieldPlace → Type 0
   Decided_at r q a o f = ReadsWell a o.object (with_key (Some (key_of (numbered_field k f) k.value)) body)
+      → Finds a.tenant o.object (Some (key_of (numbered_field k f) k.value)) found body
       → IsSound (upsert_by a o body (numbered_field k f) k.value).tenant
       → DecidesTo l.org q a.tenant (upsert_by a o body (numbered_field k f) k.value) answered_upsert PlansEither r
 
@@ -128,68 +131,70 @@ module _ (l : Layout) (whose : Whose) (user : List ℕ) (now : ℤ) (body : List
   value_there q a o x object h = subst (λ (n : ℕ). record_by_value a.tenant n (suc k.number) k.value ≡ x) (ap (λ (y : Layout). y.object) object.layout) h
 
   pub made_decides : ((q : OrgPlan) (t : Tenant) → StandsIn l.org q m (Some t) → IsLayout q t l → FindsKept q t l k.number k.value (Ok None))
-      → (r : Result (Decided (List ℕ)) EditFail) → ChangesIn l.org r → New l whose user now (Some key) body after r → DecidesByKey l whose user now body k m (made r)
+      → (r : Result (Decided (List ℕ)) EditFail) → ChangesIn l.org r → New l whose user now (Some key) body found after r → DecidesByKey l whose user now body found k m (made r)
   made_decides finds r own new = record {
     own = made_in l.org r own;
-    decided = λ q a o f stands object asker there. of_field (made r) q a o f there (λ reads sound.
+    decided = λ q a o f stands object asker there. of_field (made r) q a o f there (λ reads known sound.
         let is = comes_to_create a o body its k.value (value_there q a o None object (finds q a.tenant stands (layout_there q a o object))) in
         made_to l.org q a.tenant (create_on a o (Some key) body) (upsert_by a o body its k.value) (sym is) key r
-        (new q a o (subst (λ (x : Tables). StandsIn l.org q x (Some a.tenant)) (sym stays) stands) object asker reads (subst (λ (z : Verdict). IsSound z.tenant) is sound)));
+        (new q a o (subst (λ (x : Tables). StandsIn l.org q x (Some a.tenant)) (sym stays) stands) object asker reads known (subst (λ (z : Verdict). IsSound z.tenant) is sound)));
   }
 
   pub changed_decides : (kept : KeptRecord) → Allows l whose kept m (Ok tt) → ((q : OrgPlan) (t : Tenant) → StandsIn l.org q m (Some t) → IsLayout q t l → FindsKept q t l k.number k.value (Ok (Some kept)))
-      → (r : Result (Decided (Unit {0})) EditFail) → ChangesIn l.org r → Changed l whose now (Some key) body kept after r → DecidesByKey l whose user now body k m (changed kept.item.id r)
+      → (r : Result (Decided (Unit {0})) EditFail) → ChangesIn l.org r → Changed l whose now (Some key) body found kept after r → DecidesByKey l whose user now body found k m (changed kept.item.id r)
   changed_decides kept allows finds r own new = record {
     own = changed_in l.org kept.item.id r own;
-    decided = λ q a o f stands object asker there. of_field (changed kept.item.id r) q a o f there (λ reads sound.
-        let found = finds q a.tenant stands (layout_there q a o object) in
-        let is = comes_to_update a o body its k.value kept.item (allows q a stands asker.rights found.1) (value_there q a o (Some kept.item) object found.0) in
+    decided = λ q a o f stands object asker there. of_field (changed kept.item.id r) q a o f there (λ reads known sound.
+        let kept_is = finds q a.tenant stands (layout_there q a o object) in
+        let is = comes_to_update a o body its k.value kept.item (allows q a stands asker.rights kept_is.1) (value_there q a o (Some kept.item) object kept_is.0) in
         changed_to l.org q a.tenant (update_on a o (Some key) body kept.item) (upsert_by a o body its k.value) (sym is) key kept.item.id r
-        (new q a o kept.item.id (subst (λ (x : Tables). StandsIn l.org q x (Some a.tenant)) (sym stays) stands) object found.1 asker.rights asker.now reads (subst (λ (z : Verdict). IsSound z.tenant) is sound)));
+        (new q a o kept.item.id (subst (λ (x : Tables). StandsIn l.org q x (Some a.tenant)) (sym stays) stands) object kept_is.1 asker.rights asker.now reads known (subst (λ (z : Verdict). IsSound z.tenant) is sound)));
   }
 
   -- the user may not edit it, or the work on the tables stopped
   pub refused_decides : (kept : KeptRecord) (e : EditFail) → Allows l whose kept m (Err e) → ((q : OrgPlan) (t : Tenant) → StandsIn l.org q m (Some t) → IsLayout q t l → FindsKept q t l k.number k.value (Ok (Some kept)))
-      → DecidesByKey l whose user now body k m (Err e)
+      → DecidesByKey l whose user now body found k m (Err e)
   refused_decides kept e refuses finds = record {
     own = tt;
-    decided = λ q a o f stands object asker there. of_field (Err e) q a o f there (λ reads sound.
-        let found = finds q a.tenant stands (layout_there q a o object) in
-        subst (λ (z : Verdict). FailsBy z e) (sym (ap (by_record a o body its k.value) (value_there q a o (Some kept.item) object found.0)))
-        (refuses q a (update_on a o (Some key) body kept.item) stands asker.rights found.1));
+    decided = λ q a o f stands object asker there. of_field (Err e) q a o f there (λ reads known sound.
+        let kept_is = finds q a.tenant stands (layout_there q a o object) in
+        subst (λ (z : Verdict). FailsBy z e) (sym (ap (by_record a o body its k.value) (value_there q a o (Some kept.item) object kept_is.0)))
+        (refuses q a (update_on a o (Some key) body kept.item) stands asker.rights kept_is.1));
   }
 
   -- it is an update, where the user may edit it
-  pub edited_decides : (given : AllGiven) → given_specs.key_of given ≡ Some key → given.body.now ≡ body → (kept : KeptRecord) (allowed : Result (Unit {0}) EditFail) → Allows l whose kept m allowed
+  pub edited_decides : (given : AllGiven) → given_specs.key_of given ≡ Some key → given.body.now ≡ body → given.found.now ≡ found → (kept : KeptRecord) (allowed : Result (Unit {0}) EditFail) → Allows l whose kept m allowed
       → ((q : OrgPlan) (t : Tenant) → StandsIn l.org q m (Some t) → IsLayout q t l → FindsKept q t l k.number k.value (Ok (Some kept)))
-      → (r : Result (Decided Upserted) EditFail) → DecidesAllowed l whose now given kept after allowed r → DecidesByKey l whose user now body k m r
-  edited_decides given key_is body_is kept (Ok x) allows finds r h =
-      subst (DecidesByKey l whose user now body k m) (sym h.2)
+      → (r : Result (Decided Upserted) EditFail) → DecidesAllowed l whose now given kept after allowed r → DecidesByKey l whose user now body found k m r
+  edited_decides given key_is body_is found_is kept (Ok x) allows finds r h =
+      subst (DecidesByKey l whose user now body found k m) (sym h.2)
       (changed_decides kept allows finds h.0 h.1.own
-      (subst (λ (b : List Assignment). Changed l whose now (Some key) b kept after h.0) body_is
-      (subst (λ (x : Option Key). Changed l whose now x given.body.now kept after h.0) key_is h.1.decided)))
-  edited_decides given key_is body_is kept (Err e) allows finds r h = subst (DecidesByKey l whose user now body k m) (sym h) (refused_decides kept e allows finds)
+      (subst (λ (fs : List Found). Changed l whose now (Some key) body fs kept after h.0) found_is
+      (subst (λ (b : List Assignment). Changed l whose now (Some key) b given.found.now kept after h.0) body_is
+      (subst (λ (x : Option Key). Changed l whose now x given.body.now given.found.now kept after h.0) key_is h.1.decided))))
+  edited_decides given key_is body_is found_is kept (Err e) allows finds r h = subst (DecidesByKey l whose user now body found k m) (sym h) (refused_decides kept e allows finds)
 
   -- so it is, by what is given
-  pub decides : (given : AllGiven) → given_specs.key_of given ≡ Some key → given.body.now ≡ body → (kept : Option KeptRecord)
+  pub decides : (given : AllGiven) → given_specs.key_of given ≡ Some key → given.body.now ≡ body → given.found.now ≡ found → (kept : Option KeptRecord)
       → ((q : OrgPlan) (t : Tenant) → StandsIn l.org q m (Some t) → IsLayout q t l → FindsKept q t l k.number k.value (Ok kept))
-      → (r : Result (Decided Upserted) EditFail) → DecidesGiven l whose user now given kept after r → DecidesByKey l whose user now body k m r
-  decides given key_is body_is None finds r h =
-      subst (DecidesByKey l whose user now body k m) (sym h.2)
+      → (r : Result (Decided Upserted) EditFail) → DecidesGiven l whose user now given kept after r → DecidesByKey l whose user now body found k m r
+  decides given key_is body_is found_is None finds r h =
+      subst (DecidesByKey l whose user now body found k m) (sym h.2)
       (made_decides finds h.0 h.1.own
-      (subst (λ (b : List Assignment). New l whose user now (Some key) b after h.0) body_is
-      (subst (λ (x : Option Key). New l whose user now x given.body.now after h.0) key_is h.1.decided)))
-  decides given key_is body_is (Some kept) finds r h =
-      edited_decides given key_is body_is kept h.0 (subst (λ (x : Tables). Allows l whose kept x h.0) stays h.1) finds r h.2
+      (subst (λ (fs : List Found). New l whose user now (Some key) body fs after h.0) found_is
+      (subst (λ (b : List Assignment). New l whose user now (Some key) b given.found.now after h.0) body_is
+      (subst (λ (x : Option Key). New l whose user now x given.body.now given.found.now after h.0) key_is h.1.decided))))
+  decides given key_is body_is found_is (Some kept) finds r h =
+      edited_decides given key_is body_is found_is kept h.0 (subst (λ (x : Tables). Allows l whose kept x h.0) stays h.1) finds r h.2
 
 -- the work on the tables stopped
-pub stopped : (l : Layout) (whose : Whose) (user : List ℕ) (now : ℤ) (body : List Assignment) (k : FoundKey) (m : Tables) (e : StoreFail) (out : Result (Decided Upserted) EditFail) → IsErrAnd out (λ y. y ≡ of_store e)
-    → ((q : OrgPlan) (t : Tenant) → StandsIn l.org q m (Some t) → IsLayout q t l → FindsKept q t l k.number k.value (Err e)) → DecidesByKey l whose user now body k m out
-stopped l whose user now body k m e (Ok x) is finds = absurd is
-stopped l whose user now body k m e (Err y) is finds =
-    subst (λ (z : EditFail). DecidesByKey l whose user now body k m (Err z)) (sym is) (record {
+pub stopped : (l : Layout) (whose : Whose) (user : List ℕ) (now : ℤ) (body : List Assignment) (found : List Found) (k : FoundKey) (m : Tables) (e : StoreFail) (out : Result (Decided Upserted) EditFail) → IsErrAnd out (λ y. y ≡ of_store e)
+    → ((q : OrgPlan) (t : Tenant) → StandsIn l.org q m (Some t) → IsLayout q t l → FindsKept q t l k.number k.value (Err e)) → DecidesByKey l whose user now body found k m out
+stopped l whose user now body found k m e (Ok x) is finds = absurd is
+stopped l whose user now body found k m e (Err y) is finds =
+    subst (λ (z : EditFail). DecidesByKey l whose user now body found k m (Err z)) (sym is) (record {
       own = tt;
-      decided = λ q a o f stands object asker there reads sound. finds q a.tenant stands (subst (IsLayout q a.tenant) (sym object.layout) (its_layout l.org q a.tenant o object.there));
+      decided = λ q a o f stands object asker there reads known sound. finds q a.tenant stands (subst (IsLayout q a.tenant) (sym object.layout) (its_layout l.org q a.tenant o object.there));
     })
 
 -- ---- the level on the record

@@ -1,22 +1,28 @@
 -- What an upsert comes to, by its object, its unique field and the value.
-use Rattle.std.proofs.Common.{◌≡◌, ◌∙◌, ℕ, List, Option, Some, sym, ap, subst}
+use Rattle.std.proofs.Common.{◌≡◌, ◌∙◌, inl, inr, ℕ, ◌&&◌, List, [], ◌∷◌, ◌++◌, map, Option, None, Some, refl, sym, ap, subst}
 use Rattle.std.specs.Prelude.{Result, Err}
+use Rattle.std.specs.List.{enumerate_from}
 use Rattle.ut_edits.specs.Edits.{ChangesIn, Decides, DecidesTo, FailsBy}
 use Rattle.ut_edits.specs.Naming.{NamesLayout}
 use Rattle.ut_edits.specs.declared.decided.Decided.{Decided}
+use Rattle.ut_given.specs.Given.{Finds}
+use Rattle.ut_given.specs.declared.found.Found.{Found}
 use Rattle.ut_keeper.specs.Tables.{Tables}
 use Rattle.ut_model.specs.Cases.{in_case}
+use Rattle.ut_model.specs.Fields.{column, custom_columns, of_type, owner_columns, same_name, value_site}
 use Rattle.ut_model.specs.Given.{ReadOr}
 use Rattle.ut_model.specs.Keys.{with_key}
+use Rattle.ut_model.specs.Membership.{Has}
 use Rattle.ut_model.specs.Objects.{Numbered, object_numbered}
 use Rattle.ut_model.specs.Paths.{Asked}
 use Rattle.ut_model.specs.Sound.{IsSound}
-use Rattle.ut_model.specs.Tenant.{Field, Tenant}
+use Rattle.ut_model.specs.Tenant.{Field, Object, Tenant}
 use Rattle.ut_model.specs.Upserts.{declared_name, key_value, on_value, unique_named, upsert, upsert_by}
 use Rattle.ut_model.specs.Verdict.{Verdict, refuse}
 use Rattle.ut_model.specs.declared.record_bodies.Assignment.{Assignment}
 use Rattle.ut_model.specs.declared.refusal.Refusal.TheVariants.{InvalidField, InvalidType}
 use Rattle.ut_named.proofs.Objects.{IsOn, Named}
+use Rattle.ut_others.proofs.Searching.{find_has}
 use Rattle.ut_records.specs.Creating.{IsGiving, IsObject}
 use Rattle.ut_rights.specs.Rights.{Whose}
 use Rattle.ut_rules.specs.Objects.{object_of_layout}
@@ -27,7 +33,7 @@ use Rattle.ut_stands.specs.Plan.{OrgPlan}
 use Rattle.ut_stands.specs.declared.fail.EditFail.{EditFail}
 use Rattle.ut_stands.specs.declared.fail.EditFail.TheVariants.{Refused, Store}
 use Rattle.ut_stands.specs.declared.layout.Layout.{Layout}
-use Rattle.ut_upserts.specs.Upserting.{PlansEither}
+use Rattle.ut_upserts.specs.Upserting.{PlansEither, ReadsFoundByKey}
 use Rattle.ut_upserts.specs.declared.finding.FoundKey.{FoundKey}
 use Rattle.ut_upserts.specs.declared.upsert.Upsert.{Upsert}
 use Rattle.ut_upserts.specs.declared.upsert.Upserted.{Upserted}
@@ -44,6 +50,15 @@ pub record KeyLaws : Type 0 where
 abbrev pub UpsertSound : Type 0
 UpsertSound = (a : Asked) (object key : List ℕ) (text : Option (List ℕ)) (given : List Assignment) → IsCaller a
     → OfObjects a (λ o. ReadsWellByKey a key text o given) → IsSound a.tenant → IsSound (upsert a object key text given).tenant
+
+has_map : {X Y : Type 0} (f : X → Y) (xs : List X) (x : X) → Has xs x → Has (map f xs) (f x)
+has_map f [] x has = absurd has
+has_map f (y ∷ xs) x (inl same) = inl (ap f same)
+has_map f (y ∷ xs) x (inr has) = inr (has_map f xs x has)
+
+has_behind : {X : Type 0} (xs ys : List X) (x : X) → Has ys x → Has (xs ++ ys) x
+has_behind [] ys x has = has
+has_behind (y ∷ xs) ys x has = inr (has_behind xs ys x has)
 
 -- ---- the verdict
 
@@ -94,6 +109,17 @@ module _ (org : ℕ) (q : OrgPlan) (a : Asked) (name key : List ℕ) (text : Opt
           ∙ ap (λ (x : Option (ℕ × Field)). in_case x (refuse a.tenant (InvalidField (declared_name (object_of_layout l) key))) (λ f. on_value a.tenant (key_value f.1 text) (upsert_by a o body f))) is.named
           ∙ ap (λ (x : ReadOr). on_value a.tenant x (upsert_by a o body its)) is.value
 
+      -- the key's field is one that edits may give, so what the body gives it finds nothing else
+      key_there : Has (custom_columns o.object) (key_of its k.value).column
+      key_there =
+          has_map (λ (f : ℕ × Field). column f.1.name (of_type f.1.kind) (value_site f.0)) (enumerate_from 1 o.object.fields) its
+          (find_has (λ (f : ℕ × Field). f.1.unique && same_name f.1.name key) (enumerate_from 1 o.object.fields) its (named_is ∙ is.named)).0
+
+      finds_by_key : (found : List Found) → Finds a.tenant o.object None found body → Finds a.tenant o.object (Some (key_of its k.value)) found body
+      finds_by_key found finds c (inr has) = finds c has
+      finds_by_key found finds c (inl same) =
+          finds c (inr (has_behind (owner_columns o.object) (custom_columns o.object) c (subst (Has (custom_columns o.object)) (sym same) key_there)))
+
       reads_well : object_numbered a.tenant o.number ≡ Some o.object → OfObjects a (λ x. ReadsWellByKey a key text x body) → ReadsWell a o.object (with_key (Some (key_of its k.value)) body)
       reads_well there reads = reads o.number o.object there its k.value (named_is ∙ is.named) is.value
 
@@ -104,19 +130,21 @@ module _ {R : Type 0} (laws : KeyLaws) (sound : UpsertSound) (named : Named) (wh
   verdict_of a = upsert a e.object.now e.key.now e.text e.given.now
 
   pub upserts : ((q : OrgPlan) (t : Tenant) → StandsIn org q m (Some t) → IsOn org q t e.object.now l) → IsKey l e.key.now e.text k
-      → (result : Result (Decided Upserted) EditFail) → DecidesByKey l whose e.user e.now e.given.now k after result
-      → Decides org verdict_of answered_upsert PlansEither (IsGiving whose e.user e.now (λ b o. ReadsWellByKey b e.key.now e.text o e.given.now)) m result
+      → (result : Result (Decided Upserted) EditFail) → DecidesByKey l whose e.user e.now e.given.now e.found.now k after result
+      → Decides org verdict_of answered_upsert PlansEither (IsGiving whose e.user e.now (ReadsFoundByKey e.object.now e.key.now e.text e.found.now e.given.now)) m result
   upserts names is result decides = record {
     own = subst (λ (n : ℕ). ChangesIn n result) own decides.own;
     decided = λ q a s f.
         let on = names q a.tenant s in
         let there = named a.tenant e.object.now on.0 on.1 in
         let object : IsObject l.org q a.tenant on.0 l = record { there = there; layout = on.2 ∙ ap (λ (n : ℕ). layout_of n q a.tenant on.0) (sym own) } in
+        let reads = λ (n : ℕ) (x : Object) (numbered : object_numbered a.tenant n ≡ Some x). (f.reads n x numbered).reads in
         let to = comes_to org q a e.object.now e.key.now e.text e.given.now laws l on k is in
         let stands = subst (λ (n : ℕ). StandsIn n q after (Some a.tenant)) (sym own) (subst (λ (x : Tables). StandsIn org q x (Some a.tenant)) (sym stays) s) in
         subst (λ (n : ℕ). DecidesTo n q a.tenant (verdict_of a) answered_upsert PlansEither result) own
         (subst (λ (v : Verdict). DecidesTo l.org q a.tenant v answered_upsert PlansEither result) (sym to)
         (decides.decided q a on.0 is.field stands object f.asker is.at
-        (reads_well org q a e.object.now e.key.now e.text e.given.now laws l on k is there f.reads)
-        (subst (λ (v : Verdict). IsSound v.tenant) to (sound a e.object.now e.key.now e.text e.given.now f.caller f.reads s.sound))));
+        (reads_well org q a e.object.now e.key.now e.text e.given.now laws l on k is there reads)
+        (finds_by_key org q a e.object.now e.key.now e.text e.given.now laws l on k is e.found.now ((f.reads on.0.number on.0.object there).finds on.0 on.1 refl))
+        (subst (λ (v : Verdict). IsSound v.tenant) to (sound a e.object.now e.key.now e.text e.given.now f.caller reads s.sound))));
   }

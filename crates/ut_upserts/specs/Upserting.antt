@@ -1,9 +1,22 @@
--- How the rows are kept after an upsert.
-use Rattle.std.specs.Prelude.{◌⊎◌}
-use Rattle.ut_model.specs.Tenant.{Tenant}
+-- What an upsert is given, and how the rows are kept after it.
+use Rattle.std.specs.Prelude.{◌≡◌, ◌⊎◌, ℕ, List, None, Option, Some}
+use Rattle.ut_given.specs.Given.{Finds}
+use Rattle.ut_given.specs.declared.found.Found.{Found}
+use Rattle.ut_model.specs.declared.record_bodies.Assignment.{Assignment}
+use Rattle.ut_model.specs.Objects.{Numbered, object_named}
+use Rattle.ut_model.specs.Paths.{Asked}
+use Rattle.ut_model.specs.Tenant.{Object, Tenant}
 use Rattle.ut_records.specs.Creating.{PlansNew}
 use Rattle.ut_records.specs.Updating.{PlansSame}
+use Rattle.ut_sound.specs.Fit.{ReadsWellByKey}
 use Rattle.ut_stands.specs.Plan.{OrgPlan}
+
+-- what is given reads well in an object, also with the key, and if it is the one with this name, what finds a record finds one that
+-- is told
+pub record ReadsFoundByKey (name key : List ℕ) (text : Option (List ℕ)) (found : List Found) (given : List Assignment) (a : Asked)
+    (o : Object) : Type 0 where
+  pub reads : ReadsWellByKey a key text o given
+  pub finds : (x : Numbered) → object_named a.tenant name ≡ Some x → x.object ≡ o → Finds a.tenant o None found given
 
 -- as before; or, where a record was made, with nothing left of the new id
 abbrev pub PlansEither : OrgPlan → Tenant → OrgPlan → Type 0

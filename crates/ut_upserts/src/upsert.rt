@@ -1,5 +1,4 @@
-ghost use Rattle.ut_given.specs.Given.{IsInJson};
-
+use ut_given::Found;
 use ut_model::Assignment;
 use ut_value::{Id, Text};
 
@@ -32,5 +31,6 @@ pub struct Upsert<'a, R> {
     pub text: Option<Text>,
     /// What is given to the record's fields.
     pub given: &'a [Assignment],
-    pub ghost in_json: { IsInJson given.now },
+    /// What was found for the references that are given by a unique field.
+    pub found: &'a [Found<'a>],
 }

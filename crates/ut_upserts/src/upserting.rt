@@ -2,7 +2,7 @@
 
 ghost use Rattle.std.specs.Prelude.{◌≡◌, ◌<◌, IfOk, IfSome, length};
 ghost use Rattle.ut_edits.specs.Rows.{AreFew};
-ghost use Rattle.ut_given.specs.Given.{IsInJson, IsPlain};
+ghost use Rattle.ut_given.specs.Given.{IsPlain};
 ghost use Rattle.ut_keeper.specs.Draft.{DraftTells, tables_of};
 ghost use Rattle.ut_model.specs.Upserts.{upsert};
 ghost use Rattle.ut_model.specs.Verdict.{upserted};
@@ -10,16 +10,15 @@ ghost use Rattle.ut_named.specs.Kept.{FitsKept};
 ghost use Rattle.ut_named.specs.Usable.{IsReady};
 ghost use Rattle.ut_others.specs.Uniques.{HasUnique};
 ghost use Rattle.ut_records.specs.Creating.{IsGiving};
-ghost use Rattle.ut_sound.specs.Fit.{ReadsWellByKey};
 ghost use Rattle.ut_stands.specs.Calls.{Calls, ended_edit};
-ghost use Rattle.ut_upserts.specs.Upserting.{PlansEither};
+ghost use Rattle.ut_upserts.specs.Upserting.{PlansEither, ReadsFoundByKey};
 ghost use Rattle.ut_upserts.specs.inner.Deciding.{Allows, DecidesByKey, DecidesEdited, DecidesGiven, changed, made, may_edit};
 
 use crate::finding::{FoundKey, found_key, found_record};
 use crate::upsert::{Upsert, Upserted};
 use std::alloc::Global;
 use ut_edits::{Decided, Edit};
-use ut_given::{AllGiven, UpsertKey, given_laws};
+use ut_given::{AllGiven, Found, UpsertKey, given_laws};
 use ut_keeper::{Draft, Keeper, draft_laws};
 use ut_keys::StoreFail;
 use ut_model::{Assignment, object_laws};
@@ -157,14 +156,14 @@ fn decide_by_key<'x, K: Keeper, R: Rights>(
     user: Id,
     now: i64,
     body: &'x [Assignment],
+    found: &'x [Found<'x>],
     key: &'x FoundKey,
 ) -> Result<Decided<Upserted>, EditFail>
     requires ready { IsReady layout.now.org layout.now }
     requires field { key.now.number < length layout.now.fields }
     requires unique { HasUnique layout.now key.now.number key.now.value }
-    requires json { IsInJson body.now }
     ensures what { DraftTells K.state draft.old draft.new
-        → DecidesByKey layout.now (R.whose rights.now) user now body.now key.now (tables_of K.state draft.old) result }
+        → DecidesByKey layout.now (R.whose rights.now) user now body.now found.now key.now (tables_of K.state draft.old) result }
     ensures few { IfOk result (λ x. AreFew 389 0 x.changes.items) }
     ensures calls { Calls K.state 173 (ended_edit result) draft.old draft.new }
 {
@@ -183,6 +182,7 @@ fn decide_by_key<'x, K: Keeper, R: Rights>(
     let given = AllGiven {
         body,
         key: Some(key),
+        found,
     };
     decide_given(alloc, draft, rights, layout, kept, user, now, &given)
 }
@@ -196,7 +196,7 @@ impl<R: Rights> Edit for Upsert<'_, R> {
 
     ghost planned = { λ e q t next. PlansEither q t next };
 
-    ghost fits = { λ e a. IsGiving (R.whose e.rights.now) e.user e.now (λ b o. ReadsWellByKey b e.key.now e.text o e.given.now) a };
+    ghost fits = { λ e a. IsGiving (R.whose e.rights.now) e.user e.now (ReadsFoundByKey e.object.now e.key.now e.text e.found.now e.given.now) a };
 
     ghost most = { 389 };
 
@@ -225,6 +225,7 @@ impl<R: Rights> Edit for Upsert<'_, R> {
             self.user,
             self.now,
             self.given,
+            self.found,
             &key,
         )
     }

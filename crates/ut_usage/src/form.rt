@@ -7,7 +7,7 @@ ghost use Rattle.ut_usage.specs.inner.Forms.{IsUnknown, Takes};
 pub(crate) enum Operands {
     /// So many words.
     Words(usize),
-    /// One word, which is a count of connections.
+    /// A count of connections, or no word.
     Count,
 }
 
@@ -19,7 +19,7 @@ pub(crate) struct Form {
 }
 
 /// The commands of `platform::run`. One more is a line here, and its name in `proofs/Forms.antt`.
-pub(crate) const COMMANDS: [Form; 4] = [
+pub(crate) const COMMANDS: [Form; 5] = [
     Form {
         name: "csvq",
         form: "csvq QUERY",
@@ -31,13 +31,18 @@ pub(crate) const COMMANDS: [Form; 4] = [
         operands: Operands::Words(2),
     },
     Form {
+        name: "export",
+        form: "export ORG USER SECRET QUERY",
+        operands: Operands::Words(4),
+    },
+    Form {
         name: "answer",
         form: "answer",
         operands: Operands::Words(0),
     },
     Form {
         name: "serve",
-        form: "serve COUNT",
+        form: "serve [COUNT]",
         operands: Operands::Count,
     },
 ];

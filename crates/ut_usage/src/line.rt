@@ -5,7 +5,7 @@ ghost use Rattle.std.specs.Option.{option_map};
 ghost use Rattle.std.specs.Str.Parse.{digits_value};
 ghost use Rattle.platform.specs.Commands.{command_of};
 ghost use Rattle.ut_usage.specs.Lines.{IsCommandLine, IsPort};
-ghost use Rattle.ut_usage.specs.inner.Forms.{IsOneCount};
+ghost use Rattle.ut_usage.specs.inner.Forms.{IsCountOrNone};
 
 use crate::form::{Operands, form_of};
 use crate::mistake::Mistake;
@@ -22,12 +22,12 @@ fn port_of(word: &str) -> Option<u16>
     }
 }
 
-// The mistake in the words after a command of this form, which takes a count of connections.
+// The mistake in the words after a command of this form, which takes a count of connections, or no word.
 fn mistake_of_count<'a>(form: &'static str, others: &'a [String]) -> Option<Mistake<'a>>
-    ensures { IsNone result ↔ IsOneCount (map string_bytes others.now) }
+    ensures { IsNone result ↔ IsCountOrNone (map string_bytes others.now) }
 {
     match others {
-        [] => Some(Mistake::TooFew(form)),
+        [] => None,
         [word] if is_count(word.as_str()) => None,
         [word] => Some(Mistake::Count(word.as_str())),
         _ => Some(Mistake::TooMany(form)),

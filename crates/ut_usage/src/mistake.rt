@@ -22,7 +22,7 @@ pub enum Mistake<'a> {
     TooFew(&'static str),
     /// There are more words than this form of a command has.
     TooMany(&'static str),
-    /// This COUNT isn't a number from 1 to 1,000,000 without leading zeros.
+    /// This COUNT isn't a number from 1 to 2^64 - 1 without leading zeros.
     Count(&'a str),
 }
 
@@ -48,7 +48,7 @@ impl fmt::Display for Mistake<'_> {
             Mistake::TooMany(form) => write!(f, "too many words: the form is {form}"),
             Mistake::Count(word) => write!(
                 f,
-                "COUNT must be a number from 1 to 1000000 without leading zeros, and is {word:?}"
+                "COUNT must be a number from 1 to 18446744073709551615 without leading zeros, and is {word:?}"
             ),
         }
     }

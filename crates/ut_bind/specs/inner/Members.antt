@@ -5,12 +5,10 @@ use Rattle.ut_query.specs.declared.query.Item.TheVariants as item
 use Rattle.ut_query.specs.declared.query.Path.{Path}
 use Rattle.ut_model.specs.declared.record.Record.{Record}
 use Rattle.ut_model.specs.Cases.{in_case, with_before}
-use Rattle.ut_model.specs.Relationships.{parent_name}
 use Rattle.ut_model.specs.RowsJson.{behind_relationship, item_member, member_json, parent_json, parent_relationship, row_within}
 use Rattle.ut_stands.specs.Layouts.{own_layouts}
 use Rattle.ut_stands.specs.declared.layout.Layout.{Layout}
 use Rattle.ut_ways.specs.Branches.{record_above}
-use Rattle.ut_ways.specs.ByLayout.{parent_from}
 use Rattle.ut_ways.specs.declared.branches.Branch.{Branch}
 use Rattle.ut_ways.specs.declared.branches.Place.{Place}
 use Rattle.ut_plan.specs.declared.check.Site.TheVariants as site
@@ -18,15 +16,11 @@ use Rattle.ut_query_rules.specs.declared.columns.Column.{Column}
 use Rattle.ut_plan.specs.declared.plan.Member.{Member}
 use Rattle.ut_plan.specs.declared.plan.Member.TheVariants as member
 use Rattle.ut_plan.specs.Shown.{Shows, ShowsJson, member_text}
-use Rattle.ut_query_rules.specs.Columns.{column_in, custom_name, name_at}
+use Rattle.ut_query_rules.specs.Columns.{column_in, name_at}
 use Rattle.ut_bind.specs.inner.Spots.{IsOf, Serve, Setting, far_of}
 use Rattle.ut_query_rules.specs.Ways.{path_column_in}
 
 -- ---- names
-
--- the name of a parent relationship as it is declared, by the layout
-abbrev pub declared_name : Layout → List ℕ → List ℕ
-declared_name l name = in_case (parent_from 1 l.fields name) name (λ s. parent_name (custom_name l.fields s.position))
 
 -- the path goes on behind the relationship with this name
 abbrev pub goes_behind : List ℕ → Path → Bool

@@ -1,5 +1,5 @@
 -- What is selected, whose names are places.
-use Rattle.std.specs.Prelude.{◌≡◌, ℕ, true, List, [], ◌∷◌, ◌++◌, filter_map, length, map, Option, Some, None, ℤ, slice_get, unwrap_or}
+use Rattle.std.specs.Prelude.{◌≡◌, ℕ, true, List, [], ◌∷◌, ◌++◌, length, map, Some, None, ℤ, slice_get, unwrap_or}
 use Rattle.std.specs.List.{AllByRecursion, flat_map}
 use Rattle.ut_value.specs.Printing.{day_of_moment}
 use Rattle.ut_query.specs.declared.query.Item.{Item}
@@ -70,15 +70,6 @@ BindsChild ls l day paths tail b =
     ≡ item_member (row_within 6 s.asked) s.asked r selected before (item.Child paths tail)
 
 -- ---- what is selected
-
--- the path that this is, if it is one
-abbrev pub path_of : Item → Option Path
-path_of (item.Path p) = Some p
-path_of (item.Child paths tail) = None
-
--- the paths among these
-abbrev pub paths_in : List Item → List Path
-paths_in items = filter_map path_of items
 
 -- how many paths this is
 abbrev pub count_of : Item → ℕ

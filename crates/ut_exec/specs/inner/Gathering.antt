@@ -1,28 +1,52 @@
 -- Rows that are gathered.
-use Rattle.std.specs.Prelude.{ℕ, ◌+◌, ◌*◌, ◌≤◌, [], IfOk, length, Result, Ok, Err, Vec}
+use Rattle.std.specs.List.{IsDistinct}
+use Rattle.std.specs.Ordering.{eq_by_cmp}
+use Rattle.std.specs.Prelude.{◌≡◌, ◌⊎◌, ℕ, ◌+◌, ◌*◌, ◌≤◌, List, [], take, IfOk, length, Option, Some, Result, Ok, Err, Vec}
+use Rattle.std.specs.declared.cmp.Ordering.{Ordering}
 use Rattle.ut_keeper.specs.Draft.{DraftTells, Held, removals_of, tables_of}
 use Rattle.ut_keeper.specs.State.{KeeperState}
 use Rattle.ut_keeper.specs.Tables.{Tables}
 use Rattle.ut_keys.specs.declared.fail.StoreFail.{StoreFail}
 use Rattle.ut_keys.specs.declared.fail.StoreFail.TheVariants.{Damaged, Keeper, Memory}
 use Rattle.ut_model.specs.declared.limit.Limit.TheVariants.{RecordsPerObject}
+use Rattle.ut_model.specs.declared.record.Record.{Record}
 use Rattle.ut_model.specs.Limits.{limit_number}
+use Rattle.ut_model.specs.Membership.{Has}
 use Rattle.ut_model.specs.Objects.{records_of}
+use Rattle.ut_model.specs.Ordered.{in_order}
+use Rattle.ut_model.specs.Paths.{Asked}
+use Rattle.ut_model.specs.Rows.{limited}
 use Rattle.ut_stands.specs.Calls.{Calls, ended}
 use Rattle.ut_stands.specs.declared.layout.Layout.{Layout}
 use Rattle.ut_exec.specs.declared.candidates.Candidate.{Candidate}
 use Rattle.ut_exec.specs.declared.ranked.Ranked.{Ranked}
 use Rattle.ut_exec.specs.Written.{IfDone, InTenants}
-use Rattle.ut_exec.specs.inner.Judging.{Judging}
-use Rattle.ut_exec.specs.inner.Permitted.{GathersPicked}
+use Rattle.ut_exec.specs.Ranks.{GathersRows, by_rank, ranked_cmp}
+use Rattle.ut_exec.specs.inner.Judging.{IsOf, Judging, picked}
+use Rattle.ut_exec.specs.inner.Permitted.{Gathered}
+
+-- rows stayed, or if only so many are wanted, these were put in order, and the others dropped
+abbrev pub CutsRows : {R X : Type 0} → (R → R → Ordering) → (wanted : Option ℕ) → (old new : List (Ranked R X)) → Type 0
+CutsRows cmp wanted old new =
+    IsDistinct (eq_by_cmp (ranked_cmp cmp)) old → (new ≡ old) ⊎ ((k : ℕ) × (wanted ≡ Some k) × (new ≡ take k (in_order (ranked_cmp cmp) old)))
+
+-- rows of some of these records, none of which tie, were gathered: in order, their first that are wanted are the first of all
+pub record GathersFirst {R : Type 0} (l : Layout) (j : Judging R) (cmp : R → R → Ordering) (wanted : Option ℕ) (found : Gathered R) (a : Asked) (rs : List Record) : Type 0 where
+  pub kept : List Record
+  pub rows : GathersRows (IsOf l (j.parents a)) (j.rank a) [] found kept
+  pub has : (r : Record) → Has kept r → Has rs r
+  pub apart : IsDistinct (eq_by_cmp (by_rank cmp (j.rank a))) kept
+  pub first : limited wanted (in_order (by_rank cmp (j.rank a)) kept) ≡ limited wanted (in_order (by_rank cmp (j.rank a)) rs)
 
 module _ {R A : Type 0} (l : Layout) (j : Judging R) where
-  -- the rows of all records that are picked are found for whoever asks so, and they are never damaged
-  abbrev pub FindsAll : Tables → Result (Vec (Ranked R Candidate) A) StoreFail → Type 0
-  FindsAll m (Ok found) = InTenants l j.who m (λ a. GathersPicked l j [] found.items a (records_of a.tenant l.object))
-  FindsAll m (Err Damaged) = InTenants l j.who m (λ a. ⊥)
-  FindsAll m (Err Keeper) = Unit {0}
-  FindsAll m (Err Memory) = Unit {0}
+  -- the first rows that are wanted of all records that are picked are found for whoever asks so, if these don't tie, and they are never damaged
+  abbrev pub FindsAll : (cmp : R → R → Ordering) → (wanted : Option ℕ) → Tables → Result (Vec (Ranked R Candidate) A) StoreFail → Type 0
+  FindsAll cmp wanted m (Ok found) =
+      InTenants l j.who m (λ a. IsDistinct (eq_by_cmp (by_rank cmp (j.rank a))) (picked j a (records_of a.tenant l.object))
+      → GathersFirst l j cmp wanted found.items a (picked j a (records_of a.tenant l.object)))
+  FindsAll cmp wanted m (Err Damaged) = InTenants l j.who m (λ a. ⊥)
+  FindsAll cmp wanted m (Err Keeper) = Unit {0}
+  FindsAll cmp wanted m (Err Memory) = Unit {0}
 
   -- so many records were read, in at most 80 pages, and there are at most so many rows
   module _ {K : Type 0} (state : K → KeeperState) where

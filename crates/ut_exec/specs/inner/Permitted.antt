@@ -1,5 +1,5 @@
 -- Of rows those whose records may be read and are kept.
-use Rattle.std.specs.Prelude.{◌≡◌, ℕ, ◌+◌, ◌*◌, ◌≤◌, List, [], ◌∷◌, ◌++◌, OnOk, length, Option, Result, Ok, Err}
+use Rattle.std.specs.Prelude.{◌≡◌, ℕ, ◌+◌, ◌*◌, ◌<◌, ◌≤◌, List, [], ◌∷◌, ◌++◌, OnOk, length, Option, Result, Ok, Err}
 use Rattle.ut_keeper.specs.Draft.{DraftTells, Held, removals_of, tables_of}
 use Rattle.ut_keeper.specs.State.{KeeperState}
 use Rattle.ut_keeper.specs.Tables.{Tables}
@@ -50,13 +50,14 @@ module _ {R : Type 0} (l : Layout) (j : Judging R) where
   AdmitsRows rows old new m (Err Keeper) = Unit {0}
   AdmitsRows rows old new m (Err Memory) = Unit {0}
 
-  -- those rows were put behind the others that are picked of a page of so many of these records, whose ids rise; if so many pages were
-  -- enough before, they are enough after it
+  -- those rows were put behind the others that are picked of a page of so many of these records, whose ids rise, a full one unless reading
+  -- ends with it; if so many pages were enough before, they are enough after it
   pub record ReadsPicked (rs : List Record) (from to : Pages) (count : ℕ) (a : Asked) (old new : Gathered R) : Type 0 where
     pub page : List Record
     pub many : length page ≡ count
     pub gathers : GathersPicked old new a page
     pub on : page ++ beyond to.after rs ≡ beyond from.after rs
+    pub full : 0 < to.left → 250 ≤ count
     pub enough : length (beyond from.after rs) ≤ 250 * from.left → length (beyond to.after rs) ≤ 250 * to.left
 
   abbrev pub FindsPicked : (from to : Pages) → (count : ℕ) → (old new : Gathered R) → Tables → Result (Unit {0}) StoreFail → Type 0

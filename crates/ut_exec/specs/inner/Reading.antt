@@ -1,6 +1,6 @@
 -- The rows of an object's records, page by page.
 use Rattle.std.specs.Option.{option_map}
-use Rattle.std.specs.Prelude.{◌≡◌, ℕ, ◌-◌, ◌*◌, ◌≤◌, nat_lt, if◌then◌else◌, List, ◌++◌, filter, length, slice_get, Option, Some, Result, Ok, Err, Vec}
+use Rattle.std.specs.Prelude.{◌≡◌, ℕ, ◌-◌, ◌*◌, ◌<◌, ◌≤◌, nat_lt, if◌then◌else◌, List, ◌++◌, filter, length, slice_get, Option, Some, Result, Ok, Err, Vec}
 use Rattle.ut_keeper.specs.declared.keeper.KeptRow.{KeptRow}
 use Rattle.ut_keeper.specs.Tables.{Tables}
 use Rattle.ut_keys.specs.declared.data.DataRow.{DataRow}
@@ -57,11 +57,13 @@ last_of before rows = in_case (slice_get rows (length rows - 1)) before id_in
 abbrev pub pages_left : ℕ → List KeptRow → ℕ
 pages_left left rows = if nat_lt (length rows) 250 then 0 else left - 1
 
--- these rows are a page of these records, whose ids rise; if so many pages were enough before, they are enough after it
+-- these rows are a page of these records, whose ids rise, and a full one unless reading ends with it; if so many pages were enough before,
+-- they are enough after it
 pub record ReadsOn (l : Layout) (rs : List Record) (old new : Pages) (rows : List KeptRow) : Type 0 where
   pub page : List Record
   pub read : each_from (kept_record l) rows ≡ Some page
   pub on : page ++ beyond new.after rs ≡ beyond old.after rs
+  pub full : 0 < new.left → 250 ≤ length rows
   pub enough : length (beyond old.after rs) ≤ 250 * old.left → length (beyond new.after rs) ≤ 250 * new.left
 
 -- a page was read

@@ -1,24 +1,13 @@
 -- Fields by their names, and the names that can't be given.
-use Rattle.std.specs.Prelude.{ℕ, Bool, true, not, ◌&&◌, if◌then◌else◌, List, codes, Option, Some, None}
+use Rattle.std.specs.Prelude.{ℕ, true, not, ◌&&◌, if◌then◌else◌, List, codes, Option, Some, None}
 use Rattle.std.specs.List.{find}
 use Rattle.std.specs.Option.{option_map}
-use Rattle.std.specs.Str.{chars}
 use Rattle.ut_model.specs.Cases.{in_case}
 use Rattle.ut_model.specs.Edits.{is_writable}
 use Rattle.ut_model.specs.Fields.{column_named, is_detail, same_name}
 use Rattle.ut_model.specs.Fields as model
 use Rattle.ut_model.specs.Tenant.{Field, Object}
-use Rattle.ut_given.specs.declared.columns.Column.{Column}
-
--- a field's name as declared, and whether an edit may give it
-abbrev pub Seen : Type 0
-Seen = List ℕ × Bool
-
-abbrev pub seen : model.Column → Seen
-seen c = (c.name, is_writable c.at)
-
-abbrev pub shown : Column → Seen
-shown c = (chars c.name.now, c.is_writable)
+use Rattle.ut_given.specs.Columns.{Seen}
 
 -- the custom field with this name
 abbrev pub custom_seen : List Field → (name : List ℕ) → Option Seen

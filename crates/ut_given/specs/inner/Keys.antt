@@ -1,5 +1,5 @@
 -- The key of an upsert, and the members of a body that are about it.
-use Rattle.std.specs.Prelude.{◌≡◌, Bool, not, ◌&&◌, [], ◌∷◌, Option, Some, IsTrue}
+use Rattle.std.specs.Prelude.{◌≡◌, Bool, not, ◌&&◌, [], ◌∷◌, List, Option, Some, IsTrue}
 use Rattle.ut_model.specs.declared.record_bodies.Assignment.{Assignment}
 use Rattle.ut_model.specs.Edits.{bad_field}
 use Rattle.ut_model.specs.Fields.{same_name}
@@ -7,12 +7,21 @@ use Rattle.ut_model.specs.Given.{read_given}
 use Rattle.ut_model.specs.Keys.{Key, other_key, reads_as}
 use Rattle.ut_model.specs.Rules.{Rule, first_refusal}
 use Rattle.ut_model.specs.Tenant.{Object, Tenant}
-use Rattle.ut_given.specs.Given.{has_key_type}
+use Rattle.ut_given.specs.Given.{IsKnown, has_key_type}
+use Rattle.ut_given.specs.declared.found.Found.{Found}
 use Rattle.ut_given.specs.declared.key.UpsertKey.{UpsertKey}
 
 -- the key's type is a type
 abbrev pub PlainKey : Option UpsertKey → Type 0
 PlainKey key = (k : UpsertKey) → key ≡ Some k → IsTrue (has_key_type k)
+
+-- if this gives the key by a record that is to be found, that record is told
+abbrev pub KnowsKey : Tenant → List Found → Key → Assignment → Type 0
+KnowsKey t found key x = IsTrue (same_name x.field key.column.name) → IsKnown t found key.column x.given
+
+-- the same, where there is a key
+abbrev pub KnowsKeyOf : Tenant → List Found → Option Key → Assignment → Type 0
+KnowsKeyOf t found key x = (k : Key) → key ≡ Some k → KnowsKey t found k x
 
 -- this gives the key another value
 abbrev pub has_other : Tenant → Key → Assignment → Bool

@@ -2,6 +2,8 @@
 use Rattle.std.specs.Prelude.{◌≡◌, ℕ, true, false, not, List, [], ◌∷◌, Option, None, Some, Result, Ok, Err, slice_get, ℤ}
 use Rattle.ut_edits.specs.Edits.{ChangesIn, DecidesTo, FailsBy}
 use Rattle.ut_edits.specs.declared.decided.Decided.{Decided}
+use Rattle.ut_given.specs.Given.{Finds}
+use Rattle.ut_given.specs.declared.found.Found.{Found}
 use Rattle.ut_given.specs.declared.key.AllGiven.{AllGiven}
 use Rattle.ut_keeper.specs.Tables.{Tables}
 use Rattle.ut_keys.specs.declared.fail.StoreFail.{StoreFail}
@@ -87,12 +89,13 @@ DecidesGiven l whose user now given None m result =
 DecidesGiven l whose user now given (Some k) m result = DecidesEdited l whose now given k m result
 
 -- over these tables, whatever they have, only rows of the organisation are changed; and where these stand for the tenant of who
--- asks, and valid values stay valid with what is given, it comes to the verdict
-pub record DecidesByKey (l : Layout) (whose : Whose) (user : List ℕ) (now : ℤ) (body : List Assignment) (k : FoundKey) (m : Tables)
-    (result : Result (Decided Upserted) EditFail) : Type 0 where
+-- asks, valid values stay valid with what is given, and what finds a record finds one that is told, it comes to the verdict
+pub record DecidesByKey (l : Layout) (whose : Whose) (user : List ℕ) (now : ℤ) (body : List Assignment) (found : List Found)
+    (k : FoundKey) (m : Tables) (result : Result (Decided Upserted) EditFail) : Type 0 where
   pub own : ChangesIn l.org result
   pub decided : (q : OrgPlan) (a : Asked) (o : Numbered) (f : FieldPlace) → StandsIn l.org q m (Some a.tenant)
       → IsObject l.org q a.tenant o l → IsAsker whose user now a → slice_get l.fields k.number ≡ Some f
       → ReadsWell a o.object (with_key (Some (key_of (numbered_field k f) k.value)) body)
+      → Finds a.tenant o.object (Some (key_of (numbered_field k f) k.value)) found body
       → IsSound (upsert_by a o body (numbered_field k f) k.value).tenant
       → DecidesTo l.org q a.tenant (upsert_by a o body (numbered_field k f) k.value) answered_upsert PlansEither result

@@ -9,14 +9,15 @@ use Rattle.ut_usage.specs.declared.form.Operands.TheVariants.{Words, Count}
 abbrev pub TakesWords : List ℕ → ℕ → Type 0
 TakesWords name count = (others : List (List ℕ)) → (command_of (name ∷ others) ≡ None) ↔ (length others ≢ count)
 
--- one word, which is a count of connections
-abbrev pub IsOneCount : List (List ℕ) → Type 0
-IsOneCount (word ∷ []) = IsTrue (is_some (count_in word))
-IsOneCount _ = ⊥
+-- one word, which is a count of connections, or none
+abbrev pub IsCountOrNone : List (List ℕ) → Type 0
+IsCountOrNone [] = Unit {0}
+IsCountOrNone (word ∷ []) = IsTrue (is_some (count_in word))
+IsCountOrNone _ = ⊥
 
--- words of this name are a command exactly if one other follows it, and this is a count of connections
+-- words of this name are a command exactly if nothing follows it, or a count of connections alone
 abbrev pub TakesCount : List ℕ → Type 0
-TakesCount name = (others : List (List ℕ)) → (command_of (name ∷ others) ≢ None) ↔ IsOneCount others
+TakesCount name = (others : List (List ℕ)) → (command_of (name ∷ others) ≢ None) ↔ IsCountOrNone others
 
 -- what follows the name of a command
 abbrev pub Takes : List ℕ → Operands → Type 0

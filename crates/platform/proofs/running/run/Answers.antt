@@ -1,10 +1,13 @@
-use Rattle.std.proofs.Common.{◌≡◌, ◌∙◌, true, false, refl, sym, subst, arith}
-use Rattle.platform.specs.Commands.{answers, csvq, has_status, is_opening, may_write, org_add, prints, serves}
+use Rattle.std.proofs.Common.{◌≡◌, ◌∙◌, inl, true, false, [], refl, sym, subst, arith}
+use Rattle.platform.specs.Commands.{answers, csvq, export, has_status, is_opening, may_write, never, once, org_add, prints, serves}
 use Rattle.platform.specs.Promise.{Causes}
 use Rattle.platform.specs.Seen.{Seen}
 use Rattle.platform.proofs.Runs.{caused, is_72, is_73, is_74, is_75, keeper_caused, known_zero, not_own, of_none, of_words, quiet, status_of_none, status_of_words, true_isnt_false, unused_of_words, was_opening}
 use Rattle.platform.proofs.OfCsvq as by_csvq
-use Rattle.platform.proofs.OfOrgAdd as by_org_add
+use Rattle.platform.specs.OrgAdd.{org_does, org_printed, org_world}
+use Rattle.platform.specs.Export.{export_does}
+use Rattle.platform.proofs.OfExport.{export_next, export_told}
+use Rattle.platform.proofs.OfTables as by_tables
 use Rattle.platform.proofs.OfServing.{serving_promise, unwritten}
 use Rattle.platform.proofs.running.run.Goals as goal
 
@@ -28,7 +31,7 @@ returns-in-Csvq-clause-promise g c =
     let b : Seen = record { keeper = g.K.Keeper.state c.args.keeper.now; door = g.D.Door.held c.args.door.now; door_faults = g.D.Door.faults c.args.door.now; line_faults = g.D.Door.line_faults c.args.door.now; left = g.S.Source.left c.print_csvq.new.source; read_faults = g.S.Source.faults c.print_csvq.new.source; written = g.W.Sink.written c.print_csvq.new.sink; write_faults = g.W.Sink.faults c.print_csvq.new.sink; coming = g.C.Clock.coming c.now-now.new.self } in
     of_words _ (prints (csvq query)) a b status c.in-Csvq.ensures
     (by_csvq.csvq_promise query a b c.print_csvq.result status it.status c.csvq_status.ensures refl refl refl
-    (λ w bytes moments told dated. it.prints w bytes moments told (by_csvq.told_first (g.C.Clock.coming c.args.clock.now) c.now-now.result moments c.now-now.ensures.first dated)) it.whole c.now-now.ensures.asked it.source_cause it.sink_cause)
+    c.now-now.result c.now-now.ensures.first it.prints it.whole c.now-now.ensures.asked it.source_cause it.sink_cause)
 
 pub returns-in-Csvq-clause-unused : goal.returns-in-Csvq-clause-unused
 returns-in-Csvq-clause-unused g c =
@@ -50,35 +53,84 @@ returns-in-OrgAdd-clause-status g c =
     let name = c.in-OrgAdd.name.now in
     let secret = c.in-OrgAdd.secret.now in
     status_of_words _ (prints (org_add name secret)) c.store_status.result c.in-OrgAdd.ensures
-    (by_org_add.own name secret c.print_org_add.result c.store_status.result c.print_org_add.ensures.status c.store_status.ensures)
+    (by_tables.own (org_add name secret) true never false refl c.print_tables.result c.store_status.result c.print_tables.ensures.status c.store_status.ensures)
 
 pub returns-in-OrgAdd-clause-promise : goal.returns-in-OrgAdd-clause-promise
 returns-in-OrgAdd-clause-promise g c =
     let name = c.in-OrgAdd.name.now in
     let secret = c.in-OrgAdd.secret.now in
-    let r = c.print_org_add.result in
-    let it = c.print_org_add.ensures in
+    let r = c.print_tables.result in
+    let it = c.print_tables.ensures in
     let status = c.store_status.result in
     let same = c.store_status.ensures in
     let a : Seen = record { keeper = g.K.Keeper.state c.args.keeper.now; door = g.D.Door.held c.args.door.now; door_faults = g.D.Door.faults c.args.door.now; line_faults = g.D.Door.line_faults c.args.door.now; left = g.S.Source.left c.args.source.now; read_faults = g.S.Source.faults c.args.source.now; written = g.W.Sink.written c.args.sink.now; write_faults = g.W.Sink.faults c.args.sink.now; coming = g.C.Clock.coming c.args.clock.now } in
-    let b : Seen = record { keeper = g.K.Keeper.state c.print_org_add.new.keeper; door = g.D.Door.held c.args.door.now; door_faults = g.D.Door.faults c.args.door.now; line_faults = g.D.Door.line_faults c.args.door.now; left = g.S.Source.left c.args.source.now; read_faults = g.S.Source.faults c.args.source.now; written = g.W.Sink.written c.print_org_add.new.sink; write_faults = g.W.Sink.faults c.print_org_add.new.sink; coming = g.C.Clock.coming c.args.clock.now } in
+    let b : Seen = record { keeper = g.K.Keeper.state c.print_tables.new.keeper; door = g.D.Door.held c.args.door.now; door_faults = g.D.Door.faults c.args.door.now; line_faults = g.D.Door.line_faults c.args.door.now; left = g.S.Source.left c.args.source.now; read_faults = g.S.Source.faults c.args.source.now; written = g.W.Sink.written c.print_tables.new.sink; write_faults = g.W.Sink.faults c.print_tables.new.sink; coming = g.C.Clock.coming c.args.clock.now } in
     of_words _ (prints (org_add name secret)) a b status c.in-OrgAdd.ensures
-    (by_org_add.org_promise name secret a b r status it.status same refl refl refl (g.met.K.Keeper.settled c.args.keeper.now) c.stands_laws.ensures.one_version
-    (by_org_add.org_causes name secret a b r status it.status same refl refl refl it.steps it.acknowledged it.keeper_cause it.sink_cause)
-    it.prints it.keeps it.version it.kept it.refused it.crash)
+    (by_tables.table_promise (org_add name secret) true never false refl a b r status it.status same refl refl refl (org_does name secret) (g.met.K.Keeper.settled c.args.keeper.now) c.stands_laws.ensures.one_version
+    (by_tables.table_causes (org_add name secret) true never false refl a b r status it.status same refl refl refl it.steps it.acknowledged it.keeper_cause it.sink_cause)
+    [] (inl refl) (λ w bytes. refl) (λ w bytes moments. by_tables.next_deed w (org_printed w name secret) (org_world w name secret)) tt it.prints it.keeps it.version it.kept it.refused it.crash)
 
 pub returns-in-OrgAdd-clause-unused : goal.returns-in-OrgAdd-clause-unused
 returns-in-OrgAdd-clause-unused g c =
     let name = c.in-OrgAdd.name.now in
     let secret = c.in-OrgAdd.secret.now in
-    let it = c.print_org_add.ensures in
+    let it = c.print_tables.ensures in
     let status = c.store_status.result in
     unused_of_words _ (prints (org_add name secret)) status c.in-OrgAdd.ensures (record {
       keeper_same = λ none. absurd (true_isnt_false none);
       door_same = λ none. refl;
       source_same = λ none. refl;
-      sink_same = λ none. it.unwritten (sym (by_org_add.writes name secret c.print_org_add.result status it.status c.store_status.ensures) ∙ none);
+      sink_same = λ none. it.unwritten (sym (by_tables.writes (org_add name secret) true never false refl c.print_tables.result status it.status c.store_status.ensures) ∙ none);
       clock_same = λ none. refl;
+    })
+
+-- ---- `export`
+
+pub invariant_of-work : goal.invariant_of-work
+invariant_of-work g c = record { calendar = by_csvq.is_clocked c.now-now-in-Export.result c.now-now-in-Export.ensures.bound }
+
+pub returns-in-Export-clause-status : goal.returns-in-Export-clause-status
+returns-in-Export-clause-status g c =
+    let org = c.in-Export.org.now in
+    let user = c.in-Export.user.now in
+    let secret = c.in-Export.secret.now in
+    let query = c.in-Export.query.now in
+    status_of_words _ (prints (export org user secret query)) c.store_status-in-Export.result c.in-Export.ensures
+    (by_tables.own (export org user secret query) false once true refl c.print_tables-in-Export.result c.store_status-in-Export.result c.print_tables-in-Export.ensures.status c.store_status-in-Export.ensures)
+
+pub returns-in-Export-clause-promise : goal.returns-in-Export-clause-promise
+returns-in-Export-clause-promise g c =
+    let org = c.in-Export.org.now in
+    let user = c.in-Export.user.now in
+    let secret = c.in-Export.secret.now in
+    let query = c.in-Export.query.now in
+    let p = export org user secret query in
+    let now = c.now-now-in-Export.result in
+    let r = c.print_tables-in-Export.result in
+    let it = c.print_tables-in-Export.ensures in
+    let status = c.store_status-in-Export.result in
+    let same = c.store_status-in-Export.ensures in
+    let a : Seen = record { keeper = g.K.Keeper.state c.args.keeper.now; door = g.D.Door.held c.args.door.now; door_faults = g.D.Door.faults c.args.door.now; line_faults = g.D.Door.line_faults c.args.door.now; left = g.S.Source.left c.args.source.now; read_faults = g.S.Source.faults c.args.source.now; written = g.W.Sink.written c.args.sink.now; write_faults = g.W.Sink.faults c.args.sink.now; coming = g.C.Clock.coming c.args.clock.now } in
+    let b : Seen = record { keeper = g.K.Keeper.state c.print_tables-in-Export.new.keeper; door = g.D.Door.held c.args.door.now; door_faults = g.D.Door.faults c.args.door.now; line_faults = g.D.Door.line_faults c.args.door.now; left = g.S.Source.left c.args.source.now; read_faults = g.S.Source.faults c.args.source.now; written = g.W.Sink.written c.print_tables-in-Export.new.sink; write_faults = g.W.Sink.faults c.print_tables-in-Export.new.sink; coming = g.C.Clock.coming c.now-now-in-Export.new.self } in
+    let at = by_csvq.moments_at (g.C.Clock.coming c.args.clock.now) now c.now-now-in-Export.ensures.first in
+    of_words _ (prints p) a b status c.in-Export.ensures
+    (by_tables.table_promise p false once true refl a b r status it.status same refl refl refl (export_does org user secret query now) (g.met.K.Keeper.settled c.args.keeper.now) c.stands_laws.ensures.one_version
+    (by_tables.table_causes p false once true refl a b r status it.status same refl refl refl it.steps it.acknowledged it.keeper_cause it.sink_cause)
+    at.moments at.are (λ w bytes. export_told org user secret query now w bytes at.moments at.first)
+    (λ w bytes moments. export_next org user secret query now w bytes moments)
+    c.now-now-in-Export.ensures.asked it.prints it.keeps it.version it.kept it.refused it.crash)
+
+pub returns-in-Export-clause-unused : goal.returns-in-Export-clause-unused
+returns-in-Export-clause-unused g c =
+    let p = export c.in-Export.org.now c.in-Export.user.now c.in-Export.secret.now c.in-Export.query.now in
+    let it = c.print_tables-in-Export.ensures in
+    let status = c.store_status-in-Export.result in
+    unused_of_words _ (prints p) status c.in-Export.ensures (record {
+      keeper_same = λ none. absurd (true_isnt_false none);
+      door_same = λ none. refl;
+      source_same = λ none. refl;
+      sink_same = λ none. it.unwritten (sym (by_tables.writes p false once true refl c.print_tables-in-Export.result status it.status c.store_status-in-Export.ensures) ∙ none);
+      clock_same = λ none. absurd (true_isnt_false none);
     })
 
 -- ---- `answer`

@@ -1,7 +1,6 @@
-use Rattle.std.proofs.Common.{◌≡◌, ◌∙◌, List, ap, arith, of_z, pos, refl, rules, subst, sym, to_z, w64}
+use Rattle.std.proofs.Common.{◌≡◌, ◌∙◌, List, ap, arith, of_z, pos, refl, rules, to_z, w64}
 use Rattle.std.proofs.lemmas.Int.{to_z-of_z}
 use Rattle.std.specs.Prelude.{Err, FitsSigned, Ok}
-use Rattle.ut_given.specs.Given.{IsInJson}
 use Rattle.ut_keeper.specs.Draft.{tables_of}
 use Rattle.ut_model.specs.Creates.{create}
 use Rattle.ut_model.specs.RequestOf.{request_of}
@@ -9,11 +8,11 @@ use Rattle.ut_model.specs.Requests.{creates}
 use Rattle.ut_model.specs.Verdict.{made_new}
 use Rattle.ut_model.specs.declared.record_bodies.Assignment.{Assignment}
 use Rattle.ut_model.specs.declared.route.Route.TheVariants.{Create}
-use Rattle.ut_sound.specs.Fit.{ReadsWell}
+use Rattle.ut_records.specs.Creating.{ReadsFound}
 use Rattle.ut_admin.specs.Administration.{AsksWith}
 use Rattle.ut_admin.specs.declared.answer.Answer.TheVariants as answer
 use Rattle.ut_admin.proofs.Asked.{answers_none, answers_so, asks_new, drafts_seen, edits_asked, edits_none, fit, none_drafts, returned}
-use Rattle.ut_admin.proofs.Giving.{giving}
+use Rattle.ut_admin.proofs.Giving.{giving, reads_found}
 use Rattle.ut_admin.proofs.records.new_record.Goals as goal
 
 -- ---- a body of another form
@@ -39,9 +38,6 @@ returns-in_err-values-clause-makes g c =
 
 -- ---- the edit
 
-pub invariant_of-create : goal.invariant_of-create
-invariant_of-create g c = record { in_json = subst IsInJson (sym c.as_slice.ensures) c.in_ok-values.ensures.json }
-
 pub returns-clause-what : goal.returns-clause-what
 returns-clause-what g c told =
     let caller = c.args.caller.now in
@@ -55,7 +51,7 @@ returns-clause-what g c told =
     refl asked c.made.ensures
     (λ a. ap (λ (values : List Assignment). create a object values) c.as_slice.ensures)
     (λ a. c.refusal_laws.ensures.refused a (creates object given))
-    (λ a sound asking. giving (g.R.Rights.whose c.args.rights.now) caller c.args.now _ (λ g b o. ReadsWell b o g) given c.as_slice.result.now a at c.requires c.as_slice.ensures (fit c.requests_fit.ensures.request a (Create object) body (creates object given) sound asked) asking)
+    (λ a sound asking. giving (g.R.Rights.whose c.args.rights.now) caller c.args.now _ (ReadsFound object _) given c.as_slice.result.now a at c.requires c.as_slice.ensures (reads_found c.given_laws.ensures.finds object given a (c.given_laws.ensures.json given c.in_ok-values.ensures.json) (fit c.requests_fit.ensures.request a (Create object) body (creates object given) sound asked)) asking)
     (c.make_edit.ensures.what told)
 
 pub returns-clause-form : goal.returns-clause-form

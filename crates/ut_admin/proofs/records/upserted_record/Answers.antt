@@ -1,7 +1,6 @@
-use Rattle.std.proofs.Common.{◌≡◌, ◌∙◌, List, Option, ap, arith, of_z, pos, ℕ, refl, rules, subst, sym, to_z, w64}
+use Rattle.std.proofs.Common.{◌≡◌, ◌∙◌, List, Option, ap, arith, of_z, pos, ℕ, refl, rules, sym, to_z, w64}
 use Rattle.std.proofs.lemmas.Int.{to_z-of_z}
 use Rattle.std.specs.Prelude.{Err, FitsSigned, Ok}
-use Rattle.ut_given.specs.Given.{IsInJson}
 use Rattle.ut_keeper.specs.Draft.{tables_of}
 use Rattle.ut_model.specs.Upserts.{upsert}
 use Rattle.ut_model.specs.RequestOf.{request_of, value_part}
@@ -9,11 +8,11 @@ use Rattle.ut_model.specs.Requests.{upserts}
 use Rattle.ut_model.specs.Verdict.{upserted}
 use Rattle.ut_model.specs.declared.record_bodies.Assignment.{Assignment}
 use Rattle.ut_model.specs.declared.route.Route.TheVariants.{Upsert}
-use Rattle.ut_sound.specs.Fit.{ReadsWellByKey}
+use Rattle.ut_upserts.specs.Upserting.{ReadsFoundByKey}
 use Rattle.ut_admin.specs.Administration.{AsksWith}
 use Rattle.ut_admin.specs.inner.Edits.{as_upserted}
 use Rattle.ut_admin.proofs.Asked.{answers_none, answers_so, asks_upsert, drafts_seen, edits_asked, edits_none, fit, none_drafts, returned}
-use Rattle.ut_admin.proofs.Giving.{giving}
+use Rattle.ut_admin.proofs.Giving.{giving, reads_found_by_key}
 use Rattle.ut_admin.proofs.records.upserted_record.Goals as goal
 
 -- ---- a body of another form
@@ -43,9 +42,6 @@ returns-in_err-values-clause-makes g c =
 
 -- ---- the edit
 
-pub invariant_of-upsert : goal.invariant_of-upsert
-invariant_of-upsert g c = record { in_json = subst IsInJson (sym c.as_slice.ensures) c.in_ok-values.ensures.json }
-
 pub returns-clause-what : goal.returns-clause-what
 returns-clause-what g c told =
     let caller = c.args.caller.now in
@@ -62,7 +58,7 @@ returns-clause-what g c told =
     refl asked c.upserted.ensures
     (λ a. ap (λ (values : List Assignment). upsert a object key text values) c.as_slice.ensures)
     (λ a. c.refusal_laws.ensures.refused a (upserts object key text given))
-    (λ a sound asking. giving (g.R.Rights.whose c.args.rights.now) caller c.args.now _ (λ g b o. ReadsWellByKey b key text o g) given c.as_slice.result.now a at c.requires c.as_slice.ensures (fit c.requests_fit.ensures.request a (Upsert object key value) body (upserts object key text given) sound asked) asking)
+    (λ a sound asking. giving (g.R.Rights.whose c.args.rights.now) caller c.args.now _ (ReadsFoundByKey object key text _) given c.as_slice.result.now a at c.requires c.as_slice.ensures (reads_found_by_key c.given_laws.ensures.finds object key text given a (c.given_laws.ensures.json given c.in_ok-values.ensures.json) (fit c.requests_fit.ensures.request a (Upsert object key value) body (upserts object key text given) sound asked)) asking)
     (c.make_edit.ensures.what told)
 
 pub returns-clause-form : goal.returns-clause-form

@@ -2,12 +2,13 @@ use Rattle.std.proofs.Common.{◌≡◌, ◌∙◌, ◌+◌, ℕ, List, [], None
 use Rattle.std.proofs.lemmas.Int.{to_z-of_z}
 use Rattle.std.specs.Prelude.{FitsSigned}
 use Rattle.ut_value.specs.Printing.{day_of_moment}
-use Rattle.ut_keeper.specs.Draft.{removals_of}
+use Rattle.ut_keeper.specs.Draft.{DraftReads, Held, removals_of}
+use Rattle.ut_keeper.specs.State.{KeeperState}
 use Rattle.ut_model.specs.Paths.{Asked}
 use Rattle.ut_model.specs.declared.record.Record.{Record}
 use Rattle.ut_plan.specs.Plans.{children_by}
 use Rattle.ut_plan.specs.declared.plan.ChildPlan.{ChildPlan}
-use Rattle.ut_stands.specs.Calls.{Calls, ended}
+use Rattle.ut_stands.specs.Calls.{Calls, Ending, done, ended}
 use Rattle.ut_ways.specs.Branches.{branch_records}
 use Rattle.ut_ways.specs.declared.branches.Branch.{Branch}
 use Rattle.ut_exec.specs.Written.{most_shown}
@@ -38,18 +39,39 @@ returns-clause-what g c told p a asked flat =
     (sym (ap (λ (ps : List ChildPlan). (λ (b : Asked) (r : Record). map (children_by b r) ps)) none.1))
     (asked.sight, tt) c.answer_plan.result (c.answer_plan.ensures.what told)
 
+-- nothing was read
+abbrev unread : {K : Type 0} (state : K → KeeperState) → ((e : Ending) (a : Held K) → e ≡ done → Calls state 0 e a a) → (a : Held K) → DraftReads state 0 a a
+unread state none a = (none done a refl).reads
+
+pub returns-in_err-refusal-clause-shown : goal.returns-in_err-refusal-clause-shown
+returns-in_err-refusal-clause-shown g c = record {
+  records = λ told. so_if_done (ended c.from_residual.result) _ (λ q a s h its. omega arith);
+  refused = λ p a asks why. unread g.K.Keeper.state c.call_laws.ensures.none c.args.draft.now;
+}
+
 -- a query that is refused is shown no record
 pub returns-in-Some-clause-shown : goal.returns-in-Some-clause-shown
-returns-in-Some-clause-shown g c told = so_if_done (ended c.refuse.result) _ (λ q a s h its. omega arith)
+returns-in-Some-clause-shown g c = record {
+  records = λ told. so_if_done (ended c.refuse.result) _ (λ q a s h its. omega arith);
+  refused = λ p a asks why. unread g.K.Keeper.state c.call_laws.ensures.none c.args.draft.now;
+}
+
+pub returns-in_err-plan-clause-shown : goal.returns-in_err-plan-clause-shown
+returns-in_err-plan-clause-shown g c = record {
+  records = λ told. so_if_done (ended c.from_residual-in_err-plan.result) _ (λ q a s h its. omega arith);
+  refused = λ p a asks why. unread g.K.Keeper.state c.call_laws.ensures.none c.args.draft.now;
+}
 
 pub returns-clause-shown : goal.returns-clause-shown
-returns-clause-shown g c told =
-    let state = g.K.Keeper.state in
-    let x = c.args.draft.now in
-    let y = c.answer_plan.new.draft in
-    then_if_done (ended c.answer_plan.result) _ _
-    (λ h q a s its sight. let few = h q a s its (sight, tt) in omega (arith, few))
-    (c.answer_plan.ensures.shown told)
+returns-clause-shown g c = record {
+  records = λ told. then_if_done (ended c.answer_plan.result) _ _
+      (λ h q a s its sight. let few = h q a s its (sight, tt) in omega (arith, few))
+      (c.answer_plan.ensures.shown told);
+  refused = λ p a asks why.
+      let laws : Laws = record { rise = c.record_laws.ensures.rise; already = c.record_laws.ensures.already; named = c.object_laws.ensures.named; printable = c.data_laws.ensures.printable; found = c.plan_laws.ensures.found } in
+      let its = its_layout laws c.args.layout.now _ _ c.args.query.now _ p a asks.0 in
+      absurd (why (sym (c.in_ok-refusal.ensures 0 p a.tenant its (inl asks.1)) ∙ nothing_there c.in_ok-refusal.field-0 c.in_default.not-Some));
+}
 
 pub returns-clause-calls : goal.returns-clause-calls
 returns-clause-calls g c =

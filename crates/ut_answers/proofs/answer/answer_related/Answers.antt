@@ -4,12 +4,13 @@ use Rattle.std.specs.List.{sum_by}
 use Rattle.std.proofs.lemmas.List.Sums.{sum_by-cons}
 use Rattle.std.specs.Prelude.{FitsSigned}
 use Rattle.ut_value.specs.Printing.{day_of_moment}
-use Rattle.ut_keeper.specs.Draft.{removals_of}
+use Rattle.ut_keeper.specs.Draft.{DraftReads, Held, removals_of}
+use Rattle.ut_keeper.specs.State.{KeeperState}
 use Rattle.ut_model.specs.Paths.{Asked}
 use Rattle.ut_model.specs.declared.record.Record.{Record}
 use Rattle.ut_plan.specs.Plans.{child_shown, children_by}
 use Rattle.ut_plan.specs.declared.plan.ChildPlan.{ChildPlan}
-use Rattle.ut_stands.specs.Calls.{ended}
+use Rattle.ut_stands.specs.Calls.{Calls, Ending, done, ended}
 use Rattle.ut_step.specs.Shown.{row_shown}
 use Rattle.ut_ways.specs.Branches.{branch_records}
 use Rattle.ut_ways.specs.declared.branches.Branch.{Branch}
@@ -61,3 +62,25 @@ returns-clause-calls g c =
     let children = ap subqueries_shown c.as_slice-2.ensures ∙ shown_alike c.in_ok-plan.plan.children in
     wider_calls state c.draft_laws.ensures.reads_most _ (most_shown (g.S.Sight.shown + row_shown c.args.query.now) removed) (ended c.answer_plan.result) x c.answer_plan.new.draft
     (omega (arith, few.branches, few.children, branches, children)) c.answer_plan.ensures.calls
+
+-- nothing was read
+abbrev unread : {K : Type 0} (state : K → KeeperState) → ((e : Ending) (a : Held K) → e ≡ done → Calls state 0 e a a) → (a : Held K) → DraftReads state 0 a a
+unread state none a = (none done a refl).reads
+
+pub returns-in_err-refusal-clause-refused : goal.returns-in_err-refusal-clause-refused
+returns-in_err-refusal-clause-refused g c p a asks why = unread g.K.Keeper.state c.call_laws.ensures.none c.args.draft.now
+
+pub returns-in-Some-clause-refused : goal.returns-in-Some-clause-refused
+returns-in-Some-clause-refused g c p a asks why = unread g.K.Keeper.state c.call_laws.ensures.none c.args.draft.now
+
+pub returns-in_err-plan-clause-refused : goal.returns-in_err-plan-clause-refused
+returns-in_err-plan-clause-refused g c p a asks why = unread g.K.Keeper.state c.call_laws.ensures.none c.args.draft.now
+
+-- a query of which rows are read isn't refused
+pub returns-clause-refused : goal.returns-clause-refused
+returns-clause-refused g c p a over why =
+    let laws : Laws = record { rise = c.record_laws.ensures.rise; already = c.record_laws.ensures.already; named = c.object_laws.ensures.named; printable = c.data_laws.ensures.printable; found = c.plan_laws.ensures.found } in
+    let l = c.args.layout.now in
+    let asked = over.asked in
+    let its = its_layout laws l _ _ c.args.query.now _ p a asked in
+    absurd (why (sym (c.in_ok-refusal.ensures l.org p a.tenant its (inr (asked.stands.sound, over.all))) ∙ nothing_there c.in_ok-refusal.field-0 c.in_default.not-Some))

@@ -35,3 +35,10 @@ returns-then-is_empty-clause-what g c told =
     (λ a. in_no_keys parents keys (window_of k) (by_parents parents (takes k.check)) l.object (sym c.is_empty.ensures ∙ c.if-is_empty.true) a
     ∙ ap (λ (ks : List SortKey). rows_by parents ks (window_of k) (by_parents parents (takes k.check)) l.object a) c.as_slice-keys.ensures)
     c.write_rows.result (c.write_rows.ensures.what told)
+
+pub returns-else-is_empty-clause-early : goal.returns-else-is_empty-clause-early
+returns-else-is_empty-clause-early g c none =
+    absurd (some_keys c.as_slice-keys.result.now (sym c.is_empty.ensures ∙ c.if-is_empty.false) (ap (λ (ks : List SortKey). length ks) (c.as_slice-keys.ensures ∙ none)))
+
+pub returns-then-is_empty-clause-early : goal.returns-then-is_empty-clause-early
+returns-then-is_empty-clause-early g c none = c.write_rows.ensures.early

@@ -9,7 +9,8 @@ use Rattle.ut_query.specs.declared.query.Item.{Item}
 use Rattle.ut_ways.proofs.Branching.{added_twice}
 use Rattle.ut_plan.specs.declared.plan.ChildPlan.{ChildPlan}
 use Rattle.ut_plan.specs.declared.plan.Shown.{Shown}
-use Rattle.ut_bind.specs.inner.Selecting.{BindsItems, count_of, paths_in}
+use Rattle.ut_bind.specs.Cells.{paths_in}
+use Rattle.ut_bind.specs.inner.Selecting.{BindsItems, count_of}
 use Rattle.ut_bind.proofs.Bound.{same_day}
 use Rattle.ut_bind.proofs.Picked.{AreCounted, SelectedSoFar, all_selected, count_next, item_next}
 use Rattle.ut_bind.proofs.selecting.bind_items.Goals as goal

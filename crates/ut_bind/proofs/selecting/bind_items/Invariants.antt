@@ -3,7 +3,7 @@ use Rattle.std.specs.List.{sum_by}
 use Rattle.ut_step.specs.Shown.{item_children_shown}
 use Rattle.ut_plan.specs.Plans.{child_shown}
 use Rattle.ut_ways.specs.Branches.{AddsBranches}
-use Rattle.ut_bind.specs.inner.Selecting.{paths_in}
+use Rattle.ut_bind.specs.Cells.{paths_in}
 use Rattle.ut_bind.proofs.Picked.{SelectedSoFar}
 use Rattle.ut_bind.proofs.selecting.bind_items.Given as goal
 

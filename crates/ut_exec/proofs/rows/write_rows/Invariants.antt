@@ -1,6 +1,8 @@
-use Rattle.std.proofs.Common.{◌+◌}
+use Rattle.std.proofs.Common.{◌+◌, List, length}
+use Rattle.ut_model.specs.declared.record.Record.{Record}
 use Rattle.ut_stands.specs.Calls.{done}
 use Rattle.ut_exec.specs.Relatives.{by_relatives}
+use Rattle.ut_exec.specs.Windows.{HasAll}
 use Rattle.ut_exec.specs.inner.Judging.{judging, unranked}
 use Rattle.ut_exec.proofs.Working.{Offers, UnderWay}
 use Rattle.ut_exec.proofs.rows.write_rows.Given as goal
@@ -12,6 +14,7 @@ invariant-pages g l =
     UnderWay g.K.Keeper.state l.layout
     (judging (g.S.Sight.sees l.sight l.layout) (g.L.Relatives.whose l.relatives l.layout.org) parents (g.P.Keeps.keep l.keeps) unranked)
     (g.S.Sight.shown + g.L.Relatives.parents_shown l.relatives + g.L.Relatives.children_shown l.relatives)
+    (λ (rs : List Record). HasAll l.fn.window.skip l.fn.window.most (length rs))
     (Offers row l.fn.window l.room l.fn.out.items l.progress l.out.items) l.pages 0 done l.fn.draft l.draft
 
 abbrev pub decreases-pages : goal.decreases-pages

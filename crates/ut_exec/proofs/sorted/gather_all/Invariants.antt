@@ -1,17 +1,17 @@
-use Rattle.std.proofs.Common.{◌+◌, List, [], length}
+use Rattle.std.proofs.Common.{◌+◌, List, length}
 use Rattle.ut_model.specs.declared.record.Record.{Record}
 use Rattle.ut_model.specs.Paths.{Asked}
 use Rattle.ut_stands.specs.Calls.{done}
-use Rattle.ut_exec.specs.Ranks.{GathersRows}
 use Rattle.ut_exec.specs.inner.Judging.{IsOf, judging}
+use Rattle.ut_exec.proofs.Cutting.{GathersApart}
 use Rattle.ut_exec.proofs.Working.{UnderWay}
 use Rattle.ut_exec.proofs.sorted.gather_all.Given as goal
 
 abbrev pub invariant-pages : goal.invariant-pages
 invariant-pages g l =
     let j = judging (g.S.Sight.sees l.sight l.layout) (g.L.Relatives.whose l.relatives l.layout.org) (g.L.Relatives.parents l.relatives) (g.P.Keeps.keep l.keeps) (g.R.Ranks.ranked l.ranks) in
-    UnderWay g.K.Keeper.state l.layout j (g.S.Sight.shown + g.L.Relatives.parents_shown l.relatives)
-    (λ (x : Asked) (rs : List Record). GathersRows (IsOf l.layout (j.parents x)) (j.rank x) [] l.gathered.items rs) l.pages (length l.gathered.items) done l.fn.draft l.draft
+    UnderWay g.K.Keeper.state l.layout j (g.S.Sight.shown + g.L.Relatives.parents_shown l.relatives) (λ (rs : List Record). ⊥)
+    (λ (x : Asked) (rs : List Record). GathersApart g.R.Rank.Ord.cmp g.met.R.Rank.Ord.total (IsOf l.layout (j.parents x)) (j.rank x) l.wanted l.gathered.items rs) l.pages (length l.gathered.items) done l.fn.draft l.draft
 
 abbrev pub decreases-pages : goal.decreases-pages
 decreases-pages g l = l.pages.left

@@ -1,7 +1,9 @@
+use Rattle.std.specs.Prelude.{Err}
 use Rattle.std.proofs.Common.{◌≡◌, ◌∙◌, ◌+◌, ◌*◌, ◌≤◌, List, Some, ap, arith, filter, length, sym, subst}
 use Rattle.std.proofs.Math.Nat.{mul-le-mul_left}
 use Rattle.ut_keeper.specs.Draft.{removals_of, tables_of}
 use Rattle.ut_keeper.specs.Tables.{Tables}
+use Rattle.ut_model.specs.declared.record.Record.{Record}
 use Rattle.ut_model.specs.Levels.{readable}
 use Rattle.ut_model.specs.Ordered.{in_order}
 use Rattle.ut_model.specs.Paths.{Asked}
@@ -19,9 +21,9 @@ use Rattle.ut_exec.specs.Relatives.{by_relatives}
 use Rattle.ut_exec.specs.Windows.{in_window}
 use Rattle.ut_exec.specs.Written.{WritesRows, most_shown}
 use Rattle.ut_exec.specs.inner.Judging.{IsOf, judging}
-use Rattle.ut_exec.specs.inner.Offers.{Offered}
-use Rattle.ut_exec.proofs.Offering.{returned}
-use Rattle.ut_exec.proofs.Working.{gathered_none, has_no_types, in_order_so, offered_calls, offered_shown, what_failed, what_offered}
+use Rattle.ut_exec.specs.inner.Offers.{Offered, WritesTaken}
+use Rattle.ut_exec.proofs.Offering.{returned, same_taken}
+use Rattle.ut_exec.proofs.Working.{Taken, gathered_none, has_no_types, in_order_so, offered_calls, offered_shown, what_cut, what_offered}
 use Rattle.ut_exec.proofs.sorted.write_sorted_rows.Goals as goal
 
 pub returns-then-not-has_types-clause-what : goal.returns-then-not-has_types-clause-what
@@ -79,6 +81,7 @@ returns-in_err-offer_rows-clause-what g c told =
     let then = c.call_laws.ensures.then in
     let cmp = g.R.Rank.Ord.cmp in
     let chosen = λ (x : Asked). in_order (by_rank cmp (j.rank x)) (filter (j.keep x) (readable x.tenant x.user l.object)) in
+    let wanted = c.wanted.result in
     let gathered = c.in_ok-gathered.gathered in
     let sorted = c.put_in_order.new.gathered.items in
     let b = c.gather_all.new.draft in
@@ -91,18 +94,21 @@ returns-in_err-offer_rows-clause-what g c told =
     let same_length : length c.as_slice.result.now ≡ length gathered.items = ap length c.as_slice.ensures.value ∙ c.put_in_order.ensures.long in
     let few : kids * length c.as_slice.result.now ≤ kids * length gathered.items = mul-le-mul_left kids (omega (arith, same_length)) in
     let tell = laws.both _ _ a b d reads.calls.reads c.offer_rows.ensures.calls.reads told in
-    let offered = λ (q : OrgPlan) (x : Asked) (s : StandsIn l.org q (tables_of state a) (Some x.tenant)) (h : IsLayout q x.tenant l) (its : j.who q x).
-    let its_order = in_order_so l j cmp g.met.R.Rank.Ord.total gathered.items sorted c.put_in_order.ensures.sorts x (c.record_laws.ensures.rise x.tenant l.object s.sound) (c.in_ok-gathered.ensures.what tell.0 q x s h its) in
-    c.offer_rows.ensures.offered tell.1 q x (subst (λ (m : Tables). StandsIn l.org q m (Some x.tenant)) (sym tell.2) s) h its.1 (chosen x)
-    (subst (λ (rows : List (Ranked g.row.R-Rank.Denot Candidate)). EachOf (λ (row : Ranked g.row.R-Rank.Denot Candidate) r. IsOf l (parents x) row.kept r) rows (chosen x)) (sym c.as_slice.ensures.value) its_order.each)
-    its_order.has in
     let fail = c.in_err-offer_rows.field-0.0 in
+    let offered = λ (q : OrgPlan) (x : Asked) (s : StandsIn l.org q (tables_of state a) (Some x.tenant)) (h : IsLayout q x.tenant l) (its : j.who q x).
+    let its_order = in_order_so l j cmp g.met.R.Rank.Ord.total wanted x gathered.items sorted c.put_in_order.ensures.sorts (c.record_laws.ensures.rise x.tenant l.object s.sound) (c.in_ok-gathered.ensures.what tell.0 q x s h its) in
+    let so = c.offer_rows.ensures.offered tell.1 q x (subst (λ (m : Tables). StandsIn l.org q m (Some x.tenant)) (sym tell.2) s) h its.1 its_order.rows
+    (subst (λ (rows : List (Ranked g.row.R-Rank.Denot Candidate)). EachOf (λ (row : Ranked g.row.R-Rank.Denot Candidate) r. IsOf l (parents x) row.kept r) rows its_order.rows) (sym c.as_slice.ensures.value) its_order.each)
+    its_order.has in
+    let same : in_window w its_order.rows ≡ in_window w (chosen x) = same_taken w wanted its_order.rows (chosen x) c.wanted.ensures its_order.first in
+    let taken : Taken w (chosen x) (λ (rs : List Record). Offered (row x) first new old out rs (Err fail)) =
+    record { rows = its_order.rows; its = subst (Offered (row x) first new old out its_order.rows) c.in_err-offer_rows.was so; same = same } in
+    taken in
     let result = c.from_residual-in_err-offer_rows.result in
     let is = returned result fail c.from_residual-in_err-offer_rows.ensures.1 in
     let same : e ≡ ended_exec result = ap ended_exec c.in_err-offer_rows.was ∙ sym (ap ended_exec is) in
     subst (WritesRows l j.who (λ x. in_window w (chosen x)) row room old out (tables_of state a)) (sym is)
-    (what_failed row w room old l j.who (tables_of state a) chosen new out fail (λ q x s h its.
-    subst (Offered (row x) first new old out (chosen x)) c.in_err-offer_rows.was (offered q x s h its)))
+    (what_cut row w room old l j.who (tables_of state a) chosen new out fail offered)
 
 pub returns-in_err-offer_rows-clause-calls : goal.returns-in_err-offer_rows-clause-calls
 returns-in_err-offer_rows-clause-calls g c =
@@ -123,6 +129,7 @@ returns-in_err-offer_rows-clause-calls g c =
     let then = c.call_laws.ensures.then in
     let cmp = g.R.Rank.Ord.cmp in
     let chosen = λ (x : Asked). in_order (by_rank cmp (j.rank x)) (filter (j.keep x) (readable x.tenant x.user l.object)) in
+    let wanted = c.wanted.result in
     let gathered = c.in_ok-gathered.gathered in
     let sorted = c.put_in_order.new.gathered.items in
     let b = c.gather_all.new.draft in
@@ -160,6 +167,7 @@ returns-in_err-offer_rows-clause-shown g c told =
     let then = c.call_laws.ensures.then in
     let cmp = g.R.Rank.Ord.cmp in
     let chosen = λ (x : Asked). in_order (by_rank cmp (j.rank x)) (filter (j.keep x) (readable x.tenant x.user l.object)) in
+    let wanted = c.wanted.result in
     let gathered = c.in_ok-gathered.gathered in
     let sorted = c.put_in_order.new.gathered.items in
     let b = c.gather_all.new.draft in
@@ -193,6 +201,7 @@ returns-clause-what g c told =
     let then = c.call_laws.ensures.then in
     let cmp = g.R.Rank.Ord.cmp in
     let chosen = λ (x : Asked). in_order (by_rank cmp (j.rank x)) (filter (j.keep x) (readable x.tenant x.user l.object)) in
+    let wanted = c.wanted.result in
     let gathered = c.in_ok-gathered.gathered in
     let sorted = c.put_in_order.new.gathered.items in
     let b = c.gather_all.new.draft in
@@ -206,10 +215,13 @@ returns-clause-what g c told =
     let few : kids * length c.as_slice.result.now ≤ kids * length gathered.items = mul-le-mul_left kids (omega (arith, same_length)) in
     let tell = laws.both _ _ a b d reads.calls.reads c.offer_rows.ensures.calls.reads told in
     let given = λ (q : OrgPlan) (x : Asked) (s : StandsIn l.org q (tables_of state a) (Some x.tenant)) (h : IsLayout q x.tenant l) (its : j.who q x).
-    let its_order = in_order_so l j cmp g.met.R.Rank.Ord.total gathered.items sorted c.put_in_order.ensures.sorts x (c.record_laws.ensures.rise x.tenant l.object s.sound) (c.in_ok-gathered.ensures.what tell.0 q x s h its) in
-    c.in_ok-offer_rows.ensures.offered tell.1 q x (subst (λ (m : Tables). StandsIn l.org q m (Some x.tenant)) (sym tell.2) s) h its.1 (chosen x)
-    (subst (λ (rows : List (Ranked g.row.R-Rank.Denot Candidate)). EachOf (λ (row : Ranked g.row.R-Rank.Denot Candidate) r. IsOf l (parents x) row.kept r) rows (chosen x)) (sym c.as_slice.ensures.value) its_order.each)
+    let its_order = in_order_so l j cmp g.met.R.Rank.Ord.total wanted x gathered.items sorted c.put_in_order.ensures.sorts (c.record_laws.ensures.rise x.tenant l.object s.sound) (c.in_ok-gathered.ensures.what tell.0 q x s h its) in
+    let so = c.in_ok-offer_rows.ensures.offered tell.1 q x (subst (λ (m : Tables). StandsIn l.org q m (Some x.tenant)) (sym tell.2) s) h its.1 its_order.rows
+    (subst (λ (rows : List (Ranked g.row.R-Rank.Denot Candidate)). EachOf (λ (row : Ranked g.row.R-Rank.Denot Candidate) r. IsOf l (parents x) row.kept r) rows its_order.rows) (sym c.as_slice.ensures.value) its_order.each)
     its_order.has in
+    let same : in_window w its_order.rows ≡ in_window w (chosen x) = same_taken w wanted its_order.rows (chosen x) c.wanted.ensures its_order.first in
+    let taken : Taken w (chosen x) (WritesTaken (row x) first new old out) = record { rows = its_order.rows; its = so; same = same } in
+    taken in
     what_offered row w room old l j.who (tables_of state a) chosen new out given
 
 pub returns-clause-calls : goal.returns-clause-calls
@@ -231,6 +243,7 @@ returns-clause-calls g c =
     let then = c.call_laws.ensures.then in
     let cmp = g.R.Rank.Ord.cmp in
     let chosen = λ (x : Asked). in_order (by_rank cmp (j.rank x)) (filter (j.keep x) (readable x.tenant x.user l.object)) in
+    let wanted = c.wanted.result in
     let gathered = c.in_ok-gathered.gathered in
     let sorted = c.put_in_order.new.gathered.items in
     let b = c.gather_all.new.draft in
@@ -263,6 +276,7 @@ returns-clause-shown g c told =
     let then = c.call_laws.ensures.then in
     let cmp = g.R.Rank.Ord.cmp in
     let chosen = λ (x : Asked). in_order (by_rank cmp (j.rank x)) (filter (j.keep x) (readable x.tenant x.user l.object)) in
+    let wanted = c.wanted.result in
     let gathered = c.in_ok-gathered.gathered in
     let sorted = c.put_in_order.new.gathered.items in
     let b = c.gather_all.new.draft in

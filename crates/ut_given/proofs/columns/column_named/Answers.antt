@@ -1,7 +1,7 @@
 use Rattle.std.specs.Option.{option_map}
 use Rattle.std.specs.Str.{chars}
 use Rattle.ut_rules.specs.Objects.{object_of_layout}
-use Rattle.ut_given.specs.inner.Columns.{shown}
+use Rattle.ut_given.specs.Columns.{shown}
 use Rattle.ut_given.proofs.Refused.{created_column, id_column, modified_column, other_column}
 use Rattle.ut_given.proofs.columns.column_named.Goals as goal
 

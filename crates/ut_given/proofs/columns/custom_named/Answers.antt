@@ -1,5 +1,5 @@
 use Rattle.std.specs.Str.{chars}
-use Rattle.ut_given.specs.inner.Columns.{shown}
+use Rattle.ut_given.specs.Columns.{shown}
 use Rattle.ut_given.proofs.Refused.{seen_there, unseen}
 use Rattle.ut_given.proofs.columns.custom_named.Goals as goal
 

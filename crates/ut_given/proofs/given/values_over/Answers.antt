@@ -6,11 +6,11 @@ use Rattle.ut_value.specs.declared.value.Value.{Value}
 use Rattle.ut_given.specs.Given.{all_given}
 use Rattle.ut_given.specs.inner.Fields.{column_at}
 use Rattle.ut_given.specs.inner.Read.{JudgesValue}
-use Rattle.ut_given.proofs.Judging.{Judged, judged_more, judged_refused, type_here}
+use Rattle.ut_given.proofs.Judging.{Judged, known_at, judged_more, judged_refused, type_here}
 use Rattle.ut_given.proofs.given.values_over.Goals as goal
 
 pub returns-in-Err : goal.returns-in-Err
-returns-in-Err c types plain t =
+returns-in-Err c types t finds =
     let given = all_given c.args.given.now in
     let old = c.args.old.now in
     let fields = c.args.fields.now in
@@ -19,10 +19,10 @@ returns-in-Err c types plain t =
     let more = c.in-Some.more.now in
     let front : c.fields.rest.now ≡ field ∷ more = c.in-Some.ensures.cases.0 in
     let count : c.len.result ≡ length values = search in
-    let j = subst (λ (rest : List FieldPlace). Judged t given old fields c.args.name rest values) front (c.fields.invariant types plain t) in
-    judged_refused t given old fields c.args.name field more values c.in-Err.unread j
+    let j = subst (λ (rest : List FieldPlace). Judged t c.args.given.now old fields c.args.name rest values) front (c.fields.invariant types t finds) in
+    judged_refused t c.args.given.now old fields c.args.name field more values c.in-Err.unread j
     (subst (λ (k : ℕ). JudgesValue (given_to t given (column_at k field)) (value_at old.values k) (Err c.in-Err.unread)) count
-    (c.in-Err.ensures (type_here field more j.types) plain t))
+    (c.in-Err.ensures (type_here field more j.types) t (known_at t c.args.given.now old fields c.args.name field more values _ (sym count) j)))
 
 pub fields-preserved : goal.fields-preserved
 fields-preserved c =
@@ -34,9 +34,9 @@ fields-preserved c =
     let more = c.in-Some.more.now in
     let front : c.fields.rest.now ≡ field ∷ more = c.in-Some.ensures.cases.0 in
     let count : c.len.result ≡ length values = search in
-    λ types plain t.
-    let j = subst (λ (rest : List FieldPlace). Judged t given old fields c.args.name rest values) front (c.fields.invariant types plain t) in
-    subst (λ (vs : List Value). Judged t given old fields c.args.name more vs) (sym c.in_ok-push-in-Ok.ensures.items)
-    (judged_more t given old fields c.args.name field more values c.in-Ok.value j
+    λ types t finds.
+    let j = subst (λ (rest : List FieldPlace). Judged t c.args.given.now old fields c.args.name rest values) front (c.fields.invariant types t finds) in
+    subst (λ (vs : List Value). Judged t c.args.given.now old fields c.args.name more vs) (sym c.in_ok-push-in-Ok.ensures.items)
+    (judged_more t c.args.given.now old fields c.args.name field more values c.in-Ok.value j
     (subst (λ (k : ℕ). JudgesValue (given_to t given (column_at k field)) (value_at old.values k) (Ok c.in-Ok.value)) count
-    (c.in-Ok.ensures (type_here field more j.types) plain t)))
+    (c.in-Ok.ensures (type_here field more j.types) t (known_at t c.args.given.now old fields c.args.name field more values _ (sym count) j))))

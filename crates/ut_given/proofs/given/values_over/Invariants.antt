@@ -2,14 +2,16 @@ use Rattle.std.proofs.Common.{IsTrue, length}
 use Rattle.std.specs.List.{list_all}
 use Rattle.ut_value.specs.Types.{is_type}
 use Rattle.ut_model.specs.Tenant.{Tenant}
-use Rattle.ut_given.specs.Given.{FindNone, all_given}
+use Rattle.ut_given.specs.inner.Fields.{columns_from}
+use Rattle.ut_given.specs.inner.Found.{FindsAmong}
 use Rattle.ut_given.proofs.Judging.{Judged}
 use Rattle.ut_given.proofs.given.values_over.Given as goal
 
 abbrev pub invariant-fields : goal.invariant-fields
 invariant-fields l =
-    IsTrue (list_all (λ f. is_type f.kind) l.fields) → FindNone l.given.body.now → (t : Tenant)
-    → Judged t (all_given l.given) l.old l.fields l.fn.name l.rest l.values.items
+    IsTrue (list_all (λ f. is_type f.kind) l.fields) → (t : Tenant)
+    → FindsAmong t l.given.found.now l.given.body.now (columns_from 1 l.fields)
+    → Judged t l.given l.old l.fields l.fn.name l.rest l.values.items
 
 abbrev pub decreases-fields : goal.decreases-fields
 decreases-fields l = length l.rest

@@ -1,3 +1,5 @@
+use Rattle.ut_given.proofs.Differing.{finds_named}
+use Rattle.ut_given.proofs.Known.{none_found, none_in_json}
 use Rattle.ut_given.proofs.Spelled.{declared_alike, empty_alike, fields_alike, kinds_alike, record_alike, required_alike, unique_alike, values_alike}
 use Rattle.ut_given.proofs.laws.given_laws.Goals as goal
 
@@ -24,3 +26,12 @@ returns-clause-empty_record c org p a o = empty_alike org p a o
 
 pub returns-clause-kinds : goal.returns-clause-kinds
 returns-clause-kinds c org p t o = kinds_alike org p t o
+
+pub returns-clause-finds : goal.returns-clause-finds
+returns-clause-finds c t o key found body none = none_found t o key found body none
+
+pub returns-clause-json : goal.returns-clause-json
+returns-clause-json c body json = none_in_json body json
+
+pub returns-clause-named : goal.returns-clause-named
+returns-clause-named c t o found body sound there named = finds_named t o found body sound there named

@@ -2,22 +2,23 @@ use Rattle.std.proofs.Common.{Option, subst, sym}
 use Rattle.std.specs.Str.{chars}
 use Rattle.ut_model.specs.Fields.{column, of_type}
 use Rattle.ut_model.specs.Given.{ReadOr}
-use Rattle.ut_given.specs.Given.{finds_none, key_of}
+use Rattle.ut_given.specs.Given.{key_of}
 use Rattle.ut_given.specs.inner.Read.{ReadsGiven}
-use Rattle.ut_given.proofs.Found.{first_passes}
+use Rattle.ut_given.proofs.Searching.{first_has}
 use Rattle.ut_given.proofs.Keys.{first_given, key_alone}
 use Rattle.ut_given.proofs.reading.value_to.Goals as goal
 
 pub returns-in-Some : goal.returns-in-Some
-returns-in-Some c types plain t at =
+returns-in-Some c types t at finds =
     let body = c.args.given.now.body.now in
     let name = chars c.args.name.now in
     let x = c.in-Some.assignment.now in
+    let has = first_has body name x c.in-Some.ensures in
     first_given t (key_of c.args.given.now) body (column name (of_type c.args.kind.now) at) x c.read_given.result c.in-Some.ensures
-    (c.read_given.ensures types (first_passes (λ y. finds_none y.given) body name x plain c.in-Some.ensures) t at)
+    (c.read_given.ensures types t at (finds x has.0 has.1))
 
 pub returns-in-None : goal.returns-in-None
-returns-in-None c types plain t at =
+returns-in-None c types t at finds =
     let body = c.args.given.now.body.now in
     let column = column (chars c.args.name.now) (of_type c.args.kind.now) at in
     subst (λ (g : Option ReadOr). ReadsGiven g c.key_to.result) (sym (key_alone t (key_of c.args.given.now) body column c.in-None.ensures))

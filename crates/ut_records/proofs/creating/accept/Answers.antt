@@ -13,18 +13,18 @@ use Rattle.ut_stands.specs.Local.{StandsIn}
 use Rattle.ut_value.specs.Id.{made}
 use Rattle.ut_records.specs.inner.Giving.{Alters}
 use Rattle.ut_records.proofs.Accepting.{admit_behind, object_layout, proposed_of}
-use Rattle.ut_records.proofs.GivenRules.{reads_there}
+use Rattle.ut_records.proofs.GivenRules.{finds_there, reads_there}
 use Rattle.ut_records.proofs.Judging.{admitted, passed, passed_calls, read_so, unadmitted, unproposed, unread}
 use Rattle.ut_records.proofs.creating.accept.Goals as goal
 
 pub returns-in_err-counts-clause-accepts : goal.returns-in_err-counts-clause-accepts
-returns-in_err-counts-clause-accepts g c told q a o s at f well =
+returns-in_err-counts-clause-accepts g c told q a o s at f well finds =
     let l = c.args.layout.now in
     let given = c.args.given.now in
     unread l.org a o (key_of given) given.body.now c.read_counts.result c.in_err-counts.field-0.0 c.from_residual.result (c.read_counts.ensures.reads told q a.tenant o s at) c.in_err-counts.was c.from_residual.ensures.1
 
 pub returns-in_err-new-clause-accepts : goal.returns-in_err-new-clause-accepts
-returns-in_err-new-clause-accepts g c told q a o s at f well =
+returns-in_err-new-clause-accepts g c told q a o s at f well finds =
     let l = c.args.layout.now in
     let given = c.args.given.now in
     let key = key_of given in
@@ -34,12 +34,12 @@ returns-in_err-new-clause-accepts g c told q a o s at f well =
     let now = f.now ∙ sym (to_z-of_z w64 c.args.now c.ranges.now) in
     let low : a.tenant.counter < 10 ^ 15 = omega (arith, s.sound.counter) in
     let proposes = proposed_of l.org q a o l key given.body.now c.proposed.result at.layout
-    (c.proposed.ensures.proposes a f.user now (ap (λ (r : OrgRow). r.counter) are.row) low (reads_there l.org q a o l (all_given given) at.layout well)) in
+    (c.proposed.ensures.proposes a f.user now (ap (λ (r : OrgRow). r.counter) are.row) low (reads_there l.org q a o l (all_given given) at.layout well) (finds_there l.org q a.tenant o l given at.layout finds)) in
     passed l.org a o key given.body.now e c.from_residual-in_err-new.result c.from_residual-in_err-new.ensures.1
     (unproposed l.org a o key given.body.now c.proposed.result e proposes c.in_err-new.was)
 
 pub returns-in_err-admit-clause-accepts : goal.returns-in_err-admit-clause-accepts
-returns-in_err-admit-clause-accepts g c told q a o s at f well =
+returns-in_err-admit-clause-accepts g c told q a o s at f well finds =
     let state = g.K.Keeper.state in
     let l = c.args.layout.now in
     let given = c.args.given.now in
@@ -51,7 +51,7 @@ returns-in_err-admit-clause-accepts g c told q a o s at f well =
     let now = f.now ∙ sym (to_z-of_z w64 c.args.now c.ranges.now) in
     let low : a.tenant.counter < 10 ^ 15 = omega (arith, s.sound.counter) in
     let proposes = proposed_of l.org q a o l key given.body.now c.proposed.result at.layout
-    (c.proposed.ensures.proposes a f.user now (ap (λ (r : OrgRow). r.counter) are.row) low (reads_there l.org q a o l (all_given given) at.layout well)) in
+    (c.proposed.ensures.proposes a f.user now (ap (λ (r : OrgRow). r.counter) are.row) low (reads_there l.org q a o l (all_given given) at.layout well) (finds_there l.org q a.tenant o l given at.layout finds)) in
     let so = subst (Alters a o.object key given.body.now (empty_record a o)) c.in_ok-new.was proposes in
     let stands = subst (λ (m : Tables). StandsIn l.org q m (Some a.tenant)) (sym tells.2) s in
     let its = object_layout l.org q a.tenant o l at in
@@ -68,7 +68,7 @@ returns-in_err-admit-clause-calls g c =
     (c.call_laws.ensures.then 0 168 (ended_edit {X = Unit {0}} (Err e)) c.args.draft.now c.read_counts.new.draft c.admit.new.draft c.in_ok-counts.ensures.calls c.in_err-admit.ensures.calls)
 
 pub returns-clause-accepts : goal.returns-clause-accepts
-returns-clause-accepts g c told q a o s at f well =
+returns-clause-accepts g c told q a o s at f well finds =
     let state = g.K.Keeper.state in
     let l = c.args.layout.now in
     let given = c.args.given.now in
@@ -80,7 +80,7 @@ returns-clause-accepts g c told q a o s at f well =
     let now = f.now ∙ sym (to_z-of_z w64 c.args.now c.ranges.now) in
     let low : a.tenant.counter < 10 ^ 15 = omega (arith, s.sound.counter) in
     let proposes = proposed_of l.org q a o l key given.body.now c.proposed.result at.layout
-    (c.proposed.ensures.proposes a f.user now (ap (λ (r : OrgRow). r.counter) are.row) low (reads_there l.org q a o l (all_given given) at.layout well)) in
+    (c.proposed.ensures.proposes a f.user now (ap (λ (r : OrgRow). r.counter) are.row) low (reads_there l.org q a o l (all_given given) at.layout well) (finds_there l.org q a.tenant o l given at.layout finds)) in
     let so = subst (Alters a o.object key given.body.now (empty_record a o)) c.in_ok-new.was proposes in
     let stands = subst (λ (m : Tables). StandsIn l.org q m (Some a.tenant)) (sym tells.2) s in
     let its = object_layout l.org q a.tenant o l at in

@@ -14,7 +14,7 @@ altered_record-requires-clause-values c =
     subst (λ (kinds : List FieldType). IsTrue (all_valid kinds c.in_ok-empty.empty.values)) (kinds_same c.args.layout.now) c.in_ok-empty.ensures.valid
 
 pub returns-clause-proposes : goal.returns-clause-proposes
-returns-clause-proposes c a user now id well =
+returns-clause-proposes c a user now id well finds =
     let at = now ∙ sym (to_z-of_z w64 c.args.now c.ranges.now) in
     let given = c.args.given.now in
-    subst (λ (old : Record). Alters a (object_of_layout c.args.layout.now) (key_of given) given.body.now old c.altered_record.result) (c.in_ok-empty.ensures.same a user at id) (c.altered_record.ensures.alters a at well)
+    subst (λ (old : Record). Alters a (object_of_layout c.args.layout.now) (key_of given) given.body.now old c.altered_record.result) (c.in_ok-empty.ensures.same a user at id) (c.altered_record.ensures.alters a at well finds)

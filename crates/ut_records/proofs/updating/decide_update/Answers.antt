@@ -28,11 +28,11 @@ returns-clause-what g c told =
     let laws : UpdateLaws = record { takes = c.update_laws.ensures.takes; rows = c.pivot_laws.ensures.turned; printable = c.value_laws.ensures.printable } in
     record {
       own = decided_in l.org (altered_changes l k x) c.decided_update.result c.decided_update.ensures.made (on_ok (HaveKeys (altered_changes l k x)) _ c.decided_update.result c.decided_update.ensures.keys (λ keys. altered_in l k x keys));
-      decided = λ q a o id s at kept who now well leaves.
+      decided = λ q a o id s at kept who now well finds leaves.
           decided_to l.org (altered_changes l k x) (λ (u : Unit {0}). answered_changed key k.item.id) q a.tenant (update_on a o key body k.item) PlansSame tt c.decided_update.result (answers c.decided_update.result) c.decided_update.ensures.made c.decided_update.ensures.cause
           (on_ok (HaveKeys (altered_changes l k x)) _ c.decided_update.result c.decided_update.ensures.keys (λ keys.
           update_taken laws q a o l key body s.sound at id k kept x
-          (subst (Updates l.org a o key body k.item) c.in_ok-altered.was (c.accept_update.ensures.accepts told q a o id s at kept who (now ∙ sym (to_z-of_z w64 c.args.now c.ranges.now)) well))
+          (subst (Updates l.org a o key body k.item) c.in_ok-altered.was (c.accept_update.ensures.accepts told q a o id s at kept who (now ∙ sym (to_z-of_z w64 c.args.now c.ranges.now)) well finds))
           c.in_ok-altered.ensures.form.values s.plan leaves keys));
     }
 
@@ -49,7 +49,7 @@ returns-in_err-altered-clause-what g c told =
     let e = c.in_err-altered.field-0.0 in
     record {
       own = failed_in l.org e c.from_residual.result c.from_residual.ensures.1;
-      decided = λ q a o id s at kept who now well leaves.
+      decided = λ q a o id s at kept who now well finds leaves.
           failed_to l.org e (λ (u : Unit {0}). answered_changed key k.item.id) q a.tenant (update_on a o key body k.item) PlansSame c.from_residual.result c.from_residual.ensures.1
-          (subst (Updates l.org a o key body k.item) c.in_err-altered.was (c.accept_update.ensures.accepts told q a o id s at kept who (now ∙ sym (to_z-of_z w64 c.args.now c.ranges.now)) well));
+          (subst (Updates l.org a o key body k.item) c.in_err-altered.was (c.accept_update.ensures.accepts told q a o id s at kept who (now ∙ sym (to_z-of_z w64 c.args.now c.ranges.now)) well finds));
     }

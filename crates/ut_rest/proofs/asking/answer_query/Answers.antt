@@ -13,7 +13,7 @@ use Rattle.ut_keeper.specs.State.{data_table}
 use Rattle.ut_stands.specs.Calls.{Calls, ended}
 use Rattle.ut_step.specs.Shown.{further_to, shown_beside}
 use Rattle.ut_rest.specs.inner.Answers.{AnswersBy}
-use Rattle.ut_rest.proofs.Named.{refused_so}
+use Rattle.ut_rest.proofs.Refusing.{answers_by, refused_so}
 use Rattle.ut_rest.proofs.asking.answer_query.Goals as goal
 
 pub returns-in-Ok-clause-what : goal.returns-in-Ok-clause-what
@@ -21,7 +21,8 @@ returns-in-Ok-clause-what g c told p a s asking =
     let small : FitsSigned w64 c.moment.result = search rules in
     let now : to_z w64 (of_z w64 c.moment.result) ≡ pos c.args.now = to_z-of_z w64 c.moment.result small ∙ c.moment.ensures in
     subst (λ (q : Result Query ℕ). AnswersBy a (verdict_or a (query_or q)) c.answer_named.result)
-    (sym (subst (λ (r : Result Query ParseFail). UnlessMemory r (λ read. reads_query (query_text c.args.pairs.now) ≡ read)) c.in-Ok.is c.query_in.ensures)) (c.answer_named.ensures.what told p a s (record { user = asking.user; admin = asking.admin; now = asking.now ∙ sym now }))
+    (sym (subst (λ (r : Result Query ParseFail). UnlessMemory r (λ read. reads_query (query_text c.args.pairs.now) ≡ read)) c.in-Ok.is c.query_in.ensures))
+    (answers_by a c.in-Ok.query c.answer_named.result (c.answer_named.ensures.what told p a s (record { user = asking.user; admin = asking.admin; now = asking.now ∙ sym now })))
 
 pub returns-in-Err-Malformed-clause-what : goal.returns-in-Err-Malformed-clause-what
 returns-in-Err-Malformed-clause-what g c told p a s asking =

@@ -10,7 +10,7 @@ use Rattle.ut_model.specs.Verdict.{Verdict}
 use Rattle.ut_step.specs.Own.{IsAsking}
 use Rattle.ut_step.specs.Shown.{further_shown, shown_beside}
 use Rattle.ut_rest.specs.inner.Answers.{AnswersBy}
-use Rattle.ut_rest.proofs.Named.{refused_so}
+use Rattle.ut_rest.proofs.Refusing.{refused_so}
 use Rattle.ut_rest.proofs.Responses.{drafts_of, form_of, read_responds, refused_calls}
 use Rattle.ut_rest.proofs.Verdicts.{administered_drafts, administered_form, administrator_lacks, edit_asked, edited, state_asked}
 use Rattle.ut_rest.proofs.requests.answer.Goals as goal

@@ -11,7 +11,7 @@ use Rattle.ut_model.specs.Routing.{routed}
 use Rattle.ut_step.specs.Own.{IsAsking, request_changes, request_gone}
 use Rattle.ut_step.specs.Shown.{further_shown, shown_beside}
 use Rattle.ut_rest.specs.Forms.{IsRequestReply}
-use Rattle.ut_rest.proofs.Named.{refused_so}
+use Rattle.ut_rest.proofs.Refusing.{refused_so}
 use Rattle.ut_rest.proofs.Responses.{drafts_of, form_of, read_responds, refused_calls}
 use Rattle.ut_rest.proofs.requests.respond.Goals as goal
 

@@ -1,6 +1,17 @@
 use Rattle.std.proofs.Common.{◌≡◌, ◌∙◌, None, Some, refl, rules, subst, sym, w64, ℕ}
 use Rattle.std.proofs.lemmas.Int.{to_z-of_z}
-use Rattle.std.specs.Prelude.{FitsSigned}
+use Rattle.std.specs.Prelude.{FitsSigned, List, Option, Result, ℤ}
+use Rattle.ut_edits.specs.declared.decided.Decided.{Decided}
+use Rattle.ut_given.specs.Given.{FindNone, Finds, FindsAll, key_of}
+use Rattle.ut_given.specs.declared.found.Found.{Found}
+use Rattle.ut_given.specs.declared.key.AllGiven.{AllGiven}
+use Rattle.ut_model.specs.Keys.{Key}
+use Rattle.ut_model.specs.Tenant.{Object, Tenant}
+use Rattle.ut_model.specs.declared.record_bodies.Assignment.{Assignment}
+use Rattle.ut_named.specs.declared.kept.KeptRecord.{KeptRecord}
+use Rattle.ut_rights.specs.Rights.{Whose}
+use Rattle.ut_stands.specs.declared.fail.EditFail.{EditFail}
+use Rattle.ut_stands.specs.declared.layout.Layout.{Layout}
 use Rattle.ut_edits.proofs.Judged.{passed_on}
 use Rattle.ut_edits.specs.Edits.{ChangesIn}
 use Rattle.ut_keeper.specs.Draft.{tables_of}
@@ -16,14 +27,21 @@ use Rattle.ut_stands.specs.Calls.{ended_edit}
 use Rattle.ut_stands.specs.Local.{StandsIn}
 use Rattle.ut_value.specs.declared.sharing.Level.TheVariants.{Edit}
 use Rattle.ut_records.specs.Creating.{IsGiving}
-use Rattle.ut_records.specs.Updating.{PlansSame}
+use Rattle.ut_records.specs.Updating.{DecidesChanged, PlansSame}
 use Rattle.ut_records.proofs.Accepting.{object_at}
 use Rattle.ut_records.proofs.Creates.{decides_same}
 use Rattle.ut_records.proofs.GivenRules.{is_plain}
 use Rattle.ut_records.proofs.updating.UpdateEdit.judge.Goals as goal
 
+-- where nothing finds a record, what is told is as it is to be
+known_all : {l : Layout} {whose : Whose} {now : ℤ} {x : AllGiven} {kept : KeptRecord} {m : Tables} {result : Result (Decided (Unit {0})) EditFail}
+    → DecidesChanged l whose now x kept m result
+    → ((t : Tenant) (o : Object) (key : Option Key) (found : List Found) (body : List Assignment) → FindNone body → Finds t o key found body)
+    → FindNone x.body.now → (t : Tenant) (o : Object) → FindsAll t o x
+known_all {x = x} decides law none t o = law t o (key_of x) x.found.now x.body.now none
+
 pub decide_update-requires-clause-plain : goal.decide_update-requires-clause-plain
-decide_update-requires-clause-plain g c = is_plain _ refl c.args.self.now.in_json
+decide_update-requires-clause-plain g c = is_plain _ refl
 
 pub returns-clause-what : goal.returns-clause-what
 returns-clause-what g c told =
@@ -50,6 +68,7 @@ returns-clause-what g c told =
           let stands = subst (λ (n : ℕ). StandsIn n q (tables_of state b) (Some a.tenant)) (sym own) (subst (λ (m : Tables). StandsIn org q m (Some a.tenant)) (sym tells.2) s) in
           decides_same (λ (u : Unit {0}). done) org l.org q a.tenant (update_on a o None given x.kept.item) (update a name key given) PlansSame c.decide_update.result own same
           (decides.decided q a o is.id stands at is.kept f.asker.rights (f.asker.now ∙ sym (to_z-of_z w64 e.now small)) (f.reads o.number o.object at.there)
+          (known_all decides c.given_laws.ensures.finds (c.given_laws.ensures.json given e.in_json) a.tenant o.object)
           (subst (λ (v : Verdict). IsSound v.tenant) same (c.records_sound.ensures.update a name key given f.caller f.reads s.sound)));
     }
 

@@ -6,9 +6,8 @@ use Rattle.ut_keeper.specs.Draft.{tables_of}
 use Rattle.ut_model.specs.Paths.{Asked}
 use Rattle.ut_model.specs.Upserts.{upsert}
 use Rattle.ut_records.specs.Creating.{IsGiving}
-use Rattle.ut_sound.specs.Fit.{ReadsWellByKey}
 use Rattle.ut_upserts.proofs.Judging.{KeyLaws, no_key, upserts}
-use Rattle.ut_upserts.specs.Upserting.{PlansEither}
+use Rattle.ut_upserts.specs.Upserting.{PlansEither, ReadsFoundByKey}
 use Rattle.ut_upserts.specs.inner.Deciding.{DecidesByKey, answered_upsert}
 use Rattle.ut_upserts.specs.inner.Finding.{FindsKey, IsKey}
 use Rattle.ut_upserts.proofs.upserting.UpsertEdit.judge.Goals as goal
@@ -21,7 +20,7 @@ returns-in_err-key-clause-what g c told =
     let x = c.in_err-key.field-0.0 in
     let laws : KeyLaws = record { unique = c.given_laws.ensures.unique_named; declared = c.given_laws.ensures.declared_name } in
     let finds = subst (λ (text : Option (List _)). FindsKey l e.key.now text (Err x)) c.as_ref.ensures.value c.in_err-key.ensures.finds in
-    passed_on {answered = answered_upsert} org (λ (a : Asked). upsert a e.object.now e.key.now e.text e.given.now) PlansEither (IsGiving (g.R.Rights.whose e.rights.now) e.user e.now (λ b o. ReadsWellByKey b e.key.now e.text o e.given.now))
+    passed_on {answered = answered_upsert} org (λ (a : Asked). upsert a e.object.now e.key.now e.text e.given.now) PlansEither (IsGiving (g.R.Rights.whose e.rights.now) e.user e.now (ReadsFoundByKey e.object.now e.key.now e.text e.found.now e.given.now))
     (tables_of g.K.Keeper.state c.args.draft.now) x c.from_residual-in_err-key.result c.from_residual-in_err-key.ensures.1
     (λ q a s f. no_key org q a e.object.now e.key.now e.text e.given.now laws l (c.in_ok-layout.ensures.names told q a.tenant s) (Err x) x finds refl)
 
@@ -40,4 +39,4 @@ returns-clause-what g c told =
     let is = subst (λ (text : Option (List _)). IsKey l e.key.now text k) c.as_ref.ensures.value c.in_ok-key.ensures.finds in
     upserts laws c.records_sound.ensures.upsert c.object_laws.ensures.named (g.R.Rights.whose e.rights.now) org e (tables_of state a) (tables_of state b) l k c.in_ok-layout.ensures.form.own tells.2
     (c.in_ok-layout.ensures.names tells.0) is c.decide_by_key.result
-    (subst (λ (z : ℤ). DecidesByKey l (g.R.Rights.whose e.rights.now) e.user z e.given.now k (tables_of state b) c.decide_by_key.result) (to_z-of_z w64 e.now small) (c.decide_by_key.ensures.what tells.1))
+    (subst (λ (z : ℤ). DecidesByKey l (g.R.Rights.whose e.rights.now) e.user z e.given.now e.found.now k (tables_of state b) c.decide_by_key.result) (to_z-of_z w64 e.now small) (c.decide_by_key.ensures.what tells.1))

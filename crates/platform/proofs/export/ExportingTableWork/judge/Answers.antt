@@ -1,0 +1,25 @@
+use Rattle.ut_keeper.specs.Draft.{tables_of}
+use Rattle.platform.proofs.OfExport.{paged_cause, paged_change, paged_judged, paged_stays}
+use Rattle.platform.proofs.export.ExportingTableWork.judge.Goals as goal
+
+pub returns-clause-judged : goal.returns-clause-judged
+returns-clause-judged g c told w s counted =
+    let it = c.args.self.now in
+    paged_judged it.org.now it.user.now it.secret.now it.query.now it.now w (tables_of g.K.Keeper.state c.answer_asked-judged.new.draft) c.answer_asked-judged.result c.page_judged.result c.page_judged.ensures
+    (c.answer_asked-judged.ensures.what told w s)
+
+pub returns-clause-change : goal.returns-clause-change
+returns-clause-change g c change = c.answer_asked-judged.ensures.drafts.changing (paged_change c.answer_asked-judged.result c.page_judged.result c.page_judged.ensures change)
+
+pub returns-clause-works : goal.returns-clause-works
+returns-clause-works g c = c.answer_asked-judged.ensures.drafts.makes.works
+
+pub returns-clause-stays : goal.returns-clause-stays
+returns-clause-stays g c =
+    let state = g.K.Keeper.state in
+    paged_stays (state c.args.draft.now.keeper.now) (state c.answer_asked-judged.new.draft.keeper.now) c.answer_asked-judged.result c.page_judged.result c.page_judged.ensures c.answer_asked-judged.ensures.drafts.makes.stays
+
+pub returns-clause-cause : goal.returns-clause-cause
+returns-clause-cause g c =
+    let state = g.K.Keeper.state in
+    paged_cause (state c.args.draft.now.keeper.now) (state c.answer_asked-judged.new.draft.keeper.now) c.answer_asked-judged.result c.page_judged.result c.page_judged.ensures c.answer_asked-judged.ensures.drafts.makes.cause

@@ -1,0 +1,82 @@
+//! The command `export`.
+
+ghost use Rattle.std.specs.Prelude.{◌≡◌, IfOk, IsTrue, false, pos};
+ghost use Rattle.platform.specs.Export.{IsPaged, export_does, lines_page};
+ghost use Rattle.ut_asking.specs.Judging.{changes_behind, shown_behind};
+ghost use Rattle.ut_exports.specs.Exports.{export_shown};
+ghost use Rattle.ut_value.specs.Dates.{is_moment};
+
+use crate::page::{Page, page_of_refusal};
+use crate::tables::TableWork;
+use std::alloc::{AllocError, Global};
+use ut_asking::answer_asked;
+use ut_exports::Export;
+use ut_keeper::{Draft, Keeper};
+use ut_keys::StoreFail;
+use ut_model::Refusal;
+use ut_stands::Judged;
+use ut_value::Bytes;
+
+/// The export of a query, asked at this moment by the user with this id, if the secret is the user's.
+#[derive(Drop)]
+pub(crate) struct Exporting<'a> {
+    pub(crate) org: &'a str,
+    pub(crate) user: &'a str,
+    pub(crate) secret: &'a str,
+    pub(crate) query: &'a str,
+    pub(crate) now: u64,
+    pub(crate) ghost calendar: { IsTrue (is_moment (pos now)) },
+}
+
+// The page of lines, or of a refusal.
+fn lines_page(alloc: Global, answer: Result<Bytes, Refusal>) -> Result<Page, AllocError>
+    ensures { IfOk result (λ p. p ≡ lines_page answer) }
+{
+    match answer {
+        Ok(text) => Ok(Page::done(text.into_vec())),
+        Err(refusal) => page_of_refusal(alloc, &refusal),
+    }
+}
+
+// The page of what is judged.
+fn page_judged(
+    alloc: Global,
+    judged: Result<Judged<Result<Bytes, Refusal>>, StoreFail>,
+) -> Result<Judged<Page>, StoreFail>
+    ensures { IsPaged judged result }
+{
+    match judged {
+        Ok(Judged::Same(answer)) => Ok(Judged::Same(lines_page(alloc, answer)?)),
+        Ok(Judged::Changed(answer)) => Ok(Judged::Changed(lines_page(alloc, answer)?)),
+        Err(fail) => Err(fail),
+    }
+}
+
+impl TableWork for Exporting<'_> {
+    ghost does = { λ x w. export_does x.org.now x.user.now x.secret.now x.query.now x.now w };
+
+    ghost keeps = { false };
+
+    ghost most = { changes_behind 0 };
+
+    ghost shown = { λ x removed. shown_behind (export_shown x.query.now) removed };
+
+    fn judge<K: Keeper>(
+        &self,
+        alloc: Global,
+        draft: &mut Draft<'_, K>,
+        _organisations: u32,
+    ) -> Result<Judged<Page>, StoreFail> {
+        let asked = Export { query: self.query };
+        let judged = answer_asked(
+            alloc,
+            draft,
+            &asked,
+            self.org,
+            self.user,
+            self.secret,
+            self.now,
+        );
+        page_judged(alloc, judged)
+    }
+}

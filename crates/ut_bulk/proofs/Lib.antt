@@ -1,0 +1,5 @@
+mod Computing
+mod Giving
+mod Naming
+mod Places
+mod Planning

@@ -1,0 +1,39 @@
+//! Lines of cells.
+
+ghost use Rattle.std.specs.Prelude.{◌≡◌, IfOk, map};
+ghost use Rattle.std.specs.Str.{encode_utf8_all};
+ghost use Rattle.ut_lines.specs.Lines.{line};
+
+use csv::WriterBuilder;
+use std::alloc::{AllocError, Global};
+use ut_value::Text;
+
+// The cells in UTF-8.
+fn cells_of<'a>(alloc: Global, cells: &'a [Text]) -> Result<Vec<&'a [u8]>, AllocError>
+    ensures { IfOk result (λ fields. map (λ f. f.now) fields.items ≡ map encode_utf8_all cells.now) }
+{
+    let mut fields = Vec::new(alloc);
+    for cell in cells {
+        fields.push(cell.as_str().as_bytes())?;
+    }
+    Ok(fields)
+}
+
+/// The line of these cells.
+///
+/// # Errors
+///
+/// If out of memory.
+pub fn line_of(alloc: Global, cells: &[Text]) -> Result<Vec<u8>, AllocError>
+    ensures { IfOk result (λ text. text.items ≡ line cells.now) }
+{
+    let fields = cells_of(alloc, cells)?;
+    let mut writer = WriterBuilder::new().from_writer(Vec::new(alloc));
+    if writer.write_fields(fields.as_slice()).is_err() {
+        return Err(AllocError);
+    }
+    match writer.into_inner() {
+        Ok(text) => Ok(text),
+        Err(_) => Err(AllocError),
+    }
+}

@@ -1,0 +1,9 @@
+mod Lists
+mod Reading
+mod Naming
+mod Knowing
+mod Adding
+mod Searched
+mod Editing
+mod Requested
+mod Telling

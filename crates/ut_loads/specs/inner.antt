@@ -1,0 +1,5 @@
+-- Words of private functions.
+pub mod Edits
+pub mod Finding
+pub mod Parents
+pub mod Told

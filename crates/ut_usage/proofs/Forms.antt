@@ -1,12 +1,13 @@
 -- A name that no form has is no command's.
-use Rattle.std.proofs.Common.{◌≡◌, ◌≢◌, ◌<◌, ◌+◌, ℕ, suc, Bool, true, false, List, [], ◌∷◌, length, take, get_or, refl, sym, subst, arith}
+use Rattle.std.proofs.Common.{◌≡◌, ◌≢◌, ◌<◌, ◌≤◌, ◌+◌, ℕ, suc, Bool, true, false, List, [], ◌∷◌, drop, length, map, take, get_or, refl, sym, subst, arith}
 use Rattle.std.specs.List.{All}
 use Rattle.std.proofs.lemmas.List.Elements.{All-append, All-cons, All-nil}
 use Rattle.std.proofs.Math.Seq.{take-suc}
 use Rattle.std.specs.Prelude.{if◌then◌else◌, None, codes}
 use Rattle.std.specs.Str.{bytes_eq}
 use Rattle.std.proofs.lemmas.Slice.Eq.{bytes_eq-Decides}
-use Rattle.platform.specs.Commands.{answer_of, csvq_of, export_of, org_add_of, serve_of}
+use Rattle.platform.specs.Commands.{answer_of, command_of, csvq_of, export_of, org_add_of, serve_of}
+use Rattle.ut_usage.specs.Lines.{IsCommandLine, IsPort}
 use Rattle.ut_usage.specs.inner.Forms.{IsUnknown}
 
 -- a fact about one element more
@@ -27,3 +28,12 @@ unknown_by_names name csvq org_add export answer serve others =
     by false false false true u e f i g h = absurd (answer (sym ((bytes_eq-Decides name (codes "answer")).0 g)))
     by false false false false true e f i g h = absurd (serve (sym ((bytes_eq-Decides name (codes "serve")).0 h)))
     by false false false false false e f i g h = refl
+
+pub false_isnt_true : false ≡ true → ⊥
+false_isnt_true e = absurd cc
+
+-- words of which the second is a port, and those behind it a command
+pub line_of_words : {X : Type 0} (f : X → List ℕ) (words : List X) (second : X) → 2 ≤ length words → second ≡ get_or words 1 second → IsPort (f second) → (command_of (map f (drop 2 words)) ≡ None → ⊥) → IsCommandLine (map f words)
+line_of_words f [] second two at port command = absurd (omega (arith, two))
+line_of_words f (x ∷ []) second two at port command = absurd (omega (arith, two))
+line_of_words {X} f (x ∷ y ∷ others) second two at port command = (subst (λ (z : X). IsPort (f z)) at port, command)

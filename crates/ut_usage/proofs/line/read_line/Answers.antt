@@ -1,0 +1,12 @@
+use Rattle.std.proofs.Common.{◌≤◌, arith, length, sym, subst, refl}
+use Rattle.std.specs.Prelude.{string_bytes}
+use Rattle.ut_usage.specs.Lines.{IsPort}
+use Rattle.ut_usage.proofs.Forms.{false_isnt_true, line_of_words}
+use Rattle.ut_usage.proofs.line.read_line.Goals as goal
+
+pub returns-in-None-clause-refused : goal.returns-in-None-clause-refused
+returns-in-None-clause-refused c =
+    let least = c.in-len2-up.len_at_least in
+    let port : IsPort (string_bytes c.port-item.result) = subst IsPort c.as_str.ensures.value (c.in-Some.ensures.port.0 refl) in
+    let line = line_of_words string_bytes c.args.words.now c.port-item.result (omega (arith, least)) c.port-item.is port (λ none. false_isnt_true (c.in-None.ensures.1 none)) in
+    ((λ wrong right. false_isnt_true wrong), (λ none. absurd (none line)))

@@ -1,8 +1,8 @@
 -- A name that no form has is no command's.
-use Rattle.std.proofs.Common.{◌≡◌, ◌≢◌, ◌<◌, ◌≤◌, ◌+◌, ℕ, suc, Bool, true, false, List, [], ◌∷◌, drop, length, map, take, get_or, refl, sym, subst, arith}
+use Rattle.std.proofs.Common.{◌≡◌, ◌≢◌, ◌<◌, ◌≤◌, ◌+◌, ◌-◌, ℕ, suc, Bool, true, false, List, [], ◌∷◌, drop, length, map, take, get_or, refl, sym, ap, subst, ◌∙◌, arith}
 use Rattle.std.specs.List.{All}
 use Rattle.std.proofs.lemmas.List.Elements.{All-append, All-cons, All-nil}
-use Rattle.std.proofs.Math.Seq.{take-suc}
+use Rattle.std.proofs.Math.Seq.{take-length, take-suc}
 use Rattle.std.specs.Prelude.{if◌then◌else◌, None, codes}
 use Rattle.std.specs.Str.{bytes_eq}
 use Rattle.std.proofs.lemmas.Slice.Eq.{bytes_eq-Decides}
@@ -33,7 +33,12 @@ pub false_isnt_true : false ≡ true → ⊥
 false_isnt_true e = absurd cc
 
 -- words of which the second is a port, and those behind it a command
-pub line_of_words : {X : Type 0} (f : X → List ℕ) (words : List X) (second : X) → 2 ≤ length words → second ≡ get_or words 1 second → IsPort (f second) → (command_of (map f (drop 2 words)) ≡ None → ⊥) → IsCommandLine (map f words)
+pub line_of_words : {X : Type 0} (f : X → List ℕ) (words : List X) (second : X) → 2 ≤ length words → second ≡ get_or words 1 second → IsPort (f second) → (command_of (map f (take (length words - 2) (drop 2 words))) ≡ None → ⊥)
+    → IsCommandLine (map f words)
 line_of_words f [] second two at port command = absurd (omega (arith, two))
 line_of_words f (x ∷ []) second two at port command = absurd (omega (arith, two))
-line_of_words {X} f (x ∷ y ∷ others) second two at port command = (subst (λ (z : X). IsPort (f z)) at port, command)
+line_of_words {X} f (x ∷ y ∷ others) second two at port command =
+    let few : length (x ∷ y ∷ others) - 2 ≡ length others = omega arith in (
+      subst (λ (z : X). IsPort (f z)) at port,
+      λ none. command (ap (λ (ys : List X). command_of (map f ys)) (ap (λ (n : ℕ). take n others) few ∙ take-length others) ∙ none),
+    )

@@ -17,7 +17,7 @@ use Rattle.ut_exec.specs.Ranks.{GathersRows, by_rank}
 use Rattle.ut_exec.specs.inner.Gathering.{CutsRows}
 use Rattle.ut_exec.proofs.Paging.{by_id_total}
 use Rattle.ut_exec.proofs.Sorting.{gathered_apart, gathers_first, gathers_more, gathers_nothing}
-use Rattle.ut_exec.proofs.Unique.{NoTies, all_has, has_all, has_in_order, in_order_has, in_order_strict, strict_unique, turned}
+use Rattle.ut_model.proofs.Sorted.{NoTies, all_has, has_all, has_in_order, in_order_has, in_order_strict, strict_unique, turned}
 
 -- ---- what is in two lists, one behind the other
 

@@ -1,6 +1,5 @@
 pub mod Offering
 pub mod Paging
-pub mod Unique
 pub mod Cutting
 pub mod Sorting
 pub mod Seeing

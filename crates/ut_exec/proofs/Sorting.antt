@@ -12,7 +12,7 @@ use Rattle.ut_model.specs.Ordered.{by_id, in_order, put_in}
 use Rattle.ut_exec.specs.declared.ranked.Ranked.{Ranked}
 use Rattle.ut_exec.specs.Ranks.{EachOf, GathersRows, Ranking, SortsRanked, by_rank, ranked_cmp}
 use Rattle.ut_exec.proofs.Paging.{Ascends}
-use Rattle.ut_exec.proofs.Unique.{NoTies, all_has, has_all}
+use Rattle.ut_model.proofs.Sorted.{NoTies, all_has, has_all}
 
 -- ---- order through a function
 

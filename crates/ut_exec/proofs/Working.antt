@@ -50,7 +50,7 @@ use Rattle.ut_exec.proofs.Paging.{Ascends, beyond_none, by_id_total}
 use Rattle.ut_exec.proofs.Passing.{CallsThen, ReadsMost, TellsBoth, shows_more}
 use Rattle.ut_exec.proofs.Permitting.{page_has, picked_both, picked_has, readable_is, readable_rises}
 use Rattle.ut_exec.proofs.Sorting.{gathered_each, ids_apart, sorted_records}
-use Rattle.ut_exec.proofs.Unique.{NoTies, in_order_has}
+use Rattle.ut_model.proofs.Sorted.{NoTies, in_order_has}
 
 -- of these records so many were read, of those of them that are picked something holds, and there are pages enough for the others
 pub record Reached (pick : List Record → List Record) (rs : List Record) (pages : Pages) (count : ℕ) (Q : List Record → Type 0) : Type 0 where

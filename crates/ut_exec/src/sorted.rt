@@ -91,8 +91,8 @@ pub fn put_in_order<R: Ord, X>(gathered: &mut Vec<Ranked<R, X>>)
 }
 
 /// Appends the rows of an object's records that may be read and are kept, in the order of their ranks and then of their ids, as far as
-/// the window takes them, and returns how many they are. It has all these rows in memory, or with LIMIT a
-/// page more than twice as many as OFFSET and LIMIT together, or two pages.
+/// the window takes them, and returns how many they are. It has all these rows in memory, or with LIMIT
+/// 251 more than twice as many as OFFSET and LIMIT together, or two pages of 250.
 ///
 /// # Errors
 ///

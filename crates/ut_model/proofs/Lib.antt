@@ -5,7 +5,7 @@ pub mod Called
 mod Stepped
 mod Least
 mod Agree
-mod Sorted
+pub mod Sorted
 mod Before
 mod Computing
 mod Within

@@ -137,7 +137,7 @@ module _ {X : Type 0} (cmp : X → X → Ordering) (o : IsTotalOrder cmp) where
       all_has (λ y. eq_by_cmp cmp x y ≡ false) xs apart.0 z (in_order_has xs z h)))
       (in_order_strict xs apart.1)
 
-  turned : (x y : X) → eq_by_cmp cmp x y ≡ eq_by_cmp cmp y x
+  pub turned : (x y : X) → eq_by_cmp cmp x y ≡ eq_by_cmp cmp y x
   turned x y = by (cmp x y) (cmp y x) (o.antisymm x y)
     where
       by : (r q : Ordering) → r ≡ ordering_reverse q → is_eq r ≡ is_eq q

@@ -1,4 +1,4 @@
-use Rattle.ut_exec.proofs.Unique.{sort_is}
+use Rattle.ut_model.proofs.Sorted.{sort_is}
 use Rattle.ut_exec.specs.Ranks.{ranked_cmp, ranked_total}
 use Rattle.ut_exec.proofs.sorted.put_in_order.Goals as goal
 

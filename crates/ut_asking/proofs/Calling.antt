@@ -31,14 +31,14 @@ pub record WorldLaws : Type 0 where
       → StandsBy (with_plan n q p) after (with_tenant w n u)
   pub same : (w : World) (n : ℕ) (t : Tenant) → tenant_at w n ≡ Some t → with_tenant w n t ≡ w
 
-lower : {a b : ℕ} → nat_lt a b ≡ true → a < b
+pub lower : {a b : ℕ} → nat_lt a b ≡ true → a < b
 lower h = grind (arith, nat_tests)
 
-upper : {a b : ℕ} → nat_lt a b ≡ false → b ≤ a
+pub upper : {a b : ℕ} → nat_lt a b ≡ false → b ≤ a
 upper h = grind (arith, nat_tests)
 
 -- no organisation has such a number
-beyond : (w : World) (n : ℕ) → length w < n → tenant_at w n ≡ None
+pub beyond : (w : World) (n : ℕ) → length w < n → tenant_at w n ≡ None
 beyond w zero h = refl
 beyond [] (suc n) h = refl
 beyond (x ∷ w) (suc zero) h = absurd (omega arith)

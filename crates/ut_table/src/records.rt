@@ -59,6 +59,13 @@ impl<'a> Records<'a> {
         }
     }
 
+    /// How many records were read.
+    pub fn read(&self) -> usize
+        ensures { result ≡ self.now.read }
+    {
+        self.read
+    }
+
     /// The next record, the heading first; none where all are read.
     ///
     /// # Errors

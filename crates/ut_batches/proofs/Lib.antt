@@ -1,0 +1,6 @@
+mod CellByCell
+mod Owned
+mod Planning
+pub mod Reading
+mod Joining
+mod Drafting

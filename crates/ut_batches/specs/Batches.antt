@@ -1,0 +1,73 @@
+-- The rows of a text that is loaded: each is asked as a request of its own, at its own moment, by who is named. They are done in batches.
+-- Sources: as the verdicts of `ut_model` and the lines of `ut_bulk` have them. That rows go in batches is this product's own.
+use Rattle.std.specs.Prelude.{◌≡◌, ℕ, ◌+◌, List, [], ◌∷◌, ◌++◌, length, map, Option, IfSome}
+use Rattle.ut_asking.specs.Asking.{Doing, world_does}
+use Rattle.ut_asking.specs.Judging.{changes_behind, shown_behind}
+use Rattle.ut_bulk.specs.Rows.{refused_line, row_line, row_request}
+use Rattle.ut_bulk.specs.declared.plan.LoadPlan.{LoadPlan}
+use Rattle.ut_io.specs.Moments.{after_asking}
+use Rattle.ut_loads.specs.Loads.{load_shown, row_changes}
+use Rattle.ut_model.specs.declared.refusal.Refusal.TheVariants.{InvalidSession}
+use Rattle.ut_model.specs.Callers.{Named}
+use Rattle.ut_model.specs.Requests.{verdict_on}
+use Rattle.ut_model.specs.World.{World}
+use Rattle.ut_batches.specs.Inputs.{Cells}
+
+-- ---- rows and moments
+
+-- a row that is asked: its number, its cells and the moment
+pub record AskedRow : Type 0 where
+  pub number : ℕ
+  pub cells : Cells
+  pub moment : ℕ
+
+-- the moment that comes first; a clock always tells one
+abbrev pub first_moment : (moments : List ℕ) → ℕ
+first_moment [] = 0
+first_moment (moment ∷ moments) = moment
+
+-- rows from this number on, each at the moment that a clock with these then tells
+unfoldable pub asked_rows : (number : ℕ) → List Cells → (moments : List ℕ) → List AskedRow
+asked_rows n [] moments = []
+asked_rows n (cells ∷ rows) moments =
+    record { number = n; cells = cells; moment = first_moment moments } ∷ asked_rows (n + 1) rows (after_asking moments)
+
+-- these are the bytes or moments that are told; where none are told they may be any
+abbrev pub MayTell : Option (List ℕ) → (values : List ℕ) → Type 0
+MayTell told values = IfSome told (λ known. values ≡ known)
+
+-- the rows were asked in turn while the clock went on: whatever it then tells, they are the first of the rows from this number on
+abbrev pub AskedInTurn : (old new : Option (List ℕ)) → (number : ℕ) → List AskedRow → Type 0
+AskedInTurn old new n rows =
+    (later : List ℕ) → MayTell new later
+    → (moments : List ℕ) × MayTell old moments
+    × ((rest : List Cells) → asked_rows n (map (λ r. r.cells) rows ++ rest) moments ≡ rows ++ asked_rows (n + length rows) rest later)
+
+-- ---- what rows come to
+
+-- a row, of one who asks: its line, and what becomes of the organisation
+abbrev pub row_asked : LoadPlan → (number : ℕ) → Cells → Doing (List ℕ)
+row_asked p number cells a = let v = verdict_on a (row_request p cells) in (row_line number v.answer, v.tenant)
+
+-- a row in the world, of who is named
+abbrev pub row_loaded : Option Named → LoadPlan → AskedRow → World → List ℕ × World
+row_loaded named p r w = world_does (row_asked p r.number r.cells) (refused_line r.number InvalidSession) r.moment named w
+
+-- rows in turn: their lines, and the world behind them
+unfoldable pub rows_loaded : Option Named → LoadPlan → List AskedRow → World → List ℕ × World
+rows_loaded named p [] w = ([], w)
+rows_loaded named p (r ∷ rows) w = let x = row_loaded named p r w in let y = rows_loaded named p rows x.1 in (x.0 ++ y.0, y.1)
+
+-- the most rows of a batch
+abbrev pub batch_rows : ℕ
+batch_rows = 100
+
+-- ---- how much is done for a row
+
+-- the most rows of tables that it changes, with those of a step
+abbrev pub changes_of_row : ℕ
+changes_of_row = changes_behind row_changes
+
+-- the most data rows that are shown to it
+abbrev pub shown_of_row : (removed : ℕ) → ℕ
+shown_of_row removed = shown_behind load_shown removed

@@ -1,0 +1,4 @@
+pub mod Targets
+pub mod Inputs
+pub mod Batches
+pub mod inner

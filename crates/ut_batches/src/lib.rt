@@ -1,0 +1,17 @@
+//! CSV texts, loaded row by row into an object by a user of an organisation, in batches.
+//!
+//! It depends on `ut_loads` for one row, on `ut_asking` for who asks and for the step of a change of a field's type, on `ut_bulk` for
+//! headings, on `ut_table` for the records of a text, and on `ut_io` for the clock. Its contract: a batch of rows comes to what its rows
+//! come to as requests, one after the other, each at its own moment; it is judged over one draft, so all of it is made or nothing.
+#![tactic(auto)]
+
+mod batch;
+mod cells;
+mod input;
+mod rows;
+mod target;
+
+pub use crate::batch::{Loading, load_batch};
+pub use crate::input::plan_input;
+pub use crate::rows::{Row, Rows};
+pub use crate::target::{Target, find_target};

@@ -11,6 +11,9 @@ Commands:
   org-add NAME SECRET  makes an organisation, and writes its id and its administrator's
   export ORG USER SECRET QUERY
                        writes the rows of a user's query as CSV; other users of the machine can see SECRET
+  load ORG USER SECRET OBJECT
+                       makes or changes a record for each row of the CSV text on standard input, and writes a line for each;
+                       other users of the machine can see SECRET
   answer               answers the HTTP requests of one connection, from standard input to standard output
   serve [COUNT]        answers the HTTP requests of the next COUNT connections at 127.0.0.1:PORT, or of all
 

@@ -5,7 +5,7 @@ use Rattle.std.specs.Option.{option_map}
 use Rattle.std.specs.Char.{digit_value}
 use Rattle.std.specs.Str.{byte}
 use Rattle.std.specs.Str.Parse.{AllDigits, digits_value}
-use Rattle.platform.specs.Commands.{all_digits, answers, command_of, count_in, export, is_counting, most_connections, prints, serves}
+use Rattle.platform.specs.Commands.{Printing, all_digits, answers, command_of, count_in, is_counting, most_connections, prints, serves}
 use Rattle.ut_value.specs.Numerals.{is_within}
 use Rattle.platform.specs.Words.{IsCount}
 
@@ -86,20 +86,21 @@ answer_words f [] first one a named = absurd (omega (arith, one))
 answer_words f (x ∷ []) first one a named = subst (λ (z : List ℕ). command_of (z ∷ []) ≡ Some answers) (sym (ap f (sym a) ∙ named)) refl
 answer_words f (x ∷ y ∷ zs) first one a named = absurd (omega (arith, one))
 
--- words that are `export` and four more
-pub export_words : {X : Type 0} (f : X → List ℕ) (ws : List X) (a b c d e : X) (org user secret query : List ℕ) → length ws ≡ 5 → a ≡ get_or ws 0 a → b ≡ get_or ws 1 b → c ≡ get_or ws 2 c → d ≡ get_or ws 3 d → e ≡ get_or ws 4 e
-    → f a ≡ codes "export" → org ≡ f b → user ≡ f c → secret ≡ f d → query ≡ f e → command_of (map f ws) ≡ Some (prints (export org user secret query))
-export_words f [] a b c d e org user secret query five ha hb hc hd he named o u s q = absurd (omega (arith, five))
-export_words f (v ∷ []) a b c d e org user secret query five ha hb hc hd he named o u s q = absurd (omega (arith, five))
-export_words f (v ∷ w ∷ []) a b c d e org user secret query five ha hb hc hd he named o u s q = absurd (omega (arith, five))
-export_words f (v ∷ w ∷ x ∷ []) a b c d e org user secret query five ha hb hc hd he named o u s q = absurd (omega (arith, five))
-export_words f (v ∷ w ∷ x ∷ y ∷ []) a b c d e org user secret query five ha hb hc hd he named o u s q = absurd (omega (arith, five))
-export_words f (v ∷ w ∷ x ∷ y ∷ z ∷ []) a b c d e org user secret query five ha hb hc hd he named o u s q =
-    let is_org : f w ≡ org = ap f (sym hb) ∙ sym o in
-    let is_user : f x ≡ user = ap f (sym hc) ∙ sym u in
-    let is_secret : f y ≡ secret = ap f (sym hd) ∙ sym s in
-    let is_query : f z ≡ query = ap f (sym he) ∙ sym q in
-    subst (λ (n : List ℕ). command_of (n ∷ f w ∷ f x ∷ f y ∷ f z ∷ []) ≡ Some (prints (export org user secret query))) (sym (ap f (sym ha) ∙ named))
-    (ap (λ (n : List ℕ). Some (prints (export n (f x) (f y) (f z)))) is_org ∙ (ap (λ (n : List ℕ). Some (prints (export org n (f y) (f z)))) is_user
-    ∙ (ap (λ (n : List ℕ). Some (prints (export org user n (f z)))) is_secret ∙ ap (λ (n : List ℕ). Some (prints (export org user secret n))) is_query)))
-export_words f (v ∷ w ∷ x ∷ y ∷ z ∷ more ∷ others) a b c d e org user secret query five ha hb hc hd he named o u s q = absurd (omega (arith, five))
+-- words that are the name of a command and four more
+pub five_words : {X : Type 0} (name : List ℕ) (make : (a b c d : List ℕ) → Printing) → ((a b c d : List ℕ) → command_of (name ∷ a ∷ b ∷ c ∷ d ∷ []) ≡ Some (prints (make a b c d)))
+    → (f : X → List ℕ) (ws : List X) (a b c d e : X) (org user secret query : List ℕ) → length ws ≡ 5 → a ≡ get_or ws 0 a → b ≡ get_or ws 1 b → c ≡ get_or ws 2 c → d ≡ get_or ws 3 d → e ≡ get_or ws 4 e
+    → f a ≡ name → org ≡ f b → user ≡ f c → secret ≡ f d → query ≡ f e → command_of (map f ws) ≡ Some (prints (make org user secret query))
+five_words name make is f [] a b c d e org user secret query five ha hb hc hd he named o u s q = absurd (omega (arith, five))
+five_words name make is f (v ∷ []) a b c d e org user secret query five ha hb hc hd he named o u s q = absurd (omega (arith, five))
+five_words name make is f (v ∷ w ∷ []) a b c d e org user secret query five ha hb hc hd he named o u s q = absurd (omega (arith, five))
+five_words name make is f (v ∷ w ∷ x ∷ []) a b c d e org user secret query five ha hb hc hd he named o u s q = absurd (omega (arith, five))
+five_words name make is f (v ∷ w ∷ x ∷ y ∷ []) a b c d e org user secret query five ha hb hc hd he named o u s q = absurd (omega (arith, five))
+five_words name make is f (v ∷ w ∷ x ∷ y ∷ z ∷ []) a b c d e org user secret query five ha hb hc hd he named o u s q =
+    let its_org : f w ≡ org = ap f (sym hb) ∙ sym o in
+    let its_user : f x ≡ user = ap f (sym hc) ∙ sym u in
+    let its_secret : f y ≡ secret = ap f (sym hd) ∙ sym s in
+    let its_query : f z ≡ query = ap f (sym he) ∙ sym q in
+    subst (λ (n : List ℕ). command_of (n ∷ f w ∷ f x ∷ f y ∷ f z ∷ []) ≡ Some (prints (make org user secret query))) (sym (ap f (sym ha) ∙ named))
+    (is (f w) (f x) (f y) (f z) ∙ (ap (λ (n : List ℕ). Some (prints (make n (f x) (f y) (f z)))) its_org ∙ (ap (λ (n : List ℕ). Some (prints (make org n (f y) (f z)))) its_user
+    ∙ (ap (λ (n : List ℕ). Some (prints (make org user n (f z)))) its_secret ∙ ap (λ (n : List ℕ). Some (prints (make org user secret n))) its_query))))
+five_words name make is f (v ∷ w ∷ x ∷ y ∷ z ∷ more ∷ others) a b c d e org user secret query five ha hb hc hd he named o u s q = absurd (omega (arith, five))

@@ -1,8 +1,7 @@
 -- How a command of one deed ends, and what it leaves, from what was done on its way.
-use Rattle.std.proofs.Common.{◌≡◌, ◌⊎◌, inl, inr, ℕ, IsTrue, List, [], length, Option, Some, None, Result, Ok, Err, refl, sym, ap, subst, ◌∙◌, append-nil}
+use Rattle.std.proofs.Common.{◌≡◌, ◌⊎◌, inl, inr, ℕ, IsTrue, List, [], length, Option, Result, Ok, Err, refl, sym, ap, subst, ◌∙◌}
 use Rattle.std.specs.Prelude.{IfOk, IsErr}
 use Rattle.std.specs.Result.{IsErrAnd}
-use Rattle.std.specs.Io.KnownBytes.{Appends}
 use Rattle.ut_io.specs.Streams.{AppendsFront}
 use Rattle.ut_keeper.specs.State.{KeeperState, LeavesNoMore, Shows, Steps, Tells}
 use Rattle.ut_keeper.specs.Tables.{Tables}
@@ -16,6 +15,7 @@ use Rattle.ut_stands.specs.declared.judged.Judged.TheVariants.{Changed, Same}
 use Rattle.ut_stands.specs.Operations.{Does, IsChange, Judges, Returns}
 use Rattle.ut_stands.specs.Opening.{OpensAs}
 use Rattle.ut_stands.specs.Stands.{HasKnownVersion, HasUnknownVersion, Stands}
+use Rattle.platform.proofs.Deeds.{nothing}
 use Rattle.platform.specs.Deeds.{Prints, StopsBefore, StopsWithin, one_deed}
 use Rattle.platform.specs.Printed.{PageText}
 use Rattle.platform.specs.Run.{KeepsWorld}
@@ -36,10 +36,6 @@ stops_within p next old new h = record {
   text = h.2;
   world = refl;
 }
-
-nothing : (old : Option (List ℕ)) → Appends old old []
-nothing None = tt
-nothing (Some xs) = sym (append-nil xs)
 
 pub stops_before : (w next : World) (p : PageText) (old : Option (List ℕ)) → StopsBefore w (one_deed p next) old old w
 stops_before w next p old = record {

@@ -5,6 +5,12 @@ pub mod Runs
 pub mod OfCsvq
 pub mod OfExport
 pub mod OfTables
+pub mod Deeds
+pub mod Batching
+pub mod Heading
+pub mod Loaded
+pub mod Planned
+pub mod OfLoad
 pub mod OfServing
 pub mod Statuses
 mod Answering

@@ -1,6 +1,7 @@
 -- The promise of `run` for `csvq`.
-use Rattle.std.proofs.Common.{◌≡◌, ◌≤◌, ◌<◌, length, inl, inr, ℕ, true, false, IsTrue, List, [], ◌∷◌, Option, Some, None, Result, Ok, Err, pos, refl, sym, ap, subst, ◌∙◌, arith}
+use Rattle.std.proofs.Common.{◌≡◌, ◌≤◌, ◌<◌, length, inl, inr, ℕ, suc, Bool, true, false, IsTrue, List, [], ◌∷◌, replicate, Option, Some, None, Result, Ok, Err, pos, refl, sym, ap, subst, ◌∙◌, arith}
 use Rattle.std.proofs.lemmas.Bool.Decides.{nat_tests}
+use Rattle.std.proofs.lemmas.List.{length-replicate}
 use Rattle.std.specs.Prelude.{IfOk, IfSome, IsErrOf, nat_le}
 use Rattle.std.specs.Io.KnownBytes.{IsAtEnd}
 use Rattle.ut_value.specs.Causes.{Cause}
@@ -10,7 +11,8 @@ use Rattle.ut_keeper.specs.State.{KeeperState, Shows}
 use Rattle.ut_model.specs.World.{World}
 use Rattle.ut_serving.specs.Falls.{Fell}
 use Rattle.platform.specs.Commands.{Command, csvq, has_status, may_write, printed, prints}
-use Rattle.platform.specs.Csvq.{first_moment, is_read, outcome_page, reads_input, rows_printed}
+use Rattle.platform.specs.Csvq.{is_read, outcome_page, reads_input, rows_printed}
+use Rattle.ut_batches.specs.Batches.{MayTell, first_moment}
 use Rattle.platform.specs.Printed.{refused}
 use Rattle.ut_csvq.specs.Outcomes.{input_outcome, query_in, query_outcome}
 use Rattle.ut_csvq.proofs.Turns.{too_large}
@@ -19,7 +21,7 @@ use Rattle.ut_model.specs.declared.refusal.Refusal.TheVariants.{InputTooLarge}
 use Rattle.ut_query.specs.declared.query.Query.{Query}
 use Rattle.platform.specs.Deeds.{Prints}
 use Rattle.platform.specs.Promise.{Causes, Promise}
-use Rattle.platform.specs.Run.{AreMoments, IsTold, status_in}
+use Rattle.platform.specs.Run.{MayBe, status_in}
 use Rattle.platform.specs.Seen.{Seen}
 use Rattle.platform.specs.Stops.{IsKnownStatus, csvq_end, is_done}
 use Rattle.platform.specs.declared.printing.CsvqStop.{CsvqStop}
@@ -36,7 +38,7 @@ is_clocked n h = within n h
 -- the moments that are told, or else this one
 pub record Moments (coming : Option (List ℕ)) (now : ℕ) : Type 0 where
   pub moments : List ℕ
-  pub are : AreMoments true coming moments
+  pub are : MayBe true coming moments
   pub first : now ≡ first_moment moments
 
 pub moments_at : (coming : Option (List ℕ)) (now : ℕ) → IsFirstMoment coming now → Moments coming now
@@ -100,11 +102,11 @@ module _ (query : List ℕ) (a b : Seen) (r : Result ℕ CsvqStop) (status : ℕ
   stood fell = true_isnt_false (sym fell.1 ∙ (ap (λ (k : KeeperState). k.trusted) (sym keeper) ∙ fell.2))
 
   pub csvq_promise : (now : ℕ) → IsFirstMoment a.coming now
-      → ((w : World) (bytes moments : List ℕ) → IsTold (reads_input query) a.left bytes → now ≡ first_moment moments → Prints w (printed (csvq query) w bytes moments) a.written b.written (csvq_end r) w)
+      → ((w : World) (moments : List ℕ) → now ≡ first_moment moments → (bytes : List ℕ) × MayBe (reads_input query) a.left bytes × Prints w (printed (csvq query) w bytes moments) a.written b.written (csvq_end r) w)
       → IfOk r (λ s. s ≡ 0 → IsAtEnd b.left) → AskedOnce a.coming b.coming
       → Cause a.read_faults b.read_faults (IsErrOf r csvq_stop.SourceFailed) → Cause a.write_faults b.write_faults (IsErrOf r csvq_stop.SinkFailed) → Promise (This query) a b status
   csvq_promise now first does whole asked source sink = record {
-    does = λ w world. (csvq_end r, same, λ bytes told. let m = moments_at a.coming now first in (m.moments, m.are, w, does w bytes m.moments told m.first, tt));
+    does = λ w world. (csvq_end r, same, let m = moments_at a.coming now first in let h = does w m.moments m.first in (h.0, m.moments, h.1, m.are, w, h.2, tt));
     leads = λ serving. absurd (true_isnt_false (sym serving));
     fell = λ fell w s. absurd (stood fell);
     kept = λ told none. subst (λ (k : KeeperState). Shows k a.keeper.tables) (sym keeper) (told.0, refl);
@@ -127,17 +129,22 @@ refused_so query bytes now read e why is = ap (λ (r : Result Query Refusal). ou
 pub is_read_so : (query : List ℕ) (read : Result Query Refusal) → read ≡ query_in query → (q : Query) → read ≡ Ok q → reads_input query ≡ true
 is_read_so query read e q is = ap is_read (sym e ∙ is)
 
-pub all_told : (query : List ℕ) (left : Option (List ℕ)) (bytes : List ℕ) → reads_input query ≡ true → IsTold (reads_input query) left bytes → left ≡ Some bytes
-all_told query left bytes reads (inl e) = absurd (true_isnt_false (sym reads ∙ e))
-all_told query left bytes reads (inr e) = e
+-- some bytes that a source may have had
+pub some_input : (used : Bool) (left : Option (List ℕ)) → (bytes : List ℕ) × MayBe used left bytes
+some_input used None = ([], inr tt)
+some_input used (Some known) = (known, inr refl)
 
--- the bytes that are read are those that are told
-pub read_all_so : (bytes all : List ℕ) (left : Option (List ℕ)) → IfSome left (λ x. bytes ≡ x) → left ≡ Some all → bytes ≡ all
-read_all_so bytes all left whole e = subst (λ (l : Option (List ℕ)). IfSome l (λ x. bytes ≡ x)) e whole
+zeros : (n : ℕ) → List ℕ
+zeros n = replicate (suc n) 0
+
+longer : (n : ℕ) → n < length (zeros n)
+unfolding zeros
+longer n = let is = length-replicate {A = ℕ} (suc n) 0 in omega (arith, is)
 
 -- an input that is too long
-pub too_long_so : (q : Query) (now : ℕ) (bytes : List ℕ) (left : Option (List ℕ)) → IfSome left (λ all. 67108864 < length all) → left ≡ Some bytes
-    → refused InputTooLarge ≡ outcome_page (input_outcome q (pos now) bytes)
-too_long_so q now bytes left long e =
-    let h = subst (λ (l : Option (List ℕ)). IfSome l (λ all. 67108864 < length all)) e long in
-    ap outcome_page (too_large q now bytes h)
+pub too_long_input : (n : ℕ) (left : Option (List ℕ)) → IfSome left (λ all. n < length all) → (bytes : List ℕ) × MayTell left bytes × (n < length bytes)
+too_long_input n None long = (zeros n, tt, longer n)
+too_long_input n (Some all) long = (all, refl, long)
+
+pub too_long_page : (q : Query) (now : ℕ) (bytes : List ℕ) → 67108864 < length bytes → refused InputTooLarge ≡ outcome_page (input_outcome q (pos now) bytes)
+too_long_page q now bytes long = ap outcome_page (too_large q now bytes long)

@@ -1,31 +1,22 @@
 -- What `export` prints, and the world that it leaves, by the moment at which it is asked.
-use Rattle.std.proofs.Common.{◌≡◌, ℕ, Bool, true, false, List, Option, Some, None, Result, Ok, Err, refl, sym, ap, subst, ◌∙◌}
+use Rattle.std.proofs.Common.{◌≡◌, ℕ, true, List, Result, Ok, Err, refl, sym, ap, subst, ◌∙◌}
 use Rattle.std.specs.Prelude.{IsErrOf, is_ok}
-use Rattle.ut_asking.specs.Asking.{called, if_called, named_does, world_does, world_with}
-use Rattle.ut_exports.specs.Exports.{exported}
 use Rattle.ut_keeper.specs.State.{KeeperCause, KeeperState, StaysAfter}
 use Rattle.ut_keeper.specs.Tables.{Tables}
 use Rattle.ut_keys.specs.declared.fail.StoreFail.{StoreFail}
 use Rattle.ut_keys.specs.declared.fail.StoreFail.TheVariants as store
-use Rattle.ut_model.specs.declared.caller.Caller.{Caller}
 use Rattle.ut_model.specs.declared.refusal.Refusal.{Refusal}
-use Rattle.ut_model.specs.declared.refusal.Refusal.TheVariants.{InvalidSession}
-use Rattle.ut_model.specs.Callers.{Named, caller_of, named_by}
-use Rattle.ut_model.specs.Cases.{in_case}
-use Rattle.ut_model.specs.Tenant.{Tenant, User}
-use Rattle.ut_model.specs.World.{World, tenant_at, user_at, with_tenant}
+use Rattle.ut_model.specs.World.{World}
 use Rattle.ut_stands.specs.Calls.{HasFallen, ended, is_done}
 use Rattle.ut_stands.specs.Operations.{IsChange, Judges}
 use Rattle.ut_stands.specs.Stands.{Stands}
 use Rattle.ut_stands.specs.declared.judged.Judged.{Judged}
 use Rattle.ut_stands.specs.declared.judged.Judged.TheVariants.{Changed, Same}
-use Rattle.ut_step.specs.Step.{asking, background}
 use Rattle.platform.specs.Commands.{export, printed}
-use Rattle.platform.specs.Csvq.{first_moment}
-use Rattle.platform.specs.Deeds.{IsNext, Printed, one_deed}
+use Rattle.ut_batches.specs.Batches.{first_moment}
+use Rattle.platform.specs.Deeds.{one_deed}
 use Rattle.platform.specs.Export.{IsPaged, export_asked, export_does, lines_page}
 use Rattle.platform.specs.Printed.{PageText}
-use Rattle.platform.proofs.OfTables.{next_deed}
 use Rattle.platform.proofs.Runs.{true_isnt_false}
 
 module _ (org user secret query : List ℕ) where
@@ -34,31 +25,8 @@ module _ (org user secret query : List ℕ) where
       → printed (export org user secret query) w bytes moments ≡ one_deed (export_does org user secret query now w).0 (export_does org user secret query now w).1
   export_told now w bytes moments first = ap (λ (n : ℕ). let x = export_does org user secret query n w in one_deed x.0 x.1) (sym first)
 
-  -- the world that is left is the same at each moment
   abbrev Its : Type 0
   Its = Result (List ℕ) Refusal
-
-  of_user : (t : Tenant) (n m : ℕ) (o : Option User) → (in_case {A = User} o ((Err InvalidSession), t) (λ u. exported query (asking (background t) n u))).1 ≡ (in_case {A = User} o ((Err InvalidSession), t) (λ u. exported query (asking (background t) m u))).1
-  of_user t n m None = refl
-  of_user t n m (Some u) = refl
-
-  of_caller : (t : Tenant) (n m : ℕ) (o : Option Caller) → (if_called (exported query) (Err InvalidSession) n t o).1 ≡ (if_called (exported query) (Err InvalidSession) m t o).1
-  of_caller t n m None = refl
-  of_caller t n m (Some c) = of_user t n m (user_at t.users c.user)
-
-  of_tenant : (x : Named) (n m : ℕ) (o : Option Tenant) → (named_does (exported query) (Err InvalidSession) n x o).1 ≡ (named_does (exported query) (Err InvalidSession) m x o).1
-  of_tenant x n m None = refl
-  of_tenant x n m (Some t) = ap (λ (u : Tenant). Some u) (of_caller t n m (caller_of x t))
-
-  of_key : (w : World) (n m : ℕ) (key : Option Named) → (world_does (exported query) (Err InvalidSession) n key w).1 ≡ (world_does (exported query) (Err InvalidSession) m key w).1
-  of_key w n m None = refl
-  of_key w n m (Some x) = ap (world_with w x.org) (of_tenant x n m (tenant_at w x.org))
-
-  pub export_next : (now : ℕ) (w : World) (bytes moments : List ℕ) → IsNext w (printed (export org user secret query) w bytes moments) w (export_does org user secret query now w).1
-  export_next now w bytes moments =
-      let p = printed (export org user secret query) w bytes moments in
-      subst (IsNext w p w) (of_key w (first_moment moments) now (named_by org user secret))
-      (next_deed w (export_does org user secret query (first_moment moments) w).0 (export_does org user secret query (first_moment moments) w).1)
 
   -- ---- what is judged is a page
 

@@ -25,10 +25,10 @@ told_world answers k l w serving (inr h) = h
 told_world (serves count) k l w serving (inl wrong) = absurd (true_isnt_false wrong)
 told_world (serves count) k l w serving (inr h) = h
 
-reached : (c : Command) (w : World) (l : KeeperState) → is_serving c ≡ true → ((m : Tables) → l.may_leave m → StandsReached w m) → CrashLeaves c w l
-reached (prints p) w l serving h = absurd (true_isnt_false (sym serving))
-reached answers w l serving h = h
-reached (serves count) w l serving h = h
+reached : (c : Command) (w : World) (a b : Seen) → is_serving c ≡ true → ((m : Tables) → b.keeper.may_leave m → StandsReached w m) → CrashLeaves c w a b
+reached (prints p) w a b serving h = absurd (true_isnt_false (sym serving))
+reached answers w a b serving h = h
+reached (serves count) w a b serving h = h
 
 -- nothing was written before the first message
 pub unwritten : (r : Result ℕ Stop) → IfOk r (λ s. s ≡ 0) → has_status answers (status_in r) ≡ true → may_write answers (status_in r) ≡ false → is_opening (status_in r) ≡ true
@@ -53,7 +53,7 @@ module _ (c : Command) (serving : is_serving c ≡ true) (a b : Seen) (r : Resul
     does = λ w world. let told = told_world c a.keeper b.keeper w serving world in (r, same, runs told.0 w told.1);
     leads = λ _ told w s. (leads told.0 (causes.steps.stood told.1) w s).tables told.1;
     fell = λ fell w s. record {
-      crash = reached c w b.keeper serving (λ m left. led fell w s m ((leads fell.0 fell.1 w s).crash fell.3 m left));
+      crash = reached c w a b serving (λ m left. led fell w s m ((leads fell.0 fell.1 w s).crash fell.3 m left));
       told = subst (λ (n : ℕ). FallsTold c w a b n) (sym same) (falls fell w s);
     };
     kept = λ told none. kept told (subst (λ (n : ℕ). may_change c n ≡ false) same none);

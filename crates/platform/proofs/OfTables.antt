@@ -1,21 +1,23 @@
 -- The promise of `run` for a command that makes a page of the tables.
-use Rattle.std.proofs.Common.{◌≡◌, ◌⊎◌, inl, inr, ℕ, Bool, true, false, IsTrue, List, [], Result, Ok, Err, refl, sym, ap, subst, ◌∙◌, arith}
-use Rattle.std.specs.Prelude.{IfOk, IsErrOf, is_ok}
+use Rattle.std.proofs.Common.{◌≡◌, ◌⊎◌, inl, inr, ℕ, Bool, true, false, IsTrue, List, [], ◌∷◌, Option, Result, Ok, Err, refl, sym, ap, subst, ◌∙◌, arith}
+use Rattle.std.specs.Io.KnownBytes.{Appends}
+use Rattle.std.specs.Prelude.{IfOk, IsErrOf}
 use Rattle.ut_value.specs.Causes.{Cause}
 use Rattle.ut_keeper.specs.State.{IsSettled, KeeperCause, Shows, Steps, Tells, TrustedAfter}
 use Rattle.ut_keeper.specs.Tables.{Tables}
 use Rattle.ut_model.specs.World.{World}
 use Rattle.ut_serving.specs.Falls.{Fell}
 use Rattle.ut_stands.specs.Stands.{HasKnownVersion, HasUnknownVersion, Stands}
-use Rattle.platform.specs.Commands.{Asks, Command, Printing, Uses, has_status, is_one_of, may_change, may_write, printed, prints, table_changes, table_uses, uses}
-use Rattle.platform.specs.Deeds.{IsNext, Printed, Prints, one_deed}
+use Rattle.platform.specs.Commands.{Asks, Command, Printing, Uses, has_status, is_one_of, may_write, printed, prints, table_changes, table_uses, uses}
+use Rattle.platform.specs.Deeds.{CutShort, Printed, Prints, one_deed}
 use Rattle.platform.specs.Printed.{PageText}
 use Rattle.platform.specs.Promise.{Causes, Promise}
-use Rattle.platform.specs.Run.{AreMoments, AskedSo, IsWorldOf, KeepsIf, KeepsWorld, status_in}
+use Rattle.platform.specs.Run.{AskedSo, IsWorldOf, KeepsIf, KeepsWorld, MayBe, status_in}
 use Rattle.platform.specs.Seen.{Seen}
 use Rattle.platform.specs.Stops.{IsKnownStatus, VersionStops, behind, is_done, store_end}
 use Rattle.platform.specs.declared.printing.StoreStop.{StoreStop}
 use Rattle.platform.specs.declared.printing.StoreStop.TheVariants as storing
+use Rattle.platform.proofs.Deeds.{nothing}
 use Rattle.platform.proofs.Runs.{caused, keeper_caused, not_own, quiet, true_isnt_false, version_ends}
 
 -- ---- by the status
@@ -89,7 +91,7 @@ sink_failed (Err storing.SinkFailed) status known same e = refl
 sink_failed (Err storing.Damaged) status known same e = absurd (omega (arith, same, e))
 sink_failed (Err storing.UnknownVersion) status known same e = absurd (omega (arith, same, e))
 
-is_page : (r : Result ℕ StoreStop) (status : ℕ) → status ≡ status_in (store_end r) → (status ≡ 0) ⊎ (status ≡ 65) → is_ok r ≡ true
+is_page : (r : Result ℕ StoreStop) (status : ℕ) → status ≡ status_in (store_end r) → (status ≡ 0) ⊎ (status ≡ 65) → is_done (store_end r) ≡ true
 is_page (Ok s) status same h = refl
 is_page (Err storing.NoMemory) status same h = absurd (omega (arith, same, h))
 is_page (Err storing.KeeperFailed) status same h = absurd (omega (arith, same, h))
@@ -99,9 +101,15 @@ is_page (Err storing.UnknownVersion) status same h = absurd (omega (arith, same,
 
 -- ---- a command that uses this
 
--- the one deed of a command that is done at once
-pub next_deed : (w : World) (page : PageText) (next : World) → IsNext w (one_deed page next) w next
-next_deed w page next = ([], record { text = page.text; world = next }, [], refl, refl, refl)
+-- the one deed of a command that is done at once: nothing of it was written
+pub one_cut : (w : World) (page : PageText) (next : World) (old new : Option (List ℕ)) (end : World) → new ≡ old → (end ≡ w) ⊎ (end ≡ next) → CutShort w (one_deed page next) old new end
+one_cut w page next old new end same is = record {
+  past = [];
+  rest = record { text = page.text; world = next } ∷ [];
+  all = refl;
+  text = subst (λ (t : Option (List ℕ)). Appends old t []) (sym same) (nothing old);
+  world = is;
+}
 
 module _ (p : Printing) (keeps : Bool) (clock : Asks) (dated : Bool) (is : uses p ≡ table_uses keeps clock dated) where
   abbrev This : Command
@@ -109,6 +117,9 @@ module _ (p : Printing) (keeps : Bool) (clock : Asks) (dated : Bool) (is : uses 
 
   keeper_used : (uses p).keeper ≡ true
   keeper_used = ap (λ (u : Uses). u.keeper) is
+
+  no_source : (uses p).source ≡ false
+  no_source = ap (λ (u : Uses). u.source) is
 
   source_unused : (uses p).source ≡ true → ⊥
   source_unused used = true_isnt_false (sym used ∙ ap (λ (u : Uses). u.source) is)
@@ -127,7 +138,7 @@ module _ (p : Printing) (keeps : Bool) (clock : Asks) (dated : Bool) (is : uses 
     never : (n : ℕ) → is_one_of n (table_uses keeps clock dated).statuses ≡ false → status ≡ n → ⊥
     never n none = not_own This status n (own r status known same) (no_status n none)
 
-    pub table_causes : Steps a.keeper b.keeper → TrustedAfter (is_ok r) b.keeper → KeeperCause a.keeper b.keeper (IsErrOf r storing.KeeperFailed)
+    pub table_causes : Steps a.keeper b.keeper → TrustedAfter (is_done (store_end r)) b.keeper → KeeperCause a.keeper b.keeper (IsErrOf r storing.KeeperFailed)
         → Cause a.write_faults b.write_faults (IsErrOf r storing.SinkFailed) → Causes This a b status
     table_causes steps trusted keeper sink = record {
       steps = steps;
@@ -144,8 +155,9 @@ module _ (p : Printing) (keeps : Bool) (clock : Asks) (dated : Bool) (is : uses 
       next w = (does w).1
 
       pub table_promise : (a.keeper.tells → IsTrue a.keeper.trusted → IsSettled a.keeper) → ((m : Tables) → HasKnownVersion m → HasUnknownVersion m → ⊥) → Causes This a b status
-          → (moments : List ℕ) → AreMoments dated a.coming moments → ((w : World) (bytes : List ℕ) → printed p w bytes moments ≡ one_deed (does w).0 (does w).1)
-          → ((w : World) (bytes moments : List ℕ) → IsNext w (printed p w bytes moments) w (next w))
+          → (moments : List ℕ) → MayBe dated a.coming moments → ((w : World) (bytes : List ℕ) → printed p w bytes moments ≡ one_deed (does w).0 (does w).1)
+          → TrustedAfter (is_done (store_end r)) b.keeper
+          → (is_done (store_end r) ≡ false → b.written ≡ a.written)
           → AskedSo clock a.coming b.coming
           → (Tells a.keeper b.keeper → (w : World) → Stands a.keeper.tables w → Prints w (one_deed (does w).0 (does w).1) a.written b.written (store_end r) (behind w (next w) (store_end r)))
           → (Tells a.keeper b.keeper → (w : World) → Stands a.keeper.tables w → KeepsWorld (behind w (next w) (store_end r)) b.keeper)
@@ -154,10 +166,13 @@ module _ (p : Printing) (keeps : Bool) (clock : Asks) (dated : Bool) (is : uses 
           → (keeps ≡ true → Tells a.keeper b.keeper → IfOk r (λ s. s ≡ 65 → Shows b.keeper a.keeper.tables))
           → (a.keeper.tells → IsTrue a.keeper.trusted → IsTrue b.keeper.is_clean → (w : World) → Stands a.keeper.tables w → (m : Tables) → b.keeper.may_leave m → a.keeper.may_leave m ⊎ Stands m (next w))
           → Promise This a b status
-      table_promise settled one causes moments are said may asked printing keeping version kept refused crash = record {
-        does = λ w world. (store_end r, same, λ bytes told. by w world bytes);
+      table_promise settled one causes moments are said trusted unwritten asked printing keeping version kept refused crash = record {
+        does = λ w world. (store_end r, same, by w world);
         leads = λ serving. absurd (true_isnt_false (sym serving));
-        fell = λ fell w s. record { crash = λ bytes moments m left. doubted fell w s bytes moments m (crash fell.0 fell.1 fell.3 w s m left); told = tt };
+        fell = λ fell w s. record {
+          crash = ([], moments, inl no_source, is_moments, λ m left. doubted fell w s m (crash fell.0 fell.1 fell.3 w s m left));
+          told = tt;
+        };
         kept = λ told none. kept_by keeps (Shows b.keeper a.keeper.tables) r status known same (kept told) (λ k. refused k told)
             (subst (λ (u : Uses). is_one_of status u.changes ≡ false) is none);
         version = λ uses told. version_ends one a.keeper.tables (store_end r) status (store_known r known) same (version told);
@@ -165,18 +180,33 @@ module _ (p : Printing) (keeps : Bool) (clock : Asks) (dated : Bool) (is : uses 
         reads = λ serving. record { whole = λ used. absurd (source_unused used); asked = subst (λ (u : Uses). AskedSo u.clock a.coming b.coming) (sym is) asked };
       }
         where
-          by : (w : World) → IsWorldOf This a.keeper b.keeper w → (bytes : List ℕ)
-              → (some : List ℕ) × AreMoments (uses p).dated a.coming some × (end : World) × Prints w (printed p w bytes some) a.written b.written (store_end r) end × KeepsIf (uses p).keeper end b.keeper
-          by w (inl wrong) bytes = absurd (true_isnt_false (sym keeper_used ∙ wrong))
-          by w (inr (told, s)) bytes = (
+          is_moments : MayBe (uses p).dated a.coming moments
+          is_moments = subst (λ (u : Uses). MayBe u.dated a.coming moments) (sym is) are
+
+          by : (w : World) → IsWorldOf This a.keeper b.keeper w
+              → (bytes some : List ℕ) × MayBe (uses p).source a.left bytes × MayBe (uses p).dated a.coming some × (end : World) × Prints w (printed p w bytes some) a.written b.written (store_end r) end × KeepsIf (uses p).keeper end b.keeper
+          by w (inl wrong) = absurd (true_isnt_false (sym keeper_used ∙ wrong))
+          by w (inr (told, s)) = (
+            [],
             moments,
-            subst (λ (u : Uses). AreMoments u.dated a.coming moments) (sym is) are,
+            inl no_source,
+            is_moments,
             behind w (next w) (store_end r),
-            subst (λ (x : Printed). Prints w x a.written b.written (store_end r) (behind w (next w) (store_end r))) (sym (said w bytes)) (printing told w s),
+            subst (λ (x : Printed). Prints w x a.written b.written (store_end r) (behind w (next w) (store_end r))) (sym (said w [])) (printing told w s),
             subst (λ (u : Bool). KeepsIf u (behind w (next w) (store_end r)) b.keeper) (sym keeper_used) (keeping told w s),
           )
 
-          doubted : Fell a.keeper b.keeper → (w : World) → Stands a.keeper.tables w → (bytes moments : List ℕ) (m : Tables) → a.keeper.may_leave m ⊎ Stands m (next w)
-              → Stands m w ⊎ ((end v : World) × IsNext w (printed p w bytes moments) end v × Stands m v)
-          doubted fell w s bytes moments m (inl old) = inl (subst (λ (t : Tables). Stands t w) (sym ((settled fell.0 fell.1).only m old)) s)
-          doubted fell w s bytes moments m (inr h) = inr (w, next w, may w bytes moments, h)
+          -- once its page was made the keeper is trusted
+          undone : Fell a.keeper b.keeper → (v : Bool) → is_done (store_end r) ≡ v → v ≡ false
+          undone fell false is = refl
+          undone fell true is = absurd (true_isnt_false (sym (trusted is fell.3) ∙ fell.2))
+
+          cut : Fell a.keeper b.keeper → (w end : World) → (end ≡ w) ⊎ (end ≡ next w) → CutShort w (printed p w [] moments) a.written b.written end
+          cut fell w end is =
+              let none = undone fell (is_done (store_end r)) refl in
+              subst (λ (x : Printed). CutShort w x a.written b.written end) (sym (said w [])) (one_cut w (does w).0 (next w) a.written b.written end (unwritten none) is)
+
+          doubted : Fell a.keeper b.keeper → (w : World) → Stands a.keeper.tables w → (m : Tables) → a.keeper.may_leave m ⊎ Stands m (next w)
+              → (end : World) × CutShort w (printed p w [] moments) a.written b.written end × Stands m end
+          doubted fell w s m (inl old) = (w, cut fell w w (inl refl), subst (λ (t : Tables). Stands t w) (sym ((settled fell.0 fell.1).only m old)) s)
+          doubted fell w s m (inr h) = (next w, cut fell w (next w) (inr refl), h)

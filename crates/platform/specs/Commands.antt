@@ -6,10 +6,13 @@ use Rattle.std.specs.Option.{option_map}
 use Rattle.std.specs.Str.{byte, bytes_eq}
 use Rattle.std.specs.Str.Parse.{digits_value}
 use Rattle.ut_value.specs.Numerals.{is_within}
+use Rattle.ut_model.specs.Callers.{named_by}
 use Rattle.ut_model.specs.World.{World}
-use Rattle.platform.specs.Csvq.{first_moment, reads_input, rows_printed}
+use Rattle.platform.specs.Csvq.{reads_input, rows_printed}
+use Rattle.ut_batches.specs.Batches.{first_moment}
 use Rattle.platform.specs.Deeds.{Printed, one_deed}
 use Rattle.platform.specs.Export.{export_does}
+use Rattle.platform.specs.Load.{load_printed}
 use Rattle.platform.specs.OrgAdd.{org_printed, org_world}
 
 -- commands that print a text
@@ -20,6 +23,8 @@ pub data Printing : Type 0 where
   org_add : (name secret : List ℕ) → Printing
   -- the rows of a query of a user of an organisation, whose secret it is, as lines of CSV
   export : (org user secret query : List ℕ) → Printing
+  -- a CSV text, whose rows are loaded into an object of an organisation by a user of it, whose secret it is
+  load : (org user secret object : List ℕ) → Printing
 
 pub data Command : Type 0 where
   prints : Printing → Command
@@ -59,6 +64,10 @@ abbrev pub export_of : List (List ℕ) → Option Command
 export_of (org ∷ user ∷ secret ∷ query ∷ []) = Some (prints (export org user secret query))
 export_of _ = None
 
+abbrev pub load_of : List (List ℕ) → Option Command
+load_of (org ∷ user ∷ secret ∷ object ∷ []) = Some (prints (load org user secret object))
+load_of _ = None
+
 abbrev pub answer_of : List (List ℕ) → Option Command
 answer_of [] = Some answers
 answer_of _ = None
@@ -71,7 +80,8 @@ serve_of _ = None
 -- the first word of each command, and the command that the words behind it make
 abbrev pub table : List (List ℕ × (List (List ℕ) → Option Command))
 table =
-    (codes "csvq", csvq_of) ∷ (codes "org-add", org_add_of) ∷ (codes "export", export_of) ∷ (codes "answer", answer_of) ∷ (codes "serve", serve_of) ∷ []
+    (codes "csvq", csvq_of) ∷ (codes "org-add", org_add_of) ∷ (codes "export", export_of) ∷ (codes "load", load_of) ∷ (codes "answer", answer_of)
+    ∷ (codes "serve", serve_of) ∷ []
 
 abbrev pub found_in : List (List ℕ × (List (List ℕ) → Option Command)) → List ℕ → List (List ℕ) → Option Command
 found_in [] word arguments = None
@@ -88,7 +98,7 @@ command_of (word ∷ arguments) = found_in table word arguments
 pub data Asks : Type 0 where
   never : Asks
   once : Asks
-  -- once for each message
+  -- once for each message, or each row
   each : Asks
 
 pub record Uses : Type 0 where
@@ -147,6 +157,17 @@ uses (csvq query) = record {
 }
 uses (org_add name secret) = table_uses true never false
 uses (export org user secret query) = table_uses false once true
+uses (load org user secret object) = record {
+  keeper = true;
+  source = true;
+  door = false;
+  clock = each;
+  dated = true;
+  statuses = 0 ∷ 65 ∷ 71 ∷ 72 ∷ 73 ∷ 74 ∷ 76 ∷ 77 ∷ [];
+  changes = 0 ∷ 71 ∷ 72 ∷ 73 ∷ 76 ∷ [];
+  writes = 0 ∷ 65 ∷ 71 ∷ 72 ∷ 73 ∷ 76 ∷ [];
+  openings = 77 ∷ [];
+}
 
 abbrev pub uses_of : Command → Uses
 uses_of (prints p) = uses p
@@ -232,3 +253,4 @@ printed (csvq query) w bytes moments = one_deed (rows_printed query bytes (first
 printed (org_add name secret) w bytes moments = one_deed (org_printed w name secret) (org_world w name secret)
 printed (export org user secret query) w bytes moments =
     let x = export_does org user secret query (first_moment moments) w in one_deed x.0 x.1
+printed (load org user secret object) w bytes moments = load_printed (named_by org user secret) object bytes moments w

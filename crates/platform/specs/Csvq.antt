@@ -1,6 +1,6 @@
 -- What `csvq` prints: the lines of what its query finds in a CSV text, or the one line of a refusal.
 -- What a query over a CSV text comes to is in `ut_csvq` (`outcome_of`).
-use Rattle.std.specs.Prelude.{ℕ, Bool, true, false, List, [], ◌∷◌, ◌++◌, codes, Result, Ok, Err, pos}
+use Rattle.std.specs.Prelude.{ℕ, Bool, true, false, List, ◌++◌, codes, Result, Ok, Err, pos}
 use Rattle.std.specs.Fmt.{decimal}
 use Rattle.ut_query.specs.declared.query.Query.{Query}
 use Rattle.ut_model.specs.Messages.{message_of}
@@ -27,11 +27,6 @@ is_read (Err why) = false
 -- the input is read if the query is one of those that are answered
 abbrev pub reads_input : (query : List ℕ) → Bool
 reads_input query = is_read (query_in query)
-
--- the moment that is told first; a clock always tells one
-abbrev pub first_moment : List ℕ → ℕ
-first_moment [] = 0
-first_moment (moment ∷ moments) = moment
 
 abbrev pub rows_printed : (query bytes : List ℕ) → (now : ℕ) → PageText
 rows_printed query bytes now = outcome_page (outcome_of query (pos now) bytes)

@@ -1,6 +1,6 @@
 -- What commands print, and how far one came. A deed is what is written and the world behind it: a command that prints a page
 -- has one.
-use Rattle.std.specs.Prelude.{ℕ, ◌≡◌, ◌≤◌, List, [], ◌∷◌, ◌++◌, length, take, Option, Result, Ok, Err}
+use Rattle.std.specs.Prelude.{ℕ, ◌≡◌, ◌⊎◌, ◌≤◌, List, [], ◌∷◌, ◌++◌, length, take, Option, Result, Ok, Err}
 use Rattle.std.specs.Io.KnownBytes.{Appends}
 use Rattle.ut_model.specs.World.{World}
 use Rattle.platform.specs.Printed.{PageText}
@@ -62,6 +62,15 @@ Prints w p old new (Err DoorFailed) end = ⊥
 Prints w p old new (Err Damaged) end = ⊥
 Prints w p old new (Err UnknownVersion) end = ⊥
 
--- the world of the deed that a batch refused by the keeper would have done
-abbrev pub IsNext : World → Printed → World → World → Type 0
-IsNext w p end next = (past : List Deed) × (d : Deed) × (rest : List Deed) × (p.deeds ≡ past ++ d ∷ rest) × (end ≡ world_of w past) × (next ≡ d.world)
+-- the world behind the first of these deeds, if there is one
+abbrev pub IsBehindNext : List Deed → World → Type 0
+IsBehindNext [] end = ⊥
+IsBehindNext (d ∷ rest) end = end ≡ d.world
+
+-- the store fell: the deeds that were written whole are done, no other was written, and the next one may be done as well
+pub record CutShort (w : World) (p : Printed) (old new : Option (List ℕ)) (end : World) : Type 0 where
+  pub past : List Deed
+  pub rest : List Deed
+  pub all : p.deeds ≡ past ++ rest
+  pub text : Appends old new (text_of past)
+  pub world : (end ≡ world_of w past) ⊎ IsBehindNext rest end

@@ -7,8 +7,9 @@ use Rattle.ut_model.specs.World.{World}
 use Rattle.ut_serving.specs.Falls.{Falls, FallsBringing}
 use Rattle.ut_serving.specs.Leads.{StandsReached}
 use Rattle.ut_stands.specs.Stands.{Stands}
-use Rattle.platform.specs.Commands.{Command, answers, is_opening, prints, printed, serves}
-use Rattle.platform.specs.Deeds.{IsNext}
+use Rattle.platform.specs.Commands.{Command, Printing, answers, is_opening, prints, printed, serves, uses}
+use Rattle.platform.specs.Deeds.{CutShort}
+use Rattle.platform.specs.Run.{MayBe}
 use Rattle.platform.specs.Seen.{Seen}
 
 -- it fell in the opening: nothing was served, and a crash leaves the world as it was
@@ -26,16 +27,20 @@ FallsTold (serves count) w a b status =
     (d : DoorState) (moments : List ℕ) → a.door ≡ Some d → a.coming ≡ Some moments
     → FallsOpening w b.keeper status ⊎ FallsBringing w moments d b.door b.keeper
 
--- a crash leaves the world as it was, or one that the command leads to
-abbrev pub CrashLeaves : Command → World → KeeperState → Type 0
-CrashLeaves (prints p) w new =
-    (bytes moments : List ℕ) (m : Tables) → new.may_leave m
-    → Stands m w ⊎ ((end next : World) × IsNext w (printed p w bytes moments) end next × Stands m next)
-CrashLeaves answers w new = (m : Tables) → new.may_leave m → StandsReached w m
-CrashLeaves (serves count) w new = (m : Tables) → new.may_leave m → StandsReached w m
+-- a crash leaves what was printed, and at most the next deed besides
+abbrev pub CrashPrints : Printing → World → Seen → Seen → Type 0
+CrashPrints p w a b =
+    (bytes moments : List ℕ) × MayBe (uses p).source a.left bytes × MayBe (uses p).dated a.coming moments
+    × ((m : Tables) → b.keeper.may_leave m → (end : World) × CutShort w (printed p w bytes moments) a.written b.written end × Stands m end)
+
+-- or a world to which messages lead
+abbrev pub CrashLeaves : Command → World → Seen → Seen → Type 0
+CrashLeaves (prints p) w a b = CrashPrints p w a b
+CrashLeaves answers w a b = (m : Tables) → b.keeper.may_leave m → StandsReached w m
+CrashLeaves (serves count) w a b = (m : Tables) → b.keeper.may_leave m → StandsReached w m
 
 -- from the world w, and what is seen before and after
 pub record Doubts (c : Command) (w : World) (a b : Seen) (status : ℕ) : Type 0 where
-  pub crash : CrashLeaves c w b.keeper
+  pub crash : CrashLeaves c w a b
   -- all that was answered lasts, and one request at most is in doubt
   pub told : FallsTold c w a b status

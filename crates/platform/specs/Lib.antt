@@ -3,6 +3,7 @@ pub mod Csvq
 pub mod OrgAdd
 pub mod Deeds
 pub mod Export
+pub mod Load
 pub mod Commands
 pub mod Seen
 pub mod Serving
@@ -11,3 +12,4 @@ pub mod Falling
 pub mod Promise
 pub mod Words
 pub mod Stops
+pub mod Loading

@@ -1,6 +1,7 @@
 -- What a run does, from what is seen before and after it.
-use Rattle.std.specs.Prelude.{◌≡◌, ◌⊎◌, ℕ, Bool, true, false, List, Option, Some, Result, Ok, Err, IfSome}
+use Rattle.std.specs.Prelude.{◌≡◌, ◌⊎◌, ℕ, Bool, true, false, List, Option, Result, Ok, Err}
 use Rattle.std.specs.Io.KnownBytes.{IsAtEnd}
+use Rattle.ut_batches.specs.Batches.{MayTell}
 use Rattle.ut_io.specs.Moments.{AskedOnce}
 use Rattle.ut_keeper.specs.State.{KeeperState, Tells}
 use Rattle.ut_keeper.specs.Tables.{Tables}
@@ -30,13 +31,9 @@ status_in (Err stop) = stop_status stop
 
 -- ---- what is handed in
 
--- this may be taken for what is told; if it isn't used, anything
-abbrev pub IsTold : Bool → Option (List ℕ) → List ℕ → Type 0
-IsTold used told value = (used ≡ false) ⊎ (told ≡ Some value)
-
--- these are the moments that the clock tells, if they are used; of a clock that tells none they are some
-abbrev pub AreMoments : Bool → Option (List ℕ) → List ℕ → Type 0
-AreMoments used told moments = (used ≡ false) ⊎ IfSome told (λ known. moments ≡ known)
+-- this may be what there was: what is told, if anything is; if it isn't used, it may be anything
+abbrev pub MayBe : (used : Bool) → Option (List ℕ) → List ℕ → Type 0
+MayBe used told value = (used ≡ false) ⊎ MayTell told value
 
 -- the tables that the keeper tells stand for this world; of a command that doesn't open it, any world may be taken
 abbrev pub IsWorldOf : Command → KeeperState → KeeperState → World → Type 0
@@ -56,8 +53,7 @@ KeepsIf true w k = KeepsWorld w k
 -- from the world w, and what is seen before and after, with this result
 abbrev pub Runs : Command → World → Seen → Seen → Result ℕ Stop → Type 0
 Runs (prints p) w a b r =
-    (bytes : List ℕ) → IsTold (uses p).source a.left bytes
-    → (moments : List ℕ) × AreMoments (uses p).dated a.coming moments
+    (bytes moments : List ℕ) × MayBe (uses p).source a.left bytes × MayBe (uses p).dated a.coming moments
     × (end : World) × Prints w (printed p w bytes moments) a.written b.written r end × KeepsIf (uses p).keeper end b.keeper
 Runs answers w a b r = RunsAnswer w a b r
 Runs (serves count) w a b r = RunsServe count w a b r

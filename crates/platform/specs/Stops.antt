@@ -35,6 +35,10 @@ abbrev pub csvq_stop_of : InputFail → CsvqStop
 csvq_stop_of input.Failed = csvq.SourceFailed
 csvq_stop_of input.Memory = csvq.NoMemory
 
+abbrev pub of_input : InputFail → Stop
+of_input input.Failed = stop.SourceFailed
+of_input input.Memory = stop.NoMemory
+
 abbrev pub store_stop_of : OpenFail → StoreStop
 store_stop_of (opening.Store store.Keeper) = storing.KeeperFailed
 store_stop_of (opening.Store store.Memory) = storing.NoMemory

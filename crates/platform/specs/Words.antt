@@ -2,9 +2,9 @@
 use Rattle.std.specs.Prelude.{◌≡◌, ◌≢◌, ◌<◌, ◌≤◌, ℕ, List, slice_index, Option, Some, None}
 use Rattle.std.specs.Str.{byte}
 use Rattle.std.specs.Str.Parse.{IsNumeral, digits_value}
-use Rattle.platform.specs.Commands.{Command, most_connections, answers, prints, serves, csvq, export, org_add}
+use Rattle.platform.specs.Commands.{Command, most_connections, answers, prints, serves, csvq, export, load, org_add}
 use Rattle.platform.specs.declared.command.Words.{Words}
-use Rattle.platform.specs.declared.command.Words.TheVariants.{Answer, Csvq, Export, OrgAdd, Other, Serve}
+use Rattle.platform.specs.declared.command.Words.TheVariants.{Answer, Csvq, Export, Load, OrgAdd, Other, Serve}
 
 -- digits that write a count of connections, without a leading zero
 pub record IsCount (word : List ℕ) : Type 0 where
@@ -18,6 +18,7 @@ abbrev pub AreWords : Words → Option Command → Type 0
 AreWords (Csvq query) command = command ≡ Some (prints (csvq query.now))
 AreWords (OrgAdd name secret) command = command ≡ Some (prints (org_add name.now secret.now))
 AreWords (Export org user secret query) command = command ≡ Some (prints (export org.now user.now secret.now query.now))
+AreWords (Load org user secret object) command = command ≡ Some (prints (load org.now user.now secret.now object.now))
 AreWords Answer command = command ≡ Some answers
 AreWords (Serve count) command = (0 < count) × (command ≡ Some (serves count))
 AreWords Other command = command ≡ None

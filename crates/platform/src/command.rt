@@ -10,6 +10,8 @@ pub(crate) enum Words<'a> {
     OrgAdd(&'a str, &'a str),
     /// `export ORG USER SECRET QUERY`
     Export(&'a str, &'a str, &'a str, &'a str),
+    /// `load ORG USER SECRET OBJECT`
+    Load(&'a str, &'a str, &'a str, &'a str),
     /// `answer`
     Answer,
     /// `serve` with a COUNT, or with the most
@@ -88,6 +90,13 @@ pub(crate) fn read_words(words: &[String]) -> Words<'_>
                     words[3].as_str(),
                     words[4].as_str(),
                 )
+            } else if words[0].as_bytes() == b"load".as_slice() {
+                Words::Load(
+                    words[1].as_str(),
+                    words[2].as_str(),
+                    words[3].as_str(),
+                    words[4].as_str(),
+                )
             } else {
                 Words::Other
             }
@@ -104,6 +113,7 @@ pub fn uses_keeper(words: &[String]) -> bool
         Words::Csvq(_) => false,
         Words::OrgAdd(_, _) => true,
         Words::Export(_, _, _, _) => true,
+        Words::Load(_, _, _, _) => true,
         Words::Answer => true,
         Words::Serve(_) => true,
         Words::Other => false,

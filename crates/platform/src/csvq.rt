@@ -1,11 +1,12 @@
 //! The command `csvq`.
 
-ghost use Rattle.std.specs.Prelude.{◌≡◌, ◌++◌, IfOk, IsErrOf, IsTrue, List, Some, codes, false, pos, string_bytes, ℕ};
+ghost use Rattle.std.specs.Prelude.{◌≡◌, ◌++◌, IfOk, IsErrOf, IsTrue, List, codes, false, pos, string_bytes, ℕ};
 ghost use Rattle.std.specs.Fmt.{decimal};
 ghost use Rattle.std.specs.Io.KnownBytes.{IsAtEnd};
 ghost use Rattle.platform.specs.Csvq.{outcome_page, reads_input, refused_row, rows_printed};
-ghost use Rattle.platform.specs.Run.{IsTold};
+ghost use Rattle.platform.specs.Run.{MayBe};
 ghost use Rattle.platform.specs.declared.csvq.InputFail.TheVariants.{Failed, Memory};
+ghost use Rattle.ut_batches.specs.Batches.{MayTell};
 ghost use Rattle.ut_csvq.specs.Outcomes.{input_outcome};
 ghost use Rattle.ut_value.specs.Causes.{Cause};
 ghost use Rattle.ut_value.specs.Dates.{is_moment};
@@ -69,7 +70,8 @@ fn page_of_query<S: Source>(
     source: &mut S,
 ) -> Result<Page, InputFail>
     requires { IsTrue (is_moment (pos now)) }
-    ensures page { IfOk result (λ p. (bytes : List ℕ) → S.left source.old ≡ Some bytes → p ≡ outcome_page (input_outcome query.now (pos now) bytes)) }
+    ensures page { IfOk result (λ p. (bytes : List ℕ) × MayTell (S.left source.old) bytes
+        × (p ≡ outcome_page (input_outcome query.now (pos now) bytes))) }
     ensures whole { IfOk result (λ p. p.status ≡ 0 → IsAtEnd (S.left source.new)) }
     ensures stays { S.stays source.old source.new }
     ensures cause { Cause (S.faults source.old) (S.faults source.new) (IsErrOf result Failed) }
@@ -94,7 +96,7 @@ pub(crate) fn page_of<S: Source>(
     source: &mut S,
 ) -> Result<Page, InputFail>
     requires { IsTrue (is_moment (pos now)) }
-    ensures page { IfOk result (λ p. (bytes : List ℕ) → IsTold (reads_input query.now) (S.left source.old) bytes → p ≡ rows_printed query.now bytes now) }
+    ensures page { IfOk result (λ p. (bytes : List ℕ) × MayBe (reads_input query.now) (S.left source.old) bytes × (p ≡ rows_printed query.now bytes now)) }
     ensures unread { reads_input query.now ≡ false → source.new ≡ source.old }
     ensures whole { IfOk result (λ p. p.status ≡ 0 → IsAtEnd (S.left source.new)) }
     ensures stays { S.stays source.old source.new }

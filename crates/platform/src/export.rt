@@ -57,7 +57,7 @@ impl TableWork for Exporting<'_> {
 
     ghost keeps = { false };
 
-    ghost most = { changes_behind 0 };
+    ghost most = { λ x. changes_behind 0 };
 
     ghost shown = { λ x removed. shown_behind (export_shown x.query.now) removed };
 

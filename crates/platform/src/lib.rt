@@ -8,7 +8,9 @@
 mod command;
 mod csvq;
 mod export;
+mod input;
 mod laws;
+mod load;
 mod org_add;
 mod page;
 mod printing;

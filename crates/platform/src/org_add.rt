@@ -38,7 +38,7 @@ impl TableWork for OrgAdd<'_> {
 
     ghost keeps = { true };
 
-    ghost most = { 3 };
+    ghost most = { λ o. 3 };
 
     ghost shown = { λ o removed. 0 };
 

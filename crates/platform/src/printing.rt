@@ -9,9 +9,10 @@ ghost use Rattle.ut_keeper.specs.Tables.{Tables};
 ghost use Rattle.ut_model.specs.World.{World};
 ghost use Rattle.ut_stands.specs.Stands.{Stands};
 ghost use Rattle.platform.specs.Commands.{csvq, printed};
-ghost use Rattle.platform.specs.Csvq.{first_moment, reads_input};
+ghost use Rattle.platform.specs.Csvq.{reads_input};
+ghost use Rattle.ut_batches.specs.Batches.{first_moment};
 ghost use Rattle.platform.specs.Deeds.{Prints, one_deed};
-ghost use Rattle.platform.specs.Run.{IsTold, KeepsWorld, status_in};
+ghost use Rattle.platform.specs.Run.{KeepsWorld, MayBe, status_in};
 ghost use Rattle.platform.specs.Stops.{IsKnownStatus, VersionStops, behind, csvq_end, csvq_stop_of, is_done, page_end, stop_of_csvq, stop_of_store, store_end, store_stop_of};
 ghost use Rattle.platform.specs.declared.printing.CsvqStop.TheVariants as csvq_stop;
 ghost use Rattle.platform.specs.declared.printing.StoreStop.TheVariants as store_stop;
@@ -139,7 +140,7 @@ pub(crate) fn store_status(ended: Result<u8, StoreStop>) -> u8
 }
 
 // Writes a page, and returns its status.
-fn write_page<W: Sink>(sink: &mut W, page: &Page) -> Result<u8, IoFail>
+pub(crate) fn write_page<W: Sink>(sink: &mut W, page: &Page) -> Result<u8, IoFail>
     ensures prints { (w next : World)
         → Prints w (one_deed page.now next) (W.written sink.old) (W.written sink.new) (page_end result) next }
     ensures status { IsKnownStatus result }
@@ -162,8 +163,9 @@ pub(crate) fn print_csvq<S: Source, W: Sink>(
     sink: &mut W,
 ) -> Result<u8, CsvqStop>
     requires { IsTrue (is_moment (pos now)) }
-    ensures prints { (w : World) (bytes moments : List ℕ) → IsTold (reads_input query.now) (S.left source.old) bytes → now ≡ first_moment moments
-        → Prints w (printed (csvq query.now) w bytes moments) (W.written sink.old) (W.written sink.new) (csvq_end result) w }
+    ensures prints { (w : World) (moments : List ℕ) → now ≡ first_moment moments
+        → (bytes : List ℕ) × MayBe (reads_input query.now) (S.left source.old) bytes
+        × Prints w (printed (csvq query.now) w bytes moments) (W.written sink.old) (W.written sink.new) (csvq_end result) w }
     ensures unread { reads_input query.now ≡ false → source.new ≡ source.old }
     ensures unwritten { is_done (csvq_end result) ≡ false → sink.new ≡ sink.old }
     ensures whole { IfOk result (λ status. status ≡ 0 → IsAtEnd (S.left source.new)) }
@@ -198,7 +200,7 @@ pub(crate) fn print_tables<K: Keeper, W: Sink, P: TableWork>(
     ensures crash { (K.state keeper.old).tells → IsTrue (K.state keeper.old).trusted → IsTrue (K.state keeper.new).is_clean
         → (w : World) → Stands (K.state keeper.old).tables w → (m : Tables) → (K.state keeper.new).may_leave m
         → (K.state keeper.old).may_leave m ⊎ Stands m (P.does work.now w).1 }
-    ensures acknowledged { TrustedAfter (is_ok result) (K.state keeper.new) }
+    ensures acknowledged { TrustedAfter (is_done (store_end result)) (K.state keeper.new) }
     ensures unwritten { is_done (store_end result) ≡ false → sink.new ≡ sink.old }
     ensures status { IsKnownStatus result }
     ensures steps { Steps (K.state keeper.old) (K.state keeper.new) }

@@ -6,6 +6,7 @@ ghost use Rattle.platform.specs.Seen.{Seen};
 
 use crate::command::{Words, read_words};
 use crate::export::Exporting;
+use crate::load::{Load, print_load};
 use crate::org_add::OrgAdd;
 use crate::printing::{csvq_status, print_csvq, print_tables, store_status};
 use crate::serving::{serve_answer, serve_door};
@@ -32,23 +33,25 @@ fn status_of(ended: Result<u8, Stop>) -> u8
 /// | `csvq QUERY` | reads a CSV text from the source, and writes what a query finds in it |
 /// | `org-add NAME SECRET` | makes an organisation, and writes its id and its administrator's |
 /// | `export ORG USER SECRET QUERY` | writes the rows of a user's query as lines of CSV |
+/// | `load ORG USER SECRET OBJECT` | makes or changes a record for each row of a CSV text, which comes from the source, and writes what became of each |
 /// | `answer` | answers the HTTP messages of one connection, which come from the source, to the sink |
 /// | `serve`, `serve COUNT` | answers the HTTP messages of the first COUNT connections of the door, or of all that come; without COUNT of the first 2^64 - 1 |
 ///
 /// | Status | When |
 /// |---|---|
-/// | 0 | the command was done; `csvq` has read its input to its end |
+/// | 0 | the command was done; `csvq` and `load` have read their input to its end |
 /// | 64 | the words are no command; nothing is read or written |
 /// | 65 | the query, the input or an argument is refused; one line says so |
-/// | 71 | out of memory; of `answer` and `serve` only before a message is read |
-/// | 72 | the keeper failed; of `answer` and `serve` only before a message is read |
+/// | 71 | out of memory; of `answer` and `serve` only before a message is read, of `load` also between two batches |
+/// | 72 | the keeper failed; as 71 |
 /// | 73, 74 | the sink failed; the source failed |
 /// | 75 | the door failed: it couldn't be opened, or brought no further connection |
 /// | 76 | the tables are damaged |
 /// | 77 | the tables are of a version that isn't known here |
 ///
-/// After 0, 65 and 73, of `answer` also after 74, and of `serve` after 75, the tables are what the command is to leave; after every other status
-/// they are what they were.
+/// After 0, 65 and 73, of `answer` also after 74, and of `serve` after 75, the tables are what the command is to leave. Of `load` they are
+/// what its lines tell after 71 and 72, and what these and the batch tell whose lines were being written after 73; if they were damaged,
+/// rows may have been loaded before 76. After every other status they are what they were.
 pub fn run<K: Keeper, D: Door, S: Source, W: Sink, C: Clock>(
     alloc: Global,
     words: &[String],
@@ -94,6 +97,15 @@ pub fn run<K: Keeper, D: Door, S: Source, W: Sink, C: Clock>(
                 now,
             };
             store_status(print_tables(alloc, &work, keeper, sink))
+        }
+        Words::Load(org, user, secret, object) => {
+            let load = Load {
+                org,
+                user,
+                secret,
+                object,
+            };
+            status_of(print_load(alloc, &load, keeper, source, sink, clock))
         }
         Words::Answer => status_of(serve_answer(alloc, keeper, source, sink, clock)),
         Words::Serve(count) => status_of(serve_door(alloc, keeper, door, clock, count)),

@@ -1,7 +1,10 @@
 ghost use Rattle.std.specs.Prelude.{◌≡◌};
 ghost use Rattle.platform.specs.Run.{stop_status};
 ghost use Rattle.platform.specs.Stops.{of_opening, of_store};
+ghost use Rattle.platform.specs.declared.stop.Stop.TheVariants as stop;
 
+use std::alloc::AllocError;
+use ut_io::IoFail;
 use ut_keys::StoreFail;
 use ut_stands::OpenFail;
 
@@ -61,5 +64,21 @@ impl From<OpenFail> for Stop {
             OpenFail::Store(fail) => Stop::from(fail),
             OpenFail::UnknownVersion => Stop::UnknownVersion,
         }
+    }
+}
+
+impl From<AllocError> for Stop {
+    ghost from_gives = { λ _ e. e ≡ stop.NoMemory };
+
+    fn from(_: AllocError) -> Stop {
+        Stop::NoMemory
+    }
+}
+
+impl From<IoFail> for Stop {
+    ghost from_gives = { λ _ e. e ≡ stop.SinkFailed };
+
+    fn from(_: IoFail) -> Stop {
+        Stop::SinkFailed
     }
 }

@@ -27,7 +27,7 @@ pub(crate) trait TableWork {
     ghost keeps: { Bool };
 
     // How many rows are changed at most, and how many data rows are shown.
-    ghost most: { ℕ };
+    ghost most: { Self → ℕ };
 
     ghost shown: { Self → (removed : ℕ) → ℕ };
 
@@ -48,7 +48,7 @@ pub(crate) trait TableWork {
             → Judges Stands (does self.now) w (tables_of K.state draft.new) result }
         ensures change { IsChange result → 0 < count_of draft.new }
         ensures done { keeps ≡ true → IfOk result (λ j. Refuses j → IsChange result → ⊥) }
-        ensures works { DraftWorks K.state most 0 (shown self.now (removals_of K.state data_table draft.old)) draft.old draft.new }
+        ensures works { DraftWorks K.state (most self.now) 0 (shown self.now (removals_of K.state data_table draft.old)) draft.old draft.new }
         ensures stays { StaysAfter (is_ok result) (state_of K.state draft.old) (state_of K.state draft.new) }
         ensures cause { KeeperCause (state_of K.state draft.old) (state_of K.state draft.new) (IsErrOf result Keeper) };
 }

@@ -1,6 +1,6 @@
 -- From what `run` promises over tables to what is said in worlds alone: one call.
-use Rattle.std.proofs.Common.{◌≡◌, ◌⊎◌, inl, inr, ℕ, Bool, true, false, IsTrue, List, [], ◌∷◌, Option, Some, None, Result, refl, sym, subst, ◌∙◌}
-use Rattle.std.specs.Prelude.{IfSome, ◌++◌, ◌≤◌, length}
+use Rattle.std.proofs.Common.{◌≡◌, ◌⊎◌, inl, inr, ℕ, Bool, true, false, IsTrue, List, [], ◌∷◌, Option, Some, None, Result, refl, sym, ap, subst, ◌∙◌}
+use Rattle.std.specs.Prelude.{IfSome, if◌then◌else◌, ◌++◌, ◌≤◌, length}
 use Rattle.std.specs.Io.KnownBytes.{Appends}
 use Rattle.ut_io.specs.Doors.{DoorState, outputs}
 use Rattle.ut_keeper.specs.State.{IsSettled, KeeperState}
@@ -12,11 +12,11 @@ use Rattle.ut_serving.specs.Falls.{Falls, FallsBringing}
 use Rattle.ut_serving.specs.Leads.{IsReached, StandsReached}
 use Rattle.ut_serving.specs.Requests.{message_in}
 use Rattle.ut_stands.specs.Stands.{Stands}
-use Rattle.platform.specs.Commands.{Command, answers, csvq, export, org_add, prints, printed, serves, used_by, uses_of}
-use Rattle.platform.specs.Deeds.{IsNext}
-use Rattle.platform.specs.Falling.{Doubts, FallsOpening}
+use Rattle.platform.specs.Commands.{Command, Printing, answers, csvq, export, load, org_add, prints, printed, serves, used_by, uses, uses_of}
+use Rattle.platform.specs.Deeds.{Prints}
+use Rattle.platform.specs.Falling.{CrashPrints, Doubts, FallsOpening}
 use Rattle.platform.specs.Promise.{IsStatus, Promise}
-use Rattle.platform.specs.Run.{KeepsWorld, status_in}
+use Rattle.platform.specs.Run.{KeepsIf, KeepsWorld, MayBe, Runs, status_in}
 use Rattle.platform.specs.Serving.{IsOpening, OpensOnly, Served, ServeEnds, answer_end}
 use Rattle.platform.specs.declared.stop.Stop.{Stop}
 use Rattle.ut_history.specs.Calls.{seen}
@@ -95,21 +95,33 @@ module _ (k l : KeeperState) (a b : Around) (status : ℕ) (w : World) (m : Tabl
     whole_serves count p None coming e f = led (p.leads refl (told, st) w s)
     whole_serves count p (Some d) None e f = led (p.leads refl (told, st) w s)
 
+    -- a text was printed of the tables
+    abbrev SaysText : Printing → World → Type 0
+    SaysText q end = (bytes moments : List ℕ) × MayBe (uses q).source a.left bytes × MayBe (uses q).dated a.coming moments
+        × (r : Result ℕ Stop) × (status ≡ status_in r) × (said : World) × Prints w (printed q w bytes moments) a.written b.written r said × (end ≡ (if (uses q).keeper then said else w))
+
+    whole_text : (q : Printing) → (uses q).keeper ≡ true → Kept (prints q) → (end : World) × Says (prints q) w end a b status × Stands m end
+    whole_text q used p = let h = p.does w (inr ((told, st), s)) in by h.0 h.1 h.2
+      where
+        by : (r : Result ℕ Stop) → status ≡ status_in r → Runs (prints q) w (seen k a) (seen l b) r → (end : World) × Says (prints q) w end a b status × Stands m end
+        by r same (bytes, moments, source, dated, end, printed, kept) = (
+          end,
+          (
+            λ none. absurd (true_isnt_false (sym used ∙ none)),
+            (bytes, moments, source, dated, r, same, end, printed, sym (ap (λ (v : Bool). if v then end else w) used)),
+          ),
+          after end (subst (λ (v : Bool). KeepsIf v end l) used kept),
+        )
+
     whole : (command : Command) → Kept command → ((uses_of command).keeper ≡ false → k.may_leave m)
         → (end : World) × Says command w end a b status × Stands m end
-    whole (prints (csvq query)) p unused = (
-      w,
-      (λ e. refl, λ bytes source. let h = p.does w (inl refl) in let q = h.2 bytes source in (q.0, q.1, h.0, h.1, q.2, q.3, refl)),
-      before (unused refl),
-    )
-    whole (prints (org_add name secret)) p unused =
-        let h = p.does w (inr ((told, st), s)) in
-        let q = h.2 [] (inl refl) in
-        (q.2, (λ e. absurd (true_isnt_false e), λ bytes source. (q.0, q.1, h.0, h.1, q.2, q.3, refl)), after q.2 q.4)
-    whole (prints (export org user secret query)) p unused =
-        let h = p.does w (inr ((told, st), s)) in
-        let q = h.2 [] (inl refl) in
-        (q.2, (λ e. absurd (true_isnt_false e), λ bytes source. (q.0, q.1, h.0, h.1, q.2, q.3, refl)), after q.2 q.4)
+    whole (prints (csvq query)) p unused = let h = p.does w (inl refl) in (w, (λ e. refl, by_result h.0 h.1 h.2), before (unused refl))
+      where
+        by_result : (r : Result ℕ Stop) → status ≡ status_in r → Runs (prints (csvq query)) w (seen k a) (seen l b) r → SaysText (csvq query) w
+        by_result r same (bytes, moments, source, dated, said, printed, kept) = (bytes, moments, source, dated, r, same, said, printed, refl)
+    whole (prints (org_add name secret)) p unused = whole_text (org_add name secret) refl p
+    whole (prints (export org user secret query)) p unused = whole_text (export org user secret query) refl p
+    whole (prints (load org user secret object)) p unused = whole_text (load org user secret object) refl p
     whole answers p unused = whole_answers p a.left a.coming refl refl
     whole (serves count) p unused = whole_serves count p a.door a.coming refl refl
 
@@ -187,27 +199,22 @@ module _ (k l : KeeperState) (a b : Around) (status : ℕ) (w : World) (m : Tabl
     breaks_serves count p None coming e f = (doubts (serves count) p).crash m left
     breaks_serves count p (Some d) None e f = (doubts (serves count) p).crash m left
 
+    -- a text that was to be printed of the tables
+    breaks_text : (q : Printing) → (uses q).keeper ≡ true → Kept (prints q) → (end : World) × Breaks (prints q) w end a b status × Stands m end
+    breaks_text q used p = by (doubts (prints q) p).crash
+      where
+        none : ((status ≡ 0) ⊎ (status ≡ 65)) → ⊥
+        none is = true_isnt_false (sym (p.causes.acknowledged refl used is clean) ∙ fell)
+
+        by : CrashPrints q w (seen k a) (seen l b) → (end : World) × Breaks (prints q) w end a b status × Stands m end
+        by (bytes, moments, source, dated, crash) = let h = crash m left in (h.0, (used, none, (bytes, moments, source, dated, h.1)), h.2)
+
     breaks : (command : Command) → Kept command → ((uses_of command).keeper ≡ false → IsTrue l.trusted)
         → (end : World) × Breaks command w end a b status × Stands m end
     breaks (prints (csvq query)) p unused = absurd (true_isnt_false (sym (unused refl) ∙ fell))
-    breaks (prints (org_add name secret)) p unused = by ((doubts (prints (org_add name secret)) p).crash [] [] m left)
-      where
-        none : ((status ≡ 0) ⊎ (status ≡ 65)) → ⊥
-        none is = true_isnt_false (sym (p.causes.acknowledged refl refl is clean) ∙ fell)
-
-        by : Stands m w ⊎ ((end next : World) × IsNext w (printed (org_add name secret) w [] []) end next × Stands m next)
-            → (end : World) × Breaks (prints (org_add name secret)) w end a b status × Stands m end
-        by (inl h) = (w, (refl, none, inl refl), h)
-        by (inr (from, next, is, h)) = (next, (refl, none, inr (from, is)), h)
-    breaks (prints (export org user secret query)) p unused = by ((doubts (prints (export org user secret query)) p).crash [] [] m left)
-      where
-        none : ((status ≡ 0) ⊎ (status ≡ 65)) → ⊥
-        none is = true_isnt_false (sym (p.causes.acknowledged refl refl is clean) ∙ fell)
-
-        by : Stands m w ⊎ ((end next : World) × IsNext w (printed (export org user secret query) w [] []) end next × Stands m next)
-            → (end : World) × Breaks (prints (export org user secret query)) w end a b status × Stands m end
-        by (inl h) = (w, (refl, none, inl refl), h)
-        by (inr (from, next, is, h)) = (next, (refl, none, inr (from, is)), h)
+    breaks (prints (org_add name secret)) p unused = breaks_text (org_add name secret) refl p
+    breaks (prints (export org user secret query)) p unused = breaks_text (export org user secret query) refl p
+    breaks (prints (load org user secret object)) p unused = breaks_text (load org user secret object) refl p
     breaks answers p unused = breaks_answers p a.left a.coming refl refl
     breaks (serves count) p unused = breaks_serves count p a.door a.coming refl refl
 

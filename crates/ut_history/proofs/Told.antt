@@ -26,5 +26,5 @@ module _ (a b : Around) (name secret : List ℕ) where
   by_result (Err UnknownVersion) said same h = absurd (omega (arith, same))
 
   pub line : (end : World) → Says (prints (org_add name secret)) [] end a b 0 ⊎ (Breaks (prints (org_add name secret)) [] end a b 0 × Rose a.keeper_faults b.keeper_faults) → Line
-  line end (inl says) = let h = says.1 [] (inl refl) in by_result h.2 h.4 h.3 h.5
+  line end (inl says) = let h = says.1 in by_result h.4 h.6 h.5 h.7
   line end (inr breaks) = absurd (breaks.0.1 (inl refl))

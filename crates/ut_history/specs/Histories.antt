@@ -14,9 +14,9 @@ use Rattle.ut_serving.specs.Falls.{IsUndone, IsUndoneBehind}
 use Rattle.ut_serving.specs.Leads.{IsReached}
 use Rattle.ut_serving.specs.Requests.{message_in}
 use Rattle.platform.specs.Commands.{Command, Printing, answers, is_opening, prints, printed, serves, uses}
-use Rattle.platform.specs.Deeds.{IsNext, Prints}
+use Rattle.platform.specs.Deeds.{CutShort, Prints}
 use Rattle.platform.specs.Promise.{IsStatus}
-use Rattle.platform.specs.Run.{AreMoments, IsTold, status_in}
+use Rattle.platform.specs.Run.{MayBe, status_in}
 use Rattle.platform.specs.Serving.{IsIsolated, IsOpening, ServeEnds, answer_end}
 use Rattle.platform.specs.declared.stop.Stop.{Stop}
 use Rattle.ut_history.specs.Runs.{Around, Run}
@@ -28,8 +28,7 @@ use Rattle.ut_step.specs.Step.{step}
 abbrev pub SaysPrints : Printing → World → World → Around → Around → ℕ → Type 0
 SaysPrints p w end a b status =
     ((uses p).keeper ≡ false → end ≡ w)
-    × ((bytes : List ℕ) → IsTold (uses p).source a.left bytes
-    → (moments : List ℕ) × AreMoments (uses p).dated a.coming moments
+    × ((bytes moments : List ℕ) × MayBe (uses p).source a.left bytes × MayBe (uses p).dated a.coming moments
     × (r : Result ℕ Stop) × (status ≡ status_in r) × (said : World) × Prints w (printed p w bytes moments) a.written b.written r said
     × (end ≡ (if (uses p).keeper then said else w)))
 
@@ -116,13 +115,16 @@ BreaksServes w end a b status (Some d) (Some moments) =
     ((is_opening status ≡ true) × (end ≡ w)) ⊎ ((e : DoorState) × (b.door ≡ Some e) × FallenServing w end moments d e)
 BreaksServes w end a b status _ _ = IsReached w end
 
--- a text that was to be printed of the tables: its status acknowledges nothing, and its deed is done whole or not at all
-abbrev pub BreaksPrints : Printing → World → World → ℕ → Type 0
-BreaksPrints p w end status =
-    ((uses p).keeper ≡ true) × (((status ≡ 0) ⊎ (status ≡ 65)) → ⊥) × ((end ≡ w) ⊎ ((from : World) × IsNext w (printed p w [] []) from end))
+-- a text that was to be printed of the tables: its status acknowledges nothing; what was written is done, and at most the next deed
+-- besides, whole or not at all
+abbrev pub BreaksPrints : Printing → World → World → Around → Around → ℕ → Type 0
+BreaksPrints p w end a b status =
+    ((uses p).keeper ≡ true) × (((status ≡ 0) ⊎ (status ≡ 65)) → ⊥)
+    × ((bytes moments : List ℕ) × MayBe (uses p).source a.left bytes × MayBe (uses p).dated a.coming moments
+    × CutShort w (printed p w bytes moments) a.written b.written end)
 
 abbrev pub Breaks : Command → World → World → Around → Around → ℕ → Type 0
-Breaks (prints p) w end a b status = BreaksPrints p w end status
+Breaks (prints p) w end a b status = BreaksPrints p w end a b status
 Breaks answers w end a b status = BreaksAnswers w end a b status a.left a.coming
 Breaks (serves count) w end a b status = BreaksServes w end a b status a.door a.coming
 

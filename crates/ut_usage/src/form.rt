@@ -19,7 +19,7 @@ pub(crate) struct Form {
 }
 
 /// The commands of `platform::run`. One more is a line here, and its name in `proofs/Forms.antt`.
-pub(crate) const COMMANDS: [Form; 5] = [
+pub(crate) const COMMANDS: [Form; 6] = [
     Form {
         name: "csvq",
         form: "csvq QUERY",
@@ -33,6 +33,11 @@ pub(crate) const COMMANDS: [Form; 5] = [
     Form {
         name: "export",
         form: "export ORG USER SECRET QUERY",
+        operands: Operands::Words(4),
+    },
+    Form {
+        name: "load",
+        form: "load ORG USER SECRET OBJECT",
         operands: Operands::Words(4),
     },
     Form {

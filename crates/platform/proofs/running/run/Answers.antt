@@ -1,12 +1,13 @@
-use Rattle.std.proofs.Common.{◌≡◌, ◌∙◌, inl, true, false, [], refl, sym, subst, arith}
-use Rattle.platform.specs.Commands.{answers, csvq, export, has_status, is_opening, may_write, never, once, org_add, prints, serves}
+use Rattle.std.proofs.Common.{◌≡◌, ◌∙◌, inl, true, false, [], ◌∷◌, refl, sym, ap, subst, arith}
+use Rattle.platform.specs.Commands.{answers, csvq, export, has_status, is_one_of, is_opening, load, may_write, never, once, org_add, prints, serves}
 use Rattle.platform.specs.Promise.{Causes}
 use Rattle.platform.specs.Seen.{Seen}
 use Rattle.platform.proofs.Runs.{caused, is_72, is_73, is_74, is_75, keeper_caused, known_zero, not_own, of_none, of_words, quiet, status_of_none, status_of_words, true_isnt_false, unused_of_words, was_opening}
 use Rattle.platform.proofs.OfCsvq as by_csvq
-use Rattle.platform.specs.OrgAdd.{org_does, org_printed, org_world}
+use Rattle.platform.proofs.OfLoad as by_load
+use Rattle.platform.specs.OrgAdd.{org_does}
 use Rattle.platform.specs.Export.{export_does}
-use Rattle.platform.proofs.OfExport.{export_next, export_told}
+use Rattle.platform.proofs.OfExport.{export_told}
 use Rattle.platform.proofs.OfTables as by_tables
 use Rattle.platform.proofs.OfServing.{serving_promise, unwritten}
 use Rattle.platform.proofs.running.run.Goals as goal
@@ -68,7 +69,7 @@ returns-in-OrgAdd-clause-promise g c =
     of_words _ (prints (org_add name secret)) a b status c.in-OrgAdd.ensures
     (by_tables.table_promise (org_add name secret) true never false refl a b r status it.status same refl refl refl (org_does name secret) (g.met.K.Keeper.settled c.args.keeper.now) c.stands_laws.ensures.one_version
     (by_tables.table_causes (org_add name secret) true never false refl a b r status it.status same refl refl refl it.steps it.acknowledged it.keeper_cause it.sink_cause)
-    [] (inl refl) (λ w bytes. refl) (λ w bytes moments. by_tables.next_deed w (org_printed w name secret) (org_world w name secret)) tt it.prints it.keeps it.version it.kept it.refused it.crash)
+    [] (inl refl) (λ w bytes. refl) it.acknowledged (λ none. ap g.W.Sink.written (it.unwritten none)) tt it.prints it.keeps it.version it.kept it.refused it.crash)
 
 pub returns-in-OrgAdd-clause-unused : goal.returns-in-OrgAdd-clause-unused
 returns-in-OrgAdd-clause-unused g c =
@@ -117,7 +118,7 @@ returns-in-Export-clause-promise g c =
     (by_tables.table_promise p false once true refl a b r status it.status same refl refl refl (export_does org user secret query now) (g.met.K.Keeper.settled c.args.keeper.now) c.stands_laws.ensures.one_version
     (by_tables.table_causes p false once true refl a b r status it.status same refl refl refl it.steps it.acknowledged it.keeper_cause it.sink_cause)
     at.moments at.are (λ w bytes. export_told org user secret query now w bytes at.moments at.first)
-    (λ w bytes moments. export_next org user secret query now w bytes moments)
+    it.acknowledged (λ none. ap g.W.Sink.written (it.unwritten none))
     c.now-now-in-Export.ensures.asked it.prints it.keeps it.version it.kept it.refused it.crash)
 
 pub returns-in-Export-clause-unused : goal.returns-in-Export-clause-unused
@@ -133,18 +134,56 @@ returns-in-Export-clause-unused g c =
       clock_same = λ none. absurd (true_isnt_false none);
     })
 
+-- ---- `load`
+
+pub returns-in-Load-clause-status : goal.returns-in-Load-clause-status
+returns-in-Load-clause-status g c =
+    let this = prints (load c.in-Load.org.now c.in-Load.user.now c.in-Load.secret.now c.in-Load.object.now) in
+    status_of_words _ this c.status_of.result c.in-Load.ensures (subst (λ n. has_status this n ≡ true) (sym c.status_of.ensures) c.print_load.ensures.status)
+
+pub returns-in-Load-clause-promise : goal.returns-in-Load-clause-promise
+returns-in-Load-clause-promise g c =
+    let org = c.in-Load.org.now in
+    let user = c.in-Load.user.now in
+    let secret = c.in-Load.secret.now in
+    let object = c.in-Load.object.now in
+    let r = c.print_load.result in
+    let it = c.print_load.ensures in
+    let status = c.status_of.result in
+    let same = c.status_of.ensures in
+    let a : Seen = record { keeper = g.K.Keeper.state c.args.keeper.now; door = g.D.Door.held c.args.door.now; door_faults = g.D.Door.faults c.args.door.now; line_faults = g.D.Door.line_faults c.args.door.now; left = g.S.Source.left c.args.source.now; read_faults = g.S.Source.faults c.args.source.now; written = g.W.Sink.written c.args.sink.now; write_faults = g.W.Sink.faults c.args.sink.now; coming = g.C.Clock.coming c.args.clock.now } in
+    let b : Seen = record { keeper = g.K.Keeper.state c.print_load.new.keeper; door = g.D.Door.held c.args.door.now; door_faults = g.D.Door.faults c.args.door.now; line_faults = g.D.Door.line_faults c.args.door.now; left = g.S.Source.left c.print_load.new.source; read_faults = g.S.Source.faults c.print_load.new.source; written = g.W.Sink.written c.print_load.new.sink; write_faults = g.W.Sink.faults c.print_load.new.sink; coming = g.C.Clock.coming c.print_load.new.clock } in
+    of_words _ (prints (load org user secret object)) a b status c.in-Load.ensures
+    (by_load.load_promise org user secret object a b r status same it.known refl refl c.stands_laws.ensures.one_version
+    (by_load.load_causes org user secret object a b r status same it.known refl refl it.status it.ends.steps it.acknowledged it.ends.cause it.sink_cause it.source_cause)
+    it.prints it.falls it.version it.kept it.whole)
+
+pub returns-in-Load-clause-unused : goal.returns-in-Load-clause-unused
+returns-in-Load-clause-unused g c =
+    let this = prints (load c.in-Load.org.now c.in-Load.user.now c.in-Load.secret.now c.in-Load.object.now) in
+    let it = c.print_load.ensures in
+    let status = c.status_of.result in
+    let same = c.status_of.ensures in
+    unused_of_words _ this status c.in-Load.ensures (record {
+      keeper_same = λ none. absurd (true_isnt_false none);
+      door_same = λ none. refl;
+      source_same = λ none. (it.unopened (sym same ∙ by_load.is_77 status (was_opening (is_one_of status (77 ∷ [])) none))).0;
+      sink_same = λ none. it.unwritten (subst (λ n. may_write this n ≡ false) same none);
+      clock_same = λ none. (it.unopened (sym same ∙ by_load.is_77 status (was_opening (is_one_of status (77 ∷ [])) none))).1;
+    })
+
 -- ---- `answer`
 
 pub returns-in-Answer-clause-status : goal.returns-in-Answer-clause-status
 returns-in-Answer-clause-status g c =
-    status_of_words _ answers c.status_of.result c.in-Answer.ensures (subst (λ n. has_status answers n ≡ true) (sym c.status_of.ensures) c.serve_answer.ensures.statuses)
+    status_of_words _ answers c.status_of-in-Answer.result c.in-Answer.ensures (subst (λ n. has_status answers n ≡ true) (sym c.status_of-in-Answer.ensures) c.serve_answer.ensures.statuses)
 
 pub returns-in-Answer-clause-promise : goal.returns-in-Answer-clause-promise
 returns-in-Answer-clause-promise g c =
     let r = c.serve_answer.result in
     let it = c.serve_answer.ensures in
-    let status = c.status_of.result in
-    let same = c.status_of.ensures in
+    let status = c.status_of-in-Answer.result in
+    let same = c.status_of-in-Answer.ensures in
     let known = known_zero r it.status in
     let a : Seen = record { keeper = g.K.Keeper.state c.args.keeper.now; door = g.D.Door.held c.args.door.now; door_faults = g.D.Door.faults c.args.door.now; line_faults = g.D.Door.line_faults c.args.door.now; left = g.S.Source.left c.args.source.now; read_faults = g.S.Source.faults c.args.source.now; written = g.W.Sink.written c.args.sink.now; write_faults = g.W.Sink.faults c.args.sink.now; coming = g.C.Clock.coming c.args.clock.now } in
     let b : Seen = record { keeper = g.K.Keeper.state c.serve_answer.new.keeper; door = g.D.Door.held c.args.door.now; door_faults = g.D.Door.faults c.args.door.now; line_faults = g.D.Door.line_faults c.args.door.now; left = g.S.Source.left c.serve_answer.new.source; read_faults = g.S.Source.faults c.serve_answer.new.source; written = g.W.Sink.written c.serve_answer.new.sink; write_faults = g.W.Sink.faults c.serve_answer.new.sink; coming = g.C.Clock.coming c.serve_answer.new.clock } in
@@ -166,8 +205,8 @@ pub returns-in-Answer-clause-unused : goal.returns-in-Answer-clause-unused
 returns-in-Answer-clause-unused g c =
     let r = c.serve_answer.result in
     let it = c.serve_answer.ensures in
-    let status = c.status_of.result in
-    let same = c.status_of.ensures in
+    let status = c.status_of-in-Answer.result in
+    let same = c.status_of-in-Answer.ensures in
     let opening = λ (e : is_opening status ≡ true). subst (λ n. is_opening n ≡ true) same e in
     unused_of_words _ answers status c.in-Answer.ensures (record {
       keeper_same = λ none. absurd (true_isnt_false none);

@@ -14,10 +14,12 @@ Commands:
   load ORG USER SECRET OBJECT
                        makes or changes a record for each row of the CSV text on standard input, and writes a line for each;
                        other users of the machine can see SECRET
+  demo N               watches the change of a field's type over N records, from 0 to 10000, in tables of its own
   answer               answers the HTTP requests of one connection, from standard input to standard output
   serve [COUNT]        answers the HTTP requests of the next COUNT connections at 127.0.0.1:PORT, or of all
 
 With CARMUGUUR_LOG=1 in the environment serve says each reply in a line on standard error.
+With CARMUGUUR_QUIET=1 load doesn't say there how many rows it has done.
 
 A refusal is a line on standard output, with status 65. To keep no file of it:
   carmuguur - 0 csvq QUERY < in.csv > out.csv || rm out.csv

@@ -6,9 +6,11 @@ ghost use Rattle.platform.specs.Commands.{command_of, opens_in};
 ghost use Rattle.ut_usage.specs.Lines.{IsCommandLine};
 
 mod about;
+mod hints;
 mod in_file;
 
 use crate::about::asked_text;
+use crate::hints::{Hinted, hinted_by, say_after};
 use crate::in_file::run_in_file;
 use platform::{run, run_laws, uses_keeper};
 use std::alloc::AllocError;
@@ -16,6 +18,7 @@ use std::env;
 use std::io::ErrorKind;
 use std::process::ExitCode;
 use ut_files::Unknown;
+use ut_hints::{CountedSink, KeptSource};
 use ut_io::{StdSink, StdSource, StoppableDoor, SystemClock, TcpDoor};
 use ut_keeper::MemoryKeeper;
 use ut_usage::{CommandLine, Mistake, read_line};
@@ -29,6 +32,9 @@ const NO_OUTPUT: u8 = 73;
 
 // The variable of the environment that is 1 where each reply of `serve` is to be said.
 const LOG: &str = "CARMUGUUR_LOG";
+
+// The variable that is 1 where `load` isn't to say how far it has come.
+const QUIET: &str = "CARMUGUUR_QUIET";
 
 // Why there are no words to run.
 enum NoWords {
@@ -55,9 +61,9 @@ fn all_words(rt: &HostRuntime) -> Result<Vec<String>, NoWords> {
     }
 }
 
-// Whether the environment asks that each reply be said.
-fn says_all(rt: &HostRuntime) -> bool {
-    match env::var(rt, LOG) {
+// Whether a variable of the environment is 1.
+fn is_set(rt: &HostRuntime, name: &str) -> bool {
+    match env::var(rt, name) {
         Ok(value) => value.as_str() == "1",
         Err(_) => false,
     }
@@ -66,11 +72,21 @@ fn says_all(rt: &HostRuntime) -> bool {
 // The door at this port, which SIGINT and SIGTERM end.
 fn door_at(rt: HostRuntime, port: u16) -> StoppableDoor<HostRuntime> {
     let door = TcpDoor::new(rt, port);
-    if says_all(&rt) {
+    if is_set(&rt, LOG) {
         StoppableDoor::new(door.saying_all())
     } else {
         StoppableDoor::new(door)
     }
+}
+
+// Whether what a command reads is kept, so that the place of a refusal can be said.
+fn keeps_input(hinted: Hinted) -> bool {
+    hinted != Hinted::Other
+}
+
+// Whether it is said how many rows a command has written.
+fn says_rows(rt: &HostRuntime, hinted: Hinted) -> bool {
+    hinted == Hinted::Load && !is_set(rt, QUIET)
 }
 
 // Runs the command over tables in memory, which are empty.
@@ -81,10 +97,11 @@ fn run_in_memory(rt: HostRuntime, port: u16, command: &[String]) -> Result<u8, A
     run_laws();
     let mut keeper = MemoryKeeper::new(rt.alloc(), &[])?;
     let mut door = door_at(rt, port);
-    let mut source = StdSource::new(rt.stdin());
-    let mut sink = StdSink::new(rt.stdout());
+    let hinted = hinted_by(command);
+    let mut source = KeptSource::new(rt.alloc(), StdSource::new(rt.stdin()), keeps_input(hinted));
+    let mut sink = CountedSink::new(rt, StdSink::new(rt.stdout()), says_rows(&rt, hinted));
     let mut clock = SystemClock::new(rt);
-    Ok(run(
+    let status = run(
         rt.alloc(),
         command,
         &mut keeper,
@@ -92,7 +109,9 @@ fn run_in_memory(rt: HostRuntime, port: u16, command: &[String]) -> Result<u8, A
         &mut source,
         &mut sink,
         &mut clock,
-    ))
+    );
+    say_after(&rt, hinted, status, &source, &sink);
+    Ok(status)
 }
 
 // Runs the command over the tables in a file. Why it couldn't be opened is said in a line of its own.
@@ -103,8 +122,9 @@ fn run_on_path(rt: HostRuntime, path: &str, port: u16, command: &[String]) -> u8
     // For the proof alone.
     run_laws();
     let mut door = door_at(rt, port);
-    let mut source = StdSource::new(rt.stdin());
-    let mut sink = StdSink::new(rt.stdout());
+    let hinted = hinted_by(command);
+    let mut source = KeptSource::new(rt.alloc(), StdSource::new(rt.stdin()), keeps_input(hinted));
+    let mut sink = CountedSink::new(rt, StdSink::new(rt.stdout()), says_rows(&rt, hinted));
     let mut clock = SystemClock::new(rt);
     let ended = run_in_file(
         rt,
@@ -116,6 +136,7 @@ fn run_on_path(rt: HostRuntime, path: &str, port: u16, command: &[String]) -> u8
         &mut sink,
         &mut clock,
     );
+    say_after(&rt, hinted, ended.status, &source, &sink);
     if let Some(fault) = ended.fault {
         let _ = eprintln!(rt; "carmuguur: {path:?}: {fault}");
     }

@@ -1,13 +1,13 @@
--- A count of connections, as the code reads it and as the commands have it.
-use Rattle.std.proofs.Common.{◌≡◌, ◌≢◌, ◌<◌, ◌≤◌, ℕ, Bool, true, false, not, ◌&&◌, ◌==◌, nat_le, List, [], ◌∷◌, length, map, get_or, Option, Some, None, refl, sym, ap, subst, ◌∙◌, arith, rules}
+-- A number in words, as the code reads it and as the commands have it.
+use Rattle.std.proofs.Common.{◌≡◌, ◌≢◌, ◌⊎◌, inl, inr, ◌≤◌, ℕ, Bool, true, false, not, ◌&&◌, ◌==◌, nat_le, List, [], ◌∷◌, length, map, get_or, Option, Some, None, refl, sym, ap, subst, ◌∙◌, arith, rules}
 use Rattle.std.specs.Prelude.{◌↔◌, IfSome, IsSome, if◌then◌else◌, codes}
 use Rattle.std.specs.Option.{option_map}
 use Rattle.std.specs.Char.{digit_value}
 use Rattle.std.specs.Str.{byte}
 use Rattle.std.specs.Str.Parse.{AllDigits, digits_value}
-use Rattle.platform.specs.Commands.{Printing, all_digits, answers, command_of, count_in, is_counting, most_connections, prints, serves}
+use Rattle.platform.specs.Commands.{Command, Printing, all_digits, answers, command_of, is_counting, number_within, prints}
 use Rattle.ut_value.specs.Numerals.{is_within}
-use Rattle.platform.specs.Words.{IsCount}
+use Rattle.platform.specs.Words.{IsNumber}
 
 both : (a b : Bool) → (a && b) ≡ true → (a ≡ true) × (b ≡ true)
 both true b h = (refl, h)
@@ -33,52 +33,66 @@ are_digits : (cs : List ℕ) → all_digits cs ≡ true → AllDigits 10 cs
 are_digits [] h = tt
 are_digits (c ∷ cs) h = let p = both (nat_le (digit_value c) 9) (all_digits cs) h in let small = at_most (digit_value c) 9 p.0 in (omega (arith, small), are_digits cs p.1)
 
--- the word is a count, as the commands have it
-abbrev is_count : List ℕ → Bool
-is_count w = is_counting w && is_within 1 most_connections (digits_value 10 w)
-
-counts : (w : List ℕ) → IsCount w → is_count w ≡ true
-counts [] c = let some = c.numeral.0 in absurd (omega (arith, some))
-counts (x ∷ xs) c = rw (are_other x (byte "0") c.first, digits_are (x ∷ xs) c.numeral.1, is_at_most 1 (digits_value 10 (x ∷ xs)) c.some, is_at_most (digits_value 10 (x ∷ xs)) most_connections c.few) refl
-
-counted_so : (w : List ℕ) → is_count w ≡ true → IsCount w
-counted_so [] h = absurd cc
-counted_so (x ∷ xs) h =
-    let n = digits_value 10 (x ∷ xs) in
-    let p = both (is_counting (x ∷ xs)) (is_within 1 most_connections n) h in
-    let q = both (not (x == byte "0")) (all_digits (x ∷ xs)) p.0 in
-    let r = both (nat_le 1 n) (nat_le n most_connections) p.1 in
-    record { numeral = (omega arith, are_digits (x ∷ xs) q.1); first = differ x (byte "0") q.0; some = at_most 1 n r.0; few = at_most n most_connections r.1 }
-
 true_not : true ≡ false → ⊥
 true_not e = absurd cc
 
-pub counted : (w : List ℕ) (r : Option ℕ) → (IsSome r ↔ IsCount w) → IfSome r (λ n. n ≡ digits_value 10 w) → r ≡ count_in w
-counted w r is number = by (is_count w) refl r is number
-  where
-    by : (b : Bool) → is_count w ≡ b → (r : Option ℕ) → (IsSome r ↔ IsCount w) → IfSome r (λ n. n ≡ digits_value 10 w) → r ≡ (if b then Some (digits_value 10 w) else None)
-    by true e (Some n) is number = ap Some number
-    by true e None is number = absurd (let wrong : IsSome {T = ℕ} None = is.1 (counted_so w e) in cc)
-    by false e (Some n) is number = let some : IsSome (Some n) = search rules in absurd (true_not (sym (counts w (is.0 some)) ∙ e))
-    by false e None is number = refl
+module _ (least most : ℕ) where
+  -- the word is such a number, as the commands have it
+  abbrev is_number : List ℕ → Bool
+  is_number w = is_counting w && is_within least most (digits_value 10 w)
 
-pub positive : (w : List ℕ) (n : ℕ) → Some n ≡ count_in w → 0 < n
-positive w n e = by (is_count w) refl e
-  where
-    by : (b : Bool) → is_count w ≡ b → Some n ≡ (if b then Some (digits_value 10 w) else None) → 0 < n
-    by true h same = let some = (counted_so w h).some in let here : n ≡ digits_value 10 w = search rules in omega (arith, some, here)
-    by false h same = absurd cc
+  zero_alone : (x y : ℕ) (xs : List ℕ) → (length (x ∷ y ∷ xs) ≡ 1) ⊎ (x ≢ byte "0") → x ≢ byte "0"
+  zero_alone x y xs (inl one) = absurd (omega (arith, one))
+  zero_alone x y xs (inr other) = other
 
--- words that are `serve` and a count
-pub serve_words : {X : Type 0} (f : X → List ℕ) (ws : List X) (first second : X) (n : ℕ) → length ws ≡ 2 → first ≡ get_or ws 0 first → second ≡ get_or ws 1 second
-    → f first ≡ codes "serve" → Some n ≡ count_in (f second) → (0 < n) × (command_of (map f ws) ≡ Some (serves n))
-serve_words f [] first second n two a b named k = absurd (omega (arith, two))
-serve_words f (x ∷ []) first second n two a b named k = absurd (omega (arith, two))
-serve_words {X} f (x ∷ y ∷ []) first second n two a b named k =
-    let word : f x ≡ codes "serve" = ap f (sym a) ∙ named in
-    let count : Some n ≡ count_in (f y) = k ∙ ap (λ (z : X). count_in (f z)) b in
-    (positive (f y) n count, subst (λ (z : List ℕ). command_of (z ∷ f y ∷ []) ≡ Some (serves n)) (sym word) (sym (ap (option_map serves) count)))
-serve_words f (x ∷ y ∷ z ∷ zs) first second n two a b named k = absurd (omega (arith, two))
+  numbers : (w : List ℕ) → IsNumber least most w → is_number w ≡ true
+  numbers [] c = let some = c.numeral.0 in absurd (omega (arith, some))
+  numbers (x ∷ []) c = rw (digits_are (x ∷ []) c.numeral.1, is_at_most least (digits_value 10 (x ∷ [])) c.some, is_at_most (digits_value 10 (x ∷ [])) most c.few) refl
+  numbers (x ∷ y ∷ xs) c =
+      rw (are_other x (byte "0") (zero_alone x y xs c.first), digits_are (x ∷ y ∷ xs) c.numeral.1, is_at_most least (digits_value 10 (x ∷ y ∷ xs)) c.some, is_at_most (digits_value 10 (x ∷ y ∷ xs)) most c.few) refl
+
+  numbered : (w : List ℕ) → is_number w ≡ true → IsNumber least most w
+  numbered [] h = absurd cc
+  numbered (x ∷ []) h =
+      let n = digits_value 10 (x ∷ []) in
+      let p = both (is_counting (x ∷ [])) (is_within least most n) h in
+      let r = both (nat_le least n) (nat_le n most) p.1 in
+      record { numeral = (omega arith, are_digits (x ∷ []) p.0); first = inl refl; some = at_most least n r.0; few = at_most n most r.1 }
+  numbered (x ∷ y ∷ xs) h =
+      let n = digits_value 10 (x ∷ y ∷ xs) in
+      let p = both (is_counting (x ∷ y ∷ xs)) (is_within least most n) h in
+      let q = both (not (x == byte "0")) (all_digits (x ∷ y ∷ xs)) p.0 in
+      let r = both (nat_le least n) (nat_le n most) p.1 in
+      record { numeral = (omega arith, are_digits (x ∷ y ∷ xs) q.1); first = inr (differ x (byte "0") q.0); some = at_most least n r.0; few = at_most n most r.1 }
+
+  pub counted : (w : List ℕ) (r : Option ℕ) → (IsSome r ↔ IsNumber least most w) → IfSome r (λ n. n ≡ digits_value 10 w) → r ≡ number_within least most w
+  counted w r is value = by (is_number w) refl r is value
+    where
+      by : (b : Bool) → is_number w ≡ b → (r : Option ℕ) → (IsSome r ↔ IsNumber least most w) → IfSome r (λ n. n ≡ digits_value 10 w) → r ≡ (if b then Some (digits_value 10 w) else None)
+      by true e (Some n) is value = ap Some value
+      by true e None is value = absurd (let wrong : IsSome {T = ℕ} None = is.1 (numbered w e) in cc)
+      by false e (Some n) is value = let some : IsSome (Some n) = search rules in absurd (true_not (sym (numbers w (is.0 some)) ∙ e))
+      by false e None is value = refl
+
+  -- it is from the least to the most
+  pub between : (w : List ℕ) (n : ℕ) → Some n ≡ number_within least most w → (least ≤ n) × (n ≤ most)
+  between w n e = by (is_number w) refl e
+    where
+      by : (b : Bool) → is_number w ≡ b → Some n ≡ (if b then Some (digits_value 10 w) else None) → (least ≤ n) × (n ≤ most)
+      by true h same = let is = numbered w h in let here : n ≡ digits_value 10 w = search rules in (subst (λ (m : ℕ). least ≤ m) (sym here) is.some, subst (λ (m : ℕ). m ≤ most) (sym here) is.few)
+      by false h same = absurd cc
+
+-- words that are the name of a command and a number, or another word
+pub number_words : {X : Type 0} (name : List ℕ) (make : ℕ → Command) (read : List ℕ → Option ℕ) → ((w : List ℕ) → command_of (name ∷ w ∷ []) ≡ option_map make (read w))
+    → (f : X → List ℕ) (ws : List X) (first second : X) (number : Option ℕ) → length ws ≡ 2 → first ≡ get_or ws 0 first → second ≡ get_or ws 1 second
+    → f first ≡ name → number ≡ read (f second) → command_of (map f ws) ≡ option_map make number
+number_words name make read is f [] first second number two a b named k = absurd (omega (arith, two))
+number_words name make read is f (x ∷ []) first second number two a b named k = absurd (omega (arith, two))
+number_words {X} name make read is f (x ∷ y ∷ []) first second number two a b named k =
+    let word : f x ≡ name = ap f (sym a) ∙ named in
+    let count : number ≡ read (f y) = k ∙ ap (λ (z : X). read (f z)) b in
+    ap (λ (z : List ℕ). command_of (z ∷ f y ∷ [])) word ∙ is (f y) ∙ sym (ap (option_map make) count)
+number_words name make read is f (x ∷ y ∷ z ∷ zs) first second number two a b named k = absurd (omega (arith, two))
 
 -- the word `answer` alone
 pub answer_words : {X : Type 0} (f : X → List ℕ) (ws : List X) (first : X) → length ws ≡ 1 → first ≡ get_or ws 0 first → f first ≡ codes "answer" → command_of (map f ws) ≡ Some answers

@@ -2,7 +2,9 @@ pub mod Counts
 pub mod Ends
 pub mod Judging
 pub mod Runs
+pub mod OfOwn
 pub mod OfCsvq
+pub mod OfDemo
 pub mod OfExport
 pub mod OfTables
 pub mod Deeds

@@ -1,50 +1,30 @@
 -- The promise of `run` for `csvq`.
-use Rattle.std.proofs.Common.{◌≡◌, ◌≤◌, ◌<◌, length, inl, inr, ℕ, suc, Bool, true, false, IsTrue, List, [], ◌∷◌, replicate, Option, Some, None, Result, Ok, Err, pos, refl, sym, ap, subst, ◌∙◌, arith}
-use Rattle.std.proofs.lemmas.Bool.Decides.{nat_tests}
+use Rattle.std.proofs.Common.{◌≡◌, ◌<◌, length, inl, inr, ℕ, suc, Bool, true, List, [], replicate, Option, Some, None, Result, Ok, Err, pos, refl, sym, ap, ◌∙◌, arith}
 use Rattle.std.proofs.lemmas.List.{length-replicate}
-use Rattle.std.specs.Prelude.{IfOk, IfSome, IsErrOf, nat_le}
+use Rattle.std.specs.Prelude.{IfOk, IfSome, IsErrOf}
 use Rattle.std.specs.Io.KnownBytes.{IsAtEnd}
 use Rattle.ut_value.specs.Causes.{Cause}
-use Rattle.ut_value.specs.Dates.{is_moment}
-use Rattle.ut_io.specs.Moments.{AskedOnce, IsFirstMoment, last_moment}
-use Rattle.ut_keeper.specs.State.{KeeperState, Shows}
+use Rattle.ut_io.specs.Moments.{AskedOnce, IsFirstMoment}
 use Rattle.ut_model.specs.World.{World}
-use Rattle.ut_serving.specs.Falls.{Fell}
 use Rattle.platform.specs.Commands.{Command, csvq, has_status, may_write, printed, prints}
 use Rattle.platform.specs.Csvq.{is_read, outcome_page, reads_input, rows_printed}
 use Rattle.ut_batches.specs.Batches.{MayTell, first_moment}
 use Rattle.platform.specs.Printed.{refused}
-use Rattle.ut_csvq.specs.Outcomes.{input_outcome, query_in, query_outcome}
+use Rattle.ut_csvq.specs.Outcomes.{input_outcome, query_outcome}
+use Rattle.ut_own.specs.Own.{query_or_refusal}
 use Rattle.ut_csvq.proofs.Turns.{too_large}
 use Rattle.ut_model.specs.declared.refusal.Refusal.{Refusal}
 use Rattle.ut_model.specs.declared.refusal.Refusal.TheVariants.{InputTooLarge}
 use Rattle.ut_query.specs.declared.query.Query.{Query}
 use Rattle.platform.specs.Deeds.{Prints}
-use Rattle.platform.specs.Promise.{Causes, Promise}
+use Rattle.platform.specs.Promise.{Promise}
 use Rattle.platform.specs.Run.{MayBe, status_in}
 use Rattle.platform.specs.Seen.{Seen}
 use Rattle.platform.specs.Stops.{IsKnownStatus, csvq_end, is_done}
 use Rattle.platform.specs.declared.printing.CsvqStop.{CsvqStop}
 use Rattle.platform.specs.declared.printing.CsvqStop.TheVariants as csvq_stop
-use Rattle.platform.proofs.Runs.{caused, not_own, quiet, true_isnt_false, untouched}
-
--- what a clock returns is a moment of the calendar
-pub is_clocked : (n : ℕ) → n ≤ last_moment → IsTrue (is_moment (pos n))
-is_clocked n h = within n h
-  where
-    within : (n : ℕ) → n ≤ 253402300799 → nat_le n 253402300799 ≡ true
-    within n h = grind (arith, nat_tests)
-
--- the moments that are told, or else this one
-pub record Moments (coming : Option (List ℕ)) (now : ℕ) : Type 0 where
-  pub moments : List ℕ
-  pub are : MayBe true coming moments
-  pub first : now ≡ first_moment moments
-
-pub moments_at : (coming : Option (List ℕ)) (now : ℕ) → IsFirstMoment coming now → Moments coming now
-moments_at None now first = record { moments = now ∷ []; are = inr tt; first = refl }
-moments_at (Some []) now first = absurd first
-moments_at (Some (m ∷ ms)) now first = record { moments = m ∷ ms; are = inr refl; first = first }
+use Rattle.platform.proofs.OfOwn.{moments_at, own_promise}
+use Rattle.platform.proofs.Runs.{caused}
 
 module _ (query : List ℕ) where
   abbrev This : Command
@@ -84,49 +64,28 @@ read_whole E (Err csvq_stop.SinkFailed) status whole same e = absurd (omega (ari
 
 module _ (query : List ℕ) (a b : Seen) (r : Result ℕ CsvqStop) (status : ℕ) (known : IsKnownStatus r) (same : status ≡ status_in (csvq_end r))
     (keeper : b.keeper ≡ a.keeper) (doors : b.door_faults ≡ a.door_faults) (lines : b.line_faults ≡ a.line_faults) where
-  never : (n : ℕ) → has_status (This query) n ≡ false → status ≡ n → ⊥
-  never n none = not_own (This query) status n (own query r status known same) none
-
-  causes : Cause a.read_faults b.read_faults (IsErrOf r csvq_stop.SourceFailed) → Cause a.write_faults b.write_faults (IsErrOf r csvq_stop.SinkFailed) → Causes (This query) a b status
-  causes source sink = record {
-    steps = untouched a.keeper b.keeper keeper;
-    lines = omega (arith, lines);
-    keeper = record { rose = λ e. absurd (never 72 refl e); never = λ sure e. never 72 refl e };
-    sink = caused a.write_faults b.write_faults sink (sink_failed r status known same);
-    source = caused a.read_faults b.read_faults source (source_failed r status known same);
-    door = quiet a.door_faults b.door_faults doors (never 75 refl);
-    acknowledged = λ serving uses. absurd (true_isnt_false (sym uses));
-  }
-
-  stood : Fell a.keeper b.keeper → ⊥
-  stood fell = true_isnt_false (sym fell.1 ∙ (ap (λ (k : KeeperState). k.trusted) (sym keeper) ∙ fell.2))
-
   pub csvq_promise : (now : ℕ) → IsFirstMoment a.coming now
       → ((w : World) (moments : List ℕ) → now ≡ first_moment moments → (bytes : List ℕ) × MayBe (reads_input query) a.left bytes × Prints w (printed (csvq query) w bytes moments) a.written b.written (csvq_end r) w)
       → IfOk r (λ s. s ≡ 0 → IsAtEnd b.left) → AskedOnce a.coming b.coming
       → Cause a.read_faults b.read_faults (IsErrOf r csvq_stop.SourceFailed) → Cause a.write_faults b.write_faults (IsErrOf r csvq_stop.SinkFailed) → Promise (This query) a b status
-  csvq_promise now first does whole asked source sink = record {
-    does = λ w world. (csvq_end r, same, let m = moments_at a.coming now first in let h = does w m.moments m.first in (h.0, m.moments, h.1, m.are, w, h.2, tt));
-    leads = λ serving. absurd (true_isnt_false (sym serving));
-    fell = λ fell w s. absurd (stood fell);
-    kept = λ told none. subst (λ (k : KeeperState). Shows k a.keeper.tables) (sym keeper) (told.0, refl);
-    version = λ uses. absurd (true_isnt_false (sym uses));
-    causes = causes source sink;
-    reads = λ serving. record { whole = λ used. read_whole (IsAtEnd b.left) r status whole same; asked = asked };
-  }
+  csvq_promise now first does whole asked source sink =
+      own_promise (csvq query) a b (csvq_end r) status same (own query r status known same) refl refl refl keeper doors lines
+      (λ w. let m = moments_at a.coming now first in let h = does w m.moments m.first in (h.0, m.moments, h.1, m.are, h.2))
+      (λ used. read_whole (IsAtEnd b.left) r status whole same) asked
+      (caused a.read_faults b.read_faults source (source_failed r status known same)) (caused a.write_faults b.write_faults sink (sink_failed r status known same))
 
 -- ---- a query that is read
 
 -- of such a query it comes to what its input does
-pub read_so : (query bytes : List ℕ) (now : ℕ) (read : Result Query Refusal) → read ≡ query_in query → (q : Query) → read ≡ Ok q
+pub read_so : (query bytes : List ℕ) (now : ℕ) (read : Result Query Refusal) → read ≡ query_or_refusal query → (q : Query) → read ≡ Ok q
     → outcome_page (input_outcome q (pos now) bytes) ≡ rows_printed query bytes now
 read_so query bytes now read e q is = ap (λ (r : Result Query Refusal). outcome_page (query_outcome r (pos now) bytes)) (sym is ∙ e)
 
-pub refused_so : (query bytes : List ℕ) (now : ℕ) (read : Result Query Refusal) → read ≡ query_in query → (why : Refusal) → read ≡ Err why
+pub refused_so : (query bytes : List ℕ) (now : ℕ) (read : Result Query Refusal) → read ≡ query_or_refusal query → (why : Refusal) → read ≡ Err why
     → refused why ≡ rows_printed query bytes now
 refused_so query bytes now read e why is = ap (λ (r : Result Query Refusal). outcome_page (query_outcome r (pos now) bytes)) (sym is ∙ e)
 
-pub is_read_so : (query : List ℕ) (read : Result Query Refusal) → read ≡ query_in query → (q : Query) → read ≡ Ok q → reads_input query ≡ true
+pub is_read_so : (query : List ℕ) (read : Result Query Refusal) → read ≡ query_or_refusal query → (q : Query) → read ≡ Ok q → reads_input query ≡ true
 is_read_so query read e q is = ap is_read (sym e ∙ is)
 
 -- some bytes that a source may have had

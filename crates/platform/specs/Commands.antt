@@ -11,6 +11,7 @@ use Rattle.ut_model.specs.World.{World}
 use Rattle.platform.specs.Csvq.{reads_input, rows_printed}
 use Rattle.ut_batches.specs.Batches.{first_moment}
 use Rattle.platform.specs.Deeds.{Printed, one_deed}
+use Rattle.platform.specs.Demo.{demo_printed}
 use Rattle.platform.specs.Export.{export_does}
 use Rattle.platform.specs.Load.{load_printed}
 use Rattle.platform.specs.OrgAdd.{org_printed, org_world}
@@ -25,6 +26,8 @@ pub data Printing : Type 0 where
   export : (org user secret query : List ℕ) → Printing
   -- a CSV text, whose rows are loaded into an object of an organisation by a user of it, whose secret it is
   load : (org user secret object : List ℕ) → Printing
+  -- a change of a field's type over so many records of its own
+  demo : (count : ℕ) → Printing
 
 pub data Command : Type 0 where
   prints : Printing → Command
@@ -35,14 +38,20 @@ pub data Command : Type 0 where
 
 -- ---- words
 
--- decimal digits, one or more, without a leading zero
+-- decimal digits
 abbrev pub all_digits : List ℕ → Bool
 all_digits [] = true
 all_digits (c ∷ cs) = nat_le (digit_value c) 9 && all_digits cs
 
+-- a leading zero is that of `0` alone
 abbrev pub is_counting : List ℕ → Bool
 is_counting [] = false
-is_counting (c ∷ cs) = not (c == byte "0") && all_digits (c ∷ cs)
+is_counting (c ∷ []) = all_digits (c ∷ [])
+is_counting (c ∷ d ∷ cs) = not (c == byte "0") && all_digits (c ∷ d ∷ cs)
+
+-- the number that a word writes, from the least to the most
+abbrev pub number_within : (least most : ℕ) → List ℕ → Option ℕ
+number_within least most word = if is_counting word && is_within least most (digits_value 10 word) then Some (digits_value 10 word) else None
 
 -- the most connections that one run serves: as many as there are without a count
 abbrev pub most_connections : ℕ
@@ -50,7 +59,15 @@ most_connections = 2 ^ 64 - 1
 
 -- the count of connections that a word writes: from 1 to the most
 abbrev pub count_in : List ℕ → Option ℕ
-count_in word = if is_counting word && is_within 1 most_connections (digits_value 10 word) then Some (digits_value 10 word) else None
+count_in word = number_within 1 most_connections word
+
+-- the most records of a demo
+abbrev pub most_records : ℕ
+most_records = 10000
+
+-- the number of records of a demo that a word writes: from none to the most
+abbrev pub records_in : List ℕ → Option ℕ
+records_in word = number_within 0 most_records word
 
 abbrev pub csvq_of : List (List ℕ) → Option Command
 csvq_of (query ∷ []) = Some (prints (csvq query))
@@ -68,6 +85,10 @@ abbrev pub load_of : List (List ℕ) → Option Command
 load_of (org ∷ user ∷ secret ∷ object ∷ []) = Some (prints (load org user secret object))
 load_of _ = None
 
+abbrev pub demo_of : List (List ℕ) → Option Command
+demo_of (count ∷ []) = option_map (λ n. prints (demo n)) (records_in count)
+demo_of _ = None
+
 abbrev pub answer_of : List (List ℕ) → Option Command
 answer_of [] = Some answers
 answer_of _ = None
@@ -80,8 +101,8 @@ serve_of _ = None
 -- the first word of each command, and the command that the words behind it make
 abbrev pub table : List (List ℕ × (List (List ℕ) → Option Command))
 table =
-    (codes "csvq", csvq_of) ∷ (codes "org-add", org_add_of) ∷ (codes "export", export_of) ∷ (codes "load", load_of) ∷ (codes "answer", answer_of)
-    ∷ (codes "serve", serve_of) ∷ []
+    (codes "csvq", csvq_of) ∷ (codes "org-add", org_add_of) ∷ (codes "export", export_of) ∷ (codes "load", load_of) ∷ (codes "demo", demo_of)
+    ∷ (codes "answer", answer_of) ∷ (codes "serve", serve_of) ∷ []
 
 abbrev pub found_in : List (List ℕ × (List (List ℕ) → Option Command)) → List ℕ → List (List ℕ) → Option Command
 found_in [] word arguments = None
@@ -167,6 +188,17 @@ uses (load org user secret object) = record {
   changes = 0 ∷ 71 ∷ 72 ∷ 73 ∷ 76 ∷ [];
   writes = 0 ∷ 65 ∷ 71 ∷ 72 ∷ 73 ∷ 76 ∷ [];
   openings = 77 ∷ [];
+}
+uses (demo count) = record {
+  keeper = false;
+  source = false;
+  door = false;
+  clock = once;
+  dated = true;
+  statuses = 0 ∷ 65 ∷ 71 ∷ 73 ∷ [];
+  changes = [];
+  writes = 0 ∷ 65 ∷ 73 ∷ [];
+  openings = [];
 }
 
 abbrev pub uses_of : Command → Uses
@@ -254,3 +286,4 @@ printed (org_add name secret) w bytes moments = one_deed (org_printed w name sec
 printed (export org user secret query) w bytes moments =
     let x = export_does org user secret query (first_moment moments) w in one_deed x.0 x.1
 printed (load org user secret object) w bytes moments = load_printed (named_by org user secret) object bytes moments w
+printed (demo count) w bytes moments = one_deed (demo_printed count (first_moment moments)) w

@@ -6,7 +6,8 @@ use Rattle.ut_query.specs.declared.query.Query.{Query}
 use Rattle.ut_model.specs.Messages.{message_of}
 use Rattle.ut_model.specs.Refusals.{code_of}
 use Rattle.ut_model.specs.declared.refusal.Refusal.{Refusal}
-use Rattle.ut_csvq.specs.Outcomes.{outcome_of, query_in}
+use Rattle.ut_csvq.specs.Outcomes.{outcome_of}
+use Rattle.ut_own.specs.Own.{query_or_refusal}
 use Rattle.ut_csvq.specs.declared.outcome.Outcome.{Outcome}
 use Rattle.ut_csvq.specs.declared.outcome.Outcome.TheVariants.{Rows, Refused, RefusedIn}
 use Rattle.platform.specs.Printed.{PageText, refused, refused_line}
@@ -26,7 +27,7 @@ is_read (Err why) = false
 
 -- the input is read if the query is one of those that are answered
 abbrev pub reads_input : (query : List ℕ) → Bool
-reads_input query = is_read (query_in query)
+reads_input query = is_read (query_or_refusal query)
 
 abbrev pub rows_printed : (query bytes : List ℕ) → (now : ℕ) → PageText
 rows_printed query bytes now = outcome_page (outcome_of query (pos now) bytes)

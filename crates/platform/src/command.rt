@@ -1,6 +1,8 @@
 ghost use Rattle.std.specs.Prelude.{◌≡◌, ◌↔◌, IfSome, IsSome, is_some, map, string_bytes};
 ghost use Rattle.std.specs.Str.Parse.{digits_value};
-ghost use Rattle.platform.specs.Commands.{command_of, count_in, opens_in};
+ghost use Rattle.platform.specs.Commands.{command_of, count_in, number_within, opens_in, records_in};
+
+use ut_demo::DEMO_LIMIT;
 
 /// The words of a command line, taken apart.
 pub(crate) enum Words<'a> {
@@ -12,6 +14,8 @@ pub(crate) enum Words<'a> {
     Export(&'a str, &'a str, &'a str, &'a str),
     /// `load ORG USER SECRET OBJECT`
     Load(&'a str, &'a str, &'a str, &'a str),
+    /// `demo N`
+    Demo(u64),
     /// `answer`
     Answer,
     /// `serve` with a COUNT, or with the most
@@ -20,27 +24,41 @@ pub(crate) enum Words<'a> {
     Other,
 }
 
-ghost use Rattle.platform.specs.Words.{AreWords, IsCount};
+ghost use Rattle.platform.specs.Words.{AreWords, IsNumber};
 
-// The count of connections that a word writes. `parse` takes a plus and leading zeros too.
-fn read_count(word: &str) -> Option<u64>
-    ensures count { IsSome result ↔ IsCount word.now }
-    ensures number { IfSome result (λ count. count ≡ digits_value 10 word.now) }
+// The number from the least to the most that a word writes. `parse` takes a plus and leading zeros too.
+fn read_number(word: &str, least: u64, most: u64) -> Option<u64>
+    ensures number { IsSome result ↔ IsNumber least most word.now }
+    ensures value { IfSome result (λ number. number ≡ digits_value 10 word.now) }
 {
     match word.as_bytes() {
-        [b'+', ..] | [b'0', ..] => None,
+        [b'+', ..] | [b'0', _, ..] => None,
         _ => match word.parse::<u64>() {
-            Ok(count) if count >= 1 => Some(count),
+            Ok(number) if number >= least && number <= most => Some(number),
             _ => None,
         },
     }
 }
 
 // The same, by the definition of the commands.
+fn number_of(word: &str, least: u64, most: u64) -> Option<u64>
+    ensures { result ≡ number_within least most word.now }
+{
+    read_number(word, least, most)
+}
+
+// The count of connections that a word writes.
 fn count_of(word: &str) -> Option<u64>
     ensures { result ≡ count_in word.now }
 {
-    read_count(word)
+    number_of(word, 1, u64::MAX)
+}
+
+// The number of records of a demo that a word writes.
+fn records_of(word: &str) -> Option<u64>
+    ensures { result ≡ records_in word.now }
+{
+    number_of(word, 0, DEMO_LIMIT)
 }
 
 /// Whether a word is a count of connections as `serve` takes it: from 1 to 2^64 - 1 in digits, without a leading zero.
@@ -48,6 +66,13 @@ pub fn is_count(word: &str) -> bool
     ensures { result ≡ is_some (count_in word.now) }
 {
     count_of(word).is_some()
+}
+
+/// Whether a word is a number of records as `demo` takes it: from 0 to `DEMO_LIMIT` in digits, without a leading zero but in `0` itself.
+pub fn is_record_count(word: &str) -> bool
+    ensures { result ≡ is_some (records_in word.now) }
+{
+    records_of(word).is_some()
 }
 
 pub(crate) fn read_words(words: &[String]) -> Words<'_>
@@ -69,6 +94,11 @@ pub(crate) fn read_words(words: &[String]) -> Words<'_>
             } else if words[0].as_bytes() == b"serve".as_slice() {
                 match count_of(words[1].as_str()) {
                     Some(count) => Words::Serve(count),
+                    None => Words::Other,
+                }
+            } else if words[0].as_bytes() == b"demo".as_slice() {
+                match records_of(words[1].as_str()) {
+                    Some(count) => Words::Demo(count),
                     None => Words::Other,
                 }
             } else {
@@ -111,6 +141,7 @@ pub fn uses_keeper(words: &[String]) -> bool
 {
     match read_words(words) {
         Words::Csvq(_) => false,
+        Words::Demo(_) => false,
         Words::OrgAdd(_, _) => true,
         Words::Export(_, _, _, _) => true,
         Words::Load(_, _, _, _) => true,

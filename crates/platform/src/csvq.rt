@@ -13,9 +13,10 @@ ghost use Rattle.ut_value.specs.Dates.{is_moment};
 
 use crate::page::{Page, page_of_refusal, refusal_line};
 use std::alloc::{AllocError, Global};
-use ut_csvq::{INPUT_LIMIT, Outcome, answer_input, query_of};
+use ut_csvq::{INPUT_LIMIT, Outcome, answer_input};
 use ut_io::{ReadFail, Source, read_all};
 use ut_model::Refusal;
+use ut_own::query_of;
 use ut_query::Query;
 
 /// Why the page of `csvq` wasn't made.

@@ -7,6 +7,7 @@
 
 mod command;
 mod csvq;
+mod demo;
 mod export;
 mod input;
 mod laws;
@@ -19,6 +20,6 @@ mod serving;
 mod stop;
 mod tables;
 
-pub use crate::command::{is_count, uses_keeper};
+pub use crate::command::{is_count, is_record_count, uses_keeper};
 pub use crate::laws::{printed_rows, run_laws, serving_rows};
 pub use crate::running::run;

@@ -5,6 +5,7 @@ ghost use Rattle.platform.specs.Run.{status_in};
 ghost use Rattle.platform.specs.Seen.{Seen};
 
 use crate::command::{Words, read_words};
+use crate::demo::print_demo;
 use crate::export::Exporting;
 use crate::load::{Load, print_load};
 use crate::org_add::OrgAdd;
@@ -34,6 +35,7 @@ fn status_of(ended: Result<u8, Stop>) -> u8
 /// | `org-add NAME SECRET` | makes an organisation, and writes its id and its administrator's |
 /// | `export ORG USER SECRET QUERY` | writes the rows of a user's query as lines of CSV |
 /// | `load ORG USER SECRET OBJECT` | makes or changes a record for each row of a CSV text, which comes from the source, and writes what became of each |
+/// | `demo N` | watches the change of a field's type over N records, from 0 to 10,000, in tables of its own |
 /// | `answer` | answers the HTTP messages of one connection, which come from the source, to the sink |
 /// | `serve`, `serve COUNT` | answers the HTTP messages of the first COUNT connections of the door, or of all that come; without COUNT of the first 2^64 - 1 |
 ///
@@ -106,6 +108,10 @@ pub fn run<K: Keeper, D: Door, S: Source, W: Sink, C: Clock>(
                 object,
             };
             status_of(print_load(alloc, &load, keeper, source, sink, clock))
+        }
+        Words::Demo(count) => {
+            let now = clock.now();
+            status_of(print_demo(alloc, count, now, sink))
         }
         Words::Answer => status_of(serve_answer(alloc, keeper, source, sink, clock)),
         Words::Serve(count) => status_of(serve_door(alloc, keeper, door, clock, count)),

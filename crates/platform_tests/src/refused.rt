@@ -34,9 +34,9 @@ carmuguur - 65536 csvq x|PORT must be a number from 0 to 65535 without leading z
 carmuguur - 080 csvq x|PORT must be a number from 0 to 65535 without leading zeros, and is \"080\"^\
 carmuguur -  csvq x|PORT must be a number from 0 to 65535 without leading zeros, and is \"\"^\
 carmuguur - +1 csvq x|PORT must be a number from 0 to 65535 without leading zeros, and is \"+1\"^\
-carmuguur - 0|a command is missing: the commands are csvq QUERY, org-add NAME SECRET, export ORG USER SECRET QUERY, load ORG USER SECRET OBJECT, answer, serve [COUNT]^\
-carmuguur - 0 Csvq x|unknown command \"Csvq\": the commands are csvq QUERY, org-add NAME SECRET, export ORG USER SECRET QUERY, load ORG USER SECRET OBJECT, answer, serve [COUNT]^\
-carmuguur - 0 a\nb|unknown command \"a\\nb\": the commands are csvq QUERY, org-add NAME SECRET, export ORG USER SECRET QUERY, load ORG USER SECRET OBJECT, answer, serve [COUNT]^\
+carmuguur - 0|a command is missing: the commands are csvq QUERY, org-add NAME SECRET, export ORG USER SECRET QUERY, load ORG USER SECRET OBJECT, demo N, answer, serve [COUNT]^\
+carmuguur - 0 Csvq x|unknown command \"Csvq\": the commands are csvq QUERY, org-add NAME SECRET, export ORG USER SECRET QUERY, load ORG USER SECRET OBJECT, demo N, answer, serve [COUNT]^\
+carmuguur - 0 a\nb|unknown command \"a\\nb\": the commands are csvq QUERY, org-add NAME SECRET, export ORG USER SECRET QUERY, load ORG USER SECRET OBJECT, demo N, answer, serve [COUNT]^\
 carmuguur - 0 csvq|too few words: the form is csvq QUERY^\
 carmuguur - 0 csvq SELECT Id|too many words: the form is csvq QUERY^\
 carmuguur - 0 org-add Acme|too few words: the form is org-add NAME SECRET^\
@@ -44,6 +44,11 @@ carmuguur - 0 export a b c|too few words: the form is export ORG USER SECRET QUE
 carmuguur - 0 export a b c d|^\
 carmuguur - 0 load a b c|too few words: the form is load ORG USER SECRET OBJECT^\
 carmuguur - 0 load a b c d|^\
+carmuguur - 0 demo|too few words: the form is demo N^\
+carmuguur - 0 demo 5 6|too many words: the form is demo N^\
+carmuguur - 0 demo 05|N must be a number from 0 to 10000 without leading zeros, and is \"05\"^\
+carmuguur - 0 demo 10001|N must be a number from 0 to 10000 without leading zeros, and is \"10001\"^\
+carmuguur - 0 demo 0|^\
 carmuguur - 0 answer x|too many words: the form is answer^\
 carmuguur - 0 serve|^\
 carmuguur - 0 serve 1 2|too many words: the form is serve [COUNT]^\

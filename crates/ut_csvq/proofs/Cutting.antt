@@ -22,7 +22,8 @@ use Rattle.ut_model.specs.declared.record.Record.{Record}
 use Rattle.ut_model.specs.declared.record_bodies.Assignment.{Assignment}
 use Rattle.ut_model.specs.declared.refusal.Refusal.{Refusal}
 use Rattle.ut_model.specs.declared.refusal.Refusal.TheVariants.{InvalidType, LimitExceeded}
-use Rattle.ut_csvq.specs.Organisation.{asker, given_of, new_rows, object_name, past, refusal_of, with_columns, with_rows}
+use Rattle.ut_own.specs.Own.{asker, past, refusal_of}
+use Rattle.ut_csvq.specs.Organisation.{given_of, new_rows, object_name, with_columns, with_rows}
 use Rattle.ut_csvq.specs.Outcomes.{columns_outcome, rows_outcome, table_outcome}
 use Rattle.ut_csvq.specs.declared.outcome.Outcome.{Outcome}
 use Rattle.ut_csvq.specs.declared.outcome.Outcome.TheVariants.{Refused}

@@ -1,5 +1,4 @@
 pub mod Cells
 pub mod Making
 pub mod Cutting
-pub mod Answering
 pub mod Turns

@@ -2,10 +2,7 @@
 use Rattle.std.proofs.Common.{◌≡◌, ◌∙◌, ◌≤◌, ◌<◌, arith, ℕ, Bool, true, false, cond, List, [], ◌∷◌, length, map, take, Option, Some, None, Result, Ok, Err, nat_le, refl, sym, ap, subst, pos}
 use Rattle.std.proofs.lemmas.Bool.Decides.{nat_tests}
 use Rattle.csv.specs.Records.{Row, fields_of}
-use Rattle.ut_keeper.specs.Draft.{Held, tables_of}
-use Rattle.ut_keeper.specs.Laid.{laid}
-use Rattle.ut_keeper.specs.Memory.{InMemory, memory_state}
-use Rattle.ut_keeper.specs.Tables.{Tables, no_rows}
+use Rattle.ut_keeper.specs.Tables.{Tables}
 use Rattle.ut_query.specs.declared.query.Query.{Query}
 use Rattle.ut_table.specs.Place.{TellsPlace}
 use Rattle.ut_table.specs.Table.{first_refused, table_of}
@@ -17,11 +14,13 @@ use Rattle.ut_model.specs.Metadata.{add_object}
 use Rattle.ut_model.specs.Paths.{Asked}
 use Rattle.ut_model.specs.declared.refusal.Refusal.{Refusal}
 use Rattle.ut_model.specs.declared.refusal.Refusal.TheVariants.{CsvRefused, InputTooLarge}
-use Rattle.ut_csvq.specs.Organisation.{asker, new_rows, past, refusal_of, with_columns}
+use Rattle.ut_own.specs.Making.{IsOwned}
+use Rattle.ut_own.specs.Own.{asker, past, refusal_of}
+use Rattle.ut_csvq.specs.Organisation.{new_rows, with_columns}
 use Rattle.ut_csvq.specs.Outcomes.{columns_outcome, input_outcome, table_outcome}
 use Rattle.ut_csvq.specs.declared.outcome.Outcome.{Outcome}
 use Rattle.ut_csvq.specs.declared.outcome.Outcome.TheVariants.{Refused}
-use Rattle.ut_csvq.specs.inner.Making.{Goes, IsMade}
+use Rattle.ut_csvq.specs.inner.Making.{Goes}
 use Rattle.ut_csvq.proofs.Cutting.{cut_table}
 
 module _ {X : Type 0} (now : ℕ) (m : Tables) where
@@ -29,7 +28,7 @@ module _ {X : Type 0} (now : ℕ) (m : Tables) where
   goes_wrong (Ok b) y h = absurd h
   goes_wrong (Err x) y h = ap Err (sym h)
 
-  pub goes_well : (r : Result Asked X) → Goes now m r (Ok None) → (b : Asked) × (r ≡ Ok b) × IsMade now m b
+  pub goes_well : (r : Result Asked X) → Goes now m r (Ok None) → (b : Asked) × (r ≡ Ok b) × IsOwned now m b
   goes_well (Ok b) h = (b, refl, h)
   goes_well (Err x) h = absurd h
 
@@ -44,10 +43,6 @@ module _ (q : Query) (now : ℕ) (heading : List (List ℕ)) (rows : List (List 
 pub no_record : (q : Query) (now : ℕ) (records : List Row) → length records ≡ 0 → Refused (CsvRefused 0) ≡ table_outcome q (pos now) (map fields_of records)
 no_record q now [] e = refl
 no_record q now (r ∷ rs) e = absurd (omega arith)
-
--- a draft without changes over tables without rows
-pub no_tables : (d : Held InMemory) (k : InMemory) → d.changes.entries ≡ [] → d.keeper.now ≡ k → k.tables ≡ no_rows → tables_of memory_state d ≡ no_rows
-no_tables d k empty same none = ap (λ es. laid es d.keeper.now.tables) empty ∙ ap (λ (x : InMemory). x.tables) same ∙ none
 
 -- ---- the bytes of an input
 

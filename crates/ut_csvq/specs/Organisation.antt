@@ -2,9 +2,8 @@
 -- and a record of it for each row. Each comes by the verdict of an administrator's request, one after the other.
 -- Sources: Salesforce, "Custom Object", "Custom Field" and REST API, "Create a Record", as the verdicts have them. That a CSV text is
 -- read so is this product's own.
-use Rattle.std.specs.Prelude.{ℕ, ◌+◌, Bool, true, false, if◌then◌else◌, List, [], ◌∷◌, codes, Option, Some, None, Result, Ok, Err, ℤ}
+use Rattle.std.specs.Prelude.{ℕ, ◌+◌, Bool, true, false, if◌then◌else◌, List, [], ◌∷◌, codes, None, Result, Ok, Err}
 use Rattle.std.specs.Str.{chars}
-use Rattle.sha2.specs.Sha256.{sha256}
 use Rattle.ut_json.specs.declared.tree.Json.TheVariants as json
 use Rattle.ut_value.specs.declared.sharing.Access.TheVariants as access
 use Rattle.ut_value.specs.declared.value.FieldType.TheVariants as type
@@ -14,53 +13,16 @@ use Rattle.ut_model.specs.declared.metadata_bodies.SpelledType.TheVariants.{Plai
 use Rattle.ut_model.specs.declared.record_bodies.Assignment.{Assignment}
 use Rattle.ut_model.specs.declared.record_bodies.Given.TheVariants as gives
 use Rattle.ut_model.specs.declared.refusal.Refusal.{Refusal}
-use Rattle.ut_model.specs.Cases.{in_case}
 use Rattle.ut_model.specs.Creates.{create}
 use Rattle.ut_model.specs.Fields.{same_name}
 use Rattle.ut_model.specs.NewFields.{add_field}
-use Rattle.ut_model.specs.Organisations.{administrator, fresh}
 use Rattle.ut_model.specs.Paths.{Asked}
-use Rattle.ut_model.specs.Tenant.{User}
-use Rattle.ut_model.specs.Verdict.{Done, Verdict}
-
--- ---- who asks
-
-abbrev pub org_name : List ℕ
-org_name = chars (codes "Rows")
-
--- a secret that no one is asked for
-abbrev pub org_secret : List ℕ
-org_secret = codes "0000000000000000"
-
-abbrev pub its_administrator : User
-its_administrator = administrator org_name (sha256 org_secret)
-
--- the administrator of a new organisation, at this moment
-abbrev pub asker : ℤ → Asked
-asker now = record { tenant = fresh org_name (sha256 org_secret); user = its_administrator; now = now }
-
--- ---- one verdict after the other
-
--- why it refuses, if it does
-abbrev pub refusal_of : Result Done Refusal → Option Refusal
-refusal_of (Ok answer) = None
-refusal_of (Err why) = Some why
-
--- who asks, in the organisation that a verdict leaves
-abbrev pub past : Asked → Verdict → Asked
-past a v = record { tenant = v.tenant; user = a.user; now = a.now }
-
--- it ends where a verdict refuses, and else goes on in the organisation that this leaves
-abbrev pub unless_refused : {X : Type 0} → Asked → Verdict → (Refusal → X) → (Asked → X) → X
-unless_refused a v refused next = in_case (refusal_of v.answer) (next (past a v)) refused
+use Rattle.ut_own.specs.Own.{only_name, unless_refused}
 
 -- ---- the object
 
 abbrev pub object_name : List ℕ
 object_name = chars (codes "Row__c")
-
-abbrev pub only_name : List (List ℕ)
-only_name = chars (codes "name") ∷ []
 
 abbrev pub new_rows : NewObject
 new_rows = record { members = only_name; name = object_name; access = access.Private; master = None }

@@ -2,35 +2,28 @@
 -- Sources: of the texts `ut_soql_grammar` and `ut_table`, of the rest the definitions of the model.
 use Rattle.std.specs.Prelude.{ℕ, false, nat_le, if◌then◌else◌, List, [], ◌∷◌, length, Result, Ok, Err, ℤ}
 use Rattle.ut_query.specs.declared.query.Query.{Query}
-use Rattle.ut_soql_grammar.specs.Spelling.{reads_query}
 use Rattle.ut_table.specs.Table.{first_refused, table_of}
 use Rattle.ut_model.specs.declared.refusal.Refusal.{Refusal}
-use Rattle.ut_model.specs.declared.refusal.Refusal.TheVariants.{CsvRefused, HeadingRefused, InputTooLarge, MalformedQuery}
-use Rattle.ut_model.specs.Asking.{ask}
+use Rattle.ut_model.specs.declared.refusal.Refusal.TheVariants.{CsvRefused, HeadingRefused, InputTooLarge}
 use Rattle.ut_model.specs.Cases.{in_case}
 use Rattle.ut_model.specs.Limits.{input_limit}
 use Rattle.ut_model.specs.Metadata.{add_object}
 use Rattle.ut_model.specs.Paths.{Asked}
-use Rattle.ut_lines.specs.Lines.{lines_found}
-use Rattle.ut_csvq.specs.Organisation.{asker, new_rows, refusal_of, unless_refused, with_columns, with_rows}
+use Rattle.ut_lines.specs.Lines.{query_lines}
+use Rattle.ut_own.specs.Own.{asker, query_or_refusal, unless_refused}
+use Rattle.ut_csvq.specs.Organisation.{new_rows, with_columns, with_rows}
 use Rattle.ut_csvq.specs.declared.outcome.Outcome.{Outcome}
 use Rattle.ut_csvq.specs.declared.outcome.Outcome.TheVariants.{Rows, Refused, RefusedIn}
-
--- ---- the query
-
-abbrev pub query_read : Result Query ℕ → Result Query Refusal
-query_read (Ok q) = Ok q
-query_read (Err place) = Err (MalformedQuery place)
-
--- the query that a text is, or why it is refused
-abbrev pub query_in : (text : List ℕ) → Result Query Refusal
-query_in text = query_read (reads_query text)
 
 -- ---- the input, once the query is read
 
 -- the query, once the records are made
+abbrev pub lines_outcome : Result (List ℕ) Refusal → Outcome
+lines_outcome (Ok lines) = Rows lines
+lines_outcome (Err why) = Refused why
+
 abbrev pub asked_outcome : Query → Asked → Outcome
-asked_outcome q a = in_case (refusal_of (ask a q).answer) (Rows (lines_found a q)) Refused
+asked_outcome q a = lines_outcome (query_lines a q)
 
 abbrev pub rows_outcome : Query → Result Asked (ℕ × Refusal) → Outcome
 rows_outcome q (Ok a) = asked_outcome q a
@@ -62,4 +55,4 @@ query_outcome (Err why) now bytes = Refused why
 
 -- what the query of a text comes to over the bytes of an input, asked at this moment
 abbrev pub outcome_of : (text : List ℕ) → ℤ → (bytes : List ℕ) → Outcome
-outcome_of text now bytes = query_outcome (query_in text) now bytes
+outcome_of text now bytes = query_outcome (query_or_refusal text) now bytes

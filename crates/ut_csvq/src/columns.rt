@@ -4,19 +4,19 @@ ghost use Rattle.std.specs.Prelude.{◌≡◌, IfOk, [], false, unwrap_or, ℕ};
 ghost use Rattle.std.specs.Str.{chars};
 ghost use Rattle.csv.specs.Records.{field_at, fields_of};
 ghost use Rattle.ut_csvq.specs.Organisation.{new_column, with_columns};
-ghost use Rattle.ut_csvq.specs.inner.Making.{Goes, IsMade, Steps, Takes};
+ghost use Rattle.ut_csvq.specs.inner.Making.{Goes, Takes};
 ghost use Rattle.ut_keeper.specs.Draft.{tables_of};
 ghost use Rattle.ut_keeper.specs.Memory.{memory_state};
 ghost use Rattle.ut_model.specs.NewFields.{add_field};
 ghost use Rattle.ut_model.specs.Paths.{Asked};
+ghost use Rattle.ut_own.specs.Making.{IsOwned, StepsOwn};
 
-use crate::organisation::{only_name, step};
 use csv::StringRecord;
 use std::alloc::{AllocError, Global};
 use ut_keeper::{Draft, MemoryKeeper};
 use ut_keys::StoreFail;
-use ut_meta::AddField;
 use ut_model::{NewField, Refusal, SpelledType, same_name};
+use ut_own::{make_field, only_name};
 use ut_value::{FieldType, Text};
 
 // The most characters of a cell that isn't a name.
@@ -42,11 +42,11 @@ fn make_column(
     draft: &mut Draft<'_, MemoryKeeper>,
     name: &str,
 ) -> Result<Option<Refusal>, StoreFail>
-    ensures { (now : ℕ) (a : Asked) → IsMade now (tables_of memory_state draft.old) a
-        → Steps now (tables_of memory_state draft.new) a (add_field a.tenant (new_column (chars name.now))) result }
+    ensures { (now : ℕ) (a : Asked) → IsOwned now (tables_of memory_state draft.old) a
+        → StepsOwn now (tables_of memory_state draft.new) a (add_field a.tenant (new_column (chars name.now))) result }
 {
     let new = new_column(alloc, name)?;
-    step(alloc, draft, &AddField { new: &new })
+    make_field(alloc, draft, &new)
 }
 
 // Takes the next cell of a heading, where `Name` was taken before or wasn't: whether it was then, unless the cell is no column.
@@ -56,7 +56,7 @@ fn take_column(
     named: bool,
     cell: &str,
 ) -> Result<Option<bool>, StoreFail>
-    ensures { (now : ℕ) (a : Asked) → IsMade now (tables_of memory_state draft.old) a
+    ensures { (now : ℕ) (a : Asked) → IsOwned now (tables_of memory_state draft.old) a
         → Takes now (tables_of memory_state draft.new) named a cell.now result }
 {
     if !same_name("Name", cell) {
@@ -89,7 +89,7 @@ pub(crate) fn make_columns(
     draft: &mut Draft<'_, MemoryKeeper>,
     heading: &StringRecord,
 ) -> Result<Option<Text>, StoreFail>
-    ensures { (now : ℕ) (a : Asked) → IsMade now (tables_of memory_state draft.old) a
+    ensures { (now : ℕ) (a : Asked) → IsOwned now (tables_of memory_state draft.old) a
         → Goes now (tables_of memory_state draft.new) (with_columns false a (fields_of heading.now)) result }
 {
     let mut named = false;

@@ -3,17 +3,16 @@
 ghost use Rattle.std.specs.Prelude.{◌≡◌, [], ◌∷◌, IfOk, IsTrue, false, map, pos};
 ghost use Rattle.csv.specs.Records.{fields_of};
 ghost use Rattle.ut_csvq.specs.Organisation.{with_columns, with_rows};
-ghost use Rattle.ut_csvq.specs.Outcomes.{columns_outcome, input_outcome, rows_outcome, table_outcome};
-ghost use Rattle.ut_csvq.specs.inner.Making.{IsMade};
+ghost use Rattle.ut_csvq.specs.Outcomes.{columns_outcome, input_outcome, lines_outcome, rows_outcome, table_outcome};
 ghost use Rattle.ut_keeper.specs.Draft.{tables_of};
 ghost use Rattle.ut_keeper.specs.Memory.{memory_state};
 ghost use Rattle.ut_model.specs.Paths.{Asked};
+ghost use Rattle.ut_own.specs.Making.{IsOwned};
 ghost use Rattle.ut_stands.specs.Stands.{Stands};
 ghost use Rattle.ut_value.specs.Dates.{is_moment};
 
-use crate::answer::answer;
 use crate::columns::make_columns;
-use crate::organisation::{make_object, make_org};
+use crate::organisation::make_object_of_rows;
 use crate::outcome::Outcome;
 use crate::rows::make_rows;
 use csv::StringRecord;
@@ -21,15 +20,27 @@ use std::alloc::{AllocError, Global};
 use ut_keeper::{Draft, MemoryKeeper};
 use ut_keys::StoreFail;
 use ut_model::Refusal;
+use ut_own::{answer, make_org};
 use ut_query::Query;
 use ut_stands::stands_laws;
 use ut_table::{TableFail, read_table};
+use ut_value::Bytes;
 
 /// The most bytes of an input.
 pub const INPUT_LIMIT: usize = 67_108_864;
 
 // The most records of an input that are kept: the heading, and one row more than an organisation has records.
 const RECORDS: usize = 50_002;
+
+// What the answer to a query comes to.
+fn lines_outcome(answer: Result<Bytes, Refusal>) -> Outcome
+    ensures { result ≡ lines_outcome answer }
+{
+    match answer {
+        Ok(lines) => Outcome::Rows(lines),
+        Err(refusal) => Outcome::Refused(refusal),
+    }
+}
 
 // The rows, and the answer once they are made.
 fn answer_rows(
@@ -41,7 +52,7 @@ fn answer_rows(
     rows: &[StringRecord],
 ) -> Result<Outcome, StoreFail>
     requires { IsTrue (is_moment (pos now)) }
-    ensures { (a : Asked) → IsMade now (tables_of memory_state draft.old) a
+    ensures { (a : Asked) → IsOwned now (tables_of memory_state draft.old) a
         → IfOk result (λ outcome. outcome ≡ rows_outcome query.now (with_rows (fields_of heading.now) 1 a (map fields_of rows.now))) }
 {
     let refused = make_rows(alloc, draft, now, heading, rows)?;
@@ -50,7 +61,7 @@ fn answer_rows(
             let (row, refusal) = why;
             Ok(Outcome::RefusedIn(row, refusal))
         }
-        None => answer(alloc, draft, now, query),
+        None => Ok(lines_outcome(answer(alloc, draft, now, query)?)),
     }
 }
 
@@ -64,7 +75,7 @@ fn answer_columns(
     rows: &[StringRecord],
 ) -> Result<Outcome, StoreFail>
     requires { IsTrue (is_moment (pos now)) }
-    ensures { (a : Asked) → IsMade now (tables_of memory_state draft.old) a
+    ensures { (a : Asked) → IsOwned now (tables_of memory_state draft.old) a
         → IfOk result (λ outcome. outcome
         ≡ columns_outcome query.now (fields_of heading.now) (map fields_of rows.now) (with_columns false a (fields_of heading.now))) }
 {
@@ -89,7 +100,7 @@ fn answer_made(
         → IfOk result (λ outcome. outcome ≡ table_outcome query.now (pos now) (fields_of heading.now ∷ map fields_of rows.now)) }
 {
     make_org(alloc, draft)?;
-    let refused = make_object(alloc, draft)?;
+    let refused = make_object_of_rows(alloc, draft)?;
     match refused {
         Some(refusal) => Ok(Outcome::Refused(refusal)),
         None => answer_columns(alloc, draft, query, now, heading, rows),

@@ -3,33 +3,22 @@
 ghost use Rattle.std.specs.Prelude.{◌≡◌, IsTrue, pos, map};
 ghost use Rattle.csv.specs.Records.{fields_of};
 ghost use Rattle.ut_csvq.specs.Organisation.{given_of, object_name, with_rows};
-ghost use Rattle.ut_csvq.specs.inner.Making.{Goes, IsMade, Steps};
+ghost use Rattle.ut_csvq.specs.inner.Making.{Goes};
 ghost use Rattle.ut_keeper.specs.Draft.{tables_of};
 ghost use Rattle.ut_keeper.specs.Memory.{memory_state};
 ghost use Rattle.ut_model.specs.Creates.{create};
 ghost use Rattle.ut_model.specs.Paths.{Asked};
+ghost use Rattle.ut_own.specs.Making.{IsOwned, StepsOwn};
 ghost use Rattle.ut_value.specs.Dates.{is_moment};
 
 use crate::given::given_of;
-use crate::organisation::step;
 use csv::StringRecord;
 use std::alloc::Global;
-use ut_given::given_laws;
 use ut_keeper::{Draft, MemoryKeeper};
 use ut_keys::StoreFail;
-use ut_model::{Refusal, first_user_id};
-use ut_records::Create;
-use ut_rights::Administrator;
-use ut_sound::fit_laws;
+use ut_model::Refusal;
+use ut_own::make_record;
 use ut_value::Text;
-
-/// A moment of the calendar, as records have it.
-pub(crate) fn moment(now: u64) -> i64
-    requires { IsTrue (is_moment (pos now)) }
-    ensures { result ≡ pos now }
-{
-    now as i64
-}
 
 // Makes the record of a row, of the object with this name.
 fn make_row(
@@ -42,21 +31,11 @@ fn make_row(
 ) -> Result<Option<Refusal>, StoreFail>
     requires moment { IsTrue (is_moment (pos now)) }
     requires object { object.now ≡ object_name }
-    ensures { (a : Asked) → IsMade now (tables_of memory_state draft.old) a
-        → Steps now (tables_of memory_state draft.new) a (create a object_name (given_of (fields_of heading.now) (fields_of row.now))) result }
+    ensures { (a : Asked) → IsOwned now (tables_of memory_state draft.old) a
+        → StepsOwn now (tables_of memory_state draft.new) a (create a object_name (given_of (fields_of heading.now) (fields_of row.now))) result }
 {
-    fit_laws();
-    given_laws();
     let given = given_of(alloc, heading, row)?;
-    let create = Create {
-        rights: &Administrator,
-        user: first_user_id(),
-        now: moment(now),
-        object,
-        given: given.as_slice(),
-        found: &[],
-    };
-    step(alloc, draft, &create)
+    make_record(alloc, draft, now, object, given.as_slice())
 }
 
 /// Makes a record for each row, or returns the number of the first row whose record is refused, from 1, and why.
@@ -72,7 +51,7 @@ pub(crate) fn make_rows(
     rows: &[StringRecord],
 ) -> Result<Option<(u64, Refusal)>, StoreFail>
     requires { IsTrue (is_moment (pos now)) }
-    ensures { (a : Asked) → IsMade now (tables_of memory_state draft.old) a
+    ensures { (a : Asked) → IsOwned now (tables_of memory_state draft.old) a
         → Goes now (tables_of memory_state draft.new) (with_rows (fields_of heading.now) 1 a (map fields_of rows.now)) result }
 {
     let object = Text::from_str(alloc, "Row__c")?;

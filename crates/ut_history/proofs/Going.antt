@@ -12,7 +12,7 @@ use Rattle.ut_serving.specs.Falls.{Falls, FallsBringing}
 use Rattle.ut_serving.specs.Leads.{IsReached, StandsReached}
 use Rattle.ut_serving.specs.Requests.{message_in}
 use Rattle.ut_stands.specs.Stands.{Stands}
-use Rattle.platform.specs.Commands.{Command, Printing, answers, csvq, export, load, org_add, prints, printed, serves, used_by, uses, uses_of}
+use Rattle.platform.specs.Commands.{Command, Printing, answers, csvq, export, load, org_add, prints, printed, serves, used_by, uses, uses_of, demo}
 use Rattle.platform.specs.Deeds.{Prints}
 use Rattle.platform.specs.Falling.{CrashPrints, Doubts, FallsOpening}
 use Rattle.platform.specs.Promise.{IsStatus, Promise}
@@ -113,12 +113,17 @@ module _ (k l : KeeperState) (a b : Around) (status : ℕ) (w : World) (m : Tabl
           after end (subst (λ (v : Bool). KeepsIf v end l) used kept),
         )
 
+    -- the same where it has tables of its own
+    whole_own : (q : Printing) → (uses q).keeper ≡ false → Kept (prints q) → k.may_leave m → (end : World) × Says (prints q) w end a b status × Stands m end
+    whole_own q none p left = let h = p.does w (inl none) in (w, (λ e. refl, by h.0 h.1 h.2), before left)
+      where
+        by : (r : Result ℕ Stop) → status ≡ status_in r → Runs (prints q) w (seen k a) (seen l b) r → SaysText q w
+        by r same (bytes, moments, source, dated, said, printed, kept) = (bytes, moments, source, dated, r, same, said, printed, sym (ap (λ (v : Bool). if v then said else w) none))
+
     whole : (command : Command) → Kept command → ((uses_of command).keeper ≡ false → k.may_leave m)
         → (end : World) × Says command w end a b status × Stands m end
-    whole (prints (csvq query)) p unused = let h = p.does w (inl refl) in (w, (λ e. refl, by_result h.0 h.1 h.2), before (unused refl))
-      where
-        by_result : (r : Result ℕ Stop) → status ≡ status_in r → Runs (prints (csvq query)) w (seen k a) (seen l b) r → SaysText (csvq query) w
-        by_result r same (bytes, moments, source, dated, said, printed, kept) = (bytes, moments, source, dated, r, same, said, printed, refl)
+    whole (prints (csvq query)) p unused = whole_own (csvq query) refl p (unused refl)
+    whole (prints (demo count)) p unused = whole_own (demo count) refl p (unused refl)
     whole (prints (org_add name secret)) p unused = whole_text (org_add name secret) refl p
     whole (prints (export org user secret query)) p unused = whole_text (export org user secret query) refl p
     whole (prints (load org user secret object)) p unused = whole_text (load org user secret object) refl p
@@ -212,6 +217,7 @@ module _ (k l : KeeperState) (a b : Around) (status : ℕ) (w : World) (m : Tabl
     breaks : (command : Command) → Kept command → ((uses_of command).keeper ≡ false → IsTrue l.trusted)
         → (end : World) × Breaks command w end a b status × Stands m end
     breaks (prints (csvq query)) p unused = absurd (true_isnt_false (sym (unused refl) ∙ fell))
+    breaks (prints (demo count)) p unused = absurd (true_isnt_false (sym (unused refl) ∙ fell))
     breaks (prints (org_add name secret)) p unused = breaks_text (org_add name secret) refl p
     breaks (prints (export org user secret query)) p unused = breaks_text (export org user secret query) refl p
     breaks (prints (load org user secret object)) p unused = breaks_text (load org user secret object) refl p

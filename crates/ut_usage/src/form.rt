@@ -9,6 +9,8 @@ pub(crate) enum Operands {
     Words(usize),
     /// A count of connections, or no word.
     Count,
+    /// A number of records.
+    Records,
 }
 
 /// A command as it is written.
@@ -19,7 +21,7 @@ pub(crate) struct Form {
 }
 
 /// The commands of `platform::run`. One more is a line here, and its name in `proofs/Forms.antt`.
-pub(crate) const COMMANDS: [Form; 6] = [
+pub(crate) const COMMANDS: [Form; 7] = [
     Form {
         name: "csvq",
         form: "csvq QUERY",
@@ -39,6 +41,11 @@ pub(crate) const COMMANDS: [Form; 6] = [
         name: "load",
         form: "load ORG USER SECRET OBJECT",
         operands: Operands::Words(4),
+    },
+    Form {
+        name: "demo",
+        form: "demo N",
+        operands: Operands::Records,
     },
     Form {
         name: "answer",

@@ -5,11 +5,11 @@ ghost use Rattle.std.specs.Option.{option_map};
 ghost use Rattle.std.specs.Str.Parse.{digits_value};
 ghost use Rattle.platform.specs.Commands.{command_of};
 ghost use Rattle.ut_usage.specs.Lines.{IsCommandLine, IsPort};
-ghost use Rattle.ut_usage.specs.inner.Forms.{IsCountOrNone};
+ghost use Rattle.ut_usage.specs.inner.Forms.{IsCountOrNone, IsRecordCount};
 
 use crate::form::{Operands, form_of};
 use crate::mistake::Mistake;
-use platform::is_count;
+use platform::{is_count, is_record_count};
 
 // The number from 0 to 65535 that a word writes in digits, without a leading zero. `parse` takes a plus too.
 fn port_of(word: &str) -> Option<u16>
@@ -34,6 +34,18 @@ fn mistake_of_count<'a>(form: &'static str, others: &'a [String]) -> Option<Mist
     }
 }
 
+// The mistake in the words after a command of this form, which takes a number of records.
+fn mistake_of_records<'a>(form: &'static str, others: &'a [String]) -> Option<Mistake<'a>>
+    ensures { IsNone result ↔ IsRecordCount (map string_bytes others.now) }
+{
+    match others {
+        [] => Some(Mistake::TooFew(form)),
+        [word] if is_record_count(word.as_str()) => None,
+        [word] => Some(Mistake::Records(word.as_str())),
+        _ => Some(Mistake::TooMany(form)),
+    }
+}
+
 // The mistake in the words after PATH and PORT: there is one exactly if they are no command of `run`.
 fn mistake_of_command(words: &[String]) -> Option<Mistake<'_>>
     ensures { IsSome result ↔ (command_of (map string_bytes words.now) ≡ None) }
@@ -49,6 +61,7 @@ fn mistake_of_command(words: &[String]) -> Option<Mistake<'_>>
         Operands::Words(count) if others.len() > count => Some(Mistake::TooMany(form.form)),
         Operands::Words(_) => None,
         Operands::Count => mistake_of_count(form.form, others),
+        Operands::Records => mistake_of_records(form.form, others),
     }
 }
 

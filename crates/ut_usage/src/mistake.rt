@@ -24,6 +24,8 @@ pub enum Mistake<'a> {
     TooMany(&'static str),
     /// This COUNT isn't a number from 1 to 2^64 - 1 without leading zeros.
     Count(&'a str),
+    /// This N isn't a number from 0 to 10,000 without leading zeros.
+    Records(&'a str),
 }
 
 impl fmt::Display for Mistake<'_> {
@@ -49,6 +51,10 @@ impl fmt::Display for Mistake<'_> {
             Mistake::Count(word) => write!(
                 f,
                 "COUNT must be a number from 1 to 18446744073709551615 without leading zeros, and is {word:?}"
+            ),
+            Mistake::Records(word) => write!(
+                f,
+                "N must be a number from 0 to 10000 without leading zeros, and is {word:?}"
             ),
         }
     }

@@ -1,4 +1,4 @@
 use Rattle.carmuguur.proofs.run_in_memory.Goals as goal
 
 pub returns : goal.returns
-returns c = c.run_laws.ensures.none _ _ c.run.ensures.status
+returns c = c.run_laws.ensures.none _ _ c.run-status.ensures.status

@@ -1,9 +1,11 @@
 use Rattle.std.proofs.Common.{◌≡◌, ◌∙◌, inl, true, false, [], ◌∷◌, refl, sym, ap, subst, arith}
-use Rattle.platform.specs.Commands.{answers, csvq, export, has_status, is_one_of, is_opening, load, may_write, never, once, org_add, prints, serves}
+use Rattle.platform.specs.Commands.{answers, csvq, demo, export, has_status, is_one_of, is_opening, load, may_write, never, once, org_add, prints, serves}
 use Rattle.platform.specs.Promise.{Causes}
 use Rattle.platform.specs.Seen.{Seen}
 use Rattle.platform.proofs.Runs.{caused, is_72, is_73, is_74, is_75, keeper_caused, known_zero, not_own, of_none, of_words, quiet, status_of_none, status_of_words, true_isnt_false, unused_of_words, was_opening}
+use Rattle.platform.proofs.OfOwn.{is_clocked, moments_at}
 use Rattle.platform.proofs.OfCsvq as by_csvq
+use Rattle.platform.proofs.OfDemo.{demo_promise}
 use Rattle.platform.proofs.OfLoad as by_load
 use Rattle.platform.specs.OrgAdd.{org_does}
 use Rattle.platform.specs.Export.{export_does}
@@ -15,7 +17,7 @@ use Rattle.platform.proofs.running.run.Goals as goal
 -- ---- `csvq`
 
 pub print_csvq-requires : goal.print_csvq-requires
-print_csvq-requires g c = by_csvq.is_clocked c.now-now.result c.now-now.ensures.bound
+print_csvq-requires g c = is_clocked c.now-now.result c.now-now.ensures.bound
 
 pub returns-in-Csvq-clause-status : goal.returns-in-Csvq-clause-status
 returns-in-Csvq-clause-status g c =
@@ -88,7 +90,7 @@ returns-in-OrgAdd-clause-unused g c =
 -- ---- `export`
 
 pub invariant_of-work : goal.invariant_of-work
-invariant_of-work g c = record { calendar = by_csvq.is_clocked c.now-now-in-Export.result c.now-now-in-Export.ensures.bound }
+invariant_of-work g c = record { calendar = is_clocked c.now-now-in-Export.result c.now-now-in-Export.ensures.bound }
 
 pub returns-in-Export-clause-status : goal.returns-in-Export-clause-status
 returns-in-Export-clause-status g c =
@@ -113,7 +115,7 @@ returns-in-Export-clause-promise g c =
     let same = c.store_status-in-Export.ensures in
     let a : Seen = record { keeper = g.K.Keeper.state c.args.keeper.now; door = g.D.Door.held c.args.door.now; door_faults = g.D.Door.faults c.args.door.now; line_faults = g.D.Door.line_faults c.args.door.now; left = g.S.Source.left c.args.source.now; read_faults = g.S.Source.faults c.args.source.now; written = g.W.Sink.written c.args.sink.now; write_faults = g.W.Sink.faults c.args.sink.now; coming = g.C.Clock.coming c.args.clock.now } in
     let b : Seen = record { keeper = g.K.Keeper.state c.print_tables-in-Export.new.keeper; door = g.D.Door.held c.args.door.now; door_faults = g.D.Door.faults c.args.door.now; line_faults = g.D.Door.line_faults c.args.door.now; left = g.S.Source.left c.args.source.now; read_faults = g.S.Source.faults c.args.source.now; written = g.W.Sink.written c.print_tables-in-Export.new.sink; write_faults = g.W.Sink.faults c.print_tables-in-Export.new.sink; coming = g.C.Clock.coming c.now-now-in-Export.new.self } in
-    let at = by_csvq.moments_at (g.C.Clock.coming c.args.clock.now) now c.now-now-in-Export.ensures.first in
+    let at = moments_at (g.C.Clock.coming c.args.clock.now) now c.now-now-in-Export.ensures.first in
     of_words _ (prints p) a b status c.in-Export.ensures
     (by_tables.table_promise p false once true refl a b r status it.status same refl refl refl (export_does org user secret query now) (g.met.K.Keeper.settled c.args.keeper.now) c.stands_laws.ensures.one_version
     (by_tables.table_causes p false once true refl a b r status it.status same refl refl refl it.steps it.acknowledged it.keeper_cause it.sink_cause)
@@ -170,6 +172,41 @@ returns-in-Load-clause-unused g c =
       source_same = λ none. (it.unopened (sym same ∙ by_load.is_77 status (was_opening (is_one_of status (77 ∷ [])) none))).0;
       sink_same = λ none. it.unwritten (subst (λ n. may_write this n ≡ false) same none);
       clock_same = λ none. (it.unopened (sym same ∙ by_load.is_77 status (was_opening (is_one_of status (77 ∷ [])) none))).1;
+    })
+
+-- ---- `demo`
+
+pub print_demo-requires-clause-moment : goal.print_demo-requires-clause-moment
+print_demo-requires-clause-moment g c = is_clocked c.now-now-in-Demo.result c.now-now-in-Demo.ensures.bound
+
+pub returns-in-Demo-clause-status : goal.returns-in-Demo-clause-status
+returns-in-Demo-clause-status g c =
+    let this = prints (demo c.in-Demo.count) in
+    status_of_words _ this c.status_of-in-Demo.result c.in-Demo.ensures.1 (subst (λ n. has_status this n ≡ true) (sym c.status_of-in-Demo.ensures) c.print_demo.ensures.status)
+
+pub returns-in-Demo-clause-promise : goal.returns-in-Demo-clause-promise
+returns-in-Demo-clause-promise g c =
+    let count = c.in-Demo.count in
+    let this = prints (demo count) in
+    let it = c.print_demo.ensures in
+    let status = c.status_of-in-Demo.result in
+    let same = c.status_of-in-Demo.ensures in
+    let a : Seen = record { keeper = g.K.Keeper.state c.args.keeper.now; door = g.D.Door.held c.args.door.now; door_faults = g.D.Door.faults c.args.door.now; line_faults = g.D.Door.line_faults c.args.door.now; left = g.S.Source.left c.args.source.now; read_faults = g.S.Source.faults c.args.source.now; written = g.W.Sink.written c.args.sink.now; write_faults = g.W.Sink.faults c.args.sink.now; coming = g.C.Clock.coming c.args.clock.now } in
+    let b : Seen = record { keeper = g.K.Keeper.state c.args.keeper.now; door = g.D.Door.held c.args.door.now; door_faults = g.D.Door.faults c.args.door.now; line_faults = g.D.Door.line_faults c.args.door.now; left = g.S.Source.left c.args.source.now; read_faults = g.S.Source.faults c.args.source.now; written = g.W.Sink.written c.print_demo.new.sink; write_faults = g.W.Sink.faults c.print_demo.new.sink; coming = g.C.Clock.coming c.now-now-in-Demo.new.self } in
+    of_words _ this a b status c.in-Demo.ensures.1
+    (demo_promise count a b c.print_demo.result status it.known same (subst (λ n. has_status this n ≡ true) (sym same) it.status) refl refl refl refl
+    c.now-now-in-Demo.result c.now-now-in-Demo.ensures.first it.prints c.now-now-in-Demo.ensures.asked it.cause)
+
+pub returns-in-Demo-clause-unused : goal.returns-in-Demo-clause-unused
+returns-in-Demo-clause-unused g c =
+    let this = prints (demo c.in-Demo.count) in
+    let status = c.status_of-in-Demo.result in
+    unused_of_words _ this status c.in-Demo.ensures.1 (record {
+      keeper_same = λ none. refl;
+      door_same = λ none. refl;
+      source_same = λ none. refl;
+      sink_same = λ none. c.print_demo.ensures.unwritten (subst (λ n. may_write this n ≡ false) c.status_of-in-Demo.ensures none);
+      clock_same = λ none. absurd (true_isnt_false none);
     })
 
 -- ---- `answer`

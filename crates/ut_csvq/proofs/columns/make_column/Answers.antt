@@ -4,15 +4,15 @@ use Rattle.ut_keeper.specs.Draft.{tables_of}
 use Rattle.ut_keeper.specs.Memory.{memory_state}
 use Rattle.ut_model.specs.NewFields.{add_field}
 use Rattle.ut_model.specs.declared.metadata_bodies.NewField.{NewField}
+use Rattle.ut_own.specs.Making.{StepsOwn}
 use Rattle.ut_sound.specs.Fit.{is_fit_field}
-use Rattle.ut_csvq.specs.inner.Making.{KeepsUsers, Steps}
-use Rattle.ut_csvq.proofs.Making.{column_fits, column_keeps}
+use Rattle.ut_csvq.proofs.Making.{column_fits}
 use Rattle.ut_csvq.proofs.columns.make_column.Goals as goal
+
+pub make_field-requires : goal.make_field-requires
+make_field-requires c = subst (λ (n : NewField). IsTrue (is_fit_field n)) (sym c.in_ok-new.ensures) (column_fits (chars c.args.name.now))
 
 pub returns : goal.returns
 returns c now a made =
-    let is = c.in_ok-new.ensures in
-    let name = chars c.args.name.now in
-    subst (λ (n : NewField). Steps now (tables_of memory_state c.step.new.draft) a (add_field a.tenant n) c.step.result) is
-    (c.step.ensures now a made (subst (λ (n : NewField). IsTrue (is_fit_field n)) (sym is) (column_fits name))
-    (subst (λ (n : NewField). KeepsUsers a (add_field a.tenant n)) (sym is) (column_keeps a name)))
+    subst (λ (n : NewField). StepsOwn now (tables_of memory_state c.make_field.new.draft) a (add_field a.tenant n) c.make_field.result) c.in_ok-new.ensures
+    (c.make_field.ensures now a made)

@@ -4,11 +4,11 @@ use Rattle.ut_keeper.specs.Draft.{tables_of}
 use Rattle.ut_keeper.specs.Memory.{memory_state}
 use Rattle.ut_model.specs.Paths.{Asked}
 use Rattle.ut_csvq.specs.Organisation.{with_columns}
-use Rattle.ut_csvq.specs.inner.Making.{IsMade}
+use Rattle.ut_own.specs.Making.{IsOwned}
 use Rattle.ut_csvq.proofs.columns.make_columns.Given as goal
 
 abbrev pub invariant-loop-place : goal.invariant-loop-place
 invariant-loop-place l =
-    (now : ℕ) (a : Asked) → IsMade now (tables_of memory_state l.fn.draft) a
-    → (b : Asked) × IsMade now (tables_of memory_state l.draft) b
+    (now : ℕ) (a : Asked) → IsOwned now (tables_of memory_state l.fn.draft) a
+    → (b : Asked) × IsOwned now (tables_of memory_state l.draft) b
     × (with_columns l.named b (drop l.place (fields_of l.heading)) ≡ with_columns false a (fields_of l.heading))

@@ -4,21 +4,22 @@ use Rattle.ut_keeper.specs.Draft.{tables_of}
 use Rattle.ut_keeper.specs.Memory.{memory_state}
 use Rattle.ut_model.specs.NewFields.{add_field}
 use Rattle.ut_model.specs.declared.refusal.Refusal.{Refusal}
-use Rattle.ut_csvq.specs.Organisation.{new_column, past, with_columns}
-use Rattle.ut_csvq.specs.inner.Making.{Steps}
+use Rattle.ut_own.specs.Own.{past}
+use Rattle.ut_csvq.specs.Organisation.{new_column, with_columns}
+use Rattle.ut_own.specs.Making.{StepsOwn}
 use Rattle.ut_csvq.proofs.Making.{first_name, new_field_made, no_column, second_name}
 use Rattle.ut_csvq.proofs.columns.take_column.Goals as goal
 
 pub returns-in-Some : goal.returns-in-Some
 returns-in-Some c now a made cells =
     let v = add_field a.tenant (new_column (chars c.args.cell.now)) in
-    let h = subst (λ (r : Option Refusal). Steps now (tables_of memory_state c.make_column.new.draft) a v (Ok r)) c.in-Some.is (c.in_ok-refused.ensures now a made) in
+    let h = subst (λ (r : Option Refusal). StepsOwn now (tables_of memory_state c.make_column.new.draft) a v (Ok r)) c.in-Some.is (c.in_ok-refused.ensures now a made) in
     no_column a c.args.cell.now cells c.args.named _ (sym (sym c.same_name.ensures ∙ c.if-not-same_name.true)) h
 
 pub returns-in-None : goal.returns-in-None
 returns-in-None c now a made =
     let v = add_field a.tenant (new_column (chars c.args.cell.now)) in
-    let h = subst (λ (r : Option Refusal). Steps now (tables_of memory_state c.make_column.new.draft) a v (Ok r)) c.in-None.is (c.in_ok-refused.ensures now a made) in
+    let h = subst (λ (r : Option Refusal). StepsOwn now (tables_of memory_state c.make_column.new.draft) a v (Ok r)) c.in-None.is (c.in_ok-refused.ensures now a made) in
     (past a v, h.1, λ cells. new_field_made a c.args.cell.now cells c.args.named (sym (sym c.same_name.ensures ∙ c.if-not-same_name.true)) h.0)
 
 pub returns-then-named : goal.returns-then-named

@@ -3,7 +3,8 @@ use Rattle.csv.specs.Records.{Row, fields_of}
 use Rattle.ut_keeper.specs.Tables.{Tables}
 use Rattle.ut_stands.specs.Stands.{Stands}
 use Rattle.ut_csvq.specs.Outcomes.{table_outcome}
-use Rattle.ut_csvq.proofs.Turns.{no_record, no_tables}
+use Rattle.ut_own.proofs.Fresh.{no_tables}
+use Rattle.ut_csvq.proofs.Turns.{no_record}
 use Rattle.ut_csvq.proofs.input.answer_records.Goals as goal
 
 pub returns-in_default : goal.returns-in_default

@@ -4,8 +4,9 @@ use Rattle.ut_keeper.specs.Draft.{tables_of}
 use Rattle.ut_keeper.specs.Memory.{memory_state}
 use Rattle.ut_model.specs.Creates.{create}
 use Rattle.ut_model.specs.declared.refusal.Refusal.{Refusal}
-use Rattle.ut_csvq.specs.Organisation.{given_of, object_name, past}
-use Rattle.ut_csvq.specs.inner.Making.{Steps}
+use Rattle.ut_own.specs.Own.{past}
+use Rattle.ut_csvq.specs.Organisation.{given_of, object_name}
+use Rattle.ut_own.specs.Making.{StepsOwn}
 use Rattle.ut_csvq.proofs.Making.{rows_end, rows_on, rows_stop}
 use Rattle.ut_csvq.proofs.rows.make_rows.Goals as goal
 
@@ -24,7 +25,7 @@ loop-place-preserved c a made =
     let so_far = c.loop-place.invariant a made in
     let v = create so_far.0 object_name (given_of heading (fields_of row)) in
     let within : place < length c.args.rows.now = search rules in
-    let h = subst (λ (r : Option Refusal). Steps c.args.now (tables_of memory_state c.make_row.new.draft) so_far.0 v (Ok r))
+    let h = subst (λ (r : Option Refusal). StepsOwn c.args.now (tables_of memory_state c.make_row.new.draft) so_far.0 v (Ok r))
     (nothing_there c.in_ok-refusal.field-0 c.in_default.not-Some) (c.in_ok-refusal.ensures so_far.0 so_far.1) in
     (past so_far.0 v, h.1, rows_on c.args.now heading a so_far.0 c.args.rows.now place row within c.index-rows-place.is so_far.2 h.0)
 
@@ -36,7 +37,7 @@ returns-in-Some c a made =
     let so_far = c.loop-place.invariant a made in
     let v = create so_far.0 object_name (given_of heading (fields_of row)) in
     let within : place < length c.args.rows.now = search rules in
-    let h = subst (λ (r : Option Refusal). Steps c.args.now (tables_of memory_state c.make_row.new.draft) so_far.0 v (Ok r))
+    let h = subst (λ (r : Option Refusal). StepsOwn c.args.now (tables_of memory_state c.make_row.new.draft) so_far.0 v (Ok r))
     c.in-Some.is (c.in_ok-refusal.ensures so_far.0 so_far.1) in
     rows_stop c.args.now heading a so_far.0 c.args.rows.now place row within c.index-rows-place.is so_far.2 (tables_of memory_state c.make_row.new.draft) c.in-Some.refusal _ refl h
 

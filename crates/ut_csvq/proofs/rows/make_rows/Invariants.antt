@@ -4,11 +4,11 @@ use Rattle.ut_keeper.specs.Draft.{tables_of}
 use Rattle.ut_keeper.specs.Memory.{memory_state}
 use Rattle.ut_model.specs.Paths.{Asked}
 use Rattle.ut_csvq.specs.Organisation.{with_rows}
-use Rattle.ut_csvq.specs.inner.Making.{IsMade}
+use Rattle.ut_own.specs.Making.{IsOwned}
 use Rattle.ut_csvq.proofs.rows.make_rows.Given as goal
 
 abbrev pub invariant-loop-place : goal.invariant-loop-place
 invariant-loop-place l =
-    (a : Asked) → IsMade l.now (tables_of memory_state l.fn.draft) a
-    → (b : Asked) × IsMade l.now (tables_of memory_state l.draft) b
+    (a : Asked) → IsOwned l.now (tables_of memory_state l.fn.draft) a
+    → (b : Asked) × IsOwned l.now (tables_of memory_state l.draft) b
     × (with_rows (fields_of l.heading) (l.place + 1) b (map fields_of (drop l.place l.rows)) ≡ with_rows (fields_of l.heading) 1 a (map fields_of l.rows))

@@ -1,8 +1,11 @@
 use Rattle.std.proofs.Common.{◌≤◌, arith, length, sym, subst, refl}
 use Rattle.std.specs.Prelude.{string_bytes}
 use Rattle.ut_usage.specs.Lines.{IsPort}
-use Rattle.ut_usage.proofs.Forms.{false_isnt_true, line_of_words}
+use Rattle.ut_usage.proofs.Forms.{false_isnt_true, line_of_words, not_one}
 use Rattle.ut_usage.proofs.line.read_line.Goals as goal
+
+pub returns-in-len1-clause-refused : goal.returns-in-len1-clause-refused
+returns-in-len1-clause-refused c = let few = c.in-len1.len_below in (λ _. not_one string_bytes c.args.words.now (omega (arith, few)), λ _. refl)
 
 pub returns-in-None-clause-refused : goal.returns-in-None-clause-refused
 returns-in-None-clause-refused c =

@@ -1,0 +1,4 @@
+mod Coming
+mod Counting
+mod Telling
+mod Watching

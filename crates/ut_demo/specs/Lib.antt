@@ -1,0 +1,2 @@
+pub mod Demos
+pub mod inner

@@ -1,0 +1,5 @@
+pub mod Copies
+pub mod Counts
+pub mod Refused
+pub mod Written
+pub mod inner

@@ -1,0 +1,3 @@
+-- Laws that nobody must read.
+pub mod CopyLaws
+pub mod CountLaws

@@ -1,0 +1,81 @@
+-- Who asks a query, and what it comes to where there is no object.
+use Rattle.std.proofs.Common.{◌≡◌, ℕ, true, List, Option, None, Some, refl, sym, ap, subst, inr, Result, Ok, Err, ℤ, ◌∙◌}
+use Rattle.std.specs.Option.{option_map}
+use Rattle.std.specs.Prelude.{IfOk}
+use Rattle.std.specs.Result.{result_and}
+use Rattle.ut_keeper.specs.Tables.{Tables}
+use Rattle.ut_keys.specs.declared.fail.StoreFail.{StoreFail}
+use Rattle.ut_query.specs.declared.query.Query.{Query}
+use Rattle.ut_model.specs.declared.refusal.Refusal.{Refusal}
+use Rattle.ut_model.specs.declared.refusal.Refusal.TheVariants.{InvalidType}
+use Rattle.ut_model.specs.Asking.{query_rules}
+use Rattle.ut_model.specs.Cases.{in_case}
+use Rattle.ut_model.specs.Objects.{Numbered, object_named}
+use Rattle.ut_model.specs.Paths.{Asked}
+use Rattle.ut_model.specs.Tenant.{Tenant, User}
+use Rattle.ut_model.specs.Verdict.{accept, judged, refuse, rows_of}
+use Rattle.ut_query_rules.specs.Reaching.{Reaches}
+use Rattle.ut_rights.specs.Rights.{Whose}
+use Rattle.ut_stands.specs.Layouts.{layout_of}
+use Rattle.ut_stands.specs.Local.{StandsIn}
+use Rattle.ut_stands.specs.Plan.{OrgPlan}
+use Rattle.ut_stands.specs.declared.layout.Layout.{Layout}
+use Rattle.ut_lines.specs.Answered.{IsAskedBy, IsLines}
+use Rattle.ut_lines.specs.Lines.{lines_found, query_lines}
+use Rattle.ut_own.specs.Making.{IsOwned}
+
+-- ---- who asks
+
+-- an administrator has all rights, and sees all
+abbrev pub Administers : Whose
+Administers t u = u.admin ≡ true
+
+pub is_asked : (layouts : List Layout) (l : Layout) (q : Query) (now : ℕ) (m : Tables) (a : Asked) (made : IsOwned now m a) (o : Numbered)
+    → object_named a.tenant q.tail.from ≡ Some o → l ≡ layout_of 1 made.plan a.tenant o → Reaches 1 made.plan a.tenant layouts q
+    → (moment : ℤ) → a.now ≡ moment → IsAskedBy layouts l Administers Administers moment q m made.plan a
+is_asked layouts l q now m a made o named is reaches moment at =
+    let org : l.org ≡ 1 = ap (λ (x : Layout). x.org) is in
+    let admin : a.user.admin ≡ true = ap (λ (u : User). u.admin) made.user in
+    record {
+      asked = record {
+        stands = subst (λ (n : ℕ). StandsIn n made.plan m (Some a.tenant)) (sym org) made.stands;
+        object = o;
+        named = named;
+        its = is ∙ ap (λ (n : ℕ). layout_of n made.plan a.tenant o) (sym org);
+        sight = admin;
+        now = at;
+      };
+      reaches = subst (λ (n : ℕ). Reaches n made.plan a.tenant layouts q) (sym org) reaches;
+      rights = inr admin;
+    }
+
+-- the same where the tables are other ones with the same rows
+abbrev pub still_made : (now : ℕ) (m n : Tables) (a : Asked) (made : IsOwned now m a) → n ≡ m → IsOwned now n a
+still_made now m n a made same = record {
+  plan = made.plan;
+  stands = subst (λ (x : Tables). StandsIn 1 made.plan x (Some a.tenant)) (sym same) made.stands;
+  users = made.users;
+  user = made.user;
+  moment = made.moment;
+}
+
+-- ---- the object
+
+module _ (p : OrgPlan) (t : Tenant) where
+  pub found_at : (x : Option Numbered) (l : Layout) → Some l ≡ option_map (layout_of 1 p t) x → (o : Numbered) × (x ≡ Some o) × (l ≡ layout_of 1 p t o)
+  found_at None l e = absurd cc
+  found_at (Some o) l e = let same : l ≡ layout_of 1 p t o = cc in (o, refl, same)
+
+  pub none_at : (x : Option Numbered) → None ≡ option_map (layout_of 1 p t) x → x ≡ None
+  none_at None e = refl
+  none_at (Some o) e = absurd cc
+
+-- no object has the name
+pub nowhere : (a : Asked) (q : Query) → object_named a.tenant q.tail.from ≡ None → Err (InvalidType q.tail.from) ≡ query_lines a q
+nowhere a q none =
+    ap (λ (x : Option Numbered). result_and (in_case x (refuse a.tenant (InvalidType q.tail.from)) (λ o. judged a.tenant (query_rules a.tenant o.number q) (accept (rows_of q) a.tenant))).answer (Ok (lines_found a q))) (sym none)
+
+-- what is returned of a query that was answered
+pub lines_are : (a : Asked) (q : Query) (r : Result (Result (List ℕ) Refusal) StoreFail) → IsLines a q r → IfOk r (λ lines. lines ≡ query_lines a q)
+lines_are a q (Ok lines) h = h
+lines_are a q (Err e) h = tt

@@ -1,0 +1,10 @@
+-- A draft as it begins.
+use Rattle.std.proofs.Common.{◌≡◌, ◌∙◌, [], ap}
+use Rattle.ut_keeper.specs.Draft.{Held, tables_of}
+use Rattle.ut_keeper.specs.Laid.{laid}
+use Rattle.ut_keeper.specs.Memory.{InMemory, memory_state}
+use Rattle.ut_keeper.specs.Tables.{no_rows}
+
+-- a draft without changes over tables without rows
+pub no_tables : (d : Held InMemory) (k : InMemory) → d.changes.entries ≡ [] → d.keeper.now ≡ k → k.tables ≡ no_rows → tables_of memory_state d ≡ no_rows
+no_tables d k empty same none = ap (λ es. laid es d.keeper.now.tables) empty ∙ ap (λ (x : InMemory). x.tables) same ∙ none

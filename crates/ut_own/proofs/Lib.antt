@@ -1,0 +1,3 @@
+mod Asked
+mod Keeping
+pub mod Fresh

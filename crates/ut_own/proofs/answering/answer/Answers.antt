@@ -1,0 +1,27 @@
+use Rattle.std.proofs.Common.{◌≡◌, ◌∙◌, Err, List, Some, ap, refl, sym, ℕ}
+use Rattle.std.specs.Option.{option_map}
+use Rattle.std.specs.Str.{chars}
+use Rattle.ut_model.specs.Objects.{object_named}
+use Rattle.ut_model.specs.declared.refusal.Refusal.TheVariants.{InvalidType}
+use Rattle.ut_stands.specs.Layouts.{layout_of, own_layout_named}
+use Rattle.ut_own.proofs.Asked.{found_at, none_at, nowhere, still_made}
+use Rattle.ut_own.proofs.answering.answer.Goals as goal
+
+pub returns-in-Ok-Some-clause-lines : goal.returns-in-Ok-Some-clause-lines
+unfolding own_layout_named
+returns-in-Ok-Some-clause-lines c a made =
+    let name : chars c.as_str.result.now ≡ c.args.query.now.tail.from = c.as_str.ensures.characters in
+    let read = c.in-Ok-Some.ensures.finds (tt, refl) made.plan (Some a.tenant) made.stands in
+    let at = found_at made.plan a.tenant (object_named a.tenant c.args.query.now.tail.from) c.in-Ok-Some.layout
+    (sym c.in-Ok-Some.field-0-is ∙ read ∙ ap (λ (n : List ℕ). option_map (layout_of 1 made.plan a.tenant) (object_named a.tenant n)) name) in
+    let same = c.call_laws.ensures.tables 0 _ c.args.draft.now c.layout_named.new.draft c.in-Ok-Some.ensures.calls (tt, refl) in
+    c.answer_over.ensures.lines a (still_made _ _ _ a made same) at.0 at.1 at.2
+
+pub returns-in-Ok-clause-lines : goal.returns-in-Ok-clause-lines
+unfolding own_layout_named
+returns-in-Ok-clause-lines c a made =
+    let name : chars c.as_str.result.now ≡ c.args.query.now.tail.from = c.as_str.ensures.characters in
+    let read = c.in-Ok-None.ensures.finds (tt, refl) made.plan (Some a.tenant) made.stands in
+    ap (λ (n : List ℕ). Err (InvalidType n)) c.in-Ok.ensures
+    ∙ nowhere a c.args.query.now (none_at made.plan a.tenant (object_named a.tenant c.args.query.now.tail.from)
+    (sym c.in-Ok-None.field-0-is ∙ read ∙ ap (λ (n : List ℕ). option_map (layout_of 1 made.plan a.tenant) (object_named a.tenant n)) name))

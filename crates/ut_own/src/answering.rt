@@ -1,0 +1,96 @@
+//! The answer to a query in lines of CSV.
+
+ghost use Rattle.std.specs.Prelude.{◌≡◌, IfOk, IsTrue, Some, pos};
+ghost use Rattle.ut_query_rules.specs.Reaching.{Reaches};
+ghost use Rattle.ut_own.specs.Making.{IsOwned};
+ghost use Rattle.ut_keeper.specs.Draft.{tables_of};
+ghost use Rattle.ut_keeper.specs.Memory.{memory_state};
+ghost use Rattle.ut_lines.specs.Lines.{query_lines};
+ghost use Rattle.ut_model.specs.Objects.{Numbered, object_named};
+ghost use Rattle.ut_model.specs.Paths.{Asked};
+ghost use Rattle.ut_stands.specs.Layouts.{layout_of};
+ghost use Rattle.ut_value.specs.Dates.{is_moment};
+
+use crate::organisation::{ORG, moment};
+use std::alloc::Global;
+use ut_keeper::{Draft, MemoryKeeper};
+use ut_keys::StoreFail;
+use ut_lines::answer_lines;
+use ut_model::Refusal;
+use ut_query::Query;
+use ut_query_rules::is_flat;
+use ut_rights::Administrator;
+use ut_stands::{Layout, call_laws, layout_named, layouts};
+use ut_value::Bytes;
+
+// The answer to a query of the layout's object, by the layouts of all objects or, where it is over one alone, by none.
+fn answer_there(
+    alloc: Global,
+    draft: &mut Draft<'_, MemoryKeeper>,
+    layouts: &[Layout],
+    layout: &Layout,
+    now: u64,
+    query: &Query,
+) -> Result<Result<Bytes, Refusal>, StoreFail>
+    requires { IsTrue (is_moment (pos now)) }
+    ensures lines { (a : Asked) → (made : IsOwned now (tables_of memory_state draft.old) a) → (o : Numbered)
+        → object_named a.tenant query.now.tail.from ≡ Some o → layout.now ≡ layout_of 1 made.plan a.tenant o
+        → Reaches 1 made.plan a.tenant layouts.now query.now → IfOk result (λ lines. lines ≡ query_lines a query.now) }
+    ensures same { tables_of memory_state draft.new ≡ tables_of memory_state draft.old }
+{
+    call_laws::<MemoryKeeper>();
+    let all = &Administrator;
+    answer_lines(alloc, draft, layouts, layout, all, all, moment(now), query)
+}
+
+// The answer to a query of the layout's object.
+fn answer_over(
+    alloc: Global,
+    draft: &mut Draft<'_, MemoryKeeper>,
+    layout: &Layout,
+    now: u64,
+    query: &Query,
+) -> Result<Result<Bytes, Refusal>, StoreFail>
+    requires { IsTrue (is_moment (pos now)) }
+    ensures lines { (a : Asked) → (made : IsOwned now (tables_of memory_state draft.old) a) → (o : Numbered)
+        → object_named a.tenant query.now.tail.from ≡ Some o → layout.now ≡ layout_of 1 made.plan a.tenant o
+        → IfOk result (λ lines. lines ≡ query_lines a query.now) }
+    ensures same { tables_of memory_state draft.new ≡ tables_of memory_state draft.old }
+{
+    call_laws::<MemoryKeeper>();
+    if is_flat(query) {
+        return answer_there(alloc, draft, &[], layout, now, query);
+    }
+    match layouts(alloc, draft, ORG) {
+        Ok(all) => answer_there(alloc, draft, all.as_slice(), layout, now, query),
+        Err(fail) => Err(fail),
+    }
+}
+
+/// The answer to a query of the administrator at this moment, in lines of CSV. The layouts of all objects are read only where the query
+/// isn't over one alone.
+///
+/// # Errors
+///
+/// `Memory` if out of memory. No call of this keeper fails.
+pub fn answer(
+    alloc: Global,
+    draft: &mut Draft<'_, MemoryKeeper>,
+    now: u64,
+    query: &Query,
+) -> Result<Result<Bytes, Refusal>, StoreFail>
+    requires { IsTrue (is_moment (pos now)) }
+    ensures lines { (a : Asked) → IsOwned now (tables_of memory_state draft.old) a
+        → IfOk result (λ lines. lines ≡ query_lines a query.now) }
+    ensures same { tables_of memory_state draft.new ≡ tables_of memory_state draft.old }
+{
+    call_laws::<MemoryKeeper>();
+    match layout_named(alloc, draft, ORG, query.tail.from.as_str()) {
+        Ok(Some(layout)) => answer_over(alloc, draft, &layout, now, query),
+        Ok(None) => match query.tail.from.copy(alloc) {
+            Ok(name) => Ok(Err(Refusal::InvalidType { name })),
+            Err(_) => Err(StoreFail::Memory),
+        },
+        Err(fail) => Err(fail),
+    }
+}

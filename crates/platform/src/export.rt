@@ -9,7 +9,7 @@ ghost use Rattle.ut_value.specs.Dates.{is_moment};
 use crate::page::{Page, page_of_refusal};
 use crate::tables::TableWork;
 use std::alloc::{AllocError, Global};
-use ut_asking::answer_asked;
+use ut_asking::{answer_asked, asking_laws};
 use ut_exports::Export;
 use ut_keeper::{Draft, Keeper};
 use ut_keys::StoreFail;
@@ -67,6 +67,7 @@ impl TableWork for Exporting<'_> {
         draft: &mut Draft<'_, K>,
         _organisations: u32,
     ) -> Result<Judged<Page>, StoreFail> {
+        asking_laws::<Result<Bytes, Refusal>>();
         let asked = Export { query: self.query };
         let judged = answer_asked(
             alloc,

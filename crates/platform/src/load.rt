@@ -31,7 +31,7 @@ use crate::printing::{StoreStop, print_tables, write_page};
 use crate::stop::Stop;
 use crate::tables::TableWork;
 use std::alloc::Global;
-use ut_batches::{Loading, Row, Rows, Target, find_target, load_batch, plan_input};
+use ut_batches::{Loading, Row, Rows, Target, batch_laws, find_target, load_batch, plan_input};
 use ut_bulk::heading_line;
 use ut_csvq::INPUT_LIMIT;
 use ut_io::{Clock, ReadFail, Sink, Source, read_all, write_all};
@@ -66,6 +66,7 @@ fn read_object<K: Keeper>(
     ensures stays { StaysAfter (is_ok result) (K.state keeper.old) (K.state keeper.new) }
     ensures cause { KeeperCause (K.state keeper.old) (K.state keeper.new) (IsErrOf result Keeper) }
 {
+    batch_laws();
     let mut draft = Draft::new(alloc, keeper);
     find_target(
         alloc,
@@ -186,6 +187,7 @@ impl TableWork for Batch<'_> {
         draft: &mut Draft<'_, K>,
         _organisations: u32,
     ) -> Result<Judged<Page>, StoreFail> {
+        batch_laws();
         let judged = load_batch(alloc, draft, self.loading, self.rows);
         lines_judged(judged)
     }

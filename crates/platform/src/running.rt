@@ -51,7 +51,7 @@ fn status_of(ended: Result<u8, Stop>) -> u8
 /// | 76 | the tables are damaged |
 /// | 77 | the tables are of a version that isn't known here |
 ///
-/// After 0, 65 and 73, of `answer` also after 74, and of `serve` after 75, the tables are what the command is to leave. Of `load` they are
+/// While the keeper is trusted: after 0, 65 and 73, of `answer` also after 74, and of `serve` after 75, the tables are what the command is to leave. Of `load` they are
 /// what its lines tell after 71 and 72, and what these and the batch tell whose lines were being written after 73; if they were damaged,
 /// rows may have been loaded before 76. After every other status they are what they were.
 pub fn run<K: Keeper, D: Door, S: Source, W: Sink, C: Clock>(

@@ -1,2 +1,3 @@
 pub mod Behind
 pub mod Calling
+pub mod Worlds

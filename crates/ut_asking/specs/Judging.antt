@@ -1,10 +1,11 @@
 -- What is asked, judged over tables.
-use Rattle.std.specs.Prelude.{◌≡◌, ◌+◌, ◌*◌, ℕ, Bool, true, false, Option, Some, Result, Ok, Err}
+use Rattle.std.specs.Prelude.{◌≡◌, ◌+◌, ◌*◌, ◌<◌, ◌≤◌, ◌^◌, ℕ, Bool, true, false, Option, Some, None, Result, Ok, Err}
 use Rattle.ut_background.specs.Background.{step_changes, step_shown}
 use Rattle.ut_keeper.specs.Tables.{Tables}
 use Rattle.ut_keys.specs.declared.fail.StoreFail.{StoreFail}
 use Rattle.ut_keys.specs.declared.fail.StoreFail.TheVariants.{Memory}
 use Rattle.ut_model.specs.declared.caller.Caller.{Caller}
+use Rattle.ut_model.specs.Callers.{Named}
 use Rattle.ut_model.specs.Tenant.{Tenant, User}
 use Rattle.ut_stands.specs.declared.judged.Judged.{Judged}
 use Rattle.ut_stands.specs.declared.judged.Judged.TheVariants.{Changed, Same}
@@ -13,7 +14,7 @@ use Rattle.ut_stands.specs.Operations.{IsChange, Judges}
 use Rattle.ut_stands.specs.Plan.{OrgPlan}
 use Rattle.ut_step.specs.Own.{IsAsking}
 use Rattle.ut_step.specs.Step.{asking}
-use Rattle.ut_asking.specs.Asking.{Doing, called}
+use Rattle.ut_asking.specs.Asking.{Doing, called, named_does}
 
 -- what a caller asks, judged over these tables, of which those came, where no step is to be made: whatever they have, no row of others
 -- changes; and where the organisation's rows stand for a tenant, it is what it comes to of the user who asks
@@ -40,6 +41,18 @@ abbrev pub RefusesUncalled : {X : Type 0} → (refused : X) → Result (Judged X
 RefusesUncalled refused (Ok (Same x)) = x ≡ refused
 RefusesUncalled refused (Ok (Changed x)) = ⊥
 RefusesUncalled refused (Err e) = e ≡ Memory
+
+-- what is asked by who names these, judged over these tables, of which those came: whatever they have, no row of others changes; and
+-- where the organisation's rows stand for a tenant, or for none, it is what it comes to there
+pub record JudgesIn {X : Type 0} (does : Doing X) (refused : X) (now : ℕ) (n : Named) (before after : Tables) (result : Result (Judged X) StoreFail) : Type 0 where
+  pub others : IsChange result → KeepsOthers n.org before after
+  pub judged : (q : OrgPlan) (t : Option Tenant) → StandsIn n.org q before t → Judges (StandsFor n.org) (named_does does refused now n) t after result
+
+-- the same of anyone: who names none, or a number that no organisation has, is refused
+abbrev pub JudgesFor : {X : Type 0} → Doing X → (refused : X) → (now : ℕ) → Option Named → (before after : Tables) → Result (Judged X) StoreFail → Type 0
+JudgesFor does refused now None before after result = RefusesUncalled refused result
+JudgesFor does refused now (Some n) before after result =
+    (n.org < 2 ^ 32 → JudgesIn does refused now n before after result) × (2 ^ 32 ≤ n.org → RefusesUncalled refused result)
 
 -- ---- how much is done
 

@@ -1,14 +1,12 @@
 //! What is asked, and how it is done.
 
 ghost use Rattle.std.specs.Prelude.{◌≡◌, IfOk, IsTrue, pos, ℕ};
-ghost use Rattle.ut_asking.specs.Asking.{Doing, world_does};
-ghost use Rattle.ut_asking.specs.Judging.{JudgesAsked, JudgesCalled, RefusesUncalled, behind_step, beside, changes_behind, shown_behind};
+ghost use Rattle.ut_asking.specs.Asking.{Doing};
+ghost use Rattle.ut_asking.specs.Judging.{JudgesAsked, JudgesFor, JudgesCalled, RefusesUncalled, behind_step, beside, changes_behind, shown_behind};
 ghost use Rattle.ut_keeper.specs.Draft.{DraftTells, removals_of, tables_of};
 ghost use Rattle.ut_keeper.specs.State.{data_table};
 ghost use Rattle.ut_model.specs.Callers.{named_by};
-ghost use Rattle.ut_model.specs.World.{World};
-ghost use Rattle.ut_stands.specs.Operations.{Drafts, Judges};
-ghost use Rattle.ut_stands.specs.Stands.{Stands};
+ghost use Rattle.ut_stands.specs.Operations.{Drafts};
 ghost use Rattle.ut_value.specs.Dates.{is_moment};
 
 use std::alloc::{AllocError, Global};
@@ -16,8 +14,7 @@ use ut_keeper::{Draft, Keeper, draft_laws};
 use ut_keys::StoreFail;
 use ut_model::{Caller, tenant_laws};
 use ut_people::caller_named;
-use ut_stands::{Judged, call_laws, local_laws};
-use ut_step::step_laws;
+use ut_stands::{Judged, call_laws};
 
 /// What a user asks of an organisation.
 pub trait Ask {
@@ -135,16 +132,14 @@ pub fn answer_asked<K: Keeper, A: Ask>(
     now: u64,
 ) -> Result<Judged<A::Answer>, StoreFail>
     requires { IsTrue (is_moment (pos now)) }
-    ensures what { DraftTells K.state draft.old draft.new → (w : World) → Stands (tables_of K.state draft.old) w
-        → Judges Stands (world_does (A.does asked.now) (A.refused asked.now) now (named_by org.now user.now secret.now)) w
+    ensures what { DraftTells K.state draft.old draft.new
+        → JudgesFor (A.does asked.now) (A.refused asked.now) now (named_by org.now user.now secret.now) (tables_of K.state draft.old)
         (tables_of K.state draft.new) result }
     ensures drafts { Drafts K.state (changes_behind A.most) 0
         (shown_behind (A.shown asked.now) (removals_of K.state data_table draft.old)) result draft.old draft.new }
 {
     draft_laws::<K>();
     call_laws::<K>();
-    local_laws();
-    step_laws();
     match caller_named(alloc, draft, org, user, secret) {
         Ok(Some(caller)) => answer_called(alloc, draft, asked, &caller, now),
         Ok(None) => refuse(alloc, asked),

@@ -1,16 +1,23 @@
 -- The rows of a text that is loaded: each is asked as a request of its own, at its own moment, by who is named. They are done in batches.
 -- Sources: as the verdicts of `ut_model` and the lines of `ut_bulk` have them. That rows go in batches is this product's own.
-use Rattle.std.specs.Prelude.{◌≡◌, ℕ, ◌+◌, List, [], ◌∷◌, ◌++◌, length, map, Option, IfSome}
-use Rattle.ut_asking.specs.Asking.{Doing, world_does}
-use Rattle.ut_asking.specs.Judging.{changes_behind, shown_behind}
+use Rattle.std.specs.Prelude.{◌≡◌, ℕ, ◌+◌, ◌<◌, ◌≤◌, ◌^◌, List, [], ◌∷◌, ◌++◌, length, map, Option, Some, None, IfSome, Result}
+use Rattle.ut_asking.specs.Asking.{Doing, named_does, world_does}
+use Rattle.ut_asking.specs.Judging.{RefusesUncalled, changes_behind, shown_behind}
 use Rattle.ut_bulk.specs.Rows.{refused_line, row_line, row_request}
 use Rattle.ut_bulk.specs.declared.plan.LoadPlan.{LoadPlan}
 use Rattle.ut_io.specs.Moments.{after_asking}
+use Rattle.ut_keeper.specs.Tables.{Tables}
+use Rattle.ut_keys.specs.declared.fail.StoreFail.{StoreFail}
 use Rattle.ut_loads.specs.Loads.{load_shown, row_changes}
 use Rattle.ut_model.specs.declared.refusal.Refusal.TheVariants.{InvalidSession}
 use Rattle.ut_model.specs.Callers.{Named}
 use Rattle.ut_model.specs.Requests.{verdict_on}
+use Rattle.ut_model.specs.Tenant.{Tenant}
 use Rattle.ut_model.specs.World.{World}
+use Rattle.ut_stands.specs.declared.judged.Judged.{Judged}
+use Rattle.ut_stands.specs.Local.{KeepsOthers, StandsFor, StandsIn}
+use Rattle.ut_stands.specs.Operations.{IsChange, Judges}
+use Rattle.ut_stands.specs.Plan.{OrgPlan}
 use Rattle.ut_batches.specs.Inputs.{Cells}
 
 -- ---- rows and moments
@@ -53,14 +60,41 @@ row_asked p number cells a = let v = verdict_on a (row_request p cells) in (row_
 abbrev pub row_loaded : Option Named → LoadPlan → AskedRow → World → List ℕ × World
 row_loaded named p r w = world_does (row_asked p r.number r.cells) (refused_line r.number InvalidSession) r.moment named w
 
--- rows in turn: their lines, and the world behind them
-unfoldable pub rows_loaded : Option Named → LoadPlan → List AskedRow → World → List ℕ × World
-rows_loaded named p [] w = ([], w)
-rows_loaded named p (r ∷ rows) w = let x = row_loaded named p r w in let y = rows_loaded named p rows x.1 in (x.0 ++ y.0, y.1)
+-- rows in turn: their lines, and what becomes of s
+unfoldable pub done_in_turn : {S : Type 0} → (AskedRow → S → List ℕ × S) → List AskedRow → S → List ℕ × S
+done_in_turn does [] s = ([], s)
+done_in_turn does (r ∷ rows) s = let x = does r s in let y = done_in_turn does rows x.1 in (x.0 ++ y.0, y.1)
+
+-- in the world
+abbrev pub rows_loaded : Option Named → LoadPlan → List AskedRow → World → List ℕ × World
+rows_loaded named p rows w = done_in_turn (row_loaded named p) rows w
 
 -- the most rows of a batch
 abbrev pub batch_rows : ℕ
 batch_rows = 100
+
+-- ---- over tables
+
+-- a row in the organisation that is named, where it is this tenant or isn't there
+abbrev pub named_row : Named → LoadPlan → AskedRow → Option Tenant → List ℕ × Option Tenant
+named_row n p r t = named_does (row_asked p r.number r.cells) (refused_line r.number InvalidSession) r.moment n t
+
+-- rows by who names these, judged over these tables, of which those came: whatever they have, no row of others changes; and where the
+-- organisation's rows stand for a tenant, or for none, it is what the rows come to there
+pub record JudgesRows (n : Named) (p : LoadPlan) (rows : List AskedRow) (before after : Tables) (result : Result (Judged (List ℕ)) StoreFail) : Type 0 where
+  pub others : IsChange result → KeepsOthers n.org before after
+  pub judged : (q : OrgPlan) (t : Option Tenant) → StandsIn n.org q before t → Judges (StandsFor n.org) (done_in_turn (named_row n p) rows) t after result
+
+-- the lines of rows of who isn't a user of an organisation
+abbrev pub refused_rows : List AskedRow → List ℕ
+refused_rows [] = []
+refused_rows (r ∷ rows) = refused_line r.number InvalidSession ++ refused_rows rows
+
+-- the same of anyone: who names none, or a number that no organisation has, is refused
+abbrev pub JudgesRowsFor : Option Named → LoadPlan → List AskedRow → (before after : Tables) → Result (Judged (List ℕ)) StoreFail → Type 0
+JudgesRowsFor None p rows before after result = RefusesUncalled (refused_rows rows) result
+JudgesRowsFor (Some n) p rows before after result =
+    (n.org < 2 ^ 32 → JudgesRows n p rows before after result) × (2 ^ 32 ≤ n.org → RefusesUncalled (refused_rows rows) result)
 
 -- ---- how much is done for a row
 

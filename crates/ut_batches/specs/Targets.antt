@@ -1,8 +1,9 @@
 -- Into which object a text is loaded: who is named is found first, and then the object.
 -- Source: this product's own.
-use Rattle.std.specs.Prelude.{◌≡◌, ◌≢◌, ℕ, List, Option, Some, None, Result, Ok, Err}
+use Rattle.std.specs.Prelude.{◌≡◌, ◌≢◌, ◌<◌, ◌≤◌, ◌^◌, ℕ, List, Option, Some, None, Result, Ok, Err}
 use Rattle.std.specs.Str.{chars}
 use Rattle.ut_bulk.specs.Headings.{AreLayouts}
+use Rattle.ut_keeper.specs.Tables.{Tables}
 use Rattle.ut_keys.specs.declared.fail.StoreFail.{StoreFail}
 use Rattle.ut_keys.specs.declared.fail.StoreFail.TheVariants.{Damaged}
 use Rattle.ut_model.specs.declared.caller.Caller.{Caller}
@@ -14,6 +15,7 @@ use Rattle.ut_model.specs.Objects.{Numbered, object_named}
 use Rattle.ut_model.specs.Tenant.{Tenant}
 use Rattle.ut_model.specs.World.{World, tenant_at}
 use Rattle.ut_stands.specs.Layouts.{layout_of}
+use Rattle.ut_stands.specs.Local.{StandsIn}
 use Rattle.ut_stands.specs.Plan.{OrgPlan}
 use Rattle.ut_batches.specs.declared.target.Target.{Target}
 
@@ -51,7 +53,15 @@ IsTargetFound (Err r) (Err s) = s ≡ r
 IsTargetFound (Ok x) (Err s) = ⊥
 IsTargetFound (Err r) (Ok found) = ⊥
 
--- what is searched for, where tables stand for a world
+-- what is searched for, where this is to be found
 abbrev pub FindsTarget : Result LoadObject Refusal → Result (Result Target Refusal) StoreFail → Type 0
 FindsTarget expected (Ok found) = IsTargetFound expected found
 FindsTarget expected (Err e) = e ≢ Damaged
+
+-- what is searched for by who is named: of who names none, or a number that no organisation has, nothing; and where the organisation's
+-- rows stand for a tenant, or for none, what is found there, whatever the rows of others are
+abbrev pub FindsTargetFor : Option Named → (object : List ℕ) → Tables → Result (Result Target Refusal) StoreFail → Type 0
+FindsTargetFor None object m result = FindsTarget (Err InvalidSession) result
+FindsTargetFor (Some n) object m result =
+    (n.org < 2 ^ 32 → (q : OrgPlan) (t : Option Tenant) → StandsIn n.org q m t → FindsTarget (organisation_object n object t) result)
+    × (2 ^ 32 ≤ n.org → FindsTarget (Err InvalidSession) result)

@@ -1,7 +1,8 @@
 //! Rows, done over one draft.
 
 ghost use Rattle.std.specs.Prelude.{◌≡◌, ◌*◌, ◌++◌, ◌||◌, IfOk, OnOk, length, map};
-ghost use Rattle.ut_batches.specs.Batches.{changes_of_row, row_asked, row_loaded, rows_loaded, shown_of_row};
+ghost use Rattle.ut_asking.specs.Judging.{JudgesFor};
+ghost use Rattle.ut_batches.specs.Batches.{JudgesRowsFor, changes_of_row, row_asked, shown_of_row};
 ghost use Rattle.ut_batches.specs.inner.Joining.{is_changed, judged_so, line_in};
 ghost use Rattle.ut_bulk.specs.Rows.{refused_line};
 ghost use Rattle.ut_keeper.specs.Draft.{DraftTells, removals_of, tables_of};
@@ -9,9 +10,7 @@ ghost use Rattle.ut_keeper.specs.State.{data_table};
 ghost use Rattle.ut_loads.specs.Loads.{load_shown, row_changes};
 ghost use Rattle.ut_model.specs.Callers.{named_by};
 ghost use Rattle.ut_model.specs.declared.refusal.Refusal.TheVariants.{InvalidSession};
-ghost use Rattle.ut_model.specs.World.{World};
-ghost use Rattle.ut_stands.specs.Operations.{Drafts, Judges};
-ghost use Rattle.ut_stands.specs.Stands.{Stands};
+ghost use Rattle.ut_stands.specs.Operations.{Drafts};
 
 use crate::cells::cells_of;
 use crate::rows::Row;
@@ -89,8 +88,9 @@ fn load_one<K: Keeper>(
     loading: &Loading<'_>,
     row: &Row,
 ) -> Result<Judged<Bytes>, StoreFail>
-    ensures what { DraftTells K.state draft.old draft.new → (w : World) → Stands (tables_of K.state draft.old) w
-        → Judges Stands (row_loaded (named_by loading.now.org.now loading.now.user.now loading.now.secret.now) loading.now.plan.now row.now) w
+    ensures what { DraftTells K.state draft.old draft.new
+        → JudgesFor (row_asked loading.now.plan.now row.now.number row.now.cells) (refused_line row.now.number InvalidSession) row.now.moment
+        (named_by loading.now.org.now loading.now.user.now loading.now.secret.now) (tables_of K.state draft.old)
         (tables_of K.state draft.new) result }
     ensures drafts { Drafts K.state changes_of_row 0 (shown_of_row (removals_of K.state data_table draft.old)) result draft.old draft.new }
 {
@@ -146,16 +146,17 @@ fn judged_so(changed: bool, lines: Bytes) -> Judged<Bytes>
 ///
 /// # Errors
 ///
-/// `Keeper` if the keeper failed, `Memory` if out of memory, `Damaged` never if the tables stand for a world.
+/// `Keeper` if the keeper failed, `Memory` if out of memory, `Damaged` never if the rows of the organisation stand for a tenant or for
+/// none.
 pub fn load_batch<K: Keeper>(
     alloc: Global,
     draft: &mut Draft<'_, K>,
     loading: &Loading<'_>,
     rows: &[Row],
 ) -> Result<Judged<Bytes>, StoreFail>
-    ensures what { DraftTells K.state draft.old draft.new → (w : World) → Stands (tables_of K.state draft.old) w
-        → Judges Stands (rows_loaded (named_by loading.now.org.now loading.now.user.now loading.now.secret.now) loading.now.plan.now rows.now) w
-        (tables_of K.state draft.new) result }
+    ensures what { DraftTells K.state draft.old draft.new
+        → JudgesRowsFor (named_by loading.now.org.now loading.now.user.now loading.now.secret.now) loading.now.plan.now rows.now
+        (tables_of K.state draft.old) (tables_of K.state draft.new) result }
     ensures drafts { Drafts K.state (length rows.now * changes_of_row) 0
         (length rows.now * shown_of_row (removals_of K.state data_table draft.old)) result draft.old draft.new }
 {

@@ -8,10 +8,12 @@
 mod batch;
 mod cells;
 mod input;
+mod laws;
 mod rows;
 mod target;
 
 pub use crate::batch::{Loading, load_batch};
 pub use crate::input::plan_input;
+pub use crate::laws::batch_laws;
 pub use crate::rows::{Row, Rows};
 pub use crate::target::{Target, find_target};

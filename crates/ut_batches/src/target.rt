@@ -6,12 +6,10 @@ ghost use Rattle.ut_keeper.specs.Draft.{DraftTells, tables_of};
 ghost use Rattle.ut_model.specs.Callers.{named_by};
 ghost use Rattle.ut_model.specs.declared.refusal.Refusal.TheVariants.{InvalidType};
 ghost use Rattle.ut_model.specs.Tenant.{Tenant};
-ghost use Rattle.ut_model.specs.World.{World};
 ghost use Rattle.ut_stands.specs.Calls.{Calls, ended};
 ghost use Rattle.ut_stands.specs.Local.{StandsIn};
 ghost use Rattle.ut_stands.specs.Plan.{OrgPlan};
-ghost use Rattle.ut_stands.specs.Stands.{Stands};
-ghost use Rattle.ut_batches.specs.Targets.{FindsTarget, named_object};
+ghost use Rattle.ut_batches.specs.Targets.{FindsTargetFor};
 ghost use Rattle.ut_batches.specs.inner.Owned.{FindsBehind, FindsOwned};
 
 use std::alloc::{AllocError, Global};
@@ -19,7 +17,7 @@ use ut_keeper::{Draft, Keeper, draft_laws};
 use ut_keys::StoreFail;
 use ut_model::{Refusal, object_laws};
 use ut_people::caller_named;
-use ut_stands::{Layout, call_laws, layout_named, layouts, local_laws};
+use ut_stands::{Layout, call_laws, layout_named, layouts};
 use ut_value::{Items, Text};
 
 /// The object into which a text is loaded.
@@ -82,7 +80,8 @@ fn target_named<K: Keeper>(
 ///
 /// # Errors
 ///
-/// `Keeper` if the keeper failed, `Memory` if out of memory, `Damaged` never if the tables stand for a world.
+/// `Keeper` if the keeper failed, `Memory` if out of memory, `Damaged` never if the rows of the organisation stand for a tenant or for
+/// none.
 pub fn find_target<K: Keeper>(
     alloc: Global,
     draft: &mut Draft<'_, K>,
@@ -91,13 +90,12 @@ pub fn find_target<K: Keeper>(
     secret: &str,
     object: &str,
 ) -> Result<Result<Target, Refusal>, StoreFail>
-    ensures finds { DraftTells K.state draft.old draft.new → (w : World) → Stands (tables_of K.state draft.old) w
-        → FindsTarget (named_object (named_by org.now user.now secret.now) object.now w) result }
+    ensures finds { DraftTells K.state draft.old draft.new
+        → FindsTargetFor (named_by org.now user.now secret.now) object.now (tables_of K.state draft.old) result }
     ensures calls { Calls K.state 0 (ended result) draft.old draft.new }
 {
     draft_laws::<K>();
     call_laws::<K>();
-    local_laws();
     match caller_named(alloc, draft, org, user, secret) {
         Ok(Some(caller)) => target_named(alloc, draft, caller.org, object),
         Ok(None) => Ok(Err(Refusal::InvalidSession)),

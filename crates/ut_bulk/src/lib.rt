@@ -1,7 +1,7 @@
 //! CSV texts that are loaded into an object.
 //!
-//! It depends on `ut_model` for the requests that rows make, on `ut_given` and `ut_ways` for the fields that cells name, and on the
-//! toolchain's `csv` for lines. Its definitions say which columns a heading has, which request each row makes, and which line tells
+//! It depends on `ut_model` for the requests that rows make, on `ut_given` and `ut_ways` for the fields that cells name, and on
+//! `ut_table` for lines. Its definitions say which columns a heading has, which request each row makes, and which line tells
 //! what became of it. Its contract: what it returns is what they say, for the object that the layout spells.
 #![tactic(auto)]
 

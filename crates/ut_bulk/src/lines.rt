@@ -3,23 +3,17 @@
 ghost use Rattle.std.specs.Prelude.{◌≡◌, IfOk, map};
 ghost use Rattle.ut_bulk.specs.Rows.{done_line, heading_line, line, refused_line, truth};
 
-use csv::WriterBuilder;
 use std::alloc::{AllocError, Global};
 use ut_model::Refusal;
+use ut_table::record_text;
 use ut_value::{Bytes, Id};
 
 // The line of these cells.
 fn line_of(alloc: Global, cells: &[&[u8]]) -> Result<Bytes, AllocError>
     ensures { IfOk result (λ text. text ≡ line (map (λ c. c.now) cells.now)) }
 {
-    let mut writer = WriterBuilder::new().from_writer(Vec::new(alloc));
-    if writer.write_fields(cells).is_err() {
-        return Err(AllocError);
-    }
-    match writer.into_inner() {
-        Ok(text) => Ok(Bytes::from_vec(text)),
-        Err(_) => Err(AllocError),
-    }
+    let text = record_text(alloc, cells)?;
+    Ok(Bytes::from_vec(text))
 }
 
 // A truth in words.

@@ -1,7 +1,8 @@
 -- A demo: an organisation of its own, with an object and so many records, and what its administrator sees while the type of a field
 -- changes. Each request comes by its verdict, one after the other, and the first that is refused ends it.
 -- Source: this product's own; the verdicts and the step are the model's.
-use Rattle.std.specs.Prelude.{ℕ, zero, suc, ◌+◌, ◌*◌, ◌%◌, Bool, true, false, ◌==◌, if◌then◌else◌, List, [], ◌∷◌, codes, drop, filter, length, Option, Some, None, Result, Ok, Err, ℤ}
+use Rattle.std.specs.Prelude.{ℕ, zero, suc, ◌+◌, ◌*◌, ◌%◌, ◌==◌, ℤ, Bool, true, false, if◌then◌else◌}
+use Rattle.std.specs.Prelude.{List, [], ◌∷◌, codes, drop, filter, length, Option, Some, None, Result, Ok, Err}
 use Rattle.std.specs.Fmt.{decimal}
 use Rattle.std.specs.Str.{chars}
 use Rattle.ut_json.specs.declared.tree.Json.TheVariants as json
@@ -55,7 +56,15 @@ new_item = record { members = only_name; name = item_object; access = access.Pri
 -- a text of at most 20 characters
 abbrev pub new_amount : NewField
 new_amount =
-    record { members = only_name; object = item_object; name = amount_field; kind = Plain (type.Text 20); required = false; unique = false; indexed = false }
+    record {
+      members = only_name;
+      object = item_object;
+      name = amount_field;
+      kind = Plain (type.Text 20);
+      required = false;
+      unique = false;
+      indexed = false;
+    }
 
 -- the amount of the record with this number
 abbrev pub item_amount : (number : ℕ) → ℕ
@@ -152,12 +161,20 @@ switched_by None number t = if has_switched t then Some number else None
 abbrev pub next_repeat : Asked → Repeats → Result (Asked × Repeats) Refusal
 next_repeat a x =
     and_then (answer_to_text first_query (stepped a)) (λ lines.
-    Ok (stepped a, record { count = suc x.count; switched = switched_by x.switched (suc x.count) (stepped a).tenant; least = amount_line lines }))
+    Ok (
+      stepped a,
+      record {
+        count = suc x.count;
+        switched = switched_by x.switched (suc x.count) (stepped a).tenant;
+        least = amount_line lines;
+      },
+    ))
 
--- repeats_from until no change is under way, but at most so often
+-- repeated until no change is under way, but at most so often
 unfoldable pub repeats_from : (most : ℕ) → Asked → Result (Asked × Repeats) Refusal
 repeats_from zero a = Ok (a, no_repeats)
-repeats_from (suc most) a = and_then (repeats_from most a) (λ x. if is_settled x.0.tenant then Ok x else next_repeat x.0 x.1)
+repeats_from (suc most) a =
+    and_then (repeats_from most a) (λ x. if is_settled x.0.tenant then Ok x else next_repeat x.0 x.1)
 
 -- a change of as many records as an organisation has at most is done long before
 abbrev pub most_repeats : ℕ
@@ -167,7 +184,9 @@ most_repeats = 1000
 
 -- what is seen from the beginning of the change on, with the number of amounts above 500 at the end
 abbrev pub watched : Asked → Result (Repeats × ℕ) Refusal
-watched a = and_then (repeats_from most_repeats a) (λ x. and_then (answer_to_text above_query (stepped x.0)) (λ lines. Ok (x.1, rows_in lines)))
+watched a =
+    and_then (repeats_from most_repeats a) (λ x. and_then (answer_to_text above_query (stepped x.0)) (λ lines.
+    Ok (x.1, rows_in lines)))
 
 -- a demo of so many records, at this moment
 abbrev pub demo_outcome : (count : ℕ) → (now : ℤ) → Result Demo Refusal

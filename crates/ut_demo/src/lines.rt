@@ -1,6 +1,6 @@
 //! What is read off the lines of a query.
 
-ghost use Rattle.std.specs.Prelude.{◌≡◌, ◌≤◌, IfOk, length};
+ghost use Rattle.std.specs.Prelude.{◌≡◌, IfOk};
 ghost use Rattle.ut_demo.specs.Demos.{amount_line, behind_names, rows_in};
 
 use std::alloc::{AllocError, Global};

@@ -52,7 +52,8 @@ pub fn open_file<S: Start>(rt: HostRuntime, path: &str, start: S) -> Result<File
 {
     let made = make_private(&rt, path);
     let log = missing_log(&rt, path);
-    match Connection::open_from(&rt, path, false, start) {
+    // The pages of a file that is made have checksums, those of SQLite's cksumvfs.
+    match Connection::open_from(&rt, path, true, start) {
         Ok(conn) => Ok(SqlKeeper::adopt_saying(rt, own(&rt, conn, &log)?)),
         Err((error, left)) => {
             if let Some(left) = left {

@@ -4,8 +4,8 @@ ghost use Rattle.std.specs.Prelude.{◌≡◌, IfOk, map};
 ghost use Rattle.std.specs.Str.{encode_utf8_all};
 ghost use Rattle.ut_lines.specs.Lines.{line};
 
-use csv::WriterBuilder;
 use std::alloc::{AllocError, Global};
+use ut_table::record_text;
 use ut_value::Text;
 
 // The cells in UTF-8.
@@ -28,12 +28,5 @@ pub fn line_of(alloc: Global, cells: &[Text]) -> Result<Vec<u8>, AllocError>
     ensures { IfOk result (λ text. text.items ≡ line cells.now) }
 {
     let fields = cells_of(alloc, cells)?;
-    let mut writer = WriterBuilder::new().from_writer(Vec::new(alloc));
-    if writer.write_fields(fields.as_slice()).is_err() {
-        return Err(AllocError);
-    }
-    match writer.into_inner() {
-        Ok(text) => Ok(text),
-        Err(_) => Err(AllocError),
-    }
+    record_text(alloc, fields.as_slice())
 }

@@ -2,7 +2,7 @@
 //!
 //! It depends on the toolchain's `csv` alone. Its contract: a table is read exactly where no record of the source is
 //! refused, and then with exactly its records; else the first refused record is told, with its number and where it stands.
-//! `Records` gives the same records one at a time.
+//! `Records` gives the same records one at a time. `record_text` gives the text of a record.
 //!
 //! # Example
 //!
@@ -15,8 +15,10 @@ mod laws;
 mod place;
 mod read;
 mod records;
+mod text;
 
 pub use crate::fail::TableFail;
 pub use crate::laws::table_rows;
 pub use crate::read::read_table;
 pub use crate::records::Records;
+pub use crate::text::record_text;

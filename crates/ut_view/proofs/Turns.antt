@@ -1,6 +1,7 @@
 -- Parts in turn, and slots one after the other.
 use Rattle.std.proofs.Common.{◌≡◌, ℕ, suc, ◌==◌, Bool, true, false, cond, List, [], ◌∷◌, length, Option, Some, None, refl, sym, ◌∙◌, ap, arith, true≢false}
 use Rattle.std.proofs.lemmas.Bool.{eqb-true}
+use Rattle.std.specs.Option.{option_map}
 use Rattle.std.specs.Prelude.{is_some}
 use Rattle.ut_parts.specs.Composed.{in_turn_at}
 use Rattle.ut_parts.specs.Plain.{◌>>=◌, optional_at, text_at, whole}
@@ -15,6 +16,24 @@ module _ {A : Type 0} (f : List ℕ → Option (A × List ℕ)) where
 
 abbrev Slot : Type 0
 Slot = Option (List ℕ)
+
+abbrev behind : Option (Slot × List ℕ) → Option (List ℕ)
+behind o = option_map (λ x. x.1) o
+
+-- what is at the front, where something is behind it, and that nothing is, where nothing is
+pub front_of : (bytes rest : List ℕ) → behind (optional_at text_at bytes) ≡ Some rest → (t : Slot) × (optional_at text_at bytes ≡ Some (t, rest))
+front_of bytes rest e = by (optional_at text_at bytes) refl e
+  where
+    by : (o : Option (Slot × List ℕ)) → optional_at text_at bytes ≡ o → behind o ≡ Some rest → (t : Slot) × (optional_at text_at bytes ≡ Some (t, rest))
+    by None is e = absurd cc
+    by (Some (t, r)) is e = let same : r ≡ rest = cc in (t, is ∙ ap (λ (r : List ℕ). Some (t, r)) same)
+
+pub no_front : (bytes : List ℕ) → behind (optional_at text_at bytes) ≡ None → optional_at text_at bytes ≡ None
+no_front bytes e = by (optional_at text_at bytes) refl e
+  where
+    by : (o : Option (Slot × List ℕ)) → optional_at text_at bytes ≡ o → behind o ≡ None → optional_at text_at bytes ≡ None
+    by None is e = is
+    by (Some x) is e = absurd cc
 
 abbrev pub are : ℕ → List ℕ → Bool
 are n bytes = is_some (whole (in_turn_at (optional_at text_at) n) bytes)

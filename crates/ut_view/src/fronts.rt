@@ -132,3 +132,18 @@ pub fn optional_text_front(bytes: &[u8]) -> Option<(Option<&str>, &[u8])>
         _ => None,
     }
 }
+
+/// What is behind the text or nothing at the front.
+#[tactic(auto, unfolding(ut_parts::specs::Plain::optional_at))]
+pub fn behind_optional_text(bytes: &[u8]) -> Option<&[u8]>
+    ensures { option_map (λ r. r.now) result ≡ option_map (λ x. x.1) (optional_at text_at bytes.now) }
+{
+    match bytes {
+        [0, rest @ ..] => Some(rest),
+        [1, rest @ ..] => match text_front(rest) {
+            Some((_, rest)) => Some(rest),
+            None => None,
+        },
+        _ => None,
+    }
+}

@@ -6,7 +6,7 @@ ghost use Rattle.ut_parts.specs.Composed.{in_turn_at};
 ghost use Rattle.ut_parts.specs.Plain.{optional_at, text_at, whole};
 ghost use Rattle.ut_view.specs.Slots.{slot_in};
 
-use crate::fronts::{number_front, optional_text_front};
+use crate::fronts::{behind_optional_text, number_front, optional_text_front};
 
 /// Whether the bytes are those of so many slots and no more.
 pub fn are_slots(bytes: &[u8], count: u8) -> bool
@@ -15,8 +15,8 @@ pub fn are_slots(bytes: &[u8], count: u8) -> bool
     if count == 0 {
         return bytes.is_empty();
     }
-    match optional_text_front(bytes) {
-        Some((_, rest)) => are_slots(rest, count - 1),
+    match behind_optional_text(bytes) {
+        Some(rest) => are_slots(rest, count - 1),
         None => false,
     }
 }

@@ -1,4 +1,4 @@
-use Rattle.std.proofs.Common.{◌∙◌, Ok, Err, ap, subst}
+use Rattle.std.proofs.Common.{◌∙◌, Ok, ap, subst}
 use Rattle.ut_keeper.specs.Draft.{removals_of, tables_of}
 use Rattle.ut_keeper.specs.State.{data_table}
 use Rattle.ut_keeper.specs.Tables.{Tables}
@@ -6,11 +6,11 @@ use Rattle.ut_model.specs.Callers.{named_by}
 use Rattle.ut_people.specs.People.{FindsCaller}
 use Rattle.ut_stands.specs.Calls.{ended}
 use Rattle.ut_asking.specs.Judging.{JudgesCalled, changes_behind, shown_behind}
-use Rattle.ut_asking.proofs.Calling.{WorldLaws, called_world, failed_world, uncalled_world}
+use Rattle.ut_asking.proofs.Calling.{judged_called, judged_failed, judged_uncalled}
 use Rattle.ut_asking.proofs.asking.answer_asked.Goals as goal
 
 pub returns-in-Ok-Some-clause-what : goal.returns-in-Ok-Some-clause-what
-returns-in-Ok-Some-clause-what g c told w s =
+returns-in-Ok-Some-clause-what g c told =
     let state = g.K.Keeper.state in
     let asked = c.args.asked.now in
     let a = c.args.draft.now in
@@ -24,27 +24,24 @@ returns-in-Ok-Some-clause-what g c told w s =
     let later = c.call_laws.ensures.told_then 0 e a b d calls first told in
     let same = c.call_laws.ensures.tables 0 e a b calls first in
     let key = named_by c.args.org.now c.args.user.now c.args.secret.now in
-    let laws : WorldLaws = record { each = c.local_laws.ensures.each; whole = c.local_laws.ensures.whole; same = c.step_laws.ensures.same } in
-    called_world laws (g.A.Ask.does asked) (g.A.Ask.refused asked) c.args.now (tables_of state a) (tables_of state d) w s key caller c.answer_called.result
+    judged_called (g.A.Ask.does asked) (g.A.Ask.refused asked) c.args.now (tables_of state a) (tables_of state d) key caller c.answer_called.result
     (subst (FindsCaller key (tables_of state a)) (c.in-Ok-Some.is ∙ ap Ok c.in-Ok-Some.field-0-is) (c.caller_named.ensures.finds first))
     (subst (λ (t : Tables). JudgesCalled (g.A.Ask.does asked) (g.A.Ask.refused asked) caller c.args.now t (tables_of state d) c.answer_called.result) same (c.answer_called.ensures.what later))
 
 pub returns-in-Ok-None-clause-what : goal.returns-in-Ok-None-clause-what
-returns-in-Ok-None-clause-what g c told w s =
+returns-in-Ok-None-clause-what g c told =
     let state = g.K.Keeper.state in
     let asked = c.args.asked.now in
     let before = tables_of state c.args.draft.now in
     let key = named_by c.args.org.now c.args.user.now c.args.secret.now in
-    let laws : WorldLaws = record { each = c.local_laws.ensures.each; whole = c.local_laws.ensures.whole; same = c.step_laws.ensures.same } in
-    uncalled_world laws (g.A.Ask.does asked) (g.A.Ask.refused asked) c.args.now before (tables_of state c.caller_named.new.draft) w s key c.refuse.result
+    judged_uncalled (g.A.Ask.does asked) (g.A.Ask.refused asked) c.args.now before (tables_of state c.caller_named.new.draft) key c.refuse.result
     (subst (FindsCaller key before) (c.in-Ok-None.is ∙ ap Ok c.in-Ok-None.field-0-is) (c.caller_named.ensures.finds told)) c.refuse.ensures
 
 pub returns-in-Err-clause-what : goal.returns-in-Err-clause-what
-returns-in-Err-clause-what g c told w s =
+returns-in-Err-clause-what g c told =
     let state = g.K.Keeper.state in
     let asked = c.args.asked.now in
     let before = tables_of state c.args.draft.now in
     let key = named_by c.args.org.now c.args.user.now c.args.secret.now in
-    let laws : WorldLaws = record { each = c.local_laws.ensures.each; whole = c.local_laws.ensures.whole; same = c.step_laws.ensures.same } in
-    failed_world laws (g.A.Ask.does asked) (g.A.Ask.refused asked) c.args.now before (tables_of state c.caller_named.new.draft) w s key c.in-Err.fail
+    judged_failed (g.A.Ask.does asked) (g.A.Ask.refused asked) c.args.now before (tables_of state c.caller_named.new.draft) key c.in-Err.fail
     (subst (FindsCaller key before) c.in-Err.is (c.caller_named.ensures.finds told))

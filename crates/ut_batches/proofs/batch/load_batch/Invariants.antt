@@ -2,12 +2,10 @@ use Rattle.std.proofs.Common.{◌*◌, Ok, drop}
 use Rattle.ut_keeper.specs.Draft.{DraftTells, removals_of, tables_of}
 use Rattle.ut_keeper.specs.State.{data_table}
 use Rattle.ut_model.specs.Callers.{named_by}
-use Rattle.ut_model.specs.World.{World}
 use Rattle.ut_stands.specs.Operations.{Drafts}
-use Rattle.ut_stands.specs.Stands.{Stands}
 use Rattle.ut_batches.specs.Batches.{changes_of_row, shown_of_row}
 use Rattle.ut_batches.specs.inner.Joining.{judged_so}
-use Rattle.ut_batches.proofs.Joining.{Done}
+use Rattle.ut_batches.proofs.RowByRow.{LoadedBy}
 use Rattle.ut_batches.proofs.batch.load_batch.Given as goal
 
 abbrev pub invariant-loop-row : goal.invariant-loop-row
@@ -15,7 +13,7 @@ invariant-loop-row g l =
     let state = g.K.Keeper.state in
     let loading = l.loading in
     record {
-      done : DraftTells state l.fn.draft l.draft → (w : World) → Stands (tables_of state l.fn.draft) w
-          → Done (named_by loading.org.now loading.user.now loading.secret.now) loading.plan.now l.rows w (drop l.row-index l.rows) l.lines.items l.changed (tables_of state l.draft);
+      done : DraftTells state l.fn.draft l.draft
+          → LoadedBy (named_by loading.org.now loading.user.now loading.secret.now) loading.plan.now l.rows (tables_of state l.fn.draft) (drop l.row-index l.rows) l.lines.items l.changed (tables_of state l.draft);
       drafts : Drafts state (l.row-index * changes_of_row) 0 (l.row-index * shown_of_row (removals_of state data_table l.fn.draft)) (Ok (judged_so l.changed l.lines.items)) l.fn.draft l.draft;
     }

@@ -1,4 +1,8 @@
+use Rattle.std.specs.Prelude.{Err}
+use Rattle.ut_exports.specs.Exports.{exported}
 use Rattle.ut_keeper.specs.Draft.{tables_of}
+use Rattle.ut_model.specs.Callers.{named_by}
+use Rattle.ut_model.specs.declared.refusal.Refusal.TheVariants.{InvalidSession}
 use Rattle.platform.proofs.OfExport.{paged_cause, paged_change, paged_judged, paged_stays}
 use Rattle.platform.proofs.export.ExportingTableWork.judge.Goals as goal
 
@@ -6,7 +10,8 @@ pub returns-clause-judged : goal.returns-clause-judged
 returns-clause-judged g c told w s counted =
     let it = c.args.self.now in
     paged_judged it.org.now it.user.now it.secret.now it.query.now it.now w (tables_of g.K.Keeper.state c.answer_asked-judged.new.draft) c.answer_asked-judged.result c.page_judged.result c.page_judged.ensures
-    (c.answer_asked-judged.ensures.what told w s)
+    (c.asking_laws.ensures.world (exported it.query.now) (Err InvalidSession) it.now (named_by it.org.now it.user.now it.secret.now) (tables_of g.K.Keeper.state c.args.draft.now) (tables_of g.K.Keeper.state c.answer_asked-judged.new.draft) c.answer_asked-judged.result w s
+    (c.answer_asked-judged.ensures.what told))
 
 pub returns-clause-change : goal.returns-clause-change
 returns-clause-change g c change = c.answer_asked-judged.ensures.drafts.changing (paged_change c.answer_asked-judged.result c.page_judged.result c.page_judged.ensures change)

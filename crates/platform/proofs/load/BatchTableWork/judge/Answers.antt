@@ -11,9 +11,11 @@ pub returns-clause-judged : goal.returns-clause-judged
 returns-clause-judged g c told w s counted =
     let it = c.args.self.now in
     let named = named_by it.loading.now.org.now it.loading.now.user.now it.loading.now.secret.now in
+    let before = tables_of g.K.Keeper.state c.args.draft.now in
     let after = tables_of g.K.Keeper.state c.load_batch-judged.new.draft in
     subst (Judges Stands (batch_does named it.loading.now.plan.now it.rows.now) w after) (sym c.lines_judged.ensures)
-    (page_judges named it.loading.now.plan.now it.rows.now w after c.load_batch-judged.result (c.load_batch-judged.ensures.what told w s))
+    (page_judges named it.loading.now.plan.now it.rows.now w after c.load_batch-judged.result
+    (c.batch_laws.ensures.rows named it.loading.now.plan.now it.rows.now before after c.load_batch-judged.result w s (c.load_batch-judged.ensures.what told)))
 
 pub returns-clause-change : goal.returns-clause-change
 returns-clause-change g c change =

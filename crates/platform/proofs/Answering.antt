@@ -5,10 +5,11 @@ use Rattle.ut_keeper.specs.Tables.{Tables}
 use Rattle.ut_model.specs.World.{World, tenant_at}
 use Rattle.ut_keys.specs.declared.fail.StoreFail.TheVariants as store
 use Rattle.ut_stands.specs.Opening.{OpensAs}
-use Rattle.ut_stands.specs.Stands.{HasKnownVersion, HasUnknownVersion, Stands}
+use Rattle.ut_stands.specs.Stands.{HasKnownVersion, HasUnknownVersion}
 use Rattle.ut_stands.specs.declared.fail.OpenFail.{OpenFail}
 use Rattle.ut_stands.specs.declared.fail.OpenFail.TheVariants as opening
 use Rattle.ut_serving.specs.Exchanges.{Exchange, LeavesBehind}
+use Rattle.ut_serving.specs.Senses.{Sense}
 use Rattle.ut_serving.specs.Turning.{Serves}
 use Rattle.ut_serving.specs.Connections.{AreServed, Connection, exchanges_of}
 use Rattle.ut_serving.specs.Doors.{BringsTo, ManyEnds}
@@ -21,20 +22,20 @@ use Rattle.platform.specs.Serving.{IsOpening, OpensOnly, RunsAnswer, RunsServe, 
 use Rattle.platform.specs.Stops.{of_opening}
 use Rattle.platform.specs.declared.stop.Stop.{Stop}
 
-pub opened_only : (w : World) (a b : Seen) (s : Stop) → IsOpening (Err s) → LeavesBehind w [] a.keeper b.keeper → b.door ≡ a.door → b.left ≡ a.left → b.written ≡ a.written → b.coming ≡ a.coming → IsOpening (Err s) × OpensOnly w a b
-opened_only w a b s is kept door left written coming = (is, record { kept = kept; door = door; left = left; written = written; coming = coming })
+pub opened_only : (sense : Sense) (w : World) (a b : Seen) (s : Stop) → IsOpening (Err s) → LeavesBehind sense w [] a.keeper b.keeper → b.door ≡ a.door → b.left ≡ a.left → b.written ≡ a.written → b.coming ≡ a.coming → IsOpening (Err s) × OpensOnly sense w a b
+opened_only sense w a b s is kept door left written coming = (is, record { kept = kept; door = door; left = left; written = written; coming = coming })
 
 abbrev pub IsolationLaw : Type 0
-IsolationLaw = (org : ℕ) (cs : List Connection) (w v end : World) (moments later : List ℕ) → AreServed cs w moments end later → tenant_at w org ≡ tenant_at v org
+IsolationLaw = (sense : Sense) (org : ℕ) (cs : List Connection) (w v end : World) (moments later : List ℕ) → AreServed sense cs w moments end later → tenant_at w org ≡ tenant_at v org
     → replies_of org (exchanges_of cs) ≡ replies_to v (asked_of org (exchanges_of cs))
 
 -- what was left from the opening on
-abbrev FromOpen : World → Seen → Seen → KeeperState → Type 0
-FromOpen w a b mid = (end : World) (xs : List Exchange) → LeavesBehind end xs mid b.keeper → LeavesBehind end xs a.keeper b.keeper
+abbrev FromOpen : Sense → World → Seen → Seen → KeeperState → Type 0
+FromOpen sense w a b mid = (end : World) (xs : List Exchange) → LeavesBehind sense end xs mid b.keeper → LeavesBehind sense end xs a.keeper b.keeper
 
-pub answered : (w : World) (a b : Seen) (mid : KeeperState) (s : Result (Unit {0}) LineFail) (r : Result ℕ Stop) → r ≡ answer_end s → FromOpen w a b mid → IsolationLaw
-    → ((moments input : List ℕ) → a.coming ≡ Some moments → a.left ≡ Some input → Serves w moments input mid b.keeper b.coming a.written b.written s) → RunsAnswer w a b r
-answered w a b mid s r is opened law was_served input moments left coming =
+pub answered : (sense : Sense) (w : World) (a b : Seen) (mid : KeeperState) (s : Result (Unit {0}) LineFail) (r : Result ℕ Stop) → r ≡ answer_end s → FromOpen sense w a b mid → IsolationLaw
+    → ((moments input : List ℕ) → a.coming ≡ Some moments → a.left ≡ Some input → Serves sense w moments input mid b.keeper b.coming a.written b.written s) → RunsAnswer sense w a b r
+answered sense w a b mid s r is opened law was_served input moments left coming =
     let h = was_served moments input coming left in
     let c = h.0 in
     inr (
@@ -44,9 +45,9 @@ answered w a b mid s r is opened law was_served input moments left coming =
         end = h.1;
         later = h.2;
         served = (h.1, h.2, h.4, (refl, refl));
-        isolated = λ org v same. law org (c ∷ []) w v h.1 moments h.2 (h.1, h.2, h.4, (refl, refl)) same;
+        isolated = λ org v same. law sense org (c ∷ []) w v h.1 moments h.2 (h.1, h.2, h.4, (refl, refl)) same;
         asked = h.6;
-        kept = subst (λ (xs : List Exchange). LeavesBehind h.1 xs a.keeper b.keeper) (sym (append-nil c.exchanges)) (opened h.1 c.exchanges h.5);
+        kept = subst (λ (xs : List Exchange). LeavesBehind sense h.1 xs a.keeper b.keeper) (sym (append-nil c.exchanges)) (opened h.1 c.exchanges h.5);
       },
       h.7,
       is ∙ ap answer_end h.8,
@@ -58,9 +59,9 @@ serve_ends : (count : ℕ) (cs : List Connection) (e : DoorState) (s : Result (U
 serve_ends count cs e (Ok done) h = (h.0, (refl, h.1))
 serve_ends count cs e (Err f) h = (omega (arith, h), h)
 
-pub served : (w : World) (a b : Seen) (mid : KeeperState) (count : ℕ) (s : Result (Unit {0}) IoFail) (r : Result ℕ Stop) → r ≡ serve_end s → FromOpen w a b mid → IsolationLaw
-    → ((d : DoorState) (moments : List ℕ) → a.door ≡ Some d → a.coming ≡ Some moments → BringsTo w moments d (ManyEnds count s) b.coming b.door a.line_faults b.line_faults mid b.keeper) → RunsServe count w a b r
-served w a b mid count s r is opened law brings d moments door coming =
+pub served : (sense : Sense) (w : World) (a b : Seen) (mid : KeeperState) (count : ℕ) (s : Result (Unit {0}) IoFail) (r : Result ℕ Stop) → r ≡ serve_end s → FromOpen sense w a b mid → IsolationLaw
+    → ((d : DoorState) (moments : List ℕ) → a.door ≡ Some d → a.coming ≡ Some moments → BringsTo sense w moments d (ManyEnds count s) b.coming b.door a.line_faults b.line_faults mid b.keeper) → RunsServe sense count w a b r
+served sense w a b mid count s r is opened law brings d moments door coming =
     let h = brings d moments door coming in
     let cs = h.0 in
     let e = h.1 in
@@ -76,7 +77,7 @@ served w a b mid count s r is opened law brings d moments door coming =
         end = it.end;
         later = h.2;
         served = it.served;
-        isolated = λ org v same. law org cs w v it.end moments h.2 it.served same;
+        isolated = λ org v same. law sense org cs w v it.end moments h.2 it.served same;
         asked = h.4;
         kept = opened it.end (exchanges_of cs) it.kept;
       },
@@ -90,11 +91,8 @@ served w a b mid count s r is opened law brings d moments door coming =
 abbrev OneVersion : Type 0
 OneVersion = (m : Tables) → HasKnownVersion m → HasUnknownVersion m → ⊥
 
-abbrev KnownVersion : Type 0
-KnownVersion = (m : Tables) (w : World) → Stands m w → HasKnownVersion m
-
-pub failed_opening : OneVersion → KnownVersion → (m : Tables) (w : World) (f : OpenFail) → OpensAs m (Err f) → Stands m w → IsOpening (Err (of_opening f))
-failed_opening one known m w opening.UnknownVersion opens s = one m (known m w s) opens
-failed_opening one known m w (opening.Store store.Damaged) opens s = opens.no_world w s
-failed_opening one known m w (opening.Store store.Keeper) opens s = tt
-failed_opening one known m w (opening.Store store.Memory) opens s = tt
+pub failed_opening : OneVersion → (m : Tables) (f : OpenFail) → OpensAs m (Err f) → HasKnownVersion m → IsOpening (Err (of_opening f))
+failed_opening one m opening.UnknownVersion opens known = one m known opens
+failed_opening one m (opening.Store store.Damaged) opens known = opens.no_known known
+failed_opening one m (opening.Store store.Keeper) opens known = tt
+failed_opening one m (opening.Store store.Memory) opens known = tt

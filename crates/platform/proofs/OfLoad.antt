@@ -115,6 +115,7 @@ module _ (org user secret object : List ℕ) (a b : Seen) (r : Result ℕ Stop) 
       → (Tells a.keeper b.keeper → VersionStops a.keeper.tables r) → (Tells a.keeper b.keeper → may_change This (status_in r) ≡ false → Shows b.keeper a.keeper.tables) → (status_in r ≡ 0 → IsAtEnd b.left) → Promise This a b status
   load_promise one causes printing falling version kept whole = record {
     does = λ w world. (r, same, by w world);
+    isolated = λ serving. absurd (true_isnt_false (sym serving));
     leads = λ serving. absurd (true_isnt_false (sym serving));
     fell = λ fell w s.
         let h = falling fell w s in

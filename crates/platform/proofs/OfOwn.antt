@@ -61,6 +61,7 @@ module _ (p : Printing) (a b : Seen) (r : Result ℕ Stop) (status : ℕ) (same 
       → Cause a.read_faults b.read_faults (status ≡ 74) → Cause a.write_faults b.write_faults (status ≡ 73) → Promise (prints p) a b status
   own_promise does whole asked source sink = record {
     does = λ w world. (r, same, let h = does w in (h.0, h.1, h.2, h.3, w, h.4, subst (λ (u : Bool). KeepsIf u w b.keeper) (sym no_keeper) tt));
+    isolated = λ serving. absurd (true_isnt_false (sym serving));
     leads = λ serving. absurd (true_isnt_false (sym serving));
     fell = λ fell w s. absurd (stood fell);
     kept = λ told none. subst (λ (k : KeeperState). Shows k a.keeper.tables) (sym keeper) (told.0, refl);

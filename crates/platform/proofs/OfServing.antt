@@ -6,11 +6,12 @@ use Rattle.ut_keeper.specs.Tables.{Tables}
 use Rattle.ut_model.specs.World.{World}
 use Rattle.ut_serving.specs.Falls.{Fell}
 use Rattle.ut_serving.specs.Leads.{LeadsFrom, StandsReached}
+use Rattle.ut_serving.specs.Senses.{Sense, StandsAs, all_but, of_all}
 use Rattle.ut_stands.specs.Stands.{HasKnownVersion, HasUnknownVersion, Stands}
 use Rattle.platform.specs.Commands.{Command, answers, has_status, is_opening, is_serving, may_change, may_write, prints, serves}
 use Rattle.platform.specs.Falling.{CrashLeaves, FallsTold}
 use Rattle.platform.specs.Promise.{Causes, Promise}
-use Rattle.platform.specs.Run.{IsWorldOf, Runs, status_in}
+use Rattle.platform.specs.Run.{IsWorldOf, Runs, ServesAs, status_in}
 use Rattle.platform.specs.Seen.{Seen}
 use Rattle.platform.specs.Stops.{VersionStops}
 use Rattle.platform.specs.declared.stop.Stop.{Stop}
@@ -42,15 +43,16 @@ unwritten (Err Damaged) zero own none = refl
 unwritten (Err UnknownVersion) zero own none = refl
 
 module _ (c : Command) (serving : is_serving c ≡ true) (a b : Seen) (r : Result ℕ Stop) (status : ℕ) (same : status ≡ status_in r) (zero : IfOk r (λ s. s ≡ 0)) where
-  pub serving_promise : (a.keeper.tells → IsTrue a.keeper.trusted → IsSettled a.keeper) → ((m : Tables) → HasKnownVersion m → HasUnknownVersion m → ⊥) → Causes c a b status
-      → (Tells a.keeper b.keeper → (w : World) → Stands a.keeper.tables w → Runs c w a b r)
+  pub serving_promise : (a.keeper.tells → IsTrue a.keeper.trusted → IsSettled a.keeper) → ((m : Tables) → HasKnownVersion m → HasUnknownVersion m → ⊥) → ((m : Tables) (w : World) → Stands m w → HasKnownVersion m) → Causes c a b status
+      → (Tells a.keeper b.keeper → HasKnownVersion a.keeper.tables → (sense : Sense) (w : World) → StandsAs sense a.keeper.tables w → ServesAs sense c w a b r)
       → LeadsFrom a.keeper b.keeper
       → (Fell a.keeper b.keeper → (w : World) → Stands a.keeper.tables w → FallsTold c w a b (status_in r))
       → (Tells a.keeper b.keeper → may_change c (status_in r) ≡ false → Shows b.keeper a.keeper.tables)
       → (Tells a.keeper b.keeper → VersionStops a.keeper.tables r)
       → Promise c a b status
-  serving_promise settled one causes runs leads falls kept version = record {
-    does = λ w world. let told = told_world c a.keeper b.keeper w serving world in (r, same, runs told.0 w told.1);
+  serving_promise settled one known causes runs leads falls kept version = record {
+    does = λ w world. let told = told_world c a.keeper b.keeper w serving world in (r, same, whole c w serving (runs told.0 (known a.keeper.tables w told.1) of_all w told.1));
+    isolated = λ _ told is apart w s. (r, same, runs told is (all_but apart) w s);
     leads = λ _ told w s. (leads told.0 (causes.steps.stood told.1) w s).tables told.1;
     fell = λ fell w s. record {
       crash = reached c w a b serving (λ m left. led fell w s m ((leads fell.0 fell.1 w s).crash fell.3 m left));
@@ -62,6 +64,11 @@ module _ (c : Command) (serving : is_serving c ≡ true) (a b : Seen) (r : Resul
     reads = λ printing. absurd (true_isnt_false (sym serving ∙ printing));
   }
     where
+      whole : (d : Command) (w : World) → is_serving d ≡ true → ServesAs of_all d w a b r → Runs d w a b r
+      whole (prints p) w serving h = absurd (true_isnt_false (sym serving))
+      whole answers w serving h = h
+      whole (serves count) w serving h = h
+
       led : Fell a.keeper b.keeper → (w : World) → Stands a.keeper.tables w → (m : Tables) → a.keeper.may_leave m ⊎ StandsReached w m → StandsReached w m
       led fell w s m (inl old) = (w, ([], refl), subst (λ (t : Tables). Stands t w) (sym ((settled fell.0 fell.1).only m old)) s)
       led fell w s m (inr h) = h

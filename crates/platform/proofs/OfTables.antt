@@ -168,6 +168,7 @@ module _ (p : Printing) (keeps : Bool) (clock : Asks) (dated : Bool) (is : uses 
           → Promise This a b status
       table_promise settled one causes moments are said trusted unwritten asked printing keeping version kept refused crash = record {
         does = λ w world. (store_end r, same, by w world);
+        isolated = λ serving. absurd (true_isnt_false (sym serving));
         leads = λ serving. absurd (true_isnt_false (sym serving));
         fell = λ fell w s. record {
           crash = ([], moments, inl no_source, is_moments, λ m left. doubted fell w s m (crash fell.0 fell.1 fell.3 w s m left));

@@ -1,14 +1,15 @@
 -- What `run` promises.
-use Rattle.std.specs.Prelude.{◌≡◌, ◌⊎◌, ℕ, ◌≤◌, true, false, IsTrue, Option, Some, None, Result}
+use Rattle.std.specs.Prelude.{◌≡◌, ◌⊎◌, ℕ, ◌≤◌, Bool, true, false, IsTrue, Option, Some, None, Result}
 use Rattle.ut_value.specs.Causes.{Cause}
 use Rattle.ut_keeper.specs.State.{KeeperCause, Shows, Steps, Tells}
 use Rattle.ut_model.specs.World.{World}
 use Rattle.ut_serving.specs.Falls.{Fell}
 use Rattle.ut_serving.specs.Leads.{StandsReached}
-use Rattle.ut_stands.specs.Stands.{Stands}
+use Rattle.ut_serving.specs.Senses.{StandsBut, all_but}
+use Rattle.ut_stands.specs.Stands.{HasKnownVersion, Stands}
 use Rattle.platform.specs.Commands.{Command, Used, has_status, is_serving, may_change, uses_of}
 use Rattle.platform.specs.Falling.{Doubts}
-use Rattle.platform.specs.Run.{HasRead, IsWorldOf, Runs, VersionEnds, status_in}
+use Rattle.platform.specs.Run.{HasRead, IsWorldOf, Runs, ServesAs, VersionEnds, status_in}
 use Rattle.platform.specs.Seen.{Seen}
 use Rattle.platform.specs.declared.stop.Stop.{Stop}
 
@@ -43,6 +44,9 @@ pub record Causes (c : Command) (a b : Seen) (status : ℕ) : Type 0 where
 pub record Promise (c : Command) (a b : Seen) (status : ℕ) : Type 0 where
   -- what is printed, served and kept: over a keeper that tells, is trusted to the end, and whose tables stand for w
   pub does : (w : World) → IsWorldOf c a.keeper b.keeper w → (r : Result ℕ Stop) × (status ≡ status_in r) × Runs c w a b r
+  -- isolation: where the rows of some organisations may be anything, all others are served as by definition all the same
+  pub isolated : is_serving c ≡ true → Tells a.keeper b.keeper → HasKnownVersion a.keeper.tables → (apart : ℕ → Bool) (w : World)
+      → StandsBut apart a.keeper.tables w → (r : Result ℕ Stop) × (status ≡ status_in r) × ServesAs (all_but apart) c w a b r
   -- if input, door or clock aren't told: the world that is left is one to which messages lead
   pub leads : is_serving c ≡ true → Tells a.keeper b.keeper → (w : World) → Stands a.keeper.tables w
       → b.keeper.tells × StandsReached w b.keeper.tables

@@ -6,6 +6,7 @@ use Rattle.ut_io.specs.Moments.{AskedOnce}
 use Rattle.ut_keeper.specs.State.{KeeperState, Tells}
 use Rattle.ut_keeper.specs.Tables.{Tables}
 use Rattle.ut_model.specs.World.{World}
+use Rattle.ut_serving.specs.Senses.{Sense, of_all}
 use Rattle.ut_stands.specs.Stands.{HasKnownVersion, HasUnknownVersion, Stands}
 use Rattle.platform.specs.Commands.{Asks, Command, answers, each, never, once, prints, printed, serves, uses, uses_of}
 use Rattle.platform.specs.Deeds.{Prints}
@@ -55,8 +56,14 @@ abbrev pub Runs : Command → World → Seen → Seen → Result ℕ Stop → Ty
 Runs (prints p) w a b r =
     (bytes moments : List ℕ) × MayBe (uses p).source a.left bytes × MayBe (uses p).dated a.coming moments
     × (end : World) × Prints w (printed p w bytes moments) a.written b.written r end × KeepsIf (uses p).keeper end b.keeper
-Runs answers w a b r = RunsAnswer w a b r
-Runs (serves count) w a b r = RunsServe count w a b r
+Runs answers w a b r = RunsAnswer of_all w a b r
+Runs (serves count) w a b r = RunsServe of_all count w a b r
+
+-- the same of a command that serves, over tables that stand for this world in this sense
+abbrev pub ServesAs : Sense → Command → World → Seen → Seen → Result ℕ Stop → Type 0
+ServesAs sense (prints p) w a b r = Unit {0}
+ServesAs sense answers w a b r = RunsAnswer sense w a b r
+ServesAs sense (serves count) w a b r = RunsServe sense count w a b r
 
 -- ---- the version, by the status
 

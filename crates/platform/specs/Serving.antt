@@ -8,6 +8,7 @@ use Rattle.ut_model.specs.World.{World, tenant_at}
 use Rattle.ut_serving.specs.Connections.{Connection, AreServed, end_of, exchanges_of, faulted, inputs_of, outputs_of}
 use Rattle.ut_serving.specs.Exchanges.{Exchange, LeavesBehind}
 use Rattle.ut_serving.specs.Isolation.{asked_of, replies_of, replies_to}
+use Rattle.ut_serving.specs.Senses.{Sense}
 use Rattle.ut_serving.specs.declared.wire.LineFail.{LineFail}
 use Rattle.ut_serving.specs.declared.wire.LineFail.TheVariants.{Read, Write}
 use Rattle.platform.specs.Seen.{Seen}
@@ -19,17 +20,17 @@ abbrev pub IsIsolated : World → List Exchange → Type 0
 IsIsolated w xs = (org : ℕ) (v : World) → tenant_at w org ≡ tenant_at v org → replies_of org xs ≡ replies_to v (asked_of org xs)
 
 -- these connections were served, from the world w and these moments
-pub record Served (w : World) (moments : List ℕ) (cs : List Connection) (a b : Seen) : Type 0 where
+pub record Served (sense : Sense) (w : World) (moments : List ℕ) (cs : List Connection) (a b : Seen) : Type 0 where
   pub end : World
   pub later : List ℕ
-  pub served : AreServed cs w moments end later
+  pub served : AreServed sense cs w moments end later
   pub isolated : IsIsolated w (exchanges_of cs)
   pub asked : b.coming ≡ Some later
-  pub kept : LeavesBehind end (exchanges_of cs) a.keeper b.keeper
+  pub kept : LeavesBehind sense end (exchanges_of cs) a.keeper b.keeper
 
 -- nothing but the opening was tried
-pub record OpensOnly (w : World) (a b : Seen) : Type 0 where
-  pub kept : LeavesBehind w [] a.keeper b.keeper
+pub record OpensOnly (sense : Sense) (w : World) (a b : Seen) : Type 0 where
+  pub kept : LeavesBehind sense w [] a.keeper b.keeper
   pub door : b.door ≡ a.door
   pub left : b.left ≡ a.left
   pub written : b.written ≡ a.written
@@ -53,11 +54,11 @@ serve_end (Ok done) = Ok 0
 serve_end (Err fail) = Err stop.DoorFailed
 
 -- one connection, from source to sink
-abbrev pub RunsAnswer : World → Seen → Seen → Result ℕ Stop → Type 0
-RunsAnswer w a b r =
+abbrev pub RunsAnswer : Sense → World → Seen → Seen → Result ℕ Stop → Type 0
+RunsAnswer sense w a b r =
     (input moments : List ℕ) → a.left ≡ Some input → a.coming ≡ Some moments
-    → (IsOpening r × OpensOnly w a b)
-    ⊎ ((c : Connection) × (c.input ≡ input) × Served w moments (c ∷ []) a b × Appends a.written b.written c.output × (r ≡ answer_end (end_of c)))
+    → (IsOpening r × OpensOnly sense w a b)
+    ⊎ ((c : Connection) × (c.input ≡ input) × Served sense w moments (c ∷ []) a b × Appends a.written b.written c.output × (r ≡ answer_end (end_of c)))
 
 -- how many connections were served, if `count` were to be and these are still to come: fewer if the door failed
 abbrev pub ServeEnds : (count served : ℕ) → List (List ℕ) → Result ℕ Stop → Type 0
@@ -66,9 +67,9 @@ ServeEnds count served coming (Err stop.DoorFailed) = served < count
 ServeEnds count served coming (Err _) = ⊥
 
 -- the first connections of the door, `count` of them or all
-abbrev pub RunsServe : (count : ℕ) → World → Seen → Seen → Result ℕ Stop → Type 0
-RunsServe count w a b r =
+abbrev pub RunsServe : Sense → (count : ℕ) → World → Seen → Seen → Result ℕ Stop → Type 0
+RunsServe sense count w a b r =
     (d : DoorState) (moments : List ℕ) → a.door ≡ Some d → a.coming ≡ Some moments
-    → (IsOpening r × OpensOnly w a b)
+    → (IsOpening r × OpensOnly sense w a b)
     ⊎ ((cs : List Connection) × (e : DoorState) × (b.door ≡ Some e) × (d.coming ≡ inputs_of cs ++ e.coming) × (outputs e ≡ outputs d ++ outputs_of cs)
-    × Served w moments cs a b × RoseBy (faulted cs) a.line_faults b.line_faults × (length cs ≤ count) × ServeEnds count (length cs) e.coming r)
+    × Served sense w moments cs a b × RoseBy (faulted cs) a.line_faults b.line_faults × (length cs ≤ count) × ServeEnds count (length cs) e.coming r)

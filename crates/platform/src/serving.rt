@@ -4,7 +4,8 @@ ghost use Rattle.ut_keeper.specs.State.{KeeperCause, Shows, Steps, Tells};
 ghost use Rattle.ut_model.specs.World.{World};
 ghost use Rattle.ut_serving.specs.Falls.{Falls, FallsBringing, Fell};
 ghost use Rattle.ut_serving.specs.Leads.{LeadsFrom};
-ghost use Rattle.ut_stands.specs.Stands.{Stands};
+ghost use Rattle.ut_serving.specs.Senses.{Sense, StandsAs};
+ghost use Rattle.ut_stands.specs.Stands.{HasKnownVersion, Stands};
 ghost use Rattle.ut_value.specs.Causes.{Cause};
 ghost use Rattle.platform.specs.Commands.{answers, has_status, is_opening, may_change, serves};
 ghost use Rattle.platform.specs.Falling.{FallsOpening};
@@ -39,8 +40,9 @@ pub(crate) fn serve_answer<K: Keeper, S: Source, W: Sink, C: Clock>(
     sink: &mut W,
     clock: &mut C,
 ) -> Result<u8, Stop>
-    ensures runs { Tells (K.state keeper.old) (K.state keeper.new) → (w : World) → Stands (K.state keeper.old).tables w
-        → (door : Option DoorState) (faults lines : ℕ) → RunsAnswer w
+    ensures runs { Tells (K.state keeper.old) (K.state keeper.new) → HasKnownVersion (K.state keeper.old).tables
+        → (sense : Sense) (w : World) → StandsAs sense (K.state keeper.old).tables w
+        → (door : Option DoorState) (faults lines : ℕ) → RunsAnswer sense w
         (record { keeper = K.state keeper.old; door = door; door_faults = faults; line_faults = lines; left = S.left source.old; read_faults = S.faults source.old; written = W.written sink.old; write_faults = W.faults sink.old; coming = C.coming clock.old })
         (record { keeper = K.state keeper.new; door = door; door_faults = faults; line_faults = lines; left = S.left source.new; read_faults = S.faults source.new; written = W.written sink.new; write_faults = W.faults sink.new; coming = C.coming clock.new })
         result }
@@ -94,8 +96,9 @@ pub(crate) fn serve_door<K: Keeper, D: Door, C: Clock>(
     count: u64,
 ) -> Result<u8, Stop>
     requires { 0 < count }
-    ensures runs { Tells (K.state keeper.old) (K.state keeper.new) → (w : World) → Stands (K.state keeper.old).tables w
-        → (left written : Option (List ℕ)) (reads writes : ℕ) → RunsServe count w
+    ensures runs { Tells (K.state keeper.old) (K.state keeper.new) → HasKnownVersion (K.state keeper.old).tables
+        → (sense : Sense) (w : World) → StandsAs sense (K.state keeper.old).tables w
+        → (left written : Option (List ℕ)) (reads writes : ℕ) → RunsServe sense count w
         (record { keeper = K.state keeper.old; door = D.held door.old; door_faults = D.faults door.old; line_faults = D.line_faults door.old; left = left; read_faults = reads; written = written; write_faults = writes; coming = C.coming clock.old })
         (record { keeper = K.state keeper.new; door = D.held door.new; door_faults = D.faults door.new; line_faults = D.line_faults door.new; left = left; read_faults = reads; written = written; write_faults = writes; coming = C.coming clock.new })
         result }

@@ -5,6 +5,7 @@ ghost use Rattle.ut_cascade.specs.Deletion.{DeletesWith};
 ghost use Rattle.ut_cascade.specs.inner.Holding.{JudgesBy};
 ghost use Rattle.ut_keeper.specs.Draft.{DraftTells, tables_of};
 ghost use Rattle.ut_model.specs.declared.record.Record.{Record};
+ghost use Rattle.ut_model.specs.Limits.{deletion_limit};
 ghost use Rattle.ut_model.specs.Objects.{record_at};
 ghost use Rattle.ut_model.specs.Tenant.{Tenant};
 ghost use Rattle.ut_stands.specs.Calls.{Calls, ended_edit};
@@ -46,7 +47,7 @@ fn judge<K: Keeper>(
 ) -> Result<Items<Id>, EditFail>
     ensures judges { DraftTells K.state draft.old draft.new
         → JudgesBy org layouts.now count gone.now.keys (tables_of K.state draft.old) result }
-    ensures few { IfOk result (λ cleared. count + length cleared ≤ 1000) }
+    ensures few { IfOk result (λ cleared. count + length cleared ≤ deletion_limit) }
     ensures calls { Calls K.state 0 (ended_edit result) draft.old draft.new }
 {
     draft_laws::<K>();
@@ -82,7 +83,7 @@ pub fn deletion_of<K: Keeper>(
     ensures deletes { DraftTells K.state draft.old draft.new
         → (q : OrgPlan) (t : Tenant) (r : Record) → StandsIn org q (tables_of K.state draft.old) (Some t)
         → own_layouts org q (Some t) ≡ layouts.now → record_at t r.id ≡ Some r → r.id ≡ id.now → DeletesWith t r result }
-    ensures few { IfOk result (λ d. length d.gone + length d.cleared ≤ 1000) }
+    ensures few { IfOk result (λ d. length d.gone + length d.cleared ≤ deletion_limit) }
     ensures calls { Calls K.state 0 (ended_edit result) draft.old draft.new }
 {
     draft_laws::<K>();

@@ -10,6 +10,7 @@ ghost use Rattle.ut_deletes.specs.inner.Doomed.{AreAll, Dooms, FindsTarget, Fits
 ghost use Rattle.ut_keeper.specs.Draft.{DraftTells, tables_of};
 ghost use Rattle.ut_model.specs.declared.record.Record.{Record};
 ghost use Rattle.ut_model.specs.Deletes.{delete, without};
+ghost use Rattle.ut_model.specs.Limits.{deletion_limit};
 ghost use Rattle.ut_model.specs.Membership.{Has};
 ghost use Rattle.ut_model.specs.Paths.{Asked};
 ghost use Rattle.ut_model.specs.Tenant.{Tenant};
@@ -186,7 +187,7 @@ fn add_changes<K: Keeper>(
         → AddsThese (deleted_changes org q now t rs) changes.old.items changes.new.items result }
     ensures own { OnOk result ((0 < length changes.new.items)
         × Adds org 245101 (length doomed.now.deletion.gone) changes.old.items changes.new.items) }
-    ensures calls { Calls K.state 1000 (ended result) draft.old draft.new }
+    ensures calls { Calls K.state deletion_limit (ended result) draft.old draft.new }
 {
     draft_laws::<K>();
     call_laws::<K>();

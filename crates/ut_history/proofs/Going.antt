@@ -11,6 +11,7 @@ use Rattle.ut_serving.specs.Connections.{Connection, end_of, faulted, inputs_of,
 use Rattle.ut_serving.specs.Falls.{Falls, FallsBringing}
 use Rattle.ut_serving.specs.Leads.{IsReached, StandsReached}
 use Rattle.ut_serving.specs.Requests.{message_in}
+use Rattle.ut_serving.specs.Senses.{of_all}
 use Rattle.ut_stands.specs.Stands.{Stands}
 use Rattle.platform.specs.Commands.{Command, Printing, answers, csvq, export, load, org_add, prints, printed, serves, used_by, uses, uses_of, demo}
 use Rattle.platform.specs.Deeds.{Prints}
@@ -41,7 +42,7 @@ module _ (k l : KeeperState) (a b : Around) (status : ℕ) (w : World) (m : Tabl
   abbrev Led : Type 0
   Led = (end : World) × IsReached w end × Stands m end
 
-  served_so : (moments : List ℕ) (cs : List Connection) (h : Served w moments cs (seen k a) (seen l b)) → ServedSo w h.end moments cs a b
+  served_so : (moments : List ℕ) (cs : List Connection) (h : Served of_all w moments cs (seen k a) (seen l b)) → ServedSo w h.end moments cs a b
   served_so moments cs h = record {
     later = h.later;
     served = h.served;
@@ -65,8 +66,8 @@ module _ (k l : KeeperState) (a b : Around) (status : ℕ) (w : World) (m : Tabl
     whole_answers p (Some input) (Some moments) e f = let h = p.does w (inr ((told, st), s)) in by h.0 h.1 (h.2 input moments e f)
       where
         by : (r : Result ℕ Stop) → status ≡ status_in r
-            → (IsOpening r × OpensOnly w (seen k a) (seen l b))
-            ⊎ ((c : Connection) × (c.input ≡ input) × Served w moments (c ∷ []) (seen k a) (seen l b) × Appends a.written b.written c.output × (r ≡ answer_end (end_of c)))
+            → (IsOpening r × OpensOnly of_all w (seen k a) (seen l b))
+            ⊎ ((c : Connection) × (c.input ≡ input) × Served of_all w moments (c ∷ []) (seen k a) (seen l b) × Appends a.written b.written c.output × (r ≡ answer_end (end_of c)))
             → (end : World) × SaysAnswers w end a b status (Some input) (Some moments) × Stands m end
         by r same (inl (opening, only)) = (w, (r, same, inl (opening, refl, only.door, only.left, only.written, only.coming)), after w (only.kept.tables st))
         by r same (inr (c, is, served, appends, ends)) = (
@@ -82,9 +83,9 @@ module _ (k l : KeeperState) (a b : Around) (status : ℕ) (w : World) (m : Tabl
     whole_serves count p (Some d) (Some moments) e f = let h = p.does w (inr ((told, st), s)) in by h.0 h.1 (h.2 d moments e f)
       where
         by : (r : Result ℕ Stop) → status ≡ status_in r
-            → (IsOpening r × OpensOnly w (seen k a) (seen l b))
+            → (IsOpening r × OpensOnly of_all w (seen k a) (seen l b))
             ⊎ ((cs : List Connection) × (e : DoorState) × (b.door ≡ Some e) × (d.coming ≡ inputs_of cs ++ e.coming) × (outputs e ≡ outputs d ++ outputs_of cs)
-            × Served w moments cs (seen k a) (seen l b) × RoseBy (faulted cs) a.line_faults b.line_faults × (length cs ≤ count) × ServeEnds count (length cs) e.coming r)
+            × Served of_all w moments cs (seen k a) (seen l b) × RoseBy (faulted cs) a.line_faults b.line_faults × (length cs ≤ count) × ServeEnds count (length cs) e.coming r)
             → (end : World) × SaysServes count w end a b status (Some d) (Some moments) × Stands m end
         by r same (inl (opening, only)) = (w, (r, same, inl (opening, refl, only.door, only.left, only.written, only.coming)), after w (only.kept.tables st))
         by r same (inr (cs, e, door, inputs, outs, served, lines, few, ends)) = (

@@ -8,11 +8,12 @@ use Rattle.ut_http.specs.Item.{whole, IsItem}
 use Rattle.ut_io.specs.Doors.{DoorState, outputs}
 use Rattle.ut_io.specs.Moments.{IsFirstMoment}
 use Rattle.ut_model.specs.World.{World}
-use Rattle.ut_serving.specs.Connections.{Connection, Place, AreServed, Follows, begins, end_of, exchanges_of, faulted, inputs_of, joined, outputs_of}
+use Rattle.ut_serving.specs.Connections.{Connection, Place, AreServed, Follows, begins, end_of, exchanges_of, faulted, inputs_of, joined, last_message, outputs_of}
 use Rattle.ut_serving.specs.Exchanges.{Exchange, reply_in, stores}
 use Rattle.ut_serving.specs.Falls.{IsUndone, IsUndoneBehind}
 use Rattle.ut_serving.specs.Leads.{IsReached}
 use Rattle.ut_serving.specs.Requests.{message_in}
+use Rattle.ut_serving.specs.Senses.{of_all}
 use Rattle.platform.specs.Commands.{Command, Printing, answers, is_opening, prints, printed, serves, uses}
 use Rattle.platform.specs.Deeds.{CutShort, Prints}
 use Rattle.platform.specs.Promise.{IsStatus}
@@ -35,7 +36,7 @@ SaysPrints p w end a b status =
 -- connections were served
 pub record ServedSo (w end : World) (moments : List ℕ) (cs : List Connection) (a b : Around) : Type 0 where
   pub later : List ℕ
-  pub served : AreServed cs w moments end later
+  pub served : AreServed of_all cs w moments end later
   pub isolated : IsIsolated w (exchanges_of cs)
   pub asked : b.coming ≡ Some later
   -- at most as many messages were answered 503 as the keeper's faults rose
@@ -73,7 +74,7 @@ pub record Fallen (w end : World) (moments input : List ℕ) (before after : Opt
   -- those answered before, each reply written
   pub answered : List Exchange
   pub place : Place
-  pub follows : Follows (begins w moments input) answered place
+  pub follows : Follows of_all (begins w moments input) answered place
   -- the one in doubt, whose reply acknowledges nothing
   pub goes_on : place.closed ≡ false
   pub request : HttpMessage
@@ -82,7 +83,7 @@ pub record Fallen (w end : World) (moments input : List ℕ) (before after : Opt
   pub now : ℕ
   pub moment : IsFirstMoment (Some place.moments) now
   pub text : List ℕ
-  pub undone : IsUndone request.method (request.close || (place.count == 999)) text
+  pub undone : IsUndone request.method (request.close || (place.count == last_message)) text
   pub out : List ℕ
   -- and behind it nothing that acknowledges anything
   pub goes_out : IsUndoneBehind text out
@@ -95,7 +96,7 @@ pub record FallenServing (w end : World) (moments : List ℕ) (d e : DoorState) 
   pub served : List Connection
   pub between : World
   pub later : List ℕ
-  pub are_served : AreServed served w moments between later
+  pub are_served : AreServed of_all served w moments between later
   pub input : List ℕ
   pub coming : List (List ℕ)
   pub inputs : d.coming ≡ inputs_of served ++ input ∷ coming

@@ -39,10 +39,14 @@ content_length (value ∷ other ∷ more) = Err BadHead
 abbrev pub needs_length : List ℕ → Bool
 needs_length method = bytes_eq method (codes "POST") || bytes_eq method (codes "PATCH")
 
+-- the most bytes of a body
+abbrev pub body_limit : ℕ
+body_limit = 4194304
+
 -- a request without a length has no body (RFC 9112, 6.3)
 abbrev pub checked_size : List ℕ → Option ℕ → Result ℕ HttpFail
 checked_size method None = if needs_length method then Err LengthRequired else Ok 0
-checked_size method (Some size) = if nat_lt 4194304 size then Err BodyTooLarge else Ok size
+checked_size method (Some size) = if nat_lt body_limit size then Err BodyTooLarge else Ok size
 
 -- the refusals behind that of the length, in their order; count is the number of lines
 abbrev pub framed : List ℕ → ℕ → List (List ℕ) → Option ℕ → Result ℕ HttpFail

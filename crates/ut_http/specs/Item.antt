@@ -14,9 +14,13 @@ pub data Item : Type 0 where
   ended : Item
   broken : Item
 
--- the bytes at hand: a head has at most so many
+-- the most bytes of a head
+abbrev pub head_limit : ℕ
+head_limit = 16384
+
+-- the bytes at hand, in which a head is to be
 abbrev pub window : List ℕ → List ℕ
-window bytes = take 16384 bytes
+window bytes = take head_limit bytes
 
 -- a whole head of the grammar (RFC 9112, 2 to 5) stands at the front of the bytes at hand
 abbrev pub HasHead : List ℕ → RequestHead → Type 0
@@ -48,7 +52,7 @@ message_of head body = record {
 abbrev pub IsUnread : List ℕ → HttpFail → Type 0
 IsUnread bytes e =
     ((e ≡ BadHead) × NeverHasRequest (window bytes))
-    ⊎ ((e ≡ HeadTooLarge) × (16384 ≤ length bytes) × HasNoRequest (window bytes) × MayBecomeRequest (window bytes))
+    ⊎ ((e ≡ HeadTooLarge) × (head_limit ≤ length bytes) × HasNoRequest (window bytes) × MayBecomeRequest (window bytes))
 
 -- the item at the front of the bytes, and what stands behind it
 abbrev pub IsItem : List ℕ → Item → List ℕ → Type 0
@@ -61,7 +65,7 @@ IsItem bytes (refused e) rest =
 IsItem bytes ended rest = (rest ≡ bytes) × (bytes ≡ [])
 IsItem bytes broken rest =
     (rest ≡ bytes)
-    × (((0 < length bytes) × (length bytes < 16384) × HasNoRequest bytes × MayBecomeRequest bytes)
+    × (((0 < length bytes) × (length bytes < head_limit) × HasNoRequest bytes × MayBecomeRequest bytes)
     ⊎ ((head : RequestHead) × HasHead bytes head × (size : ℕ) × (size_of head ≡ Ok size) × (length (behind head bytes) < size)))
 
 -- The one exception: the bytes at hand end inside a request target, and no continuation of them is a head. The parser

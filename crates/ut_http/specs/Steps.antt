@@ -8,7 +8,7 @@ use Rattle.httparse.specs.declared.spans.HeaderSpan.{HeaderSpan}
 use Rattle.ut_http.specs.declared.fail.HttpFail.{HttpFail}
 use Rattle.ut_http.specs.declared.fail.HttpFail.TheVariants.{BadHead, HeadTooLarge, TransferEncoding, LengthRequired, BodyTooLarge, Failed, Memory}
 use Rattle.ut_http.specs.declared.parts.Head.{Head}
-use Rattle.ut_http.specs.Item.{window, HasHead, IsUnread, size_of}
+use Rattle.ut_http.specs.Item.{head_limit, window, HasHead, IsUnread, size_of}
 use Rattle.ut_http.specs.Parts.{IsHeadOf}
 use Rattle.ut_http.specs.Reads.{read_limit}
 
@@ -27,9 +27,9 @@ IsFilled false end bytes left = (length bytes < end) × IsAtEnd left
 -- what a search for a head at the front of the bytes in the buffer answered
 abbrev pub HeadAnswer : List ℕ → Option (List ℕ) → List HeaderSpan → Result (Option RequestSpans) HttpFail → Type 0
 HeadAnswer bytes left lines (Ok (Some spans)) = IsRequestWithin (window bytes) lines spans × IsRequestOf (window bytes) lines spans
-HeadAnswer bytes left lines (Ok None) = IsAtEnd left × (length bytes < 16384) × HasNoRequest (window bytes) × MayBecomeRequest (window bytes)
+HeadAnswer bytes left lines (Ok None) = IsAtEnd left × (length bytes < head_limit) × HasNoRequest (window bytes) × MayBecomeRequest (window bytes)
 HeadAnswer bytes left lines (Err BadHead) = NeverHasRequest (window bytes)
-HeadAnswer bytes left lines (Err HeadTooLarge) = (16384 ≤ length bytes) × HasNoRequest (window bytes) × MayBecomeRequest (window bytes)
+HeadAnswer bytes left lines (Err HeadTooLarge) = (head_limit ≤ length bytes) × HasNoRequest (window bytes) × MayBecomeRequest (window bytes)
 HeadAnswer bytes left lines (Err TransferEncoding) = ⊥
 HeadAnswer bytes left lines (Err LengthRequired) = ⊥
 HeadAnswer bytes left lines (Err BodyTooLarge) = ⊥
@@ -42,6 +42,6 @@ IsRefusal bytes e = IsUnread bytes e ⊎ ((head : RequestHead) × HasHead bytes 
 
 -- the parts of the head at the front, that the bytes end within one, or why there are none
 abbrev pub NextHead : List ℕ → Option (List ℕ) → Result (Option Head) HttpFail → Type 0
-NextHead bytes left (Ok (Some parts)) = (head : RequestHead) × HasHead bytes head × IsHeadOf head parts × (parts.len ≤ length bytes) × (parts.len ≤ 16384)
-NextHead bytes left (Ok None) = IsAtEnd left × (length bytes < 16384) × HasNoRequest (window bytes) × MayBecomeRequest (window bytes)
+NextHead bytes left (Ok (Some parts)) = (head : RequestHead) × HasHead bytes head × IsHeadOf head parts × (parts.len ≤ length bytes) × (parts.len ≤ head_limit)
+NextHead bytes left (Ok None) = IsAtEnd left × (length bytes < head_limit) × HasNoRequest (window bytes) × MayBecomeRequest (window bytes)
 NextHead bytes left (Err e) = (e ≡ Memory) ⊎ (e ≡ Failed) ⊎ IsRefusal bytes e

@@ -1,6 +1,6 @@
 -- The steps of adding an object or a field: what was read is the tenant's, and what a failure says.
-use Rattle.std.proofs.Common.{◌≡◌, ◌∙◌, ℕ, List, [], ◌∷◌, ◌++◌, Some, None, refl, sym, subst}
-use Rattle.std.specs.Prelude.{Err, IfErr, IsErrAnd, Ok, Result}
+use Rattle.std.proofs.Common.{◌≡◌, ◌∙◌, ℕ, ◌+◌, List, [], ◌∷◌, ◌++◌, length, map, Some, None, refl, sym, ap, subst}
+use Rattle.std.specs.Prelude.{Err, IfErr, IfOk, IfSome, IsErrAnd, Ok, Result, codes}
 use Rattle.std.proofs.lemmas.Result.{IfErr-at_err}
 use Rattle.ut_edits.proofs.Reading.{not_missed}
 use Rattle.ut_edits.specs.Edits.{FailsBy}
@@ -9,9 +9,13 @@ use Rattle.ut_keys.specs.declared.fail.StoreFail.{StoreFail}
 use Rattle.ut_keys.specs.declared.fail.StoreFail.TheVariants.{Damaged, Memory}
 use Rattle.ut_keys.specs.declared.org.OrgRow.{OrgRow}
 use Rattle.ut_model.specs.declared.metadata_bodies.NewObject.{NewObject}
-use Rattle.ut_model.specs.Metadata.{add_object, new_object, object_rules}
-use Rattle.ut_model.specs.Rules.{Rule, first_refusal}
-use Rattle.ut_model.specs.Tenant.{Tenant}
+use Rattle.ut_model.specs.declared.limit.Limit.TheVariants as limit
+use Rattle.ut_model.specs.declared.refusal.Refusal.{Refusal}
+use Rattle.ut_model.specs.Cases.{in_case}
+use Rattle.ut_model.specs.Metadata.{add_object, child_name_taken, master_names, new_object, no_parent, object_rules, too_deep}
+use Rattle.ut_model.specs.Names.{bad_name, is_custom_name, taken}
+use Rattle.ut_model.specs.Rules.{MemberRules, Rule, first_refusal, in_body_order, over_limit}
+use Rattle.ut_model.specs.Tenant.{Object, Tenant}
 use Rattle.ut_model.specs.Verdict.{Verdict, accept, done, unless}
 use Rattle.ut_stands.specs.declared.fail.EditFail.{EditFail}
 use Rattle.ut_stands.specs.declared.layout.Layout.{Layout}
@@ -31,6 +35,25 @@ refusal_is t b = by (first_refusal (object_rules t b)) (record t { objects = t.o
     by : (rule : Rule) (u : Tenant) → rule ≡ verdict_refusal (unless rule t (accept done u))
     by None u = refl
     by (Some r) u = refl
+
+-- the first rule alone
+pub early_object : {E : Type 0} (t : Tenant) (b : NewObject) (members : List (List ℕ)) (r : Result Rule E) → members ≡ b.members
+    → IfOk r (λ x. x ≡ in_body_order members ((codes "name", bad_name is_custom_name b.name) ∷ in_case b.master [] master_names))
+    → IfOk r (λ x. IfSome x (λ why. Some why ≡ verdict_refusal (add_object t b)))
+early_object t b members (Err e) same h = tt
+early_object t b members (Ok None) same h = tt
+early_object t b members (Ok (Some why)) same h =
+    let forms : MemberRules = (codes "name", bad_name is_custom_name b.name) ∷ in_case b.master [] master_names in
+    let first : in_body_order b.members forms ≡ Some why = ap (λ (ms : List (List ℕ)). in_body_order ms forms) (sym same) ∙ sym h in
+    sym (first_some (in_body_order b.members forms) why first) ∙ refusal_is t b
+  where
+    rest : List Rule
+    rest =
+        in_body_order b.members ((codes "name", taken (map (λ (o : Object). o.name) t.objects) b.name) ∷ (codes "child", in_case b.master None (child_name_taken t)) ∷ [])
+        ∷ in_case b.master None (no_parent t) ∷ over_limit ((limit.Objects, length t.objects + 1) ∷ []) ∷ in_case b.master None (too_deep t) ∷ []
+
+    first_some : (rule : Rule) (x : Refusal) → rule ≡ Some x → first_refusal (rule ∷ rest) ≡ Some x
+    first_some rule x e = rw e refl
 
 -- no layouts are returned
 pub accepts_none : (org : ℕ) (q : OrgPlan) (t : Tenant) (v : Verdict) (e : EditFail) (result : Result (List Layout) EditFail) → IsErrAnd result (λ y. y ≡ e) → FailsBy v e → AcceptsBy org q t v result

@@ -5,6 +5,7 @@ ghost use Rattle.std.specs.List.{list_any};
 ghost use Rattle.ut_meta.specs.Slots.{IsLeastFree};
 ghost use Rattle.ut_meta.specs.inner.Relations.{is_changing};
 ghost use Rattle.ut_model.specs.Retyping.{job_is_done};
+ghost use Rattle.ut_stands.specs.Plan.{slot_count};
 ghost use Rattle.ut_stands.specs.Records.{has_free};
 
 use ut_stands::{FieldPlace, JobPlace, Layout};
@@ -47,8 +48,8 @@ const LAST_SLOT: u8 = 47;
 ///
 /// An object with at most 40 fields has one below 48.
 pub fn free_slot(layout: &Layout) -> u8
-    ensures least { (s : ℕ) → s < 48 → IsTrue (has_free layout.now s) → IsLeastFree layout.now result }
-    ensures within { result < 48 }
+    ensures least { (s : ℕ) → s < slot_count → IsTrue (has_free layout.now s) → IsLeastFree layout.now result }
+    ensures within { result < slot_count }
 {
     let mut slot = 0;
     while slot < LAST_SLOT && !is_free(layout, slot) {

@@ -13,6 +13,7 @@ ghost use Rattle.ut_parts.specs.Plain.{FitsText};
 ghost use Rattle.ut_pivot.specs.Changed.{slot_changes};
 ghost use Rattle.ut_pivot.specs.Made.{layout_entry};
 ghost use Rattle.ut_pivot.specs.Turned.{converts, copied_entry, turned_changes, turned_entry, turned_row, values_turned, with_text};
+ghost use Rattle.ut_stands.specs.Plan.{slot_count};
 
 use crate::copied::{copied_text, copied_value, is_copied};
 use crate::made::{SLOT_COUNT, field_of_slot};
@@ -221,8 +222,8 @@ fn turn_slots(
     requires old { IsTrue (all_valid (kinds_in layout.now.fields) old.now.values) }
     requires new { IsTrue (all_valid (kinds_in layout.now.fields) new.now.values) }
     requires converts { IsTrue (converts layout.now) }
-    ensures changes { OnOk result (changes.new.items ≡ changes.old.items ++ map spelled (values_turned layout.now old.now new.now 48)) }
-    ensures fits { OnOk result (AllByRecursion (λ c. FitsKey c.0) (values_turned layout.now old.now new.now 48)) }
+    ensures changes { OnOk result (changes.new.items ≡ changes.old.items ++ map spelled (values_turned layout.now old.now new.now slot_count)) }
+    ensures fits { OnOk result (AllByRecursion (λ c. FitsKey c.0) (values_turned layout.now old.now new.now slot_count)) }
 {
     for slot in 0..SLOT_COUNT {
         turn_slot(alloc, layout, old, new, slot, changes)?;

@@ -9,6 +9,7 @@ ghost use Rattle.ut_keys.specs.Keys.{FitsKey};
 ghost use Rattle.ut_model.specs.SoundRecords.{all_valid};
 ghost use Rattle.ut_pivot.specs.Changed.{slot_changes};
 ghost use Rattle.ut_pivot.specs.Made.{layout_entry, made_changes, values_made};
+ghost use Rattle.ut_stands.specs.Plan.{slot_count};
 
 use crate::slot::RecordSlot;
 use crate::turning::turn_value;
@@ -72,8 +73,8 @@ fn put_values(
     item: &Record,
     changes: &mut Vec<Change>,
 ) -> Result<(), AllocError>
-    ensures changes { OnOk result (changes.new.items ≡ changes.old.items ++ map spelled (values_made layout.now item.now 48)) }
-    ensures fits { OnOk result (AllByRecursion (λ c. FitsKey c.0) (values_made layout.now item.now 48)) }
+    ensures changes { OnOk result (changes.new.items ≡ changes.old.items ++ map spelled (values_made layout.now item.now slot_count)) }
+    ensures fits { OnOk result (AllByRecursion (λ c. FitsKey c.0) (values_made layout.now item.now slot_count)) }
 {
     for slot in 0..SLOT_COUNT {
         put_value(alloc, layout, item, slot, changes)?;

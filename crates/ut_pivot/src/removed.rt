@@ -15,6 +15,7 @@ ghost use Rattle.ut_pivot.specs.Made.{layout_entry};
 ghost use Rattle.ut_pivot.specs.Removed.{beside_entry, beside_value, is_left, left_value, text_value};
 ghost use Rattle.ut_pivot.specs.Removed.{removed_changes, removed_entry, values_removed};
 ghost use Rattle.ut_pivot.specs.Turned.{converts, converts_to};
+ghost use Rattle.ut_stands.specs.Plan.{slot_count};
 ghost use Rattle.ut_value.specs.Types.{is_type};
 ghost use Rattle.ut_value.specs.Values.{valid};
 
@@ -187,8 +188,8 @@ fn remove_slots(
     requires types { IsTrue (has_types layout.now) }
     requires converts { IsTrue (converts layout.now) }
     requires old { IsTrue (all_valid (kinds_in layout.now.fields) old.now.values) }
-    ensures changes { OnOk result (changes.new.items ≡ changes.old.items ++ map spelled (values_removed layout.now kept.now old.now 48)) }
-    ensures fits { OnOk result (AllByRecursion (λ c. FitsKey c.0) (values_removed layout.now kept.now old.now 48)) }
+    ensures changes { OnOk result (changes.new.items ≡ changes.old.items ++ map spelled (values_removed layout.now kept.now old.now slot_count)) }
+    ensures fits { OnOk result (AllByRecursion (λ c. FitsKey c.0) (values_removed layout.now kept.now old.now slot_count)) }
 {
     for slot in 0..SLOT_COUNT {
         remove_slot(alloc, layout, kept, old, slot, changes)?;

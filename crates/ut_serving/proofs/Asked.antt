@@ -145,7 +145,9 @@ module _ (old mid : KeeperState) (first : AsksFirst old mid (Ok tt)) (new : Keep
     };
     quiet = λ none. h.quiet none ∙ first.quiet (λ failed. cc);
     written = let few = h.written in omega (arith, few, first.reads.written);
+    unwritten = λ told is. h.unwritten (told_later h.steps told) is ∙ first.reads.written;
     shown = λ told. let few = h.shown (told_later h.steps told) in omega (arith, few, first.shown);
+    told = λ told. h.told (told_later h.steps told);
   }
 
 -- ---- it failed
@@ -181,5 +183,7 @@ module _ (old new : KeeperState) (e : StoreFail) (first : AsksFirst old new (Err
     cause = record { rose = λ failed. first.cause.rose (fell_as failed); never = λ sure failed. first.cause.never sure (fell_as failed) };
     quiet = λ none. first.quiet (λ failed. none (fell_as failed));
     written = let same = first.reads.written in omega (arith, same);
+    unwritten = λ told is. first.reads.written;
     shown = λ told. let same = first.shown in omega (arith, same);
+    told = λ told. (first.reads.same told).0;
   }

@@ -10,6 +10,7 @@ use Rattle.ut_stands.specs.Stands.{Stands}
 use Rattle.ut_serving.specs.Connections.{inputs_of, outputs_of}
 use Rattle.ut_serving.specs.Falls.{Falls, FallsBringing, Fell, IsUndoneBehind, OutputsUndone, WritesUndone}
 use Rattle.ut_serving.specs.Present.{PresentKeeps}
+use Rattle.ut_serving.specs.Senses.{of_all}
 use Rattle.ut_serving.proofs.Brought.{Gone, inputs_more, outputs_more, served_more, on_next, last_output}
 use Rattle.ut_serving.proofs.Fallen.{all_more, either, falls_less}
 
@@ -92,7 +93,7 @@ FallsNext mid new coming held held2 = Fell mid new → (w : World) (d : DoorStat
 
 module _ (w : World) (moments : List ℕ) (d : DoorState) (first mid new : KeeperState) (coming : Option (List ℕ)) (held held2 : Option DoorState) where
   -- in a later one than these
-  in_later : (n before now : ℕ) → IsTrue mid.trusted → new.trusted ≡ false → IsTrue new.is_clean → Gone w moments d n coming held before now first mid → FallsNext mid new coming held held2 → FallsBringing w moments d held2 new
+  in_later : (n before now : ℕ) → IsTrue mid.trusted → new.trusted ≡ false → IsTrue new.is_clean → Gone of_all w moments d n coming held before now first mid → FallsNext mid new coming held held2 → FallsBringing w moments d held2 new
   in_later n before now stands fell clean (cs, e, later, here, asked, h, count) next =
       let at = h.kept.tables stands in
       let (f, same, s) = next (at.0, stands, fell, clean) h.end e later at.1 here asked in (
@@ -102,7 +103,7 @@ module _ (w : World) (moments : List ℕ) (d : DoorState) (first mid new : Keepe
           served = cs ++ s.served;
           between = s.between;
           later = s.later;
-          are_served = served_more cs s.served w h.end s.between moments later s.later h.served s.are_served;
+          are_served = served_more of_all cs s.served w h.end s.between moments later s.later h.served s.are_served;
           input = s.input;
           coming = s.coming;
           inputs = h.inputs ∙ ap (λ (xs : List (List ℕ)). inputs_of cs ++ xs) s.inputs ∙ sym (append_assoc (inputs_of cs) (inputs_of s.served) (s.input ∷ s.coming)) ∙ ap (λ (xs : List (List ℕ)). xs ++ s.input ∷ s.coming) (sym (inputs_more cs s.served));
@@ -138,7 +139,7 @@ module _ (w : World) (moments : List ℕ) (d : DoorState) (first mid new : Keepe
         },
       )
 
-  pub fell_on : (n before now : ℕ) → Steps mid new → Fell first new → (IsTrue mid.trusted → Gone w moments d n coming held before now first mid) → (mid.trusted ≡ false → FallsBringing w moments d held mid)
+  pub fell_on : (n before now : ℕ) → Steps mid new → Fell first new → (IsTrue mid.trusted → Gone of_all w moments d n coming held before now first mid) → (mid.trusted ≡ false → FallsBringing w moments d held mid)
       → FallsNext mid new coming held held2 → (mid.trusted ≡ false → IsTrue new.is_clean → OutputsUndone held held2) → FallsBringing w moments d held2 new
   fell_on n before now steps (tells, stands, fell, clean) gone fallen next undone = by (either mid.trusted)
     where

@@ -20,10 +20,11 @@ use Rattle.ut_serving.specs.declared.request.Answer.TheVariants.{Made, Damaged, 
 use Rattle.ut_serving.specs.declared.wire.LineFail.{LineFail}
 use Rattle.ut_serving.specs.declared.wire.LineFail.TheVariants.{Read, Write}
 use Rattle.ut_serving.specs.Answers.{IsFixed, IsMade, bytes_in}
-use Rattle.ut_serving.specs.Connections.{Over, Place, Follows, at_memory, at_refusal, begins, joined, last_words}
+use Rattle.ut_serving.specs.Connections.{Over, Place, Follows, at_memory, at_refusal, begins, joined, last_message, last_words}
 use Rattle.ut_serving.specs.Exchanges.{Exchange, reply_in}
 use Rattle.ut_serving.specs.Falls.{Falls, FallsAt, FallsIn, FallsOn, Fell, IsUndone, IsUndoneText, MayLeave, WritesUndone, WroteIn}
 use Rattle.ut_serving.specs.Requests.{message_in}
+use Rattle.ut_serving.specs.Senses.{of_all}
 use Rattle.ut_serving.specs.Turning.{IsHere, RefusesWith, Wrote, over_if_written}
 use Rattle.ut_serving.proofs.Goes.{Goes, joined_more}
 use Rattle.ut_serving.proofs.Turned.{appends_then, item_at, nothing}
@@ -138,7 +139,7 @@ wrote_in before mid after text close (Err Write) h (n, within, k) = (n, within, 
 wrote_in before mid after text close (Err Read) h k = absurd k
 
 pub fell_turn : (p : Place) (coming left : Option (List ℕ)) → IsHere p coming left → p.closed ≡ false → (m : HttpMessage) (close last : Bool) (new : KeeperState) (bytes : List ℕ) (left2 before mid after : Option (List ℕ)) (s : Result (Unit {0}) LineFail)
-    → close ≡ (m.close || last) → eqb p.count 999 ≡ last → Between left (prepend_known bytes left2) (λ i rest. IsItem i (whole m) rest) → known.Keeps before mid
+    → close ≡ (m.close || last) → eqb p.count last_message ≡ last → Between left (prepend_known bytes left2) (λ i rest. IsItem i (whole m) rest) → known.Keeps before mid
     → FallsOn p.world (record m { close = close }) p.moments new mid after s → FallsIn p new before after (over_if_written close s)
 fell_turn p coming left here going m close last new bytes left2 before mid after s closes full item unwritten (now, first, crash, text, undone, wrote) =
     let it = item_at left (prepend_known bytes left2) p.input (λ i rest. IsItem i (whole m) rest) here.1 item in (
@@ -182,9 +183,9 @@ module _ (w : World) (moments input : List ℕ) (old : KeeperState) (before : Op
 
   abbrev pub FallsFrom : KeeperState → KeeperState → Option (List ℕ) → Option (List ℕ) → Option (List ℕ) → Option (List ℕ) → Bool → Result Bool LineFail → Type 0
   FallsFrom mid new coming left after after2 last result =
-      Fell mid new → (p : Place) → Stands mid.tables p.world → IsHere p coming left → p.closed ≡ false → eqb p.count 999 ≡ last → FallsIn p new after after2 result
+      Fell mid new → (p : Place) → Stands mid.tables p.world → IsHere p coming left → p.closed ≡ false → eqb p.count last_message ≡ last → FallsIn p new after after2 result
 
-  fallen_at : (new : KeeperState) (after after2 : Option (List ℕ)) (p : Place) (xs : List Exchange) → Follows (begins w moments input) xs p → Appends before after (joined (map reply_in xs))
+  fallen_at : (new : KeeperState) (after after2 : Option (List ℕ)) (p : Place) (xs : List Exchange) → Follows of_all (begins w moments input) xs p → Appends before after (joined (map reply_in xs))
       → (r : Result Bool LineFail) → FallsIn p new after after2 r → FallenBy new after2 r
   fallen_at new after after2 p xs follows wrote (Ok over) (at, text, undone, app) = (
     record {
@@ -239,8 +240,8 @@ module _ (w : World) (moments input : List ℕ) (old : KeeperState) (before : Op
 
   -- it fell in this turn, or before
   pub fallen_on : (mid new : KeeperState) (coming left after after2 : Option (List ℕ)) (n : ℕ) (r : Result Bool LineFail) → Steps mid new → Fell old new
-      → (IsTrue mid.trusted → Goes w moments input old before mid coming left after n) → (mid.trusted ≡ false → Fallen mid after)
-      → FallsFrom mid new coming left after after2 (eqb n 999) r → (mid.trusted ≡ false → IsTrue new.is_clean → WritesUndone (is_ok r) after after2) → FallenBy new after2 r
+      → (IsTrue mid.trusted → Goes of_all w moments input old before mid coming left after n) → (mid.trusted ≡ false → Fallen mid after)
+      → FallsFrom mid new coming left after after2 (eqb n last_message) r → (mid.trusted ≡ false → IsTrue new.is_clean → WritesUndone (is_ok r) after after2) → FallenBy new after2 r
   fallen_on mid new coming left after after2 n r steps (tells, stands, fell, clean) goes fallen falls undone = by (either mid.trusted)
     where
       by : (mid.trusted ≡ true) ⊎ (mid.trusted ≡ false) → FallenBy new after2 r
@@ -248,4 +249,4 @@ module _ (w : World) (moments input : List ℕ) (old : KeeperState) (before : Op
       by (inl open_) =
           let (p, xs, follows, kept, here, going, count, few, wrote) = goes open_ in
           let at = kept.tables open_ in
-          fallen_at new after after2 p xs follows wrote r (falls (at.0, open_, fell, clean) p at.1 here going (ap (λ k. eqb k 999) count))
+          fallen_at new after after2 p xs follows wrote r (falls (at.0, open_, fell, clean) p at.1 here going (ap (λ k. eqb k last_message) count))

@@ -5,9 +5,9 @@ use Rattle.std.specs.Io.KnownBytes.{Appends}
 use Rattle.std.proofs.KnownBytes.{Appends-trans}
 use Rattle.ut_keeper.specs.State.{KeeperState, Steps, Tells}
 use Rattle.ut_model.specs.World.{World}
-use Rattle.ut_stands.specs.Stands.{Stands}
+use Rattle.ut_serving.specs.Senses.{Sense, StandsAs}
 use Rattle.ut_serving.specs.Exchanges.{Exchange, LeavesBehind, reply_in}
-use Rattle.ut_serving.specs.Connections.{Place, begins, IsAnswered, Follows, Over, at_close, at_fault, IsOver, IsOutput, joined, last_words, end_by}
+use Rattle.ut_serving.specs.Connections.{Place, begins, IsAnswered, Follows, Over, at_close, at_fault, IsOver, IsOutput, joined, last_message, last_words, end_by}
 use Rattle.ut_serving.specs.Turning.{IsHere, Turns, Replied, over_by, Serves}
 use Rattle.ut_serving.specs.declared.wire.LineFail.{LineFail}
 use Rattle.ut_serving.specs.declared.wire.LineFail.TheVariants.{Read, Write}
@@ -18,9 +18,9 @@ use Rattle.ut_serving.specs.Turning.{Wrote}
 use Rattle.ut_serving.proofs.Turned.{nothing, memory_turn}
 use Rattle.ut_serving.proofs.Kept.{kept_on, kept_same}
 
-follows_more : (p q r : Place) (xs : List Exchange) (x : Exchange) → Follows p xs q → IsAnswered q x r → Follows p (xs ++ x ∷ []) r
-follows_more p q r [] x e h = (r, subst (λ (y : Place). IsAnswered y x r) e h, refl)
-follows_more p q r (y ∷ xs) x (next, a, f) h = (next, a, follows_more next q r xs x f h)
+follows_more : (sense : Sense) (p q r : Place) (xs : List Exchange) (x : Exchange) → Follows sense p xs q → IsAnswered sense q x r → Follows sense p (xs ++ x ∷ []) r
+follows_more sense p q r [] x e h = (r, subst (λ (y : Place). IsAnswered sense y x r) e h, refl)
+follows_more sense p q r (y ∷ xs) x (next, a, f) h = (next, a, follows_more sense next q r xs x f h)
 
 pub joined_more : (ts us : List (List ℕ)) → joined (ts ++ us) ≡ joined ts ++ joined us
 joined_more [] us = refl
@@ -45,8 +45,8 @@ or_false : (a b : Bool) → (a || b) ≡ false → b ≡ false
 or_false true b h = absurd cc
 or_false false b h = h
 
-not_last : (n : ℕ) → n ≤ 999 → eqb n 999 ≡ false → n + 1 ≤ 999
-not_last n few h = let ne : n ≢ 999 = λ e. absurd (cc ((Decides-eqb n 999).1 e, h)) in omega (arith, few, ne)
+not_last : (n : ℕ) → n ≤ last_message → eqb n last_message ≡ false → n + 1 ≤ last_message
+not_last n few h = let ne : n ≢ last_message = λ e. absurd (cc ((Decides-eqb n last_message).1 e, h)) in omega (arith, few, ne)
 
 never_on : (r : Result (Unit {0}) LineFail) → ◌≡◌ {A = Result Bool LineFail} (Ok false) (over_by r) → ⊥
 never_on (Ok done) e = cc
@@ -65,34 +65,34 @@ unchanged (Some a) = refl
 pub fresh : (bytes : List ℕ) (left : Option (List ℕ)) (i : List ℕ) → bytes ≡ [] → left ≡ Some i → known.prepend_known bytes left ≡ Some i
 fresh bytes left i none e = rw (e, none) refl
 
-module _ (w : World) (moments input : List ℕ) (old : KeeperState) (before : Option (List ℕ)) where
+module _ (sense : Sense) (w : World) (moments input : List ℕ) (old : KeeperState) (before : Option (List ℕ)) where
   -- so many turns, after which the connection goes on
   abbrev pub Goes : KeeperState → Option (List ℕ) → Option (List ℕ) → Option (List ℕ) → ℕ → Type 0
   Goes new coming left after n =
-      (p : Place) × (xs : List Exchange) × Follows (begins w moments input) xs p × LeavesBehind p.world xs old new × IsHere p coming left × (p.closed ≡ false) × (p.count ≡ n) × (n ≤ 999)
+      (p : Place) × (xs : List Exchange) × Follows sense (begins w moments input) xs p × LeavesBehind sense p.world xs old new × IsHere p coming left × (p.closed ≡ false) × (p.count ≡ n) × (n ≤ last_message)
       × Appends before after (joined (map reply_in xs))
 
   abbrev pub TurnsFrom : KeeperState → KeeperState → Option (List ℕ) → Option (List ℕ) → Option (List ℕ) → Option (List ℕ) → Option (List ℕ) → Option (List ℕ) → Bool → Result Bool LineFail → Type 0
   TurnsFrom mid new coming left after coming2 left2 after2 last result =
-      Tells mid new → (p : Place) → Stands mid.tables p.world → IsHere p coming left → p.closed ≡ false → eqb p.count 999 ≡ last → Turns p mid new coming2 left2 after after2 result
+      Tells mid new → (any : Sense) (p : Place) → StandsAs any mid.tables p.world → IsHere p coming left → p.closed ≡ false → eqb p.count last_message ≡ last → Turns any p mid new coming2 left2 after after2 result
 
-  pub start : (coming left : Option (List ℕ)) → old.tells → Stands old.tables w → coming ≡ Some moments → left ≡ Some input → Goes old coming left before 0
-  start coming left tells stands e i = (begins w moments input, [], refl, kept_same w old tells stands, (e, i), refl, refl, omega arith, nothing before before (unchanged before))
+  pub start : (coming left : Option (List ℕ)) → old.tells → StandsAs sense old.tables w → coming ≡ Some moments → left ≡ Some input → Goes old coming left before 0
+  start coming left tells stands e i = (begins w moments input, [], refl, kept_same sense w old tells stands, (e, i), refl, refl, omega arith, nothing before before (unchanged before))
 
   pub go_on : (mid new : KeeperState) (coming left after coming2 left2 after2 : Option (List ℕ)) (n : ℕ) → IsTrue new.trusted → Steps mid new
-      → Goes mid coming left after n → TurnsFrom mid new coming left after coming2 left2 after2 (eqb n 999) (Ok false) → Goes new coming2 left2 after2 (n + 1)
+      → Goes mid coming left after n → TurnsFrom mid new coming left after coming2 left2 after2 (eqb n last_message) (Ok false) → Goes new coming2 left2 after2 (n + 1)
   go_on mid new coming left after coming2 left2 after2 n stands steps (p, xs, follows, kept, here, going, count, few, wrote) turns =
       let at = kept.tables (steps.stood stands) in
-      elim (turns (at.0, stands) p at.1 here going (ap (λ k. eqb k 999) count)) [
+      elim (turns (at.0, stands) sense p at.1 here going (ap (λ k. eqb k last_message) count)) [
         | inl (x, q, is, k, there, (open_, out)) ↦ (
           q,
           xs ++ x ∷ [],
-          follows_more (begins w moments input) p q xs x follows is,
-          kept_on p.world q.world xs (x ∷ []) old mid new kept k,
+          follows_more sense (begins w moments input) p q xs x follows is,
+          kept_on sense p.world q.world xs (x ∷ []) old mid new kept k,
           there,
           ap (λ (y : Place). y.closed) is.next ∙ sym open_,
           ap (λ (y : Place). y.count) is.next ∙ ap (λ k. k + 1) count,
-          not_last n few (sym (ap (λ k. eqb k 999) count) ∙ or_false is.request.close (eqb p.count 999) (sym is.close ∙ sym open_)),
+          not_last n few (sym (ap (λ k. eqb k last_message) count) ∙ or_false is.request.close (eqb p.count last_message) (sym is.close ∙ sym open_)),
           subst (λ (ts : List (List ℕ)). Appends before after2 (joined ts)) (sym (texts_more xs x))
               (subst (λ (o : List ℕ). Appends before after2 o) (sym (joined_more (map reply_in xs) (reply_in x ∷ [])))
               (subst (λ (o : List ℕ). Appends before after2 (joined (map reply_in xs) ++ o)) (sym (append-nil (reply_in x)))
@@ -102,10 +102,10 @@ module _ (w : World) (moments input : List ℕ) (old : KeeperState) (before : Op
       ]
 
   -- the last turn
-  by_reply : (mid new : KeeperState) (coming2 left2 after after2 : Option (List ℕ)) (p q : Place) (xs : List Exchange) (x : Exchange) → Steps mid new → Follows (begins w moments input) xs p → LeavesBehind p.world xs old mid
-      → Appends before after (joined (map reply_in xs)) → IsAnswered p x q → LeavesBehind q.world (x ∷ []) mid new → IsHere q coming2 left2
+  by_reply : (mid new : KeeperState) (coming2 left2 after after2 : Option (List ℕ)) (p q : Place) (xs : List Exchange) (x : Exchange) → Steps mid new → Follows sense (begins w moments input) xs p → LeavesBehind sense p.world xs old mid
+      → Appends before after (joined (map reply_in xs)) → IsAnswered sense p x q → LeavesBehind sense q.world (x ∷ []) mid new → IsHere q coming2 left2
       → (o : Over) (written : Bool) (out : List ℕ) → last_words o ≡ [] → IsOver o written q → IsOutput (reply_in x ∷ []) written out → Appends after after2 out
-      → Serves w moments input old new coming2 before after2 (end_by written o)
+      → Serves sense w moments input old new coming2 before after2 (end_by written o)
   by_reply mid new coming2 left2 after after2 p q xs x steps follows kept wrote is k there o written out none over whole app = (
     record { input = input; exchanges = xs ++ x ∷ []; over = o; written = written; output = joined (map reply_in xs) ++ out },
     q.world,
@@ -113,30 +113,30 @@ module _ (w : World) (moments input : List ℕ) (old : KeeperState) (before : Op
     refl,
     record {
       last = q;
-      follows = follows_more (begins w moments input) p q xs x follows is;
+      follows = follows_more sense (begins w moments input) p q xs x follows is;
       over = over;
       output = subst (λ (ts : List (List ℕ)). IsOutput ts written (joined (map reply_in xs) ++ out)) (sym (ap (λ (us : List (List ℕ)). map reply_in (xs ++ x ∷ []) ++ us) none ∙ append-nil (map reply_in (xs ++ x ∷ [])) ∙ texts_more xs x))
           (output_after (map reply_in xs) (reply_in x ∷ []) written out whole);
       world = refl;
       moments_left = refl;
     },
-    kept_on p.world q.world xs (x ∷ []) old mid new kept k,
+    kept_on sense p.world q.world xs (x ∷ []) old mid new kept k,
     there.0,
     Appends-trans before after after2 (joined (map reply_in xs)) out wrote app,
     refl,
   )
 
-  by_over : (mid new : KeeperState) (coming2 after after2 : Option (List ℕ)) (p : Place) (xs : List Exchange) → Steps mid new → Follows (begins w moments input) xs p → LeavesBehind p.world xs old mid
-      → Appends before after (joined (map reply_in xs)) → LeavesBehind p.world [] mid new → coming2 ≡ Some p.moments
+  by_over : (mid new : KeeperState) (coming2 after after2 : Option (List ℕ)) (p : Place) (xs : List Exchange) → Steps mid new → Follows sense (begins w moments input) xs p → LeavesBehind sense p.world xs old mid
+      → Appends before after (joined (map reply_in xs)) → LeavesBehind sense p.world [] mid new → coming2 ≡ Some p.moments
       → (o : Over) (written : Bool) (out : List ℕ) → IsOver o written p → IsOutput (last_words o) written out → Appends after after2 out
-      → Serves w moments input old new coming2 before after2 (end_by written o)
+      → Serves sense w moments input old new coming2 before after2 (end_by written o)
   by_over mid new coming2 after after2 p xs steps follows kept wrote k later o written out over whole app = (
     record { input = input; exchanges = xs; over = o; written = written; output = joined (map reply_in xs) ++ out },
     p.world,
     p.moments,
     refl,
     record { last = p; follows = follows; over = over; output = output_after (map reply_in xs) (last_words o) written out whole; world = refl; moments_left = refl },
-    subst (λ (ys : List Exchange). LeavesBehind p.world ys old new) (append-nil xs) (kept_on p.world p.world xs [] old mid new kept k),
+    subst (λ (ys : List Exchange). LeavesBehind sense p.world ys old new) (append-nil xs) (kept_on sense p.world p.world xs [] old mid new kept k),
     later,
     Appends-trans before after after2 (joined (map reply_in xs)) out wrote app,
     refl,
@@ -145,9 +145,9 @@ module _ (w : World) (moments input : List ℕ) (old : KeeperState) (before : Op
   front : (text out : List ℕ) (n : ℕ) → n ≤ length text → out ≡ take n text → IsOutput (text ∷ []) false out
   front text out n within is = ([], text, n, refl, within, is)
 
-  by_replied : (mid new : KeeperState) (coming2 left2 after after2 : Option (List ℕ)) (p q : Place) (xs : List Exchange) (x : Exchange) → Steps mid new → Follows (begins w moments input) xs p → LeavesBehind p.world xs old mid
-      → Appends before after (joined (map reply_in xs)) → IsAnswered p x q → LeavesBehind q.world (x ∷ []) mid new → IsHere q coming2 left2
-      → (s : Result (Unit {0}) LineFail) → Replied after after2 x (over_by s) → Serves w moments input old new coming2 before after2 s
+  by_replied : (mid new : KeeperState) (coming2 left2 after after2 : Option (List ℕ)) (p q : Place) (xs : List Exchange) (x : Exchange) → Steps mid new → Follows sense (begins w moments input) xs p → LeavesBehind sense p.world xs old mid
+      → Appends before after (joined (map reply_in xs)) → IsAnswered sense p x q → LeavesBehind sense q.world (x ∷ []) mid new → IsHere q coming2 left2
+      → (s : Result (Unit {0}) LineFail) → Replied after after2 x (over_by s) → Serves sense w moments input old new coming2 before after2 s
   by_replied mid new coming2 left2 after after2 p q xs x steps follows kept wrote is k there (Ok done) (shut, app) =
       by_reply mid new coming2 left2 after after2 p q xs x steps follows kept wrote is k there at_close true (reply_in x) refl (refl, ap (λ (y : Place). y.closed) is.next ∙ sym shut) (sym (append-nil (reply_in x))) app
   by_replied mid new coming2 left2 after after2 p q xs x steps follows kept wrote is k there (Err Write) (n, within, app) =
@@ -155,18 +155,18 @@ module _ (w : World) (moments input : List ℕ) (old : KeeperState) (before : Op
   by_replied mid new coming2 left2 after after2 p q xs x steps follows kept wrote is k there (Err Read) h = absurd h
 
   pub ends : (mid new : KeeperState) (coming left after coming2 left2 after2 : Option (List ℕ)) (n : ℕ) (s : Result (Unit {0}) LineFail) → IsTrue new.trusted → Steps mid new
-      → Goes mid coming left after n → TurnsFrom mid new coming left after coming2 left2 after2 (eqb n 999) (over_by s) → Serves w moments input old new coming2 before after2 s
+      → Goes mid coming left after n → TurnsFrom mid new coming left after coming2 left2 after2 (eqb n last_message) (over_by s) → Serves sense w moments input old new coming2 before after2 s
   ends mid new coming left after coming2 left2 after2 n s stands steps (p, xs, follows, kept, here, going, count, few, wrote) turns =
       let at = kept.tables (steps.stood stands) in
-      elim (turns (at.0, stands) p at.1 here going (ap (λ k. eqb k 999) count)) [
+      elim (turns (at.0, stands) sense p at.1 here going (ap (λ k. eqb k last_message) count)) [
         | inl (x, q, is, k, there, out) ↦ by_replied mid new coming2 left2 after after2 p q xs x steps follows kept wrote is k there s out
         | inr (o, written, over, k, later, out, whole, app, result) ↦
-            subst (λ (r : Result (Unit {0}) LineFail). Serves w moments input old new coming2 before after2 r) (sym (over_once s (end_by written o) result))
+            subst (λ (r : Result (Unit {0}) LineFail). Serves sense w moments input old new coming2 before after2 r) (sym (over_once s (end_by written o) result))
             (by_over mid new coming2 after after2 p xs steps follows kept wrote k later o written out over whole app)
       ]
 
   -- memory ran out before the first item
-  pub at_once : (coming after : Option (List ℕ)) (s : Result (Unit {0}) LineFail) → Tells old old → Stands old.tables w → coming ≡ Some moments → Wrote before after (reply 507 no_memory true) s → Serves w moments input old old coming before after s
+  pub at_once : (coming after : Option (List ℕ)) (s : Result (Unit {0}) LineFail) → Tells old old → StandsAs sense old.tables w → coming ≡ Some moments → Wrote before after (reply 507 no_memory true) s → Serves sense w moments input old old coming before after s
   at_once coming after s told stands e wrote =
       ends old old coming (Some input) before coming (Some input) after 0 s told.1 (steps_same old) (start coming (Some input) told.0 stands e refl)
-      (λ t p at here going full. memory_turn p coming (Some input) here going old t.0 at (Some input) before before (unchanged before) after (Some input) s wrote)
+      (λ t any p at here going full. memory_turn any p coming (Some input) here going old t.0 at (Some input) before before (unchanged before) after (Some input) s wrote)

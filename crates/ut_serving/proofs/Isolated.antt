@@ -3,9 +3,10 @@ use Rattle.std.proofs.Common.{◌≡◌, ℕ, Bool, true, false, ◌&&◌, cond,
 use Rattle.ut_model.specs.declared.reply.Reply.{Reply}
 use Rattle.ut_model.specs.Step.{Message, org_named}
 use Rattle.ut_model.specs.World.{World, tenant_at}
-use Rattle.ut_serving.specs.Exchanges.{Exchange, Outcome, done, store, memory, world_by, world_after}
+use Rattle.ut_serving.specs.Exchanges.{Exchange, Outcome, apart, done, store, memory, world_by, world_after}
 use Rattle.ut_serving.specs.Connections.{Place, begins, Follows, Connection, AreServed, exchanges_of}
 use Rattle.ut_serving.specs.Isolation.{asked_of, counts, is_done, is_org, replies_of, replies_to}
+use Rattle.ut_serving.specs.Senses.{Sense}
 use Rattle.std.proofs.lemmas.Bool.{eqb-true}
 use Rattle.ut_step.specs.Step.{step}
 
@@ -18,21 +19,22 @@ chained_more : (xs ys : List Exchange) (w v end : World) → Chained w xs v → 
 chained_more [] ys w v end e h = subst (λ (u : World). Chained u ys end) e h
 chained_more (x ∷ xs) ys w v end (here, more) h = (here, chained_more xs ys (world_after x) v end more h)
 
-follows_chained : (p q : Place) (xs : List Exchange) → Follows p xs q → Chained p.world xs q.world
-follows_chained p q [] e = ap (λ (y : Place). y.world) e
-follows_chained p q (x ∷ xs) (next, is, more) = (is.world, subst (λ (u : World). Chained u xs q.world) (ap (λ (y : Place). y.world) is.next) (follows_chained next q xs more))
+follows_chained : (sense : Sense) (p q : Place) (xs : List Exchange) → Follows sense p xs q → Chained p.world xs q.world
+follows_chained sense p q [] e = ap (λ (y : Place). y.world) e
+follows_chained sense p q (x ∷ xs) (next, is, more) = (is.world, subst (λ (u : World). Chained u xs q.world) (ap (λ (y : Place). y.world) is.next) (follows_chained sense next q xs more))
 
-served_chained : (cs : List Connection) (w end : World) (moments later : List ℕ) → AreServed cs w moments end later → Chained w (exchanges_of cs) end
-served_chained [] w end moments later h = h.0
-served_chained (c ∷ cs) w end moments later (next, between, one, more) =
+served_chained : (sense : Sense) (cs : List Connection) (w end : World) (moments later : List ℕ) → AreServed sense cs w moments end later → Chained w (exchanges_of cs) end
+served_chained sense [] w end moments later h = h.0
+served_chained sense (c ∷ cs) w end moments later (next, between, one, more) =
     chained_more c.exchanges (exchanges_of cs) w next end
-    (subst (λ (u : World). Chained w c.exchanges u) (sym one.world) (follows_chained (begins w moments c.input) one.last c.exchanges one.follows))
-    (served_chained cs next end between later more)
+    (subst (λ (u : World). Chained w c.exchanges u) (sym one.world) (follows_chained sense (begins w moments c.input) one.last c.exchanges one.follows))
+    (served_chained sense cs next end between later more)
 
 both : (o : Outcome) (b : Bool) → (is_done o && b) ≡ true → (o ≡ done) × (b ≡ true)
 both done b h = (refl, h)
 both store b h = absurd cc
 both memory b h = absurd cc
+both (apart text) b h = absurd cc
 
 named : (org : ℕ) (o : Option ℕ) → is_org org o ≡ true → o ≡ Some org
 named org None e = absurd cc
@@ -58,6 +60,7 @@ module _ (own : Own) (other : Other) where
         by done e = other x.world x.message x.now org (unnamed org (org_named x.message) e)
         by store e = refl
         by memory e = refl
+        by (apart text) e = refl
 
     chain : (w v end : World) (xs : List Exchange) → Chained w xs end → tenant_at w org ≡ tenant_at v org → replies_of org xs ≡ replies_to v (asked_of org xs)
     chain w v end [] h same = refl
@@ -75,6 +78,6 @@ module _ (own : Own) (other : Other) where
             λ i. o.0 i ∷ later i
         by false e rest = rest v (stays x e ∙ met)
 
-  pub isolated : (org : ℕ) (cs : List Connection) (w v end : World) (moments later : List ℕ) → AreServed cs w moments end later → tenant_at w org ≡ tenant_at v org
+  pub isolated : (sense : Sense) (org : ℕ) (cs : List Connection) (w v end : World) (moments later : List ℕ) → AreServed sense cs w moments end later → tenant_at w org ≡ tenant_at v org
       → replies_of org (exchanges_of cs) ≡ replies_to v (asked_of org (exchanges_of cs))
-  isolated org cs w v end moments later served same = chain org w v end (exchanges_of cs) (served_chained cs w end moments later served) same
+  isolated sense org cs w v end moments later served same = chain org w v end (exchanges_of cs) (served_chained sense cs w end moments later served) same

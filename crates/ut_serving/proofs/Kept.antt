@@ -1,22 +1,23 @@
 -- Requests one after the other, and what they leave behind.
 use Rattle.std.proofs.Common.{◌≡◌, ◌^◌, ℕ, ◌+◌, Bool, true, false, IsTrue, List, [], ◌∷◌, ◌++◌, Option, Some, None, Ok, Err, refl, ap, arith}
-use Rattle.std.specs.Prelude.{IsErrOf, OnErr, is_ok, nat_lt}
+use Rattle.std.specs.Prelude.{IsErrOf, OnErr, Result, is_ok, nat_lt}
 use Rattle.ut_value.specs.Causes.{Rose}
 use Rattle.ut_http.specs.declared.message.HttpMessage.{HttpMessage}
 use Rattle.ut_http.specs.Reply.{reply_to, store_failed, no_memory}
 use Rattle.ut_keeper.specs.State.{KeeperCause, KeeperState, Quiet, Shows, Steps, Tells, TrustedAfter}
+use Rattle.ut_keeper.specs.Tables.{Tables}
 use Rattle.ut_keys.specs.declared.fail.StoreFail.{StoreFail}
 use Rattle.ut_keys.specs.declared.fail.StoreFail.TheVariants.{Keeper, Memory}
 use Rattle.ut_model.specs.Callers.{Named}
-use Rattle.ut_model.specs.Step.{Message}
+use Rattle.ut_model.specs.Step.{Message, org_named}
 use Rattle.ut_model.specs.World.{World}
-use Rattle.ut_stands.specs.Stands.{Stands}
 use Rattle.ut_stands.specs.Operations.{Does}
 use Rattle.ut_serving.specs.declared.request.Answer.{Answer}
 use Rattle.ut_serving.specs.declared.request.Answer.TheVariants.{Made, Damaged, Unavailable, OutOfMemory}
 use Rattle.ut_serving.specs.Own.{Asks, DoesBy}
 use Rattle.ut_serving.specs.Requests.{does, message_in}
-use Rattle.ut_serving.specs.Exchanges.{Exchange, done, store, memory, LeavesBehind, stores}
+use Rattle.ut_serving.specs.Senses.{Sense, StandsAs, is_apart}
+use Rattle.ut_serving.specs.Exchanges.{Exchange, apart, done, store, memory, LeavesBehind, stores}
 use Rattle.ut_serving.specs.Answers.{Answers, IsDamaged, IsFixed, IsMade, IsUnavailable, bytes_in, is_made, outcome_of}
 use Rattle.ut_serving.proofs.Worlds.{lower, upper}
 
@@ -25,43 +26,50 @@ stores_more [] ys = omega arith
 stores_more (x ∷ xs) ys = let e = stores_more xs ys in omega (arith, e)
 
 -- requests after requests
-pub kept_on : (v end : World) (xs ys : List Exchange) (a b c : KeeperState) → LeavesBehind v xs a b → LeavesBehind end ys b c → LeavesBehind end (xs ++ ys) a c
-kept_on v end xs ys a b c h k = record { tables = k.tables; faults = let e = stores_more xs ys in omega (arith, h.faults, k.faults, e) }
+pub kept_on : (sense : Sense) (v end : World) (xs ys : List Exchange) (a b c : KeeperState) → LeavesBehind sense v xs a b → LeavesBehind sense end ys b c → LeavesBehind sense end (xs ++ ys) a c
+kept_on sense v end xs ys a b c h k = record { tables = k.tables; faults = let e = stores_more xs ys in omega (arith, h.faults, k.faults, e) }
 
 -- nothing was asked
-pub kept_same : (w : World) (a : KeeperState) → a.tells → Stands a.tables w → LeavesBehind w [] a a
-kept_same w a tells stands = record { tables = λ _. (tells, stands); faults = omega arith }
+pub kept_same : (sense : Sense) (w : World) (a : KeeperState) → a.tells → StandsAs sense a.tables w → LeavesBehind sense w [] a a
+kept_same sense w a tells stands = record { tables = λ _. (tells, stands); faults = omega arith }
 
 -- only reads, before the first request
-pub kept_opened : (w : World) (a b : KeeperState) → Steps a b → (IsTrue b.trusted → Shows b a.tables) → Stands a.tables w → LeavesBehind w [] a b
-kept_opened w a b steps shows stands = record { tables = λ is. let s = shows is in (s.0, rw s.1 stands); faults = omega (arith, steps.counts) }
+pub kept_opened : (sense : Sense) (w : World) (a b : KeeperState) → Steps a b → (IsTrue b.trusted → Shows b a.tables) → StandsAs sense a.tables w → LeavesBehind sense w [] a b
+kept_opened sense w a b steps shows stands = record { tables = λ is. let s = shows is in (s.0, rw s.1 stands); faults = omega (arith, steps.counts) }
 
 -- ---- one request
 
-module _ (w : World) (m : HttpMessage) (now : ℕ) (old new : KeeperState) where
-  pub answered_done : (bytes : List ℕ) → Steps old new → Does Stands (does (message_in m) m.close now) w new (Ok bytes) → Answers w m now old new bytes
-  answered_done bytes steps h = (done, h.0, record { tables = λ _. h.1; faults = omega (arith, steps.counts) })
+module _ (sense : Sense) (w : World) (m : HttpMessage) (now : ℕ) (old new : KeeperState) where
+  abbrev IsDone : Result (List ℕ) StoreFail → Type 0
+  IsDone r = Does (StandsAs sense) (does (message_in m) m.close now) w new r
 
-  pub answered_store : (e : StoreFail) (bytes : List ℕ) → Rose old.faults new.faults → Does Stands (does (message_in m) m.close now) w new (Err e) → bytes ≡ reply_to m.method 503 store_failed m.close → Answers w m now old new bytes
-  answered_store e bytes rose h is = (store, is, record { tables = λ _. h.1; faults = omega (arith, rose) })
+  answered_done : (bytes : List ℕ) → Steps old new → IsDone (Ok bytes) → Answers sense w m now old new bytes
+  answered_done bytes steps h = (done, h.0, record { tables = λ _. h.1; faults = omega (arith, steps.counts) }, tt)
 
-  pub answered_memory : (e : StoreFail) (bytes : List ℕ) → Steps old new → Does Stands (does (message_in m) m.close now) w new (Err e) → bytes ≡ reply_to m.method 507 no_memory m.close → Answers w m now old new bytes
-  answered_memory e bytes steps h is = (memory, is, record { tables = λ _. h.1; faults = omega (arith, steps.counts) })
+  answered_store : (e : StoreFail) (bytes : List ℕ) → Rose old.faults new.faults → IsDone (Err e) → bytes ≡ reply_to m.method 503 store_failed m.close → Answers sense w m now old new bytes
+  answered_store e bytes rose h is = (store, is, record { tables = λ _. h.1; faults = omega (arith, rose) }, tt)
+
+  answered_memory : (e : StoreFail) (bytes : List ℕ) → Steps old new → IsDone (Err e) → bytes ≡ reply_to m.method 507 no_memory m.close → Answers sense w m now old new bytes
+  answered_memory e bytes steps h is = (memory, is, record { tables = λ _. h.1; faults = omega (arith, steps.counts) }, tt)
 
   -- an answer by how the request ended
-  pub answered_by : (a : Answer) → IsFixed m a → Asks (message_in m) old new (outcome_of a) → Does Stands (does (message_in m) m.close now) w new (outcome_of a) → Answers w m now old new (bytes_in m.method a)
+  pub answered_by : (a : Answer) → IsFixed m a → Asks (message_in m) old new (outcome_of a) → IsDone (outcome_of a) → Answers sense w m now old new (bytes_in m.method a)
   answered_by (Made bytes) form asks h = answered_done bytes asks.steps h
   answered_by (Damaged bytes) form asks h = absurd (h.0 refl)
   answered_by (Unavailable close) form asks h = answered_store Keeper (reply_to m.method 503 store_failed close) (asks.cause.rose refl) h (ap (reply_to m.method 503 store_failed) form)
   answered_by (OutOfMemory close) form asks h = answered_memory Memory (reply_to m.method 507 no_memory close) asks.steps h (ap (reply_to m.method 507 no_memory) form)
 
+  -- one to a message of an organisation that is apart
+  pub answered_apart : (bytes : List ℕ) → is_apart sense (org_named (message_in m)) ≡ true → Steps old new → new.tells → StandsAs sense new.tables w → Answers sense w m now old new bytes
+  answered_apart bytes is steps tells stands = (apart bytes, refl, record { tables = λ _. (tells, stands); faults = omega (arith, steps.counts) }, is)
+
 -- ---- an answer, whatever the tables have
 
-pub undamaged_by : (d : World → List ℕ × World) (w : World) (new : KeeperState) (a : Answer) → Does Stands d w new (outcome_of a) → IsDamaged a → ⊥
-undamaged_by d w new (Made bytes) h is = is
-undamaged_by d w new (Damaged bytes) h is = h.0 refl
-undamaged_by d w new (Unavailable close) h is = is
-undamaged_by d w new (OutOfMemory close) h is = is
+pub undamaged_by : (stands : Tables → World → Type 0) (d : World → List ℕ × World) (w : World) (new : KeeperState) (a : Answer) → Does stands d w new (outcome_of a) → IsDamaged a → ⊥
+undamaged_by stands d w new (Made bytes) h is = is
+undamaged_by stands d w new (Damaged bytes) h is = h.0 refl
+undamaged_by stands d w new (Unavailable close) h is = is
+undamaged_by stands d w new (OutOfMemory close) h is = is
 
 not_made : (old new : KeeperState) (a : Answer) → OnErr (outcome_of a) (Shows new old.tables) → (IsMade a → ⊥) → Shows new old.tables
 not_made old new (Made bytes) h made = absurd (made tt)

@@ -9,6 +9,7 @@ use Rattle.ut_stands.specs.Operations.{Does}
 use Rattle.ut_stands.specs.Stands.{Stands}
 use Rattle.ut_serving.specs.Leads.{IsReached, Leads, LeadsFrom, StandsReached, led_to}
 use Rattle.ut_serving.specs.Requests.{does}
+use Rattle.ut_serving.specs.Senses.{StandsAs, of_all}
 use Rattle.ut_step.specs.Step.{step}
 
 led_more : (w : World) (ps qs : List (Message × ℕ)) → led_to (led_to w ps) qs ≡ led_to w (ps ++ qs)
@@ -65,7 +66,7 @@ led_then a b c h steps next tells is w stands = led_on w a b c (h tells is w sta
 
 -- one request
 pub led_by_request : (m : Message) (close : Bool) (now : ℕ) (old new : KeeperState) (r : Result (List ℕ) StoreFail)
-    → (Tells old new → (w : World) → Stands old.tables w → Does Stands (does m close now) w new r)
+    → (Tells old new → (w : World) → Stands old.tables w → Does (StandsAs of_all) (does m close now) w new r)
     → (old.tells → IsTrue old.trusted → IsTrue new.is_clean → (w : World) → Stands old.tables w → (t : Tables) → new.may_leave t → old.may_leave t ⊎ Stands t (step w m now).1)
     → LeadsFrom old new
 led_by_request m close now old new r within crash tells is w stands = record {
@@ -76,6 +77,6 @@ led_by_request m close now old new r within crash tells is w stands = record {
   ];
 }
   where
-    by : (s : Result (List ℕ) StoreFail) → Does Stands (does m close now) w new s → new.tells × StandsReached w new.tables
+    by : (s : Result (List ℕ) StoreFail) → Does (StandsAs of_all) (does m close now) w new s → new.tells × StandsReached w new.tables
     by (Ok bytes) h = (h.1.0, ((step w m now).1, ((m, now) ∷ [], refl), h.1.1))
     by (Err e) h = (h.1.0, (w, ([], refl), h.1.1))

@@ -4,6 +4,9 @@ pub mod Stepping
 pub mod Messages
 pub mod Asked
 pub mod Worlds
+pub mod Elsewhere
+pub mod Apart
+pub mod Answering
 pub mod Leading
 pub mod Turned
 pub mod Goes

@@ -124,6 +124,22 @@ module _ (m : Message) (close : Bool) (old new : KeeperState) where
 
 -- ---- the keeper
 
+-- however it ended, the keeper still tells
+pub still_tells : (before drafted : Tables) (new : KeeperState) (j : Returned) (r : Result (List ℕ) StoreFail) → Ends j before drafted new r → new.tells
+still_tells before drafted new (Ok (Same x)) (Ok y) h = h.1.0
+still_tells before drafted new (Ok (Same x)) (Err e) h = absurd h
+still_tells before drafted new (Ok (Changed x)) (Ok y) h = h.1.0
+still_tells before drafted new (Ok (Changed x)) (Err e) h = h.1.0
+still_tells before drafted new (Err e) (Ok y) h = absurd h
+still_tells before drafted new (Err e) (Err f) h = h.1.0
+
+-- what is damaged was judged so, and nothing is to be made
+damaged_before : (before drafted : Tables) (new : KeeperState) (j : Returned) (r : Result (List ℕ) StoreFail) → Ends j before drafted new r → r ≡ Err Damaged → IsChange j → ⊥
+damaged_before before drafted new (Ok (Same x)) r h is change = change
+damaged_before before drafted new (Ok (Changed x)) (Ok y) h is change = absurd cc
+damaged_before before drafted new (Ok (Changed x)) (Err e) h is change = let damaged : e ≡ Damaged = cc in h.0 damaged
+damaged_before before drafted new (Err e) r h is change = change
+
 -- the data rows that may be shown over a draft
 abbrev pub shown_most : {K : Type 0} → Message → (K → KeeperState) → Held K → ℕ
 shown_most m state d = message_shown_beside m (removals_of state data_table d)
@@ -170,18 +186,20 @@ module _ {K : Type 0} (state : K → KeeperState) (d e : Held K) (new : KeeperSt
 
   -- what the request keeps of the keeper
   pub asks_by : (m : Message) → ChangesNothing d → DraftWorks state message_changes request_gone (shown_most m state d) d e → StaysAfter (is_ok j) (state d.keeper.now) (state e.keeper.now)
-      → KeeperCause (state d.keeper.now) (state e.keeper.now) (IsErrOf j Keeper) → Quiet (state d.keeper.now) (state e.keeper.now) (IsErrOf j Keeper) → Finishes j (count_of e) (state e.keeper.now) new r → TrustedAfter true (state d.keeper.now) → Asks m (state d.keeper.now) new r
-  asks_by m empty works stays cause quiet finishes before = record {
+      → KeeperCause (state d.keeper.now) (state e.keeper.now) (IsErrOf j Keeper) → Quiet (state d.keeper.now) (state e.keeper.now) (IsErrOf j Keeper) → Finishes j (count_of e) (state e.keeper.now) new r → (before drafted : Tables) → (Tells (state d.keeper.now) new → Ends j before drafted new r) → TrustedAfter true (state d.keeper.now) → Asks m (state d.keeper.now) new r
+  asks_by m empty works stays cause quiet finishes first drafted ends before = record {
     steps = steps_on (state d.keeper.now) (state e.keeper.now) new works.reads.steps finishes.steps;
     trusted = trusted_by before stays finishes.stays finishes.stopped works.reads.steps finishes.steps;
     cause = cause_by cause finishes.cause finishes.stopped works.reads.steps finishes.steps;
     quiet = quiet_by quiet finishes.quiet finishes.stopped;
     written = let few : count_of e ≤ count_of d + message_changes = works.changes in let none : count_of d ≡ 0 = ap length empty in omega (arith, few, none, finishes.written, works.reads.written);
+    unwritten = λ told is. finishes.unwritten (damaged_before first drafted new j r (ends told) is) ∙ works.reads.written;
     shown = λ told.
         let most = works.shows (told.0, finishes.steps.stood told.1) in
         let none : removals_of state data_table d ≡ 0 = ap (removals data_table) empty in
         let same : new.shown data_table ≡ (state e.keeper.now).shown data_table = ap (λ (f : ℕ → ℕ). f data_table) finishes.shown in
         omega (arith, most, none, same);
+    told = λ told. still_tells first drafted new j r (ends told);
   }
 
 -- ---- answers that are made of it

@@ -11,11 +11,11 @@ use Rattle.ut_http.specs.declared.message.HttpMessage.{HttpMessage}
 use Rattle.ut_io.specs.Moments.{AskedOnce, IsFirstMoment, after_asking}
 use Rattle.ut_keeper.specs.State.{KeeperState}
 use Rattle.ut_model.specs.World.{World}
-use Rattle.ut_stands.specs.Stands.{Stands}
+use Rattle.ut_serving.specs.Senses.{Sense, StandsAs}
 use Rattle.ut_serving.specs.Answers.{Answers, exchange}
 use Rattle.ut_serving.specs.Requests.{last_reply}
 use Rattle.ut_serving.specs.Exchanges.{Exchange, reply_in, world_after}
-use Rattle.ut_serving.specs.Connections.{Place, Over, at_end, at_refusal, at_memory, at_fault, IsOver, IsOutput, last_words, end_by}
+use Rattle.ut_serving.specs.Connections.{Place, Over, at_end, at_refusal, at_memory, at_fault, IsOver, IsOutput, last_message, last_words, end_by}
 use Rattle.ut_serving.specs.Turning.{IsHere, Turns, Wrote, Replied, RepliesTo, RefusesWith, over_if_written}
 use Rattle.ut_serving.specs.declared.wire.LineFail.{LineFail}
 use Rattle.ut_serving.specs.declared.wire.LineFail.TheVariants.{Read, Write}
@@ -51,15 +51,16 @@ asked_at (Some a) (Some b) moments e h = let is : a ≡ moments = cc in ap Some 
 
 -- ---- the reply to a message
 
-pub replied : (w : World) (m : HttpMessage) (moments : List ℕ) (old new : KeeperState) (coming coming2 before after : Option (List ℕ)) (now : ℕ) (bytes : List ℕ) (s : Result (Unit {0}) LineFail)
-    → coming ≡ Some moments → IsFirstMoment coming now → AskedOnce coming coming2 → Answers w m now old new bytes → Wrote before after bytes s → RepliesTo w m moments old new coming2 before after s
-replied w m moments old new coming coming2 before after now bytes s e first asked answers wrote = (
+pub replied : (sense : Sense) (w : World) (m : HttpMessage) (moments : List ℕ) (old new : KeeperState) (coming coming2 before after : Option (List ℕ)) (now : ℕ) (bytes : List ℕ) (s : Result (Unit {0}) LineFail)
+    → coming ≡ Some moments → IsFirstMoment coming now → AskedOnce coming coming2 → Answers sense w m now old new bytes → Wrote before after bytes s → RepliesTo sense w m moments old new coming2 before after s
+replied sense w m moments old new coming coming2 before after now bytes s e first asked answers wrote = (
   now,
   answers.0,
   subst (λ (c : Option (List ℕ)). IsFirstMoment c now) e first,
   answers.2,
   asked_at coming coming2 moments e asked,
   subst (λ (t : List ℕ). Wrote before after t s) answers.1 wrote,
+  answers.3,
 )
 
 as_replied : (before mid after : Option (List ℕ)) (x : Exchange) (s : Result (Unit {0}) LineFail) → known.Keeps before mid → Wrote mid after (reply_in x) s → Replied before after x (over_if_written x.close s)
@@ -67,45 +68,45 @@ as_replied before mid after x (Ok done) h k = (refl, appends_then before mid aft
 as_replied before mid after x (Err Write) h (n, within, k) = (n, within, appends_then before mid after (take n (reply_in x)) h k)
 as_replied before mid after x (Err Read) h k = absurd k
 
-module _ (p : Place) (coming left : Option (List ℕ)) (here : IsHere p coming left) (going : p.closed ≡ false) where
+module _ (sense : Sense) (p : Place) (coming left : Option (List ℕ)) (here : IsHere p coming left) (going : p.closed ≡ false) where
   pub message_turn : (m : HttpMessage) (close last : Bool) (old new : KeeperState) (bytes : List ℕ) (left2 left3 coming2 before mid after : Option (List ℕ)) (s : Result (Unit {0}) LineFail)
-      → close ≡ (m.close || last) → eqb p.count 999 ≡ last → Between left (prepend_known bytes left2) (λ i rest. IsItem i (whole m) rest) → known.Keeps before mid → known.Keeps left2 left3
-      → RepliesTo p.world (record m { close = close }) p.moments old new coming2 mid after s
-      → Turns p old new coming2 (prepend_known bytes left3) before after (over_if_written close s)
-  message_turn m close last old new bytes left2 left3 coming2 before mid after s closes full item unwritten unread (now, o, first, kept, later, wrote) =
+      → close ≡ (m.close || last) → eqb p.count last_message ≡ last → Between left (prepend_known bytes left2) (λ i rest. IsItem i (whole m) rest) → known.Keeps before mid → known.Keeps left2 left3
+      → RepliesTo sense p.world (record m { close = close }) p.moments old new coming2 mid after s
+      → Turns sense p old new coming2 (prepend_known bytes left3) before after (over_if_written close s)
+  message_turn m close last old new bytes left2 left3 coming2 before mid after s closes full item unwritten unread (now, o, first, kept, later, wrote, known) =
       let x : Exchange = exchange p.world (record m { close = close }) now o in
       let it = item_at left (prepend_known bytes left2) p.input (λ i rest. IsItem i (whole m) rest) here.1 item in
       inl (
         x,
         record { world = world_after x; moments = after_asking p.moments; input = it.0; count = p.count + 1; closed = close },
-        record { goes_on = going; request = m; item = it.2; message = refl; world = refl; moment = first; close = closes ∙ ap (λ b. m.close || b) (sym full); next = refl },
+        record { goes_on = going; request = m; item = it.2; message = refl; world = refl; moment = first; close = closes ∙ ap (λ b. m.close || b) (sym full); known = known; next = refl },
         kept,
         (later, still_there bytes left2 left3 it.0 it.1 unread),
         as_replied before mid after x s unwritten wrote,
       )
 
-  module _ (k : KeeperState) (tells : k.tells) (stands : Stands k.tables p.world) (left2 before mid : Option (List ℕ)) (unwritten : known.Keeps before mid) where
-    pub end_turn : Between left left2 (λ i rest. IsItem i ended rest) → Turns p k k coming left2 before mid (Ok true)
+  module _ (k : KeeperState) (tells : k.tells) (stands : StandsAs sense k.tables p.world) (left2 before mid : Option (List ℕ)) (unwritten : known.Keeps before mid) where
+    pub end_turn : Between left left2 (λ i rest. IsItem i ended rest) → Turns sense p k k coming left2 before mid (Ok true)
     end_turn item =
         let it = item_at left left2 p.input (λ i rest. IsItem i ended rest) here.1 item in
-        inr (at_end, true, (refl, going, inl (refl, it.2.1)), kept_same p.world k tells stands, here.0, [], refl, nothing before mid unwritten, refl)
+        inr (at_end, true, (refl, going, inl (refl, it.2.1)), kept_same sense p.world k tells stands, here.0, [], refl, nothing before mid unwritten, refl)
 
-    pub cut_turn : Between left left2 (λ i rest. IsItem i broken rest) → Turns p k k coming left2 before mid (Ok true)
+    pub cut_turn : Between left left2 (λ i rest. IsItem i broken rest) → Turns sense p k k coming left2 before mid (Ok true)
     cut_turn item =
         let it = item_at left left2 p.input (λ i rest. IsItem i broken rest) here.1 item in
-        inr (at_end, true, (refl, going, inr (refl, it.2.1)), kept_same p.world k tells stands, here.0, [], refl, nothing before mid unwritten, refl)
+        inr (at_end, true, (refl, going, inr (refl, it.2.1)), kept_same sense p.world k tells stands, here.0, [], refl, nothing before mid unwritten, refl)
 
-    pub read_turn : Turns p k k coming left2 before mid (Err Read)
-    read_turn = inr (at_fault, true, (λ _. going), kept_same p.world k tells stands, here.0, [], refl, nothing before mid unwritten, refl)
+    pub read_turn : Turns sense p k k coming left2 before mid (Err Read)
+    read_turn = inr (at_fault, true, (λ _. going), kept_same sense p.world k tells stands, here.0, [], refl, nothing before mid unwritten, refl)
 
     words : (after left3 : Option (List ℕ)) (o : Over) (word : List ℕ) (s : Result (Unit {0}) LineFail) → last_words o ≡ word ∷ [] → ((written : Bool) → IsOver o written p) → end_by true o ≡ Ok tt
-        → Wrote mid after word s → Turns p k k coming left3 before after (over_if_written true s)
+        → Wrote mid after word s → Turns sense p k k coming left3 before after (over_if_written true s)
     words after left3 o word (Ok done) is over all wrote =
         inr (
           o,
           true,
           over true,
-          kept_same p.world k tells stands,
+          kept_same sense p.world k tells stands,
           here.0,
           word,
           subst (λ (ts : List (List ℕ)). IsOutput ts true word) (sym is) (sym (append-nil word)),
@@ -117,7 +118,7 @@ module _ (p : Place) (coming left : Option (List ℕ)) (here : IsHere p coming l
           o,
           false,
           over false,
-          kept_same p.world k tells stands,
+          kept_same sense p.world k tells stands,
           here.0,
           take n word,
           subst (λ (ts : List (List ℕ)). IsOutput ts false (take n word)) (sym is) ([], word, n, refl, within, refl),
@@ -126,10 +127,10 @@ module _ (p : Place) (coming left : Option (List ℕ)) (here : IsHere p coming l
         )
     words after left3 o word (Err Read) is over all wrote = absurd wrote
 
-    pub memory_turn : (after left3 : Option (List ℕ)) (s : Result (Unit {0}) LineFail) → Wrote mid after (reply 507 no_memory true) s → Turns p k k coming left3 before after (over_if_written true s)
+    pub memory_turn : (after left3 : Option (List ℕ)) (s : Result (Unit {0}) LineFail) → Wrote mid after (reply 507 no_memory true) s → Turns sense p k k coming left3 before after (over_if_written true s)
     memory_turn after left3 s wrote = words after left3 at_memory (reply 507 no_memory true) s refl (λ _. going) refl wrote
 
-    pub refused_turn : (after left3 : Option (List ℕ)) (e : HttpFail) (s : Result (Unit {0}) LineFail) → Between left left2 (λ i rest. IsItem i (refused e) rest) → RefusesWith e mid after s → Turns p k k coming left3 before after (over_if_written true s)
+    pub refused_turn : (after left3 : Option (List ℕ)) (e : HttpFail) (s : Result (Unit {0}) LineFail) → Between left left2 (λ i rest. IsItem i (refused e) rest) → RefusesWith e mid after s → Turns sense p k k coming left3 before after (over_if_written true s)
     refused_turn after left3 e s item (inl wrote) =
         let it = item_at left left2 p.input (λ i rest. IsItem i (refused e) rest) here.1 item in
         words after left3 (at_refusal e) (last_reply e) s refl (λ _. (going, (refl, it.2.1))) refl wrote

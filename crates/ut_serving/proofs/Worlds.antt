@@ -20,6 +20,7 @@ use Rattle.ut_step.specs.Own.{own_step}
 use Rattle.ut_step.specs.Step.{step}
 use Rattle.ut_serving.specs.Own.{DoesBy, DoesUnnamed, bytes_of, own_does, unnamed_bytes}
 use Rattle.ut_serving.specs.Requests.{does}
+use Rattle.ut_serving.specs.Senses.{StandsAs, of_all}
 
 -- what `ut_stands` says of a world and each of its organisations
 pub record WorldLaws : Type 0 where
@@ -29,7 +30,7 @@ pub record WorldLaws : Type 0 where
   pub nobody : (p : Plan) (m after : Tables) (w : World) (n : ℕ) (q : OrgPlan) → n < 2 ^ 32 → StandsBy p m w → tenant_at w n ≡ None → StandsIn n q after None → KeepsOthers n m after → StandsBy p after w
 
 -- the world after an operation of one organisation
-abbrev world_with : World → ℕ → Option Tenant → World
+abbrev pub world_with : World → ℕ → Option Tenant → World
 world_with w n None = w
 world_with w n (Some u) = with_tenant w n u
 
@@ -40,7 +41,7 @@ pub upper : {a b : ℕ} → nat_lt a b ≡ false → b ≤ a
 upper h = grind (arith, nat_tests)
 
 -- no organisation has such a number
-beyond : (w : World) (n : ℕ) → length w < n → tenant_at w n ≡ None
+pub beyond : (w : World) (n : ℕ) → length w < n → tenant_at w n ≡ None
 beyond w zero h = refl
 beyond [] (suc n) h = refl
 beyond (x ∷ w) (suc zero) h = absurd (omega arith)
@@ -48,7 +49,7 @@ beyond (x ∷ w) (suc (suc n)) h = beyond w (suc n) (omega (arith, h))
 
 module _ (m : Message) (close : Bool) (now : ℕ) where
   -- the step of the world where the key names these, or nothing
-  step_unnamed : (w : World) → key_in m ≡ None → step w m now ≡ (refusal_reply InvalidSession, w)
+  pub step_unnamed : (w : World) → key_in m ≡ None → step w m now ≡ (refusal_reply InvalidSession, w)
   unfolding step
   step_unnamed w e = ap (in_key answered w m now) e
 
@@ -60,15 +61,21 @@ module _ (m : Message) (close : Bool) (now : ℕ) where
   step_at n w None e at = step_named n w e ∙ ap (in_tenant w n.org (answer_in answered n m now)) at
   step_at n w (Some t) e at = step_named n w e ∙ ap (in_tenant w n.org (answer_in answered n m now)) at
 
-  does_of : (w v : World) (r : Reply) → step w m now ≡ (r, v) → does m close now w ≡ (bytes_of m close r, v)
+  pub does_of : (w v : World) (r : Reply) → step w m now ≡ (r, v) → does m close now w ≡ (bytes_of m close r, v)
   does_of w v r e = ap (λ (s : Reply × World). (bytes_of m close s.0, s.1)) e
 
-  beyond_step : (n : Named) (w : World) → key_in m ≡ Some n → tenant_at w n.org ≡ None → does m close now w ≡ (unnamed_bytes m close, w)
+  pub beyond_step : (n : Named) (w : World) → key_in m ≡ Some n → tenant_at w n.org ≡ None → does m close now w ≡ (unnamed_bytes m close, w)
   beyond_step n w e at = does_of w w (refusal_reply InvalidSession) (step_at n w None e at)
 
--- an operation that does the same
-done_so : (d : World → List ℕ × World) (w v : World) (x : List ℕ) (new : KeeperState) (y : List ℕ) → d w ≡ (x, v) → y ≡ x → new.tells → Stands new.tables v → Does Stands d w new (Ok y)
-done_so d w v x new y is e tells stands = (e ∙ sym (ap (λ (s : List ℕ × World). s.0) is), (tells, subst (Stands new.tables) (sym (ap (λ (s : List ℕ × World). s.1) is)) stands))
+  -- in the organisation that is named
+  pub does_named : (n : Named) (w : World) → key_in m ≡ Some n → does m close now w ≡ ((own_does n m close now (tenant_at w n.org)).0, world_with w n.org (own_does n m close now (tenant_at w n.org)).1)
+  does_named n w e =
+      let t = tenant_at w n.org in
+      does_of w (world_with w n.org (own_step n m now t).1) (own_step n m now t).0 (step_at n w t e refl)
+
+-- an operation that does the same, in any sense of standing
+pub done_so : (stands : Tables → World → Type 0) (d : World → List ℕ × World) (w v : World) (x : List ℕ) (new : KeeperState) (y : List ℕ) → d w ≡ (x, v) → y ≡ x → new.tells → stands new.tables v → Does stands d w new (Ok y)
+done_so stands d w v x new y is e tells there = (e ∙ sym (ap (λ (s : List ℕ × World). s.0) is), (tells, subst (stands new.tables) (sym (ap (λ (s : List ℕ × World). s.1) is)) there))
 
 module _ (laws : WorldLaws) (m : Message) (close : Bool) (now : ℕ) (old new : KeeperState) (w : World) (s : Stands old.tables w) where
   -- the number of an organisation that there isn't
@@ -85,17 +92,12 @@ module _ (laws : WorldLaws) (m : Message) (close : Bool) (now : ℕ) (old new : 
   own_at : (n : Named) → n.org < 2 ^ 32 → StandsIn n.org (s.0.org n.org) old.tables (tenant_at w n.org)
   own_at n lo = laws.each s.0 old.tables w n.org lo s.1
 
-  does_own : (n : Named) → key_in m ≡ Some n → does m close now w ≡ ((own_does n m close now (tenant_at w n.org)).0, world_with w n.org (own_does n m close now (tenant_at w n.org)).1)
-  does_own n e =
-      let t = tenant_at w n.org in
-      does_of m close now w (world_with w n.org (own_step n m now t).1) (own_step n m now t).0 (step_at m close now n w t e refl)
-
   -- in the organisation that is named
-  named_world : (n : Named) (r : Result (List ℕ) StoreFail) → key_in m ≡ Some n → n.org < 2 ^ 32 → DoesIn n.org (own_does n m close now) old new r → Tells old new → Does Stands (does m close now) w new r
+  named_world : (n : Named) (r : Result (List ℕ) StoreFail) → key_in m ≡ Some n → n.org < 2 ^ 32 → DoesIn n.org (own_does n m close now) old new r → Tells old new → Does (StandsAs of_all) (does m close now) w new r
   named_world n (Ok y) e lo h told =
       let t = tenant_at w n.org in
       let d = h.done told (s.0.org n.org) t (own_at n lo) in
-      done_so (does m close now) w (world_with w n.org (own_does n m close now t).1) (own_does n m close now t).0 new y (does_own n e) d.0 d.1.0
+      done_so Stands (does m close now) w (world_with w n.org (own_does n m close now t).1) (own_does n m close now t).0 new y (does_named m close now n w e) d.0 d.1.0
       (whole_after n t lo refl new.tables (h.others told) d.1.1)
   named_world n (Err f) e lo h told =
       let d = h.done told (s.0.org n.org) (tenant_at w n.org) (own_at n lo) in
@@ -103,19 +105,19 @@ module _ (laws : WorldLaws) (m : Message) (close : Bool) (now : ℕ) (old new : 
       (d.0, (k.0, subst (λ (x : Tables). Stands x w) (sym k.1) s))
 
   -- of no organisation
-  unnamed_world : (r : Result (List ℕ) StoreFail) → does m close now w ≡ (unnamed_bytes m close, w) → DoesUnnamed m close old new r → Tells old new → Does Stands (does m close now) w new r
+  unnamed_world : (r : Result (List ℕ) StoreFail) → does m close now w ≡ (unnamed_bytes m close, w) → DoesUnnamed m close old new r → Tells old new → Does (StandsAs of_all) (does m close now) w new r
   unnamed_world (Ok y) e h told =
       let k = h.kept told in
-      done_so (does m close now) w w (unnamed_bytes m close) new y e (h.reply told) k.0 (subst (λ (x : Tables). Stands x w) (sym k.1) s)
+      done_so Stands (does m close now) w w (unnamed_bytes m close) new y e (h.reply told) k.0 (subst (λ (x : Tables). Stands x w) (sym k.1) s)
   unnamed_world (Err f) e h told =
       let k = h.kept told in
       ((λ d. h.undamaged told (ap (λ e. Err e) d)), (k.0, subst (λ (x : Tables). Stands x w) (sym k.1) s))
 
-  pub by_world : (key : Option Named) (r : Result (List ℕ) StoreFail) → key_in m ≡ key → DoesBy key m close now old new r → Tells old new → Does Stands (does m close now) w new r
+  pub by_world : (key : Option Named) (r : Result (List ℕ) StoreFail) → key_in m ≡ key → DoesBy key m close now old new r → Tells old new → Does (StandsAs of_all) (does m close now) w new r
   by_world None r e h told = unnamed_world r (does_of m close now w w (refusal_reply InvalidSession) (step_unnamed m close now w e)) h told
   by_world (Some n) r e h told = by (nat_lt n.org (2 ^ 32)) refl
     where
-      by : (b : Bool) → nat_lt n.org (2 ^ 32) ≡ b → Does Stands (does m close now) w new r
+      by : (b : Bool) → nat_lt n.org (2 ^ 32) ≡ b → Does (StandsAs of_all) (does m close now) w new r
       by true lo = let l : n.org < 2 ^ 32 = lower lo in named_world n r e l (h.0 l) told
       by false hi = let l : 2 ^ 32 ≤ n.org = upper hi in unnamed_world r (beyond_step m close now n w e (none_beyond n.org l)) (h.1 l) told
 

@@ -9,8 +9,9 @@ use Rattle.ut_model.specs.Bodies.{damaged_body}
 use Rattle.ut_model.specs.World.{World}
 use Rattle.ut_serving.specs.declared.request.Answer.{Answer}
 use Rattle.ut_serving.specs.declared.request.Answer.TheVariants.{Made, Damaged, Unavailable, OutOfMemory}
-use Rattle.ut_serving.specs.Exchanges.{Exchange, LeavesBehind, Outcome, reply_in, world_after}
+use Rattle.ut_serving.specs.Exchanges.{Exchange, IsKnownIn, LeavesBehind, Outcome, reply_in, world_after}
 use Rattle.ut_serving.specs.Requests.{message_in}
+use Rattle.ut_serving.specs.Senses.{Sense}
 
 -- the bytes that an answer holds to a message with this method
 abbrev pub bytes_in : (method : List ℕ) → Answer → List ℕ
@@ -63,6 +64,7 @@ abbrev pub exchange : World → HttpMessage → (now : ℕ) → Outcome → Exch
 exchange w m now o = record { world = w; message = message_in m; now = now; close = m.close; outcome = o }
 
 -- one request: what is written for it, and what it leaves behind
-abbrev pub Answers : World → HttpMessage → (now : ℕ) → KeeperState → KeeperState → List ℕ → Type 0
-Answers w m now old new out =
-    (o : Outcome) × (out ≡ reply_in (exchange w m now o)) × LeavesBehind (world_after (exchange w m now o)) (exchange w m now o ∷ []) old new
+abbrev pub Answers : Sense → World → HttpMessage → (now : ℕ) → KeeperState → KeeperState → List ℕ → Type 0
+Answers sense w m now old new out =
+    (o : Outcome) × (out ≡ reply_in (exchange w m now o)) × LeavesBehind sense (world_after (exchange w m now o)) (exchange w m now o ∷ []) old new
+    × IsKnownIn sense (exchange w m now o)

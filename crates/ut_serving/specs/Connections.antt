@@ -7,10 +7,15 @@ use Rattle.ut_http.specs.Item.{whole, refused, ended, broken, IsItem}
 use Rattle.ut_http.specs.Reply.{reply, no_memory}
 use Rattle.ut_io.specs.Moments.{IsFirstMoment, after_asking}
 use Rattle.ut_model.specs.World.{World}
-use Rattle.ut_serving.specs.Exchanges.{Exchange, reply_in, world_after}
+use Rattle.ut_serving.specs.Exchanges.{Exchange, IsKnownIn, reply_in, world_after}
 use Rattle.ut_serving.specs.Requests.{last_reply, message_in}
+use Rattle.ut_serving.specs.Senses.{Sense}
 use Rattle.ut_serving.specs.declared.wire.LineFail.{LineFail}
 use Rattle.ut_serving.specs.declared.wire.LineFail.TheVariants.{Read, Write}
+
+-- the number of a connection's last message, counted from 0: its reply closes
+abbrev pub last_message : ℕ
+last_message = 999
 
 -- ---- one request after another
 
@@ -30,7 +35,7 @@ abbrev pub begins : World → List ℕ → List ℕ → Place
 begins w moments input = record { world = w; moments = moments; input = input; count = 0; closed = false }
 
 -- the first message of the input is answered in the present world, at the next moment
-pub record IsAnswered (p : Place) (x : Exchange) (q : Place) : Type 0 where
+pub record IsAnswered (sense : Sense) (p : Place) (x : Exchange) (q : Place) : Type 0 where
   pub goes_on : p.closed ≡ false
   pub request : HttpMessage
   pub item : IsItem p.input (whole request) q.input
@@ -38,12 +43,13 @@ pub record IsAnswered (p : Place) (x : Exchange) (q : Place) : Type 0 where
   pub world : x.world ≡ p.world
   pub moment : IsFirstMoment (Some p.moments) x.now
   -- the thousandth reply closes
-  pub close : x.close ≡ (request.close || (p.count == 999))
+  pub close : x.close ≡ (request.close || (p.count == last_message))
+  pub known : IsKnownIn sense x
   pub next : q ≡ record { world = world_after x; moments = after_asking p.moments; input = q.input; count = p.count + 1; closed = x.close }
 
-abbrev pub Follows : Place → List Exchange → Place → Type 0
-Follows p [] q = q ≡ p
-Follows p (x ∷ xs) q = (next : Place) × IsAnswered p x next × Follows next xs q
+abbrev pub Follows : Sense → Place → List Exchange → Place → Type 0
+Follows sense p [] q = q ≡ p
+Follows sense p (x ∷ xs) q = (next : Place) × IsAnswered sense p x next × Follows sense next xs q
 
 -- ---- a whole connection
 
@@ -99,9 +105,9 @@ IsOver at_memory written p = p.closed ≡ false
 IsOver at_fault written p = written ≡ true → p.closed ≡ false
 
 -- a connection, from the world and the moments at its start to those at its end
-pub record IsServed (c : Connection) (w : World) (moments : List ℕ) (end : World) (later : List ℕ) : Type 0 where
+pub record IsServed (sense : Sense) (c : Connection) (w : World) (moments : List ℕ) (end : World) (later : List ℕ) : Type 0 where
   pub last : Place
-  pub follows : Follows (begins w moments c.input) c.exchanges last
+  pub follows : Follows sense (begins w moments c.input) c.exchanges last
   pub over : IsOver c.over c.written last
   pub output : IsOutput (texts c) c.written c.output
   pub world : end ≡ last.world
@@ -121,9 +127,9 @@ end_of c = end_by c.written c.over
 
 -- ---- connections in turn
 
-abbrev pub AreServed : List Connection → World → List ℕ → World → List ℕ → Type 0
-AreServed [] w moments end later = (end ≡ w) × (later ≡ moments)
-AreServed (c ∷ cs) w moments end later = (next : World) × (between : List ℕ) × IsServed c w moments next between × AreServed cs next between end later
+abbrev pub AreServed : Sense → List Connection → World → List ℕ → World → List ℕ → Type 0
+AreServed sense [] w moments end later = (end ≡ w) × (later ≡ moments)
+AreServed sense (c ∷ cs) w moments end later = (next : World) × (between : List ℕ) × IsServed sense c w moments next between × AreServed sense cs next between end later
 
 abbrev pub exchanges_of : List Connection → List Exchange
 exchanges_of [] = []

@@ -7,24 +7,25 @@ use Rattle.ut_keeper.specs.State.{KeeperState}
 use Rattle.ut_model.specs.World.{World}
 use Rattle.ut_serving.specs.Connections.{Connection, AreServed, end_of, exchanges_of, inputs_of, outputs_of, faulted}
 use Rattle.ut_serving.specs.Exchanges.{LeavesBehind}
+use Rattle.ut_serving.specs.Senses.{Sense}
 
 -- these connections of a door were served, from d to e, and from the world w and these moments on to `later`
-pub record Brings (w : World) (moments : List ℕ) (d e : DoorState) (cs : List Connection) (later : List ℕ) (before now : ℕ) (old new : KeeperState) : Type 0 where
+pub record Brings (sense : Sense) (w : World) (moments : List ℕ) (d e : DoorState) (cs : List Connection) (later : List ℕ) (before now : ℕ) (old new : KeeperState) : Type 0 where
   -- the world after them
   pub end : World
   -- they are the first of those that were to come, with their inputs
   pub inputs : d.coming ≡ inputs_of cs ++ e.coming
   -- the door has their outputs, one for each, and no more
   pub outputs_are : outputs e ≡ outputs d ++ outputs_of cs
-  pub served : AreServed cs w moments end later
-  pub kept : LeavesBehind end (exchanges_of cs) old new
+  pub served : AreServed sense cs w moments end later
+  pub kept : LeavesBehind sense end (exchanges_of cs) old new
   -- a read or a write ended at most as many of them as the faults of lines rose
   pub lines : RoseBy (faulted cs) before now
 
 -- some connections of a door were served, as `Ends` says of them, and the door and the clock tell what is left
-abbrev pub BringsTo : World → List ℕ → DoorState → (Ends : List Connection → DoorState → Type 0) → (coming : Option (List ℕ)) → (held : Option DoorState) → (before now : ℕ) → KeeperState → KeeperState → Type 0
-BringsTo w moments d Ends coming held before now old new =
-    (cs : List Connection) × (e : DoorState) × (later : List ℕ) × (held ≡ Some e) × (coming ≡ Some later) × Brings w moments d e cs later before now old new × Ends cs e
+abbrev pub BringsTo : Sense → World → List ℕ → DoorState → (Ends : List Connection → DoorState → Type 0) → (coming : Option (List ℕ)) → (held : Option DoorState) → (before now : ℕ) → KeeperState → KeeperState → Type 0
+BringsTo sense w moments d Ends coming held before now old new =
+    (cs : List Connection) × (e : DoorState) × (later : List ℕ) × (held ≡ Some e) × (coming ≡ Some later) × Brings sense w moments d e cs later before now old new × Ends cs e
 
 -- the next one was served, if there was one and the door brought it
 abbrev pub NextEnds : Result Bool IoFail → List Connection → DoorState → Type 0

@@ -16,9 +16,10 @@ use Rattle.ut_model.specs.Bodies.{damaged_body}
 use Rattle.ut_model.specs.Step.{Message}
 use Rattle.ut_model.specs.World.{World}
 use Rattle.ut_stands.specs.Stands.{Stands}
-use Rattle.ut_serving.specs.Connections.{Connection, Over, Place, AreServed, Follows, begins, inputs_of, joined, last_words, outputs_of}
+use Rattle.ut_serving.specs.Connections.{Connection, Over, Place, AreServed, Follows, last_message, begins, inputs_of, joined, last_words, outputs_of}
 use Rattle.ut_serving.specs.Exchanges.{Exchange, reply_in}
 use Rattle.ut_serving.specs.Requests.{message_in}
+use Rattle.ut_serving.specs.Senses.{of_all}
 use Rattle.ut_serving.specs.Turning.{Wrote}
 use Rattle.ut_serving.specs.declared.wire.LineFail.{LineFail}
 use Rattle.ut_serving.specs.declared.wire.LineFail.TheVariants.{Read, Write}
@@ -66,7 +67,7 @@ pub record FallsAt (p : Place) (new : KeeperState) : Type 0 where
 
 -- whether the reply to it closes the connection
 abbrev pub closes : (p : Place) (new : KeeperState) → FallsAt p new → Bool
-closes p new at = at.request.close || (p.count == 999)
+closes p new at = at.request.close || (p.count == last_message)
 
 -- the text was written, or a prefix of it if the write failed
 abbrev pub WroteIn : Option (List ℕ) → Option (List ℕ) → List ℕ → Result Bool LineFail → Type 0
@@ -94,7 +95,7 @@ pub record Falls (w : World) (moments input : List ℕ) (before after : Option (
   -- the requests that were answered before
   pub answered : List Exchange
   pub place : Place
-  pub follows : Follows (begins w moments input) answered place
+  pub follows : Follows of_all (begins w moments input) answered place
   -- the request in which it fell; its reply acknowledges nothing
   pub at : FallsAt place new
   pub text : List ℕ
@@ -112,7 +113,7 @@ pub record FallsServing (w : World) (moments : List ℕ) (d e : DoorState) (new 
   pub served : List Connection
   pub between : World
   pub later : List ℕ
-  pub are_served : AreServed served w moments between later
+  pub are_served : AreServed of_all served w moments between later
   -- the one in which it fell
   pub input : List ℕ
   pub coming : List (List ℕ)

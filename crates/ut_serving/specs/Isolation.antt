@@ -3,13 +3,14 @@ use Rattle.std.specs.Prelude.{ℕ, Bool, true, false, ◌&&◌, ◌==◌, if◌t
 use Rattle.ut_model.specs.declared.reply.Reply.{Reply}
 use Rattle.ut_model.specs.Step.{Message, org_named}
 use Rattle.ut_model.specs.World.{World}
-use Rattle.ut_serving.specs.Exchanges.{Exchange, Outcome, done, store, memory}
+use Rattle.ut_serving.specs.Exchanges.{Exchange, Outcome, apart, done, store, memory}
 use Rattle.ut_step.specs.Step.{step}
 
 abbrev pub is_done : Outcome → Bool
 is_done done = true
 is_done store = false
 is_done memory = false
+is_done (apart text) = false
 
 -- the replies to these messages, each at its moment, as the step of the world answers them from this world on
 abbrev pub replies_to : World → List (Message × ℕ) → List Reply
@@ -20,7 +21,7 @@ abbrev pub is_org : ℕ → Option ℕ → Bool
 is_org org None = false
 is_org org (Some k) = k == org
 
--- it names this organisation, and wasn't answered 503 or 507
+-- it names this organisation, and was answered as the step of the world says
 abbrev pub counts : ℕ → Exchange → Bool
 counts org x = is_done x.outcome && is_org org (org_named x.message)
 

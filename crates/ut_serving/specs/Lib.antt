@@ -1,5 +1,6 @@
 pub mod Requests
 pub mod Own
+pub mod Senses
 pub mod Exchanges
 pub mod Answers
 pub mod Leads

@@ -170,11 +170,14 @@ pub record AsksFirst (old new : KeeperState) (result : Result (Unit {0}) StoreFa
   pub cause : KeeperCause old new (IsErrOf result Keeper)
   pub quiet : Quiet old new (IsErrOf result Keeper)
 
--- what a message keeps of a keeper: a reply is made only while it is trusted, few rows are written, and few are shown
+-- what a message keeps of a keeper: a reply is made only while it is trusted, few rows are written, none where a row can't be read,
+-- and few are shown
 pub record Asks {X : Type 0} (m : Message) (old new : KeeperState) (result : Result X StoreFail) : Type 0 where
   pub steps : Steps old new
   pub trusted : TrustedAfter (is_ok result) new
   pub cause : KeeperCause old new (IsErrOf result Keeper)
   pub quiet : Quiet old new (IsErrOf result Keeper)
   pub written : new.written ≤ old.written + message_changes
+  pub unwritten : Tells old new → IsErrOf result Damaged → new.written ≡ old.written
   pub shown : Tells old new → ShowsMost (message_shown m) old new
+  pub told : Tells old new → new.tells

@@ -10,8 +10,9 @@ use Rattle.ut_keeper.specs.State.{KeeperState}
 use Rattle.ut_model.specs.World.{World}
 use Rattle.ut_serving.specs.Answers.{exchange}
 use Rattle.ut_serving.specs.Connections.{Connection, IsAnswered, IsOutput, IsOver, IsServed, Over, Place, end_by, end_of, last_words}
-use Rattle.ut_serving.specs.Exchanges.{Exchange, LeavesBehind, Outcome, reply_in, world_after}
+use Rattle.ut_serving.specs.Exchanges.{Exchange, IsKnownIn, LeavesBehind, Outcome, reply_in, world_after}
 use Rattle.ut_serving.specs.Requests.{last_reply}
+use Rattle.ut_serving.specs.Senses.{Sense}
 use Rattle.ut_serving.specs.declared.wire.LineFail.{LineFail}
 use Rattle.ut_serving.specs.declared.wire.LineFail.TheVariants.{Read, Write}
 
@@ -40,23 +41,23 @@ abbrev pub over_by : Result (Unit {0}) LineFail → Result Bool LineFail
 over_by r = over_if_written true r
 
 -- one turn: a request is answered, or the connection is over
-abbrev pub Turns : Place → KeeperState → KeeperState → Option (List ℕ) → Option (List ℕ) → Option (List ℕ) → Option (List ℕ) → Result Bool LineFail → Type 0
-Turns p old new coming input before after result =
-    ((x : Exchange) × (q : Place) × IsAnswered p x q × LeavesBehind q.world (x ∷ []) old new × IsHere q coming input × Replied before after x result)
-    ⊎ ((o : Over) × (written : Bool) × IsOver o written p × LeavesBehind p.world [] old new × (coming ≡ Some p.moments)
+abbrev pub Turns : Sense → Place → KeeperState → KeeperState → Option (List ℕ) → Option (List ℕ) → Option (List ℕ) → Option (List ℕ) → Result Bool LineFail → Type 0
+Turns sense p old new coming input before after result =
+    ((x : Exchange) × (q : Place) × IsAnswered sense p x q × LeavesBehind sense q.world (x ∷ []) old new × IsHere q coming input × Replied before after x result)
+    ⊎ ((o : Over) × (written : Bool) × IsOver o written p × LeavesBehind sense p.world [] old new × (coming ≡ Some p.moments)
     × (out : List ℕ) × IsOutput (last_words o) written out × Appends before after out × (result ≡ over_by (end_by written o)))
 
 -- a whole connection
-abbrev pub Serves : World → List ℕ → List ℕ → KeeperState → KeeperState → Option (List ℕ) → Option (List ℕ) → Option (List ℕ) → Result (Unit {0}) LineFail → Type 0
-Serves w moments input old new coming before after result =
-    (c : Connection) × (end : World) × (later : List ℕ) × (c.input ≡ input) × IsServed c w moments end later × LeavesBehind end c.exchanges old new
+abbrev pub Serves : Sense → World → List ℕ → List ℕ → KeeperState → KeeperState → Option (List ℕ) → Option (List ℕ) → Option (List ℕ) → Result (Unit {0}) LineFail → Type 0
+Serves sense w moments input old new coming before after result =
+    (c : Connection) × (end : World) × (later : List ℕ) × (c.input ≡ input) × IsServed sense c w moments end later × LeavesBehind sense end c.exchanges old new
     × (coming ≡ Some later) × Appends before after c.output × (result ≡ end_of c)
 
 -- a message was answered, and the reply written
-abbrev pub RepliesTo : World → HttpMessage → List ℕ → KeeperState → KeeperState → Option (List ℕ) → Option (List ℕ) → Option (List ℕ) → Result (Unit {0}) LineFail → Type 0
-RepliesTo w m moments old new coming before after result =
-    (now : ℕ) × (o : Outcome) × IsFirstMoment (Some moments) now × LeavesBehind (world_after (exchange w m now o)) (exchange w m now o ∷ []) old new
-    × (coming ≡ Some (after_asking moments)) × Wrote before after (reply_in (exchange w m now o)) result
+abbrev pub RepliesTo : Sense → World → HttpMessage → List ℕ → KeeperState → KeeperState → Option (List ℕ) → Option (List ℕ) → Option (List ℕ) → Result (Unit {0}) LineFail → Type 0
+RepliesTo sense w m moments old new coming before after result =
+    (now : ℕ) × (o : Outcome) × IsFirstMoment (Some moments) now × LeavesBehind sense (world_after (exchange w m now o)) (exchange w m now o ∷ []) old new
+    × (coming ≡ Some (after_asking moments)) × Wrote before after (reply_in (exchange w m now o)) result × IsKnownIn sense (exchange w m now o)
 
 -- the reply to a refusal was written, or a 507 in its place
 abbrev pub RefusesWith : HttpFail → Option (List ℕ) → Option (List ℕ) → Result (Unit {0}) LineFail → Type 0

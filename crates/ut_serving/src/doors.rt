@@ -9,6 +9,7 @@ ghost use Rattle.ut_stands.specs.Stands.{Stands};
 ghost use Rattle.ut_serving.specs.Doors.{BringsTo, ManyEnds, NextEnds};
 ghost use Rattle.ut_serving.specs.Falls.{FallsBringing, Fell, OutputsUndone};
 ghost use Rattle.ut_serving.specs.Leads.{LeadsFrom};
+ghost use Rattle.ut_serving.specs.Senses.{Sense, StandsAs};
 
 use crate::lines::connection;
 use crate::wire::Present;
@@ -25,9 +26,9 @@ fn serve_next<K: Keeper, D: Door, C: Clock>(
     clock: &mut C,
 ) -> Result<bool, IoFail>
     ensures serves { Tells (K.state keeper.old) (K.state keeper.new)
-        → (w : World) (d : DoorState) (moments : List ℕ) → Stands (K.state keeper.old).tables w
+        → (sense : Sense) (w : World) (d : DoorState) (moments : List ℕ) → StandsAs sense (K.state keeper.old).tables w
         → D.held door.old ≡ Some d → C.coming clock.old ≡ Some moments
-        → BringsTo w moments d (NextEnds result) (C.coming clock.new) (D.held door.new)
+        → BringsTo sense w moments d (NextEnds result) (C.coming clock.new) (D.held door.new)
         (D.line_faults door.old) (D.line_faults door.new) (K.state keeper.old) (K.state keeper.new) }
     ensures falls { Fell (K.state keeper.old) (K.state keeper.new)
         → (w : World) (d : DoorState) (moments : List ℕ) → Stands (K.state keeper.old).tables w
@@ -58,9 +59,9 @@ fn serve<K: Keeper, D: Door, C: Clock>(
     count: u64,
 ) -> Result<(), IoFail>
     ensures serves { Tells (K.state keeper.old) (K.state keeper.new)
-        → (w : World) (d : DoorState) (moments : List ℕ) → Stands (K.state keeper.old).tables w
+        → (sense : Sense) (w : World) (d : DoorState) (moments : List ℕ) → StandsAs sense (K.state keeper.old).tables w
         → D.held door.old ≡ Some d → C.coming clock.old ≡ Some moments
-        → BringsTo w moments d (ManyEnds count result) (C.coming clock.new) (D.held door.new)
+        → BringsTo sense w moments d (ManyEnds count result) (C.coming clock.new) (D.held door.new)
         (D.line_faults door.old) (D.line_faults door.new) (K.state keeper.old) (K.state keeper.new) }
     ensures falls { Fell (K.state keeper.old) (K.state keeper.new)
         → (w : World) (d : DoorState) (moments : List ℕ) → Stands (K.state keeper.old).tables w
@@ -95,9 +96,9 @@ pub fn open_and_serve<K: Keeper, D: Door, C: Clock>(
 ) -> Result<(), IoFail>
     requires { 0 < count }
     ensures serves { Tells (K.state keeper.old) (K.state keeper.new)
-        → (w : World) (d : DoorState) (moments : List ℕ) → Stands (K.state keeper.old).tables w
+        → (sense : Sense) (w : World) (d : DoorState) (moments : List ℕ) → StandsAs sense (K.state keeper.old).tables w
         → D.held door.old ≡ Some d → C.coming clock.old ≡ Some moments
-        → BringsTo w moments d (ManyEnds count result) (C.coming clock.new) (D.held door.new)
+        → BringsTo sense w moments d (ManyEnds count result) (C.coming clock.new) (D.held door.new)
         (D.line_faults door.old) (D.line_faults door.new) (K.state keeper.old) (K.state keeper.new) }
     ensures falls { Fell (K.state keeper.old) (K.state keeper.new)
         → (w : World) (d : DoorState) (moments : List ℕ) → Stands (K.state keeper.old).tables w

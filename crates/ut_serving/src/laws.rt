@@ -1,30 +1,47 @@
 //! Laws for the layers above.
 
-ghost use Rattle.std.specs.Prelude.{◌≡◌, ◌<◌, IsTrue, ℕ, List, []};
+ghost use Rattle.std.specs.Prelude.{◌≡◌, ◌<◌, ◌^◌, Bool, IsTrue, ℕ, List, [], true};
 ghost use Rattle.std.specs.List.{AllByRecursion};
 ghost use Rattle.ut_keeper.specs.State.{LeavesNoMore, Shows, Steps};
+ghost use Rattle.ut_keeper.specs.Tables.{Tables};
 ghost use Rattle.ut_model.specs.World.{World, tenant_at};
+ghost use Rattle.ut_stands.specs.Local.{KeepsOthers};
 ghost use Rattle.ut_stands.specs.Stands.{Stands};
 ghost use Rattle.ut_serving.specs.Connections.{AreServed, Connection, exchanges_of, faulted};
 ghost use Rattle.ut_serving.specs.Doors.{IsUnfaulted};
 ghost use Rattle.ut_serving.specs.Exchanges.{Exchange, LeavesBehind};
 ghost use Rattle.ut_serving.specs.Isolation.{asked_of, replies_of, replies_to};
 ghost use Rattle.ut_serving.specs.Leads.{Leads, LeadsFrom};
+ghost use Rattle.ut_serving.specs.Senses.{Sense, StandsAs, StandsBut};
 ghost use Rattle.ut_value.specs.Causes.{RoseBy, last_count};
 
-use ut_keeper::Keeper;
+use ut_keeper::{Keeper, key_laws};
+use ut_stands::local_laws;
 use ut_step::step_laws;
 
 /// Isolation. The call does nothing.
 pub fn isolation_laws()
     // The replies to one organisation's requests are those to these requests alone, from any world that has the same
     // organisation.
-    ensures { (org : ℕ) (cs : List Connection) (w v end : World) (moments later : List ℕ)
-        → AreServed cs w moments end later → tenant_at w org ≡ tenant_at v org
+    ensures { (sense : Sense) (org : ℕ) (cs : List Connection) (w v end : World) (moments later : List ℕ)
+        → AreServed sense cs w moments end later → tenant_at w org ≡ tenant_at v org
         → replies_of org (exchanges_of cs) ≡ replies_to v (asked_of org (exchanges_of cs)) }
 {
     // For the proof alone.
     step_laws();
+}
+
+/// Tables in which the rows of some organisations are damaged. The call does nothing.
+pub fn damage_laws()
+    // Tables that stand for a world stand for all of it but any organisations that are apart.
+    ensures whole { (m : Tables) (w : World) (apart : ℕ → Bool) → Stands m w → StandsBut apart m w }
+    // They still do, whatever becomes of the rows of one that is apart.
+    ensures damaged { (m after : Tables) (w : World) (apart : ℕ → Bool) (n : ℕ) → n < 2 ^ 32 → apart n ≡ true
+        → StandsBut apart m w → KeepsOthers n m after → StandsBut apart after w }
+{
+    // For the proof alone.
+    local_laws();
+    key_laws();
 }
 
 /// Connections of a door whose count of faults stayed below its last value. The call does nothing.
@@ -38,18 +55,18 @@ pub fn connection_laws()
 /// nothing.
 pub fn serving_laws<K: Keeper>()
     // Tables that stand for a world were only read.
-    ensures left_by_reading { (w : World) (a b : K) → Steps (K.state a) (K.state b)
-        → (IsTrue (K.state b).trusted → Shows (K.state b) (K.state a).tables) → Stands (K.state a).tables w
-        → LeavesBehind w [] (K.state a) (K.state b) }
+    ensures left_by_reading { (sense : Sense) (w : World) (a b : K) → Steps (K.state a) (K.state b)
+        → (IsTrue (K.state b).trusted → Shows (K.state b) (K.state a).tables) → StandsAs sense (K.state a).tables w
+        → LeavesBehind sense w [] (K.state a) (K.state b) }
     ensures led_by_reading { (w : World) (a b : K)
         → (IsTrue (K.state b).trusted → Shows (K.state b) (K.state a).tables)
         → LeavesNoMore (K.state a) (K.state b) → Stands (K.state a).tables w
         → Leads w (K.state a) (K.state b) }
 
     // Requests after it.
-    ensures left_from_open { (w end : World) (xs : List Exchange) (a b c : K)
-        → LeavesBehind w [] (K.state a) (K.state b)
-        → LeavesBehind end xs (K.state b) (K.state c) → LeavesBehind end xs (K.state a) (K.state c) }
+    ensures left_from_open { (sense : Sense) (w end : World) (xs : List Exchange) (a b c : K)
+        → LeavesBehind sense w [] (K.state a) (K.state b)
+        → LeavesBehind sense end xs (K.state b) (K.state c) → LeavesBehind sense end xs (K.state a) (K.state c) }
     ensures led_from_open { (w : World) (a b c : K)
         → Leads w (K.state a) (K.state b) → Steps (K.state b) (K.state c)
         → LeadsFrom (K.state b) (K.state c) → Leads w (K.state a) (K.state c) }

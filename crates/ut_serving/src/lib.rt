@@ -21,7 +21,7 @@ mod request;
 mod wire;
 
 pub use crate::doors::open_and_serve;
-pub use crate::laws::{connection_laws, isolation_laws, serving_laws};
+pub use crate::laws::{connection_laws, damage_laws, isolation_laws, serving_laws};
 pub use crate::lines::connection;
 pub use crate::request::{Answer, answer_message};
 pub use crate::wire::{LineFail, Pair, Wire};

@@ -10,9 +10,10 @@ ghost use Rattle.ut_keeper.specs.State.{Steps, Tells, TrustedAfter};
 ghost use Rattle.ut_model.specs.World.{World};
 ghost use Rattle.ut_stands.specs.Stands.{Stands};
 ghost use Rattle.ut_serving.specs.Answers.{bytes_in};
-ghost use Rattle.ut_serving.specs.Connections.{Place};
+ghost use Rattle.ut_serving.specs.Connections.{Place, last_message};
 ghost use Rattle.ut_serving.specs.Falls.{Falls, FallsIn, FallsOn, Fell, WritesUndone};
 ghost use Rattle.ut_serving.specs.Leads.{LeadsFrom};
+ghost use Rattle.ut_serving.specs.Senses.{Sense, StandsAs};
 ghost use Rattle.ut_serving.specs.Turning.{IsHere, RefusesWith, RepliesTo, Serves, Turns, Wrote, over_if_written};
 ghost use Rattle.ut_serving.specs.declared.wire.LineFail.TheVariants.{Read, Write};
 
@@ -86,8 +87,9 @@ fn reply<K: Keeper, W: Wire, C: Clock>(
     requires { IsTrue is_sure.now → TrustedAfter true (K.state keeper.now) }
     ensures sure { IsTrue is_sure.new → TrustedAfter true (K.state keeper.new) }
     ensures replies { Tells (K.state keeper.old) (K.state keeper.new)
-        → (w : World) (moments : List ℕ) → Stands (K.state keeper.old).tables w → C.coming clock.old ≡ Some moments
-        → RepliesTo w message.now moments (K.state keeper.old) (K.state keeper.new) (C.coming clock.new)
+        → (sense : Sense) (w : World) (moments : List ℕ) → StandsAs sense (K.state keeper.old).tables w
+        → C.coming clock.old ≡ Some moments
+        → RepliesTo sense w message.now moments (K.state keeper.old) (K.state keeper.new) (C.coming clock.new)
         (W.output wire.old) (W.output wire.new) result }
     ensures falls { Fell (K.state keeper.old) (K.state keeper.new)
         → (w : World) (moments : List ℕ) → Stands (K.state keeper.old).tables w → C.coming clock.old ≡ Some moments
@@ -132,15 +134,15 @@ fn turn<K: Keeper, W: Wire, C: Clock>(
     requires { IsTrue is_sure.now → TrustedAfter true (K.state keeper.now) }
     ensures sure { IsTrue is_sure.new → TrustedAfter true (K.state keeper.new) }
     ensures turns { Tells (K.state keeper.old) (K.state keeper.new)
-        → (p : Place) → Stands (K.state keeper.old).tables p.world
+        → (sense : Sense) (p : Place) → StandsAs sense (K.state keeper.old).tables p.world
         → IsHere p (C.coming clock.old) (prepend_known buffer.old (W.input wire.old))
-        → p.closed ≡ false → (p.count == 999) ≡ last
-        → Turns p (K.state keeper.old) (K.state keeper.new) (C.coming clock.new)
+        → p.closed ≡ false → (p.count == last_message) ≡ last
+        → Turns sense p (K.state keeper.old) (K.state keeper.new) (C.coming clock.new)
         (prepend_known buffer.new (W.input wire.new)) (W.output wire.old) (W.output wire.new) result }
     ensures falls { Fell (K.state keeper.old) (K.state keeper.new)
         → (p : Place) → Stands (K.state keeper.old).tables p.world
         → IsHere p (C.coming clock.old) (prepend_known buffer.old (W.input wire.old))
-        → p.closed ≡ false → (p.count == 999) ≡ last
+        → p.closed ≡ false → (p.count == last_message) ≡ last
         → FallsIn p (K.state keeper.new) (W.output wire.old) (W.output wire.new) result }
     // With a whole message at hand nothing is read before its reply is written; behind one for which it read, less stays at
     // hand than one read may give.
@@ -184,9 +186,9 @@ fn turns<K: Keeper, W: Wire, C: Clock>(
     buffer: &mut Buffer,
 ) -> Result<(), LineFail>
     ensures serves { Tells (K.state keeper.old) (K.state keeper.new)
-        → (w : World) (moments input : List ℕ) → Stands (K.state keeper.old).tables w
+        → (sense : Sense) (w : World) (moments input : List ℕ) → StandsAs sense (K.state keeper.old).tables w
         → C.coming clock.old ≡ Some moments → prepend_known buffer.old (W.input wire.old) ≡ Some input
-        → Serves w moments input (K.state keeper.old) (K.state keeper.new) (C.coming clock.new)
+        → Serves sense w moments input (K.state keeper.old) (K.state keeper.new) (C.coming clock.new)
         (W.output wire.old) (W.output wire.new) result }
     ensures falls { Fell (K.state keeper.old) (K.state keeper.new)
         → (w : World) (moments input : List ℕ) → Stands (K.state keeper.old).tables w
@@ -243,9 +245,9 @@ pub fn connection<K: Keeper, W: Wire, C: Clock>(
     clock: &mut C,
 ) -> Result<(), LineFail>
     ensures serves { Tells (K.state keeper.old) (K.state keeper.new)
-        → (w : World) (moments input : List ℕ) → Stands (K.state keeper.old).tables w
+        → (sense : Sense) (w : World) (moments input : List ℕ) → StandsAs sense (K.state keeper.old).tables w
         → C.coming clock.old ≡ Some moments → W.input wire.old ≡ Some input
-        → Serves w moments input (K.state keeper.old) (K.state keeper.new) (C.coming clock.new)
+        → Serves sense w moments input (K.state keeper.old) (K.state keeper.new) (C.coming clock.new)
         (W.output wire.old) (W.output wire.new) result }
     ensures falls { Fell (K.state keeper.old) (K.state keeper.new)
         → (w : World) (moments input : List ℕ) → Stands (K.state keeper.old).tables w

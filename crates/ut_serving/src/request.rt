@@ -1,10 +1,10 @@
 //! One request: who calls, what is answered, and the keeper after it.
 
-ghost use Rattle.std.specs.Prelude.{◌≡◌, ◌⊎◌, IsTrue, pos, true};
+ghost use Rattle.std.specs.Prelude.{◌≡◌, ◌⊎◌, IsTrue, false, pos, true};
 ghost use Rattle.ut_keeper.specs.Draft.{DraftTells, count_of, removals_of, tables_of};
 ghost use Rattle.ut_keeper.specs.State.{KeeperCause, Quiet, Shows, Steps, Tells, TrustedAfter, data_table};
 ghost use Rattle.ut_keeper.specs.Tables.{Tables};
-ghost use Rattle.ut_model.specs.Step.{key_in};
+ghost use Rattle.ut_model.specs.Step.{key_in, org_named};
 ghost use Rattle.ut_model.specs.World.{World};
 ghost use Rattle.ut_people.specs.People.{FindsCaller};
 ghost use Rattle.ut_stands.specs.Calls.{Calls, ended};
@@ -17,12 +17,13 @@ ghost use Rattle.ut_value.specs.Dates.{is_moment};
 ghost use Rattle.ut_serving.specs.Leads.{LeadsFrom};
 ghost use Rattle.ut_serving.specs.Own.{Asks, AsksFirst, DoesMessage, IsMoving, IsStepped, JudgesCaller, JudgesMessage, JudgesReply, JudgesUnnamed, Replies, after_step, message_changes, message_further, message_shown_beside};
 ghost use Rattle.ut_serving.specs.Requests.{message_in};
+ghost use Rattle.ut_serving.specs.Senses.{Sense, StandsAs, is_apart};
 ghost use Rattle.ut_serving.specs.inner.Steps.{IsInForm, JudgesRequest};
 
 use crate::replies::{damaged_bytes, judged_bytes, refusal_bytes_to};
 use std::alloc::Global;
 use ut_http::HttpMessage;
-use ut_keeper::{Draft, Keeper, draft_laws};
+use ut_keeper::{Draft, Keeper, draft_laws, key_laws};
 use ut_keys::StoreFail;
 use ut_model::{Caller, Refusal, tenant_laws};
 use ut_people::caller;
@@ -313,12 +314,14 @@ pub fn answer_message<K: Keeper>(
     ensures kept { Tells (K.state keeper.old) (K.state keeper.new) → (IsMade result → ⊥)
         → Shows (K.state keeper.new) (K.state keeper.old).tables }
 
-    // Over tables that stand for a world: the reply of the step of the world, or 503 or 507.
+    // Over tables that stand for a world, or for all of it but the organisations that are apart: the reply of the step of the
+    // world, or 503 or 507; or any, to a message of an organisation apart.
     ensures answers { Tells (K.state keeper.old) (K.state keeper.new)
-        → (w : World) → Stands (K.state keeper.old).tables w
-        → Answers w message.now now (K.state keeper.old) (K.state keeper.new) (bytes_in message.now.method result) }
+        → (sense : Sense) (w : World) → StandsAs sense (K.state keeper.old).tables w
+        → Answers sense w message.now now (K.state keeper.old) (K.state keeper.new) (bytes_in message.now.method result) }
     ensures undamaged { Tells (K.state keeper.old) (K.state keeper.new)
-        → (w : World) → Stands (K.state keeper.old).tables w
+        → (sense : Sense) (w : World) → StandsAs sense (K.state keeper.old).tables w
+        → is_apart sense (org_named (message_in message.now)) ≡ false
         → IsDamaged result → ⊥ }
     ensures leads { LeadsFrom (K.state keeper.old) (K.state keeper.new) }
 
@@ -337,5 +340,7 @@ pub fn answer_message<K: Keeper>(
 {
     local_laws();
     step_laws();
+    key_laws();
+    tenant_laws();
     answer_own(alloc, routes, keeper, message, now, is_sure)
 }

@@ -8,6 +8,7 @@ use Rattle.ut_keys.specs.declared.fail.StoreFail.{StoreFail}
 use Rattle.ut_keys.specs.declared.fail.StoreFail.TheVariants.{Damaged}
 use Rattle.ut_model.specs.declared.record.Record.{Record}
 use Rattle.ut_model.specs.Deletes.{delete, delete_record}
+use Rattle.ut_model.specs.Limits.{deletion_limit}
 use Rattle.ut_model.specs.Objects.{record_at}
 use Rattle.ut_model.specs.Paths.{Asked}
 use Rattle.ut_model.specs.Tenant.{Tenant}
@@ -50,4 +51,4 @@ Dooms org q a name key (Err e) = FailsBy (delete a name key) e
 pub record FitsDoomed (org : ℕ) (x : Doomed) : Type 0 where
   pub ready : AreReady org x.layouts
   pub few_objects : length x.layouts ≤ 100
-  pub few : length x.deletion.gone + length x.deletion.cleared ≤ 1000
+  pub few : length x.deletion.gone + length x.deletion.cleared ≤ deletion_limit

@@ -13,6 +13,7 @@ use Rattle.ut_parts.specs.Composed.{FitsType}
 use Rattle.ut_parts.specs.Plain.{FitsText}
 use Rattle.ut_stands.specs.Changes.{Change}
 use Rattle.ut_stands.specs.declared.layout.Layout.{Layout}
+use Rattle.ut_stands.specs.Plan.{slot_count}
 use Rattle.ut_stands.specs.Records.{has_free}
 use Rattle.ut_meta.specs.Slots.{IsLeastFree}
 use Rattle.ut_meta.specs.declared.edits.fields.NewFieldRows.{NewFieldRows}
@@ -44,8 +45,8 @@ rows_in s object f =
 -- the same in the least slot that is free by the object's layout, if one is
 pub record AreRowsFor (l : Layout) (object : ObjectRow) (f : Field) (rows : NewFieldRows) : Type 0 where
   pub made : rows ≡ rows_in rows.field.slot object f
-  pub least : (s : ℕ) → s < 48 → IsTrue (has_free l s) → IsLeastFree l rows.field.slot
-  pub below : rows.field.slot < 48
+  pub least : (s : ℕ) → s < slot_count → IsTrue (has_free l s) → IsLeastFree l rows.field.slot
+  pub below : rows.field.slot < slot_count
 
 -- they are rows of the organisation with this number
 pub record AreOfOrg (org : ℕ) (r : NewFieldRows) : Type 0 where

@@ -32,6 +32,7 @@ pub fn accepting_layouts<A: Addition, K: Keeper>(
     ensures calls { Calls K.state 0 (ended_edit result) draft.old draft.new }
 {
     call_laws::<K>();
+    new.refuse_early(alloc, draft, org)?;
     let all = layouts(alloc, draft, org)?;
     if let Some(refusal) = new.refusal(alloc, all.as_slice())? {
         return Err(EditFail::Refused(refusal));

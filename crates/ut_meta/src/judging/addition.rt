@@ -1,17 +1,24 @@
 //! What is added to an organisation's metadata.
 
-ghost use Rattle.std.specs.Prelude.{◌≡◌, IfOk};
+ghost use Rattle.std.specs.Prelude.{◌≡◌, IfErr, IfOk, Some};
+ghost use Rattle.ut_edits.specs.Edits.{FailsBy};
+ghost use Rattle.ut_keeper.specs.Draft.{DraftTells, tables_of};
 ghost use Rattle.ut_meta.specs.Judging.{AreLayouts, verdict_refusal};
 ghost use Rattle.ut_model.specs.Metadata.{add_object};
 ghost use Rattle.ut_model.specs.NewFields.{add_field};
 ghost use Rattle.ut_model.specs.Tenant.{Tenant};
 ghost use Rattle.ut_model.specs.Verdict.{Verdict};
+ghost use Rattle.ut_stands.specs.Calls.{Calls, ended_edit};
+ghost use Rattle.ut_stands.specs.Local.{StandsIn};
+ghost use Rattle.ut_stands.specs.Plan.{OrgPlan};
 
 use crate::judging::fields::judge_field;
-use crate::judging::objects::judge_object;
+use crate::judging::objects::{bad_form, judge_object};
 use std::alloc::{AllocError, Global};
+use ut_edits::layout_there;
+use ut_keeper::{Draft, Keeper};
 use ut_model::{NewField, NewObject, Refusal};
-use ut_stands::Layout;
+use ut_stands::{EditFail, Layout, call_laws};
 
 /// What is added, judged by the layouts of the organisation's objects alone.
 pub trait Addition {
@@ -25,6 +32,23 @@ pub trait Addition {
     /// When out of memory.
     fn refusal(&self, alloc: Global, layouts: &[Layout]) -> Result<Option<Refusal>, AllocError>
         ensures { (t : Tenant) → AreLayouts t layouts.now → IfOk result (λ r. r ≡ verdict_refusal (verdict self.now t)) };
+
+    /// Refuses it where the fields of other objects needn't be read for that. Later refusals are left to `refusal`.
+    ///
+    /// # Errors
+    ///
+    /// `Refused` as its verdict says. `Store` with `Keeper` if the keeper failed, `Memory` if out of memory, `Damaged` never if the
+    /// organisation's rows stand for a tenant.
+    fn refuse_early<K: Keeper>(
+        &self,
+        alloc: Global,
+        draft: &mut Draft<'_, K>,
+        org: u32,
+    ) -> Result<(), EditFail>
+        ensures fails { DraftTells K.state draft.old draft.new
+            → (q : OrgPlan) (t : Tenant) → StandsIn org q (tables_of K.state draft.old) (Some t)
+            → IfErr result (FailsBy (verdict self.now t)) }
+        ensures calls { Calls K.state 0 (ended_edit result) draft.old draft.new };
 }
 
 impl Addition for NewObject {
@@ -33,6 +57,20 @@ impl Addition for NewObject {
     fn refusal(&self, alloc: Global, layouts: &[Layout]) -> Result<Option<Refusal>, AllocError> {
         judge_object(alloc, layouts, self)
     }
+
+    // A name that isn't of its form is refused before anything is read.
+    fn refuse_early<K: Keeper>(
+        &self,
+        alloc: Global,
+        _draft: &mut Draft<'_, K>,
+        _org: u32,
+    ) -> Result<(), EditFail> {
+        call_laws::<K>();
+        match bad_form(alloc, self)? {
+            Some(refusal) => Err(EditFail::Refused(refusal)),
+            None => Ok(()),
+        }
+    }
 }
 
 impl Addition for NewField {
@@ -40,5 +78,19 @@ impl Addition for NewField {
 
     fn refusal(&self, alloc: Global, layouts: &[Layout]) -> Result<Option<Refusal>, AllocError> {
         judge_field(alloc, layouts, self)
+    }
+
+    // An object that isn't there is refused by the names of objects.
+    fn refuse_early<K: Keeper>(
+        &self,
+        alloc: Global,
+        draft: &mut Draft<'_, K>,
+        org: u32,
+    ) -> Result<(), EditFail> {
+        call_laws::<K>();
+        match layout_there(alloc, draft, org, &self.object) {
+            Ok(_layout) => Ok(()),
+            Err(fail) => Err(fail),
+        }
     }
 }

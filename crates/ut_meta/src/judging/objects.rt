@@ -1,12 +1,12 @@
 //! New objects.
 
-ghost use Rattle.std.specs.Prelude.{◌≡◌, ◌+◌, ◌∷◌, [], IfOk, MatchOption, Some, None, codes, map, length};
+ghost use Rattle.std.specs.Prelude.{◌≡◌, ◌+◌, ◌∷◌, [], IfOk, IfSome, MatchOption, Some, None, codes, map, length};
 ghost use Rattle.std.specs.List.{list_any};
 ghost use Rattle.std.specs.Str.{chars};
-ghost use Rattle.ut_meta.specs.Judging.{AreLayouts};
+ghost use Rattle.ut_meta.specs.Judging.{AreLayouts, verdict_refusal};
 ghost use Rattle.ut_model.specs.Cases.{in_case};
 ghost use Rattle.ut_model.specs.Fields.{same_name};
-ghost use Rattle.ut_model.specs.Metadata.{child_name_taken, master_names, no_parent, object_rules, too_deep};
+ghost use Rattle.ut_model.specs.Metadata.{add_object, child_name_taken, master_names, no_parent, object_rules, too_deep};
 ghost use Rattle.ut_model.specs.Names.{bad_name, is_custom_name, taken};
 ghost use Rattle.ut_model.specs.declared.limit.Limit.TheVariants as limit;
 ghost use Rattle.ut_model.specs.Rules.{first_refusal, over_limit, rule_of};
@@ -173,6 +173,17 @@ fn bad_place(
         Some(master) => Ok(too_deep(layouts, master)),
         None => Ok(None),
     }
+}
+
+/// Which name of a new object isn't of its form, if one isn't: the first thing that is judged.
+///
+/// # Errors
+///
+/// When out of memory.
+pub fn bad_form(alloc: Global, new: &NewObject) -> Result<Option<Refusal>, AllocError>
+    ensures { (t : Tenant) → IfOk result (λ r. IfSome r (λ why. Some why ≡ verdict_refusal (add_object t new.now))) }
+{
+    in_body_order(alloc, new.members.as_slice(), &Forms { new })
 }
 
 /// Why a new object is refused, if it is.

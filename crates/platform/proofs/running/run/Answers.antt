@@ -235,8 +235,8 @@ returns-in-Answer-clause-promise g c =
       acknowledged = λ printing. absurd (true_isnt_false printing);
     } in
     of_words _ answers a b status c.in-Answer.ensures
-    (serving_promise answers refl a b r status same it.status (g.met.K.Keeper.settled c.args.keeper.now) c.stands_laws.ensures.one_version causes
-    (λ told w s. it.runs told w s (g.D.Door.held c.args.door.now) (g.D.Door.faults c.args.door.now) (g.D.Door.line_faults c.args.door.now)) it.leads it.falls it.kept it.version)
+    (serving_promise answers refl a b r status same it.status (g.met.K.Keeper.settled c.args.keeper.now) c.stands_laws.ensures.one_version c.stands_laws.ensures.known causes
+    (λ told known sense w s. it.runs told known sense w s (g.D.Door.held c.args.door.now) (g.D.Door.faults c.args.door.now) (g.D.Door.line_faults c.args.door.now)) it.leads it.falls it.kept it.version)
 
 pub returns-in-Answer-clause-unused : goal.returns-in-Answer-clause-unused
 returns-in-Answer-clause-unused g c =
@@ -281,8 +281,8 @@ returns-in-Serve-clause-promise g c =
       acknowledged = λ printing. absurd (true_isnt_false printing);
     } in
     of_words _ this a b status c.in-Serve.ensures.1
-    (serving_promise this refl a b r status same it.status (g.met.K.Keeper.settled c.args.keeper.now) c.stands_laws.ensures.one_version causes
-    (λ told w s. it.runs told w s (g.S.Source.left c.args.source.now) (g.W.Sink.written c.args.sink.now) (g.S.Source.faults c.args.source.now) (g.W.Sink.faults c.args.sink.now)) it.leads it.falls it.kept it.version)
+    (serving_promise this refl a b r status same it.status (g.met.K.Keeper.settled c.args.keeper.now) c.stands_laws.ensures.one_version c.stands_laws.ensures.known causes
+    (λ told known sense w s. it.runs told known sense w s (g.S.Source.left c.args.source.now) (g.W.Sink.written c.args.sink.now) (g.S.Source.faults c.args.source.now) (g.W.Sink.faults c.args.sink.now)) it.leads it.falls it.kept it.version)
 
 pub returns-in-Serve-clause-unused : goal.returns-in-Serve-clause-unused
 returns-in-Serve-clause-unused g c =

@@ -12,7 +12,7 @@ use Rattle.platform.proofs.Falling.{fell_opening}
 use Rattle.platform.proofs.serving.serve_door.Goals as goal
 
 pub returns-in-Ok-clause-runs : goal.returns-in-Ok-clause-runs
-returns-in-Ok-clause-runs g c told w s left written reads writes =
+returns-in-Ok-clause-runs g c told known sense w s left written reads writes =
     let state = g.K.Keeper.state in
     let held = g.D.Door.held in
     let lines = g.D.Door.line_faults in
@@ -22,13 +22,13 @@ returns-in-Ok-clause-runs g c told w s left written reads writes =
     let last = c.open_and_serve.new.keeper in
     let opening = c.open_tables.ensures in
     let steps = c.open_and_serve.ensures.steps in
-    let opened : LeavesBehind w [] (state first) (state mid) = c.serving_laws.ensures.left_by_reading w first mid opening.steps (λ trusted. opening.same (told.0, trusted)) s in
+    let opened : LeavesBehind sense w [] (state first) (state mid) = c.serving_laws.ensures.left_by_reading sense w first mid opening.steps (λ trusted. opening.same (told.0, trusted)) s in
     let at = opened.tables (steps.stood told.1) in
     let a : Seen = record { keeper = state first; door = held c.args.door.now; door_faults = g.D.Door.faults c.args.door.now; line_faults = lines c.args.door.now; left = left; read_faults = reads; written = written; write_faults = writes; coming = coming c.args.clock.now } in
     let b : Seen = record { keeper = state last; door = held c.open_and_serve.new.door; door_faults = g.D.Door.faults c.open_and_serve.new.door; line_faults = lines c.open_and_serve.new.door; left = left; read_faults = reads; written = written; write_faults = writes; coming = coming c.open_and_serve.new.clock } in
-    served w a b (state mid) c.args.count c.open_and_serve.result c.serve_end.result c.serve_end.ensures
-    (λ end xs h. c.serving_laws.ensures.left_from_open w end xs first mid last opened h) c.isolation_laws.ensures
-    (λ d moments here asked. c.open_and_serve.ensures.serves (at.0, told.1) w d moments at.1 here asked)
+    served sense w a b (state mid) c.args.count c.open_and_serve.result c.serve_end.result c.serve_end.ensures
+    (λ end xs h. c.serving_laws.ensures.left_from_open sense w end xs first mid last opened h) c.isolation_laws.ensures
+    (λ d moments here asked. c.open_and_serve.ensures.serves (at.0, told.1) sense w d moments at.1 here asked)
 
 pub returns-in-Ok-clause-leads : goal.returns-in-Ok-clause-leads
 returns-in-Ok-clause-leads g c tells trusted w s =
@@ -40,17 +40,17 @@ returns-in-Ok-clause-leads g c tells trusted w s =
     c.open_and_serve.ensures.steps c.open_and_serve.ensures.leads
 
 pub returns-in-Err-clause-runs : goal.returns-in-Err-clause-runs
-returns-in-Err-clause-runs g c told w s left written reads writes =
+returns-in-Err-clause-runs g c told known sense w s left written reads writes =
     let state = g.K.Keeper.state in
     let first = c.args.keeper.now in
     let mid = c.open_tables.new.keeper in
     let opening = c.open_tables.ensures in
     let a : Seen = record { keeper = state first; door = g.D.Door.held c.args.door.now; door_faults = g.D.Door.faults c.args.door.now; line_faults = g.D.Door.line_faults c.args.door.now; left = left; read_faults = reads; written = written; write_faults = writes; coming = g.C.Clock.coming c.args.clock.now } in
     let b : Seen = record { keeper = state mid; door = g.D.Door.held c.args.door.now; door_faults = g.D.Door.faults c.args.door.now; line_faults = g.D.Door.line_faults c.args.door.now; left = left; read_faults = reads; written = written; write_faults = writes; coming = g.C.Clock.coming c.args.clock.now } in
-    λ d moments _ _. inl (opened_only w a b c.from.result
+    λ d moments _ _. inl (opened_only sense w a b c.from.result
     (subst (λ (x : Stop). IsOpening (Err x)) (sym c.from.ensures)
-    (failed_opening c.stands_laws.ensures.one_version c.stands_laws.ensures.known (state first).tables w c.in-Err.fail (subst (OpensAs (state first).tables) c.in-Err.is (opening.opens told)) s))
-    (c.serving_laws.ensures.left_by_reading w first mid opening.steps (λ trusted. opening.same (told.0, trusted)) s)
+    (failed_opening c.stands_laws.ensures.one_version (state first).tables c.in-Err.fail (subst (OpensAs (state first).tables) c.in-Err.is (opening.opens told)) known))
+    (c.serving_laws.ensures.left_by_reading sense w first mid opening.steps (λ trusted. opening.same (told.0, trusted)) s)
     refl refl refl refl)
 
 pub returns-in-Ok-clause-falls : goal.returns-in-Ok-clause-falls

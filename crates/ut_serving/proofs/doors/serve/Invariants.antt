@@ -5,6 +5,7 @@ use Rattle.ut_model.specs.World.{World}
 use Rattle.ut_stands.specs.Stands.{Stands}
 use Rattle.ut_serving.specs.Falls.{FallsBringing, Fell}
 use Rattle.ut_serving.specs.Leads.{LeadsFrom}
+use Rattle.ut_serving.specs.Senses.{Sense, StandsAs}
 use Rattle.ut_serving.proofs.Brought.{Gone}
 use Rattle.ut_serving.proofs.doors.serve.Given as goal
 
@@ -19,8 +20,8 @@ invariant-loop-served g l =
       leads : LeadsFrom (state l.fn.keeper) (state l.keeper);
       faults : g.D.Door.faults l.fn.door ≤ g.D.Door.faults l.door;
       lines : lines_of l.fn.door ≤ lines_of l.door;
-      goes : Tells (state l.fn.keeper) (state l.keeper) → (w : World) (d : DoorState) (moments : List ℕ) → Stands (state l.fn.keeper).tables w → held l.fn.door ≡ Some d → coming l.fn.clock ≡ Some moments
-          → Gone w moments d l._served (coming l.clock) (held l.door) (lines_of l.fn.door) (lines_of l.door) (state l.fn.keeper) (state l.keeper);
+      goes : Tells (state l.fn.keeper) (state l.keeper) → (sense : Sense) (w : World) (d : DoorState) (moments : List ℕ) → StandsAs sense (state l.fn.keeper).tables w → held l.fn.door ≡ Some d → coming l.fn.clock ≡ Some moments
+          → Gone sense w moments d l._served (coming l.clock) (held l.door) (lines_of l.fn.door) (lines_of l.door) (state l.fn.keeper) (state l.keeper);
       fallen : Fell (state l.fn.keeper) (state l.keeper) → (w : World) (d : DoorState) (moments : List ℕ) → Stands (state l.fn.keeper).tables w → held l.fn.door ≡ Some d → coming l.fn.clock ≡ Some moments
           → FallsBringing w moments d (held l.door) (state l.keeper);
     }

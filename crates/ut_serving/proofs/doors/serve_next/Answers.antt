@@ -10,7 +10,7 @@ use Rattle.ut_serving.proofs.Brought.{next_true, next_false, next_failed, rose_b
 use Rattle.ut_serving.proofs.doors.serve_next.Goals as goal
 
 pub returns-in_err-next-clause-serves : goal.returns-in_err-next-clause-serves
-returns-in_err-next-clause-serves g c told w d moments s e asked =
+returns-in_err-next-clause-serves g c told sense w d moments s e asked =
     let state = g.K.Keeper.state in
     let held = g.D.Door.held in
     let faults = g.D.Door.line_faults in
@@ -20,21 +20,21 @@ returns-in_err-next-clause-serves g c told w d moments s e asked =
     let k = state c.args.keeper.now in
     let same = c.next.ensures.line_faults in
     let p = err_from_is_err_and c.from_residual.result c.from_residual.ensures.1 in
-    subst (λ r. BringsTo w moments d (NextEnds r) coming (held new) (faults old) (faults new) k k) (sym p.1)
-    (next_failed w moments d (held old) (held new) coming (faults old) (faults new) k told.0 s (omega (arith, same)) e asked p.0 c.in_err-next.ensures.next)
+    subst (λ r. BringsTo sense w moments d (NextEnds r) coming (held new) (faults old) (faults new) k k) (sym p.1)
+    (next_failed sense w moments d (held old) (held new) coming (faults old) (faults new) k told.0 s (omega (arith, same)) e asked p.0 c.in_err-next.ensures.next)
 
 pub returns-then-not-branch-clause-serves : goal.returns-then-not-branch-clause-serves
-returns-then-not-branch-clause-serves g c told w d moments s e asked =
+returns-then-not-branch-clause-serves g c told sense w d moments s e asked =
     let held = g.D.Door.held in
     let faults = g.D.Door.line_faults in
     let old = c.args.door.now in
     let new = c.next.new.self in
     let same = c.next.ensures.line_faults in
-    next_false w moments d (held old) (held new) (g.C.Clock.coming c.args.clock.now) (faults old) (faults new) (g.K.Keeper.state c.args.keeper.now) told.0 s (omega (arith, same)) e asked
+    next_false sense w moments d (held old) (held new) (g.C.Clock.coming c.args.clock.now) (faults old) (faults new) (g.K.Keeper.state c.args.keeper.now) told.0 s (omega (arith, same)) e asked
     (rw c.if-not-branch.true at c.in_ok-next.ensures.next)
 
 pub returns-clause-serves : goal.returns-clause-serves
-returns-clause-serves g c told w d moments s e asked =
+returns-clause-serves g c told sense w d moments s e asked =
     let state = g.K.Keeper.state in
     let held = g.D.Door.held in
     let faults = g.D.Door.line_faults in
@@ -46,13 +46,13 @@ returns-clause-serves g c told w d moments s e asked =
     let begun = c.new-wire.result.door.now in
     let over = connection.new.wire.door.now in
     let same : faults begun ≡ faults first = ap faults c.new-wire.ensures.held ∙ c.next.ensures.line_faults in
-    let brings : BringsTo w moments d (NextEnds (Ok true)) coming (held over) (faults first) (faults over) old new =
-    next_true w moments old new coming (faults first) (faults over) (later_by (faults first) (faults begun) (faults over) _ same connection.ensures.reads) d (held first) (held begun) (held over) connection.result e
+    let brings : BringsTo sense w moments d (NextEnds (Ok true)) coming (held over) (faults first) (faults over) old new =
+    next_true sense w moments old new coming (faults first) (faults over) (later_by (faults first) (faults begun) (faults over) _ same connection.ensures.reads) d (held first) (held begun) (held over) connection.result e
     (subst (λ x. Nexts {E = IoFail} (held first) (held x) (Ok true)) (sym c.new-wire.ensures.held) (rw c.if-not-branch.false at c.in_ok-next.ensures.next))
     (rose_by connection.result (faults first) (faults begun) (faults over) same connection.ensures.reads connection.ensures.writes)
     connection.ensures.stays.1
-    (λ input i. connection.ensures.serves told w moments input s asked i) in
-    subst (λ x. BringsTo w moments d (NextEnds (Ok true)) coming (held x) (faults first) (faults x) old new) (search rules) brings
+    (λ input i. connection.ensures.serves told sense w moments input s asked i) in
+    subst (λ x. BringsTo sense w moments d (NextEnds (Ok true)) coming (held x) (faults first) (faults x) old new) (search rules) brings
 
 pub returns-in_err-next-clause-falls : goal.returns-in_err-next-clause-falls
 returns-in_err-next-clause-falls g c fell w d moments s e asked = absurd (not_fell (g.K.Keeper.state c.args.keeper.now) fell)

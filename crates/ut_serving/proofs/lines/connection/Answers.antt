@@ -6,11 +6,11 @@ use Rattle.ut_serving.proofs.Goes.{fresh, at_once}
 use Rattle.ut_serving.proofs.lines.connection.Goals as goal
 
 pub returns-in-Ok-clause-serves : goal.returns-in-Ok-clause-serves
-returns-in-Ok-clause-serves g c told w moments input s e i = c.turns.ensures.serves told w moments input s e (fresh c.in-Ok.buffer (g.W.Wire.input c.args.wire.now) input c.in-Ok.ensures i)
+returns-in-Ok-clause-serves g c told sense w moments input s e i = c.turns.ensures.serves told sense w moments input s e (fresh c.in-Ok.buffer (g.W.Wire.input c.args.wire.now) input c.in-Ok.ensures i)
 
 pub returns-in-Err-clause-serves : goal.returns-in-Err-clause-serves
-returns-in-Err-clause-serves g c told w moments input s e i =
-    at_once w moments input (g.K.Keeper.state c.args.keeper.now) (g.W.Wire.output c.args.wire.now) (g.C.Clock.coming c.args.clock.now) (g.W.Wire.output c.write_text.new.wire) c.write_text.result told s e (rw c.out_of_memory.ensures at c.write_text.ensures.wrote)
+returns-in-Err-clause-serves g c told sense w moments input s e i =
+    at_once sense w moments input (g.K.Keeper.state c.args.keeper.now) (g.W.Wire.output c.args.wire.now) (g.C.Clock.coming c.args.clock.now) (g.W.Wire.output c.write_text.new.wire) c.write_text.result told s e (rw c.out_of_memory.ensures at c.write_text.ensures.wrote)
 
 pub returns-in-Ok-clause-falls : goal.returns-in-Ok-clause-falls
 returns-in-Ok-clause-falls g c fell w moments input s e i = c.turns.ensures.falls fell w moments input s e (fresh c.in-Ok.buffer (g.W.Wire.input c.args.wire.now) input c.in-Ok.ensures i)

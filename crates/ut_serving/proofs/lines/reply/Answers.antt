@@ -9,10 +9,10 @@ returns-clause-sure g c holds =
     sure_by (g.K.Keeper.state c.answer_message-answer.new.keeper) c.answer_message-answer.result c.answer_message-answer.ensures.acknowledged c.is_made.result c.is_made.ensures holds
 
 pub returns-clause-replies : goal.returns-clause-replies
-returns-clause-replies g c told w moments s e =
-    replied w c.args.message.now moments (g.K.Keeper.state c.args.keeper.now) (g.K.Keeper.state c.answer_message-answer.new.keeper) (g.C.Clock.coming c.args.clock.now) (g.C.Clock.coming c.now-now.new.self)
+returns-clause-replies g c told sense w moments s e =
+    replied sense w c.args.message.now moments (g.K.Keeper.state c.args.keeper.now) (g.K.Keeper.state c.answer_message-answer.new.keeper) (g.C.Clock.coming c.args.clock.now) (g.C.Clock.coming c.now-now.new.self)
     (g.W.Wire.output c.args.wire.now) (g.W.Wire.output c.write_answer.new.wire) c.now-now.result (bytes_in c.args.message.now.method c.answer_message-answer.result) c.write_answer.result
-    e c.now-now.ensures.first c.now-now.ensures.asked (c.answer_message-answer.ensures.answers told w s) c.write_answer.ensures.wrote
+    e c.now-now.ensures.first c.now-now.ensures.asked (c.answer_message-answer.ensures.answers told sense w s) c.write_answer.ensures.wrote
 
 pub returns-clause-falls : goal.returns-clause-falls
 returns-clause-falls g c fell w moments s e =

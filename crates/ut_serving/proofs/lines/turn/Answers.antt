@@ -18,15 +18,15 @@ open_still true b x h e = cc
 open_still false b x h e = e
 
 pub returns-after-message-clause-turns : goal.returns-after-message-clause-turns
-returns-after-message-clause-turns g c told p s here going full =
+returns-after-message-clause-turns g c told sense p s here going full =
     let left = prepend_known c.args.buffer.now (g.W.Wire.input c.args.wire.now) in
     let e : c.if-message.close ≡ (c.in-Ok-Message.message.close || c.args.last) = elim c.if-message.branch [
       | then-message v ↦ closed _ _ _ v.if-message.true v.close-is
       | else-message v ↦ open_still _ _ _ v.if-message.false v.close-is
     ] in
-    rw c.over_if_written.ensures (message_turn p (g.C.Clock.coming c.args.clock.now) left here going c.in-Ok-Message.message c.if-message.close c.args.last (g.K.Keeper.state c.args.keeper.now) (g.K.Keeper.state c.reply.new.keeper)
+    rw c.over_if_written.ensures (message_turn sense p (g.C.Clock.coming c.args.clock.now) left here going c.in-Ok-Message.message c.if-message.close c.args.last (g.K.Keeper.state c.args.keeper.now) (g.K.Keeper.state c.reply.new.keeper)
     c.next.new.buffer (g.W.Wire.input c.next.new.self) (g.W.Wire.input c.reply.new.wire) (g.C.Clock.coming c.reply.new.clock) (g.W.Wire.output c.args.wire.now) (g.W.Wire.output c.next.new.self) (g.W.Wire.output c.reply.new.wire) c.reply.result
-    e full (rw c.in-Ok-Message.field-0-is at c.in-Ok-Message.ensures.answer) c.next.ensures.unwritten c.reply.ensures.unread (c.reply.ensures.replies told p.world p.moments s here.0))
+    e full (rw c.in-Ok-Message.field-0-is at c.in-Ok-Message.ensures.answer) c.next.ensures.unwritten c.reply.ensures.unread (c.reply.ensures.replies told sense p.world p.moments s here.0))
 
 pub returns-after-message-clause-falls : goal.returns-after-message-clause-falls
 returns-after-message-clause-falls g c fell p s here going full =
@@ -46,31 +46,31 @@ returns-after-message-clause-undone g c shut clean =
     (undone_later _ (output c.args.wire.now) (output c.next.new.self) (output c.reply.new.wire) c.next.ensures.unwritten (c.reply.ensures.undone shut clean)))
 
 pub returns-in-Ok-End-clause-turns : goal.returns-in-Ok-End-clause-turns
-returns-in-Ok-End-clause-turns g c told p s here going full =
-    end_turn p (g.C.Clock.coming c.args.clock.now) (prepend_known c.args.buffer.now (g.W.Wire.input c.args.wire.now)) here going (g.K.Keeper.state c.args.keeper.now) told.0 s
+returns-in-Ok-End-clause-turns g c told sense p s here going full =
+    end_turn sense p (g.C.Clock.coming c.args.clock.now) (prepend_known c.args.buffer.now (g.W.Wire.input c.args.wire.now)) here going (g.K.Keeper.state c.args.keeper.now) told.0 s
     (prepend_known c.next.new.buffer (g.W.Wire.input c.next.new.self)) (g.W.Wire.output c.args.wire.now) (g.W.Wire.output c.next.new.self) c.next.ensures.unwritten (rw c.in-Ok-End.field-0-is at c.in-Ok-End.ensures.answer)
 
 pub returns-in-Ok-Cut-clause-turns : goal.returns-in-Ok-Cut-clause-turns
-returns-in-Ok-Cut-clause-turns g c told p s here going full =
-    cut_turn p (g.C.Clock.coming c.args.clock.now) (prepend_known c.args.buffer.now (g.W.Wire.input c.args.wire.now)) here going (g.K.Keeper.state c.args.keeper.now) told.0 s
+returns-in-Ok-Cut-clause-turns g c told sense p s here going full =
+    cut_turn sense p (g.C.Clock.coming c.args.clock.now) (prepend_known c.args.buffer.now (g.W.Wire.input c.args.wire.now)) here going (g.K.Keeper.state c.args.keeper.now) told.0 s
     (prepend_known c.next.new.buffer (g.W.Wire.input c.next.new.self)) (g.W.Wire.output c.args.wire.now) (g.W.Wire.output c.next.new.self) c.next.ensures.unwritten (rw c.in-Ok-Cut.field-0-is at c.in-Ok-Cut.ensures.answer)
 
 pub returns-in-Err-Failed-clause-turns : goal.returns-in-Err-Failed-clause-turns
-returns-in-Err-Failed-clause-turns g c told p s here going full =
-    read_turn p (g.C.Clock.coming c.args.clock.now) (prepend_known c.args.buffer.now (g.W.Wire.input c.args.wire.now)) here going (g.K.Keeper.state c.args.keeper.now) told.0 s
+returns-in-Err-Failed-clause-turns g c told sense p s here going full =
+    read_turn sense p (g.C.Clock.coming c.args.clock.now) (prepend_known c.args.buffer.now (g.W.Wire.input c.args.wire.now)) here going (g.K.Keeper.state c.args.keeper.now) told.0 s
     (prepend_known c.next.new.buffer (g.W.Wire.input c.next.new.self)) (g.W.Wire.output c.args.wire.now) (g.W.Wire.output c.next.new.self) c.next.ensures.unwritten
 
 pub returns-in-Err-Memory-clause-turns : goal.returns-in-Err-Memory-clause-turns
-returns-in-Err-Memory-clause-turns g c told p s here going full =
-    rw c.over_if_written-in-Err-Memory.ensures (memory_turn p (g.C.Clock.coming c.args.clock.now) (prepend_known c.args.buffer.now (g.W.Wire.input c.args.wire.now)) here going (g.K.Keeper.state c.args.keeper.now) told.0 s
+returns-in-Err-Memory-clause-turns g c told sense p s here going full =
+    rw c.over_if_written-in-Err-Memory.ensures (memory_turn sense p (g.C.Clock.coming c.args.clock.now) (prepend_known c.args.buffer.now (g.W.Wire.input c.args.wire.now)) here going (g.K.Keeper.state c.args.keeper.now) told.0 s
     (prepend_known c.next.new.buffer (g.W.Wire.input c.next.new.self)) (g.W.Wire.output c.args.wire.now) (g.W.Wire.output c.next.new.self) c.next.ensures.unwritten
     (g.W.Wire.output c.write_text.new.wire) (prepend_known c.next.new.buffer (g.W.Wire.input c.write_text.new.wire)) c.write_text.result (rw c.out_of_memory.ensures at c.write_text.ensures.wrote))
 
 pub returns-in-Err-clause-turns : goal.returns-in-Err-clause-turns
-returns-in-Err-clause-turns g c told p s here going full =
+returns-in-Err-clause-turns g c told sense p s here going full =
     let left = prepend_known c.args.buffer.now (g.W.Wire.input c.args.wire.now) in
     let left2 = prepend_known c.next.new.buffer (g.W.Wire.input c.next.new.self) in
-    rw c.over_if_written-in-Err.ensures (refused_turn p (g.C.Clock.coming c.args.clock.now) left here going (g.K.Keeper.state c.args.keeper.now) told.0 s
+    rw c.over_if_written-in-Err.ensures (refused_turn sense p (g.C.Clock.coming c.args.clock.now) left here going (g.K.Keeper.state c.args.keeper.now) told.0 s
     left2 (g.W.Wire.output c.args.wire.now) (g.W.Wire.output c.next.new.self) c.next.ensures.unwritten
     (g.W.Wire.output c.refuse.new.wire) (prepend_known c.next.new.buffer (g.W.Wire.input c.refuse.new.wire)) c.in-Err.fail c.refuse.result
     (refused_between left left2 c.in-Err.fail (search rules) (search rules) c.in-Err.ensures.answer) c.refuse.ensures.refuses)

@@ -4,6 +4,7 @@ use Rattle.ut_keeper.specs.State.{Steps, Tells, TrustedAfter}
 use Rattle.ut_model.specs.World.{World}
 use Rattle.ut_stands.specs.Stands.{Stands}
 use Rattle.ut_serving.specs.Leads.{LeadsFrom}
+use Rattle.ut_serving.specs.Senses.{Sense, StandsAs}
 use Rattle.ut_serving.specs.Falls.{Fell, WritesUndone}
 use Rattle.ut_serving.proofs.Fallen.{Fallen}
 use Rattle.ut_serving.proofs.Goes.{Goes}
@@ -22,8 +23,8 @@ invariant-loop-count g l =
       stays : g.W.Wire.stays l.fn.wire l.wire;
       reads : g.W.Wire.read_faults l.fn.wire ≤ g.W.Wire.read_faults l.wire;
       writes : g.W.Wire.write_faults l.fn.wire ≤ g.W.Wire.write_faults l.wire;
-      goes : Tells (state l.fn.keeper) (state l.keeper) → (w : World) (moments input : List ℕ) → Stands (state l.fn.keeper).tables w → coming l.fn.clock ≡ Some moments → prepend_known l.fn.buffer (input_of l.fn.wire) ≡ Some input
-          → Goes w moments input (state l.fn.keeper) (output_of l.fn.wire) (state l.keeper) (coming l.clock) (prepend_known l.buffer (input_of l.wire)) (output_of l.wire) l.count;
+      goes : Tells (state l.fn.keeper) (state l.keeper) → (sense : Sense) (w : World) (moments input : List ℕ) → StandsAs sense (state l.fn.keeper).tables w → coming l.fn.clock ≡ Some moments → prepend_known l.fn.buffer (input_of l.fn.wire) ≡ Some input
+          → Goes sense w moments input (state l.fn.keeper) (output_of l.fn.wire) (state l.keeper) (coming l.clock) (prepend_known l.buffer (input_of l.wire)) (output_of l.wire) l.count;
       fallen : Fell (state l.fn.keeper) (state l.keeper) → (w : World) (moments input : List ℕ) → Stands (state l.fn.keeper).tables w → coming l.fn.clock ≡ Some moments → prepend_known l.fn.buffer (input_of l.fn.wire) ≡ Some input
           → Fallen w moments input (state l.fn.keeper) (output_of l.fn.wire) (state l.keeper) (output_of l.wire);
       undone : (state l.fn.keeper).trusted ≡ false → IsTrue (state l.keeper).is_clean → WritesUndone true (output_of l.fn.wire) (output_of l.wire);

@@ -58,4 +58,5 @@ returns-clause-asks g c =
     let j = c.judge-judged.result in
     let makes = c.judge-judged.ensures.drafts.makes in
     moved (λ x y. TrustedAfter true (state x) → Asks (message_in c.args.message.now) (state x) (state y) c.finish.result) d.keeper.now c.finish.new.draft.0 c.args.keeper.now _ c.new-draft.ensures.same (search rules)
-    (asks_by state d e (state c.finish.new.draft.0) j c.finish.result (message_in c.args.message.now) c.new-draft.ensures.empty makes.works (c.ended_laws.ensures.stays d.keeper.now e.keeper.now j makes.stays) (c.ended_laws.ensures.cause d.keeper.now e.keeper.now j makes.cause) (c.ended_laws.ensures.quiet d.keeper.now e.keeper.now j makes.quiet) c.finish.ensures.finishes)
+    (asks_by state d e (state c.finish.new.draft.0) j c.finish.result (message_in c.args.message.now) c.new-draft.ensures.empty makes.works (c.ended_laws.ensures.stays d.keeper.now e.keeper.now j makes.stays) (c.ended_laws.ensures.cause d.keeper.now e.keeper.now j makes.cause) (c.ended_laws.ensures.quiet d.keeper.now e.keeper.now j makes.quiet) c.finish.ensures.finishes
+    (state d.keeper.now).tables (tables_of state e) (λ told. c.finish.ensures.ends d message_changes request_gone (shown_most (message_in c.args.message.now) state d) c.new-draft.ensures.empty makes.works told))

@@ -1,8 +1,11 @@
 use Rattle.std.proofs.Common.{refl}
 use Rattle.ut_model.specs.Step.{key_in}
 use Rattle.ut_serving.specs.Answers.{outcome_of}
-use Rattle.ut_serving.specs.Requests.{does, message_in}
-use Rattle.ut_serving.proofs.Kept.{acknowledged_by, answered_by, cause_by, kept_by, quiet_by, undamaged_by}
+use Rattle.ut_serving.specs.Requests.{message_in}
+use Rattle.ut_serving.proofs.Answering.{answers_as, undamaged_as}
+use Rattle.ut_serving.proofs.Apart.{TenantLaws}
+use Rattle.ut_serving.proofs.Elsewhere.{PlaceLaws}
+use Rattle.ut_serving.proofs.Kept.{acknowledged_by, cause_by, kept_by, quiet_by}
 use Rattle.ut_serving.proofs.Leading.{led_by_request}
 use Rattle.ut_serving.proofs.Worlds.{WorldLaws, by_world, crash_world}
 use Rattle.ut_serving.proofs.request.answer_message.Goals as goal
@@ -14,24 +17,22 @@ returns-clause-kept g c told made =
     kept_by (key_in (message_in m)) (message_in m) m.close c.args.now (state c.args.keeper.now) (state c.answer_own.new.keeper) c.answer_own.result c.answer_own.ensures.does told made
 
 pub returns-clause-answers : goal.returns-clause-answers
-returns-clause-answers g c told w s =
+returns-clause-answers g c told =
     let state = g.K.Keeper.state in
-    let m = c.args.message.now in
-    let old = state c.args.keeper.now in
-    let new = state c.answer_own.new.keeper in
     let laws : WorldLaws = record { each = c.local_laws.ensures.each; whole = c.local_laws.ensures.whole; nobody = c.local_laws.ensures.nobody } in
-    answered_by w m c.args.now old new c.answer_own.result c.answer_own.ensures.form.0 c.answer_own.ensures.asks
-    (by_world laws (message_in m) m.close c.args.now old new w s (key_in (message_in m)) (outcome_of c.answer_own.result) refl c.answer_own.ensures.does told)
+    let keys = c.key_laws.ensures in
+    let places : PlaceLaws = record { total = keys.total; exact = keys.exact; bytes_exact = keys.bytes_exact; own = c.local_laws.ensures.own } in
+    let tenants : TenantLaws = record { put = c.tenant_laws.ensures.put; others = c.tenant_laws.ensures.others } in
+    answers_as laws places tenants c.args.message.now c.args.now (state c.args.keeper.now) (state c.answer_own.new.keeper) c.answer_own.result c.answer_own.ensures.does told c.answer_own.ensures.form.0 c.answer_own.ensures.asks
 
 pub returns-clause-undamaged : goal.returns-clause-undamaged
-returns-clause-undamaged g c told w s damaged =
+returns-clause-undamaged g c told =
     let state = g.K.Keeper.state in
-    let m = c.args.message.now in
-    let old = state c.args.keeper.now in
-    let new = state c.answer_own.new.keeper in
     let laws : WorldLaws = record { each = c.local_laws.ensures.each; whole = c.local_laws.ensures.whole; nobody = c.local_laws.ensures.nobody } in
-    undamaged_by (does (message_in m) m.close c.args.now) w new c.answer_own.result
-    (by_world laws (message_in m) m.close c.args.now old new w s (key_in (message_in m)) (outcome_of c.answer_own.result) refl c.answer_own.ensures.does told) damaged
+    let keys = c.key_laws.ensures in
+    let places : PlaceLaws = record { total = keys.total; exact = keys.exact; bytes_exact = keys.bytes_exact; own = c.local_laws.ensures.own } in
+    let tenants : TenantLaws = record { put = c.tenant_laws.ensures.put; others = c.tenant_laws.ensures.others } in
+    undamaged_as laws places tenants c.args.message.now c.args.now (state c.args.keeper.now) (state c.answer_own.new.keeper) c.answer_own.result c.answer_own.ensures.does told
 
 pub returns-clause-crash : goal.returns-clause-crash
 returns-clause-crash g c tells trusted clean w s left may =

@@ -1,8 +1,9 @@
 -- A file that couldn't be opened, of a command that uses the keeper.
-use Rattle.std.proofs.Common.{◌≡◌, ◌⊎◌, inl, inr, ℕ, Bool, true, false, Option, Some, None, refl, sym, subst}
-use Rattle.std.specs.Prelude.{IfSome}
-use Rattle.platform.specs.Commands.{Command, answers, csvq, demo, export, has_status, load, opens_in, org_add, prints, serves}
+use Rattle.std.proofs.Common.{◌≡◌, ◌⊎◌, inl, inr, ℕ, true, Option, Some, None, refl, sym, subst}
+use Rattle.std.specs.Prelude.{◌↔◌, IfSome}
+use Rattle.ut_commands.specs.Commands.{Command, answers, csvq, demo, export, has_status, load, opens_in, org_add, prints, serves}
 use Rattle.platform.specs.Promise.{IsStatus}
+use Rattle.carmuguur.specs.Status.{IsStatusOf}
 
 own_71 : (c : Command) → opens_in (Some c) ≡ true → has_status c 71 ≡ true
 own_71 (prints (csvq query)) opens = absurd cc
@@ -39,3 +40,14 @@ if_some_right (Some a) P Q some = inr some
 pub if_some_map : {A : Type 0} (o : Option A) (P Q : A → Type 0) → ((a : A) → P a → Q a) → IfSome o P → IfSome o Q
 if_some_map None P Q by some = tt
 if_some_map (Some a) P Q by some = by a some
+
+-- ---- the status of words
+
+pub status_is : (o : Option Command) (status : ℕ) → (status ≡ 64) ↔ (o ≡ None) → IsStatusOf o status
+status_is o status is = record { no_command = is.0; none = λ e. inl (is.1 e) }
+
+pub status_memory : (o : Option Command) → IsStatusOf o 71
+status_memory o = record { no_command = λ e. absurd (other e); none = λ e. inr refl }
+  where
+    other : ◌≡◌ {A = ℕ} 71 64 → ⊥
+    other e = absurd cc

@@ -1,7 +1,7 @@
 -- What a run over a file does, by what the file and its log held.
 use Rattle.std.specs.Prelude.{◌≡◌, ◌⊎◌, ℕ, Bool, true}
 use Rattle.sqlite_wal.specs.Recovery.{Image}
-use Rattle.platform.specs.Commands.{Command}
+use Rattle.ut_commands.specs.Commands.{Command}
 use Rattle.platform.specs.Promise.{Promise}
 use Rattle.platform.specs.Seen.{Seen}
 use Rattle.ut_files.specs.Files.{Finds}

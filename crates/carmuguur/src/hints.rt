@@ -2,6 +2,7 @@
 //! a load has come.
 
 use ut_hints::{CountedSink, KeptSource, Refused, place_of, refused_in};
+use ut_sqlkeeper::DatabaseFault;
 
 // What the heading of the input of `csvq` may be.
 const CSVQ_HEADING: &str =
@@ -68,5 +69,12 @@ pub(crate) fn say_after<S, W>(
             None => {}
         },
         _ => {}
+    }
+}
+
+/// Says why the file at a path couldn't be opened, if it couldn't.
+pub(crate) fn say_fault(rt: &HostRuntime, path: &str, fault: Option<DatabaseFault>) {
+    if let Some(fault) = fault {
+        let _ = eprintln!(rt; "carmuguur: {path:?}: {fault}");
     }
 }

@@ -2,7 +2,7 @@
 
 ghost use Rattle.std.specs.Prelude.{◌≡◌, ◌⊎◌, ℕ, IfSome, map, string_bytes, true};
 ghost use Rattle.carmuguur.specs.InFile.{IsUntouched, RunsIn};
-ghost use Rattle.platform.specs.Commands.{command_of, opens_in, used_by};
+ghost use Rattle.ut_commands.specs.Commands.{command_of, opens_in, used_by};
 ghost use Rattle.platform.specs.Promise.{IsStatus, IsUnused};
 ghost use Rattle.platform.specs.Seen.{Seen};
 ghost use Rattle.sqlite_wal.specs.Files.{image_at};

@@ -1,8 +1,9 @@
 //! The program: it hands the words after its name, the standard streams and the system's clock to `platform::run`.
 #![tactic(auto)]
 
-ghost use Rattle.std.specs.Prelude.{◌≡◌, ◌⊎◌, ◌↔◌, IfOk, IsNone, None, map, string_bytes, true};
-ghost use Rattle.platform.specs.Commands.{command_of, opens_in};
+ghost use Rattle.carmuguur.specs.Status.{IsStatusOf};
+ghost use Rattle.std.specs.Prelude.{◌≡◌, ◌⊎◌, ◌↔◌, IfSome, IsNone, map, string_bytes, true};
+ghost use Rattle.ut_commands.specs.Commands.{command_of, opens_in};
 ghost use Rattle.ut_usage.specs.Lines.{IsCommandLine};
 
 mod about;
@@ -10,16 +11,17 @@ mod hints;
 mod in_file;
 
 use crate::about::asked_text;
-use crate::hints::{Hinted, hinted_by, say_after};
-use crate::in_file::run_in_file;
-use platform::{run, run_laws, uses_keeper};
-use std::alloc::AllocError;
+use crate::hints::{Hinted, hinted_by, say_after, say_fault};
+use crate::in_file::{Ended, run_in_file};
+use platform::{run, run_laws};
+use std::alloc::Global;
 use std::env;
 use std::io::ErrorKind;
 use std::process::ExitCode;
+use ut_commands::uses_keeper;
 use ut_files::Unknown;
 use ut_hints::{CountedSink, KeptSource};
-use ut_io::{StdSink, StdSource, StoppableDoor, SystemClock, TcpDoor};
+use ut_io::{Clock, Door, Sink, Source, StdSink, StdSource, StoppableDoor, SystemClock, TcpDoor};
 use ut_keeper::MemoryKeeper;
 use ut_usage::{CommandLine, Mistake, read_line};
 
@@ -90,67 +92,82 @@ fn says_rows(rt: &HostRuntime, hinted: Hinted) -> bool {
 }
 
 // Runs the command over tables in memory, which are empty.
-fn run_in_memory(rt: HostRuntime, port: u16, command: &[String]) -> Result<u8, AllocError>
-    ensures { IfOk result (λ status. (status ≡ 64) ↔ (command_of (map string_bytes command.now) ≡ None)) }
+fn run_in_memory<D: Door, S: Source, W: Sink, C: Clock>(
+    alloc: Global,
+    command: &[String],
+    door: &mut D,
+    source: &mut S,
+    sink: &mut W,
+    clock: &mut C,
+) -> u8
+    ensures { IsStatusOf (command_of (map string_bytes command.now)) result }
 {
     // For the proof alone.
     run_laws();
-    let mut keeper = MemoryKeeper::new(rt.alloc(), &[])?;
-    let mut door = door_at(rt, port);
-    let hinted = hinted_by(command);
-    let mut source = KeptSource::new(rt.alloc(), StdSource::new(rt.stdin()), keeps_input(hinted));
-    let mut sink = CountedSink::new(rt, StdSink::new(rt.stdout()), says_rows(&rt, hinted));
-    let mut clock = SystemClock::new(rt);
-    let status = run(
-        rt.alloc(),
-        command,
-        &mut keeper,
-        &mut door,
-        &mut source,
-        &mut sink,
-        &mut clock,
-    );
-    say_after(&rt, hinted, status, &source, &sink);
-    Ok(status)
+    match MemoryKeeper::new(alloc, &[]) {
+        Ok(mut keeper) => run(alloc, command, &mut keeper, door, source, sink, clock),
+        Err(_) => OUT_OF_MEMORY,
+    }
 }
 
-// Runs the command over the tables in a file. Why it couldn't be opened is said in a line of its own.
-fn run_on_path(rt: HostRuntime, path: &str, port: u16, command: &[String]) -> u8
-    requires { opens_in (command_of (map string_bytes command.now)) ≡ true }
-    ensures { (result ≡ 64) ↔ (command_of (map string_bytes command.now) ≡ None) }
+// Runs the command over the tables in the file at the path or, where there is none, over tables in memory.
+fn run_over<D: Door, S: Source, W: Sink, C: Clock>(
+    rt: HostRuntime,
+    path: Option<&str>,
+    command: &[String],
+    door: &mut D,
+    source: &mut S,
+    sink: &mut W,
+    clock: &mut C,
+) -> Ended
+    requires { IfSome path (λ _. opens_in (command_of (map string_bytes command.now)) ≡ true) }
+    ensures { IsStatusOf (command_of (map string_bytes command.now)) result.status }
 {
     // For the proof alone.
     run_laws();
-    let mut door = door_at(rt, port);
-    let hinted = hinted_by(command);
+    match path {
+        Some(path) => run_in_file(rt, path, Unknown, command, door, source, sink, clock),
+        None => Ended {
+            status: run_in_memory(rt.alloc(), command, door, source, sink, clock),
+            fault: None,
+            is_closed: false,
+        },
+    }
+}
+
+// The path of the file whose tables a command line uses: `-` is for tables in memory, and a command that uses none opens no file.
+fn path_of<'a>(line: &CommandLine<'a>) -> Option<&'a str>
+    ensures { IfSome result (λ _. opens_in (command_of (map string_bytes line.now.command.now)) ≡ true) }
+{
+    if line.path != "-" && uses_keeper(line.command) {
+        Some(line.path)
+    } else {
+        None
+    }
+}
+
+// Runs a command line over the standard streams, and says what is to be said of it in lines of its own. It alone names the types of the
+// streams, which are dear to prove.
+fn run_line(rt: HostRuntime, line: &CommandLine<'_>) -> u8
+    ensures { IsStatusOf (command_of (map string_bytes line.now.command.now)) result }
+{
+    let mut door = door_at(rt, line.port);
+    let hinted = hinted_by(line.command);
     let mut source = KeptSource::new(rt.alloc(), StdSource::new(rt.stdin()), keeps_input(hinted));
     let mut sink = CountedSink::new(rt, StdSink::new(rt.stdout()), says_rows(&rt, hinted));
     let mut clock = SystemClock::new(rt);
-    let ended = run_in_file(
+    let ended = run_over(
         rt,
-        path,
-        Unknown,
-        command,
+        path_of(line),
+        line.command,
         &mut door,
         &mut source,
         &mut sink,
         &mut clock,
     );
     say_after(&rt, hinted, ended.status, &source, &sink);
-    if let Some(fault) = ended.fault {
-        let _ = eprintln!(rt; "carmuguur: {path:?}: {fault}");
-    }
+    say_fault(&rt, line.path, ended.fault);
     ended.status
-}
-
-// Runs a command line: `-` as PATH is for tables in memory, any other PATH for a file, which a command opens that uses the tables.
-fn run_line(rt: HostRuntime, line: &CommandLine<'_>) -> Result<u8, AllocError>
-    ensures { IfOk result (λ status. (status ≡ 64) ↔ (command_of (map string_bytes line.now.command.now) ≡ None)) }
-{
-    if line.path != "-" && uses_keeper(line.command) {
-        return Ok(run_on_path(rt, line.path, line.port, line.command));
-    }
-    run_in_memory(rt, line.port, line.command)
 }
 
 // What standard error says of a status of `run`: nothing if standard output has the answer or the refusal.
@@ -187,7 +204,7 @@ fn do_words(rt: HostRuntime, words: &[String]) -> u8
         Ok(line) => line,
         Err(mistake) => return refuse(&rt, &mistake),
     };
-    let status = run_line(rt, &line).unwrap_or(OUT_OF_MEMORY);
+    let status = run_line(rt, &line);
     if let Some(line) = explanation(status) {
         let _ = eprintln!(rt; "carmuguur: {line}");
     }

@@ -19,8 +19,8 @@ use Rattle.ut_io.specs.declared.traits.IoFail.{IoFail}
 use Rattle.ut_serving.specs.declared.wire.LineFail.{LineFail}
 use Rattle.platform.specs.Seen.{Seen}
 use Rattle.platform.specs.Serving.{IsOpening, OpensOnly, RunsAnswer, RunsServe, ServeEnds, answer_end, serve_end}
-use Rattle.platform.specs.Stops.{of_opening}
-use Rattle.platform.specs.declared.stop.Stop.{Stop}
+use Rattle.ut_commands.specs.Stops.{of_opening}
+use Rattle.ut_commands.specs.declared.stop.Stop.{Stop}
 
 pub opened_only : (sense : Sense) (w : World) (a b : Seen) (s : Stop) → IsOpening (Err s) → LeavesBehind sense w [] a.keeper b.keeper → b.door ≡ a.door → b.left ≡ a.left → b.written ≡ a.written → b.coming ≡ a.coming → IsOpening (Err s) × OpensOnly sense w a b
 opened_only sense w a b s is kept door left written coming = (is, record { kept = kept; door = door; left = left; written = written; coming = coming })

@@ -7,11 +7,11 @@ use Rattle.ut_model.specs.World.{World}
 use Rattle.ut_stands.specs.Stands.{Stands}
 use Rattle.ut_stands.specs.declared.fail.OpenFail.{OpenFail}
 use Rattle.ut_stands.specs.declared.fail.OpenFail.TheVariants as opening
-use Rattle.platform.specs.Commands.{is_opening}
+use Rattle.ut_commands.specs.Commands.{is_opening}
 use Rattle.platform.specs.Falling.{FallsOpening}
 use Rattle.platform.specs.Run.{status_in}
-use Rattle.platform.specs.Stops.{of_opening}
-use Rattle.platform.specs.declared.stop.Stop.{Stop}
+use Rattle.ut_commands.specs.Stops.{of_opening}
+use Rattle.ut_commands.specs.declared.stop.Stop.{Stop}
 
 opens : (f : OpenFail) → is_opening (status_in (Err (of_opening f))) ≡ true
 opens opening.UnknownVersion = refl

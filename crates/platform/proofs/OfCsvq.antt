@@ -1,28 +1,20 @@
 -- The promise of `run` for `csvq`.
-use Rattle.std.proofs.Common.{◌≡◌, ◌<◌, length, inl, inr, ℕ, suc, Bool, true, List, [], replicate, Option, Some, None, Result, Ok, Err, pos, refl, sym, ap, ◌∙◌, arith}
-use Rattle.std.proofs.lemmas.List.{length-replicate}
-use Rattle.std.specs.Prelude.{IfOk, IfSome, IsErrOf}
+use Rattle.std.proofs.Common.{◌≡◌, inl, inr, ℕ, true, List, Result, Ok, Err, refl, sym, ◌∙◌, arith}
+use Rattle.std.specs.Prelude.{IfOk, IsErrOf}
 use Rattle.std.specs.Io.KnownBytes.{IsAtEnd}
 use Rattle.ut_value.specs.Causes.{Cause}
 use Rattle.ut_io.specs.Moments.{AskedOnce, IsFirstMoment}
 use Rattle.ut_model.specs.World.{World}
-use Rattle.platform.specs.Commands.{Command, csvq, has_status, may_write, printed, prints}
-use Rattle.platform.specs.Csvq.{is_read, outcome_page, reads_input, rows_printed}
-use Rattle.ut_batches.specs.Batches.{MayTell, first_moment}
-use Rattle.platform.specs.Printed.{refused}
-use Rattle.ut_csvq.specs.Outcomes.{input_outcome, query_outcome}
-use Rattle.ut_own.specs.Own.{query_or_refusal}
-use Rattle.ut_csvq.proofs.Turns.{too_large}
-use Rattle.ut_model.specs.declared.refusal.Refusal.{Refusal}
-use Rattle.ut_model.specs.declared.refusal.Refusal.TheVariants.{InputTooLarge}
-use Rattle.ut_query.specs.declared.query.Query.{Query}
-use Rattle.platform.specs.Deeds.{Prints}
+use Rattle.ut_commands.specs.Commands.{Command, csvq, has_status, may_write, printed, prints}
+use Rattle.ut_commands.specs.Csvq.{reads_input}
+use Rattle.ut_batches.specs.Batches.{first_moment}
+use Rattle.ut_commands.specs.Deeds.{Prints}
 use Rattle.platform.specs.Promise.{Promise}
 use Rattle.platform.specs.Run.{MayBe, status_in}
 use Rattle.platform.specs.Seen.{Seen}
-use Rattle.platform.specs.Stops.{IsKnownStatus, csvq_end, is_done}
-use Rattle.platform.specs.declared.printing.CsvqStop.{CsvqStop}
-use Rattle.platform.specs.declared.printing.CsvqStop.TheVariants as csvq_stop
+use Rattle.ut_commands.specs.Stops.{IsKnownStatus, csvq_end, is_done}
+use Rattle.ut_commands.specs.declared.printing.CsvqStop.{CsvqStop}
+use Rattle.ut_commands.specs.declared.printing.CsvqStop.TheVariants as csvq_stop
 use Rattle.platform.proofs.OfOwn.{moments_at, own_promise}
 use Rattle.platform.proofs.Runs.{caused}
 
@@ -73,37 +65,3 @@ module _ (query : List ℕ) (a b : Seen) (r : Result ℕ CsvqStop) (status : ℕ
       (λ w. let m = moments_at a.coming now first in let h = does w m.moments m.first in (h.0, m.moments, h.1, m.are, h.2))
       (λ used. read_whole (IsAtEnd b.left) r status whole same) asked
       (caused a.read_faults b.read_faults source (source_failed r status known same)) (caused a.write_faults b.write_faults sink (sink_failed r status known same))
-
--- ---- a query that is read
-
--- of such a query it comes to what its input does
-pub read_so : (query bytes : List ℕ) (now : ℕ) (read : Result Query Refusal) → read ≡ query_or_refusal query → (q : Query) → read ≡ Ok q
-    → outcome_page (input_outcome q (pos now) bytes) ≡ rows_printed query bytes now
-read_so query bytes now read e q is = ap (λ (r : Result Query Refusal). outcome_page (query_outcome r (pos now) bytes)) (sym is ∙ e)
-
-pub refused_so : (query bytes : List ℕ) (now : ℕ) (read : Result Query Refusal) → read ≡ query_or_refusal query → (why : Refusal) → read ≡ Err why
-    → refused why ≡ rows_printed query bytes now
-refused_so query bytes now read e why is = ap (λ (r : Result Query Refusal). outcome_page (query_outcome r (pos now) bytes)) (sym is ∙ e)
-
-pub is_read_so : (query : List ℕ) (read : Result Query Refusal) → read ≡ query_or_refusal query → (q : Query) → read ≡ Ok q → reads_input query ≡ true
-is_read_so query read e q is = ap is_read (sym e ∙ is)
-
--- some bytes that a source may have had
-pub some_input : (used : Bool) (left : Option (List ℕ)) → (bytes : List ℕ) × MayBe used left bytes
-some_input used None = ([], inr tt)
-some_input used (Some known) = (known, inr refl)
-
-zeros : (n : ℕ) → List ℕ
-zeros n = replicate (suc n) 0
-
-longer : (n : ℕ) → n < length (zeros n)
-unfolding zeros
-longer n = let is = length-replicate {A = ℕ} (suc n) 0 in omega (arith, is)
-
--- an input that is too long
-pub too_long_input : (n : ℕ) (left : Option (List ℕ)) → IfSome left (λ all. n < length all) → (bytes : List ℕ) × MayTell left bytes × (n < length bytes)
-too_long_input n None long = (zeros n, tt, longer n)
-too_long_input n (Some all) long = (all, refl, long)
-
-pub too_long_page : (q : Query) (now : ℕ) (bytes : List ℕ) → 67108864 < length bytes → refused InputTooLarge ≡ outcome_page (input_outcome q (pos now) bytes)
-too_long_page q now bytes long = ap outcome_page (too_large q now bytes long)

@@ -3,69 +3,24 @@ use Rattle.std.proofs.Common.{◌≡◌, ◌⊎◌, inl, inr, ◌∙◌, ℕ, Bo
 use Rattle.std.specs.Io.KnownBytes.{IsAtEnd}
 use Rattle.std.specs.Prelude.{◌==◌, ◌||◌, IsErrOf, is_ok}
 use Rattle.ut_value.specs.Causes.{Cause}
-use Rattle.ut_batches.specs.Batches.{AskedRow, MayTell, rows_loaded}
-use Rattle.ut_bulk.specs.declared.plan.LoadPlan.{LoadPlan}
-use Rattle.ut_keeper.specs.State.{KeeperCause, KeeperState, Shows, StaysAfter, Steps, Tells, TrustedAfter}
+use Rattle.ut_batches.specs.Batches.{MayTell}
+use Rattle.ut_keeper.specs.State.{KeeperCause, Shows, Steps, Tells, TrustedAfter}
 use Rattle.ut_keeper.specs.Tables.{Tables}
-use Rattle.ut_keys.specs.declared.fail.StoreFail.{StoreFail}
-use Rattle.ut_keys.specs.declared.fail.StoreFail.TheVariants as store
 use Rattle.ut_model.specs.Callers.{Named, named_by}
 use Rattle.ut_model.specs.World.{World}
 use Rattle.ut_serving.specs.Falls.{Fell}
-use Rattle.ut_stands.specs.declared.judged.Judged.{Judged}
-use Rattle.ut_stands.specs.declared.judged.Judged.TheVariants.{Changed, Same}
-use Rattle.ut_stands.specs.Calls as ends
-use Rattle.ut_stands.specs.Calls.{HasFallen, ended}
-use Rattle.ut_stands.specs.Operations.{IsChange, Judges}
 use Rattle.ut_stands.specs.Stands.{HasKnownVersion, HasUnknownVersion, Stands}
-use Rattle.platform.specs.Commands.{Command, has_status, is_one_of, load, may_change, prints}
-use Rattle.platform.specs.Deeds.{Prints}
-use Rattle.platform.specs.Load.{batch_does, load_printed}
-use Rattle.platform.specs.Loading.{FallsBy, PrintsBy, page_judged, page_of_lines}
-use Rattle.platform.specs.Printed.{PageText}
+use Rattle.ut_commands.specs.Commands.{Command, has_status, is_one_of, load, may_change, prints}
+use Rattle.ut_commands.specs.Deeds.{Prints}
+use Rattle.ut_commands.specs.Load.{load_printed}
+use Rattle.ut_commands.specs.Loading.{FallsBy, PrintsBy}
 use Rattle.platform.specs.Promise.{Causes, Promise}
 use Rattle.platform.specs.Run.{IsWorldOf, KeepsWorld, MayBe, status_in}
 use Rattle.platform.specs.Seen.{Seen}
-use Rattle.platform.specs.Stops.{IsKnownStatus, VersionStops}
-use Rattle.platform.specs.declared.stop.Stop.{Stop}
-use Rattle.platform.specs.declared.stop.Stop.TheVariants as stop
+use Rattle.ut_commands.specs.Stops.{IsKnownStatus, VersionStops}
+use Rattle.ut_commands.specs.declared.stop.Stop.{Stop}
+use Rattle.ut_commands.specs.declared.stop.Stop.TheVariants as stop
 use Rattle.platform.proofs.Runs.{caused, is_72, is_73, is_74, keeper_caused, not_own, quiet, true_isnt_false, version_ends}
-
--- ---- the page of a batch
-
-abbrev pub Lines : Type 0
-Lines = Result (Judged (List ℕ)) StoreFail
-
-page_change : (r : Lines) → IsChange (page_judged r) → IsChange r
-page_change (Ok (Same x)) h = h
-page_change (Ok (Changed x)) h = h
-page_change (Err e) h = h
-
-pub page_judges : (named : Option Named) (p : LoadPlan) (rows : List AskedRow) (w : World) (after : Tables) (r : Lines) → Judges Stands (rows_loaded named p rows) w after r → Judges Stands (batch_does named p rows) w after (page_judged r)
-page_judges named p rows w after (Ok (Same x)) h = (ap page_of_lines h.0, h.1)
-page_judges named p rows w after (Ok (Changed x)) h = (ap page_of_lines h.0, h.1)
-page_judges named p rows w after (Err e) h = h
-
-page_done : (r : Lines) → is_ok (page_judged r) ≡ true → ends.is_done (ended r) ≡ true
-page_done (Ok x) ok = refl
-page_done (Err e) ok = absurd (true_isnt_false (sym ok))
-
-page_fell : (r : Lines) → IsErrOf (page_judged r) store.Keeper → HasFallen (ended r)
-page_fell (Ok (Same x)) h = absurd cc
-page_fell (Ok (Changed x)) h = absurd cc
-page_fell (Err store.Keeper) h = tt
-page_fell (Err store.Memory) h = absurd cc
-page_fell (Err store.Damaged) h = absurd cc
-
-module _ (old new : KeeperState) (r : Lines) (p : Result (Judged PageText) StoreFail) (is : p ≡ page_judged r) where
-  pub page_changes : IsChange p → IsChange r
-  page_changes h = page_change r (subst IsChange is h)
-
-  pub page_stays : StaysAfter (ends.is_done (ended r)) old new → StaysAfter (is_ok p) old new
-  page_stays h trusted ok clean = h trusted (page_done r (ap is_ok (sym is) ∙ ok)) clean
-
-  pub page_cause : KeeperCause old new (HasFallen (ended r)) → KeeperCause old new (IsErrOf p store.Keeper)
-  page_cause h = record { rose = λ e. h.rose (page_fell r (sym is ∙ e)); never = λ sure e. h.never sure (page_fell r (sym is ∙ e)) }
 
 -- ---- all of it
 
@@ -106,7 +61,7 @@ module _ (org user secret object : List ℕ) (a b : Seen) (r : Result ℕ Stop) 
     sink = caused a.write_faults b.write_faults sink (is_73 r status known same);
     source = caused a.read_faults b.read_faults source (is_74 r status known same);
     door = quiet a.door_faults b.door_faults doors (not_own This status 75 (own has) refl);
-    acknowledged = λ serving uses page. trusted (all_printed r status known same page);
+    acknowledged = λ serving uses printout. trusted (all_printed r status known same printout);
   }
 
   pub load_promise : ((m : Tables) → HasKnownVersion m → HasUnknownVersion m → ⊥) → Causes This a b status

@@ -9,12 +9,12 @@ use Rattle.ut_keeper.specs.State.{KeeperState, Shows}
 use Rattle.ut_model.specs.World.{World}
 use Rattle.ut_serving.specs.Falls.{Fell}
 use Rattle.ut_batches.specs.Batches.{first_moment}
-use Rattle.platform.specs.Commands.{Printing, has_status, printed, prints, uses}
-use Rattle.platform.specs.Deeds.{Prints}
+use Rattle.ut_commands.specs.Commands.{Printing, has_status, printed, prints, uses}
+use Rattle.ut_commands.specs.Deeds.{Prints}
 use Rattle.platform.specs.Promise.{Causes, Promise}
 use Rattle.platform.specs.Run.{AskedSo, KeepsIf, MayBe, status_in}
 use Rattle.platform.specs.Seen.{Seen}
-use Rattle.platform.specs.declared.stop.Stop.{Stop}
+use Rattle.ut_commands.specs.declared.stop.Stop.{Stop}
 use Rattle.platform.proofs.Runs.{not_own, quiet, true_isnt_false, untouched}
 
 -- what a clock returns is a moment of the calendar

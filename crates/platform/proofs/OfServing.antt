@@ -8,14 +8,14 @@ use Rattle.ut_serving.specs.Falls.{Fell}
 use Rattle.ut_serving.specs.Leads.{LeadsFrom, StandsReached}
 use Rattle.ut_serving.specs.Senses.{Sense, StandsAs, all_but, of_all}
 use Rattle.ut_stands.specs.Stands.{HasKnownVersion, HasUnknownVersion, Stands}
-use Rattle.platform.specs.Commands.{Command, answers, has_status, is_opening, is_serving, may_change, may_write, prints, serves}
+use Rattle.ut_commands.specs.Commands.{Command, answers, has_status, is_opening, is_serving, may_change, may_write, prints, serves}
 use Rattle.platform.specs.Falling.{CrashLeaves, FallsTold}
 use Rattle.platform.specs.Promise.{Causes, Promise}
 use Rattle.platform.specs.Run.{IsWorldOf, Runs, ServesAs, status_in}
 use Rattle.platform.specs.Seen.{Seen}
-use Rattle.platform.specs.Stops.{VersionStops}
-use Rattle.platform.specs.declared.stop.Stop.{Stop}
-use Rattle.platform.specs.declared.stop.Stop.TheVariants.{Damaged, DoorFailed, KeeperFailed, NoMemory, SinkFailed, SourceFailed, UnknownVersion}
+use Rattle.ut_commands.specs.Stops.{VersionStops}
+use Rattle.ut_commands.specs.declared.stop.Stop.{Stop}
+use Rattle.ut_commands.specs.declared.stop.Stop.TheVariants.{Damaged, DoorFailed, KeeperFailed, NoMemory, SinkFailed, SourceFailed, UnknownVersion}
 use Rattle.platform.proofs.Runs.{known_zero, true_isnt_false, version_ends}
 
 -- the world of a command that serves is told

@@ -1,4 +1,4 @@
--- The promise of `run` for a command that makes a page of the tables.
+-- The promise of `run` for a command that makes a printout of the tables.
 use Rattle.std.proofs.Common.{◌≡◌, ◌⊎◌, inl, inr, ℕ, Bool, true, false, IsTrue, List, [], ◌∷◌, Option, Result, Ok, Err, refl, sym, ap, subst, ◌∙◌, arith}
 use Rattle.std.specs.Io.KnownBytes.{Appends}
 use Rattle.std.specs.Prelude.{IfOk, IsErrOf}
@@ -8,16 +8,16 @@ use Rattle.ut_keeper.specs.Tables.{Tables}
 use Rattle.ut_model.specs.World.{World}
 use Rattle.ut_serving.specs.Falls.{Fell}
 use Rattle.ut_stands.specs.Stands.{HasKnownVersion, HasUnknownVersion, Stands}
-use Rattle.platform.specs.Commands.{Asks, Command, Printing, Uses, has_status, is_one_of, may_write, printed, prints, table_changes, table_uses, uses}
-use Rattle.platform.specs.Deeds.{CutShort, Printed, Prints, one_deed}
-use Rattle.platform.specs.Printed.{PageText}
+use Rattle.ut_commands.specs.Commands.{Asks, Command, Printing, Uses, has_status, is_one_of, may_write, printed, prints, table_changes, table_uses, uses}
+use Rattle.ut_commands.specs.Deeds.{CutShort, Printed, Prints, one_deed}
+use Rattle.ut_commands.specs.Printed.{PrintoutText}
 use Rattle.platform.specs.Promise.{Causes, Promise}
 use Rattle.platform.specs.Run.{AskedSo, IsWorldOf, KeepsIf, KeepsWorld, MayBe, status_in}
 use Rattle.platform.specs.Seen.{Seen}
-use Rattle.platform.specs.Stops.{IsKnownStatus, VersionStops, behind, is_done, store_end}
-use Rattle.platform.specs.declared.printing.StoreStop.{StoreStop}
-use Rattle.platform.specs.declared.printing.StoreStop.TheVariants as storing
-use Rattle.platform.proofs.Deeds.{nothing}
+use Rattle.ut_commands.specs.Stops.{IsKnownStatus, VersionStops, behind, is_done, store_end}
+use Rattle.ut_commands.specs.declared.printing.StoreStop.{StoreStop}
+use Rattle.ut_commands.specs.declared.printing.StoreStop.TheVariants as storing
+use Rattle.ut_commands.proofs.Deeds.{nothing}
 use Rattle.platform.proofs.Runs.{caused, keeper_caused, not_own, quiet, true_isnt_false, version_ends}
 
 -- ---- by the status
@@ -91,21 +91,21 @@ sink_failed (Err storing.SinkFailed) status known same e = refl
 sink_failed (Err storing.Damaged) status known same e = absurd (omega (arith, same, e))
 sink_failed (Err storing.UnknownVersion) status known same e = absurd (omega (arith, same, e))
 
-is_page : (r : Result ℕ StoreStop) (status : ℕ) → status ≡ status_in (store_end r) → (status ≡ 0) ⊎ (status ≡ 65) → is_done (store_end r) ≡ true
-is_page (Ok s) status same h = refl
-is_page (Err storing.NoMemory) status same h = absurd (omega (arith, same, h))
-is_page (Err storing.KeeperFailed) status same h = absurd (omega (arith, same, h))
-is_page (Err storing.SinkFailed) status same h = absurd (omega (arith, same, h))
-is_page (Err storing.Damaged) status same h = absurd (omega (arith, same, h))
-is_page (Err storing.UnknownVersion) status same h = absurd (omega (arith, same, h))
+is_printout : (r : Result ℕ StoreStop) (status : ℕ) → status ≡ status_in (store_end r) → (status ≡ 0) ⊎ (status ≡ 65) → is_done (store_end r) ≡ true
+is_printout (Ok s) status same h = refl
+is_printout (Err storing.NoMemory) status same h = absurd (omega (arith, same, h))
+is_printout (Err storing.KeeperFailed) status same h = absurd (omega (arith, same, h))
+is_printout (Err storing.SinkFailed) status same h = absurd (omega (arith, same, h))
+is_printout (Err storing.Damaged) status same h = absurd (omega (arith, same, h))
+is_printout (Err storing.UnknownVersion) status same h = absurd (omega (arith, same, h))
 
 -- ---- a command that uses this
 
 -- the one deed of a command that is done at once: nothing of it was written
-pub one_cut : (w : World) (page : PageText) (next : World) (old new : Option (List ℕ)) (end : World) → new ≡ old → (end ≡ w) ⊎ (end ≡ next) → CutShort w (one_deed page next) old new end
-one_cut w page next old new end same is = record {
+pub one_cut : (w : World) (printout : PrintoutText) (next : World) (old new : Option (List ℕ)) (end : World) → new ≡ old → (end ≡ w) ⊎ (end ≡ next) → CutShort w (one_deed printout next) old new end
+one_cut w printout next old new end same is = record {
   past = [];
-  rest = record { text = page.text; world = next } ∷ [];
+  rest = record { text = printout.text; world = next } ∷ [];
   all = refl;
   text = subst (λ (t : Option (List ℕ)). Appends old t []) (sym same) (nothing old);
   world = is;
@@ -147,10 +147,10 @@ module _ (p : Printing) (keeps : Bool) (clock : Asks) (dated : Bool) (is : uses 
       sink = caused a.write_faults b.write_faults sink (sink_failed r status known same);
       source = quiet a.read_faults b.read_faults reads (never 74 refl);
       door = quiet a.door_faults b.door_faults doors (never 75 refl);
-      acknowledged = λ serving uses page. trusted (is_page r status same page);
+      acknowledged = λ serving uses printout. trusted (is_printout r status same printout);
     }
 
-    module _ (does : World → PageText × World) where
+    module _ (does : World → PrintoutText × World) where
       abbrev next : World → World
       next w = (does w).1
 
@@ -197,7 +197,7 @@ module _ (p : Printing) (keeps : Bool) (clock : Asks) (dated : Bool) (is : uses 
             subst (λ (u : Bool). KeepsIf u (behind w (next w) (store_end r)) b.keeper) (sym keeper_used) (keeping told w s),
           )
 
-          -- once its page was made the keeper is trusted
+          -- once its printout was made the keeper is trusted
           undone : Fell a.keeper b.keeper → (v : Bool) → is_done (store_end r) ≡ v → v ≡ false
           undone fell false is = refl
           undone fell true is = absurd (true_isnt_false (sym (trusted is fell.3) ∙ fell.2))

@@ -5,16 +5,14 @@ use Rattle.ut_value.specs.Causes.{Cause}
 use Rattle.ut_keeper.specs.State.{KeeperCause, KeeperState, Steps}
 use Rattle.ut_keeper.specs.Tables.{Tables}
 use Rattle.ut_stands.specs.Stands.{HasKnownVersion, HasUnknownVersion}
-use Rattle.platform.specs.Commands.{Command, has_status, used_by}
+use Rattle.ut_commands.specs.Commands.{Command, has_status, used_by}
+pub use Rattle.ut_commands.proofs.Deeds.{true_isnt_false}
 use Rattle.platform.specs.Promise.{IsStatus, IsUnused, Promise}
 use Rattle.platform.specs.Run.{VersionEnds, status_in}
 use Rattle.platform.specs.Seen.{Seen}
-use Rattle.platform.specs.Stops.{IsKnownStatus, VersionStops}
-use Rattle.platform.specs.declared.stop.Stop.{Stop}
-use Rattle.platform.specs.declared.stop.Stop.TheVariants.{Damaged, DoorFailed, KeeperFailed, NoMemory, SinkFailed, SourceFailed, UnknownVersion}
-
-pub true_isnt_false : true ≡ false → ⊥
-true_isnt_false e = absurd cc
+use Rattle.ut_commands.specs.Stops.{IsKnownStatus, VersionStops}
+use Rattle.ut_commands.specs.declared.stop.Stop.{Stop}
+use Rattle.ut_commands.specs.declared.stop.Stop.TheVariants.{Damaged, DoorFailed, KeeperFailed, NoMemory, SinkFailed, SourceFailed, UnknownVersion}
 
 -- ---- of these words
 

@@ -4,7 +4,7 @@ use Rattle.std.specs.Prelude.{◌↔◌, ◌==◌, ◌||◌}
 use Rattle.ut_keeper.specs.Tables.{Tables}
 use Rattle.ut_model.specs.World.{World}
 use Rattle.ut_stands.specs.Stands.{HasKnownVersion, HasUnknownVersion, Stands}
-use Rattle.platform.specs.Commands.{Command, answers, csvq, demo, export, has_status, is_one_of, is_serving, load, org_add, prints, serves, uses_of}
+use Rattle.ut_commands.specs.Commands.{Command, answers, csvq, demo, export, has_status, is_one_of, is_serving, load, org_add, prints, serves, uses_of}
 use Rattle.platform.specs.Promise.{IsStatus}
 use Rattle.platform.specs.Run.{VersionEnds}
 use Rattle.platform.proofs.Runs.{not_own, true_isnt_false}

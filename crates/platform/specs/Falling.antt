@@ -7,8 +7,8 @@ use Rattle.ut_model.specs.World.{World}
 use Rattle.ut_serving.specs.Falls.{Falls, FallsBringing}
 use Rattle.ut_serving.specs.Leads.{StandsReached}
 use Rattle.ut_stands.specs.Stands.{Stands}
-use Rattle.platform.specs.Commands.{Command, Printing, answers, is_opening, prints, printed, serves, uses}
-use Rattle.platform.specs.Deeds.{CutShort}
+use Rattle.ut_commands.specs.Commands.{Command, Printing, answers, is_opening, prints, printed, serves, uses}
+use Rattle.ut_commands.specs.Deeds.{CutShort}
 use Rattle.platform.specs.Run.{MayBe}
 use Rattle.platform.specs.Seen.{Seen}
 

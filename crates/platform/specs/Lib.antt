@@ -1,16 +1,5 @@
-pub mod Printed
-pub mod Csvq
-pub mod OrgAdd
-pub mod Demo
-pub mod Deeds
-pub mod Export
-pub mod Load
-pub mod Commands
 pub mod Seen
 pub mod Serving
 pub mod Run
 pub mod Falling
 pub mod Promise
-pub mod Words
-pub mod Stops
-pub mod Loading

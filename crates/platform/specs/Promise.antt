@@ -7,11 +7,11 @@ use Rattle.ut_serving.specs.Falls.{Fell}
 use Rattle.ut_serving.specs.Leads.{StandsReached}
 use Rattle.ut_serving.specs.Senses.{StandsBut, all_but}
 use Rattle.ut_stands.specs.Stands.{HasKnownVersion, Stands}
-use Rattle.platform.specs.Commands.{Command, Used, has_status, is_serving, may_change, uses_of}
+use Rattle.ut_commands.specs.Commands.{Command, Used, has_status, is_serving, may_change, uses_of}
 use Rattle.platform.specs.Falling.{Doubts}
 use Rattle.platform.specs.Run.{HasRead, IsWorldOf, Runs, ServesAs, VersionEnds, status_in}
 use Rattle.platform.specs.Seen.{Seen}
-use Rattle.platform.specs.declared.stop.Stop.{Stop}
+use Rattle.ut_commands.specs.declared.stop.Stop.{Stop}
 
 -- 64 exactly if the words are no command; else one of the command's own
 abbrev pub IsStatus : Option Command → ℕ → Type 0

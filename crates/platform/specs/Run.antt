@@ -1,40 +1,20 @@
 -- What a run does, from what is seen before and after it.
-use Rattle.std.specs.Prelude.{◌≡◌, ◌⊎◌, ℕ, Bool, true, false, List, Option, Result, Ok, Err}
+use Rattle.std.specs.Prelude.{◌≡◌, ◌⊎◌, ℕ, Bool, true, false, List, Option, Result}
 use Rattle.std.specs.Io.KnownBytes.{IsAtEnd}
-use Rattle.ut_batches.specs.Batches.{MayTell}
 use Rattle.ut_io.specs.Moments.{AskedOnce}
 use Rattle.ut_keeper.specs.State.{KeeperState, Tells}
 use Rattle.ut_keeper.specs.Tables.{Tables}
 use Rattle.ut_model.specs.World.{World}
 use Rattle.ut_serving.specs.Senses.{Sense, of_all}
 use Rattle.ut_stands.specs.Stands.{HasKnownVersion, HasUnknownVersion, Stands}
-use Rattle.platform.specs.Commands.{Asks, Command, answers, each, never, once, prints, printed, serves, uses, uses_of}
-use Rattle.platform.specs.Deeds.{Prints}
+use Rattle.ut_commands.specs.Commands.{Asks, Command, answers, each, never, once, prints, printed, serves, uses, uses_of}
+use Rattle.ut_commands.specs.Deeds.{Prints}
+pub use Rattle.ut_commands.specs.Statuses.{KeepsWorld, MayBe, status_in, stop_status}
 use Rattle.platform.specs.Seen.{Seen}
 use Rattle.platform.specs.Serving.{RunsAnswer, RunsServe}
-use Rattle.platform.specs.declared.stop.Stop.{Stop}
-use Rattle.platform.specs.declared.stop.Stop.TheVariants.{Damaged, DoorFailed, KeeperFailed, NoMemory, SinkFailed, SourceFailed, UnknownVersion}
-
--- ---- statuses
-
-abbrev pub stop_status : Stop → ℕ
-stop_status NoMemory = 71
-stop_status KeeperFailed = 72
-stop_status SinkFailed = 73
-stop_status SourceFailed = 74
-stop_status DoorFailed = 75
-stop_status Damaged = 76
-stop_status UnknownVersion = 77
-
-abbrev pub status_in : Result ℕ Stop → ℕ
-status_in (Ok status) = status
-status_in (Err stop) = stop_status stop
+use Rattle.ut_commands.specs.declared.stop.Stop.{Stop}
 
 -- ---- what is handed in
-
--- this may be what there was: what is told, if anything is; if it isn't used, it may be anything
-abbrev pub MayBe : (used : Bool) → Option (List ℕ) → List ℕ → Type 0
-MayBe used told value = (used ≡ false) ⊎ MayTell told value
 
 -- the tables that the keeper tells stand for this world; of a command that doesn't open it, any world may be taken
 abbrev pub IsWorldOf : Command → KeeperState → KeeperState → World → Type 0
@@ -42,11 +22,7 @@ IsWorldOf command old new w = ((uses_of command).keeper ≡ false) ⊎ (Tells ol
 
 -- ---- what a run does
 
--- the keeper tells its tables, and they stand for this world
-abbrev pub KeepsWorld : World → KeeperState → Type 0
-KeepsWorld w k = k.tells × Stands k.tables w
-
--- the same of a command that may not use the keeper
+-- the keeper tells its tables, and they stand for this world, of a command that may not use it
 abbrev pub KeepsIf : Bool → World → KeeperState → Type 0
 KeepsIf false w k = Unit {0}
 KeepsIf true w k = KeepsWorld w k

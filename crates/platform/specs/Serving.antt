@@ -12,8 +12,8 @@ use Rattle.ut_serving.specs.Senses.{Sense}
 use Rattle.ut_serving.specs.declared.wire.LineFail.{LineFail}
 use Rattle.ut_serving.specs.declared.wire.LineFail.TheVariants.{Read, Write}
 use Rattle.platform.specs.Seen.{Seen}
-use Rattle.platform.specs.declared.stop.Stop.{Stop}
-use Rattle.platform.specs.declared.stop.Stop.TheVariants as stop
+use Rattle.ut_commands.specs.declared.stop.Stop.{Stop}
+use Rattle.ut_commands.specs.declared.stop.Stop.TheVariants as stop
 
 -- the replies to one organisation's requests are those to these requests alone, from any world that has the same organisation
 abbrev pub IsIsolated : World → List Exchange → Type 0

@@ -4,8 +4,8 @@ ghost use Rattle.ut_keeper.specs.Tables.{Tables};
 ghost use Rattle.ut_model.specs.Organisations.{with_org};
 ghost use Rattle.ut_model.specs.World.{World};
 ghost use Rattle.ut_stands.specs.Stands.{Stands};
-ghost use Rattle.platform.specs.Commands.{Command, command_of, csvq, has_status, is_serving, org_add, printed, serves};
-ghost use Rattle.platform.specs.Deeds.{one_deed};
+ghost use Rattle.ut_commands.specs.Commands.{Command, command_of, csvq, has_status, is_serving, org_add, printed, serves};
+ghost use Rattle.ut_commands.specs.Deeds.{one_deed};
 ghost use Rattle.platform.specs.Promise.{IsStatus};
 ghost use Rattle.platform.specs.Run.{VersionEnds};
 

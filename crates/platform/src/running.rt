@@ -1,18 +1,15 @@
 ghost use Rattle.std.specs.Prelude.{◌≡◌, IfSome, map, string_bytes};
-ghost use Rattle.platform.specs.Commands.{command_of, used_by};
+ghost use Rattle.ut_commands.specs.Commands.{command_of, used_by};
 ghost use Rattle.platform.specs.Promise.{IsStatus, IsUnused, Promise};
 ghost use Rattle.platform.specs.Run.{status_in};
 ghost use Rattle.platform.specs.Seen.{Seen};
 
-use crate::command::{Words, read_words};
-use crate::demo::print_demo;
-use crate::export::Exporting;
-use crate::load::{Load, print_load};
-use crate::org_add::OrgAdd;
-use crate::printing::{csvq_status, print_csvq, print_tables, store_status};
 use crate::serving::{serve_answer, serve_door};
-use crate::stop::Stop;
 use std::alloc::Global;
+use ut_commands::{
+    Exporting, Load, OrgAdd, Stop, Words, csvq_status, print_csvq, print_demo, print_load,
+    print_tables, read_words, store_status,
+};
 use ut_io::{Clock, Door, Sink, Source};
 use ut_keeper::Keeper;
 use ut_stands::stands_laws;

@@ -1,3 +1,4 @@
+use crate::stops::{NEVER, connect, stopping};
 use platform::run;
 use sqlite::{Alter, Connection};
 use std::alloc::{AllocError, Global};
@@ -105,8 +106,13 @@ fn a_store_gives_the_bytes_of_a_keeper_in_memory(rt: HostRuntime) -> Result<(), 
     let alloc = rt.alloc();
     let mut keeper = MemoryKeeper::new(alloc, &[])?;
     let over = ended_over(alloc, &mut keeper)?;
-    let within = ended_in(alloc, Connection::open_in_memory(alloc)?)?;
     assert_eq!(rt; over.as_slice(), ENDED);
-    assert_eq!(rt; within.as_slice(), ENDED);
+    match connect(alloc, stopping(alloc, NEVER, NEVER)) {
+        Ok(conn) => {
+            let within = ended_in(alloc, conn)?;
+            assert_eq!(rt; within.as_slice(), ENDED);
+        }
+        Err(_) => assert!(rt; false, "the files can't be opened"),
+    }
     Ok(())
 }

@@ -64,7 +64,7 @@ use Rattle.ut_exec.specs.declared.fail.ExecFail.TheVariants.{Store, TooLarge}
 use Rattle.ut_exec.specs.declared.window.Window.{Window}
 use Rattle.ut_replies.specs.Rows.{behind_commas}
 use Rattle.ut_replies.proofs.Bodies.{longer}
-use Rattle.ut_replies.proofs.Lists.{all_at, kept_from, left, right, same_map}
+use Rattle.ut_answers.proofs.Lists.{all_at, kept_from, left, right, same_map}
 use Rattle.ut_stands.specs.Calls.{Calls, Ending, done, fell, stopped}
 use Rattle.ut_stands.specs.Layouts.{IsLayout, layout_of, own_layout}
 use Rattle.ut_stands.specs.Plan.{OrgPlan}
@@ -300,44 +300,47 @@ in_keys order parents (k ∷ ks) w keep n some a =
     (in_order_there (by_rank rank_cmp (by_parents parents (rank_by (k ∷ ks)) a)) (by_keys (k ∷ ks) (parents a)) (filter (keep a) (readable a.tenant a.user n)) (λ r s h i. order (k ∷ ks) (parents a) r s))
 
 module _ (parents : Parents) (children : Children) where
-  abbrev row_by : Layout → List Shown → Asked → Record → List ℕ
-  row_by l shown = row_json_by parents children l.name shown
+  abbrev row_by : (object : List ℕ) → List Shown → Asked → Record → List ℕ
+  row_by object shown = row_json_by parents children object shown
 
   -- the bytes of a row
-  abbrev pub written_by : Layout → List Shown → Asked → Record → List ℕ
-  written_by l shown = by_relatives parents children (λ ps cs r. encode_utf8_all (44 ∷ row_text shows l.name shown ps cs r))
+  abbrev pub written_by : (object : List ℕ) → List Shown → Asked → Record → List ℕ
+  written_by object shown = by_relatives parents children (λ ps cs r. encode_utf8_all (44 ∷ row_text shows object shown ps cs r))
 
   -- these rows were written
-  pub rows_so : (l : Layout) (p : Plan) (a : Asked) (shown : List Shown) (reply : Reply) (old out rows : List ℕ) (count room : ℕ) → shown ≡ p.shown → old ≡ []
-      → AppendsRows (written_by l shown a) room (choice_rows parents p.choice l.object a) old out count
+  pub rows_so : (l : Layout) (p : Plan) (a : Asked) (object : List ℕ) (shown : List Shown) (reply : Reply) (old out rows : List ℕ) (count room : ℕ) → object ≡ l.name → shown ≡ p.shown → old ≡ []
+      → AppendsRows (written_by object shown a) room (choice_rows parents p.choice l.object a) old out count
       → rows ≡ out
       → ((texts : List (List ℕ)) → count ≡ length texts → rows ≡ encode_utf8_all (behind_commas texts) → reply ≡ unless_too_large (json_reply 200 (rows_json texts)))
       → reply ≡ plan_reply parents children l p a
-  rows_so l p a shown reply old out rows count room so empty appends same makes =
+  rows_so l p a object shown reply old out rows count room named so empty appends same makes =
       let found = choice_rows parents p.choice l.object a in
-      makes (map (row_by l shown a) found) (appends.counted ∙ sym (length-map found (row_by l shown a)))
-      (same ∙ appends.appended ∙ ap (λ (w : List ℕ). w ++ flat_map (written_by l shown a) found) empty ∙ bytes_of_rows (row_by l shown a) found)
-      ∙ ap (λ (xs : List Shown). unless_too_large (json_reply 200 (rows_json (map (row_by l xs a) found)))) so
+      makes (map (row_by object shown a) found) (appends.counted ∙ sym (length-map found (row_by object shown a)))
+      (same ∙ appends.appended ∙ ap (λ (w : List ℕ). w ++ flat_map (written_by object shown a) found) empty ∙ bytes_of_rows (row_by object shown a) found)
+      ∙ ap (λ (xs : List Shown). unless_too_large (json_reply 200 (rows_json (map (row_by object xs a) found)))) so
+      ∙ ap (λ (name : List ℕ). unless_too_large (json_reply 200 (rows_json (map (row_by name p.shown a) found)))) named
 
   -- they are too large
-  too_large : (l : Layout) (p : Plan) (a : Asked) → reply_limit < length (flat_map (written_by l p.shown a) (choice_rows parents p.choice l.object a))
+  too_large : (l : Layout) (p : Plan) (a : Asked) → reply_limit < length (flat_map (written_by l.name p.shown a) (choice_rows parents p.choice l.object a))
       → plan_reply parents children l p a ≡ refusal_reply ReplyTooLarge
   too_large l p a over =
       let found = choice_rows parents p.choice l.object a in
-      let texts = map (row_by l p.shown a) found in
-      let more : reply_limit < length (encode_utf8_all (behind_commas texts)) = subst (λ (bytes : List ℕ). reply_limit < length bytes) (bytes_of_rows (row_by l p.shown a) found) over in
+      let texts = map (row_by l.name p.shown a) found in
+      let more : reply_limit < length (encode_utf8_all (behind_commas texts)) = subst (λ (bytes : List ℕ). reply_limit < length bytes) (bytes_of_rows (row_by l.name p.shown a) found) over in
       ap (λ (b : Bool). cond b (refusal_reply ReplyTooLarge) (json_reply 200 (rows_json texts)))
       (limit_passed (length (encode_utf8_all (behind_commas texts))) (length (encode_utf8_all (rows_json texts))) more (longer texts))
     where
       limit_passed : (n m : ℕ) → reply_limit < n → n ≤ m → nat_lt reply_limit m ≡ true
       limit_passed n m a b = grind (arith, nat_tests)
 
-  pub too_large_so : (l : Layout) (who : Who) (p : Plan) (m : Tables) (shown : List Shown) (r : Result Reply StoreFail) → shown ≡ p.shown → Refuses ReplyTooLarge r
-      → InTenants l who m (λ a. reply_limit < length (flat_map (written_by l shown a) (choice_rows parents p.choice l.object a)))
+  pub too_large_so : (l : Layout) (who : Who) (p : Plan) (m : Tables) (object : List ℕ) (shown : List Shown) (r : Result Reply StoreFail) → object ≡ l.name → shown ≡ p.shown → Refuses ReplyTooLarge r
+      → InTenants l who m (λ a. reply_limit < length (flat_map (written_by object shown a) (choice_rows parents p.choice l.object a)))
       → AnswersPlan l who parents children p m r
-  too_large_so l who p m shown (Ok r) so is over = λ q a s i its.
-      is ∙ sym (too_large l p a (subst (λ (xs : List Shown). reply_limit < length (flat_map (written_by l xs a) (choice_rows parents p.choice l.object a))) so (over q a s i its)))
-  too_large_so l who p m shown (Err e) so is over = λ q a s i its. λ d. apart (sym is ∙ d)
+  too_large_so l who p m object shown (Ok r) named so is over = λ q a s i its.
+      let rows = choice_rows parents p.choice l.object a in
+      is ∙ sym (too_large l p a (subst (λ (name : List ℕ). reply_limit < length (flat_map (written_by name p.shown a) rows)) named
+      (subst (λ (xs : List Shown). reply_limit < length (flat_map (written_by object xs a) rows)) so (over q a s i its))))
+  too_large_so l who p m object shown (Err e) named so is over = λ q a s i its. λ d. apart (sym is ∙ d)
     where
       apart : Memory ≡ Damaged → ⊥
       apart d = cc

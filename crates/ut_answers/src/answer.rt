@@ -33,7 +33,7 @@ use ut_query::Query;
 use ut_query_rules::query_refusal;
 use ut_ranks::rank_laws;
 use ut_relatives::PlanRelatives;
-use ut_replies::rows_body;
+use ut_replies::{RowFront, rows_body};
 use ut_rights::{Rights, Sight};
 use ut_stands::{Layout, call_laws};
 use ut_value::day_of_moment;
@@ -146,8 +146,9 @@ fn answer_plan<K: Keeper, S: Sight, L: Relatives>(
         (ended result) draft.old draft.new }
 {
     call_laws::<K>();
+    let front = RowFront::new(alloc, layout.name.as_str())?;
     let form = JsonRows {
-        object: &layout.name,
+        front: &front,
         shown: plan.shown.as_slice(),
     };
     let mut rows = Vec::new(alloc);

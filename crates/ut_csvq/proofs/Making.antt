@@ -1,6 +1,8 @@
 -- One verdict after the other.
-use Rattle.std.proofs.Common.{◌≡◌, ◌∙◌, ◌<◌, ◌≤◌, ℕ, ◌+◌, Bool, true, false, cond, List, ◌∷◌, drop, get_or, length, map, Option, Some, None, Result, Ok, Err, IsTrue, refl, sym, ap, subst}
+use Rattle.std.proofs.Common.{◌≡◌, ◌∙◌, ◌<◌, ◌≤◌, ℕ, ◌+◌, Bool, true, false, cond, List, [], ◌∷◌, drop, get_or, length, map, Option, Some, None, Result, Ok, Err, IsTrue, refl, sym, ap, subst}
+use Rattle.std.proofs.lemmas.Bool.{eqb-true}
 use Rattle.std.proofs.lemmas.List.{at_drop_all, at_drop_more}
+use Rattle.std.specs.Prelude.{◌==◌}
 use Rattle.csv.specs.Records.{Row, fields_of}
 use Rattle.ut_keeper.specs.Tables.{Tables}
 use Rattle.std.specs.Str.{chars}
@@ -9,6 +11,7 @@ use Rattle.ut_model.specs.Creates.{create}
 use Rattle.ut_model.specs.NewFields.{add_field}
 use Rattle.ut_model.specs.Paths.{Asked}
 use Rattle.ut_model.specs.Verdict.{Verdict}
+use Rattle.ut_model.specs.declared.record_bodies.Assignment.{Assignment}
 use Rattle.ut_model.specs.declared.refusal.Refusal.{Refusal}
 use Rattle.ut_own.specs.Making.{IsOwned}
 use Rattle.ut_own.specs.Own.{past, refusal_of}
@@ -111,3 +114,17 @@ module _ (now : ℕ) (heading : List (List ℕ)) (a b : Asked) (rows : List Row)
       subst (λ (r : RowsMade). Goes now m r (Ok (Some (number, why))))
       (sym (row_comes heading (n + 1) b (fields_of row) (map fields_of (drop (n + 1) rows)) (Some why) refused) ∙ sym split ∙ e)
       (ap (λ (k : ℕ). (k, why)) is)
+
+-- ---- no rows, and rows of an object that isn't there
+
+pub no_rows : (now : ℕ) (m : Tables) (heading : List (List ℕ)) (a : Asked) (rows : List Row) → (length rows == 0) ≡ true → IsOwned now m a
+    → Goes now m (with_rows heading 1 a (map fields_of rows)) (Ok None)
+unfolding with_rows
+no_rows now m heading a [] none made = made
+no_rows now m heading a (row ∷ rows) none made = let e : length (row ∷ rows) ≡ 0 = eqb-true (length (row ∷ rows)) 0 none in absurd cc
+
+pub first_refused : (now : ℕ) (m : Tables) (heading : List (List ℕ)) (a : Asked) (rows : List Row) (why : Refusal) → (length rows == 0) ≡ false
+    → ((given : List Assignment) → refusal_of (create a object_name given).answer ≡ Some why) → Goes now m (with_rows heading 1 a (map fields_of rows)) (Ok (Some (1, why)))
+first_refused now m heading a [] why some refused = absurd cc
+first_refused now m heading a (row ∷ rows) why some refused =
+    subst (λ (r : RowsMade). Goes now m r (Ok (Some (1, why)))) (sym (row_comes heading 1 a (fields_of row) (map fields_of rows) (Some why) (refused (given_of heading (fields_of row))))) refl

@@ -8,7 +8,8 @@ ghost use Rattle.ut_keeper.specs.Draft.{tables_of};
 ghost use Rattle.ut_keeper.specs.Memory.{memory_state};
 ghost use Rattle.ut_model.specs.Creates.{create};
 ghost use Rattle.ut_model.specs.Paths.{Asked};
-ghost use Rattle.ut_own.specs.Making.{IsOwned, StepsOwn};
+ghost use Rattle.ut_named.specs.Usable.{IsReady};
+ghost use Rattle.ut_own.specs.Making.{IsLaidOut, IsOwned, StepsLaidOut};
 ghost use Rattle.ut_value.specs.Dates.{is_moment};
 
 use crate::given::given_of;
@@ -17,28 +18,53 @@ use std::alloc::Global;
 use ut_keeper::{Draft, MemoryKeeper};
 use ut_keys::StoreFail;
 use ut_model::Refusal;
-use ut_own::make_record;
+use ut_own::{make_record_of, ready_object};
+use ut_stands::Layout;
 use ut_value::Text;
 
-// Makes the record of a row, of the object with this name.
+// Makes the record of a row, of the object with this layout.
 fn make_row(
     alloc: Global,
     draft: &mut Draft<'_, MemoryKeeper>,
+    layout: &Layout,
     now: u64,
-    object: &Text,
     heading: &StringRecord,
     row: &StringRecord,
 ) -> Result<Option<Refusal>, StoreFail>
+    requires ready { IsReady 1 layout.now }
     requires moment { IsTrue (is_moment (pos now)) }
-    requires object { object.now ≡ object_name }
-    ensures { (a : Asked) → IsOwned now (tables_of memory_state draft.old) a
-        → StepsOwn now (tables_of memory_state draft.new) a (create a object_name (given_of (fields_of heading.now) (fields_of row.now))) result }
+    ensures { (a : Asked) → IsLaidOut now (tables_of memory_state draft.old) object_name layout.now a
+        → StepsLaidOut now (tables_of memory_state draft.new) object_name layout.now a
+        (create a object_name (given_of (fields_of heading.now) (fields_of row.now))) result }
 {
     let given = given_of(alloc, heading, row)?;
-    make_record(alloc, draft, now, object, given.as_slice())
+    make_record_of(alloc, draft, layout, now, given.as_slice())
 }
 
-/// Makes a record for each row, or returns the number of the first row whose record is refused, from 1, and why.
+// The same for each row, by one layout.
+fn make_rows_of(
+    alloc: Global,
+    draft: &mut Draft<'_, MemoryKeeper>,
+    layout: &Layout,
+    now: u64,
+    heading: &StringRecord,
+    rows: &[StringRecord],
+) -> Result<Option<(u64, Refusal)>, StoreFail>
+    requires ready { IsReady 1 layout.now }
+    requires moment { IsTrue (is_moment (pos now)) }
+    ensures { (a : Asked) → IsLaidOut now (tables_of memory_state draft.old) object_name layout.now a
+        → Goes now (tables_of memory_state draft.new) (with_rows (fields_of heading.now) 1 a (map fields_of rows.now)) result }
+{
+    for (place, row) in rows.iter().enumerate() {
+        if let Some(refusal) = make_row(alloc, draft, layout, now, heading, row)? {
+            return Ok(Some((place as u64 + 1, refusal)));
+        }
+    }
+    Ok(None)
+}
+
+/// Makes a record for each row, or returns the number of the first row whose record is refused, from 1, and why. The layout of their
+/// object is read once.
 ///
 /// # Errors
 ///
@@ -54,11 +80,13 @@ pub(crate) fn make_rows(
     ensures { (a : Asked) → IsOwned now (tables_of memory_state draft.old) a
         → Goes now (tables_of memory_state draft.new) (with_rows (fields_of heading.now) 1 a (map fields_of rows.now)) result }
 {
-    let object = Text::from_str(alloc, "Row__c")?;
-    for (place, row) in rows.iter().enumerate() {
-        if let Some(refusal) = make_row(alloc, draft, now, &object, heading, row)? {
-            return Ok(Some((place as u64 + 1, refusal)));
-        }
+    if rows.is_empty() {
+        return Ok(None);
     }
-    Ok(None)
+    let object = Text::from_str(alloc, "Row__c")?;
+    match ready_object(alloc, draft, &object) {
+        Ok(Ok(layout)) => make_rows_of(alloc, draft, &layout, now, heading, rows),
+        Ok(Err(refusal)) => Ok(Some((1, refusal))),
+        Err(fail) => Err(fail),
+    }
 }

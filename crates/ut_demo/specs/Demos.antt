@@ -32,6 +32,10 @@ use Rattle.ut_step.specs.Step.{stepped}
 use Rattle.ut_demo.specs.declared.repeats.Repeats.{Repeats}
 use Rattle.ut_demo.specs.declared.show.Demo.{Demo}
 
+-- the most records of a demo
+abbrev pub most_records : ℕ
+most_records = 10000
+
 -- ---- one request after the other
 
 abbrev pub and_then : {X Y : Type 0} → Result X Refusal → (X → Result Y Refusal) → Result Y Refusal

@@ -1,7 +1,7 @@
 //! A demo from its beginning to its end.
 
 ghost use Rattle.std.specs.Prelude.{◌≡◌, ◌≤◌, [], IfOk, IsTrue, pos, ℕ};
-ghost use Rattle.ut_demo.specs.Demos.{amount_field, begun, demo_outcome, comes_to, item_object, watched, whole_number};
+ghost use Rattle.ut_demo.specs.Demos.{amount_field, begun, demo_outcome, comes_to, item_object, most_records, watched, whole_number};
 ghost use Rattle.ut_demo.specs.inner.Coming.{Comes, Makes, Returns};
 ghost use Rattle.ut_keeper.specs.Draft.{tables_of};
 ghost use Rattle.ut_keeper.specs.Memory.{memory_state};
@@ -66,7 +66,7 @@ fn begin_demo(
     count: u64,
 ) -> Result<Bytes, EditFail>
     requires moment { IsTrue (is_moment (pos now)) }
-    requires count { count ≤ 10000 }
+    requires count { count ≤ most_records }
     ensures { Stands (tables_of memory_state draft.old) []
         → Comes (λ x line. IsOwned now (tables_of memory_state draft.new) x.0 × (line ≡ x.1)) (begun count (pos now)) result }
 {
@@ -100,7 +100,7 @@ fn show(
     count: u64,
 ) -> Result<Demo, EditFail>
     requires moment { IsTrue (is_moment (pos now)) }
-    requires count { count ≤ 10000 }
+    requires count { count ≤ most_records }
     ensures { Stands (tables_of memory_state draft.old) [] → Returns (demo_outcome count (pos now)) result }
 {
     let first = begin_demo(alloc, draft, now, count)?;
@@ -121,7 +121,7 @@ fn show(
 /// If out of memory.
 pub fn make_demo(alloc: Global, count: u64, now: u64) -> Result<Result<Demo, Refusal>, AllocError>
     requires moment { IsTrue (is_moment (pos now)) }
-    requires count { count ≤ 10000 }
+    requires count { count ≤ most_records }
     ensures { IfOk result (λ found. found ≡ demo_outcome count (pos now)) }
 {
     stands_laws();

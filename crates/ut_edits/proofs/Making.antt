@@ -50,7 +50,7 @@ after_spelled (c ∷ cs) m = ap (after (map spelled cs)) (one c m) ∙ after_spe
 -- ---- edits
 
 module _ {X : Type 0} (edited : EditedIn) (kept : KeptIn) (org : ℕ) (lo : org < 2 ^ 32) (m then : Tables) (answered : X → Done) (planned : Planned) where
-  changed_at : (q : OrgPlan) (t : Tenant) (v : Verdict) (x : Decided X) → StandsIn org q m (Some t) → DecidesTo org q t v answered planned (Ok x) → then ≡ after x.changes.items m → EditsAt org v answered (planned q t) then (Ok x.answer)
+  pub changed_at : (q : OrgPlan) (t : Tenant) (v : Verdict) (x : Decided X) → StandsIn org q m (Some t) → DecidesTo org q t v answered planned (Ok x) → then ≡ after x.changes.items m → EditsAt org v answered (planned q t) then (Ok x.answer)
   changed_at q t v x s (changes, spelt, takes) made =
       let is : then ≡ with_changes changes m = made ∙ ap (λ (xs : List Spelled). after xs m) spelt ∙ after_spelled changes m in
       (takes.answer, (takes.plan, takes.kept, subst (λ (z : Tables). StandsIn org takes.plan z (Some v.tenant)) (sym is) (edited m org t v.tenant q takes.plan changes lo s takes.sound takes.fits takes.are takes.rest)))

@@ -1,4 +1,4 @@
--- Words of the worked rows on texts: the fields of a deal, and its records.
+-- How many fields a formula may name; and words of the worked rows on texts: the fields of a deal, and its records.
 use Rattle.std.specs.Prelude.{ℕ, Bool, true, false, List, [], ◌∷◌, ◌++◌, codes, Option, Some, None, option_map}
 use Rattle.ut_value.specs.declared.value.FieldType.TheVariants as type
 use Rattle.ut_value.specs.declared.value.Value.{Value}
@@ -6,6 +6,10 @@ use Rattle.ut_value.specs.declared.value.Value.TheVariants as value
 use Rattle.ut_formula.specs.Meaning.{holds}
 use Rattle.ut_formula.specs.declared.formula.NamedField.{NamedField}
 use Rattle.ut_formula_grammar.specs.Spelling.{formula_in}
+
+-- the most fields that a formula may name: a record's name, and forty of its object's own
+abbrev pub most_fields : ℕ
+most_fields = 41
 
 -- the fields of a deal
 abbrev pub deal : List NamedField

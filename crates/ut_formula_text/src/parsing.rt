@@ -4,6 +4,7 @@ ghost use Rattle.std.specs.Prelude.{◌≡◌, ◌≤◌, length, chars, IfOk};
 ghost use Rattle.std.specs.Option.{ok_or};
 ghost use Rattle.ut_formula.specs.declared.formula.Formula.{Formula};
 ghost use Rattle.ut_formula_grammar.specs.Spelling.{IsRefusedAt, Spells, formula_in, place_in};
+ghost use Rattle.ut_formula_text.specs.Texts.{most_fields};
 ghost use Rattle.ut_grammar.specs.Place.{IsOrMemory, OnMalformed, UnlessMemory};
 
 use crate::reader::whole;
@@ -26,7 +27,7 @@ pub fn parse(
     fields: &Fields,
     criteria: bool,
 ) -> Result<Formula, ParseFail>
-    requires { length fields.now.items ≤ 41 }
+    requires { length fields.now.items ≤ most_fields }
     // What is returned is spelled.
     ensures found { IfOk result (λ f. Spells criteria fields.now.items (chars text.now) f) }
     // What is spelled is returned, unless out of memory.

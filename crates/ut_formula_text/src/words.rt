@@ -2,6 +2,7 @@
 
 ghost use Rattle.std.specs.Prelude.{◌≡◌, ◌≤◌, ◌+◌, length, IfOk};
 ghost use Rattle.ut_formula_grammar.specs.Signs as spec;
+ghost use Rattle.ut_formula_text.specs.Texts.{most_fields};
 ghost use Rattle.ut_grammar.specs.Counts.{number_count, plain_text};
 
 use std::alloc::{AllocError, Global};
@@ -86,7 +87,7 @@ fn allowed(criteria: bool, word: Sign) -> Sign
 
 // The field that has this name.
 fn field_sign(fields: &[NamedField], text: &Text) -> Sign
-    requires { length fields.now ≤ 41 }
+    requires { length fields.now ≤ most_fields }
     ensures { result ≡ spec.field_sign 0 fields.now text.now }
 {
     let mut rest = fields;
@@ -132,7 +133,7 @@ fn pair_sign(c: char, d: char) -> Sign
 }
 
 fn word_sign(criteria: bool, fields: &[NamedField], text: &Text) -> Sign
-    requires { length fields.now ≤ 41 }
+    requires { length fields.now ≤ most_fields }
     ensures { result ≡ spec.word_or_field criteria fields.now text.now (spec.function_word text.now) }
 {
     match function_word(text) {
@@ -168,7 +169,7 @@ pub fn sign_of(
     fields: &[NamedField],
     token: &Token,
 ) -> Result<Sign, AllocError>
-    requires { length fields.now ≤ 41 }
+    requires { length fields.now ≤ most_fields }
     ensures { IfOk result (λ sign. sign ≡ spec.sign_of criteria fields.now token.now) }
 {
     match token {
@@ -188,7 +189,7 @@ pub fn signs(
     fields: &[NamedField],
     tokens: &[Placed],
 ) -> Result<Items<Sign>, AllocError>
-    requires { length fields.now ≤ 41 }
+    requires { length fields.now ≤ most_fields }
     ensures { IfOk result (λ all. all ≡ spec.signs criteria fields.now tokens.now) }
 {
     let mut found = Items::new(alloc);

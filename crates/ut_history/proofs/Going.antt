@@ -13,13 +13,13 @@ use Rattle.ut_serving.specs.Leads.{IsReached, StandsReached}
 use Rattle.ut_serving.specs.Requests.{message_in}
 use Rattle.ut_serving.specs.Senses.{of_all}
 use Rattle.ut_stands.specs.Stands.{Stands}
-use Rattle.platform.specs.Commands.{Command, Printing, answers, csvq, export, load, org_add, prints, printed, serves, used_by, uses, uses_of, demo}
-use Rattle.platform.specs.Deeds.{Prints}
+use Rattle.ut_commands.specs.Commands.{Command, Printing, answers, csvq, export, load, org_add, prints, printed, serves, used_by, uses, uses_of, demo}
+use Rattle.ut_commands.specs.Deeds.{Prints}
 use Rattle.platform.specs.Falling.{CrashPrints, Doubts, FallsOpening}
 use Rattle.platform.specs.Promise.{IsStatus, Promise}
 use Rattle.platform.specs.Run.{KeepsIf, KeepsWorld, MayBe, Runs, status_in}
 use Rattle.platform.specs.Serving.{IsOpening, OpensOnly, Served, ServeEnds, answer_end}
-use Rattle.platform.specs.declared.stop.Stop.{Stop}
+use Rattle.ut_commands.specs.declared.stop.Stop.{Stop}
 use Rattle.ut_history.specs.Calls.{seen}
 use Rattle.ut_history.specs.Histories.{Breaks, BreaksAnswers, BreaksServes, Fallen, Goes, Says, SaysAnswers, SaysServes, ServedSo}
 use Rattle.ut_history.specs.Runs.{Around}

@@ -3,11 +3,11 @@ use Rattle.std.proofs.Common.{◌≡◌, ◌⊎◌, inl, inr, ℕ, List, [], Res
 use Rattle.std.specs.Io.KnownBytes.{Appends}
 use Rattle.ut_model.specs.World.{World}
 use Rattle.ut_value.specs.Causes.{Rose}
-use Rattle.platform.specs.Commands.{org_add, printed, prints}
-use Rattle.platform.specs.Deeds.{Prints, text_of}
+use Rattle.ut_commands.specs.Commands.{org_add, printed, prints}
+use Rattle.ut_commands.specs.Deeds.{Prints, text_of}
 use Rattle.platform.specs.Run.{status_in}
-use Rattle.platform.specs.declared.stop.Stop.{Stop}
-use Rattle.platform.specs.declared.stop.Stop.TheVariants.{Damaged, DoorFailed, KeeperFailed, NoMemory, SinkFailed, SourceFailed, UnknownVersion}
+use Rattle.ut_commands.specs.declared.stop.Stop.{Stop}
+use Rattle.ut_commands.specs.declared.stop.Stop.TheVariants.{Damaged, DoorFailed, KeeperFailed, NoMemory, SinkFailed, SourceFailed, UnknownVersion}
 use Rattle.ut_history.specs.Runs.{Around}
 use Rattle.ut_history.specs.Histories.{Breaks, Says}
 

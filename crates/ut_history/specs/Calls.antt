@@ -3,7 +3,7 @@
 use Rattle.std.specs.Prelude.{◌≡◌, false, IsTrue, List, [], ◌∷◌, IfSome}
 use Rattle.ut_keeper.specs.State.{KeeperState}
 use Rattle.ut_keeper.specs.Tables.{Tables}
-use Rattle.platform.specs.Commands.{used_by}
+use Rattle.ut_commands.specs.Commands.{used_by}
 use Rattle.platform.specs.Promise.{IsStatus, Promise}
 use Rattle.platform.specs.Seen.{Seen}
 use Rattle.ut_history.specs.Runs.{Around, Run}

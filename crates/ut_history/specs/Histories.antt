@@ -14,12 +14,12 @@ use Rattle.ut_serving.specs.Falls.{IsUndone, IsUndoneBehind}
 use Rattle.ut_serving.specs.Leads.{IsReached}
 use Rattle.ut_serving.specs.Requests.{message_in}
 use Rattle.ut_serving.specs.Senses.{of_all}
-use Rattle.platform.specs.Commands.{Command, Printing, answers, is_opening, prints, printed, serves, uses}
-use Rattle.platform.specs.Deeds.{CutShort, Prints}
+use Rattle.ut_commands.specs.Commands.{Command, Printing, answers, is_opening, prints, printed, serves, uses}
+use Rattle.ut_commands.specs.Deeds.{CutShort, Prints}
 use Rattle.platform.specs.Promise.{IsStatus}
 use Rattle.platform.specs.Run.{MayBe, status_in}
 use Rattle.platform.specs.Serving.{IsIsolated, IsOpening, ServeEnds, answer_end}
-use Rattle.platform.specs.declared.stop.Stop.{Stop}
+use Rattle.ut_commands.specs.declared.stop.Stop.{Stop}
 use Rattle.ut_history.specs.Runs.{Around, Run}
 use Rattle.ut_step.specs.Step.{step}
 

@@ -1,7 +1,7 @@
 -- Runs of the program, as they are seen from outside.
 use Rattle.std.specs.Prelude.{ℕ, List, Option}
 use Rattle.ut_io.specs.Doors.{DoorState}
-use Rattle.platform.specs.Commands.{Command}
+use Rattle.ut_commands.specs.Commands.{Command}
 
 -- what is seen at one moment of all that is handed in: how often each failed, and what door, source, sink and clock tell
 pub record Around : Type 0 where

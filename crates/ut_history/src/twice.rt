@@ -1,5 +1,5 @@
 ghost use Rattle.std.specs.Prelude.{IfOk, [], ◌∷◌, map, string_bytes, ℕ};
-ghost use Rattle.platform.specs.Commands.{command_of};
+ghost use Rattle.ut_commands.specs.Commands.{command_of};
 ghost use Rattle.ut_history.specs.Histories.{Histories};
 ghost use Rattle.ut_history.specs.Runs.{Around};
 

@@ -1,6 +1,7 @@
 -- The forms of rows, by tables.
 use Rattle.std.specs.Prelude.{refl}
 use Rattle.ut_parts.specs.Choices.{Accesses, Levels, Phases, Outcomes, States}
+use Rattle.ut_parts.specs.Composed.{slot_count}
 use Rattle.ut_parts.specs.Shapes.{Nothing, Number8, Number16, Number32, Number64, Signed64, Characters, Identity, Truth, Fixed, Named, Ordered, OneOf, Flags, Typed, Sourced, Maybe, Many, Times, Both}
 use Rattle.ut_keys.specs.Forms.{Form}
 use Rattle.ut_keys.specs.Keys.{Version, Org, Object, Field, Job, User, Role, Group, Validation, Sharing, Data, Index, Unique, Relation, Owner, Share, Grant, marked, record_key, slot_key}
@@ -196,7 +197,7 @@ abbrev pub data_form : Form DataRow
 data_form = record {
   table = 7;
   key = record_key;
-  rest = Both (Maybe Characters) (Both (Maybe Identity) (Both Signed64 (Both Signed64 (Times 48 (Maybe Characters)))));
+  rest = Both (Maybe Characters) (Both (Maybe Identity) (Both Signed64 (Both Signed64 (Times slot_count (Maybe Characters)))));
   keyed = λ u. (u.org, (u.object, u.id));
   rested = λ u. (u.name, (u.owner, (u.created, (u.modified, u.slots))));
   make = λ (org, (object, id)) (name, (owner, (created, (modified, slots)))). record { org = org; object = object; id = id; name = name; owner = owner; created = created; modified = modified; slots = slots };

@@ -1,14 +1,13 @@
 -- Why a query is refused: names that aren't there, operators and literals that don't suit, texts that aren't ids.
 -- Source: Salesforce, "SOQL and SOSL Reference", "Relationship Queries", of paths and subqueries. What is refused, and in which order,
 -- is this product's own.
-use Rattle.std.specs.Prelude.{ℕ, Bool, true, false, not, ◌&&◌, if◌then◌else◌, List, [], ◌∷◌, ◌++◌, map, codes, Option, Some, None, is_none}
+use Rattle.std.specs.Prelude.{ℕ, not, if◌then◌else◌, List, [], ◌∷◌, ◌++◌, map, codes, Option, Some, None, is_none}
 use Rattle.std.specs.List.{flat_map, list_any}
 use Rattle.std.specs.Option.{option_and_then}
 use Rattle.ut_query.specs.declared.query.Item.{Item}
 use Rattle.ut_query.specs.declared.query.Item.TheVariants as item
 use Rattle.ut_query.specs.declared.query.Literal.{Literal}
 use Rattle.ut_query.specs.declared.query.Literal.TheVariants as literal
-use Rattle.ut_query.specs.declared.query.OrderKey.{OrderKey}
 use Rattle.ut_query.specs.declared.query.Path.{Path}
 use Rattle.ut_query.specs.declared.query.Query.{Query}
 use Rattle.ut_query.specs.declared.query.Tail.{Tail}
@@ -120,33 +119,3 @@ query_rules t n q = bad_names t n q ∷ first_of (bad_test t) (all_tests t n q) 
 
 abbrev pub ask : Asked → Query → Verdict
 ask a q = on_object a.tenant q.tail.from (λ o. judged a.tenant (query_rules a.tenant o.number q) (accept (rows_of q) a.tenant))
-
--- ---- the query for ids and names
-
--- this is the one name of a path
-abbrev pub is_one_name : (name : List ℕ) → List (List ℕ) → Bool
-is_one_name name (n ∷ []) = same_name n name
-is_one_name name _ = false
-
--- a field of the object itself
-abbrev pub is_own_field : (name : List ℕ) → Item → Bool
-is_own_field name (item.Path p) = is_one_name name p.names
-is_own_field name (item.Child paths tail) = false
-
--- `Id, Name`
-abbrev pub selects_names : List Item → Bool
-selects_names (x ∷ y ∷ []) = is_own_field (codes "Id") x && is_own_field (codes "Name") y
-selects_names _ = false
-
--- no keys
-abbrev pub no_order : List OrderKey → Bool
-no_order [] = true
-no_order (k ∷ ks) = false
-
--- an object alone
-abbrev pub is_whole : Tail → Bool
-is_whole tail = (is_none tail.condition && no_order tail.order) && is_none tail.limit
-
--- `SELECT Id, Name FROM OBJECT`
-abbrev pub asks_for_names : Query → Bool
-asks_for_names q = (selects_names q.select && is_whole q.tail) && is_none q.offset

@@ -1,6 +1,6 @@
 //! The manual shares of a record.
 
-ghost use Rattle.std.specs.Prelude.{◌≡◌, ◌≤◌, ◌++◌, ◌∷◌, [], IfOk, None, OnOk, Some, length, map, take};
+ghost use Rattle.std.specs.Prelude.{◌≡◌, ◌≤◌, ◌+◌, ◌++◌, ◌∷◌, [], IfOk, None, OnOk, Some, length, map, take};
 ghost use Rattle.std.specs.List.{AllByRecursion};
 ghost use Rattle.ut_edits.specs.Rows.{spelled};
 ghost use Rattle.ut_keeper.specs.Draft.{DraftTells, tables_of};
@@ -9,7 +9,9 @@ ghost use Rattle.ut_keys.specs.Keys.{FitsKey, Share};
 ghost use Rattle.ut_keys.specs.Listings.{rows_to};
 ghost use Rattle.ut_keys.specs.Reads.{ListsAs};
 ghost use Rattle.ut_keys.specs.Rows.{share_form};
+ghost use Rattle.ut_model.specs.Limits.{limit_number};
 ghost use Rattle.ut_model.specs.Tenant.{Tenant};
+ghost use Rattle.ut_model.specs.declared.limit.Limit.TheVariants.{SharesPerRecord};
 ghost use Rattle.ut_parts.specs.Plain.{number32, number8};
 ghost use Rattle.ut_parts.specs.Shapes.{Both, FitsIn, Identity, Number32};
 ghost use Rattle.ut_named.specs.Shares.{ListsShares, shares_removed};
@@ -31,7 +33,7 @@ const MOST_SHARES: usize = 100;
 
 // The rows that were read, unless they are more than a record may have.
 fn at_most_all(rows: Result<Vec<ShareRow>, StoreFail>) -> Result<Items<ShareRow>, StoreFail>
-    ensures { result ≡ at_most 100 rows }
+    ensures { result ≡ at_most (limit_number SharesPerRecord) rows }
 {
     match rows {
         Ok(rows) => {
@@ -53,7 +55,7 @@ fn page_of<K: Keeper>(
     id: &Id,
 ) -> Result<Vec<ShareRow>, StoreFail>
     ensures rows { DraftTells K.state draft.old draft.new
-        → ListsAs share_form (take 101 (rows_to (tables_of K.state draft.old) 12
+        → ListsAs share_form (take (limit_number SharesPerRecord + 1) (rows_to (tables_of K.state draft.old) 12
         (number32 org ++ (number8 0 ++ id.now)) (raised (number32 org ++ (number8 0 ++ id.now))))) result }
     ensures fits { FitsIn (Both Number32 Identity) (org, id.now) }
     ensures calls { Calls K.state 0 (ended result) draft.old draft.new }
@@ -82,7 +84,7 @@ pub fn shares_of<K: Keeper>(
 ) -> Result<Items<ShareRow>, StoreFail>
     ensures lists { DraftTells K.state draft.old draft.new
         → (q : OrgPlan) (t : Tenant) → StandsIn org q (tables_of K.state draft.old) (Some t) → ListsShares org t id.now result }
-    ensures few { IfOk result (λ rows. length rows ≤ 100) }
+    ensures few { IfOk result (λ rows. length rows ≤ limit_number SharesPerRecord) }
     ensures calls { Calls K.state 0 (ended result) draft.old draft.new }
 {
     listing_laws::<ShareRow>();

@@ -41,7 +41,7 @@ use Rattle.ut_own.specs.Own.{its_administrator}
 -- ---- what a verdict leaves has what was so before it, and of what it accepts
 
 module _ (P : Tenant → Type 0) (t : Tenant) (before : P t) where
-  judged_is : (rules : List Rule) (v : Verdict) → P v.tenant → P (judged t rules v).tenant
+  pub judged_is : (rules : List Rule) (v : Verdict) → P v.tenant → P (judged t rules v).tenant
   judged_is rules v after = by (first_refusal rules)
     where
       by : (x : Rule) → P (unless x t v).tenant
@@ -52,7 +52,7 @@ module _ (P : Tenant → Type 0) (t : Tenant) (before : P t) where
   found_is None why f there = before
   found_is (Some y) why f there = there y
 
-  named_is : (name : List ℕ) (f : Numbered → Verdict) → ((o : Numbered) → P (f o).tenant) → P (on_object t name f).tenant
+  pub named_is : (name : List ℕ) (f : Numbered → Verdict) → ((o : Numbered) → P (f o).tenant) → P (on_object t name f).tenant
   named_is name f there = found_is (object_named t name) (InvalidType name) f there
 
 -- ---- the users

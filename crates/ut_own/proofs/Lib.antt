@@ -1,3 +1,4 @@
 mod Asked
 mod Keeping
+mod Laying
 pub mod Fresh

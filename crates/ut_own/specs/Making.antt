@@ -1,11 +1,16 @@
 -- How far the organisation is made.
-use Rattle.std.specs.Prelude.{◌≡◌, ℕ, [], ◌∷◌, Option, Some, None, Result, Ok, Err, pos}
+use Rattle.std.specs.Prelude.{◌≡◌, ℕ, List, [], ◌∷◌, Option, Some, None, Result, Ok, Err, pos}
 use Rattle.ut_keeper.specs.Tables.{Tables}
 use Rattle.ut_keys.specs.declared.fail.StoreFail.{StoreFail}
+use Rattle.ut_model.specs.Creates.{create}
+use Rattle.ut_model.specs.Objects.{Numbered, object_named}
 use Rattle.ut_model.specs.Paths.{Asked}
 use Rattle.ut_model.specs.Verdict.{Verdict}
+use Rattle.ut_model.specs.declared.record_bodies.Assignment.{Assignment}
 use Rattle.ut_model.specs.declared.refusal.Refusal.{Refusal}
+use Rattle.ut_stands.specs.Layouts.{layout_of}
 use Rattle.ut_stands.specs.Local.{StandsIn}
+use Rattle.ut_stands.specs.declared.layout.Layout.{Layout}
 use Rattle.ut_stands.specs.Plan.{OrgPlan}
 use Rattle.ut_own.specs.Own.{its_administrator, past, refusal_of}
 
@@ -26,3 +31,24 @@ abbrev pub StepsOwn : (now : ℕ) → (after : Tables) → Asked → Verdict →
 StepsOwn now after a v (Ok None) = (refusal_of v.answer ≡ None) × IsOwned now after (past a v)
 StepsOwn now after a v (Ok (Some why)) = refusal_of v.answer ≡ Some why
 StepsOwn now after a v (Err e) = Unit {0}
+
+-- ---- an object by its layout
+
+-- the same, and this is the layout of the object with this name
+pub record IsLaidOut (now : ℕ) (m : Tables) (name : List ℕ) (l : Layout) (a : Asked) : Type 0 where
+  pub owned : IsOwned now m a
+  pub object : Numbered
+  pub named : object_named a.tenant name ≡ Some object
+  pub layout : l ≡ layout_of 1 owned.plan a.tenant object
+
+-- the layout of the object with this name; or there is none, and each record of it is refused so
+abbrev pub FindsObject : (now : ℕ) → Tables → (name : List ℕ) → Asked → Result (Result Layout Refusal) StoreFail → Type 0
+FindsObject now m name a (Ok (Ok l)) = IsLaidOut now m name l a
+FindsObject now m name a (Ok (Err why)) = (given : List Assignment) → refusal_of (create a name given).answer ≡ Some why
+FindsObject now m name a (Err e) = Unit {0}
+
+-- one verdict that leaves the object as it was
+abbrev pub StepsLaidOut : (now : ℕ) → (after : Tables) → (name : List ℕ) → Layout → Asked → Verdict → Result (Option Refusal) StoreFail → Type 0
+StepsLaidOut now after name l a v (Ok None) = (refusal_of v.answer ≡ None) × IsLaidOut now after name l (past a v)
+StepsLaidOut now after name l a v (Ok (Some why)) = refusal_of v.answer ≡ Some why
+StepsLaidOut now after name l a v (Err e) = Unit {0}

@@ -8,11 +8,13 @@
 mod answering;
 mod organisation;
 mod query;
+mod records;
 mod requests;
 mod stepping;
 
 pub use crate::answering::answer;
 pub use crate::organisation::{make_org, only_name};
 pub use crate::query::query_of;
-pub use crate::requests::{begin_change, make_field, make_object, make_record};
+pub use crate::records::{make_record, make_record_of, ready_object};
+pub use crate::requests::{begin_change, make_field, make_object};
 pub use crate::stepping::{change, make_step};

@@ -108,6 +108,10 @@ FitsItems Fits list = (length list < 2 ^ 32) × All Fits list
 abbrev pub FitsTimes : {A : Type 0} → ℕ → (A → Type 0) → List A → Type 0
 FitsTimes n Fits list = (length list ≡ n) × All Fits list
 
+-- how many slots a data row has
+abbrev pub slot_count : ℕ
+slot_count = 48
+
 -- ---- sources of sharing rules
 
 -- 0 and the owners' principal, or 1 and the condition

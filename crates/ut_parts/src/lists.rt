@@ -2,7 +2,7 @@
 
 ghost use Rattle.std.specs.Prelude.{◌≡◌, ◌++◌, OnOk, IfSome};
 ghost use Rattle.std.specs.List.{All};
-ghost use Rattle.ut_parts.specs.Composed.{in_turn, in_turn_at, items, items_at, FitsItems, FitsTimes};
+ghost use Rattle.ut_parts.specs.Composed.{in_turn, in_turn_at, items, items_at, slot_count, FitsItems, FitsTimes};
 ghost use Rattle.ut_parts.specs.Gives.{GivesBy};
 ghost use Rattle.ut_parts.specs.Plain.{optional, optional_at, text, text_at, FitsText};
 
@@ -64,7 +64,10 @@ impl<T: Part + Drop> Part for Items<T> {
     }
 }
 
-/// What the 48 slots of a data row hold: a text each, or nothing.
+// How many slots a data row has.
+const SLOT_COUNT: u32 = 48;
+
+/// What the slots of a data row hold: a text each, or nothing.
 #[derive(Debug, Drop)]
 pub struct Slots {
     texts: Items<Option<Text>>,
@@ -79,7 +82,7 @@ impl Model for Slots {
 }
 
 impl Slots {
-    /// Slots that hold these. A row with another number of them than 48 can't be written.
+    /// Slots that hold these. A row with another number of them than it has slots can't be written.
     pub fn new(texts: Items<Option<Text>>) -> Slots
         ensures { result ≡ texts }
     {
@@ -97,16 +100,16 @@ impl Slots {
 impl Part for Slots {
     ghost spell = { in_turn (optional text) };
 
-    ghost Fits = { FitsTimes 48 (λ o. IfSome o FitsText) };
+    ghost Fits = { FitsTimes slot_count (λ o. IfSome o FitsText) };
 
-    ghost reads = { in_turn_at (optional_at text_at) 48 };
+    ghost reads = { in_turn_at (optional_at text_at) slot_count };
 
     fn put(&self, out: &mut Vec<u8>) -> Result<(), AllocError> {
         put_in_turn(out, self.texts())
     }
 
     fn take(alloc: Global, bytes: &[u8]) -> Result<(Slots, &[u8]), CodecFail> {
-        match parts_in_turn(alloc, 48, bytes) {
+        match parts_in_turn(alloc, SLOT_COUNT, bytes) {
             Ok((texts, rest)) => Ok((Slots::new(texts), rest)),
             Err(fail) => Err(fail),
         }

@@ -1,5 +1,4 @@
 pub mod Like
 pub mod Worked
 pub mod Lexis
-pub mod Asking
 pub mod inner

@@ -1,18 +1,14 @@
-//! Queries, as they are held, how their texts are cut into tokens, and the one query that is told by its tokens alone.
+//! Queries, as they are held, and how their texts are cut into tokens.
 //!
-//! It depends on `ut_value` and `ut_grammar`, and knows no grammar of queries. Its contract: `asked_object` returns the object
-//! of the one form `SELECT Id, Name FROM OBJECT`, and `like` whether a text is like a pattern, by the definition of that name.
+//! It depends on `ut_value` and `ut_grammar`, and knows no grammar of queries. Its contract: `like` returns whether a text is like a
+//! pattern, by the definition of that name.
 #![tactic(auto)]
 
-mod asking;
-mod laws;
 mod lexis;
 mod patterns;
 mod query;
 mod worked;
 
-pub use crate::asking::{asked_object, asks_for_rows};
-pub use crate::laws::asking_rows;
 pub use crate::lexis::QueryLexis;
 pub use crate::patterns::like;
 pub use crate::query::{

@@ -2,8 +2,8 @@
 //! answered by a JSON object.
 //!
 //! It depends on `platform` for `run`, on the objects in memory of `ut_io` and `ut_keeper`, on `ut_json`, and on the
-//! toolchain's `hex`. Its contract: what a line says, and what is refused, is the definition `line_of`; what is written of a
-//! run is the definition `report_of`; a line is the last only for a cause. `run_script` does the lines of standard input.
+//! toolchain's `hex`. It is a tool of the tests, and has no contract but that it is safe and ends; the moments of a line are those of a
+//! clock (`HasMoments`). `run_script` does the lines of standard input.
 #![tactic(auto)]
 
 mod line;

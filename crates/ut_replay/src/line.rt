@@ -104,24 +104,14 @@ pub(crate) enum LineFail {
 }
 
 impl From<AllocError> for LineFail {
-    ghost use Rattle.std.specs.Prelude.{◌≡◌};
-    ghost use Rattle.ut_replay.specs.declared.line.LineFail.TheVariants.{Memory};
-
-    ghost from_gives = { λ _ e. e ≡ Memory };
-
     fn from(_error: AllocError) -> LineFail {
         LineFail::Memory
     }
 }
 
-ghost use Rattle.std.specs.Prelude.{◌≡◌};
-ghost use Rattle.ut_replay.specs.Lines.{name_of};
-
 impl Name {
     /// The name as it is written.
-    pub(crate) fn text(self) -> &'static str
-        ensures { result.now ≡ name_of self }
-    {
+    pub(crate) fn text(self) -> &'static str {
         match self {
             Name::Words => "words",
             Name::Stdin => "stdin",

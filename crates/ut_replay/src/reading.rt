@@ -1,8 +1,7 @@
 //! What a line says.
 
-ghost use Rattle.std.specs.Prelude.{◌≡◌, IfOk};
-ghost use Rattle.ut_replay.specs.Lines as spec;
-ghost use Rattle.ut_replay.specs.Lines.{Gives, HasMoments, MayRun, line_of};
+ghost use Rattle.std.specs.Prelude.{IfOk};
+ghost use Rattle.ut_replay.specs.Lines.{HasMoments, MayRun};
 
 use crate::line::{Failing, Fault, Line, LineFail, Name, RawRow, Run, Spelling};
 use crate::parts::{
@@ -26,9 +25,7 @@ const RUN: [Name; 7] = [
     Name::Failing,
 ];
 
-fn failing(alloc: Global, members: &[Member]) -> Result<Failing, LineFail>
-    ensures { Gives result (spec.failing_at members.now) }
-{
+fn failing(alloc: Global, members: &[Member]) -> Result<Failing, LineFail> {
     let Some(json) = found(members, Name::Failing.text()) else {
         return Ok(Failing {
             source: Items::new(alloc),
@@ -49,7 +46,6 @@ fn failing(alloc: Global, members: &[Member]) -> Result<Failing, LineFail>
 }
 
 fn run(alloc: Global, members: &[Member]) -> Result<Run, LineFail>
-    ensures value { Gives result (spec.run_of members.now) }
     ensures moments { IfOk result HasMoments }
 {
     check_names(alloc, members, &RUN)?;
@@ -67,9 +63,7 @@ fn run(alloc: Global, members: &[Member]) -> Result<Run, LineFail>
     })
 }
 
-fn row(alloc: Global, json: &Json) -> Result<RawRow, LineFail>
-    ensures { Gives result (spec.row_of json.now) }
-{
+fn row(alloc: Global, json: &Json) -> Result<RawRow, LineFail> {
     let members = members_of(
         alloc,
         json,
@@ -85,35 +79,26 @@ fn row(alloc: Global, json: &Json) -> Result<RawRow, LineFail>
     Ok(RawRow { table, key, row })
 }
 
-fn rows(alloc: Global, members: &[Member]) -> Result<Items<RawRow>, LineFail>
-    ensures { Gives result (spec.rows_of members.now) }
-{
+fn rows(alloc: Global, members: &[Member]) -> Result<Items<RawRow>, LineFail> {
     check_names(alloc, members, &[Name::Rows])?;
     let Json::List(items) = needed(members, Name::Rows)? else {
         return Err(LineFail::Fault(Fault::Wrong(Name::Rows)));
     };
-    let mut rest = items.as_slice();
     let mut rows = Items::new(alloc);
-    'items: while let Some((item, more)) = rest.split_first() {
-        let next = row(alloc, item)?;
-        rows.push(next)?;
-        rest = more;
+    for item in items.as_slice() {
+        rows.push(row(alloc, item)?)?;
     }
     Ok(rows)
 }
 
-fn keeper(alloc: Global, members: &[Member]) -> Result<Items<u64>, LineFail>
-    ensures { Gives result (spec.keeper_of members.now) }
-{
+fn keeper(alloc: Global, members: &[Member]) -> Result<Items<u64>, LineFail> {
     check_names(alloc, members, &[Name::Failing])?;
     let json = needed(members, Name::Failing)?;
     let members = members_of(alloc, json, Name::Failing, &[Name::Keeper])?;
     numbers_at(alloc, members, Name::Keeper, u64::MAX)
 }
 
-fn note(alloc: Global, members: &[Member]) -> Result<(), LineFail>
-    ensures { Gives result (spec.note_of members.now) }
-{
+fn note(alloc: Global, members: &[Member]) -> Result<(), LineFail> {
     check_names(alloc, members, &[Name::Note])?;
     let _text = text_at(alloc, members, Name::Note)?;
     Ok(())
@@ -126,7 +111,6 @@ fn note(alloc: Global, members: &[Member]) -> Result<(), LineFail>
 ///
 /// The line's first fault, or out of memory.
 pub(crate) fn read_line(alloc: Global, json: &Json) -> Result<Line, LineFail>
-    ensures value { Gives result (line_of json.now) }
     ensures moments { IfOk result MayRun }
 {
     let Json::Object(members) = json else {

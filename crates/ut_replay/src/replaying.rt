@@ -1,17 +1,12 @@
 //! The lines in turn, over one keeper.
 
-ghost use Rattle.std.specs.Prelude.{◌≡◌, ◌⊎◌, ◌↔◌, ◌-◌, IfErr, IfOk, None, map, slice_index, string_bytes};
-ghost use Rattle.ut_keeper.specs.State.{data_table};
-ghost use Rattle.platform.specs.Commands.{command_of};
-ghost use Rattle.ut_replay.specs.Doing.{IsDone, IsLast, IsReport, end_of_keeping};
-ghost use Rattle.ut_replay.specs.Lines.{HasMoments, IsRefusal, MayRun, Says};
-ghost use Rattle.ut_replay.specs.declared.line.Fault.TheVariants.{NotFirst};
-ghost use Rattle.ut_replay.specs.declared.replaying.End.TheVariants.{Fault as IsFault, Memory as NoMemory};
+ghost use Rattle.std.specs.Prelude.{IfOk};
+ghost use Rattle.ut_replay.specs.Lines.{HasMoments, MayRun};
 
 use crate::line::{Fault, Line, LineFail, RawRow, Run};
 use crate::reading::read_line;
 use crate::report::{Counts, report};
-use platform::{run, run_laws};
+use platform::run;
 use std::alloc::{AllocError, Global};
 use std::fmt;
 use ut_io::{MemoryClock, MemoryDoor, MemorySink, MemorySource};
@@ -47,16 +42,12 @@ impl fmt::Display for End {
 }
 
 impl From<AllocError> for End {
-    ghost from_gives = { λ _ e. e ≡ NoMemory };
-
     fn from(_error: AllocError) -> End {
         End::Memory
     }
 }
 
 impl From<KeepFail> for End {
-    ghost from_gives = { λ fail e. e ≡ end_of_keeping fail };
-
     fn from(fail: KeepFail) -> End {
         match fail {
             KeepFail::Failed => End::Keeper,
@@ -109,14 +100,7 @@ fn count_run(
     source: &mut MemorySource,
     sink: &mut MemorySink,
     clock: &mut MemoryClock,
-) -> Counts
-    ensures no_command { (result.status ≡ 64) ↔ (command_of (map string_bytes words.now) ≡ None) }
-    ensures rows_written { result.rows_written ≡ keeper.new.written - keeper.old.written }
-    ensures data_rows_shown { result.data_rows_shown
-        ≡ slice_index keeper.new.shown data_table - slice_index keeper.old.shown data_table }
-{
-    // For the proof alone.
-    run_laws();
+) -> Counts {
     let written = keeper.written();
     let shown = keeper.shown(DATA_TABLE);
     let status = run(alloc, words, keeper, door, source, sink, clock);
@@ -129,9 +113,7 @@ fn count_run(
 
 // What a line of text says.
 fn read_text(alloc: Global, text: &str) -> Result<Line, End>
-    ensures says { IfOk result (λ line. Says text.now line) }
-    ensures refused { IfErr result (λ end. IsRefusal text.now end) }
-    ensures moments { IfOk result MayRun }
+    ensures { IfOk result MayRun }
 {
     match read(alloc, text.as_bytes()) {
         Ok(json) => match read_line(alloc, &json) {
@@ -161,9 +143,7 @@ impl Replay {
     }
 
     // Begins anew with a keeper of which these calls fail.
-    fn begin(&mut self, alloc: Global, failing: &Items<u64>) -> Result<(), End>
-        ensures { IfErr result (λ end. (end ≡ NoMemory) ⊎ (end ≡ IsFault NotFirst)) }
-    {
+    fn begin(&mut self, alloc: Global, failing: &Items<u64>) -> Result<(), End> {
         if self.used {
             return Err(End::Fault(Fault::NotFirst));
         }
@@ -188,8 +168,6 @@ impl Replay {
     // Runs the words over the line's own objects, and gives the object to write.
     fn run(&mut self, alloc: Global, given: &Run) -> Result<Bytes, End>
         requires { HasMoments given.now }
-        ensures report { IfOk result IsReport }
-        ensures memory { IfErr result (λ end. end ≡ NoMemory) }
     {
         self.used = true;
         let failing = &given.failing;
@@ -224,10 +202,7 @@ impl Replay {
     /// # Errors
     ///
     /// If the line is the last.
-    pub fn line(&mut self, alloc: Global, text: &str) -> Result<Option<Bytes>, End>
-        ensures done { IfOk result (λ written. IsDone text.now written) }
-        ensures last { IfErr result (λ end. IsLast text.now end) }
-    {
+    pub fn line(&mut self, alloc: Global, text: &str) -> Result<Option<Bytes>, End> {
         match read_text(alloc, text)? {
             Line::Note => Ok(Some(Bytes::from_slice(alloc, text.as_bytes())?)),
             Line::Keeper(failing) => {

@@ -1,14 +1,5 @@
 //! What is written after a line that ran something.
 
-ghost use Rattle.std.specs.Prelude.{◌≡◌, ◌++◌, IfOk, OnOk, map};
-ghost use Rattle.std.specs.List.{list_all};
-ghost use Rattle.std.specs.Str.{is_utf8};
-ghost use Rattle.std.specs.Vec.{vec_items};
-ghost use Rattle.hex.specs.Hex.{encode_lower};
-ghost use Rattle.ut_io.specs.Doors as doors;
-ghost use Rattle.ut_replay.specs.Reports as spec;
-ghost use Rattle.ut_replay.specs.Reports.{counted, named, report_of, spelled};
-
 use std::alloc::{AllocError, Global};
 use ut_io::{MemoryDoor, MemorySink};
 use ut_json::{Mark, Writer};
@@ -26,61 +17,40 @@ pub(crate) struct Counts {
 const UNIT: i128 = 100_000_000;
 
 // A member's name and its colon.
-#[tactic(auto, unfolding(crate::specs::Reports::quoted))]
-fn name(alloc: Global, writer: &mut Writer, name: &str) -> Result<(), AllocError>
-    ensures { OnOk result (writer.new ≡ writer.old ++ named name.now) }
-{
+fn name(alloc: Global, writer: &mut Writer, name: &str) -> Result<(), AllocError> {
     writer.text(alloc, name)?;
     writer.mark(alloc, Mark::Colon)
 }
 
 // A member with a count.
-#[tactic(auto, unfolding(crate::specs::Reports::counted))]
-fn count(alloc: Global, writer: &mut Writer, member: &str, count: u64) -> Result<(), AllocError>
-    ensures { OnOk result (writer.new ≡ writer.old ++ counted member.now count) }
-{
+fn count(alloc: Global, writer: &mut Writer, member: &str, count: u64) -> Result<(), AllocError> {
     name(alloc, writer, member)?;
     writer.number(alloc, i128::from(count) * UNIT)
 }
 
 // Whether bytes are UTF-8.
-fn is_text(bytes: &[u8]) -> bool
-    ensures { result ≡ is_utf8 bytes.now }
-{
-    match str::from_utf8(bytes) {
-        Ok(_) => true,
-        Err(_) => false,
-    }
+fn is_text(bytes: &[u8]) -> bool {
+    str::from_utf8(bytes).is_ok()
 }
 
 // Whether all are UTF-8.
-fn are_texts(all: &[Vec<u8>]) -> bool
-    ensures { result ≡ list_all is_utf8 (map vec_items all.now) }
-{
-    let mut rest = all;
-    'outputs: while let Some((bytes, more)) = rest.split_first() {
+fn are_texts(all: &[Vec<u8>]) -> bool {
+    for bytes in all {
         if !is_text(bytes.as_slice()) {
             return false;
         }
-        rest = more;
     }
     true
 }
 
 // The digits of bytes.
-#[tactic(auto, unfolding(crate::specs::Reports::quoted))]
-fn digits(alloc: Global, writer: &mut Writer, bytes: &[u8]) -> Result<(), AllocError>
-    ensures { OnOk result (writer.new ≡ writer.old ++ spec.quoted (encode_lower bytes.now)) }
-{
+fn digits(alloc: Global, writer: &mut Writer, bytes: &[u8]) -> Result<(), AllocError> {
     let digits = hex::encode(alloc, bytes)?;
     writer.text(alloc, digits.as_str())
 }
 
 // Bytes as a text if they are one and are to be, or their digits.
-#[tactic(auto, unfolding(crate::specs::Reports::spelled, crate::specs::Reports::quoted))]
-fn text(alloc: Global, writer: &mut Writer, bytes: &[u8], plain: bool) -> Result<(), AllocError>
-    ensures { OnOk result (writer.new ≡ writer.old ++ spelled plain bytes.now) }
-{
+fn text(alloc: Global, writer: &mut Writer, bytes: &[u8], plain: bool) -> Result<(), AllocError> {
     if plain && is_text(bytes) {
         match str::from_utf8(bytes) {
             Ok(text) => writer.text(alloc, text),
@@ -92,31 +62,10 @@ fn text(alloc: Global, writer: &mut Writer, bytes: &[u8], plain: bool) -> Result
 }
 
 // The output of the run.
-#[tactic(auto, unfolding(crate::specs::Reports::stdout_of))]
-fn stdout(alloc: Global, writer: &mut Writer, bytes: &[u8]) -> Result<(), AllocError>
-    ensures { OnOk result (writer.new ≡ writer.old ++ spec.stdout_of bytes.now) }
-{
+fn stdout(alloc: Global, writer: &mut Writer, bytes: &[u8]) -> Result<(), AllocError> {
     let plain = is_text(bytes);
     name(alloc, writer, if plain { "stdout" } else { "stdoutHex" })?;
     text(alloc, writer, bytes, plain)
-}
-
-// Outputs, each behind a comma.
-fn others(
-    alloc: Global,
-    writer: &mut Writer,
-    outputs: &[Vec<u8>],
-    plain: bool,
-) -> Result<(), AllocError>
-    ensures { OnOk result (writer.new ≡ writer.old ++ spec.others_of plain (map vec_items outputs.now)) }
-{
-    let mut rest = outputs;
-    'outputs: while let Some((bytes, more)) = rest.split_first() {
-        writer.mark(alloc, Mark::Comma)?;
-        text(alloc, writer, bytes.as_slice(), plain)?;
-        rest = more;
-    }
-    Ok(())
 }
 
 // Outputs with commas between them.
@@ -125,23 +74,18 @@ fn strings(
     writer: &mut Writer,
     outputs: &[Vec<u8>],
     plain: bool,
-) -> Result<(), AllocError>
-    ensures { OnOk result (writer.new ≡ writer.old ++ spec.strings_of plain (map vec_items outputs.now)) }
-{
-    match outputs.split_first() {
-        Some((first, rest)) => {
-            text(alloc, writer, first.as_slice(), plain)?;
-            others(alloc, writer, rest, plain)
+) -> Result<(), AllocError> {
+    for (at, bytes) in outputs.iter().enumerate() {
+        if at > 0 {
+            writer.mark(alloc, Mark::Comma)?;
         }
-        None => Ok(()),
+        text(alloc, writer, bytes.as_slice(), plain)?;
     }
+    Ok(())
 }
 
 // The outputs of the connections.
-#[tactic(auto, unfolding(crate::specs::Reports::outputs_of))]
-fn outputs(alloc: Global, writer: &mut Writer, outputs: &[Vec<u8>]) -> Result<(), AllocError>
-    ensures { OnOk result (writer.new ≡ writer.old ++ spec.outputs_of (map vec_items outputs.now)) }
-{
+fn outputs(alloc: Global, writer: &mut Writer, outputs: &[Vec<u8>]) -> Result<(), AllocError> {
     let plain = are_texts(outputs);
     name(alloc, writer, if plain { "outputs" } else { "outputsHex" })?;
     writer.mark(alloc, Mark::OpenList)?;
@@ -154,16 +98,12 @@ fn outputs(alloc: Global, writer: &mut Writer, outputs: &[Vec<u8>]) -> Result<()
 /// # Errors
 ///
 /// If out of memory.
-#[tactic(auto, unfolding(crate::specs::Reports::report_of))]
 pub(crate) fn report(
     alloc: Global,
     counts: Counts,
     sink: &MemorySink,
     door: &MemoryDoor,
-) -> Result<Bytes, AllocError>
-    ensures { IfOk result (λ bytes. bytes ≡ report_of counts.status sink.now.written (doors.outputs door.now.held)
-        counts.rows_written counts.data_rows_shown) }
-{
+) -> Result<Bytes, AllocError> {
     let mut writer = Writer::new(alloc);
     writer.mark(alloc, Mark::OpenObject)?;
     count(alloc, &mut writer, "status", u64::from(counts.status))?;

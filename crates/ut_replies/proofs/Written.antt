@@ -1,8 +1,7 @@
 -- What is written, piece by piece.
-use Rattle.std.proofs.Common.{◌≡◌, ℕ, suc, ◌<◌, ◌*◌, ◌/◌, ◌%◌, ◌^◌, List, [], ◌∷◌, ◌++◌, length, map, true, refl, sym, ap, ◌∙◌, append_assoc, append-nil, lit<, arith, to_z, of_z, Bool}
+use Rattle.std.proofs.Common.{◌≡◌, ℕ, ◌<◌, ◌*◌, ◌/◌, ◌%◌, ◌^◌, List, [], ◌∷◌, ◌++◌, true, refl, sym, ap, ◌∙◌, append_assoc, append-nil, lit<, arith, to_z, of_z, Bool}
 use Rattle.std.specs.Prelude.{codes, if◌then◌else◌, ℤ, pos, Result, Ok, Err, OnOk}
 use Rattle.std.specs.Char.{encode_utf8}
-use Rattle.std.specs.List.{flat_map}
 use Rattle.std.specs.Fmt.{decimal}
 use Rattle.std.specs.Int.{w128}
 use Rattle.std.specs.Str.{chars, encode_utf8_all, is_utf8, IsUtf8}
@@ -17,13 +16,12 @@ use Rattle.ut_json.specs.Whole.{joined}
 use Rattle.ut_json.specs.declared.writer.Mark.{Mark}
 use Rattle.ut_json.specs.declared.writer.Mark.TheVariants.{OpenList, CloseList, OpenObject, CloseObject, Comma, Colon}
 use Rattle.ut_value.specs.Id.{print18}
-use Rattle.ut_model.specs.declared.record.Record.{Record}
 use Rattle.ut_model.specs.Paths.{Asked}
 use Rattle.ut_model.specs.Replies.{id_json, made_members, reply_of}
-use Rattle.ut_model.specs.RowsJson.{list_json, member_json, object_json, rows_json, url, value_json}
+use Rattle.ut_model.specs.RowsJson.{list_json, member_json, object_json, url}
 use Rattle.ut_model.specs.Verdict.{made_new, upserted}
 use Rattle.ut_replies.specs.inner.Parts.{upserted_members}
-use Rattle.ut_replies.specs.Names.{name_attributes, name_in, name_row}
+use Rattle.ut_replies.specs.Rows.{addresses, attributes_member}
 
 -- one piece behind another
 pub after : (w0 w1 w2 a b : List ℕ) → w1 ≡ w0 ++ encode_utf8_all a → w2 ≡ w1 ++ encode_utf8_all b → w2 ≡ w0 ++ encode_utf8_all (a ++ b)
@@ -71,13 +69,6 @@ three w0 w1 w2 w3 w4 w5 a b c e1 e2 e3 e4 e5 =
     let shape : ((a ++ 44 ∷ b) ++ 44 ∷ []) ++ c ≡ a ++ 44 ∷ (b ++ 44 ∷ c) = append_assoc (a ++ 44 ∷ b) (44 ∷ []) c ∙ append_assoc a (44 ∷ b) (44 ∷ c) in
     third ∙ ap (λ t. w0 ++ encode_utf8_all t) shape
 
--- three of them in their braces
-pub of_three : (w0 w1 w2 w3 w4 w5 w6 w7 a b c : List ℕ) → w1 ≡ w0 ++ encode_utf8_all (123 ∷ []) → w2 ≡ w1 ++ encode_utf8_all a → w3 ≡ w2 ++ encode_utf8_all (44 ∷ [])
-    → w4 ≡ w3 ++ encode_utf8_all b → w5 ≡ w4 ++ encode_utf8_all (44 ∷ []) → w6 ≡ w5 ++ encode_utf8_all c → w7 ≡ w6 ++ encode_utf8_all (125 ∷ [])
-    → w7 ≡ w0 ++ encode_utf8_all (object_json (a ∷ b ∷ c ∷ []))
-of_three w0 w1 w2 w3 w4 w5 w6 w7 a b c e1 e2 e3 e4 e5 e6 e7 =
-    in_object w0 w1 w6 w7 (a ∷ b ∷ c ∷ []) e1 (three w1 w2 w3 w4 w5 w6 a b c e2 e3 e4 e5 e6) e7
-
 -- one more behind a comma
 joined_behind : (a : List ℕ) (members : List (List ℕ)) (b : List ℕ) → joined (a ∷ members) ++ 44 ∷ b ≡ joined (a ∷ (members ++ b ∷ []))
 joined_behind a [] b = refl
@@ -86,11 +77,6 @@ joined_behind a (c ∷ cs) b = append_assoc a (44 ∷ joined (c ∷ cs)) (44 ∷
 -- a member whose value is written behind its name
 pub member : (w0 w1 w2 name v : List ℕ) → w1 ≡ w0 ++ encode_utf8_all (printed_text name ++ codes ":") → w2 ≡ w1 ++ encode_utf8_all v → w2 ≡ w0 ++ encode_utf8_all (member_json name v)
 member w0 w1 w2 name v e f = after w0 w1 w2 (printed_text name ++ codes ":") v e f
-
--- texts with a comma before each but the first
-pub joined_more : {X : Type 0} (f : X → List ℕ) (x : X) (xs : List X) → f x ++ flat_map (λ y. 44 ∷ f y) xs ≡ joined (map f (x ∷ xs))
-joined_more f x [] = append-nil (f x)
-joined_more f x (y ∷ ys) = ap (λ t. f x ++ 44 ∷ t) (joined_more f y ys)
 
 -- ---- a whole number, as it is written by a count of 10^-8
 widened : (n : ℕ) → n < 2 ^ 64 → to_z w128 (of_z w128 (pos (n * 100000000))) ≡ pos (n * 100000000)
@@ -112,20 +98,12 @@ front_utf8 : IsUtf8 (codes "/services/data/v59.0/sobjects/")
 unfolding is_utf8 chars encode_utf8
 front_utf8 = IsUtf8-from_is_utf8 (codes "/services/data/v59.0/sobjects/") refl
 
-slash_utf8 : IsUtf8 (codes "/")
-unfolding is_utf8 chars encode_utf8
-slash_utf8 = IsUtf8-from_is_utf8 (codes "/") refl
-
-pub addressed : (object bytes id : List ℕ) → IsUtf8 object → chars bytes ≡ print18 id
-    → chars (((codes "/services/data/v59.0/sobjects/" ++ object) ++ codes "/") ++ bytes) ≡ url (chars object) id
+pub addressed : (object : List ℕ) → IsUtf8 object → chars ((codes "/services/data/v59.0/sobjects/" ++ object) ++ codes "/") ≡ addresses (chars object)
 unfolding chars
-addressed object bytes id own is =
+addressed object own =
     let front = codes "/services/data/v59.0/sobjects/" in
-    let two = IsUtf8-append front object front_utf8 own in
-    chars-append ((front ++ object) ++ codes "/") bytes (IsUtf8-append (front ++ object) (codes "/") two slash_utf8)
-    ∙ ap (λ t. t ++ chars bytes) (chars-append (front ++ object) (codes "/") two)
-    ∙ ap (λ t. (t ++ chars (codes "/")) ++ chars bytes) (chars-append front object front_utf8)
-    ∙ ap (λ t. ((front ++ chars object) ++ codes "/") ++ t) is
+    chars-append (front ++ object) (codes "/") (IsUtf8-append front object front_utf8 own)
+    ∙ ap (λ t. t ++ chars (codes "/")) (chars-append front object front_utf8)
 
 -- ---- where the last piece is written by the call that is returned
 module _ {A E : Type 0} where
@@ -137,74 +115,13 @@ module _ {A E : Type 0} where
 module _ (w0 w1 w2 w3 w4 w5 w6 : List ℕ) where
   pub attributes_written : (object id place : List ℕ) → place ≡ url object id → w1 ≡ w0 ++ encode_utf8_all (printed_text (chars (codes "attributes")) ++ codes ":")
       → w2 ≡ w1 ++ encode_utf8_all (123 ∷ []) → w3 ≡ w2 ++ encode_utf8_all (member_json (chars (codes "type")) (printed_text object)) → w4 ≡ w3 ++ encode_utf8_all (44 ∷ [])
-      → w5 ≡ w4 ++ encode_utf8_all (member_json (chars (codes "url")) (printed_text place)) → w6 ≡ w5 ++ encode_utf8_all (125 ∷ []) → w6 ≡ w0 ++ encode_utf8_all (name_attributes object id)
+      → w5 ≡ w4 ++ encode_utf8_all (member_json (chars (codes "url")) (printed_text place)) → w6 ≡ w5 ++ encode_utf8_all (125 ∷ []) → w6 ≡ w0 ++ encode_utf8_all (attributes_member object id)
   unfolding chars
   attributes_written object id place same e1 e2 e3 e4 e5 e6 =
       let kind = member_json (codes "type") (printed_text object) in
       let place_member = member_json (codes "url") (printed_text (url object id)) in
       member w0 w1 w6 (codes "attributes") (object_json (kind ∷ place_member ∷ [])) e1
       (of_two w1 w2 w3 w4 w5 w6 kind place_member e2 e3 e4 (e5 ∙ ap (λ p. w4 ++ encode_utf8_all (member_json (codes "url") (printed_text p))) same) e6)
-
-module _ (w0 w1 w2 w3 w4 w5 w6 w7 w8 : List ℕ) where
-  pub row_written : (object id : List ℕ) (r : Record) → id ≡ print18 r.id → w1 ≡ w0 ++ encode_utf8_all (123 ∷ [])
-      → w2 ≡ w1 ++ encode_utf8_all (name_attributes object r.id) → w3 ≡ w2 ++ encode_utf8_all (44 ∷ []) → w4 ≡ w3 ++ encode_utf8_all (member_json (chars (codes "Id")) (printed_text id))
-      → w5 ≡ w4 ++ encode_utf8_all (44 ∷ []) → w6 ≡ w5 ++ encode_utf8_all (printed_text (chars (codes "Name")) ++ codes ":") → w7 ≡ w6 ++ encode_utf8_all (value_json (name_in r.values))
-      → w8 ≡ w7 ++ encode_utf8_all (125 ∷ []) → w8 ≡ w0 ++ encode_utf8_all (name_row object r)
-  unfolding chars
-  row_written object id r is e1 e2 e3 e4 e5 e6 e7 e8 =
-      of_three w0 w1 w2 w3 w4 w5 w7 w8 (name_attributes object r.id) (member_json (codes "Id") (printed_text (print18 r.id))) (member_json (codes "Name") (value_json (name_in r.values)))
-      e1 e2 e3 (e4 ∙ ap (λ i. w3 ++ encode_utf8_all (member_json (codes "Id") (printed_text i))) is) e5
-      (member w5 w6 w7 (codes "Name") (value_json (name_in r.values)) e6 e7) e8
-
-no_length : (n : ℕ) → suc n ≡ 0 → ⊥
-no_length n e = omega (arith, e)
-
--- one more row behind a comma, of those that are to be written
-pub one_more : (w w1 w2 object : List ℕ) (r : Record) (rs rest : List Record) (all : List ℕ) → rest ≡ r ∷ rs → w1 ≡ w ++ encode_utf8_all (44 ∷ []) → w2 ≡ w1 ++ encode_utf8_all (name_row object r)
-    → w ++ encode_utf8_all (flat_map (λ r. 44 ∷ name_row object r) rest) ≡ all → w2 ++ encode_utf8_all (flat_map (λ r. 44 ∷ name_row object r) rs) ≡ all
-one_more w w1 w2 object r rs rest all split e f h =
-    let more = flat_map (λ r. 44 ∷ name_row object r) rs in
-    ap (λ t. t ++ encode_utf8_all more) (after w w1 w2 (44 ∷ []) (name_row object r) e f) ∙ append_assoc w (encode_utf8_all (44 ∷ name_row object r)) (encode_utf8_all more)
-    ∙ ap (λ t. w ++ t) (sym (encodes-append (44 ∷ name_row object r) more))
-    ∙ ap (λ rs. w ++ encode_utf8_all (flat_map (λ r. 44 ∷ name_row object r) rs)) (sym split) ∙ h
-
--- the first row, and those behind it
-pub rows_written : (w0 w1 w2 object : List ℕ) (r : Record) (rs all : List Record) → all ≡ r ∷ rs → w1 ≡ w0 ++ encode_utf8_all (name_row object r) → w2 ≡ w1 ++ encode_utf8_all (flat_map (λ r. 44 ∷ name_row object r) rs)
-    → w2 ≡ w0 ++ encode_utf8_all (joined (map (name_row object) all))
-rows_written w0 w1 w2 object r rs all split e f =
-    after w0 w1 w2 (name_row object r) (flat_map (λ r. 44 ∷ name_row object r) rs) e f
-    ∙ ap (λ t. w0 ++ encode_utf8_all t) (joined_more (name_row object) r rs)
-    ∙ ap (λ rs. w0 ++ encode_utf8_all (joined (map (name_row object) rs))) (sym split)
-
-pub records_written : (w0 w1 w2 w3 w4 : List ℕ) (rows : List (List ℕ)) → w1 ≡ w0 ++ encode_utf8_all (printed_text (chars (codes "records")) ++ codes ":") → w2 ≡ w1 ++ encode_utf8_all (91 ∷ [])
-    → w3 ≡ w2 ++ encode_utf8_all (joined rows) → w4 ≡ w3 ++ encode_utf8_all (93 ∷ []) → w4 ≡ w0 ++ encode_utf8_all (member_json (codes "records") (list_json rows))
-unfolding chars
-records_written w0 w1 w2 w3 w4 rows e1 e2 e3 e4 = member w0 w1 w4 (codes "records") (list_json rows) e1 (in_list w1 w2 w3 w4 rows e2 e3 e4)
-
-pub body_written : (w0 w1 w2 w3 w4 w5 w6 w7 body : List ℕ) (rows : List (List ℕ)) (n : ℕ) → n ≡ length rows → w0 ≡ [] → w1 ≡ w0 ++ encode_utf8_all (123 ∷ [])
-    → w2 ≡ w1 ++ encode_utf8_all (member_json (chars (codes "totalSize")) (decimal n)) → w3 ≡ w2 ++ encode_utf8_all (44 ∷ [])
-    → w4 ≡ w3 ++ encode_utf8_all (member_json (chars (codes "done")) (printed_truth true)) → w5 ≡ w4 ++ encode_utf8_all (44 ∷ [])
-    → w6 ≡ w5 ++ encode_utf8_all (member_json (codes "records") (list_json rows)) → w7 ≡ w6 ++ encode_utf8_all (125 ∷ []) → body ≡ w7 → body ≡ encode_utf8_all (rows_json rows)
-unfolding chars
-body_written w0 w1 w2 w3 w4 w5 w6 w7 body rows n count e0 e1 e2 e3 e4 e5 e6 e7 same =
-    same
-    ∙ of_three w0 w1 w2 w3 w4 w5 w6 w7 (member_json (codes "totalSize") (decimal (length rows))) (member_json (codes "done") (printed_truth true)) (member_json (codes "records") (list_json rows))
-    e1 (e2 ∙ ap (λ n. w1 ++ encode_utf8_all (member_json (codes "totalSize") (decimal n))) count) e3 e4 e5 e6 e7
-    ∙ ap (λ w. w ++ encode_utf8_all (rows_json rows)) e0
-
-module _ {A E : Type 0} (r : Result A E) (w0 w1 w2 object : List ℕ) where
-  pub some_rows : (x : Record) (rs all : List Record) → all ≡ x ∷ rs → w1 ≡ w0 ++ encode_utf8_all (name_row object x)
-      → OnOk r (w2 ≡ w1 ++ encode_utf8_all (flat_map (λ r. 44 ∷ name_row object r) rs)) → OnOk r (w2 ≡ w0 ++ encode_utf8_all (joined (map (name_row object) all)))
-  some_rows x rs all split e h = on_ok r _ _ (rows_written w0 w1 w2 object x rs all split e) h
-
-pub no_rows : (w object : List ℕ) (all : List Record) → length all ≡ 0 → w ≡ w ++ encode_utf8_all (joined (map (name_row object) all))
-no_rows w object [] none = sym (append-nil w)
-no_rows w object (r ∷ rs) none = absurd (no_length (length rs) none)
-
--- none is left to be written
-pub no_more : (w object all : List ℕ) (rest : List Record) → length rest ≡ 0 → w ++ encode_utf8_all (flat_map (λ r. 44 ∷ name_row object r) rest) ≡ all → w ≡ all
-no_more w object all [] none h = sym (append-nil w) ∙ h
-no_more w object all (r ∷ rs) none h = absurd (no_length (length rs) none)
 
 -- ---- what was made
 pub no_errors_written : (w0 w1 w2 w3 : List ℕ) → w1 ≡ w0 ++ encode_utf8_all (printed_text (chars (codes "errors")) ++ codes ":") → w2 ≡ w1 ++ encode_utf8_all (91 ∷ [])

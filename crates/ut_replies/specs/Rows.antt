@@ -1,16 +1,26 @@
 -- Rows in JSON, from what is shown of each record.
 -- Source of the form: Salesforce, REST API, "Query".
-use Rattle.std.specs.Prelude.{ℕ, true, List, ◌∷◌, ◌++◌, codes, map}
+use Rattle.std.specs.Prelude.{ℕ, true, List, [], ◌∷◌, ◌++◌, codes}
 use Rattle.std.specs.Fmt.{decimal}
 use Rattle.std.specs.List.{flat_map}
-use Rattle.ut_json.specs.Printing.{printed_text, printed_truth}
-use Rattle.ut_model.specs.RowsJson.{member_json, object_json, value_json}
-use Rattle.ut_value.specs.declared.value.Value.{Value}
-use Rattle.ut_replies.specs.Names.{name_attributes}
+use Rattle.ut_json.specs.Printing.{escaped, printed_text, printed_truth}
+use Rattle.ut_model.specs.RowsJson.{member_json, object_json, url}
 
--- a row: the attributes, and a member for each name and value that is shown
-abbrev pub shown_row : (object id : List ℕ) → (shown : List (List ℕ × Value)) → List ℕ
-shown_row object id shown = object_json (name_attributes object id ∷ map (λ m. member_json m.0 (value_json m.1)) shown)
+-- the first member of a record: its type and its address, from the name of its object and its id
+abbrev pub attributes_member : (object id : List ℕ) → List ℕ
+attributes_member object id =
+    member_json (codes "attributes")
+    (object_json (member_json (codes "type") (printed_text object) ∷ member_json (codes "url") (printed_text (url object id)) ∷ []))
+
+-- the addresses of an object's records, up to their ids
+abbrev pub addresses : (object : List ℕ) → List ℕ
+addresses object = codes "/services/data/v59.0/sobjects/" ++ object ++ codes "/"
+
+-- how each row of an object begins, behind a comma: its type, and its address up to the id
+abbrev pub row_front : (object : List ℕ) → List ℕ
+row_front object =
+    codes ",{" ++ (printed_text (codes "attributes") ++ codes ":") ++ codes "{" ++ member_json (codes "type") (printed_text object) ++ codes ","
+    ++ (printed_text (codes "url") ++ codes ":" ++ codes "\"" ++ flat_map escaped (addresses object))
 
 -- texts, a comma before each
 abbrev pub behind_commas : List (List ℕ) → List ℕ

@@ -3,9 +3,11 @@
 ghost use Rattle.std.specs.Prelude.{◌≡◌, ◌*◌, [], ◌∷◌, ◌++◌, IfOk, codes, pos};
 ghost use Rattle.std.specs.Fmt.{decimal};
 ghost use Rattle.std.specs.Str.{chars};
+ghost use Rattle.std.specs.String.{string_bytes};
 ghost use Rattle.ut_json.specs.Printing.{mark_of, printed_text, printed_truth};
 ghost use Rattle.ut_value.specs.Id.{print18};
 ghost use Rattle.ut_model.specs.RowsJson.{member_json, url};
+ghost use Rattle.ut_replies.specs.Rows.{addresses, attributes_member};
 ghost use Rattle.ut_replies.specs.inner.Parts.{Wrote};
 
 use std::alloc::{AllocError, Global};
@@ -104,14 +106,40 @@ pub(crate) fn id_text(alloc: Global, id: &Id) -> Result<Text, AllocError>
     print_value(alloc, &Value::Ref(*id))
 }
 
+/// The addresses of an object's records, up to their ids.
+pub(crate) fn addresses(alloc: Global, object: &str) -> Result<String, AllocError>
+    ensures { IfOk result (λ text. chars (string_bytes text) ≡ addresses (chars object.now)) }
+{
+    let mut text = String::from_str(alloc, "/services/data/v59.0/sobjects/")?;
+    text.push_str(object)?;
+    text.push_str("/")?;
+    Ok(text)
+}
+
 /// The address of a record, from the name of its object and its id.
 pub(crate) fn address(alloc: Global, object: &str, id: &Id) -> Result<Text, AllocError>
     ensures { IfOk result (λ text. text ≡ url (chars object.now) id.now) }
 {
     let id = id_text(alloc, id)?;
-    let mut text = String::from_str(alloc, "/services/data/v59.0/sobjects/")?;
-    text.push_str(object)?;
-    text.push_str("/")?;
+    let mut text = addresses(alloc, object)?;
     text.push_str(id.as_str())?;
     Ok(Text::from_string(text))
+}
+
+/// The first member of a record.
+pub(crate) fn write_attributes(
+    alloc: Global,
+    writer: &mut Writer,
+    object: &str,
+    id: &Id,
+) -> Result<(), AllocError>
+    ensures { Wrote result writer.old writer.new (attributes_member (chars object.now) id.now) }
+{
+    let address = address(alloc, object, id)?;
+    write_name(alloc, writer, "attributes")?;
+    write_mark(alloc, writer, Mark::OpenObject)?;
+    write_text_member(alloc, writer, "type", object)?;
+    write_mark(alloc, writer, Mark::Comma)?;
+    write_text_member(alloc, writer, "url", address.as_str())?;
+    write_mark(alloc, writer, Mark::CloseObject)
 }

@@ -4,13 +4,13 @@ ghost use Rattle.std.specs.Prelude.{◌≡◌, ◌∷◌, ◌++◌, [], List, �
 ghost use Rattle.std.specs.Str.{chars, encode_utf8_all};
 ghost use Rattle.ut_json.specs.Printing.{printed_null, printed_text};
 ghost use Rattle.ut_model.specs.RowsJson.{member_json, rows_json, value_json};
-ghost use Rattle.ut_replies.specs.Names.{name_attributes};
-ghost use Rattle.ut_replies.specs.Rows.{behind_commas, rows_front};
+ghost use Rattle.ut_replies.specs.Rows.{attributes_member, behind_commas, rows_front};
 ghost use Rattle.ut_replies.specs.Written.{Wrote};
 ghost use Rattle.ut_value.specs.Printing.{is_printable};
 
-use crate::names::write_attributes;
-use crate::parts::{write_count_member, write_mark, write_name, write_text, write_truth_member};
+use crate::parts::{
+    write_attributes, write_count_member, write_mark, write_name, write_text, write_truth_member,
+};
 use std::alloc::{AllocError, Global};
 use ut_json::{Mark, Writer};
 use ut_value::{Bytes, Id, Value, print_value};
@@ -48,27 +48,10 @@ pub fn write_record_start(
     object: &str,
     id: &Id,
 ) -> Result<(), AllocError>
-    ensures { Wrote result writer.old writer.new (123 ∷ name_attributes (chars object.now) id.now) }
+    ensures { Wrote result writer.old writer.new (123 ∷ attributes_member (chars object.now) id.now) }
 {
     write_mark(alloc, writer, Mark::OpenObject)?;
     write_attributes(alloc, writer, object, id)
-}
-
-/// Begins a row, behind a comma: its type and its address, from the name of its object and its id.
-///
-/// # Errors
-///
-/// When out of memory.
-pub fn write_row_start(
-    alloc: Global,
-    writer: &mut Writer,
-    object: &str,
-    id: &Id,
-) -> Result<(), AllocError>
-    ensures { Wrote result writer.old writer.new (44 ∷ 123 ∷ name_attributes (chars object.now) id.now) }
-{
-    write_comma(alloc, writer)?;
-    write_record_start(alloc, writer, object, id)
 }
 
 // A value: numbers, truth values and null as such, and else a text.

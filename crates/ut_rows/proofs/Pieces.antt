@@ -1,5 +1,5 @@
 -- What is written, piece by piece.
-use Rattle.std.proofs.Common.{◌≡◌, ◌∙◌, ℕ, false, List, [], ◌∷◌, ◌++◌, map, length, sym, ap, append_assoc, append-nil}
+use Rattle.std.proofs.Common.{◌≡◌, ◌∙◌, ℕ, false, List, [], ◌∷◌, ◌++◌, map, length, refl, sym, ap, append_assoc, append-nil}
 use Rattle.std.specs.Prelude.{◌==◌, Result, Ok, Err, codes}
 use Rattle.std.specs.Result.{IsErrAnd}
 use Rattle.std.specs.Str.{encode_utf8_all}
@@ -61,6 +61,17 @@ pub record_written : (w0 w1 w2 w3 before first : List ℕ) (members : List (List
 record_written w0 w1 w2 w3 before first members e1 e2 e3 =
     after w0 w2 w3 ((before ++ first) ++ behind_commas members) (125 ∷ []) (after w0 w1 w2 (before ++ first) (behind_commas members) e1 e2) e3
     ∙ ap (λ (t : List ℕ). w0 ++ encode_utf8_all (t ++ codes "}")) (append_assoc before first (behind_commas members) ∙ ap (λ (t : List ℕ). before ++ t) (commas first members))
+
+-- a row behind its front, by a writer of its own
+pub row_appended : (o0 o1 w0 w1 w2 o2 first : List ℕ) (members : List (List ℕ)) → o1 ≡ o0 ++ encode_utf8_all (44 ∷ 123 ∷ first) → w0 ≡ []
+    → w1 ≡ w0 ++ encode_utf8_all (behind_commas members) → w2 ≡ w1 ++ encode_utf8_all (125 ∷ []) → o2 ≡ o1 ++ w2
+    → o2 ≡ o0 ++ encode_utf8_all (44 ∷ ((123 ∷ joined (first ∷ members)) ++ codes "}"))
+row_appended o0 o1 w0 w1 w2 o2 first members e1 none e2 e3 e =
+    let rest = encode_utf8_all (behind_commas members) in
+    let written : o2 ≡ (o1 ++ rest) ++ encode_utf8_all (125 ∷ []) =
+    e ∙ ap (λ (w : List ℕ). o1 ++ w) (e3 ∙ ap (λ (w : List ℕ). w ++ encode_utf8_all (125 ∷ [])) (e2 ∙ ap (λ (w : List ℕ). w ++ rest) none))
+    ∙ sym (append_assoc o1 rest (encode_utf8_all (125 ∷ []))) in
+    record_written o0 o1 (o1 ++ rest) o2 (44 ∷ 123 ∷ []) first members e1 refl written
 
 -- ---- rows
 

@@ -9,8 +9,7 @@ use Rattle.ut_model.specs.declared.record.Record.{Record}
 use mathlib.Core.Former.{Count}
 use Rattle.ut_plan.specs.declared.plan.Member.{Member, Parent, Parent', Row_of-Member, end_of-Member, more_of-Member, items-the_row-Member, items_hidden-the_row-Member-0}
 use Rattle.ut_plan.specs.Shown.{Shows, member_text, member_texts, type_and_address}
-use Rattle.ut_replies.specs.Names.{name_attributes}
-use Rattle.ut_replies.specs.Rows.{behind_commas}
+use Rattle.ut_replies.specs.Rows.{attributes_member, behind_commas}
 use Rattle.ut_replies.proofs.Written.{after}
 use Rattle.ut_rows.specs.inner.Members.{parent_text, record_at}
 use Rattle.ut_rows.proofs.Pieces.{record_written}
@@ -50,12 +49,12 @@ module _ (shows : Shows) (far : List (Option Record)) (r : Record) where
   -- there is this one
   pub parent_written : (w0 w1 w2 w3 w4 : List ℕ) {name name0 object object0 : List ℕ} (branch : ℕ) {members members0 : List Member} {m : Member} (p : Record)
       → name0 ≡ name → object0 ≡ object → members0 ≡ members → m ≡ Parent name branch object members → record_at far branch ≡ Some p
-      → w1 ≡ w0 ++ encode_utf8_all (44 ∷ (printed_text name0 ++ codes ":")) → w2 ≡ w1 ++ encode_utf8_all (123 ∷ name_attributes object0 p.id)
+      → w1 ≡ w0 ++ encode_utf8_all (44 ∷ (printed_text name0 ++ codes ":")) → w2 ≡ w1 ++ encode_utf8_all (123 ∷ attributes_member object0 p.id)
       → w3 ≡ w2 ++ encode_utf8_all (behind_commas (map (member_text shows far r) members0)) → w4 ≡ w3 ++ encode_utf8_all (125 ∷ [])
       → w4 ≡ w0 ++ encode_utf8_all (44 ∷ member_text shows far r m)
   parent_written w0 w1 w2 w3 w4 {name} {name0} {object} {object0} branch {members} {members0} {m} p named typed listed is found e1 e2 e3 e4 =
       let text = member_text shows far r in
-      let whole = record_written w1 w2 w3 w4 (123 ∷ []) (name_attributes object0 p.id) (map text members0) e2 e3 e4 in
+      let whole = record_written w1 w2 w3 w4 (123 ∷ []) (attributes_member object0 p.id) (map text members0) e2 e3 e4 in
       after w0 w1 w4 (44 ∷ (printed_text name0 ++ codes ":")) (parent_text shows far r object0 members0 p) e1 whole
       ∙ ap (λ (n : List ℕ). w0 ++ encode_utf8_all (44 ∷ member_json n (parent_text shows far r object0 members0 p))) named
       ∙ ap (λ (o : List ℕ). w0 ++ encode_utf8_all (44 ∷ member_json name (parent_text shows far r o members0 p))) typed

@@ -1,7 +1,7 @@
 //! Rows.
 
 ghost use Rattle.std.specs.Prelude.{◌≡◌, ◌∷◌, Some, map};
-ghost use Rattle.std.specs.Str.{chars, encode_utf8_all};
+ghost use Rattle.std.specs.Str.{encode_utf8_all};
 ghost use Rattle.ut_plan.specs.Shown.{row_text, shown_text};
 ghost use Rattle.ut_model.specs.declared.record.Record.{Record};
 ghost use Rattle.ut_replies.specs.Rows.{behind_commas};
@@ -15,7 +15,7 @@ use ut_json::Writer;
 use ut_model::Record;
 use ut_parts::CodecFail;
 use ut_plan::{Child, HasValues, Shown};
-use ut_replies::{write_member_start, write_row_end, write_row_start};
+use ut_replies::{RowFront, write_member_start, write_row_end};
 use ut_value::{Id, Items};
 
 // One of what a row shows, behind a comma.
@@ -64,27 +64,29 @@ fn write_parts<V: HasValues>(
     Ok(())
 }
 
-/// Writes a row, behind a comma: its type and its address, and what the plan shows of it.
+/// Appends a row, behind a comma: its type and its address, from the front of its object's rows, and what the plan shows of it.
 ///
 /// # Errors
 ///
 /// `Memory` if out of memory, `Damaged` never if the row has a record.
 pub fn write_row<V: HasValues>(
     alloc: Global,
-    writer: &mut Writer,
-    object: &str,
+    front: &RowFront,
     shown: &[Shown],
     id: &Id,
     item: &V,
     parents: &[Option<Record>],
     children: &[Items<Child>],
+    out: &mut Vec<u8>,
 ) -> Result<(), CodecFail>
     ensures { (r : Record) → V.its_record item.now ≡ Some r → id.now ≡ r.id
-        → Puts (encode_utf8_all (44 ∷ row_text shows (chars object.now) shown.now parents.now children.now r))
-        writer.old writer.new result }
+        → Puts (encode_utf8_all (44 ∷ row_text shows front.now shown.now parents.now children.now r))
+        out.old.items out.new.items result }
 {
-    write_row_start(alloc, writer, object, id)?;
-    write_parts(alloc, writer, shown, item, parents, children)?;
-    write_row_end(alloc, writer)?;
+    front.put(id, out)?;
+    let mut writer = Writer::new(alloc);
+    write_parts(alloc, &mut writer, shown, item, parents, children)?;
+    write_row_end(alloc, &mut writer)?;
+    out.extend_from_slice(writer.finish().as_slice())?;
     Ok(())
 }

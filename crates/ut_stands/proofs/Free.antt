@@ -1,4 +1,4 @@
--- Free slots: below 48 there is one, and nothing is in it.
+-- Free slots: there is one, and nothing is in it.
 use Rattle.std.proofs.Common.{◌≡◌, ℕ, zero, suc, ◌+◌, ◌<◌, ◌≤◌, Bool, true, false, not, ◌&&◌, ◌||◌, cond, eqb, IsTrue, List, [], ◌∷◌, map, length, Option, Some, None, refl, sym, ap, ◌∙◌, subst, arith}
 use Rattle.std.specs.Prelude.{filter, if◌then◌else◌, is_none, slice_get}
 use Rattle.std.specs.List.{enumerate_from, find, list_any}

@@ -13,14 +13,11 @@ use Rattle.ut_value.specs.declared.job.Phase.TheVariants as phase
 use Rattle.ut_value.specs.declared.value.FieldType.{FieldType}
 use Rattle.ut_value.specs.declared.value.FieldType.TheVariants as type
 use Rattle.ut_value.specs.declared.value.Value.{Value}
+pub use Rattle.ut_parts.specs.Composed.{slot_count}
 use Rattle.ut_model.specs.Objects.{object_numbered}
 use Rattle.ut_model.specs.Retyping.{job_is_done}
 use Rattle.ut_model.specs.SoundJob.{is_switched, job_field}
 use Rattle.ut_model.specs.Tenant.{Field, Job, Tenant}
-
--- how many slots a record has
-abbrev pub slot_count : ℕ
-slot_count = 48
 
 -- what is left open in one organisation
 pub record OrgPlan : Type 0 where

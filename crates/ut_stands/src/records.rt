@@ -91,7 +91,7 @@ pub fn metadata_laws()
 
 /// The laws of slots. The call does nothing.
 pub fn slot_laws()
-    // Below 48 a slot is free, and nothing is in it.
+    // One of the slots is free, and nothing is in it.
     ensures free { (p : OrgPlan) (job : Option Job) (n : ℕ) (o : Object)
         → length o.fields ≤ limit_number limit.FieldsPerObject → (s : ℕ) × (s < slot_count) × IsTrue (is_free p job n o s) }
     ensures nothing { (p : OrgPlan) (job : Option Job) (n : ℕ) (o : Object) (r : Record) (s : ℕ)

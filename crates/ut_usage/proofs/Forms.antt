@@ -6,7 +6,7 @@ use Rattle.std.proofs.Math.Seq.{take-length, take-suc}
 use Rattle.std.specs.Prelude.{if◌then◌else◌, None, codes}
 use Rattle.std.specs.Str.{bytes_eq}
 use Rattle.std.proofs.lemmas.Slice.Eq.{bytes_eq-Decides}
-use Rattle.platform.specs.Commands.{answer_of, command_of, csvq_of, demo_of, export_of, load_of, org_add_of, serve_of}
+use Rattle.ut_commands.specs.Commands.{answer_of, command_of, csvq_of, demo_of, export_of, load_of, org_add_of, serve_of}
 use Rattle.ut_usage.specs.Lines.{IsCommandLine, IsPort}
 use Rattle.ut_usage.specs.inner.Forms.{IsUnknown}
 

@@ -2,7 +2,7 @@
 use Rattle.std.specs.Prelude.{◌≡◌, ◌≢◌, ◌⊎◌, ◌<◌, ◌^◌, ℕ, List, ◌∷◌, None, length, slice_index}
 use Rattle.std.specs.Str.{byte}
 use Rattle.std.specs.Str.Parse.{IsNumeral, digits_value}
-use Rattle.platform.specs.Commands.{command_of}
+use Rattle.ut_commands.specs.Commands.{command_of}
 
 -- digits that write a number below 65536, without a leading zero
 pub record IsPort (word : List ℕ) : Type 0 where

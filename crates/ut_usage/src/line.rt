@@ -3,13 +3,13 @@
 ghost use Rattle.std.specs.Prelude.{◌≡◌, ◌≢◌, ◌↔◌, IfOk, IfSome, IsErr, IsNone, IsSome, None, Some, drop, map, slice_get, string_bytes};
 ghost use Rattle.std.specs.Option.{option_map};
 ghost use Rattle.std.specs.Str.Parse.{digits_value};
-ghost use Rattle.platform.specs.Commands.{command_of};
+ghost use Rattle.ut_commands.specs.Commands.{command_of};
 ghost use Rattle.ut_usage.specs.Lines.{IsCommandLine, IsPort};
 ghost use Rattle.ut_usage.specs.inner.Forms.{IsCountOrNone, IsRecordCount};
 
 use crate::form::{Operands, form_of};
 use crate::mistake::Mistake;
-use platform::{is_count, is_record_count};
+use ut_commands::{is_count, is_record_count};
 
 // The number from 0 to 65535 that a word writes in digits, without a leading zero. `parse` takes a plus too.
 fn port_of(word: &str) -> Option<u16>

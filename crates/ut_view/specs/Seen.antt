@@ -3,7 +3,7 @@ use Rattle.std.specs.Prelude.{ℕ, ℤ, IsTrue, List, [], Option, Some, None, is
 use Rattle.std.specs.Borrow.{Bor}
 use Rattle.std.specs.Option.{option_map}
 use Rattle.std.specs.Str.{chars}
-use Rattle.ut_parts.specs.Composed.{in_turn_at}
+use Rattle.ut_parts.specs.Composed.{in_turn_at, slot_count}
 use Rattle.ut_parts.specs.Plain.{optional_at, text_at, whole}
 use Rattle.ut_parts.specs.Shapes.{Shape, Both, Characters, Identity, Maybe, Signed64, Times}
 
@@ -13,7 +13,7 @@ optional_text x = (option_map (λ t. chars t.now) x.0, x.1.now)
 
 -- the slots that bytes spell, all of them
 abbrev pub slots_in : List ℕ → Option (List (Option (List ℕ)))
-slots_in bytes = whole (in_turn_at (optional_at text_at) 48) bytes
+slots_in bytes = whole (in_turn_at (optional_at text_at) slot_count) bytes
 
 -- bytes that spell slots
 abbrev pub is_whole : List ℕ → Type 0
@@ -26,7 +26,7 @@ or_none (Some texts) = texts
 
 -- the parts of a row from the moments on, from the owner on, and all of them
 abbrev pub Dated : Shape
-Dated = Both Signed64 (Both Signed64 (Times 48 (Maybe Characters)))
+Dated = Both Signed64 (Both Signed64 (Times slot_count (Maybe Characters)))
 
 abbrev pub Owned : Shape
 Owned = Both (Maybe Identity) Dated

@@ -17,6 +17,9 @@ use crate::slots::{are_slots, slot_of};
 use std::marker::Model;
 use ut_value::Id;
 
+// How many slots a row has.
+const SLOT_COUNT: u8 = 48;
+
 // The parts that a key spells, all of it.
 fn key_of(key: &[u8]) -> Option<(u32, (u16, Id))>
     ensures { result ≡ whole (taken record_key) key.now }
@@ -47,7 +50,7 @@ fn dated_of(bytes: &[u8]) -> Option<(i64, (i64, &[u8]))>
     match signed_front(bytes) {
         Some((created, rest)) => match signed_front(rest) {
             Some((modified, slots)) => {
-                if are_slots(slots, 48) {
+                if are_slots(slots, SLOT_COUNT) {
                     Some((created, (modified, slots)))
                 } else {
                     None
@@ -198,6 +201,6 @@ impl<'a> RowView<'a> {
     pub fn slot(&self, slot: usize) -> Option<&'a str>
         ensures { option_map (λ s. chars s.now) result ≡ slot_in self.now.slots slot }
     {
-        slot_of(self.slots, 48, slot)
+        slot_of(self.slots, SLOT_COUNT, slot)
     }
 }

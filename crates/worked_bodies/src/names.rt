@@ -1,51 +1,45 @@
-//! Bodies of rows with ids and names, and of what was made or found.
+//! Bodies of rows with ids and names, and of what was made.
 
 use crate::line::first_of;
 use crate::refusals::text_of;
 use std::alloc::{AllocError, Global};
-use ut_model::Record;
-use ut_replies::{made_body, names_body, upserted_body};
-use ut_value::{Id, Items, Text, Value};
+use ut_json::Writer;
+use ut_replies::{RowFront, made_body, rows_body, upserted_body, write_row_end, write_shown};
+use ut_value::{Id, Text, Value};
 
-// A record of this number, which has a name alone.
-fn record(alloc: Global, number: u32, name: Value) -> Result<Record, AllocError> {
-    let mut values = Items::new(alloc);
-    values.push(name)?;
-    Ok(Record {
-        id: Id::new(*b"a00", u64::from(number)),
-        owner: None,
-        created: 0,
-        modified: 0,
-        values,
-    })
+// A row with an id of this number: a number alone has no name, otherwise `/` and the name is behind it.
+fn push_row(
+    alloc: Global,
+    front: &RowFront,
+    argument: &str,
+    rows: &mut Vec<u8>,
+) -> Result<(), AllocError> {
+    let (number, name) = match argument.split_once('/') {
+        Some((number, name)) => (number, Value::Text(Text::from_str(alloc, name)?)),
+        None => (argument, Value::Null),
+    };
+    let id = Id::new(*b"a00", u64::from(number.parse::<u32>().unwrap_or(0)));
+    let mut members = Writer::new(alloc);
+    write_shown(alloc, &mut members, "Id", &Value::Ref(id))?;
+    write_shown(alloc, &mut members, "Name", &name)?;
+    write_row_end(alloc, &mut members)?;
+    front.put(&id, rows)?;
+    rows.extend_from_slice(members.finish().as_slice())
 }
 
-// A number alone has no name; otherwise `/` and the name is behind it.
-fn record_in(alloc: Global, argument: &str) -> Result<Record, AllocError> {
-    match argument.split_once('/') {
-        Some((number, name)) => {
-            let name = Value::Text(Text::from_str(alloc, name)?);
-            record(alloc, number.parse::<u32>().unwrap_or(0), name)
-        }
-        None => record(alloc, argument.parse::<u32>().unwrap_or(0), Value::Null),
-    }
-}
-
-fn records_in(alloc: Global, arguments: &str) -> Result<Items<Record>, AllocError> {
-    let mut records = Items::new(alloc);
-    if !arguments.is_empty() {
-        for argument in arguments.split('|') {
-            records.push(record_in(alloc, argument)?)?;
-        }
-    }
-    Ok(records)
-}
-
-/// The body of an object's rows: the object, and the records.
+/// The body of a query's reply: the object, and a row for each argument behind it.
 pub(crate) fn body(alloc: Global, arguments: &str) -> Result<String, AllocError> {
     let (object, rest) = first_of(arguments);
-    let records = records_in(alloc, rest)?;
-    text_of(alloc, &names_body(alloc, object, records.as_slice())?)
+    let front = RowFront::new(alloc, object)?;
+    let mut rows = Vec::new(alloc);
+    let mut count: usize = 0;
+    if !rest.is_empty() {
+        for argument in rest.split('|') {
+            push_row(alloc, &front, argument, &mut rows)?;
+            count = count.saturating_add(1);
+        }
+    }
+    text_of(alloc, &rows_body(alloc, count, rows.as_slice())?)
 }
 
 /// The body of the reply to what made a record with this id, in 15 or 18 characters.

@@ -45,7 +45,6 @@ fn call_on(alloc: Global, call: &str, text: &str) -> Result<String, AllocError> 
     match call {
         "tokens" => words::kinds(alloc, text),
         "pieces" => words::pieces(alloc, text),
-        "asks" => queries::asks(alloc, text),
         "query" => queries::read(alloc, text),
         "print" => queries::printed(alloc, text),
         "like" => conditions::is_like(alloc, text),

@@ -1,9 +1,7 @@
 //! Query texts.
 
-use crate::line::truth;
 use crate::places::with_place;
 use std::alloc::{AllocError, Global};
-use ut_query::asks_for_rows;
 use ut_soql::parse;
 use ut_soql_print::print;
 
@@ -18,9 +16,4 @@ pub(crate) fn printed(alloc: Global, text: &str) -> Result<String, AllocError> {
         Ok(query) => Ok(print(alloc, &query)?.into_string()),
         Err(_) => String::from_str(alloc, "no query"),
     }
-}
-
-/// Whether the text asks for all rows.
-pub(crate) fn asks(alloc: Global, text: &str) -> Result<String, AllocError> {
-    truth(alloc, asks_for_rows(alloc, text)?)
 }

@@ -1,4 +1,8 @@
+use Rattle.carmuguur.proofs.Unopened.{status_is, status_memory}
 use Rattle.carmuguur.proofs.run_in_memory.Goals as goal
 
-pub returns : goal.returns
-returns c = c.run_laws.ensures.none _ _ c.run-status.ensures.status
+pub returns-in-Ok : goal.returns-in-Ok
+returns-in-Ok g c = status_is _ _ (c.run_laws.ensures.none _ _ c.run.ensures.status)
+
+pub returns-in-Err : goal.returns-in-Err
+returns-in-Err g c = status_memory _

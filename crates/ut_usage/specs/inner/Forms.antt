@@ -1,7 +1,7 @@
 -- How the table of forms agrees with the commands of `run`.
 use Rattle.std.specs.Prelude.{◌≡◌, ◌≢◌, ◌↔◌, ℕ, IsTrue, List, [], ◌∷◌, None, length}
 use Rattle.std.specs.Option.{is_some}
-use Rattle.platform.specs.Commands.{command_of, count_in, records_in}
+use Rattle.ut_commands.specs.Commands.{command_of, count_in, records_in}
 use Rattle.ut_usage.specs.declared.form.Operands.{Operands}
 use Rattle.ut_usage.specs.declared.form.Operands.TheVariants.{Words, Count, Records}
 

@@ -7,7 +7,7 @@ use Rattle.ut_stands.specs.Fails.{sees_version}
 use Rattle.ut_stands.specs.Stands.{Stands}
 use Rattle.platform.specs.Seen.{Seen}
 use Rattle.platform.specs.Serving.{IsOpening, RunsAnswer}
-use Rattle.platform.specs.declared.stop.Stop.{Stop}
+use Rattle.ut_commands.specs.declared.stop.Stop.{Stop}
 use Rattle.ut_stands.specs.Opening.{OpensAs}
 use Rattle.platform.proofs.Answering.{answered, failed_opening, opened_only}
 use Rattle.platform.proofs.Falling.{fell_opening}

@@ -6,7 +6,7 @@ use Rattle.ut_stands.specs.Opening.{OpensAs}
 use Rattle.ut_stands.specs.Stands.{Stands}
 use Rattle.platform.specs.Seen.{Seen}
 use Rattle.platform.specs.Serving.{IsOpening}
-use Rattle.platform.specs.declared.stop.Stop.{Stop}
+use Rattle.ut_commands.specs.declared.stop.Stop.{Stop}
 use Rattle.platform.proofs.Answering.{failed_opening, opened_only, served}
 use Rattle.platform.proofs.Falling.{fell_opening}
 use Rattle.platform.proofs.serving.serve_door.Goals as goal

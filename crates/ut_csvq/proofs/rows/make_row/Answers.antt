@@ -1,4 +1,4 @@
-use Rattle.std.proofs.Common.{◌≡◌, ◌∙◌, List, IsTrue, subst, sym, ℕ}
+use Rattle.std.proofs.Common.{◌≡◌, ◌∙◌, List, IsTrue, subst, sym}
 use Rattle.std.specs.List.{list_all}
 use Rattle.csv.specs.Records.{fields_of}
 use Rattle.ut_keeper.specs.Draft.{tables_of}
@@ -6,22 +6,22 @@ use Rattle.ut_keeper.specs.Memory.{memory_state}
 use Rattle.ut_given.specs.Given.{IsInJson}
 use Rattle.ut_model.specs.Creates.{create}
 use Rattle.ut_model.specs.declared.record_bodies.Assignment.{Assignment}
-use Rattle.ut_own.specs.Making.{StepsOwn}
+use Rattle.ut_own.specs.Making.{StepsLaidOut}
 use Rattle.ut_sound.specs.Fit.{is_spelled}
 use Rattle.ut_csvq.specs.Organisation.{given_of, object_name}
 use Rattle.ut_csvq.proofs.Cells.{all_json}
 use Rattle.ut_csvq.proofs.rows.make_row.Goals as goal
 
-pub make_record-requires-clause-spelled : goal.make_record-requires-clause-spelled
-make_record-requires-clause-spelled c = subst (λ (g : List Assignment). IsTrue (list_all (λ x. is_spelled x.given) g)) (sym c.as_slice.ensures.value) c.in_ok-given.ensures.spelled
+pub make_record_of-requires-clause-spelled : goal.make_record_of-requires-clause-spelled
+make_record_of-requires-clause-spelled c = subst (λ (g : List Assignment). IsTrue (list_all (λ x. is_spelled x.given) g)) (sym c.as_slice.ensures.value) c.in_ok-given.ensures.spelled
 
-pub make_record-requires-clause-json : goal.make_record-requires-clause-json
-make_record-requires-clause-json c =
+pub make_record_of-requires-clause-json : goal.make_record_of-requires-clause-json
+make_record_of-requires-clause-json c =
     subst IsInJson (sym (c.as_slice.ensures.value ∙ c.in_ok-given.ensures.same)) (all_json (fields_of c.args.heading.now) (fields_of c.args.row.now))
 
 pub returns : goal.returns
-returns c a made =
-    let after = tables_of memory_state c.make_record.new.draft in
+returns c a laid =
+    let after = tables_of memory_state c.make_record_of.new.draft in
     let is : c.as_slice.result.now ≡ given_of (fields_of c.args.heading.now) (fields_of c.args.row.now) = c.as_slice.ensures.value ∙ c.in_ok-given.ensures.same in
-    subst (λ (g : List Assignment). StepsOwn c.args.now after a (create a object_name g) c.make_record.result) is
-    (subst (λ (name : List ℕ). StepsOwn c.args.now after a (create a name c.as_slice.result.now) c.make_record.result) c.requires.object (c.make_record.ensures a made))
+    subst (λ (g : List Assignment). StepsLaidOut c.args.now after object_name c.args.layout.now a (create a object_name g) c.make_record_of.result) is
+    (c.make_record_of.ensures object_name a laid)

@@ -1,6 +1,6 @@
 use Rattle.std.proofs.Common.{[], ◌∷◌, map, string_bytes, refl, sym}
 use Rattle.ut_keeper.specs.Memory.{InMemory, memory_state}
-use Rattle.platform.specs.Commands.{command_of}
+use Rattle.ut_commands.specs.Commands.{command_of}
 use Rattle.ut_history.specs.Calls.{Call, IsMade}
 use Rattle.ut_history.specs.Runs.{Around, Run}
 use Rattle.ut_history.proofs.twice.run_twice.Goals as goal

@@ -1,12 +1,10 @@
-use Rattle.std.proofs.Common.{◌++◌, ◌∙◌, List, ℕ, ap}
-use Rattle.std.specs.Prelude.{codes}
+use Rattle.std.proofs.Common.{◌++◌, ◌∙◌, ap, ap₂}
 use Rattle.std.specs.Str.{chars}
-use Rattle.ut_replies.proofs.Written.{addressed}
+use Rattle.std.specs.String.{string_bytes}
+use Rattle.std.proofs.lemmas.Str.{IsUtf8-string_bytes, chars-append}
 use Rattle.ut_replies.proofs.parts.address.Goals as goal
 
 pub returns : goal.returns
 returns c =
-    let two = c.in_ok-push_str.ensures.bytes ∙ ap (λ (t : List ℕ). t ++ c.args.object.now) c.in_ok-text.ensures.ok in
-    let three = c.in_ok-push_str-2.ensures.bytes ∙ ap (λ (t : List ℕ). t ++ codes "/") two in
-    let four = c.in_ok-push_str-3.ensures.bytes ∙ ap (λ (t : List ℕ). t ++ c.as_str.result.now) three in
-    c.from_string.ensures ∙ ap chars four ∙ addressed c.args.object.now c.as_str.result.now c.args.id.now c.utf8.object (c.as_str.ensures.characters ∙ c.in_ok-id.ensures)
+    c.from_string.ensures ∙ ap chars c.in_ok-push_str.ensures.bytes ∙ chars-append (string_bytes c.in_ok-text.text) c.as_str.result.now (IsUtf8-string_bytes c.in_ok-text.text)
+    ∙ ap₂ ◌++◌ c.in_ok-text.ensures (c.as_str.ensures.characters ∙ c.in_ok-id.ensures)

@@ -2,8 +2,7 @@ use Rattle.std.proofs.Common.{[], ◌∷◌, ◌++◌, ◌∙◌, List, Option, 
 use Rattle.std.specs.Str.{chars, encode_utf8_all}
 use Rattle.ut_plan.specs.Shown.{child_text, member_text}
 use Rattle.ut_model.specs.declared.record.Record.{Record}
-use Rattle.ut_replies.specs.Names.{name_attributes}
-use Rattle.ut_replies.specs.Rows.{behind_commas}
+use Rattle.ut_replies.specs.Rows.{attributes_member, behind_commas}
 use Rattle.ut_rows.specs.Shows.{shows}
 use Rattle.ut_rows.proofs.Pieces.{puts_failed, record_written}
 use Rattle.ut_rows.proofs.children.write_child.Goals as goal
@@ -21,6 +20,6 @@ returns c =
     let child = c.args.child.now in
     let texts = λ (parents : List (Option Record)). map (member_text shows parents child.record) c.args.members.now in
     record_written c.args.writer.now c.write_record_start.new.writer c.write_members.new.writer c.write_row_end.new.writer (123 ∷ [])
-    (name_attributes (chars c.args.object.now) child.record.id) (texts child.parents) c.in_ok-write_record_start.ensures
+    (attributes_member (chars c.args.object.now) child.record.id) (texts child.parents) c.in_ok-write_record_start.ensures
     (c.in_ok-write_members.ensures child.record refl ∙ ap (λ (parents : List (Option Record)). c.write_record_start.new.writer ++ encode_utf8_all (behind_commas (texts parents))) c.as_slice.ensures)
     c.in_ok-write_row_end.ensures

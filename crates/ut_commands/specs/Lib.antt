@@ -1,0 +1,12 @@
+pub mod Printed
+pub mod Csvq
+pub mod OrgAdd
+pub mod Demo
+pub mod Deeds
+pub mod Export
+pub mod Load
+pub mod Commands
+pub mod Words
+pub mod Stops
+pub mod Loading
+pub mod Statuses

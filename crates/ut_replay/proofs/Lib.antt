@@ -1,3 +1,0 @@
-mod Lists
-mod Unread
-mod Utf8

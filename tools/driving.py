@@ -1,6 +1,8 @@
 """What the scripts of this folder share that drive the built programs: messages and replies, scripts of replay, a server.
 
-It is no script itself. `carmuguur build` builds the one program, and `rt run < /dev/null` in crates/replay the other.
+It is no script itself.
+
+`carmuguur build` builds the one program, and `rt run < /dev/null` in crates/replay the other.
 """
 import argparse
 import atexit

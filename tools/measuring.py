@@ -57,6 +57,17 @@ def spent_here():
     return Cost(time.perf_counter(), time.process_time())
 
 
+def measured(words, given, output):
+    """What a command costs with this file as its input: seconds by the clock and of the processor, and MiB, at least those of this script."""
+    start = time.perf_counter()
+    with given.open() as source, output.open("w") as sink:
+        process = subprocess.Popen(words, stdin=source, stdout=sink)
+        _, status, used = os.wait4(process.pid, 0)
+    if status != 0:
+        sys.exit(f"{words} ended with {status}")
+    return time.perf_counter() - start, used.ru_utime + used.ru_stime, used.ru_maxrss / 1024
+
+
 def lowest(costs):
     return Cost(*map(min, zip(*costs)))
 

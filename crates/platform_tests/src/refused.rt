@@ -80,7 +80,8 @@ carmuguur - 65535 org-add Acme short|^\
 {\"words\":[\"a\"],\"moments\":[253402300799,1.0]}|^\
 {\"failing\":{}}|^\
 {\"note\":\"a\"};{\"failing\":{\"keeper\":[1]}}|^\
-{\"failing\":{\"keeper\":[1]}};{\"failing\":{\"keeper\":[1]}}|the calls of the keeper that fail must come first^\
+{\"failing\":{\"keeper\":[1]}};{\"failing\":{\"keeper\":[1]}}|^\
+{\"words\":[],\"room\":1048577}|member \"room\" must be a whole number from 0 to 1048576^\
 {\"failing\":{\"keeper\":[1]}};{\"rows\":[{\"table\":0,\"key\":\"\",\"row\":\"00\"}]}|the keeper failed";
 
 // Whether what a row says is said.

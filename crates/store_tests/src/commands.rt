@@ -1,11 +1,9 @@
-use crate::stops::{NEVER, connect, stopping};
+//! Commands over a keeper, whatever its store.
+
 use platform::run;
-use sqlite::{Alter, Connection};
 use std::alloc::{AllocError, Global};
-use std::test::Fail;
 use ut_io::{MemoryClock, MemoryDoor, MemorySink, MemorySource};
-use ut_keeper::{Keeper, MemoryKeeper};
-use ut_sqlkeeper::SqlKeeper;
+use ut_keeper::Keeper;
 
 // The words of a line, with `|` between them.
 fn words_of(alloc: Global, line: &str) -> Result<Vec<String>, AllocError> {
@@ -25,8 +23,8 @@ fn shown(status: u8) -> &'static [u8] {
     }
 }
 
-/// How a run over a keeper ended, and what it wrote. `|` is between words.
-pub(crate) fn ran<K: Keeper>(
+// How a run over a keeper ended, and what it wrote. `|` is between words.
+fn ran<K: Keeper>(
     alloc: Global,
     keeper: &mut K,
     words: &str,
@@ -51,68 +49,78 @@ pub(crate) fn ran<K: Keeper>(
     Ok(text)
 }
 
-// Commands, each over the tables that the one before it left.
-const COMMANDS: [(&str, &[u8]); 4] = [
-    ("org-add|Acme|abcdefghijklmnop", b""),
+/// Adds two organisations, and gives how many were acknowledged.
+pub(crate) fn add_two<K: Keeper>(alloc: Global, keeper: &mut K) -> Result<usize, AllocError> {
+    let mut done = 0usize;
+    for words in [
+        "org-add|Acme|abcdefghijklmnop",
+        "org-add|Bolt|abcdefghijklmnop",
+    ] {
+        let text = ran(alloc, keeper, words, b"")?;
+        if text.as_slice().starts_with(b"done: ") {
+            done = done.saturating_add(1);
+        }
+    }
+    Ok(done)
+}
+
+// What the next organisation gives, of those that are there.
+const NEXT: [&[u8]; 3] = [
+    b"done: 00D000000000001EAA 005000000000000AAA\n",
+    b"done: 00D000000000002EAA 005000000000000AAA\n",
+    b"done: 00D000000000003EAA 005000000000000AAA\n",
+];
+
+/// How many organisations there are, by what the next one gives.
+pub(crate) fn count_organisations<K: Keeper>(
+    alloc: Global,
+    keeper: &mut K,
+) -> Result<Option<usize>, AllocError> {
+    let text = ran(alloc, keeper, "org-add|Cora|abcdefghijklmnop", b"")?;
+    for count in 0..NEXT.len() {
+        if NEXT[count] == text.as_slice() {
+            return Ok(Some(count));
+        }
+    }
+    Ok(None)
+}
+
+/// Commands with their input, each over the tables that the one before it left, and how they end. The script of `replay` has the same over
+/// a keeper in memory.
+pub(crate) const COMMANDS: [(&str, &[u8], &[u8]); 4] = [
+    (
+        "org-add|Acme|abcdefghijklmnop",
+        b"",
+        b"done: 00D000000000001EAA 005000000000000AAA\n",
+    ),
     (
         "answer",
         b"GET /services/data/v59.0/query?q=SELECT+Id,Name+FROM+Deal__c HTTP/1.1\r\nAuthorization: Bearer 00D000000000001EAA!005000000000000AAA!abcdefghijklmnop\r\n\r\n",
+        b"done: HTTP/1.1 400 Bad Request\r\nContent-Type: application/json;charset=UTF-8\r\nContent-Length: 65\r\n\r\n[{\"message\":\"no object Deal__c here\",\"errorCode\":\"INVALID_TYPE\"}]",
     ),
-    ("org-add|Bolt|short", b""),
-    ("org-add|Bolt|abcdefghijklmnop", b""),
+    (
+        "org-add|Bolt|short",
+        b"",
+        b"refused: refused: SECRET_REFUSED: 16 to 64 letters or digits\n",
+    ),
+    (
+        "org-add|Bolt|abcdefghijklmnop",
+        b"",
+        b"done: 00D000000000002EAA 005000000000000AAA\n",
+    ),
 ];
 
-const ENDED: &[u8] =
-    b"done: 00D000000000001EAA 005000000000000AAA\ndone: HTTP/1.1 400 Bad Request\r\nContent-Type: application/json;charset=UTF-8\r\nContent-Length: 65\r\n\r\n[{\"message\":\"no object Deal__c here\",\"errorCode\":\"INVALID_TYPE\"}]refused: refused: SECRET_REFUSED: 16 to 64 letters or digits\ndone: 00D000000000002EAA 005000000000000AAA\n";
-
-// How the commands end over one keeper.
-fn ended_over<K: Keeper>(alloc: Global, keeper: &mut K) -> Result<Vec<u8>, AllocError> {
-    let mut text = Vec::new(alloc);
-    for (words, input) in COMMANDS {
-        text.extend_from_slice(ran(alloc, keeper, words, input)?.as_slice())?;
-    }
-    Ok(text)
-}
-
-// How a command ends over a keeper that is made of this connection, and the connection.
-fn ran_in<S: Alter + Drop>(
+/// Whether the command of this number ends as it must.
+pub(crate) fn ends_so<K: Keeper>(
     alloc: Global,
-    conn: Connection<S>,
-    words: &str,
-    input: &[u8],
-) -> (Result<Vec<u8>, AllocError>, Option<Connection<S>>) {
-    let mut keeper = SqlKeeper::adopt(conn);
-    let text = ran(alloc, &mut keeper, words, input);
-    (text, keeper.release())
-}
-
-// How the commands end over one store, with a keeper of its own for each.
-fn ended_in<S: Alter + Drop>(alloc: Global, conn: Connection<S>) -> Result<Vec<u8>, AllocError> {
-    let mut text = Vec::new(alloc);
-    let mut left = Some(conn);
-    for (words, input) in COMMANDS {
-        let Some(conn) = left else {
-            return Ok(text);
-        };
-        let (ended, back) = ran_in(alloc, conn, words, input);
-        left = back;
-        text.extend_from_slice(ended?.as_slice())?;
-    }
-    Ok(text)
-}
-
-#[test]
-fn a_store_gives_the_bytes_of_a_keeper_in_memory(rt: HostRuntime) -> Result<(), Fail> {
-    let alloc = rt.alloc();
-    let mut keeper = MemoryKeeper::new(alloc, &[])?;
-    let over = ended_over(alloc, &mut keeper)?;
-    assert_eq!(rt; over.as_slice(), ENDED);
-    match connect(alloc, stopping(alloc, NEVER, NEVER)) {
-        Ok(conn) => {
-            let within = ended_in(alloc, conn)?;
-            assert_eq!(rt; within.as_slice(), ENDED);
+    keeper: &mut K,
+    number: usize,
+) -> Result<bool, AllocError> {
+    match COMMANDS.get(number) {
+        Some((words, input, ended)) => {
+            let text = ran(alloc, keeper, words, input)?;
+            Ok(text.as_slice() == *ended)
         }
-        Err(_) => assert!(rt; false, "the files can't be opened"),
+        None => Ok(false),
     }
-    Ok(())
 }

@@ -11,10 +11,10 @@ mod commands;
 #[cfg(test)]
 mod files;
 #[cfg(test)]
-mod organisations;
-#[cfg(test)]
 mod rows;
 #[cfg(test)]
 mod stops;
+#[cfg(test)]
+mod tasks;
 #[cfg(test)]
 mod visits;

@@ -1,15 +1,17 @@
-use crate::batches::{makes, put, rows_of};
+//! Files in memory that stop at a call, and what is found in them afterwards.
+
+use crate::commands::COMMANDS;
+use crate::tasks::{Outcome, Task, done, unopened};
 use sqlite::{Alter, Connection, FileStore, Files, Options};
 use sqlite_disk::{Crash, Disk, Fuse, Memory};
 use std::alloc::{AllocError, Global};
 use std::test::Fail;
-use ut_keeper::Keeper;
 use ut_sqlkeeper::SqlKeeper;
 
 // A file in memory that fails at each call after so many.
-pub(crate) type Stopping = Fuse<Memory>;
+type Stopping = Fuse<Memory>;
 
-pub(crate) const NEVER: u64 = u64::MAX;
+const NEVER: u64 = u64::MAX;
 
 // Few pages, since a file in memory is copied whole at each sync, and so short a log that it's copied into the database
 // file between the batches.
@@ -20,16 +22,8 @@ const SMALL: Options = Options {
     seed: 7,
 };
 
-// What a run leaves: how many batches were acknowledged, how many refused, and the files.
-#[derive(Drop)]
-struct Outcome<D: Disk> {
-    made: usize,
-    refused: usize,
-    files: Files<D>,
-}
-
 // A connection to the files, or the files again.
-pub(crate) fn connect<D: Disk + Drop>(
+fn connect<D: Disk + Drop>(
     alloc: Global,
     files: Files<D>,
 ) -> Result<Connection<FileStore<D>>, Files<D>> {
@@ -42,91 +36,37 @@ pub(crate) fn connect<D: Disk + Drop>(
     }
 }
 
-// Opens the keeper and applies three batches of a row each: how many were made, and how many refused.
-fn apply_each<K: Keeper>(alloc: Global, keeper: &mut K) -> Result<(usize, usize), AllocError> {
-    let mut made = 0usize;
-    let mut refused = 0usize;
-    if keeper.open(alloc).is_ok() {
-        for key in [b'a', b'b', b'c'] {
-            let batch = put(alloc, 7, key, b"row")?;
-            if makes(alloc, keeper, &batch) {
-                made = made.saturating_add(1);
-            } else {
-                refused = refused.saturating_add(1);
-            }
-        }
-    }
-    Ok((made, refused))
-}
-
-// What a keeper over the connection makes of three batches, and the connection.
-fn fill<S: Alter + Drop>(
+// What comes of a task over a keeper that is made of the connection, and the connection.
+fn over<S: Alter + Drop>(
     alloc: Global,
     conn: Connection<S>,
-) -> (Result<(usize, usize), AllocError>, Option<Connection<S>>) {
+    task: Task,
+) -> (Result<Outcome, AllocError>, Option<Connection<S>>) {
     let mut keeper = SqlKeeper::adopt(conn);
-    let counts = apply_each(alloc, &mut keeper);
-    (counts, keeper.release())
+    let outcome = done(alloc, &mut keeper, task);
+    (outcome, keeper.release())
 }
 
-// Fills files. No `?` stands where a keeper or a connection is held, since each is a drop of it to prove.
-fn run<D: Disk + Drop>(alloc: Global, files: Files<D>) -> Result<Option<Outcome<D>>, AllocError> {
-    let (counts, files) = match connect(alloc, files) {
+// The same over files that are opened and closed, and the files.
+fn within<D: Disk + Drop>(
+    alloc: Global,
+    files: Files<D>,
+    task: Task,
+) -> (Result<Outcome, AllocError>, Option<Files<D>>) {
+    match connect(alloc, files) {
         Ok(conn) => {
-            let (counts, conn) = fill(alloc, conn);
-            (counts, conn.map(|conn| conn.into_store().close()))
+            let (outcome, conn) = over(alloc, conn, task);
+            (outcome, conn.map(|conn| conn.into_store().close()))
         }
-        Err(files) => (Ok((0, 0)), Some(files)),
-    };
-    let (made, refused) = counts?;
-    Ok(files.map(|files| Outcome {
-        made,
-        refused,
-        files,
-    }))
+        Err(files) => (Ok(unopened()), Some(files)),
+    }
 }
 
 // New files, whose calls fail after so many.
-pub(crate) fn stopping(alloc: Global, log: u64, db: u64) -> Files<Stopping> {
+fn stopping(alloc: Global, log: u64, db: u64) -> Files<Stopping> {
     Files {
         log: Fuse::new(Memory::new(alloc), log),
         db: Fuse::new(Memory::new(alloc), db),
-    }
-}
-
-// How many of the rows a, b and c these are, from the first on. Each row takes six bytes.
-fn counted(rows: &[u8]) -> Option<usize> {
-    let are_first = b"a=row b=row c=row ".as_slice().starts_with(rows);
-    if are_first && rows.len() % 6 == 0 {
-        Some(rows.len() / 6)
-    } else {
-        None
-    }
-}
-
-// How many of the rows a, b and c the keeper has, or `None` if it has others or isn't opened.
-fn count_rows<K: Keeper>(alloc: Global, keeper: &mut K) -> Result<Option<usize>, AllocError> {
-    if keeper.open(alloc).is_err() {
-        return Ok(None);
-    }
-    let rows = rows_of(alloc, keeper, 7, (b"", b"z"), 9)?;
-    Ok(counted(rows.as_slice()))
-}
-
-// The same of a database.
-fn rows_behind<S: Alter + Drop>(
-    alloc: Global,
-    conn: Connection<S>,
-) -> Result<Option<usize>, AllocError> {
-    let mut keeper = SqlKeeper::adopt(conn);
-    count_rows(alloc, &mut keeper)
-}
-
-// How many of the rows a, b and c the files have, or `None` if they have others or can't be opened.
-fn rows_in<D: Disk + Drop>(alloc: Global, files: Files<D>) -> Result<Option<usize>, AllocError> {
-    match connect(alloc, files) {
-        Ok(conn) => rows_behind(alloc, conn),
-        Err(_) => Ok(None),
     }
 }
 
@@ -138,42 +78,63 @@ fn written(alloc: Global, file: &Stopping) -> Stopping {
     Fuse::new(copy, NEVER)
 }
 
-// The rows are those of the batches that were acknowledged, or of one more if one was refused.
-pub(crate) fn is_lawful(rows: Option<usize>, made: usize, refused: usize) -> bool {
-    match rows {
-        Some(rows) => rows == made || refused > 0 && rows == made.saturating_add(1),
-        None => false,
-    }
-}
-
-// Stops the files after so many calls, and opens what a crash leaves that loses all that wasn't synced, and what one
-// leaves that loses nothing. It returns whether the rows of both are lawful.
-fn holds_at(alloc: Global, log: u64, db: u64) -> Result<bool, AllocError> {
-    let Some(
-        Outcome {
-            made,
-            refused,
-            mut files,
-        },
-    ) = run(alloc, stopping(alloc, log, db))?
-    else {
-        return Ok(false);
-    };
+// The files as a crash leaves them that loses nothing, and as one does that loses all that wasn't synced.
+fn left_of(alloc: Global, mut files: Files<Stopping>) -> (Files<Stopping>, Files<Stopping>) {
     let kept = Files {
         log: written(alloc, &files.log),
         db: written(alloc, &files.db),
     };
     files.log.crash();
     files.db.crash();
-    let synced = is_lawful(rows_in(alloc, files)?, made, refused);
-    Ok(synced && is_lawful(rows_in(alloc, kept)?, made, refused))
+    (kept, files)
+}
+
+// What two tasks find in the files, each as one of the crashes leaves them.
+fn found_in(
+    alloc: Global,
+    files: Files<Stopping>,
+    task: Task,
+) -> (Result<Outcome, AllocError>, Result<Outcome, AllocError>) {
+    let (kept, synced) = left_of(alloc, files);
+    let (of_kept, _) = within(alloc, kept, task);
+    let (of_synced, _) = within(alloc, synced, task);
+    (of_kept, of_synced)
+}
+
+// What is found is what was acknowledged, or one more if one was refused.
+fn is_lawful(outcome: Outcome, found: Option<usize>) -> bool {
+    match found {
+        Some(found) => {
+            found == outcome.made || outcome.refused > 0 && found == outcome.made.saturating_add(1)
+        }
+        None => false,
+    }
+}
+
+// Stops the files after so many calls of a task, and tells whether what another finds in them afterwards is lawful.
+fn holds_at(
+    alloc: Global,
+    (log, db): (u64, u64),
+    task: Task,
+    finds: Task,
+) -> Result<bool, AllocError> {
+    let (outcome, files) = within(alloc, stopping(alloc, log, db), task);
+    let Some(files) = files else {
+        return Ok(false);
+    };
+    let (of_kept, of_synced) = found_in(alloc, files, finds);
+    let outcome = outcome?;
+    Ok(is_lawful(outcome, of_kept?.found) && is_lawful(outcome, of_synced?.found))
 }
 
 #[test]
 fn a_stop_of_the_log_loses_no_acknowledged_row(rt: HostRuntime) -> Result<(), Fail> {
     for step in 0..6u64 {
-        let calls = step * 9;
-        assert!(rt; holds_at(rt.alloc(), calls, NEVER)?, "after {calls} calls");
+        let stop = (step * 9, NEVER);
+        assert!(rt;
+            holds_at(rt.alloc(), stop, Task::Fill, Task::CountRows)?,
+            "{stop:?}"
+        );
     }
     Ok(())
 }
@@ -181,8 +142,67 @@ fn a_stop_of_the_log_loses_no_acknowledged_row(rt: HostRuntime) -> Result<(), Fa
 #[test]
 fn a_stop_of_the_database_file_loses_no_acknowledged_row(rt: HostRuntime) -> Result<(), Fail> {
     for step in 0..5u64 {
-        let calls = step * 5;
-        assert!(rt; holds_at(rt.alloc(), NEVER, calls)?, "after {calls} calls");
+        let stop = (NEVER, step * 5);
+        assert!(rt;
+            holds_at(rt.alloc(), stop, Task::Fill, Task::CountRows)?,
+            "{stop:?}"
+        );
+    }
+    Ok(())
+}
+
+// Whether the stop loses no organisation that was acknowledged.
+fn holds_organisations_at(alloc: Global, stop: (u64, u64)) -> Result<bool, AllocError> {
+    holds_at(alloc, stop, Task::AddTwo, Task::CountOrganisations)
+}
+
+// The log is called 43 times until both are acknowledged, and the database file 19 times.
+#[test]
+fn a_stop_of_the_log_loses_no_acknowledged_organisation(rt: HostRuntime) -> Result<(), Fail> {
+    for calls in 0..45u64 {
+        assert!(rt;
+            holds_organisations_at(rt.alloc(), (calls, NEVER))?,
+            "after {calls} calls"
+        );
+    }
+    Ok(())
+}
+
+#[test]
+fn a_stop_of_the_database_file_loses_no_acknowledged_organisation(
+    rt: HostRuntime,
+) -> Result<(), Fail> {
+    for calls in 0..21u64 {
+        assert!(rt;
+            holds_organisations_at(rt.alloc(), (NEVER, calls))?,
+            "after {calls} calls"
+        );
+    }
+    Ok(())
+}
+
+// Runs the command of this number over the files, which are opened for it and closed, and tells whether it ends as it must.
+fn ends_within(
+    alloc: Global,
+    files: Files<Stopping>,
+    number: usize,
+) -> (Result<bool, AllocError>, Option<Files<Stopping>>) {
+    let (outcome, files) = within(alloc, files, Task::Command(number));
+    (outcome.map(|outcome| outcome.found == Some(number)), files)
+}
+
+#[test]
+fn a_store_gives_the_bytes_of_a_keeper_in_memory(rt: HostRuntime) -> Result<(), Fail> {
+    let alloc = rt.alloc();
+    let mut left = Some(stopping(alloc, NEVER, NEVER));
+    for number in 0..COMMANDS.len() {
+        let Some(files) = left else {
+            assert!(rt; false, "the files aren't given back");
+            return Ok(());
+        };
+        let (ends, files) = ends_within(alloc, files, number);
+        left = files;
+        assert!(rt; ends?, "command {number}");
     }
     Ok(())
 }

@@ -4,7 +4,8 @@ use Rattle.std.proofs.lemmas.Bool.{eqb-true}
 use Rattle.std.proofs.lemmas.List.{at_drop_all, at_drop_more}
 use Rattle.std.specs.Prelude.{◌==◌}
 use Rattle.csv.specs.Records.{Row, fields_of}
-use Rattle.ut_keeper.specs.Tables.{Tables}
+use Rattle.ut_keeper.specs.Draft.{Held}
+use Rattle.ut_keeper.specs.Memory.{InMemory}
 use Rattle.std.specs.Str.{chars}
 use Rattle.ut_model.specs.Cases.{in_case}
 use Rattle.ut_model.specs.Creates.{create}
@@ -73,13 +74,13 @@ module _ (heading : List (List ℕ)) (number : ℕ) (a : Asked) (row : List (Lis
 
 -- ---- at the end of a heading and of rows
 
-pub columns_end : (now : ℕ) (m : Tables) (a b : Asked) (cells : List (List ℕ)) (n : ℕ) (named : Bool) → length cells ≤ n
+pub columns_end : (now : ℕ) (m : Held InMemory) (a b : Asked) (cells : List (List ℕ)) (n : ℕ) (named : Bool) → length cells ≤ n
     → with_columns named b (drop n cells) ≡ with_columns false a cells → IsOwned now m b → Goes now m (with_columns false a cells) (Ok None)
 unfolding with_columns
 columns_end now m a b cells n named le e made =
     subst (λ (r : Result Asked (List ℕ)). Goes now m r (Ok None)) (sym (at_drop_all (λ (rest : List (List ℕ)). with_columns named b rest) cells n le) ∙ e) made
 
-pub columns_stop : (now : ℕ) (m : Tables) (a b : Asked) (cells : List (List ℕ)) (n : ℕ) (named : Bool) (cell text : List ℕ)
+pub columns_stop : (now : ℕ) (m : Held InMemory) (a b : Asked) (cells : List (List ℕ)) (n : ℕ) (named : Bool) (cell text : List ℕ)
     → drop n cells ≡ cell ∷ drop (n + 1) cells → ((rest : List (List ℕ)) → with_columns named b (cell ∷ rest) ≡ Err (chars cell))
     → with_columns named b (drop n cells) ≡ with_columns false a cells → text ≡ chars cell → Goes now m (with_columns false a cells) (Ok (Some text))
 columns_stop now m a b cells n named cell text split none e is =
@@ -88,7 +89,7 @@ columns_stop now m a b cells n named cell text split none e is =
 abbrev RowsMade : Type 0
 RowsMade = Result Asked (ℕ × Refusal)
 
-pub rows_end : (now : ℕ) (m : Tables) (heading : List (List ℕ)) (a b : Asked) (rows : List Row) (n : ℕ) → length rows ≤ n
+pub rows_end : (now : ℕ) (m : Held InMemory) (heading : List (List ℕ)) (a b : Asked) (rows : List Row) (n : ℕ) → length rows ≤ n
     → with_rows heading (n + 1) b (map fields_of (drop n rows)) ≡ with_rows heading 1 a (map fields_of rows) → IsOwned now m b
     → Goes now m (with_rows heading 1 a (map fields_of rows)) (Ok None)
 unfolding with_rows
@@ -108,7 +109,7 @@ module _ (now : ℕ) (heading : List (List ℕ)) (a b : Asked) (rows : List Row)
   pub rows_on : refusal_of its_verdict.answer ≡ None → with_rows heading ((n + 1) + 1) (past b its_verdict) (map fields_of (drop (n + 1) rows)) ≡ with_rows heading 1 a (map fields_of rows)
   rows_on none = sym (row_comes heading (n + 1) b (fields_of row) (map fields_of (drop (n + 1) rows)) None none) ∙ sym split ∙ e
 
-  pub rows_stop : (m : Tables) (why : Refusal) (number : ℕ) → number ≡ n + 1 → refusal_of its_verdict.answer ≡ Some why
+  pub rows_stop : (m : Held InMemory) (why : Refusal) (number : ℕ) → number ≡ n + 1 → refusal_of its_verdict.answer ≡ Some why
       → Goes now m (with_rows heading 1 a (map fields_of rows)) (Ok (Some (number, why)))
   rows_stop m why number is refused =
       subst (λ (r : RowsMade). Goes now m r (Ok (Some (number, why))))
@@ -117,13 +118,13 @@ module _ (now : ℕ) (heading : List (List ℕ)) (a b : Asked) (rows : List Row)
 
 -- ---- no rows, and rows of an object that isn't there
 
-pub no_rows : (now : ℕ) (m : Tables) (heading : List (List ℕ)) (a : Asked) (rows : List Row) → (length rows == 0) ≡ true → IsOwned now m a
+pub no_rows : (now : ℕ) (m : Held InMemory) (heading : List (List ℕ)) (a : Asked) (rows : List Row) → (length rows == 0) ≡ true → IsOwned now m a
     → Goes now m (with_rows heading 1 a (map fields_of rows)) (Ok None)
 unfolding with_rows
 no_rows now m heading a [] none made = made
 no_rows now m heading a (row ∷ rows) none made = let e : length (row ∷ rows) ≡ 0 = eqb-true (length (row ∷ rows)) 0 none in absurd cc
 
-pub first_refused : (now : ℕ) (m : Tables) (heading : List (List ℕ)) (a : Asked) (rows : List Row) (why : Refusal) → (length rows == 0) ≡ false
+pub first_refused : (now : ℕ) (m : Held InMemory) (heading : List (List ℕ)) (a : Asked) (rows : List Row) (why : Refusal) → (length rows == 0) ≡ false
     → ((given : List Assignment) → refusal_of (create a object_name given).answer ≡ Some why) → Goes now m (with_rows heading 1 a (map fields_of rows)) (Ok (Some (1, why)))
 first_refused now m heading a [] why some refused = absurd cc
 first_refused now m heading a (row ∷ rows) why some refused =

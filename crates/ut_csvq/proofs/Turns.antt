@@ -1,8 +1,13 @@
 -- What an input comes to, by how far its organisation was made.
 use Rattle.std.proofs.Common.{◌≡◌, ◌∙◌, ◌≤◌, ◌<◌, arith, ℕ, Bool, true, false, cond, List, [], ◌∷◌, length, map, take, Option, Some, None, Result, Ok, Err, nat_le, refl, sym, ap, subst, pos}
 use Rattle.std.proofs.lemmas.Bool.Decides.{nat_tests}
+use Rattle.std.specs.Prelude.{IsErr}
+use Rattle.std.specs.Result.{IsErrAnd}
 use Rattle.csv.specs.Records.{Row, fields_of}
-use Rattle.ut_keeper.specs.Tables.{Tables}
+use Rattle.ut_keeper.specs.Draft.{Held}
+use Rattle.ut_keeper.specs.Memory.{InMemory}
+use Rattle.ut_keys.specs.declared.fail.StoreFail.{StoreFail}
+use Rattle.ut_keys.specs.declared.fail.StoreFail.TheVariants.{Memory}
 use Rattle.ut_query.specs.declared.query.Query.{Query}
 use Rattle.ut_table.specs.Place.{TellsPlace}
 use Rattle.ut_table.specs.Table.{first_refused, table_of}
@@ -23,10 +28,24 @@ use Rattle.ut_csvq.specs.declared.outcome.Outcome.TheVariants.{Refused}
 use Rattle.ut_csvq.specs.inner.Making.{Goes}
 use Rattle.ut_csvq.proofs.Cutting.{cut_table}
 
-module _ {X : Type 0} (now : ℕ) (m : Tables) where
+-- what is handed on that a call came to
+pub handed_on : {Y : Type 0} (P : Result Y StoreFail → Type 0) (out : Result Y StoreFail) (e : StoreFail) → IsErr out × IsErrAnd out (λ x. x ≡ e) → P (Err e) → P out
+handed_on P (Ok y) e out h = absurd out.1
+handed_on P (Err x) e out h = subst (λ (z : StoreFail). P (Err z)) (sym out.1) h
+
+module _ {X : Type 0} (now : ℕ) (m : Held InMemory) where
   pub goes_wrong : (r : Result Asked X) (y : X) → Goes now m r (Ok (Some y)) → r ≡ Err y
   goes_wrong (Ok b) y h = absurd h
   goes_wrong (Err x) y h = ap Err (sym h)
+
+  -- it stopped
+  pub goes_out : (r : Result Asked X) (e : StoreFail) → e ≡ Memory → Goes now m r (Err e)
+  goes_out (Ok b) e h = h
+  goes_out (Err x) e h = h
+
+  pub went_out : (r : Result Asked X) (e : StoreFail) → Goes now m r (Err e) → e ≡ Memory
+  went_out (Ok b) e h = h
+  went_out (Err x) e h = h
 
   pub goes_well : (r : Result Asked X) → Goes now m r (Ok None) → (b : Asked) × (r ≡ Ok b) × IsOwned now m b
   goes_well (Ok b) h = (b, refl, h)

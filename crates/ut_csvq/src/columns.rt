@@ -5,8 +5,6 @@ ghost use Rattle.std.specs.Str.{chars};
 ghost use Rattle.csv.specs.Records.{field_at, fields_of};
 ghost use Rattle.ut_csvq.specs.Organisation.{new_column, with_columns};
 ghost use Rattle.ut_csvq.specs.inner.Making.{Goes, Takes};
-ghost use Rattle.ut_keeper.specs.Draft.{tables_of};
-ghost use Rattle.ut_keeper.specs.Memory.{memory_state};
 ghost use Rattle.ut_model.specs.NewFields.{add_field};
 ghost use Rattle.ut_model.specs.Paths.{Asked};
 ghost use Rattle.ut_own.specs.Making.{IsOwned, StepsOwn};
@@ -42,8 +40,8 @@ fn make_column(
     draft: &mut Draft<'_, MemoryKeeper>,
     name: &str,
 ) -> Result<Option<Refusal>, StoreFail>
-    ensures { (now : ℕ) (a : Asked) → IsOwned now (tables_of memory_state draft.old) a
-        → StepsOwn now (tables_of memory_state draft.new) a (add_field a.tenant (new_column (chars name.now))) result }
+    ensures { (now : ℕ) (a : Asked) → IsOwned now draft.old a
+        → StepsOwn now draft.new a (add_field a.tenant (new_column (chars name.now))) result }
 {
     let new = new_column(alloc, name)?;
     make_field(alloc, draft, &new)
@@ -56,8 +54,8 @@ fn take_column(
     named: bool,
     cell: &str,
 ) -> Result<Option<bool>, StoreFail>
-    ensures { (now : ℕ) (a : Asked) → IsOwned now (tables_of memory_state draft.old) a
-        → Takes now (tables_of memory_state draft.new) named a cell.now result }
+    ensures { (now : ℕ) (a : Asked) → IsOwned now draft.old a
+        → Takes now draft.new named a cell.now result }
 {
     if !same_name("Name", cell) {
         let refused = make_column(alloc, draft, cell)?;
@@ -89,8 +87,8 @@ pub(crate) fn make_columns(
     draft: &mut Draft<'_, MemoryKeeper>,
     heading: &StringRecord,
 ) -> Result<Option<Text>, StoreFail>
-    ensures { (now : ℕ) (a : Asked) → IsOwned now (tables_of memory_state draft.old) a
-        → Goes now (tables_of memory_state draft.new) (with_columns false a (fields_of heading.now)) result }
+    ensures { (now : ℕ) (a : Asked) → IsOwned now draft.old a
+        → Goes now draft.new (with_columns false a (fields_of heading.now)) result }
 {
     let mut named = false;
     for place in 0..heading.len() {

@@ -7,7 +7,7 @@ ghost use Rattle.ut_csvq.specs.Outcomes.{columns_outcome, input_outcome, lines_o
 ghost use Rattle.ut_keeper.specs.Draft.{tables_of};
 ghost use Rattle.ut_keeper.specs.Memory.{memory_state};
 ghost use Rattle.ut_model.specs.Paths.{Asked};
-ghost use Rattle.ut_own.specs.Making.{IsOwned};
+ghost use Rattle.ut_own.specs.Making.{IsOwned, NeverFails, OrMemory};
 ghost use Rattle.ut_stands.specs.Stands.{Stands};
 ghost use Rattle.ut_value.specs.Dates.{is_moment};
 
@@ -52,8 +52,8 @@ fn answer_rows(
     rows: &[StringRecord],
 ) -> Result<Outcome, StoreFail>
     requires { IsTrue (is_moment (pos now)) }
-    ensures { (a : Asked) → IsOwned now (tables_of memory_state draft.old) a
-        → IfOk result (λ outcome. outcome ≡ rows_outcome query.now (with_rows (fields_of heading.now) 1 a (map fields_of rows.now))) }
+    ensures { (a : Asked) → IsOwned now draft.old a
+        → OrMemory result (λ outcome. outcome ≡ rows_outcome query.now (with_rows (fields_of heading.now) 1 a (map fields_of rows.now))) }
 {
     let refused = make_rows(alloc, draft, now, heading, rows)?;
     match refused {
@@ -75,8 +75,8 @@ fn answer_columns(
     rows: &[StringRecord],
 ) -> Result<Outcome, StoreFail>
     requires { IsTrue (is_moment (pos now)) }
-    ensures { (a : Asked) → IsOwned now (tables_of memory_state draft.old) a
-        → IfOk result (λ outcome. outcome
+    ensures { (a : Asked) → IsOwned now draft.old a
+        → OrMemory result (λ outcome. outcome
         ≡ columns_outcome query.now (fields_of heading.now) (map fields_of rows.now) (with_columns false a (fields_of heading.now))) }
 {
     let refused = make_columns(alloc, draft, heading)?;
@@ -96,8 +96,8 @@ fn answer_made(
     rows: &[StringRecord],
 ) -> Result<Outcome, StoreFail>
     requires { IsTrue (is_moment (pos now)) }
-    ensures { Stands (tables_of memory_state draft.old) []
-        → IfOk result (λ outcome. outcome ≡ table_outcome query.now (pos now) (fields_of heading.now ∷ map fields_of rows.now)) }
+    ensures { Stands (tables_of memory_state draft.old) [] → NeverFails draft.old
+        → OrMemory result (λ outcome. outcome ≡ table_outcome query.now (pos now) (fields_of heading.now ∷ map fields_of rows.now)) }
 {
     make_org(alloc, draft)?;
     let refused = make_object_of_rows(alloc, draft)?;
@@ -125,8 +125,9 @@ fn answer_records(
     let mut draft = Draft::new(alloc, &mut keeper);
     match answer_made(alloc, &mut draft, query, now, heading, rows) {
         Ok(outcome) => Ok(outcome),
+        Err(StoreFail::Memory) => Err(AllocError),
         // No call of this keeper fails, and its tables stand for what was made.
-        Err(_) => Err(AllocError),
+        Err(StoreFail::Keeper | StoreFail::Damaged) => unreachable!(),
     }
 }
 

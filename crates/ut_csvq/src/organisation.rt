@@ -2,8 +2,6 @@
 
 ghost use Rattle.std.specs.Prelude.{◌≡◌, IfOk, ℕ};
 ghost use Rattle.ut_csvq.specs.Organisation.{new_rows};
-ghost use Rattle.ut_keeper.specs.Draft.{tables_of};
-ghost use Rattle.ut_keeper.specs.Memory.{memory_state};
 ghost use Rattle.ut_model.specs.Metadata.{add_object};
 ghost use Rattle.ut_model.specs.Paths.{Asked};
 ghost use Rattle.ut_own.specs.Making.{IsOwned, StepsOwn};
@@ -35,8 +33,8 @@ pub(crate) fn make_object_of_rows(
     alloc: Global,
     draft: &mut Draft<'_, MemoryKeeper>,
 ) -> Result<Option<Refusal>, StoreFail>
-    ensures { (now : ℕ) (a : Asked) → IsOwned now (tables_of memory_state draft.old) a
-        → StepsOwn now (tables_of memory_state draft.new) a (add_object a.tenant new_rows) result }
+    ensures { (now : ℕ) (a : Asked) → IsOwned now draft.old a
+        → StepsOwn now draft.new a (add_object a.tenant new_rows) result }
 {
     let new = new_rows(alloc)?;
     make_object(alloc, draft, &new)

@@ -4,8 +4,6 @@ ghost use Rattle.std.specs.Prelude.{◌≡◌, IsTrue, pos, map};
 ghost use Rattle.csv.specs.Records.{fields_of};
 ghost use Rattle.ut_csvq.specs.Organisation.{given_of, object_name, with_rows};
 ghost use Rattle.ut_csvq.specs.inner.Making.{Goes};
-ghost use Rattle.ut_keeper.specs.Draft.{tables_of};
-ghost use Rattle.ut_keeper.specs.Memory.{memory_state};
 ghost use Rattle.ut_model.specs.Creates.{create};
 ghost use Rattle.ut_model.specs.Paths.{Asked};
 ghost use Rattle.ut_named.specs.Usable.{IsReady};
@@ -33,8 +31,8 @@ fn make_row(
 ) -> Result<Option<Refusal>, StoreFail>
     requires ready { IsReady 1 layout.now }
     requires moment { IsTrue (is_moment (pos now)) }
-    ensures { (a : Asked) → IsLaidOut now (tables_of memory_state draft.old) object_name layout.now a
-        → StepsLaidOut now (tables_of memory_state draft.new) object_name layout.now a
+    ensures { (a : Asked) → IsLaidOut now draft.old object_name layout.now a
+        → StepsLaidOut now draft.new object_name layout.now a
         (create a object_name (given_of (fields_of heading.now) (fields_of row.now))) result }
 {
     let given = given_of(alloc, heading, row)?;
@@ -52,8 +50,8 @@ fn make_rows_of(
 ) -> Result<Option<(u64, Refusal)>, StoreFail>
     requires ready { IsReady 1 layout.now }
     requires moment { IsTrue (is_moment (pos now)) }
-    ensures { (a : Asked) → IsLaidOut now (tables_of memory_state draft.old) object_name layout.now a
-        → Goes now (tables_of memory_state draft.new) (with_rows (fields_of heading.now) 1 a (map fields_of rows.now)) result }
+    ensures { (a : Asked) → IsLaidOut now draft.old object_name layout.now a
+        → Goes now draft.new (with_rows (fields_of heading.now) 1 a (map fields_of rows.now)) result }
 {
     for (place, row) in rows.iter().enumerate() {
         if let Some(refusal) = make_row(alloc, draft, layout, now, heading, row)? {
@@ -77,8 +75,8 @@ pub(crate) fn make_rows(
     rows: &[StringRecord],
 ) -> Result<Option<(u64, Refusal)>, StoreFail>
     requires { IsTrue (is_moment (pos now)) }
-    ensures { (a : Asked) → IsOwned now (tables_of memory_state draft.old) a
-        → Goes now (tables_of memory_state draft.new) (with_rows (fields_of heading.now) 1 a (map fields_of rows.now)) result }
+    ensures { (a : Asked) → IsOwned now draft.old a
+        → Goes now draft.new (with_rows (fields_of heading.now) 1 a (map fields_of rows.now)) result }
 {
     if rows.is_empty() {
         return Ok(None);

@@ -3,8 +3,10 @@ use Rattle.std.proofs.Common.{◌≡◌, ℕ, IsTrue, Option, Some, None, Result
 use Rattle.std.specs.Prelude.{IsErr}
 use Rattle.std.specs.Result.{IsErrAnd}
 use Rattle.std.specs.Str.{chars}
-use Rattle.ut_keeper.specs.Tables.{Tables}
+use Rattle.ut_keeper.specs.Draft.{Held}
+use Rattle.ut_keeper.specs.Memory.{InMemory}
 use Rattle.ut_keys.specs.declared.fail.StoreFail.{StoreFail}
+use Rattle.ut_keys.specs.declared.fail.StoreFail.TheVariants.{Memory}
 use Rattle.ut_model.specs.Cases.{in_case}
 use Rattle.ut_model.specs.Paths.{Asked}
 use Rattle.ut_model.specs.Verdict.{Verdict}
@@ -17,7 +19,16 @@ use Rattle.ut_sound.specs.Fit.{is_fit_field, is_fit_object}
 use Rattle.ut_demo.specs.Demos.{and_then, comes_to, new_amount, new_item}
 use Rattle.ut_demo.specs.inner.Coming.{Comes, Makes, Passes}
 
+-- memory is wanting, whatever is due
+pub came_out : {X Y : Type 0} (Is : X → Y → Type 0) (r : Result X Refusal) (fail : StoreFail) → fail ≡ Memory → Comes Is r (Err (Store fail))
+came_out Is (Ok x) fail h = h
+came_out Is (Err why) fail h = h
+
 module _ {X Y : Type 0} (Is : X → Y → Type 0) where
+  pub memory_of : (r : Result X Refusal) (fail : StoreFail) → Comes Is r (Err (Store fail)) → fail ≡ Memory
+  memory_of (Ok x) fail h = h
+  memory_of (Err why) fail h = h
+
   -- it was done: so it should be
   pub come_ok : (r : Result X Refusal) (y : Y) → Comes Is r (Ok y) → (x : X) × (r ≡ Ok x) × Is x y
   come_ok (Ok x) y h = (x, refl, h)
@@ -27,17 +38,17 @@ module _ {X Y : Type 0} (Is : X → Y → Type 0) where
   pub come_err : {V W : Type 0} (Then : V → W → Type 0) (r : Result X Refusal) (next : X → Result V Refusal) (e : EditFail) → Comes Is r (Err e) → Comes Then (and_then r next) (Err e)
   come_err Then (Ok x) next (Refused why) h = absurd h
   come_err Then (Err because) next (Refused why) h = h
-  come_err Then (Ok x) next (Store fail) h = tt
-  come_err Then (Err because) next (Store fail) h = tt
+  come_err Then (Ok x) next (Store fail) h = came_out Then (next x) fail (memory_of (Ok x) fail h)
+  come_err Then (Err because) next (Store fail) h = memory_of (Err because) fail h
 
   -- it was done, and then what follows it
   pub come_then : {V W : Type 0} (Then : V → W → Type 0) (r : Result X Refusal) (next : X → Result V Refusal) (x : X) (s : Result W EditFail) → r ≡ Ok x → Comes Then (next x) s → Comes Then (and_then r next) s
   come_then Then r next x s is h = subst (λ (z : Result X Refusal). Comes Then (and_then z next) s) (sym is) h
 
 -- what is handed on that the work on the tables stopped
-pub stopped_on : {X Y : Type 0} (Is : X → Y → Type 0) (due : Result X Refusal) (out : Result Y EditFail) (fail : StoreFail) → IsErr out × IsErrAnd out (λ x. x ≡ Store fail) → Comes Is due out
-stopped_on Is due (Ok y) fail h = absurd h.1
-stopped_on Is due (Err e) fail h = subst (λ (x : EditFail). Comes Is due (Err x)) (sym h.1) tt
+pub stopped_on : {X Y : Type 0} (Is : X → Y → Type 0) (due : Result X Refusal) (out : Result Y EditFail) (fail : StoreFail) → fail ≡ Memory → IsErr out × IsErrAnd out (λ x. x ≡ Store fail) → Comes Is due out
+stopped_on Is due (Ok y) fail wanting h = absurd h.1
+stopped_on Is due (Err e) fail wanting h = subst (λ (x : EditFail). Comes Is due (Err x)) (sym h.1) (came_out Is due fail wanting)
 
 -- what is handed on that a call came to, with what would follow it
 pub handed_on : {X Y V W : Type 0} (Is : X → Y → Type 0) (Then : V → W → Type 0) (r : Result X Refusal) (next : X → Result V Refusal) (out : Result W EditFail) (e : EditFail)
@@ -45,7 +56,7 @@ pub handed_on : {X Y V W : Type 0} (Is : X → Y → Type 0) (Then : V → W →
 handed_on Is Then r next (Ok y) e out h = absurd out.1
 handed_on Is Then r next (Err x) e out h = subst (λ (z : EditFail). Comes Then (and_then r next) (Err z)) (sym out.1) (come_err Is Then r next e h)
 
-module _ (now : ℕ) (after : Tables) (a : Asked) (v : Verdict) where
+module _ (now : ℕ) (after : Held InMemory) (a : Asked) (v : Verdict) where
   abbrev told : Option Refusal → Result Asked Refusal
   told x = in_case x (Ok (past a v)) Err
 

@@ -2,7 +2,8 @@
 use Rattle.std.proofs.Common.{◌≡◌, ◌∙◌, ◌<◌, ◌-◌, arith, ℕ, zero, suc, ◌+◌, Bool, true, false, cond, List, Option, Result, Ok, Err, refl, sym, ap, subst}
 use Rattle.std.specs.Prelude.{IsErr}
 use Rattle.std.specs.Result.{IsErrAnd}
-use Rattle.ut_keeper.specs.Tables.{Tables}
+use Rattle.ut_keeper.specs.Draft.{Held}
+use Rattle.ut_keeper.specs.Memory.{InMemory}
 use Rattle.ut_model.specs.Creates.{create}
 use Rattle.ut_model.specs.Paths.{Asked}
 use Rattle.ut_model.specs.declared.refusal.Refusal.{Refusal}
@@ -13,6 +14,7 @@ use Rattle.ut_step.specs.Step.{stepped}
 use Rattle.ut_demo.specs.Demos.{amount_line, switched_by, and_then, comes_to, given_amount, is_settled, item_object, next_repeat, repeats_from, with_items}
 use Rattle.ut_demo.specs.declared.repeats.Repeats.{Repeats}
 use Rattle.ut_demo.specs.inner.Coming.{Comes, Makes}
+use Rattle.ut_demo.proofs.Coming.{came_out, memory_of}
 
 none_more : (m : ℕ) → m ≡ 0 + m
 none_more m = omega arith
@@ -48,7 +50,7 @@ module _ (place : ℕ) (a b : Asked) (so_far : with_items place a ≡ Ok b) wher
       subst (λ (n : ℕ). with_items n a ≡ Ok x) next_is (one_more ∙ from_code (λ n. comes_to b (create b item_object (given_amount n)) ≡ Ok x) e)
 
   -- a record was refused, or the work on the tables stopped
-  pub items_stop : (now : ℕ) (after : Tables) (count : ℕ) → place < count → (out : Result (Unit {0}) EditFail) (e : EditFail) → IsErr out × IsErrAnd out (λ x. x ≡ e)
+  pub items_stop : (now : ℕ) (after : Held InMemory) (count : ℕ) → place < count → (out : Result (Unit {0}) EditFail) (e : EditFail) → IsErr out × IsErrAnd out (λ x. x ≡ e)
       → Makes now after (comes_to b (create b item_object (given_amount (place + 1)))) (Err e) → Makes now after (with_items count a) out
   items_stop now after count within (Ok done) e is h = absurd is.1
   items_stop now after count within (Err f) e is h = subst (λ (x : EditFail). Makes now after (with_items count a) (Err x)) (sym is.1) (by e h)
@@ -62,14 +64,15 @@ module _ (place : ℕ) (a b : Asked) (so_far : with_items place a ≡ Ok b) wher
           subst (λ (x : Result Asked Refusal). Makes now after x (Err (Refused why))) (sym (subst (λ (n : ℕ). with_items n a ≡ Err because) far (items_refused (suc place) (count - suc place) a because is))) h
 
       by : (e : EditFail) → Makes now after (comes_to b (create b item_object (given_amount (place + 1)))) (Err e) → Makes now after (with_items count a) (Err e)
-      by (Store fail) h = tt
+      by (Store fail) h = came_out {Y = Unit {0}} (λ x done. IsOwned now after x) (with_items count a) fail
+          (memory_of {Y = Unit {0}} (λ x done. IsOwned now after x) (comes_to b (create b item_object (given_amount (place + 1)))) fail h)
       by (Refused why) h =
           refused (with_items (suc place) a) refl why
           (subst (λ (x : Result Asked Refusal). Makes now after x (Err (Refused why))) (sym one_more)
           (from_code (λ n. Makes now after (comes_to b (create b item_object (given_amount n))) (Err (Refused why))) h))
 
 -- all of them are made
-pub items_end : (now : ℕ) (after : Tables) (place count : ℕ) (a b : Asked) → with_items place a ≡ Ok b → place ≡ count → IsOwned now after b → Makes now after (with_items count a) (Ok tt)
+pub items_end : (now : ℕ) (after : Held InMemory) (place count : ℕ) (a b : Asked) → with_items place a ≡ Ok b → place ≡ count → IsOwned now after b → Makes now after (with_items count a) (Ok tt)
 items_end now after place count a b so_far is owned =
     subst (λ (r : Result Asked Refusal). Makes now after r (Ok tt)) (sym (subst (λ (n : ℕ). with_items n a ≡ Ok b) is so_far)) owned
 
@@ -97,7 +100,7 @@ repeat_settled m (suc n) a x e done =
     (ap repeat_after (repeat_settled m n a x e done) ∙ ap (λ (b : Bool). cond b (Ok x) (next_repeat x.0 x.1)) done)
 
 -- the organisation is what it should be, in these tables, and so is what is returned
-abbrev pub HasSeen : {X : Type 0} → (now : ℕ) → (after : Tables) → Asked × X → X → Type 0
+abbrev pub HasSeen : {X : Type 0} → (now : ℕ) → (after : Held InMemory) → Asked × X → X → Type 0
 HasSeen now after x y = IsOwned now after x.0 × (y ≡ x.1)
 
 -- what one more has seen, by the lines of its query
@@ -120,14 +123,14 @@ module _ (now : ℕ) (turn : ℕ) (a : Asked) (x : Course) (so_far : repeats_fro
   repeat_next y busy e = subst (λ (n : ℕ). repeats_from n a ≡ Ok y) turn_is (one_repeat busy ∙ e)
 
   -- no change is under way: it ends
-  pub repeat_done : (after : Tables) (most : ℕ) → turn < most → is_settled x.0.tenant ≡ true → IsOwned now after x.0 → (seen : Repeats) → seen ≡ x.1
+  pub repeat_done : (after : Held InMemory) (most : ℕ) → turn < most → is_settled x.0.tenant ≡ true → IsOwned now after x.0 → (seen : Repeats) → seen ≡ x.1
       → Comes (HasSeen now after) (repeats_from most a) (Ok seen)
   repeat_done after most within done owned seen is =
       let far : (most - turn) + turn ≡ most = omega (arith, within) in
       subst (λ (r : Result Course Refusal). Comes (HasSeen now after) r (Ok seen)) (sym (subst (λ (n : ℕ). repeats_from n a ≡ Ok x) far (repeat_settled turn (most - turn) a x so_far done))) (owned, is)
 
   -- a repeat was refused, or the work on the tables stopped
-  pub repeat_stop : (after : Tables) (most : ℕ) → turn < most → is_settled x.0.tenant ≡ false → (out : Result Repeats EditFail) (e : EditFail) → IsErr out × IsErrAnd out (λ z. z ≡ e)
+  pub repeat_stop : (after : Held InMemory) (most : ℕ) → turn < most → is_settled x.0.tenant ≡ false → (out : Result Repeats EditFail) (e : EditFail) → IsErr out × IsErrAnd out (λ z. z ≡ e)
       → Comes (HasSeen now after) (next_repeat x.0 x.1) (Err e) → Comes (HasSeen now after) (repeats_from most a) out
   repeat_stop after most within busy (Ok seen) e is h = absurd is.1
   repeat_stop after most within busy (Err f) e is h = subst (λ (z : EditFail). Comes (HasSeen now after) (repeats_from most a) (Err z)) (sym is.1) (by e h)
@@ -141,12 +144,12 @@ module _ (now : ℕ) (turn : ℕ) (a : Asked) (x : Course) (so_far : repeats_fro
           subst (λ (r : Result Course Refusal). Comes (HasSeen now after) r (Err (Refused why))) (sym (subst (λ (n : ℕ). repeats_from n a ≡ Err because) far (repeat_refused (suc turn) (most - suc turn) a because is))) h
 
       by : (e : EditFail) → Comes (HasSeen now after) (next_repeat x.0 x.1) (Err e) → Comes (HasSeen now after) (repeats_from most a) (Err e)
-      by (Store fail) h = tt
+      by (Store fail) h = came_out (HasSeen now after) (repeats_from most a) fail (memory_of (HasSeen now after) (next_repeat x.0 x.1) fail h)
       by (Refused why) h =
           refused (repeats_from (suc turn) a) refl why (subst (λ (r : Result Course Refusal). Comes (HasSeen now after) r (Err (Refused why))) (sym (one_repeat busy)) h)
 
 -- it was repeated as often as it may
-pub repeat_end : (now : ℕ) (after : Tables) (turn most : ℕ) (a : Asked) (x : Course) → repeats_from turn a ≡ Ok x → turn ≡ most → IsOwned now after x.0 → (seen : Repeats) → seen ≡ x.1
+pub repeat_end : (now : ℕ) (after : Held InMemory) (turn most : ℕ) (a : Asked) (x : Course) → repeats_from turn a ≡ Ok x → turn ≡ most → IsOwned now after x.0 → (seen : Repeats) → seen ≡ x.1
     → Comes (HasSeen now after) (repeats_from most a) (Ok seen)
 repeat_end now after turn most a x so_far is owned seen same =
     subst (λ (r : Result Course Refusal). Comes (HasSeen now after) r (Ok seen)) (sym (subst (λ (n : ℕ). repeats_from n a ≡ Ok x) is so_far)) (owned, same)

@@ -3,7 +3,8 @@ use Rattle.std.proofs.Common.{◌≡◌, ℕ, List, Result, Ok, Err, ap}
 use Rattle.ut_model.specs.Paths.{Asked}
 use Rattle.ut_model.specs.Retyping.{begin_retype}
 use Rattle.ut_model.specs.declared.refusal.Refusal.{Refusal}
-use Rattle.ut_keeper.specs.Tables.{Tables}
+use Rattle.ut_keeper.specs.Draft.{Held}
+use Rattle.ut_keeper.specs.Memory.{InMemory}
 use Rattle.ut_own.specs.Making.{IsOwned}
 use Rattle.ut_stands.specs.declared.fail.EditFail.TheVariants.{Refused}
 use Rattle.ut_step.specs.Step.{stepped}
@@ -12,7 +13,7 @@ use Rattle.ut_demo.specs.declared.repeats.Repeats.{Repeats}
 use Rattle.ut_demo.specs.declared.show.Demo.{Demo}
 use Rattle.ut_demo.specs.inner.Coming.{Returns}
 
-abbrev pub Owns : (now : ℕ) → (after : Tables) → Asked → Unit {0} → Type 0
+abbrev pub Owns : (now : ℕ) → (after : Held InMemory) → Asked → Unit {0} → Type 0
 Owns now after a done = IsOwned now after a
 
 abbrev pub IsIt : {X : Type 0} → X → X → Type 0

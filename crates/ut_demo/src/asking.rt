@@ -1,10 +1,8 @@
 //! Queries of a demo.
 
-ghost use Rattle.std.specs.Prelude.{◌≡◌, IsTrue, Ok, pos};
+ghost use Rattle.std.specs.Prelude.{IsTrue, Ok, pos, ℕ};
 ghost use Rattle.ut_demo.specs.Demos.{answer_to_text, lines_read};
 ghost use Rattle.ut_demo.specs.inner.Coming.{Returns};
-ghost use Rattle.ut_keeper.specs.Draft.{tables_of};
-ghost use Rattle.ut_keeper.specs.Memory.{memory_state};
 ghost use Rattle.ut_model.specs.Paths.{Asked};
 ghost use Rattle.ut_own.specs.Making.{IsOwned};
 ghost use Rattle.ut_value.specs.Dates.{is_moment};
@@ -24,8 +22,8 @@ fn ask_query(
     query: &Query,
 ) -> Result<Bytes, EditFail>
     requires { IsTrue (is_moment (pos now)) }
-    ensures lines { (a : Asked) → IsOwned now (tables_of memory_state draft.old) a → Returns (lines_read a (Ok query.now)) result }
-    ensures same { tables_of memory_state draft.new ≡ tables_of memory_state draft.old }
+    ensures lines { (a : Asked) → IsOwned now draft.old a → Returns (lines_read a (Ok query.now)) result }
+    ensures kept { (at : ℕ) (a : Asked) → IsOwned at draft.old a → IsOwned at draft.new a }
 {
     match answer(alloc, draft, now, query) {
         Ok(Ok(lines)) => Ok(lines),
@@ -46,8 +44,8 @@ pub(crate) fn ask(
     text: &str,
 ) -> Result<Bytes, EditFail>
     requires { IsTrue (is_moment (pos now)) }
-    ensures lines { (a : Asked) → IsOwned now (tables_of memory_state draft.old) a → Returns (answer_to_text text.now a) result }
-    ensures same { tables_of memory_state draft.new ≡ tables_of memory_state draft.old }
+    ensures lines { (a : Asked) → IsOwned now draft.old a → Returns (answer_to_text text.now a) result }
+    ensures kept { (at : ℕ) (a : Asked) → IsOwned at draft.old a → IsOwned at draft.new a }
 {
     match query_of(alloc, text) {
         Ok(Ok(query)) => ask_query(alloc, draft, now, &query),

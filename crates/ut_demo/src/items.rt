@@ -11,7 +11,7 @@ ghost use Rattle.ut_model.specs.Creates.{create};
 ghost use Rattle.ut_model.specs.Metadata.{add_object};
 ghost use Rattle.ut_model.specs.NewFields.{add_field};
 ghost use Rattle.ut_model.specs.Paths.{Asked};
-ghost use Rattle.ut_own.specs.Making.{IsOwned};
+ghost use Rattle.ut_own.specs.Making.{IsOwned, NeverFails};
 ghost use Rattle.ut_sound.specs.Fit.{is_spelled};
 ghost use Rattle.ut_stands.specs.Stands.{Stands};
 ghost use Rattle.ut_value.specs.Dates.{is_moment};
@@ -61,8 +61,8 @@ fn new_amount(alloc: Global) -> Result<NewField, AllocError>
 
 // Makes the object.
 fn make_item_object(alloc: Global, draft: &mut Draft<'_, MemoryKeeper>) -> Result<(), EditFail>
-    ensures { (now : ℕ) (a : Asked) → IsOwned now (tables_of memory_state draft.old) a
-        → Makes now (tables_of memory_state draft.new) (comes_to a (add_object a.tenant new_item)) result }
+    ensures { (now : ℕ) (a : Asked) → IsOwned now draft.old a
+        → Makes now draft.new (comes_to a (add_object a.tenant new_item)) result }
 {
     let new = new_item(alloc)?;
     let refused = make_object(alloc, draft, &new)?;
@@ -71,8 +71,8 @@ fn make_item_object(alloc: Global, draft: &mut Draft<'_, MemoryKeeper>) -> Resul
 
 // Makes its field.
 fn make_amount_field(alloc: Global, draft: &mut Draft<'_, MemoryKeeper>) -> Result<(), EditFail>
-    ensures { (now : ℕ) (a : Asked) → IsOwned now (tables_of memory_state draft.old) a
-        → Makes now (tables_of memory_state draft.new) (comes_to a (add_field a.tenant new_amount)) result }
+    ensures { (now : ℕ) (a : Asked) → IsOwned now draft.old a
+        → Makes now draft.new (comes_to a (add_field a.tenant new_amount)) result }
 {
     let new = new_amount(alloc)?;
     let refused = make_field(alloc, draft, &new)?;
@@ -109,8 +109,8 @@ fn make_item(
     requires moment { IsTrue (is_moment (pos now)) }
     requires object { object.now ≡ item_object }
     requires number { number ≤ 10000 }
-    ensures { (a : Asked) → IsOwned now (tables_of memory_state draft.old) a
-        → Makes now (tables_of memory_state draft.new) (comes_to a (create a item_object (given_amount number))) result }
+    ensures { (a : Asked) → IsOwned now draft.old a
+        → Makes now draft.new (comes_to a (create a item_object (given_amount number))) result }
 {
     let given = given_amount(alloc, number)?;
     let refused = make_record(alloc, draft, now, object, given.as_slice())?;
@@ -126,8 +126,8 @@ fn make_items(
 ) -> Result<(), EditFail>
     requires moment { IsTrue (is_moment (pos now)) }
     requires count { count ≤ 10000 }
-    ensures { (a : Asked) → IsOwned now (tables_of memory_state draft.old) a
-        → Makes now (tables_of memory_state draft.new) (with_items count a) result }
+    ensures { (a : Asked) → IsOwned now draft.old a
+        → Makes now draft.new (with_items count a) result }
 {
     let object = Text::from_str(alloc, "Item__c")?;
     for place in 0..count {
@@ -138,8 +138,8 @@ fn make_items(
 
 // Makes the object with its field.
 fn make_both(alloc: Global, draft: &mut Draft<'_, MemoryKeeper>) -> Result<(), EditFail>
-    ensures { (now : ℕ) (a : Asked) → IsOwned now (tables_of memory_state draft.old) a
-        → Makes now (tables_of memory_state draft.new) (with_object a) result }
+    ensures { (now : ℕ) (a : Asked) → IsOwned now draft.old a
+        → Makes now draft.new (with_object a) result }
 {
     make_item_object(alloc, draft)?;
     make_amount_field(alloc, draft)
@@ -158,8 +158,8 @@ pub(crate) fn make_all(
 ) -> Result<(), EditFail>
     requires moment { IsTrue (is_moment (pos now)) }
     requires count { count ≤ 10000 }
-    ensures { Stands (tables_of memory_state draft.old) []
-        → Makes now (tables_of memory_state draft.new) (with_all count (pos now)) result }
+    ensures { Stands (tables_of memory_state draft.old) [] → NeverFails draft.old
+        → Makes now draft.new (with_all count (pos now)) result }
 {
     make_org(alloc, draft)?;
     make_both(alloc, draft)?;

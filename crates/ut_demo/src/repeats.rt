@@ -3,11 +3,9 @@
 ghost use Rattle.std.specs.Prelude.{◌≡◌, ◌+◌, IfOk, IsTrue, None, Some, if◌then◌else◌, pos, ℕ};
 ghost use Rattle.ut_demo.specs.Demos.{has_switched, is_settled, is_switch, most_repeats, next_repeat, repeats_from, switched_by};
 ghost use Rattle.ut_demo.specs.inner.Coming.{Comes};
-ghost use Rattle.ut_keeper.specs.Draft.{tables_of};
-ghost use Rattle.ut_keeper.specs.Memory.{memory_state};
 ghost use Rattle.ut_model.specs.Paths.{Asked};
 ghost use Rattle.ut_model.specs.Retyping.{job_is_done};
-ghost use Rattle.ut_own.specs.Making.{IsOwned};
+ghost use Rattle.ut_own.specs.Making.{IsOwned, OrMemory};
 ghost use Rattle.ut_value.specs.Dates.{is_moment};
 
 use crate::asking::ask;
@@ -56,9 +54,9 @@ fn if_switched(switched: bool, number: u64) -> Option<u64>
 
 // Whether the field has the new type.
 fn has_switched(alloc: Global, draft: &mut Draft<'_, MemoryKeeper>) -> Result<bool, StoreFail>
-    ensures is { (now : ℕ) (a : Asked) → IsOwned now (tables_of memory_state draft.old) a
-        → IfOk result (λ yes. yes ≡ has_switched a.tenant) }
-    ensures same { tables_of memory_state draft.new ≡ tables_of memory_state draft.old }
+    ensures is { (now : ℕ) (a : Asked) → IsOwned now draft.old a
+        → OrMemory result (λ yes. yes ≡ has_switched a.tenant) }
+    ensures kept { (now : ℕ) (a : Asked) → IsOwned now draft.old a → IsOwned now draft.new a }
 {
     match change(alloc, draft) {
         Ok(Some(change)) => Ok(is_switch(change.outcome)),
@@ -69,9 +67,9 @@ fn has_switched(alloc: Global, draft: &mut Draft<'_, MemoryKeeper>) -> Result<bo
 
 // Whether no change is under way.
 fn is_settled(alloc: Global, draft: &mut Draft<'_, MemoryKeeper>) -> Result<bool, StoreFail>
-    ensures is { (now : ℕ) (a : Asked) → IsOwned now (tables_of memory_state draft.old) a
-        → IfOk result (λ yes. yes ≡ is_settled a.tenant) }
-    ensures same { tables_of memory_state draft.new ≡ tables_of memory_state draft.old }
+    ensures is { (now : ℕ) (a : Asked) → IsOwned now draft.old a
+        → OrMemory result (λ yes. yes ≡ is_settled a.tenant) }
+    ensures kept { (now : ℕ) (a : Asked) → IsOwned now draft.old a → IsOwned now draft.new a }
 {
     match change(alloc, draft) {
         Ok(Some(change)) => Ok(job_is_done(change.phase)),
@@ -87,9 +85,9 @@ fn switched_by(
     first: Option<u64>,
     number: u64,
 ) -> Result<Option<u64>, StoreFail>
-    ensures is { (now : ℕ) (a : Asked) → IsOwned now (tables_of memory_state draft.old) a
-        → IfOk result (λ switched. switched ≡ switched_by first number a.tenant) }
-    ensures same { tables_of memory_state draft.new ≡ tables_of memory_state draft.old }
+    ensures is { (now : ℕ) (a : Asked) → IsOwned now draft.old a
+        → OrMemory result (λ switched. switched ≡ switched_by first number a.tenant) }
+    ensures kept { (now : ℕ) (a : Asked) → IsOwned now draft.old a → IsOwned now draft.new a }
 {
     match first {
         Some(first) => Ok(Some(first)),
@@ -111,8 +109,8 @@ fn next_repeat(
     requires moment { IsTrue (is_moment (pos now)) }
     requires number { number ≡ last.now.count + 1 }
     ensures count { IfOk result (λ x. x.count ≡ number) }
-    ensures comes { (a : Asked) → IsOwned now (tables_of memory_state draft.old) a
-        → Comes (λ x y. IsOwned now (tables_of memory_state draft.new) x.0 × (y ≡ x.1)) (next_repeat a last.now) result }
+    ensures comes { (a : Asked) → IsOwned now draft.old a
+        → Comes (λ x y. IsOwned now draft.new x.0 × (y ≡ x.1)) (next_repeat a last.now) result }
 {
     make_step(alloc, draft)?;
     let lines = ask(alloc, draft, now, FIRST)?;
@@ -136,8 +134,8 @@ pub(crate) fn repeat(
     now: u64,
 ) -> Result<Repeats, EditFail>
     requires { IsTrue (is_moment (pos now)) }
-    ensures { (a : Asked) → IsOwned now (tables_of memory_state draft.old) a
-        → Comes (λ x y. IsOwned now (tables_of memory_state draft.new) x.0 × (y ≡ x.1)) (repeats_from most_repeats a) result }
+    ensures { (a : Asked) → IsOwned now draft.old a
+        → Comes (λ x y. IsOwned now draft.new x.0 × (y ≡ x.1)) (repeats_from most_repeats a) result }
 {
     let mut repeats = Repeats {
         count: 0,

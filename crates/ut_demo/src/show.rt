@@ -7,7 +7,7 @@ ghost use Rattle.ut_keeper.specs.Draft.{tables_of};
 ghost use Rattle.ut_keeper.specs.Memory.{memory_state};
 ghost use Rattle.ut_model.specs.Paths.{Asked};
 ghost use Rattle.ut_model.specs.Retyping.{begin_retype};
-ghost use Rattle.ut_own.specs.Making.{IsOwned};
+ghost use Rattle.ut_own.specs.Making.{IsOwned, NeverFails};
 ghost use Rattle.ut_stands.specs.Stands.{Stands};
 ghost use Rattle.ut_value.specs.Dates.{is_moment};
 
@@ -17,6 +17,7 @@ use crate::lines::{amount_line, rows_in};
 use crate::repeats::{FIRST, Repeats, repeat};
 use std::alloc::{AllocError, Global};
 use ut_keeper::{Draft, MemoryKeeper};
+use ut_keys::StoreFail;
 use ut_model::{Refusal, SpelledType};
 use ut_own::{begin_change, make_step};
 use ut_stands::{EditFail, stands_laws};
@@ -45,8 +46,8 @@ pub struct Demo {
 
 // Begins the change of the field's type, from a text to a number.
 fn begin(alloc: Global, draft: &mut Draft<'_, MemoryKeeper>) -> Result<(), EditFail>
-    ensures { (now : ℕ) (a : Asked) → IsOwned now (tables_of memory_state draft.old) a
-        → Makes now (tables_of memory_state draft.new) (comes_to a (begin_retype a.tenant item_object amount_field whole_number)) result }
+    ensures { (now : ℕ) (a : Asked) → IsOwned now draft.old a
+        → Makes now draft.new (comes_to a (begin_retype a.tenant item_object amount_field whole_number)) result }
 {
     let object = Text::from_str(alloc, "Item__c")?;
     let field = Text::from_str(alloc, "Amount__c")?;
@@ -67,8 +68,8 @@ fn begin_demo(
 ) -> Result<Bytes, EditFail>
     requires moment { IsTrue (is_moment (pos now)) }
     requires count { count ≤ most_records }
-    ensures { Stands (tables_of memory_state draft.old) []
-        → Comes (λ x line. IsOwned now (tables_of memory_state draft.new) x.0 × (line ≡ x.1)) (begun count (pos now)) result }
+    ensures { Stands (tables_of memory_state draft.old) [] → NeverFails draft.old
+        → Comes (λ x line. IsOwned now draft.new x.0 × (line ≡ x.1)) (begun count (pos now)) result }
 {
     make_all(alloc, draft, now, count)?;
     let lines = ask(alloc, draft, now, FIRST)?;
@@ -84,7 +85,7 @@ fn watch(
     now: u64,
 ) -> Result<(Repeats, usize), EditFail>
     requires { IsTrue (is_moment (pos now)) }
-    ensures { (a : Asked) → IsOwned now (tables_of memory_state draft.old) a → Returns (watched a) result }
+    ensures { (a : Asked) → IsOwned now draft.old a → Returns (watched a) result }
 {
     let repeats = repeat(alloc, draft, now)?;
     make_step(alloc, draft)?;
@@ -101,7 +102,7 @@ fn show(
 ) -> Result<Demo, EditFail>
     requires moment { IsTrue (is_moment (pos now)) }
     requires count { count ≤ most_records }
-    ensures { Stands (tables_of memory_state draft.old) [] → Returns (demo_outcome count (pos now)) result }
+    ensures { Stands (tables_of memory_state draft.old) [] → NeverFails draft.old → Returns (demo_outcome count (pos now)) result }
 {
     let first = begin_demo(alloc, draft, now, count)?;
     let (repeats, above) = watch(alloc, draft, now)?;
@@ -130,7 +131,8 @@ pub fn make_demo(alloc: Global, count: u64, now: u64) -> Result<Result<Demo, Ref
     match show(alloc, &mut draft, now, count) {
         Ok(demo) => Ok(Ok(demo)),
         Err(EditFail::Refused(refusal)) => Ok(Err(refusal)),
+        Err(EditFail::Store(StoreFail::Memory)) => Err(AllocError),
         // No call of this keeper fails, and its tables stand for what was made.
-        Err(EditFail::Store(_)) => Err(AllocError),
+        Err(EditFail::Store(StoreFail::Keeper | StoreFail::Damaged)) => unreachable!(),
     }
 }

@@ -1,9 +1,9 @@
 -- Who asks a query, and what it comes to where there is no object.
 use Rattle.std.proofs.Common.{◌≡◌, ℕ, true, List, Option, None, Some, refl, sym, ap, subst, inr, Result, Ok, Err, ℤ, ◌∙◌}
 use Rattle.std.specs.Option.{option_map}
-use Rattle.std.specs.Prelude.{IfOk}
 use Rattle.std.specs.Result.{result_and}
-use Rattle.ut_keeper.specs.Tables.{Tables}
+use Rattle.ut_keeper.specs.Draft.{Held, tables_of}
+use Rattle.ut_keeper.specs.Memory.{InMemory, memory_state}
 use Rattle.ut_keys.specs.declared.fail.StoreFail.{StoreFail}
 use Rattle.ut_query.specs.declared.query.Query.{Query}
 use Rattle.ut_model.specs.declared.refusal.Refusal.{Refusal}
@@ -16,13 +16,15 @@ use Rattle.ut_model.specs.Tenant.{Tenant, User}
 use Rattle.ut_model.specs.Verdict.{accept, judged, refuse, rows_of}
 use Rattle.ut_query_rules.specs.Reaching.{Reaches}
 use Rattle.ut_rights.specs.Rights.{Whose}
+use Rattle.ut_stands.specs.Calls.{HasFallen, ended}
 use Rattle.ut_stands.specs.Layouts.{layout_of}
 use Rattle.ut_stands.specs.Local.{StandsIn}
 use Rattle.ut_stands.specs.Plan.{OrgPlan}
 use Rattle.ut_stands.specs.declared.layout.Layout.{Layout}
 use Rattle.ut_lines.specs.Answered.{IsAskedBy, IsLines}
 use Rattle.ut_lines.specs.Lines.{lines_found, query_lines}
-use Rattle.ut_own.specs.Making.{IsOwned}
+use Rattle.ut_own.specs.Making.{IsOwned, OrMemory}
+use Rattle.ut_own.proofs.Sure.{only_memory}
 
 -- ---- who asks
 
@@ -30,15 +32,15 @@ use Rattle.ut_own.specs.Making.{IsOwned}
 abbrev pub Administers : Whose
 Administers t u = u.admin ≡ true
 
-pub is_asked : (layouts : List Layout) (l : Layout) (q : Query) (now : ℕ) (m : Tables) (a : Asked) (made : IsOwned now m a) (o : Numbered)
+pub is_asked : (layouts : List Layout) (l : Layout) (q : Query) (now : ℕ) (d : Held InMemory) (a : Asked) (made : IsOwned now d a) (o : Numbered)
     → object_named a.tenant q.tail.from ≡ Some o → l ≡ layout_of 1 made.plan a.tenant o → Reaches 1 made.plan a.tenant layouts q
-    → (moment : ℤ) → a.now ≡ moment → IsAskedBy layouts l Administers Administers moment q m made.plan a
-is_asked layouts l q now m a made o named is reaches moment at =
+    → (moment : ℤ) → a.now ≡ moment → IsAskedBy layouts l Administers Administers moment q (tables_of memory_state d) made.plan a
+is_asked layouts l q now d a made o named is reaches moment at =
     let org : l.org ≡ 1 = ap (λ (x : Layout). x.org) is in
     let admin : a.user.admin ≡ true = ap (λ (u : User). u.admin) made.user in
     record {
       asked = record {
-        stands = subst (λ (n : ℕ). StandsIn n made.plan m (Some a.tenant)) (sym org) made.stands;
+        stands = subst (λ (n : ℕ). StandsIn n made.plan (tables_of memory_state d) (Some a.tenant)) (sym org) made.stands;
         object = o;
         named = named;
         its = is ∙ ap (λ (n : ℕ). layout_of n made.plan a.tenant o) (sym org);
@@ -48,16 +50,6 @@ is_asked layouts l q now m a made o named is reaches moment at =
       reaches = subst (λ (n : ℕ). Reaches n made.plan a.tenant layouts q) (sym org) reaches;
       rights = inr admin;
     }
-
--- the same where the tables are other ones with the same rows
-abbrev pub still_made : (now : ℕ) (m n : Tables) (a : Asked) (made : IsOwned now m a) → n ≡ m → IsOwned now n a
-still_made now m n a made same = record {
-  plan = made.plan;
-  stands = subst (λ (x : Tables). StandsIn 1 made.plan x (Some a.tenant)) (sym same) made.stands;
-  users = made.users;
-  user = made.user;
-  moment = made.moment;
-}
 
 -- ---- the object
 
@@ -76,6 +68,6 @@ nowhere a q none =
     ap (λ (x : Option Numbered). result_and (in_case x (refuse a.tenant (InvalidType q.tail.from)) (λ o. judged a.tenant (query_rules a.tenant o.number q) (accept (rows_of q) a.tenant))).answer (Ok (lines_found a q))) (sym none)
 
 -- what is returned of a query that was answered
-pub lines_are : (a : Asked) (q : Query) (r : Result (Result (List ℕ) Refusal) StoreFail) → IsLines a q r → IfOk r (λ lines. lines ≡ query_lines a q)
-lines_are a q (Ok lines) h = h
-lines_are a q (Err e) h = tt
+pub lines_are : (a : Asked) (q : Query) (r : Result (Result (List ℕ) Refusal) StoreFail) → IsLines a q r → (HasFallen (ended r) → ⊥) → OrMemory r (λ lines. lines ≡ query_lines a q)
+lines_are a q (Ok lines) h never = h
+lines_are a q (Err e) h never = only_memory e never h

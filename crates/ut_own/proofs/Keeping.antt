@@ -4,6 +4,8 @@ use Rattle.std.proofs.lemmas.Slice.Eq.{bytes_eq-Decides}
 use Rattle.std.specs.Prelude.{is_some}
 use Rattle.std.specs.Str.{bytes_eq}
 use Rattle.ut_background.specs.Background.{StepsTo}
+use Rattle.ut_keeper.specs.Draft.{Held, tables_of}
+use Rattle.ut_keeper.specs.Memory.{InMemory, memory_state}
 use Rattle.ut_keeper.specs.Tables.{Tables}
 use Rattle.ut_given.specs.Given.{FindNone, Finds}
 use Rattle.ut_given.specs.declared.found.Found.{Found}
@@ -35,7 +37,7 @@ use Rattle.ut_model.specs.declared.refusal.Refusal.TheVariants.{InvalidField, In
 use Rattle.ut_sound.specs.Fit.{ReadsWell}
 use Rattle.ut_stands.specs.Local.{StandsIn}
 use Rattle.ut_step.specs.Step.{stepped}
-use Rattle.ut_own.specs.Making.{IsOwned, KeepsUsers}
+use Rattle.ut_own.specs.Making.{IsOwned, KeepsUsers, NeverFails}
 use Rattle.ut_own.specs.Own.{its_administrator}
 
 -- ---- what a verdict leaves has what was so before it, and of what it accepts
@@ -118,9 +120,9 @@ pub record_reads : {name : List ℕ} {found : List Found} (law : FindsNone) (giv
     → (b : Asked) (o : Object) → ReadsFound name found given b o
 record_reads {found = found} law given none reads b o = record { reads = reads b o; finds = λ x named is. law b.tenant o None found given none }
 
-pub record_fits : {name : List ℕ} {found : List Found} (now : ℕ) (m : Tables) (a : Asked) (user : List ℕ) (moment : ℤ) (given : List Assignment) → IsOwned now m a → user ≡ first_user → moment ≡ pos now
+pub record_fits : {name : List ℕ} {found : List Found} (now : ℕ) (d : Held InMemory) (a : Asked) (user : List ℕ) (moment : ℤ) (given : List Assignment) → IsOwned now d a → user ≡ first_user → moment ≡ pos now
     → IsTrue (is_moment (pos now)) → ((b : Asked) (o : Object) → ReadsFound name found given b o) → IsGiving (λ t u. u.admin ≡ true) user moment (ReadsFound name found given) a
-record_fits now m a user moment given made is at calendar reads = record {
+record_fits now d a user moment given made is at calendar reads = record {
   asker = record { rights = ap (λ (u : User). u.admin) made.user; user = ap (λ (u : User). u.id) made.user ∙ sym is; now = made.moment ∙ sym at };
   caller = (
     ap (λ (us : List User). is_some (user_at us a.user.id)) made.users ∙ ap (λ (u : User). is_some (user_at (its_administrator ∷ []) u.id)) made.user ∙ alone its_administrator,
@@ -131,9 +133,17 @@ record_fits now m a user moment given made is at calendar reads = record {
 
 -- ---- a step
 
-module _ (now : ℕ) (before after : Tables) (a : Asked) (users : (job_step a.tenant).users ≡ a.tenant.users) (owned : IsOwned now before a) where
-  pub step_owned : (made : Bool) → StepsTo 1 a.tenant after (Ok made) → (made ≡ false → after ≡ before) → IsOwned now after (stepped a)
-  step_owned true h same = record { plan = h.1.0; stands = h.1.1; users = users ∙ owned.users; user = owned.user; moment = owned.moment }
+module _ (now : ℕ) (before after : Held InMemory) (a : Asked) (users : (job_step a.tenant).users ≡ a.tenant.users) (owned : IsOwned now before a) (sure : NeverFails after) where
+  pub step_owned : (made : Bool) → StepsTo 1 a.tenant (tables_of memory_state after) (Ok made) → (made ≡ false → tables_of memory_state after ≡ tables_of memory_state before)
+      → IsOwned now after (stepped a)
+  step_owned true h same = record { plan = h.1.0; stands = h.1.1; sure = sure; users = users ∙ owned.users; user = owned.user; moment = owned.moment }
   step_owned false h same =
       let stands = subst (λ (x : Tables). StandsIn 1 owned.plan x (Some a.tenant)) (sym (same refl)) owned.stands in
-      record { plan = owned.plan; stands = subst (λ (t : Tenant). StandsIn 1 owned.plan after (Some t)) (sym h) stands; users = users ∙ owned.users; user = owned.user; moment = owned.moment }
+      record {
+        plan = owned.plan;
+        stands = subst (λ (t : Tenant). StandsIn 1 owned.plan (tables_of memory_state after) (Some t)) (sym h) stands;
+        sure = sure;
+        users = users ∙ owned.users;
+        user = owned.user;
+        moment = owned.moment;
+      }

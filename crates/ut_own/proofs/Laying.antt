@@ -1,18 +1,20 @@
 -- A record that is made leaves its object, and how its fields are kept.
-use Rattle.std.proofs.Common.{◌≡◌, ◌∙◌, ℕ, List, Option, Some, None, Result, Ok, Err, refl, sym, ap, subst, ℤ}
+use Rattle.std.proofs.Common.{◌≡◌, ◌∙◌, ℕ, true, IsTrue, List, [], Option, Some, None, Result, Ok, Err, pos, refl, sym, ap, subst, ℤ}
 use Rattle.ut_edits.specs.declared.decided.Decided.{Decided}
 use Rattle.ut_edits.specs.Edits.{DecidesTo, EditsAt}
 use Rattle.ut_given.specs.Given.{Finds}
 use Rattle.ut_given.specs.declared.found.Found.{Found}
-use Rattle.ut_keeper.specs.Tables.{Tables}
+use Rattle.ut_keeper.specs.Draft.{Held, tables_of}
+use Rattle.ut_keeper.specs.Memory.{InMemory, memory_state}
 use Rattle.ut_keys.specs.declared.fail.StoreFail.{StoreFail}
 use Rattle.ut_model.specs.Creates.{create, create_on, create_rules, empty_record, with_record}
 use Rattle.ut_model.specs.Edits.{with_given}
 use Rattle.ut_model.specs.Keys.{with_key}
+use Rattle.ut_model.specs.Organisations.{first_user}
 use Rattle.ut_model.specs.Objects.{Numbered, object_named, object_numbered}
 use Rattle.ut_model.specs.Paths.{Asked}
 use Rattle.ut_model.specs.Sound.{IsSound}
-use Rattle.ut_model.specs.Tenant.{Tenant}
+use Rattle.ut_model.specs.Tenant.{Object, Tenant}
 use Rattle.ut_model.specs.Verdict.{Verdict, accept, made_new}
 use Rattle.ut_model.specs.declared.record_bodies.Assignment.{Assignment}
 use Rattle.ut_model.specs.declared.refusal.Refusal.{Refusal}
@@ -21,15 +23,16 @@ use Rattle.ut_records.specs.Creating.{IsAsker, IsGiving, IsObject, PlansNew, Rea
 use Rattle.ut_records.proofs.Accepting.{object_at}
 use Rattle.ut_records.proofs.Creates.{create_named, decides_same}
 use Rattle.ut_rights.specs.Rights.{Whose}
-use Rattle.ut_sound.specs.Fit.{ReadsWell}
+use Rattle.ut_sound.specs.Fit.{IsCaller, OfObjects, ReadsWell}
 use Rattle.ut_stands.specs.Layouts.{layout_of}
 use Rattle.ut_stands.specs.Local.{StandsIn}
 use Rattle.ut_stands.specs.Plan.{OrgPlan}
 use Rattle.ut_stands.specs.declared.fail.EditFail.{EditFail}
 use Rattle.ut_stands.specs.declared.layout.Layout.{Layout}
-use Rattle.ut_own.specs.Making.{IsLaidOut, StepsLaidOut, StepsOwn}
+use Rattle.ut_own.specs.Making.{IsLaidOut, NeverFails, StepsLaidOut, StepsOwn}
 use Rattle.ut_own.specs.Own.{refusal_of}
-use Rattle.ut_own.proofs.Keeping.{judged_is, named_is, record_keeps}
+use Rattle.ut_value.specs.Dates.{is_moment}
+use Rattle.ut_own.proofs.Keeping.{judged_is, named_is, record_fits, record_keeps}
 
 -- it is in the organisation with this number by its own
 pub ready_own : (l : Layout) → IsReady 1 l → IsReady l.org l
@@ -54,15 +57,16 @@ module _ (a : Asked) (name : List ℕ) (given : List Assignment) where
   layout_fresh q next t o (id, is) = ap (λ (p : OrgPlan). layout_of 1 p t o) (sym is)
 
   -- a record was made
-  pub laid_out : (now : ℕ) (before after : Tables) (l : Layout) (id : List ℕ) (laid : IsLaidOut now before name l a)
-      → EditsAt 1 (create a name given) (λ (id : List ℕ). made_new id) (PlansNew laid.owned.plan a.tenant) after (Ok id)
+  pub laid_out : (now : ℕ) (before after : Held InMemory) (l : Layout) (id : List ℕ) (laid : IsLaidOut now before name l a)
+      → EditsAt 1 (create a name given) (λ (id : List ℕ). made_new id) (PlansNew laid.owned.plan a.tenant) (tables_of memory_state after) (Ok id)
+      → NeverFails after
       → StepsLaidOut now after name l a (create a name given) (Ok None)
-  laid_out now before after l id laid (answer, (next, plans, stands)) =
+  laid_out now before after l id laid (answer, (next, plans, stands)) sure =
       let v = create a name given in
       let stays = object_stays laid.owned.plan laid.object l (laid.named, laid.layout) in (
         ap refusal_of answer,
         record {
-          owned = record { plan = next; stands = stands; users = record_keeps a name given ∙ laid.owned.users; user = laid.owned.user; moment = laid.owned.moment };
+          owned = record { plan = next; stands = stands; sure = sure; users = record_keeps a name given ∙ laid.owned.users; user = laid.owned.user; moment = laid.owned.moment };
           object = laid.object;
           named = stays.0;
           layout = stays.1 ∙ layout_fresh laid.owned.plan next v.tenant laid.object plans;
@@ -75,10 +79,10 @@ abbrev Named : Type 0
 Named = (t : Tenant) (name : List ℕ) (o : Numbered) → object_named t name ≡ Some o → object_numbered t o.number ≡ Some o.object
 
 -- by the object's layout, and by its name
-module _ (now : ℕ) (m : Tables) (name : List ℕ) (l : Layout) (a : Asked) (given : List Assignment) (laid : IsLaidOut now m name l a) (own : l.org ≡ 1) where
+module _ (now : ℕ) (d : Held InMemory) (name : List ℕ) (l : Layout) (a : Asked) (given : List Assignment) (laid : IsLaidOut now d name l a) (own : l.org ≡ 1) where
   pub decided_so : {whose : Whose} {user : List ℕ} {moment : ℤ} {found : List Found} (r : Result (Decided (List ℕ)) EditFail) → Named
       → IsGiving whose user moment (ReadsFound name found given) a → IsSound (create a name given).tenant
-      → ((o : Numbered) → StandsIn l.org laid.owned.plan m (Some a.tenant) → IsObject l.org laid.owned.plan a.tenant o l → IsAsker whose user moment a → ReadsWell a o.object given
+      → ((o : Numbered) → StandsIn l.org laid.owned.plan (tables_of memory_state d) (Some a.tenant) → IsObject l.org laid.owned.plan a.tenant o l → IsAsker whose user moment a → ReadsWell a o.object given
       → Finds a.tenant o.object None found given → IsSound (create_on a o None given).tenant
       → DecidesTo l.org laid.owned.plan a.tenant (create_on a o None given) (λ (id : List ℕ). made_new id) PlansNew r)
       → DecidesTo 1 laid.owned.plan a.tenant (create a name given) (λ (id : List ℕ). made_new id) PlansNew r
@@ -89,12 +93,25 @@ module _ (now : ℕ) (m : Tables) (name : List ℕ) (l : Layout) (a : Asked) (gi
       let read = its.reads o.number o.object at.there in
       let same = create_named a name o given laid.named in
       decides_same (λ (id : List ℕ). made_new id) 1 l.org q a.tenant (create_on a o None given) (create a name given) PlansNew r own same
-      (decides o (subst (λ (n : ℕ). StandsIn n q m (Some a.tenant)) (sym own) laid.owned.stands) at its.asker read.reads (read.finds o laid.named refl)
+      (decides o (subst (λ (n : ℕ). StandsIn n q (tables_of memory_state d) (Some a.tenant)) (sym own) laid.owned.stands) at its.asker read.reads (read.finds o laid.named refl)
       (subst (λ (v : Verdict). IsSound v.tenant) same sound))
+
+  -- the same of what a body in JSON gives
+  pub record_decided : {user : List ℕ} {moment : ℤ} (r : Result (Decided (List ℕ)) EditFail) → Named → user ≡ first_user → moment ≡ pos now → IsTrue (is_moment (pos now))
+      → ((b : Asked) (o : Object) → ReadsFound name [] given b o)
+      → (IsCaller a → OfObjects a (λ o. ReadsWell a o given) → IsSound a.tenant → IsSound (create a name given).tenant)
+      → ((o : Numbered) → StandsIn l.org laid.owned.plan (tables_of memory_state d) (Some a.tenant) → IsObject l.org laid.owned.plan a.tenant o l
+      → IsAsker (λ t u. u.admin ≡ true) user moment a → ReadsWell a o.object given
+      → Finds a.tenant o.object None [] given → IsSound (create_on a o None given).tenant
+      → DecidesTo l.org laid.owned.plan a.tenant (create_on a o None given) (λ (id : List ℕ). made_new id) PlansNew r)
+      → DecidesTo 1 laid.owned.plan a.tenant (create a name given) (λ (id : List ℕ). made_new id) PlansNew r
+  record_decided {user = user} {moment = moment} r law is at calendar reads sound decides =
+      let its = record_fits now d a user moment given laid.owned is at calendar reads in
+      decided_so r law its (sound its.caller (λ n o there. (its.reads n o there).reads) laid.owned.stands.sound) decides
 
 -- ---- the layout is read anew for each record
 
-pub step_owned_by : (now : ℕ) (after : Tables) (name : List ℕ) (l : Layout) (a : Asked) (v : Verdict) (r : Result (Option Refusal) StoreFail) → StepsLaidOut now after name l a v r → StepsOwn now after a v r
+pub step_owned_by : (now : ℕ) (after : Held InMemory) (name : List ℕ) (l : Layout) (a : Asked) (v : Verdict) (r : Result (Option Refusal) StoreFail) → StepsLaidOut now after name l a v r → StepsOwn now after a v r
 step_owned_by now after name l a v (Ok None) h = (h.0, h.1.owned)
 step_owned_by now after name l a v (Ok (Some why)) h = h
 step_owned_by now after name l a v (Err e) h = h

@@ -1,4 +1,5 @@
 mod Asked
 mod Keeping
 mod Laying
+mod Sure
 pub mod Fresh

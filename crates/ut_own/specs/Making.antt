@@ -1,7 +1,9 @@
 -- How far the organisation is made.
-use Rattle.std.specs.Prelude.{◌≡◌, ℕ, List, [], ◌∷◌, Option, Some, None, Result, Ok, Err, pos}
-use Rattle.ut_keeper.specs.Tables.{Tables}
+use Rattle.std.specs.Prelude.{◌≡◌, ℕ, List, [], ◌∷◌, IsTrue, Option, Some, None, Result, Ok, Err, pos}
+use Rattle.ut_keeper.specs.Draft.{Held, state_of, tables_of}
+use Rattle.ut_keeper.specs.Memory.{InMemory, memory_state}
 use Rattle.ut_keys.specs.declared.fail.StoreFail.{StoreFail}
+use Rattle.ut_keys.specs.declared.fail.StoreFail.TheVariants.{Memory}
 use Rattle.ut_model.specs.Creates.{create}
 use Rattle.ut_model.specs.Objects.{Numbered, object_named}
 use Rattle.ut_model.specs.Paths.{Asked}
@@ -14,41 +16,52 @@ use Rattle.ut_stands.specs.declared.layout.Layout.{Layout}
 use Rattle.ut_stands.specs.Plan.{OrgPlan}
 use Rattle.ut_own.specs.Own.{its_administrator, past, refusal_of}
 
--- the rows of the first organisation stand for the tenant of its administrator, who asks at this moment
-pub record IsOwned (now : ℕ) (m : Tables) (a : Asked) : Type 0 where
+-- no call of the draft's keeper fails
+abbrev pub NeverFails : Held InMemory → Type 0
+NeverFails d = IsTrue (state_of memory_state d).never_fails
+
+-- in this draft the rows of the first organisation stand for the tenant of its administrator, who asks at this moment, and no call of
+-- its keeper fails
+pub record IsOwned (now : ℕ) (d : Held InMemory) (a : Asked) : Type 0 where
   pub plan : OrgPlan
-  pub stands : StandsIn 1 plan m (Some a.tenant)
+  pub stands : StandsIn 1 plan (tables_of memory_state d) (Some a.tenant)
+  pub sure : NeverFails d
   pub users : a.tenant.users ≡ its_administrator ∷ []
   pub user : a.user ≡ its_administrator
   pub moment : a.now ≡ pos now
+
+-- it is so of what is returned; and where nothing is, memory is wanting
+abbrev pub OrMemory : {X : Type 0} → Result X StoreFail → (X → Type 0) → Type 0
+OrMemory (Ok x) holds = holds x
+OrMemory (Err e) holds = e ≡ Memory
 
 -- a verdict leaves the users
 abbrev pub KeepsUsers : Asked → Verdict → Type 0
 KeepsUsers a v = v.tenant.users ≡ a.tenant.users
 
 -- one verdict: it is refused, or the organisation is what it leaves
-abbrev pub StepsOwn : (now : ℕ) → (after : Tables) → Asked → Verdict → Result (Option Refusal) StoreFail → Type 0
+abbrev pub StepsOwn : (now : ℕ) → (after : Held InMemory) → Asked → Verdict → Result (Option Refusal) StoreFail → Type 0
 StepsOwn now after a v (Ok None) = (refusal_of v.answer ≡ None) × IsOwned now after (past a v)
 StepsOwn now after a v (Ok (Some why)) = refusal_of v.answer ≡ Some why
-StepsOwn now after a v (Err e) = Unit {0}
+StepsOwn now after a v (Err e) = e ≡ Memory
 
 -- ---- an object by its layout
 
 -- the same, and this is the layout of the object with this name
-pub record IsLaidOut (now : ℕ) (m : Tables) (name : List ℕ) (l : Layout) (a : Asked) : Type 0 where
-  pub owned : IsOwned now m a
+pub record IsLaidOut (now : ℕ) (d : Held InMemory) (name : List ℕ) (l : Layout) (a : Asked) : Type 0 where
+  pub owned : IsOwned now d a
   pub object : Numbered
   pub named : object_named a.tenant name ≡ Some object
   pub layout : l ≡ layout_of 1 owned.plan a.tenant object
 
 -- the layout of the object with this name; or there is none, and each record of it is refused so
-abbrev pub FindsObject : (now : ℕ) → Tables → (name : List ℕ) → Asked → Result (Result Layout Refusal) StoreFail → Type 0
-FindsObject now m name a (Ok (Ok l)) = IsLaidOut now m name l a
-FindsObject now m name a (Ok (Err why)) = (given : List Assignment) → refusal_of (create a name given).answer ≡ Some why
-FindsObject now m name a (Err e) = Unit {0}
+abbrev pub IsLayoutFound : (now : ℕ) → Held InMemory → (name : List ℕ) → Asked → Result (Result Layout Refusal) StoreFail → Type 0
+IsLayoutFound now d name a (Ok (Ok l)) = IsLaidOut now d name l a
+IsLayoutFound now d name a (Ok (Err why)) = (given : List Assignment) → refusal_of (create a name given).answer ≡ Some why
+IsLayoutFound now d name a (Err e) = e ≡ Memory
 
 -- one verdict that leaves the object as it was
-abbrev pub StepsLaidOut : (now : ℕ) → (after : Tables) → (name : List ℕ) → Layout → Asked → Verdict → Result (Option Refusal) StoreFail → Type 0
+abbrev pub StepsLaidOut : (now : ℕ) → (after : Held InMemory) → (name : List ℕ) → Layout → Asked → Verdict → Result (Option Refusal) StoreFail → Type 0
 StepsLaidOut now after name l a v (Ok None) = (refusal_of v.answer ≡ None) × IsLaidOut now after name l (past a v)
 StepsLaidOut now after name l a v (Ok (Some why)) = refusal_of v.answer ≡ Some why
-StepsLaidOut now after name l a v (Err e) = Unit {0}
+StepsLaidOut now after name l a v (Err e) = e ≡ Memory

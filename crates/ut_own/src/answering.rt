@@ -1,10 +1,8 @@
 //! The answer to a query in lines of CSV.
 
-ghost use Rattle.std.specs.Prelude.{◌≡◌, IfOk, IsTrue, Some, pos};
+ghost use Rattle.std.specs.Prelude.{◌≡◌, IsTrue, Some, pos, ℕ};
 ghost use Rattle.ut_query_rules.specs.Reaching.{Reaches};
-ghost use Rattle.ut_own.specs.Making.{IsOwned};
-ghost use Rattle.ut_keeper.specs.Draft.{tables_of};
-ghost use Rattle.ut_keeper.specs.Memory.{memory_state};
+ghost use Rattle.ut_own.specs.Making.{IsOwned, OrMemory};
 ghost use Rattle.ut_lines.specs.Lines.{query_lines};
 ghost use Rattle.ut_model.specs.Objects.{Numbered, object_named};
 ghost use Rattle.ut_model.specs.Paths.{Asked};
@@ -20,7 +18,7 @@ use ut_model::Refusal;
 use ut_query::Query;
 use ut_query_rules::is_flat;
 use ut_rights::Administrator;
-use ut_stands::{Layout, call_laws, layout_named, layouts};
+use ut_stands::{Layout, layout_named, layouts};
 use ut_value::Bytes;
 
 // The answer to a query of the layout's object, by the layouts of all objects or, where it is over one alone, by none.
@@ -33,12 +31,11 @@ fn answer_there(
     query: &Query,
 ) -> Result<Result<Bytes, Refusal>, StoreFail>
     requires { IsTrue (is_moment (pos now)) }
-    ensures lines { (a : Asked) → (made : IsOwned now (tables_of memory_state draft.old) a) → (o : Numbered)
+    ensures lines { (a : Asked) → (made : IsOwned now draft.old a) → (o : Numbered)
         → object_named a.tenant query.now.tail.from ≡ Some o → layout.now ≡ layout_of 1 made.plan a.tenant o
-        → Reaches 1 made.plan a.tenant layouts.now query.now → IfOk result (λ lines. lines ≡ query_lines a query.now) }
-    ensures same { tables_of memory_state draft.new ≡ tables_of memory_state draft.old }
+        → Reaches 1 made.plan a.tenant layouts.now query.now → OrMemory result (λ lines. lines ≡ query_lines a query.now) }
+    ensures kept { (at : ℕ) (a : Asked) → IsOwned at draft.old a → IsOwned at draft.new a }
 {
-    call_laws::<MemoryKeeper>();
     let all = &Administrator;
     answer_lines(alloc, draft, layouts, layout, all, all, moment(now), query)
 }
@@ -52,12 +49,11 @@ fn answer_over(
     query: &Query,
 ) -> Result<Result<Bytes, Refusal>, StoreFail>
     requires { IsTrue (is_moment (pos now)) }
-    ensures lines { (a : Asked) → (made : IsOwned now (tables_of memory_state draft.old) a) → (o : Numbered)
+    ensures lines { (a : Asked) → (made : IsOwned now draft.old a) → (o : Numbered)
         → object_named a.tenant query.now.tail.from ≡ Some o → layout.now ≡ layout_of 1 made.plan a.tenant o
-        → IfOk result (λ lines. lines ≡ query_lines a query.now) }
-    ensures same { tables_of memory_state draft.new ≡ tables_of memory_state draft.old }
+        → OrMemory result (λ lines. lines ≡ query_lines a query.now) }
+    ensures kept { (at : ℕ) (a : Asked) → IsOwned at draft.old a → IsOwned at draft.new a }
 {
-    call_laws::<MemoryKeeper>();
     if is_flat(query) {
         return answer_there(alloc, draft, &[], layout, now, query);
     }
@@ -80,11 +76,10 @@ pub fn answer(
     query: &Query,
 ) -> Result<Result<Bytes, Refusal>, StoreFail>
     requires { IsTrue (is_moment (pos now)) }
-    ensures lines { (a : Asked) → IsOwned now (tables_of memory_state draft.old) a
-        → IfOk result (λ lines. lines ≡ query_lines a query.now) }
-    ensures same { tables_of memory_state draft.new ≡ tables_of memory_state draft.old }
+    ensures lines { (a : Asked) → IsOwned now draft.old a
+        → OrMemory result (λ lines. lines ≡ query_lines a query.now) }
+    ensures kept { (at : ℕ) (a : Asked) → IsOwned at draft.old a → IsOwned at draft.new a }
 {
-    call_laws::<MemoryKeeper>();
     match layout_named(alloc, draft, ORG, query.tail.from.as_str()) {
         Ok(Some(layout)) => answer_over(alloc, draft, &layout, now, query),
         Ok(None) => match query.tail.from.copy(alloc) {

@@ -1,7 +1,7 @@
 //! The organisation, and one verdict after the other in it.
 
-ghost use Rattle.std.specs.Prelude.{◌≡◌, [], IfOk, IsTrue, OnOk, pos, ℕ};
-ghost use Rattle.ut_own.specs.Making.{IsOwned, KeepsUsers, StepsOwn};
+ghost use Rattle.std.specs.Prelude.{◌≡◌, [], IfOk, IsTrue, pos, ℕ};
+ghost use Rattle.ut_own.specs.Making.{IsOwned, KeepsUsers, NeverFails, OrMemory, StepsOwn};
 ghost use Rattle.ut_own.specs.Own.{asker, only_name};
 ghost use Rattle.ut_keeper.specs.Draft.{tables_of};
 ghost use Rattle.ut_keeper.specs.Memory.{memory_state};
@@ -53,8 +53,8 @@ pub fn only_name(alloc: Global) -> Result<Items<Text>, AllocError>
 ///
 /// `Memory` if out of memory. No call of this keeper fails.
 pub fn make_org(alloc: Global, draft: &mut Draft<'_, MemoryKeeper>) -> Result<(), StoreFail>
-    ensures { Stands (tables_of memory_state draft.old) [] → (now : ℕ)
-        → OnOk result (IsOwned now (tables_of memory_state draft.new) (asker (pos now))) }
+    ensures { Stands (tables_of memory_state draft.old) [] → NeverFails draft.old → (now : ℕ)
+        → OrMemory result (λ _. IsOwned now draft.new (asker (pos now))) }
 {
     local_laws();
     match add_org(alloc, draft, 0, ORG_NAME, ORG_SECRET) {
@@ -75,9 +75,9 @@ pub(crate) fn step<E: Edit>(
     draft: &mut Draft<'_, MemoryKeeper>,
     edit: &E,
 ) -> Result<Option<Refusal>, StoreFail>
-    ensures { (now : ℕ) (a : Asked) → IsOwned now (tables_of memory_state draft.old) a → E.fits edit.now a
+    ensures { (now : ℕ) (a : Asked) → IsOwned now draft.old a → E.fits edit.now a
         → KeepsUsers a (E.verdict edit.now a)
-        → StepsOwn now (tables_of memory_state draft.new) a (E.verdict edit.now a) result }
+        → StepsOwn now draft.new a (E.verdict edit.now a) result }
 {
     match make_edit(alloc, draft, ORG, edit) {
         Ok(_answer) => Ok(None),

@@ -2,19 +2,22 @@
 
 ghost use Rattle.std.specs.Prelude.{◌≡◌, IfOk, IsTrue, List, pos, ℕ};
 ghost use Rattle.std.specs.List.{list_all};
+ghost use Rattle.ut_edits.specs.Edits.{DecidesTo};
 ghost use Rattle.ut_given.specs.Given.{IsInJson};
-ghost use Rattle.ut_keeper.specs.Draft.{tables_of};
 ghost use Rattle.ut_keeper.specs.Memory.{memory_state};
 ghost use Rattle.ut_model.specs.Creates.{create};
 ghost use Rattle.ut_model.specs.Paths.{Asked};
+ghost use Rattle.ut_model.specs.Verdict.{made_new};
 ghost use Rattle.ut_named.specs.Usable.{IsReady};
-ghost use Rattle.ut_own.specs.Making.{FindsObject, IsLaidOut, IsOwned, StepsLaidOut, StepsOwn};
+ghost use Rattle.ut_own.specs.Making.{IsLayoutFound, IsLaidOut, IsOwned, StepsLaidOut, StepsOwn};
+ghost use Rattle.ut_records.specs.Creating.{PlansNew};
 ghost use Rattle.ut_sound.specs.Fit.{is_spelled};
+ghost use Rattle.ut_stands.specs.Calls.{Calls, ended_edit};
 ghost use Rattle.ut_value.specs.Dates.{is_moment};
 
 use crate::organisation::{ORG, moment};
 use std::alloc::Global;
-use ut_edits::make_changes;
+use ut_edits::{Decided, make_changes};
 use ut_given::{AllGiven, given_laws};
 use ut_keeper::{Draft, MemoryKeeper};
 use ut_keys::StoreFail;
@@ -23,8 +26,8 @@ use ut_named::ready_layout;
 use ut_records::decide_create;
 use ut_rights::Administrator;
 use ut_sound::{fit_laws, records_sound};
-use ut_stands::{EditFail, Layout, call_laws, local_laws};
-use ut_value::Text;
+use ut_stands::{EditFail, Layout, local_laws};
+use ut_value::{Id, Text};
 
 /// The layout of the object with this name, by which its records are made; or why each of them is refused.
 ///
@@ -37,15 +40,44 @@ pub fn ready_object(
     name: &Text,
 ) -> Result<Result<Layout, Refusal>, StoreFail>
     ensures ready { IfOk result (λ found. IfOk found (IsReady 1)) }
-    ensures found { (now : ℕ) (a : Asked) → IsOwned now (tables_of memory_state draft.old) a
-        → FindsObject now (tables_of memory_state draft.new) name.now a result }
+    ensures found { (now : ℕ) (a : Asked) → IsOwned now draft.old a
+        → IsLayoutFound now draft.new name.now a result }
 {
-    call_laws::<MemoryKeeper>();
     match ready_layout(alloc, draft, ORG, name) {
         Ok(layout) => Ok(Ok(layout)),
         Err(EditFail::Refused(refusal)) => Ok(Err(refusal)),
         Err(EditFail::Store(fail)) => Err(fail),
     }
+}
+
+// The changes by which a record of the object with this layout is made, or why it isn't.
+fn decide_record(
+    alloc: Global,
+    draft: &mut Draft<'_, MemoryKeeper>,
+    layout: &Layout,
+    now: u64,
+    given: &[Assignment],
+) -> Result<Decided<Id>, EditFail>
+    requires ready { IsReady 1 layout.now }
+    requires moment { IsTrue (is_moment (pos now)) }
+    requires spelled { IsTrue (list_all (λ x. is_spelled x.given) given.now) }
+    requires json { IsInJson given.now }
+    ensures decided { (name : List ℕ) (a : Asked) → (laid : IsLaidOut now draft.old name layout.now a)
+        → DecidesTo 1 laid.owned.plan a.tenant (create a name given.now) (λ (id : List ℕ). made_new id) PlansNew result }
+    ensures calls { Calls memory_state 168 (ended_edit result) draft.old draft.new }
+{
+    object_laws();
+    fit_laws();
+    given_laws();
+    records_sound();
+    let given = AllGiven {
+        body: given,
+        key: None,
+        found: &[],
+    };
+    let now = moment(now);
+    let user = first_user_id();
+    decide_create(alloc, draft, &Administrator, layout, user, now, &given)
 }
 
 /// Makes a record of the object with this layout, at this moment, or returns why it is refused. What is given is in JSON. The layout
@@ -65,29 +97,11 @@ pub fn make_record_of(
     requires moment { IsTrue (is_moment (pos now)) }
     requires spelled { IsTrue (list_all (λ x. is_spelled x.given) given.now) }
     requires json { IsInJson given.now }
-    ensures { (name : List ℕ) (a : Asked) → IsLaidOut now (tables_of memory_state draft.old) name layout.now a
-        → StepsLaidOut now (tables_of memory_state draft.new) name layout.now a (create a name given.now) result }
+    ensures { (name : List ℕ) (a : Asked) → IsLaidOut now draft.old name layout.now a
+        → StepsLaidOut now draft.new name layout.now a (create a name given.now) result }
 {
-    call_laws::<MemoryKeeper>();
     local_laws();
-    object_laws();
-    fit_laws();
-    given_laws();
-    records_sound();
-    let given = AllGiven {
-        body: given,
-        key: None,
-        found: &[],
-    };
-    match decide_create(
-        alloc,
-        draft,
-        &Administrator,
-        layout,
-        first_user_id(),
-        moment(now),
-        &given,
-    ) {
+    match decide_record(alloc, draft, layout, now, given) {
         Ok(decided) => match make_changes(alloc, draft, decided.changes) {
             Ok(()) => Ok(None),
             Err(_) => Err(StoreFail::Memory),
@@ -112,8 +126,8 @@ pub fn make_record(
     requires moment { IsTrue (is_moment (pos now)) }
     requires spelled { IsTrue (list_all (λ x. is_spelled x.given) given.now) }
     requires json { IsInJson given.now }
-    ensures { (a : Asked) → IsOwned now (tables_of memory_state draft.old) a
-        → StepsOwn now (tables_of memory_state draft.new) a (create a object.now given.now) result }
+    ensures { (a : Asked) → IsOwned now draft.old a
+        → StepsOwn now draft.new a (create a object.now given.now) result }
 {
     match ready_object(alloc, draft, object) {
         Ok(Ok(layout)) => make_record_of(alloc, draft, &layout, now, given),

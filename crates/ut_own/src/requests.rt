@@ -1,8 +1,6 @@
 //! What the administrator asks for: objects, fields, and the change of a field's type.
 
 ghost use Rattle.std.specs.Prelude.{◌≡◌, IsTrue, ℕ};
-ghost use Rattle.ut_keeper.specs.Draft.{tables_of};
-ghost use Rattle.ut_keeper.specs.Memory.{memory_state};
 ghost use Rattle.ut_model.specs.Metadata.{add_object};
 ghost use Rattle.ut_model.specs.NewFields.{add_field};
 ghost use Rattle.ut_model.specs.Paths.{Asked};
@@ -31,8 +29,8 @@ pub fn make_object(
     new: &NewObject,
 ) -> Result<Option<Refusal>, StoreFail>
     requires { IsTrue (is_fit_object new.now) }
-    ensures { (now : ℕ) (a : Asked) → IsOwned now (tables_of memory_state draft.old) a
-        → StepsOwn now (tables_of memory_state draft.new) a (add_object a.tenant new.now) result }
+    ensures { (now : ℕ) (a : Asked) → IsOwned now draft.old a
+        → StepsOwn now draft.new a (add_object a.tenant new.now) result }
 {
     step(alloc, draft, &AddObject { new })
 }
@@ -48,8 +46,8 @@ pub fn make_field(
     new: &NewField,
 ) -> Result<Option<Refusal>, StoreFail>
     requires { IsTrue (is_fit_field new.now) }
-    ensures { (now : ℕ) (a : Asked) → IsOwned now (tables_of memory_state draft.old) a
-        → StepsOwn now (tables_of memory_state draft.new) a (add_field a.tenant new.now) result }
+    ensures { (now : ℕ) (a : Asked) → IsOwned now draft.old a
+        → StepsOwn now draft.new a (add_field a.tenant new.now) result }
 {
     step(alloc, draft, &AddField { new })
 }
@@ -67,8 +65,8 @@ pub fn begin_change(
     kind: &SpelledType,
 ) -> Result<Option<Refusal>, StoreFail>
     requires { IsTrue (is_type (new_type kind.now)) }
-    ensures { (now : ℕ) (a : Asked) → IsOwned now (tables_of memory_state draft.old) a
-        → StepsOwn now (tables_of memory_state draft.new) a (begin_retype a.tenant object.now field.now kind.now) result }
+    ensures { (now : ℕ) (a : Asked) → IsOwned now draft.old a
+        → StepsOwn now draft.new a (begin_retype a.tenant object.now field.now kind.now) result }
 {
     let begin = BeginRetype {
         object,

@@ -1,4 +1,4 @@
-//! Whole scripts over one keeper in memory: a line is a JSON object that says what to run, and over what, and a run is
+//! Whole scripts over keepers in memory: a line is a JSON object that says what to run, and over what, and a run is
 //! answered by a JSON object.
 //!
 //! It depends on `platform` for `run`, on the objects in memory of `ut_io` and `ut_keeper`, on `ut_json`, and on the

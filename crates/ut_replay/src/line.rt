@@ -13,6 +13,7 @@ pub enum Name {
     Connections,
     ConnectionsHex,
     Moments,
+    Room,
     Failing,
     Rows,
     Note,
@@ -55,6 +56,7 @@ pub(crate) struct Run {
     pub(crate) stdin: Bytes,
     pub(crate) connections: Items<Bytes>,
     pub(crate) moments: Items<u64>,
+    pub(crate) room: usize,
     pub(crate) failing: Failing,
 }
 
@@ -63,7 +65,7 @@ pub(crate) struct Run {
 pub(crate) enum Line {
     /// A comment.
     Note,
-    /// The calls of the keeper that fail.
+    /// Another store, and the calls of its keeper that fail.
     Keeper(Items<u64>),
     /// Rows to put into the keeper as they are.
     Rows(Items<RawRow>),
@@ -90,8 +92,6 @@ pub enum Fault {
     Both(Name),
     /// This member has a value that isn't one of its values.
     Wrong(Name),
-    /// It says which calls of the keeper fail, and the keeper is in use.
-    NotFirst,
 }
 
 /// Why nothing was read.
@@ -119,6 +119,7 @@ impl Name {
             Name::Connections => "connections",
             Name::ConnectionsHex => "connectionsHex",
             Name::Moments => "moments",
+            Name::Room => "room",
             Name::Failing => "failing",
             Name::Rows => "rows",
             Name::Note => "note",
@@ -141,6 +142,7 @@ impl Name {
             Name::Connections => "must be a list of texts",
             Name::ConnectionsHex => { "must be a list of texts of hexadecimal digits, two a byte" }
             Name::Moments => "must be a list of whole numbers from 0 to 253402300799",
+            Name::Room => "must be a whole number from 0 to 1048576",
             Name::Failing => "must be an object",
             Name::Rows => "must be a list of objects",
             Name::Source | Name::Sink | Name::Door | Name::Keeper => {
@@ -179,7 +181,6 @@ impl fmt::Display for Fault {
                 let name = name.text();
                 write!(f, "member {name:?} {wanted}")
             }
-            Fault::NotFirst => f.write_str("the calls of the keeper that fail must come first"),
         }
     }
 }

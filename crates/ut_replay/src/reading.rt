@@ -15,13 +15,17 @@ use ut_value::Items;
 // 9999-12-31T23:59:59Z, in seconds from 1970-01-01T00:00:00Z.
 const LAST_MOMENT: u64 = 253_402_300_799;
 
-const RUN: [Name; 7] = [
+// So many bytes may be written to the sink at most.
+const MOST_ROOM: u64 = 1 << 20;
+
+const RUN: [Name; 8] = [
     Name::Words,
     Name::Stdin,
     Name::StdinHex,
     Name::Connections,
     Name::ConnectionsHex,
     Name::Moments,
+    Name::Room,
     Name::Failing,
 ];
 
@@ -45,6 +49,14 @@ fn failing(alloc: Global, members: &[Member]) -> Result<Failing, LineFail> {
     Ok(Failing { source, sink, door })
 }
 
+// How many bytes may be written to the sink.
+fn room(members: &[Member]) -> Result<usize, LineFail> {
+    match found(members, Name::Room.text()) {
+        Some(json) => Ok(number(json, Name::Room, MOST_ROOM)? as usize),
+        None => Ok(MOST_ROOM as usize),
+    }
+}
+
 fn run(alloc: Global, members: &[Member]) -> Result<Run, LineFail>
     ensures moments { IfOk result HasMoments }
 {
@@ -53,12 +65,14 @@ fn run(alloc: Global, members: &[Member]) -> Result<Run, LineFail>
     let stdin = bytes_at(alloc, members, Name::Stdin, Name::StdinHex)?;
     let connections = byte_list_at(alloc, members, Name::Connections, Name::ConnectionsHex)?;
     let moments = numbers_at(alloc, members, Name::Moments, LAST_MOMENT)?;
+    let room = room(members)?;
     let failing = failing(alloc, members)?;
     Ok(Run {
         words,
         stdin,
         connections,
         moments,
+        room,
         failing,
     })
 }
@@ -104,8 +118,8 @@ fn note(alloc: Global, members: &[Member]) -> Result<(), LineFail> {
     Ok(())
 }
 
-/// What a line says, by the member that is there: `words` something to run, `rows` rows, `failing` the keeper's failing
-/// calls, and `note` a comment.
+/// What a line says, by the member that is there: `words` something to run, `rows` rows, `failing` another store with the failing
+/// calls of its keeper, and `note` a comment.
 ///
 /// # Errors
 ///

@@ -1,4 +1,4 @@
-//! The lines in turn, over one keeper.
+//! The lines in turn, over the keeper of a store.
 
 ghost use Rattle.std.specs.Prelude.{IfOk};
 ghost use Rattle.ut_replay.specs.Lines.{HasMoments, MayRun};
@@ -14,7 +14,7 @@ use ut_json::{JsonFail, read};
 use ut_keeper::{Draft, KeepFail, MemoryKeeper};
 use ut_value::{Bytes, Items, Text};
 
-// So many bytes may be written to the sink, and as many to each connection.
+// So many bytes may be written to each connection.
 const ROOM: usize = 1 << 20;
 
 // The table of records.
@@ -126,11 +126,10 @@ fn read_text(alloc: Global, text: &str) -> Result<Line, End>
     }
 }
 
-/// The keeper that lasts, and whether a line has used it.
+/// The keeper of the store, which lasts until a line begins another.
 #[derive(Debug, Drop)]
 pub struct Replay {
     keeper: MemoryKeeper,
-    used: bool,
 }
 
 impl Replay {
@@ -138,23 +137,17 @@ impl Replay {
     pub fn new(alloc: Global) -> Result<Replay, AllocError> {
         Ok(Replay {
             keeper: MemoryKeeper::new(alloc, &[])?,
-            used: false,
         })
     }
 
-    // Begins anew with a keeper of which these calls fail.
-    fn begin(&mut self, alloc: Global, failing: &Items<u64>) -> Result<(), End> {
-        if self.used {
-            return Err(End::Fault(Fault::NotFirst));
-        }
-        self.used = true;
+    // Begins another store, which is empty, with a keeper of which these calls fail.
+    fn begin(&mut self, alloc: Global, failing: &Items<u64>) -> Result<(), AllocError> {
         self.keeper = MemoryKeeper::new(alloc, failing.as_slice())?;
         Ok(())
     }
 
     // Puts rows into the keeper as they are, each in a batch of its own.
     fn put(&mut self, alloc: Global, rows: &[RawRow]) -> Result<(), KeepFail> {
-        self.used = true;
         for row in rows {
             let key = Bytes::from_slice(alloc, row.key.as_slice())?;
             match &row.row {
@@ -169,7 +162,6 @@ impl Replay {
     fn run(&mut self, alloc: Global, given: &Run) -> Result<Bytes, End>
         requires { HasMoments given.now }
     {
-        self.used = true;
         let failing = &given.failing;
         let mut door = MemoryDoor::new(
             alloc,
@@ -182,7 +174,7 @@ impl Replay {
             given.stdin.as_slice(),
             failing.source.as_slice(),
         )?;
-        let mut sink = MemorySink::new(alloc, ROOM, failing.sink.as_slice())?;
+        let mut sink = MemorySink::new(alloc, given.room, failing.sink.as_slice())?;
         let mut clock = MemoryClock::new(alloc, given.moments.as_slice())?;
         let words = strings(alloc, given.words.as_slice())?;
         let counts = count_run(

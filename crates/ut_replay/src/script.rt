@@ -99,7 +99,8 @@ fn tell(rt: &HostRuntime, stop: &Stop) -> u8 {
     }
 }
 
-/// Does what each line of standard input says over one keeper in memory, and writes what it gives to standard output.
+/// Does what each line of standard input says, over a keeper in memory that lasts until a line begins another, and writes what it gives
+/// to standard output.
 ///
 /// # Errors
 ///

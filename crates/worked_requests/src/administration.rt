@@ -1,6 +1,6 @@
 //! Requests of the first administrator of organisation 1.
 
-ghost use Rattle.std.specs.Prelude.{◌≡◌, true};
+ghost use Rattle.std.specs.Prelude.{◌≡◌, IfOk, IfSome, true};
 ghost use Rattle.ut_admin.specs.Administration.{is_edit};
 
 use crate::line::first_of;
@@ -71,6 +71,15 @@ fn shown_reply(
     Ok(shown(alloc, &reply)?)
 }
 
+// What a request asks for, and its body.
+type Asked<'a> = Result<(Route, &'a str), AllocError>;
+
+// The object with which arguments begin, and the other arguments.
+fn object_in(alloc: Global, arguments: &str) -> Result<(Text, &str), AllocError> {
+    let (object, rest) = first_of(arguments);
+    Ok((Text::from_str(alloc, object)?, rest))
+}
+
 // The object with which arguments begin, the id or the unique field behind it, and the other arguments.
 fn record_in(alloc: Global, arguments: &str) -> Result<(Text, Text, &str), AllocError> {
     let (object, rest) = first_of(arguments);
@@ -80,46 +89,75 @@ fn record_in(alloc: Global, arguments: &str) -> Result<(Text, Text, &str), Alloc
     Ok((object, key, rest))
 }
 
-/// The status and the body of the reply to a request: of a new object, field or role, and of the beginning or the calling off of the
-/// change of a field's type its body, of another default access and of a new record the object and the body, of other values for a
-/// record the object, the record's id and the body, of an upsert the object, the unique field, the value and the body, and of a
-/// deletion the object, the record's id, and a body if it has one.
+fn access(alloc: Global, arguments: &str) -> Asked<'_>
+    ensures { IfOk result (λ asked. is_edit asked.0 ≡ true) }
+{
+    let (object, body) = object_in(alloc, arguments)?;
+    Ok((Route::SetObject { object }, body))
+}
+
+fn create(alloc: Global, arguments: &str) -> Asked<'_>
+    ensures { IfOk result (λ asked. is_edit asked.0 ≡ true) }
+{
+    let (object, body) = object_in(alloc, arguments)?;
+    Ok((Route::Create { object }, body))
+}
+
+fn update(alloc: Global, arguments: &str) -> Asked<'_>
+    ensures { IfOk result (λ asked. is_edit asked.0 ≡ true) }
+{
+    let (object, key, body) = record_in(alloc, arguments)?;
+    Ok((Route::Update { object, key }, body))
+}
+
+fn upsert(alloc: Global, arguments: &str) -> Asked<'_>
+    ensures { IfOk result (λ asked. is_edit asked.0 ≡ true) }
+{
+    let (object, key, rest) = record_in(alloc, arguments)?;
+    let (value, body) = first_of(rest);
+    let value = Text::from_str(alloc, value)?;
+    Ok((Route::Upsert { object, key, value }, body))
+}
+
+fn delete(alloc: Global, arguments: &str) -> Asked<'_>
+    ensures { IfOk result (λ asked. is_edit asked.0 ≡ true) }
+{
+    let (object, key, body) = record_in(alloc, arguments)?;
+    Ok((Route::Delete { object, key }, body))
+}
+
+// What a call asks for: of a new object, field or role, and of the beginning or the calling off of the change of a field's type, the
+// arguments are the body; of another default access and of a new record they are the object and the body, of other values for a record
+// the object, the record's id and the body, of an upsert the object, the unique field, the value and the body, and of a deletion the
+// object, the record's id, and a body if it has one.
+fn asked<'a>(alloc: Global, call: &str, arguments: &'a str) -> Option<Asked<'a>>
+    ensures { IfSome result (λ made. IfOk made (λ asked. is_edit asked.0 ≡ true)) }
+{
+    match call {
+        "object" => Some(Ok((Route::AddObject, arguments))),
+        "field" => Some(Ok((Route::AddField, arguments))),
+        "role" => Some(Ok((Route::AddRole, arguments))),
+        "retype" => Some(Ok((Route::BeginRetype, arguments))),
+        "cancel-retype" => Some(Ok((Route::CancelRetype, arguments))),
+        "access" => Some(access(alloc, arguments)),
+        "create" => Some(create(alloc, arguments)),
+        "update" => Some(update(alloc, arguments)),
+        "upsert" => Some(upsert(alloc, arguments)),
+        "delete" => Some(delete(alloc, arguments)),
+        _ => None,
+    }
+}
+
+/// The status and the body of the reply to a request.
 pub(crate) fn answer(
     alloc: Global,
     keeper: &mut MemoryKeeper,
     call: &str,
     arguments: &str,
 ) -> Result<String, StoreFail> {
-    match call {
-        "object" => shown_reply(alloc, keeper, &Route::AddObject, arguments),
-        "field" => shown_reply(alloc, keeper, &Route::AddField, arguments),
-        "role" => shown_reply(alloc, keeper, &Route::AddRole, arguments),
-        "retype" => shown_reply(alloc, keeper, &Route::BeginRetype, arguments),
-        "cancel-retype" => shown_reply(alloc, keeper, &Route::CancelRetype, arguments),
-        "access" => {
-            let (object, body) = first_of(arguments);
-            let object = Text::from_str(alloc, object)?;
-            shown_reply(alloc, keeper, &Route::SetObject { object }, body)
-        }
-        "create" => {
-            let (object, body) = first_of(arguments);
-            let object = Text::from_str(alloc, object)?;
-            shown_reply(alloc, keeper, &Route::Create { object }, body)
-        }
-        "update" => {
-            let (object, key, body) = record_in(alloc, arguments)?;
-            shown_reply(alloc, keeper, &Route::Update { object, key }, body)
-        }
-        "upsert" => {
-            let (object, key, rest) = record_in(alloc, arguments)?;
-            let (value, body) = first_of(rest);
-            let value = Text::from_str(alloc, value)?;
-            shown_reply(alloc, keeper, &Route::Upsert { object, key, value }, body)
-        }
-        "delete" => {
-            let (object, key, body) = record_in(alloc, arguments)?;
-            shown_reply(alloc, keeper, &Route::Delete { object, key }, body)
-        }
-        _ => Ok(String::from_str(alloc, "no such call")?),
+    match asked(alloc, call, arguments) {
+        Some(Ok((route, body))) => shown_reply(alloc, keeper, &route, body),
+        Some(Err(_)) => Err(StoreFail::Memory),
+        None => Ok(String::from_str(alloc, "no such call")?),
     }
 }

@@ -53,16 +53,29 @@ fn shown_row(
     hex::encode(alloc, row.as_slice())
 }
 
+// The row of the record that a row spells, over another row of it.
+fn row_again(
+    alloc: Global,
+    layout: &Layout,
+    row: &DataRow,
+    kept: Option<&DataRow>,
+) -> Result<String, CodecFail>
+    requires row { FitsForm data_form row.now }
+    requires kept { IfSome (option_map (λ row. row.now) kept) (FitsForm data_form) }
+{
+    if !has_types(layout) {
+        return Err(CodecFail::Damaged);
+    }
+    let item = record_within(alloc, layout, row)?;
+    Ok(shown_row(alloc, layout, &item, kept)?)
+}
+
 fn row_by(alloc: Global, layout: &Layout, arguments: &str) -> Result<String, CodecFail> {
     let (key, rest) = first_of(arguments);
     let (row, kept) = first_of(rest);
     let row = row_in(alloc, key, row)?;
     let kept = kept_in(alloc, key, kept)?;
-    if !has_types(layout) {
-        return Err(CodecFail::Damaged);
-    }
-    let item = record_within(alloc, layout, &row)?;
-    Ok(shown_row(alloc, layout, &item, kept.as_ref())?)
+    row_again(alloc, layout, &row, kept.as_ref())
 }
 
 /// The row of the record that a row spells: the key, the row, and another row that is kept there, or none.
@@ -116,19 +129,30 @@ fn shown_or_none(alloc: Global, found: Option<Record>) -> Result<String, AllocEr
     }
 }
 
+fn load_by(
+    alloc: Global,
+    draft: &mut Draft<'_, MemoryKeeper>,
+    layout: &Layout,
+    id: &Id,
+) -> Result<String, StoreFail> {
+    let found = load_record(alloc, draft, layout, id)?;
+    Ok(shown_or_none(alloc, found)?)
+}
+
 /// The record with an id.
 pub(crate) fn load(
     alloc: Global,
     keeper: &mut MemoryKeeper,
     id: &str,
 ) -> Result<String, StoreFail> {
-    let mut draft = Draft::new(alloc, keeper);
-    let layout = layout_at(alloc, &mut draft, 1, 0)?;
-    let (Some(layout), Some(id)) = (layout, Id::from_bytes(id.as_bytes())) else {
-        return Ok(String::from_str(alloc, "no object or no id")?);
+    let Some(id) = Id::from_bytes(id.as_bytes()) else {
+        return Ok(String::from_str(alloc, "no id")?);
     };
-    let found = load_record(alloc, &mut draft, &layout, &id)?;
-    Ok(shown_or_none(alloc, found)?)
+    let mut draft = Draft::new(alloc, keeper);
+    match layout_at(alloc, &mut draft, 1, 0)? {
+        Some(layout) => load_by(alloc, &mut draft, &layout, &id),
+        None => Ok(String::from_str(alloc, "no object")?),
+    }
 }
 
 /// Whether there is a record with an id.
@@ -155,6 +179,17 @@ fn joined(alloc: Global, records: &[Record]) -> Result<String, AllocError> {
     Ok(all)
 }
 
+fn walk_by(
+    alloc: Global,
+    draft: &mut Draft<'_, MemoryKeeper>,
+    layout: &Layout,
+    after: Option<&Id>,
+    limit: usize,
+) -> Result<String, StoreFail> {
+    let found = walk(alloc, draft, layout, after, limit)?;
+    Ok(joined(alloc, found.as_slice())?)
+}
+
 /// The records after an id, or the first of all: the id, and how many at most.
 pub(crate) fn after(
     alloc: Global,
@@ -166,10 +201,7 @@ pub(crate) fn after(
     let id = Id::from_bytes(id.as_bytes());
     let mut draft = Draft::new(alloc, keeper);
     match layout_at(alloc, &mut draft, 1, 0)? {
-        Some(layout) => {
-            let found = walk(alloc, &mut draft, &layout, id.as_ref(), limit)?;
-            Ok(joined(alloc, found.as_slice())?)
-        }
+        Some(layout) => walk_by(alloc, &mut draft, &layout, id.as_ref(), limit),
         None => Ok(String::from_str(alloc, "no object")?),
     }
 }

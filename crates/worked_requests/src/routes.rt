@@ -50,16 +50,26 @@ fn shown(alloc: Global, route: &Route) -> Result<String, AllocError> {
     Ok(shown)
 }
 
+// What a method and a target are routed to.
+fn routed(alloc: Global, method: &Method, target: &str) -> Result<Routed, AllocError> {
+    let routes = Routes::new(alloc)?;
+    routes.route(alloc, method, target)
+}
+
+fn shown_routed(alloc: Global, routed: &Routed) -> Result<String, AllocError> {
+    match routed {
+        Routed::To(route) => shown(alloc, route),
+        Routed::NotFound => String::from_str(alloc, "NotFound"),
+        Routed::NotAllowed => String::from_str(alloc, "NotAllowed"),
+    }
+}
+
 /// What a method and a target are routed to; what isn't a token is no method.
 pub(crate) fn found(alloc: Global, arguments: &str) -> Result<String, AllocError> {
     let (method, target) = first_of(arguments);
-    let Ok(method) = Method::from_bytes(alloc, method.as_bytes()) else {
-        return String::from_str(alloc, "no method");
-    };
-    match Routes::new(alloc)?.route(alloc, &method, target)? {
-        Routed::To(route) => shown(alloc, &route),
-        Routed::NotFound => String::from_str(alloc, "NotFound"),
-        Routed::NotAllowed => String::from_str(alloc, "NotAllowed"),
+    match Method::from_bytes(alloc, method.as_bytes()) {
+        Ok(method) => shown_routed(alloc, &routed(alloc, &method, target)?),
+        Err(_) => String::from_str(alloc, "no method"),
     }
 }
 

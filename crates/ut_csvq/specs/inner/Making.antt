@@ -1,23 +1,25 @@
 -- How far columns and rows are made.
 use Rattle.std.specs.Prelude.{◌≡◌, ℕ, Bool, List, ◌∷◌, Option, Some, None, Result, Ok, Err}
 use Rattle.std.specs.Str.{chars}
-use Rattle.ut_keeper.specs.Tables.{Tables}
+use Rattle.ut_keeper.specs.Draft.{Held}
+use Rattle.ut_keeper.specs.Memory.{InMemory}
 use Rattle.ut_keys.specs.declared.fail.StoreFail.{StoreFail}
+use Rattle.ut_keys.specs.declared.fail.StoreFail.TheVariants.{Memory}
 use Rattle.ut_model.specs.Paths.{Asked}
 use Rattle.ut_own.specs.Making.{IsOwned}
 use Rattle.ut_csvq.specs.Organisation.{with_columns}
 
 -- one cell of a heading: the organisation that is left, and whether `Name` was taken then; or it is no column
-abbrev pub Takes : (now : ℕ) → (after : Tables) → (named : Bool) → Asked → (cell : List ℕ) → Result (Option Bool) StoreFail → Type 0
+abbrev pub Takes : (now : ℕ) → (after : Held InMemory) → (named : Bool) → Asked → (cell : List ℕ) → Result (Option Bool) StoreFail → Type 0
 Takes now after named a cell (Ok (Some next)) =
     (b : Asked) × IsOwned now after b × ((cells : List (List ℕ)) → with_columns named a (cell ∷ cells) ≡ with_columns next b cells)
 Takes now after named a cell (Ok None) = (cells : List (List ℕ)) → with_columns named a (cell ∷ cells) ≡ Err (chars cell)
-Takes now after named a cell (Err e) = Unit {0}
+Takes now after named a cell (Err e) = e ≡ Memory
 
 -- several in turn: what is refused, or the organisation that is left
-abbrev pub Goes : {X : Type 0} → (now : ℕ) → (after : Tables) → Result Asked X → Result (Option X) StoreFail → Type 0
+abbrev pub Goes : {X : Type 0} → (now : ℕ) → (after : Held InMemory) → Result Asked X → Result (Option X) StoreFail → Type 0
 Goes now after (Ok b) (Ok None) = IsOwned now after b
 Goes now after (Err x) (Ok None) = ⊥
 Goes now after (Ok b) (Ok (Some y)) = ⊥
 Goes now after (Err x) (Ok (Some y)) = y ≡ x
-Goes now after made (Err e) = Unit {0}
+Goes now after made (Err e) = e ≡ Memory

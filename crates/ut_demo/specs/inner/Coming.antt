@@ -1,6 +1,8 @@
--- What a call comes to by its definition, unless the work on the tables stops.
+-- What a call comes to by its definition, unless memory is wanting.
 use Rattle.std.specs.Prelude.{◌≡◌, ℕ, Option, Some, None, Result, Ok, Err}
-use Rattle.ut_keeper.specs.Tables.{Tables}
+use Rattle.ut_keeper.specs.Draft.{Held}
+use Rattle.ut_keeper.specs.Memory.{InMemory}
+use Rattle.ut_keys.specs.declared.fail.StoreFail.TheVariants.{Memory}
 use Rattle.ut_model.specs.Paths.{Asked}
 use Rattle.ut_model.specs.declared.refusal.Refusal.{Refusal}
 use Rattle.ut_own.specs.Making.{IsOwned}
@@ -13,10 +15,10 @@ Comes Is (Ok x) (Ok y) = Is x y
 Comes Is (Err why) (Err (Refused refusal)) = refusal ≡ why
 Comes Is (Ok x) (Err (Refused refusal)) = ⊥
 Comes Is (Err why) (Ok y) = ⊥
-Comes Is due (Err (Store fail)) = Unit {0}
+Comes Is due (Err (Store fail)) = fail ≡ Memory
 
 -- the organisation is what it should be, in these tables
-abbrev pub Makes : (now : ℕ) → (after : Tables) → Result Asked Refusal → Result (Unit {0}) EditFail → Type 0
+abbrev pub Makes : (now : ℕ) → (after : Held InMemory) → Result Asked Refusal → Result (Unit {0}) EditFail → Type 0
 Makes now after made result = Comes (λ a done. IsOwned now after a) made result
 
 -- what is returned is what it should be

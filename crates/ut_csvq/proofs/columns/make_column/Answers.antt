@@ -1,7 +1,5 @@
 use Rattle.std.proofs.Common.{IsTrue, subst, sym}
 use Rattle.std.specs.Str.{chars}
-use Rattle.ut_keeper.specs.Draft.{tables_of}
-use Rattle.ut_keeper.specs.Memory.{memory_state}
 use Rattle.ut_model.specs.NewFields.{add_field}
 use Rattle.ut_model.specs.declared.metadata_bodies.NewField.{NewField}
 use Rattle.ut_own.specs.Making.{StepsOwn}
@@ -14,5 +12,5 @@ make_field-requires c = subst (λ (n : NewField). IsTrue (is_fit_field n)) (sym 
 
 pub returns : goal.returns
 returns c now a made =
-    subst (λ (n : NewField). StepsOwn now (tables_of memory_state c.make_field.new.draft) a (add_field a.tenant n) c.make_field.result) c.in_ok-new.ensures
+    subst (λ (n : NewField). StepsOwn now c.make_field.new.draft a (add_field a.tenant n) c.make_field.result) c.in_ok-new.ensures
     (c.make_field.ensures now a made)

@@ -1,7 +1,5 @@
 use Rattle.std.proofs.Common.{◌≡◌, ℕ, drop, false}
 use Rattle.csv.specs.Records.{fields_of}
-use Rattle.ut_keeper.specs.Draft.{tables_of}
-use Rattle.ut_keeper.specs.Memory.{memory_state}
 use Rattle.ut_model.specs.Paths.{Asked}
 use Rattle.ut_csvq.specs.Organisation.{with_columns}
 use Rattle.ut_own.specs.Making.{IsOwned}
@@ -9,6 +7,6 @@ use Rattle.ut_csvq.proofs.columns.make_columns.Given as goal
 
 abbrev pub invariant-loop-place : goal.invariant-loop-place
 invariant-loop-place l =
-    (now : ℕ) (a : Asked) → IsOwned now (tables_of memory_state l.fn.draft) a
-    → (b : Asked) × IsOwned now (tables_of memory_state l.draft) b
+    (now : ℕ) (a : Asked) → IsOwned now l.fn.draft a
+    → (b : Asked) × IsOwned now l.draft b
     × (with_columns l.named b (drop l.place (fields_of l.heading)) ≡ with_columns false a (fields_of l.heading))

@@ -3,7 +3,7 @@ use Rattle.csv.specs.Records.{Row, fields_of}
 use Rattle.ut_keeper.specs.Tables.{Tables}
 use Rattle.ut_stands.specs.Stands.{Stands}
 use Rattle.ut_csvq.specs.Outcomes.{table_outcome}
-use Rattle.ut_own.proofs.Fresh.{no_tables}
+use Rattle.ut_own.proofs.Fresh.{never_fails, no_tables}
 use Rattle.ut_csvq.proofs.Turns.{no_record}
 use Rattle.ut_csvq.proofs.input.answer_records.Goals as goal
 
@@ -13,4 +13,5 @@ returns-in_default c = no_record c.args.query.now c.args.now c.args.records.now 
 pub returns-in-Ok : goal.returns-in-Ok
 returns-in-Ok c =
     let stands = subst (λ (m : Tables). Stands m []) (sym (no_tables c.new-draft.result _ c.new-draft.ensures.empty c.new-draft.ensures.same c.in_ok-keeper.ensures.no_rows)) c.stands_laws.ensures.empty in
-    c.in-Ok.ensures stands ∙ ap (λ (rs : List Row). table_outcome c.args.query.now (pos c.args.now) (map fields_of rs)) (sym c.in-Some.ensures.cases.0)
+    let sure = never_fails c.new-draft.result _ c.new-draft.ensures.same c.in_ok-keeper.ensures.failing in
+    c.in-Ok.ensures stands sure ∙ ap (λ (rs : List Row). table_outcome c.args.query.now (pos c.args.now) (map fields_of rs)) (sym c.in-Some.ensures.cases.0)

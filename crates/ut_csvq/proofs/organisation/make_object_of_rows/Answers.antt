@@ -1,6 +1,4 @@
 use Rattle.std.proofs.Common.{IsTrue, subst, sym}
-use Rattle.ut_keeper.specs.Draft.{tables_of}
-use Rattle.ut_keeper.specs.Memory.{memory_state}
 use Rattle.ut_model.specs.Metadata.{add_object}
 use Rattle.ut_model.specs.declared.metadata_bodies.NewObject.{NewObject}
 use Rattle.ut_own.specs.Making.{StepsOwn}
@@ -13,5 +11,5 @@ make_object-requires c = subst (λ (n : NewObject). IsTrue (is_fit_object n)) (s
 
 pub returns : goal.returns
 returns c now a made =
-    subst (λ (n : NewObject). StepsOwn now (tables_of memory_state c.make_object.new.draft) a (add_object a.tenant n) c.make_object.result) c.in_ok-new.ensures
+    subst (λ (n : NewObject). StepsOwn now c.make_object.new.draft a (add_object a.tenant n) c.make_object.result) c.in_ok-new.ensures
     (c.make_object.ensures now a made)

@@ -1,8 +1,6 @@
 use Rattle.std.proofs.Common.{◌≡◌, ◌∙◌, List, IsTrue, subst, sym}
 use Rattle.std.specs.List.{list_all}
 use Rattle.csv.specs.Records.{fields_of}
-use Rattle.ut_keeper.specs.Draft.{tables_of}
-use Rattle.ut_keeper.specs.Memory.{memory_state}
 use Rattle.ut_given.specs.Given.{IsInJson}
 use Rattle.ut_model.specs.Creates.{create}
 use Rattle.ut_model.specs.declared.record_bodies.Assignment.{Assignment}
@@ -21,7 +19,7 @@ make_record_of-requires-clause-json c =
 
 pub returns : goal.returns
 returns c a laid =
-    let after = tables_of memory_state c.make_record_of.new.draft in
+    let after = c.make_record_of.new.draft in
     let is : c.as_slice.result.now ≡ given_of (fields_of c.args.heading.now) (fields_of c.args.row.now) = c.as_slice.ensures.value ∙ c.in_ok-given.ensures.same in
     subst (λ (g : List Assignment). StepsLaidOut c.args.now after object_name c.args.layout.now a (create a object_name g) c.make_record_of.result) is
     (c.make_record_of.ensures object_name a laid)

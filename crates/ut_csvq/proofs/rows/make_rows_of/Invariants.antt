@@ -1,7 +1,5 @@
 use Rattle.std.proofs.Common.{◌≡◌, ◌+◌, drop, map}
 use Rattle.csv.specs.Records.{fields_of}
-use Rattle.ut_keeper.specs.Draft.{tables_of}
-use Rattle.ut_keeper.specs.Memory.{memory_state}
 use Rattle.ut_model.specs.Paths.{Asked}
 use Rattle.ut_csvq.specs.Organisation.{object_name, with_rows}
 use Rattle.ut_own.specs.Making.{IsLaidOut}
@@ -9,6 +7,6 @@ use Rattle.ut_csvq.proofs.rows.make_rows_of.Given as goal
 
 abbrev pub invariant-loop-place : goal.invariant-loop-place
 invariant-loop-place l =
-    (a : Asked) → IsLaidOut l.now (tables_of memory_state l.fn.draft) object_name l.layout a
-    → (b : Asked) × IsLaidOut l.now (tables_of memory_state l.draft) object_name l.layout b
+    (a : Asked) → IsLaidOut l.now l.fn.draft object_name l.layout a
+    → (b : Asked) × IsLaidOut l.now l.draft object_name l.layout b
     × (with_rows (fields_of l.heading) (l.place + 1) b (map fields_of (drop l.place l.rows)) ≡ with_rows (fields_of l.heading) 1 a (map fields_of l.rows))

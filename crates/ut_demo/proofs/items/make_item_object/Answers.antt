@@ -1,12 +1,13 @@
 use Rattle.std.proofs.Common.{IsTrue, Ok, subst, sym}
-use Rattle.ut_keeper.specs.Draft.{tables_of}
-use Rattle.ut_keeper.specs.Memory.{memory_state}
 use Rattle.ut_model.specs.Metadata.{add_object}
 use Rattle.ut_model.specs.declared.metadata_bodies.NewObject.{NewObject}
 use Rattle.ut_own.specs.Making.{StepsOwn}
 use Rattle.ut_sound.specs.Fit.{is_fit_object}
 use Rattle.ut_demo.specs.Demos.{new_item}
 use Rattle.ut_demo.proofs.Coming.{item_fits, verdict_comes}
+use Rattle.ut_demo.specs.Demos.{comes_to}
+use Rattle.ut_demo.proofs.Coming.{stopped_on}
+use Rattle.ut_demo.proofs.Watching.{Owns}
 use Rattle.ut_demo.proofs.items.make_item_object.Goals as goal
 
 pub make_object-requires : goal.make_object-requires
@@ -14,6 +15,11 @@ make_object-requires c = subst (λ (n : NewObject). IsTrue (is_fit_object n)) (s
 
 pub returns : goal.returns
 returns c now a made =
-    let after = tables_of memory_state c.make_object.new.draft in
+    let after = c.make_object.new.draft in
     verdict_comes now after a (add_object a.tenant new_item) c.in_ok-refused.refused c.unless_refused.result
     (subst (λ (n : NewObject). StepsOwn now after a (add_object a.tenant n) (Ok c.in_ok-refused.refused)) c.in_ok-new.ensures (c.in_ok-refused.ensures now a made)) c.unless_refused.ensures
+
+pub returns-in_err-refused : goal.returns-in_err-refused
+returns-in_err-refused c now a made =
+    stopped_on (Owns now c.make_object.new.draft) (comes_to a (add_object a.tenant new_item)) c.from_residual-in_err-refused.result c.in_err-refused.field-0.0 (c.in_err-refused.ensures now a made)
+    c.from_residual-in_err-refused.ensures

@@ -1,6 +1,4 @@
 use Rattle.std.proofs.Common.{◌+◌, arith, refl, rules}
-use Rattle.ut_keeper.specs.Draft.{tables_of}
-use Rattle.ut_keeper.specs.Memory.{memory_state}
 use Rattle.ut_model.specs.Creates.{create}
 use Rattle.ut_model.specs.Paths.{Asked}
 use Rattle.ut_own.specs.Making.{IsOwned}
@@ -19,16 +17,16 @@ loop-place-preserved c a made =
     let place = c.loop-place.place in
     let so_far = c.loop-place.invariant a made in
     let b = so_far.0 in
-    let h = come_ok (λ (x : Asked) (u : Unit {0}). IsOwned now (tables_of memory_state c.make_item.new.draft) x) (comes_to b (create b item_object (given_amount (place + 1)))) tt (c.in_ok-make_item.ensures b so_far.2) in
+    let h = come_ok (λ (x : Asked) (u : Unit {0}). IsOwned now c.make_item.new.draft x) (comes_to b (create b item_object (given_amount (place + 1)))) tt (c.in_ok-make_item.ensures b so_far.2) in
     (h.0, items_next place a b so_far.1 h.0 h.1, h.2)
 
 pub returns-in_err-make_item : goal.returns-in_err-make_item
 returns-in_err-make_item c a made =
     let so_far = c.loop-place.invariant a made in
-    items_stop c.loop-place.place a so_far.0 so_far.1 c.args.now (tables_of memory_state c.make_item.new.draft) c.args.count (search rules)
+    items_stop c.loop-place.place a so_far.0 so_far.1 c.args.now c.make_item.new.draft c.args.count (search rules)
     c.from_residual-in_err-make_item.result c.in_err-make_item.field-0.0 c.from_residual-in_err-make_item.ensures (c.in_err-make_item.ensures so_far.0 so_far.2)
 
 pub returns : goal.returns
 returns c a made =
     let so_far = c.loop-place.invariant a made in
-    items_end c.args.now (tables_of memory_state c.loop-place.draft) c.loop-place.place c.args.count a so_far.0 so_far.1 (omega arith) so_far.2
+    items_end c.args.now c.loop-place.draft c.loop-place.place c.args.count a so_far.0 so_far.1 (omega arith) so_far.2

@@ -1,6 +1,4 @@
 use Rattle.std.proofs.Common.{◌≡◌, Ok}
-use Rattle.ut_keeper.specs.Draft.{tables_of}
-use Rattle.ut_keeper.specs.Memory.{memory_state}
 use Rattle.ut_model.specs.Paths.{Asked}
 use Rattle.ut_own.specs.Making.{IsOwned}
 use Rattle.ut_demo.specs.Demos.{repeats_from}
@@ -11,6 +9,6 @@ use Rattle.ut_demo.proofs.repeats.repeat.Given as goal
 abbrev pub invariant-loop-turn : goal.invariant-loop-turn
 invariant-loop-turn l = record {
   count : l.repeats.count ≡ l.turn;
-  so_far : (a : Asked) → IsOwned l.now (tables_of memory_state l.fn.draft) a
-      → (x : Asked × Repeats) × (repeats_from l.turn a ≡ Ok x) × HasSeen l.now (tables_of memory_state l.draft) x l.repeats;
+  so_far : (a : Asked) → IsOwned l.now l.fn.draft a
+      → (x : Asked × Repeats) × (repeats_from l.turn a ≡ Ok x) × HasSeen l.now l.draft x l.repeats;
 }

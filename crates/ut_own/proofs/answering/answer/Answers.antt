@@ -4,7 +4,8 @@ use Rattle.std.specs.Str.{chars}
 use Rattle.ut_model.specs.Objects.{object_named}
 use Rattle.ut_model.specs.declared.refusal.Refusal.TheVariants.{InvalidType}
 use Rattle.ut_stands.specs.Layouts.{layout_of, own_layout_named}
-use Rattle.ut_own.proofs.Asked.{found_at, none_at, nowhere, still_made}
+use Rattle.ut_own.proofs.Asked.{found_at, none_at, nowhere}
+use Rattle.ut_own.proofs.Sure.{found_sound, only_memory, read_owned}
 use Rattle.ut_own.proofs.answering.answer.Goals as goal
 
 pub returns-in-Ok-Some-clause-lines : goal.returns-in-Ok-Some-clause-lines
@@ -14,8 +15,7 @@ returns-in-Ok-Some-clause-lines c a made =
     let read = c.in-Ok-Some.ensures.finds (tt, refl) made.plan (Some a.tenant) made.stands in
     let at = found_at made.plan a.tenant (object_named a.tenant c.args.query.now.tail.from) c.in-Ok-Some.layout
     (sym c.in-Ok-Some.field-0-is ∙ read ∙ ap (λ (n : List ℕ). option_map (layout_of 1 made.plan a.tenant) (object_named a.tenant n)) name) in
-    let same = c.call_laws.ensures.tables 0 _ c.args.draft.now c.layout_named.new.draft c.in-Ok-Some.ensures.calls (tt, refl) in
-    c.answer_over.ensures.lines a (still_made _ _ _ a made same) at.0 at.1 at.2
+    c.answer_over.ensures.lines a (read_owned _ _ c.args.draft.now c.layout_named.new.draft c.args.now a c.in-Ok-Some.ensures.calls made) at.0 at.1 at.2
 
 pub returns-in-Ok-clause-lines : goal.returns-in-Ok-clause-lines
 unfolding own_layout_named
@@ -25,3 +25,17 @@ returns-in-Ok-clause-lines c a made =
     ap (λ (n : List ℕ). Err (InvalidType n)) c.in-Ok.ensures
     ∙ nowhere a c.args.query.now (none_at made.plan a.tenant (object_named a.tenant c.args.query.now.tail.from)
     (sym c.in-Ok-None.field-0-is ∙ read ∙ ap (λ (n : List ℕ). option_map (layout_of 1 made.plan a.tenant) (object_named a.tenant n)) name))
+
+pub returns-in-Ok-Some-clause-kept : goal.returns-in-Ok-Some-clause-kept
+returns-in-Ok-Some-clause-kept c at a made =
+    c.answer_over.ensures.kept at a (read_owned _ _ c.args.draft.now c.layout_named.new.draft at a c.in-Ok-Some.ensures.calls made)
+
+pub returns-in-Ok-clause-kept : goal.returns-in-Ok-clause-kept
+returns-in-Ok-clause-kept c at a made = read_owned _ _ c.args.draft.now c.layout_named.new.draft at a c.in-Ok-None.ensures.calls made
+
+pub returns-in-Err-clause-lines : goal.returns-in-Err-clause-lines
+returns-in-Err-clause-lines c a made =
+    only_memory c.in-Err.fail (c.in-Err.ensures.calls.cause.never made.sure) (found_sound (own_layout_named 1 (chars c.as_str.result.now)) 1 _ made.plan _ c.in-Err.fail (c.in-Err.ensures.finds (tt, refl)) made.stands)
+
+pub returns-in-Err-clause-kept : goal.returns-in-Err-clause-kept
+returns-in-Err-clause-kept c at a made = read_owned _ _ c.args.draft.now c.layout_named.new.draft at a c.in-Err.ensures.calls made

@@ -1,5 +1,6 @@
 use Rattle.std.proofs.Common.{◌∙◌, inl, inr, refl, sym}
-use Rattle.ut_own.proofs.Asked.{still_made}
+use Rattle.ut_stands.specs.Layouts.{own_layouts}
+use Rattle.ut_own.proofs.Sure.{found_sound, only_memory, read_owned}
 use Rattle.ut_own.proofs.answering.answer_over.Goals as goal
 
 pub returns-then-is_flat-clause-lines : goal.returns-then-is_flat-clause-lines
@@ -8,6 +9,17 @@ returns-then-is_flat-clause-lines c a made o named is =
 
 pub returns-in-Ok-clause-lines : goal.returns-in-Ok-clause-lines
 returns-in-Ok-clause-lines c a made o named is =
-    let same = c.call_laws.ensures.tables 0 _ c.args.draft.now c.layouts.new.draft c.in-Ok.ensures.calls (tt, refl) in
+    let then = read_owned _ _ c.args.draft.now c.layouts.new.draft c.args.now a c.in-Ok.ensures.calls made in
     let own = c.in-Ok.ensures.finds (tt, refl) made.plan _ made.stands in
-    c.answer_there-in-Ok.ensures.lines a (still_made _ _ _ a made same) o named is (inr (made.stands.sound, c.as_slice.ensures ∙ own))
+    c.answer_there-in-Ok.ensures.lines a then o named is (inr (made.stands.sound, c.as_slice.ensures ∙ own))
+
+pub returns-in-Ok-clause-kept : goal.returns-in-Ok-clause-kept
+returns-in-Ok-clause-kept c at a made =
+    c.answer_there-in-Ok.ensures.kept at a (read_owned _ _ c.args.draft.now c.layouts.new.draft at a c.in-Ok.ensures.calls made)
+
+pub returns-in-Err-clause-lines : goal.returns-in-Err-clause-lines
+returns-in-Err-clause-lines c a made o named is =
+    only_memory c.in-Err.fail (c.in-Err.ensures.calls.cause.never made.sure) (found_sound (own_layouts 1) 1 _ made.plan _ c.in-Err.fail (c.in-Err.ensures.finds (tt, refl)) made.stands)
+
+pub returns-in-Err-clause-kept : goal.returns-in-Err-clause-kept
+returns-in-Err-clause-kept c at a made = read_owned _ _ c.args.draft.now c.layouts.new.draft at a c.in-Err.ensures.calls made

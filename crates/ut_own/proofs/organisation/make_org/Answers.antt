@@ -1,13 +1,21 @@
 use Rattle.std.proofs.Common.{◌≡◌, [], ◌∷◌, Err, Ok, Result, ap, lit<, pos, refl, subst, sym, ℕ}
+use Rattle.sha2.specs.Sha256.{sha256}
+use Rattle.ut_keeper.specs.Tables.{Tables}
+use Rattle.ut_keys.specs.declared.fail.StoreFail.{StoreFail}
+use Rattle.ut_keys.specs.declared.fail.StoreFail.TheVariants.{Damaged, Keeper, Memory}
+use Rattle.ut_stands.specs.Fails.{KeeperFailsEdit}
+use Rattle.ut_stands.specs.Operations.{Edits}
+use Rattle.ut_stands.specs.declared.fail.EditFail.{EditFail}
+use Rattle.ut_stands.specs.declared.fail.EditFail.TheVariants.{Store}
 use Rattle.ut_keeper.specs.Draft.{tables_of}
 use Rattle.ut_keeper.specs.Memory.{memory_state}
-use Rattle.ut_model.specs.Organisations.{is_secret}
+use Rattle.ut_model.specs.Organisations.{is_secret, org_verdict}
 use Rattle.ut_model.specs.Sound.{is_name}
 use Rattle.ut_model.specs.World.{World}
 use Rattle.ut_model.specs.declared.refusal.Refusal.{Refusal}
 use Rattle.ut_stands.specs.Stands.{Stands}
 use Rattle.std.specs.Str.{chars}
-use Rattle.ut_own.specs.Own.{asker}
+use Rattle.ut_own.specs.Own.{asker, org_name, org_secret}
 use Rattle.ut_own.proofs.organisation.make_org.Goals as goal
 
 abbrev world_in : Result (ℕ × World) Refusal → World
@@ -23,9 +31,28 @@ unfolding is_secret
 add_org-requires-clause-secret c = refl
 
 pub returns-in-Ok : goal.returns-in-Ok
-returns-in-Ok c stands now =
+returns-in-Ok c stands sure now =
     let after = tables_of memory_state c.add_org.new.draft in
     let adds = c.in-Ok.ensures.adds (tt, refl) [] stands refl in
     let is : (asker (pos now)).tenant ∷ [] ≡ adds.0 = ap world_in adds.1 in
     let s = subst (λ (w : World). Stands after w) (sym is) adds.2 in
-    record { plan = s.0.org 1; stands = c.local_laws.ensures.each s.0 after ((asker (pos now)).tenant ∷ []) 1 (lit< tt) s.1; users = refl; user = refl; moment = refl }
+    record { plan = s.0.org 1; stands = c.local_laws.ensures.each s.0 after ((asker (pos now)).tenant ∷ []) 1 (lit< tt) s.1; sure = (c.in-Ok.ensures.works.reads.steps.sure sure).0; users = refl; user = refl; moment = refl }
+
+pub returns-in-Err-Store : goal.returns-in-Err-Store
+returns-in-Err-Store c stands sure now =
+    let is = c.in-Err-Store.field-0-is in
+    by (tables_of memory_state c.add_org.new.draft) c.in-Err-Store.fail (λ fell. c.in-Err-Store.ensures.cause.never sure (subst (λ (e : EditFail). KeeperFailsEdit {X = ℕ} (Err e)) (sym is) fell))
+    (subst (λ (e : EditFail). Edits {X = ℕ} (org_verdict org_name (sha256 org_secret)) [] (tables_of memory_state c.add_org.new.draft) (Err e)) is
+    (c.in-Err-Store.ensures.adds (tt, refl) [] stands refl))
+  where
+    by : (m : Tables) (fail : StoreFail) → (KeeperFailsEdit {X = ℕ} (Err (Store fail)) → ⊥) → Edits {X = ℕ} (org_verdict org_name (sha256 org_secret)) [] m (Err (Store fail)) → fail ≡ Memory
+    by m Keeper never edits = absurd (never refl)
+    by m Memory never edits = refl
+    by m Damaged never edits = absurd edits
+
+-- there is room for one
+pub returns : goal.returns
+returns c stands sure now =
+    let h = subst (λ (e : EditFail). Edits {X = ℕ} (org_verdict org_name (sha256 org_secret)) [] (tables_of memory_state c.add_org.new.draft) (Err e)) c.in-Err-Refused.field-0-is
+    (c.in-Err-Refused.ensures.adds (tt, refl) [] stands refl) in
+    absurd cc

@@ -1,11 +1,15 @@
 use Rattle.std.proofs.Common.{Ok, ap, refl}
-use Rattle.ut_keeper.specs.Draft.{tables_of}
-use Rattle.ut_keeper.specs.Memory.{memory_state}
 use Rattle.ut_own.proofs.Keeping.{step_owned}
+use Rattle.ut_own.proofs.Sure.{made_sure, only_memory}
 use Rattle.ut_own.proofs.stepping.make_step.Goals as goal
 
 pub returns-in-Ok : goal.returns-in-Ok
 returns-in-Ok c now a made =
-    step_owned now (tables_of memory_state c.args.draft.now) (tables_of memory_state c.step.new.draft) a (c.tenant_laws.ensures.users a.tenant) made c.in-Ok._made
+    step_owned now c.args.draft.now c.step.new.draft a (c.tenant_laws.ensures.users a.tenant) made
+    (made_sure _ _ c.args.draft.now c.step.new.draft _ _ c.in-Ok.ensures.drafts.makes made.sure) c.in-Ok._made
     ((c.in-Ok.ensures.what (tt, refl)).stepped made.plan a.tenant made.stands)
     (λ none. c.draft_laws.ensures.tables 0 c.args.draft.now c.step.new.draft (c.in-Ok.ensures.drafts.same (ap Ok none)) (tt, refl))
+
+pub returns-in-Err : goal.returns-in-Err
+returns-in-Err c now a made =
+    only_memory c.in-Err.fail (c.in-Err.ensures.drafts.makes.cause.never made.sure) ((c.in-Err.ensures.what (tt, refl)).stepped made.plan a.tenant made.stands)

@@ -19,7 +19,7 @@ fn said_of_words(alloc: Global, words: &str) -> Result<String, AllocError> {
 fn said_of_script(alloc: Global, script: &str) -> Result<String, AllocError> {
     let mut replay = Replay::new(alloc)?;
     for line in script.split(';') {
-        if let Err(end) = replay.line(alloc, line) {
+        if let Err(end) = replay.prepare(alloc, line) {
             return format!(in alloc; "{end}");
         }
     }

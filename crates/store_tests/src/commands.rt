@@ -23,6 +23,26 @@ fn shown(status: u8) -> &'static [u8] {
     }
 }
 
+// What a status is shown as, and what was written.
+fn text_of(alloc: Global, status: u8, written: &[u8]) -> Result<Vec<u8>, AllocError> {
+    let mut text = Vec::from_slice(alloc, shown(status))?;
+    text.extend_from_slice(written)?;
+    Ok(text)
+}
+
+// The status of words that are run over a keeper, this input and this output, without connections.
+fn status_of<K: Keeper>(
+    alloc: Global,
+    keeper: &mut K,
+    words: &[String],
+    source: &mut MemorySource,
+    sink: &mut MemorySink,
+) -> Result<u8, AllocError> {
+    let mut door = MemoryDoor::new(alloc, &[], 0, &[])?;
+    let mut clock = MemoryClock::new(alloc, &[])?;
+    Ok(run(alloc, words, keeper, &mut door, source, sink, &mut clock))
+}
+
 // How a run over a keeper ended, and what it wrote. `|` is between words.
 fn ran<K: Keeper>(
     alloc: Global,
@@ -31,22 +51,10 @@ fn ran<K: Keeper>(
     input: &[u8],
 ) -> Result<Vec<u8>, AllocError> {
     let words = words_of(alloc, words)?;
-    let mut door = MemoryDoor::new(alloc, &[], 0, &[])?;
     let mut source = MemorySource::new(alloc, input, &[])?;
     let mut sink = MemorySink::new(alloc, 1000, &[])?;
-    let mut clock = MemoryClock::new(alloc, &[])?;
-    let status = run(
-        alloc,
-        &words,
-        keeper,
-        &mut door,
-        &mut source,
-        &mut sink,
-        &mut clock,
-    );
-    let mut text = Vec::from_slice(alloc, shown(status))?;
-    text.extend_from_slice(sink.written())?;
-    Ok(text)
+    let status = status_of(alloc, keeper, &words, &mut source, &mut sink)?;
+    text_of(alloc, status, sink.written())
 }
 
 /// Adds two organisations, and gives how many were acknowledged.

@@ -18,42 +18,43 @@ fn visit_path(rt: HostRuntime, path: &str, key: u8) -> Result<Visit, AllocError>
     look_in(rt.alloc(), opener, second, &batch)
 }
 
-#[test]
-fn rows_are_found_again_on_a_path(rt: HostRuntime) -> Result<(), Fail> {
-    let _ = fs::remove_dir_all(&rt, "ut_sqlkeeper_test");
-    fs::create_dir(&rt, "ut_sqlkeeper_test")?;
-    for (key, rows) in [
-        (b'b', b"b=row ".as_slice()),
-        (b'a', b"a=row b=row ".as_slice()),
-    ] {
-        let found = visit_path(rt, "ut_sqlkeeper_test/rows.db", key)?;
-        assert_eq!(rt; found.rows.as_slice(), rows);
-        assert_eq!(rt; found.fault, None);
-        assert_eq!(rt; found.second, Some(DatabaseFault::Busy));
-    }
-    fs::remove_dir_all(&rt, "ut_sqlkeeper_test")?;
-    Ok(())
+// The rows, why the keeper failed, and why a second one wasn't opened meanwhile, with `|` between them.
+fn told_of(rt: HostRuntime, path: &str, key: u8) -> Result<String, AllocError> {
+    let found = visit_path(rt, path, key)?;
+    let rows = str::from_utf8(found.rows.as_slice()).unwrap_or("?");
+    let fault = found.fault;
+    let second = found.second;
+    format!(in rt.alloc(); "{rows}|{fault:?}|{second:?}")
 }
 
+// Paths in a folder that has a text, one after the other, with the key of a row that is set there, and what is told of them.
+const TOLD: [(&str, u8, &str); 6] = [
+    ("stores/rows.db", b'b', "b=row |None|Some(Busy)"),
+    ("stores/rows.db", b'a', "a=row b=row |None|Some(Busy)"),
+    ("stores", b'a', "failed|Some(CannotOpen)|Some(CannotOpen)"),
+    (
+        "stores/none/a.db",
+        b'a',
+        "failed|Some(CannotOpen)|Some(CannotOpen)",
+    ),
+    ("", b'a', "failed|Some(CannotOpen)|Some(CannotOpen)"),
+    (
+        "stores/text",
+        b'a',
+        "failed|Some(NotADatabase)|Some(NotADatabase)",
+    ),
+];
+
 #[test]
-fn a_path_that_is_no_database_is_named(rt: HostRuntime) -> Result<(), Fail> {
-    let _ = fs::remove_dir_all(&rt, "ut_sqlkeeper_paths");
-    fs::create_dir(&rt, "ut_sqlkeeper_paths")?;
-    fs::write(
-        &rt,
-        "ut_sqlkeeper_paths/text",
-        b"This is a text and no database.\n".as_slice(),
-    )?;
-    for (path, fault) in [
-        ("ut_sqlkeeper_paths", DatabaseFault::CannotOpen),
-        ("ut_sqlkeeper_paths/none/a.db", DatabaseFault::CannotOpen),
-        ("", DatabaseFault::CannotOpen),
-        ("ut_sqlkeeper_paths/text", DatabaseFault::NotADatabase),
-    ] {
-        let found = visit_path(rt, path, b'a')?;
-        assert_eq!(rt; found.rows.as_slice(), b"failed".as_slice());
-        assert_eq!(rt; found.fault, Some(fault), "at {path}");
+fn rows_are_found_again_on_a_path_and_faults_are_told(rt: HostRuntime) -> Result<(), Fail> {
+    let _ = fs::remove_dir_all(&rt, "stores");
+    fs::create_dir(&rt, "stores")?;
+    let text = b"This is a text and no database.\n".as_slice();
+    fs::write(&rt, "stores/text", text)?;
+    for (path, key, wanted) in TOLD {
+        let told = told_of(rt, path, key)?;
+        assert_eq!(rt; told.as_str(), wanted, "at {path}");
     }
-    fs::remove_dir_all(&rt, "ut_sqlkeeper_paths")?;
+    fs::remove_dir_all(&rt, "stores")?;
     Ok(())
 }

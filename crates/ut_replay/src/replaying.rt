@@ -189,6 +189,25 @@ impl Replay {
         Ok(report(alloc, counts, &sink, &door)?)
     }
 
+    // Does what a line says but for words that it runs.
+    fn change(&mut self, alloc: Global, line: &Line) -> Result<(), End> {
+        match line {
+            Line::Note | Line::Run(_) => Ok(()),
+            Line::Keeper(failing) => Ok(self.begin(alloc, failing)?),
+            Line::Rows(rows) => Ok(self.put(alloc, rows.as_slice())?),
+        }
+    }
+
+    /// Does what a line says but for words that it runs.
+    ///
+    /// # Errors
+    ///
+    /// If the line is the last.
+    pub fn prepare(&mut self, alloc: Global, text: &str) -> Result<(), End> {
+        let line = read_text(alloc, text)?;
+        self.change(alloc, &line)
+    }
+
     /// Does what a line says, and gives the line to write, if there is one.
     ///
     /// # Errors
@@ -197,15 +216,11 @@ impl Replay {
     pub fn line(&mut self, alloc: Global, text: &str) -> Result<Option<Bytes>, End> {
         match read_text(alloc, text)? {
             Line::Note => Ok(Some(Bytes::from_slice(alloc, text.as_bytes())?)),
-            Line::Keeper(failing) => {
-                self.begin(alloc, &failing)?;
-                Ok(None)
-            }
-            Line::Rows(rows) => {
-                self.put(alloc, rows.as_slice())?;
-                Ok(None)
-            }
             Line::Run(given) => Ok(Some(self.run(alloc, &given)?)),
+            other => {
+                self.change(alloc, &other)?;
+                Ok(None)
+            }
         }
     }
 }

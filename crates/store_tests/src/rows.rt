@@ -19,7 +19,7 @@ fn fill<K: Keeper>(alloc: Global, keeper: &mut K) -> Result<(), KeepFail> {
     Ok(())
 }
 
-// Tables between two keys, so many rows at most, and the rows of table 7 that are there.
+// The key to begin at, the key to end before, how many rows at most, and the rows of table 7 that are found.
 const SCANS: [(&[u8], &[u8], usize, &[u8]); 7] = [
     (b"", b"z", 9, b"a=one b=2 c=3 "),
     (b"", b"z", usize::MAX, b"a=one b=2 c=3 "),

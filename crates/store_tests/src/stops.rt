@@ -89,7 +89,7 @@ fn left_of(alloc: Global, mut files: Files<Stopping>) -> (Files<Stopping>, Files
     (kept, files)
 }
 
-// What two tasks find in the files, each as one of the crashes leaves them.
+// What a task finds in the files, as each of the two crashes leaves them.
 fn found_in(
     alloc: Global,
     files: Files<Stopping>,

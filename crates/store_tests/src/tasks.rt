@@ -25,7 +25,7 @@ pub(crate) enum Task {
 pub(crate) struct Outcome {
     /// So many changes were acknowledged.
     pub(crate) made: usize,
-    /// So many were refused, or weren't tried since the store wasn't opened.
+    /// So many were tried and not acknowledged.
     pub(crate) refused: usize,
     /// So many were found, or `None` if something else was.
     pub(crate) found: Option<usize>,

@@ -3,6 +3,8 @@
 ghost use Rattle.std.specs.Prelude.{◌≡◌, IsTrue, Some, pos, ℕ};
 ghost use Rattle.ut_query_rules.specs.Reaching.{Reaches};
 ghost use Rattle.ut_own.specs.Making.{IsOwned, OrMemory};
+ghost use Rattle.ut_keeper.specs.Draft.{tables_of};
+ghost use Rattle.ut_keeper.specs.Memory.{memory_state};
 ghost use Rattle.ut_lines.specs.Lines.{query_lines};
 ghost use Rattle.ut_model.specs.Objects.{Numbered, object_named};
 ghost use Rattle.ut_model.specs.Paths.{Asked};
@@ -35,6 +37,7 @@ fn answer_there(
         → object_named a.tenant query.now.tail.from ≡ Some o → layout.now ≡ layout_of 1 made.plan a.tenant o
         → Reaches 1 made.plan a.tenant layouts.now query.now → OrMemory result (λ lines. lines ≡ query_lines a query.now) }
     ensures kept { (at : ℕ) (a : Asked) → IsOwned at draft.old a → IsOwned at draft.new a }
+    ensures same { tables_of memory_state draft.new ≡ tables_of memory_state draft.old }
 {
     let all = &Administrator;
     answer_lines(alloc, draft, layouts, layout, all, all, moment(now), query)
@@ -53,6 +56,7 @@ fn answer_over(
         → object_named a.tenant query.now.tail.from ≡ Some o → layout.now ≡ layout_of 1 made.plan a.tenant o
         → OrMemory result (λ lines. lines ≡ query_lines a query.now) }
     ensures kept { (at : ℕ) (a : Asked) → IsOwned at draft.old a → IsOwned at draft.new a }
+    ensures same { tables_of memory_state draft.new ≡ tables_of memory_state draft.old }
 {
     if is_flat(query) {
         return answer_there(alloc, draft, &[], layout, now, query);
@@ -79,6 +83,7 @@ pub fn answer(
     ensures lines { (a : Asked) → IsOwned now draft.old a
         → OrMemory result (λ lines. lines ≡ query_lines a query.now) }
     ensures kept { (at : ℕ) (a : Asked) → IsOwned at draft.old a → IsOwned at draft.new a }
+    ensures same { tables_of memory_state draft.new ≡ tables_of memory_state draft.old }
 {
     match layout_named(alloc, draft, ORG, query.tail.from.as_str()) {
         Ok(Some(layout)) => answer_over(alloc, draft, &layout, now, query),

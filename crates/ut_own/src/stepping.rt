@@ -3,6 +3,8 @@
 ghost use Rattle.std.specs.Prelude.{◌≡◌, ℕ};
 ghost use Rattle.std.specs.Option.{option_map};
 ghost use Rattle.ut_own.specs.Making.{IsOwned, OrMemory};
+ghost use Rattle.ut_keeper.specs.Draft.{tables_of};
+ghost use Rattle.ut_keeper.specs.Memory.{memory_state};
 ghost use Rattle.ut_model.specs.Paths.{Asked};
 ghost use Rattle.ut_retype.specs.States.{state_in};
 ghost use Rattle.ut_step.specs.Step.{stepped};
@@ -43,6 +45,7 @@ pub fn change(
     ensures is { (now : ℕ) (a : Asked) → IsOwned now draft.old a
         → OrMemory result (λ change. change ≡ option_map (state_in a.tenant) a.tenant.job) }
     ensures kept { (now : ℕ) (a : Asked) → IsOwned now draft.old a → IsOwned now draft.new a }
+    ensures same { tables_of memory_state draft.new ≡ tables_of memory_state draft.old }
 {
     change_state(alloc, draft, ORG)
 }

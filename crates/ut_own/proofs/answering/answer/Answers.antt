@@ -5,7 +5,7 @@ use Rattle.ut_model.specs.Objects.{object_named}
 use Rattle.ut_model.specs.declared.refusal.Refusal.TheVariants.{InvalidType}
 use Rattle.ut_stands.specs.Layouts.{layout_of, own_layout_named}
 use Rattle.ut_own.proofs.Asked.{found_at, none_at, nowhere}
-use Rattle.ut_own.proofs.Sure.{found_sound, only_memory, read_owned}
+use Rattle.ut_own.proofs.Sure.{found_sound, only_memory, read_owned, read_same}
 use Rattle.ut_own.proofs.answering.answer.Goals as goal
 
 pub returns-in-Ok-Some-clause-lines : goal.returns-in-Ok-Some-clause-lines
@@ -39,3 +39,12 @@ returns-in-Err-clause-lines c a made =
 
 pub returns-in-Err-clause-kept : goal.returns-in-Err-clause-kept
 returns-in-Err-clause-kept c at a made = read_owned _ _ c.args.draft.now c.layout_named.new.draft at a c.in-Err.ensures.calls made
+
+pub returns-in-Ok-Some-clause-same : goal.returns-in-Ok-Some-clause-same
+returns-in-Ok-Some-clause-same c = c.answer_over.ensures.same ∙ read_same _ _ c.args.draft.now c.layout_named.new.draft c.in-Ok-Some.ensures.calls
+
+pub returns-in-Ok-clause-same : goal.returns-in-Ok-clause-same
+returns-in-Ok-clause-same c = read_same _ _ c.args.draft.now c.layout_named.new.draft c.in-Ok-None.ensures.calls
+
+pub returns-in-Err-clause-same : goal.returns-in-Err-clause-same
+returns-in-Err-clause-same c = read_same _ _ c.args.draft.now c.layout_named.new.draft c.in-Err.ensures.calls

@@ -1,6 +1,6 @@
 use Rattle.std.proofs.Common.{◌∙◌, inl, inr, refl, sym}
 use Rattle.ut_stands.specs.Layouts.{own_layouts}
-use Rattle.ut_own.proofs.Sure.{found_sound, only_memory, read_owned}
+use Rattle.ut_own.proofs.Sure.{found_sound, only_memory, read_owned, read_same}
 use Rattle.ut_own.proofs.answering.answer_over.Goals as goal
 
 pub returns-then-is_flat-clause-lines : goal.returns-then-is_flat-clause-lines
@@ -23,3 +23,9 @@ returns-in-Err-clause-lines c a made o named is =
 
 pub returns-in-Err-clause-kept : goal.returns-in-Err-clause-kept
 returns-in-Err-clause-kept c at a made = read_owned _ _ c.args.draft.now c.layouts.new.draft at a c.in-Err.ensures.calls made
+
+pub returns-in-Ok-clause-same : goal.returns-in-Ok-clause-same
+returns-in-Ok-clause-same c = c.answer_there-in-Ok.ensures.same ∙ read_same _ _ c.args.draft.now c.layouts.new.draft c.in-Ok.ensures.calls
+
+pub returns-in-Err-clause-same : goal.returns-in-Err-clause-same
+returns-in-Err-clause-same c = read_same _ _ c.args.draft.now c.layouts.new.draft c.in-Err.ensures.calls

@@ -2,7 +2,7 @@ use Rattle.std.proofs.Common.{◌∙◌, refl, rules, sym, w64}
 use Rattle.std.proofs.lemmas.Int.{to_z-of_z}
 use Rattle.std.specs.Prelude.{FitsSigned}
 use Rattle.ut_own.proofs.Asked.{is_asked, lines_are}
-use Rattle.ut_own.proofs.Sure.{read_owned}
+use Rattle.ut_own.proofs.Sure.{read_owned, read_same}
 use Rattle.ut_own.proofs.answering.answer_there.Goals as goal
 
 pub returns-clause-lines : goal.returns-clause-lines
@@ -15,3 +15,6 @@ returns-clause-lines c a made o named is reaches =
 
 pub returns-clause-kept : goal.returns-clause-kept
 returns-clause-kept c at a made = read_owned _ _ c.args.draft.now c.answer_lines.new.draft at a c.answer_lines.ensures.calls made
+
+pub returns-clause-same : goal.returns-clause-same
+returns-clause-same c = read_same _ _ c.args.draft.now c.answer_lines.new.draft c.answer_lines.ensures.calls

@@ -1,7 +1,7 @@
 use Rattle.std.proofs.Common.{Some, refl}
 use Rattle.std.specs.Option.{option_and_then, option_map}
 use Rattle.ut_retype.specs.States.{state_in}
-use Rattle.ut_own.proofs.Sure.{found_so, read_owned}
+use Rattle.ut_own.proofs.Sure.{found_so, read_owned, read_same}
 use Rattle.ut_own.proofs.stepping.change.Goals as goal
 
 pub returns-clause-is : goal.returns-clause-is
@@ -10,3 +10,6 @@ returns-clause-is c now a made =
 
 pub returns-clause-kept : goal.returns-clause-kept
 returns-clause-kept c now a made = read_owned _ _ c.args.draft.now c.change_state.new.draft now a c.change_state.ensures.calls made
+
+pub returns-clause-same : goal.returns-clause-same
+returns-clause-same c = read_same _ _ c.args.draft.now c.change_state.new.draft c.change_state.ensures.calls

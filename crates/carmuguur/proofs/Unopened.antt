@@ -1,7 +1,7 @@
 -- A file that couldn't be opened, of a command that uses the keeper.
 use Rattle.std.proofs.Common.{◌≡◌, ◌⊎◌, inl, inr, ℕ, true, Option, Some, None, refl, sym, subst}
 use Rattle.std.specs.Prelude.{◌↔◌, IfSome}
-use Rattle.ut_commands.specs.Commands.{Command, answers, csvq, demo, export, has_status, load, opens_in, org_add, prints, serves}
+use Rattle.commands.specs.Commands.{Command, answers, csvq, demo, export, has_status, load, opens_in, org_add, prints, serves}
 use Rattle.platform.specs.Promise.{IsStatus}
 use Rattle.carmuguur.specs.Status.{IsStatusOf}
 

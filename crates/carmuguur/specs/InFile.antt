@@ -1,11 +1,11 @@
 -- What a run over a file does, by what the file and its log held.
 use Rattle.std.specs.Prelude.{◌≡◌, ◌⊎◌, ℕ, Bool, true}
 use Rattle.sqlite_wal.specs.Recovery.{Image}
-use Rattle.ut_commands.specs.Commands.{Command}
+use Rattle.commands.specs.Commands.{Command}
 use Rattle.platform.specs.Promise.{Promise}
 use Rattle.platform.specs.Seen.{Seen}
-use Rattle.ut_files.specs.Files.{Finds}
-use Rattle.ut_keeper.specs.State.{KeeperState}
+use Rattle.store_file.specs.Files.{Finds}
+use Rattle.store_kv.specs.State.{KeeperState}
 
 -- the file couldn't be opened: door, source, sink and clock are as they were
 pub record IsUntouched {D S W C : Type 0} (door door2 : D) (source source2 : S) (sink sink2 : W) (clock clock2 : C) (status : ℕ) : Type 0 where

@@ -1,8 +1,8 @@
 //! What standard error says beside a run of `csvq` or `load`: where the input is refused, what a heading may be, and how far
 //! a load has come.
 
-use ut_hints::{CountedSink, KeptSource, Refused, place_of, refused_in};
-use ut_sqlkeeper::DatabaseFault;
+use cli_notes::{CountedSink, KeptSource, Refused, place_of, refused_in};
+use store_sqlite::DatabaseFault;
 
 // What the heading of the input of `csvq` may be.
 const CSVQ_HEADING: &str =

@@ -2,20 +2,20 @@
 
 ghost use Rattle.std.specs.Prelude.{◌≡◌, ◌⊎◌, ℕ, IfSome, map, string_bytes, true};
 ghost use Rattle.carmuguur.specs.InFile.{IsUntouched, RunsIn};
-ghost use Rattle.ut_commands.specs.Commands.{command_of, opens_in, used_by};
+ghost use Rattle.commands.specs.Commands.{command_of, opens_in, used_by};
 ghost use Rattle.platform.specs.Promise.{IsStatus, IsUnused};
 ghost use Rattle.platform.specs.Seen.{Seen};
 ghost use Rattle.sqlite_wal.specs.Files.{image_at};
-ghost use Rattle.ut_files.specs.Files.{LeavesIn};
-ghost use Rattle.ut_keeper.specs.State.{KeeperState};
+ghost use Rattle.store_file.specs.Files.{LeavesIn};
+ghost use Rattle.store_kv.specs.State.{KeeperState};
 
+use base_io::{Clock, Door, Sink, Source};
 use platform::run;
 use sqlite::{FileFrom, FileStore};
 use sqlite_disk::Disk;
-use ut_files::{Start, Unopened, close_file, open_file};
-use ut_io::{Clock, Door, Sink, Source};
-use ut_keeper::Keeper;
-use ut_sqlkeeper::{DatabaseFault, Ready, SqlKeeper};
+use store_file::{Start, Unopened, close_file, open_file};
+use store_kv::Keeper;
+use store_sqlite::{DatabaseFault, Ready, SqlKeeper};
 
 /// How a run over a file ended.
 #[derive(Clone, Copy, Debug)]

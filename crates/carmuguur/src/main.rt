@@ -3,8 +3,8 @@
 
 ghost use Rattle.carmuguur.specs.Status.{IsStatusOf};
 ghost use Rattle.std.specs.Prelude.{◌≡◌, ◌⊎◌, ◌↔◌, IfSome, IsNone, map, string_bytes, true};
-ghost use Rattle.ut_commands.specs.Commands.{command_of, opens_in};
-ghost use Rattle.ut_usage.specs.Lines.{IsCommandLine};
+ghost use Rattle.commands.specs.Commands.{command_of, opens_in};
+ghost use Rattle.cli_args.specs.Lines.{IsCommandLine};
 
 mod about;
 mod hints;
@@ -13,17 +13,17 @@ mod in_file;
 use crate::about::asked_text;
 use crate::hints::{Hinted, hinted_by, say_after, say_fault};
 use crate::in_file::{Ended, run_in_file};
+use base_io::{Clock, Door, Sink, Source, StdSink, StdSource, StoppableDoor, SystemClock, TcpDoor};
+use cli_args::{CommandLine, Mistake, read_line};
+use cli_notes::{CountedSink, KeptSource};
+use commands::uses_keeper;
 use platform::{run, run_laws};
 use std::alloc::Global;
 use std::env;
 use std::io::ErrorKind;
 use std::process::ExitCode;
-use ut_commands::uses_keeper;
-use ut_files::Unknown;
-use ut_hints::{CountedSink, KeptSource};
-use ut_io::{Clock, Door, Sink, Source, StdSink, StdSource, StoppableDoor, SystemClock, TcpDoor};
-use ut_keeper::MemoryKeeper;
-use ut_usage::{CommandLine, Mistake, read_line};
+use store_file::Unknown;
+use store_kv::MemoryKeeper;
 
 // The statuses that may come before a command runs, as `run` has them.
 const NO_COMMAND: u8 = 64;

@@ -1,26 +1,26 @@
 -- A run that serves connections, from the opening and what was served after it.
 use Rattle.std.proofs.Common.{◌≡◌, inr, ℕ, List, [], Some, Result, Ok, Err, refl, sym, ap, subst, ◌∙◌, append-nil, ◌≤◌, ◌∷◌, length, arith}
-use Rattle.ut_keeper.specs.State.{KeeperState}
-use Rattle.ut_keeper.specs.Tables.{Tables}
-use Rattle.ut_model.specs.World.{World, tenant_at}
-use Rattle.ut_keys.specs.declared.fail.StoreFail.TheVariants as store
-use Rattle.ut_stands.specs.Opening.{OpensAs}
-use Rattle.ut_stands.specs.Stands.{HasKnownVersion, HasUnknownVersion}
-use Rattle.ut_stands.specs.declared.fail.OpenFail.{OpenFail}
-use Rattle.ut_stands.specs.declared.fail.OpenFail.TheVariants as opening
-use Rattle.ut_serving.specs.Exchanges.{Exchange, LeavesBehind}
-use Rattle.ut_serving.specs.Senses.{Sense}
-use Rattle.ut_serving.specs.Turning.{Serves}
-use Rattle.ut_serving.specs.Connections.{AreServed, Connection, exchanges_of}
-use Rattle.ut_serving.specs.Doors.{BringsTo, ManyEnds}
-use Rattle.ut_serving.specs.Isolation.{asked_of, replies_of, replies_to}
-use Rattle.ut_io.specs.Doors.{DoorState}
-use Rattle.ut_io.specs.declared.traits.IoFail.{IoFail}
-use Rattle.ut_serving.specs.declared.wire.LineFail.{LineFail}
+use Rattle.store_kv.specs.State.{KeeperState}
+use Rattle.store_kv.specs.Tables.{Tables}
+use Rattle.model.specs.World.{World, tenant_at}
+use Rattle.store_rows.specs.declared.fail.StoreFail.TheVariants as store
+use Rattle.store_abstraction.specs.Opening.{OpensAs}
+use Rattle.store_abstraction.specs.Stands.{HasKnownVersion, HasUnknownVersion}
+use Rattle.store_abstraction.specs.declared.fail.OpenFail.{OpenFail}
+use Rattle.store_abstraction.specs.declared.fail.OpenFail.TheVariants as opening
+use Rattle.server.specs.Exchanges.{Exchange, LeavesBehind}
+use Rattle.server.specs.Senses.{Sense}
+use Rattle.server.specs.Turning.{Serves}
+use Rattle.server.specs.Connections.{AreServed, Connection, exchanges_of}
+use Rattle.server.specs.Doors.{BringsTo, ManyEnds}
+use Rattle.server.specs.Isolation.{asked_of, replies_of, replies_to}
+use Rattle.base_io.specs.Doors.{DoorState}
+use Rattle.base_io.specs.declared.traits.IoFail.{IoFail}
+use Rattle.server.specs.declared.wire.LineFail.{LineFail}
 use Rattle.platform.specs.Seen.{Seen}
 use Rattle.platform.specs.Serving.{IsOpening, OpensOnly, RunsAnswer, RunsServe, ServeEnds, answer_end, serve_end}
-use Rattle.ut_commands.specs.Stops.{of_opening}
-use Rattle.ut_commands.specs.declared.stop.Stop.{Stop}
+use Rattle.commands.specs.Stops.{of_opening}
+use Rattle.commands.specs.declared.stop.Stop.{Stop}
 
 pub opened_only : (sense : Sense) (w : World) (a b : Seen) (s : Stop) → IsOpening (Err s) → LeavesBehind sense w [] a.keeper b.keeper → b.door ≡ a.door → b.left ≡ a.left → b.written ≡ a.written → b.coming ≡ a.coming → IsOpening (Err s) × OpensOnly sense w a b
 opened_only sense w a b s is kept door left written coming = (is, record { kept = kept; door = door; left = left; written = written; coming = coming })

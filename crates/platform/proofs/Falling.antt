@@ -1,17 +1,17 @@
 -- A keeper that fell in the opening of the tables.
 use Rattle.std.proofs.Common.{◌≡◌, true, Err, refl, sym, subst}
-use Rattle.ut_keeper.specs.State.{IsSettled, KeeperState}
-use Rattle.ut_keeper.specs.Tables.{Tables}
-use Rattle.ut_keys.specs.declared.fail.StoreFail.TheVariants as store
-use Rattle.ut_model.specs.World.{World}
-use Rattle.ut_stands.specs.Stands.{Stands}
-use Rattle.ut_stands.specs.declared.fail.OpenFail.{OpenFail}
-use Rattle.ut_stands.specs.declared.fail.OpenFail.TheVariants as opening
-use Rattle.ut_commands.specs.Commands.{is_opening}
+use Rattle.store_kv.specs.State.{IsSettled, KeeperState}
+use Rattle.store_kv.specs.Tables.{Tables}
+use Rattle.store_rows.specs.declared.fail.StoreFail.TheVariants as store
+use Rattle.model.specs.World.{World}
+use Rattle.store_abstraction.specs.Stands.{Stands}
+use Rattle.store_abstraction.specs.declared.fail.OpenFail.{OpenFail}
+use Rattle.store_abstraction.specs.declared.fail.OpenFail.TheVariants as opening
+use Rattle.commands.specs.Commands.{is_opening}
 use Rattle.platform.specs.Falling.{FallsOpening}
 use Rattle.platform.specs.Run.{status_in}
-use Rattle.ut_commands.specs.Stops.{of_opening}
-use Rattle.ut_commands.specs.declared.stop.Stop.{Stop}
+use Rattle.commands.specs.Stops.{of_opening}
+use Rattle.commands.specs.declared.stop.Stop.{Stop}
 
 opens : (f : OpenFail) → is_opening (status_in (Err (of_opening f))) ≡ true
 opens opening.UnknownVersion = refl

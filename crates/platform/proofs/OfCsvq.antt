@@ -2,19 +2,19 @@
 use Rattle.std.proofs.Common.{◌≡◌, inl, inr, ℕ, true, List, Result, Ok, Err, refl, sym, ◌∙◌, arith}
 use Rattle.std.specs.Prelude.{IfOk, IsErrOf}
 use Rattle.std.specs.Io.KnownBytes.{IsAtEnd}
-use Rattle.ut_value.specs.Causes.{Cause}
-use Rattle.ut_io.specs.Moments.{AskedOnce, IsFirstMoment}
-use Rattle.ut_model.specs.World.{World}
-use Rattle.ut_commands.specs.Commands.{Command, csvq, has_status, may_write, printed, prints}
-use Rattle.ut_commands.specs.Csvq.{reads_input}
-use Rattle.ut_batches.specs.Batches.{first_moment}
-use Rattle.ut_commands.specs.Deeds.{Prints}
+use Rattle.base_value.specs.Causes.{Cause}
+use Rattle.base_io.specs.Moments.{AskedOnce, IsFirstMoment}
+use Rattle.model.specs.World.{World}
+use Rattle.commands.specs.Commands.{Command, csvq, has_status, may_write, printed, prints}
+use Rattle.commands.specs.Csvq.{reads_input}
+use Rattle.cmd_load.specs.Batches.{first_moment}
+use Rattle.commands.specs.Deeds.{Prints}
 use Rattle.platform.specs.Promise.{Promise}
 use Rattle.platform.specs.Run.{MayBe, status_in}
 use Rattle.platform.specs.Seen.{Seen}
-use Rattle.ut_commands.specs.Stops.{IsKnownStatus, csvq_end, is_done}
-use Rattle.ut_commands.specs.declared.printing.CsvqStop.{CsvqStop}
-use Rattle.ut_commands.specs.declared.printing.CsvqStop.TheVariants as csvq_stop
+use Rattle.commands.specs.Stops.{IsKnownStatus, csvq_end, is_done}
+use Rattle.commands.specs.declared.printing.CsvqStop.{CsvqStop}
+use Rattle.commands.specs.declared.printing.CsvqStop.TheVariants as csvq_stop
 use Rattle.platform.proofs.OfOwn.{moments_at, own_promise}
 use Rattle.platform.proofs.Runs.{caused}
 

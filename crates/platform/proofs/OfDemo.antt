@@ -1,18 +1,18 @@
 -- The promise of `run` for `demo`.
 use Rattle.std.proofs.Common.{◌≡◌, ℕ, true, List, [], Result, inl, refl, sym, subst}
 use Rattle.std.specs.Prelude.{IsErrOf}
-use Rattle.ut_value.specs.Causes.{Cause}
-use Rattle.ut_io.specs.Moments.{AskedOnce, IsFirstMoment}
-use Rattle.ut_model.specs.World.{World}
-use Rattle.ut_batches.specs.Batches.{first_moment}
-use Rattle.ut_commands.specs.Commands.{demo, has_status, printed, prints}
-use Rattle.ut_commands.specs.Deeds.{Prints}
+use Rattle.base_value.specs.Causes.{Cause}
+use Rattle.base_io.specs.Moments.{AskedOnce, IsFirstMoment}
+use Rattle.model.specs.World.{World}
+use Rattle.cmd_load.specs.Batches.{first_moment}
+use Rattle.commands.specs.Commands.{demo, has_status, printed, prints}
+use Rattle.commands.specs.Deeds.{Prints}
 use Rattle.platform.specs.Promise.{Promise}
 use Rattle.platform.specs.Run.{status_in}
 use Rattle.platform.specs.Seen.{Seen}
-use Rattle.ut_commands.specs.Stops.{IsKnownStatus}
-use Rattle.ut_commands.specs.declared.stop.Stop.{Stop}
-use Rattle.ut_commands.specs.declared.stop.Stop.TheVariants as stop
+use Rattle.commands.specs.Stops.{IsKnownStatus}
+use Rattle.commands.specs.declared.stop.Stop.{Stop}
+use Rattle.commands.specs.declared.stop.Stop.TheVariants as stop
 use Rattle.platform.proofs.OfOwn.{moments_at, own_promise}
 use Rattle.platform.proofs.Runs.{caused, is_73, not_own, quiet}
 

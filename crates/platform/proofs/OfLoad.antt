@@ -2,24 +2,24 @@
 use Rattle.std.proofs.Common.{◌≡◌, ◌⊎◌, inl, inr, ◌∙◌, ℕ, Bool, true, false, List, [], ◌∷◌, Option, Result, Ok, Err, refl, sym, ap, subst, arith}
 use Rattle.std.specs.Io.KnownBytes.{IsAtEnd}
 use Rattle.std.specs.Prelude.{◌==◌, ◌||◌, IsErrOf, is_ok}
-use Rattle.ut_value.specs.Causes.{Cause}
-use Rattle.ut_batches.specs.Batches.{MayTell}
-use Rattle.ut_keeper.specs.State.{KeeperCause, Shows, Steps, Tells, TrustedAfter}
-use Rattle.ut_keeper.specs.Tables.{Tables}
-use Rattle.ut_model.specs.Callers.{Named, named_by}
-use Rattle.ut_model.specs.World.{World}
-use Rattle.ut_serving.specs.Falls.{Fell}
-use Rattle.ut_stands.specs.Stands.{HasKnownVersion, HasUnknownVersion, Stands}
-use Rattle.ut_commands.specs.Commands.{Command, has_status, is_one_of, load, may_change, prints}
-use Rattle.ut_commands.specs.Deeds.{Prints}
-use Rattle.ut_commands.specs.Load.{load_printed}
-use Rattle.ut_commands.specs.Loading.{FallsBy, PrintsBy}
+use Rattle.base_value.specs.Causes.{Cause}
+use Rattle.cmd_load.specs.Batches.{MayTell}
+use Rattle.store_kv.specs.State.{KeeperCause, Shows, Steps, Tells, TrustedAfter}
+use Rattle.store_kv.specs.Tables.{Tables}
+use Rattle.model.specs.Callers.{Named, named_by}
+use Rattle.model.specs.World.{World}
+use Rattle.server.specs.Falls.{Fell}
+use Rattle.store_abstraction.specs.Stands.{HasKnownVersion, HasUnknownVersion, Stands}
+use Rattle.commands.specs.Commands.{Command, has_status, is_one_of, load, may_change, prints}
+use Rattle.commands.specs.Deeds.{Prints}
+use Rattle.commands.specs.Load.{load_printed}
+use Rattle.commands.specs.Loading.{FallsBy, PrintsBy}
 use Rattle.platform.specs.Promise.{Causes, Promise}
 use Rattle.platform.specs.Run.{IsWorldOf, KeepsWorld, MayBe, status_in}
 use Rattle.platform.specs.Seen.{Seen}
-use Rattle.ut_commands.specs.Stops.{IsKnownStatus, VersionStops}
-use Rattle.ut_commands.specs.declared.stop.Stop.{Stop}
-use Rattle.ut_commands.specs.declared.stop.Stop.TheVariants as stop
+use Rattle.commands.specs.Stops.{IsKnownStatus, VersionStops}
+use Rattle.commands.specs.declared.stop.Stop.{Stop}
+use Rattle.commands.specs.declared.stop.Stop.TheVariants as stop
 use Rattle.platform.proofs.Runs.{caused, is_72, is_73, is_74, keeper_caused, not_own, quiet, true_isnt_false, version_ends}
 
 -- ---- all of it

@@ -2,19 +2,19 @@
 use Rattle.std.proofs.Common.{◌≡◌, ◌≤◌, ℕ, Bool, true, false, IsTrue, List, [], ◌∷◌, Option, Some, None, Result, inr, nat_le, pos, refl, sym, ap, subst, ◌∙◌, arith}
 use Rattle.std.proofs.lemmas.Bool.Decides.{nat_tests}
 use Rattle.std.specs.Io.KnownBytes.{IsAtEnd}
-use Rattle.ut_value.specs.Causes.{Cause}
-use Rattle.ut_value.specs.Dates.{is_moment}
-use Rattle.ut_io.specs.Moments.{IsFirstMoment, last_moment}
-use Rattle.ut_keeper.specs.State.{KeeperState, Shows}
-use Rattle.ut_model.specs.World.{World}
-use Rattle.ut_serving.specs.Falls.{Fell}
-use Rattle.ut_batches.specs.Batches.{first_moment}
-use Rattle.ut_commands.specs.Commands.{Printing, has_status, printed, prints, uses}
-use Rattle.ut_commands.specs.Deeds.{Prints}
+use Rattle.base_value.specs.Causes.{Cause}
+use Rattle.base_value.specs.Dates.{is_moment}
+use Rattle.base_io.specs.Moments.{IsFirstMoment, last_moment}
+use Rattle.store_kv.specs.State.{KeeperState, Shows}
+use Rattle.model.specs.World.{World}
+use Rattle.server.specs.Falls.{Fell}
+use Rattle.cmd_load.specs.Batches.{first_moment}
+use Rattle.commands.specs.Commands.{Printing, has_status, printed, prints, uses}
+use Rattle.commands.specs.Deeds.{Prints}
 use Rattle.platform.specs.Promise.{Causes, Promise}
 use Rattle.platform.specs.Run.{AskedSo, KeepsIf, MayBe, status_in}
 use Rattle.platform.specs.Seen.{Seen}
-use Rattle.ut_commands.specs.declared.stop.Stop.{Stop}
+use Rattle.commands.specs.declared.stop.Stop.{Stop}
 use Rattle.platform.proofs.Runs.{not_own, quiet, true_isnt_false, untouched}
 
 -- what a clock returns is a moment of the calendar

@@ -1,21 +1,21 @@
 -- The promise of `run` for the commands that serve connections.
 use Rattle.std.proofs.Common.{◌≡◌, ◌⊎◌, inl, inr, ℕ, true, false, IsTrue, [], Result, Ok, Err, refl, sym, subst, ◌∙◌}
 use Rattle.std.specs.Prelude.{IfOk}
-use Rattle.ut_keeper.specs.State.{IsSettled, KeeperState, Shows, Tells}
-use Rattle.ut_keeper.specs.Tables.{Tables}
-use Rattle.ut_model.specs.World.{World}
-use Rattle.ut_serving.specs.Falls.{Fell}
-use Rattle.ut_serving.specs.Leads.{LeadsFrom, StandsReached}
-use Rattle.ut_serving.specs.Senses.{Sense, StandsAs, all_but, of_all}
-use Rattle.ut_stands.specs.Stands.{HasKnownVersion, HasUnknownVersion, Stands}
-use Rattle.ut_commands.specs.Commands.{Command, answers, has_status, is_opening, is_serving, may_change, may_write, prints, serves}
+use Rattle.store_kv.specs.State.{IsSettled, KeeperState, Shows, Tells}
+use Rattle.store_kv.specs.Tables.{Tables}
+use Rattle.model.specs.World.{World}
+use Rattle.server.specs.Falls.{Fell}
+use Rattle.server.specs.Leads.{LeadsFrom, StandsReached}
+use Rattle.server.specs.Senses.{Sense, StandsAs, all_but, of_all}
+use Rattle.store_abstraction.specs.Stands.{HasKnownVersion, HasUnknownVersion, Stands}
+use Rattle.commands.specs.Commands.{Command, answers, has_status, is_opening, is_serving, may_change, may_write, prints, serves}
 use Rattle.platform.specs.Falling.{CrashLeaves, FallsTold}
 use Rattle.platform.specs.Promise.{Causes, Promise}
 use Rattle.platform.specs.Run.{IsWorldOf, Runs, ServesAs, status_in}
 use Rattle.platform.specs.Seen.{Seen}
-use Rattle.ut_commands.specs.Stops.{VersionStops}
-use Rattle.ut_commands.specs.declared.stop.Stop.{Stop}
-use Rattle.ut_commands.specs.declared.stop.Stop.TheVariants.{Damaged, DoorFailed, KeeperFailed, NoMemory, SinkFailed, SourceFailed, UnknownVersion}
+use Rattle.commands.specs.Stops.{VersionStops}
+use Rattle.commands.specs.declared.stop.Stop.{Stop}
+use Rattle.commands.specs.declared.stop.Stop.TheVariants.{Damaged, DoorFailed, KeeperFailed, NoMemory, SinkFailed, SourceFailed, UnknownVersion}
 use Rattle.platform.proofs.Runs.{known_zero, true_isnt_false, version_ends}
 
 -- the world of a command that serves is told

@@ -2,22 +2,22 @@
 use Rattle.std.proofs.Common.{◌≡◌, ◌⊎◌, inl, inr, ℕ, Bool, true, false, IsTrue, List, [], ◌∷◌, Option, Result, Ok, Err, refl, sym, ap, subst, ◌∙◌, arith}
 use Rattle.std.specs.Io.KnownBytes.{Appends}
 use Rattle.std.specs.Prelude.{IfOk, IsErrOf}
-use Rattle.ut_value.specs.Causes.{Cause}
-use Rattle.ut_keeper.specs.State.{IsSettled, KeeperCause, Shows, Steps, Tells, TrustedAfter}
-use Rattle.ut_keeper.specs.Tables.{Tables}
-use Rattle.ut_model.specs.World.{World}
-use Rattle.ut_serving.specs.Falls.{Fell}
-use Rattle.ut_stands.specs.Stands.{HasKnownVersion, HasUnknownVersion, Stands}
-use Rattle.ut_commands.specs.Commands.{Asks, Command, Printing, Uses, has_status, is_one_of, may_write, printed, prints, table_changes, table_uses, uses}
-use Rattle.ut_commands.specs.Deeds.{CutShort, Printed, Prints, one_deed}
-use Rattle.ut_commands.specs.Printed.{PrintoutText}
+use Rattle.base_value.specs.Causes.{Cause}
+use Rattle.store_kv.specs.State.{IsSettled, KeeperCause, Shows, Steps, Tells, TrustedAfter}
+use Rattle.store_kv.specs.Tables.{Tables}
+use Rattle.model.specs.World.{World}
+use Rattle.server.specs.Falls.{Fell}
+use Rattle.store_abstraction.specs.Stands.{HasKnownVersion, HasUnknownVersion, Stands}
+use Rattle.commands.specs.Commands.{Asks, Command, Printing, Uses, has_status, is_one_of, may_write, printed, prints, table_changes, table_uses, uses}
+use Rattle.commands.specs.Deeds.{CutShort, Printed, Prints, one_deed}
+use Rattle.commands.specs.Printed.{PrintoutText}
 use Rattle.platform.specs.Promise.{Causes, Promise}
 use Rattle.platform.specs.Run.{AskedSo, IsWorldOf, KeepsIf, KeepsWorld, MayBe, status_in}
 use Rattle.platform.specs.Seen.{Seen}
-use Rattle.ut_commands.specs.Stops.{IsKnownStatus, VersionStops, behind, is_done, store_end}
-use Rattle.ut_commands.specs.declared.printing.StoreStop.{StoreStop}
-use Rattle.ut_commands.specs.declared.printing.StoreStop.TheVariants as storing
-use Rattle.ut_commands.proofs.Deeds.{nothing}
+use Rattle.commands.specs.Stops.{IsKnownStatus, VersionStops, behind, is_done, store_end}
+use Rattle.commands.specs.declared.printing.StoreStop.{StoreStop}
+use Rattle.commands.specs.declared.printing.StoreStop.TheVariants as storing
+use Rattle.commands.proofs.Deeds.{nothing}
 use Rattle.platform.proofs.Runs.{caused, keeper_caused, not_own, quiet, true_isnt_false, version_ends}
 
 -- ---- by the status

@@ -1,18 +1,18 @@
 -- What a status says, and what it is caused by, whatever the command.
 use Rattle.std.proofs.Common.{◌≡◌, ◌⊎◌, inl, inr, ℕ, Bool, true, false, not, ◌&&◌, Option, Some, None, Result, Ok, Err, refl, sym, ap, subst, ◌∙◌, arith}
 use Rattle.std.specs.Prelude.{IfOk, IfSome}
-use Rattle.ut_value.specs.Causes.{Cause}
-use Rattle.ut_keeper.specs.State.{KeeperCause, KeeperState, Steps}
-use Rattle.ut_keeper.specs.Tables.{Tables}
-use Rattle.ut_stands.specs.Stands.{HasKnownVersion, HasUnknownVersion}
-use Rattle.ut_commands.specs.Commands.{Command, has_status, used_by}
-pub use Rattle.ut_commands.proofs.Deeds.{true_isnt_false}
+use Rattle.base_value.specs.Causes.{Cause}
+use Rattle.store_kv.specs.State.{KeeperCause, KeeperState, Steps}
+use Rattle.store_kv.specs.Tables.{Tables}
+use Rattle.store_abstraction.specs.Stands.{HasKnownVersion, HasUnknownVersion}
+use Rattle.commands.specs.Commands.{Command, has_status, used_by}
+pub use Rattle.commands.proofs.Deeds.{true_isnt_false}
 use Rattle.platform.specs.Promise.{IsStatus, IsUnused, Promise}
 use Rattle.platform.specs.Run.{VersionEnds, status_in}
 use Rattle.platform.specs.Seen.{Seen}
-use Rattle.ut_commands.specs.Stops.{IsKnownStatus, VersionStops}
-use Rattle.ut_commands.specs.declared.stop.Stop.{Stop}
-use Rattle.ut_commands.specs.declared.stop.Stop.TheVariants.{Damaged, DoorFailed, KeeperFailed, NoMemory, SinkFailed, SourceFailed, UnknownVersion}
+use Rattle.commands.specs.Stops.{IsKnownStatus, VersionStops}
+use Rattle.commands.specs.declared.stop.Stop.{Stop}
+use Rattle.commands.specs.declared.stop.Stop.TheVariants.{Damaged, DoorFailed, KeeperFailed, NoMemory, SinkFailed, SourceFailed, UnknownVersion}
 
 -- ---- of these words
 

@@ -1,10 +1,10 @@
 -- What statuses tell by themselves.
 use Rattle.std.proofs.Common.{◌≡◌, ◌≢◌, ◌⊎◌, inl, inr, ℕ, Bool, true, false, List, [], ◌∷◌, Option, Some, None, refl, sym, subst, arith}
 use Rattle.std.specs.Prelude.{◌↔◌, ◌==◌, ◌||◌}
-use Rattle.ut_keeper.specs.Tables.{Tables}
-use Rattle.ut_model.specs.World.{World}
-use Rattle.ut_stands.specs.Stands.{HasKnownVersion, HasUnknownVersion, Stands}
-use Rattle.ut_commands.specs.Commands.{Command, answers, csvq, demo, export, has_status, is_one_of, is_serving, load, org_add, prints, serves, uses_of}
+use Rattle.store_kv.specs.Tables.{Tables}
+use Rattle.model.specs.World.{World}
+use Rattle.store_abstraction.specs.Stands.{HasKnownVersion, HasUnknownVersion, Stands}
+use Rattle.commands.specs.Commands.{Command, answers, csvq, demo, export, has_status, is_one_of, is_serving, load, org_add, prints, serves, uses_of}
 use Rattle.platform.specs.Promise.{IsStatus}
 use Rattle.platform.specs.Run.{VersionEnds}
 use Rattle.platform.proofs.Runs.{not_own, true_isnt_false}

@@ -1,14 +1,14 @@
 -- A run in which the keeper falls: what was done before, and what a crash leaves from then on.
 use Rattle.std.specs.Prelude.{◌≡◌, ◌⊎◌, ℕ, true, List, Some}
-use Rattle.ut_io.specs.Doors.{DoorState}
-use Rattle.ut_keeper.specs.State.{KeeperState}
-use Rattle.ut_keeper.specs.Tables.{Tables}
-use Rattle.ut_model.specs.World.{World}
-use Rattle.ut_serving.specs.Falls.{Falls, FallsBringing}
-use Rattle.ut_serving.specs.Leads.{StandsReached}
-use Rattle.ut_stands.specs.Stands.{Stands}
-use Rattle.ut_commands.specs.Commands.{Command, Printing, answers, is_opening, prints, printed, serves, uses}
-use Rattle.ut_commands.specs.Deeds.{CutShort}
+use Rattle.base_io.specs.Doors.{DoorState}
+use Rattle.store_kv.specs.State.{KeeperState}
+use Rattle.store_kv.specs.Tables.{Tables}
+use Rattle.model.specs.World.{World}
+use Rattle.server.specs.Falls.{Falls, FallsBringing}
+use Rattle.server.specs.Leads.{StandsReached}
+use Rattle.store_abstraction.specs.Stands.{Stands}
+use Rattle.commands.specs.Commands.{Command, Printing, answers, is_opening, prints, printed, serves, uses}
+use Rattle.commands.specs.Deeds.{CutShort}
 use Rattle.platform.specs.Run.{MayBe}
 use Rattle.platform.specs.Seen.{Seen}
 

@@ -1,17 +1,17 @@
 -- What `run` promises.
 use Rattle.std.specs.Prelude.{◌≡◌, ◌⊎◌, ℕ, ◌≤◌, Bool, true, false, IsTrue, Option, Some, None, Result}
-use Rattle.ut_value.specs.Causes.{Cause}
-use Rattle.ut_keeper.specs.State.{KeeperCause, Shows, Steps, Tells}
-use Rattle.ut_model.specs.World.{World}
-use Rattle.ut_serving.specs.Falls.{Fell}
-use Rattle.ut_serving.specs.Leads.{StandsReached}
-use Rattle.ut_serving.specs.Senses.{StandsBut, all_but}
-use Rattle.ut_stands.specs.Stands.{HasKnownVersion, Stands}
-use Rattle.ut_commands.specs.Commands.{Command, Used, has_status, is_serving, may_change, uses_of}
+use Rattle.base_value.specs.Causes.{Cause}
+use Rattle.store_kv.specs.State.{KeeperCause, Shows, Steps, Tells}
+use Rattle.model.specs.World.{World}
+use Rattle.server.specs.Falls.{Fell}
+use Rattle.server.specs.Leads.{StandsReached}
+use Rattle.server.specs.Senses.{StandsBut, all_but}
+use Rattle.store_abstraction.specs.Stands.{HasKnownVersion, Stands}
+use Rattle.commands.specs.Commands.{Command, Used, has_status, is_serving, may_change, uses_of}
 use Rattle.platform.specs.Falling.{Doubts}
 use Rattle.platform.specs.Run.{HasRead, IsWorldOf, Runs, ServesAs, VersionEnds, status_in}
 use Rattle.platform.specs.Seen.{Seen}
-use Rattle.ut_commands.specs.declared.stop.Stop.{Stop}
+use Rattle.commands.specs.declared.stop.Stop.{Stop}
 
 -- 64 exactly if the words are no command; else one of the command's own
 abbrev pub IsStatus : Option Command → ℕ → Type 0

@@ -1,18 +1,18 @@
 -- What a run does, from what is seen before and after it.
 use Rattle.std.specs.Prelude.{◌≡◌, ◌⊎◌, ℕ, Bool, true, false, List, Option, Result}
 use Rattle.std.specs.Io.KnownBytes.{IsAtEnd}
-use Rattle.ut_io.specs.Moments.{AskedOnce}
-use Rattle.ut_keeper.specs.State.{KeeperState, Tells}
-use Rattle.ut_keeper.specs.Tables.{Tables}
-use Rattle.ut_model.specs.World.{World}
-use Rattle.ut_serving.specs.Senses.{Sense, of_all}
-use Rattle.ut_stands.specs.Stands.{HasKnownVersion, HasUnknownVersion, Stands}
-use Rattle.ut_commands.specs.Commands.{Asks, Command, answers, each, never, once, prints, printed, serves, uses, uses_of}
-use Rattle.ut_commands.specs.Deeds.{Prints}
-pub use Rattle.ut_commands.specs.Statuses.{KeepsWorld, MayBe, status_in, stop_status}
+use Rattle.base_io.specs.Moments.{AskedOnce}
+use Rattle.store_kv.specs.State.{KeeperState, Tells}
+use Rattle.store_kv.specs.Tables.{Tables}
+use Rattle.model.specs.World.{World}
+use Rattle.server.specs.Senses.{Sense, of_all}
+use Rattle.store_abstraction.specs.Stands.{HasKnownVersion, HasUnknownVersion, Stands}
+use Rattle.commands.specs.Commands.{Asks, Command, answers, each, never, once, prints, printed, serves, uses, uses_of}
+use Rattle.commands.specs.Deeds.{Prints}
+pub use Rattle.commands.specs.Statuses.{KeepsWorld, MayBe, status_in, stop_status}
 use Rattle.platform.specs.Seen.{Seen}
 use Rattle.platform.specs.Serving.{RunsAnswer, RunsServe}
-use Rattle.ut_commands.specs.declared.stop.Stop.{Stop}
+use Rattle.commands.specs.declared.stop.Stop.{Stop}
 
 -- ---- what is handed in
 

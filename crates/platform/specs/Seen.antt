@@ -1,7 +1,7 @@
 -- What is seen of all that is handed in to a run, at one moment.
 use Rattle.std.specs.Prelude.{ℕ, List, Option}
-use Rattle.ut_io.specs.Doors.{DoorState}
-use Rattle.ut_keeper.specs.State.{KeeperState}
+use Rattle.base_io.specs.Doors.{DoorState}
+use Rattle.store_kv.specs.State.{KeeperState}
 
 pub record Seen : Type 1 where
   pub keeper : KeeperState

@@ -1,19 +1,19 @@
 -- What a run does that serves connections.
 use Rattle.std.specs.Prelude.{◌≡◌, ◌⊎◌, ℕ, ◌<◌, ◌≤◌, List, [], ◌∷◌, ◌++◌, length, Some, Result, Ok, Err}
 use Rattle.std.specs.Io.KnownBytes.{Appends}
-use Rattle.ut_value.specs.Causes.{RoseBy}
-use Rattle.ut_io.specs.Doors.{DoorState, outputs}
-use Rattle.ut_io.specs.declared.traits.IoFail.{IoFail}
-use Rattle.ut_model.specs.World.{World, tenant_at}
-use Rattle.ut_serving.specs.Connections.{Connection, AreServed, end_of, exchanges_of, faulted, inputs_of, outputs_of}
-use Rattle.ut_serving.specs.Exchanges.{Exchange, LeavesBehind}
-use Rattle.ut_serving.specs.Isolation.{asked_of, replies_of, replies_to}
-use Rattle.ut_serving.specs.Senses.{Sense}
-use Rattle.ut_serving.specs.declared.wire.LineFail.{LineFail}
-use Rattle.ut_serving.specs.declared.wire.LineFail.TheVariants.{Read, Write}
+use Rattle.base_value.specs.Causes.{RoseBy}
+use Rattle.base_io.specs.Doors.{DoorState, outputs}
+use Rattle.base_io.specs.declared.traits.IoFail.{IoFail}
+use Rattle.model.specs.World.{World, tenant_at}
+use Rattle.server.specs.Connections.{Connection, AreServed, end_of, exchanges_of, faulted, inputs_of, outputs_of}
+use Rattle.server.specs.Exchanges.{Exchange, LeavesBehind}
+use Rattle.server.specs.Isolation.{asked_of, replies_of, replies_to}
+use Rattle.server.specs.Senses.{Sense}
+use Rattle.server.specs.declared.wire.LineFail.{LineFail}
+use Rattle.server.specs.declared.wire.LineFail.TheVariants.{Read, Write}
 use Rattle.platform.specs.Seen.{Seen}
-use Rattle.ut_commands.specs.declared.stop.Stop.{Stop}
-use Rattle.ut_commands.specs.declared.stop.Stop.TheVariants as stop
+use Rattle.commands.specs.declared.stop.Stop.{Stop}
+use Rattle.commands.specs.declared.stop.Stop.TheVariants as stop
 
 -- the replies to one organisation's requests are those to these requests alone, from any world that has the same organisation
 abbrev pub IsIsolated : World → List Exchange → Type 0

@@ -1,17 +1,17 @@
 ghost use Rattle.std.specs.Prelude.{◌≡◌, ◌≢◌, ◌⊎◌, ◌↔◌, ℕ, [], ◌∷◌, Option, None, Some, codes, true};
 ghost use Rattle.sha2.specs.Sha256.{sha256};
-ghost use Rattle.ut_keeper.specs.Tables.{Tables};
-ghost use Rattle.ut_model.specs.Organisations.{with_org};
-ghost use Rattle.ut_model.specs.World.{World};
-ghost use Rattle.ut_stands.specs.Stands.{Stands};
-ghost use Rattle.ut_commands.specs.Commands.{Command, command_of, csvq, has_status, is_serving, org_add, printed, serves};
-ghost use Rattle.ut_commands.specs.Deeds.{one_deed};
+ghost use Rattle.store_kv.specs.Tables.{Tables};
+ghost use Rattle.model.specs.Organisations.{with_org};
+ghost use Rattle.model.specs.World.{World};
+ghost use Rattle.store_abstraction.specs.Stands.{Stands};
+ghost use Rattle.commands.specs.Commands.{Command, command_of, csvq, has_status, is_serving, org_add, printed, serves};
+ghost use Rattle.commands.specs.Deeds.{one_deed};
 ghost use Rattle.platform.specs.Promise.{IsStatus};
 ghost use Rattle.platform.specs.Run.{VersionEnds};
 
-use ut_stands::stands_laws;
+use store_abstraction::stands_laws;
 
-/// What commands print, worked by hand. Of `csvq`: a query that ends early; `csvq_rows` of `ut_csvq` has more.
+/// What commands print, worked by hand. Of `csvq`: a query that ends early; `csvq_rows` of `cmd_csvq` has more.
 /// Of `org-add`: the first organisation, the second, a name and a
 /// secret that are refused, which leave the world as it is.
 pub fn printed_rows()

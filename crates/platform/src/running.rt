@@ -1,18 +1,18 @@
 ghost use Rattle.std.specs.Prelude.{◌≡◌, IfSome, map, string_bytes};
-ghost use Rattle.ut_commands.specs.Commands.{command_of, used_by};
+ghost use Rattle.commands.specs.Commands.{command_of, used_by};
 ghost use Rattle.platform.specs.Promise.{IsStatus, IsUnused, Promise};
 ghost use Rattle.platform.specs.Run.{status_in};
 ghost use Rattle.platform.specs.Seen.{Seen};
 
 use crate::serving::{serve_answer, serve_door};
-use std::alloc::Global;
-use ut_commands::{
+use base_io::{Clock, Door, Sink, Source};
+use commands::{
     Exporting, Load, OrgAdd, Stop, Words, csvq_status, print_csvq, print_demo, print_load,
     print_tables, read_words, store_status,
 };
-use ut_io::{Clock, Door, Sink, Source};
-use ut_keeper::Keeper;
-use ut_stands::stands_laws;
+use std::alloc::Global;
+use store_abstraction::stands_laws;
+use store_kv::Keeper;
 
 // The status of a process that served.
 fn status_of(ended: Result<u8, Stop>) -> u8

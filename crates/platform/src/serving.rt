@@ -1,25 +1,25 @@
 ghost use Rattle.std.specs.Prelude.{◌≡◌, ◌⊎◌, ◌<◌, ◌≤◌, List, ℕ, IfOk, IsErrOf, Option, Some, false, true};
-ghost use Rattle.ut_io.specs.Doors.{DoorState};
-ghost use Rattle.ut_keeper.specs.State.{KeeperCause, Shows, Steps, Tells};
-ghost use Rattle.ut_model.specs.World.{World};
-ghost use Rattle.ut_serving.specs.Falls.{Falls, FallsBringing, Fell};
-ghost use Rattle.ut_serving.specs.Leads.{LeadsFrom};
-ghost use Rattle.ut_serving.specs.Senses.{Sense, StandsAs};
-ghost use Rattle.ut_stands.specs.Stands.{HasKnownVersion, Stands};
-ghost use Rattle.ut_value.specs.Causes.{Cause};
-ghost use Rattle.ut_commands.specs.Commands.{answers, has_status, is_opening, may_change, serves};
+ghost use Rattle.base_io.specs.Doors.{DoorState};
+ghost use Rattle.store_kv.specs.State.{KeeperCause, Shows, Steps, Tells};
+ghost use Rattle.model.specs.World.{World};
+ghost use Rattle.server.specs.Falls.{Falls, FallsBringing, Fell};
+ghost use Rattle.server.specs.Leads.{LeadsFrom};
+ghost use Rattle.server.specs.Senses.{Sense, StandsAs};
+ghost use Rattle.store_abstraction.specs.Stands.{HasKnownVersion, Stands};
+ghost use Rattle.base_value.specs.Causes.{Cause};
+ghost use Rattle.commands.specs.Commands.{answers, has_status, is_opening, may_change, serves};
 ghost use Rattle.platform.specs.Falling.{FallsOpening};
 ghost use Rattle.platform.specs.Run.{status_in};
 ghost use Rattle.platform.specs.Serving.{RunsAnswer, RunsServe, answer_end, serve_end};
-ghost use Rattle.ut_commands.specs.Stops.{VersionStops};
-ghost use Rattle.ut_commands.specs.declared.stop.Stop.TheVariants.{DoorFailed, KeeperFailed, SinkFailed, SourceFailed};
+ghost use Rattle.commands.specs.Stops.{VersionStops};
+ghost use Rattle.commands.specs.declared.stop.Stop.TheVariants.{DoorFailed, KeeperFailed, SinkFailed, SourceFailed};
 
+use base_io::{Clock, Door, IoFail, Sink, Source};
+use commands::Stop;
+use server::{LineFail, Pair, connection, isolation_laws, open_and_serve, serving_laws};
 use std::alloc::Global;
-use ut_commands::Stop;
-use ut_io::{Clock, Door, IoFail, Sink, Source};
-use ut_keeper::Keeper;
-use ut_serving::{LineFail, Pair, connection, isolation_laws, open_and_serve, serving_laws};
-use ut_stands::{open_tables, stands_laws};
+use store_abstraction::{open_tables, stands_laws};
+use store_kv::Keeper;
 
 // How a run ends by the end of its one connection.
 fn answer_end(ended: Result<(), LineFail>) -> Result<u8, Stop>

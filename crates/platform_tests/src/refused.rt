@@ -1,7 +1,7 @@
+use cli_args::read_line;
+use replay_script::Replay;
 use std::alloc::{AllocError, Global};
 use std::test::Fail;
-use ut_replay::Replay;
-use ut_usage::read_line;
 
 // What is said of words, of which the first is the program's name. There is a blank before each of the others.
 fn said_of_words(alloc: Global, words: &str) -> Result<String, AllocError> {

@@ -1,6 +1,6 @@
+use base_value::Bytes;
 use std::alloc::{AllocError, Global};
-use ut_keeper::{Batch, Change, Keeper, KeptRow};
-use ut_value::Bytes;
+use store_kv::{Batch, Change, Keeper, KeptRow};
 
 // A change that sets the row of a key of one byte.
 fn set(alloc: Global, table: u8, key: u8, row: &[u8]) -> Result<Change, AllocError> {

@@ -1,9 +1,9 @@
 //! Commands over a keeper, whatever its store.
 
+use base_io::{MemoryClock, MemoryDoor, MemorySink, MemorySource};
 use platform::run;
 use std::alloc::{AllocError, Global};
-use ut_io::{MemoryClock, MemoryDoor, MemorySink, MemorySource};
-use ut_keeper::Keeper;
+use store_kv::Keeper;
 
 // The words of a line, with `|` between them.
 fn words_of(alloc: Global, line: &str) -> Result<Vec<String>, AllocError> {

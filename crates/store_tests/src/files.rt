@@ -3,7 +3,7 @@ use crate::visits::{Visit, look_in};
 use std::alloc::AllocError;
 use std::fs;
 use std::test::Fail;
-use ut_sqlkeeper::{DatabaseFault, OnPath};
+use store_sqlite::{DatabaseFault, OnPath};
 
 // What opens the database on this path.
 fn at(rt: HostRuntime, path: &str) -> Result<OnPath, AllocError> {

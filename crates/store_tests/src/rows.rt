@@ -1,8 +1,8 @@
 use crate::batches::{makes, put, rows_of, swap};
 use std::alloc::{AllocError, Global};
 use std::test::Fail;
-use ut_keeper::{Batch, KeepFail, Keeper};
-use ut_sqlkeeper::{DatabaseFault, InMemory, Opener, SqlKeeper};
+use store_kv::{Batch, KeepFail, Keeper};
+use store_sqlite::{DatabaseFault, InMemory, Opener, SqlKeeper};
 
 // Rows 3, 1 and 2 at c, a and b of table 7, and a row at b of table 8; then the row at a is set again.
 fn fill<K: Keeper>(alloc: Global, keeper: &mut K) -> Result<(), KeepFail> {

@@ -6,7 +6,7 @@ use sqlite::{Alter, Connection, FileStore, Files, Options};
 use sqlite_disk::{Crash, Disk, Fuse, Memory};
 use std::alloc::{AllocError, Global};
 use std::test::Fail;
-use ut_sqlkeeper::SqlKeeper;
+use store_sqlite::SqlKeeper;
 
 // A file in memory that fails at each call after so many.
 type Stopping = Fuse<Memory>;

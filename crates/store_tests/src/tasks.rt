@@ -3,7 +3,7 @@
 use crate::batches::{makes, put, rows_of};
 use crate::commands::{add_two, count_organisations, ends_so};
 use std::alloc::{AllocError, Global};
-use ut_keeper::Keeper;
+use store_kv::Keeper;
 
 /// What is done over a keeper.
 #[derive(Clone, Copy, Debug)]

@@ -1,7 +1,7 @@
 use crate::batches::rows_of;
 use std::alloc::{AllocError, Global};
-use ut_keeper::{Batch, Keeper};
-use ut_sqlkeeper::{DatabaseFault, Opener, SqlKeeper};
+use store_kv::{Batch, Keeper};
+use store_sqlite::{DatabaseFault, Opener, SqlKeeper};
 
 /// What a keeper found in a database.
 #[derive(Drop)]

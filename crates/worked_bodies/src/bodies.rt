@@ -1,9 +1,9 @@
 //! Bodies of requests, and what each says; `none` if it isn't of its form.
 
+use api_input::{new_access, new_field, new_object};
+use base_value::{Access, FieldType, OnDelete, Text};
+use model::{NewField, NewMaster, NewObject, SpelledType};
 use std::alloc::{AllocError, Global};
-use ut_bodies::{new_access, new_field, new_object};
-use ut_model::{NewField, NewMaster, NewObject, SpelledType};
-use ut_value::{Access, FieldType, OnDelete, Text};
 
 fn join(alloc: Global, texts: &[Text], between: &str) -> Result<String, AllocError> {
     let mut all = String::new(alloc);

@@ -2,10 +2,10 @@
 
 use crate::line::first_of;
 use crate::refusals::text_of;
+use api_output::{RowFront, made_body, rows_body, upserted_body, write_row_end, write_shown};
+use base_json::Writer;
+use base_value::{Id, Text, Value};
 use std::alloc::{AllocError, Global};
-use ut_json::Writer;
-use ut_replies::{RowFront, made_body, rows_body, upserted_body, write_row_end, write_shown};
-use ut_value::{Id, Text, Value};
 
 // A row with an id of this number: a number alone has no name, otherwise `/` and the name is behind it.
 fn push_row(

@@ -1,9 +1,9 @@
 //! Bodies of users, roles and groups, and what each says; `none` if it isn't of its form.
 
+use api_input::{group_members, new_group, new_role, new_user, parent_of_role, role_of_user};
+use base_value::Text;
+use model::{NewUser, PrincipalKind, Spelled};
 use std::alloc::{AllocError, Global};
-use ut_bodies::{group_members, new_group, new_role, new_user, parent_of_role, role_of_user};
-use ut_model::{NewUser, PrincipalKind, Spelled};
-use ut_value::Text;
 
 // The text of an id, or `-`.
 fn id_or_none(id: &Option<Text>) -> &str {

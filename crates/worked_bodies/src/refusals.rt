@@ -1,9 +1,9 @@
 //! What is said of refusals.
 
 use crate::line::first_of;
+use base_value::{Bytes, Text};
+use model::{Limit, Refusal, damaged_body, org_id};
 use std::alloc::{AllocError, Global};
-use ut_model::{Limit, Refusal, damaged_body, org_id};
-use ut_value::{Bytes, Text};
 
 // The refusal of this name with a text, if it has one.
 fn refusal(name: &str, text: Text) -> Option<Refusal> {

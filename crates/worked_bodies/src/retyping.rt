@@ -3,10 +3,10 @@
 use crate::bodies::shown_kind;
 use crate::line::first_of;
 use crate::refusals::text_of;
+use api_input::{NewRetype, new_retype};
+use api_output::state_body;
+use base_value::{Id, Outcome, Phase};
 use std::alloc::{AllocError, Global};
-use ut_bodies::{NewRetype, new_retype};
-use ut_replies::state_body;
-use ut_value::{Id, Outcome, Phase};
 
 fn shown_retype(alloc: Global, new: &NewRetype) -> Result<String, AllocError> {
     let object = new.object.as_str();

@@ -1,10 +1,10 @@
 //! Bodies of manual shares and of sharing rules, and what each says; `none` if it isn't of its form.
 
 use crate::people::spelled;
+use api_input::{new_share, new_sharing_rule, spelled_principal};
+use base_value::{Level, Text};
+use model::{NewShare, NewSharingRule, SpelledSource};
 use std::alloc::{AllocError, Global};
-use ut_bodies::{new_share, new_sharing_rule, spelled_principal};
-use ut_model::{NewShare, NewSharingRule, SpelledSource};
-use ut_value::{Level, Text};
 
 fn level_word(level: Level) -> &'static str {
     match level {

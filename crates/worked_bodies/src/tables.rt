@@ -1,7 +1,7 @@
 //! CSV texts.
 
+use base_csv::{TableFail, read_table};
 use std::alloc::{AllocError, Global};
-use ut_table::{TableFail, read_table};
 
 // How many records are read of a source, of at most so many, or which is refused.
 fn read(alloc: Global, source: &[u8], most: usize) -> Result<String, AllocError> {

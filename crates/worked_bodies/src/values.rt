@@ -1,10 +1,10 @@
 //! Bodies of creates and updates, and what each gives to which fields.
 
+use api_input::field_values;
+use base_json::{Json, Member, Num};
+use base_value::number_text;
+use model::{Assignment, Given};
 use std::alloc::{AllocError, Global};
-use ut_bodies::field_values;
-use ut_json::{Json, Member, Num};
-use ut_model::{Assignment, Given};
-use ut_value::number_text;
 
 fn push_number(alloc: Global, out: &mut String, number: &Num) -> Result<(), AllocError> {
     match number {

@@ -1,17 +1,17 @@
 //! Requests of the first administrator of organisation 1.
 
 ghost use Rattle.std.specs.Prelude.{◌≡◌, IfOk, IfSome, true};
-ghost use Rattle.ut_admin.specs.Administration.{is_edit};
+ghost use Rattle.api_edit.specs.Administration.{is_edit};
 
 use crate::line::first_of;
+use access_traits::Administrator;
+use api_edit::administer;
+use base_value::Text;
+use model::{Caller, Reply, Route, first_user_id};
 use std::alloc::{AllocError, Global};
-use ut_admin::administer;
-use ut_keeper::{Draft, MemoryKeeper};
-use ut_keys::StoreFail;
-use ut_model::{Caller, Reply, Route, first_user_id};
-use ut_rights::Administrator;
-use ut_stands::Judged;
-use ut_value::Text;
+use store_abstraction::Judged;
+use store_kv::{Draft, MemoryKeeper};
+use store_rows::StoreFail;
 
 // 2023-11-14T22:13:20Z.
 const NOW: u64 = 1_700_000_000;

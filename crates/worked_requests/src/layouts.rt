@@ -1,11 +1,11 @@
 //! Layouts of objects.
 
 use crate::line::{first_of, org};
+use base_value::{Access, FieldType, Id, OnDelete, Phase};
 use std::alloc::{AllocError, Global};
-use ut_keeper::{Draft, MemoryKeeper};
-use ut_keys::StoreFail;
-use ut_stands::{FieldPlace, JobPlace, Layout, layout_at, layout_named, layouts};
-use ut_value::{Access, FieldType, Id, OnDelete, Phase};
+use store_abstraction::{FieldPlace, JobPlace, Layout, layout_at, layout_named, layouts};
+use store_kv::{Draft, MemoryKeeper};
+use store_rows::StoreFail;
 
 fn access_name(access: Access) -> &'static str {
     match access {

@@ -1,7 +1,7 @@
 //! The arguments of a line.
 
+use base_value::Bytes;
 use std::alloc::{AllocError, Global};
-use ut_value::Bytes;
 
 /// The first argument, and those behind it.
 pub(crate) fn first_of(arguments: &str) -> (&str, &str) {

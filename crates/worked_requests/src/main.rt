@@ -16,8 +16,8 @@ use crate::line::first_of;
 use std::alloc::{AllocError, Global};
 use std::io;
 use std::process::ExitCode;
-use ut_keeper::MemoryKeeper;
-use ut_keys::StoreFail;
+use store_kv::MemoryKeeper;
+use store_rows::StoreFail;
 
 // Why the program ends before the end of its input.
 #[derive(Debug, Drop)]

@@ -2,20 +2,20 @@
 
 ghost use Rattle.std.specs.Prelude.{IfOk, IfSome, IsTrue};
 ghost use Rattle.std.specs.Option.{option_map};
-ghost use Rattle.ut_data.specs.Decoding.{has_types, kinds_in};
-ghost use Rattle.ut_keys.specs.Forms.{FitsForm};
-ghost use Rattle.ut_keys.specs.Rows.{data_form};
-ghost use Rattle.ut_model.specs.SoundRecords.{all_valid};
+ghost use Rattle.record_read.specs.Decoding.{has_types, kinds_in};
+ghost use Rattle.store_rows.specs.Forms.{FitsForm};
+ghost use Rattle.store_rows.specs.Rows.{data_form};
+ghost use Rattle.model.specs.SoundRecords.{all_valid};
 
 use crate::line::{bytes, first_of};
+use base_value::{Id, Value};
+use model::Record;
+use record_read::{has_record, has_types, load_record, record_within, row_of, walk};
 use std::alloc::{AllocError, Global};
-use ut_data::{has_record, has_types, load_record, record_within, row_of, walk};
-use ut_keeper::{Draft, MemoryKeeper};
-use ut_keys::{DataRow, RowForm, StoreFail};
-use ut_model::Record;
-use ut_parts::CodecFail;
-use ut_stands::{Layout, layout_at};
-use ut_value::{Id, Value};
+use store_abstraction::{Layout, layout_at};
+use store_codec::CodecFail;
+use store_kv::{Draft, MemoryKeeper};
+use store_rows::{DataRow, RowForm, StoreFail};
 
 // The row at a key.
 fn row_in(alloc: Global, key: &str, row: &str) -> Result<DataRow, CodecFail>

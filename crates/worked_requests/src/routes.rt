@@ -1,11 +1,11 @@
 //! Methods and targets with their routes, and query strings.
 
 use crate::line::first_of;
+use api::{Routes, query_text};
+use base_value::Text;
 use http::Method;
+use model::{Route, Routed};
 use std::alloc::{AllocError, Global};
-use ut_model::{Route, Routed};
-use ut_rest::{Routes, query_text};
-use ut_value::Text;
 
 // The texts of a route, in order.
 fn texts(route: &Route) -> [&str; 3] {

@@ -2,8 +2,8 @@
 
 use crate::line::{bytes, first_of};
 use std::alloc::{AllocError, Global};
-use ut_keeper::{Draft, KeptRow, MemoryKeeper, prefix_ends};
-use ut_keys::StoreFail;
+use store_kv::{Draft, KeptRow, MemoryKeeper, prefix_ends};
+use store_rows::StoreFail;
 
 // So many rows are shown at most.
 const MOST: usize = 100;

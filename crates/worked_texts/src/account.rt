@@ -1,8 +1,8 @@
 //! The fields of the object over which formulas are read.
 
+use base_value::{FieldType, Items, OnDelete, Text};
+use formula_eval::{Fields, NamedField};
 use std::alloc::{AllocError, Global};
-use ut_formula::{Fields, NamedField};
-use ut_value::{FieldType, Items, OnDelete, Text};
 
 /// A text, a picklist, a number, a truth value, a day, a moment, a reference and another text.
 pub(crate) const NAMES: &str =

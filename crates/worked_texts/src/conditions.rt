@@ -1,9 +1,9 @@
 //! Patterns as queries have them behind LIKE.
 
 use crate::line::{first_of, truth};
+use soql_ast::{Cond, Query, like};
+use soql_parser::parse;
 use std::alloc::{AllocError, Global};
-use ut_query::{Cond, Query, like};
-use ut_soql::parse;
 
 // Whether a text is like the pattern of a query.
 fn is_like_in(alloc: Global, query: &Query, text: &str) -> Result<String, AllocError> {

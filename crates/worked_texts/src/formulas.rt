@@ -2,9 +2,9 @@
 
 use crate::account::fields;
 use crate::places::with_place;
+use formula_eval::Formula;
+use formula_parser::{ParseFail, parse};
 use std::alloc::{AllocError, Global};
-use ut_formula::Formula;
-use ut_formula_text::{ParseFail, parse};
 
 /// The formula of a text, of a sharing rule by criteria or of a validation rule.
 pub(crate) fn formula(alloc: Global, text: &str, criteria: bool) -> Result<Formula, ParseFail> {

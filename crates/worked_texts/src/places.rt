@@ -1,7 +1,7 @@
 //! The place at which a text is refused.
 
+use base_grammar::ParseFail;
 use std::alloc::{AllocError, Global};
-use ut_grammar::ParseFail;
 
 // The text with `^` before the token that begins at a place.
 fn marked(alloc: Global, text: &str, place: usize) -> Result<String, AllocError> {

@@ -1,9 +1,9 @@
 //! Query texts.
 
 use crate::places::with_place;
+use soql_parser::parse;
+use soql_printer::print;
 use std::alloc::{AllocError, Global};
-use ut_soql::parse;
-use ut_soql_print::print;
 
 /// The text, with `^` before the token at which it is refused.
 pub(crate) fn read(alloc: Global, text: &str) -> Result<String, AllocError> {

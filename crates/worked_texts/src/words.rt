@@ -1,8 +1,8 @@
 //! The tokens of query texts.
 
+use base_grammar::{Piece, Placed, Token, tokens};
+use soql_ast::QueryLexis;
 use std::alloc::{AllocError, Global};
-use ut_grammar::{Piece, Placed, Token, tokens};
-use ut_query::QueryLexis;
 
 // What kind of token it is, or the mark.
 fn kind(alloc: Global, token: &Token) -> Result<String, AllocError> {

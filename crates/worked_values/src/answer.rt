@@ -1,9 +1,9 @@
 //! What a call gives, as a text that is put together piece by piece.
 
 use crate::cells::{push_cell, push_numbers, push_repeated};
+use base_value::{Bytes, Text};
 use std::alloc::{AllocError, Global};
 use std::fmt::{Debug, Display, Write};
-use ut_value::{Bytes, Text};
 
 /// The text so far, and whether memory ran out meanwhile. If it did, there is no text in the end.
 #[derive(Drop)]

@@ -1,10 +1,10 @@
 //! JSON: what bytes are read as, and what is written.
 
 use crate::answer::Answer;
+use base_json::{Json, JsonFail, Mark, Member, Num, Writer, read};
+use base_value::Text;
 use std::alloc::{AllocError, Global};
 use std::str::from_utf8;
-use ut_json::{Json, JsonFail, Mark, Member, Num, Writer, read};
-use ut_value::Text;
 
 fn push_text(answer: &mut Answer, text: &Text) {
     answer.push_cell(text.as_str().as_bytes());

@@ -1,8 +1,8 @@
 //! The fields of a row as one text.
 
 use crate::answer::Answer;
+use base_value::{FieldType, Id, Items, Principal, RuleSource, Text};
 use std::fmt::Debug;
-use ut_value::{FieldType, Id, Items, Principal, RuleSource, Text};
 
 impl Answer {
     // Begins with a field's name.

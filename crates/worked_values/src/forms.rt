@@ -3,13 +3,13 @@
 use crate::answer::Answer;
 use crate::cells::cell;
 use crate::rows::HasFields;
+use base_value::Bytes;
 use std::alloc::{AllocError, Global};
-use ut_keys::{
+use store_rows::{
     CodecFail, DataRow, FieldRow, GrantRow, GroupRow, IndexRow, JobRow, ObjectRow, OrgRow,
     OwnerRow, RelationRow, RoleRow, RowForm, ShareRow, SharingRow, UniqueRow, UserRow,
     ValidationRow, VersionRow,
 };
-use ut_value::Bytes;
 
 // Whether a key and bytes spell no row of this form.
 fn is_damaged<R: RowForm + Drop>(alloc: Global, key: &[u8], row: &[u8]) -> bool {

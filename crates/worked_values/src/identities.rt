@@ -2,8 +2,8 @@
 
 use crate::answer::Answer;
 use crate::cells::cell;
+use base_value::Id;
 use std::str::from_utf8;
-use ut_value::Id;
 
 // Appends the form of 18 characters.
 fn push_id(answer: &mut Answer, id: &Id) {

@@ -2,9 +2,9 @@
 
 use crate::answer::Answer;
 use crate::cells::{cell, word};
+use base_value::Bytes;
 use std::alloc::AllocError;
-use ut_keeper::{Draft, KeepFail, Keeper, KeptRow, MemoryKeeper, all_rows, next_key, prefix_ends};
-use ut_value::Bytes;
+use store_kv::{Draft, KeepFail, Keeper, KeptRow, MemoryKeeper, all_rows, next_key, prefix_ends};
 
 fn push_row(answer: &mut Answer, row: &KeptRow) {
     answer.push_cell(row.key.as_slice());

@@ -4,13 +4,13 @@ ghost use Rattle.std.specs.Prelude.{None};
 
 use crate::answer::Answer;
 use crate::cells::cell;
+use base_io::{IoFail, Source};
 use http::{Method, StatusCode};
-use std::alloc::{AllocError, Global};
-use ut_http::{
+use server_http::{
     Buffer, HttpFail, HttpMessage, Next, next_message, out_of_memory, reply_bytes, reply_bytes_to,
     unavailable_to,
 };
-use ut_io::{IoFail, Source};
+use std::alloc::{AllocError, Global};
 
 // How bytes are cut into reads.
 #[derive(Clone, Copy)]

@@ -2,9 +2,9 @@
 
 use crate::answer::Answer;
 use crate::cells::cell;
+use base_value::{Bytes, Text, Value, id_in, order, order_key};
 use std::cmp::Ordering;
 use std::str::from_utf8;
-use ut_value::{Bytes, Text, Value, id_in, order, order_key};
 
 fn text_in(answer: &mut Answer, text: &str) -> Value {
     match Text::from_str(answer.alloc(), text) {

@@ -2,10 +2,10 @@
 
 use crate::answer::Answer;
 use crate::cells::cell;
+use base_value::{FieldType, Level, OnDelete, Outcome, Phase, RuleState};
 use std::fmt::Debug;
-use ut_keys::{CodecFail, FieldFlags, ObjectAccess, Part};
-use ut_parts::whole_of;
-use ut_value::{FieldType, Level, OnDelete, Outcome, Phase, RuleState};
+use store_codec::whole_of;
+use store_rows::{CodecFail, FieldFlags, ObjectAccess, Part};
 
 // Appends a byte and the part that it is read as, if it is.
 fn push_part<P: Part + Debug + Drop>(answer: &mut Answer, byte: u8) {

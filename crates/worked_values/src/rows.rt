@@ -1,7 +1,7 @@
 //! The fields of a row of each form.
 
 use crate::answer::Answer;
-use ut_keys::{
+use store_rows::{
     DataRow, FieldRow, GrantRow, GroupRow, IndexRow, JobRow, ObjectRow, OrgRow, OwnerRow,
     RelationRow, RoleRow, ShareRow, SharingRow, UniqueRow, UserRow, ValidationRow, VersionRow,
 };

@@ -2,10 +2,10 @@
 
 use crate::answer::Answer;
 use crate::streams::{door_steps, push_found};
+use base_io::{Door, Line, TcpDoor, write_all};
 use std::io;
 use std::io::Write;
 use std::net::{Shutdown, SocketAddr, TcpStream};
-use ut_io::{Door, Line, TcpDoor, write_all};
 
 // A client that says hello.
 fn greet(rt: &HostRuntime, address: SocketAddr) -> io::Result<TcpStream> {

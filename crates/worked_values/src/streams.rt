@@ -2,14 +2,14 @@
 
 use crate::answer::Answer;
 use crate::cells::{cell, count};
-use std::alloc::AllocError;
-use std::fmt::Debug;
-use ut_io::{
+use base_io::{
     Clock, Door, IoFail, Line, MemoryClock, MemoryDoor, MemorySink, MemorySource, ReadFail, Sink,
     Source, StdSink, StdSource, SystemClock, read_all, write_all,
 };
-use ut_keeper::KeepFail;
-use ut_value::Bytes;
+use base_value::Bytes;
+use std::alloc::AllocError;
+use std::fmt::Debug;
+use store_kv::KeepFail;
 
 /// Appends what a step came to.
 pub fn push_found<T: Debug>(answer: &mut Answer, found: &T) {

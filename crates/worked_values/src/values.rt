@@ -2,7 +2,7 @@
 
 use crate::answer::Answer;
 use crate::cells::cell;
-use ut_value::{
+use base_value::{
     FieldType, Items, OnDelete, Text, Value, check_value, convert, convertible, is_type,
     print_value, read_value, value_laws,
 };

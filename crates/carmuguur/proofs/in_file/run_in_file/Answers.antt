@@ -1,7 +1,7 @@
 use Rattle.carmuguur.proofs.Unopened.{if_some_left, if_some_map, if_some_right, status_unopened}
 use Rattle.std.proofs.Common.{map, refl}
 use Rattle.std.specs.Prelude.{string_bytes}
-use Rattle.ut_commands.specs.Commands.{command_of}
+use Rattle.commands.specs.Commands.{command_of}
 use Rattle.carmuguur.proofs.in_file.run_in_file.Goals as goal
 
 pub returns-in-Ok-clause-promise : goal.returns-in-Ok-clause-promise

@@ -2,12 +2,12 @@ use Rattle.std.proofs.Common.{refl}
 use lib.Utf8.{encode}
 use Rattle.std.specs.Fmt.{digits}
 use Rattle.std.specs.Str.{chars, is_utf8}
-use Rattle.ut_soql_grammar.proofs.Computing.{reading_queries}
-use Rattle.ut_value.specs.Numerals.{is_digit}
-use Rattle.ut_model.specs.Organisations.{is_secret}
-use Rattle.ut_model.specs.Sound.{is_name}
-use Rattle.ut_value.specs.Digits as numbers
-use Rattle.ut_value.specs.Id.{made}
+use Rattle.soql_grammar.proofs.Computing.{reading_queries}
+use Rattle.base_value.specs.Numerals.{is_digit}
+use Rattle.model.specs.Organisations.{is_secret}
+use Rattle.model.specs.Sound.{is_name}
+use Rattle.base_value.specs.Digits as numbers
+use Rattle.base_value.specs.Id.{made}
 use Rattle.platform.proofs.laws.printed_rows.Goals as goal
 
 pub returns : goal.returns

@@ -1,5 +1,5 @@
 use Rattle.std.proofs.Common.{◌≡◌, ◌∙◌, inl, true, false, [], ◌∷◌, refl, sym, ap, subst, arith}
-use Rattle.ut_commands.specs.Commands.{answers, csvq, demo, export, has_status, is_one_of, is_opening, load, may_write, never, once, org_add, prints, serves}
+use Rattle.commands.specs.Commands.{answers, csvq, demo, export, has_status, is_one_of, is_opening, load, may_write, never, once, org_add, prints, serves}
 use Rattle.platform.specs.Promise.{Causes}
 use Rattle.platform.specs.Seen.{Seen}
 use Rattle.platform.proofs.Runs.{caused, is_72, is_73, is_74, is_75, keeper_caused, known_zero, not_own, of_none, of_words, quiet, status_of_none, status_of_words, true_isnt_false, unused_of_words, was_opening}
@@ -7,9 +7,9 @@ use Rattle.platform.proofs.OfOwn.{is_clocked, moments_at}
 use Rattle.platform.proofs.OfCsvq as by_csvq
 use Rattle.platform.proofs.OfDemo.{demo_promise}
 use Rattle.platform.proofs.OfLoad as by_load
-use Rattle.ut_commands.specs.OrgAdd.{org_does}
-use Rattle.ut_commands.specs.Export.{export_does}
-use Rattle.ut_commands.proofs.OfExport.{export_told}
+use Rattle.commands.specs.OrgAdd.{org_does}
+use Rattle.commands.specs.Export.{export_does}
+use Rattle.commands.proofs.OfExport.{export_told}
 use Rattle.platform.proofs.OfTables as by_tables
 use Rattle.platform.proofs.OfServing.{serving_promise, unwritten}
 use Rattle.platform.proofs.running.run.Goals as goal

@@ -1,14 +1,14 @@
 use Rattle.std.proofs.Common.{rules, inl, inr, ◌≡◌, ◌∙◌, refl, ap, sym, subst, [], Err}
-use Rattle.ut_serving.specs.Exchanges.{LeavesBehind}
-use Rattle.ut_keeper.specs.State.{TrustedAfter}
-use Rattle.ut_serving.specs.Falls.{Falls}
-use Rattle.ut_serving.specs.Turning.{Serves}
-use Rattle.ut_stands.specs.Fails.{sees_version}
-use Rattle.ut_stands.specs.Stands.{Stands}
+use Rattle.server.specs.Exchanges.{LeavesBehind}
+use Rattle.store_kv.specs.State.{TrustedAfter}
+use Rattle.server.specs.Falls.{Falls}
+use Rattle.server.specs.Turning.{Serves}
+use Rattle.store_abstraction.specs.Fails.{sees_version}
+use Rattle.store_abstraction.specs.Stands.{Stands}
 use Rattle.platform.specs.Seen.{Seen}
 use Rattle.platform.specs.Serving.{IsOpening, RunsAnswer}
-use Rattle.ut_commands.specs.declared.stop.Stop.{Stop}
-use Rattle.ut_stands.specs.Opening.{OpensAs}
+use Rattle.commands.specs.declared.stop.Stop.{Stop}
+use Rattle.store_abstraction.specs.Opening.{OpensAs}
 use Rattle.platform.proofs.Answering.{answered, failed_opening, opened_only}
 use Rattle.platform.proofs.Falling.{fell_opening}
 use Rattle.platform.proofs.serving.serve_answer.Goals as goal

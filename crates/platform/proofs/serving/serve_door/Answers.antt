@@ -1,12 +1,12 @@
 use Rattle.std.proofs.Common.{Err, [], inl, inr, refl, subst, sym}
-use Rattle.ut_keeper.specs.State.{TrustedAfter}
-use Rattle.ut_serving.specs.Exchanges.{LeavesBehind}
-use Rattle.ut_stands.specs.Fails.{sees_version}
-use Rattle.ut_stands.specs.Opening.{OpensAs}
-use Rattle.ut_stands.specs.Stands.{Stands}
+use Rattle.store_kv.specs.State.{TrustedAfter}
+use Rattle.server.specs.Exchanges.{LeavesBehind}
+use Rattle.store_abstraction.specs.Fails.{sees_version}
+use Rattle.store_abstraction.specs.Opening.{OpensAs}
+use Rattle.store_abstraction.specs.Stands.{Stands}
 use Rattle.platform.specs.Seen.{Seen}
 use Rattle.platform.specs.Serving.{IsOpening}
-use Rattle.ut_commands.specs.declared.stop.Stop.{Stop}
+use Rattle.commands.specs.declared.stop.Stop.{Stop}
 use Rattle.platform.proofs.Answering.{failed_opening, opened_only, served}
 use Rattle.platform.proofs.Falling.{fell_opening}
 use Rattle.platform.proofs.serving.serve_door.Goals as goal

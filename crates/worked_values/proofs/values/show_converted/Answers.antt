@@ -2,7 +2,7 @@ use Rattle.std.proofs.Common.{◌≡◌, Bool, true, Option, Some, None, Ok, Err
 use Rattle.std.specs.Option.{ok_or}
 use Rattle.std.specs.Str.{chars}
 use Rattle.std.proofs.lemmas.Str.{scalars-chars}
-use Rattle.ut_value.specs.Conversion.{convert}
+use Rattle.base_value.specs.Conversion.{convert}
 use Rattle.worked_values.proofs.values.show_converted.Goals as goal
 
 some_of : {X E : Type 0} (o : Option X) (e : E) (v : X) → ok_or o e ≡ Ok v → o ≡ Some v

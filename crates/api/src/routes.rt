@@ -1,0 +1,57 @@
+ghost use Rattle.std.specs.Prelude.{◌≡◌, IfOk};
+ghost use Rattle.std.specs.Str.{chars};
+ghost use Rattle.model.specs.Routing.{routed};
+
+use crate::place::Place;
+use crate::routing::route_by;
+use crate::table::router;
+use crate::target::path_and_query;
+use http::Method;
+use matchit::Router;
+use model::Routed;
+use std::alloc::{AllocError, Global};
+use std::marker::Model;
+
+/// All routes, as a router: made once, and lent to what is answered.
+#[derive(Drop)]
+pub struct Routes {
+    router: Router<Place>,
+}
+
+impl Model for Routes {
+    ghost use Rattle.std.specs.Prelude.{◌≡◌};
+    ghost use Rattle.api_router_laws.specs.Pick.{router_rows};
+    ghost use Rattle.api.specs.inner.Places.{table};
+
+    ghost Value = { Unit {0} };
+
+    ghost view = { λ r. tt };
+
+    ghost invariant = { λ r. r.router ≡ router_rows table };
+}
+
+impl Routes {
+    /// The routes.
+    ///
+    /// # Errors
+    ///
+    /// When out of memory.
+    pub fn new(alloc: Global) -> Result<Routes, AllocError> {
+        match router(alloc) {
+            Ok(router) => Ok(Routes { router }),
+            Err(_) => Err(AllocError),
+        }
+    }
+
+    /// The request that a method and a target ask for.
+    ///
+    /// # Errors
+    ///
+    /// When out of memory.
+    pub fn route(&self, alloc: Global, method: &Method, target: &str) -> Result<Routed, AllocError>
+        ensures { IfOk result (λ r. r ≡ routed method.now (chars target.now)) }
+    {
+        let (path, query) = path_and_query(target);
+        route_by(alloc, &self.router, method, path, query)
+    }
+}

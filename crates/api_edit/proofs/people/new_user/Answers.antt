@@ -1,0 +1,46 @@
+use Rattle.std.proofs.Common.{arith, refl}
+use Rattle.store_kv.specs.Draft.{tables_of}
+use Rattle.model.specs.RequestOf.{request_of}
+use Rattle.model.specs.Requests.{adds_user}
+use Rattle.model.specs.Verdict.{made_new}
+use Rattle.model.specs.declared.route.Route.TheVariants.{AddUser}
+use Rattle.api_edit.specs.declared.answer.Answer.TheVariants as answer
+use Rattle.api_edit.specs.inner.Edits.{Anyone}
+use Rattle.api_edit.proofs.Asked.{answers_none, answers_so, drafts_seen, edits_asked, edits_none, none_drafts, returned}
+use Rattle.api_edit.proofs.people.new_user.Goals as goal
+
+-- ---- a body of another form
+
+pub returns-in_err-new-clause-what : goal.returns-in_err-new-clause-what
+returns-in_err-new-clause-what g c told =
+    let fail = c.in_err-new.field-0.0 in
+    edits_none adds_user c.args.org Anyone AddUser AddUser c.args.body.now fail (tables_of g.K.Keeper.state c.args.draft.now) c.from_residual.result refl
+    (returned c.from_residual.result fail c.from_residual.ensures) c.in_err-new.ensures.asks
+
+pub returns-in_err-new-clause-form : goal.returns-in_err-new-clause-form
+returns-in_err-new-clause-form g c =
+    answers_none AddUser c.in_err-new.field-0.0 c.from_residual.result (returned c.from_residual.result c.in_err-new.field-0.0 c.from_residual.ensures)
+
+pub returns-in_err-new-clause-makes : goal.returns-in_err-new-clause-makes
+returns-in_err-new-clause-makes g c =
+    let laws = c.call_laws.ensures in
+    let fail = c.in_err-new.field-0.0 in
+    none_drafts g.K.Keeper.state (record { weaker = laws.weaker; none = laws.none; makes = laws.makes; most = laws.most }) adds_user (request_of AddUser c.args.body.now) fail c.from_residual.result c.args.draft.now
+    (returned c.from_residual.result fail c.from_residual.ensures) c.in_err-new.ensures.asks
+
+-- ---- the edit
+
+pub returns-clause-what : goal.returns-clause-what
+returns-clause-what g c told =
+    let new = c.in_ok-new.new in
+    edits_asked (λ id. answer.Made id) (λ id. made_new id) (λ _. refl) c.args.org Anyone AddUser AddUser c.args.body.now (adds_user new) _ _ _ (tables_of g.K.Keeper.state c.args.draft.now) (tables_of g.K.Keeper.state c.make_edit.new.draft) c.make_edit.result c.made.result
+    refl c.in_ok-new.ensures.asks c.made.ensures (λ a. refl) (λ a. c.refusal_laws.ensures.refused a (adds_user new)) (λ a sound asking. c.in_ok-new.ensures.secret) (c.make_edit.ensures.what told)
+
+pub returns-clause-form : goal.returns-clause-form
+returns-clause-form g c = answers_so (λ id. answer.Made id) AddUser AddUser c.make_edit.result c.made.result refl c.made.ensures (λ _. tt)
+
+pub returns-clause-makes : goal.returns-clause-makes
+returns-clause-makes g c =
+    let laws = c.call_laws.ensures in
+    drafts_seen g.K.Keeper.state (record { weaker = laws.weaker; none = laws.none; makes = laws.makes; most = laws.most }) (λ id. answer.Made id) _ _ _ c.args.draft.now c.make_edit.new.draft c.make_edit.result c.made.result c.made.ensures
+    (omega arith) (omega arith) (omega arith) c.make_edit.ensures.makes

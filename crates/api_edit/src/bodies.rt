@@ -1,0 +1,194 @@
+//! What the bodies of requests ask for.
+
+ghost use Rattle.std.specs.Prelude.{◌≡◌, IfOk, IsTrue, List, ℕ};
+ghost use Rattle.api_edit.specs.inner.Edits.{Asks, form_of};
+ghost use Rattle.api_input.specs.Bodies.{adds_new_role, begins_new_retype, request_in, sets_role_parent, sets_user_role, values_request};
+ghost use Rattle.record_input.specs.Given.{IsInJson};
+ghost use Rattle.model.specs.Organisations.{is_secret};
+ghost use Rattle.model.specs.RequestOf.{request_of, request_or};
+ghost use Rattle.model.specs.Requests.{Request, adds_field, adds_object, adds_sharing_rule, adds_validation_rule, sets_object, shares};
+ghost use Rattle.model.specs.Requests.{adds_group, adds_user, sets_group};
+ghost use Rattle.model.specs.declared.record_bodies.Assignment.{Assignment};
+ghost use Rattle.model.specs.declared.route.Route.TheVariants.{AddField, AddObject, AddSharingRule, AddValidationRule, BeginRetype, SetObject, Share};
+ghost use Rattle.model.specs.declared.route.Route.TheVariants.{AddGroup, AddRole, AddUser, SetGroup, SetRole, SetUser};
+
+use api_input::{
+    NewRetype, NewRole, RoleParent, UserRole, field_values, group_members, new_access, new_field,
+    new_group, new_object, new_retype, new_role, new_share, new_sharing_rule, new_user,
+    new_validation_rule, parent_of_role, role_of_user,
+};
+use base_value::{Access, Items, Text};
+use model::{
+    Assignment, NewField, NewObject, NewShare, NewSharingRule, NewUser, NewValidationRule, Refusal,
+    Spelled,
+};
+use std::alloc::{AllocError, Global};
+use store_abstraction::EditFail;
+use store_rows::StoreFail;
+
+// What was read, where a body that isn't of its form is refused.
+fn form_of<T>(read: Result<Option<T>, AllocError>) -> Result<T, EditFail>
+    ensures { result ≡ form_of read }
+{
+    match read {
+        Ok(Some(new)) => Ok(new),
+        Ok(None) => Err(EditFail::Refused(Refusal::BodyForm)),
+        Err(_) => Err(EditFail::Store(StoreFail::Memory)),
+    }
+}
+
+/// The values that a body gives to the fields of a record, new or not, all in JSON, by which any request may be made.
+///
+/// # Errors
+///
+/// `Refused` with `BodyForm` if the body isn't of that form; `Store` with `Memory` if out of memory.
+pub(crate) fn values_in(alloc: Global, body: &[u8]) -> Result<Items<Assignment>, EditFail>
+    ensures values { (make : List Assignment → Request) → Asks make (request_or (request_in (values_request make) body.now)) result }
+    ensures json { IfOk result IsInJson }
+{
+    form_of(field_values(alloc, body))
+}
+
+/// The object that a body asks for.
+///
+/// # Errors
+///
+/// `Refused` with `BodyForm` if the body isn't of that form; `Store` with `Memory` if out of memory.
+pub(crate) fn object_in(alloc: Global, body: &[u8]) -> Result<NewObject, EditFail>
+    ensures { Asks adds_object (request_of AddObject body.now) result }
+{
+    form_of(new_object(alloc, body))
+}
+
+/// The access that a body asks for.
+///
+/// # Errors
+///
+/// `Refused` with `BodyForm` if the body isn't of that form; `Store` with `Memory` if out of memory.
+pub(crate) fn access_in(alloc: Global, body: &[u8]) -> Result<Access, EditFail>
+    ensures { (object : List ℕ) → Asks (sets_object object) (request_of (SetObject object) body.now) result }
+{
+    form_of(new_access(alloc, body))
+}
+
+/// The validation rule that a body asks for.
+///
+/// # Errors
+///
+/// `Refused` with `BodyForm` if the body isn't of that form; `Store` with `Memory` if out of memory.
+pub(crate) fn rule_in(alloc: Global, body: &[u8]) -> Result<NewValidationRule, EditFail>
+    ensures { Asks adds_validation_rule (request_of AddValidationRule body.now) result }
+{
+    form_of(new_validation_rule(alloc, body))
+}
+
+/// The field that a body asks for.
+///
+/// # Errors
+///
+/// `Refused` with `BodyForm` if the body isn't of that form; `Store` with `Memory` if out of memory.
+pub(crate) fn field_in(alloc: Global, body: &[u8]) -> Result<NewField, EditFail>
+    ensures { Asks adds_field (request_of AddField body.now) result }
+{
+    form_of(new_field(alloc, body))
+}
+
+/// The user that a body asks for, whose secret is one.
+///
+/// # Errors
+///
+/// `Refused` with `BodyForm` if the body isn't of that form; `Store` with `Memory` if out of memory.
+pub(crate) fn user_in(alloc: Global, body: &[u8]) -> Result<NewUser, EditFail>
+    ensures asks { Asks adds_user (request_of AddUser body.now) result }
+    ensures secret { IfOk result (λ new. IsTrue (is_secret new.secret)) }
+{
+    form_of(new_user(alloc, body))
+}
+
+/// The role that a body asks for a user to have.
+///
+/// # Errors
+///
+/// `Refused` with `BodyForm` if the body isn't of that form; `Store` with `Memory` if out of memory.
+pub(crate) fn user_role_in(alloc: Global, body: &[u8]) -> Result<UserRole, EditFail>
+    ensures { (user : List ℕ) → Asks (sets_user_role user) (request_of (SetUser user) body.now) result }
+{
+    form_of(role_of_user(alloc, body))
+}
+
+/// The role that a body asks for.
+///
+/// # Errors
+///
+/// `Refused` with `BodyForm` if the body isn't of that form; `Store` with `Memory` if out of memory.
+pub(crate) fn role_in(alloc: Global, body: &[u8]) -> Result<NewRole, EditFail>
+    ensures { Asks adds_new_role (request_of AddRole body.now) result }
+{
+    form_of(new_role(alloc, body))
+}
+
+/// The parent that a body asks for a role to have.
+///
+/// # Errors
+///
+/// `Refused` with `BodyForm` if the body isn't of that form; `Store` with `Memory` if out of memory.
+pub(crate) fn parent_in(alloc: Global, body: &[u8]) -> Result<RoleParent, EditFail>
+    ensures { (role : List ℕ) → Asks (sets_role_parent role) (request_of (SetRole role) body.now) result }
+{
+    form_of(parent_of_role(alloc, body))
+}
+
+/// The name of the group that a body asks for.
+///
+/// # Errors
+///
+/// `Refused` with `BodyForm` if the body isn't of that form; `Store` with `Memory` if out of memory.
+pub(crate) fn group_in(alloc: Global, body: &[u8]) -> Result<Text, EditFail>
+    ensures { Asks adds_group (request_of AddGroup body.now) result }
+{
+    form_of(new_group(alloc, body))
+}
+
+/// The members that a body asks for a group to have.
+///
+/// # Errors
+///
+/// `Refused` with `BodyForm` if the body isn't of that form; `Store` with `Memory` if out of memory.
+pub(crate) fn members_in(alloc: Global, body: &[u8]) -> Result<Items<Spelled>, EditFail>
+    ensures { (group : List ℕ) → Asks (sets_group group) (request_of (SetGroup group) body.now) result }
+{
+    form_of(group_members(alloc, body))
+}
+
+/// The manual share that a body asks for.
+///
+/// # Errors
+///
+/// `Refused` with `BodyForm` if the body isn't of that form; `Store` with `Memory` if out of memory.
+pub(crate) fn share_in(alloc: Global, body: &[u8]) -> Result<NewShare, EditFail>
+    ensures { Asks shares (request_of Share body.now) result }
+{
+    form_of(new_share(alloc, body))
+}
+
+/// The sharing rule that a body asks for.
+///
+/// # Errors
+///
+/// `Refused` with `BodyForm` if the body isn't of that form; `Store` with `Memory` if out of memory.
+pub(crate) fn sharing_rule_in(alloc: Global, body: &[u8]) -> Result<NewSharingRule, EditFail>
+    ensures { Asks adds_sharing_rule (request_of AddSharingRule body.now) result }
+{
+    form_of(new_sharing_rule(alloc, body))
+}
+
+/// The change of a field's type that a body asks for, whose type is within its bounds.
+///
+/// # Errors
+///
+/// `Refused` with `BodyForm` if the body isn't of that form; `Store` with `Memory` if out of memory.
+pub(crate) fn retype_in(alloc: Global, body: &[u8]) -> Result<NewRetype, EditFail>
+    ensures { Asks begins_new_retype (request_of BeginRetype body.now) result }
+{
+    form_of(new_retype(alloc, body))
+}

@@ -1,0 +1,202 @@
+//! The edits of users, roles and groups that requests ask for.
+
+ghost use Rattle.std.specs.Prelude.{◌≡◌, IfOk};
+ghost use Rattle.std.specs.Option.{option_copied};
+ghost use Rattle.api_edit.specs.inner.Edits.{Anyone, EditsFrom, IsAnswerTo};
+ghost use Rattle.store_edit.specs.Edits.{DraftsEdit};
+ghost use Rattle.store_kv.specs.Draft.{DraftTells, tables_of};
+ghost use Rattle.model.specs.RequestOf.{request_of, verdict_or};
+ghost use Rattle.model.specs.declared.route.Route.TheVariants as route;
+ghost use Rattle.model_step.specs.Own.{edit_shown, request_changes, request_gone};
+
+use crate::answer::{Answer, done, made};
+use crate::bodies::{group_in, members_in, parent_in, role_in, user_in, user_role_in};
+use api_input::{RoleParent, UserRole};
+use base_value::Text;
+use model::refusal_laws;
+use people_edit::{AddGroup, AddRole, AddUser, SetGroup, SetRole, SetUser};
+use std::alloc::Global;
+use store_abstraction::{EditFail, call_laws};
+use store_edit::make_edit;
+use store_kv::{Draft, Keeper};
+
+/// Makes a user, by a body.
+///
+/// # Errors
+///
+/// `Refused` if the body isn't of its form, or as the edit is; nothing is then changed. `Store` with `Keeper` if the keeper failed,
+/// `Memory` if out of memory.
+pub(crate) fn new_user<K: Keeper>(
+    alloc: Global,
+    draft: &mut Draft<'_, K>,
+    org: u32,
+    body: &[u8],
+) -> Result<Answer, EditFail>
+    ensures what { DraftTells K.state draft.old draft.new
+        → EditsFrom org Anyone (λ a. verdict_or a (request_of route.AddUser body.now)) (tables_of K.state draft.old)
+        (tables_of K.state draft.new) result }
+    ensures form { IfOk result (IsAnswerTo route.AddUser) }
+    ensures makes { DraftsEdit K.state request_changes request_gone edit_shown result draft.old draft.new }
+{
+    call_laws::<K>();
+    refusal_laws();
+    let new = user_in(alloc, body)?;
+    let edit = AddUser { new: &new };
+    made(make_edit(alloc, draft, org, &edit))
+}
+
+// The edit that gives a user the role for which a body asks.
+fn user_edit<'a>(user: &'a Text, new: &'a UserRole) -> SetUser<'a>
+    ensures user { result.user.now ≡ user.now }
+    ensures role { option_copied result.role ≡ new.now.role }
+{
+    SetUser {
+        user,
+        role: new.role.as_ref(),
+    }
+}
+
+/// Gives a user another role or none, by a body. The user is named by its id.
+///
+/// # Errors
+///
+/// `Refused` if the body isn't of its form, or as the edit is; nothing is then changed. `Store` with `Keeper` if the keeper failed,
+/// `Memory` if out of memory.
+pub(crate) fn changed_user<K: Keeper>(
+    alloc: Global,
+    draft: &mut Draft<'_, K>,
+    org: u32,
+    user: &Text,
+    body: &[u8],
+) -> Result<Answer, EditFail>
+    ensures what { DraftTells K.state draft.old draft.new
+        → EditsFrom org Anyone (λ a. verdict_or a (request_of (route.SetUser user.now) body.now)) (tables_of K.state draft.old)
+        (tables_of K.state draft.new) result }
+    ensures form { IfOk result (IsAnswerTo (route.SetUser user.now)) }
+    ensures makes { DraftsEdit K.state request_changes request_gone edit_shown result draft.old draft.new }
+{
+    call_laws::<K>();
+    refusal_laws();
+    let new = user_role_in(alloc, body)?;
+    let edit = user_edit(user, &new);
+    done(make_edit(alloc, draft, org, &edit))
+}
+
+/// Makes a role, by a body.
+///
+/// # Errors
+///
+/// `Refused` if the body isn't of its form, or as the edit is; nothing is then changed. `Store` with `Keeper` if the keeper failed,
+/// `Memory` if out of memory.
+pub(crate) fn new_role<K: Keeper>(
+    alloc: Global,
+    draft: &mut Draft<'_, K>,
+    org: u32,
+    body: &[u8],
+) -> Result<Answer, EditFail>
+    ensures what { DraftTells K.state draft.old draft.new
+        → EditsFrom org Anyone (λ a. verdict_or a (request_of route.AddRole body.now)) (tables_of K.state draft.old)
+        (tables_of K.state draft.new) result }
+    ensures form { IfOk result (IsAnswerTo route.AddRole) }
+    ensures makes { DraftsEdit K.state request_changes request_gone edit_shown result draft.old draft.new }
+{
+    call_laws::<K>();
+    refusal_laws();
+    let new = role_in(alloc, body)?;
+    let edit = AddRole {
+        name: &new.name,
+        parent: new.parent.as_ref(),
+    };
+    made(make_edit(alloc, draft, org, &edit))
+}
+
+// The edit that gives a role the parent for which a body asks.
+fn role_edit<'a>(role: &'a Text, new: &'a RoleParent) -> SetRole<'a>
+    ensures role { result.role.now ≡ role.now }
+    ensures parent { option_copied result.parent ≡ new.now.parent }
+{
+    SetRole {
+        role,
+        parent: new.parent.as_ref(),
+    }
+}
+
+/// Gives a role another parent or none, by a body. The role is named by its id.
+///
+/// # Errors
+///
+/// `Refused` if the body isn't of its form, or as the edit is; nothing is then changed. `Store` with `Keeper` if the keeper failed,
+/// `Memory` if out of memory.
+pub(crate) fn changed_role<K: Keeper>(
+    alloc: Global,
+    draft: &mut Draft<'_, K>,
+    org: u32,
+    role: &Text,
+    body: &[u8],
+) -> Result<Answer, EditFail>
+    ensures what { DraftTells K.state draft.old draft.new
+        → EditsFrom org Anyone (λ a. verdict_or a (request_of (route.SetRole role.now) body.now)) (tables_of K.state draft.old)
+        (tables_of K.state draft.new) result }
+    ensures form { IfOk result (IsAnswerTo (route.SetRole role.now)) }
+    ensures makes { DraftsEdit K.state request_changes request_gone edit_shown result draft.old draft.new }
+{
+    call_laws::<K>();
+    refusal_laws();
+    let new = parent_in(alloc, body)?;
+    let edit = role_edit(role, &new);
+    done(make_edit(alloc, draft, org, &edit))
+}
+
+/// Makes a group, by a body.
+///
+/// # Errors
+///
+/// `Refused` if the body isn't of its form, or as the edit is; nothing is then changed. `Store` with `Keeper` if the keeper failed,
+/// `Memory` if out of memory.
+pub(crate) fn new_group<K: Keeper>(
+    alloc: Global,
+    draft: &mut Draft<'_, K>,
+    org: u32,
+    body: &[u8],
+) -> Result<Answer, EditFail>
+    ensures what { DraftTells K.state draft.old draft.new
+        → EditsFrom org Anyone (λ a. verdict_or a (request_of route.AddGroup body.now)) (tables_of K.state draft.old)
+        (tables_of K.state draft.new) result }
+    ensures form { IfOk result (IsAnswerTo route.AddGroup) }
+    ensures makes { DraftsEdit K.state request_changes request_gone edit_shown result draft.old draft.new }
+{
+    call_laws::<K>();
+    refusal_laws();
+    let name = group_in(alloc, body)?;
+    let edit = AddGroup { name: &name };
+    made(make_edit(alloc, draft, org, &edit))
+}
+
+/// Gives a group other members, by a body. The group is named by its id.
+///
+/// # Errors
+///
+/// `Refused` if the body isn't of its form, or as the edit is; nothing is then changed. `Store` with `Keeper` if the keeper failed,
+/// `Memory` if out of memory.
+pub(crate) fn changed_group<K: Keeper>(
+    alloc: Global,
+    draft: &mut Draft<'_, K>,
+    org: u32,
+    group: &Text,
+    body: &[u8],
+) -> Result<Answer, EditFail>
+    ensures what { DraftTells K.state draft.old draft.new
+        → EditsFrom org Anyone (λ a. verdict_or a (request_of (route.SetGroup group.now) body.now)) (tables_of K.state draft.old)
+        (tables_of K.state draft.new) result }
+    ensures form { IfOk result (IsAnswerTo (route.SetGroup group.now)) }
+    ensures makes { DraftsEdit K.state request_changes request_gone edit_shown result draft.old draft.new }
+{
+    call_laws::<K>();
+    refusal_laws();
+    let members = members_in(alloc, body)?;
+    let edit = SetGroup {
+        group,
+        members: members.as_slice(),
+    };
+    done(make_edit(alloc, draft, org, &edit))
+}

@@ -1,0 +1,6 @@
+use Rattle.std.specs.Str.{chars}
+use Rattle.api_input.proofs.types.on_delete_in.Goals as goal
+
+pub returns : goal.returns
+unfolding chars
+returns c = c.table_entry.ensures

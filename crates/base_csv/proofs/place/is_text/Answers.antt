@@ -1,0 +1,11 @@
+use Rattle.std.proofs.Common.{sym}
+use Rattle.std.specs.Str.{is_utf8}
+use Rattle.std.proofs.lemmas.Str.{IsUtf8-from_is_utf8, is_utf8-from_IsUtf8}
+use Rattle.base_csv.proofs.Cells.{not_text}
+use Rattle.base_csv.proofs.place.is_text.Goals as goal
+
+pub returns-in-Ok : goal.returns-in-Ok
+returns-in-Ok c = sym (is_utf8-from_IsUtf8 c.args.cell.now c.in-Ok.ensures.cases.1)
+
+pub returns-in-Err : goal.returns-in-Err
+returns-in-Err c = sym (not_text (is_utf8 c.args.cell.now) (λ e. c.in-Err.ensures.cases.0 (IsUtf8-from_is_utf8 c.args.cell.now e)))

@@ -1,0 +1,19 @@
+use Rattle.std.proofs.Common.{arith, ◌≡◌, ◌∙◌, ◌≤◌, ℕ, true, List, length, refl, sym, ap}
+use Rattle.std.specs.Prelude.{nat_le}
+use Rattle.std.specs.Str.{all_scalars}
+use Rattle.std.proofs.lemmas.Bool.Decides.{nat_tests}
+use Rattle.std.proofs.lemmas.Str.{scalars-chars}
+use Rattle.base_value.specs.Types.{is_choice}
+use Rattle.base_value.proofs.checking.is_choice.Goals as goal
+
+fitting : (n : ℕ) (cs : List ℕ) → all_scalars cs ≡ true → n ≡ length cs → 1 ≤ n → nat_le n 40 ≡ is_choice cs
+fitting n cs s e some =
+    let first : nat_le 1 n ≡ true = grind (arith, nat_tests) in
+    rw (s, ← e, first) refl
+
+pub returns-then-count-ge1 : goal.returns-then-count-ge1
+returns-then-count-ge1 c =
+    let text = c.as_str.ensures.characters in
+    let scalars : all_scalars c.args.text.now ≡ true = ap all_scalars (sym text) ∙ scalars-chars c.as_str.result.now c.as_str.utf8 in
+    let count : c.character_count-count.result ≡ length c.args.text.now = c.character_count-count.ensures ∙ ap length text in
+    fitting c.character_count-count.result c.args.text.now scalars count c.if-count-ge1.true

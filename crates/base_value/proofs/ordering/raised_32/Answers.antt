@@ -1,0 +1,6 @@
+use Rattle.std.proofs.Common.{◌∙◌}
+use Rattle.base_value.proofs.NumberOrder.{raised_32}
+use Rattle.base_value.proofs.ordering.raised_32.Goals as goal
+
+pub returns : goal.returns
+returns c = c.to_be_bytes.ensures ∙ raised_32 c.args.number c.cast_unsigned.result c.ranges.number c.cast_unsigned.ensures

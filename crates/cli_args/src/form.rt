@@ -1,0 +1,73 @@
+//! The table of the commands.
+
+ghost use Rattle.std.specs.Prelude.{◌≡◌, ◌≢◌, IfNone, IfSome};
+ghost use Rattle.cli_args.specs.inner.Forms.{IsUnknown, Takes};
+
+/// What follows the name of a command.
+pub(crate) enum Operands {
+    /// So many words.
+    Words(usize),
+    /// A count of connections, or no word.
+    Count,
+    /// A number of records.
+    Records,
+}
+
+/// A command as it is written.
+pub(crate) struct Form {
+    pub(crate) name: &'static str,
+    pub(crate) form: &'static str,
+    pub(crate) operands: Operands,
+}
+
+/// The commands of `platform::run`. One more is a line here, and its name in `proofs/Forms.antt`.
+pub(crate) const COMMANDS: [Form; 7] = [
+    Form {
+        name: "csvq",
+        form: "csvq QUERY",
+        operands: Operands::Words(1),
+    },
+    Form {
+        name: "org-add",
+        form: "org-add NAME SECRET",
+        operands: Operands::Words(2),
+    },
+    Form {
+        name: "export",
+        form: "export ORG USER SECRET QUERY",
+        operands: Operands::Words(4),
+    },
+    Form {
+        name: "load",
+        form: "load ORG USER SECRET OBJECT",
+        operands: Operands::Words(4),
+    },
+    Form {
+        name: "demo",
+        form: "demo N",
+        operands: Operands::Records,
+    },
+    Form {
+        name: "answer",
+        form: "answer",
+        operands: Operands::Words(0),
+    },
+    Form {
+        name: "serve",
+        form: "serve [COUNT]",
+        operands: Operands::Count,
+    },
+];
+
+/// The form of the command of this name, with as many words as `run` takes after it.
+pub(crate) fn form_of(name: &str) -> Option<&'static Form>
+    ensures found { IfSome result (λ form. Takes name.now form.now.operands) }
+    ensures none { IfNone result (IsUnknown name.now) }
+{
+    for form in &COMMANDS {
+        if form.name == name {
+            return Some(form);
+        }
+    }
+    None
+}

@@ -1,0 +1,31 @@
+use Rattle.std.proofs.Common.{◌≡◌, ◌∙◌, arith, of_z, pos, refl, rules, to_z, w64}
+use Rattle.std.proofs.lemmas.Int.{to_z-of_z}
+use Rattle.std.specs.Prelude.{FitsSigned}
+use Rattle.store_kv.specs.Draft.{tables_of}
+use Rattle.model.specs.Requests.{creates}
+use Rattle.model.specs.Verdict.{made_new}
+use Rattle.cmd_load_row.specs.inner.Edits.{KnowsFound, as_new}
+use Rattle.cmd_load_row.proofs.Editing.{FitLaws, create_fits, drafts_seen, row_edited}
+use Rattle.cmd_load_row.proofs.edits.create_row.Goals as goal
+
+pub returns-clause-what : goal.returns-clause-what
+returns-clause-what g c told =
+    let state = g.K.Keeper.state in
+    let whose = g.R.Rights.whose c.args.rights.now in
+    let caller = c.args.caller.now in
+    let object = c.args.object.now in
+    let given = c.args.given.now in
+    let found = c.args.found.now in
+    let laws : FitLaws = record { read = c.value_laws.ensures.read; ids = c.id_laws.ensures.made; given = c.fit_laws.ensures.given; key = c.fit_laws.ensures.key } in
+    let small : FitsSigned w64 c.moment.result = search rules in
+    let at : to_z w64 (of_z w64 c.moment.result) ≡ pos c.args.now = to_z-of_z w64 c.moment.result small ∙ c.moment.ensures in
+    row_edited as_new (λ id. made_new id) (λ id number. refl) caller.org (KnowsFound whose caller c.args.now object given found) (creates object given) _ _ _ (tables_of state c.args.draft.now) (tables_of state c.make_edit.new.draft) c.make_edit.result c.made.result
+    c.made.ensures (λ a. refl) (λ a. c.refusal_laws.ensures.refused a (creates object given))
+    (λ a sound knows. create_fits laws whose caller c.args.now _ object given found at c.requires.moment c.requires.spelled a sound knows)
+    (c.make_edit.ensures.what told)
+
+pub returns-clause-drafts : goal.returns-clause-drafts
+returns-clause-drafts g c =
+    let laws = c.call_laws.ensures in
+    drafts_seen g.K.Keeper.state (record { weaker = laws.weaker; none = laws.none; makes = laws.makes; most = laws.most }) as_new _ _ _ c.args.draft.now c.make_edit.new.draft c.make_edit.result c.made.result c.made.ensures
+    (omega arith) (omega arith) (omega arith) c.make_edit.ensures.makes

@@ -1,0 +1,29 @@
+//! That an organisation stays sound: what each verdict leaves of a sound one is sound again.
+//!
+//! It depends on `model`, whose definitions these laws are about, and on `base_value` for the laws of ids and values. Its
+//! contract: for each request, from a sound organisation its verdict makes a sound one, whatever it answers.
+#![tactic(auto)]
+
+mod answers;
+mod deletes;
+mod fits;
+mod jobs;
+mod numbers;
+mod objects;
+mod people;
+mod records;
+mod rows;
+mod sharing;
+mod verdicts;
+
+pub use crate::answers::{answers_sound, world_sound};
+pub use crate::deletes::deletes_sound;
+pub use crate::fits::{fit_laws, requests_fit};
+pub use crate::jobs::jobs_sound;
+pub use crate::numbers::number_laws;
+pub use crate::objects::objects_sound;
+pub use crate::people::people_sound;
+pub use crate::records::records_sound;
+pub use crate::rows::sound_rows;
+pub use crate::sharing::sharing_sound;
+pub use crate::verdicts::verdicts_sound;

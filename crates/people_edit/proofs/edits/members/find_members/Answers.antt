@@ -1,0 +1,44 @@
+use Rattle.std.proofs.Common.{◌∙◌, Some, subst, sym}
+use Rattle.store_kv.specs.Tables.{Tables}
+use Rattle.model.specs.Principals.{not_there}
+use Rattle.model.specs.Rules.{first_of}
+use Rattle.std.specs.Str.{chars}
+use Rattle.store_abstraction.specs.Calls.{done}
+use Rattle.store_abstraction.specs.Local.{StandsIn}
+use Rattle.people_edit.proofs.Judging.{passed_on}
+use Rattle.people_edit.proofs.Members.{none_left, this_fails, this_passes}
+use Rattle.people_edit.proofs.edits.members.find_members.Goals as goal
+
+pub loop-member-preserved : goal.loop-member-preserved
+loop-member-preserved g c =
+    let members = c.args.members.now in
+    let n = c.loop-member.member-index in
+    let x = c.member-item.result in
+    let a = c.args.draft.now in
+    let b = c.loop-member.draft in
+    let d = c.find_member.new.draft in
+    let before = c.loop-member.invariant in
+    let next = c.in_ok-find_member.ensures in
+    record {
+      calls = c.call_laws.ensures.then 0 0 done a b d before.calls next.calls;
+      passes = λ told q t s.
+          let tells = c.draft_laws.ensures.both 0 0 a b d before.calls.reads next.calls.reads told in
+          let stands = subst (λ (m : Tables). StandsIn c.args.org q m (Some t)) (sym tells.2) s in
+          this_passes (not_there t (chars c.args.name.now)) members n x c.loop-member-test.true c.member-item.is (before.passes tells.0 q t s) (next.passes tells.1 q t stands).0;
+    }
+
+pub returns-in_err-find_member-clause-passes : goal.returns-in_err-find_member-clause-passes
+returns-in_err-find_member-clause-passes g c told q t s =
+    let members = c.args.members.now in
+    let n = c.loop-member.member-index in
+    let before = c.loop-member.invariant in
+    let e = c.in_err-find_member.field-0.0 in
+    let next = c.in_err-find_member.ensures in
+    let tells = c.draft_laws.ensures.both 0 0 c.args.draft.now c.loop-member.draft c.find_member.new.draft before.calls.reads next.calls.reads told in
+    let stands = subst (λ (m : Tables). StandsIn c.args.org q m (Some t)) (sym tells.2) s in
+    passed_on (first_of (not_there t (chars c.args.name.now)) members) (λ x. Unit {0}) c.from_residual.result e c.from_residual.ensures.1
+    (this_fails (not_there t (chars c.args.name.now)) members n c.member-item.result c.loop-member-test.true c.member-item.is e (before.passes tells.0 q t s) (next.passes tells.1 q t stands))
+
+pub returns-clause-passes : goal.returns-clause-passes
+returns-clause-passes g c told q t s =
+    (sym (c.loop-member.invariant.passes told q t s) ∙ none_left (not_there t (chars c.args.name.now)) c.args.members.now c.loop-member.member-index c.loop-member-test.false, tt)

@@ -1,0 +1,15 @@
+//! The parents and the children of a row by a plan, as who asks may read them.
+//!
+//! It depends on `query_parents` for the records that it reads, on `query_order` for the order of children, and on `query_exec` for whom it is.
+//! Its contract: over tables in which an organisation's rows stand for a tenant it finds, of a record, the parents that the plan's
+//! branches name and the children that its child subqueries take, as the user of the tenant may read them whose rights are passed.
+#![tactic(auto)]
+
+mod children;
+mod found;
+mod ordered;
+mod relatives;
+mod taken;
+
+pub use crate::found::found_children;
+pub use crate::relatives::PlanRelatives;

@@ -1,0 +1,24 @@
+use Rattle.std.proofs.Common.{arith}
+use Rattle.record_index.proofs.CopiedText.{place_there}
+use Rattle.record_index.proofs.TurnedValues.{field_typed, field_valid}
+use Rattle.record_index.proofs.changed.turn_copied.Goals as goal
+
+pub copied_value-requires-clause-from : goal.copied_value-requires-clause-from
+copied_value-requires-clause-from c =
+    field_typed c.args.layout.now c.in-Some.job.field c.in-Some-get.field.now c.requires.types
+    (place_there c.args.layout.now c.in-Some.job.field c.from.result c.in-Some-get.field.now (omega arith) c.in-Some-get.ensures.value)
+
+pub copied_value-requires-clause-valid : goal.copied_value-requires-clause-valid
+copied_value-requires-clause-valid c =
+    field_valid c.args.layout.now c.args.old.now.values c.in-Some.job.field c.in-Some-get.field.now c.requires.old
+    (place_there c.args.layout.now c.in-Some.job.field c.from.result c.in-Some-get.field.now (omega arith) c.in-Some-get.ensures.value)
+
+pub copied_value-requires-2-clause-from : goal.copied_value-requires-2-clause-from
+copied_value-requires-2-clause-from c =
+    field_typed c.args.layout.now c.in-Some.job.field c.in-Some-get.field.now c.requires.types
+    (place_there c.args.layout.now c.in-Some.job.field c.from.result c.in-Some-get.field.now (omega arith) c.in-Some-get.ensures.value)
+
+pub copied_value-requires-2-clause-valid : goal.copied_value-requires-2-clause-valid
+copied_value-requires-2-clause-valid c =
+    field_valid c.args.layout.now c.args.new.now.values c.in-Some.job.field c.in-Some-get.field.now c.requires.new
+    (place_there c.args.layout.now c.in-Some.job.field c.from.result c.in-Some-get.field.now (omega arith) c.in-Some-get.ensures.value)

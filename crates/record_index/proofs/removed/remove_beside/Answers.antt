@@ -1,0 +1,14 @@
+use Rattle.std.proofs.Common.{arith}
+use Rattle.record_index.proofs.CopiedText.{place_there}
+use Rattle.record_index.proofs.TurnedValues.{field_typed, field_valid}
+use Rattle.record_index.proofs.removed.remove_beside.Goals as goal
+
+pub beside_value-requires-clause-from : goal.beside_value-requires-clause-from
+beside_value-requires-clause-from c =
+    field_typed c.args.layout.now c.in-Some.job.field c.in-Some-get.field.now c.requires.types
+    (place_there c.args.layout.now c.in-Some.job.field c.from.result c.in-Some-get.field.now (omega arith) c.in-Some-get.ensures.value)
+
+pub beside_value-requires-clause-valid : goal.beside_value-requires-clause-valid
+beside_value-requires-clause-valid c =
+    field_valid c.args.layout.now c.args.old.now.values c.in-Some.job.field c.in-Some-get.field.now c.requires.old
+    (place_there c.args.layout.now c.in-Some.job.field c.from.result c.in-Some-get.field.now (omega arith) c.in-Some-get.ensures.value)

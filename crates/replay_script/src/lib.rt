@@ -1,0 +1,18 @@
+//! Whole scripts over keepers in memory: a line is a JSON object that says what to run, and over what, and a run is
+//! answered by a JSON object.
+//!
+//! It depends on `platform` for `run`, on the objects in memory of `base_io` and `store_kv`, on `base_json`, and on the
+//! toolchain's `hex`. It is a tool of the tests, and has no contract but that it is safe and ends; the moments of a line are those of a
+//! clock (`HasMoments`). `run_script` does the lines of standard input.
+#![tactic(auto)]
+
+mod line;
+mod parts;
+mod reading;
+mod replaying;
+mod report;
+mod script;
+
+pub use crate::line::{Fault, Name};
+pub use crate::replaying::{End, Replay};
+pub use crate::script::run_script;

@@ -1,0 +1,73 @@
+-- Rules that are judged one after the other.
+use Rattle.std.proofs.Common.{◌≡◌, ◌∙◌, ℕ, List, [], ◌∷◌, Option, None, Some, refl, sym, ap, subst}
+use Rattle.std.specs.Prelude.{Err, IsErrAnd, Ok, Result}
+use Rattle.model.specs.Cases.{in_case}
+use Rattle.model.specs.declared.refusal.Refusal.TheVariants.{RetypeUnsupported}
+use Rattle.model.specs.Retyping.{under_way}
+use Rattle.model.specs.Rules.{Rule, first_refusal}
+use Rattle.model.specs.Tenant.{Tenant}
+use Rattle.store_abstraction.specs.declared.fail.EditFail.{EditFail}
+use Rattle.store_abstraction.specs.declared.fail.EditFail.TheVariants.{Refused, Store}
+use Rattle.store_abstraction.specs.declared.layout.Layout.{Layout}
+use Rattle.base_value.specs.declared.value.FieldType.{FieldType}
+use Rattle.retype_request.specs.declared.columns.NamedField.{NamedField}
+use Rattle.retype_request.specs.inner.Beginning.{column_rule, place_in, type_rule}
+use Rattle.retype_request.specs.inner.Judging.{FailsRule, Passes}
+use Rattle.retype_request.specs.inner.Rules.{use_rule}
+
+-- ---- one step
+
+module _ {X : Type 0} (rule : Rule) (P : X → Type 0) (r : Result X EditFail) where
+  -- a failure is passed on
+  pub passed_on : (e : EditFail) → IsErrAnd r (λ y. y ≡ e) → FailsRule rule e → Passes rule P r
+  passed_on e = by r
+    where
+      by : (r : Result X EditFail) → IsErrAnd r (λ y. y ≡ e) → FailsRule rule e → Passes rule P r
+      by (Ok x) passed h = absurd passed
+      by (Err y) passed h = subst (FailsRule rule) (sym passed) h
+
+-- ---- one step after the other
+
+pub fails_here : (a : Rule) (rest : List Rule) (e : EditFail) → FailsRule a e → FailsRule (first_refusal (a ∷ rest)) e
+fails_here a rest (Refused r) h = ap (λ (x : Rule). first_refusal (x ∷ rest)) h
+fails_here a rest (Store s) h = h
+
+pub fails_next : (a : Rule) (rest : List Rule) (e : EditFail) → a ≡ None → FailsRule (first_refusal rest) e → FailsRule (first_refusal (a ∷ rest)) e
+fails_next a rest e none h = subst (λ (x : Rule). FailsRule x e) (sym (ap (λ (x : Rule). first_refusal (x ∷ rest)) none)) h
+
+pub none_next : (a : Rule) (rest : List Rule) → a ≡ None → first_refusal rest ≡ None → first_refusal (a ∷ rest) ≡ None
+none_next a rest none h = ap (λ (x : Rule). first_refusal (x ∷ rest)) none ∙ h
+
+-- ---- the rules on a field that is there
+
+module _ (l : Layout) (t : Tenant) (to : FieldType) (f : NamedField) where
+  abbrev here : Option ℕ → Rule
+  here place = in_case place (Some (RetypeUnsupported f.name)) (λ place. use_rule l t place f.name)
+
+  pub idle_fails : (e : EditFail) → FailsRule (under_way t) e → FailsRule (column_rule l t to f) e
+  idle_fails e h = fails_here (under_way t) (here (place_in l.fields to f.custom) ∷ []) e h
+
+  module _ (idle : under_way t ≡ None) where
+    pub type_fails : (e : EditFail) → FailsRule (type_rule l to f) e → FailsRule (column_rule l t to f) e
+    type_fails e h = fails_next (under_way t) (here (place_in l.fields to f.custom) ∷ []) e idle (by (place_in l.fields to f.custom) e h)
+      where
+        by : (place : Option ℕ) (e : EditFail) → FailsRule (in_case place (Some (RetypeUnsupported f.name)) (λ place. None)) e → FailsRule (first_refusal (here place ∷ [])) e
+        by None (Refused r) h = h
+        by (Some place) (Refused r) h = absurd cc
+        by place (Store s) h = h
+
+    module _ (place : ℕ) (is : place_in l.fields to f.custom ≡ Some place) where
+      pub use_fails : (e : EditFail) → FailsRule (use_rule l t place f.name) e → FailsRule (column_rule l t to f) e
+      use_fails e h =
+          fails_next (under_way t) (here (place_in l.fields to f.custom) ∷ []) e idle
+          (subst (λ (p : Option ℕ). FailsRule (first_refusal (here p ∷ [])) e) (sym is) (fails_here (use_rule l t place f.name) [] e h))
+
+      pub none_fails : use_rule l t place f.name ≡ None → column_rule l t to f ≡ None
+      none_fails unused =
+          none_next (under_way t) (here (place_in l.fields to f.custom) ∷ []) idle
+          (ap (λ (p : Option ℕ). first_refusal (here p ∷ [])) is ∙ none_next (use_rule l t place f.name) [] unused refl)
+
+-- the second of two is the whole, where the first doesn't refuse
+pub second_passes : {X : Type 0} (a b : Rule) (P : X → Type 0) (r : Result X EditFail) → a ≡ None → Passes b P r → Passes (first_refusal (a ∷ b ∷ [])) P r
+second_passes a b P (Ok x) none h = (none_next a (b ∷ []) none (none_next b [] h.0 refl), h.1)
+second_passes a b P (Err e) none h = fails_next a (b ∷ []) e none (fails_here b [] e h)

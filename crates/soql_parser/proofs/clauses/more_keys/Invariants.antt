@@ -1,0 +1,13 @@
+use Rattle.std.proofs.Common.{◌≡◌, ◌≤◌, length}
+use Rattle.base_grammar.specs.Reader.{with_front}
+use Rattle.soql_grammar.specs.Readers as spec
+use Rattle.soql_parser.proofs.clauses.more_keys.Given as goal
+
+abbrev pub invariant-items : goal.invariant-items
+invariant-items l = record {
+  same : with_front l.all (spec.more_keys l.left l.rest) ≡ with_front l.fn.all (spec.more_keys 31 l.fn.signs);
+  shorter : length l.rest ≤ length l.fn.signs;
+}
+
+abbrev pub decreases-items : goal.decreases-items
+decreases-items l = length l.rest

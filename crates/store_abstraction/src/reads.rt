@@ -1,0 +1,39 @@
+//! Reads of one organisation's people.
+
+ghost use Rattle.std.specs.Option.{option_map};
+ghost use Rattle.store_kv.specs.Draft.{DraftTells, tables_of};
+ghost use Rattle.model.specs.World.{user_at, users_in};
+ghost use Rattle.store_abstraction.specs.Calls.{Calls, ended};
+ghost use Rattle.store_abstraction.specs.Local.{FindsIn};
+ghost use Rattle.store_abstraction.specs.Metadata.{user_of};
+
+use base_value::{Id, id_laws};
+use model::name_laws;
+use std::alloc::Global;
+use store_kv::{Draft, Keeper, key_laws};
+use store_rows::{Mark, StoreFail, UserRow, row_at, row_laws, table_laws};
+
+/// The user of an organisation who has this id, as a row.
+///
+/// # Errors
+///
+/// `Keeper` if the keeper failed, `Memory` if out of memory, `Damaged` never if the organisation's rows stand for a tenant or
+/// for none.
+pub fn user<K: Keeper>(
+    alloc: Global,
+    draft: &mut Draft<'_, K>,
+    org: u32,
+    id: &Id,
+) -> Result<Option<UserRow>, StoreFail>
+    ensures finds { DraftTells K.state draft.old draft.new
+        → FindsIn org (λ q t. option_map (user_of org) (user_at (users_in t) id.now)) (tables_of K.state draft.old) result }
+    ensures calls { Calls K.state 0 (ended result) draft.old draft.new }
+{
+    key_laws();
+    table_laws();
+    row_laws::<UserRow>();
+    id_laws();
+    name_laws();
+    let _ = id.as_bytes();
+    row_at(alloc, draft, &(org, (Mark::<0>, *id)))
+}

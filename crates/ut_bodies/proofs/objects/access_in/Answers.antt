@@ -1,6 +1,0 @@
-use Rattle.std.specs.Str.{chars}
-use Rattle.ut_bodies.proofs.objects.access_in.Goals as goal
-
-pub returns : goal.returns
-unfolding chars
-returns c = c.table_entry.ensures

@@ -1,6 +1,0 @@
-use Rattle.std.specs.Str.{chars}
-use Rattle.ut_bodies.proofs.principals.kind_named.Goals as goal
-
-pub returns : goal.returns
-unfolding chars
-returns c = c.entry_named.ensures

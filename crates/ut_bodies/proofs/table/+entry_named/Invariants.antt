@@ -1,5 +1,0 @@
-use Rattle.std.proofs.Common.{length}
-use Rattle.ut_bodies.proofs.table.+entry_named.Given as goal
-
-abbrev pub decreases-entry_named : goal.decreases-entry_named
-decreases-entry_named g l = length l.table.now

@@ -1,4 +1,0 @@
-use Rattle.ut_cascade.proofs.levels.+with_details.Given as goal
-
-abbrev pub decreases-with_details : goal.decreases-with_details
-decreases-with_details g l = l.levels

@@ -1,8 +1,0 @@
-use Rattle.std.specs.Str.{chars}
-use Rattle.std.proofs.lemmas.Str.{scalars-chars}
-use Rattle.ut_data.proofs.decoding.read_slot.Goals as goal
-
-pub returns-in-Ok-clause-valid : goal.returns-in-Ok-clause-valid
-returns-in-Ok-clause-valid c =
-    let text = c.text_of.result.now in
-    c.value_laws.ensures.read c.args.kind.now (chars text) c.in-Ok.value (scalars-chars text c.text_of.utf8) c.in-Ok.ensures

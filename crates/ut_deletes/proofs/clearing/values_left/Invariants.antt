@@ -1,7 +1,0 @@
-use Rattle.std.proofs.Common.{◌≡◌, map, take}
-use Rattle.std.specs.List.{enumerate_from}
-use Rattle.ut_deletes.specs.inner.Clearing.{value_left}
-use Rattle.ut_deletes.proofs.clearing.values_left.Given as goal
-
-abbrev pub invariant-loop-position : goal.invariant-loop-position
-invariant-loop-position l = l.left ≡ map (value_left l.fields l.ids) (enumerate_from 0 (take l.position l.values))

@@ -1,5 +1,0 @@
-use Rattle.std.proofs.Common.{length}
-use Rattle.ut_deletes.proofs.counts.+count_objects.Given as goal
-
-abbrev pub decreases-count_objects : goal.decreases-count_objects
-decreases-count_objects g l = length l.layouts.now

@@ -1,5 +1,0 @@
-use Rattle.std.proofs.Common.{length}
-use Rattle.ut_deletes.proofs.ending.+end_shares.Given as goal
-
-abbrev pub decreases-end_shares : goal.decreases-end_shares
-decreases-end_shares g l = length l.ids.now

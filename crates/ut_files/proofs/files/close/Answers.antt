@@ -1,4 +1,0 @@
-use Rattle.ut_files.proofs.files.close.Goals as goal
-
-pub returns-in-Ok : goal.returns-in-Ok
-returns-in-Ok g c = λ _. (c.in-Ok.files, c.in-Ok.ensures.copied)

@@ -1,9 +1,0 @@
-use Rattle.std.proofs.Common.{◌≡◌, ◌++◌, length}
-use Rattle.ut_formula_grammar.specs.Signs as spec
-use Rattle.ut_formula_text.proofs.words.signs.Given as goal
-
-abbrev pub invariant-tokens : goal.invariant-tokens
-invariant-tokens l = l.found ++ spec.signs l.criteria l.fields l.rest ≡ spec.signs l.criteria l.fields l.fn.tokens
-
-abbrev pub decreases-tokens : goal.decreases-tokens
-decreases-tokens l = length l.rest

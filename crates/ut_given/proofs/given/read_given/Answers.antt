@@ -1,6 +1,0 @@
-use Rattle.ut_given.proofs.Ended.{gives_ended}
-use Rattle.ut_given.proofs.given.read_given.Goals as goal
-
-pub returns : goal.returns
-returns c types =
-    gives_ended c.args.layout.now c.args.given.now c.args.old.now c.read_all.result c.ended.result c.ended.ensures (c.read_all.ensures types)

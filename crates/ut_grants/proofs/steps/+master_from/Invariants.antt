@@ -1,5 +1,0 @@
-use Rattle.std.proofs.Common.{length}
-use Rattle.ut_grants.proofs.steps.+master_from.Given as goal
-
-abbrev pub decreases-master_from : goal.decreases-master_from
-decreases-master_from l = length l.fields.now

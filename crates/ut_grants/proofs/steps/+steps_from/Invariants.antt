@@ -1,4 +1,0 @@
-use Rattle.ut_grants.proofs.steps.+steps_from.Given as goal
-
-abbrev pub decreases-steps_from : goal.decreases-steps_from
-decreases-steps_from g l = l.most

@@ -1,5 +1,0 @@
-use Rattle.ut_history.proofs.Turns.{one}
-use Rattle.ut_history.proofs.laws.call_laws.Goals as goal
-
-pub returns : goal.returns
-returns g c = one g.K.Keeper.state g.met.K.Keeper.settled

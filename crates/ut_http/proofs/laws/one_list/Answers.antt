@@ -1,5 +1,0 @@
-use Rattle.ut_http.proofs.Connections.{only_list}
-use Rattle.ut_http.proofs.laws.one_list.Goals as goal
-
-pub returns : goal.returns
-returns c = only_list

@@ -1,6 +1,0 @@
-use Rattle.std.proofs.Common.{length, refl}
-use Rattle.ut_http.specs.Reply.{store_failed, reply_head}
-use Rattle.ut_http.proofs.reply.unavailable_to.Goals as goal
-
-pub returns : goal.returns
-returns c = c.part_to.ensures (reply_head 503 (length store_failed) c.args.close) store_failed c.unavailable.ensures refl

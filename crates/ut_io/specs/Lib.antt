@@ -1,8 +1,0 @@
-pub mod Doors
-pub mod Memory
-pub mod Moments
-pub mod Standard
-pub mod Streams
-pub mod Tcp
-pub mod inner
-pub use Rattle.ut_value.specs.Causes

@@ -1,6 +1,0 @@
-use Rattle.std.proofs.Common.{◌≡◌}
-use Rattle.ut_keeper.specs.Memory.{tables_in}
-use Rattle.ut_keeper.proofs.changes.drop_gaps.Given as goal
-
-abbrev pub invariant-loop-change : goal.invariant-loop-change
-invariant-loop-change l = tables_in l.rows.entries ≡ tables_in l.initial.rows.entries

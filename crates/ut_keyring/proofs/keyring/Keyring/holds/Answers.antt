@@ -1,6 +1,0 @@
-use Rattle.std.proofs.Common.{◌∙◌, refl}
-use Rattle.ut_keyring.proofs.Reaching.{in_order}
-use Rattle.ut_keyring.proofs.keyring.Keyring.holds.Goals as goal
-
-pub returns : goal.returns
-returns c = λ org t u among k. c.holds.ensures (in_order org t c.args.people.now among.rows among.sound) ∙ k.held org t u among refl c.args.principal.now

@@ -1,6 +1,0 @@
-use Rattle.std.proofs.Common.{◌≡◌, map, take}
-use Rattle.ut_keyring.specs.inner.Chosen.{edge_back}
-use Rattle.ut_keyring.proofs.roles.edges_down.Given as goal
-
-abbrev pub invariant-loop-edge : goal.invariant-loop-edge
-invariant-loop-edge l = l.edges.items ≡ map edge_back (take l.edge-index l.up)

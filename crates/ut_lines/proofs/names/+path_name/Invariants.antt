@@ -1,5 +1,0 @@
-use Rattle.std.proofs.Common.{length}
-use Rattle.ut_lines.proofs.names.+path_name.Given as goal
-
-abbrev pub decreases-path_name : goal.decreases-path_name
-decreases-path_name l = length l.names.now

@@ -1,5 +1,0 @@
-use Rattle.std.proofs.Common.{length}
-use Rattle.ut_meta.proofs.relations.+any_gives.Given as goal
-
-abbrev pub decreases-any_gives : goal.decreases-any_gives
-decreases-any_gives l = length l.fields.now

@@ -1,4 +1,0 @@
-use Rattle.ut_meta.proofs.relations.+masters_above.Given as goal
-
-abbrev pub decreases-masters_above : goal.decreases-masters_above
-decreases-masters_above l = l.most

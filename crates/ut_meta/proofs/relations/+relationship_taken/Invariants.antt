@@ -1,5 +1,0 @@
-use Rattle.std.proofs.Common.{length}
-use Rattle.ut_meta.proofs.relations.+relationship_taken.Given as goal
-
-abbrev pub decreases-relationship_taken : goal.decreases-relationship_taken
-decreases-relationship_taken l = length l.layouts.now

@@ -1,5 +1,0 @@
-use Rattle.ut_model.proofs.Within.{holds_and, holds_not, holds_or}
-use Rattle.ut_model.proofs.access.condition_laws.Goals as goal
-
-pub returns : goal.returns
-returns c = record { negation = holds_not; all = holds_and; some = holds_or }

@@ -1,5 +1,0 @@
-use Rattle.std.proofs.Common.{sym}
-use Rattle.ut_model.proofs.message.duplicate_of.Goals as goal
-
-pub returns : goal.returns
-returns c = rw (sym c.in_ok-other.ensures) c.joined.ensures

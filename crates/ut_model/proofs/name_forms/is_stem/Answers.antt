@@ -1,7 +1,0 @@
-use Rattle.std.proofs.Common.{◌∙◌, ap}
-use Rattle.ut_model.specs.Names.{is_stem}
-use Rattle.ut_model.proofs.NameForms.{stem_of_text}
-use Rattle.ut_model.proofs.name_forms.is_stem.Goals as goal
-
-pub returns : goal.returns
-returns c = c.is_stem_of.ensures ∙ ap (is_stem) c.as_bytes.ensures.value ∙ stem_of_text c.args.name.now c.utf8.name

@@ -1,5 +1,0 @@
-use Rattle.ut_model.proofs.Places.{named_at}
-use Rattle.ut_model.proofs.reading.object_laws.Goals as goal
-
-pub returns : goal.returns
-returns c = record { named = named_at }

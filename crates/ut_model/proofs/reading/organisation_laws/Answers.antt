@@ -1,5 +1,0 @@
-use Rattle.ut_model.proofs.NewSound.{fresh_sound}
-use Rattle.ut_model.proofs.reading.organisation_laws.Goals as goal
-
-pub returns : goal.returns
-returns c = record { fresh = fresh_sound }

@@ -1,6 +1,0 @@
-use Rattle.ut_model.specs.Objects.{is_of}
-use Rattle.ut_model.proofs.Rising.{already, kept_rise, they_rise}
-use Rattle.ut_model.proofs.reading.record_laws.Goals as goal
-
-pub returns : goal.returns
-returns c = record { rise = λ t n s. kept_rise (is_of n) t.records (they_rise t.records s.records.rise); already = already }

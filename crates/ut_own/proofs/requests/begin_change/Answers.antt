@@ -1,5 +1,0 @@
-use Rattle.ut_own.proofs.Keeping.{change_keeps}
-use Rattle.ut_own.proofs.requests.begin_change.Goals as goal
-
-pub returns : goal.returns
-returns c now a made = c.step.ensures now a made c.requires (change_keeps a c.args.object.now c.args.field.now c.args.kind.now)

@@ -1,5 +1,0 @@
-use Rattle.ut_own.proofs.Keeping.{field_keeps}
-use Rattle.ut_own.proofs.requests.make_field.Goals as goal
-
-pub returns : goal.returns
-returns c now a made = c.step.ensures now a made c.requires (field_keeps a c.args.new.now)

@@ -1,6 +1,0 @@
-use Rattle.std.proofs.Common.{◌≡◌, ◌++◌, drop}
-use Rattle.ut_parts.specs.Composed.{in_turn}
-use Rattle.ut_parts.proofs.lists.put_in_turn.Given as goal
-
-abbrev pub invariant-loop-part : goal.invariant-loop-part
-invariant-loop-part g l = l.out.items ++ in_turn g.T.Part.spell (drop l.part-index l.parts) ≡ l.fn.out.items ++ in_turn g.T.Part.spell l.parts

@@ -1,5 +1,0 @@
-use Rattle.ut_plan.proofs.Found.{found_is}
-use Rattle.ut_plan.proofs.laws.plan_laws.Goals as goal
-
-pub returns : goal.returns
-returns c = record { found = found_is }

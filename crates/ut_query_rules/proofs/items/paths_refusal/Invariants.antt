@@ -1,6 +1,0 @@
-use Rattle.std.proofs.Common.{◌≡◌, [], drop}
-use Rattle.ut_query_rules.specs.Rules.{paths_rule}
-use Rattle.ut_query_rules.proofs.items.paths_refusal.Given as goal
-
-abbrev pub invariant-loop-path : goal.invariant-loop-path
-invariant-loop-path l = paths_rule l.layouts l.layout [] l.paths ≡ paths_rule l.layouts l.layout l.before.items (drop l.path-index l.paths)

@@ -1,5 +1,0 @@
-use Rattle.std.proofs.Common.{length}
-use Rattle.ut_query_rules.proofs.paths.+path_column.Given as goal
-
-abbrev pub decreases-path_column : goal.decreases-path_column
-decreases-path_column l = length l.names.now

@@ -1,5 +1,0 @@
-use Rattle.std.proofs.Common.{length}
-use Rattle.ut_query_rules.proofs.paths.+spelled.Given as goal
-
-abbrev pub decreases-spelled : goal.decreases-spelled
-decreases-spelled l = length l.names.now

@@ -1,5 +1,0 @@
-use Rattle.std.proofs.Common.{length}
-use Rattle.ut_records.proofs.giving.+are_valid.Given as goal
-
-abbrev pub decreases-are_valid : goal.decreases-are_valid
-decreases-are_valid l = length l.fields.now

@@ -1,5 +1,0 @@
-use Rattle.ut_relatives.proofs.Subqueries.{UnderWay}
-use Rattle.ut_relatives.proofs.found.all_children.Given as goal
-
-abbrev pub invariant-loop-plan : goal.invariant-loop-plan
-invariant-loop-plan g l = UnderWay g.K.Keeper.state l.fn.layouts (g.R.Rights.whose l.fn.rights) l.fn.target l.fn.plans l.fn.draft l.plan-index l.all l.draft

@@ -1,5 +1,0 @@
-use Rattle.ut_replies.proofs.Written.{made_reply}
-use Rattle.ut_replies.proofs.made.made_body.Goals as goal
-
-pub returns : goal.returns
-returns c = made_reply c.new-writer.result c.write_made.new.writer c.finish.result c.args.id.now c.new-writer.ensures c.in_ok-write_made.ensures c.finish.ensures

@@ -1,5 +1,0 @@
-use Rattle.ut_replies.proofs.Written.{upserted_reply}
-use Rattle.ut_replies.proofs.made.upserted_body.Goals as goal
-
-pub returns : goal.returns
-returns c = upserted_reply c.new-writer.result c.write_upserted.new.writer c.finish.result c.args.id.now c.args.created c.new-writer.ensures c.in_ok-write_upserted.ensures c.finish.ensures

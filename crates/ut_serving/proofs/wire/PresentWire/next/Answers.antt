@@ -1,5 +1,0 @@
-use Rattle.std.proofs.Common.{rules}
-use Rattle.ut_serving.proofs.wire.PresentWire.next.Goals as goal
-
-pub returns-clause-at_hand : goal.returns-clause-at_hand
-returns-clause-at_hand g c m rest item = let same = (c.next_message.ensures.at_hand m rest item).0 in search (rules, same)

@@ -1,7 +1,0 @@
-use Rattle.std.proofs.Common.{◌∙◌}
-use Rattle.ut_shares.proofs.MemberNames.{same_member}
-use Rattle.ut_shares.proofs.texts.is_named.Goals as goal
-
-pub returns : goal.returns
-returns c =
-    c.eq.ensures ∙ same_member c.args.member.now c.as_str.result.now c.args.name.now c.as_str.ensures.bytes c.as_str.ensures.characters c.utf8.name

@@ -1,6 +1,0 @@
-use Rattle.ut_soql_print.proofs.Grown.{on_ok, three}
-use Rattle.ut_soql_print.proofs.queries.OrderKeyPrinted.print.Goals as goal
-
-pub returns : goal.returns
-returns c =
-    on_ok c.only_if-2.result (λ e. three c.args.out.now c.print.new.out c.only_if.new.out c.only_if-2.new.out _ _ _ c.in_ok-print.ensures c.in_ok-only_if.ensures e) c.only_if-2.ensures

@@ -1,9 +1,0 @@
-//! What the grammar of queries sees of the tokens of a text.
-//!
-//! It depends on `ut_soql_grammar`, which has the grammar, on `ut_query`, `ut_grammar` and `ut_value`. Its contract: `signs`
-//! returns of each token what the definition `sign_of` gives it, or is out of memory.
-#![tactic(auto)]
-
-mod words;
-
-pub use crate::words::signs;

@@ -1,5 +1,0 @@
-use Rattle.ut_sound.proofs.WorldSound.{world_sound}
-use Rattle.ut_sound.proofs.answers.world_sound.Goals as goal
-
-pub returns : goal.returns
-returns c = record { step = world_sound c.answers_sound.ensures.answer }

@@ -1,6 +1,0 @@
-use Rattle.std.proofs.Common.{◌≡◌, map, take}
-use Rattle.ut_sqlkeeper.specs.inner.Steps.{kept_row}
-use Rattle.ut_sqlkeeper.proofs.statements.kept_rows.Given as goal
-
-abbrev pub invariant-loop-row : goal.invariant-loop-row
-invariant-loop-row l = l.all.items ≡ map kept_row (take l.row-index l.rows)

@@ -1,9 +1,0 @@
-use Rattle.std.proofs.Common.{◌≡◌, ◌≤◌, ◌+◌, drop, false}
-use Rattle.ut_table.specs.Place.{line_ends}
-use Rattle.ut_table.proofs.place.line_ends.Given as goal
-
-abbrev pub invariant-loop-byte : goal.invariant-loop-byte
-invariant-loop-byte l = record {
-  count : l.count + line_ends l.after_return (drop l.byte-index l.bytes) ≡ line_ends false l.bytes;
-  few : l.count ≤ l.byte-index;
-}

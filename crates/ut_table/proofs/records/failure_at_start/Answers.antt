@@ -1,9 +1,0 @@
-use Rattle.std.proofs.Common.{◌≡◌, true, rules}
-use Rattle.ut_table.specs.Table.{begins_with_two_marks}
-use Rattle.ut_table.proofs.Steps.{marked}
-use Rattle.ut_table.proofs.records.failure_at_start.Goals as goal
-
-pub returns-then-starts_with-clause-marked : goal.returns-then-starts_with-clause-marked
-returns-then-starts_with-clause-marked c =
-    let marks : begins_with_two_marks c.args.source.now ≡ true = search rules in
-    marked c.args.source.now c.refusal.result marks c.refusal.ensures

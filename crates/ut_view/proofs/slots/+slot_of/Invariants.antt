@@ -1,4 +1,0 @@
-use Rattle.ut_view.proofs.slots.+slot_of.Given as goal
-
-abbrev pub decreases-slot_of : goal.decreases-slot_of
-decreases-slot_of l = l.count

@@ -3,8 +3,8 @@ use Rattle.std.proofs.Common.{◌≡◌, ◌∙◌, ◌<◌, ◌≤◌, ℕ, ◌
 use Rattle.std.proofs.lemmas.List.{drop_all}
 use Rattle.model.specs.Rules.{Rule, first_of, first_refusal}
 use Rattle.store_abstraction.specs.declared.fail.EditFail.{EditFail}
-use Rattle.access_rules.specs.inner.Judging.{FailsRule}
-use Rattle.access_rules.proofs.StepByStep.{fails_here}
+use Rattle.store_edit.specs.Judging.{FailsRule}
+use Rattle.store_edit.proofs.StepByStep.{fails_here}
 
 -- the rest begins with this one
 pub rest_is : {X : Type 0} (xs : List X) (i : ℕ) (x : X) → i < length xs → x ≡ get_or xs i x → drop i xs ≡ x ∷ drop (i + 1) xs

@@ -30,8 +30,8 @@ use Rattle.store_abstraction.specs.Layouts.{job_on, job_place, layout_of}
 use Rattle.store_abstraction.specs.Metadata.{org_of}
 use Rattle.store_abstraction.specs.Plan.{OrgPlan}
 use Rattle.access_rules.specs.inner.Adding.{busy_by, detail_rule, formula_rule, id_rules, room_rule, rules_by, taken_rule, there_rules}
-use Rattle.access_rules.specs.inner.Judging.{FailsRule}
-use Rattle.access_rules.proofs.StepByStep.{fails_here, fails_next, none_next}
+use Rattle.store_edit.specs.Judging.{FailsRule}
+use Rattle.store_edit.proofs.StepByStep.{fails_here, fails_next, none_next}
 
 pick : (b : Bool) (P : Bool → Type 0) → (b ≡ true → P true) → (b ≡ false → P false) → P b
 pick true P f g = f refl

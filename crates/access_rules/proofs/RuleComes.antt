@@ -54,13 +54,14 @@ use Rattle.store_abstraction.proofs.MetadataRows.{sound_object}
 use Rattle.store_abstraction.proofs.Spelled.{both, short_fits, stem_fits}
 use Rattle.access_rules.specs.declared.adding.NewRows.{NewRows}
 use Rattle.access_rules.specs.inner.Adding.{AddsTo, FitNewRows, IsSpelledRule, IsSpelledSource, busy_by, changes_of, id_rules, rules_by}
-use Rattle.access_rules.specs.inner.Judging.{FailsRule}
+use Rattle.store_edit.specs.Judging.{FailsRule}
 use Rattle.access_rules.specs.Sharing.{is_sharing_key}
 use Rattle.access_rules.proofs.NewRules.{rules_are}
-use Rattle.access_rules.proofs.Putting.{OrgLaws, SamePlan, beside, other_org, other_sharing, put_is_in, put_is_of}
+use Rattle.access_rules.proofs.Putting.{OrgLaws, SamePlan, other_sharing}
+use Rattle.store_edit.proofs.Putting.{beside, other_org, put_is_in, put_is_of}
 use Rattle.access_rules.proofs.RuleGone.{NamesFind}
 use Rattle.access_rules.proofs.SpelledOnes.{is_spelled_id, member_passes}
-use Rattle.access_rules.proofs.StepByStep.{accepted, rule_fails}
+use Rattle.store_edit.proofs.StepByStep.{accepted, rule_fails}
 
 -- ---- three calls in turn
 

@@ -31,7 +31,8 @@ use Rattle.access_rules.specs.declared.removing.Remaining.{Remaining}
 use Rattle.access_rules.specs.inner.Removing.{FitsRemaining, changes_of, no_such_rule}
 use Rattle.access_rules.specs.inner.Rows.{key_of_name, own_sharing_row}
 use Rattle.access_rules.specs.Sharing.{is_sharing_key, without_rule}
-use Rattle.access_rules.proofs.Putting.{OrgLaws, SamePlan, beside, other_org, other_sharing, put_is_in, put_is_of}
+use Rattle.access_rules.proofs.Putting.{OrgLaws, SamePlan, other_sharing}
+use Rattle.store_edit.proofs.Putting.{beside, other_org, put_is_in, put_is_of}
 use Rattle.access_rules.proofs.SharingRows.{turned}
 
 -- what the laws of rows say of a rule that goes

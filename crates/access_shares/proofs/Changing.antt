@@ -17,7 +17,7 @@ use Rattle.record_target.proofs.SharePlaces.{SamePrincipals, one_place}
 use Rattle.store_codec.specs.Composed.{principal}
 use Rattle.people_edit.proofs.Changing.{changed_takes}
 use Rattle.people_edit.proofs.Joining.{SamePlan}
-use Rattle.people_edit.proofs.Putting.{beside}
+use Rattle.store_edit.proofs.Putting.{beside}
 use Rattle.people_rows.proofs.People.{same_plan}
 use Rattle.store_abstraction.specs.Changes.{Change}
 use Rattle.store_abstraction.specs.Local.{IsIn}

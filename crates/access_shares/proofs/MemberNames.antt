@@ -7,7 +7,7 @@ use Rattle.std.proofs.lemmas.Slice.Eq.{bytes_eq-Decides}
 use Rattle.std.proofs.lemmas.Str.{encodes-chars}
 use Rattle.model.specs.Rules.{Rule}
 use Rattle.store_abstraction.specs.declared.fail.EditFail.{EditFail}
-use Rattle.people_edit.specs.inner.Judging.{Passes}
+use Rattle.store_edit.specs.Judging.{Passes}
 
 -- a text whose bytes are those of a name is the name's characters
 pub same_member : (m a name : List ℕ) → a ≡ encode_utf8_all m → chars a ≡ m → IsUtf8 name → bytes_eq a name ≡ bytes_eq (chars name) m

@@ -35,7 +35,7 @@ use Rattle.store_abstraction.specs.Plan.{OrgPlan}
 use Rattle.store_abstraction.proofs.MetadataRows.{sound_object}
 use Rattle.base_value.specs.declared.sharing.Level.{Level}
 use Rattle.base_value.specs.declared.sharing.Level.TheVariants.{Nothing, Read}
-use Rattle.people_edit.specs.inner.Judging.{FailsRule}
+use Rattle.store_edit.specs.Judging.{FailsRule}
 use Rattle.access_shares.specs.inner.Finding.{FindsLevel, readable_or_none}
 
 -- ---- the level

@@ -24,9 +24,9 @@ use Rattle.store_abstraction.specs.Local.{FindsIn, StandsIn}
 use Rattle.store_abstraction.specs.Plan.{FitsPlan, OrgPlan}
 use Rattle.store_abstraction.specs.Stands.{org_of_key, row_in}
 use Rattle.people_edit.specs.inner.Changing.{IsRowAs, found}
-use Rattle.people_edit.specs.inner.Judging.{Passes}
+use Rattle.store_edit.specs.Judging.{Passes}
 use Rattle.people_edit.proofs.Joining.{PlanStays, SamePlan}
-use Rattle.people_edit.proofs.Putting.{beside, put_is_of}
+use Rattle.store_edit.proofs.Putting.{beside, put_is_of}
 
 some_is : {A : Type 0} (x y : A) → ◌≡◌ {A = Option A} (Some x) (Some y) → x ≡ y
 some_is x y e = cc

@@ -23,8 +23,9 @@ use Rattle.store_abstraction.specs.Metadata.{org_of}
 use Rattle.store_abstraction.specs.Plan.{OrgPlan}
 use Rattle.people_edit.specs.declared.edits.kind.Kind.{Kind}
 use Rattle.people_edit.specs.inner.Drawing.{kind_count, kind_limit, kind_member, new_rules}
-use Rattle.people_edit.specs.inner.Judging.{FailsRule, lacks_role}
-use Rattle.people_edit.proofs.Judging.{fails_here, fails_next, none_next}
+use Rattle.people_edit.specs.inner.Judging.{lacks_role}
+use Rattle.store_edit.specs.Judging.{FailsRule}
+use Rattle.store_edit.proofs.StepByStep.{fails_here, fails_next, none_next}
 
 -- ---- the role that a text names
 

@@ -10,8 +10,8 @@ use Rattle.model.specs.declared.people_bodies.PrincipalKind.{PrincipalKind}
 use Rattle.model.specs.declared.people_bodies.PrincipalKind.TheVariants as kind
 use Rattle.model.specs.Principals.{kind_of}
 use Rattle.store_codec.specs.Composed.{FitsPrincipal}
-use Rattle.people_edit.specs.inner.Judging.{FailsRule}
-use Rattle.people_edit.proofs.Judging.{fails_here}
+use Rattle.store_edit.specs.Judging.{FailsRule}
+use Rattle.store_edit.proofs.StepByStep.{fails_here}
 
 -- the rest begins with this one
 pub rest_is : {X : Type 0} (xs : List X) (i : ℕ) (x : X) → i < length xs → x ≡ get_or xs i x → drop i xs ≡ x ∷ drop (i + 1) xs

@@ -42,7 +42,7 @@ use Rattle.people_edit.specs.declared.edits.drawing.Drawn.{Drawn}
 use Rattle.people_edit.specs.declared.edits.kind.Kind.TheVariants as kind
 use Rattle.people_edit.specs.inner.Drawing.{FitsDrawn, IsDrawn, new_rules}
 use Rattle.people_edit.proofs.Joining.{NamesAreShort, NamesAreTexts, OrgLaws, SamePlan, has_last, name_fits, new_takes}
-use Rattle.people_edit.proofs.Judging.{accepted}
+use Rattle.store_edit.proofs.StepByStep.{accepted}
 use Rattle.people_edit.proofs.Putting.{other_group, other_role, other_user}
 
 -- ---- roles

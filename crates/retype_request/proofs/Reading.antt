@@ -12,7 +12,7 @@ use Rattle.model.specs.Rules.{Rule, first_of, refuse_if}
 use Rattle.model.specs.Tenant.{Tenant}
 use Rattle.retype_request.specs.declared.columns.NamedField.{NamedField}
 use Rattle.retype_request.specs.inner.Beginning.{IsPlace, column_rule, field_rule, named_in, place_in}
-use Rattle.retype_request.specs.inner.Judging.{FailsRule, Passes}
+use Rattle.store_edit.specs.Judging.{FailsRule, Passes}
 use Rattle.retype_request.specs.inner.States.{busy_by}
 use Rattle.retype_request.proofs.Busy.{busy_is}
 use Rattle.people_rows.specs.Roster.{ListsIn}

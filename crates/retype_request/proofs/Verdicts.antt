@@ -22,7 +22,7 @@ use Rattle.retype_request.specs.declared.columns.NamedField.{NamedField}
 use Rattle.retype_request.specs.declared.judging.Chosen.{Chosen}
 use Rattle.retype_request.specs.inner.Beginning.{Begins, BeginsBy, IsPlace, begin_by, column_rule, field_rule, named_in, place_in}
 use Rattle.retype_request.specs.inner.Columns.{named_by}
-use Rattle.retype_request.specs.inner.Judging.{FailsRule}
+use Rattle.store_edit.specs.Judging.{FailsRule}
 use Rattle.retype_request.specs.inner.Rules.{use_rule}
 use Rattle.retype_request.proofs.Uses.{use_is}
 use Rattle.schema_rules.proofs.Objects.{fields_back}

@@ -8,7 +8,7 @@ ghost use Rattle.model.specs.declared.refusal.Refusal.TheVariants.{FieldInUse};
 ghost use Rattle.model.specs.Retyping.{uses};
 ghost use Rattle.model.specs.Rules.{first_of};
 ghost use Rattle.model.specs.Tenant.{Tenant};
-ghost use Rattle.retype_request.specs.inner.Judging.{Passes};
+ghost use Rattle.store_edit.specs.Judging.{Passes};
 ghost use Rattle.retype_request.specs.inner.Rules.{part_uses, row_use, sharing_use, use_rule};
 ghost use Rattle.schema_rules.specs.Objects.{object_of_layout};
 ghost use Rattle.schema_rules.specs.Rows.{rule_rows};

@@ -33,7 +33,7 @@ use Rattle.base_value.specs.declared.sharing.Access.{Access}
 use Rattle.schema_edit.specs.inner.Rows.{HasRow}
 use Rattle.schema_edit.specs.Judging.{AcceptsOn, IsNamedLayout, verdict_refusal}
 use Rattle.schema_edit.proofs.Editing.{beside, named_at, other_object, some_is, unrefused}
-use Rattle.schema_edit.proofs.Putting.{put_is_of}
+use Rattle.store_edit.proofs.Putting.{put_is_of}
 
 -- what `store_abstraction` says of rows and plans where an object has another access, and `model_invariant` of the tenant
 abbrev pub AccessRows : Type 0

@@ -48,7 +48,7 @@ use Rattle.schema_edit.specs.inner.Rows.{field_row}
 use Rattle.schema_edit.proofs.Editing.{beside, eqb_same, named_at, other_field, other_object, some_is, unrefused}
 use Rattle.schema_edit.proofs.JudgedFields.{field_verdict, unnamed}
 use Rattle.schema_edit.proofs.Layouts.{named_is}
-use Rattle.schema_edit.proofs.Putting.{put_is_in, put_is_of}
+use Rattle.store_edit.proofs.Putting.{put_is_in, put_is_of}
 
 -- ---- what the layers below say of rows, plans and sound organisations
 

@@ -43,7 +43,7 @@ use Rattle.schema_edit.specs.inner.Relations.{layout_by_name}
 use Rattle.schema_edit.proofs.Editing.{beside, other_field, other_object, other_org, unless_none}
 use Rattle.schema_edit.proofs.Layouts.{length_is, named_is}
 use Rattle.schema_edit.proofs.Lists.{pick}
-use Rattle.schema_edit.proofs.Putting.{put_is_in}
+use Rattle.store_edit.proofs.Putting.{put_is_in}
 
 some_is : {A : Type 0} (x y : A) → ◌≡◌ {A = Option A} (Some x) (Some y) → x ≡ y
 some_is x y e = cc

@@ -51,7 +51,7 @@ use Rattle.schema_edit.specs.Judging.{verdict_refusal}
 use Rattle.schema_edit.proofs.AccessEdits.{DescribedFits, ObjectFits, SamePlan, get_changed, own_row}
 use Rattle.schema_edit.proofs.Editing.{beside, named_at, other_object, other_rule, some_is, unrefused}
 use Rattle.schema_edit.proofs.FieldStands.{sound_object}
-use Rattle.schema_edit.proofs.Putting.{put_is_in, put_is_of}
+use Rattle.store_edit.proofs.Putting.{put_is_in, put_is_of}
 
 -- what `store_abstraction` says of rows where an object has one rule more, and `model_invariant` of the tenant
 abbrev pub Described : Type 0

@@ -3,7 +3,8 @@ use Rattle.store_edit.proofs.Reading.{two_reads}
 use Rattle.store_kv.specs.Tables.{Tables}
 use Rattle.model.specs.Rules.{first_of}
 use Rattle.retype_request.specs.inner.Rules.{row_use, sharing_use, use_rule}
-use Rattle.retype_request.proofs.StepByStep.{fails_here, passed_on, second_passes}
+use Rattle.retype_request.proofs.StepByStep.{second_passes}
+use Rattle.store_edit.proofs.StepByStep.{fails_here, passed_on}
 use Rattle.retype_request.proofs.rules.check_unused.Goals as goal
 use Rattle.schema_rules.specs.Objects.{object_of_layout}
 use Rattle.schema_rules.specs.Rows.{rule_rows}

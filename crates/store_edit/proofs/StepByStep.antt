@@ -7,7 +7,7 @@ use Rattle.model.specs.Tenant.{Tenant}
 use Rattle.model.specs.Verdict.{Verdict, unless}
 use Rattle.store_abstraction.specs.declared.fail.EditFail.{EditFail}
 use Rattle.store_abstraction.specs.declared.fail.EditFail.TheVariants.{Refused, Store}
-use Rattle.people_edit.specs.inner.Judging.{FailsRule, Passes}
+use Rattle.store_edit.specs.Judging.{FailsRule, Passes}
 
 -- ---- one step
 

@@ -1,4 +1,4 @@
--- What judging an edit step by step comes to: each step has its rule. No public contract reaches these words.
+-- What judging an edit step by step comes to: each step has its rule.
 -- That rules are judged in a fixed order is this product's own.
 use Rattle.std.specs.Prelude.{◌≡◌, ◌≢◌, Some, None, Result, Ok, Err}
 use Rattle.store_rows.specs.declared.fail.StoreFail.TheVariants.{Damaged}

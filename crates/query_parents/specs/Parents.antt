@@ -1,30 +1,23 @@
--- The record to which a record refers, as a user may read it.
+-- Records, as a user may read them.
 -- Source: Salesforce, "SOQL and SOSL Reference", "Relationship Queries". That a record which the user may not read is none is this
 -- product's own.
 use Rattle.std.specs.Prelude.{◌≡◌, ℕ, ◌+◌, if◌then◌else◌, Option, Some, None, Result, Ok, Err}
 use Rattle.std.specs.Option.{option_and_then}
-use Rattle.formula_eval.specs.Meaning.{value_at}
 use Rattle.store_kv.specs.Tables.{Tables}
 use Rattle.store_rows.specs.declared.fail.StoreFail.{StoreFail}
 use Rattle.store_rows.specs.declared.fail.StoreFail.TheVariants.{Damaged, Keeper, Memory}
 use Rattle.model.specs.declared.record.Record.{Record}
 use Rattle.model.specs.Levels.{can_read}
-use Rattle.model.specs.Rights.{record_of_object}
 use Rattle.model.specs.Tenant.{Tenant, User}
 use Rattle.access_traits.specs.Rights.{Whose, level_shown}
 use Rattle.store_abstraction.specs.Layouts.{IsLayout}
 use Rattle.store_abstraction.specs.Local.{StandsIn}
 use Rattle.store_abstraction.specs.Plan.{OrgPlan}
 use Rattle.store_abstraction.specs.declared.layout.Layout.{Layout}
-use Rattle.base_value.specs.Values.{ref_of}
 
 -- a record, if the user may read it: `if_readable` of the model, without the moment at which who asks does
 abbrev pub if_readable_by : Tenant → User → Record → Option Record
 if_readable_by t u r = if can_read t u r then Some r else None
-
--- the record of an object to which a record refers at a position among its values
-abbrev pub record_there : Tenant → (object position : ℕ) → Record → Option Record
-record_there t n position r = option_and_then (record_of_object t n) (ref_of (value_at r.values position))
 
 -- the data rows that are shown for one of them at most: its own, and those for its level
 abbrev pub readable_shown : ℕ

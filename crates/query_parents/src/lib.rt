@@ -13,5 +13,3 @@ mod readable;
 
 pub use crate::branches::records_of_branches;
 pub use crate::children::{ChildPage, children_of};
-pub use crate::parents::parent_of;
-pub use crate::readable::readable_by_id;

@@ -41,7 +41,7 @@ fn kept_if_readable(
 ///
 /// `Keeper` if the keeper failed, `Memory` if out of memory, `Damaged` never if the organisation's rows stand for a tenant whose
 /// layout it is and of whose user the rights are.
-pub fn readable_by_id<K: Keeper, R: Rights>(
+pub(crate) fn readable_by_id<K: Keeper, R: Rights>(
     alloc: Global,
     draft: &mut Draft<'_, K>,
     rights: &R,

@@ -1,7 +1,7 @@
 -- Where names of relationships lead: the steps that they spell, and the records to which steps lead.
 -- Source: Salesforce, "SOQL and SOSL Reference", "Relationship Queries". That a step to a record which the user may not read
 -- leads nowhere is this product's own.
-use Rattle.std.specs.Prelude.{◌≡◌, ℕ, ◌-◌, List, [], ◌∷◌, Option, Some, None}
+use Rattle.std.specs.Prelude.{ℕ, ◌-◌, List, [], ◌∷◌, Option, Some, None}
 use Rattle.std.specs.Option.{option_and_then, option_map}
 use Rattle.formula_eval.specs.Meaning.{value_at}
 use Rattle.model.specs.declared.record.Record.{Record}
@@ -11,11 +11,8 @@ use Rattle.model.specs.Paths.{Asked, if_readable}
 use Rattle.model.specs.Relationships.{Reference, parent_named}
 use Rattle.model.specs.Rights.{record_of_object}
 use Rattle.model.specs.Tenant.{Tenant}
-use Rattle.store_abstraction.specs.Layouts.{IsLayout}
-use Rattle.store_abstraction.specs.Plan.{OrgPlan}
 use Rattle.query_paths.specs.declared.children.ChildStep.{ChildStep}
 use Rattle.query_paths.specs.declared.parents.ParentStep.{ParentStep}
-use Rattle.query_paths.specs.declared.ways.Way.{Way}
 
 -- ---- names
 
@@ -32,11 +29,6 @@ abbrev pub path_end : Tenant → ℕ → List (List ℕ) → Option (List Parent
 path_end t n [] = Some ([], n)
 path_end t n (name ∷ names) =
     in_case (parent_named t n name) None (λ f. option_map (λ e. (parent_step f ∷ e.0, e.1)) (path_end t f.target names))
-
--- what is found is what they spell, with the layout of the object at the end; nothing is found where they spell nothing
-abbrev pub FindsWay : OrgPlan → Tenant → (object : ℕ) → (names : List (List ℕ)) → Option Way → Type 0
-FindsWay q t n names None = path_end t n names ≡ None
-FindsWay q t n names (Some w) = (path_end t n names ≡ Some (w.steps, w.layout.now.object)) × IsLayout q t w.layout.now
 
 -- ---- records
 

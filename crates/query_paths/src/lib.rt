@@ -18,4 +18,4 @@ pub use crate::branches::{Branch, Place, branch_laws, place_in, step_from};
 pub use crate::children::{ChildStep, child_in};
 pub use crate::laws::way_laws;
 pub use crate::parents::{ParentStep, parent_in};
-pub use crate::ways::{Way, layout_in, steps_in};
+pub use crate::ways::layout_in;

@@ -23,7 +23,7 @@ fn rank(level: Level) -> u8
 }
 
 /// The greater of two levels.
-pub fn greater(a: Level, b: Level) -> Level
+pub(crate) fn greater(a: Level, b: Level) -> Level
     ensures { result ≡ greater a b }
 {
     if rank(a) <= rank(b) { b } else { a }

@@ -12,4 +12,4 @@ mod levels;
 
 pub use crate::judging::{level_apart, level_with, owns};
 pub use crate::knowing::{Criterion, OwnLevels, OwnerRule, own_levels};
-pub use crate::levels::{greater, is_open, is_readable_by_all, is_settled};
+pub use crate::levels::{is_open, is_readable_by_all, is_settled};

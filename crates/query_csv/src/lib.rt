@@ -11,4 +11,3 @@ mod line;
 mod names;
 
 pub use crate::answer::answer_lines;
-pub use crate::line::line_of;

@@ -11,5 +11,4 @@ mod ordered;
 mod relatives;
 mod taken;
 
-pub use crate::found::found_children;
 pub use crate::relatives::PlanRelatives;

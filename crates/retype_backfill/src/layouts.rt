@@ -61,7 +61,11 @@ fn job_come_to(alloc: Global, job: &JobPlace, cursor: Option<Id>) -> Result<JobP
 /// # Errors
 ///
 /// If out of memory.
-pub fn come_to(alloc: Global, layout: &Layout, cursor: Option<Id>) -> Result<Layout, AllocError>
+pub(crate) fn come_to(
+    alloc: Global,
+    layout: &Layout,
+    cursor: Option<Id>,
+) -> Result<Layout, AllocError>
     ensures { IfOk result (λ come. come ≡ come_to cursor layout.now) }
 {
     let job = match &layout.job {

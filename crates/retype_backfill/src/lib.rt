@@ -9,5 +9,4 @@ mod layouts;
 mod pages;
 
 pub use crate::laws::progress_laws;
-pub use crate::layouts::come_to;
 pub use crate::pages::page_changes;

@@ -89,7 +89,7 @@ fn bad_formula(alloc: Global, layout: &Layout, text: &str) -> Result<Option<Refu
 /// # Errors
 ///
 /// `Damaged` if the layout has more fields than an object may have, `Memory` if out of memory.
-pub fn judge_rule(
+pub(crate) fn judge_rule(
     alloc: Global,
     layout: &Layout,
     is_taken: bool,

@@ -3,8 +3,8 @@ use Rattle.std.proofs.Common.{◌≡◌, ◌∙◌, ℕ, suc, Bool, true, false,
 use Rattle.std.specs.Prelude.{Result, Err, nat_lt}
 use Rattle.std.specs.List.{list_any}
 use Rattle.std.specs.Option.{ok_or, option_and_then}
-use Rattle.formula_eval.specs.declared.formula.Formula.{Formula}
-use Rattle.formula_grammar.specs.Spelling.{formula_in, place_in}
+use Rattle.formula.specs.declared.formula.Formula.{Formula}
+use Rattle.formula.specs.grammar.Spelling.{formula_in, place_in}
 use Rattle.base_grammar.specs.Tokens.{byte_len}
 use Rattle.store_rows.specs.declared.org.OrgRow.{OrgRow}
 use Rattle.model.specs.declared.refusal.Refusal.TheVariants.{InvalidType, JobBusy}

@@ -10,7 +10,7 @@ ghost use Rattle.store_abstraction.specs.Calls.{ended_edit, fell};
 
 use base_grammar::ParseFail;
 use base_value::{Phase, Text};
-use formula_eval::Formula;
+use formula::Formula;
 use model::{Refusal, SpelledSource};
 use schema_rules::{names_field, read_formula};
 use std::alloc::{AllocError, Global};

@@ -7,7 +7,7 @@ use Rattle.std.proofs.lemmas.Bool.{eqb-true}
 use Rattle.std.proofs.lemmas.Bool.Decides.{nat_tests}
 use Rattle.base_value.specs.declared.value.FieldType.{FieldType}
 use Rattle.base_value.specs.declared.value.FieldType.TheVariants as type
-use Rattle.formula_eval.specs.Meaning.{value_at}
+use Rattle.formula.specs.Meaning.{value_at}
 use Rattle.model.specs.declared.record.Record.{Record}
 use Rattle.model.specs.Cases.{in_case}
 use Rattle.model.specs.Fields.{is_master, ref_of}
@@ -30,7 +30,7 @@ use Rattle.store_abstraction.proofs.MetadataRows.{sound_object}
 use Rattle.access_user.specs.declared.steps.MasterField.{MasterField}
 use Rattle.access_user.specs.inner.Steps.{master_from, master_target}
 use Rattle.access_user.proofs.Layouts.{IsOf, layout_is}
-use Rattle.access_rule_rows.proofs.SharingFits.{all_has}
+use Rattle.people_rows.proofs.SharingFits.{all_has}
 
 -- ---- lists
 

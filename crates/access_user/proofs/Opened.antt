@@ -8,7 +8,7 @@ use Rattle.store_kv.specs.declared.keeper.KeptRow.{KeptRow}
 use Rattle.store_rows.specs.declared.data.DataRow.{DataRow}
 use Rattle.store_rows.specs.Forms.{read_row}
 use Rattle.store_rows.specs.Rows.{data_form}
-use Rattle.access_level.specs.Own.{is_open}
+use Rattle.access_user.specs.level.Own.{is_open}
 use Rattle.model.specs.declared.record.Record.{Record}
 use Rattle.model.specs.Cases.{in_case}
 use Rattle.model.specs.Fields.{by_parent, is_detail, is_master}
@@ -38,7 +38,7 @@ use Rattle.access_user.proofs.Climbed.{no_up}
 use Rattle.access_user.proofs.Judged.{object_is, of_layout}
 use Rattle.access_user.proofs.Layouts.{layout_is}
 use Rattle.access_user.proofs.Masters.{of_object, test}
-use Rattle.access_rule_rows.proofs.SharingFits.{all_has}
+use Rattle.people_rows.proofs.SharingFits.{all_has}
 
 -- ---- it has no masters
 

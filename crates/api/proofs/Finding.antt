@@ -9,13 +9,13 @@ use Rattle.matchit.specs.Router.{RouteOf}
 use Rattle.matchit.specs.Seek.{first}
 use Rattle.model.specs.declared.routed.Routed.TheVariants.{NotFound}
 use Rattle.model.specs.Routing as model
-use Rattle.api_router_laws.specs.Cuts.{AllUtf8, Cut, find_from}
-use Rattle.api_router_laws.specs.Find.{find, path_parts}
-use Rattle.api_router_laws.specs.Pick.{router_rows}
-use Rattle.api_router_laws.specs.Ways.{any_by_path, any_by_pattern, decides, first_by_path}
-use Rattle.api_router_laws.proofs.Cuts.{cut, first-from, parts-text}
-use Rattle.api_router_laws.proofs.Routes.{find-passes, first-takes}
-use Rattle.api_router_laws.proofs.WayLaws.{lines-answer, lines-path, lines-none}
+use Rattle.api.specs.router.Cuts.{AllUtf8, Cut, find_from}
+use Rattle.api.specs.router.Find.{find, path_parts}
+use Rattle.api.specs.router.Pick.{router_rows}
+use Rattle.api.specs.router.Ways.{any_by_path, any_by_pattern, decides, first_by_path}
+use Rattle.api.proofs.Cuts.{cut, first-from, parts-text}
+use Rattle.api.proofs.Routes.{find-passes, first-takes}
+use Rattle.api.proofs.WayLaws.{lines-answer, lines-path, lines-none}
 use Rattle.api.specs.declared.kind.Kind.{Kind}
 use Rattle.api.specs.declared.place.Place.{Place}
 use Rattle.api.specs.inner.Kinds.{kind_in, kind_lines, made_by, made_with, routed_at}

@@ -10,9 +10,9 @@ use Rattle.std.specs.Option.{option_map}
 use Rattle.std.specs.Prelude.{bytes_eq, codes, if◌then◌else◌, Option, Some, None}
 use Rattle.std.specs.Str.{chars, IsAscii, IsUtf8}
 use Rattle.model.specs.Routing.{is_empty, part, parts_by}
-use Rattle.api_router_laws.specs.Cuts.{AllUtf8}
-use Rattle.api_router_laws.specs.Find.{path_parts}
-use Rattle.api_router_laws.specs.Pick.{Piece, text, param}
+use Rattle.api.specs.router.Cuts.{AllUtf8}
+use Rattle.api.specs.router.Find.{path_parts}
+use Rattle.api.specs.router.Pick.{Piece, text, param}
 use Rattle.api.specs.inner.Places.{taken}
 use Rattle.api.proofs.Characters.{bytes_eq-chars}
 

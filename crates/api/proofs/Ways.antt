@@ -7,9 +7,9 @@ use Rattle.std.specs.Str.{chars}
 use Rattle.form_urlencoded.specs.Form.{split}
 use Rattle.model.specs.declared.route.Route.{Route}
 use Rattle.model.specs.Routing.{Line, first_route, is_empty, is_path, lines, or_else, parts_by, parts_of, path_of, query_of, route_by, segments}
-use Rattle.api_router_laws.specs.Cuts.{AllUtf8}
-use Rattle.api_router_laws.specs.Find.{path_parts}
-use Rattle.api_router_laws.specs.Ways.{MethodWay, any_by_path, any_by_pattern, by_method, decides, first_by_path, first_by_pattern, has_patterns, or_way, same_pieces}
+use Rattle.api.specs.router.Cuts.{AllUtf8}
+use Rattle.api.specs.router.Find.{path_parts}
+use Rattle.api.specs.router.Ways.{MethodWay, any_by_path, any_by_pattern, by_method, decides, first_by_path, first_by_pattern, has_patterns, or_way, same_pieces}
 use Rattle.api.specs.declared.kind.Kind.{Kind}
 use Rattle.api.specs.declared.place.Place.{Place}
 use Rattle.api.specs.inner.Kinds.{KindLine, kind_in, kind_lines, made_by}

@@ -20,10 +20,10 @@ use Rattle.store_abstraction.proofs.MetadataRows.{sound_object}
 use Rattle.schema_rules.specs.Objects.{object_of_layout}
 use Rattle.record_input.specs.Given.{NamesUnique}
 use Rattle.record_input.proofs.Spelled.{unique_alike}
-use Rattle.query_paths.specs.declared.parents.ParentStep.{ParentStep}
-use Rattle.query_paths.specs.Ways.{parent_step}
-use Rattle.query_paths.proofs.ByLayout.{layout_is}
-use Rattle.query_paths.proofs.Owned.{numbered_as, parent_is}
+use Rattle.query_plan.specs.declared.paths.parents.ParentStep.{ParentStep}
+use Rattle.query_plan.specs.paths.Ways.{parent_step}
+use Rattle.query_plan.proofs.ByLayout.{layout_is}
+use Rattle.query_plan.proofs.Owned.{numbered_as, parent_is}
 use Rattle.cmd_load_plan.specs.declared.plan.LoadColumn.{LoadColumn}
 use Rattle.cmd_load_plan.specs.Columns.{found_by, parent_column}
 use Rattle.cmd_load_plan.specs.inner.Headings.{column_at, unique_place}

@@ -34,8 +34,8 @@ use Rattle.store_abstraction.specs.Local.{StandsIn}
 use Rattle.store_abstraction.specs.Plan.{OrgPlan}
 use Rattle.store_abstraction.specs.declared.fail.EditFail.{EditFail}
 use Rattle.store_abstraction.specs.declared.fail.EditFail.TheVariants.{Refused, Store}
-use Rattle.record_upsert.specs.Upserting.{ReadsFoundByKey}
-use Rattle.record_upsert.specs.declared.upsert.Upserted.{Upserted}
+use Rattle.record_save.specs.upsert.Upserting.{ReadsFoundByKey}
+use Rattle.record_save.specs.declared.upsert.upsert.Upserted.{Upserted}
 use Rattle.base_value.specs.Dates.{is_moment}
 use Rattle.cmd_load_row.specs.Loads.{load_shown, row_changes}
 use Rattle.cmd_load_row.specs.inner.Edits.{AsksBy, EditsRow, EditsTo, KnowsFound, seen, text_is_spelled}

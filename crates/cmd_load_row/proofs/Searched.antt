@@ -28,7 +28,7 @@ use Rattle.base_value.specs.Values.{valid}
 use Rattle.base_value.specs.declared.fail.ValueFail.{ValueFail}
 use Rattle.base_value.specs.declared.fail.ValueFail.TheVariants as fail
 use Rattle.base_value.specs.declared.value.Value.{Value}
-use Rattle.query_paths.proofs.ByLayout.{layout_is, read_is}
+use Rattle.query_plan.proofs.ByLayout.{layout_is, read_is}
 use Rattle.cmd_load_row.specs.declared.parents.Parent.{Parent}
 use Rattle.cmd_load_row.specs.inner.Finding.{FindsAt, FindsId, FindsOf as FindsParentOf, IsParent, is_unique_at, is_unique_place, target_named, unread}
 use Rattle.cmd_load_row.proofs.Lists.{both}

@@ -14,7 +14,7 @@ use Rattle.std.specs.Cmp.{bool_cmp_total}
 use Rattle.std.proofs.lemmas.List.Sorted.{IsPermutation-cons, IsPermutation-middle, IsPermutation-refl, IsPermutation-trans}
 use Rattle.std.proofs.lemmas.Slice.Eq.{bytes_eq-Decides}
 use Rattle.base_value.specs.Values.{cmp}
-use Rattle.soql_ast.specs.declared.query.OrderKey.{OrderKey}
+use Rattle.soql.specs.declared.query.OrderKey.{OrderKey}
 use Rattle.model.specs.declared.record.Record.{Record}
 use Rattle.model.specs.Fields.{is_null}
 use Rattle.model.specs.Ordered.{IdsDiffer, before, in_order, key_cmp, put_in, turned}

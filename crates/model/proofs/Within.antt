@@ -3,8 +3,8 @@ use Rattle.std.proofs.Common.{◌≡◌, Bool, true, false, not, ◌&&◌, ◌||
 use Rattle.std.specs.List.{list_all, list_any}
 use mathlib.Core.Former.{Count}
 use denote.Hole.Carrier.{hidden}
-use Rattle.soql_ast.specs.declared.query.Cond.{Cond, Not, And, Or, And', Or', Row_of-Cond, end_of-Cond, more_of-Cond, items-the_row-Cond, items_hidden-the_row-Cond-1}
-use Rattle.soql_ast.specs.declared.query.Cond.TheBlock.{hidden-the_row-Cond-0}
+use Rattle.soql.specs.declared.query.Cond.{Cond, Not, And, Or, And', Or', Row_of-Cond, end_of-Cond, more_of-Cond, items-the_row-Cond, items_hidden-the_row-Cond-1}
+use Rattle.soql.specs.declared.query.Cond.TheBlock.{hidden-the_row-Cond-0}
 use Rattle.model.specs.declared.record.Record.{Record}
 use Rattle.model.specs.Conditions.{all_hold, holds, some_hold}
 use Rattle.model.specs.Paths.{Asked}

@@ -5,7 +5,7 @@ use Rattle.std.specs.List.{list_all, list_any}
 use Rattle.std.specs.Option.{unwrap_or}
 use Rattle.std.proofs.lemmas.Bool.{eqb-true}
 use Rattle.base_value.specs.declared.sharing.Access.{Access}
-use Rattle.formula_eval.specs.declared.formula.Formula.{Formula}
+use Rattle.formula.specs.declared.formula.Formula.{Formula}
 use Rattle.model.specs.Limits.{formula_limit}
 use Rattle.model.specs.declared.refusal.Refusal.TheVariants as refusal
 use Rattle.model.specs.Cases.{in_case}
@@ -25,7 +25,7 @@ use Rattle.model.specs.Tenant.{Job, Object, SharingRule, Source, owned, meets, T
 use Rattle.model.specs.declared.metadata_bodies.NewValidationRule.{NewValidationRule}
 use Rattle.model.specs.ValidationRules.{add_validation_rule, new_validation_rule_rules, validation_of, with_validation_rule}
 use Rattle.model.specs.Verdict.{accept, done, judged}
-use Rattle.model_rule_text.specs.Reading.{ReadsByFields}
+use Rattle.model_invariant.specs.rule_text.Reading.{ReadsByFields}
 use Rattle.model_invariant.proofs.Parts.{both, both_left, both_right, list_all_kept, list_all_more, list_all_put, pick, unrefused}
 use Rattle.model_invariant.proofs.ObjectsSound.{changed_at, or_not, with_one}
 use Rattle.model_invariant.proofs.PeopleSound.{when_judged}

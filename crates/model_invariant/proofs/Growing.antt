@@ -11,7 +11,7 @@ use Rattle.base_value.specs.declared.sharing.Principal.TheVariants as to
 use Rattle.base_value.specs.declared.job.RuleState.{RuleState}
 use Rattle.model.specs.declared.record.Record.{Record}
 use Rattle.model.specs.declared.refusal.Refusal.{Refusal}
-use Rattle.formula_eval.specs.Meaning.{value_at}
+use Rattle.formula.specs.Meaning.{value_at}
 use Rattle.model.specs.Fields.{is_detail, is_master, ref_of}
 use Rattle.model.specs.Known.{Grows, IsDrawn, KeepsPeople, Known, NumbersDiffer, group_id, item_of, known, knows, names_any, number_part, role_id}
 use Rattle.model.specs.Objects.{object_number, record_prefix}

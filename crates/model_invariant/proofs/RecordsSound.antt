@@ -21,7 +21,7 @@ use Rattle.base_value.specs.declared.value.Value.{Value}
 use Rattle.base_value.specs.declared.value.Value.TheVariants as value
 use Rattle.model.specs.declared.record.Record.{Record}
 use Rattle.model.specs.Creates.{with_record}
-use Rattle.formula_eval.specs.Meaning.{value_at}
+use Rattle.formula.specs.Meaning.{value_at}
 use Rattle.model.specs.Fields.{is_null}
 use Rattle.model.specs.Known.{Grows, known, names_any}
 use Rattle.model.specs.Membership.{Has}

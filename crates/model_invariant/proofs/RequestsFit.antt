@@ -6,8 +6,8 @@ use Rattle.std.specs.Str.{all_scalars, chars, is_utf8}
 use Rattle.std.proofs.lemmas.Str.{IsUtf8-from_is_utf8, scalars-chars}
 use Rattle.base_json.specs.Reading.{◌>>=◌}
 use Rattle.base_json.specs.declared.tree.Json.{Json}
-use Rattle.soql_ast.specs.declared.query.Query.{Query}
-use Rattle.soql_grammar.specs.Spelling.{reads_query}
+use Rattle.soql.specs.declared.query.Query.{Query}
+use Rattle.soql.specs.grammar.Spelling.{reads_query}
 use Rattle.base_value.specs.Texts.{lower, texts_differ}
 use Rattle.model.specs.declared.refusal.Refusal.{Refusal}
 use Rattle.model.specs.declared.route.Route.{Route}

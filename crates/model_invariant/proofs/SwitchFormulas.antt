@@ -4,7 +4,7 @@ use Rattle.std.specs.Prelude.{Result, Err, is_ok}
 use Rattle.std.specs.List.{list_all}
 use Rattle.std.specs.Option.{option_and_then}
 use Rattle.base_value.specs.declared.job.Phase.TheVariants as phase
-use Rattle.formula_eval.specs.declared.formula.Formula.{Formula}
+use Rattle.formula.specs.declared.formula.Formula.{Formula}
 use Rattle.model.specs.Limits.{formula_limit}
 use Rattle.model.specs.Cases.{in_case}
 use Rattle.model.specs.Jobs.{job_step, switched}
@@ -16,7 +16,7 @@ use Rattle.model_invariant.proofs.SoundParts.{HasSoundParts}
 use Rattle.model.specs.SoundFormulas.{AreFormulasSound, criteria_read, is_unnamed, source_reads, validations_read}
 use Rattle.model.specs.SoundJob.{HasSoundJob, IsSoundJob}
 use Rattle.model.specs.Tenant.{Field, Job, Object, SharingRule, Source, owned, meets, Tenant, ValidationRule}
-use Rattle.model_rule_text.specs.Reading.{ReadsOtherTypes}
+use Rattle.model_invariant.specs.rule_text.Reading.{ReadsOtherTypes}
 use Rattle.model_invariant.proofs.Parts.{both, both_left, both_right, list_all_at, list_all_from, pick}
 use Rattle.model_invariant.proofs.Changes.{changed_or_not}
 use Rattle.model_invariant.proofs.FormulasSound.{IsUnnamed, free, free_rule}

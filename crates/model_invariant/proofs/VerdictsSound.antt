@@ -1,6 +1,6 @@
 -- What the verdict of any request leaves is sound.
 use Rattle.std.proofs.Common.{◌≡◌, Bool, true, false, not, Option, Some, None, refl}
-use Rattle.soql_ast.specs.declared.query.Query.{Query}
+use Rattle.soql.specs.declared.query.Query.{Query}
 use Rattle.model.specs.Fields.{by_parent}
 use Rattle.model.specs.declared.refusal.Refusal.TheVariants as refusal
 use Rattle.model.specs.Asking.{ask, query_rules}
@@ -12,7 +12,7 @@ use Rattle.model_invariant.proofs.SoundParts.{HasSoundParts}
 use Rattle.model.specs.SoundFormulas.{AreFormulasSound}
 use Rattle.model.specs.Tenant.{Job, Tenant}
 use Rattle.model.specs.Verdict.{accept, judged, refuse, rows_of, state_of}
-use Rattle.model_rule_text.specs.Reading.{ReadsFormulas}
+use Rattle.model_invariant.specs.rule_text.Reading.{ReadsFormulas}
 use Rattle.model_invariant.specs.Fit.{IsCaller, IsFit}
 use Rattle.model_invariant.proofs.Digests.{digest_size}
 use Rattle.model_invariant.proofs.Growing.{IdLaws}

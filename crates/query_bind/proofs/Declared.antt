@@ -14,10 +14,10 @@ use Rattle.store_abstraction.specs.declared.layout.FieldPlace.{FieldPlace}
 use Rattle.store_abstraction.specs.declared.layout.Layout.{Layout}
 use Rattle.store_abstraction.specs.Layouts.{IsLayout, place_of}
 use Rattle.store_abstraction.specs.Plan.{OrgPlan}
-use Rattle.query_paths.specs.declared.parents.ParentStep.{ParentStep}
-use Rattle.query_paths.specs.Ways.{parent_step}
-use Rattle.query_paths.proofs.ByLayout.{layout_is, parent_by_layout}
-use Rattle.query_paths.proofs.Owned.{parent_has}
+use Rattle.query_plan.specs.declared.paths.parents.ParentStep.{ParentStep}
+use Rattle.query_plan.specs.paths.Ways.{parent_step}
+use Rattle.query_plan.proofs.ByLayout.{layout_is, parent_by_layout}
+use Rattle.query_plan.proofs.Owned.{parent_has}
 use Rattle.query_check.specs.Columns.{custom_name}
 use Rattle.query_bind.specs.Names.{relationship_name}
 use Rattle.query_plan.proofs.Lists.{at_number}

@@ -6,19 +6,19 @@ use Rattle.std.proofs.Math.Bool.{or-false, or_comm}
 use Rattle.std.proofs.lemmas.List.Folds.{list_any-append}
 use Rattle.base_json.specs.Printing.{printed_null}
 use Rattle.base_value.specs.Printing.{day_of_moment}
-use Rattle.soql_ast.specs.declared.query.Item.{Item}
-use Rattle.soql_ast.specs.declared.query.Item.TheVariants as item
-use Rattle.soql_ast.specs.declared.query.Path.{Path}
-use Rattle.soql_ast.specs.declared.query.Tail.{Tail}
+use Rattle.soql.specs.declared.query.Item.{Item}
+use Rattle.soql.specs.declared.query.Item.TheVariants as item
+use Rattle.soql.specs.declared.query.Path.{Path}
+use Rattle.soql.specs.declared.query.Tail.{Tail}
 use Rattle.model.specs.declared.record.Record.{Record}
 use Rattle.model.specs.Cases.{Placed, in_case, with_before}
 use Rattle.model.specs.Paths.{Asked, parent_of}
 use Rattle.model.specs.RowsJson.{RowJson, behind_relationship, children_json, item_member, member_json, parent_json, parent_relationship, path_member, row_within}
 use Rattle.store_abstraction.specs.declared.layout.Layout.{Layout}
 use Rattle.model_step.specs.Flat.{has_one_name, is_flat_item}
-use Rattle.query_paths.specs.Branches.{AddsBranches, record_above}
-use Rattle.query_paths.specs.declared.branches.Branch.{Branch}
-use Rattle.query_paths.specs.declared.branches.Place.{Place}
+use Rattle.query_plan.specs.paths.Branches.{AddsBranches, record_above}
+use Rattle.query_plan.specs.declared.paths.branches.Branch.{Branch}
+use Rattle.query_plan.specs.declared.paths.branches.Place.{Place}
 use Rattle.query_plan.specs.declared.plan.Child.{Child}
 use Rattle.query_plan.specs.declared.plan.ChildPlan.{ChildPlan}
 use Rattle.query_plan.specs.declared.plan.Member.{Member}

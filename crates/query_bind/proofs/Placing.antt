@@ -17,12 +17,12 @@ use Rattle.store_abstraction.specs.Plan.{OrgPlan}
 use Rattle.store_abstraction.specs.declared.layout.Layout.{Layout}
 use Rattle.store_abstraction.proofs.Lookups.{eqb_same}
 use Rattle.model_step.specs.Flat.{has_one_name}
-use Rattle.query_paths.specs.declared.branches.Branch.{Branch}
-use Rattle.query_paths.specs.declared.branches.Place.{Place}
-use Rattle.query_paths.specs.Branches.{AddsBranches, AreBranches, FindsPlace, LeadTo}
-use Rattle.query_paths.specs.Ways.{led_to, path_end}
-use Rattle.query_paths.proofs.Branching.{records_stay}
-use Rattle.query_paths.proofs.Ends.{EndsAt, end_column, ends_at}
+use Rattle.query_plan.specs.declared.paths.branches.Branch.{Branch}
+use Rattle.query_plan.specs.declared.paths.branches.Place.{Place}
+use Rattle.query_plan.specs.paths.Branches.{AddsBranches, AreBranches, FindsPlace, LeadTo}
+use Rattle.query_plan.specs.paths.Ways.{led_to, path_end}
+use Rattle.query_plan.proofs.Branching.{records_stay}
+use Rattle.query_plan.proofs.Ends.{EndsAt, end_column, ends_at}
 use Rattle.query_check.specs.declared.columns.Column.{Column}
 use Rattle.query_check.specs.declared.columns.Family.{Family}
 use Rattle.query_check.specs.declared.columns.Family.TheVariants as family

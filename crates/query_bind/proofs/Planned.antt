@@ -3,10 +3,10 @@ use Rattle.std.proofs.Common.{◌≡◌, ◌≤◌, ◌+◌, ◌-◌, ℕ, Bool,
 use Rattle.std.specs.List.{AllByRecursion, list_all, sum_by}
 use Rattle.std.specs.Option.{unwrap_or}
 use Rattle.std.proofs.lemmas.List.Sums.{sum_by-cons}
-use Rattle.soql_ast.specs.declared.query.Item.{Item}
-use Rattle.soql_ast.specs.declared.query.Item.TheVariants as item
-use Rattle.soql_ast.specs.declared.query.OrderKey.{OrderKey}
-use Rattle.soql_ast.specs.declared.query.Query.{Query}
+use Rattle.soql.specs.declared.query.Item.{Item}
+use Rattle.soql.specs.declared.query.Item.TheVariants as item
+use Rattle.soql.specs.declared.query.OrderKey.{OrderKey}
+use Rattle.soql.specs.declared.query.Query.{Query}
 use Rattle.base_value.specs.Printing.{day_of_moment}
 use Rattle.model.specs.declared.record.Record.{Record}
 use Rattle.model.specs.Asking.{query_rules}
@@ -24,8 +24,8 @@ use Rattle.store_abstraction.specs.Plan.{OrgPlan}
 use Rattle.store_abstraction.specs.declared.layout.Layout.{Layout}
 use Rattle.model_step.specs.Flat.{has_one_name, is_flat, is_flat_item, is_flat_test}
 use Rattle.model_step.specs.Shown.{item_children_shown, item_steps, path_steps, query_steps, tail_steps}
-use Rattle.query_paths.specs.Branches.{AddsBranches}
-use Rattle.query_paths.specs.declared.branches.Branch.{Branch}
+use Rattle.query_plan.specs.paths.Branches.{AddsBranches}
+use Rattle.query_plan.specs.declared.paths.branches.Branch.{Branch}
 use Rattle.query_plan.specs.declared.check.Site.TheVariants as site
 use Rattle.query_bind.specs.declared.choosing.BoundTail.{BoundTail}
 use Rattle.query_check.specs.declared.columns.Column.{Column}

@@ -12,9 +12,9 @@ use Rattle.base_value.specs.Texts.{lower}
 use Rattle.base_value.specs.Printing.{day_of_moment}
 use Rattle.base_value.specs.declared.value.Value.{Value}
 use Rattle.base_value.specs.declared.value.Value.TheVariants as value
-use Rattle.soql_ast.specs.declared.query.Item.{Item}
-use Rattle.soql_ast.specs.declared.query.Item.TheVariants as item
-use Rattle.soql_ast.specs.declared.query.Path.{Path}
+use Rattle.soql.specs.declared.query.Item.{Item}
+use Rattle.soql.specs.declared.query.Item.TheVariants as item
+use Rattle.soql.specs.declared.query.Path.{Path}
 use Rattle.model.specs.declared.record.Record.{Record}
 use Rattle.model.specs.Asking.{path_column}
 use Rattle.model.specs.Cases.{Placed, in_case, with_before}
@@ -29,10 +29,10 @@ use Rattle.store_abstraction.specs.Layouts.{IsLayout, own_layouts}
 use Rattle.model_step.specs.Flat.{has_one_name}
 use Rattle.store_abstraction.specs.declared.layout.Layout.{Layout}
 use Rattle.store_abstraction.proofs.Lookups.{pick}
-use Rattle.query_paths.specs.Branches.{AddsBranches, LeadsToParent, record_above}
-use Rattle.query_paths.specs.declared.branches.Branch.{Branch}
-use Rattle.query_paths.specs.declared.branches.Place.{Place}
-use Rattle.query_paths.proofs.ByLayout.{layout_is}
+use Rattle.query_plan.specs.paths.Branches.{AddsBranches, LeadsToParent, record_above}
+use Rattle.query_plan.specs.declared.paths.branches.Branch.{Branch}
+use Rattle.query_plan.specs.declared.paths.branches.Place.{Place}
+use Rattle.query_plan.proofs.ByLayout.{layout_is}
 use Rattle.query_plan.specs.declared.check.Site.TheVariants as site
 use Rattle.query_check.specs.declared.columns.Column.{Column}
 use Rattle.query_plan.specs.declared.plan.Member.{Member, Parent, End, Parent', Row_of-Member, end_of-Member, more_of-Member, items-the_row-Member, items_hidden-the_row-Member-0}

@@ -4,12 +4,12 @@ use Rattle.std.specs.Prelude.{◌==◌, bytes_eq, slice_get, unwrap_or}
 use Rattle.std.specs.List.{AllByRecursion, enumerate_from}
 use Rattle.std.specs.Option.{option_and_then, option_map}
 use Rattle.std.proofs.lemmas.Bool.{eqb-true}
-use Rattle.formula_eval.specs.Meaning.{value_at}
+use Rattle.formula.specs.Meaning.{value_at}
 use Rattle.base_value.specs.Printing.{day_of_moment}
 use Rattle.base_value.specs.Values.{ref_of}
-use Rattle.soql_ast.specs.declared.query.Item.TheVariants as item
-use Rattle.soql_ast.specs.declared.query.Path.{Path}
-use Rattle.soql_ast.specs.declared.query.Tail.{Tail}
+use Rattle.soql.specs.declared.query.Item.TheVariants as item
+use Rattle.soql.specs.declared.query.Path.{Path}
+use Rattle.soql.specs.declared.query.Tail.{Tail}
 use Rattle.model.specs.declared.record.Record.{Record}
 use Rattle.model.specs.Cases.{in_case, with_before}
 use Rattle.model.specs.Conditions.{satisfies}
@@ -27,14 +27,14 @@ use Rattle.store_abstraction.specs.Layouts.{IsLayout, own_layouts, place_of}
 use Rattle.store_abstraction.specs.Plan.{OrgPlan}
 use Rattle.store_abstraction.specs.declared.layout.FieldPlace.{FieldPlace}
 use Rattle.store_abstraction.specs.declared.layout.Layout.{Layout}
-use Rattle.query_paths.specs.Branches.{AddsBranches, record_above}
-use Rattle.query_paths.specs.ByLayout.{child_of}
-use Rattle.query_paths.specs.Ways.{child_step}
-use Rattle.query_paths.specs.declared.branches.Branch.{Branch}
-use Rattle.query_paths.specs.declared.branches.Place.{Place}
-use Rattle.query_paths.specs.declared.children.ChildStep.{ChildStep}
-use Rattle.query_paths.proofs.ByLayout.{child_by_layouts, layout_is, numbered_layout, read_is}
-use Rattle.query_paths.proofs.Owned.{found_has, from, numbered_as}
+use Rattle.query_plan.specs.paths.Branches.{AddsBranches, record_above}
+use Rattle.query_plan.specs.paths.ByLayout.{child_of}
+use Rattle.query_plan.specs.paths.Ways.{child_step}
+use Rattle.query_plan.specs.declared.paths.branches.Branch.{Branch}
+use Rattle.query_plan.specs.declared.paths.branches.Place.{Place}
+use Rattle.query_plan.specs.declared.paths.children.ChildStep.{ChildStep}
+use Rattle.query_plan.proofs.ByLayout.{child_by_layouts, layout_is, numbered_layout, read_is}
+use Rattle.query_plan.proofs.Owned.{found_has, from, numbered_as}
 use Rattle.query_plan.specs.declared.plan.Child.{Child}
 use Rattle.query_plan.specs.declared.plan.Choice.{Choice}
 use Rattle.query_plan.specs.declared.plan.Member.{Member}

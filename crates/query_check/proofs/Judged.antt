@@ -4,11 +4,11 @@ use Rattle.std.specs.List.{list_all, list_any}
 use Rattle.std.specs.Option.{option_and_then, option_map}
 use Rattle.std.proofs.Math.Bool.{or-false, or_comm}
 use Rattle.std.proofs.lemmas.List.Folds.{list_any-append}
-use Rattle.soql_ast.specs.declared.query.Item.{Item}
-use Rattle.soql_ast.specs.declared.query.Item.TheVariants as item
-use Rattle.soql_ast.specs.declared.query.Path.{Path}
-use Rattle.soql_ast.specs.declared.query.Query.{Query}
-use Rattle.soql_ast.specs.declared.query.Tail.{Tail}
+use Rattle.soql.specs.declared.query.Item.{Item}
+use Rattle.soql.specs.declared.query.Item.TheVariants as item
+use Rattle.soql.specs.declared.query.Path.{Path}
+use Rattle.soql.specs.declared.query.Query.{Query}
+use Rattle.soql.specs.declared.query.Tail.{Tail}
 use Rattle.base_value.specs.declared.value.FieldType.TheVariants as type
 use Rattle.model.specs.declared.refusal.Refusal.TheVariants.{InvalidField, InvalidFilter}
 use Rattle.model.specs.Asking.{all_tests, bad_child, bad_item, bad_path, bad_tail, bad_test, child_tests, item_name, literals_of, path_column, query_rules, spelled_path, test_no_id, text_no_id, unknown_path}

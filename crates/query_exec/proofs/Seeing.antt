@@ -5,7 +5,7 @@ use Rattle.std.specs.Option.{option_map}
 use Rattle.base_value.specs.declared.value.FieldType.TheVariants as type
 use Rattle.base_value.specs.declared.value.Value.{Value}
 use Rattle.base_value.specs.declared.value.Value.TheVariants as value
-use Rattle.formula_eval.specs.Meaning.{value_at}
+use Rattle.formula.specs.Meaning.{value_at}
 use Rattle.store_rows.specs.declared.data.DataRow.{DataRow}
 use Rattle.store_codec.specs.Gives.{Gives}
 use Rattle.store_codec.specs.Plain.{◌>>=◌}

@@ -32,11 +32,11 @@ use Rattle.base_value.specs.Values.{ref_of, valid}
 use Rattle.base_value.specs.declared.value.FieldType.{FieldType}
 use Rattle.base_value.specs.declared.value.Value.{Value}
 use Rattle.base_value.specs.declared.value.Value.TheVariants as value
-use Rattle.query_paths.proofs.ByLayout.{layout_is}
-use Rattle.query_paths.specs.declared.children.ChildStep.{ChildStep}
-use Rattle.query_parents.specs.declared.children.ChildPage.{ChildPage}
-use Rattle.query_parents.specs.Children.{children_after, page_of}
-use Rattle.query_parents.specs.Parents.{FindsBy}
+use Rattle.query_plan.proofs.ByLayout.{layout_is}
+use Rattle.query_plan.specs.declared.paths.children.ChildStep.{ChildStep}
+use Rattle.query_related.specs.declared.parents.children.ChildPage.{ChildPage}
+use Rattle.query_related.specs.parents.Children.{children_after, page_of}
+use Rattle.query_related.specs.parents.Parents.{FindsBy}
 use Rattle.query_related.specs.Children.{FindsOfAsked}
 use Rattle.query_related.specs.inner.Referring.{few_of, readable_referring, those_referring}
 

@@ -15,7 +15,7 @@ use Rattle.store_rows.specs.declared.fail.StoreFail.TheVariants.{Damaged, Keeper
 use Rattle.model.specs.declared.record.Record.{Record}
 use Rattle.model.specs.Membership.{Has}
 use Rattle.model.specs.Paths.{Asked}
-use Rattle.query_parents.specs.Branches.{FindsOfRow}
+use Rattle.query_related.specs.parents.Branches.{FindsOfRow}
 use Rattle.store_codec.specs.declared.fail.CodecFail.{CodecFail}
 use Rattle.store_codec.specs.declared.fail.CodecFail.TheVariants as codec
 use Rattle.access_traits.specs.Rights.{Whose}

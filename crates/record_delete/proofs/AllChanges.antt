@@ -14,7 +14,7 @@ use Rattle.model.specs.Tenant.{Tenant}
 use Rattle.record_target.proofs.Facts.{pick}
 use Rattle.store_abstraction.specs.Changes.{Change}
 use Rattle.store_abstraction.specs.Plan.{OrgPlan}
-use Rattle.record_diff.specs.Touched.{HasEach, changes_at, touched_changes}
+use Rattle.record_index.specs.diff.Touched.{HasEach, changes_at, touched_changes}
 use Rattle.record_delete.specs.Deleting.{counts_less, deleted_changes, shares_ended}
 use Rattle.record_delete.specs.inner.Adding.{Adds, AddsThese, Clears}
 use Rattle.record_delete.proofs.Adding.{adds_then, adds_wider, longer, these_then}

@@ -15,8 +15,8 @@ use Rattle.model.specs.Tenant.{Tenant}
 use Rattle.store_abstraction.specs.Changes.{Change, IsOf, is_changed}
 use Rattle.store_abstraction.specs.Plan.{OrgPlan}
 use Rattle.store_abstraction.specs.Stands.{org_of_key, row_in}
-use Rattle.record_diff.proofs.Turned.{left_unchanged, right_unchanged, some_is}
-use Rattle.record_diff.specs.Touched.{AreCounts, is_counted}
+use Rattle.record_index.proofs.DiffTurned.{left_unchanged, right_unchanged, some_is}
+use Rattle.record_index.specs.diff.Touched.{AreCounts, is_counted}
 
 module _ (same : SamePrincipals) (org : ℕ) (q : OrgPlan) (now : ℤ) (t : Tenant) (gone : List Record) (sound : IsSound t) where
   abbrev u : Tenant

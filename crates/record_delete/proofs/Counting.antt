@@ -26,7 +26,7 @@ use Rattle.store_abstraction.specs.Changes.{IsOf, is_changed}
 use Rattle.store_abstraction.specs.Metadata.{org_of, row_of_object}
 use Rattle.store_abstraction.specs.Plan.{OrgPlan}
 use Rattle.store_abstraction.specs.Stands.{row_in}
-use Rattle.record_diff.proofs.Turned.{clash, or_left_false, pick}
+use Rattle.record_index.proofs.DiffTurned.{clash, or_left_false, pick}
 
 -- ---- those that go and those that stay
 

@@ -7,7 +7,7 @@ use Rattle.model.specs.Membership.{Has}
 use Rattle.model.specs.Objects.{Numbered}
 use Rattle.model.specs.Tenant.{Object}
 use Rattle.store_abstraction.specs.Changes.{Change, is_changed}
-use Rattle.record_diff.proofs.Turned.{left_unchanged, right_unchanged, some_is}
+use Rattle.record_index.proofs.DiffTurned.{left_unchanged, right_unchanged, some_is}
 
 -- ---- all of a list
 

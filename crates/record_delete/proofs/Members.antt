@@ -15,9 +15,9 @@ use Rattle.model.specs.Membership.{Has}
 use Rattle.model.specs.Objects.{object_number, record_at}
 use Rattle.model.specs.Relationships.{Reference, master_of_object}
 use Rattle.model.specs.Tenant.{Tenant}
-use Rattle.record_diff.proofs.Records.{named}
-use Rattle.record_diff.proofs.Turned.{same_exact, same_itself}
-use Rattle.record_diff.specs.Touched.{has, record_ids, touched_by}
+use Rattle.record_index.proofs.Records.{named}
+use Rattle.record_index.proofs.DiffTurned.{same_exact, same_itself}
+use Rattle.record_index.specs.diff.Touched.{has, record_ids, touched_by}
 
 -- ---- one of some ids
 

@@ -21,7 +21,7 @@ use Rattle.store_abstraction.specs.Entries.{data_of, slot_entry}
 use Rattle.store_abstraction.specs.Layouts.{IsLayout, layout_of}
 use Rattle.store_abstraction.specs.Plan.{FitsPlan, OrgPlan}
 use Rattle.store_abstraction.specs.Stands.{kept_at}
-use Rattle.record_diff.specs.Touched.{changes_at}
+use Rattle.record_index.specs.diff.Touched.{changes_at}
 use Rattle.base_value.specs.Printing.{is_printable}
 
 -- ---- what record_index says

@@ -32,8 +32,8 @@ use Rattle.store_abstraction.specs.Changes.{Change, IsOf, is_changed}
 use Rattle.store_abstraction.specs.Metadata.{row_of_share}
 use Rattle.store_abstraction.specs.Plan.{OrgPlan}
 use Rattle.store_abstraction.specs.Stands.{row_in}
-use Rattle.record_diff.proofs.Records.{named}
-use Rattle.record_diff.proofs.Turned.{clash, pick, same_exact, same_itself}
+use Rattle.record_index.proofs.Records.{named}
+use Rattle.record_index.proofs.DiffTurned.{clash, pick, same_exact, same_itself}
 use Rattle.base_value.specs.Principals.{principal_cmp}
 use Rattle.base_value.specs.declared.sharing.Level.TheVariants.{Read}
 use Rattle.base_value.specs.declared.sharing.Principal.{Principal}

@@ -7,7 +7,7 @@ use Rattle.std.proofs.lemmas.List.Elements.{All-from_recursion, recursion_from_A
 use Rattle.record_read.specs.Decoding.{has_types, kinds_in}
 use Rattle.record_read.proofs.Fits.{PrintsShort, value_fits}
 use Rattle.record_read.proofs.RowFits.{ConvertsValid}
-use Rattle.formula_eval.specs.Meaning.{value_at}
+use Rattle.formula.specs.Meaning.{value_at}
 use Rattle.store_rows.specs.declared.data.DataRow.{DataRow}
 use Rattle.store_rows.specs.Forms.{FitsForm}
 use Rattle.store_rows.specs.Rows.{data_form}

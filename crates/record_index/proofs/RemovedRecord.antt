@@ -6,7 +6,7 @@ use Rattle.std.specs.Option.{option_and_then, option_map}
 use Rattle.std.proofs.lemmas.Bool.{eq-eqb, eqb-true}
 use Rattle.record_read.specs.Decoding.{read_slot}
 use Rattle.record_read.proofs.Texts.{PrintsBack, slot_back}
-use Rattle.formula_eval.specs.Meaning.{value_at}
+use Rattle.formula.specs.Meaning.{value_at}
 use Rattle.store_rows.specs.declared.data.DataRow.{DataRow}
 use Rattle.store_rows.specs.Keys.{Data}
 use Rattle.model.specs.declared.record.Record.{Record}

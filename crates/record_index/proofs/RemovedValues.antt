@@ -6,7 +6,7 @@ use Rattle.std.specs.Option.{option_and_then, option_copied, option_map}
 use Rattle.std.proofs.lemmas.Bool.{eq-eqb, eqb-true}
 use Rattle.record_read.specs.Encoding.{field_of_slot}
 use Rattle.store_edit.specs.Rows.{spelled}
-use Rattle.formula_eval.specs.Meaning.{value_at}
+use Rattle.formula.specs.Meaning.{value_at}
 use Rattle.store_kv.specs.declared.keeper.Change.{Change as Spelled}
 use Rattle.store_rows.specs.declared.data.DataRow.{DataRow}
 use Rattle.store_rows.specs.Keys.{Data, FitsKey}

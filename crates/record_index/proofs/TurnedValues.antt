@@ -8,7 +8,7 @@ use Rattle.record_read.specs.Decoding.{has_types, kinds_in}
 use Rattle.record_read.specs.Encoding.{field_of_slot}
 use Rattle.record_read.proofs.RowFits.{typed_at, valid_at}
 use Rattle.store_edit.specs.Rows.{change_to, spelled}
-use Rattle.formula_eval.specs.Meaning.{value_at}
+use Rattle.formula.specs.Meaning.{value_at}
 use Rattle.store_kv.specs.declared.keeper.Change.{Change as Spelled}
 use Rattle.store_rows.specs.declared.data.DataRow.{DataRow}
 use Rattle.store_rows.specs.Forms.{FitsForm}

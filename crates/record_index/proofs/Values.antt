@@ -7,7 +7,7 @@ use Rattle.std.proofs.lemmas.Grind.{flat_map-append}
 use Rattle.record_read.specs.Encoding.{field_of_slot, row_from}
 use Rattle.record_index.proofs.Cases.{pick, some_is}
 use Rattle.store_edit.specs.Rows.{change_to, spelled}
-use Rattle.formula_eval.specs.Meaning.{value_at}
+use Rattle.formula.specs.Meaning.{value_at}
 use Rattle.store_kv.specs.declared.keeper.Change.{Change as Spelled}
 use Rattle.store_rows.specs.declared.data.DataRow.{DataRow}
 use Rattle.store_rows.specs.Forms.{FitsForm}

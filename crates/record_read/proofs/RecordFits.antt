@@ -16,7 +16,7 @@ use Rattle.base_value.specs.Id.{digit62, is_digit62, is_id, made}
 use Rattle.base_value.specs.Values.{valid}
 use Rattle.base_value.specs.declared.value.FieldType.TheVariants as type
 use Rattle.base_value.specs.declared.value.Value.{Value}
-use Rattle.formula_eval.specs.Meaning.{value_at}
+use Rattle.formula.specs.Meaning.{value_at}
 use Rattle.model.specs.declared.record.Record.{Record}
 use Rattle.model.specs.Fields.{is_detail}
 use Rattle.model.specs.Known.{Known, known}

@@ -22,7 +22,7 @@ use Rattle.store_abstraction.specs.Changes.{is_changed}
 use Rattle.store_abstraction.specs.Metadata.{row_of_object}
 use Rattle.store_abstraction.specs.Plan.{OrgPlan}
 use Rattle.store_abstraction.specs.Stands.{org_of_key, row_in}
-use Rattle.record_diff.specs.Touched.{AreCounts, fresh_plan, is_counted}
+use Rattle.record_index.specs.diff.Touched.{AreCounts, fresh_plan, is_counted}
 
 -- ---- the records of other objects
 

@@ -37,7 +37,7 @@ use Rattle.store_abstraction.specs.Layouts.{layout_of}
 use Rattle.store_abstraction.specs.Local.{IsIn}
 use Rattle.store_abstraction.specs.Metadata.{org_of, row_of_object}
 use Rattle.store_abstraction.specs.Plan.{FitsPlan, OrgPlan}
-use Rattle.record_diff.specs.Touched.{fresh_plan, touched_changes}
+use Rattle.record_index.specs.diff.Touched.{fresh_plan, touched_changes}
 use Rattle.base_value.specs.declared.value.FieldType.{FieldType}
 use Rattle.base_value.specs.declared.value.Value.{Value}
 use Rattle.base_value.specs.Id.{made}

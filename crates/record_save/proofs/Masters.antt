@@ -4,7 +4,7 @@ use Rattle.std.proofs.Common.{◌≡◌, ◌∙◌, ℕ, zero, suc, ◌+◌, Boo
 use Rattle.std.specs.List.{enumerate_from, flat_map}
 use Rattle.std.specs.Option.{option_and_then}
 use Rattle.record_read.proofs.Standing.{of_object}
-use Rattle.formula_eval.specs.Meaning.{value_at}
+use Rattle.formula.specs.Meaning.{value_at}
 use Rattle.model.specs.Cases.{in_case}
 use Rattle.model.specs.Creates.{empty_record, master_denied}
 use Rattle.model.specs.Edits.{bad_owner, bad_reference, bad_target, is_target}

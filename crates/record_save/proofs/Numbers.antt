@@ -18,7 +18,7 @@ use Rattle.model.specs.World.{having_id}
 use Rattle.store_abstraction.specs.Entries.{job_value}
 use Rattle.store_abstraction.specs.Metadata.{org_of, row_of_object}
 use Rattle.store_abstraction.specs.Plan.{OrgPlan}
-use Rattle.record_diff.specs.Touched.{fresh_plan}
+use Rattle.record_index.specs.diff.Touched.{fresh_plan}
 use Rattle.base_value.specs.declared.job.Phase.{Phase}
 use Rattle.base_value.specs.declared.job.Phase.TheVariants as phase
 use Rattle.base_value.specs.Digits.{digits}

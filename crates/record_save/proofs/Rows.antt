@@ -28,7 +28,7 @@ use Rattle.store_abstraction.specs.Plan.{OrgPlan, slot_count, slot_type}
 use Rattle.store_abstraction.specs.Stands.{Kept, kept_at, kept_in, org_of_key}
 use Rattle.store_abstraction.specs.declared.layout.JobPlace.{JobPlace}
 use Rattle.store_abstraction.specs.declared.layout.Layout.{Layout}
-use Rattle.record_diff.specs.Touched.{fresh_plan, touched_changes}
+use Rattle.record_index.specs.diff.Touched.{fresh_plan, touched_changes}
 use Rattle.base_value.specs.declared.job.Outcome.{Outcome}
 use Rattle.base_value.specs.declared.job.Outcome.TheVariants as outcome
 use Rattle.base_value.specs.declared.job.Phase.{Phase}

@@ -22,7 +22,7 @@ use Rattle.store_abstraction.specs.Changes.{Change, IsOf, is_changed}
 use Rattle.store_abstraction.specs.Metadata.{row_of_object, row_of_share}
 use Rattle.store_abstraction.specs.Plan.{OrgPlan}
 use Rattle.store_abstraction.specs.Stands.{org_of_key, row_in}
-use Rattle.record_diff.specs.Touched.{AreCounts, is_counted}
+use Rattle.record_index.specs.diff.Touched.{AreCounts, is_counted}
 use Rattle.base_value.specs.declared.sharing.Level.TheVariants.{Read}
 use Rattle.base_value.specs.declared.sharing.Principal.{Principal}
 

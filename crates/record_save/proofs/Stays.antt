@@ -5,7 +5,7 @@ use Rattle.std.specs.List.{enumerate_from, flat_map}
 use Rattle.std.specs.Option.{option_and_then}
 use Rattle.std.proofs.lemmas.Bool.{eqb-true}
 use Rattle.record_read.proofs.Standing.{IsOf, layout_is}
-use Rattle.formula_eval.specs.Meaning.{value_at}
+use Rattle.formula.specs.Meaning.{value_at}
 use Rattle.store_kv.specs.Tables.{Tables}
 use Rattle.model.specs.Cases.{in_case}
 use Rattle.model.specs.Fields.{is_master}

@@ -36,7 +36,7 @@ use Rattle.store_abstraction.specs.Entries.{data_of, slot_entry}
 use Rattle.store_abstraction.specs.Layouts.{layout_of}
 use Rattle.store_abstraction.specs.Plan.{FitsPlan, OrgPlan}
 use Rattle.store_abstraction.specs.Stands.{kept_at}
-use Rattle.record_diff.specs.Touched.{touched_changes}
+use Rattle.record_index.specs.diff.Touched.{touched_changes}
 use Rattle.base_value.specs.Printing.{is_printable}
 use Rattle.record_save.specs.Creating.{IsObject}
 use Rattle.record_save.specs.declared.updating.Altered.{Altered}

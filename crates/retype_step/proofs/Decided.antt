@@ -7,7 +7,7 @@ use Rattle.retype_step.specs.inner.Deciding.{is_ready}
 use Rattle.retype_step.specs.inner.Rows.{done_row, is_plain}
 use Rattle.record_read.proofs.Lists.{and_left, and_right, pick}
 use Rattle.record_read.specs.Decoding.{has_types, kinds_in}
-use Rattle.formula_eval.specs.Meaning.{value_at}
+use Rattle.formula.specs.Meaning.{value_at}
 use Rattle.store_rows.specs.declared.job.JobRow.{JobRow}
 use Rattle.model.specs.declared.record.Record.{Record}
 use Rattle.model.specs.Jobs.{last_id}

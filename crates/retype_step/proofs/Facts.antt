@@ -6,7 +6,7 @@ use Rattle.record_read.proofs.Lists.{and_right, some_is}
 use Rattle.record_read.proofs.Rising.{has_filter, has_take}
 use Rattle.record_read.proofs.RowFits.{typed_at, valid_at}
 use Rattle.record_read.specs.Decoding.{each_from, has_types, kinds_in, record_from}
-use Rattle.formula_eval.specs.Meaning.{value_at}
+use Rattle.formula.specs.Meaning.{value_at}
 use Rattle.store_rows.specs.declared.data.DataRow.{DataRow}
 use Rattle.model.specs.declared.record.Record.{Record}
 use Rattle.model.specs.Jobs.{is_past, last_id, next_hundred}

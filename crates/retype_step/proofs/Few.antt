@@ -12,12 +12,12 @@ use Rattle.model.specs.Cases.{in_case}
 use Rattle.model.specs.Jobs.{last_id}
 use Rattle.model.specs.RuleFormulas.{is_copy}
 use Rattle.model.specs.declared.record.Record.{Record}
-use Rattle.retype_backfill.specs.Progress.{page_changes}
+use Rattle.retype_step.specs.backfill.Progress.{page_changes}
 use Rattle.store_abstraction.specs.Changes.{Change}
 use Rattle.store_abstraction.specs.declared.layout.FieldPlace.{FieldPlace}
 use Rattle.store_abstraction.specs.declared.layout.Layout.{Layout}
 
--- what `retype_backfill` says of a page
+-- what `backfill` says of a page
 abbrev pub PageRemovesNone : Type 0
 PageRemovesNone = (l : Layout) (c : Option (List ℕ)) (rows : List DataRow) (rs : List Record) → gone_of (map spelled (page_changes l c rows rs)) ≡ 0
 

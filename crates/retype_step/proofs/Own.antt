@@ -13,7 +13,7 @@ use Rattle.model.specs.RuleFormulas.{is_copy}
 use Rattle.model.specs.declared.record.Record.{Record}
 use Rattle.record_index.specs.Changed.{index_key, reference_key, row_turned, slot_changes, unique_key}
 use Rattle.record_index.specs.Removed.{beside_entry}
-use Rattle.retype_backfill.specs.Progress.{come_to, page_changes, record_moves, records_move}
+use Rattle.retype_step.specs.backfill.Progress.{come_to, page_changes, record_moves, records_move}
 use Rattle.store_abstraction.specs.Changes.{Change}
 use Rattle.store_abstraction.specs.declared.layout.FieldPlace.{FieldPlace}
 use Rattle.store_abstraction.specs.declared.layout.JobPlace.{JobPlace}

@@ -11,7 +11,7 @@ use Rattle.retype_step.specs.inner.Deciding.{clear_decided, copied, copy_decided
 use Rattle.retype_step.specs.inner.Rows.{done_row, failed_row, row_alone, switch_decided}
 use Rattle.store_edit.specs.Edits.{Takes}
 use Rattle.store_edit.specs.Rows.{change_to}
-use Rattle.formula_eval.specs.Meaning.{value_at}
+use Rattle.formula.specs.Meaning.{value_at}
 use Rattle.store_rows.specs.declared.data.DataRow.{DataRow}
 use Rattle.store_rows.specs.declared.job.JobRow.{JobRow}
 use Rattle.store_rows.specs.Rows.{job_form}
@@ -26,7 +26,7 @@ use Rattle.model.specs.SoundJob.{job_field}
 use Rattle.model.specs.Tenant.{Field, Job, Object, Tenant}
 use Rattle.model.specs.Verdict.{accept, done}
 use Rattle.model.specs.declared.record.Record.{Record}
-use Rattle.retype_backfill.specs.Progress.{IsPage, page_changes}
+use Rattle.retype_step.specs.backfill.Progress.{IsPage, page_changes}
 use Rattle.store_abstraction.specs.Changes.{Change}
 use Rattle.store_abstraction.specs.declared.layout.FieldPlace.{FieldPlace}
 use Rattle.store_abstraction.specs.declared.layout.Layout.{Layout}
@@ -42,7 +42,7 @@ use Rattle.base_value.specs.declared.job.Phase.{Phase}
 use Rattle.base_value.specs.declared.job.Phase.TheVariants as phase
 use Rattle.base_value.specs.declared.value.FieldType.{FieldType}
 
--- ---- what `retype_cutover` and `retype_backfill` say
+-- ---- what `retype_cutover` and `backfill` say
 
 -- the rows of some records of the change's object
 abbrev pub rows_at : (org : ℕ) → OrgPlan → Tenant → Job → Object → List Record → List DataRow

@@ -4,7 +4,7 @@ use Rattle.std.specs.Result.{is_ok}
 use Rattle.std.specs.List.{flat_map, join_by}
 use Rattle.std.specs.Str.{IsUtf8, chars}
 use Rattle.std.proofs.lemmas.Str.{chars-append}
-use Rattle.soql_ast.specs.declared.query.Cond.{Cond, Not}
+use Rattle.soql.specs.declared.query.Cond.{Cond, Not}
 use Rattle.soql_printer.specs.Printing.{as_unit, is_simple, only_if, printed_condition}
 use Rattle.soql_printer.specs.inner.Units.{unit_text}
 use Rattle.soql_printer.proofs.Units.{printed_not}

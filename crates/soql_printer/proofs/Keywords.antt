@@ -8,12 +8,12 @@ use Rattle.base_grammar.specs.Tokens.{Passes, is_blank, is_letter, in_word, begi
 use Rattle.base_grammar.specs.Lexing.{token_len, token_of, mark_len, mark_token}
 use Rattle.base_grammar.proofs.Fronts.{Fails}
 use Rattle.base_value.specs.Numerals.{is_digit}
-use Rattle.soql_ast.specs.Lexis.{lexis, is_mark, is_pair}
-use Rattle.soql_grammar.specs.Signs.{sign_of, word_sign, condition_word, clause_word, name_sign, mark_sign, pair_sign}
-use Rattle.soql_ast.specs.declared.query.Op.{Op}
-use Rattle.soql_ast.specs.declared.query.Op.TheVariants as op
-use Rattle.soql_grammar.specs.declared.sign.Sign.{Sign}
-use Rattle.soql_grammar.specs.declared.sign.Sign.TheVariants as sign
+use Rattle.soql.specs.Lexis.{lexis, is_mark, is_pair}
+use Rattle.soql.specs.grammar.Signs.{sign_of, word_sign, condition_word, clause_word, name_sign, mark_sign, pair_sign}
+use Rattle.soql.specs.declared.query.Op.{Op}
+use Rattle.soql.specs.declared.query.Op.TheVariants as op
+use Rattle.soql.specs.declared.grammar.sign.Sign.{Sign}
+use Rattle.soql.specs.declared.grammar.sign.Sign.TheVariants as sign
 use Rattle.soql_printer.specs.Printing.{printed_op}
 use Rattle.soql_printer.proofs.Lexed.{Reads, nothing, blank_at_end, one_reads, reads_before, reads_same, reads_then, reads_wider, word_reads}
 

@@ -16,7 +16,7 @@ ghost use Rattle.schema_rules.specs.Objects.{object_of_layout};
 use crate::rules::{bad_name, name_taken};
 use base_grammar::ParseFail;
 use base_value::Phase;
-use formula_eval::Formula;
+use formula::Formula;
 use model::{Limit, NewValidationRule, Refusal, is_stem};
 use schema_rules::{names_field, read_formula};
 use std::alloc::{AllocError, Global};

@@ -8,7 +8,7 @@ use Rattle.model.specs.Requests.{upserts}
 use Rattle.model.specs.Verdict.{upserted}
 use Rattle.model.specs.declared.record_bodies.Assignment.{Assignment}
 use Rattle.model.specs.declared.route.Route.TheVariants.{Upsert}
-use Rattle.record_upsert.specs.Upserting.{ReadsFoundByKey}
+use Rattle.record_save.specs.upsert.Upserting.{ReadsFoundByKey}
 use Rattle.api_edit.specs.Administration.{AsksWith}
 use Rattle.api_edit.specs.inner.Edits.{as_upserted}
 use Rattle.api_edit.proofs.Asked.{answers_none, answers_so, asks_upsert, drafts_seen, edits_asked, edits_none, fit, none_drafts, returned}

@@ -5,7 +5,7 @@ use Rattle.std.specs.Str.Lossy.{utf8_lossy, utf8_valid_len}
 use Rattle.form_urlencoded.specs.Form.{raw_pairs, split}
 use Rattle.percent_encoding.specs.Percent.{percent_decode}
 use Rattle.sha2.specs.Sha256.{sha256}
-use Rattle.soql_grammar.proofs.Computing.{reading_queries}
+use Rattle.soql.proofs.Computing.{reading_queries}
 use Rattle.base_value.specs.Digits.{digits}
 use Rattle.base_value.specs.Id.{id_in, made, number62, number_in}
 use Rattle.model.specs.declared.caller.Caller.{Caller}

@@ -6,7 +6,7 @@ use Rattle.store_kv.specs.Draft.{removals_of}
 use Rattle.store_abstraction.specs.Calls.{done}
 use Rattle.model_step.specs.Shown.{row_shown}
 use Rattle.query_exec.specs.Written.{most_shown}
-use Rattle.query_reply.proofs.Found.{Laws, its_layout, wider_calls}
+use Rattle.query_json.proofs.Found.{Laws, its_layout, wider_calls}
 use Rattle.query_csv.proofs.Answering.{found_so, refused_so, serves_so}
 use Rattle.query_csv.proofs.answer.answer_lines.Goals as goal
 

@@ -1,6 +1,6 @@
 use Rattle.std.proofs.Common.{◌≡◌, ℕ, ◌+◌, List, Option, Some, None, sym, subst}
 use Rattle.std.specs.Prelude.{Result}
-use Rattle.formula_eval.specs.Meaning.{value_at}
+use Rattle.formula.specs.Meaning.{value_at}
 use Rattle.store_kv.specs.Draft.{tables_of}
 use Rattle.store_rows.specs.declared.fail.StoreFail.{StoreFail}
 use Rattle.store_abstraction.specs.Calls.{Calls, ended}

@@ -1,8 +1,9 @@
 -- Rows that are put, and keys of the organisation beside theirs.
-use Rattle.std.proofs.Common.{◌≡◌, ◌∙◌, ℕ, ◌<◌, ◌^◌, Bool, true, false, ◌&&◌, ◌||◌, eqb, List, Some, Option, refl, sym, ap, bytes_eq, ◌∷◌}
+use Rattle.std.proofs.Common.{◌≡◌, ℕ, ◌<◌, ◌^◌, Bool, true, false, ◌&&◌, ◌||◌, eqb, List, Some, Option, refl, ap, bytes_eq, ◌∷◌}
 use Rattle.std.proofs.lemmas.Bool.{eqb-false}
-use Rattle.std.proofs.lemmas.Slice.Eq.{bytes_eq-Decides}
-use Rattle.store_edit.proofs.Putting.{both_false, own_number, pick}
+use Rattle.base_lemmas.proofs.Texts.{bytes_eq_false_sym as turned}
+use Rattle.base_lemmas.proofs.Bools.{and_second_false as both_false}
+use Rattle.base_lemmas.proofs.Options.{eqb-same_Some as own_number}
 use Rattle.store_edit.specs.Edits.{Planned}
 use Rattle.store_edit.specs.Rows.{change_to}
 use Rattle.store_rows.specs.Forms.{FitsForm, Form, key_of, row_bytes}
@@ -39,9 +40,6 @@ pub record OrgLaws : Type 0 where
   pub plan : PlanStays
 
 -- ---- keys beside those of the changes
-
-turned : (a b : List ℕ) → bytes_eq a b ≡ false → bytes_eq b a ≡ false
-turned a b e = pick (bytes_eq b a) (λ x. bytes_eq b a ≡ x → x ≡ false) (λ _ h. sym ((bytes_eq-Decides a b).1 (sym ((bytes_eq-Decides b a).0 h))) ∙ e) (λ _ h. refl) refl
 
 pub other_sharing : (org : ℕ) (name : List ℕ) (k : Key) → org_of_key k ≡ Some org → key_eq k (key.Sharing org (lower_bytes name)) ≡ false → is_sharing_key name k ≡ false
 other_sharing org name (key.Sharing m its) of e = turned its (lower_bytes name) (both_false (eqb m org) (bytes_eq its (lower_bytes name)) (own_number m org of) e)

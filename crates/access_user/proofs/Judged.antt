@@ -3,6 +3,7 @@ use Rattle.std.proofs.Common.{◌≡◌, ℕ, suc, ◌+◌, ◌≤◌, Bool, tru
 use Rattle.std.specs.Prelude.{Result, Ok, Err}
 use Rattle.std.specs.List.{enumerate_from}
 use Rattle.std.proofs.lemmas.Bool.{eqb-true}
+use Rattle.std.proofs.lemmas.Option.{same_Some as some_is}
 use Rattle.record_read.proofs.Rising.{has_filter}
 use Rattle.record_read.proofs.Standing.{found_of}
 use Rattle.store_kv.specs.Tables.{Tables}
@@ -29,7 +30,6 @@ use Rattle.store_abstraction.specs.declared.layout.Layout.{Layout}
 use Rattle.store_abstraction.specs.Layouts.{FindsOf, IsLayout, own_layout, place_of}
 use Rattle.store_abstraction.specs.Local.{FindsIn, StandsIn}
 use Rattle.store_abstraction.specs.Plan.{OrgPlan}
-use Rattle.store_abstraction.proofs.Lookups.{some_is}
 use Rattle.store_abstraction.proofs.MetadataRows.{sound_object}
 use Rattle.store_abstraction.proofs.Placed.{no_records}
 use Rattle.base_value.specs.declared.sharing.Level.{Level}

@@ -1,13 +1,9 @@
 -- What is picked of a list, one element further.
-use Rattle.std.proofs.Common.{◌≡◌, ◌∙◌, ℕ, ◌+◌, ◌<◌, List, [], ◌∷◌, ◌++◌, length, take, get_or, Option, Some, None, refl, sym, ap}
+use Rattle.std.proofs.Common.{◌≡◌, ◌∙◌, ℕ, ◌+◌, ◌<◌, List, [], ◌∷◌, ◌++◌, length, take, get_or, Option, Some, None, sym, ap}
 use Rattle.std.specs.Prelude.{filter_map}
 use Rattle.std.specs.List.{cons_option}
-use Rattle.std.proofs.lemmas.List.{take_more}
+use Rattle.std.proofs.lemmas.List.{take_more, append-nil as none_more}
 use Rattle.std.proofs.lemmas.List.Elements.{filter_map-append}
-
-none_more : {X : Type 0} (xs : List X) → xs ++ [] ≡ xs
-none_more [] = refl
-none_more (x ∷ xs) = ap (λ ys. x ∷ ys) (none_more xs)
 
 module _ {X Y : Type 0} (h : X → Option Y) (xs : List X) (i : ℕ) (x : X) (lt : i < length xs) (is : x ≡ get_or xs i x) where
   abbrev picked : List Y

@@ -1,8 +1,9 @@
 -- What the rows of sharing rules and the layout of an object say is what the rules of their tenant and the object say.
-use Rattle.std.proofs.Common.{◌≡◌, ◌∙◌, ℕ, true, cond, List, [], ◌∷◌, map, Option, Some, None, refl, sym, ap, ap₂}
+use Rattle.std.proofs.Common.{◌≡◌, ◌∙◌, ℕ, true, cond, List, [], ◌∷◌, map, Some, None, refl, sym, ap, ap₂}
 use Rattle.std.specs.Prelude.{filter_map}
 use Rattle.std.specs.List.{cons_option}
 use Rattle.std.specs.Option.{ok_or}
+use Rattle.std.proofs.lemmas.Option.{same_Some as some_is}
 use Rattle.formula.specs.grammar.Spelling.{formula_in, place_in}
 use Rattle.base_grammar.specs.Tokens.{byte_len}
 use Rattle.store_rows.specs.declared.sharing.SharingRow.{SharingRow}
@@ -27,9 +28,6 @@ use Rattle.access_user.specs.level.inner.Parts.{criterion_by_row, owner_by_row}
 reads_same : (o p : Object) (text : List ℕ) → o.fields ≡ p.fields → reads_text o true text ≡ reads_text p true text
 unfolding reads_text
 reads_same o p text e = ap (λ (fs : List Field). ok_or (formula_in true (formula_fields fs) text) (place_in true (formula_fields fs) text (byte_len text))) e
-
-some_is : {A : Type 0} (x y : A) → ◌≡◌ {A = Option A} (Some x) (Some y) → x ≡ y
-some_is x y e = cc
 
 module _ (q : OrgPlan) (t : Tenant) (l : Layout) (o : Object) (there : object_numbered t l.object ≡ Some o) (is : IsLayout q t l) where
   same_object : (layout_is q t l is).object ≡ o

@@ -3,6 +3,9 @@ use Rattle.std.proofs.Common.{◌≡◌, ℕ, ◌+◌, Bool, true, false, bytes_
 use Rattle.std.specs.Prelude.{slice_get}
 use Rattle.std.specs.List.{enumerate_from, find, flat_map, list_any}
 use Rattle.std.specs.Option.{option_and_then, option_map}
+use Rattle.std.proofs.lemmas.Bool.{or_parts as or_false}
+use Rattle.base_lemmas.proofs.Numbers.{eqb-self as eqb_same}
+use Rattle.std.proofs.lemmas.Option.{same_Some as some_is}
 use Rattle.record_read.specs.Decoding.{all_from, has_types, record_from}
 use Rattle.store_kv.specs.declared.keeper.KeptRow.{KeptRow}
 use Rattle.store_rows.specs.declared.data.DataRow.{DataRow}
@@ -22,13 +25,11 @@ use Rattle.model.specs.SoundMetadata.{masters}
 use Rattle.model.specs.SoundRecords.{IsSoundRecord, is_sound_owner}
 use Rattle.model.specs.Tenant.{Field, Object, Tenant, User}
 use Rattle.model.specs.World.{user_at}
-use Rattle.record_target.proofs.Facts.{or_false}
 use Rattle.store_codec.specs.Plain.{◌>>=◌}
 use Rattle.access_traits.specs.Rights.{kept_record}
 use Rattle.store_abstraction.specs.declared.layout.Layout.{Layout}
 use Rattle.store_abstraction.specs.Layouts.{IsLayout}
 use Rattle.store_abstraction.specs.Plan.{OrgPlan}
-use Rattle.store_abstraction.proofs.Lookups.{eqb_same, some_is}
 use Rattle.store_abstraction.proofs.MetadataRows.{sound_object}
 use Rattle.base_value.specs.declared.sharing.Access.{Access}
 use Rattle.base_value.specs.declared.sharing.Access.TheVariants.{Private, Read as ReadAll, ReadWrite, ControlledByParent}

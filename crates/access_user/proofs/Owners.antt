@@ -5,6 +5,7 @@ use Rattle.std.specs.List.{AllByRecursion}
 use Rattle.std.specs.Option.{option_and_then}
 use Rattle.std.specs.declared.alloc.AllocError.{AllocError}
 use Rattle.std.proofs.lemmas.Slice.Eq.{bytes_eq-Decides}
+use Rattle.std.proofs.lemmas.Option.{same_Some as some_is}
 use Rattle.base_value.specs.declared.sharing.Level.{Level}
 use Rattle.base_value.specs.declared.sharing.Level.TheVariants.{Nothing}
 use Rattle.access_closure.specs.declared.reading.Sharer.{Sharer}
@@ -27,9 +28,6 @@ each : {X : Type 0} (P : X → Type 0) (xs : List X) (x : X) → AllByRecursion 
 each P [] x all has = absurd has
 each P (y ∷ xs) x all (inl e) = subst P (sym e) all.0
 each P (y ∷ xs) x all (inr has) = each P xs x all.1 has
-
-some_is : {A : Type 0} (x y : A) → ◌≡◌ {A = Option A} (Some x) (Some y) → x ≡ y
-some_is x y e = cc
 
 -- a user that is found has the id
 found : (us : List User) (i : List ℕ) (x : User) → user_at us i ≡ Some x → Has us x × (x.id ≡ i)

@@ -1,6 +1,7 @@
 -- The level by what is known of an object, by the owner and then by the shares of a record is that of the user.
-use Rattle.std.proofs.Common.{◌≡◌, ◌∙◌, ℕ, Bool, true, false, ◌||◌, cond, List, [], ◌∷◌, ◌++◌, map, bytes_eq, Option, Some, refl, sym, ap, ap₂}
+use Rattle.std.proofs.Common.{◌≡◌, ◌∙◌, ℕ, Bool, true, false, ◌||◌, cond, List, [], ◌∷◌, map, bytes_eq, Option, Some, refl, sym, ap, ap₂}
 use Rattle.std.specs.Option.{option_and_then}
+use Rattle.std.proofs.lemmas.List.{map-append as map_both}
 use Rattle.store_rows.specs.declared.share.ShareRow.{ShareRow}
 use Rattle.base_value.specs.declared.sharing.Level.{Level}
 use Rattle.base_value.specs.declared.sharing.Level.TheVariants.{Nothing, Read, Full}
@@ -20,10 +21,6 @@ use Rattle.access_user.specs.level.Own.{IsOwnLevels, greater, level_apart, rule_
 use Rattle.access_user.specs.level.inner.Parts.{by_criterion, by_share, rules_on_owner}
 use Rattle.access_user.proofs.Covered.{rules_are}
 use Rattle.access_user.proofs.Greatest.{full_left, greatest_both, in_turn, none_left, read_left, read_right, settled_left}
-
-map_both : {X Y : Type 0} (f : X → Y) (xs ys : List X) → map f (xs ++ ys) ≡ map f xs ++ map f ys
-map_both f [] ys = refl
-map_both f (x ∷ xs) ys = ap (λ zs. f x ∷ zs) (map_both f xs ys)
 
 abbrev of_share : Share → Grant
 of_share s = record { to = s.to; level = s.level }

@@ -1,30 +1,25 @@
 -- A path cut at its slashes, and the walk over a whole path.
-use Rattle.std.proofs.Common.{◌≡◌, ◌≢◌, ◌⊎◌, ℕ, ◌+◌, ◌<◌, ◌/◌, ◌%◌, Bool, true, false, cond, List, [], ◌∷◌, ◌++◌, length, get_or, Option, Some, None, inl, inr, refl, sym, ap, ◌∙◌, subst, arith, ◌==◌, ltb, ◌&&◌}
+use Rattle.std.proofs.Common.{◌≡◌, ◌≢◌, ◌⊎◌, ℕ, ◌+◌, ◌/◌, ◌%◌, Bool, true, false, cond, List, [], ◌∷◌, ◌++◌, length, get_or, Option, Some, None, inl, inr, refl, sym, ap, ◌∙◌, subst, arith, ◌==◌, ltb, ne_eqb as no}
 use Rattle.std.proofs.Math.Seq.{take-append_seam, drop-append-add}
-use Rattle.std.proofs.Math.Utf8.{encode, encodes, scalar, scalars, scalar_cases}
+use Rattle.std.proofs.Math.Utf8.{encode, encodes, scalar, scalars}
 use Rattle.std.proofs.lemmas.Bool.Decides.{eqb_tells, nat_tests}
 use Rattle.std.proofs.lemmas.List.{append-nil, length-append}
 use Rattle.std.proofs.lemmas.List.Splits.{slice_split-cons_yes, slice_split-cons_no}
 use Rattle.std.proofs.lemmas.Str.{IsUtf8-take, IsUtf8-drop, IsCharBoundary-before_ascii, IsCharBoundary-after_ascii}
 use Rattle.std.specs.List.{slice_split, onto_first}
 use Rattle.std.specs.Str.{IsUtf8}
+use Rattle.std.proofs.lemmas.Bool.{and_parts as both}
+use Rattle.base_lemmas.proofs.Texts.{scalar_below as top}
 use Rattle.matchit.specs.Level.{IsText}
 use Rattle.matchit.specs.Rows.{param_token, catch_all_token}
 use Rattle.matchit.specs.Seek.{first, same_text, seek, step}
 use Rattle.api.specs.router.Pick.{Piece, text, param, PatternOf, IsPlain, AllPlain, ArePlain, router_rows, slashed}
 use Rattle.api.specs.router.Find.{all_clear, path_parts, with_part}
 use Rattle.api.specs.router.Cuts.{AllUtf8, Cut, find_from, is_slash}
-use Rattle.api.proofs.Walks.{no, only-bytes, seek-empty, wild-router_rows}
+use Rattle.api.proofs.Walks.{only-bytes, seek-empty, wild-router_rows}
 use Rattle.api.proofs.FindLaws.{first-finds}
 
 -- ---- the bytes of a text
-
-both : (a b : Bool) → (a && b) ≡ true → (a ≡ true) × (b ≡ true)
-both true b h = (refl, h)
-both false b h = (h, cc)
-
-top : (c : ℕ) → scalar c ≡ true → c < 1114112
-top c s = elim (scalar_cases c s) [ inl h ↦ omega arith | inr h ↦ omega (arith, h.1) ]
 
 -- each byte of a character
 encode-bytes : (c : ℕ) → scalar c ≡ true → (more : List ℕ) → IsText more → IsText (encode c ++ more)

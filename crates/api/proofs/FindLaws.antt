@@ -1,16 +1,13 @@
 -- Where no two lines meet a segment both as a text and as a parameter, texts before parameters is the order of the table.
-use Rattle.std.proofs.Common.{◌≡◌, ℕ, List, [], ◌∷◌, Option, Some, None, Bool, true, false, cond, refl, sym, ap, ◌∙◌, ◌&&◌}
+use Rattle.std.proofs.Common.{◌≡◌, ℕ, List, [], ◌∷◌, Option, Some, None, Bool, true, false, cond, refl, sym, ap, ◌∙◌}
 use Rattle.std.specs.Prelude.{is_some}
 use Rattle.std.specs.Cmp.Lexicographic.{bytes_decides}
+use Rattle.std.proofs.lemmas.Bool.{and_parts as both}
 use Rattle.matchit.specs.Seek.{first, or_else, same_text}
 use Rattle.matchit.proofs.ParamLemmas.{same_text-self}
 use Rattle.api.specs.router.Pick.{Piece, text, param, PatternOf, ArePlain, AllPlain, router_rows, slashed, ends_here, past_text, past_param, if_some, pick}
 use Rattle.api.specs.router.Find.{path_parts, with_part, clear_of, find, clear_of_all, all_clear}
 use Rattle.api.proofs.Walks.{first-picks}
-
-both : (a b : Bool) → (a && b) ≡ true → (a ≡ true) × (b ≡ true)
-both true b h = (refl, h)
-both false b h = (h, cc)
 
 some_with : (c : ℕ) (s : List ℕ) (m : Option (List (List ℕ))) → is_some (with_part (c ∷ s) m) ≡ is_some m
 some_with c s None = refl

@@ -1,9 +1,10 @@
 -- What the router finds is what the definition says.
-use Rattle.std.proofs.Common.{◌≡◌, ℕ, Bool, true, false, List, [], ◌∷◌, map, refl, ap, sym, ◌∙◌, subst, lit<, ◌&&◌}
+use Rattle.std.proofs.Common.{◌≡◌, ℕ, true, false, List, [], ◌∷◌, map, refl, ap, sym, ◌∙◌, subst, lit<}
 use Rattle.std.proofs.lemmas.Str.{chars-nil}
 use Rattle.std.specs.Option.{option_map}
 use Rattle.std.specs.Prelude.{Option, Some, None}
 use Rattle.std.specs.Str.{chars, IsUtf8}
+use Rattle.std.proofs.lemmas.Bool.{and_parts as both}
 use Rattle.matchit.specs.Params.{walk}
 use Rattle.matchit.specs.Router.{RouteOf}
 use Rattle.matchit.specs.Seek.{first}
@@ -24,10 +25,6 @@ use Rattle.api.proofs.Characters.{chars-split}
 use Rattle.api.proofs.Parts.{some-chars}
 use Rattle.api.proofs.Tables.{table-clear, table-plain, table-routes}
 use Rattle.api.proofs.Ways.{any-none, any-ways, first-none, first-ways, has_lines, kinds-first, lines-slashed, lines-ways, places-have, table-has, ways}
-
-both : (a b : Bool) → (a && b) ≡ true → (a ≡ true) × (b ≡ true)
-both true b h = (refl, h)
-both false b h = (h, cc)
 
 -- the segments of a target by the segments of its path
 pub segments-chars : (path target : List ℕ) (c : Cut path) → IsUtf8 path → chars path ≡ model.path_of target

@@ -1,12 +1,9 @@
 -- A table is plain if the test says so.
-use Rattle.std.proofs.Common.{◌≡◌, ℕ, List, [], ◌∷◌, Bool, true, false, refl, arith, ltb, ◌==◌, ◌&&◌}
+use Rattle.std.proofs.Common.{◌≡◌, ℕ, List, [], ◌∷◌, true, arith, ltb, ◌==◌, ◌&&◌}
 use Rattle.std.proofs.lemmas.Bool.Decides.{nat_tests}
 use Rattle.std.specs.Prelude.{not}
+use Rattle.std.proofs.lemmas.Bool.{and_parts as both}
 use Rattle.api.specs.router.Pick.{Piece, text, param, PatternOf, IsPlain, IsPlainPattern, ArePlain, is_plain_text, is_plain_pattern, are_plain}
-
-both : (a b : Bool) → (a && b) ≡ true → (a ≡ true) × (b ≡ true)
-both true b h = (refl, h)
-both false b h = (h, cc)
 
 plain-text : (t : List ℕ) → is_plain_text t ≡ true → IsPlain t
 plain-text [] h = tt

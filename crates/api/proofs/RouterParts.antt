@@ -1,6 +1,5 @@
 -- The parts that parameters took are the segments where the pattern has parameters.
-use Rattle.std.proofs.Common.{◌≡◌, ℕ, zero, suc, ◌+◌, ◌-◌, ◌<◌, ◌≤◌, List, [], ◌∷◌, ◌++◌, length, take, drop, get_or, map, Option, Some, None, Bool, true, false, cond, refl, sym, ap, ◌∙◌, arith, ltb, leb, ◌&&◌}
-use Rattle.std.proofs.lemmas.Bool.Decides.{nat_tests}
+use Rattle.std.proofs.Common.{◌≡◌, ℕ, zero, suc, ◌+◌, ◌-◌, ◌<◌, ◌≤◌, List, [], ◌∷◌, ◌++◌, length, take, drop, get_or, map, Option, Some, None, Bool, true, false, cond, refl, sym, ap, ◌∙◌, arith, ltb, leb, ◌&&◌, length-append as length-both, lt-ltb as below, le-leb as within, le-ltb as not-below}
 use Rattle.std.specs.Cmp.Lexicographic.{bytes_decides}
 use Rattle.std.specs.Prelude.{is_some}
 use Rattle.matchit.specs.Params.{walk, wild_from, wild_stop, part_of, after_token, next_at}
@@ -28,24 +27,11 @@ take-front : (t r : List ℕ) → take (length t) (t ++ r) ≡ t
 take-front [] r = refl
 take-front (x ∷ t) r = ap (λ l. x ∷ l) (take-front t r)
 
-length-both : (t r : List ℕ) → length (t ++ r) ≡ length t + length r
-length-both [] r = omega arith
-length-both (x ∷ t) r = let e = length-both t r in omega (arith, e)
-
 get-front : (n : ℕ) (xs : List ℕ) (x : ℕ) (r : List ℕ) → drop n xs ≡ x ∷ r → get_or xs n 0 ≡ x
 get-front zero (y ∷ xs) x r e = cc
 get-front zero [] x r e = cc
 get-front (suc n) [] x r e = cc
 get-front (suc n) (y ∷ xs) x r e = get-front n xs x r e
-
-below : (x y : ℕ) → x < y → ltb x y ≡ true
-below x y h = grind (arith, nat_tests)
-
-within : (x y : ℕ) → x ≤ y → leb x y ≡ true
-within x y h = grind (arith, nat_tests)
-
-not-below : (x y : ℕ) → y ≤ x → ltb x y ≡ false
-not-below x y h = grind (arith, nat_tests)
 
 -- bytes of the pattern and of the path pass together
 wild-slash : (r : List ℕ) (len token at : ℕ) → at < len → wild_from (47 ∷ r) len token at ≡ wild_from r len (token + 1) (at + 1)

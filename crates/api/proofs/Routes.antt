@@ -1,9 +1,9 @@
 -- What a router of routes finds for a whole path, with the parts that the parameters took.
-use Rattle.std.proofs.Common.{◌≡◌, ℕ, ◌<◌, Bool, true, false, cond, List, [], ◌∷◌, ◌++◌, length, map, Some, None, refl, sym, ap, ◌∙◌, subst, arith, ◌==◌, ltb, ◌&&◌}
-use Rattle.std.proofs.lemmas.Bool.Decides.{nat_tests}
+use Rattle.std.proofs.Common.{◌≡◌, ℕ, ◌<◌, Bool, true, false, cond, List, [], ◌∷◌, ◌++◌, length, map, Some, None, refl, sym, ap, ◌∙◌, subst, arith, ◌==◌, ltb, ◌&&◌, eqb-true as same-number, ltb-true as below}
 use Rattle.std.specs.Cmp.Lexicographic.{bytes_decides}
 use Rattle.std.specs.List.{list_all}
 use Rattle.std.specs.Prelude.{is_some}
+use Rattle.std.proofs.lemmas.Bool.{and_parts as both}
 use Rattle.matchit.specs.Params.{walk}
 use Rattle.matchit.specs.Router.{RouteOf}
 use Rattle.matchit.specs.Seek.{first, same_text}
@@ -13,10 +13,6 @@ use Rattle.api.specs.router.Routes.{are_routes, is_route_of}
 use Rattle.api.specs.router.Ways.{same_pieces}
 use Rattle.api.proofs.Cuts.{first-from}
 use Rattle.api.proofs.RouterParts.{parts-walk}
-
-both : (a b : Bool) → (a && b) ≡ true → (a ≡ true) × (b ≡ true)
-both true b h = (refl, h)
-both false b h = (h, cc)
 
 pieces-same : (p q : List Piece) → same_pieces p q ≡ true → p ≡ q
 pieces-same [] [] h = refl
@@ -28,12 +24,6 @@ pieces-same (text a ∷ p) (text b ∷ q) h =
 pieces-same (text a ∷ p) (param ∷ q) h = cc
 pieces-same (param ∷ p) (text b ∷ q) h = cc
 pieces-same (param ∷ p) (param ∷ q) h = ap (λ r. param ∷ r) (pieces-same p q h)
-
-same-number : (a b : ℕ) → (a == b) ≡ true → a ≡ b
-same-number a b h = grind (arith, nat_tests)
-
-below : (a b : ℕ) → ltb a b ≡ true → a < b
-below a b h = grind (arith, nat_tests)
 
 -- what is found passes each test that all lines of the table pass
 pub find-passes : {K : Type 0} (test : K → Bool) (table : List (PatternOf K)) (path : List (List ℕ)) (k : K)

@@ -1,12 +1,9 @@
 -- The walk over rows of whole segments, byte by byte.
-use Rattle.std.proofs.Common.{◌≡◌, ◌≢◌, ℕ, zero, suc, ◌-◌, ◌<◌, List, [], ◌∷◌, ◌++◌, length, drop, Option, Some, None, Bool, true, false, cond, refl, sym, ap, ◌∙◌, arith, nat_eq, ◌==◌, ltb, ◌&&◌, append-nil}
+use Rattle.std.proofs.Common.{◌≡◌, ◌≢◌, ℕ, zero, suc, ◌-◌, ◌<◌, List, [], ◌∷◌, ◌++◌, length, drop, Option, Some, None, Bool, true, false, cond, refl, sym, ap, ◌∙◌, arith, nat_eq, ◌==◌, ltb, ◌&&◌, append-nil, ne_eqb as no}
 use Rattle.std.proofs.lemmas.Bool.Decides.{nat_tests}
 use Rattle.matchit.specs.Rows.{RowsOf, param_token, catch_all_token}
 use Rattle.matchit.specs.Seek.{own, step, or_else, seek, first, param_step, has_slash, segment, better, cuts, longest_from, longest_suffix, with_suffix, same_text}
 use Rattle.api.specs.router.Pick.{text, param, piece_tokens, tokens, slashed, IsPlain, AllPlain, PatternOf, ArePlain, router_rows, ends_here, past_text, past_param, pick}
-
-pub no : (a b : ℕ) → a ≢ b → (a == b) ≡ false
-no a b n = grind (arith, nat_tests)
 
 -- a slash that ends the segment is the longer suffix
 better-slash : (seg : List ℕ) → cuts seg (47 ∷ []) ≡ true → better seg [] (47 ∷ []) ≡ 47 ∷ []

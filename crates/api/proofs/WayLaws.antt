@@ -1,17 +1,14 @@
 -- A table of lines answers by the lines of the pattern that the path has.
-use Rattle.std.proofs.Common.{◌≡◌, ℕ, List, [], ◌∷◌, Option, Some, None, Bool, true, false, cond, refl, sym, ap, ◌∙◌, ◌&&◌, ◌||◌}
+use Rattle.std.proofs.Common.{◌≡◌, ℕ, List, [], ◌∷◌, Option, Some, None, Bool, true, false, cond, refl, sym, ap, ◌∙◌, ◌||◌}
 use Rattle.std.specs.Prelude.{is_some, bytes_eq}
 use Rattle.std.specs.Option.{option_map}
 use Rattle.std.specs.Cmp.Lexicographic.{bytes_decides}
+use Rattle.std.proofs.lemmas.Bool.{and_parts as both}
 use Rattle.matchit.specs.Seek.{same_text}
 use Rattle.matchit.proofs.ParamLemmas.{same_text-self}
 use Rattle.api.specs.router.Pick.{Piece, text, param}
 use Rattle.api.specs.router.Find.{path_parts, with_part, find}
 use Rattle.api.specs.router.Ways.{MethodWay, same_pieces, never_both, or_way, by_method, first_by_path, any_by_path, first_by_pattern, any_by_pattern, decides, agrees, has_pattern, has_patterns}
-
-both : (a b : Bool) → (a && b) ≡ true → (a ≡ true) × (b ≡ true)
-both true b h = (refl, h)
-both false b h = (h, cc)
 
 some_with : (c : ℕ) (s : List ℕ) (m : Option (List (List ℕ))) → is_some (with_part (c ∷ s) m) ≡ is_some m
 some_with c s None = refl

@@ -4,6 +4,7 @@ use Rattle.std.specs.List.{list_all}
 use Rattle.std.specs.Option.{option_map}
 use Rattle.std.specs.Prelude.{bytes_eq, if◌then◌else◌, is_some, Option, Some, None}
 use Rattle.std.specs.Str.{chars}
+use Rattle.std.proofs.lemmas.Bool.{and_parts as both}
 use Rattle.form_urlencoded.specs.Form.{split}
 use Rattle.model.specs.declared.route.Route.{Route}
 use Rattle.model.specs.Routing.{Line, first_route, is_empty, is_path, lines, or_else, parts_by, parts_of, path_of, query_of, route_by, segments}
@@ -44,10 +45,6 @@ are_slashed ls = list_all (λ l. is_slashed (segments l.pattern)) ls
 pub lines-slashed : are_slashed lines ≡ true
 unfolding split lines
 lines-slashed = refl
-
-both : (a b : Bool) → (a && b) ≡ true → (a ≡ true) × (b ≡ true)
-both true b h = (refl, h)
-both false b h = (h, cc)
 
 -- ---- a path that begins with a slash
 

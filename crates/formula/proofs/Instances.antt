@@ -1,11 +1,12 @@
 -- Each function that reads is exact for its part of the grammar.
 use Rattle.std.proofs.Common.{◌≡◌, ℕ, zero, suc, Bool, true, false, ◌==◌, List, [], ◌∷◌, Option, Some, None, refl}
+use Rattle.std.proofs.lemmas.Bool.{or_right}
 use Rattle.base_grammar.specs.Part.{Part, one, both, either, as_value}
 use Rattle.base_grammar.specs.Part as part
 use Rattle.base_grammar.specs.Reader.{Reader, read_one, read_either, elem}
 use Rattle.base_grammar.specs.Reader as reader
 use Rattle.base_grammar.specs.Exact.{Exact}
-use Rattle.base_grammar.proofs.Sets.{disjoint, or_right}
+use Rattle.base_grammar.proofs.Sets.{disjoint}
 use Rattle.base_grammar.proofs.Exact.{one_exact, as_exact, both_exact, either_exact}
 use Rattle.base_grammar.proofs.Pairs.{after_exact, before_exact, sign_exact, pair_exact, pair_exact_0, any_exact, wider_first}
 use Rattle.formula.specs.declared.formula.Formula.{Formula}

@@ -1,6 +1,8 @@
 -- The formulas within another, as a `Row_of-Formula` and as a list.
-use Rattle.std.proofs.Common.{◌≡◌, ℕ, Bool, true, false, not, ◌&&◌, ◌||◌, List, [], ◌∷◌, ◌++◌, Option, refl, ap, ◌∙◌, flat_map}
+use Rattle.std.proofs.Common.{◌≡◌, not, ◌&&◌, ◌||◌, List, ◌++◌, Option, refl, ap, ◌∙◌, flat_map}
 use Rattle.std.specs.List.{list_all, list_any}
+use Rattle.std.proofs.lemmas.List.{append-nil as append_nil}
+use Rattle.base_lemmas.proofs.Bools.{and-true as and_true}
 use mathlib.Core.Former.{Count}
 use denote.Hole.Carrier.{hidden}
 use Rattle.base_value.specs.declared.value.Value.{Value}
@@ -8,14 +10,6 @@ use Rattle.formula.specs.Meaning.{holds, all_hold, some_hold}
 use Rattle.formula.specs.Naming.{names, all_names}
 use Rattle.formula.specs.declared.formula.Formula.{Formula, Not, And, Or, And', Or', Row_of-Formula, end_of-Formula, more_of-Formula, items-the_row-Formula, items_hidden-the_row-Formula-1}
 use Rattle.formula.specs.declared.formula.Formula.TheBlock.{hidden-the_row-Formula-0}
-
-and_true : (b : Bool) → (b && true) ≡ b
-and_true true = refl
-and_true false = refl
-
-append_nil : (ps : List ℕ) → ps ++ [] ≡ ps
-append_nil [] = refl
-append_nil (p ∷ ps) = ap (λ qs. p ∷ qs) (append_nil ps)
 
 -- those within a formula
 abbrev row_of : Formula → (n : Count) × Row_of-Formula n

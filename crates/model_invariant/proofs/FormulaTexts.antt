@@ -4,6 +4,7 @@ use Rattle.std.specs.Prelude.{Result, is_ok, codes, encode_utf8_all}
 use Rattle.std.specs.List.{list_all, list_any}
 use Rattle.std.specs.Option.{ok_or}
 use Rattle.std.proofs.lemmas.List.{map-append}
+use Rattle.std.proofs.lemmas.Bool.{true≢false as clash}
 use Rattle.base_grammar.specs.Exact.{left}
 use Rattle.base_grammar.specs.Lexing.{tokens_of}
 use Rattle.base_grammar.specs.Place.{starts, whole_of}
@@ -28,7 +29,7 @@ use Rattle.model.specs.Tenant.{Field, Object}
 use Rattle.model_invariant.specs.rule_text.Reading.{ReadsFormulas}
 use Rattle.model.specs.FormulaTexts.{as_named, formula_fields, name_field, reads_text}
 use Rattle.model_invariant.proofs.KnownSigns.{OfFormula, known, whole_knows}
-use Rattle.model_invariant.proofs.Truths.{both_left, both_right, clash}
+use Rattle.model_invariant.proofs.Truths.{both_left, both_right}
 
 -- ---- what is read is what is spelled
 is_read : (r : Option Formula) (at : ℕ) (f : Formula) → ok_or r at ≡ Ok f → r ≡ Some f

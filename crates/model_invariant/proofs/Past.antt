@@ -1,19 +1,18 @@
 -- The records of a list in the order of ids that are past the last of its first ones are the others.
-use Rattle.std.proofs.Common.{◌≡◌, ℕ, zero, suc, Bool, true, false, ◌&&◌, cond, T, List, [], ◌∷◌, map, filter, take, drop, Option, Some, None, refl, sym, ap, subst, ◌∙◌, inl, inr, Less, Equal, Greater, Ordering}
+use Rattle.std.proofs.Common.{◌≡◌, ℕ, zero, suc, Bool, true, false, cond, T, List, [], ◌∷◌, map, filter, take, drop, Option, Some, None, refl, sym, ap, subst, ◌∙◌, inl, inr, Ordering}
 use Rattle.std.specs.FinMap.{is_sorted}
 use Rattle.std.specs.FinMap.Entries.{below_all}
 use Rattle.std.specs.Ordering.{is_lt, nat_cmp}
 use Rattle.std.specs.Cmp.Lexicographic.{slice_cmp}
 use Rattle.std.proofs.lemmas.Cmp.{nat_list_cmp_total, tied_itself}
+use Rattle.std.proofs.lemmas.Bool.{true≢false as clash}
+use Rattle.base_lemmas.proofs.Bools.{by_answer as pick, T-and_first as first, T-and_second as second, true_from_T as is_true, T-and_from as both}
+use Rattle.base_lemmas.proofs.Orders.{less_from_is_lt as is_less}
 use Rattle.model.specs.declared.record.Record.{Record}
 use Rattle.model.specs.Jobs.{is_past, last_id}
 use Rattle.model.specs.Membership.{Has}
 use Rattle.model.specs.SoundPeople.{ids_rise}
 use Rattle.model.specs.SoundRecords.{record_id}
-
-pub pick : (b : Bool) (P : Bool → Type 0) → (b ≡ true → P true) → (b ≡ false → P false) → P b
-pick true P f g = f refl
-pick false P f g = g refl
 
 abbrev compare : List ℕ → List ℕ → Ordering
 compare a b = slice_cmp nat_cmp a b
@@ -26,31 +25,7 @@ Rises rs = T (ids_rise record_id rs)
 
 -- ---- tests as types
 
-first : (a b : Bool) → T (a && b) → T a
-first true b h = tt
-first false b h = absurd h
-
-second : (a b : Bool) → T (a && b) → T b
-second true b h = h
-second false b h = absurd h
-
-both : (a b : Bool) → T a → T b → T (a && b)
-both true b h g = g
-both false b h g = absurd h
-
-is_true : (a : Bool) → T a → a ≡ true
-is_true true h = refl
-is_true false h = absurd h
-
 -- ---- less
-
-is_less : (o : Ordering) → is_lt o ≡ true → o ≡ Less
-is_less Less h = refl
-is_less Equal h = absurd cc
-is_less Greater h = absurd cc
-
-clash : true ≡ false → ⊥
-clash e = cc
 
 itself : (a : List ℕ) → is_lt (compare a a) ≡ false
 itself a = ap is_lt (tied_itself nat_list_cmp_total a)

@@ -1,12 +1,14 @@
 -- The steps of a change that copies records of which all convert.
-use Rattle.std.proofs.Common.{◌≡◌, ◌<◌, ◌≤◌, ℕ, zero, suc, ◌+◌, ◌*◌, Bool, cond, List, [], ◌∷◌, ◌++◌, length, take, drop, Option, Some, None, refl, sym, ap, subst, ◌∙◌, arith}
+use Rattle.std.proofs.Common.{◌≡◌, ◌<◌, ◌≤◌, ℕ, zero, suc, ◌+◌, ◌*◌, Bool, cond, List, [], ◌∷◌, ◌++◌, length, take, drop, Option, Some, None, refl, sym, ap, subst, ◌∙◌, arith, take-add as take_more}
 use Rattle.std.specs.Prelude.{slice_get}
 use Rattle.std.specs.List.{find}
 use Rattle.std.specs.Option.{option_and_then, option_map}
+use Rattle.std.proofs.lemmas.List.{drop_all as drop_none}
+use Rattle.base_lemmas.proofs.Bools.{by_answer as pick}
 use Rattle.base_value.specs.declared.job.Phase.{Phase}
 use Rattle.base_value.specs.declared.job.Phase.TheVariants as phase
 use Rattle.model_invariant.specs.progress.Course.{after_steps, field_type}
-use Rattle.model_invariant.proofs.Past.{Rises, past_taken, pick, rises_filter}
+use Rattle.model_invariant.proofs.Past.{Rises, past_taken, rises_filter}
 use Rattle.model.specs.declared.record.Record.{Record}
 use Rattle.model.specs.Cases.{in_case}
 use Rattle.model.specs.Jobs.{copy_step, failed_at, is_bad, job_step, last_id, moved, next_hundred, step_in, switched}
@@ -22,17 +24,6 @@ take_nothing : {X : Type 0} (n : ℕ) → ◌≡◌ {A = List X} (take n []) []
 take_nothing zero = refl
 take_nothing (suc n) = refl
 
-take_more : {X : Type 0} (m n : ℕ) (xs : List X) → take (m + n) xs ≡ take m xs ++ take n (drop m xs)
-take_more zero n xs = ap (λ k. take k xs) (nothing n)
-  where
-    nothing : (n : ℕ) → 0 + n ≡ n
-    nothing n = omega arith
-take_more {X = X} (suc m) n [] = take_nothing (suc m + n) ∙ sym (take_nothing n)
-take_more {X = X} (suc m) n (x ∷ xs) = ap (λ k. take k (x ∷ xs)) (one m n) ∙ ap (λ (ys : List X). x ∷ ys) (take_more m n xs)
-  where
-    one : (m n : ℕ) → suc m + n ≡ suc (m + n)
-    one m n = omega arith
-
 last_more : (xs : List Record) (y : Record) (ys : List Record) → last_id (xs ++ y ∷ ys) ≡ last_id (y ∷ ys)
 last_more [] y ys = refl
 last_more (x ∷ []) y ys = refl
@@ -43,12 +34,6 @@ drop_some zero [] h = absurd (omega (arith, h))
 drop_some zero (x ∷ xs) h = (x, xs, refl)
 drop_some (suc n) [] h = absurd (omega (arith, h))
 drop_some (suc n) (x ∷ xs) h = drop_some n xs (omega (arith, h))
-
-drop_none : {X : Type 0} (n : ℕ) (xs : List X) → length xs ≤ n → drop n xs ≡ []
-drop_none zero [] h = refl
-drop_none zero (x ∷ xs) h = absurd (omega (arith, h))
-drop_none (suc n) [] h = refl
-drop_none (suc n) (x ∷ xs) h = drop_none n xs (omega (arith, h))
 
 none_in : {X : Type 0} (f : X → Bool) (xs : List X) → find f xs ≡ None → (n : ℕ) → find f (take n xs) ≡ None
 none_in f xs e zero = refl

@@ -1,9 +1,6 @@
 -- Truth values.
 use Rattle.std.proofs.Common.{◌≡◌, Bool, true, false, ◌&&◌, refl}
 
-pub clash : true ≡ false → ⊥
-clash e = cc
-
 pub both_left : (a b : Bool) → (a && b) ≡ true → a ≡ true
 both_left true b h = refl
 both_left false b h = h

@@ -1,8 +1,9 @@
 -- Keys of people beside those of the changes.
 use Rattle.std.proofs.Common.{◌≡◌, ℕ, Bool, false, eqb, List, Some, refl, bytes_eq}
+use Rattle.base_lemmas.proofs.Bools.{and_second_false as both_false}
+use Rattle.base_lemmas.proofs.Options.{eqb-same_Some as own_number}
 use Rattle.people_rows.specs.Roster.{is_group_key, is_role_key, is_user_key}
 use Rattle.store_abstraction.specs.Stands.{org_of_key}
-use Rattle.store_edit.proofs.Putting.{both_false, own_number}
 use Rattle.store_rows.specs.Keys as key
 use Rattle.store_rows.specs.Keys.{Key, key_eq}
 

@@ -5,6 +5,7 @@ use Rattle.std.specs.List.{AllByRecursion, list_all}
 use Rattle.std.specs.Str.{all_scalars}
 use Rattle.std.proofs.lemmas.Bool.Decides.{nat_tests}
 use Rattle.std.proofs.lemmas.Option.{slice_get_within}
+use Rattle.std.proofs.lemmas.Bool.{and_parts as both}
 use Rattle.store_rows.specs.Forms.{FitsForm}
 use Rattle.store_rows.specs.Rows.{sharing_form}
 use Rattle.model.specs.Cases.{in_case}
@@ -24,7 +25,7 @@ use Rattle.store_codec.specs.Plain.{FitsText}
 use Rattle.store_abstraction.specs.Metadata.{sharing_of, source_part}
 use Rattle.store_abstraction.proofs.Found.{found_with_id}
 use Rattle.store_abstraction.proofs.Names.{MakesIds, drawn_is_id}
-use Rattle.store_abstraction.proofs.Spelled.{both, cursor_is_id, short_fits, stem_bytes, stem_fits}
+use Rattle.store_abstraction.proofs.Spelled.{cursor_is_id, short_fits, stem_bytes, stem_fits}
 use Rattle.base_value.specs.Id.{is_digit62, is_id}
 use Rattle.base_value.specs.declared.job.RuleState.{RuleState}
 use Rattle.base_value.specs.declared.sharing.Level.{Level}

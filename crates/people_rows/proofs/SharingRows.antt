@@ -1,15 +1,19 @@
 -- The rows of an organisation's sharing rules, in the order of their lower-case names, are the rules of its tenant.
-use Rattle.std.proofs.Common.{◌≡◌, ℕ, ◌<◌, ◌≤◌, ◌^◌, Bool, true, false, ◌&&◌, cond, T, IsTrue, List, [], ◌∷◌, ◌++◌, length, map, take, Option, Some, None, refl, sym, ap, subst, ◌∙◌, inl, inr, arith, bytes_eq, Ordering, Equal}
+use Rattle.std.proofs.Common.{◌≡◌, ℕ, ◌<◌, ◌≤◌, ◌^◌, Bool, true, cond, T, IsTrue, List, [], ◌∷◌, ◌++◌, length, map, take, Option, Some, None, refl, sym, ap, subst, ◌∙◌, inl, inr, arith, bytes_eq, Ordering}
 use Rattle.std.specs.Prelude.{◌-◌, IsSome, Result, Ok, Err, Vec}
-use Rattle.std.specs.Cmp.{nat_cmp_total}
 use Rattle.std.specs.Cmp.Lexicographic.{nat_list_cmp_total}
 use Rattle.std.specs.FinMap.{is_sorted}
 use Rattle.std.specs.FinMap.Entries.{below_all}
 use Rattle.std.specs.Option.{option_and_then, option_map}
-use Rattle.std.specs.Ordering.{is_lt, nat_cmp, ordering_then}
+use Rattle.std.specs.Ordering.{is_lt, ordering_then}
 use Rattle.std.proofs.lemmas.Cmp.{tied_itself}
 use Rattle.std.proofs.lemmas.List.{length-map, take_all}
 use Rattle.std.proofs.lemmas.Slice.Eq.{bytes_eq-Decides}
+use Rattle.std.proofs.lemmas.Bool.{false≢true as differ}
+use Rattle.std.proofs.lemmas.Option.{none-some as clash_some, same_Some as some_is}
+use Rattle.base_lemmas.proofs.Bools.{T-and_first as t_first, T-and_second as t_second, true_from_T as t_true, T-and_from as t_both, by_answer as pick}
+use Rattle.base_lemmas.proofs.Orders.{nat_cmp-self as tied}
+use Rattle.base_lemmas.proofs.Numbers.{eqb-self as eqb_same}
 use Rattle.store_kv.specs.declared.keeper.KeptRow.{KeptRow}
 use Rattle.store_kv.specs.Prefixes.{StartsWith, raised}
 use Rattle.store_kv.specs.Tables.{Has as HasRow, Tables, bytes_cmp, is_between}
@@ -37,7 +41,6 @@ use Rattle.store_abstraction.specs.Plan.{OrgPlan}
 use Rattle.store_abstraction.specs.Stands.{row_in}
 use Rattle.store_abstraction.proofs.Intervals.{under_shorter}
 use Rattle.store_abstraction.proofs.LayoutReads.{ListedIn}
-use Rattle.store_abstraction.proofs.Lookups.{eqb_same, pick, some_is}
 use Rattle.store_abstraction.proofs.MetadataLists.{KeyLaws}
 use Rattle.store_abstraction.proofs.Names.{MakesIds}
 use Rattle.store_abstraction.proofs.Pages.{GivesRows, PageLaws, page_gives}
@@ -47,22 +50,6 @@ use Rattle.people_rows.specs.sharing.SharingRules.{sharing_rows}
 use Rattle.people_rows.proofs.SharingFits.{all_has, rule_fits}
 
 -- ---- tests as types
-
-t_first : (a b : Bool) → T (a && b) → T a
-t_first true b h = tt
-t_first false b h = absurd h
-
-t_second : (a b : Bool) → T (a && b) → T b
-t_second true b h = h
-t_second false b h = absurd h
-
-t_both : (a b : Bool) → T a → T b → T (a && b)
-t_both true b h g = g
-t_both false b h g = absurd h
-
-t_true : (a : Bool) → T a → a ≡ true
-t_true true h = refl
-t_true false h = absurd h
 
 -- ---- rules in the order of their names
 
@@ -78,9 +65,6 @@ below_has k [] r h has = absurd has
 below_has k (x ∷ rules) r h (inl e) =
     subst (λ (y : SharingRule). is_lt (name_cmp k y.name) ≡ true) (sym e) (t_true (is_lt (name_cmp k x.name)) (t_first (is_lt (name_cmp k x.name)) (below_all name_cmp k (named rules)) h))
 below_has k (x ∷ rules) r h (inr has) = below_has k rules r (t_second (is_lt (name_cmp k x.name)) (below_all name_cmp k (named rules)) h) has
-
-differ : false ≡ true → ⊥
-differ e = cc
 
 not_less : (a b : List ℕ) → lower a ≡ lower b → is_lt (name_cmp a b) ≡ true → ⊥
 not_less a b same h =
@@ -119,12 +103,6 @@ prefix_of org = number32 org ++ 1 ∷ []
 
 abbrev key_at : (org : ℕ) → List ℕ → List ℕ
 key_at org name = spelled sharing_form.key (org, (tt, lower_bytes name))
-
-tied : (n : ℕ) → nat_cmp n n ≡ Equal
-tied n = tied_itself nat_cmp_total n
-
-clash_some : {A : Type 0} (x : A) → ◌≡◌ {A = Option A} None (Some x) → ⊥
-clash_some x e = cc
 
 row_has : (org : ℕ) (rules : List SharingRule) (u : SharingRow) → HasRow (map (sharing_of org) rules) u → (r : SharingRule) × Has rules r × (u ≡ sharing_of org r)
 row_has org [] u h = absurd h

@@ -2,6 +2,7 @@
 use Rattle.std.proofs.Common.{◌≡◌, ℕ, zero, suc, ◌-◌, ◌<◌, ◌≤◌, Bool, true, false, cond, List, [], ◌∷◌, ◌++◌, map, filter_map, length, get_or, Option, Some, None, refl, sym, ap, subst, ◌∙◌, arith, length-append}
 use Rattle.std.specs.List.{list_any}
 use Rattle.std.specs.Option.{option_map, unwrap_or}
+use Rattle.std.proofs.lemmas.Option.{none-some as no_clash}
 use Rattle.soql.specs.declared.query.Item.TheVariants as item
 use Rattle.soql.specs.declared.query.Path.{Path}
 use Rattle.model.specs.declared.record.Record.{Record}
@@ -24,7 +25,7 @@ use Rattle.query_bind.specs.inner.Members.{IsAt, Sees, ShowsParent, ShowsPath, S
 use Rattle.query_bind.specs.inner.Spots.{IsOf, Serve, Setting, far_of}
 use Rattle.query_check.specs.Ways.{path_column_in}
 use Rattle.query_check.proofs.Reaching.{column_same}
-use Rattle.query_bind.proofs.Showing.{all_led, any_item, declared_shown, end_shown, field_shown, no_clash, object_shown, parent_shown, several_serve}
+use Rattle.query_bind.proofs.Showing.{all_led, any_item, declared_shown, end_shown, field_shown, object_shown, parent_shown, several_serve}
 use Rattle.query_bind.proofs.Tested.{behind_both}
 
 -- where there is no such relationship, no path that begins with it leads to a field

@@ -3,6 +3,7 @@ use Rattle.std.proofs.Common.{◌≡◌, ℕ, true, List, [], ◌∷◌, ◌++�
 use Rattle.std.specs.List.{AllByRecursion, list_all}
 use Rattle.std.specs.declared.cmp.Ordering.{Ordering}
 use Rattle.std.specs.Ordering.{ordering_then}
+use Rattle.base_lemmas.proofs.Bools.{and_first as and_left, and_second as and_right}
 use Rattle.base_value.specs.Printing.{day_of_moment}
 use Rattle.soql.specs.declared.query.OrderKey.{OrderKey}
 use Rattle.soql.specs.declared.query.Tail.{Tail}
@@ -33,7 +34,6 @@ use Rattle.query_bind.specs.inner.Spots.{IsOf, Serve, Setting, far_of}
 use Rattle.query_bind.specs.inner.Tails.{BindsTail, BindsWhere, KeyServes, TailServes}
 use Rattle.query_check.specs.Ways.{path_column_in}
 use Rattle.query_check.proofs.Clean.{first_none, not_refused, rest_none, some_column}
-use Rattle.query_plan.proofs.Lists.{and_left, and_right}
 use Rattle.query_bind.proofs.Tested.{all_free, behind_both}
 
 -- ---- keys

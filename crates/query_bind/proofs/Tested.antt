@@ -2,6 +2,7 @@
 use Rattle.std.proofs.Common.{◌≡◌, ℕ, Bool, true, not, cond, List, [], ◌∷◌, ◌++◌, map, Option, Some, None, sym, ap, ◌∙◌, inl, inr, ◌⊎◌, ℤ, append_assoc}
 use Rattle.std.specs.Bool.{beq}
 use Rattle.std.specs.List.{AllByRecursion, list_all, list_any}
+use Rattle.base_lemmas.proofs.Bools.{and_first as and_left, and_second as and_right}
 use Rattle.base_value.specs.Printing.{day_of_moment}
 use Rattle.base_value.specs.declared.value.Value.{Value}
 use Rattle.soql.specs.declared.query.LikePattern.{LikePattern}
@@ -31,7 +32,6 @@ use Rattle.query_bind.specs.inner.Spots.{IsBound, IsFree, Serve, Setting, far_of
 use Rattle.query_check.specs.Ways.{path_column_in}
 use Rattle.query_check.proofs.Clean.{first_none, not_refused, rest_none, some_column}
 use Rattle.query_bind.proofs.Leaves.{among_is, negated_is, passes_is}
-use Rattle.query_plan.proofs.Lists.{and_left, and_right}
 
 -- ---- branches that are added
 

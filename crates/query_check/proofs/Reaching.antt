@@ -3,6 +3,8 @@ use Rattle.std.proofs.Common.{◌≡◌, ℕ, Bool, true, false, cond, eqb, List
 use Rattle.std.specs.Prelude.{position}
 use Rattle.std.specs.List.{list_all}
 use Rattle.std.specs.Option.{option_and_then, option_map, option_or}
+use Rattle.base_lemmas.proofs.Numbers.{eqb-self as eqb_same}
+use Rattle.std.proofs.lemmas.Option.{same_Some as some_is}
 use Rattle.soql.specs.declared.query.Item.{Item}
 use Rattle.soql.specs.declared.query.Item.TheVariants as item
 use Rattle.soql.specs.declared.query.Path.{Path}
@@ -19,7 +21,6 @@ use Rattle.model.specs.Tests.{Tested, tests}
 use Rattle.store_abstraction.specs.declared.layout.Layout.{Layout}
 use Rattle.store_abstraction.specs.Layouts.{IsLayout, own_layout, own_layouts}
 use Rattle.store_abstraction.specs.Plan.{OrgPlan}
-use Rattle.store_abstraction.proofs.Lookups.{eqb_same}
 use Rattle.query_plan.specs.declared.paths.children.ChildStep.{ChildStep}
 use Rattle.query_plan.specs.declared.paths.parents.ParentStep.{ParentStep}
 use Rattle.query_plan.specs.paths.ByLayout.{child_by, child_of, is_child}
@@ -33,7 +34,6 @@ use Rattle.query_check.specs.Columns.{placed}
 use Rattle.query_check.specs.Rules.{child_rule, mentioned_in, query_rule, rule_in, tail_rule}
 use Rattle.query_check.specs.Ways.{child_layout, layout_at, parent_layout, path_column_in}
 use Rattle.query_check.proofs.Judged.{Mentions, flat_alike, judged, own_column, paths_same, tail_same, test_rule, tests_same}
-use Rattle.query_plan.proofs.Lists.{some_is}
 
 all_true : {X : Type 0} (xs : List X) → list_all (λ x. true) xs ≡ true
 all_true [] = refl

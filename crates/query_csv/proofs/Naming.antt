@@ -3,6 +3,7 @@ use Rattle.std.proofs.Common.{◌≡◌, ◌∙◌, ℕ, ◌+◌, Bool, true, fa
 use Rattle.std.specs.List.{enumerate_from, find, list_all, list_any}
 use Rattle.std.specs.Option.{option_and_then, option_map}
 use Rattle.std.specs.Str.{chars}
+use Rattle.base_lemmas.proofs.Bools.{and_first as and_left, and_second as and_right}
 use Rattle.base_value.specs.declared.value.FieldType.TheVariants as type
 use Rattle.soql.specs.declared.query.Item.{Item}
 use Rattle.soql.specs.declared.query.Item.TheVariants as item
@@ -20,7 +21,6 @@ use Rattle.model_step.specs.Flat.{has_one_name, is_flat, is_flat_item}
 use Rattle.query_plan.specs.paths.Ways.{parent_step}
 use Rattle.query_plan.specs.declared.paths.parents.ParentStep.{ParentStep}
 use Rattle.query_plan.proofs.ByLayout.{numbered_layout, parent_by_layout}
-use Rattle.query_plan.proofs.Lists.{and_left, and_right}
 use Rattle.query_check.specs.Columns as rules
 use Rattle.query_check.specs.Reaching.{Reaches}
 use Rattle.query_check.specs.Ways.{layout_at}

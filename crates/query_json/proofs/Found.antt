@@ -12,6 +12,7 @@ use Rattle.std.specs.List.{AllByRecursion, flat_map, list_all}
 use Rattle.std.specs.List.Sorted.{IsStrictlySortedBy}
 use Rattle.std.specs.declared.cmp.Ordering.{Ordering}
 use Rattle.std.specs.declared.cmp.Ordering.TheVariants.{Less}
+use Rattle.base_lemmas.proofs.Bools.{and_first as left, and_second as right}
 use Rattle.store_kv.specs.Draft.{DraftReads, DraftTells, Held}
 use Rattle.store_kv.specs.State.{KeeperState}
 use Rattle.store_kv.specs.Tables.{Tables}
@@ -64,7 +65,7 @@ use Rattle.query_exec.specs.declared.fail.ExecFail.TheVariants.{Store, TooLarge}
 use Rattle.query_exec.specs.declared.window.Window.{Window}
 use Rattle.api_output.specs.Rows.{behind_commas}
 use Rattle.api_output.proofs.Bodies.{longer}
-use Rattle.query_json.proofs.Lists.{all_at, kept_from, left, right, same_map}
+use Rattle.query_json.proofs.Lists.{all_at, kept_from, same_map}
 use Rattle.store_abstraction.specs.Calls.{Calls, Ending, done, fell, stopped}
 use Rattle.store_abstraction.specs.Layouts.{IsLayout, layout_of, own_layout}
 use Rattle.store_abstraction.specs.Plan.{OrgPlan}

@@ -14,10 +14,6 @@ use Rattle.api_output.proofs.Written.{after}
 use Rattle.query_json.specs.row.inner.Members.{parent_text, record_at}
 use Rattle.query_json.proofs.Pieces.{record_written}
 
-pub nothing_there : {A : Type 0} (o : Option A) → ((x : A) → o ≡ Some x → ⊥) → o ≡ None
-nothing_there None h = refl
-nothing_there (Some x) h = absurd (h x refl)
-
 abbrev row_of : Member → (n : Count) × Row_of-Member n
 row_of (Parent' _ _ _ _ row) = (_, row)
 row_of _ = (_, end_of-Member)

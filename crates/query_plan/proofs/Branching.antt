@@ -3,9 +3,9 @@ use Rattle.std.proofs.Common.{◌≡◌, ℕ, zero, suc, ◌+◌, ◌<◌, List,
 use Rattle.std.specs.Prelude.{IfSome, slice_get}
 use Rattle.std.specs.Option.{option_and_then}
 use Rattle.std.proofs.lemmas.List.{append-nil}
+use Rattle.std.proofs.lemmas.Option.{same_Some as some_is}
 use Rattle.model.specs.declared.record.Record.{Record}
 use Rattle.model.specs.Paths.{Asked, if_readable}
-use Rattle.store_abstraction.proofs.Lookups.{some_is}
 use Rattle.query_plan.specs.declared.paths.branches.Branch.{Branch}
 use Rattle.query_plan.specs.declared.paths.parents.ParentStep.{ParentStep}
 use Rattle.query_plan.specs.paths.Branches.{AreBranches, AddsBranches, IsAmong, branch_record, branch_records, record_above}

@@ -1,10 +1,13 @@
 -- Relationships and objects are found by layouts as the model finds them.
-use Rattle.std.proofs.Common.{◌≡◌, ◌↔◌, ℕ, zero, suc, ◌+◌, ◌-◌, Bool, false, ◌&&◌, ◌==◌, cond, eqb, Bor, List, [], ◌∷◌, ◌++◌, map, Option, Some, None, refl, sym, ap, subst, ◌∙◌, arith}
+use Rattle.std.proofs.Common.{◌≡◌, ◌↔◌, ℕ, zero, suc, ◌+◌, ◌-◌, Bool, false, ◌&&◌, ◌==◌, cond, eqb, Bor, List, [], ◌∷◌, ◌++◌, map, Option, Some, None, refl, sym, ap, subst, ◌∙◌, arith, ne_eqb as apart}
 use Rattle.std.specs.Prelude.{IfSome, IsNone, slice_get}
 use Rattle.std.specs.List.{enumerate_from, find, flat_map, position_from}
 use Rattle.std.specs.Option.{option_copied, option_map, option_or}
 use Rattle.std.proofs.lemmas.Iterator.Adapters.{position_from-zero}
 use Rattle.std.proofs.lemmas.List.Folds.{find-append}
+use Rattle.base_lemmas.proofs.Numbers.{eqb-self as eqb_same}
+use Rattle.base_lemmas.proofs.Bools.{by_answer as pick}
+use Rattle.std.proofs.lemmas.Option.{same_Some as some_is}
 use Rattle.model.specs.Cases.{in_case}
 use Rattle.model.specs.Fields.{same_name}
 use Rattle.model.specs.Objects.{object_numbered}
@@ -13,11 +16,10 @@ use Rattle.model.specs.Tenant.{Field, Object, Tenant}
 use Rattle.store_abstraction.specs.declared.layout.Layout.{Layout}
 use Rattle.store_abstraction.specs.Layouts.{IsLayout, layout_of, own_layout, own_layouts, place_of}
 use Rattle.store_abstraction.specs.Plan.{OrgPlan}
-use Rattle.store_abstraction.proofs.Lookups.{eqb_same, pick, some_is}
 use Rattle.query_plan.specs.declared.paths.children.ChildStep.{ChildStep}
 use Rattle.query_plan.specs.paths.Ways.{child_step, parent_step}
 use Rattle.query_plan.specs.paths.ByLayout.{child_by, child_of, is_child, parent_from}
-use Rattle.query_plan.proofs.Owned.{apart, from, numbered_as, parent_is}
+use Rattle.query_plan.proofs.Owned.{from, numbered_as, parent_is}
 
 -- ---- layouts
 

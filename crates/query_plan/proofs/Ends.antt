@@ -1,6 +1,8 @@
 -- Where paths end: the field, and the record whose value it is.
 use Rattle.std.proofs.Common.{◌≡◌, ℕ, cond, List, [], ◌∷◌, ◌++◌, Option, Some, None, refl, sym, ap, subst, ◌∙◌}
 use Rattle.std.specs.Option.{option_and_then, option_map}
+use Rattle.base_lemmas.proofs.Bools.{by_answer as pick}
+use Rattle.std.proofs.lemmas.Option.{same_Some as some_is}
 use Rattle.model.specs.declared.record.Record.{Record}
 use Rattle.model.specs.Asking.{path_column}
 use Rattle.model.specs.Cases.{in_case}
@@ -14,7 +16,6 @@ use Rattle.model.specs.Sound.{IsSound}
 use Rattle.model.specs.Tenant.{Object, Tenant}
 use Rattle.base_value.specs.declared.value.Value.{Value}
 use Rattle.base_value.specs.declared.value.Value.TheVariants as value
-use Rattle.store_abstraction.proofs.Lookups.{pick, some_is}
 use Rattle.query_plan.specs.declared.paths.parents.ParentStep.{ParentStep}
 use Rattle.query_plan.specs.paths.Ways.{led_to, parent_step, path_end}
 use Rattle.query_plan.proofs.Owned.{parent_has}

@@ -1,17 +1,18 @@
 -- The references of one object among those of all.
-use Rattle.std.proofs.Common.{◌≡◌, ℕ, zero, suc, ◌+◌, ◌<◌, Bool, false, ◌&&◌, cond, eqb, List, [], ◌∷◌, ◌++◌, map, Option, Some, None, refl, sym, ap, ◌∙◌, inl, inr, arith}
+use Rattle.std.proofs.Common.{◌≡◌, ℕ, zero, suc, ◌+◌, ◌<◌, Bool, false, ◌&&◌, cond, eqb, List, [], ◌∷◌, ◌++◌, map, Option, Some, None, refl, sym, ap, ◌∙◌, inl, inr, arith, ne_eqb as apart}
 use Rattle.std.specs.Prelude.{◌==◌, slice_get}
 use Rattle.std.specs.List.{enumerate_from, find, flat_map}
 use Rattle.std.specs.Option.{option_or}
-use Rattle.std.proofs.lemmas.Bool.{eqb-true}
 use Rattle.std.proofs.lemmas.List.Folds.{find-append}
+use Rattle.base_lemmas.proofs.Numbers.{eqb-self as eqb_same}
+use Rattle.base_lemmas.proofs.Bools.{by_answer as pick}
+use Rattle.std.proofs.lemmas.Option.{same_Some as some_is}
 use Rattle.model.specs.Cases.{in_case}
 use Rattle.model.specs.Fields.{same_name}
 use Rattle.model.specs.Membership.{Has}
 use Rattle.model.specs.Objects.{Numbered, object_numbered}
 use Rattle.model.specs.Relationships.{Reference, parent_name, parent_named, reference_at, references, references_of, target_of}
 use Rattle.model.specs.Tenant.{Field, Object, Tenant}
-use Rattle.store_abstraction.proofs.Lookups.{eqb_same, pick, some_is}
 
 pub or_none : {X : Type 0} (o : Option X) → option_or o None ≡ o
 or_none None = refl
@@ -24,9 +25,6 @@ found_has p (y ∷ xs) x e =
     (λ _ some. inl (sym (some_is y x some)))
     (λ _ more. inr (found_has p xs x more))
     e
-
-pub apart : (m n : ℕ) → (m ≡ n → ⊥) → eqb m n ≡ false
-apart m n differ = pick (eqb m n) (λ b. eqb m n ≡ b → b ≡ false) (λ _ e. absurd (differ (eqb-true m n e))) (λ _ _. refl) refl
 
 -- objects with their numbers, where the first has this one
 abbrev pub from : ℕ → List Object → List Numbered

@@ -4,6 +4,7 @@ use Rattle.std.specs.Cmp.Lexicographic.{slice_cmp}
 use Rattle.std.specs.Ordering.{bool_cmp, ordering_then}
 use Rattle.std.specs.declared.cmp.Ordering.{Ordering}
 use Rattle.std.specs.declared.cmp.Ordering.TheVariants.{Less, Equal, Greater}
+use Rattle.base_lemmas.proofs.Orders.{ordering_then-assoc as then_then, ordering_then-equal as then_end}
 use Rattle.base_value.proofs.ValueOrder.{values_total}
 use Rattle.base_value.specs.Values.{cmp}
 use Rattle.base_value.specs.declared.value.Value.{Value}
@@ -16,16 +17,6 @@ use Rattle.query_plan.specs.Plans.{Far, by_keys, values_by}
 use Rattle.query_plan.specs.declared.plan.SortKey.{SortKey}
 use Rattle.query_plan.specs.order.Ranks.{part_cmp, part_in, part_of, rank_by, rank_cmp}
 use Rattle.query_plan.specs.declared.order.ranks.Part.TheVariants.{First, Up, Down, Last}
-
-then_end : (o : Ordering) → ordering_then o Equal ≡ o
-then_end Less = refl
-then_end Equal = refl
-then_end Greater = refl
-
-then_then : (a b c : Ordering) → ordering_then (ordering_then a b) c ≡ ordering_then a (ordering_then b c)
-then_then Less b c = refl
-then_then Equal b c = refl
-then_then Greater b c = refl
 
 -- ---- one key
 

@@ -1,10 +1,14 @@
 -- What a sound tenant's references name.
-use Rattle.std.proofs.Common.{◌≡◌, ℕ, zero, suc, ◌+◌, ◌<◌, Bool, true, false, bytes_eq, not, ◌&&◌, cond, eqb, List, [], ◌∷◌, ◌++◌, length, Option, Some, None, is_some, refl, sym, ap, subst, ◌∙◌, inl, inr, arith}
-use Rattle.std.specs.Prelude.{◌==◌, nat_lt, slice_get}
+use Rattle.std.proofs.Common.{◌≡◌, ℕ, ◌+◌, Bool, true, bytes_eq, not, ◌&&◌, cond, eqb, List, [], ◌∷◌, ◌++◌, length, Option, Some, None, is_some, refl, sym, ap, subst, ◌∙◌, inl, inr, arith}
+use Rattle.std.specs.Prelude.{◌==◌, nat_lt}
 use Rattle.std.specs.List.{AllByRecursion, enumerate_from, flat_map, list_all}
 use Rattle.std.specs.Option.{option_and_then}
 use Rattle.std.proofs.lemmas.Bool.{eqb-true}
 use Rattle.std.proofs.lemmas.Bool.Decides.{nat_tests}
+use Rattle.base_lemmas.proofs.Bools.{and_first as first, and_second as second, by_answer as pick}
+use Rattle.base_lemmas.proofs.Lists.{slice_get_not_none as there_below}
+use Rattle.base_lemmas.proofs.Numbers.{eqb-self as eqb_same}
+use Rattle.std.proofs.lemmas.Option.{same_Some as some_is}
 use Rattle.formula.specs.Meaning.{value_at}
 use Rattle.model.specs.declared.record.Record.{Record}
 use Rattle.model.specs.Cases.{in_case}
@@ -20,7 +24,6 @@ use Rattle.model.specs.SoundRecords.{IsSoundRecord, is_sound_reference}
 use Rattle.model.specs.Tenant.{Field, Object, Tenant}
 use Rattle.model.specs.World.{having_id}
 use Rattle.store_abstraction.proofs.Found.{found_with_id}
-use Rattle.store_abstraction.proofs.Lookups.{eqb_same, pick, some_is}
 use Rattle.store_abstraction.proofs.MetadataRows.{sound_object}
 use Rattle.query_plan.specs.paths.Ways.{parent_step, record_to}
 use Rattle.query_plan.proofs.Owned.{numbered_as}
@@ -32,23 +35,10 @@ all_has P [] x all m = absurd m
 all_has P (y ∷ xs) x all (inl e) = subst P (sym e) all.0
 all_has P (y ∷ xs) x all (inr m) = all_has P xs x all.1 m
 
-first : (a b : Bool) → (a && b) ≡ true → a ≡ true
-first true b h = refl
-first false b h = absurd cc
-
-second : (a b : Bool) → (a && b) ≡ true → b ≡ true
-second true b h = h
-second false b h = absurd cc
-
 each_passes : {X : Type 0} (p : X → Bool) (xs : List X) (x : X) → list_all p xs ≡ true → Has xs x → p x ≡ true
 each_passes p [] x all m = absurd m
 each_passes p (y ∷ xs) x all (inl e) = subst (λ z. p z ≡ true) (sym e) (first (p y) (list_all p xs) all)
 each_passes p (y ∷ xs) x all (inr m) = each_passes p xs x (second (p y) (list_all p xs) all) m
-
-there_below : {X : Type 0} (xs : List X) (i : ℕ) → i < length xs → slice_get xs i ≡ None → ⊥
-there_below [] i h e = omega (arith, h)
-there_below (x ∷ xs) zero h e = absurd cc
-there_below (x ∷ xs) (suc i) h e = there_below xs i (omega (arith, h)) e
 
 pub having_has : {X : Type 0} (id : X → List ℕ) (xs : List X) (i : List ℕ) (x : X) → having_id id xs i ≡ Some x → Has xs x
 having_has id [] i x e = absurd cc

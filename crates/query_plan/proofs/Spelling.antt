@@ -1,6 +1,7 @@
 -- The way that names spell, one name after the other.
 use Rattle.std.proofs.Common.{◌≡◌, ℕ, suc, ◌+◌, ◌<◌, List, [], ◌∷◌, ◌++◌, drop, length, get_or, Option, Some, None, refl, sym, ap, subst, ◌∙◌, append_assoc, add-one, drop-cons}
 use Rattle.std.specs.Option.{option_map}
+use Rattle.std.proofs.lemmas.Option.{same_Some as some_is}
 use Rattle.model.specs.Cases.{in_case}
 use Rattle.model.specs.Objects.{object_numbered}
 use Rattle.model.specs.Relationships.{Reference, parent_named}
@@ -9,7 +10,6 @@ use Rattle.model.specs.Tenant.{Tenant}
 use Rattle.store_abstraction.specs.declared.layout.Layout.{Layout}
 use Rattle.store_abstraction.specs.Layouts.{IsLayout, own_layout}
 use Rattle.store_abstraction.specs.Plan.{OrgPlan}
-use Rattle.store_abstraction.proofs.Lookups.{some_is}
 use Rattle.query_plan.specs.declared.paths.parents.ParentStep.{ParentStep}
 use Rattle.query_plan.specs.paths.Ways.{parent_step, path_end}
 use Rattle.query_plan.proofs.ByLayout.{layout_is, none_is, read_is}

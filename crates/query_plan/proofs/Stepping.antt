@@ -4,6 +4,8 @@ use Rattle.std.specs.Prelude.{slice_get}
 use Rattle.std.specs.Option.{option_and_then}
 use Rattle.std.proofs.lemmas.Bool.{eqb-true}
 use Rattle.std.proofs.lemmas.Option.{slice_get_within}
+use Rattle.base_lemmas.proofs.Numbers.{eqb-self as eqb_same}
+use Rattle.base_lemmas.proofs.Bools.{by_answer as pick}
 use Rattle.model.specs.declared.record.Record.{Record}
 use Rattle.model.specs.Levels.{can_read}
 use Rattle.model.specs.Membership.{Has}
@@ -14,7 +16,6 @@ use Rattle.model.specs.Sound.{IsSound}
 use Rattle.model.specs.Tenant.{Tenant}
 use Rattle.store_abstraction.specs.Layouts.{IsLayout, own_layout}
 use Rattle.store_abstraction.specs.Plan.{OrgPlan}
-use Rattle.store_abstraction.proofs.Lookups.{eqb_same, pick}
 use Rattle.query_plan.specs.declared.paths.branches.Branch.{Branch}
 use Rattle.query_plan.specs.declared.paths.branches.Place.{Place}
 use Rattle.query_plan.specs.declared.paths.parents.ParentStep.{ParentStep}

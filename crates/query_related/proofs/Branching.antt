@@ -1,10 +1,11 @@
 -- Of branches, one after another, the records.
-use Rattle.std.proofs.Common.{◌≡◌, ℕ, zero, suc, ◌+◌, ◌<◌, ◌≤◌, true, false, List, [], ◌∷◌, ◌++◌, length, drop, get_or, Option, Some, None, refl, sym, ap, subst, ◌∙◌, arith, add-one, drop-cons}
+use Rattle.std.proofs.Common.{◌≡◌, ℕ, suc, ◌+◌, ◌<◌, ◌≤◌, true, false, List, [], ◌∷◌, ◌++◌, length, drop, get_or, Option, Some, None, refl, sym, ap, subst, ◌∙◌, arith, add-one, drop-cons}
 use Rattle.std.specs.Prelude.{Result, Ok, Err}
 use Rattle.std.specs.Option.{option_and_then}
-use Rattle.std.proofs.lemmas.List.{length-map}
+use Rattle.std.proofs.lemmas.List.{length-map, drop_all as none_left}
+use Rattle.base_lemmas.proofs.Bools.{and_second as and_right}
 use Rattle.query_plan.specs.Given.{GivesJust}
-use Rattle.record_read.proofs.Lists.{and_right, of_each}
+use Rattle.record_read.proofs.Lists.{of_each}
 use Rattle.record_read.proofs.Standing.{found_of}
 use Rattle.formula.specs.Meaning.{value_at}
 use Rattle.store_kv.specs.Tables.{Tables}
@@ -117,12 +118,6 @@ module _ (layouts : List Layout) (whose : Whose) (item : Option Record) (m : Tab
       by codec.Memory is = tt
 
 -- ---- one after another
-
-none_left : {X : Type 0} (i : ℕ) (xs : List X) → length xs ≤ i → drop i xs ≡ []
-none_left zero [] h = refl
-none_left zero (x ∷ xs) h = absurd (omega (arith, h))
-none_left (suc i) [] h = refl
-none_left (suc i) (x ∷ xs) h = none_left i xs (omega (arith, h))
 
 module _ (a : Asked) (r : Record) (branches : List Branch) where
   pub all_done : (i : ℕ) → length branches ≤ i → (records : List (Option Record)) → branch_records a r records (drop i branches) ≡ branch_records a r [] branches

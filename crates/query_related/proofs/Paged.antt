@@ -4,7 +4,7 @@ use Rattle.std.specs.Prelude.{slice_get, Result, Ok, Err}
 use Rattle.std.specs.List.{cons_option, filter}
 use Rattle.std.specs.Option.{option_and_then}
 use Rattle.std.proofs.lemmas.List.{take-map, take-take}
-use Rattle.record_read.proofs.Lists.{pick}
+use Rattle.base_lemmas.proofs.Bools.{by_answer as pick}
 use Rattle.record_read.proofs.Rising.{found_itself, has_filter, has_take}
 use Rattle.store_kv.specs.Draft.{DraftReads, DraftTells, Held}
 use Rattle.store_kv.specs.State.{KeeperState}

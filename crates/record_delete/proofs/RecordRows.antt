@@ -4,7 +4,8 @@ use Rattle.std.specs.Prelude.{◌==◌}
 use Rattle.std.specs.List.{list_all}
 use Rattle.std.specs.Option.{option_and_then}
 use Rattle.std.proofs.lemmas.Bool.{eqb-true}
-use Rattle.record_read.proofs.Lists.{pick, some_is}
+use Rattle.base_lemmas.proofs.Bools.{by_answer as pick}
+use Rattle.std.proofs.lemmas.Option.{same_Some as some_is}
 use Rattle.record_read.proofs.Standing.{Found, IsOf, found_of, layout_is}
 use Rattle.store_rows.specs.declared.data.DataRow.{DataRow}
 use Rattle.model.specs.declared.record.Record.{Record}

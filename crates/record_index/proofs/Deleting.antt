@@ -1,6 +1,8 @@
 -- A delete takes no unique value from another record, since it only clears values.
 use Rattle.std.proofs.Common.{◌≡◌, ◌⊎◌, inl, inr, ℕ, zero, suc, ◌+◌, Bool, true, false, not, ◌&&◌, cond, eqb, List, [], ◌∷◌, map, filter, Option, Some, None, refl, sym, ap, subst, ◌∙◌, bytes_eq, ℤ}
 use Rattle.std.specs.List.{enumerate_from, list_any}
+use Rattle.std.proofs.lemmas.Bool.{true≢false as clash}
+use Rattle.base_lemmas.proofs.Bools.{by_answer as pick}
 use Rattle.formula.specs.Meaning.{value_at}
 use Rattle.model.specs.declared.record.Record.{Record}
 use Rattle.model.specs.Cases.{in_case}
@@ -16,7 +18,6 @@ use Rattle.store_abstraction.specs.Plan.{FitsPlan, OrgPlan}
 use Rattle.store_abstraction.specs.Stands.{kept_at}
 use Rattle.record_index.proofs.Keeping.{FitValues, SameKeys, kept, other_not_unique}
 use Rattle.record_index.proofs.Records.{entry_of_kept, kept_has, kept_is, no_kept}
-use Rattle.record_index.proofs.DiffTurned.{clash, pick}
 use Rattle.record_index.specs.diff.Touched.{HasSoundRows, NoneTakes, touched_by}
 use Rattle.base_value.specs.OrderKeys.{order_key}
 use Rattle.base_value.specs.declared.value.Value.{Value}

@@ -1,9 +1,12 @@
 -- The changes of one record's rows: each is to what the record has then, and at its other keys nothing differs.
-use Rattle.std.proofs.Common.{◌≡◌, ◌↔◌, ◌⊎◌, inl, inr, ℕ, zero, suc, ◌+◌, ◌<◌, ◌≤◌, Bool, true, false, not, ◌&&◌, ◌||◌, cond, IsTrue, List, [], ◌∷◌, ◌++◌, Option, Some, None, refl, sym, ap, subst, ◌∙◌, arith, bytes_eq, nat_lt}
+use Rattle.std.proofs.Common.{◌≡◌, ◌↔◌, ◌⊎◌, inl, inr, ℕ, zero, suc, ◌+◌, ◌<◌, ◌≤◌, Bool, true, false, not, ◌&&◌, cond, IsTrue, List, [], ◌∷◌, ◌++◌, Option, Some, None, refl, sym, ap, subst, ◌∙◌, arith, bytes_eq, nat_lt}
 use Rattle.std.specs.List.{AllByRecursion, flat_map, range_with_len}
 use Rattle.std.proofs.lemmas.List.Folds.{list_any-append}
-use Rattle.std.proofs.lemmas.Slice.Eq.{bytes_eq-Decides}
 use Rattle.std.proofs.lemmas.Bool.Decides.{nat_tests}
+use Rattle.std.proofs.lemmas.Bool.{true≢false as clash}
+use Rattle.base_lemmas.proofs.Bools.{by_answer as pick, or_first_false as or_left_false, or_second_false as or_right_false}
+use Rattle.base_lemmas.proofs.Texts.{bytes_eq-self as same_itself, same_from_bytes_eq as same_exact}
+use Rattle.base_lemmas.proofs.Lists.{each-append as all_append}
 use Rattle.store_rows.specs.Keys.{Key, key_eq}
 use Rattle.model.specs.Cases.{in_case}
 use Rattle.model.specs.Fields.{is_null, ref_of}
@@ -12,30 +15,6 @@ use Rattle.base_value.specs.OrderKeys.{order_key}
 use Rattle.store_abstraction.specs.Changes.{Change, is_changed}
 use Rattle.store_abstraction.specs.Entries.{Entry, is_indexed, is_reference_to, is_unique}
 use Rattle.record_index.specs.Changed.{index_key, is_at, reference_key, row_turned, unique_key}
-
-pub pick : (b : Bool) (P : Bool → Type 0) → (b ≡ true → P true) → (b ≡ false → P false) → P b
-pick true P f g = f refl
-pick false P f g = g refl
-
-pub same_exact : (a b : List ℕ) → bytes_eq a b ≡ true → a ≡ b
-same_exact a b e = (bytes_eq-Decides a b).0 e
-
-pub same_itself : (a : List ℕ) → bytes_eq a a ≡ true
-same_itself a = (bytes_eq-Decides a a).1 refl
-
-pub some_is : {A : Type 0} (x y : A) → ◌≡◌ {A = Option A} (Some x) (Some y) → x ≡ y
-some_is x y e = cc
-
-pub clash : true ≡ false → ⊥
-clash e = cc
-
-pub or_left_false : (a b : Bool) → (a || b) ≡ false → a ≡ false
-or_left_false true b e = absurd cc
-or_left_false false b e = refl
-
-pub or_right_false : (a b : Bool) → (a || b) ≡ false → b ≡ false
-or_right_false true b e = absurd cc
-or_right_false false b e = e
 
 -- keys are told apart
 abbrev pub EqualKeys : Type 0
@@ -66,11 +45,6 @@ in_range (suc n) from s lo hi =
     pick (nat_lt from s) (λ b. Has (range_with_len from (suc n)) s)
     (λ e. inr (in_range n (from + 1) s (less from s e) (omega (arith, hi))))
     (λ e. inl (not_less from s e lo))
-
--- all of a list made of lists
-pub all_append : {A : Type 0} (P : A → Type 0) (xs ys : List A) → AllByRecursion P xs → AllByRecursion P ys → AllByRecursion P (xs ++ ys)
-all_append P [] ys a b = b
-all_append P (x ∷ xs) ys a b = (a.0, all_append P xs ys a.1 b)
 
 pub all_flat : {A : Type 0} (P : A → Type 0) (f : ℕ → List A) (ss : List ℕ) → ((s : ℕ) → AllByRecursion P (f s)) → AllByRecursion P (flat_map f ss)
 all_flat P f [] h = tt

@@ -3,6 +3,9 @@ use Rattle.std.proofs.Common.{◌≡◌, ℕ, Bool, true, false, not, ◌||◌, 
 use Rattle.std.specs.Prelude.{if◌then◌else◌}
 use Rattle.std.specs.Cmp.Lexicographic.{slice_cmp}
 use Rattle.std.proofs.lemmas.List.Folds.{list_any-append}
+use Rattle.std.proofs.lemmas.Bool.{true≢false as clash}
+use Rattle.base_lemmas.proofs.Bools.{or_first_false as or_left_false, or_second_false as or_right_false, by_answer as pick}
+use Rattle.base_lemmas.proofs.Texts.{same_from_bytes_eq as same_exact, bytes_eq-self as same_itself}
 use Rattle.model.specs.declared.record.Record.{Record}
 use Rattle.model.specs.Creates.{with_record}
 use Rattle.model.specs.Deletes.{cleared, has_id, loses_lookup, without}
@@ -11,7 +14,7 @@ use Rattle.model.specs.Tenant.{Tenant}
 use Rattle.model.specs.Updates.{with_changed}
 use Rattle.model.specs.World.{having_id}
 use Rattle.store_abstraction.specs.Plan.{OrgPlan}
-use Rattle.record_index.proofs.DiffTurned.{bytes_turned, clash, or_left_false, or_right_false, pick, same_exact, same_itself}
+use Rattle.record_index.proofs.DiffTurned.{bytes_turned}
 use Rattle.record_index.specs.diff.Touched.{IsTouched, fresh_plan, has, record_ids, touched_by}
 
 -- ---- a create

@@ -1,13 +1,17 @@
 -- A sound tenant is kept as laws of edits suppose, by each plan that fits it.
-use Rattle.std.proofs.Common.{◌≡◌, ◌↔◌, inl, inr, ℕ, zero, suc, ◌+◌, ◌≤◌, Bool, true, false, not, ◌&&◌, cond, eqb, IsTrue, T, List, [], ◌∷◌, map, length, Option, Some, None, is_some, refl, sym, ap, subst, ◌∙◌, arith, bytes_eq}
+use Rattle.std.proofs.Common.{◌≡◌, ◌↔◌, inl, inr, ℕ, zero, suc, ◌≤◌, true, false, not, ◌&&◌, cond, eqb, IsTrue, T, List, [], ◌∷◌, map, length, Option, Some, None, is_some, refl, sym, ap, subst, ◌∙◌, arith, bytes_eq}
 use Rattle.std.specs.Prelude.{if◌then◌else◌, slice_get}
 use Rattle.std.specs.FinMap.{is_sorted}
 use Rattle.std.specs.FinMap.Entries.{below_all}
-use Rattle.std.specs.List.{AllByRecursion, enumerate_from, find, list_all}
+use Rattle.std.specs.List.{AllByRecursion, enumerate_from, list_all}
 use Rattle.std.specs.Option.{option_and_then, option_map}
 use Rattle.std.specs.Ordering.{is_lt}
-use Rattle.std.proofs.lemmas.Bool.{eqb-true}
+use Rattle.std.proofs.lemmas.Bool.{eqb-true, not-true as is_false, true≢false as clash}
 use Rattle.std.proofs.lemmas.Cmp.{nat_list_cmp_total, tied_itself}
+use Rattle.base_lemmas.proofs.Bools.{and_first as and_left, and_second as and_right, T-and_first as t_first, T-and_second as t_second, true_from_T as t_true, by_answer as pick}
+use Rattle.base_lemmas.proofs.Lists.{each_at_number as of_numbered, find-enumerate_from as found_at}
+use Rattle.base_lemmas.proofs.Texts.{same_from_bytes_eq as same_exact, bytes_eq-self as same_itself}
+use Rattle.std.proofs.lemmas.Option.{same_Some as some_is}
 use Rattle.store_kv.specs.Tables.{bytes_cmp}
 use Rattle.formula.specs.Meaning.{value_at}
 use Rattle.model.specs.declared.record.Record.{Record}
@@ -28,7 +32,6 @@ use Rattle.store_abstraction.specs.Entries.{Entry, field_entry, is_unique, job_e
 use Rattle.store_abstraction.specs.Plan.{FitsPlan, OrgPlan, has_field, slot_count, type_there}
 use Rattle.store_abstraction.specs.Stands.{kept_at, kept_in}
 use Rattle.record_index.proofs.Records.{has_kept, is_found}
-use Rattle.record_index.proofs.DiffTurned.{clash, pick, same_exact, same_itself, some_is}
 use Rattle.record_index.specs.diff.Touched.{AllLow, HasSoundRows}
 use Rattle.base_value.specs.OrderKeys.{Fits, order_key}
 use Rattle.base_value.specs.Types.{is_type}
@@ -37,31 +40,7 @@ use Rattle.base_value.specs.declared.value.FieldType.{FieldType}
 use Rattle.base_value.specs.declared.value.FieldType.TheVariants as type
 use Rattle.base_value.specs.declared.value.Value.{Value}
 
-and_left : (a b : Bool) → (a && b) ≡ true → a ≡ true
-and_left true b e = refl
-and_left false b e = absurd cc
-
-and_right : (a b : Bool) → (a && b) ≡ true → b ≡ true
-and_right true b e = e
-and_right false b e = absurd cc
-
-is_false : (a : Bool) → not a ≡ true → a ≡ false
-is_false true e = absurd cc
-is_false false e = refl
-
 -- ---- ids rise
-
-t_first : (a b : Bool) → T (a && b) → T a
-t_first true b h = tt
-t_first false b h = absurd h
-
-t_second : (a b : Bool) → T (a && b) → T b
-t_second true b h = h
-t_second false b h = absurd h
-
-t_true : (a : Bool) → T a → a ≡ true
-t_true true h = refl
-t_true false h = absurd h
 
 abbrev with_ids : List Record → List (List ℕ × Record)
 with_ids rs = map (λ (r : Record). (record_id r, r)) rs
@@ -91,15 +70,6 @@ found_itself (x ∷ rs) r h (inr has) =
 
 -- ---- fields and their values
 
--- what is found among numbered things is one of them
-found_at : {X : Type 0} (test : ℕ × X → Bool) (k : ℕ) (xs : List X) (f : ℕ × X) → find test (enumerate_from k xs) ≡ Some f → (i : ℕ) × (k + i ≡ f.0) × (slice_get xs i ≡ Some f.1)
-found_at test k [] f e = absurd cc
-found_at {X = X} test k (x ∷ xs) f e =
-    pick (test (k, x)) (λ b. cond b (Some (k, x)) (find test (enumerate_from (k + 1) xs)) ≡ Some f → (i : ℕ) × (k + i ≡ f.0) × (slice_get (x ∷ xs) i ≡ Some f.1))
-    (λ _ here. let same : ◌≡◌ {A = ℕ × X} (k, x) f = some_is (k, x) f here in (0, omega (arith, ap (λ (g : ℕ × X). g.0) same), ap (λ (g : ℕ × X). Some g.1) same))
-    (λ _ there. let (i, number, at) = found_at test (k + 1) xs f there in (suc i, omega (arith, number), at))
-    e
-
 typed_at : {X : Type 0} (kind : X → FieldType) (xs : List X) (i : ℕ) (x : X) → list_all (λ x. is_type (kind x)) xs ≡ true → slice_get xs i ≡ Some x → is_type (kind x) ≡ true
 typed_at kind [] i x h e = absurd cc
 typed_at {X = X} kind (y ∷ ys) zero x h e =
@@ -123,14 +93,6 @@ of_each : {X : Type 0} (P : X → Type 0) (xs : List X) (x : X) → AllByRecursi
 of_each P [] x all h = absurd h
 of_each P (y ∷ xs) x all (inl e) = subst P (sym e) all.0
 of_each P (y ∷ xs) x all (inr h) = of_each P xs x all.1 h
-
-of_numbered : {X Y : Type 0} (P : Y → Type 0) (h : ℕ × X → Y) (xs : List X) (k i n : ℕ) (x : X) → k + i ≡ n → slice_get xs i ≡ Some x → AllByRecursion P (map h (enumerate_from k xs)) → P (h (n, x))
-of_numbered P h [] k i n x e at all = absurd cc
-of_numbered {X = X} P h (y ∷ xs) k zero n x e at all =
-    let same : k ≡ n = omega (arith, e) in
-    let is : y ≡ x = some_is y x at in
-    subst (λ (z : ℕ × X). P (h z)) (ap (λ (m : ℕ). (m, y)) same ∙ ap (λ (z : X). (n, z)) is) all.0
-of_numbered P h (y ∷ xs) k (suc i) n x e at all = of_numbered P h xs (k + 1) i n x (omega (arith, e)) at all.1
 
 -- a tenant's record, as a sound one
 sound_record : (t : Tenant) (r : Record) → IsSound t → Has t.records r → IsSoundRecord (known t) t.objects r

@@ -11,7 +11,6 @@ pub mod Single
 pub mod Keeping
 pub mod Deleting
 pub mod Unmoved
-pub mod Cases
 pub mod Cleared
 pub mod Converting
 pub mod CopiedEntries

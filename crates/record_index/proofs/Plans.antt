@@ -1,11 +1,11 @@
 -- A plan fits as long as objects and the change of a type stay.
 use Rattle.std.proofs.Common.{◌≡◌, ℕ, cond, IsTrue, List, Some, None, sym, subst, bytes_eq}
+use Rattle.base_lemmas.proofs.Bools.{by_answer as pick}
 use Rattle.model.specs.declared.record.Record.{Record}
 use Rattle.model.specs.Creates.{with_record}
 use Rattle.model.specs.Tenant.{Tenant}
 use Rattle.store_abstraction.specs.Plan.{FitsPlan, OrgPlan}
 use Rattle.record_index.proofs.Same.{type_same}
-use Rattle.record_index.proofs.DiffTurned.{pick}
 use Rattle.record_index.specs.diff.Touched.{IsTouched, fresh_plan}
 use Rattle.base_value.specs.declared.value.FieldType.{FieldType}
 use Rattle.base_value.specs.declared.value.Value.{Value}

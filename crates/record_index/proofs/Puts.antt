@@ -3,6 +3,9 @@ use Rattle.std.proofs.Common.{◌≡◌, ◌⊎◌, inl, inr, ℕ, Bool, true, f
 use Rattle.std.specs.Prelude.{slice_get}
 use Rattle.std.specs.List.{AllByRecursion, find, flat_map, range_with_len}
 use Rattle.std.specs.Option.{option_and_then, option_map}
+use Rattle.base_lemmas.proofs.Lists.{each-append as all_append}
+use Rattle.std.proofs.lemmas.Bool.{true≢false as clash}
+use Rattle.base_lemmas.proofs.Texts.{bytes_eq-self as same_itself}
 use Rattle.store_rows.specs.Forms.{row_bytes}
 use Rattle.store_rows.specs.Keys.{FitsKey, Data, Index, Unique, Relation}
 use Rattle.store_rows.specs.Rows.{unique_form}
@@ -17,7 +20,7 @@ use Rattle.store_abstraction.specs.Plan.{OrgPlan, slot_count}
 use Rattle.store_abstraction.specs.Stands.{kept_at, org_of_key, row_in, unique_of}
 use Rattle.record_index.proofs.Records.{entry_of_kept, has_kept, is_found, kept_has, kept_is, no_kept, none_found}
 use Rattle.record_index.proofs.Touching.{where_is}
-use Rattle.record_index.proofs.DiffTurned.{all_append, all_flat, clash, indexed_at, reference_at, same_itself, turned_are, unique_is_at}
+use Rattle.record_index.proofs.DiffTurned.{all_flat, indexed_at, reference_at, turned_are, unique_is_at}
 use Rattle.record_index.specs.diff.Touched.{HasSoundRows, IsAlike, NoneTakes, changes_at, has, touched_changes}
 
 module _ (org : ℕ) (p q : OrgPlan) (t u : Tenant) (ids : List (List ℕ)) (is : IsAlike p q t u ids) (kept_t : HasSoundRows p t) (kept_u : HasSoundRows q u) (none_takes : NoneTakes p q t u ids) where

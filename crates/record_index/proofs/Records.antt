@@ -3,6 +3,10 @@ use Rattle.std.proofs.Common.{◌≡◌, inl, inr, ℕ, Bool, true, false, cond,
 use Rattle.std.specs.Prelude.{if◌then◌else◌}
 use Rattle.std.specs.List.{find}
 use Rattle.std.specs.Option.{option_and_then, option_map}
+use Rattle.std.proofs.lemmas.Bool.{true≢false as clash}
+use Rattle.base_lemmas.proofs.Bools.{by_answer as pick}
+use Rattle.base_lemmas.proofs.Texts.{same_from_bytes_eq as same_exact}
+use Rattle.std.proofs.lemmas.Option.{same_Some as some_is}
 use Rattle.model.specs.declared.record.Record.{Record}
 use Rattle.model.specs.Membership.{Has}
 use Rattle.model.specs.Objects.{is_of, object_numbered, record_at}
@@ -13,7 +17,6 @@ use Rattle.record_index.specs.Changed.{kept_entry}
 use Rattle.store_abstraction.specs.Entries.{is_unique, slot_entry}
 use Rattle.store_abstraction.specs.Plan.{OrgPlan}
 use Rattle.store_abstraction.specs.Stands.{Kept, kept_at, kept_in}
-use Rattle.record_index.proofs.DiffTurned.{clash, pick, same_exact, some_is}
 
 -- ---- what is found in a list
 

@@ -1,5 +1,6 @@
 -- The rows of an organisation that stay where an edit touches some records.
 use Rattle.std.proofs.Common.{◌≡◌, ℕ, Bool, true, false, List, ◌++◌, Option, Some, refl, sym, subst}
+use Rattle.std.proofs.lemmas.Option.{same_Some as some_is}
 use Rattle.store_rows.specs.Keys.{Key, Version, Org, Object, Field, Job, User, Role, Group, Validation, Sharing, Data, Index, Unique, Relation, Owner, Share, Grant}
 use Rattle.model.specs.Tenant.{Tenant}
 use Rattle.store_abstraction.specs.Changes.{Change, is_changed}
@@ -7,7 +8,7 @@ use Rattle.store_abstraction.specs.Plan.{OrgPlan}
 use Rattle.store_abstraction.specs.Stands.{org_of_key, row_in}
 use Rattle.record_index.proofs.Same.{alike, steady}
 use Rattle.record_index.proofs.Touching.{data_rest, index_rest, relation_rest}
-use Rattle.record_index.proofs.DiffTurned.{EqualKeys, left_unchanged, right_unchanged, some_is}
+use Rattle.record_index.proofs.DiffTurned.{EqualKeys, left_unchanged, right_unchanged}
 use Rattle.record_index.proofs.Uniques.{unique_rest}
 use Rattle.record_index.specs.diff.Touched.{AreCounts, HasSoundRows, IsAlike, IsTouched, is_valued, touched_changes}
 

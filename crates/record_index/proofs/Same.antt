@@ -1,8 +1,10 @@
 -- What edits leave as it was: what is in the slots of the records that aren't touched, and the rows of all but content.
-use Rattle.std.proofs.Common.{◌≡◌, ℕ, Bool, true, false, ◌&&◌, cond, eqb, List, [], ◌∷◌, map, Option, Some, None, refl, sym, ap, ap₂, subst}
+use Rattle.std.proofs.Common.{◌≡◌, ℕ, Bool, true, false, ◌&&◌, cond, eqb, List, Option, Some, None, refl, sym, ap, ap₂, subst}
 use Rattle.std.specs.Prelude.{if◌then◌else◌, slice_get}
 use Rattle.std.specs.List.{range_with_len}
 use Rattle.std.specs.Option.{option_and_then, option_map}
+use Rattle.base_lemmas.proofs.Lists.{map-same as map_same}
+use Rattle.base_lemmas.proofs.Bools.{by_answer as pick}
 use Rattle.store_rows.specs.Forms.{row_bytes}
 use Rattle.store_rows.specs.Keys.{Key, Version, Org, Object, Field, Job, User, Role, Group, Validation, Sharing, Data, Index, Unique, Relation, Owner, Share, Grant}
 use Rattle.store_rows.specs.Rows.{job_form}
@@ -18,7 +20,6 @@ use Rattle.store_abstraction.specs.Metadata.{job_of}
 use Rattle.store_abstraction.specs.Plan.{OrgPlan, slot_count, slot_type}
 use Rattle.store_abstraction.specs.Stands.{Kept, kept_at, kept_in, row_in, row_where}
 use Rattle.record_index.proofs.Records.{named}
-use Rattle.record_index.proofs.DiffTurned.{pick}
 use Rattle.record_index.specs.diff.Touched.{IsAlike, IsTouched, SameKept, has, with_content, with_left}
 use Rattle.base_value.specs.declared.job.Outcome.{Outcome}
 use Rattle.base_value.specs.declared.job.Outcome.TheVariants as outcome
@@ -67,10 +68,6 @@ entries_same None None s h = refl
 entries_same None (Some l) s h = absurd h
 entries_same (Some k) None s h = absurd h
 entries_same (Some k) (Some l) s h = h.1 s
-
-map_same : {A B : Type 0} (f g : A → B) → ((x : A) → f x ≡ g x) → (xs : List A) → map f xs ≡ map g xs
-map_same f g h [] = refl
-map_same f g h (x ∷ xs) = rw (h x, map_same f g h xs) refl
 
 slots_same : (e f : ℕ → Option Entry) → ((s : ℕ) → e s ≡ f s) → slots_of e ≡ slots_of f
 unfolding slots_of

@@ -1,5 +1,8 @@
 -- An edit of one record takes no unique value from another.
 use Rattle.std.proofs.Common.{◌≡◌, ℕ, Bool, true, false, ◌||◌, List, [], ◌∷◌, Option, Some, None, refl, sym, ap, subst, ◌∙◌, bytes_eq}
+use Rattle.std.proofs.lemmas.Bool.{true≢false as clash}
+use Rattle.base_lemmas.proofs.Bools.{by_answer as pick}
+use Rattle.base_lemmas.proofs.Texts.{same_from_bytes_eq as same_exact}
 use Rattle.model.specs.Objects.{object_numbered}
 use Rattle.model.specs.Tenant as model
 use Rattle.model.specs.Tenant.{Tenant}
@@ -9,7 +12,6 @@ use Rattle.store_abstraction.specs.Plan.{OrgPlan}
 use Rattle.store_abstraction.specs.Stands.{kept_at}
 use Rattle.record_index.proofs.Records.{entry_of_kept, no_kept}
 use Rattle.record_index.proofs.Same.{entries_same, other}
-use Rattle.record_index.proofs.DiffTurned.{clash, pick, same_exact}
 use Rattle.record_index.specs.diff.Touched.{HasSoundRows, IsTouched, NoneTakes, has}
 
 -- the one id

@@ -3,8 +3,10 @@ use Rattle.std.proofs.Common.{◌≡◌, ℕ, ◌<◌, ◌≤◌, Bool, true, fa
 use Rattle.std.specs.Prelude.{if◌then◌else◌}
 use Rattle.std.specs.List.{flat_map, range_with_len}
 use Rattle.std.specs.Option.{option_and_then, option_map}
-use Rattle.std.proofs.lemmas.Bool.{eqb-true}
+use Rattle.std.proofs.lemmas.Bool.{eqb-true, true≢false as clash}
 use Rattle.std.proofs.lemmas.Bool.Decides.{nat_tests}
+use Rattle.base_lemmas.proofs.Bools.{or_first_false as or_left_false, or_second_false as or_right_false, by_answer as pick}
+use Rattle.base_lemmas.proofs.Texts.{same_from_bytes_eq as same_exact}
 use Rattle.store_rows.specs.Keys.{Key, Data, Index, Unique, Relation, key_eq}
 use Rattle.model.specs.declared.record.Record.{Record}
 use Rattle.model.specs.Objects.{is_of, object_number, object_numbered}
@@ -16,7 +18,7 @@ use Rattle.store_abstraction.specs.Plan.{OrgPlan, slot_count}
 use Rattle.store_abstraction.specs.Stands.{Kept, kept_at, kept_in, row_in, row_where}
 use Rattle.record_index.specs.Changed.{data_row, index_key, kept_entry, record_changes, reference_key, slot_changes, row_turned, unique_key}
 use Rattle.record_index.proofs.Same.{data_same, where_same}
-use Rattle.record_index.proofs.DiffTurned.{EqualKeys, clash, flat_unchanged, in_range, indexed_at, left_unchanged, or_left_false, or_right_false, pick, reference_at, right_unchanged, same_exact, turned_rest}
+use Rattle.record_index.proofs.DiffTurned.{EqualKeys, flat_unchanged, in_range, indexed_at, left_unchanged, reference_at, right_unchanged, turned_rest}
 use Rattle.record_index.specs.diff.Touched.{AllLow, IsAlike, changes_at, has, touched_changes}
 
 -- what isn't changed isn't where one of the ids is touched

@@ -3,7 +3,8 @@ use Rattle.std.proofs.Common.{◌≡◌, ℕ, Bool, true, false, List, [], Optio
 use Rattle.std.specs.Prelude.{slice_get}
 use Rattle.std.specs.List.{find}
 use Rattle.std.specs.Option.{option_and_then, option_map}
-use Rattle.std.proofs.lemmas.Bool.{eqb-true}
+use Rattle.std.proofs.lemmas.Bool.{eqb-true, true≢false as clash}
+use Rattle.base_lemmas.proofs.Bools.{by_answer as pick}
 use Rattle.store_rows.specs.Forms.{row_bytes}
 use Rattle.store_rows.specs.Keys.{Index, Unique}
 use Rattle.store_rows.specs.Rows.{unique_form}
@@ -20,7 +21,7 @@ use Rattle.store_abstraction.specs.Stands.{kept_at, row_in, unique_of}
 use Rattle.record_index.proofs.Records.{entry_of_kept, has_kept, is_found, kept_has, kept_is, none_found}
 use Rattle.record_index.proofs.Same.{entries_same}
 use Rattle.record_index.proofs.Touching.{by_slot, unchanged_slot}
-use Rattle.record_index.proofs.DiffTurned.{EqualKeys, clash, left_unchanged, pick, right_unchanged, turned_rest, unique_is_at}
+use Rattle.record_index.proofs.DiffTurned.{EqualKeys, left_unchanged, right_unchanged, turned_rest, unique_is_at}
 use Rattle.record_index.specs.diff.Touched.{HasSoundRows, IsAlike, has, touched_changes}
 
 module _ (equal : EqualKeys) (org : ℕ) (p q : OrgPlan) (t u : Tenant) (ids : List (List ℕ)) (is : IsAlike p q t u ids) (kept_t : HasSoundRows p t) (kept_u : HasSoundRows q u)

@@ -2,6 +2,8 @@
 use Rattle.std.proofs.Common.{◌≡◌, ℕ, true, false, cond, List, Option, Some, None, refl, sym, ap, ap₂, ◌∙◌}
 use Rattle.std.specs.Prelude.{slice_get}
 use Rattle.std.specs.Option.{option_and_then, option_map}
+use Rattle.std.proofs.lemmas.Bool.{true≢false as clash}
+use Rattle.base_lemmas.proofs.Bools.{by_answer as pick}
 use Rattle.model.specs.declared.record.Record.{Record}
 use Rattle.model.specs.Cases.{in_case}
 use Rattle.model.specs.Objects.{is_of, object_numbered, record_at}
@@ -13,7 +15,6 @@ use Rattle.store_abstraction.specs.Entries.{field_entry, is_unique, other_entry,
 use Rattle.store_abstraction.specs.Plan.{OrgPlan}
 use Rattle.store_abstraction.specs.Stands.{Kept, kept_at, kept_in}
 use Rattle.record_index.proofs.Keeping.{FitValues, SameKeys, other_not_unique}
-use Rattle.record_index.proofs.DiffTurned.{clash, pick}
 use Rattle.record_index.specs.diff.Touched.{NoneTakes}
 
 module _ (fit_values : FitValues) (same_keys : SameKeys) (p : OrgPlan) (t u : Tenant) (sound_t : IsSound t) (sound_u : IsSound u) (objects : u.objects ≡ t.objects) (records : u.records ≡ t.records) (n s : ℕ) (key i : List ℕ) where

@@ -1,7 +1,7 @@
 -- An upsert by its unique field and the value comes to an update of the record that has the value, or to a create where none has it.
 use Rattle.std.proofs.Common.{◌≡◌, ◌∙◌, ℕ, suc, Bool, true, false, not, List, [], ◌∷◌, Option, Some, None, refl, sym, ap, subst, inl, inr}
 use Rattle.std.specs.Prelude.{Result, Ok, Err, IsErrAnd, slice_get, ℤ}
-use Rattle.record_read.proofs.Lists.{some_is}
+use Rattle.std.proofs.lemmas.Option.{same_Some as some_is}
 use Rattle.store_edit.specs.Edits.{ChangesIn, DecidesTo, FailsBy, Planned, Takes}
 use Rattle.store_edit.specs.declared.decided.Decided.{Decided}
 use Rattle.record_input.specs.Given as given_specs

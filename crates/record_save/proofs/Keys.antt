@@ -1,8 +1,9 @@
 -- The unique field with a name, and its value.
-use Rattle.std.proofs.Common.{◌≡◌, ◌∙◌, ◌≢◌, ℕ, zero, suc, ◌<◌, Bool, true, false, ◌&&◌, IsTrue, List, [], ◌∷◌, length, Option, Some, None, refl, sym, ap, subst, arith}
+use Rattle.std.proofs.Common.{◌≡◌, ◌∙◌, ◌≢◌, ℕ, suc, ◌<◌, Bool, true, false, ◌&&◌, IsTrue, List, length, Option, Some, None, refl, sym, ap, subst}
 use Rattle.std.specs.Prelude.{Result, Ok, Err, IsErrAnd, slice_get}
 use Rattle.std.specs.List.{enumerate_from}
-use Rattle.record_read.proofs.Lists.{and_left, some_is}
+use Rattle.std.proofs.lemmas.Option.{slice_get_within as within, same_Some as some_is}
+use Rattle.base_lemmas.proofs.Bools.{and_first as and_left}
 use Rattle.record_read.proofs.RowFits.{typed_at}
 use Rattle.record_read.specs.Decoding.{has_types}
 use Rattle.record_input.specs.Given.{NamesUnique}
@@ -29,11 +30,6 @@ use Rattle.base_value.specs.Values.{valid}
 use Rattle.base_value.specs.declared.value.Value.{Value}
 
 -- ---- places in a list
-
-pub within : {X : Type 0} (xs : List X) (i : ℕ) (x : X) → slice_get xs i ≡ Some x → i < length xs
-within [] i x e = absurd cc
-within (y ∷ xs) zero x e = omega arith
-within (y ∷ xs) (suc i) x e = let less = within xs i x e in omega (arith, less)
 
 -- what a unique value is of
 pub unique_there : (l : Layout) (number : ℕ) (v : Value) → HasUnique l number v → (f : FieldPlace) × (slice_get l.fields number ≡ Some f) × (is_unique_value v f ≡ true)

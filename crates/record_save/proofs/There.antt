@@ -2,7 +2,7 @@
 use Rattle.std.proofs.Common.{◌≡◌, ◌∙◌, ℕ, ◌+◌, suc, Bool, true, cond, List, Option, Some, None, add-one, refl, sym, ap, subst}
 use Rattle.std.specs.Prelude.{Result, Ok, Err}
 use Rattle.std.specs.Option.{option_map}
-use Rattle.record_read.proofs.Lists.{some_is}
+use Rattle.std.proofs.lemmas.Option.{same_Some as some_is}
 use Rattle.record_read.proofs.Rising.{found_itself, has_filter}
 use Rattle.record_read.proofs.Standing.{of_object}
 use Rattle.store_rows.specs.declared.fail.StoreFail.{StoreFail}

@@ -2,13 +2,13 @@
 use Rattle.std.proofs.Common.{◌≡◌, ℕ, true, false, cond, eqb, List, Option, Some, None, refl, sym, ap, subst, ◌∙◌}
 use Rattle.std.specs.Option.{option_and_then, option_map}
 use Rattle.std.proofs.lemmas.Bool.{eqb-true}
+use Rattle.base_lemmas.proofs.Bools.{by_answer as pick}
 use Rattle.model.specs.declared.record.Record.{Record}
 use Rattle.model.specs.Jobs.{is_past}
 use Rattle.model.specs.Membership.{Has}
 use Rattle.model.specs.Objects.{is_of, object_numbered, record_at}
 use Rattle.model.specs.Retyping.{with_job}
 use Rattle.model.specs.Tenant.{Job, Object, Tenant}
-use Rattle.record_index.proofs.Cases.{pick}
 use Rattle.retype_step.proofs.Entries.{entry_stays, object_apart}
 use Rattle.store_abstraction.specs.Entries.{slot_entry}
 use Rattle.store_abstraction.specs.Plan.{OrgPlan}

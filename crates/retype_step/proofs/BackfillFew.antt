@@ -1,7 +1,10 @@
 -- The changes of a page are at most two for each record, and remove none.
-use Rattle.std.proofs.Common.{◌≡◌, ◌⊎◌, inl, inr, ℕ, suc, ◌+◌, ◌*◌, ◌≤◌, Bool, true, false, not, ◌&&◌, cond, IsTrue, List, [], ◌∷◌, ◌++◌, length, map, Option, Some, None, refl, sym, ap, ap₂, subst, ◌∙◌, arith, length-append}
+use Rattle.std.proofs.Common.{◌≡◌, ◌⊎◌, inl, inr, ℕ, suc, ◌+◌, ◌*◌, ◌≤◌, true, false, not, ◌&&◌, cond, IsTrue, List, [], ◌∷◌, ◌++◌, length, map, Option, Some, None, refl, sym, ap, ap₂, subst, ◌∙◌, arith, length-append}
 use Rattle.std.specs.Prelude.{slice_get}
 use Rattle.std.specs.Option.{option_and_then, option_map}
+use Rattle.std.proofs.lemmas.Bool.{not-true as is_false}
+use Rattle.std.proofs.lemmas.Option.{none-some as no_value}
+use Rattle.base_lemmas.proofs.Bools.{and_second as and_right}
 use Rattle.record_read.proofs.RowFits.{typed_at, valid_at}
 use Rattle.record_read.proofs.Sound.{fields_typed, values_valid}
 use Rattle.store_edit.specs.Rows.{gone_of, spelled}
@@ -21,7 +24,6 @@ use Rattle.model.specs.SoundRecords.{all_valid, kinds_of}
 use Rattle.model.specs.Tenant.{Field, Job, Object, Tenant}
 use Rattle.record_index.specs.Changed.{index_key, reference_key, row_turned, slot_changes, unique_key}
 use Rattle.record_index.specs.Removed.{beside_entry}
-use Rattle.record_index.proofs.Cases.{and_right}
 use Rattle.record_index.proofs.Converting.{the_field}
 use Rattle.retype_step.specs.backfill.Progress.{record_moves, records_move, twin_changes}
 use Rattle.retype_step.proofs.Entries.{in_other}
@@ -75,13 +77,6 @@ slot_few org n id e f s a b one =
     subst (λ (x : List Change). length (index ++ x) ≤ 1) (sym none) (omega (arith, few, both))
 
 -- ---- what a change has in its slot
-
-is_false : (a : Bool) → not a ≡ true → a ≡ false
-is_false true e = absurd cc
-is_false false e = refl
-
-no_value : (v : Value) → ◌≡◌ {A = Option Value} None (Some v) → ⊥
-no_value v e = cc
 
 abbrev RefersNot : Option Value → Type 0
 RefersNot x = (v : Value) → x ≡ Some v → ref_of v ≡ None

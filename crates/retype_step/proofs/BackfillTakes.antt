@@ -1,6 +1,10 @@
 -- The changes of a page and that of the change itself make of an organisation's rows those after the step.
-use Rattle.std.proofs.Common.{◌≡◌, ◌↔◌, ℕ, ◌<◌, ◌≤◌, ◌*◌, ◌^◌, Bool, true, false, ◌||◌, IsTrue, List, [], ◌∷◌, ◌++◌, length, map, Option, Some, None, refl, sym, ap, subst, ◌∙◌, arith}
+use Rattle.std.proofs.Common.{◌≡◌, ◌↔◌, ℕ, ◌<◌, ◌≤◌, ◌*◌, ◌^◌, true, false, IsTrue, List, [], ◌∷◌, ◌++◌, length, map, Option, Some, None, refl, sym, ap, subst, ◌∙◌, arith}
 use Rattle.std.specs.List.{AllByRecursion, list_all}
+use Rattle.std.proofs.lemmas.Bool.{true≢false as clash}
+use Rattle.base_lemmas.proofs.Bools.{or_first_false as or_left, by_answer as pick}
+use Rattle.std.proofs.lemmas.Option.{same_Some as some_is}
+use Rattle.base_lemmas.proofs.Lists.{each-append as all_append}
 use Rattle.store_edit.specs.Edits.{Takes}
 use Rattle.store_edit.specs.Rows.{change_to}
 use Rattle.store_rows.specs.declared.data.DataRow.{DataRow}
@@ -15,7 +19,6 @@ use Rattle.model.specs.Sound.{IsSound}
 use Rattle.model.specs.Tenant as model
 use Rattle.model.specs.Tenant.{Tenant}
 use Rattle.model.specs.Verdict.{accept, done}
-use Rattle.record_index.proofs.Cases.{pick, some_is}
 use Rattle.retype_step.specs.backfill.Progress.{IsPage, come_to, page_changes, record_moves}
 use Rattle.retype_step.proofs.Alike.{alike}
 use Rattle.retype_step.proofs.BackfillFew.{ArePlain, ConvertsValid, page_few, twin_few}
@@ -30,7 +33,7 @@ use Rattle.store_abstraction.specs.Plan.{FitsPlan, OrgPlan}
 use Rattle.store_abstraction.specs.Stands.{org_of_key, row_in}
 use Rattle.store_abstraction.specs.declared.layout.Layout.{Layout}
 use Rattle.record_index.specs.diff.Touched.{HasSoundRows, IsAlike, NoneTakes, has, is_valued, record_ids, touched_changes}
-use Rattle.record_index.proofs.DiffTurned.{all_append, left_unchanged, right_unchanged}
+use Rattle.record_index.proofs.DiffTurned.{left_unchanged, right_unchanged}
 use Rattle.base_value.specs.Printing.{is_printable}
 
 -- ---- what other crates say
@@ -49,13 +52,6 @@ pub record Laws : Type 0 where
       → is_changed (touched_changes org p q t u ids) k ≡ false → row_in q u k ≡ row_in p t k
   pub kept : (p : OrgPlan) (t : Tenant) → IsSound t → FitsPlan p t → HasSoundRows p t
   pub unmoved : (p : OrgPlan) (t u : Tenant) (ids : List (List ℕ)) → IsSound t → IsSound u → u.objects ≡ t.objects → u.records ≡ t.records → NoneTakes p p t u ids
-
-clash : true ≡ false → ⊥
-clash e = cc
-
-or_left : (a b : Bool) → (a || b) ≡ false → a ≡ false
-or_left true b e = absurd cc
-or_left false b e = refl
 
 -- the row of a key that is neither of a record nor of a value stays, but for the change's
 steady : (equal : (a b : Key) → IsTrue (key_eq a b) ↔ (a ≡ b)) (org : ℕ) (q : OrgPlan) (t : Tenant) (j : model.Job) (k : Key) → org_of_key k ≡ Some org → is_valued k ≡ false → key_eq k (Job org) ≡ false

@@ -4,11 +4,12 @@ use Rattle.std.specs.Prelude.{slice_get}
 use Rattle.std.specs.List.{enumerate_from, find}
 use Rattle.std.specs.Option.{option_and_then}
 use Rattle.std.proofs.lemmas.Bool.{eqb-true}
+use Rattle.base_lemmas.proofs.Bools.{by_answer as pick}
+use Rattle.std.proofs.lemmas.Option.{same_Some as some_is}
 use Rattle.model.specs.Objects.{object_numbered}
 use Rattle.model.specs.Retyping.{job_is_done, with_job}
 use Rattle.model.specs.SoundJob.{is_switched, job_field}
 use Rattle.model.specs.Tenant.{Field, Job, Object, Tenant}
-use Rattle.record_index.proofs.Cases.{pick, some_is}
 use Rattle.retype_step.proofs.Entries.{type_same}
 use Rattle.store_abstraction.specs.Entries.{slot_field}
 use Rattle.store_abstraction.specs.Plan.{FitsPlan, OrgPlan, has_field, is_clearing, type_there}

@@ -1,6 +1,9 @@
 -- One record of a page after the other.
-use Rattle.std.proofs.Common.{◌≡◌, Bool, true, false, ◌&&◌, List, [], ◌∷◌, ◌++◌, length, map, None, refl, sym, ap, subst, ◌∙◌, append_assoc, arith}
+use Rattle.std.proofs.Common.{◌≡◌, Bool, true, List, [], ◌∷◌, ◌++◌, length, map, None, refl, sym, ap, subst, ◌∙◌, append_assoc, arith}
 use Rattle.std.specs.List.{AllByRecursion, list_all}
+use Rattle.base_lemmas.proofs.Bools.{and_second as second}
+use Rattle.std.proofs.lemmas.List.{append-nil as append_nothing}
+use Rattle.base_lemmas.proofs.Lists.{each-append as all_append}
 use Rattle.record_read.specs.Decoding.{kinds_in}
 use Rattle.store_edit.specs.Rows.{change_to, spelled}
 use Rattle.store_kv.specs.declared.keeper.Change.{Change as Spelled}
@@ -12,11 +15,10 @@ use Rattle.record_read.specs.Encoding.{row_from}
 use Rattle.model.specs.declared.record.Record.{Record}
 use Rattle.model.specs.SoundRecords.{all_valid}
 use Rattle.record_index.specs.Turned.{turned_row}
-use Rattle.record_index.proofs.Turned.{append_nothing, map_both, then_these}
+use Rattle.record_index.proofs.Turned.{map_both, then_these}
 use Rattle.retype_step.specs.backfill.Progress.{record_moves, records_move, twin_changes}
 use Rattle.store_abstraction.specs.Changes.{Change}
 use Rattle.store_abstraction.specs.declared.layout.Layout.{Layout}
-use Rattle.record_index.proofs.DiffTurned.{all_append}
 
 abbrev pub AllFit : List Change → Type 0
 AllFit cs = AllByRecursion (λ c. FitsKey c.0) cs
@@ -25,10 +27,6 @@ AllFit cs = AllByRecursion (λ c. FitsKey c.0) cs
 
 abbrev pub all_valid_in : Layout → Record → Bool
 all_valid_in l r = all_valid (kinds_in l.fields) r.values
-
-second : (a b : Bool) → (a && b) ≡ true → b ≡ true
-second true b h = h
-second false b h = absurd cc
 
 pub values_after : (f : Record → Bool) (those : List Record) (r : Record) (rs : List Record) → those ≡ r ∷ rs → list_all f those ≡ true → list_all f rs ≡ true
 values_after f those r rs e h = second (f r) (list_all f rs) (ap (list_all f) (sym e) ∙ h)

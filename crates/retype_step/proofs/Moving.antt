@@ -3,6 +3,7 @@ use Rattle.std.proofs.Common.{◌≡◌, ℕ, zero, suc, ◌+◌, ◌<◌, ◌�
 use Rattle.std.specs.List.{flat_map, list_all, range_with_len}
 use Rattle.std.specs.Option.{option_and_then, option_map}
 use Rattle.std.proofs.lemmas.Bool.{eq-eqb, eqb-true}
+use Rattle.base_lemmas.proofs.Bools.{by_answer as pick}
 use Rattle.record_read.specs.Encoding.{row_from}
 use Rattle.store_rows.specs.declared.data.DataRow.{DataRow}
 use Rattle.store_rows.specs.Forms.{row_bytes}
@@ -19,7 +20,6 @@ use Rattle.model.specs.Tenant.{Job, Object, Tenant}
 use Rattle.record_index.specs.Changed.{SameKeys, record_changes, slot_changes}
 use Rattle.record_index.specs.Removed.{beside_entry}
 use Rattle.record_index.specs.Turned.{turned_row}
-use Rattle.record_index.proofs.Cases.{pick}
 use Rattle.record_index.proofs.NewRecord.{kept_is}
 use Rattle.record_index.proofs.TurnedValues.{keys_turn}
 use Rattle.retype_step.specs.backfill.Progress.{come_to, job_come_to, record_moves, records_move, twin_changes}

@@ -6,7 +6,10 @@ use Rattle.std.specs.FinMap.{is_sorted}
 use Rattle.std.specs.FinMap.Entries.{below_all}
 use Rattle.std.proofs.lemmas.Cmp.{nat_list_cmp_total}
 use Rattle.std.proofs.lemmas.Slice.Eq.{bytes_eq-Decides}
-use Rattle.record_read.proofs.Rising.{below_has, filter_has, has_filter, has_take, not_less, rise_filter, t_first, t_second}
+use Rattle.std.proofs.lemmas.Bool.{false≢true as clash}
+use Rattle.base_lemmas.proofs.Bools.{T-and_first as t_first, T-and_second as t_second, by_answer as pick}
+use Rattle.std.proofs.lemmas.Option.{same_Some as some_is}
+use Rattle.record_read.proofs.Rising.{below_has, filter_has, has_filter, has_take, not_less, rise_filter}
 use Rattle.store_kv.specs.Tables.{bytes_cmp}
 use Rattle.model.specs.declared.record.Record.{Record}
 use Rattle.model.specs.Jobs.{is_past, last_id, next_hundred}
@@ -17,11 +20,7 @@ use Rattle.model.specs.Sound.{IsSound}
 use Rattle.model.specs.SoundPeople.{ids_rise}
 use Rattle.model.specs.SoundRecords.{record_id}
 use Rattle.model.specs.Tenant.{Job, Tenant}
-use Rattle.record_index.proofs.Cases.{pick, some_is}
 use Rattle.record_index.specs.diff.Touched.{has, record_ids}
-
-clash : false ≡ true → ⊥
-clash e = cc
 
 -- ---- the last of some records
 

@@ -1,10 +1,10 @@
 -- What is decided takes a tenant's rows to those after its step, in each phase of its change.
-use Rattle.std.proofs.Common.{◌≡◌, ◌∙◌, ◌<◌, ◌≤◌, ◌^◌, ◌*◌, ℕ, suc, false, List, [], ◌∷◌, ◌++◌, length, map, filter, Option, Some, None, refl, sym, ap, subst, arith}
+use Rattle.std.proofs.Common.{◌≡◌, ◌∙◌, ◌<◌, ◌≤◌, ◌^◌, ◌*◌, ℕ, suc, false, List, [], ◌∷◌, ◌++◌, length, map, filter, Option, Some, None, refl, sym, ap, subst, arith, length-append as length_both}
 use Rattle.std.specs.Prelude.{if◌then◌else◌, is_none, slice_get}
 use Rattle.std.specs.Option.{option_and_then}
 use Rattle.std.specs.List.{find}
-use Rattle.retype_step.proofs.Facts.{FieldOf, last_some, short_take}
-use Rattle.retype_step.proofs.Few.{length_both}
+use Rattle.base_lemmas.proofs.Lists.{length-take_most as short_take}
+use Rattle.retype_step.proofs.Facts.{FieldOf, last_some}
 use Rattle.retype_step.proofs.Own.{HaveKeys, keys_first}
 use Rattle.retype_step.proofs.ChangeRows.{done_is, failed_is, moved_is, switch_is, type_copy}
 use Rattle.retype_step.specs.inner.Deciding.{clear_decided, copied, copy_decided, decided, is_bad_by, page_decided}

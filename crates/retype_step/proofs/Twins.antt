@@ -3,6 +3,7 @@ use Rattle.std.proofs.Common.{◌≡◌, ◌≢◌, ℕ, Bool, true, false, cond
 use Rattle.std.specs.Prelude.{slice_get}
 use Rattle.std.specs.Option.{option_and_then, option_copied, option_map}
 use Rattle.std.proofs.lemmas.Bool.{eq-eqb}
+use Rattle.std.proofs.lemmas.Option.{same_Some as some_is}
 use Rattle.record_read.specs.Decoding.{has_types, kinds_in}
 use Rattle.store_rows.specs.declared.data.DataRow.{DataRow}
 use Rattle.model.specs.SoundRecords.{all_valid}
@@ -11,7 +12,6 @@ use Rattle.model.specs.declared.record.Record.{Record}
 use Rattle.record_index.specs.Changed.{slot_changes}
 use Rattle.record_index.specs.Removed.{beside_entry, beside_of, beside_there, beside_value}
 use Rattle.record_index.specs.Turned.{converts, converts_to}
-use Rattle.record_index.proofs.Cases.{some_is}
 use Rattle.record_index.proofs.TurnedValues.{copied_keys, given, keys_turn}
 use Rattle.retype_step.specs.backfill.Progress.{come_to, job_come_to, twin_changes}
 use Rattle.store_abstraction.specs.Changes.{Change}

@@ -1,11 +1,12 @@
 -- Each function that reads paths, literals and conditions is exact for its part of the grammar.
 use Rattle.std.proofs.Common.{◌≡◌, ℕ, zero, suc, Bool, true, false, if◌then◌else◌, ◌==◌, List, [], ◌∷◌, ◌++◌, Some, Ok, Err, refl}
+use Rattle.std.proofs.lemmas.Bool.{or_right}
 use Rattle.base_grammar.specs.Part.{Part, one, empty, both, either, as_value}
 use Rattle.base_grammar.specs.Part as part
 use Rattle.base_grammar.specs.Reader.{Outcome, Reader, ◌>>=◌, read_one, read_as, read_empty, read_either, elem, begins_with, with_front}
 use Rattle.base_grammar.specs.Reader as reader
 use Rattle.base_grammar.specs.Exact.{Exact}
-use Rattle.base_grammar.proofs.Sets.{disjoint, or_right}
+use Rattle.base_grammar.proofs.Sets.{disjoint}
 use Rattle.base_grammar.proofs.Exact.{one_exact, empty_exact, as_exact, either_exact}
 use Rattle.base_grammar.proofs.Pairs.{after_exact, before_exact, pair_exact, pair_exact_0, then_exact, repeated_exact, any_exact, exact_by, read_pair, read_as_of, paired, wider_first}
 use Rattle.soql.specs.grammar.Grammar as g

@@ -1,11 +1,12 @@
 -- Each function that reads clauses and whole queries is exact for its part of the grammar.
 use Rattle.std.proofs.Common.{◌≡◌, ℕ, zero, suc, Bool, true, false, List, [], ◌∷◌, Some, None, refl, ◌∙◌}
+use Rattle.std.proofs.lemmas.Bool.{or_left}
 use Rattle.base_grammar.specs.Part.{Part, one, empty, both, either, many, as_value}
 use Rattle.base_grammar.specs.Part as part
 use Rattle.base_grammar.specs.Reader.{Reader, read_empty, read_either, elem}
 use Rattle.base_grammar.specs.Reader as reader
 use Rattle.base_grammar.specs.Exact.{Exact}
-use Rattle.base_grammar.proofs.Sets.{elem-append, or_left}
+use Rattle.base_grammar.proofs.Sets.{elem-append}
 use Rattle.base_grammar.proofs.Exact.{one_exact, empty_exact, as_exact, both_exact, either_exact, many_exact}
 use Rattle.base_grammar.proofs.Pairs.{after_exact, pair_exact, pair_exact_0, any_exact, wider_first}
 use Rattle.soql.specs.grammar.Grammar as g

@@ -15,10 +15,6 @@ pub grown : {X E : Type 0} (r : Result X E) (old new bytes before more : List �
 grown (Ok x) old new bytes before more utf8 e b m = rw (e, ← b, ← m) (chars-append old bytes utf8)
 grown (Err x) old new bytes before more utf8 e b m = tt
 
-pub on_ok : {X E P Q : Type 0} (r : Result X E) → (P → Q) → OnOk r P → OnOk r Q
-on_ok (Ok x) f h = f h
-on_ok (Err e) f h = tt
-
 -- ---- pieces one after the other
 pub three : (w x y z a b c : List ℕ) → x ≡ w ++ a → y ≡ x ++ b → z ≡ y ++ c → z ≡ w ++ (a ++ b ++ c)
 three w x y z a b c e f g = rw (g, f, e) (simp append_assoc)

@@ -2,6 +2,7 @@
 use Rattle.std.proofs.Common.{◌≡◌, ℕ, Bool, true, false, ◌==◌, ◌&&◌, if◌then◌else◌, List, [], ◌∷◌, ◌++◌, refl, ap, arith, codes}
 use Rattle.std.specs.List.{list_all}
 use Rattle.std.proofs.lemmas.Bool.Decides.{nat_tests}
+use Rattle.base_lemmas.proofs.Bools.{and-false as not_both}
 use Rattle.base_grammar.specs.declared.classes.Class.TheVariants.{Letters, Other}
 use lib.Utf8.{encode}
 use Rattle.base_grammar.specs.Tokens.{Passes, is_blank, is_letter, in_word, begins_run, class_of, single_token, is_written}
@@ -153,10 +154,6 @@ mark_reads c e alone = one_reads nothing c [] Other e (λ x. cc) (λ rest f. go 
     go : (rest : List ℕ) → token_len lexis Other c rest ≡ 0
     go [] = refl
     go (d ∷ rest) = rw (alone d) refl
-
-not_both : (b : Bool) → (b && false) ≡ false
-not_both true = refl
-not_both false = refl
 
 pub open_reads : Reads nothing (40 ∷ []) (sign.Open ∷ [])
 unfolding class_of is_blank is_letter begins_run is_digit single_token is_mark is_pair mark_sign

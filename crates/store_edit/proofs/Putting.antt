@@ -1,6 +1,7 @@
 -- Rows that are put, and keys of the organisation beside theirs.
-use Rattle.std.proofs.Common.{◌≡◌, ◌∙◌, ℕ, Bool, true, false, ◌&&◌, ◌||◌, eqb, List, Some, Option, refl, sym, ap, bytes_eq, ◌∷◌}
-use Rattle.std.proofs.lemmas.Bool.{eqb-false}
+use Rattle.std.proofs.Common.{◌≡◌, ◌∙◌, ℕ, true, false, List, Some, refl, sym, bytes_eq, ◌∷◌}
+use Rattle.std.proofs.lemmas.Bool.{or_parts as or_false}
+use Rattle.base_lemmas.proofs.Options.{eqb-same_Some as own_number}
 use Rattle.store_edit.specs.Rows.{change_to}
 use Rattle.store_rows.specs.Forms.{FitsForm, Form, key_of, row_bytes}
 use Rattle.store_rows.specs.Keys as key
@@ -22,27 +23,6 @@ pub put_is_in : {U : Type 0} (f : Form U) (org : ℕ) (row : U) → FitsForm f r
 put_is_in f org row fits own = (f.fits (f.keyed row) fits.0, own)
 
 -- ---- keys beside those of the changes
-
-pub pick : (b : Bool) (P : Bool → Type 0) → (b ≡ true → P true) → (b ≡ false → P false) → P b
-pick true P f g = f refl
-pick false P f g = g refl
-
-some_is : {A : Type 0} (x y : A) → ◌≡◌ {A = Option A} (Some x) (Some y) → x ≡ y
-some_is x y e = cc
-
-eqb_same : (n : ℕ) → eqb n n ≡ true
-eqb_same n = pick (eqb n n) (λ b. b ≡ true) (λ h. refl) (λ h. absurd (eqb-false n n h refl))
-
-pub own_number : (m org : ℕ) → ◌≡◌ {A = Option ℕ} (Some m) (Some org) → eqb m org ≡ true
-own_number m org e = ap (λ (x : ℕ). eqb x org) (some_is m org e) ∙ eqb_same org
-
-pub both_false : (a b : Bool) → a ≡ true → (a && b) ≡ false → b ≡ false
-both_false true b h e = e
-both_false false b h e = absurd cc
-
-or_false : (a b : Bool) → (a || b) ≡ false → (a ≡ false) × (b ≡ false)
-or_false true b e = absurd cc
-or_false false b e = (refl, e)
 
 -- a key that isn't changed is none of the first change, and isn't changed by the others
 pub beside : (c : Change) (changes : List Change) (k : Key) → is_changed (c ∷ changes) k ≡ false → (key_eq k c.0 ≡ false) × (is_changed changes k ≡ false)

@@ -1,6 +1,7 @@
-use Rattle.std.proofs.Common.{◌≡◌, ◌∙◌, ◌+◌, ℕ, List, [], None, Option, Some, ap, arith, inl, map, of_z, refl, rules, subst, sym, to_z, w64}
+use Rattle.std.proofs.Common.{◌≡◌, ◌∙◌, ◌+◌, ℕ, List, [], ap, arith, inl, map, of_z, refl, rules, subst, sym, to_z, w64}
 use Rattle.std.proofs.lemmas.Int.{to_z-of_z}
 use Rattle.std.specs.Prelude.{FitsSigned}
+use Rattle.base_lemmas.proofs.Options.{none_from_no_some as nothing_there}
 use Rattle.base_value.specs.Printing.{day_of_moment}
 use Rattle.store_kv.specs.Draft.{DraftReads, Held, removals_of}
 use Rattle.store_kv.specs.State.{KeeperState}
@@ -14,10 +15,6 @@ use Rattle.query_plan.specs.declared.paths.branches.Branch.{Branch}
 use Rattle.query_exec.specs.Written.{most_shown}
 use Rattle.query_json.proofs.Found.{Laws, its_layout, plan_answers, query_refused, so_if_done, then_if_done}
 use Rattle.query_json.proofs.answer.answer_flat.Goals as goal
-
-nothing_there : {A : Type 0} (x : Option A) → ((y : A) → x ≡ Some y → ⊥) → x ≡ None
-nothing_there None h = refl
-nothing_there (Some y) h = absurd (h y refl)
 
 pub returns-in-Some-clause-what : goal.returns-in-Some-clause-what
 returns-in-Some-clause-what g c told p a asked flat =

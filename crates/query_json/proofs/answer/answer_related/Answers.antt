@@ -1,8 +1,9 @@
-use Rattle.std.proofs.Common.{◌≡◌, ◌∙◌, ◌+◌, ℕ, List, [], ◌∷◌, None, Option, Some, ap, arith, inr, length, map, of_z, refl, rules, sym, to_z, w64}
+use Rattle.std.proofs.Common.{◌≡◌, ◌∙◌, ◌+◌, ℕ, List, [], ◌∷◌, ap, arith, inr, length, map, of_z, refl, rules, sym, to_z, w64}
 use Rattle.std.proofs.lemmas.Int.{to_z-of_z}
 use Rattle.std.specs.List.{sum_by}
 use Rattle.std.proofs.lemmas.List.Sums.{sum_by-cons}
 use Rattle.std.specs.Prelude.{FitsSigned}
+use Rattle.base_lemmas.proofs.Options.{none_from_no_some as nothing_there}
 use Rattle.base_value.specs.Printing.{day_of_moment}
 use Rattle.store_kv.specs.Draft.{DraftReads, Held, removals_of}
 use Rattle.store_kv.specs.State.{KeeperState}
@@ -18,10 +19,6 @@ use Rattle.query_exec.specs.Written.{most_shown}
 use Rattle.query_related.specs.Children.{subqueries_shown}
 use Rattle.query_json.proofs.Found.{Laws, its_layout, plan_answers, query_refused, wider_calls}
 use Rattle.query_json.proofs.answer.answer_related.Goals as goal
-
-nothing_there : {A : Type 0} (x : Option A) → ((y : A) → x ≡ Some y → ⊥) → x ≡ None
-nothing_there None h = refl
-nothing_there (Some y) h = absurd (h y refl)
 
 pub returns-in-Some-clause-what : goal.returns-in-Some-clause-what
 returns-in-Some-clause-what g c told p a over =

@@ -1,7 +1,7 @@
 use Rattle.std.proofs.Common.{◌≡◌, ◌∙◌, ◌⊎◌, ℕ, List, Some, ap, subst, sym, w64}
 use Rattle.std.specs.Prelude.{Ok, ℤ}
 use Rattle.std.proofs.lemmas.Int.{to_z-of_z}
-use Rattle.record_read.proofs.Lists.{some_is}
+use Rattle.std.proofs.lemmas.Option.{same_Some as some_is}
 use Rattle.record_read.specs.Decoding.{kinds_in}
 use Rattle.formula.specs.Meaning.{value_at}
 use Rattle.model.specs.declared.record.Record.{Record}

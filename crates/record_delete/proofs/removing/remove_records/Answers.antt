@@ -1,7 +1,7 @@
 use Rattle.std.proofs.Common.{◌+◌, ◌*◌, List, ℕ, Some, arith, subst, sym}
 use Rattle.std.specs.Prelude.{Ok}
 use Rattle.std.proofs.lemmas.List.{take_all}
-use Rattle.record_cascade.proofs.Going.{returned}
+use Rattle.base_lemmas.proofs.Results.{err_from_parts as returned}
 use Rattle.store_kv.specs.Tables.{Tables}
 use Rattle.model.specs.Deletes.{without}
 use Rattle.store_abstraction.specs.Calls.{done}

@@ -1,11 +1,12 @@
 use Rattle.std.proofs.Common.{◌+◌, ◌∷◌, ◌∙◌, ap, sym, drop, append-nil}
 use Rattle.std.specs.Option.{option_copied}
 use Rattle.std.proofs.lemmas.List.{at_drop_all, at_drop_more}
+use Rattle.base_lemmas.proofs.Options.{none_from_no_some as nothing_there}
 use Rattle.query_plan.specs.Shown.{member_text}
 use Rattle.query_plan.specs.declared.plan.Member.{Member}
 use Rattle.query_json.specs.row.Shows.{shows}
 use Rattle.query_json.proofs.Pieces.{one_more, with_rest}
-use Rattle.query_json.proofs.Within.{nothing_there, null_written, parent_written}
+use Rattle.query_json.proofs.Within.{null_written, parent_written}
 use Rattle.query_json.proofs.row.members.+members.Goals as goal
 
 pub write_member-returns-in_default : goal.write_member-returns-in_default

@@ -1,5 +1,5 @@
 use Rattle.std.specs.Option.{option_map}
-use Rattle.record_constraints.proofs.Searching.{read_there}
+use Rattle.base_lemmas.proofs.Lists.{slice_get_as_read as read_there}
 use Rattle.record_save.proofs.Keys.{has_unique, key_passed, named_at, named_within, type_at, unread}
 use Rattle.record_save.proofs.upsert.finding.found_key.Goals as goal
 

@@ -1,8 +1,8 @@
 use Rattle.std.proofs.Common.{refl, subst, w64}
 use Rattle.std.proofs.lemmas.Int.{to_z-of_z}
 use Rattle.std.specs.Prelude.{ℤ}
+use Rattle.base_lemmas.proofs.Lists.{slice_get_as_read as read_there}
 use Rattle.store_kv.specs.Draft.{tables_of}
-use Rattle.record_constraints.proofs.Searching.{read_there}
 use Rattle.record_save.proofs.Deciding.{decides, stopped}
 use Rattle.record_save.proofs.Keys.{type_at}
 use Rattle.record_save.proofs.Plain.{plain_with}

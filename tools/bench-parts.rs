@@ -1,26 +1,5 @@
-# The program that measures
-
-It measures the parts whose cost matters, for `PERFORMANCE.md`. It is no part of the product, so it isn't a crate that the gate proves: its source is at the end of this page. To make a crate of it by hand, at the top of the repository:
-
-    mkdir -p crates/bench/src
-    sed -n '/^```rust$/,/^```$/{//!p}' docs/BENCH.md > crates/bench/src/main.rt
-    echo 'bench: base_json store_kv soql soql_parser base_value store_codec store_rows' >> crates.txt
-    cd crates/bench && rt run -- keeper 1000
-
-`rt run` proves and builds it, and it writes twice `put: true, committed: true, rows walked: 1000`. Take both away again before a commit: `rm -r crates/bench`, and the line in `crates.txt`. Then
-
-    out/bench keeper 50000      # puts, one commit and a paged walk of so many rows
-    out/bench json 4000000      # about so many bytes of JSON, written and read
-    out/bench values 200000     # so many calls of read_value and of order_key
-    out/bench rows 200000       # so many data rows, read and written
-    out/bench like 20000        # so many texts, each compared with a pattern of 100 runs
-    out/bench parse 20          # queries of three kinds in four lengths, each read so many times
-
-What was done goes to standard output, and times in microseconds to standard error. Times depend on the machine; `PERFORMANCE.md` says how to count instructions instead, and how each cost grows.
-
-```rust
-//! Times of the parts whose cost matters, for `docs/PERFORMANCE.md`: `bench keeper ROWS`, `bench json BYTES`,
-//! `bench values CALLS`, `bench rows CALLS`, `bench like CALLS` and `bench parse CALLS`.
+//! Times of the parts whose cost matters: `bench keeper ROWS`, `bench json BYTES`, `bench values CALLS`, `bench rows CALLS`,
+//! `bench like CALLS` and `bench parse CALLS`. It is a program in Rattle, of which `tools/bench-parts` makes a crate.
 //!
 //! What was done goes to standard output, the times in microseconds to standard error.
 #![tactic(auto)]
@@ -407,4 +386,3 @@ fn measure(rt: &HostRuntime) -> io::Result<u8> {
 fn main(rt: HostRuntime) -> ExitCode {
     ExitCode::from(measure(&rt).unwrap_or(74))
 }
-```

@@ -4,6 +4,8 @@ use Rattle.std.specs.Prelude.{IfOk, MatchOption, Result, Ok, Err, replicate, sli
 use Rattle.std.specs.declared.alloc.AllocError.{AllocError}
 use Rattle.std.specs.List.{list_any}
 use Rattle.std.specs.Option.{option_and_then}
+use Rattle.base_lemmas.proofs.Bools.{not_both}
+use Rattle.std.proofs.lemmas.Option.{slice_get_within as within, same_Some as some_is}
 use Rattle.store_rows.specs.declared.role.RoleRow.{RoleRow}
 use Rattle.store_rows.specs.declared.user.UserRow.{UserRow}
 use Rattle.model.specs.Cases.{in_case}
@@ -16,8 +18,8 @@ use Rattle.access_closure.specs.Places.{is_on, place_of_id, role_row_id, user_ro
 use Rattle.access_closure.specs.inner.Chosen.{AddsBelow, IsAlone, IsUserAndBelow, IsWithBelow, edge_back, edges_up, has_role_in, role_among, roles_with, set_at, users_with, with_sources}
 use Rattle.access_closure.specs.inner.Order.{AreInOrder, role_place_by_id, role_place_of}
 use Rattle.access_closure.specs.inner.Reached.{Closes, Reached}
-use Rattle.access_closure.proofs.Edges.{IsUp, edge_up, has_map, has_place, map_has, marked_from, marked_long, marked_there, none_long, none_on, not_both, roles_from, roles_keep, roles_long, roles_there, set_at_from, set_at_long, set_at_there, edge_from, users_from, users_keep, users_there, within}
-use Rattle.access_closure.proofs.Found.{found_at, found_having, found_place, some_is}
+use Rattle.access_closure.proofs.Edges.{IsUp, edge_up, has_map, has_place, map_has, marked_from, marked_long, marked_there, none_long, none_on, roles_from, roles_keep, roles_long, roles_there, set_at_from, set_at_long, set_at_there, edge_from, users_from, users_keep, users_there}
+use Rattle.access_closure.proofs.Found.{found_at, found_having, found_place}
 use Rattle.access_closure.proofs.Meaning.{Chooses, IsOfRows, parent_up, up_parent}
 use Rattle.access_closure.proofs.Spreading.{at_has}
 

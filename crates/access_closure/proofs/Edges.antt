@@ -5,6 +5,8 @@ use Rattle.std.specs.List.{list_any}
 use Rattle.std.specs.Option.{option_and_then}
 use Rattle.std.proofs.lemmas.Bool.Decides.{nat_tests}
 use Rattle.std.proofs.lemmas.List.{length-set}
+use Rattle.std.proofs.lemmas.Option.{same_Some as some_is}
+use Rattle.base_lemmas.proofs.Bools.{not_both}
 use Rattle.store_rows.specs.declared.group.GroupRow.{GroupRow}
 use Rattle.store_rows.specs.declared.role.RoleRow.{RoleRow}
 use Rattle.store_rows.specs.declared.user.UserRow.{UserRow}
@@ -17,7 +19,6 @@ use Rattle.access_closure.specs.Places.{group_row_id, is_on, place_of_id, role_r
 use Rattle.access_closure.specs.inner.Chosen.{edges_up, has_role_in, role_among, roles_with, set_at, up_edge, users_with, with_sources}
 use Rattle.access_closure.specs.inner.Order.{role_place_of}
 use Rattle.access_closure.specs.inner.Rings.{group_edges, member_edge, member_edges}
-use Rattle.access_closure.proofs.Found.{some_is}
 use Rattle.access_closure.proofs.Spreading.{set_from, set_keeps, set_there}
 
 -- ---- lists
@@ -72,11 +73,6 @@ has_place [] x h = absurd h
 has_place (y ∷ xs) x (inl e) = (zero, ap Some (sym e))
 has_place (y ∷ xs) x (inr h) = let r = has_place xs x h in (suc r.0, r.1)
 
-pub within : {A : Type 0} (xs : List A) (n : ℕ) (x : A) → slice_get xs n ≡ Some x → n < length xs
-within [] n x e = absurd cc
-within (y ∷ xs) zero x e = omega arith
-within (y ∷ xs) (suc n) x e = let h = within xs n x e in omega arith
-
 -- ---- flags
 
 pub none_on : (k n : ℕ) → is_on (replicate k false) n ≡ false
@@ -87,10 +83,6 @@ none_on (suc k) (suc n) = none_on k n
 pub none_long : (k : ℕ) → length (replicate k false) ≡ k
 none_long zero = refl
 none_long (suc k) = ap suc (none_long k)
-
-pub not_both : (b : Bool) → b ≡ true → b ≡ false → ⊥
-not_both true e f = cc
-not_both false e f = cc
 
 pub set_at_from : (k : ℕ) (o : Option ℕ) (n : ℕ) → is_on (set_at (replicate k false) o) n ≡ true → o ≡ Some n
 set_at_from k None n e = absurd (not_both (is_on (replicate k false) n) e (none_on k n))
@@ -125,10 +117,6 @@ pub on_map : {X : Type 0} (f : X → Bool) (xs : List X) (n : ℕ) (x : X) → s
 on_map f [] n x e is = absurd cc
 on_map f (y ∷ xs) zero x e is = ap f (some_is y x e) ∙ is
 on_map f (y ∷ xs) (suc n) x e is = on_map f xs n x e is
-
-pub map_long : {X Y : Type 0} (f : X → Y) (xs : List X) → length (map f xs) ≡ length xs
-map_long f [] = refl
-map_long f (x ∷ xs) = ap suc (map_long f xs)
 
 -- ---- edges
 

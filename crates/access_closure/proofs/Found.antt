@@ -11,18 +11,15 @@ use Rattle.std.specs.List.Sorted.{IsBinarySearchResult, IsSearchInRange}
 use Rattle.std.specs.Ordering.{is_eq, is_lt, nat_cmp, ordering_index, ordering_reverse}
 use Rattle.std.proofs.lemmas.Cmp.{tied_itself}
 use Rattle.std.proofs.lemmas.Map.Text.{is_eq-slice_cmp}
-use Rattle.std.proofs.lemmas.Option.{slice_get-get_or, slice_get_within}
+use Rattle.std.proofs.lemmas.Option.{slice_get-get_or, slice_get_within, same_Some as some_is}
 use Rattle.std.proofs.lemmas.Slice.Eq.{bytes_eq-Decides}
+use Rattle.std.proofs.lemmas.Bool.{cases_Bool as either}
 use Rattle.model.specs.SoundPeople.{ids_rise}
 use Rattle.model.specs.World.{having_id}
 use Rattle.access_closure.specs.Places.{place_of_id}
-use Rattle.access_closure.proofs.Spreading.{either}
 
 abbrev compare : List ℕ → List ℕ → Ordering
 compare = slice_cmp nat_cmp
-
-pub some_is : {A : Type 0} (x y : A) → ◌≡◌ {A = Option A} (Some x) (Some y) → x ≡ y
-some_is x y e = cc
 
 -- ---- what is found
 

@@ -1,7 +1,7 @@
 -- Steps of loops over lists.
 use Rattle.std.proofs.Common.{◌≡◌, ◌∙◌, ℕ, suc, ◌+◌, ◌<◌, Bool, true, false, ◌||◌, List, [], ◌∷◌, ◌++◌, drop, take, length, map, get_or, slice_set, refl, sym, ap, arith, append_assoc}
 use Rattle.std.specs.List.{list_any}
-use Rattle.std.proofs.lemmas.List.{at_drop_more, take_more}
+use Rattle.std.proofs.lemmas.List.{at_drop_more, take_more, map_push as map_end}
 use Rattle.store_rows.specs.declared.role.RoleRow.{RoleRow}
 use Rattle.store_rows.specs.declared.user.UserRow.{UserRow}
 use Rattle.model.specs.Cases.{in_case}
@@ -58,10 +58,6 @@ any_on f xs i x lt is off so_far = sym (split (list_any f) xs i x lt is ∙ ap (
 
 pub any_here : {X : Type 0} (f : X → Bool) (xs : List X) (i : ℕ) (x : X) → i < length xs → x ≡ get_or xs i x → f x ≡ true → list_any f (drop i xs) ≡ list_any f xs → true ≡ list_any f xs
 any_here f xs i x lt is on so_far = sym (split (list_any f) xs i x lt is ∙ ap (λ b. b || list_any f (drop (i + 1) xs)) on) ∙ so_far
-
-map_end : {X Y : Type 0} (f : X → Y) (xs : List X) (x : X) → map f (xs ++ x ∷ []) ≡ map f xs ++ f x ∷ []
-map_end f [] x = refl
-map_end f (y ∷ xs) x = ap (λ l. f y ∷ l) (map_end f xs x)
 
 pub mapped : {X Y : Type 0} (f : X → Y) (xs : List X) (i : ℕ) (x : X) (old new : List Y) (y : Y) → i < length xs → x ≡ get_or xs i x → new ≡ old ++ y ∷ [] → y ≡ f x → old ≡ map f (take i xs) → new ≡ map f (take (i + 1) xs)
 mapped f xs i x old new y lt is grown same so_far =

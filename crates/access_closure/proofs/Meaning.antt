@@ -3,6 +3,8 @@ use Rattle.std.proofs.Common.{◌≡◌, ◌∙◌, ℕ, ◌<◌, Bool, true, fa
 use Rattle.std.specs.Prelude.{◌↔◌, slice_get}
 use Rattle.std.specs.List.{list_any}
 use Rattle.std.specs.Option.{option_and_then, option_map}
+use Rattle.base_lemmas.proofs.Lists.{length-map_by as map_long}
+use Rattle.std.proofs.lemmas.Option.{slice_get_within as within, same_Some as some_is}
 use Rattle.store_rows.specs.declared.group.GroupRow.{GroupRow}
 use Rattle.store_rows.specs.declared.role.RoleRow.{RoleRow}
 use Rattle.store_rows.specs.declared.user.UserRow.{UserRow}
@@ -20,8 +22,8 @@ use Rattle.access_closure.specs.inner.Chosen.{edges_up}
 use Rattle.access_closure.specs.inner.Order.{AreInOrder, role_place_of}
 use Rattle.access_closure.specs.inner.Reached.{Reached}
 use Rattle.access_closure.specs.inner.Rings.{IsRing, group_edges, groups_held}
-use Rattle.access_closure.proofs.Edges.{IsNested, IsUp, any_has, edge_nested, edge_up, has_any, has_place, map_long, map_on, nested_edge, on_map, edge_from, within}
-use Rattle.access_closure.proofs.Found.{IsFound, found_at, found_having, found_place, some_is}
+use Rattle.access_closure.proofs.Edges.{IsNested, IsUp, any_has, edge_nested, edge_up, has_any, has_place, map_on, nested_edge, on_map, edge_from}
+use Rattle.access_closure.proofs.Found.{IsFound, found_at, found_having, found_place}
 use Rattle.access_closure.proofs.Spreading.{at_has}
 
 -- the structure has the parents and members of the rows, and the roles that rows name are there

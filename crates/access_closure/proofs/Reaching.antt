@@ -8,6 +8,8 @@ use Rattle.std.specs.List.{AllByRecursion}
 use Rattle.std.specs.Option.{option_and_then, option_map}
 use Rattle.std.specs.Ordering.{is_lt, nat_cmp}
 use Rattle.std.proofs.lemmas.Slice.Eq.{bytes_eq-Decides}
+use Rattle.base_lemmas.proofs.Options.{some_there}
+use Rattle.std.proofs.lemmas.Option.{same_Some as some_is}
 use Rattle.store_rows.specs.declared.group.GroupRow.{GroupRow}
 use Rattle.store_rows.specs.declared.role.RoleRow.{RoleRow}
 use Rattle.store_rows.specs.declared.user.UserRow.{UserRow}
@@ -32,7 +34,7 @@ use Rattle.access_closure.specs.inner.Rings.{IsRing}
 use Rattle.access_closure.specs.Keyrings.{ArePeople}
 use Rattle.access_closure.proofs.Choosing.{IsMine, chooses_all, chooses_alone}
 use Rattle.access_closure.proofs.Edges.{has_map, has_place, map_has}
-use Rattle.access_closure.proofs.Found.{found_at, found_having, some_is}
+use Rattle.access_closure.proofs.Found.{found_at, found_having}
 use Rattle.access_closure.proofs.Meaning.{Chooses, IsOfRows, OneIsMember, sound, whole}
 use Rattle.access_closure.proofs.Spreading.{at_has}
 
@@ -65,10 +67,6 @@ each : {X : Type 0} (P : X → Type 0) (xs : List X) → AllByRecursion P xs →
 each P [] all x h = absurd h
 each P (y ∷ xs) all x (inl e) = subst P (sym e) all.0
 each P (y ∷ xs) all x (inr h) = each P xs all.1 x h
-
-some_there : {X : Type 0} (o : Option X) → IsTrue (is_some o) → (x : X) × (o ≡ Some x)
-some_there None e = absurd cc
-some_there (Some x) e = (x, refl)
 
 if_some : (P : List ℕ → Type 0) (o : Option (List ℕ)) (i : List ℕ) → o ≡ Some i → IfSome o P → P i
 if_some P None i e h = absurd cc

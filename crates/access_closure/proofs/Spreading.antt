@@ -4,31 +4,12 @@ use Rattle.std.specs.Prelude.{Option, Some, slice_get}
 use Rattle.std.proofs.lemmas.List.{length-set, get_or-set_same}
 use Rattle.std.proofs.lemmas.List.Sums.{sum_by-cons}
 use Rattle.std.proofs.lemmas.Bool.Decides.{nat_tests}
+use Rattle.std.proofs.lemmas.Bool.{cases_Bool as either, not-true as edge_back}
+use Rattle.base_lemmas.proofs.Bools.{not_both as apart, and_first as both_left, and_second as both_right}
 use Rattle.model.specs.Membership.{Has}
 use Rattle.access_closure.specs.declared.graph.Edge.{Edge}
 use Rattle.access_closure.specs.Places.{is_on}
 use Rattle.access_closure.specs.inner.Reached.{Closes, Reached, Works, any_moves, followed, moves, passed}
-
--- what holds by either value of a test
-pub either : (b : Bool) → (b ≡ true) ⊎ (b ≡ false)
-either true = inl refl
-either false = inr refl
-
-apart : (b : Bool) → b ≡ true → b ≡ false → ⊥
-apart true e f = cc
-apart false e f = cc
-
-both_left : (a b : Bool) → (a && b) ≡ true → a ≡ true
-both_left true b e = refl
-both_left false b e = absurd cc
-
-both_right : (a b : Bool) → (a && b) ≡ true → b ≡ true
-both_right true b e = e
-both_right false b e = absurd cc
-
-edge_back : (b : Bool) → not b ≡ true → b ≡ false
-edge_back true e = absurd cc
-edge_back false e = refl
 
 -- what is at a place of a list is in it
 pub at_has : {X : Type 0} (xs : List X) (n : ℕ) (x : X) → slice_get xs n ≡ Some x → Has xs x

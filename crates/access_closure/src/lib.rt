@@ -19,4 +19,4 @@ mod roles;
 pub use crate::keyring::Keyring;
 pub use crate::membership::Membership;
 pub use crate::people::People;
-pub use crate::reading::{Sharer, keyring_of, people_of};
+pub use crate::reading::{Sharer, keyring_of};

@@ -46,13 +46,8 @@ impl Sharer {
     }
 }
 
-/// The people of an organisation.
-///
-/// # Errors
-///
-/// `Keeper` if the keeper failed, `Memory` if out of memory, `Damaged` never if the organisation's rows stand for a tenant or
-/// for none.
-pub fn people_of<K: Keeper>(
+// The people of an organisation.
+fn people_of<K: Keeper>(
     alloc: Global,
     draft: &mut Draft<'_, K>,
     org: u32,

@@ -1,14 +1,11 @@
 -- One rule for each of several, in their order.
-use Rattle.std.proofs.Common.{◌≡◌, ◌∙◌, ◌<◌, ◌≤◌, ℕ, ◌+◌, suc, List, ◌∷◌, length, map, get_or, drop, sym, ap, None, subst, add-one, drop-cons}
+use Rattle.std.proofs.Common.{◌≡◌, ◌∙◌, ◌<◌, ◌≤◌, ℕ, ◌+◌, List, ◌∷◌, length, map, get_or, drop, sym, ap, None, subst}
 use Rattle.std.proofs.lemmas.List.{drop_all}
+use Rattle.base_lemmas.proofs.Lists.{drop-cons_read as rest_is}
 use Rattle.model.specs.Rules.{Rule, first_of, first_refusal}
 use Rattle.store_abstraction.specs.declared.fail.EditFail.{EditFail}
-use Rattle.access_rules.specs.inner.Judging.{FailsRule}
-use Rattle.access_rules.proofs.StepByStep.{fails_here}
-
--- the rest begins with this one
-pub rest_is : {X : Type 0} (xs : List X) (i : ℕ) (x : X) → i < length xs → x ≡ get_or xs i x → drop i xs ≡ x ∷ drop (i + 1) xs
-rest_is {X} xs i x in_list is = drop-cons xs i x in_list ∙ ap (λ (y : X). y ∷ drop (suc i) xs) (sym is) ∙ ap (λ (n : ℕ). x ∷ drop n xs) (sym (add-one i))
+use Rattle.store_edit.specs.Judging.{FailsRule}
+use Rattle.store_edit.proofs.StepByStep.{fails_here}
 
 module _ {X : Type 0} (rule : X → Rule) (xs : List X) (i : ℕ) (x : X) (in_list : i < length xs) (is : x ≡ get_or xs i x) where
   -- the first refusal of all is that of the rest; and it is this one's, where the rule on it fails

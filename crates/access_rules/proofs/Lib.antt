@@ -4,7 +4,6 @@ pub mod RuleTexts
 pub mod RuleReads
 pub mod Putting
 pub mod RuleGone
-pub mod StepByStep
 pub mod InTurn
 pub mod SpelledOnes
 pub mod NewRules

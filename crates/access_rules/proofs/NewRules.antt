@@ -3,8 +3,9 @@ use Rattle.std.proofs.Common.{◌≡◌, ◌∙◌, ℕ, suc, Bool, true, false,
 use Rattle.std.specs.Prelude.{Result, Err, nat_lt}
 use Rattle.std.specs.List.{list_any}
 use Rattle.std.specs.Option.{ok_or, option_and_then}
-use Rattle.formula_eval.specs.declared.formula.Formula.{Formula}
-use Rattle.formula_grammar.specs.Spelling.{formula_in, place_in}
+use Rattle.base_lemmas.proofs.Bools.{by_answer as pick}
+use Rattle.formula.specs.declared.formula.Formula.{Formula}
+use Rattle.formula.specs.grammar.Spelling.{formula_in, place_in}
 use Rattle.base_grammar.specs.Tokens.{byte_len}
 use Rattle.store_rows.specs.declared.org.OrgRow.{OrgRow}
 use Rattle.model.specs.declared.refusal.Refusal.TheVariants.{InvalidType, JobBusy}
@@ -30,12 +31,8 @@ use Rattle.store_abstraction.specs.Layouts.{job_on, job_place, layout_of}
 use Rattle.store_abstraction.specs.Metadata.{org_of}
 use Rattle.store_abstraction.specs.Plan.{OrgPlan}
 use Rattle.access_rules.specs.inner.Adding.{busy_by, detail_rule, formula_rule, id_rules, room_rule, rules_by, taken_rule, there_rules}
-use Rattle.access_rules.specs.inner.Judging.{FailsRule}
-use Rattle.access_rules.proofs.StepByStep.{fails_here, fails_next, none_next}
-
-pick : (b : Bool) (P : Bool → Type 0) → (b ≡ true → P true) → (b ≡ false → P false) → P b
-pick true P f g = f refl
-pick false P f g = g refl
+use Rattle.store_edit.specs.Judging.{FailsRule}
+use Rattle.store_edit.proofs.StepByStep.{fails_here, fails_next, none_next}
 
 -- ---- the fields of a layout
 

@@ -1,10 +1,13 @@
 -- A new sharing rule takes the organisation's row to the one with a rule and a number more, and puts its own.
-use Rattle.std.proofs.Common.{◌≡◌, ◌∙◌, ℕ, suc, ◌+◌, ◌<◌, ◌≤◌, ◌^◌, Bool, true, false, not, ◌&&◌, cond, IsTrue, List, [], ◌∷◌, length, map, Option, Some, None, refl, sym, ap, subst, arith, codes}
-use Rattle.std.specs.Prelude.{Err, IfErr, IsErrAnd, Ok, Result, is_some, nat_lt, slice_get}
+use Rattle.std.proofs.Common.{◌≡◌, ◌∙◌, ℕ, suc, ◌+◌, ◌<◌, ◌≤◌, ◌^◌, Bool, true, false, not, ◌&&◌, cond, IsTrue, List, [], ◌∷◌, length, map, Some, None, refl, sym, ap, subst, arith, codes}
+use Rattle.std.specs.Prelude.{Err, IfErr, IsErrAnd, Ok, Result, nat_lt, slice_get}
 use Rattle.std.specs.List.{AllByRecursion, enumerate_from, find, list_any}
 use Rattle.std.specs.Str.{IsUtf8}
 use Rattle.std.proofs.lemmas.Bool.Decides.{nat_tests}
 use Rattle.std.proofs.lemmas.Result.{IfErr-at_err}
+use Rattle.std.proofs.lemmas.Option.{same_Some as some_is}
+use Rattle.std.proofs.lemmas.Bool.{not-false as so, and_parts as both}
+use Rattle.base_lemmas.proofs.Options.{none_from_is_some as none_so}
 use Rattle.store_edit.proofs.Reading.{SameTables, TellsFirst, TellsThen, TwoReads, two_reads}
 use Rattle.store_edit.specs.Edits.{FailsBy, Takes}
 use Rattle.store_edit.specs.Naming.{NamesLayout}
@@ -51,16 +54,17 @@ use Rattle.store_abstraction.specs.Plan.{FitsPlan, OrgPlan}
 use Rattle.store_abstraction.specs.Records.{is_org_key}
 use Rattle.store_abstraction.specs.Stands.{row_in}
 use Rattle.store_abstraction.proofs.MetadataRows.{sound_object}
-use Rattle.store_abstraction.proofs.Spelled.{both, short_fits, stem_fits}
+use Rattle.store_abstraction.proofs.Spelled.{short_fits, stem_fits}
 use Rattle.access_rules.specs.declared.adding.NewRows.{NewRows}
 use Rattle.access_rules.specs.inner.Adding.{AddsTo, FitNewRows, IsSpelledRule, IsSpelledSource, busy_by, changes_of, id_rules, rules_by}
-use Rattle.access_rules.specs.inner.Judging.{FailsRule}
+use Rattle.store_edit.specs.Judging.{FailsRule}
 use Rattle.access_rules.specs.Sharing.{is_sharing_key}
 use Rattle.access_rules.proofs.NewRules.{rules_are}
-use Rattle.access_rules.proofs.Putting.{OrgLaws, SamePlan, beside, other_org, other_sharing, put_is_in, put_is_of}
+use Rattle.access_rules.proofs.Putting.{OrgLaws, SamePlan, other_sharing}
+use Rattle.store_edit.proofs.Putting.{beside, other_org, put_is_in, put_is_of}
 use Rattle.access_rules.proofs.RuleGone.{NamesFind}
 use Rattle.access_rules.proofs.SpelledOnes.{is_spelled_id, member_passes}
-use Rattle.access_rules.proofs.StepByStep.{accepted, rule_fails}
+use Rattle.store_edit.proofs.StepByStep.{accepted, rule_fails}
 
 -- ---- three calls in turn
 
@@ -76,9 +80,6 @@ module _ {K : Type 0} (state : K → KeeperState) where
       record { before = before; behind = two_reads state tells_first tells_then same b c d two three (tells_then 0 e a b d one before.first told) }
 
 -- ---- the object
-
-some_is : {A : Type 0} (x y : A) → ◌≡◌ {A = Option A} (Some x) (Some y) → x ≡ y
-some_is x y e = cc
 
 abbrev pair : ℕ × Object → Numbered
 pair o = record { number = o.0; object = o.1 }
@@ -156,14 +157,6 @@ all_pass (Some x ∷ rules) e = absurd cc
 unstopped : (a : Bool) (x : Refusal) → refuse_if a x ≡ None → a ≡ false
 unstopped true x e = absurd cc
 unstopped false x e = refl
-
-so : (a : Bool) → not a ≡ false → a ≡ true
-so true e = refl
-so false e = absurd cc
-
-none_so : {X : Type 0} (x : Option X) → is_some x ≡ false → x ≡ None
-none_so None e = refl
-none_so (Some x) e = absurd cc
 
 -- a text that spells a formula isn't too long
 short_text : (o : Object) (text : List ℕ) → malformed (formula_of o true text) ≡ None → length text ≤ 4000

@@ -4,6 +4,7 @@ use Rattle.std.specs.Prelude.{Ok, Result, is_some}
 use Rattle.std.specs.List.{AllByRecursion, list_any}
 use Rattle.std.specs.Option.{option_map}
 use Rattle.std.specs.Str.{IsUtf8}
+use Rattle.std.proofs.lemmas.Option.{same_Some as some_is}
 use Rattle.store_edit.specs.Edits.{Takes}
 use Rattle.store_edit.specs.Rows.{change_to}
 use Rattle.store_kv.specs.Tables.{Tables}
@@ -31,7 +32,8 @@ use Rattle.access_rules.specs.declared.removing.Remaining.{Remaining}
 use Rattle.access_rules.specs.inner.Removing.{FitsRemaining, changes_of, no_such_rule}
 use Rattle.access_rules.specs.inner.Rows.{key_of_name, own_sharing_row}
 use Rattle.access_rules.specs.Sharing.{is_sharing_key, without_rule}
-use Rattle.access_rules.proofs.Putting.{OrgLaws, SamePlan, beside, other_org, other_sharing, put_is_in, put_is_of}
+use Rattle.access_rules.proofs.Putting.{OrgLaws, SamePlan, other_sharing}
+use Rattle.store_edit.proofs.Putting.{beside, other_org, put_is_in, put_is_of}
 use Rattle.access_rules.proofs.SharingRows.{turned}
 
 -- what the laws of rows say of a rule that goes
@@ -144,9 +146,6 @@ gone_own org name x fits own = (
 )
 
 -- ---- the organisation's row
-
-some_is : {A : Type 0} (x y : A) → ◌≡◌ {A = Option A} (Some x) (Some y) → x ≡ y
-some_is x y e = cc
 
 pub row_is : (org : ℕ) (q : OrgPlan) (t : Tenant) (m : Tables) (r : Result OrgRow StoreFail) (row : OrgRow) → FindsThere org (own_row org) m r → r ≡ Ok row → StandsIn org q m (Some t) → row ≡ org_of org t
 row_is org q t m r row h was s = some_is row (org_of org t) (subst (FindsThere org (own_row org) m) was h q (Some t) s)

@@ -2,6 +2,9 @@
 use Rattle.std.proofs.Common.{◌≡◌, inl, inr, ℕ, ◌<◌, ◌^◌, cond, List, [], ◌∷◌, Option, Some, None, refl, sym, ap, subst, bytes_eq}
 use Rattle.std.specs.Option.{option_map}
 use Rattle.std.proofs.lemmas.Slice.Eq.{bytes_eq-Decides}
+use Rattle.base_lemmas.proofs.Options.{option_map-compose as map_twice}
+use Rattle.base_lemmas.proofs.Bools.{by_answer as pick}
+use Rattle.std.proofs.lemmas.Option.{same_Some as some_is}
 use Rattle.store_rows.specs.declared.sharing.SharingRow.{SharingRow}
 use Rattle.store_rows.specs.Forms.{row_bytes}
 use Rattle.store_rows.specs.Keys.{Sharing}
@@ -14,8 +17,7 @@ use Rattle.store_codec.specs.Shapes.{FitsIn}
 use Rattle.store_abstraction.specs.Metadata.{lower_bytes, named_so, sharing_of}
 use Rattle.store_abstraction.specs.Plan.{OrgPlan}
 use Rattle.store_abstraction.specs.Stands.{row_in}
-use Rattle.store_abstraction.proofs.Found.{IsRowOf, map_twice}
-use Rattle.store_abstraction.proofs.Lookups.{pick, some_is}
+use Rattle.store_abstraction.proofs.Found.{IsRowOf}
 use Rattle.store_abstraction.proofs.Names.{MakesIds}
 use Rattle.access_rules.proofs.SharingFits.{sharing_fits}
 

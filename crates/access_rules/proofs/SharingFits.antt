@@ -5,6 +5,7 @@ use Rattle.std.specs.List.{AllByRecursion, list_all}
 use Rattle.std.specs.Str.{all_scalars}
 use Rattle.std.proofs.lemmas.Bool.Decides.{nat_tests}
 use Rattle.std.proofs.lemmas.Option.{slice_get_within}
+use Rattle.std.proofs.lemmas.Bool.{and_parts as both}
 use Rattle.base_value.specs.Id.{is_digit62, is_id}
 use Rattle.base_value.specs.declared.job.RuleState.{RuleState}
 use Rattle.base_value.specs.declared.sharing.Level.{Level}
@@ -30,7 +31,7 @@ use Rattle.model.specs.World.{group_prefix, having_id, role_prefix, user_id, use
 use Rattle.store_abstraction.specs.Metadata.{sharing_of, source_part}
 use Rattle.store_abstraction.proofs.Found.{found_with_id}
 use Rattle.store_abstraction.proofs.Names.{MakesIds, drawn_is_id}
-use Rattle.store_abstraction.proofs.Spelled.{both, cursor_is_id, short_fits, stem_bytes, stem_fits}
+use Rattle.store_abstraction.proofs.Spelled.{cursor_is_id, short_fits, stem_bytes, stem_fits}
 
 pub of_each : {X : Type 0} (P : X → Type 0) (xs : List X) → AllByRecursion P xs → (x : X) → Has xs x → P x
 of_each P [] all x h = absurd h

@@ -1,5 +1,5 @@
 -- The rows of sharing rules: those that stay where one comes or goes, and its own.
-use Rattle.std.proofs.Common.{◌≡◌, ◌∙◌, inl, inr, ℕ, ◌+◌, Bool, true, false, not, ◌||◌, cond, is_lt, List, [], ◌∷◌, length, map, filter, Option, Some, None, refl, sym, ap, subst, arith, bytes_eq, ◌&&◌}
+use Rattle.std.proofs.Common.{◌≡◌, ◌∙◌, inl, inr, ℕ, ◌+◌, Bool, true, false, not, ◌||◌, cond, is_lt, List, [], ◌∷◌, length, map, filter, Option, Some, None, refl, sym, ap, subst, arith, bytes_eq}
 use Rattle.std.specs.Prelude.{T, is_some, encode_utf8_all}
 use Rattle.std.specs.List.{find, list_any}
 use Rattle.std.specs.Option.{option_map}
@@ -12,6 +12,8 @@ use Rattle.std.specs.Str.{IsUtf8}
 use Rattle.std.proofs.lemmas.Cmp.{nat_list_cmp_total, tied_itself}
 use Rattle.std.proofs.lemmas.Slice.Eq.{bytes_eq-Decides}
 use Rattle.std.proofs.lemmas.Str.{chars_from_encodes}
+use Rattle.std.proofs.lemmas.Bool.{true≢false as clash}
+use Rattle.base_lemmas.proofs.Bools.{by_answer as pick, same_both_ways as agree, T-and_first as t_first, T-and_second as t_second, true_from_T as t_true}
 use Rattle.base_value.specs.Texts.{lower}
 use Rattle.store_rows.specs.Forms.{row_bytes}
 use Rattle.store_rows.specs.Keys as key
@@ -28,13 +30,6 @@ use Rattle.store_abstraction.specs.Plan.{OrgPlan}
 use Rattle.store_abstraction.specs.Records.{is_org_key}
 use Rattle.store_abstraction.specs.Stands.{kept_at, row_in}
 use Rattle.access_rules.specs.Sharing.{is_sharing_key, without_rule}
-
-pick : (b : Bool) (P : Bool → Type 0) → (b ≡ true → P true) → (b ≡ false → P false) → P b
-pick true P f g = f refl
-pick false P f g = g refl
-
-clash : true ≡ false → ⊥
-clash e = cc
 
 -- ---- what is looked for in a list
 
@@ -100,12 +95,6 @@ lower_one a b u e = chars_from_encodes (lower a) (lower_bytes b) u e ∙ sym (ch
 same_names : (x name : List ℕ) → same_name x name ≡ true → lower_bytes x ≡ lower_bytes name
 same_names x name h = ap encode_utf8_all ((bytes_eq-Decides (lower x) (lower name)).0 h)
 
--- two tests of the same
-agree : (a b : Bool) → (a ≡ true → b ≡ true) → (b ≡ true → a ≡ true) → a ≡ b
-agree true b f g = sym (f refl)
-agree false true f g = g refl
-agree false false f g = refl
-
 -- a name is found by its bytes exactly if it is the name
 bytes_are : (x name : List ℕ) → IsUtf8 (lower_bytes name) → bytes_eq (lower_bytes x) (lower_bytes name) ≡ same_name name x
 bytes_are x name u =
@@ -139,18 +128,6 @@ gone name u (r ∷ rules) =
     refl
 
 -- ---- one rule less
-
-t_first : (a b : Bool) → T (a && b) → T a
-t_first true b h = tt
-t_first false b h = absurd h
-
-t_second : (a b : Bool) → T (a && b) → T b
-t_second true b h = h
-t_second false b h = absurd h
-
-t_true : (a : Bool) → T a → a ≡ true
-t_true true h = refl
-t_true false h = absurd h
 
 abbrev named : List SharingRule → List (List ℕ × SharingRule)
 named rules = map (λ (r : SharingRule). (r.name, r)) rules

@@ -5,12 +5,12 @@ ghost use Rattle.model.specs.RuleFormulas.{formula_of, is_copy, malformed};
 ghost use Rattle.model.specs.Rules.{first_refusal};
 ghost use Rattle.schema_rules.specs.Objects.{object_of_layout};
 ghost use Rattle.access_rules.specs.inner.Adding.{busy_by, formula_rule};
-ghost use Rattle.access_rules.specs.inner.Judging.{Passes};
+ghost use Rattle.store_edit.specs.Judging.{Passes};
 ghost use Rattle.store_abstraction.specs.Calls.{ended_edit, fell};
 
 use base_grammar::ParseFail;
 use base_value::{Phase, Text};
-use formula_eval::Formula;
+use formula::Formula;
 use model::{Refusal, SpelledSource};
 use schema_rules::{names_field, read_formula};
 use std::alloc::{AllocError, Global};

@@ -8,7 +8,7 @@ ghost use Rattle.model.specs.Names.{bad_name, is_stem};
 ghost use Rattle.model.specs.Rules.{first_refusal};
 ghost use Rattle.model.specs.Tenant.{Tenant};
 ghost use Rattle.access_rules.specs.inner.Adding.{HasRoom, detail_rule, room_rule, rules_by, taken_rule};
-ghost use Rattle.access_rules.specs.inner.Judging.{Passes};
+ghost use Rattle.store_edit.specs.Judging.{Passes};
 ghost use Rattle.store_abstraction.specs.Calls.{Calls, ended_edit, fell};
 ghost use Rattle.store_abstraction.specs.Local.{StandsIn};
 ghost use Rattle.store_abstraction.specs.Plan.{OrgPlan};

@@ -1,7 +1,7 @@
 //! Sharing rules: their rows, and the edits that add and remove them.
 //!
-//! It depends on `store_abstraction` and `store_edit`. Its contract: each edit is that of `Edit`, by its verdict; its laws say which rows
-//! stay where a rule comes or goes; and it tells whether a principal is there.
+//! It depends on `store_abstraction` and `store_edit`. Its contract: each edit is that of `Edit`, by its verdict; and its laws say which
+//! rows stay where a rule comes or goes.
 #![tactic(auto)]
 
 mod adding;
@@ -16,5 +16,4 @@ mod spelled;
 
 pub use crate::adding::AddSharingRule;
 pub use crate::laws::sharing_laws;
-pub use crate::principals::principal_there;
 pub use crate::removing::RemoveSharingRule;

@@ -7,7 +7,7 @@ ghost use Rattle.model.specs.Principals.{bad_id, not_there, principal_of};
 ghost use Rattle.model.specs.Rules.{in_body_order, rule_of};
 ghost use Rattle.model.specs.Tenant.{Tenant};
 ghost use Rattle.access_rules.specs.inner.Adding.{id_rules, there_rules};
-ghost use Rattle.access_rules.specs.inner.Judging.{Passes};
+ghost use Rattle.store_edit.specs.Judging.{Passes};
 ghost use Rattle.store_abstraction.specs.Calls.{Calls, ended_edit, fell};
 ghost use Rattle.store_abstraction.specs.Local.{StandsIn};
 ghost use Rattle.store_abstraction.specs.Plan.{OrgPlan};

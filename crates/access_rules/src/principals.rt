@@ -20,7 +20,7 @@ use store_rows::StoreFail;
 ///
 /// `Keeper` if the keeper failed, `Memory` if out of memory, `Damaged` never if the organisation's rows stand for a tenant or
 /// for none.
-pub fn principal_there<K: Keeper>(
+pub(crate) fn principal_there<K: Keeper>(
     alloc: Global,
     draft: &mut Draft<'_, K>,
     org: u32,

@@ -10,7 +10,7 @@ ghost use Rattle.model.specs.SharingRules.{remove_sharing_rule};
 ghost use Rattle.model.specs.Tenant.{Tenant};
 ghost use Rattle.model.specs.Verdict.{done};
 ghost use Rattle.store_codec.specs.Shapes.{FitsIn};
-ghost use Rattle.access_rules.specs.inner.Judging.{Passes};
+ghost use Rattle.store_edit.specs.Judging.{Passes};
 ghost use Rattle.access_rules.specs.inner.Removing.{FitsRemaining, IsRemaining, changes_of, no_such_rule};
 ghost use Rattle.store_abstraction.specs.Calls.{Calls, ended_edit};
 ghost use Rattle.store_abstraction.specs.Fails.{of_store};

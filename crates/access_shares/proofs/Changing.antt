@@ -1,7 +1,10 @@
 -- A share that comes or ends takes the organisation's rows to those with it or without it.
-use Rattle.std.proofs.Common.{◌≡◌, ◌∙◌, ◌<◌, ◌^◌, ℕ, Bool, true, false, ◌&&◌, eqb, [], ◌∷◌, Option, Some, None, refl, sym, ap, subst, bytes_eq}
+use Rattle.std.proofs.Common.{◌≡◌, ◌∙◌, ◌<◌, ◌^◌, ℕ, Bool, true, false, ◌&&◌, eqb, [], ◌∷◌, Some, None, refl, sym, ap, subst, bytes_eq}
 use Rattle.std.specs.List.{AllByRecursion}
 use Rattle.std.proofs.lemmas.Slice.Eq.{bytes_eq-Decides}
+use Rattle.std.proofs.lemmas.Bool.{and_from as both_true, true≢false as true_false}
+use Rattle.base_lemmas.proofs.Options.{eqb-same_Some as own_number}
+use Rattle.base_lemmas.proofs.Bools.{and_second_false as both_false}
 use Rattle.store_edit.specs.Edits.{Takes}
 use Rattle.store_edit.specs.Rows.{change_to}
 use Rattle.store_rows.specs.declared.share.ShareRow.{ShareRow}
@@ -12,12 +15,11 @@ use Rattle.store_rows.specs.Rows.{share_form}
 use Rattle.model.specs.Sound.{IsSound}
 use Rattle.model.specs.Tenant.{Share, Tenant}
 use Rattle.model.specs.Verdict.{Verdict, accept, done}
-use Rattle.record_target.proofs.Facts.{both_false, eqb_same, some_is, true_false}
 use Rattle.record_target.proofs.SharePlaces.{SamePrincipals, one_place}
 use Rattle.store_codec.specs.Composed.{principal}
 use Rattle.people_edit.proofs.Changing.{changed_takes}
 use Rattle.people_edit.proofs.Joining.{SamePlan}
-use Rattle.people_edit.proofs.Putting.{beside}
+use Rattle.store_edit.proofs.Putting.{beside}
 use Rattle.people_rows.proofs.People.{same_plan}
 use Rattle.store_abstraction.specs.Changes.{Change}
 use Rattle.store_abstraction.specs.Local.{IsIn}
@@ -29,13 +31,6 @@ use Rattle.access_shares.specs.declared.unsharing.NamedShare.{NamedShare}
 use Rattle.access_shares.specs.inner.Accepting.{FitsNamedShare, share_named, shared_in, unshared_in}
 use Rattle.access_shares.specs.Shares.{is_share_key}
 use Rattle.access_shares.proofs.ShareRows.{no_share_rest, share_rest, shared, unshared}
-
-both_true : (b c : Bool) → b ≡ true → c ≡ true → (b && c) ≡ true
-both_true true c e f = f
-both_true false c e f = absurd cc
-
-own_number : (m org : ℕ) → ◌≡◌ {A = Option ℕ} (Some m) (Some org) → eqb m org ≡ true
-own_number m org e = ap (λ (x : ℕ). eqb x org) (some_is m org e) ∙ eqb_same org
 
 -- another key of the organisation is that of another share, or of none
 other_share : SamePrincipals → (org : ℕ) (s : Share) (k : Key) → org_of_key k ≡ Some org → key_eq k (key.Share org s.item s.to) ≡ false → is_share_key s k ≡ false

@@ -2,16 +2,16 @@
 use Rattle.std.proofs.Common.{◌≡◌, ◌∙◌, ◌+◌, ℕ, suc, Bool, true, false, not, ◌||◌, cond, List, [], ◌∷◌, length, map, filter, add-one, refl, sym, ap, arith, bytes_eq}
 use Rattle.std.specs.List.{list_any}
 use Rattle.std.specs.declared.cmp.Ordering.{Ordering}
-use Rattle.std.specs.declared.cmp.Ordering.TheVariants.{Less, Equal, Greater}
 use Rattle.std.specs.Ordering.{eq_by_cmp, is_eq, is_lt, nat_cmp, ordering_then}
 use Rattle.std.specs.Cmp.Lexicographic.{slice_cmp}
 use Rattle.std.proofs.lemmas.Map.Text.{is_eq-slice_cmp}
 use Rattle.std.proofs.lemmas.Slice.Eq.{bytes_eq-Decides}
+use Rattle.base_lemmas.proofs.Orders.{equal_from_is_eq as is_equal}
+use Rattle.std.proofs.lemmas.Bool.{true≢false as true_false}
 use Rattle.store_rows.specs.declared.share.ShareRow.{ShareRow}
 use Rattle.model.specs.Ordered.{put_in}
 use Rattle.model.specs.Shares.{same_share, share_cmp, shares_of, with_share, without_share}
 use Rattle.model.specs.Tenant.{Share}
-use Rattle.record_target.proofs.Facts.{true_false}
 use Rattle.record_target.proofs.SharePlaces.{SamePrincipals, one_place}
 use Rattle.store_abstraction.specs.Metadata.{row_of_share}
 use Rattle.base_value.specs.Principals.{principal_cmp}
@@ -32,11 +32,6 @@ put_count {X} order q s (y ∷ ys) e = by (put_count order q s ys e) (is_lt (ord
         → length (filter q (cond b (s ∷ y ∷ ys) (y ∷ put_in order s ys))) ≡ length (filter q (y ∷ ys)) + 1
     by rest true = ap (λ (c : Bool). length (cond c (s ∷ filter q (y ∷ ys)) (filter q (y ∷ ys)))) e ∙ sym (add-one (length (filter q (y ∷ ys))))
     by rest false = later rest (q y)
-
-is_equal : (o : Ordering) → is_eq o ≡ true → o ≡ Equal
-is_equal Less e = absurd cc
-is_equal Equal e = refl
-is_equal Greater e = absurd cc
 
 module _ (same : SamePrincipals) (org : ℕ) (s : Share) where
   abbrev of_it : Share → Bool

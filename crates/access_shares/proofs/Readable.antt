@@ -3,6 +3,9 @@ use Rattle.std.proofs.Common.{◌≡◌, ◌∙◌, ℕ, ◌<◌, Bool, true, fa
 use Rattle.std.specs.List.{list_any}
 use Rattle.std.specs.Option.{option_and_then, option_map}
 use Rattle.std.specs.Prelude.{Err, Ok, Result}
+use Rattle.base_lemmas.proofs.Numbers.{eqb-self as eqb_same}
+use Rattle.base_lemmas.proofs.Bools.{by_answer as pick}
+use Rattle.std.proofs.lemmas.Option.{same_Some as some_is}
 use Rattle.record_read.proofs.Sound.{sound_record}
 use Rattle.record_read.proofs.Standing.{found_id}
 use Rattle.store_kv.specs.Draft.{Held}
@@ -23,7 +26,6 @@ use Rattle.model.specs.Shares.{detail_refused}
 use Rattle.model.specs.Sound.{IsSound}
 use Rattle.model.specs.SoundMetadata.{masters}
 use Rattle.model.specs.Tenant.{Field, Object, Tenant}
-use Rattle.record_target.proofs.Facts.{eqb_same, pick, some_is}
 use Rattle.access_traits.specs.Rights.{FindsFor, Whose, level_there}
 use Rattle.store_abstraction.specs.Calls.{Calls, ended, ended_edit}
 use Rattle.store_abstraction.specs.declared.fail.EditFail.{EditFail}
@@ -35,7 +37,7 @@ use Rattle.store_abstraction.specs.Plan.{OrgPlan}
 use Rattle.store_abstraction.proofs.MetadataRows.{sound_object}
 use Rattle.base_value.specs.declared.sharing.Level.{Level}
 use Rattle.base_value.specs.declared.sharing.Level.TheVariants.{Nothing, Read}
-use Rattle.people_edit.specs.inner.Judging.{FailsRule}
+use Rattle.store_edit.specs.Judging.{FailsRule}
 use Rattle.access_shares.specs.inner.Finding.{FindsLevel, readable_or_none}
 
 -- ---- the level

@@ -16,8 +16,8 @@ use Rattle.store_abstraction.specs.declared.fail.EditFail.{EditFail}
 use Rattle.store_abstraction.specs.declared.fail.EditFail.TheVariants.{Refused, Store}
 use Rattle.base_value.specs.declared.sharing.Level.{Level}
 use Rattle.base_value.specs.declared.sharing.Level.TheVariants.{Full}
-use Rattle.people_edit.specs.inner.Judging.{FailsRule, Passes}
-use Rattle.people_edit.proofs.Judging.{fails_here, rule_fails, second_fails}
+use Rattle.store_edit.specs.Judging.{FailsRule, Passes}
+use Rattle.store_edit.proofs.StepByStep.{fails_here, rule_fails, second_fails}
 use Rattle.access_shares.specs.inner.Finding.{FindsLevel, FindsShareable, IsLevelOn}
 
 module _ (a : Asked) (id : List ℕ) where

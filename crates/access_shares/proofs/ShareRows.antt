@@ -5,8 +5,8 @@ use Rattle.std.specs.declared.cmp.Ordering.{Ordering}
 use Rattle.std.specs.declared.cmp.Ordering.TheVariants.{Less, Equal, Greater}
 use Rattle.std.specs.Ordering.{is_eq, is_lt, nat_cmp, ordering_then}
 use Rattle.std.specs.Cmp.Lexicographic.{slice_cmp}
-use Rattle.std.proofs.lemmas.Map.Text.{is_eq-slice_cmp}
-use Rattle.std.proofs.lemmas.Slice.Eq.{bytes_eq-Decides}
+use Rattle.base_lemmas.proofs.Lists.{is_eq-slice_cmp_self as ids_same}
+use Rattle.std.proofs.lemmas.Bool.{true≢false as true_false}
 use Rattle.base_value.specs.Principals.{principal_cmp}
 use Rattle.base_value.specs.declared.sharing.Level.TheVariants.{Read}
 use Rattle.base_value.specs.declared.sharing.Principal.{Principal}
@@ -20,7 +20,6 @@ use Rattle.model.specs.Tenant.{Share, Tenant}
 use Rattle.store_abstraction.specs.Metadata.{row_of_share}
 use Rattle.store_abstraction.specs.Plan.{OrgPlan}
 use Rattle.store_abstraction.specs.Stands.{kept_at, row_in}
-use Rattle.record_target.proofs.Facts.{true_false}
 use Rattle.record_target.proofs.SharePlaces.{SamePrincipals, one_place}
 use Rattle.access_shares.specs.Shares.{is_share_key}
 
@@ -74,9 +73,6 @@ then_same : (a b : Ordering) → is_eq a ≡ true → is_eq b ≡ true → is_eq
 then_same Less b e f = absurd cc
 then_same Equal b e f = f
 then_same Greater b e f = absurd cc
-
-ids_same : (i : List ℕ) → is_eq (slice_cmp nat_cmp i i) ≡ true
-ids_same i = is_eq-slice_cmp i i ∙ (bytes_eq-Decides i i).1 refl
 
 module _ (same : SamePrincipals) where
   pub is_same : (a b : Share) → a.item ≡ b.item → a.to ≡ b.to → same_share a b ≡ true

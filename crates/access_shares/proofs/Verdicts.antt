@@ -23,8 +23,8 @@ use Rattle.store_abstraction.specs.declared.fail.EditFail.{EditFail}
 use Rattle.store_abstraction.proofs.Names.{MakesIds}
 use Rattle.base_value.specs.declared.sharing.Level.TheVariants.{Full}
 use Rattle.base_value.specs.declared.sharing.Principal.{Principal}
-use Rattle.people_edit.specs.inner.Judging.{FailsRule, Passes}
-use Rattle.people_edit.proofs.Judging.{accepted, four_pass, fourth_fails, none_next, rule_fails, third_fails}
+use Rattle.store_edit.specs.Judging.{FailsRule, Passes}
+use Rattle.store_edit.proofs.StepByStep.{accepted, four_pass, fourth_fails, none_next, rule_fails, third_fails}
 use Rattle.access_shares.specs.declared.unsharing.NamedShare.{NamedShare}
 use Rattle.access_shares.specs.inner.Accepting.{AcceptsEnd, AcceptsShare, IsNamedBy, end_verdict, share_named, shared_in, unshared_in}
 use Rattle.access_shares.specs.inner.Finding.{FindsShareable, IsShareable, NamesItem, member_rules}

@@ -9,7 +9,7 @@ ghost use Rattle.model.specs.declared.refusal.Refusal.TheVariants.{InvalidRefere
 ghost use Rattle.model.specs.Rules.{over_limit, refuse_if};
 ghost use Rattle.model.specs.Shares.{same_share, shares_of, with_share};
 ghost use Rattle.model.specs.Tenant.{Share, Tenant};
-ghost use Rattle.people_edit.specs.inner.Judging.{Passes};
+ghost use Rattle.store_edit.specs.Judging.{Passes};
 ghost use Rattle.store_abstraction.specs.Calls.{Calls, ended_edit, fell};
 ghost use Rattle.store_abstraction.specs.Local.{StandsIn};
 ghost use Rattle.store_abstraction.specs.Plan.{OrgPlan};

@@ -7,7 +7,7 @@ ghost use Rattle.model.specs.declared.refusal.Refusal.TheVariants.{InvalidRefere
 ghost use Rattle.model.specs.Principals.{is_there, not_there, principal_of};
 ghost use Rattle.model.specs.Tenant.{Tenant};
 ghost use Rattle.store_codec.specs.Composed.{FitsPrincipal};
-ghost use Rattle.people_edit.specs.inner.Judging.{Passes};
+ghost use Rattle.store_edit.specs.Judging.{Passes};
 ghost use Rattle.store_abstraction.specs.Calls.{Calls, ended, ended_edit};
 ghost use Rattle.store_abstraction.specs.Local.{FindsIn, StandsIn};
 ghost use Rattle.store_abstraction.specs.Plan.{OrgPlan};

@@ -11,7 +11,7 @@ ghost use Rattle.model.specs.Paths.{Asked};
 ghost use Rattle.model.specs.Rules.{refuse_if};
 ghost use Rattle.model.specs.Shares.{detail_refused};
 ghost use Rattle.model.specs.Tenant.{Tenant};
-ghost use Rattle.people_edit.specs.inner.Judging.{Passes};
+ghost use Rattle.store_edit.specs.Judging.{Passes};
 ghost use Rattle.access_traits.specs.Rights.{level_shown};
 ghost use Rattle.access_shares.specs.inner.Finding.{FindsLevel, FindsShareable, readable_or_none};
 ghost use Rattle.store_abstraction.specs.Calls.{Calls, ended_edit, fell};

@@ -5,7 +5,7 @@ ghost use Rattle.std.specs.Str.{chars};
 ghost use Rattle.model.specs.Principals.{bad_id, kind_of, principal_of, spelled_id};
 ghost use Rattle.model.specs.Rules.{in_body_order, rule_of};
 ghost use Rattle.store_codec.specs.Composed.{FitsPrincipal};
-ghost use Rattle.people_edit.specs.inner.Judging.{Passes};
+ghost use Rattle.store_edit.specs.Judging.{Passes};
 ghost use Rattle.access_shares.specs.inner.Finding.{NamesItem, member_rules};
 ghost use Rattle.store_abstraction.specs.Calls.{ended_edit, fell};
 ghost use Rattle.base_value.specs.Id.{id_in, is_id};

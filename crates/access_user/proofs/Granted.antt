@@ -1,7 +1,7 @@
 -- What is read of a user's keyring and of the organisation's rules are the user's rights.
 use Rattle.std.proofs.Common.{◌≡◌, ℕ, false, List, map, Some, sym, subst}
 use Rattle.access_closure.specs.Reading.{IsSharer}
-use Rattle.access_level.specs.Own.{IsSharerOf}
+use Rattle.access_user.specs.level.Own.{IsSharerOf}
 use Rattle.model.specs.Sound.{IsSound}
 use Rattle.model.specs.SoundPeople.{IsSoundUser}
 use Rattle.model.specs.Known.{known}

@@ -3,6 +3,7 @@ use Rattle.std.proofs.Common.{◌≡◌, ℕ, suc, ◌+◌, ◌≤◌, Bool, tru
 use Rattle.std.specs.Prelude.{Result, Ok, Err}
 use Rattle.std.specs.List.{enumerate_from}
 use Rattle.std.proofs.lemmas.Bool.{eqb-true}
+use Rattle.std.proofs.lemmas.Option.{same_Some as some_is}
 use Rattle.record_read.proofs.Rising.{has_filter}
 use Rattle.record_read.proofs.Standing.{found_of}
 use Rattle.store_kv.specs.Tables.{Tables}
@@ -10,8 +11,8 @@ use Rattle.store_kv.specs.declared.keeper.KeptRow.{KeptRow}
 use Rattle.store_rows.specs.Fails.{of_codec}
 use Rattle.store_rows.specs.declared.fail.StoreFail.{StoreFail}
 use Rattle.store_rows.specs.declared.fail.StoreFail.TheVariants.{Damaged, Keeper, Memory}
-use Rattle.access_level.specs.Own.{IsOwnLevels}
-use Rattle.access_level.specs.declared.knowing.OwnLevels.{OwnLevels}
+use Rattle.access_user.specs.level.Own.{IsOwnLevels}
+use Rattle.access_user.specs.declared.level.knowing.OwnLevels.{OwnLevels}
 use Rattle.model.specs.declared.record.Record.{Record}
 use Rattle.model.specs.Cases.{in_case}
 use Rattle.model.specs.Known.{known}
@@ -29,7 +30,6 @@ use Rattle.store_abstraction.specs.declared.layout.Layout.{Layout}
 use Rattle.store_abstraction.specs.Layouts.{FindsOf, IsLayout, own_layout, place_of}
 use Rattle.store_abstraction.specs.Local.{FindsIn, StandsIn}
 use Rattle.store_abstraction.specs.Plan.{OrgPlan}
-use Rattle.store_abstraction.proofs.Lookups.{some_is}
 use Rattle.store_abstraction.proofs.MetadataRows.{sound_object}
 use Rattle.store_abstraction.proofs.Placed.{no_records}
 use Rattle.base_value.specs.declared.sharing.Level.{Level}
@@ -44,7 +44,7 @@ use Rattle.access_user.specs.inner.Judging.{MayLook, is_readable}
 use Rattle.access_user.specs.inner.Steps.{Fact, Leads, TellsWhere, end_of}
 use Rattle.access_user.proofs.Climbed.{as_whole, deep, ends_topmost, may_step, readable_all, reads_alike}
 use Rattle.access_user.proofs.Layouts.{layout_is, none_is, read_is}
-use Rattle.access_rule_rows.proofs.SharingFits.{all_has}
+use Rattle.people_rows.proofs.SharingFits.{all_has}
 use Rattle.access_user.proofs.Stepping.{FailsWhere, MayStep}
 
 -- ---- what a tenant's layout and records are

@@ -1,13 +1,13 @@
 -- The object of a layout.
 use Rattle.std.proofs.Common.{◌≡◌, ℕ, Option, Some, None, refl, sym, ap, subst}
 use Rattle.std.specs.Option.{option_map}
+use Rattle.std.proofs.lemmas.Option.{same_Some as some_is}
 use Rattle.model.specs.Objects.{object_numbered}
 use Rattle.model.specs.Tenant as model
 use Rattle.model.specs.Tenant.{Tenant}
 use Rattle.store_abstraction.specs.declared.layout.Layout.{Layout}
 use Rattle.store_abstraction.specs.Layouts.{IsLayout, layout_of, own_layout}
 use Rattle.store_abstraction.specs.Plan.{OrgPlan}
-use Rattle.store_abstraction.proofs.Lookups.{some_is}
 
 pub record IsOf (q : OrgPlan) (t : Tenant) (l : Layout) : Type 0 where
   pub object : model.Object

@@ -1,3 +1,9 @@
+pub mod Listed
+pub mod Owners
+pub mod OfRows
+pub mod Greatest
+pub mod Covered
+pub mod Whole
 pub mod ManyShares
 pub mod Layouts
 pub mod Masters

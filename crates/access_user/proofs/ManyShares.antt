@@ -1,12 +1,14 @@
 -- The rows of all manual shares of an organisation, and whether there are any.
-use Rattle.std.proofs.Common.{◌≡◌, ◌∙◌, ℕ, suc, ◌<◌, ◌^◌, ◌==◌, eqb, Bool, true, false, not, cond, T, IsTrue, List, [], ◌∷◌, ◌++◌, length, map, take, Option, Some, None, is_some, refl, sym, ap, subst, inl, inr, arith, is_lt, Equal, Ordering, bytes_eq}
+use Rattle.std.proofs.Common.{◌≡◌, ◌∙◌, ℕ, suc, ◌<◌, ◌^◌, ◌==◌, eqb, Bool, true, false, not, cond, T, IsTrue, List, [], ◌∷◌, ◌++◌, length, map, take, Option, Some, None, is_some, refl, sym, ap, subst, inl, inr, arith, is_lt, Ordering, bytes_eq}
 use Rattle.std.specs.Prelude.{◌-◌, IsSome, Result, Ok, Err, Vec, slice_index}
-use Rattle.std.specs.Cmp.{nat_cmp_total}
 use Rattle.std.specs.FinMap.{is_sorted}
 use Rattle.std.specs.FinMap.Entries.{below_all}
-use Rattle.std.specs.Ordering.{nat_cmp, ordering_then}
+use Rattle.std.specs.Ordering.{ordering_then}
 use Rattle.std.proofs.lemmas.Bool.{eqb-true}
-use Rattle.std.proofs.lemmas.Cmp.{tied_itself}
+use Rattle.base_lemmas.proofs.Orders.{nat_cmp-self as tied}
+use Rattle.base_lemmas.proofs.Options.{some_from_IsSome as some_of}
+use Rattle.base_lemmas.proofs.Bools.{T-and_from as t_both, T-and_first as t_left, T-and_second as t_right, by_answer as pick}
+use Rattle.base_lemmas.proofs.Texts.{bytes_eq-self as same_text}
 use Rattle.record_read.proofs.RecordFits.{record_is_id}
 use Rattle.record_read.proofs.Standing.{found_id}
 use Rattle.store_kv.specs.Draft.{Held}
@@ -32,8 +34,7 @@ use Rattle.model.specs.Shares.{share_cmp, shares_of}
 use Rattle.model.specs.Sound.{IsSound}
 use Rattle.model.specs.SoundSharing.{IsSoundShare}
 use Rattle.model.specs.Tenant.{Share, Tenant}
-use Rattle.record_target.proofs.Among.{all_at, among_kept, kept_among, t_both, t_left, t_right}
-use Rattle.record_target.proofs.Facts.{same_text}
+use Rattle.record_target.proofs.Among.{all_at, among_kept, kept_among}
 use Rattle.record_target.proofs.ListedShares.{KeyLaws, prefix_of, shares_listed}
 use Rattle.record_target.proofs.PagedShares.{ReadLaws}
 use Rattle.store_codec.specs.Plain.{number32, number8}
@@ -42,7 +43,6 @@ use Rattle.store_abstraction.specs.Calls.{Calls, ended}
 use Rattle.store_abstraction.specs.Local.{FindsIn, StandsIn, is_own, part_of, rows_alone}
 use Rattle.store_abstraction.specs.Metadata.{row_of_share}
 use Rattle.store_abstraction.specs.Plan.{OrgPlan}
-use Rattle.store_abstraction.proofs.Lookups.{pick}
 use Rattle.store_abstraction.proofs.MetadataLists.{PrefixEnds}
 use Rattle.store_abstraction.proofs.Pages.{GivesRows, page_gives}
 use Rattle.base_value.specs.Id.{is_id}
@@ -79,19 +79,12 @@ under_org org = number32 org ++ 0 ∷ []
 abbrev key_at : (org : ℕ) → Share → List ℕ
 key_at org s = spelled share_form.key (org, (tt, (s.item, s.to)))
 
-tied : (n : ℕ) → nat_cmp n n ≡ Equal
-tied n = tied_itself nat_cmp_total n
-
 -- the key of a grant doesn't begin so
 marks_apart : (org other : ℕ) (rest more : List ℕ) → number32 other ++ (number8 1 ++ more) ≡ (number32 org ++ 0 ∷ []) ++ rest → ⊥
 unfolding number32
 marks_apart org other rest more e =
     let wrong : 1 ≡ 0 = ap (λ (bytes : List ℕ). slice_index bytes 4) e in
     omega (arith, wrong)
-
-some_of : {X : Type 0} (o : Option X) → IsSome o → (x : X) × (o ≡ Some x)
-some_of None h = absurd cc
-some_of (Some x) h = (x, refl)
 
 row_has : (org : ℕ) (ss : List Share) (u : ShareRow) → HasRow (map (row_of_share org) ss) u → (s : Share) × Has ss s × (u ≡ row_of_share org s)
 row_has org [] u h = absurd h

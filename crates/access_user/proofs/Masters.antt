@@ -1,13 +1,17 @@
 -- An object's first Master field, in the model and in its layout, and the master of a sound tenant's record.
-use Rattle.std.proofs.Common.{◌≡◌, ℕ, zero, suc, ◌+◌, ◌<◌, Bool, true, false, bytes_eq, not, ◌&&◌, cond, eqb, List, [], ◌∷◌, ◌++◌, length, map, Option, Some, None, is_some, refl, sym, ap, subst, ◌∙◌, inl, inr, arith}
+use Rattle.std.proofs.Common.{◌≡◌, ℕ, zero, suc, ◌+◌, ◌<◌, Bool, true, false, bytes_eq, not, ◌&&◌, cond, eqb, List, [], ◌∷◌, ◌++◌, length, map, Option, Some, None, is_some, refl, sym, ap, subst, ◌∙◌, inl, inr, arith, ne_eqb as apart}
 use Rattle.std.specs.Prelude.{◌==◌, ◌⊎◌, nat_lt, slice_get}
 use Rattle.std.specs.List.{enumerate_from, find, flat_map, list_all}
 use Rattle.std.specs.Option.{option_and_then, option_map}
 use Rattle.std.proofs.lemmas.Bool.{eqb-true}
 use Rattle.std.proofs.lemmas.Bool.Decides.{nat_tests}
+use Rattle.base_lemmas.proofs.Bools.{and_second as right, by_answer as pick}
+use Rattle.base_lemmas.proofs.Lists.{find-append_later as find_left, find-append_sooner as find_right, slice_get_not_none as there_below}
+use Rattle.base_lemmas.proofs.Numbers.{eqb-self as eqb_same}
+use Rattle.std.proofs.lemmas.Option.{same_Some as some_is}
 use Rattle.base_value.specs.declared.value.FieldType.{FieldType}
 use Rattle.base_value.specs.declared.value.FieldType.TheVariants as type
-use Rattle.formula_eval.specs.Meaning.{value_at}
+use Rattle.formula.specs.Meaning.{value_at}
 use Rattle.model.specs.declared.record.Record.{Record}
 use Rattle.model.specs.Cases.{in_case}
 use Rattle.model.specs.Fields.{is_master, ref_of}
@@ -25,26 +29,13 @@ use Rattle.store_abstraction.specs.declared.layout.Layout.{Layout}
 use Rattle.store_abstraction.specs.Layouts.{IsLayout, place_of}
 use Rattle.store_abstraction.specs.Plan.{OrgPlan}
 use Rattle.store_abstraction.proofs.Found.{found_with_id}
-use Rattle.store_abstraction.proofs.Lookups.{eqb_same, pick, some_is}
 use Rattle.store_abstraction.proofs.MetadataRows.{sound_object}
 use Rattle.access_user.specs.declared.steps.MasterField.{MasterField}
 use Rattle.access_user.specs.inner.Steps.{master_from, master_target}
 use Rattle.access_user.proofs.Layouts.{IsOf, layout_is}
-use Rattle.access_rule_rows.proofs.SharingFits.{all_has}
+use Rattle.people_rows.proofs.SharingFits.{all_has}
 
 -- ---- lists
-
-find_left : {X : Type 0} (p : X → Bool) (xs ys : List X) → find p xs ≡ None → find p (xs ++ ys) ≡ find p ys
-find_left p [] ys e = refl
-find_left p (x ∷ xs) ys e =
-    pick (p x) (λ b. cond b (Some x) (find p xs) ≡ None → cond b (Some x) (find p (xs ++ ys)) ≡ find p ys)
-    (λ _ some. absurd cc)
-    (λ _ none. find_left p xs ys none)
-    e
-
-find_right : {X : Type 0} (p : X → Bool) (xs ys : List X) → find p ys ≡ None → find p (xs ++ ys) ≡ find p xs
-find_right p [] ys e = e
-find_right p (x ∷ xs) ys e = ap (λ o. cond (p x) (Some x) o) (find_right p xs ys e)
 
 found_in : {X : Type 0} (p : X → Bool) (xs : List X) (x : X) → find p xs ≡ Some x → Has xs x × (p x ≡ true)
 found_in p [] x e = absurd cc
@@ -77,15 +68,6 @@ each_holds p (y ∷ xs) x all (inr h) = each_holds p xs x (and_right (p y) (list
     and_right true b h = h
     and_right false b h = absurd cc
 
-right : (a b : Bool) → (a && b) ≡ true → b ≡ true
-right true b h = h
-right false b h = absurd cc
-
-there_below : {X : Type 0} (xs : List X) (i : ℕ) → i < length xs → slice_get xs i ≡ None → ⊥
-there_below [] i h e = omega (arith, h)
-there_below (x ∷ xs) zero h e = absurd cc
-there_below (x ∷ xs) (suc i) h e = there_below xs i (omega (arith, h)) e
-
 -- ---- the reference of an object to its masters
 
 -- objects with their numbers, where the first has this one
@@ -94,9 +76,6 @@ from k os = map (λ (o : ℕ × Object). record { number = o.0; object = o.1 }) 
 
 abbrev pub test : ℕ → Reference → Bool
 test n f = (f.object == n) && is_master f.field.kind
-
-apart : (m n : ℕ) → (m ≡ n → ⊥) → eqb m n ≡ false
-apart m n differ = pick (eqb m n) (λ b. eqb m n ≡ b → b ≡ false) (λ _ e. absurd (differ (eqb-true m n e))) (λ _ _. refl) refl
 
 module _ (n : ℕ) where
   none_of : (m k : ℕ) (fs : List Field) → eqb m n ≡ false → find (test n) (flat_map (reference_at m) (enumerate_from k fs)) ≡ None

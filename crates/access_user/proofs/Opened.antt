@@ -3,12 +3,15 @@ use Rattle.std.proofs.Common.{◌≡◌, ℕ, ◌+◌, Bool, true, false, bytes_
 use Rattle.std.specs.Prelude.{slice_get}
 use Rattle.std.specs.List.{enumerate_from, find, flat_map, list_any}
 use Rattle.std.specs.Option.{option_and_then, option_map}
+use Rattle.std.proofs.lemmas.Bool.{or_parts as or_false}
+use Rattle.base_lemmas.proofs.Numbers.{eqb-self as eqb_same}
+use Rattle.std.proofs.lemmas.Option.{same_Some as some_is}
 use Rattle.record_read.specs.Decoding.{all_from, has_types, record_from}
 use Rattle.store_kv.specs.declared.keeper.KeptRow.{KeptRow}
 use Rattle.store_rows.specs.declared.data.DataRow.{DataRow}
 use Rattle.store_rows.specs.Forms.{read_row}
 use Rattle.store_rows.specs.Rows.{data_form}
-use Rattle.access_level.specs.Own.{is_open}
+use Rattle.access_user.specs.level.Own.{is_open}
 use Rattle.model.specs.declared.record.Record.{Record}
 use Rattle.model.specs.Cases.{in_case}
 use Rattle.model.specs.Fields.{by_parent, is_detail, is_master}
@@ -22,13 +25,11 @@ use Rattle.model.specs.SoundMetadata.{masters}
 use Rattle.model.specs.SoundRecords.{IsSoundRecord, is_sound_owner}
 use Rattle.model.specs.Tenant.{Field, Object, Tenant, User}
 use Rattle.model.specs.World.{user_at}
-use Rattle.record_target.proofs.Facts.{or_false}
 use Rattle.store_codec.specs.Plain.{◌>>=◌}
 use Rattle.access_traits.specs.Rights.{kept_record}
 use Rattle.store_abstraction.specs.declared.layout.Layout.{Layout}
 use Rattle.store_abstraction.specs.Layouts.{IsLayout}
 use Rattle.store_abstraction.specs.Plan.{OrgPlan}
-use Rattle.store_abstraction.proofs.Lookups.{eqb_same, some_is}
 use Rattle.store_abstraction.proofs.MetadataRows.{sound_object}
 use Rattle.base_value.specs.declared.sharing.Access.{Access}
 use Rattle.base_value.specs.declared.sharing.Access.TheVariants.{Private, Read as ReadAll, ReadWrite, ControlledByParent}
@@ -38,7 +39,7 @@ use Rattle.access_user.proofs.Climbed.{no_up}
 use Rattle.access_user.proofs.Judged.{object_is, of_layout}
 use Rattle.access_user.proofs.Layouts.{layout_is}
 use Rattle.access_user.proofs.Masters.{of_object, test}
-use Rattle.access_rule_rows.proofs.SharingFits.{all_has}
+use Rattle.people_rows.proofs.SharingFits.{all_has}
 
 -- ---- it has no masters
 

@@ -1,3 +1,4 @@
+pub mod level
 pub mod Granting
 pub mod Sights
 pub mod inner

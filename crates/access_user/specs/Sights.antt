@@ -4,8 +4,8 @@ use Rattle.std.specs.Prelude.{◌≡◌, ℕ, zero, suc, Bool, true, false, List
 use Rattle.store_kv.specs.Tables.{Tables}
 use Rattle.store_rows.specs.declared.fail.StoreFail.{StoreFail}
 use Rattle.store_rows.specs.declared.fail.StoreFail.TheVariants.{Damaged, Keeper, Memory}
-use Rattle.access_level.specs.Own.{IsOwnLevels}
-use Rattle.access_level.specs.declared.knowing.OwnLevels.{OwnLevels}
+use Rattle.access_user.specs.level.Own.{IsOwnLevels}
+use Rattle.access_user.specs.declared.level.knowing.OwnLevels.{OwnLevels}
 use Rattle.model.specs.declared.limit.Limit.TheVariants as limit
 use Rattle.model.specs.Cases.{in_case}
 use Rattle.model.specs.Limits.{limit_number}

@@ -1,7 +1,7 @@
 //! The level on a record, by its masters.
 
 ghost use Rattle.std.specs.Prelude.{◌≡◌, ℕ, [], false, length};
-ghost use Rattle.formula_eval.specs.Meaning.{value_at};
+ghost use Rattle.formula.specs.Meaning.{value_at};
 ghost use Rattle.access_user.specs.inner.Climbing.{IsLevel, IsLevelWithin, IsOwnLevel, MakesOwn, MayClimb, MayJudge, MaySee, full_of, master_there};
 ghost use Rattle.access_user.specs.inner.Steps.{TellsWhere, most_above};
 ghost use Rattle.store_kv.specs.Draft.{DraftTells, tables_of};
@@ -15,10 +15,10 @@ ghost use Rattle.store_abstraction.specs.Plan.{OrgPlan};
 ghost use Rattle.base_value.specs.declared.sharing.Level.TheVariants.{Full};
 ghost use Rattle.base_value.specs.Values.{ref_of};
 
+use crate::level::{OwnLevels, is_settled, level_apart, level_with, own_levels};
 use crate::rights::UserRights;
 use crate::sight::UserSight;
 use crate::steps::{Step, steps_from};
-use access_level::{OwnLevels, is_settled, level_apart, level_with, own_levels};
 use base_value::{Id, Items, Level, Value};
 use model::Record;
 use record_read::load_record;

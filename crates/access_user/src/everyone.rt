@@ -1,9 +1,9 @@
 //! What every user sees of the records of an object that all may read.
 
 ghost use Rattle.std.specs.Prelude.{◌≡◌, true};
-ghost use Rattle.access_level.specs.Own.{is_open};
+ghost use Rattle.access_user.specs.level.Own.{is_open};
 
-use access_level::is_open;
+use crate::level::is_open;
 use access_traits::Sight;
 use std::alloc::Global;
 use store_abstraction::{Layout, call_laws};

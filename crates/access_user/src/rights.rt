@@ -5,8 +5,8 @@ ghost use Rattle.store_kv.specs.Draft.{DraftTells, tables_of};
 ghost use Rattle.store_abstraction.specs.Calls.{Calls, ended};
 
 use access_closure::{Sharer, keyring_of};
-use access_rule_rows::sharing_rules_of;
 use base_value::Id;
+use people_rows::sharing_rules_of;
 use std::alloc::Global;
 use store_abstraction::call_laws;
 use store_kv::{Draft, Keeper, draft_laws};

@@ -16,10 +16,10 @@ ghost use Rattle.store_abstraction.specs.declared.layout.Layout.{Layout};
 ghost use Rattle.base_value.specs.declared.sharing.Level.TheVariants.{Full};
 
 use crate::climbing::{MOST_MASTERS, level_in, level_of, own_at_end};
+use crate::level::{OwnLevels, is_readable_by_all, owns};
 use crate::rights::UserRights;
 use crate::shares::has_shares;
 use crate::steps::steps_from;
-use access_level::{OwnLevels, is_readable_by_all, owns};
 use access_traits::{Rights, Sight, at_least};
 use base_value::{Id, Level};
 use model::Record;

@@ -3,7 +3,7 @@ use Rattle.std.proofs.Common.{◌≡◌, ℕ, List, Option, Some, None, Result, 
 use Rattle.std.specs.Prelude.{IfErr}
 use Rattle.std.specs.Option.{option_and_then, option_map}
 use Rattle.std.specs.Str.{encode_utf8_all}
-use Rattle.query_reply.specs.Answers.{AnswersBy, Refuses}
+use Rattle.query_json.specs.Answers.{AnswersBy, Refuses}
 use Rattle.store_kv.specs.Draft.{Held}
 use Rattle.store_kv.specs.State.{KeeperState}
 use Rattle.store_kv.specs.Tables.{Tables}

@@ -8,12 +8,15 @@ use Rattle.std.proofs.lemmas.List.{append-nil, take-append-drop, length-drop}
 use Rattle.std.proofs.lemmas.List.Elements.{All-from_get_or, All-head, All-tail}
 use Rattle.std.proofs.lemmas.List.Splits.{slice_split-cons_yes, slice_split-cons_no}
 use Rattle.std.proofs.lemmas.Slice.Eq.{bytes_eq-Decides}
-use Rattle.std.proofs.lemmas.Str.{chars-nil, chars-encodes, chars-append, encodes-chars, encode_ascii, chars_from_encodes, inside_one, scalars-chars, IsUtf8-encode, IsUtf8-take, IsCharBoundary-before_ascii}
+use Rattle.std.proofs.lemmas.Str.{chars-nil, chars-append, encodes-chars, encode_ascii, chars_from_encodes, inside_one, scalars-chars, IsUtf8-take, IsCharBoundary-before_ascii}
 use Rattle.std.specs.List.{All, slice_split, onto_first, position_or_len, before_first, after_first}
-use Rattle.std.specs.Prelude.{◌==◌, ◌&&◌, if◌then◌else◌, bytes_eq, Some, None}
+use Rattle.std.specs.Prelude.{◌==◌, if◌then◌else◌, bytes_eq, Some, None}
 use Rattle.std.specs.Str.{chars, IsUtf8, NonePass}
 use Rattle.std.specs.Str.Pattern.{FindsChar}
 use Rattle.std.proofs.lemmas.Str.Pattern.{drop_at_char}
+use Rattle.std.proofs.lemmas.Bool.{and_parts}
+use Rattle.base_lemmas.proofs.Texts.{chars-encode as chars_more}
+use Rattle.base_lemmas.proofs.Lists.{position_or_len-append as position-append}
 use Rattle.form_urlencoded.specs.Form.{split, onto_first as put_first}
 
 -- ---- equal texts
@@ -79,18 +82,6 @@ encode_passes_none c d ascii other =
       | inr h ↦ h.0
     ])
 
--- one character more
-chars_more : (c : ℕ) (bs : List ℕ) → scalar c ≡ true → chars (encode c ++ bs) ≡ c ∷ chars bs
-chars_more c bs s =
-    let one : scalars (c ∷ []) ≡ true = rw s refl in
-    let e : chars (encode c) ≡ c ∷ [] = ap chars (sym (append-nil (encode c))) ∙ chars-encodes (c ∷ []) one in
-    chars-append (encode c) bs (IsUtf8-encode c s) ∙ ap (λ l. l ++ chars bs) e
-
--- both tests are true
-and_parts : (a b : Bool) → (a && b) ≡ true → (a ≡ true) × (b ≡ true)
-and_parts true b h = (refl, h)
-and_parts false b h = (h, cc)
-
 -- the first and the other characters of a text
 scalar_first : (c : ℕ) (cs : List ℕ) → scalars (c ∷ cs) ≡ true → (scalar c ≡ true) × (scalars cs ≡ true)
 scalar_first c cs h = and_parts (scalar c) (scalars cs) h
@@ -128,12 +119,6 @@ chars-split d ascii bs u =
     ∙ sym (split-slice_split d (chars bs))
 
 -- ---- the first separator
-
--- the place of the first that passes
-position-append : (p : ℕ → Bool) (xs : List ℕ) (y : ℕ) (ys : List ℕ) → NonePass p xs → p y ≡ true
-    → position_or_len p (xs ++ y ∷ ys) ≡ length xs
-position-append p [] y ys none t = rw t refl
-position-append p (x ∷ xs) y ys none t = let e = position-append p xs y ys none.1 t in rw none.0 (omega arith)
 
 position-none : (p : ℕ → Bool) (xs : List ℕ) → NonePass p xs → position_or_len p xs ≡ length xs
 position-none p [] none = refl

@@ -1,21 +1,22 @@
 -- What the router finds is what the definition says.
-use Rattle.std.proofs.Common.{◌≡◌, ℕ, Bool, true, false, List, [], ◌∷◌, map, refl, ap, sym, ◌∙◌, subst, lit<, ◌&&◌}
+use Rattle.std.proofs.Common.{◌≡◌, ℕ, true, false, List, [], ◌∷◌, map, refl, ap, sym, ◌∙◌, subst, lit<}
 use Rattle.std.proofs.lemmas.Str.{chars-nil}
 use Rattle.std.specs.Option.{option_map}
 use Rattle.std.specs.Prelude.{Option, Some, None}
 use Rattle.std.specs.Str.{chars, IsUtf8}
+use Rattle.std.proofs.lemmas.Bool.{and_parts as both}
 use Rattle.matchit.specs.Params.{walk}
 use Rattle.matchit.specs.Router.{RouteOf}
 use Rattle.matchit.specs.Seek.{first}
 use Rattle.model.specs.declared.routed.Routed.TheVariants.{NotFound}
 use Rattle.model.specs.Routing as model
-use Rattle.api_router_laws.specs.Cuts.{AllUtf8, Cut, find_from}
-use Rattle.api_router_laws.specs.Find.{find, path_parts}
-use Rattle.api_router_laws.specs.Pick.{router_rows}
-use Rattle.api_router_laws.specs.Ways.{any_by_path, any_by_pattern, decides, first_by_path}
-use Rattle.api_router_laws.proofs.Cuts.{cut, first-from, parts-text}
-use Rattle.api_router_laws.proofs.Routes.{find-passes, first-takes}
-use Rattle.api_router_laws.proofs.WayLaws.{lines-answer, lines-path, lines-none}
+use Rattle.api.specs.router.Cuts.{AllUtf8, Cut, find_from}
+use Rattle.api.specs.router.Find.{find, path_parts}
+use Rattle.api.specs.router.Pick.{router_rows}
+use Rattle.api.specs.router.Ways.{any_by_path, any_by_pattern, decides, first_by_path}
+use Rattle.api.proofs.Cuts.{cut, first-from, parts-text}
+use Rattle.api.proofs.Routes.{find-passes, first-takes}
+use Rattle.api.proofs.WayLaws.{lines-answer, lines-path, lines-none}
 use Rattle.api.specs.declared.kind.Kind.{Kind}
 use Rattle.api.specs.declared.place.Place.{Place}
 use Rattle.api.specs.inner.Kinds.{kind_in, kind_lines, made_by, made_with, routed_at}
@@ -24,10 +25,6 @@ use Rattle.api.proofs.Characters.{chars-split}
 use Rattle.api.proofs.Parts.{some-chars}
 use Rattle.api.proofs.Tables.{table-clear, table-plain, table-routes}
 use Rattle.api.proofs.Ways.{any-none, any-ways, first-none, first-ways, has_lines, kinds-first, lines-slashed, lines-ways, places-have, table-has, ways}
-
-both : (a b : Bool) → (a && b) ≡ true → (a ≡ true) × (b ≡ true)
-both true b h = (refl, h)
-both false b h = (h, cc)
 
 -- the segments of a target by the segments of its path
 pub segments-chars : (path target : List ℕ) (c : Cut path) → IsUtf8 path → chars path ≡ model.path_of target

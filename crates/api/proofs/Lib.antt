@@ -1,3 +1,10 @@
+pub mod Walks
+pub mod FindLaws
+pub mod RouterParts
+pub mod WayLaws
+pub mod Cuts
+pub mod Routes
+pub mod Plain
 pub mod Characters
 pub mod Refusing
 pub mod Parts

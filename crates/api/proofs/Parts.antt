@@ -1,5 +1,5 @@
 -- A path against a pattern of the definition, by the bytes of its segments.
-use Rattle.std.proofs.Common.{◌≡◌, ◌<◌, ℕ, suc, drop, Bool, true, false, cond, List, [], ◌∷◌, length, map, refl, ap, sym, ◌∙◌, arith, ltb, ◌&&◌, ◌==◌}
+use Rattle.std.proofs.Common.{◌≡◌, ◌<◌, ℕ, suc, drop, Bool, true, false, cond, List, [], ◌∷◌, length, map, refl, ap, sym, ◌∙◌, arith, ltb, ◌==◌}
 use Rattle.std.proofs.Math.Utf8.{encodes}
 use Rattle.std.proofs.lemmas.Bool.Decides.{nat_tests}
 use Rattle.std.proofs.lemmas.List.Elements.{All-cons, All-nil}
@@ -9,10 +9,11 @@ use Rattle.std.specs.List.{All, list_all}
 use Rattle.std.specs.Option.{option_map}
 use Rattle.std.specs.Prelude.{bytes_eq, codes, if◌then◌else◌, Option, Some, None}
 use Rattle.std.specs.Str.{chars, IsAscii, IsUtf8}
+use Rattle.std.proofs.lemmas.Bool.{and_parts as both}
 use Rattle.model.specs.Routing.{is_empty, part, parts_by}
-use Rattle.api_router_laws.specs.Cuts.{AllUtf8}
-use Rattle.api_router_laws.specs.Find.{path_parts}
-use Rattle.api_router_laws.specs.Pick.{Piece, text, param}
+use Rattle.api.specs.router.Cuts.{AllUtf8}
+use Rattle.api.specs.router.Find.{path_parts}
+use Rattle.api.specs.router.Pick.{Piece, text, param}
 use Rattle.api.specs.inner.Places.{taken}
 use Rattle.api.proofs.Characters.{bytes_eq-chars}
 
@@ -20,10 +21,6 @@ use Rattle.api.proofs.Characters.{bytes_eq-chars}
 
 abbrev pub is_ascii : List ℕ → Bool
 is_ascii bs = list_all (λ b. ltb b 128) bs
-
-both : (a b : Bool) → (a && b) ≡ true → (a ≡ true) × (b ≡ true)
-both true b h = (refl, h)
-both false b h = (h, cc)
 
 below : (b : ℕ) → ltb b 128 ≡ true → b < 128
 below b h = grind (arith, nat_tests)

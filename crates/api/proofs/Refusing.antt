@@ -2,7 +2,7 @@
 use Rattle.std.proofs.Common.{◌≡◌, ◌≢◌, List, ℕ, Option, Some, None, Result, Ok, Err, refl, sym, ap, subst, ◌∙◌}
 use Rattle.store_rows.specs.declared.fail.StoreFail.{StoreFail}
 use Rattle.store_rows.specs.declared.fail.StoreFail.TheVariants.{Damaged}
-use Rattle.soql_ast.specs.declared.query.Query.{Query}
+use Rattle.soql.specs.declared.query.Query.{Query}
 use Rattle.model.specs.declared.refusal.Refusal.{Refusal}
 use Rattle.model.specs.declared.refusal.Refusal.TheVariants.{InvalidType}
 use Rattle.model.specs.declared.reply.Reply.{Reply}
@@ -14,7 +14,7 @@ use Rattle.model.specs.Replies.{reply_of}
 use Rattle.model.specs.Rules.{first_refusal}
 use Rattle.model.specs.Tenant.{Tenant}
 use Rattle.model.specs.Verdict.{Verdict, accept, judged, refuse, rows_of, unless}
-use Rattle.query_reply.specs.Answers.{AnswersBy, Refuses}
+use Rattle.query_json.specs.Answers.{AnswersBy, Refuses}
 use Rattle.query_run.specs.Forms.{IsAnswer}
 
 -- a refusal

@@ -1,10 +1,10 @@
 -- The table of patterns, by computing.
 use Rattle.std.proofs.Common.{◌≡◌, [], true, refl}
 use Rattle.matchit.specs.Route.{scan}
-use Rattle.api_router_laws.specs.Find.{all_clear}
-use Rattle.api_router_laws.specs.Pick.{ArePlain, are_plain, router_rows}
-use Rattle.api_router_laws.specs.Routes.{are_routes}
-use Rattle.api_router_laws.proofs.Plain.{plain-patterns}
+use Rattle.api.specs.router.Find.{all_clear}
+use Rattle.api.specs.router.Pick.{ArePlain, are_plain, router_rows}
+use Rattle.api.specs.router.Routes.{are_routes}
+use Rattle.api.proofs.Plain.{plain-patterns}
 use Rattle.api.specs.inner.Places.{added, patterns, pieces_of, table}
 
 -- the router to which the patterns are added has the table's routes

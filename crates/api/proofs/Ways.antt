@@ -4,12 +4,13 @@ use Rattle.std.specs.List.{list_all}
 use Rattle.std.specs.Option.{option_map}
 use Rattle.std.specs.Prelude.{bytes_eq, if◌then◌else◌, is_some, Option, Some, None}
 use Rattle.std.specs.Str.{chars}
+use Rattle.std.proofs.lemmas.Bool.{and_parts as both}
 use Rattle.form_urlencoded.specs.Form.{split}
 use Rattle.model.specs.declared.route.Route.{Route}
 use Rattle.model.specs.Routing.{Line, first_route, is_empty, is_path, lines, or_else, parts_by, parts_of, path_of, query_of, route_by, segments}
-use Rattle.api_router_laws.specs.Cuts.{AllUtf8}
-use Rattle.api_router_laws.specs.Find.{path_parts}
-use Rattle.api_router_laws.specs.Ways.{MethodWay, any_by_path, any_by_pattern, by_method, decides, first_by_path, first_by_pattern, has_patterns, or_way, same_pieces}
+use Rattle.api.specs.router.Cuts.{AllUtf8}
+use Rattle.api.specs.router.Find.{path_parts}
+use Rattle.api.specs.router.Ways.{MethodWay, any_by_path, any_by_pattern, by_method, decides, first_by_path, first_by_pattern, has_patterns, or_way, same_pieces}
 use Rattle.api.specs.declared.kind.Kind.{Kind}
 use Rattle.api.specs.declared.place.Place.{Place}
 use Rattle.api.specs.inner.Kinds.{KindLine, kind_in, kind_lines, made_by}
@@ -44,10 +45,6 @@ are_slashed ls = list_all (λ l. is_slashed (segments l.pattern)) ls
 pub lines-slashed : are_slashed lines ≡ true
 unfolding split lines
 lines-slashed = refl
-
-both : (a b : Bool) → (a && b) ≡ true → (a ≡ true) × (b ≡ true)
-both true b h = (refl, h)
-both false b h = (h, cc)
 
 -- ---- a path that begins with a slash
 

@@ -2,7 +2,7 @@
 -- Source: RFC 9110, 15.3.1, 15.3.2 and 15.3.5, of 200, 201 and 204.
 use Rattle.std.specs.Prelude.{◌≡◌, ◌⊎◌, []}
 use Rattle.model.specs.declared.reply.Reply.{Reply}
-pub use Rattle.query_reply.specs.Answers.{IsReadReply}
+pub use Rattle.query_json.specs.Answers.{IsReadReply}
 use Rattle.model.specs.declared.route.Route.TheVariants.{GetRetype, Query}
 use Rattle.model.specs.declared.routed.Routed.{Routed}
 use Rattle.model.specs.declared.routed.Routed.TheVariants.{To, NotFound, NotAllowed}

@@ -1,2 +1,3 @@
+pub mod router
 pub mod Forms
 pub mod inner

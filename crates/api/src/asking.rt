@@ -1,7 +1,7 @@
 //! Queries.
 
 ghost use Rattle.std.specs.Prelude.{◌≡◌, IfOk, IsTrue, pos};
-ghost use Rattle.query_reply.specs.Answers.{AnswersBy, IsReadReply, Refuses};
+ghost use Rattle.query_json.specs.Answers.{AnswersBy, IsReadReply, Refuses};
 ghost use Rattle.base_grammar.specs.Place.{UnlessMemory};
 ghost use Rattle.store_kv.specs.Draft.{DraftTells, removals_of, tables_of};
 ghost use Rattle.store_kv.specs.State.{data_table};
@@ -11,7 +11,7 @@ ghost use Rattle.model.specs.Paths.{Asked};
 ghost use Rattle.model.specs.Replies.{reply_of};
 ghost use Rattle.model.specs.RequestOf.{query_or, verdict_or};
 ghost use Rattle.model.specs.Step.{query_text};
-ghost use Rattle.soql_grammar.specs.Spelling.{reads_query};
+ghost use Rattle.soql.specs.grammar.Spelling.{reads_query};
 ghost use Rattle.store_abstraction.specs.Calls.{Calls, ended};
 ghost use Rattle.store_abstraction.specs.Local.{StandsIn};
 ghost use Rattle.store_abstraction.specs.Plan.{OrgPlan};
@@ -25,9 +25,9 @@ use api_edit::moment;
 use base_grammar::ParseFail;
 use base_value::Text;
 use model::{Caller, Refusal, Reply};
-use query_reply::{answer_flat, answer_related, refuse};
+use query_json::{answer_flat, answer_related, refuse};
 use query_run::{QueryForm, answer_named};
-use soql_ast::Query;
+use soql::Query;
 use soql_parser::parse;
 use std::alloc::Global;
 use store_abstraction::{Layout, call_laws};

@@ -2,7 +2,7 @@
 //!
 //! It depends on the definitions of routes and of the step in `model`, on `soql_parser` for queries,
 //! on `store_abstraction`, `record_read` and `api_output` for an object's records and their rows, on `api_edit` for administration, on
-//! `retype_request` for how far the change of a field's type is, on `matchit` for routes with the laws of `api_router_laws`, and on
+//! `retype_request` for how far the change of a field's type is, on `matchit` for routes with the laws in `router`, and on
 //! `form_urlencoded` for query strings. Its contract: over tables in which the organisation's rows stand for a tenant,
 //! `respond` returns the reply of the definition `verdict_at`, and in the draft's tables they then stand for what the verdict leaves. `Routes::route` returns what the definition `routed` gives for
 //! the method and the characters of the target, and `query_text` the text that the definition of that name finds in a query
@@ -17,6 +17,7 @@ mod query;
 mod replies;
 mod requests;
 mod retyping;
+mod router;
 mod routes;
 mod routing;
 mod table;
@@ -24,4 +25,5 @@ mod target;
 
 pub use crate::query::query_text;
 pub use crate::requests::respond;
+pub use crate::router::{route_laws, way_laws};
 pub use crate::routes::Routes;

@@ -23,7 +23,7 @@ use access_user::user_rights;
 use api_edit::administer;
 use http::Method;
 use model::{Caller, Refusal, Reply, Route, Routed};
-use query_reply::refuse;
+use query_json::refuse;
 use std::alloc::Global;
 use store_abstraction::{Judged, call_laws};
 use store_kv::{Draft, Keeper, draft_laws};

@@ -1,7 +1,7 @@
 //! How far the change of a field's type is.
 
 ghost use Rattle.std.specs.Prelude.{◌≡◌, IfErr, IfOk, Some};
-ghost use Rattle.query_reply.specs.Answers.{AnswersBy, IsReadReply};
+ghost use Rattle.query_json.specs.Answers.{AnswersBy, IsReadReply};
 ghost use Rattle.store_kv.specs.Draft.{DraftTells, tables_of};
 ghost use Rattle.store_rows.specs.declared.fail.StoreFail.TheVariants.{Memory};
 ghost use Rattle.model.specs.Paths.{Asked};
@@ -16,7 +16,7 @@ ghost use Rattle.store_abstraction.specs.Plan.{OrgPlan};
 use api_output::state_body;
 use http::StatusCode;
 use model::{Refusal, Reply};
-use query_reply::refuse;
+use query_json::refuse;
 use retype_request::{ChangeState, change_state};
 use std::alloc::Global;
 use store_abstraction::call_laws;

@@ -20,7 +20,7 @@ pub struct Routes {
 
 impl Model for Routes {
     ghost use Rattle.std.specs.Prelude.{◌≡◌};
-    ghost use Rattle.api_router_laws.specs.Pick.{router_rows};
+    ghost use Rattle.api.specs.router.Pick.{router_rows};
     ghost use Rattle.api.specs.inner.Places.{table};
 
     ghost Value = { Unit {0} };

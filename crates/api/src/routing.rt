@@ -1,8 +1,8 @@
 ghost use Rattle.std.specs.Prelude.{◌≡◌, IfOk, List, drop, map, ℕ};
 ghost use Rattle.std.specs.Str.{chars};
 ghost use Rattle.model.specs.Routing.{part, path_of, query_of, routed};
-ghost use Rattle.api_router_laws.specs.Cuts.{AllUtf8};
-ghost use Rattle.api_router_laws.specs.Pick.{router_rows};
+ghost use Rattle.api.specs.router.Cuts.{AllUtf8};
+ghost use Rattle.api.specs.router.Pick.{router_rows};
 ghost use Rattle.api.specs.inner.Kinds.{kind_in, kind_lines, routed_at};
 ghost use Rattle.api.specs.inner.Places.{table, taken};
 

@@ -1,5 +1,5 @@
 ghost use Rattle.std.specs.Prelude.{◌≡◌, [], IfOk, OnOk, map};
-ghost use Rattle.api_router_laws.specs.Pick.{router_rows};
+ghost use Rattle.api.specs.router.Pick.{router_rows};
 ghost use Rattle.api.specs.inner.Places.{added, pattern_of, patterns, table};
 
 use crate::place::Place;

@@ -1,6 +1,6 @@
 -- The requests that bodies ask for, and the edits of these.
 use Rattle.std.proofs.Common.{◌≡◌, ◌≤◌, ℕ, List, refl, sym, ap, subst, ◌∙◌, arith, ◌<◌, Option, Some, None, Result, Ok, Err}
-use Rattle.std.specs.Prelude.{IfErr, IfOk, IfSome, IsErr, IsErrAnd, IsTrue, OnOk}
+use Rattle.std.specs.Prelude.{IfErr, IfOk, IfSome, IsTrue, OnOk}
 use Rattle.std.specs.Option.{option_map}
 use Rattle.std.specs.declared.alloc.AllocError.{AllocError}
 use Rattle.api_input.specs.Bodies.{adds_new_role, begins_new_retype, request_in, sets_role_parent, sets_user_role, values_request}
@@ -315,8 +315,3 @@ module _ {K : Type 0} (state : K → KeeperState) (laws : CallLaws state) where
       some = some_so edit h.some;
       refused = refused_so edit seldom h.refused;
     })
-
--- what the exit of a `?` returns
-pub returned : {X E : Type 0} (r : Result X E) (e : E) → IsErr r × IsErrAnd r (λ x. x ≡ e) → r ≡ Err e
-returned (Ok x) e h = absurd h.1
-returned (Err y) e h = ap (λ z. Err z) h.1

@@ -16,7 +16,7 @@ use Rattle.model.specs.World.{user_at}
 use Rattle.record_save.specs.Creating.{IsGiving, ReadsFound}
 use Rattle.access_traits.specs.Rights.{Whose}
 use Rattle.model_invariant.specs.Fit.{IsCaller, OfObjects, ReadsWell, ReadsWellByKey}
-use Rattle.record_upsert.specs.Upserting.{ReadsFoundByKey}
+use Rattle.record_save.specs.upsert.Upserting.{ReadsFoundByKey}
 use Rattle.base_value.specs.Dates.{is_moment}
 
 -- who is found by an id has it

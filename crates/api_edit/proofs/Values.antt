@@ -1,9 +1,9 @@
 -- That the values which a body gives to fields are in JSON, and a moment as a count of seconds.
-use Rattle.std.proofs.Common.{◌≡◌, ◌<◌, ◌^◌, ℕ, Bool, true, false, cond, IsTrue, List, [], ◌∷◌, map, filter, not, refl, ap, subst, ◌∙◌, arith, pos, Option, Some, None, Result, Ok, Err}
-use Rattle.std.proofs.lemmas.Bool.Decides.{nat_tests}
+use Rattle.std.proofs.Common.{◌≡◌, ◌<◌, ◌^◌, ℕ, Bool, true, false, cond, IsTrue, List, [], ◌∷◌, map, filter, not, refl, ap, subst, ◌∙◌, pos, Option, Some, None, Result, Ok, Err}
 use Rattle.std.specs.Option.{option_map}
-use Rattle.std.specs.Prelude.{IfOk, bytes_eq, codes, nat_le}
+use Rattle.std.specs.Prelude.{IfOk, bytes_eq, codes}
 use Rattle.std.specs.declared.alloc.AllocError.{AllocError}
+use Rattle.base_lemmas.proofs.Numbers.{seconds_below as few_seconds}
 use Rattle.api_edit.specs.inner.Edits.{form_of}
 use Rattle.api_input.specs.Bodies.{request_in, values_request}
 use Rattle.record_input.specs.Given.{IsInJson}
@@ -52,9 +52,6 @@ given_json body (Ok None) e = tt
 given_json body (Err x) e = tt
 
 -- ---- moments
-
-few_seconds : (n : ℕ) → nat_le n 253402300799 ≡ true → n < 2 ^ 63
-few_seconds n h = grind (arith, nat_tests)
 
 pub moment_small : (n : ℕ) → IsTrue (is_moment (pos n)) → n < 2 ^ 63
 moment_small n h = few_seconds n h

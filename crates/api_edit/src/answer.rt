@@ -4,7 +4,7 @@ ghost use Rattle.std.specs.Prelude.{◌≡◌};
 ghost use Rattle.api_edit.specs.inner.Edits.{as_upserted, seen};
 
 use base_value::Id;
-use record_upsert::Upserted;
+use record_save::Upserted;
 use store_abstraction::EditFail;
 
 /// What an edit answers once it is made.

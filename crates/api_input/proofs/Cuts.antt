@@ -1,27 +1,22 @@
 -- A text cut at its first `:`, by its bytes and by its characters.
 use Rattle.std.proofs.Common.{◌≡◌, ℕ, ◌+◌, ◌<◌, Bool, true, false, List, [], ◌∷◌, ◌++◌, length, take, drop, Option, Some, None, refl, ap, sym, ◌∙◌, subst, arith, lit<}
 use Rattle.std.proofs.Math.Seq.{take-append_seam, drop-append-add}
-use Rattle.std.proofs.Math.Utf8.{low_scalar, scalar, scalars, encode}
+use Rattle.std.proofs.Math.Utf8.{low_scalar}
 use Rattle.std.proofs.lemmas.Bool.Decides.{Decides-eqb}
-use Rattle.std.proofs.lemmas.List.{append-nil, take-append-drop, length-drop}
-use Rattle.std.proofs.lemmas.Str.{chars-encodes, chars-append, encode_ascii, chars_from_encodes, IsUtf8-encode, IsUtf8-take, IsCharBoundary-before_ascii}
+use Rattle.std.proofs.lemmas.List.{take-append-drop, length-drop}
+use Rattle.std.proofs.lemmas.Str.{chars-append, encode_ascii, chars_from_encodes, IsUtf8-take, IsCharBoundary-before_ascii}
 use Rattle.std.proofs.lemmas.Str.Pattern.{drop_at_char}
 use Rattle.std.specs.Borrow.{Bor}
-use Rattle.std.specs.List.{after_first, before_first, list_any, position_or_len}
-use Rattle.std.specs.Prelude.{◌==◌, ◌||◌, MatchOption}
+use Rattle.std.specs.List.{after_first, before_first, list_any}
+use Rattle.std.specs.Prelude.{◌==◌, MatchOption}
 use Rattle.std.specs.Str.{IsUtf8, NonePass, chars}
 use Rattle.std.specs.Str.Pattern.{FindsChar, SplitsAroundMatch}
+use Rattle.base_lemmas.proofs.Texts.{chars-encode as chars_more}
+use Rattle.base_lemmas.proofs.Lists.{position_or_len-append as position-append}
+use Rattle.base_lemmas.proofs.Bools.{or-true as or_true}
 use Rattle.model.specs.Members.{is_colon}
 
 -- ---- the first element that passes
-
-position-append : (p : ℕ → Bool) (xs : List ℕ) (y : ℕ) (ys : List ℕ) → NonePass p xs → p y ≡ true → position_or_len p (xs ++ y ∷ ys) ≡ length xs
-position-append p [] y ys none t = rw t refl
-position-append p (x ∷ xs) y ys none t = let e = position-append p xs y ys none.1 t in rw none.0 (omega arith)
-
-or_true : (b : Bool) → (b || true) ≡ true
-or_true true = refl
-or_true false = refl
 
 any-append : (p : ℕ → Bool) (xs : List ℕ) (y : ℕ) (ys : List ℕ) → p y ≡ true → list_any p (xs ++ y ∷ ys) ≡ true
 any-append p [] y ys t = rw t refl
@@ -47,13 +42,6 @@ cut-append p front y back none t =
     }
 
 -- ---- characters
-
--- one character more
-chars_more : (c : ℕ) (bs : List ℕ) → scalar c ≡ true → chars (encode c ++ bs) ≡ c ∷ chars bs
-chars_more c bs s =
-    let one : scalars (c ∷ []) ≡ true = rw s refl in
-    let e : chars (encode c) ≡ c ∷ [] = ap chars (sym (append-nil (encode c))) ∙ chars-encodes (c ∷ []) one in
-    chars-append (encode c) bs (IsUtf8-encode c s) ∙ ap (λ l. l ++ chars bs) e
 
 -- the characters of a text in which an ASCII character is found
 chars-cut : (d : ℕ) → d < 128 → (bs : List ℕ) (i j : ℕ) → IsUtf8 bs → FindsChar d bs (Some (i, j)) → IsCut (λ c. c == d) (chars bs) (chars (take i bs)) (chars (drop j bs))

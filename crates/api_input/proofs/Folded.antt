@@ -11,6 +11,7 @@ use Rattle.std.proofs.lemmas.List.{map-append}
 use Rattle.std.proofs.lemmas.Map.Text.{btree_set_updates_text}
 use Rattle.std.proofs.lemmas.Slice.Eq.{bytes_eq-Decides}
 use Rattle.std.proofs.lemmas.Str.{encodes-append, encodes_same}
+use Rattle.std.proofs.lemmas.Bool.{not-true as unseen}
 use Rattle.base_value.specs.Texts.{lower, texts_differ}
 
 -- ---- a name in lower case
@@ -65,10 +66,6 @@ more_seen old new name (m ∷ ms) h =
     exchanged (bytes_eq name m) (list_any (bytes_eq name) ms) (contains_text old (encode_utf8_all m)) (list_any (bytes_eq m) ms) (are_new old ms)
     ∙ ap (λ (b : Bool). not b && (not (list_any (bytes_eq m) ms) && (not (list_any (bytes_eq name) ms) && are_new old ms))) (sym found)
     ∙ ap (λ (b : Bool). not (contains_text new (encode_utf8_all m)) && (not (list_any (bytes_eq m) ms) && b)) (more_seen old new name ms h)
-
-unseen : (b : Bool) → not b ≡ true → b ≡ false
-unseen true e = absurd cc
-unseen false e = refl
 
 -- a name that wasn't seen is put to those that were
 pub one_seen : {Y : Type 0} (old new : BTreeSet (String Y)) (key : String Y) (name : List ℕ) (names : List (List ℕ)) (added : Bool) → string_bytes key ≡ encode_utf8_all name

@@ -1,5 +1,5 @@
 -- How rows begin: an id behind the front of its object makes the first member.
-use Rattle.std.proofs.Common.{◌≡◌, ◌∙◌, ◌<◌, ◌≤◌, ◌^◌, ◌-◌, ℕ, zero, suc, Bool, true, false, ◌&&◌, cond, List, [], ◌∷◌, ◌++◌, length, take, drop, refl, sym, ap, append_assoc, arith, lit<, inr}
+use Rattle.std.proofs.Common.{◌≡◌, ◌∙◌, ◌<◌, ◌≤◌, ◌^◌, ◌-◌, ℕ, zero, suc, true, List, [], ◌∷◌, ◌++◌, length, take, drop, refl, sym, ap, append_assoc, arith, lit<, inr}
 use Rattle.std.proofs.lemmas.Bool.Decides.{nat_tests}
 use Rattle.std.proofs.lemmas.Grind.{flat_map-append}
 use Rattle.std.proofs.Math.Seq.{take-append_seam}
@@ -12,6 +12,8 @@ use Rattle.std.specs.Char.{encode_utf8}
 use Rattle.std.specs.List.{flat_map, list_all}
 use Rattle.std.specs.Prelude.{◌==◌, codes, IsTrue}
 use Rattle.std.specs.Str.{chars, encode_utf8_all}
+use Rattle.std.proofs.lemmas.Bool.{and_parts as both}
+use Rattle.base_lemmas.proofs.Bools.{cond_at_most_one as one_or_none}
 use Rattle.base_json.specs.Printing.{escaped, is_plain, printed_text}
 use Rattle.base_json.proofs.Plain.{all_plain}
 use Rattle.base_value.specs.Id.{capitals, is_capital, is_digit62, is_id, print18, suffix, suffix_char}
@@ -22,10 +24,6 @@ use Rattle.api_output.proofs.Written.{after}
 
 -- ---- the characters of an id stand for themselves
 
-both : (a b : Bool) → (a && b) ≡ true → (a ≡ true) × (b ≡ true)
-both true b h = (refl, h)
-both false b h = absurd cc
-
 digit_plain : (c : ℕ) → is_digit62 c ≡ true → is_plain c ≡ true
 digit_plain c h = grind (arith, nat_tests, h)
 
@@ -34,10 +32,6 @@ digits_plain [] h = refl
 digits_plain (c ∷ cs) h =
     let p = both (is_digit62 c) (list_all is_digit62 cs) h in
     rw (digit_plain c p.0, digits_plain cs p.1) refl
-
-one_or_none : (b : Bool) → cond b 1 0 ≤ 1
-one_or_none true = omega arith
-one_or_none false = omega arith
 
 few_capitals : (k : ℕ) (cs : List ℕ) → length cs ≤ k → capitals cs < 2 ^ k
 few_capitals k [] h = one-le-pow k 2 (lit< tt)

@@ -1,5 +1,5 @@
 -- The first cell of a record that isn't UTF-8.
-use Rattle.std.proofs.Common.{◌≡◌, ◌<◌, ◌+◌, ℕ, zero, suc, not, Bool, true, false, List, [], ◌∷◌, drop, length, Some, None, refl, arith}
+use Rattle.std.proofs.Common.{◌≡◌, ◌<◌, ◌+◌, ℕ, zero, suc, not, true, false, List, [], ◌∷◌, drop, length, Some, None, refl, arith}
 use Rattle.std.specs.List.{position_or_len}
 use Rattle.std.specs.Str.{is_utf8}
 use Rattle.csv.specs.Records.{field_at}
@@ -19,10 +19,6 @@ unfolding field_at
 none_there [] i e h = absurd (omega arith)
 none_there (x ∷ cells) zero e h = cc e
 none_there (x ∷ cells) (suc i) e h = none_there cells i e (omega (arith, h))
-
-pub not_text : (b : Bool) → (b ≡ true → ⊥) → b ≡ false
-not_text true h = absurd (h refl)
-not_text false h = refl
 
 pub is_bad : (cells : List (List ℕ)) (i : ℕ) (cell : List ℕ) → field_at cells i ≡ Some cell → is_utf8 cell ≡ false → first_bad cells ≡ i + first_bad (drop i cells) → i ≡ first_bad cells
 is_bad cells i cell e bad h =

@@ -6,6 +6,7 @@ use Rattle.std.specs.List.{list_all, position, position_or_len}
 use Rattle.std.proofs.lemmas.Str.{IsUtf8-from_is_utf8, is_utf8-from_IsUtf8}
 use Rattle.std.proofs.lemmas.List.Folds.{list_all-append}
 use Rattle.std.proofs.lemmas.Bool.{eq-eqb, eqb-true}
+use Rattle.base_lemmas.proofs.Bools.{and-false as both-false}
 use Rattle.csv.specs.Machine.{Read, next_record}
 use Rattle.csv.specs.Records.{AllText}
 use Rattle.csv.specs.Reading.{NextIs, Reached, ReadsNext, TookRecord, default_config, pending_of, records, source_of, strip_bom}
@@ -51,10 +52,6 @@ other-width a b h = by (nat_eq b a) refl
     by : (t : Bool) → nat_eq b a ≡ t → nat_eq b a ≡ false
     by true e = absurd (h (sym (eqb-true b a e)))
     by false e = e
-
-both-false : (p : Bool) → (p && false) ≡ false
-both-false true = refl
-both-false false = refl
 
 -- a record that isn't text fits after none, nor does one of another width
 pub unfit-text : (rows : List (List (List ℕ))) (cells : List (List ℕ)) → ¬ (AllText cells) → fits_after rows cells ≡ false

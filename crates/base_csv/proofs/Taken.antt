@@ -1,6 +1,7 @@
 -- The records that a loop has read, and all records of a text.
 use Rattle.std.proofs.Common.{◌≡◌, ◌≤◌, ◌<◌, ℕ, zero, suc, ◌+◌, ◌==◌, ◌&&◌, List, [], ◌∷◌, ◌++◌, length, ◌-◌, Option, Some, None, Bool, true, false, refl, ap, subst, arith, ◌∙◌, if◌then◌else◌}
 use Rattle.std.proofs.lemmas.List.{append-nil}
+use Rattle.std.proofs.lemmas.Option.{same_Some as some-eq}
 use Rattle.csv.specs.Machine.{Read, next_record, step, in_field, start_field, start_record, is_end, ends_at_end, ends_with, after_end, is_byte}
 use Rattle.csv.specs.Reading.{Reached, records, records_from}
 use Rattle.csv.specs.declared.parser.Config.{Config}
@@ -56,9 +57,6 @@ step-closed cfg st.AfterCr c = closed-if (c == 10) (st.StartRecord, act.Skip) _ 
 -- what a record leaves: a state between records, and no more bytes
 abbrev Leaves : ℕ → Read → Type 0
 Leaves n q = (ends_at_end q.1 ≡ false) × (length q.2 ≤ n)
-
-some-eq : {A : Type 0} (a b : A) → Some a ≡ Some b → a ≡ b
-some-eq a b e = cc e
 
 leaves-none : (b : Bool) (r : Read) (q : Read) (n : ℕ) → Leaves n r → (if b then Some r else None) ≡ Some q → Leaves n q
 leaves-none true r q n h e = subst (Leaves n) (some-eq r q e) h

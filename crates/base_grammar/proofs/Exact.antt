@@ -1,8 +1,9 @@
 -- Each form of part has a reader that is exact for it.
 use Rattle.std.proofs.Common.{◌≡◌, ℕ, zero, suc, ◌≤◌, ◌⊎◌, Bool, true, false, ◌&&◌, if◌then◌else◌, List, [], ◌∷◌, ◌++◌, length, Option, Some, None, Ok, Err, fold, refl, sym, ◌∙◌, ap, subst, inl, inr, append_assoc, append-nil, length-append, arith}
+use Rattle.std.proofs.lemmas.Bool.{or_parts as or_false, or_left, or_right}
 use Rattle.base_grammar.specs.Part.{Part, one, empty, never, both, either, as_value, many, SpellsOne, OpensOne, SpellsBoth, OpensBoth, SpellsMany, OpensMany}
 use Rattle.base_grammar.specs.Reader.{Outcome, Reader, ◌>>=◌, at_token, read_one, read_empty, read_never, read_both, read_as, elem, begins_with, read_either, read_many, repeat}
-use Rattle.base_grammar.proofs.Sets.{elem-append, or_false, or_left, or_right, disjoint, disjoint-elem}
+use Rattle.base_grammar.proofs.Sets.{elem-append, disjoint, disjoint-elem}
 use Rattle.base_grammar.specs.Exact.{Exact, Told, Stops, left}
 
 -- ---- what follows for every part

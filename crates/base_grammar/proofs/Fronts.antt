@@ -1,5 +1,5 @@
 -- Fronts of lists that pass a test.
-use Rattle.std.proofs.Common.{◌≡◌, ℕ, suc, ◌+◌, Bool, true, false, cond, List, [], ◌∷◌, ◌++◌, take, drop, refl, sym, ap, subst, arith, ap₂, ◌⊎◌, inl, inr}
+use Rattle.std.proofs.Common.{◌≡◌, ℕ, ◌+◌, Bool, true, false, cond, List, [], ◌∷◌, ◌++◌, take, drop, refl, sym, ap, subst, ap₂, ◌⊎◌, inl, inr, one-add as plus_one}
 use Rattle.std.specs.List.{prefix_len}
 use Rattle.base_grammar.specs.Tokens.{Passes}
 
@@ -20,9 +20,6 @@ no_more p w rest (d ∷ more) after f e h =
     let P : List ℕ → Type 0 = λ z. Fails p z in
     let k : p d ≡ false = subst P e f in
     let y = g.1.0 in absurd (cc)
-
-plus_one : (n : ℕ) → 1 + n ≡ suc n
-plus_one n = omega arith
 
 pub passes_prefix : (p : ℕ → Bool) (xs : List ℕ) → Passes p (take (prefix_len p xs) xs)
 passes_prefix p [] = tt

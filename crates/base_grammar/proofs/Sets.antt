@@ -1,5 +1,6 @@
 -- Sets of kinds, as lists
 use Rattle.std.proofs.Common.{◌≡◌, ℕ, Bool, true, false, not, ◌&&◌, ◌||◌, ◌==◌, List, [], ◌∷◌, ◌++◌, refl, subst, eqb-true}
+use Rattle.std.proofs.lemmas.Bool.{not-true as not_true, and_parts as and_true}
 use Rattle.base_grammar.specs.Reader.{elem}
 
 pub elem-append : (k : ℕ) (xs ys : List ℕ) → elem k (xs ++ ys) ≡ (elem k xs || elem k ys)
@@ -10,29 +11,9 @@ elem-append k (x ∷ xs) ys = let e = elem-append k xs ys in rw e (or_regroup (k
     or_regroup true b c = refl
     or_regroup false b c = refl
 
-pub or_false : (a b : Bool) → (a || b) ≡ false → (a ≡ false) × (b ≡ false)
-or_false true b e = (e, absurd (cc))
-or_false false b e = (refl, e)
-
-pub or_left : (a b : Bool) → a ≡ true → (a || b) ≡ true
-or_left true b e = refl
-or_left false b e = absurd (cc)
-
-pub or_right : (a b : Bool) → b ≡ true → (a || b) ≡ true
-or_right true b e = refl
-or_right false b e = e
-
 abbrev pub disjoint : List ℕ → List ℕ → Bool
 disjoint [] ys = true
 disjoint (x ∷ xs) ys = not (elem x ys) && disjoint xs ys
-
-and_true : (a b : Bool) → (a && b) ≡ true → (a ≡ true) × (b ≡ true)
-and_true true b e = (refl, e)
-and_true false b e = absurd (cc)
-
-not_true : (a : Bool) → not a ≡ true → a ≡ false
-not_true true e = absurd (cc)
-not_true false e = refl
 
 pub disjoint-elem : (k : ℕ) (xs ys : List ℕ) → disjoint xs ys ≡ true → elem k ys ≡ true → elem k xs ≡ false
 disjoint-elem k [] ys d e = refl

@@ -95,7 +95,7 @@ pub fn skip<K: Kinded>(tokens: &[K], kind: K::Kind) -> Result<&[K], Fail>
 }
 
 /// The byte at which the token begins from which on so many are left, or the end of the text.
-pub fn place(starts: &[usize], left: usize, end: usize) -> usize
+pub(crate) fn place(starts: &[usize], left: usize, end: usize) -> usize
     ensures { result ≡ slice_index_or starts.now (length starts.now - left) end }
 {
     match starts.get(starts.len().saturating_sub(left)) {

@@ -19,7 +19,7 @@ mod text;
 mod token;
 mod whole;
 
-pub use crate::cursor::{Kinded, TokenKind, begins_with, next, place, skip, taken};
+pub use crate::cursor::{Kinded, TokenKind, begins_with, next, skip, taken};
 pub use crate::fail::{Fail, ParseFail};
 pub use crate::laws::token_laws;
 pub use crate::lexer::tokens;

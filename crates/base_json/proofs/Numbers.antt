@@ -1,7 +1,6 @@
 -- Reading of numbers is exact.
-use Rattle.std.proofs.Common.{◌≡◌, ℕ, Bool, true, false, ◌==◌, cond, List, [], ◌∷◌, ◌++◌, length, Option, Some, None, refl, sym, ◌∙◌, ap, inl, inr, eqb-true, arith}
+use Rattle.std.proofs.Common.{◌≡◌, ℕ, Bool, true, false, ◌==◌, cond, List, [], ◌∷◌, ◌++◌, length, Option, Some, None, refl, sym, ◌∙◌, ap, inl, inr, eqb-true, arith, ne_eqb as not_same}
 use Rattle.base_value.specs.Numerals.{exactly, is_digit, of_digits}
-use Rattle.base_value.proofs.Places.{not_same}
 use Rattle.base_value.proofs.Printed.{digit_range}
 use Rattle.base_value.proofs.Sizes.{exactly_is, exactly_some, exactly_none}
 use Rattle.base_json.specs.Characters.{digits_at, after_digits}

@@ -1,14 +1,14 @@
 -- Reading of strings is exact.
-use Rattle.std.proofs.Common.{◌≡◌, ◌≢◌, ℕ, zero, suc, ◌≤◌, ◌⊎◌, Bool, true, false, ◌==◌, nat_lt, List, [], ◌∷◌, ◌++◌, length, Option, Some, None, refl, sym, ◌∙◌, ap, subst, inl, inr, eqb-true, arith}
+use Rattle.std.proofs.Common.{◌≡◌, ◌≢◌, ℕ, zero, suc, ◌≤◌, ◌⊎◌, Bool, true, false, ◌==◌, nat_lt, List, [], ◌∷◌, ◌++◌, length, Option, Some, None, refl, sym, ◌∙◌, ap, subst, inl, inr, eqb-true, arith, ne_eqb as not_same}
 use Rattle.std.proofs.lemmas.Bool.Decides.{nat_tests}
+use Rattle.std.proofs.lemmas.Option.{cond_some as given}
 use Rattle.base_json.specs.Characters.{Part, short_escape, code_unit, is_high, is_low, paired}
 use Rattle.base_json.specs.Grammar.{Unit_escape, Escape, unescaped, short, unit, pair, CharacterAs, Character, Content, Quoted}
 use Rattle.base_json.specs.Reading.{Turn, go_on, behind, unit_of, second_unit, low_unit, surrogate, escape, character_turn, collect, repeated, content, quoted}
-use Rattle.base_json.proofs.Shrinks.{bind_some, chosen, given, behind_is, character_takes}
+use Rattle.base_json.proofs.Shrinks.{bind_some, chosen, behind_is, character_takes}
 use Rattle.base_json.proofs.Repeats.{repeated-ends, repeated-goes}
 use Rattle.base_json.proofs.Exact as e
 use Rattle.base_json.proofs.Exact.{found_is, moved, behind_at, behind_whole}
-use Rattle.base_value.proofs.Places.{not_same}
 
 -- four digits
 abbrev Units : Part ℕ

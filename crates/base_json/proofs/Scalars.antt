@@ -1,13 +1,13 @@
 -- What is printed is made of Unicode scalars.
-use Rattle.std.proofs.Common.{◌≡◌, ℕ, zero, suc, ◌/◌, ◌%◌, ◌<◌, ◌≤◌, ◌&&◌, nat_lt, Bool, true, false, cond, List, [], ◌∷◌, ◌++◌, map, Option, Some, None, refl, arith}
+use Rattle.std.proofs.Common.{◌≡◌, ℕ, zero, suc, ◌/◌, ◌%◌, ◌<◌, ◌≤◌, ◌&&◌, nat_lt, Bool, true, false, cond, List, [], ◌∷◌, ◌++◌, map, Option, Some, None, refl, arith, ne_eqb as not_same}
 use Rattle.std.specs.List.{AllByRecursion, flat_map}
-use Rattle.std.specs.Str.{IsAscii, all_scalars}
+use Rattle.std.specs.Str.{all_scalars}
 use Rattle.std.proofs.Math.Utf8.{scalar}
 use Rattle.std.proofs.lemmas.Bool.Decides.{nat_tests}
+use Rattle.base_lemmas.proofs.Texts.{scalars-ascii as ascii_scalars}
 use Rattle.base_json.specs.Characters.{short_escape}
 use Rattle.base_value.specs.Printing.{print_number}
 use Rattle.base_value.proofs.NumberLaws.{number_ascii}
-use Rattle.base_value.proofs.Places.{not_same}
 use Rattle.base_json.specs.Printing.{letter_for, hex_digit, escaped_by, escaped, printed_text}
 use Rattle.base_json.specs.Whole.{joined, printed_layer, printed_member, printed, Fits_layer, Fits_member, Fits}
 use Rattle.base_json.specs.declared.tree.Num.TheVariants.{Exact, Beyond}
@@ -29,10 +29,6 @@ small_scalar c h = grind (arith, nat_tests)
 
 small_then : (c : ℕ) (cs : List ℕ) → c < 128 → all_scalars cs ≡ true → all_scalars (c ∷ cs) ≡ true
 small_then c cs h p = rw (small_scalar c h) p
-
-ascii_scalars : (cs : List ℕ) → IsAscii cs → all_scalars cs ≡ true
-ascii_scalars [] h = refl
-ascii_scalars (c ∷ cs) h = small_then c cs (h 0) (ascii_scalars cs (λ i. h (suc i)))
 
 hex_small : (d : ℕ) → d < 16 → hex_digit d < 128
 hex_small d h = grind (arith, nat_tests)

@@ -1,5 +1,6 @@
 -- What is read takes characters.
 use Rattle.std.proofs.Common.{◌≡◌, ℕ, ◌<◌, ◌≤◌, ◌⊎◌, Bool, true, false, cond, ◌==◌, nat_lt, List, [], ◌∷◌, length, Option, Some, None, refl, ap, inl, inr, eqb-true, arith}
+use Rattle.std.proofs.lemmas.Option.{cond_some as given}
 use Rattle.base_json.specs.Characters.{code_unit, is_high, is_low, paired, short_escape}
 use Rattle.base_json.specs.Reading.{Found, Reader, Turn, ◌>>=◌, behind, unit_of, second_unit, low_unit, surrogate, escape, character_turn}
 use Rattle.base_json.proofs.Repeats.{Takes}
@@ -11,10 +12,6 @@ bind_some (Some x) f y h = (x, refl, h)
 pub chosen : {X : Type 0} (b : Bool) (x y z : X) → cond b x y ≡ z → ((b ≡ true) × (x ≡ z)) ⊎ ((b ≡ false) × (y ≡ z))
 chosen true x y z h = inl (refl, h)
 chosen false x y z h = inr (refl, h)
-
-pub given : {X : Type 0} (b : Bool) (x z : X) → cond b (Some x) None ≡ Some z → (b ≡ true) × (x ≡ z)
-given true x z h = (refl, cc)
-given false x z h = absurd (cc)
 
 -- the rest of what was found
 pub rest_is : {X : Type 0} (x a : X) (cs rest : List ℕ) → ◌≡◌ {A = Found X} (Some (x, cs)) (Some (a, rest)) → cs ≡ rest

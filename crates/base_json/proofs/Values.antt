@@ -1,5 +1,6 @@
 -- Reading of lists, objects and values is exact.
 use Rattle.std.proofs.Common.{◌≡◌, ℕ, zero, suc, ◌||◌, Bool, true, false, ◌==◌, if◌then◌else◌, List, [], ◌∷◌, ◌++◌, length, Option, Some, None, refl, sym, ◌∙◌, ap, subst, inl, inr, eqb-true, eq-eqb}
+use Rattle.base_lemmas.proofs.Bools.{or-true as or_true}
 use Rattle.base_value.specs.Numerals.{is_digit}
 use Rattle.base_json.specs.Characters.{Part, after_spaces}
 use Rattle.base_json.specs.Numerals.{Minus, Numeral}
@@ -191,10 +192,6 @@ named_told c k word v cs a rest e h =
     (ap (λ d. d ∷ cs) (eqb-true c k e) ∙ ap (λ xs. k ∷ xs) is, sym f.0)
 
 -- ---- values
-
-or_true : (b : Bool) → (b || true) ≡ true
-or_true true = refl
-or_true false = refl
 
 -- the first character of a number
 pub numeral_first : (cs : List ℕ) (n : Num) (rest : List ℕ) → Numeral cs n rest → (c : ℕ) × (more : List ℕ) × (cs ≡ c ∷ more) × (((c == 45) || is_digit c) ≡ true)

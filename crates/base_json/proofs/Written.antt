@@ -1,5 +1,5 @@
 -- What is printed of a number or a text spells it.
-use Rattle.std.proofs.Common.{◌≡◌, ◌≢◌, ℕ, suc, ℤ, pos, negsuc, ◌+◌, ◌*◌, ◌/◌, ◌%◌, ◌<◌, ◌≤◌, ◌||◌, ◌==◌, nat_lt, Bool, true, false, cond, List, [], ◌∷◌, ◌++◌, Option, Some, None, refl, sym, ◌∙◌, ap, subst, inl, inr, append_assoc, eqb-true, lit<, arith}
+use Rattle.std.proofs.Common.{◌≡◌, ◌≢◌, ℕ, suc, ℤ, pos, negsuc, ◌+◌, ◌*◌, ◌/◌, ◌%◌, ◌<◌, ◌≤◌, ◌||◌, ◌==◌, nat_lt, Bool, true, false, cond, List, [], ◌∷◌, ◌++◌, Option, Some, None, refl, sym, ◌∙◌, ap, subst, inl, inr, append_assoc, eqb-true, lit<, arith, ne_eqb as not_same}
 use Rattle.std.specs.List.{flat_map}
 use Rattle.std.specs.Fmt.{decimal}
 use Rattle.std.specs.Char.{digit_value}
@@ -8,7 +8,6 @@ use Rattle.std.proofs.lemmas.Nat.{mod_below, div-add-mod'}
 use Rattle.std.proofs.lemmas.Bool.Decides.{nat_tests}
 use Rattle.base_value.specs.Numerals.{exact_bound, is_digit, of_digits}
 use Rattle.base_value.specs.Printing.{print_fraction, print_number, print_places, print_size, scale}
-use Rattle.base_value.proofs.Places.{not_same}
 use Rattle.base_value.proofs.Printed.{AreDigits, IsDecimal, decimal_is, digit_range, fraction_of, places_are, size_is, whole_small}
 use Rattle.base_json.specs.Characters.{digits_at, after_digits, short_escape, code_unit, is_high, is_low}
 use Rattle.base_json.specs.Numerals.{Parts, stands, Digits, has_leading_zero, Whole, Fraction, is_exponent_mark, IsSize, Numeral}

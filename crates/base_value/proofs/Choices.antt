@@ -1,9 +1,5 @@
 -- Values that are given exactly where a test holds.
-use Rattle.std.proofs.Common.{◌≡◌, Bool, true, false, ◌&&◌, if◌then◌else◌, Some, None, Ok, Err, refl, sym}
-
-pub both : (a b : Bool) → (a && b) ≡ true → (a ≡ true) × (b ≡ true)
-both true b h = (refl, h)
-both false b h = absurd cc
+use Rattle.std.proofs.Common.{◌≡◌, Bool, true, false, if◌then◌else◌, Some, None, Ok, Err, refl, sym}
 
 -- a test that would show a contradiction is false
 pub not_true : (b : Bool) → (b ≡ true → false ≡ true) → b ≡ false

@@ -3,6 +3,7 @@ use Rattle.std.proofs.Common.{◌≡◌, ℕ, ◌≤◌, true, ◌&&◌, List, O
 use Rattle.std.specs.Prelude.{codes, nat_le}
 use Rattle.std.proofs.lemmas.Bool.Decides.{nat_tests}
 use Rattle.std.proofs.lemmas.Int.{by_lt_z}
+use Rattle.std.proofs.lemmas.Bool.{and_parts as both}
 use Rattle.jiff_core.specs.Calendar.{IsCivilDate, IsDate, day_count, days_from_civil, days_in_month}
 use Rattle.jiff_core.proofs.CalendarLemmas.{day_count_bounds, day_count-day_of_year, day_count-later_year, days_from_civil-day_count}
 use Rattle.jiff_core.proofs.MarchLemmas.{day_count-early}
@@ -10,7 +11,7 @@ use Rattle.jiff_core.proofs.SignedLemmas.{signed_arith}
 use Rattle.base_value.specs.Dates.{first_day, last_day, is_day, has_form, is_calendar_date, is_date, is_written_day, day_number, year_of, month_of, day_of, is_moment_form, moment_seconds, is_moment}
 use Rattle.base_value.specs.Reading.{read_day, read_moment}
 use Rattle.base_value.specs.declared.fail.ValueFail.TheVariants.{WrongType, OutOfRange}
-use Rattle.base_value.proofs.Choices.{both, ok_given, ok_in_turn}
+use Rattle.base_value.proofs.Choices.{ok_given, ok_in_turn}
 use Rattle.base_value.proofs.WrittenDates.{is_calendar}
 use Rattle.base_value.proofs.WrittenForms.{date_parts}
 

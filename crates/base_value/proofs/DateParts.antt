@@ -1,8 +1,8 @@
 -- The year, the month and the day of the month of a day.
-use Rattle.std.proofs.Common.{subst, ⊎_elim, ◌&&◌, min, ◌≡◌, ℕ, zero, suc, ◌+◌, ◌-◌, ◌*◌, ◌/◌, ◌^◌, ◌<◌, ◌≤◌, Bool, true, false, cond, List, ◌∷◌, length, refl, sym, ap, ◌∙◌, arith, ℤ, pos, negsuc, ◌+ℤ◌, ◌-ℤ◌, ◌<ℤ◌, ◌≤ℤ◌, unsigned_abs}
+use Rattle.std.proofs.Common.{subst, ⊎_elim, min, ◌≡◌, ℕ, zero, suc, ◌+◌, ◌-◌, ◌*◌, ◌/◌, ◌^◌, ◌<◌, ◌≤◌, Bool, true, false, cond, List, ◌∷◌, length, refl, sym, ap, ◌∙◌, arith, ℤ, pos, negsuc, ◌+ℤ◌, ◌-ℤ◌, ◌<ℤ◌, ◌≤ℤ◌, unsigned_abs}
 use Rattle.std.specs.Prelude.{nat_le, int_le, if◌then◌else◌, filter}
 use Rattle.std.specs.List.{range_with_len}
-use Rattle.std.proofs.lemmas.Bool.{cases_lt}
+use Rattle.std.proofs.lemmas.Bool.{cases_lt, and_parts as both}
 use Rattle.std.proofs.lemmas.Bool.Decides.{nat_tests}
 use Rattle.jiff_core.specs.Calendar.{days_from_civil, days_in_month, days_of_months, IsCivilDate}
 use Rattle.jiff_core.proofs.SignedLemmas.{one_part, signed_arith}
@@ -140,10 +140,6 @@ dated y m d low h =
     print_day-parts day y m d (days_of_months (pos y) (m - 1) + d - 1) year within.2 (month_at-is y m d h) (omega (arith, h.2.0))
 
 -- ---- the days of the years 0001 to 9999
-both : (a b : Bool) → (a && b) ≡ true → (a ≡ true) × (b ≡ true)
-both true b h = (refl, h)
-both false b h = absurd cc
-
 pub day_bounds : (day : ℤ) → is_day day ≡ true → (first_day ≤ℤ day) × (day ≤ℤ last_day)
 day_bounds day h =
     let p = both (int_le first_day day) (int_le day last_day) h in

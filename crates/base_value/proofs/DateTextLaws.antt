@@ -1,10 +1,10 @@
 -- Days and moments are read back from their texts.
-use Rattle.std.proofs.Common.{◌≡◌, ℕ, ◌<◌, ◌≤◌, Bool, true, false, ◌&&◌, List, ◌∷◌, Ok, subst, refl, sym, ap, ◌∙◌, arith, ℤ, pos, ◌+ℤ◌, ◌-ℤ◌, ◌*ℤ◌, ◌≤ℤ◌, unsigned_abs}
-use Rattle.std.specs.Prelude.{int_le, nat_le}
+use Rattle.std.proofs.Common.{◌≡◌, ℕ, ◌<◌, ◌≤◌, true, ◌&&◌, List, ◌∷◌, Ok, subst, refl, sym, ap, ◌∙◌, arith, ℤ, pos, ◌+ℤ◌, ◌-ℤ◌, ◌*ℤ◌, ◌≤ℤ◌, unsigned_abs, le-leb as le_true}
+use Rattle.std.specs.Prelude.{int_le}
 use Rattle.std.specs.Int.{int_rem_euclid}
 use Rattle.std.specs.Str.{IsAscii}
-use Rattle.std.proofs.lemmas.Bool.Decides.{nat_tests}
 use Rattle.std.proofs.lemmas.Int.{ints}
+use Rattle.std.proofs.lemmas.Bool.{and_parts as both}
 use Rattle.jiff_core.proofs.SignedLemmas.{signed_arith}
 use Rattle.base_value.specs.Dates.{day_number, first_day, first_moment, is_date, last_day, year_of, is_day, is_moment, is_written_day, last_moment}
 use Rattle.base_value.specs.Printing.{day_of_moment, print_clock, print_date, print_day, print_moment}
@@ -27,9 +27,6 @@ reads_day day h =
     let read = written_date it.y it.m it.d it.high it.civil in
     subst (λ (cs : List ℕ). ReadsAsDay cs day) (sym text) (record { date = read.date; year = omega (arith, read.year, it.low); number = read.number ∙ it.is })
 
-le_true : (a b : ℕ) → a ≤ b → nat_le a b ≡ true
-le_true a b h = grind (arith, nat_tests)
-
 pub day_back : (day : ℤ) → is_day day ≡ true → read_day (print_day day) ≡ Ok day
 unfolding read_day is_written_day
 day_back day h =
@@ -48,10 +45,6 @@ le_int a b h = grind (arith, ints)
 
 within : (low high z : ℤ) → low ≤ℤ z → z ≤ℤ high → (int_le low z && int_le z high) ≡ true
 within low high z a b = rw (le_int low z a, le_int z high b) refl
-
-both : (a b : Bool) → (a && b) ≡ true → (a ≡ true) × (b ≡ true)
-both true b h = (refl, h)
-both false b h = absurd cc
 
 pub moment_bounds : (second : ℤ) → is_moment second ≡ true → (first_moment ≤ℤ second) × (second ≤ℤ last_moment)
 moment_bounds second h =

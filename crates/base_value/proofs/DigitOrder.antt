@@ -2,18 +2,16 @@
 use Rattle.std.proofs.Common.{◌≡◌, ℕ, zero, suc, ◌+◌, ◌*◌, ◌/◌, ◌%◌, ◌^◌, ◌<◌, ◌≤◌, List, [], ◌∷◌, ◌++◌, length, map, refl, sym, ap, ◌∙◌, arith}
 use Rattle.std.proofs.Math.Nat.{mul-le-mul_right, pow-zero, pow-succ', div-add-mod, mod-eq_of_lt}
 use Rattle.std.specs.List.{AllByRecursion}
-use Rattle.std.specs.declared.cmp.Ordering.TheVariants.{Less, Equal, Greater}
+use Rattle.std.specs.declared.cmp.Ordering.TheVariants.{Equal, Greater}
 use Rattle.std.specs.Ordering.{nat_cmp, ordering_then}
 use Rattle.std.specs.Cmp.Lexicographic.{slice_cmp}
 use Rattle.std.proofs.lemmas.Cmp.{ranked, by_ranked}
 use Rattle.std.proofs.lemmas.Bool.Decides.{nat_tests}
 use Rattle.std.proofs.lemmas.Nat.{mod-mul-add}
+use Rattle.base_lemmas.proofs.Orders.{nat_cmp-less as cmp_less}
 use Rattle.base_value.specs.Digits.{digits, digits_value}
 use Rattle.base_value.specs.Id.{digit62, made}
 use Rattle.base_value.proofs.Digits.{digits-length}
-
-pub cmp_less : (x y : ℕ) → x < y → nat_cmp x y ≡ Less
-cmp_less x y h = grind (arith, nat_tests)
 
 pub cmp_same : (x y : ℕ) → x ≡ y → nat_cmp x y ≡ Equal
 cmp_same x y h = grind (arith, nat_tests)

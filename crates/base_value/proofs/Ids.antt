@@ -1,17 +1,14 @@
 -- Ids and their texts.
-use Rattle.std.proofs.Common.{◌≡◌, ℕ, zero, suc, ◌+◌, ◌-◌, ◌≤◌, ◌<◌, ◌/◌, ◌%◌, ◌^◌, ◌==◌, ◌&&◌, ◌⊎◌, inl, inr, Bool, true, false, List, [], ◌∷◌, ◌++◌, length, take, drop, map, set, IsTrue, refl, sym, ap, subst, ◌∙◌, arith, eqb-true, append-nil, append_assoc, ap₂, take-append-drop}
+use Rattle.std.proofs.Common.{◌≡◌, ℕ, zero, suc, ◌+◌, ◌-◌, ◌≤◌, ◌<◌, ◌/◌, ◌%◌, ◌^◌, ◌==◌, ◌⊎◌, inl, inr, true, List, [], ◌∷◌, ◌++◌, length, take, drop, map, set, IsTrue, refl, sym, ap, subst, ◌∙◌, arith, eqb-true, append-nil, append_assoc, ap₂, take-append-drop}
 use Rattle.std.specs.List.{list_all}
 use Rattle.std.proofs.lemmas.List.{take_at, length-append, drop_at, drop-set, map-append, drop_all, length-map}
 use Rattle.std.proofs.lemmas.List.Folds.{list_all-append}
 use Rattle.std.proofs.lemmas.Bool.Decides.{nat_tests}
+use Rattle.base_lemmas.proofs.Bools.{and_first as both_left}
 use borrow.Rule.Slice.PartMut.{put_mid}
 use Rattle.base_value.specs.Digits.{digits}
 use Rattle.base_value.specs.Id.{IsTextOf, digit62, is_digit62, is_id, made, suffix}
 use Rattle.base_value.proofs.Digits.{digits-last, digits-length, digits-none}
-
-both_left : (a b : Bool) → (a && b) ≡ true → a ≡ true
-both_left true b h = refl
-both_left false b h = h
 
 pub id_length : (id : List ℕ) → IsTrue (is_id id) → length id ≡ 15
 id_length id h = eqb-true (length id) 15 (both_left (length id == 15) (list_all is_digit62 id) h)

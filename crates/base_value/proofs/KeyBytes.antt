@@ -1,11 +1,12 @@
 -- Order keys are bytes.
-use Rattle.std.proofs.Common.{◌≡◌, ℕ, zero, suc, ◌<◌, true, false, List, [], ◌∷◌, ◌++◌, refl, sym, subst, arith, lit<, inl, inr}
+use Rattle.std.proofs.Common.{◌≡◌, ℕ, zero, suc, ◌<◌, true, false, List, [], ◌∷◌, ◌++◌, refl, sym, subst, arith, lit<}
 use Rattle.std.specs.Prelude.{nat_lt}
 use Rattle.std.specs.List.{AllByRecursion, list_all}
 use Rattle.std.specs.Str.{all_scalars, encode_utf8_all}
 use Rattle.std.proofs.lemmas.Bool.{and_parts}
 use Rattle.std.proofs.lemmas.Bool.Decides.{nat_tests}
-use lib.Utf8.{encode, scalar, scalar_cases}
+use Rattle.base_lemmas.proofs.Texts.{scalar_below as scalar_low}
+use lib.Utf8.{encode, scalar}
 use Rattle.caseless.specs.Caseless.{default_case_fold}
 use Rattle.ucd_case.specs.CaseFolding.{full_folding, or_itself}
 use Rattle.ucd_case.proofs.CaseFoldingLemmas.{full_folding_stepped}
@@ -70,9 +71,6 @@ low_by_test (c ∷ cs) h =
 or_itself_low : (c : ℕ) (xs : List ℕ) → c < 1114112 → AreLow xs → AreLow (or_itself c xs)
 or_itself_low c [] h g = (h, tt)
 or_itself_low c (x ∷ xs) h g = g
-
-scalar_low : (c : ℕ) → scalar c ≡ true → c < 1114112
-scalar_low c h = elim (scalar_cases c h) [ inl low ↦ omega (arith, low) | inr high ↦ high.1 ]
 
 fold_low : (cs : List ℕ) → all_scalars cs ≡ true → AreLow (default_case_fold cs)
 unfolding default_case_fold

@@ -1,15 +1,14 @@
 -- The text of a moment, character by character.
-use Rattle.std.proofs.Common.{◌≡◌, ℕ, ◌+◌, ◌*◌, ◌/◌, ◌%◌, ◌<◌, ◌≤◌, true, List, ◌∷◌, ◌++◌, length, refl, sym, ap, ◌∙◌, arith, take, drop, append_assoc, ◌+ℤ◌, ◌*ℤ◌, subst, rules, ℤ, pos, ◌-ℤ◌, unsigned_abs}
+use Rattle.std.proofs.Common.{◌≡◌, ℕ, ◌+◌, ◌*◌, ◌/◌, ◌%◌, ◌<◌, ◌≤◌, true, List, ◌∷◌, ◌++◌, length, refl, sym, ap, ◌∙◌, arith, take, drop, append_assoc, ◌+ℤ◌, ◌*ℤ◌, subst, rules, ℤ, pos, ◌-ℤ◌, unsigned_abs, le-leb as le_true}
 use Rattle.std.specs.Int.{int_rem_euclid}
 use Rattle.base_value.specs.Digits.{digits}
 use Rattle.base_value.specs.Dates.{ahead, clock_seconds, fraction_len, is_clock, is_fraction_len, is_moment_form, is_offset, is_utc, is_zone, moment_seconds, offset_minutes, offset_seconds, zone_of, day_number, is_date, fits, has_form, two_at}
 use Rattle.base_value.specs.Numerals.{is_digit}
 use Rattle.base_value.specs.Printing.{day_of_moment, padded, print_clock, print_day, print_moment}
-use Rattle.std.specs.Prelude.{codes, nat_le}
+use Rattle.std.specs.Prelude.{codes}
 use Rattle.std.proofs.lemmas.List.{drop_at, length-append, take_at}
 use Rattle.std.specs.Str.{IsAscii}
 use Rattle.std.proofs.lemmas.Str.{IsAscii-append}
-use Rattle.std.proofs.lemmas.Bool.Decides.{nat_tests}
 use Rattle.base_value.proofs.Padded.{two, padded-two, is_digit_of, padded-ascii, one-ascii, more-ascii}
 use Rattle.base_value.proofs.DateTexts.{print_day-ascii, print_day-starts, length_day}
 
@@ -62,9 +61,6 @@ clock_numbers h m s hh hm hs = (omega arith, omega arith, omega arith)
 pub record ReadsAsClock (cs : List ℕ) (second : ℕ) : Type 0 where
   pub clock : is_clock cs ≡ true
   pub seconds : clock_seconds cs ≡ second
-
-le_true : (a b : ℕ) → a ≤ b → nat_le a b ≡ true
-le_true a b h = grind (arith, nat_tests)
 
 reads_as_clock : (cs : List ℕ) (h m s : ℕ) → has_form (codes "T00:00:00") cs ≡ true → two_at cs 1 ≡ h → two_at cs 4 ≡ m → two_at cs 7 ≡ s → h ≤ 23 → m ≤ 59 → s ≤ 59 → ReadsAsClock cs (3600 * h + 60 * m + s)
 unfolding is_clock clock_seconds

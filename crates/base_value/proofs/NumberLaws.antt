@@ -8,6 +8,7 @@ use Rattle.std.proofs.lemmas.Bool.Decides.{nat_tests}
 use Rattle.std.proofs.lemmas.Nat.{mod_below}
 use Rattle.std.proofs.lemmas.Str.{IsAscii-append}
 use Rattle.std.proofs.lemmas.Str.Ascii.{IsAscii-cons, IsAscii-nil}
+use Rattle.std.proofs.lemmas.Bool.{and_parts as both_true}
 use Rattle.base_value.specs.Numerals.{exact_bound, is_digit, is_negative, is_numeral, is_within, minus, point, signed, size_of, without_sign}
 use Rattle.base_value.specs.Printing.{print_fraction, print_number, print_places, print_size, scale}
 use Rattle.base_value.specs.Reading.{in_bounds, of_size, read_number}
@@ -18,7 +19,6 @@ use Rattle.base_value.specs.declared.fail.ValueFail.TheVariants.{OutOfRange, Wro
 use Rattle.base_value.specs.declared.value.FieldType.TheVariants as type
 use Rattle.base_value.proofs.Decimals.{Starts, decimal_ascii, decimal_starts}
 use Rattle.base_value.proofs.Printed.{AreDigits, decimal_is, digit_range, no_sign, places_are, size_printed, size_split, whole_small}
-use Rattle.base_value.proofs.Sizes.{both_true}
 
 -- ---- what is read
 

@@ -10,10 +10,11 @@ use Rattle.std.proofs.lemmas.Bool.Decides.{nat_tests}
 use Rattle.std.proofs.lemmas.Int.{ints, to_z-of_z}
 use Rattle.std.proofs.lemmas.Nat.{mod-mul-add}
 use Rattle.std.proofs.Math.IntN.{sub_ℕ}
+use Rattle.base_lemmas.proofs.Orders.{nat_cmp-less as cmp_less}
 use Rattle.base_value.specs.Digits.{digits, digits_value}
 use Rattle.base_value.specs.OrderKeys.{IsSigned, raised}
 use Rattle.base_value.proofs.Digits.{digits-length}
-use Rattle.base_value.proofs.DigitOrder.{cmp_less, cmp_more, digits_low, digits_order, low_digits_value}
+use Rattle.base_value.proofs.DigitOrder.{cmp_more, digits_low, digits_order, low_digits_value}
 
 -- ---- the bytes of a number are its digits
 

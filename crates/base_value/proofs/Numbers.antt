@@ -9,6 +9,7 @@ use Rattle.std.proofs.lemmas.List.{take_more, take_at, drop_at, map-append, leng
 use Rattle.std.proofs.lemmas.List.Folds.{list_all-append}
 use Rattle.std.proofs.lemmas.Nat.{div-mul-add, mod-mul-add}
 use Rattle.std.proofs.lemmas.Slice.Eq.{bytes_eq-Decides}
+use Rattle.std.proofs.lemmas.Bool.{and_parts as both}
 use Rattle.base_value.specs.Digits.{digits, digits_value}
 use Rattle.base_value.specs.Id.{digit62, is_digit62, is_id, made, number62, number_in, value62}
 use Rattle.base_value.proofs.Ids.{id_length, made-written}
@@ -66,10 +67,6 @@ values_of (d ∷ ds) h = ap₂ (λ (a : ℕ) (b : List ℕ). a ∷ b) (value_of 
 
 digit_of : (c : ℕ) → is_digit62 c ≡ true → (value62 c < 62) × (digit62 (value62 c) ≡ c)
 digit_of c h = (grind (arith, nat_tests), grind (arith, nat_tests))
-
-both : (a b : Bool) → (a && b) ≡ true → (a ≡ true) × (b ≡ true)
-both true b h = (refl, h)
-both false b h = absurd cc
 
 digits_of : (cs : List ℕ) → list_all is_digit62 cs ≡ true → AllByRecursion (λ d. d < 62) (map value62 cs) × (map digit62 (map value62 cs) ≡ cs)
 digits_of [] h = (tt, refl)

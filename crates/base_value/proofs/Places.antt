@@ -1,12 +1,8 @@
 -- The digits of a fraction, place by place.
-use Rattle.std.proofs.Common.{◌≡◌, ◌≢◌, ℕ, zero, suc, ◌+◌, ◌-◌, ◌*◌, ◌/◌, ◌%◌, ◌^◌, ◌<◌, ◌==◌, false, [], ◌∷◌, refl, ◌∙◌, ap, arith}
-use Rattle.std.proofs.lemmas.Bool.Decides.{nat_tests}
+use Rattle.std.proofs.Common.{◌≡◌, ◌≢◌, ℕ, zero, suc, ◌+◌, ◌-◌, ◌*◌, ◌/◌, ◌%◌, ◌^◌, ◌<◌, [], ◌∷◌, refl, ◌∙◌, ap, arith, ne_eqb as not_same}
 use Rattle.std.proofs.lemmas.Nat.{div_below, pow-add}
 use Rattle.base_value.specs.Printing.{print_places}
 use Rattle.base_value.proofs.Sizes.{ten_pos}
-
-pub not_same : (c k : ℕ) → c ≢ k → (c == k) ≡ false
-not_same c k h = grind (arith, nat_tests)
 
 pub some_places : (places rest : ℕ) → rest ≢ 0 → rest < 10 ^ places → 0 < places
 some_places zero rest some small = absurd (some (omega arith))

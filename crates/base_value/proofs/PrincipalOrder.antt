@@ -1,16 +1,12 @@
 -- Principals that tie are the same.
 use Rattle.std.proofs.Common.{◌≡◌, true, List, ℕ, sym, ap, ◌∙◌}
 use Rattle.std.specs.Prelude.{◌↔◌, IsTrue}
-use Rattle.std.specs.Ordering.{eq_by_cmp, is_eq, nat_cmp}
-use Rattle.std.specs.Cmp.{Equal-is, tied_itself}
-use Rattle.std.specs.Cmp.Lexicographic.{slice_cmp}
+use Rattle.std.specs.Ordering.{eq_by_cmp, is_eq}
+use Rattle.std.specs.Cmp.{tied_itself}
+use Rattle.base_lemmas.proofs.Lists.{same_from_slice_cmp as same_id}
 use Rattle.base_value.specs.Principals.{principal_cmp, principals_total}
 use Rattle.base_value.specs.declared.sharing.Principal.{Principal}
 use Rattle.base_value.specs.declared.sharing.Principal.TheVariants as to
-use Rattle.base_value.proofs.ValueOrder.{lists_equal}
-
-same_id : (i j : List ℕ) → is_eq (slice_cmp nat_cmp i j) ≡ true → i ≡ j
-same_id i j h = lists_equal i j ((Equal-is (slice_cmp nat_cmp i j)).0 h)
 
 tied : (p q : Principal) → is_eq (principal_cmp p q) ≡ true → p ≡ q
 tied (to.User i) (to.User j) h = ap (λ (x : List ℕ). to.User x) (same_id i j h)

@@ -1,5 +1,5 @@
 -- What is printed of a number: its digits, and the number that they spell.
-use Rattle.std.proofs.Common.{◌≡◌, ◌≢◌, ℕ, zero, suc, ◌+◌, ◌*◌, ◌/◌, ◌%◌, ◌^◌, ◌<◌, ◌≤◌, ◌==◌, nat_lt, Bool, true, false, cond, if◌then◌else◌, List, [], ◌∷◌, ◌++◌, length, drop, Some, refl, sym, ◌∙◌, ap, eqb-true, lit<, arith}
+use Rattle.std.proofs.Common.{◌≡◌, ◌≢◌, ℕ, zero, suc, ◌+◌, ◌*◌, ◌/◌, ◌%◌, ◌^◌, ◌<◌, ◌≤◌, ◌==◌, nat_lt, Bool, true, false, cond, if◌then◌else◌, List, [], ◌∷◌, ◌++◌, length, drop, Some, refl, sym, ◌∙◌, ap, eqb-true, lit<, arith, ne_eqb as not_same}
 use Rattle.std.specs.Fmt.{decimal}
 use Rattle.std.specs.List.{list_all, prefix_len}
 use Rattle.std.proofs.Math.Nat.{pow-suc}
@@ -10,7 +10,6 @@ use Rattle.std.proofs.lemmas.Nat.{div-add-mod', div_below, mod_below, pow-add}
 use Rattle.base_value.specs.Numerals.{digit_of, exact_bound, is_digit, is_fraction, is_negative, is_unsigned_numeral, of_digits, of_digits_behind, point, size_of, without_sign}
 use Rattle.base_value.specs.Printing.{print_fraction, print_places, print_size, scale}
 use Rattle.base_value.specs.inner.Splits.{IsSplit}
-use Rattle.base_value.proofs.Places.{not_same}
 use Rattle.base_value.proofs.Sizes.{IsExactly, exactly_some, of_digits_behind-append, ten_pos}
 use Rattle.base_value.proofs.Splits.{size_of-split}
 

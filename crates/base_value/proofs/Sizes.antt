@@ -1,12 +1,13 @@
 -- The exact size of a number, from its digits without the zeros at their end.
-use Rattle.std.proofs.Common.{◌≡◌, ◌≢◌, ℕ, ◌+◌, ◌-◌, ◌*◌, ◌/◌, ◌%◌, ◌^◌, ◌<◌, ◌≤◌, ◌⊎◌, ◌&&◌, nat_lt, Bool, true, false, cond, if◌then◌else◌, List, [], ◌∷◌, ◌++◌, length, take, get_or, Option, Some, None, refl, sym, ◌∙◌, ap, inl, inr, arith, eqb-true, lit<}
+use Rattle.std.proofs.Common.{◌≡◌, ◌≢◌, ℕ, ◌+◌, ◌-◌, ◌*◌, ◌/◌, ◌%◌, ◌^◌, ◌<◌, ◌≤◌, ◌⊎◌, nat_lt, Bool, true, false, if◌then◌else◌, List, [], ◌∷◌, ◌++◌, length, take, get_or, Option, Some, None, refl, sym, ◌∙◌, ap, inl, inr, arith, eqb-true, lit<}
 use Rattle.std.proofs.Math.Nat.{one-le-pow, pow-le-pow_right, mul-le-mul_left, mul-le-mul_right, mul-div_cancel, mul-mod_left}
 use Rattle.std.proofs.lemmas.Grind.{get_or_default_zero}
 use Rattle.std.proofs.lemmas.List.{take_more}
 use Rattle.std.proofs.lemmas.Nat.{pow-add, div-add-mod'}
-use Rattle.std.proofs.lemmas.Bool.{cases_lt}
+use Rattle.std.proofs.lemmas.Bool.{cases_lt, and_parts as both_true}
 use Rattle.std.proofs.lemmas.Bool.Decides.{nat_tests}
 use Rattle.std.specs.Prelude.{MatchOption}
+use Rattle.std.proofs.lemmas.Option.{cond_some as chosen}
 use Rattle.base_value.specs.Numerals.{digit_of, exact_bound, exactly, of_digits_behind, quotient}
 use Rattle.base_value.specs.inner.Mantissas.{IsMantissa, IsCapped, IsScaled, IsShifted, places_up, places_down, power_cap, size_by}
 
@@ -33,14 +34,6 @@ ten_divides n e h =
     rw product (mul-mod_left (n * 10 ^ (e - 1)) 10)
 
 -- ---- a quotient
-
-chosen : (t : Bool) (q n : ℕ) → cond t (Some q) None ≡ Some n → (t ≡ true) × (q ≡ n)
-chosen true q n h = (refl, cc)
-chosen false q n h = absurd (cc)
-
-pub both_true : (x y : Bool) → (x && y) ≡ true → (x ≡ true) × (y ≡ true)
-both_true true y h = (refl, h)
-both_true false y h = absurd (cc)
 
 pub quotient_is : (a b n : ℕ) → quotient exact_bound a b ≡ Some n → (n * b ≡ a) × (n < exact_bound)
 quotient_is a b n h =

@@ -5,13 +5,14 @@ use Rattle.std.specs.Str.{bytes_eq, IsAscii, IsUtf8, chars}
 use Rattle.std.proofs.lemmas.Bool.Decides.{nat_tests}
 use Rattle.std.proofs.Math.Nat.{one-le-pow, pow-succ'}
 use Rattle.std.proofs.lemmas.List.{take_at, drop_at, length-take}
-use Rattle.std.proofs.lemmas.Str.{chars-IsAscii, encodes-IsAscii, encodes-chars}
+use Rattle.std.proofs.lemmas.Str.{chars-IsAscii, encodes-IsAscii, encodes-chars, IsAscii-append as ascii_append}
 use Rattle.std.proofs.lemmas.Slice.Eq.{bytes_eq-Decides}
+use Rattle.std.proofs.lemmas.Bool.{and_parts as both, or_right as either}
+use Rattle.std.proofs.lemmas.Str.Ascii.{IsAscii-cons as ascii_cons, IsAscii-nil as none_ascii}
+use Rattle.std.proofs.lemmas.Option.{cond_some as taken}
+use Rattle.base_lemmas.proofs.Bools.{cond_at_most_one as one_or_none}
+use Rattle.base_lemmas.proofs.Texts.{bytes_eq-self as same}
 use Rattle.base_value.specs.Id.{IsTextOf, capitals, id_in, is_capital, is_digit62, is_id, suffix, suffix_char}
-
-both : (a b : Bool) → (a && b) ≡ true → (a ≡ true) × (b ≡ true)
-both true b h = (refl, h)
-both false b h = absurd cc
 
 size : (id : List ℕ) → IsTrue (is_id id) → length id ≡ 15
 size id h = eqb-true (length id) 15 (both (length id == 15) (list_all is_digit62 id) h).0
@@ -19,13 +20,6 @@ size id h = eqb-true (length id) 15 (both (length id == 15) (list_all is_digit62
 by_parts : (text id rest : List ℕ) → IsTrue (is_id id) → take 15 text ≡ id → drop 15 text ≡ rest → (bytes_eq rest [] || bytes_eq rest (suffix id)) ≡ true → id_in text ≡ Some id
 unfolding id_in
 by_parts text id rest h front behind e = rw (front, behind, h, e) refl
-
-same : (xs : List ℕ) → bytes_eq xs xs ≡ true
-same xs = (bytes_eq-Decides xs xs).1 refl
-
-either : (a b : Bool) → b ≡ true → (a || b) ≡ true
-either true b h = refl
-either false b h = h
 
 pub id_read : (text id : List ℕ) → IsTrue (is_id id) → IsTextOf id text → id_in text ≡ Some id
 id_read text id h (inl e) =
@@ -59,20 +53,12 @@ no_id text none = by (is_id (take 15 text) && (bytes_eq (drop 15 text) [] || byt
 digit_ascii : (c : ℕ) → is_digit62 c ≡ true → c < 128
 digit_ascii c h = grind (arith, nat_tests)
 
-pub ascii_cons : (c : ℕ) (cs : List ℕ) → c < 128 → IsAscii cs → IsAscii (c ∷ cs)
-ascii_cons c cs h a zero = h
-ascii_cons c cs h a (suc i) = a i
-
 all_ascii : (cs : List ℕ) → list_all is_digit62 cs ≡ true → IsAscii cs
 all_ascii [] h = λ i. lit< tt
 all_ascii (c ∷ cs) h = let p = both (is_digit62 c) (list_all is_digit62 cs) h in ascii_cons c cs (digit_ascii c p.0) (all_ascii cs p.1)
 
 small_suffix : (n : ℕ) → n < 32 → suffix_char n < 128
 small_suffix n h = grind (arith, nat_tests)
-
-one_or_none : (b : Bool) → cond b 1 0 ≤ 1
-one_or_none true = omega arith
-one_or_none false = omega arith
 
 few_capitals : (k : ℕ) (cs : List ℕ) → length cs ≤ k → capitals cs < 2 ^ k
 few_capitals k [] h = one-le-pow k 2 (lit< tt)
@@ -88,9 +74,6 @@ short_take n cs = rw (length-take n cs) (omega arith)
 group_ascii : (cs : List ℕ) → suffix_char (capitals (take 5 cs)) < 128
 group_ascii cs = small_suffix (capitals (take 5 cs)) (few_capitals 5 (take 5 cs) (short_take 5 cs))
 
-none_ascii : IsAscii []
-none_ascii i = lit< tt
-
 suffix_ascii : (id : List ℕ) → IsAscii (suffix id)
 suffix_ascii id =
     let a : ℕ = suffix_char (capitals (take 5 id)) in
@@ -98,17 +81,9 @@ suffix_ascii id =
     let c : ℕ = suffix_char (capitals (take 5 (drop 10 id))) in
     ascii_cons a (b ∷ c ∷ []) (group_ascii id) (ascii_cons b (c ∷ []) (group_ascii (drop 5 id)) (ascii_cons c [] (group_ascii (drop 10 id)) none_ascii))
 
-ascii_append : (xs ys : List ℕ) → IsAscii xs → IsAscii ys → IsAscii (xs ++ ys)
-ascii_append [] ys a b = b
-ascii_append (x ∷ xs) ys a b = ascii_cons x (xs ++ ys) (a 0) (ascii_append xs ys (λ i. a (suc i)) b)
-
 pub text_ascii : (id text : List ℕ) → IsTrue (is_id id) → IsTextOf id text → IsAscii text
 text_ascii id text h (inl e) = rw e (all_ascii id (both (length id == 15) (list_all is_digit62 id) h).1)
 text_ascii id text h (inr e) = rw e (ascii_append id (suffix id) (all_ascii id (both (length id == 15) (list_all is_digit62 id) h).1) (suffix_ascii id))
-
-taken : (b : Bool) (x id : List ℕ) → cond b (Some x) None ≡ Some id → (b ≡ true) × (x ≡ id)
-taken true x id h = (refl, cc)
-taken false x id h = absurd cc
 
 -- a text that spells an id is one of its two texts
 pub spells : (text id : List ℕ) → id_in text ≡ Some id → IsTrue (is_id id) × IsTextOf id text

@@ -7,13 +7,9 @@ use Rattle.std.specs.Cmp.Lexicographic.{slice_cmp}
 use Rattle.std.specs.Str.{encode_utf8_all}
 use Rattle.std.proofs.lemmas.Bool.{cases_lt, lt-ltb, le-ltb}
 use Rattle.std.proofs.lemmas.Bool.Decides.{nat_tests}
+use Rattle.base_lemmas.proofs.Orders.{ordering_then-assoc as then_assoc, nat_cmp-less as cmp_less}
 use lib.Utf8.{encode}
-use Rattle.base_value.proofs.DigitOrder.{cmp_join, cmp_less, cmp_more}
-
-pub then_assoc : (a b c : Ordering) → ordering_then (ordering_then a b) c ≡ ordering_then a (ordering_then b c)
-then_assoc Less b c = refl
-then_assoc Equal b c = refl
-then_assoc Greater b c = refl
+use Rattle.base_value.proofs.DigitOrder.{cmp_join, cmp_more}
 
 three_turns : (a b c d : Ordering) → ordering_then (ordering_then a (ordering_then b c)) d ≡ ordering_then a (ordering_then b (ordering_then c d))
 three_turns Less b c d = refl

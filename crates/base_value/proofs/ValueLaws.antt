@@ -2,10 +2,13 @@
 use Rattle.std.proofs.Common.{◌≡◌, ℕ, Bool, true, false, ◌&&◌, ◌||◌, cond, List, [], ◌∷◌, ◌++◌, length, Option, Some, None, Result, Ok, Err, ℤ, pos, ◌*ℤ◌, refl, sym, ap, subst, ◌∙◌, arith, inr}
 use Rattle.std.specs.Prelude.{bytes_eq, nat_le}
 use Rattle.std.specs.List.{list_any, list_all}
-use Rattle.std.specs.Str.{IsAscii, all_scalars}
+use Rattle.std.specs.Str.{all_scalars}
 use Rattle.std.proofs.lemmas.Bool.Decides.{nat_tests}
 use Rattle.std.proofs.lemmas.Slice.Eq.{bytes_eq-Decides}
-use Rattle.std.proofs.lemmas.Str.{IsUtf8-from_ascii, chars-IsAscii, scalars-chars}
+use Rattle.std.proofs.lemmas.Option.{same_Some as same_some}
+use Rattle.std.proofs.lemmas.Bool.{and_parts as both}
+use Rattle.base_lemmas.proofs.Texts.{scalars-ascii as ascii_scalars}
+use Rattle.base_lemmas.proofs.Results.{same_Ok as same_ok}
 use Rattle.base_value.specs.Conversion.{convert, number_of_truth, where_read}
 use Rattle.base_value.specs.Dates.{is_day, is_moment}
 use Rattle.base_value.specs.Id.{id_in, is_id, print18, suffix}
@@ -80,18 +83,11 @@ written_valid (type.Picklist values) c cs v s h =
 written_valid (type.Lookup object on_delete) c cs v s h = let r = id_valid (c ∷ cs) v h in along (type.Lookup object on_delete) (value.Ref r.0) v r.1 r.2
 written_valid (type.Master object) c cs v s h = let r = id_valid (c ∷ cs) v h in along (type.Master object) (value.Ref r.0) v r.1 r.2
 
-same_ok : {X E : Type 0} (x v : X) → ◌≡◌ {A = Result X E} (Ok x) (Ok v) → x ≡ v
-same_ok x v h = cc
-
 pub read_valid : (kind : FieldType) (cs : List ℕ) (v : Value) → all_scalars cs ≡ true → read_value kind cs ≡ Ok v → valid kind v ≡ true
 read_valid kind [] v s h = along kind (empty_value kind) v (same_ok (empty_value kind) v h) (empty_valid kind)
 read_valid kind (c ∷ cs) v s h = written_valid kind c cs v s h
 
 -- ---- what is printed reads back
-both : (a b : Bool) → (a && b) ≡ true → (a ≡ true) × (b ≡ true)
-both true b h = (refl, h)
-both false b h = absurd cc
-
 -- a text of some characters is read as one that is written
 back_by : (kind : FieldType) (cs : List ℕ) (v : Value) → (c : ℕ) × (rest : List ℕ) × (cs ≡ c ∷ rest) → read_written kind cs ≡ Ok v → read_value kind cs ≡ Ok v
 back_by kind cs v starts h = subst (λ (x : List ℕ). read_value kind x ≡ Ok v) (sym starts.2) (subst (λ (x : List ℕ). read_written kind x ≡ Ok v) starts.2 h)
@@ -166,9 +162,6 @@ printable kind (value.Day day) h = day_of_kind kind day h
 printable kind (value.Moment second) h = moment_of_kind kind second h
 printable kind (value.Ref id) h = refl
 
-ascii_scalars : (cs : List ℕ) → IsAscii cs → all_scalars cs ≡ true
-ascii_scalars cs a = ap all_scalars (sym (chars-IsAscii cs a)) ∙ scalars-chars cs (IsUtf8-from_ascii cs a)
-
 choice_scalars : (values : List (List ℕ)) (cs : List ℕ) → list_all is_choice values ≡ true → list_any (bytes_eq cs) values ≡ true → all_scalars cs ≡ true
 choice_scalars [] cs a h = absurd cc
 choice_scalars (x ∷ values) cs a h = by (bytes_eq cs x) refl h (λ k. choice_scalars values cs (both (is_choice x) (list_all is_choice values) a).1 k)
@@ -196,9 +189,6 @@ print_scalars kind (value.Moment second) t h = ascii_scalars (print_moment secon
 print_scalars kind (value.Ref id) t h = ascii_scalars (print18 id) (text_ascii id (print18 id) (id_of_kind kind id h) (inr refl))
 
 -- ---- what is converted is valid
-same_some : {X : Type 0} (x v : X) → ◌≡◌ {A = Option X} (Some x) (Some v) → x ≡ v
-same_some x v h = cc
-
 read_as : (r : Result Value ValueFail) (w : Value) → where_read r ≡ Some w → r ≡ Ok w
 read_as (Ok v) w h = cc
 read_as (Err e) w h = absurd cc

@@ -2,10 +2,11 @@
 use Rattle.std.proofs.Common.{◌≡◌, ℕ, true, false, List, [], ℤ, pos, refl, sym, ap, ◌∙◌, subst}
 use Rattle.std.specs.Prelude.{IsTrue, ◌↔◌}
 use Rattle.std.specs.declared.cmp.Ordering.{Ordering}
-use Rattle.std.specs.declared.cmp.Ordering.TheVariants.{Less, Equal, Greater}
-use Rattle.std.specs.Ordering.{nat_cmp, int_cmp, ordering_then, then_cmp, on, is_eq}
+use Rattle.std.specs.Ordering.{nat_cmp, int_cmp, then_cmp, on, is_eq}
 use Rattle.std.specs.Cmp.{IsTotalOrder, Equal-is, nat_cmp_total, int_cmp_total, on_total, then_total, tied_itself}
-use Rattle.std.specs.Cmp.Lexicographic.{slice_cmp, nat_list_cmp_total, texts_ties, bytes_decides}
+use Rattle.std.specs.Cmp.Lexicographic.{slice_cmp, nat_list_cmp_total}
+use Rattle.base_lemmas.proofs.Lists.{same_from_slice_cmp_equal as lists_equal}
+use Rattle.base_lemmas.proofs.Orders.{ordering_then-equal as then_equal}
 use Rattle.caseless.specs.Caseless.{default_case_fold}
 use Rattle.base_value.specs.Values.{cmp, equal, kind_place}
 use Rattle.base_value.specs.OrderKeys.{order_key, Fits}
@@ -29,9 +30,6 @@ key_order (value.Bool false) (value.Bool true) f g = refl
 key_order (value.Bool true) (value.Bool false) f g = refl
 key_order (value.Bool true) (value.Bool true) f g = refl
 key_order a b f g = refl
-
-pub lists_equal : (xs ys : List ℕ) → slice_cmp nat_cmp xs ys ≡ Equal → xs ≡ ys
-lists_equal xs ys e = (bytes_decides xs ys).0 (texts_ties xs ys ∙ ap is_eq e)
 
 pub same_keys : (a b : Value) → Fits a → Fits b → (order_key a ≡ order_key b) ↔ IsTrue (equal a b)
 same_keys a b f g = (
@@ -57,11 +55,6 @@ list_in _ = []
 
 by_parts : Value → Value → Ordering
 by_parts = then_cmp (on kind_place nat_cmp) (then_cmp (on number_in int_cmp) (on list_in (slice_cmp nat_cmp)))
-
-then_equal : (o : Ordering) → ordering_then o Equal ≡ o
-then_equal Less = refl
-then_equal Equal = refl
-then_equal Greater = refl
 
 by_parts_is : (a b : Value) → by_parts a b ≡ cmp a b
 unfolding by_parts number_in list_in

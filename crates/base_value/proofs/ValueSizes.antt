@@ -1,5 +1,5 @@
 -- The numbers of valid values fit their types, and what is printed of such a value is short.
-use Rattle.std.proofs.Common.{◌≡◌, ℕ, zero, suc, ◌+◌, ◌-◌, ◌/◌, ◌%◌, ◌^◌, ◌<◌, ◌≤◌, ◌==◌, Bool, true, false, ◌&&◌, ◌||◌, cond, List, [], ◌∷◌, ◌++◌, map, length, refl, sym, subst, arith, lit<, eqb-true, length-append, ℤ, pos, negsuc, None}
+use Rattle.std.proofs.Common.{◌≡◌, ℕ, zero, suc, ◌+◌, ◌-◌, ◌/◌, ◌%◌, ◌^◌, ◌<◌, ◌≤◌, ◌==◌, Bool, true, false, ◌&&◌, ◌||◌, cond, List, [], ◌∷◌, ◌++◌, map, length, refl, sym, subst, arith, lit<, eqb-true, length-append, ℤ, pos, negsuc, None, ltb-true as less}
 use Rattle.std.specs.Prelude.{bytes_eq, codes, nat_le, nat_lt, unsigned_abs}
 use Rattle.std.specs.Fmt.{decimal}
 use Rattle.std.specs.List.{list_all, list_any}
@@ -33,9 +33,6 @@ within low high n h =
     grind (arith, nat_tests)
 
 -- ---- numbers
-
-less : (a b : ℕ) → nat_lt a b ≡ true → a < b
-less a b h = grind (arith, nat_tests)
 
 number_small : (digits decimals n : ℕ) → is_type (type.Number digits decimals) ≡ true → n < 10 ^ (digits - decimals + 8) → n < 10 ^ 26
 number_small digits decimals n h lt =

@@ -5,6 +5,7 @@ use lib.Signed.{le_z}
 use Rattle.std.specs.Prelude.{codes, nat_le}
 use Rattle.std.specs.Result.{result_ok}
 use Rattle.std.proofs.lemmas.Bool.Decides.{nat_tests}
+use Rattle.std.proofs.lemmas.Bool.{and_parts as both}
 use Rattle.jiff_core.specs.declared.civil.date.Date.{Date}
 use Rattle.jiff_core.specs.declared.error.Error.{Error}
 use Rattle.jiff_core.specs.Calendar.{IsBetween, IsYear, IsEpochDay, IsDate, days_in_month}
@@ -12,7 +13,6 @@ use Rattle.jiff_core.specs.Date.{IsYmd, epoch_day}
 use Rattle.jiff_core.proofs.SignedLemmas.{signed_arith, back_small, one_part}
 use Rattle.base_value.specs.Numerals.{is_within}
 use Rattle.base_value.specs.Dates.{has_form, is_date, is_calendar_date, day_number, year_of, month_of, day_of}
-use Rattle.base_value.proofs.Choices.{both}
 use Rattle.base_value.proofs.WrittenForms.{date_parts}
 
 between : (low high n : ℕ) → IsBetween (pos low) (pos high) (pos n) → (low ≤ n) × (n ≤ high)

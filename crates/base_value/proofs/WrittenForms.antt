@@ -3,9 +3,9 @@ use Rattle.std.proofs.Common.{◌≡◌, ℕ, zero, suc, ◌+◌, ◌<◌, ◌==
 use Rattle.std.specs.Prelude.{codes}
 use Rattle.std.specs.List.{list_all, zip}
 use Rattle.std.proofs.lemmas.Bool.Decides.{nat_tests}
+use Rattle.std.proofs.lemmas.Bool.{and_parts as both}
 use Rattle.base_value.specs.Numerals.{is_digit}
 use Rattle.base_value.specs.Dates.{fits, has_form, two_at, year_of, month_of, day_of}
-use Rattle.base_value.proofs.Choices.{both}
 
 digit_fits : (form c : ℕ) → fits form c ≡ true → form ≡ 48 → is_digit c ≡ true
 unfolding fits

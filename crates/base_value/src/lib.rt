@@ -45,7 +45,7 @@ pub use crate::laws::{
     cause_laws, digit_laws, id_laws, id_rows, law_rows, principal_laws, value_laws,
 };
 pub use crate::numeral::{is_digit, is_written_number};
-pub use crate::ordering::{order, order_key, same_value, text_order};
+pub use crate::ordering::{order, order_key, same_value};
 pub use crate::ordering_laws::{order_laws, order_rows};
 pub use crate::printing::print_value;
 pub use crate::reading::{empty_value, id_in, read_value};

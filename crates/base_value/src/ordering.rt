@@ -13,8 +13,8 @@ use caseless::{Caseless, default_case_fold_str};
 use std::alloc::{AllocError, Global};
 use std::cmp::Ordering;
 
-/// The order of two texts: that of their folded characters, by number. It takes no memory.
-pub fn text_order(a: &str, b: &str) -> Ordering
+// The order of two texts: that of their folded characters, by number. It takes no memory.
+fn text_order(a: &str, b: &str) -> Ordering
     ensures { result ≡ text_cmp (chars a.now) (chars b.now) }
 {
     a.chars()

@@ -32,9 +32,6 @@ unknown_by_names name csvq org_add export load demo answer serve others =
     by false false false false false false true e f i k j g h = absurd (serve (sym ((bytes_eq-Decides name (codes "serve")).0 h)))
     by false false false false false false false e f i k j g h = refl
 
-pub false_isnt_true : false ≡ true → ⊥
-false_isnt_true e = absurd cc
-
 -- words of which the second is a port, and those behind it a command
 pub line_of_words : {X : Type 0} (f : X → List ℕ) (words : List X) (second : X) → 2 ≤ length words → second ≡ get_or words 1 second → IsPort (f second) → (command_of (map f (take (length words - 2) (drop 2 words))) ≡ None → ⊥)
     → IsCommandLine (map f words)

@@ -1,7 +1,7 @@
 -- What is judged in the organisation that is named, in the world.
 use Rattle.std.proofs.Common.{◌≡◌, ℕ, ◌<◌, ◌≤◌, ◌^◌, zero, suc, Bool, true, false, [], ◌∷◌, length, Option, Some, None, Result, Ok, Err, refl, sym, ap, subst, ◌∙◌, arith}
-use Rattle.std.proofs.lemmas.Bool.Decides.{nat_tests}
 use Rattle.std.specs.Prelude.{nat_lt}
+use Rattle.base_lemmas.proofs.Numbers.{lt_from_ltb as lower, le_from_ltb as upper}
 use Rattle.store_kv.specs.Tables.{Tables}
 use Rattle.store_rows.specs.declared.fail.StoreFail.{StoreFail}
 use Rattle.model.specs.Callers.{Named, caller_of}
@@ -23,12 +23,6 @@ pub record WorldLaws : Type 0 where
       → StandsBy (with_plan n q p) after (with_tenant w n u)
   pub nobody : (p : Plan) (m after : Tables) (w : World) (n : ℕ) (q : OrgPlan) → n < 2 ^ 32 → StandsBy p m w → tenant_at w n ≡ None → StandsIn n q after None → KeepsOthers n m after → StandsBy p after w
   pub same : (w : World) (n : ℕ) (t : Tenant) → tenant_at w n ≡ Some t → with_tenant w n t ≡ w
-
-pub lower : {a b : ℕ} → nat_lt a b ≡ true → a < b
-lower h = grind (arith, nat_tests)
-
-pub upper : {a b : ℕ} → nat_lt a b ≡ false → b ≤ a
-upper h = grind (arith, nat_tests)
 
 -- no organisation has such a number
 pub beyond : (w : World) (n : ℕ) → length w < n → tenant_at w n ≡ None

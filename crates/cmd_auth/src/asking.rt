@@ -76,13 +76,9 @@ fn behind_step<X: Drop>(
     }
 }
 
-/// Makes the step of a change of a type that is under way in the caller's organisation, and then judges what the caller asks, over
-/// the same draft: so both are done, or neither.
-///
-/// # Errors
-///
-/// As `judge` of what is asked.
-pub fn answer_called<K: Keeper, A: Ask>(
+// Makes the step of a change of a type that is under way in the caller's organisation, and then judges what the caller asks, over
+// the same draft: so both are done, or neither.
+fn answer_called<K: Keeper, A: Ask>(
     alloc: Global,
     draft: &mut Draft<'_, K>,
     asked: &A,

@@ -9,5 +9,5 @@
 mod asking;
 mod laws;
 
-pub use crate::asking::{Ask, answer_asked, answer_called};
+pub use crate::asking::{Ask, answer_asked};
 pub use crate::laws::asking_laws;

@@ -5,7 +5,7 @@ use Rattle.std.specs.Prelude.{nat_lt}
 use Rattle.std.specs.Cmp.Lexicographic.{slice_cmp}
 use Rattle.std.specs.Ordering.{is_lt, nat_cmp}
 use Rattle.std.specs.declared.cmp.Ordering.{Ordering}
-use Rattle.soql_ast.specs.declared.query.Query.{Query}
+use Rattle.soql.specs.declared.query.Query.{Query}
 use Rattle.model.specs.Cases.{in_case}
 use Rattle.model.specs.Creates.{create, create_on, create_rules, empty_record, master_denied, with_record}
 use Rattle.model.specs.Edits.{bad_target, bad_value, duplicate, required_missing, validation_failed, with_given}

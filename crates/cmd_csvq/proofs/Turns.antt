@@ -8,7 +8,7 @@ use Rattle.store_kv.specs.Draft.{Held}
 use Rattle.store_kv.specs.Memory.{InMemory}
 use Rattle.store_rows.specs.declared.fail.StoreFail.{StoreFail}
 use Rattle.store_rows.specs.declared.fail.StoreFail.TheVariants.{Memory}
-use Rattle.soql_ast.specs.declared.query.Query.{Query}
+use Rattle.soql.specs.declared.query.Query.{Query}
 use Rattle.base_csv.specs.Place.{TellsPlace}
 use Rattle.base_csv.specs.Table.{first_refused, table_of}
 use Rattle.base_csv.specs.declared.fail.TableFail.{TableFail}

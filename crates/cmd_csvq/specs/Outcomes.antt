@@ -1,7 +1,7 @@
 -- What a query over a CSV text comes to.
--- Sources: of the texts `soql_grammar` and `base_csv`, of the rest the definitions of the model.
+-- Sources: of the texts `soql` and `base_csv`, of the rest the definitions of the model.
 use Rattle.std.specs.Prelude.{ℕ, false, nat_le, if◌then◌else◌, List, [], ◌∷◌, length, Result, Ok, Err, ℤ}
-use Rattle.soql_ast.specs.declared.query.Query.{Query}
+use Rattle.soql.specs.declared.query.Query.{Query}
 use Rattle.base_csv.specs.Table.{first_refused, table_of}
 use Rattle.model.specs.declared.refusal.Refusal.{Refusal}
 use Rattle.model.specs.declared.refusal.Refusal.TheVariants.{CsvRefused, HeadingRefused, InputTooLarge}

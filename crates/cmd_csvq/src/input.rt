@@ -20,7 +20,7 @@ use base_value::Bytes;
 use cmd_sandbox::{answer, make_org};
 use csv::StringRecord;
 use model::Refusal;
-use soql_ast::Query;
+use soql::Query;
 use std::alloc::{AllocError, Global};
 use store_abstraction::stands_laws;
 use store_kv::{Draft, MemoryKeeper};

@@ -6,7 +6,7 @@ use Rattle.std.specs.Prelude.{List, [], ◌∷◌, codes, drop, filter, length, 
 use Rattle.std.specs.Fmt.{decimal}
 use Rattle.std.specs.Str.{chars}
 use Rattle.base_json.specs.declared.tree.Json.TheVariants as json
-use Rattle.soql_ast.specs.declared.query.Query.{Query}
+use Rattle.soql.specs.declared.query.Query.{Query}
 use Rattle.base_value.specs.declared.job.Outcome.{Outcome}
 use Rattle.base_value.specs.declared.job.Outcome.TheVariants as outcome
 use Rattle.base_value.specs.declared.sharing.Access.TheVariants as access

@@ -9,7 +9,7 @@ ghost use Rattle.base_value.specs.Dates.{is_moment};
 
 use base_value::Bytes;
 use cmd_sandbox::{answer, query_of};
-use soql_ast::Query;
+use soql::Query;
 use std::alloc::Global;
 use store_abstraction::EditFail;
 use store_kv::{Draft, MemoryKeeper};

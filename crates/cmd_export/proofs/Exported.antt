@@ -3,7 +3,7 @@ use Rattle.std.proofs.Common.{◌≡◌, ◌⊎◌, inl, inr, ℕ, Bool, true, f
 use Rattle.std.specs.Prelude.{if◌then◌else◌}
 use Rattle.std.specs.List.{list_any}
 use Rattle.std.specs.Result.{result_and}
-use Rattle.query_reply.specs.Answers.{IsAskedOf, IsAskedOver}
+use Rattle.query_json.specs.Answers.{IsAskedOf, IsAskedOver}
 use Rattle.store_kv.specs.Tables.{Tables}
 use Rattle.store_rows.specs.declared.fail.StoreFail.{StoreFail}
 use Rattle.query_csv.specs.Answered.{IsAskedBy, IsLines}
@@ -18,7 +18,7 @@ use Rattle.model.specs.Paths.{Asked}
 use Rattle.model.specs.Tenant.{Tenant, User}
 use Rattle.model.specs.Verdict.{Verdict, accept, judged, refuse, rows_of}
 use Rattle.query_run.specs.Forms.{IsAnswer}
-use Rattle.soql_ast.specs.declared.query.Query.{Query}
+use Rattle.soql.specs.declared.query.Query.{Query}
 use Rattle.query_check.specs.Reaching.{Reaches}
 use Rattle.access_traits.specs.Rights.{Whose}
 use Rattle.store_abstraction.specs.declared.judged.Judged.{Judged}

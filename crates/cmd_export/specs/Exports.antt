@@ -8,10 +8,10 @@ use Rattle.query_csv.specs.Lines.{query_lines}
 use Rattle.model.specs.declared.refusal.Refusal.{Refusal}
 use Rattle.model.specs.declared.refusal.Refusal.TheVariants.{MalformedQuery, SubqueryNotExported}
 use Rattle.model.specs.Paths.{Asked}
-use Rattle.soql_ast.specs.declared.query.Item.{Item}
-use Rattle.soql_ast.specs.declared.query.Item.TheVariants as item
-use Rattle.soql_ast.specs.declared.query.Query.{Query}
-use Rattle.soql_grammar.specs.Spelling.{reads_query}
+use Rattle.soql.specs.declared.query.Item.{Item}
+use Rattle.soql.specs.declared.query.Item.TheVariants as item
+use Rattle.soql.specs.declared.query.Query.{Query}
+use Rattle.soql.specs.grammar.Spelling.{reads_query}
 use Rattle.model_step.specs.Shown.{further_to, request_shown}
 
 -- a child subquery

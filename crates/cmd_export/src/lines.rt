@@ -7,7 +7,7 @@ use base_value::Bytes;
 use model::Refusal;
 use query_csv::answer_lines;
 use query_run::QueryForm;
-use soql_ast::Query;
+use soql::Query;
 use std::alloc::Global;
 use store_abstraction::Layout;
 use store_kv::{Draft, Keeper};

@@ -3,6 +3,7 @@ use Rattle.std.proofs.Common.{◌≡◌, ◌∙◌, ℕ, suc, ◌+◌, ◌*◌, 
 use Rattle.std.proofs.Math.Nat.{mul-le-mul_right, suc-mul}
 use Rattle.std.specs.Prelude.{IsErr}
 use Rattle.std.specs.Result.{IsErrAnd}
+use Rattle.std.proofs.lemmas.Bool.{false≢true as false_isnt_true}
 use Rattle.store_kv.specs.Draft.{DraftReads, DraftTells, DraftWorks, Held, count_of}
 use Rattle.store_kv.specs.State.{KeeperState}
 use Rattle.store_rows.specs.declared.fail.StoreFail.{StoreFail}
@@ -31,9 +32,6 @@ at_most i n x y lt few =
     let one = once_more i x y few in
     let all : (i + 1) * x ≤ n * x = mul-le-mul_right x (omega (arith, lt)) in
     omega (arith, one, all)
-
-false_isnt_true : false ≡ true → ⊥
-false_isnt_true e = cc
 
 module _ {K : Type 0} (state : K → KeeperState) where
   -- what `store_kv` and `store_abstraction` say of one call after another

@@ -1,18 +1,12 @@
 -- Rows done in turn.
 use Rattle.std.proofs.Common.{◌≡◌, ◌∙◌, ℕ, Bool, true, false, ◌||◌, List, [], ◌∷◌, ◌++◌, Ok, refl, sym, ap, subst, append-nil, append_assoc}
+use Rattle.std.proofs.lemmas.Bool.{true≢false as true_isnt_false, or_parts as or_false}
 use Rattle.store_kv.specs.Tables.{Tables}
 use Rattle.store_abstraction.specs.declared.judged.Judged.{Judged}
 use Rattle.store_abstraction.specs.declared.judged.Judged.TheVariants.{Changed, Same}
 use Rattle.store_abstraction.specs.Operations.{IsSame, Judges}
 use Rattle.cmd_load.specs.Batches.{AskedRow, done_in_turn}
 use Rattle.cmd_load.specs.inner.Joining.{is_changed, judged_so, line_in}
-
-true_isnt_false : true ≡ false → ⊥
-true_isnt_false e = absurd cc
-
-or_false : (a b : Bool) → (a || b) ≡ false → (a ≡ false) × (b ≡ false)
-or_false false b h = (refl, h)
-or_false true b h = absurd (true_isnt_false h)
 
 module _ {S : Type 0} (stands : Tables → S → Type 0) (does : AskedRow → S → List ℕ × S) (all : List AskedRow) (s : S) where
   -- those before `rest` were done

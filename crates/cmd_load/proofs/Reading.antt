@@ -1,6 +1,6 @@
 -- Rows that are asked while a clock goes on.
-use Rattle.std.proofs.Common.{◌≡◌, ◌∙◌, ℕ, zero, suc, ◌+◌, ◌≤◌, List, [], ◌∷◌, ◌++◌, drop, length, map, take, Option, Some, None, inl, inr, refl, sym, ap, arith, append-nil, append_assoc}
-use Rattle.std.proofs.lemmas.List.{drop_all, drop_more, length-append, length-map, map_push}
+use Rattle.std.proofs.Common.{◌≡◌, ◌∙◌, ℕ, zero, suc, ◌+◌, ◌≤◌, List, [], ◌∷◌, ◌++◌, drop, length, map, take, Option, Some, None, inl, inr, refl, sym, ap, arith, append-nil, append_assoc, take_all as short_taken}
+use Rattle.std.proofs.lemmas.List.{drop_all, drop_more, length-append, length-map, map_push, drop_all as short_dropped}
 use Rattle.std.proofs.lemmas.Option.{get_or_from_slice_get, slice_get_cases, slice_get_within}
 use Rattle.std.specs.Prelude.{slice_get}
 use Rattle.base_io.specs.Moments.{AskedOnce, IsFirstMoment, after_asking, or_first}
@@ -59,19 +59,6 @@ asked_more a b c n m rows row at first second later may =
     )
 
 -- ---- a batch of them
-
--- a list that ends within so many
-pub short_taken : {X : Type 0} (n : ℕ) (xs : List X) → length xs ≤ n → take n xs ≡ xs
-short_taken zero [] few = refl
-short_taken (suc n) [] few = refl
-short_taken zero (x ∷ xs) few = absurd (omega (arith, few))
-short_taken (suc n) (x ∷ xs) few = ap (λ ys. x ∷ ys) (short_taken n xs (omega (arith, few)))
-
-pub short_dropped : {X : Type 0} (n : ℕ) (xs : List X) → length xs ≤ n → drop n xs ≡ []
-short_dropped zero [] few = refl
-short_dropped (suc n) [] few = refl
-short_dropped zero (x ∷ xs) few = absurd (omega (arith, few))
-short_dropped (suc n) (x ∷ xs) few = short_dropped n xs (omega (arith, few))
 
 -- the first so many, and those behind them
 pub front_taken : {X : Type 0} (n : ℕ) (xs ys : List X) → length xs ≡ n → take n (xs ++ ys) ≡ xs

@@ -1,5 +1,6 @@
 -- Rows of who is named, over tables.
 use Rattle.std.proofs.Common.{◌≡◌, ◌∙◌, ℕ, ◌<◌, ◌≤◌, ◌^◌, Bool, true, false, ◌||◌, List, [], ◌∷◌, ◌++◌, Option, Some, None, Result, Ok, Err, refl, sym, ap, subst, append-nil, append_assoc}
+use Rattle.std.proofs.lemmas.Bool.{true≢false as not_true}
 use Rattle.cmd_auth.specs.Judging.{JudgesFor, JudgesIn, RefusesUncalled}
 use Rattle.cmd_load_plan.specs.Rows.{refused_line}
 use Rattle.cmd_load_plan.specs.declared.plan.LoadPlan.{LoadPlan}
@@ -21,10 +22,6 @@ use Rattle.cmd_load.proofs.Joining.{Done, all_done, none_done, one_done}
 -- a row that is asked by anyone, judged
 abbrev pub RowJudged : LoadPlan → AskedRow → Option Named → (before after : Tables) → Result (Judged (List ℕ)) StoreFail → Type 0
 RowJudged p r named before after result = JudgesFor (row_asked p r.number r.cells) (refused_line r.number InvalidSession) r.moment named before after result
-
--- nothing changed yet
-not_true : true ≡ false → ⊥
-not_true e = cc
 
 -- who isn't a user of an organisation: each line refuses, and nothing changed
 pub record Refused (all rest : List AskedRow) (lines : List ℕ) (changed : Bool) : Type 0 where

@@ -1,7 +1,8 @@
 -- What is found and judged in the organisation that is named, in the world.
 use Rattle.std.proofs.Common.{◌≡◌, ◌∙◌, ℕ, ◌<◌, ◌≤◌, ◌^◌, zero, suc, Bool, true, false, List, [], ◌∷◌, ◌++◌, Option, Some, None, Result, refl, sym, ap, subst}
 use Rattle.std.specs.Prelude.{nat_lt}
-use Rattle.cmd_auth.proofs.Worlds.{Stays, WorldLaws, lower, none_beyond, own_world, refused_world, upper}
+use Rattle.base_lemmas.proofs.Numbers.{lt_from_ltb as lower, le_from_ltb as upper}
+use Rattle.cmd_auth.proofs.Worlds.{Stays, WorldLaws, none_beyond, own_world, refused_world}
 use Rattle.cmd_auth.specs.Asking.{if_called, world_with}
 use Rattle.cmd_load_plan.specs.Rows.{refused_line}
 use Rattle.cmd_load_plan.specs.declared.plan.LoadPlan.{LoadPlan}

@@ -1,9 +1,10 @@
 -- What the columns and the cells from a place on give.
 use Rattle.std.proofs.Common.{◌≡◌, ◌∙◌, ℕ, ◌+◌, ◌<◌, ◌≤◌, Bool, true, false, ◌&&◌, ltb, Bor, List, [], ◌∷◌, ◌++◌, map, drop, length, get_or, min, refl, sym, ap, arith, append_assoc, append-nil}
-use Rattle.std.proofs.lemmas.List.{at_drop_all, at_drop_more}
+use Rattle.std.proofs.lemmas.List.{at_drop_all}
 use Rattle.std.proofs.lemmas.List.Folds.{list_all-append}
 use Rattle.std.specs.List.{list_all}
 use Rattle.std.proofs.lemmas.Bool.{ltb-false, ltb-true}
+use Rattle.base_lemmas.proofs.Lists.{drop-cons_read as rest_is}
 use Rattle.model.specs.declared.record_bodies.Assignment.{Assignment}
 use Rattle.cmd_load_plan.specs.declared.plan.LoadColumn.{LoadColumn}
 use Rattle.cmd_load_plan.specs.Rows.{given_in, given_row, has_characters}
@@ -24,9 +25,6 @@ first_given : (c : LoadColumn) (columns : List LoadColumn) (cell : List ℕ) (ce
     → given_row (c ∷ columns) (cell ∷ cells) ≡ record { field = c.field; given = given_in c cell } ∷ given_row columns cells
 unfolding given_row
 first_given c columns cell cells = refl
-
-rest_is : {X : Type 0} (xs : List X) (n : ℕ) (x : X) → n < length xs → x ≡ get_or xs n x → drop n xs ≡ x ∷ drop (n + 1) xs
-rest_is {X = X} xs n x lt is = at_drop_more (λ (ys : List X). ys) xs n x lt ∙ ap (λ (y : X). y ∷ drop (n + 1) xs) (sym is)
 
 module _ (columns : List LoadColumn) (cells : List (Bor (List ℕ))) (n : ℕ) where
   pub one_given : (c : LoadColumn) (cell : Bor (List ℕ)) → n < length columns → n < length cells → c ≡ get_or columns n c → cell ≡ get_or cells n cell

@@ -4,6 +4,8 @@ use Rattle.std.specs.List.{enumerate_from, find, flat_map}
 use Rattle.std.specs.Option.{option_and_then, option_map}
 use Rattle.std.specs.Prelude.{OkIff, slice_get}
 use Rattle.std.specs.Result.{result_ok}
+use Rattle.std.proofs.lemmas.Option.{slice_get_within as get_below, same_Some as some_is}
+use Rattle.base_lemmas.proofs.Bools.{by_answer as pick}
 use Rattle.model.specs.Cases.{in_case}
 use Rattle.model.specs.Fields.{same_name}
 use Rattle.model.specs.Objects.{object_numbered}
@@ -15,15 +17,14 @@ use Rattle.store_abstraction.specs.Layouts.{IsLayout, place_of}
 use Rattle.store_abstraction.specs.Plan.{OrgPlan}
 use Rattle.store_abstraction.specs.declared.layout.FieldPlace.{FieldPlace}
 use Rattle.store_abstraction.specs.declared.layout.Layout.{Layout}
-use Rattle.store_abstraction.proofs.Lookups.{get_below, pick, some_is}
 use Rattle.store_abstraction.proofs.MetadataRows.{sound_object}
 use Rattle.schema_rules.specs.Objects.{object_of_layout}
 use Rattle.record_input.specs.Given.{NamesUnique}
 use Rattle.record_input.proofs.Spelled.{unique_alike}
-use Rattle.query_paths.specs.declared.parents.ParentStep.{ParentStep}
-use Rattle.query_paths.specs.Ways.{parent_step}
-use Rattle.query_paths.proofs.ByLayout.{layout_is}
-use Rattle.query_paths.proofs.Owned.{numbered_as, parent_is}
+use Rattle.query_plan.specs.declared.paths.parents.ParentStep.{ParentStep}
+use Rattle.query_plan.specs.paths.Ways.{parent_step}
+use Rattle.query_plan.proofs.ByLayout.{layout_is}
+use Rattle.query_plan.proofs.Owned.{numbered_as, parent_is}
 use Rattle.cmd_load_plan.specs.declared.plan.LoadColumn.{LoadColumn}
 use Rattle.cmd_load_plan.specs.Columns.{found_by, parent_column}
 use Rattle.cmd_load_plan.specs.inner.Headings.{column_at, unique_place}

@@ -5,6 +5,7 @@ use Rattle.std.specs.List.{enumerate_from}
 use Rattle.std.specs.Option.{is_some, option_and_then, option_map}
 use Rattle.std.specs.Prelude.{slice_get}
 use Rattle.std.specs.Str.{chars}
+use Rattle.std.proofs.lemmas.Option.{same_Some as some_is}
 use Rattle.model.specs.Cases.{in_case}
 use Rattle.model.specs.Fields.{column_named}
 use Rattle.model.specs.Objects.{Numbered}
@@ -12,7 +13,6 @@ use Rattle.model.specs.Tenant.{Field, Object, Tenant}
 use Rattle.model.specs.Upserts.{unique_named}
 use Rattle.store_abstraction.specs.Layouts.{layout_of, place_of}
 use Rattle.store_abstraction.specs.Plan.{OrgPlan}
-use Rattle.store_abstraction.proofs.Lookups.{some_is}
 use Rattle.schema_rules.specs.Objects.{field_of_place, numbered_in}
 use Rattle.cmd_load_plan.specs.declared.plan.LoadColumn.{LoadColumn}
 use Rattle.cmd_load_plan.specs.declared.plan.LoadPlan.{LoadPlan}

@@ -8,7 +8,7 @@ ghost use Rattle.schema_rules.specs.Objects.{object_of_layout};
 
 use crate::plan::LoadColumn;
 use base_value::Text;
-use query_paths::{layout_in, parent_in};
+use query_plan::{layout_in, parent_in};
 use record_input::{column_named, unique_named};
 use std::alloc::{AllocError, Global};
 use store_abstraction::{FieldPlace, Layout};

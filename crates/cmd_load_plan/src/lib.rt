@@ -1,6 +1,6 @@
 //! CSV texts that are loaded into an object.
 //!
-//! It depends on `model` for the requests that rows make, on `record_input` and `query_paths` for the fields that cells name, and on
+//! It depends on `model` for the requests that rows make, on `record_input` and `query_plan` for the fields that cells name, and on
 //! `base_csv` for lines. Its definitions say which columns a heading has, which request each row makes, and which line tells
 //! what became of it. Its contract: what it returns is what they say, for the object that the layout spells.
 #![tactic(auto)]

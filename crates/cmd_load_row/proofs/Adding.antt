@@ -1,6 +1,7 @@
 -- What is found for one more that is given.
 use Rattle.std.proofs.Common.{◌≡◌, ◌∙◌, ◌⊎◌, ℕ, ◌+◌, ◌<◌, Bool, true, false, ◌||◌, cond, List, [], ◌∷◌, ◌++◌, get_or, length, take, Option, Some, None, Result, Ok, Err, refl, sym, ap, subst, inl, inr}
 use Rattle.std.specs.Prelude.{OnOk}
+use Rattle.base_lemmas.proofs.Texts.{bytes_eq-self as same_itself}
 use Rattle.record_input.specs.Given.{finds_none}
 use Rattle.model.specs.declared.record_bodies.Assignment.{Assignment}
 use Rattle.model.specs.declared.record_bodies.Given.{Given}
@@ -15,7 +16,6 @@ use Rattle.cmd_load_row.specs.declared.parents.Parent.{Parent}
 use Rattle.cmd_load_row.specs.inner.Finding.{FindsFor, ParentFor}
 use Rattle.cmd_load_row.specs.inner.Parents.{Adds, AllFound, IsFoundBy, has_parent, parent_named}
 use Rattle.cmd_load_row.proofs.Lists.{found_in_both, of_last, taken}
-use Rattle.cmd_load_row.proofs.Naming.{same_itself}
 
 -- none has the name
 pub none_named : (parents : List Parent) (name : List ℕ) → has_parent parents name ≡ false → parent_named parents name ≡ None

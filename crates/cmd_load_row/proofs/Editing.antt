@@ -1,10 +1,10 @@
 -- The edit that a row asks for, as what is told of the row.
 use Rattle.std.proofs.Common.{◌≡◌, ◌≤◌, ◌<◌, ◌^◌, ◌∙◌, ℕ, ◌+◌, Bool, true, false, IsTrue, List, [], ◌∷◌, Option, Some, None, Result, Ok, Err, refl, sym, ap, subst, arith, ℤ, pos}
-use Rattle.std.proofs.lemmas.Bool.Decides.{nat_tests}
 use Rattle.std.proofs.lemmas.Slice.Eq.{bytes_eq-Decides}
-use Rattle.std.specs.Prelude.{IfErr, IsErr, IsErrAnd, OnOk, if◌then◌else◌, is_some, nat_le}
+use Rattle.std.specs.Prelude.{IfErr, OnOk, if◌then◌else◌, is_some}
 use Rattle.std.specs.List.{list_all}
 use Rattle.std.specs.Str.{all_scalars, bytes_eq}
+use Rattle.base_lemmas.proofs.Numbers.{seconds_below as few_seconds}
 use Rattle.cmd_load_plan.specs.Rows.{done_line, has_characters, row_line}
 use Rattle.record_read.proofs.RecordFits.{MakesIds, record_is_id}
 use Rattle.store_edit.specs.Edits.{DraftsEdit, EditsAt, MakesEdit, OthersStay, Planned}
@@ -34,8 +34,8 @@ use Rattle.store_abstraction.specs.Local.{StandsIn}
 use Rattle.store_abstraction.specs.Plan.{OrgPlan}
 use Rattle.store_abstraction.specs.declared.fail.EditFail.{EditFail}
 use Rattle.store_abstraction.specs.declared.fail.EditFail.TheVariants.{Refused, Store}
-use Rattle.record_upsert.specs.Upserting.{ReadsFoundByKey}
-use Rattle.record_upsert.specs.declared.upsert.Upserted.{Upserted}
+use Rattle.record_save.specs.upsert.Upserting.{ReadsFoundByKey}
+use Rattle.record_save.specs.declared.upsert.upsert.Upserted.{Upserted}
 use Rattle.base_value.specs.Dates.{is_moment}
 use Rattle.cmd_load_row.specs.Loads.{load_shown, row_changes}
 use Rattle.cmd_load_row.specs.inner.Edits.{AsksBy, EditsRow, EditsTo, KnowsFound, seen, text_is_spelled}
@@ -152,11 +152,6 @@ row_stopped org asks request m after e result is never =
 pub never_damaged : Memory ≡ Damaged → ⊥
 never_damaged e = cc
 
--- what the exit of a `?` returns
-pub returned : {X E : Type 0} (r : Result X E) (e : E) → IsErr r × IsErrAnd r (λ x. x ≡ e) → r ≡ Err e
-returned (Ok x) e h = absurd h.1
-returned (Err y) e h = ap (λ z. Err z) h.1
-
 -- ---- what is left of the draft
 
 -- what `store_abstraction` says of no call at all, of reads, and of wider bounds
@@ -221,9 +216,6 @@ module _ {K : Type 0} (state : K → KeeperState) (laws : CallLaws state) where
       refused (Err e) more = λ refusal. reads 0 load_shown a b c calls.reads (more refusal)
 
 -- ---- moments
-
-few_seconds : (n : ℕ) → nat_le n 253402300799 ≡ true → n < 2 ^ 63
-few_seconds n h = grind (arith, nat_tests)
 
 pub moment_small : (n : ℕ) → IsTrue (is_moment (pos n)) → n < 2 ^ 63
 moment_small n h = few_seconds n h

@@ -2,7 +2,8 @@
 use Rattle.std.proofs.Common.{◌≡◌, ◌∙◌, ℕ, Bool, true, false, cond, List, [], ◌∷◌, map, Option, Some, None, Result, Ok, Err, refl, sym, ap, subst, bytes_eq}
 use Rattle.std.specs.List.{find}
 use Rattle.std.specs.Str.{chars}
-use Rattle.record_input.proofs.Searching.{all_pass, found_has, some_is}
+use Rattle.std.proofs.lemmas.Option.{same_Some as some_is}
+use Rattle.record_input.proofs.Searching.{all_pass, found_has}
 use Rattle.record_input.specs.Given.{FindNone, Finds, FindsNamed, IsFound, IsKnown, found_named, finds_none}
 use Rattle.record_input.specs.declared.found.Found.{Found}
 use Rattle.base_value.specs.Texts.{lower}

@@ -1,10 +1,13 @@
 -- The columns of a sound object that its custom fields give, by their names.
-use Rattle.std.proofs.Common.{◌≡◌, ◌∙◌, ℕ, zero, suc, ◌+◌, ◌-◌, ◌==◌, Bool, true, false, ◌||◌, cond, List, [], ◌∷◌, ◌++◌, drop, length, map, Some, refl, sym, ap, bytes_eq, inl, inr}
-use Rattle.std.proofs.lemmas.Slice.Eq.{bytes_eq-Decides}
+use Rattle.std.proofs.Common.{◌≡◌, ◌∙◌, ℕ, zero, suc, ◌+◌, ◌-◌, ◌==◌, Bool, true, false, cond, List, [], ◌∷◌, ◌++◌, drop, length, map, Some, refl, sym, ap, bytes_eq, inl, inr}
 use Rattle.std.specs.Prelude.{codes, if◌then◌else◌}
 use Rattle.std.specs.List.{enumerate_from, find, list_any}
+use Rattle.std.proofs.lemmas.Bool.{true≢false as apart, or_right as or_second}
+use Rattle.base_lemmas.proofs.Texts.{same_from_bytes_eq as same_exact}
+use Rattle.base_lemmas.proofs.Bools.{and_second as and_right}
+use Rattle.std.proofs.lemmas.Option.{same_Some as some_is}
 use Rattle.record_read.proofs.Lists.{of_each}
-use Rattle.record_input.proofs.Searching.{and_right, found_has, some_is}
+use Rattle.record_input.proofs.Searching.{found_has}
 use Rattle.base_value.specs.Texts.{lower}
 use Rattle.base_value.specs.declared.value.FieldType.TheVariants as type
 use Rattle.model.specs.Fields.{Column, column, column_named, custom_columns, is_detail, its_created, its_id, its_modified, name_column, of_ids, of_type, owner_column, owner_columns, same_name, value_site}
@@ -21,15 +24,6 @@ use Rattle.store_abstraction.proofs.MetadataRows.{sound_object}
 
 -- ---- names
 
-apart : true ≡ false → ⊥
-apart e = cc
-
-same_exact : (a b : List ℕ) → bytes_eq a b ≡ true → a ≡ b
-same_exact a b = (bytes_eq-Decides a b).0
-
-pub same_itself : (a : List ℕ) → bytes_eq a a ≡ true
-same_itself a = (bytes_eq-Decides a a).1 refl
-
 -- names are the same whatever the case of their letters
 pub lower_is : (a b : List ℕ) → same_name a b ≡ true → lower a ≡ lower b
 lower_is a b = same_exact (lower a) (lower b)
@@ -37,10 +31,6 @@ lower_is a b = same_exact (lower a) (lower b)
 -- it has a `_`
 abbrev has_underscore : List ℕ → Bool
 has_underscore = list_any (λ c. c == 95)
-
-or_second : (a b : Bool) → b ≡ true → (a || b) ≡ true
-or_second true b h = refl
-or_second false b h = h
 
 ends_so : (cs : List ℕ) → bytes_eq (drop (length cs - 3) cs) (codes "__c") ≡ true → has_underscore (lower cs) ≡ true
 ends_so cs h = behind cs (length cs - 3) (ap (λ (ds : List ℕ). has_underscore (lower ds)) (same_exact (drop (length cs - 3) cs) (codes "__c") h))

@@ -4,9 +4,11 @@ use Rattle.std.specs.Prelude.{codes, if◌then◌else◌}
 use Rattle.std.specs.List.{enumerate_from, find, list_all}
 use Rattle.std.specs.Option.{option_map}
 use Rattle.std.specs.Str.{all_scalars}
+use Rattle.base_lemmas.proofs.Bools.{and_first as and_left, and_second as and_right}
+use Rattle.std.proofs.lemmas.Bool.{and_from as both}
 use Rattle.cmd_load_plan.specs.Rows.{has_characters}
 use Rattle.record_input.proofs.Known.{custom_there}
-use Rattle.record_input.proofs.Searching.{all_pass, and_left, and_right, found_has}
+use Rattle.record_input.proofs.Searching.{all_pass, found_has}
 use Rattle.base_json.specs.declared.tree.Json.{Json}
 use Rattle.base_json.specs.declared.tree.Json.TheVariants as json
 use Rattle.base_json.specs.declared.tree.Num.{Num}
@@ -36,7 +38,7 @@ use Rattle.model.specs.Rules.{Rule, first_of, first_refusal}
 use Rattle.model.specs.SoundRecords.{all_valid, kinds_of}
 use Rattle.model.specs.Tenant.{Field, Object, Tenant}
 use Rattle.model_invariant.specs.Fit.{ReadsWell, ReadsWellByKey}
-use Rattle.cmd_load_row.proofs.Lists.{both, found_in_both, kept_has}
+use Rattle.cmd_load_row.proofs.Lists.{found_in_both, kept_has}
 
 -- what `base_value` says of a value that was read
 abbrev pub ReadLaw : Type 0

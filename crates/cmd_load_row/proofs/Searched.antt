@@ -3,7 +3,9 @@ use Rattle.std.proofs.Common.{◌≡◌, ◌∙◌, ◌⊎◌, ℕ, zero, suc, �
 use Rattle.std.specs.Prelude.{slice_get}
 use Rattle.std.specs.List.{enumerate_from}
 use Rattle.std.specs.Option.{option_and_then, option_map}
-use Rattle.record_input.proofs.Searching.{and_left, and_right, some_is}
+use Rattle.base_lemmas.proofs.Bools.{and_first as and_left, and_second as and_right}
+use Rattle.std.proofs.lemmas.Option.{same_Some as some_is, slice_get_within as get_below}
+use Rattle.std.proofs.lemmas.Bool.{and_from as both}
 use Rattle.store_kv.specs.Draft.{Held}
 use Rattle.store_kv.specs.State.{KeeperState}
 use Rattle.store_kv.specs.Tables.{Tables}
@@ -15,7 +17,6 @@ use Rattle.model.specs.Objects.{Numbered, object_named}
 use Rattle.model.specs.Tenant.{Field, Object, Tenant}
 use Rattle.record_constraints.specs.Uniques.{HasUnique, is_unique_value}
 use Rattle.schema_rules.specs.Objects.{field_of_place}
-use Rattle.store_abstraction.proofs.Lookups.{get_below}
 use Rattle.store_abstraction.specs.Calls.{Calls, Ending, done, ended, fell, stopped}
 use Rattle.store_abstraction.specs.Layouts.{FindsOf, IsLayout, layout_of, own_layout, own_layout_named, place_of}
 use Rattle.store_abstraction.specs.Local.{StandsIn}
@@ -28,10 +29,9 @@ use Rattle.base_value.specs.Values.{valid}
 use Rattle.base_value.specs.declared.fail.ValueFail.{ValueFail}
 use Rattle.base_value.specs.declared.fail.ValueFail.TheVariants as fail
 use Rattle.base_value.specs.declared.value.Value.{Value}
-use Rattle.query_paths.proofs.ByLayout.{layout_is, read_is}
+use Rattle.query_plan.proofs.ByLayout.{layout_is, read_is}
 use Rattle.cmd_load_row.specs.declared.parents.Parent.{Parent}
 use Rattle.cmd_load_row.specs.inner.Finding.{FindsAt, FindsId, FindsOf as FindsParentOf, IsParent, is_unique_at, is_unique_place, target_named, unread}
-use Rattle.cmd_load_row.proofs.Lists.{both}
 
 -- ---- the value
 

@@ -19,7 +19,7 @@ use access_traits::Rights;
 use base_value::{Bytes, Text};
 use cmd_load_plan::{LoadColumn, LoadPlan, done_line, refused_line, row_values};
 use model::Caller;
-use record_upsert::Upserted;
+use record_save::Upserted;
 use std::alloc::{AllocError, Global};
 use store_abstraction::{EditFail, Judged, call_laws};
 use store_kv::{Draft, Keeper};

@@ -5,7 +5,7 @@ use Rattle.std.specs.Result.{result_and}
 use Rattle.store_kv.specs.Draft.{Held, tables_of}
 use Rattle.store_kv.specs.Memory.{InMemory, memory_state}
 use Rattle.store_rows.specs.declared.fail.StoreFail.{StoreFail}
-use Rattle.soql_ast.specs.declared.query.Query.{Query}
+use Rattle.soql.specs.declared.query.Query.{Query}
 use Rattle.model.specs.declared.refusal.Refusal.{Refusal}
 use Rattle.model.specs.declared.refusal.Refusal.TheVariants.{InvalidType}
 use Rattle.model.specs.Asking.{query_rules}

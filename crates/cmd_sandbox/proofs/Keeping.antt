@@ -1,8 +1,7 @@
 -- Requests leave the users, and the administrator may make a record.
 use Rattle.std.proofs.Common.{◌≡◌, ◌∙◌, ℕ, Bool, true, false, cond, List, [], ◌∷◌, Ok, Option, Some, None, IsTrue, refl, sym, ap, subst, pos, ℤ}
-use Rattle.std.proofs.lemmas.Slice.Eq.{bytes_eq-Decides}
 use Rattle.std.specs.Prelude.{is_some}
-use Rattle.std.specs.Str.{bytes_eq}
+use Rattle.base_lemmas.proofs.Texts.{bytes_eq-self as same_id}
 use Rattle.retype_step.specs.Background.{StepsTo}
 use Rattle.store_kv.specs.Draft.{Held, tables_of}
 use Rattle.store_kv.specs.Memory.{InMemory, memory_state}
@@ -105,9 +104,6 @@ module _ (a : Asked) where
       named_is AreKept a.tenant refl object (λ o. change_on o field kind) (λ o. change_on_keeps o field kind)
 
 -- ---- who makes a record
-
-same_id : (id : List ℕ) → bytes_eq id id ≡ true
-same_id id = (bytes_eq-Decides id id).1 refl
 
 alone : (u : User) → is_some (user_at (u ∷ []) u.id) ≡ true
 alone u = ap (λ (b : Bool). is_some (cond b (Some u) None)) (same_id u.id)

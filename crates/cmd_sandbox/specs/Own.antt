@@ -4,8 +4,8 @@
 use Rattle.std.specs.Prelude.{ℕ, List, [], ◌∷◌, codes, Option, Some, None, Result, Ok, Err, ℤ}
 use Rattle.std.specs.Str.{chars}
 use Rattle.sha2.specs.Sha256.{sha256}
-use Rattle.soql_ast.specs.declared.query.Query.{Query}
-use Rattle.soql_grammar.specs.Spelling.{reads_query}
+use Rattle.soql.specs.declared.query.Query.{Query}
+use Rattle.soql.specs.grammar.Spelling.{reads_query}
 use Rattle.model.specs.declared.refusal.Refusal.{Refusal}
 use Rattle.model.specs.declared.refusal.Refusal.TheVariants.{MalformedQuery}
 use Rattle.model.specs.Cases.{in_case}

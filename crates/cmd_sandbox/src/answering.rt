@@ -17,7 +17,7 @@ use base_value::Bytes;
 use model::Refusal;
 use query_check::is_flat;
 use query_csv::answer_lines;
-use soql_ast::Query;
+use soql::Query;
 use std::alloc::Global;
 use store_abstraction::{Layout, layout_named, layouts};
 use store_kv::{Draft, MemoryKeeper};

@@ -4,7 +4,7 @@ ghost use Rattle.std.specs.Prelude.{◌≡◌, IfOk};
 ghost use Rattle.cmd_sandbox.specs.Own.{query_or_refusal};
 
 use model::Refusal;
-use soql_ast::Query;
+use soql::Query;
 use soql_parser::{ParseFail, parse};
 use std::alloc::{AllocError, Global};
 

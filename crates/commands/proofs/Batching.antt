@@ -1,13 +1,13 @@
 -- Batches of rows, one after the other, and how far a load came.
-use Rattle.std.proofs.Common.{◌≡◌, ◌⊎◌, inl, inr, ◌∙◌, ℕ, zero, suc, ◌+◌, ◌<◌, ◌≤◌, Bool, true, false, List, [], ◌∷◌, ◌++◌, drop, length, map, take, Option, Some, None, Result, Ok, Err, refl, sym, ap, subst, append-nil, append_assoc, arith}
-use Rattle.std.proofs.lemmas.List.{length-append, length-map, length-take, take-append-drop}
+use Rattle.std.proofs.Common.{◌≡◌, ◌⊎◌, inl, inr, ◌∙◌, ℕ, zero, suc, ◌+◌, ◌<◌, ◌≤◌, Bool, true, false, List, [], ◌∷◌, ◌++◌, drop, length, map, take, Option, Some, None, Result, Ok, Err, refl, sym, ap, subst, append-nil, append_assoc, arith, leb-true as within, leb-false as beyond, take_all as short_taken}
+use Rattle.std.proofs.lemmas.List.{length-append, length-map, length-take, take-append-drop, drop_all as short_dropped}
 use Rattle.std.proofs.KnownBytes.{Appends-trans}
-use Rattle.std.proofs.lemmas.Bool.Decides.{nat_tests}
 use Rattle.std.specs.Io.KnownBytes.{Appends}
 use Rattle.std.specs.Prelude.{◌==◌, nat_le, not}
+use Rattle.std.proofs.lemmas.Bool.{true≢false as true_isnt_false}
 use Rattle.cmd_load.specs.Batches.{AskedInTurn, AskedRow, MayTell, asked_rows, batch_rows}
 use Rattle.cmd_load.specs.Inputs.{Cells, Unread}
-use Rattle.cmd_load.proofs.Reading.{front_dropped, front_taken, short_dropped, short_taken}
+use Rattle.cmd_load.proofs.Reading.{front_dropped, front_taken}
 use Rattle.cmd_load_plan.specs.declared.plan.LoadPlan.{LoadPlan}
 use Rattle.store_kv.specs.State.{KeeperState}
 use Rattle.store_kv.specs.Tables.{Tables}
@@ -23,7 +23,6 @@ use Rattle.commands.specs.Stops.{behind, store_end}
 use Rattle.commands.specs.declared.printing.StoreStop.{StoreStop}
 use Rattle.commands.specs.declared.printing.StoreStop.TheVariants as storing
 use Rattle.commands.specs.declared.stop.Stop.TheVariants as stop
-use Rattle.commands.proofs.Deeds.{true_isnt_false}
 use Rattle.commands.proofs.Deeds.{after_deeds, failed_more, nothing, text_both, world_both}
 
 abbrev pub Failed : StoreStop → Result ℕ StoreStop
@@ -97,12 +96,6 @@ module _ (named : Option Named) (p : LoadPlan) where
       one_batch n r rows (asked_rows number left moments) w
       (ap (λ (more : List AskedRow). take batch_rows ((r ∷ rows) ++ more)) nothing_behind ∙ (ap (take batch_rows) (append-nil (r ∷ rows)) ∙ short_taken batch_rows (r ∷ rows) few))
       (ap (λ (more : List AskedRow). drop batch_rows ((r ∷ rows) ++ more)) nothing_behind ∙ (ap (drop batch_rows) (append-nil (r ∷ rows)) ∙ (short_dropped batch_rows (r ∷ rows) few ∙ sym nothing_behind)))
-
-within : (a b : ℕ) → nat_le a b ≡ true → a ≤ b
-within a b h = grind (arith, nat_tests)
-
-beyond : (a b : ℕ) → nat_le a b ≡ false → b < a
-beyond a b h = grind (arith, nat_tests)
 
 -- the next rows fill a batch, or are the last
 pub full_next : (rows : List AskedRow) (left more : List Cells) → map (λ (r : AskedRow). r.cells) rows ≡ take batch_rows left → more ≡ drop batch_rows left → IsFull rows more

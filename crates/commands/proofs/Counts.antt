@@ -1,23 +1,14 @@
 -- A number in words, as the code reads it and as the commands have it.
-use Rattle.std.proofs.Common.{◌≡◌, ◌≢◌, ◌⊎◌, inl, inr, ◌≤◌, ℕ, Bool, true, false, not, ◌&&◌, ◌==◌, nat_le, List, [], ◌∷◌, length, map, get_or, Option, Some, None, refl, sym, ap, subst, ◌∙◌, arith, rules}
+use Rattle.std.proofs.Common.{◌≡◌, ◌≢◌, ◌⊎◌, inl, inr, ◌≤◌, ℕ, Bool, true, false, not, ◌&&◌, ◌==◌, nat_le, List, [], ◌∷◌, length, map, get_or, Option, Some, None, refl, sym, ap, subst, ◌∙◌, arith, rules, le-leb as is_at_most, leb-true as at_most}
 use Rattle.std.specs.Prelude.{◌↔◌, IfSome, IsSome, if◌then◌else◌, codes}
 use Rattle.std.specs.Option.{option_map}
 use Rattle.std.specs.Char.{digit_value}
 use Rattle.std.specs.Str.{byte}
 use Rattle.std.specs.Str.Parse.{AllDigits, digits_value}
+use Rattle.std.proofs.lemmas.Bool.{true≢false as true_not, and_parts as both}
 use Rattle.commands.specs.Commands.{Command, Printing, all_digits, answers, command_of, is_counting, number_within, prints}
 use Rattle.base_value.specs.Numerals.{is_within}
 use Rattle.commands.specs.Words.{IsNumber}
-
-both : (a b : Bool) → (a && b) ≡ true → (a ≡ true) × (b ≡ true)
-both true b h = (refl, h)
-both false b h = absurd cc
-
-at_most : (x y : ℕ) → nat_le x y ≡ true → x ≤ y
-at_most x y h = search rules
-
-is_at_most : (x y : ℕ) → x ≤ y → nat_le x y ≡ true
-is_at_most x y h = search rules
 
 differ : (x y : ℕ) → not (x == y) ≡ true → x ≢ y
 differ x y h = search rules
@@ -32,9 +23,6 @@ digits_are (c ∷ cs) ds = rw (is_at_most (digit_value c) 9 (omega (arith, ds.0)
 are_digits : (cs : List ℕ) → all_digits cs ≡ true → AllDigits 10 cs
 are_digits [] h = tt
 are_digits (c ∷ cs) h = let p = both (nat_le (digit_value c) 9) (all_digits cs) h in let small = at_most (digit_value c) 9 p.0 in (omega (arith, small), are_digits cs p.1)
-
-true_not : true ≡ false → ⊥
-true_not e = absurd cc
 
 module _ (least most : ℕ) where
   -- the word is such a number, as the commands have it

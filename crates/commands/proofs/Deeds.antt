@@ -1,5 +1,5 @@
 -- Deeds that were done before others.
-use Rattle.std.proofs.Common.{◌≡◌, inl, inr, ◌∙◌, ℕ, true, false, List, [], ◌∷◌, ◌++◌, ◌≤◌, length, take, Option, Some, None, Result, Ok, Err, refl, sym, ap, subst, append-nil, append_assoc}
+use Rattle.std.proofs.Common.{◌≡◌, inl, inr, ◌∙◌, ℕ, List, [], ◌∷◌, ◌++◌, ◌≤◌, length, take, Option, Some, None, Result, Ok, Err, refl, sym, ap, subst, append-nil, append_assoc}
 use Rattle.std.specs.Io.KnownBytes.{Appends}
 use Rattle.std.proofs.KnownBytes.{Appends-trans}
 use Rattle.model.specs.World.{World}
@@ -7,9 +7,6 @@ use Rattle.commands.specs.Deeds.{CutShort, Deed, Printed, Prints, StopsBefore, o
 use Rattle.commands.specs.Printed.{PrintoutText}
 use Rattle.commands.specs.declared.stop.Stop.{Stop}
 use Rattle.commands.specs.declared.stop.Stop.TheVariants.{Damaged, DoorFailed, KeeperFailed, NoMemory, SinkFailed, SourceFailed, UnknownVersion}
-
-pub true_isnt_false : true ≡ false → ⊥
-true_isnt_false e = absurd cc
 
 pub text_both : (xs ys : List Deed) → text_of (xs ++ ys) ≡ text_of xs ++ text_of ys
 text_both [] ys = refl

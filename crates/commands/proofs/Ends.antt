@@ -1,7 +1,6 @@
 -- How a command of one deed ends, and what it leaves, from what was done on its way.
 use Rattle.std.proofs.Common.{◌≡◌, ◌⊎◌, inl, inr, ℕ, IsTrue, List, [], length, Option, Result, Ok, Err, refl, sym, ap, subst, ◌∙◌}
-use Rattle.std.specs.Prelude.{IfOk, IsErr}
-use Rattle.std.specs.Result.{IsErrAnd}
+use Rattle.std.specs.Prelude.{IfOk}
 use Rattle.base_io.specs.Streams.{AppendsFront}
 use Rattle.store_kv.specs.State.{KeeperState, LeavesNoMore, Shows, Steps, Tells}
 use Rattle.store_kv.specs.Tables.{Tables}
@@ -63,11 +62,6 @@ opening_keeps does w l (opening.Store store.Keeper) h = h.1
 opening_keeps does w l (opening.Store store.Memory) h = h.1
 opening_keeps does w l (opening.Store store.Damaged) h = absurd (h.0 refl)
 opening_keeps does w l opening.UnknownVersion h = absurd h
-
--- what is returned for a failure that was handed on
-pub handed_on : {X E : Type 0} (r : Result X E) (e : E) → IsErr r × IsErrAnd r (λ x. x ≡ e) → r ≡ Err e
-handed_on (Ok x) e h = absurd h.1
-handed_on (Err y) e h = ap Err h.1
 
 -- ---- a refusal changes nothing
 

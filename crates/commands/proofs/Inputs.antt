@@ -6,7 +6,7 @@ use Rattle.cmd_load.specs.Batches.{MayTell}
 use Rattle.cmd_csvq.specs.Outcomes.{input_outcome}
 use Rattle.cmd_csvq.proofs.Turns.{too_large}
 use Rattle.model.specs.declared.refusal.Refusal.TheVariants.{InputTooLarge}
-use Rattle.soql_ast.specs.declared.query.Query.{Query}
+use Rattle.soql.specs.declared.query.Query.{Query}
 use Rattle.commands.specs.Csvq.{outcome_printout}
 use Rattle.commands.specs.Printed.{refused}
 use Rattle.commands.specs.Statuses.{MayBe}

@@ -1,6 +1,7 @@
 -- How a load ends at a batch.
 use Rattle.std.proofs.Common.{◌≡◌, ◌≤◌, ◌⊎◌, inl, inr, ◌∙◌, ℕ, Bool, true, false, IsTrue, Result, Err, refl, sym, subst, arith}
 use Rattle.std.specs.Prelude.{IsErrOf}
+use Rattle.std.proofs.lemmas.Bool.{true≢false as true_isnt_false}
 use Rattle.base_value.specs.Causes.{Cause}
 use Rattle.store_kv.proofs.Calls.{steps_on}
 use Rattle.store_kv.specs.State.{IsSettled, KeeperCause, KeeperState, StaysAfter, Steps, TrustedAfter}
@@ -15,7 +16,6 @@ use Rattle.commands.specs.declared.printing.StoreStop.{StoreStop}
 use Rattle.commands.specs.declared.printing.StoreStop.TheVariants as storing
 use Rattle.commands.specs.declared.stop.Stop.{Stop}
 use Rattle.commands.specs.declared.stop.Stop.TheVariants as stop
-use Rattle.commands.proofs.Deeds.{true_isnt_false}
 
 abbrev pub Ended : Type 0
 Ended = Result ℕ Stop

@@ -1,6 +1,7 @@
 -- What `export` prints, and the world that it leaves, by the moment at which it is asked.
 use Rattle.std.proofs.Common.{◌≡◌, ℕ, true, List, Result, Ok, Err, refl, sym, ap, subst, ◌∙◌}
 use Rattle.std.specs.Prelude.{IsErrOf, is_ok}
+use Rattle.std.proofs.lemmas.Bool.{true≢false as true_isnt_false}
 use Rattle.store_kv.specs.State.{KeeperCause, KeeperState, StaysAfter}
 use Rattle.store_kv.specs.Tables.{Tables}
 use Rattle.store_rows.specs.declared.fail.StoreFail.{StoreFail}
@@ -17,7 +18,6 @@ use Rattle.cmd_load.specs.Batches.{first_moment}
 use Rattle.commands.specs.Deeds.{one_deed}
 use Rattle.commands.specs.Export.{IsPrintoutOf, export_asked, export_does, lines_printout}
 use Rattle.commands.specs.Printed.{PrintoutText}
-use Rattle.commands.proofs.Deeds.{true_isnt_false}
 
 module _ (org user secret query : List ℕ) where
   -- it is asked at the first moment that is told

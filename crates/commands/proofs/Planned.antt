@@ -1,7 +1,7 @@
 -- A load by its plan, or by why there is none.
-use Rattle.std.proofs.Common.{inl, ◌≡◌, ◌≢◌, ◌<◌, ℕ, Bool, true, false, List, [], ◌∷◌, length, Option, Result, Ok, Err, refl, sym, ap, subst, arith}
-use Rattle.std.proofs.lemmas.Bool.Decides.{nat_tests}
-use Rattle.std.specs.Prelude.{if◌then◌else◌, nat_le}
+use Rattle.std.proofs.Common.{inl, ◌≡◌, ◌≢◌, ◌<◌, ℕ, Bool, true, List, [], ◌∷◌, length, Option, Result, Ok, Err, refl, sym, ap, subst}
+use Rattle.std.specs.Prelude.{if◌then◌else◌}
+use Rattle.std.proofs.lemmas.Bool.{lt-leb as beyond, true≢false as true_isnt_false}
 use Rattle.cmd_load.specs.Inputs.{AreRows, Cells, IsPlanned, PlannedRows, input_plan, table_plan}
 use Rattle.cmd_load.specs.Batches.{MayTell}
 use Rattle.cmd_load.specs.Targets.{IsTarget, IsTargetFound, LoadObject}
@@ -36,7 +36,6 @@ use Rattle.commands.specs.declared.stop.Stop.{Stop}
 use Rattle.commands.specs.declared.stop.Stop.TheVariants as stop
 use Rattle.commands.proofs.Batching.{some_told}
 use Rattle.commands.proofs.Deeds.{nothing}
-use Rattle.commands.proofs.Deeds.{true_isnt_false}
 
 module _ (named : Option Named) (w : World) (coming old new : Option (List ℕ)) (k : KeeperState) where
   abbrev By : Result PlannedRows Refusal → List ℕ → Printed
@@ -174,9 +173,6 @@ object_unopened one m w expected opening.UnknownVersion s known h = one m known 
 pub planned_refused : (r : Result PlannedRows Refusal) (source : List ℕ) (why : Refusal) → IsPlanned r source (Err why) → IsInput r (Err why)
 planned_refused (Ok y) source why h = h
 planned_refused (Err r) source why h = h
-
-beyond : (a b : ℕ) → b < a → nat_le a b ≡ false
-beyond a b h = grind (arith, nat_tests)
 
 abbrev by_size : LoadObject → List ℕ → Bool → Result PlannedRows Refusal
 by_size x bytes small = if small then in_case (first_refused bytes) (table_plan x (table_of bytes)) (λ row. Err (CsvRefused row)) else Err InputTooLarge

@@ -1,6 +1,7 @@
 -- The printout of a batch, by its lines.
 use Rattle.std.proofs.Common.{◌≡◌, ◌∙◌, List, ℕ, true, Option, Result, Ok, Err, refl, sym, ap, subst}
 use Rattle.std.specs.Prelude.{IsErrOf, is_ok}
+use Rattle.std.proofs.lemmas.Bool.{true≢false as true_isnt_false}
 use Rattle.cmd_load.specs.Batches.{AskedRow, rows_loaded}
 use Rattle.cmd_load_plan.specs.declared.plan.LoadPlan.{LoadPlan}
 use Rattle.store_kv.specs.State.{KeeperCause, KeeperState, StaysAfter}
@@ -18,7 +19,6 @@ use Rattle.store_abstraction.specs.Stands.{Stands}
 use Rattle.commands.specs.Load.{batch_does}
 use Rattle.commands.specs.Loading.{printout_judged, printout_of_lines}
 use Rattle.commands.specs.Printed.{PrintoutText}
-use Rattle.commands.proofs.Deeds.{true_isnt_false}
 
 abbrev pub Lines : Type 0
 Lines = Result (Judged (List ℕ)) StoreFail

@@ -2,7 +2,7 @@
 -- What a query over a CSV text comes to is in `cmd_csvq` (`outcome_of`).
 use Rattle.std.specs.Prelude.{ℕ, Bool, true, false, List, ◌++◌, codes, Result, Ok, Err, pos}
 use Rattle.std.specs.Fmt.{decimal}
-use Rattle.soql_ast.specs.declared.query.Query.{Query}
+use Rattle.soql.specs.declared.query.Query.{Query}
 use Rattle.model.specs.Messages.{message_of}
 use Rattle.model.specs.Refusals.{code_of}
 use Rattle.model.specs.declared.refusal.Refusal.{Refusal}

@@ -16,7 +16,7 @@ use base_io::{ReadFail, Source, read_all};
 use cmd_csvq::{INPUT_LIMIT, Outcome, answer_input};
 use cmd_sandbox::query_of;
 use model::Refusal;
-use soql_ast::Query;
+use soql::Query;
 use std::alloc::{AllocError, Global};
 
 /// Why the printout of `csvq` wasn't made.

@@ -4,11 +4,11 @@ use Rattle.base_grammar.specs.Part as part
 use Rattle.base_grammar.specs.Reader as reader
 use Rattle.base_grammar.proofs.Lists.{Takes, exact_takes}
 use Rattle.base_grammar.proofs.Pairs.{after_exact}
-use Rattle.formula_grammar.specs.Grammar as g
-use Rattle.formula_grammar.specs.Reading as spec
-use Rattle.formula_grammar.specs.Signs.{kind}
-use Rattle.formula_grammar.specs.declared.sign.Sign.{Sign}
-use Rattle.formula_grammar.proofs.Instances.{firsts, nested_exact}
+use Rattle.formula.specs.grammar.Grammar as g
+use Rattle.formula.specs.grammar.Reading as spec
+use Rattle.formula.specs.grammar.Signs.{kind}
+use Rattle.formula.specs.declared.grammar.sign.Sign.{Sign}
+use Rattle.formula.proofs.Instances.{firsts, nested_exact}
 
 -- a comma and a formula take a token
 pub another_takes : (levels : ℕ) → Takes (reader.after kind 16 (spec.nested levels))

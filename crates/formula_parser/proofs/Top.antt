@@ -9,13 +9,13 @@ use Rattle.base_grammar.specs.declared.fail.ParseFail.{ParseFail}
 use Rattle.base_grammar.proofs.Meets.{meets}
 use Rattle.base_grammar.proofs.Unique.{one_list}
 use Rattle.base_grammar.proofs.Wholes as wholes
-use Rattle.formula_eval.specs.declared.formula.Formula.{Formula}
-use Rattle.formula_eval.specs.declared.formula.NamedField.{NamedField}
-use Rattle.formula_grammar.specs.Reading as spec
-use Rattle.formula_grammar.specs.Signs.{lexis, sign_of, signs}
-use Rattle.formula_grammar.specs.declared.sign.Sign.{Sign}
-use Rattle.formula_grammar.specs.Spelling.{IsRefusedAt, Spells, formula_in, place_in}
-use Rattle.formula_grammar.proofs.Spelled.{spelled, computed, refused}
+use Rattle.formula.specs.declared.formula.Formula.{Formula}
+use Rattle.formula.specs.declared.formula.NamedField.{NamedField}
+use Rattle.formula.specs.grammar.Reading as spec
+use Rattle.formula.specs.grammar.Signs.{lexis, sign_of, signs}
+use Rattle.formula.specs.declared.grammar.sign.Sign.{Sign}
+use Rattle.formula.specs.grammar.Spelling.{IsRefusedAt, Spells, formula_in, place_in}
+use Rattle.formula.proofs.Spelled.{spelled, computed, refused}
 
 module _ (criteria : Bool) (fields : List NamedField) (text : List ℕ) (end : ℕ) where
   -- by these tokens

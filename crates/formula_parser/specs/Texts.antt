@@ -3,9 +3,9 @@ use Rattle.std.specs.Prelude.{ℕ, Bool, true, false, List, [], ◌∷◌, ◌++
 use Rattle.base_value.specs.declared.value.FieldType.TheVariants as type
 use Rattle.base_value.specs.declared.value.Value.{Value}
 use Rattle.base_value.specs.declared.value.Value.TheVariants as value
-use Rattle.formula_eval.specs.Meaning.{holds}
-use Rattle.formula_eval.specs.declared.formula.NamedField.{NamedField}
-use Rattle.formula_grammar.specs.Spelling.{formula_in}
+use Rattle.formula.specs.Meaning.{holds}
+use Rattle.formula.specs.declared.formula.NamedField.{NamedField}
+use Rattle.formula.specs.grammar.Spelling.{formula_in}
 
 -- the most fields that a formula may name: a record's name, and forty of its object's own
 abbrev pub most_fields : ℕ

@@ -2,15 +2,15 @@
 
 ghost use Rattle.std.specs.Prelude.{◌≡◌, ◌≤◌, length, chars, IfOk};
 ghost use Rattle.std.specs.Option.{ok_or};
-ghost use Rattle.formula_eval.specs.declared.formula.Formula.{Formula};
-ghost use Rattle.formula_grammar.specs.Spelling.{IsRefusedAt, Spells, formula_in, place_in};
+ghost use Rattle.formula.specs.declared.formula.Formula.{Formula};
+ghost use Rattle.formula.specs.grammar.Spelling.{IsRefusedAt, Spells, formula_in, place_in};
 ghost use Rattle.formula_parser.specs.Texts.{most_fields};
 ghost use Rattle.base_grammar.specs.Place.{IsOrMemory, OnMalformed, UnlessMemory};
 
 use crate::reader::whole;
 use crate::words::{FormulaLexis, signs};
 use base_grammar::{ParseFail, at_end, starts, tokens};
-use formula_eval::{Fields, Formula};
+use formula::{Fields, Formula};
 use std::alloc::Global;
 
 /// The formula that a text spells over some fields. The formula of a sharing rule by criteria (`criteria`) has no `ISNEW`,

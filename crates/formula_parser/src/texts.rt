@@ -1,7 +1,7 @@
 //! Texts of formulas, judged on records. Each was worked out by hand.
 
 ghost use Rattle.std.specs.Prelude.{◌≡◌, ◌∷◌, [], ◌++◌, codes, true, false, Some, None};
-ghost use Rattle.formula_eval.specs.Worked.{whole};
+ghost use Rattle.formula.specs.Worked.{whole};
 ghost use Rattle.formula_parser.specs.Texts.{by_criteria, judged, judged_before, of_deal, quoted};
 ghost use Rattle.base_value.specs.declared.value.Value.TheVariants.{Null, Text, Num, Bool};
 

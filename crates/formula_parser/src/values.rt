@@ -1,12 +1,11 @@
 //! What a single token stands for in a formula.
 
 ghost use Rattle.std.specs.Prelude.{◌≡◌, IfOk, if◌then◌else◌, Some, None};
-ghost use Rattle.formula_eval.specs.declared.formula.Term.TheVariants as term;
-ghost use Rattle.formula_grammar.specs.Terms as spec;
+ghost use Rattle.formula.specs.declared.formula.Term.TheVariants as term;
+ghost use Rattle.formula.specs.grammar.Terms as spec;
 
 use base_value::Text;
-use formula_eval::{Relation, Term};
-use formula_grammar::{Kind, Sign, Sort};
+use formula::{Kind, Relation, Sign, Sort, Term};
 use std::alloc::{AllocError, Global};
 
 fn kind_of(sort: Sort) -> Option<Kind>

@@ -1,21 +1,20 @@
 //! From tokens to what the grammar of formulas sees of them.
 
 ghost use Rattle.std.specs.Prelude.{◌≡◌, ◌≤◌, ◌+◌, length, IfOk};
-ghost use Rattle.formula_grammar.specs.Signs as spec;
+ghost use Rattle.formula.specs.grammar.Signs as spec;
 ghost use Rattle.formula_parser.specs.Texts.{most_fields};
 ghost use Rattle.base_grammar.specs.Counts.{number_count, plain_text};
 
 use base_grammar::{Lexis, Piece, Placed, Token, characters, is_written, number_count, plain_text};
 use base_value::{Items, Text};
-use formula_eval::{NamedField, Relation};
-use formula_grammar::{Sign, sort_of};
+use formula::{NamedField, Relation, Sign, sort_of};
 use std::alloc::{AllocError, Global};
 
 /// How formulas write texts and marks.
 pub struct FormulaLexis;
 
 impl Lexis for FormulaLexis {
-    ghost use Rattle.formula_grammar.specs.Signs as spec;
+    ghost use Rattle.formula.specs.grammar.Signs as spec;
 
     ghost lexis = { spec.lexis };
 
@@ -23,7 +22,7 @@ impl Lexis for FormulaLexis {
         c == '"'
     }
 
-    #[tactic(auto, unfolding(formula_grammar::specs::Signs::escape))]
+    #[tactic(auto, unfolding(formula::specs::Signs::escape))]
     fn escape(c: char) -> Option<Piece> {
         if c == '"' || c == '\\' {
             Some(Piece::Plain(c))
@@ -32,19 +31,19 @@ impl Lexis for FormulaLexis {
         }
     }
 
-    #[tactic(auto, unfolding(formula_grammar::specs::Signs::is_mark))]
+    #[tactic(auto, unfolding(formula::specs::Signs::is_mark))]
     fn is_mark(c: char) -> bool {
         c == '(' || c == ')' || c == ',' || c == '=' || c == '<' || c == '>'
     }
 
-    #[tactic(auto, unfolding(formula_grammar::specs::Signs::is_pair))]
+    #[tactic(auto, unfolding(formula::specs::Signs::is_pair))]
     fn is_pair(c: char, d: char) -> bool {
         c == '<' && (d == '>' || d == '=') || c == '>' && d == '='
     }
 }
 
 // The function word that a text is.
-#[tactic(auto, unfolding(formula_grammar::specs::Signs::function_word))]
+#[tactic(auto, unfolding(formula::specs::Signs::function_word))]
 fn function_word(text: &Text) -> Option<Sign>
     ensures { result ≡ spec.function_word text.now }
 {
@@ -102,7 +101,7 @@ fn field_sign(fields: &[NamedField], text: &Text) -> Sign
     Sign::Bad
 }
 
-#[tactic(auto, unfolding(formula_grammar::specs::Signs::mark_sign))]
+#[tactic(auto, unfolding(formula::specs::Signs::mark_sign))]
 fn mark_sign(c: char) -> Sign
     ensures { result ≡ spec.mark_sign c }
 {
@@ -117,7 +116,7 @@ fn mark_sign(c: char) -> Sign
     }
 }
 
-#[tactic(auto, unfolding(formula_grammar::specs::Signs::pair_sign))]
+#[tactic(auto, unfolding(formula::specs::Signs::pair_sign))]
 fn pair_sign(c: char, d: char) -> Sign
     ensures { result ≡ spec.pair_sign c d }
 {

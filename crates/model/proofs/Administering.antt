@@ -1,8 +1,9 @@
 -- An administrator has all rights on each record: on those of objects without a master, and so on the details below them.
 use Rattle.std.proofs.Common.{◌≡◌, ℕ, zero, suc, ◌≤◌, true, not, ◌&&◌, ◌||◌, ◌==◌, cond, List, ◌∷◌, map, Option, Some, None, is_some, refl, sym, ap, subst, ◌∙◌, arith}
 use Rattle.std.specs.Option.{option_and_then}
-use Rattle.std.proofs.lemmas.Bool.{eqb-true}
+use Rattle.std.proofs.lemmas.Bool.{eqb-true, true≢false as clash}
 use Rattle.std.proofs.lemmas.Slice.Eq.{bytes_eq-Decides}
+use Rattle.base_lemmas.proofs.Bools.{and_first as left, and_second as right}
 use Rattle.base_value.specs.declared.sharing.Level.{Level}
 use Rattle.base_value.specs.declared.sharing.Level.TheVariants.{Nothing, Read, Edit, Full}
 use Rattle.model.specs.declared.record.Record.{Record}
@@ -18,7 +19,7 @@ use Rattle.model.specs.Sound.{IsSound}
 use Rattle.model.specs.SoundMetadata.{IsSoundObject}
 use Rattle.model.specs.SoundRecords.{IsSoundRecord, is_sound_reference}
 use Rattle.model.specs.Tenant.{Tenant, User}
-use Rattle.model.proofs.Elements.{all_at, all_stay, clash, each_holds, found_in, kept_from, left, right}
+use Rattle.model.proofs.Elements.{all_at, all_stay, each_holds, found_in, kept_from}
 use Rattle.model.proofs.Places.{at_number, own_reference, with_its_id}
 
 -- nothing is more than all

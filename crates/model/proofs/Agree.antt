@@ -5,8 +5,11 @@ use Rattle.std.specs.List.{list_any}
 use Rattle.std.specs.Option.{option_map, option_and_then}
 use Rattle.std.specs.Ordering.{eq_by_cmp}
 use Rattle.std.specs.Str.{bytes_eq}
-use Rattle.std.proofs.lemmas.Slice.Eq.{bytes_eq-Decides}
 use Rattle.std.proofs.lemmas.List.{length-map}
+use Rattle.base_lemmas.proofs.Texts.{bytes_eq-self as id_itself, same_from_bytes_eq as id_same}
+use Rattle.base_lemmas.proofs.Bools.{or-false as or_false}
+use Rattle.base_lemmas.proofs.Lists.{list_any-same as any_same}
+use Rattle.std.proofs.lemmas.Bool.{or_left, or_right, or_cases}
 use Rattle.base_value.specs.Principals.{principal_cmp}
 use Rattle.base_value.specs.declared.sharing.Principal.{Principal}
 use Rattle.base_value.specs.declared.sharing.Principal.TheVariants as to
@@ -16,15 +19,9 @@ use Rattle.model.specs.World.{having_id}
 use Rattle.model.specs.Cases.{in_case}
 use Rattle.model.specs.Membership.{Has, Structure, structure_of, Below, RoleBelow, Member, IsMember, IsAbove, Reaches, is_below_within, is_member_within, is_below, is_member, is_above, reaches}
 use Rattle.model.proofs.Least as least
-use Rattle.model.proofs.Least.{or_left, or_right, or_cases, any_among, among_any}
+use Rattle.model.proofs.Least.{any_among, among_any}
 
 -- ---- ids
-
-pub id_same : (a b : List ℕ) → bytes_eq a b ≡ true → a ≡ b
-id_same a b = (bytes_eq-Decides a b).0
-
-pub id_itself : (a : List ℕ) → bytes_eq a a ≡ true
-id_itself a = (bytes_eq-Decides a a).1 refl
 
 pub found_is : {X : Type 0} (id : X → List ℕ) (xs : List X) (i : List ℕ) (x : X) → having_id id xs i ≡ Some x → Has xs x × (id x ≡ i)
 found_is id [] i x e = absurd cc
@@ -48,10 +45,6 @@ has_map f (y ∷ xs) x (inr h) = inr (has_map f xs x h)
 abbrev listed : {A : Type 0} → Option A → List A
 listed None = []
 listed (Some a) = a ∷ []
-
-or_false : (a : Bool) → (a || false) ≡ a
-or_false true = refl
-or_false false = refl
 
 module _ (parent : List ℕ → Option (List ℕ)) (b : List ℕ) where
   abbrev direct_below : List ℕ → Bool
@@ -120,10 +113,6 @@ module _ (parent : List ℕ → Option (List ℕ)) (b : List ℕ) where
 -- what `principal_laws` says of the test of principals
 abbrev pub SamePrincipals : Type 0
 SamePrincipals = (p q : Principal) → IsTrue (eq_by_cmp principal_cmp p q) ↔ (p ≡ q)
-
-any_same : {A : Type 0} (f g : A → Bool) → ((x : A) → f x ≡ g x) → (xs : List A) → list_any f xs ≡ list_any g xs
-any_same f g same [] = refl
-any_same f g same (x ∷ xs) = ap (λ b. b || list_any f xs) (same x) ∙ ap (λ b. g x || b) (any_same f g same xs)
 
 -- a group's members, or none
 abbrev or_none : Option (List Principal) → List Principal

@@ -1,20 +1,19 @@
 -- The order of rows is total, and ties at one id alone; so lists of records with different ids have one order.
-use Rattle.std.proofs.Common.{◌≡◌, ℕ, Bool, true, false, List, [], ◌∷◌, refl, sym, ap, ◌∙◌, subst, true≢false, cond}
+use Rattle.std.proofs.Common.{◌≡◌, Bool, true, false, List, [], ◌∷◌, refl, sym, ◌∙◌, subst, true≢false, cond}
 use Rattle.std.specs.declared.cmp.Ordering.{Ordering}
 use Rattle.std.specs.declared.cmp.Ordering.TheVariants.{Less, Equal, Greater}
 use Rattle.std.specs.Ordering.{is_eq, is_lt, eq_by_cmp, ordering_then}
 use Rattle.std.specs.Cmp.{IsTotalOrder}
-use Rattle.std.specs.Cmp.Lexicographic.{slice_cmp, texts_ties, bytes_decides}
-use Rattle.std.specs.List.{AllByRecursion, IsDistinct}
+use Rattle.std.specs.List.{IsDistinct}
 use Rattle.std.specs.List.Sorted.{IsPermutation, IsSorted, IsStrictlySortedBy}
-use Rattle.std.specs.Ordering.{nat_cmp}
 use Rattle.std.specs.Str.{bytes_eq}
 use Rattle.std.proofs.lemmas.Cmp.{back_total, nat_list_cmp_total, on_total, then_total}
 use Rattle.std.specs.Cmp.{bool_cmp_total}
 use Rattle.std.proofs.lemmas.List.Sorted.{IsPermutation-cons, IsPermutation-middle, IsPermutation-refl, IsPermutation-trans}
 use Rattle.std.proofs.lemmas.Slice.Eq.{bytes_eq-Decides}
+use Rattle.base_lemmas.proofs.Lists.{same_from_slice_cmp_equal as lists_equal, each_weaker as all_weaker}
 use Rattle.base_value.specs.Values.{cmp}
-use Rattle.soql_ast.specs.declared.query.OrderKey.{OrderKey}
+use Rattle.soql.specs.declared.query.OrderKey.{OrderKey}
 use Rattle.model.specs.declared.record.Record.{Record}
 use Rattle.model.specs.Fields.{is_null}
 use Rattle.model.specs.Ordered.{IdsDiffer, before, in_order, key_cmp, put_in, turned}
@@ -43,17 +42,10 @@ then_equal Less p e = absurd cc
 then_equal Equal p e = e
 then_equal Greater p e = absurd cc
 
-lists_equal : (xs ys : List ℕ) → slice_cmp nat_cmp xs ys ≡ Equal → xs ≡ ys
-lists_equal xs ys e = (bytes_decides xs ys).0 (texts_ties xs ys ∙ ap is_eq e)
-
 pub before_ties : (a : Asked) (ks : List OrderKey) (r s : Record) → before a ks r s ≡ Equal → r.id ≡ s.id
 before_ties a [] r s e = lists_equal r.id s.id e
 before_ties a (k ∷ ks) r s e =
     before_ties a ks r s (then_equal (key_cmp k (path_value a r k.path.names) (path_value a s k.path.names)) (before a ks r s) e)
-
-all_weaker : {X : Type 0} (P Q : X → Type 0) → ((x : X) → P x → Q x) → (xs : List X) → AllByRecursion P xs → AllByRecursion Q xs
-all_weaker P Q weaker [] all = tt
-all_weaker P Q weaker (x ∷ xs) all = (weaker x all.0, all_weaker P Q weaker xs all.1)
 
 module _ (a : Asked) (ks : List OrderKey) where
   apart : (r s : Record) → bytes_eq r.id s.id ≡ false → eq_by_cmp (before a ks) r s ≡ false

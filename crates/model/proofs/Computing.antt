@@ -7,7 +7,7 @@ use Rattle.ucd_table.specs.Rows.{value_in}
 use Rattle.caseless.specs.Caseless.{default_case_fold}
 use Rattle.base_value.specs.Digits.{digits}
 use Rattle.base_value.specs.Id.{id_in, made, number62}
-use Rattle.formula_grammar.proofs.Computing.{reading_formulas}
+use Rattle.formula.proofs.Computing.{reading_formulas}
 use Rattle.model.specs.Fields.{column_named}
 use Rattle.model.specs.FormulaTexts.{reads_text}
 use Rattle.model.specs.Levels.{grants, level, own_level, readable}

@@ -1,22 +1,9 @@
 -- What is in a list, and what a filter, a map and a search make of it.
-use Rattle.std.proofs.Common.{◌≡◌, Bool, true, false, ◌&&◌, cond, List, [], ◌∷◌, ◌++◌, filter, Some, refl, sym, ap, subst, ◌∙◌, ◌⊎◌, inl, inr}
+use Rattle.std.proofs.Common.{◌≡◌, Bool, true, false, cond, List, [], ◌∷◌, ◌++◌, filter, Some, refl, sym, ap, subst, ◌∙◌, ◌⊎◌, inl, inr}
 use Rattle.std.specs.List.{AllByRecursion, find, list_all}
-use Rattle.std.specs.Option.{unwrap_or}
+use Rattle.std.proofs.lemmas.Option.{same_Some as some_is}
+use Rattle.base_lemmas.proofs.Bools.{and_first as left, and_second as right}
 use Rattle.model.specs.Membership.{Has}
-
-pub some_is : {A : Type 0} (x y : A) → Some x ≡ Some y → x ≡ y
-some_is x y e = ap (λ o. unwrap_or o x) e
-
-pub clash : true ≡ false → ⊥
-clash e = cc
-
-pub left : (a b : Bool) → (a && b) ≡ true → a ≡ true
-left true b h = refl
-left false b h = h
-
-pub right : (a b : Bool) → (a && b) ≡ true → b ≡ true
-right true b h = h
-right false b h = absurd cc
 
 module _ {A : Type 0} where
   pub all_at : (P : A → Type 0) (xs : List A) → AllByRecursion P xs → (x : A) → Has xs x → P x
@@ -28,14 +15,6 @@ module _ {A : Type 0} where
   each_holds p [] h x m = absurd m
   each_holds p (y ∷ ys) h x (inl e) = ap p e ∙ left (p y) (list_all p ys) h
   each_holds p (y ∷ ys) h x (inr m) = each_holds p ys (right (p y) (list_all p ys) h) x m
-
-  pub all_kept : (P : A → Type 0) (p : A → Bool) (xs : List A) → AllByRecursion P xs → AllByRecursion P (filter p xs)
-  all_kept P p [] all = tt
-  all_kept P p (x ∷ xs) all = by (p x) (all_kept P p xs all.1)
-    where
-      by : (b : Bool) → AllByRecursion P (filter p xs) → AllByRecursion P (cond b (x ∷ filter p xs) (filter p xs))
-      by true rest = (all.0, rest)
-      by false rest = rest
 
   pub kept_from : (p : A → Bool) (xs : List A) (y : A) → Has (filter p xs) y → Has xs y × (p y ≡ true)
   kept_from p [] y m = absurd m

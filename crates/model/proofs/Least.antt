@@ -1,23 +1,9 @@
 -- What leads on to something, step by step and perhaps in circles, is found by a search as deep as there are things that lead on.
 use Rattle.std.proofs.Common.{◌≡◌, ℕ, zero, suc, ◌<◌, ◌≤◌, Bool, true, false, ◌||◌, cond, List, [], ◌∷◌, length, refl, ap, sym, subst, ◌∙◌, arith, ◌⊎◌, inl, inr}
 use Rattle.std.specs.List.{list_any}
+use Rattle.std.proofs.lemmas.Bool.{or_left, or_right, or_cases}
+use Rattle.base_lemmas.proofs.Bools.{by_answer as pick}
 use Rattle.model.specs.Membership.{Has}
-
-pub pick : (b : Bool) (P : Bool → Type 0) → (b ≡ true → P true) → (b ≡ false → P false) → P b
-pick true P f g = f refl
-pick false P f g = g refl
-
-pub or_left : (a b : Bool) → a ≡ true → (a || b) ≡ true
-or_left true b e = refl
-or_left false b e = absurd cc
-
-pub or_right : (a b : Bool) → b ≡ true → (a || b) ≡ true
-or_right true b e = refl
-or_right false b e = e
-
-pub or_cases : (a b : Bool) → (a || b) ≡ true → (a ≡ true) ⊎ (b ≡ true)
-or_cases true b e = inl refl
-or_cases false b e = inr e
 
 pub any_among : {A : Type 0} (f : A → Bool) (x : A) (xs : List A) → Has xs x → f x ≡ true → list_any f xs ≡ true
 any_among f x [] a h = absurd a

@@ -1,20 +1,11 @@
 -- Names are texts of few bytes.
-use Rattle.std.proofs.Common.{◌≡◌, ℕ, ◌*◌, ◌≤◌, Bool, true, false, ◌&&◌, IsTrue, List, [], ◌∷◌, length, refl, arith, length-append}
+use Rattle.std.proofs.Common.{◌≡◌, ℕ, ◌≤◌, true, ◌&&◌, IsTrue, List, length, refl, arith}
 use Rattle.std.specs.Prelude.{nat_le, encode_utf8_all}
-use Rattle.std.specs.Char.{encode_utf8}
 use Rattle.std.specs.Str.{all_scalars}
 use Rattle.std.proofs.lemmas.Bool.Decides.{nat_tests}
-use Rattle.std.proofs.lemmas.Str.{length-encode, len_utf8_bounds}
+use Rattle.std.proofs.lemmas.Bool.{and_parts as both}
+use Rattle.base_lemmas.proofs.Lists.{length-encodes as four_each}
 use Rattle.model.specs.Sound.{is_name}
-
-both : (a b : Bool) → (a && b) ≡ true → (a ≡ true) × (b ≡ true)
-both true b h = (refl, h)
-both false b h = absurd cc
-
--- at most four bytes a character
-four_each : (cs : List ℕ) → length (encode_utf8_all cs) ≤ 4 * length cs
-four_each [] = omega arith
-four_each (c ∷ cs) = omega (arith, four_each cs, length-append (encode_utf8 c) (encode_utf8_all cs), length-encode c, (len_utf8_bounds c).1)
 
 small : (n : ℕ) → nat_le n 80 ≡ true → n ≤ 80
 small n h = grind (arith, nat_tests)

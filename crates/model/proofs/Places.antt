@@ -1,6 +1,7 @@
 -- Objects by their names and numbers, references by their objects, and records by their ids.
 use Rattle.std.proofs.Common.{◌≡◌, ℕ, zero, suc, ◌+◌, Bool, true, false, cond, List, [], ◌∷◌, ◌++◌, map, Option, Some, None, refl, sym, ap, subst, ◌∙◌, arith, inl, inr, bytes_eq, slice_get}
 use Rattle.std.specs.List.{enumerate_from, find, flat_map}
+use Rattle.std.proofs.lemmas.Option.{same_Some as some_is}
 use Rattle.model.specs.Cases.{in_case}
 use Rattle.model.specs.Fields.{same_name}
 use Rattle.model.specs.Membership.{Has}
@@ -8,7 +9,7 @@ use Rattle.model.specs.Objects.{Numbered, numbered, object_named}
 use Rattle.model.specs.Relationships.{Reference, reference_at, references_of, target_of}
 use Rattle.model.specs.Tenant.{Field, Object, Tenant}
 use Rattle.model.specs.World.{having_id}
-use Rattle.model.proofs.Elements.{in_either, some_is}
+use Rattle.model.proofs.Elements.{in_either}
 
 abbrev pub numbered_from : ℕ → List Object → List Numbered
 numbered_from n os = map (λ (o : ℕ × Object). record { number = o.0; object = o.1 }) (enumerate_from n os)

@@ -1,31 +1,19 @@
 -- The records of an object are in the order of their ids.
-use Rattle.std.proofs.Common.{◌≡◌, Bool, true, false, ◌&&◌, cond, List, [], ◌∷◌, map, filter, refl, ap, ◌∙◌, T}
-use Rattle.std.specs.declared.cmp.Ordering.{Ordering}
-use Rattle.std.specs.declared.cmp.Ordering.TheVariants.{Less, Equal, Greater}
+use Rattle.std.proofs.Common.{◌≡◌, Bool, true, false, cond, List, [], ◌∷◌, map, filter, refl, ap, ◌∙◌, T}
+use Rattle.std.specs.declared.cmp.Ordering.TheVariants.{Less}
 use Rattle.std.specs.Ordering.{is_lt, nat_cmp}
 use Rattle.std.specs.Cmp.Lexicographic.{slice_cmp}
 use Rattle.std.specs.FinMap.Entries.{below_all}
 use Rattle.std.specs.List.{AllByRecursion}
 use Rattle.std.specs.List.Sorted.{IsStrictlySortedBy}
+use Rattle.base_lemmas.proofs.Bools.{T-and_first as first, T-and_second as second}
+use Rattle.base_lemmas.proofs.Orders.{less_from_T as is_less}
+use Rattle.base_lemmas.proofs.Lists.{each-filter as all_kept}
 use Rattle.model.specs.declared.record.Record.{Record}
 use Rattle.model.specs.Ordered.{before, by_id, in_order, put_in}
 use Rattle.model.specs.Paths.{Asked}
 use Rattle.model.specs.SoundPeople.{ids_rise}
 use Rattle.model.specs.SoundRecords.{record_id}
-use Rattle.model.proofs.Elements.{all_kept}
-
-first : (a b : Bool) → T (a && b) → T a
-first true b h = tt
-first false b h = absurd h
-
-second : (a b : Bool) → T (a && b) → T b
-second true b h = h
-second false b h = absurd h
-
-is_less : (o : Ordering) → T (is_lt o) → o ≡ Less
-is_less Less h = refl
-is_less Equal h = absurd h
-is_less Greater h = absurd h
 
 below_each : (r : Record) (rs : List Record) → T (below_all (slice_cmp nat_cmp) r.id (map (λ x. (record_id x, x)) rs)) → AllByRecursion (λ s. by_id r s ≡ Less) rs
 below_each r [] h = tt

@@ -4,6 +4,7 @@ use Rattle.std.specs.Option.{option_and_then, option_map}
 use Rattle.std.specs.Prelude.{encode_utf8_all}
 use Rattle.std.specs.Str.{bytes_eq}
 use Rattle.std.proofs.lemmas.Slice.Eq.{bytes_eq-Decides}
+use Rattle.std.proofs.lemmas.Option.{same_Some as user_is}
 use Rattle.sha2.specs.Sha256.{sha256}
 use Rattle.model.specs.declared.caller.Caller.{Caller}
 use Rattle.model.specs.declared.refusal.Refusal.TheVariants as refusal
@@ -117,9 +118,6 @@ module _ (answers : Answering) (w : World) (m : Message) (now : ℕ) where
   uncalled e = uncalled_by (key_in m) (sym (by_bearer w m.bearer) ∙ e)
 
 -- ---- the user who asks
-
-user_is : (a b : User) → ◌≡◌ {A = Option User} (Some a) (Some b) → a ≡ b
-user_is a b e = cc
 
 -- who is found has the id that was looked for, and is found by the id
 id_is : (us : List User) (i : List ℕ) (u : User) → user_at us i ≡ Some u → u.id ≡ i

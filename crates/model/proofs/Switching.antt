@@ -1,5 +1,5 @@
 -- The step at which the switch of a field's type comes.
-use Rattle.std.proofs.Common.{◌≡◌, ℕ, zero, suc, ◌+◌, ◌*◌, ◌<◌, ◌≤◌, Bool, true, false, ◌||◌, List, [], ◌∷◌, ◌++◌, filter, take, drop, length, Option, Some, None, refl, sym, ap, ◌∙◌, arith, subst}
+use Rattle.std.proofs.Common.{◌≡◌, ℕ, zero, suc, ◌+◌, ◌*◌, ◌<◌, ◌≤◌, Bool, false, List, [], ◌∷◌, ◌++◌, filter, take, drop, length, Option, Some, None, refl, sym, ap, ◌∙◌, arith, subst}
 use Rattle.std.specs.declared.cmp.Ordering.TheVariants.{Less}
 use Rattle.std.specs.Cmp.{tied_itself}
 use Rattle.std.specs.Cmp.Lexicographic.{nat_list_cmp_total}
@@ -8,6 +8,7 @@ use Rattle.std.specs.List.Sorted.{IsStrictlySortedBy}
 use Rattle.std.specs.Ordering.{is_lt, ordering_reverse}
 use Rattle.std.proofs.Math.ListN.{drop_of_length-le}
 use Rattle.std.proofs.lemmas.List.{drop-take, take-append-drop}
+use Rattle.std.proofs.lemmas.Bool.{or_parts as neither}
 use Rattle.base_value.specs.declared.job.Phase.{Phase}
 use Rattle.base_value.specs.declared.job.Phase.TheVariants as phase
 use Rattle.model.specs.declared.record.Record.{Record}
@@ -79,10 +80,6 @@ some_left (suc m) [] h = absurd (omega arith)
 some_left (suc m) (r ∷ rs) h = some_left m rs (omega arith)
 
 -- ---- none of them is bad
-
-neither : (a b : Bool) → (a || b) ≡ false → (a ≡ false) × (b ≡ false)
-neither true b h = absurd cc
-neither false b h = (refl, h)
 
 none_dropped : (bad : Record → Bool) (m : ℕ) (rs : List Record) → list_any bad rs ≡ false → list_any bad (drop m rs) ≡ false
 none_dropped bad zero rs h = h

@@ -1,17 +1,14 @@
 -- The conditions within another, as a `Row_of-Cond` and as a list.
-use Rattle.std.proofs.Common.{◌≡◌, Bool, true, false, not, ◌&&◌, ◌||◌, List, refl, ap, ◌∙◌}
+use Rattle.std.proofs.Common.{◌≡◌, not, ◌&&◌, ◌||◌, List, refl, ap, ◌∙◌}
 use Rattle.std.specs.List.{list_all, list_any}
+use Rattle.base_lemmas.proofs.Bools.{and-true as and_true}
 use mathlib.Core.Former.{Count}
 use denote.Hole.Carrier.{hidden}
-use Rattle.soql_ast.specs.declared.query.Cond.{Cond, Not, And, Or, And', Or', Row_of-Cond, end_of-Cond, more_of-Cond, items-the_row-Cond, items_hidden-the_row-Cond-1}
-use Rattle.soql_ast.specs.declared.query.Cond.TheBlock.{hidden-the_row-Cond-0}
+use Rattle.soql.specs.declared.query.Cond.{Cond, Not, And, Or, And', Or', Row_of-Cond, end_of-Cond, more_of-Cond, items-the_row-Cond, items_hidden-the_row-Cond-1}
+use Rattle.soql.specs.declared.query.Cond.TheBlock.{hidden-the_row-Cond-0}
 use Rattle.model.specs.declared.record.Record.{Record}
 use Rattle.model.specs.Conditions.{all_hold, holds, some_hold}
 use Rattle.model.specs.Paths.{Asked}
-
-and_true : (b : Bool) → (b && true) ≡ b
-and_true true = refl
-and_true false = refl
 
 -- those within a condition
 abbrev row_of : Cond → (n : Count) × Row_of-Cond n

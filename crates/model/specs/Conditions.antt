@@ -10,14 +10,14 @@ use Rattle.base_value.specs.Printing.{day_of_moment}
 use Rattle.base_value.specs.Values.{cmp, equal}
 use Rattle.base_value.specs.declared.value.Value.{Value}
 use Rattle.base_value.specs.declared.value.Value.TheVariants as value
-use Rattle.formula_eval.specs.Meaning.{text_value}
-use Rattle.soql_ast.specs.Like.{like}
-use Rattle.soql_ast.specs.declared.query.Cond.{Cond, Test, Like, In, Not', And', Or', Row_of-Cond, end_of-Cond, more_of-Cond}
-use Rattle.soql_ast.specs.declared.query.LikePart.{LikePart}
-use Rattle.soql_ast.specs.declared.query.Literal.{Literal}
-use Rattle.soql_ast.specs.declared.query.Literal.TheVariants as literal
-use Rattle.soql_ast.specs.declared.query.Op.{Op}
-use Rattle.soql_ast.specs.declared.query.Op.TheVariants as op
+use Rattle.formula.specs.Meaning.{text_value}
+use Rattle.soql.specs.Like.{like}
+use Rattle.soql.specs.declared.query.Cond.{Cond, Test, Like, In, Not', And', Or', Row_of-Cond, end_of-Cond, more_of-Cond}
+use Rattle.soql.specs.declared.query.LikePart.{LikePart}
+use Rattle.soql.specs.declared.query.Literal.{Literal}
+use Rattle.soql.specs.declared.query.Literal.TheVariants as literal
+use Rattle.soql.specs.declared.query.Op.{Op}
+use Rattle.soql.specs.declared.query.Op.TheVariants as op
 use Rattle.model.specs.declared.record.Record.{Record}
 use Rattle.model.specs.Fields.{as_ref, is_null}
 use Rattle.model.specs.Paths.{Asked, path_value}

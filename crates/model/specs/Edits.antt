@@ -7,7 +7,7 @@ use Rattle.std.specs.Option.{option_and_then, option_eq, option_map, option_or}
 use Rattle.base_value.specs.Values.{same_value}
 use Rattle.base_value.specs.declared.value.Value.{Value}
 use Rattle.base_value.specs.declared.value.Value.TheVariants as value
-use Rattle.formula_eval.specs.Meaning.{value_at}
+use Rattle.formula.specs.Meaning.{value_at}
 use Rattle.model.specs.declared.record.Record.{Record}
 use Rattle.model.specs.declared.refusal.Refusal.{Refusal}
 use Rattle.model.specs.declared.refusal.Refusal.TheVariants as refusal

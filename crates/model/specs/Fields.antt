@@ -11,7 +11,7 @@ use Rattle.base_value.specs.declared.value.FieldType.{FieldType}
 use Rattle.base_value.specs.declared.value.FieldType.TheVariants as type
 use Rattle.base_value.specs.declared.value.Value.{Value}
 use Rattle.base_value.specs.declared.value.Value.TheVariants as value
-use Rattle.formula_eval.specs.Meaning.{value_at}
+use Rattle.formula.specs.Meaning.{value_at}
 use Rattle.model.specs.declared.record.Record.{Record}
 use Rattle.model.specs.Limits.{name_limit}
 use Rattle.model.specs.Tenant.{Field, Object}

@@ -5,9 +5,9 @@ use Rattle.std.specs.Prelude.{ℕ, Bool, List, ◌∷◌, map, codes, Result}
 use Rattle.std.specs.Option.{ok_or}
 use Rattle.base_grammar.specs.Tokens.{byte_len}
 use Rattle.base_value.specs.declared.value.FieldType.TheVariants as type
-use Rattle.formula_eval.specs.declared.formula.Formula.{Formula}
-use Rattle.formula_eval.specs.declared.formula.NamedField.{NamedField}
-use Rattle.formula_grammar.specs.Spelling.{formula_in, place_in}
+use Rattle.formula.specs.declared.formula.Formula.{Formula}
+use Rattle.formula.specs.declared.formula.NamedField.{NamedField}
+use Rattle.formula.specs.grammar.Spelling.{formula_in, place_in}
 use Rattle.model.specs.Limits.{name_limit}
 use Rattle.model.specs.Tenant.{Field, Object}
 

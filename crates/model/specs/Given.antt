@@ -16,7 +16,7 @@ use Rattle.base_value.specs.declared.fail.ValueFail.TheVariants as fail
 use Rattle.base_value.specs.declared.value.FieldType.TheVariants as type
 use Rattle.base_value.specs.declared.value.Value.{Value}
 use Rattle.base_value.specs.declared.value.Value.TheVariants as value
-use Rattle.formula_eval.specs.Meaning.{value_at}
+use Rattle.formula.specs.Meaning.{value_at}
 use Rattle.model.specs.declared.record.Record.{Record}
 pub use Rattle.model.specs.declared.record_bodies.Assignment.{Assignment}
 pub use Rattle.model.specs.declared.record_bodies.Given.{Given}

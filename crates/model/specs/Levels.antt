@@ -10,8 +10,8 @@ use Rattle.base_value.specs.declared.sharing.Level.{Level}
 use Rattle.base_value.specs.declared.sharing.Level.TheVariants.{Nothing, Read, Edit, Full}
 use Rattle.base_value.specs.declared.sharing.Principal.{Principal}
 use Rattle.base_value.specs.declared.value.Value.{Value}
-use Rattle.formula_eval.specs.declared.formula.Formula.{Formula}
-use Rattle.formula_eval.specs.Meaning.{holds}
+use Rattle.formula.specs.declared.formula.Formula.{Formula}
+use Rattle.formula.specs.Meaning.{holds}
 use Rattle.model.specs.declared.limit.Limit.TheVariants as limit
 use Rattle.model.specs.declared.record.Record.{Record}
 use Rattle.model.specs.Cases.{in_case}

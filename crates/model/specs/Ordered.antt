@@ -8,7 +8,7 @@ use Rattle.std.specs.Ordering.{bool_cmp, nat_cmp, is_lt, ordering_reverse, order
 use Rattle.std.specs.Cmp.Lexicographic.{slice_cmp}
 use Rattle.base_value.specs.Values.{cmp}
 use Rattle.base_value.specs.declared.value.Value.{Value}
-use Rattle.soql_ast.specs.declared.query.OrderKey.{OrderKey}
+use Rattle.soql.specs.declared.query.OrderKey.{OrderKey}
 use Rattle.model.specs.declared.record.Record.{Record}
 use Rattle.model.specs.Fields.{is_null}
 use Rattle.model.specs.Paths.{Asked, path_value}

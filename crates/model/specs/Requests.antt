@@ -2,7 +2,7 @@
 -- Source of the requests on records: Salesforce, REST API. Those of administrators are this product's own.
 use Rattle.std.specs.Prelude.{ℕ, List, Option}
 use Rattle.base_value.specs.declared.sharing.Access.{Access}
-use Rattle.soql_ast.specs.declared.query.Query.{Query}
+use Rattle.soql.specs.declared.query.Query.{Query}
 use Rattle.model.specs.Asking.{ask}
 use Rattle.model.specs.Creates.{create}
 use Rattle.model.specs.Deletes.{delete}

@@ -10,8 +10,8 @@ use Rattle.std.specs.Str.{all_scalars}
 use Rattle.base_value.specs.Texts.{lower}
 use Rattle.base_value.specs.declared.job.Phase.{Phase}
 use Rattle.base_value.specs.declared.job.Phase.TheVariants as phase
-use Rattle.formula_eval.specs.Naming.{names}
-use Rattle.formula_eval.specs.declared.formula.Formula.{Formula}
+use Rattle.formula.specs.Naming.{names}
+use Rattle.formula.specs.declared.formula.Formula.{Formula}
 use Rattle.model.specs.declared.refusal.Refusal.TheVariants.{MalformedFormula, JobBusy}
 use Rattle.model.specs.Cases.{in_case}
 use Rattle.model.specs.FormulaTexts.{reads_text}

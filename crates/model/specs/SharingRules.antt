@@ -4,7 +4,7 @@
 use Rattle.std.specs.Prelude.{ℕ, ◌+◌, true, not, List, [], ◌∷◌, map, filter, length, codes, Option, Some, None, Result}
 use Rattle.std.specs.List.{list_any}
 use Rattle.base_value.specs.declared.job.RuleState.TheVariants as state
-use Rattle.formula_eval.specs.declared.formula.Formula.{Formula}
+use Rattle.formula.specs.declared.formula.Formula.{Formula}
 use Rattle.model.specs.declared.limit.Limit.TheVariants as limit
 use Rattle.model.specs.declared.refusal.Refusal.TheVariants.{InvalidType, NotFound}
 pub use Rattle.model.specs.declared.sharing_bodies.NewSharingRule.{NewSharingRule}

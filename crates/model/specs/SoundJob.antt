@@ -7,7 +7,7 @@ use Rattle.base_value.specs.Conversion.{convert, convertible}
 use Rattle.base_value.specs.Types.{is_reference, is_type}
 use Rattle.base_value.specs.declared.job.Outcome.{Outcome}
 use Rattle.base_value.specs.declared.job.Outcome.TheVariants as outcome
-use Rattle.formula_eval.specs.Meaning.{value_at}
+use Rattle.formula.specs.Meaning.{value_at}
 use Rattle.model.specs.declared.record.Record.{Record}
 use Rattle.model.specs.Retyping.{is_checkbox}
 use Rattle.model.specs.RuleFormulas.{is_copy}

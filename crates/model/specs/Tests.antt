@@ -6,11 +6,11 @@ use Rattle.std.specs.List.{list_all}
 use Rattle.base_value.specs.Types.{is_reference}
 use Rattle.base_value.specs.declared.value.FieldType.{FieldType}
 use Rattle.base_value.specs.declared.value.FieldType.TheVariants as type
-use Rattle.soql_ast.specs.declared.query.Cond.{Cond, Test, Like, In, Not', And', Or', Row_of-Cond, end_of-Cond, more_of-Cond}
-use Rattle.soql_ast.specs.declared.query.Literal.{Literal}
-use Rattle.soql_ast.specs.declared.query.Literal.TheVariants as literal
-use Rattle.soql_ast.specs.declared.query.Op.{Op}
-use Rattle.soql_ast.specs.declared.query.Op.TheVariants as op
+use Rattle.soql.specs.declared.query.Cond.{Cond, Test, Like, In, Not', And', Or', Row_of-Cond, end_of-Cond, more_of-Cond}
+use Rattle.soql.specs.declared.query.Literal.{Literal}
+use Rattle.soql.specs.declared.query.Literal.TheVariants as literal
+use Rattle.soql.specs.declared.query.Op.{Op}
+use Rattle.soql.specs.declared.query.Op.TheVariants as op
 use Rattle.model.specs.Fields.{Content, of_type, of_ids}
 
 -- ---- the tests of a condition, in the order of the text

@@ -1,7 +1,7 @@
 -- What a request comes to: the refusal of the first of its rules that refuses, or what is answered; and the organisation after it.
 -- This form is the product's own.
 use Rattle.std.specs.Prelude.{ℕ, Bool, List, Some, None, Result, Ok, Err}
-use Rattle.soql_ast.specs.declared.query.Query.{Query}
+use Rattle.soql.specs.declared.query.Query.{Query}
 use Rattle.model.specs.declared.refusal.Refusal.{Refusal}
 use Rattle.model.specs.declared.refusal.Refusal.TheVariants.{InvalidType}
 use Rattle.model.specs.Cases.{in_case}

@@ -5,17 +5,17 @@ use Rattle.base_value.specs.declared.value.OnDelete.TheVariants as on_delete
 use Rattle.base_value.specs.declared.value.FieldType.TheVariants as type
 use Rattle.base_value.specs.declared.value.Value.{Value}
 use Rattle.base_value.specs.declared.value.Value.TheVariants as value
-use Rattle.soql_ast.specs.declared.query.Cond.{Cond, And', Not', Or', end_of-Cond, more_of-Cond}
-use Rattle.soql_ast.specs.declared.query.Cond.TheVariants as cond
-use Rattle.soql_ast.specs.declared.query.Item.{Item}
-use Rattle.soql_ast.specs.declared.query.Item.TheVariants as item
-use Rattle.soql_ast.specs.declared.query.Literal.{Literal}
-use Rattle.soql_ast.specs.declared.query.Literal.TheVariants as literal
-use Rattle.soql_ast.specs.declared.query.Op.TheVariants as op
-use Rattle.soql_ast.specs.declared.query.OrderKey.{OrderKey}
-use Rattle.soql_ast.specs.declared.query.Path.{Path}
-use Rattle.soql_ast.specs.declared.query.Query.{Query}
-use Rattle.soql_ast.specs.declared.query.Tail.{Tail}
+use Rattle.soql.specs.declared.query.Cond.{Cond, And', Not', Or', end_of-Cond, more_of-Cond}
+use Rattle.soql.specs.declared.query.Cond.TheVariants as cond
+use Rattle.soql.specs.declared.query.Item.{Item}
+use Rattle.soql.specs.declared.query.Item.TheVariants as item
+use Rattle.soql.specs.declared.query.Literal.{Literal}
+use Rattle.soql.specs.declared.query.Literal.TheVariants as literal
+use Rattle.soql.specs.declared.query.Op.TheVariants as op
+use Rattle.soql.specs.declared.query.OrderKey.{OrderKey}
+use Rattle.soql.specs.declared.query.Path.{Path}
+use Rattle.soql.specs.declared.query.Query.{Query}
+use Rattle.soql.specs.declared.query.Tail.{Tail}
 use Rattle.model.specs.declared.record.Record.{Record}
 use Rattle.model.specs.Paths.{Asked}
 use Rattle.model.specs.Rows.{found}

@@ -2,12 +2,12 @@
 use Rattle.std.specs.Prelude.{ℕ, false, List, [], ◌∷◌, ◌++◌, map, codes, Option, Some, None}
 use Rattle.base_value.specs.declared.sharing.Access.TheVariants as access
 use Rattle.base_value.specs.declared.value.FieldType.TheVariants as type
-use Rattle.soql_ast.specs.declared.query.Cond.{Cond}
-use Rattle.soql_ast.specs.declared.query.Cond.TheVariants.{Test}
-use Rattle.soql_ast.specs.declared.query.Item.TheVariants as item
-use Rattle.soql_ast.specs.declared.query.Literal.{Literal}
-use Rattle.soql_ast.specs.declared.query.Op.{Op}
-use Rattle.soql_ast.specs.declared.query.OrderKey.{OrderKey}
+use Rattle.soql.specs.declared.query.Cond.{Cond}
+use Rattle.soql.specs.declared.query.Cond.TheVariants.{Test}
+use Rattle.soql.specs.declared.query.Item.TheVariants as item
+use Rattle.soql.specs.declared.query.Literal.{Literal}
+use Rattle.soql.specs.declared.query.Op.{Op}
+use Rattle.soql.specs.declared.query.OrderKey.{OrderKey}
 use Rattle.model.specs.declared.people_bodies.PrincipalKind.TheVariants as kind
 use Rattle.model.specs.Given.{Assignment}
 use Rattle.model.specs.declared.metadata_bodies.SpelledType.TheVariants.{Plain}

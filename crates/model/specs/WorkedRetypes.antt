@@ -5,7 +5,7 @@ use Rattle.std.specs.List.{range_with_len}
 use Rattle.base_value.specs.declared.sharing.Access.TheVariants as access
 use Rattle.base_value.specs.declared.value.FieldType.TheVariants as type
 use Rattle.base_value.specs.declared.value.Value.TheVariants as value
-use Rattle.soql_ast.specs.declared.query.Item.TheVariants as item
+use Rattle.soql.specs.declared.query.Item.TheVariants as item
 use Rattle.model.specs.declared.record.Record.{Record}
 use Rattle.model.specs.declared.metadata_bodies.SpelledType.TheVariants.{Plain}
 use Rattle.model.specs.Requests.{asks, begins_retype, gets_retype, updates}

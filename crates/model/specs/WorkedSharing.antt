@@ -5,10 +5,10 @@ use Rattle.base_value.specs.declared.sharing.Access.TheVariants as access
 use Rattle.base_value.specs.declared.sharing.Level.TheVariants.{Edit, Read}
 use Rattle.base_value.specs.declared.value.FieldType.TheVariants as type
 use Rattle.base_value.specs.declared.value.OnDelete.TheVariants as on_delete
-use Rattle.soql_ast.specs.declared.query.Cond.{Cond}
-use Rattle.soql_ast.specs.declared.query.Cond.TheVariants.{Test}
-use Rattle.soql_ast.specs.declared.query.Literal.{Literal}
-use Rattle.soql_ast.specs.declared.query.Op.{Op}
+use Rattle.soql.specs.declared.query.Cond.{Cond}
+use Rattle.soql.specs.declared.query.Cond.TheVariants.{Test}
+use Rattle.soql.specs.declared.query.Literal.{Literal}
+use Rattle.soql.specs.declared.query.Op.{Op}
 use Rattle.model.specs.declared.people_bodies.PrincipalKind.{PrincipalKind}
 use Rattle.model.specs.declared.people_bodies.PrincipalKind.TheVariants as kind
 use Rattle.model.specs.declared.metadata_bodies.SpelledType.TheVariants.{Plain, LookupTo}

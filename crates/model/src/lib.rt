@@ -1,8 +1,8 @@
 //! The model: what an organisation is, who calls it, who may do what with a record, what a query finds, what a request asks
 //! for and what it is answered, as plain types and definitions.
 //!
-//! It depends on `base_value`, on `base_json` for the bodies of refusals, on `sha2` for the digest of a secret, on `soql_ast` for
-//! queries, on `form_urlencoded` for their text in a target, and on `formula_eval` for the formulas of criteria. Its contract:
+//! It depends on `base_value`, on `base_json` for the bodies of refusals, on `sha2` for the digest of a secret, on `soql` for
+//! queries, on `form_urlencoded` for their text in a target, and on `formula` for the formulas of criteria. Its contract:
 //! a refusal's code, status, message and body are those of the definitions, and so are the ids of organisations and of their
 //! first users; the step of the world is a function of the organisation that the message's key names; members and their like
 //! are least relations, and rows have one order.

@@ -2,11 +2,11 @@
 
 ghost use Rattle.std.specs.Prelude.{◌≡◌, ◌∷◌, [], codes, false, map, negsuc, None, pos, Some, true};
 ghost use Rattle.base_value.specs.declared.value.Value.TheVariants as value;
-ghost use Rattle.soql_ast.specs.declared.query.Cond.TheVariants as cond;
-ghost use Rattle.soql_ast.specs.declared.query.LikePart.TheVariants as part;
-ghost use Rattle.soql_ast.specs.declared.query.Literal.TheVariants as literal;
-ghost use Rattle.soql_ast.specs.declared.query.Op.TheVariants as op;
-ghost use Rattle.soql_ast.specs.Worked.{street};
+ghost use Rattle.soql.specs.declared.query.Cond.TheVariants as cond;
+ghost use Rattle.soql.specs.declared.query.LikePart.TheVariants as part;
+ghost use Rattle.soql.specs.declared.query.Literal.TheVariants as literal;
+ghost use Rattle.soql.specs.declared.query.Op.TheVariants as op;
+ghost use Rattle.soql.specs.Worked.{street};
 ghost use Rattle.model.specs.Conditions.{holds, is_like, passes};
 ghost use Rattle.model.specs.Paths.{path_value};
 ghost use Rattle.model.specs.Rows.{found_children, listed, rows, shown};

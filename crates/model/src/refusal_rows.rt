@@ -1,8 +1,8 @@
 //! Which rule refuses first, worked by hand.
 
 ghost use Rattle.std.specs.Prelude.{◌≡◌, ◌∷◌, ◌++◌, [], codes, false, None, Some};
-ghost use Rattle.soql_ast.specs.declared.query.Literal.TheVariants as literal;
-ghost use Rattle.soql_ast.specs.declared.query.Op.TheVariants as op;
+ghost use Rattle.soql.specs.declared.query.Literal.TheVariants as literal;
+ghost use Rattle.soql.specs.declared.query.Op.TheVariants as op;
 ghost use Rattle.model.specs.Requests.{creates, sets_group, sets_user, updates};
 ghost use Rattle.model.specs.WorkedAccess.{is_open};
 ghost use Rattle.model.specs.WorkedQueries.{order_by};

@@ -1,8 +1,8 @@
 //! What requests on objects, people, shares and rules come to, worked by hand in a fresh organisation.
 
 ghost use Rattle.std.specs.Prelude.{◌≡◌, ◌∷◌, ◌++◌, [], codes, None};
-ghost use Rattle.soql_ast.specs.declared.query.Literal.TheVariants as literal;
-ghost use Rattle.soql_ast.specs.declared.query.Op.TheVariants as op;
+ghost use Rattle.soql.specs.declared.query.Literal.TheVariants as literal;
+ghost use Rattle.soql.specs.declared.query.Op.TheVariants as op;
 ghost use Rattle.model.specs.Requests.{deletes};
 ghost use Rattle.model.specs.WorkedRequests.{add_deals, all_of, by, by_admin, deal_made, deal_object, deal_row, denied_so, done_so, made_so, make_deal, not_found, people, refused_so, rename, rows_so, said, start};
 ghost use Rattle.model.specs.WorkedSharing.{account_is, ask_contacts, contact_made, contact_row, deal_given, deal_shared, give_to_cea, open_made, share_with_otto, stage_to};

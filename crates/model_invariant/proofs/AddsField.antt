@@ -3,6 +3,9 @@ use Rattle.std.proofs.Common.{◌≡◌, ℕ, ◌+◌, ◌<◌, Bool, true, fals
 use Rattle.std.specs.List.{list_any}
 use Rattle.std.proofs.lemmas.Bool.Decides.{nat_tests}
 use Rattle.std.proofs.lemmas.Option.{slice_get_within}
+use Rattle.std.proofs.lemmas.Bool.{not-true as not_so, and_from as both, not-false as holds_not}
+use Rattle.base_lemmas.proofs.Bools.{and_first as both_left, and_second as both_right}
+use Rattle.base_lemmas.proofs.Texts.{bytes_eq_false_sym as not_turned}
 use Rattle.base_value.specs.Types.{is_reference, is_type, suits_indexed, suits_unique}
 use Rattle.base_value.specs.declared.value.FieldType.{FieldType}
 use Rattle.base_value.specs.declared.value.FieldType.TheVariants as type
@@ -26,11 +29,10 @@ use Rattle.model.specs.Tenant.{Field, Tenant}
 use Rattle.model.specs.Verdict.{Verdict, accept, done, judged, on_object}
 use Rattle.model.specs.Forms.{flags_suit}
 use Rattle.model_invariant.specs.Fit.{has_member, is_fit_field}
-use Rattle.model_invariant.proofs.Parts.{both, both_left, both_right, holds_not, member_rule, none_refuses, unrefused}
+use Rattle.model_invariant.proofs.Parts.{member_rule, none_refuses, unrefused}
 use Rattle.model_invariant.proofs.Growing.{within_limit}
 use Rattle.model_invariant.proofs.PeopleSound.{when_judged}
 use Rattle.model_invariant.proofs.SharingSound.{when_object}
-use Rattle.model_invariant.proofs.NewObjects.{not_turned}
 use Rattle.model_invariant.proofs.NewFieldsSound.{any_parts, field_added, name_turned}
 use Rattle.model_invariant.proofs.SwitchSound.{plain_master, plain_target}
 
@@ -43,10 +45,6 @@ untaken others name e = unrefused (list_any (same_name name) others) (refusal.Na
 then_so : (a b : Bool) → implies a b ≡ true → a ≡ true → b ≡ true
 then_so true b h e = h
 then_so false b h e = absurd cc
-
-not_so : (b : Bool) → not b ≡ true → b ≡ false
-not_so true e = absurd cc
-not_so false e = refl
 
 -- of two members one is before the other
 either_before : (members : List (List ℕ)) (x y : List ℕ) → has_member members x ≡ true → (is_before members x y || is_before members y x) ≡ true

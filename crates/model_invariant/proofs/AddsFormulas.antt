@@ -3,8 +3,9 @@ use Rattle.std.proofs.Common.{◌≡◌, ℕ, zero, suc, Bool, true, false, not,
 use Rattle.std.specs.Prelude.{Result, Err, is_ok}
 use Rattle.std.specs.List.{list_all}
 use Rattle.std.specs.Option.{option_and_then}
-use Rattle.std.proofs.lemmas.Bool.{eqb-true}
-use Rattle.formula_eval.specs.declared.formula.Formula.{Formula}
+use Rattle.std.proofs.lemmas.Bool.{eqb-true, and_from as both}
+use Rattle.base_lemmas.proofs.Bools.{and_first as both_left, and_second as both_right, by_answer as pick}
+use Rattle.formula.specs.declared.formula.Formula.{Formula}
 use Rattle.model.specs.Limits.{formula_limit}
 use Rattle.model.specs.declared.record.Record.{Record}
 use Rattle.model.specs.Cases.{in_case}
@@ -23,8 +24,8 @@ use Rattle.model.specs.SoundFormulas.{AreFormulasSound, criteria_read, is_unname
 use Rattle.model.specs.SoundJob.{HasSoundJob}
 use Rattle.model.specs.Tenant.{Field, Job, Object, SharingRule, Source, owned, meets, Tenant, ValidationRule}
 use Rattle.model.specs.Verdict.{accept, done, judged, on_object}
-use Rattle.model_rule_text.specs.Reading.{ReadsOverMore}
-use Rattle.model_invariant.proofs.Parts.{both, both_left, both_right, list_all_at, list_all_from, list_all_more, pick}
+use Rattle.model_invariant.specs.rule_text.Reading.{ReadsOverMore}
+use Rattle.model_invariant.proofs.Parts.{list_all_at, list_all_from, list_all_more}
 use Rattle.model_invariant.proofs.Changes.{at_has, changed_or_not}
 use Rattle.model_invariant.proofs.FormulasSound.{IsUnnamed, free, free_rule}
 use Rattle.model_invariant.proofs.NewFieldsSound.{add}

@@ -1,6 +1,7 @@
 -- A change of a type that begins leaves a sound tenant.
 use Rattle.std.proofs.Common.{◌≡◌, ℕ, Bool, true, false, not, ◌&&◌, ◌||◌, cond, List, [], ◌∷◌, Option, Some, None, refl, ap, subst, ◌∙◌, slice_get}
 use Rattle.std.specs.Option.{option_and_then, unwrap_or}
+use Rattle.std.proofs.lemmas.Bool.{and_from as both}
 use Rattle.base_value.specs.Conversion.{convertible}
 use Rattle.base_value.specs.Types.{is_reference, is_type}
 use Rattle.base_value.specs.declared.value.FieldType.{FieldType}
@@ -16,7 +17,7 @@ use Rattle.model.specs.SoundJob.{copies}
 use Rattle.model.specs.SoundRecords.{those_of}
 use Rattle.model.specs.Tenant.{Field, Object, Tenant}
 use Rattle.model.specs.Verdict.{Verdict, accept, done, judged, refuse}
-use Rattle.model_invariant.proofs.Parts.{both, list_all_from}
+use Rattle.model_invariant.proofs.Parts.{list_all_from}
 use Rattle.model_invariant.proofs.PeopleSound.{when_judged}
 use Rattle.model_invariant.proofs.SharingSound.{when_object}
 use Rattle.model_invariant.proofs.JobsSound.{job_changed}

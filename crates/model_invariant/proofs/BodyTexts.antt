@@ -7,6 +7,8 @@ use Rattle.std.specs.Str.{all_scalars, chars, is_utf8}
 use Rattle.std.proofs.Math.Utf8.{scalar}
 use Rattle.std.proofs.lemmas.Bool.Decides.{nat_tests}
 use Rattle.std.proofs.lemmas.Str.{IsUtf8-from_is_utf8, scalars-chars}
+use Rattle.std.proofs.lemmas.Bool.{and_parts as both_are}
+use Rattle.std.proofs.lemmas.Option.{same_Some as some_is}
 use Rattle.base_value.specs.Numerals.{is_digit}
 use Rattle.base_json.specs.Characters.{Part, after_digits, after_spaces, code_unit, is_high, is_low, is_space, paired, short_escape}
 use Rattle.base_json.specs.Grammar.{CharacterAs, Content, Element, Escape, IsText, Items, Listed, Pair, Quoted, Sort, Unit_escape, Value, ValueAs, array, depth, falsehood, never, null, number, object, pair, short, string, truth, unescaped, unit}
@@ -21,15 +23,11 @@ use Rattle.model.specs.Cases.{in_case}
 use Rattle.model.specs.Given.{json_text}
 use Rattle.model.specs.Members.{Body, body_in, members_in, object_in}
 use Rattle.model_invariant.specs.Fit.{SpellsCharacters}
-use Rattle.model_invariant.proofs.FormsFit.{bound, some_is}
+use Rattle.model_invariant.proofs.FormsFit.{bound}
 
 -- a text of characters
 abbrev Told : List ℕ → Type 0
 Told cs = all_scalars cs ≡ true
-
-both_are : (a b : Bool) → (a && b) ≡ true → (a ≡ true) × (b ≡ true)
-both_are true b h = (refl, h)
-both_are false b h = absurd cc
 
 -- the first one, and those behind it
 split : (c : ℕ) (cs rest : List ℕ) → cs ≡ c ∷ rest → Told cs → (scalar c ≡ true) × Told rest

@@ -2,7 +2,9 @@
 use Rattle.std.proofs.Common.{◌≡◌, ℕ, zero, suc, ◌+◌, ◌==◌, Bool, true, false, ◌&&◌, ◌||◌, cond, List, [], ◌∷◌, ◌++◌, map, filter, filter_map, length, Option, Some, None, refl, ap, sym, subst, ◌∙◌, eq-eqb, arith, ◌⊎◌, inl, inr, slice_get}
 use Rattle.std.specs.List.{AllByRecursion, find, list_any}
 use Rattle.std.specs.Option.{unwrap_or}
-use Rattle.std.proofs.lemmas.Bool.{eqb-true}
+use Rattle.std.proofs.lemmas.Bool.{eqb-true, true≢false as clash}
+use Rattle.std.proofs.lemmas.Option.{same_Some as some_is}
+use Rattle.base_lemmas.proofs.Bools.{by_answer as pick}
 use Rattle.model.specs.Cases.{in_case}
 use Rattle.model.specs.Fields.{is_master}
 use Rattle.model.specs.Membership.{Has}
@@ -10,11 +12,8 @@ use Rattle.model.specs.Metadata.{masters_above}
 use Rattle.model.specs.Objects.{Numbered, change_at}
 use Rattle.model.specs.Relationships.{Reference, master_of_object, parent_name, references, relationship_names}
 use Rattle.model.specs.Tenant.{Object}
-use Rattle.model_invariant.proofs.Parts.{all_from, clash, pick}
+use Rattle.model_invariant.proofs.Parts.{all_from}
 use Rattle.model_invariant.proofs.SharingSound.{numbered_from}
-
-some_is : {A : Type 0} (x y : A) → Some x ≡ Some y → x ≡ y
-some_is x y e = ap (λ o. unwrap_or o x) e
 
 module _ {A : Type 0} (g : A → A) where
   -- at the place it is the changed one

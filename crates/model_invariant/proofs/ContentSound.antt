@@ -3,13 +3,16 @@ use Rattle.std.proofs.Common.{◌≡◌, ℕ, zero, suc, ◌+◌, Bool, true, fa
 use Rattle.std.specs.List.{enumerate_from, find, flat_map, list_all}
 use Rattle.std.specs.Option.{option_and_then, option_eq, option_map, option_or, unwrap_or}
 use Rattle.std.proofs.lemmas.Option.{slice_get-map}
+use Rattle.std.proofs.lemmas.Bool.{and_from as both, not-false as holds_not}
+use Rattle.base_lemmas.proofs.Bools.{and_first as both_left, and_second as both_right, by_answer as pick}
+use Rattle.base_lemmas.proofs.Texts.{same_from_bytes_eq as same_exact}
 use Rattle.base_value.specs.Reading.{empty_value}
 use Rattle.base_value.specs.Values.{equal, same_value, valid}
 use Rattle.base_value.specs.declared.value.FieldType.{FieldType}
 use Rattle.base_value.specs.declared.value.FieldType.TheVariants as type
 use Rattle.base_value.specs.declared.value.Value.{Value}
 use Rattle.base_value.specs.declared.value.Value.TheVariants as value
-use Rattle.formula_eval.specs.Meaning.{value_at}
+use Rattle.formula.specs.Meaning.{value_at}
 use Rattle.model.specs.declared.record.Record.{Record}
 use Rattle.model.specs.declared.refusal.Refusal.TheVariants as refusal
 use Rattle.model.specs.Cases.{in_case}
@@ -27,7 +30,7 @@ use Rattle.model.specs.Rules.{Rule, first_of, first_refusal, refuse_if}
 use Rattle.model.specs.SoundRecords.{all_valid, is_sound_owner, is_sound_reference, kinds_of, record_id}
 use Rattle.model.specs.Tenant.{Field, Object, Tenant}
 use Rattle.model.specs.World.{user_at}
-use Rattle.model_invariant.proofs.Parts.{both, both_left, both_right, holds_not, kept_among, list_all_from, none_refuses, pick, same_exact, unrefused}
+use Rattle.model_invariant.proofs.Parts.{kept_among, list_all_from, none_refuses, unrefused}
 use Rattle.model_invariant.proofs.Growing.{some_of}
 use Rattle.model_invariant.proofs.Roles.{found_at}
 

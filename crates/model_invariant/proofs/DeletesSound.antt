@@ -3,8 +3,11 @@ use Rattle.std.proofs.Common.{◌≡◌, ℕ, zero, suc, ◌+◌, ◌≤◌, Boo
 use Rattle.std.specs.List.{enumerate_from, find, flat_map, list_all, list_any}
 use Rattle.std.specs.Option.{option_and_then, unwrap_or}
 use Rattle.std.specs.Cmp.Lexicographic.{slice_cmp}
-use Rattle.std.proofs.lemmas.Bool.{eqb-true}
+use Rattle.std.proofs.lemmas.Bool.{eqb-true, and_from as both, true≢false as clash, or_left, or_right}
 use Rattle.std.proofs.lemmas.List.{length-map}
+use Rattle.base_lemmas.proofs.Bools.{and_first as both_left, and_second as both_right, by_answer as pick}
+use Rattle.base_lemmas.proofs.Lists.{length-filter_most as length_kept}
+use Rattle.base_lemmas.proofs.Texts.{same_from_bytes_eq as same_exact, bytes_eq-self as same_itself}
 use Rattle.base_value.specs.Conversion.{convert}
 use Rattle.base_value.specs.Dates.{is_moment}
 use Rattle.base_value.specs.Types.{is_reference}
@@ -17,7 +20,7 @@ use Rattle.base_value.specs.declared.value.FieldType.TheVariants as type
 use Rattle.base_value.specs.declared.value.OnDelete.TheVariants as on_delete
 use Rattle.base_value.specs.declared.value.Value.{Value}
 use Rattle.base_value.specs.declared.value.Value.TheVariants as value
-use Rattle.formula_eval.specs.Meaning.{value_at}
+use Rattle.formula.specs.Meaning.{value_at}
 use Rattle.model.specs.declared.record.Record.{Record}
 use Rattle.model.specs.declared.refusal.Refusal.TheVariants as refusal
 use Rattle.model.specs.Cases.{in_case}
@@ -40,7 +43,7 @@ use Rattle.model.specs.SoundSharing.{IsSoundShare}
 use Rattle.model.specs.Tenant.{Field, Group, Job, Object, Role, Tenant, User}
 use Rattle.model.specs.Verdict.{accept, done}
 use Rattle.model.specs.World.{having_id, user_id}
-use Rattle.model_invariant.proofs.Parts.{all_at, all_from, among_any, among_has, among_kept, among_map, any_among, both, both_left, both_right, clash, count_same, has_among, has_kept, has_same, kept_among, length_kept, length_kept_twice, list_all_at, list_all_from, or_left, or_right, pick, same_exact, same_itself, unrefused}
+use Rattle.model_invariant.proofs.Parts.{all_at, all_from, among_any, among_has, among_kept, among_map, any_among, count_same, has_among, has_kept, has_same, kept_among, length_kept_twice, list_all_at, list_all_from, unrefused}
 use Rattle.model_invariant.proofs.Orders.{rise_kept, rise_map}
 use Rattle.model_invariant.proofs.PeopleSound.{when_judged}
 use Rattle.model_invariant.proofs.SharingSound.{numbered_from, shares_kept, when_object}

@@ -4,7 +4,11 @@ use Rattle.std.specs.Prelude.{is_some, is_none}
 use Rattle.std.specs.Bool.{beq}
 use Rattle.std.specs.Str.{all_scalars}
 use Rattle.std.specs.List.{AllByRecursion, find, flat_map, list_all, list_any}
-use Rattle.std.specs.Option.{option_map, unwrap_or}
+use Rattle.std.specs.Option.{option_map}
+use Rattle.std.proofs.lemmas.Option.{same_Some as some_is}
+use Rattle.std.proofs.lemmas.Bool.{and_from as both, or_left, or_right}
+use Rattle.base_lemmas.proofs.Bools.{and_first as both_left, and_second as both_right}
+use Rattle.base_lemmas.proofs.Texts.{same_from_bytes_eq as same_exact, bytes_eq-self as same_itself}
 use Rattle.base_json.specs.Reading.{◌>>=◌}
 use Rattle.base_json.specs.declared.tree.Json.{Json}
 use Rattle.base_value.specs.Texts.{texts_differ}
@@ -31,13 +35,9 @@ use Rattle.model.specs.Sound.{is_name}
 use Rattle.model.specs.SoundSharing.{is_grant}
 use Rattle.model.specs.TypeForms.{deletions, in_bounds_type, lookup_type, number_type, picklist_type, simple_type, text_type, type_forms, type_member, type_of, where_so}
 use Rattle.model_invariant.specs.Fit.{IsFit, has_member, has_source}
-use Rattle.model_invariant.proofs.Parts.{both, both_left, both_right, or_left, or_right, same_exact, same_itself}
 use Rattle.model_invariant.proofs.RuleTexts.{AreSpelled, formed_same, text_spelled}
 
 -- ---- what is there
-pub some_is : {X : Type 0} (x y : X) → Some x ≡ Some y → x ≡ y
-some_is x y e = ap (λ o. unwrap_or o x) e
-
 pub bound : {X Y : Type 0} (o : Option X) (f : X → Option Y) (y : Y) → (o >>= f) ≡ Some y → (x : X) × (o ≡ Some x) × (f x ≡ Some y)
 bound None f y e = absurd cc
 bound (Some x) f y e = (x, refl, e)

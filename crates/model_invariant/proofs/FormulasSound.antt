@@ -2,10 +2,11 @@
 use Rattle.std.proofs.Common.{◌≡◌, ℕ, zero, suc, Bool, true, false, not, ◌&&◌, ◌||◌, ◌==◌, cond, List, [], ◌∷◌, length, filter, Option, Some, None, refl, ap, sym, subst, ◌∙◌, eq-eqb, slice_get, Ordering, nat_lt}
 use Rattle.std.specs.Prelude.{Result, Ok, Err, is_ok, IsTrue, IfSome}
 use Rattle.std.specs.List.{list_all, list_any}
-use Rattle.std.specs.Option.{unwrap_or}
-use Rattle.std.proofs.lemmas.Bool.{eqb-true}
+use Rattle.std.proofs.lemmas.Bool.{eqb-true, and_from as both}
+use Rattle.std.proofs.lemmas.Option.{same_Some as some_is}
+use Rattle.base_lemmas.proofs.Bools.{and_first as both_left, and_second as both_right, by_answer as pick}
 use Rattle.base_value.specs.declared.sharing.Access.{Access}
-use Rattle.formula_eval.specs.declared.formula.Formula.{Formula}
+use Rattle.formula.specs.declared.formula.Formula.{Formula}
 use Rattle.model.specs.Limits.{formula_limit}
 use Rattle.model.specs.declared.refusal.Refusal.TheVariants as refusal
 use Rattle.model.specs.Cases.{in_case}
@@ -25,14 +26,11 @@ use Rattle.model.specs.Tenant.{Job, Object, SharingRule, Source, owned, meets, T
 use Rattle.model.specs.declared.metadata_bodies.NewValidationRule.{NewValidationRule}
 use Rattle.model.specs.ValidationRules.{add_validation_rule, new_validation_rule_rules, validation_of, with_validation_rule}
 use Rattle.model.specs.Verdict.{accept, done, judged}
-use Rattle.model_rule_text.specs.Reading.{ReadsByFields}
-use Rattle.model_invariant.proofs.Parts.{both, both_left, both_right, list_all_kept, list_all_more, list_all_put, pick, unrefused}
+use Rattle.model_invariant.specs.rule_text.Reading.{ReadsByFields}
+use Rattle.model_invariant.proofs.Parts.{list_all_kept, list_all_more, list_all_put, unrefused}
 use Rattle.model_invariant.proofs.ObjectsSound.{changed_at, or_not, with_one}
 use Rattle.model_invariant.proofs.PeopleSound.{when_judged}
 use Rattle.model_invariant.proofs.SharingSound.{when_object}
-
-some_is : {A : Type 0} (x y : A) → Some x ≡ Some y → x ≡ y
-some_is x y e = ap (λ o. unwrap_or o x) e
 
 formed : (f : Result Formula ℕ) → malformed f ≡ None → is_ok f ≡ true
 formed (Ok f) e = refl

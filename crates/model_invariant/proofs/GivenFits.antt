@@ -5,6 +5,10 @@ use Rattle.std.specs.Char.{to_ascii_lowercase}
 use Rattle.std.specs.List.{enumerate_from, find, list_all, list_any}
 use Rattle.std.specs.Option.{option_map, unwrap_or}
 use Rattle.std.specs.Str.{all_scalars}
+use Rattle.std.proofs.lemmas.Option.{same_Some as field_is}
+use Rattle.std.proofs.lemmas.Bool.{and_from as both, true≢false as clash, or_left, or_right}
+use Rattle.base_lemmas.proofs.Bools.{and_first as both_left, and_second as both_right}
+use Rattle.base_lemmas.proofs.Texts.{same_from_bytes_eq as same_exact, bytes_eq-self as same_itself}
 use Rattle.base_json.specs.declared.tree.Json.{Json}
 use Rattle.base_json.specs.declared.tree.Json.TheVariants as json
 use Rattle.base_json.specs.declared.tree.Num.{Num}
@@ -17,7 +21,7 @@ use Rattle.base_value.specs.declared.value.FieldType.{FieldType}
 use Rattle.base_value.specs.declared.value.FieldType.TheVariants as type
 use Rattle.base_value.specs.declared.value.Value.{Value}
 use Rattle.base_value.specs.declared.value.Value.TheVariants as value
-use Rattle.formula_eval.specs.Meaning.{value_at}
+use Rattle.formula.specs.Meaning.{value_at}
 use Rattle.model.specs.declared.record.Record.{Record}
 use Rattle.model.specs.Edits.{given_to, value_or}
 use Rattle.model.specs.Fields.{Column, column, name_column, of_type, same_name, value_in, value_site}
@@ -36,7 +40,7 @@ use Rattle.model.specs.SoundRecords.{all_valid, kinds_of}
 use Rattle.model.specs.Tenant.{Field, Object, Tenant}
 use Rattle.model.specs.Upserts.{key_value}
 use Rattle.model_invariant.specs.Fit.{OfObjects, ReadsWell, ReadsWellByKey, is_spelled, key_of}
-use Rattle.model_invariant.proofs.Parts.{all_at, among_last, both, both_left, both_right, clash, list_all_at, or_left, or_right, same_exact, same_itself}
+use Rattle.model_invariant.proofs.Parts.{all_at, among_last, list_all_at}
 use Rattle.model_invariant.proofs.Changes.{at_has}
 use Rattle.model_invariant.proofs.DeletesSound.{sound_object}
 use Rattle.model_invariant.proofs.ContentSound.{kind_at, valid_at}
@@ -56,9 +60,6 @@ was_given v = Ok v
 
 given_is : (v w : Value) → was_given v ≡ was_given w → v ≡ w
 given_is v w e = cc
-
-field_is : (f g : Field) → Some f ≡ Some g → f ≡ g
-field_is f g e = ap (λ o. unwrap_or o f) e
 
 -- what is found is in the list, and passes
 found_and : {A : Type 0} (p : A → Bool) (xs : List A) (x : A) → find p xs ≡ Some x → Has xs x × (p x ≡ true)

@@ -4,6 +4,9 @@ use Rattle.std.specs.List.{AllByRecursion}
 use Rattle.std.specs.Cmp.Lexicographic.{slice_cmp}
 use Rattle.std.proofs.lemmas.Bool.Decides.{nat_tests}
 use Rattle.std.proofs.lemmas.Option.{IfSome_then}
+use Rattle.base_lemmas.proofs.Lists.{each_weaker as all_more}
+use Rattle.std.proofs.lemmas.Bool.{and_from as both, or_cases}
+use Rattle.base_lemmas.proofs.Bools.{and_first as both_left, and_second as both_right}
 use Rattle.base_value.specs.Digits.{digits}
 use Rattle.base_value.specs.Id.{made, number_in, number62}
 use Rattle.base_value.specs.declared.sharing.Principal.{Principal}
@@ -11,7 +14,7 @@ use Rattle.base_value.specs.declared.sharing.Principal.TheVariants as to
 use Rattle.base_value.specs.declared.job.RuleState.{RuleState}
 use Rattle.model.specs.declared.record.Record.{Record}
 use Rattle.model.specs.declared.refusal.Refusal.{Refusal}
-use Rattle.formula_eval.specs.Meaning.{value_at}
+use Rattle.formula.specs.Meaning.{value_at}
 use Rattle.model.specs.Fields.{is_detail, is_master, ref_of}
 use Rattle.model.specs.Known.{Grows, IsDrawn, KeepsPeople, Known, NumbersDiffer, group_id, item_of, known, knows, names_any, number_part, role_id}
 use Rattle.model.specs.Objects.{object_number, record_prefix}
@@ -25,7 +28,7 @@ use Rattle.model.specs.SoundRecords.{HasSoundRecords, IsSoundRecord, is_sound_ow
 use Rattle.model.specs.SoundSharing.{HasSoundRules, HasSoundShares, IsSoundRule, IsSoundShare, IsCursor, is_sound_source, is_whole}
 use Rattle.model.specs.Tenant.{Group, Job, Object, Role, Share, SharingRule, Source, owned, meets, Tenant, User}
 use Rattle.model.specs.World.{user_id, user_prefix, role_prefix, group_prefix}
-use Rattle.model_invariant.proofs.Parts.{all_more, both, both_left, both_right, has_all, list_all_more, or_cases}
+use Rattle.model_invariant.proofs.Parts.{has_all, list_all_more}
 
 -- ---- limits
 pub within_limit : (n m : ℕ) (r : Refusal) → refuse_if (nat_lt n m) r ≡ None → m ≤ n

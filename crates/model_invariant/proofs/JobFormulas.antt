@@ -1,6 +1,7 @@
 -- A change of a field's type keeps that no rule names the field while its values are copied.
 use Rattle.std.proofs.Common.{◌≡◌, ℕ, true, false, not, ◌&&◌, ◌==◌, List, [], ◌∷◌, Option, Some, None, refl, ap, ◌∙◌, slice_get}
 use Rattle.std.specs.List.{find, list_all}
+use Rattle.std.proofs.lemmas.Bool.{and_from as both}
 use Rattle.base_value.specs.declared.job.Outcome.TheVariants as outcome
 use Rattle.base_value.specs.declared.job.Phase.{Phase}
 use Rattle.base_value.specs.declared.job.Phase.TheVariants as phase
@@ -18,7 +19,7 @@ use Rattle.model.specs.Rules.{first_of, refuse_if}
 use Rattle.model.specs.SoundFormulas.{AreFormulasSound, is_unnamed}
 use Rattle.model.specs.Tenant.{Job, SharingRule, Tenant, ValidationRule}
 use Rattle.model.specs.Verdict.{accept, done, judged, refuse}
-use Rattle.model_invariant.proofs.Parts.{both, list_all_from, none_refuses, unrefused}
+use Rattle.model_invariant.proofs.Parts.{list_all_from, none_refuses, unrefused}
 use Rattle.model_invariant.proofs.ContentSound.{none_for_each}
 use Rattle.model_invariant.proofs.FormulasSound.{IsUnnamed, free, free_rule}
 use Rattle.model_invariant.proofs.PeopleSound.{when_judged}

@@ -7,7 +7,8 @@ use Rattle.std.specs.Ordering.{ordering_reverse}
 use Rattle.std.specs.FinMap.{is_sorted}
 use Rattle.std.specs.Cmp.Lexicographic.{slice_cmp}
 use Rattle.std.proofs.lemmas.Cmp.{nat_list_cmp_total}
-use Rattle.std.proofs.lemmas.Bool.{eqb-true}
+use Rattle.std.proofs.lemmas.Bool.{eqb-true, true≢false as clash, not-false as holds_not}
+use Rattle.base_lemmas.proofs.Bools.{by_answer as pick}
 use Rattle.base_value.specs.Conversion.{convert}
 use Rattle.base_value.specs.Id.{made}
 use Rattle.base_value.specs.declared.job.Outcome.{Outcome}
@@ -15,7 +16,7 @@ use Rattle.base_value.specs.declared.job.Outcome.TheVariants as outcome
 use Rattle.base_value.specs.declared.job.Phase.{Phase}
 use Rattle.base_value.specs.declared.job.Phase.TheVariants as phase
 use Rattle.base_value.specs.declared.value.Value.{Value}
-use Rattle.formula_eval.specs.Meaning.{value_at}
+use Rattle.formula.specs.Meaning.{value_at}
 use Rattle.model.specs.Limits.{step_records}
 use Rattle.model.specs.declared.record.Record.{Record}
 use Rattle.model.specs.declared.refusal.Refusal.TheVariants as refusal
@@ -34,7 +35,7 @@ use Rattle.model.specs.SoundSharing.{IsCursor}
 use Rattle.model.specs.Tenant.{Job, Tenant}
 use Rattle.model.specs.Updates.{is_copied}
 use Rattle.model.specs.Verdict.{accept, done, judged, refuse}
-use Rattle.model_invariant.proofs.Parts.{all_at, among_kept, clash, holds_not, kept_among, list_all_at, list_all_from, pick, unrefused}
+use Rattle.model_invariant.proofs.Parts.{all_at, among_kept, kept_among, list_all_at, list_all_from, unrefused}
 use Rattle.model_invariant.proofs.Orders.{rise_first, rise_kept, rise_rest}
 use Rattle.model_invariant.proofs.ContentSound.{none_found}
 use Rattle.model_invariant.proofs.PeopleSound.{when_judged}

@@ -1,3 +1,8 @@
+pub mod Past
+pub mod Steps
+mod Truths
+mod KnownSigns
+mod FormulaTexts
 mod SoundParts
 mod Parts
 mod Orders

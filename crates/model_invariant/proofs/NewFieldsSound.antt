@@ -1,11 +1,15 @@
 -- A new field leaves a sound tenant: each record of its object has one value more, which is null or false.
 use Rattle.std.proofs.Common.{◌≡◌, ℕ, zero, suc, ◌+◌, ◌<◌, ◌≤◌, Bool, true, false, not, ◌&&◌, ◌||◌, ◌==◌, cond, List, [], ◌∷◌, ◌++◌, map, filter, filter_map, length, Option, Some, None, is_some, refl, ap, sym, subst, ◌∙◌, eq-eqb, arith, ◌⊎◌, inl, inr, bytes_eq, slice_get, nat_cmp}
 use Rattle.std.specs.List.{AllByRecursion, cons_option, enumerate_from, find, flat_map, list_all, list_any}
-use Rattle.std.specs.Option.{option_and_then, unwrap_or}
+use Rattle.std.specs.Option.{option_and_then}
 use Rattle.std.specs.Cmp.Lexicographic.{slice_cmp}
-use Rattle.std.proofs.lemmas.Bool.{eqb-true}
-use Rattle.std.proofs.lemmas.List.{length-map}
-use Rattle.std.proofs.lemmas.Option.{slice_get_within}
+use Rattle.std.proofs.lemmas.Bool.{eqb-true, not-true as not_so, or_parts as neither, and_from as both, true≢false as clash}
+use Rattle.std.proofs.lemmas.List.{length-map, map_push as names_of_last, map-append as map_parts, length_push as length_last, append-nil as nil_right}
+use Rattle.std.proofs.lemmas.Option.{slice_get_within, same_Some as some_is}
+use Rattle.std.proofs.lemmas.List.Elements.{filter-append as filter_parts, filter_map-append as filter_map_parts}
+use Rattle.base_lemmas.proofs.Lists.{each-push as all_last, each_weaker as all_more}
+use Rattle.base_lemmas.proofs.Bools.{and_first as both_left, and_second as both_right, by_answer as pick}
+use Rattle.base_lemmas.proofs.Texts.{bytes_eq_false_sym as not_turned}
 use Rattle.base_value.specs.Conversion.{convert}
 use Rattle.base_value.specs.Reading.{empty_value}
 use Rattle.base_value.specs.Texts.{lower, texts_differ}
@@ -15,7 +19,7 @@ use Rattle.base_value.specs.declared.value.FieldType.{FieldType}
 use Rattle.base_value.specs.declared.value.FieldType.TheVariants as type
 use Rattle.base_value.specs.declared.value.Value.{Value}
 use Rattle.base_value.specs.declared.value.Value.TheVariants as value
-use Rattle.formula_eval.specs.Meaning.{value_at}
+use Rattle.formula.specs.Meaning.{value_at}
 use Rattle.model.specs.declared.record.Record.{Record}
 use Rattle.model.specs.Cases.{in_case}
 use Rattle.model.specs.Fields.{is_detail, is_master, is_null, ref_of, same_name}
@@ -32,16 +36,13 @@ use Rattle.model.specs.SoundRecords.{IsSoundRecord, UniqueHold, all_valid, is_so
 use Rattle.model.specs.SoundSharing.{IsSoundRule, IsSoundShare, shareable}
 use Rattle.model.specs.Tenant.{Field, Job, Object, Tenant}
 use Rattle.model.specs.Updates.{is_copied}
-use Rattle.model_invariant.proofs.Parts.{all_at, all_from, all_last, all_more, among_kept, among_map, both, both_left, both_right, clash, count_same, has_same, kept_among, length_last, list_all_at, list_all_from, pick}
+use Rattle.model_invariant.proofs.Parts.{all_at, all_from, among_kept, among_map, count_same, has_same, kept_among, list_all_at, list_all_from}
 use Rattle.model_invariant.proofs.Orders.{rise_map}
 use Rattle.model_invariant.proofs.Growing.{groups_more, numbers_less, record_more, roles_more, rules_more, shares_more, users_more}
 use Rattle.model_invariant.proofs.SharingSound.{numbered_from}
 use Rattle.model_invariant.proofs.DeletesSound.{among_either, sound_object}
 use Rattle.model_invariant.proofs.Changes.{changed_or_not, length_changed, level_by_masters, map_changed, names_by_references, objects_changed, same_at}
-use Rattle.model_invariant.proofs.NewObjects.{filter_last, get_before, in_turn, names_last, nil_right, not_turned}
-
-some_is : {A : Type 0} (x y : A) → Some x ≡ Some y → x ≡ y
-some_is x y e = ap (λ o. unwrap_or o x) e
+use Rattle.model_invariant.proofs.NewObjects.{filter_last, get_before, in_turn, names_last}
 
 -- ---- lists
 last_or_before : {A : Type 0} (xs : List A) (x : A) (i : ℕ) (y : A) → slice_get (xs ++ x ∷ []) i ≡ Some y → (slice_get xs i ≡ Some y) ⊎ ((i ≡ length xs) × (x ≡ y))
@@ -53,10 +54,6 @@ last_or_before (z ∷ xs) x (suc i) y e = elim (last_or_before xs x i y e) [ inl
 any_last : {A : Type 0} (q : A → Bool) (xs : List A) (x : A) → q x ≡ false → list_any q (xs ++ x ∷ []) ≡ list_any q xs
 any_last q [] x e = ap (λ b. b || false) e
 any_last q (y ∷ xs) x e = ap (λ b. q y || b) (any_last q xs x e)
-
-names_of_last : {A B : Type 0} (f : A → B) (xs : List A) (x : A) → map f (xs ++ x ∷ []) ≡ map f xs ++ f x ∷ []
-names_of_last f [] x = refl
-names_of_last f (y ∷ xs) x = ap (λ ys. f y ∷ ys) (names_of_last f xs x)
 
 -- ---- values with one more at the end
 valid_last : (ks : List FieldType) (vs : List Value) (k : FieldType) (v : Value) → all_valid ks vs ≡ true → valid k v ≡ true → all_valid (ks ++ k ∷ []) (vs ++ v ∷ []) ≡ true
@@ -122,14 +119,6 @@ any_within c (x ∷ xs) ys d h e = by (same_name c x) h (λ h. any_within c xs y
 pub name_turned : (a b : List ℕ) → same_name a b ≡ false → same_name b a ≡ false
 name_turned a b e = not_turned (lower a) (lower b) e
 
-not_so : (b : Bool) → not b ≡ true → b ≡ false
-not_so true e = absurd cc
-not_so false e = refl
-
-neither : (a b : Bool) → (a || b) ≡ false → (a ≡ false) × (b ≡ false)
-neither true b e = absurd cc
-neither false b e = (refl, e)
-
 pub any_parts : {A : Type 0} (q : A → Bool) (xs ys : List A) → list_any q (xs ++ ys) ≡ false → (list_any q xs ≡ false) × (list_any q ys ≡ false)
 any_parts q [] ys e = (refl, e)
 any_parts q (x ∷ xs) ys e = by (q x) e (any_parts q xs ys)
@@ -148,24 +137,6 @@ names_within (x ∷ xs) ys c h e =
     (names_within xs ys c (both_right (not (list_any (bytes_eq (lower x)) (map lower (xs ++ ys)))) (texts_differ (map lower (xs ++ ys))) h) w.1)
 
 -- ---- one more reference, anywhere
-filter_parts : {A : Type 0} (q : A → Bool) (xs ys : List A) → filter q (xs ++ ys) ≡ filter q xs ++ filter q ys
-filter_parts q [] ys = refl
-filter_parts q (x ∷ xs) ys =
-    ap (λ zs. cond (q x) (x ∷ zs) zs) (filter_parts q xs ys)
-    ∙ pick (q x) (λ b. cond b (x ∷ (filter q xs ++ filter q ys)) (filter q xs ++ filter q ys) ≡ cond b (x ∷ filter q xs) (filter q xs) ++ filter q ys) (λ _. refl) (λ _. refl)
-
-map_parts : {A B : Type 0} (f : A → B) (xs ys : List A) → map f (xs ++ ys) ≡ map f xs ++ map f ys
-map_parts f [] ys = refl
-map_parts f (x ∷ xs) ys = ap (λ zs. f x ∷ zs) (map_parts f xs ys)
-
-filter_map_parts : {A B : Type 0} (f : A → Option B) (xs ys : List A) → filter_map f (xs ++ ys) ≡ filter_map f xs ++ filter_map f ys
-filter_map_parts f [] ys = refl
-filter_map_parts {A} {B} f (x ∷ xs) ys = by (f x) (filter_map f (xs ++ ys)) (filter_map f xs) (filter_map_parts f xs ys)
-  where
-    by : (o : Option B) (us vs : List B) → us ≡ vs ++ filter_map f ys → cons_option o us ≡ cons_option o vs ++ filter_map f ys
-    by None us vs h = h
-    by (Some w) us vs h = ap (λ zs. w ∷ zs) h
-
 find_within : {A : Type 0} (q : A → Bool) (xs ys : List A) (x : A) → q x ≡ false → find q (xs ++ x ∷ ys) ≡ find q (xs ++ ys)
 find_within q [] ys x e = ap (λ b. cond b (Some x) (find q ys)) e
 find_within q (y ∷ xs) ys x e = ap (λ o. cond (q y) (Some y) o) (find_within q xs ys x e)

@@ -1,10 +1,15 @@
 -- A new object, perhaps a detail, leaves a sound tenant.
 use Rattle.std.proofs.Common.{◌≡◌, ℕ, zero, suc, ◌+◌, ◌<◌, ◌≤◌, Bool, true, false, not, ◌&&◌, ◌||◌, ◌==◌, cond, List, [], ◌∷◌, ◌++◌, map, filter, filter_map, length, Option, Some, None, refl, ap, sym, subst, ◌∙◌, eq-eqb, arith, inl, inr, bytes_eq, codes, slice_get, nat_lt}
 use Rattle.std.specs.List.{AllByRecursion, cons_option, find, flat_map, list_any}
-use Rattle.std.specs.Option.{option_and_then, unwrap_or}
-use Rattle.std.proofs.lemmas.Bool.{eqb-true}
+use Rattle.std.specs.Option.{option_and_then}
+use Rattle.std.proofs.lemmas.Bool.{eqb-true, and_left as and_false, and_from as both, not-false as holds_not}
 use Rattle.std.proofs.lemmas.Bool.Decides.{nat_tests}
-use Rattle.std.proofs.lemmas.Option.{slice_get_within}
+use Rattle.std.proofs.lemmas.Option.{slice_get_within, same_Some as some_is}
+use Rattle.std.proofs.lemmas.List.{map_push as map_last, append-nil as nil_right, length_push as length_last}
+use Rattle.base_lemmas.proofs.Texts.{bytes_eq_false_sym as not_turned}
+use Rattle.base_lemmas.proofs.Lists.{each_weaker as all_more}
+use Rattle.base_lemmas.proofs.Numbers.{eqb-less as apart_numbers}
+use Rattle.base_lemmas.proofs.Bools.{and_first as both_left, and_second as both_right, by_answer as pick}
 use Rattle.base_value.specs.Texts.{lower, texts_differ}
 use Rattle.model.specs.declared.limit.Limit.TheVariants as limit
 use Rattle.model.specs.declared.refusal.Refusal.TheVariants as refusal
@@ -27,7 +32,7 @@ use Rattle.model.specs.SoundSharing.{IsSoundRule, IsSoundShare, shareable}
 use Rattle.model.specs.Tenant.{Field, Job, Object, Tenant}
 use Rattle.model.specs.Verdict.{accept, done}
 use Rattle.model_invariant.specs.Fit.{has_member, is_fit_object}
-use Rattle.model_invariant.proofs.Parts.{all_at, all_more, among_kept, both, both_left, both_right, clash, holds_not, length_last, member_rule, none_refuses, pick, same_exact, same_itself, unrefused}
+use Rattle.model_invariant.proofs.Parts.{all_at, among_kept, member_rule, none_refuses, unrefused}
 use Rattle.model_invariant.proofs.Growing.{within_limit}
 use Rattle.model_invariant.proofs.PeopleSound.{when_judged}
 use Rattle.model_invariant.proofs.SharingSound.{named_at, numbered_from}
@@ -36,15 +41,8 @@ use Rattle.model_invariant.proofs.DeletesSound.{among_either, sound_object}
 use Rattle.model_invariant.proofs.Changes.{at_has, level_by_references, names_by_references}
 use Rattle.model_invariant.proofs.UpsertsSound.{found_record}
 
-some_is : {A : Type 0} (x y : A) → Some x ≡ Some y → x ≡ y
-some_is x y e = ap (λ o. unwrap_or o x) e
-
 -- ---- lists with one more at the end
 module _ {A : Type 0} where
-  pub nil_right : (xs : List A) → xs ++ [] ≡ xs
-  nil_right [] = refl
-  nil_right (x ∷ xs) = ap (λ ys. x ∷ ys) (nil_right xs)
-
   pub in_turn : (xs ys zs : List A) → xs ++ (ys ++ zs) ≡ (xs ++ ys) ++ zs
   in_turn [] ys zs = refl
   in_turn (x ∷ xs) ys zs = ap (λ ws. x ∷ ws) (in_turn xs ys zs)
@@ -53,11 +51,6 @@ module _ {A : Type 0} where
   get_before [] x m y e = absurd cc
   get_before (z ∷ xs) x zero y e = e
   get_before (z ∷ xs) x (suc m) y e = get_before xs x m y e
-
-  get_within : (xs : List A) (m : ℕ) → m < length xs → (y : A) × (slice_get xs m ≡ Some y)
-  get_within [] m e = absurd (omega (arith, e))
-  get_within (x ∷ xs) zero e = (x, refl)
-  get_within (x ∷ xs) (suc m) e = get_within xs m (omega (arith, e))
 
   pub filter_last : (q : A → Bool) (xs : List A) (x : A) → filter q (xs ++ x ∷ []) ≡ cond (q x) (filter q xs ++ x ∷ []) (filter q xs)
   filter_last q [] x = pick (q x) (λ b. cond b (x ∷ []) [] ≡ cond b (x ∷ []) []) (λ _. refl) (λ _. refl)
@@ -87,18 +80,7 @@ module _ {A : Type 0} where
   find_at_last q [] x h e = ap (λ b. cond b (Some x) None) e
   find_at_last q (y ∷ xs) x h e = ap (λ b. cond b (Some y) (find q (xs ++ x ∷ []))) (h y (inl refl)) ∙ find_at_last q xs x (λ z m. h z (inr m)) e
 
-  map_last : {B : Type 0} (f : A → B) (xs : List A) (x : A) → map f (xs ++ x ∷ []) ≡ map f xs ++ f x ∷ []
-  map_last f [] x = refl
-  map_last f (y ∷ xs) x = ap (λ ys. f y ∷ ys) (map_last f xs x)
-
 -- ---- one more name
-pub not_turned : (a b : List ℕ) → bytes_eq a b ≡ false → bytes_eq b a ≡ false
-not_turned a b e = by (bytes_eq b a) refl
-  where
-    by : (c : Bool) → bytes_eq b a ≡ c → c ≡ false
-    by true h = absurd (clash (sym (same_itself a) ∙ ap (bytes_eq a) (sym (same_exact b a h)) ∙ e))
-    by false h = refl
-
 pub none_last : (x : List ℕ) (xs : List (List ℕ)) (c : List ℕ) → list_any (bytes_eq x) xs ≡ false → bytes_eq x c ≡ false → list_any (bytes_eq x) (xs ++ c ∷ []) ≡ false
 none_last x [] c h e = ap (λ b. b || false) e
 none_last x (y ∷ xs) c h e = by (bytes_eq x y) h (λ h. none_last x xs c h e)
@@ -296,16 +278,9 @@ module _ (t : Tenant) (s : HasSoundParts t) (x : Object) where
             each (k + 1) ps (λ m w. h m (omega (arith, w))) a.1,
           )
 
-apart_numbers : (a b : ℕ) → a < b → (a == b) ≡ false
-apart_numbers a b h = grind (arith, nat_tests)
-
 find_none : {A : Type 0} (q : A → Bool) (xs : List A) → ((x : A) → Has xs x → q x ≡ false) → find q xs ≡ None
 find_none q [] h = refl
 find_none q (x ∷ xs) h = ap (λ b. cond b (Some x) (find q xs)) (h x (inl refl)) ∙ find_none q xs (λ y m. h y (inr m))
-
-pub and_false : (a b : Bool) → a ≡ false → (a && b) ≡ false
-and_false true b e = absurd cc
-and_false false b e = refl
 
 -- ---- no detail
 module _ (t : Tenant) (s : HasSoundParts t) (b : NewObject) where

@@ -2,8 +2,10 @@
 use Rattle.std.proofs.Common.{◌≡◌, ℕ, true, not, ◌||◌, T, List, [], ◌∷◌, ◌++◌, map, get_or, refl, ap, sym, subst, ◌∙◌, arith, ◌⊎◌, inl, inr, bytes_eq, nat_cmp, Less, Equal}
 use Rattle.std.specs.List.{list_any}
 use Rattle.std.specs.Cmp.Lexicographic.{slice_cmp}
-use Rattle.std.proofs.lemmas.Bool.{or_cases}
+use Rattle.std.proofs.lemmas.Bool.{or_cases, and_from as both, true≢false as clash, or_left, or_right}
 use Rattle.std.proofs.lemmas.Cmp.{nat_list_cmp_total, tied_itself}
+use Rattle.base_lemmas.proofs.Bools.{and_first as both_left, and_second as both_right, by_answer as pick}
+use Rattle.base_lemmas.proofs.Texts.{same_from_bytes_eq as same_exact, bytes_eq-self as same_itself}
 use Rattle.base_value.specs.Digits.{digits}
 use Rattle.base_value.specs.Id.{made}
 use Rattle.base_value.specs.Texts.{texts_differ}
@@ -17,7 +19,7 @@ use Rattle.model.specs.SoundRecords.{IsSoundRecord, record_id}
 use Rattle.model.specs.Tenant.{Tenant}
 use Rattle.model.specs.World.{group_prefix, role_prefix, user_id, user_prefix}
 use Rattle.model_invariant.proofs.Orders.{rise_first, rise_rest}
-use Rattle.model_invariant.proofs.Parts.{all_at, among_has, among_map, both, both_left, both_right, clash, has_among, or_left, or_right, pick, same_exact, same_itself}
+use Rattle.model_invariant.proofs.Parts.{all_at, among_has, among_map, has_among}
 use Rattle.model_invariant.proofs.DeletesSound.{among_either, among_left, among_right}
 
 -- ---- lists without twins

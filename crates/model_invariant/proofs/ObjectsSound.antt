@@ -3,9 +3,12 @@ use Rattle.std.proofs.Common.{◌≡◌, ℕ, zero, suc, ◌+◌, ◌≤◌, nat
 use Rattle.model_invariant.specs.Fit.{is_fit_validation}
 use Rattle.std.specs.Str.{all_scalars}
 use Rattle.std.specs.List.{AllByRecursion, flat_map, list_any}
-use Rattle.std.specs.Option.{option_and_then, unwrap_or}
+use Rattle.std.specs.Option.{option_and_then}
 use Rattle.std.specs.Cmp.Lexicographic.{on_texts}
-use Rattle.std.proofs.lemmas.Bool.{eqb-true}
+use Rattle.std.proofs.lemmas.Bool.{eqb-true, and_from as both, true≢false as clash, not-false as holds_not}
+use Rattle.std.proofs.lemmas.Option.{same_Some as some_is}
+use Rattle.base_lemmas.proofs.Lists.{each_weaker as all_more}
+use Rattle.base_lemmas.proofs.Bools.{and_first as both_left, and_second as both_right}
 use Rattle.base_value.specs.Texts.{lower}
 use Rattle.base_value.specs.declared.sharing.Access.{Access}
 use Rattle.model.specs.Limits.{formula_limit}
@@ -32,16 +35,13 @@ use Rattle.model.specs.Tenant.{Field, Job, Object, Tenant, ValidationRule}
 use Rattle.model.specs.declared.metadata_bodies.NewValidationRule.{NewValidationRule}
 use Rattle.model.specs.ValidationRules.{add_validation_rule, new_validation_rule_rules, validation_of, with_validation_rule}
 use Rattle.model.specs.Verdict.{accept, done, judged}
-use Rattle.model_invariant.proofs.Parts.{all_at, all_more, all_put, among_kept, both, both_left, both_right, clash, holds_not, length_put, none_refuses, none_so, unrefused}
+use Rattle.model_invariant.proofs.Parts.{all_at, all_put, among_kept, length_put, none_refuses, none_so, unrefused}
 use Rattle.model_invariant.proofs.Orders.{rise_put}
 use Rattle.model_invariant.proofs.Growing.{within_limit}
 use Rattle.model_invariant.proofs.Changes.{length_changed, level_by_references, map_changed, names_by_references}
 use Rattle.model_invariant.proofs.PeopleSound.{when_judged}
 use Rattle.model_invariant.proofs.SharingSound.{numbered_from, tied_names, when_object}
 use Rattle.model_invariant.proofs.RuleTexts.{short_text}
-
-some_is : {A : Type 0} (a b : A) → Some a ≡ Some b → a ≡ b
-some_is a b e = ap (λ w. unwrap_or w a) e
 
 module _ (A : Object → Access) (R : Object → List ValidationRule) where
   abbrev pub change : Object → Object

@@ -1,30 +1,14 @@
 -- Lists whose keys strictly rise: what stays where one is added, changed or taken away.
-use Rattle.std.proofs.Common.{◌≡◌, Bool, true, false, ◌&&◌, cond, T, List, [], ◌∷◌, ◌++◌, map, filter, refl, ap, sym, subst, ◌∙◌, inl, inr, is_lt, Less, Equal, Greater, Ordering}
+use Rattle.std.proofs.Common.{◌≡◌, Bool, true, false, cond, T, List, [], ◌∷◌, ◌++◌, map, filter, refl, ap, sym, subst, ◌∙◌, inl, inr, is_lt, Less, Equal, Greater, Ordering}
 use Rattle.std.specs.List.{AllByRecursion}
 use Rattle.std.specs.FinMap.{is_sorted}
 use Rattle.std.specs.FinMap.Entries.{below_all}
 use Rattle.std.specs.Cmp.{IsTotalOrder}
 use Rattle.std.specs.Ordering.{ordering_reverse}
+use Rattle.base_lemmas.proofs.Bools.{T-and_first as t_left, T-and_second as t_right, T-and_from as t_both, by_answer as pick}
+use Rattle.base_lemmas.proofs.Orders.{less_from_T as is_less}
 use Rattle.model.specs.Membership.{Has}
 use Rattle.model.specs.Ordered.{put_in}
-use Rattle.model_invariant.proofs.Parts.{pick}
-
-t_both : (a b : Bool) → T a → T b → T (a && b)
-t_both true b p q = q
-t_both false b p q = p
-
-t_left : (a b : Bool) → T (a && b) → T a
-t_left true b p = tt
-t_left false b p = p
-
-t_right : (a b : Bool) → T (a && b) → T b
-t_right true b p = p
-t_right false b p = absurd p
-
-is_less : (o : Ordering) → T (is_lt o) → o ≡ Less
-is_less Less p = refl
-is_less Equal p = absurd p
-is_less Greater p = absurd p
 
 module _ {A K : Type 0} (R : K → K → Ordering) (key : A → K) where
   abbrev below : K → List A → Bool

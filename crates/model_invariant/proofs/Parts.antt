@@ -1,49 +1,14 @@
 -- Lists of things that are each sound, that have ids, and that stand in order: what stays where one is added, changed or taken away.
-use Rattle.std.proofs.Common.{◌≡◌, ℕ, ◌+◌, ◌≤◌, Bool, true, false, not, ◌&&◌, ◌||◌, cond, List, [], ◌∷◌, ◌++◌, map, length, filter, Some, None, is_some, refl, ap, sym, subst, ◌∙◌, arith, ◌⊎◌, inl, inr, bytes_eq, is_lt, Ordering}
+use Rattle.std.proofs.Common.{◌≡◌, ℕ, ◌+◌, ◌≤◌, Bool, true, false, ◌||◌, cond, List, [], ◌∷◌, ◌++◌, map, length, filter, Some, None, is_some, refl, ap, sym, subst, ◌∙◌, arith, ◌⊎◌, inl, inr, bytes_eq, is_lt, Ordering}
 use Rattle.std.specs.List.{AllByRecursion, list_all, list_any}
-use Rattle.std.proofs.lemmas.Slice.Eq.{bytes_eq-Decides}
+use Rattle.std.proofs.lemmas.Bool.{and_from as both, or_left, or_right, or_cases}
+use Rattle.base_lemmas.proofs.Bools.{and_first as both_left, and_second as both_right, by_answer as pick}
+use Rattle.base_lemmas.proofs.Texts.{bytes_eq-self as same_itself, same_from_bytes_eq as same_exact}
 use Rattle.model.specs.Membership.{Has}
 use Rattle.model.specs.Ordered.{put_in}
 use Rattle.model.specs.Rules.{MemberRules, Rule, first_refusal, in_body_order, refuse_if, rule_of}
 use Rattle.model.specs.World.{having_id}
 use Rattle.model.specs.declared.refusal.Refusal.{Refusal}
-
-pub pick : (b : Bool) (P : Bool → Type 0) → (b ≡ true → P true) → (b ≡ false → P false) → P b
-pick true P f g = f refl
-pick false P f g = g refl
-
-pub or_left : (a b : Bool) → a ≡ true → (a || b) ≡ true
-or_left true b e = refl
-or_left false b e = absurd cc
-
-pub or_right : (a b : Bool) → b ≡ true → (a || b) ≡ true
-or_right true b e = refl
-or_right false b e = e
-
-pub or_cases : (a b : Bool) → (a || b) ≡ true → (a ≡ true) ⊎ (b ≡ true)
-or_cases true b e = inl refl
-or_cases false b e = inr e
-
-pub same_exact : (a b : List ℕ) → bytes_eq a b ≡ true → a ≡ b
-same_exact a b e = (bytes_eq-Decides a b).0 e
-
-pub same_itself : (a : List ℕ) → bytes_eq a a ≡ true
-same_itself a = (bytes_eq-Decides a a).1 refl
-
-pub clash : true ≡ false → ⊥
-clash e = cc
-
-pub both_left : (a b : Bool) → (a && b) ≡ true → a ≡ true
-both_left true b h = refl
-both_left false b h = h
-
-pub both_right : (a b : Bool) → (a && b) ≡ true → b ≡ true
-both_right true b h = h
-both_right false b h = absurd cc
-
-pub both : (a b : Bool) → a ≡ true → b ≡ true → (a && b) ≡ true
-both true b p q = q
-both false b p q = p
 
 -- ---- rules that don't refuse
 pub none_refuses : (rules : List Rule) → first_refusal rules ≡ None → AllByRecursion (λ r. r ≡ None) rules
@@ -55,10 +20,6 @@ pub unrefused : (b : Bool) (r : Refusal) → refuse_if b r ≡ None → b ≡ fa
 unrefused true r e = absurd cc
 unrefused false r e = refl
 
-pub holds_not : (b : Bool) → not b ≡ false → b ≡ true
-holds_not true e = refl
-holds_not false e = absurd cc
-
 -- ---- all of a list
 module _ {A B : Type 0} where
   pub all_map : (f : A → B) (P : A → Type 0) (Q : B → Type 0) → ((x : A) → P x → Q (f x)) → (xs : List A) → AllByRecursion P xs → AllByRecursion Q (map f xs)
@@ -66,18 +27,6 @@ module _ {A B : Type 0} where
   all_map f P Q h (x ∷ xs) a = (h x a.0, all_map f P Q h xs a.1)
 
 module _ {A : Type 0} where
-  pub all_more : (P Q : A → Type 0) → ((x : A) → P x → Q x) → (xs : List A) → AllByRecursion P xs → AllByRecursion Q xs
-  all_more P Q h [] a = tt
-  all_more P Q h (x ∷ xs) a = (h x a.0, all_more P Q h xs a.1)
-
-  pub all_last : (P : A → Type 0) (xs : List A) (x : A) → AllByRecursion P xs → P x → AllByRecursion P (xs ++ x ∷ [])
-  all_last P [] x a p = (p, tt)
-  all_last P (y ∷ xs) x a p = (a.0, all_last P xs x a.1 p)
-
-  pub all_kept : (P : A → Type 0) (p : A → Bool) (xs : List A) → AllByRecursion P xs → AllByRecursion P (filter p xs)
-  all_kept P p [] a = tt
-  all_kept P p (x ∷ xs) a = pick (p x) (λ b. AllByRecursion P (cond b (x ∷ filter p xs) (filter p xs))) (λ _. (a.0, all_kept P p xs a.1)) (λ _. all_kept P p xs a.1)
-
   pub all_put : (P : A → Type 0) (order : A → A → Ordering) (x : A) (xs : List A) → AllByRecursion P xs → P x → AllByRecursion P (put_in order x xs)
   all_put P order x [] a p = (p, tt)
   all_put P order x (y ∷ xs) a p =
@@ -97,21 +46,11 @@ module _ {A : Type 0} where
   list_all_more f g h (x ∷ xs) e = both (g x) (list_all g xs) (h x (both_left (f x) (list_all f xs) e)) (list_all_more f g h xs (both_right (f x) (list_all f xs) e))
 
   -- ---- how many
-  pub length_last : (xs : List A) (x : A) → length (xs ++ x ∷ []) ≡ length xs + 1
-  length_last [] x = refl
-  length_last (y ∷ xs) x = let h = length_last xs x in omega arith
-
   pub length_put : (order : A → A → Ordering) (x : A) (xs : List A) → length (put_in order x xs) ≡ length xs + 1
   length_put order x [] = refl
   length_put order x (y ∷ xs) =
       let h = length_put order x xs in
       pick (is_lt (order x y)) (λ b. length (cond b (x ∷ y ∷ xs) (y ∷ put_in order x xs)) ≡ length (y ∷ xs) + 1) (λ _. omega arith) (λ _. omega arith)
-
-  pub length_kept : (p : A → Bool) (xs : List A) → length (filter p xs) ≤ length xs
-  length_kept p [] = omega arith
-  length_kept p (x ∷ xs) =
-      let h = length_kept p xs in
-      pick (p x) (λ b. length (cond b (x ∷ filter p xs) (filter p xs)) ≤ length (x ∷ xs)) (λ _. omega arith) (λ _. omega arith)
 
   -- ---- who is among them
   pub among_last : (xs : List A) (x y : A) → Has (xs ++ x ∷ []) y → Has xs y ⊎ (y ≡ x)

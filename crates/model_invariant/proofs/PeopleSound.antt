@@ -5,8 +5,12 @@ use Rattle.std.specs.List.{AllByRecursion, list_all}
 use Rattle.std.specs.Option.{option_map, option_and_then}
 use Rattle.std.specs.Cmp.Lexicographic.{slice_cmp}
 use Rattle.std.specs.Option.{unwrap_or}
-use Rattle.std.proofs.lemmas.List.{length-map}
+use Rattle.std.proofs.lemmas.List.{length-map, length_push as length_last}
 use Rattle.std.proofs.lemmas.Option.{IfSome_then}
+use Rattle.base_lemmas.proofs.Lists.{each-push as all_last, each_weaker as all_more}
+use Rattle.std.proofs.lemmas.Bool.{and_from as both, true≢false as clash, not-false as holds_not, or_cases, or_left, or_right}
+use Rattle.base_lemmas.proofs.Bools.{by_answer as pick}
+use Rattle.base_lemmas.proofs.Texts.{same_from_bytes_eq as same_exact, bytes_eq-self as same_itself}
 use Rattle.sha2.specs.Sha256.{sha256}
 use Rattle.base_value.specs.declared.sharing.Principal.{Principal}
 use Rattle.base_value.specs.declared.sharing.Principal.TheVariants as to
@@ -26,7 +30,7 @@ use Rattle.model.specs.SoundPeople.{IsSoundUser, IsSoundRole, IsSoundGroup, is_n
 use Rattle.model.specs.Tenant.{Group, Role, Tenant, User}
 use Rattle.model.specs.Verdict.{Verdict, accept, done, judged, made_new, unless}
 use Rattle.model.specs.World.{user_id, user_prefix, role_prefix, group_prefix, having_id}
-use Rattle.model_invariant.proofs.Parts.{all_at, all_last, all_map, all_more, both, clash, list_all_more, has_last, has_same, holds_not, last_has, length_last, none_refuses, or_cases, or_left, or_right, pick, same_exact, same_itself, unrefused}
+use Rattle.model_invariant.proofs.Parts.{all_at, all_map, list_all_more, has_last, has_same, last_has, none_refuses, unrefused}
 use Rattle.model_invariant.proofs.Orders.{rise_last, rise_map}
 use Rattle.model_invariant.proofs.Growing.{IdLaws, drawn_less, each_group_more, each_role_more, groups_more, job_more, knows_more, numbers_less, numbers_more, records_more, roles_more, rules_more, shares_more, some_of, unnamed_yet, users_more, within_limit}
 use Rattle.model_invariant.proofs.Roles.{found_at, found_last, found_map, from_some, still_no_cycle}

@@ -6,10 +6,11 @@ use Rattle.std.specs.Option.{unwrap_or}
 use Rattle.std.specs.Cmp.{IsTotalOrder, bool_cmp_total}
 use Rattle.std.specs.Cmp.Lexicographic.{slice_cmp}
 use Rattle.std.proofs.lemmas.Cmp.{int_cmp_total, nat_list_cmp_total, on_total}
-use Rattle.std.proofs.lemmas.Bool.{eqb-true, or_cases}
+use Rattle.std.proofs.lemmas.Bool.{eqb-true, or_cases, true≢false as clash, or_left, or_right}
 use Rattle.std.proofs.lemmas.Bool.Decides.{nat_tests}
 use Rattle.std.proofs.lemmas.Map.Text.{is_eq-slice_cmp}
 use Rattle.std.proofs.lemmas.Option.{IfSome_then, slice_get_within}
+use Rattle.base_lemmas.proofs.Texts.{same_from_bytes_eq as same_exact}
 use Rattle.base_value.specs.Digits.{digits}
 use Rattle.base_value.specs.Id.{digit62, made, number62, value62}
 use Rattle.caseless.specs.Caseless.{default_case_fold}
@@ -21,7 +22,7 @@ use Rattle.base_value.specs.declared.value.Value.{Value}
 use Rattle.base_value.specs.declared.value.Value.TheVariants as value
 use Rattle.model.specs.declared.record.Record.{Record}
 use Rattle.model.specs.Creates.{with_record}
-use Rattle.formula_eval.specs.Meaning.{value_at}
+use Rattle.formula.specs.Meaning.{value_at}
 use Rattle.model.specs.Fields.{is_null}
 use Rattle.model.specs.Known.{Grows, known, names_any}
 use Rattle.model.specs.Membership.{Has}
@@ -33,7 +34,7 @@ use Rattle.model.specs.SoundRecords.{IsSoundRecord, UniqueHold, record_id, those
 use Rattle.model.specs.SoundSharing.{IsCursor}
 use Rattle.model.specs.Tenant.{Field, Job, Object, Tenant}
 use Rattle.model.specs.Updates.{is_copied}
-use Rattle.model_invariant.proofs.Parts.{all_from, all_put, among_has, among_kept, among_put, clash, count_put, count_put_out, has_put, kept_among, length_put, list_all_at, list_all_from, put_has, or_left, or_right, same_exact}
+use Rattle.model_invariant.proofs.Parts.{all_from, all_put, among_has, among_kept, among_put, count_put, count_put_out, has_put, kept_among, length_put, list_all_at, list_all_from, put_has}
 use Rattle.model_invariant.proofs.Orders.{rise_put}
 use Rattle.model_invariant.proofs.Growing.{IdLaws, cursor_more, each_record_more, groups_more, numbers_more, roles_more, rules_more, shares_more, unnamed_yet, users_more, record_prefix_size}
 

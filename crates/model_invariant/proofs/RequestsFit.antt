@@ -4,10 +4,11 @@ use Rattle.std.specs.List.{list_all}
 use Rattle.std.specs.Option.{option_map}
 use Rattle.std.specs.Str.{all_scalars, chars, is_utf8}
 use Rattle.std.proofs.lemmas.Str.{IsUtf8-from_is_utf8, scalars-chars}
+use Rattle.std.proofs.lemmas.Option.{same_Some as some_is}
 use Rattle.base_json.specs.Reading.{◌>>=◌}
 use Rattle.base_json.specs.declared.tree.Json.{Json}
-use Rattle.soql_ast.specs.declared.query.Query.{Query}
-use Rattle.soql_grammar.specs.Spelling.{reads_query}
+use Rattle.soql.specs.declared.query.Query.{Query}
+use Rattle.soql.specs.grammar.Spelling.{reads_query}
 use Rattle.base_value.specs.Texts.{lower, texts_differ}
 use Rattle.model.specs.declared.refusal.Refusal.{Refusal}
 use Rattle.model.specs.declared.route.Route.{Route}
@@ -27,7 +28,7 @@ use Rattle.model.specs.Sound.{IsSound}
 use Rattle.model.specs.Step.{query_text}
 use Rattle.model_invariant.specs.Fit.{IsFit, is_spelled}
 use Rattle.model_invariant.proofs.BodyTexts.{ReadAsSpelled, body_spells}
-use Rattle.model_invariant.proofs.FormsFit.{access_fits, bound, field_fits, mapped, object_fits, retype_fits, rule_fits, share_fits, some_is, validation_fits, where_is}
+use Rattle.model_invariant.proofs.FormsFit.{access_fits, bound, field_fits, mapped, object_fits, retype_fits, rule_fits, share_fits, validation_fits, where_is}
 use Rattle.model_invariant.proofs.SoundParts.{parts}
 use Rattle.model_invariant.proofs.GivenFits.{ReadLaw, key_fits, spelled_fits}
 use Rattle.model_invariant.proofs.RuleTexts.{AreSpelled}

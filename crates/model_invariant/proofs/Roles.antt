@@ -1,15 +1,14 @@
 -- Another parent of one thing, above which the thing doesn't stand, makes no cycle.
 use Rattle.std.proofs.Common.{◌≡◌, ℕ, Bool, true, false, cond, List, [], ◌∷◌, ◌++◌, map, Option, Some, None, refl, ap, sym, subst, ◌∙◌, ◌⊎◌, inl, inr, bytes_eq, option_map}
 use Rattle.std.specs.Option.{unwrap_or}
+use Rattle.std.proofs.lemmas.Option.{same_Some as some_is}
+use Rattle.base_lemmas.proofs.Bools.{by_answer as pick}
+use Rattle.base_lemmas.proofs.Texts.{same_from_bytes_eq as same_exact}
 use Rattle.model.specs.Membership.{Below, Has, more_steps, one_step}
 use Rattle.model.specs.World.{having_id}
-use Rattle.model_invariant.proofs.Parts.{pick, same_exact}
 
 abbrev Up : Type 0
 Up = List ℕ → Option (List ℕ)
-
-some_is : (p q : List ℕ) → Some p ≡ Some q → p ≡ q
-some_is p q e = ap (λ o. unwrap_or o p) e
 
 module _ (up : Up) where
   then_on : (b c a : List ℕ) → Below up a b → Below up b c → Below up a c

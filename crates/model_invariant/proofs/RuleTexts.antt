@@ -5,6 +5,7 @@ use Rattle.std.specs.List.{find, list_all}
 use Rattle.std.specs.Option.{option_map}
 use Rattle.std.specs.Str.{all_scalars}
 use Rattle.std.proofs.lemmas.Bool.Decides.{nat_tests}
+use Rattle.base_lemmas.proofs.Bools.{and_first as both_left, and_second as both_right}
 use Rattle.base_json.specs.Reading.{◌>>=◌}
 use Rattle.base_json.specs.declared.tree.Json.{Json}
 use Rattle.base_json.specs.declared.tree.Json.TheVariants as json
@@ -15,7 +16,6 @@ use Rattle.model.specs.Members.{Body, as_text, entry_named, formed, is_one_of, m
 use Rattle.model.specs.FormulaTexts.{reads_text}
 use Rattle.model.specs.RuleFormulas.{formula_of, malformed}
 use Rattle.model.specs.Tenant.{Object}
-use Rattle.model_invariant.proofs.Parts.{both_left, both_right}
 
 -- a text that isn't refused has at most 4,000 characters
 pub short_text : (o : Object) (criteria : Bool) (text : List ℕ) → malformed (formula_of o criteria text) ≡ None → nat_le (length text) formula_limit ≡ true

@@ -3,12 +3,16 @@ use Rattle.std.proofs.Common.{◌≡◌, ℕ, suc, ◌+◌, ◌≤◌, Bool, tru
 use Rattle.std.specs.Str.{all_scalars}
 use Rattle.std.specs.List.{AllByRecursion, enumerate_from, list_any}
 use Rattle.std.specs.Ordering.{ordering_reverse}
-use Rattle.std.specs.Option.{unwrap_or}
 use Rattle.std.specs.Cmp.{IsTotalOrder}
 use Rattle.std.specs.Cmp.Lexicographic.{on_texts}
 use Rattle.std.proofs.lemmas.Cmp.{nat_list_cmp_total, on_total, then_total}
 use Rattle.std.proofs.lemmas.Bool.Decides.{nat_tests}
 use Rattle.std.proofs.lemmas.Map.Text.{is_eq-slice_cmp}
+use Rattle.std.proofs.lemmas.Option.{same_Some as some_is}
+use Rattle.base_lemmas.proofs.Lists.{each-filter as all_kept, each_weaker as all_more, length-filter_most as length_kept}
+use Rattle.std.proofs.lemmas.Bool.{and_from as both, true≢false as clash, not-false as holds_not}
+use Rattle.base_lemmas.proofs.Bools.{and_first as both_left, and_second as both_right, by_answer as pick}
+use Rattle.base_lemmas.proofs.Texts.{same_from_bytes_eq as same_exact}
 use Rattle.base_value.specs.Principals.{principals_total}
 use Rattle.base_value.specs.Texts.{lower}
 use Rattle.base_value.specs.declared.sharing.Level.TheVariants as level
@@ -45,7 +49,7 @@ use Rattle.model.specs.SoundSharing.{NumbersOnce, HasSoundRules, HasSoundShares,
 use Rattle.model.specs.Tenant.{Object, Share, SharingRule, Tenant}
 use Rattle.model.specs.Verdict.{Verdict, accept, done, judged, on_object, refuse}
 use Rattle.model_invariant.specs.Fit.{has_member, has_source, is_fit_rule, is_fit_share}
-use Rattle.model_invariant.proofs.Parts.{all_at, all_from, all_kept, all_more, all_put, among_kept, among_put, both, both_left, both_right, clash, count_put_out, holds_not, length_kept, length_kept_twice, length_put, member_rule, none_refuses, none_so, pick, same_exact, unrefused}
+use Rattle.model_invariant.proofs.Parts.{all_at, all_from, all_put, among_kept, among_put, count_put_out, length_kept_twice, length_put, member_rule, none_refuses, none_so, unrefused}
 use Rattle.model_invariant.proofs.Orders.{rise_kept, rise_put}
 use Rattle.model_invariant.proofs.Growing.{within_limit}
 use Rattle.model_invariant.proofs.Roles.{found_at}
@@ -53,9 +57,6 @@ use Rattle.model_invariant.proofs.PeopleSound.{when_judged}
 use Rattle.model_invariant.proofs.RuleTexts.{short_text}
 
 -- ---- an object that is found by its name is at its number
-some_is : {A : Type 0} (x y : A) → Some x ≡ Some y → x ≡ y
-some_is x y e = ap (λ o. unwrap_or o x) e
-
 abbrev pub numbered_from : ℕ → List Object → List Numbered
 numbered_from n os = map (λ (o : ℕ × Object). record { number = o.0; object = o.1 }) (enumerate_from n os)
 

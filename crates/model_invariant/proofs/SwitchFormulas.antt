@@ -3,8 +3,11 @@ use Rattle.std.proofs.Common.{◌≡◌, ℕ, zero, suc, Bool, true, false, not,
 use Rattle.std.specs.Prelude.{Result, Err, is_ok}
 use Rattle.std.specs.List.{list_all}
 use Rattle.std.specs.Option.{option_and_then}
+use Rattle.std.proofs.lemmas.Option.{same_Some as some_is}
+use Rattle.std.proofs.lemmas.Bool.{and_from as both}
+use Rattle.base_lemmas.proofs.Bools.{and_first as both_left, and_second as both_right, by_answer as pick}
 use Rattle.base_value.specs.declared.job.Phase.TheVariants as phase
-use Rattle.formula_eval.specs.declared.formula.Formula.{Formula}
+use Rattle.formula.specs.declared.formula.Formula.{Formula}
 use Rattle.model.specs.Limits.{formula_limit}
 use Rattle.model.specs.Cases.{in_case}
 use Rattle.model.specs.Jobs.{job_step, switched}
@@ -16,14 +19,11 @@ use Rattle.model_invariant.proofs.SoundParts.{HasSoundParts}
 use Rattle.model.specs.SoundFormulas.{AreFormulasSound, criteria_read, is_unnamed, source_reads, validations_read}
 use Rattle.model.specs.SoundJob.{HasSoundJob, IsSoundJob}
 use Rattle.model.specs.Tenant.{Field, Job, Object, SharingRule, Source, owned, meets, Tenant, ValidationRule}
-use Rattle.model_rule_text.specs.Reading.{ReadsOtherTypes}
-use Rattle.model_invariant.proofs.Parts.{both, both_left, both_right, list_all_at, list_all_from, pick}
+use Rattle.model_invariant.specs.rule_text.Reading.{ReadsOtherTypes}
+use Rattle.model_invariant.proofs.Parts.{list_all_at, list_all_from}
 use Rattle.model_invariant.proofs.Changes.{changed_or_not}
 use Rattle.model_invariant.proofs.FormulasSound.{IsUnnamed, free, free_rule}
 use Rattle.model_invariant.proofs.JobFormulas.{step_formulas}
-
-some_is : (a b : Object) → Some a ≡ Some b → a ≡ b
-some_is a b e = ap (λ w. in_case w a (λ z. z)) e
 
 module _ (law : ReadsOtherTypes) (t : Tenant) (s : AreFormulasSound t) (j : Job) (is : t.job ≡ Some j) (copy : j.phase ≡ phase.Copy)
     (p : Object) (there : slice_get t.objects j.object ≡ Some p) where

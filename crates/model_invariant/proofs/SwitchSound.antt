@@ -3,10 +3,13 @@
 use Rattle.std.proofs.Common.{◌≡◌, ℕ, zero, suc, ◌+◌, ◌≤◌, Bool, true, false, not, ◌&&◌, ◌||◌, ◌==◌, cond, List, [], ◌∷◌, ◌++◌, map, filter, length, take, Option, Some, None, is_some, refl, ap, sym, subst, ◌∙◌, eq-eqb, arith, slice_get, nat_cmp, nat_lt}
 use Rattle.std.specs.Prelude.{slice_set, IsTrue}
 use Rattle.std.specs.List.{AllByRecursion, enumerate_from, flat_map, list_all}
-use Rattle.std.specs.Option.{option_and_then, unwrap_or}
+use Rattle.std.specs.Option.{option_and_then}
 use Rattle.std.specs.Cmp.Lexicographic.{slice_cmp}
-use Rattle.std.proofs.lemmas.Bool.{eqb-true}
+use Rattle.std.proofs.lemmas.Bool.{eqb-true, not-true as not_so, and_from as both, true≢false as clash}
 use Rattle.std.proofs.lemmas.List.{length-map}
+use Rattle.std.proofs.lemmas.Option.{same_Some as some_is}
+use Rattle.base_lemmas.proofs.Lists.{each_weaker as all_more}
+use Rattle.base_lemmas.proofs.Bools.{and_first as both_left, and_second as both_right, by_answer as pick}
 use Rattle.base_value.specs.Conversion.{convert, convertible}
 use Rattle.base_value.specs.Types.{is_reference, is_type, suits_indexed, suits_unique}
 use Rattle.base_value.specs.Values.{equal, valid}
@@ -17,7 +20,7 @@ use Rattle.base_value.specs.declared.job.Phase.TheVariants as phase
 use Rattle.base_value.specs.declared.value.FieldType.{FieldType}
 use Rattle.base_value.specs.declared.value.FieldType.TheVariants as type
 use Rattle.base_value.specs.declared.value.Value.{Value}
-use Rattle.formula_eval.specs.Meaning.{value_at}
+use Rattle.formula.specs.Meaning.{value_at}
 use Rattle.model.specs.declared.record.Record.{Record}
 use Rattle.model.specs.Cases.{in_case}
 use Rattle.model.specs.Fields.{is_detail, is_master, is_null, ref_of}
@@ -35,7 +38,7 @@ use Rattle.model.specs.SoundRecords.{IsSoundRecord, UniqueHold, all_valid, is_so
 use Rattle.model.specs.SoundSharing.{IsSoundRule, IsSoundShare, shareable}
 use Rattle.model.specs.Tenant.{Field, Job, Object, Tenant}
 use Rattle.model.specs.Updates.{is_copied}
-use Rattle.model_invariant.proofs.Parts.{all_at, all_from, all_more, among_kept, among_map, both, both_left, both_right, clash, count_same, has_same, kept_among, list_all_at, list_all_from, pick}
+use Rattle.model_invariant.proofs.Parts.{all_at, all_from, among_kept, among_map, count_same, has_same, kept_among, list_all_at, list_all_from}
 use Rattle.model_invariant.proofs.Orders.{rise_map}
 use Rattle.model_invariant.proofs.Growing.{groups_more, numbers_less, record_more, roles_more, rules_more, shares_more, users_more}
 use Rattle.model_invariant.proofs.SharingSound.{numbered_from}
@@ -47,13 +50,6 @@ use Rattle.model_invariant.proofs.Changes.{all_changed, any_changed, at_has, cou
 -- what `base_value` says of a value that converts
 abbrev pub ConvertLaw : Type 0
 ConvertLaw = (from to : FieldType) (v w : Value) → IsTrue (is_type from) → IsTrue (valid from v) → convert to v ≡ Some w → IsTrue (valid to w)
-
-some_is : {A : Type 0} (x y : A) → Some x ≡ Some y → x ≡ y
-some_is x y e = ap (λ o. unwrap_or o x) e
-
-not_so : (b : Bool) → not b ≡ true → b ≡ false
-not_so true e = absurd cc
-not_so false e = refl
 
 -- ---- types that are no references
 pub plain_target : (k : FieldType) → is_reference k ≡ false → target_of k ≡ None

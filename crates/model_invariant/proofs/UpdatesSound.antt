@@ -3,8 +3,10 @@ use Rattle.std.proofs.Common.{◌≡◌, ℕ, suc, Bool, true, false, not, ◌&&
 use Rattle.std.specs.List.{list_all}
 use Rattle.std.specs.Option.{option_and_then, unwrap_or}
 use Rattle.std.specs.Cmp.Lexicographic.{slice_cmp}
-use Rattle.std.proofs.lemmas.Bool.{eqb-true}
+use Rattle.std.proofs.lemmas.Bool.{eqb-true, true≢false as clash}
 use Rattle.std.proofs.lemmas.List.{length-map}
+use Rattle.base_lemmas.proofs.Bools.{by_answer as pick}
+use Rattle.base_lemmas.proofs.Texts.{same_from_bytes_eq as same_exact}
 use Rattle.base_value.specs.Conversion.{convert}
 use Rattle.base_value.specs.Id.{id_in}
 use Rattle.base_value.specs.Values.{equal, same_value}
@@ -12,7 +14,7 @@ use Rattle.base_value.specs.declared.sharing.Level.{Level}
 use Rattle.base_value.specs.declared.sharing.Level.TheVariants.{Edit}
 use Rattle.base_value.specs.declared.value.Value.{Value}
 use Rattle.base_value.specs.declared.value.Value.TheVariants as value
-use Rattle.formula_eval.specs.Meaning.{value_at}
+use Rattle.formula.specs.Meaning.{value_at}
 use Rattle.model.specs.declared.record.Record.{Record}
 use Rattle.model.specs.declared.refusal.Refusal.TheVariants as refusal
 use Rattle.model.specs.Cases.{in_case}
@@ -35,7 +37,7 @@ use Rattle.model.specs.Tenant.{Field, Job, Object, Share, Tenant}
 use Rattle.model.specs.Updates.{conflicts, is_copied, update, update_on, update_rules, with_changed}
 use Rattle.model.specs.Verdict.{Verdict, accept, done, judged, refuse, upserted}
 use Rattle.model_invariant.specs.Fit.{IsCaller, OfObjects, ReadsWell}
-use Rattle.model_invariant.proofs.Parts.{all_at, all_map, among_kept, among_map, clash, count_same, has_same, kept_among, list_all_at, list_all_from, none_refuses, pick, same_exact, unrefused}
+use Rattle.model_invariant.proofs.Parts.{all_at, all_map, among_kept, among_map, count_same, has_same, kept_among, list_all_at, list_all_from, none_refuses, unrefused}
 use Rattle.model_invariant.proofs.Orders.{rise_map}
 use Rattle.model_invariant.proofs.Growing.{groups_more, numbers_less, record_more, roles_more, rules_more, shares_more, users_more}
 use Rattle.model_invariant.proofs.PeopleSound.{when_judged}

@@ -1,6 +1,7 @@
 -- What the verdict of any request leaves is sound.
-use Rattle.std.proofs.Common.{◌≡◌, Bool, true, false, not, Option, Some, None, refl}
-use Rattle.soql_ast.specs.declared.query.Query.{Query}
+use Rattle.std.proofs.Common.{Option, Some, None}
+use Rattle.std.proofs.lemmas.Bool.{not-true as not_so}
+use Rattle.soql.specs.declared.query.Query.{Query}
 use Rattle.model.specs.Fields.{by_parent}
 use Rattle.model.specs.declared.refusal.Refusal.TheVariants as refusal
 use Rattle.model.specs.Asking.{ask, query_rules}
@@ -12,7 +13,7 @@ use Rattle.model_invariant.proofs.SoundParts.{HasSoundParts}
 use Rattle.model.specs.SoundFormulas.{AreFormulasSound}
 use Rattle.model.specs.Tenant.{Job, Tenant}
 use Rattle.model.specs.Verdict.{accept, judged, refuse, rows_of, state_of}
-use Rattle.model_rule_text.specs.Reading.{ReadsFormulas}
+use Rattle.model_invariant.specs.rule_text.Reading.{ReadsFormulas}
 use Rattle.model_invariant.specs.Fit.{IsCaller, IsFit}
 use Rattle.model_invariant.proofs.Digests.{digest_size}
 use Rattle.model_invariant.proofs.Growing.{IdLaws}
@@ -44,10 +45,6 @@ looked_kept P t h = by t.job
     by : (job : Option Job) → P (in_case job (refuse t refusal.NotFound) (λ j. accept (state_of j) t)).tenant
     by None = h
     by (Some j) = h
-
-not_so : (b : Bool) → not b ≡ true → b ≡ false
-not_so true e = absurd cc
-not_so false e = refl
 
 pub verdict_sound : IdLaws → BelowLaw → (a : Asked) (r : Request) → IsCaller a → IsFit a r → HasSoundParts a.tenant → HasSoundParts (verdict_on a r).tenant
 verdict_sound ids below a (asks q) caller fit s = asked_kept HasSoundParts a q s

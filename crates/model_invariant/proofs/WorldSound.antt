@@ -2,6 +2,8 @@
 use Rattle.std.proofs.Common.{◌≡◌, ℕ, zero, suc, ◌≤◌, Bool, true, false, cond, List, [], ◌∷◌, length, Option, Some, None, refl, ap, sym, subst, ◌∙◌, bytes_eq}
 use Rattle.std.specs.Prelude.{is_some, pos}
 use Rattle.std.specs.List.{AllByRecursion}
+use Rattle.std.proofs.lemmas.Option.{same_Some as some_is}
+use Rattle.base_lemmas.proofs.Texts.{bytes_eq-self as same_itself}
 use Rattle.model.specs.declared.caller.Caller.{Caller}
 use Rattle.model.specs.declared.limit.Limit.TheVariants as limit
 use Rattle.model.specs.declared.refusal.Refusal.TheVariants.{InvalidSession}
@@ -17,8 +19,7 @@ use Rattle.model.specs.World.{World, having_id, tenant_at, user_at, user_id, wit
 use Rattle.base_value.specs.Dates.{is_moment}
 use Rattle.model_invariant.specs.Fit.{IsCaller}
 use Rattle.model_invariant.proofs.Changes.{at_has}
-use Rattle.model_invariant.proofs.FormsFit.{some_is}
-use Rattle.model_invariant.proofs.Parts.{all_at, same_itself}
+use Rattle.model_invariant.proofs.Parts.{all_at}
 
 found_self : (xs : List User) (i : List ℕ) (u : User) → having_id user_id xs i ≡ Some u → is_some (having_id user_id xs u.id) ≡ true
 found_self [] i u e = absurd cc

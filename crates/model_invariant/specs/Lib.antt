@@ -1,2 +1,4 @@
+pub mod progress
+pub mod rule_text
 pub mod Fit
 pub mod Worked

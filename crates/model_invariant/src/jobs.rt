@@ -8,8 +8,8 @@ ghost use Rattle.model.specs.Retyping.{begin_retype, cancel_retype, new_type};
 ghost use Rattle.model.specs.Sound.{IsSound};
 ghost use Rattle.model.specs.Tenant.{Tenant};
 
+use crate::rule_text::text_laws;
 use base_value::value_laws;
-use model_rule_text::text_laws;
 
 /// What a change of a type leaves that begins, is called off or goes on to its end is sound; the new type is within its bounds,
 /// as every type is that is read. The call does nothing.

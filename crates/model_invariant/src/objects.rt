@@ -13,7 +13,7 @@ ghost use Rattle.model.specs.declared.metadata_bodies.NewValidationRule.{NewVali
 ghost use Rattle.model.specs.ValidationRules.{add_validation_rule};
 ghost use Rattle.model_invariant.specs.Fit.{is_fit_field, is_fit_object, is_fit_validation};
 
-use model_rule_text::text_laws;
+use crate::rule_text::text_laws;
 
 /// What a new object, another access of one, a new field or a new validation rule leaves is sound, if the body has the form that every
 /// body has that is read: a new access is never the master's, and a message is a name. The call does nothing.

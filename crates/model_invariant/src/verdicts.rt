@@ -7,9 +7,9 @@ ghost use Rattle.model.specs.Sound.{IsSound};
 ghost use Rattle.model.specs.Tenant.{Tenant};
 ghost use Rattle.model_invariant.specs.Fit.{IsCaller, IsFit};
 
+use crate::rule_text::text_laws;
 use base_value::{id_laws, value_laws};
 use model::access_laws;
-use model_rule_text::text_laws;
 
 /// What the verdict of any request leaves of a sound organisation is sound, if one of its users asks at a moment of the
 /// calendar and the body has its form; and so is what a step of a change of a field's type leaves. The call does nothing.

@@ -12,7 +12,7 @@ ghost use Rattle.model.specs.Tenant.{Tenant, User};
 ghost use Rattle.model.specs.World.{World, tenant_at, with_tenant};
 ghost use Rattle.model_step.specs.Flat.{is_flat};
 ghost use Rattle.model_step.specs.Step.{asking, step};
-ghost use Rattle.soql_grammar.specs.Spelling.{query_in};
+ghost use Rattle.soql.specs.grammar.Spelling.{query_in};
 ghost use Rattle.model_step.specs.Worked.{acme, asks_by};
 
 use model::answering_laws;

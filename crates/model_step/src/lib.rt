@@ -1,6 +1,6 @@
 //! The step of the world.
 //!
-//! It depends on `model`, which has the verdicts, and on `soql_grammar`, by which queries are read.
+//! It depends on `model`, which has the verdicts, and on `soql`, by which queries are read.
 //! Its contract: the step is a function of the organisation that the message's key names, and no other organisation changes.
 #![tactic(auto)]
 

@@ -29,8 +29,9 @@ use Rattle.store_abstraction.specs.Stands.{org_of_key, row_in}
 use Rattle.people_edit.specs.inner.Changing.{IsChangedGroup, IsChangedRole, IsChangedUser, IsRowAs, bad_parent_id, with_members, with_parent, with_role}
 use Rattle.people_edit.proofs.Changing.{changed_takes, having_its_id}
 use Rattle.people_edit.proofs.Joining.{PlanStays, SamePlan}
-use Rattle.people_edit.proofs.Judging.{accepted}
-use Rattle.people_edit.proofs.Putting.{other_group, other_role, other_user, put_is_in}
+use Rattle.store_edit.proofs.StepByStep.{accepted}
+use Rattle.people_edit.proofs.Putting.{other_group, other_role, other_user}
+use Rattle.store_edit.proofs.Putting.{put_is_in}
 
 -- ---- users
 

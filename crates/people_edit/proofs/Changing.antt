@@ -3,6 +3,7 @@ use Rattle.std.proofs.Common.{◌≡◌, ◌∙◌, ℕ, Bool, true, false, cond
 use Rattle.std.specs.Prelude.{Err, IfOk, IfSome, Ok, Result}
 use Rattle.std.specs.Option.{option_map}
 use Rattle.std.proofs.lemmas.Slice.Eq.{bytes_eq-Decides}
+use Rattle.std.proofs.lemmas.Option.{same_Some as some_is}
 use Rattle.store_edit.specs.Edits.{Takes}
 use Rattle.store_edit.specs.Rows.{change_to}
 use Rattle.store_kv.specs.Draft.{Held}
@@ -24,12 +25,9 @@ use Rattle.store_abstraction.specs.Local.{FindsIn, StandsIn}
 use Rattle.store_abstraction.specs.Plan.{FitsPlan, OrgPlan}
 use Rattle.store_abstraction.specs.Stands.{org_of_key, row_in}
 use Rattle.people_edit.specs.inner.Changing.{IsRowAs, found}
-use Rattle.people_edit.specs.inner.Judging.{Passes}
+use Rattle.store_edit.specs.Judging.{Passes}
 use Rattle.people_edit.proofs.Joining.{PlanStays, SamePlan}
-use Rattle.people_edit.proofs.Putting.{beside, put_is_of}
-
-some_is : {A : Type 0} (x y : A) → ◌≡◌ {A = Option A} (Some x) (Some y) → x ≡ y
-some_is x y e = cc
+use Rattle.store_edit.proofs.Putting.{beside, put_is_of}
 
 -- ---- what was read
 

@@ -11,9 +11,9 @@ use Rattle.model.specs.Verdict.{Done, Verdict, unless}
 use Rattle.store_abstraction.specs.declared.fail.EditFail.{EditFail}
 use Rattle.store_abstraction.specs.Local.{StandsIn}
 use Rattle.store_abstraction.specs.Plan.{OrgPlan}
-use Rattle.people_edit.specs.inner.Judging.{FailsRule}
+use Rattle.store_edit.specs.Judging.{FailsRule}
 use Rattle.people_edit.proofs.Joining.{SamePlan}
-use Rattle.people_edit.proofs.Judging.{rule_fails}
+use Rattle.store_edit.proofs.StepByStep.{rule_fails}
 
 -- it is refused by the rules of its verdict, or stops
 pub decides_not : {X : Type 0} {answered : X → Done} (org : ℕ) (rule : Asked → Rule) (after : Asked → Verdict) (fits : Asked → Type 0) (m : Tables) (e : EditFail) (out : Result (Decided X) EditFail)

@@ -2,6 +2,7 @@
 use Rattle.std.proofs.Common.{◌≡◌, ◌∙◌, ℕ, ◌+◌, List, [], ◌∷◌, None, Some, Option, refl, sym, ap₂, subst}
 use Rattle.std.specs.Prelude.{Err, Ok}
 use Rattle.std.specs.Option.{option_map}
+use Rattle.std.proofs.lemmas.Option.{same_Some as some_is}
 use Rattle.store_edit.proofs.Reading.{not_missed}
 use Rattle.store_kv.specs.Tables.{Tables}
 use Rattle.store_rows.specs.declared.fail.StoreFail.{StoreFail}
@@ -23,8 +24,9 @@ use Rattle.store_abstraction.specs.Metadata.{org_of}
 use Rattle.store_abstraction.specs.Plan.{OrgPlan}
 use Rattle.people_edit.specs.declared.edits.kind.Kind.{Kind}
 use Rattle.people_edit.specs.inner.Drawing.{kind_count, kind_limit, kind_member, new_rules}
-use Rattle.people_edit.specs.inner.Judging.{FailsRule, lacks_role}
-use Rattle.people_edit.proofs.Judging.{fails_here, fails_next, none_next}
+use Rattle.people_edit.specs.inner.Judging.{lacks_role}
+use Rattle.store_edit.specs.Judging.{FailsRule}
+use Rattle.store_edit.proofs.StepByStep.{fails_here, fails_next, none_next}
 
 -- ---- the role that a text names
 
@@ -79,9 +81,6 @@ module _ (k : Kind) (row : OrgRow) (t : Tenant) (name : List ℕ) (role : Option
             (none_next (room (kind_limit k) (kind_count k row) row.counter) [] (sym same_room ∙ free) refl)))
 
 -- ---- the organisation's row
-
-some_is : {A : Type 0} (x y : A) → ◌≡◌ {A = Option A} (Some x) (Some y) → x ≡ y
-some_is x y e = cc
 
 pub row_is : (org : ℕ) (q : OrgPlan) (t : Tenant) (m : Tables) (row : OrgRow) → FindsThere org (own_row org) m (Ok row) → StandsIn org q m (Some t) → row ≡ org_of org t
 row_is org q t m row h s = some_is row (org_of org t) (h q (Some t) s)

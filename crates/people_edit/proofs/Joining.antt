@@ -22,7 +22,7 @@ use Rattle.store_abstraction.specs.Records.{is_org_key}
 use Rattle.store_abstraction.specs.Stands.{org_of_key, row_in}
 use Rattle.people_edit.specs.declared.edits.drawing.Drawn.{Drawn}
 use Rattle.people_edit.specs.inner.Drawing.{FitsDrawn}
-use Rattle.people_edit.proofs.Putting.{beside, other_org, put_is_in, put_is_of}
+use Rattle.store_edit.proofs.Putting.{beside, other_org, put_is_in, put_is_of}
 
 -- the rows are kept as they were
 abbrev pub SamePlan : Planned

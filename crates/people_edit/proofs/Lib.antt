@@ -2,7 +2,6 @@ pub mod Found
 pub mod Counted
 pub mod NewOrg
 pub mod Adding
-pub mod Judging
 pub mod Putting
 pub mod Joining
 pub mod Changing

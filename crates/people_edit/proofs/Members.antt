@@ -1,21 +1,17 @@
 -- Members of a group: one rule for each, in their order, and the principals that they spell.
-use Rattle.std.proofs.Common.{◌≡◌, ◌∙◌, ◌<◌, ◌≤◌, ℕ, ◌+◌, suc, List, [], ◌∷◌, ◌++◌, length, map, get_or, drop, refl, sym, ap, None, subst, append_assoc, append-nil, add-one, drop-cons}
+use Rattle.std.proofs.Common.{◌≡◌, ◌∙◌, ◌<◌, ◌≤◌, ℕ, ◌+◌, List, [], ◌∷◌, ◌++◌, length, map, get_or, drop, refl, sym, ap, None, subst, append_assoc, append-nil}
 use Rattle.std.proofs.lemmas.List.{drop_all}
-use Rattle.std.specs.List.{AllByRecursion}
 use Rattle.model.specs.Rules.{Rule, first_of, first_refusal}
 use Rattle.store_abstraction.specs.declared.fail.EditFail.{EditFail}
 use Rattle.std.specs.Prelude.{IsTrue}
+use Rattle.base_lemmas.proofs.Lists.{drop-cons_read as rest_is}
 use Rattle.base_value.specs.Id.{is_id}
 use Rattle.model.specs.declared.people_bodies.PrincipalKind.{PrincipalKind}
 use Rattle.model.specs.declared.people_bodies.PrincipalKind.TheVariants as kind
 use Rattle.model.specs.Principals.{kind_of}
 use Rattle.store_codec.specs.Composed.{FitsPrincipal}
-use Rattle.people_edit.specs.inner.Judging.{FailsRule}
-use Rattle.people_edit.proofs.Judging.{fails_here}
-
--- the rest begins with this one
-pub rest_is : {X : Type 0} (xs : List X) (i : ℕ) (x : X) → i < length xs → x ≡ get_or xs i x → drop i xs ≡ x ∷ drop (i + 1) xs
-rest_is {X} xs i x in_list is = drop-cons xs i x in_list ∙ ap (λ (y : X). y ∷ drop (suc i) xs) (sym is) ∙ ap (λ (n : ℕ). x ∷ drop n xs) (sym (add-one i))
+use Rattle.store_edit.specs.Judging.{FailsRule}
+use Rattle.store_edit.proofs.StepByStep.{fails_here}
 
 module _ {X : Type 0} (rule : X → Rule) (xs : List X) (i : ℕ) (x : X) (in_list : i < length xs) (is : x ≡ get_or xs i x) where
   -- the first refusal of all is that of the rest; and it is this one's, where the rule on it fails
@@ -29,10 +25,6 @@ module _ {X : Type 0} (rule : X → Rule) (xs : List X) (i : ℕ) (x : X) (in_li
 pub one_more_made : {X Y : Type 0} (f : X → Y) (xs : List X) (made : List Y) (i : ℕ) (x : X) → drop i xs ≡ x ∷ drop (i + 1) xs → made ++ map f (drop i xs) ≡ map f xs
     → (made ++ f x ∷ []) ++ map f (drop (i + 1) xs) ≡ map f xs
 one_more_made {X} f xs made i x rest same = append_assoc made (f x ∷ []) (map f (drop (i + 1) xs)) ∙ ap (λ (ys : List X). made ++ map f ys) (sym rest) ∙ same
-
-pub all_more : {Y : Type 0} (P : Y → Type 0) (ys : List Y) (y : Y) → AllByRecursion P ys → P y → AllByRecursion P (ys ++ y ∷ [])
-all_more P [] y all h = (h, tt)
-all_more P (z ∷ ys) y all h = (all.0, all_more P ys y all.1 h)
 
 -- no rule is left behind the last
 pub none_left : {X : Type 0} (rule : X → Rule) (xs : List X) (i : ℕ) → length xs ≤ i → first_of rule (drop i xs) ≡ None

@@ -1,5 +1,5 @@
 -- New users, roles and groups: each takes the organisation's rows to those that its verdict leaves.
-use Rattle.std.proofs.Common.{◌≡◌, ◌∙◌, ◌<◌, ◌^◌, ℕ, ◌+◌, ◌&&◌, Bool, zero, suc, true, false, lit<, List, [], ◌∷◌, Some, None, Option, refl, sym, ap, ap₂, subst, arith, IsTrue, length, length-append}
+use Rattle.std.proofs.Common.{◌≡◌, ◌∙◌, ◌<◌, ◌^◌, ℕ, ◌+◌, Bool, zero, suc, true, false, lit<, List, [], ◌∷◌, Some, None, Option, refl, sym, ap, ap₂, subst, arith, IsTrue, length, length-append}
 use Rattle.std.specs.Prelude.{encode_utf8_all}
 use Rattle.std.specs.List.{list_all}
 use Rattle.std.specs.Option.{option_map}
@@ -7,6 +7,7 @@ use Rattle.std.specs.Str.{IsAscii}
 use Rattle.std.proofs.lemmas.Bool.Decides.{nat_tests}
 use Rattle.std.proofs.lemmas.List.Elements.{All-from_recursion}
 use Rattle.std.proofs.lemmas.Str.{IsUtf8-from_ascii, chars-IsAscii, encodes-chars}
+use Rattle.base_lemmas.proofs.Bools.{and_first as and_left, and_second as and_right}
 use Rattle.sha2.specs.Sha256.{sha256}
 use Rattle.store_edit.specs.Edits.{Takes}
 use Rattle.store_edit.specs.Rows.{change_to}
@@ -42,7 +43,7 @@ use Rattle.people_edit.specs.declared.edits.drawing.Drawn.{Drawn}
 use Rattle.people_edit.specs.declared.edits.kind.Kind.TheVariants as kind
 use Rattle.people_edit.specs.inner.Drawing.{FitsDrawn, IsDrawn, new_rules}
 use Rattle.people_edit.proofs.Joining.{NamesAreShort, NamesAreTexts, OrgLaws, SamePlan, has_last, name_fits, new_takes}
-use Rattle.people_edit.proofs.Judging.{accepted}
+use Rattle.store_edit.proofs.StepByStep.{accepted}
 use Rattle.people_edit.proofs.Putting.{other_group, other_role, other_user}
 
 -- ---- roles
@@ -131,14 +132,6 @@ user_row_fits texts short org name copy digest admin d small fits same size =
 -- the bytes of a secret are its characters
 digit_ascii : (c : ℕ) → is_digit62 c ≡ true → c < 128
 digit_ascii c h = grind (arith, nat_tests)
-
-and_left : (a b : Bool) → (a && b) ≡ true → a ≡ true
-and_left true b h = refl
-and_left false b h = absurd cc
-
-and_right : (a b : Bool) → (a && b) ≡ true → b ≡ true
-and_right true b h = h
-and_right false b h = absurd cc
 
 digits_ascii : (cs : List ℕ) → list_all is_digit62 cs ≡ true → IsAscii cs
 digits_ascii [] h i = lit< tt

@@ -1,9 +1,10 @@
 -- The rows of a new organisation, and that tables with them stand for the world with it.
-use Rattle.std.proofs.Common.{◌≡◌, ℕ, ◌+◌, ◌^◌, ◌<◌, Bool, true, false, ◌&&◌, cond, eqb, IsTrue, List, [], ◌∷◌, ◌++◌, length, Option, Some, None, refl, sym, ap, ◌∙◌, arith, length-append}
+use Rattle.std.proofs.Common.{◌≡◌, ℕ, ◌+◌, ◌^◌, ◌<◌, Bool, true, ◌&&◌, cond, eqb, IsTrue, List, [], ◌∷◌, ◌++◌, length, Option, Some, None, refl, sym, ap, ◌∙◌, arith, length-append}
 use Rattle.std.specs.Option.{option_map}
 use Rattle.std.specs.FinMap as map
 use Rattle.std.specs.Str.{bytes_eq}
 use Rattle.std.proofs.lemmas.Bool.{eqb-true}
+use Rattle.base_lemmas.proofs.Bools.{by_answer as pick}
 use Rattle.base_value.specs.Id.{is_id}
 use Rattle.store_kv.specs.Tables.{Tables}
 use Rattle.store_rows.specs.Forms.{row_bytes}
@@ -36,10 +37,6 @@ abbrev pub RowsStand : Type 0
 RowsStand = (p : Plan) (m after : Tables) (w : World) (t : Tenant) (q : OrgPlan) → StandsBy p m w → length w < limit_number limit.Organisations → IsSound t → FitsPlan q t
     → Holds all_tables after (with_row Version (version_at true (w ++ t ∷ [])) (rows_with (length w + 1) q t (row_at p w)))
     → StandsBy (opened (with_plan (length w + 1) q p)) after (w ++ t ∷ [])
-
-pick : (b : Bool) (P : Bool → Type 0) → (b ≡ true → P true) → (b ≡ false → P false) → P b
-pick true P f g = f refl
-pick false P f g = g refl
 
 -- ---- the rows
 

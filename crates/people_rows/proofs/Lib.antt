@@ -1,2 +1,4 @@
+pub mod SharingFits
+pub mod SharingRows
 pub mod People
 pub mod Listed

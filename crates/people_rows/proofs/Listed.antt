@@ -11,6 +11,10 @@ use Rattle.std.specs.FinMap.Entries.{below_all}
 use Rattle.std.proofs.lemmas.Cmp.{tied_itself}
 use Rattle.std.proofs.lemmas.List.{length-map, take_all}
 use Rattle.std.proofs.lemmas.Slice.Eq.{bytes_eq-Decides}
+use Rattle.std.proofs.lemmas.Option.{none-some as clash_some}
+use Rattle.base_lemmas.proofs.Bools.{true_from_T as so, T-and_from_true as both_so, T-and_parts as split_and}
+use Rattle.base_lemmas.proofs.Options.{option_map_some as map_some}
+use Rattle.base_lemmas.proofs.Numbers.{eqb-self as eqb_same}
 use Rattle.base_value.specs.Id.{is_id}
 use Rattle.store_kv.specs.declared.keeper.KeptRow.{KeptRow}
 use Rattle.store_kv.specs.Prefixes.{StartsWith, raised}
@@ -41,25 +45,12 @@ use Rattle.store_abstraction.specs.Stands.{org_of_key, row_in}
 use Rattle.people_rows.specs.Roster.{ListsIn, group_rows, role_rows, user_rows}
 use Rattle.store_abstraction.proofs.Intervals.{under_shorter}
 use Rattle.store_abstraction.proofs.LayoutReads.{ListedIn}
-use Rattle.store_abstraction.proofs.Lookups.{eqb_same}
 use Rattle.store_abstraction.proofs.MetadataLists.{KeyLaws}
 use Rattle.store_abstraction.proofs.Names.{MakesIds, NamesAreShort, NamesAreTexts}
 use Rattle.store_abstraction.proofs.Pages.{GivesRows, PageLaws, page_gives}
 use Rattle.people_rows.proofs.People.{group_fits, role_fits, user_fits}
 
 -- ---- truths
-
-both_so : (a b : Bool) → a ≡ true → T b → T (a && b)
-both_so true b e h = h
-both_so false b e h = absurd cc
-
-split_and : (a b : Bool) → T (a && b) → T a × T b
-split_and true b h = (tt, h)
-split_and false b h = absurd h
-
-so : (b : Bool) → T b → b ≡ true
-so true h = refl
-so false h = absurd h
 
 -- ---- members
 
@@ -159,13 +150,6 @@ pub record ArePeople {U X : Type 0} (f : Form U) (org mark : ℕ) (at : List ℕ
   pub is_id : (x : X) → FitsForm f (make x) → IsTrue (is_id (id x))
   pub rise : (t : Tenant) → IsSound t → T (ids_rise id (all t))
   pub few : (t : Tenant) → IsSound t → length (all t) ≤ most
-
-clash_some : {A : Type 0} (x : A) → ◌≡◌ {A = Option A} None (Some x) → ⊥
-clash_some x e = cc
-
-map_some : {X Y : Type 0} (f : X → Y) (o : Option X) (y : Y) → option_map f o ≡ Some y → (x : X) × (o ≡ Some x)
-map_some f None y e = absurd cc
-map_some f (Some x) y e = (x, refl)
 
 module _ {U X : Type 0} (f : Form U) (org mark : ℕ) (at : List ℕ → Key) (make : X → U) (id : X → List ℕ) (all : Tenant → List X) (most : ℕ) (lo : org < 2 ^ 32)
     (h : ArePeople f org mark at make id all most) where

@@ -1,5 +1,5 @@
 -- The rows of users, roles and groups: those that stay, one's own, and the one that is found; ids that are nobody's yet.
-use Rattle.std.proofs.Common.{◌≡◌, ◌∙◌, inl, inr, ℕ, ◌^◌, ◌<◌, ◌≤◌, Bool, true, false, ◌&&◌, cond, IsTrue, List, [], ◌∷◌, ◌++◌, length, Option, Some, None, refl, sym, ap, subst, arith, bytes_eq}
+use Rattle.std.proofs.Common.{◌≡◌, ◌∙◌, inl, inr, ℕ, ◌^◌, ◌<◌, ◌≤◌, Bool, true, false, cond, IsTrue, List, [], ◌∷◌, ◌++◌, length, Option, Some, None, refl, sym, ap, subst, arith, bytes_eq}
 use Rattle.std.specs.Prelude.{Result, is_some}
 use Rattle.std.specs.List.{AllByRecursion, list_all}
 use Rattle.std.specs.Option.{option_and_then, option_map}
@@ -7,6 +7,11 @@ use Rattle.std.specs.FinMap as map
 use Rattle.std.specs.FinMap.{IsAntisymmetric}
 use Rattle.std.proofs.lemmas.List.Elements.{All-from_recursion}
 use Rattle.std.proofs.lemmas.Slice.Eq.{bytes_eq-Decides}
+use Rattle.std.proofs.lemmas.Bool.{true≢false as clash}
+use Rattle.base_lemmas.proofs.Bools.{and_first as and_left, and_second as and_right}
+use Rattle.base_lemmas.proofs.Options.{option_map-compose as map_twice}
+use Rattle.base_lemmas.proofs.Lists.{length-map_by as mapped_length}
+use Rattle.std.proofs.lemmas.Option.{same_Some as some_is}
 use Rattle.base_value.specs.Id.{is_digit62, is_id, made}
 use Rattle.base_value.specs.declared.sharing.Principal.{Principal}
 use Rattle.base_value.specs.declared.sharing.Principal.TheVariants as to
@@ -35,8 +40,7 @@ use Rattle.people_rows.specs.Roster.{group_in, is_group_key, is_role_key, is_use
 use Rattle.store_abstraction.specs.Plan.{FitsPlan, OrgPlan}
 use Rattle.store_abstraction.specs.Records.{is_org_key}
 use Rattle.store_abstraction.specs.Stands.{kept_at, row_in}
-use Rattle.store_abstraction.proofs.Found.{FindsRow, IsRowOf, found_same, found_with_id, map_twice, row_finds, row_in_org}
-use Rattle.store_abstraction.proofs.Lookups.{mapped_length, some_is}
+use Rattle.store_abstraction.proofs.Found.{FindsRow, IsRowOf, found_same, found_with_id, row_finds, row_in_org}
 use Rattle.store_abstraction.proofs.Names.{MakesIds, NamesAreShort, NamesAreTexts, drawn_is_id, name_fits, role_is_id}
 use Rattle.store_abstraction.proofs.Places.{PrefixLaws}
 
@@ -46,9 +50,6 @@ use Rattle.store_abstraction.proofs.Places.{PrefixLaws}
 pub beside_last : {X : Type 0} (id : X → List ℕ) (xs : List X) (x : X) (i : List ℕ) → bytes_eq i (id x) ≡ false → having_id id (xs ++ x ∷ []) i ≡ having_id id xs i
 beside_last id [] x i e = ap (λ (b : Bool). cond b (Some x) None) e
 beside_last id (y ∷ xs) x i e = ap (cond (bytes_eq i (id y)) (Some y)) (beside_last id xs x i e)
-
-clash : true ≡ false → ⊥
-clash e = cc
 
 -- another id isn't that of the one that is changed
 beside_changed : {X : Type 0} (id : X → List ℕ) (change : X → X) → ((x : X) → id (change x) ≡ id x) → (j : List ℕ) (xs : List X) (i : List ℕ) → bytes_eq i j ≡ false → having_id id (changed id change j xs) i ≡ having_id id xs i
@@ -198,14 +199,6 @@ of_each : {X : Type 0} (P : X → Type 0) (xs : List X) → AllByRecursion P xs 
 of_each P [] all x h = absurd h
 of_each P (y ∷ xs) all x (inl e) = subst P (sym e) all.0
 of_each P (y ∷ xs) all x (inr h) = of_each P xs all.1 x h
-
-and_left : (a b : Bool) → (a && b) ≡ true → a ≡ true
-and_left true b h = refl
-and_left false b h = absurd cc
-
-and_right : (a b : Bool) → (a && b) ≡ true → b ≡ true
-and_right true b h = h
-and_right false b h = absurd cc
 
 -- a thing that is found has an id
 named_is_id : MakesIds → {X : Type 0} (id : X → List ℕ) (prefix : List ℕ) (counter : ℕ) (P : X → Type 0) (xs : List X) → length prefix ≡ 3 → IsTrue (list_all is_digit62 prefix) → ((x : X) → P x → IsDrawn prefix counter (id x)) → AllByRecursion P xs

@@ -1,1 +1,2 @@
+pub mod sharing
 pub mod Roster

@@ -1,12 +1,12 @@
 -- What a status says, and what it is caused by, whatever the command.
 use Rattle.std.proofs.Common.{◌≡◌, ◌⊎◌, inl, inr, ℕ, Bool, true, false, not, ◌&&◌, Option, Some, None, Result, Ok, Err, refl, sym, ap, subst, ◌∙◌, arith}
 use Rattle.std.specs.Prelude.{IfOk, IfSome}
+pub use Rattle.std.proofs.lemmas.Bool.{true≢false as true_isnt_false}
 use Rattle.base_value.specs.Causes.{Cause}
 use Rattle.store_kv.specs.State.{KeeperCause, KeeperState, Steps}
 use Rattle.store_kv.specs.Tables.{Tables}
 use Rattle.store_abstraction.specs.Stands.{HasKnownVersion, HasUnknownVersion}
 use Rattle.commands.specs.Commands.{Command, has_status, used_by}
-pub use Rattle.commands.proofs.Deeds.{true_isnt_false}
 use Rattle.platform.specs.Promise.{IsStatus, IsUnused, Promise}
 use Rattle.platform.specs.Run.{VersionEnds, status_in}
 use Rattle.platform.specs.Seen.{Seen}

@@ -2,6 +2,7 @@
 use Rattle.std.proofs.Common.{◌≡◌, ◌⊎◌, inl, inr, ℕ, Bool, true, false, IsTrue, List, [], ◌∷◌, Option, Some, None, Result, refl, sym, ap, subst, ◌∙◌}
 use Rattle.std.specs.Prelude.{IfSome, if◌then◌else◌, ◌++◌, ◌≤◌, length}
 use Rattle.std.specs.Io.KnownBytes.{Appends}
+use Rattle.std.proofs.lemmas.Bool.{true≢false as true_isnt_false}
 use Rattle.base_io.specs.Doors.{DoorState, outputs}
 use Rattle.store_kv.specs.State.{IsSettled, KeeperState}
 use Rattle.store_kv.specs.Tables.{Tables}
@@ -24,9 +25,6 @@ use Rattle.platform_history.specs.Calls.{seen}
 use Rattle.platform_history.specs.Histories.{Breaks, BreaksAnswers, BreaksServes, Fallen, Goes, Says, SaysAnswers, SaysServes, ServedSo}
 use Rattle.platform_history.specs.Runs.{Around}
 use Rattle.model_step.specs.Step.{step}
-
-true_isnt_false : true ≡ false → ⊥
-true_isnt_false e = absurd cc
 
 module _ (k l : KeeperState) (a b : Around) (status : ℕ) (w : World) (m : Tables)
     (settled_k : IsSettled k) (settled_l : l.tells → IsTrue l.trusted → IsSettled l) (faults_a : a.keeper_faults ≡ k.faults) (faults_b : b.keeper_faults ≡ l.faults)

@@ -2,8 +2,9 @@
 use Rattle.std.proofs.Common.{◌≡◌, ℕ, zero, suc, ◌-◌, ◌<◌, ◌≤◌, Bool, true, false, cond, List, [], ◌∷◌, ◌++◌, map, filter_map, length, get_or, Option, Some, None, refl, sym, ap, subst, ◌∙◌, arith, length-append}
 use Rattle.std.specs.List.{list_any}
 use Rattle.std.specs.Option.{option_map, unwrap_or}
-use Rattle.soql_ast.specs.declared.query.Item.TheVariants as item
-use Rattle.soql_ast.specs.declared.query.Path.{Path}
+use Rattle.std.proofs.lemmas.Option.{none-some as no_clash}
+use Rattle.soql.specs.declared.query.Item.TheVariants as item
+use Rattle.soql.specs.declared.query.Path.{Path}
 use Rattle.model.specs.declared.record.Record.{Record}
 use Rattle.model.specs.Asking.{path_column}
 use Rattle.model.specs.Cases.{in_case}
@@ -12,9 +13,9 @@ use Rattle.model.specs.Relationships.{Reference, parent_named}
 use Rattle.model.specs.RowsJson.{behind_relationship, member_json, parent_json, parent_relationship, path_member, row_within}
 use Rattle.store_abstraction.specs.Layouts.{own_layouts}
 use Rattle.store_abstraction.specs.declared.layout.Layout.{Layout}
-use Rattle.query_paths.specs.Branches.{AddsBranches, IsAmong, LeadsToParent, record_above}
-use Rattle.query_paths.specs.declared.branches.Branch.{Branch}
-use Rattle.query_paths.specs.declared.branches.Place.{Place}
+use Rattle.query_plan.specs.paths.Branches.{AddsBranches, IsAmong, LeadsToParent, record_above}
+use Rattle.query_plan.specs.declared.paths.branches.Branch.{Branch}
+use Rattle.query_plan.specs.declared.paths.branches.Place.{Place}
 use Rattle.query_check.specs.declared.columns.Column.{Column}
 use Rattle.query_plan.specs.declared.plan.Member.{Member, Parent, End}
 use Rattle.query_plan.specs.Shown.{Shows}
@@ -24,7 +25,7 @@ use Rattle.query_bind.specs.inner.Members.{IsAt, Sees, ShowsParent, ShowsPath, S
 use Rattle.query_bind.specs.inner.Spots.{IsOf, Serve, Setting, far_of}
 use Rattle.query_check.specs.Ways.{path_column_in}
 use Rattle.query_check.proofs.Reaching.{column_same}
-use Rattle.query_bind.proofs.Showing.{all_led, any_item, declared_shown, end_shown, field_shown, no_clash, object_shown, parent_shown, several_serve}
+use Rattle.query_bind.proofs.Showing.{all_led, any_item, declared_shown, end_shown, field_shown, object_shown, parent_shown, several_serve}
 use Rattle.query_bind.proofs.Tested.{behind_both}
 
 -- where there is no such relationship, no path that begins with it leads to a field

@@ -4,7 +4,7 @@ use Rattle.std.specs.List.{list_all, list_any}
 use Rattle.std.proofs.lemmas.Int.{to_z-of_z}
 use Rattle.std.specs.Prelude.{FitsSigned}
 use Rattle.std.specs.Int.{w64}
-use Rattle.soql_ast.specs.declared.query.Cond.{Cond}
+use Rattle.soql.specs.declared.query.Cond.{Cond}
 use Rattle.model.specs.declared.record.Record.{Record}
 use Rattle.model.specs.Paths.{Asked}
 use Rattle.query_plan.specs.declared.check.Check.{Check}

@@ -4,8 +4,8 @@ use Rattle.std.specs.List.{AllByRecursion, sum_by}
 use Rattle.std.specs.Option.{unwrap_or}
 use Rattle.base_value.specs.Printing.{day_of_moment}
 use Rattle.base_value.specs.declared.value.Value.{Value}
-use Rattle.soql_ast.specs.declared.query.Path.{Path}
-use Rattle.soql_ast.specs.declared.query.Query.{Query}
+use Rattle.soql.specs.declared.query.Path.{Path}
+use Rattle.soql.specs.declared.query.Query.{Query}
 use Rattle.model.specs.declared.record.Record.{Record}
 use Rattle.model.specs.Asking.{query_rules}
 use Rattle.model.specs.Membership.{Has}
@@ -17,8 +17,8 @@ use Rattle.store_abstraction.specs.Layouts.{IsLayout}
 use Rattle.store_abstraction.specs.Plan.{OrgPlan}
 use Rattle.store_abstraction.specs.declared.layout.Layout.{Layout}
 use Rattle.model_step.specs.Shown.{item_steps, path_steps, query_steps, tail_steps}
-use Rattle.query_paths.specs.Branches.{AddsBranches}
-use Rattle.query_paths.specs.declared.branches.Branch.{Branch}
+use Rattle.query_plan.specs.paths.Branches.{AddsBranches}
+use Rattle.query_plan.specs.declared.paths.branches.Branch.{Branch}
 use Rattle.query_plan.specs.Checks.{spot_value}
 use Rattle.query_plan.specs.declared.check.Spot.{Spot}
 use Rattle.query_check.specs.Reaching.{Reaches}

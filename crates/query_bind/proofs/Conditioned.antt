@@ -2,20 +2,20 @@
 use Rattle.std.proofs.Common.{◌≡◌, Bool, not, List, [], ◌∷◌, ◌++◌, map, flat_map, Some, None, refl, sym, ap, subst, ◌∙◌, ℤ}
 use Rattle.std.specs.List.{AllByRecursion, list_all, list_any}
 use Rattle.base_value.specs.Printing.{day_of_moment}
-use Rattle.soql_ast.specs.declared.query.Cond.{Cond}
-use Rattle.soql_ast.specs.declared.query.Cond.TheVariants as cond
-use Rattle.soql_ast.specs.declared.query.LikePattern.{LikePattern}
-use Rattle.soql_ast.specs.declared.query.Literal.{Literal}
-use Rattle.soql_ast.specs.declared.query.Op.{Op}
-use Rattle.soql_ast.specs.declared.query.Path.{Path}
+use Rattle.soql.specs.declared.query.Cond.{Cond}
+use Rattle.soql.specs.declared.query.Cond.TheVariants as cond
+use Rattle.soql.specs.declared.query.LikePattern.{LikePattern}
+use Rattle.soql.specs.declared.query.Literal.{Literal}
+use Rattle.soql.specs.declared.query.Op.{Op}
+use Rattle.soql.specs.declared.query.Path.{Path}
 use Rattle.model.specs.declared.record.Record.{Record}
 use Rattle.model.specs.Asking.{text_no_id}
 use Rattle.model.specs.Conditions.{holds}
 use Rattle.model.specs.Paths.{Asked}
 use Rattle.model.specs.Tests.{Tested, tests_of}
 use Rattle.store_abstraction.specs.declared.layout.Layout.{Layout}
-use Rattle.query_paths.specs.declared.branches.Branch.{Branch}
-use Rattle.query_paths.specs.Branches.{AddsBranches}
+use Rattle.query_plan.specs.declared.paths.branches.Branch.{Branch}
+use Rattle.query_plan.specs.paths.Branches.{AddsBranches}
 use Rattle.query_plan.specs.declared.check.Check.{Check}
 use Rattle.query_plan.specs.declared.check.Check.TheVariants as check
 use Rattle.query_bind.specs.declared.spots.Bound.{Bound}

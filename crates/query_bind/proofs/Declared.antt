@@ -1,11 +1,10 @@
 -- The name of a parent relationship, as it is declared.
-use Rattle.std.proofs.Common.{◌≡◌, ◌∙◌, ℕ, zero, suc, ◌+◌, ◌-◌, ◌<◌, List, [], ◌∷◌, ◌++◌, length, map, take, get_or, Option, Some, None, refl, sym, ap, subst, append-nil, add-one, take-suc, arith, inl, inr}
+use Rattle.std.proofs.Common.{◌≡◌, ◌∙◌, ℕ, zero, suc, ◌+◌, ◌-◌, List, [], ◌∷◌, ◌++◌, length, map, take, Option, Some, None, sym, ap, subst, arith, inl, inr}
 use Rattle.std.specs.Prelude.{codes, encode_utf8_all, slice_get}
-use Rattle.std.specs.Char.{encode_utf8}
 use Rattle.std.specs.List.{enumerate_from, flat_map}
 use Rattle.std.specs.Option.{option_map}
 use Rattle.std.specs.Str.{IsUtf8, chars}
-use Rattle.std.proofs.lemmas.Str.{chars-append, chars_from_encodes, encodes-append}
+use Rattle.std.proofs.lemmas.Str.{chars-append, chars_from_encodes}
 use Rattle.model.specs.Cases.{in_case}
 use Rattle.model.specs.Membership.{Has}
 use Rattle.model.specs.Relationships.{Reference, parent_name, parent_named, reference_at, target_of}
@@ -14,10 +13,10 @@ use Rattle.store_abstraction.specs.declared.layout.FieldPlace.{FieldPlace}
 use Rattle.store_abstraction.specs.declared.layout.Layout.{Layout}
 use Rattle.store_abstraction.specs.Layouts.{IsLayout, place_of}
 use Rattle.store_abstraction.specs.Plan.{OrgPlan}
-use Rattle.query_paths.specs.declared.parents.ParentStep.{ParentStep}
-use Rattle.query_paths.specs.Ways.{parent_step}
-use Rattle.query_paths.proofs.ByLayout.{layout_is, parent_by_layout}
-use Rattle.query_paths.proofs.Owned.{parent_has}
+use Rattle.query_plan.specs.declared.paths.parents.ParentStep.{ParentStep}
+use Rattle.query_plan.specs.paths.Ways.{parent_step}
+use Rattle.query_plan.proofs.ByLayout.{layout_is, parent_by_layout}
+use Rattle.query_plan.proofs.Owned.{parent_has}
 use Rattle.query_check.specs.Columns.{custom_name}
 use Rattle.query_bind.specs.Names.{relationship_name}
 use Rattle.query_plan.proofs.Lists.{at_number}
@@ -32,13 +31,6 @@ parent_is field kept name ending cut u spelled e =
     ap (λ (x : List ℕ). chars (name ++ x)) e
     ∙ chars-append name (codes "__r") u
     ∙ ap (λ (x : List ℕ). x ++ codes "__r") (sym (chars_from_encodes kept name u (sym spelled)) ∙ cut)
-
--- one character more
-pub one_character : (bytes cs : List ℕ) (n c : ℕ) → bytes ≡ encode_utf8_all (take n cs) → n < length cs → get_or cs n c ≡ c
-    → bytes ++ encode_utf8 c ≡ encode_utf8_all (take (n + 1) cs)
-one_character bytes cs n c same lt e =
-    let last : encode_utf8_all (c ∷ []) ≡ encode_utf8 c = append-nil (encode_utf8 c) in
-    rw (same, add-one, take-suc cs n c lt, e, encodes-append (take n cs) (c ∷ []), last) refl
 
 -- ---- the field of a reference
 

@@ -2,17 +2,17 @@
 use Rattle.std.proofs.Common.{◌≡◌, ℕ, ◌+◌, ◌<◌, ◌≤◌, List, [], ◌∷◌, ◌++◌, drop, length, get_or, ap, sym, subst, ◌∙◌, append_assoc, append-nil}
 use Rattle.std.proofs.lemmas.List.{at_drop_all, at_drop_more}
 use Rattle.base_value.specs.declared.value.Value.{Value}
-use Rattle.soql_ast.specs.declared.query.OrderKey.{OrderKey}
+use Rattle.soql.specs.declared.query.OrderKey.{OrderKey}
 use Rattle.model.specs.Paths.{path_value}
 use Rattle.store_abstraction.specs.declared.layout.Layout.{Layout}
-use Rattle.query_paths.specs.declared.branches.Branch.{Branch}
+use Rattle.query_plan.specs.declared.paths.branches.Branch.{Branch}
 use Rattle.query_plan.specs.declared.plan.SortKey.{SortKey}
 use Rattle.query_bind.specs.declared.spots.Bound.{Bound}
 use Rattle.query_plan.specs.Checks.{spot_value}
 use Rattle.query_plan.specs.Plans.{values_by}
 use Rattle.model.specs.Ordered.{key_cmp}
-use Rattle.query_paths.specs.Branches.{AddsBranches, AreBranches}
-use Rattle.query_paths.proofs.Branching.{added_twice}
+use Rattle.query_plan.specs.paths.Branches.{AddsBranches, AreBranches}
+use Rattle.query_plan.proofs.Branching.{added_twice}
 use Rattle.query_bind.proofs.Placing.{unchanged}
 use Rattle.query_bind.proofs.Tested.{behind_both}
 use Rattle.query_bind.specs.inner.Ends.{BindsKey, Each}

@@ -7,11 +7,11 @@ use Rattle.base_value.specs.Printing.{day_of_moment}
 use Rattle.base_value.specs.Values.{cmp}
 use Rattle.base_value.specs.declared.value.Value.{Value}
 use Rattle.base_value.specs.declared.value.Value.TheVariants as value
-use Rattle.formula_eval.specs.Meaning.{text_value}
-use Rattle.soql_ast.specs.declared.query.Literal.{Literal}
-use Rattle.soql_ast.specs.declared.query.Literal.TheVariants as literal
-use Rattle.soql_ast.specs.declared.query.Op.{Op}
-use Rattle.soql_ast.specs.declared.query.Op.TheVariants as op
+use Rattle.formula.specs.Meaning.{text_value}
+use Rattle.soql.specs.declared.query.Literal.{Literal}
+use Rattle.soql.specs.declared.query.Literal.TheVariants as literal
+use Rattle.soql.specs.declared.query.Op.{Op}
+use Rattle.soql.specs.declared.query.Op.TheVariants as op
 use Rattle.model.specs.Asking.{text_no_id}
 use Rattle.model.specs.Conditions.{compares, passes, text_beside}
 use Rattle.model.specs.Fields.{as_ref, is_null}

@@ -4,21 +4,25 @@ use Rattle.std.specs.Prelude.{slice_get}
 use Rattle.std.specs.List.{AllByRecursion, cons_option, list_all, list_any}
 use Rattle.std.proofs.Math.Bool.{or-false, or_comm}
 use Rattle.std.proofs.lemmas.List.Folds.{list_any-append}
+use Rattle.std.proofs.lemmas.List.{map-append as map_both}
+use Rattle.base_lemmas.proofs.Lists.{same_head as first_is, same_tail as behind_is, nil_not_cons as no_first}
+use Rattle.base_lemmas.proofs.Bools.{and_first as and_left, and_second as and_right}
+use Rattle.std.proofs.lemmas.Option.{same_Some as some_is}
 use Rattle.base_json.specs.Printing.{printed_null}
 use Rattle.base_value.specs.Printing.{day_of_moment}
-use Rattle.soql_ast.specs.declared.query.Item.{Item}
-use Rattle.soql_ast.specs.declared.query.Item.TheVariants as item
-use Rattle.soql_ast.specs.declared.query.Path.{Path}
-use Rattle.soql_ast.specs.declared.query.Tail.{Tail}
+use Rattle.soql.specs.declared.query.Item.{Item}
+use Rattle.soql.specs.declared.query.Item.TheVariants as item
+use Rattle.soql.specs.declared.query.Path.{Path}
+use Rattle.soql.specs.declared.query.Tail.{Tail}
 use Rattle.model.specs.declared.record.Record.{Record}
 use Rattle.model.specs.Cases.{Placed, in_case, with_before}
 use Rattle.model.specs.Paths.{Asked, parent_of}
 use Rattle.model.specs.RowsJson.{RowJson, behind_relationship, children_json, item_member, member_json, parent_json, parent_relationship, path_member, row_within}
 use Rattle.store_abstraction.specs.declared.layout.Layout.{Layout}
 use Rattle.model_step.specs.Flat.{has_one_name, is_flat_item}
-use Rattle.query_paths.specs.Branches.{AddsBranches, record_above}
-use Rattle.query_paths.specs.declared.branches.Branch.{Branch}
-use Rattle.query_paths.specs.declared.branches.Place.{Place}
+use Rattle.query_plan.specs.paths.Branches.{AddsBranches, record_above}
+use Rattle.query_plan.specs.declared.paths.branches.Branch.{Branch}
+use Rattle.query_plan.specs.declared.paths.branches.Place.{Place}
 use Rattle.query_plan.specs.declared.plan.Child.{Child}
 use Rattle.query_plan.specs.declared.plan.ChildPlan.{ChildPlan}
 use Rattle.query_plan.specs.declared.plan.Member.{Member}
@@ -32,7 +36,6 @@ use Rattle.query_check.specs.Rules.{own_name}
 use Rattle.query_bind.specs.Cells.{paths_in}
 use Rattle.query_bind.specs.inner.Selecting.{AddsChild, AddsItem, AddsPath, BindsItems, ItemServes, count_of, own_shown}
 use Rattle.query_bind.specs.inner.Spots.{IsOf, Setting, far_of}
-use Rattle.query_plan.proofs.Lists.{and_left, and_right, some_is}
 use Rattle.query_bind.proofs.Tested.{behind_both}
 
 -- ---- paths among what is selected
@@ -62,28 +65,15 @@ path_alone write_row a r items near before alike (name ∷ next ∷ names) =
 
 -- ---- lists
 
-map_both : {X Y : Type 0} (f : X → Y) (xs ys : List X) → map f (xs ++ ys) ≡ map f xs ++ map f ys
-map_both f [] ys = refl
-map_both f (x ∷ xs) ys = ap (λ zs. f x ∷ zs) (map_both f xs ys)
-
 pushed_at : {X Y : Type 0} (f : X → Y) (xs : List X) (y : Y) (later : List Y) → slice_get (map f xs ++ y ∷ later) (length xs) ≡ Some y
 pushed_at f [] y later = refl
 pushed_at f (x ∷ xs) y later = pushed_at f xs y later
-
-first_is : {X : Type 0} (x y : X) (xs ys : List X) → x ∷ xs ≡ y ∷ ys → x ≡ y
-first_is x y xs ys e = cc
-
-behind_is : {X : Type 0} (x y : X) (xs ys : List X) → x ∷ xs ≡ y ∷ ys → xs ≡ ys
-behind_is x y xs ys e = cc
 
 -- one more of the first few
 record OneMore {X : Type 0} (n : ℕ) (xs ys : List X) (x : X) : Type 0 where
   taken : take (suc n) xs ≡ take n xs ++ x ∷ []
   left : drop (suc n) xs ≡ ys
   within : suc n ≤ length xs
-
-no_first : {X : Type 0} (x : X) (xs : List X) → ◌≡◌ {A = List X} [] (x ∷ xs) → ⊥
-no_first x xs e = cc
 
 one_more : {X : Type 0} (n : ℕ) (xs ys : List X) (x : X) → drop n xs ≡ x ∷ ys → OneMore n xs ys x
 one_more zero [] ys x e = absurd (no_first x ys e)

@@ -2,6 +2,8 @@
 use Rattle.std.proofs.Common.{◌≡◌, ℕ, Bool, true, false, List, [], ◌∷◌, ◌++◌, Option, Some, None, refl, sym, ap, subst, ◌∙◌, append-nil, inl, inr, filter, cond}
 use Rattle.std.specs.Option.{option_map, option_and_then}
 use Rattle.std.proofs.lemmas.Bool.{eqb-true}
+use Rattle.std.proofs.lemmas.Option.{none-some as no_clash, same_Some as some_is}
+use Rattle.base_lemmas.proofs.Numbers.{eqb-self as eqb_same}
 use Rattle.base_value.specs.Printing.{day_of_moment}
 use Rattle.base_value.specs.declared.value.Value.TheVariants as value
 use Rattle.model.specs.declared.record.Record.{Record}
@@ -15,14 +17,13 @@ use Rattle.model.specs.Tenant.{Tenant}
 use Rattle.store_abstraction.specs.Layouts.{IsLayout, own_layouts}
 use Rattle.store_abstraction.specs.Plan.{OrgPlan}
 use Rattle.store_abstraction.specs.declared.layout.Layout.{Layout}
-use Rattle.store_abstraction.proofs.Lookups.{eqb_same}
 use Rattle.model_step.specs.Flat.{has_one_name}
-use Rattle.query_paths.specs.declared.branches.Branch.{Branch}
-use Rattle.query_paths.specs.declared.branches.Place.{Place}
-use Rattle.query_paths.specs.Branches.{AddsBranches, AreBranches, FindsPlace, LeadTo}
-use Rattle.query_paths.specs.Ways.{led_to, path_end}
-use Rattle.query_paths.proofs.Branching.{records_stay}
-use Rattle.query_paths.proofs.Ends.{EndsAt, end_column, ends_at}
+use Rattle.query_plan.specs.declared.paths.branches.Branch.{Branch}
+use Rattle.query_plan.specs.declared.paths.branches.Place.{Place}
+use Rattle.query_plan.specs.paths.Branches.{AddsBranches, AreBranches, FindsPlace, LeadTo}
+use Rattle.query_plan.specs.paths.Ways.{led_to, path_end}
+use Rattle.query_plan.proofs.Branching.{records_stay}
+use Rattle.query_plan.proofs.Ends.{EndsAt, end_column, ends_at}
 use Rattle.query_check.specs.declared.columns.Column.{Column}
 use Rattle.query_check.specs.declared.columns.Family.{Family}
 use Rattle.query_check.specs.declared.columns.Family.TheVariants as family
@@ -36,7 +37,7 @@ use Rattle.query_check.specs.Rules.{own_name}
 use Rattle.query_bind.specs.inner.Spots.{Binds, IsBound, IsOf, Serve, Setting, bound_at, bound_name, far_of}
 use Rattle.query_check.specs.Ways.{path_column_in}
 use Rattle.query_check.proofs.Judged.{own_column}
-use Rattle.query_plan.proofs.Lists.{kept, some_is}
+use Rattle.query_plan.proofs.Lists.{kept}
 use Rattle.query_check.proofs.Reaching.{column_same}
 use Rattle.query_bind.proofs.Records.{known_of}
 
@@ -44,9 +45,6 @@ pub unchanged : (bs : List Branch) → AreBranches bs → AddsBranches bs bs
 unchanged bs order = record { more = []; behind = sym (append-nil bs); order = order }
 
 -- ---- names
-
-no_clash : {X : Type 0} (x : X) → ◌≡◌ {A = Option X} None (Some x) → ⊥
-no_clash x e = cc
 
 one_is : (names : List (List ℕ)) (name : List ℕ) → own_name names ≡ Some name → names ≡ name ∷ []
 one_is [] name e = absurd (no_clash name e)

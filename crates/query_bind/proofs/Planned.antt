@@ -3,10 +3,12 @@ use Rattle.std.proofs.Common.{◌≡◌, ◌≤◌, ◌+◌, ◌-◌, ℕ, Bool,
 use Rattle.std.specs.List.{AllByRecursion, list_all, sum_by}
 use Rattle.std.specs.Option.{unwrap_or}
 use Rattle.std.proofs.lemmas.List.Sums.{sum_by-cons}
-use Rattle.soql_ast.specs.declared.query.Item.{Item}
-use Rattle.soql_ast.specs.declared.query.Item.TheVariants as item
-use Rattle.soql_ast.specs.declared.query.OrderKey.{OrderKey}
-use Rattle.soql_ast.specs.declared.query.Query.{Query}
+use Rattle.base_lemmas.proofs.Lists.{nil_from_no_length as no_length}
+use Rattle.base_lemmas.proofs.Bools.{and_first as and_left, and_second as and_right}
+use Rattle.soql.specs.declared.query.Item.{Item}
+use Rattle.soql.specs.declared.query.Item.TheVariants as item
+use Rattle.soql.specs.declared.query.OrderKey.{OrderKey}
+use Rattle.soql.specs.declared.query.Query.{Query}
 use Rattle.base_value.specs.Printing.{day_of_moment}
 use Rattle.model.specs.declared.record.Record.{Record}
 use Rattle.model.specs.Asking.{query_rules}
@@ -24,8 +26,8 @@ use Rattle.store_abstraction.specs.Plan.{OrgPlan}
 use Rattle.store_abstraction.specs.declared.layout.Layout.{Layout}
 use Rattle.model_step.specs.Flat.{has_one_name, is_flat, is_flat_item, is_flat_test}
 use Rattle.model_step.specs.Shown.{item_children_shown, item_steps, path_steps, query_steps, tail_steps}
-use Rattle.query_paths.specs.Branches.{AddsBranches}
-use Rattle.query_paths.specs.declared.branches.Branch.{Branch}
+use Rattle.query_plan.specs.paths.Branches.{AddsBranches}
+use Rattle.query_plan.specs.declared.paths.branches.Branch.{Branch}
 use Rattle.query_plan.specs.declared.check.Site.TheVariants as site
 use Rattle.query_bind.specs.declared.choosing.BoundTail.{BoundTail}
 use Rattle.query_check.specs.declared.columns.Column.{Column}
@@ -44,7 +46,6 @@ use Rattle.query_bind.specs.inner.Selecting.{BindsItems, ItemServes, own_shown}
 use Rattle.query_bind.specs.inner.Spots.{IsOf, Setting, far_of}
 use Rattle.query_bind.specs.inner.Tails.{BindsTail}
 use Rattle.query_check.proofs.Flatness.{parts_of}
-use Rattle.query_plan.proofs.Lists.{and_left, and_right}
 use Rattle.query_check.proofs.Reaching.{refused_alike}
 use Rattle.query_bind.proofs.Records.{known_of}
 use Rattle.query_bind.proofs.Serving.{query_serves}
@@ -110,10 +111,6 @@ flat_no_steps q flat =
     let by_keys = none_of (λ (k : OrderKey). has_one_name k.path.names) ordered (λ k h. no_steps k.path.names h) q.tail.order parts.keys in
     let by_items = none_of is_flat_item item_steps item_no_steps q.select parts.items in
     nothing (sum_by item_steps q.select) (sum_by tested (tests q.tail.condition)) (sum_by ordered q.tail.order) by_items by_tests by_keys
-
-no_length : {X : Type 0} (xs : List X) → length xs ≤ 0 → xs ≡ []
-no_length [] le = refl
-no_length (x ∷ xs) le = absurd (omega (arith, le))
 
 within : (first mid new all items tail : ℕ) → first ≡ 0 → mid ≤ first + items → new ≤ mid + tail → all ≡ new → all ≤ items + tail
 within first mid new all items tail none one two same = omega (arith, none, one, two, same)

@@ -6,8 +6,10 @@ use Rattle.std.specs.Option.{option_and_then, option_map}
 use Rattle.std.specs.Str.{chars}
 use Rattle.std.proofs.Math.Dec.{eqb-suc-zero}
 use Rattle.std.proofs.lemmas.Bool.{eqb-true, lt-ltb}
-use Rattle.std.proofs.lemmas.Option.{slice_get-map, slice_get_within}
-use Rattle.formula_eval.specs.Meaning.{value_at}
+use Rattle.std.proofs.lemmas.Option.{slice_get-map, slice_get_within, same_Some as some_is}
+use Rattle.base_lemmas.proofs.Bools.{and_first as and_left, and_second as and_right}
+use Rattle.base_lemmas.proofs.Lists.{each_at_number as of_numbered}
+use Rattle.formula.specs.Meaning.{value_at}
 use Rattle.base_value.specs.Printing.{day_of_moment}
 use Rattle.base_value.specs.Values.{valid}
 use Rattle.base_value.specs.declared.value.FieldType.{FieldType}
@@ -38,7 +40,7 @@ use Rattle.query_plan.specs.Checks.{site_of}
 use Rattle.query_bind.specs.inner.Binding.{Fits, IsFound, Knows}
 use Rattle.query_check.specs.Columns.{column_in, custom_name, family_of, family_of_type, name_at, place_at, placed, value_place}
 use Rattle.query_check.proofs.Joined.{column_is, created_text, custom, id_text, layout_at, modified_text, name_text, object_there, owner_text}
-use Rattle.query_plan.proofs.Lists.{all_numbered, and_left, and_right, at_number, kept, of_each, of_found, of_numbered, some_is}
+use Rattle.query_plan.proofs.Lists.{all_numbered, at_number, kept, of_each, of_found}
 
 -- ---- values
 

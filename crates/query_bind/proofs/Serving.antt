@@ -1,11 +1,12 @@
 -- What no rule refuses leads to fields, by the layouts.
 use Rattle.std.proofs.Common.{◌≡◌, ◌⊎◌, ℕ, true, List, [], ◌∷◌, ◌++◌, map, Option, Some, None, refl, inl, inr}
 use Rattle.std.specs.List.{AllByRecursion, list_all}
-use Rattle.soql_ast.specs.declared.query.Item.{Item}
-use Rattle.soql_ast.specs.declared.query.Item.TheVariants as item
-use Rattle.soql_ast.specs.declared.query.Path.{Path}
-use Rattle.soql_ast.specs.declared.query.Query.{Query}
-use Rattle.soql_ast.specs.declared.query.Tail.{Tail}
+use Rattle.base_lemmas.proofs.Bools.{and_first as and_left, and_second as and_right}
+use Rattle.soql.specs.declared.query.Item.{Item}
+use Rattle.soql.specs.declared.query.Item.TheVariants as item
+use Rattle.soql.specs.declared.query.Path.{Path}
+use Rattle.soql.specs.declared.query.Query.{Query}
+use Rattle.soql.specs.declared.query.Tail.{Tail}
 use Rattle.model.specs.declared.refusal.Refusal.TheVariants.{InvalidField}
 use Rattle.model.specs.Asking.{item_name, spelled_path}
 use Rattle.model.specs.Cases.{in_case}
@@ -24,7 +25,6 @@ use Rattle.query_bind.specs.inner.Tails.{TailServes}
 use Rattle.query_check.specs.Ways.{child_layout, path_column_in}
 use Rattle.query_check.proofs.Clean.{first_none, not_refused, rest_none, some_column}
 use Rattle.query_check.proofs.Flatness.{parts_of}
-use Rattle.query_plan.proofs.Lists.{and_left, and_right}
 use Rattle.query_bind.proofs.Tailed.{IsFlatTail, tail_serves}
 
 module _ (s : Setting) (ls : List Layout) where

@@ -4,17 +4,19 @@ use Rattle.std.specs.List.{AllByRecursion, cons_option, find, list_any}
 use Rattle.std.specs.Option.{option_map}
 use Rattle.std.proofs.Math.Bool.{or-false}
 use Rattle.std.proofs.lemmas.Bool.{eqb-true}
-use Rattle.std.proofs.lemmas.List.{at_drop_all, at_drop_more}
+use Rattle.std.proofs.lemmas.List.{at_drop_all, at_drop_more, map-append as map_both}
 use Rattle.std.proofs.lemmas.Slice.Eq.{bytes_eq-Decides}
+use Rattle.std.proofs.lemmas.Option.{none-some as no_clash, same_Some as some_is}
+use Rattle.base_lemmas.proofs.Bools.{by_answer as pick}
 use mathlib.Core.Former.{Count}
 use Rattle.base_json.specs.Printing.{printed_null}
 use Rattle.base_value.specs.Texts.{lower}
 use Rattle.base_value.specs.Printing.{day_of_moment}
 use Rattle.base_value.specs.declared.value.Value.{Value}
 use Rattle.base_value.specs.declared.value.Value.TheVariants as value
-use Rattle.soql_ast.specs.declared.query.Item.{Item}
-use Rattle.soql_ast.specs.declared.query.Item.TheVariants as item
-use Rattle.soql_ast.specs.declared.query.Path.{Path}
+use Rattle.soql.specs.declared.query.Item.{Item}
+use Rattle.soql.specs.declared.query.Item.TheVariants as item
+use Rattle.soql.specs.declared.query.Path.{Path}
 use Rattle.model.specs.declared.record.Record.{Record}
 use Rattle.model.specs.Asking.{path_column}
 use Rattle.model.specs.Cases.{Placed, in_case, with_before}
@@ -28,11 +30,10 @@ use Rattle.model.specs.Tenant.{Object, Tenant}
 use Rattle.store_abstraction.specs.Layouts.{IsLayout, own_layouts}
 use Rattle.model_step.specs.Flat.{has_one_name}
 use Rattle.store_abstraction.specs.declared.layout.Layout.{Layout}
-use Rattle.store_abstraction.proofs.Lookups.{pick}
-use Rattle.query_paths.specs.Branches.{AddsBranches, LeadsToParent, record_above}
-use Rattle.query_paths.specs.declared.branches.Branch.{Branch}
-use Rattle.query_paths.specs.declared.branches.Place.{Place}
-use Rattle.query_paths.proofs.ByLayout.{layout_is}
+use Rattle.query_plan.specs.paths.Branches.{AddsBranches, LeadsToParent, record_above}
+use Rattle.query_plan.specs.declared.paths.branches.Branch.{Branch}
+use Rattle.query_plan.specs.declared.paths.branches.Place.{Place}
+use Rattle.query_plan.proofs.ByLayout.{layout_is}
 use Rattle.query_plan.specs.declared.check.Site.TheVariants as site
 use Rattle.query_check.specs.declared.columns.Column.{Column}
 use Rattle.query_plan.specs.declared.plan.Member.{Member, Parent, End, Parent', Row_of-Member, end_of-Member, more_of-Member, items-the_row-Member, items_hidden-the_row-Member-0}
@@ -46,7 +47,7 @@ use Rattle.query_bind.specs.inner.Members.{IsAt, IsLed, Sees, ShowsPath, ShowsPa
 use Rattle.query_bind.specs.inner.Spots.{IsOf, Serve, Setting, far_of}
 use Rattle.query_check.specs.Ways.{path_column_in}
 use Rattle.query_bind.proofs.Declared.{declared_is}
-use Rattle.query_plan.proofs.Lists.{kept, some_is}
+use Rattle.query_plan.proofs.Lists.{kept}
 use Rattle.query_check.proofs.Reaching.{column_same}
 use Rattle.query_bind.proofs.Records.{known_of}
 use Rattle.query_bind.proofs.Tested.{behind_both}
@@ -149,9 +150,6 @@ named_alike t n name first e =
 abbrev names_of : Item → List (List ℕ)
 names_of (item.Path p) = p.names
 names_of (item.Child paths tail) = []
-
-pub no_clash : {X : Type 0} (x : X) → ◌≡◌ {A = Option X} None (Some x) → ⊥
-no_clash x e = cc
 
 pub several_serve : (s : Setting) (ls : List Layout) (n m : List ℕ) (names : List (List ℕ)) → Serve s ls (n ∷ m ∷ names) → ls ≡ own_layouts s.org s.plan (Some s.asked.tenant)
 several_serve s ls n m names (inl one) = absurd (clash one)
@@ -263,10 +261,6 @@ listed (Some x) = x ∷ []
 texts_listed : (shows : Shows) (far : List (Option Record)) (r : Record) (m : Option Member) → map (member_text shows far r) (listed m) ≡ texts_of shows far r m
 texts_listed shows far r None = refl
 texts_listed shows far r (Some m) = refl
-
-map_both : {X Y : Type 0} (f : X → Y) (xs ys : List X) → map f (xs ++ ys) ≡ map f xs ++ map f ys
-map_both f [] ys = refl
-map_both f (x ∷ xs) ys = ap (λ zs. f x ∷ zs) (map_both f xs ys)
 
 module _ (ls : List Layout) (from : Place) (depth : ℕ) (paths : List Path) where
   abbrev its_texts : Setting → Record → Placed Item → List (List ℕ)

@@ -4,12 +4,13 @@ use Rattle.std.specs.Prelude.{◌==◌, bytes_eq, slice_get, unwrap_or}
 use Rattle.std.specs.List.{AllByRecursion, enumerate_from}
 use Rattle.std.specs.Option.{option_and_then, option_map}
 use Rattle.std.proofs.lemmas.Bool.{eqb-true}
-use Rattle.formula_eval.specs.Meaning.{value_at}
+use Rattle.std.proofs.lemmas.Option.{none-some as no_layout, same_Some as some_is}
+use Rattle.formula.specs.Meaning.{value_at}
 use Rattle.base_value.specs.Printing.{day_of_moment}
 use Rattle.base_value.specs.Values.{ref_of}
-use Rattle.soql_ast.specs.declared.query.Item.TheVariants as item
-use Rattle.soql_ast.specs.declared.query.Path.{Path}
-use Rattle.soql_ast.specs.declared.query.Tail.{Tail}
+use Rattle.soql.specs.declared.query.Item.TheVariants as item
+use Rattle.soql.specs.declared.query.Path.{Path}
+use Rattle.soql.specs.declared.query.Tail.{Tail}
 use Rattle.model.specs.declared.record.Record.{Record}
 use Rattle.model.specs.Cases.{in_case, with_before}
 use Rattle.model.specs.Conditions.{satisfies}
@@ -27,14 +28,14 @@ use Rattle.store_abstraction.specs.Layouts.{IsLayout, own_layouts, place_of}
 use Rattle.store_abstraction.specs.Plan.{OrgPlan}
 use Rattle.store_abstraction.specs.declared.layout.FieldPlace.{FieldPlace}
 use Rattle.store_abstraction.specs.declared.layout.Layout.{Layout}
-use Rattle.query_paths.specs.Branches.{AddsBranches, record_above}
-use Rattle.query_paths.specs.ByLayout.{child_of}
-use Rattle.query_paths.specs.Ways.{child_step}
-use Rattle.query_paths.specs.declared.branches.Branch.{Branch}
-use Rattle.query_paths.specs.declared.branches.Place.{Place}
-use Rattle.query_paths.specs.declared.children.ChildStep.{ChildStep}
-use Rattle.query_paths.proofs.ByLayout.{child_by_layouts, layout_is, numbered_layout, read_is}
-use Rattle.query_paths.proofs.Owned.{found_has, from, numbered_as}
+use Rattle.query_plan.specs.paths.Branches.{AddsBranches, record_above}
+use Rattle.query_plan.specs.paths.ByLayout.{child_of}
+use Rattle.query_plan.specs.paths.Ways.{child_step}
+use Rattle.query_plan.specs.declared.paths.branches.Branch.{Branch}
+use Rattle.query_plan.specs.declared.paths.branches.Place.{Place}
+use Rattle.query_plan.specs.declared.paths.children.ChildStep.{ChildStep}
+use Rattle.query_plan.proofs.ByLayout.{child_by_layouts, layout_is, numbered_layout, read_is}
+use Rattle.query_plan.proofs.Owned.{found_has, from, numbered_as}
 use Rattle.query_plan.specs.declared.plan.Child.{Child}
 use Rattle.query_plan.specs.declared.plan.Choice.{Choice}
 use Rattle.query_plan.specs.declared.plan.Member.{Member}
@@ -47,7 +48,7 @@ use Rattle.query_bind.specs.inner.Spots.{IsOf, Setting, far_of}
 use Rattle.query_bind.specs.inner.Tails.{TailServes}
 use Rattle.query_check.specs.Ways.{child_layout, layout_at}
 use Rattle.query_plan.proofs.Found.{chosen_same, order_has}
-use Rattle.query_plan.proofs.Lists.{at_number, kept, some_is}
+use Rattle.query_plan.proofs.Lists.{at_number, kept}
 use Rattle.query_bind.proofs.Showing.{object_shown}
 use Rattle.query_bind.proofs.Tailed.{tail_chooses}
 
@@ -280,10 +281,6 @@ pub members_found : (ls : List Layout) (from : Place) → from.branch ≡ None �
 members_found ls from top paths mid new bs adds same ms shown s shows r sees =
     ap (λ (all : List Branch). map (member_text shows (far_of s r all) r) ms) (same ∙ adds.behind)
     ∙ shown s shows r r sees adds.more (ap (record_above r (far_of s r (mid ++ adds.more))) top)
-
--- where there is no such relationship, nothing is promised
-no_layout : (c : Layout) → ◌≡◌ {A = Option Layout} None (Some c) → ⊥
-no_layout c e = cc
 
 pub no_step_bound : (ls : List Layout) (l : Layout) (day : ℤ) (paths : List Path) (tail : Tail) (b : BoundChild) → child_of l.object tail.from ls ≡ None → BindsChild ls l day paths tail b
 unfolding child_layout

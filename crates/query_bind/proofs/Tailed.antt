@@ -3,9 +3,10 @@ use Rattle.std.proofs.Common.{◌≡◌, ℕ, true, List, [], ◌∷◌, ◌++�
 use Rattle.std.specs.List.{AllByRecursion, list_all}
 use Rattle.std.specs.declared.cmp.Ordering.{Ordering}
 use Rattle.std.specs.Ordering.{ordering_then}
+use Rattle.base_lemmas.proofs.Bools.{and_first as and_left, and_second as and_right}
 use Rattle.base_value.specs.Printing.{day_of_moment}
-use Rattle.soql_ast.specs.declared.query.OrderKey.{OrderKey}
-use Rattle.soql_ast.specs.declared.query.Tail.{Tail}
+use Rattle.soql.specs.declared.query.OrderKey.{OrderKey}
+use Rattle.soql.specs.declared.query.Tail.{Tail}
 use Rattle.model.specs.declared.record.Record.{Record}
 use Rattle.model.specs.Conditions.{satisfies}
 use Rattle.model.specs.Membership.{Has}
@@ -18,8 +19,8 @@ use Rattle.model.specs.Tests.{tests}
 use Rattle.store_abstraction.specs.Layouts.{IsLayout, own_layouts}
 use Rattle.store_abstraction.specs.declared.layout.Layout.{Layout}
 use Rattle.model_step.specs.Flat.{has_one_name, is_flat_test}
-use Rattle.query_paths.specs.declared.branches.Branch.{Branch}
-use Rattle.query_paths.specs.Branches.{AddsBranches}
+use Rattle.query_plan.specs.declared.paths.branches.Branch.{Branch}
+use Rattle.query_plan.specs.paths.Branches.{AddsBranches}
 use Rattle.query_plan.specs.declared.check.Check.{Check}
 use Rattle.query_bind.specs.declared.choosing.BoundTail.{BoundTail}
 use Rattle.query_plan.specs.declared.plan.Choice.{Choice}
@@ -33,7 +34,6 @@ use Rattle.query_bind.specs.inner.Spots.{IsOf, Serve, Setting, far_of}
 use Rattle.query_bind.specs.inner.Tails.{BindsTail, BindsWhere, KeyServes, TailServes}
 use Rattle.query_check.specs.Ways.{path_column_in}
 use Rattle.query_check.proofs.Clean.{first_none, not_refused, rest_none, some_column}
-use Rattle.query_plan.proofs.Lists.{and_left, and_right}
 use Rattle.query_bind.proofs.Tested.{all_free, behind_both}
 
 -- ---- keys

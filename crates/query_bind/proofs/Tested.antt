@@ -2,12 +2,13 @@
 use Rattle.std.proofs.Common.{◌≡◌, ℕ, Bool, true, not, cond, List, [], ◌∷◌, ◌++◌, map, Option, Some, None, sym, ap, ◌∙◌, inl, inr, ◌⊎◌, ℤ, append_assoc}
 use Rattle.std.specs.Bool.{beq}
 use Rattle.std.specs.List.{AllByRecursion, list_all, list_any}
+use Rattle.base_lemmas.proofs.Bools.{and_first as and_left, and_second as and_right}
 use Rattle.base_value.specs.Printing.{day_of_moment}
 use Rattle.base_value.specs.declared.value.Value.{Value}
-use Rattle.soql_ast.specs.declared.query.LikePattern.{LikePattern}
-use Rattle.soql_ast.specs.declared.query.Literal.{Literal}
-use Rattle.soql_ast.specs.declared.query.Op.{Op}
-use Rattle.soql_ast.specs.declared.query.Op.TheVariants as op
+use Rattle.soql.specs.declared.query.LikePattern.{LikePattern}
+use Rattle.soql.specs.declared.query.Literal.{Literal}
+use Rattle.soql.specs.declared.query.Op.{Op}
+use Rattle.soql.specs.declared.query.Op.TheVariants as op
 use Rattle.model.specs.declared.record.Record.{Record}
 use Rattle.model.specs.Asking.{literals_of, text_no_id}
 use Rattle.model.specs.Cases.{in_case}
@@ -18,8 +19,8 @@ use Rattle.model.specs.Tests.{Tested}
 use Rattle.store_abstraction.specs.Layouts.{own_layouts}
 use Rattle.store_abstraction.specs.declared.layout.Layout.{Layout}
 use Rattle.model_step.specs.Flat.{has_one_name, is_flat_test}
-use Rattle.query_paths.specs.Branches.{AddsBranches}
-use Rattle.query_paths.specs.declared.branches.Branch.{Branch}
+use Rattle.query_plan.specs.paths.Branches.{AddsBranches}
+use Rattle.query_plan.specs.declared.paths.branches.Branch.{Branch}
 use Rattle.query_check.specs.declared.columns.Column.{Column}
 use Rattle.query_check.specs.declared.columns.Family.{Family}
 use Rattle.query_check.specs.declared.rules.Rule.TheVariants as rule
@@ -31,7 +32,6 @@ use Rattle.query_bind.specs.inner.Spots.{IsBound, IsFree, Serve, Setting, far_of
 use Rattle.query_check.specs.Ways.{path_column_in}
 use Rattle.query_check.proofs.Clean.{first_none, not_refused, rest_none, some_column}
 use Rattle.query_bind.proofs.Leaves.{among_is, negated_is, passes_is}
-use Rattle.query_plan.proofs.Lists.{and_left, and_right}
 
 -- ---- branches that are added
 

@@ -1,10 +1,10 @@
 -- Queries whose rows are lines of cells.
 use Rattle.std.specs.Prelude.{◌≡◌, ℕ, List, filter_map, map, Option, Some, None}
 use Rattle.std.specs.Option.{unwrap_or}
-use Rattle.soql_ast.specs.declared.query.Item.{Item}
-use Rattle.soql_ast.specs.declared.query.Item.TheVariants as item
-use Rattle.soql_ast.specs.declared.query.Path.{Path}
-use Rattle.soql_ast.specs.declared.query.Query.{Query}
+use Rattle.soql.specs.declared.query.Item.{Item}
+use Rattle.soql.specs.declared.query.Item.TheVariants as item
+use Rattle.soql.specs.declared.query.Path.{Path}
+use Rattle.soql.specs.declared.query.Query.{Query}
 use Rattle.model.specs.declared.record.Record.{Record}
 use Rattle.model.specs.Membership.{Has}
 use Rattle.model.specs.Objects.{records_of}

@@ -3,7 +3,7 @@ use Rattle.std.specs.Prelude.{ℕ, List}
 use Rattle.model.specs.Cases.{in_case}
 use Rattle.model.specs.Relationships.{parent_name}
 use Rattle.store_abstraction.specs.declared.layout.Layout.{Layout}
-use Rattle.query_paths.specs.ByLayout.{parent_from}
+use Rattle.query_plan.specs.paths.ByLayout.{parent_from}
 use Rattle.query_check.specs.Columns.{custom_name}
 
 -- that of a parent relationship; one that isn't there stays as it is

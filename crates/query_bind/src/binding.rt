@@ -17,7 +17,7 @@ use crate::choosing::bind_tail;
 use crate::selecting::bind_items;
 use base_value::Items;
 use query_plan::{Choice, Plan};
-use soql_ast::Query;
+use soql::Query;
 use std::alloc::{AllocError, Global};
 use store_abstraction::Layout;
 

@@ -3,7 +3,7 @@
 ghost use Rattle.std.specs.Prelude.{◌+◌, ◌-◌, ◌≤◌, IfOk, length};
 ghost use Rattle.std.specs.List.{flat_map, sum_by};
 ghost use Rattle.model.specs.Tests.{tests, tests_of};
-ghost use Rattle.query_paths.specs.Branches.{AddsBranches, AreBranches};
+ghost use Rattle.query_plan.specs.paths.Branches.{AddsBranches, AreBranches};
 ghost use Rattle.query_bind.specs.inner.Ends.{Each};
 ghost use Rattle.query_bind.specs.inner.Tails as spec;
 
@@ -11,9 +11,8 @@ use crate::conditions::{operand_of, operands_of, pattern_of};
 use crate::spots::bind_path;
 use base_value::{Boxed, Items};
 use model::condition_laws;
-use query_paths::Branch;
-use query_plan::Check;
-use soql_ast::Cond;
+use query_plan::{Branch, Check};
+use soql::Cond;
 use std::alloc::{AllocError, Global};
 use store_abstraction::Layout;
 

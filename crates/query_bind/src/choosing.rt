@@ -2,15 +2,14 @@
 
 ghost use Rattle.std.specs.Prelude.{◌+◌, ◌≤◌, IfOk, length};
 ghost use Rattle.model_step.specs.Shown.{tail_steps};
-ghost use Rattle.query_paths.specs.Branches.{AddsBranches, AreBranches};
+ghost use Rattle.query_plan.specs.paths.Branches.{AddsBranches, AreBranches};
 ghost use Rattle.query_bind.specs.inner.Tails as spec;
 
 use crate::branching::bind_where;
 use crate::keys::bind_keys;
 use base_value::Items;
-use query_paths::Branch;
-use query_plan::{Check, SortKey};
-use soql_ast::Tail;
+use query_plan::{Branch, Check, SortKey};
+use soql::Tail;
 use std::alloc::{AllocError, Global};
 use store_abstraction::Layout;
 

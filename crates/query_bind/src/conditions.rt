@@ -6,7 +6,7 @@ ghost use Rattle.query_bind.specs.inner.Binding as spec;
 use base_value::{Items, Text, Value, character_count, id_in};
 use query_check::{Family, is_ids};
 use query_plan::Operand;
-use soql_ast::{LikePattern, Literal};
+use soql::{LikePattern, Literal};
 use std::alloc::{AllocError, Global};
 
 // ---- what is compared with

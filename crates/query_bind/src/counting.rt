@@ -4,7 +4,7 @@ ghost use Rattle.std.specs.Prelude.{◌+◌, ◌≤◌, OnOk};
 ghost use Rattle.std.specs.List.{sum_by};
 ghost use Rattle.model_step.specs.Shown.{path_steps};
 
-use soql_ast::Path;
+use soql::Path;
 use std::alloc::AllocError;
 
 /// How many steps to parents these paths have, or as many of them as can be counted.

@@ -3,14 +3,13 @@
 ghost use Rattle.std.specs.Prelude.{◌+◌, ◌≤◌, IfOk, length};
 ghost use Rattle.std.specs.List.{sum_by};
 ghost use Rattle.model_step.specs.Shown.{path_steps};
-ghost use Rattle.query_paths.specs.Branches.{AddsBranches, AreBranches};
+ghost use Rattle.query_plan.specs.paths.Branches.{AddsBranches, AreBranches};
 ghost use Rattle.query_bind.specs.inner.Ends as spec;
 
 use crate::spots::bind_path;
 use base_value::Items;
-use query_paths::Branch;
-use query_plan::SortKey;
-use soql_ast::OrderKey;
+use query_plan::{Branch, SortKey};
+use soql::OrderKey;
 use std::alloc::{AllocError, Global};
 use store_abstraction::Layout;
 

@@ -5,7 +5,7 @@ ghost use Rattle.std.specs.List.{list_all, sum_by};
 ghost use Rattle.model_step.specs.Flat.{is_flat_item};
 ghost use Rattle.model_step.specs.Shown.{item_children_shown, item_steps, path_steps, related_shown, tail_steps};
 ghost use Rattle.query_plan.specs.Plans.{child_shown};
-ghost use Rattle.query_paths.specs.Branches.{AddsBranches, AreBranches};
+ghost use Rattle.query_plan.specs.paths.Branches.{AddsBranches, AreBranches};
 ghost use Rattle.query_bind.specs.Cells.{path_in, paths_in};
 ghost use Rattle.query_bind.specs.inner.Selecting as spec;
 
@@ -13,9 +13,8 @@ use crate::choosing::bind_tail;
 use crate::counting::{check_steps, steps_of};
 use crate::members::{bind_member, bind_members, copy_names};
 use base_value::{Items, Text};
-use query_paths::{Branch, ChildStep, Place, child_in, layout_in};
-use query_plan::{ChildPlan, Choice, Member, Shown};
-use soql_ast::{Item, Path, Tail};
+use query_plan::{Branch, ChildPlan, ChildStep, Choice, Member, Place, Shown, child_in, layout_in};
+use soql::{Item, Path, Tail};
 use std::alloc::{AllocError, Global};
 use store_abstraction::Layout;
 

@@ -2,14 +2,13 @@
 
 ghost use Rattle.std.specs.Prelude.{◌≡◌, ◌+◌, ◌-◌, ◌≤◌, IfOk, false, length};
 ghost use Rattle.model_step.specs.Flat.{has_one_name};
-ghost use Rattle.query_paths.specs.Branches.{AddsBranches, AreBranches};
+ghost use Rattle.query_plan.specs.paths.Branches.{AddsBranches, AreBranches};
 ghost use Rattle.query_bind.specs.inner.Spots as spec;
 
 use base_value::Text;
 use query_check::{Column, Family, column_in, own_name};
-use query_paths::{Branch, place_in};
-use query_plan::{Site, Spot};
-use soql_ast::Path;
+use query_plan::{Branch, Site, Spot, place_in};
+use soql::Path;
 use std::alloc::AllocError;
 use store_abstraction::Layout;
 

@@ -3,11 +3,11 @@ use Rattle.std.proofs.Common.{◌≡◌, ℕ, ◌+◌, ◌<◌, Bool, true, fals
 use Rattle.std.specs.List.{list_all}
 use Rattle.std.proofs.lemmas.List.{at_drop_more}
 use Rattle.std.proofs.lemmas.List.Folds.{list_all-append}
-use Rattle.soql_ast.specs.declared.query.Cond.{Cond}
-use Rattle.soql_ast.specs.declared.query.Query.{Query}
+use Rattle.base_lemmas.proofs.Bools.{and_first as and_left, and_second as and_right}
+use Rattle.soql.specs.declared.query.Cond.{Cond}
+use Rattle.soql.specs.declared.query.Query.{Query}
 use Rattle.model.specs.Tests.{Tested, tests, tests_of}
 use Rattle.model_step.specs.Flat.{has_one_name, is_flat, is_flat_item, is_flat_test}
-use Rattle.query_plan.proofs.Lists.{and_left, and_right}
 
 pub record AreFlat (q : Query) : Type 0 where
   pub items : list_all is_flat_item q.select ≡ true

@@ -4,6 +4,7 @@ use Rattle.std.specs.Prelude.{codes}
 use Rattle.std.specs.List.{enumerate_from, find, list_any}
 use Rattle.std.specs.Option.{option_map}
 use Rattle.std.specs.Str.{chars}
+use Rattle.std.proofs.lemmas.Option.{same_Some as some_is}
 use Rattle.model.specs.Fields as model
 use Rattle.model.specs.Fields.{column_named, custom_columns, is_detail, is_master, name_column, of_ids, of_type, owner_column, its_id, its_created, its_modified, same_name, value_site}
 use Rattle.model.specs.Objects.{Numbered, object_numbered}
@@ -16,7 +17,6 @@ use Rattle.query_plan.specs.declared.check.Site.TheVariants as site
 use Rattle.query_check.specs.declared.columns.Column.{Column}
 use Rattle.query_check.specs.declared.columns.Family.TheVariants as family
 use Rattle.query_check.specs.Columns.{column, column_in, custom_in, family_of_type, placed, value_place}
-use Rattle.query_plan.proofs.Lists.{some_is}
 
 -- ---- the object of a layout
 

@@ -4,11 +4,13 @@ use Rattle.std.specs.List.{list_all, list_any}
 use Rattle.std.specs.Option.{option_and_then, option_map}
 use Rattle.std.proofs.Math.Bool.{or-false, or_comm}
 use Rattle.std.proofs.lemmas.List.Folds.{list_any-append}
-use Rattle.soql_ast.specs.declared.query.Item.{Item}
-use Rattle.soql_ast.specs.declared.query.Item.TheVariants as item
-use Rattle.soql_ast.specs.declared.query.Path.{Path}
-use Rattle.soql_ast.specs.declared.query.Query.{Query}
-use Rattle.soql_ast.specs.declared.query.Tail.{Tail}
+use Rattle.std.proofs.lemmas.Simd.{map-map as map_twice}
+use Rattle.base_lemmas.proofs.Bools.{and_first as and_left, and_second as and_right}
+use Rattle.soql.specs.declared.query.Item.{Item}
+use Rattle.soql.specs.declared.query.Item.TheVariants as item
+use Rattle.soql.specs.declared.query.Path.{Path}
+use Rattle.soql.specs.declared.query.Query.{Query}
+use Rattle.soql.specs.declared.query.Tail.{Tail}
 use Rattle.base_value.specs.declared.value.FieldType.TheVariants as type
 use Rattle.model.specs.declared.refusal.Refusal.TheVariants.{InvalidField, InvalidFilter}
 use Rattle.model.specs.Asking.{all_tests, bad_child, bad_item, bad_path, bad_tail, bad_test, child_tests, item_name, literals_of, path_column, query_rules, spelled_path, test_no_id, text_no_id, unknown_path}
@@ -30,7 +32,6 @@ use Rattle.query_check.specs.Rules.{all_tests_rule, child_tests_rule, each_rule,
 use Rattle.query_check.specs.Ways.{path_column_in}
 use Rattle.query_check.proofs.Flatness.{parts_of}
 use Rattle.query_check.proofs.Joined.{column_is, object_there}
-use Rattle.query_plan.proofs.Lists.{and_left, and_right}
 use Rattle.query_check.proofs.Tests.{first_later, first_there, one_rule}
 
 -- ---- what suits
@@ -77,10 +78,6 @@ map_same : {X Y : Type 0} (f g : X → Y) (p : X → Bool) (xs : List X) → lis
 map_same f g p [] all e = refl
 map_same f g p (x ∷ xs) all e =
     ap (λ y. y ∷ map f xs) (e x (and_left (p x) (list_all p xs) all)) ∙ ap (λ ys. g x ∷ ys) (map_same f g p xs (and_right (p x) (list_all p xs) all) e)
-
-pub map_twice : {X Y Z : Type 0} (f : Y → Z) (g : X → Y) (xs : List X) → map f (map g xs) ≡ map (λ x. f (g x)) xs
-map_twice f g [] = refl
-map_twice f g (x ∷ xs) = ap (λ zs. f (g x) ∷ zs) (map_twice f g xs)
 
 -- the field of one name
 pub own_column : (p : OrgPlan) (t : Tenant) (l : Layout) (name : List ℕ) → IsLayout p t l → option_map placed (path_column t l.object (name ∷ [])) ≡ column_in l name

@@ -3,11 +3,13 @@ use Rattle.std.proofs.Common.{◌≡◌, ℕ, Bool, true, false, cond, eqb, List
 use Rattle.std.specs.Prelude.{position}
 use Rattle.std.specs.List.{list_all}
 use Rattle.std.specs.Option.{option_and_then, option_map, option_or}
-use Rattle.soql_ast.specs.declared.query.Item.{Item}
-use Rattle.soql_ast.specs.declared.query.Item.TheVariants as item
-use Rattle.soql_ast.specs.declared.query.Path.{Path}
-use Rattle.soql_ast.specs.declared.query.Query.{Query}
-use Rattle.soql_ast.specs.declared.query.Tail.{Tail}
+use Rattle.base_lemmas.proofs.Numbers.{eqb-self as eqb_same}
+use Rattle.std.proofs.lemmas.Option.{same_Some as some_is}
+use Rattle.soql.specs.declared.query.Item.{Item}
+use Rattle.soql.specs.declared.query.Item.TheVariants as item
+use Rattle.soql.specs.declared.query.Path.{Path}
+use Rattle.soql.specs.declared.query.Query.{Query}
+use Rattle.soql.specs.declared.query.Tail.{Tail}
 use Rattle.model.specs.declared.refusal.Refusal.TheVariants.{InvalidField}
 use Rattle.model.specs.Asking.{bad_path, bad_tail, item_name, mentioned, path_column, query_rules}
 use Rattle.model.specs.Cases.{in_case, with_before}
@@ -19,21 +21,19 @@ use Rattle.model.specs.Tests.{Tested, tests}
 use Rattle.store_abstraction.specs.declared.layout.Layout.{Layout}
 use Rattle.store_abstraction.specs.Layouts.{IsLayout, own_layout, own_layouts}
 use Rattle.store_abstraction.specs.Plan.{OrgPlan}
-use Rattle.store_abstraction.proofs.Lookups.{eqb_same}
-use Rattle.query_paths.specs.declared.children.ChildStep.{ChildStep}
-use Rattle.query_paths.specs.declared.parents.ParentStep.{ParentStep}
-use Rattle.query_paths.specs.ByLayout.{child_by, child_of, is_child}
-use Rattle.query_paths.specs.Ways.{child_step, parent_step}
-use Rattle.query_paths.proofs.ByLayout.{child_by_layouts, layout_is, none_is, numbered_layout, parent_by_layout, read_is}
-use Rattle.query_paths.proofs.Owned.{parent_has}
-use Rattle.query_paths.proofs.Sound.{target_there}
+use Rattle.query_plan.specs.declared.paths.children.ChildStep.{ChildStep}
+use Rattle.query_plan.specs.declared.paths.parents.ParentStep.{ParentStep}
+use Rattle.query_plan.specs.paths.ByLayout.{child_by, child_of, is_child}
+use Rattle.query_plan.specs.paths.Ways.{child_step, parent_step}
+use Rattle.query_plan.proofs.ByLayout.{child_by_layouts, layout_is, none_is, numbered_layout, parent_by_layout, read_is}
+use Rattle.query_plan.proofs.Owned.{parent_has}
+use Rattle.query_plan.proofs.Sound.{target_there}
 use Rattle.query_check.specs.Reaching.{Reaches}
 use Rattle.query_check.specs.declared.rules.Rule as own
 use Rattle.query_check.specs.Columns.{placed}
 use Rattle.query_check.specs.Rules.{child_rule, mentioned_in, query_rule, rule_in, tail_rule}
 use Rattle.query_check.specs.Ways.{child_layout, layout_at, parent_layout, path_column_in}
 use Rattle.query_check.proofs.Judged.{Mentions, flat_alike, judged, own_column, paths_same, tail_same, test_rule, tests_same}
-use Rattle.query_plan.proofs.Lists.{some_is}
 
 all_true : {X : Type 0} (xs : List X) → list_all (λ x. true) xs ≡ true
 all_true [] = refl

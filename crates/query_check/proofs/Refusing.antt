@@ -1,7 +1,7 @@
 -- The first refusal of conditions, one after the other.
 use Rattle.std.proofs.Common.{◌≡◌, ℕ, ◌+◌, ◌<◌, List, ◌++◌, Some, None, drop, length, get_or, flat_map, refl, sym, ap, ◌∙◌}
 use Rattle.std.proofs.lemmas.List.{at_drop_more}
-use Rattle.soql_ast.specs.declared.query.Cond.{Cond}
+use Rattle.soql.specs.declared.query.Cond.{Cond}
 use Rattle.model.specs.declared.refusal.Refusal.{Refusal}
 use Rattle.model.specs.Rules.{Rule, first_of}
 use Rattle.model.specs.Tests.{Tested, tests_of}

@@ -3,8 +3,8 @@ use Rattle.std.proofs.Common.{◌≡◌, List, [], ◌∷◌, ◌++◌, map, Som
 use Rattle.std.specs.List.{AllByRecursion}
 use mathlib.Core.Former.{Count}
 use denote.Hole.Carrier.{hidden}
-use Rattle.soql_ast.specs.declared.query.Cond.{Cond, Not, And, Or, And', Or', Row_of-Cond, end_of-Cond, more_of-Cond, items-the_row-Cond, items_hidden-the_row-Cond-1}
-use Rattle.soql_ast.specs.declared.query.Cond.TheBlock.{hidden-the_row-Cond-0}
+use Rattle.soql.specs.declared.query.Cond.{Cond, Not, And, Or, And', Or', Row_of-Cond, end_of-Cond, more_of-Cond, items-the_row-Cond, items_hidden-the_row-Cond-1}
+use Rattle.soql.specs.declared.query.Cond.TheBlock.{hidden-the_row-Cond-0}
 use Rattle.model.specs.declared.refusal.Refusal.{Refusal}
 use Rattle.model.specs.Rules.{Rule, first_refusal, first_of}
 use Rattle.model.specs.Tests.{tests_of, tests_of_all}

@@ -1,6 +1,6 @@
 -- By which layouts a query is judged.
 use Rattle.std.specs.Prelude.{◌≡◌, ◌⊎◌, ℕ, true, List, Some}
-use Rattle.soql_ast.specs.declared.query.Query.{Query}
+use Rattle.soql.specs.declared.query.Query.{Query}
 use Rattle.model.specs.Sound.{IsSound}
 use Rattle.model.specs.Tenant.{Tenant}
 use Rattle.store_abstraction.specs.declared.layout.Layout.{Layout}

@@ -4,7 +4,7 @@ use Rattle.std.specs.List.{find}
 use Rattle.std.specs.Option.{option_and_then}
 use Rattle.model.specs.Cases.{in_case}
 use Rattle.store_abstraction.specs.declared.layout.Layout.{Layout}
-use Rattle.query_paths.specs.ByLayout.{child_of, parent_from}
+use Rattle.query_plan.specs.paths.ByLayout.{child_of, parent_from}
 use Rattle.query_check.specs.declared.columns.Column.{Column}
 use Rattle.query_check.specs.Columns.{column_in}
 

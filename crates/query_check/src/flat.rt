@@ -5,7 +5,7 @@ ghost use Rattle.std.specs.List.{flat_map, list_all};
 ghost use Rattle.model.specs.Tests.{tests, tests_of};
 ghost use Rattle.model_step.specs.Flat as spec;
 
-use soql_ast::{Cond, Item, OrderKey, Path, Query};
+use soql::{Cond, Item, OrderKey, Path, Query};
 
 fn has_one_name(path: &Path) -> bool
     ensures { result ≡ spec.has_one_name path.now.names }

@@ -12,7 +12,7 @@ use crate::rules::no_field;
 use crate::tails::tail_refusal;
 use base_value::Text;
 use model::{Refusal, same_name};
-use soql_ast::{Item, Path, Tail};
+use soql::{Item, Path, Tail};
 use std::alloc::{AllocError, Global};
 use store_abstraction::Layout;
 

@@ -1,6 +1,6 @@
 //! Why a query is refused, by layouts, and which fields its names lead to.
 //!
-//! It depends on `soql_ast` for queries, on `store_abstraction` for layouts, on `query_paths` for relationships, on `query_plan` for where records
+//! It depends on `soql` for queries, on `store_abstraction` for layouts, on `query_plan` for relationships, on `query_plan` for where records
 //! have values, and on `model` and `model_step` for the definitions; it reads no table. Its contract: a query is refused as the
 //! model's rules say.
 #![tactic(auto)]

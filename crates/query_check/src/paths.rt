@@ -8,7 +8,7 @@ ghost use Rattle.query_check.specs.Ways as spec;
 
 use crate::columns::{Column, column_in};
 use base_value::Text;
-use query_paths::{child_in, layout_in, parent_in};
+use query_plan::{child_in, layout_in, parent_in};
 use std::alloc::{AllocError, Global};
 use store_abstraction::Layout;
 

@@ -14,7 +14,7 @@ use crate::paths::child_layout;
 use crate::rules::{Rule, tests_refusal};
 use crate::tails::tail_refusal;
 use model::Refusal;
-use soql_ast::{Item, Query};
+use soql::{Item, Query};
 use std::alloc::{AllocError, Global};
 use store_abstraction::Layout;
 

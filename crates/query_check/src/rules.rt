@@ -12,7 +12,7 @@ use crate::paths::{path_column, spelled};
 use crate::suits::{Way, is_ids, way_suits};
 use base_value::{Text, id_in};
 use model::Refusal;
-use soql_ast::{Cond, Literal, Path};
+use soql::{Cond, Literal, Path};
 use std::alloc::{AllocError, Global};
 use store_abstraction::Layout;
 

@@ -6,7 +6,7 @@ ghost use Rattle.model.specs.Tests.{clock_or_null, is_equality, way_suits};
 ghost use Rattle.query_check.specs.Rules.{is_ids, suits_in, way_of};
 
 use crate::columns::Family;
-use soql_ast::{Literal, Op};
+use soql::{Literal, Op};
 
 /// How a path is tested.
 #[derive(Clone, Copy)]

@@ -6,7 +6,7 @@ ghost use Rattle.query_check.specs.Rules as spec;
 
 use crate::rules::{Rule, no_field, tests_refusal};
 use model::Refusal;
-use soql_ast::{OrderKey, Tail};
+use soql::{OrderKey, Tail};
 use std::alloc::{AllocError, Global};
 use store_abstraction::Layout;
 

@@ -5,7 +5,7 @@ use Rattle.std.specs.List.{flat_map}
 use Rattle.std.specs.Result.{result_and}
 use Rattle.store_kv.specs.Tables.{Tables}
 use Rattle.store_rows.specs.declared.fail.StoreFail.{StoreFail}
-use Rattle.soql_ast.specs.declared.query.Query.{Query}
+use Rattle.soql.specs.declared.query.Query.{Query}
 use Rattle.model.specs.declared.record.Record.{Record}
 use Rattle.model.specs.declared.refusal.Refusal.{Refusal}
 use Rattle.model.specs.Asking.{ask, query_rules}
@@ -17,7 +17,7 @@ use Rattle.access_traits.specs.Rights.{Whose}
 use Rattle.store_abstraction.specs.Layouts.{layout_of, own_layouts}
 use Rattle.store_abstraction.specs.Plan.{OrgPlan}
 use Rattle.store_abstraction.specs.declared.layout.Layout.{Layout}
-use Rattle.query_paths.specs.declared.branches.Branch.{Branch}
+use Rattle.query_plan.specs.declared.paths.branches.Branch.{Branch}
 use Rattle.model_step.specs.Flat.{is_flat}
 use Rattle.model_step.specs.Shown.{query_steps}
 use Rattle.query_check.specs.Reaching.{Reaches}
@@ -26,9 +26,9 @@ use Rattle.query_bind.specs.declared.cells.CellPlan.{CellPlan}
 use Rattle.query_bind.proofs.Planned.{no_branches}
 use Rattle.query_exec.specs.Relatives.{by_parents}
 use Rattle.query_exec.specs.Written.{seeing}
-use Rattle.query_reply.specs.Answers.{IsAskedOf}
-use Rattle.query_reply.specs.Planned.{Parents, choice_rows}
-use Rattle.query_reply.proofs.Found.{Laws, accepted, refused}
+use Rattle.query_json.specs.Answers.{IsAskedOf}
+use Rattle.query_json.specs.Planned.{Parents, choice_rows}
+use Rattle.query_json.proofs.Found.{Laws, accepted, refused}
 use Rattle.query_csv.specs.Answered.{IsAskedBy, IsLines}
 use Rattle.query_csv.specs.Lines.{line, lines_found, query_lines, record_line, selected_names}
 use Rattle.query_csv.specs.inner.Names.{item_by}

@@ -3,11 +3,12 @@ use Rattle.std.proofs.Common.{◌≡◌, ◌∙◌, ℕ, ◌+◌, Bool, true, fa
 use Rattle.std.specs.List.{enumerate_from, find, list_all, list_any}
 use Rattle.std.specs.Option.{option_and_then, option_map}
 use Rattle.std.specs.Str.{chars}
+use Rattle.base_lemmas.proofs.Bools.{and_first as and_left, and_second as and_right}
 use Rattle.base_value.specs.declared.value.FieldType.TheVariants as type
-use Rattle.soql_ast.specs.declared.query.Item.{Item}
-use Rattle.soql_ast.specs.declared.query.Item.TheVariants as item
-use Rattle.soql_ast.specs.declared.query.Path.{Path}
-use Rattle.soql_ast.specs.declared.query.Query.{Query}
+use Rattle.soql.specs.declared.query.Item.{Item}
+use Rattle.soql.specs.declared.query.Item.TheVariants as item
+use Rattle.soql.specs.declared.query.Path.{Path}
+use Rattle.soql.specs.declared.query.Query.{Query}
 use Rattle.model.specs.Cases.{in_case}
 use Rattle.model.specs.Fields.{Column, column, column_named, custom_columns, is_detail, is_master, its_created, its_id, its_modified, name_column, of_ids, of_type, owner_column, same_name, value_site}
 use Rattle.model.specs.Objects.{Numbered, object_named, object_numbered}
@@ -17,10 +18,9 @@ use Rattle.store_abstraction.specs.Layouts.{IsLayout, layout_of, numbered_at, ow
 use Rattle.store_abstraction.specs.Plan.{OrgPlan}
 use Rattle.store_abstraction.specs.declared.layout.Layout.{Layout}
 use Rattle.model_step.specs.Flat.{has_one_name, is_flat, is_flat_item}
-use Rattle.query_paths.specs.Ways.{parent_step}
-use Rattle.query_paths.specs.declared.parents.ParentStep.{ParentStep}
-use Rattle.query_paths.proofs.ByLayout.{numbered_layout, parent_by_layout}
-use Rattle.query_plan.proofs.Lists.{and_left, and_right}
+use Rattle.query_plan.specs.paths.Ways.{parent_step}
+use Rattle.query_plan.specs.declared.paths.parents.ParentStep.{ParentStep}
+use Rattle.query_plan.proofs.ByLayout.{numbered_layout, parent_by_layout}
 use Rattle.query_check.specs.Columns as rules
 use Rattle.query_check.specs.Reaching.{Reaches}
 use Rattle.query_check.specs.Ways.{layout_at}

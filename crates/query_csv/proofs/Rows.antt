@@ -5,8 +5,8 @@ use Rattle.std.specs.Option.{option_and_then, unwrap_or}
 use Rattle.base_value.specs.Printing.{is_printable, print_value}
 use Rattle.base_value.specs.declared.value.Value.{Value}
 use Rattle.base_value.specs.declared.value.Value.TheVariants as value
-use Rattle.soql_ast.specs.declared.query.Path.{Path}
-use Rattle.soql_ast.specs.declared.query.Query.{Query}
+use Rattle.soql.specs.declared.query.Path.{Path}
+use Rattle.soql.specs.declared.query.Query.{Query}
 use Rattle.model.specs.declared.record.Record.{Record}
 use Rattle.model.specs.Cases.{in_case}
 use Rattle.model.specs.Fields.{Column, column_named, value_in}
@@ -18,7 +18,7 @@ use Rattle.model.specs.Relationships.{Reference, named_id, named_record, parent_
 use Rattle.model.specs.Rows.{chosen, found, readable_of}
 use Rattle.model.specs.Sound.{IsSound}
 use Rattle.model.specs.Tenant.{Object, Tenant}
-use Rattle.query_paths.proofs.Sound.{having_has}
+use Rattle.query_plan.proofs.Sound.{having_has}
 use Rattle.query_plan.specs.Checks.{spot_value}
 use Rattle.query_plan.specs.Plans.{Chooses, chosen_by, parents_by}
 use Rattle.query_plan.specs.declared.check.Spot.{Spot}
@@ -28,9 +28,9 @@ use Rattle.query_plan.proofs.Lists.{kept}
 use Rattle.query_bind.specs.Cells.{MeansCells, paths_in}
 use Rattle.query_bind.specs.declared.cells.CellPlan.{CellPlan}
 use Rattle.query_exec.specs.Relatives.{by_parents}
-use Rattle.query_row_json.specs.Shows.{or_null}
-use Rattle.query_reply.specs.Planned.{choice_rows}
-use Rattle.query_reply.proofs.Found.{Laws, Printable, has_row, rows_chosen, site_printable}
+use Rattle.query_json.specs.row.Shows.{or_null}
+use Rattle.query_json.specs.Planned.{choice_rows}
+use Rattle.query_json.proofs.Found.{Laws, Printable, has_row, rows_chosen, site_printable}
 use Rattle.query_csv.specs.Lines.{line, record_line}
 use Rattle.query_csv.specs.inner.Rows.{cell_text, parents_of, row_line}
 

@@ -3,7 +3,7 @@ use Rattle.std.specs.Prelude.{◌≡◌, ◌≢◌, ◌⊎◌, ℕ, true, List, 
 use Rattle.store_kv.specs.Tables.{Tables}
 use Rattle.store_rows.specs.declared.fail.StoreFail.{StoreFail}
 use Rattle.store_rows.specs.declared.fail.StoreFail.TheVariants.{Damaged}
-use Rattle.soql_ast.specs.declared.query.Query.{Query}
+use Rattle.soql.specs.declared.query.Query.{Query}
 use Rattle.model.specs.Paths.{Asked}
 use Rattle.model.specs.declared.refusal.Refusal.{Refusal}
 use Rattle.access_traits.specs.Rights.{Whose}
@@ -11,7 +11,7 @@ use Rattle.store_abstraction.specs.Plan.{OrgPlan}
 use Rattle.store_abstraction.specs.declared.layout.Layout.{Layout}
 use Rattle.model_step.specs.Flat.{is_flat}
 use Rattle.query_check.specs.Reaching.{Reaches}
-use Rattle.query_reply.specs.Answers.{IsAskedOf}
+use Rattle.query_json.specs.Answers.{IsAskedOf}
 use Rattle.query_csv.specs.Lines.{query_lines}
 
 -- the lines of the query, or why it is refused; the rows of a tenant are never damaged

@@ -8,7 +8,7 @@ use Rattle.std.specs.Result.{result_and}
 use Rattle.std.specs.Str.{encode_utf8_all}
 use Rattle.csv.specs.Writing.{default_writer, row_text}
 use Rattle.base_value.specs.Printing.{print_value}
-use Rattle.soql_ast.specs.declared.query.Query.{Query}
+use Rattle.soql.specs.declared.query.Query.{Query}
 use Rattle.model.specs.declared.record.Record.{Record}
 use Rattle.model.specs.declared.refusal.Refusal.{Refusal}
 use Rattle.model.specs.Asking.{ask}

@@ -4,15 +4,15 @@ ghost use Rattle.std.specs.Prelude.{◌≡◌, IfOk, Some, map};
 ghost use Rattle.query_plan.specs.Given.{GivesBy, GivesJust};
 ghost use Rattle.query_csv.specs.inner.Rows.{cell_text, row_line};
 ghost use Rattle.model.specs.declared.record.Record.{Record};
-ghost use Rattle.query_row_json.specs.Shows.{or_null};
+ghost use Rattle.query_json.specs.row.Shows.{or_null};
 ghost use Rattle.base_value.specs.Printing.{print_value};
 
 use crate::line::line_of;
 use base_value::{Items, Text, Value, print_value};
 use model::Record;
 use query_exec::{RowForm, SeenRecord};
+use query_json::is_printable;
 use query_plan::{Child, HasValues, Spot, spot_value};
-use query_row_json::is_printable;
 use std::alloc::{AllocError, Global};
 use store_codec::CodecFail;
 

@@ -24,7 +24,7 @@ fn cells_of<'a>(alloc: Global, cells: &'a [Text]) -> Result<Vec<&'a [u8]>, Alloc
 /// # Errors
 ///
 /// If out of memory.
-pub fn line_of(alloc: Global, cells: &[Text]) -> Result<Vec<u8>, AllocError>
+pub(crate) fn line_of(alloc: Global, cells: &[Text]) -> Result<Vec<u8>, AllocError>
     ensures { IfOk result (λ text. text.items ≡ line cells.now) }
 {
     let fields = cells_of(alloc, cells)?;

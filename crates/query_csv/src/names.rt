@@ -14,8 +14,8 @@ use crate::line::line_of;
 use base_value::{FieldType, Text};
 use model::same_name;
 use query_bind::relationship_name;
-use query_paths::{layout_in, parent_in};
-use soql_ast::{Item, Query};
+use query_plan::{layout_in, parent_in};
+use soql::{Item, Query};
 use std::alloc::{AllocError, Global};
 use store_abstraction::{FieldPlace, Layout};
 

@@ -1,9 +1,11 @@
 -- The records that the kept rows of a page spell.
-use Rattle.std.proofs.Common.{◌≡◌, ◌∙◌, ℕ, zero, suc, ◌<◌, ◌≤◌, ◌^◌, IsTrue, List, [], ◌∷◌, length, map, take, Option, Some, None, refl, sym, ap, subst, inl, inr, arith}
-use Rattle.std.specs.Prelude.{IfSome, IsSome, Result, Ok, Err, Vec}
+use Rattle.std.proofs.Common.{◌≡◌, ◌∙◌, ℕ, ◌<◌, ◌≤◌, ◌^◌, IsTrue, List, [], ◌∷◌, length, map, take, Option, Some, refl, sym, ap, subst, inl, inr, arith}
+use Rattle.std.specs.Prelude.{IfSome, Result, Ok, Err, Vec}
 use Rattle.std.specs.Option.{option_map}
 use Rattle.std.specs.List.{AllByRecursion}
 use Rattle.std.proofs.lemmas.List.{take-map}
+use Rattle.base_lemmas.proofs.Options.{some_from_IsSome as some_of}
+use Rattle.base_lemmas.proofs.Lists.{length-take_most as short_take}
 use Rattle.base_value.specs.Id.{is_id}
 use Rattle.store_kv.specs.declared.keeper.KeptRow.{KeptRow}
 use Rattle.store_kv.specs.Prefixes.{raised}
@@ -52,10 +54,6 @@ kept_back again l (u ∷ us) fits =
     ap (λ (o : Option DataRow). (o >>= record_from l) >>= λ y. each_from (kept_record l) (map (kept_as data_form) us) >>= λ ys. Some (y ∷ ys)) (read_again data_form again u fits.0)
     ∙ ap (λ (o : Option (List Record)). record_from l u >>= λ y. o >>= λ ys. Some (y ∷ ys)) (kept_back again l us fits.1)
 
-some_of : {X : Type 0} (o : Option X) → IsSome o → (x : X) × (o ≡ Some x)
-some_of None h = absurd cc
-some_of (Some x) h = (x, refl)
-
 rows_read : (l : Layout) (row : Record → DataRow) (rs : List Record) → ((r : Record) → Has rs r → record_from l (row r) ≡ Some r) → each_from (record_from l) (map row rs) ≡ Some rs
 rows_read l row [] h = refl
 rows_read l row (r ∷ rs) h = rw (h r (inl refl), rows_read l row rs (λ x has. h x (inr has))) refl
@@ -63,11 +61,6 @@ rows_read l row (r ∷ rs) h = rw (h r (inl refl), rows_read l row rs (λ x has.
 after_is : (n : ℕ) (after : Option (List ℕ)) (limit : ℕ) (t : Tenant) → records_after n after limit t ≡ take limit (those t n after)
 unfolding records_after
 after_is n after limit t = refl
-
-short_take : {X : Type 0} (n : ℕ) (xs : List X) → length (take n xs) ≤ n
-short_take zero xs = omega arith
-short_take (suc n) [] = omega arith
-short_take (suc n) (x ∷ xs) = omega (arith, short_take n xs)
 
 module _ (walk : WalkLaws) (again : ReadsAgain) (m : Tables) (l : Layout) (after : Option (List ℕ)) (limit : ℕ) (lo : l.org < 2 ^ 32) (small : l.object < 2 ^ 16) (ha : IfSome after (λ j. IsTrue (is_id j))) where
   abbrev from : List ℕ

@@ -1,9 +1,10 @@
 -- Rows that are offered one after the other.
 use Rattle.std.proofs.Common.{◌≡◌, ◌∙◌, ℕ, zero, suc, ◌+◌, ◌<◌, ◌≤◌, Bool, true, false, cond, List, [], ◌∷◌, ◌++◌, Option, Some, None, refl, sym, ap, subst, arith, append_assoc, append-nil, length, drop, replicate, take}
-use Rattle.std.specs.Prelude.{IsErrAnd, Result, Ok, Err, pos}
+use Rattle.std.specs.Prelude.{Result, Ok, Err, pos}
 use Rattle.std.specs.List.{flat_map}
 use Rattle.std.proofs.lemmas.Grind.{flat_map-append}
 use Rattle.std.proofs.lemmas.List.{append_cancel_left, drop-append-le, length-append, length-drop, take-append-le, take-take}
+use Rattle.std.proofs.lemmas.Option.{same_Some as some_inner}
 use Rattle.store_rows.specs.declared.fail.StoreFail.TheVariants.{Damaged, Keeper, Memory}
 use Rattle.record_read.specs.Decoding.{each_from}
 use Rattle.model.specs.declared.record.Record.{Record}
@@ -17,14 +18,6 @@ use Rattle.query_exec.specs.Windows.{HasAll, IsWanted, in_window, is_none_left, 
 use Rattle.query_exec.specs.Ranks.{EachOf}
 use Rattle.query_exec.specs.inner.Offers.{WritesTaken, Offered, Overflows, Written}
 
-pub empty_of : {X : Type 0} (xs : List X) → length xs ≤ 0 → xs ≡ []
-empty_of [] h = refl
-empty_of (x ∷ xs) h = absurd (omega (arith, h))
-
-pub returned : {X E : Type 0} (r : Result X E) (e : E) → IsErrAnd r (λ x. x ≡ e) → r ≡ Err e
-returned (Ok x) e h = absurd h
-returned (Err y) e h = ap Err h
-
 -- ---- what is made of each
 
 -- what was made of a list that isn't empty
@@ -34,9 +27,6 @@ pub record Each {X Y : Type 0} (make : X → Option Y) (x : X) (xs : List X) (ys
   pub is : ys ≡ first ∷ others
   pub made : make x ≡ Some first
   pub rest : each_from make xs ≡ Some others
-
-pub some_inner : {X : Type 0} (x y : X) → ◌≡◌ {A = Option X} (Some x) (Some y) → x ≡ y
-some_inner x y e = cc
 
 pub each_cons : {X Y : Type 0} (make : X → Option Y) (x : X) (xs : List X) (ys : List Y) → each_from make (x ∷ xs) ≡ Some ys → Each make x xs ys
 each_cons {X = X} {Y = Y} make x xs ys e = by (make x) (each_from make xs) refl refl e

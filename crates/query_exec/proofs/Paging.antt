@@ -1,14 +1,14 @@
 -- A walk in pages passes each record once.
 use Rattle.std.proofs.Common.{◌≡◌, inl, inr, ℕ, suc, ◌-◌, Bool, true, false, cond, List, [], ◌∷◌, ◌++◌, Option, Some, None, filter, take, drop, length, refl, sym, ap, ◌∙◌, subst, true≢false, arith, append_assoc, take-append-drop}
 use Rattle.std.specs.List.{slice_get, AllByRecursion}
-use Rattle.std.specs.declared.cmp.Ordering.{Ordering}
-use Rattle.std.specs.declared.cmp.Ordering.TheVariants.{Less, Equal, Greater}
+use Rattle.std.specs.declared.cmp.Ordering.TheVariants.{Less}
 use Rattle.std.specs.Ordering.{is_lt, nat_cmp, ordering_reverse}
 use Rattle.std.specs.Cmp.{IsTotalOrder, on_total}
 use Rattle.std.specs.Cmp.Lexicographic.{nat_list_cmp_total, slice_cmp}
 use Rattle.std.specs.List.Sorted.{IsStrictlySortedBy}
 use Rattle.std.proofs.lemmas.Cmp.{tied_itself}
 use Rattle.std.proofs.lemmas.List.Kept.{IsStrictlySortedBy-filter}
+use Rattle.base_lemmas.proofs.Orders.{less_from_is_lt as is_below}
 use Rattle.record_read.proofs.Rising.{has_filter}
 use Rattle.model.specs.declared.record.Record.{Record}
 use Rattle.model.specs.Jobs.{is_past}
@@ -49,11 +49,6 @@ all_has P (y ∷ ys) all x (inr later) = all_has P ys all.1 x later
 
 abbrev above : Record → Record → Bool
 above last r = is_lt (by_id last r)
-
-is_below : (r : Ordering) → is_lt r ≡ true → r ≡ Less
-is_below Less h = refl
-is_below Equal h = absurd (true≢false (sym h))
-is_below Greater h = absurd (true≢false (sym h))
 
 pub middle_has : (front : List Record) (last : Record) (back : List Record) → Has (front ++ last ∷ back) last
 middle_has [] last back = inl refl

@@ -1,11 +1,12 @@
 -- What a record has, by the row that spells it.
-use Rattle.std.proofs.Common.{◌≡◌, ◌∙◌, ◌<◌, ◌≤◌, ℕ, zero, suc, Bool, true, false, cond, List, [], ◌∷◌, Option, Some, None, refl, sym, ap, arith, get_or, length, slice_get}
+use Rattle.std.proofs.Common.{◌≡◌, ◌∙◌, ◌<◌, ℕ, zero, suc, Bool, true, false, cond, List, [], ◌∷◌, Option, Some, None, refl, sym, ap, arith, get_or, length, slice_get}
 use Rattle.std.specs.Prelude.{Result, Ok, Err}
 use Rattle.std.specs.Option.{option_map}
+use Rattle.std.proofs.lemmas.Option.{same_Some as some_inner}
 use Rattle.base_value.specs.declared.value.FieldType.TheVariants as type
 use Rattle.base_value.specs.declared.value.Value.{Value}
 use Rattle.base_value.specs.declared.value.Value.TheVariants as value
-use Rattle.formula_eval.specs.Meaning.{value_at}
+use Rattle.formula.specs.Meaning.{value_at}
 use Rattle.store_rows.specs.declared.data.DataRow.{DataRow}
 use Rattle.store_codec.specs.Gives.{Gives}
 use Rattle.store_codec.specs.Plain.{◌>>=◌}
@@ -17,7 +18,7 @@ use Rattle.store_abstraction.specs.declared.layout.Layout.{Layout}
 use Rattle.store_view.specs.Slots.{slot_in}
 use Rattle.query_plan.specs.Given.{GivesJust}
 use Rattle.record_read.specs.Decoding.{all_from, each_from, has_types, read_slot, record_from, value_from}
-use Rattle.query_exec.proofs.Offering.{each_cons, each_none, some_inner}
+use Rattle.query_exec.proofs.Offering.{each_cons, each_none}
 
 -- the values of a record: its name's, and those of its fields
 pub record Spelled (l : Layout) (row : DataRow) (r : Record) : Type 0 where
@@ -60,11 +61,6 @@ pub item_got : (xs : List FieldPlace) (n : ℕ) (x : FieldPlace) → n < length 
 item_got [] n x low is = absurd (omega (arith, low))
 item_got (y ∷ ys) zero x low is = ap Some (sym (is y))
 item_got (y ∷ ys) (suc n) x low is = item_got ys n x (omega (arith, low)) is
-
-pub none_got : (xs : List FieldPlace) (n : ℕ) → length xs ≤ n → slice_get xs n ≡ None
-none_got [] n past = refl
-none_got (y ∷ ys) zero past = absurd (omega (arith, past))
-none_got (y ∷ ys) (suc n) past = none_got ys n (omega (arith, past))
 
 each_at : (make : FieldPlace → Option Value) (fields : List FieldPlace) (vs : List Value) (n : ℕ) (f : FieldPlace) → each_from make fields ≡ Some vs → slice_get fields n ≡ Some f → make f ≡ Some (value_at vs n)
 each_at make [] vs n f e at = absurd cc

@@ -7,6 +7,7 @@ use Rattle.std.specs.List.{flat_map}
 use Rattle.std.proofs.Math.Nat.{add-mul, mul-add, mul-le-mul_left, mul-le-mul_right, suc-mul}
 use Rattle.std.proofs.lemmas.List.{length-append, take-append-le}
 use Rattle.std.proofs.lemmas.List.Kept.{IsStrictlySortedBy-filter}
+use Rattle.base_lemmas.proofs.Lists.{nil_from_no_length as empty_of}
 use Rattle.store_kv.specs.Draft.{DraftTells, Held, removals_of, state_of, tables_of}
 use Rattle.store_kv.specs.Laid.{removals}
 use Rattle.store_kv.specs.State.{KeeperState, ShowsMost}
@@ -45,7 +46,7 @@ use Rattle.query_exec.specs.inner.Offers.{WritesTaken, Offered}
 use Rattle.query_exec.specs.inner.Permitted.{FindsPicked, Gathered, GathersPicked, TurnsPage}
 use Rattle.query_exec.specs.inner.Reading.{beyond}
 use Rattle.query_exec.proofs.Cutting.{GathersApart}
-use Rattle.query_exec.proofs.Offering.{all_over, all_written, empty_of, goes_on, none_taken, over_takes_none, stops}
+use Rattle.query_exec.proofs.Offering.{all_over, all_written, goes_on, none_taken, over_takes_none, stops}
 use Rattle.query_exec.proofs.Paging.{Ascends, beyond_none, by_id_total}
 use Rattle.query_exec.proofs.Passing.{CallsThen, ReadsMost, TellsBoth, shows_more}
 use Rattle.query_exec.proofs.Permitting.{page_has, picked_both, picked_has, readable_is, readable_rises}

@@ -4,7 +4,7 @@ ghost use Rattle.std.specs.Prelude.{◌≡◌, [], IsTrue, Some, option_map, unw
 ghost use Rattle.std.specs.Str.{chars};
 ghost use Rattle.query_plan.specs.Given.{GivesJust};
 ghost use Rattle.record_read.specs.Decoding.{has_types, read_slot};
-ghost use Rattle.formula_eval.specs.Meaning.{value_at as value_of};
+ghost use Rattle.formula.specs.Meaning.{value_at as value_of};
 ghost use Rattle.model.specs.Fields.{as_ref};
 ghost use Rattle.model.specs.declared.record.Record.{Record};
 ghost use Rattle.store_codec.specs.Gives.{Gives};

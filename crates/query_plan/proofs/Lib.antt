@@ -1,3 +1,14 @@
+pub mod Ranking
+pub mod Equal
+pub mod Endings
+pub mod Owned
+pub mod Sound
+pub mod ByLayout
+pub mod Ends
+pub mod Spelling
+pub mod Branching
+pub mod Places
+pub mod Stepping
 pub mod Lists
 pub mod Found
 pub mod Within

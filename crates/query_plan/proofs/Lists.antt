@@ -1,19 +1,9 @@
 -- What is at a place of a list, and what holds of what is found.
-use Rattle.std.proofs.Common.{◌≡◌, ℕ, zero, suc, ◌+◌, Bool, true, false, ◌&&◌, cond, List, [], ◌∷◌, map, filter, Option, Some, refl, sym, ap, ◌∙◌, arith, inl, inr, subst}
+use Rattle.std.proofs.Common.{◌≡◌, ℕ, zero, suc, ◌+◌, Bool, true, false, cond, List, [], ◌∷◌, map, filter, Option, Some, refl, sym, ap, ◌∙◌, arith, inl, inr, subst}
 use Rattle.std.specs.Prelude.{slice_get}
 use Rattle.std.specs.List.{AllByRecursion, enumerate_from, find}
+use Rattle.std.proofs.lemmas.Option.{same_Some as some_is}
 use Rattle.model.specs.Membership.{Has}
-
-pub some_is : {A : Type 0} (x y : A) → ◌≡◌ {A = Option A} (Some x) (Some y) → x ≡ y
-some_is x y e = cc
-
-pub and_left : (a b : Bool) → (a && b) ≡ true → a ≡ true
-and_left true b e = refl
-and_left false b e = absurd cc
-
-pub and_right : (a b : Bool) → (a && b) ≡ true → b ≡ true
-and_right true b e = e
-and_right false b e = absurd cc
 
 -- what holds of all holds of each
 pub of_each : {X : Type 0} (P : X → Type 0) (xs : List X) (x : X) → AllByRecursion P xs → Has xs x → P x
@@ -50,14 +40,6 @@ pub all_numbered : {X Y : Type 0} (P : Y → Type 0) (h : ℕ × X → Y) (xs : 
     → AllByRecursion P (map h (enumerate_from k xs))
 all_numbered P h [] k f = tt
 all_numbered P h (x ∷ xs) k f = (f zero k x (omega arith) refl, all_numbered P h xs (k + 1) (λ i n y e at. f (suc i) n y (omega (arith, e)) at))
-
-pub of_numbered : {X Y : Type 0} (P : Y → Type 0) (h : ℕ × X → Y) (xs : List X) (k i n : ℕ) (x : X) → k + i ≡ n → slice_get xs i ≡ Some x → AllByRecursion P (map h (enumerate_from k xs)) → P (h (n, x))
-of_numbered P h [] k i n x e at all = absurd cc
-of_numbered {X = X} P h (y ∷ xs) k zero n x e at all =
-    let same : k ≡ n = omega (arith, e) in
-    let is : y ≡ x = some_is y x at in
-    subst (λ (z : ℕ × X). P (h z)) (ap (λ (m : ℕ). (m, y)) same ∙ ap (λ (z : X). (n, z)) is) all.0
-of_numbered P h (y ∷ xs) k (suc i) n x e at all = of_numbered P h xs (k + 1) i n x (omega (arith, e)) at all.1
 
 -- the one at a place of a numbered list
 pub at_number : {X Y : Type 0} (h : ℕ × X → Y) (xs : List X) (k i n : ℕ) (x : X) → k + i ≡ n → slice_get xs i ≡ Some x → slice_get (map h (enumerate_from k xs)) i ≡ Some (h (n, x))

@@ -1,7 +1,8 @@
 -- The conditions within another, as a row and as a list.
-use Rattle.std.proofs.Common.{◌≡◌, Bool, true, false, not, ◌&&◌, ◌||◌, List, Option, refl, ap, ◌∙◌}
+use Rattle.std.proofs.Common.{◌≡◌, not, ◌&&◌, ◌||◌, List, Option, refl, ap, ◌∙◌}
 use Rattle.std.specs.List.{list_all, list_any}
 use Rattle.std.specs.Prelude.{Result, Ok, Err, IfOk}
+use Rattle.base_lemmas.proofs.Bools.{and-true as and_true}
 use Rattle.store_codec.specs.declared.fail.CodecFail.{CodecFail}
 use Rattle.store_codec.specs.declared.fail.CodecFail.TheVariants.{Damaged, Memory}
 use mathlib.Core.Former.{Count}
@@ -11,10 +12,6 @@ use Rattle.query_plan.specs.declared.check.Check.TheBlock.{hidden-the_row-Check-
 use Rattle.model.specs.declared.record.Record.{Record}
 use Rattle.query_plan.specs.Checks.{all_checks, check_holds, some_checks}
 use Rattle.query_plan.specs.Given.{GivesJust}
-
-and_true : (b : Bool) → (b && true) ≡ b
-and_true true = refl
-and_true false = refl
 
 abbrev row_of : Check → (n : Count) × Row_of-Check n
 row_of (And' _ row) = (_, row)

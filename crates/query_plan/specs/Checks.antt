@@ -8,8 +8,8 @@ use Rattle.std.specs.Ordering.{is_eq, is_lt, is_le, is_gt, is_ge}
 use Rattle.base_value.specs.Values.{cmp}
 use Rattle.base_value.specs.declared.value.Value.{Value}
 use Rattle.base_value.specs.declared.value.Value.TheVariants as value
-use Rattle.soql_ast.specs.declared.query.Op.{Op}
-use Rattle.soql_ast.specs.declared.query.Op.TheVariants as op
+use Rattle.soql.specs.declared.query.Op.{Op}
+use Rattle.soql.specs.declared.query.Op.TheVariants as op
 use Rattle.model.specs.declared.record.Record.{Record}
 use Rattle.model.specs.Cases.{in_case}
 use Rattle.model.specs.Conditions.{as_day, is_like}
@@ -18,7 +18,7 @@ use Rattle.model.specs.Fields.{its_id, its_owner, its_created, its_modified, val
 use Rattle.query_plan.specs.declared.check.Site.{Site}
 use Rattle.query_plan.specs.declared.check.Site.TheVariants as site
 use Rattle.query_plan.specs.declared.check.Spot.{Spot}
-use Rattle.query_paths.specs.Branches.{record_above}
+use Rattle.query_plan.specs.paths.Branches.{record_above}
 use Rattle.query_plan.specs.declared.check.Operand.{Operand}
 use Rattle.query_plan.specs.declared.check.Operand.TheVariants.{Plain, Clock}
 use Rattle.query_plan.specs.declared.check.Check.{Check, Test, Like, In, Not', And', Or', Row_of-Check, end_of-Check, more_of-Check}

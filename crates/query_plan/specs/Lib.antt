@@ -1,3 +1,5 @@
+pub mod order
+pub mod paths
 pub mod Checks
 pub mod Given
 pub mod Plans

@@ -4,14 +4,14 @@ use Rattle.std.specs.List.{sum_by}
 use Rattle.std.specs.Option.{unwrap_or}
 use Rattle.std.specs.declared.cmp.Ordering.{Ordering}
 use Rattle.std.specs.Ordering.{ordering_then}
-use Rattle.formula_eval.specs.Meaning.{value_at}
+use Rattle.formula.specs.Meaning.{value_at}
 use Rattle.base_value.specs.Values.{cmp, ref_of}
 use Rattle.base_value.specs.declared.value.Value.{Value}
 use Rattle.base_value.specs.declared.value.Value.TheVariants as value
-use Rattle.soql_ast.specs.declared.query.Item.{Item}
-use Rattle.soql_ast.specs.declared.query.Item.TheVariants as item
-use Rattle.soql_ast.specs.declared.query.Query.{Query}
-use Rattle.soql_ast.specs.declared.query.Tail.{Tail}
+use Rattle.soql.specs.declared.query.Item.{Item}
+use Rattle.soql.specs.declared.query.Item.TheVariants as item
+use Rattle.soql.specs.declared.query.Query.{Query}
+use Rattle.soql.specs.declared.query.Tail.{Tail}
 use Rattle.model.specs.declared.limit.Limit.TheVariants as limit
 use Rattle.model.specs.declared.record.Record.{Record}
 use Rattle.model.specs.Asking.{spelled_path}
@@ -26,7 +26,7 @@ use Rattle.model.specs.Rows.{limited, readable_of}
 use Rattle.model.specs.RowsJson.{field_name, object_name, row_json}
 use Rattle.model_step.specs.Flat.{is_flat}
 use Rattle.model_step.specs.Shown.{item_children_shown, query_steps, related_shown}
-use Rattle.query_paths.specs.Branches.{branch_records}
+use Rattle.query_plan.specs.paths.Branches.{branch_records}
 use Rattle.query_plan.specs.declared.plan.Child.{Child}
 use Rattle.query_plan.specs.declared.plan.ChildPlan.{ChildPlan}
 use Rattle.query_plan.specs.declared.plan.Choice.{Choice}

@@ -10,7 +10,7 @@ use Rattle.model.specs.Fields.{Site, value_in}
 use Rattle.model.specs.Membership.{Has}
 use Rattle.model.specs.RowsJson.{children_json, member_json, object_json, url, value_json}
 use Rattle.model.specs.Tenant.{Tenant}
-use Rattle.query_paths.specs.Branches.{record_above}
+use Rattle.query_plan.specs.paths.Branches.{record_above}
 use Rattle.query_plan.specs.declared.plan.Child.{Child}
 use Rattle.query_plan.specs.declared.plan.Member.{Member, Field, Parent', End, Row_of-Member, end_of-Member, more_of-Member}
 use Rattle.query_plan.specs.declared.plan.Shown.{Shown}

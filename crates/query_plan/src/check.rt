@@ -1,7 +1,7 @@
 //! Conditions whose names are places.
 
 use base_value::{Boxed, Items, Value};
-use soql_ast::{LikePattern, Op};
+use soql::{LikePattern, Op};
 
 /// Where a record has a value.
 #[derive(Clone, Copy, Debug)]

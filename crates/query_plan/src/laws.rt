@@ -1,7 +1,7 @@
 //! What holds of a plan that means a query.
 
 ghost use Rattle.std.specs.Prelude.{◌≡◌, Some};
-ghost use Rattle.soql_ast.specs.declared.query.Query.{Query};
+ghost use Rattle.soql.specs.declared.query.Query.{Query};
 ghost use Rattle.model.specs.Objects.{Numbered, object_named};
 ghost use Rattle.model.specs.Paths.{Asked};
 ghost use Rattle.model.specs.Rows.{found, readable_of};

@@ -1,9 +1,9 @@
 //! Queries whose names are places.
 
 use crate::check::{Check, Spot};
+use crate::paths::{Branch, ChildStep};
 use base_value::{Items, Text};
 use model::Record;
-use query_paths::{Branch, ChildStep};
 
 /// A member of a record that is shown.
 #[derive(Drop)]

@@ -17,7 +17,7 @@ use Rattle.model.specs.Objects.{records_of}
 use Rattle.model.specs.Ordered.{by_id, in_order, put_in}
 use Rattle.model.specs.Paths.{Asked}
 use Rattle.model.specs.Rows.{limited}
-use Rattle.query_order.specs.Ranks.{rank_by, rank_cmp}
+use Rattle.query_plan.specs.order.Ranks.{rank_by, rank_cmp}
 use Rattle.query_exec.specs.Ranks.{ranked_cmp}
 use Rattle.query_related.specs.inner.Referring.{those_referring}
 use Rattle.query_related.specs.inner.Taken.{RankedChild, all_taken, kept_of, ranked_with}

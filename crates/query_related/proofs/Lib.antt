@@ -1,3 +1,7 @@
+pub mod Among
+pub mod Branching
+pub mod Paged
+pub mod Reading
 pub mod Choosing
 pub mod Referring
 pub mod Relating

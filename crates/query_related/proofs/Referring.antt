@@ -6,7 +6,10 @@ use Rattle.std.specs.List.{enumerate_from, filter}
 use Rattle.std.proofs.lemmas.Bool.Decides.{nat_tests}
 use Rattle.std.proofs.lemmas.List.{length-map, take_all}
 use Rattle.std.proofs.Math.ListN.{get_or-eq_default}
-use Rattle.record_read.proofs.Lists.{and_right, of_each, pick}
+use Rattle.std.proofs.lemmas.Option.{same_Some as some_same}
+use Rattle.base_lemmas.proofs.Lists.{length-filter_most as few_filtered}
+use Rattle.base_lemmas.proofs.Bools.{and_second as and_right, by_answer as pick}
+use Rattle.record_read.proofs.Lists.{of_each}
 use Rattle.record_read.proofs.Rising.{has_filter}
 use Rattle.store_kv.specs.Tables.{Tables}
 use Rattle.store_rows.specs.declared.fail.StoreFail.{StoreFail}
@@ -32,11 +35,11 @@ use Rattle.base_value.specs.Values.{ref_of, valid}
 use Rattle.base_value.specs.declared.value.FieldType.{FieldType}
 use Rattle.base_value.specs.declared.value.Value.{Value}
 use Rattle.base_value.specs.declared.value.Value.TheVariants as value
-use Rattle.query_paths.proofs.ByLayout.{layout_is}
-use Rattle.query_paths.specs.declared.children.ChildStep.{ChildStep}
-use Rattle.query_parents.specs.declared.children.ChildPage.{ChildPage}
-use Rattle.query_parents.specs.Children.{children_after, page_of}
-use Rattle.query_parents.specs.Parents.{FindsBy}
+use Rattle.query_plan.proofs.ByLayout.{layout_is}
+use Rattle.query_plan.specs.declared.paths.children.ChildStep.{ChildStep}
+use Rattle.query_related.specs.declared.parents.children.ChildPage.{ChildPage}
+use Rattle.query_related.specs.parents.Children.{children_after, page_of}
+use Rattle.query_related.specs.parents.Parents.{FindsBy}
 use Rattle.query_related.specs.Children.{FindsOfAsked}
 use Rattle.query_related.specs.inner.Referring.{few_of, readable_referring, those_referring}
 
@@ -68,13 +71,6 @@ filter_each p (x ∷ xs) h = rw (h x, filter_each p xs h) refl
 pub filter_none : {X : Type 0} (p : X → Bool) (xs : List X) → ((x : X) → Has xs x → p x ≡ false) → filter p xs ≡ []
 filter_none p [] h = refl
 filter_none p (x ∷ xs) h = rw (h x (inl refl), filter_none p xs (λ y has. h y (inr has))) refl
-
--- no more than before
-few_filtered : {X : Type 0} (p : X → Bool) (xs : List X) → length (filter p xs) ≤ length xs
-few_filtered p [] = omega arith
-few_filtered p (x ∷ xs) =
-    let rest = few_filtered p xs in
-    pick (p x) (λ b. length (cond b (x ∷ filter p xs) (filter p xs)) ≤ suc (length xs)) (λ _. omega (arith, rest)) (λ _. omega (arith, rest))
 
 -- ---- those of one page
 
@@ -116,9 +112,6 @@ as_many (k ∷ ks) (v ∷ vs) e = ap suc (as_many ks vs (and_right (valid k v) (
 length_fields : (q : OrgPlan) (n k : ℕ) (fs : List Field) → length (map (place_of q n) (enumerate_from k fs)) ≡ length fs
 length_fields q n k [] = refl
 length_fields q n k (f ∷ fs) = ap suc (length_fields q n (k + 1) fs)
-
-some_same : {X : Type 0} (x y : X) → Some x ≡ Some y → x ≡ y
-some_same x y e = cc
 
 module _ (q : OrgPlan) (t : Tenant) (l : Layout) (sound : IsSound t) (laid : IsLayout q t l) where
   -- a record of the layout's object has the name, and a value for each of its fields

@@ -8,7 +8,7 @@ use Rattle.store_rows.specs.declared.fail.StoreFail.TheVariants.{Damaged, Keeper
 use Rattle.model.specs.declared.record.Record.{Record}
 use Rattle.model.specs.Objects.{is_of}
 use Rattle.model.specs.Paths.{Asked}
-use Rattle.query_parents.specs.Branches.{FindsOfRow}
+use Rattle.query_related.specs.parents.Branches.{FindsOfRow}
 use Rattle.access_traits.specs.Rights.{Whose}
 use Rattle.store_abstraction.specs.Layouts.{own_layouts}
 use Rattle.store_abstraction.specs.declared.layout.Layout.{Layout}

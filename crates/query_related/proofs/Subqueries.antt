@@ -24,7 +24,7 @@ use Rattle.model.specs.Rows.{limited}
 use Rattle.model.specs.Sound.{IsSound}
 use Rattle.model.specs.Tenant.{Tenant}
 use Rattle.query_plan.specs.Plans.{refers_by}
-use Rattle.query_order.specs.Ranks.{rank_cmp}
+use Rattle.query_plan.specs.order.Ranks.{rank_cmp}
 use Rattle.access_traits.specs.Rights.{Whose}
 use Rattle.store_abstraction.specs.Calls.{Calls, Ending, done}
 use Rattle.store_abstraction.specs.Local.{StandsIn}

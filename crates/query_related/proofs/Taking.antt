@@ -1,6 +1,6 @@
 -- Records that are taken as children, one after another.
 use Rattle.std.proofs.Common.{◌≡◌, ℕ, suc, ◌+◌, ◌*◌, ◌≤◌, Bool, true, false, cond, List, [], ◌∷◌, ◌++◌, length, map, reverse, Option, Some, None, refl, sym, ap, subst, ◌∙◌, inl, inr, arith, append_assoc, append-nil}
-use Rattle.std.specs.Prelude.{IsErrAnd, Result, Ok, Err, Vec}
+use Rattle.std.specs.Prelude.{Result, Ok, Err, Vec}
 use Rattle.std.specs.List.{filter}
 use Rattle.std.proofs.lemmas.List.{reverse-append}
 use Rattle.std.proofs.Math.Nat.{mul-le-mul_right, suc-mul, zero-mul}
@@ -15,7 +15,7 @@ use Rattle.store_rows.specs.declared.fail.StoreFail.TheVariants.{Damaged, Keeper
 use Rattle.model.specs.declared.record.Record.{Record}
 use Rattle.model.specs.Membership.{Has}
 use Rattle.model.specs.Paths.{Asked}
-use Rattle.query_parents.specs.Branches.{FindsOfRow}
+use Rattle.query_related.specs.parents.Branches.{FindsOfRow}
 use Rattle.store_codec.specs.declared.fail.CodecFail.{CodecFail}
 use Rattle.store_codec.specs.declared.fail.CodecFail.TheVariants as codec
 use Rattle.access_traits.specs.Rights.{Whose}
@@ -23,10 +23,6 @@ use Rattle.store_abstraction.specs.Calls.{Calls, Ending, done, ended_by, fell, s
 use Rattle.store_abstraction.specs.Local.{StandsIn}
 use Rattle.store_abstraction.specs.declared.layout.Layout.{Layout}
 use Rattle.query_related.specs.inner.Taken.{FindsTaken, OfRecords, RankedChild, all_taken, children_in, ranked_if, ranked_with}
-
-pub returned : {X E : Type 0} (r : Result X E) (e : E) → IsErrAnd r (λ x. x ≡ e) → r ≡ Err e
-returned (Ok x) e h = absurd h
-returned (Err y) e h = ap Err h
 
 pub not_fallen : stopped ≡ fell → ⊥
 not_fallen e = cc

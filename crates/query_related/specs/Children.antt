@@ -7,7 +7,7 @@ use Rattle.store_rows.specs.declared.fail.StoreFail.TheVariants.{Damaged, Keeper
 use Rattle.query_plan.specs.declared.plan.ChildPlan.{ChildPlan}
 use Rattle.model.specs.declared.record.Record.{Record}
 use Rattle.model.specs.Paths.{Asked}
-use Rattle.query_parents.specs.Parents.{readable_shown}
+use Rattle.query_related.specs.parents.Parents.{readable_shown}
 use Rattle.access_traits.specs.Rights.{Whose}
 use Rattle.store_abstraction.specs.Layouts.{own_layouts}
 use Rattle.store_abstraction.specs.Local.{StandsIn}

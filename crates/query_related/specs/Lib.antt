@@ -1,2 +1,3 @@
+pub mod parents
 pub mod Children
 pub mod inner

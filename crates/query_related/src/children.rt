@@ -2,16 +2,16 @@
 
 ghost use Rattle.std.specs.Prelude.{◌≡◌, ◌≤◌, ◌*◌, IfOk, length};
 ghost use Rattle.store_kv.specs.Draft.{DraftTells, tables_of};
-ghost use Rattle.query_parents.specs.Parents.{FindsBy, readable_shown};
+ghost use Rattle.query_related.specs.parents.Parents.{FindsBy, readable_shown};
 ghost use Rattle.query_related.specs.Children.{FindsOfAsked};
 ghost use Rattle.query_related.specs.inner.Referring.{few_of, readable_referring, those_referring};
 ghost use Rattle.store_abstraction.specs.Calls.{Calls, ended};
 
+use crate::parents::children_of;
 use access_traits::Rights;
 use base_value::{Id, Items};
 use model::Record;
-use query_parents::children_of;
-use query_paths::{ChildStep, layout_in};
+use query_plan::{ChildStep, layout_in};
 use std::alloc::Global;
 use store_abstraction::{Layout, call_laws};
 use store_kv::{Draft, Keeper, draft_laws};

@@ -12,20 +12,14 @@ use crate::taken::taken_children;
 use access_traits::Rights;
 use base_value::{Id, Items};
 use model::record_laws;
-use query_order::rank_laws;
-use query_plan::{Child, ChildPlan};
+use query_plan::{Child, ChildPlan, rank_laws};
 use std::alloc::Global;
 use store_abstraction::{Layout, call_laws};
 use store_kv::{Draft, Keeper, draft_laws};
 use store_rows::StoreFail;
 
-/// The children of a record that a child subquery finds, in its order. The layouts are those of all objects.
-///
-/// # Errors
-///
-/// `Keeper` if the keeper failed, `Memory` if out of memory, `Damaged` never if the organisation's rows stand for a tenant whose
-/// layouts they are and of whose user the rights are.
-pub fn found_children<K: Keeper, R: Rights>(
+// The children of a record that a child subquery finds, in its order. The layouts are those of all objects.
+fn found_children<K: Keeper, R: Rights>(
     alloc: Global,
     draft: &mut Draft<'_, K>,
     rights: &R,
@@ -48,11 +42,12 @@ pub fn found_children<K: Keeper, R: Rights>(
     Ok(children)
 }
 
-/// Of each of some child subqueries the children of a record that it finds.
+/// Of each of some child subqueries the children of a record that it finds, in its order. The layouts are those of all objects.
 ///
 /// # Errors
 ///
-/// As `found_children`.
+/// `Keeper` if the keeper failed, `Memory` if out of memory, `Damaged` never if the organisation's rows stand for a tenant whose
+/// layouts they are and of whose user the rights are.
 pub(crate) fn all_children<K: Keeper, R: Rights>(
     alloc: Global,
     draft: &mut Draft<'_, K>,

@@ -5,14 +5,13 @@ ghost use Rattle.std.specs.List.{IsDistinct};
 ghost use Rattle.std.specs.Ordering.{eq_by_cmp};
 ghost use Rattle.model.specs.Ordered.{in_order};
 ghost use Rattle.model.specs.Rows.{limited};
-ghost use Rattle.query_order.specs.Ranks.{rank_cmp};
+ghost use Rattle.query_plan.specs.order.Ranks.{rank_cmp};
 ghost use Rattle.query_exec.specs.Ranks.{ranked_cmp};
 ghost use Rattle.query_related.specs.inner.Taken.{kept_of};
 
 use base_value::Items;
 use query_exec::{Ranked, put_in_order};
-use query_order::Rank;
-use query_plan::Child;
+use query_plan::{Child, Rank};
 use std::alloc::{AllocError, Global};
 
 // Without the first few, and at most so many.

@@ -2,19 +2,18 @@
 
 ghost use Rattle.std.specs.Prelude.{◌≡◌, ◌*◌, [], Some, length, map};
 ghost use Rattle.query_plan.specs.Plans.{children_by};
-ghost use Rattle.query_parents.specs.Parents.{readable_shown};
+ghost use Rattle.query_related.specs.parents.Parents.{readable_shown};
 ghost use Rattle.query_related.specs.Children.{subqueries_shown};
 ghost use Rattle.store_abstraction.specs.Layouts.{own_layouts};
-ghost use Rattle.query_paths.specs.Branches.{branch_records};
+ghost use Rattle.query_plan.specs.paths.Branches.{branch_records};
 
 use crate::found::all_children;
+use crate::parents::records_of_branches;
 use access_traits::Rights;
 use base_value::Items;
 use model::Record;
 use query_exec::{Relatives, SeenRecord};
-use query_parents::records_of_branches;
-use query_paths::Branch;
-use query_plan::{Child, ChildPlan};
+use query_plan::{Branch, Child, ChildPlan};
 use std::alloc::Global;
 use store_abstraction::Layout;
 use store_kv::{Draft, Keeper};

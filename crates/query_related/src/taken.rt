@@ -4,18 +4,17 @@ ghost use Rattle.std.specs.Prelude.{◌≡◌, ◌++◌, ◌*◌, OnOk, Some, le
 ghost use Rattle.query_plan.specs.Given.{GivesJust};
 ghost use Rattle.query_plan.specs.Plans.{parents_by};
 ghost use Rattle.store_kv.specs.Draft.{DraftTells, tables_of};
-ghost use Rattle.query_parents.specs.Branches.{FindsOfRow};
-ghost use Rattle.query_parents.specs.Parents.{readable_shown};
+ghost use Rattle.query_related.specs.parents.Branches.{FindsOfRow};
+ghost use Rattle.query_related.specs.parents.Parents.{readable_shown};
 ghost use Rattle.query_related.specs.inner.Taken.{FindsTaken, all_taken, children_in, ranked_if};
 ghost use Rattle.store_abstraction.specs.Calls.{Calls, ended};
 
+use crate::parents::records_of_branches;
 use access_traits::Rights;
 use base_value::Items;
 use model::Record;
 use query_exec::Ranked;
-use query_order::{Rank, rank_of};
-use query_parents::records_of_branches;
-use query_plan::{Child, Choice, check_holds};
+use query_plan::{Child, Choice, Rank, check_holds, rank_of};
 use std::alloc::{AllocError, Global};
 use store_abstraction::{Layout, call_laws};
 use store_codec::CodecFail;

@@ -5,12 +5,12 @@ use Rattle.std.specs.Option.{option_map}
 use Rattle.store_kv.specs.Tables.{Tables}
 use Rattle.store_rows.specs.declared.fail.StoreFail.{StoreFail}
 use Rattle.store_rows.specs.declared.fail.StoreFail.TheVariants.{Damaged, Keeper, Memory}
-use Rattle.soql_ast.specs.declared.query.Query.{Query}
+use Rattle.soql.specs.declared.query.Query.{Query}
 use Rattle.model.specs.declared.caller.Caller.{Caller}
 use Rattle.model.specs.Objects.{Numbered, object_named, object_numbered}
 use Rattle.model.specs.Paths.{Asked}
 use Rattle.model.specs.Tenant.{Object, Tenant}
-use Rattle.query_reply.specs.Answers.{IsAskedOf, IsAskedOver}
+use Rattle.query_json.specs.Answers.{IsAskedOf, IsAskedOver}
 use Rattle.access_traits.specs.Rights.{Whose}
 use Rattle.query_run.specs.Callers.{IsCallerAt, IsObjectOf}
 use Rattle.query_run.specs.Forms.{IsAnswer}

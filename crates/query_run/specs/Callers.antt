@@ -5,7 +5,7 @@ use Rattle.model.specs.declared.caller.Caller.{Caller}
 use Rattle.model.specs.Objects.{Numbered, object_named}
 use Rattle.model.specs.Paths.{Asked}
 use Rattle.model.specs.World.{user_at}
-use Rattle.soql_ast.specs.declared.query.Query.{Query}
+use Rattle.soql.specs.declared.query.Query.{Query}
 use Rattle.store_abstraction.specs.declared.layout.Layout.{Layout}
 use Rattle.store_abstraction.specs.Layouts.{layout_of}
 use Rattle.store_abstraction.specs.Local.{StandsIn}

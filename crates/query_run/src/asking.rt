@@ -19,7 +19,7 @@ use access_traits::Administrator;
 use access_user::{Everyone, UserRights, all_may_read, sight_of, user_rights};
 use model::{Caller, object_laws};
 use query_check::is_flat;
-use soql_ast::Query;
+use soql::Query;
 use std::alloc::Global;
 use store_abstraction::{Layout, call_laws, layout_named, layouts};
 use store_kv::{Draft, Keeper, draft_laws};

@@ -1,7 +1,7 @@
 //! In which form queries are answered.
 
 ghost use Rattle.std.specs.Prelude.{◌≡◌, ◌+◌, Err, IfOk, None, true};
-ghost use Rattle.query_reply.specs.Answers.{IsAskedOf, IsAskedOver};
+ghost use Rattle.query_json.specs.Answers.{IsAskedOf, IsAskedOver};
 ghost use Rattle.query_exec.specs.Written.{most_shown};
 ghost use Rattle.store_kv.specs.Draft.{DraftTells, removals_of, tables_of};
 ghost use Rattle.store_rows.specs.declared.fail.StoreFail.{StoreFail};
@@ -9,14 +9,14 @@ ghost use Rattle.store_rows.specs.declared.fail.StoreFail.TheVariants.{Memory};
 ghost use Rattle.model.specs.Objects.{object_named};
 ghost use Rattle.model.specs.Paths.{Asked};
 ghost use Rattle.query_run.specs.Forms.{IsAnswer};
-ghost use Rattle.soql_ast.specs.declared.query.Query.{Query};
+ghost use Rattle.soql.specs.declared.query.Query.{Query};
 ghost use Rattle.store_abstraction.specs.Calls.{Calls, ended};
 ghost use Rattle.store_abstraction.specs.Plan.{OrgPlan};
 ghost use Rattle.model_step.specs.Flat.{is_flat};
 ghost use Rattle.model_step.specs.Shown.{row_shown};
 
 use access_traits::{Rights, Sight};
-use soql_ast::Query;
+use soql::Query;
 use std::alloc::Global;
 use store_abstraction::Layout;
 use store_kv::{Draft, Keeper};

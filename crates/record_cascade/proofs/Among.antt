@@ -1,43 +1,27 @@
 -- What is among lists of ids: two lists in strict order that have the same ids are one.
-use Rattle.std.proofs.Common.{◌≡◌, ℕ, Bool, true, false, ◌||◌, T, List, [], ◌∷◌, ◌++◌, map, refl, sym, ap, subst, ◌∙◌, inl, inr, Less, Equal, Greater, Ordering}
+use Rattle.std.proofs.Common.{◌≡◌, ℕ, Bool, true, T, List, [], ◌∷◌, ◌++◌, map, refl, sym, ap, subst, ◌∙◌, inl, inr, Less, Equal, Ordering}
 use Rattle.std.specs.Prelude.{◌⊎◌}
-use Rattle.std.specs.Cmp.Lexicographic.{slice_cmp, texts_ties}
+use Rattle.std.specs.Cmp.Lexicographic.{slice_cmp}
 use Rattle.std.specs.FinMap.{is_sorted}
 use Rattle.std.specs.FinMap.Entries.{below_all}
 use Rattle.std.specs.List.{AllByRecursion, flat_map, list_any}
 use Rattle.std.specs.List.Sorted.{IsStrictlySortedBy}
 use Rattle.std.specs.Ordering.{is_eq, is_lt, nat_cmp}
 use Rattle.std.proofs.lemmas.Cmp.{nat_list_cmp_total, tied_itself}
-use Rattle.std.proofs.lemmas.Slice.Eq.{bytes_eq-Decides}
+use Rattle.std.proofs.lemmas.Bool.{or_left, or_right, or_cases as or_either}
+use Rattle.base_lemmas.proofs.Bools.{T-and_first as t_first, T-and_second as t_second, true_from_T as t_true}
+use Rattle.base_lemmas.proofs.Lists.{is_eq-slice_cmp_self as cmp_itself, same_from_slice_cmp as cmp_eq}
+use Rattle.base_lemmas.proofs.Orders.{less_from_is_lt as is_less}
 use Rattle.model.specs.declared.record.Record.{Record}
 use Rattle.model.specs.Membership.{Has}
 use Rattle.model.specs.SoundPeople.{ids_rise}
 use Rattle.model.specs.SoundRecords.{record_id}
 use Rattle.record_read.proofs.Lists.{of_each}
-use Rattle.record_read.proofs.Rising.{t_first, t_second, t_true}
 use Rattle.record_cascade.specs.inner.Masters.{is_among}
 
 -- the ids of records
 abbrev pub record_ids : List Record → List (List ℕ)
 record_ids rs = map (λ r. r.id) rs
-
-cmp_eq : (a b : List ℕ) → is_eq (slice_cmp nat_cmp a b) ≡ true → a ≡ b
-cmp_eq a b e = (bytes_eq-Decides a b).0 (texts_ties a b ∙ e)
-
-cmp_itself : (a : List ℕ) → is_eq (slice_cmp nat_cmp a a) ≡ true
-cmp_itself a = ap is_eq (tied_itself nat_list_cmp_total a)
-
-or_left : (a b : Bool) → a ≡ true → (a || b) ≡ true
-or_left true b e = refl
-or_left false b e = absurd cc
-
-or_right : (a b : Bool) → b ≡ true → (a || b) ≡ true
-or_right true b e = refl
-or_right false b e = e
-
-or_either : (a b : Bool) → (a || b) ≡ true → (a ≡ true) ⊎ (b ≡ true)
-or_either true b e = inl refl
-or_either false b e = inr e
 
 pub has_any : {X : Type 0} (p : X → Bool) (xs : List X) (x : X) → Has xs x → p x ≡ true → list_any p xs ≡ true
 has_any p [] x h so = absurd h
@@ -99,11 +83,6 @@ among_has ids i e =
     let (j, h, so) = any_has (λ j. is_eq (slice_cmp nat_cmp i j)) ids e in
     subst (λ (k : List ℕ). Has ids k) (sym (cmp_eq i j so)) h
 
-pub same_bool : (a b : Bool) → (a ≡ true → b ≡ true) → (b ≡ true → a ≡ true) → a ≡ b
-same_bool true b f g = sym (f refl)
-same_bool false true f g = g refl
-same_bool false false f g = refl
-
 -- two lists in strict order that have the same ids are one
 not_below : (i : List ℕ) (is : List (List ℕ)) → AllByRecursion (λ j. slice_cmp nat_cmp i j ≡ Less) is → Has is i → ⊥
 not_below i is all h = let e = of_each (λ (j : List ℕ). slice_cmp nat_cmp i j ≡ Less) is i all h in differ (sym e ∙ tied_itself nat_list_cmp_total i)
@@ -139,11 +118,6 @@ same_sorted (x ∷ xs) (y ∷ ys) hx hy f g =
     backward : (i : List ℕ) → Has ys i → x ≡ y → Has (x ∷ xs) i → Has xs i
     backward i h head (inr k) = k
     backward i h head (inl e) = absurd (not_below y ys hy.0 (subst (λ (k : List ℕ). Has ys k) (e ∙ head) h))
-
-is_less : (o : Ordering) → is_lt o ≡ true → o ≡ Less
-is_less Less h = refl
-is_less Equal h = absurd cc
-is_less Greater h = absurd cc
 
 pub ids_sorted : (rs : List Record) → T (ids_rise record_id rs) → IsStrictlySortedBy (slice_cmp nat_cmp) (record_ids rs)
 unfolding IsStrictlySortedBy

@@ -1,13 +1,15 @@
 -- The records whose masters are among some are those that the model's details are.
 use Rattle.std.proofs.Common.{◌≡◌, ℕ, zero, suc, ◌+◌, ◌-◌, true, false, not, eqb, List, [], ◌∷◌, ◌++◌, map, Option, Some, None, refl, sym, ap, subst, ◌∙◌, arith, bytes_eq}
-use Rattle.std.specs.Prelude.{◌==◌, IsErr, IsErrAnd, Result, Ok, Err, slice_get}
+use Rattle.std.specs.Prelude.{◌==◌, Err, slice_get}
 use Rattle.std.specs.Cmp.Lexicographic.{slice_cmp}
 use Rattle.std.specs.List.{filter, flat_map}
 use Rattle.std.specs.List.Sorted.{IsStrictlySortedBy}
 use Rattle.std.specs.Ordering.{nat_cmp}
 use Rattle.std.proofs.lemmas.Bool.{eqb-true}
 use Rattle.std.proofs.lemmas.Slice.Eq.{bytes_eq-Decides}
-use Rattle.formula_eval.specs.Meaning.{value_at}
+use Rattle.base_lemmas.proofs.Bools.{and_second as and_right}
+use Rattle.base_lemmas.proofs.Numbers.{eqb-self as eqb_same}
+use Rattle.formula.specs.Meaning.{value_at}
 use Rattle.store_kv.specs.Tables.{Tables}
 use Rattle.store_rows.specs.declared.fail.StoreFail.{StoreFail}
 use Rattle.store_rows.specs.declared.fail.StoreFail.TheVariants.{Keeper, Memory, Damaged}
@@ -24,7 +26,7 @@ use Rattle.model.specs.Tenant.{Field, Object, Tenant}
 use Rattle.store_abstraction.specs.declared.layout.Layout.{Layout}
 use Rattle.store_abstraction.specs.Layouts.{layout_of, own_layouts}
 use Rattle.store_abstraction.specs.Plan.{OrgPlan}
-use Rattle.record_read.proofs.Lists.{and_right, eqb_same, of_each}
+use Rattle.record_read.proofs.Lists.{of_each}
 use Rattle.record_read.proofs.Rising.{filter_has, has_filter, rise_filter}
 use Rattle.record_references.specs.Referring.{all_referring, refers_by}
 use Rattle.record_cascade.specs.Cascade.{FindsWith}
@@ -133,10 +135,6 @@ module _ (org : ℕ) (q : OrgPlan) (t : Tenant) (sound : IsSound t) (layouts : L
       (λ i h. among_has x i (order.0 i ∙ has_among all i (subst (λ (zs : List (List ℕ)). Has zs i) (sym is) (backward i h))))
 
 -- ---- failures
-
-pub returned : {X E : Type 0} (r : Result X E) (e : E) → IsErr r × IsErrAnd r (λ x. x ≡ e) → r ≡ Err e
-returned (Ok x) e h = absurd h.1
-returned (Err y) e h = ap (λ z. Err z) h.1
 
 pub details_failed : {X : Type 0} (value : Tenant → X) (what : Tenant → List Record → List Record) (org : ℕ) (layouts : List Layout) (these : List (List ℕ)) (m : Tables) (e : StoreFail) → FindsBy {X = X} org layouts value m (Err e) → FindsWith org layouts these what m (Err e)
 details_failed value what org layouts these m Damaged h = λ q t s are. h q t s (layouts_are org q t layouts are)

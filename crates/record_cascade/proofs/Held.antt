@@ -3,7 +3,9 @@ use Rattle.std.proofs.Common.{◌≡◌, ℕ, ◌+◌, true, false, not, List, O
 use Rattle.std.specs.Prelude.{Bool, Result, Ok, Err}
 use Rattle.std.specs.List.{filter, flat_map, list_any}
 use Rattle.std.proofs.lemmas.Slice.Eq.{bytes_eq-Decides}
-use Rattle.formula_eval.specs.Meaning.{value_at}
+use Rattle.base_lemmas.proofs.Bools.{and_first as and_left, and_second as and_right, same_both_ways as same_bool}
+use Rattle.std.proofs.lemmas.Bool.{and_from as both}
+use Rattle.formula.specs.Meaning.{value_at}
 use Rattle.store_kv.specs.Tables.{Tables}
 use Rattle.store_rows.specs.declared.fail.StoreFail.{StoreFail}
 use Rattle.store_rows.specs.declared.fail.StoreFail.TheVariants.{Keeper, Memory, Damaged}
@@ -15,13 +17,12 @@ use Rattle.model.specs.Objects.{records_of}
 use Rattle.model.specs.Tenant.{Tenant}
 use Rattle.store_abstraction.specs.declared.layout.Layout.{Layout}
 use Rattle.store_abstraction.specs.Layouts.{FindsOf}
-use Rattle.record_read.proofs.Lists.{and_left, and_right}
 use Rattle.record_read.proofs.Rising.{filter_has, has_filter}
 use Rattle.record_references.specs.Referring.{all_referring, any_referring, refers_by, refers_to_one}
 use Rattle.record_cascade.specs.inner.Holding.{is_any, staying}
 use Rattle.record_cascade.specs.inner.Masters.{is_among}
-use Rattle.record_cascade.proofs.Among.{any_has, among_has, flat_has, has_among, has_any, has_flat, has_id_of, id_of_has, record_ids, same_bool}
-use Rattle.record_cascade.proofs.Holders.{any_from, both, one_of}
+use Rattle.record_cascade.proofs.Among.{any_has, among_has, flat_has, has_among, has_any, has_flat, has_id_of, id_of_has, record_ids}
+use Rattle.record_cascade.proofs.Holders.{any_from, one_of}
 
 module _ (n k : ℕ) (gone targets these : List (List ℕ)) (same : (i : List ℕ) → is_among targets i ≡ is_among these i) where
   module _ (t : Tenant) where

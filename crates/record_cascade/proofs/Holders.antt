@@ -2,11 +2,13 @@
 use Rattle.std.proofs.Common.{◌≡◌, ℕ, suc, ◌+◌, Bool, true, false, not, ◌&&◌, List, [], ◌∷◌, ◌++◌, length, map, Option, Some, None, refl, sym, ap, subst, ◌∙◌, inl, inr, arith, bytes_eq}
 use Rattle.std.specs.Prelude.{◌==◌, ◌⊎◌, if◌then◌else◌, slice_get}
 use Rattle.std.specs.List.{enumerate_from, filter, flat_map, list_all, list_any}
-use Rattle.std.proofs.lemmas.Bool.{eqb-true}
+use Rattle.std.proofs.lemmas.Bool.{eqb-true, and_from as both}
 use Rattle.std.proofs.lemmas.Slice.Eq.{bytes_eq-Decides}
+use Rattle.base_lemmas.proofs.Bools.{and_first as and_left, and_second as and_right, by_answer as pick, same_both_ways as same_bool}
+use Rattle.std.proofs.lemmas.Option.{same_Some as some_is}
 use Rattle.base_value.specs.declared.value.FieldType.{FieldType}
 use Rattle.base_value.specs.declared.value.FieldType.TheVariants as type
-use Rattle.formula_eval.specs.Meaning.{value_at}
+use Rattle.formula.specs.Meaning.{value_at}
 use Rattle.model.specs.declared.record.Record.{Record}
 use Rattle.model.specs.declared.refusal.Refusal.TheVariants.{DeleteFailed}
 use Rattle.model.specs.Cases.{in_case}
@@ -24,18 +26,14 @@ use Rattle.store_abstraction.specs.declared.layout.FieldPlace.{FieldPlace}
 use Rattle.store_abstraction.specs.declared.layout.Layout.{Layout}
 use Rattle.store_abstraction.specs.Layouts.{layout_of, place_of}
 use Rattle.store_abstraction.specs.Plan.{OrgPlan}
-use Rattle.record_read.proofs.Lists.{and_left, and_right, of_each, pick, some_is}
+use Rattle.record_read.proofs.Lists.{of_each}
 use Rattle.record_read.proofs.Rising.{filter_has, has_filter}
 use Rattle.record_references.specs.Referring.{all_referring, refers_by}
 use Rattle.record_cascade.specs.inner.Holding.{HaveIds, cleared_at, cleared_from, is_any, restricted_at, restricted_from, staying}
 use Rattle.record_cascade.specs.inner.Masters.{ids_of, is_among}
-use Rattle.record_cascade.proofs.Among.{any_has, among_has, append_has, flat_has, has_among, has_any, has_append, has_flat, has_id_of, id_of_has, record_ids, same_bool}
+use Rattle.record_cascade.proofs.Among.{any_has, among_has, append_has, flat_has, has_among, has_any, has_append, has_flat, has_id_of, id_of_has, record_ids}
 
 -- ---- tests
-
-pub both : (a b : Bool) → a ≡ true → b ≡ true → (a && b) ≡ true
-both true b e f = f
-both false b e f = absurd cc
 
 each_holds : {X : Type 0} (p : X → Bool) (xs : List X) → list_all p xs ≡ true → (x : X) → Has xs x → p x ≡ true
 each_holds p [] all x h = absurd h

@@ -1,16 +1,17 @@
 -- What is judged by layouts is what the model's rules say, what is cleared is what loses a lookup, and what goes has its ids.
-use Rattle.std.proofs.Common.{◌≡◌, ℕ, zero, suc, ◌+◌, ◌≤◌, ◌<◌, Bool, true, false, cond, ◌&&◌, List, [], ◌∷◌, length, map, Some, None, refl, sym, ap, subst, ◌∙◌, inl, inr, arith, bytes_eq}
+use Rattle.std.proofs.Common.{◌≡◌, ℕ, zero, suc, ◌+◌, ◌≤◌, ◌<◌, Bool, true, false, cond, ◌&&◌, List, [], ◌∷◌, length, map, Some, None, refl, sym, ap, subst, ◌∙◌, inl, inr, arith, bytes_eq, lt-ltb as over, le-ltb as within}
 use Rattle.std.specs.Prelude.{◌≢◌, ◌⊎◌, Err, nat_lt, slice_get}
 use Rattle.std.specs.Cmp.Lexicographic.{slice_cmp}
 use Rattle.std.specs.List.{enumerate_from, filter, flat_map}
 use Rattle.std.specs.Ordering.{eq_by_cmp, nat_cmp}
-use Rattle.std.proofs.lemmas.Bool.{lt-ltb}
-use Rattle.std.proofs.lemmas.Bool.Decides.{nat_tests}
+use Rattle.std.proofs.lemmas.Bool.{and_from as both}
 use Rattle.std.proofs.lemmas.Cmp.{eq_by_cmp_equiv, nat_list_cmp_total}
 use Rattle.std.proofs.lemmas.List.{length-map}
 use Rattle.std.proofs.lemmas.Map.Keys.{IsDistinct-from_sorted}
 use Rattle.std.proofs.lemmas.Map.Made.{length-le_from_is_member}
 use Rattle.std.proofs.lemmas.Slice.Eq.{bytes_eq-Decides}
+use Rattle.base_lemmas.proofs.Bools.{and_first as and_left, and_second as and_right, by_answer as pick, same_both_ways as same_bool}
+use Rattle.std.proofs.lemmas.Option.{same_Some as some_is}
 use Rattle.store_kv.specs.Tables.{Tables}
 use Rattle.store_rows.specs.declared.fail.StoreFail.{StoreFail}
 use Rattle.store_rows.specs.declared.fail.StoreFail.TheVariants.{Damaged, Keeper, Memory}
@@ -32,22 +33,15 @@ use Rattle.store_abstraction.specs.declared.layout.Layout.{Layout}
 use Rattle.store_abstraction.specs.Layouts.{layout_of, own_layouts}
 use Rattle.store_abstraction.specs.Local.{StandsIn}
 use Rattle.store_abstraction.specs.Plan.{OrgPlan}
-use Rattle.record_read.proofs.Lists.{and_left, and_right, pick, some_is}
 use Rattle.record_read.proofs.Rising.{filter_has, has_filter, rise_filter}
 use Rattle.record_cascade.specs.Deletion.{DeletesWith, cleared_ids, deletion_rules, gone_ids}
 use Rattle.record_cascade.specs.inner.Holding.{HaveIds, Judges, cleared_in, cleared_of, restricted_in, restricted_of}
 use Rattle.record_cascade.specs.inner.Masters.{FindsBy, IsInOrder, is_among}
-use Rattle.record_cascade.proofs.Among.{any_has, among_has, append_has, flat_has, has_among, has_any, has_flat, has_id_of, id_of_has, ids_sorted, record_ids, same_bool, same_sorted}
-use Rattle.record_cascade.proofs.Holders.{Loses, both, cleared_loses, fields_rule, loses_cleared, rule, rules_more}
+use Rattle.record_cascade.proofs.Among.{any_has, among_has, append_has, flat_has, has_among, has_any, has_flat, has_id_of, id_of_has, ids_sorted, record_ids, same_sorted}
+use Rattle.record_cascade.proofs.Holders.{Loses, cleared_loses, fields_rule, loses_cleared, rule, rules_more}
 use Rattle.record_cascade.proofs.Objects.{all_is, has_made, layouts_are, made_has}
 
 -- ---- tests
-
-over : (a b : ℕ) → a < b → nat_lt a b ≡ true
-over a b h = lt-ltb a b h
-
-within : (a b : ℕ) → b ≤ a → nat_lt a b ≡ false
-within a b h = grind (arith, nat_tests)
 
 -- ---- objects with their numbers
 

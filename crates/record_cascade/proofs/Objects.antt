@@ -1,12 +1,15 @@
 -- An object's first Master field, in the model and in its layout, and the layouts of all objects.
-use Rattle.std.proofs.Common.{◌≡◌, ℕ, zero, suc, ◌+◌, ◌<◌, Bool, true, false, ◌&&◌, cond, eqb, List, [], ◌∷◌, ◌++◌, map, Option, Some, None, refl, sym, ap, subst, ◌∙◌, inl, inr, arith}
+use Rattle.std.proofs.Common.{◌≡◌, ℕ, zero, suc, ◌+◌, ◌<◌, Bool, true, false, ◌&&◌, cond, eqb, List, [], ◌∷◌, ◌++◌, map, Option, Some, None, refl, sym, ap, subst, ◌∙◌, inl, inr, arith, ne_eqb as apart}
 use Rattle.std.specs.Prelude.{◌==◌, ◌⊎◌, slice_get}
 use Rattle.std.specs.List.{enumerate_from, find, flat_map}
 use Rattle.std.specs.Option.{option_map}
-use Rattle.std.proofs.lemmas.Bool.{eqb-true}
+use Rattle.base_lemmas.proofs.Lists.{find-append_later as find_left, find-append_sooner as find_right}
+use Rattle.base_lemmas.proofs.Numbers.{eqb-self as eqb_same}
+use Rattle.base_lemmas.proofs.Bools.{by_answer as pick}
+use Rattle.std.proofs.lemmas.Option.{same_Some as some_is}
 use Rattle.base_value.specs.declared.value.FieldType.{FieldType}
 use Rattle.base_value.specs.declared.value.FieldType.TheVariants as type
-use Rattle.formula_eval.specs.Meaning.{value_at}
+use Rattle.formula.specs.Meaning.{value_at}
 use Rattle.model.specs.declared.record.Record.{Record}
 use Rattle.model.specs.Cases.{in_case}
 use Rattle.model.specs.Deletes.{has_id, refers_to_one_of}
@@ -18,7 +21,6 @@ use Rattle.model.specs.Tenant.{Field, Object, Tenant}
 use Rattle.store_abstraction.specs.declared.layout.Layout.{Layout}
 use Rattle.store_abstraction.specs.Layouts.{IsLayout, layout_of, own_layout, own_layouts, place_of}
 use Rattle.store_abstraction.specs.Plan.{OrgPlan}
-use Rattle.record_read.proofs.Lists.{eqb_same, pick, some_is}
 use Rattle.record_cascade.specs.inner.Masters.{AreItsLayouts, master_from, target_at}
 use Rattle.record_cascade.proofs.Among.{has_append}
 
@@ -30,21 +32,6 @@ from k os = map (λ (o : ℕ × Object). record { number = o.0; object = o.1 }) 
 
 abbrev test : ℕ → Reference → Bool
 test n f = (f.object == n) && is_master f.field.kind
-
-find_left : {X : Type 0} (p : X → Bool) (xs ys : List X) → find p xs ≡ None → find p (xs ++ ys) ≡ find p ys
-find_left p [] ys e = refl
-find_left p (x ∷ xs) ys e =
-    pick (p x) (λ b. cond b (Some x) (find p xs) ≡ None → cond b (Some x) (find p (xs ++ ys)) ≡ find p ys)
-    (λ _ some. absurd cc)
-    (λ _ none. find_left p xs ys none)
-    e
-
-find_right : {X : Type 0} (p : X → Bool) (xs ys : List X) → find p ys ≡ None → find p (xs ++ ys) ≡ find p xs
-find_right p [] ys e = e
-find_right p (x ∷ xs) ys e = ap (λ o. cond (p x) (Some x) o) (find_right p xs ys e)
-
-apart : (m n : ℕ) → (m ≡ n → ⊥) → eqb m n ≡ false
-apart m n differ = pick (eqb m n) (λ b. eqb m n ≡ b → b ≡ false) (λ _ e. absurd (differ (eqb-true m n e))) (λ _ _. refl) refl
 
 -- a type refers to an object, or isn't a Master
 kinds : (k : FieldType) → ((target : ℕ) × (target_of k ≡ Some target)) ⊎ ((target_of k ≡ None) × (is_master k ≡ false))

@@ -27,12 +27,8 @@ fn joined(alloc: Global, these: &[Id], those: &[Id]) -> Result<Items<Id>, AllocE
     Ok(Items::from_vec(all))
 }
 
-/// The ids of the records with these ids, of their details, the details of these, and so on through so many levels.
-///
-/// # Errors
-///
-/// As `details`.
-pub fn with_details<K: Keeper>(
+// The ids of the records with these ids, of their details, the details of these, and so on through so many levels.
+fn with_details<K: Keeper>(
     alloc: Global,
     draft: &mut Draft<'_, K>,
     org: u32,
@@ -59,7 +55,7 @@ pub fn with_details<K: Keeper>(
 /// # Errors
 ///
 /// As `details`.
-pub fn cascade<K: Keeper>(
+pub(crate) fn cascade<K: Keeper>(
     alloc: Global,
     draft: &mut Draft<'_, K>,
     org: u32,

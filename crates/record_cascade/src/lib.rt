@@ -15,6 +15,4 @@ mod taking;
 
 pub use crate::clearing::is_cleared;
 pub use crate::deletion::{Deletion, deletion_of};
-pub use crate::levels::{cascade, with_details};
 pub use crate::object::object_number;
-pub use crate::taking::details;

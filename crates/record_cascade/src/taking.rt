@@ -169,7 +169,7 @@ pub(crate) fn in_order(alloc: Global, ids: &[Id]) -> Result<Items<Id>, AllocErro
 ///
 /// `Keeper` if the keeper failed, `Memory` if out of memory, `Damaged` never if the organisation's rows stand for a tenant whose
 /// layouts these are.
-pub fn details<K: Keeper>(
+pub(crate) fn details<K: Keeper>(
     alloc: Global,
     draft: &mut Draft<'_, K>,
     org: u32,

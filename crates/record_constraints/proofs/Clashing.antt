@@ -6,7 +6,10 @@ use Rattle.std.specs.Option.{option_and_then, option_map}
 use Rattle.std.proofs.lemmas.List.{drop_all}
 use Rattle.std.proofs.lemmas.Option.{get_or_from_slice_get, slice_get_within}
 use Rattle.std.proofs.lemmas.Slice.Eq.{bytes_eq-Decides}
-use Rattle.formula_eval.specs.Meaning.{value_at}
+use Rattle.base_lemmas.proofs.Bools.{and_first as and_left, and_second as and_right, by_answer as pick}
+use Rattle.std.proofs.lemmas.Bool.{true≢false as differ}
+use Rattle.base_lemmas.proofs.Lists.{slice_get_below as get_there}
+use Rattle.formula.specs.Meaning.{value_at}
 use Rattle.store_kv.specs.Draft.{Held}
 use Rattle.store_kv.specs.State.{KeeperState}
 use Rattle.store_kv.specs.Tables.{Tables}
@@ -36,7 +39,6 @@ use Rattle.store_abstraction.specs.declared.layout.FieldPlace.{FieldPlace}
 use Rattle.store_abstraction.specs.declared.layout.Layout.{Layout}
 use Rattle.record_read.specs.Decoding.{has_types, kinds_in}
 use Rattle.record_read.proofs.Ended.{IsMadeOf}
-use Rattle.record_read.proofs.Lists.{and_left, and_right, pick}
 use Rattle.record_read.proofs.Loading.{err_is, no_ok, ok_is}
 use Rattle.record_read.proofs.Rising.{found_itself, has_filter}
 use Rattle.record_read.proofs.RowFits.{typed_at, valid_at}
@@ -51,7 +53,7 @@ use Rattle.record_constraints.specs.Judged.{FindsRule}
 use Rattle.record_constraints.specs.Uniques.{HasUnique, is_unique_value}
 use Rattle.record_constraints.specs.inner.Clashes.{clash_at, clash_told, clash_with, clashes_from, clashing_id, other_than, others_of, told_clash, unique_value, unless_own}
 use Rattle.record_constraints.specs.inner.Reading.{readable_there}
-use Rattle.record_constraints.proofs.Searching.{differ, find_has, find_none, get_there, none_has, none_passes, still_found}
+use Rattle.record_constraints.proofs.Searching.{find_has, find_none, none_has, none_passes, still_found}
 use Rattle.record_constraints.proofs.UniqueRows.{ValueLaws, fits_part, its, its_fits, its_unique, values_equal}
 
 -- ---- the value of a field

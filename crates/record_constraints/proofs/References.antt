@@ -8,7 +8,7 @@ use Rattle.base_value.specs.Causes.{GivesOr}
 use Rattle.base_value.specs.Values.{ref_of, same_value}
 use Rattle.base_value.specs.declared.value.Value.{Value}
 use Rattle.base_value.specs.declared.value.Value.TheVariants as value
-use Rattle.formula_eval.specs.Meaning.{value_at}
+use Rattle.formula.specs.Meaning.{value_at}
 use Rattle.store_kv.specs.Draft.{DraftReads, DraftTells, Held, tables_of}
 use Rattle.store_kv.specs.State.{KeeperState}
 use Rattle.store_kv.specs.Tables.{Tables}

@@ -1,29 +1,10 @@
 -- What is found in a list, and among those of it that pass another test.
-use Rattle.std.proofs.Common.{◌≡◌, inl, inr, ℕ, zero, suc, ◌<◌, Bool, true, false, cond, List, [], ◌∷◌, filter, length, get_or, Some, None, refl, sym, ap, subst, ◌∙◌, arith}
-use Rattle.std.specs.Prelude.{slice_get}
+use Rattle.std.proofs.Common.{◌≡◌, inl, inr, Bool, true, false, cond, List, [], ◌∷◌, filter, Some, None, refl, sym, ap, ◌∙◌}
 use Rattle.std.specs.List.{find}
-use Rattle.std.proofs.lemmas.Option.{slice_get_read}
+use Rattle.std.proofs.lemmas.Option.{same_Some as some_is}
+use Rattle.std.proofs.lemmas.Bool.{true≢false as differ}
+use Rattle.base_lemmas.proofs.Bools.{by_answer as pick}
 use Rattle.model.specs.Membership.{Has}
-use Rattle.record_read.proofs.Lists.{pick, some_is}
-
-pub differ : true ≡ false → ⊥
-differ e = cc
-
--- two tests of the same
-pub agree : (a b : Bool) → (a ≡ true → b ≡ true) → (b ≡ true → a ≡ true) → a ≡ b
-agree true b f g = sym (f refl)
-agree false true f g = g refl
-agree false false f g = refl
-
--- what is at a place within a list
-pub get_there : {X : Type 0} (xs : List X) (i : ℕ) → i < length xs → (x : X) × (slice_get xs i ≡ Some x)
-get_there [] i h = absurd (omega (arith, h))
-get_there (x ∷ xs) zero h = (x, refl)
-get_there (x ∷ xs) (suc i) h = get_there xs i (omega (arith, h))
-
--- an element that was read there
-pub read_there : {X : Type 0} (xs ys : List X) (i : ℕ) (x : X) → ys ≡ xs → i < length xs → x ≡ get_or ys i x → slice_get xs i ≡ Some x
-read_there {X = X} xs ys i x same within is = slice_get_read xs (length xs) i x refl within (subst (λ (zs : List X). x ≡ get_or zs i x) same is)
 
 module _ {X : Type 0} (f : X → Bool) where
   pub find_has : (xs : List X) (x : X) → find f xs ≡ Some x → Has xs x × (f x ≡ true)

@@ -6,7 +6,11 @@ use Rattle.std.specs.FinMap.{IsAntisymmetric}
 use Rattle.std.specs.List.{enumerate_from, find}
 use Rattle.std.specs.Option.{option_and_then, option_map}
 use Rattle.std.proofs.lemmas.Slice.Eq.{bytes_eq-Decides}
-use Rattle.formula_eval.specs.Meaning.{value_at}
+use Rattle.base_lemmas.proofs.Options.{option_map-compose as map_twice}
+use Rattle.base_lemmas.proofs.Bools.{and_first as and_left, and_second as and_right, by_answer as pick, same_both_ways as agree}
+use Rattle.std.proofs.lemmas.Option.{same_Some as some_is}
+use Rattle.std.proofs.lemmas.Bool.{true≢false as differ}
+use Rattle.formula.specs.Meaning.{value_at}
 use Rattle.store_kv.specs.Draft.{Held}
 use Rattle.store_kv.specs.State.{KeeperState}
 use Rattle.store_kv.specs.Tables.{Tables, place_cmp}
@@ -36,9 +40,8 @@ use Rattle.store_abstraction.specs.Plan.{FitsPlan, OrgPlan}
 use Rattle.store_abstraction.specs.Stands.{row_in, unique_at, unique_of}
 use Rattle.store_abstraction.specs.declared.layout.FieldPlace.{FieldPlace}
 use Rattle.store_abstraction.specs.declared.layout.Layout.{Layout}
-use Rattle.store_abstraction.proofs.Found.{FindsRow, IsRowOf, map_twice, row_finds, row_in_org}
+use Rattle.store_abstraction.proofs.Found.{FindsRow, IsRowOf, row_finds, row_in_org}
 use Rattle.store_abstraction.proofs.Places.{PrefixLaws}
-use Rattle.record_read.proofs.Lists.{and_left, and_right, pick, some_is}
 use Rattle.record_read.proofs.RecordFits.{MakesIds, record_is_id}
 use Rattle.record_read.proofs.Rising.{has_filter}
 use Rattle.record_read.proofs.RowFits.{typed_at, valid_at}
@@ -54,7 +57,7 @@ use Rattle.base_value.specs.declared.value.Value.{Value}
 use Rattle.base_value.specs.declared.value.Value.TheVariants as value
 use Rattle.record_constraints.specs.Uniques.{is_unique_value}
 use Rattle.record_constraints.specs.inner.Clashes.{id_in_row}
-use Rattle.record_constraints.proofs.Searching.{agree, differ, find_has, find_same}
+use Rattle.record_constraints.proofs.Searching.{find_has, find_same}
 
 -- ---- the row
 

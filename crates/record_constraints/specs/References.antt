@@ -1,6 +1,6 @@
 -- References of records, by the types of their fields.
 use Rattle.std.specs.Prelude.{ℕ, List, Option, Some, None}
-use Rattle.formula_eval.specs.Meaning.{value_at}
+use Rattle.formula.specs.Meaning.{value_at}
 use Rattle.model.specs.Cases.{in_case}
 use Rattle.model.specs.Relationships.{target_of}
 use Rattle.model.specs.declared.record.Record.{Record}

@@ -3,7 +3,7 @@
 ghost use Rattle.std.specs.Prelude.{◌≡◌, ◌+◌, ◌*◌, ◌≤◌, Err, IfErr, bytes_eq, is_some, length};
 ghost use Rattle.std.specs.Option.{option_and_then};
 ghost use Rattle.std.specs.Str.{chars};
-ghost use Rattle.formula_eval.specs.Meaning.{value_at};
+ghost use Rattle.formula.specs.Meaning.{value_at};
 ghost use Rattle.store_kv.specs.Draft.{DraftTells, tables_of};
 ghost use Rattle.store_rows.specs.declared.fail.StoreFail.TheVariants.{Memory};
 ghost use Rattle.model.specs.Edits.{bad_owner, bad_target, same_owner};

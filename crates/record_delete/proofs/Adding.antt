@@ -1,8 +1,8 @@
 -- Changes that are added to a list, one call after another.
-use Rattle.std.proofs.Common.{◌≡◌, ◌∙◌, ℕ, ◌+◌, ◌*◌, ◌<◌, ◌≤◌, List, [], ◌∷◌, ◌++◌, length, map, refl, sym, ap, subst, arith}
+use Rattle.std.proofs.Common.{◌≡◌, ◌∙◌, ℕ, ◌+◌, ◌*◌, ◌<◌, ◌≤◌, List, [], ◌∷◌, ◌++◌, length, map, refl, sym, ap, subst, arith, length-append as length_both}
 use Rattle.std.specs.Prelude.{OnOk, Result, Ok, Err}
 use Rattle.std.specs.List.{AllByRecursion}
-use Rattle.std.proofs.lemmas.List.{append-nil}
+use Rattle.std.proofs.lemmas.List.{append-nil, append_assoc as append_thrice}
 use Rattle.store_edit.specs.Rows.{gone_of}
 use Rattle.store_edit.specs.Rows as rows
 use Rattle.store_kv.specs.declared.keeper.Change.{Change as Spelled}
@@ -17,14 +17,6 @@ use Rattle.record_delete.specs.inner.Adding.{Adds, AddsThese, Clears}
 pub spelled_both : (xs ys : List Change) → map rows.spelled (xs ++ ys) ≡ map rows.spelled xs ++ map rows.spelled ys
 spelled_both [] ys = refl
 spelled_both (x ∷ xs) ys = ap (λ (cs : List Spelled). rows.spelled x ∷ cs) (spelled_both xs ys)
-
-append_thrice : {X : Type 0} (xs ys zs : List X) → (xs ++ ys) ++ zs ≡ xs ++ (ys ++ zs)
-append_thrice [] ys zs = refl
-append_thrice {X = X} (x ∷ xs) ys zs = ap (λ (ws : List X). x ∷ ws) (append_thrice xs ys zs)
-
-length_both : (xs ys : List Change) → length (xs ++ ys) ≡ length xs + length ys
-length_both [] ys = omega arith
-length_both (x ∷ xs) ys = let e = length_both xs ys in omega (arith, e)
 
 gone_both : (xs ys : List Change) → gone_of (map rows.spelled (xs ++ ys)) ≡ gone_of (map rows.spelled xs) + gone_of (map rows.spelled ys)
 gone_both [] ys = omega arith

@@ -1,7 +1,10 @@
 -- All changes of a deletion, one list behind another.
 use Rattle.std.proofs.Common.{◌≡◌, ◌∙◌, ℕ, ◌+◌, ◌*◌, ◌<◌, ◌≤◌, Bool, true, cond, IsTrue, List, [], ◌∷◌, ◌++◌, length, map, Option, Some, refl, sym, ap, subst, arith, ℤ, inl, inr}
 use Rattle.std.specs.Prelude.{Result, Ok, filter, is_some}
-use Rattle.std.specs.List.{AllByRecursion, flat_map}
+use Rattle.std.specs.List.{AllByRecursion}
+use Rattle.std.proofs.lemmas.List.{append_assoc as append_thrice}
+use Rattle.std.proofs.lemmas.Grind.{flat_map-append as flat_both}
+use Rattle.base_lemmas.proofs.Bools.{by_answer as pick}
 use Rattle.record_cascade.specs.Deletion.{cleared_ids, gone_ids}
 use Rattle.store_kv.specs.declared.keeper.Change.{Change as Spelled}
 use Rattle.store_rows.specs.declared.fail.StoreFail.{StoreFail}
@@ -11,23 +14,14 @@ use Rattle.model.specs.Deletes.{has_id, loses_lookup, without}
 use Rattle.model.specs.Membership.{Has}
 use Rattle.model.specs.Objects.{record_at}
 use Rattle.model.specs.Tenant.{Tenant}
-use Rattle.record_target.proofs.Facts.{pick}
 use Rattle.store_abstraction.specs.Changes.{Change}
 use Rattle.store_abstraction.specs.Plan.{OrgPlan}
-use Rattle.record_diff.specs.Touched.{HasEach, changes_at, touched_changes}
+use Rattle.record_index.specs.diff.Touched.{HasEach, changes_at, touched_changes}
 use Rattle.record_delete.specs.Deleting.{counts_less, deleted_changes, shares_ended}
 use Rattle.record_delete.specs.inner.Adding.{Adds, AddsThese, Clears}
 use Rattle.record_delete.proofs.Adding.{adds_then, adds_wider, longer, these_then}
 
 -- ---- lists
-
-append_thrice : {X : Type 0} (xs ys zs : List X) → (xs ++ ys) ++ zs ≡ xs ++ (ys ++ zs)
-append_thrice [] ys zs = refl
-append_thrice {X = X} (x ∷ xs) ys zs = ap (λ (ws : List X). x ∷ ws) (append_thrice xs ys zs)
-
-flat_both : (f : List ℕ → List Change) (xs ys : List (List ℕ)) → flat_map f (xs ++ ys) ≡ flat_map f xs ++ flat_map f ys
-flat_both f [] ys = refl
-flat_both f (x ∷ xs) ys = ap (λ (cs : List Change). f x ++ cs) (flat_both f xs ys) ∙ sym (append_thrice (f x) (flat_map f xs) (flat_map f ys))
 
 pub keys_first : (xs ys : List Change) → AllByRecursion (λ (c : Change). FitsKey c.0) (xs ++ ys) → AllByRecursion (λ (c : Change). FitsKey c.0) xs
 keys_first [] ys h = tt

@@ -3,12 +3,13 @@ use Rattle.std.proofs.Common.{◌≡◌, ◌∙◌, ◌⊎◌, inl, inr, ℕ, ze
 use Rattle.std.specs.Prelude.{slice_get}
 use Rattle.std.specs.List.{enumerate_from, list_all, list_any}
 use Rattle.std.specs.Option.{option_map}
-use Rattle.std.proofs.lemmas.Bool.{eqb-true}
+use Rattle.std.proofs.lemmas.Bool.{eqb-true, and_from as both}
 use Rattle.std.proofs.lemmas.List.{length-take-le, take_more}
+use Rattle.base_lemmas.proofs.Bools.{same_both_ways as same_bool, and_first as and_left, and_second as and_right, by_answer as pick}
+use Rattle.std.proofs.lemmas.Option.{same_Some as some_is}
 use Rattle.record_cascade.proofs.Among.{any_has, has_any}
-use Rattle.record_read.proofs.Lists.{and_left, and_right, pick, some_is}
 use Rattle.record_read.specs.Decoding.{kinds_in}
-use Rattle.formula_eval.specs.Meaning.{value_at}
+use Rattle.formula.specs.Meaning.{value_at}
 use Rattle.model.specs.Cases.{in_case}
 use Rattle.model.specs.declared.record.Record.{Record}
 use Rattle.model.specs.Deletes.{cleared, cleared_lookups, has_id, is_cleared, loses_lookup, refers_into, refers_to_one_of}
@@ -21,7 +22,7 @@ use Rattle.store_abstraction.specs.declared.layout.FieldPlace.{FieldPlace}
 use Rattle.store_abstraction.specs.declared.layout.Layout.{Layout}
 use Rattle.store_abstraction.specs.Layouts.{layout_of, place_of}
 use Rattle.store_abstraction.specs.Plan.{OrgPlan}
-use Rattle.record_diff.specs.Touched.{has}
+use Rattle.record_index.specs.diff.Touched.{has}
 use Rattle.base_value.specs.declared.value.FieldType.{FieldType}
 use Rattle.base_value.specs.declared.value.FieldType.TheVariants as type
 use Rattle.base_value.specs.declared.value.OnDelete.TheVariants as on_delete
@@ -32,15 +33,10 @@ use Rattle.base_value.specs.Values.{valid}
 use Rattle.record_delete.specs.inner.Clearing.{cleared_in, field_at, is_lost, names_one, value_left}
 use Rattle.record_delete.proofs.Layouts.{as_numbered}
 use Rattle.record_delete.proofs.Lists.{has_map, map_has}
-use Rattle.record_delete.proofs.References.{both, has_reference, is_kept, kept_is, reference_is}
+use Rattle.record_delete.proofs.References.{has_reference, is_kept, kept_is, reference_is}
 use Rattle.record_delete.proofs.Without.{stays_not_gone}
 
 -- ---- lists
-
-same_bool : (a b : Bool) → (a ≡ true → b ≡ true) → (b ≡ true → a ≡ true) → a ≡ b
-same_bool true b f g = sym (f refl)
-same_bool false true f g = g refl
-same_bool false false f g = refl
 
 -- what is made of what is numbered is the same, where it is so at each place
 same_made : {X Y : Type 0} (f g : ℕ × X → Y) (k : ℕ) (xs : List X) → ((i : ℕ) (x : X) → slice_get xs i ≡ Some x → f (k + i, x) ≡ g (k + i, x)) → map f (enumerate_from k xs) ≡ map g (enumerate_from k xs)

@@ -2,7 +2,8 @@
 use Rattle.std.proofs.Common.{◌≡◌, ◌≢◌, ◌∙◌, ℕ, suc, ◌+◌, ◌-◌, List, [], ◌∷◌, ◌++◌, length, map, Some, refl, sym, ap, subst, arith}
 use Rattle.std.specs.Prelude.{IsErrAnd, Result, Ok, Err, slice_get}
 use Rattle.std.specs.List.{enumerate_from, flat_map}
-use Rattle.record_read.proofs.Lists.{some_is}
+use Rattle.base_lemmas.proofs.Lists.{nil_not_cons as clash}
+use Rattle.std.proofs.lemmas.Option.{same_Some as some_is}
 use Rattle.store_edit.specs.Rows.{change_to}
 use Rattle.store_edit.specs.Rows as rows
 use Rattle.store_kv.specs.declared.keeper.Change.{Change as Spelled}
@@ -69,9 +70,6 @@ first_of x (y ∷ ys) = y
 abbrev rest_of : {X : Type 0} → List X → List X
 rest_of [] = []
 rest_of (x ∷ xs) = xs
-
-clash : {X : Type 0} (x : X) (xs : List X) → ◌≡◌ {A = List X} [] (x ∷ xs) → ⊥
-clash x xs e = cc
 
 -- why the work stopped at the first is why it stopped
 pub stopped : {X Y : Type 0} (cs ds : List Change) (old mid : List Spelled) (r : Result X StoreFail) (e : StoreFail) (out : Result Y StoreFail)

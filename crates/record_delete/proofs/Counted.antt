@@ -1,10 +1,11 @@
 -- Which rows count or share records that go.
 use Rattle.std.proofs.Common.{◌≡◌, ℕ, ◌<◌, ◌^◌, true, false, List, ◌++◌, Some, sym, subst, ℤ}
 use Rattle.std.specs.List.{AllByRecursion}
+use Rattle.base_lemmas.proofs.Lists.{each-append as all_append}
+use Rattle.std.proofs.lemmas.Option.{same_Some as some_is}
 use Rattle.record_cascade.specs.Deletion.{gone_ids}
 use Rattle.record_delete.specs.Deleting.{counts_less, shares_ended}
 use Rattle.record_delete.proofs.Counting.{counts_are, object_rest, org_changed}
-use Rattle.record_delete.proofs.Lists.{all_append}
 use Rattle.record_delete.proofs.Sharing.{SamePrincipals, share_rest, shares_are}
 use Rattle.store_rows.specs.Keys as key
 use Rattle.store_rows.specs.Keys.{FitsKey, Key}
@@ -15,8 +16,8 @@ use Rattle.model.specs.Tenant.{Tenant}
 use Rattle.store_abstraction.specs.Changes.{Change, IsOf, is_changed}
 use Rattle.store_abstraction.specs.Plan.{OrgPlan}
 use Rattle.store_abstraction.specs.Stands.{org_of_key, row_in}
-use Rattle.record_diff.proofs.Turned.{left_unchanged, right_unchanged, some_is}
-use Rattle.record_diff.specs.Touched.{AreCounts, is_counted}
+use Rattle.record_index.proofs.DiffTurned.{left_unchanged, right_unchanged}
+use Rattle.record_index.specs.diff.Touched.{AreCounts, is_counted}
 
 module _ (same : SamePrincipals) (org : ℕ) (q : OrgPlan) (now : ℤ) (t : Tenant) (gone : List Record) (sound : IsSound t) where
   abbrev u : Tenant

@@ -3,10 +3,11 @@ use Rattle.std.proofs.Common.{◌≡◌, ◌∙◌, ℕ, ◌+◌, ◌-◌, ◌<�
 use Rattle.std.specs.Prelude.{◌==◌, filter}
 use Rattle.std.specs.List.{AllByRecursion, flat_map}
 use Rattle.std.specs.Option.{option_map}
-use Rattle.std.proofs.lemmas.Bool.{eqb-true}
+use Rattle.std.proofs.lemmas.Bool.{eqb-true, true≢false as clash}
 use Rattle.std.proofs.lemmas.Option.{slice_get_within}
+use Rattle.base_lemmas.proofs.Numbers.{eqb-self as eqb_same}
+use Rattle.base_lemmas.proofs.Bools.{or_first_false as or_left_false, by_answer as pick}
 use Rattle.record_cascade.specs.Deletion.{gone_ids}
-use Rattle.record_read.proofs.Lists.{eqb_same}
 use Rattle.record_delete.specs.Deleting.{count_among, counts_less, object_less}
 use Rattle.record_delete.proofs.Lists.{all_flat, has_there, one_unchanged, there_of}
 use Rattle.store_edit.specs.Rows.{change_to}
@@ -26,7 +27,6 @@ use Rattle.store_abstraction.specs.Changes.{IsOf, is_changed}
 use Rattle.store_abstraction.specs.Metadata.{org_of, row_of_object}
 use Rattle.store_abstraction.specs.Plan.{OrgPlan}
 use Rattle.store_abstraction.specs.Stands.{row_in}
-use Rattle.record_diff.proofs.Turned.{clash, or_left_false, pick}
 
 -- ---- those that go and those that stay
 

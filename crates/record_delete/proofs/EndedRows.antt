@@ -4,6 +4,7 @@ use Rattle.std.specs.Prelude.{Ok}
 use Rattle.std.specs.List.{AllByRecursion}
 use Rattle.std.specs.Cmp.Lexicographic.{bytes_decides}
 use Rattle.std.proofs.lemmas.List.{append-nil}
+use Rattle.base_lemmas.proofs.Bools.{by_answer as pick}
 use Rattle.store_edit.specs.Rows.{gone_of}
 use Rattle.store_edit.specs.Rows as rows
 use Rattle.store_kv.specs.declared.keeper.Change.{Change as Spelled}
@@ -12,7 +13,6 @@ use Rattle.store_rows.specs.Keys.{FitsKey}
 use Rattle.store_rows.specs.declared.share.ShareRow.{ShareRow}
 use Rattle.model.specs.Shares.{shares_of}
 use Rattle.model.specs.Tenant.{Share, Tenant}
-use Rattle.record_target.proofs.Facts.{pick}
 use Rattle.record_target.specs.Shares.{shares_removed}
 use Rattle.store_abstraction.specs.Changes.{Change}
 use Rattle.store_abstraction.specs.Local.{IsIn}

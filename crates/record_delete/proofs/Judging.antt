@@ -32,7 +32,7 @@ use Rattle.store_abstraction.specs.Fails.{of_store}
 use Rattle.store_abstraction.specs.Layouts.{own_layouts}
 use Rattle.store_abstraction.specs.Local.{StandsIn}
 use Rattle.store_abstraction.specs.Plan.{FitsPlan, OrgPlan}
-use Rattle.record_diff.specs.Touched.{touched_changes}
+use Rattle.record_index.specs.diff.Touched.{touched_changes}
 
 -- what `delete_laws` says
 abbrev pub DeleteTakes : Type 0

@@ -3,7 +3,9 @@ use Rattle.std.proofs.Common.{◌≡◌, ◌∙◌, ℕ, zero, suc, ◌+◌, con
 use Rattle.std.specs.Prelude.{is_some, slice_get}
 use Rattle.std.specs.List.{enumerate_from}
 use Rattle.std.specs.Option.{option_and_then, option_map}
-use Rattle.record_read.proofs.Lists.{eqb_same, of_each, some_is}
+use Rattle.base_lemmas.proofs.Numbers.{eqb-self as eqb_same}
+use Rattle.std.proofs.lemmas.Option.{same_Some as some_is}
+use Rattle.record_read.proofs.Lists.{of_each}
 use Rattle.record_read.proofs.Standing.{found_id}
 use Rattle.model.specs.declared.record.Record.{Record}
 use Rattle.model.specs.Known.{known}

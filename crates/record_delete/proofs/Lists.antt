@@ -2,18 +2,16 @@
 use Rattle.std.proofs.Common.{◌≡◌, ◌∙◌, ◌⊎◌, inl, inr, ℕ, zero, suc, ◌+◌, false, List, [], ◌∷◌, ◌++◌, map, Some, refl, sym, ap, subst, arith}
 use Rattle.std.specs.Prelude.{slice_get}
 use Rattle.std.specs.List.{AllByRecursion, enumerate_from, flat_map}
+use Rattle.base_lemmas.proofs.Lists.{each-append as all_append}
+use Rattle.std.proofs.lemmas.Option.{same_Some as some_is}
 use Rattle.store_rows.specs.Keys.{Key}
 use Rattle.model.specs.Membership.{Has}
 use Rattle.model.specs.Objects.{Numbered}
 use Rattle.model.specs.Tenant.{Object}
 use Rattle.store_abstraction.specs.Changes.{Change, is_changed}
-use Rattle.record_diff.proofs.Turned.{left_unchanged, right_unchanged, some_is}
+use Rattle.record_index.proofs.DiffTurned.{left_unchanged, right_unchanged}
 
 -- ---- all of a list
-
-pub all_append : {X : Type 0} (P : X → Type 0) (xs ys : List X) → AllByRecursion P xs → AllByRecursion P ys → AllByRecursion P (xs ++ ys)
-all_append P [] ys h g = g
-all_append P (x ∷ xs) ys h g = (h.0, all_append P xs ys h.1 g)
 
 -- what holds of each holds of all
 pub all_of : {X : Type 0} (P : X → Type 0) (xs : List X) → ((x : X) → Has xs x → P x) → AllByRecursion P xs

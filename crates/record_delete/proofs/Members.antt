@@ -2,6 +2,8 @@
 use Rattle.std.proofs.Common.{◌≡◌, ◌∙◌, inl, inr, ℕ, zero, suc, Bool, true, false, ◌||◌, List, [], ◌∷◌, ◌++◌, Some, refl, sym, ap, subst, bytes_eq}
 use Rattle.std.specs.List.{filter}
 use Rattle.std.proofs.lemmas.List.Folds.{list_any-append}
+use Rattle.base_lemmas.proofs.Bools.{same_both_ways as alike}
+use Rattle.base_lemmas.proofs.Texts.{same_from_bytes_eq as same_exact, bytes_eq-self as same_itself}
 use Rattle.record_cascade.proofs.Among.{any_has, has_any, has_id_of, id_of_has}
 use Rattle.record_cascade.specs.Deletion.{cleared_ids, gone_ids}
 use Rattle.record_read.proofs.Rising.{filter_has, has_filter}
@@ -15,9 +17,8 @@ use Rattle.model.specs.Membership.{Has}
 use Rattle.model.specs.Objects.{object_number, record_at}
 use Rattle.model.specs.Relationships.{Reference, master_of_object}
 use Rattle.model.specs.Tenant.{Tenant}
-use Rattle.record_diff.proofs.Records.{named}
-use Rattle.record_diff.proofs.Turned.{same_exact, same_itself}
-use Rattle.record_diff.specs.Touched.{has, record_ids, touched_by}
+use Rattle.record_index.proofs.Records.{named}
+use Rattle.record_index.specs.diff.Touched.{has, record_ids, touched_by}
 
 -- ---- one of some ids
 
@@ -28,12 +29,6 @@ in_ids ids i e =
 
 ids_in : (ids : List (List ℕ)) (i : List ℕ) → Has ids i → has ids i ≡ true
 ids_in ids i h = has_any (λ (x : List ℕ). bytes_eq x i) ids i h (same_itself i)
-
--- two tests that pass alike
-alike : (a b : Bool) → (a ≡ true → b ≡ true) → (b ≡ true → a ≡ true) → a ≡ b
-alike true b f g = sym (f refl)
-alike false true f g = g refl
-alike false false f g = refl
 
 -- ---- the ids of what goes
 

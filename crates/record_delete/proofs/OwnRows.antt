@@ -1,7 +1,7 @@
 -- The rows of a record that goes or changes are at keys of the organisation.
 use Rattle.std.proofs.Common.{◌≡◌, ℕ, cond, List, [], ◌∷◌, ◌++◌, Option, Some, None, refl, bytes_eq}
 use Rattle.std.specs.List.{AllByRecursion, flat_map, range_with_len}
-use Rattle.record_read.proofs.Lists.{pick}
+use Rattle.base_lemmas.proofs.Bools.{by_answer as pick}
 use Rattle.store_rows.specs.declared.data.DataRow.{DataRow}
 use Rattle.store_rows.specs.Keys.{FitsKey, Index, Key, Relation, Unique}
 use Rattle.model.specs.declared.record.Record.{Record}

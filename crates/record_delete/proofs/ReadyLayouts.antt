@@ -1,10 +1,11 @@
 -- The layouts of all objects of a sound tenant can be used.
-use Rattle.std.proofs.Common.{◌≡◌, ◌∙◌, ℕ, ◌+◌, ◌≤◌, Bool, true, false, ◌&&◌, eqb, List, [], ◌∷◌, length, map, Some, refl, sym, subst, arith, nat_le}
+use Rattle.std.proofs.Common.{◌≡◌, ◌∙◌, ℕ, ◌+◌, ◌≤◌, Bool, true, false, ◌&&◌, eqb, List, [], ◌∷◌, length, map, Some, refl, sym, subst, arith, nat_le, le-leb as few_enough}
 use Rattle.std.specs.Prelude.{◌==◌}
 use Rattle.std.specs.List.{enumerate_from, list_all}
-use Rattle.std.proofs.lemmas.Bool.{eqb-true}
+use Rattle.std.proofs.lemmas.Bool.{eqb-true, and_from as true_both}
 use Rattle.std.proofs.lemmas.Bool.Decides.{nat_tests}
-use Rattle.record_read.proofs.Lists.{and_left, and_right, eqb_same}
+use Rattle.base_lemmas.proofs.Bools.{and_first as and_left, and_second as and_right}
+use Rattle.base_lemmas.proofs.Numbers.{eqb-self as eqb_same}
 use Rattle.record_read.specs.Decoding.{has_types}
 use Rattle.model.specs.Objects.{Numbered, numbered}
 use Rattle.model.specs.Sound.{IsSound}
@@ -26,10 +27,6 @@ is_one org l = (l.org == org) && ((nat_le (length l.fields) 40 && has_types l) &
 few_objects : (n : ℕ) → nat_le n 100 ≡ true → n ≤ 100
 few_objects n h = grind (arith, nat_tests)
 
-true_both : (a b : Bool) → a ≡ true → b ≡ true → (a && b) ≡ true
-true_both true b x y = y
-true_both false b x y = absurd cc
-
 -- ---- what passes the test can be used
 
 one_ready : (org : ℕ) (l : Layout) → is_one org l ≡ true → IsReady org l
@@ -46,9 +43,6 @@ all_ready org ls h =
     (each_ready org ls (and_right (nat_le (length ls) 100) (list_all (is_one org) ls) h), few_objects (length ls) (and_left (nat_le (length ls) 100) (list_all (is_one org) ls) h))
 
 -- ---- those of a sound tenant pass it
-
-few_enough : (n m : ℕ) → n ≤ m → nat_le n m ≡ true
-few_enough n m h = grind (arith, nat_tests)
 
 as_many : (org : ℕ) (q : OrgPlan) (t : Tenant) (k : ℕ) (os : List Object)
     → length (map (layout_of org q t) (map (λ (o : ℕ × Object). record { number = o.0; object = o.1 }) (enumerate_from k os))) ≡ length os

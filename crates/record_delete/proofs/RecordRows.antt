@@ -4,7 +4,8 @@ use Rattle.std.specs.Prelude.{◌==◌}
 use Rattle.std.specs.List.{list_all}
 use Rattle.std.specs.Option.{option_and_then}
 use Rattle.std.proofs.lemmas.Bool.{eqb-true}
-use Rattle.record_read.proofs.Lists.{pick, some_is}
+use Rattle.base_lemmas.proofs.Bools.{by_answer as pick}
+use Rattle.std.proofs.lemmas.Option.{same_Some as some_is}
 use Rattle.record_read.proofs.Standing.{Found, IsOf, found_of, layout_is}
 use Rattle.store_rows.specs.declared.data.DataRow.{DataRow}
 use Rattle.model.specs.declared.record.Record.{Record}
@@ -21,7 +22,7 @@ use Rattle.store_abstraction.specs.Entries.{data_of, slot_entry}
 use Rattle.store_abstraction.specs.Layouts.{IsLayout, layout_of}
 use Rattle.store_abstraction.specs.Plan.{FitsPlan, OrgPlan}
 use Rattle.store_abstraction.specs.Stands.{kept_at}
-use Rattle.record_diff.specs.Touched.{changes_at}
+use Rattle.record_index.specs.diff.Touched.{changes_at}
 use Rattle.base_value.specs.Printing.{is_printable}
 
 -- ---- what record_index says

@@ -1,19 +1,15 @@
 -- The references of all objects, and what is kept of a list.
-use Rattle.std.proofs.Common.{◌≡◌, ◌∙◌, inl, inr, ℕ, zero, suc, ◌+◌, Bool, true, false, ◌&&◌, cond, List, [], ◌∷◌, filter, Option, Some, None, refl, sym, ap, arith}
+use Rattle.std.proofs.Common.{◌≡◌, ◌∙◌, inl, inr, ℕ, zero, suc, ◌+◌, Bool, true, false, cond, List, [], ◌∷◌, filter, Option, Some, None, refl, sym, ap, arith}
 use Rattle.std.specs.Prelude.{slice_get}
 use Rattle.std.specs.List.{enumerate_from}
+use Rattle.std.proofs.lemmas.Option.{same_Some as some_is}
 use Rattle.record_cascade.proofs.Among.{flat_has, has_flat}
-use Rattle.record_read.proofs.Lists.{some_is}
 use Rattle.model.specs.Cases.{in_case}
 use Rattle.model.specs.Membership.{Has}
 use Rattle.model.specs.Objects.{numbered}
 use Rattle.model.specs.Relationships.{Reference, reference_at, references, references_of, target_of}
 use Rattle.model.specs.Tenant.{Field, Object, Tenant}
 use Rattle.record_delete.proofs.Lists.{has_there, there_of}
-
-pub both : (a b : Bool) → a ≡ true → b ≡ true → (a && b) ≡ true
-both true b p q = q
-both false b p q = p
 
 -- ---- what is kept of a list
 

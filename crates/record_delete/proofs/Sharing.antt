@@ -3,13 +3,16 @@ use Rattle.std.proofs.Common.{◌≡◌, ◌∙◌, ℕ, Bool, true, false, not,
 use Rattle.std.specs.Prelude.{◌↔◌, filter}
 use Rattle.std.specs.List.{AllByRecursion, find}
 use Rattle.std.specs.Option.{option_map}
-use Rattle.std.specs.Ordering.{eq_by_cmp, is_eq, nat_cmp, ordering_then}
+use Rattle.std.specs.Ordering.{eq_by_cmp, nat_cmp}
 use Rattle.std.specs.Cmp.Lexicographic.{slice_cmp, texts_ties}
-use Rattle.std.specs.declared.cmp.Ordering.{Ordering}
-use Rattle.std.specs.declared.cmp.Ordering.TheVariants.{Less, Equal, Greater}
+use Rattle.base_lemmas.proofs.Orders.{ordering_then_equal_parts as first_equal}
+use Rattle.base_lemmas.proofs.Numbers.{eqb-self as eqb_same}
+use Rattle.std.proofs.lemmas.Bool.{true≢false as clash}
+use Rattle.base_lemmas.proofs.Bools.{by_answer as pick}
+use Rattle.base_lemmas.proofs.Texts.{same_from_bytes_eq as same_exact, bytes_eq-self as same_itself}
 use Rattle.record_cascade.proofs.Among.{flat_has, has_any, has_flat}
 use Rattle.record_cascade.specs.Deletion.{gone_ids}
-use Rattle.record_read.proofs.Lists.{eqb_same, of_each}
+use Rattle.record_read.proofs.Lists.{of_each}
 use Rattle.record_read.proofs.Rising.{filter_has, has_filter}
 use Rattle.record_delete.specs.Deleting.{shares_ended}
 use Rattle.record_delete.proofs.Lists.{all_of, has_map, map_has}
@@ -32,8 +35,7 @@ use Rattle.store_abstraction.specs.Changes.{Change, IsOf, is_changed}
 use Rattle.store_abstraction.specs.Metadata.{row_of_share}
 use Rattle.store_abstraction.specs.Plan.{OrgPlan}
 use Rattle.store_abstraction.specs.Stands.{row_in}
-use Rattle.record_diff.proofs.Records.{named}
-use Rattle.record_diff.proofs.Turned.{clash, pick, same_exact, same_itself}
+use Rattle.record_index.proofs.Records.{named}
 use Rattle.base_value.specs.Principals.{principal_cmp}
 use Rattle.base_value.specs.declared.sharing.Level.TheVariants.{Read}
 use Rattle.base_value.specs.declared.sharing.Principal.{Principal}
@@ -41,11 +43,6 @@ use Rattle.base_value.specs.declared.sharing.Principal.{Principal}
 -- what `base_value` says of principals
 abbrev pub SamePrincipals : Type 0
 SamePrincipals = (p q : Principal) → IsTrue (eq_by_cmp principal_cmp p q) ↔ (p ≡ q)
-
-first_equal : (a b : Ordering) → is_eq (ordering_then a b) ≡ true → (is_eq a ≡ true) × (is_eq b ≡ true)
-first_equal Less b e = absurd cc
-first_equal Equal b e = (refl, e)
-first_equal Greater b e = absurd cc
 
 -- ---- what is found among shares
 

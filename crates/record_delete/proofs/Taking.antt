@@ -20,10 +20,10 @@ use Rattle.model_invariant.specs.Fit.{IsCaller}
 use Rattle.store_abstraction.specs.Changes.{Change, IsOf, is_changed}
 use Rattle.store_abstraction.specs.Plan.{FitsPlan, OrgPlan}
 use Rattle.store_abstraction.specs.Stands.{org_of_key, row_in}
-use Rattle.record_diff.specs.Touched.{AreCounts, HasSoundRows, IsTouched, NoneTakes, has, touched_by, touched_changes}
+use Rattle.record_index.specs.diff.Touched.{AreCounts, HasSoundRows, IsTouched, NoneTakes, has, touched_by, touched_changes}
 use Rattle.base_value.specs.Dates.{is_moment}
 
--- what `record_diff` says of what is touched, and `model_invariant` of the tenants that deletes leave
+-- what `record_index` says of what is touched, and `model_invariant` of the tenants that deletes leave
 abbrev pub Are : Type 0
 Are = (org : ℕ) (p q : OrgPlan) (t u : Tenant) (ids : List (List ℕ)) (counts : List Change)
     → IsTouched p q t u ids → HasSoundRows p t → HasSoundRows q u → NoneTakes p q t u ids → AreCounts org p q t u counts

@@ -1,17 +1,16 @@
 -- The record that an id names once some are gone.
 use Rattle.std.proofs.Common.{◌≡◌, ◌∙◌, ℕ, Bool, true, false, not, ◌&&◌, cond, List, [], ◌∷◌, map, filter, Option, Some, None, refl, sym, ap, bytes_eq, ℤ}
-use Rattle.std.proofs.lemmas.Slice.Eq.{bytes_eq-Decides}
+use Rattle.std.proofs.lemmas.Bool.{true≢false as true_false}
+use Rattle.base_lemmas.proofs.Texts.{same_from_bytes_eq as same_exact}
+use Rattle.base_lemmas.proofs.Bools.{and_first as and_left, and_second as and_right, by_answer as pick}
+use Rattle.std.proofs.lemmas.Option.{same_Some as some_is}
 use Rattle.record_cascade.proofs.Among.{any_has}
-use Rattle.record_read.proofs.Lists.{and_left, and_right, pick, some_is}
 use Rattle.model.specs.declared.record.Record.{Record}
 use Rattle.model.specs.Deletes.{cleared, has_id, is_cleared, loses_lookup, refers_into, refers_to_one_of, without}
 use Rattle.model.specs.Objects.{is_of, record_at}
 use Rattle.model.specs.Relationships.{Reference, references}
 use Rattle.model.specs.Tenant.{Tenant}
 use Rattle.model.specs.World.{having_id}
-
-pub true_false : true ≡ false → ⊥
-true_false e = absurd cc
 
 -- a record that loses a lookup stays
 pub stays_not_gone : (t : Tenant) (rs : List Record) (r : Record) → loses_lookup t rs r ≡ true → has_id rs r.id ≡ false
@@ -22,9 +21,6 @@ stays_not_gone t rs r loses =
     by : (b : Bool) → not b ≡ true → b ≡ false
     by true e = absurd cc
     by false e = refl
-
-same_exact : (a b : List ℕ) → bytes_eq a b ≡ true → a ≡ b
-same_exact a b e = (bytes_eq-Decides a b).0 e
 
 module _ (now : ℤ) (t : Tenant) (gone : List Record) where
   abbrev after : Record → Record

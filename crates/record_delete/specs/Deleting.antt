@@ -17,7 +17,7 @@ use Rattle.model_invariant.specs.Fit.{IsCaller}
 use Rattle.store_abstraction.specs.Changes.{Change}
 use Rattle.store_abstraction.specs.Metadata.{org_of, row_of_object}
 use Rattle.store_abstraction.specs.Plan.{OrgPlan}
-use Rattle.record_diff.specs.Touched.{touched_changes}
+use Rattle.record_index.specs.diff.Touched.{touched_changes}
 
 -- ---- who deletes
 

@@ -18,7 +18,7 @@ ghost use Rattle.store_abstraction.specs.Calls.{Calls, ended};
 ghost use Rattle.store_abstraction.specs.Layouts.{IsLayout, own_layouts};
 ghost use Rattle.store_abstraction.specs.Local.{StandsIn};
 ghost use Rattle.store_abstraction.specs.Plan.{OrgPlan};
-ghost use Rattle.record_diff.specs.Touched.{changes_at, has, touched_changes};
+ghost use Rattle.record_index.specs.diff.Touched.{changes_at, has, touched_changes};
 
 use crate::object::{layout_for, record_there};
 use base_value::{Id, Items, Value, value_laws};

@@ -20,7 +20,7 @@ ghost use Rattle.store_abstraction.specs.Calls.{Calls, ended, ended_edit};
 ghost use Rattle.store_abstraction.specs.Layouts.{own_layouts};
 ghost use Rattle.store_abstraction.specs.Local.{StandsIn};
 ghost use Rattle.store_abstraction.specs.Plan.{OrgPlan};
-ghost use Rattle.record_diff.specs.Touched.{touched_changes};
+ghost use Rattle.record_index.specs.diff.Touched.{touched_changes};
 
 use crate::clearing::clear_records;
 use crate::counts::count_less;
@@ -31,8 +31,7 @@ use crate::removing::remove_records;
 use access_traits::Rights;
 use base_value::{Id, Items, Level, Text};
 use record_cascade::{Deletion, deletion_of};
-use record_diff::touched_laws;
-use record_index::pivot_laws;
+use record_index::{pivot_laws, touched_laws};
 use record_read::data_laws;
 use record_target::{Named, find_permitted, is_ready};
 use std::alloc::Global;

@@ -14,11 +14,11 @@ ghost use Rattle.model.specs.Tenant.{Tenant};
 ghost use Rattle.model.specs.Verdict.{done};
 ghost use Rattle.model_invariant.specs.Fit.{IsCaller};
 ghost use Rattle.store_abstraction.specs.Plan.{FitsPlan, OrgPlan};
-ghost use Rattle.record_diff.specs.Touched.{AreCounts, touched_changes};
+ghost use Rattle.record_index.specs.diff.Touched.{AreCounts, touched_changes};
 
 use base_value::principal_laws;
 use model_invariant::deletes_sound;
-use record_diff::touched_laws;
+use record_index::touched_laws;
 
 /// The laws of the rows of records that go. The call does nothing.
 pub fn delete_laws()

@@ -3,7 +3,8 @@ use Rattle.std.proofs.Common.{◌≡◌, ◌⊎◌, inl, inr, ℕ, suc, ◌≤�
 use Rattle.std.specs.Prelude.{slice_get}
 use Rattle.std.specs.List.{enumerate_from, find, range_with_len}
 use Rattle.std.specs.Option.{option_and_then, option_map}
-use Rattle.formula_eval.specs.Meaning.{value_at}
+use Rattle.base_lemmas.proofs.Bools.{by_answer as pick}
+use Rattle.formula.specs.Meaning.{value_at}
 use Rattle.store_rows.specs.declared.data.DataRow.{DataRow}
 use Rattle.store_rows.specs.Keys.{Index, Key, Relation, Unique}
 use Rattle.model.specs.Cases.{in_case}
@@ -12,7 +13,6 @@ use Rattle.model.specs.declared.record.Record.{Record}
 use Rattle.record_index.specs.Changed.{index_key, reference_key, row_turned, slot_changes, unique_key}
 use Rattle.record_index.specs.Made.{entry_of}
 use Rattle.record_index.specs.Turned.{copied_entry, copied_of, copied_there, turned_changes, turned_entry, values_turned}
-use Rattle.record_index.proofs.Cases.{pick}
 use Rattle.record_index.proofs.CopiedEntries.{same_key}
 use Rattle.record_index.proofs.Few.{flat_few, go_few, turned_few}
 use Rattle.record_index.proofs.Turned.{turned_nothing}

@@ -4,6 +4,8 @@ use Rattle.std.specs.Prelude.{IfSome, slice_get}
 use Rattle.std.specs.List.{enumerate_from}
 use Rattle.std.specs.Option.{option_and_then}
 use Rattle.std.proofs.lemmas.Bool.{eqb-true}
+use Rattle.base_lemmas.proofs.Bools.{and_first as and_left, by_answer as pick}
+use Rattle.std.proofs.lemmas.Option.{same_Some as some_is}
 use Rattle.model.specs.Cases.{in_case}
 use Rattle.model.specs.Objects.{object_numbered}
 use Rattle.model.specs.RuleFormulas.{is_copy}
@@ -11,7 +13,6 @@ use Rattle.model.specs.Sound.{IsSound}
 use Rattle.model.specs.SoundJob.{IsSoundChange, IsSoundJob, job_field}
 use Rattle.model.specs.Tenant.{Field, Job, Object, Tenant}
 use Rattle.record_index.specs.Turned.{converts, converts_to}
-use Rattle.record_index.proofs.Cases.{and_left, pick, some_is}
 use Rattle.store_abstraction.specs.Layouts.{job_place, layout_of, place_of}
 use Rattle.store_abstraction.specs.Plan.{OrgPlan, slot_type}
 use Rattle.store_abstraction.specs.declared.layout.FieldPlace.{FieldPlace}

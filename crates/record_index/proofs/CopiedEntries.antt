@@ -8,7 +8,8 @@ use Rattle.std.specs.Option.{option_and_then, option_eq, option_map}
 use Rattle.std.specs.Ordering.{ordering_reverse}
 use Rattle.std.proofs.lemmas.Cmp.{nat_list_cmp_total}
 use Rattle.std.proofs.lemmas.Slice.Eq.{bytes_eq-Decides}
-use Rattle.formula_eval.specs.Meaning.{value_at}
+use Rattle.base_lemmas.proofs.Bools.{by_answer as pick}
+use Rattle.formula.specs.Meaning.{value_at}
 use Rattle.store_rows.specs.Keys.{Index, Relation, Unique}
 use Rattle.model.specs.declared.record.Record.{Record}
 use Rattle.model.specs.Cases.{in_case}
@@ -17,7 +18,6 @@ use Rattle.model.specs.Tenant.{Field, Job, Object, Tenant}
 use Rattle.model.specs.Updates.{is_copied}
 use Rattle.record_index.specs.Changed.{index_key, reference_key, slot_changes, unique_key}
 use Rattle.record_index.specs.Turned.{copied_entry, copied_of, copied_there, copied_value}
-use Rattle.record_index.proofs.Cases.{pick}
 use Rattle.record_index.proofs.Turned.{turned_nothing}
 use Rattle.store_abstraction.specs.Changes.{Change}
 use Rattle.store_abstraction.specs.Entries.{Entry, job_entry, job_value, other_entry}

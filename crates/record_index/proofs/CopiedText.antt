@@ -4,10 +4,11 @@ use Rattle.std.specs.Prelude.{IfSome, Ok, ok_or, slice_get}
 use Rattle.std.specs.List.{AllByRecursion}
 use Rattle.std.proofs.lemmas.List.{length-set}
 use Rattle.std.proofs.lemmas.List.Elements.{All-from_recursion, recursion_from_All}
+use Rattle.base_lemmas.proofs.Bools.{and_first as and_left, and_second as and_right, by_answer as pick}
 use Rattle.record_read.specs.Decoding.{has_types, kinds_in}
 use Rattle.record_read.proofs.Fits.{PrintsShort, value_fits}
 use Rattle.record_read.proofs.RowFits.{ConvertsValid}
-use Rattle.formula_eval.specs.Meaning.{value_at}
+use Rattle.formula.specs.Meaning.{value_at}
 use Rattle.store_rows.specs.declared.data.DataRow.{DataRow}
 use Rattle.store_rows.specs.Forms.{FitsForm}
 use Rattle.store_rows.specs.Rows.{data_form}
@@ -17,7 +18,6 @@ use Rattle.model.specs.Updates.{is_copied}
 use Rattle.model.specs.declared.record.Record.{Record}
 use Rattle.store_codec.specs.Plain.{FitsText}
 use Rattle.record_index.specs.Turned.{converts, converts_to, copied_value, with_text}
-use Rattle.record_index.proofs.Cases.{and_left, and_right, pick}
 use Rattle.record_index.proofs.CopiedEntries.{copies}
 use Rattle.record_index.proofs.TurnedValues.{field_converts, field_typed, field_valid, value_missing, value_there}
 use Rattle.store_abstraction.specs.Entries.{slot_text}

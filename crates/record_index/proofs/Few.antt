@@ -3,6 +3,7 @@ use Rattle.std.proofs.Common.{◌≡◌, ℕ, ◌+◌, ◌*◌, ◌≤◌, cond,
 use Rattle.std.specs.Prelude.{bytes_eq}
 use Rattle.std.specs.List.{flat_map, range_with_len}
 use Rattle.std.proofs.Math.Nat.{suc-mul}
+use Rattle.base_lemmas.proofs.Bools.{by_answer as pick}
 use Rattle.store_edit.specs.Rows.{gone_of, spelled}
 use Rattle.store_kv.specs.State.{data_rows}
 use Rattle.store_rows.specs.declared.data.DataRow.{DataRow}
@@ -12,7 +13,6 @@ use Rattle.record_index.specs.Changed.{index_key, reference_key, slot_changes, r
 use Rattle.record_index.specs.Made.{layout_entry, made_changes, values_made}
 use Rattle.record_index.specs.Removed.{removed_changes, removed_entry, values_removed}
 use Rattle.record_index.specs.Turned.{turned_changes, turned_entry, values_turned}
-use Rattle.record_index.proofs.Cases.{pick}
 use Rattle.store_abstraction.specs.Changes.{Change}
 use Rattle.store_abstraction.specs.Entries.{Entry}
 use Rattle.store_abstraction.specs.declared.layout.Layout.{Layout}

@@ -1,4 +1,16 @@
-pub mod Cases
+pub mod DiffTurned
+pub mod Records
+pub mod Same
+pub mod Touching
+pub mod Uniques
+pub mod Puts
+pub mod Rest
+pub mod Edits
+pub mod Plans
+pub mod Single
+pub mod Keeping
+pub mod Deleting
+pub mod Unmoved
 pub mod Cleared
 pub mod Converting
 pub mod CopiedEntries

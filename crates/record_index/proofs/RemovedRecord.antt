@@ -3,10 +3,12 @@ use Rattle.std.proofs.Common.{◌≡◌, ℕ, suc, Bool, true, false, not, ◌&&
 use Rattle.std.specs.Prelude.{IfSome, codes, slice_get, slice_index_or}
 use Rattle.std.specs.List.{range_with_len}
 use Rattle.std.specs.Option.{option_and_then, option_map}
-use Rattle.std.proofs.lemmas.Bool.{eq-eqb, eqb-true}
+use Rattle.std.proofs.lemmas.Bool.{eq-eqb, eqb-true, true≢false as clash}
+use Rattle.base_lemmas.proofs.Bools.{and_first as and_left, by_answer as pick}
+use Rattle.std.proofs.lemmas.Option.{same_Some as some_is}
 use Rattle.record_read.specs.Decoding.{read_slot}
 use Rattle.record_read.proofs.Texts.{PrintsBack, slot_back}
-use Rattle.formula_eval.specs.Meaning.{value_at}
+use Rattle.formula.specs.Meaning.{value_at}
 use Rattle.store_rows.specs.declared.data.DataRow.{DataRow}
 use Rattle.store_rows.specs.Keys.{Data}
 use Rattle.model.specs.declared.record.Record.{Record}
@@ -22,7 +24,6 @@ use Rattle.record_index.specs.Changed.{SameKeys, record_changes, slot_changes}
 use Rattle.record_index.specs.Made.{entry_of}
 use Rattle.record_index.specs.Removed.{beside_entry, beside_of, beside_there, beside_value, is_left, left_value, removed_changes, removed_entry, text_value, values_removed}
 use Rattle.record_index.specs.Turned.{copied_value}
-use Rattle.record_index.proofs.Cases.{and_left, pick, some_is}
 use Rattle.record_index.proofs.Converting.{the_field}
 use Rattle.record_index.proofs.CopiedEntries.{copied_is, field_there}
 use Rattle.record_index.proofs.NewRecord.{flat_same, kept_is}
@@ -68,9 +69,6 @@ false_keys kind false false a b = record { index = refl; unique = refl; referenc
 truth_kind : (kind : FieldType) (truth : Bool) → valid kind (value.Bool truth) ≡ true → is_checkbox kind ≡ true
 truth_kind type.Checkbox truth h = refl
 truth_kind _ truth h = absurd cc
-
-clash : true ≡ false → ⊥
-clash e = cc
 
 module _ (prints : PrintsBack) (kind : FieldType) (indexed unique : Bool) (plain : IsPlain kind indexed unique) where
   abbrev entry : Option Value → Option Entry

@@ -4,9 +4,10 @@ use Rattle.std.specs.Prelude.{slice_get}
 use Rattle.std.specs.List.{AllByRecursion, enumerate_from, find}
 use Rattle.std.specs.Option.{option_and_then, option_copied, option_map}
 use Rattle.std.proofs.lemmas.Bool.{eq-eqb, eqb-true}
+use Rattle.std.proofs.lemmas.List.{append-nil as append_nothing}
 use Rattle.record_read.specs.Encoding.{field_of_slot}
 use Rattle.store_edit.specs.Rows.{spelled}
-use Rattle.formula_eval.specs.Meaning.{value_at}
+use Rattle.formula.specs.Meaning.{value_at}
 use Rattle.store_kv.specs.declared.keeper.Change.{Change as Spelled}
 use Rattle.store_rows.specs.declared.data.DataRow.{DataRow}
 use Rattle.store_rows.specs.Keys.{Data, FitsKey}
@@ -15,7 +16,7 @@ use Rattle.model.specs.declared.record.Record.{Record}
 use Rattle.record_index.specs.Changed.{SameKeys, slot_changes}
 use Rattle.record_index.specs.Made.{entry_of, layout_entry}
 use Rattle.record_index.specs.Removed.{beside_entry, beside_of, beside_there, beside_value, removed_changes, removed_entry, values_removed}
-use Rattle.record_index.proofs.Turned.{all_both, append_nothing, then_these}
+use Rattle.record_index.proofs.Turned.{all_both, then_these}
 use Rattle.record_index.proofs.TurnedValues.{copied_keys, given, given_keys, keys_turn}
 use Rattle.record_index.proofs.Values.{AllFit, entry_is, slots_more}
 use Rattle.store_abstraction.specs.Changes.{Change}

@@ -4,9 +4,9 @@ use Rattle.std.specs.List.{enumerate_from, find}
 use Rattle.std.specs.Prelude.{slice_get}
 use Rattle.std.specs.Option.{option_and_then, option_map}
 use Rattle.std.proofs.lemmas.Bool.{eqb-true}
+use Rattle.base_lemmas.proofs.Bools.{by_answer as pick}
 use Rattle.model.specs.declared.record.Record.{Record}
 use Rattle.model.specs.Tenant.{Field, Job, Object}
-use Rattle.record_index.proofs.Cases.{pick}
 use Rattle.store_abstraction.specs.Entries.{Entry, job_entry, job_value, other_entry}
 use Rattle.store_abstraction.specs.Layouts.{place_of}
 use Rattle.store_abstraction.specs.Plan.{OrgPlan}

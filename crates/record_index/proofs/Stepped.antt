@@ -8,9 +8,10 @@ use Rattle.std.proofs.lemmas.Bool.{eq-eqb, eqb-true}
 use Rattle.std.proofs.lemmas.Grind.{get_or-set_at}
 use Rattle.std.proofs.lemmas.List.{get_or-set_other}
 use Rattle.std.proofs.lemmas.List.FromFn.{get_or-map-range_with_len, length-map-range_with_len}
+use Rattle.base_lemmas.proofs.Bools.{by_answer as pick}
 use Rattle.record_read.specs.Encoding.{field_of_slot, kept_text, row_from, text_of_slot, texts_of_slots, value_text}
 use Rattle.record_read.proofs.Texts.{PrintsBack}
-use Rattle.formula_eval.specs.Meaning.{value_at}
+use Rattle.formula.specs.Meaning.{value_at}
 use Rattle.store_rows.specs.declared.data.DataRow.{DataRow}
 use Rattle.model.specs.declared.record.Record.{Record}
 use Rattle.model.specs.Cases.{in_case}
@@ -22,7 +23,6 @@ use Rattle.model.specs.Updates.{is_copied}
 use Rattle.record_index.specs.Changed.{SameKeys}
 use Rattle.record_index.specs.Removed.{beside_entry, beside_of, beside_there, beside_value, is_left, left_value}
 use Rattle.record_index.specs.Turned.{copied_there, copied_value, turned_row, with_text}
-use Rattle.record_index.proofs.Cases.{pick}
 use Rattle.record_index.proofs.CopiedEntries.{copied_is, copies, field_there, past_is, there_is}
 use Rattle.record_index.proofs.RemovedRecord.{beside_keys}
 use Rattle.record_index.proofs.SlotEntries.{entry_none}

@@ -4,7 +4,8 @@ use Rattle.std.specs.Prelude.{IfSome, bytes_eq}
 use Rattle.std.specs.List.{AllByRecursion}
 use Rattle.std.specs.Option.{option_eq}
 use Rattle.std.proofs.lemmas.Option.{IfSome_then}
-use Rattle.record_index.proofs.Cases.{pick}
+use Rattle.std.proofs.lemmas.List.{append-nil as append_nothing}
+use Rattle.base_lemmas.proofs.Bools.{by_answer as pick}
 use Rattle.store_edit.specs.Rows.{spelled}
 use Rattle.store_kv.specs.declared.keeper.Change.{Change as Spelled}
 use Rattle.store_rows.specs.Keys.{FitsKey, Index, Key, Relation, Unique}
@@ -19,10 +20,6 @@ use Rattle.base_value.specs.Id.{is_id}
 pub map_both : (xs ys : List Change) → map spelled (xs ++ ys) ≡ map spelled xs ++ map spelled ys
 map_both [] ys = refl
 map_both (x ∷ xs) ys = ap (λ (cs : List Spelled). spelled x ∷ cs) (map_both xs ys)
-
-pub append_nothing : (xs : List Spelled) → xs ++ [] ≡ xs
-append_nothing [] = refl
-append_nothing (x ∷ xs) = ap (λ (cs : List Spelled). x ∷ cs) (append_nothing xs)
 
 pub all_both : (xs ys : List Change) → AllByRecursion (λ c. FitsKey c.0) xs → AllByRecursion (λ c. FitsKey c.0) ys → AllByRecursion (λ c. FitsKey c.0) (xs ++ ys)
 all_both [] ys a b = b

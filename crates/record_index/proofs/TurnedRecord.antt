@@ -1,5 +1,5 @@
 -- What is turned of a record whose values change is what differs.
-use Rattle.std.proofs.Common.{◌≡◌, ◌≢◌, ℕ, zero, suc, ◌+◌, ◌<◌, ◌&&◌, Bool, true, cond, eqb, IsTrue, List, ◌∷◌, length, map, set, Option, Some, None, refl, sym, ap, ap₂, subst, ◌∙◌, arith}
+use Rattle.std.proofs.Common.{◌≡◌, ◌≢◌, ℕ, suc, ◌<◌, ◌&&◌, Bool, true, cond, eqb, IsTrue, List, ◌∷◌, length, set, Option, Some, None, refl, sym, ap, ap₂, subst, ◌∙◌, arith}
 use Rattle.std.specs.Prelude.{slice_get, slice_index_or}
 use Rattle.std.specs.List.{list_all, range_with_len}
 use Rattle.std.specs.Option.{option_and_then, option_map}
@@ -7,9 +7,12 @@ use Rattle.std.proofs.lemmas.Bool.{eq-eqb, eqb-true}
 use Rattle.std.proofs.lemmas.Grind.{get_or-set_at}
 use Rattle.std.proofs.lemmas.List.{get_or-set_other}
 use Rattle.std.proofs.lemmas.List.FromFn.{get_or-map-range_with_len, length-map-range_with_len}
+use Rattle.base_lemmas.proofs.Lists.{map-range_with_len_same as same_below}
+use Rattle.base_lemmas.proofs.Bools.{by_answer as pick}
+use Rattle.std.proofs.lemmas.Option.{same_Some as some_is}
 use Rattle.record_read.specs.Encoding.{field_of_slot, kept_text, row_from, text_of_slot, texts_of_slots, value_text}
 use Rattle.record_read.proofs.Writing.{number_same}
-use Rattle.formula_eval.specs.Meaning.{value_at}
+use Rattle.formula.specs.Meaning.{value_at}
 use Rattle.store_rows.specs.declared.data.DataRow.{DataRow}
 use Rattle.store_rows.specs.Forms.{row_bytes}
 use Rattle.store_rows.specs.Keys.{Data}
@@ -22,7 +25,6 @@ use Rattle.model.specs.Updates.{is_copied}
 use Rattle.record_index.specs.Changed.{record_changes, slot_changes}
 use Rattle.record_index.specs.Made.{entry_of}
 use Rattle.record_index.specs.Turned.{copied_entry, copied_there, turned_changes, turned_entry, turned_row, values_turned, with_text}
-use Rattle.record_index.proofs.Cases.{pick, some_is}
 use Rattle.record_index.proofs.CopiedEntries.{copies, others_turn, there_is, value_stays}
 use Rattle.record_index.proofs.NewRecord.{flat_same, kept_is}
 use Rattle.record_index.proofs.SlotEntries.{found_same}
@@ -43,10 +45,6 @@ RowRewritten = (org n : ℕ) (p : OrgPlan) (t : Tenant) (o : Object) (q r : Reco
     → row_from (layout_of org p t (record { number = n; object = o })) r (Some (data_of org n q (slot_entry p t.job n o q))) ≡ data_of org n r (slot_entry p t.job n o r)
 
 -- ---- a row that is made over others: what they have in slots of fields doesn't matter
-
-same_below : {X : Type 0} (f g : ℕ → X) (a n : ℕ) → ((i : ℕ) → i < a + n → f i ≡ g i) → map f (range_with_len a n) ≡ map g (range_with_len a n)
-same_below f g a zero e = refl
-same_below f g a (suc n) e = rw (e a (omega arith), same_below f g (a + 1) n (λ i lt. e i (omega (arith, lt)))) refl
 
 abbrev SameBeside : Layout → DataRow → DataRow → Type 0
 SameBeside l a b = (s : ℕ) → s < slot_count → field_of_slot l.fields s ≡ None → slice_index_or a.slots s None ≡ slice_index_or b.slots s None

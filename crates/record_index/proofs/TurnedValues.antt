@@ -4,11 +4,14 @@ use Rattle.std.specs.Prelude.{slice_get}
 use Rattle.std.specs.List.{AllByRecursion, enumerate_from, find}
 use Rattle.std.specs.Option.{option_and_then, option_copied, option_map}
 use Rattle.std.proofs.lemmas.Bool.{eq-eqb, eqb-true}
+use Rattle.base_lemmas.proofs.Bools.{and_second as and_right}
+use Rattle.std.proofs.lemmas.Option.{same_Some as some_is}
+use Rattle.std.proofs.lemmas.List.{append-nil as append_nothing}
 use Rattle.record_read.specs.Decoding.{has_types, kinds_in}
 use Rattle.record_read.specs.Encoding.{field_of_slot}
 use Rattle.record_read.proofs.RowFits.{typed_at, valid_at}
 use Rattle.store_edit.specs.Rows.{change_to, spelled}
-use Rattle.formula_eval.specs.Meaning.{value_at}
+use Rattle.formula.specs.Meaning.{value_at}
 use Rattle.store_kv.specs.declared.keeper.Change.{Change as Spelled}
 use Rattle.store_rows.specs.declared.data.DataRow.{DataRow}
 use Rattle.store_rows.specs.Forms.{FitsForm}
@@ -20,8 +23,7 @@ use Rattle.model.specs.declared.record.Record.{Record}
 use Rattle.record_index.specs.Changed.{SameKeys, index_key, reference_key, row_turned, slot_changes, unique_key}
 use Rattle.record_index.specs.Made.{entry_of, layout_entry}
 use Rattle.record_index.specs.Turned.{converts, converts_to, copied_entry, copied_of, copied_there, copied_value, turned_changes, turned_entry, turned_row, values_turned}
-use Rattle.record_index.proofs.Cases.{and_right, some_is}
-use Rattle.record_index.proofs.Turned.{all_both, append_nothing, then_these}
+use Rattle.record_index.proofs.Turned.{all_both, then_these}
 use Rattle.record_index.proofs.Values.{AllFit, entry_is, slots_more}
 use Rattle.store_abstraction.specs.Changes.{Change}
 use Rattle.store_abstraction.specs.Entries.{Entry}

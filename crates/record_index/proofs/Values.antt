@@ -4,10 +4,12 @@ use Rattle.std.specs.Prelude.{slice_get, slice_index_or}
 use Rattle.std.specs.List.{AllByRecursion, enumerate_from, find, flat_map, range_with_len}
 use Rattle.std.specs.Option.{option_map}
 use Rattle.std.proofs.lemmas.Grind.{flat_map-append}
+use Rattle.base_lemmas.proofs.Bools.{by_answer as pick}
+use Rattle.std.proofs.lemmas.Option.{same_Some as some_is}
+use Rattle.std.proofs.lemmas.List.{append-nil as append_nothing}
 use Rattle.record_read.specs.Encoding.{field_of_slot, row_from}
-use Rattle.record_index.proofs.Cases.{pick, some_is}
 use Rattle.store_edit.specs.Rows.{change_to, spelled}
-use Rattle.formula_eval.specs.Meaning.{value_at}
+use Rattle.formula.specs.Meaning.{value_at}
 use Rattle.store_kv.specs.declared.keeper.Change.{Change as Spelled}
 use Rattle.store_rows.specs.declared.data.DataRow.{DataRow}
 use Rattle.store_rows.specs.Forms.{FitsForm}
@@ -16,7 +18,7 @@ use Rattle.store_rows.specs.Rows.{data_form}
 use Rattle.model.specs.declared.record.Record.{Record}
 use Rattle.record_index.specs.Changed.{slot_changes}
 use Rattle.record_index.specs.Made.{entry_of, layout_entry, made_changes, values_made}
-use Rattle.record_index.proofs.Turned.{all_both, append_nothing, then_these}
+use Rattle.record_index.proofs.Turned.{all_both, then_these}
 use Rattle.store_abstraction.specs.Changes.{Change}
 use Rattle.store_abstraction.specs.Entries.{Entry}
 use Rattle.store_abstraction.specs.declared.layout.FieldPlace.{FieldPlace}

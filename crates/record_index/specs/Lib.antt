@@ -1,3 +1,4 @@
+pub mod diff
 pub mod Changed
 pub mod Made
 pub mod Removed

@@ -4,7 +4,7 @@ use Rattle.std.specs.List.{enumerate_from, find, flat_map, range_with_len}
 use Rattle.std.specs.Option.{option_map}
 use Rattle.record_read.specs.Encoding.{row_from}
 use Rattle.store_edit.specs.Rows.{change_to}
-use Rattle.formula_eval.specs.Meaning.{value_at}
+use Rattle.formula.specs.Meaning.{value_at}
 use Rattle.store_rows.specs.Rows.{data_form}
 use Rattle.model.specs.declared.record.Record.{Record}
 use Rattle.record_index.specs.Changed.{slot_changes}

@@ -2,7 +2,7 @@
 
 ghost use Rattle.std.specs.Prelude.{◌≡◌, IfOk, IfSome, IsTrue, None, Some, suc};
 ghost use Rattle.record_read.specs.Decoding.{has_types, kinds_in};
-ghost use Rattle.formula_eval.specs.Meaning.{value_at};
+ghost use Rattle.formula.specs.Meaning.{value_at};
 ghost use Rattle.model.specs.SoundRecords.{all_valid};
 ghost use Rattle.model.specs.Updates.{is_copied};
 ghost use Rattle.store_codec.specs.Plain.{FitsText};

@@ -2,7 +2,7 @@ ghost use Rattle.std.specs.Prelude.{◌≡◌, ◌⊎◌, ◌≤◌, ℕ, [], Is
 ghost use Rattle.std.specs.List.{list_all};
 ghost use Rattle.record_read.specs.Encoding.{row_from};
 ghost use Rattle.store_edit.specs.Rows.{gone_of, spelled};
-ghost use Rattle.formula_eval.specs.Meaning.{value_at};
+ghost use Rattle.formula.specs.Meaning.{value_at};
 ghost use Rattle.store_rows.specs.declared.data.DataRow.{DataRow};
 ghost use Rattle.model.specs.declared.record.Record.{Record};
 ghost use Rattle.model.specs.Jobs.{is_past};

@@ -5,7 +5,7 @@ ghost use Rattle.std.specs.List.{AllByRecursion};
 ghost use Rattle.record_read.specs.Decoding.{has_types, kinds_in};
 ghost use Rattle.record_read.specs.Encoding.{field_of_slot};
 ghost use Rattle.store_edit.specs.Rows.{spelled};
-ghost use Rattle.formula_eval.specs.Meaning.{value_at};
+ghost use Rattle.formula.specs.Meaning.{value_at};
 ghost use Rattle.store_rows.specs.Forms.{FitsForm};
 ghost use Rattle.store_rows.specs.Keys.{Data, FitsKey};
 ghost use Rattle.store_rows.specs.Rows.{data_form};

@@ -1,8 +1,10 @@
 -- The columns of a sound object: no two have one name.
-use Rattle.std.proofs.Common.{◌≡◌, ◌⊎◌, inl, inr, ℕ, ◌+◌, zero, suc, Bool, true, false, not, ◌||◌, ◌==◌, ◌-◌, cond, if◌then◌else◌, List, [], ◌∷◌, ◌++◌, map, drop, length, Some, None, refl, sym, ap, subst, ◌∙◌, bytes_eq}
-use Rattle.std.proofs.lemmas.Slice.Eq.{bytes_eq-Decides}
+use Rattle.std.proofs.Common.{◌≡◌, ◌⊎◌, inl, inr, ℕ, ◌+◌, zero, suc, Bool, true, false, not, ◌==◌, ◌-◌, cond, if◌then◌else◌, List, [], ◌∷◌, ◌++◌, map, drop, length, Some, None, refl, sym, ap, subst, ◌∙◌, bytes_eq}
 use Rattle.std.specs.Prelude.{codes, slice_get}
 use Rattle.std.specs.List.{AllByRecursion, enumerate_from, find, list_any}
+use Rattle.std.proofs.lemmas.Bool.{true≢false as apart, or_left as or_first, or_right as or_second}
+use Rattle.base_lemmas.proofs.Texts.{bytes_eq-self as same_itself, same_from_bytes_eq as same_exact}
+use Rattle.base_lemmas.proofs.Bools.{and_first as and_left, and_second as and_right}
 use Rattle.base_value.specs.Texts.{lower, texts_differ}
 use Rattle.base_value.specs.declared.value.FieldType.TheVariants as type
 use Rattle.model.specs.declared.record_bodies.Assignment.{Assignment}
@@ -15,26 +17,8 @@ use Rattle.model.specs.SoundMetadata.{IsSoundField, IsSoundObject, names_differ}
 use Rattle.model.specs.Tenant.{Field, Object, Tenant}
 use Rattle.record_input.specs.declared.found.Found.{Found}
 use Rattle.record_input.specs.Given.{Finds, FindsNamed}
-use Rattle.record_input.proofs.Searching.{and_left, and_right}
 
 -- ---- lists
-
-apart : true ≡ false → ⊥
-apart e = cc
-
-same_itself : (text : List ℕ) → bytes_eq text text ≡ true
-same_itself text = (bytes_eq-Decides text text).1 refl
-
-same_exact : (a b : List ℕ) → bytes_eq a b ≡ true → a ≡ b
-same_exact a b = (bytes_eq-Decides a b).0
-
-or_first : (a b : Bool) → a ≡ true → (a || b) ≡ true
-or_first true b h = refl
-or_first false b h = absurd cc
-
-or_second : (a b : Bool) → b ≡ true → (a || b) ≡ true
-or_second true b h = refl
-or_second false b h = h
 
 has_either : {X : Type 0} (xs ys : List X) (x : X) → Has (xs ++ ys) x → (Has xs x) ⊎ (Has ys x)
 has_either [] ys x has = inr has

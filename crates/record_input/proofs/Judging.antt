@@ -2,9 +2,10 @@
 use Rattle.std.proofs.Common.{◌≡◌, inl, inr, ℕ, ◌+◌, IsTrue, List, [], ◌∷◌, ◌++◌, map, length, append_assoc, Some, None, Ok, Err, refl, sym, ap, subst, ◌∙◌}
 use Rattle.std.specs.List.{list_all}
 use Rattle.std.proofs.lemmas.List.{append-nil, length-append, map-append}
+use Rattle.base_lemmas.proofs.Bools.{and_first as and_left, and_second as and_right}
 use Rattle.base_value.specs.Types.{is_type}
 use Rattle.base_value.specs.declared.value.Value.{Value}
-use Rattle.formula_eval.specs.Meaning.{value_at}
+use Rattle.formula.specs.Meaning.{value_at}
 use Rattle.model.specs.declared.record.Record.{Record}
 use Rattle.model.specs.declared.record_bodies.Assignment.{Assignment}
 use Rattle.model.specs.declared.refusal.Refusal.{Refusal}
@@ -22,7 +23,6 @@ use Rattle.record_input.specs.Given.{FindsFor, all_given}
 use Rattle.record_input.specs.inner.Fields.{column_at, columns_from}
 use Rattle.record_input.specs.inner.Found.{FindsAmong}
 use Rattle.record_input.specs.inner.Read.{JudgesValue, Refuses, refused, refused_among, value_over}
-use Rattle.record_input.proofs.Searching.{and_left, and_right}
 
 -- these values were read, none of them refused, and those of the rest are still to be read
 pub record Judged (t : Tenant) (x : AllGiven) (old : Record) (fields : List FieldPlace) (name : Value) (rest : List FieldPlace) (read : List Value) : Type 0 where
@@ -121,9 +121,6 @@ pub owner_stops : (t : Tenant) (o : Object) (given : List Assignment) (e : Unrea
     → refused (given_to t given name_column) ≡ None → Refuses (refused_among t given (owner_columns o)) e → Refuses (bad_value t o given) e
 owner_stops t o given (Refused refusal) name owner = owner_refused t o given refusal name owner
 owner_stops t o given Memory name owner = tt
-
-pub no_more : (vs : List Value) → vs ++ [] ≡ vs
-no_more vs = append-nil vs
 
 -- the same, where the columns are those of other fields
 pub error_of_fields : (t : Tenant) (o : Object) (given : List Assignment) (fields : List FieldPlace) (e : Unread)

@@ -2,6 +2,7 @@
 use Rattle.std.proofs.Common.{◌≡◌, inl, inr, ℕ, Bool, true, false, if◌then◌else◌, IsTrue, List, [], ◌∷◌, ◌++◌, suc, Option, Some, None, Ok, Err, refl, sym, ap, subst, ◌∙◌}
 use Rattle.std.specs.List.{list_all}
 use Rattle.std.specs.Option.{option_map}
+use Rattle.base_lemmas.proofs.Bools.{and_first as and_left, and_second as and_right}
 use Rattle.base_value.specs.Digits.{digits}
 use Rattle.base_value.specs.Id.{made}
 use Rattle.base_value.specs.Reading.{Read, read_value}
@@ -23,7 +24,7 @@ use Rattle.model.specs.Tenant.{Field, Object, Tenant}
 use Rattle.record_input.specs.declared.found.Found.{Found}
 use Rattle.record_input.specs.Given.{FindNone, Finds, IsFound, IsInJson, IsKnown, finds_none, given_columns, is_json}
 use Rattle.record_input.specs.inner.Found as inner
-use Rattle.record_input.proofs.Searching.{all_pass, and_left, and_right}
+use Rattle.record_input.proofs.Searching.{all_pass}
 
 -- ---- the reference
 

@@ -3,6 +3,7 @@ use Rattle.std.proofs.Common.{◌≡◌, ◌⊎◌, inl, inr, ℕ, Bool, true, f
 use Rattle.std.specs.Prelude.{codes}
 use Rattle.std.specs.List.{find}
 use Rattle.std.specs.Option.{option_map}
+use Rattle.std.proofs.lemmas.Option.{none-some as no_target}
 use Rattle.base_json.specs.declared.tree.Json.{Json}
 use Rattle.base_json.specs.declared.tree.Json.TheVariants as json
 use Rattle.base_value.specs.Id.{id_in}
@@ -58,10 +59,6 @@ json_alike name json.Null = refl
 json_alike name (json.Number n) = refl
 json_alike name (json.Bool b) = refl
 json_alike name _ = refl
-
--- an owner refers to no object, so none is found
-no_target : (object : ℕ) → ◌≡◌ {A = Option ℕ} None (Some object) → ⊥
-no_target object is = cc
 
 read_alike : (t : Tenant) (found : List Found) (g : Given) → IsKnown t found owner_column g → read_given t owner_column g ≡ read_given t owner_as_lookup g
 read_alike t found (gives.Read v) known = refl

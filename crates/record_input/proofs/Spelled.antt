@@ -1,6 +1,7 @@
 -- The fields of the object that a layout spells.
-use Rattle.std.proofs.Common.{◌≡◌, ℕ, ◌+◌, Bool, ◌||◌, List, [], ◌∷◌, map, Option, refl, sym, ap, ◌∙◌}
+use Rattle.std.proofs.Common.{◌≡◌, ℕ, ◌+◌, List, [], ◌∷◌, map, Option, refl, sym, ap, ◌∙◌}
 use Rattle.std.specs.List.{enumerate_from, list_any}
+use Rattle.base_lemmas.proofs.Lists.{list_any-map as any_map}
 use Rattle.model.specs.declared.record.Record.{Record}
 use Rattle.model.specs.declared.record_bodies.Assignment.{Assignment}
 use Rattle.model.specs.Creates.{empty_record}
@@ -16,10 +17,6 @@ use Rattle.store_abstraction.specs.Layouts.{layout_of, place_of}
 use Rattle.store_abstraction.specs.Plan.{OrgPlan}
 use Rattle.store_abstraction.specs.declared.layout.Layout.{Layout}
 use Rattle.schema_rules.specs.Objects.{field_of_place, numbered_in, object_of_layout}
-
-pub any_map : {X Y : Type 0} (test : Y → Bool) (make : X → Y) (xs : List X) → list_any test (map make xs) ≡ list_any (λ x. test (make x)) xs
-any_map test make [] = refl
-any_map test make (x ∷ xs) = ap (λ (b : Bool). test (make x) || b) (any_map test make xs)
 
 pub detail_is : (l : Layout) → is_detail (object_of_layout l) ≡ list_any (λ f. is_master f.kind) l.fields
 detail_is l = any_map (λ f. is_master f.kind) field_of_place l.fields

@@ -2,7 +2,7 @@
 
 ghost use Rattle.std.specs.Prelude.{◌≡◌, ◌∷◌, IfOk, IsTrue, Ok, map};
 ghost use Rattle.std.specs.List.{list_all};
-ghost use Rattle.formula_eval.specs.Meaning.{value_at};
+ghost use Rattle.formula.specs.Meaning.{value_at};
 ghost use Rattle.record_input.specs.Given.{FindsAll, FindsFor, GivesValues, IsGiven, all_given};
 ghost use Rattle.record_input.specs.declared.key.AllGiven.{AllGiven};
 ghost use Rattle.record_read.specs.Decoding.{has_types};

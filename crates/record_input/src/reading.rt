@@ -4,7 +4,7 @@ ghost use Rattle.std.specs.Prelude.{◌≡◌, [], IsTrue, MatchResult};
 ghost use Rattle.std.specs.List.{find};
 ghost use Rattle.std.specs.Option.{option_map};
 ghost use Rattle.std.specs.Str.{chars};
-ghost use Rattle.formula_eval.specs.Meaning.{value_at};
+ghost use Rattle.formula.specs.Meaning.{value_at};
 ghost use Rattle.record_input.specs.Given.{FindsFor, IsKnown, all_given, key_in};
 ghost use Rattle.record_input.specs.declared.unread.Unread.TheVariants.{Memory};
 ghost use Rattle.record_input.specs.inner.Read.{JudgesValue, Reads, ReadsGiven};

@@ -3,7 +3,7 @@
 ghost use Rattle.std.specs.Prelude.{◌≡◌, ◌&&◌, ◌||◌, IfOk, map};
 ghost use Rattle.std.specs.List.{enumerate_from};
 ghost use Rattle.std.specs.Option.{option_map};
-ghost use Rattle.formula_eval.specs.Meaning.{value_at};
+ghost use Rattle.formula.specs.Meaning.{value_at};
 ghost use Rattle.schema_rules.specs.Objects.{field_of_place, object_of_layout};
 ghost use Rattle.record_input.specs.inner.Fields.{missing_at};
 ghost use Rattle.model.specs.declared.refusal.Refusal.TheVariants as refusal;

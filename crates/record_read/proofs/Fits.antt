@@ -1,10 +1,11 @@
 -- The row of a sound record fits its form: its texts are short.
-use Rattle.std.proofs.Common.{◌≡◌, ℕ, ◌*◌, ◌≤◌, true, false, IsTrue, List, [], ◌∷◌, length, refl, sym, ap, ◌∙◌, arith, eqb-true, length-append}
-use Rattle.std.specs.Prelude.{◌==◌, IfSome, codes, encode_utf8_all}
-use Rattle.std.specs.Char.{encode_utf8}
+use Rattle.std.proofs.Common.{◌≡◌, ℕ, ◌≤◌, true, false, IsTrue, List, length, refl, sym, ap, ◌∙◌, arith, eqb-true}
+use Rattle.std.specs.Prelude.{◌==◌, IfSome, codes}
 use Rattle.std.specs.List.{list_all}
 use Rattle.std.specs.Str.{all_scalars}
-use Rattle.std.proofs.lemmas.Str.{IsUtf8-from_ascii, chars-IsAscii, len_utf8_bounds, length-encode, scalars-chars}
+use Rattle.std.proofs.lemmas.Str.{IsUtf8-from_ascii, chars-IsAscii, scalars-chars}
+use Rattle.base_lemmas.proofs.Lists.{length-encodes as four_each}
+use Rattle.base_lemmas.proofs.Bools.{and_first as and_left}
 use Rattle.base_value.specs.Id.{is_digit62, is_id}
 use Rattle.base_value.specs.Printing.{print_value}
 use Rattle.base_value.specs.Types.{is_type}
@@ -16,17 +17,11 @@ use Rattle.base_value.specs.declared.value.Value.TheVariants as value
 use Rattle.store_codec.specs.Plain.{FitsText}
 use Rattle.store_abstraction.specs.Entries.{name_text, slot_text}
 use Rattle.record_read.proofs.Ids.{id_ascii}
-use Rattle.record_read.proofs.Lists.{and_left}
 
 -- what `base_value` says of the texts that are printed of valid values
 pub record PrintsShort : Type 0 where
   pub short : (kind : FieldType) (v : Value) → IsTrue (is_type kind) → IsTrue (valid kind v) → length (print_value v) ≤ 255
   pub scalars : (kind : FieldType) (v : Value) → IsTrue (is_type kind) → IsTrue (valid kind v) → IsTrue (all_scalars (print_value v))
-
--- at most four bytes a character
-four_each : (cs : List ℕ) → length (encode_utf8_all cs) ≤ 4 * length cs
-four_each [] = omega arith
-four_each (c ∷ cs) = omega (arith, four_each cs, length-append (encode_utf8 c) (encode_utf8_all cs), length-encode c, (len_utf8_bounds c).1)
 
 short_fits : (cs : List ℕ) → length cs ≤ 255 → all_scalars cs ≡ true → FitsText cs
 short_fits cs short scalars = (omega (arith, four_each cs, short), scalars)

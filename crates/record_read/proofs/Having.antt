@@ -4,6 +4,8 @@ use Rattle.std.specs.Prelude.{IfOk, IfSome, IsErrOf, Result, Ok, Err, is_some, s
 use Rattle.std.specs.FinMap as map
 use Rattle.std.specs.FinMap.{IsAntisymmetric}
 use Rattle.std.specs.Option.{option_and_then, option_map}
+use Rattle.base_lemmas.proofs.Numbers.{eqb-self as eqb_same}
+use Rattle.base_lemmas.proofs.Bools.{by_answer as pick}
 use Rattle.store_kv.specs.Tables.{Tables, place_cmp}
 use Rattle.store_rows.specs.declared.fail.StoreFail.{StoreFail}
 use Rattle.store_rows.specs.declared.fail.StoreFail.TheVariants.{Keeper, Memory, Damaged}
@@ -20,7 +22,6 @@ use Rattle.store_abstraction.specs.Entries.{data_of}
 use Rattle.store_abstraction.specs.Local.{FindsIn, rows_alone}
 use Rattle.store_abstraction.specs.Plan.{OrgPlan}
 use Rattle.store_abstraction.specs.Stands.{Kept, kept_at, kept_in, row_in}
-use Rattle.record_read.proofs.Lists.{eqb_same, pick}
 use Rattle.record_read.proofs.Sound.{sound_record}
 use Rattle.record_read.proofs.Standing.{OwnPlaces, at_place, found_id}
 

@@ -4,8 +4,8 @@ use Rattle.std.specs.Prelude.{◌==◌}
 use Rattle.std.specs.List.{list_all}
 use Rattle.std.specs.Str.{IsAscii}
 use Rattle.std.proofs.lemmas.Bool.Decides.{nat_tests}
+use Rattle.base_lemmas.proofs.Bools.{and_first as and_left, and_second as and_right}
 use Rattle.base_value.specs.Id.{is_digit62, is_id}
-use Rattle.record_read.proofs.Lists.{and_left, and_right}
 
 digit_ascii : (c : ℕ) → is_digit62 c ≡ true → c < 128
 digit_ascii c h = grind (arith, nat_tests)

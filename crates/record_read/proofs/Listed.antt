@@ -1,13 +1,13 @@
 -- The rows of an object's records among those of their organisation alone, in the order of their keys.
-use Rattle.std.proofs.Common.{◌≡◌, ℕ, ◌<◌, ◌^◌, Bool, true, false, ◌&&◌, cond, T, IsTrue, List, [], ◌∷◌, ◌++◌, map, Option, Some, None, refl, sym, ap, subst, ◌∙◌, inl, inr, arith, Equal}
+use Rattle.std.proofs.Common.{◌≡◌, ℕ, ◌<◌, ◌^◌, Bool, true, false, ◌&&◌, cond, T, IsTrue, List, [], ◌∷◌, ◌++◌, map, Option, Some, None, refl, sym, ap, subst, ◌∙◌, inl, inr, arith}
 use Rattle.std.specs.Prelude.{IfSome}
-use Rattle.std.specs.Cmp.{nat_cmp_total}
 use Rattle.std.specs.FinMap.{is_sorted}
 use Rattle.std.specs.FinMap.Entries.{below_all}
 use Rattle.std.specs.List.{filter}
 use Rattle.std.specs.Option.{option_map}
 use Rattle.std.specs.Ordering.{is_ge, is_lt, nat_cmp, ordering_then}
-use Rattle.std.proofs.lemmas.Cmp.{tied_itself}
+use Rattle.base_lemmas.proofs.Orders.{nat_cmp-self as tied}
+use Rattle.base_lemmas.proofs.Bools.{T-and_from as t_both, T-and_first as t_first, T-and_second as t_second}
 use Rattle.base_value.specs.Id.{is_id}
 use Rattle.store_kv.specs.Prefixes.{raised}
 use Rattle.store_kv.specs.Tables.{Has as HasRow, bytes_cmp, is_between}
@@ -31,7 +31,7 @@ use Rattle.store_abstraction.specs.declared.layout.Layout.{Layout}
 use Rattle.store_abstraction.specs.Local.{rows_alone}
 use Rattle.store_abstraction.specs.Plan.{FitsPlan, OrgPlan}
 use Rattle.store_abstraction.proofs.MetadataLists.{BeginsSo, ComparesKeys, UnderPrefix}
-use Rattle.record_read.proofs.Rising.{filter_has, found_itself, has_filter, rise_filter, still_above, t_both, t_first, t_second}
+use Rattle.record_read.proofs.Rising.{filter_has, found_itself, has_filter, rise_filter, still_above}
 use Rattle.record_read.proofs.Standing.{IsOf, Laws, found_of, of_object, own_row, row_in_plan, row_kept}
 
 -- ---- laws of keys, as `store_rows`, `store_codec` and `store_kv` say
@@ -54,9 +54,6 @@ key_at org n i = spelled record_key (org, (n, i))
 -- the records of an object after an id
 abbrev pub those : Tenant → ℕ → Option (List ℕ) → List Record
 those t n after = filter (λ r. is_past after r.id) (records_of t n)
-
-tied : (n : ℕ) → nat_cmp n n ≡ Equal
-tied n = tied_itself nat_cmp_total n
 
 module _ (laws : Laws) (keys : KeyLaws) (q : OrgPlan) (t : Tenant) (l : Layout) (one : IsOf q t l) (sound : IsSound t) (plan : FitsPlan q t) (ids : (r : Record) → Has t.records r → IsTrue (is_id r.id)) (lo : l.org < 2 ^ 32) (small : l.object < 2 ^ 16) where
   abbrev rows : Key → Option (List ℕ)

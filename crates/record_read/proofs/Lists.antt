@@ -1,27 +1,10 @@
 -- What is at a place of a list, and choices by cases.
-use Rattle.std.proofs.Common.{◌≡◌, ℕ, zero, suc, ◌+◌, ◌<◌, ◌≤◌, Bool, true, false, ◌&&◌, eqb, List, [], ◌∷◌, map, Option, Some, refl, sym, ap, ◌∙◌, arith, inl, inr, subst}
+use Rattle.std.proofs.Common.{◌≡◌, ℕ, zero, suc, ◌+◌, ◌<◌, ◌≤◌, true, false, eqb, List, [], ◌∷◌, map, Some, refl, sym, ap, arith, inl, inr, subst}
 use Rattle.std.specs.Prelude.{is_some, slice_get}
 use Rattle.std.specs.List.{AllByRecursion, enumerate_from, find, range_with_len}
-use Rattle.std.proofs.lemmas.Bool.{eqb-false}
+use Rattle.std.proofs.lemmas.Option.{same_Some as some_is}
+use Rattle.base_lemmas.proofs.Numbers.{eqb-self as eqb_same}
 use Rattle.model.specs.Membership.{Has}
-
-pub pick : (b : Bool) (P : Bool → Type 0) → (b ≡ true → P true) → (b ≡ false → P false) → P b
-pick true P f g = f refl
-pick false P f g = g refl
-
-pub eqb_same : (n : ℕ) → eqb n n ≡ true
-eqb_same n = pick (eqb n n) (λ b. b ≡ true) (λ _. refl) (λ e. absurd (eqb-false n n e refl))
-
-pub some_is : {A : Type 0} (x y : A) → ◌≡◌ {A = Option A} (Some x) (Some y) → x ≡ y
-some_is x y e = cc
-
-pub and_left : (a b : Bool) → (a && b) ≡ true → a ≡ true
-and_left true b e = refl
-and_left false b e = absurd cc
-
-pub and_right : (a b : Bool) → (a && b) ≡ true → b ≡ true
-and_right true b e = e
-and_right false b e = absurd cc
 
 -- below a place where something is, something is
 pub is_there : {X : Type 0} (xs : List X) (i j : ℕ) (x : X) → slice_get xs i ≡ Some x → j ≤ i → is_some (slice_get xs j) ≡ true
@@ -56,11 +39,3 @@ pub of_each : {X : Type 0} (P : X → Type 0) (xs : List X) (x : X) → AllByRec
 of_each P [] x all h = absurd h
 of_each P (y ∷ xs) x all (inl e) = subst P (sym e) all.0
 of_each P (y ∷ xs) x all (inr h) = of_each P xs x all.1 h
-
-pub of_numbered : {X Y : Type 0} (P : Y → Type 0) (h : ℕ × X → Y) (xs : List X) (k i n : ℕ) (x : X) → k + i ≡ n → slice_get xs i ≡ Some x → AllByRecursion P (map h (enumerate_from k xs)) → P (h (n, x))
-of_numbered P h [] k i n x e at all = absurd cc
-of_numbered {X = X} P h (y ∷ xs) k zero n x e at all =
-    let same : k ≡ n = omega (arith, e) in
-    let is : y ≡ x = some_is y x at in
-    subst (λ (z : ℕ × X). P (h z)) (ap (λ (m : ℕ). (m, y)) same ∙ ap (λ (z : X). (n, z)) is) all.0
-of_numbered P h (y ∷ xs) k (suc i) n x e at all = of_numbered P h xs (k + 1) i n x (omega (arith, e)) at all.1

@@ -1,5 +1,5 @@
 -- The loops over fields and slots: what was read is before what is still to be read.
-use Rattle.std.proofs.Common.{◌≡◌, ℕ, suc, ◌+◌, ◌<◌, true, List, [], ◌∷◌, ◌++◌, map, length, drop, take, get_or, drop-cons, add-one, Option, Some, None, refl, sym, ap, subst, ◌∙◌, append_assoc, arith}
+use Rattle.std.proofs.Common.{◌≡◌, ℕ, ◌+◌, ◌<◌, true, List, [], ◌∷◌, ◌++◌, map, length, drop, take, get_or, Option, Some, None, refl, sym, ap, subst, ◌∙◌, append_assoc, arith}
 use Rattle.std.specs.List.{range_with_len}
 use Rattle.std.specs.Option.{option_map}
 use Rattle.std.proofs.lemmas.List.FromFn.{map-range_with_len_more}
@@ -8,10 +8,11 @@ use Rattle.store_codec.specs.Plain.{◌>>=◌}
 use Rattle.record_read.specs.Decoding.{each_from, kinds_in}
 use Rattle.model.specs.SoundRecords.{all_valid}
 use Rattle.std.proofs.lemmas.List.{take_more}
+use Rattle.base_lemmas.proofs.Lists.{drop-cons_read as front}
+use Rattle.base_lemmas.proofs.Bools.{and_first as and_left, and_second as and_right}
 use Rattle.base_value.specs.Values.{valid}
 use Rattle.base_value.specs.declared.value.FieldType.{FieldType}
 use Rattle.base_value.specs.declared.value.FieldType.TheVariants as type
-use Rattle.record_read.proofs.Lists.{and_left, and_right}
 use Rattle.store_abstraction.specs.declared.layout.FieldPlace.{FieldPlace}
 
 -- these before what is made, if it is
@@ -23,9 +24,6 @@ onto done made = option_map (λ ys. done ++ ys) made
 more_onto : {Y : Type 0} (done : List Y) (y : Y) (made : Option (List Y)) → onto (done ++ y ∷ []) made ≡ onto done (made >>= λ ys. Some (y ∷ ys))
 more_onto done y None = refl
 more_onto done y (Some ys) = ap Some (append_assoc done (y ∷ []) ys)
-
-front : {X : Type 0} (xs : List X) (i : ℕ) (x : X) → i < length xs → x ≡ get_or xs i x → drop i xs ≡ x ∷ drop (i + 1) xs
-front {X = X} xs i x lt is = drop-cons xs i x lt ∙ ap (λ (z : X). z ∷ drop (suc i) xs) (sym is) ∙ ap (λ (n : ℕ). x ∷ drop n xs) (sym (add-one i))
 
 pub goes_on : {X Y : Type 0} (make : X → Option Y) (xs : List X) (i : ℕ) (x : X) (done next : List Y) (y : Y) (whole : Option (List Y))
     → i < length xs → x ≡ get_or xs i x → make x ≡ Some y → next ≡ done ++ y ∷ []

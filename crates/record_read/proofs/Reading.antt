@@ -2,7 +2,8 @@
 use Rattle.std.proofs.Common.{◌≡◌, ℕ, zero, suc, ◌+◌, Bool, true, ◌&&◌, IsTrue, List, [], ◌∷◌, map, Option, Some, refl, ap, ◌∙◌, subst, arith}
 use Rattle.std.specs.Prelude.{slice_get}
 use Rattle.std.specs.List.{enumerate_from, list_all}
-use Rattle.formula_eval.specs.Meaning.{value_at}
+use Rattle.base_lemmas.proofs.Bools.{and_first as and_left, and_second as and_right}
+use Rattle.formula.specs.Meaning.{value_at}
 use Rattle.store_codec.specs.Plain.{◌>>=◌}
 use Rattle.model.specs.declared.record.Record.{Record}
 use Rattle.model.specs.Membership.{Has}
@@ -19,7 +20,6 @@ use Rattle.base_value.specs.declared.value.FieldType.{FieldType}
 use Rattle.base_value.specs.declared.value.FieldType.TheVariants as type
 use Rattle.base_value.specs.declared.value.Value.{Value}
 use Rattle.record_read.specs.Decoding.{each_from, has_types, kinds_in, read_slot, record_from, value_from}
-use Rattle.record_read.proofs.Lists.{and_left, and_right}
 use Rattle.record_read.proofs.Slots.{entry_at, slot_at, slot_below}
 use Rattle.record_read.proofs.Sound.{fields_typed, values_valid}
 use Rattle.record_read.proofs.Texts.{PrintsBack, name_back, slot_back}

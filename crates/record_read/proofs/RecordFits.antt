@@ -10,13 +10,14 @@ use Rattle.std.proofs.lemmas.List.Elements.{All-from_recursion}
 use Rattle.std.proofs.lemmas.List.FromFn.{length-map-range_with_len}
 use Rattle.std.proofs.lemmas.Option.{slice_get_within}
 use Rattle.std.proofs.lemmas.Slice.Eq.{bytes_eq-Decides}
+use Rattle.base_lemmas.proofs.Bools.{and_first as and_left, and_second as and_right}
 use Rattle.base_value.specs.Dates.{first_moment, is_moment, last_moment}
 use Rattle.base_value.specs.Digits.{digits}
 use Rattle.base_value.specs.Id.{digit62, is_digit62, is_id, made}
 use Rattle.base_value.specs.Values.{valid}
 use Rattle.base_value.specs.declared.value.FieldType.TheVariants as type
 use Rattle.base_value.specs.declared.value.Value.{Value}
-use Rattle.formula_eval.specs.Meaning.{value_at}
+use Rattle.formula.specs.Meaning.{value_at}
 use Rattle.model.specs.declared.record.Record.{Record}
 use Rattle.model.specs.Fields.{is_detail}
 use Rattle.model.specs.Known.{Known, known}
@@ -33,7 +34,6 @@ use Rattle.store_rows.specs.Rows.{data_form}
 use Rattle.store_abstraction.specs.Entries.{data_of, entry_text, slot_entry, slots_of}
 use Rattle.store_abstraction.specs.Plan.{FitsPlan, OrgPlan, slot_count}
 use Rattle.record_read.proofs.Fits.{PrintsShort, name_fits}
-use Rattle.record_read.proofs.Lists.{and_left, and_right}
 use Rattle.record_read.proofs.RowFits.{ConvertsValid, entry_fits}
 use Rattle.record_read.proofs.Sound.{sound_record, values_valid}
 

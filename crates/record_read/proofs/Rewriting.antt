@@ -1,12 +1,14 @@
 -- The row that is made of a record over the row of another, where a change of a field's type has the same for both.
-use Rattle.std.proofs.Common.{◌≡◌, ℕ, zero, suc, ◌+◌, ◌<◌, true, ◌&&◌, cond, eqb, IsTrue, map, Option, Some, None, refl, ap, arith, eqb-true}
+use Rattle.std.proofs.Common.{◌≡◌, ℕ, suc, ◌<◌, true, ◌&&◌, cond, eqb, IsTrue, Option, Some, None, refl, ap, arith, eqb-true}
 use Rattle.std.specs.Prelude.{slice_get, slice_index_or}
-use Rattle.std.specs.List.{list_all, range_with_len}
+use Rattle.std.specs.List.{list_all}
 use Rattle.std.specs.Option.{option_and_then, option_map}
 use Rattle.std.proofs.lemmas.List.FromFn.{get_or-map-range_with_len}
+use Rattle.base_lemmas.proofs.Lists.{map-range_with_len_same as same_below}
+use Rattle.base_lemmas.proofs.Bools.{by_answer as pick}
 use Rattle.base_value.specs.Printing.{is_printable}
 use Rattle.base_value.specs.declared.value.Value.{Value}
-use Rattle.formula_eval.specs.Meaning.{value_at}
+use Rattle.formula.specs.Meaning.{value_at}
 use Rattle.model.specs.declared.record.Record.{Record}
 use Rattle.model.specs.Cases.{in_case}
 use Rattle.model.specs.Tenant.{Field, Job, Object, Tenant}
@@ -14,12 +16,7 @@ use Rattle.store_abstraction.specs.Entries.{Entry, data_of, entry_text, field_en
 use Rattle.store_abstraction.specs.Layouts.{layout_of}
 use Rattle.store_abstraction.specs.Plan.{OrgPlan, slot_count, type_there}
 use Rattle.record_read.specs.Encoding.{row_from, text_of_slot, texts_of_slots, value_text}
-use Rattle.record_read.proofs.Lists.{pick}
 use Rattle.record_read.proofs.Writing.{number_same, value_printable}
-
-same_below : {X : Type 0} (f g : ℕ → X) (a n : ℕ) → ((i : ℕ) → i < a + n → f i ≡ g i) → map f (range_with_len a n) ≡ map g (range_with_len a n)
-same_below f g a zero e = refl
-same_below f g a (suc n) e = rw (e a (omega arith), same_below f g (a + 1) n (λ i lt. e i (omega (arith, lt)))) refl
 
 -- what the row that tables have of a record has in a slot
 kept_is : (entries : ℕ → Option Entry) (s : ℕ) → s < slot_count → slice_index_or (slots_of entries) s None ≡ entry_text (entries s)

@@ -1,5 +1,5 @@
 -- Records in the order of their ids, and those of them that pass a test.
-use Rattle.std.proofs.Common.{◌≡◌, ℕ, zero, suc, Bool, true, false, ◌&&◌, cond, T, List, [], ◌∷◌, map, take, Some, refl, sym, ap, subst, ◌∙◌, inl, inr, Less, Equal, Greater, Ordering}
+use Rattle.std.proofs.Common.{◌≡◌, ℕ, zero, suc, Bool, true, false, cond, T, List, [], ◌∷◌, map, take, Some, refl, sym, ap, subst, ◌∙◌, inl, inr, Less, Equal, Greater, Ordering}
 use Rattle.std.specs.FinMap.{is_sorted}
 use Rattle.std.specs.FinMap.Entries.{below_all}
 use Rattle.std.specs.List.{filter}
@@ -7,31 +7,15 @@ use Rattle.std.specs.Ordering.{is_ge, is_lt}
 use Rattle.std.specs.Str.{bytes_eq}
 use Rattle.std.proofs.lemmas.Cmp.{nat_list_cmp_total, tied_itself}
 use Rattle.std.proofs.lemmas.Slice.Eq.{bytes_eq-Decides}
+use Rattle.base_lemmas.proofs.Bools.{T-and_first as t_first, T-and_second as t_second, true_from_T as t_true, T-and_from as t_both, by_answer as pick}
 use Rattle.store_kv.specs.Tables.{bytes_cmp}
 use Rattle.model.specs.declared.record.Record.{Record}
 use Rattle.model.specs.Membership.{Has}
 use Rattle.model.specs.SoundPeople.{ids_rise}
 use Rattle.model.specs.SoundRecords.{record_id}
 use Rattle.model.specs.World.{having_id}
-use Rattle.record_read.proofs.Lists.{pick}
 
 -- ---- tests as types
-
-pub t_first : (a b : Bool) → T (a && b) → T a
-t_first true b h = tt
-t_first false b h = absurd h
-
-pub t_second : (a b : Bool) → T (a && b) → T b
-t_second true b h = h
-t_second false b h = absurd h
-
-pub t_both : (a b : Bool) → T a → T b → T (a && b)
-t_both true b h g = g
-t_both false b h g = absurd h
-
-pub t_true : (a : Bool) → T a → a ≡ true
-t_true true h = refl
-t_true false h = absurd h
 
 -- ---- those that pass a test
 

@@ -1,8 +1,11 @@
 -- What is in each slot of a sound record is a valid value of a type, and the row of the record fits its form.
-use Rattle.std.proofs.Common.{◌≡◌, ℕ, zero, suc, ◌+◌, Bool, true, not, ◌&&◌, cond, eqb, IsTrue, List, [], ◌∷◌, map, Option, Some, None, refl, ap, subst, arith}
+use Rattle.std.proofs.Common.{◌≡◌, ℕ, zero, suc, true, not, ◌&&◌, cond, eqb, IsTrue, List, [], ◌∷◌, map, Option, Some, None, refl, ap, subst, arith}
 use Rattle.std.specs.Prelude.{IfSome, slice_get}
-use Rattle.std.specs.List.{enumerate_from, find, list_all}
+use Rattle.std.specs.List.{list_all}
 use Rattle.std.specs.Option.{option_and_then, option_map}
+use Rattle.base_lemmas.proofs.Lists.{find-enumerate_from as found_at}
+use Rattle.base_lemmas.proofs.Bools.{and_first as and_left, and_second as and_right, by_answer as pick}
+use Rattle.std.proofs.lemmas.Option.{same_Some as some_is}
 use Rattle.base_value.specs.Conversion.{convert}
 use Rattle.base_value.specs.Types.{is_reference, is_type}
 use Rattle.base_value.specs.Values.{valid}
@@ -13,7 +16,7 @@ use Rattle.base_value.specs.declared.job.Phase.TheVariants as phase
 use Rattle.base_value.specs.declared.value.FieldType.{FieldType}
 use Rattle.base_value.specs.declared.value.FieldType.TheVariants as type
 use Rattle.base_value.specs.declared.value.Value.{Value}
-use Rattle.formula_eval.specs.Meaning.{value_at}
+use Rattle.formula.specs.Meaning.{value_at}
 use Rattle.model.specs.declared.record.Record.{Record}
 use Rattle.model.specs.Cases.{in_case}
 use Rattle.model.specs.Jobs.{is_past}
@@ -27,7 +30,6 @@ use Rattle.store_codec.specs.Plain.{FitsText}
 use Rattle.store_abstraction.specs.Entries.{entry_text, field_entry, job_entry, job_value, other_entry, slot_entry, slot_field, slot_text}
 use Rattle.store_abstraction.specs.Plan.{FitsPlan, OrgPlan, is_clearing, slot_type, type_there}
 use Rattle.record_read.proofs.Fits.{PrintsShort, value_fits}
-use Rattle.record_read.proofs.Lists.{and_left, and_right, pick, some_is}
 use Rattle.record_read.proofs.Sound.{fields_typed, values_valid}
 
 -- what `base_value` says of converted values
@@ -35,15 +37,6 @@ abbrev pub ConvertsValid : Type 0
 ConvertsValid = (from to : FieldType) (v w : Value) → IsTrue (is_type from) → IsTrue (valid from v) → convert to v ≡ Some w → IsTrue (valid to w)
 
 -- ---- the fields of an object
-
--- what is found among numbered things is one of them
-pub found_at : {X : Type 0} (test : ℕ × X → Bool) (k : ℕ) (xs : List X) (f : ℕ × X) → find test (enumerate_from k xs) ≡ Some f → (i : ℕ) × (k + i ≡ f.0) × (slice_get xs i ≡ Some f.1)
-found_at test k [] f e = absurd cc
-found_at {X = X} test k (x ∷ xs) f e =
-    pick (test (k, x)) (λ b. cond b (Some (k, x)) (find test (enumerate_from (k + 1) xs)) ≡ Some f → (i : ℕ) × (k + i ≡ f.0) × (slice_get (x ∷ xs) i ≡ Some f.1))
-    (λ _ here. let same : ◌≡◌ {A = ℕ × X} (k, x) f = some_is (k, x) f here in (0, omega (arith, ap (λ (g : ℕ × X). g.0) same), ap (λ (g : ℕ × X). Some g.1) same))
-    (λ _ there. let (i, number, at) = found_at test (k + 1) xs f there in (suc i, omega (arith, number), at))
-    e
 
 pub typed_at : {X : Type 0} (kind : X → FieldType) (xs : List X) (i : ℕ) (x : X) → list_all (λ x. is_type (kind x)) xs ≡ true → slice_get xs i ≡ Some x → is_type (kind x) ≡ true
 typed_at kind [] i x h e = absurd cc

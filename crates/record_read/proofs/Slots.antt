@@ -2,12 +2,13 @@
 use Rattle.std.proofs.Common.{◌≡◌, ℕ, ◌<◌, ◌≤◌, false, eqb, IsTrue, Option, Some, refl, arith}
 use Rattle.std.specs.Prelude.{slice_get}
 use Rattle.std.proofs.lemmas.Bool.{eqb-true}
+use Rattle.base_lemmas.proofs.Bools.{by_answer as pick}
 use Rattle.model.specs.declared.record.Record.{Record}
 use Rattle.model.specs.Objects.{object_numbered}
 use Rattle.model.specs.Tenant.{Field, Object, Tenant}
 use Rattle.store_abstraction.specs.Entries.{Entry, entry_text, field_entry, slot_entry, slots_of}
 use Rattle.store_abstraction.specs.Plan.{FitsPlan, OrgPlan, has_field, slot_count}
-use Rattle.record_read.proofs.Lists.{first_with, get_range, is_there, pick}
+use Rattle.record_read.proofs.Lists.{first_with, get_range, is_there}
 
 pub slot_at : (entries : ℕ → Option Entry) (s : ℕ) → s < slot_count → slice_get (slots_of entries) s ≡ Some (entry_text (entries s))
 unfolding slots_of

@@ -2,6 +2,9 @@
 use Rattle.std.proofs.Common.{◌≡◌, ℕ, true, IsTrue, List, [], ◌∷◌, length, Some, refl, sym, ap, ◌∙◌, subst, arith, eqb-true}
 use Rattle.std.specs.Prelude.{slice_get}
 use Rattle.std.specs.List.{AllByRecursion, list_all}
+use Rattle.base_lemmas.proofs.Bools.{and_first as and_left, and_second as and_right}
+use Rattle.base_lemmas.proofs.Lists.{each_at_number as of_numbered}
+use Rattle.std.proofs.lemmas.Option.{same_Some as some_is}
 use Rattle.model.specs.declared.record.Record.{Record}
 use Rattle.model.specs.Known.{known}
 use Rattle.model.specs.Membership.{Has}
@@ -15,7 +18,7 @@ use Rattle.base_value.specs.Types.{is_type}
 use Rattle.base_value.specs.Values.{valid}
 use Rattle.base_value.specs.declared.value.FieldType.{FieldType}
 use Rattle.base_value.specs.declared.value.Value.{Value}
-use Rattle.record_read.proofs.Lists.{and_left, and_right, of_each, of_numbered, some_is}
+use Rattle.record_read.proofs.Lists.{of_each}
 
 -- what `base_value` says of valid values
 abbrev pub ArePrintable : Type 0

@@ -6,6 +6,9 @@ use Rattle.std.specs.FinMap.{IsAntisymmetric}
 use Rattle.std.specs.Option.{option_and_then, option_map}
 use Rattle.std.specs.Str.{bytes_eq}
 use Rattle.std.proofs.lemmas.Slice.Eq.{bytes_eq-Decides}
+use Rattle.base_lemmas.proofs.Numbers.{eqb-self as eqb_same}
+use Rattle.base_lemmas.proofs.Bools.{by_answer as pick}
+use Rattle.std.proofs.lemmas.Option.{same_Some as some_is}
 use Rattle.store_kv.specs.Tables.{Tables, place_cmp}
 use Rattle.store_rows.specs.declared.data.DataRow.{DataRow}
 use Rattle.store_rows.specs.Forms.{FitsForm, row_bytes}
@@ -29,7 +32,6 @@ use Rattle.store_abstraction.specs.Plan.{FitsPlan, OrgPlan}
 use Rattle.store_abstraction.specs.Stands.{Kept, kept_at, kept_in, row_in}
 use Rattle.store_abstraction.proofs.Places.{part_at}
 use Rattle.record_read.specs.Decoding.{record_from}
-use Rattle.record_read.proofs.Lists.{eqb_same, pick, some_is}
 
 -- ---- laws that other functions have
 

@@ -3,6 +3,7 @@ use Rattle.std.proofs.Common.{◌≡◌, ℕ, Bool, true, false, IsTrue, List, [
 use Rattle.std.specs.Prelude.{Ok, ◌==◌}
 use Rattle.std.specs.List.{list_all}
 use Rattle.std.proofs.lemmas.List.{take_at, drop_at}
+use Rattle.base_lemmas.proofs.Bools.{and_first as and_left}
 use Rattle.base_value.specs.Conversion.{where_read}
 use Rattle.base_value.specs.Id.{id_in, is_digit62, is_id}
 use Rattle.base_value.specs.Printing.{print_value}
@@ -15,7 +16,6 @@ use Rattle.base_value.specs.declared.value.Value.{Value}
 use Rattle.base_value.specs.declared.value.Value.TheVariants as value
 use Rattle.store_abstraction.specs.Entries.{name_text, slot_text}
 use Rattle.record_read.specs.Decoding.{read_slot}
-use Rattle.record_read.proofs.Lists.{and_left}
 
 -- what `base_value` says of what is printed
 abbrev pub PrintsBack : Type 0

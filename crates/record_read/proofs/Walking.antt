@@ -1,8 +1,10 @@
 -- What a page of an object's rows gives is its records, from an id on.
-use Rattle.std.proofs.Common.{◌≡◌, ℕ, zero, suc, ◌<◌, ◌≤◌, ◌^◌, false, true, IsTrue, List, [], ◌∷◌, ◌++◌, length, map, take, Option, Some, None, refl, sym, ap, subst, ◌∙◌, inl, inr, arith}
-use Rattle.std.specs.Prelude.{◌==◌, IfSome, IsSome, Result, Ok, Err, Vec}
+use Rattle.std.proofs.Common.{◌≡◌, ℕ, ◌<◌, ◌≤◌, ◌^◌, false, true, IsTrue, List, [], ◌∷◌, ◌++◌, length, map, take, Option, Some, None, refl, sym, ap, subst, ◌∙◌, inl, inr, arith}
+use Rattle.std.specs.Prelude.{◌==◌, IfSome, Result, Ok, Err, Vec}
 use Rattle.std.specs.Option.{option_map}
 use Rattle.std.proofs.lemmas.List.{take-map}
+use Rattle.base_lemmas.proofs.Lists.{length-map_by as length_mapped, length-take_most as short_take}
+use Rattle.base_lemmas.proofs.Options.{some_from_IsSome as some_of}
 use Rattle.base_value.specs.Causes.{GivesOr}
 use Rattle.base_value.specs.Id.{is_id}
 use Rattle.store_kv.specs.declared.keeper.KeptRow.{KeptRow}
@@ -51,10 +53,6 @@ pub record WalkLaws : Type 0 where
   pub under : UnderNumber
   pub listed : ListedIn
 
-some_of : {X : Type 0} (o : Option X) → IsSome o → (x : X) × (o ≡ Some x)
-some_of None h = absurd cc
-some_of (Some x) h = (x, refl)
-
 rows_read : (l : Layout) (row : Record → DataRow) (rs : List Record) → ((r : Record) → Has rs r → record_from l (row r) ≡ Some r) → each_from (record_from l) (map row rs) ≡ Some rs
 rows_read l row [] h = refl
 rows_read l row (r ∷ rs) h = rw (h r (inl refl), rows_read l row rs (λ x has. h x (inr has))) refl
@@ -70,22 +68,9 @@ none_typed l (row ∷ rows) h e = rw h refl
 
 -- ---- options, and how many rows are seen
 
-pub mapped : {X Y Z : Type 0} (f : Y → Z) (g : X → Y) (o : Option X) → option_map (λ x. f (g x)) o ≡ option_map f (option_map g o)
-mapped f g None = refl
-mapped f g (Some x) = refl
-
 pub some_mapped : {X Y : Type 0} (P : Y → Type 0) (g : X → Y) (o : Option X) → IfSome o (λ x. P (g x)) → IfSome (option_map g o) P
 some_mapped P g None h = tt
 some_mapped P g (Some x) h = h
-
-short_take : {X : Type 0} (n : ℕ) (xs : List X) → length (take n xs) ≤ n
-short_take zero xs = omega arith
-short_take (suc n) [] = omega arith
-short_take (suc n) (x ∷ xs) = omega (arith, short_take n xs)
-
-length_mapped : {X Y : Type 0} (f : X → Y) (xs : List X) → length (map f xs) ≡ length xs
-length_mapped f [] = refl
-length_mapped f (x ∷ xs) = ap suc (length_mapped f xs)
 
 pub few_seen : {A : Type 0} (limit : ℕ) (kept : List KeptRow) (r : Result (Vec DataRow A) StoreFail) → ListsAs data_form (take limit kept) r → seen limit r ≤ limit
 few_seen limit kept (Ok rows) e =

@@ -3,7 +3,8 @@ use Rattle.std.proofs.Common.{◌≡◌, ℕ, zero, suc, ◌+◌, true, ◌&&◌
 use Rattle.std.specs.List.{enumerate_from, find, list_all}
 use Rattle.std.specs.Prelude.{slice_get}
 use Rattle.std.specs.Option.{option_and_then, option_map}
-use Rattle.formula_eval.specs.Meaning.{value_at}
+use Rattle.base_lemmas.proofs.Bools.{and_first as and_left, and_second as and_right, by_answer as pick}
+use Rattle.formula.specs.Meaning.{value_at}
 use Rattle.model.specs.declared.record.Record.{Record}
 use Rattle.model.specs.Cases.{in_case}
 use Rattle.model.specs.Tenant.{Field, Job, Object, Tenant}
@@ -14,7 +15,7 @@ use Rattle.store_abstraction.specs.declared.layout.FieldPlace.{FieldPlace}
 use Rattle.base_value.specs.Printing.{is_printable}
 use Rattle.base_value.specs.declared.value.Value.{Value}
 use Rattle.record_read.specs.Encoding.{row_from, text_of_slot, texts_of_slots, value_text}
-use Rattle.record_read.proofs.Lists.{and_left, and_right, pick, same_range}
+use Rattle.record_read.proofs.Lists.{same_range}
 
 -- the number of a field is that of its place in the layout
 pub number_same : (p : OrgPlan) (n s k : ℕ) (fs : List Field)

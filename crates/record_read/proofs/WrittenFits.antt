@@ -5,13 +5,15 @@ use Rattle.std.specs.List.{AllByRecursion, enumerate_from, find, range_with_len}
 use Rattle.std.specs.Option.{option_map}
 use Rattle.std.proofs.lemmas.List.Elements.{All-from_recursion, recursion_from_All}
 use Rattle.std.proofs.lemmas.List.FromFn.{length-map-range_with_len}
+use Rattle.base_lemmas.proofs.Bools.{and_first as and_left, and_second as and_right, by_answer as pick}
+use Rattle.base_lemmas.proofs.Lists.{find-enumerate_from as found_at}
 use Rattle.base_value.specs.Id.{is_id}
 use Rattle.base_value.specs.Printing.{is_printable}
 use Rattle.base_value.specs.Values.{valid}
 use Rattle.base_value.specs.declared.value.FieldType.{FieldType}
 use Rattle.base_value.specs.declared.value.FieldType.TheVariants as type
 use Rattle.base_value.specs.declared.value.Value.{Value}
-use Rattle.formula_eval.specs.Meaning.{value_at}
+use Rattle.formula.specs.Meaning.{value_at}
 use Rattle.store_rows.specs.declared.data.DataRow.{DataRow}
 use Rattle.store_rows.specs.Forms.{FitsForm}
 use Rattle.store_rows.specs.Keys.{record_key}
@@ -28,9 +30,8 @@ use Rattle.store_abstraction.specs.Plan.{slot_count}
 use Rattle.record_read.specs.Decoding.{has_types, kinds_in}
 use Rattle.record_read.specs.Encoding.{kept_text, row_from, text_of_slot, texts_of_slots, value_text}
 use Rattle.record_read.proofs.Fits.{PrintsShort, name_fits, value_fits}
-use Rattle.record_read.proofs.Lists.{and_left, and_right, pick}
 use Rattle.record_read.proofs.RecordFits.{each_range}
-use Rattle.record_read.proofs.RowFits.{found_at, typed_at, valid_at}
+use Rattle.record_read.proofs.RowFits.{typed_at, valid_at}
 
 abbrev FitsSlot : Option (List ℕ) → Type 0
 FitsSlot x = IfSome x FitsText

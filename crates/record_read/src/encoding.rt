@@ -6,7 +6,7 @@ ghost use Rattle.std.specs.Str.{IsAscii, IsUtf8, chars};
 ghost use Rattle.std.specs.Int.{w64};
 ghost use Rattle.record_read.specs.Decoding.{has_types, kinds_in};
 ghost use Rattle.record_read.specs.Encoding.{field_of_slot, kept_text, row_from, text_of_slot, texts_of_slots, value_text};
-ghost use Rattle.formula_eval.specs.Meaning.{value_at};
+ghost use Rattle.formula.specs.Meaning.{value_at};
 ghost use Rattle.store_rows.specs.Forms.{FitsForm};
 ghost use Rattle.store_rows.specs.Keys.{record_key};
 ghost use Rattle.store_rows.specs.Rows.{data_form};

@@ -1,8 +1,9 @@
 -- The ids in a page of the rows of references are those of the records that refer to the target, from an id on.
-use Rattle.std.proofs.Common.{◌≡◌, ℕ, IsTrue, List, [], ◌∷◌, ◌++◌, map, take, Option, Some, None, refl, sym, ap, subst, ◌∙◌, inl, inr}
-use Rattle.std.specs.Prelude.{IfSome, IsSome, Result, Ok, Err, Vec, slice_get}
+use Rattle.std.proofs.Common.{◌≡◌, ℕ, IsTrue, List, [], ◌∷◌, ◌++◌, map, take, Option, Some, refl, sym, ap, subst, ◌∙◌, inl, inr}
+use Rattle.std.specs.Prelude.{IfSome, Result, Ok, Err, Vec, slice_get}
 use Rattle.std.specs.Option.{option_map}
 use Rattle.std.proofs.lemmas.List.{take-map}
+use Rattle.base_lemmas.proofs.Options.{some_from_IsSome as some_of}
 use Rattle.base_value.specs.Causes.{GivesOr}
 use Rattle.base_value.specs.Id.{is_id}
 use Rattle.store_kv.specs.declared.keeper.KeptRow.{KeptRow}
@@ -42,10 +43,6 @@ pub record ReferLaws : Type 0 where
   pub ends : PrefixEnds
   pub under : UnderNumber
   pub listed : ListedIn
-
-some_of : {X : Type 0} (o : Option X) → IsSome o → (x : X) × (o ≡ Some x)
-some_of None h = absurd cc
-some_of (Some x) h = (x, refl)
 
 ids_of_rows : (p : Front) (rs : List Record) → ids_in (map (row_of p) rs) ≡ map (λ r. r.id) rs
 ids_of_rows p [] = refl

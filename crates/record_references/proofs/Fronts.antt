@@ -1,5 +1,5 @@
 -- Page after page: the ids after the last of a front of ids in their order are those that follow the front.
-use Rattle.std.proofs.Common.{◌≡◌, ℕ, zero, suc, ◌-◌, Bool, true, false, T, List, [], ◌∷◌, ◌++◌, length, map, take, drop, Option, Some, None, refl, sym, ap, subst, ◌∙◌, inl, inr, Less, Equal, Greater, Ordering, append_assoc, arith, Bor}
+use Rattle.std.proofs.Common.{◌≡◌, ℕ, suc, ◌-◌, Bool, true, false, T, List, [], ◌∷◌, ◌++◌, length, map, take, drop, Option, Some, None, refl, sym, ap, subst, ◌∙◌, inl, inr, append_assoc, arith, Bor, take-append-drop as take_drop}
 use Rattle.std.specs.Prelude.{◌==◌, option_copied, slice_get}
 use Rattle.std.specs.FinMap.{is_sorted}
 use Rattle.std.specs.FinMap.Entries.{below_all}
@@ -9,6 +9,8 @@ use Rattle.std.specs.Ordering.{is_lt}
 use Rattle.std.proofs.lemmas.Bool.{eqb-true}
 use Rattle.std.proofs.lemmas.Cmp.{nat_list_cmp_total}
 use Rattle.std.proofs.lemmas.List.{take-map}
+use Rattle.base_lemmas.proofs.Orders.{less_from_is_lt as is_less}
+use Rattle.base_lemmas.proofs.Bools.{by_answer as pick, T-and_first as t_first, T-and_second as t_second}
 use Rattle.base_value.specs.declared.id.Id.{Id}
 use Rattle.store_kv.specs.Tables.{bytes_cmp}
 use Rattle.model.specs.declared.record.Record.{Record}
@@ -19,8 +21,7 @@ use Rattle.model.specs.Sound.{IsSound}
 use Rattle.model.specs.SoundPeople.{ids_rise}
 use Rattle.model.specs.SoundRecords.{record_id}
 use Rattle.model.specs.Tenant.{Tenant}
-use Rattle.record_read.proofs.Lists.{pick}
-use Rattle.record_read.proofs.Rising.{below_has, not_less, rise_filter, t_first, t_second}
+use Rattle.record_read.proofs.Rising.{below_has, not_less, rise_filter}
 use Rattle.record_references.specs.Referring.{all_referring, referring_after, refers_by}
 use Rattle.record_references.proofs.Listed.{those}
 
@@ -47,11 +48,6 @@ has_id us z zs [] e = absurd (by us e)
     by (u ∷ us) e = cc
 has_id [] z zs (r ∷ rs) e = (r, inl refl, cc)
 has_id (u ∷ us) z zs (r ∷ rs) e = let (x, has, is) = has_id us z zs rs cc in (x, inr has, is)
-
-is_less : (o : Ordering) → is_lt o ≡ true → o ≡ Less
-is_less Less h = refl
-is_less Equal h = absurd cc
-is_less Greater h = absurd cc
 
 not_back : (a b : List ℕ) → is_lt (bytes_cmp a b) ≡ true → is_lt (bytes_cmp b a) ≡ false
 not_back a b less =
@@ -127,11 +123,6 @@ all_is n number target t = refl
 after_is : (n number : ℕ) (target : List ℕ) (after : Option (List ℕ)) (limit : ℕ) (t : Tenant) → referring_after n number target after limit t ≡ ids (take limit (those t n number target after))
 unfolding referring_after
 after_is n number target after limit t = refl
-
-take_drop : (k : ℕ) (xs : List (List ℕ)) → take k xs ++ drop k xs ≡ xs
-take_drop zero xs = refl
-take_drop (suc k) [] = refl
-take_drop (suc k) (x ∷ xs) = ap (λ (ys : List (List ℕ)). x ∷ ys) (take_drop k xs)
 
 none_taken : (k : ℕ) (xs : List (List ℕ)) → take (suc k) xs ≡ [] → xs ≡ []
 none_taken k [] e = refl

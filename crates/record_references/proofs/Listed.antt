@@ -1,11 +1,12 @@
 -- The rows of the references to a record in a field's slot, in the order of their keys.
-use Rattle.std.proofs.Common.{◌≡◌, ℕ, true, cond, IsTrue, List, [], map, Option, Some, None, refl, sym, ap, subst, ◌∙◌, arith, Bool, Equal}
+use Rattle.std.proofs.Common.{◌≡◌, ℕ, true, cond, IsTrue, List, [], map, Option, Some, None, refl, sym, ap, subst, ◌∙◌, arith, Bool}
 use Rattle.std.specs.Prelude.{IfSome, slice_get}
-use Rattle.std.specs.Cmp.{nat_cmp_total}
 use Rattle.std.specs.List.{filter}
 use Rattle.std.specs.Option.{option_and_then, option_map}
 use Rattle.std.specs.Ordering.{nat_cmp, ordering_then}
 use Rattle.std.proofs.lemmas.Cmp.{nat_list_cmp_total, tied_itself}
+use Rattle.base_lemmas.proofs.Orders.{nat_cmp-self as tied}
+use Rattle.base_lemmas.proofs.Bools.{by_answer as pick}
 use Rattle.base_value.specs.Id.{is_id}
 use Rattle.store_kv.specs.Prefixes.{raised}
 use Rattle.store_kv.specs.Tables.{Has as HasRow, bytes_cmp, is_between}
@@ -26,7 +27,6 @@ use Rattle.store_abstraction.specs.declared.layout.Layout.{Layout}
 use Rattle.store_abstraction.specs.Local.{rows_alone}
 use Rattle.store_abstraction.specs.Plan.{FitsPlan, OrgPlan}
 use Rattle.record_read.proofs.Listed.{KeyLaws}
-use Rattle.record_read.proofs.Lists.{pick}
 use Rattle.record_read.proofs.Rising.{filter_has, found_itself, has_filter, rise_filter}
 use Rattle.record_read.proofs.Standing.{IsOf, found_of, of_object}
 use Rattle.record_references.specs.Referring.{refers_by}
@@ -45,9 +45,6 @@ row_of p r = record { org = p.0; object = p.1.0; slot = p.1.1.0; target = p.1.1.
 -- its key
 abbrev named : Front → List ℕ → Key
 named p i = Relation p.0 p.1.0 p.1.1.0 p.1.1.1 i
-
-tied : (n : ℕ) → nat_cmp n n ≡ Equal
-tied n = tied_itself nat_cmp_total n
 
 module _ (keys : KeyLaws) (p : Front) (fits : FitsFront p) where
   fits_key : (i : List ℕ) → IsTrue (is_id i) → FitsIn (slot_key (Both Identity Identity)) (parts_at p i)

@@ -1,11 +1,13 @@
 -- Rows whose keys begin alike and end with the ids of records: they are in the order of the ids, and their interval may begin
 -- after an id.
-use Rattle.std.proofs.Common.{◌≡◌, ℕ, Bool, true, false, ◌&&◌, T, IsTrue, List, [], ◌∷◌, map, Option, Some, None, refl, sym, ap, subst, ◌∙◌, inl, inr}
+use Rattle.std.proofs.Common.{◌≡◌, ℕ, true, T, IsTrue, List, [], ◌∷◌, map, Option, Some, None, refl, sym, ap, subst, ◌∙◌, inl, inr}
 use Rattle.std.specs.Prelude.{IfSome}
 use Rattle.std.specs.FinMap.{is_sorted}
 use Rattle.std.specs.FinMap.Entries.{below_all}
 use Rattle.std.specs.Option.{option_map}
 use Rattle.std.specs.Ordering.{is_ge, is_lt}
+use Rattle.std.proofs.lemmas.Bool.{and_from as and_both}
+use Rattle.base_lemmas.proofs.Bools.{and_first as and_left, and_second as and_right, T-and_from as t_both, T-and_first as t_first, T-and_second as t_second}
 use Rattle.base_value.specs.Id.{is_id}
 use Rattle.store_kv.specs.Tables.{Has as HasRow, bytes_cmp, is_between}
 use Rattle.store_kv.specs.Walks.{next_above}
@@ -17,12 +19,7 @@ use Rattle.model.specs.Membership.{Has}
 use Rattle.model.specs.SoundPeople.{ids_rise}
 use Rattle.model.specs.SoundRecords.{record_id}
 use Rattle.record_read.proofs.Listed.{AfterZero}
-use Rattle.record_read.proofs.Lists.{and_left, and_right}
-use Rattle.record_read.proofs.Rising.{still_above, t_both, t_first, t_second}
-
-and_both : (a b : Bool) → a ≡ true → b ≡ true → (a && b) ≡ true
-and_both true b h g = g
-and_both false b h g = absurd cc
+use Rattle.record_read.proofs.Rising.{still_above}
 
 -- ---- the rows of some records
 

@@ -1,10 +1,12 @@
 -- The rows of references in a field's slot: there is one exactly for each record that refers to the target by the field.
-use Rattle.std.proofs.Common.{◌≡◌, ℕ, zero, suc, ◌+◌, ◌<◌, cond, get_or, length, List, [], ◌∷◌, map, add-one, Option, Some, None, refl, sym, ap, subst, ◌∙◌, arith, bytes_eq}
+use Rattle.std.proofs.Common.{◌≡◌, ℕ, zero, suc, ◌+◌, cond, List, [], ◌∷◌, map, add-one, Option, Some, None, refl, sym, ap, subst, ◌∙◌, arith, bytes_eq}
 use Rattle.std.specs.Prelude.{false, slice_get}
 use Rattle.std.specs.List.{enumerate_from}
 use Rattle.std.specs.Option.{option_and_then, option_map}
-use Rattle.std.proofs.lemmas.Option.{slice_get_read}
-use Rattle.formula_eval.specs.Meaning.{value_at}
+use Rattle.std.proofs.lemmas.Option.{same_Some as some_is}
+use Rattle.base_lemmas.proofs.Numbers.{eqb-self as eqb_same}
+use Rattle.base_lemmas.proofs.Bools.{by_answer as pick}
+use Rattle.formula.specs.Meaning.{value_at}
 use Rattle.store_rows.specs.Keys.{Relation}
 use Rattle.model.specs.declared.record.Record.{Record}
 use Rattle.model.specs.Cases.{in_case}
@@ -18,14 +20,9 @@ use Rattle.store_abstraction.specs.Layouts.{place_of}
 use Rattle.store_abstraction.specs.Local.{rows_alone}
 use Rattle.store_abstraction.specs.Plan.{FitsPlan, OrgPlan}
 use Rattle.store_abstraction.specs.Stands.{kept_at, kept_in, row_in, row_where}
-use Rattle.record_read.proofs.Lists.{eqb_same, pick, some_is}
 use Rattle.record_read.proofs.Slots.{entry_at}
 use Rattle.record_read.proofs.Standing.{IsOf, of_object}
 use Rattle.record_references.specs.Referring.{refers_by}
-
--- an element that was read there
-pub read_there : {X : Type 0} (xs ys : List X) (i : ℕ) (x : X) → ys ≡ xs → i < length xs → x ≡ get_or ys i x → slice_get xs i ≡ Some x
-read_there {X = X} xs ys i x same within is = slice_get_read xs (length xs) i x refl within (subst (λ (zs : List X). x ≡ get_or zs i x) same is)
 
 -- the field of an object that has a place in its layout
 field_at : (p : OrgPlan) (n k : ℕ) (fs : List Field) (i m : ℕ) (x : FieldPlace) → k + i ≡ m → slice_get (map (place_of p n) (enumerate_from k fs)) i ≡ Some x

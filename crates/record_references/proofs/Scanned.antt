@@ -1,10 +1,11 @@
 -- Page after page of the rows of references: no row of the pages so far is sought, and the rows to come are those after the last.
-use Rattle.std.proofs.Common.{◌≡◌, ℕ, zero, suc, ◌-◌, ◌<◌, Bool, true, false, ◌||◌, List, [], ◌∷◌, ◌++◌, length, map, take, Option, Some, None, refl, sym, ap, subst, ◌∙◌, inl, inr, lit<, Bor}
-use Rattle.std.specs.Prelude.{◌⊎◌, IsErr, IsErrAnd, Result, Ok, Err, Vec, option_copied, slice_get}
+use Rattle.std.proofs.Common.{◌≡◌, ℕ, zero, suc, ◌-◌, ◌<◌, Bool, true, false, List, [], ◌∷◌, ◌++◌, length, map, take, Option, Some, None, refl, sym, ap, subst, ◌∙◌, inl, inr, lit<, Bor}
+use Rattle.std.specs.Prelude.{◌⊎◌, Result, Ok, Err, Vec, option_copied, slice_get}
 use Rattle.std.specs.List.{AllByRecursion, list_any}
 use Rattle.std.specs.Option.{option_map}
 use Rattle.std.proofs.lemmas.List.{length-map}
 use Rattle.std.proofs.lemmas.Option.{slice_get-map}
+use Rattle.std.proofs.lemmas.Bool.{or_parts as or_none, or_cases as or_either}
 use Rattle.store_kv.specs.declared.keeper.KeptRow.{KeptRow}
 use Rattle.store_kv.specs.Prefixes.{raised}
 use Rattle.store_kv.specs.Tables.{Has, Tables, rows_between}
@@ -69,10 +70,6 @@ each_has P (z ∷ xs) x all (inr h) = each_has P xs x all.1 h
 last_map : {X Y : Type 0} (f : X → Y) (xs : List X) → slice_get (map f xs) (length (map f xs) - 1) ≡ option_map f (slice_get xs (length xs - 1))
 last_map f xs = ap (λ (n : ℕ). slice_get (map f xs) (n - 1)) (length-map xs f) ∙ slice_get-map f xs (length xs - 1)
 
-or_either : (a b : Bool) → (a || b) ≡ true → (a ≡ true) ⊎ (b ≡ true)
-or_either true b e = inl refl
-or_either false b e = inr e
-
 any_has : {X : Type 0} (p : X → Bool) (xs : List X) → list_any p xs ≡ true → (x : X) × Has xs x × (p x ≡ true)
 any_has p [] e = absurd cc
 any_has {X = X} p (z ∷ xs) e = by (or_either (p z) (list_any p xs) e) (any_has p xs)
@@ -80,10 +77,6 @@ any_has {X = X} p (z ∷ xs) e = by (or_either (p z) (list_any p xs) e) (any_has
     by : (p z ≡ true) ⊎ (list_any p xs ≡ true) → (list_any p xs ≡ true → (x : X) × Has xs x × (p x ≡ true)) → (x : X) × Has (z ∷ xs) x × (p x ≡ true)
     by (inl so) rest = (z, inl refl, so)
     by (inr more) rest = let (x, h, so) = rest more in (x, inr h, so)
-
-or_none : (a b : Bool) → (a || b) ≡ false → (a ≡ false) × (b ≡ false)
-or_none true b e = absurd cc
-or_none false b e = (refl, e)
 
 none_has : {X : Type 0} (p : X → Bool) (xs : List X) → list_any p xs ≡ false → (x : X) → Has xs x → p x ≡ false
 none_has p [] e x h = absurd h
@@ -174,10 +167,6 @@ module _ (kept : List KeptRow) (targets without : List (List ℕ)) where
     page_failed (Err x) Memory is none = tt
 
 -- ---- a page, as it was read
-
-pub returned : {X E : Type 0} (r : Result X E) (e : E) → IsErr r × IsErrAnd r (λ x. x ≡ e) → r ≡ Err e
-returned (Ok x) e h = absurd h.1
-returned (Err y) e h = ap (λ z. Err z) h.1
 
 key_read : {X : Type 0} (f : X → List ℕ) (read : Option (Bor X)) (last : Option X) → option_copied read ≡ last → option_map (λ key. f key.now) read ≡ option_map f last
 key_read f None last e = ap (option_map f) e

@@ -1,17 +1,21 @@
 -- Some row in a field's slot is sought exactly if some record refers to one of the targets by the field.
-use Rattle.std.proofs.Common.{◌≡◌, ℕ, ◌+◌, Bool, true, false, not, ◌&&◌, ◌||◌, cond, IsTrue, List, [], ◌∷◌, ◌++◌, add-one, Option, Some, None, refl, sym, ap, subst, ◌∙◌, inl, inr, arith, bytes_eq}
-use Rattle.std.specs.Prelude.{◌⊎◌, IsSome, Result, Ok, Err, map as plain_map, slice_get}
+use Rattle.std.proofs.Common.{◌≡◌, ℕ, ◌+◌, Bool, true, false, not, cond, IsTrue, List, [], ◌∷◌, ◌++◌, add-one, Option, Some, None, refl, sym, ap, subst, ◌∙◌, inl, inr, arith, bytes_eq}
+use Rattle.std.specs.Prelude.{◌⊎◌, Result, Ok, Err, map as plain_map, slice_get}
 use Rattle.std.specs.FinMap as map
 use Rattle.std.specs.List.{list_any}
 use Rattle.std.specs.Option.{option_and_then}
 use Rattle.std.proofs.lemmas.Slice.Eq.{bytes_eq-Decides}
+use Rattle.std.proofs.lemmas.Bool.{and_from as both, or_left, or_right, or_cases as or_either}
+use Rattle.base_lemmas.proofs.Options.{some_from_IsSome as some_of}
+use Rattle.base_lemmas.proofs.Bools.{and_first as and_left, and_second as and_right, by_answer as pick}
+use Rattle.std.proofs.lemmas.Option.{same_Some as some_is}
 use Rattle.base_value.specs.Id.{is_id}
 use Rattle.base_value.specs.Values.{valid}
 use Rattle.base_value.specs.declared.value.FieldType.{FieldType}
 use Rattle.base_value.specs.declared.value.FieldType.TheVariants as type
 use Rattle.base_value.specs.declared.value.Value.{Value}
 use Rattle.base_value.specs.declared.value.Value.TheVariants as value
-use Rattle.formula_eval.specs.Meaning.{value_at}
+use Rattle.formula.specs.Meaning.{value_at}
 use Rattle.store_kv.specs.declared.keeper.KeptRow.{KeptRow}
 use Rattle.store_kv.specs.Prefixes.{raised}
 use Rattle.store_kv.specs.Tables.{Has as HasRow, IsListing, Place, Tables, is_between, rows_between}
@@ -38,7 +42,6 @@ use Rattle.store_abstraction.specs.Local.{StandsIn, part_of, rows_alone}
 use Rattle.store_abstraction.specs.Plan.{OrgPlan}
 use Rattle.store_abstraction.proofs.LayoutReads.{ListedIn}
 use Rattle.store_abstraction.proofs.MetadataLists.{BeginsSo, PrefixEnds, UnderPrefix}
-use Rattle.record_read.proofs.Lists.{and_left, and_right, pick, some_is}
 use Rattle.record_read.proofs.RecordFits.{MakesIds, record_is_id}
 use Rattle.record_read.proofs.Rising.{filter_has, found_itself, has_filter}
 use Rattle.record_read.proofs.RowFits.{valid_at}
@@ -65,22 +68,6 @@ pub record ManyLaws : Type 0 where
 
 -- ---- tests
 
-both : (a b : Bool) → a ≡ true → b ≡ true → (a && b) ≡ true
-both true b e g = g
-both false b e g = absurd cc
-
-or_left : (a b : Bool) → a ≡ true → (a || b) ≡ true
-or_left true b e = refl
-or_left false b e = absurd cc
-
-or_right : (a b : Bool) → b ≡ true → (a || b) ≡ true
-or_right true b e = refl
-or_right false b e = e
-
-or_either : (a b : Bool) → (a || b) ≡ true → (a ≡ true) ⊎ (b ≡ true)
-or_either true b e = inl refl
-or_either false b e = inr e
-
 any_among : (p : Record → Bool) (r : Record) (rs : List Record) → Has rs r → p r ≡ true → list_any p rs ≡ true
 any_among p r [] h so = absurd h
 any_among p r (x ∷ rs) (inl e) so = or_left (p x) (list_any p rs) (subst (λ (z : Record). p z ≡ true) e so)
@@ -93,10 +80,6 @@ among_any p (x ∷ rs) e = by (or_either (p x) (list_any p rs) e) (among_any p r
     by : (p x ≡ true) ⊎ (list_any p rs ≡ true) → (list_any p rs ≡ true → (r : Record) × Has rs r × (p r ≡ true)) → (r : Record) × Has (x ∷ rs) r × (p r ≡ true)
     by (inl so) rest = (x, inl refl, so)
     by (inr more) rest = let (r, h, so) = rest more in (r, inr h, so)
-
-some_of : {X : Type 0} (o : Option X) → IsSome o → (x : X) × (o ≡ Some x)
-some_of None h = absurd cc
-some_of (Some x) h = (x, refl)
 
 -- ---- what a record refers to is an id
 

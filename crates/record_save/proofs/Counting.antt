@@ -4,8 +4,10 @@ use Rattle.std.specs.Prelude.{filter}
 use Rattle.std.specs.Option.{option_map}
 use Rattle.std.specs.Ordering.{nat_cmp}
 use Rattle.std.specs.Cmp.Lexicographic.{slice_cmp}
-use Rattle.std.proofs.lemmas.Bool.{eqb-false, eqb-true}
-use Rattle.std.proofs.lemmas.Option.{slice_get_within}
+use Rattle.std.proofs.lemmas.Bool.{eqb-false, eqb-true, or_parts as or_false, true≢false as true_false}
+use Rattle.std.proofs.lemmas.Option.{slice_get_within, same_Some as some_is}
+use Rattle.base_lemmas.proofs.Bools.{and_second_false as both_false, by_answer as pick}
+use Rattle.base_lemmas.proofs.Numbers.{eqb-self as eqb_same}
 use Rattle.store_rows.specs.Forms.{row_bytes}
 use Rattle.store_rows.specs.Keys as key
 use Rattle.store_rows.specs.Keys.{FitsKey, Key, key_eq}
@@ -17,12 +19,11 @@ use Rattle.model.specs.Sound.{IsSound}
 use Rattle.model.specs.Tenant.{Object, Tenant}
 use Rattle.model.specs.declared.record.Record.{Record}
 use Rattle.record_save.specs.Creating.{counts_with}
-use Rattle.record_target.proofs.Facts.{both_false, eqb_same, or_false, pick, some_is, true_false}
 use Rattle.store_abstraction.specs.Changes.{is_changed}
 use Rattle.store_abstraction.specs.Metadata.{row_of_object}
 use Rattle.store_abstraction.specs.Plan.{OrgPlan}
 use Rattle.store_abstraction.specs.Stands.{org_of_key, row_in}
-use Rattle.record_diff.specs.Touched.{AreCounts, fresh_plan, is_counted}
+use Rattle.record_index.specs.diff.Touched.{AreCounts, fresh_plan, is_counted}
 
 -- ---- the records of other objects
 

@@ -1,7 +1,8 @@
 -- The changes of a create that is accepted take the organisation's rows to those of the tenant that it leaves.
-use Rattle.std.proofs.Common.{◌≡◌, ◌∙◌, ℕ, ◌<◌, ◌^◌, Bool, true, false, ◌&&◌, IsTrue, List, [], ◌∷◌, Option, Some, None, refl, sym, ap, subst, bytes_eq}
+use Rattle.std.proofs.Common.{◌≡◌, ◌∙◌, ℕ, ◌<◌, ◌^◌, true, false, IsTrue, List, [], ◌∷◌, Option, Some, None, refl, sym, ap, subst, bytes_eq}
 use Rattle.std.specs.Prelude.{Err, IfErr, IfOk, IsErrAnd, Ok, OnOk, Result, slice_get}
 use Rattle.std.specs.List.{AllByRecursion, list_all}
+use Rattle.std.proofs.lemmas.Bool.{and_parts as and_both}
 use Rattle.record_read.specs.Decoding.{kinds_in}
 use Rattle.store_edit.specs.declared.decided.Decided.{Decided}
 use Rattle.store_edit.specs.Edits.{ChangesIn, DecidesTo, FailsBy, Planned, Takes}
@@ -37,7 +38,7 @@ use Rattle.store_abstraction.specs.Layouts.{layout_of}
 use Rattle.store_abstraction.specs.Local.{IsIn}
 use Rattle.store_abstraction.specs.Metadata.{org_of, row_of_object}
 use Rattle.store_abstraction.specs.Plan.{FitsPlan, OrgPlan}
-use Rattle.record_diff.specs.Touched.{fresh_plan, touched_changes}
+use Rattle.record_index.specs.diff.Touched.{fresh_plan, touched_changes}
 use Rattle.base_value.specs.declared.value.FieldType.{FieldType}
 use Rattle.base_value.specs.declared.value.Value.{Value}
 use Rattle.base_value.specs.Id.{made}
@@ -90,10 +91,6 @@ on_ok P Q (Err e) h f = tt
 
 abbrev pub Printable : Type 0
 Printable = (kind : FieldType) (v : Value) → IsTrue (valid kind v) → IsTrue (is_printable v)
-
-and_both : (a b : Bool) → (a && b) ≡ true → (a ≡ true) × (b ≡ true)
-and_both true b e = (refl, e)
-and_both false b e = absurd cc
 
 pub all_printable : Printable → (kinds : List FieldType) (vs : List Value) → IsTrue (all_valid kinds vs) → IsTrue (list_all is_printable vs)
 all_printable print [] [] h = refl

@@ -2,6 +2,7 @@
 use Rattle.std.proofs.Common.{◌≡◌, ◌∙◌, ℕ, Bool, false, cond, List, [], ◌∷◌, map, None, refl, sym, ap, bytes_eq}
 use Rattle.std.specs.Prelude.{Result, Ok, Err}
 use Rattle.std.proofs.lemmas.Slice.Eq.{bytes_eq-Decides}
+use Rattle.base_lemmas.proofs.Bools.{by_answer as pick}
 use Rattle.store_rows.specs.Keys.{Share as ShareKey}
 use Rattle.store_rows.specs.declared.fail.StoreFail.{StoreFail}
 use Rattle.store_rows.specs.declared.share.ShareRow.{ShareRow}
@@ -9,7 +10,6 @@ use Rattle.model.specs.Edits.{same_owner}
 use Rattle.model.specs.Shares.{shares_of}
 use Rattle.model.specs.Tenant.{Share, Tenant}
 use Rattle.model.specs.declared.record.Record.{Record}
-use Rattle.record_target.proofs.Facts.{pick}
 use Rattle.record_target.specs.Shares.{ListsShares, shares_removed}
 use Rattle.record_save.specs.inner.Ended.{EndsShares}
 use Rattle.store_abstraction.specs.Changes.{Change}

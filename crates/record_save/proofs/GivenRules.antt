@@ -49,10 +49,6 @@ kinds_same l = ap (λ (kinds : List FieldType). type.Text 80 ∷ kinds) (same_ki
 
 -- ---- the rules
 
-pub nothing_there : {A : Type 0} (x : Option A) → ((y : A) → x ≡ Some y → ⊥) → x ≡ None
-nothing_there None h = refl
-nothing_there (Some y) h = absurd (h y refl)
-
 value_first : (fields value : Rule) (r : Refusal) → None ≡ fields → value ≡ Some r → Some r ≡ first_refusal (fields ∷ value ∷ [])
 value_first None (Some x) r e h = sym h
 value_first None None r e h = absurd cc

@@ -1,3 +1,8 @@
+pub mod Keys
+pub mod There
+pub mod Plain
+pub mod Deciding
+pub mod UpsertJudging
 pub mod Counting
 pub mod Sharing
 pub mod Taking

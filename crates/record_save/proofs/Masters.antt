@@ -3,8 +3,10 @@
 use Rattle.std.proofs.Common.{◌≡◌, ◌∙◌, ℕ, zero, suc, ◌+◌, Bool, true, false, not, ◌&&◌, cond, List, [], ◌∷◌, ◌++◌, map, find, Option, Some, None, refl, sym, ap, arith}
 use Rattle.std.specs.List.{enumerate_from, flat_map}
 use Rattle.std.specs.Option.{option_and_then}
+use Rattle.base_lemmas.proofs.Numbers.{eqb-self as eqb_same}
+use Rattle.base_lemmas.proofs.Bools.{by_answer as pick}
 use Rattle.record_read.proofs.Standing.{of_object}
-use Rattle.formula_eval.specs.Meaning.{value_at}
+use Rattle.formula.specs.Meaning.{value_at}
 use Rattle.model.specs.Cases.{in_case}
 use Rattle.model.specs.Creates.{empty_record, master_denied}
 use Rattle.model.specs.Edits.{bad_owner, bad_reference, bad_target, is_target}
@@ -19,7 +21,6 @@ use Rattle.model.specs.Tenant.{Field}
 use Rattle.model.specs.declared.record.Record.{Record}
 use Rattle.model.specs.declared.refusal.Refusal.{Refusal}
 use Rattle.model.specs.declared.refusal.Refusal.TheVariants.{InsufficientAccess, InvalidReference}
-use Rattle.record_target.proofs.Facts.{eqb_same, pick}
 use Rattle.record_constraints.specs.References.{named_at}
 use Rattle.store_abstraction.specs.Layouts.{layout_of, place_of}
 use Rattle.store_abstraction.specs.Plan.{OrgPlan}

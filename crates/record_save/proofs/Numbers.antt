@@ -1,9 +1,12 @@
 -- The id of a new record, and the rows that count it.
 use Rattle.std.proofs.Common.{◌≡◌, ◌∙◌, inl, inr, ℕ, ◌+◌, ◌/◌, ◌%◌, ◌*◌, ◌<◌, ◌≤◌, ◌^◌, Bool, true, false, cond, eqb, is_lt, List, [], ◌∷◌, length, Option, Some, None, refl, sym, ap, ap₂, arith, div-one, bytes_eq, Ordering, nat_cmp}
 use Rattle.std.specs.Prelude.{filter}
-use Rattle.std.specs.Cmp.Lexicographic.{bytes_decides, slice_cmp}
+use Rattle.std.specs.Cmp.Lexicographic.{slice_cmp}
 use Rattle.std.specs.declared.cmp.Ordering.TheVariants.{Less}
 use Rattle.std.proofs.lemmas.Bool.Decides.{nat_tests}
+use Rattle.base_lemmas.proofs.Texts.{bytes_eq_false_sym as turned, bytes_eq-self as same_text}
+use Rattle.base_lemmas.proofs.Numbers.{eqb-self as eqb_same}
+use Rattle.base_lemmas.proofs.Bools.{by_answer as pick}
 use Rattle.store_rows.specs.declared.object.ObjectRow.{ObjectRow}
 use Rattle.store_rows.specs.declared.org.OrgRow.{OrgRow}
 use Rattle.model.specs.Creates.{with_record}
@@ -18,13 +21,12 @@ use Rattle.model.specs.World.{having_id}
 use Rattle.store_abstraction.specs.Entries.{job_value}
 use Rattle.store_abstraction.specs.Metadata.{org_of, row_of_object}
 use Rattle.store_abstraction.specs.Plan.{OrgPlan}
-use Rattle.record_diff.specs.Touched.{fresh_plan}
+use Rattle.record_index.specs.diff.Touched.{fresh_plan}
 use Rattle.base_value.specs.declared.job.Phase.{Phase}
 use Rattle.base_value.specs.declared.job.Phase.TheVariants as phase
 use Rattle.base_value.specs.Digits.{digits}
 use Rattle.base_value.specs.Id.{digit62, made, number62, value62}
 use Rattle.record_save.specs.inner.Object.{object_with, row_with}
-use Rattle.record_target.proofs.Facts.{eqb_same, pick, same_text, true_false}
 
 -- ---- the object of a record's id
 
@@ -88,9 +90,6 @@ object_counted org n t o r of = ap (λ (m : ℕ). counting m) (sym (count_put n 
     counting m = record (row_of_object org t n o) { records = m }
 
 -- ---- the id names nothing yet, and then the record
-
-pub turned : (a b : List ℕ) → bytes_eq a b ≡ false → bytes_eq b a ≡ false
-turned a b e = pick (bytes_eq b a) (λ x. x ≡ false) (λ h. absurd (true_false (sym (ap (λ (z : List ℕ). bytes_eq a z) ((bytes_decides b a).0 h) ∙ same_text a) ∙ e))) (λ h. refl)
 
 none_named : (i : List ℕ) (rs : List Record) → ((y : Record) → Has rs y → bytes_eq y.id i ≡ false) → having_id (λ (y : Record). y.id) rs i ≡ None
 none_named i [] h = refl

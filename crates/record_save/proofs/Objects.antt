@@ -2,6 +2,7 @@
 use Rattle.std.proofs.Common.{◌≡◌, ◌≢◌, ◌∙◌, ℕ, Some, ap, refl, subst, sym}
 use Rattle.std.specs.Prelude.{Result, Ok, Err, IsErrAnd}
 use Rattle.std.specs.Option.{option_map}
+use Rattle.std.proofs.lemmas.Option.{same_Some as some_is}
 use Rattle.store_edit.proofs.Reading.{not_missed}
 use Rattle.store_kv.specs.Tables.{Tables}
 use Rattle.store_rows.specs.declared.fail.StoreFail.{StoreFail}
@@ -12,7 +13,6 @@ use Rattle.model.specs.declared.refusal.Refusal.TheVariants.{NotFound}
 use Rattle.model.specs.Objects.{Numbered}
 use Rattle.model.specs.Tenant.{Tenant}
 use Rattle.model.specs.Verdict.{refuse}
-use Rattle.record_target.proofs.Facts.{some_is}
 use Rattle.store_abstraction.specs.declared.layout.Layout.{Layout}
 use Rattle.store_abstraction.specs.Layouts.{own_object_row, own_row}
 use Rattle.store_abstraction.specs.Local.{FindsThere, StandsIn}

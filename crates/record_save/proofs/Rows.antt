@@ -5,6 +5,7 @@ use Rattle.std.specs.List.{AllByRecursion, flat_map, list_all, range_with_len}
 use Rattle.std.specs.Option.{option_and_then, option_map}
 use Rattle.std.proofs.lemmas.Bool.{eqb-true}
 use Rattle.std.proofs.lemmas.List.{append-nil}
+use Rattle.base_lemmas.proofs.Bools.{by_answer as pick}
 use Rattle.store_edit.specs.Rows.{AreFew, AreSpelled, change_to, gone_of}
 use Rattle.store_edit.specs.Rows as rows
 use Rattle.store_edit.specs.declared.decided.Decided.{Decided}
@@ -28,7 +29,7 @@ use Rattle.store_abstraction.specs.Plan.{OrgPlan, slot_count, slot_type}
 use Rattle.store_abstraction.specs.Stands.{Kept, kept_at, kept_in, org_of_key}
 use Rattle.store_abstraction.specs.declared.layout.JobPlace.{JobPlace}
 use Rattle.store_abstraction.specs.declared.layout.Layout.{Layout}
-use Rattle.record_diff.specs.Touched.{fresh_plan, touched_changes}
+use Rattle.record_index.specs.diff.Touched.{fresh_plan, touched_changes}
 use Rattle.base_value.specs.declared.job.Outcome.{Outcome}
 use Rattle.base_value.specs.declared.job.Outcome.TheVariants as outcome
 use Rattle.base_value.specs.declared.job.Phase.{Phase}
@@ -42,7 +43,6 @@ use Rattle.record_target.specs.Shares.{shares_removed}
 use Rattle.record_save.specs.inner.Judged.{HaveKeys, changes_of}
 use Rattle.record_save.specs.inner.Updated.{altered_changes}
 use Rattle.record_save.specs.inner.Object.{FitsCounts}
-use Rattle.record_target.proofs.Facts.{pick}
 
 -- ---- the layout stays
 

@@ -4,6 +4,11 @@ use Rattle.std.specs.Prelude.{bytes_eq, filter}
 use Rattle.std.specs.List.{AllByRecursion, find}
 use Rattle.std.specs.Option.{option_map}
 use Rattle.std.specs.Cmp.Lexicographic.{bytes_decides}
+use Rattle.base_lemmas.proofs.Numbers.{eqb-self as eqb_same}
+use Rattle.base_lemmas.proofs.Bools.{not_both, by_answer as pick}
+use Rattle.std.proofs.lemmas.Bool.{or_parts as or_false}
+use Rattle.base_lemmas.proofs.Texts.{bytes_eq-self as same_text}
+use Rattle.std.proofs.lemmas.Option.{same_Some as some_is}
 use Rattle.store_rows.specs.Forms.{row_bytes}
 use Rattle.store_rows.specs.Keys as key
 use Rattle.store_rows.specs.Keys.{FitsKey, Key, key_eq}
@@ -17,12 +22,11 @@ use Rattle.model.specs.Updates.{with_changed}
 use Rattle.model.specs.declared.record.Record.{Record}
 use Rattle.record_target.proofs.SharePlaces.{SamePrincipals, one_place}
 use Rattle.record_save.specs.Updating.{shares_gone}
-use Rattle.record_target.proofs.Facts.{eqb_same, not_both, or_false, pick, same_text, some_is}
 use Rattle.store_abstraction.specs.Changes.{Change, IsOf, is_changed}
 use Rattle.store_abstraction.specs.Metadata.{row_of_object, row_of_share}
 use Rattle.store_abstraction.specs.Plan.{OrgPlan}
 use Rattle.store_abstraction.specs.Stands.{org_of_key, row_in}
-use Rattle.record_diff.specs.Touched.{AreCounts, is_counted}
+use Rattle.record_index.specs.diff.Touched.{AreCounts, is_counted}
 use Rattle.base_value.specs.declared.sharing.Level.TheVariants.{Read}
 use Rattle.base_value.specs.declared.sharing.Principal.{Principal}
 

@@ -4,8 +4,12 @@ use Rattle.std.specs.Prelude.{Ok, slice_get}
 use Rattle.std.specs.List.{enumerate_from, flat_map}
 use Rattle.std.specs.Option.{option_and_then}
 use Rattle.std.proofs.lemmas.Bool.{eqb-true}
+use Rattle.base_lemmas.proofs.Lists.{find-append_later as found_later}
+use Rattle.base_lemmas.proofs.Numbers.{eqb-self as eqb_same}
+use Rattle.base_lemmas.proofs.Bools.{by_answer as pick}
+use Rattle.std.proofs.lemmas.Option.{same_Some as some_is}
 use Rattle.record_read.proofs.Standing.{IsOf, layout_is}
-use Rattle.formula_eval.specs.Meaning.{value_at}
+use Rattle.formula.specs.Meaning.{value_at}
 use Rattle.store_kv.specs.Tables.{Tables}
 use Rattle.model.specs.Cases.{in_case}
 use Rattle.model.specs.Fields.{is_master}
@@ -17,7 +21,6 @@ use Rattle.model.specs.Updates.{is_copied, master_changed, retype_conflict}
 use Rattle.model.specs.declared.record.Record.{Record}
 use Rattle.model.specs.declared.refusal.Refusal.TheVariants as refusal
 use Rattle.record_save.specs.inner.Staying.{conflict_in, master_moved, staying_rules}
-use Rattle.record_target.proofs.Facts.{eqb_same, pick, some_is}
 use Rattle.schema_rules.specs.Objects.{field_of_place, numbered_in}
 use Rattle.store_abstraction.specs.Layouts.{FindsOf, IsLayout, job_place, layout_of, place_of}
 use Rattle.store_abstraction.specs.Plan.{OrgPlan, slot_type}
@@ -38,11 +41,6 @@ found_first : {A : Type 0} (p : A → Bool) (xs ys : List A) (x : A) → find p 
 found_first p [] ys x e = absurd cc
 found_first p (z ∷ xs) ys x e =
     pick (p z) (λ b. cond b (Some z) (find p xs) ≡ Some x → cond b (Some z) (find p (xs ++ ys)) ≡ Some x) (λ _ e. e) (λ _ e. found_first p xs ys x e) e
-
-found_later : {A : Type 0} (p : A → Bool) (xs ys : List A) → find p xs ≡ None → find p (xs ++ ys) ≡ find p ys
-found_later p [] ys e = refl
-found_later p (z ∷ xs) ys e =
-    pick (p z) (λ b. cond b (Some z) (find p xs) ≡ None → cond b (Some z) (find p (xs ++ ys)) ≡ find p ys) (λ _ e. absurd cc) (λ _ e. found_later p xs ys e) e
 
 module _ (n : ℕ) where
   abbrev pub masters : Reference → Bool

@@ -19,14 +19,14 @@ use Rattle.model.specs.Verdict.{Done, Verdict, accept, unless}
 use Rattle.store_abstraction.specs.Changes.{Change, IsOf, is_changed}
 use Rattle.store_abstraction.specs.Plan.{FitsPlan, OrgPlan}
 use Rattle.store_abstraction.specs.Stands.{org_of_key, row_in}
-use Rattle.record_diff.specs.Touched.{AreCounts, HasSoundRows, IsTouched, NoneTakes, fresh_plan, touched_changes}
+use Rattle.record_index.specs.diff.Touched.{AreCounts, HasSoundRows, IsTouched, NoneTakes, fresh_plan, touched_changes}
 use Rattle.record_save.specs.Creating.{PlansNew, answered_new, counts_with, created_changes, new_record}
 use Rattle.record_save.specs.Updating.{PlansSame, answered_changed, shares_gone, updated_changes}
 use Rattle.record_save.proofs.Counting.{counted}
 use Rattle.record_target.proofs.SharePlaces.{SamePrincipals}
 use Rattle.record_save.proofs.Sharing as sharing
 
--- what `record_diff` says of what is touched
+-- what `record_index` says of what is touched
 abbrev pub Are : Type 0
 Are = (org : ℕ) (p q : OrgPlan) (t u : Tenant) (ids : List (List ℕ)) (counts : List Change)
     → IsTouched p q t u ids → HasSoundRows p t → HasSoundRows q u → NoneTakes p q t u ids → AreCounts org p q t u counts

@@ -5,6 +5,9 @@ use Rattle.std.specs.List.{AllByRecursion, list_all}
 use Rattle.std.specs.Option.{option_and_then}
 use Rattle.std.proofs.lemmas.Bool.{eqb-true}
 use Rattle.std.proofs.lemmas.List.{append-nil}
+use Rattle.base_lemmas.proofs.Bools.{by_answer as pick}
+use Rattle.base_lemmas.proofs.Texts.{bytes_eq-self as same_text, bytes_eq_false_sym as turned}
+use Rattle.std.proofs.lemmas.Option.{same_Some as some_is}
 use Rattle.record_read.proofs.Standing.{Found, found_of}
 use Rattle.record_read.specs.Decoding.{kinds_in}
 use Rattle.store_edit.specs.Edits.{Takes}
@@ -36,7 +39,7 @@ use Rattle.store_abstraction.specs.Entries.{data_of, slot_entry}
 use Rattle.store_abstraction.specs.Layouts.{layout_of}
 use Rattle.store_abstraction.specs.Plan.{FitsPlan, OrgPlan}
 use Rattle.store_abstraction.specs.Stands.{kept_at}
-use Rattle.record_diff.specs.Touched.{touched_changes}
+use Rattle.record_index.specs.diff.Touched.{touched_changes}
 use Rattle.base_value.specs.Printing.{is_printable}
 use Rattle.record_save.specs.Creating.{IsObject}
 use Rattle.record_save.specs.declared.updating.Altered.{Altered}
@@ -48,8 +51,6 @@ use Rattle.record_save.specs.inner.Giving.{altered}
 use Rattle.record_save.specs.inner.Updated.{IsAltered, altered_changes}
 use Rattle.record_save.specs.Updating.{PlansSame, answered_changed, shares_gone, updated_changes}
 use Rattle.record_save.proofs.Creates.{Printable, all_printable}
-use Rattle.record_target.proofs.Facts.{pick, same_text, some_is}
-use Rattle.record_save.proofs.Numbers.{turned}
 
 -- ---- the record is the one that its id names, before and after
 

@@ -28,7 +28,7 @@ use Rattle.store_abstraction.specs.Metadata.{org_of, row_of_object}
 use Rattle.store_abstraction.specs.Plan.{OrgPlan}
 use Rattle.store_abstraction.specs.declared.fail.EditFail.{EditFail}
 use Rattle.store_abstraction.specs.declared.layout.Layout.{Layout}
-use Rattle.record_diff.specs.Touched.{fresh_plan, touched_changes}
+use Rattle.record_index.specs.diff.Touched.{fresh_plan, touched_changes}
 
 -- ---- who gives values to a record
 

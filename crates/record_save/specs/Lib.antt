@@ -1,3 +1,4 @@
+pub mod upsert
 pub mod Creating
 pub mod Updating
 pub mod inner

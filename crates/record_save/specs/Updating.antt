@@ -27,7 +27,7 @@ use Rattle.store_abstraction.specs.Plan.{OrgPlan}
 use Rattle.store_abstraction.specs.declared.fail.EditFail.{EditFail}
 use Rattle.store_abstraction.specs.declared.layout.Layout.{Layout}
 use Rattle.record_save.specs.Creating.{IsObject}
-use Rattle.record_diff.specs.Touched.{touched_changes}
+use Rattle.record_index.specs.diff.Touched.{touched_changes}
 
 -- the rows of the shares that end
 abbrev pub shares_gone : (org : ℕ) → Tenant → (old new : Record) → List Change

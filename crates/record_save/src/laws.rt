@@ -18,10 +18,10 @@ ghost use Rattle.model.specs.declared.record.Record.{Record};
 ghost use Rattle.record_save.specs.Creating.{PlansNew, answered_new, counts_with, created_changes, new_record};
 ghost use Rattle.record_save.specs.Updating.{PlansSame, answered_changed, shares_gone, updated_changes};
 ghost use Rattle.store_abstraction.specs.Plan.{FitsPlan, OrgPlan};
-ghost use Rattle.record_diff.specs.Touched.{AreCounts, fresh_plan, touched_changes};
+ghost use Rattle.record_index.specs.diff.Touched.{AreCounts, fresh_plan, touched_changes};
 
 use base_value::principal_laws;
-use record_diff::touched_laws;
+use record_index::touched_laws;
 
 /// The laws of a new record's rows. The call does nothing.
 pub fn create_laws()

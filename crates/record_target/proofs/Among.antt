@@ -1,27 +1,11 @@
 -- Members of lists, and lists in an order, where some are left out.
-use Rattle.std.proofs.Common.{◌≡◌, ◌∙◌, Bool, true, false, ◌&&◌, cond, T, List, [], ◌∷◌, map, filter, refl, ap, sym, subst, inl, inr, is_lt, Less, Equal, Greater, Ordering}
+use Rattle.std.proofs.Common.{◌≡◌, ◌∙◌, Bool, true, false, cond, T, List, [], ◌∷◌, map, filter, refl, ap, sym, subst, inl, inr, is_lt, Less, Ordering}
 use Rattle.std.specs.FinMap.{is_sorted}
 use Rattle.std.specs.FinMap.Entries.{below_all}
 use Rattle.std.specs.List.{AllByRecursion}
+use Rattle.base_lemmas.proofs.Bools.{T-and_first as t_left, T-and_second as t_right, T-and_from as t_both, by_answer as pick}
+use Rattle.base_lemmas.proofs.Orders.{less_from_T as is_less}
 use Rattle.model.specs.Membership.{Has}
-use Rattle.record_target.proofs.Facts.{pick}
-
-pub t_both : (a b : Bool) → T a → T b → T (a && b)
-t_both true b p q = q
-t_both false b p q = p
-
-pub t_left : (a b : Bool) → T (a && b) → T a
-t_left true b p = tt
-t_left false b p = p
-
-pub t_right : (a b : Bool) → T (a && b) → T b
-t_right true b p = p
-t_right false b p = absurd p
-
-is_less : (o : Ordering) → T (is_lt o) → o ≡ Less
-is_less Less p = refl
-is_less Equal p = absurd p
-is_less Greater p = absurd p
 
 -- ---- members
 

@@ -1,4 +1,3 @@
-pub mod Facts
 pub mod Spelled
 pub mod Objects
 pub mod Ready

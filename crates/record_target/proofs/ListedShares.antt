@@ -1,15 +1,19 @@
 -- The rows of a record's manual shares among those of its organisation alone, in the order of their keys.
-use Rattle.std.proofs.Common.{◌≡◌, ◌∙◌, ℕ, ◌<◌, ◌^◌, Bool, true, false, cond, T, IsTrue, List, [], ◌∷◌, ◌++◌, length, map, Option, Some, None, is_some, refl, sym, ap, subst, inl, inr, arith, is_lt, is_eq, find, Equal, Ordering, bytes_eq}
+use Rattle.std.proofs.Common.{◌≡◌, ◌∙◌, ℕ, ◌<◌, ◌^◌, Bool, true, false, cond, T, IsTrue, List, [], ◌∷◌, ◌++◌, length, map, Option, Some, None, is_some, refl, sym, ap, subst, inl, inr, arith, is_lt, is_eq, find, Ordering, bytes_eq}
 use Rattle.std.specs.Prelude.{slice_index}
-use Rattle.std.specs.Cmp.{IsTotalOrder, nat_cmp_total, on_total, then_total}
+use Rattle.std.specs.Cmp.{IsTotalOrder, on_total, then_total}
 use Rattle.std.specs.Cmp.Lexicographic.{nat_list_cmp_total}
 use Rattle.std.specs.FinMap.{is_sorted}
 use Rattle.std.specs.FinMap.Entries.{below_all}
 use Rattle.std.specs.List.{AllByRecursion, list_all}
 use Rattle.std.specs.Option.{option_map}
-use Rattle.std.specs.Ordering.{nat_cmp, ordering_reverse, ordering_then}
+use Rattle.std.specs.Ordering.{ordering_reverse, ordering_then}
 use Rattle.std.proofs.lemmas.Cmp.{tied_itself}
 use Rattle.std.proofs.lemmas.Slice.Eq.{bytes_eq-Decides}
+use Rattle.base_lemmas.proofs.Orders.{nat_cmp-self as tied}
+use Rattle.base_lemmas.proofs.Bools.{T-and_from as t_both, T-and_first as t_left, T-and_second as t_right}
+use Rattle.base_lemmas.proofs.Numbers.{eqb-self as eqb_same}
+use Rattle.std.proofs.lemmas.Option.{same_Some as some_is}
 use Rattle.record_read.proofs.RecordFits.{MakesIds, record_is_id}
 use Rattle.record_read.proofs.Standing.{found_id}
 use Rattle.store_kv.specs.Prefixes.{raised}
@@ -33,8 +37,7 @@ use Rattle.model.specs.declared.record.Record.{Record}
 use Rattle.store_codec.specs.Choices.{Levels, is_spelled}
 use Rattle.store_codec.specs.Plain.{number32, number8}
 use Rattle.store_codec.specs.Shapes.{Both, Identity, Named, Number16, Number32, spelled}
-use Rattle.record_target.proofs.Among.{all_at, among_kept, below_at, kept_among, rise_kept, t_both, t_left, t_right}
-use Rattle.record_target.proofs.Facts.{eqb_same, some_is}
+use Rattle.record_target.proofs.Among.{all_at, among_kept, below_at, kept_among, rise_kept}
 use Rattle.record_target.proofs.SharePlaces.{SamePrincipals, one_place}
 use Rattle.store_abstraction.specs.Local.{rows_alone}
 use Rattle.store_abstraction.specs.Metadata.{row_of_share}
@@ -148,9 +151,6 @@ unfolding number32
 marks_apart org other id rest more e =
     let wrong : 1 ≡ 0 = ap (λ (bytes : List ℕ). slice_index bytes 4) e in
     omega (arith, wrong)
-
-tied : (n : ℕ) → nat_cmp n n ≡ Equal
-tied n = tied_itself nat_cmp_total n
 
 module _ (keys : KeyLaws) (q : OrgPlan) (t : Tenant) (org : ℕ) (lo : org < 2 ^ 32) (sound : IsSound t) where
   abbrev rows : Key → Option (List ℕ)

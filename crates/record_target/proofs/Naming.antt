@@ -2,6 +2,7 @@
 use Rattle.std.proofs.Common.{◌≡◌, ◌∙◌, ℕ, Bool, true, false, not, cond, List, [], ◌∷◌, Option, Some, None, refl, sym, ap, subst}
 use Rattle.std.specs.Prelude.{IfOk, Result, Ok, Err, IsErrAnd}
 use Rattle.std.specs.Option.{option_and_then}
+use Rattle.base_lemmas.proofs.Bools.{by_answer as pick}
 use Rattle.record_read.proofs.Standing.{Found, found_of}
 use Rattle.store_edit.specs.Naming.{NamesLayout}
 use Rattle.store_kv.specs.Tables.{Tables}
@@ -20,7 +21,6 @@ use Rattle.model.specs.declared.refusal.Refusal.{Refusal}
 use Rattle.model.specs.declared.refusal.Refusal.TheVariants.{InsufficientAccess, InvalidType, MalformedId, NotFound}
 use Rattle.record_target.specs.declared.kept.KeptRecord.{KeptRecord}
 use Rattle.record_target.specs.declared.named.Named.{Named}
-use Rattle.record_target.proofs.Facts.{pick}
 use Rattle.record_target.specs.Named.{FindsNamed, FindsPermitted, FitsNamed, IsNamed, IsPermitted, NamesNone, NamesRecord}
 use Rattle.record_target.specs.inner.Permitting.{permit}
 use Rattle.record_target.proofs.Objects.{IsOn}

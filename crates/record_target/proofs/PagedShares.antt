@@ -1,8 +1,10 @@
 -- What a page of a record's manual shares gives is the shares that its tenant has of it.
-use Rattle.std.proofs.Common.{◌≡◌, ℕ, ◌≤◌, ◌<◌, ◌^◌, false, cond, IsTrue, List, ◌++◌, length, map, take, Option, Some, None, refl, sym, subst, arith, nat_le}
-use Rattle.std.specs.Prelude.{IsSome, Result, Ok, Err, Vec}
+use Rattle.std.proofs.Common.{◌≡◌, ℕ, ◌≤◌, ◌<◌, ◌^◌, false, cond, IsTrue, List, ◌++◌, length, map, take, Option, Some, sym, subst, arith, nat_le}
+use Rattle.std.specs.Prelude.{Result, Ok, Err, Vec}
 use Rattle.std.proofs.lemmas.Bool.Decides.{nat_tests}
 use Rattle.std.proofs.lemmas.List.{length-map, take_all}
+use Rattle.base_lemmas.proofs.Options.{some_from_IsSome as some_of}
+use Rattle.base_lemmas.proofs.Bools.{by_answer as pick}
 use Rattle.store_kv.specs.declared.keeper.KeptRow.{KeptRow}
 use Rattle.store_kv.specs.Prefixes.{raised}
 use Rattle.store_kv.specs.Tables.{Tables, rows_between}
@@ -14,7 +16,6 @@ use Rattle.store_rows.specs.Reads.{ListsAs}
 use Rattle.store_rows.specs.Rows.{share_form}
 use Rattle.model.specs.Shares.{shares_of}
 use Rattle.model.specs.Tenant.{Tenant}
-use Rattle.record_target.proofs.Facts.{pick}
 use Rattle.record_target.proofs.ListedShares.{KeyLaws, prefix_of, shares_listed}
 use Rattle.record_target.specs.Shares.{ListsShares}
 use Rattle.store_codec.specs.Plain.{number8}
@@ -36,10 +37,6 @@ pub record ReadLaws : Type 0 where
   pub listed : ListedIn
 
 -- ---- what is read
-
-some_of : {X : Type 0} (o : Option X) → IsSome o → (x : X) × (o ≡ Some x)
-some_of None h = absurd cc
-some_of (Some x) h = (x, refl)
 
 module _ {A : Type 0} (laws : ReadLaws) (m : Tables) (org : ℕ) (lo : org < 2 ^ 32) (id : List ℕ) (is : IsTrue (is_id id)) where
   module _ (r : Result (Vec ShareRow A) StoreFail) (e : ListsAs share_form (take 101 (rows_to m 12 (prefix_of org id) (raised (prefix_of org id)))) r) where

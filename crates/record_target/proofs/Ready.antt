@@ -3,13 +3,13 @@ use Rattle.std.proofs.Common.{◌≡◌, ℕ, suc, zero, ◌+◌, ◌≤◌, Boo
 use Rattle.std.specs.Prelude.{slice_get}
 use Rattle.std.specs.List.{AllByRecursion, enumerate_from}
 use Rattle.std.proofs.lemmas.Bool.Decides.{nat_tests}
-use Rattle.record_read.proofs.Lists.{and_left, and_right}
+use Rattle.base_lemmas.proofs.Bools.{and_first as and_left, and_second as and_right}
+use Rattle.std.proofs.lemmas.Option.{same_Some as some_is}
 use Rattle.record_read.specs.Decoding.{has_types}
 use Rattle.model.specs.Objects.{Numbered, object_numbered}
 use Rattle.model.specs.Sound.{IsSound}
 use Rattle.model.specs.SoundMetadata.{IsSoundObject}
 use Rattle.model.specs.Tenant.{Field, Object, Tenant}
-use Rattle.record_target.proofs.Facts.{some_is}
 use Rattle.record_target.proofs.Objects.{IsOn, Named}
 use Rattle.record_target.specs.Usable.{IsReady, IsUsable}
 use Rattle.record_index.specs.Turned.{converts}

@@ -1,10 +1,9 @@
 -- Manual shares of the same record with the same principal.
-use Rattle.std.proofs.Common.{◌≡◌, ◌∙◌, true, IsTrue, refl}
+use Rattle.std.proofs.Common.{◌≡◌, ◌∙◌, true, IsTrue}
 use Rattle.std.specs.Prelude.{◌↔◌}
-use Rattle.std.specs.Ordering.{eq_by_cmp, is_eq, nat_cmp, ordering_then}
+use Rattle.std.specs.Ordering.{eq_by_cmp, nat_cmp}
 use Rattle.std.specs.Cmp.Lexicographic.{bytes_decides, slice_cmp, texts_ties}
-use Rattle.std.specs.declared.cmp.Ordering.{Ordering}
-use Rattle.std.specs.declared.cmp.Ordering.TheVariants.{Less, Equal, Greater}
+use Rattle.base_lemmas.proofs.Orders.{ordering_then_equal_parts as first_equal}
 use Rattle.model.specs.Shares.{same_share}
 use Rattle.model.specs.Tenant.{Share}
 use Rattle.base_value.specs.Principals.{principal_cmp}
@@ -13,11 +12,6 @@ use Rattle.base_value.specs.declared.sharing.Principal.{Principal}
 -- what `base_value` says of principals
 abbrev pub SamePrincipals : Type 0
 SamePrincipals = (p q : Principal) → IsTrue (eq_by_cmp principal_cmp p q) ↔ (p ≡ q)
-
-first_equal : (a b : Ordering) → is_eq (ordering_then a b) ≡ true → (is_eq a ≡ true) × (is_eq b ≡ true)
-first_equal Less b e = absurd cc
-first_equal Equal b e = (refl, e)
-first_equal Greater b e = absurd cc
 
 pub one_place : SamePrincipals → (x s : Share) → same_share x s ≡ true → (x.item ≡ s.item) × (x.to ≡ s.to)
 one_place same x s e =

@@ -3,7 +3,7 @@
 //! It depends on `store_edit` and `record_read` for what the tables have, on `access_traits` for the user's level on a record, on `record_index` for
 //! what a layout converts, and on `schema_rules` for the object that a layout spells. Its contract: over tables in which the organisation's
 //! rows stand for a tenant, `find_permitted` finds the object with a name and its record that a text names, on which the user has the
-//! level that a request needs, or fails as that request does; and `find_named` the same, whatever level it needs.
+//! level that a request needs, or fails as that request does.
 #![tactic(auto)]
 
 mod kept;
@@ -12,6 +12,6 @@ mod shares;
 mod usable;
 
 pub use crate::kept::{KeptRecord, kept_record};
-pub use crate::named::{Named, find_named, find_permitted, ready_layout};
+pub use crate::named::{Named, find_permitted, ready_layout};
 pub use crate::shares::{remove_shares, shares_of};
-pub use crate::usable::{is_ready, is_usable};
+pub use crate::usable::is_ready;

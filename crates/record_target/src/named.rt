@@ -109,14 +109,8 @@ fn named_record<K: Keeper>(
     }
 }
 
-/// The object with this name, and its record that a text names.
-///
-/// # Errors
-///
-/// `Refused` with `InvalidType` if there is no such object, `MalformedId` if the text spells no id, `NotFound` if the object has no
-/// record with that id. `Store` with `Keeper` if the keeper failed, `Memory` if out of memory, `Damaged` never if the organisation's
-/// rows stand for a tenant.
-pub fn find_named<K: Keeper>(
+// The object with this name, and its record that a text names.
+fn find_named<K: Keeper>(
     alloc: Global,
     draft: &mut Draft<'_, K>,
     org: u32,
@@ -159,9 +153,10 @@ fn permit(named: Named, least: Level, level: Result<Level, StoreFail>) -> Result
 ///
 /// # Errors
 ///
-/// `Refused` as by `find_named`, with `NotFound` also if the user may not read the record, and else with `InsufficientAccess` if the
-/// level is too low. `Store` with `Keeper` if the keeper failed, `Memory` if out of memory, `Damaged` never if the organisation's rows
-/// stand for a tenant of whose user the rights are.
+/// `Refused` with `InvalidType` if there is no such object, `MalformedId` if the text spells no id, `NotFound` if the object has no
+/// record with that id or the user may not read it, and else `InsufficientAccess` if the level is too low. `Store` with `Keeper` if
+/// the keeper failed, `Memory` if out of memory, `Damaged` never if the organisation's rows stand for a tenant of whose user the
+/// rights are.
 pub fn find_permitted<K: Keeper, R: Rights>(
     alloc: Global,
     draft: &mut Draft<'_, K>,

@@ -11,8 +11,8 @@ use store_abstraction::Layout;
 // The most custom fields of an object.
 const MOST_FIELDS: usize = 40;
 
-/// Whether a layout has as few fields as an object may have, of types within their bounds.
-pub fn is_usable(layout: &Layout) -> bool
+// Whether a layout has as few fields as an object may have, of types within their bounds.
+fn is_usable(layout: &Layout) -> bool
     ensures { result ≡ (nat_le (length layout.now.fields) 40 && has_types layout.now) }
 {
     layout.fields.as_slice().len() <= MOST_FIELDS && has_types(layout)

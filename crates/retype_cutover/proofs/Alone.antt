@@ -3,6 +3,7 @@ use Rattle.std.proofs.Common.{◌≡◌, ℕ, true, false, ◌&&◌, cond, eqb, 
 use Rattle.std.specs.Prelude.{slice_get}
 use Rattle.std.proofs.lemmas.Bool.{eqb-true}
 use Rattle.std.specs.Option.{option_and_then, option_map}
+use Rattle.base_lemmas.proofs.Bools.{by_answer as pick}
 use Rattle.store_rows.specs.Keys.{Key, Version, Org, Object, Field, Job, User, Role, Group, Validation, Sharing, Data, Index, Unique, Relation, Owner, Share, Grant}
 use Rattle.model.specs.declared.record.Record.{Record}
 use Rattle.model.specs.Cases.{in_case}
@@ -18,7 +19,6 @@ use Rattle.store_abstraction.specs.Plan.{OrgPlan, slot_type, type_there}
 use Rattle.store_abstraction.specs.Records.{object_of_records}
 use Rattle.store_abstraction.specs.Stands.{row_in}
 use Rattle.store_abstraction.proofs.Kept.{kept, none}
-use Rattle.store_abstraction.proofs.Lookups.{pick}
 use Rattle.store_abstraction.proofs.Placed.{kept_alike, no_records}
 use Rattle.base_value.specs.declared.job.Outcome.{Outcome}
 use Rattle.base_value.specs.declared.job.Outcome.TheVariants as outcome

@@ -1,11 +1,11 @@
 -- The key of the change of a type, and keys beside those of changes.
 use Rattle.std.proofs.Common.{◌≡◌, ◌↔◌, ℕ, Bool, true, false, ◌&&◌, eqb, IsTrue, Some, refl, sym, ap, ◌∙◌}
-use Rattle.std.proofs.lemmas.Bool.{eqb-true}
+use Rattle.std.proofs.lemmas.Bool.{eqb-true, false≢true as clash}
+use Rattle.base_lemmas.proofs.Bools.{by_answer as pick, and_first, and_second}
+use Rattle.std.proofs.lemmas.Option.{same_Some as some_is}
 use Rattle.store_rows.specs.Keys.{Key, Field, Job, key_eq}
 use Rattle.store_abstraction.specs.Records.{is_field_key}
 use Rattle.store_abstraction.specs.Stands.{org_of_key}
-use Rattle.store_abstraction.proofs.Lookups.{pick, some_is}
-use Rattle.retype_cutover.proofs.Lists.{and_first, and_second, clash}
 
 abbrev pub is_job_key : Key → Bool
 is_job_key (Job org) = true

@@ -1,5 +1,5 @@
 -- Lists, tests of two parts, and records that are found by their ids.
-use Rattle.std.proofs.Common.{◌≡◌, ℕ, zero, suc, Bool, true, false, ◌&&◌, ◌||◌, cond, eqb, T, List, [], ◌∷◌, map, filter, take, Some, refl, sym, ap, ◌∙◌, subst, inl, inr, Ordering}
+use Rattle.std.proofs.Common.{◌≡◌, ℕ, zero, suc, Bool, true, false, cond, eqb, T, List, [], ◌∷◌, map, filter, take, Some, refl, sym, ap, ◌∙◌, subst, inl, inr, Ordering}
 use Rattle.std.specs.Prelude.{slice_get}
 use Rattle.std.specs.FinMap.{is_sorted}
 use Rattle.std.specs.FinMap.Entries.{below_all}
@@ -7,43 +7,21 @@ use Rattle.std.specs.List.{AllByRecursion, list_all}
 use Rattle.std.specs.Ordering.{is_lt, nat_cmp}
 use Rattle.std.specs.Cmp.Lexicographic.{slice_cmp}
 use Rattle.std.specs.Str.{bytes_eq}
-use Rattle.std.proofs.lemmas.Bool.{eqb-false, eqb-true}
+use Rattle.std.proofs.lemmas.Bool.{eqb-false, eqb-true, false≢true as clash}
 use Rattle.std.proofs.lemmas.Cmp.{nat_list_cmp_total, tied_itself}
 use Rattle.std.proofs.lemmas.Slice.Eq.{bytes_eq-Decides}
+use Rattle.base_lemmas.proofs.Bools.{and_first, and_second, T-and_first as t_first, T-and_second as t_second, true_from_T as t_true, by_answer as pick}
+use Rattle.std.proofs.lemmas.Option.{same_Some as some_is}
 use Rattle.model.specs.declared.record.Record.{Record}
 use Rattle.model.specs.Membership.{Has}
 use Rattle.model.specs.SoundPeople.{ids_rise}
 use Rattle.model.specs.SoundRecords.{record_id}
 use Rattle.model.specs.World.{having_id}
-use Rattle.store_abstraction.proofs.Lookups.{pick, some_is}
 
 -- ---- tests
 
-pub clash : false ≡ true → ⊥
-clash e = cc
-
 pub flip : (a b : ℕ) → eqb a b ≡ false → eqb b a ≡ false
 flip a b e = pick (eqb b a) (λ c. c ≡ false) (λ f. absurd (eqb-false a b e (sym (eqb-true b a f)))) (λ _. refl)
-
-pub and_first : (a b : Bool) → (a && b) ≡ true → a ≡ true
-and_first true b e = refl
-and_first false b e = absurd cc
-
-pub and_second : (a b : Bool) → (a && b) ≡ true → b ≡ true
-and_second true b e = e
-and_second false b e = absurd cc
-
-pub both : (a b : Bool) → a ≡ true → b ≡ true → (a && b) ≡ true
-both true b e f = f
-both false b e f = absurd cc
-
-pub or_first : (a b : Bool) → (a || b) ≡ false → a ≡ false
-or_first false b e = refl
-or_first true b e = absurd cc
-
-pub or_second : (a b : Bool) → (a || b) ≡ false → b ≡ false
-or_second false b e = e
-or_second true b e = absurd cc
 
 -- ---- lists
 
@@ -89,18 +67,6 @@ id_cmp = slice_cmp nat_cmp
 
 abbrev with_ids : List Record → List (List ℕ × Record)
 with_ids rs = map (λ (r : Record). (record_id r, r)) rs
-
-t_first : (a b : Bool) → T (a && b) → T a
-t_first true b h = tt
-t_first false b h = absurd h
-
-t_second : (a b : Bool) → T (a && b) → T b
-t_second true b h = h
-t_second false b h = absurd h
-
-t_true : (a : Bool) → T a → a ≡ true
-t_true true h = refl
-t_true false h = absurd h
 
 below_has : (k : List ℕ) (rs : List Record) (r : Record) → T (below_all id_cmp k (with_ids rs)) → Has rs r → is_lt (id_cmp k r.id) ≡ true
 below_has k [] r h has = absurd has

@@ -4,8 +4,12 @@ use Rattle.std.proofs.Common.{◌≡◌, ℕ, zero, suc, ◌<◌, Bool, true, fa
 use Rattle.std.specs.Prelude.{slice_get, slice_set}
 use Rattle.std.specs.List.{enumerate_from}
 use Rattle.std.specs.Option.{option_and_then, option_map}
-use Rattle.std.proofs.lemmas.Bool.{eqb-false, eqb-true}
-use Rattle.formula_eval.specs.Meaning.{value_at}
+use Rattle.std.proofs.lemmas.Bool.{eqb-false, eqb-true, and_from as both, false≢true as clash}
+use Rattle.base_lemmas.proofs.Numbers.{eqb-self as eqb_same}
+use Rattle.base_lemmas.proofs.Lists.{length-map_by as mapped_length}
+use Rattle.std.proofs.lemmas.Option.{none-some as none_is, same_Some as some_is}
+use Rattle.base_lemmas.proofs.Bools.{by_answer as pick, and_first, and_second}
+use Rattle.formula.specs.Meaning.{value_at}
 use Rattle.store_rows.specs.Forms.{row_bytes}
 use Rattle.store_rows.specs.Keys.{Key, Version, Org, Object, Field, Job, User, Role, Group, Validation, Sharing, Data, Index, Unique, Relation, Owner, Share, Grant}
 use Rattle.store_rows.specs.Rows.{field_form, object_form, validation_form}
@@ -29,7 +33,6 @@ use Rattle.store_abstraction.specs.Plan.{FitsPlan, OrgPlan, has_field, slot_coun
 use Rattle.store_abstraction.specs.Records.{KeptAlike, is_field_key, object_of_records}
 use Rattle.store_abstraction.specs.Stands.{kept_in, row_in}
 use Rattle.store_abstraction.proofs.Kept.{kept, none}
-use Rattle.store_abstraction.proofs.Lookups.{eqb_same, mapped_length, none_is, pick, some_is}
 use Rattle.store_abstraction.proofs.MetadataRows.{all_at, and_then_some, sound_object}
 use Rattle.store_abstraction.proofs.Placed.{alike_same, get_changed, no_records}
 use Rattle.base_value.specs.Conversion.{convert, convertible}
@@ -42,7 +45,7 @@ use Rattle.base_value.specs.declared.value.FieldType.{FieldType}
 use Rattle.base_value.specs.declared.value.Value.{Value}
 use Rattle.retype_cutover.specs.Switch.{changing_value, switched_plan}
 use Rattle.retype_cutover.proofs.Keys.{is_job_key}
-use Rattle.retype_cutover.proofs.Lists.{all_has, and_first, and_second, both, clash, filter_has, flip, found_id, found_itself, get_mapped, of_has, take_none}
+use Rattle.retype_cutover.proofs.Lists.{all_has, filter_has, flip, found_id, found_itself, get_mapped, of_has, take_none}
 use Rattle.retype_cutover.proofs.Slots.{field_apart, field_at, field_none, found_is}
 use Rattle.retype_cutover.proofs.Values.{entry_of, not_past, set_here, set_other, valid_at}
 

@@ -3,10 +3,13 @@
 use Rattle.std.proofs.Common.{◌≡◌, ℕ, suc, ◌<◌, ◌^◌, Bool, true, false, ◌||◌, cond, IsTrue, List, [], ◌∷◌, length, Option, Some, None, refl, sym, ap, ◌∙◌, subst}
 use Rattle.std.specs.Prelude.{slice_get}
 use Rattle.std.specs.Option.{option_and_then, option_map}
-use Rattle.std.proofs.lemmas.Bool.{eqb-true}
+use Rattle.std.proofs.lemmas.Bool.{eqb-true, false≢true as clash}
+use Rattle.base_lemmas.proofs.Numbers.{eqb-self as eqb_same}
+use Rattle.std.proofs.lemmas.Option.{none-some as none_is, same_Some as some_is}
+use Rattle.base_lemmas.proofs.Bools.{by_answer as pick, or_first_false as or_first, or_second_false as or_second}
 use Rattle.store_edit.specs.Edits.{Planned, Takes}
 use Rattle.store_edit.specs.Rows.{change_to}
-use Rattle.formula_eval.specs.Meaning.{value_at}
+use Rattle.formula.specs.Meaning.{value_at}
 use Rattle.store_rows.specs.Forms.{row_bytes}
 use Rattle.store_rows.specs.Keys.{Field, Job, Key, key_eq}
 use Rattle.store_rows.specs.Rows.{field_form, job_form}
@@ -27,7 +30,6 @@ use Rattle.store_abstraction.specs.Changes.{IsOf, is_changed}
 use Rattle.store_abstraction.specs.Metadata.{field_of, job_of}
 use Rattle.store_abstraction.specs.Plan.{FitsPlan, OrgPlan, has_field, is_clearing, slot_count, type_there}
 use Rattle.store_abstraction.specs.Stands.{org_of_key, row_in}
-use Rattle.store_abstraction.proofs.Lookups.{eqb_same, none_is, pick, some_is}
 use Rattle.store_abstraction.proofs.MetadataRows.{all_at, and_then_some, field_fits, sound_object}
 use Rattle.store_abstraction.proofs.Placed.{get_changed}
 use Rattle.base_value.specs.Conversion.{convert}
@@ -41,7 +43,7 @@ use Rattle.base_value.specs.declared.value.Value.{Value}
 use Rattle.retype_cutover.specs.Switch.{any_plan, changing_value, stopped_plan, switch_changes, switched_plan}
 use Rattle.retype_cutover.proofs.Alone as alone
 use Rattle.retype_cutover.proofs.Keys.{EqualKeys, is_job_key, other_field, other_job}
-use Rattle.retype_cutover.proofs.Lists.{clash, found_id, get_mapped, of_has, or_first, or_second}
+use Rattle.retype_cutover.proofs.Lists.{found_id, get_mapped, of_has}
 use Rattle.retype_cutover.proofs.Switched as switch
 use Rattle.retype_cutover.proofs.Values.{valid_at}
 

@@ -4,14 +4,14 @@ use Rattle.std.specs.Prelude.{slice_get, slice_set}
 use Rattle.std.specs.Ordering.{is_le, is_lt, ordering_reverse}
 use Rattle.std.specs.Cmp.Lexicographic.{slice_cmp}
 use Rattle.std.proofs.lemmas.Cmp.{nat_list_cmp_total}
-use Rattle.formula_eval.specs.Meaning.{value_at}
+use Rattle.std.proofs.lemmas.Option.{same_Some as some_is}
+use Rattle.base_lemmas.proofs.Bools.{and_first, and_second}
+use Rattle.formula.specs.Meaning.{value_at}
 use Rattle.model.specs.Jobs.{is_past}
 use Rattle.model.specs.SoundRecords.{all_valid}
 use Rattle.model.specs.Tenant.{Field}
 use Rattle.model.specs.Updates.{is_copied}
 use Rattle.store_abstraction.specs.Entries.{Entry}
-use Rattle.store_abstraction.proofs.Lookups.{some_is}
-use Rattle.retype_cutover.proofs.Lists.{and_first, and_second}
 use Rattle.base_value.specs.Values.{valid}
 use Rattle.base_value.specs.declared.job.Phase.TheVariants as phase
 use Rattle.base_value.specs.declared.value.FieldType.{FieldType}

@@ -4,7 +4,7 @@ use Rattle.std.specs.Prelude.{ℕ, suc, ◌&&◌, ◌==◌, if◌then◌else◌,
 use Rattle.std.specs.Option.{option_and_then}
 use Rattle.store_edit.specs.Edits.{Planned}
 use Rattle.store_edit.specs.Rows.{change_to}
-use Rattle.formula_eval.specs.Meaning.{value_at}
+use Rattle.formula.specs.Meaning.{value_at}
 use Rattle.store_rows.specs.Rows.{field_form, job_form}
 use Rattle.model.specs.Cases.{in_case}
 use Rattle.model.specs.Jobs.{is_past}

@@ -3,6 +3,8 @@ use Rattle.std.proofs.Common.{◌≡◌, ◌∙◌, ℕ, zero, suc, ◌+◌, ◌
 use Rattle.std.specs.Prelude.{Err, IfErr, Ok, Result, is_some, slice_get}
 use Rattle.std.specs.List.{AllByRecursion, enumerate_from, list_any}
 use Rattle.std.specs.Option.{option_and_then}
+use Rattle.std.proofs.lemmas.Bool.{true≢false as true_false, or_right}
+use Rattle.base_lemmas.proofs.Numbers.{eqb-self as eqb_same}
 use Rattle.store_edit.specs.Edits.{FailsBy, Planned, Takes}
 use Rattle.store_edit.specs.Rows.{change_to}
 use Rattle.store_rows.specs.declared.fail.StoreFail.{StoreFail}
@@ -32,7 +34,6 @@ use Rattle.store_abstraction.specs.Local.{IsIn}
 use Rattle.store_abstraction.specs.Metadata.{job_of}
 use Rattle.store_abstraction.specs.Plan.{FitsPlan, OrgPlan, has_field, slot_count}
 use Rattle.store_abstraction.specs.Records.{has_free, is_free}
-use Rattle.store_abstraction.proofs.Lookups.{eqb_same}
 use Rattle.store_abstraction.proofs.MetadataRows.{sound_object}
 use Rattle.store_abstraction.proofs.Spelled.{plain_type_fits}
 use Rattle.base_value.specs.declared.job.Outcome.{Outcome}
@@ -44,16 +45,9 @@ use Rattle.base_value.specs.Types.{is_reference, is_type}
 
 -- ---- the slot
 
-true_false : true ≡ false → ⊥
-true_false e = cc
-
 first_not : (a b : Bool) → (not a && b) ≡ true → a ≡ false
 first_not true b e = absurd cc
 first_not false b e = refl
-
-or_right : (a b : Bool) → b ≡ true → (a || b) ≡ true
-or_right true b e = refl
-or_right false b e = e
 
 -- the slot of a field is among those of its object's layout
 its_slot : (q : OrgPlan) (n k : ℕ) (fields : List Field) (f s : ℕ) → is_some (slice_get fields f) ≡ true → q.slot n (k + f) ≡ s

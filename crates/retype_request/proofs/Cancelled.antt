@@ -2,6 +2,7 @@
 use Rattle.std.proofs.Common.{◌≡◌, ◌∙◌, ℕ, ◌<◌, ◌^◌, Bool, true, false, not, ◌&&◌, cond, IsTrue, List, [], ◌∷◌, Option, None, Some, refl, sym, ap, subst}
 use Rattle.std.specs.Prelude.{Err, IsErrAnd, Ok, Result, is_some}
 use Rattle.std.specs.Option.{option_map}
+use Rattle.std.proofs.lemmas.Option.{same_Some as some_is}
 use Rattle.store_edit.specs.Edits.{FailsBy, Takes}
 use Rattle.store_edit.specs.Rows.{change_to}
 use Rattle.store_kv.specs.Tables.{Tables}
@@ -24,7 +25,6 @@ use Rattle.store_abstraction.specs.Layouts.{own_change_row}
 use Rattle.store_abstraction.specs.Local.{FindsIn, StandsIn}
 use Rattle.store_abstraction.specs.Metadata.{job_of}
 use Rattle.store_abstraction.specs.Plan.{FitsPlan, OrgPlan, slot_type}
-use Rattle.store_abstraction.proofs.Lookups.{some_is}
 use Rattle.retype_cutover.specs.Switch.{any_plan, stopped_plan}
 use Rattle.base_value.specs.declared.job.Outcome.{Outcome}
 use Rattle.base_value.specs.declared.job.Outcome.TheVariants as outcome

@@ -3,6 +3,7 @@ use Rattle.std.proofs.Common.{◌≡◌, ◌∙◌, ℕ, zero, suc, ◌+◌, Lis
 use Rattle.std.specs.Prelude.{Err, Ok, Result, slice_get}
 use Rattle.std.specs.List.{enumerate_from}
 use Rattle.std.specs.Option.{option_and_then, option_map}
+use Rattle.std.proofs.lemmas.Option.{same_Some as some_is}
 use Rattle.store_kv.specs.Tables.{Tables}
 use Rattle.store_rows.specs.declared.fail.StoreFail.{StoreFail}
 use Rattle.store_rows.specs.declared.fail.StoreFail.TheVariants.{Damaged, Keeper, Memory}
@@ -19,7 +20,6 @@ use Rattle.store_abstraction.specs.Layouts.{layout_of, own_change_row, own_layou
 use Rattle.store_abstraction.specs.Local.{FindsIn, StandsIn}
 use Rattle.store_abstraction.specs.Metadata.{job_of}
 use Rattle.store_abstraction.specs.Plan.{OrgPlan}
-use Rattle.store_abstraction.proofs.Lookups.{some_is}
 
 -- what is told of the change of an organisation, if it ever made one
 abbrev pub told : OrgPlan → Option Tenant → Option ChangeState

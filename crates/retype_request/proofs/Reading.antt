@@ -1,6 +1,6 @@
 -- Reads that fail, and what they tell where they don't.
 use Rattle.std.proofs.Common.{◌≡◌, ◌∙◌, ℕ, Bool, List, Option, None, Some, sym, ap, subst}
-use Rattle.std.specs.Prelude.{Err, IfOk, Ok, Result, Vec}
+use Rattle.std.specs.Prelude.{Err, Ok, Result, Vec}
 use Rattle.store_kv.specs.Tables.{Tables}
 use Rattle.store_rows.specs.declared.fail.StoreFail.{StoreFail}
 use Rattle.store_rows.specs.declared.fail.StoreFail.TheVariants.{Damaged, Keeper, Memory}
@@ -12,7 +12,7 @@ use Rattle.model.specs.Rules.{Rule, first_of, refuse_if}
 use Rattle.model.specs.Tenant.{Tenant}
 use Rattle.retype_request.specs.declared.columns.NamedField.{NamedField}
 use Rattle.retype_request.specs.inner.Beginning.{IsPlace, column_rule, field_rule, named_in, place_in}
-use Rattle.retype_request.specs.inner.Judging.{FailsRule, Passes}
+use Rattle.store_edit.specs.Judging.{FailsRule, Passes}
 use Rattle.retype_request.specs.inner.States.{busy_by}
 use Rattle.retype_request.proofs.Busy.{busy_is}
 use Rattle.people_rows.specs.Roster.{ListsIn}
@@ -70,10 +70,6 @@ module _ (l : Layout) (t : Tenant) (to : FieldType) (name : List ℕ) where
   pub its_field : (f : NamedField) (r : Result ℕ EditFail) → named_in l name ≡ Some f → Passes (column_rule l t to f) (λ place. place_in l.fields to f.custom ≡ Some place) r → Passes (field_rule l t to name) (IsPlace l to name) r
   its_field f (Ok place) e h = (ap by_field e ∙ h.0, (f, e, h.1))
   its_field f (Err x) e h = subst (λ (rule : Rule). FailsRule rule x) (sym (ap by_field e)) h
-
--- a value that is returned is another's equal
-pub if_same : {X E : Type 0} (r : Result X E) (x y : X) → x ≡ y → IfOk r (λ v. v ≡ x) → IfOk r (λ v. v ≡ y)
-if_same {X = X} r x y e h = subst (λ (z : X). IfOk r (λ v. v ≡ z)) e h
 
 -- ---- the first rule that names a field
 

@@ -1,4 +1,4 @@
--- Rules that are judged one after the other.
+-- The rules on a field, judged one after the other.
 use Rattle.std.proofs.Common.{◌≡◌, ◌∙◌, ℕ, List, [], ◌∷◌, Option, None, Some, refl, sym, ap, subst}
 use Rattle.std.specs.Prelude.{Err, IsErrAnd, Ok, Result}
 use Rattle.model.specs.Cases.{in_case}
@@ -8,35 +8,13 @@ use Rattle.model.specs.Rules.{Rule, first_refusal}
 use Rattle.model.specs.Tenant.{Tenant}
 use Rattle.store_abstraction.specs.declared.fail.EditFail.{EditFail}
 use Rattle.store_abstraction.specs.declared.fail.EditFail.TheVariants.{Refused, Store}
+use Rattle.store_edit.proofs.StepByStep.{fails_here, fails_next, none_next}
 use Rattle.store_abstraction.specs.declared.layout.Layout.{Layout}
 use Rattle.base_value.specs.declared.value.FieldType.{FieldType}
 use Rattle.retype_request.specs.declared.columns.NamedField.{NamedField}
 use Rattle.retype_request.specs.inner.Beginning.{column_rule, place_in, type_rule}
-use Rattle.retype_request.specs.inner.Judging.{FailsRule, Passes}
+use Rattle.store_edit.specs.Judging.{FailsRule, Passes}
 use Rattle.retype_request.specs.inner.Rules.{use_rule}
-
--- ---- one step
-
-module _ {X : Type 0} (rule : Rule) (P : X → Type 0) (r : Result X EditFail) where
-  -- a failure is passed on
-  pub passed_on : (e : EditFail) → IsErrAnd r (λ y. y ≡ e) → FailsRule rule e → Passes rule P r
-  passed_on e = by r
-    where
-      by : (r : Result X EditFail) → IsErrAnd r (λ y. y ≡ e) → FailsRule rule e → Passes rule P r
-      by (Ok x) passed h = absurd passed
-      by (Err y) passed h = subst (FailsRule rule) (sym passed) h
-
--- ---- one step after the other
-
-pub fails_here : (a : Rule) (rest : List Rule) (e : EditFail) → FailsRule a e → FailsRule (first_refusal (a ∷ rest)) e
-fails_here a rest (Refused r) h = ap (λ (x : Rule). first_refusal (x ∷ rest)) h
-fails_here a rest (Store s) h = h
-
-pub fails_next : (a : Rule) (rest : List Rule) (e : EditFail) → a ≡ None → FailsRule (first_refusal rest) e → FailsRule (first_refusal (a ∷ rest)) e
-fails_next a rest e none h = subst (λ (x : Rule). FailsRule x e) (sym (ap (λ (x : Rule). first_refusal (x ∷ rest)) none)) h
-
-pub none_next : (a : Rule) (rest : List Rule) → a ≡ None → first_refusal rest ≡ None → first_refusal (a ∷ rest) ≡ None
-none_next a rest none h = ap (λ (x : Rule). first_refusal (x ∷ rest)) none ∙ h
 
 -- ---- the rules on a field that is there
 

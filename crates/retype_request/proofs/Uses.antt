@@ -2,7 +2,7 @@
 use Rattle.std.proofs.Common.{◌≡◌, ◌∙◌, ℕ, suc, Bool, true, false, ◌&&◌, cond, eqb, List, [], ◌∷◌, length, map, Option, Some, refl, ap}
 use Rattle.std.specs.Prelude.{Err, nat_lt}
 use Rattle.std.specs.Option.{ok_or}
-use Rattle.formula_grammar.specs.Spelling.{formula_in, place_in}
+use Rattle.formula.specs.grammar.Spelling.{formula_in, place_in}
 use Rattle.base_grammar.specs.Tokens.{byte_len}
 use Rattle.model.specs.Cases.{in_case}
 use Rattle.model.specs.declared.refusal.Refusal.TheVariants.{FieldInUse}

@@ -4,6 +4,7 @@ use Rattle.std.specs.Prelude.{Err, IsErrAnd, Ok, Result, slice_get}
 use Rattle.std.specs.List.{find}
 use Rattle.std.specs.Option.{option_and_then, option_map}
 use Rattle.std.proofs.lemmas.List.{length-map}
+use Rattle.std.proofs.lemmas.Option.{same_Some as some_is}
 use Rattle.store_edit.specs.Edits.{FailsBy}
 use Rattle.store_edit.specs.Naming.{NamesLayout}
 use Rattle.store_kv.specs.Tables.{Tables}
@@ -22,7 +23,7 @@ use Rattle.retype_request.specs.declared.columns.NamedField.{NamedField}
 use Rattle.retype_request.specs.declared.judging.Chosen.{Chosen}
 use Rattle.retype_request.specs.inner.Beginning.{Begins, BeginsBy, IsPlace, begin_by, column_rule, field_rule, named_in, place_in}
 use Rattle.retype_request.specs.inner.Columns.{named_by}
-use Rattle.retype_request.specs.inner.Judging.{FailsRule}
+use Rattle.store_edit.specs.Judging.{FailsRule}
 use Rattle.retype_request.specs.inner.Rules.{use_rule}
 use Rattle.retype_request.proofs.Uses.{use_is}
 use Rattle.schema_rules.proofs.Objects.{fields_back}
@@ -34,7 +35,6 @@ use Rattle.store_abstraction.specs.declared.layout.Layout.{Layout}
 use Rattle.store_abstraction.specs.Layouts.{IsLayout, layout_of, own_layout}
 use Rattle.store_abstraction.specs.Local.{StandsIn}
 use Rattle.store_abstraction.specs.Plan.{OrgPlan}
-use Rattle.store_abstraction.proofs.Lookups.{some_is}
 use Rattle.store_abstraction.proofs.MetadataRows.{sound_object}
 use Rattle.base_value.specs.declared.value.FieldType.{FieldType}
 

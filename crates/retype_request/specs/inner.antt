@@ -1,4 +1,3 @@
-pub mod Judging
 pub mod Columns
 pub mod Rules
 pub mod States

@@ -5,7 +5,7 @@ ghost use Rattle.store_kv.specs.Draft.{DraftTells, tables_of};
 ghost use Rattle.model.specs.Retyping.{can_become, is_checkbox, job_is_done, under_way};
 ghost use Rattle.model.specs.Tenant.{Tenant};
 ghost use Rattle.retype_request.specs.inner.Beginning.{BeginsBy, IsPlace, column_rule, field_rule, place_in, type_rule};
-ghost use Rattle.retype_request.specs.inner.Judging.{Passes};
+ghost use Rattle.store_edit.specs.Judging.{Passes};
 ghost use Rattle.retype_request.specs.inner.States.{busy_by};
 ghost use Rattle.schema_rules.specs.Objects.{field_of_place};
 ghost use Rattle.store_abstraction.specs.Calls.{Calls, ended_edit, fell};

@@ -2,13 +2,13 @@
 
 ghost use Rattle.std.specs.Prelude.{◌≡◌, ◌≤◌, IfOk, Some, length};
 ghost use Rattle.std.specs.Str.{chars};
-ghost use Rattle.access_rule_rows.specs.SharingRules.{sharing_rows};
+ghost use Rattle.people_rows.specs.sharing.SharingRules.{sharing_rows};
 ghost use Rattle.store_kv.specs.Draft.{DraftTells, tables_of};
 ghost use Rattle.model.specs.declared.refusal.Refusal.TheVariants.{FieldInUse};
 ghost use Rattle.model.specs.Retyping.{uses};
 ghost use Rattle.model.specs.Rules.{first_of};
 ghost use Rattle.model.specs.Tenant.{Tenant};
-ghost use Rattle.retype_request.specs.inner.Judging.{Passes};
+ghost use Rattle.store_edit.specs.Judging.{Passes};
 ghost use Rattle.retype_request.specs.inner.Rules.{part_uses, row_use, sharing_use, use_rule};
 ghost use Rattle.schema_rules.specs.Objects.{object_of_layout};
 ghost use Rattle.schema_rules.specs.Rows.{rule_rows};
@@ -17,10 +17,10 @@ ghost use Rattle.store_abstraction.specs.Layouts.{IsLayout};
 ghost use Rattle.store_abstraction.specs.Local.{StandsIn};
 ghost use Rattle.store_abstraction.specs.Plan.{OrgPlan};
 
-use access_rule_rows::sharing_rules_of;
 use base_grammar::ParseFail;
 use base_value::{RuleSource, Text};
 use model::Refusal;
+use people_rows::sharing_rules_of;
 use schema_rules::{names_field, read_formula, rules_of};
 use std::alloc::{AllocError, Global};
 use store_abstraction::{EditFail, Layout, call_laws};

@@ -1,7 +1,7 @@
 -- The rows that a step makes of that of a change are those of the change afterwards.
 use Rattle.std.proofs.Common.{◌≡◌, ◌∙◌, ℕ, true, cond, List, ◌∷◌, Option, Some, refl, sym, ap}
+use Rattle.base_lemmas.proofs.Numbers.{eqb-self as eqb_same}
 use Rattle.retype_step.specs.inner.Rows.{done_row, failed_row, moved_row, row_alone, switch_decided, switched_field, switched_row}
-use Rattle.record_read.proofs.Lists.{eqb_same}
 use Rattle.store_edit.specs.Rows.{change_to}
 use Rattle.store_rows.specs.declared.field.FieldRow.{FieldRow}
 use Rattle.store_rows.specs.declared.job.JobRow.{JobRow}

@@ -3,11 +3,11 @@ use Rattle.std.proofs.Common.{◌≡◌, ◌∙◌, ◌-◌, ℕ, suc, Bor, Bool
 use Rattle.std.specs.Prelude.{◌⊎◌, Ok, Err, is_none, ok_or, slice_get}
 use Rattle.std.specs.List.{list_all}
 use Rattle.std.specs.Option.{option_copied, option_map}
+use Rattle.base_lemmas.proofs.Bools.{and_first as and_left, and_second as and_right, by_answer as pick}
 use Rattle.retype_step.specs.inner.Deciding.{is_ready}
 use Rattle.retype_step.specs.inner.Rows.{done_row, is_plain}
-use Rattle.record_read.proofs.Lists.{and_left, and_right, pick}
 use Rattle.record_read.specs.Decoding.{has_types, kinds_in}
-use Rattle.formula_eval.specs.Meaning.{value_at}
+use Rattle.formula.specs.Meaning.{value_at}
 use Rattle.store_rows.specs.declared.job.JobRow.{JobRow}
 use Rattle.model.specs.declared.record.Record.{Record}
 use Rattle.model.specs.Jobs.{last_id}

@@ -1,12 +1,13 @@
 -- What is known of the change of a sound tenant: its object, its field, and the records of its next step.
-use Rattle.std.proofs.Common.{◌≡◌, ◌∙◌, ◌≤◌, ℕ, zero, suc, ◌+◌, length, true, IsTrue, List, [], ◌∷◌, map, take, filter, Some, refl, sym, ap, subst, arith, inl, inr}
+use Rattle.std.proofs.Common.{◌≡◌, ◌∙◌, ℕ, zero, suc, ◌+◌, true, IsTrue, List, [], ◌∷◌, map, filter, Some, refl, sym, ap, subst, arith, inl, inr}
 use Rattle.std.specs.Prelude.{slice_get}
 use Rattle.std.specs.List.{enumerate_from}
-use Rattle.record_read.proofs.Lists.{and_right, some_is}
+use Rattle.base_lemmas.proofs.Bools.{and_second as and_right}
+use Rattle.std.proofs.lemmas.Option.{same_Some as some_is}
 use Rattle.record_read.proofs.Rising.{has_filter, has_take}
 use Rattle.record_read.proofs.RowFits.{typed_at, valid_at}
 use Rattle.record_read.specs.Decoding.{each_from, has_types, kinds_in, record_from}
-use Rattle.formula_eval.specs.Meaning.{value_at}
+use Rattle.formula.specs.Meaning.{value_at}
 use Rattle.store_rows.specs.declared.data.DataRow.{DataRow}
 use Rattle.model.specs.declared.record.Record.{Record}
 use Rattle.model.specs.Jobs.{is_past, last_id, next_hundred}
@@ -80,12 +81,6 @@ next_read reads org q t j o sound fits there =
     let past = has_filter (λ (r : Record). is_past j.cursor r.id) (records_of t j.object) r (has_take step_records (filter (λ (r : Record). is_past j.cursor r.id) (records_of t j.object)) r has) in
     let its = has_filter (is_of j.object) t.records r past.0 in
     reads org j.object q t o r sound fits there its.0 its.1)
-
--- at most so many
-pub short_take : {X : Type 0} (n : ℕ) (xs : List X) → length (take n xs) ≤ n
-short_take zero xs = omega arith
-short_take (suc n) [] = omega arith
-short_take (suc n) (x ∷ xs) = omega (arith, short_take n xs)
 
 -- ---- the last of some
 

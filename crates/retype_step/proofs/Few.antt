@@ -1,9 +1,9 @@
 -- The changes of a step are some, few, and remove no data row.
-use Rattle.std.proofs.Common.{◌≡◌, ◌∙◌, ◌<◌, ◌≤◌, ◌+◌, ℕ, cond, List, [], ◌∷◌, ◌++◌, length, map, Option, Some, None, refl, sym, ap, subst, arith}
+use Rattle.std.proofs.Common.{◌≡◌, ◌∙◌, ◌<◌, ◌≤◌, ◌+◌, ℕ, cond, List, [], ◌∷◌, ◌++◌, length, map, Option, Some, None, refl, sym, ap, subst, arith, length-append as length_both}
 use Rattle.std.specs.List.{find}
+use Rattle.base_lemmas.proofs.Bools.{by_answer as pick}
 use Rattle.retype_step.specs.inner.Deciding.{clear_decided, copied, copy_decided, decided, is_bad_by, page_decided}
 use Rattle.retype_step.specs.inner.Rows.{done_row, failed_row, moved_row, row_alone, switch_decided}
-use Rattle.record_read.proofs.Lists.{pick}
 use Rattle.store_edit.specs.Rows.{AreFew, gone_of, spelled}
 use Rattle.store_kv.specs.declared.keeper.Change.{Change as Spelled}
 use Rattle.store_rows.specs.declared.data.DataRow.{DataRow}
@@ -12,22 +12,18 @@ use Rattle.model.specs.Cases.{in_case}
 use Rattle.model.specs.Jobs.{last_id}
 use Rattle.model.specs.RuleFormulas.{is_copy}
 use Rattle.model.specs.declared.record.Record.{Record}
-use Rattle.retype_backfill.specs.Progress.{page_changes}
+use Rattle.retype_step.specs.backfill.Progress.{page_changes}
 use Rattle.store_abstraction.specs.Changes.{Change}
 use Rattle.store_abstraction.specs.declared.layout.FieldPlace.{FieldPlace}
 use Rattle.store_abstraction.specs.declared.layout.Layout.{Layout}
 
--- what `retype_backfill` says of a page
+-- what `backfill` says of a page
 abbrev pub PageRemovesNone : Type 0
 PageRemovesNone = (l : Layout) (c : Option (List ℕ)) (rows : List DataRow) (rs : List Record) → gone_of (map spelled (page_changes l c rows rs)) ≡ 0
 
 -- some, of which none removes a data row
 abbrev AreKept : List Change → Type 0
 AreKept cs = (0 < length cs) × (gone_of (map spelled cs) ≡ 0)
-
-pub length_both : (xs ys : List Change) → length (xs ++ ys) ≡ length xs + length ys
-length_both [] ys = omega arith
-length_both (x ∷ xs) ys = let e = length_both xs ys in omega (arith, e)
 
 gone_both : (xs ys : List Change) → gone_of (map spelled (xs ++ ys)) ≡ gone_of (map spelled xs) + gone_of (map spelled ys)
 gone_both [] ys = omega arith

@@ -1,3 +1,12 @@
+pub mod Order
+pub mod Entries
+pub mod Fits
+pub mod Alike
+pub mod Moving
+pub mod BackfillFew
+pub mod BackfillTakes
+pub mod Twins
+pub mod Loops
 pub mod Types
 pub mod Facts
 pub mod ChangeRows

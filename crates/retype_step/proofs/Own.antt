@@ -1,9 +1,9 @@
 -- The changes of a step are at keys of the organisation, whatever was read.
 use Rattle.std.proofs.Common.{◌≡◌, ℕ, cond, List, [], ◌∷◌, ◌++◌, Option, Some, None, refl, subst, bytes_eq}
 use Rattle.std.specs.List.{AllByRecursion, find}
+use Rattle.base_lemmas.proofs.Bools.{by_answer as pick}
 use Rattle.retype_step.specs.inner.Deciding.{clear_decided, copied, copy_decided, decided, is_bad_by, page_decided}
 use Rattle.retype_step.specs.inner.Rows.{done_row, failed_row, row_alone, switch_decided}
-use Rattle.record_read.proofs.Lists.{pick}
 use Rattle.store_rows.specs.declared.data.DataRow.{DataRow}
 use Rattle.store_rows.specs.declared.job.JobRow.{JobRow}
 use Rattle.store_rows.specs.Keys.{FitsKey, Index, Key, Relation, Unique}
@@ -13,7 +13,7 @@ use Rattle.model.specs.RuleFormulas.{is_copy}
 use Rattle.model.specs.declared.record.Record.{Record}
 use Rattle.record_index.specs.Changed.{index_key, reference_key, row_turned, slot_changes, unique_key}
 use Rattle.record_index.specs.Removed.{beside_entry}
-use Rattle.retype_backfill.specs.Progress.{come_to, page_changes, record_moves, records_move}
+use Rattle.retype_step.specs.backfill.Progress.{come_to, page_changes, record_moves, records_move}
 use Rattle.store_abstraction.specs.Changes.{Change}
 use Rattle.store_abstraction.specs.declared.layout.FieldPlace.{FieldPlace}
 use Rattle.store_abstraction.specs.declared.layout.JobPlace.{JobPlace}

@@ -2,10 +2,11 @@
 use Rattle.std.proofs.Common.{◌≡◌, ◌∙◌, ◌≢◌, ℕ, true, false, cond, List, [], map, Option, Some, None, refl, sym, ap, subst}
 use Rattle.std.specs.Prelude.{IsErrAnd, Result, Ok, Err, Vec}
 use Rattle.std.specs.Option.{option_map}
+use Rattle.base_lemmas.proofs.Bools.{by_answer as pick}
+use Rattle.std.proofs.lemmas.Option.{same_Some as some_is}
 use Rattle.retype_step.proofs.Facts.{object_there}
 use Rattle.retype_step.specs.declared.reading.Page.{Page}
 use Rattle.retype_step.specs.inner.Pages.{FindsPage, IsRead, busy_row, next_rows, unless_done}
-use Rattle.record_read.proofs.Lists.{pick, some_is}
 use Rattle.record_read.specs.Rows.{FindsRows, rows_of_records}
 use Rattle.store_kv.specs.Tables.{Tables}
 use Rattle.store_rows.specs.declared.data.DataRow.{DataRow}

@@ -1,6 +1,7 @@
 -- What was read of a sound tenant passes the tests of a step.
-use Rattle.std.proofs.Common.{◌≡◌, ◌<◌, ◌^◌, ℕ, Bool, true, false, not, ◌&&◌, ◌||◌, IsTrue, Some, refl, ap}
+use Rattle.std.proofs.Common.{◌≡◌, ◌<◌, ◌^◌, ℕ, true, not, ◌&&◌, ◌||◌, IsTrue, Some, refl, ap}
 use Rattle.std.specs.Prelude.{IfSome, slice_get}
+use Rattle.std.proofs.lemmas.Bool.{and_from as both}
 use Rattle.retype_step.proofs.Facts.{FieldOf, place_there}
 use Rattle.retype_step.specs.inner.Deciding.{is_ready}
 use Rattle.retype_step.specs.inner.Rows.{is_plain}
@@ -39,11 +40,6 @@ FieldFits = (org : ℕ) (p : OrgPlan) (t : Tenant) (n i : ℕ) (o : Object) (f :
     → object_numbered t n ≡ Some o → slice_get o.fields i ≡ Some f → FitsForm field_form (field_of org p n i f)
 
 -- ---- the tests
-
-both : (a b : Bool) → a ≡ true → b ≡ true → (a && b) ≡ true
-both true true e f = refl
-both true false e f = absurd cc
-both false b e f = absurd cc
 
 plain_there : (q : OrgPlan) (j : Job) (ph : Phase) (x : Outcome) → is_plain q.was ≡ true → is_plain j.to ≡ true → is_plain (slot_type q j ph x) ≡ true
 plain_there q j phase.Clear outcome.Switched was to = was

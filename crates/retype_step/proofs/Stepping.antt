@@ -1,6 +1,7 @@
 -- A step of a tenant: what is decided, and what comes of the tables.
 use Rattle.std.proofs.Common.{◌≡◌, ◌∙◌, ◌≢◌, ◌<◌, ◌^◌, ℕ, true, List, Option, Some, None, sym, ap, subst}
 use Rattle.std.specs.Prelude.{Result, Ok, Err, Vec, IfOk, IfSome}
+use Rattle.std.proofs.lemmas.Option.{same_Some as some_is}
 use Rattle.retype_step.proofs.Facts.{FieldOf, ReadsRecords, field_there, next_read, place_there}
 use Rattle.retype_step.proofs.Few.{PageRemovesNone, few_decided}
 use Rattle.retype_step.proofs.Own.{HaveKeys, own_decided}
@@ -10,7 +11,6 @@ use Rattle.retype_step.proofs.Takes.{Does, StepLaws, layout_at, steps}
 use Rattle.retype_step.specs.Background.{IsUnderWay, StepsIn}
 use Rattle.retype_step.specs.inner.Deciding.{AreStep, DecidesBy, DecidesStep, IsWhole, TakesStep, decided}
 use Rattle.retype_step.specs.inner.Pages.{IsRead, busy_row, next_rows}
-use Rattle.record_read.proofs.Lists.{some_is}
 use Rattle.store_edit.proofs.Making.{EditedIn, KeptIn, after_spelled}
 use Rattle.store_edit.specs.Rows.{AreFew, AreOf, AreSpelled}
 use Rattle.store_kv.specs.Tables.{Tables, after}

@@ -1,17 +1,17 @@
 -- What is decided takes a tenant's rows to those after its step, in each phase of its change.
-use Rattle.std.proofs.Common.{◌≡◌, ◌∙◌, ◌<◌, ◌≤◌, ◌^◌, ◌*◌, ℕ, suc, false, List, [], ◌∷◌, ◌++◌, length, map, filter, Option, Some, None, refl, sym, ap, subst, arith}
+use Rattle.std.proofs.Common.{◌≡◌, ◌∙◌, ◌<◌, ◌≤◌, ◌^◌, ◌*◌, ℕ, suc, false, List, [], ◌∷◌, ◌++◌, length, map, filter, Option, Some, None, refl, sym, ap, subst, arith, length-append as length_both}
 use Rattle.std.specs.Prelude.{if◌then◌else◌, is_none, slice_get}
 use Rattle.std.specs.Option.{option_and_then}
 use Rattle.std.specs.List.{find}
-use Rattle.retype_step.proofs.Facts.{FieldOf, last_some, short_take}
-use Rattle.retype_step.proofs.Few.{length_both}
+use Rattle.base_lemmas.proofs.Lists.{length-take_most as short_take}
+use Rattle.retype_step.proofs.Facts.{FieldOf, last_some}
 use Rattle.retype_step.proofs.Own.{HaveKeys, keys_first}
 use Rattle.retype_step.proofs.ChangeRows.{done_is, failed_is, moved_is, switch_is, type_copy}
 use Rattle.retype_step.specs.inner.Deciding.{clear_decided, copied, copy_decided, decided, is_bad_by, page_decided}
 use Rattle.retype_step.specs.inner.Rows.{done_row, failed_row, row_alone, switch_decided}
 use Rattle.store_edit.specs.Edits.{Takes}
 use Rattle.store_edit.specs.Rows.{change_to}
-use Rattle.formula_eval.specs.Meaning.{value_at}
+use Rattle.formula.specs.Meaning.{value_at}
 use Rattle.store_rows.specs.declared.data.DataRow.{DataRow}
 use Rattle.store_rows.specs.declared.job.JobRow.{JobRow}
 use Rattle.store_rows.specs.Rows.{job_form}
@@ -26,7 +26,7 @@ use Rattle.model.specs.SoundJob.{job_field}
 use Rattle.model.specs.Tenant.{Field, Job, Object, Tenant}
 use Rattle.model.specs.Verdict.{accept, done}
 use Rattle.model.specs.declared.record.Record.{Record}
-use Rattle.retype_backfill.specs.Progress.{IsPage, page_changes}
+use Rattle.retype_step.specs.backfill.Progress.{IsPage, page_changes}
 use Rattle.store_abstraction.specs.Changes.{Change}
 use Rattle.store_abstraction.specs.declared.layout.FieldPlace.{FieldPlace}
 use Rattle.store_abstraction.specs.declared.layout.Layout.{Layout}
@@ -42,7 +42,7 @@ use Rattle.base_value.specs.declared.job.Phase.{Phase}
 use Rattle.base_value.specs.declared.job.Phase.TheVariants as phase
 use Rattle.base_value.specs.declared.value.FieldType.{FieldType}
 
--- ---- what `retype_cutover` and `retype_backfill` say
+-- ---- what `retype_cutover` and `backfill` say
 
 -- the rows of some records of the change's object
 abbrev pub rows_at : (org : ℕ) → OrgPlan → Tenant → Job → Object → List Record → List DataRow

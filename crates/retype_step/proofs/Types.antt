@@ -1,18 +1,11 @@
 -- Types that rows of a step have.
-use Rattle.std.proofs.Common.{◌≡◌, Bool, true, false, not, ◌&&◌, refl}
+use Rattle.std.proofs.Common.{◌≡◌, Bool, true, false, not, refl}
+use Rattle.base_lemmas.proofs.Bools.{and_first as and_left, and_second as and_right}
 use Rattle.retype_step.specs.inner.Rows.{is_plain}
 use Rattle.store_codec.specs.Composed.{FitsType}
 use Rattle.store_abstraction.proofs.Spelled.{plain_type_fits}
 use Rattle.base_value.specs.Types.{is_reference, is_type}
 use Rattle.base_value.specs.declared.value.FieldType.{FieldType}
-
-and_left : (a b : Bool) → (a && b) ≡ true → a ≡ true
-and_left true b e = refl
-and_left false b e = absurd cc
-
-and_right : (a b : Bool) → (a && b) ≡ true → b ≡ true
-and_right true b e = e
-and_right false b e = absurd cc
 
 pub plain_typed : (kind : FieldType) → is_plain kind ≡ true → is_type kind ≡ true
 plain_typed kind h = and_left (is_type kind) (not (is_reference kind)) h

@@ -1,2 +1,3 @@
+pub mod backfill
 pub mod Background
 pub mod inner

@@ -7,7 +7,7 @@ ghost use Rattle.retype_step.specs.inner.Deciding.{DecidesBy, IsWhole, clear_dec
 ghost use Rattle.retype_step.specs.inner.Rows.{is_plain};
 ghost use Rattle.record_read.specs.Decoding.{each_from, has_types, kinds_in, record_from};
 ghost use Rattle.store_edit.specs.Rows.{spelled};
-ghost use Rattle.formula_eval.specs.Meaning.{value_at};
+ghost use Rattle.formula.specs.Meaning.{value_at};
 ghost use Rattle.store_rows.specs.Keys.{FitsKey};
 ghost use Rattle.model.specs.Jobs.{last_id};
 ghost use Rattle.model.specs.RuleFormulas.{is_copy};
@@ -20,6 +20,7 @@ ghost use Rattle.base_value.specs.Conversion.{convert, convertible};
 ghost use Rattle.base_value.specs.Types.{is_type};
 ghost use Rattle.base_value.specs.Values.{valid};
 
+use crate::backfill::page_changes;
 use crate::reading::Page;
 use crate::rows::{alone, done_row, failed_row, moved_row, put_change, switch};
 use base_value::{
@@ -28,7 +29,6 @@ use base_value::{
 use model::Record;
 use record_index::converts;
 use record_read::{has_types, record_within};
-use retype_backfill::page_changes;
 use std::alloc::{AllocError, Global};
 use store_abstraction::{FieldPlace, Layout};
 use store_codec::CodecFail;

@@ -11,12 +11,12 @@ ghost use Rattle.store_abstraction.specs.Local.{StandsIn};
 ghost use Rattle.store_abstraction.specs.Metadata.{job_of};
 ghost use Rattle.store_abstraction.specs.Plan.{OrgPlan};
 
+use crate::backfill::progress_laws;
 use crate::deciding::changes_of;
 use crate::reading::{busy_row, page_of};
 use model_invariant::jobs_sound;
 use record_index::pivot_laws;
 use record_read::data_laws;
-use retype_backfill::progress_laws;
 use retype_cutover::switch_laws;
 use std::alloc::Global;
 use store_abstraction::{call_laws, local_laws, metadata_laws};

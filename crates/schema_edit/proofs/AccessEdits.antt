@@ -2,6 +2,7 @@
 use Rattle.std.proofs.Common.{◌≡◌, ◌∙◌, ◌<◌, ◌^◌, ℕ, zero, suc, Bool, true, false, not, IsTrue, List, [], ◌∷◌, Option, Some, None, refl, sym, ap, subst}
 use Rattle.std.specs.Prelude.{Err, IsErrAnd, Ok, Result, slice_get}
 use Rattle.std.specs.Option.{option_map}
+use Rattle.std.proofs.lemmas.Option.{same_Some as some_is}
 use Rattle.store_edit.proofs.Reading.{not_damaged, not_missed}
 use Rattle.store_edit.specs.Edits.{FailsBy, Planned, Takes}
 use Rattle.store_edit.specs.Rows.{change_to}
@@ -32,8 +33,8 @@ use Rattle.store_abstraction.specs.Stands.{row_in}
 use Rattle.base_value.specs.declared.sharing.Access.{Access}
 use Rattle.schema_edit.specs.inner.Rows.{HasRow}
 use Rattle.schema_edit.specs.Judging.{AcceptsOn, IsNamedLayout, verdict_refusal}
-use Rattle.schema_edit.proofs.Editing.{beside, named_at, other_object, some_is, unrefused}
-use Rattle.schema_edit.proofs.Putting.{put_is_of}
+use Rattle.schema_edit.proofs.Editing.{beside, named_at, other_object, unrefused}
+use Rattle.store_edit.proofs.Putting.{put_is_of}
 
 -- what `store_abstraction` says of rows and plans where an object has another access, and `model_invariant` of the tenant
 abbrev pub AccessRows : Type 0

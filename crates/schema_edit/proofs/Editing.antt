@@ -1,8 +1,11 @@
 -- Edits of one organisation by their verdicts: done, refused or failed.
-use Rattle.std.proofs.Common.{◌≡◌, ◌∙◌, ℕ, suc, ◌+◌, Bool, true, false, ◌&&◌, ◌||◌, cond, eqb, List, [], ◌∷◌, map, Option, Some, None, refl, sym, ap, arith}
+use Rattle.std.proofs.Common.{◌≡◌, ◌∙◌, ℕ, suc, ◌+◌, Bool, true, false, ◌&&◌, cond, eqb, List, [], ◌∷◌, map, Some, None, refl, sym, ap, arith}
 use Rattle.std.specs.Prelude.{Result, Ok, Err, bytes_eq, slice_get}
 use Rattle.std.specs.List.{enumerate_from, find}
-use Rattle.std.proofs.lemmas.Bool.{eqb-false}
+use Rattle.std.proofs.lemmas.Bool.{or_parts as or_false}
+use Rattle.std.proofs.lemmas.Option.{same_Some as some_is}
+use Rattle.base_lemmas.proofs.Bools.{and_second_false as both_false}
+use Rattle.base_lemmas.proofs.Options.{eqb-same_Some as own_number}
 use Rattle.store_rows.specs.Keys as key
 use Rattle.store_rows.specs.Keys.{Key, key_eq}
 use Rattle.model.specs.declared.refusal.Refusal.{Refusal}
@@ -15,10 +18,6 @@ use Rattle.store_abstraction.specs.Changes.{Change, is_changed}
 use Rattle.store_abstraction.specs.Records.{is_field_key, is_object_key, is_org_key, is_rule_key}
 use Rattle.store_abstraction.specs.Stands.{org_of_key}
 use Rattle.schema_edit.specs.Judging.{rule_of_answer, verdict_refusal}
-use Rattle.schema_edit.proofs.Lists.{pick}
-
-pub some_is : {A : Type 0} (x y : A) → ◌≡◌ {A = Option A} (Some x) (Some y) → x ≡ y
-some_is x y e = cc
 
 -- ---- verdicts
 
@@ -41,23 +40,9 @@ refused_so v r e = by v.answer e
 
 -- ---- keys of the organisation beside those of the changes
 
-pub eqb_same : (n : ℕ) → eqb n n ≡ true
-eqb_same n = pick (eqb n n) (λ b. b ≡ true) (λ h. refl) (λ h. absurd (eqb-false n n h refl))
-
-both_false : (a b : Bool) → a ≡ true → (a && b) ≡ false → b ≡ false
-both_false true b h e = e
-both_false false b h e = absurd cc
-
-or_false : (a b : Bool) → (a || b) ≡ false → (a ≡ false) × (b ≡ false)
-or_false true b e = absurd cc
-or_false false b e = (refl, e)
-
 -- a key that isn't changed is none of the first change, and isn't changed by the others
 pub beside : (c : Change) (changes : List Change) (k : Key) → is_changed (c ∷ changes) k ≡ false → (key_eq k c.0 ≡ false) × (is_changed changes k ≡ false)
 beside c changes k e = or_false (key_eq k c.0) (is_changed changes k) e
-
-own_number : (m org : ℕ) → ◌≡◌ {A = Option ℕ} (Some m) (Some org) → eqb m org ≡ true
-own_number m org e = ap (λ (x : ℕ). eqb x org) (some_is m org e) ∙ eqb_same org
 
 pub other_org : (org : ℕ) (k : Key) → org_of_key k ≡ Some org → key_eq k (key.Org org) ≡ false → is_org_key k ≡ false
 other_org org (key.Org m) of e = absurd (true_false (sym (own_number m org of) ∙ e))

@@ -1,8 +1,11 @@
 -- The rows of a new field take those of the organisation to those of the tenant with it.
-use Rattle.std.proofs.Common.{◌≡◌, ◌∙◌, ℕ, zero, suc, ◌+◌, ◌<◌, ◌≤◌, ◌^◌, Bool, true, false, ◌&&◌, IsTrue, List, [], ◌∷◌, ◌++◌, length, map, Option, Some, None, refl, sym, ap, subst, arith, length-append}
+use Rattle.std.proofs.Common.{◌≡◌, ◌∙◌, ℕ, zero, suc, ◌+◌, ◌<◌, ◌≤◌, ◌^◌, true, false, IsTrue, List, [], ◌∷◌, ◌++◌, length, map, Option, Some, None, refl, sym, ap, subst, arith, length-append}
 use Rattle.std.specs.Prelude.{Err, Ok, Result, is_some, slice_get}
 use Rattle.std.specs.List.{AllByRecursion, enumerate_from}
 use Rattle.std.specs.Option.{option_and_then, option_map}
+use Rattle.std.proofs.lemmas.Bool.{and_from as both_so}
+use Rattle.base_lemmas.proofs.Numbers.{eqb-self as eqb_same}
+use Rattle.std.proofs.lemmas.Option.{same_Some as some_is}
 use Rattle.store_edit.proofs.Reading.{not_missed}
 use Rattle.store_edit.specs.Edits.{FailsBy, Takes}
 use Rattle.store_edit.specs.Rows.{change_to}
@@ -45,10 +48,10 @@ use Rattle.schema_edit.specs.declared.edits.fields.NewFieldRows.{NewFieldRows}
 use Rattle.schema_edit.specs.inner.FieldRows.{AreOfOrg, AreRowsFor, FitFieldRows, HasTarget, IsSpelled, changes_of, rows_in}
 use Rattle.schema_edit.specs.inner.Relations.{layout_by_name, target_in}
 use Rattle.schema_edit.specs.inner.Rows.{field_row}
-use Rattle.schema_edit.proofs.Editing.{beside, eqb_same, named_at, other_field, other_object, some_is, unrefused}
+use Rattle.schema_edit.proofs.Editing.{beside, named_at, other_field, other_object, unrefused}
 use Rattle.schema_edit.proofs.JudgedFields.{field_verdict, unnamed}
 use Rattle.schema_edit.proofs.Layouts.{named_is}
-use Rattle.schema_edit.proofs.Putting.{put_is_in, put_is_of}
+use Rattle.store_edit.proofs.Putting.{put_is_in, put_is_of}
 
 -- ---- what the layers below say of rows, plans and sound organisations
 
@@ -78,10 +81,6 @@ abbrev pub FieldSound : Type 0
 FieldSound = (t : Tenant) (b : NewField) → IsTrue (is_fit_field b) → IsSound t → IsSound (add_field t b).tenant
 
 -- ---- lists
-
-both_so : (a b : Bool) → a ≡ true → b ≡ true → (a && b) ≡ true
-both_so true b h g = g
-both_so false b h g = absurd cc
 
 all_last : {X : Type 0} (P : X → Type 0) (xs : List X) (x : X) → AllByRecursion P (xs ++ x ∷ []) → P x
 all_last P [] x h = h.0

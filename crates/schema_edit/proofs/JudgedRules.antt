@@ -2,8 +2,9 @@
 use Rattle.std.proofs.Common.{◌≡◌, ◌∙◌, ℕ, ◌+◌, suc, Bool, true, false, not, ◌&&◌, eqb, cond, List, [], ◌∷◌, length, map, Option, Some, None, refl, sym, ap}
 use Rattle.std.specs.Prelude.{Result, Err, nat_lt}
 use Rattle.std.specs.Option.{ok_or, option_and_then}
-use Rattle.formula_eval.specs.declared.formula.Formula.{Formula}
-use Rattle.formula_grammar.specs.Spelling.{formula_in, place_in}
+use Rattle.base_lemmas.proofs.Bools.{by_answer as pick}
+use Rattle.formula.specs.declared.formula.Formula.{Formula}
+use Rattle.formula.specs.grammar.Spelling.{formula_in, place_in}
 use Rattle.base_grammar.specs.Tokens.{byte_len}
 use Rattle.model.specs.declared.limit.Limit.TheVariants as limit
 use Rattle.model.specs.declared.refusal.Refusal.{Refusal}
@@ -24,10 +25,6 @@ use Rattle.store_abstraction.specs.Plan.{OrgPlan}
 use Rattle.schema_rules.specs.Objects.{object_of_layout}
 use Rattle.schema_rules.proofs.Objects.{fields_back}
 use Rattle.schema_edit.specs.inner.RuleRows.{IsRuled, busy_by}
-
-pick : (b : Bool) (P : Bool → Type 0) → (b ≡ true → P true) → (b ≡ false → P false) → P b
-pick true P f g = f refl
-pick false P f g = g refl
 
 -- ---- rules two by two
 

@@ -3,7 +3,9 @@ use Rattle.std.proofs.Common.{◌≡◌, ◌∙◌, ℕ, ◌+◌, Bool, true, fa
 use Rattle.std.specs.Prelude.{filter, filter_map}
 use Rattle.std.specs.List.{enumerate_from, find, flat_map, list_any}
 use Rattle.std.specs.Option.{option_map}
-use Rattle.std.proofs.lemmas.List.Folds.{list_any-append}
+use Rattle.std.proofs.lemmas.List.Folds.{list_any-append, flat_map-map as joined_mapped}
+use Rattle.base_lemmas.proofs.Lists.{list_any-same as any_same}
+use Rattle.base_lemmas.proofs.Bools.{or-false as or_none, by_answer as pick}
 use Rattle.model.specs.Cases.{in_case}
 use Rattle.model.specs.Fields.{same_name}
 use Rattle.model.specs.Metadata.{masters_above}
@@ -20,7 +22,7 @@ use Rattle.schema_edit.specs.Judging.{AreLayouts, layouts_in}
 use Rattle.schema_rules.specs.Objects.{field_of_place, numbered_in}
 use Rattle.schema_rules.proofs.Objects.{fields_back}
 use Rattle.schema_edit.specs.inner.Relations.{gives, has_child, is_master_of, layout_by_name, layout_gives, master_among, master_object, names_among, references_in}
-use Rattle.schema_edit.proofs.Lists.{any_joined, any_of_passed, any_of_some, any_same, found_mapped, joined_mapped, joined_same, or_none, or_pairs, pick}
+use Rattle.schema_edit.proofs.Lists.{any_joined, any_of_passed, any_of_some, found_mapped, joined_same, or_pairs}
 
 -- ---- objects
 

@@ -4,7 +4,6 @@ pub mod Layouts
 pub mod Judged
 pub mod JudgedFields
 pub mod Steps
-pub mod Putting
 pub mod Editing
 pub mod AccessEdits
 pub mod NewObjects

@@ -4,17 +4,10 @@ use Rattle.std.specs.Prelude.{filter, filter_map}
 use Rattle.std.specs.List.{find, flat_map, list_any}
 use Rattle.std.specs.Option.{option_map}
 use Rattle.std.proofs.lemmas.List.Folds.{list_any-append}
+use Rattle.base_lemmas.proofs.Bools.{by_answer as pick}
 use Rattle.model.specs.Cases.{in_case}
 
 -- ---- tests
-
-pub pick : (b : Bool) (P : Bool → Type 0) → (b ≡ true → P true) → (b ≡ false → P false) → P b
-pick true P f g = f refl
-pick false P f g = g refl
-
-pub or_none : (a : Bool) → (a || false) ≡ a
-or_none true = refl
-or_none false = refl
 
 -- two pairs of tests, by their first and by their second
 pub or_pairs : (x y a b : Bool) → ((x || a) || (y || b)) ≡ ((x || y) || (a || b))
@@ -25,28 +18,15 @@ or_pairs false false a b = refl
 
 -- ---- lists
 
-pub any_mapped : {X Y : Type 0} (q : Y → Bool) (f : X → Y) (xs : List X) → list_any q (map f xs) ≡ list_any (λ x. q (f x)) xs
-any_mapped q f [] = refl
-any_mapped q f (x ∷ xs) = ap (λ (b : Bool). q (f x) || b) (any_mapped q f xs)
-
 pub any_joined : {X Y : Type 0} (q : Y → Bool) (f : X → List Y) (xs : List X) → list_any q (flat_map f xs) ≡ list_any (λ x. list_any q (f x)) xs
 any_joined q f [] = refl
 any_joined q f (x ∷ xs) = list_any-append q (f x) (flat_map f xs) ∙ ap (λ (b : Bool). list_any q (f x) || b) (any_joined q f xs)
-
-pub any_same : {X : Type 0} (p q : X → Bool) → ((x : X) → p x ≡ q x) → (xs : List X) → list_any p xs ≡ list_any q xs
-any_same p q h [] = refl
-any_same p q h (x ∷ xs) =
-    ap (λ (b : Bool). b || list_any p xs) (h x) ∙ ap (λ (b : Bool). q x || b) (any_same p q h xs)
 
 pub found_mapped : {X Y : Type 0} (q : Y → Bool) (f : X → Y) (xs : List X) → find q (map f xs) ≡ option_map f (find (λ x. q (f x)) xs)
 found_mapped q f [] = refl
 found_mapped q f (x ∷ xs) =
     pick (q (f x)) (λ b. cond b (Some (f x)) (find q (map f xs)) ≡ option_map f (cond b (Some x) (find (λ x. q (f x)) xs)))
     (λ e. refl) (λ e. found_mapped q f xs)
-
-pub joined_mapped : {X Y Z : Type 0} (g : Y → List Z) (f : X → Y) (xs : List X) → flat_map g (map f xs) ≡ flat_map (λ x. g (f x)) xs
-joined_mapped g f [] = refl
-joined_mapped g f (x ∷ xs) = ap (λ (zs : List _). g (f x) ++ zs) (joined_mapped g f xs)
 
 pub joined_same : {X Y : Type 0} (f g : X → List Y) → ((x : X) → f x ≡ g x) → (xs : List X) → flat_map f xs ≡ flat_map g xs
 joined_same f g h [] = refl

@@ -1,9 +1,13 @@
 -- A new object: the rows that it changes are those of the tenant after it, and tables with them stand for the world with it.
-use Rattle.std.proofs.Common.{◌≡◌, ◌∙◌, ℕ, ◌+◌, ◌<◌, ◌≤◌, ◌^◌, Bool, true, false, ◌&&◌, cond, eqb, IsTrue, List, [], ◌∷◌, ◌++◌, length, Option, Some, None, refl, sym, ap, subst, arith, length-append}
+use Rattle.std.proofs.Common.{◌≡◌, ◌∙◌, ℕ, ◌+◌, ◌<◌, ◌≤◌, ◌^◌, Bool, true, false, cond, eqb, IsTrue, List, [], ◌∷◌, ◌++◌, length, Option, Some, None, refl, sym, ap, subst, arith, length-append}
 use Rattle.std.specs.Prelude.{IfSome, codes, filter, is_some, map, slice_get}
 use Rattle.std.specs.List.{AllByRecursion}
 use Rattle.std.specs.Option.{option_and_then, option_map}
-use Rattle.std.proofs.lemmas.Bool.{eqb-false, eqb-true}
+use Rattle.std.proofs.lemmas.Bool.{eqb-true, and_parts as both}
+use Rattle.std.proofs.lemmas.Option.{same_Some as some_is, none-some as none_is}
+use Rattle.base_lemmas.proofs.Numbers.{eqb-self as eqb_same}
+use Rattle.base_lemmas.proofs.Lists.{slice_get-length as get_past}
+use Rattle.base_lemmas.proofs.Bools.{by_answer as pick}
 use Rattle.store_edit.specs.Edits.{Planned, Takes}
 use Rattle.store_edit.specs.Rows.{change_to}
 use Rattle.store_rows.specs.declared.field.FieldRow.{FieldRow}
@@ -42,29 +46,11 @@ use Rattle.schema_edit.specs.inner.NewRows.{FitRows, IsSpelledMaster, IsSpelledO
 use Rattle.schema_edit.specs.inner.Relations.{layout_by_name}
 use Rattle.schema_edit.proofs.Editing.{beside, other_field, other_object, other_org, unless_none}
 use Rattle.schema_edit.proofs.Layouts.{length_is, named_is}
-use Rattle.schema_edit.proofs.Lists.{pick}
-use Rattle.schema_edit.proofs.Putting.{put_is_in}
-
-some_is : {A : Type 0} (x y : A) → ◌≡◌ {A = Option A} (Some x) (Some y) → x ≡ y
-some_is x y e = cc
-
-none_is : {A : Type 0} (x : A) → ◌≡◌ {A = Option A} None (Some x) → ⊥
-none_is x e = cc
-
-eqb_same : (n : ℕ) → eqb n n ≡ true
-eqb_same n = pick (eqb n n) (λ b. b ≡ true) (λ _. refl) (λ e. absurd (eqb-false n n e refl))
-
-both : (a b : Bool) → (a && b) ≡ true → (a ≡ true) × (b ≡ true)
-both true b h = (refl, h)
-both false b h = absurd cc
+use Rattle.store_edit.proofs.Putting.{put_is_in}
 
 get_last : {X : Type 0} (xs : List X) (x : X) → slice_get (xs ++ x ∷ []) (length xs) ≡ Some x
 get_last [] x = refl
 get_last (y ∷ xs) x = get_last xs x
-
-get_past : {X : Type 0} (xs : List X) → slice_get xs (length xs) ≡ None
-get_past [] = refl
-get_past (x ∷ xs) = get_past xs
 
 -- ---- the verdict
 

@@ -2,6 +2,7 @@
 use Rattle.std.proofs.Common.{◌≡◌, ◌∙◌, ℕ, ◌+◌, List, [], ◌∷◌, ◌++◌, length, map, Some, None, refl, sym, ap, subst}
 use Rattle.std.specs.Prelude.{Err, IfErr, IfOk, IfSome, IsErrAnd, Ok, Result, codes}
 use Rattle.std.proofs.lemmas.Result.{IfErr-at_err}
+use Rattle.std.proofs.lemmas.Option.{same_Some as some_is}
 use Rattle.store_edit.proofs.Reading.{not_missed}
 use Rattle.store_edit.specs.Edits.{FailsBy}
 use Rattle.store_kv.specs.Tables.{Tables}
@@ -25,7 +26,6 @@ use Rattle.store_abstraction.specs.Local.{FindsIn, FindsThere, StandsIn}
 use Rattle.store_abstraction.specs.Metadata.{org_of}
 use Rattle.store_abstraction.specs.Plan.{OrgPlan}
 use Rattle.schema_edit.specs.Judging.{AcceptsBy, layouts_in, verdict_refusal}
-use Rattle.schema_edit.proofs.Editing.{some_is}
 
 -- ---- refused
 

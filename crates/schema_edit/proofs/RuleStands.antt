@@ -3,6 +3,9 @@ use Rattle.std.proofs.Common.{◌≡◌, ◌∙◌, inl, inr, ℕ, ◌+◌, ◌<
 use Rattle.std.specs.Prelude.{Err, IsErrAnd, Ok, Result, is_some}
 use Rattle.std.specs.List.{AllByRecursion, enumerate_from, list_any}
 use Rattle.std.specs.Option.{option_and_then, option_map}
+use Rattle.std.proofs.lemmas.Bool.{not-false as so}
+use Rattle.base_lemmas.proofs.Options.{none_from_is_some as none_so}
+use Rattle.std.proofs.lemmas.Option.{same_Some as some_is}
 use Rattle.store_edit.proofs.Reading.{SameTables, TellsFirst, TellsThen, TwoReads, two_reads}
 use Rattle.store_edit.specs.Edits.{FailsBy, Takes}
 use Rattle.store_edit.specs.Naming.{NamesLayout}
@@ -49,9 +52,9 @@ use Rattle.schema_edit.specs.declared.edits.validation.NewRuleRows.{NewRuleRows}
 use Rattle.schema_edit.specs.declared.edits.validation.ReadObject.{ReadObject}
 use Rattle.schema_edit.specs.Judging.{verdict_refusal}
 use Rattle.schema_edit.proofs.AccessEdits.{DescribedFits, ObjectFits, SamePlan, get_changed, own_row}
-use Rattle.schema_edit.proofs.Editing.{beside, named_at, other_object, other_rule, some_is, unrefused}
+use Rattle.schema_edit.proofs.Editing.{beside, named_at, other_object, other_rule, unrefused}
 use Rattle.schema_edit.proofs.FieldStands.{sound_object}
-use Rattle.schema_edit.proofs.Putting.{put_is_in, put_is_of}
+use Rattle.store_edit.proofs.Putting.{put_is_in, put_is_of}
 
 -- what `store_abstraction` says of rows where an object has one rule more, and `model_invariant` of the tenant
 abbrev pub Described : Type 0
@@ -205,14 +208,6 @@ few_read org t b object s is = few_fields is.ruled.layout.0 is.ruled.layout.1 t 
 unstopped : (a : Bool) (x : Refusal) → refuse_if a x ≡ None → a ≡ false
 unstopped true x e = absurd cc
 unstopped false x e = refl
-
-so : (a : Bool) → not a ≡ false → a ≡ true
-so true e = refl
-so false e = absurd cc
-
-none_so : {X : Type 0} (x : Option X) → is_some x ≡ false → x ≡ None
-none_so None e = refl
-none_so (Some x) e = absurd cc
 
 first_two : (a b : Rule) (more : List Rule) → first_refusal (a ∷ b ∷ more) ≡ None → (a ≡ None) × (b ≡ None)
 first_two None None more e = (refl, refl)

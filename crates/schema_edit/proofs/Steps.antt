@@ -1,8 +1,9 @@
 -- Steps of judging: what a rule that was tried says of all rules.
-use Rattle.std.proofs.Common.{◌≡◌, ◌∙◌, ℕ, Bool, true, false, ◌&&◌, ◌||◌, ◌==◌, cond, List, [], ◌∷◌, map, Option, Some, None, Result, refl, sym, ap, subst}
-use Rattle.std.specs.Prelude.{IfOk, bytes_eq, codes}
+use Rattle.std.proofs.Common.{◌≡◌, ◌∙◌, ℕ, Bool, true, false, ◌&&◌, ◌||◌, ◌==◌, cond, List, [], ◌∷◌, map, Option, Some, None, refl, sym, ap}
+use Rattle.std.specs.Prelude.{bytes_eq, codes}
 use Rattle.std.specs.List.{list_any}
 use Rattle.std.specs.Str.{chars}
+use Rattle.base_lemmas.proofs.Bools.{by_answer as pick}
 use Rattle.model.specs.declared.metadata_bodies.NewField.{NewField}
 use Rattle.model.specs.declared.refusal.Refusal.{Refusal}
 use Rattle.model.specs.declared.refusal.Refusal.TheVariants.{NameTaken}
@@ -20,11 +21,6 @@ use Rattle.schema_edit.specs.inner.Fields.{Places}
 use Rattle.schema_edit.specs.inner.Relations.{layout_by_name}
 use Rattle.schema_edit.proofs.JudgedFields.{field_names}
 use Rattle.schema_edit.proofs.Layouts.{names_are}
-use Rattle.schema_edit.proofs.Lists.{pick}
-
--- a value that is returned is another's equal
-pub if_ok : {X E : Type 0} (r : Result X E) (x y : X) → x ≡ y → IfOk r (λ v. v ≡ x) → IfOk r (λ v. v ≡ y)
-if_ok {X = X} {E = E} r x y e h = subst (λ (z : X). IfOk r (λ v. v ≡ z)) e h
 
 -- a layout's name is given as a text
 pub at_name : (ls : List Layout) (a b : List ℕ) (x : Option Layout) → a ≡ b → layout_by_name ls a ≡ x → layout_by_name ls b ≡ x
@@ -139,6 +135,3 @@ no_rule name member rule e = rw e (pick (bytes_eq name member) (λ b. None ≡ c
 
 pub or_first : (a b x : Bool) → a ≡ true → x ≡ true → x ≡ (a || b)
 or_first a b x e h = rw e h
-
-pub or_second : (a b x : Bool) → a ≡ false → x ≡ b → x ≡ (a || b)
-or_second a b x e h = rw e h

@@ -6,8 +6,7 @@ mod fields;
 mod objects;
 mod validation;
 
-pub use self::access::judge_access;
+pub(crate) use self::access::judge_access;
 pub use self::addition::Addition;
-pub use self::fields::{judge_field, target_number};
-pub use self::objects::judge_object;
-pub use self::validation::judge_rule;
+pub(crate) use self::fields::target_number;
+pub(crate) use self::validation::judge_rule;

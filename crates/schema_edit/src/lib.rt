@@ -13,5 +13,4 @@ mod rules;
 mod slots;
 
 pub use crate::edits::{AddField, AddObject, AddValidationRule, SetAccess};
-pub use crate::judging::{judge_access, judge_field, judge_object, judge_rule, target_number};
 pub use crate::slots::free_slot;

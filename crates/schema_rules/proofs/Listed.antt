@@ -1,7 +1,6 @@
 -- The rows of an object's validation rules among those of its organisation alone, in the order of their keys.
-use Rattle.std.proofs.Common.{◌≡◌, ℕ, ◌<◌, ◌^◌, Bool, true, false, ◌&&◌, cond, T, IsTrue, List, [], ◌∷◌, ◌++◌, map, Option, Some, None, refl, sym, ap, subst, ◌∙◌, inl, inr, arith, Equal, Ordering}
+use Rattle.std.proofs.Common.{◌≡◌, ℕ, ◌<◌, ◌^◌, true, cond, T, IsTrue, List, [], ◌∷◌, ◌++◌, map, Option, Some, None, refl, sym, ap, subst, ◌∙◌, inl, inr, arith, Ordering}
 use Rattle.std.specs.Prelude.{slice_index}
-use Rattle.std.specs.Cmp.{nat_cmp_total}
 use Rattle.std.specs.FinMap.{is_sorted}
 use Rattle.std.specs.FinMap.Entries.{below_all}
 use Rattle.std.specs.Option.{option_and_then, option_map}
@@ -9,6 +8,11 @@ use Rattle.std.specs.Ordering.{is_lt, nat_cmp, ordering_then}
 use Rattle.std.specs.Str.{bytes_eq}
 use Rattle.std.proofs.lemmas.Cmp.{nat_list_cmp_total, tied_itself}
 use Rattle.std.proofs.lemmas.Slice.Eq.{bytes_eq-Decides}
+use Rattle.std.proofs.lemmas.Bool.{false≢true as differ}
+use Rattle.base_lemmas.proofs.Bools.{T-and_first as t_first, T-and_second as t_second, true_from_T as t_true, T-and_from as t_both, by_answer as pick}
+use Rattle.base_lemmas.proofs.Orders.{nat_cmp-self as tied}
+use Rattle.base_lemmas.proofs.Numbers.{eqb-self as eqb_same}
+use Rattle.std.proofs.lemmas.Option.{same_Some as some_is}
 use Rattle.store_kv.specs.Prefixes.{raised}
 use Rattle.store_kv.specs.Tables.{Has as HasRow, bytes_cmp, is_between}
 use Rattle.store_rows.specs.declared.validation.ValidationRow.{ValidationRow}
@@ -30,7 +34,6 @@ use Rattle.store_abstraction.specs.Local.{rows_alone}
 use Rattle.store_abstraction.specs.Metadata.{lower_bytes, named_so, validation_of}
 use Rattle.store_abstraction.specs.Plan.{OrgPlan}
 use Rattle.store_abstraction.specs.Stands.{row_in}
-use Rattle.store_abstraction.proofs.Lookups.{eqb_same, pick, some_is}
 use Rattle.store_abstraction.proofs.MetadataLists.{BeginsSo, ComparesKeys, UnderPrefix}
 use Rattle.store_abstraction.proofs.Spelled.{stem_bytes, stem_encoded}
 use Rattle.base_value.specs.Texts.{lower}
@@ -49,22 +52,6 @@ pub record KeyLaws : Type 0 where
 
 -- ---- tests as types
 
-t_first : (a b : Bool) → T (a && b) → T a
-t_first true b h = tt
-t_first false b h = absurd h
-
-t_second : (a b : Bool) → T (a && b) → T b
-t_second true b h = h
-t_second false b h = absurd h
-
-t_both : (a b : Bool) → T a → T b → T (a && b)
-t_both true b h g = g
-t_both false b h g = absurd h
-
-t_true : (a : Bool) → T a → a ≡ true
-t_true true h = refl
-t_true false h = absurd h
-
 -- ---- rules in the order of their names
 
 abbrev named : List ValidationRule → List (List ℕ × ValidationRule)
@@ -79,9 +66,6 @@ below_has k [] r h has = absurd has
 below_has k (x ∷ rules) r h (inl e) =
     subst (λ (y : ValidationRule). is_lt (name_cmp k y.name) ≡ true) (sym e) (t_true (is_lt (name_cmp k x.name)) (t_first (is_lt (name_cmp k x.name)) (below_all name_cmp k (named rules)) h))
 below_has k (x ∷ rules) r h (inr has) = below_has k rules r (t_second (is_lt (name_cmp k x.name)) (below_all name_cmp k (named rules)) h) has
-
-differ : false ≡ true → ⊥
-differ e = cc
 
 not_less : (a b : List ℕ) → lower a ≡ lower b → is_lt (name_cmp a b) ≡ true → ⊥
 not_less a b same h =
@@ -127,9 +111,6 @@ unfolding number32
 marks_apart org n other name rest e =
     let wrong : 1 ≡ 0 = ap (λ (bytes : List ℕ). slice_index bytes 4) e in
     omega (arith, wrong)
-
-tied : (n : ℕ) → nat_cmp n n ≡ Equal
-tied n = tied_itself nat_cmp_total n
 
 module _ (keys : KeyLaws) (q : OrgPlan) (t : Tenant) (org n : ℕ) (lo : org < 2 ^ 32) (small : n < 2 ^ 16) (sound : IsSound t) (o : model.Object) (there : object_numbered t n ≡ Some o) where
   abbrev rows : Key → Option (List ℕ)

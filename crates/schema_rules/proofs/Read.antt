@@ -5,6 +5,9 @@ use Rattle.std.specs.List.{AllByRecursion}
 use Rattle.std.specs.Option.{option_map}
 use Rattle.std.proofs.lemmas.Bool.Decides.{nat_tests}
 use Rattle.std.proofs.lemmas.List.{length-map, take_all}
+use Rattle.base_lemmas.proofs.Options.{some_from_IsSome as some_of}
+use Rattle.base_lemmas.proofs.Bools.{by_answer as pick}
+use Rattle.std.proofs.lemmas.Option.{same_Some as some_is}
 use Rattle.store_kv.specs.declared.keeper.KeptRow.{KeptRow}
 use Rattle.store_kv.specs.Draft.{Held}
 use Rattle.store_kv.specs.Prefixes.{raised}
@@ -32,7 +35,6 @@ use Rattle.store_abstraction.specs.Local.{StandsIn, is_place_of, is_under, part_
 use Rattle.store_abstraction.specs.Metadata.{validation_of}
 use Rattle.store_abstraction.specs.Plan.{OrgPlan}
 use Rattle.store_abstraction.specs.declared.layout.Layout.{Layout}
-use Rattle.store_abstraction.proofs.Lookups.{pick, some_is}
 use Rattle.store_abstraction.proofs.MetadataRows.{sound_object}
 use Rattle.store_abstraction.proofs.Pages.{GivesRows, PageLaws, page_gives}
 use Rattle.schema_rules.proofs.Listed.{KeyLaws, prefix_of, rules_listed}
@@ -78,10 +80,6 @@ pub record ReadLaws : Type 0 where
   pub listed : ListedIn
 
 -- ---- what is read
-
-some_of : {X : Type 0} (o : Option X) → IsSome o → (x : X) × (o ≡ Some x)
-some_of None h = absurd cc
-some_of (Some x) h = (x, refl)
 
 stems_of : (rules : List ValidationRule) → AllByRecursion IsSoundValidation rules → (r : ValidationRule) → Has rules r → IsTrue (is_stem r.name)
 stems_of [] h r has = absurd has

@@ -3,8 +3,8 @@ use Rattle.std.proofs.Common.{◌≡◌, ℕ, ◌+◌, ◌≤◌, false, List, [
 use Rattle.std.specs.Prelude.{Result, Ok, Err}
 use Rattle.std.specs.Option.{ok_or, option_map}
 use Rattle.std.proofs.lemmas.List.{length-map}
-use Rattle.formula_eval.specs.declared.formula.Formula.{Formula}
-use Rattle.formula_grammar.specs.Spelling.{formula_in, place_in}
+use Rattle.formula.specs.declared.formula.Formula.{Formula}
+use Rattle.formula.specs.grammar.Spelling.{formula_in, place_in}
 use Rattle.base_grammar.specs.Tokens.{byte_len}
 use Rattle.store_kv.specs.Draft.{Held}
 use Rattle.store_kv.specs.State.{KeeperState}

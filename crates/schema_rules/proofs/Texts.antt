@@ -4,9 +4,9 @@ use Rattle.std.specs.Prelude.{Err, Result, nat_lt}
 use Rattle.std.specs.Option.{ok_or}
 use Rattle.std.specs.Str.{IsUtf8, chars}
 use Rattle.std.proofs.lemmas.Str.{encodes-chars}
-use Rattle.formula_eval.specs.declared.formula.Formula.{Formula}
-use Rattle.formula_eval.specs.declared.formula.NamedField.{NamedField}
-use Rattle.formula_grammar.specs.Spelling.{formula_in, place_in}
+use Rattle.formula.specs.declared.formula.Formula.{Formula}
+use Rattle.formula.specs.declared.formula.NamedField.{NamedField}
+use Rattle.formula.specs.grammar.Spelling.{formula_in, place_in}
 use Rattle.base_grammar.specs.declared.fail.ParseFail.{ParseFail}
 use Rattle.base_grammar.specs.Place.{UnlessMemory}
 use Rattle.model.specs.FormulaTexts.{formula_fields, reads_text}

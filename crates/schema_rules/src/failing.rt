@@ -19,7 +19,7 @@ use crate::formulas::read_text;
 use crate::rows::rules_of;
 use base_grammar::ParseFail;
 use base_value::{Items, Value};
-use formula_eval::{Record as Values, holds};
+use formula::{Record as Values, holds};
 use model::{Record, Refusal};
 use std::alloc::{AllocError, Global};
 use store_abstraction::{Layout, call_laws};

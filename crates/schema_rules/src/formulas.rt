@@ -10,7 +10,7 @@ ghost use Rattle.schema_rules.specs.Objects.{field_of_place, object_of_layout};
 
 use base_grammar::ParseFail;
 use base_value::{FieldType, Items, Text, character_count};
-use formula_eval::{Fields, Formula, NamedField, names};
+use formula::{Fields, Formula, NamedField, names};
 use formula_parser::parse;
 use model::FORMULA_LIMIT;
 use std::alloc::{AllocError, Global};

@@ -3,6 +3,8 @@ use Rattle.std.proofs.Common.{◌≡◌, ◌≢◌, ℕ, zero, suc, ◌<◌, ◌
 use Rattle.std.specs.Prelude.{nat_lt}
 use Rattle.std.specs.Option.{option_map}
 use Rattle.std.proofs.lemmas.Bool.{eqb-true, eqb-false}
+use Rattle.base_lemmas.proofs.Bools.{by_answer as pick}
+use Rattle.base_lemmas.proofs.Numbers.{lt_from_ltb as lower, le_from_ltb as upper}
 use Rattle.store_kv.specs.State.{KeeperState, Tells}
 use Rattle.store_kv.specs.Tables.{Tables}
 use Rattle.store_rows.specs.declared.fail.StoreFail.{StoreFail}
@@ -16,12 +18,11 @@ use Rattle.store_abstraction.specs.Local.{KeepsOthers, StandsFor, StandsIn}
 use Rattle.store_abstraction.specs.Operations.{Does, DoesIn}
 use Rattle.store_abstraction.specs.Plan.{Plan}
 use Rattle.store_abstraction.specs.Stands.{Stands, StandsBy}
-use Rattle.store_abstraction.proofs.Lookups.{pick}
 use Rattle.server.specs.Own.{DoesBy, DoesUnnamed, own_does, unnamed_bytes}
 use Rattle.server.specs.Requests.{does}
 use Rattle.server.specs.Senses.{StandsBut, all_but, is_apart}
 use Rattle.server.proofs.Elsewhere.{PlaceLaws, elsewhere}
-use Rattle.server.proofs.Worlds.{beyond, beyond_step, does_named, does_of, done_so, lower, step_unnamed, upper, world_with}
+use Rattle.server.proofs.Worlds.{beyond, beyond_step, does_named, does_of, done_so, step_unnamed, world_with}
 
 -- what `model` says of a world with another tenant in it
 pub record TenantLaws : Type 0 where

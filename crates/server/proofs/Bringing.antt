@@ -1,6 +1,8 @@
 -- A keeper that falls while the connections of a door are served.
 use Rattle.std.proofs.Common.{◌≡◌, ◌⊎◌, inl, inr, ℕ, true, false, IsTrue, List, [], ◌∷◌, ◌++◌, Option, Some, None, Ok, Err, refl, sym, ap, subst, ◌∙◌, append_assoc, append-nil}
 use Rattle.std.specs.List.{AllByRecursion}
+use Rattle.base_lemmas.proofs.Lists.{each-append as all_more}
+use Rattle.std.proofs.lemmas.Bool.{cases_Bool as either}
 use Rattle.base_io.specs.Doors.{DoorState, Nexts, brought, has_next, input_of, output_of, output_so_far, outputs}
 use Rattle.base_io.specs.declared.traits.IoFail.{IoFail}
 use Rattle.store_kv.specs.State.{KeeperState, Steps}
@@ -12,7 +14,7 @@ use Rattle.server.specs.Falls.{Falls, FallsBringing, Fell, IsUndoneBehind, Outpu
 use Rattle.server.specs.Present.{PresentKeeps}
 use Rattle.server.specs.Senses.{of_all}
 use Rattle.server.proofs.Brought.{Gone, inputs_more, outputs_more, served_more, on_next, last_output}
-use Rattle.server.proofs.Fallen.{all_more, either, falls_less}
+use Rattle.server.proofs.Fallen.{falls_less}
 
 -- ---- the next one
 

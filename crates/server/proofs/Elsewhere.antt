@@ -1,12 +1,13 @@
 -- The rows of one organisation stay where only rows of another change.
 use Rattle.std.proofs.Common.{◌≡◌, ◌≢◌, ◌∙◌, ◌<◌, ◌^◌, ◌&&◌, ℕ, Bool, true, false, cond, eqb, List, Option, Some, None, Ordering, Less, Equal, Greater, refl, sym, ap, subst}
-use Rattle.std.proofs.lemmas.Bool.{eqb-true}
+use Rattle.std.proofs.lemmas.Bool.{eqb-true, and_parts as both}
 use Rattle.std.specs.Cmp.Lexicographic.{nat_list_cmp_total}
 use Rattle.std.specs.FinMap as map
 use Rattle.std.specs.FinMap.{IsAntisymmetric}
 use Rattle.std.specs.Cmp.{IsTotalOrder}
 use Rattle.std.specs.Ordering.{is_ge, is_lt, ordering_reverse}
 use Rattle.std.specs.Prelude.{not}
+use Rattle.base_lemmas.proofs.Bools.{by_answer as pick}
 use Rattle.store_kv.specs.Prefixes.{raised}
 use Rattle.store_kv.specs.Tables.{Place, Tables, bytes_cmp, is_between, place_cmp}
 use Rattle.store_rows.specs.Holds.{Holds}
@@ -16,7 +17,6 @@ use Rattle.model.specs.Tenant.{Tenant}
 use Rattle.store_abstraction.specs.Local.{KeepsOthers, StandsIn, is_own, is_place_of, is_under, part_of, rows_alone}
 use Rattle.store_abstraction.specs.Plan.{OrgPlan}
 use Rattle.store_abstraction.specs.Stands.{all_tables}
-use Rattle.store_abstraction.proofs.Lookups.{pick}
 use Rattle.store_abstraction.proofs.Places.{part_at}
 
 -- places and keys are in a total order, and a key is at a place of the organisation whose key it is
@@ -46,10 +46,6 @@ never exact key above other lower not_lower ge = by (bytes_cmp key other) refl
         let under : bytes_cmp other key ≡ Less = nat_list_cmp_total.antisymm other key ∙ ap ordering_reverse e in
         let lower2 : is_lt (bytes_cmp other above) ≡ true = ap is_lt (nat_list_cmp_total.trans other key above under (less (bytes_cmp key above) lower)) in
         absurd (cc (lower2, not_lower))
-
-both : (a b : Bool) → (a && b) ≡ true → (a ≡ true) × (b ≡ true)
-both true b e = (refl, e)
-both false b e = absurd cc
 
 -- a key at or above another's first key, and below its end, isn't under a prefix below
 apart_above : IsAntisymmetric bytes_cmp → (prefix other key : List ℕ) → is_under prefix other ≡ false → is_ge (bytes_cmp other prefix) ≡ true → is_ge (bytes_cmp key other) ≡ true → is_under prefix key ≡ true → ⊥

@@ -5,6 +5,8 @@ use Rattle.std.specs.List.{AllByRecursion}
 use Rattle.std.specs.Io.KnownBytes.{Appends, prepend_known}
 use Rattle.std.specs.Io.KnownBytes as known
 use Rattle.std.proofs.KnownBytes.{Appends-trans}
+use Rattle.std.proofs.lemmas.Bool.{cases_Bool as either}
+use Rattle.base_lemmas.proofs.Lists.{each-append as all_more}
 use Rattle.server_http.specs.Answer.{Between}
 use Rattle.server_http.specs.Item.{whole, IsItem}
 use Rattle.server_http.specs.Reply.{reply_to, store_failed, no_memory}
@@ -35,10 +37,6 @@ pub not_fell : (k : KeeperState) → Fell k k → ⊥
 not_fell k (tells, stands, fell, clean) = absurd (cc (stands, fell))
 
 -- ---- texts that acknowledge nothing
-
-pub all_more : {X : Type 0} (P : X → Type 0) (xs ys : List X) → AllByRecursion P xs → AllByRecursion P ys → AllByRecursion P (xs ++ ys)
-all_more P [] ys h k = k
-all_more P (x ∷ xs) ys h k = (h.0, all_more P xs ys h.1 k)
 
 -- nothing was written
 pub undone_none : (full : Bool) (before after : Option (List ℕ)) → known.Keeps before after → WritesUndone full before after
@@ -150,10 +148,6 @@ fell_turn p coming left here going m close last new bytes left2 before mid after
     )
 
 -- ---- the turns after it
-
-pub either : (x : Bool) → (x ≡ true) ⊎ (x ≡ false)
-either true = inl refl
-either false = inr refl
 
 -- once it has fallen, a crash leaves no more
 abbrev pub at_less : (p : Place) (mid new : KeeperState) → ((t : Tables) → new.may_leave t → mid.may_leave t) → FallsAt p mid → FallsAt p new

@@ -1,5 +1,5 @@
 -- One turn behind the other, up to the end of the connection.
-use Rattle.std.proofs.Common.{◌≡◌, ◌≢◌, inl, inr, ℕ, ◌+◌, ◌≤◌, Bool, true, false, ◌||◌, eqb, IsTrue, List, [], ◌∷◌, ◌++◌, map, length, take, Option, Some, None, Result, Ok, Err, refl, sym, ap, subst, ◌∙◌, arith, append_assoc, append-nil}
+use Rattle.std.proofs.Common.{◌≡◌, ◌≢◌, inl, inr, ℕ, ◌+◌, ◌≤◌, Bool, true, false, eqb, IsTrue, List, [], ◌∷◌, ◌++◌, map, length, take, Option, Some, None, Result, Ok, Err, refl, sym, ap, subst, ◌∙◌, arith, append_assoc, append-nil}
 use Rattle.std.proofs.lemmas.Bool.Decides.{Decides-eqb}
 use Rattle.std.specs.Io.KnownBytes.{Appends}
 use Rattle.std.proofs.KnownBytes.{Appends-trans}
@@ -12,6 +12,7 @@ use Rattle.server.specs.Turning.{IsHere, Turns, Replied, over_by, Serves}
 use Rattle.server.specs.declared.wire.LineFail.{LineFail}
 use Rattle.server.specs.declared.wire.LineFail.TheVariants.{Read, Write}
 use Rattle.std.specs.Io.KnownBytes as known
+use Rattle.base_lemmas.proofs.Bools.{or_second_false as or_false}
 use Rattle.server_http.specs.Reply.{reply, no_memory}
 use Rattle.store_kv.proofs.Calls.{steps_same}
 use Rattle.server.specs.Turning.{Wrote}
@@ -40,10 +41,6 @@ output_after ts us false out (before, last, n, e, within, is) = (
 texts_more : (xs : List Exchange) (x : Exchange) → map reply_in (xs ++ x ∷ []) ≡ map reply_in xs ++ reply_in x ∷ []
 texts_more [] x = refl
 texts_more (y ∷ xs) x = ap (λ (ts : List (List ℕ)). reply_in y ∷ ts) (texts_more xs x)
-
-or_false : (a b : Bool) → (a || b) ≡ false → b ≡ false
-or_false true b h = absurd cc
-or_false false b h = h
 
 not_last : (n : ℕ) → n ≤ last_message → eqb n last_message ≡ false → n + 1 ≤ last_message
 not_last n few h = let ne : n ≢ last_message = λ e. absurd (cc ((Decides-eqb n last_message).1 e, h)) in omega (arith, few, ne)

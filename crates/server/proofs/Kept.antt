@@ -1,6 +1,8 @@
 -- Requests one after the other, and what they leave behind.
 use Rattle.std.proofs.Common.{◌≡◌, ◌^◌, ℕ, ◌+◌, Bool, true, false, IsTrue, List, [], ◌∷◌, ◌++◌, Option, Some, None, Ok, Err, refl, ap, arith}
 use Rattle.std.specs.Prelude.{IsErrOf, OnErr, Result, is_ok, nat_lt}
+use Rattle.std.proofs.lemmas.Bool.{both_ways as never}
+use Rattle.base_lemmas.proofs.Numbers.{lt_from_ltb as lower, le_from_ltb as upper}
 use Rattle.base_value.specs.Causes.{Rose}
 use Rattle.server_http.specs.declared.message.HttpMessage.{HttpMessage}
 use Rattle.server_http.specs.Reply.{reply_to, store_failed, no_memory}
@@ -19,7 +21,6 @@ use Rattle.server.specs.Requests.{does, message_in}
 use Rattle.server.specs.Senses.{Sense, StandsAs, is_apart}
 use Rattle.server.specs.Exchanges.{Exchange, apart, done, store, memory, LeavesBehind, stores}
 use Rattle.server.specs.Answers.{Answers, IsDamaged, IsFixed, IsMade, IsUnavailable, bytes_in, is_made, outcome_of}
-use Rattle.server.proofs.Worlds.{lower, upper}
 
 stores_more : (xs ys : List Exchange) → stores (xs ++ ys) ≡ stores xs + stores ys
 stores_more [] ys = omega arith
@@ -91,10 +92,6 @@ acknowledged_by new (Made bytes) h made = h
 acknowledged_by new (Damaged bytes) h made = absurd made
 acknowledged_by new (Unavailable close) h made = absurd made
 acknowledged_by new (OutOfMemory close) h made = absurd made
-
-never : (b : Bool) → b ≡ false → IsTrue b → ⊥
-never true is holds = absurd cc
-never false is holds = absurd cc
 
 -- an answer that was made leaves a keeper of which it is known
 pub sure_by : (new : KeeperState) (a : Answer) → (IsMade a → TrustedAfter true new) → (b : Bool) → b ≡ is_made a → IsTrue b → TrustedAfter true new

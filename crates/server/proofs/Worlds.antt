@@ -1,7 +1,7 @@
 -- What a message comes to in the organisation that its key names, as a step of the world.
 use Rattle.std.proofs.Common.{◌≡◌, ◌⊎◌, inl, inr, ℕ, ◌<◌, ◌≤◌, ◌^◌, zero, suc, Bool, true, false, IsTrue, List, [], ◌∷◌, length, Option, Some, None, Result, Ok, Err, refl, sym, ap, subst, ◌∙◌, arith}
-use Rattle.std.proofs.lemmas.Bool.Decides.{nat_tests}
 use Rattle.std.specs.Prelude.{nat_lt}
+use Rattle.base_lemmas.proofs.Numbers.{lt_from_ltb as lower, le_from_ltb as upper}
 use Rattle.store_kv.specs.State.{KeeperState, Tells}
 use Rattle.store_kv.specs.Tables.{Tables}
 use Rattle.store_rows.specs.declared.fail.StoreFail.{StoreFail}
@@ -33,12 +33,6 @@ pub record WorldLaws : Type 0 where
 abbrev pub world_with : World → ℕ → Option Tenant → World
 world_with w n None = w
 world_with w n (Some u) = with_tenant w n u
-
-pub lower : {a b : ℕ} → nat_lt a b ≡ true → a < b
-lower h = grind (arith, nat_tests)
-
-pub upper : {a b : ℕ} → nat_lt a b ≡ false → b ≤ a
-upper h = grind (arith, nat_tests)
 
 -- no organisation has such a number
 pub beyond : (w : World) (n : ℕ) → length w < n → tenant_at w n ≡ None

@@ -1,8 +1,7 @@
 -- The characters behind the word `Bearer`.
-use Rattle.std.proofs.Common.{◌≡◌, ℕ, ◌<◌, Bool, true, false, ◌&&◌, cond, nat_lt, List, length, take, drop, Option, Some, None, codes, refl, sym, ap, ◌∙◌, arith, inl, inr, IsUtf8}
+use Rattle.std.proofs.Common.{◌≡◌, ℕ, ◌<◌, Bool, true, false, ◌&&◌, cond, nat_lt, List, length, take, drop, Option, Some, None, codes, refl, sym, ap, ◌∙◌, inl, inr, IsUtf8, lt-ltb as is_lt}
 use Rattle.std.specs.Str.{chars, str_eq_ignore_ascii_case, is_utf8}
 use Rattle.std.proofs.lemmas.Bool.{cases_Bool}
-use Rattle.std.proofs.lemmas.Bool.Decides.{nat_tests}
 use Rattle.std.proofs.lemmas.Str.{is_utf8-from_IsUtf8, IsUtf8-from_is_utf8}
 use Rattle.server_http.specs.Framing.{credentials}
 
@@ -17,9 +16,6 @@ by_last a b true x r = cc
 by_last true true false x r = refl
 by_last true false false x r = refl
 by_last false b false x r = refl
-
-is_lt : (n m : ℕ) → n < m → nat_lt n m ≡ true
-is_lt n m h = grind (arith, nat_tests)
 
 pub text_credentials : (value rest text : List ℕ) → 6 < length value → str_eq_ignore_ascii_case (take 7 value) (codes "bearer ") ≡ true
     → rest ≡ drop 7 value → text ≡ rest → IsUtf8 rest → credentials value ≡ Some (chars text)

@@ -1,5 +1,5 @@
 -- Decimal numbers, digit by digit.
-use Rattle.std.proofs.Common.{◌≡◌, ℕ, ◌+◌, ◌-◌, ◌*◌, ◌<◌, Bool, true, false, ◌&&◌, nat_lt, inl, inr, List, [], ◌∷◌, ◌++◌, length, take, get_or, refl, ap, ◌∙◌, arith, add-one, min}
+use Rattle.std.proofs.Common.{◌≡◌, ℕ, ◌+◌, ◌-◌, ◌*◌, ◌<◌, true, nat_lt, inl, inr, List, [], ◌∷◌, ◌++◌, length, take, get_or, refl, ap, ◌∙◌, arith, add-one, min}
 use Rattle.std.proofs.Math.Seq.{take-suc}
 use Rattle.std.specs.List.{list_all}
 use Rattle.std.specs.Char.{is_ascii_digit, digit_value}
@@ -7,6 +7,7 @@ use Rattle.std.specs.Str.Parse.{digits_value, digits_value_after}
 use Rattle.std.proofs.lemmas.Bool.Decides.{nat_tests}
 use Rattle.std.proofs.lemmas.List.Folds.{list_all_at}
 use Rattle.std.proofs.lemmas.Bool.{cases_Bool}
+use Rattle.base_lemmas.proofs.Bools.{and_second}
 use Rattle.server_http.specs.Framing.{is_number}
 
 value_snoc : (n : ℕ) (xs : List ℕ) (c : ℕ) → digits_value_after 10 n (xs ++ c ∷ []) ≡ digits_value_after 10 n xs * 10 + digit_value c
@@ -21,10 +22,6 @@ digit_at xs i h all = elim (cases_Bool (is_ascii_digit (get_or xs i 0))) [
   | inl good ↦ good
   | inr bad ↦ (let none = list_all_at is_ascii_digit xs i 0 h bad in cc)
 ]
-
-and_second : (a b : Bool) → (a && b) ≡ true → b ≡ true
-and_second true b h = h
-and_second false b h = cc
 
 -- one more digit
 pub number_more : (xs : List ℕ) (i value : ℕ) → i < length xs → is_number xs ≡ true → value ≡ min (digits_value 10 (take i xs)) 4194305

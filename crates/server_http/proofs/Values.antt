@@ -3,6 +3,8 @@ use Rattle.std.proofs.Common.{◌≡◌, ℕ, ◌+◌, ◌<◌, Bool, true, fals
 use Rattle.std.proofs.Math.Seq.{take-suc}
 use Rattle.std.specs.List.{list_any}
 use Rattle.std.proofs.Common.{◌&&◌, ◌||◌, zero, suc}
+use Rattle.std.proofs.lemmas.Bool.{and_from as both, or_left as or_first, or_right as or_second}
+use Rattle.std.proofs.lemmas.List.{map-append as map_append}
 use Rattle.httparse.specs.Spans.{IsWithin, span_bytes, header_bytes, IsHeaderWithin}
 use Rattle.httparse.specs.declared.spans.HeaderSpan.{HeaderSpan}
 use Rattle.httparse.specs.declared.spans.Span.{Span}
@@ -26,10 +28,6 @@ values_append name (l ∷ ls) ks =
     ∙ ap (λ vs. cond (is_named name l) (l.1 ∷ vs) vs) (values_append name ls ks)
     ∙ cond_append (is_named name l) l.1 _ _
     ∙ ap (λ vs. vs ++ values_named name ks) (sym (map_cond (λ line. line.1) (is_named name l) l _))
-
-map_append : {A B : Type 0} (f : A → B) (xs ys : List A) → map f (xs ++ ys) ≡ map f xs ++ map f ys
-map_append f [] ys = refl
-map_append f (x ∷ xs) ys = ap (λ l. f x ∷ l) (map_append f xs ys)
 
 -- one more line
 pub values_more : (name bytes : List ℕ) (lines : List HeaderSpan) (i : ℕ) (d : HeaderSpan) → i < length lines
@@ -65,18 +63,6 @@ found_step name bytes lines i d found h is within =
 any_cond : (p : List ℕ → Bool) (b : Bool) (v : List ℕ) (vs : List (List ℕ)) → list_any p (cond b (v ∷ vs) vs) ≡ ((b && p v) || list_any p vs)
 any_cond p true v vs = refl
 any_cond p false v vs = refl
-
-or_first : (a b : Bool) → a ≡ true → (a || b) ≡ true
-or_first true b h = refl
-or_first false b h = cc
-
-or_second : (a b : Bool) → b ≡ true → (a || b) ≡ true
-or_second true b h = refl
-or_second false b h = h
-
-both : (a b : Bool) → a ≡ true → b ≡ true → (a && b) ≡ true
-both true b h k = k
-both false b h k = h
 
 pub any_at : (p : List ℕ → Bool) (name bytes : List ℕ) (lines : List HeaderSpan) (i : ℕ) (d : HeaderSpan) → i < length lines
     → is_named name (header_bytes bytes (get_or lines i d)) ≡ true → p (header_bytes bytes (get_or lines i d)).1 ≡ true

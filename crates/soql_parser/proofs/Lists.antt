@@ -8,14 +8,14 @@ use Rattle.base_grammar.specs.declared.fail.Fail.TheVariants.{Stuck, Memory}
 use Rattle.base_grammar.proofs.Lists.{Takes, exact_takes}
 use Rattle.base_grammar.proofs.Pairs.{after_exact}
 use Rattle.base_grammar.proofs.Turns.{Shortens, repeat-ends, repeat-turn, repeat-stuck, with_front-append}
-use Rattle.soql_grammar.specs.Grammar as g
-use Rattle.soql_grammar.specs.Grammar.{left_behind}
-use Rattle.soql_grammar.specs.Readers as spec
-use Rattle.soql_grammar.specs.Signs.{kind}
-use Rattle.soql_ast.specs.declared.query.Item.{Item}
-use Rattle.soql_grammar.specs.declared.sign.Sign.{Sign}
-use Rattle.soql_grammar.proofs.Instances.{name_exact, literal_exact, literal_firsts, path_exact, unit_exact, unit_firsts}
-use Rattle.soql_grammar.proofs.QueryInstances.{key_exact, comma_item_exact}
+use Rattle.soql.specs.grammar.Grammar as g
+use Rattle.soql.specs.grammar.Grammar.{left_behind}
+use Rattle.soql.specs.grammar.Readers as spec
+use Rattle.soql.specs.grammar.Signs.{kind}
+use Rattle.soql.specs.declared.query.Item.{Item}
+use Rattle.soql.specs.declared.grammar.sign.Sign.{Sign}
+use Rattle.soql.proofs.Instances.{name_exact, literal_exact, literal_firsts, path_exact, unit_exact, unit_firsts}
+use Rattle.soql.proofs.QueryInstances.{key_exact, comma_item_exact}
 
 -- ---- a separator and what is behind it take a token
 pub name_takes : Takes (reader.after kind 29 spec.name)

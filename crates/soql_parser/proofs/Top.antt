@@ -9,13 +9,13 @@ use Rattle.base_grammar.specs.declared.fail.ParseFail.{ParseFail}
 use Rattle.base_grammar.proofs.Meets.{meets}
 use Rattle.base_grammar.proofs.Unique.{one_list}
 use Rattle.base_grammar.proofs.Wholes as wholes
-use Rattle.soql_ast.specs.Lexis.{lexis}
-use Rattle.soql_ast.specs.declared.query.Query.{Query}
-use Rattle.soql_grammar.specs.Readers as spec
-use Rattle.soql_grammar.specs.Signs.{sign_of, signs}
-use Rattle.soql_grammar.specs.declared.sign.Sign.{Sign}
-use Rattle.soql_grammar.specs.Spelling.{IsRefusedAt, Spells, place_in, query_in, reads_query}
-use Rattle.soql_grammar.proofs.Spelled.{spelled, computed, refused}
+use Rattle.soql.specs.Lexis.{lexis}
+use Rattle.soql.specs.declared.query.Query.{Query}
+use Rattle.soql.specs.grammar.Readers as spec
+use Rattle.soql.specs.grammar.Signs.{sign_of, signs}
+use Rattle.soql.specs.declared.grammar.sign.Sign.{Sign}
+use Rattle.soql.specs.grammar.Spelling.{IsRefusedAt, Spells, place_in, query_in, reads_query}
+use Rattle.soql.proofs.Spelled.{spelled, computed, refused}
 
 module _ (bytes : List ℕ) where
   -- by these tokens

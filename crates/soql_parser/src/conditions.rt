@@ -3,14 +3,13 @@
 ghost use Rattle.std.specs.Prelude.{◌≡◌, ◌<◌, ◌≤◌, length, ◌∷◌, [], IfOk};
 ghost use Rattle.base_grammar.specs.Reader as reader;
 ghost use Rattle.base_grammar.specs.Reader.{Gives, with_front};
-ghost use Rattle.soql_grammar.specs.Readers as spec;
-ghost use Rattle.soql_grammar.specs.Signs.{kind, number};
+ghost use Rattle.soql.specs.grammar.Readers as spec;
+ghost use Rattle.soql.specs.grammar.Signs.{kind, number};
 
 use crate::paths::of_path;
 use base_grammar::{Fail, begins_with, skip};
 use base_value::{Boxed, Items};
-use soql_ast::Cond;
-use soql_grammar::{Sign, SignKind};
+use soql::{Cond, Sign, SignKind};
 use std::alloc::Global;
 
 // A unit, in which NOT and parentheses nest at most so many levels.
@@ -26,7 +25,7 @@ fn unit(alloc: Global, levels: usize, signs: &[Sign]) -> Result<(Cond, &[Sign]),
 }
 
 #[cycle(conditions)]
-#[tactic(auto, unfolding(soql_grammar::specs::Readers::inner))]
+#[tactic(auto, unfolding(soql::specs::Readers::inner))]
 fn inner(alloc: Global, levels: usize, signs: &[Sign]) -> Result<(Cond, &[Sign]), Fail>
     ensures value { Gives (λ x. (x.0, x.1.now)) result (spec.inner (spec.unit levels) signs.now) }
     ensures shorter { IfOk result (λ x. length x.1.now < length signs.now) }
@@ -41,7 +40,7 @@ fn inner(alloc: Global, levels: usize, signs: &[Sign]) -> Result<(Cond, &[Sign])
 }
 
 #[cycle(conditions)]
-#[tactic(auto, unfolding(soql_grammar::specs::Readers::negation))]
+#[tactic(auto, unfolding(soql::specs::Readers::negation))]
 fn negation(alloc: Global, levels: usize, signs: &[Sign]) -> Result<(Cond, &[Sign]), Fail>
     ensures value { Gives (λ x. (x.0, x.1.now)) result (spec.negation (spec.unit levels) signs.now) }
     ensures shorter { IfOk result (λ x. length x.1.now < length signs.now) }
@@ -52,7 +51,7 @@ fn negation(alloc: Global, levels: usize, signs: &[Sign]) -> Result<(Cond, &[Sig
 
 // A condition in parentheses.
 #[cycle(conditions)]
-#[tactic(auto, unfolding(soql_grammar::specs::Readers::group))]
+#[tactic(auto, unfolding(soql::specs::Readers::group))]
 fn group(alloc: Global, levels: usize, signs: &[Sign]) -> Result<(Cond, &[Sign]), Fail>
     ensures value { Gives (λ x. (x.0, x.1.now)) result (spec.group (spec.unit levels) signs.now) }
     ensures shorter { IfOk result (λ x. length x.1.now < length signs.now) }
@@ -101,7 +100,7 @@ fn more_units(
 
 // The units that AND or OR joins.
 #[cycle(conditions)]
-#[tactic(auto, unfolding(soql_grammar::specs::Readers::joined))]
+#[tactic(auto, unfolding(soql::specs::Readers::joined))]
 fn joined(
     alloc: Global,
     levels: usize,
@@ -120,7 +119,7 @@ fn joined(
 }
 
 #[cycle(conditions)]
-#[tactic(auto, unfolding(soql_grammar::specs::Readers::conjunction))]
+#[tactic(auto, unfolding(soql::specs::Readers::conjunction))]
 fn conjunction(
     alloc: Global,
     levels: usize,
@@ -135,7 +134,7 @@ fn conjunction(
 }
 
 #[cycle(conditions)]
-#[tactic(auto, unfolding(soql_grammar::specs::Readers::disjunction))]
+#[tactic(auto, unfolding(soql::specs::Readers::disjunction))]
 fn disjunction(
     alloc: Global,
     levels: usize,
@@ -151,7 +150,7 @@ fn disjunction(
 
 // The condition that a first unit and what is behind it make.
 #[cycle(conditions)]
-#[tactic(auto, unfolding(soql_grammar::specs::Readers::chain))]
+#[tactic(auto, unfolding(soql::specs::Readers::chain))]
 fn chain(alloc: Global, levels: usize, first: Cond, signs: &[Sign]) -> Result<(Cond, &[Sign]), Fail>
     ensures value { Gives (λ x. (x.0, x.1.now)) result (spec.chain (spec.unit levels) first signs.now) }
     ensures shorter { IfOk result (λ x. length x.1.now ≤ length signs.now) }
@@ -167,7 +166,7 @@ fn chain(alloc: Global, levels: usize, first: Cond, signs: &[Sign]) -> Result<(C
 
 // A condition whose units nest at most so many levels.
 #[cycle(conditions)]
-#[tactic(auto, unfolding(soql_grammar::specs::Readers::cond_of))]
+#[tactic(auto, unfolding(soql::specs::Readers::cond_of))]
 fn cond_of(alloc: Global, levels: usize, signs: &[Sign]) -> Result<(Cond, &[Sign]), Fail>
     ensures value { Gives (λ x. (x.0, x.1.now)) result (spec.cond_of (spec.unit levels) signs.now) }
     ensures shorter { IfOk result (λ x. length x.1.now < length signs.now) }
@@ -177,7 +176,7 @@ fn cond_of(alloc: Global, levels: usize, signs: &[Sign]) -> Result<(Cond, &[Sign
 }
 
 /// A whole condition.
-#[tactic(auto, unfolding(soql_grammar::specs::Readers::condition))]
+#[tactic(auto, unfolding(soql::specs::Readers::condition))]
 pub fn condition(alloc: Global, signs: &[Sign]) -> Result<(Cond, &[Sign]), Fail>
     ensures value { Gives (λ x. (x.0, x.1.now)) result (spec.condition signs.now) }
     ensures shorter { IfOk result (λ x. length x.1.now < length signs.now) }

@@ -2,12 +2,12 @@
 
 ghost use Rattle.std.specs.Prelude.{◌≡◌, length, chars, IfOk};
 ghost use Rattle.base_grammar.specs.Place.{IsOrMemory, OnMalformed, UnlessMemory};
-ghost use Rattle.soql_grammar.specs.Spelling.{IsRefusedAt, Spells, reads_query};
-ghost use Rattle.soql_ast.specs.declared.query.Query.{Query};
+ghost use Rattle.soql.specs.grammar.Spelling.{IsRefusedAt, Spells, reads_query};
+ghost use Rattle.soql.specs.declared.query.Query.{Query};
 
 use crate::items::whole;
 use base_grammar::{ParseFail, at_end, starts, tokens};
-use soql_ast::{Query, QueryLexis};
+use soql::{Query, QueryLexis};
 use soql_lexer::signs;
 use std::alloc::Global;
 

@@ -2,12 +2,11 @@
 
 ghost use Rattle.std.specs.Prelude.{◌≡◌, ◌++◌, IfOk, map};
 ghost use Rattle.base_grammar.specs.Counts.{plain_text};
-ghost use Rattle.soql_grammar.specs.Grammar as grammar;
+ghost use Rattle.soql.specs.grammar.Grammar as grammar;
 
 use base_grammar::{Piece, plain_text};
 use base_value::{Items, Text};
-use soql_ast::{LikePart, LikePattern, Literal, Op};
-use soql_grammar::Sign;
+use soql::{LikePart, LikePattern, Literal, Op, Sign};
 use std::alloc::{AllocError, Global};
 
 pub fn name_in(alloc: Global, sign: &Sign) -> Result<Option<Text>, AllocError>
@@ -58,7 +57,7 @@ pub fn literal_in(alloc: Global, sign: &Sign) -> Result<Option<Literal>, AllocEr
     }
 }
 
-#[tactic(auto, unfolding(soql_grammar::specs::Grammar::part_of))]
+#[tactic(auto, unfolding(soql::specs::Grammar::part_of))]
 fn part_of(piece: Piece) -> LikePart
     ensures { result ≡ grammar.part_of piece }
 {

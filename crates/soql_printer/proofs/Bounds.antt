@@ -15,11 +15,11 @@ use Rattle.base_value.specs.declared.value.Value.TheVariants as value
 use Rattle.base_value.proofs.DateLaws.{day_valid, moment_valid}
 use Rattle.base_value.proofs.Sizes.{exactly_is}
 use Rattle.std.specs.Prelude.{option_map}
-use Rattle.soql_grammar.specs.Grammar.{literal_in, text_literal}
-use Rattle.soql_grammar.specs.Signs.{sign_of, word_sign, condition_word, clause_word, name_sign, mark_sign, pair_sign, run_sign, number_sign, day_or, moment_in}
-use Rattle.soql_ast.specs.declared.query.Literal.TheVariants as l
-use Rattle.soql_grammar.specs.declared.sign.Sign.{Sign}
-use Rattle.soql_grammar.specs.declared.sign.Sign.TheVariants as sign
+use Rattle.soql.specs.grammar.Grammar.{literal_in, text_literal}
+use Rattle.soql.specs.grammar.Signs.{sign_of, word_sign, condition_word, clause_word, name_sign, mark_sign, pair_sign, run_sign, number_sign, day_or, moment_in}
+use Rattle.soql.specs.declared.query.Literal.TheVariants as l
+use Rattle.soql.specs.declared.grammar.sign.Sign.{Sign}
+use Rattle.soql.specs.declared.grammar.sign.Sign.TheVariants as sign
 use Rattle.std.proofs.Common.{codes}
 use Rattle.soql_printer.proofs.Names.{at_clause_word, at_condition_word, at_or, either_if}
 use Rattle.soql_printer.proofs.Written.{IsWritten}

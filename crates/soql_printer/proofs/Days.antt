@@ -20,9 +20,9 @@ use Rattle.base_value.proofs.DateTexts.{length_day}
 use Rattle.base_value.proofs.Printed.{no_sign}
 use Rattle.base_value.proofs.Splits.{written-none}
 use Rattle.base_value.proofs.ValueLaws.{printed_reads}
-use Rattle.soql_grammar.specs.Signs.{sign_of, run_sign, day_or, moment_in}
-use Rattle.soql_grammar.specs.declared.sign.Sign.{Sign}
-use Rattle.soql_grammar.specs.declared.sign.Sign.TheVariants as sign
+use Rattle.soql.specs.grammar.Signs.{sign_of, run_sign, day_or, moment_in}
+use Rattle.soql.specs.declared.grammar.sign.Sign.{Sign}
+use Rattle.soql.specs.declared.grammar.sign.Sign.TheVariants as sign
 use Rattle.soql_printer.proofs.Lexed.{Reads}
 use Rattle.soql_printer.proofs.Keywords.{goes_on}
 use Rattle.soql_printer.proofs.Runs.{IsRun, digit_class, digit_runs, is_run_reads, passes_both}

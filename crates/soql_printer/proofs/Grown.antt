@@ -4,7 +4,7 @@ use Rattle.std.specs.Result.{is_ok}
 use Rattle.std.specs.List.{flat_map, join_by}
 use Rattle.std.specs.Str.{IsUtf8, chars}
 use Rattle.std.proofs.lemmas.Str.{chars-append}
-use Rattle.soql_ast.specs.declared.query.Cond.{Cond, Not}
+use Rattle.soql.specs.declared.query.Cond.{Cond, Not}
 use Rattle.soql_printer.specs.Printing.{as_unit, is_simple, only_if, printed_condition}
 use Rattle.soql_printer.specs.inner.Units.{unit_text}
 use Rattle.soql_printer.proofs.Units.{printed_not}
@@ -14,10 +14,6 @@ pub grown : {X E : Type 0} (r : Result X E) (old new bytes before more : List �
     → chars old ≡ before → chars bytes ≡ more → OnOk r (chars new ≡ before ++ more)
 grown (Ok x) old new bytes before more utf8 e b m = rw (e, ← b, ← m) (chars-append old bytes utf8)
 grown (Err x) old new bytes before more utf8 e b m = tt
-
-pub on_ok : {X E P Q : Type 0} (r : Result X E) → (P → Q) → OnOk r P → OnOk r Q
-on_ok (Ok x) f h = f h
-on_ok (Err e) f h = tt
 
 -- ---- pieces one after the other
 pub three : (w x y z a b c : List ℕ) → x ≡ w ++ a → y ≡ x ++ b → z ≡ y ++ c → z ≡ w ++ (a ++ b ++ c)

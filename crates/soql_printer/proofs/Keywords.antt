@@ -2,18 +2,19 @@
 use Rattle.std.proofs.Common.{◌≡◌, ℕ, Bool, true, false, ◌==◌, ◌&&◌, if◌then◌else◌, List, [], ◌∷◌, ◌++◌, refl, ap, arith, codes}
 use Rattle.std.specs.List.{list_all}
 use Rattle.std.proofs.lemmas.Bool.Decides.{nat_tests}
+use Rattle.base_lemmas.proofs.Bools.{and-false as not_both}
 use Rattle.base_grammar.specs.declared.classes.Class.TheVariants.{Letters, Other}
 use lib.Utf8.{encode}
 use Rattle.base_grammar.specs.Tokens.{Passes, is_blank, is_letter, in_word, begins_run, class_of, single_token, is_written}
 use Rattle.base_grammar.specs.Lexing.{token_len, token_of, mark_len, mark_token}
 use Rattle.base_grammar.proofs.Fronts.{Fails}
 use Rattle.base_value.specs.Numerals.{is_digit}
-use Rattle.soql_ast.specs.Lexis.{lexis, is_mark, is_pair}
-use Rattle.soql_grammar.specs.Signs.{sign_of, word_sign, condition_word, clause_word, name_sign, mark_sign, pair_sign}
-use Rattle.soql_ast.specs.declared.query.Op.{Op}
-use Rattle.soql_ast.specs.declared.query.Op.TheVariants as op
-use Rattle.soql_grammar.specs.declared.sign.Sign.{Sign}
-use Rattle.soql_grammar.specs.declared.sign.Sign.TheVariants as sign
+use Rattle.soql.specs.Lexis.{lexis, is_mark, is_pair}
+use Rattle.soql.specs.grammar.Signs.{sign_of, word_sign, condition_word, clause_word, name_sign, mark_sign, pair_sign}
+use Rattle.soql.specs.declared.query.Op.{Op}
+use Rattle.soql.specs.declared.query.Op.TheVariants as op
+use Rattle.soql.specs.declared.grammar.sign.Sign.{Sign}
+use Rattle.soql.specs.declared.grammar.sign.Sign.TheVariants as sign
 use Rattle.soql_printer.specs.Printing.{printed_op}
 use Rattle.soql_printer.proofs.Lexed.{Reads, nothing, blank_at_end, one_reads, reads_before, reads_same, reads_then, reads_wider, word_reads}
 
@@ -153,10 +154,6 @@ mark_reads c e alone = one_reads nothing c [] Other e (λ x. cc) (λ rest f. go 
     go : (rest : List ℕ) → token_len lexis Other c rest ≡ 0
     go [] = refl
     go (d ∷ rest) = rw (alone d) refl
-
-not_both : (b : Bool) → (b && false) ≡ false
-not_both true = refl
-not_both false = refl
 
 pub open_reads : Reads nothing (40 ∷ []) (sign.Open ∷ [])
 unfolding class_of is_blank is_letter begins_run is_digit single_token is_mark is_pair mark_sign

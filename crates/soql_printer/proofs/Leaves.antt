@@ -7,15 +7,15 @@ use Rattle.base_grammar.specs.Tokens.{in_word, is_letter}
 use Rattle.base_grammar.specs.declared.token.Piece.TheVariants.{Plain}
 use Rattle.base_value.specs.Numerals.{is_digit}
 use Rattle.base_value.specs.Printing.{print_day, print_moment, print_number, scale}
-use Rattle.soql_grammar.specs.Grammar as g
-use Rattle.soql_grammar.specs.Grammar.{count_in, literal_in, name_in, pattern_in}
-use Rattle.soql_grammar.specs.Signs.{number_sign}
-use Rattle.soql_ast.specs.declared.query.LikePattern.{LikePattern}
-use Rattle.soql_ast.specs.declared.query.Literal.{Literal}
-use Rattle.soql_ast.specs.declared.query.Literal.TheVariants as l
-use Rattle.soql_ast.specs.declared.query.Path.{Path}
-use Rattle.soql_grammar.specs.declared.sign.Sign.{Sign}
-use Rattle.soql_grammar.specs.declared.sign.Sign.TheVariants as sign
+use Rattle.soql.specs.grammar.Grammar as g
+use Rattle.soql.specs.grammar.Grammar.{count_in, literal_in, name_in, pattern_in}
+use Rattle.soql.specs.grammar.Signs.{number_sign}
+use Rattle.soql.specs.declared.query.LikePattern.{LikePattern}
+use Rattle.soql.specs.declared.query.Literal.{Literal}
+use Rattle.soql.specs.declared.query.Literal.TheVariants as l
+use Rattle.soql.specs.declared.query.Path.{Path}
+use Rattle.soql.specs.declared.grammar.sign.Sign.{Sign}
+use Rattle.soql.specs.declared.grammar.sign.Sign.TheVariants as sign
 use Rattle.soql_printer.specs.Printing.{printed_character, printed_literal, printed_part, printed_path, quoted}
 use Rattle.soql_printer.proofs.Bounds.{literal_day, literal_moment, literal_number}
 use Rattle.soql_printer.proofs.Days.{day_reads, moment_reads}

@@ -9,9 +9,9 @@ use Rattle.base_grammar.specs.Lexing.{front_len, token_at, token_len, token_of, 
 use Rattle.base_grammar.proofs.Fronts.{Fails}
 use Rattle.base_grammar.proofs.Longest.{class_of-blank}
 use Rattle.base_grammar.proofs.Tokenizing.{byte_len-append, tokens_of-cons}
-use Rattle.soql_ast.specs.Lexis.{lexis}
-use Rattle.soql_grammar.specs.Signs.{sign_of, signs, word_sign}
-use Rattle.soql_grammar.specs.declared.sign.Sign.{Sign}
+use Rattle.soql.specs.Lexis.{lexis}
+use Rattle.soql.specs.grammar.Signs.{sign_of, signs, word_sign}
+use Rattle.soql.specs.declared.grammar.sign.Sign.{Sign}
 
 -- ---- one token, or a blank
 token_reads : (c : ℕ) (w rest : List ℕ) (at : ℕ) → is_blank c ≡ false → token_len lexis (class_of lexis c) c (w ++ rest) ≡ length w

@@ -6,10 +6,10 @@ use Rattle.std.proofs.lemmas.Bool.Decides.{nat_tests}
 use Rattle.base_value.specs.Numerals.{exact_bound, is_digit}
 use Rattle.base_value.specs.Printing.{print_size, scale}
 use Rattle.base_value.proofs.Printed.{AreDigits, decimal_is}
-use Rattle.soql_grammar.specs.Grammar.{count_in}
-use Rattle.soql_grammar.specs.Signs.{number_sign}
-use Rattle.soql_grammar.specs.declared.sign.Sign.{Sign}
-use Rattle.soql_grammar.specs.declared.sign.Sign.TheVariants as sign
+use Rattle.soql.specs.grammar.Grammar.{count_in}
+use Rattle.soql.specs.grammar.Signs.{number_sign}
+use Rattle.soql.specs.declared.grammar.sign.Sign.{Sign}
+use Rattle.soql.specs.declared.grammar.sign.Sign.TheVariants as sign
 use Rattle.soql_printer.proofs.Lexed.{Reads}
 use Rattle.soql_printer.proofs.Keywords.{goes_on}
 use Rattle.soql_printer.proofs.Runs.{number_reads}

@@ -15,11 +15,11 @@ use Rattle.base_value.specs.declared.value.Value.{Value}
 use Rattle.base_value.specs.declared.value.Value.TheVariants as value
 use Rattle.base_value.specs.declared.value.FieldType.TheVariants as type
 use Rattle.std.specs.Prelude.{Result, Ok, ℤ}
-use Rattle.soql_grammar.specs.Grammar.{name_in}
-use Rattle.soql_ast.specs.Lexis.{lexis, is_mark}
-use Rattle.soql_grammar.specs.Signs.{sign_of, word_sign, word_or, condition_word, clause_word, name_sign, mark_sign, pair_sign, run_sign, number_sign, day_or, moment_in}
-use Rattle.soql_grammar.specs.declared.sign.Sign.{Sign}
-use Rattle.soql_grammar.specs.declared.sign.Sign.TheVariants as sign
+use Rattle.soql.specs.grammar.Grammar.{name_in}
+use Rattle.soql.specs.Lexis.{lexis, is_mark}
+use Rattle.soql.specs.grammar.Signs.{sign_of, word_sign, word_or, condition_word, clause_word, name_sign, mark_sign, pair_sign, run_sign, number_sign, day_or, moment_in}
+use Rattle.soql.specs.declared.grammar.sign.Sign.{Sign}
+use Rattle.soql.specs.declared.grammar.sign.Sign.TheVariants as sign
 use Rattle.soql_printer.proofs.Lexed.{Reads, word_reads}
 use Rattle.soql_printer.proofs.Written.{IsWritten}
 

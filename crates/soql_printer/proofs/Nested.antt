@@ -4,15 +4,15 @@ use Rattle.std.specs.List.{AllByRecursion, flat_map}
 use Rattle.base_grammar.specs.Part.{Part, one, empty, both, either, as_value}
 use Rattle.base_grammar.specs.Part as part
 use Rattle.base_grammar.proofs.Fronts.{Fails}
-use Rattle.soql_grammar.specs.Grammar as g
-use Rattle.soql_grammar.specs.Grammar.{operator_in, pattern_in}
-use Rattle.soql_ast.specs.declared.query.Cond.{Cond}
-use Rattle.soql_ast.specs.declared.query.Cond.TheVariants as c
-use Rattle.soql_ast.specs.declared.query.Literal.{Literal}
-use Rattle.soql_ast.specs.declared.query.Op.{Op}
-use Rattle.soql_ast.specs.declared.query.Path.{Path}
-use Rattle.soql_grammar.specs.declared.sign.Sign.{Sign}
-use Rattle.soql_grammar.specs.declared.sign.Sign.TheVariants as sign
+use Rattle.soql.specs.grammar.Grammar as g
+use Rattle.soql.specs.grammar.Grammar.{operator_in, pattern_in}
+use Rattle.soql.specs.declared.query.Cond.{Cond}
+use Rattle.soql.specs.declared.query.Cond.TheVariants as c
+use Rattle.soql.specs.declared.query.Literal.{Literal}
+use Rattle.soql.specs.declared.query.Op.{Op}
+use Rattle.soql.specs.declared.query.Path.{Path}
+use Rattle.soql.specs.declared.grammar.sign.Sign.{Sign}
+use Rattle.soql.specs.declared.grammar.sign.Sign.TheVariants as sign
 use Rattle.soql_printer.specs.Printing.{as_unit, in_parentheses, is_simple, listed, printed_condition, printed_literal, printed_op, printed_part, printed_path, quoted}
 use Rattle.soql_printer.specs.Nesting.{levels, unit_levels}
 use Rattle.soql_printer.specs.inner.Units.{unit_text}

@@ -4,10 +4,10 @@ use Rattle.std.specs.List.{AllByRecursion, flat_map, join_by}
 use Rattle.base_grammar.specs.Part.{Part, one, empty, both, either, as_value, many, of_kind, one_fewer, SpellsMany, SpellsBoth}
 use Rattle.base_grammar.specs.Part as part
 use Rattle.base_grammar.proofs.Fronts.{Fails}
-use Rattle.soql_grammar.specs.Grammar as g
-use Rattle.soql_grammar.specs.Signs.{kind}
-use Rattle.soql_grammar.specs.declared.sign.Sign.{Sign}
-use Rattle.soql_grammar.specs.declared.sign.Sign.TheVariants as sign
+use Rattle.soql.specs.grammar.Grammar as g
+use Rattle.soql.specs.grammar.Signs.{kind}
+use Rattle.soql.specs.declared.grammar.sign.Sign.{Sign}
+use Rattle.soql.specs.declared.grammar.sign.Sign.TheVariants as sign
 use Rattle.soql_printer.specs.Printing.{in_parentheses}
 use Rattle.soql_printer.proofs.Lexed.{Reads, nothing, fails_append, reads_append, reads_before, reads_none, reads_then, reads_wider}
 use Rattle.soql_printer.proofs.Written.{AreWritten, written_split}

@@ -9,13 +9,13 @@ use Rattle.base_grammar.specs.Counts.{plain_text}
 use Rattle.base_grammar.specs.Tokens.{is_blank, is_letter, begins_run, class_of, with_piece, pieces_of, text_len, text_token}
 use Rattle.base_grammar.specs.Lexing.{token_len, token_of}
 use Rattle.base_value.specs.Numerals.{is_digit}
-use Rattle.soql_grammar.specs.Grammar.{part_of, parts_of}
-use Rattle.soql_ast.specs.Lexis.{lexis, escaped}
-use Rattle.soql_grammar.specs.Signs.{sign_of}
-use Rattle.soql_ast.specs.declared.query.LikePart.{LikePart}
-use Rattle.soql_ast.specs.declared.query.LikePart.TheVariants as like
-use Rattle.soql_grammar.specs.declared.sign.Sign.{Sign}
-use Rattle.soql_grammar.specs.declared.sign.Sign.TheVariants as sign
+use Rattle.soql.specs.grammar.Grammar.{part_of, parts_of}
+use Rattle.soql.specs.Lexis.{lexis, escaped}
+use Rattle.soql.specs.grammar.Signs.{sign_of}
+use Rattle.soql.specs.declared.query.LikePart.{LikePart}
+use Rattle.soql.specs.declared.query.LikePart.TheVariants as like
+use Rattle.soql.specs.declared.grammar.sign.Sign.{Sign}
+use Rattle.soql.specs.declared.grammar.sign.Sign.TheVariants as sign
 use Rattle.soql_printer.specs.Printing.{escaped_if, is_special, is_wildcard, printed_character, printed_part, quoted}
 use Rattle.soql_printer.proofs.Lexed.{Reads, nothing, one_reads}
 

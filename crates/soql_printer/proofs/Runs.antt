@@ -14,9 +14,9 @@ use Rattle.base_value.specs.Printing.{print_fraction, print_number, print_places
 use Rattle.base_value.specs.inner.Splits.{IsSplit}
 use Rattle.base_value.proofs.Printed.{AreDigits, decimal_is, fraction_of, no_sign, places_are, size_printed, size_split, whole_small}
 use Rattle.base_value.proofs.Splits.{written-split}
-use Rattle.soql_ast.specs.Lexis.{lexis}
-use Rattle.soql_grammar.specs.Signs.{sign_of, run_sign, number_sign}
-use Rattle.soql_grammar.specs.declared.sign.Sign.{Sign}
+use Rattle.soql.specs.Lexis.{lexis}
+use Rattle.soql.specs.grammar.Signs.{sign_of, run_sign, number_sign}
+use Rattle.soql.specs.declared.grammar.sign.Sign.{Sign}
 use Rattle.soql_printer.proofs.Lexed.{Reads, reads_wider, run_reads}
 use Rattle.soql_printer.proofs.Keywords.{goes_on, wider_by}
 

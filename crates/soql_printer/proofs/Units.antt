@@ -4,8 +4,8 @@ use Rattle.std.specs.List.{AllByRecursion, join_by}
 use Rattle.std.proofs.lemmas.List.Folds.{flat_map-map}
 use mathlib.Core.Former.{Count}
 use denote.Hole.Carrier.{hidden}
-use Rattle.soql_ast.specs.declared.query.Cond.{Cond, Not, And, Or, And', Or', Row_of-Cond, end_of-Cond, more_of-Cond, items-the_row-Cond, items_hidden-the_row-Cond-1}
-use Rattle.soql_ast.specs.declared.query.Cond.TheBlock.{hidden-the_row-Cond-0}
+use Rattle.soql.specs.declared.query.Cond.{Cond, Not, And, Or, And', Or', Row_of-Cond, end_of-Cond, more_of-Cond, items-the_row-Cond, items_hidden-the_row-Cond-1}
+use Rattle.soql.specs.declared.query.Cond.TheBlock.{hidden-the_row-Cond-0}
 use Rattle.soql_printer.specs.Printing.{as_unit, is_simple, printed_condition, printed_units}
 use Rattle.soql_printer.specs.Nesting.{greatest, levels, levels_within, unit_levels}
 use Rattle.soql_printer.specs.inner.Units.{unit_text}

@@ -8,20 +8,20 @@ use Rattle.base_grammar.specs.Tokens.{byte_len}
 use Rattle.base_grammar.proofs.Fronts.{Fails}
 use Rattle.base_grammar.proofs.Meets.{meets}
 use Rattle.base_grammar.proofs.Tokenizing.{tokens_of-nil}
-use Rattle.soql_grammar.specs.Grammar as g
-use Rattle.soql_grammar.specs.Grammar.{count_in, descending_in, last_in, left_behind}
-use Rattle.soql_ast.specs.Lexis.{lexis}
-use Rattle.soql_grammar.specs.Signs.{signs}
-use Rattle.soql_grammar.specs.Spelling.{Spells}
-use Rattle.soql_ast.specs.declared.query.Cond.{Cond}
-use Rattle.soql_ast.specs.declared.query.Item.{Item}
-use Rattle.soql_ast.specs.declared.query.Item.TheVariants as item
-use Rattle.soql_ast.specs.declared.query.OrderKey.{OrderKey}
-use Rattle.soql_ast.specs.declared.query.Path.{Path}
-use Rattle.soql_ast.specs.declared.query.Query.{Query}
-use Rattle.soql_ast.specs.declared.query.Tail.{Tail}
-use Rattle.soql_grammar.specs.declared.sign.Sign.{Sign}
-use Rattle.soql_grammar.specs.declared.sign.Sign.TheVariants as sign
+use Rattle.soql.specs.grammar.Grammar as g
+use Rattle.soql.specs.grammar.Grammar.{count_in, descending_in, last_in, left_behind}
+use Rattle.soql.specs.Lexis.{lexis}
+use Rattle.soql.specs.grammar.Signs.{signs}
+use Rattle.soql.specs.grammar.Spelling.{Spells}
+use Rattle.soql.specs.declared.query.Cond.{Cond}
+use Rattle.soql.specs.declared.query.Item.{Item}
+use Rattle.soql.specs.declared.query.Item.TheVariants as item
+use Rattle.soql.specs.declared.query.OrderKey.{OrderKey}
+use Rattle.soql.specs.declared.query.Path.{Path}
+use Rattle.soql.specs.declared.query.Query.{Query}
+use Rattle.soql.specs.declared.query.Tail.{Tail}
+use Rattle.soql.specs.declared.grammar.sign.Sign.{Sign}
+use Rattle.soql.specs.declared.grammar.sign.Sign.TheVariants as sign
 use Rattle.soql_printer.specs.Printing.{listed, only_if, optional, printed, printed_condition, printed_item, printed_key, printed_order, printed_path, printed_tail}
 use Rattle.soql_printer.specs.Nesting.{item_levels, levels_if, nesting}
 use Rattle.soql_printer.proofs.Keywords.{goes_on, by_reads, comma_blank_reads, desc_reads, ends, from_reads, last_reads, limit_reads, nulls_reads, offset_reads, order_reads, select_reads, spaced, where_reads}

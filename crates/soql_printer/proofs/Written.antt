@@ -3,9 +3,9 @@ use Rattle.std.proofs.Common.{◌≡◌, ℕ, ◌+◌, List, [], ◌∷◌, ◌+
 use Rattle.base_grammar.specs.declared.token.Placed.{Placed}
 use Rattle.base_grammar.specs.declared.token.Token.{Token}
 use Rattle.base_grammar.specs.Tokens.{AreTokens, IsToken, byte_len}
-use Rattle.soql_ast.specs.Lexis.{lexis}
-use Rattle.soql_grammar.specs.Signs.{sign_of, signs}
-use Rattle.soql_grammar.specs.declared.sign.Sign.{Sign}
+use Rattle.soql.specs.Lexis.{lexis}
+use Rattle.soql.specs.grammar.Signs.{sign_of, signs}
+use Rattle.soql.specs.declared.grammar.sign.Sign.{Sign}
 
 pub record IsWritten (s : Sign) : Type 0 where
   pub chars : List ℕ

@@ -1,10 +1,10 @@
 -- How deep NOT and parentheses nest in the text of a query.
 -- Source: none. That a condition has a number of levels is this product's own.
 use Rattle.std.specs.Prelude.{ℕ, ◌+◌, Bool, max, if◌then◌else◌, List, [], ◌∷◌, map, Option, Some, None}
-use Rattle.soql_ast.specs.declared.query.Cond.{Cond, Test, Like, In, Not', And', Or', Row_of-Cond, end_of-Cond, more_of-Cond}
-use Rattle.soql_ast.specs.declared.query.Item.{Item}
-use Rattle.soql_ast.specs.declared.query.Item.TheVariants as item
-use Rattle.soql_ast.specs.declared.query.Query.{Query}
+use Rattle.soql.specs.declared.query.Cond.{Cond, Test, Like, In, Not', And', Or', Row_of-Cond, end_of-Cond, more_of-Cond}
+use Rattle.soql.specs.declared.query.Item.{Item}
+use Rattle.soql.specs.declared.query.Item.TheVariants as item
+use Rattle.soql.specs.declared.query.Query.{Query}
 use Rattle.soql_printer.specs.Printing.{is_simple}
 
 -- the greatest of some numbers

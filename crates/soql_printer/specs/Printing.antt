@@ -7,20 +7,20 @@ use Rattle.std.specs.List.{flat_map, join_by}
 use Rattle.base_value.specs.Printing.{is_printable, print_value}
 use Rattle.base_value.specs.declared.value.Value.{Value}
 use Rattle.base_value.specs.declared.value.Value.TheVariants as value
-use Rattle.soql_ast.specs.Lexis.{quote}
-use Rattle.soql_ast.specs.declared.query.Cond.{Cond, Test, Like, In, Not', And', Or', Row_of-Cond, end_of-Cond, more_of-Cond}
-use Rattle.soql_ast.specs.declared.query.Item.{Item}
-use Rattle.soql_ast.specs.declared.query.Item.TheVariants as item
-use Rattle.soql_ast.specs.declared.query.LikePart.{LikePart}
-use Rattle.soql_ast.specs.declared.query.LikePart.TheVariants as like
-use Rattle.soql_ast.specs.declared.query.Literal.{Literal}
-use Rattle.soql_ast.specs.declared.query.Literal.TheVariants as l
-use Rattle.soql_ast.specs.declared.query.Op.{Op}
-use Rattle.soql_ast.specs.declared.query.Op.TheVariants as op
-use Rattle.soql_ast.specs.declared.query.OrderKey.{OrderKey}
-use Rattle.soql_ast.specs.declared.query.Path.{Path}
-use Rattle.soql_ast.specs.declared.query.Query.{Query}
-use Rattle.soql_ast.specs.declared.query.Tail.{Tail}
+use Rattle.soql.specs.Lexis.{quote}
+use Rattle.soql.specs.declared.query.Cond.{Cond, Test, Like, In, Not', And', Or', Row_of-Cond, end_of-Cond, more_of-Cond}
+use Rattle.soql.specs.declared.query.Item.{Item}
+use Rattle.soql.specs.declared.query.Item.TheVariants as item
+use Rattle.soql.specs.declared.query.LikePart.{LikePart}
+use Rattle.soql.specs.declared.query.LikePart.TheVariants as like
+use Rattle.soql.specs.declared.query.Literal.{Literal}
+use Rattle.soql.specs.declared.query.Literal.TheVariants as l
+use Rattle.soql.specs.declared.query.Op.{Op}
+use Rattle.soql.specs.declared.query.Op.TheVariants as op
+use Rattle.soql.specs.declared.query.OrderKey.{OrderKey}
+use Rattle.soql.specs.declared.query.Path.{Path}
+use Rattle.soql.specs.declared.query.Query.{Query}
+use Rattle.soql.specs.declared.query.Tail.{Tail}
 
 -- ---- pieces of texts
 -- the texts of some things, with commas between

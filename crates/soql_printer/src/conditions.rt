@@ -5,12 +5,12 @@ ghost use Rattle.std.specs.List.{join_by};
 ghost use Rattle.std.specs.Str.{IsAscii};
 ghost use Rattle.soql_printer.specs.Printing as spec;
 ghost use Rattle.soql_printer.specs.inner.Units.{unit_text};
-ghost use Rattle.soql_ast.specs.declared.query.Cond.TheVariants as c;
+ghost use Rattle.soql.specs.declared.query.Cond.TheVariants as c;
 
 use crate::printed::{Printed, join};
 use crate::values::{operator, quoted_pattern};
 use crate::writer::Writer;
-use soql_ast::{Cond, LikePattern, Literal, Op, Path};
+use soql::{Cond, LikePattern, Literal, Op, Path};
 use std::alloc::{AllocError, Global};
 
 // ---- tests

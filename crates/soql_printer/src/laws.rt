@@ -1,8 +1,8 @@
 //! What holds of the texts of queries, for the layers above.
 
 ghost use Rattle.std.specs.Prelude.{ℕ, ◌≤◌, List};
-ghost use Rattle.soql_grammar.specs.Spelling.{Spells};
-ghost use Rattle.soql_ast.specs.declared.query.Query.{Query};
+ghost use Rattle.soql.specs.grammar.Spelling.{Spells};
+ghost use Rattle.soql.specs.declared.query.Query.{Query};
 ghost use Rattle.soql_printer.specs.Printing.{printed};
 ghost use Rattle.soql_printer.specs.Nesting.{nesting};
 

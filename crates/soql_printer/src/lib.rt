@@ -1,6 +1,6 @@
 //! The texts of queries.
 //!
-//! It depends on `base_value`, `base_grammar`, `soql_ast` and `soql_parser`. Its contract: `print` returns the text that the definition
+//! It depends on `base_value`, `base_grammar`, `soql` and `soql_parser`. Its contract: `print` returns the text that the definition
 //! `printed` gives a query, or is out of memory. Where some text spells a query, what is printed of it spells it again.
 #![tactic(auto)]
 

@@ -9,7 +9,7 @@ use crate::conditions::{condition, only_if};
 use crate::printed::{Printed, join};
 use crate::writer::Writer;
 use base_value::Text;
-use soql_ast::{Cond, Item, OrderKey, Path, Query, Tail};
+use soql::{Cond, Item, OrderKey, Path, Query, Tail};
 use std::alloc::{AllocError, Global};
 
 impl Printed for OrderKey {

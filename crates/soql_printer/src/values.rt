@@ -9,7 +9,7 @@ ghost use Rattle.base_value.specs.declared.value.Value.TheVariants as value;
 use crate::printed::{Printed, join};
 use crate::writer::Writer;
 use base_value::{Text, Value, print_value};
-use soql_ast::{LikePart, LikePattern, Literal, Op, Path};
+use soql::{LikePart, LikePattern, Literal, Op, Path};
 use std::alloc::{AllocError, Global};
 
 impl Printed for Path {

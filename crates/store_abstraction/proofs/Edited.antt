@@ -6,10 +6,11 @@ use Rattle.std.specs.Cmp.{IsTotalOrder}
 use Rattle.std.specs.FinMap as map
 use Rattle.std.specs.FinMap.{IsAntisymmetric}
 use Rattle.std.specs.Option.{option_eq}
-use Rattle.std.specs.Ordering.{eq_by_cmp, is_eq}
-use Rattle.std.specs.declared.cmp.Ordering.{Ordering}
-use Rattle.std.specs.declared.cmp.Ordering.TheVariants.{Less, Equal, Greater}
+use Rattle.std.specs.Ordering.{eq_by_cmp}
 use Rattle.std.proofs.lemmas.Bool.{eqb-true}
+use Rattle.base_lemmas.proofs.Orders.{equal_from_is_eq as tie}
+use Rattle.base_lemmas.proofs.Numbers.{eqb-self as eqb_same}
+use Rattle.base_lemmas.proofs.Bools.{by_answer as pick}
 use Rattle.store_kv.specs.Tables.{Place, Tables, place_cmp}
 use Rattle.store_rows.specs.Holds.{Holds, with_row}
 use Rattle.store_rows.specs.Keys.{FitsKey, Key, key_eq, spell}
@@ -18,7 +19,6 @@ use Rattle.model.specs.Tenant.{Tenant}
 use Rattle.store_abstraction.specs.Changes.{Change, IsOf, is_changed, with_change, with_changes}
 use Rattle.store_abstraction.specs.Plan.{FitsPlan, OrgPlan}
 use Rattle.store_abstraction.specs.Stands.{all_tables, org_of_key, row_in}
-use Rattle.store_abstraction.proofs.Lookups.{eqb_same, pick}
 use Rattle.store_abstraction.proofs.Parts.{SameRows}
 use Rattle.store_abstraction.specs.Local.{IsIn, KeepsOthers, StandsIn, is_own, is_place_of, part_of, rows_alone}
 use Rattle.store_abstraction.proofs.Places.{PrefixLaws, part_at, place_is}
@@ -39,11 +39,6 @@ own_is n k e = rw e (eqb_same n)
 owned_so : (n : ℕ) (o : Option ℕ) → option_eq nat_eq o (Some n) ≡ true → o ≡ Some n
 owned_so n None e = absurd cc
 owned_so n (Some m) e = ap Some (eqb-true m n e)
-
-tie : (r : Ordering) → is_eq r ≡ true → r ≡ Equal
-tie Less e = absurd cc
-tie Equal e = refl
-tie Greater e = absurd cc
 
 module _ (laws : PrefixLaws) (total : IsTotalOrder place_cmp) (exact : IsAntisymmetric place_cmp) where
   -- what is at a place after a change

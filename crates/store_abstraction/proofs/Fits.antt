@@ -3,7 +3,12 @@ use Rattle.std.proofs.Common.{◌≡◌, ◌⊎◌, ℕ, zero, suc, ◌+◌, ◌
 use Rattle.std.specs.Prelude.{is_none, is_some, slice_get}
 use Rattle.std.specs.List.{enumerate_from, find}
 use Rattle.std.specs.Option.{option_and_then, option_map}
-use Rattle.std.proofs.lemmas.Bool.{eqb-true}
+use Rattle.std.proofs.lemmas.Bool.{eqb-true, not-true as not_true}
+use Rattle.base_lemmas.proofs.Options.{some_there as there_is}
+use Rattle.base_lemmas.proofs.Bools.{and_second as and_right, by_answer as pick}
+use Rattle.base_lemmas.proofs.Numbers.{eqb-less as eqb_less, eqb-self as eqb_same}
+use Rattle.std.proofs.lemmas.Option.{slice_get_within as get_below, none-some as none_is, same_Some as some_is}
+use Rattle.base_lemmas.proofs.Lists.{slice_get-length as get_past}
 use Rattle.model.specs.NewFields.{with_field}
 use Rattle.model.specs.Objects.{object_numbered, with_object_changed}
 use Rattle.model.specs.Retyping.{job_is_done}
@@ -13,18 +18,14 @@ use Rattle.model.specs.Tenant.{Field, Job, Object, Tenant}
 use Rattle.store_abstraction.specs.Entries.{slot_field}
 use Rattle.store_abstraction.specs.Plan.{FitsPlan, OrgPlan, has_field, is_clearing, slot_count, type_there}
 use Rattle.store_abstraction.specs.Records.{is_free, is_other, with_slot}
-use Rattle.store_abstraction.proofs.Free.{and_right, free_field, not_true}
-use Rattle.store_abstraction.proofs.Lookups.{eqb_less, eqb_same, get_below, get_past, get_push, none_is, pick, some_is}
+use Rattle.store_abstraction.proofs.Free.{free_field}
+use Rattle.store_abstraction.proofs.Lookups.{get_push}
 use Rattle.store_abstraction.proofs.Placed.{get_changed, not_last, placed, there_same}
 use Rattle.base_value.specs.Values.{valid}
 
 -- an object has a field with this number
 abbrev has_in : (field : ℕ) → Option Object → Bool
 has_in f o = is_some (option_and_then (λ (x : Object). slice_get x.fields f) o)
-
-there_is : {X : Type 0} (x : Option X) → is_some x ≡ true → (y : X) × (x ≡ Some y)
-there_is None e = absurd cc
-there_is (Some y) e = (y, refl)
 
 -- what is left is of its type under another slot too
 left_placed : (slots : ℕ → ℕ → ℕ) (p : OrgPlan) (t : Tenant) → FitsPlan p t → (j : Job) (i : List ℕ) (v : _) → t.job ≡ Some j → is_clearing j.phase ≡ true → p.left i ≡ Some v → IsTrue (valid (type_there (placed slots p) j) v)

@@ -7,6 +7,8 @@ use Rattle.std.specs.FinMap as map
 use Rattle.std.specs.FinMap.{IsAntisymmetric}
 use Rattle.std.specs.Str.{bytes_eq}
 use Rattle.std.proofs.lemmas.Slice.Eq.{bytes_eq-Decides}
+use Rattle.base_lemmas.proofs.Numbers.{eqb-self as eqb_same}
+use Rattle.std.proofs.lemmas.Option.{same_Some as some_is}
 use Rattle.store_codec.specs.Shapes.{FitsIn, Val}
 use Rattle.store_kv.specs.State.{KeeperCause, KeeperState, Quiet, StaysAfter}
 use Rattle.store_kv.specs.Tables.{Tables, place_cmp}
@@ -22,7 +24,6 @@ use Rattle.store_abstraction.specs.Calls.{HasFallen, ended, is_done}
 use Rattle.store_abstraction.specs.Local.{FindsIn, StandsIn, is_own}
 use Rattle.store_abstraction.specs.Plan.{FitsPlan, OrgPlan, Plan}
 use Rattle.store_abstraction.specs.Stands.{org_of_key, owned_row, row_at, row_in}
-use Rattle.store_abstraction.proofs.Lookups.{eqb_same, some_is}
 use Rattle.store_abstraction.proofs.Places.{PrefixLaws, part_at, place_is}
 
 -- what is read is what stands there, as `store_rows` says
@@ -38,10 +39,6 @@ found_tenant (x ∷ w) (suc n) t h e = found_tenant w n t h.1 e
 pub sound_tenant : (w : World) (n : ℕ) (t : Tenant) → AllByRecursion IsSound w → tenant_at w n ≡ Some t → IsSound t
 sound_tenant w zero t h e = absurd cc
 sound_tenant w (suc n) t h e = found_tenant w n t h e
-
-pub map_twice : {X Y Z : Type 0} (f : Y → Z) (g : X → Y) (o : Option X) → option_map (λ x. f (g x)) o ≡ option_map f (option_map g o)
-map_twice f g None = refl
-map_twice f g (Some x) = refl
 
 -- the thing with an id has that id, and what holds of each holds of it
 pub found_with_id : {X : Type 0} (id : X → List ℕ) (P : X → Type 0) (xs : List X) (i : List ℕ) (x : X) → AllByRecursion P xs → having_id id xs i ≡ Some x → (id x ≡ i) × P x

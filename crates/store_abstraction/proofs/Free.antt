@@ -3,7 +3,9 @@ use Rattle.std.proofs.Common.{◌≡◌, ℕ, zero, suc, ◌+◌, ◌<◌, ◌�
 use Rattle.std.specs.Prelude.{filter, if◌then◌else◌, is_none, slice_get}
 use Rattle.std.specs.List.{enumerate_from, find, list_any}
 use Rattle.std.specs.Option.{option_and_then}
-use Rattle.std.proofs.lemmas.Bool.{eqb-true}
+use Rattle.std.proofs.lemmas.Bool.{eqb-true, not-true as not_true}
+use Rattle.base_lemmas.proofs.Bools.{and_first as and_left, and_second as and_right, or_first_false as or_left, or_second_false as or_right, by_answer as pick}
+use Rattle.base_lemmas.proofs.Lists.{length-map_by as mapped_length}
 use Rattle.model.specs.declared.record.Record.{Record}
 use Rattle.model.specs.Retyping.{job_is_done}
 use Rattle.model.specs.Tenant.{Field, Job, Object, Tenant}
@@ -12,7 +14,6 @@ use Rattle.store_abstraction.specs.Plan.{OrgPlan, slot_count}
 use Rattle.model.specs.Cases.{in_case}
 use Rattle.store_abstraction.specs.Layouts.{job_place, layout_of, place_of}
 use Rattle.store_abstraction.specs.Records.{has_free, is_free, is_other}
-use Rattle.store_abstraction.proofs.Lookups.{mapped_length, pick}
 use Rattle.base_value.specs.declared.job.Phase.{Phase}
 use Rattle.base_value.specs.declared.job.Phase.TheVariants as phase
 
@@ -23,14 +24,6 @@ has_number s xs = list_any (λ x. eqb x s) xs
 
 abbrev without : ℕ → List ℕ → List ℕ
 without n xs = filter (λ x. not (eqb x n)) xs
-
-or_left : (a b : Bool) → (a || b) ≡ false → a ≡ false
-or_left false b e = refl
-or_left true b e = absurd cc
-
-or_right : (a b : Bool) → (a || b) ≡ false → b ≡ false
-or_right false b e = e
-or_right true b e = absurd cc
 
 without_le : (n : ℕ) (xs : List ℕ) → length (without n xs) ≤ length xs
 without_le n [] = omega arith
@@ -100,14 +93,6 @@ free_slot p job n o few =
 
 -- ---- nothing is in it
 
-pub and_left : (a b : Bool) → (a && b) ≡ true → a ≡ true
-and_left true b e = refl
-and_left false b e = absurd cc
-
-pub and_right : (a b : Bool) → (a && b) ≡ true → b ≡ true
-and_right true b e = e
-and_right false b e = absurd cc
-
 is_missing : {X : Type 0} (x : Option X) → is_none x ≡ true → x ≡ None
 is_missing None e = refl
 is_missing (Some x) e = absurd cc
@@ -115,10 +100,6 @@ is_missing (Some x) e = absurd cc
 -- no field has a free slot
 pub free_field : (p : OrgPlan) (job : Option Job) (n : ℕ) (o : Object) (s : ℕ) → IsTrue (is_free p job n o s) → slot_field p n o.fields s ≡ None
 free_field p job n o s e = is_missing (slot_field p n o.fields s) (and_left (is_none (slot_field p n o.fields s)) (not (is_other p job n s)) e)
-
-pub not_true : (b : Bool) → not b ≡ true → b ≡ false
-not_true false e = refl
-not_true true e = absurd cc
 
 done_empty : (p : OrgPlan) (j : Job) (r : Record) (f : Phase) → job_is_done f ≡ true → job_value p j f r ≡ None
 done_empty p j r phase.Copy e = absurd cc

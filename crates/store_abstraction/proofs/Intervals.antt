@@ -1,14 +1,14 @@
 -- The interval of a longer prefix is within that of a shorter one.
 use Rattle.std.proofs.Common.{◌≡◌, ◌∙◌, ℕ, ◌+◌, ◌<◌, ◌==◌, Bool, true, false, cond, ltb, IsTrue, List, [], ◌∷◌, ◌++◌, Option, Some, None, Less, Equal, Greater, Ordering, refl, sym, ap, subst, arith}
-use Rattle.std.specs.Prelude.{◌&&◌}
 use Rattle.std.specs.Cmp.{nat_cmp_is}
 use Rattle.std.specs.Ordering.{is_ge, is_lt, nat_cmp, ordering_then}
 use Rattle.std.proofs.lemmas.Bool.{ltb-false, ltb-true}
+use Rattle.base_lemmas.proofs.Bools.{and_first as both_first, and_second as both_second, by_answer as pick}
+use Rattle.std.proofs.lemmas.Option.{none-some as none_is, same_Some as some_is}
 use Rattle.store_kv.specs.Prefixes.{raised, raised_from}
 use Rattle.store_kv.specs.Tables.{bytes_cmp, is_between}
 use Rattle.model.specs.Cases.{in_case}
 use Rattle.store_abstraction.specs.Local.{is_under}
-use Rattle.store_abstraction.proofs.Lookups.{none_is, pick, some_is}
 
 -- what a longer prefix is raised to
 more_some : (a b up : List ℕ) → raised b ≡ Some up → raised (a ++ b) ≡ Some (a ++ up)
@@ -72,14 +72,6 @@ below_shorter (x ∷ a) more up (y ∷ key) e h = by (λ us g. below_shorter a m
         → (o : Option (List ℕ)) → raised a ≡ o → raised_from x o ≡ Some up → is_lt (bytes_cmp (y ∷ key) up) ≡ true
     by later None g e = last (x == 255) e
     by later (Some us) g e = subst (λ (z : List ℕ). is_lt (bytes_cmp (y ∷ key) z) ≡ true) (some_is (x ∷ us) up e) (further us (later us g) (nat_cmp y x) h)
-
-both_first : (a b : Bool) → IsTrue (a && b) → a ≡ true
-both_first true b h = refl
-both_first false b h = absurd cc
-
-both_second : (a b : Bool) → IsTrue (a && b) → b ≡ true
-both_second true b h = h
-both_second false b h = absurd cc
 
 -- a key of the interval of a longer prefix is under the shorter one
 pub under_shorter : (a b above key : List ℕ) → raised (a ++ b) ≡ Some above → IsTrue (is_between (a ++ b) above key) → is_under a key ≡ true

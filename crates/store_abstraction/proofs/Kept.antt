@@ -4,6 +4,9 @@ use Rattle.std.specs.Prelude.{filter, if◌then◌else◌}
 use Rattle.std.specs.List.{find, range_with_len}
 use Rattle.std.specs.Option.{option_and_then, option_map}
 use Rattle.std.specs.Str.{bytes_eq}
+use Rattle.base_lemmas.proofs.Lists.{map-same as map_same}
+use Rattle.base_lemmas.proofs.Bools.{by_answer as pick}
+use Rattle.std.proofs.lemmas.Option.{same_Some as some_is}
 use Rattle.store_rows.specs.Forms.{row_bytes}
 use Rattle.store_rows.specs.Keys.{Key, Data, Index, Unique, Relation}
 use Rattle.store_rows.specs.Rows.{data_form, unique_form}
@@ -16,13 +19,8 @@ use Rattle.store_abstraction.specs.Entries.{Entry, data_of, entry_text, is_index
 use Rattle.store_abstraction.specs.Plan.{OrgPlan, slot_count}
 use Rattle.store_abstraction.specs.Records.{Alike, KeptAlike, object_of_records}
 use Rattle.store_abstraction.specs.Stands.{Kept, kept_at, kept_in, row_in, row_where, unique_at, unique_of}
-use Rattle.store_abstraction.proofs.Lookups.{pick, some_is}
 
 -- ---- one record
-
-map_same : {A B : Type 0} (f g : A → B) → ((x : A) → f x ≡ g x) → (xs : List A) → map f xs ≡ map g xs
-map_same f g h [] = refl
-map_same f g h (x ∷ xs) = rw (h x, map_same f g h xs) refl
 
 slots_same : (e f : ℕ → Option Entry) → ((s : ℕ) → Alike (e s) (f s)) → slots_of e ≡ slots_of f
 unfolding slots_of

@@ -5,6 +5,7 @@ use Rattle.std.specs.List.{enumerate_from, find}
 use Rattle.std.specs.Option.{option_and_then, option_map}
 use Rattle.std.proofs.lemmas.List.{append-nil, length-map, map_push, take_all}
 use Rattle.std.proofs.lemmas.List.FromFn.{length-enumerate_from}
+use Rattle.std.proofs.lemmas.Simd.{map-map as map_again}
 use Rattle.store_kv.specs.declared.keeper.KeptRow.{KeptRow}
 use Rattle.store_kv.specs.Prefixes.{raised}
 use Rattle.store_kv.specs.Tables.{Tables, is_between, rows_between}
@@ -108,10 +109,6 @@ module _ (keys : KeyLaws) (listed : ListedIn) where
       (page_gives field_form pages (part_of org m) (rows_alone org q t) s.rows (number32 org ++ number16 n) (raised (number32 org ++ number16 n)) (field_rows org n q t) 41 (fields_listed keys q m org lo n small t s) r e))
 
 -- ---- places
-
-map_again : {X Y Z : Type 0} (f : Y → Z) (g : X → Y) (xs : List X) → map f (map g xs) ≡ map (λ x. f (g x)) xs
-map_again f g [] = refl
-map_again f g (x ∷ xs) = ap (λ (zs : List _). f (g x) ∷ zs) (map_again f g xs)
 
 places_are : (org n : ℕ) (q : OrgPlan) (t : Option Tenant) → map place_of_row (field_rows org n q t) ≡ places_in n q t
 unfolding field_rows places_in

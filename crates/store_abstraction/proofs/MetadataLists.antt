@@ -1,13 +1,14 @@
 -- The rows of an organisation's objects, and of an object's fields, are the lists of its tenant.
-use Rattle.std.proofs.Common.{◌≡◌, ℕ, ◌-◌, ◌<◌, ◌^◌, Bool, true, cond, IsTrue, Option, Some, None, List, [], ◌++◌, length, refl, sym, ap, ◌∙◌, arith, map, Less, Equal, Ordering}
+use Rattle.std.proofs.Common.{◌≡◌, ℕ, ◌-◌, ◌<◌, ◌^◌, Bool, true, cond, IsTrue, Option, Some, None, List, [], ◌++◌, length, refl, sym, ap, ◌∙◌, arith, map, Less, Ordering}
 use Rattle.std.specs.Prelude.{◌↔◌, IsSome, nat_eq, slice_get}
-use Rattle.std.specs.Cmp.{nat_cmp_is, nat_cmp_total}
 use Rattle.std.specs.List.{enumerate_from}
 use Rattle.std.specs.Option.{option_and_then, option_eq, option_map}
 use Rattle.std.specs.Ordering.{is_lt, nat_cmp, ordering_then}
-use Rattle.std.proofs.lemmas.Cmp.{tied_itself}
 use Rattle.std.proofs.lemmas.List.{append-nil}
-use Rattle.std.proofs.lemmas.Option.{slice_get_within}
+use Rattle.std.proofs.lemmas.Option.{slice_get_within, none-some as none_is}
+use Rattle.base_lemmas.proofs.Orders.{nat_cmp-self as tied, nat_cmp-less as less}
+use Rattle.base_lemmas.proofs.Options.{option_map_some as map_some}
+use Rattle.base_lemmas.proofs.Numbers.{eqb-self as eqb_same}
 use Rattle.store_kv.specs.Prefixes.{StartsWith, raised}
 use Rattle.store_kv.specs.Tables.{Tables, bytes_cmp, is_between}
 use Rattle.store_rows.specs.declared.field.FieldRow.{FieldRow}
@@ -27,7 +28,6 @@ use Rattle.store_abstraction.specs.Local.{StandsIn, rows_alone}
 use Rattle.store_abstraction.specs.Metadata.{field_of, row_of_object}
 use Rattle.store_abstraction.specs.Plan.{FitsPlan, OrgPlan}
 use Rattle.store_abstraction.specs.Stands.{org_of_key, row_in}
-use Rattle.store_abstraction.proofs.Lookups.{eqb_same, none_is}
 use Rattle.store_abstraction.proofs.MetadataRows.{field_fits, object_fits, sound_object}
 use Rattle.store_abstraction.proofs.Numbered.{AreNumbered, numbered_lists}
 
@@ -52,14 +52,8 @@ pub record KeyLaws : Type 0 where
 
 -- ---- orders of numbers
 
-tied : (n : ℕ) → nat_cmp n n ≡ Equal
-tied n = tied_itself nat_cmp_total n
-
 then_less : (a : ℕ) (o : Ordering) → o ≡ Less → is_lt (ordering_then (nat_cmp a a) o) ≡ true
 then_less a o e = ap (λ (x : Ordering). is_lt (ordering_then x o)) (tied a) ∙ ap is_lt e
-
-less : (i j : ℕ) → i < j → nat_cmp i j ≡ Less
-less i j lt = sym (nat_cmp_is i j Less lt)
 
 -- ---- lists
 
@@ -71,10 +65,6 @@ none_listed f rows from below h = record {
   sound = λ u has. absurd has;
   complete = λ k row fits table inside e. absurd (h k row fits table inside e);
 }
-
-map_some : {X Y : Type 0} (f : X → Y) (o : Option X) (y : Y) → option_map f o ≡ Some y → (x : X) × (o ≡ Some x)
-map_some f None y e = absurd cc
-map_some f (Some x) y e = (x, refl)
 
 no_row : {X : Type 0} (o : Option X) (x : X) → o ≡ None → o ≡ Some x → ⊥
 no_row o x e g = none_is x (sym e ∙ g)

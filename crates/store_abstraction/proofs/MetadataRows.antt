@@ -3,7 +3,9 @@ use Rattle.std.proofs.Common.{◌≡◌, ℕ, zero, suc, ◌+◌, ◌<◌, ◌^�
 use Rattle.std.specs.Prelude.{slice_get, is_some}
 use Rattle.std.specs.List.{AllByRecursion, enumerate_from}
 use Rattle.std.specs.Option.{option_and_then, option_map}
-use Rattle.std.proofs.lemmas.Option.{slice_get_within}
+use Rattle.std.proofs.lemmas.Option.{slice_get_within, same_Some as some_is}
+use Rattle.std.proofs.lemmas.Bool.{and_parts as both}
+use Rattle.base_lemmas.proofs.Options.{option_map-compose as map_twice}
 use Rattle.store_rows.specs.declared.field.FieldRow.{FieldRow}
 use Rattle.store_rows.specs.declared.job.JobRow.{JobRow}
 use Rattle.store_rows.specs.declared.object.ObjectRow.{ObjectRow}
@@ -27,9 +29,8 @@ use Rattle.model.specs.Tenant.{Tenant}
 use Rattle.store_abstraction.specs.Metadata.{field_of, job_of, row_of_object}
 use Rattle.store_abstraction.specs.Plan.{FitsPlan, OrgPlan, has_field, slot_type}
 use Rattle.store_abstraction.specs.Stands.{row_in}
-use Rattle.store_abstraction.proofs.Spelled.{both, child_option_fits, cursor_is_id, custom_fits, plain_type_fits, type_fits}
-use Rattle.store_abstraction.proofs.Found.{IsRowOf, map_twice}
-use Rattle.store_abstraction.proofs.Lookups.{some_is}
+use Rattle.store_abstraction.proofs.Spelled.{child_option_fits, cursor_is_id, custom_fits, plain_type_fits, type_fits}
+use Rattle.store_abstraction.proofs.Found.{IsRowOf}
 use Rattle.store_abstraction.proofs.Names.{MakesIds}
 
 -- what holds of each element holds of the one at a place

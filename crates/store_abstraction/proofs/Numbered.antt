@@ -1,16 +1,17 @@
 -- Rows that are numbered from 0, as the objects of an organisation and the fields of an object are, in the order of their keys.
-use Rattle.std.proofs.Common.{◌≡◌, ℕ, zero, suc, ◌+◌, ◌<◌, ◌≤◌, Bool, true, false, ◌&&◌, T, IsTrue, Option, Some, List, [], ◌∷◌, length, refl, sym, ap, subst, ◌∙◌, inl, inr, map, arith}
+use Rattle.std.proofs.Common.{◌≡◌, ℕ, zero, suc, ◌+◌, ◌<◌, ◌≤◌, true, T, IsTrue, Option, Some, List, [], ◌∷◌, length, refl, sym, ap, subst, ◌∙◌, inl, inr, map, arith}
 use Rattle.std.specs.Prelude.{slice_get}
 use Rattle.std.specs.List.{enumerate_from}
 use Rattle.std.specs.Ordering.{is_lt}
 use Rattle.std.specs.FinMap.{is_sorted}
 use Rattle.std.specs.FinMap.Entries.{below_all}
+use Rattle.base_lemmas.proofs.Bools.{T-and_from as both_hold, T-and_from_true as both_so}
+use Rattle.std.proofs.lemmas.Option.{same_Some as some_is}
 use Rattle.store_codec.specs.Shapes.{Val, spelled}
 use Rattle.store_kv.specs.Tables.{Has, bytes_cmp, is_between}
 use Rattle.store_rows.specs.Forms.{FitsForm, Form, key_bytes, row_bytes}
 use Rattle.store_rows.specs.Keys.{FitsKey, Key, spell}
 use Rattle.store_rows.specs.Listings.{ListsBetween, with_key}
-use Rattle.store_abstraction.proofs.Lookups.{some_is}
 
 -- the rows of a list, made of their numbers and its elements
 abbrev pub made_from : {U X : Type 0} → (ℕ → X → U) → ℕ → List X → List U
@@ -24,14 +25,6 @@ pub record AreNumbered {U X : Type 0} (f : Form U) (rows : Key → Option (List 
   pub inside : (i : ℕ) (x : X) → slice_get xs i ≡ Some x → is_between from below (spelled f.key (key i)) ≡ true
   pub there : (i : ℕ) (x : X) → slice_get xs i ≡ Some x → rows (f.named (key i)) ≡ Some (row_bytes f (make i x))
   pub only : (k : Key) (row : List ℕ) → FitsKey k → (spell k).0 ≡ f.table → IsTrue (is_between from below (spell k).1) → rows k ≡ Some row → (i : ℕ) × (x : X) × (slice_get xs i ≡ Some x) × (f.named (key i) ≡ k)
-
-both_so : (a b : Bool) → a ≡ true → T b → T (a && b)
-both_so true b e h = h
-both_so false b e h = absurd cc
-
-both_hold : (a b : Bool) → T a → T b → T (a && b)
-both_hold true b h g = g
-both_hold false b h g = h
 
 module _ {U X : Type 0} (f : Form U) (key : ℕ → Val f.key) (make : ℕ → X → U) where
   -- an element of the rows, and its number

@@ -5,6 +5,9 @@ use Rattle.std.specs.List.{AllByRecursion}
 use Rattle.std.specs.Option.{option_and_then}
 use Rattle.std.proofs.lemmas.Bool.{eqb-false, eqb-true}
 use Rattle.std.proofs.Math.Dec.{eqb-zero-suc, eqb-suc-suc}
+use Rattle.base_lemmas.proofs.Lists.{each-push as all_push, slice_get-length as get_past}
+use Rattle.base_lemmas.proofs.Bools.{by_answer as pick}
+use Rattle.std.proofs.lemmas.Option.{same_Some as some_is}
 use Rattle.store_kv.specs.Tables.{Tables, no_rows}
 use Rattle.store_rows.specs.Forms.{row_bytes}
 use Rattle.store_rows.specs.Holds.{Holds, with_row}
@@ -17,7 +20,7 @@ use Rattle.model.specs.Tenant.{Tenant}
 use Rattle.model.specs.World.{World, tenant_at, with_tenant}
 use Rattle.store_abstraction.specs.Plan.{FitsPlan, OrgPlan, Plan, opened, with_plan}
 use Rattle.store_abstraction.specs.Stands.{all_tables, closed, known_version, owned_row, org_of_key, Stands, StandsBy, row_at, row_in, rows_with, version_at}
-use Rattle.store_abstraction.proofs.Lookups.{get_past, get_push, pick, some_is}
+use Rattle.store_abstraction.proofs.Lookups.{get_push}
 
 -- rows that agree, as `store_rows` says
 abbrev pub SameRows : Type 0
@@ -77,10 +80,6 @@ empty_stands same h = (closed, empty_by same h)
 tenant_at-push : (w : World) (t : Tenant) (n : ℕ) → tenant_at (w ++ t ∷ []) n ≡ cond (eqb n (length w + 1)) (Some t) (tenant_at w n)
 tenant_at-push w t zero = rw (add-one (length w), eqb-zero-suc (length w)) refl
 tenant_at-push w t (suc n) = rw (add-one (length w), eqb-suc-suc n (length w)) (get_push w t n)
-
-all_push : {X : Type 0} (P : X → Type 0) (xs : List X) (x : X) → AllByRecursion P xs → P x → AllByRecursion P (xs ++ x ∷ [])
-all_push P [] x h p = (p, tt)
-all_push P (y ∷ xs) x h p = (h.0, all_push P xs x h.1 p)
 
 module _ (p : Plan) (w : World) (t : Tenant) (q : OrgPlan) where
   -- the plan with that of the new organisation

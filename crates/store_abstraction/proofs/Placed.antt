@@ -5,6 +5,9 @@ use Rattle.std.specs.List.{AllByRecursion, enumerate_from, find}
 use Rattle.std.specs.Option.{option_and_then, option_map}
 use Rattle.std.proofs.lemmas.Bool.{eqb-true}
 use Rattle.std.proofs.Math.Dec.{eqb-suc-zero, eqb-zero-suc, eqb-suc-suc}
+use Rattle.base_lemmas.proofs.Lists.{slice_get-length as get_past}
+use Rattle.std.proofs.lemmas.Option.{none-some as none_is}
+use Rattle.base_lemmas.proofs.Bools.{by_answer as pick}
 use Rattle.store_rows.specs.Keys.{Key}
 use Rattle.model.specs.declared.record.Record.{Record}
 use Rattle.model.specs.Known.{Known, known}
@@ -18,7 +21,7 @@ use Rattle.store_abstraction.specs.Plan.{OrgPlan, slot_type}
 use Rattle.store_abstraction.specs.Records.{Alike, KeptAlike, object_of_records, with_slot}
 use Rattle.store_abstraction.specs.Stands.{row_in}
 use Rattle.store_abstraction.proofs.Kept.{kept, none}
-use Rattle.store_abstraction.proofs.Lookups.{get_past, get_push, none_is, pick}
+use Rattle.store_abstraction.proofs.Lookups.{get_push}
 use Rattle.base_value.specs.declared.job.Outcome.{Outcome}
 use Rattle.base_value.specs.declared.job.Outcome.TheVariants as outcome
 use Rattle.base_value.specs.declared.job.Phase.{Phase}

@@ -8,13 +8,13 @@ use Rattle.std.specs.Ordering.{is_ge}
 use Rattle.std.proofs.lemmas.Bool.{eqb-true, eqb-false}
 use Rattle.std.proofs.lemmas.List.{append-nil}
 use Rattle.std.proofs.lemmas.Nat.{from_be_bytes-to_be_bytes_4}
+use Rattle.base_lemmas.proofs.Bools.{by_answer as pick}
 use Rattle.store_kv.specs.Prefixes.{AreBytes, StartsWith, raised}
 use Rattle.store_kv.specs.Tables.{Place, Tables, bytes_cmp, is_between, place_cmp}
 use Rattle.store_rows.specs.Keys.{Key, Version, Org, Object, Field, Job, User, Role, Group, Validation, Sharing, Data, Index, Unique, Relation, Owner, Share, Grant, FitsKey, spell}
 use Rattle.model.specs.Cases.{in_case}
 use Rattle.store_codec.specs.Plain.{number32}
 use Rattle.store_abstraction.specs.Local.{is_own, is_place_of, is_under, part_of}
-use Rattle.store_abstraction.proofs.Lookups.{pick}
 
 -- the keys with one prefix are one interval, and keys are bytes, as `store_kv` and `store_rows` say
 pub record PrefixLaws : Type 0 where

@@ -3,7 +3,10 @@ use Rattle.std.proofs.Common.{◌≡◌, ℕ, zero, suc, ◌≤◌, Bool, true, 
 use Rattle.std.specs.Prelude.{bytes_eq, filter, if◌then◌else◌, slice_get}
 use Rattle.std.specs.Option.{option_and_then, option_map}
 use Rattle.std.proofs.lemmas.Bool.{eqb-true}
-use Rattle.std.proofs.lemmas.Slice.Eq.{bytes_eq-Decides}
+use Rattle.base_lemmas.proofs.Texts.{bytes_eq_false_sym as apart_too}
+use Rattle.base_lemmas.proofs.Lists.{slice_get-length as get_past, length-map_by as mapped_length}
+use Rattle.base_lemmas.proofs.Bools.{by_answer as pick}
+use Rattle.std.proofs.lemmas.Option.{same_Some as some_is}
 use Rattle.store_rows.specs.Forms.{row_bytes}
 use Rattle.store_rows.specs.Keys.{Key, Version, Org, Object, Field, Job, User, Role, Group, Validation, Sharing, Data, Index, Unique, Relation, Owner, Share, Grant}
 use Rattle.store_rows.specs.Rows.{field_form, job_form}
@@ -20,7 +23,7 @@ use Rattle.store_abstraction.specs.Metadata.{field_of, job_of, lower_bytes, name
 use Rattle.store_abstraction.specs.Plan.{OrgPlan}
 use Rattle.store_abstraction.specs.Records.{is_field_key, is_free, is_object_key, is_org_key, is_rule_key, rule_at, suits_flags, with_slot}
 use Rattle.store_abstraction.specs.Stands.{row_in}
-use Rattle.store_abstraction.proofs.Lookups.{get_past, get_push, mapped_length, pick, some_is}
+use Rattle.store_abstraction.proofs.Lookups.{get_push}
 use Rattle.store_abstraction.proofs.Placed.{changed_rows, get_changed, object_rows, placed, there_same}
 use Rattle.store_abstraction.proofs.Widened.{field_rows}
 use Rattle.base_value.specs.Reading.{empty_value}
@@ -62,13 +65,6 @@ job_row slots p org (Some j) = rw (there_same slots p j j.phase j.outcome) refl
 pub rule_of_access : (n : ℕ) (a : Access) (k : Key) (o : model.Object) → rule_at n k (record o { access = a }) ≡ rule_at n k o
 rule_of_access n a (Validation org m name) o = refl
 rule_of_access n a _ o = refl
-
--- texts that differ, the other way round
-apart_too : (a b : List ℕ) → bytes_eq a b ≡ false → bytes_eq b a ≡ false
-apart_too a b e = pick (bytes_eq b a) (λ x. x ≡ false) (λ h. absurd (clash (sym ((bytes_eq-Decides a b).1 (sym ((bytes_eq-Decides b a).0 h))) ∙ e))) (λ _. refl)
-  where
-    clash : true ≡ false → ⊥
-    clash e = cc
 
 -- one rule more changes no other
 other_rule : (key : List ℕ) (r : model.ValidationRule) (rules : List model.ValidationRule) → bytes_eq (lower_bytes r.name) key ≡ false

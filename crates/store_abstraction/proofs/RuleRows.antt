@@ -1,12 +1,15 @@
 -- The rows of validation rules: they fit their form, and what is read is what the tenant has.
-use Rattle.std.proofs.Common.{◌≡◌, ◌⊎◌, inl, inr, ℕ, ◌<◌, ◌^◌, Bool, true, false, ◌||◌, cond, IsTrue, List, [], ◌∷◌, length, map, Option, Some, None, refl, sym, ap, subst, ◌∙◌, arith, bytes_eq, is_lt, nat_le}
+use Rattle.std.proofs.Common.{◌≡◌, ◌⊎◌, inl, inr, ℕ, ◌<◌, ◌^◌, Bool, true, ◌||◌, cond, IsTrue, List, [], ◌∷◌, length, map, Option, Some, None, refl, sym, ap, subst, ◌∙◌, arith, bytes_eq, is_lt, nat_le}
 use Rattle.std.specs.List.{AllByRecursion, list_any}
 use Rattle.std.specs.Option.{option_and_then, option_map}
 use Rattle.std.specs.Prelude.{is_some}
 use Rattle.std.specs.Str.{all_scalars}
 use Rattle.std.proofs.lemmas.Bool.Decides.{nat_tests}
-use Rattle.std.proofs.lemmas.Option.{slice_get_within}
+use Rattle.std.proofs.lemmas.Option.{slice_get_within, same_Some as some_is}
 use Rattle.std.proofs.lemmas.Slice.Eq.{bytes_eq-Decides}
+use Rattle.std.proofs.lemmas.Bool.{and_parts as both}
+use Rattle.base_lemmas.proofs.Bools.{same_both_ways as agree, by_answer as pick}
+use Rattle.base_lemmas.proofs.Options.{option_map-compose as map_twice}
 use Rattle.store_rows.specs.declared.validation.ValidationRow.{ValidationRow}
 use Rattle.store_rows.specs.Forms.{FitsForm, row_bytes}
 use Rattle.store_rows.specs.Keys.{Validation}
@@ -26,11 +29,10 @@ use Rattle.model.specs.ValidationRules.{with_validation_rule}
 use Rattle.store_abstraction.specs.Metadata.{lower_bytes, named_so, validation_of}
 use Rattle.store_abstraction.specs.Plan.{FitsPlan, OrgPlan}
 use Rattle.store_abstraction.specs.Stands.{row_in}
-use Rattle.store_abstraction.proofs.Found.{IsRowOf, map_twice}
-use Rattle.store_abstraction.proofs.Lookups.{pick, some_is}
+use Rattle.store_abstraction.proofs.Found.{IsRowOf}
 use Rattle.store_abstraction.proofs.MetadataRows.{sound_object}
 use Rattle.store_abstraction.proofs.Names.{NamesAreShort, NamesAreTexts, name_fits}
-use Rattle.store_abstraction.proofs.Spelled.{both, short_fits, stem_bytes, stem_encoded, stem_fits}
+use Rattle.store_abstraction.proofs.Spelled.{short_fits, stem_bytes, stem_encoded, stem_fits}
 use Rattle.base_value.specs.Bytes.{IsBytes}
 use Rattle.base_value.specs.Texts.{lower}
 
@@ -93,15 +95,6 @@ module _ (texts : NamesAreTexts) (short : NamesAreShort) where
   }
 
 -- ---- rules by their names in lower case
-
-apart_so : true ≡ false → ⊥
-apart_so e = cc
-
--- two tests of the same
-agree : (a b : Bool) → (a ≡ true → b ≡ true) → (b ≡ true → a ≡ true) → a ≡ b
-agree true b f g = sym (f refl)
-agree false true f g = g refl
-agree false false f g = refl
 
 -- stems are one name exactly if they are the same in lower case, in UTF-8 too
 same_lower : (a b : List ℕ) → is_stem a ≡ true → is_stem b ≡ true → bytes_eq (lower_bytes a) (lower_bytes b) ≡ same_name b a

@@ -1,14 +1,15 @@
 -- The names, types and ids of sound metadata have spellings.
-use Rattle.std.proofs.Common.{◌≡◌, ℕ, zero, suc, ◌-◌, ◌*◌, ◌/◌, ◌%◌, ◌<◌, ◌≤◌, Bool, true, false, ◌&&◌, ◌||◌, IsTrue, List, [], ◌∷◌, ◌++◌, length, take, drop, Option, Some, None, refl, sym, ap, subst, ◌∙◌, arith, length-append}
+use Rattle.std.proofs.Common.{◌≡◌, ℕ, zero, suc, ◌-◌, ◌/◌, ◌%◌, ◌<◌, ◌≤◌, true, false, ◌&&◌, ◌||◌, IsTrue, List, [], ◌∷◌, ◌++◌, length, take, drop, Option, Some, None, refl, sym, ap, subst, ◌∙◌, arith, length-append}
 use Rattle.std.specs.Prelude.{◌^◌, nat_le, nat_lt, encode_utf8_all, codes, IfSome}
 use Rattle.std.specs.List.{AllByRecursion, list_all, All}
-use Rattle.std.specs.Char.{encode_utf8}
 use Rattle.std.specs.Str.{all_scalars, bytes_eq}
 use Rattle.std.proofs.lemmas.Bool.Decides.{nat_tests}
 use Rattle.std.proofs.lemmas.Slice.Eq.{bytes_eq-Decides}
-use Rattle.std.proofs.lemmas.Str.{encode_ascii, length-encode, len_utf8_bounds}
+use Rattle.std.proofs.lemmas.Str.{encode_ascii}
 use Rattle.std.proofs.lemmas.Str.Ascii.{lowercase_ascii}
 use Rattle.std.proofs.lemmas.List.{take-append-drop}
+use Rattle.std.proofs.lemmas.Bool.{and_parts as both}
+use Rattle.base_lemmas.proofs.Lists.{length-encodes as four_each}
 use Rattle.base_value.specs.Bytes.{IsBytes}
 use Rattle.base_value.specs.Digits.{digits}
 use Rattle.base_value.specs.Id.{digit62, is_digit62, is_id}
@@ -27,10 +28,6 @@ use Rattle.model.specs.SoundSharing.{IsCursor}
 use Rattle.store_abstraction.specs.Metadata.{lower_bytes}
 use Rattle.store_abstraction.proofs.Names.{MakesIds, drawn_is_id}
 
-pub both : (a b : Bool) → (a && b) ≡ true → (a ≡ true) × (b ≡ true)
-both true b h = (refl, h)
-both false b h = absurd cc
-
 within : (low high n : ℕ) → is_within low high n ≡ true → (low ≤ n) × (n ≤ high)
 within low high n h =
     let p = both (nat_le low n) (nat_le n high) h in
@@ -39,11 +36,6 @@ within low high n h =
     (grind (arith, nat_tests), grind (arith, nat_tests))
 
 -- ---- texts
-
--- at most four bytes a character
-four_each : (cs : List ℕ) → length (encode_utf8_all cs) ≤ 4 * length cs
-four_each [] = omega arith
-four_each (c ∷ cs) = omega (arith, four_each cs, length-append (encode_utf8 c) (encode_utf8_all cs), length-encode c, (len_utf8_bounds c).1)
 
 pub short_fits : (cs : List ℕ) → length cs ≤ 4000 → all_scalars cs ≡ true → FitsText cs
 short_fits cs short scalars = (omega (arith, four_each cs, short), scalars)

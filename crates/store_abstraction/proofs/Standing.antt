@@ -6,6 +6,7 @@ use Rattle.std.specs.FinMap.{IsAntisymmetric}
 use Rattle.std.specs.Option.{option_and_then, option_eq}
 use Rattle.std.proofs.lemmas.Bool.{eqb-true}
 use Rattle.std.proofs.lemmas.Option.{slice_get_within}
+use Rattle.base_lemmas.proofs.Bools.{by_answer as pick}
 use Rattle.store_kv.specs.Tables.{Place, Tables, place_cmp}
 use Rattle.store_rows.specs.Keys.{FitsKey, Key, spell}
 use Rattle.model.specs.Sound.{IsSound}
@@ -14,7 +15,6 @@ use Rattle.model.specs.World.{World, tenant_at, with_tenant}
 use Rattle.store_abstraction.specs.Plan.{FitsPlan, OrgPlan, Plan, with_plan}
 use Rattle.store_abstraction.specs.Stands.{StandsBy, org_of_key, row_at, row_in, rows_with}
 use Rattle.store_abstraction.proofs.Found.{owned_at, sound_tenant}
-use Rattle.store_abstraction.proofs.Lookups.{pick}
 use Rattle.store_abstraction.proofs.Parts.{FoundAgain, LeavesOthers, SameRows, changed}
 use Rattle.store_abstraction.specs.Local.{KeepsOthers, StandsIn, is_own, is_place_of, part_of, rows_alone}
 use Rattle.store_abstraction.proofs.Places.{PrefixLaws, part_at, place_is}

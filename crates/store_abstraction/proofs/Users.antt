@@ -4,6 +4,7 @@ use Rattle.std.specs.Prelude.{Result}
 use Rattle.std.specs.Option.{option_and_then, option_map}
 use Rattle.std.specs.FinMap as map
 use Rattle.std.specs.FinMap.{IsAntisymmetric}
+use Rattle.base_lemmas.proofs.Options.{option_map-compose as map_twice}
 use Rattle.base_value.specs.Id.{is_id}
 use Rattle.store_kv.specs.Tables.{Tables, place_cmp}
 use Rattle.store_rows.specs.declared.fail.StoreFail.{StoreFail}
@@ -22,7 +23,7 @@ use Rattle.store_abstraction.specs.Local.{FindsIn}
 use Rattle.store_abstraction.specs.Metadata.{user_of}
 use Rattle.store_abstraction.specs.Plan.{OrgPlan}
 use Rattle.store_abstraction.specs.Stands.{row_in}
-use Rattle.store_abstraction.proofs.Found.{FindsRow, IsRowOf, found_same, found_with_id, map_twice, row_finds, row_in_org}
+use Rattle.store_abstraction.proofs.Found.{FindsRow, IsRowOf, found_same, found_with_id, row_finds, row_in_org}
 use Rattle.store_abstraction.proofs.Names.{MakesIds, NamesAreShort, NamesAreTexts, drawn_is_id, name_fits, role_is_id}
 use Rattle.store_abstraction.proofs.Places.{PrefixLaws}
 

@@ -3,6 +3,7 @@ use Rattle.std.proofs.Common.{◌≡◌, ◌≢◌, ℕ, Bool, true, false, List
 use Rattle.std.specs.Prelude.{IfOk, Result, Ok, Err, if◌then◌else◌}
 use Rattle.std.specs.Option.{option_map}
 use Rattle.std.specs.FinMap as map
+use Rattle.std.proofs.lemmas.Option.{same_Some as some_is}
 use Rattle.store_kv.specs.State.{KeeperCause, KeeperState, TrustedAfter}
 use Rattle.store_kv.specs.Tables.{Tables}
 use Rattle.store_rows.specs.declared.fail.StoreFail.{StoreFail}
@@ -22,7 +23,6 @@ use Rattle.store_abstraction.specs.Fails.{KeeperFailsOpening, of_store_opening, 
 use Rattle.store_abstraction.specs.declared.fail.OpenFail.{OpenFail}
 use Rattle.store_abstraction.specs.declared.fail.OpenFail.TheVariants.{UnknownVersion, Store}
 use Rattle.store_abstraction.specs.Stands.{HasKnownVersion, HasUnknownVersion, IsVersion, Stands, StandsBy, row_at, version_of}
-use Rattle.store_abstraction.proofs.Lookups.{some_is}
 
 -- one spelling is of one row, and what is read is what stands there, as `store_rows` says
 abbrev pub OneVersion : Type 0

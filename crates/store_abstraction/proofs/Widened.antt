@@ -3,10 +3,14 @@ use Rattle.std.proofs.Common.{◌≡◌, ℕ, suc, ◌+◌, ◌<◌, Bool, true,
 use Rattle.std.specs.Prelude.{if◌then◌else◌, is_none, slice_get}
 use Rattle.std.specs.List.{AllByRecursion, enumerate_from, find}
 use Rattle.std.specs.Option.{option_and_then, option_map}
-use Rattle.std.proofs.lemmas.Bool.{eqb-true}
+use Rattle.std.proofs.lemmas.Bool.{eqb-true, not-true as not_true}
 use Rattle.std.proofs.lemmas.List.{get_or_push}
+use Rattle.base_lemmas.proofs.Bools.{and-false as no_index, and_first as and_left, and_second as and_right, by_answer as pick}
+use Rattle.base_lemmas.proofs.Numbers.{eqb-less as eqb_less, eqb-self as eqb_same}
+use Rattle.std.proofs.lemmas.Option.{slice_get_within as get_below, same_Some as some_is}
+use Rattle.base_lemmas.proofs.Lists.{length-map_by as mapped_length}
 use lib.ListN.{get_or-append}
-use Rattle.formula_eval.specs.Meaning.{value_at}
+use Rattle.formula.specs.Meaning.{value_at}
 use Rattle.store_rows.specs.Keys.{Key}
 use Rattle.model.specs.declared.record.Record.{Record}
 use Rattle.model.specs.Cases.{in_case}
@@ -22,9 +26,9 @@ use Rattle.store_abstraction.specs.Entries.{Entry, field_entry, job_entry, job_v
 use Rattle.store_abstraction.specs.Plan.{OrgPlan}
 use Rattle.store_abstraction.specs.Records.{Alike, KeptAlike, is_free, is_other, object_of_records, suits_flags, with_slot}
 use Rattle.store_abstraction.specs.Stands.{kept_in, row_in}
-use Rattle.store_abstraction.proofs.Free.{and_left, and_right, free_other, not_true}
+use Rattle.store_abstraction.proofs.Free.{free_other}
 use Rattle.store_abstraction.proofs.Kept.{kept, none}
-use Rattle.store_abstraction.proofs.Lookups.{eqb_less, eqb_same, get_below, get_push, mapped_length, pick, some_is}
+use Rattle.store_abstraction.proofs.Lookups.{get_push}
 use Rattle.store_abstraction.proofs.Placed.{alike_same, entry_same, get_changed, kept_alike, no_records, other_same}
 use Rattle.base_value.specs.Reading.{empty_value}
 use Rattle.base_value.specs.declared.job.Phase.{Phase}
@@ -69,10 +73,6 @@ valid_length (k ∷ ks) [] h = absurd cc
 valid_length (k ∷ ks) (v ∷ vs) h = ap suc (valid_length ks vs (and_right _ _ h))
 
 -- ---- an entry of a new field is like none
-
-no_index : (b : Bool) → (b && false) ≡ false
-no_index true = refl
-no_index false = refl
 
 empty_by : (k : FieldType) (indexed unique : Bool) → IsTrue (implies unique (suits_unique k) && implies indexed (suits_indexed k)) → Alike (Some (record { kind = k; value = empty_value k; indexed = indexed; unique = unique })) None
 empty_by type.Checkbox false false h = record { text = refl; indexed = λ key. refl; unique = λ key. refl; reference = λ target. refl }

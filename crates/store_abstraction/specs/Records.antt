@@ -2,7 +2,7 @@
 -- Source: as in Entries: indexes, unique values and relationships are rows beside those of the records.
 use Rattle.std.specs.Prelude.{◌≡◌, ℕ, Bool, true, false, not, ◌&&◌, ◌==◌, if◌then◌else◌, List, bytes_eq, Option, Some, None, is_none}
 use Rattle.std.specs.List.{list_any}
-use Rattle.formula_eval.specs.Meaning.{value_at}
+use Rattle.formula.specs.Meaning.{value_at}
 use Rattle.store_rows.specs.Keys.{Key, Org, Object, Field, Validation, Data, Index, Unique, Relation}
 use Rattle.model.specs.Cases.{in_case}
 use Rattle.model.specs.Retyping.{job_is_done}

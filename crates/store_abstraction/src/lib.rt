@@ -29,4 +29,4 @@ pub use crate::local::local_laws;
 pub use crate::opening::{KNOWN_VERSION, open_tables};
 pub use crate::reads::user;
 pub use crate::records::{metadata_laws, record_laws, slot_laws};
-pub use crate::rows::{object_row, object_there, org_row, org_there, rule_row};
+pub use crate::rows::{object_there, org_row, org_there, rule_row};

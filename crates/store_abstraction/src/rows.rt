@@ -38,13 +38,8 @@ pub fn org_row<K: Keeper>(
     row_at(alloc, draft, &org)
 }
 
-/// The row of the object with this number, if there is one.
-///
-/// # Errors
-///
-/// `Keeper` if the keeper failed, `Memory` if out of memory, `Damaged` never if the organisation's rows stand for a tenant or
-/// for none.
-pub fn object_row<K: Keeper>(
+// The row of the object with this number, if there is one.
+fn object_row<K: Keeper>(
     alloc: Global,
     draft: &mut Draft<'_, K>,
     org: u32,

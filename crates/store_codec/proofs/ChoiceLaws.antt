@@ -1,6 +1,7 @@
 -- Names of one byte, and flags: what is read is spelled so, and what is spelled so is read.
 use Rattle.std.proofs.Common.{◌≡◌, ℕ, zero, suc, ◌<◌, Bool, true, false, ltb, List, [], ◌∷◌, ◌++◌, Option, Some, IsTrue, refl, sym, ap, subst, arith}
 use Rattle.std.proofs.lemmas.Bool.{ltb-true}
+use Rattle.std.proofs.lemmas.Option.{cond_some as guard_some}
 use Rattle.base_value.specs.declared.job.Outcome.TheVariants as outcome
 use Rattle.base_value.specs.declared.job.Phase.TheVariants as phase
 use Rattle.base_value.specs.declared.job.RuleState.TheVariants as state
@@ -11,7 +12,7 @@ use Rattle.base_value.specs.declared.value.OnDelete.TheVariants as delete
 use Rattle.store_codec.specs.declared.choices.FieldFlags.{FieldFlags}
 use Rattle.store_codec.specs.Choices.{Choice, Accesses, Levels, Phases, Outcomes, States, Deletes, Chosen, access_byte, byte_of, is_spelled, of_byte, choice, choice_at, flags, flags_of, flags_at}
 use Rattle.store_codec.specs.PartLaws.{IsBytes, Takes, IsPart}
-use Rattle.store_codec.proofs.PlainLaws.{IsBytes-rest, bind_some, guard_some, some_is}
+use Rattle.store_codec.proofs.PlainLaws.{IsBytes-rest, bind_some, some_is}
 
 abbrev there : (c : Choice) → Chosen c → Option (Chosen c)
 there c x = Some x

@@ -6,13 +6,15 @@ use Rattle.std.specs.List.{AllByRecursion}
 use Rattle.std.specs.Int.{w16, w64, to_be_bytes}
 use Rattle.std.specs.declared.cmp.Ordering.TheVariants.{Less, Greater}
 use Rattle.std.specs.Ordering.{nat_cmp}
+use Rattle.base_lemmas.proofs.Lists.{to_be_bytes-bytes as number64_low}
+use Rattle.base_lemmas.proofs.Orders.{ordering_then-assoc as then_assoc}
 use Rattle.base_value.specs.Digits.{digits_value}
 use Rattle.store_kv.specs.Tables.{bytes_cmp}
 use Rattle.store_codec.specs.Plain.{number8, number16, number64}
 use Rattle.base_value.specs.Principals.{kind_number, principal_cmp, principal_id}
 use Rattle.store_codec.specs.Composed.{principal, FitsPrincipal, ordered}
 use Rattle.store_codec.specs.PartLaws.{IsBytes, KeepsOrder}
-use Rattle.store_codec.proofs.PlainOrder.{DigitsOrdered, digits_keep, then_assoc, id_keeps}
+use Rattle.store_codec.proofs.PlainOrder.{DigitsOrdered, digits_keep, id_keeps}
 
 -- ---- numbers
 
@@ -28,9 +30,6 @@ number16_value n h = omega (arith, from_be_bytes-to_be_bytes_2 n h)
 pub number16_keeps : DigitsOrdered → KeepsOrder nat_cmp (λ n. n < 2 ^ 16) number16
 unfolding number16
 number16_keeps law = digits_keep law 256 2 (λ n. n) (λ n. n < 2 ^ 16) (to_be_bytes w16) number16_low (λ n h. refl) number16_value
-
-pub number64_low : (n : ℕ) → n < 2 ^ 64 → AllByRecursion (λ d. d < 256) (to_be_bytes w64 n)
-number64_low n h = (omega arith, (omega arith, (omega arith, (omega arith, (omega arith, (omega arith, (omega arith, (omega arith, tt))))))))
 
 number64_value : (n : ℕ) → n < 2 ^ 64 → digits_value 256 (to_be_bytes w64 n) ≡ n
 number64_value n h = omega (arith, from_be_bytes-to_be_bytes_8 n h)

@@ -7,6 +7,8 @@ use Rattle.std.proofs.lemmas.Str.{chars-encodes, encodes-chars, scalars-chars, i
 use Rattle.std.proofs.lemmas.Bool.{cases_lt, ltb-false, le-ltb, eqb-true}
 use Rattle.std.proofs.lemmas.List.{take_at, drop_at, take-append-drop, length-append, length-take, get_or-drop, get_or-take, get_or_past, nil_from_length, append-nil}
 use Rattle.std.proofs.lemmas.Nat.{be_bytes_2, be_bytes_4, be_bytes_8, from_be_bytes-to_be_bytes_2, from_be_bytes-to_be_bytes_4, from_be_bytes-to_be_bytes_8}
+use Rattle.std.proofs.lemmas.Option.{cond_some as guard_some}
+use Rattle.base_lemmas.proofs.Options.{cond_none_some as guard_none}
 use Rattle.base_value.specs.Id.{is_id}
 use Rattle.store_codec.specs.PartLaws.{IsBytes, Takes, IsPart}
 use Rattle.store_codec.specs.Plain.{nothing, nothing_at, number16, number32, number64, as_characters, ◌>>=◌, number_at, bytes_at, any, fixed_at, passing, text, text_at, FitsText, id_at, truth, truth_at, optional, optional_at, mark_at, pair_at, whole}
@@ -28,15 +30,6 @@ IsBytes-rest b bytes h i = h (suc i)
 pub bind_some : {A B : Type 0} (r : Option A) (f : A → Option B) (y : B) → (r >>= f) ≡ Some y → (x : A) × (r ≡ Some x) × (f x ≡ Some y)
 bind_some (Some x) f y e = (x, refl, e)
 bind_some None f y e = absurd cc
-
--- tests that did not fail
-pub guard_none : {A : Type 0} (b : Bool) (x y : A) → cond b None (Some x) ≡ Some y → (b ≡ false) × (x ≡ y)
-guard_none true x y e = absurd cc
-guard_none false x y e = (refl, cc)
-
-pub guard_some : {A : Type 0} (b : Bool) (x y : A) → cond b (Some x) None ≡ Some y → (b ≡ true) × (x ≡ y)
-guard_some true x y e = (refl, cc)
-guard_some false x y e = absurd cc
 
 abbrev there : {A : Type 0} → A → Option A
 there x = Some x

@@ -4,8 +4,8 @@ use Rattle.std.proofs.lemmas.Nat.{from_be_bytes-to_be_bytes_4}
 use Rattle.std.specs.List.{AllByRecursion}
 use Rattle.std.specs.Int.{w32, to_be_bytes}
 use Rattle.std.specs.declared.cmp.Ordering.{Ordering}
-use Rattle.std.specs.declared.cmp.Ordering.TheVariants.{Less, Equal, Greater}
 use Rattle.std.specs.Ordering.{nat_cmp, ordering_then}
+use Rattle.base_lemmas.proofs.Orders.{ordering_then-assoc as then_assoc}
 use Rattle.base_value.specs.Digits.{digits_value}
 use Rattle.base_value.specs.Id.{is_id}
 use Rattle.store_kv.specs.Tables.{bytes_cmp}
@@ -18,16 +18,6 @@ abbrev pub DigitsOrdered : Type 0
 DigitsOrdered = (base : ℕ) (xs ys : List ℕ) → AllByRecursion (λ d. d < base) xs → AllByRecursion (λ d. d < base) ys → length xs ≡ length ys → bytes_cmp xs ys ≡ nat_cmp (digits_value base xs) (digits_value base ys)
 
 -- ---- encodings that keep an order, whatever follows
-
-pub then_assoc : (a b c : Ordering) → ordering_then (ordering_then a b) c ≡ ordering_then a (ordering_then b c)
-then_assoc Less b c = refl
-then_assoc Equal b c = refl
-then_assoc Greater b c = refl
-
-pub then_equal : (o : Ordering) → ordering_then o Equal ≡ o
-then_equal Less = refl
-then_equal Equal = refl
-then_equal Greater = refl
 
 cmp_append : (a b x y : List ℕ) → length a ≡ length b → bytes_cmp (a ++ x) (b ++ y) ≡ ordering_then (bytes_cmp a b) (bytes_cmp x y)
 cmp_append [] [] x y e = refl

@@ -1,17 +1,15 @@
 -- Of every shape of keys: spellings are ordered as their parts in turn.
-use Rattle.std.proofs.Common.{◌≡◌, [], ◌++◌, Bool, true, false, ◌&&◌, IsTrue, refl, sym, ap, ◌∙◌}
+use Rattle.std.proofs.Common.{◌≡◌, [], ◌++◌, IsTrue, refl, sym, ap, ◌∙◌}
 use Rattle.std.specs.Cmp.{nat_cmp_total}
 use Rattle.std.proofs.lemmas.Cmp.{tied_itself}
 use Rattle.std.proofs.lemmas.List.{append-nil}
+use Rattle.std.proofs.lemmas.Bool.{and_parts as and_both}
+use Rattle.base_lemmas.proofs.Orders.{ordering_then-equal as then_equal}
 use Rattle.store_kv.specs.Tables.{bytes_cmp}
 use Rattle.store_codec.specs.PartLaws.{KeepsOrder}
 use Rattle.store_codec.specs.Shapes.{Shape, Nothing, Number8, Number16, Number32, Number64, Identity, Mark, Named, Ordered, Both, Val, spelled, FitsIn, is_key_shape, in_order}
-use Rattle.store_codec.proofs.PlainOrder.{DigitsOrdered, then_equal, both_keep, number32_keeps, id_keeps}
+use Rattle.store_codec.proofs.PlainOrder.{DigitsOrdered, both_keep, number32_keeps, id_keeps}
 use Rattle.store_codec.proofs.ComposedOrder.{number8_keeps, number16_keeps, number64_keeps, principal_keeps, ordered_keeps}
-
-pub and_both : (a b : Bool) → (a && b) ≡ true → (a ≡ true) × (b ≡ true)
-and_both true b h = (refl, h)
-and_both false b h = absurd cc
 
 pub shape_keeps : DigitsOrdered → (s : Shape) → IsTrue (is_key_shape s) → KeepsOrder (in_order s) (FitsIn s) (spelled s)
 shape_keeps law Nothing k = λ a b x y fa fb. refl

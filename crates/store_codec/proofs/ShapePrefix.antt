@@ -3,6 +3,8 @@ use Rattle.std.proofs.Common.{◌≡◌, ℕ, zero, suc, ◌<◌, true, eqb, Lis
 use Rattle.std.specs.Prelude.{◌↔◌, nat_lt}
 use Rattle.std.specs.List.{AllByRecursion, list_all}
 use Rattle.std.proofs.lemmas.Bool.Decides.{nat_tests}
+use Rattle.base_lemmas.proofs.Lists.{to_be_bytes-bytes as number64_low}
+use Rattle.std.proofs.lemmas.Bool.{and_parts as and_both}
 use Rattle.store_kv.specs.Prefixes.{AreBytes, StartsWith}
 use Rattle.base_value.specs.Id.{is_digit62, is_id}
 use Rattle.base_value.specs.declared.sharing.Principal.{Principal}
@@ -11,11 +13,10 @@ use Rattle.store_codec.specs.Composed.{ordered, principal}
 use Rattle.store_codec.specs.PartLaws.{IsBytes}
 use Rattle.store_codec.specs.Plain.{number16, number32, number64}
 use Rattle.store_codec.specs.Shapes.{Shape, Nothing, Number8, Number16, Number32, Number64, Identity, Mark, Named, Ordered, Both, Val, spelled, FitsIn, taken, is_key_shape, front, front_of}
-use Rattle.store_codec.proofs.ComposedOrder.{number16_low, number64_low}
+use Rattle.store_codec.proofs.ComposedOrder.{number16_low}
 use Rattle.store_codec.proofs.PlainLaws.{IsBytes-rest, some_is}
 use Rattle.store_codec.proofs.PlainOrder.{number32_low}
 use Rattle.store_codec.proofs.ShapeLaws.{shape_part}
-use Rattle.store_codec.proofs.ShapeOrder.{and_both}
 
 -- ---- bytes
 

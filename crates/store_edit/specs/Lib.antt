@@ -1,3 +1,4 @@
 pub mod Rows
 pub mod Edits
 pub mod Naming
+pub mod Judging

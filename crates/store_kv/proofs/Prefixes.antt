@@ -6,6 +6,9 @@ use Rattle.std.proofs.lemmas.Cmp.{ranked}
 use Rattle.std.specs.declared.cmp.Ordering.{Ordering}
 use Rattle.std.specs.declared.cmp.Ordering.TheVariants.{Less, Equal, Greater}
 use Rattle.std.specs.Ordering.{nat_cmp, ordering_then, MatchOrdering, is_ge, is_lt}
+use Rattle.std.proofs.lemmas.Option.{same_Some as some_is}
+use Rattle.base_lemmas.proofs.Bools.{and-true as and_true}
+use Rattle.base_lemmas.proofs.Options.{cond_none_some as cond_some}
 use Rattle.store_kv.specs.Tables.{bytes_cmp, is_between}
 use Rattle.store_kv.specs.Prefixes.{StartsWith, AreBytes, raised_from, raised}
 
@@ -39,13 +42,6 @@ cond_none : {A : Type 0} (t : Bool) (y : A) → cond t None (Some y) ≡ None �
 cond_none true y e = refl
 cond_none false y e = absurd cc
 
-cond_some : {A : Type 0} (t : Bool) (y z : A) → cond t None (Some y) ≡ Some z → (t ≡ false) × (y ≡ z)
-cond_some true y z e = absurd cc
-cond_some false y z e = (refl, cc)
-
-some_is : {A : Type 0} (x y : A) → ◌≡◌ {A = Option A} (Some x) (Some y) → x ≡ y
-some_is x y e = cc
-
 none_or : (b : ℕ) (r : Option (List ℕ)) → raised_from b r ≡ None → (b ≡ 255) × (r ≡ None)
 none_or b (Some q) e = absurd cc
 none_or b None e = (eqb-true b 255 (cond_none (eqb b 255) ((b + 1) ∷ []) e), refl)
@@ -74,10 +70,6 @@ same_first x b Greater p r s h e = grind (arith, nat_tests)
 not_lt_none : (k : List ℕ) → is_lt (bytes_cmp k []) ≡ false
 not_lt_none [] = refl
 not_lt_none (x ∷ k) = refl
-
-and_true : (s : Bool) → (s && true) ≡ s
-and_true true = refl
-and_true false = refl
 
 -- the first byte, one higher in the upper end
 first_raised : (x b : ℕ) (o u p r : Ordering) (s : Bool) → MatchOrdering o (x < b) (x ≡ b) (b < x) → MatchOrdering u (x < b + 1) (x ≡ b + 1) (b + 1 < x) → is_ge p ≡ s → is_lt r ≡ false → (is_ge (ordering_then o p) && is_lt (ordering_then u r)) ≡ (eqb x b && s)

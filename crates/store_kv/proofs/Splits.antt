@@ -1,21 +1,18 @@
 -- The rows of an interval, by two parts of it.
-use Rattle.std.proofs.Common.{◌≡◌, inl, inr, ℕ, List, [], ◌∷◌, ◌++◌, Bool, true, false, ◌&&◌, map, Some, Ordering, Less, Equal, Greater, is_lt, T, IsTrue, refl, sym, ap, subst, ◌∙◌, true≢false}
+use Rattle.std.proofs.Common.{◌≡◌, inl, inr, ℕ, List, [], ◌∷◌, ◌++◌, Bool, true, false, map, Some, Ordering, Less, Equal, Greater, is_lt, T, IsTrue, refl, sym, ap, subst, ◌∙◌, true≢false}
 use Rattle.std.proofs.lemmas.Bool.{and_parts, and_from}
 use Rattle.std.proofs.lemmas.Cmp.{nat_list_cmp_total}
-use Rattle.std.specs.Ordering.{is_ge, is_le, ordering_reverse}
+use Rattle.std.specs.Ordering.{is_ge, is_le}
 use Rattle.std.specs.FinMap.Entries.{is_sorted, below_all}
+use Rattle.base_lemmas.proofs.Bools.{T-and_from as join_and, T-and_parts as split_and}
+use Rattle.base_lemmas.proofs.Orders.{is_ge-reverse as ge_turned, less_from_is_lt as less_or_not}
 use Rattle.store_kv.specs.declared.keeper.KeptRow.{KeptRow}
 use Rattle.store_kv.specs.Tables.{Tables, place_cmp, bytes_cmp, row_at, rows_between, Has, entry_of, IsListing}
 use Rattle.store_kv.proofs.Places.{bytes_exact}
 use Rattle.store_kv.proofs.Listing.{listed}
-use Rattle.store_kv.proofs.Walk.{is_listing, has_right, has_left, has_either, one_table, less_or_not, split_and}
+use Rattle.store_kv.proofs.Walk.{is_listing, has_right, has_left, has_either, one_table}
 
 -- ---- the order of keys
-
-ge_turned : (o : Ordering) → is_ge (ordering_reverse o) ≡ is_le o
-ge_turned Less = refl
-ge_turned Equal = refl
-ge_turned Greater = refl
 
 lower : (a b c : List ℕ) → bytes_cmp a b ≡ Less → is_le (bytes_cmp b c) ≡ true → bytes_cmp a c ≡ Less
 lower a b c less h = go (bytes_cmp b c) refl h
@@ -43,10 +40,6 @@ not_lower Equal h = refl
 not_lower Greater h = refl
 
 -- ---- two lists in order
-
-join_and : (a b : Bool) → T a → T b → T (a && b)
-join_and true b h k = k
-join_and false b h k = absurd h
 
 below_both : (t : ℕ) (key : List ℕ) (xs ys : List KeptRow) → T (below_all place_cmp (t, key) (map (entry_of t) xs)) → ((y : KeptRow) → Has ys y → bytes_cmp key y.key ≡ Less) → T (below_all place_cmp (t, key) (map (entry_of t) (xs ++ ys)))
 below_both t key [] [] h less = tt

@@ -1,5 +1,5 @@
 -- What entries laid over the rows of an interval list.
-use Rattle.std.proofs.Common.{◌≡◌, ℕ, List, [], ◌∷◌, Bool, true, false, ◌&&◌, cond, map, Option, Some, None, Ordering, Less, is_eq, is_lt, T, IsTrue, refl, sym, ap, subst, ◌∙◌, true≢false}
+use Rattle.std.proofs.Common.{◌≡◌, ℕ, List, [], ◌∷◌, Bool, true, false, cond, map, Option, Some, None, Ordering, Less, is_eq, is_lt, T, IsTrue, refl, sym, ap, subst, ◌∙◌, true≢false}
 use Rattle.std.proofs.lemmas.Bool.{and_parts, and_from}
 use Rattle.std.proofs.lemmas.Map.Keys.{sorted_head, sorted_tail}
 use Rattle.std.specs.Cmp.{Equal-is, unsigned_Decides}
@@ -8,19 +8,17 @@ use Rattle.std.specs.List.Sorted.{IsStrictlySortedBy}
 use Rattle.std.specs.Map.{lookup, keys_of}
 use Rattle.std.specs.BTreeMap.{is_at}
 use Rattle.std.specs.FinMap.Entries.{is_sorted, below_all}
+use Rattle.base_lemmas.proofs.Bools.{T-and_from as join_and, T-and_parts as split_and}
+use Rattle.base_lemmas.proofs.Orders.{less_from_T as less_is}
 use Rattle.store_kv.specs.declared.keeper.KeptRow.{KeptRow}
 use Rattle.store_kv.specs.Tables.{Place, Tables, place_cmp, bytes_cmp, row_at, is_between, is_in, rows_between, entry_of, IsListing}
 use Rattle.store_kv.specs.Laid.{Entry, laid}
 use Rattle.store_kv.specs.inner.Merging.{merged, within}
 use Rattle.store_kv.proofs.Places.{places_exact, bytes_exact}
 use Rattle.store_kv.proofs.Listing.{listed}
-use Rattle.store_kv.proofs.Walk.{is_listing, one_table, less_is, split_and}
+use Rattle.store_kv.proofs.Walk.{is_listing, one_table}
 use Rattle.store_kv.proofs.Laid.{over, get-laid}
 use Rattle.store_kv.proofs.Merged.{AboveRows, RowsRise, AboveEntries, EntriesRise, find_row, find_entry, merged_rises, merged_found, found_has, has_found_row}
-
-join_and : (a b : Bool) → T a → T b → T (a && b)
-join_and true b p q = q
-join_and false b p q = absurd p
 
 is_less : (o : Ordering) → o ≡ Less → T (is_lt o)
 is_less o e = subst (λ r. T (is_lt r)) (sym e) tt

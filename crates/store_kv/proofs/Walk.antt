@@ -1,11 +1,13 @@
 -- A walk in pages: where the next page begins.
-use Rattle.std.proofs.Common.{◌≡◌, ◌⊎◌, inl, inr, ℕ, zero, suc, List, [], ◌∷◌, ◌++◌, Bool, true, false, ◌&&◌, cond, map, filter, Some, Ordering, Less, Equal, Greater, nat_cmp, is_eq, is_lt, T, IsTrue, refl, sym, ap, subst, ◌∙◌, true≢false, arith}
+use Rattle.std.proofs.Common.{◌≡◌, ◌⊎◌, inl, inr, ℕ, zero, suc, List, [], ◌∷◌, ◌++◌, Bool, true, false, cond, map, filter, Some, Ordering, Less, Equal, Greater, nat_cmp, is_eq, is_lt, T, IsTrue, refl, sym, ap, subst, ◌∙◌, true≢false, arith}
 use Rattle.std.proofs.lemmas.Bool.{and_parts, and_from}
 use Rattle.std.proofs.lemmas.Cmp.{tied_itself, nat_list_cmp_total}
 use Rattle.std.specs.Ordering.{eq_by_cmp, is_ge, ordering_then, ordering_reverse}
 use Rattle.std.specs.Cmp.{Equal-is, unsigned_Decides, nat_cmp_total}
 use Rattle.std.specs.FinMap.{find, entries, entries_sorted, get-entries}
 use Rattle.std.specs.FinMap.Entries.{is_sorted, below_all, is_sorted-where_key}
+use Rattle.base_lemmas.proofs.Orders.{less_from_T as less_is, less_from_is_lt as less_or_not}
+use Rattle.base_lemmas.proofs.Bools.{T-and_parts as split_and}
 use Rattle.store_kv.specs.declared.keeper.KeptRow.{KeptRow}
 use Rattle.store_kv.specs.Tables.{Place, Tables, place_cmp, bytes_cmp, is_between, is_in, shown_row, rows_among, rows_between, Has, entry_of, IsListing}
 use Rattle.store_kv.specs.Order.{places_total}
@@ -28,15 +30,6 @@ after_zero [] (zero ∷ y ∷ ys) = refl
 after_zero [] (suc n ∷ ys) = grind arith
 after_zero (a ∷ k) [] = refl
 after_zero (a ∷ k) (y ∷ ys) = turned y a _ _ (after_zero k ys)
-
-pub less_is : (o : Ordering) → T (is_lt o) → o ≡ Less
-less_is Less h = refl
-less_is Equal h = absurd h
-less_is Greater h = absurd h
-
-pub split_and : (a b : Bool) → T (a && b) → T a × T b
-split_and true b h = (tt, h)
-split_and false b h = absurd h
 
 below_has : (q : Place) (es : List (Place × List ℕ)) (e : Place × List ℕ) → T (below_all place_cmp q es) → Has es e → place_cmp q e.0 ≡ Less
 below_has q [] e h i = absurd i
@@ -128,11 +121,6 @@ before t (y ∷ front) r back h x (inr later) = before t front r back (split_and
 
 pub one_table : (t : ℕ) (a b : List ℕ) → place_cmp (t, a) (t, b) ≡ bytes_cmp a b
 one_table t a b = ap (λ o. ordering_then o (bytes_cmp a b)) (tied_itself nat_cmp_total t)
-
-pub less_or_not : (o : Ordering) → is_lt o ≡ true → o ≡ Less
-less_or_not Less h = refl
-less_or_not Equal h = absurd (true≢false (sym h))
-less_or_not Greater h = absurd (true≢false (sym h))
 
 at_least : (o : Ordering) → is_ge o ≡ true → (o ≡ Equal) ⊎ (o ≡ Greater)
 at_least Less h = absurd (true≢false (sym h))

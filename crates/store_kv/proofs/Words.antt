@@ -7,15 +7,13 @@ use Rattle.std.specs.Cmp.{nat_cmp_total}
 use Rattle.std.specs.Int.{w64, to_be_bytes}
 use Rattle.std.specs.List.{AllByRecursion}
 use Rattle.std.specs.Ordering.{ordering_then}
+use Rattle.base_lemmas.proofs.Lists.{to_be_bytes-bytes as bytes_low}
 use Rattle.base_value.specs.Digits.{digits_value}
 use Rattle.store_kv.specs.Tables.{bytes_cmp}
 
 -- the law of `base_value` on the order of digits
 abbrev pub DigitsOrdered : Type 0
 DigitsOrdered = (base : ℕ) (xs ys : List ℕ) → AllByRecursion (λ d. d < base) xs → AllByRecursion (λ d. d < base) ys → length xs ≡ length ys → bytes_cmp xs ys ≡ nat_cmp (digits_value base xs) (digits_value base ys)
-
-bytes_low : (n : ℕ) → n < 2 ^ 64 → AllByRecursion (λ d. d < 256) (to_be_bytes w64 n)
-bytes_low n h = (omega arith, (omega arith, (omega arith, (omega arith, (omega arith, (omega arith, (omega arith, (omega arith, tt))))))))
 
 bytes_value : (n : ℕ) → n < 2 ^ 64 → digits_value 256 (to_be_bytes w64 n) ≡ n
 bytes_value n h = omega (arith, from_be_bytes-to_be_bytes_8 n h)

@@ -1,29 +1,17 @@
 -- Tables that have certain rows: no row, other rows, and one change.
 use Rattle.std.proofs.Common.{◌≡◌, ℕ, Bool, true, false, cond, List, Option, Some, None, refl, sym, ap, subst, ◌∙◌}
-use Rattle.std.specs.declared.cmp.Ordering.{Ordering}
-use Rattle.std.specs.declared.cmp.Ordering.TheVariants.{Less, Equal, Greater}
 use Rattle.std.specs.Ordering.{is_eq, eq_by_cmp}
 use Rattle.std.specs.FinMap as tree
 use Rattle.std.specs.FinMap.{IsAntisymmetric}
 use Rattle.std.proofs.lemmas.Cmp.{tied_itself}
+use Rattle.std.proofs.lemmas.Option.{none-some as none_apart}
+use Rattle.base_lemmas.proofs.Bools.{same_both_ways as bool_same}
+use Rattle.base_lemmas.proofs.Orders.{equal_from_is_eq as tied}
 use Rattle.store_kv.specs.Order.{places_total}
 use Rattle.store_kv.specs.Tables.{Place, Tables, no_rows, place_cmp}
 use Rattle.store_rows.specs.Holds.{Holds, with_row}
 use Rattle.store_rows.specs.Keys.{Key, spell, FitsKey, key_eq}
 use Rattle.store_rows.proofs.KeyLaws.{ReadsAgain, spell_same, key_eq_itself, key_eq_same}
-
-bool_same : (a b : Bool) → (a ≡ true → b ≡ true) → (b ≡ true → a ≡ true) → a ≡ b
-bool_same true b f g = sym (f refl)
-bool_same false true f g = g refl
-bool_same false false f g = refl
-
-tied : (r : Ordering) → is_eq r ≡ true → r ≡ Equal
-tied Less e = absurd cc
-tied Equal e = refl
-tied Greater e = absurd cc
-
-none_apart : (r : List ℕ) → ◌≡◌ {A = Option (List ℕ)} None (Some r) → ⊥
-none_apart r e = absurd cc
 
 pub holds_empty : (reach : ℕ → Bool) → Holds reach no_rows (λ k. None)
 holds_empty reach = record {

@@ -1,9 +1,11 @@
 -- Two keys are two places, and whether two keys are one is told by their parts.
-use Rattle.std.proofs.Common.{◌≡◌, ℕ, zero, suc, Bool, true, false, ◌&&◌, eqb, eq-eqb, IsTrue, List, Option, Some, None, refl, sym, ap, subst, ◌∙◌}
+use Rattle.std.proofs.Common.{◌≡◌, ℕ, zero, suc, true, IsTrue, List, Option, Some, None, refl, sym, ap, subst, ◌∙◌}
 use Rattle.std.specs.Prelude.{nat_eq, slice_get, ◌==◌, ◌↔◌, if◌then◌else◌}
 use Rattle.std.specs.Cmp.Lexicographic.{pointwise, bytes_decides}
 use Rattle.std.specs.Option.{option_map}
-use Rattle.std.proofs.lemmas.Bool.{eqb-true}
+use Rattle.std.proofs.lemmas.Bool.{eqb-true, and_parts as and_both}
+use Rattle.std.proofs.lemmas.Option.{same_Some as some_is}
+use Rattle.base_lemmas.proofs.Numbers.{eqb-self as same_number}
 use Rattle.base_value.specs.declared.sharing.Principal.{Principal}
 use Rattle.base_value.specs.declared.sharing.Principal.TheVariants as p
 use Rattle.store_kv.specs.Tables.{Place}
@@ -11,9 +13,6 @@ use Rattle.store_codec.specs.Composed.{principal}
 use Rattle.store_codec.specs.Plain.{whole, number32}
 use Rattle.store_codec.specs.Shapes.{Shape, Nothing, Number8, Number16, Number32, Identity, Named, Ordered, Both, Val, spelled, FitsIn, taken}
 use Rattle.store_rows.specs.Keys.{Key, Version, Org, Object, Field, Job, User, Role, Group, Validation, Sharing, Data, Index, Unique, Relation, Owner, Share, Grant, marked, record_key, slot_key, spelling, spell, FitsKey, key_eq}
-
-pub some_is : {A : Type 0} (x y : A) → ◌≡◌ {A = Option A} (Some x) (Some y) → x ≡ y
-some_is x y e = cc
 
 -- what is spelled by a shape is read by it, as `store_codec` says
 abbrev pub ReadsAgain : Type 0
@@ -91,10 +90,6 @@ module _ (again : ReadsAgain) where
 
 -- ---- whether two keys are one
 
-pub and_both : (a b : Bool) → (a && b) ≡ true → (a ≡ true) × (b ≡ true)
-and_both true b h = (refl, h)
-and_both false b h = absurd cc
-
 bytes : (i j : List ℕ) → pointwise nat_eq i j ≡ true → i ≡ j
 bytes i j e = (bytes_decides i j).0 e
 
@@ -146,9 +141,6 @@ key_eq_same (Grant a x n i c) _ e = absurd cc
 
 same_bytes : (i : List ℕ) → pointwise nat_eq i i ≡ true
 same_bytes i = (bytes_decides i i).1 refl
-
-same_number : (n : ℕ) → eqb n n ≡ true
-same_number n = eq-eqb n n refl
 
 pub key_eq_itself : (a : Key) → key_eq a a ≡ true
 key_eq_itself Version = refl

@@ -7,13 +7,14 @@ use Rattle.std.specs.Ordering.{ordering_then, is_lt}
 use Rattle.std.specs.FinMap as tree
 use Rattle.std.specs.FinMap.{is_sorted}
 use Rattle.std.specs.FinMap.Entries.{below_all}
+use Rattle.std.proofs.lemmas.Option.{same_Some as some_is}
 use Rattle.store_kv.specs.declared.keeper.KeptRow.{KeptRow}
 use Rattle.store_kv.specs.Tables.{Place, Tables, place_cmp, bytes_cmp, is_between, rows_between, Has, IsListing, entry_of}
 use Rattle.store_rows.specs.Forms.{Form, key_of, key_bytes, row_bytes, FitsForm, kept_as}
 use Rattle.store_rows.specs.Holds.{Holds}
 use Rattle.store_rows.specs.Keys.{Key, spell, FitsKey}
 use Rattle.store_rows.specs.Listings.{with_key, ListsBetween}
-use Rattle.store_rows.proofs.KeyLaws.{ReadsAgain, some_is, spell_same}
+use Rattle.store_rows.proofs.KeyLaws.{ReadsAgain, spell_same}
 
 has_map : {X Y : Type 0} (f : X → Y) (xs : List X) (y : Y) → Has (map f xs) y → (x : X) × Has xs x × (y ≡ f x)
 has_map f [] y h = absurd h

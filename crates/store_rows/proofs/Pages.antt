@@ -2,6 +2,8 @@
 use Rattle.std.proofs.Common.{◌≡◌, ℕ, zero, suc, Bool, true, Option, Some, None, List, [], ◌∷◌, refl, sym, ap, subst, ◌∙◌, inl, inr, map, take}
 use Rattle.std.specs.List.{AllByRecursion}
 use Rattle.std.proofs.lemmas.List.{take-map}
+use Rattle.base_lemmas.proofs.Lists.{same_head as head_is, same_tail as tail_is}
+use Rattle.std.proofs.lemmas.Option.{same_Some as some_is}
 use Rattle.store_codec.specs.Plain.{whole}
 use Rattle.store_codec.specs.Shapes.{taken}
 use Rattle.store_kv.specs.declared.keeper.KeptRow.{KeptRow}
@@ -10,7 +12,7 @@ use Rattle.store_rows.specs.Forms.{FitsForm, Form, kept_as, key_bytes, row_bytes
 use Rattle.store_rows.specs.Holds.{Holds}
 use Rattle.store_rows.specs.Keys.{Key}
 use Rattle.store_rows.specs.Listings.{ListsTo, rows_to}
-use Rattle.store_rows.proofs.KeyLaws.{ReadsAgain, some_is}
+use Rattle.store_rows.proofs.KeyLaws.{ReadsAgain}
 use Rattle.store_rows.proofs.Listings.{listed_is}
 use Rattle.store_rows.proofs.RowLaws.{one_row}
 
@@ -22,12 +24,6 @@ all_take : {X : Type 0} (P : X → Type 0) (n : ℕ) (xs : List X) → AllByRecu
 all_take P zero xs h = tt
 all_take P (suc n) [] h = tt
 all_take P (suc n) (x ∷ xs) h = (h.0, all_take P n xs h.1)
-
-head_is : {X : Type 0} (x y : X) (xs ys : List X) → ◌≡◌ {A = List X} (x ∷ xs) (y ∷ ys) → x ≡ y
-head_is x y xs ys e = cc
-
-tail_is : {X : Type 0} (x y : X) (xs ys : List X) → ◌≡◌ {A = List X} (x ∷ xs) (y ∷ ys) → xs ≡ ys
-tail_is x y xs ys e = cc
 
 not_nil : {X : Type 0} (x : X) (xs : List X) → ◌≡◌ {A = List X} (x ∷ xs) [] → ⊥
 not_nil x xs e = cc

@@ -2,13 +2,14 @@
 use Rattle.std.proofs.Common.{◌≡◌, ℕ, List, Option, Some, None, refl, sym, ap, ap₂, ◌∙◌}
 use Rattle.std.specs.Prelude.{Result, Ok, Err}
 use Rattle.std.specs.Option.{option_map}
+use Rattle.std.proofs.lemmas.Option.{same_Some as some_is}
 use Rattle.store_rows.specs.declared.fail.StoreFail.{StoreFail}
 use Rattle.store_rows.specs.declared.fail.StoreFail.TheVariants.{Keeper, Memory, Damaged}
 use Rattle.store_rows.specs.Forms.{Form, row_bytes, FitsForm}
 use Rattle.store_rows.specs.Reads.{FoundAs, MayStandAt, ReadsAs}
 use Rattle.store_codec.specs.Plain.{whole}
 use Rattle.store_codec.specs.Shapes.{Val, taken}
-use Rattle.store_rows.proofs.KeyLaws.{ReadsAgain, some_is}
+use Rattle.store_rows.proofs.KeyLaws.{ReadsAgain}
 
 module _ {U : Type 0} (f : Form U) (again : ReadsAgain) where
   pub one_row : (u v : U) → FitsForm f u → FitsForm f v → f.keyed u ≡ f.keyed v → row_bytes f u ≡ row_bytes f v → u ≡ v

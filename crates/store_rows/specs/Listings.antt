@@ -2,7 +2,6 @@
 use Rattle.std.specs.Prelude.{◌≡◌, ℕ, List, [], Option, Some, None, T, IsTrue, map as plain_map}
 use Rattle.std.specs.FinMap as map
 use Rattle.store_kv.specs.declared.keeper.KeptRow.{KeptRow}
-use Rattle.store_kv.specs.Prefixes.{raised}
 use Rattle.store_kv.specs.Tables.{Tables, bytes_cmp, is_between, rows_between, Has}
 use Rattle.store_kv.specs.Walks.{next_above}
 use Rattle.store_rows.specs.Forms.{Form, key_of, key_bytes, row_bytes, FitsForm}
@@ -13,15 +12,11 @@ abbrev pub start_of : List ℕ → Option (List ℕ) → List ℕ
 start_of prefix None = prefix
 start_of prefix (Some key) = next_above key
 
--- the rows from a key on, up to the keys that are above all with a prefix
+-- the rows from a key on, up to the keys that are above all with a prefix. Where each byte of the prefix is 255 there is no key
+-- above them, and there are none: no organisation has such a number
 abbrev pub rows_to : Tables → ℕ → List ℕ → Option (List ℕ) → List KeptRow
 rows_to m table from (Some above) = rows_between m table from above
 rows_to m table from None = []
-
--- the rows whose keys begin with a prefix. Where each of its bytes is 255 there is no key above them, and there are none:
--- no organisation has such a number
-abbrev pub rows_under : Tables → ℕ → List ℕ → List KeptRow
-rows_under m table prefix = rows_to m table prefix (raised prefix)
 
 module _ {U : Type 0} (f : Form U) where
   abbrev pub with_key : U → List ℕ × U

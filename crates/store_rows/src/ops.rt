@@ -65,24 +65,3 @@ pub fn put<R: RowForm, K: Keeper>(
     let bytes = row.write(alloc)?;
     draft.put(alloc, R::table(), key, bytes)
 }
-
-/// Removes the row of a key, if there is one.
-///
-/// # Errors
-///
-/// If out of memory.
-pub fn remove<R: RowForm, K: Keeper>(
-    alloc: Global,
-    draft: &mut Draft<'_, K>,
-    key: &R::Key,
-) -> Result<(), AllocError>
-    requires { FitsIn R.form.key (R.parts key.now) }
-    ensures ok { OnOk result (tables_of K.state draft.new
-        ≡ map.remove (tables_of K.state draft.old) (spell (R.form.named (R.parts key.now)))) }
-    ensures some { OnOk result (0 < count_of draft.new) }
-    ensures works { DraftWorks K.state 1 (data_rows R.form.table 1) 0 draft.old draft.new }
-    ensures stays { StaysAfter (is_ok result) (state_of K.state draft.old) (state_of K.state draft.new) }
-{
-    let key = spelling_of(alloc, key)?;
-    draft.remove(alloc, R::table(), key)
-}

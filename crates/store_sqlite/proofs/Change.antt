@@ -3,6 +3,7 @@ use Rattle.std.proofs.Common.{◌≡◌, ◌⊎◌, ℕ, pos, List, Bool, true, 
 use Rattle.std.specs.Ordering.{eq_by_cmp}
 use Rattle.std.specs.FinMap.{insert, remove, get-insert, get-remove, same_map}
 use Rattle.std.proofs.lemmas.Cmp.{tied_itself}
+use Rattle.base_lemmas.proofs.Orders.{equal_from_is_eq as tied}
 use Rattle.sqlite.specs.declared.types.Value.TheVariants.{Int, Blob}
 use Rattle.sqlite.specs.Order.{Row, column, bytes}
 use Rattle.sqlite.specs.Tree.{Trees}
@@ -11,7 +12,7 @@ use Rattle.store_kv.specs.Tables.{Place, place_cmp, row_at}
 use Rattle.store_kv.proofs.Places.{places_exact}
 use Rattle.store_kv.specs.Order.{places_total}
 use Rattle.store_sqlite.specs.Kept.{tables_in}
-use Rattle.store_sqlite.proofs.Rows.{IsAt, IsKeptRow, tied, row_is}
+use Rattle.store_sqlite.proofs.Rows.{IsAt, IsKeptRow, row_is}
 
 -- the rows of a table, of which no two have one key
 pub record AreRows (db : Trees) : Type 0 where

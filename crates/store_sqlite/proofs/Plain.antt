@@ -1,5 +1,6 @@
 -- A text that is a query writes nothing, whatever the schema.
-use Rattle.std.proofs.Common.{◌≡◌, ℕ, ◌+◌, List, Bool, true, false, cond, Option, Some, None, Result, Ok, Err, IsSome, true≢false, refl, sym, ap, ◌∙◌}
+use Rattle.std.proofs.Common.{◌≡◌, ℕ, ◌+◌, List, Bool, true, false, cond, Option, Some, None, Ok, Err, IsSome, true≢false, refl, sym, ap, ◌∙◌}
+use Rattle.base_lemmas.proofs.Results.{same_Ok as ok_same}
 use Rattle.sqlite_resolve.specs.Lowering.{Checked, and_then}
 use Rattle.sqlite_syntax.specs.declared.statement.Parsed.{Parsed}
 use Rattle.sqlite_resolve.specs.Compile.{first, small, timed, planned, meaning, returning, command, with_command, compiled}
@@ -35,9 +36,6 @@ others_bare schema base = refl
 then_ok : {A B : Type 0} (x : Checked A) (f : A → Checked B) (b : B) → and_then x f ≡ Ok b → (a : A) × (x ≡ Ok a) × (f a ≡ Ok b)
 then_ok (Ok a) f b is = (a, refl, is)
 then_ok (Err e) f b is = absurd cc
-
-ok_same : {A E : Type 0} (a b : A) → ◌≡◌ {A = Result A E} (Ok a) (Ok b) → a ≡ b
-ok_same a b is = cc
 
 bare_meaning : (r : Checked (Option Returning)) (k : Checked Command) (q : Command × Option Returning) → r ≡ Ok None → and_then r (λ shown. and_then k (λ c. Ok (c, shown))) ≡ Ok q → q.1 ≡ None
 bare_meaning (Err e) k q none is = absurd cc

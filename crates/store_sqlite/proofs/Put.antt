@@ -5,6 +5,7 @@ use Rattle.std.proofs.lemmas.Int.{ints}
 use Rattle.std.proofs.lemmas.Cmp.{tied_itself}
 use Rattle.std.specs.Cmp.{int_eq_equiv}
 use Rattle.std.specs.FinMap.{insert}
+use Rattle.base_lemmas.proofs.Orders.{equal_from_is_eq as tied}
 use Rattle.sqlite.specs.declared.types.Value.{Value}
 use Rattle.sqlite.specs.declared.types.Value.TheVariants.{Null, Int, Blob}
 use Rattle.sqlite.specs.Order.{Row, column, bytes}
@@ -49,7 +50,7 @@ use Rattle.store_sqlite.proofs.Order.{bytes_exact}
 use Rattle.store_sqlite.specs.Kept.{kept, kept_schema, put_text, tables_in}
 use Rattle.store_sqlite.specs.inner.Steps.{IsGood}
 use Rattle.store_sqlite.proofs.Texts.{whole, query_of, put_terms, put_clauses, put_is, put_plain}
-use Rattle.store_sqlite.proofs.Rows.{IsAt, IsKeptRow, tied, int_of}
+use Rattle.store_sqlite.proofs.Rows.{IsAt, IsKeptRow, int_of}
 use Rattle.store_sqlite.proofs.Select.{Answered, answered, shown_from, all_shown, has_mapped, mapped_has, passes_all}
 use Rattle.store_sqlite.proofs.Change.{AreRows, map_put}
 use Rattle.store_sqlite.proofs.Remove.{went, same_value, left_from, left_has, left_shaped, good_rows, decides}

@@ -26,10 +26,11 @@ use Rattle.sqlite_rules.proofs.PlaceLemmas.{tied_same}
 use Rattle.sqlite_value.proofs.OrderLemmas.{value_cmp_total}
 use Rattle.std.proofs.lemmas.Cmp.{tied_itself}
 use Rattle.std.specs.FinMap.{remove}
+use Rattle.base_lemmas.proofs.Orders.{equal_from_is_eq as tied}
 use Rattle.store_sqlite.specs.Kept.{kept, kept_schema, remove_text, tables_in}
 use Rattle.store_sqlite.specs.inner.Steps.{IsGood}
 use Rattle.store_sqlite.proofs.Texts.{at_key, whole, query_of, remove_is, remove_plain}
-use Rattle.store_sqlite.proofs.Rows.{IsAt, kept_rows, one_at, tied, int_of}
+use Rattle.store_sqlite.proofs.Rows.{IsAt, kept_rows, one_at, int_of}
 use Rattle.store_sqlite.proofs.Select.{Answered, answered, shown_from, key_params, passes_all, passes_at, at_passes, all_shown, has_mapped, mapped_has}
 use Rattle.store_sqlite.proofs.Change.{AreRows, map_removed}
 

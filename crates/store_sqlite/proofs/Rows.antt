@@ -1,5 +1,5 @@
 -- The rows of the table, and the map that they are.
-use Rattle.std.proofs.Common.{◌≡◌, inl, inr, ℕ, ℤ, pos, negsuc, List, [], ◌∷◌, ◌++◌, Bool, true, false, not, ◌&&◌, cond, Option, Some, None, Ordering, Less, Equal, Greater, is_eq, int_eq, arith, refl, sym, ap, ap₂, subst, ◌∙◌, true≢false, IsTrue}
+use Rattle.std.proofs.Common.{◌≡◌, inl, inr, ℕ, ℤ, pos, negsuc, List, [], ◌∷◌, ◌++◌, Bool, true, false, not, ◌&&◌, cond, Option, Some, None, Equal, is_eq, int_eq, arith, refl, sym, ap, ap₂, subst, ◌∙◌, true≢false, IsTrue}
 use Rattle.std.proofs.lemmas.Bool.{and_parts, and_from}
 use Rattle.std.proofs.lemmas.Int.{ints}
 use Rattle.std.specs.List.{list_any}
@@ -9,6 +9,7 @@ use Rattle.std.specs.Cmp.{int_eq_equiv}
 use Rattle.sqlite_sql.specs.declared.ops.CompareOp.TheVariants.{Eq, Ne}
 use Rattle.sqlite_value.proofs.OrderLemmas.{value_cmp_total}
 use Rattle.std.specs.FinMap.{find, get-from_entries}
+use Rattle.base_lemmas.proofs.Orders.{equal_from_is_eq as tied}
 use Rattle.sqlite.specs.declared.types.Value.{Value}
 use Rattle.sqlite.specs.declared.types.Value.TheVariants.{Null, Int, Real, Text, Blob}
 use Rattle.sqlite.specs.Order.{Row, column, bytes}
@@ -71,11 +72,6 @@ module _ (db : Trees) where
 
   pub kept_rows : Obeys kept_schema db → (x : Row) → Has (db 0) x → IsKeptRow x
   kept_rows obeys x h = kept_row x (all_has _ (db 0) x (obeys.rules Datatype).0 h) (all_has _ (db 0) x (obeys.rules NotNull).0 h)
-
-pub tied : (o : Ordering) → is_eq o ≡ true → o ≡ Equal
-tied Less e = absurd (true≢false (sym e))
-tied Equal e = refl
-tied Greater e = absurd (true≢false (sym e))
 
 module _ (t : ℕ) (k : List ℕ) where
   -- the row has this key

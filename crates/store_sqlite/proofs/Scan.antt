@@ -1,5 +1,5 @@
 -- What the SELECT of an interval answers.
-use Rattle.std.proofs.Common.{◌≡◌, ◌⊎◌, inl, inr, ℕ, ℤ, pos, List, [], ◌∷◌, map, filter, take, take-take, codes, zero, suc, Bool, true, false, ◌&&◌, cond, Option, Some, None, Ordering, Less, Equal, Greater, is_eq, is_lt, is_gt, int_eq, T, IsTrue, refl, sym, ap, ap₂, subst, ◌∙◌, true≢false, arith}
+use Rattle.std.proofs.Common.{◌≡◌, ◌⊎◌, inl, inr, ℕ, ℤ, pos, List, [], ◌∷◌, map, filter, take, take-take, codes, zero, suc, Bool, true, false, cond, Option, Some, None, Ordering, Less, Equal, Greater, is_eq, is_lt, is_gt, int_eq, T, IsTrue, refl, sym, ap, ap₂, subst, ◌∙◌, true≢false, arith}
 use Rattle.std.proofs.lemmas.Bool.{cases_Bool, and_parts, and_from}
 use Rattle.std.proofs.lemmas.Cmp.{tied_itself, nat_list_cmp_total}
 use Rattle.std.proofs.lemmas.List.Sorted.{IsPermutation-sym}
@@ -7,6 +7,9 @@ use Rattle.std.specs.List.{AllByRecursion, list_any}
 use Rattle.std.specs.Cmp.{IsTotalOrder, int_eq_equiv, nat_cmp_total}
 use Rattle.std.specs.Ordering.{is_ge, is_le, ordering_then, ordering_reverse}
 use Rattle.std.specs.FinMap.Entries.{is_sorted, below_all}
+use Rattle.std.proofs.lemmas.Simd.{map-map as map_map}
+use Rattle.base_lemmas.proofs.Bools.{T-and_from as both_T}
+use Rattle.base_lemmas.proofs.Orders.{is_ge-reverse as flips, equal_from_is_eq as tied}
 use Rattle.sqlite.specs.declared.types.Value.TheVariants.{Int, Blob}
 use Rattle.sqlite.specs.Order.{Row, column, bytes}
 use Rattle.sqlite.specs.Tree.{Trees, rowid, IsTable}
@@ -38,7 +41,7 @@ use Rattle.sqlite.specs.State.{State, Shown}
 use Rattle.sqlite.proofs.Callers.{reads_as}
 use Rattle.store_sqlite.proofs.Remove.{good_rows}
 use Rattle.store_sqlite.proofs.Texts.{in_range, at_key, scan_is, scan_plain, scan_unlisted}
-use Rattle.store_sqlite.proofs.Rows.{IsAt, IsKeptRow, tied}
+use Rattle.store_sqlite.proofs.Rows.{IsAt, IsKeptRow}
 use Rattle.store_sqlite.proofs.Select.{Answered, read, query, shown_of, passes_all, has_permuted, has_mapped, mapped_has, key_params, passes_at, at_passes}
 use Rattle.store_sqlite.proofs.Put.{same_int}
 use Rattle.store_sqlite.proofs.Change.{AreRows, here_is, none_is}
@@ -66,11 +69,6 @@ module _ {X : Type 0} (cmp : X → X → Ordering) (total : IsTotalOrder cmp) wh
   rises_sort [] apart = tt
   rises_sort (x ∷ xs) apart = rises_insert x _ (all_sort _ xs apart.0) (rises_sort xs apart.1)
 
-flips : (o : Ordering) → is_ge (ordering_reverse o) ≡ is_le o
-flips Less = refl
-flips Equal = refl
-flips Greater = refl
-
 ge_le : (a b : List ℕ) → is_ge (bytes_cmp a b) ≡ is_le (bytes_cmp b a)
 ge_le a b = ap is_ge (nat_list_cmp_total.antisymm a b) ∙ flips _
 
@@ -83,10 +81,6 @@ from_has : {X : Type 0} (xs : List X) (x : X) → Has xs x → keeper.Has xs x
 from_has [] x h = h
 from_has (y ∷ xs) x (inl same) = inl same
 from_has (y ∷ xs) x (inr later) = inr (from_has xs x later)
-
-both_T : (a b : Bool) → T a → T b → T (a && b)
-both_T true b p q = q
-both_T false b p q = p
 
 pub map_take : {X Y : Type 0} (f : X → Y) (n : ℕ) (xs : List X) → map f (take n xs) ≡ take n (map f xs)
 map_take f zero xs = refl
@@ -101,10 +95,6 @@ map_limited f (Some n) xs = map_take f n xs
 pub cut : {X : Type 0} (limit : ℕ) (n : ℤ) (xs : List X) → IsLimit limit n → take limit (limited (as_count (Int n)) xs) ≡ take limit xs
 cut limit n xs (inl is) = ap (λ (z : ℤ). take limit (limited (as_count (Int z)) xs)) is ∙ take-take limit limit xs (omega arith)
 cut limit n xs (inr is) = ap (λ (z : ℤ). take limit (limited (as_count (Int z)) xs)) is
-
-map_map : {X Y Z : Type 0} (f : Y → Z) (g : X → Y) (xs : List X) → map f (map g xs) ≡ map (λ x. f (g x)) xs
-map_map f g [] = refl
-map_map f g (x ∷ xs) = ap (λ l. f (g x) ∷ l) (map_map f g xs)
 
 abbrev pub scan_params : ℕ → List ℕ → List ℕ → ℤ → Row
 scan_params t from below n = Int (pos t) ∷ Blob from ∷ Blob below ∷ Int n ∷ []

@@ -7,6 +7,7 @@ use Rattle.std.proofs.lemmas.Bool.{and_parts}
 use Rattle.std.proofs.lemmas.Int.{ints}
 use Rattle.std.specs.Cmp.{int_eq_equiv}
 use Rattle.std.proofs.lemmas.Cmp.{tied_itself, nat_list_cmp_total}
+use Rattle.base_lemmas.proofs.Orders.{equal_from_is_eq as tied}
 use Rattle.sqlite.specs.declared.types.Value.TheVariants.{Null, Int, Blob}
 use Rattle.sqlite.specs.Order.{Row}
 use Rattle.sqlite.specs.Tree.{Trees}
@@ -23,7 +24,7 @@ use Rattle.sqlite_rules.proofs.ListLemmas.{all_has, all_from, has_filtered, has_
 use Rattle.store_kv.specs.Tables.{bytes_cmp}
 use Rattle.store_sqlite.proofs.Order.{bytes_exact}
 use Rattle.store_sqlite.proofs.Texts.{query_of, whole, at_key}
-use Rattle.store_sqlite.proofs.Rows.{IsAt, IsKeptRow, tied}
+use Rattle.store_sqlite.proofs.Rows.{IsAt, IsKeptRow}
 
 each_if : {X Y : Type 0} (p : X → Bool) (f : X → Y) (xs : List X) → flat_map (λ x. cond (p x) (f x ∷ []) []) xs ≡ map f (filter p xs)
 each_if p f [] = refl

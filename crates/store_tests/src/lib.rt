@@ -7,11 +7,11 @@
 #[cfg(test)]
 mod batches;
 #[cfg(test)]
-mod commands;
-#[cfg(test)]
 mod files;
 #[cfg(test)]
 mod rows;
+#[cfg(test)]
+mod runs;
 #[cfg(test)]
 mod stops;
 #[cfg(test)]

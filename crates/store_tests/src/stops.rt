@@ -1,6 +1,6 @@
 //! Files in memory that stop at a call, and what is found in them afterwards.
 
-use crate::commands::COMMANDS;
+use crate::runs::COMMANDS;
 use crate::tasks::{Outcome, Task, done, unopened};
 use sqlite::{Alter, Connection, FileStore, Files, Options};
 use sqlite_disk::{Crash, Disk, Fuse, Memory};

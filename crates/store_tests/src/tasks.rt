@@ -1,7 +1,7 @@
 //! What is done over a keeper, whatever its store.
 
 use crate::batches::{makes, put, rows_of};
-use crate::commands::{add_two, count_organisations, ends_so};
+use crate::runs::{add_two, count_organisations, ends_so};
 use std::alloc::{AllocError, Global};
 use store_kv::Keeper;
 

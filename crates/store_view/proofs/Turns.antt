@@ -1,6 +1,5 @@
 -- Parts in turn, and slots one after the other.
-use Rattle.std.proofs.Common.{◌≡◌, ℕ, suc, ◌==◌, Bool, true, false, cond, List, [], ◌∷◌, length, Option, Some, None, refl, sym, ◌∙◌, ap, arith, true≢false}
-use Rattle.std.proofs.lemmas.Bool.{eqb-true}
+use Rattle.std.proofs.Common.{◌≡◌, ℕ, suc, ◌==◌, Bool, true, false, cond, List, [], ◌∷◌, length, Option, Some, None, refl, sym, ◌∙◌, ap}
 use Rattle.std.specs.Option.{option_map}
 use Rattle.std.specs.Prelude.{is_some}
 use Rattle.store_codec.specs.Composed.{in_turn_at}
@@ -109,36 +108,3 @@ turn n bytes texts e =
       there = y.1 ∙ ap (λ l. Some (y.0.0, l)) left;
       same = sym (ap texts_of y.2);
     }
-
--- ---- all of them
-
--- the slots that were seen to be there
-pub record Read (n : ℕ) (bytes : List ℕ) : Type 0 where
-  pub texts : List Slot
-  pub all : in_turn_at (optional_at text_at) n bytes ≡ Some (texts, [])
-  pub whole_is : whole (in_turn_at (optional_at text_at) n) bytes ≡ Some texts
-
-no_byte : (bytes : List ℕ) → (length bytes == 0) ≡ true → bytes ≡ []
-no_byte [] e = refl
-no_byte (b ∷ bytes) e = let n : length (b ∷ bytes) ≡ 0 = eqb-true _ _ e in absurd (omega (arith, n))
-
-held : (b : Bool) (xs : List Slot) → is_some (cond {A = Option (List Slot)} b (Some xs) None) ≡ true → b ≡ true
-held true xs h = refl
-held false xs h = absurd (true≢false (sym h))
-
-pub read : (n : ℕ) (bytes : List ℕ) → are n bytes ≡ true → Read n bytes
-read n bytes h = let x = by (in_turn_at (optional_at text_at) n bytes) h in record { texts = x.0; all = x.1; whole_is = x.2 }
-  where
-    by : (o : Option (List Slot × List ℕ)) → is_some (ended o) ≡ true → (texts : List Slot) × (o ≡ Some (texts, [])) × (ended o ≡ Some texts)
-    by None h = absurd (true≢false (sym h))
-    by (Some x) h =
-        let e = held (length x.1 == 0) x.0 h in
-        (x.0, ap (λ (l : List ℕ). Some (x.0, l)) (no_byte x.1 e), ap (λ (b : Bool). cond {A = Option (List Slot)} b (Some x.0) None) e)
-
--- no slots
-pub unread : (n : ℕ) (bytes : List ℕ) → are n bytes ≡ false → whole (in_turn_at (optional_at text_at) n) bytes ≡ None
-unread n bytes h = by (whole (in_turn_at (optional_at text_at) n) bytes) h
-  where
-    by : (o : Option (List Slot)) → is_some o ≡ false → o ≡ None
-    by None h = refl
-    by (Some xs) h = absurd (true≢false h)

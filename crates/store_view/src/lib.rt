@@ -8,5 +8,4 @@ mod fronts;
 mod slots;
 mod view;
 
-pub use crate::slots::{are_slots, read_slot, slot_of};
 pub use crate::view::RowView;

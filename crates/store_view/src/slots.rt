@@ -9,7 +9,7 @@ ghost use Rattle.store_view.specs.Slots.{slot_in};
 use crate::fronts::{behind_optional_text, number_front, optional_text_front};
 
 /// Whether the bytes are those of so many slots and no more.
-pub fn are_slots(bytes: &[u8], count: u8) -> bool
+pub(crate) fn are_slots(bytes: &[u8], count: u8) -> bool
     ensures { result ≡ is_some (whole (in_turn_at (optional_at text_at) count) bytes.now) }
 {
     if count == 0 {
@@ -54,7 +54,7 @@ fn after_slot(bytes: &[u8]) -> Option<&[u8]>
 }
 
 /// What one of so many slots holds, if the bytes are those of the slots; nothing where there is no such slot.
-pub fn slot_of(bytes: &[u8], count: u8, wanted: usize) -> Option<&str>
+pub(crate) fn slot_of(bytes: &[u8], count: u8, wanted: usize) -> Option<&str>
     ensures { (texts : List (Option (List ℕ))) → in_turn_at (optional_at text_at) count bytes.now ≡ Some (texts, [])
         → option_map (λ s. chars s.now) result ≡ slot_in texts wanted }
 {
@@ -67,17 +67,5 @@ pub fn slot_of(bytes: &[u8], count: u8, wanted: usize) -> Option<&str>
     match after_slot(bytes) {
         Some(rest) => slot_of(rest, count - 1, wanted - 1),
         None => None,
-    }
-}
-
-/// What one of so many slots holds, nothing where it is empty or there is no such slot; none exactly if the bytes aren't those of
-/// so many slots and no more.
-pub fn read_slot(bytes: &[u8], count: u8, wanted: usize) -> Option<Option<&str>>
-    ensures { option_map (λ t. option_map (λ s. chars s.now) t) result ≡ option_map (λ ts. slot_in ts wanted) (whole (in_turn_at (optional_at text_at) count) bytes.now) }
-{
-    if are_slots(bytes, count) {
-        Some(slot_of(bytes, count, wanted))
-    } else {
-        None
     }
 }

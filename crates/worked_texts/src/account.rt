@@ -1,7 +1,7 @@
 //! The fields of the object over which formulas are read.
 
 use base_value::{FieldType, Items, OnDelete, Text};
-use formula_eval::{Fields, NamedField};
+use formula::{Fields, NamedField};
 use std::alloc::{AllocError, Global};
 
 /// A text, a picklist, a number, a truth value, a day, a moment, a reference and another text.

@@ -1,7 +1,7 @@
 //! Patterns as queries have them behind LIKE.
 
 use crate::line::{first_of, truth};
-use soql_ast::{Cond, Query, like};
+use soql::{Cond, Query, like};
 use soql_parser::parse;
 use std::alloc::{AllocError, Global};
 

@@ -2,7 +2,7 @@
 
 use crate::account::fields;
 use crate::places::with_place;
-use formula_eval::Formula;
+use formula::Formula;
 use formula_parser::{ParseFail, parse};
 use std::alloc::{AllocError, Global};
 

@@ -4,7 +4,7 @@ use crate::account::{NAMES, kind_of};
 use crate::formulas::formula;
 use crate::line::{first_of, truth};
 use base_value::{FieldType, Items, Value, is_type, read_value};
-use formula_eval::{Formula, Record, holds, names};
+use formula::{Formula, Record, holds, names};
 use std::alloc::{AllocError, Global};
 
 // The value of a cell; null if it isn't one of its type.

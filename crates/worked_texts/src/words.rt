@@ -1,7 +1,7 @@
 //! The tokens of query texts.
 
 use base_grammar::{Piece, Placed, Token, tokens};
-use soql_ast::QueryLexis;
+use soql::QueryLexis;
 use std::alloc::{AllocError, Global};
 
 // What kind of token it is, or the mark.

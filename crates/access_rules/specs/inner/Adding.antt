@@ -5,7 +5,7 @@ use Rattle.std.specs.Prelude.{◌≡◌, ◌&&◌, ◌<◌, ℕ, ◌+◌, suc, I
 use Rattle.std.specs.Str.{IsUtf8}
 use Rattle.store_edit.specs.Edits.{FailsBy}
 use Rattle.store_edit.specs.Rows.{change_to}
-use Rattle.formula_eval.specs.declared.formula.Formula.{Formula}
+use Rattle.formula.specs.declared.formula.Formula.{Formula}
 use Rattle.store_rows.specs.declared.org.OrgRow.{OrgRow}
 use Rattle.store_rows.specs.Forms.{FitsForm}
 use Rattle.store_rows.specs.Rows.{org_form, sharing_form}

@@ -1,10 +1,10 @@
 -- The level on a record by what is read of its masters. No public contract reaches these words.
 use Rattle.std.specs.Prelude.{◌≡◌, ◌≤◌, ℕ, suc, false, List, [], Option, Result, Ok, Err}
 use Rattle.std.specs.Option.{option_and_then}
-use Rattle.formula_eval.specs.Meaning.{value_at}
+use Rattle.formula.specs.Meaning.{value_at}
 use Rattle.store_rows.specs.declared.fail.StoreFail.{StoreFail}
-use Rattle.access_level.specs.Own.{up_to}
-use Rattle.access_level.specs.declared.knowing.OwnLevels.{OwnLevels}
+use Rattle.access_user.specs.level.Own.{up_to}
+use Rattle.access_user.specs.declared.level.knowing.OwnLevels.{OwnLevels}
 use Rattle.model.specs.declared.limit.Limit.TheVariants as limit
 use Rattle.model.specs.declared.record.Record.{Record}
 use Rattle.model.specs.Fields.{ref_of}

@@ -4,7 +4,7 @@ use Rattle.store_rows.specs.declared.fail.StoreFail.{StoreFail}
 use Rattle.model.specs.declared.reply.Reply.{Reply}
 use Rattle.store_abstraction.specs.declared.judged.Judged.{Judged}
 use Rattle.store_abstraction.specs.declared.judged.Judged.TheVariants.{Same}
-pub use Rattle.query_reply.specs.Answers.{AnswersBy, Refuses}
+pub use Rattle.query_json.specs.Answers.{AnswersBy, Refuses}
 
 -- a reply, as one that goes with no change
 abbrev pub unchanged : Result Reply StoreFail → Result (Judged Reply) StoreFail

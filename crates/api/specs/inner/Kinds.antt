@@ -5,7 +5,7 @@ use Rattle.model.specs.declared.route.Route.TheVariants as route
 use Rattle.model.specs.declared.routed.Routed.{Routed}
 use Rattle.model.specs.declared.routed.Routed.TheVariants.{To, NotAllowed}
 use Rattle.model.specs.Routing as model
-use Rattle.api_router_laws.specs.Ways.{same_pieces}
+use Rattle.api.specs.router.Ways.{same_pieces}
 use Rattle.api.specs.declared.kind.Kind.{Kind}
 use Rattle.api.specs.declared.kind.Kind.TheVariants as kind
 use Rattle.api.specs.declared.place.Place.{Place}

@@ -6,7 +6,7 @@ use Rattle.matchit.specs.Route.{Scan, parse_route}
 use Rattle.matchit.specs.Router.{RouteOf, route_from}
 use Rattle.matchit.specs.Rows.{RowsOf}
 use Rattle.matchit.specs.declared.error.InsertError.{InsertError}
-use Rattle.api_router_laws.specs.Pick.{Piece, text, param, PatternOf, tokens}
+use Rattle.api.specs.router.Pick.{Piece, text, param, PatternOf, tokens}
 use Rattle.api.specs.declared.place.Place.{Place}
 use Rattle.api.specs.declared.place.Place.TheVariants as place
 

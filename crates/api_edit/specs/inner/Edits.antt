@@ -25,7 +25,7 @@ use Rattle.store_abstraction.specs.declared.fail.EditFail.{EditFail}
 use Rattle.store_abstraction.specs.declared.fail.EditFail.TheVariants.{Refused, Store}
 use Rattle.store_abstraction.specs.declared.judged.Judged.{Judged}
 use Rattle.store_abstraction.specs.declared.judged.Judged.TheVariants.{Changed, Same}
-use Rattle.record_upsert.specs.declared.upsert.Upserted.{Upserted}
+use Rattle.record_save.specs.declared.upsert.upsert.Upserted.{Upserted}
 use Rattle.api_edit.specs.declared.answer.Answer.{Answer}
 use Rattle.api_edit.specs.declared.answer.Answer.TheVariants as answer
 

@@ -4,7 +4,7 @@ use Rattle.store_rows.specs.declared.fail.StoreFail.{StoreFail}
 use Rattle.model.specs.declared.refusal.Refusal.{Refusal}
 use Rattle.model.specs.declared.refusal.Refusal.TheVariants.{MalformedQuery}
 use Rattle.query_run.specs.Forms.{IsAnswer}
-use Rattle.soql_ast.specs.declared.query.Query.{Query}
+use Rattle.soql.specs.declared.query.Query.{Query}
 use Rattle.store_abstraction.specs.declared.judged.Judged.{Judged}
 use Rattle.store_abstraction.specs.declared.judged.Judged.TheVariants.{Same}
 

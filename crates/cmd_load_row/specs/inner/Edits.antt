@@ -21,7 +21,7 @@ use Rattle.store_abstraction.specs.Plan.{OrgPlan}
 use Rattle.store_abstraction.specs.declared.fail.EditFail.{EditFail}
 use Rattle.store_abstraction.specs.declared.fail.EditFail.TheVariants.{Refused, Store}
 use Rattle.model_step.specs.Own.{IsAsking}
-use Rattle.record_upsert.specs.declared.upsert.Upserted.{Upserted}
+use Rattle.record_save.specs.declared.upsert.upsert.Upserted.{Upserted}
 
 -- ---- the request
 

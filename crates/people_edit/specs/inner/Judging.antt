@@ -1,24 +1,10 @@
--- What judging an edit step by step comes to: each step has its rule. No public contract reaches these words.
--- That rules are judged in a fixed order is this product's own.
-use Rattle.std.specs.Prelude.{◌≡◌, ◌≢◌, ℕ, List, Option, Some, None, is_none, Result, Ok, Err}
-use Rattle.store_rows.specs.declared.fail.StoreFail.TheVariants.{Damaged}
+-- The rule of a role that is named. No public contract reaches this word.
+use Rattle.std.specs.Prelude.{ℕ, List, Option, None, is_none}
 use Rattle.model.specs.Cases.{in_case}
 use Rattle.model.specs.declared.refusal.Refusal.TheVariants.{InvalidReference}
 use Rattle.model.specs.Principals.{role_at}
 use Rattle.model.specs.Rules.{Rule, refuse_if}
 use Rattle.model.specs.Tenant.{Tenant}
-use Rattle.store_abstraction.specs.declared.fail.EditFail.{EditFail}
-use Rattle.store_abstraction.specs.declared.fail.EditFail.TheVariants.{Refused, Store}
-
--- why judging ended: as the rule refuses, or since the work on the tables stopped, though they aren't damaged
-abbrev pub FailsRule : Rule → EditFail → Type 0
-FailsRule rule (Refused r) = rule ≡ Some r
-FailsRule rule (Store e) = e ≢ Damaged
-
--- the rule doesn't refuse, and this holds of what is returned; or why nothing is
-abbrev pub Passes : {X : Type 0} → Rule → (X → Type 0) → Result X EditFail → Type 0
-Passes rule P (Ok x) = (rule ≡ None) × P x
-Passes rule P (Err e) = FailsRule rule e
 
 -- INVALID_CROSS_REFERENCE_KEY: there is an id and no role that has it
 abbrev pub lacks_role : Tenant → (member : List ℕ) → Option (List ℕ) → Rule

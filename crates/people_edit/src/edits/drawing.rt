@@ -15,7 +15,7 @@ ghost use Rattle.model.specs.Sound.{is_name};
 ghost use Rattle.model.specs.Tenant.{Tenant};
 ghost use Rattle.model.specs.declared.limit.Limit.TheVariants as limits;
 ghost use Rattle.people_edit.specs.inner.Drawing.{FitsDrawn, HasRoom, IsDrawn, new_rules};
-ghost use Rattle.people_edit.specs.inner.Judging.{Passes};
+ghost use Rattle.store_edit.specs.Judging.{Passes};
 ghost use Rattle.store_abstraction.specs.Calls.{Calls, ended_edit, fell};
 ghost use Rattle.store_abstraction.specs.Fails.{of_store};
 ghost use Rattle.store_abstraction.specs.Local.{StandsIn};

@@ -7,7 +7,7 @@ ghost use Rattle.store_kv.specs.Draft.{DraftTells, tables_of};
 ghost use Rattle.model.specs.Membership.{is_below_within};
 ghost use Rattle.model.specs.Tenant.{Tenant};
 ghost use Rattle.people_edit.specs.inner.Changing.{above_in, bad_parent_id, is_bad_above, row_with};
-ghost use Rattle.people_edit.specs.inner.Judging.{Passes};
+ghost use Rattle.store_edit.specs.Judging.{Passes};
 ghost use Rattle.store_abstraction.specs.Calls.{Calls, ended_edit};
 ghost use Rattle.store_abstraction.specs.Local.{StandsIn};
 ghost use Rattle.store_abstraction.specs.Plan.{OrgPlan};

@@ -10,7 +10,7 @@ ghost use Rattle.model.specs.Principals.{bad_id, is_there, kind_of, not_there, p
 ghost use Rattle.model.specs.Rules.{first_of, over_limit};
 ghost use Rattle.model.specs.Tenant.{Tenant};
 ghost use Rattle.store_codec.specs.Composed.{FitsPrincipal};
-ghost use Rattle.people_edit.specs.inner.Judging.{Passes};
+ghost use Rattle.store_edit.specs.Judging.{Passes};
 ghost use Rattle.store_abstraction.specs.Calls.{Calls, ended, ended_edit, fell};
 ghost use Rattle.store_abstraction.specs.Local.{FindsIn, StandsIn};
 ghost use Rattle.store_abstraction.specs.Plan.{OrgPlan};

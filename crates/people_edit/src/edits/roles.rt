@@ -10,7 +10,7 @@ ghost use Rattle.model.specs.Rules.{first_refusal};
 ghost use Rattle.model.specs.Tenant.{Tenant};
 ghost use Rattle.model.specs.Verdict.{done, made_new};
 ghost use Rattle.people_edit.specs.inner.Changing.{IsChangedRole};
-ghost use Rattle.people_edit.specs.inner.Judging.{Passes};
+ghost use Rattle.store_edit.specs.Judging.{Passes};
 ghost use Rattle.store_abstraction.specs.Calls.{Calls, ended_edit};
 ghost use Rattle.store_abstraction.specs.Local.{StandsIn};
 ghost use Rattle.store_abstraction.specs.Plan.{OrgPlan};

@@ -10,7 +10,7 @@ ghost use Rattle.model.specs.Rules.{refuse_if};
 ghost use Rattle.model.specs.Tenant.{Tenant};
 ghost use Rattle.model.specs.World.{user_at};
 ghost use Rattle.people_edit.specs.inner.Changing.{IsRowAs, found};
-ghost use Rattle.people_edit.specs.inner.Judging.{Passes};
+ghost use Rattle.store_edit.specs.Judging.{Passes};
 ghost use Rattle.store_abstraction.specs.Calls.{Calls, ended_edit};
 ghost use Rattle.store_abstraction.specs.Local.{StandsIn};
 ghost use Rattle.store_abstraction.specs.Metadata.{group_of, role_of, user_of};

@@ -5,10 +5,10 @@ use Rattle.base_value.specs.Id.{id_in}
 use Rattle.base_value.specs.Printing.{day_of_moment}
 use Rattle.base_value.specs.declared.value.Value.{Value}
 use Rattle.base_value.specs.declared.value.Value.TheVariants as value
-use Rattle.formula_eval.specs.Meaning.{text_value}
-use Rattle.soql_ast.specs.declared.query.Literal.{Literal}
-use Rattle.soql_ast.specs.declared.query.Literal.TheVariants as literal
-use Rattle.soql_ast.specs.declared.query.Query.{Query}
+use Rattle.formula.specs.Meaning.{text_value}
+use Rattle.soql.specs.declared.query.Literal.{Literal}
+use Rattle.soql.specs.declared.query.Literal.TheVariants as literal
+use Rattle.soql.specs.declared.query.Query.{Query}
 use Rattle.model.specs.declared.record.Record.{Record}
 use Rattle.model.specs.Fields.{as_ref, value_in}
 use Rattle.model.specs.Paths.{Asked, field_value}

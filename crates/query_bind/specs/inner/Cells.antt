@@ -1,10 +1,10 @@
 -- Where the values of paths are that are selected.
 use Rattle.std.specs.Prelude.{◌≡◌, List, ◌++◌, Some}
-use Rattle.soql_ast.specs.declared.query.Path.{Path}
+use Rattle.soql.specs.declared.query.Path.{Path}
 use Rattle.model.specs.declared.record.Record.{Record}
 use Rattle.model.specs.Paths.{path_value}
 use Rattle.store_abstraction.specs.declared.layout.Layout.{Layout}
-use Rattle.query_paths.specs.declared.branches.Branch.{Branch}
+use Rattle.query_plan.specs.declared.paths.branches.Branch.{Branch}
 use Rattle.query_plan.specs.Checks.{spot_value}
 use Rattle.query_plan.specs.declared.check.Spot.{Spot}
 use Rattle.query_check.specs.declared.columns.Column.{Column}

@@ -1,11 +1,11 @@
 -- Keys whose paths are bound.
 use Rattle.std.specs.Prelude.{◌≡◌, List, [], ◌∷◌, ◌++◌, Some}
-use Rattle.soql_ast.specs.declared.query.OrderKey.{OrderKey}
+use Rattle.soql.specs.declared.query.OrderKey.{OrderKey}
 use Rattle.model.specs.declared.record.Record.{Record}
 use Rattle.model.specs.Ordered.{key_cmp}
 use Rattle.model.specs.Paths.{path_value}
 use Rattle.store_abstraction.specs.declared.layout.Layout.{Layout}
-use Rattle.query_paths.specs.declared.branches.Branch.{Branch}
+use Rattle.query_plan.specs.declared.paths.branches.Branch.{Branch}
 use Rattle.query_check.specs.declared.columns.Column.{Column}
 use Rattle.query_plan.specs.declared.plan.SortKey.{SortKey}
 use Rattle.query_plan.specs.Checks.{spot_value}

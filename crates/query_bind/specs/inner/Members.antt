@@ -1,16 +1,16 @@
 -- What is shown of records by paths.
 use Rattle.std.specs.Prelude.{◌≡◌, ℕ, Bool, List, [], ◌∷◌, ◌++◌, map, Option, Some, is_some}
 use Rattle.std.specs.List.{AllByRecursion, flat_map}
-use Rattle.soql_ast.specs.declared.query.Item.TheVariants as item
-use Rattle.soql_ast.specs.declared.query.Path.{Path}
+use Rattle.soql.specs.declared.query.Item.TheVariants as item
+use Rattle.soql.specs.declared.query.Path.{Path}
 use Rattle.model.specs.declared.record.Record.{Record}
 use Rattle.model.specs.Cases.{in_case, with_before}
 use Rattle.model.specs.RowsJson.{behind_relationship, item_member, member_json, parent_json, parent_relationship, row_within}
 use Rattle.store_abstraction.specs.Layouts.{own_layouts}
 use Rattle.store_abstraction.specs.declared.layout.Layout.{Layout}
-use Rattle.query_paths.specs.Branches.{record_above}
-use Rattle.query_paths.specs.declared.branches.Branch.{Branch}
-use Rattle.query_paths.specs.declared.branches.Place.{Place}
+use Rattle.query_plan.specs.paths.Branches.{record_above}
+use Rattle.query_plan.specs.declared.paths.branches.Branch.{Branch}
+use Rattle.query_plan.specs.declared.paths.branches.Place.{Place}
 use Rattle.query_plan.specs.declared.check.Site.TheVariants as site
 use Rattle.query_check.specs.declared.columns.Column.{Column}
 use Rattle.query_plan.specs.declared.plan.Member.{Member}

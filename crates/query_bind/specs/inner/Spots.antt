@@ -13,8 +13,8 @@ use Rattle.store_abstraction.specs.Layouts.{IsLayout, own_layouts}
 use Rattle.store_abstraction.specs.Plan.{OrgPlan}
 use Rattle.store_abstraction.specs.declared.layout.Layout.{Layout}
 use Rattle.model_step.specs.Flat.{has_one_name}
-use Rattle.query_paths.specs.Branches.{branch_records}
-use Rattle.query_paths.specs.declared.branches.Branch.{Branch}
+use Rattle.query_plan.specs.paths.Branches.{branch_records}
+use Rattle.query_plan.specs.declared.paths.branches.Branch.{Branch}
 use Rattle.query_plan.specs.declared.check.Site.{Site}
 use Rattle.query_plan.specs.declared.check.Site.TheVariants as site
 use Rattle.query_check.specs.declared.columns.Column.{Column}

@@ -2,16 +2,16 @@
 use Rattle.std.specs.Prelude.{◌≡◌, List, ◌++◌, Option, Some, ℤ}
 use Rattle.std.specs.List.{AllByRecursion}
 use Rattle.base_value.specs.Printing.{day_of_moment}
-use Rattle.soql_ast.specs.declared.query.Cond.{Cond}
-use Rattle.soql_ast.specs.declared.query.OrderKey.{OrderKey}
-use Rattle.soql_ast.specs.declared.query.Tail.{Tail}
+use Rattle.soql.specs.declared.query.Cond.{Cond}
+use Rattle.soql.specs.declared.query.OrderKey.{OrderKey}
+use Rattle.soql.specs.declared.query.Tail.{Tail}
 use Rattle.model.specs.declared.record.Record.{Record}
 use Rattle.model.specs.Conditions.{holds, satisfies}
 use Rattle.model.specs.Ordered.{before}
 use Rattle.model.specs.Tests as model
 use Rattle.model.specs.Tests.{tests_of}
 use Rattle.store_abstraction.specs.declared.layout.Layout.{Layout}
-use Rattle.query_paths.specs.declared.branches.Branch.{Branch}
+use Rattle.query_plan.specs.declared.paths.branches.Branch.{Branch}
 use Rattle.query_plan.specs.declared.check.Check.{Check}
 use Rattle.query_bind.specs.declared.choosing.BoundTail.{BoundTail}
 use Rattle.query_check.specs.declared.columns.Column.{Column}

@@ -3,13 +3,13 @@ use Rattle.std.specs.Prelude.{ℕ, if◌then◌else◌, List, [], ◌∷◌, ◌
 use Rattle.std.specs.List.{list_any}
 use Rattle.std.specs.Option.{option_and_then}
 use Rattle.std.specs.Str.{chars}
-use Rattle.soql_ast.specs.declared.query.Item.{Item}
-use Rattle.soql_ast.specs.declared.query.Item.TheVariants as item
+use Rattle.soql.specs.declared.query.Item.{Item}
+use Rattle.soql.specs.declared.query.Item.TheVariants as item
 use Rattle.model.specs.Cases.{in_case}
 use Rattle.model.specs.Fields.{is_master, same_name}
 use Rattle.store_abstraction.specs.declared.layout.FieldPlace.{FieldPlace}
 use Rattle.store_abstraction.specs.declared.layout.Layout.{Layout}
-use Rattle.query_paths.specs.ByLayout.{parent_from}
+use Rattle.query_plan.specs.paths.ByLayout.{parent_from}
 use Rattle.query_check.specs.Ways.{layout_at}
 use Rattle.query_bind.specs.Names.{relationship_name}
 

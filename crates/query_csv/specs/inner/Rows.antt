@@ -11,15 +11,15 @@ use Rattle.access_traits.specs.Rights.{Whose}
 use Rattle.store_abstraction.specs.Layouts.{own_layouts}
 use Rattle.store_abstraction.specs.Plan.{OrgPlan}
 use Rattle.store_abstraction.specs.declared.layout.Layout.{Layout}
-use Rattle.query_paths.specs.Branches.{branch_records}
-use Rattle.query_paths.specs.declared.branches.Branch.{Branch}
+use Rattle.query_plan.specs.paths.Branches.{branch_records}
+use Rattle.query_plan.specs.declared.paths.branches.Branch.{Branch}
 use Rattle.query_plan.specs.Checks.{spot_value}
 use Rattle.query_plan.specs.declared.check.Spot.{Spot}
 use Rattle.query_bind.specs.declared.cells.CellPlan.{CellPlan}
 use Rattle.query_exec.specs.Relatives.{by_parents}
 use Rattle.query_exec.specs.Written.{InTenants}
-use Rattle.query_row_json.specs.Shows.{or_null}
-use Rattle.query_reply.specs.Planned.{Parents, choice_rows}
+use Rattle.query_json.specs.row.Shows.{or_null}
+use Rattle.query_json.specs.Planned.{Parents, choice_rows}
 use Rattle.query_csv.specs.Lines.{line}
 
 -- the text of a value that can be printed, of a row's record and the records of its branches

@@ -8,7 +8,7 @@ use Rattle.model.specs.Levels.{readable}
 use Rattle.model.specs.Paths.{Asked}
 use Rattle.model.specs.Rows.{readable_of}
 use Rattle.model.specs.Tenant.{Tenant, User}
-use Rattle.query_paths.specs.declared.children.ChildStep.{ChildStep}
+use Rattle.query_plan.specs.declared.paths.children.ChildStep.{ChildStep}
 
 -- those of an object's records that the user may read and that refer to a record by the field with this number
 abbrev pub readable_referring : Tenant → User → (object field : ℕ) → (id : List ℕ) → List Record

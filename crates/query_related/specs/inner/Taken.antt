@@ -10,8 +10,8 @@ use Rattle.store_rows.specs.declared.fail.StoreFail.TheVariants.{Damaged, Keeper
 use Rattle.model.specs.declared.record.Record.{Record}
 use Rattle.model.specs.Membership.{Has}
 use Rattle.model.specs.Paths.{Asked}
-use Rattle.query_order.specs.Ranks.{rank_by}
-use Rattle.query_order.specs.declared.ranks.Rank.{Rank}
+use Rattle.query_plan.specs.order.Ranks.{rank_by}
+use Rattle.query_plan.specs.declared.order.ranks.Rank.{Rank}
 use Rattle.access_traits.specs.Rights.{Whose}
 use Rattle.store_abstraction.specs.declared.layout.Layout.{Layout}
 use Rattle.query_related.specs.Children.{OfAsked}

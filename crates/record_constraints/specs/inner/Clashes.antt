@@ -2,7 +2,7 @@
 use Rattle.std.specs.Prelude.{ℕ, ◌+◌, Bool, not, ◌&&◌, if◌then◌else◌, List, map, filter, drop, bytes_eq, Option, Some, None, slice_get, Result, Ok, Err}
 use Rattle.std.specs.List.{enumerate_from, find}
 use Rattle.std.specs.Option.{option_and_then, option_map}
-use Rattle.formula_eval.specs.Meaning.{value_at}
+use Rattle.formula.specs.Meaning.{value_at}
 use Rattle.store_rows.specs.declared.fail.StoreFail.{StoreFail}
 use Rattle.store_rows.specs.declared.unique.UniqueRow.{UniqueRow}
 use Rattle.model.specs.declared.record.Record.{Record}

@@ -7,7 +7,7 @@ use Rattle.model.specs.Deletes.{is_cleared}
 use Rattle.model.specs.Fields.{ref_of}
 use Rattle.store_abstraction.specs.declared.layout.FieldPlace.{FieldPlace}
 use Rattle.store_abstraction.specs.declared.layout.Layout.{Layout}
-use Rattle.record_diff.specs.Touched.{has}
+use Rattle.record_index.specs.diff.Touched.{has}
 use Rattle.base_value.specs.declared.value.Value.{Value}
 use Rattle.base_value.specs.declared.value.Value.TheVariants as value
 

@@ -1,7 +1,7 @@
 -- What a record keeps when its values change, by the layout of its object.
 use Rattle.std.specs.Prelude.{suc, not, ◌&&◌, List, [], ◌∷◌, None, is_none, slice_get}
 use Rattle.std.specs.List.{enumerate_from, find}
-use Rattle.formula_eval.specs.Meaning.{value_at}
+use Rattle.formula.specs.Meaning.{value_at}
 use Rattle.model.specs.Cases.{in_case}
 use Rattle.model.specs.Fields.{is_master}
 use Rattle.model.specs.Rules.{Rule, refuse_if}

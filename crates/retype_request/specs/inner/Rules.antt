@@ -1,7 +1,7 @@
 -- FIELD_IN_USE, by the rows of rules and the layout of their object. No public contract reaches these words.
 -- It is this product's own.
 use Rattle.std.specs.Prelude.{ℕ, Bool, true, false, ◌&&◌, ◌==◌, List, [], ◌∷◌, Some}
-use Rattle.access_rule_rows.specs.SharingRules.{sharing_rows}
+use Rattle.people_rows.specs.sharing.SharingRules.{sharing_rows}
 use Rattle.store_rows.specs.declared.sharing.SharingRow.{SharingRow}
 use Rattle.store_rows.specs.declared.validation.ValidationRow.{ValidationRow}
 use Rattle.model.specs.declared.refusal.Refusal.TheVariants.{FieldInUse}

@@ -6,7 +6,7 @@ use Rattle.retype_step.specs.Background.{IsUnderWay}
 use Rattle.record_read.specs.Decoding.{each_from, has_types, record_from}
 use Rattle.store_edit.specs.Edits.{Takes}
 use Rattle.store_edit.specs.Rows.{AreFew, AreOf, AreSpelled}
-use Rattle.formula_eval.specs.Meaning.{value_at}
+use Rattle.formula.specs.Meaning.{value_at}
 use Rattle.store_kv.specs.Draft.{DraftReads, Held, removals_of}
 use Rattle.store_kv.specs.State.{KeeperState, data_table}
 use Rattle.store_kv.specs.declared.keeper.Change.{Change as Spelled}
@@ -23,7 +23,7 @@ use Rattle.model.specs.Verdict.{accept, done}
 use Rattle.model.specs.declared.record.Record.{Record}
 use Rattle.store_codec.specs.Plain.{FitsText}
 use Rattle.record_index.specs.Turned.{converts}
-use Rattle.retype_backfill.specs.Progress.{page_changes}
+use Rattle.retype_step.specs.backfill.Progress.{page_changes}
 use Rattle.store_abstraction.specs.Calls.{Calls, ended}
 use Rattle.store_abstraction.specs.Changes.{Change}
 use Rattle.store_abstraction.specs.Plan.{OrgPlan}

@@ -6,7 +6,7 @@ use Rattle.std.specs.Prelude.{◌≡◌, ◌&&◌, ℕ, ◌+◌, suc, Bool, IsTr
 use Rattle.std.specs.List.{list_any}
 use Rattle.store_edit.specs.Edits.{FailsBy}
 use Rattle.store_edit.specs.Rows.{change_to}
-use Rattle.formula_eval.specs.declared.formula.Formula.{Formula}
+use Rattle.formula.specs.declared.formula.Formula.{Formula}
 use Rattle.store_rows.specs.declared.object.ObjectRow.{ObjectRow}
 use Rattle.store_rows.specs.Forms.{FitsForm}
 use Rattle.store_rows.specs.Rows.{object_form, validation_form}

@@ -29,7 +29,11 @@ fn has_master(fields: &[FieldPlace]) -> bool
 /// # Errors
 ///
 /// `Refused` as the verdict says, `Store` with `Memory` if out of memory.
-pub fn judge_access(alloc: Global, layout: &Option<Layout>, object: &str) -> Result<u16, EditFail>
+pub(crate) fn judge_access(
+    alloc: Global,
+    layout: &Option<Layout>,
+    object: &str,
+) -> Result<u16, EditFail>
     ensures accepts { (t : Tenant) (access : Access) → IsNamedLayout t (chars object.now) layout.now
         → AcceptsOn t (chars object.now) (set_access t (chars object.now) access) result }
     ensures cause { ended_edit result ≡ fell → ⊥ }

@@ -39,7 +39,10 @@ fn child_of(kind: &SpelledType) -> Option<&Text>
 /// # Errors
 ///
 /// The name of the object, if there is none with it.
-pub fn target_number<'a>(layouts: &[Layout], kind: &'a SpelledType) -> Result<Option<u16>, &'a Text>
+pub(crate) fn target_number<'a>(
+    layouts: &[Layout],
+    kind: &'a SpelledType,
+) -> Result<Option<u16>, &'a Text>
     ensures { MatchResult result (λ target. target_in layouts.now kind.now ≡ Ok target)
         (λ name. target_in layouts.now kind.now ≡ Err name.now) }
 {
@@ -261,7 +264,7 @@ fn judge_names(alloc: Global, names: &Names<'_>) -> Result<Option<Refusal>, Allo
 /// # Errors
 ///
 /// When out of memory.
-pub fn judge_field(
+pub(crate) fn judge_field(
     alloc: Global,
     layouts: &[Layout],
     new: &NewField,

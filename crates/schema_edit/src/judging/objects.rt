@@ -191,7 +191,7 @@ pub fn bad_form(alloc: Global, new: &NewObject) -> Result<Option<Refusal>, Alloc
 /// # Errors
 ///
 /// When out of memory.
-pub fn judge_object(
+pub(crate) fn judge_object(
     alloc: Global,
     layouts: &[Layout],
     new: &NewObject,

@@ -16,7 +16,7 @@ ghost use Rattle.schema_rules.specs.Objects.{object_of_layout};
 use crate::rules::{bad_name, name_taken};
 use base_grammar::ParseFail;
 use base_value::Phase;
-use formula_eval::Formula;
+use formula::Formula;
 use model::{Limit, NewValidationRule, Refusal, is_stem};
 use schema_rules::{names_field, read_formula};
 use std::alloc::{AllocError, Global};
@@ -89,7 +89,7 @@ fn bad_formula(alloc: Global, layout: &Layout, text: &str) -> Result<Option<Refu
 /// # Errors
 ///
 /// `Damaged` if the layout has more fields than an object may have, `Memory` if out of memory.
-pub fn judge_rule(
+pub(crate) fn judge_rule(
     alloc: Global,
     layout: &Layout,
     is_taken: bool,

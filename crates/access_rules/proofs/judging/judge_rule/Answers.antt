@@ -4,7 +4,7 @@ use Rattle.model.specs.Rules.{first_refusal}
 use Rattle.store_abstraction.specs.Local.{StandsIn}
 use Rattle.access_rules.specs.inner.Adding.{rules_by}
 use Rattle.access_rules.proofs.NewRules.{formula_fails, ids_fail, name_fails, none_fails, object_fails, room_fails, taken_fails, there_fails}
-use Rattle.access_rules.proofs.StepByStep.{passed_on}
+use Rattle.store_edit.proofs.StepByStep.{passed_on}
 use Rattle.access_rules.proofs.judging.judge_rule.Goals as goal
 
 pub returns-in_err-check_object-clause-passes : goal.returns-in_err-check_object-clause-passes

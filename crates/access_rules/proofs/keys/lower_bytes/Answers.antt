@@ -3,9 +3,10 @@ use Rattle.std.specs.Char.{encode_utf8}
 use Rattle.std.specs.Str.{IsUtf8, chars, encode_utf8_all}
 use Rattle.std.specs.String.{string_bytes}
 use Rattle.std.proofs.lemmas.List.{take_all}
+use Rattle.base_lemmas.proofs.Results.{IfOk-same as if_ok}
 use Rattle.store_abstraction.specs.Metadata.{lower_bytes}
 use Rattle.base_value.specs.Texts.{lower}
-use Rattle.access_rules.proofs.RuleTexts.{if_ok, lower_more, on_ok}
+use Rattle.access_rules.proofs.RuleTexts.{lower_more, on_ok}
 use Rattle.access_rules.proofs.keys.lower_bytes.Goals as goal
 
 pub loop-c-preserved : goal.loop-c-preserved

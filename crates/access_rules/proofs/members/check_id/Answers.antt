@@ -4,7 +4,7 @@ use Rattle.model.specs.declared.sharing_bodies.SpelledSource.{SpelledSource}
 use Rattle.model.specs.Principals.{bad_id}
 use Rattle.model.specs.Rules.{Rule}
 use Rattle.model.specs.SharingRules.{source_owner}
-use Rattle.access_rules.specs.inner.Judging.{Passes}
+use Rattle.store_edit.specs.Judging.{Passes}
 use Rattle.access_rules.proofs.SpelledOnes.{at_from, at_none, at_to, is_from, is_to}
 use Rattle.access_rules.proofs.members.check_id.Goals as goal
 

@@ -2,7 +2,7 @@ use Rattle.std.proofs.Common.{◌∙◌, sym}
 use Rattle.model.specs.Rules.{first_of, rule_of}
 use Rattle.access_rules.specs.inner.Adding.{id_rules}
 use Rattle.access_rules.proofs.InTurn.{none_left, this_fails, this_passes}
-use Rattle.access_rules.proofs.StepByStep.{passed_on}
+use Rattle.store_edit.proofs.StepByStep.{passed_on}
 use Rattle.access_rules.proofs.members.check_ids.Goals as goal
 
 pub loop-member-preserved : goal.loop-member-preserved

@@ -5,7 +5,7 @@ use Rattle.model.specs.Principals.{not_there, principal_of}
 use Rattle.model.specs.Rules.{Rule}
 use Rattle.model.specs.SharingRules.{source_owner}
 use Rattle.model.specs.Tenant.{Tenant}
-use Rattle.access_rules.specs.inner.Judging.{Passes}
+use Rattle.store_edit.specs.Judging.{Passes}
 use Rattle.access_rules.proofs.SpelledOnes.{at_from, at_none, at_to, from_text, is_from, is_to, to_text}
 use Rattle.access_rules.proofs.members.find_principal.Goals as goal
 

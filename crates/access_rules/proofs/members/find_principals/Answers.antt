@@ -5,7 +5,7 @@ use Rattle.store_abstraction.specs.Calls.{done}
 use Rattle.store_abstraction.specs.Local.{StandsIn}
 use Rattle.access_rules.specs.inner.Adding.{there_rules}
 use Rattle.access_rules.proofs.InTurn.{none_left, this_fails, this_passes}
-use Rattle.access_rules.proofs.StepByStep.{passed_on}
+use Rattle.store_edit.proofs.StepByStep.{passed_on}
 use Rattle.access_rules.proofs.members.find_principals.Goals as goal
 
 pub loop-member-preserved : goal.loop-member-preserved

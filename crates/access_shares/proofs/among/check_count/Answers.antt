@@ -1,7 +1,7 @@
 use Rattle.std.proofs.Common.{[], ◌∷◌, ℕ, subst}
 use Rattle.model.specs.declared.limit.Limit.TheVariants as limit
 use Rattle.model.specs.Rules.{over_limit}
-use Rattle.people_edit.specs.inner.Judging.{Passes}
+use Rattle.store_edit.specs.Judging.{Passes}
 use Rattle.access_shares.proofs.Counting.{room_is}
 use Rattle.access_shares.proofs.among.check_count.Goals as goal
 

@@ -1,7 +1,7 @@
 use Rattle.std.proofs.Common.{Some, subst}
 use Rattle.store_kv.specs.Draft.{tables_of}
 use Rattle.model.specs.Rules.{Rule}
-use Rattle.people_edit.specs.inner.Judging.{Passes}
+use Rattle.store_edit.specs.Judging.{Passes}
 use Rattle.access_shares.proofs.Readable.{detail_by_row, row_failed}
 use Rattle.access_shares.proofs.shareable.check_detail.Goals as goal
 

@@ -1,8 +1,8 @@
 use Rattle.std.proofs.Common.{◌≡◌, ◌∙◌, ℕ, List, None, subst, sym}
 use Rattle.model.specs.Rules.{in_body_order, rule_of}
-use Rattle.people_edit.proofs.Judging.{passed_on}
+use Rattle.store_edit.proofs.StepByStep.{passed_on}
 use Rattle.people_edit.proofs.Members.{none_left, this_fails, this_passes}
-use Rattle.people_edit.specs.inner.Judging.{FailsRule}
+use Rattle.store_edit.specs.Judging.{FailsRule}
 use Rattle.access_shares.specs.inner.Finding.{member_rules}
 use Rattle.access_shares.proofs.texts.check_texts.Goals as goal
 

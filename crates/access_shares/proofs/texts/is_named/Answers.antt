@@ -1,5 +1,5 @@
 use Rattle.std.proofs.Common.{◌∙◌}
-use Rattle.access_shares.proofs.MemberNames.{same_member}
+use Rattle.base_lemmas.proofs.Texts.{bytes_eq-chars as same_member}
 use Rattle.access_shares.proofs.texts.is_named.Goals as goal
 
 pub returns : goal.returns

@@ -1,5 +1,6 @@
-use Rattle.std.proofs.Common.{◌≡◌, ◌≤◌, true, false, List, arith, length, subst}
+use Rattle.std.proofs.Common.{◌≤◌, true, List, arith, length, subst}
 use Rattle.std.specs.Prelude.{Ok, Err}
+use Rattle.std.proofs.lemmas.Bool.{true≢false as always}
 use Rattle.store_kv.specs.Draft.{tables_of}
 use Rattle.base_value.specs.declared.sharing.Level.TheVariants.{Full}
 use Rattle.access_user.specs.declared.sight.UserSight.{UserSight}
@@ -10,9 +11,6 @@ use Rattle.access_user.proofs.Climbed.{judged, may_step}
 use Rattle.access_user.proofs.Judged.{judged_failed, makes}
 use Rattle.access_user.proofs.Stepping.{MayStep, at_most, failed}
 use Rattle.access_user.proofs.climbing.level_of.Goals as goal
-
-always : true ≡ false → ⊥
-always e = cc
 
 pub returns-in-Ok-own_at_end-clause-finds : goal.returns-in-Ok-own_at_end-clause-finds
 returns-in-Ok-own_at_end-clause-finds g c told =

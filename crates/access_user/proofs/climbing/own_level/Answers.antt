@@ -1,5 +1,5 @@
 use Rattle.std.proofs.Common.{ap, ◌∙◌}
-use Rattle.access_level.specs.Own.{up_to}
+use Rattle.access_user.specs.level.Own.{up_to}
 use Rattle.access_user.proofs.Granted.{sharer_of}
 use Rattle.access_user.proofs.Judged.{object_is}
 use Rattle.access_user.proofs.climbing.own_level.Goals as goal

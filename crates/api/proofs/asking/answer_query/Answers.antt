@@ -3,11 +3,11 @@ use Rattle.std.proofs.lemmas.Int.{to_z-of_z}
 use Rattle.std.specs.Prelude.{FitsSigned}
 use Rattle.base_grammar.specs.Place.{UnlessMemory}
 use Rattle.base_grammar.specs.declared.fail.ParseFail.{ParseFail}
-use Rattle.soql_ast.specs.declared.query.Query.{Query}
+use Rattle.soql.specs.declared.query.Query.{Query}
 use Rattle.model.specs.RequestOf.{query_or, verdict_or}
 use Rattle.model.specs.declared.refusal.Refusal.TheVariants.{MalformedQuery}
 use Rattle.model.specs.Step.{query_text}
-use Rattle.soql_grammar.specs.Spelling.{reads_query}
+use Rattle.soql.specs.grammar.Spelling.{reads_query}
 use Rattle.store_kv.specs.Draft.{removals_of}
 use Rattle.store_kv.specs.State.{data_table}
 use Rattle.store_abstraction.specs.Calls.{Calls, ended}

@@ -1,6 +1,6 @@
 use Rattle.std.proofs.Common.{◌≡◌, ℕ, List, subst, ◌∙◌}
 use Rattle.base_grammar.specs.Place.{UnlessMemory}
-use Rattle.soql_grammar.specs.Spelling.{reads_query}
+use Rattle.soql.specs.grammar.Spelling.{reads_query}
 use Rattle.api.proofs.asking.query_in.Goals as goal
 
 pub returns : goal.returns

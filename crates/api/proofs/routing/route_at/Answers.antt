@@ -2,7 +2,7 @@ use Rattle.std.proofs.Common.{ℕ, List, map, drop, ap, sym, ◌∙◌, subst}
 use Rattle.std.specs.Str.{chars}
 use Rattle.model.specs.declared.routed.Routed.TheVariants.{To}
 use Rattle.model.specs.Routing.{part}
-use Rattle.api_router_laws.specs.Cuts.{AllUtf8}
+use Rattle.api.specs.router.Cuts.{AllUtf8}
 use Rattle.api.specs.inner.Kinds.{routed_at}
 use Rattle.api.specs.inner.Places.{taken}
 use Rattle.api.proofs.Finding.{made-same}

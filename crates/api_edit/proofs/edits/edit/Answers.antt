@@ -1,4 +1,5 @@
 use Rattle.std.proofs.Common.{List, ℕ, ap, arith, refl, subst, sym}
+use Rattle.base_lemmas.proofs.Results.{err_from_parts as returned}
 use Rattle.store_kv.specs.Draft.{tables_of}
 use Rattle.model.specs.Metadata.{set_access}
 use Rattle.model.specs.RequestOf.{request_of, verdict_or}
@@ -8,7 +9,7 @@ use Rattle.model.specs.declared.route.Route.TheVariants.{AddField, AddGroup, Add
 use Rattle.api_edit.specs.Administration.{AsksWith}
 use Rattle.api_edit.specs.declared.answer.Answer.TheVariants as answer
 use Rattle.api_edit.specs.inner.Edits.{Anyone, EditsFrom, HasRights}
-use Rattle.api_edit.proofs.Asked.{answers_none, answers_so, drafts_seen, edits_asked, edits_asked_so, edits_none, fit, none_drafts, returned}
+use Rattle.api_edit.proofs.Asked.{answers_none, answers_so, drafts_seen, edits_asked, edits_asked_so, edits_none, fit, none_drafts}
 use Rattle.api_edit.proofs.edits.edit.Goals as goal
 
 -- ---- no edit

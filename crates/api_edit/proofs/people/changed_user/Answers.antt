@@ -1,5 +1,6 @@
 use Rattle.std.proofs.Common.{◌∙◌, List, Option, ℕ, arith, ap, refl}
 use Rattle.std.specs.Option.{option_copied}
+use Rattle.base_lemmas.proofs.Results.{err_from_parts as returned}
 use Rattle.store_kv.specs.Draft.{tables_of}
 use Rattle.api_input.specs.Bodies.{sets_user_role}
 use Rattle.model.specs.People.{set_user}
@@ -8,7 +9,7 @@ use Rattle.model.specs.Verdict.{done}
 use Rattle.model.specs.declared.route.Route.TheVariants.{SetUser}
 use Rattle.api_edit.specs.declared.answer.Answer.TheVariants as answer
 use Rattle.api_edit.specs.inner.Edits.{Anyone}
-use Rattle.api_edit.proofs.Asked.{answers_none, answers_so, drafts_seen, edits_asked, edits_none, none_drafts, returned}
+use Rattle.api_edit.proofs.Asked.{answers_none, answers_so, drafts_seen, edits_asked, edits_none, none_drafts}
 use Rattle.api_edit.proofs.people.changed_user.Goals as goal
 
 -- ---- a body of another form

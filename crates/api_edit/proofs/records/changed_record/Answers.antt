@@ -1,6 +1,7 @@
 use Rattle.std.proofs.Common.{◌≡◌, ◌∙◌, List, ap, arith, of_z, pos, refl, rules, subst, sym, to_z, w64}
 use Rattle.std.proofs.lemmas.Int.{to_z-of_z}
 use Rattle.std.specs.Prelude.{Err, FitsSigned, Ok}
+use Rattle.base_lemmas.proofs.Results.{err_from_parts as returned}
 use Rattle.record_input.specs.Given.{IsInJson}
 use Rattle.store_kv.specs.Draft.{tables_of}
 use Rattle.model.specs.RequestOf.{request_of}
@@ -12,7 +13,7 @@ use Rattle.model.specs.declared.route.Route.TheVariants.{Update}
 use Rattle.model_invariant.specs.Fit.{ReadsWell}
 use Rattle.api_edit.specs.Administration.{AsksWith}
 use Rattle.api_edit.specs.declared.answer.Answer.TheVariants as answer
-use Rattle.api_edit.proofs.Asked.{answers_none, answers_so, asks_other, drafts_seen, edits_asked, edits_none, fit, none_drafts, returned}
+use Rattle.api_edit.proofs.Asked.{answers_none, answers_so, asks_other, drafts_seen, edits_asked, edits_none, fit, none_drafts}
 use Rattle.api_edit.proofs.Giving.{giving}
 use Rattle.api_edit.proofs.records.changed_record.Goals as goal
 

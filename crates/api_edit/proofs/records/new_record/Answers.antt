@@ -1,6 +1,7 @@
 use Rattle.std.proofs.Common.{◌≡◌, ◌∙◌, List, ap, arith, of_z, pos, refl, rules, to_z, w64}
 use Rattle.std.proofs.lemmas.Int.{to_z-of_z}
 use Rattle.std.specs.Prelude.{Err, FitsSigned, Ok}
+use Rattle.base_lemmas.proofs.Results.{err_from_parts as returned}
 use Rattle.store_kv.specs.Draft.{tables_of}
 use Rattle.model.specs.Creates.{create}
 use Rattle.model.specs.RequestOf.{request_of}
@@ -11,7 +12,7 @@ use Rattle.model.specs.declared.route.Route.TheVariants.{Create}
 use Rattle.record_save.specs.Creating.{ReadsFound}
 use Rattle.api_edit.specs.Administration.{AsksWith}
 use Rattle.api_edit.specs.declared.answer.Answer.TheVariants as answer
-use Rattle.api_edit.proofs.Asked.{answers_none, answers_so, asks_new, drafts_seen, edits_asked, edits_none, fit, none_drafts, returned}
+use Rattle.api_edit.proofs.Asked.{answers_none, answers_so, asks_new, drafts_seen, edits_asked, edits_none, fit, none_drafts}
 use Rattle.api_edit.proofs.Giving.{giving, reads_found}
 use Rattle.api_edit.proofs.records.new_record.Goals as goal
 

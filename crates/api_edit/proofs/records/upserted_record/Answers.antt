@@ -1,6 +1,7 @@
 use Rattle.std.proofs.Common.{◌≡◌, ◌∙◌, List, Option, ap, arith, of_z, pos, ℕ, refl, rules, sym, to_z, w64}
 use Rattle.std.proofs.lemmas.Int.{to_z-of_z}
 use Rattle.std.specs.Prelude.{Err, FitsSigned, Ok}
+use Rattle.base_lemmas.proofs.Results.{err_from_parts as returned}
 use Rattle.store_kv.specs.Draft.{tables_of}
 use Rattle.model.specs.Upserts.{upsert}
 use Rattle.model.specs.RequestOf.{request_of, value_part}
@@ -8,10 +9,10 @@ use Rattle.model.specs.Requests.{upserts}
 use Rattle.model.specs.Verdict.{upserted}
 use Rattle.model.specs.declared.record_bodies.Assignment.{Assignment}
 use Rattle.model.specs.declared.route.Route.TheVariants.{Upsert}
-use Rattle.record_upsert.specs.Upserting.{ReadsFoundByKey}
+use Rattle.record_save.specs.upsert.Upserting.{ReadsFoundByKey}
 use Rattle.api_edit.specs.Administration.{AsksWith}
 use Rattle.api_edit.specs.inner.Edits.{as_upserted}
-use Rattle.api_edit.proofs.Asked.{answers_none, answers_so, asks_upsert, drafts_seen, edits_asked, edits_none, fit, none_drafts, returned}
+use Rattle.api_edit.proofs.Asked.{answers_none, answers_so, asks_upsert, drafts_seen, edits_asked, edits_none, fit, none_drafts}
 use Rattle.api_edit.proofs.Giving.{giving, reads_found_by_key}
 use Rattle.api_edit.proofs.records.upserted_record.Goals as goal
 

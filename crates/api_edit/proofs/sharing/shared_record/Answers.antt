@@ -1,4 +1,5 @@
 use Rattle.std.proofs.Common.{arith, refl}
+use Rattle.base_lemmas.proofs.Results.{err_from_parts as returned}
 use Rattle.store_kv.specs.Draft.{tables_of}
 use Rattle.model.specs.RequestOf.{request_of}
 use Rattle.model.specs.Requests.{shares}
@@ -6,7 +7,7 @@ use Rattle.model.specs.Verdict.{done}
 use Rattle.model.specs.declared.route.Route.TheVariants.{Share}
 use Rattle.api_edit.specs.declared.answer.Answer.TheVariants as answer
 use Rattle.api_edit.specs.inner.Edits.{HasRights}
-use Rattle.api_edit.proofs.Asked.{answers_none, answers_so, drafts_seen, edits_asked, edits_none, fit, none_drafts, returned}
+use Rattle.api_edit.proofs.Asked.{answers_none, answers_so, drafts_seen, edits_asked, edits_none, fit, none_drafts}
 use Rattle.api_edit.proofs.sharing.shared_record.Goals as goal
 
 -- ---- a body of another form

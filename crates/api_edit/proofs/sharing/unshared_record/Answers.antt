@@ -1,5 +1,6 @@
 use Rattle.std.proofs.Common.{◌∙◌, List, Result, ap, arith, refl, subst, sym, ℕ}
 use Rattle.std.specs.Option.{option_copied}
+use Rattle.base_lemmas.proofs.Results.{err_from_parts as returned}
 use Rattle.store_edit.specs.Edits.{DraftsEdit}
 use Rattle.store_kv.specs.Draft.{tables_of}
 use Rattle.store_rows.specs.declared.fail.StoreFail.TheVariants.{Memory}
@@ -16,7 +17,7 @@ use Rattle.model_step.specs.Own.{edit_shown, request_changes, request_gone}
 use Rattle.api_edit.specs.declared.answer.Answer.{Answer}
 use Rattle.api_edit.specs.declared.answer.Answer.TheVariants as answer
 use Rattle.api_edit.specs.inner.Edits.{EditsFrom, HasRights}
-use Rattle.api_edit.proofs.Asked.{answers_none, answers_so, asks_no_share, drafts_seen, edits_asked, edits_memory, memory_drafts, returned}
+use Rattle.api_edit.proofs.Asked.{answers_none, answers_so, asks_no_share, drafts_seen, edits_asked, edits_memory, memory_drafts}
 use Rattle.api_edit.proofs.sharing.unshared_record.Goals as goal
 
 -- ---- out of memory

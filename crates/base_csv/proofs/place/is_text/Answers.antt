@@ -1,7 +1,7 @@
 use Rattle.std.proofs.Common.{sym}
 use Rattle.std.specs.Str.{is_utf8}
 use Rattle.std.proofs.lemmas.Str.{IsUtf8-from_is_utf8, is_utf8-from_IsUtf8}
-use Rattle.base_csv.proofs.Cells.{not_text}
+use Rattle.std.proofs.lemmas.Bool.{false_from_ne_true as not_text}
 use Rattle.base_csv.proofs.place.is_text.Goals as goal
 
 pub returns-in-Ok : goal.returns-in-Ok

@@ -3,7 +3,7 @@ use Rattle.std.proofs.lemmas.List.{take_all}
 use Rattle.std.proofs.lemmas.Str.{IsUtf8-string_bytes, chars_from_encodes}
 use Rattle.std.specs.Str.{encode_utf8_all}
 use Rattle.std.specs.String.{string_bytes}
-use Rattle.base_grammar.proofs.Texts.{encodes-push}
+use Rattle.base_lemmas.proofs.Lists.{encodes-push}
 use Rattle.base_grammar.proofs.text.text_from.Goals as goal
 
 pub loop-c-preserved : goal.loop-c-preserved

@@ -1,10 +1,10 @@
 use Rattle.std.proofs.Common.{◌≡◌, ◌↔◌, true, IsTrue, IsSome, IfSome, pos, to_z, w8, sym, ap, ◌∙◌, arith}
 use mir.Syntax.{w16}
 use Rattle.std.specs.Prelude.{codes}
+use Rattle.std.proofs.lemmas.Bool.{and_parts as both}
 use Rattle.jiff_core.specs.Date.{IsYmd}
 use Rattle.jiff_core.proofs.SignedLemmas.{signed_arith, back_small}
 use Rattle.base_value.specs.Dates.{is_date, has_form, is_calendar_date, year_of, month_of, day_of}
-use Rattle.base_value.proofs.Choices.{both}
 use Rattle.base_value.proofs.WrittenForms.{date_parts}
 use Rattle.base_value.proofs.WrittenDates.{date_read}
 use Rattle.base_value.proofs.dates.date_of.Goals as goal

@@ -1,7 +1,8 @@
 use Rattle.std.proofs.Common.{◌≤◌, arith, length, sym, subst, refl}
 use Rattle.std.specs.Prelude.{string_bytes}
+use Rattle.std.proofs.lemmas.Bool.{false≢true as false_isnt_true}
 use Rattle.cli_args.specs.Lines.{IsPort}
-use Rattle.cli_args.proofs.Forms.{false_isnt_true, line_of_words, not_one}
+use Rattle.cli_args.proofs.Forms.{line_of_words, not_one}
 use Rattle.cli_args.proofs.line.read_line.Goals as goal
 
 pub returns-in-len1-clause-refused : goal.returns-in-len1-clause-refused

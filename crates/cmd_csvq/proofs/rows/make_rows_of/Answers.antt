@@ -1,4 +1,5 @@
-use Rattle.std.proofs.Common.{◌≡◌, ◌<◌, None, Ok, Option, Some, arith, length, map, refl, rules, subst}
+use Rattle.std.proofs.Common.{◌<◌, Ok, Option, arith, length, map, refl, rules, subst}
+use Rattle.base_lemmas.proofs.Options.{none_from_no_some as nothing_there}
 use Rattle.csv.specs.Records.{fields_of}
 use Rattle.model.specs.Creates.{create}
 use Rattle.model.specs.declared.refusal.Refusal.{Refusal}
@@ -9,10 +10,6 @@ use Rattle.cmd_csvq.proofs.Making.{rows_end, rows_on, rows_stop}
 use Rattle.cmd_csvq.specs.inner.Making.{Goes}
 use Rattle.cmd_csvq.proofs.Turns.{goes_out, handed_on}
 use Rattle.cmd_csvq.proofs.rows.make_rows_of.Goals as goal
-
-nothing_there : {A : Type 0} (x : Option A) → ((y : A) → x ≡ Some y → ⊥) → x ≡ None
-nothing_there None h = refl
-nothing_there (Some y) h = absurd (h y refl)
 
 pub loop-place-init : goal.loop-place-init
 loop-place-init c a made = (a, made, refl)

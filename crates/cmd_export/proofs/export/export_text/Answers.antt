@@ -3,8 +3,8 @@ use Rattle.cmd_export.specs.Exports.{exported_read}
 use Rattle.cmd_export.specs.inner.Unchanged.{IsExport}
 use Rattle.store_kv.specs.Draft.{removals_of}
 use Rattle.store_kv.specs.State.{data_table}
-use Rattle.soql_ast.specs.declared.query.Query.{Query}
-use Rattle.soql_grammar.specs.Spelling.{reads_query}
+use Rattle.soql.specs.declared.query.Query.{Query}
+use Rattle.soql.specs.grammar.Spelling.{reads_query}
 use Rattle.store_abstraction.specs.Calls.{Calls, ended}
 use Rattle.model_step.specs.Shown.{further_to, shown_beside}
 use Rattle.cmd_export.proofs.Exported.{read_done, read_refused}

@@ -1,8 +1,8 @@
 use Rattle.std.proofs.Common.{◌≡◌, ◌∙◌, List, None, Some, ap, suc, sym, ℕ}
+use Rattle.std.proofs.lemmas.Option.{none-some as none_is, same_Some as some_is}
 use Rattle.model.specs.Upserts.{unique_named}
 use Rattle.schema_rules.specs.Objects.{field_of_place, object_of_layout}
 use Rattle.store_abstraction.specs.declared.layout.FieldPlace.{FieldPlace}
-use Rattle.store_abstraction.proofs.Lookups.{none_is, some_is}
 use Rattle.cmd_load_plan.proofs.Planning.{key_found, key_is, no_first}
 use Rattle.cmd_load_plan.proofs.heading.first_key.Goals as goal
 

@@ -1,5 +1,6 @@
 use Rattle.std.proofs.Common.{Bor, List, subst, sym, ℕ}
 use Rattle.std.specs.Option.{option_map}
+use Rattle.base_lemmas.proofs.Results.{err_from_parts as returned}
 use Rattle.record_input.specs.declared.found.Found.{Found}
 use Rattle.store_kv.specs.Draft.{tables_of}
 use Rattle.store_kv.specs.Tables.{Tables}
@@ -10,7 +11,7 @@ use Rattle.cmd_load_row.specs.Loads.{load_shown, row_changes}
 use Rattle.cmd_load_row.specs.declared.parents.Parent.{Parent}
 use Rattle.cmd_load_row.specs.inner.Edits.{AsksBy, EditsRow, KnowsFound, asked_for}
 use Rattle.cmd_load_row.specs.inner.Parents.{AreTold}
-use Rattle.cmd_load_row.proofs.Editing.{after_read, asked_fewer, memory_drafts, never_damaged, returned, row_stopped, stopped_drafts}
+use Rattle.cmd_load_row.proofs.Editing.{after_read, asked_fewer, memory_drafts, never_damaged, row_stopped, stopped_drafts}
 use Rattle.cmd_load_row.proofs.Knowing.{finds_told}
 use Rattle.cmd_load_row.proofs.edits.edit_given.Goals as goal
 

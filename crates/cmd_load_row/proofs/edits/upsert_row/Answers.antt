@@ -4,7 +4,7 @@ use Rattle.std.specs.Prelude.{FitsSigned}
 use Rattle.store_kv.specs.Draft.{tables_of}
 use Rattle.model.specs.Requests.{upserts}
 use Rattle.model.specs.Verdict.{upserted}
-use Rattle.record_upsert.specs.declared.upsert.Upserted.{Upserted}
+use Rattle.record_save.specs.declared.upsert.upsert.Upserted.{Upserted}
 use Rattle.cmd_load_row.specs.inner.Edits.{KnowsFound}
 use Rattle.cmd_load_row.proofs.Editing.{FitLaws, drafts_seen, row_edited, seen_itself, upsert_fits}
 use Rattle.cmd_load_row.proofs.edits.upsert_row.Goals as goal

@@ -2,9 +2,9 @@ use Rattle.std.proofs.Common.{List, subst, sym, ℕ}
 use Rattle.std.proofs.lemmas.Str.{scalars-chars}
 use Rattle.std.specs.Prelude.{Option, Result}
 use Rattle.std.specs.Str.{chars}
+use Rattle.base_lemmas.proofs.Lists.{slice_get_as_read as read_there}
 use Rattle.store_kv.specs.Draft.{tables_of}
 use Rattle.store_rows.specs.declared.fail.StoreFail.{StoreFail}
-use Rattle.record_constraints.proofs.Searching.{read_there}
 use Rattle.store_abstraction.specs.Calls.{Calls, ended}
 use Rattle.cmd_load_row.specs.inner.Finding.{FindsId}
 use Rattle.cmd_load_row.proofs.Searched.{has_unique, id_found, none_read, unread_calls}

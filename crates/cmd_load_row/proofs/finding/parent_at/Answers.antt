@@ -1,7 +1,7 @@
 use Rattle.std.proofs.Common.{◌∙◌, ◌≡◌, ℕ, subst, sym, true}
 use Rattle.std.specs.Prelude.{Ok}
 use Rattle.std.specs.Str.{chars}
-use Rattle.record_constraints.proofs.Searching.{read_there}
+use Rattle.base_lemmas.proofs.Lists.{slice_get_as_read as read_there}
 use Rattle.cmd_load_row.specs.inner.Finding.{FindsAt, is_unique_at}
 use Rattle.cmd_load_row.proofs.Searched.{parent_found, within}
 use Rattle.cmd_load_row.proofs.finding.parent_at.Goals as goal

@@ -1,4 +1,5 @@
 use Rattle.std.proofs.Common.{refl, subst}
+use Rattle.base_lemmas.proofs.Results.{err_from_parts as returned}
 use Rattle.cmd_load_plan.specs.Rows.{upsert_row}
 use Rattle.store_kv.specs.Draft.{tables_of}
 use Rattle.store_rows.specs.declared.fail.StoreFail.TheVariants.{Memory}
@@ -6,7 +7,7 @@ use Rattle.model.specs.Requests.{Request}
 use Rattle.store_abstraction.specs.Calls.{done}
 use Rattle.store_abstraction.specs.Fails.{of_store}
 use Rattle.cmd_load_row.specs.inner.Edits.{AsksBy, EditsRow}
-use Rattle.cmd_load_row.proofs.Editing.{memory_drafts, never_damaged, returned, row_stopped}
+use Rattle.cmd_load_row.proofs.Editing.{memory_drafts, never_damaged, row_stopped}
 use Rattle.cmd_load_row.proofs.Requested.{by_first, texts, without_cells, without_columns}
 use Rattle.cmd_load_row.proofs.rows.edit_by_key.Goals as goal
 

@@ -1,6 +1,7 @@
 use Rattle.std.proofs.Common.{◌∙◌, Bor, IsTrue, List, refl, subst, sym, ℕ}
 use Rattle.std.specs.List.{list_all}
 use Rattle.std.specs.Option.{option_map}
+use Rattle.base_lemmas.proofs.Results.{err_from_parts as returned}
 use Rattle.cmd_load_plan.specs.Rows.{given_row, has_characters}
 use Rattle.store_kv.specs.Draft.{tables_of}
 use Rattle.store_rows.specs.declared.fail.StoreFail.TheVariants.{Memory}
@@ -8,7 +9,7 @@ use Rattle.model.specs.declared.record_bodies.Assignment.{Assignment}
 use Rattle.store_abstraction.specs.Calls.{done}
 use Rattle.store_abstraction.specs.Fails.{of_store}
 use Rattle.cmd_load_row.specs.inner.Edits.{AsksBy, EditsRow, asked_for}
-use Rattle.cmd_load_row.proofs.Editing.{memory_drafts, never_damaged, returned, row_stopped}
+use Rattle.cmd_load_row.proofs.Editing.{memory_drafts, never_damaged, row_stopped}
 use Rattle.cmd_load_row.proofs.Requested.{texts}
 use Rattle.cmd_load_row.proofs.rows.edit_cells.Goals as goal
 

@@ -1,4 +1,5 @@
 use Rattle.std.proofs.Common.{Ok, ◌⊎◌, ◌≡◌, ◌+◌, ◌<◌, Err, ap, arith, length, refl, rules, subst, sym}
+use Rattle.base_lemmas.proofs.Results.{err_from_parts as handed_on}
 use Rattle.store_kv.proofs.Calls.{steps_on, steps_same}
 use Rattle.store_kv.specs.State.{Tells}
 use Rattle.model.specs.Callers.{named_by}
@@ -10,7 +11,6 @@ use Rattle.commands.specs.Statuses.{KeepsWorld}
 use Rattle.commands.specs.Stops.{behind, store_end}
 use Rattle.commands.specs.declared.stop.Stop.TheVariants as stop
 use Rattle.commands.proofs.Batching.{Failed, all_gone, failed, fell, full_next, goes_on, is_none, none_gone, not_none, one_text, positive, read_sizes, stopped}
-use Rattle.commands.proofs.Ends.{handed_on}
 use Rattle.commands.proofs.Loaded.{left_so, undone}
 use Rattle.commands.proofs.load.print_batches.Goals as goal
 

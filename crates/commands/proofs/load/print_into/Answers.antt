@@ -1,11 +1,11 @@
 use Rattle.std.proofs.Common.{Err, Ok, subst, sym}
+use Rattle.base_lemmas.proofs.Results.{err_from_parts as handed_on}
 use Rattle.cmd_load.specs.Inputs.{input_plan}
 use Rattle.model.specs.Callers.{named_by}
 use Rattle.commands.specs.Load.{planned_printed}
 use Rattle.commands.specs.Loading.{IsInput, IsInputOf, PrintsBy}
 use Rattle.commands.specs.Stops.{of_input}
 use Rattle.commands.proofs.Batching.{some_told}
-use Rattle.commands.proofs.Ends.{handed_on}
 use Rattle.commands.proofs.Planned.{input_refused, rows_fell, rows_printed_by, unread}
 use Rattle.commands.proofs.load.print_into.Goals as goal
 

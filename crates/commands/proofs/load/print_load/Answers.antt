@@ -1,4 +1,5 @@
 use Rattle.std.proofs.Common.{Err, Ok, refl, subst, sym}
+use Rattle.base_lemmas.proofs.Results.{err_from_parts as handed_on}
 use Rattle.cmd_load.specs.Targets.{IsTargetFound, named_object}
 use Rattle.store_kv.specs.State.{Tells}
 use Rattle.store_kv.specs.Tables.{Tables}
@@ -9,7 +10,6 @@ use Rattle.commands.specs.Load.{load_printed, planned_for}
 use Rattle.commands.specs.Loading.{PrintsBy}
 use Rattle.commands.specs.Stops.{of_opening}
 use Rattle.commands.proofs.Batching.{some_told}
-use Rattle.commands.proofs.Ends.{handed_on}
 use Rattle.commands.proofs.Planned.{fell_before, fell_found, not_damaged, object_refused, printed_found, unopened, version_after}
 use Rattle.commands.proofs.load.print_load.Goals as goal
 

@@ -1,8 +1,9 @@
 use Rattle.std.proofs.Common.{Err, Ok, subst, sym}
+use Rattle.base_lemmas.proofs.Results.{err_from_parts as handed_on}
 use Rattle.commands.specs.Deeds.{Prints, one_deed}
 use Rattle.commands.specs.Printed.{refused}
 use Rattle.commands.specs.declared.stop.Stop.TheVariants as stop
-use Rattle.commands.proofs.Ends.{handed_on, stops_before}
+use Rattle.commands.proofs.Ends.{stops_before}
 use Rattle.commands.proofs.load.print_refusal.Goals as goal
 
 pub returns-in_err-printout-clause-prints : goal.returns-in_err-printout-clause-prints

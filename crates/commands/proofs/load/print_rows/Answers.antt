@@ -1,5 +1,6 @@
 use Rattle.std.proofs.Common.{◌≡◌, ◌∙◌, ◌+◌, ap, drop, length, map, subst, sym, take, ℕ}
 use Rattle.std.specs.Io.KnownBytes.{Appends}
+use Rattle.base_lemmas.proofs.Results.{err_from_parts as handed_on}
 use Rattle.cmd_load.specs.Batches.{AskedInTurn, AskedRow, batch_rows}
 use Rattle.cmd_load.specs.Inputs.{AreRows}
 use Rattle.cmd_load_plan.specs.Rows.{heading_line}
@@ -9,7 +10,6 @@ use Rattle.commands.specs.Load.{behind_heading, rows_printed}
 use Rattle.commands.specs.Loading.{PrintsBy}
 use Rattle.commands.specs.declared.stop.Stop.TheVariants as stop
 use Rattle.commands.proofs.Batching.{full_next}
-use Rattle.commands.proofs.Ends.{handed_on}
 use Rattle.commands.proofs.Heading.{falls_behind, prints_behind, sink_failed, unwritten}
 use Rattle.commands.proofs.load.print_rows.Goals as goal
 

@@ -1,4 +1,5 @@
 use Rattle.std.proofs.Common.{Err, Ok, ap, subst, sym, ◌∙◌}
+use Rattle.base_lemmas.proofs.Results.{err_from_parts as handed_on}
 use Rattle.commands.specs.Commands.{csvq, printed}
 use Rattle.commands.specs.Csvq.{reads_input, rows_printed}
 use Rattle.cmd_load.specs.Batches.{first_moment}
@@ -6,7 +7,7 @@ use Rattle.commands.specs.Deeds.{Prints, one_deed}
 use Rattle.commands.specs.Stops.{csvq_end, csvq_stop_of}
 use Rattle.commands.specs.declared.printing.CsvqStop.TheVariants as csvq_stop
 use Rattle.commands.specs.declared.stop.Stop.TheVariants as stop
-use Rattle.commands.proofs.Ends.{handed_on, input_stops}
+use Rattle.commands.proofs.Ends.{input_stops}
 use Rattle.commands.proofs.Inputs.{some_input}
 use Rattle.commands.proofs.printing.print_csvq.Goals as goal
 

@@ -1,9 +1,10 @@
 use Rattle.std.proofs.Common.{Ok, subst, sym}
+use Rattle.base_lemmas.proofs.Results.{err_from_parts as handed_on}
 use Rattle.commands.specs.Deeds.{Prints, one_deed}
 use Rattle.commands.specs.Statuses.{KeepsWorld}
 use Rattle.commands.specs.Stops.{DoesOpened, behind, store_end, store_stop_of}
 use Rattle.commands.specs.declared.printing.StoreStop.TheVariants as store_stop
-use Rattle.commands.proofs.Ends.{handed_on, opening_keeps, opening_stops}
+use Rattle.commands.proofs.Ends.{opening_keeps, opening_stops}
 use Rattle.commands.proofs.printing.print_tables.Goals as goal
 
 pub returns-clause-prints : goal.returns-clause-prints

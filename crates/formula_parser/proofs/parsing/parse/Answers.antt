@@ -1,7 +1,7 @@
 use Rattle.std.proofs.Common.{rules, length}
 use Rattle.std.specs.Str.{chars}
 use Rattle.formula_parser.proofs.Top.{reads_by, found_by, only_by, place_by}
-use Rattle.formula_grammar.specs.Reading as spec
+use Rattle.formula.specs.grammar.Reading as spec
 use Rattle.formula_parser.proofs.parsing.parse.Goals as goal
 
 pub returns-clause-reads : goal.returns-clause-reads

@@ -2,8 +2,8 @@ use Rattle.std.proofs.Common.{rules, arith, ◌≢◌, ◌∷◌, [], sym, ◌�
 use Rattle.std.proofs.lemmas.Result.{err_from_is_err_and}
 use Rattle.base_grammar.specs.Reader.{with_front, after}
 use Rattle.base_grammar.proofs.Lists.{any-ends, any-turn, any_fails, fails_by}
-use Rattle.formula_grammar.specs.Reading.{more_formulas, nested}
-use Rattle.formula_grammar.specs.Signs.{kind}
+use Rattle.formula.specs.grammar.Reading.{more_formulas, nested}
+use Rattle.formula.specs.grammar.Signs.{kind}
 use Rattle.formula_parser.proofs.Lists.{another_takes, nested-suc, nested-zero}
 use Rattle.formula_parser.proofs.reader.+formulas.Goals as goal
 

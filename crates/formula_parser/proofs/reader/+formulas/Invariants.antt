@@ -1,6 +1,6 @@
 use Rattle.std.proofs.Common.{◌≡◌, ◌≤◌, ◌+◌, ◌*◌, length}
 use Rattle.base_grammar.specs.Reader.{with_front}
-use Rattle.formula_grammar.specs.Reading as spec
+use Rattle.formula.specs.grammar.Reading as spec
 use Rattle.formula_parser.proofs.reader.+formulas.Given as goal
 
 abbrev pub decreases-nested : goal.decreases-nested

@@ -6,10 +6,10 @@ use Rattle.base_grammar.specs.Lexing as lexing
 use Rattle.base_grammar.specs.Reader as reader
 use Rattle.base_grammar.specs.Tokens as token
 use denote.Hole.Carrier.{hidden}
-use Rattle.formula_eval.specs.declared.formula.Formula.TheBlock.{hidden-the_row-Formula-0, hidden-the_row-Formula-1}
-use Rattle.formula_grammar.specs.Reading as read
-use Rattle.formula_grammar.specs.Signs as sign
-use Rattle.formula_grammar.specs.Spelling as spelling
+use Rattle.formula.specs.declared.formula.Formula.TheBlock.{hidden-the_row-Formula-0, hidden-the_row-Formula-1}
+use Rattle.formula.specs.grammar.Reading as read
+use Rattle.formula.specs.grammar.Signs as sign
+use Rattle.formula.specs.grammar.Spelling as spelling
 use Rattle.formula_parser.proofs.texts.spelled_rows.Goals as goal
 
 pub returns : goal.returns

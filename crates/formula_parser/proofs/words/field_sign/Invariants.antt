@@ -1,5 +1,5 @@
 use Rattle.std.proofs.Common.{◌≡◌, ◌+◌, length}
-use Rattle.formula_grammar.specs.Signs as spec
+use Rattle.formula.specs.grammar.Signs as spec
 use Rattle.formula_parser.proofs.words.field_sign.Given as goal
 
 abbrev pub invariant-fields : goal.invariant-fields

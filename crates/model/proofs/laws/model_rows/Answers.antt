@@ -3,6 +3,7 @@ use Rattle.std.specs.Prelude.{codes}
 use Rattle.sha2.specs.Sha256.{sha256}
 use Rattle.std.specs.Char.{encode_utf8}
 use Rattle.std.specs.Str.{chars}
+use Rattle.base_lemmas.proofs.Texts.{bytes_eq-self as itself}
 use Rattle.base_json.specs.Printing.{escaped}
 use Rattle.base_value.specs.Digits.{digits}
 use Rattle.base_value.specs.Id.{made, number62, number_in}
@@ -11,7 +12,7 @@ use Rattle.base_value.specs.Id.{id_in}
 use Rattle.model.specs.Bodies.{body_of}
 use Rattle.model.specs.Organisations.{administrator, fresh, is_secret, with_org}
 use Rattle.model.specs.Sound.{is_name}
-use Rattle.model.proofs.Called.{found, itself}
+use Rattle.model.proofs.Called.{found}
 use Rattle.model.proofs.laws.model_rows.Goals as goal
 
 pub returns-clause-org : goal.returns-clause-org

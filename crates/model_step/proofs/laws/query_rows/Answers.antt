@@ -1,5 +1,5 @@
 use Rattle.std.proofs.Common.{refl}
-use Rattle.soql_grammar.proofs.Computing.{reading_queries}
+use Rattle.soql.proofs.Computing.{reading_queries}
 use Rattle.model_step.proofs.laws.query_rows.Goals as goal
 
 pub returns : goal.returns

@@ -2,10 +2,11 @@ use Rattle.std.proofs.Common.{◌≡◌, ℕ, Some, true, refl, ◌∙◌}
 use Rattle.std.specs.Prelude.{codes}
 use Rattle.std.specs.Str.{is_utf8}
 use Rattle.std.specs.Str.Lossy.{utf8_lossy, utf8_valid_len}
+use Rattle.base_lemmas.proofs.Texts.{bytes_eq-self as itself}
 use Rattle.form_urlencoded.specs.Form.{raw_pairs, split}
 use Rattle.percent_encoding.specs.Percent.{percent_decode}
 use Rattle.sha2.specs.Sha256.{sha256}
-use Rattle.soql_grammar.proofs.Computing.{reading_queries}
+use Rattle.soql.proofs.Computing.{reading_queries}
 use Rattle.base_value.specs.Digits.{digits}
 use Rattle.base_value.specs.Id.{id_in, made, number62, number_in}
 use Rattle.model.specs.declared.caller.Caller.{Caller}
@@ -19,7 +20,7 @@ use Rattle.model.specs.RequestOf.{request_of}
 use Rattle.model.specs.Routing.{lines, routed}
 use Rattle.model.specs.Step.{Answering, Message, caller_by, in_org, query_text, refusal_reply, step_by}
 use Rattle.model.specs.World.{World}
-use Rattle.model.proofs.Called.{found, itself}
+use Rattle.model.proofs.Called.{found}
 use Rattle.model_step.specs.Step.{step}
 use Rattle.model_step.specs.Worked.{acme, asks_by}
 use Rattle.model_step.proofs.laws.step_rows.Goals as goal

@@ -2,7 +2,7 @@ use Rattle.std.proofs.Common.{refl}
 use lib.Utf8.{encode}
 use Rattle.std.specs.Fmt.{digits}
 use Rattle.std.specs.Str.{chars, is_utf8}
-use Rattle.soql_grammar.proofs.Computing.{reading_queries}
+use Rattle.soql.proofs.Computing.{reading_queries}
 use Rattle.base_value.specs.Numerals.{is_digit}
 use Rattle.model.specs.Organisations.{is_secret}
 use Rattle.model.specs.Sound.{is_name}

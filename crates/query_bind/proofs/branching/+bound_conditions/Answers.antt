@@ -1,8 +1,8 @@
 use Rattle.std.proofs.Common.{◌∙◌, ◌<◌, ap, arith, length, map, subst, sym, List, ℤ, to_z, of_z, w64}
-use Rattle.soql_ast.specs.declared.query.Cond.{Cond}
-use Rattle.soql_ast.specs.declared.query.Cond.TheVariants as cond
-use Rattle.soql_ast.specs.declared.query.LikePattern.{LikePattern}
-use Rattle.query_paths.proofs.Branching.{added_twice}
+use Rattle.soql.specs.declared.query.Cond.{Cond}
+use Rattle.soql.specs.declared.query.Cond.TheVariants as cond
+use Rattle.soql.specs.declared.query.LikePattern.{LikePattern}
+use Rattle.query_plan.proofs.Branching.{added_twice}
 use Rattle.query_plan.specs.declared.check.Check.{Check}
 use Rattle.query_plan.specs.declared.check.Check.TheVariants as check
 use Rattle.query_plan.specs.declared.check.Operand.{Operand}

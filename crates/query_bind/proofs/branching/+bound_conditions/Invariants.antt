@@ -1,4 +1,4 @@
-use Rattle.query_paths.specs.Branches.{AddsBranches}
+use Rattle.query_plan.specs.paths.Branches.{AddsBranches}
 use Rattle.query_bind.specs.inner.Tails.{BindsCondition}
 use Rattle.query_bind.proofs.Counted.{IsFewSoFar, steps_in}
 use Rattle.query_bind.proofs.Keyed.{SoFar}

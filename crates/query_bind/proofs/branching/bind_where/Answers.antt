@@ -1,5 +1,5 @@
 use Rattle.std.proofs.Common.{Option, Some, subst, sym, ℤ}
-use Rattle.soql_ast.specs.declared.query.Cond.{Cond}
+use Rattle.soql.specs.declared.query.Cond.{Cond}
 use Rattle.query_bind.specs.inner.Tails.{BindsCondition, BindsWhere}
 use Rattle.query_bind.proofs.Bound.{same_day}
 use Rattle.query_bind.proofs.Conditioned.{some_where}

@@ -1,5 +1,5 @@
 use Rattle.std.proofs.Common.{◌∙◌, List, ap, refl, subst, ℤ}
-use Rattle.soql_ast.specs.declared.query.Path.{Path}
+use Rattle.soql.specs.declared.query.Path.{Path}
 use Rattle.query_bind.specs.declared.cells.CellPlan.{CellPlan}
 use Rattle.query_bind.specs.inner.Cells.{BindsCell}
 use Rattle.query_bind.specs.inner.Ends.{Each}

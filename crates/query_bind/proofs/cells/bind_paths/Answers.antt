@@ -3,7 +3,7 @@ use Rattle.model_step.specs.Shown.{path_steps}
 use Rattle.query_plan.specs.declared.check.Spot.{Spot}
 use Rattle.query_bind.proofs.Celled.{cell_later}
 use Rattle.query_bind.proofs.Counted.{few_more}
-use Rattle.query_paths.proofs.Branching.{added_twice}
+use Rattle.query_plan.proofs.Branching.{added_twice}
 use Rattle.query_bind.specs.inner.Cells.{BindsCell}
 use Rattle.query_bind.specs.inner.Ends.{Each}
 use Rattle.query_bind.proofs.Keyed.{each_end, each_more}

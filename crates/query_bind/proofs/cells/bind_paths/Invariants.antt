@@ -1,5 +1,5 @@
 use Rattle.model_step.specs.Shown.{path_steps}
-use Rattle.query_paths.specs.Branches.{AddsBranches}
+use Rattle.query_plan.specs.paths.Branches.{AddsBranches}
 use Rattle.query_bind.proofs.Counted.{IsFewSoFar}
 use Rattle.query_bind.specs.inner.Cells.{BindsCell}
 use Rattle.query_bind.proofs.Keyed.{SoFar}

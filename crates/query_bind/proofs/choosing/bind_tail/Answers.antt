@@ -1,6 +1,6 @@
 use Rattle.std.proofs.Common.{List, subst, ℤ}
-use Rattle.soql_ast.specs.declared.query.OrderKey.{OrderKey}
-use Rattle.query_paths.proofs.Branching.{added_twice}
+use Rattle.soql.specs.declared.query.OrderKey.{OrderKey}
+use Rattle.query_plan.proofs.Branching.{added_twice}
 use Rattle.query_bind.specs.inner.Ends.{BindsKey, Each}
 use Rattle.query_bind.specs.inner.Tails.{BindsWhere}
 use Rattle.query_bind.proofs.Bound.{same_day}

@@ -1,9 +1,9 @@
 use Rattle.std.proofs.Common.{◌<◌, arith, length, subst, sym, List}
-use Rattle.soql_ast.specs.declared.query.OrderKey.{OrderKey}
+use Rattle.soql.specs.declared.query.OrderKey.{OrderKey}
 use Rattle.model_step.specs.Shown.{path_steps}
 use Rattle.query_plan.specs.declared.plan.SortKey.{SortKey}
 use Rattle.query_bind.proofs.Counted.{few_more}
-use Rattle.query_paths.proofs.Branching.{added_twice}
+use Rattle.query_plan.proofs.Branching.{added_twice}
 use Rattle.query_bind.specs.inner.Ends.{BindsKey, Each}
 use Rattle.query_bind.proofs.Keyed.{each_end, each_more, key_later}
 use Rattle.query_bind.proofs.keys.bind_keys.Goals as goal

@@ -1,6 +1,6 @@
-use Rattle.soql_ast.specs.declared.query.OrderKey.{OrderKey}
+use Rattle.soql.specs.declared.query.OrderKey.{OrderKey}
 use Rattle.model_step.specs.Shown.{path_steps}
-use Rattle.query_paths.specs.Branches.{AddsBranches}
+use Rattle.query_plan.specs.paths.Branches.{AddsBranches}
 use Rattle.query_bind.proofs.Counted.{IsFewSoFar}
 use Rattle.query_bind.specs.inner.Ends.{BindsKey}
 use Rattle.query_bind.proofs.Keyed.{SoFar}

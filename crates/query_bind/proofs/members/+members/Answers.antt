@@ -1,10 +1,10 @@
 use Rattle.std.proofs.Common.{◌≡◌, ◌∙◌, ℕ, ◌++◌, ◌-◌, ◌<◌, ◌≤◌, List, [], ◌∷◌, Option, Some, ap, append-nil, arith, length, map, subst, sym}
 use Rattle.std.specs.List.{list_any}
 use Rattle.std.specs.Str.{chars}
-use Rattle.soql_ast.specs.declared.query.Item.TheVariants as item
-use Rattle.query_paths.specs.Branches.{FindsParent}
-use Rattle.query_paths.specs.declared.branches.Place.{Place}
-use Rattle.query_paths.proofs.Branching.{added_twice}
+use Rattle.soql.specs.declared.query.Item.TheVariants as item
+use Rattle.query_plan.specs.paths.Branches.{FindsParent}
+use Rattle.query_plan.specs.declared.paths.branches.Place.{Place}
+use Rattle.query_plan.proofs.Branching.{added_twice}
 use Rattle.query_plan.specs.declared.plan.Member.{Member}
 use Rattle.query_bind.specs.inner.Members.{ShowsParent, ShowsPath, ShowsPaths, goes_behind}
 use Rattle.query_bind.proofs.Behind.{Two, begun_shown, end_is, first_shown, no_parent, one_less, one_name, one_name_shown, parent_is, still_among, two_names}

@@ -1,5 +1,5 @@
 use Rattle.std.proofs.Common.{◌+◌, ◌*◌}
-use Rattle.query_paths.specs.Branches.{AddsBranches, IsAmong}
+use Rattle.query_plan.specs.paths.Branches.{AddsBranches, IsAmong}
 use Rattle.query_bind.proofs.Showing.{ShownSoFar}
 use Rattle.query_bind.proofs.members.+members.Given as goal
 

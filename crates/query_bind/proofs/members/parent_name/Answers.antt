@@ -3,7 +3,8 @@ use Rattle.std.specs.Str.{chars, encode_utf8_all}
 use Rattle.std.specs.String.{string_bytes}
 use Rattle.std.proofs.lemmas.List.{take_all}
 use Rattle.std.proofs.lemmas.Str.{IsUtf8-string_bytes}
-use Rattle.query_bind.proofs.Declared.{one_character, parent_is}
+use Rattle.base_lemmas.proofs.Lists.{encodes-push as one_character}
+use Rattle.query_bind.proofs.Declared.{parent_is}
 use Rattle.query_bind.proofs.members.parent_name.Goals as goal
 
 pub loop-c-preserved : goal.loop-c-preserved

@@ -1,7 +1,7 @@
 use Rattle.std.proofs.Common.{◌≡◌, ◌++◌, drop, filter_map, map}
 use Rattle.std.specs.Str.{chars}
 use Rattle.model.specs.RowsJson.{behind_relationship}
-use Rattle.soql_ast.specs.declared.query.Item.TheVariants as item
+use Rattle.soql.specs.declared.query.Item.TheVariants as item
 use Rattle.query_bind.proofs.members.paths_behind.Given as goal
 
 abbrev pub invariant-loop-path : goal.invariant-loop-path

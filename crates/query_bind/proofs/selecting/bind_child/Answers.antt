@@ -2,8 +2,8 @@ use Rattle.std.proofs.Common.{◌≡◌, ◌∙◌, ◌+◌, ◌≤◌, ℕ, Lis
 use Rattle.std.specs.List.{sum_by}
 use Rattle.std.specs.Option.{option_copied}
 use Rattle.model_step.specs.Shown.{path_steps, tail_steps}
-use Rattle.query_paths.specs.declared.branches.Branch.{Branch}
-use Rattle.query_paths.specs.ByLayout.{child_of}
+use Rattle.query_plan.specs.declared.paths.branches.Branch.{Branch}
+use Rattle.query_plan.specs.paths.ByLayout.{child_of}
 use Rattle.query_bind.specs.declared.selecting.BoundChild.{BoundChild}
 use Rattle.query_bind.specs.inner.Selecting.{BindsChild, BindsFound}
 use Rattle.query_check.specs.Ways.{layout_at}

@@ -1,6 +1,6 @@
 use Rattle.std.proofs.Common.{◌∙◌, None, List, ap, arith, length, refl, subst, sym, ℤ}
-use Rattle.query_paths.specs.declared.branches.Branch.{Branch}
-use Rattle.query_paths.specs.declared.branches.Place.{Place}
+use Rattle.query_plan.specs.declared.paths.branches.Branch.{Branch}
+use Rattle.query_plan.specs.declared.paths.branches.Place.{Place}
 use Rattle.query_bind.specs.inner.Tails.{BindsTail}
 use Rattle.query_bind.proofs.Bound.{same_day}
 use Rattle.query_bind.proofs.Subqueries.{members_found}

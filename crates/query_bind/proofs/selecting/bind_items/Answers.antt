@@ -5,8 +5,8 @@ use Rattle.std.specs.List.{sum_by}
 use Rattle.model_step.specs.Shown.{item_children_shown, path_steps}
 use Rattle.query_plan.specs.Plans.{child_shown}
 use Rattle.query_bind.proofs.Counted.{paths_steps}
-use Rattle.soql_ast.specs.declared.query.Item.{Item}
-use Rattle.query_paths.proofs.Branching.{added_twice}
+use Rattle.soql.specs.declared.query.Item.{Item}
+use Rattle.query_plan.proofs.Branching.{added_twice}
 use Rattle.query_plan.specs.declared.plan.ChildPlan.{ChildPlan}
 use Rattle.query_plan.specs.declared.plan.Shown.{Shown}
 use Rattle.query_bind.specs.Cells.{paths_in}

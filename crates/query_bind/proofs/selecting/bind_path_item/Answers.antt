@@ -1,5 +1,5 @@
 use Rattle.std.proofs.Common.{◌∙◌, None, Option, refl, subst, sym}
-use Rattle.query_paths.specs.declared.branches.Place.{Place}
+use Rattle.query_plan.specs.declared.paths.branches.Place.{Place}
 use Rattle.query_plan.specs.declared.plan.Member.{Member}
 use Rattle.query_bind.specs.inner.Members.{ShowsPath}
 use Rattle.query_bind.proofs.Picked.{path_adds, path_adds_nothing}

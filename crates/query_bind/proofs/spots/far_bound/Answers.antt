@@ -1,6 +1,6 @@
 use Rattle.std.proofs.Common.{◌∙◌, Option, ap, subst, sym}
-use Rattle.query_paths.specs.declared.branches.Place.{Place}
-use Rattle.query_paths.specs.Branches.{FindsPlace}
+use Rattle.query_plan.specs.declared.paths.branches.Place.{Place}
+use Rattle.query_plan.specs.paths.Branches.{FindsPlace}
 use Rattle.query_check.specs.declared.columns.Column.{Column}
 use Rattle.query_check.specs.Columns.{column_in}
 use Rattle.query_bind.specs.inner.Spots.{IsBound, bound_at}

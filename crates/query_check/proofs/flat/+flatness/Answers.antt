@@ -1,6 +1,6 @@
 use Rattle.std.proofs.Common.{◌∙◌, ◌<◌, length, sym, ap, arith, flat_map}
 use Rattle.std.specs.List.{list_all}
-use Rattle.soql_ast.specs.declared.query.Cond.{Cond}
+use Rattle.soql.specs.declared.query.Cond.{Cond}
 use Rattle.model.specs.Tests.{tests_of}
 use Rattle.model_step.specs.Flat.{is_flat_test}
 use Rattle.query_check.proofs.Flatness.{goes_on, stops}

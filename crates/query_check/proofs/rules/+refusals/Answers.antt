@@ -1,5 +1,5 @@
 use Rattle.std.proofs.Common.{◌∙◌, ◌<◌, length, sym, ap, arith, flat_map}
-use Rattle.soql_ast.specs.declared.query.Cond.{Cond}
+use Rattle.soql.specs.declared.query.Cond.{Cond}
 use Rattle.model.specs.Rules.{Rule, first_of}
 use Rattle.model.specs.Tests.{Tested, tests_of}
 use Rattle.query_check.specs.Rules.{rule_in}

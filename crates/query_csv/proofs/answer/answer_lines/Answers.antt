@@ -1,18 +1,15 @@
-use Rattle.std.proofs.Common.{◌≡◌, ◌∙◌, None, Option, Some, arith, of_z, refl, rules, sym, ap, to_z, w64}
+use Rattle.std.proofs.Common.{◌≡◌, ◌∙◌, arith, of_z, rules, sym, ap, to_z, w64}
 use Rattle.std.proofs.lemmas.Int.{to_z-of_z}
 use Rattle.std.specs.Prelude.{FitsSigned, ◌+◌}
+use Rattle.base_lemmas.proofs.Options.{none_from_no_some as nothing_there}
 use Rattle.base_value.specs.Printing.{day_of_moment}
 use Rattle.store_kv.specs.Draft.{removals_of}
 use Rattle.store_abstraction.specs.Calls.{done}
 use Rattle.model_step.specs.Shown.{row_shown}
 use Rattle.query_exec.specs.Written.{most_shown}
-use Rattle.query_reply.proofs.Found.{Laws, its_layout, wider_calls}
+use Rattle.query_json.proofs.Found.{Laws, its_layout, wider_calls}
 use Rattle.query_csv.proofs.Answering.{found_so, refused_so, serves_so}
 use Rattle.query_csv.proofs.answer.answer_lines.Goals as goal
-
-nothing_there : {A : Type 0} (x : Option A) → ((y : A) → x ≡ Some y → ⊥) → x ≡ None
-nothing_there None h = refl
-nothing_there (Some y) h = absurd (h y refl)
 
 pub returns-in-Some-clause-what : goal.returns-in-Some-clause-what
 returns-in-Some-clause-what g c told p a by =

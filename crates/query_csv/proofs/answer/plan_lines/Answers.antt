@@ -2,9 +2,9 @@ use Rattle.std.proofs.Common.{◌≡◌, ◌∙◌, ◌+◌, ◌*◌, List, [], 
 use Rattle.store_kv.specs.Draft.{removals_of, tables_of}
 use Rattle.store_abstraction.specs.Calls.{ended}
 use Rattle.model_step.specs.Shown.{readable_shown}
-use Rattle.query_paths.specs.declared.branches.Branch.{Branch}
+use Rattle.query_plan.specs.declared.paths.branches.Branch.{Branch}
 use Rattle.query_exec.specs.Written.{most_shown}
-use Rattle.query_reply.proofs.Found.{wider_calls}
+use Rattle.query_json.proofs.Found.{wider_calls}
 use Rattle.query_csv.specs.inner.Rows.{parents_of}
 use Rattle.query_csv.proofs.Answering.{none_there, puts_so, some_there, there}
 use Rattle.query_csv.proofs.answer.plan_lines.Goals as goal

@@ -2,7 +2,7 @@ use Rattle.std.proofs.Common.{◌∙◌, ◌++◌, List, ap}
 use Rattle.std.specs.List.{flat_map}
 use Rattle.query_plan.specs.declared.check.Spot.{Spot}
 use Rattle.query_exec.specs.Relatives.{by_parents}
-use Rattle.query_reply.specs.Planned.{Parents, choice_rows}
+use Rattle.query_json.specs.Planned.{Parents, choice_rows}
 use Rattle.query_csv.specs.inner.Rows.{row_line}
 use Rattle.query_csv.proofs.answer.put_lines.Goals as goal
 

@@ -1,5 +1,7 @@
 use Rattle.std.proofs.Common.{◌≡◌, ◌∙◌, ◌*◌, List, [], ◌∷◌, arith, length, ap, refl, subst, sym}
 use Rattle.std.specs.Prelude.{Err}
+use Rattle.base_lemmas.proofs.Lists.{nil_from_no_length as empty_of}
+use Rattle.base_lemmas.proofs.Results.{err_from_IsErrAnd as returned}
 use Rattle.store_kv.specs.Draft.{tables_of}
 use Rattle.model.specs.declared.record.Record.{Record}
 use Rattle.model.specs.Paths.{Asked}
@@ -10,7 +12,7 @@ use Rattle.query_exec.specs.Fails.{ended_exec}
 use Rattle.query_exec.specs.Relatives.{by_relatives}
 use Rattle.query_exec.specs.inner.Judging.{IsOf, OfRows}
 use Rattle.query_exec.specs.inner.Offers.{Offered, WritesTaken}
-use Rattle.query_exec.proofs.Offering.{empty_of, goes_none, goes_on, goes_over, returned, stops}
+use Rattle.query_exec.proofs.Offering.{goes_none, goes_on, goes_over, stops}
 use Rattle.query_exec.proofs.Passing.{Passing, passed, passed_calls, passed_over, passes_first, passes_next, stops_calls, stops_here}
 use Rattle.query_exec.proofs.offers.offer_rows.Goals as goal
 

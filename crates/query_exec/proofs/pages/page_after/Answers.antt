@@ -1,12 +1,13 @@
 use Rattle.std.proofs.Common.{ℕ, Bor, IsTrue, List, Option, arith, refl, subst, take}
 use Rattle.std.specs.Option.{option_map}
+use Rattle.base_lemmas.proofs.Options.{option_map-compose as mapped}
 use Rattle.store_kv.specs.Draft.{tables_of}
 use Rattle.store_kv.specs.Prefixes.{raised}
 use Rattle.store_rows.specs.Listings.{rows_to, start_of}
 use Rattle.base_value.specs.Id.{is_id}
 use Rattle.base_value.specs.declared.id.Id.{Id}
 use Rattle.record_read.proofs.Listed.{key_at, prefix_of}
-use Rattle.record_read.proofs.Walking.{WalkLaws, mapped, some_mapped}
+use Rattle.record_read.proofs.Walking.{WalkLaws, some_mapped}
 use Rattle.query_exec.specs.inner.Reading.{KeepsPage}
 use Rattle.query_exec.proofs.Keeping.{page_found}
 use Rattle.query_exec.proofs.pages.page_after.Goals as goal

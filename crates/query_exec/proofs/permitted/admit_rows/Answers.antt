@@ -1,12 +1,13 @@
 use Rattle.std.proofs.Common.{◌≡◌, ◌+◌, ◌*◌, List, [], arith, length, refl, subst, sym}
 use Rattle.std.specs.Vec.Iter.{into_iter_items}
+use Rattle.base_lemmas.proofs.Lists.{nil_from_no_length as empty_of}
+use Rattle.base_lemmas.proofs.Results.{err_from_IsErrAnd as returned}
 use Rattle.store_kv.specs.Draft.{tables_of}
 use Rattle.store_kv.specs.declared.keeper.KeptRow.{KeptRow}
 use Rattle.model.specs.Paths.{Asked}
 use Rattle.store_abstraction.specs.Calls.{Calls, done, ended, ended_by}
 use Rattle.query_exec.specs.inner.Judging.{Spells, judging}
 use Rattle.query_exec.specs.inner.Permitted.{AdmitsRows, GathersPicked}
-use Rattle.query_exec.proofs.Offering.{empty_of, returned}
 use Rattle.query_exec.proofs.Passing.{passed, passed_calls, passes_first, passes_next, stops_calls}
 use Rattle.query_exec.proofs.Permitting.{Admitting, admits_failed, admits_more}
 use Rattle.query_exec.proofs.Sorting.{gathers_nothing}

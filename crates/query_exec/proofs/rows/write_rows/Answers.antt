@@ -1,6 +1,7 @@
 use Rattle.std.proofs.Common.{◌≡◌, ◌∙◌, ◌+◌, ◌*◌, ◌≤◌, List, [], ◌++◌, ap, arith, filter, length, refl, sym, subst}
 use Rattle.std.specs.Prelude.{Err}
 use Rattle.std.proofs.Math.Nat.{mul-le-mul_left}
+use Rattle.base_lemmas.proofs.Results.{err_from_IsErrAnd as returned}
 use Rattle.store_kv.specs.Draft.{DraftTells, removals_of, tables_of}
 use Rattle.model.specs.declared.record.Record.{Record}
 use Rattle.model.specs.Levels.{readable}
@@ -17,7 +18,7 @@ use Rattle.query_exec.specs.Windows.{HasAll}
 use Rattle.query_exec.specs.Written.{WritesRows, most_shown, rows_kept}
 use Rattle.query_exec.specs.inner.Judging.{IsOf, OfRows, judging, unranked}
 use Rattle.query_exec.specs.inner.Offers.{Offered, WritesTaken}
-use Rattle.query_exec.proofs.Offering.{goes_none, returned}
+use Rattle.query_exec.proofs.Offering.{goes_none}
 use Rattle.query_exec.proofs.Working.{Offers, Stopped, UnderWay, all_calls, any_early, any_shown, begins, failed_calls, has_no_types, offers_more, over_ends, page_undamaged, read_ends, stops_at, turn_offers, what_stopped, offers_few, what_unread, what_written}
 use Rattle.query_exec.proofs.rows.write_rows.Goals as goal
 

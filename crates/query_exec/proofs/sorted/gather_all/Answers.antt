@@ -1,4 +1,5 @@
 use Rattle.std.proofs.Common.{◌≡◌, ◌+◌, List, [], None, arith, length, refl, sym, subst}
+use Rattle.base_lemmas.proofs.Results.{err_from_IsErrAnd as returned}
 use Rattle.model.specs.declared.record.Record.{Record}
 use Rattle.model.specs.Paths.{Asked}
 use Rattle.store_abstraction.specs.Calls.{done}
@@ -7,7 +8,6 @@ use Rattle.query_exec.specs.declared.pages.Pages.{Pages}
 use Rattle.query_exec.specs.declared.ranked.Ranked.{Ranked}
 use Rattle.query_exec.specs.inner.Gathering.{ReadsAll}
 use Rattle.query_exec.specs.inner.Judging.{IsOf, judging, picked}
-use Rattle.query_exec.proofs.Offering.{returned}
 use Rattle.query_exec.proofs.Cutting.{GathersApart, gathers_none, gathers_page}
 use Rattle.query_exec.proofs.Working.{UnderWay, all_read, begins, failed_all, gathered_all, page_unfound, reads_all, turn}
 use Rattle.query_exec.proofs.sorted.gather_all.Goals as goal

@@ -1,6 +1,7 @@
 use Rattle.std.specs.Prelude.{Err}
 use Rattle.std.proofs.Common.{◌≡◌, ◌∙◌, ◌+◌, ◌*◌, ◌≤◌, List, Some, ap, arith, filter, length, sym, subst}
 use Rattle.std.proofs.Math.Nat.{mul-le-mul_left}
+use Rattle.base_lemmas.proofs.Results.{err_from_IsErrAnd as returned}
 use Rattle.store_kv.specs.Draft.{removals_of, tables_of}
 use Rattle.store_kv.specs.Tables.{Tables}
 use Rattle.model.specs.declared.record.Record.{Record}
@@ -22,7 +23,7 @@ use Rattle.query_exec.specs.Windows.{in_window}
 use Rattle.query_exec.specs.Written.{WritesRows, most_shown}
 use Rattle.query_exec.specs.inner.Judging.{IsOf, judging}
 use Rattle.query_exec.specs.inner.Offers.{Offered, WritesTaken}
-use Rattle.query_exec.proofs.Offering.{returned, same_taken}
+use Rattle.query_exec.proofs.Offering.{same_taken}
 use Rattle.query_exec.proofs.Working.{Taken, gathered_none, has_no_types, in_order_so, offered_calls, offered_shown, what_cut, what_offered}
 use Rattle.query_exec.proofs.sorted.write_sorted_rows.Goals as goal
 

@@ -1,10 +1,10 @@
 use Rattle.std.proofs.Common.{subst, sym}
+use Rattle.base_lemmas.proofs.Results.{err_from_IsErrAnd as returned}
 use Rattle.query_plan.specs.Plans.{children_by}
 use Rattle.store_kv.specs.Draft.{tables_of}
 use Rattle.access_traits.specs.Rights.{Whose}
 use Rattle.query_related.specs.Children.{FindsOfTarget}
 use Rattle.query_related.proofs.Subqueries.{chosen, untaken}
-use Rattle.query_related.proofs.Taking.{returned}
 use Rattle.query_related.proofs.found.found_children.Goals as goal
 
 pub returns-in_err-taken-clause-finds : goal.returns-in_err-taken-clause-finds

@@ -1,9 +1,10 @@
 use Rattle.std.proofs.Common.{refl, subst, sym}
+use Rattle.base_lemmas.proofs.Results.{err_from_IsErrAnd as returned}
 use Rattle.query_plan.specs.Checks.{takes}
 use Rattle.query_plan.specs.Given.{GivesJust}
-use Rattle.query_order.specs.Ranks.{rank_by}
+use Rattle.query_plan.specs.order.Ranks.{rank_by}
 use Rattle.query_related.specs.inner.Taken.{ranked_if}
-use Rattle.query_related.proofs.Taking.{given_err, returned}
+use Rattle.query_related.proofs.Taking.{given_err}
 use Rattle.query_related.proofs.taken.ranked_if_taken.Goals as goal
 
 pub returns-in_err-check_holds : goal.returns-in_err-check_holds

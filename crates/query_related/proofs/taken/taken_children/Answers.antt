@@ -1,9 +1,10 @@
 use Rattle.std.proofs.Common.{◌+◌, ◌*◌, List, length, refl, subst, sym}
+use Rattle.base_lemmas.proofs.Results.{err_from_IsErrAnd as returned}
 use Rattle.store_rows.specs.declared.fail.StoreFail.TheVariants.{Memory}
 use Rattle.access_traits.specs.Rights.{Whose}
 use Rattle.store_abstraction.specs.Calls.{Calls, done, ended, ended_by, stopped}
 use Rattle.query_related.specs.inner.Taken.{RankedChild}
-use Rattle.query_related.proofs.Taking.{UnderWay, begins, failed, goes_on, not_fallen, returned, wider, within}
+use Rattle.query_related.proofs.Taking.{UnderWay, begins, failed, goes_on, not_fallen, wider, within}
 use Rattle.query_related.proofs.taken.taken_children.Goals as goal
 
 pub records-init : goal.records-init

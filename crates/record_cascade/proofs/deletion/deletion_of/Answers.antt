@@ -1,10 +1,10 @@
 use Rattle.std.proofs.Common.{◌∷◌, [], ℕ, List, Some, length, sym, ap, subst, ◌∙◌, arith}
+use Rattle.base_lemmas.proofs.Results.{err_from_parts as returned}
 use Rattle.store_kv.specs.Tables.{Tables}
 use Rattle.model.specs.Deletes.{cascade}
 use Rattle.store_abstraction.specs.Local.{StandsIn}
 use Rattle.record_cascade.specs.Deletion.{DeletesWith}
 use Rattle.record_cascade.specs.inner.Masters.{IsInOrder}
-use Rattle.record_cascade.proofs.Going.{returned}
 use Rattle.record_cascade.proofs.Judging.{all_counted, failed, gone_found, have_ordered, no_more, one_there}
 use Rattle.record_cascade.proofs.deletion.deletion_of.Goals as goal
 

@@ -1,11 +1,11 @@
 use Rattle.std.proofs.Common.{ℕ, List, Some, length, sym, ap, subst, ◌∙◌, arith}
+use Rattle.base_lemmas.proofs.Results.{err_from_parts as returned}
 use Rattle.store_kv.specs.Draft.{tables_of}
 use Rattle.store_kv.specs.Tables.{Tables}
 use Rattle.store_abstraction.specs.Fails.{of_store}
 use Rattle.store_abstraction.specs.Local.{StandsIn}
 use Rattle.record_cascade.specs.inner.Holding.{Judges, cleared_of, restricted_of}
 use Rattle.record_cascade.specs.inner.Masters.{IsInOrder}
-use Rattle.record_cascade.proofs.Going.{returned}
 use Rattle.record_cascade.proofs.Judging.{cleared_found, over_is, refused_is, undamaged, within_is}
 use Rattle.record_cascade.proofs.Objects.{layouts_are}
 use Rattle.record_cascade.proofs.deletion.judge.Goals as goal

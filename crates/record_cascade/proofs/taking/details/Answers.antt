@@ -1,11 +1,12 @@
 use Rattle.std.proofs.Common.{List, ℕ, sym, ap, subst, ◌∙◌}
 use Rattle.std.specs.List.{flat_map}
+use Rattle.base_lemmas.proofs.Results.{err_from_parts as returned}
 use Rattle.store_kv.specs.Draft.{tables_of}
 use Rattle.model.specs.Deletes.{details_of}
 use Rattle.store_abstraction.specs.declared.layout.Layout.{Layout}
 use Rattle.record_cascade.specs.Cascade.{FindsWith}
 use Rattle.record_cascade.specs.inner.Masters.{IsInOrder, details_in}
-use Rattle.record_cascade.proofs.Going.{details_failed, details_found, returned}
+use Rattle.record_cascade.proofs.Going.{details_failed, details_found}
 use Rattle.record_cascade.proofs.Objects.{layouts_are}
 use Rattle.record_cascade.proofs.taking.details.Goals as goal
 

@@ -1,5 +1,6 @@
 use Rattle.std.proofs.Common.{◌≡◌, ◌∙◌, List, Option, Some, ap, subst, ℕ}
 use Rattle.std.specs.Prelude.{Result, Ok}
+use Rattle.base_lemmas.proofs.Lists.{slice_get_as_read as read_there}
 use Rattle.store_kv.specs.Draft.{tables_of}
 use Rattle.store_kv.specs.Tables.{Tables}
 use Rattle.store_rows.specs.declared.fail.StoreFail.{StoreFail}
@@ -8,7 +9,6 @@ use Rattle.store_abstraction.specs.Layouts.{FindsOf}
 use Rattle.record_constraints.specs.Judged.{FindsRule}
 use Rattle.record_constraints.specs.inner.Clashes.{clashing_id, told_clash}
 use Rattle.record_constraints.proofs.Clashing.{one_clashes}
-use Rattle.record_constraints.proofs.Searching.{read_there}
 use Rattle.record_constraints.proofs.duplicates.clash_at.Goals as goal
 
 pub returns-in-Ok-Some-clause-finds : goal.returns-in-Ok-Some-clause-finds

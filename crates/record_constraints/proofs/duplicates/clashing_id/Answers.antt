@@ -1,6 +1,7 @@
 use Rattle.std.proofs.Common.{◌≡◌, ℕ, ◌+◌, List, Option, Some, None, sym, subst}
 use Rattle.std.specs.Prelude.{Result}
-use Rattle.formula_eval.specs.Meaning.{value_at}
+use Rattle.base_lemmas.proofs.Lists.{slice_get_as_read as read_there}
+use Rattle.formula.specs.Meaning.{value_at}
 use Rattle.store_kv.specs.Draft.{tables_of}
 use Rattle.store_rows.specs.declared.fail.StoreFail.{StoreFail}
 use Rattle.store_abstraction.specs.Calls.{Calls, ended}
@@ -8,7 +9,6 @@ use Rattle.store_abstraction.specs.Layouts.{FindsOf}
 use Rattle.base_value.specs.declared.value.Value.{Value}
 use Rattle.record_constraints.specs.inner.Clashes.{clashing_id, unique_value}
 use Rattle.record_constraints.proofs.Clashing.{nothing_sought, other_calls, sought_finds, sought_is_unique}
-use Rattle.record_constraints.proofs.Searching.{read_there}
 use Rattle.record_constraints.proofs.UniqueRows.{ValueLaws}
 use Rattle.record_constraints.proofs.duplicates.clashing_id.Goals as goal
 

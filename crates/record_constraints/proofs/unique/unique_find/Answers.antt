@@ -1,6 +1,7 @@
 use Rattle.std.proofs.Common.{◌+◌, ℕ, List, Option, Result, sym, subst}
 use Rattle.std.specs.FinMap as map
 use Rattle.std.specs.Option.{option_map}
+use Rattle.base_lemmas.proofs.Lists.{slice_get_as_read as read_there}
 use Rattle.store_kv.specs.Draft.{tables_of}
 use Rattle.store_rows.specs.declared.fail.StoreFail.{StoreFail}
 use Rattle.store_rows.specs.Keys.{Unique, slot_key, spell}
@@ -13,7 +14,6 @@ use Rattle.store_abstraction.specs.Calls.{Calls, ended}
 use Rattle.store_abstraction.specs.Layouts.{FindsOf}
 use Rattle.store_abstraction.proofs.Called.{calls_of}
 use Rattle.store_abstraction.proofs.Places.{PrefixLaws}
-use Rattle.record_constraints.proofs.Searching.{read_there}
 use Rattle.record_constraints.proofs.UniqueRows.{ValueLaws, id_calls, id_finds, there_is}
 use Rattle.record_constraints.proofs.unique.unique_find.Goals as goal
 

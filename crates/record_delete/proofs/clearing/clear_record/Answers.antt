@@ -8,7 +8,7 @@ use Rattle.model.specs.Deletes.{has_id, without}
 use Rattle.model.specs.Objects.{object_number, record_at}
 use Rattle.store_abstraction.specs.declared.layout.Layout.{Layout}
 use Rattle.store_abstraction.specs.Local.{StandsIn}
-use Rattle.record_diff.specs.Touched.{changes_at}
+use Rattle.record_index.specs.diff.Touched.{changes_at}
 use Rattle.record_delete.specs.inner.Adding.{AddsThese, Clears}
 use Rattle.record_delete.specs.inner.Clearing.{cleared_in}
 use Rattle.record_delete.proofs.Cleared.{cleared_is}

@@ -2,12 +2,12 @@ use Rattle.std.proofs.Common.{◌+◌, List, ℕ, Some, subst, sym, take, w64}
 use Rattle.std.specs.Prelude.{Ok, ℤ}
 use Rattle.std.proofs.lemmas.Int.{to_z-of_z}
 use Rattle.std.proofs.lemmas.List.{take_all}
-use Rattle.record_cascade.proofs.Going.{returned}
+use Rattle.base_lemmas.proofs.Results.{err_from_parts as returned}
 use Rattle.store_kv.specs.Tables.{Tables}
 use Rattle.model.specs.Deletes.{without}
 use Rattle.store_abstraction.specs.Calls.{done}
 use Rattle.store_abstraction.specs.Local.{StandsIn}
-use Rattle.record_diff.specs.Touched.{changes_at, touched_changes}
+use Rattle.record_index.specs.diff.Touched.{changes_at, touched_changes}
 use Rattle.record_delete.specs.inner.Adding.{AddsThese}
 use Rattle.record_delete.proofs.Adding.{clears_more}
 use Rattle.record_delete.proofs.Doing.{LosesOne, at_place, one_more, failed_so}

@@ -9,7 +9,7 @@ use Rattle.store_abstraction.specs.Calls.{Calls, done}
 use Rattle.store_abstraction.specs.Layouts.{own_layouts}
 use Rattle.store_abstraction.specs.Local.{StandsIn}
 use Rattle.store_abstraction.specs.Plan.{OrgPlan}
-use Rattle.record_diff.specs.Touched.{has, touched_changes}
+use Rattle.record_index.specs.diff.Touched.{has, touched_changes}
 use Rattle.record_delete.specs.inner.Adding.{AddsThese, Clears}
 use Rattle.record_delete.proofs.Doing.{LosesOne}
 use Rattle.record_delete.proofs.clearing.clear_records.Given as goal

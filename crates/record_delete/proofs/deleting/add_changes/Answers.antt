@@ -8,7 +8,7 @@ use Rattle.model.specs.Deletes.{has_id, loses_lookup, without}
 use Rattle.model.specs.Objects.{record_at}
 use Rattle.model.specs.declared.record.Record.{Record}
 use Rattle.store_abstraction.specs.Local.{StandsIn}
-use Rattle.record_diff.specs.Touched.{has, touched_changes}
+use Rattle.record_index.specs.diff.Touched.{has, touched_changes}
 use Rattle.record_delete.specs.Deleting.{counts_less, deleted_changes, shares_ended}
 use Rattle.record_delete.specs.inner.Adding.{AddsThese}
 use Rattle.record_delete.proofs.Adding.{on_done}

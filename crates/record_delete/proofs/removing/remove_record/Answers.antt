@@ -4,7 +4,7 @@ use Rattle.std.specs.Option.{option_copied}
 use Rattle.store_kv.specs.Draft.{tables_of}
 use Rattle.model.specs.Objects.{object_number, record_at}
 use Rattle.store_abstraction.specs.Local.{StandsIn}
-use Rattle.record_diff.specs.Touched.{changes_at}
+use Rattle.record_index.specs.diff.Touched.{changes_at}
 use Rattle.record_delete.specs.inner.Adding.{Adds, AddsThese}
 use Rattle.record_delete.proofs.Layouts.{laid, ready_at, some_record, unplaced}
 use Rattle.record_delete.proofs.removing.remove_record.Goals as goal

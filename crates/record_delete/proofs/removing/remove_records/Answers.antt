@@ -1,12 +1,12 @@
 use Rattle.std.proofs.Common.{◌+◌, ◌*◌, List, ℕ, Some, arith, subst, sym}
 use Rattle.std.specs.Prelude.{Ok}
 use Rattle.std.proofs.lemmas.List.{take_all}
-use Rattle.record_cascade.proofs.Going.{returned}
+use Rattle.base_lemmas.proofs.Results.{err_from_parts as returned}
 use Rattle.store_kv.specs.Tables.{Tables}
 use Rattle.model.specs.Deletes.{without}
 use Rattle.store_abstraction.specs.Calls.{done}
 use Rattle.store_abstraction.specs.Local.{StandsIn}
-use Rattle.record_diff.specs.Touched.{changes_at, touched_changes}
+use Rattle.record_index.specs.diff.Touched.{changes_at, touched_changes}
 use Rattle.record_delete.specs.inner.Adding.{AddsThese}
 use Rattle.record_delete.proofs.Adding.{adds_then, adds_wider}
 use Rattle.record_delete.proofs.Doing.{IsGone, all_gone, at_place, one_more, failed_so}

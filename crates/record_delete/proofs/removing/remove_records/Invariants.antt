@@ -7,7 +7,7 @@ use Rattle.store_abstraction.specs.Calls.{Calls, done}
 use Rattle.store_abstraction.specs.Layouts.{own_layouts}
 use Rattle.store_abstraction.specs.Local.{StandsIn}
 use Rattle.store_abstraction.specs.Plan.{OrgPlan}
-use Rattle.record_diff.specs.Touched.{touched_changes}
+use Rattle.record_index.specs.diff.Touched.{touched_changes}
 use Rattle.record_delete.specs.inner.Adding.{Adds, AddsThese}
 use Rattle.record_delete.proofs.Doing.{IsGone}
 use Rattle.record_delete.proofs.removing.remove_records.Given as goal

@@ -3,7 +3,7 @@ use Rattle.std.specs.Prelude.{slice_get}
 use Rattle.std.specs.List.{AllByRecursion}
 use Rattle.record_read.specs.Encoding.{field_of_slot}
 use Rattle.store_edit.specs.Rows.{spelled}
-use Rattle.formula_eval.specs.Meaning.{value_at}
+use Rattle.formula.specs.Meaning.{value_at}
 use Rattle.store_rows.specs.Keys.{FitsKey}
 use Rattle.record_index.specs.Changed.{slot_changes}
 use Rattle.record_index.proofs.Values.{at_is, entry_is}

@@ -1,5 +1,5 @@
 use Rattle.std.proofs.Common.{ℕ, List, subst, sym}
-use Rattle.formula_eval.specs.Meaning.{value_at}
+use Rattle.formula.specs.Meaning.{value_at}
 use Rattle.model.specs.Edits.{given_to}
 use Rattle.model.specs.Fields.{column, of_type, value_site}
 use Rattle.record_input.specs.Given.{FindsFor, all_given}

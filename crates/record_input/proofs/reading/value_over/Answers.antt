@@ -1,5 +1,5 @@
 use Rattle.std.specs.Str.{chars}
-use Rattle.formula_eval.specs.Meaning.{value_at}
+use Rattle.formula.specs.Meaning.{value_at}
 use Rattle.model.specs.Edits.{given_to}
 use Rattle.model.specs.Fields.{column, of_type}
 use Rattle.record_input.specs.Given.{all_given}

@@ -1,5 +1,6 @@
 use Rattle.std.proofs.Common.{◌+◌, ◌≤◌, ℕ, Bor, IsTrue, List, Option, subst, arith, take}
 use Rattle.std.specs.Option.{option_map}
+use Rattle.base_lemmas.proofs.Options.{option_map-compose as mapped}
 use Rattle.store_kv.specs.Draft.{removals_of, tables_of}
 use Rattle.store_kv.specs.State.{seen}
 use Rattle.store_rows.specs.Listings.{rows_to, start_of}
@@ -12,7 +13,7 @@ use Rattle.base_value.specs.declared.id.Id.{Id}
 use Rattle.record_read.specs.inner.Found.{listed_from}
 use Rattle.record_read.proofs.Ended.{listed_is_made, made_calls}
 use Rattle.record_read.proofs.Listed.{key_at, prefix_of}
-use Rattle.record_read.proofs.Walking.{WalkLaws, few_seen, mapped, some_mapped, walk_finds}
+use Rattle.record_read.proofs.Walking.{WalkLaws, few_seen, some_mapped, walk_finds}
 use Rattle.record_read.proofs.reads.walk.Goals as goal
 
 pub returns-clause-finds : goal.returns-clause-finds

@@ -1,5 +1,6 @@
 use Rattle.std.proofs.Common.{◌+◌, ◌≤◌, ℕ, Bor, IsTrue, List, Option, subst, arith, take}
 use Rattle.std.specs.Option.{option_map}
+use Rattle.base_lemmas.proofs.Options.{option_map-compose as mapped}
 use Rattle.store_kv.specs.Draft.{removals_of, tables_of}
 use Rattle.store_kv.specs.Prefixes.{raised}
 use Rattle.store_kv.specs.State.{seen}
@@ -9,7 +10,7 @@ use Rattle.store_rows.specs.Rows.{data_form}
 use Rattle.base_value.specs.Id.{is_id}
 use Rattle.base_value.specs.declared.id.Id.{Id}
 use Rattle.record_read.proofs.Listed.{key_at, prefix_of}
-use Rattle.record_read.proofs.Walking.{WalkLaws, few_seen, mapped, rows_found, some_mapped}
+use Rattle.record_read.proofs.Walking.{WalkLaws, few_seen, rows_found, some_mapped}
 use Rattle.record_read.proofs.reads.walk_rows.Goals as goal
 
 pub returns-clause-finds : goal.returns-clause-finds

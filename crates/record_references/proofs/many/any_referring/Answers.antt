@@ -1,8 +1,8 @@
 use Rattle.std.proofs.Common.{ℕ, None, subst}
+use Rattle.base_lemmas.proofs.Lists.{slice_get_as_read as read_there}
 use Rattle.store_kv.specs.Draft.{tables_of}
 use Rattle.record_references.specs.inner.Many.{Scans, kept_after}
 use Rattle.record_references.proofs.Seeking.{ManyLaws, any_finds}
-use Rattle.record_references.proofs.Rows.{read_there}
 use Rattle.record_references.proofs.many.any_referring.Goals as goal
 
 pub returns-clause-finds : goal.returns-clause-finds

@@ -2,11 +2,12 @@ use Rattle.std.proofs.Common.{None, Ok, sym, ap, subst, ◌∙◌}
 use Rattle.std.specs.Prelude.{option_copied}
 use Rattle.std.specs.List.{list_any}
 use Rattle.std.specs.Option.{option_map}
+use Rattle.base_lemmas.proofs.Results.{err_from_parts as returned}
 use Rattle.store_kv.specs.Draft.{tables_of}
 use Rattle.store_abstraction.specs.Calls.{done}
 use Rattle.record_references.specs.inner.Many.{FitsParts, Scans, is_sought, kept_after, parts_bytes}
 use Rattle.record_references.specs.inner.Rows.{FitsFront, Front, parts_at}
-use Rattle.record_references.proofs.Scanned.{all_passed, last_of, more_come, page_failed, page_found, page_read, returned}
+use Rattle.record_references.proofs.Scanned.{all_passed, last_of, more_come, page_failed, page_found, page_read}
 use Rattle.record_references.proofs.many.is_any_sought.Goals as goal
 
 pub returns-in_err-rows-clause-scans : goal.returns-in_err-rows-clause-scans

@@ -1,5 +1,7 @@
 use Rattle.std.proofs.Common.{ℕ, Bor, IsTrue, List, Option, sym, subst, take}
 use Rattle.std.specs.Option.{option_map}
+use Rattle.base_lemmas.proofs.Options.{option_map-compose as mapped}
+use Rattle.base_lemmas.proofs.Lists.{slice_get_as_read as read_there}
 use Rattle.store_kv.specs.Draft.{tables_of}
 use Rattle.store_kv.specs.Prefixes.{raised}
 use Rattle.store_rows.specs.Listings.{rows_to, start_of}
@@ -8,10 +10,9 @@ use Rattle.store_rows.specs.Rows.{relation_form}
 use Rattle.base_value.specs.Id.{is_id}
 use Rattle.base_value.specs.declared.id.Id.{Id}
 use Rattle.record_read.proofs.Ended.{made_calls}
-use Rattle.record_read.proofs.Walking.{mapped, some_mapped}
+use Rattle.record_read.proofs.Walking.{some_mapped}
 use Rattle.record_references.specs.inner.Rows.{FitsFront, Front, front_bytes, ids_from, key_at}
 use Rattle.record_references.proofs.Finding.{ReferLaws, ids_are_made, ids_find}
-use Rattle.record_references.proofs.Rows.{read_there}
 use Rattle.record_references.proofs.relations.referring.Goals as goal
 
 pub rows_after-rows-requires : goal.rows_after-rows-requires

@@ -1,9 +1,10 @@
 use Rattle.std.proofs.Common.{◌≡◌, ◌∙◌, None, subst, sym, w64}
 use Rattle.std.proofs.lemmas.Int.{to_z-of_z}
 use Rattle.std.specs.Prelude.{Err, Ok}
+use Rattle.base_lemmas.proofs.Options.{none_from_no_some as nothing_there}
 use Rattle.record_input.specs.Given.{GivesValues, key_of}
 use Rattle.schema_rules.specs.Objects.{object_of_layout}
-use Rattle.record_save.proofs.GivenRules.{nothing_there, value_refused, values_given}
+use Rattle.record_save.proofs.GivenRules.{value_refused, values_given}
 use Rattle.record_save.proofs.giving.given_record.Goals as goal
 
 pub returns-in-Ok-clause-gives : goal.returns-in-Ok-clause-gives

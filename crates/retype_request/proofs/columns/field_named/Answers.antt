@@ -1,10 +1,10 @@
 use Rattle.std.proofs.Common.{◌∙◌, List, ap}
 use Rattle.std.specs.List.{list_any}
 use Rattle.std.specs.Str.{chars}
+use Rattle.base_lemmas.proofs.Results.{IfOk-same as if_same}
 use Rattle.model.specs.Fields.{is_master}
 use Rattle.retype_request.specs.inner.Columns.{field_by}
 use Rattle.retype_request.proofs.FieldNames.{field_is}
-use Rattle.retype_request.proofs.Reading.{if_same}
 use Rattle.retype_request.proofs.columns.field_named.Goals as goal
 use Rattle.store_abstraction.specs.declared.layout.FieldPlace.{FieldPlace}
 

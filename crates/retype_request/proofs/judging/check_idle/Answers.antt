@@ -6,7 +6,7 @@ use Rattle.model.specs.Rules.{refuse_if}
 use Rattle.store_abstraction.specs.Fails.{of_store}
 use Rattle.store_abstraction.specs.Layouts.{own_change_row}
 use Rattle.retype_request.proofs.Reading.{busy_read, unread_in}
-use Rattle.retype_request.proofs.StepByStep.{passed_on}
+use Rattle.store_edit.proofs.StepByStep.{passed_on}
 use Rattle.retype_request.proofs.judging.check_idle.Goals as goal
 
 pub returns-in_err-row-clause-passes : goal.returns-in_err-row-clause-passes

@@ -2,7 +2,8 @@ use Rattle.std.proofs.Common.{◌≡◌, Some, subst, sym}
 use Rattle.store_edit.proofs.Reading.{two_reads}
 use Rattle.store_kv.specs.Tables.{Tables}
 use Rattle.retype_request.specs.inner.Beginning.{column_rule, place_in}
-use Rattle.retype_request.proofs.StepByStep.{idle_fails, none_fails, passed_on, type_fails, use_fails}
+use Rattle.retype_request.proofs.StepByStep.{idle_fails, none_fails, type_fails, use_fails}
+use Rattle.store_edit.proofs.StepByStep.{passed_on}
 use Rattle.retype_request.proofs.judging.judge_named.Goals as goal
 use Rattle.store_abstraction.specs.Local.{StandsIn}
 

@@ -3,7 +3,7 @@ use Rattle.store_kv.specs.Draft.{tables_of}
 use Rattle.model.specs.Rules.{first_of}
 use Rattle.retype_request.specs.inner.Rules.{row_use}
 use Rattle.retype_request.proofs.Reading.{first_of_rows, unread_of}
-use Rattle.retype_request.proofs.StepByStep.{passed_on}
+use Rattle.store_edit.proofs.StepByStep.{passed_on}
 use Rattle.retype_request.proofs.rules.check_rules.Goals as goal
 use Rattle.schema_rules.specs.Objects.{object_of_layout}
 use Rattle.schema_rules.specs.Rows.{rule_rows}

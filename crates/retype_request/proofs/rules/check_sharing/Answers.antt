@@ -3,9 +3,9 @@ use Rattle.store_kv.specs.Draft.{tables_of}
 use Rattle.model.specs.Rules.{first_of}
 use Rattle.retype_request.specs.inner.Rules.{sharing_use}
 use Rattle.retype_request.proofs.Reading.{first_of_list, unlisted}
-use Rattle.retype_request.proofs.StepByStep.{passed_on}
+use Rattle.store_edit.proofs.StepByStep.{passed_on}
 use Rattle.retype_request.proofs.rules.check_sharing.Goals as goal
-use Rattle.access_rule_rows.specs.SharingRules.{sharing_rows}
+use Rattle.people_rows.specs.sharing.SharingRules.{sharing_rows}
 use Rattle.store_abstraction.specs.Fails.{of_store}
 
 pub returns-in_err-rules-clause-passes : goal.returns-in_err-rules-clause-passes

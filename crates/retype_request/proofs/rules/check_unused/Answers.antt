@@ -3,11 +3,12 @@ use Rattle.store_edit.proofs.Reading.{two_reads}
 use Rattle.store_kv.specs.Tables.{Tables}
 use Rattle.model.specs.Rules.{first_of}
 use Rattle.retype_request.specs.inner.Rules.{row_use, sharing_use, use_rule}
-use Rattle.retype_request.proofs.StepByStep.{fails_here, passed_on, second_passes}
+use Rattle.retype_request.proofs.StepByStep.{second_passes}
+use Rattle.store_edit.proofs.StepByStep.{fails_here, passed_on}
 use Rattle.retype_request.proofs.rules.check_unused.Goals as goal
 use Rattle.schema_rules.specs.Objects.{object_of_layout}
 use Rattle.schema_rules.specs.Rows.{rule_rows}
-use Rattle.access_rule_rows.specs.SharingRules.{sharing_rows}
+use Rattle.people_rows.specs.sharing.SharingRules.{sharing_rows}
 use Rattle.store_abstraction.specs.Local.{StandsIn}
 
 pub returns-in_err-check_rules-clause-passes : goal.returns-in_err-check_rules-clause-passes

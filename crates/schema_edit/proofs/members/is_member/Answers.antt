@@ -1,5 +1,5 @@
 use Rattle.std.proofs.Common.{◌∙◌}
-use Rattle.schema_edit.proofs.Texts.{same_member}
+use Rattle.base_lemmas.proofs.Texts.{bytes_eq-chars as same_member}
 use Rattle.schema_edit.proofs.members.is_member.Goals as goal
 
 pub returns : goal.returns

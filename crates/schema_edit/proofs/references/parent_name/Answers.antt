@@ -3,7 +3,8 @@ use Rattle.std.specs.Str.{chars, encode_utf8_all}
 use Rattle.std.specs.String.{string_bytes}
 use Rattle.std.proofs.lemmas.List.{take_all}
 use Rattle.std.proofs.lemmas.Str.{IsUtf8-string_bytes}
-use Rattle.schema_edit.proofs.Texts.{one_more, parent_is}
+use Rattle.base_lemmas.proofs.Lists.{encodes-push as one_more}
+use Rattle.schema_edit.proofs.Texts.{parent_is}
 use Rattle.schema_edit.proofs.references.parent_name.Goals as goal
 
 pub loop-c-preserved : goal.loop-c-preserved

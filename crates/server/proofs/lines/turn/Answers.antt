@@ -1,6 +1,7 @@
 use Rattle.std.proofs.Common.{◌≡◌, ◌||◌, ◌∙◌, rules, ap, inl, inr, refl, subst, ℕ, Bool, true, false, List, Option, Some, None, Ok}
 use Rattle.std.specs.Io.KnownBytes.{prepend_known}
 use Rattle.std.specs.Io.KnownBytes as known
+use Rattle.base_lemmas.proofs.Bools.{or_from_false as open_still}
 use Rattle.server_http.specs.Reply as http
 use Rattle.server_http.specs.Reply.{no_memory}
 use Rattle.server.specs.Connections.{at_memory}
@@ -12,10 +13,6 @@ use Rattle.server.proofs.lines.turn.Goals as goal
 closed : (a b x : Bool) → a ≡ true → x ≡ a → x ≡ (a || b)
 closed true b x h e = e
 closed false b x h e = cc
-
-open_still : (a b x : Bool) → a ≡ false → x ≡ b → x ≡ (a || b)
-open_still true b x h e = cc
-open_still false b x h e = e
 
 pub returns-after-message-clause-turns : goal.returns-after-message-clause-turns
 returns-after-message-clause-turns g c told sense p s here going full =

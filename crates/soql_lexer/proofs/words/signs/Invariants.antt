@@ -1,5 +1,5 @@
 use Rattle.std.proofs.Common.{◌≡◌, ◌++◌, length}
-use Rattle.soql_grammar.specs.Signs as spec
+use Rattle.soql.specs.grammar.Signs as spec
 use Rattle.soql_lexer.proofs.words.signs.Given as goal
 
 abbrev pub invariant-tokens : goal.invariant-tokens

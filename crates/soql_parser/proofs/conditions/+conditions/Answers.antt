@@ -2,8 +2,8 @@ use Rattle.std.proofs.Common.{rules, arith, ◌≢◌, ◌∷◌, [], sym, ◌�
 use Rattle.std.proofs.lemmas.Result.{err_from_is_err_and}
 use Rattle.base_grammar.specs.Reader.{with_front, after}
 use Rattle.base_grammar.proofs.Lists.{any-ends, any-turn, any_fails, fails_by}
-use Rattle.soql_grammar.specs.Readers.{more_units, unit}
-use Rattle.soql_grammar.specs.Signs.{kind, number}
+use Rattle.soql.specs.grammar.Readers.{more_units, unit}
+use Rattle.soql.specs.grammar.Signs.{kind, number}
 use Rattle.soql_parser.proofs.Lists.{another_takes, unit-suc, unit-zero}
 use Rattle.soql_parser.proofs.conditions.+conditions.Goals as goal
 

@@ -1,7 +1,7 @@
 use Rattle.std.proofs.Common.{◌≡◌, ◌≤◌, ◌+◌, ◌*◌, length}
 use Rattle.base_grammar.specs.Reader.{with_front}
-use Rattle.soql_grammar.specs.Readers as spec
-use Rattle.soql_grammar.specs.Signs.{number}
+use Rattle.soql.specs.grammar.Readers as spec
+use Rattle.soql.specs.grammar.Signs.{number}
 use Rattle.soql_parser.proofs.conditions.+conditions.Given as goal
 
 abbrev pub decreases-unit : goal.decreases-unit

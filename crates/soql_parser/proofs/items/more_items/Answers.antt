@@ -2,7 +2,7 @@ use Rattle.std.proofs.Common.{rules, arith, ap, sym, ◌∙◌, ◌∷◌, [], �
 use Rattle.std.proofs.lemmas.Result.{err_from_is_err_and}
 use Rattle.base_grammar.specs.Reader.{with_front}
 use Rattle.base_grammar.proofs.Lists.{fails_by}
-use Rattle.soql_grammar.specs.Readers.{more_items}
+use Rattle.soql.specs.grammar.Readers.{more_items}
 use Rattle.soql_parser.proofs.Lists.{items-ends, items-turn, items_fails}
 use Rattle.soql_parser.proofs.items.more_items.Goals as goal
 

@@ -1,6 +1,6 @@
 use Rattle.std.proofs.Common.{rules}
 use Rattle.soql_parser.proofs.Top.{reads_by, found_by, only_by, place_by}
-use Rattle.soql_grammar.specs.Readers as spec
+use Rattle.soql.specs.grammar.Readers as spec
 use Rattle.soql_parser.proofs.parsing.parse.Goals as goal
 
 pub returns-clause-reads : goal.returns-clause-reads

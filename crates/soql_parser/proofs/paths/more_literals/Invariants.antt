@@ -1,6 +1,6 @@
 use Rattle.std.proofs.Common.{◌≡◌, ◌≤◌, length}
 use Rattle.base_grammar.specs.Reader.{with_front}
-use Rattle.soql_grammar.specs.Readers as spec
+use Rattle.soql.specs.grammar.Readers as spec
 use Rattle.soql_parser.proofs.paths.more_literals.Given as goal
 
 abbrev pub invariant-items : goal.invariant-items

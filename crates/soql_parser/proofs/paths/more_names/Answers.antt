@@ -2,8 +2,8 @@ use Rattle.std.proofs.Common.{rules, arith, ◌<◌, ◌∷◌, [], sym, ◌∙�
 use Rattle.std.proofs.lemmas.Result.{err_from_is_err_and}
 use Rattle.base_grammar.specs.Reader.{with_front, after}
 use Rattle.base_grammar.proofs.Lists.{list-ends, list-full, list-turn, list_fails, fails_by}
-use Rattle.soql_grammar.specs.Readers.{more_names, name}
-use Rattle.soql_grammar.specs.Signs.{kind}
+use Rattle.soql.specs.grammar.Readers.{more_names, name}
+use Rattle.soql.specs.grammar.Signs.{kind}
 use Rattle.soql_parser.proofs.Lists.{name_takes}
 use Rattle.soql_parser.proofs.paths.more_names.Goals as goal
 

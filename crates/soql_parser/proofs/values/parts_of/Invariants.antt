@@ -1,5 +1,5 @@
 use Rattle.std.proofs.Common.{◌≡◌, ◌++◌, length}
-use Rattle.soql_grammar.specs.Grammar as grammar
+use Rattle.soql.specs.grammar.Grammar as grammar
 use Rattle.soql_parser.proofs.values.parts_of.Given as goal
 
 abbrev pub invariant-pieces : goal.invariant-pieces

@@ -1,7 +1,8 @@
 use Rattle.std.proofs.Common.{◌+◌, ◌∷◌, ◌++◌, ◌∙◌, ap, refl, sym, drop, append-nil}
 use Rattle.std.proofs.lemmas.List.{at_drop_all, at_drop_more}
+use Rattle.std.proofs.lemmas.Result.{on_ok_weaker as on_ok}
 use Rattle.soql_printer.specs.Printing.{printed_condition}
-use Rattle.soql_printer.proofs.Grown.{left_text, none_left, not_text, on_ok, unit_more}
+use Rattle.soql_printer.proofs.Grown.{left_text, none_left, not_text, unit_more}
 use Rattle.soql_printer.proofs.Units.{printed_and, printed_or}
 use Rattle.soql_printer.proofs.conditions.+conditions.Goals as goal
 

@@ -1,6 +1,6 @@
 use Rattle.std.proofs.Common.{◌+◌, arith, subst, sym, w64, ℤ}
 use Rattle.std.proofs.lemmas.Int.{to_z-of_z}
-use Rattle.query_reply.specs.Answers.{IsAskedOf}
+use Rattle.query_json.specs.Answers.{IsAskedOf}
 use Rattle.query_exec.specs.Written.{most_shown}
 use Rattle.store_kv.specs.Draft.{removals_of, tables_of}
 use Rattle.store_abstraction.specs.Calls.{ended}

@@ -1,6 +1,6 @@
 use Rattle.std.proofs.Common.{subst, sym, w64, ℤ}
 use Rattle.std.proofs.lemmas.Int.{to_z-of_z}
-use Rattle.query_reply.specs.Answers.{IsAskedOver}
+use Rattle.query_json.specs.Answers.{IsAskedOver}
 use Rattle.store_kv.specs.Draft.{tables_of}
 use Rattle.api.proofs.Refusing.{answer_of}
 use Rattle.api.proofs.asking.JsonRepliesQueryForm.related.Goals as goal

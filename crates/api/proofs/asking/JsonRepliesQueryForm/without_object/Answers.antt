@@ -1,5 +1,5 @@
 use Rattle.std.proofs.Common.{List, ℕ, subst}
-use Rattle.query_reply.specs.Answers.{Refuses}
+use Rattle.query_json.specs.Answers.{Refuses}
 use Rattle.model.specs.declared.refusal.Refusal.TheVariants.{InvalidType}
 use Rattle.api.proofs.Refusing.{refused_object}
 use Rattle.api.proofs.asking.JsonRepliesQueryForm.without_object.Goals as goal

@@ -1,6 +1,6 @@
 use Rattle.std.proofs.Common.{subst, sym, w64, ℤ}
 use Rattle.std.proofs.lemmas.Int.{to_z-of_z}
-use Rattle.query_reply.specs.Answers.{IsAskedOf}
+use Rattle.query_json.specs.Answers.{IsAskedOf}
 use Rattle.store_kv.specs.Draft.{tables_of}
 use Rattle.cmd_export.proofs.Exported.{asked_flat, lines_of}
 use Rattle.cmd_export.proofs.lines.LineFormQueryForm.flat.Goals as goal

@@ -9,9 +9,9 @@ use Rattle.store_abstraction.specs.Local.{StandsIn}
 use Rattle.store_abstraction.specs.Metadata.{org_of}
 use Rattle.base_value.specs.Id.{made}
 use Rattle.people_edit.specs.inner.Drawing.{IsDrawn, new_rules, one_more}
-use Rattle.people_edit.specs.inner.Judging.{FailsRule}
+use Rattle.store_edit.specs.Judging.{FailsRule}
 use Rattle.people_edit.proofs.Drawing.{row_is, row_missed}
-use Rattle.people_edit.proofs.Judging.{passed_on}
+use Rattle.store_edit.proofs.StepByStep.{passed_on}
 use Rattle.people_edit.proofs.edits.drawing.draw.Goals as goal
 
 pub returns-in_err-row-clause-draws : goal.returns-in_err-row-clause-draws

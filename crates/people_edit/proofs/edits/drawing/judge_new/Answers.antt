@@ -4,7 +4,7 @@ use Rattle.model.specs.Principals.{spelled_id}
 use Rattle.model.specs.Rules.{first_refusal}
 use Rattle.people_edit.specs.inner.Drawing.{new_rules}
 use Rattle.people_edit.proofs.Drawing.{id_fails, name_fails, none_fails, role_fails, room_fails}
-use Rattle.people_edit.proofs.Judging.{passed_on}
+use Rattle.store_edit.proofs.StepByStep.{passed_on}
 use Rattle.people_edit.proofs.edits.drawing.judge_new.Goals as goal
 
 pub returns-in_err-check_name-clause-passes : goal.returns-in_err-check_name-clause-passes

@@ -10,9 +10,9 @@ use Rattle.model.specs.Rules.{Rule, first_of, first_refusal, over_limit, refuse_
 use Rattle.store_codec.specs.Composed.{FitsItems, FitsPrincipal}
 use Rattle.store_abstraction.specs.Local.{StandsIn}
 use Rattle.people_edit.specs.inner.Changing.{IsChangedGroup}
-use Rattle.people_edit.specs.inner.Judging.{FailsRule}
+use Rattle.store_edit.specs.Judging.{FailsRule}
 use Rattle.people_edit.proofs.ChangedOnes.{group_is_set}
-use Rattle.people_edit.proofs.Judging.{fails_here, fifth_fails, five_pass, fourth_fails, passed_on, second_fails, third_fails}
+use Rattle.store_edit.proofs.StepByStep.{fails_here, fifth_fails, five_pass, fourth_fails, passed_on, second_fails, third_fails}
 use Rattle.people_edit.proofs.Members.{first_mapped}
 use Rattle.people_edit.proofs.edits.groups.group_to_set.Goals as goal
 

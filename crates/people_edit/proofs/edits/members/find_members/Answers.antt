@@ -5,7 +5,7 @@ use Rattle.model.specs.Rules.{first_of}
 use Rattle.std.specs.Str.{chars}
 use Rattle.store_abstraction.specs.Calls.{done}
 use Rattle.store_abstraction.specs.Local.{StandsIn}
-use Rattle.people_edit.proofs.Judging.{passed_on}
+use Rattle.store_edit.proofs.StepByStep.{passed_on}
 use Rattle.people_edit.proofs.Members.{none_left, this_fails, this_passes}
 use Rattle.people_edit.proofs.edits.members.find_members.Goals as goal
 

@@ -1,12 +1,13 @@
 use Rattle.std.proofs.Common.{◌≡◌, ◌∙◌, ◌+◌, ◌++◌, [], ◌∷◌, List, ℕ, ap, drop, map, subst, sym}
 use Rattle.std.specs.List.{AllByRecursion}
 use Rattle.std.proofs.lemmas.List.Elements.{All-from_recursion}
+use Rattle.base_lemmas.proofs.Lists.{each-push as all_more, drop-cons_read as rest_is}
 use Rattle.model.specs.Principals.{bad_id, kind_of, principal_of}
 use Rattle.model.specs.Rules.{first_of}
 use Rattle.store_codec.specs.Composed.{FitsPrincipal}
 use Rattle.base_value.specs.declared.sharing.Principal.{Principal}
-use Rattle.people_edit.proofs.Judging.{passed_on}
-use Rattle.people_edit.proofs.Members.{all_made, all_more, kind_fits, none_left, one_more_made, rest_is, this_fails, this_passes}
+use Rattle.store_edit.proofs.StepByStep.{passed_on}
+use Rattle.people_edit.proofs.Members.{all_made, kind_fits, none_left, one_more_made, this_fails, this_passes}
 use Rattle.people_edit.proofs.edits.members.members_of.Goals as goal
 
 pub loop-one-preserved : goal.loop-one-preserved

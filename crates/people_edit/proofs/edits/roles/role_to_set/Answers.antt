@@ -8,9 +8,9 @@ use Rattle.model.specs.Principals.{bad_id, bad_id_if_any, role_at, spelled_id}
 use Rattle.model.specs.Rules.{Rule, first_refusal, refuse_if}
 use Rattle.store_abstraction.specs.Local.{StandsIn}
 use Rattle.people_edit.specs.inner.Changing.{IsChangedRole, bad_parent_id}
-use Rattle.people_edit.specs.inner.Judging.{FailsRule}
+use Rattle.store_edit.specs.Judging.{FailsRule}
 use Rattle.people_edit.proofs.ChangedOnes.{role_is_set, bad_parent_is}
-use Rattle.people_edit.proofs.Judging.{fails_here, four_pass, fourth_fails, passed_on, second_fails, third_fails}
+use Rattle.store_edit.proofs.StepByStep.{fails_here, four_pass, fourth_fails, passed_on, second_fails, third_fails}
 use Rattle.people_edit.proofs.edits.roles.role_to_set.Goals as goal
 
 pub returns-in_err-id-clause-passes : goal.returns-in_err-id-clause-passes

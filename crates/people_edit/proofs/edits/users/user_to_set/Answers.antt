@@ -9,10 +9,11 @@ use Rattle.model.specs.Rules.{Rule, first_refusal, refuse_if}
 use Rattle.model.specs.World.{user_at}
 use Rattle.store_abstraction.specs.Local.{StandsIn}
 use Rattle.people_edit.specs.inner.Changing.{IsChangedUser}
-use Rattle.people_edit.specs.inner.Judging.{FailsRule, lacks_role}
+use Rattle.people_edit.specs.inner.Judging.{lacks_role}
+use Rattle.store_edit.specs.Judging.{FailsRule}
 use Rattle.people_edit.proofs.ChangedOnes.{user_is_set}
 use Rattle.people_edit.proofs.Drawing.{no_role_is}
-use Rattle.people_edit.proofs.Judging.{fails_here, four_pass, fourth_fails, passed_on, second_fails, third_fails}
+use Rattle.store_edit.proofs.StepByStep.{fails_here, four_pass, fourth_fails, passed_on, second_fails, third_fails}
 use Rattle.people_edit.proofs.edits.users.user_to_set.Goals as goal
 
 pub returns-in_err-id-clause-passes : goal.returns-in_err-id-clause-passes

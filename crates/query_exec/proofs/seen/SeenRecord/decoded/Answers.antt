@@ -1,11 +1,12 @@
 use Rattle.std.proofs.Common.{◌≡◌, ◌∙◌, ◌-◌, ℕ, suc, List, Option, Some, None, ap, arith, subst, sym, slice_get}
+use Rattle.std.proofs.lemmas.Option.{slice_get_past as none_got}
 use Rattle.query_plan.specs.Given.{GivesJust}
 use Rattle.record_read.specs.Decoding.{read_slot}
-use Rattle.formula_eval.specs.Meaning.{value_at}
+use Rattle.formula.specs.Meaning.{value_at}
 use Rattle.store_codec.specs.Gives.{Gives}
 use Rattle.store_abstraction.specs.declared.layout.FieldPlace.{FieldPlace}
 use Rattle.store_view.specs.Slots.{slot_in}
-use Rattle.query_exec.proofs.Seeing.{field_read, item_got, none_got, null_read}
+use Rattle.query_exec.proofs.Seeing.{field_read, item_got, null_read}
 use Rattle.query_exec.proofs.seen.SeenRecord.decoded.Goals as goal
 
 pub returns-in-Some : goal.returns-in-Some

@@ -1,5 +1,5 @@
 use Rattle.store_kv.specs.Draft.{tables_of}
-use Rattle.query_paths.specs.Branches.{branch_records}
+use Rattle.query_plan.specs.paths.Branches.{branch_records}
 use Rattle.query_exec.specs.Seen.{seen_record}
 use Rattle.std.proofs.Common.{[]}
 use Rattle.query_related.proofs.Relating.{row_seen}

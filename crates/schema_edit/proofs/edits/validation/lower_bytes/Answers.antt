@@ -3,10 +3,10 @@ use Rattle.std.specs.Char.{encode_utf8}
 use Rattle.std.specs.Str.{chars, encode_utf8_all}
 use Rattle.std.specs.String.{string_bytes}
 use Rattle.std.proofs.lemmas.List.{take_all}
+use Rattle.base_lemmas.proofs.Results.{IfOk-same as if_ok}
 use Rattle.store_abstraction.specs.Metadata.{lower_bytes}
 use Rattle.base_value.specs.Texts.{lower}
 use Rattle.schema_edit.proofs.RuleTexts.{lower_more}
-use Rattle.schema_edit.proofs.Steps.{if_ok}
 use Rattle.schema_edit.proofs.edits.validation.lower_bytes.Goals as goal
 
 pub loop-c-preserved : goal.loop-c-preserved

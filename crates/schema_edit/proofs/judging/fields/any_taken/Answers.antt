@@ -1,5 +1,6 @@
 use Rattle.std.proofs.Common.{◌≡◌, ◌∙◌, ℕ, Bool, List, [], ◌∷◌, map, Option, None, sym, ap}
 use Rattle.std.specs.List.{list_any}
+use Rattle.base_lemmas.proofs.Results.{IfOk-same as if_ok}
 use Rattle.model.specs.declared.refusal.Refusal.TheVariants.{NameTaken}
 use Rattle.model.specs.Cases.{in_case}
 use Rattle.model.specs.Fields.{same_name}
@@ -9,7 +10,7 @@ use Rattle.model.specs.Rules.{refuse_if}
 use Rattle.model.specs.Tenant.{Field}
 use Rattle.store_abstraction.specs.declared.layout.FieldPlace.{FieldPlace}
 use Rattle.schema_edit.proofs.JudgedFields.{all_layouts, number_is}
-use Rattle.schema_edit.proofs.Steps.{field_taken, first_of_all, if_ok, second_of}
+use Rattle.schema_edit.proofs.Steps.{field_taken, first_of_all, second_of}
 use Rattle.schema_edit.proofs.judging.fields.any_taken.Goals as goal
 
 pub returns-in-Some : goal.returns-in-Some

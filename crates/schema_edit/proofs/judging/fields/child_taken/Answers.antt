@@ -1,12 +1,14 @@
 use Rattle.std.proofs.Common.{◌≡◌, ◌∙◌, ℕ, ◌||◌, Bool, List, sym, ap}
 use Rattle.std.specs.List.{list_any}
+use Rattle.base_lemmas.proofs.Results.{IfOk-same as if_ok}
+use Rattle.base_lemmas.proofs.Bools.{or_from_false as or_second}
 use Rattle.model.specs.declared.refusal.Refusal.TheVariants.{NameTaken}
 use Rattle.model.specs.Fields.{same_name}
 use Rattle.model.specs.NewFields.{child_taken, own_parent}
 use Rattle.model.specs.Rules.{refuse_if}
 use Rattle.schema_edit.specs.inner.Relations.{layout_gives}
 use Rattle.schema_edit.proofs.JudgedFields.{child_taken_is}
-use Rattle.schema_edit.proofs.Steps.{if_ok, or_first, or_second}
+use Rattle.schema_edit.proofs.Steps.{or_first}
 use Rattle.schema_edit.proofs.judging.fields.child_taken.Goals.{then-is_taken, else-is_taken}
 use Rattle.schema_edit.proofs.judging.fields.child_taken.Goals as goal
 

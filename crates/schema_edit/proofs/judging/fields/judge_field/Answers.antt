@@ -1,10 +1,11 @@
 use Rattle.std.proofs.Common.{◌∙◌, Some, None, sym, ap}
 use Rattle.std.specs.Str.{chars}
+use Rattle.base_lemmas.proofs.Results.{IfOk-same as if_ok}
 use Rattle.model.specs.NewFields.{add_field, field_rules}
 use Rattle.model.specs.Rules.{first_refusal}
 use Rattle.schema_edit.specs.Judging.{verdict_refusal}
 use Rattle.schema_edit.proofs.JudgedFields.{no_object, no_target, placed}
-use Rattle.schema_edit.proofs.Steps.{at_name, if_ok}
+use Rattle.schema_edit.proofs.Steps.{at_name}
 use Rattle.schema_edit.proofs.judging.fields.judge_field.Goals as goal
 
 pub returns-in_default : goal.returns-in_default

@@ -1,5 +1,7 @@
 use Rattle.std.proofs.Common.{◌≡◌, ◌∙◌, ℕ, ◌||◌, Bool, List, sym, ap}
 use Rattle.std.specs.List.{list_any}
+use Rattle.base_lemmas.proofs.Results.{IfOk-same as if_ok}
+use Rattle.base_lemmas.proofs.Bools.{or_from_false as or_second}
 use Rattle.model.specs.declared.refusal.Refusal.TheVariants.{NameTaken}
 use Rattle.model.specs.Fields.{same_name}
 use Rattle.model.specs.NewFields.{own_child, parent_taken}
@@ -7,7 +9,7 @@ use Rattle.model.specs.Relationships.{parent_name}
 use Rattle.model.specs.Rules.{refuse_if}
 use Rattle.schema_edit.specs.inner.Relations.{layout_gives}
 use Rattle.schema_edit.proofs.JudgedFields.{parent_taken_is}
-use Rattle.schema_edit.proofs.Steps.{if_ok, or_first, or_second}
+use Rattle.schema_edit.proofs.Steps.{or_first}
 use Rattle.schema_edit.proofs.judging.fields.parent_taken.Goals.{then-is_taken, else-is_taken}
 use Rattle.schema_edit.proofs.judging.fields.parent_taken.Goals as goal
 

@@ -1,12 +1,13 @@
 use Rattle.std.proofs.Common.{◌≡◌, ◌∙◌, ℕ, Bool, List, Some, None, sym, ap}
 use Rattle.std.specs.Str.{chars}
 use Rattle.std.specs.List.{list_any}
+use Rattle.base_lemmas.proofs.Results.{IfOk-same as if_ok}
 use Rattle.model.specs.declared.refusal.Refusal.TheVariants.{NameTaken}
 use Rattle.model.specs.Metadata.{child_name_taken}
 use Rattle.model.specs.Rules.{refuse_if}
 use Rattle.schema_edit.specs.inner.Relations.{layout_gives}
 use Rattle.schema_edit.proofs.Judged.{child_free, child_is_taken}
-use Rattle.schema_edit.proofs.Steps.{at_name, if_ok}
+use Rattle.schema_edit.proofs.Steps.{at_name}
 use Rattle.schema_edit.proofs.judging.objects.child_name_taken.Goals as goal
 
 pub returns-in_default : goal.returns-in_default

@@ -1,12 +1,13 @@
 use Rattle.std.proofs.Common.{◌≡◌, ◌∙◌, ℕ, ◌+◌, List, [], ◌∷◌, length, map, None, refl, sym, ap}
 use Rattle.std.specs.Prelude.{codes}
+use Rattle.base_lemmas.proofs.Results.{IfOk-same as if_ok}
 use Rattle.model.specs.declared.limit.Limit.TheVariants as limit
 use Rattle.model.specs.Cases.{in_case}
 use Rattle.model.specs.Metadata.{child_name_taken, master_names, no_parent, object_rules, too_deep}
 use Rattle.model.specs.Names.{bad_name, is_custom_name, taken}
 use Rattle.model.specs.Rules.{MemberRules, Rule, first_refusal, in_body_order, over_limit}
 use Rattle.model.specs.Tenant.{Object}
-use Rattle.schema_edit.proofs.Steps.{after_two, if_ok}
+use Rattle.schema_edit.proofs.Steps.{after_two}
 use Rattle.schema_edit.proofs.judging.objects.judge_object.Goals as goal
 
 pub returns : goal.returns

@@ -1,11 +1,12 @@
 use Rattle.std.proofs.Common.{◌≡◌, ◌∙◌, Bool, true, false, [], ◌∷◌, refl, ap}
 use Rattle.std.specs.Prelude.{bytes_eq, codes, not}
 use Rattle.std.specs.Str.{chars}
+use Rattle.base_lemmas.proofs.Results.{IfOk-same as if_ok}
 use Rattle.model.specs.Rules.{refuse_if, rule_of}
 use Rattle.model.specs.declared.refusal.Refusal.TheVariants.{InvalidName}
 use Rattle.model.specs.Metadata.{master_names}
 use Rattle.model.specs.Names.{bad_name, is_child_name, is_custom_name}
-use Rattle.schema_edit.proofs.Steps.{child_text, field_text, if_ok, rule_here, rule_there, spelled}
+use Rattle.schema_edit.proofs.Steps.{child_text, field_text, rule_here, rule_there, spelled}
 use Rattle.schema_edit.proofs.judging.objects.master_form.Goals as goal
 
 pub returns-then-is_member : goal.returns-then-is_member

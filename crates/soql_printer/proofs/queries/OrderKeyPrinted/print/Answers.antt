@@ -1,5 +1,6 @@
-use Rattle.soql_printer.proofs.Grown.{on_ok, three}
+use Rattle.soql_printer.proofs.Grown.{three}
 use Rattle.soql_printer.proofs.queries.OrderKeyPrinted.print.Goals as goal
+use Rattle.std.proofs.lemmas.Result.{on_ok_weaker as on_ok}
 
 pub returns : goal.returns
 returns c =

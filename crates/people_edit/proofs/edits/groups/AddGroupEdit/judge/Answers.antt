@@ -9,7 +9,7 @@ use Rattle.model.specs.People.{add_group, new_group_rules, next_id, with_group}
 use Rattle.model.specs.Rules.{Rule, first_refusal}
 use Rattle.model.specs.Verdict.{accept, made_new}
 use Rattle.model.specs.World.{group_prefix}
-use Rattle.people_edit.specs.inner.Judging.{FailsRule}
+use Rattle.store_edit.specs.Judging.{FailsRule}
 use Rattle.people_edit.proofs.Deciding.{decides_not}
 use Rattle.people_edit.proofs.Joining.{SamePlan, new_own}
 use Rattle.people_edit.proofs.NewOnes.{GroupLaws, group_row_fits, group_rules_are, group_takes}

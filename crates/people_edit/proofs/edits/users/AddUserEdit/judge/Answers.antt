@@ -14,7 +14,7 @@ use Rattle.std.specs.Prelude.{IsTrue}
 use Rattle.store_abstraction.specs.Metadata.{org_of}
 use Rattle.people_edit.specs.declared.edits.kind.Kind.TheVariants as kind
 use Rattle.people_edit.specs.inner.Drawing.{IsDrawn, new_rules}
-use Rattle.people_edit.specs.inner.Judging.{FailsRule}
+use Rattle.store_edit.specs.Judging.{FailsRule}
 use Rattle.people_edit.proofs.Deciding.{decides_not}
 use Rattle.people_edit.proofs.Joining.{SamePlan, new_own}
 use Rattle.people_edit.proofs.NewOnes.{UserLaws, secret_bytes, user_row_fits, user_takes}

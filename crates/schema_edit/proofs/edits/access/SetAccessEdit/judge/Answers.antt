@@ -12,7 +12,7 @@ use Rattle.store_abstraction.specs.Fails.{of_store}
 use Rattle.store_abstraction.specs.Layouts.{own_object_row}
 use Rattle.store_abstraction.specs.Metadata.{access_of}
 use Rattle.schema_edit.proofs.AccessEdits.{SamePlan, access_fits, access_takes, accepted_on, not_by, refused_on, row_missed, row_read}
-use Rattle.schema_edit.proofs.Putting.{put_is_in}
+use Rattle.store_edit.proofs.Putting.{put_is_in}
 use Rattle.schema_edit.proofs.edits.access.SetAccessEdit.judge.Goals as goal
 
 pub returns-in_err-object-clause-what : goal.returns-in_err-object-clause-what

@@ -2,8 +2,8 @@ use Rattle.model.specs.Metadata.{add_object, object_rules}
 use Rattle.model.specs.Rules.{first_refusal}
 use Rattle.schema_edit.specs.Judging.{verdict_refusal}
 use Rattle.schema_edit.proofs.ObjectEdits.{refusal_is}
-use Rattle.schema_edit.proofs.Steps.{if_ok}
 use Rattle.schema_edit.proofs.judging.addition.NewObjectAddition.refusal.Goals as goal
+use Rattle.base_lemmas.proofs.Results.{IfOk-same as if_ok}
 
 pub returns : goal.returns
 returns c =

@@ -1,12 +1,13 @@
 use Rattle.std.proofs.Common.{◌≡◌, ◌∙◌, Bool, true, false, [], ◌∷◌, None, refl, ap}
 use Rattle.std.specs.Prelude.{bytes_eq, codes, not}
 use Rattle.std.specs.Str.{chars}
+use Rattle.base_lemmas.proofs.Results.{IfOk-same as if_ok}
 use Rattle.model.specs.Rules.{refuse_if, rule_of}
 use Rattle.model.specs.declared.refusal.Refusal.TheVariants.{InvalidName}
 use Rattle.model.specs.Cases.{in_case}
 use Rattle.model.specs.Names.{bad_name, is_child_name, is_custom_name}
 use Rattle.model.specs.NewFields.{child_of}
-use Rattle.schema_edit.proofs.Steps.{if_ok, name_text, rule_here, rule_there, spelled, type_text}
+use Rattle.schema_edit.proofs.Steps.{name_text, rule_here, rule_there, spelled, type_text}
 use Rattle.schema_edit.proofs.judging.fields.FormsRulesByMember.rule_of.Goals as goal
 
 pub returns-then-is_member : goal.returns-then-is_member

@@ -1,11 +1,12 @@
 use Rattle.std.proofs.Common.{◌≡◌, ◌∙◌, ℕ, true, false, [], ◌∷◌, Option, None, refl, sym, ap}
 use Rattle.std.specs.Prelude.{bytes_eq, codes}
 use Rattle.std.specs.Str.{chars}
+use Rattle.base_lemmas.proofs.Results.{IfOk-same as if_ok}
 use Rattle.model.specs.Rules.{Rule, rule_of}
 use Rattle.model.specs.Cases.{in_case}
 use Rattle.model.specs.NewFields.{child_taken, name_taken}
 use Rattle.schema_edit.proofs.JudgedFields.{all_layouts, number_is}
-use Rattle.schema_edit.proofs.Steps.{if_ok, name_text, no_rule, rule_here, rule_there, spelled, type_text}
+use Rattle.schema_edit.proofs.Steps.{name_text, no_rule, rule_here, rule_there, spelled, type_text}
 use Rattle.schema_edit.proofs.judging.fields.NamesRulesByMember.rule_of.Goals.{in_default-via-in-Some+else-is_member-2, in_default-via-in_default}
 use Rattle.schema_edit.proofs.judging.fields.NamesRulesByMember.rule_of.Goals as goal
 

@@ -3,6 +3,7 @@ use Rattle.std.specs.Prelude.{bytes_eq, codes}
 use Rattle.std.specs.Str.{chars}
 use Rattle.model.specs.Rules.{Rule, refuse_if, rule_of}
 use Rattle.std.specs.List.{list_any}
+use Rattle.base_lemmas.proofs.Results.{IfOk-same as if_ok}
 use Rattle.model.specs.declared.metadata_bodies.NewMaster.{NewMaster}
 use Rattle.model.specs.declared.refusal.Refusal.TheVariants.{NameTaken}
 use Rattle.model.specs.Cases.{in_case}
@@ -11,7 +12,7 @@ use Rattle.model.specs.Metadata.{child_name_taken}
 use Rattle.model.specs.Names.{taken}
 use Rattle.model.specs.Tenant.{Object}
 use Rattle.store_abstraction.specs.declared.layout.Layout.{Layout}
-use Rattle.schema_edit.proofs.Steps.{child_text, if_ok, name_text, no_rule, object_taken, rule_here, rule_there, spelled}
+use Rattle.schema_edit.proofs.Steps.{child_text, name_text, no_rule, object_taken, rule_here, rule_there, spelled}
 use Rattle.schema_edit.proofs.judging.objects.NamesRulesByMember.rule_of.Goals.{in_default-via-in-Some+else-is_member-2, in_default-via-in_default}
 use Rattle.schema_edit.proofs.judging.objects.NamesRulesByMember.rule_of.Goals as goal
 

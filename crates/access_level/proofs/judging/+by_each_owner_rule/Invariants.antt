@@ -1,5 +1,0 @@
-use Rattle.std.proofs.Common.{length}
-use Rattle.access_level.proofs.judging.+by_each_owner_rule.Given as goal
-
-abbrev pub decreases-by_each_owner_rule : goal.decreases-by_each_owner_rule
-decreases-by_each_owner_rule l = length l.rules.now

@@ -1,2 +1,0 @@
-pub mod SharingFits
-pub mod SharingRows

@@ -1,0 +1,20 @@
+use Rattle.std.proofs.Common.{◌∙◌, ◌<◌, length, sym, arith}
+use Rattle.schema_rules.specs.Objects.{object_of_layout}
+use Rattle.access_user.specs.level.inner.Parts.{criterion_by_row}
+use Rattle.access_user.proofs.Listed.{left_out, picked_next}
+use Rattle.access_user.proofs.level.knowing.criteria_in.Goals.{in-Some+in_ok-push-in-Some, in-None}
+use Rattle.access_user.proofs.level.knowing.criteria_in.Goals as goal
+
+pub loop-row-preserved : goal.loop-row-preserved
+loop-row-preserved c = λ org t u is.
+    let rows = c.args.rules.now in
+    let i = c.loop-row.row-index in
+    let row = c.row-item.result in
+    let h = criterion_by_row t u c.args.layout.now.object (object_of_layout c.args.layout.now) in
+    let lt : i < length rows = omega (arith, c.loop-row-test.true) in
+    let says = c.in_ok-rule.ensures org t u is in
+    let before = c.loop-row.invariant org t u is in
+    elim c.match-branch-2.branch [
+      | in-Some+in_ok-push-in-Some w ↦ w.found-is ∙ w.in_ok-push-in-Some.ensures.ok ∙ picked_next h rows i row lt c.row-item.is c.loop-row.found w.in-Some.rule before (sym w.in-Some.is ∙ says)
+      | in-None w ↦ w.found-is ∙ left_out h rows i row lt c.row-item.is c.loop-row.found before (sym w.in-None.is ∙ says)
+    ]

@@ -1,0 +1,4 @@
+pub mod Instances
+pub mod Spelled
+pub mod Computing
+pub mod Rows

@@ -1,0 +1,5 @@
+pub mod grammar
+pub mod Meaning
+pub mod Naming
+pub mod Worked
+pub mod Operands

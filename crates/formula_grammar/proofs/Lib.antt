@@ -1,3 +1,0 @@
-pub mod Instances
-pub mod Spelled
-pub mod Computing

@@ -1,3 +1,0 @@
-mod Truths
-mod KnownSigns
-mod FormulaTexts

@@ -1,0 +1,4 @@
+mod Pieces
+mod Within
+pub mod Found
+mod Lists

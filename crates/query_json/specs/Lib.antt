@@ -1,0 +1,4 @@
+pub mod row
+pub mod Answers
+pub mod Planned
+pub mod inner

@@ -1,4 +1,0 @@
-pub mod Among
-pub mod Branching
-pub mod Paged
-pub mod Reading

@@ -1,9 +1,0 @@
-pub mod Order
-pub mod Entries
-pub mod Fits
-pub mod Alike
-pub mod Moving
-pub mod Few
-pub mod Takes
-pub mod Twins
-pub mod Loops

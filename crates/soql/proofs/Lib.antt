@@ -1,0 +1,5 @@
+pub mod Instances
+pub mod QueryInstances
+pub mod Spelled
+pub mod Computing
+pub mod Rows

@@ -1,4 +1,0 @@
-pub mod Like
-pub mod Worked
-pub mod Lexis
-pub mod inner

@@ -1,4 +1,0 @@
-pub mod Instances
-pub mod QueryInstances
-pub mod Spelled
-pub mod Computing

@@ -46,6 +46,9 @@ fn plain_reply(alloc: Global, text: &str) -> Result<Option<String>, AllocError> 
     if reply_text(alloc, &reply)?.as_str() != text {
         return Ok(None);
     }
+    if body.is_empty() {
+        return Ok(Some(format!(in alloc; "{status}")?));
+    }
     Ok(Some(format!(in alloc; "{status} {body}")?))
 }
 

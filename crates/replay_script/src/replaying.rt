@@ -3,6 +3,7 @@
 ghost use Rattle.std.specs.Prelude.{IfOk};
 ghost use Rattle.replay_script.specs.Lines.{HasMoments, MayRun};
 
+use crate::dump::rows_line;
 use crate::line::{Fault, Line, LineFail, RawRow, Run};
 use crate::reading::read_line;
 use crate::report::{Counts, report};
@@ -12,13 +13,16 @@ use base_value::{Bytes, Items, Text};
 use platform::run;
 use std::alloc::{AllocError, Global};
 use std::fmt;
-use store_kv::{Draft, KeepFail, MemoryKeeper};
+use store_kv::{Batch, Change, Draft, KeepFail, Keeper, KeptRow, MemoryKeeper};
 
 // So many bytes may be written to each connection.
 const ROOM: usize = 1 << 20;
 
 // The table of records.
 const DATA_TABLE: u8 = 7;
+
+// No key of a row is beyond this one: a key begins with the number of its organisation, in four bytes.
+const LAST_KEY: [u8; 5] = [255; 5];
 
 /// Why a line is the last.
 #[derive(Debug, Drop)]
@@ -63,6 +67,12 @@ fn strings(alloc: Global, words: &[Text]) -> Result<Vec<String>, AllocError> {
         strings.push(String::from_str(alloc, word.as_str())?)?;
     }
     Ok(strings)
+}
+
+// Adds a change.
+fn add_change(changes: &mut Vec<Change>, change: Change) -> Result<(), AllocError> {
+    changes.push(change)?;
+    Ok(())
 }
 
 // Sets a row of the keeper.
@@ -130,6 +140,8 @@ fn read_text(alloc: Global, text: &str) -> Result<Line, End>
 #[derive(Debug, Drop)]
 pub struct Replay {
     keeper: MemoryKeeper,
+    // How many calls of the keeper are to fail.
+    failing: usize,
 }
 
 impl Replay {
@@ -137,13 +149,44 @@ impl Replay {
     pub fn new(alloc: Global) -> Result<Replay, AllocError> {
         Ok(Replay {
             keeper: MemoryKeeper::new(alloc, &[])?,
+            failing: 0,
         })
     }
 
     // Begins another store, which is empty, with a keeper of which these calls fail.
     fn begin(&mut self, alloc: Global, failing: &Items<u64>) -> Result<(), AllocError> {
         self.keeper = MemoryKeeper::new(alloc, failing.as_slice())?;
+        self.failing = failing.len();
         Ok(())
+    }
+
+    // The rows of a table. A call that fails is made again, since each number fails once.
+    fn rows_of(&mut self, alloc: Global, table: u8) -> Result<Vec<KeptRow>, KeepFail> {
+        for _ in 0..self.failing {
+            match self.keeper.scan(alloc, table, &[], &LAST_KEY, usize::MAX) {
+                Err(KeepFail::Failed) => {}
+                found => return found,
+            }
+        }
+        self.keeper.scan(alloc, table, &[], &LAST_KEY, usize::MAX)
+    }
+
+    // The changes that put the rows of all tables.
+    fn all_rows(&mut self, alloc: Global) -> Result<Batch, KeepFail> {
+        let mut changes = Vec::new(alloc);
+        for table in 0..=u8::MAX {
+            for kept in self.rows_of(alloc, table)? {
+                let KeptRow { key, row } = kept;
+                add_change(&mut changes, Change::Put { table, key, row })?;
+            }
+        }
+        Ok(Batch { changes })
+    }
+
+    // All rows of the keeper, as the line of rows that puts them.
+    fn dump(&mut self, alloc: Global) -> Result<Bytes, End> {
+        let batch = self.all_rows(alloc)?;
+        Ok(rows_line(alloc, batch.changes.as_slice())?)
     }
 
     // Puts rows into the keeper as they are, each in a batch of its own.
@@ -192,7 +235,7 @@ impl Replay {
     // Does what a line says but for words that it runs.
     fn change(&mut self, alloc: Global, line: &Line) -> Result<(), End> {
         match line {
-            Line::Note | Line::Run(_) => Ok(()),
+            Line::Note | Line::Dump | Line::Run(_) => Ok(()),
             Line::Keeper(failing) => Ok(self.begin(alloc, failing)?),
             Line::Rows(rows) => Ok(self.put(alloc, rows.as_slice())?),
         }
@@ -217,6 +260,7 @@ impl Replay {
         match read_text(alloc, text)? {
             Line::Note => Ok(Some(Bytes::from_slice(alloc, text.as_bytes())?)),
             Line::Run(given) => Ok(Some(self.run(alloc, &given)?)),
+            Line::Dump => Ok(Some(self.dump(alloc)?)),
             other => {
                 self.change(alloc, &other)?;
                 Ok(None)

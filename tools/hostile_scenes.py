@@ -208,7 +208,7 @@ PEOPLE = {
         message("PATCH", f"/admin/roles/{person('00E', 1)}", {"parent": person("00E", 6)}),
         message("PATCH", f"/admin/roles/{person('00E', 6)}", {"parent": None}),
         rule("Deal__c", "Sized", "Size__c < 0"), rule("Deal__c", "sized", "TRUE"), new_record("Deal__c", {"Size__c": -1}), new_record("Deal__c", {"Size__c": 1}),
-        message("PATCH", "/admin/objects/Deal__c", {"access": "Read", "hierarchy": False}),
+        message("PATCH", "/admin/objects/Deal__c", {"access": "Read"}),
         sharing_rule("Deal__c", "Big", f"group:{person('00G', 5)}", "Edit", formula="Size__c > 0"),
         sharing_rule("Deal__c", "Own", f"role:{person('00E', 2)}", "Read", **{"from": f"group:{person('00G', 5)}"}),
         message("DELETE", "/admin/sharing-rules/Big"), new_detail("Line", "Deal"), new_field("Line__c", "Kind__c", {"kind": "Picklist", "values": ["a", "b"]}),

@@ -6,6 +6,7 @@
 //! clock (`HasMoments`). `run_script` does the lines of standard input.
 #![tactic(auto)]
 
+mod cases;
 mod line;
 mod parts;
 mod reading;

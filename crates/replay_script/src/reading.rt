@@ -13,10 +13,10 @@ use base_value::Items;
 use std::alloc::Global;
 
 // 9999-12-31T23:59:59Z, in seconds from 1970-01-01T00:00:00Z.
-const LAST_MOMENT: u64 = 253_402_300_799;
+pub(crate) const LAST_MOMENT: u64 = 253_402_300_799;
 
 // So many bytes may be written to the sink at most.
-const MOST_ROOM: u64 = 1 << 20;
+pub(crate) const MOST_ROOM: u64 = 1 << 20;
 
 const RUN: [Name; 8] = [
     Name::Words,

@@ -24,6 +24,14 @@ const DATA_TABLE: u8 = 7;
 // No key of a row is beyond this one: a key begins with the number of its organisation, in four bytes.
 const LAST_KEY: [u8; 5] = [255; 5];
 
+/// What a run came to: its status and counts, and what it left of its standard output and its door.
+#[derive(Debug, Drop)]
+pub(crate) struct Outcome {
+    pub(crate) counts: Counts,
+    pub(crate) sink: MemorySink,
+    pub(crate) door: MemoryDoor,
+}
+
 /// Why a line is the last.
 #[derive(Debug, Drop)]
 pub enum End {
@@ -154,7 +162,7 @@ impl Replay {
     }
 
     // Begins another store, which is empty, with a keeper of which these calls fail.
-    fn begin(&mut self, alloc: Global, failing: &Items<u64>) -> Result<(), AllocError> {
+    pub(crate) fn begin(&mut self, alloc: Global, failing: &Items<u64>) -> Result<(), AllocError> {
         self.keeper = MemoryKeeper::new(alloc, failing.as_slice())?;
         self.failing = failing.len();
         Ok(())
@@ -183,6 +191,25 @@ impl Replay {
         Ok(Batch { changes })
     }
 
+    /// Has these calls of the keeper fail, counted from here on, over the rows that there are.
+    ///
+    /// # Errors
+    ///
+    /// If out of memory.
+    pub(crate) fn fail_at(&mut self, alloc: Global, calls: &[u64]) -> Result<(), KeepFail> {
+        let rows = self.all_rows(alloc)?;
+        let mut later = Items::new(alloc);
+        for call in calls {
+            // One call more puts the rows.
+            later.push(call.saturating_add(1))?;
+        }
+        let mut keeper = MemoryKeeper::new(alloc, later.as_slice())?;
+        keeper.apply(alloc, &rows)?;
+        self.keeper = keeper;
+        self.failing = calls.len();
+        Ok(())
+    }
+
     // All rows of the keeper, as the line of rows that puts them.
     fn dump(&mut self, alloc: Global) -> Result<Bytes, End> {
         let batch = self.all_rows(alloc)?;
@@ -190,7 +217,7 @@ impl Replay {
     }
 
     // Puts rows into the keeper as they are, each in a batch of its own.
-    fn put(&mut self, alloc: Global, rows: &[RawRow]) -> Result<(), KeepFail> {
+    pub(crate) fn put(&mut self, alloc: Global, rows: &[RawRow]) -> Result<(), KeepFail> {
         for row in rows {
             let key = Bytes::from_slice(alloc, row.key.as_slice())?;
             match &row.row {
@@ -201,8 +228,12 @@ impl Replay {
         Ok(())
     }
 
-    // Runs the words over the line's own objects, and gives the object to write.
-    fn run(&mut self, alloc: Global, given: &Run) -> Result<Bytes, End>
+    /// Runs the words over the line's own objects.
+    ///
+    /// # Errors
+    ///
+    /// If out of memory.
+    pub(crate) fn outcome(&mut self, alloc: Global, given: &Run) -> Result<Outcome, AllocError>
         requires { HasMoments given.now }
     {
         let failing = &given.failing;
@@ -229,7 +260,15 @@ impl Replay {
             &mut sink,
             &mut clock,
         );
-        Ok(report(alloc, counts, &sink, &door)?)
+        Ok(Outcome { counts, sink, door })
+    }
+
+    // Runs the words over the line's own objects, and gives the object to write.
+    fn run(&mut self, alloc: Global, given: &Run) -> Result<Bytes, End>
+        requires { HasMoments given.now }
+    {
+        let outcome = self.outcome(alloc, given)?;
+        Ok(report(alloc, outcome.counts, &outcome.sink, &outcome.door)?)
     }
 
     // Does what a line says but for words that it runs.

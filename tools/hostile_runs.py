@@ -15,7 +15,7 @@ from hostile_scenes import NEIGHBOUR, NOWHERE, ORGANISATIONS
 MOMENT = 1767312000
 DUMP = b'{"dump":true}'
 EMPTY = b'{"rows":[]}'
-BATCH_RUNS, BATCH_BYTES = 256, 1 << 23
+BATCH_RUNS, BATCH_BYTES = 64, 1 << 22
 WRITES = (b'{"words"', b'{"dump"')
 
 
@@ -149,7 +149,7 @@ class Runner:
             raise Differs(f"replay ended with {ran.returncode}: {ran.stderr.decode(errors='replace')[-800:]}", runs[-1])
         return found
 
-    def sweep(self, make, check, every=1, chunk=64):
+    def sweep(self, make, check, every=1, chunk=16):
         """Runs number after number from 1 on, until one of which the check says that it met nothing. It returns how many did."""
         first = 1
         while True:

@@ -7,6 +7,7 @@
 #![tactic(auto)]
 
 mod cases;
+mod dump;
 mod line;
 mod parts;
 mod reading;

@@ -3,6 +3,7 @@
 ghost use Rattle.std.specs.Prelude.{IfOk};
 ghost use Rattle.replay_script.specs.Lines.{HasMoments, MayRun};
 
+use crate::dump::rows_line;
 use crate::line::{Fault, Line, LineFail, RawRow, Run};
 use crate::reading::read_line;
 use crate::report::{Counts, report};
@@ -209,6 +210,12 @@ impl Replay {
         Ok(())
     }
 
+    // All rows of the keeper, as the line of rows that puts them.
+    fn dump(&mut self, alloc: Global) -> Result<Bytes, End> {
+        let batch = self.all_rows(alloc)?;
+        Ok(rows_line(alloc, batch.changes.as_slice())?)
+    }
+
     // Puts rows into the keeper as they are, each in a batch of its own.
     pub(crate) fn put(&mut self, alloc: Global, rows: &[RawRow]) -> Result<(), KeepFail> {
         for row in rows {
@@ -267,7 +274,7 @@ impl Replay {
     // Does what a line says but for words that it runs.
     fn change(&mut self, alloc: Global, line: &Line) -> Result<(), End> {
         match line {
-            Line::Note | Line::Run(_) => Ok(()),
+            Line::Note | Line::Dump | Line::Run(_) => Ok(()),
             Line::Keeper(failing) => Ok(self.begin(alloc, failing)?),
             Line::Rows(rows) => Ok(self.put(alloc, rows.as_slice())?),
         }
@@ -292,6 +299,7 @@ impl Replay {
         match read_text(alloc, text)? {
             Line::Note => Ok(Some(Bytes::from_slice(alloc, text.as_bytes())?)),
             Line::Run(given) => Ok(Some(self.run(alloc, &given)?)),
+            Line::Dump => Ok(Some(self.dump(alloc)?)),
             other => {
                 self.change(alloc, &other)?;
                 Ok(None)

@@ -9,7 +9,7 @@ is_feed c = c == 10
 
 -- the bytes before the first line feed, and before a carriage return right before it; all of them if there is no line feed
 abbrev pub first_line : List ℕ → List ℕ
-first_line bytes = option_map_or (λ end. strip_carriage_return (take end bytes)) bytes (position is_feed bytes)
+first_line bytes = option_map_or (λ end. strip_carriage_return (take end bytes)) (position is_feed bytes) bytes
 
 -- how many bytes a secret and its line end have at most
 abbrev pub most_needed : ℕ

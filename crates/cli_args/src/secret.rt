@@ -77,7 +77,7 @@ pub fn put_secret(words: &mut [String], secret: String)
     ensures line { IsCommandLine (map string_bytes words.new) ↔ IsCommandLine (map string_bytes words.old) }
     ensures command { line_command (map string_bytes words.new)
         ≡ option_map (with_secret (string_bytes secret)) (line_command (map string_bytes words.old)) }
-    ensures before { take 2 words.new ≡ take 2 words.old }
+    ensures before { take 2 (map string_bytes words.new) ≡ take 2 (map string_bytes words.old) }
 {
     if let Some(place) = secret_place(words) {
         words[place] = secret;

@@ -15,7 +15,7 @@ use Rattle.api.specs.router.Find.{find, path_parts}
 use Rattle.api.specs.router.Pick.{router_rows}
 use Rattle.api.specs.router.Ways.{any_by_path, any_by_pattern, decides, first_by_path}
 use Rattle.api.proofs.Cuts.{cut, first-from, parts-text}
-use Rattle.api.proofs.Routes.{find-passes, first-takes}
+use Rattle.api.proofs.RouteLaws.{find-passes, first-takes}
 use Rattle.api.proofs.WayLaws.{lines-answer, lines-path, lines-none}
 use Rattle.api.specs.declared.kind.Kind.{Kind}
 use Rattle.api.specs.declared.place.Place.{Place}

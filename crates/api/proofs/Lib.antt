@@ -3,7 +3,7 @@ pub mod FindLaws
 pub mod RouterParts
 pub mod WayLaws
 pub mod Cuts
-pub mod Routes
+pub mod RouteLaws
 pub mod Plain
 pub mod Characters
 pub mod Refusing

@@ -1,6 +1,6 @@
 use Rattle.api.proofs.Cuts.{cut, first-from, parts-text}
 use Rattle.api.proofs.Plain.{plain-patterns}
-use Rattle.api.proofs.Routes.{find-passes, first-takes}
+use Rattle.api.proofs.RouteLaws.{find-passes, first-takes}
 use Rattle.api.proofs.Walks.{first-picks}
 use Rattle.api.proofs.router.laws.route_laws.Goals as goal
 

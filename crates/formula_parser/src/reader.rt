@@ -17,7 +17,7 @@ use formula::{Formula, Kind, Relation, Sign, SignKind, Term};
 use std::alloc::Global;
 
 // A field of any type.
-#[tactic(auto, unfolding(formula::specs::Reading::field))]
+#[tactic(auto, unfolding(formula::specs::grammar::Reading::field))]
 fn field(signs: &[Sign]) -> Result<(u8, &[Sign]), Fail>
     ensures value { Gives (λ x. (x.0, x.1.now)) result (spec.field signs.now) }
     ensures shorter { IfOk result (λ x. length x.1.now < length signs.now) }
@@ -28,7 +28,7 @@ fn field(signs: &[Sign]) -> Result<(u8, &[Sign]), Fail>
     }
 }
 
-#[tactic(auto, unfolding(formula::specs::Reading::picklist))]
+#[tactic(auto, unfolding(formula::specs::grammar::Reading::picklist))]
 fn picklist(signs: &[Sign]) -> Result<(u8, &[Sign]), Fail>
     ensures value { Gives (λ x. (x.0, x.1.now)) result (spec.picklist signs.now) }
     ensures shorter { IfOk result (λ x. length x.1.now < length signs.now) }
@@ -40,7 +40,7 @@ fn picklist(signs: &[Sign]) -> Result<(u8, &[Sign]), Fail>
 }
 
 // A field that has a length.
-#[tactic(auto, unfolding(formula::specs::Reading::measured))]
+#[tactic(auto, unfolding(formula::specs::grammar::Reading::measured))]
 fn measured(signs: &[Sign]) -> Result<(u8, &[Sign]), Fail>
     ensures value { Gives (λ x. (x.0, x.1.now)) result (spec.measured signs.now) }
     ensures shorter { IfOk result (λ x. length x.1.now < length signs.now) }
@@ -51,7 +51,7 @@ fn measured(signs: &[Sign]) -> Result<(u8, &[Sign]), Fail>
     }
 }
 
-#[tactic(auto, unfolding(formula::specs::Reading::text))]
+#[tactic(auto, unfolding(formula::specs::grammar::Reading::text))]
 fn text(alloc: Global, signs: &[Sign]) -> Result<(Text, &[Sign]), Fail>
     ensures value { Gives (λ x. (x.0, x.1.now)) result (spec.text signs.now) }
     ensures shorter { IfOk result (λ x. length x.1.now < length signs.now) }
@@ -62,7 +62,7 @@ fn text(alloc: Global, signs: &[Sign]) -> Result<(Text, &[Sign]), Fail>
     }
 }
 
-#[tactic(auto, unfolding(formula::specs::Reading::relation))]
+#[tactic(auto, unfolding(formula::specs::grammar::Reading::relation))]
 fn relation(signs: &[Sign]) -> Result<(Relation, &[Sign]), Fail>
     ensures value { Gives (λ x. (x.0, x.1.now)) result (spec.relation signs.now) }
     ensures shorter { IfOk result (λ x. length x.1.now < length signs.now) }
@@ -74,7 +74,7 @@ fn relation(signs: &[Sign]) -> Result<(Relation, &[Sign]), Fail>
 }
 
 // A field, a number or a text as a term, with its kind.
-#[tactic(auto, unfolding(formula::specs::Reading::simple))]
+#[tactic(auto, unfolding(formula::specs::grammar::Reading::simple))]
 fn simple(
     alloc: Global,
     wanted: Option<Kind>,
@@ -90,7 +90,7 @@ fn simple(
 }
 
 // The tokens behind LEN, where a number suits.
-#[tactic(auto, unfolding(formula::specs::Reading::len_word))]
+#[tactic(auto, unfolding(formula::specs::grammar::Reading::len_word))]
 fn len_word(wanted: Option<Kind>, signs: &[Sign]) -> Result<&[Sign], Fail>
     ensures value { Gives (λ rest. (tt, rest.now)) result (spec.len_word wanted signs.now) }
     ensures shorter { IfOk result (λ rest. length rest.now < length signs.now) }
@@ -108,7 +108,7 @@ fn len_word(wanted: Option<Kind>, signs: &[Sign]) -> Result<&[Sign], Fail>
 }
 
 // A field within PRIORVALUE.
-#[tactic(auto, unfolding(formula::specs::Reading::prior_field))]
+#[tactic(auto, unfolding(formula::specs::grammar::Reading::prior_field))]
 fn prior_field(wanted: Option<Kind>, signs: &[Sign]) -> Result<((Term, Kind), &[Sign]), Fail>
     ensures value { Gives (λ x. (x.0, x.1.now)) result (spec.prior_field wanted signs.now) }
     ensures shorter { IfOk result (λ x. length x.1.now < length signs.now) }
@@ -119,7 +119,7 @@ fn prior_field(wanted: Option<Kind>, signs: &[Sign]) -> Result<((Term, Kind), &[
     }
 }
 
-#[tactic(auto, unfolding(formula::specs::Reading::length_term))]
+#[tactic(auto, unfolding(formula::specs::grammar::Reading::length_term))]
 fn length_term(wanted: Option<Kind>, signs: &[Sign]) -> Result<((Term, Kind), &[Sign]), Fail>
     ensures value { Gives (λ x. (x.0, x.1.now)) result (spec.length_term wanted signs.now) }
     ensures shorter { IfOk result (λ x. length x.1.now < length signs.now) }
@@ -131,7 +131,7 @@ fn length_term(wanted: Option<Kind>, signs: &[Sign]) -> Result<((Term, Kind), &[
     Ok(((Term::Len(position), Kind::Number), rest))
 }
 
-#[tactic(auto, unfolding(formula::specs::Reading::prior_term))]
+#[tactic(auto, unfolding(formula::specs::grammar::Reading::prior_term))]
 fn prior_term(wanted: Option<Kind>, signs: &[Sign]) -> Result<((Term, Kind), &[Sign]), Fail>
     ensures value { Gives (λ x. (x.0, x.1.now)) result (spec.prior_term wanted signs.now) }
     ensures shorter { IfOk result (λ x. length x.1.now < length signs.now) }
@@ -144,7 +144,7 @@ fn prior_term(wanted: Option<Kind>, signs: &[Sign]) -> Result<((Term, Kind), &[S
 }
 
 // A term of the kind that is wanted, or of any, with its kind.
-#[tactic(auto, unfolding(formula::specs::Reading::term_of))]
+#[tactic(auto, unfolding(formula::specs::grammar::Reading::term_of))]
 fn term_of(
     alloc: Global,
     wanted: Option<Kind>,
@@ -163,7 +163,7 @@ fn term_of(
 }
 
 // A relation, and a term of this kind.
-#[tactic(auto, unfolding(formula::specs::Reading::ending))]
+#[tactic(auto, unfolding(formula::specs::grammar::Reading::ending))]
 fn ending(alloc: Global, left: Kind, signs: &[Sign]) -> Result<((Relation, Term), &[Sign]), Fail>
     ensures value { (term : Term) → Gives (λ x. (x.0, x.1.now)) result (spec.ending (term, left) signs.now) }
     ensures shorter { IfOk result (λ x. length x.1.now < length signs.now) }
@@ -173,7 +173,7 @@ fn ending(alloc: Global, left: Kind, signs: &[Sign]) -> Result<((Relation, Term)
     Ok(((relation, right), rest))
 }
 
-#[tactic(auto, unfolding(formula::specs::Reading::comparison))]
+#[tactic(auto, unfolding(formula::specs::grammar::Reading::comparison))]
 fn comparison(alloc: Global, signs: &[Sign]) -> Result<(Formula, &[Sign]), Fail>
     ensures value { Gives (λ x. (x.0, x.1.now)) result (spec.comparison signs.now) }
     ensures shorter { IfOk result (λ x. length x.1.now < length signs.now) }
@@ -190,7 +190,7 @@ fn comparison(alloc: Global, signs: &[Sign]) -> Result<(Formula, &[Sign]), Fail>
 
 // ---- formulas without formulas within them
 
-#[tactic(auto, unfolding(formula::specs::Reading::truth))]
+#[tactic(auto, unfolding(formula::specs::grammar::Reading::truth))]
 fn truth(signs: &[Sign]) -> Result<(Formula, &[Sign]), Fail>
     ensures value { Gives (λ x. (x.0, x.1.now)) result (spec.truth signs.now) }
     ensures shorter { IfOk result (λ x. length x.1.now < length signs.now) }
@@ -204,7 +204,7 @@ fn truth(signs: &[Sign]) -> Result<(Formula, &[Sign]), Fail>
     }
 }
 
-#[tactic(auto, unfolding(formula::specs::Reading::is_new))]
+#[tactic(auto, unfolding(formula::specs::grammar::Reading::is_new))]
 fn is_new(signs: &[Sign]) -> Result<(Formula, &[Sign]), Fail>
     ensures value { Gives (λ x. (x.0, x.1.now)) result (spec.is_new signs.now) }
     ensures shorter { IfOk result (λ x. length x.1.now < length signs.now) }
@@ -215,7 +215,7 @@ fn is_new(signs: &[Sign]) -> Result<(Formula, &[Sign]), Fail>
     Ok((Formula::IsNew, rest))
 }
 
-#[tactic(auto, unfolding(formula::specs::Reading::is_blank))]
+#[tactic(auto, unfolding(formula::specs::grammar::Reading::is_blank))]
 fn is_blank(signs: &[Sign]) -> Result<(Formula, &[Sign]), Fail>
     ensures value { Gives (λ x. (x.0, x.1.now)) result (spec.is_blank signs.now) }
     ensures shorter { IfOk result (λ x. length x.1.now < length signs.now) }
@@ -227,7 +227,7 @@ fn is_blank(signs: &[Sign]) -> Result<(Formula, &[Sign]), Fail>
     Ok((Formula::IsBlank(position), rest))
 }
 
-#[tactic(auto, unfolding(formula::specs::Reading::is_changed))]
+#[tactic(auto, unfolding(formula::specs::grammar::Reading::is_changed))]
 fn is_changed(signs: &[Sign]) -> Result<(Formula, &[Sign]), Fail>
     ensures value { Gives (λ x. (x.0, x.1.now)) result (spec.is_changed signs.now) }
     ensures shorter { IfOk result (λ x. length x.1.now < length signs.now) }
@@ -240,7 +240,7 @@ fn is_changed(signs: &[Sign]) -> Result<(Formula, &[Sign]), Fail>
 }
 
 // A picklist and one of its values.
-#[tactic(auto, unfolding(formula::specs::Reading::choice))]
+#[tactic(auto, unfolding(formula::specs::grammar::Reading::choice))]
 fn choice(alloc: Global, signs: &[Sign]) -> Result<((u8, Text), &[Sign]), Fail>
     ensures value { Gives (λ x. (x.0, x.1.now)) result (spec.choice signs.now) }
     ensures shorter { IfOk result (λ x. length x.1.now < length signs.now) }
@@ -251,7 +251,7 @@ fn choice(alloc: Global, signs: &[Sign]) -> Result<((u8, Text), &[Sign]), Fail>
     Ok(((field, value), rest))
 }
 
-#[tactic(auto, unfolding(formula::specs::Reading::is_pickval))]
+#[tactic(auto, unfolding(formula::specs::grammar::Reading::is_pickval))]
 fn is_pickval(alloc: Global, signs: &[Sign]) -> Result<(Formula, &[Sign]), Fail>
     ensures value { Gives (λ x. (x.0, x.1.now)) result (spec.is_pickval signs.now) }
     ensures shorter { IfOk result (λ x. length x.1.now < length signs.now) }
@@ -263,7 +263,7 @@ fn is_pickval(alloc: Global, signs: &[Sign]) -> Result<(Formula, &[Sign]), Fail>
     Ok((Formula::IsPickval { field, value }, rest))
 }
 
-#[tactic(auto, unfolding(formula::specs::Reading::of_fields))]
+#[tactic(auto, unfolding(formula::specs::grammar::Reading::of_fields))]
 fn of_fields(alloc: Global, signs: &[Sign]) -> Result<(Formula, &[Sign]), Fail>
     ensures value { Gives (λ x. (x.0, x.1.now)) result (spec.of_fields signs.now) }
     ensures shorter { IfOk result (λ x. length x.1.now < length signs.now) }
@@ -279,7 +279,7 @@ fn of_fields(alloc: Global, signs: &[Sign]) -> Result<(Formula, &[Sign]), Fail>
     }
 }
 
-#[tactic(auto, unfolding(formula::specs::Reading::plain))]
+#[tactic(auto, unfolding(formula::specs::grammar::Reading::plain))]
 fn plain(alloc: Global, signs: &[Sign]) -> Result<(Formula, &[Sign]), Fail>
     ensures value { Gives (λ x. (x.0, x.1.now)) result (spec.plain signs.now) }
     ensures shorter { IfOk result (λ x. length x.1.now < length signs.now) }
@@ -309,7 +309,7 @@ fn nested(alloc: Global, levels: usize, signs: &[Sign]) -> Result<(Formula, &[Si
 
 // A formula in which the formulas within it have at most so many levels.
 #[cycle(formulas)]
-#[tactic(auto, unfolding(formula::specs::Reading::formula_over))]
+#[tactic(auto, unfolding(formula::specs::grammar::Reading::formula_over))]
 fn formula_over(alloc: Global, levels: usize, signs: &[Sign]) -> Result<(Formula, &[Sign]), Fail>
     ensures value { Gives (λ x. (x.0, x.1.now)) result (spec.formula_over (spec.nested levels) signs.now) }
     ensures shorter { IfOk result (λ x. length x.1.now < length signs.now) }
@@ -326,7 +326,7 @@ fn formula_over(alloc: Global, levels: usize, signs: &[Sign]) -> Result<(Formula
 }
 
 #[cycle(formulas)]
-#[tactic(auto, unfolding(formula::specs::Reading::negation))]
+#[tactic(auto, unfolding(formula::specs::grammar::Reading::negation))]
 fn negation(alloc: Global, levels: usize, signs: &[Sign]) -> Result<(Formula, &[Sign]), Fail>
     ensures value { Gives (λ x. (x.0, x.1.now)) result (spec.negation (spec.nested levels) signs.now) }
     ensures shorter { IfOk result (λ x. length x.1.now < length signs.now) }
@@ -339,7 +339,7 @@ fn negation(alloc: Global, levels: usize, signs: &[Sign]) -> Result<(Formula, &[
 }
 
 #[cycle(formulas)]
-#[tactic(auto, unfolding(formula::specs::Reading::conjunction))]
+#[tactic(auto, unfolding(formula::specs::grammar::Reading::conjunction))]
 fn conjunction(alloc: Global, levels: usize, signs: &[Sign]) -> Result<(Formula, &[Sign]), Fail>
     ensures value { Gives (λ x. (x.0, x.1.now)) result (spec.conjunction (spec.nested levels) signs.now) }
     ensures shorter { IfOk result (λ x. length x.1.now < length signs.now) }
@@ -352,7 +352,7 @@ fn conjunction(alloc: Global, levels: usize, signs: &[Sign]) -> Result<(Formula,
 }
 
 #[cycle(formulas)]
-#[tactic(auto, unfolding(formula::specs::Reading::disjunction))]
+#[tactic(auto, unfolding(formula::specs::grammar::Reading::disjunction))]
 fn disjunction(alloc: Global, levels: usize, signs: &[Sign]) -> Result<(Formula, &[Sign]), Fail>
     ensures value { Gives (λ x. (x.0, x.1.now)) result (spec.disjunction (spec.nested levels) signs.now) }
     ensures shorter { IfOk result (λ x. length x.1.now < length signs.now) }
@@ -366,7 +366,7 @@ fn disjunction(alloc: Global, levels: usize, signs: &[Sign]) -> Result<(Formula,
 
 // One formula or more, with commas between.
 #[cycle(formulas)]
-#[tactic(auto, unfolding(formula::specs::Reading::formulas))]
+#[tactic(auto, unfolding(formula::specs::grammar::Reading::formulas))]
 fn formulas(alloc: Global, levels: usize, signs: &[Sign]) -> Result<(Items<Formula>, &[Sign]), Fail>
     ensures value { Gives (λ x. (x.0, x.1.now)) result (spec.formulas (spec.nested levels) signs.now) }
     ensures shorter { IfOk result (λ x. length x.1.now < length signs.now) }
@@ -408,7 +408,7 @@ fn another(alloc: Global, levels: usize, signs: &[Sign]) -> Result<(Formula, &[S
 }
 
 /// A whole formula.
-#[tactic(auto, unfolding(formula::specs::Reading::whole))]
+#[tactic(auto, unfolding(formula::specs::grammar::Reading::whole))]
 pub fn whole(alloc: Global, signs: &[Sign]) -> Result<(Formula, &[Sign]), Fail>
     ensures { Gives (λ x. (x.0, x.1.now)) result (spec.whole signs.now) }
 {

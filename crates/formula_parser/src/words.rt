@@ -22,7 +22,7 @@ impl Lexis for FormulaLexis {
         c == '"'
     }
 
-    #[tactic(auto, unfolding(formula::specs::Signs::escape))]
+    #[tactic(auto, unfolding(formula::specs::grammar::Signs::escape))]
     fn escape(c: char) -> Option<Piece> {
         if c == '"' || c == '\\' {
             Some(Piece::Plain(c))
@@ -31,19 +31,19 @@ impl Lexis for FormulaLexis {
         }
     }
 
-    #[tactic(auto, unfolding(formula::specs::Signs::is_mark))]
+    #[tactic(auto, unfolding(formula::specs::grammar::Signs::is_mark))]
     fn is_mark(c: char) -> bool {
         c == '(' || c == ')' || c == ',' || c == '=' || c == '<' || c == '>'
     }
 
-    #[tactic(auto, unfolding(formula::specs::Signs::is_pair))]
+    #[tactic(auto, unfolding(formula::specs::grammar::Signs::is_pair))]
     fn is_pair(c: char, d: char) -> bool {
         c == '<' && (d == '>' || d == '=') || c == '>' && d == '='
     }
 }
 
 // The function word that a text is.
-#[tactic(auto, unfolding(formula::specs::Signs::function_word))]
+#[tactic(auto, unfolding(formula::specs::grammar::Signs::function_word))]
 fn function_word(text: &Text) -> Option<Sign>
     ensures { result ≡ spec.function_word text.now }
 {
@@ -101,7 +101,7 @@ fn field_sign(fields: &[NamedField], text: &Text) -> Sign
     Sign::Bad
 }
 
-#[tactic(auto, unfolding(formula::specs::Signs::mark_sign))]
+#[tactic(auto, unfolding(formula::specs::grammar::Signs::mark_sign))]
 fn mark_sign(c: char) -> Sign
     ensures { result ≡ spec.mark_sign c }
 {
@@ -116,7 +116,7 @@ fn mark_sign(c: char) -> Sign
     }
 }
 
-#[tactic(auto, unfolding(formula::specs::Signs::pair_sign))]
+#[tactic(auto, unfolding(formula::specs::grammar::Signs::pair_sign))]
 fn pair_sign(c: char, d: char) -> Sign
     ensures { result ≡ spec.pair_sign c d }
 {

@@ -11,9 +11,8 @@ ghost use Rattle.platform.specs.Run.{VersionEnds};
 
 use store_abstraction::stands_laws;
 
-/// What commands print, worked by hand. Of `csvq`: a query that ends early; `csvq_rows` of `cmd_csvq` has more.
-/// Of `org-add`: the first organisation, the second, a name and a
-/// secret that are refused, which leave the world as it is.
+/// What commands print, worked by hand. Of `csvq`: a query that ends early. Of `org-add`: the first organisation, the second, a name
+/// and a secret that are refused, which leave the world as it is.
 pub fn printed_rows()
     ensures spelled { printed (csvq (codes "SELECT Id FROM ")) [] (codes "Name\n") []
         ≡ one_deed (record { text = codes "refused: MALFORMED_QUERY: unexpected token at 15\n"; status = 65 }) [] }

@@ -1,4 +1,4 @@
-//! Tests of what `cli_args` says of wrong words, and `replay_script` of wrong lines. What a command does is shown by the script of `replay`.
+//! Tests of what `cli_args` says of wrong words, and `replay_script` of wrong lines. What a command does is shown by the cases of `replay`.
 #![tactic(auto)]
 
 #[cfg(test)]

@@ -122,6 +122,10 @@ pub owner_stops : (t : Tenant) (o : Object) (given : List Assignment) (e : Unrea
 owner_stops t o given (Refused refusal) name owner = owner_refused t o given refusal name owner
 owner_stops t o given Memory name owner = tt
 
+-- `creating` hands it to its tactic by this name
+pub no_more : (vs : List Value) → vs ++ [] ≡ vs
+no_more vs = append-nil vs
+
 -- the same, where the columns are those of other fields
 pub error_of_fields : (t : Tenant) (o : Object) (given : List Assignment) (fields : List FieldPlace) (e : Unread)
     → columns_from 1 fields ≡ custom_columns o

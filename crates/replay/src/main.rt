@@ -1,4 +1,5 @@
-//! The program: it does what each line of standard input says, and writes what that gives to standard output.
+//! The program: it runs the case files that its words name, or with none does what each line of standard input says, and writes what
+//! that gives to standard output.
 #![tactic(auto)]
 
 use replay_script::run_script;

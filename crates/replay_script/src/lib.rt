@@ -1,11 +1,13 @@
-//! Whole scripts over keepers in memory: a line is a JSON object that says what to run, and over what, and a run is
-//! answered by a JSON object.
+//! Case files and scripts over keepers in memory. A case file says who asks, what is asked and what must come; a line of a script is a
+//! JSON object that says what to run, and over what, and a run is answered by a JSON object.
 //!
 //! It depends on `platform` for `run`, on the objects in memory of `base_io` and `store_kv`, on `base_json`, and on the
-//! toolchain's `hex`. It is a tool of the tests, and has no contract but that it is safe and ends; the moments of a line are those of a
-//! clock (`HasMoments`). `run_script` does the lines of standard input.
+//! toolchain's `hex`. It is a tool of the tests, and has no contract but that it is safe and ends; the moments of a run are those of a
+//! clock (`HasMoments`). `run_script` does what the program's words say.
 #![tactic(auto)]
 
+mod cases;
+mod dump;
 mod line;
 mod parts;
 mod reading;

@@ -17,6 +17,7 @@ pub enum Name {
     Failing,
     Rows,
     Note,
+    Dump,
     Source,
     Sink,
     Door,
@@ -65,6 +66,8 @@ pub(crate) struct Run {
 pub(crate) enum Line {
     /// A comment.
     Note,
+    /// All rows of the keeper are to be written.
+    Dump,
     /// Another store, and the calls of its keeper that fail.
     Keeper(Items<u64>),
     /// Rows to put into the keeper as they are.
@@ -123,6 +126,7 @@ impl Name {
             Name::Failing => "failing",
             Name::Rows => "rows",
             Name::Note => "note",
+            Name::Dump => "dump",
             Name::Source => "source",
             Name::Sink => "sink",
             Name::Door => "door",
@@ -143,6 +147,7 @@ impl Name {
             Name::ConnectionsHex => { "must be a list of texts of hexadecimal digits, two a byte" }
             Name::Moments => "must be a list of whole numbers from 0 to 253402300799",
             Name::Room => "must be a whole number from 0 to 1048576",
+            Name::Dump => "must be true",
             Name::Failing => "must be an object",
             Name::Rows => "must be a list of objects",
             Name::Source | Name::Sink | Name::Door | Name::Keeper => {

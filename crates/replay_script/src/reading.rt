@@ -13,10 +13,10 @@ use base_value::Items;
 use std::alloc::Global;
 
 // 9999-12-31T23:59:59Z, in seconds from 1970-01-01T00:00:00Z.
-const LAST_MOMENT: u64 = 253_402_300_799;
+pub(crate) const LAST_MOMENT: u64 = 253_402_300_799;
 
 // So many bytes may be written to the sink at most.
-const MOST_ROOM: u64 = 1 << 20;
+pub(crate) const MOST_ROOM: u64 = 1 << 20;
 
 const RUN: [Name; 8] = [
     Name::Words,
@@ -118,8 +118,17 @@ fn note(alloc: Global, members: &[Member]) -> Result<(), LineFail> {
     Ok(())
 }
 
+// Checks that the member is true.
+fn dump(alloc: Global, members: &[Member]) -> Result<(), LineFail> {
+    check_names(alloc, members, &[Name::Dump])?;
+    match needed(members, Name::Dump)? {
+        Json::Bool(true) => Ok(()),
+        _ => Err(LineFail::Fault(Fault::Wrong(Name::Dump))),
+    }
+}
+
 /// What a line says, by the member that is there: `words` something to run, `rows` rows, `failing` another store with the failing
-/// calls of its keeper, and `note` a comment.
+/// calls of its keeper, `dump` that all rows are to be written, and `note` a comment.
 ///
 /// # Errors
 ///
@@ -137,6 +146,9 @@ pub(crate) fn read_line(alloc: Global, json: &Json) -> Result<Line, LineFail>
         Ok(Line::Rows(rows(alloc, members)?))
     } else if found(members, Name::Failing.text()).is_some() {
         Ok(Line::Keeper(keeper(alloc, members)?))
+    } else if found(members, Name::Dump.text()).is_some() {
+        dump(alloc, members)?;
+        Ok(Line::Dump)
     } else {
         note(alloc, members)?;
         Ok(Line::Note)

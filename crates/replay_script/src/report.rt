@@ -16,14 +16,19 @@ pub(crate) struct Counts {
 // One, as a count of 10^-8.
 const UNIT: i128 = 100_000_000;
 
-// A member's name and its colon.
-fn name(alloc: Global, writer: &mut Writer, name: &str) -> Result<(), AllocError> {
+/// A member's name and its colon.
+pub(crate) fn name(alloc: Global, writer: &mut Writer, name: &str) -> Result<(), AllocError> {
     writer.text(alloc, name)?;
     writer.mark(alloc, Mark::Colon)
 }
 
-// A member with a count.
-fn count(alloc: Global, writer: &mut Writer, member: &str, count: u64) -> Result<(), AllocError> {
+/// A member with a count.
+pub(crate) fn count(
+    alloc: Global,
+    writer: &mut Writer,
+    member: &str,
+    count: u64,
+) -> Result<(), AllocError> {
     name(alloc, writer, member)?;
     writer.number(alloc, i128::from(count) * UNIT)
 }
@@ -43,8 +48,8 @@ fn are_texts(all: &[Vec<u8>]) -> bool {
     true
 }
 
-// The digits of bytes.
-fn digits(alloc: Global, writer: &mut Writer, bytes: &[u8]) -> Result<(), AllocError> {
+/// The digits of bytes.
+pub(crate) fn digits(alloc: Global, writer: &mut Writer, bytes: &[u8]) -> Result<(), AllocError> {
     let digits = hex::encode(alloc, bytes)?;
     writer.text(alloc, digits.as_str())
 }

@@ -1,12 +1,13 @@
-//! A script: the lines of standard input in turn, and what they give on standard output.
+//! What the words ask for: case files, or with none a script, the lines of standard input in turn.
 
+use crate::cases::{AllCases, run_cases};
 use crate::line::Fault;
 use crate::replaying::{End, Replay};
 use base_io::{IoFail, Sink, StdSink, write_all};
 use std::alloc::{AllocError, Global};
-use std::io;
 use std::io::ErrorKind;
 use std::rt::HostRuntime;
+use std::{env, io};
 
 // Why the program ends before the end of its input.
 #[derive(Debug, Drop)]
@@ -19,6 +20,10 @@ enum Stop {
     Input,
     // Standard output failed.
     Output,
+    // A word isn't UTF-8.
+    Words,
+    // A file's cases didn't come as they are wanted, or couldn't be run; that has been said.
+    Cases(u8),
 }
 
 impl From<AllocError> for Stop {
@@ -73,6 +78,30 @@ fn replay_all(rt: &HostRuntime) -> Result<(), Stop> {
     Ok(())
 }
 
+// The words after the program's name.
+fn all_words(rt: &HostRuntime) -> Result<Vec<String>, Stop> {
+    match env::args(rt) {
+        Ok(args) => match args.skip(1).collect(rt.alloc()) {
+            Ok(words) => Ok(words),
+            Err(_) => Err(Stop::Memory),
+        },
+        Err(error) if error.kind() == ErrorKind::InvalidData => Err(Stop::Words),
+        Err(_) => Err(Stop::Memory),
+    }
+}
+
+// Runs the case files that the words name, or with none the script on standard input.
+fn replay_words(rt: &HostRuntime) -> Result<(), Stop> {
+    let words = all_words(rt)?;
+    if words.is_empty() {
+        return replay_all(rt);
+    }
+    match run_cases(rt, &words) {
+        AllCases::Same => Ok(()),
+        AllCases::Ended(status) => Err(Stop::Cases(status)),
+    }
+}
+
 // The status, and a line on standard error.
 fn tell(rt: &HostRuntime, stop: &Stop) -> u8 {
     match stop {
@@ -96,18 +125,25 @@ fn tell(rt: &HostRuntime, stop: &Stop) -> u8 {
             let _ = eprintln!(rt; "replay: standard output failed");
             73
         }
+        Stop::Words => {
+            let _ = eprintln!(rt; "replay: a word isn't UTF-8");
+            64
+        }
+        Stop::Cases(status) => *status,
     }
 }
 
-/// Does what each line of standard input says, over a keeper in memory that lasts until a line begins another, and writes what it gives
-/// to standard output.
+/// Runs the case files that the words name, each over a store of its own, and writes how many cases each has, or the first one that
+/// came otherwise. With no word it does what each line of standard input says, over a keeper in memory that lasts until a line begins
+/// another, and writes what it gives.
 ///
 /// # Errors
 ///
-/// The status of the process, once a line on standard error has said why not all is done: 65 if a line is refused, 71 if out of memory,
-/// 72 if the keeper failed at a line of rows, 73 if standard output failed, 74 if standard input did.
+/// The status of the process: 1 if a case came otherwise. For each other one a line on standard error has said why not all is done: 64 if
+/// a word isn't UTF-8, 65 if a line is refused, 66 if a file can't be read, 71 if out of memory, 72 if the keeper failed at a line of
+/// rows, 73 if standard output failed, 74 if standard input did.
 pub fn run_script(rt: &HostRuntime) -> Result<(), u8> {
-    match replay_all(rt) {
+    match replay_words(rt) {
         Ok(()) => Ok(()),
         Err(stop) => Err(tell(rt, &stop)),
     }

@@ -16,7 +16,7 @@ use std::alloc::{AllocError, Global};
 // ---- words
 
 // The words of conditions and their literals.
-#[tactic(auto, unfolding(soql::specs::Signs::condition_word))]
+#[tactic(auto, unfolding(soql::specs::grammar::Signs::condition_word))]
 fn condition_word(text: &Text) -> Option<Sign>
     ensures { result ≡ spec.condition_word text.now }
 {
@@ -42,7 +42,7 @@ fn condition_word(text: &Text) -> Option<Sign>
 }
 
 // The words of clauses.
-#[tactic(auto, unfolding(soql::specs::Signs::clause_word))]
+#[tactic(auto, unfolding(soql::specs::grammar::Signs::clause_word))]
 fn clause_word(text: &Text) -> Option<Sign>
     ensures { result ≡ spec.clause_word text.now }
 {
@@ -76,7 +76,7 @@ fn clause_word(text: &Text) -> Option<Sign>
 }
 
 // A name, of which three are days too.
-#[tactic(auto, unfolding(soql::specs::Signs::name_sign))]
+#[tactic(auto, unfolding(soql::specs::grammar::Signs::name_sign))]
 fn name_sign(alloc: Global, text: &Text) -> Result<Sign, AllocError>
     ensures { IfOk result (λ sign. sign ≡ spec.name_sign text.now) }
 {
@@ -92,7 +92,7 @@ fn name_sign(alloc: Global, text: &Text) -> Result<Sign, AllocError>
     }
 }
 
-#[tactic(auto, unfolding(soql::specs::Signs::word_sign))]
+#[tactic(auto, unfolding(soql::specs::grammar::Signs::word_sign))]
 fn word_sign(alloc: Global, text: &Text) -> Result<Sign, AllocError>
     ensures { IfOk result (λ sign. sign ≡ spec.word_sign text.now) }
 {
@@ -130,7 +130,7 @@ fn are_digits(chars: &[char]) -> bool
 }
 
 // A number; without a sign and a point it is a count of rows too.
-#[tactic(auto, unfolding(soql::specs::Signs::number_sign))]
+#[tactic(auto, unfolding(soql::specs::grammar::Signs::number_sign))]
 fn number_sign(chars: &[char], count: i128) -> Sign
     ensures { result ≡ spec.number_sign chars.now count }
 {
@@ -175,7 +175,7 @@ fn run_sign(alloc: Global, text: &Text) -> Result<Sign, AllocError>
 
 // ---- marks
 
-#[tactic(auto, unfolding(soql::specs::Signs::mark_sign))]
+#[tactic(auto, unfolding(soql::specs::grammar::Signs::mark_sign))]
 fn mark_sign(c: char) -> Sign
     ensures { result ≡ spec.mark_sign c }
 {
@@ -192,7 +192,7 @@ fn mark_sign(c: char) -> Sign
 }
 
 // The mark of this character and `=`.
-#[tactic(auto, unfolding(soql::specs::Signs::pair_sign))]
+#[tactic(auto, unfolding(soql::specs::grammar::Signs::pair_sign))]
 fn pair_sign(c: char) -> Sign
     ensures { result ≡ spec.pair_sign c }
 {

@@ -14,7 +14,7 @@ use base_value::{Items, Text};
 use soql::{Cond, OrderKey, Path, Sign, SignKind, Tail};
 use std::alloc::Global;
 
-#[tactic(auto, unfolding(soql::specs::Readers::descending))]
+#[tactic(auto, unfolding(soql::specs::grammar::Readers::descending))]
 fn descending(signs: &[Sign]) -> Result<(bool, &[Sign]), Fail>
     ensures value { Gives (λ x. (x.0, x.1.now)) result (spec.descending signs.now) }
     ensures shorter { IfOk result (λ x. length x.1.now < length signs.now) }
@@ -25,7 +25,7 @@ fn descending(signs: &[Sign]) -> Result<(bool, &[Sign]), Fail>
     }
 }
 
-#[tactic(auto, unfolding(soql::specs::Readers::last))]
+#[tactic(auto, unfolding(soql::specs::grammar::Readers::last))]
 fn last(signs: &[Sign]) -> Result<(bool, &[Sign]), Fail>
     ensures value { Gives (λ x. (x.0, x.1.now)) result (spec.last signs.now) }
     ensures shorter { IfOk result (λ x. length x.1.now < length signs.now) }
@@ -36,7 +36,7 @@ fn last(signs: &[Sign]) -> Result<(bool, &[Sign]), Fail>
     }
 }
 
-#[tactic(auto, unfolding(soql::specs::Readers::count))]
+#[tactic(auto, unfolding(soql::specs::grammar::Readers::count))]
 fn count(most: u32, signs: &[Sign]) -> Result<(u32, &[Sign]), Fail>
     ensures value { Gives (λ x. (x.0, x.1.now)) result (spec.count most signs.now) }
     ensures shorter { IfOk result (λ x. length x.1.now < length signs.now) }
@@ -49,7 +49,7 @@ fn count(most: u32, signs: &[Sign]) -> Result<(u32, &[Sign]), Fail>
 
 // ---- keys
 
-#[tactic(auto, unfolding(soql::specs::Readers::direction))]
+#[tactic(auto, unfolding(soql::specs::grammar::Readers::direction))]
 fn direction(signs: &[Sign]) -> Result<(bool, &[Sign]), Fail>
     ensures value { Gives (λ x. (x.0, x.1.now)) result (spec.direction signs.now) }
     ensures shorter { IfOk result (λ x. length x.1.now ≤ length signs.now) }
@@ -61,7 +61,7 @@ fn direction(signs: &[Sign]) -> Result<(bool, &[Sign]), Fail>
     }
 }
 
-#[tactic(auto, unfolding(soql::specs::Readers::nulls))]
+#[tactic(auto, unfolding(soql::specs::grammar::Readers::nulls))]
 fn nulls(signs: &[Sign]) -> Result<(bool, &[Sign]), Fail>
     ensures value { Gives (λ x. (x.0, x.1.now)) result (spec.nulls signs.now) }
     ensures shorter { IfOk result (λ x. length x.1.now ≤ length signs.now) }
@@ -74,7 +74,7 @@ fn nulls(signs: &[Sign]) -> Result<(bool, &[Sign]), Fail>
     }
 }
 
-#[tactic(auto, unfolding(soql::specs::Readers::directed))]
+#[tactic(auto, unfolding(soql::specs::grammar::Readers::directed))]
 fn directed(alloc: Global, signs: &[Sign]) -> Result<((Path, bool), &[Sign]), Fail>
     ensures value { Gives (λ x. (x.0, x.1.now)) result (spec.directed signs.now) }
     ensures shorter { IfOk result (λ x. length x.1.now < length signs.now) }
@@ -84,7 +84,7 @@ fn directed(alloc: Global, signs: &[Sign]) -> Result<((Path, bool), &[Sign]), Fa
     Ok(((path, descending), rest))
 }
 
-#[tactic(auto, unfolding(soql::specs::Readers::key))]
+#[tactic(auto, unfolding(soql::specs::grammar::Readers::key))]
 fn key(alloc: Global, signs: &[Sign]) -> Result<(OrderKey, &[Sign]), Fail>
     ensures value { Gives (λ x. (x.0, x.1.now)) result (spec.key signs.now) }
     ensures shorter { IfOk result (λ x. length x.1.now < length signs.now) }
@@ -131,7 +131,7 @@ fn more_keys(
     Ok((all, rest))
 }
 
-#[tactic(auto, unfolding(soql::specs::Readers::keys))]
+#[tactic(auto, unfolding(soql::specs::grammar::Readers::keys))]
 fn keys(alloc: Global, signs: &[Sign]) -> Result<(Items<OrderKey>, &[Sign]), Fail>
     ensures value { Gives (λ x. (x.0, x.1.now)) result (spec.keys signs.now) }
     ensures shorter { IfOk result (λ x. length x.1.now < length signs.now) }
@@ -142,7 +142,7 @@ fn keys(alloc: Global, signs: &[Sign]) -> Result<(Items<OrderKey>, &[Sign]), Fai
     more_keys(alloc, all, rest)
 }
 
-#[tactic(auto, unfolding(soql::specs::Readers::ordering))]
+#[tactic(auto, unfolding(soql::specs::grammar::Readers::ordering))]
 fn ordering(alloc: Global, signs: &[Sign]) -> Result<(Items<OrderKey>, &[Sign]), Fail>
     ensures value { Gives (λ x. (x.0, x.1.now)) result (spec.ordering signs.now) }
     ensures shorter { IfOk result (λ x. length x.1.now ≤ length signs.now) }
@@ -158,7 +158,7 @@ fn ordering(alloc: Global, signs: &[Sign]) -> Result<(Items<OrderKey>, &[Sign]),
 
 // ---- clauses
 
-#[tactic(auto, unfolding(soql::specs::Readers::filtered))]
+#[tactic(auto, unfolding(soql::specs::grammar::Readers::filtered))]
 fn filtered(alloc: Global, signs: &[Sign]) -> Result<(Option<Cond>, &[Sign]), Fail>
     ensures value { Gives (λ x. (x.0, x.1.now)) result (spec.filtered signs.now) }
     ensures shorter { IfOk result (λ x. length x.1.now < length signs.now) }
@@ -168,7 +168,7 @@ fn filtered(alloc: Global, signs: &[Sign]) -> Result<(Option<Cond>, &[Sign]), Fa
     Ok((Some(condition), rest))
 }
 
-#[tactic(auto, unfolding(soql::specs::Readers::filter))]
+#[tactic(auto, unfolding(soql::specs::grammar::Readers::filter))]
 fn filter(alloc: Global, signs: &[Sign]) -> Result<(Option<Cond>, &[Sign]), Fail>
     ensures value { Gives (λ x. (x.0, x.1.now)) result (spec.filter signs.now) }
     ensures shorter { IfOk result (λ x. length x.1.now ≤ length signs.now) }
@@ -181,7 +181,7 @@ fn filter(alloc: Global, signs: &[Sign]) -> Result<(Option<Cond>, &[Sign]), Fail
 }
 
 // A number behind a word of this kind.
-#[tactic(auto, unfolding(soql::specs::Readers::counted))]
+#[tactic(auto, unfolding(soql::specs::grammar::Readers::counted))]
 fn counted(word: SignKind, most: u32, signs: &[Sign]) -> Result<(Option<u32>, &[Sign]), Fail>
     ensures value { Gives (λ x. (x.0, x.1.now)) result (spec.counted (number word) most signs.now) }
     ensures shorter { IfOk result (λ x. length x.1.now < length signs.now) }
@@ -191,7 +191,7 @@ fn counted(word: SignKind, most: u32, signs: &[Sign]) -> Result<(Option<u32>, &[
     Ok((Some(count), rest))
 }
 
-#[tactic(auto, unfolding(soql::specs::Readers::limit))]
+#[tactic(auto, unfolding(soql::specs::grammar::Readers::limit))]
 fn limit(signs: &[Sign]) -> Result<(Option<u32>, &[Sign]), Fail>
     ensures value { Gives (λ x. (x.0, x.1.now)) result (spec.limit signs.now) }
     ensures shorter { IfOk result (λ x. length x.1.now ≤ length signs.now) }
@@ -203,7 +203,7 @@ fn limit(signs: &[Sign]) -> Result<(Option<u32>, &[Sign]), Fail>
     }
 }
 
-#[tactic(auto, unfolding(soql::specs::Readers::sourced))]
+#[tactic(auto, unfolding(soql::specs::grammar::Readers::sourced))]
 fn sourced(alloc: Global, signs: &[Sign]) -> Result<((Text, Option<Cond>), &[Sign]), Fail>
     ensures value { Gives (λ x. (x.0, x.1.now)) result (spec.sourced signs.now) }
     ensures shorter { IfOk result (λ x. length x.1.now < length signs.now) }
@@ -214,7 +214,7 @@ fn sourced(alloc: Global, signs: &[Sign]) -> Result<((Text, Option<Cond>), &[Sig
     Ok(((from, condition), rest))
 }
 
-#[tactic(auto, unfolding(soql::specs::Readers::ordered))]
+#[tactic(auto, unfolding(soql::specs::grammar::Readers::ordered))]
 fn ordered(
     alloc: Global,
     signs: &[Sign],
@@ -228,7 +228,7 @@ fn ordered(
 }
 
 /// Where rows come from, which they are and in which order.
-#[tactic(auto, unfolding(soql::specs::Readers::tail))]
+#[tactic(auto, unfolding(soql::specs::grammar::Readers::tail))]
 pub fn tail(alloc: Global, signs: &[Sign]) -> Result<(Tail, &[Sign]), Fail>
     ensures value { Gives (λ x. (x.0, x.1.now)) result (spec.tail signs.now) }
     ensures shorter { IfOk result (λ x. length x.1.now < length signs.now) }

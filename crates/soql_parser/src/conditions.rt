@@ -25,7 +25,7 @@ fn unit(alloc: Global, levels: usize, signs: &[Sign]) -> Result<(Cond, &[Sign]),
 }
 
 #[cycle(conditions)]
-#[tactic(auto, unfolding(soql::specs::Readers::inner))]
+#[tactic(auto, unfolding(soql::specs::grammar::Readers::inner))]
 fn inner(alloc: Global, levels: usize, signs: &[Sign]) -> Result<(Cond, &[Sign]), Fail>
     ensures value { Gives (λ x. (x.0, x.1.now)) result (spec.inner (spec.unit levels) signs.now) }
     ensures shorter { IfOk result (λ x. length x.1.now < length signs.now) }
@@ -40,7 +40,7 @@ fn inner(alloc: Global, levels: usize, signs: &[Sign]) -> Result<(Cond, &[Sign])
 }
 
 #[cycle(conditions)]
-#[tactic(auto, unfolding(soql::specs::Readers::negation))]
+#[tactic(auto, unfolding(soql::specs::grammar::Readers::negation))]
 fn negation(alloc: Global, levels: usize, signs: &[Sign]) -> Result<(Cond, &[Sign]), Fail>
     ensures value { Gives (λ x. (x.0, x.1.now)) result (spec.negation (spec.unit levels) signs.now) }
     ensures shorter { IfOk result (λ x. length x.1.now < length signs.now) }
@@ -51,7 +51,7 @@ fn negation(alloc: Global, levels: usize, signs: &[Sign]) -> Result<(Cond, &[Sig
 
 // A condition in parentheses.
 #[cycle(conditions)]
-#[tactic(auto, unfolding(soql::specs::Readers::group))]
+#[tactic(auto, unfolding(soql::specs::grammar::Readers::group))]
 fn group(alloc: Global, levels: usize, signs: &[Sign]) -> Result<(Cond, &[Sign]), Fail>
     ensures value { Gives (λ x. (x.0, x.1.now)) result (spec.group (spec.unit levels) signs.now) }
     ensures shorter { IfOk result (λ x. length x.1.now < length signs.now) }
@@ -100,7 +100,7 @@ fn more_units(
 
 // The units that AND or OR joins.
 #[cycle(conditions)]
-#[tactic(auto, unfolding(soql::specs::Readers::joined))]
+#[tactic(auto, unfolding(soql::specs::grammar::Readers::joined))]
 fn joined(
     alloc: Global,
     levels: usize,
@@ -119,7 +119,7 @@ fn joined(
 }
 
 #[cycle(conditions)]
-#[tactic(auto, unfolding(soql::specs::Readers::conjunction))]
+#[tactic(auto, unfolding(soql::specs::grammar::Readers::conjunction))]
 fn conjunction(
     alloc: Global,
     levels: usize,
@@ -134,7 +134,7 @@ fn conjunction(
 }
 
 #[cycle(conditions)]
-#[tactic(auto, unfolding(soql::specs::Readers::disjunction))]
+#[tactic(auto, unfolding(soql::specs::grammar::Readers::disjunction))]
 fn disjunction(
     alloc: Global,
     levels: usize,
@@ -150,7 +150,7 @@ fn disjunction(
 
 // The condition that a first unit and what is behind it make.
 #[cycle(conditions)]
-#[tactic(auto, unfolding(soql::specs::Readers::chain))]
+#[tactic(auto, unfolding(soql::specs::grammar::Readers::chain))]
 fn chain(alloc: Global, levels: usize, first: Cond, signs: &[Sign]) -> Result<(Cond, &[Sign]), Fail>
     ensures value { Gives (λ x. (x.0, x.1.now)) result (spec.chain (spec.unit levels) first signs.now) }
     ensures shorter { IfOk result (λ x. length x.1.now ≤ length signs.now) }
@@ -166,7 +166,7 @@ fn chain(alloc: Global, levels: usize, first: Cond, signs: &[Sign]) -> Result<(C
 
 // A condition whose units nest at most so many levels.
 #[cycle(conditions)]
-#[tactic(auto, unfolding(soql::specs::Readers::cond_of))]
+#[tactic(auto, unfolding(soql::specs::grammar::Readers::cond_of))]
 fn cond_of(alloc: Global, levels: usize, signs: &[Sign]) -> Result<(Cond, &[Sign]), Fail>
     ensures value { Gives (λ x. (x.0, x.1.now)) result (spec.cond_of (spec.unit levels) signs.now) }
     ensures shorter { IfOk result (λ x. length x.1.now < length signs.now) }
@@ -176,7 +176,7 @@ fn cond_of(alloc: Global, levels: usize, signs: &[Sign]) -> Result<(Cond, &[Sign
 }
 
 /// A whole condition.
-#[tactic(auto, unfolding(soql::specs::Readers::condition))]
+#[tactic(auto, unfolding(soql::specs::grammar::Readers::condition))]
 pub fn condition(alloc: Global, signs: &[Sign]) -> Result<(Cond, &[Sign]), Fail>
     ensures value { Gives (λ x. (x.0, x.1.now)) result (spec.condition signs.now) }
     ensures shorter { IfOk result (λ x. length x.1.now < length signs.now) }

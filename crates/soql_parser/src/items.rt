@@ -44,7 +44,7 @@ fn more_paths(
     Ok((all, rest))
 }
 
-#[tactic(auto, unfolding(soql::specs::Readers::paths))]
+#[tactic(auto, unfolding(soql::specs::grammar::Readers::paths))]
 fn paths(alloc: Global, signs: &[Sign]) -> Result<(Items<Path>, &[Sign]), Fail>
     ensures value { Gives (λ x. (x.0, x.1.now)) result (spec.paths signs.now) }
     ensures shorter { IfOk result (λ x. length x.1.now < length signs.now) }
@@ -55,7 +55,7 @@ fn paths(alloc: Global, signs: &[Sign]) -> Result<(Items<Path>, &[Sign]), Fail>
     more_paths(alloc, all, rest)
 }
 
-#[tactic(auto, unfolding(soql::specs::Readers::within_child))]
+#[tactic(auto, unfolding(soql::specs::grammar::Readers::within_child))]
 fn within_child(alloc: Global, signs: &[Sign]) -> Result<(Item, &[Sign]), Fail>
     ensures value { Gives (λ x. (x.0, x.1.now)) result (spec.within_child signs.now) }
     ensures shorter { IfOk result (λ x. length x.1.now < length signs.now) }
@@ -66,7 +66,7 @@ fn within_child(alloc: Global, signs: &[Sign]) -> Result<(Item, &[Sign]), Fail>
     Ok((Item::Child { paths, tail }, rest))
 }
 
-#[tactic(auto, unfolding(soql::specs::Readers::child))]
+#[tactic(auto, unfolding(soql::specs::grammar::Readers::child))]
 fn child(alloc: Global, signs: &[Sign]) -> Result<(Item, &[Sign]), Fail>
     ensures value { Gives (λ x. (x.0, x.1.now)) result (spec.child signs.now) }
     ensures shorter { IfOk result (λ x. length x.1.now < length signs.now) }
@@ -79,7 +79,7 @@ fn child(alloc: Global, signs: &[Sign]) -> Result<(Item, &[Sign]), Fail>
 
 // ---- items
 
-#[tactic(auto, unfolding(soql::specs::Readers::path_item))]
+#[tactic(auto, unfolding(soql::specs::grammar::Readers::path_item))]
 fn path_item(alloc: Global, signs: &[Sign]) -> Result<(Item, &[Sign]), Fail>
     ensures value { Gives (λ x. (x.0, x.1.now)) result (spec.path_item signs.now) }
     ensures shorter { IfOk result (λ x. length x.1.now < length signs.now) }
@@ -88,7 +88,7 @@ fn path_item(alloc: Global, signs: &[Sign]) -> Result<(Item, &[Sign]), Fail>
     Ok((Item::Path(path), rest))
 }
 
-#[tactic(auto, unfolding(soql::specs::Readers::any_item))]
+#[tactic(auto, unfolding(soql::specs::grammar::Readers::any_item))]
 fn any_item(alloc: Global, signs: &[Sign]) -> Result<(Item, &[Sign]), Fail>
     ensures value { Gives (λ x. (x.0, x.1.now)) result (spec.any_item signs.now) }
     ensures shorter { IfOk result (λ x. length x.1.now < length signs.now) }
@@ -159,7 +159,7 @@ fn more_items(
     Ok((all, rest))
 }
 
-#[tactic(auto, unfolding(soql::specs::Readers::items))]
+#[tactic(auto, unfolding(soql::specs::grammar::Readers::items))]
 fn items(alloc: Global, signs: &[Sign]) -> Result<(Items<Item>, &[Sign]), Fail>
     ensures value { Gives (λ x. (x.0, x.1.now)) result (spec.items signs.now) }
     ensures shorter { IfOk result (λ x. length x.1.now < length signs.now) }
@@ -173,7 +173,7 @@ fn items(alloc: Global, signs: &[Sign]) -> Result<(Items<Item>, &[Sign]), Fail>
 
 // ---- queries
 
-#[tactic(auto, unfolding(soql::specs::Readers::selected))]
+#[tactic(auto, unfolding(soql::specs::grammar::Readers::selected))]
 fn selected(alloc: Global, signs: &[Sign]) -> Result<((Items<Item>, Tail), &[Sign]), Fail>
     ensures value { Gives (λ x. (x.0, x.1.now)) result (spec.selected signs.now) }
     ensures shorter { IfOk result (λ x. length x.1.now < length signs.now) }
@@ -185,7 +185,7 @@ fn selected(alloc: Global, signs: &[Sign]) -> Result<((Items<Item>, Tail), &[Sig
 }
 
 // A number of rows that are left out, at most 2,000.
-#[tactic(auto, unfolding(soql::specs::Readers::count))]
+#[tactic(auto, unfolding(soql::specs::grammar::Readers::count))]
 fn left_out(signs: &[Sign]) -> Result<(u16, &[Sign]), Fail>
     ensures value { Gives (λ x. (x.0, x.1.now)) result (spec.count 2000 signs.now) }
     ensures shorter { IfOk result (λ x. length x.1.now < length signs.now) }
@@ -196,7 +196,7 @@ fn left_out(signs: &[Sign]) -> Result<(u16, &[Sign]), Fail>
     }
 }
 
-#[tactic(auto, unfolding(soql::specs::Readers::offset, soql::specs::Readers::counted))]
+#[tactic(auto, unfolding(soql::specs::grammar::Readers::offset, soql::specs::grammar::Readers::counted))]
 fn offset(signs: &[Sign]) -> Result<(Option<u16>, &[Sign]), Fail>
     ensures value { Gives (λ x. (x.0, x.1.now)) result (spec.offset signs.now) }
     ensures shorter { IfOk result (λ x. length x.1.now ≤ length signs.now) }
@@ -211,7 +211,7 @@ fn offset(signs: &[Sign]) -> Result<(Option<u16>, &[Sign]), Fail>
 }
 
 /// A whole query.
-#[tactic(auto, unfolding(soql::specs::Readers::whole))]
+#[tactic(auto, unfolding(soql::specs::grammar::Readers::whole))]
 pub fn whole(alloc: Global, signs: &[Sign]) -> Result<(Query, &[Sign]), Fail>
     ensures { Gives (λ x. (x.0, x.1.now)) result (spec.whole signs.now) }
 {

@@ -14,7 +14,7 @@ use base_value::{Items, Text};
 use soql::{Cond, LikePattern, Literal, Op, Path, Sign, SignKind};
 use std::alloc::Global;
 
-#[tactic(auto, unfolding(soql::specs::Readers::name))]
+#[tactic(auto, unfolding(soql::specs::grammar::Readers::name))]
 pub fn name(alloc: Global, signs: &[Sign]) -> Result<(Text, &[Sign]), Fail>
     ensures value { Gives (λ x. (x.0, x.1.now)) result (spec.name signs.now) }
     ensures shorter { IfOk result (λ x. length x.1.now < length signs.now) }
@@ -25,7 +25,7 @@ pub fn name(alloc: Global, signs: &[Sign]) -> Result<(Text, &[Sign]), Fail>
     }
 }
 
-#[tactic(auto, unfolding(soql::specs::Readers::literal))]
+#[tactic(auto, unfolding(soql::specs::grammar::Readers::literal))]
 fn literal(alloc: Global, signs: &[Sign]) -> Result<(Literal, &[Sign]), Fail>
     ensures value { Gives (λ x. (x.0, x.1.now)) result (spec.literal signs.now) }
     ensures shorter { IfOk result (λ x. length x.1.now < length signs.now) }
@@ -36,7 +36,7 @@ fn literal(alloc: Global, signs: &[Sign]) -> Result<(Literal, &[Sign]), Fail>
     }
 }
 
-#[tactic(auto, unfolding(soql::specs::Readers::operator))]
+#[tactic(auto, unfolding(soql::specs::grammar::Readers::operator))]
 fn operator(signs: &[Sign]) -> Result<(Op, &[Sign]), Fail>
     ensures value { Gives (λ x. (x.0, x.1.now)) result (spec.operator signs.now) }
     ensures shorter { IfOk result (λ x. length x.1.now < length signs.now) }
@@ -47,7 +47,7 @@ fn operator(signs: &[Sign]) -> Result<(Op, &[Sign]), Fail>
     }
 }
 
-#[tactic(auto, unfolding(soql::specs::Readers::pattern))]
+#[tactic(auto, unfolding(soql::specs::grammar::Readers::pattern))]
 fn pattern(alloc: Global, signs: &[Sign]) -> Result<(LikePattern, &[Sign]), Fail>
     ensures value { Gives (λ x. (x.0, x.1.now)) result (spec.pattern signs.now) }
     ensures shorter { IfOk result (λ x. length x.1.now < length signs.now) }
@@ -93,7 +93,7 @@ fn more_names(
 }
 
 // From 1 to 6 names, with points between.
-#[tactic(auto, unfolding(soql::specs::Readers::names))]
+#[tactic(auto, unfolding(soql::specs::grammar::Readers::names))]
 fn names(alloc: Global, signs: &[Sign]) -> Result<(Items<Text>, &[Sign]), Fail>
     ensures value { Gives (λ x. (x.0, x.1.now)) result (spec.names signs.now) }
     ensures shorter { IfOk result (λ x. length x.1.now < length signs.now) }
@@ -104,7 +104,7 @@ fn names(alloc: Global, signs: &[Sign]) -> Result<(Items<Text>, &[Sign]), Fail>
     more_names(alloc, all, rest)
 }
 
-#[tactic(auto, unfolding(soql::specs::Readers::path))]
+#[tactic(auto, unfolding(soql::specs::grammar::Readers::path))]
 pub fn path(alloc: Global, signs: &[Sign]) -> Result<(Path, &[Sign]), Fail>
     ensures value { Gives (λ x. (x.0, x.1.now)) result (spec.path signs.now) }
     ensures shorter { IfOk result (λ x. length x.1.now < length signs.now) }
@@ -148,7 +148,7 @@ fn more_literals(
 }
 
 // From 1 to 1,000 literals, with commas between.
-#[tactic(auto, unfolding(soql::specs::Readers::literal_list))]
+#[tactic(auto, unfolding(soql::specs::grammar::Readers::literal_list))]
 fn literal_list(alloc: Global, signs: &[Sign]) -> Result<(Items<Literal>, &[Sign]), Fail>
     ensures value { Gives (λ x. (x.0, x.1.now)) result (spec.literal_list signs.now) }
     ensures shorter { IfOk result (λ x. length x.1.now < length signs.now) }
@@ -159,7 +159,7 @@ fn literal_list(alloc: Global, signs: &[Sign]) -> Result<(Items<Literal>, &[Sign
     more_literals(alloc, all, rest)
 }
 
-#[tactic(auto, unfolding(soql::specs::Readers::literals))]
+#[tactic(auto, unfolding(soql::specs::grammar::Readers::literals))]
 fn literals(alloc: Global, signs: &[Sign]) -> Result<(Items<Literal>, &[Sign]), Fail>
     ensures value { Gives (λ x. (x.0, x.1.now)) result (spec.literals signs.now) }
     ensures shorter { IfOk result (λ x. length x.1.now < length signs.now) }
@@ -172,7 +172,7 @@ fn literals(alloc: Global, signs: &[Sign]) -> Result<(Items<Literal>, &[Sign]), 
 
 // ---- tests
 
-#[tactic(auto, unfolding(soql::specs::Readers::comparison))]
+#[tactic(auto, unfolding(soql::specs::grammar::Readers::comparison))]
 fn comparison(alloc: Global, path: Path, signs: &[Sign]) -> Result<(Cond, &[Sign]), Fail>
     ensures value { Gives (λ x. (x.0, x.1.now)) result (spec.comparison path signs.now) }
     ensures shorter { IfOk result (λ x. length x.1.now < length signs.now) }
@@ -182,7 +182,7 @@ fn comparison(alloc: Global, path: Path, signs: &[Sign]) -> Result<(Cond, &[Sign
     Ok((Cond::Test { path, op, literal }, rest))
 }
 
-#[tactic(auto, unfolding(soql::specs::Readers::likeness))]
+#[tactic(auto, unfolding(soql::specs::grammar::Readers::likeness))]
 fn likeness(alloc: Global, path: Path, signs: &[Sign]) -> Result<(Cond, &[Sign]), Fail>
     ensures value { Gives (λ x. (x.0, x.1.now)) result (spec.likeness path signs.now) }
     ensures shorter { IfOk result (λ x. length x.1.now < length signs.now) }
@@ -192,7 +192,7 @@ fn likeness(alloc: Global, path: Path, signs: &[Sign]) -> Result<(Cond, &[Sign])
     Ok((Cond::Like { path, pattern }, rest))
 }
 
-#[tactic(auto, unfolding(soql::specs::Readers::membership))]
+#[tactic(auto, unfolding(soql::specs::grammar::Readers::membership))]
 fn membership(alloc: Global, path: Path, signs: &[Sign]) -> Result<(Cond, &[Sign]), Fail>
     ensures value { Gives (λ x. (x.0, x.1.now)) result (spec.membership path signs.now) }
     ensures shorter { IfOk result (λ x. length x.1.now < length signs.now) }
@@ -207,7 +207,7 @@ fn membership(alloc: Global, path: Path, signs: &[Sign]) -> Result<(Cond, &[Sign
     Ok((test, rest))
 }
 
-#[tactic(auto, unfolding(soql::specs::Readers::exclusion))]
+#[tactic(auto, unfolding(soql::specs::grammar::Readers::exclusion))]
 fn exclusion(alloc: Global, path: Path, signs: &[Sign]) -> Result<(Cond, &[Sign]), Fail>
     ensures value { Gives (λ x. (x.0, x.1.now)) result (spec.exclusion path signs.now) }
     ensures shorter { IfOk result (λ x. length x.1.now < length signs.now) }
@@ -223,7 +223,7 @@ fn exclusion(alloc: Global, path: Path, signs: &[Sign]) -> Result<(Cond, &[Sign]
     Ok((test, rest))
 }
 
-#[tactic(auto, unfolding(soql::specs::Readers::ending))]
+#[tactic(auto, unfolding(soql::specs::grammar::Readers::ending))]
 fn ending(alloc: Global, path: Path, signs: &[Sign]) -> Result<(Cond, &[Sign]), Fail>
     ensures value { Gives (λ x. (x.0, x.1.now)) result (spec.ending path signs.now) }
     ensures shorter { IfOk result (λ x. length x.1.now < length signs.now) }
@@ -239,7 +239,7 @@ fn ending(alloc: Global, path: Path, signs: &[Sign]) -> Result<(Cond, &[Sign]), 
     }
 }
 
-#[tactic(auto, unfolding(soql::specs::Readers::of_path))]
+#[tactic(auto, unfolding(soql::specs::grammar::Readers::of_path))]
 pub fn of_path(alloc: Global, signs: &[Sign]) -> Result<(Cond, &[Sign]), Fail>
     ensures value { Gives (λ x. (x.0, x.1.now)) result (spec.of_path signs.now) }
     ensures shorter { IfOk result (λ x. length x.1.now < length signs.now) }

@@ -57,7 +57,7 @@ pub fn literal_in(alloc: Global, sign: &Sign) -> Result<Option<Literal>, AllocEr
     }
 }
 
-#[tactic(auto, unfolding(soql::specs::Grammar::part_of))]
+#[tactic(auto, unfolding(soql::specs::grammar::Grammar::part_of))]
 fn part_of(piece: Piece) -> LikePart
     ensures { result ≡ grammar.part_of piece }
 {

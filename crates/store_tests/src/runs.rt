@@ -93,8 +93,8 @@ pub(crate) fn count_organisations<K: Keeper>(
     Ok(None)
 }
 
-/// Commands with their input, each over the tables that the one before it left, and how they end. The script of `replay` has the same over
-/// a keeper in memory.
+/// Commands with their input, each over the tables that the one before it left, and how they end. The topic `words` of `replay` has the same
+/// over a keeper in memory.
 pub(crate) const COMMANDS: [(&str, &[u8], &[u8]); 4] = [
     (
         "org-add|Acme|abcdefghijklmnop",

@@ -284,7 +284,7 @@ impl Player {
                 self.trial = Some(Trial::new(alloc, line, Asked::Command(words)));
             }
             Entry::Json(text) => self.trial = Some(Trial::new(alloc, line, Asked::Json(text))),
-            _ => {}
+            _other => {}
         }
         Ok(())
     }

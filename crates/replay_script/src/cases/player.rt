@@ -266,11 +266,17 @@ impl Player {
         Ok(())
     }
 
+    // Begins another store.
+    fn begin(&mut self, alloc: Global) -> Result<(), AllocError> {
+        let none: Items<u64> = Items::new(alloc);
+        self.replay.begin(alloc, &none)
+    }
+
     // Takes what ends a connection.
     fn set(&mut self, alloc: Global, line: u64, entry: Entry) -> Result<(), Stop> {
         match entry {
             Entry::Moments(moments) => self.moments = moments,
-            Entry::Store => self.replay.begin(alloc, &Items::new(alloc))?,
+            Entry::Store => self.begin(alloc)?,
             Entry::Failing(object, calls) => self.fail(alloc, line, object, calls)?,
             Entry::Room(room) => self.room = room,
             Entry::Row(row) => self.put(alloc, line, row)?,
@@ -278,7 +284,7 @@ impl Player {
                 self.trial = Some(Trial::new(alloc, line, Asked::Command(words)));
             }
             Entry::Json(text) => self.trial = Some(Trial::new(alloc, line, Asked::Json(text))),
-            _ => {}
+            _other => {}
         }
         Ok(())
     }

@@ -1,3 +1,2 @@
-pub mod FirstLine
 pub mod InFile
 pub mod Status

@@ -1,3 +1,2 @@
 -- Words of private functions' contracts.
 pub mod Forms
-pub mod Places

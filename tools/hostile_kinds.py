@@ -8,7 +8,7 @@ from collections import namedtuple
 from driving import replies_in
 from hostile_edges import EDGES, run_edge
 from hostile_rows import row_of, spells
-from hostile_runs import DUMP, Differs, Given, Plain, connection, count_of, line_of, lines_of, row_changed, rows_in, served
+from hostile_runs import DUMP, Differs, Given, Plain, changes, connection, line_of, lines_of, row_changed, rows_in, served, with_row
 from hostile_scenes import NEIGHBOUR_ASKS, SCENES
 
 Kind = namedtuple("Kind", "scenes run")
@@ -63,7 +63,8 @@ class Failing:
             return False
         if self.joined:
             self.check_message(given, *map(self.of_joined, written[-2:]))
-        must(given.output in self.stops or given.replies == [FAILED], f"step {self.at + 1} is answered {given.written[:300]}")
+        else:
+            must(given.status == 72 and given.output in self.stops, f"step {self.at + 1} stops with {given.written[:300]}")
         left, behind = self.stops.get(given.output, self.stops[b""])
         must(rows == left, f"step {self.at + 1} failed, with {given.written[:200]}, and the rows aren't those before it")
         must(again == behind, f"step {self.at + 1} failed, and it and the steps behind it are then answered otherwise: {others(again, behind)}")
@@ -113,7 +114,7 @@ class Doors:
 
     def __init__(self, plain, first, second):
         self.plain, self.first, self.second = plain, first, second
-        self.none_met = 0
+        self.none_met, self.last = 0, 0
         # By how many messages of the first connection were done: what is written to both, and the rows.
         runs = [plain.run_from(0, [served(first[:done], second), DUMP]) for done in range(len(first) + 1)]
         self.without = [(Given(given).outputs, rows) for given, rows in plain.runner.many(runs)]
@@ -125,26 +126,28 @@ class Doors:
     def run(self, call):
         return self.plain.run_from(0, [served(self.first, self.second, [call]), DUMP])
 
-    def check(self, _, written):
-        """A fault may be met by a read behind all messages, which nothing shows, so it takes four that show none to be the end."""
-        given, rows = Given(written[0]), written[1]
+    def check(self, call, written):
+        """A read behind all messages may fail, which nothing shows, so four calls that show nothing are taken for the end."""
+        if self.shows(Given(written[0]), written[1]):
+            self.last, self.none_met = call, 0
+        else:
+            self.none_met += 1
+        return self.none_met < 4
+
+    def shows(self, given, rows):
         outputs = given.outputs
         if given.status == 75:
             done = len(self.first) if outputs else 0
-            must(outputs == self.whole[0][:1] if outputs else True, "behind 75 a connection is answered otherwise")
+            must(not outputs or outputs == self.whole[0][:1], "behind 75 a connection is answered otherwise")
             must(rows == (self.second_rows[0] if done else self.plain.rows[0]), "behind 75 the rows are those of other messages")
-            self.none_met = 0
             return True
         must(given.status == 0 and len(outputs) == 2, f"it ends with {given.status} and {len(outputs)} connections")
-        if outputs == self.whole[0] and rows == self.whole[1]:
-            self.none_met += 1
-            return self.none_met < 4
-        self.none_met = 0
         for output, whole in zip(outputs, self.whole[0]):
             if output != whole:
                 self.check_cut(outputs, rows, output, whole)
                 return True
-        raise Differs("all is written, and the rows are others")
+        must(rows == self.whole[1], "all is written, and the rows are others")
+        return False
 
     def check_cut(self, outputs, rows, output, whole):
         must(whole.startswith(output), "what a connection wrote is no prefix of what it writes else")
@@ -160,7 +163,8 @@ class Doors:
 def run_door(runner, name, every):
     plain = Plain(runner, SCENES[name])
     doors = Doors(plain, *messages_of(name))
-    return runner.sweep(doors.run, doors.check, every)
+    runner.sweep(doors.run, doors.check, every)
+    return doors.last
 
 
 # ---- bytes
@@ -228,21 +232,10 @@ def run_bytes(runner, name, every):
     for at in range(last):
         cut = Cut(plain, at, last)
         numbers = list(range(count % every, len(cut.message), every))
-        for number, written in zip(numbers, runner.many([cut.cut_run(number) for number in numbers])):
-            told(cut.cut_run(number), cut.check_cut, number, written)
         pairs = [(number, byte) for number in numbers for byte in BAD if cut.message[number] != byte]
-        for (number, byte), written in zip(pairs, runner.many([cut.run(*pair) for pair in pairs])):
-            told(cut.run(number, byte), cut.check, number, byte, written)
-        count += len(numbers) + len(pairs)
+        count += len(list(runner.each([(number,) for number in numbers], cut.cut_run, cut.check_cut)))
+        count += len(list(runner.each(pairs, cut.run, cut.check)))
     return count
-
-
-def told(run, check, *given):
-    """Checks, and says the lines of a run that differs."""
-    try:
-        check(*given)
-    except Differs as differs:
-        raise Differs(differs.what, run) from None
 
 
 # ---- rows
@@ -266,26 +259,32 @@ class Store:
         self.own = len(asks)
         self.rows = rows_in(plain.rows[at])
         written = plain.runner.one(plain.run_from(at, self.lines()))
-        self.given, self.after = [Given(line) for line in written[::2]], [rows_in(line) for line in written[1::2]]
-        self.changes = [changes(one, other) for one, other in zip([self.rows, *self.after], self.after)]
+        self.given, after = [Given(line) for line in written[::2]], written[1::2]
+        self.changes = [changes(one, other) for one, other in zip([plain.rows[at], *after], after)]
         must(all(given.statuses()[0] < 300 for given in self.given[self.own:self.own + 2]), "the neighbour's requests are refused")
 
     def lines(self):
         return [line for ask in self.asks for line in (connection([ask]), DUMP)]
 
-    def run(self, place, row):
+    def run(self, place, row, _):
         return self.plain.run_from(self.at, [row_changed(place, row), *self.lines()])
 
-    def check(self, place, row, what, written):
+    def check(self, place, row, changed, written):
+        try:
+            self.check_asks(place, row, written)
+        except Differs as differs:
+            raise Differs(f"table {place[0]}, key {place[1]}, {changed}: {differs.what}") from None
+
+    def check_asks(self, place, row, written):
         table, key = place
         given, after = [Given(line) for line in written[::2]], written[1::2]
-        before = {**self.rows, place: row}
+        before = with_row(self.plain.rows[self.at], place, self.rows[place], row)
         if table == 0:
             self.check_version(row, given, after, before)
             return
         told = spells(table, key, row)
         same = True
-        for at, (one, rows) in enumerate(zip(given, map(rows_in, after))):
+        for at, (one, rows) in enumerate(zip(given, after)):
             now, near = changes(before, rows), at >= self.own
             refused = one.statuses() == [DAMAGED]
             must(one.status == 0 and not {503, 507} & set(one.statuses()), f"request {at + 1}: {one.written[:200]}")
@@ -305,7 +304,7 @@ class Store:
         status = 76 if not readable else 77 if row[:8] != "00000001" else 0
         must(all(one.status == status for one in given), f"the version is {row}, and the statuses are {[one.status for one in given]}")
         if status:
-            must(all(not one.output for one in given) and all(rows_in(rows) == before for rows in after), "the version isn't known, and something is written")
+            must(all(not one.output for one in given) and all(rows == before for rows in after), "the version isn't known, and something is written")
 
     def check_record(self, key, row, given):
         """Where a record's name alone is another, the first query shows it so."""
@@ -318,10 +317,6 @@ class Store:
             if record.get("Id", "")[:15] == id15 and "Name" in record:
                 record["Name"] = new[0] or None
         must(json.loads(given[0].replies[0][1]) == wanted, f"the name is {new[0]!r}, and the query shows {given[0].replies[0][1][:300]}")
-
-
-def changes(before, after):
-    return {place: after.get(place) for place in {*before, *after} if before.get(place) != after.get(place)}
 
 
 def others_of(one, other):
@@ -341,17 +336,9 @@ def chosen(rows):
 
 def run_rows(runner, name, every):
     scene = SCENES[name]
-    plain = Plain(runner, scene)
-    store = Store(plain, scene["kept"], scene["asks"])
-    tries = [(place, what, row.hex()) for place in chosen(store.rows) for what, row in variants(store.rows[place])][::every]
-    for first in range(0, len(tries), 512):
-        part = tries[first:first + 512]
-        for (place, what, row), written in zip(part, runner.many([store.run(place, row) for place, _, row in part])):
-            try:
-                store.check(place, row, what, written)
-            except Differs as differs:
-                raise Differs(f"table {place[0]}, key {place[1]}, {what}: {differs.what}", store.run(place, row)) from None
-    return len(tries)
+    store = Store(Plain(runner, scene), scene["kept"], scene["asks"])
+    tries = [(place, row.hex(), what) for place in chosen(store.rows) for what, row in variants(store.rows[place])][::every]
+    return len(list(runner.each(tries, store.run, store.check)))
 
 
 ALL = list(SCENES)

@@ -4,7 +4,10 @@ It is no script itself. A run is a list of lines of a script, which begins with 
 them, which is what `{"dump":true}` writes: two stores are the same if these lines are.
 """
 import json
+import os
 import subprocess
+import tempfile
+import time
 from concurrent.futures import ThreadPoolExecutor
 from functools import cached_property
 
@@ -15,7 +18,7 @@ from hostile_scenes import NEIGHBOUR, NOWHERE, ORGANISATIONS
 MOMENT = 1767312000
 DUMP = b'{"dump":true}'
 EMPTY = b'{"rows":[]}'
-BATCH_RUNS, BATCH_BYTES = 64, 1 << 22
+BATCH_RUNS, BATCH_BYTES, MOST_BYTES = 64, 1 << 22, 1 << 28
 WRITES = (b'{"words"', b'{"dump"')
 
 
@@ -74,9 +77,37 @@ def row_changed(place, row):
     return json.dumps({"rows": [{"table": table, "key": key, "row": row}]}).encode()
 
 
+def pieces(dump):
+    """The rows of a store as they are written, each without its braces."""
+    return dump[len(b'{"rows":[{'):-len(b"}]}")].split(b"},{") if count_of(dump) else []
+
+
+def placed(written):
+    """Of such rows, for each table and key, both as they are written, the row."""
+    found = {}
+    for piece in written:
+        row = json.loads(b"{" + piece + b"}")
+        found[row["table"], row["key"]] = row["row"]
+    return found
+
+
 def rows_in(dump):
-    """The rows of a store: for each table and key, both as they are written, the row."""
-    return {(row["table"], row["key"]): row["row"] for row in json.loads(dump)["rows"]}
+    return placed(pieces(dump))
+
+
+def changes(before, after):
+    """For each table and key where the rows of two stores differ the second one's row, or none."""
+    if before == after:
+        return {}
+    one, other = set(pieces(before)), set(pieces(after))
+    return {**dict.fromkeys(placed(one - other)), **placed(other - one)}
+
+
+def with_row(dump, place, old, row):
+    """The rows of a store with another row in a place."""
+    table, key = place
+    start = f'{{"table":{table},"key":"{key}","row":"'
+    return dump.replace(f'{start}{old}"}}'.encode(), f'{start}{row}"}}'.encode())
 
 
 def count_of(dump):
@@ -149,21 +180,47 @@ class Runner:
             raise Differs(f"replay ended with {ran.returncode}: {ran.stderr.decode(errors='replace')[-800:]}", runs[-1])
         return found
 
-    def sweep(self, make, check, every=1, chunk=16):
-        """Runs number after number from 1 on, until one of which the check says that it met nothing. It returns how many did."""
-        first = 1
-        while True:
-            numbers = [first + at * every for at in range(chunk)]
-            runs = [make(number) for number in numbers]
-            for number, run, written in zip(numbers, runs, self.many(runs)):
+    def measure(self, run):
+        """What a run writes in a process of its own, the seconds, and the megabytes that it held at most."""
+        with tempfile.TemporaryFile() as script, tempfile.TemporaryFile() as output:
+            script.write(b"\n".join(run) + b"\n")
+            script.seek(0)
+            start = time.monotonic()
+            process = subprocess.Popen([self.replay], stdin=script, stdout=output, stderr=subprocess.DEVNULL)
+            _, status, used = os.wait4(process.pid, 0)
+            process.returncode = os.waitstatus_to_exitcode(status)
+            took = time.monotonic() - start
+            output.seek(0)
+            written = output.read().splitlines()
+        if process.returncode or len(written) != sum(line.startswith(WRITES) for line in run):
+            raise Differs(f"replay ended with {process.returncode}", run)
+        return written, took, used.ru_maxrss / 1024
+
+    def each(self, tries, make, check):
+        """Makes a run of each try, and checks what it writes. It yields what the checks return."""
+        tries = list(tries)
+        most = MOST_BYTES // (8 * sum(map(len, make(*tries[0])))) if tries else 1
+        for first in range(0, len(tries), max(8, most)):
+            part = tries[first:first + max(8, most)]
+            runs = [make(*given) for given in part]
+            for given, run, written in zip(part, runs, self.many(runs)):
                 try:
-                    met = check(number, written)
+                    yield check(*given, written)
                 except Differs as differs:
-                    raise Differs(f"number {number}: {differs.what}", run) from None
-                if not met:
-                    return (number - 1) // every
-            first = numbers[-1] + every
-            chunk = min(chunk * 2, 1024)
+                    raise Differs(differs.what, run) from None
+
+    def sweep(self, make, check, every=1):
+        """Runs number after number from 1 on, until one of which the check says that it met nothing; none behind it may meet something.
+        It returns how many did before it."""
+        first, chunk, end = 1, 16, None
+        while end is None:
+            numbers = [first + at * every for at in range(chunk)]
+            for number, met in zip(numbers, self.each([(number,) for number in numbers], make, check)):
+                if met and end:
+                    raise Differs(f"number {end} met nothing, and number {number} did", make(number))
+                end = end or (None if met else number)
+            first, chunk = numbers[-1] + every, min(chunk * 2, 1024)
+        return (end - 1) // every
 
 
 # ---- a scene that meets nothing

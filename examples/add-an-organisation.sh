@@ -18,7 +18,7 @@ fi
 secret=$(openssl rand -hex 24) || exit 1
 $stop || exit 1
 trap '$start' EXIT
-ids=$("$program" "$store" 0 org-add "$1" "$secret") || {
+ids=$(SECRET=$secret "$program" "$store" 0 org-add "$1" env:SECRET) || {
     status=$?
     # A refusal is on standard output.
     printf '%s\n' "$ids" >&2

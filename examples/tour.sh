@@ -28,11 +28,13 @@ São Tomé
 "Washington, D.C."
 END
 
-echo 'An organisation in a file, acme.db: its id and its administrator.'
-try "carmuguur acme.db 0 org-add 'Atlas & Co' \$(openssl rand -hex 24)"
+printf 'An organisation in a file, acme.db: its id and its administrator. The secret is in a variable, so that no other user of the\nmachine sees it.\n'
+try "export SECRET=\$(openssl rand -hex 24)"
+try "carmuguur acme.db 0 org-add 'Atlas & Co' env:SECRET"
 
-printf '\nThe next one has the next id. With - in place of the file all tables are in memory, and end with the run.\n'
-try "carmuguur acme.db 0 org-add Bolt \$(openssl rand -hex 24)"
+printf '\nThe next one has the next id, and its secret in a file. With - in place of the file all tables are in memory, and end with the run.\n'
+try 'openssl rand -hex 24 > bolt.key'
+try 'carmuguur acme.db 0 org-add Bolt file:bolt.key'
 
 printf '\nThe rows of a CSV text, with an id each.\n'
 try "carmuguur - 0 csvq 'SELECT Id, Name FROM Row__c' < capitals.csv"

@@ -10,13 +10,15 @@ Commands:
   csvq QUERY           answers a query over the CSV text on standard input
   org-add NAME SECRET  makes an organisation, and writes its id and its administrator's
   export ORG USER SECRET QUERY
-                       writes the rows of a user's query as CSV; other users of the machine can see SECRET
+                       writes the rows of a user's query as CSV
   load ORG USER SECRET OBJECT
-                       makes or changes a record for each row of the CSV text on standard input, and writes a line for each;
-                       other users of the machine can see SECRET
+                       makes or changes a record for each row of the CSV text on standard input, and writes a line for each
   demo N               watches the change of a field's type over N records, from 0 to 10000, in tables of its own
   answer               answers the HTTP requests of one connection, from standard input to standard output
   serve [COUNT]        answers the HTTP requests of the next COUNT connections at 127.0.0.1:PORT, or of all
+
+A SECRET is the secret itself, or env:NAME for the value of that variable, or file:PATH for the first line of that file. Other users
+of the machine can see the words of a running command, so the secret itself is best not among them.
 
 With CARMUGUUR_LOG=1 in the environment serve says each reply in a line on standard error.
 With CARMUGUUR_QUIET=1 load doesn't say there how many rows it has done.

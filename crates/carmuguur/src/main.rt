@@ -2,19 +2,22 @@
 #![tactic(auto)]
 
 ghost use Rattle.carmuguur.specs.Status.{IsStatusOf};
-ghost use Rattle.std.specs.Prelude.{◌≡◌, ◌⊎◌, ◌↔◌, IfSome, IsNone, map, string_bytes, true};
+ghost use Rattle.std.specs.Prelude.{◌≡◌, ◌⊎◌, ◌↔◌, IfErr, IfSome, IsNone, None, Ok, map, string_bytes, true};
 ghost use Rattle.commands.specs.Commands.{command_of, opens_in};
 ghost use Rattle.cli_args.specs.Lines.{IsCommandLine};
+ghost use Rattle.cli_args.specs.Secrets.{IsPlainLine};
 
 mod about;
 mod hints;
 mod in_file;
+mod secrets;
 
 use crate::about::asked_text;
 use crate::hints::{Hinted, hinted_by, say_after, say_fault};
 use crate::in_file::{Ended, run_in_file};
+use crate::secrets::{named_secret, refuse_secret};
 use base_io::{Clock, Door, Sink, Source, StdSink, StdSource, StoppableDoor, SystemClock, TcpDoor};
-use cli_args::{CommandLine, Mistake, read_line};
+use cli_args::{CommandLine, Mistake, put_secret, read_line, secret_in};
 use cli_notes::{CountedSink, KeptSource};
 use commands::uses_keeper;
 use platform::{run, run_laws};
@@ -197,7 +200,7 @@ fn refuse(rt: &HostRuntime, mistake: &Mistake<'_>) -> u8
 }
 
 // Does what the words say, or says why it can't. The status is 64 exactly if they are no command line.
-fn do_words(rt: HostRuntime, words: &[String]) -> u8
+fn run_words(rt: HostRuntime, words: &[String]) -> u8
     ensures { (result ≡ 64) ↔ (IsCommandLine (map string_bytes words.now) → ⊥) }
 {
     let line = match read_line(words) {
@@ -211,6 +214,50 @@ fn do_words(rt: HostRuntime, words: &[String]) -> u8
     status
 }
 
+// The secret that the words name, if they are a command line whose word of it names a variable or a file. Else the status without it: a
+// line has been said then.
+fn find_secret(rt: &HostRuntime, words: &[String]) -> Result<Option<String>, u8>
+    ensures wrong { (IsCommandLine (map string_bytes words.now) → ⊥) → result ≡ Ok None }
+    ensures plain { IsCommandLine (map string_bytes words.now) → IsPlainLine (map string_bytes words.now) → result ≡ Ok None }
+    ensures status { IfErr result (λ status. (status ≡ 64) ⊎ (status ≡ 71)) }
+{
+    if read_line(words).is_err() {
+        return Ok(None);
+    }
+    let Some(word) = secret_in(words) else {
+        return Ok(None);
+    };
+    match named_secret(rt, word) {
+        Ok(found) => Ok(found),
+        Err(why) => Err(refuse_secret(rt, word, why)),
+    }
+}
+
+// Puts a secret that was found in the place of the word that names it.
+fn put_found(words: &mut [String], found: Option<String>)
+    ensures { IsCommandLine (map string_bytes words.new) ↔ IsCommandLine (map string_bytes words.old) }
+{
+    if let Some(secret) = found {
+        put_secret(words, secret);
+    }
+}
+
+// Does what the words say with the secret that they name, or says why it can't. The status is 64 if they are no command line, and else only if
+// they name a secret that isn't there.
+fn do_words(rt: HostRuntime, words: &mut [String]) -> u8
+    ensures wrong { (IsCommandLine (map string_bytes words.old) → ⊥) → result ≡ 64 }
+    ensures plain { IsPlainLine (map string_bytes words.old)
+        → (result ≡ 64) ↔ (IsCommandLine (map string_bytes words.old) → ⊥) }
+{
+    match find_secret(&rt, words) {
+        Ok(found) => {
+            put_found(words, found);
+            run_words(rt, words)
+        }
+        Err(status) => status,
+    }
+}
+
 // Writes a text to standard output.
 fn say(rt: &HostRuntime, text: &str) -> u8 {
     match println!(rt; "{text}") {
@@ -221,9 +268,9 @@ fn say(rt: &HostRuntime, text: &str) -> u8 {
 
 fn main(rt: HostRuntime) -> ExitCode {
     let status = match all_words(&rt) {
-        Ok(words) => match asked_text(&words) {
+        Ok(mut words) => match asked_text(&words) {
             Some(text) => say(&rt, text),
-            None => do_words(rt, &words),
+            None => do_words(rt, &mut words),
         },
         Err(NoWords::NotText) => refuse(&rt, &Mistake::NotText),
         Err(NoWords::Memory) => {

@@ -1,2 +1,3 @@
 -- Words of private functions' contracts.
 pub mod Forms
+pub mod Places

@@ -151,7 +151,7 @@ pub fn named_secret(rt: &HostRuntime, word: &str) -> Result<Option<String>, NoSe
     }
 }
 
-/// The status without a secret.
+// The status without a secret.
 fn status_without(why: NoSecret) -> u8
     ensures memory { why ≡ Memory → result ≡ 71 }
     ensures missing { why ≢ Memory → result ≡ 64 }

@@ -9,7 +9,7 @@ ghost use Rattle.cli_args.specs.inner.Places.{IsSecretPlace};
 use crate::form::form_of;
 
 /// What the word of a secret names.
-#[derive(Clone, Copy, Debug, PartialEq, Eq)]
+#[derive(Clone, Copy)]
 pub enum SecretWord<'a> {
     /// The word is the secret itself.
     Itself,

@@ -1,8 +1,9 @@
 //! The secret that a word names: the value of a variable of the environment, or the first line of a file.
 
-ghost use Rattle.std.specs.Prelude.{◌≡◌, ◌≢◌, ◌⊎◌, ◌+◌, [], IfOk, IfSome, IsErr, MatchResult, Ok, OnOk, None, string_bytes, vec_len};
+ghost use Rattle.std.specs.Prelude.{◌≡◌, ◌≢◌, ◌⊎◌, ◌<◌, ◌+◌, [], IfOk, IfSome, IsErr, MatchResult, Ok, OnOk, None, length, position, string_bytes, vec_len};
 ghost use Rattle.std.specs.Io.KnownBytes.{IsAtEnd, Keeps, prepend_known};
-ghost use Rattle.carmuguur.specs.FirstLine.{IsFront, IsLineOf, first_line, is_enough};
+ghost use Rattle.std.specs.Str.Lines.{strip_carriage_return};
+ghost use Rattle.carmuguur.specs.FirstLine.{IsFront, IsLineOf, first_line, is_enough, is_feed};
 ghost use Rattle.carmuguur.specs.declared.secrets.NoSecret.TheVariants.{File, Memory};
 ghost use Rattle.cli_args.specs.Secrets.{IsPlain};
 
@@ -93,15 +94,34 @@ fn read_front<S: Source>(alloc: Global, source: &mut S) -> Result<Vec<u8>, NoSec
     Ok(front)
 }
 
+// Where the first line feed is.
+fn first_feed(bytes: &[u8]) -> Option<usize>
+    ensures feed { result ≡ position is_feed bytes.now }
+    ensures within { IfSome result (λ end. end < length bytes.now) }
+{
+    bytes.iter().position(|byte| *byte == b'\n')
+}
+
+// A line without the carriage return at its end, if it has one.
+fn without_return(line: &[u8]) -> &[u8]
+    ensures { result.now ≡ strip_carriage_return line.now }
+{
+    let Some(last) = line.len().checked_sub(1) else {
+        return line;
+    };
+    if line[last] == b'\r' {
+        &line[..last]
+    } else {
+        line
+    }
+}
+
 // The bytes before the first line end, which is a line feed, or a carriage return and a line feed; all if there is none.
 fn first_line(bytes: &[u8]) -> &[u8]
     ensures { result.now ≡ first_line bytes.now }
 {
-    match bytes.iter().position(|byte| *byte == b'\n') {
-        Some(end) => match &bytes[..end] {
-            [line @ .., b'\r'] => line,
-            line => line,
-        },
+    match first_feed(bytes) {
+        Some(end) => without_return(&bytes[..end]),
         None => bytes,
     }
 }

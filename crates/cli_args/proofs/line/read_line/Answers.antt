@@ -1,4 +1,4 @@
-use Rattle.std.proofs.Common.{◌≤◌, arith, length, sym, subst, refl}
+use Rattle.std.proofs.Common.{arith, subst, refl}
 use Rattle.std.specs.Prelude.{string_bytes}
 use Rattle.std.proofs.lemmas.Bool.{false≢true as false_isnt_true}
 use Rattle.cli_args.specs.Lines.{IsPort}

@@ -9,8 +9,8 @@ from hostile_runs import DUMP, Differs, Given, connection, row_changed, rows_in,
 from hostile_scenes import CALLER, command, members, person, query, rule, share, sharing_rule
 
 OK, MADE, DONE, BAD = 200, 201, 204, 400
-# What takes longer or more memory, of the whole process, is said.
-SHOWN_SECONDS, SHOWN_MEGABYTES = 0.2, 50
+# What takes longer, of the whole process, is said.
+SHOWN_SECONDS = 0.05
 
 
 def full(name, number):
@@ -302,12 +302,12 @@ def run_edge(runner, name, every):
     dump = runner.one([store(), run_line(ORG_ADD), connection(before), DUMP])[-1]
     cases = list(cases())[::every]
     runs = [[store(), dump, *run_lines(dump, asked)] for _, asked, _ in cases]
-    for (what, asked, found), run, (written, took, size) in zip(cases, runs, runner.pool.map(runner.measure, runs)):
+    for (what, asked, found), run, (written, took) in zip(cases, runs, runner.pool.map(runner.measure, runs)):
         runner.count += 1
         try:
             check(what, asked, found, Given(written[-1]))
         except Differs as differs:
             raise Differs(differs.what, run) from None
-        if took > SHOWN_SECONDS or size > SHOWN_MEGABYTES:
-            print(f"  {what}: {took:.2f} s, {size:.0f} MB", flush=True)
+        if took > SHOWN_SECONDS:
+            print(f"  {what}: {took:.2f} s", flush=True)
     return len(cases)

@@ -4,7 +4,6 @@ It is no script itself. A run is a list of lines of a script, which begins with 
 them, which is what `{"dump":true}` writes: two stores are the same if these lines are.
 """
 import json
-import os
 import subprocess
 import tempfile
 import time
@@ -181,20 +180,17 @@ class Runner:
         return found
 
     def measure(self, run):
-        """What a run writes in a process of its own, the seconds, and the megabytes that it held at most."""
-        with tempfile.TemporaryFile() as script, tempfile.TemporaryFile() as output:
+        """What a run writes in a process of its own, and the seconds."""
+        with tempfile.TemporaryFile() as script:
             script.write(b"\n".join(run) + b"\n")
             script.seek(0)
             start = time.monotonic()
-            process = subprocess.Popen([self.replay], stdin=script, stdout=output, stderr=subprocess.DEVNULL)
-            _, status, used = os.wait4(process.pid, 0)
-            process.returncode = os.waitstatus_to_exitcode(status)
+            ran = subprocess.run([self.replay], stdin=script, capture_output=True, check=False)
             took = time.monotonic() - start
-            output.seek(0)
-            written = output.read().splitlines()
-        if process.returncode or len(written) != sum(line.startswith(WRITES) for line in run):
-            raise Differs(f"replay ended with {process.returncode}", run)
-        return written, took, used.ru_maxrss / 1024
+        written = ran.stdout.splitlines()
+        if ran.returncode or len(written) != sum(line.startswith(WRITES) for line in run):
+            raise Differs(f"replay ended with {ran.returncode}: {ran.stderr.decode(errors='replace')[-800:]}", run)
+        return written, took
 
     def each(self, tries, make, check):
         """Makes a run of each try, and checks what it writes. It yields what the checks return."""
@@ -212,7 +208,7 @@ class Runner:
     def sweep(self, make, check, every=1):
         """Runs number after number from 1 on, until one of which the check says that it met nothing; none behind it may meet something.
         It returns how many did before it."""
-        first, chunk, end = 1, 16, None
+        first, chunk, end = 1, 8, None
         while end is None:
             numbers = [first + at * every for at in range(chunk)]
             for number, met in zip(numbers, self.each([(number,) for number in numbers], make, check)):

@@ -188,7 +188,7 @@ LOAD = {
     ],
     "steps": [load(250), command("export", *CALLER, LOADED), begin("Contact__c", "Mark__c", text(9)), command("export", *CALLER, LOADED)],
     # What the load comes to that does the first rows alone, by the rows of whole batches.
-    "parts": {0: [load(rows) for rows in (100, 200)]},
+    "parts": {0: [load(rows) for rows in (0, 100, 200)]},
     "kept": 2,
     "asks": [query(LOADED + " WHERE Mark__c = 'm1' LIMIT 5"), upsert("Contact__c", "Key__c", "C5", {"Name": "five"}), PROGRESS],
 }

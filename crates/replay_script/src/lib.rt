@@ -2,19 +2,22 @@
 //! JSON object that says what to run, and over what, and a run is answered by a JSON object.
 //!
 //! It depends on `platform` for `run`, on the objects in memory of `base_io` and `store_kv`, on `base_json`, and on the
-//! toolchain's `hex`. It is a tool of the tests, and has no contract but that it is safe and ends; the moments of a run are those of a
-//! clock (`HasMoments`). `run_script` does what the program's words say.
+//! toolchain's `hex`. It is a tool of the tests, and has no contract but that it is safe and ends. `run_script` does what the
+//! program's words say.
 #![tactic(auto)]
 
 mod cases;
-mod dump;
+mod ending;
+mod given;
 mod line;
+mod list;
+mod output;
 mod parts;
 mod reading;
 mod replaying;
 mod report;
+mod rows;
 mod script;
 
-pub use crate::line::{Fault, Name};
 pub use crate::replaying::{End, Replay};
 pub use crate::script::run_script;

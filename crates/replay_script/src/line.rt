@@ -1,12 +1,13 @@
-//! What a line says, and what is wrong with one that is refused.
+//! What a line of a script says, and what is wrong with one that is refused.
 
-use base_value::{Bytes, Items, Text};
-use std::alloc::AllocError;
+use crate::given::Given;
+use std::alloc::{AllocError, Global};
 use std::fmt;
+use store_kv::Batch;
 
 /// The members that a line, its `failing` and its `rows` may have.
-#[derive(Clone, Copy, Debug, PartialEq, Eq)]
-pub enum Name {
+#[derive(Clone, Copy)]
+pub(crate) enum Name {
     Words,
     Stdin,
     StdinHex,
@@ -27,88 +28,69 @@ pub enum Name {
     Row,
 }
 
-/// How bytes are written: as a text, which stands for its UTF-8, or by two hexadecimal digits each.
-#[derive(Clone, Copy, Debug, PartialEq, Eq)]
-pub(crate) enum Spelling {
-    Plain,
-    Hex,
-}
-
-/// The calls of a line's own objects that fail, numbered from 1.
-#[derive(Debug, Drop)]
-pub(crate) struct Failing {
-    pub(crate) source: Items<u64>,
-    pub(crate) sink: Items<u64>,
-    pub(crate) door: Items<u64>,
-}
-
-/// A row to set, or to remove.
-#[derive(Debug, Drop)]
-pub(crate) struct RawRow {
-    pub(crate) table: u8,
-    pub(crate) key: Bytes,
-    pub(crate) row: Option<Bytes>,
-}
-
-/// Words to run, and what they are run over.
-#[derive(Debug, Drop)]
-pub(crate) struct Run {
-    pub(crate) words: Items<Text>,
-    pub(crate) stdin: Bytes,
-    pub(crate) connections: Items<Bytes>,
-    pub(crate) moments: Items<u64>,
-    pub(crate) room: usize,
-    pub(crate) failing: Failing,
-}
-
-/// What a line says.
-#[derive(Debug, Drop)]
-pub(crate) enum Line {
-    /// A comment.
-    Note,
-    /// All rows of the keeper are to be written.
+/// What a line asks.
+#[derive(Clone, Copy)]
+pub(crate) enum Asks {
+    /// Nothing: it is a comment.
+    Nothing,
+    /// That all rows of the keeper are written.
     Dump,
-    /// Another store, and the calls of its keeper that fail.
-    Keeper(Items<u64>),
-    /// Rows to put into the keeper as they are.
-    Rows(Items<RawRow>),
-    /// Something to run.
-    Run(Run),
+    /// Another store.
+    Store,
+    /// That rows are put into the keeper as they are.
+    Rows,
+    /// That words are run.
+    Run,
 }
 
-/// Why a line is refused.
-#[derive(Debug, Drop)]
-pub enum Fault {
-    /// It isn't UTF-8.
-    NotText,
+/// A line: what it asks, and what it has for that.
+#[derive(Drop)]
+pub(crate) struct Line {
+    pub(crate) asks: Asks,
+    /// What is to run.
+    pub(crate) given: Given,
+    /// The rows, each a batch of its own.
+    pub(crate) rows: Vec<Batch>,
+    /// The calls of the other store's keeper that fail.
+    pub(crate) failing: Vec<u64>,
+}
+
+impl Line {
+    /// A line that asks nothing.
+    pub(crate) fn new(alloc: Global) -> Line {
+        Line {
+            asks: Asks::Nothing,
+            given: Given::new(alloc),
+            rows: Vec::new(alloc),
+            failing: Vec::new(alloc),
+        }
+    }
+}
+
+/// Why nothing was read of a line.
+#[derive(Clone, Copy)]
+pub(crate) enum Fault<'a> {
     /// It isn't a JSON text.
     NotJson,
     /// It isn't an object.
     NotObject,
     /// This member isn't known in such an object.
-    Unknown(Text),
+    Unknown(&'a str),
     /// This member is there twice.
-    Twice(Text),
+    Twice(&'a str),
     /// This member is missing.
     Missing(Name),
     /// This member is there beside the one in plain text.
     Both(Name),
     /// This member has a value that isn't one of its values.
     Wrong(Name),
-}
-
-/// Why nothing was read.
-#[derive(Debug, Drop)]
-pub(crate) enum LineFail {
-    /// The line is refused.
-    Fault(Fault),
     /// Out of memory.
     Memory,
 }
 
-impl From<AllocError> for LineFail {
-    fn from(_error: AllocError) -> LineFail {
-        LineFail::Memory
+impl<'a> From<AllocError> for Fault<'a> {
+    fn from(_error: AllocError) -> Fault<'a> {
+        Fault::Memory
     }
 }
 
@@ -137,14 +119,21 @@ impl Name {
         }
     }
 
+    /// Whether its bytes are written by hexadecimal digits.
+    pub(crate) fn is_hex(self) -> bool {
+        match self {
+            Name::StdinHex | Name::ConnectionsHex | Name::Key | Name::Row => true,
+            _ => false,
+        }
+    }
+
     // What the member's value must be.
     fn wanted(self) -> &'static str {
         match self {
-            Name::Words => "must be a list of texts",
+            Name::Words | Name::Connections => "must be a list of texts",
             Name::Stdin | Name::Note => "must be a text",
             Name::StdinHex | Name::Key => "must be a text of hexadecimal digits, two a byte",
-            Name::Connections => "must be a list of texts",
-            Name::ConnectionsHex => { "must be a list of texts of hexadecimal digits, two a byte" }
+            Name::ConnectionsHex => "must be a list of texts of hexadecimal digits, two a byte",
             Name::Moments => "must be a list of whole numbers from 0 to 253402300799",
             Name::Room => "must be a whole number from 0 to 1048576",
             Name::Dump => "must be true",
@@ -159,33 +148,18 @@ impl Name {
     }
 }
 
-impl fmt::Display for Fault {
+impl fmt::Display for Fault<'_> {
     fn fmt<W: fmt::Write>(&self, f: &mut fmt::Formatter<W>) -> fmt::Result {
-        match self {
-            Fault::NotText => f.write_str("it isn't UTF-8"),
-            Fault::NotJson => f.write_str("it isn't a JSON text"),
-            Fault::NotObject => f.write_str("it isn't an object"),
-            Fault::Unknown(name) => {
-                let name = name.as_str();
-                write!(f, "member {name:?} isn't known here")
-            }
-            Fault::Twice(name) => {
-                let name = name.as_str();
-                write!(f, "member {name:?} is there twice")
-            }
-            Fault::Missing(name) => {
-                let name = name.text();
-                write!(f, "member {name:?} is missing")
-            }
-            Fault::Both(name) => {
-                let name = name.text();
-                write!(f, "member {name:?} is there beside the one in plain text")
-            }
-            Fault::Wrong(name) => {
-                let wanted = name.wanted();
-                let name = name.text();
-                write!(f, "member {name:?} {wanted}")
-            }
-        }
+        let (name, what) = match self {
+            Fault::NotJson => return f.write_str("it isn't a JSON text"),
+            Fault::NotObject => return f.write_str("it isn't an object"),
+            Fault::Memory => return f.write_str("out of memory"),
+            Fault::Unknown(name) => (*name, "isn't known here"),
+            Fault::Twice(name) => (*name, "is there twice"),
+            Fault::Missing(name) => (name.text(), "is missing"),
+            Fault::Both(name) => (name.text(), "is there beside the one in plain text"),
+            Fault::Wrong(name) => (name.text(), name.wanted()),
+        };
+        write!(f, "member {name:?} {what}")
     }
 }

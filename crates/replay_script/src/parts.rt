@@ -1,11 +1,12 @@
 //! The readers of a member's value, one for each kind, and of an object's members.
 
 ghost use Rattle.std.specs.Prelude.{◌≤◌, IfOk};
-ghost use Rattle.std.specs.List.{All};
 
-use crate::line::{Fault, LineFail, Name, Spelling};
+use crate::given::push_word;
+use crate::line::{Fault, Name};
+use crate::list::push;
 use base_json::{Json, Member, Num};
-use base_value::{Bytes, Items, Text};
+use base_value::Bytes;
 use hex::FromHexError;
 use std::alloc::Global;
 
@@ -33,19 +34,15 @@ fn is_among(name: &str, names: &[Name]) -> bool {
 }
 
 /// Refuses members that aren't of these names, and of which two have one name.
-pub(crate) fn check_names(
-    alloc: Global,
-    members: &[Member],
-    names: &[Name],
-) -> Result<(), LineFail> {
+pub(crate) fn check_names<'a>(members: &'a [Member], names: &[Name]) -> Result<(), Fault<'a>> {
     let mut rest = members;
     'members: while let Some((member, more)) = rest.split_first() {
         let name = member.name.as_str();
         if !is_among(name, names) {
-            return Err(LineFail::Fault(Fault::Unknown(Text::from_str(alloc, name)?)));
+            return Err(Fault::Unknown(name));
         }
         if found(more, name).is_some() {
-            return Err(LineFail::Fault(Fault::Twice(Text::from_str(alloc, name)?)));
+            return Err(Fault::Twice(name));
         }
         rest = more;
     }
@@ -54,170 +51,140 @@ pub(crate) fn check_names(
 
 /// The members of an object, all of these names and none twice.
 pub(crate) fn members_of<'a>(
-    alloc: Global,
     json: &'a Json,
     name: Name,
     names: &[Name],
-) -> Result<&'a [Member], LineFail> {
+) -> Result<&'a [Member], Fault<'a>> {
     let Json::Object(members) = json else {
-        return Err(LineFail::Fault(Fault::Wrong(name)));
+        return Err(Fault::Wrong(name));
     };
-    check_names(alloc, members.as_slice(), names)?;
-    Ok(members.as_slice())
+    let members = members.as_slice();
+    check_names(members, names)?;
+    Ok(members)
 }
 
-fn text(alloc: Global, json: &Json, name: Name) -> Result<Text, LineFail> {
+/// The member that must be there.
+pub(crate) fn needed(members: &[Member], name: Name) -> Result<&Json, Fault<'_>> {
+    match found(members, name.text()) {
+        Some(json) => Ok(json),
+        None => Err(Fault::Missing(name)),
+    }
+}
+
+/// The items of a list.
+pub(crate) fn items(json: &Json, name: Name) -> Result<&[Json], Fault<'_>> {
     match json {
-        Json::Text(text) => Ok(Text::from_str(alloc, text.as_str())?),
-        _ => Err(LineFail::Fault(Fault::Wrong(name))),
+        Json::List(items) => Ok(items.as_slice()),
+        _ => Err(Fault::Wrong(name)),
     }
 }
 
-fn texts(alloc: Global, json: &Json, name: Name) -> Result<Items<Text>, LineFail> {
-    let Json::List(items) = json else {
-        return Err(LineFail::Fault(Fault::Wrong(name)));
-    };
-    let mut texts = Items::new(alloc);
-    for item in items.as_slice() {
-        texts.push(text(alloc, item, name)?)?;
-    }
-    Ok(texts)
-}
-
-// Bytes from their hexadecimal digits.
-fn from_hex(alloc: Global, text: &str, name: Name) -> Result<Bytes, LineFail> {
-    match hex::decode(alloc, text) {
-        Ok(bytes) => Ok(Bytes::from_vec(bytes)),
-        Err(FromHexError::OutOfMemory) => Err(LineFail::Memory),
-        Err(_) => Err(LineFail::Fault(Fault::Wrong(name))),
+/// A text.
+pub(crate) fn text(json: &Json, name: Name) -> Result<&str, Fault<'_>> {
+    match json {
+        Json::Text(text) => Ok(text.as_str()),
+        _ => Err(Fault::Wrong(name)),
     }
 }
 
-pub(crate) fn bytes(
-    alloc: Global,
-    json: &Json,
-    name: Name,
-    spelling: Spelling,
-) -> Result<Bytes, LineFail> {
-    let Json::Text(text) = json else {
-        return Err(LineFail::Fault(Fault::Wrong(name)));
-    };
-    match spelling {
-        Spelling::Plain => Ok(Bytes::from_slice(alloc, text.as_str().as_bytes())?),
-        Spelling::Hex => from_hex(alloc, text.as_str(), name),
+/// Bytes as a text, which stands for its UTF-8, or by their digits.
+pub(crate) fn bytes(alloc: Global, json: &Json, name: Name) -> Result<Vec<u8>, Fault<'_>> {
+    let spelled = text(json, name)?;
+    if !name.is_hex() {
+        return Ok(Vec::from_slice(alloc, spelled.as_bytes())?);
     }
-}
-
-fn byte_list(
-    alloc: Global,
-    json: &Json,
-    name: Name,
-    spelling: Spelling,
-) -> Result<Items<Bytes>, LineFail> {
-    let Json::List(items) = json else {
-        return Err(LineFail::Fault(Fault::Wrong(name)));
-    };
-    let mut list = Items::new(alloc);
-    for item in items.as_slice() {
-        list.push(bytes(alloc, item, name, spelling)?)?;
+    match hex::decode(alloc, spelled) {
+        Ok(bytes) => Ok(bytes),
+        Err(FromHexError::OutOfMemory) => Err(Fault::Memory),
+        Err(_) => Err(Fault::Wrong(name)),
     }
-    Ok(list)
 }
 
 /// A whole number from 0 to `most`.
-pub(crate) fn number(json: &Json, name: Name, most: u64) -> Result<u64, LineFail>
+pub(crate) fn number(json: &Json, name: Name, most: u64) -> Result<u64, Fault<'_>>
     ensures small { IfOk result (λ n. n ≤ most) }
 {
     let Json::Number(Num::Exact(amount)) = json else {
-        return Err(LineFail::Fault(Fault::Wrong(name)));
+        return Err(Fault::Wrong(name));
     };
     if *amount < 0 {
-        return Err(LineFail::Fault(Fault::Wrong(name)));
+        return Err(Fault::Wrong(name));
     }
     let size = *amount as u128;
     if size % UNIT == 0 && size / UNIT <= u128::from(most) {
         Ok((size / UNIT) as u64)
     } else {
-        Err(LineFail::Fault(Fault::Wrong(name)))
+        Err(Fault::Wrong(name))
     }
 }
 
-fn numbers(alloc: Global, json: &Json, name: Name, most: u64) -> Result<Items<u64>, LineFail>
-    ensures small { IfOk result (λ ns. All (λ n. n ≤ most) ns) }
-{
-    let Json::List(items) = json else {
-        return Err(LineFail::Fault(Fault::Wrong(name)));
-    };
-    let mut list = Items::new(alloc);
-    'items: for item in items.as_slice() {
-        list.push(number(item, name, most)?)?;
-    }
-    Ok(list)
-}
-
-/// The member that must be there.
-pub(crate) fn needed(members: &[Member], name: Name) -> Result<&Json, LineFail> {
-    match found(members, name.text()) {
-        Some(json) => Ok(json),
-        None => Err(LineFail::Fault(Fault::Missing(name))),
-    }
-}
-
-/// The member with a text.
-pub(crate) fn text_at(alloc: Global, members: &[Member], name: Name) -> Result<Text, LineFail> {
-    text(alloc, needed(members, name)?, name)
-}
-
-/// The member with a list of texts.
-pub(crate) fn texts_at(
+/// Adds the words of the member that must be there.
+pub(crate) fn words_at<'a>(
     alloc: Global,
-    members: &[Member],
+    members: &'a [Member],
     name: Name,
-) -> Result<Items<Text>, LineFail> {
-    texts(alloc, needed(members, name)?, name)
+    words: &mut Vec<String>,
+) -> Result<(), Fault<'a>> {
+    for item in items(needed(members, name)?, name)? {
+        push_word(alloc, words, text(item, name)?)?;
+    }
+    Ok(())
 }
 
-/// The member with numbers, or none of them.
-pub(crate) fn numbers_at(
-    alloc: Global,
-    members: &[Member],
+/// Adds the numbers of the member, if it is there.
+pub(crate) fn numbers_at<'a>(
+    members: &'a [Member],
     name: Name,
     most: u64,
-) -> Result<Items<u64>, LineFail>
-    ensures small { IfOk result (λ ns. All (λ n. n ≤ most) ns) }
-{
-    match found(members, name.text()) {
-        Some(json) => numbers(alloc, json, name, most),
-        None => Ok(Items::new(alloc)),
+    numbers: &mut Vec<u64>,
+) -> Result<(), Fault<'a>> {
+    if let Some(json) = found(members, name.text()) {
+        for item in items(json, name)? {
+            push(numbers, number(item, name, most)?)?;
+        }
+    }
+    Ok(())
+}
+
+// Which of the members with bytes in one of two spellings is there, if one is.
+fn one_of(
+    members: &[Member],
+    plain: Name,
+    hexed: Name,
+) -> Result<Option<(&Json, Name)>, Fault<'_>> {
+    match (found(members, plain.text()), found(members, hexed.text())) {
+        (None, None) => Ok(None),
+        (Some(json), None) => Ok(Some((json, plain))),
+        (None, Some(json)) => Ok(Some((json, hexed))),
+        (Some(_), Some(_)) => Err(Fault::Both(hexed)),
     }
 }
 
-/// The member with bytes in one of two spellings, or none.
+/// The bytes of the member in one of two spellings, or none.
 pub(crate) fn bytes_at(
     alloc: Global,
     members: &[Member],
     plain: Name,
     hexed: Name,
-) -> Result<Bytes, LineFail> {
-    match (found(members, plain.text()), found(members, hexed.text())) {
-        (None, None) => Ok(Bytes::from_slice(alloc, &[])?),
-        (Some(json), None) => bytes(alloc, json, plain, Spelling::Plain),
-        (None, Some(json)) => bytes(alloc, json, hexed, Spelling::Hex),
-        (Some(_), Some(_)) => Err(LineFail::Fault(Fault::Both(hexed))),
+) -> Result<Vec<u8>, Fault<'_>> {
+    match one_of(members, plain, hexed)? {
+        Some((json, name)) => bytes(alloc, json, name),
+        None => Ok(Vec::new(alloc)),
     }
 }
 
-/// The member with a list of bytes in one of two spellings, or none.
-pub(crate) fn byte_list_at(
+/// Adds the bytes of each item of the member in one of two spellings, if it is there.
+pub(crate) fn byte_list_at<'a>(
     alloc: Global,
-    members: &[Member],
+    members: &'a [Member],
     plain: Name,
     hexed: Name,
-) -> Result<Items<Bytes>, LineFail> {
-    match (found(members, plain.text()), found(members, hexed.text())) {
-        (None, None) => Ok(Items::new(alloc)),
-        (Some(json), None) => byte_list(alloc, json, plain, Spelling::Plain),
-        (None, Some(json)) => byte_list(alloc, json, hexed, Spelling::Hex),
-        (Some(_), Some(_)) => Err(LineFail::Fault(Fault::Both(hexed))),
+    list: &mut Vec<Bytes>,
+) -> Result<(), Fault<'a>> {
+    if let Some((json, name)) = one_of(members, plain, hexed)? {
+        for item in items(json, name)? {
+            push(list, Bytes::from_vec(bytes(alloc, item, name)?))?;
+        }
     }
+    Ok(())
 }

@@ -1,55 +1,25 @@
 //! What came of a run, beside what must come of it.
 
-use crate::cases::entry::Reply;
-use crate::cases::messages::{phrase_of, reply_text};
-use crate::cases::trial::{Expected, Piece};
+use crate::cases::messages::{phrase_of, push_head};
+use crate::cases::trial::{Piece, Trial};
+use crate::output::Output;
 use crate::report::Counts;
-use base_json::Writer;
-use base_value::{Items, Text};
-use std::alloc::{AllocError, Global};
 
-/// What came otherwise than a line wants.
-#[derive(Debug, Drop)]
-pub(crate) struct Difference {
-    pub(crate) line: u64,
-    pub(crate) what: &'static str,
-    pub(crate) wanted: String,
-    pub(crate) came: String,
-}
-
-// A text in quotation marks, as JSON has it.
-fn quoted(alloc: Global, text: &str) -> Result<String, AllocError> {
-    let mut writer = Writer::new(alloc);
-    writer.text(alloc, text)?;
-    let bytes = writer.finish();
-    String::from_str(alloc, str::from_utf8(bytes.as_slice()).unwrap_or(""))
-}
-
-// A reply as its status and body, if its head is that of each such reply.
-fn plain_reply(alloc: Global, text: &str) -> Result<Option<String>, AllocError> {
-    let Some((head, body)) = text.split_once("\r\n\r\n") else {
-        return Ok(None);
-    };
-    let Some(status) = head.split(' ').nth(1) else {
-        return Ok(None);
-    };
-    let status = status.parse::<u16>().unwrap_or(0);
-    let Some(phrase) = phrase_of(status) else {
-        return Ok(None);
-    };
-    let reply = Reply {
-        status,
-        phrase,
-        body: Text::from_str(alloc, body)?,
-        headers: Items::new(alloc),
-    };
-    if reply_text(alloc, &reply)?.as_str() != text {
-        return Ok(None);
+// A reply's status and body, if its head is that of each such reply.
+fn plain_reply<'a>(out: &mut Output, text: &'a str) -> Option<(u16, &'a str)> {
+    let (head, body) = text.split_once("\r\n\r\n")?;
+    let status = head.split(' ').nth(1)?.parse::<u16>().unwrap_or(0);
+    let phrase = phrase_of(status)?;
+    let mut reply = Output::new(out.alloc());
+    push_head(&mut reply, status, phrase, body.len());
+    reply.push("\r\n");
+    reply.push(body);
+    out.note_as(&reply);
+    if reply.as_str() == text {
+        Some((status, body))
+    } else {
+        None
     }
-    if body.is_empty() {
-        return Ok(Some(format!(in alloc; "{status}")?));
-    }
-    Ok(Some(format!(in alloc; "{status} {body}")?))
 }
 
 // The first message or line of what came.
@@ -70,145 +40,126 @@ fn front_of(text: &str) -> &str {
     }
 }
 
-// Bytes as a case file would have them, as far as the first message or line.
-fn shown(alloc: Global, bytes: &[u8]) -> Result<String, AllocError> {
-    if bytes.is_empty() {
-        return String::from_str(alloc, "nothing");
-    }
-    let Ok(text) = str::from_utf8(bytes) else {
-        let digits = hex::encode(alloc, bytes)?;
-        let digits = digits.as_str();
-        return format!(in alloc; "hex {digits}");
-    };
-    let front = front_of(text);
-    match plain_reply(alloc, front)? {
-        Some(reply) => Ok(reply),
-        None => quoted(alloc, front),
-    }
-}
-
-// What came in place of a piece.
-fn other_bytes(
-    alloc: Global,
-    line: u64,
-    wanted: &[u8],
-    came: &[u8],
-) -> Result<Difference, AllocError> {
-    Ok(Difference {
-        line,
-        what: "what is written",
-        wanted: shown(alloc, wanted)?,
-        came: shown(alloc, came)?,
-    })
-}
-
-// What came otherwise than as a number.
-fn other_number(
-    alloc: Global,
-    line: u64,
-    what: &'static str,
-    wanted: u64,
-    came: u64,
-) -> Result<Difference, AllocError> {
-    Ok(Difference {
-        line,
-        what,
-        wanted: format!(in alloc; "{wanted}")?,
-        came: format!(in alloc; "{came}")?,
-    })
-}
-
-// What is behind some bytes, if they begin with others.
-fn behind<'a>(bytes: &'a [u8], front: &[u8]) -> Option<&'a [u8]> {
-    match bytes.split_at_checked(front.len()) {
-        Some((before, rest)) if before == front => Some(rest),
-        _ => None,
-    }
-}
-
-// The first piece that didn't come, or what came beyond all of them.
-fn other_output(
-    alloc: Global,
-    expected: &Expected,
-    came: &[u8],
-) -> Result<Option<Difference>, AllocError> {
-    let mut rest = came;
-    let mut last = expected.line;
-    for piece in &expected.pieces {
-        let Piece {
-            line,
-            times,
-            content,
-        } = piece;
-        let wanted = content.bytes(alloc)?;
-        for _ in 0..*times {
-            match behind(rest, wanted.as_slice()) {
-                Some(more) => rest = more,
-                None => return Ok(Some(other_bytes(alloc, *line, wanted.as_slice(), rest)?)),
+// Appends a message or a line as a case file would have it.
+fn push_shown(out: &mut Output, text: &str) {
+    match plain_reply(out, text) {
+        Some((status, body)) => {
+            out.push_number(u64::from(status));
+            if !body.is_empty() {
+                out.push(" ");
+                out.push(body);
             }
         }
-        last = *line;
-    }
-    if rest.is_empty() {
-        Ok(None)
-    } else {
-        Ok(Some(other_bytes(alloc, last, b"", rest)?))
+        None => out.push_quoted(text),
     }
 }
 
-/// The first difference of what came from what is wanted: standard output, the status, and the two counts.
-///
-/// # Errors
-///
-/// If out of memory.
-pub(crate) fn first_difference(
-    alloc: Global,
-    expected: &Expected,
-    counts: Counts,
-    output: &[u8],
-) -> Result<Option<Difference>, AllocError> {
-    if let Some(difference) = other_output(alloc, expected, output)? {
-        return Ok(Some(difference));
+// Appends bytes as a case file would have them, as far as the first message or line.
+fn push_bytes(out: &mut Output, bytes: &[u8]) {
+    if bytes.is_empty() {
+        out.push("nothing");
+        return;
     }
-    let line = expected.line;
-    let found = [
-        (
-            "status",
-            u64::from(expected.status),
-            u64::from(counts.status),
-        ),
-        ("rows", expected.rows, counts.rows_written),
-        ("data rows shown", expected.shown, counts.data_rows_shown),
-    ];
-    for (what, wanted, came) in &found {
-        if *wanted != *came {
-            return Ok(Some(other_number(alloc, line, what, *wanted, *came)?));
+    match str::from_utf8(bytes) {
+        Ok(text) => push_shown(out, front_of(text)),
+        Err(_) => {
+            out.push("hex ");
+            out.push_digits(bytes);
         }
     }
-    Ok(None)
 }
 
-/// The difference of a report from the one that is wanted.
-///
-/// # Errors
-///
-/// If out of memory.
-pub(crate) fn other_report(
-    alloc: Global,
-    expected: &Expected,
-    came: &[u8],
-) -> Result<Option<Difference>, AllocError> {
-    let wanted = match &expected.report {
-        Some(report) => report.as_str(),
-        None => "",
-    };
-    if wanted.as_bytes() == came {
-        return Ok(None);
+// Appends what came in place of these bytes.
+fn push_difference(out: &mut Output, wanted: &[u8], came: &[u8]) {
+    out.push("what is written\n  wanted: ");
+    push_bytes(out, wanted);
+    out.push("\n  came:   ");
+    push_bytes(out, came);
+}
+
+// Appends what came in place of a piece.
+fn push_other_piece(out: &mut Output, piece: &Piece, came: &[u8]) {
+    let mut wanted = Vec::new(out.alloc());
+    let done = wanted.extend_from_slice(piece.front.as_slice());
+    out.note(done);
+    let done = wanted.extend_from_slice(piece.back.as_slice());
+    out.note(done);
+    push_difference(out, wanted.as_slice(), came);
+}
+
+// What is behind a piece, if bytes begin with it.
+fn behind<'a>(bytes: &'a [u8], piece: &Piece) -> Option<&'a [u8]> {
+    bytes
+        .strip_prefix(piece.front.as_slice())?
+        .strip_prefix(piece.back.as_slice())
+}
+
+// Appends the first piece that didn't come, or what came beyond all of them, and gives its line.
+fn push_other_output(out: &mut Output, trial: &Trial, came: &[u8]) -> Option<u64> {
+    let mut rest = came;
+    let mut last = trial.line;
+    for piece in &trial.pieces {
+        for _ in 0..piece.times {
+            match behind(rest, piece) {
+                Some(more) => rest = more,
+                None => {
+                    push_other_piece(out, piece, rest);
+                    return Some(piece.line);
+                }
+            }
+        }
+        last = piece.line;
     }
-    Ok(Some(Difference {
-        line: expected.line,
-        what: "the report",
-        wanted: String::from_str(alloc, wanted)?,
-        came: String::from_str(alloc, str::from_utf8(came).unwrap_or(""))?,
-    }))
+    if rest.is_empty() {
+        return None;
+    }
+    push_difference(out, b"", rest);
+    Some(last)
+}
+
+// Appends what came otherwise than as a number, if it did.
+fn push_other_number(out: &mut Output, what: &str, wanted: u64, came: u64) -> bool {
+    if wanted == came {
+        return false;
+    }
+    out.push(what);
+    out.push("\n  wanted: ");
+    out.push_number(wanted);
+    out.push("\n  came:   ");
+    out.push_number(came);
+    true
+}
+
+/// Appends the first difference of what came from what is wanted, if there is one, and gives its line. The standard output is compared,
+/// and then the status and the two counts.
+pub(crate) fn push_first_difference(
+    out: &mut Output,
+    trial: &Trial,
+    counts: Counts,
+    output: &[u8],
+) -> Option<u64> {
+    if let Some(line) = push_other_output(out, trial, output) {
+        return Some(line);
+    }
+    let differs = push_other_number(
+        out,
+        "status",
+        u64::from(trial.status),
+        u64::from(counts.status),
+    ) || push_other_number(out, "rows", trial.rows, counts.rows_written)
+        || push_other_number(out, "data rows shown", trial.shown, counts.data_rows_shown);
+    if differs { Some(trial.line) } else { None }
+}
+
+/// Appends the difference of a report from the one that is wanted, if there is one, and gives its line.
+pub(crate) fn push_other_report(out: &mut Output, trial: &Trial, came: &str) -> Option<u64> {
+    let wanted = trial.report.as_str();
+    if wanted == came {
+        return None;
+    }
+    out.push("the report\n  wanted: ");
+    out.push(wanted);
+    out.push("\n  came:   ");
+    out.push(came);
+    Some(trial.line)
 }

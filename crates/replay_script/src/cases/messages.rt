@@ -1,8 +1,6 @@
 //! The bytes of requests and of the replies that are wanted.
 
-use crate::cases::entry::{Reply, Request};
-use base_value::Text;
-use std::alloc::{AllocError, Global};
+use crate::output::Output;
 
 /// The phrase of a status that a reply may have.
 pub(crate) fn phrase_of(status: u16) -> Option<&'static str> {
@@ -26,48 +24,36 @@ pub(crate) fn phrase_of(status: u16) -> Option<&'static str> {
     }
 }
 
-/// The message of a request: who asks, if anybody does, and the length of the body, if there is one.
-pub(crate) fn request_text(
-    alloc: Global,
-    request: &Request,
-    caller: &Option<Text>,
-) -> Result<String, AllocError> {
-    let target = request.target.as_str();
-    let mut text = format!(in alloc; "{target} HTTP/1.1\r\n")?;
-    if let Some(caller) = caller {
-        text.push_str("Authorization: Bearer ")?;
-        text.push_str(caller.as_str())?;
-        text.push_str("\r\n")?;
+/// Appends the message of a request: who asks, unless that is empty, and the length of the body, if there is one.
+pub(crate) fn push_request(out: &mut Output, target: &str, caller: &str, body: Option<&str>) {
+    out.push(target);
+    out.push(" HTTP/1.1\r\n");
+    if !caller.is_empty() {
+        out.push("Authorization: Bearer ");
+        out.push(caller);
+        out.push("\r\n");
     }
-    let Some(body) = &request.body else {
-        text.push_str("\r\n")?;
-        return Ok(text);
-    };
-    let body = body.as_str();
-    let length = body.len();
-    let lines = format!(in alloc; "Content-Length: {length}\r\n\r\n")?;
-    text.push_str(lines.as_str())?;
-    text.push_str(body)?;
-    Ok(text)
+    match body {
+        Some(body) => {
+            out.push("Content-Length: ");
+            out.push_number(body.len() as u64);
+            out.push("\r\n\r\n");
+            out.push(body);
+        }
+        None => out.push("\r\n"),
+    }
 }
 
-/// The message of a reply: the head is that of each reply with such a status and body, and the lines that are given besides.
-pub(crate) fn reply_text(alloc: Global, reply: &Reply) -> Result<String, AllocError> {
-    let status = reply.status;
-    let phrase = reply.phrase;
-    let body = reply.body.as_str();
-    let mut text = format!(in alloc; "HTTP/1.1 {status} {phrase}\r\n")?;
+/// Appends the lines of a reply's head, which are those of each reply with such a status and such a length of its body.
+pub(crate) fn push_head(out: &mut Output, status: u16, phrase: &str, length: usize) {
+    out.push("HTTP/1.1 ");
+    out.push_number(u64::from(status));
+    out.push(" ");
+    out.push(phrase);
+    out.push("\r\n");
     if status != 204 {
-        let length = body.len();
-        text.push_str("Content-Type: application/json;charset=UTF-8\r\n")?;
-        let line = format!(in alloc; "Content-Length: {length}\r\n")?;
-        text.push_str(line.as_str())?;
+        out.push("Content-Type: application/json;charset=UTF-8\r\nContent-Length: ");
+        out.push_number(length as u64);
+        out.push("\r\n");
     }
-    for header in reply.headers.as_slice() {
-        text.push_str(header.as_str())?;
-        text.push_str("\r\n")?;
-    }
-    text.push_str("\r\n")?;
-    text.push_str(body)?;
-    Ok(text)
 }

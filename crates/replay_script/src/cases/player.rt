@@ -1,100 +1,79 @@
 //! The lines of a case file in turn, over the keeper of a store.
 
-ghost use Rattle.std.specs.Prelude.{◌≤◌, IfOk};
-ghost use Rattle.std.specs.List.{All};
-ghost use Rattle.replay_script.specs.Lines.{HasMoments};
-
-use crate::cases::comparing::{Difference, first_difference, other_report};
-use crate::cases::entry::{Entry, Object, Wanted};
-use crate::cases::fault::{CaseFail, CaseFault};
-use crate::cases::messages::request_text;
-use crate::cases::reading::read_entry;
-use crate::cases::trial::{Asked, Expected, Trial};
-use crate::line::{Failing, RawRow, Run};
-use crate::reading::{LAST_MOMENT, MOST_ROOM};
+use crate::cases::comparing::{push_first_difference, push_other_report};
+use crate::cases::messages::push_request;
+use crate::cases::quoted::{hex_bytes, line_bytes, number, numbers, raw_bytes, words};
+use crate::cases::stop::{NO_REPLY, Stop, UNKNOWN};
+use crate::cases::trial::{Asked, Trial};
+use crate::cases::wanted::want;
+use crate::given::{Given, LAST_MOMENT, MOST_ROOM, push_word};
+use crate::output::Output;
 use crate::replaying::{End, Replay};
-use base_value::{Bytes, Items, Text};
+use crate::rows::batch_of;
 use std::alloc::{AllocError, Global};
-use store_kv::KeepFail;
+use store_kv::Batch;
 
-/// Why a case file's lines end early.
-#[derive(Debug, Drop)]
-pub(crate) enum Stop {
-    /// What came isn't what is wanted.
-    Differs(Difference),
-    /// The line of this number is refused.
-    Fault(u64, CaseFault),
-    /// So is this one, of JSON.
-    Json(u64, End),
-    /// The keeper failed where the line of this number puts rows.
-    Keeper(u64),
-    /// Out of memory.
-    Memory,
-}
+// A line may be there so often at most.
+const MOST_TIMES: u64 = 100_000;
 
-impl From<AllocError> for Stop {
-    fn from(_error: AllocError) -> Stop {
-        Stop::Memory
-    }
-}
+const ROW: &str =
+    "row TABLE KEY ROW, the key and the row in hexadecimal digits, or - for no byte; gone for no row";
+
+const ROOM: &str = "room BYTES, from 0 to 1048576";
+
+const TIMES: &str = "times NUMBER, from 1 to 100000";
+
+const FAILS: &str = "keeper fails at call NUMBERS, and so source, sink and door";
+
+const CALLER: &str = "as ORG!USER!SECRET, or: as nobody";
+
+const STORE: &str = "new store";
 
 /// The store, who asks, and what holds for the next run.
-#[derive(Debug, Drop)]
+#[derive(Drop)]
 pub(crate) struct Player {
+    alloc: Global,
     replay: Replay,
-    caller: Option<Text>,
-    moments: Items<u64>,
-    failing: Failing,
-    room: usize,
+    // Who asks, or an empty text if nobody does.
+    caller: String,
+    given: Given,
+    // The line of JSON that is to run.
+    json: String,
+    trial: Trial,
+    // How often the next request or line of input comes.
     times: u64,
-    trial: Option<Trial>,
     cases: u64,
+    line: u64,
+    message: Output,
 }
 
-// No calls that fail.
-fn none_failing(alloc: Global) -> Failing {
-    Failing {
-        source: Items::new(alloc),
-        sink: Items::new(alloc),
-        door: Items::new(alloc),
-    }
+// The batch of a row, or that there is none.
+fn row_of(alloc: Global, text: &str) -> Result<Batch, Stop> {
+    let Some((table, rest)) = text.split_once(' ') else {
+        return Err(Stop::Form(ROW));
+    };
+    let Some((key, row)) = rest.split_once(' ') else {
+        return Err(Stop::Form(ROW));
+    };
+    let Ok(table) = table.parse::<u8>() else {
+        return Err(Stop::Form(ROW));
+    };
+    let key = hex_bytes(alloc, key, ROW)?;
+    let row = if row == "gone" {
+        None
+    } else {
+        Some(hex_bytes(alloc, row, ROW)?)
+    };
+    Ok(batch_of(alloc, table, key, row)?)
 }
 
-// These numbers, or the last of the range for one beyond it.
-fn at_most(alloc: Global, numbers: &[u64], most: u64) -> Result<Items<u64>, AllocError>
-    ensures small { IfOk result (λ ns. All (λ n. n ≤ most) ns) }
-{
-    let mut list = Items::new(alloc);
-    'items: for number in numbers {
-        list.push((*number).min(most))?;
-    }
-    Ok(list)
-}
-
-// Where a line failed.
-fn stopped_at(line: u64, fail: CaseFail) -> Stop {
-    match fail {
-        CaseFail::Fault(fault) => Stop::Fault(line, fault),
-        CaseFail::Memory => Stop::Memory,
-    }
-}
-
-// Where rows couldn't be put.
-fn not_put(line: u64, fail: KeepFail) -> Stop {
-    match fail {
-        KeepFail::Failed => Stop::Keeper(line),
-        KeepFail::Memory => Stop::Memory,
-    }
-}
-
-// The words of what runs.
-fn words_of(alloc: Global, asked: Asked) -> Result<Items<Text>, AllocError> {
-    match asked {
-        Asked::Command(words) => Ok(words),
-        Asked::Connection | Asked::Json(_) => {
-            let mut words = Items::new(alloc);
-            words.push(Text::from_str(alloc, "answer")?)?;
-            Ok(words)
+// A request's method and path, and its body, which is all behind the blank that ends the path; `empty` is one without a byte.
+fn request_of<'a>(line: &'a str, rest: &'a str) -> (&'a str, Option<&'a str>) {
+    match rest.split_once(' ') {
+        None => (line, None),
+        Some((_, body)) => {
+            let target = line.strip_suffix(body).unwrap_or(line).trim_end();
+            (target, Some(if body == "empty" { "" } else { body }))
         }
     }
 }
@@ -106,15 +85,18 @@ impl Player {
     ///
     /// If out of memory.
     pub(crate) fn new(alloc: Global) -> Result<Player, AllocError> {
+        let replay = Replay::new(alloc)?;
         Ok(Player {
-            replay: Replay::new(alloc)?,
-            caller: None,
-            moments: Items::new(alloc),
-            failing: none_failing(alloc),
-            room: MOST_ROOM as usize,
+            alloc,
+            replay,
+            caller: String::new(alloc),
+            given: Given::new(alloc),
+            json: String::new(alloc),
+            trial: Trial::new(alloc),
             times: 1,
-            trial: None,
             cases: 0,
+            line: 1,
+            message: Output::new(alloc),
         })
     }
 
@@ -123,74 +105,94 @@ impl Player {
         self.cases
     }
 
-    // What runs next, over what holds for it alone.
-    fn next_run(&mut self, alloc: Global, asked: Asked, input: Vec<u8>) -> Result<Run, AllocError>
-        ensures moments { IfOk result HasMoments }
-    {
-        let moments = at_most(alloc, self.moments.as_slice(), LAST_MOMENT)?;
-        let words = words_of(alloc, asked)?;
-        let failing = std::mem::replace(&mut self.failing, none_failing(alloc));
-        let room = self.room;
-        self.room = MOST_ROOM as usize;
-        Ok(Run {
-            words,
-            stdin: Bytes::from_vec(input),
-            connections: Items::new(alloc),
-            moments,
-            room,
-            failing,
-        })
+    /// The line that is done, or at which the lines ended early, by its number.
+    pub(crate) fn stopped_at(&self) -> u64 {
+        self.line
     }
 
-    // Runs words over an input.
-    fn run(
-        &mut self,
-        alloc: Global,
-        asked: Asked,
-        input: Vec<u8>,
-        expected: &Expected,
-    ) -> Result<Option<Difference>, Stop> {
-        let run = match self.next_run(alloc, asked, input) {
-            Ok(run) => run,
-            Err(_) => return Err(Stop::Memory),
-        };
-        let outcome = self.replay.outcome(alloc, &run)?;
-        Ok(first_difference(alloc, expected, outcome.counts, outcome.sink.written())?)
+    /// What is said of the difference or of the line of JSON at which the lines ended early.
+    pub(crate) fn message(&self) -> &Output {
+        &self.message
     }
 
-    // Does what a line of JSON says.
-    fn run_json(
-        &mut self,
-        alloc: Global,
-        text: &Text,
-        expected: &Expected,
-    ) -> Result<Option<Difference>, Stop> {
-        match self.replay.line(alloc, text.as_str()) {
-            Ok(Some(report)) => Ok(other_report(alloc, expected, report.as_slice())?),
-            Ok(None) => Ok(other_report(alloc, expected, b"")?),
-            Err(End::Memory) => Err(Stop::Memory),
-            Err(end) => Err(Stop::Json(expected.line, end)),
+    // Ends at this line if it has a difference, which the message says.
+    fn check_difference(&mut self, line: Option<u64>) -> Result<(), Stop> {
+        match line {
+            Some(line) => {
+                self.line = line;
+                Err(Stop::Differs)
+            }
+            None => Ok(()),
+        }
+    }
+
+    // Runs the words, and compares what comes.
+    fn run(&mut self) -> Result<(), Stop> {
+        let counts = self.replay.run(self.alloc, &self.given)?;
+        self.given.fail_no_more();
+        let line = push_first_difference(
+            &mut self.message,
+            &self.trial,
+            counts,
+            self.replay.written(),
+        );
+        self.check_difference(line)
+    }
+
+    // Why the line of JSON that runs is the last.
+    fn end_of_json(&mut self, end: &End) -> Stop {
+        self.line = self.trial.line;
+        match end {
+            End::Fault(fault) => {
+                self.message.push(fault.as_str());
+                Stop::Json
+            }
+            End::Keeper => Stop::Keeper,
+            End::Memory => Stop::Memory,
+        }
+    }
+
+    // Does what the line of JSON says, and compares its report.
+    fn run_json(&mut self) -> Result<(), Stop> {
+        match self.replay.line(self.alloc, self.json.as_str()) {
+            Ok(report) => {
+                let line = push_other_report(&mut self.message, &self.trial, report.as_str());
+                self.check_difference(line)
+            }
+            Err(end) => Err(self.end_of_json(&end)),
         }
     }
 
     // Runs what has been asked, if anything has, and compares what comes.
-    fn finish(&mut self, alloc: Global) -> Result<(), Stop> {
-        let Some(trial) = self.trial.take() else {
+    fn finish(&mut self) -> Result<(), Stop> {
+        if self.trial.is_waiting() {
+            self.line = self.trial.line;
+            return Err(Stop::Fault(NO_REPLY));
+        }
+        self.cases = self.cases.saturating_add(self.trial.count());
+        match self.trial.end() {
+            Asked::Nothing => Ok(()),
+            Asked::Json => self.run_json(),
+            Asked::Connection | Asked::Command => self.run(),
+        }
+    }
+
+    // From here on something runs, of which nothing is wanted so far.
+    fn begin(&mut self, asked: Asked, count: u64) {
+        self.given.stdin.clear();
+        self.trial.begin(self.line, asked, count);
+    }
+
+    // Begins a connection, unless one goes on.
+    fn connect(&mut self) -> Result<(), Stop> {
+        if self.trial.is_connection() {
             return Ok(());
-        };
-        if trial.is_waiting() {
-            return Err(Stop::Fault(trial.line(), CaseFault::NoReply));
         }
-        self.cases = self.cases.saturating_add(trial.count());
-        let (asked, input, expected) = trial.into_parts();
-        let found = match asked {
-            Asked::Json(text) => self.run_json(alloc, &text, &expected)?,
-            asked => self.run(alloc, asked, input, &expected)?,
-        };
-        match found {
-            Some(difference) => Err(Stop::Differs(difference)),
-            None => Ok(()),
-        }
+        self.finish()?;
+        self.given.words.clear();
+        push_word(self.alloc, &mut self.given.words, "answer")?;
+        self.begin(Asked::Connection, 0);
+        Ok(())
     }
 
     // How often the next one comes.
@@ -200,139 +202,214 @@ impl Player {
         times
     }
 
+    // Adds bytes to the input so often.
+    fn add_input(&mut self, bytes: &[u8], times: u64) -> Result<(), AllocError> {
+        for _ in 0..times {
+            self.given.stdin.extend_from_slice(bytes)?;
+        }
+        Ok(())
+    }
+
     // Sends a message on the connection, which begins with it if there is none.
-    fn send(&mut self, alloc: Global, line: u64, bytes: &[u8]) -> Result<(), Stop> {
+    fn send(&mut self, bytes: &[u8]) -> Result<(), Stop> {
         let times = self.next_times();
-        let goes_on = match &self.trial {
-            Some(trial) => trial.is_connection(),
-            None => false,
-        };
-        if !goes_on {
-            self.finish(alloc)?;
-            self.trial = Some(Trial::new(alloc, line, Asked::Connection));
+        self.connect()?;
+        if self.trial.is_waiting() {
+            return Err(Stop::Fault(NO_REPLY));
         }
-        match &mut self.trial {
-            Some(trial) if trial.is_waiting() => Err(Stop::Fault(line, CaseFault::NoReply)),
-            Some(trial) => Ok(trial.ask(bytes, times)?),
-            None => Ok(()),
-        }
+        self.add_input(bytes, times)?;
+        self.trial.ask(times);
+        Ok(())
     }
 
-    // Adds bytes to the input of a command.
-    fn give(&mut self, line: u64, bytes: &[u8]) -> Result<(), Stop> {
+    // Sends a request.
+    fn request(&mut self, line: &str, rest: &str) -> Result<(), Stop> {
+        let (target, body) = request_of(line, rest);
+        let mut message = Output::new(self.alloc);
+        push_request(&mut message, target, self.caller.as_str(), body);
+        let message = message.finish()?;
+        self.send(message.as_bytes())
+    }
+
+    // Sends a message, byte by byte.
+    fn send_bytes(&mut self, text: &str) -> Result<(), Stop> {
+        let bytes = raw_bytes(self.alloc, text)?;
+        self.send(bytes.as_slice())
+    }
+
+    // Adds bytes to the input of what runs.
+    fn give(&mut self, bytes: &[u8]) -> Result<(), Stop> {
         let times = self.next_times();
-        match &mut self.trial {
-            Some(trial) => Ok(trial.give(bytes, times)?),
-            None => Err(Stop::Fault(line, CaseFault::NothingRuns)),
-        }
+        self.trial.check_runs()?;
+        Ok(self.add_input(bytes, times)?)
     }
 
-    // Takes what an indented line wants.
-    fn want(&mut self, line: u64, wanted: Wanted) -> Result<(), Stop> {
-        match &mut self.trial {
-            Some(trial) => match trial.want(line, wanted) {
-                Ok(()) => Ok(()),
-                Err(fail) => Err(stopped_at(line, fail)),
-            },
-            None => Err(Stop::Fault(line, CaseFault::NothingRuns)),
-        }
+    // More of the input, byte by byte.
+    fn input(&mut self, text: &str) -> Result<(), Stop> {
+        let bytes = raw_bytes(self.alloc, text)?;
+        self.give(bytes.as_slice())
     }
 
-    // Puts a row into the keeper, or removes it.
-    fn put(&mut self, alloc: Global, line: u64, row: RawRow) -> Result<(), Stop> {
-        match self.replay.put(alloc, &[row]) {
-            Ok(()) => Ok(()),
-            Err(fail) => Err(not_put(line, fail)),
-        }
+    // A line of the input.
+    fn input_line(&mut self, text: &str) -> Result<(), Stop> {
+        let bytes = line_bytes(self.alloc, text)?;
+        self.give(bytes.as_slice())
     }
 
-    // Has calls of an object fail.
-    fn fail(
-        &mut self,
-        alloc: Global,
-        line: u64,
-        object: Object,
-        calls: Items<u64>,
-    ) -> Result<(), Stop> {
-        match object {
-            Object::Keeper => match self.replay.fail_at(alloc, calls.as_slice()) {
-                Ok(()) => {}
-                Err(fail) => return Err(not_put(line, fail)),
-            },
-            Object::Source => self.failing.source = calls,
-            Object::Sink => self.failing.sink = calls,
-            Object::Door => self.failing.door = calls,
+    // Who asks from here on.
+    fn set_caller(&mut self, name: &str) -> Result<(), Stop> {
+        if name.is_empty() {
+            return Err(Stop::Form(CALLER));
         }
+        self.caller.clear();
+        if name != "nobody" {
+            self.caller.push_str(name)?;
+        }
+        Ok(())
+    }
+
+    // How often the next one comes.
+    fn set_times(&mut self, digits: &str) -> Result<(), Stop> {
+        self.times = number(digits, 1, MOST_TIMES, TIMES)?;
+        Ok(())
+    }
+
+    // The moments of the clock in each run from here on.
+    fn set_moments(&mut self, list: &str) -> Result<(), Stop> {
+        let moments = numbers(self.alloc, list, 0, LAST_MOMENT)?;
+        self.finish()?;
+        self.given.moments = moments;
+        Ok(())
+    }
+
+    // So many bytes may be written to standard output in the next run.
+    fn set_room(&mut self, digits: &str) -> Result<(), Stop> {
+        let room = number(digits, 0, MOST_ROOM, ROOM)?;
+        self.finish()?;
+        self.given.room = room as usize;
         Ok(())
     }
 
     // Begins another store.
-    fn begin(&mut self, alloc: Global) -> Result<(), AllocError> {
-        let none: Items<u64> = Items::new(alloc);
-        self.replay.begin(alloc, &none)
+    fn set_store(&mut self, what: &str) -> Result<(), Stop> {
+        if what != "store" {
+            return Err(Stop::Form(STORE));
+        }
+        self.finish()?;
+        Ok(self.replay.begin(self.alloc, &[])?)
     }
 
-    // Takes what ends a connection.
-    fn set(&mut self, alloc: Global, line: u64, entry: Entry) -> Result<(), Stop> {
-        match entry {
-            Entry::Moments(moments) => self.moments = moments,
-            Entry::Store => self.begin(alloc)?,
-            Entry::Failing(object, calls) => self.fail(alloc, line, object, calls)?,
-            Entry::Room(room) => self.room = room,
-            Entry::Row(row) => self.put(alloc, line, row)?,
-            Entry::Command(words) => {
-                self.trial = Some(Trial::new(alloc, line, Asked::Command(words)));
-            }
-            Entry::Json(text) => self.trial = Some(Trial::new(alloc, line, Asked::Json(text))),
-            _other => {}
+    // These calls of an object fail: of the keeper from here on, of another one in the next run.
+    fn set_failing(&mut self, object: &str, rest: &str) -> Result<(), Stop> {
+        let Some(list) = rest.strip_prefix("fails at call ") else {
+            return Err(Stop::Form(FAILS));
+        };
+        let calls = numbers(self.alloc, list, 1, u64::MAX)?;
+        self.finish()?;
+        match object {
+            "source" => self.given.source_fails = calls,
+            "sink" => self.given.sink_fails = calls,
+            "door" => self.given.door_fails = calls,
+            _ => self.replay.fail_at(self.alloc, calls.as_slice())?,
         }
         Ok(())
     }
 
-    // Does what a line says.
-    fn take(&mut self, alloc: Global, line: u64, entry: Entry) -> Result<(), Stop> {
-        match entry {
-            Entry::Comment => Ok(()),
-            Entry::Wanted(wanted) => self.want(line, wanted),
-            Entry::Input(bytes) => self.give(line, bytes.as_slice()),
-            Entry::Message(bytes) => self.send(alloc, line, bytes.as_slice()),
-            Entry::Request(request) => {
-                let text = request_text(alloc, &request, &self.caller)?;
-                self.send(alloc, line, text.as_str().as_bytes())
-            }
-            Entry::Caller(caller) => {
-                self.caller = caller;
-                Ok(())
-            }
-            Entry::Times(times) => {
-                self.times = times;
-                Ok(())
-            }
-            entry => {
-                self.finish(alloc)?;
-                self.set(alloc, line, entry)
-            }
+    // Puts a row into the keeper, or removes it.
+    fn put(&mut self, text: &str) -> Result<(), Stop> {
+        let row = row_of(self.alloc, text)?;
+        self.finish()?;
+        Ok(self.replay.put(self.alloc, &[row])?)
+    }
+
+    // A command is to run.
+    fn command(&mut self, text: &str) -> Result<(), Stop> {
+        let words = words(self.alloc, text)?;
+        self.finish()?;
+        self.given.words = words;
+        self.begin(Asked::Command, 1);
+        Ok(())
+    }
+
+    // A line of JSON is to run.
+    fn set_json(&mut self, text: &str) -> Result<(), Stop> {
+        self.finish()?;
+        self.json.clear();
+        self.json.push_str(text)?;
+        self.begin(Asked::Json, 1);
+        Ok(())
+    }
+
+    // Does what a line says that ends a connection, by its first word.
+    fn set(&mut self, word: &str, rest: &str) -> Result<(), Stop> {
+        match word {
+            "at" => self.set_moments(rest),
+            "new" => self.set_store(rest),
+            "keeper" | "source" | "sink" | "door" => self.set_failing(word, rest),
+            "room" => self.set_room(rest),
+            "row" => self.put(rest),
+            "$" => self.command(rest),
+            _ => Err(Stop::Fault(UNKNOWN)),
         }
     }
 
-    /// Does what a line of text says.
-    ///
-    /// # Errors
-    ///
-    /// If no line behind it is to be done.
-    pub(crate) fn line(&mut self, alloc: Global, line: u64, text: &str) -> Result<(), Stop> {
-        match read_entry(alloc, text) {
-            Ok(entry) => self.take(alloc, line, entry),
-            Err(fail) => Err(stopped_at(line, fail)),
+    // Does what a line says, by its first word.
+    fn take(&mut self, line: &str, word: &str, rest: &str) -> Result<(), Stop> {
+        match word {
+            "as" => self.set_caller(rest),
+            "times" => self.set_times(rest),
+            "GET" | "HEAD" | "POST" | "PUT" | "PATCH" | "DELETE" => self.request(line, rest),
+            "send" => self.send_bytes(rest),
+            "<" => self.input_line(rest),
+            "input" => self.input(rest),
+            _ => self.set(word, rest),
         }
     }
 
-    /// Runs what the last lines ask.
+    // Does what a line of text says, with what goes on with it.
+    fn do_line(&mut self, line: &str) -> Result<(), Stop> {
+        if let Some(rest) = line.strip_prefix("  ") {
+            return want(self.alloc, &mut self.trial, self.line, rest);
+        }
+        if line.is_empty() {
+            return self.finish();
+        }
+        if line.starts_with('#') {
+            return Ok(());
+        }
+        if line.starts_with('{') {
+            return self.set_json(line);
+        }
+        let (word, rest) = line.split_once(' ').unwrap_or((line, ""));
+        self.take(line, word, rest)
+    }
+
+    // Does what the lines of a text say; the one that may go on is put together in `open`.
+    fn do_lines(&mut self, text: &str, open: &mut String) -> Result<(), Stop> {
+        let mut number = 0u64;
+        for line in text.split('\n') {
+            number = number.saturating_add(1);
+            match line.strip_prefix("    ") {
+                Some(more) => open.push_str(more)?,
+                None => {
+                    self.do_line(open.as_str())?;
+                    open.clear();
+                    open.push_str(line)?;
+                    self.line = number;
+                }
+            }
+        }
+        self.do_line(open.as_str())?;
+        self.finish()
+    }
+
+    /// Does what the lines of a text say, in which a line of four blanks goes on with the one before.
     ///
     /// # Errors
     ///
-    /// If that doesn't come as it is wanted, or can't be run.
-    pub(crate) fn end(&mut self, alloc: Global) -> Result<(), Stop> {
-        self.finish(alloc)
+    /// Why they end early.
+    pub(crate) fn play(&mut self, text: &str) -> Result<(), Stop> {
+        let mut open = String::new(self.alloc);
+        self.do_lines(text, &mut open)
     }
 }

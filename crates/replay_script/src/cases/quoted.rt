@@ -1,10 +1,12 @@
-//! Words and bytes of a line.
+//! Words, bytes and numbers of a line.
 
-use crate::cases::fault::{CaseFail, wrong_form};
+use crate::cases::stop::Stop;
+use crate::given::push_word;
+use crate::list::push;
 use base_json::{Json, JsonFail, read};
-use base_value::{Bytes, Items, Text};
+use base_value::Text;
 use hex::FromHexError;
-use std::alloc::Global;
+use std::alloc::{AllocError, Global};
 
 const BYTES: &str = "a text in quotation marks as in JSON, or: hex DIGITS, two a byte";
 
@@ -13,100 +15,106 @@ const WORDS: &str =
 
 const NUMBERS: &str = "whole numbers in their range, with a comma between two";
 
-/// A text in quotation marks, as JSON has it, or `None` where it is none.
-fn quoted(alloc: Global, text: &str) -> Result<Option<Text>, CaseFail> {
+// A text in quotation marks, as JSON has it, or `None` where it is none.
+fn quoted(alloc: Global, text: &str) -> Result<Option<Text>, Stop> {
     match read(alloc, text.as_bytes()) {
         Ok(Json::Text(text)) => Ok(Some(text)),
         Ok(_) | Err(JsonFail::NotJson) => Ok(None),
-        Err(JsonFail::Memory) => Err(CaseFail::Memory),
+        Err(JsonFail::Memory) => Err(Stop::Memory),
     }
 }
 
 /// Bytes from hexadecimal digits, or none from `-`.
-pub(crate) fn hex_bytes(
-    alloc: Global,
-    digits: &str,
-    form: &'static str,
-) -> Result<Bytes, CaseFail> {
+pub(crate) fn hex_bytes(alloc: Global, digits: &str, form: &'static str) -> Result<Vec<u8>, Stop> {
     if digits == "-" {
-        return Ok(Bytes::from_vec(Vec::new(alloc)));
+        return Ok(Vec::new(alloc));
     }
     match hex::decode(alloc, digits) {
-        Ok(bytes) => Ok(Bytes::from_vec(bytes)),
-        Err(FromHexError::OutOfMemory) => Err(CaseFail::Memory),
-        Err(_) => Err(wrong_form(form)),
+        Ok(bytes) => Ok(bytes),
+        Err(FromHexError::OutOfMemory) => Err(Stop::Memory),
+        Err(_) => Err(Stop::Form(form)),
     }
 }
 
 /// Bytes as a text in quotation marks or by their digits.
-pub(crate) fn raw_bytes(alloc: Global, text: &str) -> Result<Bytes, CaseFail> {
+pub(crate) fn raw_bytes(alloc: Global, text: &str) -> Result<Vec<u8>, Stop> {
     if let Some(digits) = text.strip_prefix("hex ") {
         return hex_bytes(alloc, digits, BYTES);
     }
     match quoted(alloc, text)? {
-        Some(text) => Ok(Bytes::from_slice(alloc, text.as_str().as_bytes())?),
-        None => Err(wrong_form(BYTES)),
+        Some(text) => Ok(text.into_string().into_bytes()),
+        None => Err(Stop::Form(BYTES)),
     }
 }
 
 /// A line of text as bytes, with its line feed.
-pub(crate) fn line_bytes(alloc: Global, text: &str) -> Result<Bytes, CaseFail> {
-    let mut bytes = Vec::from_slice(alloc, text.as_bytes())?;
-    bytes.extend_from_slice(b"\n")?;
-    Ok(Bytes::from_vec(bytes))
+pub(crate) fn line_bytes(alloc: Global, text: &str) -> Result<Vec<u8>, AllocError> {
+    let mut line = String::from_str(alloc, text)?;
+    line.push_str("\n")?;
+    Ok(line.into_bytes())
+}
+
+// Takes a part of words between two blanks: a word, or what goes on with or ends the one in quotation marks that is open.
+fn take_part(
+    alloc: Global,
+    part: &str,
+    open: &mut String,
+    words: &mut Vec<String>,
+) -> Result<(), Stop> {
+    if open.is_empty() && !part.starts_with('"') {
+        return Ok(push_word(alloc, words, part)?);
+    }
+    if !open.is_empty() {
+        open.push_str(" ")?;
+    }
+    open.push_str(part)?;
+    if let Some(word) = quoted(alloc, open.as_str())? {
+        push_word(alloc, words, word.as_str())?;
+        open.clear();
+    }
+    Ok(())
+}
+
+// Adds words with blanks between them.
+fn add_words(
+    alloc: Global,
+    text: &str,
+    open: &mut String,
+    words: &mut Vec<String>,
+) -> Result<(), Stop> {
+    for part in text.split(' ') {
+        take_part(alloc, part, open, words)?;
+    }
+    if open.is_empty() {
+        Ok(())
+    } else {
+        Err(Stop::Form(WORDS))
+    }
 }
 
 /// Words with blanks between them, of which one may be in quotation marks.
-pub(crate) fn words(alloc: Global, text: &str) -> Result<Items<Text>, CaseFail> {
-    let mut words = Items::new(alloc);
-    if text.is_empty() {
-        return Ok(words);
+pub(crate) fn words(alloc: Global, text: &str) -> Result<Vec<String>, Stop> {
+    let mut words = Vec::new(alloc);
+    if !text.is_empty() {
+        let mut open = String::new(alloc);
+        add_words(alloc, text, &mut open, &mut words)?;
     }
-    let mut open = String::new(alloc);
-    for part in text.split(' ') {
-        if open.is_empty() && !part.starts_with('"') {
-            words.push(Text::from_str(alloc, part)?)?;
-            continue;
-        }
-        if !open.is_empty() {
-            open.push_str(" ")?;
-        }
-        open.push_str(part)?;
-        if let Some(word) = quoted(alloc, open.as_str())? {
-            words.push(word)?;
-            open = String::new(alloc);
-        }
-    }
-    if open.is_empty() {
-        Ok(words)
-    } else {
-        Err(wrong_form(WORDS))
-    }
+    Ok(words)
 }
 
 /// A whole number of a range.
-pub(crate) fn number(
-    text: &str,
-    least: u64,
-    most: u64,
-    form: &'static str,
-) -> Result<u64, CaseFail> {
+pub(crate) fn number(text: &str, least: u64, most: u64, form: &'static str) -> Result<u64, Stop> {
     match text.parse::<u64>() {
         Ok(number) if least <= number && number <= most => Ok(number),
-        _ => Err(wrong_form(form)),
+        _ => Err(Stop::Form(form)),
     }
 }
 
 /// Whole numbers of a range, with a comma between two.
-pub(crate) fn numbers(
-    alloc: Global,
-    text: &str,
-    least: u64,
-    most: u64,
-) -> Result<Items<u64>, CaseFail> {
-    let mut list = Items::new(alloc);
+pub(crate) fn numbers(alloc: Global, text: &str, least: u64, most: u64) -> Result<Vec<u64>, Stop> {
+    let mut list = Vec::new(alloc);
     for part in text.split(',') {
-        list.push(number(part.trim(), least, most, NUMBERS)?)?;
+        push(&mut list, number(part.trim(), least, most, NUMBERS)?)?;
     }
     Ok(list)
 }

@@ -1,21 +1,10 @@
 //! The case files that the words name, and what is said of each.
 
-use crate::cases::comparing::Difference;
-use crate::cases::lines::whole_lines;
-use crate::cases::player::{Player, Stop};
-use crate::replaying::End;
-use std::alloc::Global;
+use crate::cases::player::Player;
+use crate::cases::stop::Stop;
+use crate::ending::out_of_memory;
 use std::fs;
 use std::rt::HostRuntime;
-
-/// How case files ended.
-#[derive(Clone, Copy, Debug, PartialEq, Eq)]
-pub(crate) enum AllCases {
-    /// All came as it is wanted.
-    Same,
-    /// The status of the first file that didn't end so.
-    Ended(u8),
-}
 
 // The topic of a file: its name without folders and its ending.
 fn topic_of(path: &str) -> &str {
@@ -26,80 +15,94 @@ fn topic_of(path: &str) -> &str {
     name.strip_suffix(".case").unwrap_or(name)
 }
 
-// How many cases the text of a file has, if all come as they are wanted.
-fn play(alloc: Global, text: &str) -> Result<u64, Stop> {
-    let mut player = Player::new(alloc)?;
-    let lines = whole_lines(alloc, text)?;
-    for line in &lines {
-        player.line(alloc, line.number, line.text.as_str())?;
-    }
-    player.end(alloc)?;
-    Ok(player.cases())
-}
-
 // Writes the first difference of a file.
-fn say_difference(rt: &HostRuntime, topic: &str, difference: &Difference) -> u8 {
-    let line = difference.line;
-    let what = difference.what;
-    let wanted = difference.wanted.as_str();
-    let came = difference.came.as_str();
-    let said = println!(rt; "{topic}: line {line}: {what}\n  wanted: {wanted}\n  came:   {came}");
-    match said {
+fn say_difference(rt: &HostRuntime, topic: &str, line: u64, message: &str) -> u8 {
+    match println!(rt; "{topic}: line {line}: {message}") {
         Ok(()) => 1,
         Err(_) => 73,
     }
 }
 
-// Says on standard error why the lines of a file ended early.
-fn say_stop(rt: &HostRuntime, topic: &str, stop: &Stop) -> u8 {
+// Says on standard error why a line is the last.
+fn say_fault(rt: &HostRuntime, topic: &str, line: u64, fault: &str) {
+    let _ = eprintln!(rt; "replay: {topic}: line {line}: {fault}");
+}
+
+// Says on standard error that a line hasn't this form.
+fn say_form(rt: &HostRuntime, topic: &str, line: u64, form: &str) {
+    let _ = eprintln!(rt; "replay: {topic}: line {line}: the form is: {form}");
+}
+
+// Says why the lines of a file ended early, and returns the status.
+fn say_stop(rt: &HostRuntime, topic: &str, player: &Player, stop: Stop) -> u8 {
+    let line = player.stopped_at();
+    let message = player.message();
+    if message.has_failed() {
+        return out_of_memory(rt);
+    }
     match stop {
-        Stop::Differs(difference) => say_difference(rt, topic, difference),
-        Stop::Fault(line, fault) => {
-            let _ = eprintln!(rt; "replay: {topic}: line {line}: {fault}");
+        Stop::Differs => say_difference(rt, topic, line, message.as_str()),
+        Stop::Json => {
+            say_fault(rt, topic, line, message.as_str());
             65
         }
-        Stop::Json(line, end) => {
-            let _ = eprintln!(rt; "replay: {topic}: line {line}: {end}");
-            match end {
-                End::Fault(_) => 65,
-                End::Keeper => 72,
-                End::Memory => 71,
-            }
+        Stop::Fault(fault) => {
+            say_fault(rt, topic, line, fault);
+            65
         }
-        Stop::Keeper(line) => {
-            let _ = eprintln!(rt; "replay: {topic}: line {line}: the keeper failed");
+        Stop::Form(form) => {
+            say_form(rt, topic, line, form);
+            65
+        }
+        Stop::Keeper => {
+            say_fault(rt, topic, line, "the keeper failed");
             72
         }
-        Stop::Memory => {
-            let _ = eprintln!(rt; "replay: out of memory");
-            71
-        }
+        Stop::Memory => out_of_memory(rt),
+    }
+}
+
+// Writes how many cases came as they are wanted.
+fn say_cases(rt: &HostRuntime, topic: &str, cases: u64) -> Result<(), u8> {
+    match println!(rt; "{topic}: {cases} cases") {
+        Ok(()) => Ok(()),
+        Err(_) => Err(73),
+    }
+}
+
+// Runs the cases of a text, and says how that ended.
+fn run_text(rt: &HostRuntime, topic: &str, text: &str) -> Result<(), u8> {
+    let Ok(mut player) = Player::new(rt.alloc()) else {
+        return Err(out_of_memory(rt));
+    };
+    match player.play(text) {
+        Ok(()) => say_cases(rt, topic, player.cases()),
+        Err(stop) => Err(say_stop(rt, topic, &player, stop)),
     }
 }
 
 // Runs the cases of a file, and says how that ended.
-fn run_file(rt: &HostRuntime, path: &str) -> u8 {
-    let Ok(text) = fs::read_to_string(rt, path) else {
-        let _ = eprintln!(rt; "replay: {path}: it can't be read as a text");
-        return 66;
-    };
-    let topic = topic_of(path);
-    match play(rt.alloc(), text.as_str()) {
-        Ok(cases) => match println!(rt; "{topic}: {cases} cases") {
-            Ok(()) => 0,
-            Err(_) => 73,
-        },
-        Err(stop) => say_stop(rt, topic, &stop),
+fn run_file(rt: &HostRuntime, path: &str) -> Result<(), u8> {
+    match fs::read_to_string(rt, path) {
+        Ok(text) => run_text(rt, topic_of(path), text.as_str()),
+        Err(_) => {
+            let _ = eprintln!(rt; "replay: {path}: it can't be read as a text");
+            Err(66)
+        }
     }
 }
 
 /// Runs the cases of each file, and writes a line for it: how many there are, or the first one that came otherwise.
-pub(crate) fn run_cases(rt: &HostRuntime, paths: &[String]) -> AllCases {
-    let mut all = AllCases::Same;
+///
+/// # Errors
+///
+/// The status of the first file whose cases didn't come as they are wanted, or couldn't be run; why has been said.
+pub(crate) fn run_cases(rt: &HostRuntime, paths: &[String]) -> Result<(), u8> {
+    let mut all = Ok(());
     for path in paths {
-        let status = run_file(rt, path.as_str());
-        if status != 0 && all == AllCases::Same {
-            all = AllCases::Ended(status);
+        let done = run_file(rt, path.as_str());
+        if all.is_ok() {
+            all = done;
         }
     }
     all

@@ -1,106 +1,74 @@
 //! A run to come, and what must come of it.
 
-use crate::cases::entry::{Reply, Wanted};
-use crate::cases::fault::{CaseFail, CaseFault};
-use crate::cases::messages::reply_text;
-use base_value::{Bytes, Items, Text};
+use crate::cases::stop::{NOTHING_ASKED, NOTHING_RUNS, Stop};
 use std::alloc::{AllocError, Global};
 
-/// What a piece of standard output must be.
-#[derive(Debug, Drop)]
-pub(crate) enum Content {
-    Reply(Reply),
-    Bytes(Bytes),
-}
-
-/// A piece of standard output that is wanted so often, by the number of its line.
-#[derive(Debug, Drop)]
-pub(crate) struct Piece {
-    pub(crate) line: u64,
-    pub(crate) times: u64,
-    pub(crate) content: Content,
-}
-
 /// What runs.
-#[derive(Debug, Drop)]
+#[derive(Clone, Copy)]
 pub(crate) enum Asked {
+    Nothing,
     /// The requests of a connection.
     Connection,
     /// A command.
-    Command(Items<Text>),
+    Command,
     /// A line of JSON.
-    Json(Text),
+    Json,
 }
 
-/// What must come of a run.
-#[derive(Debug, Drop)]
-pub(crate) struct Expected {
+/// A piece of standard output that is wanted so often, by the number of its line.
+#[derive(Drop)]
+pub(crate) struct Piece {
+    pub(crate) line: u64,
+    pub(crate) times: u64,
+    /// Its bytes, or of a reply the lines of its head.
+    pub(crate) front: Vec<u8>,
+    /// Of a reply the empty line behind these, and the body.
+    pub(crate) back: Vec<u8>,
+}
+
+/// A run to come: what is asked from which line on, and what must come of it.
+#[derive(Drop)]
+pub(crate) struct Trial {
+    asked: Asked,
+    // How many requests and commands there are.
+    count: u64,
+    // How often the last request comes, while it has no reply.
+    waiting: Option<u64>,
     pub(crate) line: u64,
     pub(crate) pieces: Vec<Piece>,
     pub(crate) status: u8,
     pub(crate) rows: u64,
     pub(crate) shown: u64,
-    pub(crate) report: Option<Text>,
-}
-
-/// A run to come: what is asked, the bytes of its standard input, and what must come of it.
-#[derive(Debug, Drop)]
-pub(crate) struct Trial {
-    asked: Asked,
-    input: Vec<u8>,
-    expected: Expected,
-    // How often the last request comes, while it has no reply.
-    waiting: Option<u64>,
-    // How many requests and commands there are.
-    count: u64,
-}
-
-impl Content {
-    /// Its bytes.
-    pub(crate) fn bytes(&self, alloc: Global) -> Result<Vec<u8>, AllocError> {
-        match self {
-            Content::Reply(reply) => {
-                let text = reply_text(alloc, reply)?;
-                Vec::from_slice(alloc, text.as_str().as_bytes())
-            }
-            Content::Bytes(bytes) => Vec::from_slice(alloc, bytes.as_slice()),
-        }
-    }
+    pub(crate) report: String,
 }
 
 impl Trial {
-    /// What runs from this line on, of which nothing is wanted so far.
-    pub(crate) fn new(alloc: Global, line: u64, asked: Asked) -> Trial {
-        let count = match &asked {
-            Asked::Connection => 0,
-            Asked::Command(_) | Asked::Json(_) => 1,
-        };
+    /// Nothing is asked.
+    pub(crate) fn new(alloc: Global) -> Trial {
         Trial {
-            asked,
-            input: Vec::new(alloc),
-            expected: Expected {
-                line,
-                pieces: Vec::new(alloc),
-                status: 0,
-                rows: 0,
-                shown: 0,
-                report: None,
-            },
+            asked: Asked::Nothing,
+            count: 0,
             waiting: None,
-            count,
+            line: 0,
+            pieces: Vec::new(alloc),
+            status: 0,
+            rows: 0,
+            shown: 0,
+            report: String::new(alloc),
         }
     }
 
-    /// What runs, its input, and what must come of it.
-    pub(crate) fn into_parts(self) -> (Asked, Vec<u8>, Expected) {
-        let Trial {
-            asked,
-            input,
-            expected,
-            waiting: _,
-            count: _,
-        } = self;
-        (asked, input, expected)
+    /// What runs from this line on, with so many commands, of which nothing is wanted so far.
+    pub(crate) fn begin(&mut self, line: u64, asked: Asked, count: u64) {
+        self.asked = asked;
+        self.count = count;
+        self.waiting = None;
+        self.line = line;
+        self.pieces.clear();
+        self.status = 0;
+        self.rows = 0;
+        self.shown = 0;
+        self.report.clear();
     }
 
     /// How many requests and commands there are.
@@ -108,17 +76,17 @@ impl Trial {
         self.count
     }
 
-    /// The line with which it begins.
-    pub(crate) fn line(&self) -> u64 {
-        self.expected.line
+    /// What runs, which is asked no more.
+    pub(crate) fn end(&mut self) -> Asked {
+        let asked = self.asked;
+        self.asked = Asked::Nothing;
+        self.count = 0;
+        asked
     }
 
     /// Whether it is a connection.
     pub(crate) fn is_connection(&self) -> bool {
-        match &self.asked {
-            Asked::Connection => true,
-            Asked::Command(_) | Asked::Json(_) => false,
-        }
+        matches!(self.asked, Asked::Connection)
     }
 
     /// Whether the last request has no reply so far.
@@ -126,74 +94,66 @@ impl Trial {
         self.waiting.is_some()
     }
 
-    /// Adds bytes to the input so often.
-    pub(crate) fn give(&mut self, bytes: &[u8], times: u64) -> Result<(), AllocError> {
-        for _ in 0..times {
-            self.input.extend_from_slice(bytes)?;
+    /// Refuses what follows nothing that runs.
+    pub(crate) fn check_runs(&self) -> Result<(), Stop> {
+        match self.asked {
+            Asked::Nothing => Err(Stop::Fault(NOTHING_RUNS)),
+            Asked::Connection | Asked::Command | Asked::Json => Ok(()),
         }
-        Ok(())
     }
 
-    /// Adds a request that comes so often.
-    pub(crate) fn ask(&mut self, bytes: &[u8], times: u64) -> Result<(), AllocError> {
-        self.give(bytes, times)?;
+    /// A request comes so often.
+    pub(crate) fn ask(&mut self, times: u64) {
         self.waiting = Some(times);
         self.count = self.count.saturating_add(times);
-        Ok(())
     }
 
-    // Adds a piece of what must be written.
-    fn add_piece(&mut self, line: u64, times: u64, content: Content) -> Result<(), AllocError> {
-        self.expected.pieces.push(Piece {
+    /// How often the last request comes, whose reply is wanted from here on.
+    pub(crate) fn answer(&mut self) -> Result<u64, Stop> {
+        match self.waiting.take() {
+            Some(times) => Ok(times),
+            None => Err(Stop::Fault(NOTHING_ASKED)),
+        }
+    }
+
+    /// Adds a piece of what must be written; one with a back is a reply.
+    ///
+    /// # Errors
+    ///
+    /// If out of memory.
+    pub(crate) fn add(
+        &mut self,
+        alloc: Global,
+        line: u64,
+        times: u64,
+        front: &[u8],
+        back: &[u8],
+    ) -> Result<(), AllocError> {
+        let front = Vec::from_slice(alloc, front)?;
+        let back = Vec::from_slice(alloc, back)?;
+        self.pieces.push(Piece {
             line,
             times,
-            content,
+            front,
+            back,
         })?;
         Ok(())
     }
 
-    // The reply of the last request, as often as this comes, or none.
-    fn answer(&mut self, line: u64, content: Option<Content>) -> Result<(), CaseFail> {
-        let Some(times) = self.waiting.take() else {
-            return Err(CaseFail::Fault(CaseFault::NothingAsked));
-        };
-        if let Some(content) = content {
-            self.add_piece(line, times, content)?;
-        }
-        Ok(())
-    }
-
-    // A line more in the head of the last reply.
-    fn add_header(&mut self, text: Text) -> Result<(), CaseFail> {
-        let Some(piece) = self.expected.pieces.last_mut() else {
-            return Err(CaseFail::Fault(CaseFault::NothingAsked));
-        };
-        let Content::Reply(reply) = &mut piece.content else {
-            return Err(CaseFail::Fault(CaseFault::NothingAsked));
-        };
-        reply.headers.push(text)?;
-        Ok(())
-    }
-
-    /// Takes what an indented line wants.
+    /// Adds a line to the head of the last reply.
     ///
     /// # Errors
     ///
-    /// What is wrong with the line, or out of memory.
-    pub(crate) fn want(&mut self, line: u64, wanted: Wanted) -> Result<(), CaseFail> {
-        match wanted {
-            Wanted::Reply(reply) => return self.answer(line, Some(Content::Reply(reply))),
-            Wanted::ReplyBytes(bytes) => return self.answer(line, Some(Content::Bytes(bytes))),
-            Wanted::NoReply => return self.answer(line, None),
-            Wanted::Header(text) => return self.add_header(text),
-            Wanted::Output(bytes) => self.add_piece(line, 1, Content::Bytes(bytes))?,
-            Wanted::Status(status) => self.expected.status = status,
-            Wanted::Counts(rows, shown) => {
-                self.expected.rows = rows;
-                self.expected.shown = shown;
-            }
-            Wanted::Report(text) => self.expected.report = Some(text),
+    /// If the last piece isn't a reply, or out of memory.
+    pub(crate) fn add_header(&mut self, line: &str) -> Result<(), Stop> {
+        let Some(piece) = self.pieces.last_mut() else {
+            return Err(Stop::Fault(NOTHING_ASKED));
+        };
+        if piece.back.is_empty() {
+            return Err(Stop::Fault(NOTHING_ASKED));
         }
+        piece.front.extend_from_slice(line.as_bytes())?;
+        piece.front.extend_from_slice(b"\r\n")?;
         Ok(())
     }
 }

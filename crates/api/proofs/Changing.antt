@@ -14,9 +14,9 @@ use Rattle.model.specs.declared.reply.Reply.{Reply}
 use Rattle.model.specs.Cases.{in_case}
 use Rattle.model.specs.Paths.{Asked}
 use Rattle.model.specs.Replies.{job_json}
-use Rattle.model.specs.Retyping.{get_retype}
+use Rattle.model.specs.Retyping.{get_retype, state_of}
 use Rattle.model.specs.Tenant.{Job, Tenant}
-use Rattle.model.specs.Verdict.{Verdict, accept, refuse, state_of}
+use Rattle.model.specs.Verdict.{Verdict, accept, refuse}
 use Rattle.api_output.specs.States.{IsStateOf}
 use Rattle.retype_request.specs.States.{state_in}
 use Rattle.retype_request.specs.declared.state.ChangeState.{ChangeState}
@@ -40,7 +40,7 @@ parts_of t j s is = record {
 }
 
 -- a reply with that body
-pub state_replied : (a : Asked) (j : Job) (body : List ℕ) → body ≡ encode_utf8_all (job_json a.tenant j) → AnswersBy a (accept (state_of j) a.tenant) (Ok (record { status = 200; body = body }))
+pub state_replied : (a : Asked) (j : Job) (body : List ℕ) → body ≡ encode_utf8_all (job_json a.tenant j) → AnswersBy a (accept (state_of a.tenant j) a.tenant) (Ok (record { status = 200; body = body }))
 state_replied a j body is = (ap (λ (b : List ℕ). record { status = 200; body = b }) is, refl)
 
 pub no_memory : (a : Asked) (v : Verdict) → AnswersBy a v (Err Memory)
@@ -62,11 +62,11 @@ is_there t s e = by t.job refl e
     by (Some j) there e = record { job = j; there = there; same = cc }
 
 pub state_answered : (org : ℕ) (a : Asked) (p : OrgPlan) (m : Tables) (s : ChangeState) (result : Result Reply StoreFail) → StandsIn org p m (Some a.tenant) → FindsIn org state_there m (Ok (Some s))
-    → ((a : Asked) (j : Job) → s ≡ state_in a.tenant j → AnswersBy a (accept (state_of j) a.tenant) result) → AnswersBy a (get_retype a.tenant) result
+    → ((a : Asked) (j : Job) → s ≡ state_in a.tenant j → AnswersBy a (accept (state_of a.tenant j) a.tenant) result) → AnswersBy a (get_retype a.tenant) result
 state_answered org a p m s result stands finds value =
     let is = is_there a.tenant s (finds p (Some a.tenant) stands) in
-    let verdict : get_retype a.tenant ≡ accept (state_of is.job) a.tenant =
-    ap (λ (j : Option Job). in_case j (refuse a.tenant NotFound) (λ j. accept (state_of j) a.tenant)) is.there in
+    let verdict : get_retype a.tenant ≡ accept (state_of a.tenant is.job) a.tenant =
+    ap (λ (j : Option Job). in_case j (refuse a.tenant NotFound) (λ j. accept (state_of a.tenant j) a.tenant)) is.there in
     subst (λ (v : Verdict). AnswersBy a v result) (sym verdict) (value a is.job is.same)
 
 none_there : (t : Tenant) → None ≡ option_map (state_in t) t.job → t.job ≡ None
@@ -80,7 +80,7 @@ pub never_changed : (org : ℕ) (a : Asked) (p : OrgPlan) (m : Tables) (result :
     → Refuses NotFound result → AnswersBy a (get_retype a.tenant) result
 never_changed org a p m result stands finds refused =
     let verdict : get_retype a.tenant ≡ refuse a.tenant NotFound =
-    ap (λ (j : Option Job). in_case j (refuse a.tenant NotFound) (λ j. accept (state_of j) a.tenant)) (none_there a.tenant (finds p (Some a.tenant) stands)) in
+    ap (λ (j : Option Job). in_case j (refuse a.tenant NotFound) (λ j. accept (state_of a.tenant j) a.tenant)) (none_there a.tenant (finds p (Some a.tenant) stands)) in
     subst (λ (v : Verdict). AnswersBy a v result) (sym verdict) (refused_so a NotFound result refused)
 
 pub change_failed : (org : ℕ) (a : Asked) (v : Verdict) (p : OrgPlan) (m : Tables) (f : StoreFail) → StandsIn org p m (Some a.tenant) → FindsIn org state_there m (Err f) → AnswersBy a v (Err f)

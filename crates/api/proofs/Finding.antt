@@ -8,8 +8,8 @@ use Rattle.std.proofs.lemmas.Bool.{and_parts as both}
 use Rattle.matchit.specs.Params.{walk}
 use Rattle.matchit.specs.Router.{RouteOf}
 use Rattle.matchit.specs.Seek.{first}
-use Rattle.model.specs.declared.routed.Routed.TheVariants.{NotFound}
-use Rattle.model.specs.Routing as model
+use Rattle.model_requests.specs.declared.routed.Routed.TheVariants.{NotFound}
+use Rattle.model_requests.specs.Routing as model
 use Rattle.api.specs.router.Cuts.{AllUtf8, Cut, find_from}
 use Rattle.api.specs.router.Find.{find, path_parts}
 use Rattle.api.specs.router.Pick.{router_rows}
@@ -33,8 +33,8 @@ segments-chars path target c u e = sym (ap (map chars) (sym c.are) ∙ chars-spl
 
 -- by the lines of this crate
 by-ways : (method target : List ℕ) (ss : List (List ℕ)) → model.segments (model.path_of target) ≡ [] ∷ map chars ss → AllUtf8 ss
-    → model.routed method target ≡ model.or_none (any_by_path ss (ways (model.query_of target))) (first_by_path method ss (ways (model.query_of target)))
-unfolding model.routed
+    → model.routed_as method target ≡ model.or_none (any_by_path ss (ways (model.query_of target))) (first_by_path method ss (ways (model.query_of target)))
+unfolding model.routed_as
 by-ways method target ss is texts =
     ap (λ b. model.or_none b (model.first_route method target model.lines)) (any-ways method target ss is texts model.lines lines-slashed)
     ∙ ap (model.or_none (any_by_path ss _)) (first-ways method target ss is texts model.lines lines-slashed)
@@ -54,8 +54,8 @@ made-same k q a b c query parts e x y z =
 -- ---- no pattern is found
 
 lost-front : (method target front : List ℕ) (ss : List (List ℕ)) → IsUtf8 front → AllUtf8 ss
-    → model.segments (model.path_of target) ≡ chars front ∷ map chars ss → find_from table front ss ≡ None → NotFound ≡ model.routed method target
-unfolding model.routed
+    → model.segments (model.path_of target) ≡ chars front ∷ map chars ss → find_from table front ss ≡ None → NotFound ≡ model.routed_as method target
+unfolding model.routed_as
 lost-front method target [] ss u texts is none =
     let q = model.query_of target in
     let e = lines-none method ss table (ways q) (table-has q) none in
@@ -68,7 +68,7 @@ lost-front method target (b ∷ bs) ss u texts is none =
     ∙ ap (model.or_none false) (first-none method target (chars (b ∷ bs)) (map chars ss) is some model.lines lines-slashed))
 
 pub lost : (method path target : List ℕ) → IsUtf8 path → chars path ≡ model.path_of target → first (router_rows table) path ≡ None
-    → NotFound ≡ model.routed method target
+    → NotFound ≡ model.routed_as method target
 lost method path target u e none =
     let c = cut path u in
     lost-front method target c.front c.segments c.text c.all_text (segments-chars path target c u e)
@@ -78,7 +78,7 @@ lost method path target u e none =
 
 record IsTaken (method target : List ℕ) (place : Place) (parts : List (List ℕ)) : Type 0 where
   texts : AllUtf8 parts
-  routed : routed_at (kind_in method place kind_lines) (model.query_of target) (map chars parts) ≡ model.routed method target
+  routed : routed_at (kind_in method place kind_lines) (model.query_of target) (map chars parts) ≡ model.routed_as method target
 
 found-at : (method target : List ℕ) (ss parts : List (List ℕ)) (r : RouteOf Place) → AllUtf8 ss
     → model.segments (model.path_of target) ≡ [] ∷ map chars ss → find table ss ≡ Some r → path_parts (pieces_of r.value) ss ≡ Some parts
@@ -110,7 +110,7 @@ pub found-parts : (method path query target : List ℕ) (r : RouteOf Place) (par
     → IsUtf8 path → chars path ≡ model.path_of target → chars query ≡ model.query_of target
     → first (router_rows table) path ≡ Some r → params_path ≡ path → params ≡ walk r.pattern r.text params_path r.names 0 0
     → AllUtf8 (taken params)
-    × (routed_at (kind_in method r.value kind_lines) (chars query) (map chars (taken params)) ≡ model.routed method target)
+    × (routed_at (kind_in method r.value kind_lines) (chars query) (map chars (taken params)) ≡ model.routed_as method target)
 found-parts method path query target r params_path params u e f is same are =
     let all = taken (walk r.pattern r.text path r.names 0 0) in
     let h = found method path target r u e is in

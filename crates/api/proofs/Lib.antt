@@ -6,6 +6,7 @@ pub mod Cuts
 pub mod RouteLaws
 pub mod Plain
 pub mod Characters
+pub mod Slashes
 pub mod Refusing
 pub mod Parts
 pub mod Queries

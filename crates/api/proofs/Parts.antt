@@ -10,7 +10,7 @@ use Rattle.std.specs.Option.{option_map}
 use Rattle.std.specs.Prelude.{bytes_eq, codes, if◌then◌else◌, Option, Some, None}
 use Rattle.std.specs.Str.{chars, IsAscii, IsUtf8}
 use Rattle.std.proofs.lemmas.Bool.{and_parts as both}
-use Rattle.model.specs.Routing.{is_empty, part, parts_by}
+use Rattle.model_requests.specs.Routing.{is_empty, part, parts_by}
 use Rattle.api.specs.router.Cuts.{AllUtf8}
 use Rattle.api.specs.router.Find.{path_parts}
 use Rattle.api.specs.router.Pick.{Piece, text, param}

@@ -7,7 +7,7 @@ use Rattle.store_kv.specs.Tables.{Tables}
 use Rattle.store_rows.specs.declared.fail.StoreFail.{StoreFail}
 use Rattle.model.specs.declared.refusal.Refusal.{Refusal}
 use Rattle.model.specs.declared.reply.Reply.{Reply}
-use Rattle.model.specs.declared.routed.Routed.{Routed}
+use Rattle.model_requests.specs.declared.routed.Routed.{Routed}
 use Rattle.model.specs.Paths.{Asked}
 use Rattle.model.specs.Verdict.{Verdict}
 use Rattle.api.specs.Forms.{IsReadReply, IsRequestReply}
@@ -17,7 +17,7 @@ use Rattle.store_abstraction.specs.Local.{StandsIn}
 use Rattle.store_abstraction.specs.Operations.{Drafts, IsChange, RepliesAt, Responds}
 use Rattle.store_abstraction.specs.Plan.{OrgPlan}
 use Rattle.store_abstraction.specs.declared.judged.Judged.{Judged}
-use Rattle.model_step.specs.Own.{request_changes, request_gone}
+use Rattle.model.specs.Bounds.{request_changes, request_gone}
 
 abbrev Returned : Type 0
 Returned = Result (Judged Reply) StoreFail

@@ -19,7 +19,8 @@ use Rattle.store_abstraction.specs.Local.{StandsIn}
 use Rattle.store_abstraction.specs.Operations.{Drafts, Responds}
 use Rattle.store_abstraction.specs.Plan.{OrgPlan}
 use Rattle.store_abstraction.specs.declared.judged.Judged.{Judged}
-use Rattle.model_step.specs.Own.{IsAsking, edit_shown, request_changes, request_gone}
+use Rattle.model.specs.Asker.{IsAsking}
+use Rattle.model.specs.Bounds.{edit_shown, request_changes, request_gone}
 use Rattle.api.proofs.Responses.{MakesOf, MostOf}
 
 -- by rights that are those of who asks

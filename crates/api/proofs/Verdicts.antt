@@ -9,19 +9,20 @@ use Rattle.store_rows.specs.declared.fail.StoreFail.{StoreFail}
 use Rattle.model.specs.declared.caller.Caller.{Caller}
 use Rattle.model.specs.declared.refusal.Refusal.TheVariants.{AdminRequired}
 use Rattle.model.specs.declared.reply.Reply.{Reply}
-use Rattle.model.specs.declared.route.Route.{Route}
-use Rattle.model.specs.declared.route.Route.TheVariants.{AddGroup, AddRole, AddUser, Create, GetRetype, Query, Upsert}
-use Rattle.model.specs.declared.routed.Routed.TheVariants.{To}
+use Rattle.model_requests.specs.declared.route.Route.{Route}
+use Rattle.model_requests.specs.declared.route.Route.TheVariants.{AddGroup, AddRole, AddUser, Create, GetRetype, Query, Upsert}
+use Rattle.model_requests.specs.declared.routed.Routed.TheVariants.{To}
 use Rattle.model.specs.Paths.{Asked}
-use Rattle.model.specs.RequestOf.{request_of, verdict_at, verdict_or}
+use Rattle.model_requests.specs.RequestOf.{request_of, verdict_at, verdict_or}
 use Rattle.model.specs.Retyping.{get_retype}
-use Rattle.model.specs.Routing.{is_administration}
+use Rattle.model_requests.specs.Routing.{is_administration}
 use Rattle.model.specs.Verdict.{Verdict, refuse}
 use Rattle.store_abstraction.specs.Calls.{ended}
 use Rattle.store_abstraction.specs.Operations.{Drafts, RepliesAt, Responds}
 use Rattle.store_abstraction.specs.declared.judged.Judged.{Judged}
 use Rattle.store_abstraction.specs.declared.judged.Judged.TheVariants.{Changed, Same}
-use Rattle.model_step.specs.Own.{IsAsking, edit_shown, request_changes, request_gone}
+use Rattle.model.specs.Asker.{IsAsking}
+use Rattle.model.specs.Bounds.{edit_shown, request_changes, request_gone}
 use Rattle.api.specs.Forms.{IsDoneReply, IsRequestReply, MayChange}
 use Rattle.api.proofs.Responses.{MostOf}
 

@@ -6,8 +6,8 @@ use Rattle.std.specs.Prelude.{bytes_eq, if◌then◌else◌, is_some, Option, So
 use Rattle.std.specs.Str.{chars}
 use Rattle.std.proofs.lemmas.Bool.{and_parts as both}
 use Rattle.form_urlencoded.specs.Form.{split}
-use Rattle.model.specs.declared.route.Route.{Route}
-use Rattle.model.specs.Routing.{Line, first_route, is_empty, is_path, lines, or_else, parts_by, parts_of, path_of, query_of, route_by, segments}
+use Rattle.model_requests.specs.declared.route.Route.{Route}
+use Rattle.model_requests.specs.Routing.{Line, first_route, is_empty, is_path, lines, or_else, parts_by, parts_of, path_of, query_of, route_by, segments}
 use Rattle.api.specs.router.Cuts.{AllUtf8}
 use Rattle.api.specs.router.Find.{path_parts}
 use Rattle.api.specs.router.Ways.{MethodWay, any_by_path, any_by_pattern, by_method, decides, first_by_path, first_by_pattern, has_patterns, or_way, same_pieces}

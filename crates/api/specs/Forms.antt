@@ -3,9 +3,9 @@
 use Rattle.std.specs.Prelude.{◌≡◌, ◌⊎◌, []}
 use Rattle.model.specs.declared.reply.Reply.{Reply}
 pub use Rattle.query_json.specs.Answers.{IsReadReply}
-use Rattle.model.specs.declared.route.Route.TheVariants.{GetRetype, Query}
-use Rattle.model.specs.declared.routed.Routed.{Routed}
-use Rattle.model.specs.declared.routed.Routed.TheVariants.{To, NotFound, NotAllowed}
+use Rattle.model_requests.specs.declared.route.Route.TheVariants.{GetRetype, Query}
+use Rattle.model_requests.specs.declared.routed.Routed.{Routed}
+use Rattle.model_requests.specs.declared.routed.Routed.TheVariants.{To, NotFound, NotAllowed}
 use Rattle.store_abstraction.specs.declared.judged.Judged.{Judged}
 use Rattle.store_abstraction.specs.declared.judged.Judged.TheVariants.{Changed, Same}
 

@@ -9,14 +9,14 @@ ghost use Rattle.model.specs.declared.refusal.Refusal.TheVariants.{MalformedQuer
 ghost use Rattle.model.specs.Asking.{ask};
 ghost use Rattle.model.specs.Paths.{Asked};
 ghost use Rattle.model.specs.Replies.{reply_of};
-ghost use Rattle.model.specs.RequestOf.{query_or, verdict_or};
+ghost use Rattle.model_requests.specs.RequestOf.{query_or, verdict_or};
 ghost use Rattle.model.specs.Step.{query_text};
 ghost use Rattle.soql.specs.grammar.Spelling.{reads_query};
 ghost use Rattle.store_abstraction.specs.Calls.{Calls, ended};
 ghost use Rattle.store_abstraction.specs.Local.{StandsIn};
 ghost use Rattle.store_abstraction.specs.Plan.{OrgPlan};
-ghost use Rattle.model_step.specs.Own.{IsAsking};
-ghost use Rattle.model_step.specs.Shown.{further_to, shown_beside};
+ghost use Rattle.model.specs.Asker.{IsAsking};
+ghost use Rattle.model.specs.Shown.{further_to, shown_beside};
 ghost use Rattle.base_value.specs.Dates.{is_moment};
 
 use crate::query::query_text;

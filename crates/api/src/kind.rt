@@ -2,7 +2,7 @@ ghost use Rattle.std.specs.Prelude.{◌≡◌};
 ghost use Rattle.api.specs.inner.Kinds.{made_with};
 
 use base_value::Text;
-use model::Route;
+use model_requests::Route;
 
 /// Which request a line of the table asks for: a [`Route`] without its texts.
 #[derive(Debug, Clone, Copy)]
@@ -18,6 +18,7 @@ pub enum Kind {
     SetObject,
     AddField,
     AddValidationRule,
+    RemoveValidationRule,
     AddSharingRule,
     RemoveSharingRule,
     AddUser,
@@ -61,6 +62,10 @@ impl Kind {
             Kind::SetObject => Route::SetObject { object: first },
             Kind::AddField => Route::AddField,
             Kind::AddValidationRule => Route::AddValidationRule,
+            Kind::RemoveValidationRule => Route::RemoveValidationRule {
+                object: first,
+                name: second,
+            },
             Kind::AddSharingRule => Route::AddSharingRule,
             Kind::RemoveSharingRule => Route::RemoveSharingRule { name: first },
             Kind::AddUser => Route::AddUser,

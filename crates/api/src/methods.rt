@@ -37,6 +37,7 @@ pub fn kind_at(place: Place, method: &Method) -> Option<Kind>
         Place::ObjectNamed => way(method, "PATCH", Kind::SetObject, None),
         Place::Fields => way(method, "POST", Kind::AddField, None),
         Place::ValidationRules => way(method, "POST", Kind::AddValidationRule, None),
+        Place::ValidationRule => way(method, "DELETE", Kind::RemoveValidationRule, None),
         Place::SharingRules => way(method, "POST", Kind::AddSharingRule, None),
         Place::SharingRule => way(method, "DELETE", Kind::RemoveSharingRule, None),
         Place::Users => way(method, "POST", Kind::AddUser, None),

@@ -11,6 +11,7 @@ pub enum Place {
     ObjectNamed,
     Fields,
     ValidationRules,
+    ValidationRule,
     SharingRules,
     SharingRule,
     Users,

@@ -5,9 +5,9 @@ ghost use Rattle.query_json.specs.Answers.{AnswersBy, IsReadReply};
 ghost use Rattle.store_kv.specs.Draft.{DraftTells, tables_of};
 ghost use Rattle.store_rows.specs.declared.fail.StoreFail.TheVariants.{Memory};
 ghost use Rattle.model.specs.Paths.{Asked};
-ghost use Rattle.model.specs.Retyping.{get_retype};
+ghost use Rattle.model.specs.Retyping.{get_retype, state_of};
 ghost use Rattle.model.specs.Tenant.{Job};
-ghost use Rattle.model.specs.Verdict.{accept, state_of};
+ghost use Rattle.model.specs.Verdict.{accept};
 ghost use Rattle.retype_request.specs.States.{state_in};
 ghost use Rattle.store_abstraction.specs.Calls.{Calls, ended};
 ghost use Rattle.store_abstraction.specs.Local.{StandsIn};
@@ -25,7 +25,7 @@ use store_rows::StoreFail;
 
 // The reply that says it.
 fn state_reply(alloc: Global, state: &ChangeState) -> Result<Reply, StoreFail>
-    ensures value { (a : Asked) (j : Job) → state.now ≡ state_in a.tenant j → AnswersBy a (accept (state_of j) a.tenant) result }
+    ensures value { (a : Asked) (j : Job) → state.now ≡ state_in a.tenant j → AnswersBy a (accept (state_of a.tenant j) a.tenant) result }
     ensures form { IfOk result IsReadReply }
     ensures cause { IfErr result (λ e. e ≡ Memory) }
 {

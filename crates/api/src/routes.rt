@@ -1,6 +1,6 @@
-ghost use Rattle.std.specs.Prelude.{◌≡◌, IfOk};
+ghost use Rattle.std.specs.Prelude.{◌≡◌, IfOk, bytes_eq, codes};
 ghost use Rattle.std.specs.Str.{chars};
-ghost use Rattle.model.specs.Routing.{routed};
+ghost use Rattle.model_requests.specs.Routing.{routed};
 
 use crate::place::Place;
 use crate::routing::route_by;
@@ -8,9 +8,16 @@ use crate::table::router;
 use crate::target::path_and_query;
 use http::Method;
 use matchit::Router;
-use model::Routed;
+use model_requests::Routed;
 use std::alloc::{AllocError, Global};
 use std::marker::Model;
+
+// Whether a message is judged as one with GET.
+fn is_head(method: &Method) -> bool
+    ensures { result ≡ bytes_eq method.now (codes "HEAD") }
+{
+    *method == Method::HEAD
+}
 
 /// All routes, as a router: made once, and lent to what is answered.
 #[derive(Drop)]
@@ -52,6 +59,10 @@ impl Routes {
         ensures { IfOk result (λ r. r ≡ routed method.now (chars target.now)) }
     {
         let (path, query) = path_and_query(target);
-        route_by(alloc, &self.router, method, path, query)
+        if is_head(method) {
+            route_by(alloc, &self.router, &Method::GET, path, query)
+        } else {
+            route_by(alloc, &self.router, method, path, query)
+        }
     }
 }

@@ -1,6 +1,6 @@
 ghost use Rattle.std.specs.Prelude.{◌≡◌, IfOk, List, drop, map, ℕ};
 ghost use Rattle.std.specs.Str.{chars};
-ghost use Rattle.model.specs.Routing.{part, path_of, query_of, routed};
+ghost use Rattle.model_requests.specs.Routing.{part, path_of, query_of, routed_as};
 ghost use Rattle.api.specs.router.Cuts.{AllUtf8};
 ghost use Rattle.api.specs.router.Pick.{router_rows};
 ghost use Rattle.api.specs.inner.Kinds.{kind_in, kind_lines, routed_at};
@@ -11,7 +11,7 @@ use crate::place::Place;
 use base_value::Text;
 use http::Method;
 use matchit::{ParamsIter, Router};
-use model::Routed;
+use model_requests::Routed;
 use std::alloc::{AllocError, Global};
 
 // The next part of a path; without one it is empty.
@@ -49,7 +49,7 @@ fn route_at(
     Ok(Routed::To(kind.route(pairs, first, second, third)))
 }
 
-/// The request that a method, a path and a query string ask for, by the router of the table.
+/// The request of the line of the table that has a method and a path, with a query string, by the router of the table.
 ///
 /// # Errors
 ///
@@ -63,7 +63,7 @@ pub fn route_by(
 ) -> Result<Routed, AllocError>
     requires { router.now ≡ router_rows table }
     ensures { (target : List ℕ) → chars path.now ≡ path_of target → chars query.now ≡ query_of target
-        → IfOk result (λ r. r ≡ routed method.now target) }
+        → IfOk result (λ r. r ≡ routed_as method.now target) }
 {
     match router.at(path) {
         Ok(found) => route_at(alloc, *found.value, method, query, found.params.iter()),

@@ -7,7 +7,7 @@ use matchit::{InsertError, Router};
 use std::alloc::Global;
 
 // The pattern of each place. What is in braces is a part of the path, which isn't empty; all else is itself.
-fn patterns() -> [(&'static str, Place); 19]
+fn patterns() -> [(&'static str, Place); 20]
     ensures { map pattern_of result ≡ patterns }
 {
     [
@@ -21,6 +21,7 @@ fn patterns() -> [(&'static str, Place); 19]
         ("/admin/objects/{a}", Place::ObjectNamed),
         ("/admin/fields", Place::Fields),
         ("/admin/validation-rules", Place::ValidationRules),
+        ("/admin/validation-rules/{a}/{b}", Place::ValidationRule),
         ("/admin/sharing-rules", Place::SharingRules),
         ("/admin/sharing-rules/{a}", Place::SharingRule),
         ("/admin/users", Place::Users),

@@ -1,14 +1,24 @@
 ghost use Rattle.std.specs.Prelude.{◌≡◌};
 ghost use Rattle.std.specs.Str.{chars};
-ghost use Rattle.model.specs.Routing.{path_of, query_of};
+ghost use Rattle.model_requests.specs.Routing.{path_of, query_of, without_slash};
 
-/// The path of a target, and its query string: what is before the first `?`, and what is behind it.
+// A path without one slash at its end.
+fn without_slash(path: &str) -> &str
+    ensures { chars result.now ≡ without_slash (chars path.now) }
+{
+    match path.strip_suffix('/') {
+        Some(front) => front,
+        None => path,
+    }
+}
+
+/// The path of a target, and its query string: what is before the first `?`, without one slash at its end, and what is behind it.
 pub fn path_and_query(target: &str) -> (&str, &str)
     ensures path { chars result.0.now ≡ path_of (chars target.now) }
     ensures query { chars result.1.now ≡ query_of (chars target.now) }
 {
     match target.split_once('?') {
-        Some(parts) => parts,
-        None => (target, ""),
+        Some((path, query)) => (without_slash(path), query),
+        None => (without_slash(target), ""),
     }
 }

@@ -22,21 +22,21 @@ use Rattle.model.specs.declared.people_bodies.NewUser.{NewUser}
 use Rattle.model.specs.declared.sharing_bodies.NewShare.{NewShare}
 use Rattle.model.specs.declared.sharing_bodies.NewSharingRule.{NewSharingRule}
 use Rattle.model.specs.declared.refusal.Refusal.{Refusal}
-use Rattle.model.specs.declared.route.Route.{Route}
-use Rattle.model.specs.declared.route.Route.TheVariants.{AddField, AddGroup, AddObject, AddRole, AddSharingRule, AddUser, AddValidationRule, BeginRetype, CancelRetype, Create, Delete, RemoveSharingRule, SetGroup, SetObject, SetRole, SetUser, Share, Unshare, Update, Upsert}
-use Rattle.model_step.specs.Own.{edit_shown, request_changes, request_gone}
-use Rattle.model.specs.Forms.{access_request, field_request, object_request, share_request, sharing_rule_request, validation_request}
+use Rattle.model_requests.specs.declared.route.Route.{Route}
+use Rattle.model_requests.specs.declared.route.Route.TheVariants.{AddField, AddGroup, AddObject, AddRole, AddSharingRule, AddUser, AddValidationRule, BeginRetype, CancelRetype, Create, Delete, RemoveSharingRule, RemoveValidationRule, SetGroup, SetObject, SetRole, SetUser, Share, Unshare, Update, Upsert}
+use Rattle.model.specs.Bounds.{edit_shown, request_changes, request_gone}
+use Rattle.model_requests.specs.Forms.{access_request, field_request, object_request, share_request, sharing_rule_request, validation_request}
 use Rattle.model.specs.Members.{Body, principal_in}
 use Rattle.model.specs.Organisations.{is_secret}
 use Rattle.model.specs.Paths.{Asked}
-use Rattle.model.specs.PeopleForms.{group_request, members_request, retype_request, role_parent_request, role_request, user_request, user_role_request}
+use Rattle.model_requests.specs.PeopleForms.{group_request, members_request, retype_request, role_parent_request, role_request, user_request, user_role_request}
 use Rattle.model.specs.declared.people_bodies.Spelled.{Spelled}
-use Rattle.model.specs.RequestOf.{request_of, request_or, value_part, verdict_or}
-use Rattle.model.specs.Requests.{Request, adds_field, adds_group, adds_object, adds_sharing_rule, adds_user, adds_validation_rule, cancels_retype, creates, deletes, removes_sharing_rule, sets_group, sets_object, shares, unshares, updates, upserts, verdict_on}
+use Rattle.model_requests.specs.RequestOf.{request_of, request_or, value_part, verdict_or}
+use Rattle.model_requests.specs.Requests.{Request, adds_field, adds_group, adds_object, adds_sharing_rule, adds_user, adds_validation_rule, cancels_retype, creates, deletes, removes_sharing_rule, removes_validation_rule, sets_group, sets_object, shares, unshares, updates, upserts, verdict_on}
 use Rattle.model.specs.Sound.{IsSound}
 use Rattle.model.specs.Tenant.{Tenant}
 use Rattle.model.specs.Verdict.{Done, Verdict}
-use Rattle.model_invariant.specs.Fit.{IsFit}
+use Rattle.model_requests.specs.Fit.{IsFit}
 use Rattle.store_abstraction.specs.Calls.{Calls, Ending, Makes, ended_edit, fell, stopped}
 use Rattle.store_abstraction.specs.Calls.{done as ended_done}
 use Rattle.store_abstraction.specs.Plan.{OrgPlan}
@@ -177,7 +177,7 @@ pub asks_cancel : (body : List ℕ) → request_of CancelRetype body ≡ Ok canc
 unfolding request_of
 asks_cancel body = refl
 
--- nor have the ends of a share and of a sharing rule
+-- nor have the ends of a share, of a sharing rule and of a validation rule
 pub asks_no_share : (item part body : List ℕ) → request_of (Unshare item part) body ≡ Ok (unshares item part (principal_in part))
 unfolding request_of
 asks_no_share item part body = refl
@@ -185,6 +185,10 @@ asks_no_share item part body = refl
 pub asks_no_rule : (name body : List ℕ) → request_of (RemoveSharingRule name) body ≡ Ok (removes_sharing_rule name)
 unfolding request_of
 asks_no_rule name body = refl
+
+pub asks_no_validation : (object name body : List ℕ) → request_of (RemoveValidationRule object name) body ≡ Ok (removes_validation_rule object name)
+unfolding request_of
+asks_no_validation object name body = refl
 
 -- ---- a request that is read is fit
 

@@ -5,7 +5,7 @@ use Rattle.std.specs.Str.{chars, is_utf8}
 use Rattle.std.proofs.lemmas.Bool.{cases_Bool}
 use Rattle.std.proofs.lemmas.Str.{IsUtf8-from_is_utf8, is_utf8-from_IsUtf8}
 use Rattle.percent_encoding.specs.Percent.{percent_decode}
-use Rattle.model.specs.RequestOf.{value_part}
+use Rattle.model_requests.specs.RequestOf.{value_part}
 
 -- these bytes as a text, if they are UTF-8
 abbrev by_test : Bool → List ℕ → Option (List ℕ)

@@ -11,7 +11,7 @@ use Rattle.base_json.specs.Reading.{◌>>=◌}
 use Rattle.model.specs.declared.record_bodies.Assignment.{Assignment}
 use Rattle.model.specs.declared.record_bodies.Given.TheVariants as gives
 use Rattle.model.specs.Members.{Body, assignments, body_in, member_names}
-use Rattle.model.specs.Requests.{Request, creates}
+use Rattle.model_requests.specs.Requests.{Request, creates}
 use Rattle.base_value.specs.Dates.{is_moment}
 use Rattle.base_value.specs.Texts.{lower, texts_differ}
 

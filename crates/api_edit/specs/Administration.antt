@@ -3,14 +3,14 @@
 use Rattle.std.specs.Prelude.{◌≡◌, ◌≢◌, ◌⊎◌, ℕ, Bool, true, false, [], IsTrue}
 use Rattle.model.specs.declared.caller.Caller.{Caller}
 use Rattle.model.specs.declared.reply.Reply.{Reply}
-use Rattle.model.specs.declared.route.Route.{Route}
-use Rattle.model.specs.declared.route.Route.TheVariants.{AddGroup, AddRole, AddUser, Create, GetRetype, Query, Upsert}
+use Rattle.model_requests.specs.declared.route.Route.{Route}
+use Rattle.model_requests.specs.declared.route.Route.TheVariants.{AddGroup, AddRole, AddUser, Create, GetRetype, Query, Upsert}
 use Rattle.model.specs.Paths.{Asked}
 use Rattle.model.specs.Refusals.{is_refusal_status}
 use Rattle.access_traits.specs.Rights.{Whose}
 use Rattle.store_abstraction.specs.declared.judged.Judged.{Judged}
 use Rattle.store_abstraction.specs.declared.judged.Judged.TheVariants.{Changed, Same}
-use Rattle.model_step.specs.Own.{IsAsking}
+use Rattle.model.specs.Asker.{IsAsking}
 
 -- the caller is the one who asks at this moment, and these are the rights of that user
 abbrev pub AsksWith : Whose → Caller → (now : ℕ) → Asked → Type 0

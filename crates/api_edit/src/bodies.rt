@@ -5,12 +5,12 @@ ghost use Rattle.api_edit.specs.inner.Edits.{Asks, form_of};
 ghost use Rattle.api_input.specs.Bodies.{adds_new_role, begins_new_retype, request_in, sets_role_parent, sets_user_role, values_request};
 ghost use Rattle.record_input.specs.Given.{IsInJson};
 ghost use Rattle.model.specs.Organisations.{is_secret};
-ghost use Rattle.model.specs.RequestOf.{request_of, request_or};
-ghost use Rattle.model.specs.Requests.{Request, adds_field, adds_object, adds_sharing_rule, adds_validation_rule, sets_object, shares};
-ghost use Rattle.model.specs.Requests.{adds_group, adds_user, sets_group};
+ghost use Rattle.model_requests.specs.RequestOf.{request_of, request_or};
+ghost use Rattle.model_requests.specs.Requests.{Request, adds_field, adds_object, adds_sharing_rule, adds_validation_rule, sets_object, shares};
+ghost use Rattle.model_requests.specs.Requests.{adds_group, adds_user, sets_group};
 ghost use Rattle.model.specs.declared.record_bodies.Assignment.{Assignment};
-ghost use Rattle.model.specs.declared.route.Route.TheVariants.{AddField, AddObject, AddSharingRule, AddValidationRule, BeginRetype, SetObject, Share};
-ghost use Rattle.model.specs.declared.route.Route.TheVariants.{AddGroup, AddRole, AddUser, SetGroup, SetRole, SetUser};
+ghost use Rattle.model_requests.specs.declared.route.Route.TheVariants.{AddField, AddObject, AddSharingRule, AddValidationRule, BeginRetype, SetObject, Share};
+ghost use Rattle.model_requests.specs.declared.route.Route.TheVariants.{AddGroup, AddRole, AddUser, SetGroup, SetRole, SetUser};
 
 use api_input::{
     NewRetype, NewRole, RoleParent, UserRole, field_values, group_members, new_access, new_field,

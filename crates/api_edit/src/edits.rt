@@ -5,8 +5,8 @@ ghost use Rattle.api_edit.specs.Administration.{AsksWith, is_edit};
 ghost use Rattle.api_edit.specs.inner.Edits.{EditsFrom, IsAnswerTo};
 ghost use Rattle.store_edit.specs.Edits.{DraftsEdit};
 ghost use Rattle.store_kv.specs.Draft.{DraftTells, tables_of};
-ghost use Rattle.model.specs.RequestOf.{request_of, verdict_or};
-ghost use Rattle.model_step.specs.Own.{edit_shown, request_changes, request_gone};
+ghost use Rattle.model_requests.specs.RequestOf.{request_of, verdict_or};
+ghost use Rattle.model.specs.Bounds.{edit_shown, request_changes, request_gone};
 ghost use Rattle.base_value.specs.Dates.{is_moment};
 
 use crate::answer::{Answer, done};
@@ -14,10 +14,11 @@ use crate::bodies::{access_in, field_in, object_in, rule_in};
 use crate::people::{changed_group, changed_role, changed_user, new_group, new_role, new_user};
 use crate::records::{changed_record, deleted_record, new_record, upserted_record};
 use crate::retyping::{begun_retype, cancelled_retype};
+use crate::rules::removed_validation_rule;
 use crate::sharing::{new_sharing_rule, removed_sharing_rule, shared_record, unshared_record};
 use access_traits::Rights;
-use model::{Caller, Route, refusal_laws};
-use model_invariant::requests_fit;
+use model::Caller;
+use model_requests::{Route, refusal_laws, requests_fit};
 use schema_edit::{AddField, AddObject, AddValidationRule, SetAccess};
 use std::alloc::Global;
 use store_abstraction::{EditFail, call_laws};
@@ -82,6 +83,9 @@ pub(crate) fn edit<K: Keeper, R: Rights>(
         Route::AddValidationRule => {
             let new = rule_in(alloc, body)?;
             done(make_edit(alloc, draft, org, &AddValidationRule { new: &new }))
+        }
+        Route::RemoveValidationRule { object, name } => {
+            removed_validation_rule(alloc, draft, org, object, name)
         }
         Route::AddUser => new_user(alloc, draft, org, body),
         Route::SetUser { id } => changed_user(alloc, draft, org, id, body),

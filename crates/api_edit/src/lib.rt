@@ -14,6 +14,7 @@ mod records;
 mod replies;
 mod requests;
 mod retyping;
+mod rules;
 mod sharing;
 
 pub use crate::records::moment;

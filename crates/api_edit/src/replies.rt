@@ -4,7 +4,7 @@ ghost use Rattle.std.specs.Prelude.{◌≡◌, ◌⊎◌, Err, IfOk, IsTrue, if�
 ghost use Rattle.api_edit.specs.Administration.{IsEditReply};
 ghost use Rattle.api_edit.specs.inner.Edits.{IsAnswerTo, reply_made, reply_to};
 ghost use Rattle.store_rows.specs.declared.fail.StoreFail.TheVariants.{Memory};
-ghost use Rattle.model.specs.declared.route.Route.{Route};
+ghost use Rattle.model_requests.specs.declared.route.Route.{Route};
 ghost use Rattle.store_abstraction.specs.Fails.{is_judged};
 
 use crate::answer::Answer;

@@ -3,15 +3,16 @@
 ghost use Rattle.std.specs.Prelude.{◌≡◌, IfOk, IsTrue, pos, true};
 ghost use Rattle.api_edit.specs.Administration.{AsksWith, IsEditReply, is_edit};
 ghost use Rattle.store_kv.specs.Draft.{DraftTells, tables_of};
-ghost use Rattle.model.specs.RequestOf.{request_of, verdict_or};
+ghost use Rattle.model_requests.specs.RequestOf.{request_of, verdict_or};
 ghost use Rattle.store_abstraction.specs.Operations.{Drafts, Responds};
-ghost use Rattle.model_step.specs.Own.{edit_shown, request_changes, request_gone};
+ghost use Rattle.model.specs.Bounds.{edit_shown, request_changes, request_gone};
 ghost use Rattle.base_value.specs.Dates.{is_moment};
 
 use crate::edits::edit;
 use crate::replies::reply_to;
 use access_traits::Rights;
-use model::{Caller, Reply, Route};
+use model::{Caller, Reply};
+use model_requests::Route;
 use std::alloc::Global;
 use store_abstraction::Judged;
 use store_kv::{Draft, Keeper};

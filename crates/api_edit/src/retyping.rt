@@ -4,14 +4,13 @@ ghost use Rattle.std.specs.Prelude.{IfOk, List, ℕ};
 ghost use Rattle.api_edit.specs.inner.Edits.{Anyone, EditsFrom, IsAnswerTo};
 ghost use Rattle.store_edit.specs.Edits.{DraftsEdit};
 ghost use Rattle.store_kv.specs.Draft.{DraftTells, tables_of};
-ghost use Rattle.model.specs.RequestOf.{request_of, verdict_or};
-ghost use Rattle.model.specs.declared.route.Route.TheVariants as route;
-ghost use Rattle.model_step.specs.Own.{edit_shown, request_changes, request_gone};
+ghost use Rattle.model_requests.specs.RequestOf.{request_of, verdict_or};
+ghost use Rattle.model_requests.specs.declared.route.Route.TheVariants as route;
+ghost use Rattle.model.specs.Bounds.{edit_shown, request_changes, request_gone};
 
 use crate::answer::{Answer, done};
 use crate::bodies::retype_in;
-use model::refusal_laws;
-use model_invariant::requests_fit;
+use model_requests::{refusal_laws, requests_fit};
 use retype_request::{BeginRetype, CancelRetype};
 use std::alloc::Global;
 use store_abstraction::{EditFail, call_laws};

@@ -4,7 +4,7 @@ use Rattle.std.specs.Option.{option_map}
 use Rattle.base_json.specs.Reading.{◌>>=◌}
 use Rattle.model.specs.declared.record_bodies.Assignment.{Assignment}
 use Rattle.model.specs.Members.{Body, assignments, body_in}
-use Rattle.model.specs.Requests.{Request, adds_role, begins_retype, sets_role, sets_user}
+use Rattle.model_requests.specs.Requests.{Request, adds_role, begins_retype, sets_role, sets_user}
 use Rattle.api_input.specs.declared.people.NewRole.{NewRole}
 use Rattle.api_input.specs.declared.people.RoleParent.{RoleParent}
 use Rattle.api_input.specs.declared.people.UserRole.{UserRole}

@@ -2,9 +2,10 @@
 
 ghost use Rattle.std.specs.Prelude.{◌≡◌, IfOk, None};
 ghost use Rattle.std.specs.Option.{option_map};
-ghost use Rattle.model.specs.Forms as model;
+ghost use Rattle.model.specs.TypeForms as types;
+ghost use Rattle.model_requests.specs.Forms as model;
 ghost use Rattle.model.specs.NewFields.{type_with};
-ghost use Rattle.model.specs.Requests.{adds_field};
+ghost use Rattle.model_requests.specs.Requests.{adds_field};
 ghost use Rattle.model.specs.SoundMetadata.{may_be_required};
 ghost use Rattle.api_input.specs.Bodies.{request_in};
 ghost use Rattle.api_input.specs.inner.Outcomes.{Gives};
@@ -34,7 +35,7 @@ fn may_be_required(kind: &SpelledType) -> bool
 
 // Whether the flags suit the type.
 fn flags_suit(kind: &SpelledType, required: bool, unique: bool, indexed: bool) -> bool
-    ensures { result ≡ model.flags_suit kind.now required unique indexed }
+    ensures { result ≡ types.flags_suit kind.now required unique indexed }
 {
     (!required || may_be_required(kind))
         && match kind {

@@ -4,9 +4,9 @@ ghost use Rattle.std.specs.Prelude.{◌≡◌, ◌∷◌, ◌++◌, [], IfOk, Li
 ghost use Rattle.std.specs.Option.{option_map};
 ghost use Rattle.model.specs.Cases.{in_case};
 ghost use Rattle.model.specs.Fields.{by_parent};
-ghost use Rattle.model.specs.Forms as model;
+ghost use Rattle.model_requests.specs.Forms as model;
 ghost use Rattle.model.specs.Members.{member_names};
-ghost use Rattle.model.specs.Requests.{adds_object, sets_object};
+ghost use Rattle.model_requests.specs.Requests.{adds_object, sets_object};
 ghost use Rattle.api_input.specs.Bodies.{request_in};
 ghost use Rattle.api_input.specs.inner.Outcomes.{Gives};
 ghost use Rattle.api_input.specs.inner.Said.{said};

@@ -4,7 +4,7 @@ ghost use Rattle.std.specs.Prelude.{◌≡◌, IfOk, List};
 ghost use Rattle.std.specs.Option.{option_map};
 ghost use Rattle.model.specs.declared.record_bodies.Assignment.{Assignment};
 ghost use Rattle.model.specs.Members.{assignments};
-ghost use Rattle.model.specs.Requests.{Request};
+ghost use Rattle.model_requests.specs.Requests.{Request};
 ghost use Rattle.api_input.specs.Bodies.{request_in, values_request};
 ghost use Rattle.api_input.specs.inner.Given.{given_by, values_in};
 ghost use Rattle.api_input.specs.inner.Outcomes.{Gives};

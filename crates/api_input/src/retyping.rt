@@ -2,7 +2,7 @@
 
 ghost use Rattle.std.specs.Prelude.{◌≡◌, IfOk};
 ghost use Rattle.std.specs.Option.{option_map};
-ghost use Rattle.model.specs.PeopleForms as model;
+ghost use Rattle.model_requests.specs.PeopleForms as model;
 ghost use Rattle.api_input.specs.Bodies.{begins_new_retype, request_in};
 ghost use Rattle.api_input.specs.inner.Outcomes.{Gives};
 ghost use Rattle.api_input.specs.inner.Said.{said};

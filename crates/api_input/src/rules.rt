@@ -2,8 +2,8 @@
 
 ghost use Rattle.std.specs.Prelude.{◌≡◌, IfOk};
 ghost use Rattle.std.specs.Option.{option_map};
-ghost use Rattle.model.specs.Forms as model;
-ghost use Rattle.model.specs.Requests.{adds_validation_rule};
+ghost use Rattle.model_requests.specs.Forms as model;
+ghost use Rattle.model_requests.specs.Requests.{adds_validation_rule};
 ghost use Rattle.api_input.specs.Bodies.{request_in};
 ghost use Rattle.api_input.specs.inner.Outcomes.{Gives};
 ghost use Rattle.api_input.specs.inner.Said.{said};

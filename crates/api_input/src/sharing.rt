@@ -2,9 +2,9 @@
 
 ghost use Rattle.std.specs.Prelude.{◌≡◌, IfOk, codes};
 ghost use Rattle.std.specs.Option.{option_map};
-ghost use Rattle.model.specs.Forms as model;
+ghost use Rattle.model_requests.specs.Forms as model;
 ghost use Rattle.model.specs.Members.{levels};
-ghost use Rattle.model.specs.Requests.{adds_sharing_rule, shares};
+ghost use Rattle.model_requests.specs.Requests.{adds_sharing_rule, shares};
 ghost use Rattle.api_input.specs.Bodies.{request_in};
 ghost use Rattle.api_input.specs.inner.Names.{name_of};
 ghost use Rattle.api_input.specs.inner.Outcomes.{Gives};

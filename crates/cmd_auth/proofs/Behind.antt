@@ -18,8 +18,8 @@ use Rattle.store_abstraction.specs.Operations.{Drafts, IsChange, IsSame, Judges}
 use Rattle.store_abstraction.specs.Plan.{OrgPlan}
 use Rattle.store_abstraction.specs.declared.judged.Judged.{Judged}
 use Rattle.store_abstraction.specs.declared.judged.Judged.TheVariants.{Changed, Same}
-use Rattle.model_step.specs.Own.{IsAsking}
-use Rattle.model_step.specs.Step.{asking}
+use Rattle.model.specs.Asker.{IsAsking}
+use Rattle.model.specs.Asker.{asking}
 use Rattle.cmd_auth.specs.Asking.{Doing, called}
 use Rattle.cmd_auth.specs.Judging.{JudgesAsked, JudgesCalled, behind_step, beside, changes_behind, shown_behind}
 

@@ -17,8 +17,8 @@ use Rattle.store_abstraction.specs.Operations.{IsChange, Judges}
 use Rattle.store_abstraction.specs.Plan.{OrgPlan}
 use Rattle.store_abstraction.specs.declared.judged.Judged.{Judged}
 use Rattle.store_abstraction.specs.declared.judged.Judged.TheVariants.{Changed, Same}
-use Rattle.model_step.specs.Own.{IsAsking}
-use Rattle.model_step.specs.Step.{asking}
+use Rattle.model.specs.Asker.{IsAsking}
+use Rattle.model.specs.Asker.{asking}
 use Rattle.cmd_auth.specs.Asking.{Doing, called, if_called, named_does}
 use Rattle.cmd_auth.specs.Judging.{JudgesFor, JudgesCalled, JudgesIn, RefusesUncalled}
 

@@ -16,7 +16,7 @@ use Rattle.store_abstraction.specs.declared.judged.Judged.TheVariants.{Changed, 
 use Rattle.cmd_auth.specs.Asking.{Doing, if_called, named_does, world_does, world_with}
 use Rattle.cmd_auth.specs.Judging.{JudgesFor, RefusesUncalled}
 
--- what `store_abstraction` and `model_step` say of a world and each of its organisations
+-- what `store_abstraction` and `model_requests` say of a world and each of its organisations
 pub record WorldLaws : Type 0 where
   pub each : (p : Plan) (m : Tables) (w : World) (n : ℕ) → n < 2 ^ 32 → StandsBy p m w → StandsIn n (p.org n) m (tenant_at w n)
   pub whole : (p : Plan) (m after : Tables) (w : World) (n : ℕ) (t u : Tenant) (q : OrgPlan) → n < 2 ^ 32 → StandsBy p m w → tenant_at w n ≡ Some t → StandsIn n q after (Some u) → KeepsOthers n m after

@@ -8,7 +8,7 @@ use Rattle.model.specs.Cases.{in_case}
 use Rattle.model.specs.Paths.{Asked}
 use Rattle.model.specs.Tenant.{Tenant}
 use Rattle.model.specs.World.{World, tenant_at, user_at, with_tenant}
-use Rattle.model_step.specs.Step.{asking, background}
+use Rattle.model.specs.Asker.{asking, background}
 
 -- what it comes to of one who asks: an answer, and what becomes of the organisation
 abbrev pub Doing : Type 0 → Type 0

@@ -12,8 +12,8 @@ use Rattle.store_abstraction.specs.declared.judged.Judged.TheVariants.{Changed, 
 use Rattle.store_abstraction.specs.Local.{KeepsOthers, StandsFor, StandsIn}
 use Rattle.store_abstraction.specs.Operations.{IsChange, Judges}
 use Rattle.store_abstraction.specs.Plan.{OrgPlan}
-use Rattle.model_step.specs.Own.{IsAsking}
-use Rattle.model_step.specs.Step.{asking}
+use Rattle.model.specs.Asker.{IsAsking}
+use Rattle.model.specs.Asker.{asking}
 use Rattle.cmd_auth.specs.Asking.{Doing, called, named_does}
 
 -- what a caller asks, judged over these tables, of which those came, where no step is to be made: whatever they have, no row of others

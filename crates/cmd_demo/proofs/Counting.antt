@@ -10,7 +10,7 @@ use Rattle.model.specs.declared.refusal.Refusal.{Refusal}
 use Rattle.cmd_sandbox.specs.Making.{IsOwned}
 use Rattle.store_abstraction.specs.declared.fail.EditFail.{EditFail}
 use Rattle.store_abstraction.specs.declared.fail.EditFail.TheVariants.{Refused, Store}
-use Rattle.model_step.specs.Step.{stepped}
+use Rattle.model.specs.Asker.{stepped}
 use Rattle.cmd_demo.specs.Demos.{amount_line, switched_by, and_then, comes_to, given_amount, is_settled, item_object, next_repeat, repeats_from, with_items}
 use Rattle.cmd_demo.specs.declared.repeats.Repeats.{Repeats}
 use Rattle.cmd_demo.specs.inner.Coming.{Comes, Makes}

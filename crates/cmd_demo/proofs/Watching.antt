@@ -7,7 +7,7 @@ use Rattle.store_kv.specs.Draft.{Held}
 use Rattle.store_kv.specs.Memory.{InMemory}
 use Rattle.cmd_sandbox.specs.Making.{IsOwned}
 use Rattle.store_abstraction.specs.declared.fail.EditFail.TheVariants.{Refused}
-use Rattle.model_step.specs.Step.{stepped}
+use Rattle.model.specs.Asker.{stepped}
 use Rattle.cmd_demo.specs.Demos.{above_query, amount_field, amount_line, and_then, answer_to_text, comes_to, first_query, item_object, rows_in, watched, whole_number}
 use Rattle.cmd_demo.specs.declared.repeats.Repeats.{Repeats}
 use Rattle.cmd_demo.specs.declared.show.Demo.{Demo}

@@ -28,7 +28,7 @@ use Rattle.model.specs.Retyping.{begin_retype, job_is_done}
 use Rattle.model.specs.Tenant.{Tenant}
 use Rattle.model.specs.Verdict.{Verdict}
 use Rattle.cmd_sandbox.specs.Own.{asker, only_name, query_or_refusal, unless_refused}
-use Rattle.model_step.specs.Step.{stepped}
+use Rattle.model.specs.Asker.{stepped}
 use Rattle.cmd_demo.specs.declared.repeats.Repeats.{Repeats}
 use Rattle.cmd_demo.specs.declared.show.Demo.{Demo}
 

@@ -28,9 +28,9 @@ use Rattle.store_abstraction.specs.Layouts.{own_layouts}
 use Rattle.store_abstraction.specs.Local.{KeepsOthers, StandsFor, StandsIn}
 use Rattle.store_abstraction.specs.Operations.{IsChange, Judges}
 use Rattle.store_abstraction.specs.Plan.{OrgPlan}
-use Rattle.model_step.specs.Flat.{is_flat}
-use Rattle.model_step.specs.Own.{IsAsking}
-use Rattle.model_step.specs.Step.{asking}
+use Rattle.model.specs.Flat.{is_flat}
+use Rattle.model.specs.Asker.{IsAsking}
+use Rattle.model.specs.Asker.{asking}
 use Rattle.cmd_auth.specs.Judging.{JudgesAsked}
 use Rattle.cmd_export.specs.Exports.{exported, exported_query, exported_read, is_child}
 use Rattle.cmd_export.specs.inner.Unchanged.{Answer, IsExport, query_read, unchanged}

@@ -12,7 +12,7 @@ use Rattle.soql.specs.declared.query.Item.{Item}
 use Rattle.soql.specs.declared.query.Item.TheVariants as item
 use Rattle.soql.specs.declared.query.Query.{Query}
 use Rattle.soql.specs.grammar.Spelling.{reads_query}
-use Rattle.model_step.specs.Shown.{further_to, request_shown}
+use Rattle.model.specs.Shown.{further_to, request_shown}
 
 -- a child subquery
 abbrev pub is_child : Item → Bool

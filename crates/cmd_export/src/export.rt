@@ -12,8 +12,8 @@ ghost use Rattle.soql.specs.grammar.Spelling.{reads_query};
 ghost use Rattle.store_abstraction.specs.Calls.{Calls, ended};
 ghost use Rattle.store_abstraction.specs.Local.{StandsIn};
 ghost use Rattle.store_abstraction.specs.Plan.{OrgPlan};
-ghost use Rattle.model_step.specs.Own.{IsAsking};
-ghost use Rattle.model_step.specs.Shown.{further_to, shown_beside};
+ghost use Rattle.model.specs.Asker.{IsAsking};
+ghost use Rattle.model.specs.Shown.{further_to, shown_beside};
 ghost use Rattle.base_value.specs.Dates.{is_moment};
 
 use crate::lines::LineForm;

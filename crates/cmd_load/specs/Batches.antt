@@ -11,7 +11,7 @@ use Rattle.store_rows.specs.declared.fail.StoreFail.{StoreFail}
 use Rattle.cmd_load_row.specs.Loads.{load_shown, row_changes}
 use Rattle.model.specs.declared.refusal.Refusal.TheVariants.{InvalidSession}
 use Rattle.model.specs.Callers.{Named}
-use Rattle.model.specs.Requests.{verdict_on}
+use Rattle.model_requests.specs.Requests.{verdict_on}
 use Rattle.model.specs.Tenant.{Tenant}
 use Rattle.model.specs.World.{World}
 use Rattle.store_abstraction.specs.declared.judged.Judged.{Judged}

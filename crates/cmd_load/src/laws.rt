@@ -14,7 +14,7 @@ ghost use Rattle.store_abstraction.specs.declared.judged.Judged.{Judged};
 ghost use Rattle.store_abstraction.specs.Operations.{Judges};
 ghost use Rattle.store_abstraction.specs.Stands.{Stands};
 
-use model_step::step_laws;
+use model_requests::step_laws;
 use store_abstraction::local_laws;
 
 /// What is found and judged in the organisation that is named is so in the world, where tables stand for one. The call does nothing.

@@ -13,7 +13,7 @@ use Rattle.model.specs.declared.record_bodies.Given.TheVariants as gives
 use Rattle.model.specs.declared.refusal.Refusal.{Refusal}
 use Rattle.model.specs.Cases.{in_case}
 use Rattle.model.specs.Refusals.{code_of}
-use Rattle.model.specs.Requests.{Request, creates, upserts}
+use Rattle.model_requests.specs.Requests.{Request, creates, upserts}
 use Rattle.model.specs.Verdict.{Done, made_new, upserted}
 use Rattle.model_invariant.specs.Fit.{is_spelled}
 use Rattle.cmd_load_plan.specs.declared.plan.LoadColumn.{LoadColumn}

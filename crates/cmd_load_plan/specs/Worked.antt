@@ -2,9 +2,9 @@
 use Rattle.std.specs.Prelude.{ℕ, ◌+◌, List, [], ◌∷◌, ◌++◌, Some, None, Result, Ok, Err}
 use Rattle.model.specs.Cases.{in_case}
 use Rattle.model.specs.Objects.{object_named}
-use Rattle.model.specs.Requests.{verdict_on}
+use Rattle.model_requests.specs.Requests.{verdict_on}
 use Rattle.model.specs.Tenant.{Tenant}
-use Rattle.model.specs.WorkedRequests.{Call, after_calls, start, user_asks}
+use Rattle.model_requests.specs.WorkedRequests.{Call, after_calls, start, user_asks}
 use Rattle.cmd_load_plan.specs.declared.plan.LoadColumn.{LoadColumn}
 use Rattle.cmd_load_plan.specs.declared.plan.LoadPlan.{LoadPlan}
 use Rattle.cmd_load_plan.specs.Columns.{plan_of}

@@ -2,7 +2,7 @@
 
 ghost use Rattle.std.specs.Prelude.{◌≡◌, [], ◌∷◌, ◌++◌, codes, Err, None, Ok, Some};
 ghost use Rattle.cmd_load_plan.specs.Worked.{column_by, column_to, loaded, planned};
-ghost use Rattle.model.specs.WorkedRecords.{account_with_code};
+ghost use Rattle.model_requests.specs.WorkedRecords.{account_with_code};
 
 /// The columns of headings. The call does nothing.
 pub fn heading_rows()

@@ -20,7 +20,7 @@ use Rattle.model.specs.declared.record_bodies.Assignment.{Assignment}
 use Rattle.model.specs.declared.refusal.Refusal.{Refusal}
 use Rattle.model.specs.Cases.{in_case}
 use Rattle.model.specs.Paths.{Asked}
-use Rattle.model.specs.Requests.{Request, verdict_on}
+use Rattle.model_requests.specs.Requests.{Request, verdict_on}
 use Rattle.model.specs.Sound.{IsSound}
 use Rattle.model.specs.Tenant.{Object, Tenant, User}
 use Rattle.model.specs.Verdict.{Done, Verdict}

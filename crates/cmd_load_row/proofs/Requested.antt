@@ -5,7 +5,7 @@ use Rattle.cmd_load_plan.specs.Rows.{given_row, row_request, upsert_row}
 use Rattle.cmd_load_plan.specs.declared.plan.LoadColumn.{LoadColumn}
 use Rattle.cmd_load_plan.specs.declared.plan.LoadPlan.{LoadPlan}
 use Rattle.model.specs.Cases.{in_case}
-use Rattle.model.specs.Requests.{creates, upserts}
+use Rattle.model_requests.specs.Requests.{creates, upserts}
 
 abbrev Cells : Type 0
 Cells = List (Bor (List ℕ))

@@ -13,7 +13,7 @@ use Rattle.store_rows.specs.declared.fail.StoreFail.{StoreFail}
 use Rattle.store_rows.specs.declared.fail.StoreFail.TheVariants.{Damaged, Keeper, Memory}
 use Rattle.model.specs.declared.caller.Caller.{Caller}
 use Rattle.model.specs.Paths.{Asked}
-use Rattle.model.specs.Requests.{verdict_on}
+use Rattle.model_requests.specs.Requests.{verdict_on}
 use Rattle.model.specs.Tenant.{Tenant}
 use Rattle.access_traits.specs.Rights.{Whose}
 use Rattle.store_abstraction.specs.Calls.{Calls, Ending, HasFallen, Makes, done, ended, ended_by, ended_edit, is_done, stopped}
@@ -24,8 +24,8 @@ use Rattle.store_abstraction.specs.Plan.{OrgPlan}
 use Rattle.store_abstraction.specs.declared.fail.EditFail.{EditFail}
 use Rattle.store_abstraction.specs.declared.fail.EditFail.TheVariants.{Refused, Store}
 use Rattle.store_abstraction.specs.declared.judged.Judged.{Judged}
-use Rattle.model_step.specs.Own.{IsAsking}
-use Rattle.model_step.specs.Step.{asking}
+use Rattle.model.specs.Asker.{IsAsking}
+use Rattle.model.specs.Asker.{asking}
 use Rattle.record_save.specs.declared.upsert.upsert.Upserted.{Upserted}
 use Rattle.cmd_load_row.specs.Loads.{JudgesRow, load_shown, row_changes, row_does}
 use Rattle.cmd_load_row.specs.inner.Edits.{AsksBy, EditsRow, EditsTo}

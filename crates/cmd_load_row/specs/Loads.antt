@@ -6,14 +6,14 @@ use Rattle.store_kv.specs.Tables.{Tables}
 use Rattle.store_rows.specs.declared.fail.StoreFail.{StoreFail}
 use Rattle.model.specs.declared.caller.Caller.{Caller}
 use Rattle.model.specs.Paths.{Asked}
-use Rattle.model.specs.Requests.{verdict_on}
+use Rattle.model_requests.specs.Requests.{verdict_on}
 use Rattle.model.specs.Tenant.{Tenant, User}
 use Rattle.store_abstraction.specs.Local.{KeepsOthers, StandsFor, StandsIn}
 use Rattle.store_abstraction.specs.Operations.{IsChange, Judges}
 use Rattle.store_abstraction.specs.Plan.{OrgPlan}
 use Rattle.store_abstraction.specs.declared.judged.Judged.{Judged}
-use Rattle.model_step.specs.Own.{IsAsking}
-use Rattle.model_step.specs.Step.{asking}
+use Rattle.model.specs.Asker.{IsAsking}
+use Rattle.model.specs.Asker.{asking}
 
 -- what a row comes to, of one who asks: its line, and what becomes of the organisation
 abbrev pub row_does : LoadPlan → (number : ℕ) → (cells : List (List ℕ)) → Asked → Option Tenant → List ℕ × Option Tenant

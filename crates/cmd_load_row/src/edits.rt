@@ -8,14 +8,15 @@ ghost use Rattle.store_edit.specs.Edits.{DraftsEdit};
 ghost use Rattle.store_kv.specs.Draft.{DraftTells, tables_of};
 ghost use Rattle.cmd_load_row.specs.Loads.{load_shown, row_changes};
 ghost use Rattle.cmd_load_row.specs.inner.Edits.{AsksBy, EditsRow, KnowsFound, as_new, asked_for, seen, text_is_spelled};
-ghost use Rattle.model.specs.Requests.{creates, upserts};
+ghost use Rattle.model_requests.specs.Requests.{creates, upserts};
 ghost use Rattle.base_value.specs.Dates.{is_moment};
 
 use crate::parents::{find_parents, found_in};
 use access_traits::Rights;
 use base_value::{Id, Text, id_laws, value_laws};
-use model::{Assignment, Caller, object_laws, refusal_laws};
+use model::{Assignment, Caller, object_laws};
 use model_invariant::fit_laws;
+use model_requests::refusal_laws;
 use record_input::{Found, given_laws};
 use record_save::{Create, Upsert, Upserted};
 use std::alloc::Global;

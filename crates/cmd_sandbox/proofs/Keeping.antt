@@ -35,7 +35,7 @@ use Rattle.model.specs.declared.refusal.Refusal.{Refusal}
 use Rattle.model.specs.declared.refusal.Refusal.TheVariants.{InvalidField, InvalidType, RetypeUnsupported}
 use Rattle.model_invariant.specs.Fit.{ReadsWell}
 use Rattle.store_abstraction.specs.Local.{StandsIn}
-use Rattle.model_step.specs.Step.{stepped}
+use Rattle.model.specs.Asker.{stepped}
 use Rattle.cmd_sandbox.specs.Making.{IsOwned, KeepsUsers, NeverFails}
 use Rattle.cmd_sandbox.specs.Own.{its_administrator}
 

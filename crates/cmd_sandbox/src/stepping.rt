@@ -7,7 +7,7 @@ ghost use Rattle.store_kv.specs.Draft.{tables_of};
 ghost use Rattle.store_kv.specs.Memory.{memory_state};
 ghost use Rattle.model.specs.Paths.{Asked};
 ghost use Rattle.retype_request.specs.States.{state_in};
-ghost use Rattle.model_step.specs.Step.{stepped};
+ghost use Rattle.model.specs.Asker.{stepped};
 
 use crate::organisation::ORG;
 use model::tenant_laws;

@@ -5,7 +5,7 @@ use Rattle.std.proofs.lemmas.Bool.{eqb-true}
 use Rattle.std.proofs.lemmas.Bool.Decides.{Decides-eqb}
 use Rattle.model.specs.declared.reply.Reply.{Reply}
 use Rattle.model.specs.Step.{Answering, org_named, step_by}
-use Rattle.model.specs.Answered.{Sent, is_from, is_org, own_replies, replies_by, replies_for}
+use Rattle.model.specs.Sent.{Sent, is_from, is_org, own_replies, replies_by, replies_for}
 use Rattle.model.specs.World.{World, tenant_at}
 use Rattle.model.proofs.Stepped.{other_stays, own_alone}
 

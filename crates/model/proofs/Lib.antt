@@ -7,15 +7,14 @@ mod Least
 mod Agree
 pub mod Sorted
 mod Before
-mod Computing
+pub mod Computing
 mod Within
-mod Requesting
+pub mod Requesting
 mod Alone
 mod Elements
 mod Places
 mod Administering
 mod Rising
 mod JobUsers
-mod Refusing
 mod NewSound
 mod Switching

@@ -9,7 +9,7 @@ use Rattle.sha2.specs.Sha256.{sha256}
 use Rattle.model.specs.declared.caller.Caller.{Caller}
 use Rattle.model.specs.declared.refusal.Refusal.TheVariants as refusal
 use Rattle.model.specs.declared.reply.Reply.{Reply}
-use Rattle.model.specs.Callers.{IsUser, Named, admitted, caller_in, caller_of, named}
+use Rattle.model.specs.Callers.{IsUser, Named, admitted, caller_in, is_admitted, caller_of, named}
 use Rattle.model.specs.Step.{Answering, Message, answer_in, caller_by, if_called, in_key, in_org, in_tenant, key_in, org_named, refusal_reply, step_by}
 use Rattle.model.specs.Tenant.{Tenant, User}
 use Rattle.model.specs.World.{World, tenant_at, user_at, with_tenant}
@@ -74,7 +74,7 @@ org_of_caller n t c e = by (user_at t.users n.user) e
 
     by : (o : Option User) → option_and_then (admitted n) o ≡ Some c → c.org ≡ n.org
     by None e = absurd cc
-    by (Some u) e = admits u (bytes_eq u.digest (sha256 n.secret)) e
+    by (Some u) e = admits u (is_admitted n u) e
 
 -- the caller by what a key names
 abbrev found_by : World → Option Named → Option Caller
@@ -147,7 +147,7 @@ user_in n t c e = by (user_at t.users n.user) refl e
 
     by : (o : Option User) → user_at t.users n.user ≡ o → option_and_then (admitted n) o ≡ Some c → (v : User) × ((user_at t.users c.user ≡ Some v) × (v.admin ≡ c.admin))
     by None at e = absurd cc
-    by (Some u) at e = admits u (bytes_eq u.digest (sha256 n.secret)) at e
+    by (Some u) at e = admits u (is_admitted n u) at e
 
 module _ (w : World) (m : Message) where
   user_by : (o : Option Named) (c : Caller) → found_by w o ≡ Some c → (t : Tenant) × (u : User) × IsUser w c t u

@@ -1,6 +1,6 @@
 -- Who calls: the user whom a key `ORG!USER!SECRET` names and whose secret it has.
 -- Source of the digest: FIPS 180-4, SHA-256. The form of a key is this product's own.
-use Rattle.std.specs.Prelude.{◌≡◌, ℕ, Bool, ◌==◌, nat_lt, if◌then◌else◌, List, length, Option, Some, None}
+use Rattle.std.specs.Prelude.{◌≡◌, ◌&&◌, ℕ, Bool, ◌==◌, nat_lt, if◌then◌else◌, List, length, Option, Some, None}
 use Rattle.std.specs.List.{position_or_len, before_first, after_first}
 use Rattle.std.specs.Option.{option_and_then, option_map}
 use Rattle.std.specs.Str.{bytes_eq}
@@ -35,9 +35,13 @@ named_by org user secret = option_map (λ ids. record { org = ids.0; user = ids.
 abbrev pub named : List ℕ → Option Named
 named key = option_and_then (λ a. option_and_then (λ b. named_by a.0 b.0 b.1) (cut a.1)) (cut key)
 
--- the user, if the secret is the user's
+-- the user is active, and the secret is the user's
+abbrev pub is_admitted : Named → User → Bool
+is_admitted n u = u.active && bytes_eq u.digest (sha256 n.secret)
+
+-- the user as a caller, if admitted
 abbrev pub admitted : Named → User → Option Caller
-admitted n u = if bytes_eq u.digest (sha256 n.secret) then Some (record { org = n.org; user = u.id; admin = u.admin }) else None
+admitted n u = if is_admitted n u then Some (record { org = n.org; user = u.id; admin = u.admin }) else None
 
 -- the caller of whom these are named, in the organisation that is named
 abbrev pub caller_of : Named → Tenant → Option Caller

@@ -21,7 +21,7 @@ first_user = made user_prefix 0
 
 -- the administrator of a new organisation has its name, and no role
 abbrev pub administrator : List ℕ → List ℕ → User
-administrator name digest = record { id = first_user; name = name; digest = digest; role = None; admin = true }
+administrator name digest = record { id = first_user; name = name; digest = digest; role = None; admin = true; active = true }
 
 -- a new organisation has its administrator and nothing else
 abbrev pub fresh : List ℕ → List ℕ → Tenant

@@ -1,6 +1,6 @@
 -- Users, roles and groups: new ones, and changes of the old.
 -- Source: Salesforce, "User", "UserRole" and "Group". The order of the rules is this product's own.
-use Rattle.std.specs.Prelude.{ℕ, ◌+◌, ◌||◌, if◌then◌else◌, List, [], ◌∷◌, ◌++◌, map, length, bytes_eq, codes, Option, None, is_none}
+use Rattle.std.specs.Prelude.{ℕ, ◌+◌, ◌||◌, true, if◌then◌else◌, List, [], ◌∷◌, ◌++◌, map, length, bytes_eq, codes, Option, None, is_none}
 use Rattle.std.specs.Option.{option_map}
 use Rattle.sha2.specs.Sha256.{sha256}
 use Rattle.base_value.specs.Id.{made}
@@ -45,7 +45,7 @@ new_user_rules t b =
 -- the user that is made; a secret's characters are its bytes
 abbrev pub new_user : Tenant → NewUser → User
 new_user t b =
-    record { id = next_id t user_prefix; name = b.name; digest = sha256 b.secret; role = option_map spelled_id b.role; admin = b.admin }
+    record { id = next_id t user_prefix; name = b.name; digest = sha256 b.secret; role = option_map spelled_id b.role; admin = b.admin; active = true }
 
 -- one more user: its id is the greatest
 abbrev pub with_user : User → Tenant → Tenant

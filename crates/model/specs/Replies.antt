@@ -19,7 +19,7 @@ use Rattle.model.specs.Paths.{Asked}
 use Rattle.model.specs.RowsJson.{found_json, list_json, member_json, object_json}
 use Rattle.model.specs.Step.{refusal_reply}
 use Rattle.model.specs.Tenant.{Job, Tenant}
-use Rattle.model.specs.Verdict.{Done, done, made_new, rows_of, state_of, upserted}
+use Rattle.model.specs.Verdict.{Done, done, made_new, rows_of, told, upserted}
 
 -- ---- bodies, as characters
 
@@ -75,7 +75,7 @@ done_reply a (rows_of q) = unless_too_large (json_reply 200 (found_json a q))
 done_reply a (made_new id) = json_reply 201 (object_json (made_members id))
 done_reply a (upserted id created) =
     json_reply (if created then 201 else 200) (object_json (made_members id ++ member_json (codes "created") (printed_truth created) ∷ []))
-done_reply a (state_of j) = json_reply 200 (job_json a.tenant j)
+done_reply a (told body) = json_reply 200 body
 
 -- the reply to what a request came to
 abbrev pub reply_of : Asked → Result Done Refusal → Reply

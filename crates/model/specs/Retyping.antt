@@ -15,9 +15,10 @@ use Rattle.model.specs.declared.metadata_bodies.SpelledType.{SpelledType}
 use Rattle.model.specs.NewFields.{type_with}
 use Rattle.model.specs.Objects.{Numbered}
 use Rattle.model.specs.RuleFormulas.{formula_of, is_copy, names_field}
+use Rattle.model.specs.Replies.{job_json}
 use Rattle.model.specs.Rules.{Rule, refuse_if, first_of, first_refusal}
 use Rattle.model.specs.Tenant.{Field, Job, Object, Source, owned, meets, Tenant}
-use Rattle.model.specs.Verdict.{Verdict, accept, done, judged, on_object, refuse, state_of}
+use Rattle.model.specs.Verdict.{Verdict, Done, accept, done, judged, on_object, refuse, told}
 
 -- ---- the rules
 
@@ -96,9 +97,13 @@ begin_retype t object field to =
 
 -- ---- looking, and calling off
 
+-- what is told of it: how far it is
+abbrev pub state_of : Tenant → Job → Done
+state_of t j = told (job_json t j)
+
 -- how far it is; NOT_FOUND where there never was a job
 abbrev pub get_retype : Tenant → Verdict
-get_retype t = in_case t.job (refuse t refusal.NotFound) (λ j. accept (state_of j) t)
+get_retype t = in_case t.job (refuse t refusal.NotFound) (λ j. accept (state_of t j) t)
 
 -- the copy ends with this outcome, and what it left is cleared from the first record on
 abbrev pub to_clear : Outcome → Job → Job

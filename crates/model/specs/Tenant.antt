@@ -21,6 +21,8 @@ pub record User : Type 0 where
   pub digest : List ℕ
   pub role : Option (List ℕ)
   pub admin : Bool
+  -- who isn't active is no caller, and else a user like others
+  pub active : Bool
 
 pub record Role : Type 0 where
   pub id : List ℕ

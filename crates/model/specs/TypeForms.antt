@@ -1,8 +1,8 @@
--- The forms of types in bodies.
+-- The forms of types in bodies, and which flags suit them.
 -- Source of the kinds: Salesforce, "Field Types". The forms are this product's own.
-use Rattle.std.specs.Prelude.{ℕ, Bool, if◌then◌else◌, List, [], ◌∷◌, map, codes, Option, Some, None}
+use Rattle.std.specs.Prelude.{ℕ, Bool, ◌&&◌, if◌then◌else◌, List, [], ◌∷◌, map, codes, Option, Some, None}
 use Rattle.base_json.specs.Reading.{◌>>=◌}
-use Rattle.base_value.specs.Types.{is_type}
+use Rattle.base_value.specs.Types.{is_type, suits_unique, suits_indexed}
 use Rattle.base_value.specs.declared.value.FieldType.{FieldType}
 use Rattle.base_value.specs.declared.value.FieldType.TheVariants as type
 use Rattle.base_value.specs.declared.value.OnDelete.{OnDelete}
@@ -10,6 +10,14 @@ use Rattle.base_value.specs.declared.value.OnDelete.TheVariants as on_delete
 use Rattle.model.specs.Members.{Body, all_there, as_text, entry_named, formed, list_in, object_in, text_in, whole_in}
 use Rattle.model.specs.declared.metadata_bodies.SpelledType.{SpelledType}
 use Rattle.model.specs.declared.metadata_bodies.SpelledType.TheVariants.{Plain, LookupTo}
+use Rattle.model.specs.NewFields.{type_with}
+use Rattle.model.specs.SoundMetadata.{implies, may_be_required}
+
+-- flags suit the type, whatever object a lookup names
+abbrev pub flags_suit : SpelledType → (required unique indexed : Bool) → Bool
+flags_suit kind required unique indexed =
+    let k = type_with None kind in
+    implies required (may_be_required k) && (implies unique (suits_unique k) && implies indexed (suits_indexed k))
 
 -- the thing, where this is so
 abbrev pub where_so : {X : Type 0} → Bool → X → Option X

@@ -7,7 +7,7 @@ use Rattle.model.specs.declared.refusal.Refusal.TheVariants.{InvalidType}
 use Rattle.model.specs.Cases.{in_case}
 use Rattle.model.specs.Objects.{Numbered, object_named}
 use Rattle.model.specs.Rules.{Rule, first_refusal}
-use Rattle.model.specs.Tenant.{Job, Tenant}
+use Rattle.model.specs.Tenant.{Tenant}
 
 -- what is answered where no rule refuses
 pub data Done : Type 0 where
@@ -19,8 +19,8 @@ pub data Done : Type 0 where
   made_new : (id : List ℕ) → Done
   -- the id of the record that has the given values now, and whether it is new
   upserted : (id : List ℕ) → (created : Bool) → Done
-  -- how far the change of a field's type is
-  state_of : Job → Done
+  -- these characters, a body that was read off the organisation
+  told : (body : List ℕ) → Done
 
 pub record Verdict : Type 0 where
   pub answer : Result Done Refusal

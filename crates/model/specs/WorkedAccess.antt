@@ -39,7 +39,7 @@ roles =
     ∷ role rep (codes "Rep") (Some vp) ∷ role other (codes "Other") (Some ceo) ∷ []
 
 abbrev pub user : ℕ → List ℕ → Option (List ℕ) → (admin : Bool) → User
-user n name role admin = record { id = made user_prefix n; name = name; digest = []; role = role; admin = admin }
+user n name role admin = record { id = made user_prefix n; name = name; digest = []; role = role; admin = admin; active = true }
 
 -- an administrator without a role; Ron in Rep, Cea in CEO, Otto in Other
 abbrev pub admin : User

@@ -10,10 +10,8 @@
 
 mod access;
 mod body;
-mod body_rows;
 mod caller;
 mod ids;
-mod job_rows;
 mod laws;
 mod level_rows;
 mod limit;
@@ -26,22 +24,15 @@ mod query_rows;
 mod reading;
 mod record;
 mod record_bodies;
-mod record_rows;
 mod refusal;
-mod refusal_rows;
 mod reply;
-mod request_rows;
-mod route;
-mod routed;
 mod sharing_bodies;
 mod steps;
 
 pub use crate::access::{access_laws, condition_laws, sorting_laws};
 pub use crate::body::damaged_body;
-pub use crate::body_rows::{form_rows, spelling_rows};
 pub use crate::caller::Caller;
 pub use crate::ids::{first_user_id, org_id, org_number};
-pub use crate::job_rows::{limit_rows, retype_rows, stuck_retype_rows};
 pub use crate::laws::{model_rows, name_laws};
 pub use crate::level_rows::{hierarchy_rows, rule_rows, share_rows};
 pub use crate::limit::{
@@ -53,23 +44,10 @@ pub use crate::name_forms::{is_child_name, is_custom_name, is_name, is_stem, sam
 pub use crate::people_bodies::{NewUser, PrincipalKind, Spelled};
 pub use crate::premises::law_rows;
 pub use crate::query_rows::{condition_rows, path_rows, sorted_rows};
-pub use crate::reading::{
-    administrator_laws, object_laws, organisation_laws, record_laws, refusal_laws,
-};
+pub use crate::reading::{administrator_laws, object_laws, organisation_laws, record_laws};
 pub use crate::record::Record;
 pub use crate::record_bodies::{Assignment, Given};
-pub use crate::record_rows::{delete_rows, found_rows, number_rows, upsert_rows, validation_rows};
 pub use crate::refusal::Refusal;
-pub use crate::refusal_rows::{
-    detail_refusal_rows, edit_refusal_rows, people_refusal_rows, query_refusal_rows,
-    retype_refusal_rows,
-};
 pub use crate::reply::Reply;
-pub use crate::request_rows::{
-    criteria_request_rows, object_request_rows, path_request_rows, people_request_rows,
-    share_request_rows,
-};
-pub use crate::route::Route;
-pub use crate::routed::Routed;
 pub use crate::sharing_bodies::{NewShare, NewSharingRule, SpelledSource};
 pub use crate::steps::{answering_laws, change_laws, step_rows, tenant_laws};

@@ -1,17 +1,15 @@
 //! What holds of objects and records that are found, and of requests that are refused, for the layers above.
 
-ghost use Rattle.std.specs.Prelude.{◌≡◌, ℕ, IsTrue, List, [], length, true, Err, Some};
+ghost use Rattle.std.specs.Prelude.{◌≡◌, ℕ, IsTrue, List, [], length, true, Some};
 ghost use Rattle.std.specs.List.Sorted.{IsStrictlySortedBy};
 ghost use Rattle.base_value.specs.declared.sharing.Level.TheVariants.{Full};
 ghost use Rattle.model.specs.declared.record.Record.{Record};
-ghost use Rattle.model.specs.declared.refusal.Refusal.{Refusal};
 ghost use Rattle.model.specs.Levels.{level};
 ghost use Rattle.model.specs.Membership.{Has};
 ghost use Rattle.model.specs.Objects.{Numbered, object_named, object_numbered, records_of};
 ghost use Rattle.model.specs.Organisations.{fresh};
 ghost use Rattle.model.specs.Ordered.{before, by_id, in_order};
 ghost use Rattle.model.specs.Paths.{Asked};
-ghost use Rattle.model.specs.Requests.{Request, verdict_on};
 ghost use Rattle.model.specs.Rows.{readable_of};
 ghost use Rattle.model.specs.Sound.{IsSound, is_name};
 ghost use Rattle.model.specs.Tenant.{Tenant, User};
@@ -25,11 +23,6 @@ pub fn object_laws()
 pub fn record_laws()
     ensures rise { (t : Tenant) (n : ℕ) → IsSound t → IsStrictlySortedBy by_id (records_of t n) }
     ensures already { (a : Asked) (rs : List Record) → IsStrictlySortedBy by_id rs → in_order (before a []) rs ≡ rs }
-{}
-
-/// A request that is refused leaves the organisation as it was. The call does nothing.
-pub fn refusal_laws()
-    ensures refused { (a : Asked) (x : Request) (r : Refusal) → (verdict_on a x).answer ≡ Err r → (verdict_on a x).tenant ≡ a.tenant }
 {}
 
 /// An administrator of a sound organisation has all rights on each of its records, and so reads all. The call does nothing.

@@ -1,23 +1,19 @@
 //! What holds of the step of the world, for the layers above.
 
-ghost use Rattle.std.specs.Prelude.{◌≡◌, ◌≢◌, ◌≤◌, ℕ, suc, List, ◌∷◌, [], IsSome, Option, Some, None, Ok, codes, length};
+ghost use Rattle.std.specs.Prelude.{◌≡◌, ◌≢◌, ◌≤◌, ℕ, suc, List, ◌∷◌, [], IsSome, Option, Some, None, codes, length};
 ghost use Rattle.sha2.specs.Sha256.{sha256};
 ghost use Rattle.model.specs.declared.caller.Caller.{Caller};
 ghost use Rattle.model.specs.declared.refusal.Refusal.TheVariants as refusal;
 ghost use Rattle.model.specs.declared.reply.Reply.{Reply};
-ghost use Rattle.model.specs.declared.route.Route.{Route};
-ghost use Rattle.model.specs.declared.route.Route.TheVariants as route;
-ghost use Rattle.model.specs.declared.routed.Routed.TheVariants.{To, NotFound, NotAllowed};
 ghost use Rattle.model.specs.Organisations.{with_org};
 ghost use Rattle.model.specs.Jobs.{job_step, switched};
-ghost use Rattle.model.specs.Routing.{routed};
 ghost use Rattle.model.specs.Callers.{IsUser};
 ghost use Rattle.model.specs.Objects.{records_of};
 ghost use Rattle.model.specs.Sound.{IsSound};
 ghost use Rattle.model.specs.Step.{Answering, Message, caller_by, in_org, org_named, query_text, refusal_reply, step_by};
 ghost use Rattle.model.specs.Steps.{IsBegun, copy_steps, steps};
 ghost use Rattle.model.specs.Tenant.{Job, Tenant, User};
-ghost use Rattle.model.specs.Answered.{Sent, own_replies, replies_by, replies_for};
+ghost use Rattle.model.specs.Sent.{Sent, own_replies, replies_by, replies_for};
 ghost use Rattle.model.specs.World.{World, tenant_at, with_tenant};
 
 /// The laws of a step of the world by whatever answers a caller's message: by all routes too. The call does nothing.
@@ -65,13 +61,8 @@ pub fn change_laws()
         → (steps (suc (copy_steps (length (records_of t j.object)))) t).objects ≡ (switched j t).objects }
 {}
 
-/// Routes and steps of the world, worked by hand. The call does nothing.
+/// The text of a query in a target, worked by hand. The call does nothing.
 pub fn step_rows()
-    ensures query { routed (codes "GET") (codes "/services/data/v59.0/query?q=SELECT+Id") ≡ To (route.Query (codes "q=SELECT+Id")) }
-    ensures update { routed (codes "PATCH") (codes "/services/data/v59.0/sobjects/Deal__c/a00") ≡ To (route.Update (codes "Deal__c") (codes "a00")) }
-    ensures no_part { routed (codes "POST") (codes "/services/data/v59.0/sobjects/") ≡ NotFound }
-    ensures no_method { routed (codes "PUT") (codes "/admin/retype") ≡ NotAllowed }
-    ensures no_path { routed (codes "GET") (codes "/x") ≡ NotFound }
     ensures first_q { query_text (codes "a=1&q=SELECT+Id%2C+Name&q=2") ≡ codes "SELECT Id, Name" }
     ensures no_q { query_text (codes "Q=1") ≡ [] }
 {}

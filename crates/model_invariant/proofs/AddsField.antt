@@ -27,7 +27,7 @@ use Rattle.model_invariant.proofs.SoundParts.{HasSoundParts}
 use Rattle.model.specs.SoundMetadata.{IsSoundField, implies, may_be_required}
 use Rattle.model.specs.Tenant.{Field, Tenant}
 use Rattle.model.specs.Verdict.{Verdict, accept, done, judged, on_object}
-use Rattle.model.specs.Forms.{flags_suit}
+use Rattle.model.specs.TypeForms.{flags_suit}
 use Rattle.model_invariant.specs.Fit.{has_member, is_fit_field}
 use Rattle.model_invariant.proofs.Parts.{member_rule, none_refuses, unrefused}
 use Rattle.model_invariant.proofs.Growing.{within_limit}

@@ -23,7 +23,10 @@ use Rattle.model.specs.Cases.{in_case}
 use Rattle.model.specs.Given.{json_text}
 use Rattle.model.specs.Members.{Body, body_in, members_in, object_in}
 use Rattle.model_invariant.specs.Fit.{SpellsCharacters}
-use Rattle.model_invariant.proofs.FormsFit.{bound}
+
+pub bound : {X Y : Type 0} (o : Option X) (f : X → Option Y) (y : Y) → (o >>= f) ≡ Some y → (x : X) × (o ≡ Some x) × (f x ≡ Some y)
+bound None f y e = absurd cc
+bound (Some x) f y e = (x, refl, e)
 
 -- a text of characters
 abbrev Told : List ℕ → Type 0

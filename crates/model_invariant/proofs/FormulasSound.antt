@@ -24,11 +24,11 @@ use Rattle.model.specs.SharingRules.{add_sharing_rule, new_rule, new_sharing_rul
 use Rattle.model.specs.SoundFormulas.{AreFormulasSound, HasSoundFormulas, criteria_read, is_unnamed, source_reads, validations_read}
 use Rattle.model.specs.Tenant.{Job, Object, SharingRule, Source, owned, meets, Tenant, ValidationRule}
 use Rattle.model.specs.declared.metadata_bodies.NewValidationRule.{NewValidationRule}
-use Rattle.model.specs.ValidationRules.{add_validation_rule, new_validation_rule_rules, validation_of, with_validation_rule}
+use Rattle.model.specs.ValidationRules.{add_validation_rule, new_validation_rule_rules, remove_validation_rule, validation_of, with_validation_rule, without_validation_rule}
 use Rattle.model.specs.Verdict.{accept, done, judged}
 use Rattle.model_invariant.specs.rule_text.Reading.{ReadsByFields}
 use Rattle.model_invariant.proofs.Parts.{list_all_kept, list_all_more, list_all_put, unrefused}
-use Rattle.model_invariant.proofs.ObjectsSound.{changed_at, or_not, with_one}
+use Rattle.model_invariant.proofs.ObjectsSound.{changed_at, or_not, with_one, without_one}
 use Rattle.model_invariant.proofs.PeopleSound.{when_judged}
 use Rattle.model_invariant.proofs.SharingSound.{when_object}
 
@@ -221,3 +221,12 @@ add_validation_formulas law t b s =
     let same : o.object ≡ x = some_is o.object x (sym at ∙ ap (slice_get t.objects) (sym here_is) ∙ w) in
     list_all_put (free_rule j x) (λ a b. name_cmp a.name b.name) r x.validation_rules g
     (ap (λ (z : Object). not (names_field (suc j.field) (formula_of z false r.formula))) (sym same) ∙ ap not (not_busy t o.number (formula_of o.object false r.formula) h.1.1.1.0 j is copy here_is)))))
+
+pub remove_validation_formulas : ReadsByFields → (t : Tenant) (object name : List ℕ) → AreFormulasSound t → AreFormulasSound (remove_validation_rule t object name).tenant
+remove_validation_formulas law t object name s =
+    let p : ValidationRule → Bool = λ r. not (same_name r.name name) in
+    when_object AreFormulasSound t object (λ o. judged t (refuse_if (not (list_any (λ r. same_name r.name name) o.object.validation_rules)) refusal.NotFound ∷ []) (accept done (with_object_changed o.number (without_validation_rule name) t))) s (λ o at.
+    when_judged AreFormulasSound t (refuse_if (not (list_any (λ r. same_name r.name name) o.object.validation_rules)) refusal.NotFound ∷ []) (accept done (with_object_changed o.number (without_validation_rule name) t)) s (λ h.
+    object_formulas law (λ x. x.access) (without_one name) t s o.number
+    (λ x e g. list_all_kept (λ (q : ValidationRule). is_ok (formula_of x false q.formula)) p x.validation_rules g)
+    (λ j is copy x w here_is g. list_all_kept (free_rule j x) p x.validation_rules g)))

@@ -3,11 +3,11 @@ pub mod Steps
 mod Truths
 mod KnownSigns
 mod FormulaTexts
-mod SoundParts
-mod Parts
+pub mod SoundParts
+pub mod Parts
 mod Orders
 mod Growing
-mod RuleTexts
+pub mod RuleTexts
 mod Roles
 mod Digests
 mod PeopleSound
@@ -24,19 +24,14 @@ mod ObjectsSound
 mod FormulasSound
 mod JobFormulas
 mod OtherFormulas
-mod Changes
+pub mod Changes
 mod SwitchSound
 mod NewObjects
 mod NewFieldsSound
 mod AddsField
-mod VerdictsSound
 mod NumbersMean
 mod AddsFormulas
 mod SwitchFormulas
-mod GivenFits
-mod FormsFit
-mod BodyTexts
-mod RequestsFit
-mod AnswersSound
-mod WorldSound
+pub mod GivenFits
+pub mod BodyTexts
 mod FreshIds

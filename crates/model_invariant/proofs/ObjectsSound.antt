@@ -7,7 +7,7 @@ use Rattle.std.specs.Option.{option_and_then}
 use Rattle.std.specs.Cmp.Lexicographic.{on_texts}
 use Rattle.std.proofs.lemmas.Bool.{eqb-true, and_from as both, true≢false as clash, not-false as holds_not}
 use Rattle.std.proofs.lemmas.Option.{same_Some as some_is}
-use Rattle.base_lemmas.proofs.Lists.{each_weaker as all_more}
+use Rattle.base_lemmas.proofs.Lists.{each-filter as all_kept, each_weaker as all_more, length-filter_most as length_kept}
 use Rattle.base_lemmas.proofs.Bools.{and_first as both_left, and_second as both_right}
 use Rattle.base_value.specs.Texts.{lower}
 use Rattle.base_value.specs.declared.sharing.Access.{Access}
@@ -33,10 +33,10 @@ use Rattle.model.specs.SoundRecords.{IsSoundRecord, UniqueHold}
 use Rattle.model.specs.SoundSharing.{IsSoundRule, IsSoundShare, shareable}
 use Rattle.model.specs.Tenant.{Field, Job, Object, Tenant, ValidationRule}
 use Rattle.model.specs.declared.metadata_bodies.NewValidationRule.{NewValidationRule}
-use Rattle.model.specs.ValidationRules.{add_validation_rule, new_validation_rule_rules, validation_of, with_validation_rule}
+use Rattle.model.specs.ValidationRules.{add_validation_rule, new_validation_rule_rules, remove_validation_rule, validation_of, with_validation_rule, without_validation_rule}
 use Rattle.model.specs.Verdict.{accept, done, judged}
 use Rattle.model_invariant.proofs.Parts.{all_at, all_put, among_kept, length_put, none_refuses, none_so, unrefused}
-use Rattle.model_invariant.proofs.Orders.{rise_put}
+use Rattle.model_invariant.proofs.Orders.{rise_kept, rise_put}
 use Rattle.model_invariant.proofs.Growing.{within_limit}
 use Rattle.model_invariant.proofs.Changes.{length_changed, level_by_references, map_changed, names_by_references}
 use Rattle.model_invariant.proofs.PeopleSound.{when_judged}
@@ -233,4 +233,28 @@ add_validation_sound t b fit s =
           (apart x.validation_rules r.name (ap (λ (z : Object). list_any (same_name r.name) (map (λ (r : ValidationRule). r.name) z.validation_rules)) (sym same) ∙ unrefused (list_any (same_name r.name) (map (λ (r : ValidationRule). r.name) o.object.validation_rules)) (refusal.NameTaken r.name) h.1.0));
       few_fields = h2.few_fields;
       few_rules = let size : length o.object.validation_rules ≡ length x.validation_rules = ap (λ (z : Object). length z.validation_rules) same in omega (arith, size, length_put (λ a b. name_cmp a.name b.name) r x.validation_rules, within_limit 50 (length o.object.validation_rules + 1) (refusal.LimitExceeded limit.ValidationRulesPerObject) limits.0);
+    })))
+
+-- ---- a validation rule that is removed
+abbrev pub without_one : (name : List ℕ) → Object → List ValidationRule
+without_one name o = filter (λ r. not (same_name r.name name)) o.validation_rules
+
+pub remove_validation_sound : (t : Tenant) (object name : List ℕ) → HasSoundParts t → HasSoundParts (remove_validation_rule t object name).tenant
+remove_validation_sound t object name s =
+    let p : ValidationRule → Bool = λ r. not (same_name r.name name) in
+    when_object HasSoundParts t object (λ o. judged t (refuse_if (not (list_any (λ r. same_name r.name name) o.object.validation_rules)) refusal.NotFound ∷ []) (accept done (with_object_changed o.number (without_validation_rule name) t))) s (λ o at.
+    when_judged HasSoundParts t (refuse_if (not (list_any (λ r. same_name r.name name) o.object.validation_rules)) refusal.NotFound ∷ []) (accept done (with_object_changed o.number (without_validation_rule name) t)) s (λ h.
+    object_changed (λ x. x.access) (without_one name) t s o.number
+    (λ m x e h2.
+    record {
+      name = h2.name;
+      fields = h2.fields;
+      field_names = h2.field_names;
+      relations = h2.relations;
+      master = h2.master;
+      level = h2.level;
+      rules = all_kept IsSoundValidation p x.validation_rules h2.rules;
+      rules_rise = rise_kept name_cmp (λ (r : ValidationRule). r.name) p x.validation_rules h2.rules_rise;
+      few_fields = h2.few_fields;
+      few_rules = omega (arith, length_kept p x.validation_rules, h2.few_rules);
     })))

@@ -95,7 +95,7 @@ module _ (ids : IdLaws) (t : Tenant) (s : HasSoundParts t) where
 
 pub add_user_sound : IdLaws → ((m : List ℕ) → length (sha256 m) ≡ 32) → (t : Tenant) (b : NewUser) → HasSoundParts t → HasSoundParts (add_user t b).tenant
 add_user_sound ids size t b s =
-    let u : User = record { id = next_id t user_prefix; name = b.name; digest = sha256 b.secret; role = option_map spelled_id b.role; admin = b.admin } in
+    let u : User = record { id = next_id t user_prefix; name = b.name; digest = sha256 b.secret; role = option_map spelled_id b.role; admin = b.admin; active = true } in
     when_judged HasSoundParts t (new_user_rules t b) (accept (made_new u.id) (with_user u t)) s (λ h.
     let limits = room_for t limit.Users (length t.users) h.1.1.1.0 in
     user_added ids t s u refl

@@ -14,7 +14,7 @@ use Rattle.model.specs.declared.record_bodies.Given.TheVariants as gives
 use Rattle.model.specs.declared.record_bodies.Assignment.{Assignment}
 use Rattle.model.specs.declared.record_bodies.Given.{Given}
 use Rattle.model.specs.Given.{json_text}
-use Rattle.model.specs.Forms.{flags_suit}
+use Rattle.model.specs.TypeForms.{flags_suit}
 use Rattle.model.specs.Keys.{Key, with_key}
 use Rattle.model.specs.Members.{Body, body_in}
 use Rattle.model.specs.declared.metadata_bodies.NewObject.{NewObject}
@@ -23,8 +23,6 @@ use Rattle.model.specs.declared.metadata_bodies.SpelledType.{SpelledType}
 use Rattle.model.specs.declared.metadata_bodies.SpelledType.TheVariants.{Plain, LookupTo}
 use Rattle.model.specs.NewFields.{type_with}
 use Rattle.model.specs.Paths.{Asked}
-use Rattle.model.specs.Requests.{Request, creates, updates, upserts, shares, adds_object, sets_object, adds_field, adds_validation_rule, adds_sharing_rule, begins_retype}
-use Rattle.model.specs.Retyping.{new_type}
 use Rattle.model.specs.declared.sharing_bodies.NewShare.{NewShare}
 use Rattle.model.specs.declared.sharing_bodies.SpelledSource.TheVariants.{Owner, Criteria}
 use Rattle.model.specs.declared.sharing_bodies.NewSharingRule.{NewSharingRule}
@@ -114,19 +112,3 @@ key_of f v = record { column = column f.1.name (of_type f.1.kind) (value_site f.
 abbrev pub ReadsWellByKey : Asked → (key : List ℕ) → (text : Option (List ℕ)) → Object → List Assignment → Type 0
 ReadsWellByKey a key text o given =
     (f : ℕ × Field) (v : Value) → unique_named o key ≡ Some f → key_value f.1 text ≡ Ok v → ReadsWell a o (with_key (Some (key_of f v)) given)
-
--- ---- any request
-
--- what the form of its body gives, for the user who asks
-abbrev pub IsFit : Asked → Request → Type 0
-IsFit a (creates object given) = OfObjects a (λ o. ReadsWell a o given)
-IsFit a (updates object key given) = OfObjects a (λ o. ReadsWell a o given)
-IsFit a (upserts object key text given) = OfObjects a (λ o. ReadsWellByKey a key text o given)
-IsFit a (shares b) = IsTrue (is_fit_share b)
-IsFit a (adds_object b) = IsTrue (is_fit_object b)
-IsFit a (sets_object object access) = IsTrue (not (by_parent access))
-IsFit a (adds_field b) = IsTrue (is_fit_field b)
-IsFit a (adds_validation_rule b) = IsTrue (is_fit_validation b)
-IsFit a (adds_sharing_rule b) = IsTrue (is_fit_rule b)
-IsFit a (begins_retype object field to) = IsTrue (is_type (new_type to))
-IsFit a r = Unit {0}

@@ -1,17 +1,14 @@
 //! That what is read of a body has the form that the laws take as given.
 
 ghost use Rattle.std.specs.List.{list_all};
-ghost use Rattle.std.specs.Prelude.{IsTrue, List, Ok, Option, true, ℕ, ◌≡◌};
+ghost use Rattle.std.specs.Prelude.{IsTrue, List, Option, true, ℕ, ◌≡◌};
 ghost use Rattle.std.specs.Str.{all_scalars};
-ghost use Rattle.model.specs.declared.route.Route.{Route};
 ghost use Rattle.model.specs.Cases.{in_case};
 ghost use Rattle.model.specs.declared.record_bodies.Assignment.{Assignment};
 ghost use Rattle.model.specs.Paths.{Asked};
-ghost use Rattle.model.specs.RequestOf.{request_of};
-ghost use Rattle.model.specs.Requests.{Request};
 ghost use Rattle.model.specs.Sound.{IsSound};
 ghost use Rattle.model.specs.Tenant.{Object};
-ghost use Rattle.model_invariant.specs.Fit.{IsFit, OfObjects, ReadsWell, ReadsWellByKey, SpellsCharacters, is_spelled};
+ghost use Rattle.model_invariant.specs.Fit.{OfObjects, ReadsWell, ReadsWellByKey, SpellsCharacters, is_spelled};
 
 use base_json::json_laws;
 use base_value::value_laws;
@@ -24,15 +21,6 @@ pub fn fit_laws()
         → IsTrue (list_all (λ x. is_spelled x.given) given) → IsTrue (in_case text true all_scalars)
         → OfObjects a (λ o. ReadsWellByKey a key text o given) }
     ensures spelled { (body : List ℕ) → SpellsCharacters body }
-{
-    json_laws();
-    value_laws();
-}
-
-/// Every request that is read has its form. The call does nothing.
-pub fn requests_fit()
-    ensures request { (a : Asked) (r : Route) (body : List ℕ) (x : Request) → IsSound a.tenant
-        → request_of r body ≡ Ok x → IsFit a x }
 {
     json_laws();
     value_laws();

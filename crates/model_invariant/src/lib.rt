@@ -5,7 +5,6 @@
 //! the texts of rules, and `progress` says when the change of a field's type is done.
 #![tactic(auto)]
 
-mod answers;
 mod deletes;
 mod fits;
 mod jobs;
@@ -17,11 +16,9 @@ mod records;
 mod rows;
 mod rule_text;
 mod sharing;
-mod verdicts;
 
-pub use crate::answers::{answers_sound, world_sound};
 pub use crate::deletes::deletes_sound;
-pub use crate::fits::{fit_laws, requests_fit};
+pub use crate::fits::fit_laws;
 pub use crate::jobs::jobs_sound;
 pub use crate::numbers::number_laws;
 pub use crate::objects::objects_sound;
@@ -31,4 +28,3 @@ pub use crate::records::records_sound;
 pub use crate::rows::sound_rows;
 pub use crate::rule_text::{text_laws, text_rows};
 pub use crate::sharing::sharing_sound;
-pub use crate::verdicts::verdicts_sound;

@@ -1,5 +1,5 @@
 -- Who calls, by what was read of the user who is named.
-use Rattle.std.proofs.Common.{◌≡◌, ◌∙◌, ◌<◌, ◌≤◌, ◌^◌, Bool, true, false, Option, Some, None, Result, Ok, Err, refl, sym, ap, subst, arith}
+use Rattle.std.proofs.Common.{◌≡◌, ◌∙◌, ◌<◌, ◌≤◌, ◌^◌, Bool, true, false, ◌&&◌, Option, Some, None, Result, Ok, Err, refl, sym, ap, subst, arith}
 use Rattle.std.specs.Prelude.{IfSome, if◌then◌else◌}
 use Rattle.std.specs.Option.{option_and_then, option_map}
 use Rattle.std.specs.Str.{bytes_eq}
@@ -44,7 +44,7 @@ module _ (n : Named) (m : Tables) where
   among_none (Some t) e = no_user (user_at t.users n.user) e
 
   admitted_org : (row : UserRow) → IfSome (admitted_row n.org (sha256 n.secret) row) (λ c. c.org ≡ n.org)
-  admitted_org row = by (bytes_eq row.digest (sha256 n.secret))
+  admitted_org row = by (row.active && bytes_eq row.digest (sha256 n.secret))
     where
       by : (b : Bool) → IfSome (if b then Some (record { org = n.org; user = row.id; admin = row.admin }) else None) (λ (c : Caller). c.org ≡ n.org)
       by true = refl

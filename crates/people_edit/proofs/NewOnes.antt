@@ -98,14 +98,14 @@ pub record UserLaws : Type 0 where
   pub sound : (t : Tenant) (b : NewUser) → IsSound t → IsSound (add_user t b).tenant
 
 user_row_is : (org : ℕ) (i j n m x y : List ℕ) (p o : Option (List ℕ)) (admin : Bool) → i ≡ j → n ≡ m → x ≡ y → p ≡ o
-    → ◌≡◌ {A = UserRow} (record { org = org; id = i; name = n; digest = x; role = p; admin = admin }) (record { org = org; id = j; name = m; digest = y; role = o; admin = admin })
+    → ◌≡◌ {A = UserRow} (record { org = org; id = i; name = n; digest = x; role = p; admin = admin; active = true }) (record { org = org; id = j; name = m; digest = y; role = o; admin = admin; active = true })
 user_row_is org i j n m x y p o admin e f g h =
-    ap₂ (λ (a b : List ℕ). record { org = org; id = a; name = b; digest = x; role = p; admin = admin }) e f
-    ∙ ap₂ (λ (a : List ℕ) (b : Option (List ℕ)). record { org = org; id = j; name = m; digest = a; role = b; admin = admin }) g h
+    ap₂ (λ (a b : List ℕ). record { org = org; id = a; name = b; digest = x; role = p; admin = admin; active = true }) e f
+    ∙ ap₂ (λ (a : List ℕ) (b : Option (List ℕ)). record { org = org; id = j; name = m; digest = a; role = b; admin = admin; active = true }) g h
 
 pub user_takes : UserLaws → (org : ℕ) (q : OrgPlan) (t : Tenant) (b : NewUser) (d : Drawn) (copy digest : List ℕ)
     → org < 2 ^ 32 → FitsPlan q t → IsSound t → first_refusal (new_rules kind.User (org_of org t) t b.name b.role) ≡ None → IsDrawn kind.User org t b.role d → copy ≡ b.name → digest ≡ sha256 b.secret
-    → Takes org q t (add_user t b) (made_new d.id) SamePlan (change_to org_form d.org ∷ change_to user_form (record { org = org; id = d.id; name = copy; digest = digest; role = d.role; admin = b.admin }) ∷ [])
+    → Takes org q t (add_user t b) (made_new d.id) SamePlan (change_to org_form d.org ∷ change_to user_form (record { org = org; id = d.id; name = copy; digest = digest; role = d.role; admin = b.admin; active = true }) ∷ [])
 user_takes laws org q t b d copy digest small plan sound free is same hashed =
     let x : User = new_user t b in
     let u = with_user x t in
@@ -113,7 +113,7 @@ user_takes laws org q t b d copy digest small plan sound free is same hashed =
     let accepts : v ≡ accept (made_new x.id) u = accepted (first_refusal (new_user_rules t b)) t (accept (made_new x.id) u) free in
     let sound_v = laws.sound t b sound in
     let sound_u : IsSound u = subst IsSound (ap (λ (v : Verdict). v.tenant) accepts) sound_v in
-    new_takes laws.org user_form org q t u v d.id x.id d.org (record { org = org; id = d.id; name = copy; digest = digest; role = d.role; admin = b.admin }) (user_of org x) small plan accepts sound_v refl refl
+    new_takes laws.org user_form org q t u v d.id x.id d.org (record { org = org; id = d.id; name = copy; digest = digest; role = d.role; admin = b.admin; active = true }) (user_of org x) small plan accepts sound_v refl refl
     is.id
     (is.row ∙ ap (λ (n : ℕ). record (org_of org t) { counter = t.counter + 1; users = n }) (sym (length-append t.users (x ∷ []))))
     (user_row_is org d.id x.id copy b.name digest x.digest d.role x.role b.admin is.id same hashed is.role)
@@ -125,9 +125,9 @@ user_takes laws org q t b d copy digest small plan sound free is same hashed =
     })
 
 pub user_row_fits : NamesAreTexts → NamesAreShort → (org : ℕ) (name copy digest : List ℕ) (admin : Bool) (d : Drawn) → org < 2 ^ 32 → FitsDrawn name d → copy ≡ name → length digest ≡ 32
-    → FitsForm user_form (record { org = org; id = d.id; name = copy; digest = digest; role = d.role; admin = admin })
+    → FitsForm user_form (record { org = org; id = d.id; name = copy; digest = digest; role = d.role; admin = admin; active = true })
 user_row_fits texts short org name copy digest admin d small fits same size =
-    ((small, (tt, fits.id)), (subst FitsText (sym same) (name_fits texts short name fits.name), (size, (fits.role, tt))))
+    ((small, (tt, fits.id)), (subst FitsText (sym same) (name_fits texts short name fits.name), (size, (fits.role, refl))))
 
 -- the bytes of a secret are its characters
 digit_ascii : (c : ℕ) → is_digit62 c ≡ true → c < 128

@@ -1,5 +1,5 @@
 -- What is answered of callers and of new organisations.
-use Rattle.std.specs.Prelude.{◌≡◌, ◌<◌, ◌≤◌, ◌^◌, ℕ, if◌then◌else◌, IfOk, IfSome, List, Option, Some, None, Result, Ok}
+use Rattle.std.specs.Prelude.{◌≡◌, ◌&&◌, ◌<◌, ◌≤◌, ◌^◌, ℕ, if◌then◌else◌, IfOk, IfSome, List, Option, Some, None, Result, Ok}
 use Rattle.std.specs.Option.{option_and_then}
 use Rattle.std.specs.Str.{bytes_eq}
 use Rattle.std.specs.FinMap as map
@@ -17,9 +17,9 @@ use Rattle.store_abstraction.specs.Local.{FindsIn}
 use Rattle.store_abstraction.specs.Metadata.{org_of, user_of}
 use Rattle.store_abstraction.specs.Stands.{known_version}
 
--- the caller whom a user's row in the organisation with this number gives, if it has this digest
+-- the caller whom a user's row in the organisation with this number gives, if the user is active and it has this digest
 abbrev pub admitted_row : (org : ℕ) → List ℕ → UserRow → Option Caller
-admitted_row org digest row = if bytes_eq row.digest digest then Some (record { org = org; user = row.id; admin = row.admin }) else None
+admitted_row org digest row = if row.active && bytes_eq row.digest digest then Some (record { org = org; user = row.id; admin = row.admin }) else None
 
 -- the caller of whom these are named, in an organisation that is this tenant or isn't there
 abbrev pub caller_among : Named → Option Tenant → Option Caller

@@ -45,11 +45,11 @@ fn named_ids(org: &str, user: &str) -> Option<(u64, Id)>
     }
 }
 
-// The caller whom a user's row in the organisation with this number gives, if the secret is the user's.
+// The caller whom a user's row in the organisation with this number gives, if the user is active and the secret is the user's.
 fn admitted(org: u32, secret: &str, row: &UserRow) -> Option<Caller>
     ensures { result ≡ admitted_row org (sha256 secret.now) row.now }
 {
-    if row.digest == digest_of(secret) {
+    if row.active && row.digest == digest_of(secret) {
         Some(Caller {
             org,
             user: row.id,

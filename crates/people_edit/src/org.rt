@@ -54,6 +54,7 @@ fn administrator_of(
         digest,
         role: None,
         admin: true,
+        active: true,
     })
 }
 

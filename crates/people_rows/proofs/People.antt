@@ -215,7 +215,7 @@ module _ (makes : MakesIds) (texts : NamesAreTexts) (short : NamesAreShort) (org
   pub user_fits : (u : model.User) → Has t.users u → FitsForm user_form (user_of org u)
   user_fits u h =
       let x = of_each (IsSoundUser (known t)) t.users s.users.each u h in
-      ((lo, (tt, drawn_is_id makes user_prefix t.counter u.id refl refl x.id)), (name_fits texts short u.name x.name, (x.digest, (role_is_id makes (known t) t.roles s.roles.each u.role x.role, tt))))
+      ((lo, (tt, drawn_is_id makes user_prefix t.counter u.id refl refl x.id)), (name_fits texts short u.name x.name, (x.digest, (role_is_id makes (known t) t.roles s.roles.each u.role x.role, refl))))
 
   pub role_row_fits : (r : model.Role) → IsSoundRole (known t) r → FitsForm role_form (role_of org r)
   role_row_fits r x =

@@ -24,7 +24,7 @@ use Rattle.commands.specs.declared.stop.Stop.{Stop}
 use Rattle.platform_history.specs.Calls.{seen}
 use Rattle.platform_history.specs.Histories.{Breaks, BreaksAnswers, BreaksServes, Fallen, Goes, Says, SaysAnswers, SaysServes, ServedSo}
 use Rattle.platform_history.specs.Runs.{Around}
-use Rattle.model_step.specs.Step.{step}
+use Rattle.model_requests.specs.Step.{step}
 
 module _ (k l : KeeperState) (a b : Around) (status : ℕ) (w : World) (m : Tables)
     (settled_k : IsSettled k) (settled_l : l.tells → IsTrue l.trusted → IsSettled l) (faults_a : a.keeper_faults ≡ k.faults) (faults_b : b.keeper_faults ≡ l.faults)

@@ -21,7 +21,7 @@ use Rattle.platform.specs.Run.{MayBe, status_in}
 use Rattle.platform.specs.Serving.{IsIsolated, IsOpening, ServeEnds, answer_end}
 use Rattle.commands.specs.declared.stop.Stop.{Stop}
 use Rattle.platform_history.specs.Runs.{Around, Run}
-use Rattle.model_step.specs.Step.{step}
+use Rattle.model_requests.specs.Step.{step}
 
 -- ---- a run that was whole, from the world w to `end`
 

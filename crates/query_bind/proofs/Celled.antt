@@ -16,7 +16,7 @@ use Rattle.model.specs.Sound.{IsSound}
 use Rattle.store_abstraction.specs.Layouts.{IsLayout}
 use Rattle.store_abstraction.specs.Plan.{OrgPlan}
 use Rattle.store_abstraction.specs.declared.layout.Layout.{Layout}
-use Rattle.model_step.specs.Shown.{item_steps, path_steps, query_steps, tail_steps}
+use Rattle.model.specs.Shown.{item_steps, path_steps, query_steps, tail_steps}
 use Rattle.query_plan.specs.paths.Branches.{AddsBranches}
 use Rattle.query_plan.specs.declared.paths.branches.Branch.{Branch}
 use Rattle.query_plan.specs.Checks.{spot_value}

@@ -7,7 +7,7 @@ use Rattle.soql.specs.declared.query.Cond.TheVariants as cond
 use Rattle.soql.specs.declared.query.Item.{Item}
 use Rattle.soql.specs.declared.query.Item.TheVariants as item
 use Rattle.model.specs.Tests.{Tested, tests_of}
-use Rattle.model_step.specs.Shown.{item_steps, path_steps, related_shown}
+use Rattle.model.specs.Shown.{item_steps, path_steps, related_shown}
 use Rattle.query_plan.specs.Plans.{child_shown}
 use Rattle.query_plan.specs.declared.plan.ChildPlan.{ChildPlan}
 use Rattle.query_bind.specs.Cells.{paths_in}

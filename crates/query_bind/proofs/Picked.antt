@@ -19,7 +19,7 @@ use Rattle.model.specs.Cases.{Placed, in_case, with_before}
 use Rattle.model.specs.Paths.{Asked, parent_of}
 use Rattle.model.specs.RowsJson.{RowJson, behind_relationship, children_json, item_member, member_json, parent_json, parent_relationship, path_member, row_within}
 use Rattle.store_abstraction.specs.declared.layout.Layout.{Layout}
-use Rattle.model_step.specs.Flat.{has_one_name, is_flat_item}
+use Rattle.model.specs.Flat.{has_one_name, is_flat_item}
 use Rattle.query_plan.specs.paths.Branches.{AddsBranches, record_above}
 use Rattle.query_plan.specs.declared.paths.branches.Branch.{Branch}
 use Rattle.query_plan.specs.declared.paths.branches.Place.{Place}

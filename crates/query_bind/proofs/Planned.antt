@@ -24,8 +24,8 @@ use Rattle.model.specs.Tests.{Tested, tests}
 use Rattle.store_abstraction.specs.Layouts.{IsLayout}
 use Rattle.store_abstraction.specs.Plan.{OrgPlan}
 use Rattle.store_abstraction.specs.declared.layout.Layout.{Layout}
-use Rattle.model_step.specs.Flat.{has_one_name, is_flat, is_flat_item, is_flat_test}
-use Rattle.model_step.specs.Shown.{item_children_shown, item_steps, path_steps, query_steps, tail_steps}
+use Rattle.model.specs.Flat.{has_one_name, is_flat, is_flat_item, is_flat_test}
+use Rattle.model.specs.Shown.{item_children_shown, item_steps, path_steps, query_steps, tail_steps}
 use Rattle.query_plan.specs.paths.Branches.{AddsBranches}
 use Rattle.query_plan.specs.declared.paths.branches.Branch.{Branch}
 use Rattle.query_plan.specs.declared.check.Site.TheVariants as site

@@ -12,7 +12,7 @@ use Rattle.model.specs.Asking.{item_name, spelled_path}
 use Rattle.model.specs.Cases.{in_case}
 use Rattle.model.specs.Rules.{first_of}
 use Rattle.model.specs.Tests.{tests}
-use Rattle.model_step.specs.Flat.{is_flat_item}
+use Rattle.model.specs.Flat.{is_flat_item}
 use Rattle.store_abstraction.specs.Layouts.{own_layouts}
 use Rattle.store_abstraction.specs.declared.layout.Layout.{Layout}
 use Rattle.query_check.specs.Reaching.{Reaches}

@@ -28,7 +28,7 @@ use Rattle.model.specs.RowsJson.{RowJson, behind_relationship, field_name, item_
 use Rattle.model.specs.Sound.{IsSound}
 use Rattle.model.specs.Tenant.{Object, Tenant}
 use Rattle.store_abstraction.specs.Layouts.{IsLayout, own_layouts}
-use Rattle.model_step.specs.Flat.{has_one_name}
+use Rattle.model.specs.Flat.{has_one_name}
 use Rattle.store_abstraction.specs.declared.layout.Layout.{Layout}
 use Rattle.query_plan.specs.paths.Branches.{AddsBranches, LeadsToParent, record_above}
 use Rattle.query_plan.specs.declared.paths.branches.Branch.{Branch}

@@ -18,7 +18,7 @@ use Rattle.model.specs.Sound.{IsSound}
 use Rattle.model.specs.Tests.{tests}
 use Rattle.store_abstraction.specs.Layouts.{IsLayout, own_layouts}
 use Rattle.store_abstraction.specs.declared.layout.Layout.{Layout}
-use Rattle.model_step.specs.Flat.{has_one_name, is_flat_test}
+use Rattle.model.specs.Flat.{has_one_name, is_flat_test}
 use Rattle.query_plan.specs.declared.paths.branches.Branch.{Branch}
 use Rattle.query_plan.specs.paths.Branches.{AddsBranches}
 use Rattle.query_plan.specs.declared.check.Check.{Check}

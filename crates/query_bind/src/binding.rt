@@ -8,7 +8,7 @@ ghost use Rattle.model.specs.Sound.{IsSound};
 ghost use Rattle.store_abstraction.specs.Layouts.{IsLayout};
 ghost use Rattle.store_abstraction.specs.Plan.{OrgPlan};
 ghost use Rattle.base_value.specs.Printing.{day_of_moment};
-ghost use Rattle.model_step.specs.Flat.{is_flat};
+ghost use Rattle.model.specs.Flat.{is_flat};
 ghost use Rattle.query_plan.specs.Plans.{IsFew, Means};
 ghost use Rattle.query_check.specs.Reaching.{Reaches};
 ghost use Rattle.query_bind.specs.inner.Binding as spec;

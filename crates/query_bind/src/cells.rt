@@ -8,7 +8,7 @@ ghost use Rattle.model.specs.Rules.{first_refusal};
 ghost use Rattle.model.specs.Sound.{IsSound};
 ghost use Rattle.store_abstraction.specs.Layouts.{IsLayout};
 ghost use Rattle.store_abstraction.specs.Plan.{OrgPlan};
-ghost use Rattle.model_step.specs.Shown.{path_steps, query_steps};
+ghost use Rattle.model.specs.Shown.{path_steps, query_steps};
 ghost use Rattle.base_value.specs.Printing.{day_of_moment};
 ghost use Rattle.query_plan.specs.paths.Branches.{AddsBranches, AreBranches};
 ghost use Rattle.query_check.specs.Reaching.{Reaches};

@@ -1,7 +1,7 @@
 //! The condition and the keys of a tail.
 
 ghost use Rattle.std.specs.Prelude.{◌+◌, ◌≤◌, IfOk, length};
-ghost use Rattle.model_step.specs.Shown.{tail_steps};
+ghost use Rattle.model.specs.Shown.{tail_steps};
 ghost use Rattle.query_plan.specs.paths.Branches.{AddsBranches, AreBranches};
 ghost use Rattle.query_bind.specs.inner.Tails as spec;
 

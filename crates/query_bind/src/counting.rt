@@ -2,7 +2,7 @@
 
 ghost use Rattle.std.specs.Prelude.{◌+◌, ◌≤◌, OnOk};
 ghost use Rattle.std.specs.List.{sum_by};
-ghost use Rattle.model_step.specs.Shown.{path_steps};
+ghost use Rattle.model.specs.Shown.{path_steps};
 
 use soql::Path;
 use std::alloc::AllocError;

@@ -2,7 +2,7 @@
 
 ghost use Rattle.std.specs.Prelude.{◌+◌, ◌≤◌, IfOk, length};
 ghost use Rattle.std.specs.List.{sum_by};
-ghost use Rattle.model_step.specs.Shown.{path_steps};
+ghost use Rattle.model.specs.Shown.{path_steps};
 ghost use Rattle.query_plan.specs.paths.Branches.{AddsBranches, AreBranches};
 ghost use Rattle.query_bind.specs.inner.Ends as spec;
 

@@ -2,8 +2,8 @@
 
 ghost use Rattle.std.specs.Prelude.{◌≡◌, ◌+◌, ◌*◌, ◌≤◌, [], IfOk, length, map, true};
 ghost use Rattle.std.specs.List.{list_all, sum_by};
-ghost use Rattle.model_step.specs.Flat.{is_flat_item};
-ghost use Rattle.model_step.specs.Shown.{item_children_shown, item_steps, path_steps, related_shown, tail_steps};
+ghost use Rattle.model.specs.Flat.{is_flat_item};
+ghost use Rattle.model.specs.Shown.{item_children_shown, item_steps, path_steps, related_shown, tail_steps};
 ghost use Rattle.query_plan.specs.Plans.{child_shown};
 ghost use Rattle.query_plan.specs.paths.Branches.{AddsBranches, AreBranches};
 ghost use Rattle.query_bind.specs.Cells.{path_in, paths_in};

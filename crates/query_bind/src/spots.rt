@@ -1,7 +1,7 @@
 //! Where the values of paths are: at sites of the row's record, or of those of branches.
 
 ghost use Rattle.std.specs.Prelude.{◌≡◌, ◌+◌, ◌-◌, ◌≤◌, IfOk, false, length};
-ghost use Rattle.model_step.specs.Flat.{has_one_name};
+ghost use Rattle.model.specs.Flat.{has_one_name};
 ghost use Rattle.query_plan.specs.paths.Branches.{AddsBranches, AreBranches};
 ghost use Rattle.query_bind.specs.inner.Spots as spec;
 

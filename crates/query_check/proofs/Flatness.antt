@@ -7,7 +7,7 @@ use Rattle.base_lemmas.proofs.Bools.{and_first as and_left, and_second as and_ri
 use Rattle.soql.specs.declared.query.Cond.{Cond}
 use Rattle.soql.specs.declared.query.Query.{Query}
 use Rattle.model.specs.Tests.{Tested, tests, tests_of}
-use Rattle.model_step.specs.Flat.{has_one_name, is_flat, is_flat_item, is_flat_test}
+use Rattle.model.specs.Flat.{has_one_name, is_flat, is_flat_item, is_flat_test}
 
 pub record AreFlat (q : Query) : Type 0 where
   pub items : list_all is_flat_item q.select ≡ true

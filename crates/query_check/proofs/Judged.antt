@@ -26,7 +26,7 @@ use Rattle.store_abstraction.specs.declared.layout.Layout.{Layout}
 use Rattle.query_check.specs.declared.columns.Column.{Column}
 use Rattle.query_check.specs.declared.rules.Rule as own
 use Rattle.query_check.specs.declared.rules.Rule.TheVariants as rule
-use Rattle.model_step.specs.Flat.{is_flat, is_flat_item, has_one_name}
+use Rattle.model.specs.Flat.{is_flat, is_flat_item, has_one_name}
 use Rattle.query_check.specs.Columns.{column_in, family_of, placed}
 use Rattle.query_check.specs.Rules.{all_tests_rule, child_tests_rule, each_rule, is_ids, item_rule, items_rule, key_rule, mentioned_in, no_field, no_id, no_suit, path_name, path_rule, paths_rule, query_rule, rule_in, suits_in, tail_rule}
 use Rattle.query_check.specs.Ways.{path_column_in}

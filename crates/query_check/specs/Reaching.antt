@@ -6,7 +6,7 @@ use Rattle.model.specs.Tenant.{Tenant}
 use Rattle.store_abstraction.specs.declared.layout.Layout.{Layout}
 use Rattle.store_abstraction.specs.Layouts.{own_layouts}
 use Rattle.store_abstraction.specs.Plan.{OrgPlan}
-use Rattle.model_step.specs.Flat.{is_flat}
+use Rattle.model.specs.Flat.{is_flat}
 
 -- these are those of all objects of a sound tenant; of a flat query none of them is looked at
 abbrev pub Reaches : (org : ℕ) → OrgPlan → Tenant → List Layout → Query → Type 0

@@ -3,7 +3,7 @@
 ghost use Rattle.std.specs.Prelude.{◌≡◌};
 ghost use Rattle.std.specs.List.{flat_map, list_all};
 ghost use Rattle.model.specs.Tests.{tests, tests_of};
-ghost use Rattle.model_step.specs.Flat as spec;
+ghost use Rattle.model.specs.Flat as spec;
 
 use soql::{Cond, Item, OrderKey, Path, Query};
 

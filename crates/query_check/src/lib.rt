@@ -1,7 +1,7 @@
 //! Why a query is refused, by layouts, and which fields its names lead to.
 //!
 //! It depends on `soql` for queries, on `store_abstraction` for layouts, on `query_plan` for relationships, on `query_plan` for where records
-//! have values, and on `model` and `model_step` for the definitions; it reads no table. Its contract: a query is refused as the
+//! have values, and on `model` for the definitions; it reads no table. Its contract: a query is refused as the
 //! model's rules say.
 #![tactic(auto)]
 

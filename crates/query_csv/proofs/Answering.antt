@@ -18,8 +18,8 @@ use Rattle.store_abstraction.specs.Layouts.{layout_of, own_layouts}
 use Rattle.store_abstraction.specs.Plan.{OrgPlan}
 use Rattle.store_abstraction.specs.declared.layout.Layout.{Layout}
 use Rattle.query_plan.specs.declared.paths.branches.Branch.{Branch}
-use Rattle.model_step.specs.Flat.{is_flat}
-use Rattle.model_step.specs.Shown.{query_steps}
+use Rattle.model.specs.Flat.{is_flat}
+use Rattle.model.specs.Shown.{query_steps}
 use Rattle.query_check.specs.Reaching.{Reaches}
 use Rattle.query_bind.specs.Cells.{MeansCells}
 use Rattle.query_bind.specs.declared.cells.CellPlan.{CellPlan}

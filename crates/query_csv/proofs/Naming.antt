@@ -17,7 +17,7 @@ use Rattle.model.specs.Tenant.{Field, Object, Tenant}
 use Rattle.store_abstraction.specs.Layouts.{IsLayout, layout_of, numbered_at, own_layout, own_layouts, place_of}
 use Rattle.store_abstraction.specs.Plan.{OrgPlan}
 use Rattle.store_abstraction.specs.declared.layout.Layout.{Layout}
-use Rattle.model_step.specs.Flat.{has_one_name, is_flat, is_flat_item}
+use Rattle.model.specs.Flat.{has_one_name, is_flat, is_flat_item}
 use Rattle.query_plan.specs.paths.Ways.{parent_step}
 use Rattle.query_plan.specs.declared.paths.parents.ParentStep.{ParentStep}
 use Rattle.query_plan.proofs.ByLayout.{numbered_layout, parent_by_layout}

@@ -9,7 +9,7 @@ use Rattle.model.specs.declared.refusal.Refusal.{Refusal}
 use Rattle.access_traits.specs.Rights.{Whose}
 use Rattle.store_abstraction.specs.Plan.{OrgPlan}
 use Rattle.store_abstraction.specs.declared.layout.Layout.{Layout}
-use Rattle.model_step.specs.Flat.{is_flat}
+use Rattle.model.specs.Flat.{is_flat}
 use Rattle.query_check.specs.Reaching.{Reaches}
 use Rattle.query_json.specs.Answers.{IsAskedOf}
 use Rattle.query_csv.specs.Lines.{query_lines}

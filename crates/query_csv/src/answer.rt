@@ -6,7 +6,7 @@ ghost use Rattle.store_kv.specs.Draft.{DraftTells, removals_of, tables_of};
 ghost use Rattle.query_csv.specs.Answered.{AnswersLines};
 ghost use Rattle.query_csv.specs.inner.Rows.{PutsLines, parents_of, serves};
 ghost use Rattle.store_abstraction.specs.Calls.{Calls, ended};
-ghost use Rattle.model_step.specs.Shown.{readable_shown, row_shown};
+ghost use Rattle.model.specs.Shown.{readable_shown, row_shown};
 
 use crate::form::CellLines;
 use crate::names::names_line;

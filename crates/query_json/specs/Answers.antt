@@ -19,7 +19,7 @@ use Rattle.model.specs.Verdict.{Verdict}
 use Rattle.model.specs.declared.refusal.Refusal.{Refusal}
 use Rattle.model.specs.declared.reply.Reply.{Reply}
 use Rattle.access_traits.specs.Rights.{Whose}
-use Rattle.model_step.specs.Flat.{is_flat}
+use Rattle.model.specs.Flat.{is_flat}
 use Rattle.store_abstraction.specs.Calls.{Ending}
 use Rattle.store_abstraction.specs.Layouts.{layout_of, own_layouts}
 use Rattle.store_abstraction.specs.Local.{StandsIn}

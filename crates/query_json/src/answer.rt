@@ -15,7 +15,7 @@ ghost use Rattle.model.specs.RowsJson.{rows_json};
 ghost use Rattle.query_plan.specs.Checks.{takes};
 ghost use Rattle.api_output.specs.Rows.{behind_commas};
 ghost use Rattle.store_abstraction.specs.Calls.{Calls, ended};
-ghost use Rattle.model_step.specs.Shown.{row_shown};
+ghost use Rattle.model.specs.Shown.{row_shown};
 
 use crate::ranks::ByKeys;
 use crate::rows::JsonRows;

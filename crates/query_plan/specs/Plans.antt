@@ -24,8 +24,8 @@ use Rattle.model.specs.Ordered.{before, by_id, in_order, nulls_cmp, turned}
 use Rattle.model.specs.Paths.{Asked, path_value}
 use Rattle.model.specs.Rows.{limited, readable_of}
 use Rattle.model.specs.RowsJson.{field_name, object_name, row_json}
-use Rattle.model_step.specs.Flat.{is_flat}
-use Rattle.model_step.specs.Shown.{item_children_shown, query_steps, related_shown}
+use Rattle.model.specs.Flat.{is_flat}
+use Rattle.model.specs.Shown.{item_children_shown, query_steps, related_shown}
 use Rattle.query_plan.specs.paths.Branches.{branch_records}
 use Rattle.query_plan.specs.declared.plan.Child.{Child}
 use Rattle.query_plan.specs.declared.plan.ChildPlan.{ChildPlan}

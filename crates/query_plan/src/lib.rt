@@ -1,7 +1,7 @@
 //! Plans of queries: what queries become once their names are places, and what that means.
 //!
 //! It depends on `soql` for operators and patterns, on `base_json` for what values are in JSON, and on
-//! `model` and `model_step` for the definitions; it reads no table. Its contract: whether a plan's condition holds on what has a
+//! `model` for the definitions; it reads no table. Its contract: whether a plan's condition holds on what has a
 //! record's values, and that a plan which means a query takes of the records that may be read those that the query finds. `paths` has
 //! where relationships lead, and `order` what rows are ordered by.
 #![tactic(auto)]

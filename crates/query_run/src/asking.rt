@@ -11,8 +11,8 @@ ghost use Rattle.store_abstraction.specs.Calls.{Calls, ended};
 ghost use Rattle.store_abstraction.specs.Layouts.{own_layouts};
 ghost use Rattle.store_abstraction.specs.Local.{StandsIn};
 ghost use Rattle.store_abstraction.specs.Plan.{OrgPlan};
-ghost use Rattle.model_step.specs.Flat.{is_flat};
-ghost use Rattle.model_step.specs.Shown.{further_to, shown_beside};
+ghost use Rattle.model.specs.Flat.{is_flat};
+ghost use Rattle.model.specs.Shown.{further_to, shown_beside};
 
 use crate::form::QueryForm;
 use access_traits::Administrator;

@@ -12,8 +12,8 @@ ghost use Rattle.query_run.specs.Forms.{IsAnswer};
 ghost use Rattle.soql.specs.declared.query.Query.{Query};
 ghost use Rattle.store_abstraction.specs.Calls.{Calls, ended};
 ghost use Rattle.store_abstraction.specs.Plan.{OrgPlan};
-ghost use Rattle.model_step.specs.Flat.{is_flat};
-ghost use Rattle.model_step.specs.Shown.{row_shown};
+ghost use Rattle.model.specs.Flat.{is_flat};
+ghost use Rattle.model.specs.Shown.{row_shown};
 
 use access_traits::{Rights, Sight};
 use soql::Query;

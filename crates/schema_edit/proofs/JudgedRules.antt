@@ -1,5 +1,5 @@
 -- Why a new validation rule is refused: by the layout of its object as by the object.
-use Rattle.std.proofs.Common.{◌≡◌, ◌∙◌, ℕ, ◌+◌, suc, Bool, true, false, not, ◌&&◌, eqb, cond, List, [], ◌∷◌, length, map, Option, Some, None, refl, sym, ap}
+use Rattle.std.proofs.Common.{◌≡◌, ◌∙◌, ℕ, ◌+◌, suc, Bool, true, false, ◌&&◌, eqb, cond, List, [], ◌∷◌, length, map, Option, Some, None, refl, sym, ap}
 use Rattle.std.specs.Prelude.{Result, Err, nat_lt}
 use Rattle.std.specs.Option.{ok_or, option_and_then}
 use Rattle.base_lemmas.proofs.Bools.{by_answer as pick}
@@ -8,7 +8,7 @@ use Rattle.formula.specs.grammar.Spelling.{formula_in, place_in}
 use Rattle.base_grammar.specs.Tokens.{byte_len}
 use Rattle.model.specs.declared.limit.Limit.TheVariants as limit
 use Rattle.model.specs.declared.refusal.Refusal.{Refusal}
-use Rattle.model.specs.declared.refusal.Refusal.TheVariants.{InvalidName, JobBusy, NameTaken}
+use Rattle.model.specs.declared.refusal.Refusal.TheVariants.{JobBusy, NameTaken}
 use Rattle.model.specs.Cases.{in_case}
 use Rattle.model.specs.FormulaTexts.{formula_fields, reads_text}
 use Rattle.model.specs.Limits.{formula_limit}
@@ -24,7 +24,8 @@ use Rattle.store_abstraction.specs.Layouts.{job_on, job_place, layout_of}
 use Rattle.store_abstraction.specs.Plan.{OrgPlan}
 use Rattle.schema_rules.specs.Objects.{object_of_layout}
 use Rattle.schema_rules.proofs.Objects.{fields_back}
-use Rattle.schema_edit.specs.inner.RuleRows.{IsRuled, busy_by}
+use Rattle.schema_edit.specs.inner.RuleReads.{IsRuled}
+use Rattle.schema_edit.specs.inner.RuleRows.{busy_by}
 
 -- ---- rules two by two
 
@@ -71,7 +72,7 @@ busy_is q t n f = by t.job
 
 -- ---- all rules
 
-module _ (t : Tenant) (o : Numbered) (l : Layout) (is_taken : Bool) (rules : ℕ) (b : NewValidationRule) (h : IsRuled t o l is_taken rules b) where
+module _ (t : Tenant) (o : Numbered) (l : Layout) (is_taken : Bool) (rules : ℕ) (b : NewValidationRule) (h : IsRuled t o l is_taken rules b.name) where
   abbrev names : List (List ℕ)
   names = map (λ (r : ValidationRule). r.name) o.object.validation_rules
 
@@ -89,10 +90,7 @@ module _ (t : Tenant) (o : Numbered) (l : Layout) (is_taken : Bool) (rules : ℕ
 
   named_is : named ≡ first_refusal (bad_name is_stem b.name ∷ taken names b.name ∷ [])
   named_is =
-      pick (is_stem b.name) (λ s. is_stem b.name ≡ s → first_refusal (refuse_if (not s) (InvalidName b.name) ∷ refuse_if is_taken (NameTaken b.name) ∷ []) ≡ first_refusal (refuse_if (not s) (InvalidName b.name) ∷ taken names b.name ∷ []))
-      (λ _ e. ap (λ (x : Bool). first_refusal (None ∷ refuse_if x (NameTaken b.name) ∷ [])) (h.taken e))
-      (λ _ e. refl)
-      refl
+      ap (λ (x : Bool). first_refusal (bad_name is_stem b.name ∷ refuse_if x (NameTaken b.name) ∷ [])) h.named
 
   seen_is : seen ≡ formula
   seen_is = formula_is h.layout.0 h.layout.1 t o l b.formula h.layout.2

@@ -9,6 +9,9 @@ pub mod AccessEdits
 pub mod NewObjects
 pub mod ObjectEdits
 pub mod FieldStands
+pub mod NamedThings
 pub mod RuleTexts
+pub mod RuleReads
 pub mod JudgedRules
 pub mod RuleStands
+pub mod RuleGone

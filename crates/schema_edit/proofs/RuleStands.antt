@@ -1,21 +1,14 @@
 -- A new validation rule takes the row of its object to the one with a rule more, and puts its own.
 use Rattle.std.proofs.Common.{◌≡◌, ◌∙◌, inl, inr, ℕ, ◌+◌, ◌<◌, ◌≤◌, ◌^◌, Bool, true, false, not, cond, is_lt, IsTrue, List, [], ◌∷◌, length, map, Option, Some, None, refl, sym, ap, subst, arith}
-use Rattle.std.specs.Prelude.{Err, IsErrAnd, Ok, Result, is_some}
+use Rattle.std.specs.Prelude.{Err, is_some}
 use Rattle.std.specs.List.{AllByRecursion, enumerate_from, list_any}
 use Rattle.std.specs.Option.{option_and_then, option_map}
 use Rattle.std.proofs.lemmas.Bool.{not-false as so}
 use Rattle.base_lemmas.proofs.Options.{none_from_is_some as none_so}
 use Rattle.std.proofs.lemmas.Option.{same_Some as some_is}
-use Rattle.store_edit.proofs.Reading.{SameTables, TellsFirst, TellsThen, TwoReads, two_reads}
-use Rattle.store_edit.specs.Edits.{FailsBy, Takes}
-use Rattle.store_edit.specs.Naming.{NamesLayout}
+use Rattle.store_edit.specs.Edits.{Takes}
 use Rattle.store_edit.specs.Rows.{change_to}
-use Rattle.store_kv.specs.Draft.{DraftTells, Held}
-use Rattle.store_kv.specs.State.{KeeperState}
-use Rattle.store_kv.specs.Tables.{Tables}
-use Rattle.store_rows.specs.declared.fail.StoreFail.{StoreFail}
 use Rattle.store_rows.specs.declared.object.ObjectRow.{ObjectRow}
-use Rattle.store_rows.specs.declared.validation.ValidationRow.{ValidationRow}
 use Rattle.store_rows.specs.Forms.{FitsForm, row_bytes}
 use Rattle.store_rows.specs.Keys as key
 use Rattle.store_rows.specs.Keys.{Key}
@@ -36,20 +29,18 @@ use Rattle.model.specs.declared.metadata_bodies.NewValidationRule.{NewValidation
 use Rattle.model.specs.ValidationRules.{add_validation_rule, new_validation_rule_rules, with_validation_rule}
 use Rattle.model.specs.Verdict.{Verdict, accept, done, unless}
 use Rattle.model_invariant.specs.Fit.{is_fit_validation}
-use Rattle.store_abstraction.specs.Calls.{Calls, Ending, ended_by, ended_edit}
-use Rattle.store_abstraction.specs.declared.fail.EditFail.{EditFail}
 use Rattle.store_abstraction.specs.declared.layout.Layout.{Layout}
-use Rattle.store_abstraction.specs.Fails.{of_store}
-use Rattle.store_abstraction.specs.Layouts.{layout_of, own_rule_row, place_of}
-use Rattle.store_abstraction.specs.Local.{FindsIn, IsIn, StandsIn}
+use Rattle.store_abstraction.specs.Layouts.{layout_of, place_of}
+use Rattle.store_abstraction.specs.Local.{IsIn}
 use Rattle.store_abstraction.specs.Metadata.{lower_bytes, named_so, row_of_object, validation_of}
 use Rattle.store_abstraction.specs.Plan.{FitsPlan, OrgPlan}
 use Rattle.store_abstraction.specs.Records.{is_object_key, is_rule_key, rule_at}
 use Rattle.store_abstraction.specs.Stands.{row_in}
 use Rattle.schema_edit.specs.inner.Rows.{HasRow}
-use Rattle.schema_edit.specs.inner.RuleRows.{AcceptsRule, FitRuleRows, IsRead, IsRuled, IsSpelledRule, ReadsFor, changes_of, rows_by}
+use Rattle.schema_edit.specs.inner.RuleReads.{IsRead}
+use Rattle.schema_edit.specs.inner.RuleRows.{FitRuleRows, IsSpelledRule, changes_of, rows_by}
+use Rattle.schema_edit.specs.declared.edits.reading.ReadObject.{ReadObject}
 use Rattle.schema_edit.specs.declared.edits.validation.NewRuleRows.{NewRuleRows}
-use Rattle.schema_edit.specs.declared.edits.validation.ReadObject.{ReadObject}
 use Rattle.schema_edit.specs.Judging.{verdict_refusal}
 use Rattle.schema_edit.proofs.AccessEdits.{DescribedFits, ObjectFits, SamePlan, get_changed, own_row}
 use Rattle.schema_edit.proofs.Editing.{beside, named_at, other_object, other_rule, unrefused}
@@ -127,67 +118,7 @@ rule_free t b o there e = by (first_refusal (new_validation_rule_rules t o b)) e
     by None e = refl
     by (Some x) e = absurd cc
 
--- ---- three calls in turn
-
-module _ {K : Type 0} (state : K → KeeperState) where
-  -- what the draft tells over all three it tells over each, and the first two leave the tables
-  pub record ThreeReads (a b c d : Held K) : Type 0 where
-    pub before : TwoReads state a b c
-    pub behind : TwoReads state b c d
-
-  pub three_reads : TellsFirst state → TellsThen state → SameTables state → {e f g : Ending} (a b c d : Held K) → Calls state 0 e a b → Calls state 0 f b c → Calls state 0 g c d → DraftTells state a d → ThreeReads a b c d
-  three_reads tells_first tells_then same {e} {f} {g} a b c d one two three told =
-      let before = two_reads state tells_first tells_then same a b c one two (tells_first 0 g a c d three told) in
-      record { before = before; behind = two_reads state tells_first tells_then same b c d two three (tells_then 0 e a b d one before.first told) }
-
--- a failed read of the third is handed on
-module _ {K : Type 0} (state : K → KeeperState) (a b : Held K) where
-  pub passed_calls : {X : Type 0} (r : Result X EditFail) (e : StoreFail) → IsErrAnd r (λ y. y ≡ of_store e) → Calls state 0 (ended_by e) a b → Calls state 0 (ended_edit r) a b
-  passed_calls (Ok x) e passed h = absurd passed
-  passed_calls {X = X} (Err y) e passed h = subst (λ (z : EditFail). Calls state 0 (ended_edit {X = X} (Err z)) a b) (sym passed) h
-
 -- ---- what was read
-
-pub layout_is : (org : ℕ) (q : OrgPlan) (t : Tenant) (name : List ℕ) (r : Result Layout EditFail) (l : Layout) → NamesLayout org q t name r → r ≡ Ok l → (o : Numbered) × (object_named t name ≡ Some o) × (l ≡ layout_of org q t o)
-layout_is org q t name r l h was = subst (NamesLayout org q t name) was h
-
-pub unread : (org : ℕ) (t : Tenant) (b : NewValidationRule) (e : EditFail) (r : Result ReadObject EditFail) → IsErrAnd r (λ y. y ≡ e) → FailsBy (add_validation_rule t b) e → ReadsFor org t b r
-unread org t b e (Ok object) passed h = absurd passed
-unread org t b e (Err y) passed h = subst (FailsBy (add_validation_rule t b)) (sym passed) h
-
-pub passed_on : (org : ℕ) (t : Tenant) (b : NewValidationRule) (e : EditFail) (r : Result ObjectRow EditFail) → IsErrAnd r (λ y. y ≡ e) → FailsBy (add_validation_rule t b) e → AcceptsRule org t b r
-passed_on org t b e (Ok row) passed h = absurd passed
-passed_on org t b e (Err y) passed h = subst (FailsBy (add_validation_rule t b)) (sym passed) h
-
--- what the call found that reads
-pub read_so : (org : ℕ) (t : Tenant) (b : NewValidationRule) (r : Result ReadObject EditFail) (object : ReadObject) → ReadsFor org t b r → r ≡ Ok object → IsRead org t b object
-read_so org t b r object h was = subst (ReadsFor org t b) was h
-
--- whether a rule has the name
-pub found_so : RuleFound → (org : ℕ) (q : OrgPlan) (t : Tenant) (name : List ℕ) (n : ℕ) (o : Numbered) (m : Tables) (lower : List ℕ) (r : Result (Option ValidationRow) StoreFail) (found : Option ValidationRow)
-    → n ≡ o.number → object_numbered t o.number ≡ Some o.object → lower ≡ lower_bytes name → FindsIn org (own_rule_row org n lower) m r → r ≡ Ok found → StandsIn org q m (Some t)
-    → IsTrue (is_stem name) → is_some found ≡ list_any (same_name name) (map (λ (r : ValidationRule). r.name) o.object.validation_rules)
-found_so laws org q t name n o m lower r found number there is h was s stem =
-    let row : found ≡ own_rule_row org n lower q (Some t) = subst (FindsIn org (own_rule_row org n lower) m) was h q (Some t) s in
-    let its : own_rule_row org n lower q (Some t) ≡ option_map (validation_of org o.number) (named_so (λ (r : ValidationRule). r.name) o.object.validation_rules (lower_bytes name)) =
-    ap (λ (i : ℕ). own_rule_row org i lower q (Some t)) number
-    ∙ ap (λ (x : Option Object). option_map (validation_of org o.number) (option_and_then (λ o. named_so (λ (r : ValidationRule). r.name) o.validation_rules lower) x)) there
-    ∙ ap (λ (key : List ℕ). option_map (validation_of org o.number) (named_so (λ (r : ValidationRule). r.name) o.object.validation_rules key)) is in
-    ap is_some (row ∙ its) ∙ mapped (named_so (λ (r : ValidationRule). r.name) o.object.validation_rules (lower_bytes name)) ∙ laws t o.number o.object name s.sound there stem
-  where
-    mapped : (x : Option ValidationRule) → is_some (option_map (validation_of org o.number) x) ≡ is_some x
-    mapped None = refl
-    mapped (Some x) = refl
-
--- what the rule is judged by is of the object
-pub ruled_so : RuleFound → (org : ℕ) (q : OrgPlan) (t : Tenant) (b : NewValidationRule) (o : Numbered) (l : Layout) (m : Tables) (lower : List ℕ) (r : Result (Option ValidationRow) StoreFail) (found : Option ValidationRow) (is_taken : Bool) (row : ObjectRow)
-    → object_named t b.object ≡ Some o → l ≡ layout_of org q t o → lower ≡ lower_bytes b.name → FindsIn org (own_rule_row org l.object lower) m r → r ≡ Ok found → is_taken ≡ is_some found → HasRow org t b.object row
-    → StandsIn org q m (Some t) → IsRuled t o l is_taken row.validation_rules b
-ruled_so laws org q t b o l m lower r found is_taken row there is spelled h was taken has s = record {
-  layout = (org, q, is);
-  taken = λ stem. taken ∙ found_so laws org q t b.name l.object o m lower r found (ap (λ (l : Layout). l.object) is) (named_at t b.object o there) spelled h was s stem;
-  count = ap (λ (r : ObjectRow). r.validation_rules) has.is ∙ ap (λ (o : Numbered). length o.object.validation_rules) (some_is has.numbered o (sym has.there ∙ there));
-}
 
 length_fields : (q : OrgPlan) (n k : ℕ) (fs : List Field) → length (map (place_of q n) (enumerate_from k fs)) ≡ length fs
 length_fields q n k [] = refl
@@ -200,8 +131,8 @@ few_fields org q t name o l s there is =
     subst (λ (l : Layout). length l.fields ≤ 40) (sym is) (subst (λ (n : ℕ). n ≤ 40) (sym (length_fields q o.number 0 o.object.fields)) few)
 
 -- and so has the one that was read
-pub few_read : (org : ℕ) (t : Tenant) (b : NewValidationRule) (object : ReadObject) → IsSound t → IsRead org t b object → length object.layout.fields ≤ 40
-few_read org t b object s is = few_fields is.ruled.layout.0 is.ruled.layout.1 t b.object is.numbered object.layout s is.there is.ruled.layout.2
+pub few_read : (org : ℕ) (t : Tenant) (object name : List ℕ) (read : ReadObject) → IsSound t → IsRead org t object name read → length read.layout.fields ≤ 40
+few_read org t object name read s is = few_fields is.ruled.layout.0 is.ruled.layout.1 t object is.numbered read.layout s is.there is.ruled.layout.2
 
 -- ---- what is changed
 
@@ -214,13 +145,13 @@ first_two None None more e = (refl, refl)
 first_two None (Some b) more e = absurd cc
 first_two (Some a) b more e = absurd cc
 
--- the row of a rule that the object has
-rule_row : (org : ℕ) (q : OrgPlan) (u : Tenant) (n : ℕ) (r : ValidationRule) (x : Object) → object_numbered u n ≡ Some x → named_so (λ (y : ValidationRule). y.name) x.validation_rules (lower_bytes r.name) ≡ Some r
-    → row_in q u (key.Validation org n (lower_bytes r.name)) ≡ Some (row_bytes validation_form (validation_of org n r))
+-- the row at the key of a name, by the rule that the object has by it
+pub rule_row : (org : ℕ) (q : OrgPlan) (u : Tenant) (n : ℕ) (lower : List ℕ) (found : Option ValidationRule) (x : Object) → object_numbered u n ≡ Some x → named_so (λ (y : ValidationRule). y.name) x.validation_rules lower ≡ found
+    → row_in q u (key.Validation org n lower) ≡ option_map (λ r. row_bytes validation_form (validation_of org n r)) found
 unfolding row_in
-rule_row org q u n r x at found =
-    ap (λ (o : Option Object). option_map (λ r. row_bytes validation_form (validation_of org n r)) (option_and_then (λ o. named_so (λ (y : ValidationRule). y.name) o.validation_rules (lower_bytes r.name)) o)) at
-    ∙ ap (option_map (λ r. row_bytes validation_form (validation_of org n r))) found
+rule_row org q u n lower found x at is =
+    ap (λ (o : Option Object). option_map (λ r. row_bytes validation_form (validation_of org n r)) (option_and_then (λ o. named_so (λ (y : ValidationRule). y.name) o.validation_rules lower) o)) at
+    ∙ ap (option_map (λ r. row_bytes validation_form (validation_of org n r))) is
 
 pub rule_takes : RuleLaws → (org : ℕ) (t : Tenant) (b : NewValidationRule) (row : ObjectRow) (rows : NewRuleRows) (q : OrgPlan)
     → org < 2 ^ 32 → FitsPlan q t → IsSound t → IsTrue (is_fit_validation b) → None ≡ verdict_refusal (add_validation_rule t b) → HasRow org t b.object row → rows ≡ rows_by row b
@@ -252,7 +183,7 @@ rule_takes laws org t b row rows q small plan sound_t fit free h made =
       fits = laws.plan_fits q t n (with_validation_rule r) plan (λ x. refl);
       are = (
         put_is_of object_form org q u next.object (laws.object_fits org u n x small sound_u at_u) refl (own_row q u org n x at_u),
-        (put_is_of validation_form org q u next.rule (laws.rule_fits org u n x r small sound_u at_u (has_put r o.object.validation_rules)) refl (rule_row org q u n r x at_u (laws.put r o.object alone)), tt),
+        (put_is_of validation_form org q u next.rule (laws.rule_fits org u n x r small sound_u at_u (has_put r o.object.validation_rules)) refl (rule_row org q u n (lower_bytes r.name) (Some r) x at_u (laws.put r o.object alone)), tt),
       );
       rest = λ k of same.
           let one = beside (change_to object_form next.object) (change_to validation_form next.rule ∷ []) k same in

@@ -1,12 +1,10 @@
 -- The names of rules in lower case.
-use Rattle.std.proofs.Common.{◌≡◌, ◌∙◌, ℕ, ◌+◌, ◌<◌, List, [], ◌∷◌, ◌++◌, length, take, get_or, refl, sym, ap, subst, append-nil, add-one, take-suc}
-use Rattle.std.specs.Prelude.{Err, IfOk, Ok, Result, encode_utf8_all}
+use Rattle.std.proofs.Common.{◌≡◌, ◌∙◌, ℕ, ◌+◌, ◌<◌, List, [], ◌∷◌, ◌++◌, length, take, get_or, refl, sym, ap, append-nil, add-one, take-suc}
+use Rattle.std.specs.Prelude.{encode_utf8_all}
 use Rattle.std.specs.Char.{encode_utf8, to_ascii_lowercase}
 use Rattle.std.proofs.lemmas.List.{map-append}
 use Rattle.std.proofs.lemmas.Str.{encodes-append}
 use Rattle.base_value.specs.Texts.{lower}
-use Rattle.base_value.specs.Bytes.{IsBytes}
-use Rattle.base_value.specs.declared.bytes.Bytes.{Bytes}
 
 -- one character more
 pub lower_more : (bytes cs : List ℕ) (n c : ℕ) → bytes ≡ encode_utf8_all (lower (take n cs)) → n < length cs → get_or cs n c ≡ c
@@ -19,7 +17,3 @@ lower_more bytes cs n c same lt e =
     ∙ sym (encodes-append (lower (take n cs)) (to_ascii_lowercase c ∷ []))
     ∙ ap encode_utf8_all (sym (map-append to_ascii_lowercase (take n cs) (c ∷ [])))
     ∙ ap (λ (x : List ℕ). encode_utf8_all (lower x)) (sym more)
-
-pub if_bytes : {E : Type 0} (r : Result Bytes E) (bytes : List ℕ) → IfOk r (λ b. b ≡ bytes) → IsBytes bytes → IfOk r IsBytes
-if_bytes (Ok b) bytes e h = subst IsBytes (sym e) h
-if_bytes (Err x) bytes e h = tt

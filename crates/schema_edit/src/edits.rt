@@ -5,9 +5,12 @@ mod access;
 mod copies;
 mod fields;
 mod objects;
+mod reading;
+mod removing;
 mod validation;
 
 pub use self::access::SetAccess;
 pub use self::fields::AddField;
 pub use self::objects::AddObject;
+pub use self::removing::RemoveValidationRule;
 pub use self::validation::AddValidationRule;

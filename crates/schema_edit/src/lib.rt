@@ -1,4 +1,4 @@
-//! An administrator's edits of metadata: new objects, another default access, new fields, new validation rules.
+//! An administrator's edits of metadata: new objects, another default access, new fields, new validation rules and their end.
 //!
 //! It depends on `model`, `store_abstraction` and `store_edit`. Its contract is that of `Edit`: each is judged by its verdict, and its
 //! changes take the organisation's rows to those of what the verdict leaves.
@@ -12,5 +12,5 @@ mod relations;
 mod rules;
 mod slots;
 
-pub use crate::edits::{AddField, AddObject, AddValidationRule, SetAccess};
+pub use crate::edits::{AddField, AddObject, AddValidationRule, RemoveValidationRule, SetAccess};
 pub use crate::slots::free_slot;

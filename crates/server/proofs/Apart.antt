@@ -8,7 +8,7 @@ use Rattle.base_lemmas.proofs.Numbers.{lt_from_ltb as lower, le_from_ltb as uppe
 use Rattle.store_kv.specs.State.{KeeperState, Tells}
 use Rattle.store_kv.specs.Tables.{Tables}
 use Rattle.store_rows.specs.declared.fail.StoreFail.{StoreFail}
-use Rattle.model.specs.Answered.{answered}
+use Rattle.model_requests.specs.Answered.{answered}
 use Rattle.model.specs.Callers.{Named}
 use Rattle.model.specs.declared.refusal.Refusal.TheVariants.{InvalidSession}
 use Rattle.model.specs.Step.{Message, answer_in, key_in, org_named, refusal_reply}

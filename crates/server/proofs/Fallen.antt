@@ -30,7 +30,7 @@ use Rattle.server.specs.Senses.{of_all}
 use Rattle.server.specs.Turning.{IsHere, RefusesWith, Wrote, over_if_written}
 use Rattle.server.proofs.Goes.{Goes, joined_more}
 use Rattle.server.proofs.Turned.{appends_then, item_at, nothing}
-use Rattle.model_step.specs.Step.{step}
+use Rattle.model_requests.specs.Step.{step}
 
 -- a call that doesn't use the keeper
 pub not_fell : (k : KeeperState) → Fell k k → ⊥

@@ -5,7 +5,7 @@ use Rattle.std.specs.List.{list_any}
 use Rattle.std.proofs.lemmas.Bool.{eqb-true}
 use Rattle.http.specs.StatusCode.{reason_phrase}
 use Rattle.model.specs.declared.reply.Reply.{Reply}
-use Rattle.model.specs.declared.routed.Routed.{Routed}
+use Rattle.model_requests.specs.declared.routed.Routed.{Routed}
 use Rattle.model.specs.Refusals.{is_refusal_status}
 use Rattle.api.specs.Forms as rest
 use Rattle.server_http.specs.Reply.{reply, reply_to}

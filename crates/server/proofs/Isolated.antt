@@ -8,7 +8,7 @@ use Rattle.server.specs.Connections.{Place, begins, Follows, Connection, AreServ
 use Rattle.server.specs.Isolation.{asked_of, counts, is_done, is_org, replies_of, replies_to}
 use Rattle.server.specs.Senses.{Sense}
 use Rattle.std.proofs.lemmas.Bool.{eqb-true}
-use Rattle.model_step.specs.Step.{step}
+use Rattle.model_requests.specs.Step.{step}
 
 -- each request met the world that the one before it left
 abbrev Chained : World → List Exchange → World → Type 0

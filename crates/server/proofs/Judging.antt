@@ -7,12 +7,12 @@ use Rattle.std.specs.Str.{bytes_eq}
 use Rattle.store_kv.specs.Tables.{Tables}
 use Rattle.store_rows.specs.declared.fail.StoreFail.{StoreFail}
 use Rattle.store_rows.specs.declared.fail.StoreFail.TheVariants.{Damaged, Keeper, Memory}
-use Rattle.model.specs.Answered.{answered}
+use Rattle.model_requests.specs.Answered.{answered}
 use Rattle.model.specs.declared.caller.Caller.{Caller}
 use Rattle.model.specs.declared.reply.Reply.{Reply}
 use Rattle.model.specs.Callers.{Named, admitted, caller_of}
 use Rattle.model.specs.Paths.{Asked}
-use Rattle.model.specs.Routing.{routed}
+use Rattle.model_requests.specs.Routing.{routed}
 use Rattle.model.specs.Step.{Message, if_called}
 use Rattle.model.specs.Tenant.{Tenant, User}
 use Rattle.model.specs.World.{user_at}
@@ -23,8 +23,8 @@ use Rattle.store_abstraction.specs.Operations.{IsChange, Judges, RepliesAt, Resp
 use Rattle.store_abstraction.specs.Plan.{OrgPlan}
 use Rattle.store_abstraction.specs.declared.judged.Judged.{Judged}
 use Rattle.store_abstraction.specs.declared.judged.Judged.TheVariants.{Changed, Same}
-use Rattle.model_step.specs.Own.{IsAsking}
-use Rattle.model_step.specs.Step.{asking}
+use Rattle.model.specs.Asker.{IsAsking}
+use Rattle.model.specs.Asker.{asking}
 use Rattle.server.specs.Own.{JudgesBy, JudgesCaller, JudgesNamed, JudgesUnnamed, bytes_of, own_does}
 use Rattle.server.specs.Requests.{in_bytes}
 use Rattle.server.specs.inner.Steps.{IsInForm, JudgesRequest, request_does, verdict_of}

@@ -10,7 +10,7 @@ use Rattle.store_abstraction.specs.Stands.{Stands}
 use Rattle.server.specs.Leads.{IsReached, Leads, LeadsFrom, StandsReached, led_to}
 use Rattle.server.specs.Requests.{does}
 use Rattle.server.specs.Senses.{StandsAs, of_all}
-use Rattle.model_step.specs.Step.{step}
+use Rattle.model_requests.specs.Step.{step}
 
 led_more : (w : World) (ps qs : List (Message × ℕ)) → led_to (led_to w ps) qs ≡ led_to w (ps ++ qs)
 led_more w [] qs = refl

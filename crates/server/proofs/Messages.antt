@@ -15,7 +15,7 @@ use Rattle.store_abstraction.specs.Local.{KeepsOthers, StandsFor}
 use Rattle.store_abstraction.specs.Operations.{DoesIn, Ends, FailsAtCommit, Finishes, IsChange, Judges, Returns}
 use Rattle.store_abstraction.specs.declared.judged.Judged.{Judged}
 use Rattle.store_abstraction.specs.declared.judged.Judged.TheVariants.{Changed, Same}
-use Rattle.model_step.specs.Own.{request_gone}
+use Rattle.model.specs.Bounds.{request_gone}
 use Rattle.store_abstraction.proofs.Ended.{done, kept_if_failed, others_stay, unchanged}
 use Rattle.server.specs.Own.{Asks, DoesBy, DoesUnnamed, IsStepped, IsSmall, JudgesBy, JudgesNamed, JudgesReply, JudgesUnnamed, KeepsIfSame, Replies, after_step, judged_bytes, message_changes, message_shown_beside, own_does, unnamed_bytes}
 use Rattle.server.specs.Requests.{in_bytes}

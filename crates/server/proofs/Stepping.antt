@@ -7,14 +7,14 @@ use Rattle.store_kv.specs.Draft.{DraftReads, DraftWorks, Held, count_of, removal
 use Rattle.store_kv.specs.State.{KeeperState, data_table}
 use Rattle.store_kv.specs.Tables.{Tables}
 use Rattle.store_rows.specs.declared.fail.StoreFail.{StoreFail}
-use Rattle.model.specs.Answered.{answered}
+use Rattle.model_requests.specs.Answered.{answered}
 use Rattle.model.specs.declared.caller.Caller.{Caller}
 use Rattle.model.specs.declared.refusal.Refusal.TheVariants.{InvalidSession}
 use Rattle.model.specs.declared.reply.Reply.{Reply}
 use Rattle.model.specs.Cases.{in_case}
 use Rattle.model.specs.Jobs.{job_step}
 use Rattle.model.specs.Replies.{reply_of}
-use Rattle.model.specs.RequestOf.{answer_to}
+use Rattle.model_requests.specs.RequestOf.{answer_to}
 use Rattle.model.specs.Step.{Message, refused}
 use Rattle.model.specs.Tenant.{Tenant, User}
 use Rattle.model.specs.World.{user_at}
@@ -24,9 +24,10 @@ use Rattle.store_abstraction.specs.Operations.{Drafts, IsChange, IsSame, Judges}
 use Rattle.store_abstraction.specs.Plan.{OrgPlan}
 use Rattle.store_abstraction.specs.declared.judged.Judged.{Judged}
 use Rattle.store_abstraction.specs.declared.judged.Judged.TheVariants.{Changed, Same}
-use Rattle.model_step.specs.Own.{IsAsking, request_changes, request_gone}
-use Rattle.model_step.specs.Shown.{shown_beside}
-use Rattle.model_step.specs.Step.{asking}
+use Rattle.model.specs.Asker.{IsAsking}
+use Rattle.model.specs.Bounds.{request_changes, request_gone}
+use Rattle.model.specs.Shown.{shown_beside}
+use Rattle.model.specs.Asker.{asking}
 use Rattle.server.specs.Own.{IsJudged, IsSmall, JudgesCaller, JudgesReply, after_step, bytes_of, message_changes, message_further, message_shown_beside}
 use Rattle.server.specs.Requests.{in_bytes}
 use Rattle.server.specs.inner.Steps.{IsInForm, JudgesRequest, request_does, verdict_of}

@@ -5,7 +5,7 @@ use Rattle.base_lemmas.proofs.Numbers.{lt_from_ltb as lower, le_from_ltb as uppe
 use Rattle.store_kv.specs.State.{KeeperState, Tells}
 use Rattle.store_kv.specs.Tables.{Tables}
 use Rattle.store_rows.specs.declared.fail.StoreFail.{StoreFail}
-use Rattle.model.specs.Answered.{answered}
+use Rattle.model_requests.specs.Answered.{answered}
 use Rattle.model.specs.declared.refusal.Refusal.TheVariants.{InvalidSession}
 use Rattle.model.specs.declared.reply.Reply.{Reply}
 use Rattle.model.specs.Callers.{Named}
@@ -16,8 +16,8 @@ use Rattle.store_abstraction.specs.Local.{KeepsOthers, StandsFor, StandsIn}
 use Rattle.store_abstraction.specs.Operations.{Does, DoesIn}
 use Rattle.store_abstraction.specs.Plan.{OrgPlan, Plan, with_plan}
 use Rattle.store_abstraction.specs.Stands.{Stands, StandsBy}
-use Rattle.model_step.specs.Own.{own_step}
-use Rattle.model_step.specs.Step.{step}
+use Rattle.model_requests.specs.Own.{own_step}
+use Rattle.model_requests.specs.Step.{step}
 use Rattle.server.specs.Own.{DoesBy, DoesUnnamed, bytes_of, own_does, unnamed_bytes}
 use Rattle.server.specs.Requests.{does}
 use Rattle.server.specs.Senses.{StandsAs, of_all}

@@ -6,7 +6,7 @@ use Rattle.store_kv.specs.State.{KeeperState}
 use Rattle.model.specs.Step.{Message, org_named}
 use Rattle.model.specs.World.{World}
 use Rattle.server.specs.Senses.{Sense, StandsAs, is_apart}
-use Rattle.model_step.specs.Step.{step}
+use Rattle.model_requests.specs.Step.{step}
 
 -- how a request comes out
 pub data Outcome : Type 0 where

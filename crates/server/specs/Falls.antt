@@ -23,7 +23,7 @@ use Rattle.server.specs.Senses.{of_all}
 use Rattle.server.specs.Turning.{Wrote}
 use Rattle.server.specs.declared.wire.LineFail.{LineFail}
 use Rattle.server.specs.declared.wire.LineFail.TheVariants.{Read, Write}
-use Rattle.model_step.specs.Step.{step}
+use Rattle.model_requests.specs.Step.{step}
 
 -- it told its tables and was trusted, and is trusted no more, though nothing that it told was wrong
 abbrev pub Fell : KeeperState → KeeperState → Type 0

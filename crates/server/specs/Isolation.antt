@@ -4,7 +4,7 @@ use Rattle.model.specs.declared.reply.Reply.{Reply}
 use Rattle.model.specs.Step.{Message, org_named}
 use Rattle.model.specs.World.{World}
 use Rattle.server.specs.Exchanges.{Exchange, Outcome, apart, done, store, memory}
-use Rattle.model_step.specs.Step.{step}
+use Rattle.model_requests.specs.Step.{step}
 
 abbrev pub is_done : Outcome → Bool
 is_done done = true

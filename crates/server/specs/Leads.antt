@@ -5,7 +5,7 @@ use Rattle.store_kv.specs.Tables.{Tables}
 use Rattle.model.specs.Step.{Message}
 use Rattle.model.specs.World.{World}
 use Rattle.store_abstraction.specs.Stands.{Stands}
-use Rattle.model_step.specs.Step.{step}
+use Rattle.model_requests.specs.Step.{step}
 
 -- the world after these messages, each at its moment, one after the other
 abbrev pub led_to : World → List (Message × ℕ) → World

@@ -7,12 +7,12 @@ use Rattle.store_kv.specs.State.{KeeperCause, KeeperState, LeavesNoMore, Quiet, 
 use Rattle.store_kv.specs.Tables.{Tables}
 use Rattle.store_rows.specs.declared.fail.StoreFail.{StoreFail}
 use Rattle.store_rows.specs.declared.fail.StoreFail.TheVariants.{Damaged, Keeper, Memory}
-use Rattle.model.specs.Answered.{answered}
+use Rattle.model_requests.specs.Answered.{answered}
 use Rattle.model.specs.declared.caller.Caller.{Caller}
 use Rattle.model.specs.declared.refusal.Refusal.TheVariants as refusal
 use Rattle.model.specs.declared.reply.Reply.{Reply}
 use Rattle.model.specs.Callers.{Named}
-use Rattle.model.specs.Routing.{routed}
+use Rattle.model_requests.specs.Routing.{routed}
 use Rattle.model.specs.Step.{Message, key_in, refusal_reply}
 use Rattle.model.specs.Tenant.{Tenant, User}
 use Rattle.people_edit.specs.People.{FindsCaller}
@@ -22,9 +22,12 @@ use Rattle.store_abstraction.specs.declared.judged.Judged.TheVariants.{Changed, 
 use Rattle.store_abstraction.specs.Local.{KeepsOthers, StandsFor, StandsIn}
 use Rattle.store_abstraction.specs.Operations.{DoesIn, IsChange, Judges}
 use Rattle.store_abstraction.specs.Plan.{OrgPlan}
-use Rattle.model_step.specs.Own.{IsAsking, own_step, request_changes}
-use Rattle.model_step.specs.Shown.{further_shown, request_shown, shown_beside}
-use Rattle.model_step.specs.Step.{asking}
+use Rattle.model.specs.Asker.{IsAsking}
+use Rattle.model_requests.specs.Own.{own_step}
+use Rattle.model.specs.Bounds.{request_changes}
+use Rattle.model_requests.specs.FurtherShown.{further_shown}
+use Rattle.model.specs.Shown.{request_shown, shown_beside}
+use Rattle.model.specs.Asker.{asking}
 use Rattle.server.specs.Requests.{in_bytes, message_in}
 
 -- the bytes of a reply to a message

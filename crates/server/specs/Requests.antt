@@ -15,7 +15,7 @@ use Rattle.model.specs.Step.{Message}
 use Rattle.model.specs.World.{World}
 use Rattle.store_abstraction.specs.declared.judged.Judged.{Judged}
 use Rattle.store_abstraction.specs.declared.judged.Judged.TheVariants.{Changed, Same}
-use Rattle.model_step.specs.Step.{step}
+use Rattle.model_requests.specs.Step.{step}
 
 -- what is asked: a message without what it says of its connection
 abbrev pub message_in : HttpMessage → Message

@@ -15,7 +15,7 @@ ghost use Rattle.server.specs.Leads.{Leads, LeadsFrom};
 ghost use Rattle.server.specs.Senses.{Sense, StandsAs, StandsBut};
 ghost use Rattle.base_value.specs.Causes.{RoseBy, last_count};
 
-use model_step::step_laws;
+use model_requests::step_laws;
 use store_abstraction::local_laws;
 use store_kv::{Keeper, key_laws};
 

@@ -43,7 +43,7 @@ module _ (makes : MakesIds) (texts : NamesAreTexts) (short : NamesAreShort) wher
         ap (λ (j : List ℕ). (org, (tt, j))) su.0,
         (
           (lo, (tt, drawn_is_id makes user_prefix t.counter u.id refl refl su.1.id)),
-          (name_fits texts short u.name su.1.name, (su.1.digest, (role_is_id makes (known t) t.roles st.roles.each u.role su.1.role, tt))),
+          (name_fits texts short u.name su.1.name, (su.1.digest, (role_is_id makes (known t) t.roles st.roles.each u.role su.1.role, refl))),
         ),
       )
 

@@ -42,7 +42,7 @@ org_of n t =
 -- ---- people
 
 abbrev pub user_of : ℕ → model.User → UserRow
-user_of org u = record { org = org; id = u.id; name = u.name; digest = u.digest; role = u.role; admin = u.admin }
+user_of org u = record { org = org; id = u.id; name = u.name; digest = u.digest; role = u.role; admin = u.admin; active = u.active }
 
 abbrev pub role_of : ℕ → Role → RoleRow
 role_of org r = record { org = org; id = r.id; name = r.name; parent = r.parent }

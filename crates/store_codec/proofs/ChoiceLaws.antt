@@ -10,7 +10,7 @@ use Rattle.base_value.specs.declared.sharing.Access.TheVariants as access
 use Rattle.base_value.specs.declared.sharing.Level.TheVariants as level
 use Rattle.base_value.specs.declared.value.OnDelete.TheVariants as delete
 use Rattle.store_codec.specs.declared.choices.FieldFlags.{FieldFlags}
-use Rattle.store_codec.specs.Choices.{Choice, Accesses, Levels, Phases, Outcomes, States, Deletes, Chosen, access_byte, byte_of, is_spelled, of_byte, choice, choice_at, flags, flags_of, flags_at}
+use Rattle.store_codec.specs.Choices.{Choice, Accesses, Standings, Levels, Phases, Outcomes, States, Deletes, Chosen, access_byte, byte_of, standing_byte, is_spelled, of_byte, choice, choice_at, flags, flags_of, flags_at}
 use Rattle.store_codec.specs.PartLaws.{IsBytes, Takes, IsPart}
 use Rattle.store_codec.proofs.PlainLaws.{IsBytes-rest, bind_some, some_is}
 
@@ -30,6 +30,11 @@ named_so Accesses (suc (suc (suc (suc zero)))) x e = here Accesses (record { acc
 named_so Accesses (suc (suc (suc (suc (suc zero))))) x e = here Accesses (record { access = access.Read; hierarchy = false }) x e refl
 named_so Accesses (suc (suc (suc (suc (suc (suc zero)))))) x e = here Accesses (record { access = access.ReadWrite; hierarchy = false }) x e refl
 named_so Accesses (suc (suc (suc (suc (suc (suc (suc b))))))) x e = absurd cc
+named_so Standings zero x e = here Standings (record { admin = false; active = true }) x e refl
+named_so Standings (suc zero) x e = here Standings (record { admin = true; active = true }) x e refl
+named_so Standings (suc (suc zero)) x e = here Standings (record { admin = false; active = false }) x e refl
+named_so Standings (suc (suc (suc zero))) x e = here Standings (record { admin = true; active = false }) x e refl
+named_so Standings (suc (suc (suc (suc b)))) x e = absurd cc
 named_so Levels zero x e = absurd cc
 named_so Levels (suc zero) x e = here Levels level.Read x e refl
 named_so Levels (suc (suc zero)) x e = here Levels level.Edit x e refl
@@ -62,9 +67,16 @@ access_again access.ReadWrite false h = refl
 access_again access.ControlledByParent true h = refl
 access_again access.ControlledByParent false h = absurd cc
 
+standing_again : (admin active : Bool) → of_byte Standings (standing_byte (record { admin = admin; active = active })) ≡ Some (record { admin = admin; active = active })
+standing_again false true = refl
+standing_again true true = refl
+standing_again false false = refl
+standing_again true false = refl
+
 -- and the byte of a name that is spelled has that name
 byte_again : (c : Choice) (x : Chosen c) → IsTrue (is_spelled c x) → of_byte c (byte_of c x) ≡ Some x
 byte_again Accesses x h = access_again x.access x.hierarchy h
+byte_again Standings x h = standing_again x.admin x.active
 byte_again Levels level.Nothing h = absurd cc
 byte_again Levels level.Read h = refl
 byte_again Levels level.Edit h = refl

@@ -15,6 +15,7 @@ use Rattle.base_value.specs.declared.value.OnDelete.TheVariants as delete
 use Rattle.store_codec.specs.Plain.{◌>>=◌}
 use Rattle.store_codec.specs.declared.choices.FieldFlags.{FieldFlags}
 use Rattle.store_codec.specs.declared.choices.ObjectAccess.{ObjectAccess}
+use Rattle.store_codec.specs.declared.choices.UserStanding.{UserStanding}
 
 -- a flag is worth this number where it is set
 abbrev pub worth : ℕ → Bool → ℕ
@@ -26,6 +27,7 @@ worth n false = 0
 -- what is chosen
 pub data Choice : Type 0 where
   Accesses : Choice
+  Standings : Choice
   Levels : Choice
   Phases : Choice
   Outcomes : Choice
@@ -34,6 +36,7 @@ pub data Choice : Type 0 where
 
 abbrev pub Chosen : Choice → Type 0
 Chosen Accesses = ObjectAccess
+Chosen Standings = UserStanding
 Chosen Levels = Level
 Chosen Phases = Phase
 Chosen Outcomes = Outcome
@@ -51,6 +54,10 @@ access_number access.ControlledByParent = 3
 abbrev pub access_byte : ObjectAccess → ℕ
 access_byte x = access_number x.access + worth 4 (not x.hierarchy)
 
+-- 1 for an administrator, and 2 more for who isn't active
+abbrev pub standing_byte : UserStanding → ℕ
+standing_byte x = worth 1 x.admin + worth 2 (not x.active)
+
 -- whether an access is the object's own, and not its parent's
 abbrev pub is_own : Access → Bool
 is_own access.ControlledByParent = false
@@ -59,6 +66,7 @@ is_own _ = true
 -- the byte of each name
 abbrev pub byte_of : (c : Choice) → Chosen c → ℕ
 byte_of Accesses x = access_byte x
+byte_of Standings x = standing_byte x
 byte_of Levels level.Nothing = 0
 byte_of Levels level.Read = 1
 byte_of Levels level.Edit = 2
@@ -92,6 +100,10 @@ of_byte Accesses (suc (suc (suc zero))) = Some (record { access = access.Control
 of_byte Accesses (suc (suc (suc (suc zero)))) = Some (record { access = access.Private; hierarchy = false })
 of_byte Accesses (suc (suc (suc (suc (suc zero))))) = Some (record { access = access.Read; hierarchy = false })
 of_byte Accesses (suc (suc (suc (suc (suc (suc zero)))))) = Some (record { access = access.ReadWrite; hierarchy = false })
+of_byte Standings zero = Some (record { admin = false; active = true })
+of_byte Standings (suc zero) = Some (record { admin = true; active = true })
+of_byte Standings (suc (suc zero)) = Some (record { admin = false; active = false })
+of_byte Standings (suc (suc (suc zero))) = Some (record { admin = true; active = false })
 of_byte Levels (suc zero) = Some level.Read
 of_byte Levels (suc (suc zero)) = Some level.Edit
 of_byte Phases zero = Some phase.Copy

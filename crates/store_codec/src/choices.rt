@@ -1,7 +1,7 @@
 //! Names of one byte, and the flags of a field.
 
 ghost use Rattle.std.specs.Prelude.{IsTrue};
-ghost use Rattle.store_codec.specs.Choices.{Accesses, Levels, Phases, Outcomes, States, Deletes, choice, choice_at, is_spelled, flags, flags_at};
+ghost use Rattle.store_codec.specs.Choices.{Accesses, Standings, Levels, Phases, Outcomes, States, Deletes, choice, choice_at, is_spelled, flags, flags_at};
 
 use crate::fail::CodecFail;
 use crate::part::Part;
@@ -49,6 +49,41 @@ impl Part for ObjectAccess {
             _ => return Err(CodecFail::Damaged),
         };
         Ok((ObjectAccess { access, hierarchy }, rest))
+    }
+}
+
+/// Whether a user administers the organisation, and whether the user is active.
+#[derive(Clone, Copy, Debug, PartialEq, Eq)]
+pub struct UserStanding {
+    /// Whether the user administers the organisation.
+    pub admin: bool,
+    /// Whether the user is active.
+    pub active: bool,
+}
+
+impl Part for UserStanding {
+    ghost spell = { choice Standings };
+
+    ghost Fits = { λ x. IsTrue (is_spelled Standings x) };
+
+    ghost reads = { choice_at Standings };
+
+    fn put(&self, out: &mut Vec<u8>) -> Result<(), AllocError> {
+        let admin = u8::from(self.admin);
+        out.push(if self.active { admin } else { admin + 2 })?;
+        Ok(())
+    }
+
+    #[tactic(auto, unfolding(crate::specs::Choices::choice_at))]
+    fn take(_: Global, bytes: &[u8]) -> Result<(UserStanding, &[u8]), CodecFail> {
+        let (admin, active, rest) = match bytes {
+            [0, rest @ ..] => (false, true, rest),
+            [1, rest @ ..] => (true, true, rest),
+            [2, rest @ ..] => (false, false, rest),
+            [3, rest @ ..] => (true, false, rest),
+            _ => return Err(CodecFail::Damaged),
+        };
+        Ok((UserStanding { admin, active }, rest))
     }
 }
 

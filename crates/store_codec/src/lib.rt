@@ -17,7 +17,7 @@ mod part;
 mod texts;
 mod types;
 
-pub use crate::choices::{FieldFlags, ObjectAccess};
+pub use crate::choices::{FieldFlags, ObjectAccess, UserStanding};
 pub use crate::fail::CodecFail;
 pub use crate::laws::shape_laws;
 pub use crate::lists::Slots;

@@ -1,6 +1,6 @@
 -- The forms of rows, by tables.
 use Rattle.std.specs.Prelude.{refl}
-use Rattle.store_codec.specs.Choices.{Accesses, Levels, Phases, Outcomes, States}
+use Rattle.store_codec.specs.Choices.{Accesses, Standings, Levels, Phases, Outcomes, States}
 use Rattle.store_codec.specs.Composed.{slot_count}
 use Rattle.store_codec.specs.Shapes.{Nothing, Number8, Number16, Number32, Number64, Signed64, Characters, Identity, Truth, Fixed, Named, Ordered, OneOf, Flags, Typed, Sourced, Maybe, Many, Times, Both}
 use Rattle.store_rows.specs.Forms.{Form}
@@ -112,10 +112,10 @@ abbrev pub user_form : Form UserRow
 user_form = record {
   table = 5;
   key = marked 0 Identity;
-  rest = Both Characters (Both (Fixed 32) (Both (Maybe Identity) Truth));
+  rest = Both Characters (Both (Fixed 32) (Both (Maybe Identity) (OneOf Standings)));
   keyed = λ u. (u.org, (tt, u.id));
-  rested = λ u. (u.name, (u.digest, (u.role, u.admin)));
-  make = λ (org, (mark, id)) (name, (digest, (role, admin))). record { org = org; id = id; name = name; digest = digest; role = role; admin = admin };
+  rested = λ u. (u.name, (u.digest, (u.role, record { admin = u.admin; active = u.active })));
+  make = λ (org, (mark, id)) (name, (digest, (role, standing))). record { org = org; id = id; name = name; digest = digest; role = role; admin = standing.admin; active = standing.active };
   named = λ (org, (mark, id)). User org id;
   keyed_made = λ k r. refl;
   rested_made = λ k r. refl;

@@ -51,4 +51,6 @@ pub use crate::unique::UniqueRow;
 pub use crate::user::UserRow;
 pub use crate::validation::ValidationRow;
 pub use crate::version::VersionRow;
-pub use store_codec::{CodecFail, FieldFlags, Mark, ObjectAccess, Part, Slots, spelling_of};
+pub use store_codec::{
+    CodecFail, FieldFlags, Mark, ObjectAccess, Part, Slots, UserStanding, spelling_of,
+};

@@ -4,7 +4,7 @@ ghost use Rattle.store_rows.specs.Rows.{user_form};
 use crate::form::RowForm;
 use base_value::{Id, Text};
 use std::alloc::{AllocError, Global};
-use store_codec::{CodecFail, Mark, Part, both_of};
+use store_codec::{CodecFail, Mark, Part, UserStanding, both_of};
 
 /// A row of table 5: a user of an organisation.
 #[derive(Drop)]
@@ -21,6 +21,8 @@ pub struct UserRow {
     pub role: Option<Id>,
     /// Whether the user administers the organisation.
     pub admin: bool,
+    /// Whether the user is active.
+    pub active: bool,
 }
 
 impl RowForm for UserRow {
@@ -44,22 +46,27 @@ impl RowForm for UserRow {
         self.name.put(out)?;
         self.digest.put(out)?;
         self.role.put(out)?;
-        self.admin.put(out)
+        let standing = UserStanding {
+            admin: self.admin,
+            active: self.active,
+        };
+        standing.put(out)
     }
 
     fn of_parts(alloc: Global, key: &[u8], row: &[u8]) -> Result<UserRow, CodecFail> {
-        let (key, rest) = both_of::<Self::Key, (Text, ([u8; 32], (Option<Id>, bool)))>(
+        let (key, rest) = both_of::<Self::Key, (Text, ([u8; 32], (Option<Id>, UserStanding)))>(
             alloc, key, row,
         )?;
         let (org, (_, id)) = key;
-        let (name, (digest, (role, admin))) = rest;
+        let (name, (digest, (role, standing))) = rest;
         Ok(UserRow {
             org,
             id,
             name,
             digest,
             role,
-            admin,
+            admin: standing.admin,
+            active: standing.active,
         })
     }
 

@@ -4,7 +4,7 @@ use crate::line::first_of;
 use api::{Routes, query_text};
 use base_value::Text;
 use http::Method;
-use model::{Route, Routed};
+use model_requests::{Route, Routed};
 use std::alloc::{AllocError, Global};
 
 // The texts of a route, in order.
@@ -24,6 +24,10 @@ fn texts(route: &Route) -> [&str; 3] {
         | Route::Delete {
             object: one,
             key: two,
+        }
+        | Route::RemoveValidationRule {
+            object: one,
+            name: two,
         }
         | Route::Unshare { item: one, to: two } => [one.as_str(), two.as_str(), ""],
         Route::Upsert { object, key, value } => [object.as_str(), key.as_str(), value.as_str()],

@@ -84,6 +84,7 @@ impl HasFields for UserRow {
         answer.bytes("digest", &self.digest);
         answer.some_id("role", &self.role);
         answer.word("admin", &self.admin);
+        answer.word("active", &self.active);
     }
 }
 

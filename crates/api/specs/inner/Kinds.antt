@@ -1,10 +1,10 @@
 -- The lines of the table: a method, a place, and the kind of the request.
 use Rattle.std.specs.Prelude.{ℕ, cond, ◌&&◌, List, [], ◌∷◌, bytes_eq, codes, Option, Some, None}
-use Rattle.model.specs.declared.route.Route.{Route}
-use Rattle.model.specs.declared.route.Route.TheVariants as route
-use Rattle.model.specs.declared.routed.Routed.{Routed}
-use Rattle.model.specs.declared.routed.Routed.TheVariants.{To, NotAllowed}
-use Rattle.model.specs.Routing as model
+use Rattle.model_requests.specs.declared.route.Route.{Route}
+use Rattle.model_requests.specs.declared.route.Route.TheVariants as route
+use Rattle.model_requests.specs.declared.routed.Routed.{Routed}
+use Rattle.model_requests.specs.declared.routed.Routed.TheVariants.{To, NotAllowed}
+use Rattle.model_requests.specs.Routing as model
 use Rattle.api.specs.router.Ways.{same_pieces}
 use Rattle.api.specs.declared.kind.Kind.{Kind}
 use Rattle.api.specs.declared.kind.Kind.TheVariants as kind
@@ -25,6 +25,7 @@ made_with kind.AddObject q a b c = route.AddObject
 made_with kind.SetObject q a b c = route.SetObject a
 made_with kind.AddField q a b c = route.AddField
 made_with kind.AddValidationRule q a b c = route.AddValidationRule
+made_with kind.RemoveValidationRule q a b c = route.RemoveValidationRule a b
 made_with kind.AddSharingRule q a b c = route.AddSharingRule
 made_with kind.RemoveSharingRule q a b c = route.RemoveSharingRule a
 made_with kind.AddUser q a b c = route.AddUser
@@ -60,6 +61,7 @@ kind_lines =
     ∷ kind_line (codes "PATCH") place.ObjectNamed kind.SetObject
     ∷ kind_line (codes "POST") place.Fields kind.AddField
     ∷ kind_line (codes "POST") place.ValidationRules kind.AddValidationRule
+    ∷ kind_line (codes "DELETE") place.ValidationRule kind.RemoveValidationRule
     ∷ kind_line (codes "POST") place.SharingRules kind.AddSharingRule
     ∷ kind_line (codes "DELETE") place.SharingRule kind.RemoveSharingRule
     ∷ kind_line (codes "POST") place.Users kind.AddUser

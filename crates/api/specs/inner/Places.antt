@@ -31,6 +31,7 @@ pieces_of place.Objects = in_admin (text (codes "objects") ∷ [])
 pieces_of place.ObjectNamed = in_admin (text (codes "objects") ∷ param ∷ [])
 pieces_of place.Fields = in_admin (text (codes "fields") ∷ [])
 pieces_of place.ValidationRules = in_admin (text (codes "validation-rules") ∷ [])
+pieces_of place.ValidationRule = in_admin (text (codes "validation-rules") ∷ param ∷ param ∷ [])
 pieces_of place.SharingRules = in_admin (text (codes "sharing-rules") ∷ [])
 pieces_of place.SharingRule = in_admin (text (codes "sharing-rules") ∷ param ∷ [])
 pieces_of place.Users = in_admin (text (codes "users") ∷ [])
@@ -75,14 +76,15 @@ route_of p = (
 abbrev pub places : List Place
 places =
     place.Query ∷ place.Object ∷ place.Record ∷ place.External ∷ place.Shares ∷ place.Share
-    ∷ place.Objects ∷ place.ObjectNamed ∷ place.Fields ∷ place.ValidationRules ∷ place.SharingRules ∷ place.SharingRule
+    ∷ place.Objects ∷ place.ObjectNamed ∷ place.Fields ∷ place.ValidationRules ∷ place.ValidationRule
+    ∷ place.SharingRules ∷ place.SharingRule
     ∷ place.Users ∷ place.User ∷ place.Roles ∷ place.Role ∷ place.Groups ∷ place.Group ∷ place.Retype ∷ []
 
 -- in the order of a router: byte by byte, and a longer pattern before one that is its beginning
 abbrev pub ordered_places : List Place
 ordered_places =
     place.Fields ∷ place.Group ∷ place.Groups ∷ place.ObjectNamed ∷ place.Objects ∷ place.Retype ∷ place.Role ∷ place.Roles
-    ∷ place.SharingRule ∷ place.SharingRules ∷ place.User ∷ place.Users ∷ place.ValidationRules
+    ∷ place.SharingRule ∷ place.SharingRules ∷ place.User ∷ place.Users ∷ place.ValidationRule ∷ place.ValidationRules
     ∷ place.Query ∷ place.Share ∷ place.Shares ∷ place.External ∷ place.Record ∷ place.Object ∷ []
 
 unfoldable pub patterns : List (List ℕ × Place)

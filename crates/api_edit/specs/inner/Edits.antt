@@ -9,11 +9,11 @@ use Rattle.store_rows.specs.declared.fail.StoreFail.TheVariants.{Damaged, Memory
 use Rattle.model.specs.declared.refusal.Refusal.{Refusal}
 use Rattle.model.specs.declared.refusal.Refusal.TheVariants.{BodyForm}
 use Rattle.model.specs.declared.reply.Reply.{Reply}
-use Rattle.model.specs.declared.route.Route.{Route}
-use Rattle.model.specs.declared.route.Route.TheVariants.{AddGroup, AddRole, AddUser, Create, Upsert}
+use Rattle.model_requests.specs.declared.route.Route.{Route}
+use Rattle.model_requests.specs.declared.route.Route.TheVariants.{AddGroup, AddRole, AddUser, Create, Upsert}
 use Rattle.model.specs.Paths.{Asked}
 use Rattle.model.specs.Replies.{json_reply, made_members}
-use Rattle.model.specs.Requests.{Request}
+use Rattle.model_requests.specs.Requests.{Request}
 use Rattle.model.specs.RowsJson.{member_json, object_json}
 use Rattle.model.specs.Step.{refusal_reply}
 use Rattle.model.specs.Tenant.{Tenant}

@@ -12,7 +12,7 @@ use Rattle.model.specs.declared.record_bodies.Assignment.{Assignment}
 use Rattle.model.specs.Cases.{in_case}
 use Rattle.model.specs.Objects.{Numbered, object_named}
 use Rattle.model.specs.Paths.{Asked}
-use Rattle.model.specs.Requests.{Request, creates, upserts, verdict_on}
+use Rattle.model_requests.specs.Requests.{Request, creates, upserts, verdict_on}
 use Rattle.model.specs.Tenant.{Tenant}
 use Rattle.model.specs.Verdict.{Verdict}
 use Rattle.access_traits.specs.Rights.{Whose}
@@ -20,7 +20,7 @@ use Rattle.store_abstraction.specs.Local.{StandsFor, StandsIn}
 use Rattle.store_abstraction.specs.Plan.{OrgPlan}
 use Rattle.store_abstraction.specs.declared.fail.EditFail.{EditFail}
 use Rattle.store_abstraction.specs.declared.fail.EditFail.TheVariants.{Refused, Store}
-use Rattle.model_step.specs.Own.{IsAsking}
+use Rattle.model.specs.Asker.{IsAsking}
 use Rattle.record_save.specs.declared.upsert.upsert.Upserted.{Upserted}
 
 -- ---- the request

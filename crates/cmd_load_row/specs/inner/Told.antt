@@ -14,7 +14,7 @@ use Rattle.store_abstraction.specs.declared.fail.EditFail.{EditFail}
 use Rattle.store_abstraction.specs.declared.fail.EditFail.TheVariants.{Refused, Store}
 use Rattle.store_abstraction.specs.declared.judged.Judged.{Judged}
 use Rattle.store_abstraction.specs.declared.judged.Judged.TheVariants.{Changed, Same}
-use Rattle.model_step.specs.Step.{asking}
+use Rattle.model.specs.Asker.{asking}
 use Rattle.record_save.specs.declared.upsert.upsert.Upserted.{Upserted}
 use Rattle.cmd_load_row.specs.Loads.{row_does}
 use Rattle.cmd_load_row.specs.inner.Edits.{AsksBy}

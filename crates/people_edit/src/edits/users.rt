@@ -76,6 +76,7 @@ impl Edit for AddUser<'_> {
             digest: digest_of(new.secret.as_str()),
             role: drawn.role,
             admin: new.admin,
+            active: true,
         };
         two_rows(alloc, &drawn, &user)
     }

@@ -11,7 +11,7 @@ use Rattle.model.specs.Cases.{in_case, with_before}
 use Rattle.model.specs.RowsJson.{children_json, item_member, member_json, row_within}
 use Rattle.store_abstraction.specs.Layouts.{own_layouts}
 use Rattle.store_abstraction.specs.declared.layout.Layout.{Layout}
-use Rattle.model_step.specs.Flat.{has_one_name}
+use Rattle.model.specs.Flat.{has_one_name}
 use Rattle.query_plan.specs.declared.paths.branches.Branch.{Branch}
 use Rattle.query_plan.specs.declared.paths.children.ChildStep.{ChildStep}
 use Rattle.query_plan.specs.declared.plan.Child.{Child}

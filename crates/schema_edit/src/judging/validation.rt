@@ -3,7 +3,8 @@
 ghost use Rattle.std.specs.Prelude.{◌≡◌, ◌∷◌, [], ◌≢◌, ◌≤◌, IfErr, IfOk, Ok, false, length};
 ghost use Rattle.std.specs.Str.{chars};
 ghost use Rattle.store_rows.specs.declared.fail.StoreFail.TheVariants.{Keeper, Memory};
-ghost use Rattle.schema_edit.specs.inner.RuleRows.{IsRuled, busy_by};
+ghost use Rattle.schema_edit.specs.inner.RuleReads.{IsRuled};
+ghost use Rattle.schema_edit.specs.inner.RuleRows.{busy_by};
 ghost use Rattle.model.specs.Names.{bad_name, is_stem};
 ghost use Rattle.model.specs.Objects.{Numbered};
 ghost use Rattle.model.specs.RuleFormulas.{formula_of, is_copy, malformed};
@@ -96,7 +97,7 @@ pub(crate) fn judge_rule(
     rules: u8,
     new: &NewValidationRule,
 ) -> Result<Option<Refusal>, StoreFail>
-    ensures judged { (t : Tenant) (o : Numbered) → IsRuled t o layout.now is_taken rules new.now
+    ensures judged { (t : Tenant) (o : Numbered) → IsRuled t o layout.now is_taken rules new.now.name
         → IfOk result (λ rule. rule ≡ first_refusal (new_validation_rule_rules t o new.now)) }
     ensures damaged { length layout.now.fields ≤ 40 → IfErr result (λ e. e ≡ Memory) }
     ensures cause { IfErr result (λ e. e ≢ Keeper) }

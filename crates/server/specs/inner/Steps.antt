@@ -6,8 +6,8 @@ use Rattle.model.specs.declared.caller.Caller.{Caller}
 use Rattle.model.specs.declared.reply.Reply.{Reply}
 use Rattle.model.specs.Paths.{Asked}
 use Rattle.model.specs.Replies.{reply_of}
-use Rattle.model.specs.RequestOf.{verdict_at}
-use Rattle.model.specs.Routing.{routed}
+use Rattle.model_requests.specs.RequestOf.{verdict_at}
+use Rattle.model_requests.specs.Routing.{routed}
 use Rattle.model.specs.Step.{Message}
 use Rattle.model.specs.Tenant.{Tenant, User}
 use Rattle.model.specs.Verdict.{Verdict}
@@ -16,8 +16,8 @@ use Rattle.store_abstraction.specs.declared.judged.Judged.{Judged}
 use Rattle.store_abstraction.specs.Local.{KeepsOthers, StandsFor, StandsIn}
 use Rattle.store_abstraction.specs.Operations.{IsChange, Judges}
 use Rattle.store_abstraction.specs.Plan.{OrgPlan}
-use Rattle.model_step.specs.Own.{IsAsking}
-use Rattle.model_step.specs.Step.{asking}
+use Rattle.model.specs.Asker.{IsAsking}
+use Rattle.model.specs.Asker.{asking}
 use Rattle.server.specs.Own.{bytes_of}
 use Rattle.server.specs.Requests.{in_bytes}
 

@@ -4,14 +4,14 @@ use Rattle.std.specs.Prelude.{FitsSigned}
 use Rattle.base_grammar.specs.Place.{UnlessMemory}
 use Rattle.base_grammar.specs.declared.fail.ParseFail.{ParseFail}
 use Rattle.soql.specs.declared.query.Query.{Query}
-use Rattle.model.specs.RequestOf.{query_or, verdict_or}
+use Rattle.model_requests.specs.RequestOf.{query_or, verdict_or}
 use Rattle.model.specs.declared.refusal.Refusal.TheVariants.{MalformedQuery}
 use Rattle.model.specs.Step.{query_text}
 use Rattle.soql.specs.grammar.Spelling.{reads_query}
 use Rattle.store_kv.specs.Draft.{removals_of}
 use Rattle.store_kv.specs.State.{data_table}
 use Rattle.store_abstraction.specs.Calls.{Calls, ended}
-use Rattle.model_step.specs.Shown.{further_to, shown_beside}
+use Rattle.model.specs.Shown.{further_to, shown_beside}
 use Rattle.api.specs.inner.Answers.{AnswersBy}
 use Rattle.api.proofs.Refusing.{answers_by, refused_so}
 use Rattle.api.proofs.asking.answer_query.Goals as goal

@@ -1,14 +1,15 @@
 use Rattle.std.proofs.Common.{◌∙◌, ap, sym, subst, arith}
 use Rattle.store_kv.specs.Draft.{removals_of, tables_of}
 use Rattle.store_kv.specs.State.{data_table}
-use Rattle.model.specs.RequestOf.{request_of, verdict_at}
+use Rattle.model_requests.specs.RequestOf.{request_of, verdict_at}
 use Rattle.model.specs.declared.refusal.Refusal.TheVariants.{AdminRequired}
-use Rattle.model.specs.declared.route.Route.{Route}
-use Rattle.model.specs.declared.route.Route.TheVariants.{Query}
-use Rattle.model.specs.declared.routed.Routed.TheVariants.{To}
+use Rattle.model_requests.specs.declared.route.Route.{Route}
+use Rattle.model_requests.specs.declared.route.Route.TheVariants.{Query}
+use Rattle.model_requests.specs.declared.routed.Routed.TheVariants.{To}
 use Rattle.model.specs.Verdict.{Verdict}
-use Rattle.model_step.specs.Own.{IsAsking}
-use Rattle.model_step.specs.Shown.{further_shown, shown_beside}
+use Rattle.model.specs.Asker.{IsAsking}
+use Rattle.model_requests.specs.FurtherShown.{further_shown}
+use Rattle.model.specs.Shown.{shown_beside}
 use Rattle.api.specs.inner.Answers.{AnswersBy}
 use Rattle.api.proofs.Refusing.{refused_so}
 use Rattle.api.proofs.Responses.{drafts_of, form_of, read_responds, refused_calls}

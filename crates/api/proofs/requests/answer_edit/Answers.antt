@@ -6,12 +6,13 @@ use Rattle.store_kv.specs.Draft.{tables_of}
 use Rattle.store_kv.specs.Tables.{Tables}
 use Rattle.store_rows.specs.declared.fail.StoreFail.{StoreFail}
 use Rattle.model.specs.Paths.{Asked}
-use Rattle.model.specs.RequestOf.{request_of, verdict_or}
+use Rattle.model_requests.specs.RequestOf.{request_of, verdict_or}
 use Rattle.model.specs.Verdict.{Verdict}
 use Rattle.access_traits.specs.Rights.{Whose}
 use Rattle.store_abstraction.specs.Calls.{Calls, ended}
 use Rattle.store_abstraction.specs.Operations.{Responds}
-use Rattle.model_step.specs.Own.{IsAsking, edit_shown, request_changes, request_gone}
+use Rattle.model.specs.Asker.{IsAsking}
+use Rattle.model.specs.Bounds.{edit_shown, request_changes, request_gone}
 use Rattle.api.proofs.Rights.{after_rights, failed_drafts, from_rights, no_rights, with_rights}
 use Rattle.api.proofs.requests.answer_edit.Goals as goal
 

@@ -2,14 +2,16 @@ use Rattle.std.proofs.Common.{◌∙◌, sym, subst, arith}
 use Rattle.std.specs.Prelude.{IfOk}
 use Rattle.store_kv.specs.Draft.{removals_of, tables_of}
 use Rattle.store_kv.specs.State.{data_table}
-use Rattle.model.specs.RequestOf.{verdict_at}
+use Rattle.model_requests.specs.RequestOf.{verdict_at}
 use Rattle.model.specs.declared.refusal.Refusal.TheVariants as refusal
-use Rattle.model.specs.declared.routed.Routed.{Routed}
+use Rattle.model_requests.specs.declared.routed.Routed.{Routed}
 use Rattle.store_abstraction.specs.Operations.{Drafts, Responds}
 use Rattle.std.specs.Str.{chars}
-use Rattle.model.specs.Routing.{routed}
-use Rattle.model_step.specs.Own.{IsAsking, request_changes, request_gone}
-use Rattle.model_step.specs.Shown.{further_shown, shown_beside}
+use Rattle.model_requests.specs.Routing.{routed}
+use Rattle.model.specs.Asker.{IsAsking}
+use Rattle.model.specs.Bounds.{request_changes, request_gone}
+use Rattle.model_requests.specs.FurtherShown.{further_shown}
+use Rattle.model.specs.Shown.{shown_beside}
 use Rattle.api.specs.Forms.{IsRequestReply}
 use Rattle.api.proofs.Refusing.{refused_so}
 use Rattle.api.proofs.Responses.{drafts_of, form_of, read_responds, refused_calls}

@@ -1,6 +1,7 @@
 use Rattle.std.proofs.Common.{List, subst, sym, ℕ}
 use Rattle.std.specs.Str.{chars}
-use Rattle.model.specs.Verdict.{accept, state_of}
+use Rattle.model.specs.Retyping.{state_of}
+use Rattle.model.specs.Verdict.{accept}
 use Rattle.api_output.specs.States.{IsStateOf}
 use Rattle.api.proofs.Changing.{no_memory, parts_of, state_replied}
 use Rattle.api.proofs.retyping.state_reply.Goals as goal
@@ -13,4 +14,4 @@ returns-in-Ok-clause-value c a j is =
     state_replied a j c.in-Ok.body (c.in-Ok.ensures a.tenant j both)
 
 pub returns-in-Err-clause-value : goal.returns-in-Err-clause-value
-returns-in-Err-clause-value c a j is = no_memory a (accept (state_of j) a.tenant)
+returns-in-Err-clause-value c a j is = no_memory a (accept (state_of a.tenant j) a.tenant)

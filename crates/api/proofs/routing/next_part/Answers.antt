@@ -1,7 +1,7 @@
 use Rattle.std.proofs.Common.{map, ap, sym, ◌∙◌}
 use Rattle.std.proofs.lemmas.Str.{chars-nil}
 use Rattle.std.specs.Str.{chars}
-use Rattle.model.specs.Routing as model
+use Rattle.model_requests.specs.Routing as model
 use Rattle.api.specs.inner.Places.{taken}
 use Rattle.api.proofs.Parts.{none-left}
 use Rattle.api.proofs.routing.next_part.Goals as goal

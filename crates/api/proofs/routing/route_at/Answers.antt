@@ -1,7 +1,7 @@
 use Rattle.std.proofs.Common.{ℕ, List, map, drop, ap, sym, ◌∙◌, subst}
 use Rattle.std.specs.Str.{chars}
-use Rattle.model.specs.declared.routed.Routed.TheVariants.{To}
-use Rattle.model.specs.Routing.{part}
+use Rattle.model_requests.specs.declared.routed.Routed.TheVariants.{To}
+use Rattle.model_requests.specs.Routing.{part}
 use Rattle.api.specs.router.Cuts.{AllUtf8}
 use Rattle.api.specs.inner.Kinds.{routed_at}
 use Rattle.api.specs.inner.Places.{taken}

@@ -1,7 +1,7 @@
 use Rattle.std.proofs.Common.{sym, subst}
-use Rattle.model.specs.RequestOf.{request_of}
-use Rattle.model.specs.Requests.{adds_field}
-use Rattle.model.specs.declared.route.Route.TheVariants.{AddField}
+use Rattle.model_requests.specs.RequestOf.{request_of}
+use Rattle.model_requests.specs.Requests.{adds_field}
+use Rattle.model_requests.specs.declared.route.Route.TheVariants.{AddField}
 use Rattle.api_edit.specs.inner.Edits.{Asks}
 use Rattle.api_edit.proofs.Asked.{asks_field}
 use Rattle.api_edit.proofs.bodies.field_in.Goals as goal

@@ -1,7 +1,7 @@
 use Rattle.std.proofs.Common.{sym, subst}
-use Rattle.model.specs.RequestOf.{request_of}
-use Rattle.model.specs.Requests.{sets_group}
-use Rattle.model.specs.declared.route.Route.TheVariants.{SetGroup}
+use Rattle.model_requests.specs.RequestOf.{request_of}
+use Rattle.model_requests.specs.Requests.{sets_group}
+use Rattle.model_requests.specs.declared.route.Route.TheVariants.{SetGroup}
 use Rattle.api_edit.specs.inner.Edits.{Asks}
 use Rattle.api_edit.proofs.Asked.{asks_members}
 use Rattle.api_edit.proofs.bodies.members_in.Goals as goal

@@ -1,7 +1,7 @@
 use Rattle.std.proofs.Common.{sym, subst}
 use Rattle.api_input.specs.Bodies.{sets_role_parent}
-use Rattle.model.specs.RequestOf.{request_of}
-use Rattle.model.specs.declared.route.Route.TheVariants.{SetRole}
+use Rattle.model_requests.specs.RequestOf.{request_of}
+use Rattle.model_requests.specs.declared.route.Route.TheVariants.{SetRole}
 use Rattle.api_edit.specs.inner.Edits.{Asks}
 use Rattle.api_edit.proofs.Asked.{asks_parent}
 use Rattle.api_edit.proofs.bodies.parent_in.Goals as goal

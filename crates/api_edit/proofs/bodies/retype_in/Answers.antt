@@ -1,7 +1,7 @@
 use Rattle.std.proofs.Common.{sym, subst}
 use Rattle.api_input.specs.Bodies.{begins_new_retype}
-use Rattle.model.specs.RequestOf.{request_of}
-use Rattle.model.specs.declared.route.Route.TheVariants.{BeginRetype}
+use Rattle.model_requests.specs.RequestOf.{request_of}
+use Rattle.model_requests.specs.declared.route.Route.TheVariants.{BeginRetype}
 use Rattle.api_edit.specs.inner.Edits.{Asks}
 use Rattle.api_edit.proofs.Asked.{asks_retype}
 use Rattle.api_edit.proofs.bodies.retype_in.Goals as goal

@@ -1,7 +1,7 @@
 use Rattle.std.proofs.Common.{sym, subst}
 use Rattle.api_input.specs.Bodies.{adds_new_role}
-use Rattle.model.specs.RequestOf.{request_of}
-use Rattle.model.specs.declared.route.Route.TheVariants.{AddRole}
+use Rattle.model_requests.specs.RequestOf.{request_of}
+use Rattle.model_requests.specs.declared.route.Route.TheVariants.{AddRole}
 use Rattle.api_edit.specs.inner.Edits.{Asks}
 use Rattle.api_edit.proofs.Asked.{asks_role}
 use Rattle.api_edit.proofs.bodies.role_in.Goals as goal

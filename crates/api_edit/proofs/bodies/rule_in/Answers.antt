@@ -1,7 +1,7 @@
 use Rattle.std.proofs.Common.{sym, subst}
-use Rattle.model.specs.RequestOf.{request_of}
-use Rattle.model.specs.Requests.{adds_validation_rule}
-use Rattle.model.specs.declared.route.Route.TheVariants.{AddValidationRule}
+use Rattle.model_requests.specs.RequestOf.{request_of}
+use Rattle.model_requests.specs.Requests.{adds_validation_rule}
+use Rattle.model_requests.specs.declared.route.Route.TheVariants.{AddValidationRule}
 use Rattle.api_edit.specs.inner.Edits.{Asks}
 use Rattle.api_edit.proofs.Asked.{asks_rule}
 use Rattle.api_edit.proofs.bodies.rule_in.Goals as goal

@@ -1,7 +1,7 @@
 use Rattle.std.proofs.Common.{sym, subst}
-use Rattle.model.specs.RequestOf.{request_of}
-use Rattle.model.specs.Requests.{shares}
-use Rattle.model.specs.declared.route.Route.TheVariants.{Share}
+use Rattle.model_requests.specs.RequestOf.{request_of}
+use Rattle.model_requests.specs.Requests.{shares}
+use Rattle.model_requests.specs.declared.route.Route.TheVariants.{Share}
 use Rattle.api_edit.specs.inner.Edits.{Asks}
 use Rattle.api_edit.proofs.Asked.{asks_share}
 use Rattle.api_edit.proofs.bodies.share_in.Goals as goal

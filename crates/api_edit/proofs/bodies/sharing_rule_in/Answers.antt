@@ -1,7 +1,7 @@
 use Rattle.std.proofs.Common.{sym, subst}
-use Rattle.model.specs.RequestOf.{request_of}
-use Rattle.model.specs.Requests.{adds_sharing_rule}
-use Rattle.model.specs.declared.route.Route.TheVariants.{AddSharingRule}
+use Rattle.model_requests.specs.RequestOf.{request_of}
+use Rattle.model_requests.specs.Requests.{adds_sharing_rule}
+use Rattle.model_requests.specs.declared.route.Route.TheVariants.{AddSharingRule}
 use Rattle.api_edit.specs.inner.Edits.{Asks}
 use Rattle.api_edit.proofs.Asked.{asks_sharing_rule}
 use Rattle.api_edit.proofs.bodies.sharing_rule_in.Goals as goal

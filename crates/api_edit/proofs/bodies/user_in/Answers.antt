@@ -1,10 +1,10 @@
 use Rattle.std.proofs.Common.{sym, subst}
 use Rattle.std.specs.Prelude.{IfOk, IsTrue}
 use Rattle.model.specs.Organisations.{is_secret}
-use Rattle.model.specs.RequestOf.{request_of}
-use Rattle.model.specs.Requests.{adds_user}
+use Rattle.model_requests.specs.RequestOf.{request_of}
+use Rattle.model_requests.specs.Requests.{adds_user}
 use Rattle.model.specs.declared.people_bodies.NewUser.{NewUser}
-use Rattle.model.specs.declared.route.Route.TheVariants.{AddUser}
+use Rattle.model_requests.specs.declared.route.Route.TheVariants.{AddUser}
 use Rattle.api_edit.specs.inner.Edits.{Asks}
 use Rattle.api_edit.proofs.Asked.{asks_user, has_secret}
 use Rattle.api_edit.proofs.bodies.user_in.Goals as goal

@@ -3,7 +3,7 @@ use Rattle.std.specs.Prelude.{IfOk}
 use Rattle.api_edit.specs.inner.Edits.{Asks}
 use Rattle.api_input.specs.Bodies.{request_in, values_request}
 use Rattle.record_input.specs.Given.{IsInJson}
-use Rattle.model.specs.RequestOf.{request_or}
+use Rattle.model_requests.specs.RequestOf.{request_or}
 use Rattle.api_edit.proofs.Asked.{asks_values}
 use Rattle.api_edit.proofs.Values.{given_json}
 use Rattle.api_edit.proofs.bodies.values_in.Goals as goal

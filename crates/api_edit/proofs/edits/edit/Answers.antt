@@ -2,10 +2,10 @@ use Rattle.std.proofs.Common.{List, ℕ, ap, arith, refl, subst, sym}
 use Rattle.base_lemmas.proofs.Results.{err_from_parts as returned}
 use Rattle.store_kv.specs.Draft.{tables_of}
 use Rattle.model.specs.Metadata.{set_access}
-use Rattle.model.specs.RequestOf.{request_of, verdict_or}
-use Rattle.model.specs.Requests.{adds_field, adds_object, adds_validation_rule, sets_object}
+use Rattle.model_requests.specs.RequestOf.{request_of, verdict_or}
+use Rattle.model_requests.specs.Requests.{adds_field, adds_object, adds_validation_rule, sets_object}
 use Rattle.model.specs.Verdict.{done}
-use Rattle.model.specs.declared.route.Route.TheVariants.{AddField, AddGroup, AddObject, AddRole, AddSharingRule, AddUser, AddValidationRule, BeginRetype, CancelRetype, RemoveSharingRule, SetGroup, SetObject, SetRole, SetUser, Share, Unshare}
+use Rattle.model_requests.specs.declared.route.Route.TheVariants.{AddField, AddGroup, AddObject, AddRole, AddSharingRule, AddUser, AddValidationRule, BeginRetype, CancelRetype, RemoveSharingRule, RemoveValidationRule, SetGroup, SetObject, SetRole, SetUser, Share, Unshare}
 use Rattle.api_edit.specs.Administration.{AsksWith}
 use Rattle.api_edit.specs.declared.answer.Answer.TheVariants as answer
 use Rattle.api_edit.specs.inner.Edits.{Anyone, EditsFrom, HasRights}
@@ -232,6 +232,12 @@ returns-in-RemoveSharingRule-clause-what g c told =
     let caller = c.args.caller.now in
     edits_asked_so caller.org Anyone (AsksWith (g.R.Rights.whose c.args.rights.now) caller c.args.now) (λ a _. tt) c.args.route.now (RemoveSharingRule c.in-RemoveSharingRule.name) c.args.body.now (tables_of g.K.Keeper.state c.args.draft.now) (tables_of g.K.Keeper.state c.removed_sharing_rule.new.draft) c.removed_sharing_rule.result
     c.in-RemoveSharingRule.is (c.removed_sharing_rule.ensures.what told c.args.body.now)
+
+pub returns-in-RemoveValidationRule-clause-what : goal.returns-in-RemoveValidationRule-clause-what
+returns-in-RemoveValidationRule-clause-what g c told =
+    let caller = c.args.caller.now in
+    edits_asked_so caller.org Anyone (AsksWith (g.R.Rights.whose c.args.rights.now) caller c.args.now) (λ a _. tt) c.args.route.now (RemoveValidationRule c.in-RemoveValidationRule.object c.in-RemoveValidationRule.name) c.args.body.now (tables_of g.K.Keeper.state c.args.draft.now) (tables_of g.K.Keeper.state c.removed_validation_rule.new.draft) c.removed_validation_rule.result
+    c.in-RemoveValidationRule.is (c.removed_validation_rule.ensures.what told c.args.body.now)
 
 -- ---- the change of a field's type
 

@@ -2,11 +2,11 @@ use Rattle.std.proofs.Common.{List, arith, ap, refl}
 use Rattle.base_lemmas.proofs.Results.{err_from_parts as returned}
 use Rattle.store_kv.specs.Draft.{tables_of}
 use Rattle.model.specs.People.{set_group}
-use Rattle.model.specs.RequestOf.{request_of}
-use Rattle.model.specs.Requests.{sets_group}
+use Rattle.model_requests.specs.RequestOf.{request_of}
+use Rattle.model_requests.specs.Requests.{sets_group}
 use Rattle.model.specs.declared.people_bodies.Spelled.{Spelled}
 use Rattle.model.specs.Verdict.{done}
-use Rattle.model.specs.declared.route.Route.TheVariants.{SetGroup}
+use Rattle.model_requests.specs.declared.route.Route.TheVariants.{SetGroup}
 use Rattle.api_edit.specs.declared.answer.Answer.TheVariants as answer
 use Rattle.api_edit.specs.inner.Edits.{Anyone}
 use Rattle.api_edit.proofs.Asked.{answers_none, answers_so, drafts_seen, edits_asked, edits_none, none_drafts}

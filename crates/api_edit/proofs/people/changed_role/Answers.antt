@@ -4,9 +4,9 @@ use Rattle.base_lemmas.proofs.Results.{err_from_parts as returned}
 use Rattle.store_kv.specs.Draft.{tables_of}
 use Rattle.api_input.specs.Bodies.{sets_role_parent}
 use Rattle.model.specs.People.{set_role}
-use Rattle.model.specs.RequestOf.{request_of}
+use Rattle.model_requests.specs.RequestOf.{request_of}
 use Rattle.model.specs.Verdict.{done}
-use Rattle.model.specs.declared.route.Route.TheVariants.{SetRole}
+use Rattle.model_requests.specs.declared.route.Route.TheVariants.{SetRole}
 use Rattle.api_edit.specs.declared.answer.Answer.TheVariants as answer
 use Rattle.api_edit.specs.inner.Edits.{Anyone}
 use Rattle.api_edit.proofs.Asked.{answers_none, answers_so, drafts_seen, edits_asked, edits_none, none_drafts}

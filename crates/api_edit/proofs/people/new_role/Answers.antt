@@ -3,9 +3,9 @@ use Rattle.base_lemmas.proofs.Results.{err_from_parts as returned}
 use Rattle.store_kv.specs.Draft.{tables_of}
 use Rattle.api_input.specs.Bodies.{adds_new_role}
 use Rattle.model.specs.People.{add_role}
-use Rattle.model.specs.RequestOf.{request_of}
+use Rattle.model_requests.specs.RequestOf.{request_of}
 use Rattle.model.specs.Verdict.{made_new}
-use Rattle.model.specs.declared.route.Route.TheVariants.{AddRole}
+use Rattle.model_requests.specs.declared.route.Route.TheVariants.{AddRole}
 use Rattle.api_edit.specs.declared.answer.Answer.TheVariants as answer
 use Rattle.api_edit.specs.inner.Edits.{Anyone}
 use Rattle.api_edit.proofs.Asked.{answers_none, answers_so, drafts_seen, edits_asked, edits_none, none_drafts}

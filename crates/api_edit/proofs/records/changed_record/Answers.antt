@@ -4,12 +4,12 @@ use Rattle.std.specs.Prelude.{Err, FitsSigned, Ok}
 use Rattle.base_lemmas.proofs.Results.{err_from_parts as returned}
 use Rattle.record_input.specs.Given.{IsInJson}
 use Rattle.store_kv.specs.Draft.{tables_of}
-use Rattle.model.specs.RequestOf.{request_of}
+use Rattle.model_requests.specs.RequestOf.{request_of}
 use Rattle.model.specs.Updates.{update}
-use Rattle.model.specs.Requests.{updates}
+use Rattle.model_requests.specs.Requests.{updates}
 use Rattle.model.specs.Verdict.{done}
 use Rattle.model.specs.declared.record_bodies.Assignment.{Assignment}
-use Rattle.model.specs.declared.route.Route.TheVariants.{Update}
+use Rattle.model_requests.specs.declared.route.Route.TheVariants.{Update}
 use Rattle.model_invariant.specs.Fit.{ReadsWell}
 use Rattle.api_edit.specs.Administration.{AsksWith}
 use Rattle.api_edit.specs.declared.answer.Answer.TheVariants as answer

@@ -2,9 +2,9 @@ use Rattle.std.proofs.Common.{◌≡◌, ◌∙◌, arith, of_z, pos, refl, rule
 use Rattle.std.proofs.lemmas.Int.{to_z-of_z}
 use Rattle.std.specs.Prelude.{FitsSigned}
 use Rattle.store_kv.specs.Draft.{tables_of}
-use Rattle.model.specs.Requests.{deletes}
+use Rattle.model_requests.specs.Requests.{deletes}
 use Rattle.model.specs.Verdict.{done}
-use Rattle.model.specs.declared.route.Route.TheVariants.{Delete}
+use Rattle.model_requests.specs.declared.route.Route.TheVariants.{Delete}
 use Rattle.api_edit.specs.Administration.{AsksWith}
 use Rattle.api_edit.specs.declared.answer.Answer.TheVariants as answer
 use Rattle.api_edit.proofs.Asked.{answers_so, asks_no_more, drafts_seen, edits_asked}

@@ -4,11 +4,11 @@ use Rattle.std.specs.Prelude.{Err, FitsSigned, Ok}
 use Rattle.base_lemmas.proofs.Results.{err_from_parts as returned}
 use Rattle.store_kv.specs.Draft.{tables_of}
 use Rattle.model.specs.Creates.{create}
-use Rattle.model.specs.RequestOf.{request_of}
-use Rattle.model.specs.Requests.{creates}
+use Rattle.model_requests.specs.RequestOf.{request_of}
+use Rattle.model_requests.specs.Requests.{creates}
 use Rattle.model.specs.Verdict.{made_new}
 use Rattle.model.specs.declared.record_bodies.Assignment.{Assignment}
-use Rattle.model.specs.declared.route.Route.TheVariants.{Create}
+use Rattle.model_requests.specs.declared.route.Route.TheVariants.{Create}
 use Rattle.record_save.specs.Creating.{ReadsFound}
 use Rattle.api_edit.specs.Administration.{AsksWith}
 use Rattle.api_edit.specs.declared.answer.Answer.TheVariants as answer

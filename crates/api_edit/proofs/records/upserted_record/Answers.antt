@@ -4,11 +4,11 @@ use Rattle.std.specs.Prelude.{Err, FitsSigned, Ok}
 use Rattle.base_lemmas.proofs.Results.{err_from_parts as returned}
 use Rattle.store_kv.specs.Draft.{tables_of}
 use Rattle.model.specs.Upserts.{upsert}
-use Rattle.model.specs.RequestOf.{request_of, value_part}
-use Rattle.model.specs.Requests.{upserts}
+use Rattle.model_requests.specs.RequestOf.{request_of, value_part}
+use Rattle.model_requests.specs.Requests.{upserts}
 use Rattle.model.specs.Verdict.{upserted}
 use Rattle.model.specs.declared.record_bodies.Assignment.{Assignment}
-use Rattle.model.specs.declared.route.Route.TheVariants.{Upsert}
+use Rattle.model_requests.specs.declared.route.Route.TheVariants.{Upsert}
 use Rattle.record_save.specs.upsert.Upserting.{ReadsFoundByKey}
 use Rattle.api_edit.specs.Administration.{AsksWith}
 use Rattle.api_edit.specs.inner.Edits.{as_upserted}

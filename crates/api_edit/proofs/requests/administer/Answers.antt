@@ -1,6 +1,6 @@
 use Rattle.store_kv.specs.Draft.{tables_of}
-use Rattle.model_step.specs.Own.{edit_shown, request_changes, request_gone}
-use Rattle.model.specs.RequestOf.{request_of, verdict_or}
+use Rattle.model.specs.Bounds.{edit_shown, request_changes, request_gone}
+use Rattle.model_requests.specs.RequestOf.{request_of, verdict_or}
 use Rattle.api_edit.specs.Administration.{AsksWith}
 use Rattle.api_edit.proofs.Replied as replied
 use Rattle.api_edit.proofs.requests.administer.Goals as goal

@@ -1,8 +1,8 @@
 use Rattle.std.proofs.Common.{arith, refl}
 use Rattle.store_kv.specs.Draft.{tables_of}
-use Rattle.model.specs.Requests.{removes_sharing_rule}
+use Rattle.model_requests.specs.Requests.{removes_sharing_rule}
 use Rattle.model.specs.Verdict.{done}
-use Rattle.model.specs.declared.route.Route.TheVariants.{RemoveSharingRule}
+use Rattle.model_requests.specs.declared.route.Route.TheVariants.{RemoveSharingRule}
 use Rattle.api_edit.specs.declared.answer.Answer.TheVariants as answer
 use Rattle.api_edit.specs.inner.Edits.{Anyone}
 use Rattle.api_edit.proofs.Asked.{answers_so, asks_no_rule, drafts_seen, edits_asked}

@@ -6,14 +6,14 @@ use Rattle.store_kv.specs.Draft.{tables_of}
 use Rattle.store_rows.specs.declared.fail.StoreFail.TheVariants.{Memory}
 use Rattle.model.specs.Members.{principal_in}
 use Rattle.model.specs.Paths.{Asked}
-use Rattle.model.specs.Requests.{unshares}
+use Rattle.model_requests.specs.Requests.{unshares}
 use Rattle.model.specs.Shares.{unshare}
 use Rattle.model.specs.Verdict.{done}
-use Rattle.model.specs.RequestOf.{request_of, verdict_or}
-use Rattle.model.specs.declared.route.Route.TheVariants.{Unshare}
+use Rattle.model_requests.specs.RequestOf.{request_of, verdict_or}
+use Rattle.model_requests.specs.declared.route.Route.TheVariants.{Unshare}
 use Rattle.store_abstraction.specs.declared.fail.EditFail.{EditFail}
 use Rattle.store_abstraction.specs.declared.fail.EditFail.TheVariants.{Store}
-use Rattle.model_step.specs.Own.{edit_shown, request_changes, request_gone}
+use Rattle.model.specs.Bounds.{edit_shown, request_changes, request_gone}
 use Rattle.api_edit.specs.declared.answer.Answer.{Answer}
 use Rattle.api_edit.specs.declared.answer.Answer.TheVariants as answer
 use Rattle.api_edit.specs.inner.Edits.{EditsFrom, HasRights}

@@ -1,7 +1,7 @@
 use Rattle.std.proofs.Common.{◌≡◌, ◌++◌, [], ◌∷◌, length}
 use Rattle.std.specs.Prelude.{bytes_eq, codes, if◌then◌else◌}
 use Rattle.std.specs.List.{flat_map}
-use Rattle.model.specs.Forms.{all_names}
+use Rattle.model_requests.specs.Forms.{all_names}
 use Rattle.model.specs.Members.{member_names}
 use Rattle.api_input.specs.inner.Said.{said}
 use Rattle.api_input.specs.inner.Spelled.{body_of}

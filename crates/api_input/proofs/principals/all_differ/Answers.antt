@@ -1,5 +1,5 @@
 use Rattle.std.proofs.Common.{◌∙◌, List, ap, map, sym}
-use Rattle.model.specs.PeopleForms.{identity_of}
+use Rattle.model_requests.specs.PeopleForms.{identity_of}
 use Rattle.model.specs.declared.people_bodies.Spelled.{Spelled}
 use Rattle.api_input.proofs.Folded.{are_new, none_seen, one_seen}
 use Rattle.api_input.proofs.principals.all_differ.Goals as goal

@@ -1,6 +1,6 @@
 use Rattle.std.proofs.Common.{◌≡◌, length, map}
 use Rattle.base_value.specs.Texts.{texts_differ}
-use Rattle.model.specs.PeopleForms.{identity_of}
+use Rattle.model_requests.specs.PeopleForms.{identity_of}
 use Rattle.api_input.proofs.Folded.{are_new}
 use Rattle.api_input.proofs.principals.all_differ.Given as goal
 

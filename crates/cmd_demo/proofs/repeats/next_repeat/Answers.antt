@@ -1,5 +1,5 @@
 use Rattle.std.proofs.Common.{◌≡◌, ◌∙◌, Ok, arith, ap, suc, ℕ, List}
-use Rattle.model_step.specs.Step.{stepped}
+use Rattle.model.specs.Asker.{stepped}
 use Rattle.cmd_demo.specs.Demos.{amount_line, answer_to_text, first_query, switched_by}
 use Rattle.cmd_demo.proofs.Coming.{come_ok, come_then, handed_on}
 use Rattle.cmd_demo.proofs.Counting.{HasSeen, same_repeats, seen_by}

@@ -1,5 +1,5 @@
 use Rattle.std.proofs.Common.{◌∙◌, ℕ, List, Ok, ap}
-use Rattle.model_step.specs.Step.{stepped}
+use Rattle.model.specs.Asker.{stepped}
 use Rattle.cmd_demo.specs.Demos.{above_query, answer_to_text, most_repeats, repeats_from, rows_in}
 use Rattle.cmd_demo.specs.declared.repeats.Repeats.{Repeats}
 use Rattle.cmd_demo.proofs.Coming.{come_ok, come_then, handed_on}

@@ -6,7 +6,7 @@ use Rattle.store_kv.specs.State.{data_table}
 use Rattle.soql.specs.declared.query.Query.{Query}
 use Rattle.soql.specs.grammar.Spelling.{reads_query}
 use Rattle.store_abstraction.specs.Calls.{Calls, ended}
-use Rattle.model_step.specs.Shown.{further_to, shown_beside}
+use Rattle.model.specs.Shown.{further_to, shown_beside}
 use Rattle.cmd_export.proofs.Exported.{read_done, read_refused}
 use Rattle.cmd_export.proofs.export.export_text.Goals as goal
 

@@ -2,7 +2,7 @@ use Rattle.std.proofs.Common.{◌≡◌, ◌∙◌, arith, of_z, pos, refl, rule
 use Rattle.std.proofs.lemmas.Int.{to_z-of_z}
 use Rattle.std.specs.Prelude.{FitsSigned}
 use Rattle.store_kv.specs.Draft.{tables_of}
-use Rattle.model.specs.Requests.{upserts}
+use Rattle.model_requests.specs.Requests.{upserts}
 use Rattle.model.specs.Verdict.{upserted}
 use Rattle.record_save.specs.declared.upsert.upsert.Upserted.{Upserted}
 use Rattle.cmd_load_row.specs.inner.Edits.{KnowsFound}

@@ -3,7 +3,7 @@ use Rattle.base_lemmas.proofs.Results.{err_from_parts as returned}
 use Rattle.cmd_load_plan.specs.Rows.{upsert_row}
 use Rattle.store_kv.specs.Draft.{tables_of}
 use Rattle.store_rows.specs.declared.fail.StoreFail.TheVariants.{Memory}
-use Rattle.model.specs.Requests.{Request}
+use Rattle.model_requests.specs.Requests.{Request}
 use Rattle.store_abstraction.specs.Calls.{done}
 use Rattle.store_abstraction.specs.Fails.{of_store}
 use Rattle.cmd_load_row.specs.inner.Edits.{AsksBy, EditsRow}

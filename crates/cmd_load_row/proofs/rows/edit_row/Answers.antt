@@ -2,7 +2,7 @@ use Rattle.std.proofs.Common.{List, ap, subst, ◌∙◌}
 use Rattle.cmd_load_plan.specs.Rows.{given_row, upsert_row}
 use Rattle.cmd_load_plan.specs.declared.plan.LoadColumn.{LoadColumn}
 use Rattle.store_kv.specs.Draft.{tables_of}
-use Rattle.model.specs.Requests.{Request, creates}
+use Rattle.model_requests.specs.Requests.{Request, creates}
 use Rattle.cmd_load_row.specs.inner.Edits.{AsksBy, EditsRow}
 use Rattle.cmd_load_row.proofs.Requested.{texts, with_key, without_key}
 use Rattle.cmd_load_row.proofs.rows.edit_row.Goals as goal

@@ -9,7 +9,6 @@ returns c =
     record {
       named = (_, refl, refl);
       rising = ((refl, (refl, tt)), ((refl, tt), (tt, tt)));
-      refused = refl;
       put = refl;
       begun = record { phase = refl; cursor = refl; converts = refl };
       counted = (refl, refl, refl, refl);

@@ -4,29 +4,8 @@ use Rattle.std.specs.Str.{chars, is_utf8}
 use Rattle.std.specs.Str.Lossy.{utf8_lossy, utf8_valid_len}
 use Rattle.form_urlencoded.specs.Form.{raw_pairs, split}
 use Rattle.percent_encoding.specs.Percent.{percent_decode}
-use Rattle.model.specs.Routing.{lines, routed}
 use Rattle.model.specs.Step.{query_text}
 use Rattle.model.proofs.steps.step_rows.Goals as goal
-
-pub returns-clause-query : goal.returns-clause-query
-unfolding routed lines split
-returns-clause-query c = refl
-
-pub returns-clause-update : goal.returns-clause-update
-unfolding routed lines split
-returns-clause-update c = refl
-
-pub returns-clause-no_part : goal.returns-clause-no_part
-unfolding routed lines split
-returns-clause-no_part c = refl
-
-pub returns-clause-no_method : goal.returns-clause-no_method
-unfolding routed lines split
-returns-clause-no_method c = refl
-
-pub returns-clause-no_path : goal.returns-clause-no_path
-unfolding routed lines split
-returns-clause-no_path c = refl
 
 pub returns-clause-first_q : goal.returns-clause-first_q
 unfolding query_text raw_pairs split encode_utf8 utf8_lossy percent_decode utf8_valid_len is_utf8 chars

@@ -1,8 +1,8 @@
 use Rattle.model_invariant.proofs.AddsField.{add_field_sound}
 use Rattle.model_invariant.proofs.AddsFormulas.{add_field_formulas, add_object_formulas}
-use Rattle.model_invariant.proofs.FormulasSound.{add_validation_formulas, set_access_formulas}
+use Rattle.model_invariant.proofs.FormulasSound.{add_validation_formulas, remove_validation_formulas, set_access_formulas}
 use Rattle.model_invariant.proofs.NewObjects.{add_object_sound}
-use Rattle.model_invariant.proofs.ObjectsSound.{add_validation_sound, set_access_sound}
+use Rattle.model_invariant.proofs.ObjectsSound.{add_validation_sound, remove_validation_sound, set_access_sound}
 use Rattle.model_invariant.proofs.SoundParts.{parts, whole}
 use Rattle.model_invariant.proofs.objects.objects_sound.Goals as goal
 
@@ -17,3 +17,6 @@ returns-clause-add_object c = λ t b fit s. whole (add_object_sound t b fit (par
 
 pub returns-clause-add_field : goal.returns-clause-add_field
 returns-clause-add_field c = λ t b fit s. whole (add_field_sound t b fit (parts s)) (add_field_formulas c.text_laws.ensures.formulas.over_more t b (parts s) s.formulas)
+
+pub returns-clause-remove_validation_rule : goal.returns-clause-remove_validation_rule
+returns-clause-remove_validation_rule c = λ t object name s. whole (remove_validation_sound t object name (parts s)) (remove_validation_formulas c.text_laws.ensures.formulas.by_fields t object name s.formulas)

@@ -1,7 +1,7 @@
 use Rattle.std.proofs.Common.{◌≡◌, List, [], map, true, refl, subst, ℤ}
 use Rattle.std.specs.List.{list_all}
 use Rattle.soql.specs.declared.query.Item.{Item}
-use Rattle.model_step.specs.Flat.{is_flat_item}
+use Rattle.model.specs.Flat.{is_flat_item}
 use Rattle.query_plan.specs.declared.plan.Plan.{Plan}
 use Rattle.query_bind.specs.inner.Selecting.{BindsItems, own_shown}
 use Rattle.query_bind.specs.inner.Tails.{BindsTail}

@@ -1,5 +1,5 @@
 use Rattle.std.proofs.Common.{◌<◌, arith, length, subst, sym, List}
-use Rattle.model_step.specs.Shown.{path_steps}
+use Rattle.model.specs.Shown.{path_steps}
 use Rattle.query_plan.specs.declared.check.Spot.{Spot}
 use Rattle.query_bind.proofs.Celled.{cell_later}
 use Rattle.query_bind.proofs.Counted.{few_more}

@@ -1,4 +1,4 @@
-use Rattle.model_step.specs.Shown.{path_steps}
+use Rattle.model.specs.Shown.{path_steps}
 use Rattle.query_plan.specs.paths.Branches.{AddsBranches}
 use Rattle.query_bind.proofs.Counted.{IsFewSoFar}
 use Rattle.query_bind.specs.inner.Cells.{BindsCell}

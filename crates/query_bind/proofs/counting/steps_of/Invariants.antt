@@ -1,6 +1,6 @@
 use Rattle.std.proofs.Common.{◌+◌, ◌≤◌, drop}
 use Rattle.std.specs.List.{sum_by}
-use Rattle.model_step.specs.Shown.{path_steps}
+use Rattle.model.specs.Shown.{path_steps}
 use Rattle.query_bind.proofs.counting.steps_of.Given as goal
 
 abbrev pub invariant-loop-path : goal.invariant-loop-path

@@ -1,6 +1,6 @@
 use Rattle.std.proofs.Common.{◌<◌, arith, length, subst, sym, List}
 use Rattle.soql.specs.declared.query.OrderKey.{OrderKey}
-use Rattle.model_step.specs.Shown.{path_steps}
+use Rattle.model.specs.Shown.{path_steps}
 use Rattle.query_plan.specs.declared.plan.SortKey.{SortKey}
 use Rattle.query_bind.proofs.Counted.{few_more}
 use Rattle.query_plan.proofs.Branching.{added_twice}

@@ -1,5 +1,5 @@
 use Rattle.soql.specs.declared.query.OrderKey.{OrderKey}
-use Rattle.model_step.specs.Shown.{path_steps}
+use Rattle.model.specs.Shown.{path_steps}
 use Rattle.query_plan.specs.paths.Branches.{AddsBranches}
 use Rattle.query_bind.proofs.Counted.{IsFewSoFar}
 use Rattle.query_bind.specs.inner.Ends.{BindsKey}

@@ -1,7 +1,7 @@
 use Rattle.std.proofs.Common.{◌≡◌, ◌∙◌, ◌+◌, ◌≤◌, ℕ, List, [], None, Some, ap, arith, length, subst, sym, ℤ, to_z, of_z, w64}
 use Rattle.std.specs.List.{sum_by}
 use Rattle.std.specs.Option.{option_copied}
-use Rattle.model_step.specs.Shown.{path_steps, tail_steps}
+use Rattle.model.specs.Shown.{path_steps, tail_steps}
 use Rattle.query_plan.specs.declared.paths.branches.Branch.{Branch}
 use Rattle.query_plan.specs.paths.ByLayout.{child_of}
 use Rattle.query_bind.specs.declared.selecting.BoundChild.{BoundChild}

@@ -2,7 +2,7 @@ use Rattle.std.proofs.Common.{◌≡◌, ◌∙◌, ◌+◌, ◌<◌, ◌≤◌,
 use Rattle.std.proofs.lemmas.List.{at_drop_all, at_drop_more}
 use Rattle.std.proofs.lemmas.List.Sums.{sum_by-cons}
 use Rattle.std.specs.List.{sum_by}
-use Rattle.model_step.specs.Shown.{item_children_shown, path_steps}
+use Rattle.model.specs.Shown.{item_children_shown, path_steps}
 use Rattle.query_plan.specs.Plans.{child_shown}
 use Rattle.query_bind.proofs.Counted.{paths_steps}
 use Rattle.soql.specs.declared.query.Item.{Item}

@@ -1,6 +1,6 @@
 use Rattle.std.proofs.Common.{◌≡◌, ◌+◌, ◌≤◌, drop, length, take}
 use Rattle.std.specs.List.{sum_by}
-use Rattle.model_step.specs.Shown.{item_children_shown}
+use Rattle.model.specs.Shown.{item_children_shown}
 use Rattle.query_plan.specs.Plans.{child_shown}
 use Rattle.query_plan.specs.paths.Branches.{AddsBranches}
 use Rattle.query_bind.specs.Cells.{paths_in}

@@ -1,5 +1,5 @@
 use Rattle.std.proofs.Common.{◌≡◌, ◌∙◌, ℕ, List, None, Option, ap, false, subst, sym}
-use Rattle.model_step.specs.Flat.{has_one_name}
+use Rattle.model.specs.Flat.{has_one_name}
 use Rattle.query_check.specs.declared.columns.Column.{Column}
 use Rattle.query_bind.specs.declared.spots.Bound.{Bound}
 use Rattle.query_check.specs.Columns.{column_in}

@@ -2,7 +2,7 @@ use Rattle.std.proofs.Common.{◌∙◌, ◌<◌, length, sym, ap, arith, flat_m
 use Rattle.std.specs.List.{list_all}
 use Rattle.soql.specs.declared.query.Cond.{Cond}
 use Rattle.model.specs.Tests.{tests_of}
-use Rattle.model_step.specs.Flat.{is_flat_test}
+use Rattle.model.specs.Flat.{is_flat_test}
 use Rattle.query_check.proofs.Flatness.{goes_on, stops}
 use Rattle.query_check.proofs.Tests.{tests_and, tests_not, tests_or}
 use Rattle.query_check.proofs.flat.+flatness.Goals as goal

@@ -1,7 +1,7 @@
 use Rattle.std.proofs.Common.{◌≡◌, drop, flat_map}
 use Rattle.std.specs.List.{list_all}
 use Rattle.model.specs.Tests.{tests_of}
-use Rattle.model_step.specs.Flat.{is_flat_test}
+use Rattle.model.specs.Flat.{is_flat_test}
 use Rattle.query_check.proofs.flat.+flatness.Given as goal
 
 abbrev pub invariant-are_flat_conditions-loop-cond : goal.invariant-are_flat_conditions-loop-cond

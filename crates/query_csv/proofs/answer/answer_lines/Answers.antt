@@ -5,7 +5,7 @@ use Rattle.base_lemmas.proofs.Options.{none_from_no_some as nothing_there}
 use Rattle.base_value.specs.Printing.{day_of_moment}
 use Rattle.store_kv.specs.Draft.{removals_of}
 use Rattle.store_abstraction.specs.Calls.{done}
-use Rattle.model_step.specs.Shown.{row_shown}
+use Rattle.model.specs.Shown.{row_shown}
 use Rattle.query_exec.specs.Written.{most_shown}
 use Rattle.query_json.proofs.Found.{Laws, its_layout, wider_calls}
 use Rattle.query_csv.proofs.Answering.{found_so, refused_so, serves_so}

@@ -1,7 +1,7 @@
 use Rattle.std.proofs.Common.{◌≡◌, ◌∙◌, ◌+◌, ◌*◌, List, [], ap, arith, length, sym}
 use Rattle.store_kv.specs.Draft.{removals_of, tables_of}
 use Rattle.store_abstraction.specs.Calls.{ended}
-use Rattle.model_step.specs.Shown.{readable_shown}
+use Rattle.model.specs.Shown.{readable_shown}
 use Rattle.query_plan.specs.declared.paths.branches.Branch.{Branch}
 use Rattle.query_exec.specs.Written.{most_shown}
 use Rattle.query_json.proofs.Found.{wider_calls}

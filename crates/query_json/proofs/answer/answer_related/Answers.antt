@@ -12,7 +12,7 @@ use Rattle.model.specs.declared.record.Record.{Record}
 use Rattle.query_plan.specs.Plans.{child_shown, children_by}
 use Rattle.query_plan.specs.declared.plan.ChildPlan.{ChildPlan}
 use Rattle.store_abstraction.specs.Calls.{Calls, Ending, done, ended}
-use Rattle.model_step.specs.Shown.{row_shown}
+use Rattle.model.specs.Shown.{row_shown}
 use Rattle.query_plan.specs.paths.Branches.{branch_records}
 use Rattle.query_plan.specs.declared.paths.branches.Branch.{Branch}
 use Rattle.query_exec.specs.Written.{most_shown}

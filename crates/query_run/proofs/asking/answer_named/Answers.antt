@@ -8,7 +8,7 @@ use Rattle.store_kv.specs.Tables.{Tables}
 use Rattle.store_abstraction.specs.Calls.{Calls, ended}
 use Rattle.store_abstraction.specs.Layouts.{own_layout_named}
 use Rattle.store_abstraction.specs.Local.{FindsIn, StandsIn}
-use Rattle.model_step.specs.Shown.{further_to, shown_beside}
+use Rattle.model.specs.Shown.{further_to, shown_beside}
 use Rattle.query_run.proofs.Named.{caller_at, found_by, no_object, object_of, search_failed}
 use Rattle.query_run.proofs.asking.answer_named.Goals as goal
 

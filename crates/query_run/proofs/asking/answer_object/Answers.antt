@@ -6,7 +6,7 @@ use Rattle.store_kv.specs.State.{data_table}
 use Rattle.store_abstraction.specs.Calls.{Calls, ended}
 use Rattle.store_abstraction.specs.Layouts.{own_layouts}
 use Rattle.store_abstraction.specs.Local.{FindsIn}
-use Rattle.model_step.specs.Shown.{further_to, shown_beside}
+use Rattle.model.specs.Shown.{further_to, shown_beside}
 use Rattle.query_run.proofs.Named.{caller_at, object_later, search_failed}
 use Rattle.query_run.proofs.asking.answer_object.Goals as goal
 

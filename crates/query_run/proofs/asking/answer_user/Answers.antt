@@ -6,7 +6,7 @@ use Rattle.store_kv.specs.Draft.{removals_of, tables_of}
 use Rattle.store_kv.specs.Laid.{removals}
 use Rattle.store_kv.specs.State.{data_table}
 use Rattle.store_abstraction.specs.Calls.{Calls, ended}
-use Rattle.model_step.specs.Shown.{further_to, row_shown, shown_beside}
+use Rattle.model.specs.Shown.{further_to, row_shown, shown_beside}
 use Rattle.query_run.proofs.Named.{asked_by, asked_over, layout_there_is, sight_failed}
 use Rattle.query_run.proofs.Wider.{wider_calls}
 use Rattle.query_run.proofs.asking.answer_user.Goals as goal

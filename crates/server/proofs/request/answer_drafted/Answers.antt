@@ -5,7 +5,7 @@ use Rattle.store_kv.specs.State.{TrustedAfter}
 use Rattle.store_kv.specs.Tables.{Tables}
 use Rattle.model.specs.Step.{key_in}
 use Rattle.store_abstraction.proofs.Ended.{empty_tables, moved, told_draft, unchanged}
-use Rattle.model_step.specs.Own.{request_gone}
+use Rattle.model.specs.Bounds.{request_gone}
 use Rattle.server.specs.Own.{Asks, DoesMessage, IsStepped, JudgesMessage, Replies, message_changes}
 use Rattle.server.specs.Requests.{message_in}
 use Rattle.server.proofs.Messages.{asks_by, does_by, replies_by, shown_most}

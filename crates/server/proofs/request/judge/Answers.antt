@@ -6,7 +6,7 @@ use Rattle.store_kv.specs.Tables.{Tables}
 use Rattle.model.specs.Step.{key_in}
 use Rattle.people_edit.specs.People.{FindsCaller}
 use Rattle.store_abstraction.specs.Calls.{ended}
-use Rattle.model_step.specs.Own.{request_gone}
+use Rattle.model.specs.Bounds.{request_gone}
 use Rattle.server.specs.Own.{IsMoving, IsStepped, JudgesCaller, message_changes, message_shown_beside}
 use Rattle.server.specs.Requests.{message_in}
 use Rattle.server.proofs.Judging.{judged_called, judged_uncalled}

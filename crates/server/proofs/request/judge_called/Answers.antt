@@ -5,8 +5,8 @@ use Rattle.store_kv.specs.Draft.{DraftTells, count_of, removals_of, tables_of}
 use Rattle.store_kv.specs.State.{data_table}
 use Rattle.store_abstraction.specs.Calls.{ended}
 use Rattle.store_abstraction.specs.Operations.{Drafts}
-use Rattle.model_step.specs.Own.{request_changes, request_gone}
-use Rattle.model_step.specs.Shown.{shown_beside}
+use Rattle.model.specs.Bounds.{request_changes, request_gone}
+use Rattle.model.specs.Shown.{shown_beside}
 use Rattle.server.specs.Own.{IsMoving, JudgesCaller, JudgesReply, message_changes, message_further, message_shown_beside}
 use Rattle.server.specs.Requests.{message_in}
 use Rattle.server.proofs.Stepping.{caller_failed, caller_judged, drafts_failed, drafts_then, form_judged, same_count}

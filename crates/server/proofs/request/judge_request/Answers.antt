@@ -1,10 +1,10 @@
 use Rattle.std.proofs.Common.{List, ℕ, subst}
 use Rattle.std.specs.Str.{chars}
 use Rattle.store_kv.specs.Draft.{tables_of}
-use Rattle.model.specs.RequestOf.{verdict_at}
-use Rattle.model.specs.Routing.{routed}
+use Rattle.model_requests.specs.RequestOf.{verdict_at}
+use Rattle.model_requests.specs.Routing.{routed}
 use Rattle.store_abstraction.specs.Operations.{Responds}
-use Rattle.model_step.specs.Own.{IsAsking}
+use Rattle.model.specs.Asker.{IsAsking}
 use Rattle.server.specs.Requests.{message_in}
 use Rattle.server.proofs.Judging.{request_failed, request_judged}
 use Rattle.server.proofs.request.judge_request.Goals as goal

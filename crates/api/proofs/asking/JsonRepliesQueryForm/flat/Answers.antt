@@ -4,7 +4,7 @@ use Rattle.query_json.specs.Answers.{IsAskedOf}
 use Rattle.query_exec.specs.Written.{most_shown}
 use Rattle.store_kv.specs.Draft.{removals_of, tables_of}
 use Rattle.store_abstraction.specs.Calls.{ended}
-use Rattle.model_step.specs.Shown.{row_shown}
+use Rattle.model.specs.Shown.{row_shown}
 use Rattle.query_run.proofs.Wider.{wider_calls}
 use Rattle.api.proofs.Refusing.{answer_of}
 use Rattle.api.proofs.asking.JsonRepliesQueryForm.flat.Goals as goal

@@ -1,4 +1,4 @@
-use Rattle.std.proofs.Common.{◌≡◌, [], ◌∙◌, ◌∷◌, ℕ, List, None, Option, ap, refl, arith, subst}
+use Rattle.std.proofs.Common.{◌≡◌, [], ◌∙◌, ◌∷◌, ℕ, true, List, None, Option, ap, refl, arith, subst}
 use Rattle.sha2.specs.Sha256.{sha256}
 use Rattle.store_edit.proofs.Judged.{made_so}
 use Rattle.store_edit.specs.Rows.{change_to}
@@ -37,7 +37,7 @@ returns-clause-what g c told =
     let b = c.args.self.now.new.now in
     let org = c.args.org in
     let drawn = c.in_ok-drawn.drawn in
-    let row : UserRow = record { org = org; id = drawn.id; name = c.in_ok-copy.field-0; digest = c.digest_of.result; role = drawn.role; admin = b.admin } in
+    let row : UserRow = record { org = org; id = drawn.id; name = c.in_ok-copy.field-0; digest = c.digest_of.result; role = drawn.role; admin = b.admin; active = true } in
     let laws : UserLaws = record {
       org = record { fits = c.roster_laws.ensures.org_fits; counted = c.roster_laws.ensures.counted; plan = c.roster_laws.ensures.plan };
       rows = c.roster_laws.ensures.user;

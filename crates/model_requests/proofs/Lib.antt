@@ -1,0 +1,7 @@
+mod Answered
+mod Refusing
+mod VerdictsSound
+mod FormsFit
+mod RequestsFit
+mod AnswersSound
+mod WorldSound

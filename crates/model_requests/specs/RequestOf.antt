@@ -1,0 +1,91 @@
+-- The request that a route and a body make, and what a user's message comes to in the organisation.
+-- Source of percent triplets: RFC 3986, section 2.1. That a body which isn't of its form is refused first is this product's own.
+use Rattle.std.specs.Prelude.{ℕ, not, ◌&&◌, if◌then◌else◌, List, encode_utf8_all, Option, Some, None, Result, Ok, Err}
+use Rattle.std.specs.Option.{option_map}
+use Rattle.std.specs.Str.{chars, is_utf8}
+use Rattle.percent_encoding.specs.Percent.{percent_decode}
+use Rattle.base_json.specs.Reading.{◌>>=◌}
+use Rattle.soql.specs.declared.query.Query.{Query}
+use Rattle.soql.specs.grammar.Spelling.{reads_query}
+use Rattle.model.specs.declared.refusal.Refusal.{Refusal}
+use Rattle.model.specs.declared.refusal.Refusal.TheVariants as refusal
+use Rattle.model.specs.declared.reply.Reply.{Reply}
+use Rattle.model_requests.specs.declared.route.Route.{Route}
+use Rattle.model_requests.specs.declared.route.Route.TheVariants as route
+use Rattle.model_requests.specs.declared.routed.Routed.{Routed}
+use Rattle.model_requests.specs.declared.routed.Routed.TheVariants.{To, NotFound, NotAllowed}
+use Rattle.model_requests.specs.Forms.{access_request, field_request, object_request, share_request, sharing_rule_request, validation_request}
+use Rattle.model.specs.Asker.{stepped}
+use Rattle.model.specs.Members.{Body, assignments, body_in, principal_in}
+use Rattle.model.specs.Paths.{Asked}
+use Rattle.model_requests.specs.PeopleForms.{group_request, members_request, retype_request, role_request, role_parent_request, user_request, user_role_request}
+use Rattle.model.specs.Replies.{reply_of}
+use Rattle.model_requests.specs.Requests.{Request, asks, creates, updates, deletes, upserts, unshares, removes_validation_rule, removes_sharing_rule, gets_retype, cancels_retype, verdict_on}
+use Rattle.model_requests.specs.Routing.{is_administration, routed}
+use Rattle.model.specs.Step.{Message, query_text}
+use Rattle.model.specs.Tenant.{Tenant}
+use Rattle.model.specs.Verdict.{Verdict, refuse}
+
+-- the request of a query, or the byte at which the token begins that can't be there
+abbrev pub query_or : Result Query ℕ → Result Request Refusal
+query_or (Ok q) = Ok (asks q)
+query_or (Err place) = Err (refusal.MalformedQuery place)
+
+-- the request that a body makes; one of another form is refused
+abbrev pub request_or : Option Request → Result Request Refusal
+request_or None = Err refusal.BodyForm
+request_or (Some request) = Ok request
+
+abbrev pub by_body : (bytes : List ℕ) → (Body → Option Request) → Result Request Refusal
+by_body bytes form = request_or (body_in bytes >>= form)
+
+-- the value in the path of an upsert, with its percent triplets decoded; none where these bytes aren't UTF-8
+abbrev pub value_part : List ℕ → Option (List ℕ)
+value_part part = let bytes = percent_decode (encode_utf8_all part) in if is_utf8 bytes then Some (chars bytes) else None
+
+-- the request that a route and a body make, or why there is none
+unfoldable pub request_of : Route → (body : List ℕ) → Result Request Refusal
+request_of (route.Query pairs) body = query_or (reads_query (query_text pairs))
+request_of (route.Create object) body = by_body body (λ b. option_map (creates object) (assignments b))
+request_of (route.Update object key) body = by_body body (λ b. option_map (updates object key) (assignments b))
+request_of (route.Delete object key) body = Ok (deletes object key)
+request_of (route.Upsert object key value) body =
+    by_body body (λ b. option_map (upserts object key (value_part value)) (assignments b))
+request_of route.Share body = by_body body share_request
+request_of (route.Unshare item part) body = Ok (unshares item part (principal_in part))
+request_of route.AddObject body = by_body body object_request
+request_of (route.SetObject object) body = by_body body (access_request object)
+request_of route.AddField body = by_body body field_request
+request_of route.AddValidationRule body = by_body body validation_request
+request_of (route.RemoveValidationRule object name) body = Ok (removes_validation_rule object name)
+request_of route.AddSharingRule body = by_body body sharing_rule_request
+request_of (route.RemoveSharingRule name) body = Ok (removes_sharing_rule name)
+request_of route.AddUser body = by_body body user_request
+request_of (route.SetUser id) body = by_body body (user_role_request id)
+request_of route.AddRole body = by_body body role_request
+request_of (route.SetRole id) body = by_body body (role_parent_request id)
+request_of route.AddGroup body = by_body body group_request
+request_of (route.SetGroup id) body = by_body body (members_request id)
+request_of route.BeginRetype body = by_body body retype_request
+request_of route.GetRetype body = Ok gets_retype
+request_of route.CancelRetype body = Ok cancels_retype
+
+-- ---- what a message comes to
+
+abbrev pub verdict_or : Asked → Result Request Refusal → Verdict
+verdict_or a (Ok request) = verdict_on a request
+verdict_or a (Err refusal) = refuse a.tenant refusal
+
+-- no such path, another method, no administrator; then the form of the body, and the request itself
+abbrev pub verdict_at : Asked → (body : List ℕ) → Routed → Verdict
+verdict_at a body NotFound = refuse a.tenant refusal.NotFound
+verdict_at a body NotAllowed = refuse a.tenant refusal.MethodNotAllowed
+verdict_at a body (To r) =
+    if is_administration r && not a.user.admin then refuse a.tenant refusal.AdminRequired else verdict_or a (request_of r body)
+
+-- the reply to a user's message, and the organisation after it: what is done before each request is done first, whatever the message comes to
+abbrev pub answer_to : Asked → Message → Reply × Tenant
+answer_to a m =
+    let b = stepped a in
+    let v = verdict_at b m.body (routed m.method m.target) in
+    (reply_of b v.answer, v.tenant)

@@ -1,5 +1,0 @@
-pub mod Flat
-pub mod Step
-pub mod Worked
-pub mod Own
-pub mod Shown

@@ -157,7 +157,7 @@ module _ (sight : UserSight) (asked : Level) (org : ℕ) (r : Record) where
             granted = may.granted;
             has = subst (λ (x : Record). Has t.records x) (sym is) cl.it.has;
             leads = subst (λ (n : ℕ). Leads q t org n rest) number may.leads.1;
-            own_end = subst (λ (n : ℕ). OwnAt t u (end_of n rest) sight.own) number may.own_end;
+            own_end = subst (λ (n : ℕ). OwnAt sight.rights.now.sharer.people t u (end_of n rest) sight.own) number may.own_end;
             shares = may.shares;
           }
 
@@ -206,7 +206,7 @@ module _ (m n : Tables) (same : n ≡ m) (sight : UserSight) (asked : Level) (l 
   leads q t u s may = led q t u s (may_step q t u l may.granted.sound may.layout)
 
   module _ (Given : Fact) (may : (q : OrgPlan) (t : Tenant) (u : User) → Given q t u → MayJudge sight.rights.now l r q t u)
-      (own_at : (q : OrgPlan) (t : Tenant) (u : User) → StandsIn l.org q m (Some t) → Given q t u → OwnAt t u (end_of l.object steps) sight.own)
+      (own_at : (q : OrgPlan) (t : Tenant) (u : User) → StandsIn l.org q m (Some t) → Given q t u → OwnAt sight.rights.now.sharer.people t u (end_of l.object steps) sight.own)
       (shares : (q : OrgPlan) (t : Tenant) (u : User) → Given q t u → sight.shared ≡ false → t.shares ≡ []) where
     climbs : (q : OrgPlan) (t : Tenant) (u : User) → StandsIn l.org q m (Some t) → Given q t u → MayClimb sight l.org steps r q t u
     climbs q t u s g =
@@ -215,7 +215,7 @@ module _ (m n : Tables) (same : n ≡ m) (sight : UserSight) (asked : Level) (l 
           granted = it.granted;
           has = it.has;
           leads = subst (λ (k : ℕ). Leads q t l.org k steps) (sym it.number) (leads q t u s it);
-          own_end = subst (λ (k : ℕ). OwnAt t u (end_of k steps) sight.own) (sym it.number) (own_at q t u s g);
+          own_end = subst (λ (k : ℕ). OwnAt sight.rights.now.sharer.people t u (end_of k steps) sight.own) (sym it.number) (own_at q t u s g);
           shares = shares q t u g;
         }
 

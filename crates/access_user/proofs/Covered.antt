@@ -1,4 +1,4 @@
--- What sharing rules give on a record, by what is known of those that reach the user.
+-- What sharing rules give on a record, by what is known of those that reach the user, where the role hierarchy counts or doesn't.
 use Rattle.std.proofs.Common.{◌≡◌, ◌∙◌, ℕ, Bool, true, false, ◌&&◌, ◌==◌, cond, List, [], ◌∷◌, map, filter, Option, Some, None, refl, sym, ap}
 use Rattle.std.specs.Prelude.{Result, Ok, Err, filter_map}
 use Rattle.std.specs.List.{cons_option}
@@ -10,7 +10,7 @@ use Rattle.model.specs.declared.record.Record.{Record}
 use Rattle.model.specs.Cases.{in_case}
 use Rattle.model.specs.FormulaTexts.{reads_text}
 use Rattle.model.specs.Levels.{Grant, acts, by_grant, covered_by, covers, greatest, meets_text, read_holds}
-use Rattle.model.specs.Membership.{is_member, reaches}
+use Rattle.model.specs.Membership.{is_member, reaches_on}
 use Rattle.model.specs.Objects.{object_number, object_of_record, owner_of}
 use Rattle.model.specs.Tenant.{Object, SharingRule, Source, owned, meets, Tenant, User}
 use Rattle.store_abstraction.specs.Metadata.{source_part}
@@ -20,7 +20,7 @@ use Rattle.access_user.specs.level.Own.{spelled_criterion, criterion_by, criteri
 use Rattle.access_user.specs.level.inner.Parts.{by_criterion, by_owner_rule, rules_on_owner}
 use Rattle.access_user.proofs.Greatest.{in_turn, none_left, swapped}
 
-module _ (t : Tenant) (u : User) (r : Record) (o : Object) (at : object_of_record t r ≡ Some o) where
+module _ (hierarchy : Bool) (t : Tenant) (u : User) (r : Record) (o : Object) (at : object_of_record t r ≡ Some o) where
   abbrev n : ℕ
   n = object_number r.id
 
@@ -29,7 +29,7 @@ module _ (t : Tenant) (u : User) (r : Record) (o : Object) (at : object_of_recor
 
   -- by all rules, by owner rules where this is the owner, and by criteria rules
   abbrev pub by_all : List SharingRule → Level
-  by_all rules = greatest (map (by_grant t u) (map grant_of (filter (covers t r) rules)))
+  by_all rules = greatest (map (by_grant hierarchy t u) (map grant_of (filter (covers t r) rules)))
 
   abbrev by_owners : Option User → List OwnerRule → Level
   by_owners w os = in_case w Nothing (λ x. greatest (map (by_owner_rule t x) os))
@@ -37,10 +37,10 @@ module _ (t : Tenant) (u : User) (r : Record) (o : Object) (at : object_of_recor
   abbrev by_criteria : List Criterion → Level
   by_criteria cs = greatest (map (by_criterion r.values) cs)
 
-  more_all : (rule : SharingRule) (rules : List SharingRule) → by_all (rule ∷ rules) ≡ cond (covers t r rule) (greater (by_grant t u (grant_of rule)) (by_all rules)) (by_all rules)
+  more_all : (rule : SharingRule) (rules : List SharingRule) → by_all (rule ∷ rules) ≡ cond (covers t r rule) (greater (by_grant hierarchy t u (grant_of rule)) (by_all rules)) (by_all rules)
   more_all rule rules = by (covers t r rule)
     where
-      by : (b : Bool) → greatest (map (by_grant t u) (map grant_of (cond b (rule ∷ filter (covers t r) rules) (filter (covers t r) rules)))) ≡ cond b (greater (by_grant t u (grant_of rule)) (by_all rules)) (by_all rules)
+      by : (b : Bool) → greatest (map (by_grant hierarchy t u) (map grant_of (cond b (rule ∷ filter (covers t r) rules) (filter (covers t r) rules)))) ≡ cond b (greater (by_grant hierarchy t u (grant_of rule)) (by_all rules)) (by_all rules)
       by true = refl
       by false = refl
 
@@ -82,7 +82,7 @@ module _ (t : Tenant) (u : User) (r : Record) (o : Object) (at : object_of_recor
   one_rule (Some x) true true true l (owned p) a os cs e = one_owner (is_member t x p) l a (by_owners (Some x) os) (by_criteria cs) e
   one_rule w true true true l (meets text) a os cs e = one_read w l a os cs e (reads_text o true text)
 
-  pub rules_are : (rules : List SharingRule) → by_all rules ≡ greater (rules_on_owner t r (filter_map (owner_by t u n) rules)) (by_criteria (filter_map (criterion_by t u n o) rules))
+  pub rules_are : (rules : List SharingRule) → by_all rules ≡ greater (rules_on_owner t r (filter_map (owner_by hierarchy t u n) rules)) (by_criteria (filter_map (criterion_by hierarchy t u n o) rules))
   rules_are [] = none (owner_of t r)
     where
       none : (w : Option User) → Nothing ≡ greater (by_owners w []) Nothing
@@ -90,5 +90,5 @@ module _ (t : Tenant) (u : User) (r : Record) (o : Object) (at : object_of_recor
       none (Some x) = refl
   rules_are (rule ∷ rules) =
       more_all rule rules
-      ∙ ap (λ (k : Bool). cond (acts rule.state && ((rule.object == n) && k)) (greater (by_grant t u (grant_of rule)) (by_all rules)) (by_all rules)) (covered_is rule.source)
-      ∙ one_rule (owner_of t r) (acts rule.state) (rule.object == n) (reaches t rule.to u) rule.level rule.source (by_all rules) (filter_map (owner_by t u n) rules) (filter_map (criterion_by t u n o) rules) (rules_are rules)
+      ∙ ap (λ (k : Bool). cond (acts rule.state && ((rule.object == n) && k)) (greater (by_grant hierarchy t u (grant_of rule)) (by_all rules)) (by_all rules)) (covered_is rule.source)
+      ∙ one_rule (owner_of t r) (acts rule.state) (rule.object == n) (reaches_on hierarchy t rule.to u) rule.level rule.source (by_all rules) (filter_map (owner_by hierarchy t u n) rules) (filter_map (criterion_by hierarchy t u n o) rules) (rules_are rules)

@@ -11,6 +11,7 @@ use Rattle.store_kv.specs.declared.keeper.KeptRow.{KeptRow}
 use Rattle.store_rows.specs.Fails.{of_codec}
 use Rattle.store_rows.specs.declared.fail.StoreFail.{StoreFail}
 use Rattle.store_rows.specs.declared.fail.StoreFail.TheVariants.{Damaged, Keeper, Memory}
+use Rattle.access_closure.specs.declared.people.People.{People}
 use Rattle.access_user.specs.level.Own.{IsOwnLevels}
 use Rattle.access_user.specs.declared.level.knowing.OwnLevels.{OwnLevels}
 use Rattle.model.specs.declared.record.Record.{Record}
@@ -61,8 +62,8 @@ few_fields q t l sound is =
     omega (arith, few, same)
 
 -- what is so of all records of the object of the topmost masters
-abbrev pub IsTop : Layout → OwnLevels → Fact
-IsTop l own q t u = OwnAt t u (topmost 3 t.objects l.object) own
+abbrev pub IsTop : People → Layout → OwnLevels → Fact
+IsTop people l own q t u = OwnAt people t u (topmost 3 t.objects l.object) own
 
 -- the object of a record
 pub record HasObject (t : Tenant) (r : Record) : Type 0 where
@@ -83,7 +84,7 @@ module _ (rights : UserRights) (l : Layout) (steps : List Step) where
       record { granted = may.granted; layout = led.0.layout; leads = subst (λ (o : ℕ). Leads q t o step.layout.object rest) (sym led.0.own) led.1 }
 
   pub makes_up : (rest : List Step) (step : Step) → steps ≡ step ∷ rest → (x : Result OwnLevels CodecFail) → MakesOwn rights step.layout rest x → MakesOwn rights l steps x
-  makes_up rest step are (Ok own) h = λ q t u may. subst (λ (ss : List Step). OwnAt t u (end_of l.object ss) own) (sym are) (h q t u (own_up rest step are q t u may))
+  makes_up rest step are (Ok own) h = λ q t u may. subst (λ (ss : List Step). OwnAt rights.sharer.people t u (end_of l.object ss) own) (sym are) (h q t u (own_up rest step are q t u may))
   makes_up rest step are (Err codec.Damaged) h = λ q t u may. h q t u (own_up rest step are q t u may)
   makes_up rest step are (Err codec.Memory) h = tt
 
@@ -96,14 +97,14 @@ module _ (rights : UserRights) (l : Layout) (steps : List Step) where
     judged_failed r codec.Damaged h e is = subst (λ (x : StoreFail). TellsWhere {X = Level} l.org (MayJudge rights l r) (IsLevel Full r) m (Err x)) (sym is) (λ q t u s may. h q t u (makes q t u s may.granted may.layout))
     judged_failed r codec.Memory h e is = subst (λ (x : StoreFail). TellsWhere {X = Level} l.org (MayJudge rights l r) (IsLevel Full r) m (Err x)) (sym is) tt
 
-    pub top_failed : (fail : CodecFail) → MakesOwn rights l steps (Err fail) → (e : StoreFail) → e ≡ of_codec fail → TellsWhere l.org (MayLook rights l) (IsTop l) m (Err e)
-    top_failed codec.Damaged h e is = subst (λ (x : StoreFail). TellsWhere l.org (MayLook rights l) (IsTop l) m (Err x)) (sym is) (λ q t u s may. h q t u (makes q t u s may.granted may.layout))
-    top_failed codec.Memory h e is = subst (λ (x : StoreFail). TellsWhere l.org (MayLook rights l) (IsTop l) m (Err x)) (sym is) tt
+    pub top_failed : (fail : CodecFail) → MakesOwn rights l steps (Err fail) → (e : StoreFail) → e ≡ of_codec fail → TellsWhere l.org (MayLook rights l) (IsTop rights.sharer.people l) m (Err e)
+    top_failed codec.Damaged h e is = subst (λ (x : StoreFail). TellsWhere l.org (MayLook rights l) (IsTop rights.sharer.people l) m (Err x)) (sym is) (λ q t u s may. h q t u (makes q t u s may.granted may.layout))
+    top_failed codec.Memory h e is = subst (λ (x : StoreFail). TellsWhere l.org (MayLook rights l) (IsTop rights.sharer.people l) m (Err x)) (sym is) tt
 
-    pub top_is : (few : length steps ≤ 3) (own : OwnLevels) → MakesOwn rights l steps (Ok own) → TellsWhere l.org (MayLook rights l) (IsTop l) m (Ok own)
+    pub top_is : (few : length steps ≤ 3) (own : OwnLevels) → MakesOwn rights l steps (Ok own) → TellsWhere l.org (MayLook rights l) (IsTop rights.sharer.people l) m (Ok own)
     top_is few own h q t u s look =
         let may = makes q t u s look.granted look.layout in
-        subst (λ (k : ℕ). OwnAt t u k own) (sym (ends_topmost q t l.org 3 l.object steps few may.leads)) (h q t u may)
+        subst (λ (k : ℕ). OwnAt rights.sharer.people t u k own) (sym (ends_topmost q t l.org 3 l.object steps few may.leads)) (h q t u may)
 
 -- ---- what is seen
 
@@ -121,11 +122,11 @@ module _ (rights : UserRights) (l : Layout) (m : Tables) where
     unshared Keeper h = tt
     unshared Memory h = tt
 
-    pub sighted : (sight : UserSight) → sight.rights.now ≡ rights → TellsWhere l.org (MayLook rights l) (IsTop l) m (Ok sight.own)
+    pub sighted : (sight : UserSight) → sight.rights.now ≡ rights → TellsWhere l.org (MayLook rights l) (IsTop rights.sharer.people l) m (Ok sight.own)
         → FindsIn l.org (λ q t. has_shares t) n (Ok sight.shared) → FindsSight rights l m (Ok sight)
     sighted sight are top shared = λ q t u s at granted. record {
       rights = subst (IsUserRights t u) (sym are) granted;
-      own = top q t u s (record { granted = granted; layout = at });
+      own = subst (λ (x : UserRights). OwnAt x.sharer.people t u (topmost 3 t.objects l.object) sight.own) (sym are) (top q t u s (record { granted = granted; layout = at }));
       shares = λ none. no_shares t.shares (sym (shared q (Some t) (subst (λ (x : Tables). StandsIn l.org q x (Some t)) (sym same) s)) ∙ none);
     }
       where
@@ -135,7 +136,7 @@ module _ (rights : UserRights) (l : Layout) (m : Tables) where
 
 -- ---- by a row
 
-module _ (q : OrgPlan) (t : Tenant) (u : User) (l : Layout) (r : Record) where
+module _ (t : Tenant) (l : Layout) (r : Record) where
   -- the record of a layout's object is the tenant's
   pub record OfLayout : Type 0 where
     pub has : Has t.records r
@@ -146,13 +147,14 @@ module _ (q : OrgPlan) (t : Tenant) (u : User) (l : Layout) (r : Record) where
       let it = has_filter (is_of l.object) t.records r among in
       record { has = it.0; number = eqb-true (object_number r.id) l.object it.1 }
 
-  pub all_seen : (own : OwnLevels) → ((o : Object) (x : Record) → object_of_record t x ≡ Some o → IsOwnLevels t u (object_number x.id) o own → at_least Read (own_level t u x) ≡ true)
-      → IsSound t → IsLayout q t l → OwnAt t u (topmost 3 t.objects l.object) own → Has (records_of t l.object) r → true ≡ can_read t u r
-  all_seen own by_all sound at known among =
+  pub all_seen : (q : OrgPlan) (u : User) (people : People) (own : OwnLevels)
+      → ((o : Object) (x : Record) → object_of_record t x ≡ Some o → IsOwnLevels people t u (object_number x.id) o own → at_least Read (own_level t u x) ≡ true)
+      → IsSound t → IsLayout q t l → OwnAt people t u (topmost 3 t.objects l.object) own → Has (records_of t l.object) r → true ≡ can_read t u r
+  all_seen q u people own by_all sound at known among =
       let it = of_layout among in
       sym (readable_all t u sound l.object r it.has it.number (deep q t l sound at) (λ x there number.
       let o = object_is t x sound there in
-      by_all o.object x o.there (subst (λ (n : ℕ). IsOwnLevels t u n o.object own) (sym number) (known o.object (subst (λ (n : ℕ). object_numbered t n ≡ Some o.object) number o.there)))))
+      by_all o.object x o.there (subst (λ (n : ℕ). IsOwnLevels people t u n o.object own) (sym number) (known o.object (subst (λ (n : ℕ). object_numbered t n ≡ Some o.object) number o.there)))))
 
 module _ (m n : Tables) (same : n ≡ m) (l : Layout) (row : KeptRow) (s : UserSight) (item : Record) (spelled : kept_record l row ≡ Some item) where
   abbrev Sees : Tenant → User → Type 0
@@ -160,7 +162,7 @@ module _ (m n : Tables) (same : n ≡ m) (l : Layout) (row : KeptRow) (s : UserS
 
   may_see : (q : OrgPlan) (t : Tenant) (u : User) (r : Record) → IsLayout q t l → Sees t u → Has (records_of t l.object) r → kept_record l row ≡ Some r → MaySee s l item q t u
   may_see q t u r at sees among is =
-      let it = of_layout q t u l r among in
+      let it = of_layout t l r among in
       let one : r ≡ item = some_is r item (sym is ∙ spelled) in
       record {
         may = record {

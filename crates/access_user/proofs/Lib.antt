@@ -1,5 +1,6 @@
 pub mod Listed
 pub mod Owners
+pub mod Alone
 pub mod OfRows
 pub mod Greatest
 pub mod Covered

@@ -1,6 +1,6 @@
 -- Records that may be read whatever grants there are: those of an object that all may read, and those that the user owns.
 use Rattle.std.proofs.Common.{◌≡◌, ℕ, ◌+◌, Bool, true, false, bytes_eq, not, ◌&&◌, ◌||◌, cond, List, [], ◌∷◌, ◌++◌, length, filter, Option, Some, None, refl, sym, ap, subst, ◌∙◌, arith}
-use Rattle.std.specs.Prelude.{slice_get}
+use Rattle.std.specs.Prelude.{IfSome, slice_get}
 use Rattle.std.specs.List.{enumerate_from, find, flat_map, list_any}
 use Rattle.std.specs.Option.{option_and_then, option_map}
 use Rattle.std.proofs.lemmas.Bool.{or_parts as or_false}
@@ -11,15 +11,19 @@ use Rattle.store_kv.specs.declared.keeper.KeptRow.{KeptRow}
 use Rattle.store_rows.specs.declared.data.DataRow.{DataRow}
 use Rattle.store_rows.specs.Forms.{read_row}
 use Rattle.store_rows.specs.Rows.{data_form}
-use Rattle.access_user.specs.level.Own.{is_open}
+use Rattle.access_closure.specs.declared.membership.Membership.{Membership}
+use Rattle.access_closure.specs.declared.people.People.{People}
+use Rattle.access_user.specs.Sights.{OwnAt, topmost}
+use Rattle.access_user.specs.declared.level.knowing.OwnLevels.{OwnLevels}
+use Rattle.access_user.specs.level.Own.{MembersFor, is_open}
 use Rattle.model.specs.declared.record.Record.{Record}
 use Rattle.model.specs.Cases.{in_case}
 use Rattle.model.specs.Fields.{by_parent, is_detail, is_master}
 use Rattle.model.specs.Known.{known}
-use Rattle.model.specs.Levels.{at_least, can_read, level, own_level, owns}
+use Rattle.model.specs.Levels.{at_least, can_read, has_hierarchy, level, own_level, owns}
 use Rattle.model.specs.Membership.{Has, is_above}
 use Rattle.model.specs.Objects.{object_number, object_numbered, object_of_record, records_of}
-use Rattle.model.specs.Relationships.{master_of_object, reference_at, target_of}
+use Rattle.model.specs.Relationships.{Reference, master_of_object, reference_at, target_of}
 use Rattle.model.specs.Sound.{IsSound}
 use Rattle.model.specs.SoundMetadata.{masters}
 use Rattle.model.specs.SoundRecords.{IsSoundRecord, is_sound_owner}
@@ -39,6 +43,7 @@ use Rattle.access_user.proofs.Climbed.{no_up}
 use Rattle.access_user.proofs.Judged.{object_is, of_layout}
 use Rattle.access_user.proofs.Layouts.{layout_is}
 use Rattle.access_user.proofs.Masters.{of_object, test}
+use Rattle.access_user.proofs.Whole.{members_are}
 use Rattle.people_rows.proofs.SharingFits.{all_has}
 
 -- ---- it has no masters
@@ -97,30 +102,43 @@ owner_apart t r i sound has e =
 
 -- ---- they may be read
 
-module _ (q : OrgPlan) (t : Tenant) (u : User) (l : Layout) (r : Record) where
+module _ (t : Tenant) (u : User) (l : Layout) (r : Record) where
   flat : master_of_object t.objects (object_number r.id) ≡ None → level t u r ≡ own_level t u r
   unfolding level
   flat none = no_up t u r 3 none
 
-  pub open_seen : ((o : Object) → object_of_record t r ≡ Some o → o.access ≡ l.access → at_least Read (own_level t u r) ≡ true)
+  pub open_seen : (q : OrgPlan) → ((o : Object) → object_of_record t r ≡ Some o → o.access ≡ l.access → at_least Read (own_level t u r) ≡ true)
       → IsSound t → IsLayout q t l → is_open l.access ≡ true → Has (records_of t l.object) r → true ≡ can_read t u r
-  open_seen by_all sound at all among =
-      let it = of_layout q t u l r among in
+  open_seen q by_all sound at all among =
+      let it = of_layout t l r among in
       let one = layout_is q t l at in
       let o = object_is t r sound it.has in
       let same : o.object ≡ one.object = some_is o.object one.object (sym o.there ∙ ap (object_numbered t) it.number ∙ one.there) in
       let access : o.object.access ≡ l.access = ap (λ (x : Object). x.access) same ∙ ap (λ (k : Layout). k.access) one.made in
       sym (ap (at_least Read) (flat (ap (master_of_object t.objects) it.number ∙ none_above q t l sound at all)) ∙ by_all o.object o.there access)
 
-  pub owned_seen : IsSound t → IsLayout q t l → Has (records_of t l.object) r → owns t u r ≡ true → own_level t u r ≡ Full → true ≡ can_read t u r
-  owned_seen sound at among owned full =
-      let it = of_layout q t u l r among in
+  pub owned_seen : IsSound t → Has (records_of t l.object) r → owns t u r ≡ true → own_level t u r ≡ Full → true ≡ can_read t u r
+  owned_seen sound among owned full =
+      let it = of_layout t l r among in
       let owner = owner_is r.owner owned in
       sym (ap (at_least Read) (flat (owner_apart t r owner.0 sound it.has owner.1) ∙ full))
     where
-      owner_is : (o : Option (List ℕ)) → in_case (option_and_then (user_at t.users) o) false (λ x. bytes_eq x.id u.id || is_above t u x) ≡ true → (i : List ℕ) × (o ≡ Some i)
+      owner_is : (o : Option (List ℕ)) → in_case (option_and_then (user_at t.users) o) false (λ x. bytes_eq x.id u.id || (has_hierarchy t r && is_above t u x)) ≡ true → (i : List ℕ) × (o ≡ Some i)
       owner_is None e = absurd cc
       owner_is (Some i) e = (i, refl)
+
+  -- what is known of the object of the topmost masters is known of the object of a record that has an owner, since it is no detail
+  pub owner_known : (people : People) (own : OwnLevels) → IsSound t → Has (records_of t l.object) r → OwnAt people t u (topmost 3 t.objects l.object) own
+      → (members : Option Membership) → members ≡ own.members → (owner : Option (List ℕ)) → r.owner ≡ owner → IfSome owner (λ _. MembersFor (has_hierarchy t r) people u.id members)
+  owner_known people own sound among known members same None e = tt
+  owner_known people own sound among known members same (Some i) e =
+      let it = of_layout t l r among in
+      let none = owner_apart t r i sound it.has e in
+      let top : topmost 3 t.objects l.object ≡ object_number r.id =
+      ap (topmost 3 t.objects) (sym it.number) ∙ ap (λ (o : Option Reference). in_case o (object_number r.id) (λ f. topmost 2 t.objects f.target)) none in
+      let o = object_is t r sound it.has in
+      subst (MembersFor (has_hierarchy t r) people u.id) (sym same)
+      (members_are t u r o.object o.there people own (subst (λ (n : ℕ). OwnAt people t u n own) top known o.object o.there))
 
 -- ---- the owner in a row
 

@@ -30,7 +30,7 @@ each P (y ∷ xs) x all (inl e) = subst P (sym e) all.0
 each P (y ∷ xs) x all (inr has) = each P xs x all.1 has
 
 -- a user that is found has the id
-found : (us : List User) (i : List ℕ) (x : User) → user_at us i ≡ Some x → Has us x × (x.id ≡ i)
+pub found : (us : List User) (i : List ℕ) (x : User) → user_at us i ≡ Some x → Has us x × (x.id ≡ i)
 found [] i x e = absurd cc
 found (y ∷ us) i x e = by (found us i x) (bytes_eq i y.id) refl e
   where

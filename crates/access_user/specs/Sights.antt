@@ -4,6 +4,7 @@ use Rattle.std.specs.Prelude.{◌≡◌, ℕ, zero, suc, Bool, true, false, List
 use Rattle.store_kv.specs.Tables.{Tables}
 use Rattle.store_rows.specs.declared.fail.StoreFail.{StoreFail}
 use Rattle.store_rows.specs.declared.fail.StoreFail.TheVariants.{Damaged, Keeper, Memory}
+use Rattle.access_closure.specs.declared.people.People.{People}
 use Rattle.access_user.specs.level.Own.{IsOwnLevels}
 use Rattle.access_user.specs.declared.level.knowing.OwnLevels.{OwnLevels}
 use Rattle.model.specs.declared.limit.Limit.TheVariants as limit
@@ -34,15 +35,15 @@ has_any (x ∷ xs) = true
 abbrev pub has_shares : Option Tenant → Bool
 has_shares t = in_case t false (λ u. has_any u.shares)
 
--- this is what is so of the user on all records of the object with this number, if there is one
-abbrev pub OwnAt : Tenant → User → (object : ℕ) → OwnLevels → Type 0
-OwnAt t u n own = (o : Object) → object_numbered t n ≡ Some o → IsOwnLevels t u n o own
+-- this is what is so of the user, who is one of these people, on all records of the object with this number, if there is one
+abbrev pub OwnAt : People → Tenant → User → (object : ℕ) → OwnLevels → Type 0
+OwnAt people t u n own = (o : Object) → object_numbered t n ≡ Some o → IsOwnLevels people t u n o own
 
 -- by these rights this is what the user sees of the records of the object with this number: the levels on its topmost masters are known,
 -- and whether there may be manual shares
 pub record IsSight (t : Tenant) (u : User) (n : ℕ) (s : UserSight) : Type 0 where
   pub rights : IsUserRights t u s.rights.now
-  pub own : OwnAt t u (topmost (limit_number limit.DetailLevels) t.objects n) s.own
+  pub own : OwnAt s.rights.now.sharer.people t u (topmost (limit_number limit.DetailLevels) t.objects n) s.own
   pub shares : s.shared ≡ false → t.shares ≡ []
 
 -- what is made is the sight by this layout of the user whose rights they are, of each tenant for which the organisation's rows stand and

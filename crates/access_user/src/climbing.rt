@@ -44,7 +44,13 @@ fn own_of(alloc: Global, rights: &UserRights, layout: &Layout) -> Result<OwnLeve
     if layout.fields.as_slice().len() > MOST_FIELDS {
         return Err(CodecFail::Damaged);
     }
-    Ok(own_levels(alloc, &rights.sharer, rights.rules.as_slice(), layout)?)
+    Ok(own_levels(
+        alloc,
+        &rights.sharer,
+        &rights.user,
+        rights.rules.as_slice(),
+        layout,
+    )?)
 }
 
 /// The same of the object to which the steps from another lead.
@@ -168,7 +174,7 @@ fn own_level<K: Keeper>(
         return Ok(apart);
     }
     let shares = shares_on(alloc, draft, org, sight.shared, &id)?;
-    Ok(level_with(&sight.rights.sharer, apart, shares.as_slice()))
+    Ok(level_with(&sight.rights.sharer, &sight.own, apart, shares.as_slice()))
 }
 
 // The level on a record, as far as it is asked for, by the steps to its topmost master.

@@ -8,6 +8,7 @@
 mod judging;
 mod knowing;
 mod levels;
+mod reaching;
 
 pub use self::judging::{level_apart, level_with, owns};
 pub use self::knowing::{Criterion, OwnLevels, OwnerRule, own_levels};

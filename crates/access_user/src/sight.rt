@@ -8,6 +8,8 @@ ghost use Rattle.access_user.specs.inner.Steps.{TellsWhere, most_above};
 ghost use Rattle.store_kv.specs.Draft.{DraftTells, tables_of};
 ghost use Rattle.model.specs.declared.record.Record.{Record};
 ghost use Rattle.model.specs.Levels.{own_level, owns};
+ghost use Rattle.model.specs.Membership.{Has};
+ghost use Rattle.model.specs.Objects.{records_of};
 ghost use Rattle.model.specs.Tenant.{Tenant, User};
 ghost use Rattle.store_codec.specs.Gives.{Gives};
 ghost use Rattle.access_traits.specs.Rights.{kept_record, level_there};
@@ -50,7 +52,8 @@ fn own_top<K: Keeper>(
     layout: &Layout,
 ) -> Result<OwnLevels, StoreFail>
     ensures finds { DraftTells K.state draft.old draft.new
-        → TellsWhere layout.now.org (MayLook rights.now layout.now) (λ own q t u. OwnAt t u (topmost 3 t.objects layout.now.object) own)
+        → TellsWhere layout.now.org (MayLook rights.now layout.now)
+        (λ own q t u. OwnAt rights.now.sharer.people t u (topmost 3 t.objects layout.now.object) own)
         (tables_of K.state draft.old) result }
     ensures calls { Calls K.state 0 (ended result) draft.old draft.new }
 {
@@ -106,15 +109,20 @@ fn item_of(alloc: Global, layout: &Layout, row: &KeptRow) -> Result<Record, Code
     }
 }
 
-// Whether the record of a row is the user's, or of a user below, by its owner alone.
-fn is_owned(rights: &UserRights, row: &KeptRow) -> bool
-    ensures value { (l : Layout) (r : Record) (t : Tenant) (u : User) → kept_record l row.now ≡ Some r → IsUserRights t u rights.now
-        → result ≡ owns t u r }
-    ensures full { (l : Layout) (r : Record) (t : Tenant) (u : User) → kept_record l row.now ≡ Some r → IsUserRights t u rights.now
-        → result ≡ true → own_level t u r ≡ Full }
+// Whether the record of a row is the user's, or, where the role hierarchy counts, of a user below, by its owner alone. A record with an
+// owner is no detail, so that the object of which the sight knows is its own.
+fn is_owned(sight: &UserSight<'_>, row: &KeptRow) -> bool
+    ensures value { (l : Layout) (r : Record) (t : Tenant) (u : User) → kept_record l row.now ≡ Some r → IsSight t u l.object sight.now
+        → Has (records_of t l.object) r → result ≡ owns t u r }
+    ensures full { (l : Layout) (r : Record) (t : Tenant) (u : User) → kept_record l row.now ≡ Some r → IsSight t u l.object sight.now
+        → Has (records_of t l.object) r → result ≡ true → own_level t u r ≡ Full }
 {
     match RowView::of(row.key.as_slice(), row.row.as_slice()) {
-        Some(view) => owns(&rights.sharer, view.owner()),
+        Some(view) => owns(
+            &sight.rights.sharer,
+            sight.own.members.as_ref(),
+            view.owner(),
+        ),
         None => false,
     }
 }
@@ -146,7 +154,7 @@ impl Sight for UserSight<'_> {
         if is_readable_by_all(&self.own) {
             return Ok(true);
         }
-        if is_owned(self.rights, row) {
+        if is_owned(self, row) {
             return Ok(true);
         }
         match item_of(alloc, layout, row) {

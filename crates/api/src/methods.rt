@@ -43,9 +43,20 @@ pub fn kind_at(place: Place, method: &Method) -> Option<Kind>
         Place::Users => way(method, "POST", Kind::AddUser, None),
         Place::User => way(method, "PATCH", Kind::SetUser, None),
         Place::Roles => way(method, "POST", Kind::AddRole, None),
-        Place::Role => way(method, "PATCH", Kind::SetRole, None),
+        Place::Role => way(
+            method,
+            "PATCH",
+            Kind::SetRole,
+            way(method, "DELETE", Kind::RemoveRole, None),
+        ),
         Place::Groups => way(method, "POST", Kind::AddGroup, None),
-        Place::Group => way(method, "PATCH", Kind::SetGroup, None),
+        Place::Group => way(
+            method,
+            "PATCH",
+            Kind::SetGroup,
+            way(method, "DELETE", Kind::RemoveGroup, None),
+        ),
+        Place::Organisation => way(method, "PATCH", Kind::SetOrganisation, None),
         Place::Retype => way(
             method,
             "POST",

@@ -20,5 +20,6 @@ pub enum Place {
     Role,
     Groups,
     Group,
+    Organisation,
     Retype,
 }

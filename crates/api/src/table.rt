@@ -7,7 +7,7 @@ use matchit::{InsertError, Router};
 use std::alloc::Global;
 
 // The pattern of each place. What is in braces is a part of the path, which isn't empty; all else is itself.
-fn patterns() -> [(&'static str, Place); 20]
+fn patterns() -> [(&'static str, Place); 21]
     ensures { map pattern_of result ≡ patterns }
 {
     [
@@ -30,6 +30,7 @@ fn patterns() -> [(&'static str, Place); 20]
         ("/admin/roles/{a}", Place::Role),
         ("/admin/groups", Place::Groups),
         ("/admin/groups/{a}", Place::Group),
+        ("/admin/organisation", Place::Organisation),
         ("/admin/retype", Place::Retype),
     ]
 }

@@ -1,38 +1,40 @@
 -- The requests that bodies ask for, and the edits of these.
-use Rattle.std.proofs.Common.{◌≡◌, ◌≤◌, ℕ, List, refl, sym, ap, subst, ◌∙◌, arith, ◌<◌, Option, Some, None, Result, Ok, Err}
+use Rattle.std.proofs.Common.{◌≡◌, ◌≤◌, ℕ, true, List, refl, sym, ap, subst, ◌∙◌, arith, ◌<◌, Option, Some, None, Result, Ok, Err}
 use Rattle.std.specs.Prelude.{IfErr, IfOk, IfSome, IsTrue, OnOk}
 use Rattle.std.specs.Option.{option_map}
 use Rattle.std.specs.declared.alloc.AllocError.{AllocError}
-use Rattle.api_input.specs.Bodies.{adds_new_role, begins_new_retype, request_in, sets_role_parent, sets_user_role, values_request}
+use Rattle.api_input.specs.Bodies.{adds_new_role, begins_new_retype, request_in, values_request}
 use Rattle.api_input.specs.declared.people.NewRole.{NewRole}
-use Rattle.api_input.specs.declared.people.RoleParent.{RoleParent}
-use Rattle.api_input.specs.declared.people.UserRole.{UserRole}
 use Rattle.api_input.specs.declared.retyping.NewRetype.{NewRetype}
 use Rattle.store_edit.specs.Edits.{DraftsEdit, EditsAt, MakesEdit, OthersStay, Planned}
 use Rattle.store_kv.specs.Draft.{DraftReads, DraftTells, Held, count_of}
 use Rattle.store_kv.specs.State.{KeeperState}
 use Rattle.store_kv.specs.Tables.{Tables}
 use Rattle.store_rows.specs.declared.fail.StoreFail.TheVariants.{Damaged, Memory}
-use Rattle.base_value.specs.declared.sharing.Access.{Access}
 use Rattle.model.specs.declared.metadata_bodies.NewField.{NewField}
 use Rattle.model.specs.declared.metadata_bodies.NewObject.{NewObject}
 use Rattle.model.specs.declared.metadata_bodies.NewValidationRule.{NewValidationRule}
+use Rattle.model.specs.declared.metadata_bodies.ObjectChange.{ObjectChange}
+use Rattle.model.specs.Cases.{in_case}
 use Rattle.model.specs.declared.record_bodies.Assignment.{Assignment}
+use Rattle.model.specs.declared.people_bodies.GroupChange.{GroupChange}
 use Rattle.model.specs.declared.people_bodies.NewUser.{NewUser}
+use Rattle.model.specs.declared.people_bodies.RoleChange.{RoleChange}
+use Rattle.model.specs.declared.people_bodies.UserChange.{UserChange}
 use Rattle.model.specs.declared.sharing_bodies.NewShare.{NewShare}
 use Rattle.model.specs.declared.sharing_bodies.NewSharingRule.{NewSharingRule}
 use Rattle.model.specs.declared.refusal.Refusal.{Refusal}
 use Rattle.model_requests.specs.declared.route.Route.{Route}
-use Rattle.model_requests.specs.declared.route.Route.TheVariants.{AddField, AddGroup, AddObject, AddRole, AddSharingRule, AddUser, AddValidationRule, BeginRetype, CancelRetype, Create, Delete, RemoveSharingRule, RemoveValidationRule, SetGroup, SetObject, SetRole, SetUser, Share, Unshare, Update, Upsert}
+use Rattle.model_requests.specs.declared.route.Route.TheVariants.{AddField, AddGroup, AddObject, AddRole, AddSharingRule, AddUser, AddValidationRule, BeginRetype, CancelRetype, Create, Delete, RemoveGroup, RemoveRole, RemoveSharingRule, RemoveValidationRule, SetGroup, SetObject, SetOrganisation, SetRole, SetUser, Share, Unshare, Update, Upsert}
 use Rattle.model.specs.Bounds.{edit_shown, request_changes, request_gone}
-use Rattle.model_requests.specs.Forms.{access_request, field_request, object_request, share_request, sharing_rule_request, validation_request}
+use Rattle.model_requests.specs.Forms.{field_request, object_change_request, object_request, share_request, sharing_rule_request, validation_request}
 use Rattle.model.specs.Members.{Body, principal_in}
 use Rattle.model.specs.Organisations.{is_secret}
 use Rattle.model.specs.Paths.{Asked}
-use Rattle.model_requests.specs.PeopleForms.{group_request, members_request, retype_request, role_parent_request, role_request, user_request, user_role_request}
+use Rattle.model_requests.specs.PeopleForms.{group_change_request, group_request, organisation_request, retype_request, role_change_request, role_request, user_change_request, user_request}
 use Rattle.model.specs.declared.people_bodies.Spelled.{Spelled}
 use Rattle.model_requests.specs.RequestOf.{request_of, request_or, value_part, verdict_or}
-use Rattle.model_requests.specs.Requests.{Request, adds_field, adds_group, adds_object, adds_sharing_rule, adds_user, adds_validation_rule, cancels_retype, creates, deletes, removes_sharing_rule, removes_validation_rule, sets_group, sets_object, shares, unshares, updates, upserts, verdict_on}
+use Rattle.model_requests.specs.Requests.{Request, adds_field, adds_group, adds_object, adds_sharing_rule, adds_user, adds_validation_rule, cancels_retype, creates, deletes, removes_group, removes_role, removes_sharing_rule, removes_validation_rule, sets_group, sets_object, sets_organisation, sets_role, sets_user, shares, unshares, updates, upserts, verdict_on}
 use Rattle.model.specs.Sound.{IsSound}
 use Rattle.model.specs.Tenant.{Tenant}
 use Rattle.model.specs.Verdict.{Done, Verdict}
@@ -95,11 +97,12 @@ of_path : {X : Type 0} (make : List ℕ → X → Request) (form : List ℕ → 
 of_path make form (Ok x) body e name = e name
 of_path make form (Err x) body e name = e
 
-pub asks_access : (object body : List ℕ) (read : Result (Option Access) AllocError)
-    → IfOk read (λ x. (object : List ℕ) → option_map (sets_object object) x ≡ request_in (access_request object) body)
+pub asks_object_change : (object body : List ℕ) (read : Result (Option ObjectChange) AllocError)
+    → IfOk read (λ x. (object : List ℕ) → option_map (sets_object object) x ≡ request_in (object_change_request object) body)
     → Asks (sets_object object) (request_of (SetObject object) body) (form_of read)
 unfolding request_of
-asks_access object body read e = asks_form (sets_object object) read (request_in (access_request object) body) (of_path sets_object access_request read body e object)
+asks_object_change object body read e =
+    asks_form (sets_object object) read (request_in (object_change_request object) body) (of_path sets_object object_change_request read body e object)
 
 pub asks_user : (body : List ℕ) (read : Result (Option NewUser) AllocError) → IfOk read (λ x. option_map adds_user x ≡ request_in user_request body)
     → Asks adds_user (request_of AddUser body) (form_of read)
@@ -111,33 +114,52 @@ has_secret (Ok (Some user)) h = h
 has_secret (Ok None) h = tt
 has_secret (Err e) h = tt
 
-pub asks_user_role : (user body : List ℕ) (read : Result (Option UserRole) AllocError)
-    → IfOk read (λ x. (user : List ℕ) → option_map (sets_user_role user) x ≡ request_in (user_role_request user) body)
-    → Asks (sets_user_role user) (request_of (SetUser user) body) (form_of read)
+pub asks_user_change : (user body : List ℕ) (read : Result (Option UserChange) AllocError)
+    → IfOk read (λ x. (user : List ℕ) → option_map (sets_user user) x ≡ request_in (user_change_request user) body)
+    → Asks (sets_user user) (request_of (SetUser user) body) (form_of read)
 unfolding request_of
-asks_user_role user body read e = asks_form (sets_user_role user) read (request_in (user_role_request user) body) (of_path sets_user_role user_role_request read body e user)
+asks_user_change user body read e =
+    asks_form (sets_user user) read (request_in (user_change_request user) body) (of_path sets_user user_change_request read body e user)
+
+pub has_new_secret : (read : Result (Option UserChange) AllocError) → IfOk read (λ x. IfSome x (λ b. IsTrue (in_case b.secret true is_secret)))
+    → IfOk (form_of read) (λ b. IsTrue (in_case b.secret true is_secret))
+has_new_secret (Ok (Some b)) h = h
+has_new_secret (Ok None) h = tt
+has_new_secret (Err e) h = tt
+
+-- a secret that is given is one
+pub secret_given : (secret : Option (List ℕ)) → IsTrue (in_case secret true is_secret) → IfSome secret (λ s. IsTrue (is_secret s))
+secret_given None h = tt
+secret_given (Some s) h = h
 
 pub asks_role : (body : List ℕ) (read : Result (Option NewRole) AllocError) → IfOk read (λ x. option_map adds_new_role x ≡ request_in role_request body)
     → Asks adds_new_role (request_of AddRole body) (form_of read)
 unfolding request_of
 asks_role body read e = asks_form adds_new_role read (request_in role_request body) e
 
-pub asks_parent : (role body : List ℕ) (read : Result (Option RoleParent) AllocError)
-    → IfOk read (λ x. (role : List ℕ) → option_map (sets_role_parent role) x ≡ request_in (role_parent_request role) body)
-    → Asks (sets_role_parent role) (request_of (SetRole role) body) (form_of read)
+pub asks_role_change : (role body : List ℕ) (read : Result (Option RoleChange) AllocError)
+    → IfOk read (λ x. (role : List ℕ) → option_map (sets_role role) x ≡ request_in (role_change_request role) body)
+    → Asks (sets_role role) (request_of (SetRole role) body) (form_of read)
 unfolding request_of
-asks_parent role body read e = asks_form (sets_role_parent role) read (request_in (role_parent_request role) body) (of_path sets_role_parent role_parent_request read body e role)
+asks_role_change role body read e =
+    asks_form (sets_role role) read (request_in (role_change_request role) body) (of_path sets_role role_change_request read body e role)
 
 pub asks_group : (body : List ℕ) (read : Result (Option (List ℕ)) AllocError) → IfOk read (λ x. option_map adds_group x ≡ request_in group_request body)
     → Asks adds_group (request_of AddGroup body) (form_of read)
 unfolding request_of
 asks_group body read e = asks_form adds_group read (request_in group_request body) e
 
-pub asks_members : (group body : List ℕ) (read : Result (Option (List Spelled)) AllocError)
-    → IfOk read (λ x. (group : List ℕ) → option_map (sets_group group) x ≡ request_in (members_request group) body)
+pub asks_group_change : (group body : List ℕ) (read : Result (Option GroupChange) AllocError)
+    → IfOk read (λ x. (group : List ℕ) → option_map (sets_group group) x ≡ request_in (group_change_request group) body)
     → Asks (sets_group group) (request_of (SetGroup group) body) (form_of read)
 unfolding request_of
-asks_members group body read e = asks_form (sets_group group) read (request_in (members_request group) body) (of_path sets_group members_request read body e group)
+asks_group_change group body read e =
+    asks_form (sets_group group) read (request_in (group_change_request group) body) (of_path sets_group group_change_request read body e group)
+
+pub asks_organisation : (body : List ℕ) (read : Result (Option (List ℕ)) AllocError) → IfOk read (λ x. option_map sets_organisation x ≡ request_in organisation_request body)
+    → Asks sets_organisation (request_of SetOrganisation body) (form_of read)
+unfolding request_of
+asks_organisation body read e = asks_form sets_organisation read (request_in organisation_request body) e
 
 -- the values of a record, with which any request may be made
 of_values : (read : Result (Option (List Assignment)) AllocError) (body : List ℕ) (make : List Assignment → Request)
@@ -189,6 +211,14 @@ asks_no_rule name body = refl
 pub asks_no_validation : (object name body : List ℕ) → request_of (RemoveValidationRule object name) body ≡ Ok (removes_validation_rule object name)
 unfolding request_of
 asks_no_validation object name body = refl
+
+pub asks_no_role : (id body : List ℕ) → request_of (RemoveRole id) body ≡ Ok (removes_role id)
+unfolding request_of
+asks_no_role id body = refl
+
+pub asks_no_group : (id body : List ℕ) → request_of (RemoveGroup id) body ≡ Ok (removes_group id)
+unfolding request_of
+asks_no_group id body = refl
 
 -- ---- a request that is read is fit
 

@@ -1,26 +1,27 @@
 //! What the bodies of requests ask for.
 
-ghost use Rattle.std.specs.Prelude.{◌≡◌, IfOk, IsTrue, List, ℕ};
+ghost use Rattle.std.specs.Prelude.{◌≡◌, IfOk, IsTrue, List, true, ℕ};
 ghost use Rattle.api_edit.specs.inner.Edits.{Asks, form_of};
-ghost use Rattle.api_input.specs.Bodies.{adds_new_role, begins_new_retype, request_in, sets_role_parent, sets_user_role, values_request};
+ghost use Rattle.api_input.specs.Bodies.{adds_new_role, begins_new_retype, request_in, values_request};
 ghost use Rattle.record_input.specs.Given.{IsInJson};
+ghost use Rattle.model.specs.Cases.{in_case};
 ghost use Rattle.model.specs.Organisations.{is_secret};
 ghost use Rattle.model_requests.specs.RequestOf.{request_of, request_or};
 ghost use Rattle.model_requests.specs.Requests.{Request, adds_field, adds_object, adds_sharing_rule, adds_validation_rule, sets_object, shares};
-ghost use Rattle.model_requests.specs.Requests.{adds_group, adds_user, sets_group};
+ghost use Rattle.model_requests.specs.Requests.{adds_group, adds_user, sets_group, sets_organisation, sets_role, sets_user};
 ghost use Rattle.model.specs.declared.record_bodies.Assignment.{Assignment};
 ghost use Rattle.model_requests.specs.declared.route.Route.TheVariants.{AddField, AddObject, AddSharingRule, AddValidationRule, BeginRetype, SetObject, Share};
-ghost use Rattle.model_requests.specs.declared.route.Route.TheVariants.{AddGroup, AddRole, AddUser, SetGroup, SetRole, SetUser};
+ghost use Rattle.model_requests.specs.declared.route.Route.TheVariants.{AddGroup, AddRole, AddUser, SetGroup, SetOrganisation, SetRole, SetUser};
 
 use api_input::{
-    NewRetype, NewRole, RoleParent, UserRole, field_values, group_members, new_access, new_field,
-    new_group, new_object, new_retype, new_role, new_share, new_sharing_rule, new_user,
-    new_validation_rule, parent_of_role, role_of_user,
+    NewRetype, NewRole, field_values, group_change, new_field, new_group, new_object, new_retype,
+    new_role, new_share, new_sharing_rule, new_user, new_validation_rule, object_change,
+    organisation_name, role_change, user_change,
 };
-use base_value::{Access, Items, Text};
+use base_value::{Items, Text};
 use model::{
-    Assignment, NewField, NewObject, NewShare, NewSharingRule, NewUser, NewValidationRule, Refusal,
-    Spelled,
+    Assignment, GroupChange, NewField, NewObject, NewShare, NewSharingRule, NewUser,
+    NewValidationRule, ObjectChange, Refusal, RoleChange, UserChange,
 };
 use std::alloc::{AllocError, Global};
 use store_abstraction::EditFail;
@@ -60,15 +61,15 @@ pub(crate) fn object_in(alloc: Global, body: &[u8]) -> Result<NewObject, EditFai
     form_of(new_object(alloc, body))
 }
 
-/// The access that a body asks for.
+/// The change of an object that a body asks for.
 ///
 /// # Errors
 ///
 /// `Refused` with `BodyForm` if the body isn't of that form; `Store` with `Memory` if out of memory.
-pub(crate) fn access_in(alloc: Global, body: &[u8]) -> Result<Access, EditFail>
+pub(crate) fn object_change_in(alloc: Global, body: &[u8]) -> Result<ObjectChange, EditFail>
     ensures { (object : List ℕ) → Asks (sets_object object) (request_of (SetObject object) body.now) result }
 {
-    form_of(new_access(alloc, body))
+    form_of(object_change(alloc, body))
 }
 
 /// The validation rule that a body asks for.
@@ -105,15 +106,16 @@ pub(crate) fn user_in(alloc: Global, body: &[u8]) -> Result<NewUser, EditFail>
     form_of(new_user(alloc, body))
 }
 
-/// The role that a body asks for a user to have.
+/// The change of a user that a body asks for, whose secret is one.
 ///
 /// # Errors
 ///
 /// `Refused` with `BodyForm` if the body isn't of that form; `Store` with `Memory` if out of memory.
-pub(crate) fn user_role_in(alloc: Global, body: &[u8]) -> Result<UserRole, EditFail>
-    ensures { (user : List ℕ) → Asks (sets_user_role user) (request_of (SetUser user) body.now) result }
+pub(crate) fn user_change_in(alloc: Global, body: &[u8]) -> Result<UserChange, EditFail>
+    ensures asks { (user : List ℕ) → Asks (sets_user user) (request_of (SetUser user) body.now) result }
+    ensures secret { IfOk result (λ change. IsTrue (in_case change.secret true is_secret)) }
 {
-    form_of(role_of_user(alloc, body))
+    form_of(user_change(alloc, body))
 }
 
 /// The role that a body asks for.
@@ -127,15 +129,15 @@ pub(crate) fn role_in(alloc: Global, body: &[u8]) -> Result<NewRole, EditFail>
     form_of(new_role(alloc, body))
 }
 
-/// The parent that a body asks for a role to have.
+/// The change of a role that a body asks for.
 ///
 /// # Errors
 ///
 /// `Refused` with `BodyForm` if the body isn't of that form; `Store` with `Memory` if out of memory.
-pub(crate) fn parent_in(alloc: Global, body: &[u8]) -> Result<RoleParent, EditFail>
-    ensures { (role : List ℕ) → Asks (sets_role_parent role) (request_of (SetRole role) body.now) result }
+pub(crate) fn role_change_in(alloc: Global, body: &[u8]) -> Result<RoleChange, EditFail>
+    ensures { (role : List ℕ) → Asks (sets_role role) (request_of (SetRole role) body.now) result }
 {
-    form_of(parent_of_role(alloc, body))
+    form_of(role_change(alloc, body))
 }
 
 /// The name of the group that a body asks for.
@@ -149,15 +151,26 @@ pub(crate) fn group_in(alloc: Global, body: &[u8]) -> Result<Text, EditFail>
     form_of(new_group(alloc, body))
 }
 
-/// The members that a body asks for a group to have.
+/// The change of a group that a body asks for.
 ///
 /// # Errors
 ///
 /// `Refused` with `BodyForm` if the body isn't of that form; `Store` with `Memory` if out of memory.
-pub(crate) fn members_in(alloc: Global, body: &[u8]) -> Result<Items<Spelled>, EditFail>
+pub(crate) fn group_change_in(alloc: Global, body: &[u8]) -> Result<GroupChange, EditFail>
     ensures { (group : List ℕ) → Asks (sets_group group) (request_of (SetGroup group) body.now) result }
 {
-    form_of(group_members(alloc, body))
+    form_of(group_change(alloc, body))
+}
+
+/// The name that a body asks for the organisation to have.
+///
+/// # Errors
+///
+/// `Refused` with `BodyForm` if the body isn't of that form; `Store` with `Memory` if out of memory.
+pub(crate) fn organisation_in(alloc: Global, body: &[u8]) -> Result<Text, EditFail>
+    ensures { Asks sets_organisation (request_of SetOrganisation body.now) result }
+{
+    form_of(organisation_name(alloc, body))
 }
 
 /// The manual share that a body asks for.

@@ -10,16 +10,19 @@ ghost use Rattle.model.specs.Bounds.{edit_shown, request_changes, request_gone};
 ghost use Rattle.base_value.specs.Dates.{is_moment};
 
 use crate::answer::{Answer, done};
-use crate::bodies::{access_in, field_in, object_in, rule_in};
-use crate::people::{changed_group, changed_role, changed_user, new_group, new_role, new_user};
+use crate::bodies::{field_in, object_change_in, object_in, rule_in};
+use crate::people::{
+    changed_group, changed_organisation, changed_role, changed_user, new_group, new_role, new_user,
+};
 use crate::records::{changed_record, deleted_record, new_record, upserted_record};
+use crate::removals::{removed_group, removed_role};
 use crate::retyping::{begun_retype, cancelled_retype};
 use crate::rules::removed_validation_rule;
 use crate::sharing::{new_sharing_rule, removed_sharing_rule, shared_record, unshared_record};
 use access_traits::Rights;
 use model::Caller;
 use model_requests::{Route, refusal_laws, requests_fit};
-use schema_edit::{AddField, AddObject, AddValidationRule, SetAccess};
+use schema_edit::{AddField, AddObject, AddValidationRule, SetObject};
 use std::alloc::Global;
 use store_abstraction::{EditFail, call_laws};
 use store_edit::make_edit;
@@ -68,9 +71,9 @@ pub(crate) fn edit<K: Keeper, R: Rights>(
             done(make_edit(alloc, draft, org, &AddObject { new: &new }))
         }
         Route::SetObject { object } => {
-            let access = access_in(alloc, body)?;
+            let change = object_change_in(alloc, body)?;
             let object = object.as_str();
-            done(make_edit(alloc, draft, org, &SetAccess { object, access }))
+            done(make_edit(alloc, draft, org, &SetObject { object, change }))
         }
         Route::AddField => {
             let new = field_in(alloc, body)?;
@@ -93,6 +96,9 @@ pub(crate) fn edit<K: Keeper, R: Rights>(
         Route::SetRole { id } => changed_role(alloc, draft, org, id, body),
         Route::AddGroup => new_group(alloc, draft, org, body),
         Route::SetGroup { id } => changed_group(alloc, draft, org, id, body),
+        Route::RemoveRole { id } => removed_role(alloc, draft, org, id),
+        Route::RemoveGroup { id } => removed_group(alloc, draft, org, id),
+        Route::SetOrganisation => changed_organisation(alloc, draft, org, body),
         Route::BeginRetype => begun_retype(alloc, draft, org, body),
         Route::CancelRetype => cancelled_retype(alloc, draft, org),
         Route::Query { .. } | Route::GetRetype => unreachable!(),

@@ -11,6 +11,7 @@ mod bodies;
 mod edits;
 mod people;
 mod records;
+mod removals;
 mod replies;
 mod requests;
 mod retyping;

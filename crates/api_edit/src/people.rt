@@ -1,7 +1,6 @@
-//! The edits of users, roles and groups that requests ask for.
+//! The edits of users, roles, groups and the organisation that requests ask for.
 
-ghost use Rattle.std.specs.Prelude.{◌≡◌, IfOk};
-ghost use Rattle.std.specs.Option.{option_copied};
+ghost use Rattle.std.specs.Prelude.{IfOk};
 ghost use Rattle.api_edit.specs.inner.Edits.{Anyone, EditsFrom, IsAnswerTo};
 ghost use Rattle.store_edit.specs.Edits.{DraftsEdit};
 ghost use Rattle.store_kv.specs.Draft.{DraftTells, tables_of};
@@ -10,11 +9,12 @@ ghost use Rattle.model_requests.specs.declared.route.Route.TheVariants as route;
 ghost use Rattle.model.specs.Bounds.{edit_shown, request_changes, request_gone};
 
 use crate::answer::{Answer, done, made};
-use crate::bodies::{group_in, members_in, parent_in, role_in, user_in, user_role_in};
-use api_input::{RoleParent, UserRole};
+use crate::bodies::{
+    group_change_in, group_in, organisation_in, role_change_in, role_in, user_change_in, user_in,
+};
 use base_value::Text;
 use model_requests::refusal_laws;
-use people_edit::{AddGroup, AddRole, AddUser, SetGroup, SetRole, SetUser};
+use people_edit::{AddGroup, AddRole, AddUser, SetGroup, SetOrganisation, SetRole, SetUser};
 use std::alloc::Global;
 use store_abstraction::{EditFail, call_laws};
 use store_edit::make_edit;
@@ -45,18 +45,7 @@ pub(crate) fn new_user<K: Keeper>(
     made(make_edit(alloc, draft, org, &edit))
 }
 
-// The edit that gives a user the role for which a body asks.
-fn user_edit<'a>(user: &'a Text, new: &'a UserRole) -> SetUser<'a>
-    ensures user { result.user.now ≡ user.now }
-    ensures role { option_copied result.role ≡ new.now.role }
-{
-    SetUser {
-        user,
-        role: new.role.as_ref(),
-    }
-}
-
-/// Gives a user another role or none, by a body. The user is named by its id.
+/// Gives a user another role, name or secret, or other standing, by a body. The user is named by its id.
 ///
 /// # Errors
 ///
@@ -77,8 +66,11 @@ pub(crate) fn changed_user<K: Keeper>(
 {
     call_laws::<K>();
     refusal_laws();
-    let new = user_role_in(alloc, body)?;
-    let edit = user_edit(user, &new);
+    let change = user_change_in(alloc, body)?;
+    let edit = SetUser {
+        user,
+        change: &change,
+    };
     done(make_edit(alloc, draft, org, &edit))
 }
 
@@ -110,18 +102,7 @@ pub(crate) fn new_role<K: Keeper>(
     made(make_edit(alloc, draft, org, &edit))
 }
 
-// The edit that gives a role the parent for which a body asks.
-fn role_edit<'a>(role: &'a Text, new: &'a RoleParent) -> SetRole<'a>
-    ensures role { result.role.now ≡ role.now }
-    ensures parent { option_copied result.parent ≡ new.now.parent }
-{
-    SetRole {
-        role,
-        parent: new.parent.as_ref(),
-    }
-}
-
-/// Gives a role another parent or none, by a body. The role is named by its id.
+/// Gives a role another parent, or none, or another name, by a body. The role is named by its id.
 ///
 /// # Errors
 ///
@@ -142,8 +123,11 @@ pub(crate) fn changed_role<K: Keeper>(
 {
     call_laws::<K>();
     refusal_laws();
-    let new = parent_in(alloc, body)?;
-    let edit = role_edit(role, &new);
+    let change = role_change_in(alloc, body)?;
+    let edit = SetRole {
+        role,
+        change: &change,
+    };
     done(make_edit(alloc, draft, org, &edit))
 }
 
@@ -172,7 +156,7 @@ pub(crate) fn new_group<K: Keeper>(
     made(make_edit(alloc, draft, org, &edit))
 }
 
-/// Gives a group other members, by a body. The group is named by its id.
+/// Gives a group other members or another name, by a body. The group is named by its id.
 ///
 /// # Errors
 ///
@@ -193,10 +177,35 @@ pub(crate) fn changed_group<K: Keeper>(
 {
     call_laws::<K>();
     refusal_laws();
-    let members = members_in(alloc, body)?;
+    let change = group_change_in(alloc, body)?;
     let edit = SetGroup {
         group,
-        members: members.as_slice(),
+        change: &change,
     };
+    done(make_edit(alloc, draft, org, &edit))
+}
+
+/// Gives the organisation another name, by a body.
+///
+/// # Errors
+///
+/// `Refused` if the body isn't of its form, or as the edit is; nothing is then changed. `Store` with `Keeper` if the keeper failed,
+/// `Memory` if out of memory.
+pub(crate) fn changed_organisation<K: Keeper>(
+    alloc: Global,
+    draft: &mut Draft<'_, K>,
+    org: u32,
+    body: &[u8],
+) -> Result<Answer, EditFail>
+    ensures what { DraftTells K.state draft.old draft.new
+        → EditsFrom org Anyone (λ a. verdict_or a (request_of route.SetOrganisation body.now)) (tables_of K.state draft.old)
+        (tables_of K.state draft.new) result }
+    ensures form { IfOk result (IsAnswerTo route.SetOrganisation) }
+    ensures makes { DraftsEdit K.state request_changes request_gone edit_shown result draft.old draft.new }
+{
+    call_laws::<K>();
+    refusal_laws();
+    let name = organisation_in(alloc, body)?;
+    let edit = SetOrganisation { name: &name };
     done(make_edit(alloc, draft, org, &edit))
 }

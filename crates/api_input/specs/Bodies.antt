@@ -4,10 +4,8 @@ use Rattle.std.specs.Option.{option_map}
 use Rattle.base_json.specs.Reading.{◌>>=◌}
 use Rattle.model.specs.declared.record_bodies.Assignment.{Assignment}
 use Rattle.model.specs.Members.{Body, assignments, body_in}
-use Rattle.model_requests.specs.Requests.{Request, adds_role, begins_retype, sets_role, sets_user}
+use Rattle.model_requests.specs.Requests.{Request, adds_role, begins_retype}
 use Rattle.api_input.specs.declared.people.NewRole.{NewRole}
-use Rattle.api_input.specs.declared.people.RoleParent.{RoleParent}
-use Rattle.api_input.specs.declared.people.UserRole.{UserRole}
 use Rattle.api_input.specs.declared.retyping.NewRetype.{NewRetype}
 
 -- the request that a form gives for the members of the body
@@ -18,15 +16,9 @@ request_in form bytes = body_in bytes >>= form
 abbrev pub values_request : (make : List Assignment → Request) → Body → Option Request
 values_request make b = option_map make (assignments b)
 
--- the requests that are made of what bodies say of roles, and of the roles of users
+-- the request that is made of what a body says of a new role
 abbrev pub adds_new_role : NewRole → Request
 adds_new_role new = adds_role new.name new.parent
-
-abbrev pub sets_role_parent : (role : List ℕ) → RoleParent → Request
-sets_role_parent role new = sets_role role new.parent
-
-abbrev pub sets_user_role : (user : List ℕ) → UserRole → Request
-sets_user_role user new = sets_user user new.role
 
 -- the request that is made of what a body says of the change of a field's type
 abbrev pub begins_new_retype : NewRetype → Request

@@ -10,7 +10,7 @@ ghost use Rattle.api_input.specs.inner.Spelled.{body_of, choice_member, member_o
 ghost use Rattle.api_input.specs.inner.Said.{said};
 
 use crate::fail::BodyFail;
-use crate::members::{are_formed, entry};
+use crate::members::{are_formed, entry, says_any};
 use crate::name::Name;
 use crate::table::entry_named;
 use crate::values::{
@@ -77,6 +77,17 @@ impl<'a> Body<'a> {
         }
     }
 
+    /// Refuses the body of a change if it has none of these members, one twice, or another.
+    pub(crate) fn check_change(&self, members: &[Name]) -> Result<(), BodyFail>
+        ensures { Gives (λ _. said self.now) result (model.changing (names_of members.now) (said self.now)) }
+    {
+        if says_any(self.members) {
+            self.check_form(&[], members)
+        } else {
+            Err(BodyFail::Form)
+        }
+    }
+
     /// The value of a member, if it is there.
     pub(crate) fn entry(&self, name: Name) -> Option<&'a Json>
         ensures { option_copied result ≡ model.entry_named (said self.now) (name_of name) }
@@ -104,6 +115,29 @@ impl<'a> Body<'a> {
         as_text_or_null(self.value(name)?).ok_or(BodyFail::Form)
     }
 
+    /// A text, if the member is there.
+    pub(crate) fn text_if_any(&self, name: Name) -> Result<Option<&'a Text>, BodyFail>
+        ensures { Gives option_copied result (model.if_any model.as_text (said self.now) (name_of name)) }
+    {
+        match self.entry(name) {
+            Some(json) => Ok(Some(as_text(json).ok_or(BodyFail::Form)?)),
+            None => Ok(None),
+        }
+    }
+
+    /// A text, or none of null, if the member is there.
+    pub(crate) fn text_or_null_if_any(
+        &self,
+        name: Name,
+    ) -> Result<Option<Option<&'a Text>>, BodyFail>
+        ensures { Gives (option_map option_copied) result (model.if_any model.as_text_or_null (said self.now) (name_of name)) }
+    {
+        match self.entry(name) {
+            Some(json) => Ok(Some(as_text_or_null(json).ok_or(BodyFail::Form)?)),
+            None => Ok(None),
+        }
+    }
+
     /// What a table has under the text of a member.
     pub(crate) fn table_entry<T: Copy>(
         &self,
@@ -128,6 +162,16 @@ impl<'a> Body<'a> {
         match self.entry(name) {
             Some(json) => as_truth(json).ok_or(BodyFail::Form),
             None => Ok(false),
+        }
+    }
+
+    /// A truth value, if the member is there.
+    pub(crate) fn truth_if_any(&self, name: Name) -> Result<Option<bool>, BodyFail>
+        ensures { Gives (λ truth. truth) result (model.if_any model.as_truth (said self.now) (name_of name)) }
+    {
+        match self.entry(name) {
+            Some(json) => Ok(Some(as_truth(json).ok_or(BodyFail::Form)?)),
+            None => Ok(None),
         }
     }
 

@@ -5,8 +5,10 @@
 #![tactic(auto)]
 
 mod body;
+mod copies;
 mod fail;
 mod fields;
+mod groups;
 mod members;
 mod name;
 mod objects;
@@ -21,11 +23,10 @@ mod types;
 mod values;
 
 pub use crate::fields::new_field;
-pub use crate::objects::{new_access, new_object};
-pub use crate::people::{
-    NewRole, RoleParent, UserRole, new_group, new_role, new_user, parent_of_role, role_of_user,
-};
-pub use crate::principals::{group_members, spelled_principal};
+pub use crate::groups::{group_change, new_group};
+pub use crate::objects::{new_object, object_change};
+pub use crate::people::{NewRole, new_role, new_user, organisation_name, role_change, user_change};
+pub use crate::principals::spelled_principal;
 pub use crate::records::field_values;
 pub use crate::retyping::{NewRetype, new_retype};
 pub use crate::rules::new_validation_rule;

@@ -5,7 +5,7 @@ ghost use Rattle.std.specs.List.{list_all, list_any};
 ghost use Rattle.std.specs.Option.{option_copied};
 ghost use Rattle.std.specs.Str.{chars};
 ghost use Rattle.base_value.specs.Texts.{lower, texts_differ};
-ghost use Rattle.model.specs.Members.{entry_named, is_one_of, member_names};
+ghost use Rattle.model.specs.Members.{entry_named, is_one_of, member_names, says_any};
 ghost use Rattle.api_input.specs.inner.Names.{names_of};
 ghost use Rattle.api_input.specs.inner.Spelled.{body_of};
 
@@ -85,6 +85,13 @@ fn are_there(members: &[Member], needed: &[Name]) -> bool
         Some((name, more)) => has(members, name.text()) && are_there(members, more),
         None => true,
     }
+}
+
+/// Whether there is a member.
+pub(crate) fn says_any(members: &[Member]) -> bool
+    ensures { result ≡ says_any (body_of members.now) }
+{
+    members.first().is_some()
 }
 
 /// Whether no member is there twice, all that are needed are there, and no other but optional ones.

@@ -8,6 +8,7 @@ ghost use Rattle.api_input.specs.inner.Names.{name_of};
 #[derive(Clone, Copy, Debug)]
 pub(crate) enum Name {
     Access,
+    Active,
     Admin,
     Child,
     Decimals,
@@ -15,6 +16,7 @@ pub(crate) enum Name {
     Field,
     Formula,
     From,
+    Hierarchy,
     Indexed,
     Kind,
     Length,
@@ -43,6 +45,7 @@ impl Name {
     {
         match self {
             Name::Access => "access",
+            Name::Active => "active",
             Name::Admin => "admin",
             Name::Child => "child",
             Name::Decimals => "decimals",
@@ -50,6 +53,7 @@ impl Name {
             Name::Field => "field",
             Name::Formula => "formula",
             Name::From => "from",
+            Name::Hierarchy => "hierarchy",
             Name::Indexed => "indexed",
             Name::Kind => "kind",
             Name::Length => "length",

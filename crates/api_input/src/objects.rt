@@ -1,11 +1,12 @@
 //! What bodies say of objects.
 
-ghost use Rattle.std.specs.Prelude.{◌≡◌, ◌∷◌, ◌++◌, [], IfOk, List, OnOk, ℕ, bytes_eq, codes, if◌then◌else◌};
+ghost use Rattle.std.specs.Prelude.{◌≡◌, ◌∷◌, ◌++◌, ◌&&◌, [], IfOk, List, OnOk, not, ℕ, bytes_eq, codes, if◌then◌else◌, is_some, true};
+ghost use Rattle.std.specs.Bool.{beq};
 ghost use Rattle.std.specs.Option.{option_map};
 ghost use Rattle.model.specs.Cases.{in_case};
 ghost use Rattle.model.specs.Fields.{by_parent};
 ghost use Rattle.model_requests.specs.Forms as model;
-ghost use Rattle.model.specs.Members.{member_names};
+ghost use Rattle.model.specs.Members.{if_any, member_names};
 ghost use Rattle.model_requests.specs.Requests.{adds_object, sets_object};
 ghost use Rattle.api_input.specs.Bodies.{request_in};
 ghost use Rattle.api_input.specs.inner.Outcomes.{Gives};
@@ -17,7 +18,7 @@ use crate::fail::{BodyFail, or_none};
 use crate::name::Name;
 use base_json::Member;
 use base_value::{Access, Items, Text, is_text};
-use model::{NewMaster, NewObject};
+use model::{NewMaster, NewObject, ObjectChange};
 use std::alloc::{AllocError, Global};
 
 // The member `access`.
@@ -33,6 +34,16 @@ fn access_in(body: &Body) -> Result<Access, BodyFail>
             ("ControlledByParent", Access::ControlledByParent),
         ],
     )
+}
+
+// The member `access`, if it is there.
+fn access_if_any(body: &Body) -> Result<Option<Access>, BodyFail>
+    ensures { Gives (λ a. a) result (if_any model.as_access (said body.now) (codes "access")) }
+{
+    match body.entry(Name::Access) {
+        Some(_) => Ok(Some(access_in(body)?)),
+        None => Ok(None),
+    }
 }
 
 fn is_by_parent(access: Access) -> bool
@@ -109,33 +120,59 @@ fn all_names(alloc: Global, body: &Body) -> Result<Items<Text>, AllocError>
     Ok(names)
 }
 
+// Whether the access and the hierarchy suit a master that is there or isn't: it is there exactly where the access is by the
+// parent, and then nothing is said of the hierarchy.
+fn suits_master(access: Access, hierarchy: Option<bool>, has_master: bool) -> bool
+    ensures { result ≡ (beq (by_parent access) has_master && not (is_some hierarchy && has_master)) }
+{
+    is_by_parent(access) == has_master && !(hierarchy.is_some() && has_master)
+}
+
 fn read_object(alloc: Global, body: &Body) -> Result<NewObject, BodyFail>
     ensures { Gives adds_object result (model.object_request (said body.now)) }
 {
-    body.check_form(&[Name::Name, Name::Access], &[Name::Master])?;
+    body.check_form(
+        &[Name::Name, Name::Access],
+        &[Name::Hierarchy, Name::Master],
+    )?;
     let name = body.text(Name::Name)?;
     let access = access_in(body)?;
+    let hierarchy = body.truth_if_any(Name::Hierarchy)?;
     let master = master_of(alloc, body)?;
-    if is_by_parent(access) != master.is_some() {
+    if !suits_master(access, hierarchy, master.is_some()) {
         return Err(BodyFail::Form);
     }
+    let members = all_names(alloc, body)?;
+    let name = name.copy(alloc)?;
     Ok(NewObject {
-        members: all_names(alloc, body)?,
-        name: name.copy(alloc)?,
+        members,
+        name,
         access,
+        hierarchy: hierarchy.unwrap_or(true),
         master,
     })
 }
 
-fn read_access(body: &Body) -> Result<Access, BodyFail>
-    ensures { (object : List ℕ) → Gives (sets_object object) result (model.access_request object (said body.now)) }
+// Whether an access that an object is to have, if there is one, isn't by the parent.
+fn is_own(access: Option<Access>) -> bool
+    ensures { result ≡ in_case access true (λ a. not (by_parent a)) }
 {
-    body.check_form(&[Name::Access], &[])?;
-    let access = access_in(body)?;
-    if is_by_parent(access) {
-        Err(BodyFail::Form)
+    match access {
+        Some(access) => !is_by_parent(access),
+        None => true,
+    }
+}
+
+fn read_object_change(body: &Body) -> Result<ObjectChange, BodyFail>
+    ensures { (object : List ℕ) → Gives (sets_object object) result (model.object_change_request object (said body.now)) }
+{
+    body.check_change(&[Name::Access, Name::Hierarchy])?;
+    let access = access_if_any(body)?;
+    let hierarchy = body.truth_if_any(Name::Hierarchy)?;
+    if is_own(access) {
+        Ok(ObjectChange { access, hierarchy })
     } else {
-        Ok(access)
+        Err(BodyFail::Form)
     }
 }
 
@@ -146,11 +183,11 @@ fn object_in_bytes(alloc: Global, body: &[u8]) -> Result<NewObject, BodyFail>
     read_object(alloc, &Body::new(members.as_slice()))
 }
 
-fn access_in_bytes(alloc: Global, body: &[u8]) -> Result<Access, BodyFail>
-    ensures { (object : List ℕ) → Gives (sets_object object) result (request_in (model.access_request object) body.now) }
+fn object_change_in_bytes(alloc: Global, body: &[u8]) -> Result<ObjectChange, BodyFail>
+    ensures { (object : List ℕ) → Gives (sets_object object) result (request_in (model.object_change_request object) body.now) }
 {
     let members = members_in(alloc, body)?;
-    read_access(&Body::new(members.as_slice()))
+    read_object_change(&Body::new(members.as_slice()))
 }
 
 /// The object that a body says is to be added; none if it isn't of that form.
@@ -164,14 +201,14 @@ pub fn new_object(alloc: Global, body: &[u8]) -> Result<Option<NewObject>, Alloc
     or_none(object_in_bytes(alloc, body))
 }
 
-/// The default access that a body says an object is to have; none if it isn't of that form.
+/// The change of an object that a body says; none if it isn't of that form.
 ///
 /// # Errors
 ///
 /// When out of memory.
-pub fn new_access(alloc: Global, body: &[u8]) -> Result<Option<Access>, AllocError>
-    ensures { IfOk result (λ access. (object : List ℕ)
-        → option_map (sets_object object) access ≡ request_in (model.access_request object) body.now) }
+pub fn object_change(alloc: Global, body: &[u8]) -> Result<Option<ObjectChange>, AllocError>
+    ensures { IfOk result (λ change. (object : List ℕ)
+        → option_map (sets_object object) change ≡ request_in (model.object_change_request object) body.now) }
 {
-    or_none(access_in_bytes(alloc, body))
+    or_none(object_change_in_bytes(alloc, body))
 }

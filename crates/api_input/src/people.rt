@@ -1,24 +1,26 @@
-//! What bodies say of users, roles and groups.
+//! What bodies say of users, roles and the organisation.
 
-ghost use Rattle.std.specs.Prelude.{◌≡◌, IfOk, IfSome, IsTrue, List, ℕ};
+ghost use Rattle.std.specs.Prelude.{◌≡◌, IfOk, IfSome, IsTrue, List, ℕ, true};
 ghost use Rattle.std.specs.List.{list_all};
 ghost use Rattle.std.specs.Option.{option_copied, option_map};
 ghost use Rattle.std.specs.Str.{chars};
 ghost use Rattle.base_value.specs.Id.{is_digit62};
 ghost use Rattle.base_value.specs.Numerals.{is_within};
+ghost use Rattle.model.specs.Cases.{in_case};
 ghost use Rattle.model.specs.Limits.{secret_least, secret_most};
 ghost use Rattle.model.specs.Organisations.{is_secret};
 ghost use Rattle.model_requests.specs.PeopleForms as model;
-ghost use Rattle.model_requests.specs.Requests.{adds_group, adds_user};
-ghost use Rattle.api_input.specs.Bodies.{adds_new_role, request_in, sets_role_parent, sets_user_role};
+ghost use Rattle.model_requests.specs.Requests.{adds_user, sets_organisation, sets_role, sets_user};
+ghost use Rattle.api_input.specs.Bodies.{adds_new_role, request_in};
 ghost use Rattle.api_input.specs.inner.Outcomes.{Gives};
 ghost use Rattle.api_input.specs.inner.Said.{said};
 
 use crate::body::{Body, members_in};
+use crate::copies::{copy_of, copy_or_none};
 use crate::fail::{BodyFail, or_none};
 use crate::name::Name;
 use base_value::{Text, character_count};
-use model::{NewUser, SECRET_LEAST, SECRET_MOST};
+use model::{NewUser, RoleChange, SECRET_LEAST, SECRET_MOST, UserChange};
 use std::alloc::{AllocError, Global};
 
 /// What a body says of a new role.
@@ -30,31 +32,7 @@ pub struct NewRole {
     pub parent: Option<Text>,
 }
 
-/// What a body says of a user that is there.
-#[derive(Debug, Drop)]
-pub struct UserRole {
-    /// The text of its role's id, if it is to have a role.
-    pub role: Option<Text>,
-}
-
-/// What a body says of a role that is there.
-#[derive(Debug, Drop)]
-pub struct RoleParent {
-    /// The text of its parent's id, if it is to have a parent.
-    pub parent: Option<Text>,
-}
-
-// ---- what they share
-
-// A copy of a text, if there is one.
-fn copy_of(alloc: Global, text: Option<&Text>) -> Result<Option<Text>, AllocError>
-    ensures { IfOk result (λ copy. copy ≡ option_copied text.entry) }
-{
-    match text {
-        Some(text) => Ok(Some(text.copy(alloc)?)),
-        None => Ok(None),
-    }
-}
+// ---- secrets
 
 fn are_letters_or_digits(text: &str) -> bool
     ensures { result ≡ list_all is_digit62 (chars text.now) }
@@ -119,33 +97,66 @@ pub fn new_user(alloc: Global, body: &[u8]) -> Result<Option<NewUser>, AllocErro
     or_none(user_in_bytes(alloc, body))
 }
 
-fn read_user_role(alloc: Global, body: &Body) -> Result<UserRole, BodyFail>
-    ensures { (user : List ℕ) → Gives (sets_user_role user) result (model.user_role_request user (said body.now)) }
+// Whether a secret that a user is to have, if there is one, is one.
+fn is_secret_if_any(secret: Option<&Text>) -> bool
+    ensures { result ≡ in_case (option_copied secret.entry) true is_secret }
 {
-    body.check_form(&[Name::Role], &[])?;
-    let role = body.text_or_null(Name::Role)?;
-    Ok(UserRole {
-        role: copy_of(alloc, role)?,
+    match secret {
+        Some(secret) => is_secret(secret.as_str()),
+        None => true,
+    }
+}
+
+fn read_user_change(alloc: Global, body: &Body) -> Result<UserChange, BodyFail>
+    ensures gives { (user : List ℕ) → Gives (sets_user user) result (model.user_change_request user (said body.now)) }
+    ensures secret { IfOk result (λ change. IsTrue (in_case change.secret true is_secret)) }
+{
+    body.check_change(&[
+        Name::Role,
+        Name::Name,
+        Name::Secret,
+        Name::Admin,
+        Name::Active,
+    ])?;
+    let role = body.text_or_null_if_any(Name::Role)?;
+    let name = body.text_if_any(Name::Name)?;
+    let secret = body.text_if_any(Name::Secret)?;
+    let admin = body.truth_if_any(Name::Admin)?;
+    let active = body.truth_if_any(Name::Active)?;
+    if !is_secret_if_any(secret) {
+        return Err(BodyFail::Form);
+    }
+    let role = copy_or_none(alloc, role)?;
+    let name = copy_of(alloc, name)?;
+    let secret = copy_of(alloc, secret)?;
+    Ok(UserChange {
+        role,
+        name,
+        secret,
+        admin,
+        active,
     })
 }
 
-fn user_role_in_bytes(alloc: Global, body: &[u8]) -> Result<UserRole, BodyFail>
-    ensures { (user : List ℕ) → Gives (sets_user_role user) result (request_in (model.user_role_request user) body.now) }
+fn user_change_in_bytes(alloc: Global, body: &[u8]) -> Result<UserChange, BodyFail>
+    ensures gives { (user : List ℕ) → Gives (sets_user user) result (request_in (model.user_change_request user) body.now) }
+    ensures secret { IfOk result (λ change. IsTrue (in_case change.secret true is_secret)) }
 {
     let members = members_in(alloc, body)?;
-    read_user_role(alloc, &Body::new(members.as_slice()))
+    read_user_change(alloc, &Body::new(members.as_slice()))
 }
 
-/// The role that a body says a user is to have, or that it is to have none; none if it isn't of that form.
+/// The change of a user that a body says, whose secret is one if it has any; none if it isn't of that form.
 ///
 /// # Errors
 ///
 /// When out of memory.
-pub fn role_of_user(alloc: Global, body: &[u8]) -> Result<Option<UserRole>, AllocError>
-    ensures { IfOk result (λ role. (user : List ℕ)
-        → option_map (sets_user_role user) role ≡ request_in (model.user_role_request user) body.now) }
+pub fn user_change(alloc: Global, body: &[u8]) -> Result<Option<UserChange>, AllocError>
+    ensures gives { IfOk result (λ change. (user : List ℕ)
+        → option_map (sets_user user) change ≡ request_in (model.user_change_request user) body.now) }
+    ensures secret { IfOk result (λ change. IfSome change (λ b. IsTrue (in_case b.secret true is_secret))) }
 {
-    or_none(user_role_in_bytes(alloc, body))
+    or_none(user_change_in_bytes(alloc, body))
 }
 
 // ---- roles
@@ -180,59 +191,60 @@ pub fn new_role(alloc: Global, body: &[u8]) -> Result<Option<NewRole>, AllocErro
     or_none(role_in_bytes(alloc, body))
 }
 
-fn read_parent(alloc: Global, body: &Body) -> Result<RoleParent, BodyFail>
-    ensures { (role : List ℕ) → Gives (sets_role_parent role) result (model.role_parent_request role (said body.now)) }
+fn read_role_change(alloc: Global, body: &Body) -> Result<RoleChange, BodyFail>
+    ensures { (role : List ℕ) → Gives (sets_role role) result (model.role_change_request role (said body.now)) }
 {
-    body.check_form(&[Name::Parent], &[])?;
-    let parent = body.text_or_null(Name::Parent)?;
-    Ok(RoleParent {
-        parent: copy_of(alloc, parent)?,
-    })
+    body.check_change(&[Name::Parent, Name::Name])?;
+    let parent = body.text_or_null_if_any(Name::Parent)?;
+    let name = body.text_if_any(Name::Name)?;
+    let parent = copy_or_none(alloc, parent)?;
+    let name = copy_of(alloc, name)?;
+    Ok(RoleChange { parent, name })
 }
 
-fn parent_in_bytes(alloc: Global, body: &[u8]) -> Result<RoleParent, BodyFail>
-    ensures { (role : List ℕ) → Gives (sets_role_parent role) result (request_in (model.role_parent_request role) body.now) }
+fn role_change_in_bytes(alloc: Global, body: &[u8]) -> Result<RoleChange, BodyFail>
+    ensures { (role : List ℕ) → Gives (sets_role role) result (request_in (model.role_change_request role) body.now) }
 {
     let members = members_in(alloc, body)?;
-    read_parent(alloc, &Body::new(members.as_slice()))
+    read_role_change(alloc, &Body::new(members.as_slice()))
 }
 
-/// The parent that a body says a role is to have, or that it is to have none; none if it isn't of that form.
+/// The change of a role that a body says; none if it isn't of that form.
 ///
 /// # Errors
 ///
 /// When out of memory.
-pub fn parent_of_role(alloc: Global, body: &[u8]) -> Result<Option<RoleParent>, AllocError>
-    ensures { IfOk result (λ parent. (role : List ℕ)
-        → option_map (sets_role_parent role) parent ≡ request_in (model.role_parent_request role) body.now) }
+pub fn role_change(alloc: Global, body: &[u8]) -> Result<Option<RoleChange>, AllocError>
+    ensures { IfOk result (λ change. (role : List ℕ)
+        → option_map (sets_role role) change ≡ request_in (model.role_change_request role) body.now) }
 {
-    or_none(parent_in_bytes(alloc, body))
+    or_none(role_change_in_bytes(alloc, body))
 }
 
-// ---- groups
+// ---- the organisation
 
-fn read_group(alloc: Global, body: &Body) -> Result<Text, BodyFail>
-    ensures { Gives adds_group result (model.group_request (said body.now)) }
+fn read_organisation(alloc: Global, body: &Body) -> Result<Text, BodyFail>
+    ensures { Gives sets_organisation result (model.organisation_request (said body.now)) }
 {
     body.check_form(&[Name::Name], &[])?;
     let name = body.text(Name::Name)?;
     Ok(name.copy(alloc)?)
 }
 
-fn group_in_bytes(alloc: Global, body: &[u8]) -> Result<Text, BodyFail>
-    ensures { Gives adds_group result (request_in model.group_request body.now) }
+fn organisation_in_bytes(alloc: Global, body: &[u8]) -> Result<Text, BodyFail>
+    ensures { Gives sets_organisation result (request_in model.organisation_request body.now) }
 {
     let members = members_in(alloc, body)?;
-    read_group(alloc, &Body::new(members.as_slice()))
+    read_organisation(alloc, &Body::new(members.as_slice()))
 }
 
-/// The name of the group that a body says is to be added; none if it isn't of that form.
+/// The name that a body says the organisation is to have; none if it isn't of that form.
 ///
 /// # Errors
 ///
 /// When out of memory.
-pub fn new_group(alloc: Global, body: &[u8]) -> Result<Option<Text>, AllocError>
-    ensures { IfOk result (λ name. option_map adds_group name ≡ request_in model.group_request body.now) }
+pub fn organisation_name(alloc: Global, body: &[u8]) -> Result<Option<Text>, AllocError>
+    ensures { IfOk result (λ name. option_map sets_organisation name ≡ request_in model.organisation_request body.now) }
 {
-    or_none(group_in_bytes(alloc, body))
+    or_none(organisation_in_bytes(alloc, body))
 }

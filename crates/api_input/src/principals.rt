@@ -1,26 +1,21 @@
-//! Principals in bodies, and what bodies say of the members of groups.
+//! Principals in bodies.
 
 ghost use Rattle.std.specs.Prelude.{◌≡◌, ◌++◌, IfOk, List, MatchOption, OnOk, encode_utf8_all, false, map, string_bytes, true, ℕ};
-ghost use Rattle.std.specs.Option.{option_map, unwrap_or};
+ghost use Rattle.std.specs.Option.{unwrap_or};
 ghost use Rattle.std.specs.List.{after_first, before_first, list_any};
 ghost use Rattle.std.specs.Str.{chars};
 ghost use Rattle.base_value.specs.Id.{id_in};
 ghost use Rattle.base_value.specs.Principals.{kind_number};
 ghost use Rattle.base_value.specs.Texts.{texts_differ};
 ghost use Rattle.model.specs.Members.{all_there, entry_named, is_colon, kinds, principal_in};
-ghost use Rattle.model_requests.specs.PeopleForms.{identity_of, members_request};
+ghost use Rattle.model_requests.specs.PeopleForms.{as_principals, identity_of};
 ghost use Rattle.model.specs.Principals.{kind_of};
-ghost use Rattle.model_requests.specs.Requests.{sets_group};
-ghost use Rattle.api_input.specs.Bodies.{request_in};
 ghost use Rattle.api_input.specs.inner.Outcomes.{Gives};
-ghost use Rattle.api_input.specs.inner.Said.{said};
 ghost use Rattle.api_input.specs.inner.Spelled.{as_principal};
 
-use crate::body::{Body, members_in};
 use crate::fail::{BodyFail, or_none};
-use crate::name::Name;
 use crate::table::entry_named;
-use crate::values::as_text;
+use crate::values::{as_list, as_text};
 use base_json::Json;
 use base_value::{Items, Text, id_in};
 use model::{PrincipalKind, Spelled};
@@ -155,35 +150,16 @@ fn all_differ(alloc: Global, principals: &[Spelled]) -> Result<bool, AllocError>
     Ok(true)
 }
 
-// ---- groups
+// ---- a list of them
 
-fn read_members(alloc: Global, body: &Body) -> Result<Items<Spelled>, BodyFail>
-    ensures { (group : List ℕ) → Gives (sets_group group) result (members_request group (said body.now)) }
+/// The principals of a list, all different.
+pub(crate) fn as_principals(alloc: Global, json: &Json) -> Result<Items<Spelled>, BodyFail>
+    ensures { Gives (λ principals. principals) result (as_principals json.now) }
 {
-    body.check_form(&[Name::Members], &[])?;
-    let members = all_principals(alloc, body.list(Name::Members)?)?;
-    if all_differ(alloc, members.as_slice())? {
-        Ok(members)
+    let principals = all_principals(alloc, as_list(json).ok_or(BodyFail::Form)?)?;
+    if all_differ(alloc, principals.as_slice())? {
+        Ok(principals)
     } else {
         Err(BodyFail::Form)
     }
-}
-
-fn members_in_bytes(alloc: Global, body: &[u8]) -> Result<Items<Spelled>, BodyFail>
-    ensures { (group : List ℕ) → Gives (sets_group group) result (request_in (members_request group) body.now) }
-{
-    let members = members_in(alloc, body)?;
-    read_members(alloc, &Body::new(members.as_slice()))
-}
-
-/// The members that a body says a group is to have, all different; none if it isn't of that form.
-///
-/// # Errors
-///
-/// When out of memory.
-pub fn group_members(alloc: Global, body: &[u8]) -> Result<Option<Items<Spelled>>, AllocError>
-    ensures { IfOk result (λ members. (group : List ℕ)
-        → option_map (sets_group group) members ≡ request_in (members_request group) body.now) }
-{
-    or_none(members_in_bytes(alloc, body))
 }

@@ -1,13 +1,14 @@
 -- A file that couldn't be opened, of a command that uses the keeper.
 use Rattle.std.proofs.Common.{◌≡◌, ◌⊎◌, inl, inr, ℕ, true, Option, Some, None, refl, sym, subst}
 use Rattle.std.specs.Prelude.{◌↔◌, IfSome}
-use Rattle.commands.specs.Commands.{Command, answers, csvq, demo, export, has_status, load, opens_in, org_add, prints, serves}
+use Rattle.commands.specs.Commands.{Command, answers, csvq, demo, export, has_status, load, opens_in, org_add, prints, serves, user_set}
 use Rattle.platform.specs.Promise.{IsStatus}
 use Rattle.carmuguur.specs.Status.{IsStatusOf}
 
 own_71 : (c : Command) → opens_in (Some c) ≡ true → has_status c 71 ≡ true
 own_71 (prints (csvq query)) opens = absurd cc
 own_71 (prints (org_add name secret)) opens = refl
+own_71 (prints (user_set org user secret)) opens = refl
 own_71 (prints (export org user secret query)) opens = refl
 own_71 (prints (load org user secret object)) opens = refl
 own_71 (prints (demo count)) opens = absurd cc
@@ -17,6 +18,7 @@ own_71 (serves count) opens = refl
 own_72 : (c : Command) → opens_in (Some c) ≡ true → has_status c 72 ≡ true
 own_72 (prints (csvq query)) opens = absurd cc
 own_72 (prints (org_add name secret)) opens = refl
+own_72 (prints (user_set org user secret)) opens = refl
 own_72 (prints (export org user secret query)) opens = refl
 own_72 (prints (load org user secret object)) opens = refl
 own_72 (prints (demo count)) opens = absurd cc

@@ -9,6 +9,8 @@ PATH is where the tables are: - for memory, or a file. PORT is a number from 0 t
 Commands:
   csvq QUERY           answers a query over the CSV text on standard input
   org-add NAME SECRET  makes an organisation, and writes its id and its administrator's
+  user-set ORG USER SECRET
+                       gives a user a new secret, as one whose key is lost, makes it an active administrator, and writes the two ids
   export ORG USER SECRET QUERY
                        writes the rows of a user's query as CSV
   load ORG USER SECRET OBJECT

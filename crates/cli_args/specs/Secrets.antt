@@ -3,7 +3,7 @@ use Rattle.std.specs.Prelude.{◌≡◌, ◌==◌, ℕ, Bool, nat_lt, if◌then�
 use Rattle.std.specs.List.{position_or_len, before_first, after_first}
 use Rattle.std.specs.Option.{option_and_then}
 use Rattle.std.specs.Str.{byte, bytes_eq}
-use Rattle.commands.specs.Commands.{Command, answers, command_of, csvq, demo, export, load, org_add, prints, serves}
+use Rattle.commands.specs.Commands.{Command, answers, command_of, csvq, demo, export, load, org_add, prints, serves, user_set}
 use Rattle.cli_args.specs.declared.secret.SecretWord.{SecretWord}
 use Rattle.cli_args.specs.declared.secret.SecretWord.TheVariants.{File, Itself, Variable}
 
@@ -13,6 +13,7 @@ use Rattle.cli_args.specs.declared.secret.SecretWord.TheVariants.{File, Itself, 
 abbrev pub secret_of : Command → Option (List ℕ)
 secret_of (prints (csvq query)) = None
 secret_of (prints (org_add name secret)) = Some secret
+secret_of (prints (user_set org user secret)) = Some secret
 secret_of (prints (export org user secret query)) = Some secret
 secret_of (prints (load org user secret object)) = Some secret
 secret_of (prints (demo count)) = None
@@ -23,6 +24,7 @@ secret_of (serves count) = None
 abbrev pub with_secret : List ℕ → Command → Command
 with_secret word (prints (csvq query)) = prints (csvq query)
 with_secret word (prints (org_add name secret)) = prints (org_add name word)
+with_secret word (prints (user_set org user secret)) = prints (user_set org user word)
 with_secret word (prints (export org user secret query)) = prints (export org user word query)
 with_secret word (prints (load org user secret object)) = prints (load org user word object)
 with_secret word (prints (demo count)) = prints (demo count)

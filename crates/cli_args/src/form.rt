@@ -24,7 +24,7 @@ pub(crate) struct Form {
 }
 
 /// The commands of `platform::run`. One more is a line here, and its name in `proofs/Forms.antt`.
-pub(crate) const COMMANDS: [Form; 7] = [
+pub(crate) const COMMANDS: [Form; 8] = [
     Form {
         name: "csvq",
         form: "csvq QUERY",
@@ -36,6 +36,12 @@ pub(crate) const COMMANDS: [Form; 7] = [
         form: "org-add NAME SECRET",
         operands: Operands::Words(2),
         secret: Some(1),
+    },
+    Form {
+        name: "user-set",
+        form: "user-set ORG USER SECRET",
+        operands: Operands::Words(3),
+        secret: Some(2),
     },
     Form {
         name: "export",

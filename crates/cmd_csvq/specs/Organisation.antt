@@ -25,7 +25,7 @@ abbrev pub object_name : List ℕ
 object_name = chars (codes "Row__c")
 
 abbrev pub new_rows : NewObject
-new_rows = record { members = only_name; name = object_name; access = access.Private; master = None }
+new_rows = record { members = only_name; name = object_name; access = access.Private; hierarchy = true; master = None }
 
 -- ---- the columns
 

@@ -20,6 +20,7 @@ fn new_rows(alloc: Global) -> Result<NewObject, AllocError>
         members: only_name(alloc)?,
         name: Text::from_str(alloc, "Row__c")?,
         access: Access::Private,
+        hierarchy: true,
         master: None,
     })
 }

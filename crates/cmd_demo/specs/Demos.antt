@@ -55,7 +55,7 @@ abbrev pub amount_field : List ℕ
 amount_field = chars (codes "Amount__c")
 
 abbrev pub new_item : NewObject
-new_item = record { members = only_name; name = item_object; access = access.Private; master = None }
+new_item = record { members = only_name; name = item_object; access = access.Private; hierarchy = true; master = None }
 
 -- a text of at most 20 characters
 abbrev pub new_amount : NewField

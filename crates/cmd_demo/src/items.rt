@@ -41,6 +41,7 @@ fn new_item(alloc: Global) -> Result<NewObject, AllocError>
         members: only_name(alloc)?,
         name: Text::from_str(alloc, "Item__c")?,
         access: Access::Private,
+        hierarchy: true,
         master: None,
     })
 }

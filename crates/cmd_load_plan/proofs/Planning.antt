@@ -148,7 +148,7 @@ fields_same q n k (f ∷ fs) = ap (λ (gs : List Field). f ∷ gs) (fields_same 
 -- an object with these fields and without its validation rules
 abbrev with_fields : Numbered → List Field → Numbered
 with_fields o fields =
-    record { number = o.number; object = record { name = o.object.name; access = o.object.access; fields = fields; validation_rules = [] } }
+    record { number = o.number; object = record { name = o.object.name; access = o.object.access; hierarchy = o.object.hierarchy; fields = fields; validation_rules = [] } }
 
 abbrev plain : Numbered → Numbered
 plain o = with_fields o o.object.fields

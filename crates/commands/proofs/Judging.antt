@@ -1,4 +1,4 @@
--- A new organisation is judged as the definition has it.
+-- A new organisation, and a new secret of a user, are judged as the definitions have them.
 use Rattle.std.proofs.Common.{◌≡◌, ◌+◌, ℕ, Bool, true, false, length, List, Some, None, Result, Ok, Err, refl, sym, ap, subst, ◌∙◌}
 use Rattle.std.specs.Prelude.{if◌then◌else◌}
 use Rattle.std.specs.Str.{chars}
@@ -12,12 +12,14 @@ use Rattle.model.specs.declared.refusal.Refusal.TheVariants.{LimitExceeded}
 use Rattle.model.specs.Organisations.{is_full, is_secret, org_refusal, org_verdict, with_org}
 use Rattle.model.specs.Sound.{is_name}
 use Rattle.model.specs.World.{World}
-use Rattle.store_abstraction.specs.declared.fail.EditFail.TheVariants.{Store}
+use Rattle.store_abstraction.specs.declared.fail.EditFail.TheVariants.{Refused, Store}
 use Rattle.store_abstraction.specs.declared.judged.Judged.TheVariants.{Changed, Same}
 use Rattle.store_abstraction.specs.Operations.{Edits, Judges}
 use Rattle.store_abstraction.specs.Stands.{Stands}
 use Rattle.commands.specs.OrgAdd.{added_printout, org_does, printout_by, world_by}
-use Rattle.commands.specs.Printed.{PrintoutText, refused}
+use Rattle.commands.specs.Printed.{PrintoutText, refused, user_printout}
+use Rattle.commands.specs.UserSet.{set_or_refused, user_set_does}
+use Rattle.cmd_user_set.specs.UserSet.{user_set_verdict}
 
 -- what a new organisation is refused for, once its name and secret are good
 refusal_is : (w : World) (name secret : List ℕ) (b : Bool) → is_name (chars name) ≡ true → is_secret secret ≡ true → is_full w ≡ b → org_refusal w (chars name) secret ≡ (if b then Some (LimitExceeded limit.Organisations) else None)
@@ -45,7 +47,16 @@ module _ (w : World) (name secret : List ℕ) (good : is_name (chars name) ≡ t
             subst (λ (v : World). Stands after v) (sym (ap (λ (x : ℕ × World). x.1) same) ∙ sym (ap (λ o. world_by o w (with_org w (chars name) (sha256 secret))) none)) s,
           )
 
-pub judged_failed : (verdict : World → Result (ℕ × World) Refusal) (does : World → PrintoutText × World) (w : World) (after left : Tables) (e : StoreFail) → Edits verdict w left (Err (Store e)) → Judges Stands does w after (Err e)
+pub judged_failed : {X : Type 0} (verdict : World → Result (X × World) Refusal) (does : World → PrintoutText × World) (w : World) (after left : Tables) (e : StoreFail) → Edits verdict w left (Err (Store e)) → Judges Stands does w after (Err e)
 judged_failed verdict does w after left store.Damaged h is = h
 judged_failed verdict does w after left store.Keeper h is = absurd cc
 judged_failed verdict does w after left store.Memory h is = absurd cc
+
+-- ---- a new secret
+
+module _ (org user secret : List ℕ) (w : World) (after : Tables) where
+  pub judged_set : (ids : ℕ × List ℕ) (p : PrintoutText) → Edits (user_set_verdict (chars org) (chars user) (chars secret)) w after (Ok ids) → p ≡ user_printout ids → Judges Stands (user_set_does org user secret) w after (Ok (Changed p))
+  judged_set ids p (next, is, stands) e = (e ∙ sym (ap (λ x. (set_or_refused w x).0) is), subst (λ (v : World). Stands after v) (sym (ap (λ x. (set_or_refused w x).1) is)) stands)
+
+  pub judged_not_set : (r : Refusal) (p : PrintoutText) → Edits {X = ℕ × List ℕ} (user_set_verdict (chars org) (chars user) (chars secret)) w after (Err (Refused r)) → p ≡ refused r → Judges Stands (user_set_does org user secret) w after (Ok (Same p))
+  judged_not_set r p is e = (e ∙ sym (ap (λ x. (set_or_refused w x).0) is), ap (λ x. (set_or_refused w x).1) is)

@@ -16,6 +16,7 @@ use Rattle.commands.specs.Demo.{demo_printed}
 use Rattle.commands.specs.Export.{export_does}
 use Rattle.commands.specs.Load.{load_printed}
 use Rattle.commands.specs.OrgAdd.{org_printed, org_world}
+use Rattle.commands.specs.UserSet.{user_set_does}
 
 -- commands that print a text
 pub data Printing : Type 0 where
@@ -23,6 +24,8 @@ pub data Printing : Type 0 where
   csvq : (query : List ℕ) → Printing
   -- a new organisation with this name and its administrator's secret
   org_add : (name secret : List ℕ) → Printing
+  -- a new secret of a user of an organisation, who is an active administrator then
+  user_set : (org user secret : List ℕ) → Printing
   -- the rows of a query of a user of an organisation, whose secret it is, as lines of CSV
   export : (org user secret query : List ℕ) → Printing
   -- a CSV text, whose rows are loaded into an object of an organisation by a user of it, whose secret it is
@@ -74,6 +77,10 @@ abbrev pub org_add_of : List (List ℕ) → Option Command
 org_add_of (name ∷ secret ∷ []) = Some (prints (org_add name secret))
 org_add_of _ = None
 
+abbrev pub user_set_of : List (List ℕ) → Option Command
+user_set_of (org ∷ user ∷ secret ∷ []) = Some (prints (user_set org user secret))
+user_set_of _ = None
+
 abbrev pub export_of : List (List ℕ) → Option Command
 export_of (org ∷ user ∷ secret ∷ query ∷ []) = Some (prints (export org user secret query))
 export_of _ = None
@@ -98,8 +105,8 @@ serve_of _ = None
 -- the first word of each command, and the command that the words behind it make
 abbrev pub table : List (List ℕ × (List (List ℕ) → Option Command))
 table =
-    (codes "csvq", csvq_of) ∷ (codes "org-add", org_add_of) ∷ (codes "export", export_of) ∷ (codes "load", load_of) ∷ (codes "demo", demo_of)
-    ∷ (codes "answer", answer_of) ∷ (codes "serve", serve_of) ∷ []
+    (codes "csvq", csvq_of) ∷ (codes "org-add", org_add_of) ∷ (codes "user-set", user_set_of) ∷ (codes "export", export_of) ∷ (codes "load", load_of)
+    ∷ (codes "demo", demo_of) ∷ (codes "answer", answer_of) ∷ (codes "serve", serve_of) ∷ []
 
 abbrev pub found_in : List (List ℕ × (List (List ℕ) → Option Command)) → List ℕ → List (List ℕ) → Option Command
 found_in [] word arguments = None
@@ -174,6 +181,7 @@ uses (csvq query) = record {
   openings = [];
 }
 uses (org_add name secret) = table_uses true never false
+uses (user_set org user secret) = table_uses true never false
 uses (export org user secret query) = table_uses false once true
 uses (load org user secret object) = record {
   keeper = true;
@@ -280,6 +288,7 @@ used_by (Some command) status = used_so (uses_of command) (may_write command sta
 abbrev pub printed : Printing → World → List ℕ → List ℕ → Printed
 printed (csvq query) w bytes moments = one_deed (rows_printed query bytes (first_moment moments)) w
 printed (org_add name secret) w bytes moments = one_deed (org_printed w name secret) (org_world w name secret)
+printed (user_set org user secret) w bytes moments = let x = user_set_does org user secret w in one_deed x.0 x.1
 printed (export org user secret query) w bytes moments =
     let x = export_does org user secret query (first_moment moments) w in one_deed x.0 x.1
 printed (load org user secret object) w bytes moments = load_printed (named_by org user secret) object bytes moments w

@@ -1,6 +1,7 @@
 pub mod Printed
 pub mod Csvq
 pub mod OrgAdd
+pub mod UserSet
 pub mod Demo
 pub mod Deeds
 pub mod Export

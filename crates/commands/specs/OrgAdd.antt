@@ -1,19 +1,18 @@
 -- What `org-add` prints, and the world that it leaves.
-use Rattle.std.specs.Prelude.{ℕ, ◌+◌, List, ◌++◌, length, codes, Option, Some, None}
+use Rattle.std.specs.Prelude.{ℕ, ◌+◌, List, length, Option, Some, None}
 use Rattle.std.specs.Str.{chars}
 use Rattle.sha2.specs.Sha256.{sha256}
-use Rattle.base_value.specs.Id.{print18}
 use Rattle.model.specs.declared.refusal.Refusal.{Refusal}
 use Rattle.model.specs.Organisations.{first_user, org_refusal, with_org}
-use Rattle.model.specs.World.{World, org_id}
-use Rattle.commands.specs.Printed.{PrintoutText, refused}
+use Rattle.model.specs.World.{World}
+use Rattle.commands.specs.Printed.{PrintoutText, refused, user_line, user_printout}
 
 -- the line of a new organisation: its id, a blank, and its administrator's id
 abbrev pub org_line : ℕ → List ℕ
-org_line n = print18 (org_id n) ++ (codes " " ++ (print18 first_user ++ codes "\n"))
+org_line n = user_line (n, first_user)
 
 abbrev pub added_printout : ℕ → PrintoutText
-added_printout n = record { text = org_line n; status = 0 }
+added_printout n = user_printout (n, first_user)
 
 abbrev pub printout_by : Option Refusal → ℕ → PrintoutText
 printout_by None n = added_printout n

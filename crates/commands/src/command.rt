@@ -13,6 +13,8 @@ pub enum Words<'a> {
     Csvq(&'a str),
     /// `org-add NAME SECRET`
     OrgAdd(&'a str, &'a str),
+    /// `user-set ORG USER SECRET`
+    UserSet(&'a str, &'a str, &'a str),
     /// `export ORG USER SECRET QUERY`
     Export(&'a str, &'a str, &'a str, &'a str),
     /// `load ORG USER SECRET OBJECT`
@@ -114,6 +116,13 @@ pub fn read_words(words: &[String]) -> Words<'_>
                 Words::Other
             }
         }
+        4 => {
+            if words[0].as_bytes() == b"user-set".as_slice() {
+                Words::UserSet(words[1].as_str(), words[2].as_str(), words[3].as_str())
+            } else {
+                Words::Other
+            }
+        }
         5 => {
             if words[0].as_bytes() == b"export".as_slice() {
                 Words::Export(
@@ -145,6 +154,7 @@ pub fn uses_keeper(words: &[String]) -> bool
         Words::Csvq(_) => false,
         Words::Demo(_) => false,
         Words::OrgAdd(_, _) => true,
+        Words::UserSet(_, _, _) => true,
         Words::Export(_, _, _, _) => true,
         Words::Load(_, _, _, _) => true,
         Words::Answer => true,

@@ -2,7 +2,7 @@
 //! handed in.
 //!
 //! It depends on the outside (`base_io`), the keeper, the tables that stand for a world, and what each command does: `people_edit`,
-//! `cmd_csvq`, `cmd_demo`, `cmd_export` and `cmd_load`. Its contract: the words are taken apart as `command_of` says, and what a command
+//! `cmd_user_set`, `cmd_csvq`, `cmd_demo`, `cmd_export` and `cmd_load`. Its contract: the words are taken apart as `command_of` says, and what a command
 //! that prints writes, and the world that it leaves, are those of the definition `printed`.
 #![tactic(auto)]
 
@@ -17,6 +17,7 @@ mod printing;
 mod printout;
 mod stop;
 mod tables;
+mod user_set;
 
 pub use crate::command::{Words, is_count, is_record_count, read_words, uses_keeper};
 pub use crate::csvq::InputFail;
@@ -30,3 +31,4 @@ pub use crate::printing::{
 pub use crate::printout::Printout;
 pub use crate::stop::Stop;
 pub use crate::tables::TableWork;
+pub use crate::user_set::UserSet;

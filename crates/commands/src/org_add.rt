@@ -3,9 +3,9 @@
 ghost use Rattle.std.specs.Prelude.{◌≡◌, IfOk, true};
 ghost use Rattle.commands.specs.OrgAdd.{added_printout, org_does};
 
-use crate::printout::{Printout, printout_of_refusal};
+use crate::printout::{Printout, printout_of_refusal, printout_of_user};
 use crate::tables::TableWork;
-use model::{Refusal, first_user_id, is_name, org_id};
+use model::{Refusal, first_user_id, is_name};
 use people_edit::{add_org, is_secret};
 use std::alloc::{AllocError, Global};
 use store_abstraction::{EditFail, Judged};
@@ -25,14 +25,7 @@ pub struct OrgAdd<'a> {
 fn org_printout(alloc: Global, org: u32) -> Result<Printout, AllocError>
     ensures { IfOk result (λ p. p ≡ added_printout org) }
 {
-    let org = org_id(org).print18();
-    let user = first_user_id().print18();
-    let mut text = Vec::new(alloc);
-    text.extend_from_slice(&org)?;
-    text.push(b' ')?;
-    text.extend_from_slice(&user)?;
-    text.push(b'\n')?;
-    Ok(Printout::done(text))
+    printout_of_user(alloc, (org, first_user_id()))
 }
 
 impl TableWork for OrgAdd<'_> {

@@ -2,9 +2,10 @@
 
 ghost use Rattle.std.specs.Prelude.{◌≡◌, ◌⊎◌, IfOk};
 ghost use Rattle.std.specs.String.{string_bytes};
-ghost use Rattle.commands.specs.Printed.{refused, refused_line};
+ghost use Rattle.commands.specs.Printed.{refused, refused_line, user_printout};
 
-use model::Refusal;
+use base_value::Id;
+use model::{Refusal, org_id};
 use std::alloc::{AllocError, Global};
 use std::marker::Model;
 
@@ -69,4 +70,19 @@ pub(crate) fn refusal_line(alloc: Global, code: &str, message: &str) -> Result<S
     ensures { IfOk result (λ text. string_bytes text ≡ refused_line code.now message.now) }
 {
     format!(in alloc; "refused: {code}: {message}\n")
+}
+
+/// The printout of a user of the organisation with this number.
+pub(crate) fn printout_of_user(alloc: Global, ids: (u32, Id)) -> Result<Printout, AllocError>
+    ensures { IfOk result (λ p. p ≡ user_printout ids) }
+{
+    let (org, user) = ids;
+    let org = org_id(org).print18();
+    let user = user.print18();
+    let mut text = Vec::new(alloc);
+    text.extend_from_slice(&org)?;
+    text.push(b' ')?;
+    text.extend_from_slice(&user)?;
+    text.push(b'\n')?;
+    Ok(Printout::done(text))
 }

@@ -10,7 +10,7 @@ use Rattle.model.specs.declared.record.Record.{Record}
 use Rattle.model.specs.Cases.{in_case}
 use Rattle.model.specs.Fields.{is_master}
 use Rattle.model.specs.Known.{item_of, known}
-use Rattle.model.specs.Levels.{at_least, by_access, by_grant, can_read, full_for_edit, grants, greatest, level, level_within, own_level, owns, readable}
+use Rattle.model.specs.Levels.{at_least, by_access, by_grant, can_read, full_for_edit, grants, greatest, has_hierarchy, level, level_within, own_level, owns, readable}
 use Rattle.model.specs.Membership.{Has}
 use Rattle.model.specs.Metadata.{masters_above}
 use Rattle.model.specs.Objects.{is_of, numbered, object_number, object_of_record, record_at, records_of}
@@ -88,7 +88,7 @@ module _ (t : Tenant) (u : User) (s : IsSound t) where
     own_full : (r : Record) → own_level t u r ≡ Full
     unfolding own_level
     own_full r =
-        let others = in_case (object_of_record t r) Nothing (λ o. by_access o.access) ∷ map (by_grant t u) (grants t r) in
+        let others = in_case (object_of_record t r) Nothing (λ o. by_access o.access) ∷ map (by_grant (has_hierarchy t r) t u) (grants t r) in
         ap (λ b. greatest (cond (b || owns t u r) Full Nothing ∷ others)) admin ∙ most others
 
     step : (k : ℕ) (r : Record) → Has t.records r

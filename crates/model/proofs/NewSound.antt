@@ -14,7 +14,7 @@ fresh_sound name digest good size = record {
   name = good;
   counter = omega arith;
   numbers = λ i j hi hj e. one i hi ∙ sym (one j hj);
-  users = record { each = (record { id = (0, omega arith, refl); name = good; digest = size; role = tt }, tt); rise = tt; few = omega arith };
+  users = record { each = (record { id = (0, omega arith, refl); name = good; digest = size; role = tt }, tt); rise = tt; few = omega arith; administered = refl };
   roles = record { each = tt; rise = tt; few = omega arith; no_cycle = λ a h. no_step a a h };
   groups = record { each = tt; rise = tt; few = omega arith };
   metadata = record { objects = tt; names = refl; few = omega arith };

@@ -17,7 +17,7 @@ use Rattle.model.specs.declared.record.Record.{Record}
 use Rattle.model.specs.Cases.{in_case}
 use Rattle.model.specs.FormulaTexts.{reads_text}
 use Rattle.model.specs.Limits.{limit_number}
-use Rattle.model.specs.Membership.{is_above, is_member, reaches}
+use Rattle.model.specs.Membership.{is_above, is_member, reaches_on}
 use Rattle.model.specs.Objects.{object_number, object_of_record, owner_of, record_at, records_of}
 use Rattle.model.specs.Relationships.{master_of_object, named_record}
 use Rattle.model.specs.Tenant.{Object, SharingRule, Source, owned, meets, Tenant, User}
@@ -78,9 +78,13 @@ grants t r =
 
 -- ---- the level of a user on a record
 
--- the user owns the record, or is above who owns it
+-- the role hierarchy counts for the records of this one's object
+abbrev pub has_hierarchy : Tenant → Record → Bool
+has_hierarchy t r = in_case (object_of_record t r) false (λ o. o.hierarchy)
+
+-- the user owns the record, or is above who owns it where the role hierarchy counts
 abbrev pub owns : Tenant → User → Record → Bool
-owns t u r = in_case (owner_of t r) false (λ x. bytes_eq x.id u.id || is_above t u x)
+owns t u r = in_case (owner_of t r) false (λ x. bytes_eq x.id u.id || (has_hierarchy t r && is_above t u x))
 
 -- what administrators, owners and users above them have
 abbrev pub by_owner : Tenant → User → Record → Level
@@ -94,13 +98,16 @@ by_access access.ReadWrite = Edit
 by_access access.ControlledByParent = Nothing
 
 -- what a grant gives a user
-abbrev pub by_grant : Tenant → User → Grant → Level
-by_grant t u g = if reaches t g.to u then g.level else Nothing
+abbrev pub by_grant : (hierarchy : Bool) → Tenant → User → Grant → Level
+by_grant hierarchy t u g = if reaches_on hierarchy t g.to u then g.level else Nothing
 
 -- the level on a record that isn't a detail
 unfoldable pub own_level : Tenant → User → Record → Level
 own_level t u r =
-    greatest (by_owner t u r ∷ in_case (object_of_record t r) Nothing (λ o. by_access o.access) ∷ map (by_grant t u) (grants t r))
+    greatest
+    (by_owner t u r
+    ∷ in_case (object_of_record t r) Nothing (λ o. by_access o.access)
+    ∷ map (by_grant (has_hierarchy t r) t u) (grants t r))
 
 -- who may edit a master has its details in full
 abbrev pub full_for_edit : Level → Level

@@ -1,6 +1,6 @@
 -- The members of a body in JSON, and the values that they may have. What isn't of the stated form is none.
 -- Source of JSON: RFC 8259. Which members a body has is this product's own.
-use Rattle.std.specs.Prelude.{ℕ, ◌/◌, ◌%◌, Bool, false, not, ◌&&◌, ◌==◌, if◌then◌else◌, List, [], ◌∷◌, ◌++◌, map, filter, bytes_eq, codes, Option, Some, None, pos}
+use Rattle.std.specs.Prelude.{ℕ, ◌/◌, ◌%◌, Bool, true, false, not, ◌&&◌, ◌==◌, if◌then◌else◌, List, [], ◌∷◌, ◌++◌, map, filter, bytes_eq, codes, Option, Some, None, pos}
 use Rattle.std.specs.List.{find, list_any, list_all, before_first, after_first}
 use Rattle.std.specs.Option.{option_map}
 use Rattle.std.specs.Str.{chars, is_utf8}
@@ -57,6 +57,15 @@ formed needed optional b =
     then Some b
     else None
 
+-- the body says something
+abbrev pub says_any : Body → Bool
+says_any [] = false
+says_any (m ∷ ms) = true
+
+-- the body of a change: one at least of these members, none twice, and no other
+abbrev pub changing : (members : List (List ℕ)) → Body → Option Body
+changing members b = if says_any b then formed [] members b else None
+
 -- ---- the JSON types of members
 
 abbrev pub as_text : Json → Option (List ℕ)
@@ -97,6 +106,10 @@ flag_in b name = in_case (entry_named b name) (Some false) as_truth
 
 abbrev pub whole_in : Body → List ℕ → Option ℕ
 whole_in b name = entry_named b name >>= as_whole
+
+-- a member that may be left out, as it is read where it is there
+abbrev pub if_any : {X : Type 0} → (Json → Option X) → Body → List ℕ → Option (Option X)
+if_any read b name = in_case (entry_named b name) (Some None) (λ v. option_map Some (read v))
 
 abbrev pub list_in : Body → List ℕ → Option (List Json)
 list_in b name = entry_named b name >>= λ v. list_by (out-Json v)

@@ -2,7 +2,7 @@
 -- contain one another. Below them the same, computed: `access_laws` says that they agree.
 -- Source: Salesforce, "Record-Level Security" and "A Guide to Sharing Architecture": the role hierarchy, roles with their
 -- subordinates, public groups. That groups may contain one another in a circle is this product's own.
-use Rattle.std.specs.Prelude.{◌≡◌, ◌⊎◌, ℕ, zero, suc, Bool, false, ◌||◌, ◌&&◌, List, [], ◌∷◌, length, bytes_eq, Option, Some, None}
+use Rattle.std.specs.Prelude.{◌≡◌, ◌⊎◌, ℕ, zero, suc, Bool, true, false, ◌||◌, ◌&&◌, List, [], ◌∷◌, length, bytes_eq, Option, Some, None}
 use Rattle.std.specs.List.{list_any}
 use Rattle.std.specs.Option.{option_and_then, option_map}
 use Rattle.base_value.specs.declared.sharing.Principal.{Principal}
@@ -97,3 +97,8 @@ is_above t u x = in_case x.role false (λ a. in_case u.role false (λ b. is_belo
 -- the principal reaches the user
 unfoldable pub reaches : Tenant → Principal → User → Bool
 reaches t p u = is_member t u p || list_any (λ x. is_above t u x && is_member t x p) t.users
+
+-- the same where the role hierarchy counts; where it doesn't, members alone are reached
+abbrev pub reaches_on : (hierarchy : Bool) → Tenant → Principal → User → Bool
+reaches_on true t p u = reaches t p u
+reaches_on false t p u = is_member t u p

@@ -50,3 +50,4 @@ message_of (refusal.HeadingRefused cell) = encode_utf8_all cell
 message_of refusal.SubqueryNotExported = codes "subqueries aren't exported"
 message_of refusal.NameRefused = codes "1 to " ++ (decimal name_limit ++ codes " characters")
 message_of refusal.SecretRefused = decimal secret_least ++ (codes " to " ++ (decimal secret_most ++ codes " letters or digits"))
+message_of refusal.LastAdministrator = codes "an administrator must be left"

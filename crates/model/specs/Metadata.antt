@@ -1,13 +1,13 @@
 -- Objects: new ones, and another default access.
 -- Source: Salesforce, "Custom Object", "Object Relationships Overview", "Organization-Wide Sharing Defaults". The order in which
 -- they are judged is this product's own.
-use Rattle.std.specs.Prelude.{ℕ, zero, suc, ◌+◌, true, false, List, [], ◌∷◌, ◌++◌, map, length, codes, Option, None, Some}
-use Rattle.base_value.specs.declared.sharing.Access.{Access}
+use Rattle.std.specs.Prelude.{ℕ, zero, suc, ◌+◌, true, false, List, [], ◌∷◌, ◌++◌, map, length, codes, Option, None, Some, unwrap_or}
 use Rattle.base_value.specs.declared.value.FieldType.TheVariants as type
 use Rattle.model.specs.declared.limit.Limit.TheVariants as limit
 use Rattle.model.specs.declared.refusal.Refusal.TheVariants.{InvalidType}
 use Rattle.model.specs.declared.metadata_bodies.NewMaster.{NewMaster}
 use Rattle.model.specs.declared.metadata_bodies.NewObject.{NewObject}
+use Rattle.model.specs.declared.metadata_bodies.ObjectChange.{ObjectChange}
 use Rattle.model.specs.Cases.{in_case}
 use Rattle.model.specs.Fields.{is_detail}
 use Rattle.model.specs.Limits.{limit_number}
@@ -66,15 +66,21 @@ abbrev pub new_fields : Tenant → Option NewMaster → List Field
 new_fields t master = in_case master [] (λ m. in_case (object_named t m.parent) [] (λ o. master_field m o ∷ []))
 
 abbrev pub new_object : Tenant → NewObject → Object
-new_object t b = record { name = b.name; access = b.access; fields = new_fields t b.master; validation_rules = [] }
+new_object t b =
+    record { name = b.name; access = b.access; hierarchy = b.hierarchy; fields = new_fields t b.master; validation_rules = [] }
 
 -- a new object, which has the next number
 abbrev pub add_object : Tenant → NewObject → Verdict
 add_object t b = judged t (object_rules t b) (accept done (record t { objects = t.objects ++ new_object t b ∷ [] }))
 
--- ---- another default access of an object; a detail's is its master's
-abbrev pub set_access : Tenant → (object : List ℕ) → Access → Verdict
-set_access t object access =
+-- ---- another default access of an object, or whether the role hierarchy counts; a detail's are its master's
+
+-- the object with what a body says of it
+abbrev pub changed_object : ObjectChange → Object → Object
+changed_object c o = record o { access = unwrap_or c.access o.access; hierarchy = unwrap_or c.hierarchy o.hierarchy }
+
+abbrev pub set_object : Tenant → (object : List ℕ) → ObjectChange → Verdict
+set_object t object c =
     on_object t object (λ o.
     judged t (refuse_if (is_detail o.object) (InvalidType o.object.name) ∷ [])
-    (accept done (with_object_changed o.number (λ x. record x { access = access }) t)))
+    (accept done (with_object_changed o.number (changed_object c) t)))

@@ -49,6 +49,7 @@ code_of (refusal.HeadingRefused cell) = codes "HEADING_REFUSED"
 code_of refusal.SubqueryNotExported = codes "SUBQUERY_NOT_EXPORTED"
 code_of refusal.NameRefused = codes "NAME_REFUSED"
 code_of refusal.SecretRefused = codes "SECRET_REFUSED"
+code_of refusal.LastAdministrator = codes "LAST_ADMINISTRATOR"
 
 -- the status of a reply
 abbrev pub status_of : Refusal → ℕ

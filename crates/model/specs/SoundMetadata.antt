@@ -63,6 +63,8 @@ pub record IsSoundObject (os : List Object) (o : Numbered) : Type 0 where
   pub relations : IsTrue (names_differ (relationship_names os o.number))
   -- one Master field exactly where the access is ControlledByParent, and else none
   pub master : masters o.object ≡ (if by_parent o.object.access then 1 else 0)
+  -- and there the role hierarchy is that of the master's object
+  pub hierarchy : IsTrue (implies (by_parent o.object.access) o.object.hierarchy)
   pub level : detail_level os o.number ≤ limit_number limit.DetailLevels
   pub rules : AllByRecursion IsSoundValidation o.object.validation_rules
   -- in the order of their lower-case names, which differ

@@ -1,6 +1,6 @@
 -- Sound users, roles and groups: what holds of them at every moment. The limits are this product's own.
 use Rattle.std.specs.Prelude.{◌≡◌, ℕ, ◌≤◌, Bool, ◌&&◌, nat_le, List, length, map, Option, T, IsTrue, IfSome}
-use Rattle.std.specs.List.{AllByRecursion, list_all}
+use Rattle.std.specs.List.{AllByRecursion, list_all, list_any}
 use Rattle.std.specs.FinMap.{is_sorted}
 use Rattle.std.specs.Option.{option_and_then}
 use Rattle.std.specs.Ordering.{nat_cmp}
@@ -20,6 +20,10 @@ is_name characters = all_scalars characters && (nat_le 1 (length characters) && 
 -- ids strictly rise
 abbrev pub ids_rise : {X : Type 0} → (X → List ℕ) → List X → Bool
 ids_rise id xs = is_sorted (slice_cmp nat_cmp) (map (λ x. (id x, x)) xs)
+
+-- the user is active, and administers the organisation
+abbrev pub administers : User → Bool
+administers u = u.active && u.admin
 
 pub record IsSoundUser (k : Known) (u : User) : Type 0 where
   pub id : IsDrawn user_prefix k.counter u.id
@@ -52,6 +56,7 @@ pub record HasSoundUsers (k : Known) (users : List User) : Type 0 where
   pub each : AllByRecursion (IsSoundUser k) users
   pub rise : T (ids_rise user_id users)
   pub few : length users ≤ limit_number limit.Users
+  pub administered : IsTrue (list_any administers users)
 
 pub record HasSoundRoles (k : Known) (roles : List Role) : Type 0 where
   pub each : AllByRecursion (IsSoundRole k) roles

@@ -53,6 +53,8 @@ pub record ValidationRule : Type 0 where
 pub record Object : Type 0 where
   pub name : List ℕ
   pub access : Access
+  -- who is above others in the role hierarchy gets what they have
+  pub hierarchy : Bool
   pub fields : List Field
   pub validation_rules : List ValidationRule
 

@@ -72,12 +72,14 @@ abbrev pub field : List ℕ → FieldType → (child : Option (List ℕ)) → Fi
 field name kind child = record { name = name; kind = kind; required = false; unique = false; indexed = false; child = child }
 
 abbrev pub object : List ℕ → Access → List Field → Object
-object name access fields = record { name = name; access = access; fields = fields; validation_rules = [] }
+object name access fields = record { name = name; access = access; hierarchy = true; fields = fields; validation_rules = [] }
 
 -- deals (0) with a stage, their lines (1), and parts (2) of lines
-abbrev pub deals : Access → List Object
-deals default =
-    object (codes "Deal__c") default (field (codes "Stage__c") (type.Picklist (codes "Open" ∷ codes "Shut" ∷ [])) None ∷ [])
+abbrev pub deals : Access → (hierarchy : Bool) → List Object
+deals default hierarchy =
+    record (object (codes "Deal__c") default (field (codes "Stage__c") (type.Picklist (codes "Open" ∷ codes "Shut" ∷ [])) None ∷ [])) {
+      hierarchy = hierarchy;
+    }
     ∷ object (codes "Line__c") access.ControlledByParent (field (codes "Deal__c") (type.Master 0) (Some (codes "Lines__r")) ∷ [])
     ∷ object (codes "Part__c") access.ControlledByParent (field (codes "Line__c") (type.Master 1) (Some (codes "Parts__r")) ∷ [])
     ∷ []
@@ -121,7 +123,7 @@ tenant objects rules records shares =
 
 -- nothing is shared, and this is the default access
 abbrev pub by_default : Access → Tenant
-by_default default = tenant (deals default) [] (d1 ∷ line ∷ part ∷ []) []
+by_default default = tenant (deals default true) [] (d1 ∷ line ∷ part ∷ []) []
 
 abbrev pub private : Tenant
 private = by_default access.Private
@@ -130,7 +132,7 @@ private = by_default access.Private
 abbrev pub ruled : Source → Principal → RuleState → List Record → Tenant
 ruled source whom state records =
     tenant
-    (deals access.Private)
+    (deals access.Private true)
     (record { name = codes "R"; number = 1; object = 0; source = source; to = whom; level = Read; state = state; cursor = None } ∷ [])
     records
     []
@@ -145,8 +147,16 @@ staged text state stage = ruled (meets text) (to.Group g2) state (deal 10 ron st
 
 -- Cea's deal now, or still Ron's, with these shares
 abbrev pub shared : User → List Share → Tenant
-shared owner shares = tenant (deals access.Private) [] (deal 8 owner (codes "Shut") ∷ line ∷ part ∷ []) shares
+shared owner shares = tenant (deals access.Private true) [] (deal 8 owner (codes "Shut") ∷ line ∷ part ∷ []) shares
 
 -- Otto may edit the deal, or read it
 abbrev pub to_otto : Level → List Share
 to_otto level = record { item = d1.id; to = to.User otto.id; level = level } ∷ []
+
+-- the role hierarchy doesn't count for deals: Ron's, with these shares
+abbrev pub apart : List Share → Tenant
+apart shares = tenant (deals access.Private false) [] (d1 ∷ line ∷ part ∷ []) shares
+
+-- Ron's deal is shared with who is below the CEO, or in Rep, for reading
+abbrev pub shared_with : Principal → List Share
+shared_with whom = record { item = d1.id; to = whom; level = Read } ∷ []

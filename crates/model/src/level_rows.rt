@@ -9,7 +9,7 @@ ghost use Rattle.model.specs.Levels.{level, level_at, readable};
 ghost use Rattle.model.specs.Membership.{is_below, is_member, reaches};
 ghost use Rattle.model.specs.Objects.{object_number, record_prefix};
 ghost use Rattle.model.specs.Tenant.{owned};
-ghost use Rattle.model.specs.WorkedAccess.{admin, by_default, cea, ceo, d1, deal, g1, g2, id_of, is_open, line, other, otto, part, private, rep, ron, ruled, shared, staged, to_otto, vp};
+ghost use Rattle.model.specs.WorkedAccess.{admin, apart, by_default, cea, ceo, d1, deal, g1, g2, id_of, is_open, line, other, otto, part, private, rep, ron, ruled, shared, shared_with, staged, to_otto, vp};
 
 /// Roles below one another, and what owners and users above them may do. The call does nothing.
 pub fn hierarchy_rows()
@@ -28,6 +28,17 @@ pub fn hierarchy_rows()
     ensures below { level (shared cea []) ron (deal 8 cea (codes "Shut")) ≡ Nothing }
     ensures seen_above { readable private cea 0 ≡ d1 ∷ [] }
     ensures unseen { readable private otto 0 ≡ [] }
+
+    // Where the role hierarchy doesn't count, the owner alone has the record, and who administers.
+    ensures apart_owner { level (apart []) ron d1 ≡ Full }
+    ensures apart_above { level (apart []) cea d1 ≡ Nothing }
+    ensures apart_administrator { level (apart []) admin d1 ≡ Full }
+    ensures apart_detail { level (apart []) cea part ≡ Nothing }
+
+    // And members alone are reached.
+    ensures above_members { level (apart (shared_with (to.Role rep))) cea d1 ≡ Nothing }
+    ensures one_member { level (apart (shared_with (to.Subordinates ceo))) cea d1 ≡ Read }
+    ensures inner_member { level (apart (shared_with (to.Group g2))) otto part ≡ Read }
 
     // The default access.
     ensures read_by_all { level (by_default access.Read) otto d1 ≡ Read }

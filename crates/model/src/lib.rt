@@ -39,9 +39,13 @@ pub use crate::limit::{
     BODY_LIMIT, DELETION_LIMIT, FORMULA_LIMIT, INPUT_LIMIT, Limit, NAME_LIMIT, REPLY_LIMIT,
     SECRET_LEAST, SECRET_MOST, STEM_LIMIT,
 };
-pub use crate::metadata_bodies::{NewField, NewMaster, NewObject, NewValidationRule, SpelledType};
+pub use crate::metadata_bodies::{
+    NewField, NewMaster, NewObject, NewValidationRule, ObjectChange, SpelledType,
+};
 pub use crate::name_forms::{is_child_name, is_custom_name, is_name, is_stem, same_name};
-pub use crate::people_bodies::{NewUser, PrincipalKind, Spelled};
+pub use crate::people_bodies::{
+    GroupChange, NewUser, PrincipalKind, RoleChange, Spelled, UserChange,
+};
 pub use crate::premises::law_rows;
 pub use crate::query_rows::{condition_rows, path_rows, sorted_rows};
 pub use crate::reading::{administrator_laws, object_laws, organisation_laws, record_laws};

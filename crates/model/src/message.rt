@@ -149,6 +149,9 @@ impl Refusal {
             Refusal::SecretRefused => {
                 between(alloc, SECRET_LEAST, SECRET_MOST, " letters or digits")
             }
+            Refusal::LastAdministrator => {
+                String::from_str(alloc, "an administrator must be left")
+            }
         }
     }
 }

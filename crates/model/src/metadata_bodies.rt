@@ -12,8 +12,19 @@ pub struct NewObject {
     pub name: Text,
     /// What every user may do with its records.
     pub access: Access,
+    /// Whether who is above others in the role hierarchy gets what they have.
+    pub hierarchy: bool,
     /// Its master, where it is a detail.
     pub master: Option<NewMaster>,
+}
+
+/// What a body says of an object that is to be changed: at least one of these, and what it doesn't say stays.
+#[derive(Clone, Copy, Debug, PartialEq, Eq)]
+pub struct ObjectChange {
+    /// What every user may do with its records.
+    pub access: Option<Access>,
+    /// Whether who is above others in the role hierarchy gets what they have.
+    pub hierarchy: Option<bool>,
 }
 
 /// What a body says of the master of a new detail.

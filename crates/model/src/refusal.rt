@@ -174,6 +174,8 @@ pub enum Refusal {
     NameRefused,
     /// The secret of a new organisation isn't of its form.
     SecretRefused,
+    /// Nobody who is active would administer the organisation.
+    LastAdministrator,
 }
 
 impl Refusal {
@@ -224,6 +226,7 @@ impl Refusal {
             Refusal::SubqueryNotExported => "SUBQUERY_NOT_EXPORTED",
             Refusal::NameRefused => "NAME_REFUSED",
             Refusal::SecretRefused => "SECRET_REFUSED",
+            Refusal::LastAdministrator => "LAST_ADMINISTRATOR",
         }
     }
 

@@ -1,5 +1,5 @@
 -- The texts of rules spell formulas, and none names a field whose values are being copied: what keeps this so.
-use Rattle.std.proofs.Common.{◌≡◌, ℕ, zero, suc, Bool, true, false, not, ◌&&◌, ◌||◌, ◌==◌, cond, List, [], ◌∷◌, length, filter, Option, Some, None, refl, ap, sym, subst, ◌∙◌, eq-eqb, slice_get, Ordering, nat_lt}
+use Rattle.std.proofs.Common.{unwrap_or, ◌≡◌, ℕ, zero, suc, Bool, true, false, not, ◌&&◌, ◌||◌, ◌==◌, cond, List, [], ◌∷◌, length, filter, Option, Some, None, refl, ap, sym, subst, ◌∙◌, eq-eqb, slice_get, Ordering, nat_lt}
 use Rattle.std.specs.Prelude.{Result, Ok, Err, is_ok, IsTrue, IfSome}
 use Rattle.std.specs.List.{list_all, list_any}
 use Rattle.std.proofs.lemmas.Bool.{eqb-true, and_from as both}
@@ -11,7 +11,8 @@ use Rattle.model.specs.Limits.{formula_limit}
 use Rattle.model.specs.declared.refusal.Refusal.TheVariants as refusal
 use Rattle.model.specs.Cases.{in_case}
 use Rattle.model.specs.Fields.{is_detail, same_name}
-use Rattle.model.specs.Metadata.{set_access}
+use Rattle.model.specs.declared.metadata_bodies.ObjectChange.{ObjectChange}
+use Rattle.model.specs.Metadata.{changed_object, set_object}
 use Rattle.model.specs.Objects.{Numbered, change_at, with_object_changed}
 use Rattle.model.specs.Ordered.{put_in}
 use Rattle.model.specs.Retyping.{source_uses, uses}
@@ -118,44 +119,44 @@ remove_rule_formulas t name s =
     })
 
 -- ---- another access or other validation rules of one object
-module _ (law : ReadsByFields) (A : Object → Access) (R : Object → List ValidationRule) where
-  same_formula : (b : Bool) (x : Object) (c : Bool) (text : List ℕ) → formula_of (or_not A R b x) c text ≡ formula_of x c text
+module _ (law : ReadsByFields) (A : Object → Access) (H : Object → Bool) (R : Object → List ValidationRule) where
+  same_formula : (b : Bool) (x : Object) (c : Bool) (text : List ℕ) → formula_of (or_not A H R b x) c text ≡ formula_of x c text
   unfolding formula_of
-  same_formula b x c text = ap (λ z. cond (nat_lt formula_limit (length text)) (Err 0) z) (law (or_not A R b x) x refl c text)
+  same_formula b x c text = ap (λ z. cond (nat_lt formula_limit (length text)) (Err 0) z) (law (or_not A H R b x) x refl c text)
 
   abbrev spells : Object → ValidationRule → Bool
   spells x r = is_ok (formula_of x false r.formula)
 
   validations_changed : (n : ℕ) (os : List Object) → ((x : Object) → slice_get os n ≡ Some x → list_all (spells x) x.validation_rules ≡ true → list_all (spells x) (R x) ≡ true)
-      → list_all validations_read os ≡ true → list_all validations_read (change_at n (λ o. record o { access = A o; validation_rules = R o }) os) ≡ true
+      → list_all validations_read os ≡ true → list_all validations_read (change_at n (λ o. record o { access = A o; hierarchy = H o; validation_rules = R o }) os) ≡ true
   validations_changed n [] g h = refl
   validations_changed zero (x ∷ os) g h =
-      let now : Object = record x { access = A x; validation_rules = R x } in
+      let now : Object = record x { access = A x; hierarchy = H x; validation_rules = R x } in
       both (validations_read now) (list_all validations_read os)
       (list_all_more (spells x) (spells now) (λ r e. ap (λ (z : Result Formula ℕ). is_ok z) (same_formula true x false r.formula) ∙ e) (R x) (g x refl (both_left (validations_read x) (list_all validations_read os) h)))
       (both_right (validations_read x) (list_all validations_read os) h)
   validations_changed (suc n) (x ∷ os) g h =
-      both (validations_read x) (list_all validations_read (change_at n (λ o. record o { access = A o; validation_rules = R o }) os))
+      both (validations_read x) (list_all validations_read (change_at n (λ o. record o { access = A o; hierarchy = H o; validation_rules = R o }) os))
       (both_left (validations_read x) (list_all validations_read os) h) (validations_changed n os g (both_right (validations_read x) (list_all validations_read os) h))
 
-  source_changed : (b : Bool) (x : Object) (source : Source) → source_reads source (or_not A R b x) ≡ source_reads source x
+  source_changed : (b : Bool) (x : Object) (source : Source) → source_reads source (or_not A H R b x) ≡ source_reads source x
   source_changed b x (owned p) = refl
   source_changed b x (meets text) = ap (λ (z : Result Formula ℕ). is_ok z) (same_formula b x true text)
 
-  uses_changed : (b : Bool) (x : Object) (place : ℕ) (source : Source) → source_uses (or_not A R b x) place source ≡ source_uses x place source
+  uses_changed : (b : Bool) (x : Object) (place : ℕ) (source : Source) → source_uses (or_not A H R b x) place source ≡ source_uses x place source
   uses_changed b x place (owned p) = refl
   uses_changed b x place (meets text) = ap (names_field (suc place)) (same_formula b x true text)
 
   module _ (t : Tenant) (s : AreFormulasSound t) (n : ℕ) where
     abbrev now : List Object
-    now = change_at n (λ o. record o { access = A o; validation_rules = R o }) t.objects
+    now = change_at n (λ o. record o { access = A o; hierarchy = H o; validation_rules = R o }) t.objects
 
     criteria_changed : (r : SharingRule) → criteria_read t.objects r ≡ true → criteria_read now r ≡ true
     criteria_changed r h = by (slice_get t.objects r.object) refl h
       where
         by : (x : Option Object) → slice_get t.objects r.object ≡ x → in_case x false (source_reads r.source) ≡ true → criteria_read now r ≡ true
         by None w h = absurd cc
-        by (Some x) w h = let c = changed_at A R n t.objects r.object x w in ap (λ z. in_case z false (source_reads r.source)) c.1 ∙ source_changed c.0 x r.source ∙ h
+        by (Some x) w h = let c = changed_at A H R n t.objects r.object x w in ap (λ z. in_case z false (source_reads r.source)) c.1 ∙ source_changed c.0 x r.source ∙ h
 
     pub object_formulas : ((x : Object) → slice_get t.objects n ≡ Some x → list_all (spells x) x.validation_rules ≡ true → list_all (spells x) (R x) ≡ true)
         → ((j : Job) → t.job ≡ Some j → is_copy j.phase ≡ true → (x : Object) → slice_get t.objects j.object ≡ Some x → j.object ≡ n → list_all (free_rule j x) x.validation_rules ≡ true → list_all (free_rule j x) (R x) ≡ true)
@@ -167,9 +168,9 @@ module _ (law : ReadsByFields) (A : Object → Access) (R : Object → List Vali
           unnamed = job_free t.job refl s.unnamed;
         }
       where
-        still : (j : Job) (x : Object) (b : Bool) → (b ≡ true → list_all (free_rule j x) x.validation_rules ≡ true → list_all (free_rule j x) (R x) ≡ true) → is_unnamed t.sharing_rules j x ≡ true → is_unnamed t.sharing_rules j (or_not A R b x) ≡ true
+        still : (j : Job) (x : Object) (b : Bool) → (b ≡ true → list_all (free_rule j x) x.validation_rules ≡ true → list_all (free_rule j x) (R x) ≡ true) → is_unnamed t.sharing_rules j x ≡ true → is_unnamed t.sharing_rules j (or_not A H R b x) ≡ true
         still j x b g h =
-            let y = or_not A R b x in
+            let y = or_not A H R b x in
             let first = list_all (free_rule j x) x.validation_rules in
             let second = list_all (free j x) t.sharing_rules in
             both (list_all (free_rule j y) y.validation_rules) (list_all (free j y) t.sharing_rules)
@@ -191,28 +192,28 @@ module _ (law : ReadsByFields) (A : Object → Access) (R : Object → List Vali
                 found : (x : Option Object) → slice_get t.objects j.object ≡ x → in_case x true (is_unnamed t.sharing_rules j) ≡ true → in_case (slice_get now j.object) true (is_unnamed t.sharing_rules j) ≡ true
                 found None v h = ap (λ z. in_case z true (is_unnamed t.sharing_rules j)) (none_changed n t.objects j.object v)
                   where
-                    none_changed : (n : ℕ) (os : List Object) (m : ℕ) → slice_get os m ≡ None → slice_get (change_at n (λ o. record o { access = A o; validation_rules = R o }) os) m ≡ None
+                    none_changed : (n : ℕ) (os : List Object) (m : ℕ) → slice_get os m ≡ None → slice_get (change_at n (λ o. record o { access = A o; hierarchy = H o; validation_rules = R o }) os) m ≡ None
                     none_changed n [] m e = e
                     none_changed zero (x ∷ os) zero e = absurd cc
                     none_changed zero (x ∷ os) (suc m) e = e
                     none_changed (suc n) (x ∷ os) zero e = absurd cc
                     none_changed (suc n) (x ∷ os) (suc m) e = none_changed n os m e
                 found (Some x) v h =
-                    let c = changed_at A R n t.objects j.object x v in
+                    let c = changed_at A H R n t.objects j.object x v in
                     ap (λ z. in_case z true (is_unnamed t.sharing_rules j)) c.1 ∙ still j x c.0 (λ b. good_free j e w x v (c.2 b)) h
 
-pub set_access_formulas : ReadsByFields → (t : Tenant) (object : List ℕ) (access : Access) → AreFormulasSound t → AreFormulasSound (set_access t object access).tenant
-set_access_formulas law t object access s =
-    when_object AreFormulasSound t object (λ o. judged t (refuse_if (is_detail o.object) (refusal.InvalidType o.object.name) ∷ []) (accept done (with_object_changed o.number (λ x. record x { access = access }) t))) s (λ o at.
-    when_judged AreFormulasSound t (refuse_if (is_detail o.object) (refusal.InvalidType o.object.name) ∷ []) (accept done (with_object_changed o.number (λ x. record x { access = access }) t)) s (λ h.
-    object_formulas law (λ x. access) (λ x. x.validation_rules) t s o.number (λ x e g. g) (λ j is copy x w same g. g)))
+pub set_object_formulas : ReadsByFields → (t : Tenant) (object : List ℕ) (c : ObjectChange) → AreFormulasSound t → AreFormulasSound (set_object t object c).tenant
+set_object_formulas law t object c s =
+    when_object AreFormulasSound t object (λ o. judged t (refuse_if (is_detail o.object) (refusal.InvalidType o.object.name) ∷ []) (accept done (with_object_changed o.number (changed_object c) t))) s (λ o at.
+    when_judged AreFormulasSound t (refuse_if (is_detail o.object) (refusal.InvalidType o.object.name) ∷ []) (accept done (with_object_changed o.number (changed_object c) t)) s (λ h.
+    object_formulas law (λ x. unwrap_or c.access x.access) (λ x. unwrap_or c.hierarchy x.hierarchy) (λ x. x.validation_rules) t s o.number (λ x e g. g) (λ j is copy x w same g. g)))
 
 pub add_validation_formulas : ReadsByFields → (t : Tenant) (b : NewValidationRule) → AreFormulasSound t → AreFormulasSound (add_validation_rule t b).tenant
 add_validation_formulas law t b s =
     let r : ValidationRule = validation_of b in
     when_object AreFormulasSound t b.object (λ o. judged t (new_validation_rule_rules t o b) (accept done (with_object_changed o.number (with_validation_rule r) t))) s (λ o at.
     when_judged AreFormulasSound t (new_validation_rule_rules t o b) (accept done (with_object_changed o.number (with_validation_rule r) t)) s (λ h.
-    object_formulas law (λ x. x.access) (with_one r) t s o.number
+    object_formulas law (λ x. x.access) (λ x. x.hierarchy) (with_one r) t s o.number
     (λ x e g.
     let same : o.object ≡ x = some_is o.object x (sym at ∙ e) in
     list_all_put (λ (q : ValidationRule). is_ok (formula_of x false q.formula)) (λ a b. name_cmp a.name b.name) r x.validation_rules g
@@ -227,6 +228,6 @@ remove_validation_formulas law t object name s =
     let p : ValidationRule → Bool = λ r. not (same_name r.name name) in
     when_object AreFormulasSound t object (λ o. judged t (refuse_if (not (list_any (λ r. same_name r.name name) o.object.validation_rules)) refusal.NotFound ∷ []) (accept done (with_object_changed o.number (without_validation_rule name) t))) s (λ o at.
     when_judged AreFormulasSound t (refuse_if (not (list_any (λ r. same_name r.name name) o.object.validation_rules)) refusal.NotFound ∷ []) (accept done (with_object_changed o.number (without_validation_rule name) t)) s (λ h.
-    object_formulas law (λ x. x.access) (without_one name) t s o.number
+    object_formulas law (λ x. x.access) (λ x. x.hierarchy) (without_one name) t s o.number
     (λ x e g. list_all_kept (λ (q : ValidationRule). is_ok (formula_of x false q.formula)) p x.validation_rules g)
     (λ j is copy x w here_is g. list_all_kept (free_rule j x) p x.validation_rules g)))

@@ -63,7 +63,7 @@ module _ (k l : Known) (g : KeepsPeople k l) where
   user_more u s = record { id = drawn_more user_prefix u.id k.counter l.counter g.counter s.id; name = s.name; digest = s.digest; role = IfSome_then u.role s.role g.role }
 
   pub users_more : (us : List User) → HasSoundUsers k us → HasSoundUsers l us
-  users_more us s = record { each = all_more (IsSoundUser k) (IsSoundUser l) user_more us s.each; rise = s.rise; few = s.few }
+  users_more us s = record { each = all_more (IsSoundUser k) (IsSoundUser l) user_more us s.each; rise = s.rise; few = s.few; administered = s.administered }
 
   role_more : (r : Role) → IsSoundRole k r → IsSoundRole l r
   role_more r s = record { id = drawn_more role_prefix r.id k.counter l.counter g.counter s.id; name = s.name; parent = IfSome_then r.parent s.parent g.role }

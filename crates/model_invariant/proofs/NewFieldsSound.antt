@@ -339,6 +339,7 @@ module _ (t : Tenant) (s : HasSoundParts t) (n : ℕ) (p : Object) (there : slic
         field_names = x.field_names;
         relations = names_kept m x.relations;
         master = x.master;
+        hierarchy = x.hierarchy;
         level = subst (λ (k : ℕ). k ≤ 3) (sym (levels_kept 4 m)) x.level;
         rules = x.rules;
         rules_rise = x.rules_rise;
@@ -354,6 +355,7 @@ module _ (t : Tenant) (s : HasSoundParts t) (n : ℕ) (p : Object) (there : slic
         field_names = ap names_differ (names_of_last (λ (y : Field). y.name) p.fields f) ∙ names_last (map (λ (y : Field). y.name) p.fields) f.name x.field_names fresh;
         relations = names_kept n x.relations;
         master = ap (λ (ys : List Field). length ys) (filter_last (λ (y : Field). is_master y.kind) p.fields f ∙ ap (λ b. cond b (filter (λ (y : Field). is_master y.kind) p.fields ++ f ∷ []) (filter (λ (y : Field). is_master y.kind) p.fields)) plain) ∙ x.master;
+        hierarchy = x.hierarchy;
         level = subst (λ (k : ℕ). k ≤ 3) (sym (levels_kept 4 n)) x.level;
         rules = x.rules;
         rules_rise = x.rules_rise;

@@ -247,6 +247,7 @@ module _ (t : Tenant) (s : HasSoundParts t) (x : Object) where
         field_names = h.field_names;
         relations = relations;
         master = h.master;
+        hierarchy = h.hierarchy;
         level = level;
         rules = h.rules;
         rules_rise = h.rules_rise;
@@ -285,7 +286,7 @@ find_none q (x ∷ xs) h = ap (λ b. cond b (Some x) (find q xs)) (h x (inl refl
 -- ---- no detail
 module _ (t : Tenant) (s : HasSoundParts t) (b : NewObject) where
   abbrev plain : Object
-  plain = record { name = b.name; access = b.access; fields = []; validation_rules = [] }
+  plain = record { name = b.name; access = b.access; hierarchy = b.hierarchy; fields = []; validation_rules = [] }
 
   abbrev n : ℕ
   n = length t.objects
@@ -314,6 +315,7 @@ module _ (t : Tenant) (s : HasSoundParts t) (b : NewObject) where
             ∙ ap (λ (rs : List Reference). map (λ (f : Reference). parent_name f.field.name) rs ++ filter_map (λ (f : Reference). f.field.child) (filter (λ (f : Reference). f.target == n) (references t.objects))) none_from
             ∙ ap (λ (rs : List Reference). filter_map (λ (f : Reference). f.field.child) rs) none_to);
         master = sym (ap (λ b. cond b 1 0) access);
+        hierarchy = ap (λ c. not c || b.hierarchy) access;
         level = subst (λ (k : ℕ). k ≤ 3) (sym (level_by_references t.objects now same 4 n ∙ ap (λ z. in_case z 0 (λ (f : Reference). suc (masters_above 3 t.objects f.target))) none_above)) (omega arith);
         rules = tt;
         rules_rise = tt;
@@ -330,7 +332,7 @@ module _ (t : Tenant) (s : HasSoundParts t) (b : NewObject) where
     own = master_field m p
 
     abbrev detail : Object
-    detail = record { name = b.name; access = b.access; fields = own ∷ []; validation_rules = [] }
+    detail = record { name = b.name; access = b.access; hierarchy = b.hierarchy; fields = own ∷ []; validation_rules = [] }
 
     abbrev later : List Object
     later = t.objects ++ detail ∷ []
@@ -424,10 +426,10 @@ module _ (t : Tenant) (s : HasSoundParts t) (b : NewObject) where
         ∙ ap (λ (rs : List Reference). parent_name m.field ∷ filter_map (λ (f : Reference). f.field.child) rs)
         (to_old n ∙ ap (λ b. cond b (filter (λ (f : Reference). f.target == n) (references t.objects) ++ r ∷ []) (filter (λ (f : Reference). f.target == n) (references t.objects))) (apart_numbers p.number n low) ∙ none_to)
 
-    detail_added : n + 1 ≤ 100 → list_any (same_name b.name) (map (λ (o : Object). o.name) t.objects) ≡ false → is_custom_name b.name ≡ true → by_parent b.access ≡ true
+    detail_added : n + 1 ≤ 100 → list_any (same_name b.name) (map (λ (o : Object). o.name) t.objects) ≡ false → is_custom_name b.name ≡ true → by_parent b.access ≡ true → b.hierarchy ≡ true
         → is_custom_name m.field ≡ true → is_child_name m.child ≡ true → list_any (same_name m.child) (relationship_names t.objects p.number) ≡ false → detail_level t.objects p.number + 1 ≤ 3
         → HasSoundParts (record t { objects = later })
-    detail_added few free name access field child child_free deep =
+    detail_added few free name access hierarchy field child child_free deep =
         object_added t s detail
         (metadata_added t s detail (omega (arith, few, length_last t.objects detail)) free (names_old child_free) (λ k h. levels_old 4 k h)
         (record {
@@ -448,6 +450,7 @@ module _ (t : Tenant) (s : HasSoundParts t) (b : NewObject) where
           field_names = refl;
           relations = ap names_differ own_names;
           master = sym (ap (λ b. cond b 1 0) access);
+          hierarchy = ap (λ c. not (by_parent b.access) || c) hierarchy ∙ last_true (not (by_parent b.access));
           level = let w = masters_more 3 p.number in subst (λ (k : ℕ). k ≤ 3) (sym own_level) (omega (arith, w, deep));
           rules = tt;
           rules_rise = tt;
@@ -457,6 +460,10 @@ module _ (t : Tenant) (s : HasSoundParts t) (b : NewObject) where
       where
         within : (a b : ℕ) → a < b → nat_lt a b ≡ true
         within a b h = grind (arith, nat_tests)
+
+        last_true : (c : Bool) → (c || true) ≡ true
+        last_true true = refl
+        last_true false = refl
 
 -- ---- the request
 pub add_object_sound : (t : Tenant) (b : NewObject) → is_fit_object b ≡ true → HasSoundParts t → HasSoundParts (add_object t b).tenant
@@ -479,12 +486,12 @@ add_object_sound t b fit s =
     untaken : (others : List (List ℕ)) (name : List ℕ) → taken others name ≡ None → list_any (same_name name) others ≡ false
     untaken others name e = unrefused (list_any (same_name name) others) (refusal.NameTaken name) e
 
-    by : (master : Option NewMaster) → in_case master (not (by_parent b.access)) (λ m. by_parent b.access && (has_member b.members (codes "field") && has_member b.members (codes "child"))) ≡ true
+    by : (master : Option NewMaster) → in_case master (not (by_parent b.access)) (λ m. by_parent b.access && (b.hierarchy && (has_member b.members (codes "field") && has_member b.members (codes "child")))) ≡ true
         → has_member b.members (codes "name") ≡ true → length t.objects + 1 ≤ 100
         → in_body_order b.members ((codes "name", bad_name is_custom_name b.name) ∷ in_case master [] master_names) ≡ None
         → in_body_order b.members ((codes "name", taken (map (λ (o : Object). o.name) t.objects) b.name) ∷ (codes "child", in_case master None (child_name_taken t)) ∷ []) ≡ None
         → in_case master None (no_parent t) ≡ None → in_case master None (too_deep t) ≡ None
-        → HasSoundParts (record t { objects = t.objects ++ record { name = b.name; access = b.access; fields = new_fields t master; validation_rules = [] } ∷ [] })
+        → HasSoundParts (record t { objects = t.objects ++ record { name = b.name; access = b.access; hierarchy = b.hierarchy; fields = new_fields t master; validation_rules = [] } ∷ [] })
     by None access named few good free parent deep =
         plain_added t s b few (untaken (map (λ (o : Object). o.name) t.objects) b.name (member_rule (free_names None) b.members (codes "name") free named))
         (custom is_custom_name b.name (member_rule (names None) b.members (codes "name") good named))
@@ -495,24 +502,28 @@ add_object_sound t b fit s =
         not_so false e = refl
     by (Some m) access named few good free parent deep = found (object_named t m.parent) refl parent deep
       where
+        said : b.hierarchy && (has_member b.members (codes "field") && has_member b.members (codes "child")) ≡ true
+        said = both_right (by_parent b.access) (b.hierarchy && (has_member b.members (codes "field") && has_member b.members (codes "child"))) access
+
         members : has_member b.members (codes "field") && has_member b.members (codes "child") ≡ true
-        members = both_right (by_parent b.access) (has_member b.members (codes "field") && has_member b.members (codes "child")) access
+        members = both_right b.hierarchy (has_member b.members (codes "field") && has_member b.members (codes "child")) said
 
         child_rule : child_name_taken t m ≡ None
         child_rule = member_rule (free_names (Some m)) b.members (codes "child") free (both_right (has_member b.members (codes "field")) (has_member b.members (codes "child")) members)
 
         found : (p : Option Numbered) → object_named t m.parent ≡ p → in_case p (Some (refusal.InvalidType m.parent)) (λ o. None) ≡ None → too_deep t m ≡ None
-            → HasSoundParts (record t { objects = t.objects ++ record { name = b.name; access = b.access; fields = in_case (object_named t m.parent) [] (λ o. master_field m o ∷ []); validation_rules = [] } ∷ [] })
+            → HasSoundParts (record t { objects = t.objects ++ record { name = b.name; access = b.access; hierarchy = b.hierarchy; fields = in_case (object_named t m.parent) [] (λ o. master_field m o ∷ []); validation_rules = [] } ∷ [] })
         found None e parent deep = absurd cc
         found (Some p) e parent deep =
             let is_child = custom is_child_name m.child (member_rule (names (Some m)) b.members (codes "child") good (both_right (has_member b.members (codes "field")) (has_member b.members (codes "child")) members)) in
             let is_field = custom is_custom_name m.field (member_rule (names (Some m)) b.members (codes "field") good (both_left (has_member b.members (codes "field")) (has_member b.members (codes "child")) members)) in
             let child_free = untaken (relationship_names t.objects p.number) m.child (ap (λ z. in_case z None (λ o. taken (relationship_names t.objects o.number) m.child)) (sym e) ∙ child_rule) in
             let depth = none_refuses (refuse_if (nat_lt 3 (detail_level t.objects p.number + 1)) (refusal.LimitExceeded limit.DetailLevels) ∷ []) (ap (λ z. in_case z None (λ (o : Numbered). over_limit ((limit.DetailLevels, detail_level t.objects o.number + 1) ∷ []))) (sym e) ∙ deep) in
-            subst (λ z. HasSoundParts (record t { objects = t.objects ++ record { name = b.name; access = b.access; fields = in_case z [] (λ (o : Numbered). master_field m o ∷ []); validation_rules = [] } ∷ [] })) (sym e)
+            subst (λ z. HasSoundParts (record t { objects = t.objects ++ record { name = b.name; access = b.access; hierarchy = b.hierarchy; fields = in_case z [] (λ (o : Numbered). master_field m o ∷ []); validation_rules = [] } ∷ [] })) (sym e)
             (detail_added t s b m p (named_at t m.parent p e) few
             (untaken (map (λ (o : Object). o.name) t.objects) b.name (member_rule (free_names (Some m)) b.members (codes "name") free named))
             (custom is_custom_name b.name (member_rule (names (Some m)) b.members (codes "name") good named))
-            (both_left (by_parent b.access) (has_member b.members (codes "field") && has_member b.members (codes "child")) access)
+            (both_left (by_parent b.access) (b.hierarchy && (has_member b.members (codes "field") && has_member b.members (codes "child"))) access)
+            (both_left b.hierarchy (has_member b.members (codes "field") && has_member b.members (codes "child")) said)
             is_field is_child child_free
             (within_limit 3 (detail_level t.objects p.number + 1) (refusal.LimitExceeded limit.DetailLevels) depth.0))

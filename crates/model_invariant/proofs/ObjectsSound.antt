@@ -1,6 +1,6 @@
 -- Another access of an object, or other validation rules: its fields stay, and so all that speaks of them.
-use Rattle.std.proofs.Common.{◌≡◌, ℕ, zero, suc, ◌+◌, ◌≤◌, nat_le, Bool, true, false, not, ◌||◌, cond, List, [], ◌∷◌, ◌++◌, map, length, filter, Option, Some, None, refl, ap, sym, subst, ◌∙◌, arith, slice_get, nat_lt, Equal}
-use Rattle.model_invariant.specs.Fit.{is_fit_validation}
+use Rattle.std.proofs.Common.{unwrap_or, ◌≡◌, ℕ, zero, suc, ◌+◌, ◌≤◌, nat_le, Bool, true, false, not, ◌||◌, cond, List, [], ◌∷◌, ◌++◌, map, length, filter, Option, Some, None, refl, ap, sym, subst, ◌∙◌, arith, slice_get, nat_lt, Equal}
+use Rattle.model_invariant.specs.Fit.{is_fit_object_change, is_fit_validation}
 use Rattle.std.specs.Str.{all_scalars}
 use Rattle.std.specs.List.{AllByRecursion, flat_map, list_any}
 use Rattle.std.specs.Option.{option_and_then}
@@ -18,7 +18,8 @@ use Rattle.model.specs.declared.refusal.Refusal.TheVariants as refusal
 use Rattle.model.specs.Cases.{in_case}
 use Rattle.model.specs.Fields.{by_parent, is_detail, is_master, same_name}
 use Rattle.model.specs.Known.{known}
-use Rattle.model.specs.Metadata.{set_access}
+use Rattle.model.specs.declared.metadata_bodies.ObjectChange.{ObjectChange}
+use Rattle.model.specs.Metadata.{changed_object, set_object}
 use Rattle.model.specs.Names.{is_stem}
 use Rattle.model.specs.Objects.{Numbered, change_at, is_of, object_number, with_object_changed}
 use Rattle.model.specs.Ordered.{put_in}
@@ -27,7 +28,7 @@ use Rattle.model.specs.RuleFormulas.{name_cmp}
 use Rattle.model.specs.Rules.{refuse_if}
 use Rattle.model_invariant.proofs.SoundParts.{HasSoundParts}
 use Rattle.model.specs.SoundJob.{HasSoundJob, job_field}
-use Rattle.model.specs.SoundMetadata.{IsSoundField, IsSoundObject, IsSoundValidation, names_differ}
+use Rattle.model.specs.SoundMetadata.{IsSoundField, IsSoundObject, IsSoundValidation, masters, names_differ}
 use Rattle.model.specs.SoundPeople.{is_name}
 use Rattle.model.specs.SoundRecords.{IsSoundRecord, UniqueHold}
 use Rattle.model.specs.SoundSharing.{IsSoundRule, IsSoundShare, shareable}
@@ -43,13 +44,13 @@ use Rattle.model_invariant.proofs.PeopleSound.{when_judged}
 use Rattle.model_invariant.proofs.SharingSound.{numbered_from, tied_names, when_object}
 use Rattle.model_invariant.proofs.RuleTexts.{short_text}
 
-module _ (A : Object → Access) (R : Object → List ValidationRule) where
+module _ (A : Object → Access) (H : Object → Bool) (R : Object → List ValidationRule) where
   abbrev pub change : Object → Object
-  change o = record o { access = A o; validation_rules = R o }
+  change o = record o { access = A o; hierarchy = H o; validation_rules = R o }
 
   -- the object, changed or not
   abbrev pub or_not : Bool → Object → Object
-  or_not b o = record o { access = cond b (A o) o.access; validation_rules = cond b (R o) o.validation_rules }
+  or_not b o = record o { access = cond b (A o) o.access; hierarchy = cond b (H o) o.hierarchy; validation_rules = cond b (R o) o.validation_rules }
 
   pub changed_at : (n : ℕ) (os : List Object) (m : ℕ) (o : Object) → slice_get os m ≡ Some o → (b : Bool) × (slice_get (change_at n change os) m ≡ Some (or_not b o)) × (b ≡ true → m ≡ n)
   changed_at n [] m o e = absurd cc
@@ -78,6 +79,7 @@ module _ (A : Object → Access) (R : Object → List ValidationRule) where
           field_names = x.field_names;
           relations = ap names_differ (names_by_references os now (refs_same 0 n os) o.number) ∙ x.relations;
           master = x.master;
+          hierarchy = x.hierarchy;
           level = subst (λ (k : ℕ). k ≤ 3) (sym (level_by_references os now (refs_same 0 n os) 4 o.number)) x.level;
           rules = x.rules;
           rules_rise = x.rules_rise;
@@ -176,20 +178,38 @@ no_masters (f ∷ fs) e = by (is_master f.kind) e (no_masters fs)
     by true e more = absurd cc
     by false e more = more e
 
-pub set_access_sound : (t : Tenant) (object : List ℕ) (access : Access) → by_parent access ≡ false → HasSoundParts t → HasSoundParts (set_access t object access).tenant
-set_access_sound t object access plain s =
-    when_object HasSoundParts t object (λ o. judged t (refuse_if (is_detail o.object) (refusal.InvalidType o.object.name) ∷ []) (accept done (with_object_changed o.number (λ x. record x { access = access }) t))) s (λ o at.
-    when_judged HasSoundParts t (refuse_if (is_detail o.object) (refusal.InvalidType o.object.name) ∷ []) (accept done (with_object_changed o.number (λ x. record x { access = access }) t)) s (λ h.
-    object_changed (λ x. access) (λ x. x.validation_rules) t s o.number
+-- an object without Master fields has no access by the parent
+own_access : (o : Object) → masters o ≡ cond (by_parent o.access) 1 0 → masters o ≡ 0 → by_parent o.access ≡ false
+own_access o is none = by (by_parent o.access) (masters o) is none
+  where
+    by : (b : Bool) (n : ℕ) → n ≡ cond b 1 0 → n ≡ 0 → b ≡ false
+    by true n is none = absurd cc
+    by false n is none = refl
+
+plain_access : (said : Option Access) (old : Access) → in_case said true (λ access. not (by_parent access)) ≡ true → by_parent old ≡ false → by_parent (unwrap_or said old) ≡ false
+plain_access None old fit h = h
+plain_access (Some access) old fit h = by (by_parent access) fit
+  where
+    by : (b : Bool) → not b ≡ true → b ≡ false
+    by true e = absurd cc
+    by false e = refl
+
+pub set_object_sound : (t : Tenant) (object : List ℕ) (c : ObjectChange) → is_fit_object_change c ≡ true → HasSoundParts t → HasSoundParts (set_object t object c).tenant
+set_object_sound t object c fit s =
+    when_object HasSoundParts t object (λ o. judged t (refuse_if (is_detail o.object) (refusal.InvalidType o.object.name) ∷ []) (accept done (with_object_changed o.number (changed_object c) t))) s (λ o at.
+    when_judged HasSoundParts t (refuse_if (is_detail o.object) (refusal.InvalidType o.object.name) ∷ []) (accept done (with_object_changed o.number (changed_object c) t)) s (λ h.
+    object_changed (λ x. unwrap_or c.access x.access) (λ x. unwrap_or c.hierarchy x.hierarchy) (λ x. x.validation_rules) t s o.number
     (λ m x e h2.
     let same : o.object ≡ x = some_is o.object x (sym at ∙ e) in
     let none : is_detail x ≡ false = ap is_detail (sym same) ∙ unrefused (is_detail o.object) (refusal.InvalidType o.object.name) h.0 in
+    let plain = plain_access c.access x.access fit (own_access x h2.master (no_masters x.fields none)) in
     record {
       name = h2.name;
       fields = h2.fields;
       field_names = h2.field_names;
       relations = h2.relations;
       master = no_masters x.fields none ∙ sym (ap (λ b. cond b 1 0) plain);
+      hierarchy = ap (λ b. not b || unwrap_or c.hierarchy x.hierarchy) plain;
       level = h2.level;
       rules = h2.rules;
       rules_rise = h2.rules_rise;
@@ -218,7 +238,7 @@ add_validation_sound t b fit s =
     when_object HasSoundParts t b.object (λ o. judged t (new_validation_rule_rules t o b) (accept done (with_object_changed o.number (with_validation_rule r) t))) s (λ o at.
     when_judged HasSoundParts t (new_validation_rule_rules t o b) (accept done (with_object_changed o.number (with_validation_rule r) t)) s (λ h.
     let limits = none_refuses (refuse_if (nat_lt 50 (length o.object.validation_rules + 1)) (refusal.LimitExceeded limit.ValidationRulesPerObject) ∷ []) h.1.1.1.1.0 in
-    object_changed (λ x. x.access) (with_one r) t s o.number
+    object_changed (λ x. x.access) (λ x. x.hierarchy) (with_one r) t s o.number
     (λ m x e h2.
     let same : o.object ≡ x = some_is o.object x (sym at ∙ e) in
     record {
@@ -227,6 +247,7 @@ add_validation_sound t b fit s =
       field_names = h2.field_names;
       relations = h2.relations;
       master = h2.master;
+      hierarchy = h2.hierarchy;
       level = h2.level;
       rules = all_put IsSoundValidation (λ a b. name_cmp a.name b.name) r x.validation_rules h2.rules (record { name = holds_not (is_stem r.name) (unrefused (not (is_stem r.name)) (refusal.InvalidName r.name) h.0); formula = both (all_scalars r.formula) (nat_le (length r.formula) formula_limit) (both_right (is_name r.message) (all_scalars r.formula) fit) (short_text o.object false r.formula h.1.1.0); message = both_left (is_name r.message) (all_scalars r.formula) fit });
       rules_rise = rise_put name_cmp (λ (r : ValidationRule). r.name) (on_texts lower) (λ a b. name_cmp a.name b.name) (λ a b. refl) r x.validation_rules h2.rules_rise
@@ -244,7 +265,7 @@ remove_validation_sound t object name s =
     let p : ValidationRule → Bool = λ r. not (same_name r.name name) in
     when_object HasSoundParts t object (λ o. judged t (refuse_if (not (list_any (λ r. same_name r.name name) o.object.validation_rules)) refusal.NotFound ∷ []) (accept done (with_object_changed o.number (without_validation_rule name) t))) s (λ o at.
     when_judged HasSoundParts t (refuse_if (not (list_any (λ r. same_name r.name name) o.object.validation_rules)) refusal.NotFound ∷ []) (accept done (with_object_changed o.number (without_validation_rule name) t)) s (λ h.
-    object_changed (λ x. x.access) (without_one name) t s o.number
+    object_changed (λ x. x.access) (λ x. x.hierarchy) (without_one name) t s o.number
     (λ m x e h2.
     record {
       name = h2.name;
@@ -252,6 +273,7 @@ remove_validation_sound t object name s =
       field_names = h2.field_names;
       relations = h2.relations;
       master = h2.master;
+      hierarchy = h2.hierarchy;
       level = h2.level;
       rules = all_kept IsSoundValidation p x.validation_rules h2.rules;
       rules_rise = rise_kept name_cmp (λ (r : ValidationRule). r.name) p x.validation_rules h2.rules_rise;

@@ -14,8 +14,13 @@ use Rattle.model.specs.Keys.{Key, with_key}
 use Rattle.model.specs.Known.{group_id, role_id}
 use Rattle.model.specs.Objects.{Numbered, record_at}
 use Rattle.model.specs.Paths.{Asked}
+use Rattle.model.specs.declared.people_bodies.GroupChange.{GroupChange}
 use Rattle.model.specs.declared.people_bodies.NewUser.{NewUser}
-use Rattle.model.specs.People.{add_group, add_role, add_user, changed, group_rules, new_group_rules, new_role_rules, new_user, new_user_rules, next_id, role_rules, set_group, set_role, set_user, user_rules, with_group, with_role, with_user}
+use Rattle.model.specs.declared.people_bodies.RoleChange.{RoleChange}
+use Rattle.model.specs.declared.people_bodies.UserChange.{UserChange}
+use Rattle.model.specs.Names.{bad_name}
+use Rattle.model.specs.SoundPeople.{is_name}
+use Rattle.model.specs.People.{add_group, add_role, add_user, changed, changed_group, changed_role, group_rules, new_group_rules, new_role_rules, new_user, new_user_rules, next_id, role_rules, set_group, set_organisation, set_role, set_user, user_rules, users_with, with_group, with_role, with_user}
 use Rattle.model.specs.declared.people_bodies.Spelled.{Spelled}
 use Rattle.model.specs.Principals.{bad_id, principal_of, spelled_id}
 use Rattle.model.specs.Rights.{denied, on_named, on_readable}
@@ -27,7 +32,7 @@ use Rattle.model.specs.Tenant.{Field, Group, Role, Share, Tenant}
 use Rattle.model.specs.Updates.{update, update_on, update_rules, with_changed}
 use Rattle.model.specs.Upserts.{declared_name, key_value, on_value, unique_named, upsert, upsert_by}
 use Rattle.model.specs.Verdict.{accept, done, judged, made_new, refuse, upserted}
-use Rattle.model.specs.World.{user_id, group_prefix, role_prefix}
+use Rattle.model.specs.World.{group_prefix, role_prefix}
 use Rattle.model_invariant.proofs.PeopleSound.{when_judged}
 use Rattle.model_invariant.proofs.SharingSound.{when_object, when_readable}
 use Rattle.model_invariant.proofs.UpdatesSound.{when_named}
@@ -42,27 +47,29 @@ module _ (t : Tenant) (s : AreFormulasSound t) where
   pub add_user_formulas : (b : NewUser) → AreFormulasSound (add_user t b).tenant
   add_user_formulas b = let u = new_user t b in when_judged P t (new_user_rules t b) (accept (made_new u.id) (with_user u t)) s (λ _. s)
 
-  pub set_user_formulas : (user : List ℕ) (role : Option (List ℕ)) → AreFormulasSound (set_user t user role).tenant
-  set_user_formulas user role =
-      when_judged P t (user_rules t user role) (accept done (record t { users = changed user_id (λ u. record u { role = option_map spelled_id role }) (spelled_id user) t.users })) s (λ _. s)
+  pub set_user_formulas : (user : List ℕ) (b : UserChange) → AreFormulasSound (set_user t user b).tenant
+  set_user_formulas user b = when_judged P t (user_rules t user b) (accept done (record t { users = users_with b user t.users })) s (λ _. s)
 
   pub add_role_formulas : (name : List ℕ) (parent : Option (List ℕ)) → AreFormulasSound (add_role t name parent).tenant
   add_role_formulas name parent =
       let r : Role = record { id = next_id t role_prefix; name = name; parent = option_map spelled_id parent } in
       when_judged P t (new_role_rules t name parent) (accept (made_new r.id) (with_role r t)) s (λ _. s)
 
-  pub set_role_formulas : (role : List ℕ) (parent : Option (List ℕ)) → AreFormulasSound (set_role t role parent).tenant
-  set_role_formulas role parent =
-      when_judged P t (role_rules t role parent) (accept done (record t { roles = changed role_id (λ r. record r { parent = option_map spelled_id parent }) (spelled_id role) t.roles })) s (λ _. s)
+  pub set_role_formulas : (role : List ℕ) (b : RoleChange) → AreFormulasSound (set_role t role b).tenant
+  set_role_formulas role b =
+      when_judged P t (role_rules t role b) (accept done (record t { roles = changed role_id (changed_role b) (spelled_id role) t.roles })) s (λ _. s)
 
   pub add_group_formulas : (name : List ℕ) → AreFormulasSound (add_group t name).tenant
   add_group_formulas name =
       let x : Group = record { id = next_id t group_prefix; name = name; members = [] } in
       when_judged P t (new_group_rules t name) (accept (made_new x.id) (with_group x t)) s (λ _. s)
 
-  pub set_group_formulas : (group : List ℕ) (members : List Spelled) → AreFormulasSound (set_group t group members).tenant
-  set_group_formulas group members =
-      when_judged P t (group_rules t group members) (accept done (record t { groups = changed group_id (λ g. record g { members = map principal_of members }) (spelled_id group) t.groups })) s (λ _. s)
+  pub set_group_formulas : (group : List ℕ) (b : GroupChange) → AreFormulasSound (set_group t group b).tenant
+  set_group_formulas group b =
+      when_judged P t (group_rules t group b) (accept done (record t { groups = changed group_id (changed_group b) (spelled_id group) t.groups })) s (λ _. s)
+
+  pub set_organisation_formulas : (name : List ℕ) → AreFormulasSound (set_organisation t name).tenant
+  set_organisation_formulas name = when_judged P t (bad_name is_name name ∷ []) (accept done (record t { name = name })) s (λ _. s)
 
 -- ---- shares and records
 module _ (a : Asked) (s : AreFormulasSound a.tenant) where

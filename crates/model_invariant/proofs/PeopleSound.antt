@@ -1,7 +1,7 @@
 -- What a request about people leaves is sound.
 use Rattle.std.proofs.Common.{◌≡◌, ℕ, ◌+◌, ◌≤◌, Bool, true, false, not, ◌&&◌, ◌||◌, cond, List, [], ◌∷◌, ◌++◌, map, length, Option, Some, None, is_none, refl, ap, sym, subst, ◌∙◌, arith, ◌⊎◌, inl, inr, IsTrue, IfSome, bytes_eq, codes, nat_cmp, nat_lt, Less}
 use Rattle.std.specs.Prelude.{◌↔◌}
-use Rattle.std.specs.List.{AllByRecursion, list_all}
+use Rattle.std.specs.List.{AllByRecursion, list_all, list_any}
 use Rattle.std.specs.Option.{option_map, option_and_then}
 use Rattle.std.specs.Cmp.Lexicographic.{slice_cmp}
 use Rattle.std.specs.Option.{unwrap_or}
@@ -19,14 +19,19 @@ use Rattle.model.specs.Known.{Grows, Known, group_id, known, knows, names_any, r
 use Rattle.model.specs.declared.limit.Limit.{Limit}
 use Rattle.model.specs.declared.limit.Limit.TheVariants as limit
 use Rattle.model.specs.Limits.{limit_number}
+use Rattle.model.specs.Cases.{in_case}
+use Rattle.model.specs.Names.{bad_name}
+use Rattle.model.specs.declared.people_bodies.GroupChange.{GroupChange}
 use Rattle.model.specs.declared.people_bodies.NewUser.{NewUser}
-use Rattle.model.specs.People.{add_group, add_role, add_user, changed, new_group_rules, new_role_rules, new_user_rules, group_rules, role_rules, user_rules, next_id, no_role, no_room, bad_parent, set_group, set_role, set_user, with_group, with_role, with_user}
+use Rattle.model.specs.declared.people_bodies.RoleChange.{RoleChange}
+use Rattle.model.specs.declared.people_bodies.UserChange.{UserChange}
+use Rattle.model.specs.People.{add_group, add_role, add_user, bad_name_if_any, changed, changed_group, changed_role, changed_user, given, members_given, users_with, new_group_rules, new_role_rules, new_user_rules, group_rules, role_rules, user_rules, next_id, no_role, no_room, bad_parent, set_group, set_organisation, set_role, set_user, with_group, with_role, with_user}
 use Rattle.model.specs.Membership.{Below, is_below, structure_of}
 use Rattle.model.specs.declared.people_bodies.Spelled.{Spelled}
 use Rattle.model.specs.Principals.{spelled_id, is_there, principal_of, not_there, role_at}
 use Rattle.model.specs.Rules.{Rule, first_of, first_refusal, refuse_if}
 use Rattle.model_invariant.proofs.SoundParts.{HasSoundParts}
-use Rattle.model.specs.SoundPeople.{IsSoundUser, IsSoundRole, IsSoundGroup, is_name, parent_in}
+use Rattle.model.specs.SoundPeople.{IsSoundUser, IsSoundRole, IsSoundGroup, administers, is_name, parent_in}
 use Rattle.model.specs.Tenant.{Group, Role, Tenant, User}
 use Rattle.model.specs.Verdict.{Verdict, accept, done, judged, made_new, unless}
 use Rattle.model.specs.World.{user_id, user_prefix, role_prefix, group_prefix, having_id}
@@ -51,6 +56,14 @@ room_for t what n e =
 role_if : (t : Tenant) (member : List ℕ) (role : Option (List ℕ)) → no_role t member role ≡ None → IfSome (option_map spelled_id role) (λ i. IsTrue ((known t).role i))
 role_if t member None e = tt
 role_if t member (Some text) e = some_of (role_at t (spelled_id text)) (unrefused (is_none (role_at t (spelled_id text))) (refusal.InvalidReference member) e)
+
+any_more : {A : Type 0} (q : A → Bool) (xs ys : List A) → list_any q xs ≡ true → list_any q (xs ++ ys) ≡ true
+any_more q [] ys h = absurd cc
+any_more q (x ∷ xs) ys h = by (q x) h (any_more q xs ys)
+  where
+    by : (b : Bool) → (b || list_any q xs) ≡ true → (list_any q xs ≡ true → list_any q (xs ++ ys) ≡ true) → (b || list_any q (xs ++ ys)) ≡ true
+    by true h more = refl
+    by false h more = more h
 
 -- ---- one more user, role or group
 module _ (ids : IdLaws) (t : Tenant) (s : HasSoundParts t) where
@@ -83,6 +96,7 @@ module _ (ids : IdLaws) (t : Tenant) (s : HasSoundParts t) where
               rise = rise_last (slice_cmp nat_cmp) user_id t.users u s.users.rise
                   (all_more (IsSoundUser k) (λ y. slice_cmp nat_cmp y.id u.id ≡ Less) (λ y x. subst (λ (z : List ℕ). slice_cmp nat_cmp y.id z ≡ Less) (sym is) (drawn_less ids user_prefix y.id t.counter s.counter x.id)) t.users s.users.each);
               few = omega (arith, length_last t.users u, few);
+              administered = any_more administers t.users (u ∷ []) s.users.administered;
             };
         roles = roles_more k l g.people t.roles s.roles;
         groups = groups_more k l g.people t.groups s.groups;
@@ -115,16 +129,30 @@ module _ {A : Type 0} (id : A → List ℕ) (change : A → A) (same : (x : A) �
   pub at_it_holds : (P : A → Type 0) (x : A) → P x → P (change x) → P (at_it x)
   at_it_holds P x p q = pick (bytes_eq (id x) i) (λ b. P (cond b (change x) x)) (λ _. q) (λ _. p)
 
-pub set_user_sound : (t : Tenant) (user : List ℕ) (role : Option (List ℕ)) → HasSoundParts t → HasSoundParts (set_user t user role).tenant
-set_user_sound t user role s =
-    when_judged HasSoundParts t (user_rules t user role) (accept done (record t { users = changed user_id (λ u. record u { role = option_map spelled_id role }) (spelled_id user) t.users })) s (λ h.
-    let change : User → User = λ u. record u { role = option_map spelled_id role } in
+-- ---- what a body says, or what was
+name_said : (old : List ℕ) (said : Option (List ℕ)) → is_name old ≡ true → bad_name_if_any said ≡ None → is_name (unwrap_or said old) ≡ true
+name_said old None h e = h
+name_said old (Some name) h e = holds_not (is_name name) (unrefused (not (is_name name)) (refusal.InvalidName name) e)
+
+digest_said : ((m : List ℕ) → length (sha256 m) ≡ 32) → (old : List ℕ) (said : Option (List ℕ)) → length old ≡ 32 → length (in_case said old sha256) ≡ 32
+digest_said size old None h = h
+digest_said size old (Some secret) h = size secret
+
+role_said : (k : Known) (old : Option (List ℕ)) (said : Option (Option (List ℕ))) → IfSome old (λ i. IsTrue (k.role i)) → IfSome (option_map spelled_id (given said)) (λ i. IsTrue (k.role i))
+    → IfSome (in_case said old (option_map spelled_id)) (λ i. IsTrue (k.role i))
+role_said k old None h new = h
+role_said k old (Some text) h new = new
+
+pub set_user_sound : ((m : List ℕ) → length (sha256 m) ≡ 32) → (t : Tenant) (user : List ℕ) (b : UserChange) → HasSoundParts t → HasSoundParts (set_user t user b).tenant
+set_user_sound size t user b s =
+    when_judged HasSoundParts t (user_rules t user b) (accept done (record t { users = users_with b user t.users })) s (λ h.
+    let change : User → User = changed_user b in
     let f = at_it user_id change (λ u. refl) (spelled_id user) in
     let same = at_it_same user_id change (λ u. refl) (spelled_id user) in
     let k = known t in
     let l = known (record t { users = map f t.users }) in
     let e : (i : List ℕ) → l.user i ≡ k.user i = has_same user_id f same t.users in
-    let new = role_if t (codes "role") role h.1.1.1.0 in
+    let new = role_if t (codes "role") (given b.role) h.1.1.1.1.0 in
     let g : Grows k l = record { people = record { counter = omega arith; user = λ i x. e i ∙ x; role = λ i x. x; group = λ i x. x }; item = λ i x. x } in
     record {
       name = s.name;
@@ -135,9 +163,10 @@ set_user_sound t user role s =
             each = all_map f (IsSoundUser k) (IsSoundUser l) (λ u x.
                 at_it_holds user_id change (λ u. refl) (spelled_id user) (IsSoundUser l) u
                 (record { id = x.id; name = x.name; digest = x.digest; role = x.role })
-                (record { id = x.id; name = x.name; digest = x.digest; role = new })) t.users s.users.each;
+                (record { id = x.id; name = name_said u.name b.name x.name h.1.1.1.0; digest = digest_said size u.digest b.secret x.digest; role = role_said k u.role b.role x.role new })) t.users s.users.each;
             rise = rise_map (slice_cmp nat_cmp) user_id f same t.users s.users.rise;
             few = omega (arith, length-map t.users f, s.users.few);
+            administered = holds_not (list_any administers (users_with b user t.users)) (unrefused (not (list_any administers (users_with b user t.users))) refusal.LastAdministrator h.1.1.1.1.1.0);
           };
       roles = roles_more k l g.people t.roles s.roles;
       groups = groups_more k l g.people t.groups s.groups;
@@ -264,39 +293,48 @@ good_parent law t role (Some text) e p is = subst (λ (q : List ℕ). ((known t)
         )
 
 -- where the parent is another one
-other_parent : (t : Tenant) (x : List ℕ) (new : Option (List ℕ)) (a : List ℕ)
-    → let f = at_it role_id (λ r. record r { parent = new }) (λ r. refl) x in (parent_in (map f t.roles) a ≡ parent_in t.roles a) ⊎ ((a ≡ x) × (parent_in (map f t.roles) a ≡ new))
-other_parent t x new a = by (having_id role_id t.roles a) refl
+other_parent : (t : Tenant) (x : List ℕ) (b : RoleChange) (a : List ℕ)
+    → let f = at_it role_id (changed_role b) (λ r. refl) x in
+    (parent_in (map f t.roles) a ≡ parent_in t.roles a) ⊎ ((a ≡ x) × (parent_in (map f t.roles) a ≡ option_map spelled_id (given b.parent)))
+other_parent t x b a = by (having_id role_id t.roles a) refl
   where
     f : Role → Role
-    f r = cond (bytes_eq r.id x) (record r { parent = new }) r
+    f r = cond (bytes_eq r.id x) (changed_role b r) r
 
     lift : parent_in (map f t.roles) a ≡ option_and_then (λ (r : Role). r.parent) (option_map f (having_id role_id t.roles a))
-    lift = ap (option_and_then (λ (r : Role). r.parent)) (found_map role_id f (at_it_same role_id (λ r. record r { parent = new }) (λ r. refl) x) t.roles a)
+    lift = ap (option_and_then (λ (r : Role). r.parent)) (found_map role_id f (at_it_same role_id (changed_role b) (λ r. refl) x) t.roles a)
 
-    by : (o : Option Role) → having_id role_id t.roles a ≡ o → (parent_in (map f t.roles) a ≡ parent_in t.roles a) ⊎ ((a ≡ x) × (parent_in (map f t.roles) a ≡ new))
+    said : (r : Role) (new : Option (Option (List ℕ))) → a ≡ x → parent_in t.roles a ≡ r.parent → parent_in (map f t.roles) a ≡ in_case new r.parent (option_map spelled_id)
+        → (parent_in (map f t.roles) a ≡ parent_in t.roles a) ⊎ ((a ≡ x) × (parent_in (map f t.roles) a ≡ option_map spelled_id (given new)))
+    said r None is old now = inl (now ∙ sym old)
+    said r (Some p) is old now = inr (is, now)
+
+    by : (o : Option Role) → having_id role_id t.roles a ≡ o
+        → (parent_in (map f t.roles) a ≡ parent_in t.roles a) ⊎ ((a ≡ x) × (parent_in (map f t.roles) a ≡ option_map spelled_id (given b.parent)))
     by None e = inl (lift ∙ ap (λ o. option_and_then (λ (r : Role). r.parent) (option_map f o)) e ∙ sym (ap (option_and_then (λ (r : Role). r.parent)) e))
     by (Some r) e =
         let old : parent_in t.roles a ≡ r.parent = ap (option_and_then (λ (r : Role). r.parent)) e in
         let now : parent_in (map f t.roles) a ≡ (f r).parent = lift ∙ ap (λ o. option_and_then (λ (r : Role). r.parent) (option_map f o)) e in
-        pick (bytes_eq r.id x) (λ b. (cond b (record r { parent = new }) r).parent ≡ (f r).parent → (parent_in (map f t.roles) a ≡ parent_in t.roles a) ⊎ ((a ≡ x) × (parent_in (map f t.roles) a ≡ new)))
-        (λ w is. inr ((found_at role_id t.roles a r e).1 ∙ same_exact r.id x w, now ∙ sym is))
+        pick (bytes_eq r.id x)
+        (λ c. (cond c (changed_role b r) r).parent ≡ (f r).parent → (parent_in (map f t.roles) a ≡ parent_in t.roles a) ⊎ ((a ≡ x) × (parent_in (map f t.roles) a ≡ option_map spelled_id (given b.parent))))
+        (λ w is. said r b.parent ((found_at role_id t.roles a r e).1 ∙ same_exact r.id x w) old (now ∙ sym is))
         (λ w is. inl (now ∙ sym is ∙ sym old))
         refl
 
-pub set_role_sound : BelowLaw → (t : Tenant) (role : List ℕ) (parent : Option (List ℕ)) → HasSoundParts t → HasSoundParts (set_role t role parent).tenant
-set_role_sound law t role parent s =
-    let new = option_map spelled_id parent in
-    when_judged HasSoundParts t (role_rules t role parent) (accept done (record t { roles = changed role_id (λ r. record r { parent = option_map spelled_id parent }) (spelled_id role) t.roles })) s (λ h.
+pub set_role_sound : BelowLaw → (t : Tenant) (role : List ℕ) (b : RoleChange) → HasSoundParts t → HasSoundParts (set_role t role b).tenant
+set_role_sound law t role b s =
+    let new = option_map spelled_id (given b.parent) in
+    when_judged HasSoundParts t (role_rules t role b) (accept done (record t { roles = changed role_id (changed_role b) (spelled_id role) t.roles })) s (λ h.
     let x = spelled_id role in
-    let change : Role → Role = λ r. record r { parent = new } in
+    let change : Role → Role = changed_role b in
     let f = at_it role_id change (λ r. refl) x in
     let same = at_it_same role_id change (λ r. refl) x in
     let k = known t in
     let l = known (record t { roles = map f t.roles }) in
     let e : (i : List ℕ) → l.role i ≡ k.role i = has_same role_id f same t.roles in
-    let good = good_parent law t x parent h.1.1.1.0 in
+    let good = good_parent law t x (given b.parent) h.1.1.1.1.0 in
     let g : Grows k l = record { people = record { counter = omega arith; user = λ i z. z; role = λ i z. e i ∙ z; group = λ i z. z }; item = λ i z. z } in
+    let known_parent : IfSome new (λ i. IsTrue (l.role i)) = if_some new (λ p is. g.people.role p (good p is).0) in
     record {
       name = s.name;
       counter = s.counter;
@@ -307,10 +345,10 @@ set_role_sound law t role parent s =
             each = all_map f (IsSoundRole k) (IsSoundRole l) (λ r z.
                 at_it_holds role_id change (λ r. refl) x (IsSoundRole l) r
                 (record { id = z.id; name = z.name; parent = IfSome_then r.parent z.parent g.people.role })
-                (record { id = z.id; name = z.name; parent = if_some new (λ p is. g.people.role p (good p is).0) })) t.roles s.roles.each;
+                (record { id = z.id; name = name_said r.name b.name z.name h.1.1.1.0; parent = role_said l r.parent b.parent (IfSome_then r.parent z.parent g.people.role) known_parent })) t.roles s.roles.each;
             rise = rise_map (slice_cmp nat_cmp) role_id f same t.roles s.roles.rise;
             few = omega (arith, length-map t.roles f, s.roles.few);
-            no_cycle = still_no_cycle (parent_in t.roles) (parent_in (map f t.roles)) x new (other_parent t x new) (λ p is. ((good p is).1, (good p is).2)) s.roles.no_cycle;
+            no_cycle = still_no_cycle (parent_in t.roles) (parent_in (map f t.roles)) x new (other_parent t x b) (λ p is. ((good p is).1, (good p is).2)) s.roles.no_cycle;
           };
       groups = groups_more k l g.people t.groups s.groups;
       metadata = s.metadata;
@@ -393,21 +431,29 @@ members_there t (p ∷ ps) e = by (is_there t (principal_of p)) refl e (members_
     by true w e more = both (knows (known t) (principal_of p)) (list_all (knows (known t)) (map principal_of ps)) (same (principal_of p) ∙ w) (more e)
     by false w e more = absurd cc
 
-pub set_group_sound : (t : Tenant) (group : List ℕ) (members : List Spelled) → HasSoundParts t → HasSoundParts (set_group t group members).tenant
-set_group_sound t group members s =
-    let new = map principal_of members in
-    when_judged HasSoundParts t (group_rules t group members) (accept done (record t { groups = changed group_id (λ g. record g { members = map principal_of members }) (spelled_id group) t.groups })) s (λ h.
+few_said : (old : List Principal) (said : Option (List Spelled)) → length old ≤ 500 → length (unwrap_or said []) ≤ 500 → length (in_case said old (map principal_of)) ≤ 500
+few_said old None h new = h
+few_said old (Some members) h new = omega (arith, length-map members principal_of, new)
+
+named_said : (p : Principal → Bool) (old : List Principal) (said : Option (List Spelled)) → list_all p old ≡ true → list_all p (map principal_of (unwrap_or said [])) ≡ true
+    → list_all p (in_case said old (map principal_of)) ≡ true
+named_said p old None h new = h
+named_said p old (Some members) h new = new
+
+pub set_group_sound : (t : Tenant) (group : List ℕ) (b : GroupChange) → HasSoundParts t → HasSoundParts (set_group t group b).tenant
+set_group_sound t group b s =
+    when_judged HasSoundParts t (group_rules t group b) (accept done (record t { groups = changed group_id (changed_group b) (spelled_id group) t.groups })) s (λ h.
+    let members = members_given b in
     let x = spelled_id group in
-    let change : Group → Group = λ g. record g { members = new } in
+    let change : Group → Group = changed_group b in
     let f = at_it group_id change (λ g. refl) x in
     let same = at_it_same group_id change (λ g. refl) x in
     let k = known t in
     let l = known (record t { groups = map f t.groups }) in
     let e : (i : List ℕ) → l.group i ≡ k.group i = has_same group_id f same t.groups in
     let g : Grows k l = record { people = record { counter = omega arith; user = λ i z. z; role = λ i z. z; group = λ i z. e i ∙ z }; item = λ i z. z } in
-    let few = none_refuses (refuse_if (nat_lt 500 (length members)) (refusal.LimitExceeded limit.MembersPerGroup) ∷ []) h.1.1.1.1.0 in
-    let named = list_all_more (knows k) (knows l) (knows_more k l g.people) new (members_there t members h.1.1.1.0) in
-    let size : length new ≤ 500 = omega (arith, length-map members principal_of, within_limit 500 (length members) (refusal.LimitExceeded limit.MembersPerGroup) few.0) in
+    let few = none_refuses (refuse_if (nat_lt 500 (length members)) (refusal.LimitExceeded limit.MembersPerGroup) ∷ []) h.1.1.1.1.1.0 in
+    let named = list_all_more (knows k) (knows l) (knows_more k l g.people) (map principal_of members) (members_there t members h.1.1.1.1.0) in
     record {
       name = s.name;
       counter = s.counter;
@@ -417,9 +463,10 @@ set_group_sound t group members s =
       groups =
           record {
             each = all_map f (IsSoundGroup k) (IsSoundGroup l) (λ y z.
+                let was = list_all_more (knows k) (knows l) (knows_more k l g.people) y.members z.named in
                 at_it_holds group_id change (λ g. refl) x (IsSoundGroup l) y
-                (record { id = z.id; name = z.name; members = z.members; named = list_all_more (knows k) (knows l) (knows_more k l g.people) y.members z.named })
-                (record { id = z.id; name = z.name; members = size; named = named })) t.groups s.groups.each;
+                (record { id = z.id; name = z.name; members = z.members; named = was })
+                (record { id = z.id; name = name_said y.name b.name z.name h.1.1.1.0; members = few_said y.members b.members z.members (within_limit 500 (length members) (refusal.LimitExceeded limit.MembersPerGroup) few.0); named = named_said (knows l) y.members b.members was named })) t.groups s.groups.each;
             rise = rise_map (slice_cmp nat_cmp) group_id f same t.groups s.groups.rise;
             few = omega (arith, length-map t.groups f, s.groups.few);
           };
@@ -427,5 +474,23 @@ set_group_sound t group members s =
       records = records_more k l g t.objects t.records s.records;
       rules = rules_more k l g.people t.objects t.rule_numbers t.sharing_rules s.rules;
       shares = shares_more k l g t.objects t.shares s.shares;
+      job = s.job;
+    })
+
+-- ---- the organisation
+pub set_organisation_sound : (t : Tenant) (name : List ℕ) → HasSoundParts t → HasSoundParts (set_organisation t name).tenant
+set_organisation_sound t name s =
+    when_judged HasSoundParts t (bad_name is_name name ∷ []) (accept done (record t { name = name })) s (λ h.
+    record {
+      name = holds_not (is_name name) (unrefused (not (is_name name)) (refusal.InvalidName name) h.0);
+      counter = s.counter;
+      numbers = s.numbers;
+      users = s.users;
+      roles = s.roles;
+      groups = s.groups;
+      metadata = s.metadata;
+      records = s.records;
+      rules = s.rules;
+      shares = s.shares;
       job = s.job;
     })

@@ -190,6 +190,7 @@ module _ (law : ConvertLaw) (t : Tenant) (s : HasSoundParts t) (j : Job) (h : Is
         field_names = x.field_names;
         relations = ap names_differ (names_by_references os now refs o.number) ∙ x.relations;
         master = x.master;
+        hierarchy = x.hierarchy;
         level = subst (λ (k : ℕ). k ≤ 3) (sym (level_by_references os now refs 4 o.number)) x.level;
         rules = x.rules;
         rules_rise = x.rules_rise;
@@ -208,6 +209,7 @@ module _ (law : ConvertLaw) (t : Tenant) (s : HasSoundParts t) (j : Job) (h : Is
         field_names = ap names_differ (map_changed g (λ (f : Field). f.name) j.field p.fields (λ f at. refl)) ∙ x.field_names;
         relations = ap names_differ (names_by_references os now refs n) ∙ x.relations;
         master = count_changed g (λ (f : Field). is_master f.kind) j.field p.fields (master_kept p e) ∙ x.master;
+        hierarchy = x.hierarchy;
         level = subst (λ (k : ℕ). k ≤ 3) (sym (level_by_references os now refs 4 n)) x.level;
         rules = x.rules;
         rules_rise = x.rules_rise;

@@ -1,6 +1,6 @@
 -- What the form of a body gives, beyond what the rules of its request ask. Every request that is read has it; a request as data may
 -- lack it, and then what its verdict leaves need not be sound. It is this product's own.
-use Rattle.std.specs.Prelude.{◌≡◌, ℕ, Bool, false, not, ◌&&◌, List, None, Option, Some, Ok, bytes_eq, codes, slice_get, is_some, IsTrue}
+use Rattle.std.specs.Prelude.{◌≡◌, ℕ, Bool, true, false, not, ◌&&◌, List, None, Option, Some, Ok, bytes_eq, codes, slice_get, is_some, IsTrue}
 use Rattle.std.specs.List.{list_all, list_any}
 use Rattle.std.specs.Str.{all_scalars}
 use Rattle.base_value.specs.Dates.{is_moment}
@@ -18,6 +18,7 @@ use Rattle.model.specs.TypeForms.{flags_suit}
 use Rattle.model.specs.Keys.{Key, with_key}
 use Rattle.model.specs.Members.{Body, body_in}
 use Rattle.model.specs.declared.metadata_bodies.NewObject.{NewObject}
+use Rattle.model.specs.declared.metadata_bodies.ObjectChange.{ObjectChange}
 use Rattle.model.specs.declared.metadata_bodies.NewField.{NewField}
 use Rattle.model.specs.declared.metadata_bodies.SpelledType.{SpelledType}
 use Rattle.model.specs.declared.metadata_bodies.SpelledType.TheVariants.{Plain, LookupTo}
@@ -61,12 +62,17 @@ is_fit_share b = is_grant b.level
 
 -- ---- objects
 
--- `name` is a member, and of a detail those of its master are; the access is by the parent exactly in a detail
+-- `name` is a member, and of a detail those of its master are; the access is by the parent exactly in a detail, which says nothing of
+-- the role hierarchy
 abbrev pub is_fit_object : NewObject → Bool
 is_fit_object b =
     has_member b.members (codes "name")
     && in_case b.master (not (by_parent b.access)) (λ m.
-    by_parent b.access && (has_member b.members (codes "field") && has_member b.members (codes "child")))
+    by_parent b.access && (b.hierarchy && (has_member b.members (codes "field") && has_member b.members (codes "child"))))
+
+-- another access isn't by the parent
+abbrev pub is_fit_object_change : ObjectChange → Bool
+is_fit_object_change c = in_case c.access true (λ access. not (by_parent access))
 
 -- a lookup is the member `type`, and no other type is a reference
 abbrev pub has_type : (members : List (List ℕ)) → SpelledType → Bool

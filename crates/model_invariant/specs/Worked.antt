@@ -1,5 +1,5 @@
 -- A small organisation that is sound: a new one, then with an object, then with a record. A reader of the rules may pass it over.
-use Rattle.std.specs.Prelude.{[], ◌∷◌, codes, None}
+use Rattle.std.specs.Prelude.{true, [], ◌∷◌, codes, None}
 use Rattle.sha2.specs.Sha256.{sha256}
 use Rattle.base_value.specs.declared.sharing.Access.TheVariants as access
 use Rattle.model.specs.declared.metadata_bodies.NewObject.{NewObject}
@@ -19,7 +19,7 @@ founder = administrator (codes "Acme") (sha256 (codes "abc!d"))
 
 -- with deals
 abbrev pub new_deals : NewObject
-new_deals = record { members = codes "name" ∷ codes "access" ∷ []; name = codes "Deal__c"; access = access.Private; master = None }
+new_deals = record { members = codes "name" ∷ codes "access" ∷ []; name = codes "Deal__c"; access = access.Private; hierarchy = true; master = None }
 
 abbrev pub with_deals : Tenant
 with_deals = (add_object acme new_deals).tenant

@@ -1,6 +1,6 @@
 -- What the form of each body gives.
 use Rattle.std.proofs.Common.{◌≡◌, ℕ, Bool, true, false, not, ◌&&◌, ◌||◌, cond, List, [], ◌∷◌, ◌++◌, map, Option, Some, None, refl, ap, sym, subst, ◌∙◌, bytes_eq, codes}
-use Rattle.std.specs.Prelude.{is_some, is_none}
+use Rattle.std.specs.Prelude.{is_some, is_none, unwrap_or}
 use Rattle.std.specs.Bool.{beq}
 use Rattle.std.specs.Str.{all_scalars}
 use Rattle.std.specs.List.{AllByRecursion, find, flat_map, list_all, list_any}
@@ -19,9 +19,9 @@ use Rattle.base_value.specs.declared.value.FieldType.{FieldType}
 use Rattle.base_value.specs.declared.value.FieldType.TheVariants as type
 use Rattle.model.specs.Cases.{in_case}
 use Rattle.model.specs.Fields.{by_parent}
-use Rattle.model_requests.specs.Forms.{access_request, accesses, all_names, field_request, master_form, master_member, object_request, share_request, sharing_rule_request, source_in, validation_request}
+use Rattle.model_requests.specs.Forms.{accesses, all_names, as_access, field_request, master_form, master_member, object_change_request, object_request, share_request, sharing_rule_request, source_in, validation_request}
 use Rattle.model.specs.TypeForms.{flags_suit}
-use Rattle.model.specs.Members.{Body, all_there, as_text, entry_named, flag_in, formed, is_one_of, levels, list_in, member_names, object_in, principal_in, text_in, whole_in}
+use Rattle.model.specs.Members.{Body, all_there, as_text, as_truth, changing, entry_named, flag_in, formed, if_any, is_one_of, levels, list_in, member_names, object_in, principal_in, text_in, whole_in}
 use Rattle.model.specs.declared.metadata_bodies.NewMaster.{NewMaster}
 use Rattle.model.specs.declared.metadata_bodies.SpelledType.{SpelledType}
 use Rattle.model.specs.declared.metadata_bodies.SpelledType.TheVariants.{Plain, LookupTo}
@@ -175,40 +175,51 @@ beq_true : (x : Bool) → beq x true ≡ true → x ≡ true
 beq_true true e = refl
 beq_true false e = absurd cc
 
-master_fits : (b : Body) (access : Access) (master : Option NewMaster) → master_member b ≡ Some master → beq (by_parent access) (is_some master) ≡ true
-    → in_case master (not (by_parent access)) (λ m. by_parent access && (has_member (all_names b) (codes "field") && has_member (all_names b) (codes "child"))) ≡ true
-master_fits b access None e h = beq_false (by_parent access) h
-master_fits b access (Some m) e h = by (entry_named b (codes "master")) refl e
+-- with a master nothing is said of the role hierarchy, and so it counts
+unsaid : (said : Option Bool) → not (is_some said && true) ≡ true → unwrap_or said true ≡ true
+unsaid None e = refl
+unsaid (Some hierarchy) e = absurd cc
+
+master_fits : (b : Body) (access : Access) (said : Option Bool) (master : Option NewMaster) → master_member b ≡ Some master → beq (by_parent access) (is_some master) ≡ true
+    → not (is_some said && is_some master) ≡ true
+    → in_case master (not (by_parent access)) (λ m. by_parent access && (unwrap_or said true && (has_member (all_names b) (codes "field") && has_member (all_names b) (codes "child")))) ≡ true
+master_fits b access said None e h apart = beq_false (by_parent access) h
+master_fits b access said (Some m) e h apart = by (entry_named b (codes "master")) refl e
   where
     by : (o : Option Json) → entry_named b (codes "master") ≡ o → in_case o (Some None) (λ v. option_map Some (object_in v >>= master_form)) ≡ Some (Some m)
-        → (by_parent access && (has_member (all_names b) (codes "field") && has_member (all_names b) (codes "child"))) ≡ true
+        → (by_parent access && (unwrap_or said true && (has_member (all_names b) (codes "field") && has_member (all_names b) (codes "child")))) ≡ true
     by None w e = absurd cc
     by (Some v) w e =
         let made = mapped (object_in v >>= master_form) Some (Some m) e in
         let inner = bound (object_in v) master_form made.0 made.1 in
         let has = master_has inner.0 made.0 inner.2 in
-        both (by_parent access) (has_member (all_names b) (codes "field") && has_member (all_names b) (codes "child")) (beq_true (by_parent access) h)
-        (both (has_member (all_names b) (codes "field")) (has_member (all_names b) (codes "child")) (master_names b inner.0 v (codes "field") w inner.1 has.0) (master_names b inner.0 v (codes "child") w inner.1 has.1))
+        both (by_parent access) (unwrap_or said true && (has_member (all_names b) (codes "field") && has_member (all_names b) (codes "child"))) (beq_true (by_parent access) h)
+        (both (unwrap_or said true) (has_member (all_names b) (codes "field") && has_member (all_names b) (codes "child")) (unsaid said apart)
+        (both (has_member (all_names b) (codes "field")) (has_member (all_names b) (codes "child")) (master_names b inner.0 v (codes "field") w inner.1 has.0) (master_names b inner.0 v (codes "child") w inner.1 has.1)))
 
 pub object_fits : (a : Asked) (body : Body) (x : Request) → object_request body ≡ Some x → IsFit a x
 object_fits a body x e =
-    let b = bound (formed (codes "name" ∷ codes "access" ∷ []) (codes "master" ∷ []) body) _ x e in
+    let b = bound (formed (codes "name" ∷ codes "access" ∷ []) (codes "hierarchy" ∷ codes "master" ∷ []) body) _ x e in
     let name = bound (text_in b.0 (codes "name")) _ x b.2 in
     let access = bound (text_in b.0 (codes "access") >>= entry_named accesses) _ x name.2 in
-    let master = bound (master_member b.0) _ x access.2 in
-    let so = where_is (beq (by_parent access.0) (is_some master.0)) _ x master.2 in
+    let said = bound (if_any as_truth b.0 (codes "hierarchy")) _ x access.2 in
+    let master = bound (master_member b.0) _ x said.2 in
+    let so = where_is (beq (by_parent access.0) (is_some master.0) && not (is_some said.0 && is_some master.0)) _ x master.2 in
     let member = bound (entry_named b.0 (codes "name")) as_text name.0 name.1 in
-    let whole = in_case master.0 (not (by_parent access.0)) (λ m. by_parent access.0 && (has_member (all_names b.0) (codes "field") && has_member (all_names b.0) (codes "child"))) in
+    let whole = in_case master.0 (not (by_parent access.0)) (λ m. by_parent access.0 && (unwrap_or said.0 true && (has_member (all_names b.0) (codes "field") && has_member (all_names b.0) (codes "child")))) in
     subst (IsFit a) so.1
     (both (has_member (all_names b.0) (codes "name")) whole
     (in_place (bytes_eq (codes "name")) (place_of b.0) (codes "name") (member_names b.0) refl (entry_member b.0 (codes "name") member.0 member.1))
-    (master_fits b.0 access.0 master.0 master.1 so.0))
+    (master_fits b.0 access.0 said.0 master.0 master.1
+    (both_left (beq (by_parent access.0) (is_some master.0)) (not (is_some said.0 && is_some master.0)) so.0)
+    (both_right (beq (by_parent access.0) (is_some master.0)) (not (is_some said.0 && is_some master.0)) so.0)))
 
-pub access_fits : (a : Asked) (object : List ℕ) (body : Body) (x : Request) → access_request object body ≡ Some x → IsFit a x
-access_fits a object body x e =
-    let b = bound (formed (codes "access" ∷ []) [] body) _ x e in
-    let access = bound (text_in b.0 (codes "access") >>= entry_named accesses) _ x b.2 in
-    let so = where_is (not (by_parent access.0)) _ x access.2 in
+pub object_change_fits : (a : Asked) (object : List ℕ) (body : Body) (x : Request) → object_change_request object body ≡ Some x → IsFit a x
+object_change_fits a object body x e =
+    let b = bound (changing (codes "access" ∷ codes "hierarchy" ∷ []) body) _ x e in
+    let access = bound (if_any as_access b.0 (codes "access")) _ x b.2 in
+    let said = bound (if_any as_truth b.0 (codes "hierarchy")) _ x access.2 in
+    let so = where_is (in_case access.0 true (λ a. not (by_parent a))) _ x said.2 in
     subst (IsFit a) so.1 so.0
 
 pub validation_fits : (a : Asked) (body : Body) (x : Request) → AreSpelled body → validation_request body ≡ Some x → IsFit a x

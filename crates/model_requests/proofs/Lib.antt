@@ -1,5 +1,6 @@
 mod Answered
 mod Refusing
+mod RemovalsSound
 mod VerdictsSound
 mod FormsFit
 mod RequestsFit

@@ -25,11 +25,13 @@ use Rattle.model.specs.declared.record_bodies.Assignment.{Assignment}
 use Rattle.model.specs.Keys.{Key, with_key}
 use Rattle.model.specs.Metadata.{object_rules}
 use Rattle.model.specs.NewFields.{field_rules, on_target}
+use Rattle.model.specs.Names.{bad_name}
 use Rattle.model.specs.Objects.{Numbered, object_named, record_at}
 use Rattle.model.specs.Paths.{Asked, if_readable}
 use Rattle.model.specs.People.{group_rules, new_group_rules, new_role_rules, new_user_rules, role_rules, user_rules}
 use Rattle.model.specs.Principals.{bad_id, principal_of, spelled_id}
-use Rattle.model_requests.specs.Requests.{Request, verdict_on, asks, creates, updates, deletes, upserts, shares, unshares, adds_object, sets_object, adds_field, adds_validation_rule, adds_sharing_rule, removes_sharing_rule, removes_validation_rule, adds_user, sets_user, adds_role, sets_role, adds_group, sets_group, begins_retype, gets_retype, cancels_retype}
+use Rattle.model_requests.specs.Removals.{remove_group_rules, remove_role_rules}
+use Rattle.model_requests.specs.Requests.{Request, verdict_on, asks, creates, updates, deletes, upserts, shares, unshares, adds_object, sets_object, adds_field, adds_validation_rule, adds_sharing_rule, removes_sharing_rule, removes_validation_rule, adds_user, sets_user, adds_role, sets_role, removes_role, adds_group, sets_group, removes_group, sets_organisation, begins_retype, gets_retype, cancels_retype}
 use Rattle.model.specs.Retyping.{begin_on, in_use, new_type, place_to_change, under_way}
 use Rattle.model.specs.Rights.{denied, on_named, record_of_object}
 use Rattle.model.specs.Rules.{Rule, first_refusal, in_body_order, refuse_if}
@@ -37,6 +39,7 @@ use Rattle.model.specs.RuleFormulas.{is_copy}
 use Rattle.model.specs.Shares.{share, share_of, share_rules, unshare, unshare_rules}
 use Rattle.model.specs.declared.sharing_bodies.NewShare.{NewShare}
 use Rattle.model.specs.SharingRules.{new_sharing_rule_rules}
+use Rattle.model.specs.SoundPeople.{is_name}
 use Rattle.model.specs.Tenant.{Field, Share, Tenant}
 use Rattle.model.specs.Updates.{update_on, update_rules}
 use Rattle.model.specs.Upserts.{declared_name, key_value, on_value, unique_named, upsert_by}
@@ -143,7 +146,7 @@ judges a (upserts object key text given) =
 judges a (shares b) = share_keeps a b
 judges a (unshares item part to) = unshare_keeps a item part to
 judges a (adds_object b) = by_rules (object_rules a.tenant b) _ by_accepting
-judges a (sets_object object access) = by_object object _ (λ o. by_rules (refuse_if (is_detail o.object) (InvalidType o.object.name) ∷ []) _ by_accepting)
+judges a (sets_object object change) = by_object object _ (λ o. by_rules (refuse_if (is_detail o.object) (InvalidType o.object.name) ∷ []) _ by_accepting)
 judges a (adds_field b) =
     by_object b.object _ (λ o. by_target b.kind _ (λ target. by_rules (field_rules a.tenant o target b) _ by_accepting))
 judges a (adds_validation_rule b) = by_object b.object _ (λ o. by_rules (new_validation_rule_rules a.tenant o b) _ by_accepting)
@@ -152,11 +155,14 @@ judges a (removes_validation_rule object name) =
 judges a (adds_sharing_rule b) = by_object b.object _ (λ o. by_rules (new_sharing_rule_rules a.tenant o b) _ by_accepting)
 judges a (removes_sharing_rule name) = by_rules (refuse_if (not (list_any (λ r. same_name r.name name) a.tenant.sharing_rules)) NotFound ∷ []) _ by_accepting
 judges a (adds_user b) = by_rules (new_user_rules a.tenant b) _ by_accepting
-judges a (sets_user id role) = by_rules (user_rules a.tenant id role) _ by_accepting
+judges a (sets_user id change) = by_rules (user_rules a.tenant id change) _ by_accepting
 judges a (adds_role name parent) = by_rules (new_role_rules a.tenant name parent) _ by_accepting
-judges a (sets_role id parent) = by_rules (role_rules a.tenant id parent) _ by_accepting
+judges a (sets_role id change) = by_rules (role_rules a.tenant id change) _ by_accepting
+judges a (removes_role id) = by_rules (remove_role_rules a.tenant id) _ by_accepting
 judges a (adds_group name) = by_rules (new_group_rules a.tenant name) _ by_accepting
-judges a (sets_group id members) = by_rules (group_rules a.tenant id members) _ by_accepting
+judges a (sets_group id change) = by_rules (group_rules a.tenant id change) _ by_accepting
+judges a (removes_group id) = by_rules (remove_group_rules a.tenant id) _ by_accepting
+judges a (sets_organisation name) = by_rules (bad_name is_name name ∷ []) _ by_accepting
 judges a (begins_retype object field to) =
     by_object object _ (λ o. by_case (column_named o.object field) (InvalidField field) _ (λ c. begin_keeps a.tenant o (new_type to) c))
 judges a gets_retype = by_case a.tenant.job NotFound _ (λ j. by_accepting)

@@ -14,22 +14,22 @@ use Rattle.model.specs.declared.refusal.Refusal.{Refusal}
 use Rattle.model_requests.specs.declared.route.Route.{Route}
 use Rattle.model_requests.specs.declared.route.Route.TheVariants as route
 use Rattle.model.specs.Cases.{in_case}
-use Rattle.model_requests.specs.Forms.{access_request, field_request, object_request, share_request, sharing_rule_request, validation_request}
+use Rattle.model_requests.specs.Forms.{field_request, object_change_request, object_request, share_request, sharing_rule_request, validation_request}
 use Rattle.model.specs.declared.record_bodies.Given.TheVariants as gives
 use Rattle.model.specs.declared.record_bodies.Assignment.{Assignment}
 use Rattle.model.specs.Given.{json_text}
-use Rattle.model.specs.Members.{Body, all_there, as_text, assignments, body_in, formed, list_in, member_names, principal_in, text_in, text_or_null_in, truth_in}
+use Rattle.model.specs.Members.{Body, as_text, as_text_or_null, as_truth, assignments, body_in, changing, formed, if_any, member_names, principal_in, text_in, text_or_null_in, truth_in}
 use Rattle.model.specs.Organisations.{is_secret}
 use Rattle.model.specs.Paths.{Asked}
-use Rattle.model_requests.specs.PeopleForms.{group_request, members_request, retype_request, role_parent_request, role_request, identity_of, user_request, user_role_request}
+use Rattle.model_requests.specs.PeopleForms.{as_principals, group_change_request, group_request, organisation_request, retype_request, role_change_request, role_request, user_change_request, user_request}
 use Rattle.model_requests.specs.RequestOf.{by_body, query_or, request_of, request_or, value_part}
-use Rattle.model_requests.specs.Requests.{Request, adds_group, adds_role, asks, cancels_retype, creates, deletes, gets_retype, removes_sharing_rule, removes_validation_rule, sets_role, sets_user, unshares, updates, upserts}
+use Rattle.model_requests.specs.Requests.{Request, adds_group, adds_role, asks, cancels_retype, creates, deletes, gets_retype, removes_group, removes_role, removes_sharing_rule, removes_validation_rule, sets_group, sets_organisation, sets_role, sets_user, unshares, updates, upserts}
 use Rattle.model.specs.Sound.{IsSound}
 use Rattle.model.specs.Step.{query_text}
 use Rattle.model_requests.specs.Fit.{IsFit}
 use Rattle.model_invariant.specs.Fit.{is_spelled}
 use Rattle.model_invariant.proofs.BodyTexts.{ReadAsSpelled, body_spells, bound}
-use Rattle.model_requests.proofs.FormsFit.{access_fits, field_fits, mapped, object_fits, retype_fits, rule_fits, share_fits, validation_fits, where_is}
+use Rattle.model_requests.proofs.FormsFit.{field_fits, mapped, object_change_fits, object_fits, retype_fits, rule_fits, share_fits, validation_fits, where_is}
 use Rattle.model_invariant.proofs.SoundParts.{parts}
 use Rattle.model_invariant.proofs.GivenFits.{ReadLaw, key_fits, spelled_fits}
 use Rattle.model_invariant.proofs.RuleTexts.{AreSpelled}
@@ -91,11 +91,15 @@ user_fits a body x e =
     let admin = bound (truth_in b.0 (codes "admin")) _ x role.2 in
     subst (IsFit a) (where_is (is_secret secret.0) _ x admin.2).1 tt
 
-user_role_fits : (a : Asked) (id : List ℕ) (body : Body) (x : Request) → user_role_request id body ≡ Some x → IsFit a x
-user_role_fits a id body x e =
-    let b = bound (formed (codes "role" ∷ []) [] body) _ x e in
-    let role = bound (text_or_null_in b.0 (codes "role")) _ x b.2 in
-    subst (IsFit a) (some_is (sets_user id role.0) x role.2) tt
+user_change_fits : (a : Asked) (id : List ℕ) (body : Body) (x : Request) → user_change_request id body ≡ Some x → IsFit a x
+user_change_fits a id body x e =
+    let b = bound (changing (codes "role" ∷ codes "name" ∷ codes "secret" ∷ codes "admin" ∷ codes "active" ∷ []) body) _ x e in
+    let role = bound (if_any as_text_or_null b.0 (codes "role")) _ x b.2 in
+    let name = bound (if_any as_text b.0 (codes "name")) _ x role.2 in
+    let secret = bound (if_any as_text b.0 (codes "secret")) _ x name.2 in
+    let admin = bound (if_any as_truth b.0 (codes "admin")) _ x secret.2 in
+    let active = bound (if_any as_truth b.0 (codes "active")) _ x admin.2 in
+    subst (IsFit a) (where_is (in_case secret.0 true is_secret) _ x active.2).1 tt
 
 role_fits : (a : Asked) (body : Body) (x : Request) → role_request body ≡ Some x → IsFit a x
 role_fits a body x e =
@@ -104,11 +108,12 @@ role_fits a body x e =
     let parent = bound (text_or_null_in b.0 (codes "parent")) _ x name.2 in
     subst (IsFit a) (some_is (adds_role name.0 parent.0) x parent.2) tt
 
-role_parent_fits : (a : Asked) (id : List ℕ) (body : Body) (x : Request) → role_parent_request id body ≡ Some x → IsFit a x
-role_parent_fits a id body x e =
-    let b = bound (formed (codes "parent" ∷ []) [] body) _ x e in
-    let parent = bound (text_or_null_in b.0 (codes "parent")) _ x b.2 in
-    subst (IsFit a) (some_is (sets_role id parent.0) x parent.2) tt
+role_change_fits : (a : Asked) (id : List ℕ) (body : Body) (x : Request) → role_change_request id body ≡ Some x → IsFit a x
+role_change_fits a id body x e =
+    let b = bound (changing (codes "parent" ∷ codes "name" ∷ []) body) _ x e in
+    let parent = bound (if_any as_text_or_null b.0 (codes "parent")) _ x b.2 in
+    let name = bound (if_any as_text b.0 (codes "name")) _ x parent.2 in
+    subst (IsFit a) (some_is (sets_role id (record { parent = parent.0; name = name.0 })) x name.2) tt
 
 group_fits : (a : Asked) (body : Body) (x : Request) → group_request body ≡ Some x → IsFit a x
 group_fits a body x e =
@@ -116,12 +121,18 @@ group_fits a body x e =
     let name = bound (text_in b.0 (codes "name")) _ x b.2 in
     subst (IsFit a) (some_is (adds_group name.0) x name.2) tt
 
-members_fits : (a : Asked) (id : List ℕ) (body : Body) (x : Request) → members_request id body ≡ Some x → IsFit a x
-members_fits a id body x e =
-    let b = bound (formed (codes "members" ∷ []) [] body) _ x e in
-    let items = bound (list_in b.0 (codes "members")) _ x b.2 in
-    let members = bound (all_there (map (λ v. as_text v >>= principal_in) items.0)) _ x items.2 in
-    subst (IsFit a) (where_is (texts_differ (map identity_of members.0)) _ x members.2).1 tt
+group_change_fits : (a : Asked) (id : List ℕ) (body : Body) (x : Request) → group_change_request id body ≡ Some x → IsFit a x
+group_change_fits a id body x e =
+    let b = bound (changing (codes "members" ∷ codes "name" ∷ []) body) _ x e in
+    let members = bound (if_any as_principals b.0 (codes "members")) _ x b.2 in
+    let name = bound (if_any as_text b.0 (codes "name")) _ x members.2 in
+    subst (IsFit a) (some_is (sets_group id (record { members = members.0; name = name.0 })) x name.2) tt
+
+organisation_fits : (a : Asked) (body : Body) (x : Request) → organisation_request body ≡ Some x → IsFit a x
+organisation_fits a body x e =
+    let b = bound (formed (codes "name" ∷ []) [] body) _ x e in
+    let name = bound (text_in b.0 (codes "name")) _ x b.2 in
+    subst (IsFit a) (some_is (sets_organisation name.0) x name.2) tt
 
 query_fits : (a : Asked) (q : Result Query ℕ) (x : Request) → query_or q ≡ Ok x → IsFit a x
 query_fits a (Ok q) x e = subst (IsFit a) (request_is (asks q) x e) tt
@@ -156,18 +167,21 @@ module _ (law : ReadLaw) (spelled : ReadAsSpelled) (a : Asked) (body : List ℕ)
   request_fits route.Share e = by_form a body share_request x (share_fits a) e
   request_fits (route.Unshare item part) e = subst (IsFit a) (request_is (unshares item part (principal_in part)) x e) tt
   request_fits route.AddObject e = by_form a body object_request x (object_fits a) e
-  request_fits (route.SetObject object) e = by_form a body (access_request object) x (access_fits a object) e
+  request_fits (route.SetObject object) e = by_form a body (object_change_request object) x (object_change_fits a object) e
   request_fits route.AddField e = by_form a body field_request x (field_fits a) e
   request_fits route.AddValidationRule e = by_spelled spelled a body validation_request x (validation_fits a) e
   request_fits (route.RemoveValidationRule object name) e = subst (IsFit a) (request_is (removes_validation_rule object name) x e) tt
   request_fits route.AddSharingRule e = by_spelled spelled a body sharing_rule_request x (rule_fits a) e
   request_fits (route.RemoveSharingRule name) e = subst (IsFit a) (request_is (removes_sharing_rule name) x e) tt
   request_fits route.AddUser e = by_form a body user_request x (user_fits a) e
-  request_fits (route.SetUser id) e = by_form a body (user_role_request id) x (user_role_fits a id) e
+  request_fits (route.SetUser id) e = by_form a body (user_change_request id) x (user_change_fits a id) e
   request_fits route.AddRole e = by_form a body role_request x (role_fits a) e
-  request_fits (route.SetRole id) e = by_form a body (role_parent_request id) x (role_parent_fits a id) e
+  request_fits (route.SetRole id) e = by_form a body (role_change_request id) x (role_change_fits a id) e
+  request_fits (route.RemoveRole id) e = subst (IsFit a) (request_is (removes_role id) x e) tt
   request_fits route.AddGroup e = by_form a body group_request x (group_fits a) e
-  request_fits (route.SetGroup id) e = by_form a body (members_request id) x (members_fits a id) e
+  request_fits (route.SetGroup id) e = by_form a body (group_change_request id) x (group_change_fits a id) e
+  request_fits (route.RemoveGroup id) e = subst (IsFit a) (request_is (removes_group id) x e) tt
+  request_fits route.SetOrganisation e = by_form a body organisation_request x (organisation_fits a) e
   request_fits route.BeginRetype e = by_form a body retype_request x (retype_fits a) e
   request_fits route.GetRetype e = subst (IsFit a) (request_is gets_retype x e) tt
   request_fits route.CancelRetype e = subst (IsFit a) (request_is cancels_retype x e) tt

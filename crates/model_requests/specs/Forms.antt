@@ -1,5 +1,5 @@
 -- The forms of the bodies, each with the request that it makes. They are this product's own.
-use Rattle.std.specs.Prelude.{ℕ, Bool, not, ◌&&◌, List, [], ◌∷◌, bytes_eq, codes, if◌then◌else◌, Option, Some, None, is_some, is_none}
+use Rattle.std.specs.Prelude.{ℕ, Bool, true, not, ◌&&◌, List, [], ◌∷◌, bytes_eq, codes, if◌then◌else◌, Option, Some, None, is_some, is_none, unwrap_or}
 use Rattle.std.specs.Bool.{beq}
 use Rattle.std.specs.List.{flat_map}
 use Rattle.std.specs.Option.{option_map}
@@ -8,7 +8,8 @@ use Rattle.base_value.specs.declared.sharing.Access.{Access}
 use Rattle.base_value.specs.declared.sharing.Access.TheVariants as access
 use Rattle.model.specs.Cases.{in_case}
 use Rattle.model.specs.Fields.{by_parent}
-use Rattle.model.specs.Members.{Body, as_text, entry_named, flag_in, formed, levels, member_names, object_in, principal_in, text_in}
+use Rattle.base_json.specs.declared.tree.Json.{Json}
+use Rattle.model.specs.Members.{Body, as_text, as_truth, changing, entry_named, flag_in, formed, if_any, levels, member_names, object_in, principal_in, text_in}
 use Rattle.model.specs.declared.metadata_bodies.NewMaster.{NewMaster}
 use Rattle.model.specs.declared.metadata_bodies.SpelledType.{SpelledType}
 use Rattle.model_requests.specs.Requests.{Request, adds_field, adds_object, adds_sharing_rule, adds_validation_rule, sets_object, shares}
@@ -52,20 +53,35 @@ abbrev pub all_names : Body → List (List ℕ)
 all_names b =
     flat_map (λ name. if bytes_eq name (codes "master") then in_case (entry_named b name >>= object_in) [] member_names else name ∷ []) (member_names b)
 
--- `master` is there exactly where the access is ControlledByParent
+-- the member `access`
+abbrev pub as_access : Json → Option Access
+as_access v = as_text v >>= entry_named accesses
+
+-- `master` is there exactly where the access is ControlledByParent, and then `hierarchy` isn't; it is true where it is left out
 abbrev pub object_request : Body → Option Request
 object_request body =
-    formed (codes "name" ∷ codes "access" ∷ []) (codes "master" ∷ []) body >>= λ b.
+    formed (codes "name" ∷ codes "access" ∷ []) (codes "hierarchy" ∷ codes "master" ∷ []) body >>= λ b.
     text_in b (codes "name") >>= λ name.
     text_in b (codes "access") >>= entry_named accesses >>= λ a.
+    if_any as_truth b (codes "hierarchy") >>= λ hierarchy.
     master_member b >>= λ master.
-    where_so (beq (by_parent a) (is_some master)) (adds_object (record { members = all_names b; name = name; access = a; master = master }))
+    where_so (beq (by_parent a) (is_some master) && not (is_some hierarchy && is_some master))
+    (adds_object
+    (record {
+      members = all_names b;
+      name = name;
+      access = a;
+      hierarchy = unwrap_or hierarchy true;
+      master = master;
+    }))
 
-abbrev pub access_request : (object : List ℕ) → Body → Option Request
-access_request object body =
-    formed (codes "access" ∷ []) [] body >>= λ b.
-    text_in b (codes "access") >>= entry_named accesses >>= λ a.
-    where_so (not (by_parent a)) (sets_object object a)
+-- a change of the object whose name is in the path; its access can't be by the parent
+abbrev pub object_change_request : (object : List ℕ) → Body → Option Request
+object_change_request object body =
+    changing (codes "access" ∷ codes "hierarchy" ∷ []) body >>= λ b.
+    if_any as_access b (codes "access") >>= λ a.
+    if_any as_truth b (codes "hierarchy") >>= λ hierarchy.
+    where_so (in_case a true (λ access. not (by_parent access))) (sets_object object (record { access = a; hierarchy = hierarchy }))
 
 -- ---- fields
 

@@ -1,4 +1,5 @@
 pub mod Routing
+pub mod Removals
 pub mod Requests
 pub mod Forms
 pub mod PeopleForms
@@ -16,3 +17,4 @@ pub mod WorkedRetypes
 pub mod WorkedLimits
 pub mod WorkedForms
 pub mod WorkedRefusals
+pub mod WorkedRemovals

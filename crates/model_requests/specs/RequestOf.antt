@@ -14,13 +14,13 @@ use Rattle.model_requests.specs.declared.route.Route.{Route}
 use Rattle.model_requests.specs.declared.route.Route.TheVariants as route
 use Rattle.model_requests.specs.declared.routed.Routed.{Routed}
 use Rattle.model_requests.specs.declared.routed.Routed.TheVariants.{To, NotFound, NotAllowed}
-use Rattle.model_requests.specs.Forms.{access_request, field_request, object_request, share_request, sharing_rule_request, validation_request}
+use Rattle.model_requests.specs.Forms.{field_request, object_change_request, object_request, share_request, sharing_rule_request, validation_request}
 use Rattle.model.specs.Asker.{stepped}
 use Rattle.model.specs.Members.{Body, assignments, body_in, principal_in}
 use Rattle.model.specs.Paths.{Asked}
-use Rattle.model_requests.specs.PeopleForms.{group_request, members_request, retype_request, role_request, role_parent_request, user_request, user_role_request}
+use Rattle.model_requests.specs.PeopleForms.{group_change_request, group_request, organisation_request, retype_request, role_change_request, role_request, user_change_request, user_request}
 use Rattle.model.specs.Replies.{reply_of}
-use Rattle.model_requests.specs.Requests.{Request, asks, creates, updates, deletes, upserts, unshares, removes_validation_rule, removes_sharing_rule, gets_retype, cancels_retype, verdict_on}
+use Rattle.model_requests.specs.Requests.{Request, asks, creates, updates, deletes, upserts, unshares, removes_validation_rule, removes_sharing_rule, removes_role, removes_group, gets_retype, cancels_retype, verdict_on}
 use Rattle.model_requests.specs.Routing.{is_administration, routed}
 use Rattle.model.specs.Step.{Message, query_text}
 use Rattle.model.specs.Tenant.{Tenant}
@@ -54,18 +54,21 @@ request_of (route.Upsert object key value) body =
 request_of route.Share body = by_body body share_request
 request_of (route.Unshare item part) body = Ok (unshares item part (principal_in part))
 request_of route.AddObject body = by_body body object_request
-request_of (route.SetObject object) body = by_body body (access_request object)
+request_of (route.SetObject object) body = by_body body (object_change_request object)
 request_of route.AddField body = by_body body field_request
 request_of route.AddValidationRule body = by_body body validation_request
 request_of (route.RemoveValidationRule object name) body = Ok (removes_validation_rule object name)
 request_of route.AddSharingRule body = by_body body sharing_rule_request
 request_of (route.RemoveSharingRule name) body = Ok (removes_sharing_rule name)
 request_of route.AddUser body = by_body body user_request
-request_of (route.SetUser id) body = by_body body (user_role_request id)
+request_of (route.SetUser id) body = by_body body (user_change_request id)
 request_of route.AddRole body = by_body body role_request
-request_of (route.SetRole id) body = by_body body (role_parent_request id)
+request_of (route.SetRole id) body = by_body body (role_change_request id)
+request_of (route.RemoveRole id) body = Ok (removes_role id)
 request_of route.AddGroup body = by_body body group_request
-request_of (route.SetGroup id) body = by_body body (members_request id)
+request_of (route.SetGroup id) body = by_body body (group_change_request id)
+request_of (route.RemoveGroup id) body = Ok (removes_group id)
+request_of route.SetOrganisation body = by_body body organisation_request
 request_of route.BeginRetype body = by_body body retype_request
 request_of route.GetRetype body = Ok gets_retype
 request_of route.CancelRetype body = Ok cancels_retype

@@ -1,5 +1,5 @@
 -- Bodies for rows worked by hand. A reader of the rules may pass them over.
-use Rattle.std.specs.Prelude.{ℕ, false, List, [], ◌∷◌, codes, None, pos}
+use Rattle.std.specs.Prelude.{ℕ, true, false, List, [], ◌∷◌, codes, None, Some, pos}
 use Rattle.base_json.specs.declared.tree.Json.{Json}
 use Rattle.base_json.specs.declared.tree.Json.TheVariants as json
 use Rattle.base_json.specs.declared.tree.Num.TheVariants.{Exact}
@@ -8,6 +8,7 @@ use Rattle.base_value.specs.declared.sharing.Level.TheVariants.{Edit}
 use Rattle.model.specs.declared.people_bodies.PrincipalKind.TheVariants as kind
 use Rattle.model.specs.Members.{Body}
 use Rattle.model.specs.declared.metadata_bodies.NewObject.{NewObject}
+use Rattle.model.specs.declared.people_bodies.UserChange.{UserChange}
 use Rattle.model.specs.declared.sharing_bodies.NewShare.{NewShare}
 
 -- a member that is a text
@@ -40,12 +41,33 @@ user_body secret =
     ∷ (codes "admin", json.Bool false)
     ∷ []
 
+-- a change of a user: to no role, and to another standing
+abbrev pub change_body : Body
+change_body = (codes "active", json.Bool false) ∷ (codes "role", json.Null) ∷ []
+
+abbrev pub change_read : UserChange
+change_read = record { role = Some None; name = None; secret = None; admin = None; active = Some false }
+
 -- a private object, or one of another access
 abbrev pub object_body : (access : List ℕ) → Body
 object_body access = text_member (codes "access") access ∷ text_member (codes "name") (codes "A__c") ∷ []
 
 abbrev pub private_object : NewObject
-private_object = record { members = codes "access" ∷ codes "name" ∷ []; name = codes "A__c"; access = access.Private; master = None }
+private_object = record { members = codes "access" ∷ codes "name" ∷ []; name = codes "A__c"; access = access.Private; hierarchy = true; master = None }
+
+-- the member `hierarchy`, and an object for whose records the role hierarchy doesn't count
+abbrev pub hierarchy_member : Json → List ℕ × Json
+hierarchy_member value = (codes "hierarchy", value)
+
+abbrev pub apart_object : NewObject
+apart_object =
+    record {
+      members = codes "hierarchy" ∷ codes "access" ∷ codes "name" ∷ [];
+      name = codes "A__c";
+      access = access.Private;
+      hierarchy = false;
+      master = None;
+    }
 
 -- a type of this kind, and more
 abbrev pub type_body : (kind : List ℕ) → Body → Body

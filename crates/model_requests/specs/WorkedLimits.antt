@@ -10,14 +10,14 @@ use Rattle.model.specs.Tenant.{Tenant}
 use Rattle.model.specs.World.{group_prefix}
 use Rattle.model_requests.specs.WorkedRecords.{detail_of}
 use Rattle.model_requests.specs.WorkedRequests.{Call, add_deals, after_calls, by_admin, deal_made, deal_object, start}
-use Rattle.model_requests.specs.WorkedSharing.{principal_text}
+use Rattle.model_requests.specs.WorkedSharing.{members_alone, principal_text}
 
 -- a group (1), and so many members, which are all one user
 abbrev pub group_made : List Call
 group_made = by_admin (adds_group (codes "G")) ∷ []
 
 abbrev pub members_to : ℕ → Call
-members_to n = by_admin (sets_group (codes "00G000000000001") (map (λ k. principal_text kind.User (codes "005000000000000")) (range_with_len 1 n)))
+members_to n = by_admin (sets_group (codes "00G000000000001") (members_alone (map (λ k. principal_text kind.User (codes "005000000000000")) (range_with_len 1 n))))
 
 -- deal 8, which is shared with so many groups
 abbrev pub shared_with : ℕ → Tenant

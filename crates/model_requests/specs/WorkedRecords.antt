@@ -71,6 +71,7 @@ detail_of name field parent child =
       members = codes "name" ∷ codes "access" ∷ codes "field" ∷ codes "parent" ∷ codes "child" ∷ [];
       name = name;
       access = access.ControlledByParent;
+      hierarchy = true;
       master = Some (record { field = field; parent = parent; child = child });
     })
 

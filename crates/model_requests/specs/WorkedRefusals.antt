@@ -9,6 +9,7 @@ use Rattle.soql.specs.declared.query.Literal.{Literal}
 use Rattle.soql.specs.declared.query.Op.{Op}
 use Rattle.soql.specs.declared.query.OrderKey.{OrderKey}
 use Rattle.model.specs.declared.people_bodies.PrincipalKind.TheVariants as kind
+use Rattle.model.specs.declared.people_bodies.UserChange.{UserChange}
 use Rattle.model.specs.declared.record_bodies.Assignment.{Assignment}
 use Rattle.model.specs.declared.metadata_bodies.SpelledType.TheVariants.{Plain}
 use Rattle.model_requests.specs.Requests.{Request, asks, begins_retype, creates, deletes, sets_role, unshares, updates}
@@ -55,7 +56,14 @@ end_no_share = by 5 (unshares (codes "a00000000000008") (codes "Otto") None)
 
 -- another parent for the CEO's role (1)
 abbrev pub ceo_below : (role : List ℕ) → Call
-ceo_below role = by_admin (sets_role (codes "00E000000000001") (Some role))
+ceo_below role = by_admin (sets_role (codes "00E000000000001") (record { parent = Some (Some role); name = None }))
+
+-- a user is to have this role, or not to be active
+abbrev pub to_role : (role : List ℕ) → UserChange
+to_role role = record { role = Some (Some role); name = None; secret = None; admin = None; active = None }
+
+abbrev pub inactive : UserChange
+inactive = record { role = None; name = None; secret = None; admin = None; active = Some false }
 
 -- ---- orders, which everybody reads, and their lines; Ron makes the orders 8 and 9, and line 10 of order 8
 

@@ -1,5 +1,5 @@
 -- A fresh organisation that is asked one request after another, for rows worked by hand. A reader of the rules may pass it over.
-use Rattle.std.specs.Prelude.{ℕ, Bool, false, List, [], ◌∷◌, ◌++◌, codes, Option, Some, None}
+use Rattle.std.specs.Prelude.{ℕ, Bool, true, false, List, [], ◌∷◌, ◌++◌, codes, Option, Some, None}
 use Rattle.std.specs.Fmt.{decimal}
 use Rattle.std.specs.Option.{option_map}
 use Rattle.base_json.specs.declared.tree.Json.TheVariants as json
@@ -58,7 +58,7 @@ by_admin request = by 0 request
 
 -- a new object, a new field and a new user
 abbrev pub object_with : List ℕ → Access → Request
-object_with name access = adds_object (record { members = codes "name" ∷ codes "access" ∷ []; name = name; access = access; master = None })
+object_with name access = adds_object (record { members = codes "name" ∷ codes "access" ∷ []; name = name; access = access; hierarchy = true; master = None })
 
 abbrev pub field_with : (object name : List ℕ) → SpelledType → (unique : Bool) → Request
 field_with object name kind unique =

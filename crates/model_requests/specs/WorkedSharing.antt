@@ -1,6 +1,6 @@
 -- Shares, sharing rules and paths for rows worked by hand, over the people of WorkedRequests. A reader of the rules may pass them
 -- over.
-use Rattle.std.specs.Prelude.{ℕ, false, List, [], ◌∷◌, ◌++◌, codes, Option, Some}
+use Rattle.std.specs.Prelude.{ℕ, false, List, [], ◌∷◌, ◌++◌, codes, Option, Some, None}
 use Rattle.base_value.specs.declared.sharing.Access.TheVariants as access
 use Rattle.base_value.specs.declared.sharing.Level.TheVariants.{Edit, Read}
 use Rattle.base_value.specs.declared.value.FieldType.TheVariants as type
@@ -9,6 +9,7 @@ use Rattle.soql.specs.declared.query.Cond.{Cond}
 use Rattle.soql.specs.declared.query.Cond.TheVariants.{Test}
 use Rattle.soql.specs.declared.query.Literal.{Literal}
 use Rattle.soql.specs.declared.query.Op.{Op}
+use Rattle.model.specs.declared.people_bodies.GroupChange.{GroupChange}
 use Rattle.model.specs.declared.people_bodies.PrincipalKind.{PrincipalKind}
 use Rattle.model.specs.declared.people_bodies.PrincipalKind.TheVariants as kind
 use Rattle.model.specs.declared.metadata_bodies.SpelledType.TheVariants.{Plain, LookupTo}
@@ -23,6 +24,10 @@ use Rattle.model_requests.specs.WorkedRequests.{Call, add_deals, by, by_admin, d
 
 abbrev pub principal_text : PrincipalKind → List ℕ → Spelled
 principal_text kind text = record { kind = kind; text = text }
+
+-- a group is to have these members
+abbrev pub members_alone : List Spelled → GroupChange
+members_alone members = record { members = Some members; name = None }
 
 abbrev pub share_with_otto : Request
 share_with_otto =
@@ -67,8 +72,8 @@ open_made =
     ∷ by_admin (field_with deal_object stage (Plain (type.Picklist (codes "Open" ∷ codes "Shut" ∷ []))) false)
     ∷ by_admin (adds_group (codes "G1"))
     ∷ by_admin (adds_group (codes "G2"))
-    ∷ by_admin (sets_group (codes "00G000000000008") (principal_text kind.User (codes "005000000000007") ∷ principal_text kind.Group (codes "00G000000000009") ∷ []))
-    ∷ by_admin (sets_group (codes "00G000000000009") (principal_text kind.Group (codes "00G000000000008") ∷ []))
+    ∷ by_admin (sets_group (codes "00G000000000008") (members_alone (principal_text kind.User (codes "005000000000007") ∷ principal_text kind.Group (codes "00G000000000009") ∷ [])))
+    ∷ by_admin (sets_group (codes "00G000000000009") (members_alone (principal_text kind.Group (codes "00G000000000008") ∷ [])))
     ∷ by_admin share_open_deals
     ∷ by 5 (creates deal_object (text_to stage (codes "Open") ∷ []))
     ∷ []

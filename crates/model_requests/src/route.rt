@@ -50,7 +50,7 @@ pub enum Route {
     },
     /// A new object.
     AddObject,
-    /// Another default access of an object.
+    /// Another default access of an object, or whether the role hierarchy counts.
     SetObject {
         /// The object's name.
         object: Text,
@@ -75,25 +75,37 @@ pub enum Route {
     },
     /// A new user.
     AddUser,
-    /// Another role of a user.
+    /// Another role, name, secret or standing of a user.
     SetUser {
         /// The user's id.
         id: Text,
     },
     /// A new role.
     AddRole,
-    /// Another parent of a role.
+    /// Another parent or name of a role.
     SetRole {
+        /// The role's id.
+        id: Text,
+    },
+    /// The end of a role.
+    RemoveRole {
         /// The role's id.
         id: Text,
     },
     /// A new group.
     AddGroup,
-    /// Other members of a group.
+    /// Other members of a group, or another name.
     SetGroup {
         /// The group's id.
         id: Text,
     },
+    /// The end of a group.
+    RemoveGroup {
+        /// The group's id.
+        id: Text,
+    },
+    /// Another name of the organisation.
+    SetOrganisation,
     /// The change of a field's type.
     BeginRetype,
     /// How far the change of a field's type is.

@@ -1,6 +1,6 @@
 //! Routes, and a request that is refused, worked by hand.
 
-ghost use Rattle.std.specs.Prelude.{◌≡◌, codes, Err};
+ghost use Rattle.std.specs.Prelude.{◌≡◌, ◌∷◌, [], codes, map, Err};
 ghost use Rattle.model.specs.declared.refusal.Refusal.TheVariants.{InvalidType};
 ghost use Rattle.model.specs.WorkedAccess.{private, ron};
 ghost use Rattle.model.specs.WorkedQueries.{asked_by};
@@ -15,6 +15,9 @@ pub fn route_rows()
     ensures update { routed (codes "PATCH") (codes "/services/data/v59.0/sobjects/Deal__c/a00") ≡ To (route.Update (codes "Deal__c") (codes "a00")) }
     ensures no_part { routed (codes "POST") (codes "/services/data/v59.0/sobjects/") ≡ NotFound }
     ensures no_method { routed (codes "PUT") (codes "/admin/retype") ≡ NotAllowed }
+    ensures organisation { routed (codes "PATCH") (codes "/admin/organisation") ≡ To route.SetOrganisation }
+    ensures ends { map (routed (codes "DELETE")) (codes "/admin/roles/00E" ∷ codes "/admin/groups/00G" ∷ [])
+        ≡ To (route.RemoveRole (codes "00E")) ∷ To (route.RemoveGroup (codes "00G")) ∷ [] }
     ensures no_path { routed (codes "GET") (codes "/x") ≡ NotFound }
 
     // HEAD is judged as GET, and one slash at the end is no part of a path.

@@ -8,6 +8,7 @@ ghost use Rattle.model_invariant.specs.Fit.{IsCaller};
 ghost use Rattle.model_requests.specs.Fit.{IsFit};
 ghost use Rattle.model_requests.specs.Requests.{Request, verdict_on};
 
+use crate::removals::removals_sound;
 use model_invariant::{
     deletes_sound, jobs_sound, objects_sound, people_sound, records_sound, sharing_sound,
 };
@@ -23,5 +24,6 @@ pub fn verdicts_sound()
     sharing_sound();
     objects_sound();
     people_sound();
+    removals_sound();
     jobs_sound();
 }

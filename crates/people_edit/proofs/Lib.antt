@@ -6,8 +6,11 @@ pub mod Putting
 pub mod Joining
 pub mod Changing
 pub mod NewOnes
+pub mod NamedOrg
 pub mod Deciding
 pub mod Hierarchy
+pub mod Administrators
+pub mod Behind
 pub mod ChangedOnes
 pub mod Members
 pub mod Drawing

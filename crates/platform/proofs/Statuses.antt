@@ -4,7 +4,7 @@ use Rattle.std.specs.Prelude.{◌↔◌, ◌==◌, ◌||◌}
 use Rattle.store_kv.specs.Tables.{Tables}
 use Rattle.model.specs.World.{World}
 use Rattle.store_abstraction.specs.Stands.{HasKnownVersion, HasUnknownVersion, Stands}
-use Rattle.commands.specs.Commands.{Command, answers, csvq, demo, export, has_status, is_one_of, is_serving, load, org_add, prints, serves, uses_of}
+use Rattle.commands.specs.Commands.{Command, answers, csvq, demo, export, has_status, is_one_of, is_serving, load, org_add, prints, serves, user_set, uses_of}
 use Rattle.platform.specs.Promise.{IsStatus}
 use Rattle.platform.specs.Run.{VersionEnds}
 use Rattle.platform.proofs.Runs.{not_own, true_isnt_false}
@@ -14,6 +14,7 @@ use Rattle.platform.proofs.Runs.{not_own, true_isnt_false}
 never_64 : (c : Command) → has_status c 64 ≡ false
 never_64 (prints (csvq query)) = refl
 never_64 (prints (org_add name secret)) = refl
+never_64 (prints (user_set org user secret)) = refl
 never_64 (prints (export org user secret query)) = refl
 never_64 (prints (load org user secret object)) = refl
 never_64 (prints (demo count)) = refl

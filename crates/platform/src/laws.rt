@@ -4,7 +4,7 @@ ghost use Rattle.store_kv.specs.Tables.{Tables};
 ghost use Rattle.model.specs.Organisations.{with_org};
 ghost use Rattle.model.specs.World.{World};
 ghost use Rattle.store_abstraction.specs.Stands.{Stands};
-ghost use Rattle.commands.specs.Commands.{Command, command_of, csvq, has_status, is_serving, org_add, printed, serves};
+ghost use Rattle.commands.specs.Commands.{Command, command_of, csvq, has_status, is_serving, org_add, printed, serves, user_set};
 ghost use Rattle.commands.specs.Deeds.{one_deed};
 ghost use Rattle.platform.specs.Promise.{IsStatus};
 ghost use Rattle.platform.specs.Run.{VersionEnds};
@@ -12,7 +12,8 @@ ghost use Rattle.platform.specs.Run.{VersionEnds};
 use store_abstraction::stands_laws;
 
 /// What commands print, worked by hand. Of `csvq`: a query that ends early. Of `org-add`: the first organisation, the second, a name
-/// and a secret that are refused, which leave the world as it is.
+/// and a secret that are refused, which leave the world as it is. Of `user-set`: the administrator of the first organisation, and one of
+/// no organisation.
 pub fn printed_rows()
     ensures spelled { printed (csvq (codes "SELECT Id FROM ")) [] (codes "Name\n") []
         ≡ one_deed (record { text = codes "refused: MALFORMED_QUERY: unexpected token at 15\n"; status = 65 }) [] }
@@ -25,6 +26,10 @@ pub fn printed_rows()
         ≡ one_deed (record { text = codes "refused: NAME_REFUSED: 1 to 80 characters\n"; status = 65 }) [] }
     ensures secret { printed (org_add (codes "Acme") (codes "short")) [] [] []
         ≡ one_deed (record { text = codes "refused: SECRET_REFUSED: 16 to 64 letters or digits\n"; status = 65 }) [] }
+    ensures user { printed (user_set (codes "00D000000000001") (codes "005000000000000AAA") (codes "abcdefghijklmnop")) (with_org [] (codes "Acme") []) [] []
+        ≡ one_deed (record { text = codes "00D000000000001EAA 005000000000000AAA\n"; status = 0 }) (with_org [] (codes "Acme") (sha256 (codes "abcdefghijklmnop"))) }
+    ensures nobody { printed (user_set (codes "00D000000000001") (codes "005000000000000") (codes "short")) [] [] []
+        ≡ one_deed (record { text = codes "refused: NOT_FOUND: The requested resource does not exist\n"; status = 65 }) [] }
 {}
 
 /// What `serve` takes, worked by hand: no count, which is the most, or one from 1 to 2^64 - 1 in digits alone. The call does nothing.

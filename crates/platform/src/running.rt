@@ -7,7 +7,7 @@ ghost use Rattle.platform.specs.Seen.{Seen};
 use crate::serving::{serve_answer, serve_door};
 use base_io::{Clock, Door, Sink, Source};
 use commands::{
-    Exporting, Load, OrgAdd, Stop, Words, csvq_status, print_csvq, print_demo, print_load,
+    Exporting, Load, OrgAdd, Stop, UserSet, Words, csvq_status, print_csvq, print_demo, print_load,
     print_tables, read_words, store_status,
 };
 use std::alloc::Global;
@@ -30,6 +30,7 @@ fn status_of(ended: Result<u8, Stop>) -> u8
 /// |---|---|
 /// | `csvq QUERY` | reads a CSV text from the source, and writes what a query finds in it |
 /// | `org-add NAME SECRET` | makes an organisation, and writes its id and its administrator's |
+/// | `user-set ORG USER SECRET` | gives a user a new secret, makes it an active administrator, and writes the two ids |
 /// | `export ORG USER SECRET QUERY` | writes the rows of a user's query as lines of CSV |
 /// | `load ORG USER SECRET OBJECT` | makes or changes a record for each row of a CSV text, which comes from the source, and writes what became of each |
 /// | `demo N` | watches the change of a field's type over N records, from 0 to 10,000, in tables of its own |
@@ -85,6 +86,10 @@ pub fn run<K: Keeper, D: Door, S: Source, W: Sink, C: Clock>(
         }
         Words::OrgAdd(name, secret) => {
             store_status(print_tables(alloc, &OrgAdd { name, secret }, keeper, sink))
+        }
+        Words::UserSet(org, user, secret) => {
+            let work = UserSet { org, user, secret };
+            store_status(print_tables(alloc, &work, keeper, sink))
         }
         Words::Export(org, user, secret, query) => {
             let now = clock.now();

@@ -14,7 +14,7 @@ use Rattle.server.specs.Leads.{IsReached, StandsReached}
 use Rattle.server.specs.Requests.{message_in}
 use Rattle.server.specs.Senses.{of_all}
 use Rattle.store_abstraction.specs.Stands.{Stands}
-use Rattle.commands.specs.Commands.{Command, Printing, answers, csvq, export, load, org_add, prints, printed, serves, used_by, uses, uses_of, demo}
+use Rattle.commands.specs.Commands.{Command, Printing, answers, csvq, export, load, org_add, prints, printed, serves, used_by, uses, uses_of, demo, user_set}
 use Rattle.commands.specs.Deeds.{Prints}
 use Rattle.platform.specs.Falling.{CrashPrints, Doubts, FallsOpening}
 use Rattle.platform.specs.Promise.{IsStatus, Promise}
@@ -124,6 +124,7 @@ module _ (k l : KeeperState) (a b : Around) (status : ℕ) (w : World) (m : Tabl
     whole (prints (csvq query)) p unused = whole_own (csvq query) refl p (unused refl)
     whole (prints (demo count)) p unused = whole_own (demo count) refl p (unused refl)
     whole (prints (org_add name secret)) p unused = whole_text (org_add name secret) refl p
+    whole (prints (user_set org user secret)) p unused = whole_text (user_set org user secret) refl p
     whole (prints (export org user secret query)) p unused = whole_text (export org user secret query) refl p
     whole (prints (load org user secret object)) p unused = whole_text (load org user secret object) refl p
     whole answers p unused = whole_answers p a.left a.coming refl refl
@@ -218,6 +219,7 @@ module _ (k l : KeeperState) (a b : Around) (status : ℕ) (w : World) (m : Tabl
     breaks (prints (csvq query)) p unused = absurd (true_isnt_false (sym (unused refl) ∙ fell))
     breaks (prints (demo count)) p unused = absurd (true_isnt_false (sym (unused refl) ∙ fell))
     breaks (prints (org_add name secret)) p unused = breaks_text (org_add name secret) refl p
+    breaks (prints (user_set org user secret)) p unused = breaks_text (user_set org user secret) refl p
     breaks (prints (export org user secret query)) p unused = breaks_text (export org user secret query) refl p
     breaks (prints (load org user secret object)) p unused = breaks_text (load org user secret object) refl p
     breaks answers p unused = breaks_answers p a.left a.coming refl refl

@@ -34,12 +34,13 @@ carmuguur - 65536 csvq x|PORT must be a number from 0 to 65535 without leading z
 carmuguur - 080 csvq x|PORT must be a number from 0 to 65535 without leading zeros, and is \"080\"^\
 carmuguur -  csvq x|PORT must be a number from 0 to 65535 without leading zeros, and is \"\"^\
 carmuguur - +1 csvq x|PORT must be a number from 0 to 65535 without leading zeros, and is \"+1\"^\
-carmuguur - 0|a command is missing: the commands are csvq QUERY, org-add NAME SECRET, export ORG USER SECRET QUERY, load ORG USER SECRET OBJECT, demo N, answer, serve [COUNT]^\
-carmuguur - 0 Csvq x|unknown command \"Csvq\": the commands are csvq QUERY, org-add NAME SECRET, export ORG USER SECRET QUERY, load ORG USER SECRET OBJECT, demo N, answer, serve [COUNT]^\
-carmuguur - 0 a\nb|unknown command \"a\\nb\": the commands are csvq QUERY, org-add NAME SECRET, export ORG USER SECRET QUERY, load ORG USER SECRET OBJECT, demo N, answer, serve [COUNT]^\
+carmuguur - 0|a command is missing: the commands are csvq QUERY, org-add NAME SECRET, user-set ORG USER SECRET, export ORG USER SECRET QUERY, load ORG USER SECRET OBJECT, demo N, answer, serve [COUNT]^\
+carmuguur - 0 Csvq x|unknown command \"Csvq\": the commands are csvq QUERY, org-add NAME SECRET, user-set ORG USER SECRET, export ORG USER SECRET QUERY, load ORG USER SECRET OBJECT, demo N, answer, serve [COUNT]^\
+carmuguur - 0 a\nb|unknown command \"a\\nb\": the commands are csvq QUERY, org-add NAME SECRET, user-set ORG USER SECRET, export ORG USER SECRET QUERY, load ORG USER SECRET OBJECT, demo N, answer, serve [COUNT]^\
 carmuguur - 0 csvq|too few words: the form is csvq QUERY^\
 carmuguur - 0 csvq SELECT Id|too many words: the form is csvq QUERY^\
 carmuguur - 0 org-add Acme|too few words: the form is org-add NAME SECRET^\
+carmuguur - 0 user-set A B|too few words: the form is user-set ORG USER SECRET^\
 carmuguur - 0 export a b c|too few words: the form is export ORG USER SECRET QUERY^\
 carmuguur - 0 export a b c d|^\
 carmuguur - 0 load a b c|too few words: the form is load ORG USER SECRET OBJECT^\

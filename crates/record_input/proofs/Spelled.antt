@@ -29,7 +29,7 @@ fields_same p n k (f ∷ fs) = ap (λ (gs : List Field). f ∷ gs) (fields_same 
 
 -- an object with these fields and without its validation rules
 abbrev with_fields : Object → List Field → Object
-with_fields o fields = record { name = o.name; access = o.access; fields = fields; validation_rules = [] }
+with_fields o fields = record { name = o.name; access = o.access; hierarchy = o.hierarchy; fields = fields; validation_rules = [] }
 
 abbrev plain_object : Object → Object
 plain_object o = with_fields o o.fields

@@ -20,7 +20,7 @@ pub spelled : (org : ℕ) (p : OrgPlan) (t : Tenant) (o : Numbered) → numbered
 spelled org p t o = ap (λ (fs : List Field). with_fields o fs) (fields_back p o.number 0 o.object.fields)
   where
     with_fields : Numbered → List Field → Numbered
-    with_fields o fs = record { number = o.number; object = record { name = o.object.name; access = o.object.access; fields = fs; validation_rules = [] } }
+    with_fields o fs = record { number = o.number; object = record { name = o.object.name; access = o.object.access; hierarchy = o.object.hierarchy; fields = fs; validation_rules = [] } }
 
 -- the layout of an object of the tenant is its layout
 pub its_layout : (org : ℕ) (p : OrgPlan) (t : Tenant) (o : Numbered) → object_numbered t o.number ≡ Some o.object → IsLayout p t (layout_of org p t o)

@@ -1,5 +1,5 @@
--- Another access of an object takes its row to the one with the access.
-use Rattle.std.proofs.Common.{◌≡◌, ◌∙◌, ◌<◌, ◌^◌, ℕ, zero, suc, Bool, true, false, not, IsTrue, List, [], ◌∷◌, Option, Some, None, refl, sym, ap, subst}
+-- A change of an object takes its row to the one with the access that it says.
+use Rattle.std.proofs.Common.{unwrap_or, ◌||◌, ◌≡◌, ◌∙◌, ◌<◌, ◌^◌, ℕ, zero, suc, Bool, true, false, not, IsTrue, List, [], ◌∷◌, Option, Some, None, refl, sym, ap, subst}
 use Rattle.std.specs.Prelude.{Err, IsErrAnd, Ok, Result, slice_get}
 use Rattle.std.specs.Option.{option_map}
 use Rattle.std.proofs.lemmas.Option.{same_Some as some_is}
@@ -15,7 +15,13 @@ use Rattle.store_rows.specs.Keys.{Key}
 use Rattle.store_rows.specs.Rows.{object_form}
 use Rattle.model.specs.declared.refusal.Refusal.TheVariants.{InvalidType}
 use Rattle.model.specs.Fields.{by_parent, is_detail}
-use Rattle.model.specs.Metadata.{set_access}
+use Rattle.model.specs.declared.metadata_bodies.ObjectChange.{ObjectChange}
+use Rattle.model_invariant.specs.Fit.{is_fit_object_change}
+use Rattle.store_codec.specs.Choices.{is_own}
+use Rattle.store_codec.specs.declared.choices.ObjectAccess.{ObjectAccess}
+use Rattle.base_value.specs.declared.sharing.Access.TheVariants as access
+use Rattle.schema_edit.specs.inner.Access.{changed_access, spelled_access}
+use Rattle.model.specs.Metadata.{changed_object, set_object}
 use Rattle.model.specs.Objects.{Numbered, change_at, object_named, object_numbered, with_object_changed}
 use Rattle.model.specs.Rules.{first_refusal, refuse_if}
 use Rattle.model.specs.Sound.{IsSound}
@@ -38,8 +44,8 @@ use Rattle.store_edit.proofs.Putting.{put_is_of}
 
 -- what `store_abstraction` says of rows and plans where an object has another access, and `model_invariant` of the tenant
 abbrev pub AccessRows : Type 0
-AccessRows = (p : OrgPlan) (t : Tenant) (n : ℕ) (access : Access) (k : Key) → IsSound t → is_object_key n k ≡ false
-    → row_in p (with_object_changed n (λ o. record o { access = access }) t) k ≡ row_in p t k
+AccessRows = (p : OrgPlan) (t : Tenant) (n : ℕ) (c : ObjectChange) (k : Key) → IsSound t → is_object_key n k ≡ false
+    → row_in p (with_object_changed n (changed_object c) t) k ≡ row_in p t k
 
 abbrev pub DescribedFits : Type 0
 DescribedFits = (p : OrgPlan) (t : Tenant) (n : ℕ) (change : Object → Object) → FitsPlan p t → ((o : Object) → (change o).fields ≡ o.fields) → FitsPlan p (with_object_changed n change t)
@@ -48,7 +54,7 @@ abbrev pub ObjectFits : Type 0
 ObjectFits = (org : ℕ) (t : Tenant) (n : ℕ) (o : Object) → org < 2 ^ 32 → IsSound t → object_numbered t n ≡ Some o → FitsForm object_form (row_of_object org t n o)
 
 abbrev pub AccessSound : Type 0
-AccessSound = (t : Tenant) (object : List ℕ) (access : Access) → by_parent access ≡ false → IsSound t → IsSound (set_access t object access).tenant
+AccessSound = (t : Tenant) (object : List ℕ) (c : ObjectChange) → is_fit_object_change c ≡ true → IsSound t → IsSound (set_object t object c).tenant
 
 pub get_changed : {X : Type 0} (n : ℕ) (change : X → X) (xs : List X) (x : X) → slice_get xs n ≡ Some x → slice_get (change_at n change xs) n ≡ Some (change x)
 get_changed n change [] x e = absurd cc
@@ -59,12 +65,12 @@ pub own_row : (q : OrgPlan) (u : Tenant) (org n : ℕ) (o : Object) → object_n
 unfolding row_in
 own_row q u org n o there = ap (option_map (λ (o : Object). row_bytes object_form (row_of_object org u n o))) there
 
-accepted : (t : Tenant) (name : List ℕ) (access : Access) (o : Numbered) → object_named t name ≡ Some o → None ≡ verdict_refusal (set_access t name access)
-    → set_access t name access ≡ accept done (with_object_changed o.number (λ x. record x { access = access }) t)
-accepted t name access o there free =
+accepted : (t : Tenant) (name : List ℕ) (c : ObjectChange) (o : Numbered) → object_named t name ≡ Some o → None ≡ verdict_refusal (set_object t name c)
+    → set_object t name c ≡ accept done (with_object_changed o.number (changed_object c) t)
+accepted t name c o there free =
     let rule = first_refusal (refuse_if (is_detail o.object) (InvalidType o.object.name) ∷ []) in
-    let u = with_object_changed o.number (λ x. record x { access = access }) t in
-    let found : set_access t name access ≡ unless rule t (accept done u) = rw there refl in
+    let u = with_object_changed o.number (changed_object c) t in
+    let found : set_object t name c ≡ unless rule t (accept done u) = rw there refl in
     found ∙ unrefused rule t u (free ∙ ap verdict_refusal found)
 
 -- ---- what was read
@@ -106,40 +112,52 @@ module _ (org : ℕ) (t : Tenant) (name : List ℕ) (n : ℕ) (m : Tables) (q : 
 abbrev pub SamePlan : Planned
 SamePlan q t next = next ≡ q
 
+-- an access that has a spelling is said as it is
+pub own_hierarchy : (a : Access) (h : Bool) → (h || is_own a) ≡ true → (h || by_parent a) ≡ h
+own_hierarchy a true e = refl
+own_hierarchy access.Private false e = refl
+own_hierarchy access.Read false e = refl
+own_hierarchy access.ReadWrite false e = refl
+own_hierarchy access.ControlledByParent false e = absurd cc
+
 pub access_takes : AccessRows → DescribedFits → ObjectFits → AccessSound
-    → (org : ℕ) (t : Tenant) (name : List ℕ) (access : Access) (row : ObjectRow) (q : OrgPlan)
-    → org < 2 ^ 32 → FitsPlan q t → IsSound t → by_parent access ≡ false → None ≡ verdict_refusal (set_access t name access)
+    → (org : ℕ) (t : Tenant) (name : List ℕ) (c : ObjectChange) (row : ObjectRow) (q : OrgPlan)
+    → org < 2 ^ 32 → FitsPlan q t → IsSound t → is_fit_object_change c ≡ true → None ≡ verdict_refusal (set_object t name c)
     → HasRow org t name row
-    → Takes org q t (set_access t name access) done SamePlan (change_to object_form (record row { access = access_of access }) ∷ [])
-access_takes rows described fits sound org t name access row q small plan sound_t by_master free h =
+    → Takes org q t (set_object t name c) done SamePlan (change_to object_form (record row { access = changed_access c row.access }) ∷ [])
+access_takes rows described fits sound org t name c row q small plan sound_t fit free h =
     let o = h.numbered in
     let n = o.number in
-    let v = set_access t name access in
-    let u = with_object_changed n (λ x. record x { access = access }) t in
-    let x : Object = record o.object { access = access } in
-    let at_u : object_numbered u n ≡ Some x = get_changed n (λ (x : Object). record x { access = access }) t.objects o.object (named_at t name o h.there) in
-    let is : v ≡ accept done u = accepted t name access o h.there free in
-    let sound_u : IsSound u = subst IsSound (ap (λ (v : Verdict). v.tenant) is) (sound t name access by_master sound_t) in
+    let v = set_object t name c in
+    let u = with_object_changed n (changed_object c) t in
+    let x : Object = changed_object c o.object in
+    let at_u : object_numbered u n ≡ Some x = get_changed n (changed_object c) t.objects o.object (named_at t name o h.there) in
+    let is : v ≡ accept done u = accepted t name c o h.there free in
+    let sound_u : IsSound u = subst IsSound (ap (λ (v : Verdict). v.tenant) is) (sound t name c fit sound_t) in
     let next : ObjectRow = row_of_object org u n x in
+    let its_fit : FitsForm object_form next = fits org u n x small sound_u at_u in
+    let said : spelled_access x.access x.hierarchy ≡ access_of x =
+    ap (λ (h : Bool). record { access = x.access; hierarchy = h }) (own_hierarchy x.access x.hierarchy its_fit.1.1.0) in
     let takes : Takes org q t (accept done u) done SamePlan (change_to object_form next ∷ []) = record {
       answer = refl;
       sound = sound_u;
       plan = q;
       kept = refl;
-      fits = described q t n (λ x. record x { access = access }) plan (λ x. refl);
-      are = (put_is_of object_form org q u next (fits org u n x small sound_u at_u) refl (own_row q u org n x at_u), tt);
-      rest = λ k of same. rows q t n access k sound_t (other_object org n k of (beside (change_to object_form next) [] k same).0);
+      fits = described q t n (changed_object c) plan (λ x. refl);
+      are = (put_is_of object_form org q u next its_fit refl (own_row q u org n x at_u), tt);
+      rest = λ k of same. rows q t n c k sound_t (other_object org n k of (beside (change_to object_form next) [] k same).0);
     } in
-    subst (λ (r : ObjectRow). Takes org q t v done SamePlan (change_to object_form (record r { access = access_of access }) ∷ [])) (sym h.is)
-    (subst (λ (y : Verdict). Takes org q t y done SamePlan (change_to object_form next ∷ [])) (sym is) takes)
+    subst (λ (r : ObjectRow). Takes org q t v done SamePlan (change_to object_form (record r { access = changed_access c r.access }) ∷ [])) (sym h.is)
+    (subst (λ (a : ObjectAccess). Takes org q t v done SamePlan (change_to object_form (record (row_of_object org t n o.object) { access = a }) ∷ [])) (sym said)
+    (subst (λ (y : Verdict). Takes org q t y done SamePlan (change_to object_form next ∷ [])) (sym is) takes))
 
-pub not_by : (access : Access) → IsTrue (not (by_parent access)) → by_parent access ≡ false
-not_by access h = by (by_parent access) h
+-- a row after a change has a spelling too
+pub access_fits : (row : ObjectRow) (c : ObjectChange) → FitsForm object_form row → FitsForm object_form (record row { access = changed_access c row.access })
+access_fits row c f = (f.0, (f.1.0, (has_byte (unwrap_or c.access row.access.access) (unwrap_or c.hierarchy row.access.hierarchy), f.1.1.1)))
   where
-    by : (b : Bool) → IsTrue (not b) → b ≡ false
-    by true h = absurd cc
-    by false h = refl
-
--- a row with another access has a spelling too
-pub access_fits : (row : ObjectRow) (access : Access) → FitsForm object_form row → FitsForm object_form (record row { access = access_of access })
-access_fits row access f = (f.0, (f.1.0, (refl, f.1.1.1)))
+    has_byte : (a : Access) (h : Bool) → ((h || by_parent a) || is_own a) ≡ true
+    has_byte a true = refl
+    has_byte access.Private false = refl
+    has_byte access.Read false = refl
+    has_byte access.ReadWrite false = refl
+    has_byte access.ControlledByParent false = refl

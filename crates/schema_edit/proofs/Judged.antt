@@ -7,7 +7,7 @@ use Rattle.model.specs.declared.metadata_bodies.NewMaster.{NewMaster}
 use Rattle.model.specs.declared.refusal.Refusal.{Refusal}
 use Rattle.model.specs.declared.refusal.Refusal.TheVariants.{InvalidType, NameTaken}
 use Rattle.model.specs.Fields.{is_detail, is_master}
-use Rattle.model.specs.Metadata.{child_name_taken, detail_level, no_parent, set_access, too_deep}
+use Rattle.model.specs.Metadata.{child_name_taken, detail_level, no_parent, set_object, too_deep}
 use Rattle.model.specs.Objects.{Numbered, object_named}
 use Rattle.model.specs.Rules.{Rule, first_refusal, over_limit, refuse_if}
 use Rattle.model.specs.Tenant.{Field, Tenant}
@@ -16,7 +16,7 @@ use Rattle.store_abstraction.specs.Layouts.{layout_of, place_of}
 use Rattle.store_abstraction.specs.Plan.{OrgPlan}
 use Rattle.store_abstraction.specs.declared.layout.FieldPlace.{FieldPlace}
 use Rattle.store_abstraction.specs.declared.layout.Layout.{Layout}
-use Rattle.base_value.specs.declared.sharing.Access.{Access}
+use Rattle.model.specs.declared.metadata_bodies.ObjectChange.{ObjectChange}
 use Rattle.schema_edit.specs.Judging.{AreLayouts, IsNamedLayout, verdict_refusal}
 use Rattle.schema_edit.specs.inner.Relations.{layout_by_name, layout_gives}
 use Rattle.schema_edit.specs.inner.Fields.{Places}
@@ -49,19 +49,19 @@ one_named org p t name l e = by (object_named t name) refl e
     by None there e = absurd cc
     by (Some o) there e = record { numbered = o; there = there; same = cc }
 
--- ---- another access
+-- ---- a change of an object
 
 masters_back : (p : OrgPlan) (n k : ℕ) (fs : List Field) → list_any (λ (f : FieldPlace). is_master f.kind) (map (place_of p n) (enumerate_from k fs)) ≡ list_any (λ (f : Field). is_master f.kind) fs
 masters_back p n k [] = refl
 masters_back p n k (f ∷ fs) = ap (λ (b : Bool). is_master f.kind || b) (masters_back p n (k + 1) fs)
 
-pub unknown_object : (t : Tenant) (name : List ℕ) (access : Access) (layout : Option Layout) → IsNamedLayout t name layout → layout ≡ None
-    → verdict_refusal (set_access t name access) ≡ Some (InvalidType name)
-unknown_object t name access layout (org, p, e) none = rw (none_named org p t name (sym e ∙ none)) refl
+pub unknown_object : (t : Tenant) (name : List ℕ) (c : ObjectChange) (layout : Option Layout) → IsNamedLayout t name layout → layout ≡ None
+    → verdict_refusal (set_object t name c) ≡ Some (InvalidType name)
+unknown_object t name c layout (org, p, e) none = rw (none_named org p t name (sym e ∙ none)) refl
 
-pub known_object : (t : Tenant) (name : List ℕ) (access : Access) (layout : Option Layout) (l : Layout) → IsNamedLayout t name layout → layout ≡ Some l
-    → verdict_refusal (set_access t name access) ≡ refuse_if (list_any (λ (f : FieldPlace). is_master f.kind) l.fields) (InvalidType l.name)
-known_object t name access layout l (org, p, e) some =
+pub known_object : (t : Tenant) (name : List ℕ) (c : ObjectChange) (layout : Option Layout) (l : Layout) → IsNamedLayout t name layout → layout ≡ Some l
+    → verdict_refusal (set_object t name c) ≡ refuse_if (list_any (λ (f : FieldPlace). is_master f.kind) l.fields) (InvalidType l.name)
+known_object t name c layout l (org, p, e) some =
     let f = one_named org p t name l (sym e ∙ some) in
     let o = f.numbered in
     rw f.there

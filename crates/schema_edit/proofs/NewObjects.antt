@@ -44,6 +44,7 @@ use Rattle.schema_edit.specs.Judging.{layouts_in}
 use Rattle.schema_edit.specs.declared.edits.objects.NewRows.{NewRows}
 use Rattle.schema_edit.specs.inner.NewRows.{FitRows, IsSpelledMaster, IsSpelledObject, changes_of, field_row_changes, first_field, master_row, new_object_row, rows_by}
 use Rattle.schema_edit.specs.inner.Relations.{layout_by_name}
+use Rattle.schema_edit.proofs.AccessEdits.{own_hierarchy}
 use Rattle.schema_edit.proofs.Editing.{beside, other_field, other_object, other_org, unless_none}
 use Rattle.schema_edit.proofs.Layouts.{length_is, named_is}
 use Rattle.store_edit.proofs.Putting.{put_is_in}
@@ -182,7 +183,16 @@ module _ (laws : Laws) (org : ℕ) (small : org < 2 ^ 32) (p : OrgPlan) (t : Ten
       ∙ ap (λ (x : ℕ). with_counts x 0 (cond (is_some first_row) 1 0)) (sym (length-append t.objects (o ∷ [])))
       ∙ ap (λ (x : ℕ). with_counts (length u.objects) x (cond (is_some first_row) 1 0)) (sym (ap length (none_of (known t) t.objects t.records sound.records.each)))
       ∙ ap (with_counts (length u.objects) (length (records_of u n))) (count_is (field_of org q n 0) o.fields few)
+      ∙ ap with_hierarchy (own_hierarchy b.access b.hierarchy (laws.object_fits org u n o small next_sound at_n).1.1.0)
     where
+      with_hierarchy : Bool → NewRows
+      with_hierarchy h =
+          record {
+            org = org_of org u;
+            field = first_row;
+            object = record (row_of_object org u n o) { access = record { access = b.access; hierarchy = h } };
+          }
+
       with_number : ℕ → Option FieldRow → NewRows
       with_number k f = record { org = record (org_of org t) { objects = k + 1 }; field = f; object = new_object_row org k f b }
 

@@ -6,3 +6,4 @@ pub mod NewRows
 pub mod RuleReads
 pub mod RuleRows
 pub mod RuleRemovals
+pub mod Access

@@ -9,7 +9,7 @@ mod reading;
 mod removing;
 mod validation;
 
-pub use self::access::SetAccess;
+pub use self::access::SetObject;
 pub use self::fields::AddField;
 pub use self::objects::AddObject;
 pub use self::removing::RemoveValidationRule;

@@ -6,7 +6,7 @@ mod fields;
 mod objects;
 mod validation;
 
-pub(crate) use self::access::judge_access;
+pub(crate) use self::access::judge_change;
 pub use self::addition::Addition;
 pub(crate) use self::fields::target_number;
 pub(crate) use self::validation::judge_rule;

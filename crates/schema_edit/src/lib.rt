@@ -12,5 +12,5 @@ mod relations;
 mod rules;
 mod slots;
 
-pub use crate::edits::{AddField, AddObject, AddValidationRule, RemoveValidationRule, SetAccess};
+pub use crate::edits::{AddField, AddObject, AddValidationRule, RemoveValidationRule, SetObject};
 pub use crate::slots::free_slot;

@@ -12,7 +12,7 @@ field_of_place f =
 
 -- an object, without its validation rules
 abbrev pub object_of_layout : Layout → Object
-object_of_layout l = record { name = l.name; access = l.access; fields = map field_of_place l.fields; validation_rules = [] }
+object_of_layout l = record { name = l.name; access = l.access; hierarchy = l.hierarchy; fields = map field_of_place l.fields; validation_rules = [] }
 
 -- the same, with its number
 abbrev pub numbered_in : Layout → Numbered

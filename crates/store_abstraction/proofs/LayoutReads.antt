@@ -147,14 +147,14 @@ by_row org q t n o g =
     let fields : in_case (object_numbered t n) [] (λ o. map (place_of q n) (enumerate_from 0 o.fields)) ≡ map (place_of q n) (enumerate_from 0 o.fields) =
     ap (λ (x : Option model.Object). in_case x [] (λ o. map (place_of q n) (enumerate_from 0 o.fields))) g in
     let job = job_is org n q t in
-    λ i. record { org = org; object = n; name = o.name; access = o.access; fields = fields i; job = job i }
+    λ i. record { org = org; object = n; name = o.name; access = o.access; hierarchy = o.hierarchy; fields = fields i; job = job i }
 
 -- a layout's parts, once they are read
 pub layout_found : (org : ℕ) (r : ObjectRow) (change : Option JobRow) (m : Tables) (places : List FieldPlace) (job : Option JobPlace) → FindsIn org (places_in r.object) m (Ok places) → job ≡ option_and_then (job_of_row r.object) change
-    → FindsIn org (layout_by org r change) m (Ok (record { org = org; object = r.object; name = r.name; access = r.access.access; fields = places; job = job }))
+    → FindsIn org (layout_by org r change) m (Ok (record { org = org; object = r.object; name = r.name; access = r.access.access; hierarchy = r.access.hierarchy; fields = places; job = job }))
 layout_found org r change m places job h is = λ q t s.
     let fields = h q t s in
-    λ i. record { org = org; object = r.object; name = r.name; access = r.access.access; fields = fields i; job = is i }
+    λ i. record { org = org; object = r.object; name = r.name; access = r.access.access; hierarchy = r.access.hierarchy; fields = fields i; job = is i }
 
 pub one_found : (org : ℕ) (r : ObjectRow) (change : Option JobRow) (m : Tables) (l : Layout) → FindsIn org (own_change_row org) m (Ok change) → FindsIn org (layout_by org r change) m (Ok l) → FindsIn org (layout_by_found org (Some r)) m (Ok (Some l))
 one_found org r change m l h g = λ q t s. ap Some (g q t s ∙ ap (λ (x : Option JobRow). layout_by org r x q t) (h q t s))

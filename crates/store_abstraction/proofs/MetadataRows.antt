@@ -1,5 +1,5 @@
 -- The rows of an organisation's objects, fields and change of a type: they fit their forms, and what is read is what it has.
-use Rattle.std.proofs.Common.{◌≡◌, ℕ, zero, suc, ◌+◌, ◌<◌, ◌^◌, Bool, true, false, not, ◌&&◌, IsTrue, Option, Some, None, List, [], ◌∷◌, length, refl, ap, subst, ◌∙◌, arith, map}
+use Rattle.std.proofs.Common.{◌≡◌, ℕ, zero, suc, ◌+◌, ◌<◌, ◌^◌, Bool, true, false, not, ◌&&◌, ◌||◌, IsTrue, Option, Some, None, List, [], ◌∷◌, length, refl, ap, subst, ◌∙◌, arith, map}
 use Rattle.std.specs.Prelude.{slice_get, is_some}
 use Rattle.std.specs.List.{AllByRecursion, enumerate_from}
 use Rattle.std.specs.Option.{option_and_then, option_map}
@@ -13,7 +13,10 @@ use Rattle.store_rows.specs.Forms.{FitsForm, row_bytes}
 use Rattle.store_rows.specs.Keys.{Field, Job, Object}
 use Rattle.store_rows.specs.Reads.{MayStandAt}
 use Rattle.store_rows.specs.Rows.{field_form, job_form, object_form}
+use Rattle.store_codec.specs.Choices.{is_own}
 use Rattle.store_codec.specs.Composed.{FitsType}
+use Rattle.base_value.specs.declared.sharing.Access.{Access}
+use Rattle.base_value.specs.declared.sharing.Access.TheVariants as access
 use Rattle.base_value.specs.Types.{is_reference, is_type}
 use Rattle.base_value.specs.declared.value.FieldType.{FieldType}
 use Rattle.base_value.specs.declared.job.Outcome.{Outcome}
@@ -23,7 +26,8 @@ use Rattle.base_value.specs.declared.job.Phase.TheVariants as phase
 use Rattle.model.specs.Objects.{Numbered, object_numbered}
 use Rattle.model.specs.Sound.{IsSound}
 use Rattle.model.specs.SoundJob.{HasSoundJob, IsSoundJob}
-use Rattle.model.specs.SoundMetadata.{IsSoundField, IsSoundObject}
+use Rattle.model.specs.Fields.{by_parent}
+use Rattle.model.specs.SoundMetadata.{IsSoundField, IsSoundObject, implies}
 use Rattle.model.specs.Tenant as model
 use Rattle.model.specs.Tenant.{Tenant}
 use Rattle.store_abstraction.specs.Metadata.{field_of, job_of, row_of_object}
@@ -55,12 +59,20 @@ sound_object t n o s e =
 
 -- ---- objects
 
+-- the hierarchy counts where the access is the parent's, and so both have a byte
+pub access_spelled : (a : Access) (h : Bool) → implies (by_parent a) h ≡ true → (h || is_own a) ≡ true
+access_spelled a true e = refl
+access_spelled access.Private false e = refl
+access_spelled access.Read false e = refl
+access_spelled access.ReadWrite false e = refl
+access_spelled access.ControlledByParent false e = absurd cc
+
 pub object_fits : (org : ℕ) (t : Tenant) (n : ℕ) (o : model.Object) → org < 2 ^ 32 → IsSound t → object_numbered t n ≡ Some o → FitsForm object_form (row_of_object org t n o)
 object_fits org t n o lo s e =
     let so = sound_object t n o s e in
     let there : n < length t.objects = slice_get_within t.objects n o e in (
       (lo, omega (arith, there, s.metadata.few)),
-      (custom_fits o.name so.name, (refl, (omega (arith, s.records.few_of n), (omega (arith, so.few_fields), omega (arith, so.few_rules))))),
+      (custom_fits o.name so.name, (access_spelled o.access o.hierarchy so.hierarchy, (omega (arith, s.records.few_of n), (omega (arith, so.few_fields), omega (arith, so.few_rules))))),
     )
 
 -- the row of an object, if there is one

@@ -62,9 +62,9 @@ job_row slots p org (Some j) = rw (there_same slots p j j.phase j.outcome) refl
 -- ---- an object that is changed but for its fields
 
 -- another access changes no rule
-pub rule_of_access : (n : ℕ) (a : Access) (k : Key) (o : model.Object) → rule_at n k (record o { access = a }) ≡ rule_at n k o
-rule_of_access n a (Validation org m name) o = refl
-rule_of_access n a _ o = refl
+pub rule_of_access : (n : ℕ) (a : Access) (h : Bool) (k : Key) (o : model.Object) → rule_at n k (record o { access = a; hierarchy = h }) ≡ rule_at n k o
+rule_of_access n a h (Validation org m name) o = refl
+rule_of_access n a h _ o = refl
 
 -- one rule more changes no other
 other_rule : (key : List ℕ) (r : model.ValidationRule) (rules : List model.ValidationRule) → bytes_eq (lower_bytes r.name) key ≡ false

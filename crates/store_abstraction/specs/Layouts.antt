@@ -52,6 +52,7 @@ layout_of org p t o =
       object = o.number;
       name = o.object.name;
       access = o.object.access;
+      hierarchy = o.object.hierarchy;
       fields = map (place_of p o.number) (enumerate_from 0 o.object.fields);
       job = job_on p t o.number;
     }

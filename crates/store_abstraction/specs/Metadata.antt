@@ -19,7 +19,6 @@ use Rattle.model.specs.Tenant.{Field, Group, Job, Object, Role, Share, SharingRu
 use Rattle.store_codec.specs.declared.choices.ObjectAccess.{ObjectAccess}
 use Rattle.store_abstraction.specs.Plan.{OrgPlan, type_there}
 use Rattle.base_value.specs.Texts.{lower}
-use Rattle.base_value.specs.declared.sharing.Access.{Access}
 use Rattle.base_value.specs.declared.sharing.RuleSource.{RuleSource}
 use Rattle.base_value.specs.declared.sharing.RuleSource.TheVariants as source
 
@@ -52,9 +51,9 @@ group_of org g = record { org = org; id = g.id; name = g.name; members = g.membe
 
 -- ---- objects
 
--- the hierarchy of roles counts on every object
-abbrev pub access_of : Access → ObjectAccess
-access_of access = record { access = access; hierarchy = true }
+-- what every user may do, and whether the role hierarchy counts
+abbrev pub access_of : Object → ObjectAccess
+access_of o = record { access = o.access; hierarchy = o.hierarchy }
 
 -- the object with this number
 abbrev pub row_of_object : ℕ → Tenant → ℕ → Object → ObjectRow
@@ -63,7 +62,7 @@ row_of_object org t n o =
       org = org;
       object = n;
       name = o.name;
-      access = access_of o.access;
+      access = access_of o;
       records = length (records_of t n);
       fields = length o.fields;
       validation_rules = length o.validation_rules;

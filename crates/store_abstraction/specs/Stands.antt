@@ -94,7 +94,7 @@ unique_of org n slot key r = record { org = org; object = n; slot = slot; value 
 abbrev pub share_at : Tenant → List ℕ → Principal → Option model.Share
 share_at t id to = find (same_share (record { item = id; to = to; level = Read })) t.shares
 
--- the row at a key of an organisation that is this tenant, if there is one. Rows of owners and grants aren't written yet
+-- the row at a key of an organisation that is this tenant, if there is one. None has rows of owners or of grants
 unfoldable pub row_in : OrgPlan → Tenant → Key → Option (List ℕ)
 row_in p t (Org org) = Some (row_bytes org_form (org_of org t))
 row_in p t (Object org n) = option_map (λ o. row_bytes object_form (row_of_object org t n o)) (object_numbered t n)

@@ -14,7 +14,7 @@ size_field =
     record { name = codes "Size__c"; kind = type.Number 4 0; required = false; unique = false; indexed = true; child = None }
 
 abbrev pub deal : Object
-deal = record { name = codes "Deal__c"; access = access.ReadWrite; fields = size_field ∷ []; validation_rules = [] }
+deal = record { name = codes "Deal__c"; access = access.ReadWrite; hierarchy = true; fields = size_field ∷ []; validation_rules = [] }
 
 -- a record named `A` whose size is 7, and one without a name whose size is 9
 abbrev pub first : Record

@@ -13,6 +13,8 @@ pub struct Layout {
     pub name: Text,
     /// What every user may do with its records.
     pub access: Access,
+    /// Whether who is above others in the role hierarchy gets what they have.
+    pub hierarchy: bool,
     /// Its custom fields, in their order.
     pub fields: Items<FieldPlace>,
     /// The change of a type of one of its fields, if the organisation's last is of this object.

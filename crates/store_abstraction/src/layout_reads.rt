@@ -139,6 +139,7 @@ fn layout_of_row<K: Keeper>(
         object: row.object,
         name: row.name,
         access: row.access.access,
+        hierarchy: row.access.hierarchy,
         fields,
         job,
     })

@@ -1,6 +1,6 @@
 //! The rows of records and the slots of fields, while metadata change.
 
-ghost use Rattle.std.specs.Prelude.{◌≡◌, ◌<◌, ◌≤◌, ◌^◌, ℕ, List, [], ◌∷◌, ◌++◌, IsTrue, Option, Some, None, false, is_some, length, map as plain_map, slice_get};
+ghost use Rattle.std.specs.Prelude.{◌≡◌, ◌<◌, ◌≤◌, ◌^◌, ℕ, Bool, List, [], ◌∷◌, ◌++◌, IsTrue, Option, Some, None, false, is_some, length, map as plain_map, slice_get};
 ghost use Rattle.std.specs.List.{list_any};
 ghost use Rattle.store_rows.specs.Forms.{FitsForm};
 ghost use Rattle.store_rows.specs.Keys.{Key};
@@ -58,7 +58,8 @@ pub fn metadata_laws()
         → is_object_key n k ≡ false → row_in p (with_object_changed n change t) k ≡ row_in p t k }
 
     // Another access of an object changes no rule, and one rule more no other.
-    ensures accessed { (n : ℕ) (access : Access) (k : Key) (o : Object) → rule_at n k (record o { access = access }) ≡ rule_at n k o }
+    ensures accessed { (n : ℕ) (access : Access) (hierarchy : Bool) (k : Key) (o : Object)
+        → rule_at n k (record o { access = access; hierarchy = hierarchy }) ≡ rule_at n k o }
     ensures ruled { (n : ℕ) (r : ValidationRule) (k : Key) (o : Object) → is_rule_key n (lower_bytes r.name) k ≡ false
         → rule_at n k (with_validation_rule r o) ≡ rule_at n k o }
 

@@ -1,6 +1,6 @@
 //! Bodies of requests, and what each says; `none` if it isn't of its form.
 
-use api_input::{new_access, new_field, new_object};
+use api_input::{new_field, new_object};
 use base_value::{Access, FieldType, OnDelete, Text};
 use model::{NewField, NewMaster, NewObject, SpelledType};
 use std::alloc::{AllocError, Global};
@@ -16,7 +16,8 @@ fn join(alloc: Global, texts: &[Text], between: &str) -> Result<String, AllocErr
     Ok(all)
 }
 
-fn access_name(access: Access) -> &'static str {
+/// How an access is written.
+pub(crate) fn access_name(access: Access) -> &'static str {
     match access {
         Access::Private => "Private",
         Access::Read => "Read",
@@ -36,11 +37,16 @@ fn shown_object(alloc: Global, new: &NewObject) -> Result<String, AllocError> {
     let members = join(alloc, new.members.as_slice(), " ")?;
     let name = new.name.as_str();
     let access = access_name(new.access);
+    let hierarchy = if new.hierarchy {
+        ""
+    } else {
+        " without hierarchy"
+    };
     let master = match &new.master {
         Some(master) => shown_master(alloc, master)?,
         None => String::new(alloc),
     };
-    format!(in alloc; "{name} {access} [{members}]{master}")
+    format!(in alloc; "{name} {access}{hierarchy} [{members}]{master}")
 }
 
 fn shown_picklist(alloc: Global, values: &[Text]) -> Result<String, AllocError> {
@@ -105,18 +111,11 @@ fn shown_field(alloc: Global, new: &NewField) -> Result<String, AllocError> {
     format!(in alloc; "{object} {name} {kind}{flags} [{members}]")
 }
 
-/// A new object: its name, its access, the names of all members, and of a detail the field, the parent and the child.
+/// A new object: its name, its access, that its records aren't for those above in the hierarchy, the names of all members, and
+/// of a detail the field, the parent and the child.
 pub(crate) fn object(alloc: Global, body: &[u8]) -> Result<String, AllocError> {
     match new_object(alloc, body)? {
         Some(new) => shown_object(alloc, &new),
-        None => String::from_str(alloc, "none"),
-    }
-}
-
-/// Another default access.
-pub(crate) fn access(alloc: Global, body: &[u8]) -> Result<String, AllocError> {
-    match new_access(alloc, body)? {
-        Some(access) => String::from_str(alloc, access_name(access)),
         None => String::from_str(alloc, "none"),
     }
 }

@@ -6,6 +6,7 @@
 #![tactic(auto)]
 
 mod bodies;
+mod changes;
 mod line;
 mod names;
 mod people;
@@ -51,16 +52,25 @@ fn sharing_call(alloc: Global, call: &str, bytes: &[u8]) -> Result<Option<String
     }
 }
 
-// What a call on the body of a user, a role or a group returns.
+// What a call on the body of a change returns.
+fn change_call(alloc: Global, call: &str, bytes: &[u8]) -> Result<Option<String>, AllocError> {
+    match call {
+        "object-change" => changes::object(alloc, bytes).map(Some),
+        "user-change" => changes::user(alloc, bytes).map(Some),
+        "role-change" => changes::role(alloc, bytes).map(Some),
+        "group-change" => changes::group(alloc, bytes).map(Some),
+        "organisation" => changes::organisation(alloc, bytes).map(Some),
+        _ => sharing_call(alloc, call, bytes),
+    }
+}
+
+// What a call on the body of a new user, a new role or a new group returns.
 fn people_call(alloc: Global, call: &str, bytes: &[u8]) -> Result<Option<String>, AllocError> {
     match call {
         "user" => people::user(alloc, bytes).map(Some),
-        "user-role" => people::user_role(alloc, bytes).map(Some),
         "role" => people::role(alloc, bytes).map(Some),
-        "role-parent" => people::parent(alloc, bytes).map(Some),
         "group" => people::group(alloc, bytes).map(Some),
-        "members" => people::members(alloc, bytes).map(Some),
-        _ => sharing_call(alloc, call, bytes),
+        _ => change_call(alloc, call, bytes),
     }
 }
 
@@ -70,7 +80,6 @@ fn bytes_call(alloc: Global, call: &str, bytes: &[u8]) -> Result<Option<String>,
         "csv" => tables::all_records(alloc, bytes).map(Some),
         "csv-first" => tables::first_record(alloc, bytes).map(Some),
         "object" => bodies::object(alloc, bytes).map(Some),
-        "access" => bodies::access(alloc, bytes).map(Some),
         "field" => bodies::field(alloc, bytes).map(Some),
         "values" => values::values(alloc, bytes).map(Some),
         _ => people_call(alloc, call, bytes),

@@ -1,6 +1,6 @@
-//! Bodies of users, roles and groups, and what each says; `none` if it isn't of its form.
+//! Bodies of new users, roles and groups, and what each says; `none` if it isn't of its form.
 
-use api_input::{group_members, new_group, new_role, new_user, parent_of_role, role_of_user};
+use api_input::{new_group, new_role, new_user};
 use base_value::Text;
 use model::{NewUser, PrincipalKind, Spelled};
 use std::alloc::{AllocError, Global};
@@ -29,14 +29,6 @@ pub(crate) fn user(alloc: Global, body: &[u8]) -> Result<String, AllocError> {
     }
 }
 
-/// Another role of a user.
-pub(crate) fn user_role(alloc: Global, body: &[u8]) -> Result<String, AllocError> {
-    match role_of_user(alloc, body)? {
-        Some(new) => String::from_str(alloc, id_or_none(&new.role)),
-        None => String::from_str(alloc, "none"),
-    }
-}
-
 /// A new role: the name, and the parent.
 pub(crate) fn role(alloc: Global, body: &[u8]) -> Result<String, AllocError> {
     match new_role(alloc, body)? {
@@ -45,14 +37,6 @@ pub(crate) fn role(alloc: Global, body: &[u8]) -> Result<String, AllocError> {
             let parent = id_or_none(&new.parent);
             format!(in alloc; "{name} {parent}")
         }
-        None => String::from_str(alloc, "none"),
-    }
-}
-
-/// Another parent of a role.
-pub(crate) fn parent(alloc: Global, body: &[u8]) -> Result<String, AllocError> {
-    match parent_of_role(alloc, body)? {
-        Some(new) => String::from_str(alloc, id_or_none(&new.parent)),
         None => String::from_str(alloc, "none"),
     }
 }
@@ -84,7 +68,8 @@ pub(crate) fn spelled(alloc: Global, principal: &Spelled) -> Result<String, Allo
     format!(in alloc; "{kind} {text}")
 }
 
-fn shown_members(alloc: Global, members: &[Spelled]) -> Result<String, AllocError> {
+/// The members of a group: of each the kind, and the text of its id.
+pub(crate) fn shown_members(alloc: Global, members: &[Spelled]) -> Result<String, AllocError> {
     let mut out = String::from_str(alloc, "[")?;
     for (at, member) in members.iter().enumerate() {
         if at > 0 {
@@ -95,12 +80,4 @@ fn shown_members(alloc: Global, members: &[Spelled]) -> Result<String, AllocErro
     }
     out.push_str("]")?;
     Ok(out)
-}
-
-/// The members of a group: of each the kind, and the text of its id.
-pub(crate) fn members(alloc: Global, body: &[u8]) -> Result<String, AllocError> {
-    match group_members(alloc, body)? {
-        Some(members) => shown_members(alloc, members.as_slice()),
-        None => String::from_str(alloc, "none"),
-    }
 }

@@ -16,6 +16,8 @@ fn texts(route: &Route) -> [&str; 3] {
         | Route::RemoveSharingRule { name: one }
         | Route::SetUser { id: one }
         | Route::SetRole { id: one }
+        | Route::RemoveRole { id: one }
+        | Route::RemoveGroup { id: one }
         | Route::SetGroup { id: one } => [one.as_str(), "", ""],
         Route::Update {
             object: one,

@@ -38,7 +38,8 @@ pub record MayMake (rights : UserRights) (l : Layout) (steps : List Step) (q : O
 -- what is made without a look at the tables is what is known of these
 abbrev pub MakesOwn : UserRights → Layout → List Step → Result OwnLevels CodecFail → Type 0
 MakesOwn rights l steps (Ok own) =
-    (q : OrgPlan) (t : Tenant) (u : User) → MayMake rights l steps q t u → OwnAt t u (end_of l.object steps) own
+    (q : OrgPlan) (t : Tenant) (u : User) → MayMake rights l steps q t u
+    → OwnAt rights.sharer.people t u (end_of l.object steps) own
 MakesOwn rights l steps (Err codec.Damaged) = (q : OrgPlan) (t : Tenant) (u : User) → MayMake rights l steps q t u → ⊥
 MakesOwn rights l steps (Err codec.Memory) = Unit {0}
 
@@ -61,7 +62,7 @@ pub record MayClimb (s : UserSight) (org : ℕ) (steps : List Step) (r : Record)
   pub granted : IsUserRights t u s.rights.now
   pub has : Has t.records r
   pub leads : Leads q t org (object_number r.id) steps
-  pub own_end : OwnAt t u (end_of (object_number r.id) steps) s.own
+  pub own_end : OwnAt s.rights.now.sharer.people t u (end_of (object_number r.id) steps) s.own
   pub shares : s.shared ≡ false → t.shares ≡ []
 
 -- as far as it is asked for, it is the level on the record, through at least so many masters
@@ -81,7 +82,7 @@ pub record MayJudge (rights : UserRights) (l : Layout) (r : Record) (q : OrgPlan
 -- the same, and what is known of the object of its topmost masters and of shares is so
 pub record MaySee (s : UserSight) (l : Layout) (r : Record) (q : OrgPlan) (t : Tenant) (u : User) : Type 0 where
   pub may : MayJudge s.rights.now l r q t u
-  pub own_top : OwnAt t u (topmost (limit_number limit.DetailLevels) t.objects l.object) s.own
+  pub own_top : OwnAt s.rights.now.sharer.people t u (topmost (limit_number limit.DetailLevels) t.objects l.object) s.own
   pub shares : s.shared ≡ false → t.shares ≡ []
 
 -- as far as it is asked for, it is the level on the record

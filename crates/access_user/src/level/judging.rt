@@ -1,20 +1,21 @@
 //! The level on a record.
 
-ghost use Rattle.std.specs.Prelude.{◌≡◌, ℕ, IfOk, Some, map, true};
+ghost use Rattle.std.specs.Prelude.{◌≡◌, ℕ, Bool, IfOk, IfSome, Some, map, option_copied, true};
 ghost use Rattle.access_closure.specs.Keyrings.{IsMembershipOf, IsUserAmong};
-ghost use Rattle.model.specs.Levels.{greatest, own_level, owns};
+ghost use Rattle.model.specs.Levels.{greatest, has_hierarchy, own_level, owns};
 ghost use Rattle.model.specs.Membership.{Has};
 ghost use Rattle.model.specs.Objects.{object_number, object_of_record};
 ghost use Rattle.model.specs.Shares.{shares_of};
 ghost use Rattle.model.specs.Tenant.{Object, Tenant, User};
 ghost use Rattle.model.specs.declared.record.Record.{Record};
-ghost use Rattle.access_user.specs.level.Own.{IsOwnLevels, IsSharerOf, level_apart};
+ghost use Rattle.access_user.specs.level.Own.{IsOwnLevels, IsSharerOf, MembersFor, level_apart};
 ghost use Rattle.access_user.specs.level.inner.Parts.{by_criterion, by_owner_rule, by_share, rules_on_owner};
 ghost use Rattle.store_abstraction.specs.Metadata.{row_of_share};
 ghost use Rattle.base_value.specs.declared.sharing.Level.TheVariants.{Full};
 
 use crate::level::knowing::{Criterion, OwnLevels, OwnerRule};
 use crate::level::levels::greater;
+use crate::level::reaching::{owns_id, reaches};
 use access_closure::{Membership, Sharer};
 use base_value::{Id, Level};
 use formula::{Record as Values, holds};
@@ -46,10 +47,11 @@ fn by_each_criterion(criteria: &[Criterion], values: &Values) -> Level
 }
 
 // What a share gives the user.
-fn by_share(sharer: &Sharer, share: &ShareRow) -> Level
-    ensures { (org : ℕ) (t : Tenant) (u : User) → IsSharerOf org t u sharer.now → result ≡ by_share t u share.now }
+fn by_share(sharer: &Sharer, members: Option<&Membership>, share: &ShareRow) -> Level
+    ensures { (hierarchy : Bool) (org : ℕ) (t : Tenant) (u : User) → IsSharerOf org t u sharer.now
+        → MembersFor hierarchy sharer.now.people u.id (option_copied members.entry) → result ≡ by_share hierarchy t u share.now }
 {
-    if sharer.reaches(&share.to) {
+    if reaches(sharer, members, &share.to) {
         share.level
     } else {
         Level::Nothing
@@ -57,11 +59,16 @@ fn by_share(sharer: &Sharer, share: &ShareRow) -> Level
 }
 
 // The greatest that these shares give the user.
-fn by_shares(sharer: &Sharer, shares: &[ShareRow]) -> Level
-    ensures { (org : ℕ) (t : Tenant) (u : User) → IsSharerOf org t u sharer.now → result ≡ greatest (map (by_share t u) shares.now) }
+fn by_shares(sharer: &Sharer, members: Option<&Membership>, shares: &[ShareRow]) -> Level
+    ensures { (hierarchy : Bool) (org : ℕ) (t : Tenant) (u : User) → IsSharerOf org t u sharer.now
+        → MembersFor hierarchy sharer.now.people u.id (option_copied members.entry)
+        → result ≡ greatest (map (by_share hierarchy t u) shares.now) }
 {
     match shares.split_first() {
-        Some((first, rest)) => greater(by_share(sharer, first), by_shares(sharer, rest)),
+        Some((first, rest)) => greater(
+            by_share(sharer, members, first),
+            by_shares(sharer, members, rest),
+        ),
         None => Level::Nothing,
     }
 }
@@ -125,14 +132,17 @@ fn by_owner(
     }
 }
 
-/// Whether a record with this owner is the user's, or of a user below. Then the user has it in full.
-pub fn owns(sharer: &Sharer, owner: Option<Id>) -> bool
-    ensures value { (org : ℕ) (t : Tenant) (u : User) (r : Record) → IsSharerOf org t u sharer.now → r.owner ≡ owner → result ≡ owns t u r }
-    ensures full { (org : ℕ) (t : Tenant) (u : User) (r : Record) → IsSharerOf org t u sharer.now → r.owner ≡ owner → result ≡ true
+/// Whether a record with this owner is the user's, or, where the role hierarchy counts, of a user below. Then the user has it in full.
+/// Of the object of a record that has no owner nothing has to be known.
+pub fn owns(sharer: &Sharer, members: Option<&Membership>, owner: Option<Id>) -> bool
+    ensures value { (org : ℕ) (t : Tenant) (u : User) (r : Record) → IsSharerOf org t u sharer.now → r.owner ≡ owner
+        → IfSome owner (λ _. MembersFor (has_hierarchy t r) sharer.now.people u.id (option_copied members.entry)) → result ≡ owns t u r }
+    ensures full { (org : ℕ) (t : Tenant) (u : User) (r : Record) → IsSharerOf org t u sharer.now → r.owner ≡ owner
+        → IfSome owner (λ _. MembersFor (has_hierarchy t r) sharer.now.people u.id (option_copied members.entry)) → result ≡ true
         → own_level t u r ≡ Full }
 {
     match owner {
-        Some(owner) => sharer.owns(&owner),
+        Some(owner) => owns_id(sharer, members, &owner),
         None => false,
     }
 }
@@ -150,9 +160,10 @@ pub fn level_apart(
     item: Record,
 ) -> Result<Level, AllocError>
     ensures { IfOk result (λ level. (org : ℕ) (t : Tenant) (u : User) (o : Object) → IsSharerOf org t u sharer.now → Has t.records item
-        → object_of_record t item ≡ Some o → IsOwnLevels t u (object_number item.id) o own.now → level ≡ level_apart t u item) }
+        → object_of_record t item ≡ Some o → IsOwnLevels sharer.now.people t u (object_number item.id) o own.now
+        → level ≡ level_apart t u item) }
 {
-    if owns(sharer, item.owner) {
+    if owns(sharer, own.members.as_ref(), item.owner) {
         return Ok(Level::Full);
     }
     let by_owner = by_owner(alloc, sharer, own.owners.as_slice(), &item)?;
@@ -163,11 +174,12 @@ pub fn level_apart(
     Ok(greater(own.base, greater(by_owner, by_criteria)))
 }
 
-/// The level of the user on a record, by the user's keyring with the people, the level without the record's shares, and the rows of
-/// these.
-pub fn level_with(sharer: &Sharer, apart: Level, shares: &[ShareRow]) -> Level
-    ensures { (org its : ℕ) (t : Tenant) (u : User) (r : Record) → IsSharerOf org t u sharer.now → apart ≡ level_apart t u r
+/// The level of the user on a record of the object, by the user's keyring with the people, what is known of the object, the level
+/// without the record's shares, and the rows of these.
+pub fn level_with(sharer: &Sharer, own: &OwnLevels, apart: Level, shares: &[ShareRow]) -> Level
+    ensures { (org its : ℕ) (t : Tenant) (u : User) (o : Object) (r : Record) → IsSharerOf org t u sharer.now
+        → object_of_record t r ≡ Some o → IsOwnLevels sharer.now.people t u (object_number r.id) o own.now → apart ≡ level_apart t u r
         → shares.now ≡ map (row_of_share its) (shares_of r.id t.shares) → result ≡ own_level t u r }
 {
-    greater(apart, by_shares(sharer, shares))
+    greater(apart, by_shares(sharer, own.members.as_ref(), shares))
 }

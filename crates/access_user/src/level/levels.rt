@@ -6,6 +6,7 @@ ghost use Rattle.model.specs.Levels.{at_least, own_level, rank};
 ghost use Rattle.model.specs.Objects.{object_number, object_of_record};
 ghost use Rattle.model.specs.Tenant.{Object, Tenant, User};
 ghost use Rattle.base_value.specs.declared.sharing.Level.TheVariants.{Read};
+ghost use Rattle.access_closure.specs.declared.people.People.{People};
 ghost use Rattle.access_user.specs.level.Own.{IsOwnLevels, greater, is_open, level_apart, up_to};
 
 use crate::level::knowing::{OwnLevels, by_access};
@@ -40,8 +41,8 @@ pub fn is_open(access: Access) -> bool
 
 /// Whether every user may read all records of an object, whoever asks.
 pub fn is_readable_by_all(own: &OwnLevels) -> bool
-    ensures { (t : Tenant) (u : User) (o : Object) (r : Record) → result ≡ true → object_of_record t r ≡ Some o
-        → IsOwnLevels t u (object_number r.id) o own.now → at_least Read (own_level t u r) ≡ true }
+    ensures { (people : People) (t : Tenant) (u : User) (o : Object) (r : Record) → result ≡ true → object_of_record t r ≡ Some o
+        → IsOwnLevels people t u (object_number r.id) o own.now → at_least Read (own_level t u r) ≡ true }
 {
     rank(Level::Read) <= rank(own.base)
 }

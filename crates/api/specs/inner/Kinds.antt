@@ -34,6 +34,9 @@ made_with kind.AddRole q a b c = route.AddRole
 made_with kind.SetRole q a b c = route.SetRole a
 made_with kind.AddGroup q a b c = route.AddGroup
 made_with kind.SetGroup q a b c = route.SetGroup a
+made_with kind.RemoveRole q a b c = route.RemoveRole a
+made_with kind.RemoveGroup q a b c = route.RemoveGroup a
+made_with kind.SetOrganisation q a b c = route.SetOrganisation
 made_with kind.BeginRetype q a b c = route.BeginRetype
 made_with kind.GetRetype q a b c = route.GetRetype
 made_with kind.CancelRetype q a b c = route.CancelRetype
@@ -68,8 +71,11 @@ kind_lines =
     ∷ kind_line (codes "PATCH") place.User kind.SetUser
     ∷ kind_line (codes "POST") place.Roles kind.AddRole
     ∷ kind_line (codes "PATCH") place.Role kind.SetRole
+    ∷ kind_line (codes "DELETE") place.Role kind.RemoveRole
     ∷ kind_line (codes "POST") place.Groups kind.AddGroup
     ∷ kind_line (codes "PATCH") place.Group kind.SetGroup
+    ∷ kind_line (codes "DELETE") place.Group kind.RemoveGroup
+    ∷ kind_line (codes "PATCH") place.Organisation kind.SetOrganisation
     ∷ kind_line (codes "POST") place.Retype kind.BeginRetype
     ∷ kind_line (codes "GET") place.Retype kind.GetRetype
     ∷ kind_line (codes "DELETE") place.Retype kind.CancelRetype

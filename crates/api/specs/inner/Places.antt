@@ -40,6 +40,7 @@ pieces_of place.Roles = in_admin (text (codes "roles") ∷ [])
 pieces_of place.Role = in_admin (text (codes "roles") ∷ param ∷ [])
 pieces_of place.Groups = in_admin (text (codes "groups") ∷ [])
 pieces_of place.Group = in_admin (text (codes "groups") ∷ param ∷ [])
+pieces_of place.Organisation = in_admin (text (codes "organisation") ∷ [])
 pieces_of place.Retype = in_admin (text (codes "retype") ∷ [])
 
 -- ---- how a router spells a pattern
@@ -78,12 +79,14 @@ places =
     place.Query ∷ place.Object ∷ place.Record ∷ place.External ∷ place.Shares ∷ place.Share
     ∷ place.Objects ∷ place.ObjectNamed ∷ place.Fields ∷ place.ValidationRules ∷ place.ValidationRule
     ∷ place.SharingRules ∷ place.SharingRule
-    ∷ place.Users ∷ place.User ∷ place.Roles ∷ place.Role ∷ place.Groups ∷ place.Group ∷ place.Retype ∷ []
+    ∷ place.Users ∷ place.User ∷ place.Roles ∷ place.Role ∷ place.Groups ∷ place.Group ∷ place.Organisation
+    ∷ place.Retype ∷ []
 
 -- in the order of a router: byte by byte, and a longer pattern before one that is its beginning
 abbrev pub ordered_places : List Place
 ordered_places =
-    place.Fields ∷ place.Group ∷ place.Groups ∷ place.ObjectNamed ∷ place.Objects ∷ place.Retype ∷ place.Role ∷ place.Roles
+    place.Fields ∷ place.Group ∷ place.Groups ∷ place.ObjectNamed ∷ place.Objects ∷ place.Organisation ∷ place.Retype
+    ∷ place.Role ∷ place.Roles
     ∷ place.SharingRule ∷ place.SharingRules ∷ place.User ∷ place.Users ∷ place.ValidationRule ∷ place.ValidationRules
     ∷ place.Query ∷ place.Share ∷ place.Shares ∷ place.External ∷ place.Record ∷ place.Object ∷ []
 

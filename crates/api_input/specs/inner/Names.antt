@@ -5,6 +5,7 @@ use Rattle.api_input.specs.declared.name.Name.TheVariants as name
 
 abbrev pub name_of : Name → List ℕ
 name_of name.Access = codes "access"
+name_of name.Active = codes "active"
 name_of name.Admin = codes "admin"
 name_of name.Child = codes "child"
 name_of name.Decimals = codes "decimals"
@@ -12,6 +13,7 @@ name_of name.Digits = codes "digits"
 name_of name.Field = codes "field"
 name_of name.Formula = codes "formula"
 name_of name.From = codes "from"
+name_of name.Hierarchy = codes "hierarchy"
 name_of name.Indexed = codes "indexed"
 name_of name.Kind = codes "kind"
 name_of name.Length = codes "length"

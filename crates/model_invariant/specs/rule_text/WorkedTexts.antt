@@ -1,5 +1,5 @@
 -- Objects and formulas for rows worked by hand. A reader of the rules may pass them over.
-use Rattle.std.specs.Prelude.{ℕ, false, List, [], ◌∷◌, ◌++◌, codes, None, Result}
+use Rattle.std.specs.Prelude.{ℕ, true, false, List, [], ◌∷◌, ◌++◌, codes, None, Result}
 use Rattle.base_value.specs.declared.sharing.Access.TheVariants as access
 use Rattle.base_value.specs.declared.value.FieldType.{FieldType}
 use Rattle.base_value.specs.declared.value.FieldType.TheVariants as type
@@ -21,7 +21,7 @@ amount = custom_field (codes "Amount__c") (type.Number 18 2)
 
 -- how a text is read in a validation rule of an object with these custom fields
 abbrev pub read_over : List Field → List ℕ → Result Formula ℕ
-read_over fields text = reads_text (record { name = codes "Deal__c"; access = access.Private; fields = fields; validation_rules = [] }) false text
+read_over fields text = reads_text (record { name = codes "Deal__c"; access = access.Private; hierarchy = true; fields = fields; validation_rules = [] }) false text
 
 -- the field at this position is over 5
 abbrev pub over_five : ℕ → Formula

@@ -1,20 +1,28 @@
 -- What changes of users, roles and groups are judged by, and the rows that they put. No public contract reaches these words.
 -- Source: Salesforce, "UserRole": the hierarchy of roles. The order of the rules is this product's own.
-use Rattle.std.specs.Prelude.{◌≡◌, ◌||◌, ℕ, suc, Bool, List, length, map, bytes_eq, Option, Some, None, is_none, Result, Ok, Err}
-use Rattle.std.specs.List.{find}
-use Rattle.std.specs.Option.{option_and_then, option_map}
+use Rattle.std.specs.Prelude.{◌≡◌, ◌||◌, ◌&&◌, ℕ, suc, Bool, not, IsTrue, List, [], ◌∷◌, length, map, codes, bytes_eq, encode_utf8_all, Option, Some, None, IfSome, is_none, unwrap_or, Result, Ok, Err}
+use Rattle.std.specs.List.{find, list_any}
+use Rattle.std.specs.Option.{option_and_then}
+use Rattle.sha2.specs.Sha256.{sha256}
+use Rattle.base_value.specs.declared.sharing.Principal.{Principal}
 use Rattle.store_rows.specs.declared.fail.StoreFail.{StoreFail}
 use Rattle.store_rows.specs.declared.group.GroupRow.{GroupRow}
 use Rattle.store_rows.specs.declared.role.RoleRow.{RoleRow}
 use Rattle.store_rows.specs.declared.user.UserRow.{UserRow}
 use Rattle.model.specs.Cases.{in_case}
-use Rattle.model.specs.declared.refusal.Refusal.TheVariants.{InvalidReference, NotFound}
+use Rattle.model.specs.declared.refusal.Refusal.TheVariants.{InvalidReference, LastAdministrator, NotFound}
+use Rattle.model.specs.declared.limit.Limit.TheVariants as limit
 use Rattle.model.specs.Membership.{is_below, is_below_within}
-use Rattle.model.specs.declared.people_bodies.Spelled.{Spelled}
-use Rattle.model.specs.Principals.{group_at, principal_of, role_at, spelled_id}
-use Rattle.model.specs.Rules.{Rule, refuse_if}
-use Rattle.model.specs.Tenant.{Group, Role, Tenant, User}
+use Rattle.model.specs.declared.people_bodies.GroupChange.{GroupChange}
+use Rattle.model.specs.declared.people_bodies.RoleChange.{RoleChange}
+use Rattle.model.specs.declared.people_bodies.UserChange.{UserChange}
+use Rattle.model.specs.Organisations.{is_secret}
+use Rattle.model.specs.People.{bad_name_if_any, changed_group, changed_role, changed_user}
+use Rattle.model.specs.Principals.{group_at, not_there, role_at, spelled_id}
+use Rattle.model.specs.Rules.{Rule, first_of, over_limit, refuse_if}
+use Rattle.model.specs.Tenant.{Tenant}
 use Rattle.model.specs.World.{user_at}
+use Rattle.people_edit.specs.inner.Judging.{lacks_role}
 use Rattle.store_abstraction.specs.declared.fail.EditFail.{EditFail}
 use Rattle.store_abstraction.specs.declared.fail.EditFail.TheVariants.{Refused, Store}
 use Rattle.store_abstraction.specs.Metadata.{group_of, role_of, user_of}
@@ -33,24 +41,51 @@ pub record IsRowAs {X U : Type 0} (made : X → U) (there : Option X) (row : U) 
   pub is_there : there ≡ Some it
   pub is : row ≡ made it
 
--- the row of a user with another role, of a role with another above it, and of a group with other members
-abbrev pub with_role : (role : Option (List ℕ)) → User → User
-with_role role u = record u { role = option_map spelled_id role }
+-- the row of a user, of a role and of a group with what a body says of it; the role or the members that it says are these
+abbrev pub user_row_with : UserChange → (named : Option (List ℕ)) → UserRow → UserRow
+user_row_with b named row =
+    record row {
+      name = unwrap_or b.name row.name;
+      digest = in_case b.secret row.digest (λ s. sha256 (encode_utf8_all s));
+      role = in_case b.role row.role (λ x. named);
+      admin = unwrap_or b.admin row.admin;
+      active = unwrap_or b.active row.active;
+    }
 
-abbrev pub with_parent : (parent : Option (List ℕ)) → Role → Role
-with_parent parent r = record r { parent = option_map spelled_id parent }
+abbrev pub role_row_with : RoleChange → (named : Option (List ℕ)) → RoleRow → RoleRow
+role_row_with b named row = record row { name = unwrap_or b.name row.name; parent = in_case b.parent row.parent (λ x. named) }
 
-abbrev pub with_members : List Spelled → Group → Group
-with_members members g = record g { members = map principal_of members }
+abbrev pub group_row_with : GroupChange → (named : List Principal) → GroupRow → GroupRow
+group_row_with b named row = record row { name = unwrap_or b.name row.name; members = in_case b.members row.members (λ x. named) }
 
-abbrev pub IsChangedUser : (org : ℕ) → Tenant → (user : List ℕ) → (role : Option (List ℕ)) → UserRow → Type 0
-IsChangedUser org t user role = IsRowAs (λ u. user_of org (with_role role u)) (user_at t.users (spelled_id user))
+-- the secret, if a body says one, is one: its characters are its bytes
+abbrev pub HasSecret : UserChange → Type 0
+HasSecret b = IfSome b.secret (λ s. IsTrue (is_secret s))
 
-abbrev pub IsChangedRole : (org : ℕ) → Tenant → (role : List ℕ) → (parent : Option (List ℕ)) → RoleRow → Type 0
-IsChangedRole org t role parent = IsRowAs (λ r. role_of org (with_parent parent r)) (role_at t (spelled_id role))
+abbrev pub IsChangedUser : (org : ℕ) → Tenant → (user : List ℕ) → UserChange → UserRow → Type 0
+IsChangedUser org t user b row = HasSecret b → IsRowAs (λ u. user_of org (changed_user b u)) (user_at t.users (spelled_id user)) row
 
-abbrev pub IsChangedGroup : (org : ℕ) → Tenant → (group : List ℕ) → List Spelled → GroupRow → Type 0
-IsChangedGroup org t group members = IsRowAs (λ g. group_of org (with_members members g)) (group_at t (spelled_id group))
+abbrev pub IsChangedRole : (org : ℕ) → Tenant → (role : List ℕ) → RoleChange → RoleRow → Type 0
+IsChangedRole org t role b = IsRowAs (λ r. role_of org (changed_role b r)) (role_at t (spelled_id role))
+
+abbrev pub IsChangedGroup : (org : ℕ) → Tenant → (group : List ℕ) → GroupChange → GroupRow → Type 0
+IsChangedGroup org t group b = IsRowAs (λ g. group_of org (changed_group b g)) (group_at t (spelled_id group))
+
+-- ---- who administers, by the rows of users
+
+-- the row of an active administrator
+abbrev pub row_administers : UserRow → Bool
+row_administers row = row.active && row.admin
+
+-- the same of another user than the one with this id
+abbrev pub is_another : (id : List ℕ) → UserRow → Bool
+is_another i row = row_administers row && not (bytes_eq row.id i)
+
+-- LAST_ADMINISTRATOR: where the row of an active administrator becomes this one, nobody who is active administers the organisation.
+-- Where the user was none, somebody else is: in a sound organisation this is the model's rule (`no_administrator`)
+abbrev pub none_administers : (org : ℕ) → Tenant → (administered : Bool) → UserRow → Rule
+none_administers org t administered row =
+    refuse_if (administered && not (row_administers row || list_any (is_another row.id) (map (user_of org) t.users))) LastAdministrator
 
 -- ---- the hierarchy of roles, by their rows
 
@@ -72,3 +107,22 @@ is_bad_above roles role parent =
 abbrev pub bad_parent_id : Tenant → (member : List ℕ) → (role : List ℕ) → (parent : Option (List ℕ)) → Rule
 bad_parent_id t member role parent =
     in_case parent None (λ p. refuse_if (is_none (role_at t p) || (bytes_eq p role || is_below t p role)) (InvalidReference member))
+
+-- ---- what a change of a row is judged by, where what it names is this
+
+abbrev pub user_row_rules : (org : ℕ) → Tenant → UserRow → UserChange → (named : Option (List ℕ)) → List Rule
+user_row_rules org t row b named =
+    bad_name_if_any b.name
+    ∷ lacks_role t (codes "role") named
+    ∷ none_administers org t (row_administers row) (user_row_with b named row)
+    ∷ []
+
+abbrev pub role_row_rules : Tenant → RoleRow → RoleChange → (named : Option (List ℕ)) → List Rule
+role_row_rules t row b named = bad_name_if_any b.name ∷ bad_parent_id t (codes "parent") row.id named ∷ []
+
+abbrev pub group_row_rules : Tenant → GroupChange → (named : List Principal) → List Rule
+group_row_rules t b named =
+    bad_name_if_any b.name
+    ∷ first_of (not_there t (codes "members")) named
+    ∷ over_limit ((limit.MembersPerGroup, length named) ∷ [])
+    ∷ []

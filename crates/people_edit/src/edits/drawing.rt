@@ -1,6 +1,6 @@
 //! What every new user, role and group is judged by and is given.
 
-ghost use Rattle.std.specs.Prelude.{◌≡◌, ◌+◌, ◌<◌, ◌∷◌, [], IfOk, IfErr, IfSome, IsTrue, Some};
+ghost use Rattle.std.specs.Prelude.{◌≡◌, ◌+◌, ◌<◌, ◌∷◌, [], IfOk, IfErr, IfSome, Some};
 ghost use Rattle.std.specs.Option.{option_copied, option_map};
 ghost use Rattle.store_edit.specs.Rows.{AreSpelled, change_to};
 ghost use Rattle.store_kv.specs.Draft.{DraftTells, tables_of};
@@ -8,10 +8,8 @@ ghost use Rattle.store_rows.specs.declared.fail.StoreFail.TheVariants.{Memory};
 ghost use Rattle.store_rows.specs.Forms.{FitsForm};
 ghost use Rattle.store_rows.specs.Rows.{org_form};
 ghost use Rattle.model.specs.Limits.{limit_number};
-ghost use Rattle.model.specs.Names.{bad_name};
 ghost use Rattle.model.specs.Principals.{spelled_id};
 ghost use Rattle.model.specs.Rules.{first_refusal, over_limit};
-ghost use Rattle.model.specs.Sound.{is_name};
 ghost use Rattle.model.specs.Tenant.{Tenant};
 ghost use Rattle.model.specs.declared.limit.Limit.TheVariants as limits;
 ghost use Rattle.people_edit.specs.inner.Drawing.{FitsDrawn, HasRoom, IsDrawn, new_rules};
@@ -25,8 +23,9 @@ ghost use Rattle.base_value.specs.Id.{is_id};
 
 use crate::edits::ids::{find_role, id_if_any};
 use crate::edits::kind::{Kind, one_more};
+use crate::edits::names::check_name;
 use base_value::{Id, Text, id_laws};
-use model::{Limit, Refusal, is_name};
+use model::{Limit, Refusal};
 use std::alloc::Global;
 use store_abstraction::{EditFail, call_laws, org_there};
 use store_edit::{Decided, put_row};
@@ -42,20 +41,6 @@ pub(crate) struct Drawn {
     pub id: Id,
     /// The role that is named for it, if one is.
     pub role: Option<Id>,
-}
-
-// Refuses a name that isn't of its form.
-fn check_name(alloc: Global, name: &Text) -> Result<(), EditFail>
-    ensures passes { Passes (bad_name is_name name.now) (λ x. IsTrue (is_name name.now)) result }
-    ensures cause { ended_edit result ≡ fell → ⊥ }
-{
-    if is_name(name.as_str()) {
-        Ok(())
-    } else {
-        Err(EditFail::Refused(Refusal::InvalidName {
-            name: name.copy(alloc)?,
-        }))
-    }
 }
 
 // Refuses one more, of which there are so many, or one id more.

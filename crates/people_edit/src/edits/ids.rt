@@ -4,6 +4,8 @@ ghost use Rattle.std.specs.Prelude.{◌≡◌, IfSome, IsTrue, Some};
 ghost use Rattle.std.specs.Option.{option_copied, option_map};
 ghost use Rattle.std.specs.Str.{chars};
 ghost use Rattle.store_kv.specs.Draft.{DraftTells, tables_of};
+ghost use Rattle.model.specs.Cases.{in_case};
+ghost use Rattle.model.specs.People.{given};
 ghost use Rattle.model.specs.Principals.{bad_id, bad_id_if_any, spelled_id};
 ghost use Rattle.model.specs.Tenant.{Tenant};
 ghost use Rattle.people_edit.specs.inner.Judging.{lacks_role};
@@ -54,6 +56,30 @@ pub(crate) fn id_if_any(alloc: Global, text: Option<&Text>) -> Result<Option<Id>
     match text {
         None => Ok(None),
         Some(text) => Ok(Some(id_of(alloc, text)?)),
+    }
+}
+
+/// The text of the id that a body says, if it says one.
+pub(crate) fn id_given(said: &Option<Option<Text>>) -> Option<&Text>
+    ensures { option_copied result ≡ given said.now }
+{
+    match said {
+        Some(Some(text)) => Some(text),
+        Some(None) | None => None,
+    }
+}
+
+/// The id that a body's text spells, or that there is none; where the body doesn't say it, the one that there was.
+pub(crate) fn id_or(
+    said: &Option<Option<Text>>,
+    named: Option<Id>,
+    before: Option<Id>,
+) -> Option<Id>
+    ensures { result ≡ in_case said.now before (λ x. named) }
+{
+    match said {
+        None => before,
+        Some(_) => named,
     }
 }
 

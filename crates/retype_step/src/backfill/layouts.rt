@@ -79,6 +79,7 @@ pub(crate) fn come_to(
         object: layout.object,
         name,
         access: layout.access,
+        hierarchy: layout.hierarchy,
         fields,
         job,
     })

@@ -13,10 +13,10 @@ use Rattle.model.specs.declared.metadata_bodies.NewMaster.{NewMaster}
 use Rattle.model.specs.declared.metadata_bodies.NewObject.{NewObject}
 use Rattle.store_codec.specs.Plain.{FitsText}
 use Rattle.store_abstraction.specs.Changes.{Change}
-use Rattle.store_abstraction.specs.Metadata.{access_of}
 use Rattle.store_abstraction.specs.declared.layout.Layout.{Layout}
 use Rattle.base_value.specs.declared.value.FieldType.TheVariants as type
 use Rattle.schema_edit.specs.declared.edits.objects.NewRows.{NewRows}
+use Rattle.schema_edit.specs.inner.Access.{spelled_access}
 use Rattle.schema_edit.specs.inner.Relations.{layout_by_name}
 use Rattle.schema_edit.specs.inner.Rows.{field_row}
 
@@ -43,7 +43,7 @@ new_object_row org n field b =
       org = org;
       object = n;
       name = b.name;
-      access = access_of b.access;
+      access = spelled_access b.access b.hierarchy;
       records = 0;
       fields = if is_some field then 1 else 0;
       validation_rules = 0;

@@ -14,6 +14,7 @@ ghost use Rattle.store_abstraction.specs.Fails.{of_store};
 ghost use Rattle.store_abstraction.specs.Records.{with_slot};
 
 use crate::edits::accepting::accepting_layouts;
+use crate::edits::access::spelled_access;
 use crate::edits::copies::copy_of_text;
 use crate::relations;
 use base_value::FieldType;
@@ -21,7 +22,7 @@ use model::{NewMaster, NewObject};
 use model_invariant::objects_sound;
 use std::alloc::{AllocError, Global};
 use store_abstraction::{EditFail, Layout, call_laws, metadata_laws, org_there, slot_laws};
-use store_codec::{FieldFlags, ObjectAccess};
+use store_codec::FieldFlags;
 use store_edit::{Decided, Edit, put_row};
 use store_kv::{Change, Draft, Keeper};
 use store_rows::{FieldRow, ObjectRow, OrgRow, StoreFail};
@@ -112,10 +113,7 @@ fn rows_of(
         org: org.org,
         object: number,
         name: copy_of_text(alloc, &new.name)?,
-        access: ObjectAccess {
-            access: new.access,
-            hierarchy: true,
-        },
+        access: spelled_access(new.access, new.hierarchy),
         records: 0,
         fields: u8::from(field.is_some()),
         validation_rules: 0,

@@ -1,14 +1,14 @@
-//! Another default access of an object.
+//! Changes of an object.
 
 ghost use Rattle.std.specs.Prelude.{◌≡◌};
 ghost use Rattle.std.specs.List.{list_any};
 ghost use Rattle.std.specs.Str.{chars};
 ghost use Rattle.schema_edit.specs.Judging.{AcceptsOn, IsNamedLayout};
 ghost use Rattle.model.specs.Fields.{is_master};
-ghost use Rattle.model.specs.Metadata.{set_access};
+ghost use Rattle.model.specs.Metadata.{set_object};
 ghost use Rattle.model.specs.Tenant.{Tenant};
 ghost use Rattle.store_abstraction.specs.Calls.{ended_edit, fell};
-ghost use Rattle.base_value.specs.declared.sharing.Access.{Access};
+ghost use Rattle.model.specs.declared.metadata_bodies.ObjectChange.{ObjectChange};
 
 use crate::references::is_master;
 use base_value::Text;
@@ -24,18 +24,18 @@ fn has_master(fields: &[FieldPlace]) -> bool
     fields.iter().any(|field| is_master(&field.kind))
 }
 
-/// The number of the object with this name, if another access of it isn't refused. The layout is the object's, if there is one.
+/// The number of the object with this name, if a change of it isn't refused. The layout is the object's, if there is one.
 ///
 /// # Errors
 ///
 /// `Refused` as the verdict says, `Store` with `Memory` if out of memory.
-pub(crate) fn judge_access(
+pub(crate) fn judge_change(
     alloc: Global,
     layout: &Option<Layout>,
     object: &str,
 ) -> Result<u16, EditFail>
-    ensures accepts { (t : Tenant) (access : Access) → IsNamedLayout t (chars object.now) layout.now
-        → AcceptsOn t (chars object.now) (set_access t (chars object.now) access) result }
+    ensures accepts { (t : Tenant) (change : ObjectChange) → IsNamedLayout t (chars object.now) layout.now
+        → AcceptsOn t (chars object.now) (set_object t (chars object.now) change) result }
     ensures cause { ended_edit result ≡ fell → ⊥ }
 {
     match layout {

@@ -74,6 +74,7 @@ layout_by org r change q t =
       object = r.object;
       name = r.name;
       access = r.access.access;
+      hierarchy = r.access.hierarchy;
       fields = places_in r.object q t;
       job = option_and_then (job_of_row r.object) change;
     }

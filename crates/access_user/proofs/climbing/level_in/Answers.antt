@@ -26,7 +26,7 @@ returns-in-Ok-clause-finds g c told =
     (MaySee sight l c.args.item) (λ q t u may. may.may)
     (λ q t u s may.
     let led = subst (λ (ss : List Step). Leads q t l.org l.object ss) value (c.in-Ok.ensures.finds tell.0 q t u s (may_step q t u l may.may.granted.sound may.may.layout)) in
-    subst (λ (k : ℕ). OwnAt t u k sight.own) (ends_topmost q t l.org 3 l.object steps few led) may.own_top)
+    subst (λ (k : ℕ). OwnAt sight.rights.now.sharer.people t u k sight.own) (ends_topmost q t l.org 3 l.object steps few led) may.own_top)
     (λ q t u may. may.shares)
     c.level_through.result (c.level_through.ensures.finds tell.1)
 

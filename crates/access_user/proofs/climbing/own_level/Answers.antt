@@ -19,6 +19,6 @@ returns-clause-finds g c told q t u s may =
     let o = object_is t r may.granted.sound may.has in
     let sharer = sharer_of t u rights may.granted in
     ap (up_to c.args.asked)
-    (c.level_with.ensures rights.org c.args.org t u r sharer
+    (c.level_with.ensures rights.org c.args.org t u o.object r sharer o.there (may.own_end o.object o.there)
     (c.in_ok-apart.ensures rights.org t u o.object sharer may.has o.there (may.own_end o.object o.there))
     (c.as_slice.ensures ∙ c.in_ok-shares.ensures.lists told q t s may.shares))

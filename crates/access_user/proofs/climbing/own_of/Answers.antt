@@ -10,5 +10,5 @@ returns-then-as_slice-gt-MOST_FIELDS c q t u may =
 pub returns : goal.returns
 returns c q t u may o there =
     let r = c.args.rights.now in
-    c.in_ok-own_levels.ensures r.org q t u o (sharer_of t u r may.granted)
+    c.in_ok-own_levels.ensures r.org q t u o (sharer_of t u r may.granted) may.granted.user
     (c.as_slice-2.ensures.value ∙ may.granted.rules) there may.layout

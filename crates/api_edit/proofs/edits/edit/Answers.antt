@@ -1,11 +1,11 @@
 use Rattle.std.proofs.Common.{List, ℕ, ap, arith, refl, subst, sym}
 use Rattle.base_lemmas.proofs.Results.{err_from_parts as returned}
 use Rattle.store_kv.specs.Draft.{tables_of}
-use Rattle.model.specs.Metadata.{set_access}
+use Rattle.model.specs.Metadata.{set_object}
 use Rattle.model_requests.specs.RequestOf.{request_of, verdict_or}
 use Rattle.model_requests.specs.Requests.{adds_field, adds_object, adds_validation_rule, sets_object}
 use Rattle.model.specs.Verdict.{done}
-use Rattle.model_requests.specs.declared.route.Route.TheVariants.{AddField, AddGroup, AddObject, AddRole, AddSharingRule, AddUser, AddValidationRule, BeginRetype, CancelRetype, RemoveSharingRule, RemoveValidationRule, SetGroup, SetObject, SetRole, SetUser, Share, Unshare}
+use Rattle.model_requests.specs.declared.route.Route.TheVariants.{AddField, AddGroup, AddObject, AddRole, AddSharingRule, AddUser, AddValidationRule, BeginRetype, CancelRetype, RemoveGroup, RemoveRole, RemoveSharingRule, RemoveValidationRule, SetGroup, SetObject, SetOrganisation, SetRole, SetUser, Share, Unshare}
 use Rattle.api_edit.specs.Administration.{AsksWith}
 use Rattle.api_edit.specs.declared.answer.Answer.TheVariants as answer
 use Rattle.api_edit.specs.inner.Edits.{Anyone, EditsFrom, HasRights}
@@ -31,24 +31,24 @@ returns-in_err-new-in-AddObject-clause-makes g c =
     none_drafts g.K.Keeper.state (record { weaker = laws.weaker; none = laws.none; makes = laws.makes; most = laws.most }) adds_object (request_of AddObject c.args.body.now) fail c.from_residual.result c.args.draft.now
     (returned c.from_residual.result fail c.from_residual.ensures) c.in_err-new-in-AddObject.ensures
 
-pub returns-in_err-access-in-SetObject-clause-what : goal.returns-in_err-access-in-SetObject-clause-what
-returns-in_err-access-in-SetObject-clause-what g c told =
+pub returns-in_err-change-in-SetObject-clause-what : goal.returns-in_err-change-in-SetObject-clause-what
+returns-in_err-change-in-SetObject-clause-what g c told =
     let object = c.in-SetObject.object in
     let caller = c.args.caller.now in
-    let fail = c.in_err-access-in-SetObject.field-0.0 in
-    edits_none (sets_object object) caller.org (AsksWith (g.R.Rights.whose c.args.rights.now) caller c.args.now) c.args.route.now (SetObject object) c.args.body.now fail (tables_of g.K.Keeper.state c.args.draft.now) c.from_residual-in_err-access-in-SetObject.result c.in-SetObject.is
-    (returned c.from_residual-in_err-access-in-SetObject.result fail c.from_residual-in_err-access-in-SetObject.ensures) (c.in_err-access-in-SetObject.ensures object)
+    let fail = c.in_err-change-in-SetObject.field-0.0 in
+    edits_none (sets_object object) caller.org (AsksWith (g.R.Rights.whose c.args.rights.now) caller c.args.now) c.args.route.now (SetObject object) c.args.body.now fail (tables_of g.K.Keeper.state c.args.draft.now) c.from_residual-in_err-change-in-SetObject.result c.in-SetObject.is
+    (returned c.from_residual-in_err-change-in-SetObject.result fail c.from_residual-in_err-change-in-SetObject.ensures) (c.in_err-change-in-SetObject.ensures object)
 
-pub returns-in_err-access-in-SetObject-clause-form : goal.returns-in_err-access-in-SetObject-clause-form
-returns-in_err-access-in-SetObject-clause-form g c = answers_none c.args.route.now c.in_err-access-in-SetObject.field-0.0 c.from_residual-in_err-access-in-SetObject.result (returned c.from_residual-in_err-access-in-SetObject.result c.in_err-access-in-SetObject.field-0.0 c.from_residual-in_err-access-in-SetObject.ensures)
+pub returns-in_err-change-in-SetObject-clause-form : goal.returns-in_err-change-in-SetObject-clause-form
+returns-in_err-change-in-SetObject-clause-form g c = answers_none c.args.route.now c.in_err-change-in-SetObject.field-0.0 c.from_residual-in_err-change-in-SetObject.result (returned c.from_residual-in_err-change-in-SetObject.result c.in_err-change-in-SetObject.field-0.0 c.from_residual-in_err-change-in-SetObject.ensures)
 
-pub returns-in_err-access-in-SetObject-clause-makes : goal.returns-in_err-access-in-SetObject-clause-makes
-returns-in_err-access-in-SetObject-clause-makes g c =
+pub returns-in_err-change-in-SetObject-clause-makes : goal.returns-in_err-change-in-SetObject-clause-makes
+returns-in_err-change-in-SetObject-clause-makes g c =
     let object = c.in-SetObject.object in
     let laws = c.call_laws.ensures in
-    let fail = c.in_err-access-in-SetObject.field-0.0 in
-    none_drafts g.K.Keeper.state (record { weaker = laws.weaker; none = laws.none; makes = laws.makes; most = laws.most }) (sets_object object) (request_of (SetObject object) c.args.body.now) fail c.from_residual-in_err-access-in-SetObject.result c.args.draft.now
-    (returned c.from_residual-in_err-access-in-SetObject.result fail c.from_residual-in_err-access-in-SetObject.ensures) (c.in_err-access-in-SetObject.ensures object)
+    let fail = c.in_err-change-in-SetObject.field-0.0 in
+    none_drafts g.K.Keeper.state (record { weaker = laws.weaker; none = laws.none; makes = laws.makes; most = laws.most }) (sets_object object) (request_of (SetObject object) c.args.body.now) fail c.from_residual-in_err-change-in-SetObject.result c.args.draft.now
+    (returned c.from_residual-in_err-change-in-SetObject.result fail c.from_residual-in_err-change-in-SetObject.ensures) (c.in_err-change-in-SetObject.ensures object)
 
 pub returns-in_err-new-in-AddField-clause-what : goal.returns-in_err-new-in-AddField-clause-what
 returns-in_err-new-in-AddField-clause-what g c told =
@@ -114,21 +114,21 @@ returns-in_ok-new-in-AddObject-clause-makes g c =
     drafts_seen g.K.Keeper.state (record { weaker = laws.weaker; none = laws.none; makes = laws.makes; most = laws.most }) (λ _. answer.Done) _ _ _ c.args.draft.now c.make_edit.new.draft c.make_edit.result c.done.result c.done.ensures
     (omega arith) (omega arith) (omega arith) c.make_edit.ensures.makes
 
-pub returns-in_ok-access-in-SetObject-clause-what : goal.returns-in_ok-access-in-SetObject-clause-what
-returns-in_ok-access-in-SetObject-clause-what g c told =
+pub returns-in_ok-change-in-SetObject-clause-what : goal.returns-in_ok-change-in-SetObject-clause-what
+returns-in_ok-change-in-SetObject-clause-what g c told =
     let caller = c.args.caller.now in
     let body = c.args.body.now in
     let object = c.in-SetObject.object in
-    let access = c.in_ok-access-in-SetObject.access in
-    let asked = c.in_ok-access-in-SetObject.ensures object in
-    edits_asked (λ _. answer.Done) (λ _. done) (λ _. refl) caller.org (AsksWith (g.R.Rights.whose c.args.rights.now) caller c.args.now) c.args.route.now (SetObject object) body (sets_object object access) _ _ _ (tables_of g.K.Keeper.state c.args.draft.now) (tables_of g.K.Keeper.state c.make_edit-in-SetObject.new.draft) c.make_edit-in-SetObject.result c.done-in-SetObject.result
-    c.in-SetObject.is asked c.done-in-SetObject.ensures (λ a. ap (λ (name : List ℕ). set_access a.tenant name access) c.as_str-object.ensures.characters) (λ a. c.refusal_laws.ensures.refused a (sets_object object access)) (λ a sound _. fit c.requests_fit.ensures.request a (SetObject object) body (sets_object object access) sound asked) (c.make_edit-in-SetObject.ensures.what told)
+    let change = c.in_ok-change-in-SetObject.change in
+    let asked = c.in_ok-change-in-SetObject.ensures object in
+    edits_asked (λ _. answer.Done) (λ _. done) (λ _. refl) caller.org (AsksWith (g.R.Rights.whose c.args.rights.now) caller c.args.now) c.args.route.now (SetObject object) body (sets_object object change) _ _ _ (tables_of g.K.Keeper.state c.args.draft.now) (tables_of g.K.Keeper.state c.make_edit-in-SetObject.new.draft) c.make_edit-in-SetObject.result c.done-in-SetObject.result
+    c.in-SetObject.is asked c.done-in-SetObject.ensures (λ a. ap (λ (name : List ℕ). set_object a.tenant name change) c.as_str-object.ensures.characters) (λ a. c.refusal_laws.ensures.refused a (sets_object object change)) (λ a sound _. fit c.requests_fit.ensures.request a (SetObject object) body (sets_object object change) sound asked) (c.make_edit-in-SetObject.ensures.what told)
 
-pub returns-in_ok-access-in-SetObject-clause-form : goal.returns-in_ok-access-in-SetObject-clause-form
-returns-in_ok-access-in-SetObject-clause-form g c = answers_so (λ _. answer.Done) c.args.route.now (SetObject c.in-SetObject.object) c.make_edit-in-SetObject.result c.done-in-SetObject.result c.in-SetObject.is c.done-in-SetObject.ensures (λ _. tt)
+pub returns-in_ok-change-in-SetObject-clause-form : goal.returns-in_ok-change-in-SetObject-clause-form
+returns-in_ok-change-in-SetObject-clause-form g c = answers_so (λ _. answer.Done) c.args.route.now (SetObject c.in-SetObject.object) c.make_edit-in-SetObject.result c.done-in-SetObject.result c.in-SetObject.is c.done-in-SetObject.ensures (λ _. tt)
 
-pub returns-in_ok-access-in-SetObject-clause-makes : goal.returns-in_ok-access-in-SetObject-clause-makes
-returns-in_ok-access-in-SetObject-clause-makes g c =
+pub returns-in_ok-change-in-SetObject-clause-makes : goal.returns-in_ok-change-in-SetObject-clause-makes
+returns-in_ok-change-in-SetObject-clause-makes g c =
     let laws = c.call_laws.ensures in
     drafts_seen g.K.Keeper.state (record { weaker = laws.weaker; none = laws.none; makes = laws.makes; most = laws.most }) (λ _. answer.Done) _ _ _ c.args.draft.now c.make_edit-in-SetObject.new.draft c.make_edit-in-SetObject.result c.done-in-SetObject.result c.done-in-SetObject.ensures
     (omega arith) (omega arith) (omega arith) c.make_edit-in-SetObject.ensures.makes
@@ -207,6 +207,12 @@ returns-in-SetGroup-clause-what g c told =
     edits_asked_so caller.org Anyone (AsksWith (g.R.Rights.whose c.args.rights.now) caller c.args.now) (λ a _. tt) c.args.route.now (SetGroup c.in-SetGroup.id) c.args.body.now (tables_of g.K.Keeper.state c.args.draft.now) (tables_of g.K.Keeper.state c.changed_group.new.draft) c.changed_group.result
     c.in-SetGroup.is (c.changed_group.ensures.what told)
 
+pub returns-in-SetOrganisation-clause-what : goal.returns-in-SetOrganisation-clause-what
+returns-in-SetOrganisation-clause-what g c told =
+    let caller = c.args.caller.now in
+    edits_asked_so caller.org Anyone (AsksWith (g.R.Rights.whose c.args.rights.now) caller c.args.now) (λ a _. tt) c.args.route.now SetOrganisation c.args.body.now (tables_of g.K.Keeper.state c.args.draft.now) (tables_of g.K.Keeper.state c.changed_organisation.new.draft) c.changed_organisation.result
+    c.in-SetOrganisation.is (c.changed_organisation.ensures.what told)
+
 -- ---- sharing
 
 pub returns-in-Share-clause-what : goal.returns-in-Share-clause-what
@@ -238,6 +244,18 @@ returns-in-RemoveValidationRule-clause-what g c told =
     let caller = c.args.caller.now in
     edits_asked_so caller.org Anyone (AsksWith (g.R.Rights.whose c.args.rights.now) caller c.args.now) (λ a _. tt) c.args.route.now (RemoveValidationRule c.in-RemoveValidationRule.object c.in-RemoveValidationRule.name) c.args.body.now (tables_of g.K.Keeper.state c.args.draft.now) (tables_of g.K.Keeper.state c.removed_validation_rule.new.draft) c.removed_validation_rule.result
     c.in-RemoveValidationRule.is (c.removed_validation_rule.ensures.what told c.args.body.now)
+
+pub returns-in-RemoveRole-clause-what : goal.returns-in-RemoveRole-clause-what
+returns-in-RemoveRole-clause-what g c told =
+    let caller = c.args.caller.now in
+    edits_asked_so caller.org Anyone (AsksWith (g.R.Rights.whose c.args.rights.now) caller c.args.now) (λ a _. tt) c.args.route.now (RemoveRole c.in-RemoveRole.id) c.args.body.now (tables_of g.K.Keeper.state c.args.draft.now) (tables_of g.K.Keeper.state c.removed_role.new.draft) c.removed_role.result
+    c.in-RemoveRole.is (c.removed_role.ensures.what told c.args.body.now)
+
+pub returns-in-RemoveGroup-clause-what : goal.returns-in-RemoveGroup-clause-what
+returns-in-RemoveGroup-clause-what g c told =
+    let caller = c.args.caller.now in
+    edits_asked_so caller.org Anyone (AsksWith (g.R.Rights.whose c.args.rights.now) caller c.args.now) (λ a _. tt) c.args.route.now (RemoveGroup c.in-RemoveGroup.id) c.args.body.now (tables_of g.K.Keeper.state c.args.draft.now) (tables_of g.K.Keeper.state c.removed_group.new.draft) c.removed_group.result
+    c.in-RemoveGroup.is (c.removed_group.ensures.what told c.args.body.now)
 
 -- ---- the change of a field's type
 

@@ -1,7 +1,6 @@
 use Rattle.std.proofs.Common.{List, arith, ap, refl}
 use Rattle.base_lemmas.proofs.Results.{err_from_parts as returned}
 use Rattle.store_kv.specs.Draft.{tables_of}
-use Rattle.model.specs.People.{set_group}
 use Rattle.model_requests.specs.RequestOf.{request_of}
 use Rattle.model_requests.specs.Requests.{sets_group}
 use Rattle.model.specs.declared.people_bodies.Spelled.{Spelled}
@@ -14,30 +13,30 @@ use Rattle.api_edit.proofs.people.changed_group.Goals as goal
 
 -- ---- a body of another form
 
-pub returns-in_err-members-clause-what : goal.returns-in_err-members-clause-what
-returns-in_err-members-clause-what g c told =
-    let fail = c.in_err-members.field-0.0 in
+pub returns-in_err-change-clause-what : goal.returns-in_err-change-clause-what
+returns-in_err-change-clause-what g c told =
+    let fail = c.in_err-change.field-0.0 in
     edits_none (sets_group c.args.group.now) c.args.org Anyone (SetGroup c.args.group.now) (SetGroup c.args.group.now) c.args.body.now fail (tables_of g.K.Keeper.state c.args.draft.now) c.from_residual.result refl
-    (returned c.from_residual.result fail c.from_residual.ensures) (c.in_err-members.ensures c.args.group.now)
+    (returned c.from_residual.result fail c.from_residual.ensures) (c.in_err-change.ensures c.args.group.now)
 
-pub returns-in_err-members-clause-form : goal.returns-in_err-members-clause-form
-returns-in_err-members-clause-form g c =
-    answers_none (SetGroup c.args.group.now) c.in_err-members.field-0.0 c.from_residual.result (returned c.from_residual.result c.in_err-members.field-0.0 c.from_residual.ensures)
+pub returns-in_err-change-clause-form : goal.returns-in_err-change-clause-form
+returns-in_err-change-clause-form g c =
+    answers_none (SetGroup c.args.group.now) c.in_err-change.field-0.0 c.from_residual.result (returned c.from_residual.result c.in_err-change.field-0.0 c.from_residual.ensures)
 
-pub returns-in_err-members-clause-makes : goal.returns-in_err-members-clause-makes
-returns-in_err-members-clause-makes g c =
+pub returns-in_err-change-clause-makes : goal.returns-in_err-change-clause-makes
+returns-in_err-change-clause-makes g c =
     let laws = c.call_laws.ensures in
-    let fail = c.in_err-members.field-0.0 in
+    let fail = c.in_err-change.field-0.0 in
     none_drafts g.K.Keeper.state (record { weaker = laws.weaker; none = laws.none; makes = laws.makes; most = laws.most }) (sets_group c.args.group.now) (request_of (SetGroup c.args.group.now) c.args.body.now) fail c.from_residual.result c.args.draft.now
-    (returned c.from_residual.result fail c.from_residual.ensures) (c.in_err-members.ensures c.args.group.now)
+    (returned c.from_residual.result fail c.from_residual.ensures) (c.in_err-change.ensures c.args.group.now)
 
 -- ---- the edit
 
 pub returns-clause-what : goal.returns-clause-what
 returns-clause-what g c told =
-    let new = c.in_ok-members.members in
+    let new = c.in_ok-change.change in
     edits_asked (λ _. answer.Done) (λ _. done) (λ _. refl) c.args.org Anyone (SetGroup c.args.group.now) (SetGroup c.args.group.now) c.args.body.now (sets_group c.args.group.now new) _ _ _ (tables_of g.K.Keeper.state c.args.draft.now) (tables_of g.K.Keeper.state c.make_edit.new.draft) c.make_edit.result c.done.result
-    refl (c.in_ok-members.ensures c.args.group.now) c.done.ensures (λ a. ap (λ (members : List Spelled). set_group a.tenant c.args.group.now members) c.as_slice.ensures) (λ a. c.refusal_laws.ensures.refused a (sets_group c.args.group.now new)) (λ a sound asking. tt) (c.make_edit.ensures.what told)
+    refl (c.in_ok-change.ensures c.args.group.now) c.done.ensures (λ a. refl) (λ a. c.refusal_laws.ensures.refused a (sets_group c.args.group.now new)) (λ a sound asking. tt) (c.make_edit.ensures.what told)
 
 pub returns-clause-form : goal.returns-clause-form
 returns-clause-form g c = answers_so (λ _. answer.Done) (SetGroup c.args.group.now) (SetGroup c.args.group.now) c.make_edit.result c.done.result refl c.done.ensures (λ _. tt)

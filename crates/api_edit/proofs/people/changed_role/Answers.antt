@@ -1,9 +1,7 @@
-use Rattle.std.proofs.Common.{◌∙◌, List, Option, ℕ, arith, ap, refl}
-use Rattle.std.specs.Option.{option_copied}
+use Rattle.std.proofs.Common.{arith, refl}
 use Rattle.base_lemmas.proofs.Results.{err_from_parts as returned}
 use Rattle.store_kv.specs.Draft.{tables_of}
-use Rattle.api_input.specs.Bodies.{sets_role_parent}
-use Rattle.model.specs.People.{set_role}
+use Rattle.model_requests.specs.Requests.{sets_role}
 use Rattle.model_requests.specs.RequestOf.{request_of}
 use Rattle.model.specs.Verdict.{done}
 use Rattle.model_requests.specs.declared.route.Route.TheVariants.{SetRole}
@@ -14,30 +12,30 @@ use Rattle.api_edit.proofs.people.changed_role.Goals as goal
 
 -- ---- a body of another form
 
-pub returns-in_err-new-clause-what : goal.returns-in_err-new-clause-what
-returns-in_err-new-clause-what g c told =
-    let fail = c.in_err-new.field-0.0 in
-    edits_none (sets_role_parent c.args.role.now) c.args.org Anyone (SetRole c.args.role.now) (SetRole c.args.role.now) c.args.body.now fail (tables_of g.K.Keeper.state c.args.draft.now) c.from_residual.result refl
-    (returned c.from_residual.result fail c.from_residual.ensures) (c.in_err-new.ensures c.args.role.now)
+pub returns-in_err-change-clause-what : goal.returns-in_err-change-clause-what
+returns-in_err-change-clause-what g c told =
+    let fail = c.in_err-change.field-0.0 in
+    edits_none (sets_role c.args.role.now) c.args.org Anyone (SetRole c.args.role.now) (SetRole c.args.role.now) c.args.body.now fail (tables_of g.K.Keeper.state c.args.draft.now) c.from_residual.result refl
+    (returned c.from_residual.result fail c.from_residual.ensures) (c.in_err-change.ensures c.args.role.now)
 
-pub returns-in_err-new-clause-form : goal.returns-in_err-new-clause-form
-returns-in_err-new-clause-form g c =
-    answers_none (SetRole c.args.role.now) c.in_err-new.field-0.0 c.from_residual.result (returned c.from_residual.result c.in_err-new.field-0.0 c.from_residual.ensures)
+pub returns-in_err-change-clause-form : goal.returns-in_err-change-clause-form
+returns-in_err-change-clause-form g c =
+    answers_none (SetRole c.args.role.now) c.in_err-change.field-0.0 c.from_residual.result (returned c.from_residual.result c.in_err-change.field-0.0 c.from_residual.ensures)
 
-pub returns-in_err-new-clause-makes : goal.returns-in_err-new-clause-makes
-returns-in_err-new-clause-makes g c =
+pub returns-in_err-change-clause-makes : goal.returns-in_err-change-clause-makes
+returns-in_err-change-clause-makes g c =
     let laws = c.call_laws.ensures in
-    let fail = c.in_err-new.field-0.0 in
-    none_drafts g.K.Keeper.state (record { weaker = laws.weaker; none = laws.none; makes = laws.makes; most = laws.most }) (sets_role_parent c.args.role.now) (request_of (SetRole c.args.role.now) c.args.body.now) fail c.from_residual.result c.args.draft.now
-    (returned c.from_residual.result fail c.from_residual.ensures) (c.in_err-new.ensures c.args.role.now)
+    let fail = c.in_err-change.field-0.0 in
+    none_drafts g.K.Keeper.state (record { weaker = laws.weaker; none = laws.none; makes = laws.makes; most = laws.most }) (sets_role c.args.role.now) (request_of (SetRole c.args.role.now) c.args.body.now) fail c.from_residual.result c.args.draft.now
+    (returned c.from_residual.result fail c.from_residual.ensures) (c.in_err-change.ensures c.args.role.now)
 
 -- ---- the edit
 
 pub returns-clause-what : goal.returns-clause-what
 returns-clause-what g c told =
-    let new = c.in_ok-new.new in
-    edits_asked (λ _. answer.Done) (λ _. done) (λ _. refl) c.args.org Anyone (SetRole c.args.role.now) (SetRole c.args.role.now) c.args.body.now (sets_role_parent c.args.role.now new) _ _ _ (tables_of g.K.Keeper.state c.args.draft.now) (tables_of g.K.Keeper.state c.make_edit.new.draft) c.make_edit.result c.done.result
-    refl (c.in_ok-new.ensures c.args.role.now) c.done.ensures (λ a. ap (λ (x : List ℕ). set_role a.tenant x (option_copied c.role_edit-edit.result.parent)) c.role_edit-edit.ensures.role ∙ ap (λ (x : Option (List ℕ)). set_role a.tenant c.args.role.now x) c.role_edit-edit.ensures.parent) (λ a. c.refusal_laws.ensures.refused a (sets_role_parent c.args.role.now new)) (λ a sound asking. tt) (c.make_edit.ensures.what told)
+    let change = c.in_ok-change.change in
+    edits_asked (λ _. answer.Done) (λ _. done) (λ _. refl) c.args.org Anyone (SetRole c.args.role.now) (SetRole c.args.role.now) c.args.body.now (sets_role c.args.role.now change) _ _ _ (tables_of g.K.Keeper.state c.args.draft.now) (tables_of g.K.Keeper.state c.make_edit.new.draft) c.make_edit.result c.done.result
+    refl (c.in_ok-change.ensures c.args.role.now) c.done.ensures (λ a. refl) (λ a. c.refusal_laws.ensures.refused a (sets_role c.args.role.now change)) (λ a sound asking. tt) (c.make_edit.ensures.what told)
 
 pub returns-clause-form : goal.returns-clause-form
 returns-clause-form g c = answers_so (λ _. answer.Done) (SetRole c.args.role.now) (SetRole c.args.role.now) c.make_edit.result c.done.result refl c.done.ensures (λ _. tt)

@@ -23,6 +23,14 @@ returns-in-Some c =
           c.index-words-0-else-eq-3.is c.index-words-1-then-eq-4.is (sym bytes.ensures.value ∙ same ∙ name.ensures) counts,
     )
 
+pub returns-in-None : goal.returns-in-None
+returns-in-None c =
+    let bytes = c.as_bytes-else-eq-3 in
+    let name = c.as_slice-else-eq-3 in
+    let same = (bytes_eq-Decides bytes.result.now name.result.now).0 (sym c.if-eq-4.ensures) in
+    number_words (codes "serve") serves count_in (λ w. refl) string_bytes c.args.words.now c.index-words-0-else-eq-3.result c.index-words-1-then-eq-4.result None (search rules)
+    c.index-words-0-else-eq-3.is c.index-words-1-then-eq-4.is (sym bytes.ensures.value ∙ same ∙ name.ensures) (c.in-None.ensures ∙ ap count_in c.as_str-then-eq-4.ensures.value)
+
 pub returns-in-Some-records_of : goal.returns-in-Some-records_of
 returns-in-Some-records_of c =
     let bytes = c.as_bytes-else-eq-4 in
@@ -42,22 +50,22 @@ returns-in-None-records_of c =
     number_words (codes "demo") (λ n. prints (demo n)) records_in (λ w. refl) string_bytes c.args.words.now c.index-words-0-else-eq-4.result c.index-words-1-then-eq-5.result None (search rules)
     c.index-words-0-else-eq-4.is c.index-words-1-then-eq-5.is (sym bytes.ensures.value ∙ same ∙ name.ensures) (c.in-None-records_of.ensures ∙ ap records_in c.as_str-then-eq-5.ensures.value)
 
-pub returns-then-eq-7 : goal.returns-then-eq-7
-returns-then-eq-7 c =
-    let bytes = c.as_bytes-in-5 in
-    let name = c.as_slice-in-5 in
-    let same = (bytes_eq-Decides bytes.result.now name.result.now).0 (sym c.if-eq-7.ensures) in
-    five_words (codes "export") export (λ a b c d. refl) string_bytes c.args.words.now c.index-words-0-in-5.result c.index-words-1-then-eq-7.result c.index-words-2-then-eq-7.result c.index-words-3.result c.index-words-4.result
-    c.as_str-then-eq-7.result.now c.as_str-then-eq-7-2.result.now c.as_str-then-eq-7-3.result.now c.as_str-then-eq-7-4.result.now (search rules)
-    c.index-words-0-in-5.is c.index-words-1-then-eq-7.is c.index-words-2-then-eq-7.is c.index-words-3.is c.index-words-4.is (sym bytes.ensures.value ∙ same ∙ name.ensures)
-    c.as_str-then-eq-7.ensures.value c.as_str-then-eq-7-2.ensures.value c.as_str-then-eq-7-3.ensures.value c.as_str-then-eq-7-4.ensures.value
-
 pub returns-then-eq-8 : goal.returns-then-eq-8
 returns-then-eq-8 c =
-    let bytes = c.as_bytes-else-eq-7 in
-    let name = c.as_slice-else-eq-7 in
+    let bytes = c.as_bytes-in-5 in
+    let name = c.as_slice-in-5 in
     let same = (bytes_eq-Decides bytes.result.now name.result.now).0 (sym c.if-eq-8.ensures) in
-    five_words (codes "load") load (λ a b c d. refl) string_bytes c.args.words.now c.index-words-0-else-eq-7.result c.index-words-1-then-eq-8.result c.index-words-2-then-eq-8.result c.index-words-3-then-eq-8.result c.index-words-4-then-eq-8.result
+    five_words (codes "export") export (λ a b c d. refl) string_bytes c.args.words.now c.index-words-0-in-5.result c.index-words-1-then-eq-8.result c.index-words-2-then-eq-8.result c.index-words-3-then-eq-8.result c.index-words-4.result
     c.as_str-then-eq-8.result.now c.as_str-then-eq-8-2.result.now c.as_str-then-eq-8-3.result.now c.as_str-then-eq-8-4.result.now (search rules)
-    c.index-words-0-else-eq-7.is c.index-words-1-then-eq-8.is c.index-words-2-then-eq-8.is c.index-words-3-then-eq-8.is c.index-words-4-then-eq-8.is (sym bytes.ensures.value ∙ same ∙ name.ensures)
+    c.index-words-0-in-5.is c.index-words-1-then-eq-8.is c.index-words-2-then-eq-8.is c.index-words-3-then-eq-8.is c.index-words-4.is (sym bytes.ensures.value ∙ same ∙ name.ensures)
     c.as_str-then-eq-8.ensures.value c.as_str-then-eq-8-2.ensures.value c.as_str-then-eq-8-3.ensures.value c.as_str-then-eq-8-4.ensures.value
+
+pub returns-then-eq-9 : goal.returns-then-eq-9
+returns-then-eq-9 c =
+    let bytes = c.as_bytes-else-eq-8 in
+    let name = c.as_slice-else-eq-8 in
+    let same = (bytes_eq-Decides bytes.result.now name.result.now).0 (sym c.if-eq-9.ensures) in
+    five_words (codes "load") load (λ a b c d. refl) string_bytes c.args.words.now c.index-words-0-else-eq-8.result c.index-words-1-then-eq-9.result c.index-words-2-then-eq-9.result c.index-words-3-then-eq-9.result c.index-words-4-then-eq-9.result
+    c.as_str-then-eq-9.result.now c.as_str-then-eq-9-2.result.now c.as_str-then-eq-9-3.result.now c.as_str-then-eq-9-4.result.now (search rules)
+    c.index-words-0-else-eq-8.is c.index-words-1-then-eq-9.is c.index-words-2-then-eq-9.is c.index-words-3-then-eq-9.is c.index-words-4-then-eq-9.is (sym bytes.ensures.value ∙ same ∙ name.ensures)
+    c.as_str-then-eq-9.ensures.value c.as_str-then-eq-9-2.ensures.value c.as_str-then-eq-9-3.ensures.value c.as_str-then-eq-9-4.ensures.value

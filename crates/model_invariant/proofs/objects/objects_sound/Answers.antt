@@ -1,13 +1,13 @@
 use Rattle.model_invariant.proofs.AddsField.{add_field_sound}
 use Rattle.model_invariant.proofs.AddsFormulas.{add_field_formulas, add_object_formulas}
-use Rattle.model_invariant.proofs.FormulasSound.{add_validation_formulas, remove_validation_formulas, set_access_formulas}
+use Rattle.model_invariant.proofs.FormulasSound.{add_validation_formulas, remove_validation_formulas, set_object_formulas}
 use Rattle.model_invariant.proofs.NewObjects.{add_object_sound}
-use Rattle.model_invariant.proofs.ObjectsSound.{add_validation_sound, remove_validation_sound, set_access_sound}
+use Rattle.model_invariant.proofs.ObjectsSound.{add_validation_sound, remove_validation_sound, set_object_sound}
 use Rattle.model_invariant.proofs.SoundParts.{parts, whole}
 use Rattle.model_invariant.proofs.objects.objects_sound.Goals as goal
 
-pub returns-clause-set_access : goal.returns-clause-set_access
-returns-clause-set_access c = λ t object access e s. whole (set_access_sound t object access e (parts s)) (set_access_formulas c.text_laws.ensures.formulas.by_fields t object access s.formulas)
+pub returns-clause-set_object : goal.returns-clause-set_object
+returns-clause-set_object c = λ t object change e s. whole (set_object_sound t object change e (parts s)) (set_object_formulas c.text_laws.ensures.formulas.by_fields t object change s.formulas)
 
 pub returns-clause-add_validation_rule : goal.returns-clause-add_validation_rule
 returns-clause-add_validation_rule c = λ t b fit s. whole (add_validation_sound t b fit (parts s)) (add_validation_formulas c.text_laws.ensures.formulas.by_fields t b s.formulas)

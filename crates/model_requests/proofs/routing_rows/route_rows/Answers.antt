@@ -46,3 +46,11 @@ returns-clause-two_slashes c = refl
 pub returns-clause-slash_behind_value : goal.returns-clause-slash_behind_value
 unfolding routed_as lines split
 returns-clause-slash_behind_value c = refl
+
+pub returns-clause-organisation : goal.returns-clause-organisation
+unfolding routed_as lines split
+returns-clause-organisation c = refl
+
+pub returns-clause-ends : goal.returns-clause-ends
+unfolding routed_as lines split
+returns-clause-ends c = refl

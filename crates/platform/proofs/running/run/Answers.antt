@@ -1,5 +1,5 @@
 use Rattle.std.proofs.Common.{◌≡◌, ◌∙◌, inl, true, false, [], ◌∷◌, refl, sym, ap, subst, arith}
-use Rattle.commands.specs.Commands.{answers, csvq, demo, export, has_status, is_one_of, is_opening, load, may_write, never, once, org_add, prints, serves}
+use Rattle.commands.specs.Commands.{answers, csvq, demo, export, has_status, is_one_of, is_opening, load, may_write, never, once, org_add, prints, serves, user_set}
 use Rattle.platform.specs.Promise.{Causes}
 use Rattle.platform.specs.Seen.{Seen}
 use Rattle.platform.proofs.Runs.{caused, is_72, is_73, is_74, is_75, keeper_caused, known_zero, not_own, of_none, of_words, quiet, status_of_none, status_of_words, true_isnt_false, unused_of_words, was_opening}
@@ -8,6 +8,7 @@ use Rattle.platform.proofs.OfCsvq as by_csvq
 use Rattle.platform.proofs.OfDemo.{demo_promise}
 use Rattle.platform.proofs.OfLoad as by_load
 use Rattle.commands.specs.OrgAdd.{org_does}
+use Rattle.commands.specs.UserSet.{user_set_does}
 use Rattle.commands.specs.Export.{export_does}
 use Rattle.commands.proofs.OfExport.{export_told}
 use Rattle.platform.proofs.OfTables as by_tables
@@ -84,6 +85,47 @@ returns-in-OrgAdd-clause-unused g c =
       door_same = λ none. refl;
       source_same = λ none. refl;
       sink_same = λ none. it.unwritten (sym (by_tables.writes (org_add name secret) true never false refl c.print_tables.result status it.status c.store_status.ensures) ∙ none);
+      clock_same = λ none. refl;
+    })
+
+-- ---- `user-set`
+
+pub returns-in-UserSet-clause-status : goal.returns-in-UserSet-clause-status
+returns-in-UserSet-clause-status g c =
+    let org = c.in-UserSet.org.now in
+    let user = c.in-UserSet.user.now in
+    let secret = c.in-UserSet.secret.now in
+    status_of_words _ (prints (user_set org user secret)) c.store_status-in-UserSet.result c.in-UserSet.ensures
+    (by_tables.own (user_set org user secret) true never false refl c.print_tables-in-UserSet.result c.store_status-in-UserSet.result c.print_tables-in-UserSet.ensures.status c.store_status-in-UserSet.ensures)
+
+pub returns-in-UserSet-clause-promise : goal.returns-in-UserSet-clause-promise
+returns-in-UserSet-clause-promise g c =
+    let org = c.in-UserSet.org.now in
+    let user = c.in-UserSet.user.now in
+    let secret = c.in-UserSet.secret.now in
+    let r = c.print_tables-in-UserSet.result in
+    let it = c.print_tables-in-UserSet.ensures in
+    let status = c.store_status-in-UserSet.result in
+    let same = c.store_status-in-UserSet.ensures in
+    let a : Seen = record { keeper = g.K.Keeper.state c.args.keeper.now; door = g.D.Door.held c.args.door.now; door_faults = g.D.Door.faults c.args.door.now; line_faults = g.D.Door.line_faults c.args.door.now; left = g.S.Source.left c.args.source.now; read_faults = g.S.Source.faults c.args.source.now; written = g.W.Sink.written c.args.sink.now; write_faults = g.W.Sink.faults c.args.sink.now; coming = g.C.Clock.coming c.args.clock.now } in
+    let b : Seen = record { keeper = g.K.Keeper.state c.print_tables-in-UserSet.new.keeper; door = g.D.Door.held c.args.door.now; door_faults = g.D.Door.faults c.args.door.now; line_faults = g.D.Door.line_faults c.args.door.now; left = g.S.Source.left c.args.source.now; read_faults = g.S.Source.faults c.args.source.now; written = g.W.Sink.written c.print_tables-in-UserSet.new.sink; write_faults = g.W.Sink.faults c.print_tables-in-UserSet.new.sink; coming = g.C.Clock.coming c.args.clock.now } in
+    of_words _ (prints (user_set org user secret)) a b status c.in-UserSet.ensures
+    (by_tables.table_promise (user_set org user secret) true never false refl a b r status it.status same refl refl refl (user_set_does org user secret) (g.met.K.Keeper.settled c.args.keeper.now) c.stands_laws.ensures.one_version
+    (by_tables.table_causes (user_set org user secret) true never false refl a b r status it.status same refl refl refl it.steps it.acknowledged it.keeper_cause it.sink_cause)
+    [] (inl refl) (λ w bytes. refl) it.acknowledged (λ none. ap g.W.Sink.written (it.unwritten none)) tt it.prints it.keeps it.version it.kept it.refused it.crash)
+
+pub returns-in-UserSet-clause-unused : goal.returns-in-UserSet-clause-unused
+returns-in-UserSet-clause-unused g c =
+    let org = c.in-UserSet.org.now in
+    let user = c.in-UserSet.user.now in
+    let secret = c.in-UserSet.secret.now in
+    let it = c.print_tables-in-UserSet.ensures in
+    let status = c.store_status-in-UserSet.result in
+    unused_of_words _ (prints (user_set org user secret)) status c.in-UserSet.ensures (record {
+      keeper_same = λ none. absurd (true_isnt_false none);
+      door_same = λ none. refl;
+      source_same = λ none. refl;
+      sink_same = λ none. it.unwritten (sym (by_tables.writes (user_set org user secret) true never false refl c.print_tables-in-UserSet.result status it.status c.store_status-in-UserSet.ensures) ∙ none);
       clock_same = λ none. refl;
     })
 

@@ -6,7 +6,7 @@ use Rattle.model.specs.Levels.{greatest}
 use Rattle.access_user.proofs.level.judging.+by_shares.Goals as goal
 
 pub returns-in-Some : goal.returns-in-Some
-returns-in-Some t c = λ org t' u is.
+returns-in-Some t c = λ h org t' u is members.
     let whole : c.args.shares.now ≡ c.in-Some.first.now ∷ c.in-Some.rest.now = search rules in
-    c.greater.ensures ∙ ap₂ greater (c.by_share.ensures org t' u is) (c.by_shares.ensures org t' u is)
-    ∙ sym (ap (λ (all : List ShareRow). greatest (map (by_share t' u) all)) whole)
+    c.greater.ensures ∙ ap₂ greater (c.by_share.ensures h org t' u is members) (c.by_shares.ensures h org t' u is members)
+    ∙ sym (ap (λ (all : List ShareRow). greatest (map (by_share h t' u) all)) whole)

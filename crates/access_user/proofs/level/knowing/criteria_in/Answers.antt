@@ -6,14 +6,14 @@ use Rattle.access_user.proofs.level.knowing.criteria_in.Goals.{in-Some+in_ok-pus
 use Rattle.access_user.proofs.level.knowing.criteria_in.Goals as goal
 
 pub loop-row-preserved : goal.loop-row-preserved
-loop-row-preserved c = λ org t u is.
+loop-row-preserved c = λ hierarchy org t u is members.
     let rows = c.args.rules.now in
     let i = c.loop-row.row-index in
     let row = c.row-item.result in
-    let h = criterion_by_row t u c.args.layout.now.object (object_of_layout c.args.layout.now) in
+    let h = criterion_by_row hierarchy t u c.args.layout.now.object (object_of_layout c.args.layout.now) in
     let lt : i < length rows = omega (arith, c.loop-row-test.true) in
-    let says = c.in_ok-rule.ensures org t u is in
-    let before = c.loop-row.invariant org t u is in
+    let says = c.in_ok-rule.ensures hierarchy org t u is members in
+    let before = c.loop-row.invariant hierarchy org t u is members in
     elim c.match-branch-2.branch [
       | in-Some+in_ok-push-in-Some w ↦ w.found-is ∙ w.in_ok-push-in-Some.ensures.ok ∙ picked_next h rows i row lt c.row-item.is c.loop-row.found w.in-Some.rule before (sym w.in-Some.is ∙ says)
       | in-None w ↦ w.found-is ∙ left_out h rows i row lt c.row-item.is c.loop-row.found before (sym w.in-None.is ∙ says)

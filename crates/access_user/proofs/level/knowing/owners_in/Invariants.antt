@@ -1,10 +1,10 @@
-use Rattle.std.proofs.Common.{◌≡◌, ℕ, take}
-use Rattle.std.specs.Prelude.{filter_map}
+use Rattle.std.proofs.Common.{◌≡◌, ℕ, Bool, take}
+use Rattle.std.specs.Prelude.{filter_map, option_copied}
 use Rattle.model.specs.Tenant.{Tenant, User}
-use Rattle.access_user.specs.level.Own.{IsSharerOf}
+use Rattle.access_user.specs.level.Own.{IsSharerOf, MembersFor}
 use Rattle.access_user.specs.level.inner.Parts.{owner_by_row}
 use Rattle.access_user.proofs.level.knowing.owners_in.Given as goal
 
 abbrev pub invariant-loop-row : goal.invariant-loop-row
 invariant-loop-row l =
-    (org : ℕ) (t : Tenant) (u : User) → IsSharerOf org t u l.sharer → l.found ≡ filter_map (owner_by_row t u l.object) (take l.row-index l.rules)
+    (hierarchy : Bool) (org : ℕ) (t : Tenant) (u : User) → IsSharerOf org t u l.sharer → MembersFor hierarchy l.sharer.people u.id (option_copied l.members) → l.found ≡ filter_map (owner_by_row hierarchy t u l.object) (take l.row-index l.rules)

@@ -6,6 +6,10 @@ pub returns-in-Access : goal.returns-in-Access
 unfolding chars
 returns-in-Access c = rw c.in-Access.is refl
 
+pub returns-in-Active : goal.returns-in-Active
+unfolding chars
+returns-in-Active c = rw c.in-Active.is refl
+
 pub returns-in-Admin : goal.returns-in-Admin
 unfolding chars
 returns-in-Admin c = rw c.in-Admin.is refl
@@ -29,6 +33,10 @@ returns-in-Field c = rw c.in-Field.is refl
 pub returns-in-Formula : goal.returns-in-Formula
 unfolding chars
 returns-in-Formula c = rw c.in-Formula.is refl
+
+pub returns-in-Hierarchy : goal.returns-in-Hierarchy
+unfolding chars
+returns-in-Hierarchy c = rw c.in-Hierarchy.is refl
 
 pub returns-in-Indexed : goal.returns-in-Indexed
 unfolding chars

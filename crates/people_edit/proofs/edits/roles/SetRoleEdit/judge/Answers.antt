@@ -1,15 +1,13 @@
 use Rattle.std.proofs.Common.{[], ◌∷◌, Some, ap}
-use Rattle.std.specs.Option.{option_copied}
 use Rattle.store_edit.proofs.Judged.{done_so}
 use Rattle.store_edit.specs.Rows.{change_to}
 use Rattle.store_kv.specs.Draft.{tables_of}
 use Rattle.store_rows.specs.Rows.{role_form}
 use Rattle.model.specs.Paths.{Asked}
-use Rattle.model.specs.People.{changed, role_rules, set_role}
+use Rattle.model.specs.People.{changed, changed_role, role_rules, set_role}
 use Rattle.model.specs.Principals.{spelled_id}
 use Rattle.model.specs.Rules.{first_refusal}
 use Rattle.model.specs.Verdict.{accept, done}
-use Rattle.people_edit.specs.inner.Changing.{with_parent}
 use Rattle.people_edit.proofs.ChangedOnes.{RoleChanges, changed_own, role_set_takes}
 use Rattle.people_edit.proofs.Deciding.{decides_not}
 use Rattle.people_edit.proofs.Joining.{SamePlan}
@@ -19,8 +17,8 @@ pub returns-in_err-row-clause-what : goal.returns-in_err-row-clause-what
 returns-in_err-row-clause-what g c told =
     let e = c.args.self.now in
     let text = e.role.now in
-    let ref = option_copied e.parent in
-    decides_not {answered = λ (x : Unit {0}). done} c.args.org (λ (a : Asked). first_refusal (role_rules a.tenant text ref)) (λ (a : Asked). accept done (record a.tenant { roles = changed (λ r. r.id) (with_parent ref) (spelled_id text) a.tenant.roles }))
+    let b = e.change.now in
+    decides_not {answered = λ (x : Unit {0}). done} c.args.org (λ (a : Asked). first_refusal (role_rules a.tenant text b)) (λ (a : Asked). accept done (record a.tenant { roles = changed (λ r. r.id) (changed_role b) (spelled_id text) a.tenant.roles }))
     (λ a. Unit {0}) (tables_of g.K.Keeper.state c.args.draft.now) c.in_err-row.field-0.0 c.from_residual.result c.from_residual.ensures.1
     (λ q a s. c.in_err-row.ensures.passes told q a.tenant s)
 
@@ -28,12 +26,12 @@ pub returns-clause-what : goal.returns-clause-what
 returns-clause-what g c told =
     let e = c.args.self.now in
     let text = e.role.now in
-    let ref = option_copied e.parent in
+    let b = e.change.now in
     let org = c.args.org in
     let row = c.in_ok-row.row in
     let laws : RoleChanges = record { plan = c.roster_laws.ensures.plan; rows = c.roster_laws.ensures.role_changed; kept = c.roster_laws.ensures.role_kept; sound = c.people_sound.ensures.set_role } in
-    done_so org (λ (a : Asked). set_role a.tenant text ref) SamePlan (λ a. Unit {0}) (tables_of g.K.Keeper.state c.args.draft.now) (change_to role_form row ∷ []) c.one_row.result c.one_row.ensures.made c.one_row.ensures.cause
+    done_so org (λ (a : Asked). set_role a.tenant text b) SamePlan (λ a. Unit {0}) (tables_of g.K.Keeper.state c.args.draft.now) (change_to role_form row ∷ []) c.one_row.result c.one_row.ensures.made c.one_row.ensures.cause
     (changed_own role_form org row c.in_ok-row.ensures.fits (ap Some (c.in_ok-row.ensures.own told)))
     (λ q a s f.
     let passes = c.in_ok-row.ensures.passes told q a.tenant s in
-    role_set_takes laws org q a.tenant text ref row s.plan s.sound c.in_ok-row.ensures.fits passes.0 passes.1)
+    role_set_takes laws org q a.tenant text b row s.plan s.sound c.in_ok-row.ensures.fits passes.0 passes.1)

@@ -1,15 +1,14 @@
-use Rattle.std.proofs.Common.{[], ◌∷◌, Some, ap}
-use Rattle.std.specs.Option.{option_copied}
+use Rattle.std.proofs.Common.{[], ◌∷◌, IfSome, IsTrue, Some, ap}
 use Rattle.store_edit.proofs.Judged.{done_so}
 use Rattle.store_edit.specs.Rows.{change_to}
 use Rattle.store_kv.specs.Draft.{tables_of}
 use Rattle.store_rows.specs.Rows.{user_form}
+use Rattle.model.specs.Organisations.{is_secret}
 use Rattle.model.specs.Paths.{Asked}
-use Rattle.model.specs.People.{changed, user_rules, set_user}
+use Rattle.model.specs.People.{changed, changed_user, user_rules, set_user}
 use Rattle.model.specs.Principals.{spelled_id}
 use Rattle.model.specs.Rules.{first_refusal}
 use Rattle.model.specs.Verdict.{accept, done}
-use Rattle.people_edit.specs.inner.Changing.{with_role}
 use Rattle.people_edit.proofs.ChangedOnes.{UserChanges, changed_own, user_set_takes}
 use Rattle.people_edit.proofs.Deciding.{decides_not}
 use Rattle.people_edit.proofs.Joining.{SamePlan}
@@ -19,21 +18,21 @@ pub returns-in_err-row-clause-what : goal.returns-in_err-row-clause-what
 returns-in_err-row-clause-what g c told =
     let e = c.args.self.now in
     let text = e.user.now in
-    let ref = option_copied e.role in
-    decides_not {answered = λ (x : Unit {0}). done} c.args.org (λ (a : Asked). first_refusal (user_rules a.tenant text ref)) (λ (a : Asked). accept done (record a.tenant { users = changed (λ u. u.id) (with_role ref) (spelled_id text) a.tenant.users }))
-    (λ a. Unit {0}) (tables_of g.K.Keeper.state c.args.draft.now) c.in_err-row.field-0.0 c.from_residual.result c.from_residual.ensures.1
+    let b = e.change.now in
+    decides_not {answered = λ (x : Unit {0}). done} c.args.org (λ (a : Asked). first_refusal (user_rules a.tenant text b)) (λ (a : Asked). accept done (record a.tenant { users = changed (λ u. u.id) (changed_user b) (spelled_id text) a.tenant.users }))
+    (λ a. IfSome b.secret (λ s. IsTrue (is_secret s))) (tables_of g.K.Keeper.state c.args.draft.now) c.in_err-row.field-0.0 c.from_residual.result c.from_residual.ensures.1
     (λ q a s. c.in_err-row.ensures.passes told q a.tenant s)
 
 pub returns-clause-what : goal.returns-clause-what
 returns-clause-what g c told =
     let e = c.args.self.now in
     let text = e.user.now in
-    let ref = option_copied e.role in
+    let b = e.change.now in
     let org = c.args.org in
     let row = c.in_ok-row.row in
     let laws : UserChanges = record { plan = c.roster_laws.ensures.plan; rows = c.roster_laws.ensures.user_changed; kept = c.roster_laws.ensures.user_kept; sound = c.people_sound.ensures.set_user } in
-    done_so org (λ (a : Asked). set_user a.tenant text ref) SamePlan (λ a. Unit {0}) (tables_of g.K.Keeper.state c.args.draft.now) (change_to user_form row ∷ []) c.one_row.result c.one_row.ensures.made c.one_row.ensures.cause
+    done_so org (λ (a : Asked). set_user a.tenant text b) SamePlan (λ a. IfSome b.secret (λ s. IsTrue (is_secret s))) (tables_of g.K.Keeper.state c.args.draft.now) (change_to user_form row ∷ []) c.one_row.result c.one_row.ensures.made c.one_row.ensures.cause
     (changed_own user_form org row c.in_ok-row.ensures.fits (ap Some (c.in_ok-row.ensures.own told)))
     (λ q a s f.
     let passes = c.in_ok-row.ensures.passes told q a.tenant s in
-    user_set_takes laws org q a.tenant text ref row s.plan s.sound c.in_ok-row.ensures.fits passes.0 passes.1)
+    user_set_takes laws org q a.tenant text b row s.plan s.sound c.in_ok-row.ensures.fits passes.0 (passes.1 f))

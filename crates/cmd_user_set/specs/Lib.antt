@@ -1,0 +1,2 @@
+pub mod UserSet
+pub mod inner

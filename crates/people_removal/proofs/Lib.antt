@@ -1,0 +1,5 @@
+pub mod Scanned
+pub mod Seeking
+pub mod Going
+pub mod Judging
+pub mod Verdicts
